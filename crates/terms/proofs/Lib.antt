@@ -1,0 +1,16 @@
+pub mod Steps
+pub mod Bounds
+pub mod Shortest
+pub mod MarkedNumbers
+pub mod KindLaws
+pub mod FieldLaws
+pub mod StoreLaws
+pub mod WroteLaws
+pub mod RowLaws
+pub mod ValueLaws
+pub mod ReadLaws
+pub mod TableLaws
+pub mod Sound
+pub mod RoundTrip
+pub mod Answers
+pub mod Marked

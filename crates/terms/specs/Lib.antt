@@ -1,0 +1,10 @@
+pub mod Result
+pub mod Number
+pub mod Parser
+pub mod Tokens
+pub mod Term
+pub mod Shape
+pub mod Formed
+pub mod Reading
+pub mod Pieces
+pub mod Done

@@ -1,0 +1,62 @@
+// The reader of terms: it stores a term as a run of tokens, in the order of its bytes, into two areas that the caller lends.
+mod kinds;
+mod numbers;
+mod read;
+mod store;
+mod values;
+
+pub use numbers::number_len;
+pub use numbers::read_number;
+pub use numbers::write_number;
+pub use read::read_bare;
+pub use read::read_term;
+
+// Where reading stands: the position in the bytes, the number of the next token, and how many nodes were read. While these are at most
+// `limit`, tokens are stored; past it reading goes on without.
+pub struct Place {
+    pub at: usize,
+    pub top: usize,
+    pub nodes: usize,
+    pub limit: usize,
+}
+
+// What follows the tag of a plain kind: a code below `codes` where that is not 0, at most two numbers, a count with as many terms, and
+// `terms` terms.
+pub struct Fields {
+    pub codes: u32,
+    pub first: bool,
+    pub second: bool,
+    pub counted: bool,
+    pub terms: u32,
+}
+
+pub enum Row {
+    Plain(Fields),
+    Nominal,
+    Projection,
+}
+
+// What a tag stands for.
+pub enum Kind {
+    Variable,
+    Node(Row),
+    Unlisted,
+}
+
+// The place after what was read, or the refusal.
+pub enum Step {
+    Next(Place),
+    Stopped(u8),
+}
+
+// A number and the place after it, or the refusal.
+pub enum ValueRead {
+    Valued(u64, Place),
+    Unvalued(u8),
+}
+
+// What reading a number finds: its value and the position after it, or the refusal's code.
+pub enum NumberRead {
+    Value(u64, usize),
+    Refused(u8),
+}
