@@ -10,6 +10,8 @@ pub mod RowLaws
 pub mod ValueLaws
 pub mod ReadLaws
 pub mod TableLaws
+pub mod ShapeLaws
+pub mod Weights
 pub mod Sound
 pub mod RoundTrip
 pub mod Answers

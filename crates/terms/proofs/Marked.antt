@@ -6,7 +6,7 @@ use Rattle.terms.specs.Parser.{got, refused}
 use Rattle.terms.specs.Tokens.{item}
 use Rattle.terms.specs.Term.{Term, var, node, end, num, sub, items, size}
 use Rattle.terms.specs.Shape.{kindOf}
-use Rattle.terms.specs.Reading.{code, between, many, pairs, row, kinded, term, bare}
+use Rattle.terms.specs.Reading.{code, rising, variable, many, pairs, row, kinded, term, bare}
 
 -- Array(Tuple(?1, I32)) of the bar's session
 abbrev pair : Term
@@ -20,7 +20,7 @@ marked : (term (0x09 ∷ 0x05 ∷ 0x02 ∷ 0x01 ∷ 0x01 ∷ 0x04 ∷ 0x02 ∷ [
     × (term (0x09 ∷ 0x09 ∷ 0x02 ∷ []) 0 2 0 ≡ refused 4)
     × (bare (0x07 ∷ 0x01 ∷ 0x02 ∷ 0x00 ∷ []) 0 200 0 ≡ got (node 20 (num 7 (num 1 (sub (node 2 end) (num 0 end))))) 4)
     × (term (0x14 ∷ []) 0 200 0 ≡ refused 2)
-unfolding groups kindOf code between many pairs row kinded term bare
+unfolding groups kindOf code rising variable many pairs row kinded term bare
 marked = (refl, refl, refl, refl, refl, refl, refl)
 
 -- its tokens: a head's value is its span

@@ -1,15 +1,18 @@
 -- The shortest form: one group and the rest, and reading it back. Assumes nothing.
-use mathlib.Core.Path.{_≡_, refl, ap, ap₂, _∙_}
+use mathlib.Core.Path.{_≡_, refl, sym, ap, ap₂, _∙_}
+use mathlib.Core.Bool.{Bool, true, false, _&&_}
 use mathlib.Core.List.{List, [], _∷_, _++_}
 use Prim.Native.Nat.{ℕ, zero, suc, _+_, _-_, _*_, _/_, _%_, _≤_, _<_}
 use native.Mathlib.Nat.{mul-assoc, add-mul, mul-comm, mul-le-mul-right}
 use native.Mathlib.Omega.{arith}
 use native.Mathlib.Decide.{decLt}
-use borrow.Author.Tests.{lt-ltb, le-ltb}
-use lib.ListN.{length, drop}
-use lib.Seq.{drop-append-seam}
-use Rattle.terms.specs.Result.{got}
+use borrow.Author.Tests.{lt-ltb, le-ltb, leb-true, leb-false, eq-eqb}
+use lib.Dec.{ltb, leb, eqb}
+use lib.ListN.{length, drop, getD}
+use lib.Seq.{drop-append-seam, drop-drop}
+use Rattle.terms.specs.Result.{Result, got, refused, pick}
 use Rattle.terms.specs.Number.{groups, number, digits, shortest}
+use Rattle.terms.proofs.Bounds.{bounds}
 use Rattle.terms.proofs.Steps.{step-more, step-last, step-zero}
 
 -- the fuel does not matter where there is enough
@@ -77,3 +80,102 @@ round-trip most v before rest h =
 pub number-at : (most v at : ℕ) (s rest : List ℕ) → drop at s ≡ shortest v ++ rest → v ≤ most → number most s at ≡ got v (at + length (shortest v))
 number-at most v at s rest e h =
     rw e (read-back (suc v) most 0 1 at v rest (omega arith) (omega arith) (λ z. omega arith) ∙ ap (λ (x : ℕ). got x (at + length (shortest v))) (omega arith))
+
+-- ---- nothing but the shortest form is read
+
+-- every byte is one
+unfoldable pub Octets : List ℕ → Type 0
+Octets [] = Unit {0}
+Octets (b ∷ bs) = (b < 256) × Octets bs
+
+pub octets-drop : (n : ℕ) (s : List ℕ) → Octets s → Octets (drop n s)
+unfolding Octets
+octets-drop zero s o = o
+octets-drop (suc n) [] o = o
+octets-drop (suc n) (b ∷ s) o = octets-drop n s (o .1)
+
+-- a list whose every entry is below 256
+pub octets : (s : List ℕ) → ((i : ℕ) → getD s i 0 < 256) → Octets s
+unfolding Octets
+octets [] h = tt
+octets (b ∷ s) h = (h 0, octets s (λ i. h (suc i)))
+
+-- what was read as x where the groups before have the value a and a group counts w
+record Taken (a w : ℕ) (bs : List ℕ) (x : ℕ) : Type 0 where
+  value : ℕ
+  whole : x ≡ a + value * w
+  positive : 1 < w → 0 < value
+  rest : List ℕ
+  bytes : bs ≡ shortest value ++ rest
+
+never : {A : Type 0} (c x n : ℕ) → _≡_ {A = Result ℕ} (refused c) (got x n) → A
+never c x n e = let z : _≡_ {A = ℕ} 0 1 = cc in absurd (omega arith)
+
+-- a group with more to follow is a value's lowest
+lowest : (b u : ℕ) → 128 ≤ b → b < 256 → (b - 128 + u * 128) % 128 + 128 ≡ b
+lowest b u h k = omega arith
+
+higher : (b u : ℕ) → 128 ≤ b → b < 256 → (b - 128 + u * 128) / 128 ≡ u
+higher b u h k = omega arith
+
+gather : (a b u w : ℕ) → a + (b - 128) * w + u * (w * 128) ≡ a + (b - 128 + u * 128) * w
+gather a b u w = let e = add-mul (b - 128) (u * 128) w in let m : u * 128 * w ≡ u * (w * 128) = rw (mul-assoc u 128 w, mul-comm 128 w) in omega arith
+
+-- a last group that is not padding
+positive-group : (b : ℕ) (more : Bool) → more ≡ true → (eqb b 0 && more) ≡ false → 0 < b
+positive-group zero more m z = let e : _≡_ {A = Bool} true false = rw (m, eq-eqb 0 0 refl) at z in absurd (differ e)
+  where
+    differ : _≡_ {A = Bool} true false → ⊥
+    differ e = let z : _≡_ {A = ℕ} 0 1 = cc in omega arith
+positive-group (suc b) more m z = omega arith
+
+take-groups : (most a w at : ℕ) (bs : List ℕ) (x n : ℕ) → Octets bs → 0 < w → groups most a w at bs ≡ got x n → Taken a w bs x
+unfolding groups Octets
+take-groups most a w at [] x n o p e = never 1 x n e
+take-groups most a w at (b ∷ bs) x n o p e =
+    go (ltb most (a + b * w)) (leb 128 b) (eqb b 0 && ltb 1 w) refl refl e (take-groups most (a + (b - 128) * w) (w * 128) (at + 1) bs x n (o .1) (omega arith))
+  where
+    go : (over more padded : Bool) → leb 128 b ≡ more → (eqb b 0 && ltb 1 w) ≡ padded
+        → pick over (refused 3) (pick more (groups most (a + (b - 128) * w) (w * 128) (at + 1) bs) (pick padded (refused 3) (got (a + b * w) (at + 1)))) ≡ got x n
+        → (groups most (a + (b - 128) * w) (w * 128) (at + 1) bs ≡ got x n → Taken (a + (b - 128) * w) (w * 128) bs x)
+        → Taken a w (b ∷ bs) x
+    go true more padded m z e ih = never 3 x n e
+    go false true padded m z e ih =
+        let r = ih e in
+        let h : 128 ≤ b = leb-true 128 b m in
+        let u : ℕ = b - 128 + r .value * 128 in
+        let big : 128 ≤ u = omega (arith, r .positive (omega arith)) in
+        record {
+          value = u;
+          whole = r .whole ∙ gather a b (r .value) w;
+          positive = λ q. omega arith;
+          rest = r .rest;
+          bytes = rw (shortest-more u big, lowest b (r .value) h (o .0), higher b (r .value) h (o .0)) (ap (λ (l : List ℕ). b ∷ l) (r .bytes));
+        }
+    go false false true m z e ih = never 3 x n e
+    go false false false m z e ih =
+        let low : b < 128 = leb-false 128 b m in
+        record {
+          value = b;
+          whole = (cc);
+          positive = λ q. nonzero q z;
+          rest = bs;
+          bytes = rw (shortest-last b low);
+        }
+      where
+        nonzero : 1 < w → (eqb b 0 && ltb 1 w) ≡ false → 0 < b
+        nonzero q z = positive-group b (ltb 1 w) (lt-ltb 1 w q) z
+
+-- A number that is read stands there in its shortest form, and nothing of what follows is taken.
+pub number-took : (most at v n : ℕ) (s : List ℕ) → Octets s → number most s at ≡ got v n → drop at s ≡ shortest v ++ drop n s
+number-took most at v n s o e =
+    let r = take-groups most 0 1 at (drop at s) v n (octets-drop at s o) (omega arith) e in
+    let same : r .value ≡ v = omega (arith, r .whole) in
+    let here : drop at s ≡ shortest v ++ r .rest = rw same at (r .bytes) in
+    let small : v ≤ most = bounds most 0 1 at (drop at s) v n e .small in
+    let next : n ≡ at + length (shortest v) = same-next v n (at + length (shortest v)) (sym e ∙ number-at most v at s (r .rest) here small) in
+    let after : drop n s ≡ r .rest = ap (λ (k : ℕ). drop k s) next ∙ sym (drop-drop (length (shortest v)) at s) ∙ ap (λ (l : List ℕ). drop (length (shortest v)) l) here ∙ drop-append-seam (shortest v) (r .rest) in
+    here ∙ ap (λ (l : List ℕ). shortest v ++ l) (sym after)
+  where
+    same-next : (v n m : ℕ) → _≡_ {A = Result ℕ} (got v n) (got v m) → n ≡ m
+    same-next v n m e = cc

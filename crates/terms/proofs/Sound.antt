@@ -1,22 +1,29 @@
--- What the reader finds is a formed term; and a formed term has at most seven tokens for each node. Assumes nothing.
-use mathlib.Core.Path.{_≡_, refl, ap, _∙_}
+-- What the reader finds is a formed term within its levels, whose variables are issued, and whose bytes are exactly those that were
+-- taken: nothing unsound is accepted. Assumes nothing.
+use mathlib.Core.Path.{_≡_, refl, sym, ap, subst, _∙_}
 use mathlib.Core.Bool.{Bool, true, false}
-use mathlib.Core.List.{List}
-use Prim.Native.Nat.{ℕ, zero, suc, _+_, _*_, _^_, _≤_, _<_}
+use mathlib.Core.List.{List, [], _∷_, _++_, append-assoc}
+use Prim.Native.Nat.{ℕ, zero, suc, _+_, _%_, _≤_, _<_}
+use native.Mathlib.Nat.{max-le}
+use native.Mathlib.Numerals.{add-one}
 use native.Mathlib.Omega.{arith}
-use borrow.Author.Tests.{leb-true, ltb-true}
-use lib.Dec.{leb, ltb}
-use lib.ListN.{length, drop, length-append}
+use borrow.Author.Tests.{leb-true, ltb-true, eqb-true}
+use lib.Dec.{leb, ltb, eqb}
+use lib.ListN.{length, drop, getD}
+use lib.Seq.{drop-cons}
 use Rattle.terms.specs.Result.{pick}
+use Rattle.terms.specs.Number.{shortest}
 use Rattle.terms.proofs.Bounds.{bounds}
+use Rattle.terms.proofs.Shortest.{Octets, number-took, shortest-last}
 use Rattle.terms.specs.Parser.{Result, Parser, got, refused, bind, return, refuse, byte, number}
-use Rattle.terms.specs.Term.{Term, Parts, var, node, end, num, sub, _+++_, items, partItems, size, sizes}
+use Rattle.terms.specs.Term.{Term, Parts, var, node, end, num, sub, bytes, partBytes, depth, depths, AllVars, AllVarsParts}
 use Rattle.terms.specs.Shape as shape
-use Rattle.terms.specs.Shape.{Shape, Meaning, kindOf, nominal}
-use Rattle.terms.specs.Formed.{Many, Pairs, Fits, Formed}
-use Rattle.terms.specs.Reading.{_then_, any, code, between, value, member, many, pairs, row, kinded, term, bare}
-use Rattle.terms.proofs.WroteLaws.{items-append, sizes-append}
-use Rattle.terms.proofs.TableLaws.{small, small-code, all-small, own, all-own, row-tag}
+use Rattle.terms.specs.Shape.{Shape, Meaning, kindOf, layout, nominal, ceiling, manyTerms, manyMembers}
+use Rattle.terms.specs.Formed.{Formed, Fit, TakesNumber, TakesTerm, afterNumber, afterTerm}
+use Rattle.terms.specs.Reading.{_then_, code, count, rising, variable, many, pairs, row, kinded, term, bare}
+use Rattle.terms.specs.Done.{seq, into, onto}
+use Rattle.terms.proofs.RowLaws.{after-end, onto-seq, pairs-seq}
+use Rattle.terms.proofs.TableLaws.{small, small-code, all-small, row-tag}
 
 -- ---- what a found result says of its parts
 
@@ -30,183 +37,211 @@ parts-of (refused c) f y n e = never c y n e
 same-value : {A : Type 0} (x y : A) (m n : ℕ) → _≡_ {A = Result A} (got x m) (got y n) → y ≡ x
 same-value x y m n e = cc
 
-picked : {A : Type 0} (b : Bool) (x y : A) (c m n : ℕ) → pick b (return x) (refuse c) m ≡ got y n → (b ≡ true) × (y ≡ x)
-picked true x y c m n e = (refl, same-value x y m n e)
+same-next : {A : Type 0} (x y : A) (m n : ℕ) → _≡_ {A = Result A} (got x m) (got y n) → m ≡ n
+same-next x y m n e = cc
+
+picked : {A : Type 0} (b : Bool) (x y : A) (c m n : ℕ) → pick b (return x) (refuse c) m ≡ got y n → (b ≡ true) × (y ≡ x) × (m ≡ n)
+picked true x y c m n e = (refl, same-value x y m n e, same-next x y m n e)
 picked false x y c m n e = never c y n e
 
--- ---- codes and numbers
-
 module _ (s : List ℕ) where
-  code-found : (limit at c n : ℕ) → code s limit at ≡ got c n → c < limit
+  -- the bytes from `at` on are bs, and then those from n on
+  abbrev pub Took : ℕ → ℕ → List ℕ → Type 0
+  Took at n bs = drop at s ≡ bs ++ drop n s
+
+  took-then : (at m n : ℕ) (bs cs : List ℕ) → Took at m bs → Took m n cs → Took at n (bs ++ cs)
+  took-then at m n bs cs h k = h ∙ ap (λ (l : List ℕ). bs ++ l) k ∙ sym (append-assoc bs cs (drop n s))
+
+  -- the same, where the end and the bytes are told another way
+  moved : (at m n : ℕ) (bs cs : List ℕ) → m ≡ n → cs ≡ bs → Took at m bs → Took at n cs
+  moved at m n bs cs h k x = rw (← h, k) x
+
+  -- ---- codes and numbers
+
+  took-byte : (at b n : ℕ) → byte s at ≡ got b n → Took at n (b ∷ [])
+  took-byte at b n e = go (ltb at (length s)) refl e
+    where
+      go : (h : Bool) → ltb at (length s) ≡ h → pick h (got (getD s at 0) (at + 1)) (refused 1) ≡ got b n → Took at n (b ∷ [])
+      go true h e =
+          moved at (at + 1) n (getD s at 0 ∷ []) (b ∷ []) (same-next (getD s at 0) b (at + 1) n e) (ap (λ (x : ℕ). x ∷ []) (same-value (getD s at 0) b (at + 1) n e))
+          (rw (add-one at) (drop-cons s at 0 (ltb-true at (length s) h)))
+      go false h e = never 1 b n e
+
+  code-found : (limit at c n : ℕ) → code s limit at ≡ got c n → (c < limit) × Took at n (c ∷ [])
   unfolding code
   code-found limit at c n e =
       let x = parts-of (byte s at) _ c n e in
-      let b = picked (ltb (x .0) limit) (x .0) c 2 (x .1) n (x .3) in
-      rw (b .1) (ltb-true (x .0) limit (b .0))
+      let b = picked (ltb (x .0) limit) (x .0) c 2 (x .1) n (x .3) in (
+        rw (b .1) (ltb-true (x .0) limit (b .0)),
+        moved at (x .1) n (x .0 ∷ []) (c ∷ []) (b .2) (ap (λ (y : ℕ). y ∷ []) (b .1)) (took-byte at (x .0) (x .1) (x .2)),
+      )
 
-  between-found : (low limit c at v n : ℕ) → between s low limit c at ≡ got v n → (low ≤ v) × (v < limit) × (v < 2 ^ 32)
-  unfolding between
-  between-found low limit c at v n e =
-      let x = parts-of (number s at) _ v n e in
-      go (x .0) (x .1) (leb low (x .0)) refl (x .3) (bounds 4294967295 0 1 at (drop at s) (x .0) (x .1) (x .2) .small)
-    where
-      go : (w m : ℕ) (a : Bool) → leb low w ≡ a → pick a (pick (ltb w limit) (return w) (refuse c)) (refuse c) m ≡ got v n → w ≤ 4294967295
-          → (low ≤ v) × (v < limit) × (v < 2 ^ 32)
-      go w m true a e h =
-          let b = picked (ltb w limit) w v c m n e in
-          let k = ltb-true w limit (b .0) in
-          let l = leb-true low w a in
-          rw (b .1) (l, k, omega arith)
-      go w m false a e h = never c v n e
+  module _ (o : Octets s) where
+    number-found : (most at v n : ℕ) → number s most at ≡ got v n → (v ≤ most) × Took at n (shortest v)
+    number-found most at v n e = (bounds most 0 1 at (drop at s) v n e .small, number-took most at v n s o e)
 
-  -- ---- rows
-
-  module _ (p : Parser Term) (T : Term → Type 0) (inner : (at : ℕ) (t : Term) (n : ℕ) → p at ≡ got t n → T t) where
-    many-found : (k at : ℕ) (ps : Parts) (n : ℕ) → many s p k at ≡ got ps n → Many T k ps
-    unfolding many Many
-    many-found zero at ps n e = rw (same-value end ps at n e) tt
-    many-found (suc k) at ps n e =
-        let x = parts-of (p at) _ ps n e in
-        let y = parts-of (many s p k (x .1)) _ ps n (x .3) in
-        rw (same-value (sub (x .0) (y .0)) ps (y .1) n (y .3)) (inner at (x .0) (x .1) (x .2), many-found k (x .1) (y .0) (y .1) (y .2))
-
-    pairs-found : (k least at : ℕ) (ps : Parts) (n : ℕ) → pairs s p k least at ≡ got ps n → Pairs T k least ps
-    unfolding pairs Pairs
-    pairs-found zero least at ps n e = rw (same-value end ps at n e) tt
-    pairs-found (suc k) least at ps n e =
-        let x = parts-of (member s least at) _ ps n e in
-        let y = parts-of (bind (p (x .1)) _) _ ps n (x .3) in
-        let z = parts-of (p (x .1)) _ (y .0) (y .1) (y .2) in
-        let w = parts-of (pairs s p k (x .0 + 1) (z .1)) _ (y .0) (y .1) (z .3) in
-        let b = between-found least any 5 at (x .0) (x .1) (x .2) in
-        rw (same-value (num (x .0) (y .0)) ps (y .1) n (y .3), same-value (sub (z .0) (w .0)) (y .0) (w .1) (y .1) (w .3))
-        (b .0, b .2, inner (x .1) (z .0) (z .1) (z .2), pairs-found k (x .0 + 1) (z .1) (w .0) (w .1) (w .2))
-
-    row-found : (r : Shape) → small r ≡ true → (at : ℕ) (q : Parts) (n : ℕ) → row s p r at ≡ got q n → Fits T r q
-    unfolding row Fits small
-    row-found shape.done h at q n e = same-value end q at n e
-    row-found (shape.code limit r) h at q n e =
-        let g = small-code limit r h in
-        let x = parts-of (code s limit at) _ q n e in
-        let y = parts-of (row s p r (x .1)) _ q n (x .3) in
-        let k = code-found limit at (x .0) (x .1) (x .2) in
-        (x .0, y .0, same-value (num (x .0) (y .0)) q (y .1) n (y .3), k, omega arith, row-found r (g .1) (x .1) (y .0) (y .1) (y .2))
-    row-found (shape.number r) h at q n e =
-        let x = parts-of (value s at) _ q n e in
-        let y = parts-of (row s p r (x .1)) _ q n (x .3) in
-        (x .0, y .0, same-value (num (x .0) (y .0)) q (y .1) n (y .3), between-found 0 any 3 at (x .0) (x .1) (x .2) .2, row-found r h (x .1) (y .0) (y .1) (y .2))
-    row-found (shape.term r) h at q n e =
-        let x = parts-of (p at) _ q n e in
-        let y = parts-of (row s p r (x .1)) _ q n (x .3) in
-        (x .0, y .0, same-value (sub (x .0) (y .0)) q (y .1) n (y .3), inner at (x .0) (x .1) (x .2), row-found r h (x .1) (y .0) (y .1) (y .2))
-    row-found (shape.terms r) h at q n e =
-        let x = parts-of (value s at) _ q n e in
-        let y = parts-of ((many s p (x .0) then row s p r) (x .1)) _ q n (x .3) in
-        let z = parts-of (many s p (x .0) (x .1)) _ (y .0) (y .1) (y .2) in
-        let w = parts-of (row s p r (z .1)) _ (y .0) (y .1) (z .3) in (
-          x .0,
-          z .0,
-          w .0,
-          same-value (num (x .0) (y .0)) q (y .1) n (y .3) ∙ ap (λ (u : Parts). num (x .0) u) (same-value (z .0 +++ w .0) (y .0) (w .1) (y .1) (w .3)),
-          between-found 0 any 3 at (x .0) (x .1) (x .2) .2,
-          many-found (x .0) (x .1) (z .0) (z .1) (z .2),
-          row-found r h (z .1) (w .0) (w .1) (w .2),
-        )
-    row-found (shape.members r) h at q n e =
-        let x = parts-of (value s at) _ q n e in
-        let y = parts-of ((pairs s p (x .0) 0 then row s p r) (x .1)) _ q n (x .3) in
-        let z = parts-of (pairs s p (x .0) 0 (x .1)) _ (y .0) (y .1) (y .2) in
-        let w = parts-of (row s p r (z .1)) _ (y .0) (y .1) (z .3) in (
-          x .0,
-          z .0,
-          w .0,
-          same-value (num (x .0) (y .0)) q (y .1) n (y .3) ∙ ap (λ (u : Parts). num (x .0) u) (same-value (z .0 +++ w .0) (y .0) (w .1) (y .1) (w .3)),
-          between-found 0 any 3 at (x .0) (x .1) (x .2) .2,
-          pairs-found (x .0) 0 (x .1) (z .0) (z .1) (z .2),
-          row-found r h (z .1) (w .0) (w .1) (w .2),
+    rising-found : (most least at v n : ℕ) → rising s most least at ≡ got v n → (least ≤ v) × (v ≤ most) × Took at n (shortest v)
+    unfolding rising
+    rising-found most least at v n e =
+        let x = parts-of (number s most at) _ v n e in
+        let b = picked (leb least (x .0)) (x .0) v 5 (x .1) n (x .3) in
+        let f = number-found most at (x .0) (x .1) (x .2) in (
+          rw (b .1) (leb-true least (x .0) (b .0)),
+          rw (b .1) (f .0),
+          moved at (x .1) n (shortest (x .0)) (shortest v) (b .2) (ap shortest (b .1)) (f .1),
         )
 
-  -- ---- terms
+    -- ---- rows
 
-  pub found-formed : (issued levels at : ℕ) (t : Term) (n : ℕ) → term s issued levels at ≡ got t n → Formed issued levels t
-  unfolding term kinded Formed
-  found-formed issued zero at t n e = never 4 t n e
-  found-formed issued (suc l) at t n e =
-      let x = parts-of (byte s at) _ t n e in
-      go (λ m u k. found-formed issued l m u k) (x .0) (x .1) (kindOf (x .0)) refl (x .3)
-    where
-      go : ((m : ℕ) (u : Term) (k : ℕ) → term s issued l m ≡ got u k → Formed issued l u) → (tag m : ℕ) (k : Meaning) → kindOf tag ≡ k → kinded s (term s issued l) issued tag k m ≡ got t n → Formed issued (suc l) t
-      go inner tag m shape.variable h e =
-          let y = parts-of (between s 0 issued 6 m) _ t n e in
-          let b = between-found 0 issued 6 m (y .0) (y .1) (y .2) in
-          rw (same-value (var (y .0)) t (y .1) n (y .3)) (b .1, b .2)
-      go inner tag m (shape.row r) h e =
-          let y = parts-of (row s (term s issued l) r m) _ t n e in
-          let k = row-tag tag r h in
-          let f : small r ≡ true = rw (k .1) at (all-small tag) in
-          rw (same-value (node tag (y .0)) t (y .1) n (y .3))
-          (k .0, r, h, row-found (term s issued l) (Formed issued l) inner r f m (y .0) (y .1) (y .2))
-      go inner tag m shape.unlisted h e = never 2 t n e
+    module _ (issued levels : ℕ) where
+      -- a term that was found between two positions, and a row
+      pub record FoundTerm (at : ℕ) (t : Term) (n : ℕ) : Type 0 where
+        pub formed : Formed t
+        pub low : depth t ≤ levels
+        pub known : AllVars (λ v. v < issued) t
+        pub taken : Took at n (bytes t)
 
--- ---- seven tokens a node: of them one is the member's number where the term is a member's value
+      pub record FoundRow (r : Shape) (at : ℕ) (q : Parts) (n : ℕ) : Type 0 where
+        pub fit : Fit r q
+        pub low : depths q ≤ levels
+        pub known : AllVarsParts (λ v. v < issued) q
+        pub taken : Took at n (partBytes q)
 
-module _ (T : Term → Type 0) (inner : (t : Term) → T t → length (items t) + 1 ≤ 7 * size t) where
-  many-tokens : (n : ℕ) (ps : Parts) → Many T n ps → length (partItems ps) ≤ 7 * sizes ps
-  unfolding Many items size
-  many-tokens zero end f = omega arith
-  many-tokens zero (num m ps) f = absurd f
-  many-tokens zero (sub t ps) f = absurd f
-  many-tokens (suc n) end f = absurd f
-  many-tokens (suc n) (num m ps) f = absurd f
-  many-tokens (suc n) (sub t ps) f = omega (arith, length-append (items t) (partItems ps), inner t (f .0), many-tokens n ps (f .1))
+      found-end : (at n : ℕ) (q : Parts) → _≡_ {A = Result Parts} (got end at) (got q n) → FoundRow shape.done at q n
+      unfolding Fit depth AllVars bytes
+      found-end at n q e =
+          rw (same-value end q at n e)
+          (record { fit = refl; low = omega arith; known = tt; taken = ap (λ (k : ℕ). drop k s) (same-next end q at n e) })
 
-  pairs-tokens : (n least : ℕ) (ps : Parts) → Pairs T n least ps → length (partItems ps) ≤ 7 * sizes ps
-  unfolding Pairs items size
-  pairs-tokens zero least end f = omega arith
-  pairs-tokens zero least (num m ps) f = absurd f
-  pairs-tokens zero least (sub t ps) f = absurd f
-  pairs-tokens (suc n) least end f = absurd f
-  pairs-tokens (suc n) least (sub t ps) f = absurd f
-  pairs-tokens (suc n) least (num m end) f = absurd f
-  pairs-tokens (suc n) least (num m (num k ps)) f = absurd f
-  pairs-tokens (suc n) least (num m (sub t ps)) f = omega (arith, length-append (items t) (partItems ps), inner t (f .2), pairs-tokens n (m + 1) ps (f .3))
+      -- a number, and then a row
+      found-num : (r : Shape) (at v m : ℕ) (ps q : Parts) (k n : ℕ) → TakesNumber r v → Took at m (shortest v) → FoundRow (afterNumber r v) m ps k
+          → _≡_ {A = Result Parts} (got (num v ps) k) (got q n) → FoundRow r at q n
+      unfolding Fit depth AllVars bytes
+      found-num r at v m ps q k n h w f e =
+          rw (same-value (num v ps) q k n e)
+          (record { fit = (h, f .fit); low = f .low; known = f .known; taken = moved at k n (shortest v ++ partBytes ps) (shortest v ++ partBytes ps) (same-next (num v ps) q k n e) refl (took-then at m k (shortest v) (partBytes ps) w (f .taken)) })
 
-  -- two rows
-  rows-tokens : (a : ℕ) (ps qs : Parts) → length (partItems ps) ≤ 7 * sizes ps → length (partItems qs) ≤ a + 7 * sizes qs
-      → length (partItems (ps +++ qs)) ≤ a + 7 * sizes (ps +++ qs)
-  rows-tokens a ps qs h k = rw (items-append ps qs, sizes-append ps qs) (omega (arith, length-append (partItems ps) (partItems qs)))
+      -- a term, and then a row
+      found-sub : (r : Shape) (at : ℕ) (t : Term) (m : ℕ) (ps q : Parts) (k n : ℕ) → TakesTerm r → FoundTerm at t m → FoundRow (afterTerm r) m ps k
+          → _≡_ {A = Result Parts} (got (sub t ps) k) (got q n) → FoundRow r at q n
+      unfolding Fit depth AllVars bytes
+      found-sub r at t m ps q k n h w f e =
+          rw (same-value (sub t ps) q k n e)
+          (record { fit = (h, w .formed, f .fit); low = max-le (w .low) (f .low); known = (w .known, f .known); taken = moved at k n (bytes t ++ partBytes ps) (bytes t ++ partBytes ps) (same-next (sub t ps) q k n e) refl (took-then at m k (bytes t) (partBytes ps) (w .taken) (f .taken)) })
 
-  row-tokens : (r : Shape) (q : Parts) → Fits T r q → length (partItems q) ≤ own r + 7 * sizes q
-  unfolding Fits own items size
-  row-tokens shape.done q f = rw f (omega arith)
-  row-tokens (shape.code limit r) q (c, ps, e, h, k, f) = rw e (omega (arith, row-tokens r ps f))
-  row-tokens (shape.number r) q (n, ps, e, h, f) = rw e (omega (arith, row-tokens r ps f))
-  row-tokens (shape.term r) q (t, ps, e, h, f) = rw e (omega (arith, length-append (items t) (partItems ps), inner t h, row-tokens r ps f))
-  row-tokens (shape.terms r) q (n, ts, ps, e, h, m, f) = rw e (omega (arith, rows-tokens (own r) ts ps (many-tokens n ts m) (row-tokens r ps f)))
-  row-tokens (shape.members r) q (n, ts, ps, e, h, m, f) = rw e (omega (arith, rows-tokens (own r) ts ps (pairs-tokens n 0 ts m) (row-tokens r ps f)))
+      module _ (p : Parser Term) (inner : (at : ℕ) (t : Term) (n : ℕ) → p at ≡ got t n → FoundTerm at t n) where
+        module _ (l : Parser Parts) (r : Shape) (rest : (at : ℕ) (q : Parts) (n : ℕ) → l at ≡ got q n → FoundRow r at q n) where
+          many-found : (k at : ℕ) (q : Parts) (n : ℕ) → (many s p k then l) at ≡ got q n → FoundRow (manyTerms k r) at q n
+          unfolding many manyTerms TakesTerm afterTerm
+          many-found zero at q n e = rest at q n (after-end (l at) ∙ e)
+          many-found (suc k) at q n e =
+              let x = parts-of (p at) _ q n (sym (onto-seq (p at) (many s p k) l) ∙ e) in
+              let y = parts-of ((many s p k then l) (x .1)) _ q n (x .3) in
+              found-sub (shape.term (manyTerms k r)) at (x .0) (x .1) (y .0) q (y .1) n tt (inner at (x .0) (x .1) (x .2)) (many-found k (x .1) (y .0) (y .1) (y .2)) (y .3)
 
-pub seven : (issued levels : ℕ) (t : Term) → Formed issued levels t → length (items t) + 1 ≤ 7 * size t
-unfolding Formed items size
-seven issued zero t f = absurd f
-seven issued (suc l) (var v) f = omega arith
-seven issued (suc l) (node k ps) (h, r, e, f) =
-    let b = row-tag k r e in
-    let o : own r ≤ 5 = rw (b .1) at (all-own k) in
-    omega (arith, row-tokens (Formed issued l) (seven issued l) r ps f)
+          pairs-found : (k least at : ℕ) (q : Parts) (n : ℕ) → (pairs s p k least then l) at ≡ got q n → FoundRow (manyMembers k least r) at q n
+          unfolding pairs manyMembers TakesNumber afterNumber TakesTerm afterTerm
+          pairs-found zero least at q n e = rest at q n (after-end (l at) ∙ e)
+          pairs-found (suc k) least at q n e =
+              let v = rising s (ceiling shape.definition) least at in
+              let x = parts-of v _ q n (sym (pairs-seq v p (λ m. pairs s p k (m + 1)) l) ∙ e) in
+              let m = x .0 in
+              let y = parts-of (onto (p (x .1)) (pairs s p k (m + 1) then l)) _ q n (x .3) in
+              let z = parts-of (p (x .1)) _ (y .0) (y .1) (y .2) in
+              let w = parts-of ((pairs s p k (m + 1) then l) (z .1)) _ (y .0) (y .1) (z .3) in
+              let b = rising-found (ceiling shape.definition) least at m (x .1) (x .2) in
+              found-num (shape.member k least r) at m (x .1) (y .0) q (y .1) n (b .0, b .1) (b .2)
+              (found-sub (shape.term (manyMembers k (m + 1) r)) (x .1) (z .0) (z .1) (w .0) (y .0) (w .1) (y .1) tt (inner (x .1) (z .0) (z .1) (z .2)) (pairs-found k (m + 1) (z .1) (w .0) (w .1) (w .2)) (w .3))
+              (y .3)
 
--- ---- a bare nominal: four tokens of its own, and seven for each node
+        row-found : (r : Shape) → small r ≡ true → (at : ℕ) (q : Parts) (n : ℕ) → row s p r at ≡ got q n → FoundRow r at q n
+        unfolding row small TakesNumber afterNumber TakesTerm afterTerm manyMembers
+        row-found shape.done h at q n e = found-end at n q e
+        row-found (shape.code limit r) h at q n e =
+            let g = small-code limit r h in
+            let x = parts-of (code s limit at) _ q n e in
+            let y = parts-of (row s p r (x .1)) _ q n (x .3) in
+            let k = code-found limit at (x .0) (x .1) (x .2) in
+            found-num (shape.code limit r) at (x .0) (x .1) (y .0) q (y .1) n (k .0) (rw (shortest-last (x .0) (omega (arith, k .0, g .0))) (k .1)) (row-found r (g .1) (x .1) (y .0) (y .1) (y .2)) (y .3)
+        row-found (shape.number b r) h at q n e =
+            let x = parts-of (number s (ceiling b) at) _ q n e in
+            let y = parts-of (row s p r (x .1)) _ q n (x .3) in
+            let k = number-found (ceiling b) at (x .0) (x .1) (x .2) in
+            found-num (shape.number b r) at (x .0) (x .1) (y .0) q (y .1) n (k .0) (k .1) (row-found r h (x .1) (y .0) (y .1) (y .2)) (y .3)
+        row-found (shape.term r) h at q n e =
+            let x = parts-of (p at) _ q n e in
+            let y = parts-of (row s p r (x .1)) _ q n (x .3) in
+            found-sub (shape.term r) at (x .0) (x .1) (y .0) q (y .1) n tt (inner at (x .0) (x .1) (x .2)) (row-found r h (x .1) (y .0) (y .1) (y .2)) (y .3)
+        row-found (shape.terms r) h at q n e =
+            let x = parts-of (count s at) _ q n e in
+            let y = parts-of ((many s p (x .0) then row s p r) (x .1)) _ q n (x .3) in
+            let k = number-found (ceiling shape.ordinary) at (x .0) (x .1) (x .2) in
+            found-num (shape.terms r) at (x .0) (x .1) (y .0) q (y .1) n (k .0) (k .1) (many-found (row s p r) r (row-found r h) (x .0) (x .1) (y .0) (y .1) (y .2)) (y .3)
+        row-found (shape.members r) h at q n e =
+            let x = parts-of (count s at) _ q n e in
+            let y = parts-of ((pairs s p (x .0) 0 then row s p r) (x .1)) _ q n (x .3) in
+            let k = number-found (ceiling shape.ordinary) at (x .0) (x .1) (x .2) in
+            found-num (shape.members r) at (x .0) (x .1) (y .0) q (y .1) n (k .0) (k .1) (pairs-found (row s p r) r (row-found r h) (x .0) 0 (x .1) (y .0) (y .1) (y .2)) (y .3)
+        row-found (shape.member k least r) h at q n e = pairs-found (row s p r) r (row-found r h) (suc k) least at q n e
 
-nominal-small : small (nominal shape.done) ≡ true
-unfolding small
-nominal-small = refl
+    -- ---- terms
 
-pub bare-found : (s : List ℕ) (issued levels at : ℕ) (t : Term) (n : ℕ) → bare s issued levels at ≡ got t n
-    → (ps : Parts) × (t ≡ node 20 ps) × Fits (Formed issued levels) (nominal shape.done) ps
-unfolding bare
-bare-found s issued levels at t n e =
-    let x = parts-of (row s (term s issued levels) (nominal shape.done) at) _ t n e in
-    (x .0, same-value (node 20 (x .0)) t (x .1) n (x .3), row-found s (term s issued levels) (Formed issued levels) (found-formed s issued levels) (nominal shape.done) nominal-small at (x .0) (x .1) (x .2))
+    tagged : (k : ℕ) → k < 20 → k % 256 ≡ k
+    tagged k h = omega arith
 
-pub four : (issued levels : ℕ) (ps : Parts) → Fits (Formed issued levels) (nominal shape.done) ps → length (items (node 20 ps)) ≤ 4 + 7 * sizes ps
-unfolding items own
-four issued levels ps f = omega (arith, row-tokens (Formed issued levels) (seven issued levels) (nominal shape.done) ps f)
+    kind-one : (k : ℕ) → kindOf k ≡ shape.variable → k ≡ 1
+    unfolding kindOf
+    kind-one k e = go (eqb k 1) (ltb k 20) refl e
+      where
+        go : (a b : Bool) → eqb k 1 ≡ a → pick a shape.variable (pick b (shape.row (layout k)) shape.unlisted) ≡ shape.variable → k ≡ 1
+        go true b h e = eqb-true k 1 h
+        go false true h e = let z : _≡_ {A = ℕ} 0 1 = cc in absurd (omega arith)
+        go false false h e = let z : _≡_ {A = ℕ} 0 1 = cc in absurd (omega arith)
+
+    pub found : (issued levels at : ℕ) (t : Term) (n : ℕ) → term s issued levels at ≡ got t n → FoundTerm issued levels at t n
+    unfolding term kinded variable Formed depth AllVars bytes
+    found issued zero at t n e = never 4 t n e
+    found issued (suc l) at t n e =
+        let x = parts-of (byte s at) _ t n e in
+        go (found issued l) (x .0) (x .1) (took-byte at (x .0) (x .1) (x .2)) (kindOf (x .0)) refl (x .3)
+      where
+        go : ((m : ℕ) (u : Term) (k : ℕ) → term s issued l m ≡ got u k → FoundTerm issued l m u k) → (tag m : ℕ) → Took at m (tag ∷ []) → (k : Meaning) → kindOf tag ≡ k
+            → kinded s (term s issued l) issued tag k m ≡ got t n → FoundTerm issued (suc l) at t n
+        go inner tag m w shape.variable h e =
+            let y = parts-of (number s (ceiling shape.ordinary) m) _ t n e in
+            let b = picked (ltb (y .0) issued) (var (y .0)) t 6 (y .1) n (y .3) in
+            let f = number-found (ceiling shape.ordinary) m (y .0) (y .1) (y .2) in
+            rw (b .1)
+            (record {
+              formed = f .0;
+              low = omega arith;
+              known = ltb-true (y .0) issued (b .0);
+              taken = moved at (y .1) n (tag ∷ shortest (y .0)) (1 ∷ shortest (y .0)) (b .2) (rw (kind-one tag h)) (took-then at m (y .1) (tag ∷ []) (shortest (y .0)) w (f .1));
+            })
+        go inner tag m w (shape.row r) h e =
+            let y = parts-of (row s (term s issued l) r m) _ t n e in
+            let k = row-tag tag r h in
+            let f : small r ≡ true = rw (k .1) at (all-small tag) in
+            let g = row-found issued l (term s issued l) inner r f m (y .0) (y .1) (y .2) in
+            let same : t ≡ node tag (y .0) = same-value (node tag (y .0)) t (y .1) n (y .3) in
+            rw same
+            (record {
+              formed = (rw (k .1) h, rw (k .1) (g .fit));
+              low = omega (arith, g .low);
+              known = g .known;
+              taken = moved at (y .1) n (tag ∷ partBytes (y .0)) ((tag % 256) ∷ partBytes (y .0)) (same-next (node tag (y .0)) t (y .1) n (y .3)) (rw (tagged tag (k .0))) (took-then at m (y .1) (tag ∷ []) (partBytes (y .0)) w (g .taken));
+            })
+        go inner tag m w shape.unlisted h e = never 2 t n e
+
+    -- ---- a bare nominal
+
+    nominal-small : small (nominal shape.done) ≡ true
+    unfolding small
+    nominal-small = refl
+
+    pub bare-found : (issued levels at : ℕ) (t : Term) (n : ℕ) → bare s issued levels at ≡ got t n → (ps : Parts) × (t ≡ node 20 ps) × FoundRow issued levels (nominal shape.done) at ps n
+    unfolding bare
+    bare-found issued levels at t n e =
+        let x = parts-of (row s (term s issued levels) (nominal shape.done) at) _ t n e in
+        let f = row-found issued levels (term s issued levels) (found issued levels) (nominal shape.done) nominal-small at (x .0) (x .1) (x .2) in
+        (x .0, same-value (node 20 (x .0)) t (x .1) n (x .3), subst (λ (k : ℕ). FoundRow issued levels (nominal shape.done) at (x .0) k) (same-next (node 20 (x .0)) t (x .1) n (x .3)) f)

@@ -12,18 +12,18 @@ use Rattle.terms.specs.Shape as shape
 use Rattle.terms.specs.Shape.{Shape, layouts, layout, kindOf}
 
 -- a test that every entry of a list passes
-unfoldable all : (Shape → Bool) → List Shape → Bool
+unfoldable pub all : (Shape → Bool) → List Shape → Bool
 all f [] = true
 all f (r ∷ l) = f r && all f l
 
-both-true : (a b : Bool) → a && b ≡ true → (a ≡ true) × (b ≡ true)
+pub both-true : (a b : Bool) → a && b ≡ true → (a ≡ true) × (b ≡ true)
 both-true true b h = (refl, h)
 both-true false b h = let z : _≡_ {A = Bool} false true = h in absurd (never z)
   where
     never : _≡_ {A = Bool} false true → ⊥
     never e = let z : _≡_ {A = ℕ} 0 1 = cc in omega arith
 
-all-at : (f : Shape → Bool) (l : List Shape) (k : ℕ) (r : Shape) → all f l ≡ true → f r ≡ true → f (getD l k r) ≡ true
+pub all-at : (f : Shape → Bool) (l : List Shape) (k : ℕ) (r : Shape) → all f l ≡ true → f r ≡ true → f (getD l k r) ≡ true
 unfolding all
 all-at f [] k r h e = e
 all-at f (x ∷ l) zero r h e = both-true (f x) (all f l) h .0
@@ -33,10 +33,11 @@ all-at f (x ∷ l) (suc k) r h e = all-at f l k r (both-true (f x) (all f l) h .
 unfoldable pub small : Shape → Bool
 small shape.done = true
 small (shape.code limit r) = leb limit 128 && small r
-small (shape.number r) = small r
+small (shape.number f r) = small r
 small (shape.term r) = small r
 small (shape.terms r) = small r
 small (shape.members r) = small r
+small (shape.member n least r) = small r
 
 pub small-code : (limit : ℕ) (r : Shape) → small (shape.code limit r) ≡ true → (limit ≤ 128) × (small r ≡ true)
 unfolding small
@@ -45,19 +46,6 @@ small-code limit r h = let b = both-true (leb limit 128) (small r) h in (leb-tru
 pub all-small : (k : ℕ) → small (layout k) ≡ true
 unfolding small all
 all-small k = all-at small layouts k shape.done refl refl
-
--- how many numbers of its own a row has: its terms and the members of pairs come on top
-unfoldable pub own : Shape → ℕ
-own shape.done = 0
-own (shape.code limit r) = suc (own r)
-own (shape.number r) = suc (own r)
-own (shape.term r) = own r
-own (shape.terms r) = suc (own r)
-own (shape.members r) = suc (own r)
-
-pub all-own : (k : ℕ) → own (layout k) ≤ 5
-unfolding own all
-all-own k = leb-true (own (layout k)) 5 (all-at (λ r. leb (own r) 5) layouts k shape.done refl refl)
 
 -- a tag that stands for a row is below 20, and the row is the table's
 pub row-tag : (k : ℕ) (r : Shape) → kindOf k ≡ shape.row r → (k < 20) × (layout k ≡ r)

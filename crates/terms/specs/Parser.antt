@@ -27,6 +27,6 @@ refuse c at = refused c
 abbrev pub byte : List ℕ → Parser ℕ
 byte s at = pick (ltb at (length s)) (got (getD s at 0) (at + 1)) (refused 1)
 
--- a number of 32 bits
-abbrev pub number : List ℕ → Parser ℕ
-number s at = numbers.number 4294967295 s at
+-- a number of at most `most`
+abbrev pub number : List ℕ → ℕ → Parser ℕ
+number s most at = numbers.number most s at

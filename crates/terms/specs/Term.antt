@@ -1,6 +1,6 @@
 -- Terms, their tokens, their nodes and their bytes. Assumes nothing.
 use mathlib.Core.Path.{_≡_}
-use Prim.Native.Nat.{ℕ, suc, _+_, _%_, _≤_}
+use Prim.Native.Nat.{ℕ, suc, max, _+_, _%_, _≤_}
 use mathlib.Core.List.{List, [], _∷_, _++_}
 use lib.ListN.{length}
 use Rattle.terms.specs.Number.{shortest}
@@ -46,6 +46,34 @@ unfoldable mutual
   sizes end = 0
   sizes (num n ps) = sizes ps
   sizes (sub t ps) = size t + sizes ps
+
+-- how many levels a term has, and a row below its node
+unfoldable mutual
+  pub depth : Term → ℕ
+  depth (var v) = 1
+  depth (node k ps) = suc (depths ps)
+
+  pub depths : Parts → ℕ
+  depths end = 0
+  depths (num n ps) = depths ps
+  depths (sub t ps) = max (depth t) (depths ps)
+
+-- every variable of a term has P
+unfoldable mutual
+  pub AllVars : (ℕ → Type 0) → Term → Type 0
+  AllVars P (var v) = P v
+  AllVars P (node k ps) = AllVarsParts P ps
+
+  pub AllVarsParts : (ℕ → Type 0) → Parts → Type 0
+  AllVarsParts P end = Unit {0}
+  AllVarsParts P (num n ps) = AllVarsParts P ps
+  AllVarsParts P (sub t ps) = AllVars P t × AllVarsParts P ps
+
+-- every term that stands in a row has P
+unfoldable pub Subs : (Term → Type 0) → Parts → Type 0
+Subs P end = Unit {0}
+Subs P (num n ps) = Subs P ps
+Subs P (sub t ps) = P t × Subs P ps
 
 -- the bytes
 unfoldable mutual

@@ -31,6 +31,15 @@ unfoldable pub puts : Area → ℕ → List Item → Area
 puts d i [] = d
 puts d i (item k v ∷ l) = puts (put d i k v) (suc i) l
 
+-- n tokens of kind 0 and value 0
+unfoldable pub zeros : ℕ → List Item
+zeros zero = []
+zeros (suc n) = item 0 0 ∷ zeros n
+
+-- n tokens cleared from i on
+abbrev pub blank : Area → ℕ → ℕ → Area
+blank d i n = puts d i (zeros n)
+
 -- the tokens before n
 abbrev pub before : ℕ → Area → Area
 before n d = area (take n (d .kinds)) (take n (d .vals))

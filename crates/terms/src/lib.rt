@@ -1,15 +1,17 @@
 // The reader of terms: it stores a term as a run of tokens, in the order of its bytes, into two areas that the caller lends.
+mod keep;
 mod kinds;
 mod numbers;
 mod read;
 mod store;
 mod values;
 
+pub use keep::keep_nominal;
+pub use keep::keep_term;
 pub use numbers::number_len;
 pub use numbers::read_number;
 pub use numbers::write_number;
-pub use read::read_bare;
-pub use read::read_term;
+pub use store::clear_tokens;
 
 // Where reading stands: the position in the bytes, the number of the next token, and how many nodes were read. While these are at most
 // `limit`, tokens are stored; past it reading goes on without.

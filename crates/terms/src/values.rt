@@ -11,20 +11,20 @@ ghost use Prim.Native.Nat.{_+_, _≤_, _<_, _^_};
 ghost use lib.ListN.{length};
 ghost use Rattle.terms.specs.Number.{resultOf};
 ghost use Rattle.terms.specs.Tokens.{area};
-ghost use Rattle.terms.specs.Reading.{code, between};
-ghost use Rattle.terms.specs.Pieces.{variable, coded, numbered, fields};
+ghost use Rattle.terms.specs.Reading.{code, rising, variable};
+ghost use Rattle.terms.specs.Pieces.{coded, numbered, fields};
 ghost use Rattle.terms.specs.Done.{Within, Room, ValueDone, TermDone, PartsDone};
 
-// The largest number of 32 bits, and the limit that every such number is below.
-const MOST: u64 = 4294967295;
+// The ceilings of the numbers that name definitions and of the others.
+pub const DEFINITION: u64 = 4294967295;
 
-const ANY: u64 = 4294967296;
+pub const ORDINARY: u64 = 4294967295;
 
 // A code byte below `codes`.
 fn code_at(s: &[u8], at: usize, codes: u32) -> NumberRead
     requires { ⌜ at ≤ length (now s) ⌝ }
     ensures found { λ r. ⌜ resultOf r ≡ code (now (s .entry)) codes at ⌝ }
-    ensures within { λ r. ⌜ Within (now (s .entry)) at r ⌝ }
+    ensures within { λ r. ⌜ Within (now (s .entry)) at 255 r ⌝ }
 {
     if s.len() <= at {
         return NumberRead::Refused(1);
@@ -37,47 +37,42 @@ fn code_at(s: &[u8], at: usize, codes: u32) -> NumberRead
     }
 }
 
-// A number of `low` to `limit` - 1; the refusal `c` where it is another.
-fn number_at(s: &[u8], at: usize, low: u64, limit: u64, c: u8) -> NumberRead
+// A number of `least` to `most`; refusal 5 where it is below `least`.
+fn number_at(s: &[u8], at: usize, most: u64, least: u64) -> NumberRead
     requires { ⌜ at ≤ length (now s) ⌝ }
-    ensures found { λ r. ⌜ resultOf r ≡ between (now (s .entry)) low limit c at ⌝ }
-    ensures within { λ r. ⌜ Within (now (s .entry)) at r ⌝ }
+    ensures found { λ r. ⌜ resultOf r ≡ rising (now (s .entry)) most least at ⌝ }
+    ensures within { λ r. ⌜ Within (now (s .entry)) at most r ⌝ }
 {
-    let r = read_number(s, at, MOST);
+    let r = read_number(s, at, most);
     match r {
         NumberRead::Value(v, next) => {
-            if v < low {
-                return NumberRead::Refused(c);
+            if v < least {
+                return NumberRead::Refused(5);
             }
-            if v < limit {
-                NumberRead::Value(v, next)
-            } else {
-                NumberRead::Refused(c)
-            }
+            NumberRead::Value(v, next)
         }
         NumberRead::Refused(e) => NumberRead::Refused(e),
     }
 }
 
-// Reads a number and stores it as a token of kind `kind`.
+// Reads a number of `least` to `most` and stores it.
 pub fn read_value(
     s: &[u8],
     kinds: &mut [u32],
     vals: &mut [u32],
     p: Place,
-    kind: u32,
-    low: u64,
-    limit: u64,
-    c: u8,
+    most: u64,
+    least: u64,
 ) -> ValueRead
-    requires { ⌜ Room (now s) p ⌝ }
-    ensures { λ r. ⌜ ValueDone kind (now (s .entry)) (between (now (s .entry)) low limit c (p .at)) p (area (now (kinds .entry)) (now (vals .entry))) (area (now (kinds .exit)) (now (vals .exit))) r ⌝ }
+    requires room { ⌜ Room (now s) p ⌝ }
+    requires narrow { ⌜ most < 2 ^ 32 ⌝ }
+    ensures { λ r. ⌜ ValueDone most (now (s .entry)) (rising (now (s .entry)) most least (p .at)) p (area (now (kinds .entry)) (now (vals .entry))) (area (now (kinds .exit)) (now (vals .exit))) r ⌝ }
 {
-    let r = number_at(s, p.at, low, limit, c);
+    let r = number_at(s, p.at, most, least);
     match r {
         NumberRead::Value(v, next) => {
             let on = p.nodes <= p.limit;
-            put_token(kinds, vals, on, p.top, kind, v as u32);
+            put_token(kinds, vals, on, p.top, 0, v as u32);
             ValueRead::Valued(
                 v,
                 Place {
@@ -116,13 +111,14 @@ fn read_code(s: &[u8], kinds: &mut [u32], vals: &mut [u32], p: Place, codes: u32
     }
 }
 
-// Reads a number where one is wanted.
-fn read_id(s: &[u8], kinds: &mut [u32], vals: &mut [u32], p: Place, wanted: bool) -> Step
-    requires { ⌜ Room (now s) p ⌝ }
-    ensures { λ r. ⌜ PartsDone (now (s .entry)) (numbered (now (s .entry)) wanted (p .at)) p (area (now (kinds .entry)) (now (vals .entry))) (area (now (kinds .exit)) (now (vals .exit))) r ⌝ }
+// Reads a number of at most `most` where one is wanted.
+fn read_id(s: &[u8], kinds: &mut [u32], vals: &mut [u32], p: Place, most: u64, wanted: bool) -> Step
+    requires room { ⌜ Room (now s) p ⌝ }
+    requires narrow { ⌜ most < 2 ^ 32 ⌝ }
+    ensures { λ r. ⌜ PartsDone (now (s .entry)) (numbered (now (s .entry)) most wanted (p .at)) p (area (now (kinds .entry)) (now (vals .entry))) (area (now (kinds .exit)) (now (vals .exit))) r ⌝ }
 {
     if wanted {
-        let r = read_value(s, kinds, vals, p, 0, 0, ANY, 3);
+        let r = read_value(s, kinds, vals, p, most, 0);
         match r {
             ValueRead::Valued(v, q) => Step::Next(q),
             ValueRead::Unvalued(e) => Step::Stopped(e),
@@ -140,9 +136,9 @@ pub fn read_fields(s: &[u8], kinds: &mut [u32], vals: &mut [u32], p: Place, f: F
     let a = read_code(s, kinds, vals, p, f.codes);
     match a {
         Step::Next(q) => {
-            let b = read_id(s, kinds, vals, q, f.first);
+            let b = read_id(s, kinds, vals, q, DEFINITION, f.first);
             match b {
-                Step::Next(u) => read_id(s, kinds, vals, u, f.second),
+                Step::Next(u) => read_id(s, kinds, vals, u, ORDINARY, f.second),
                 Step::Stopped(c) => Step::Stopped(c),
             }
         }
@@ -156,15 +152,21 @@ pub fn read_variable(s: &[u8], kinds: &mut [u32], vals: &mut [u32], p: Place, is
     requires tagged { ⌜ p .at < length (now s) ⌝ }
     ensures { λ r. ⌜ TermDone (now (s .entry)) (variable (now (s .entry)) issued (p .at + 1)) p (area (now (kinds .entry)) (now (vals .entry))) (area (now (kinds .exit)) (now (vals .exit))) r ⌝ }
 {
-    let q = Place {
-        at: p.at + 1,
-        top: p.top,
-        nodes: p.nodes + 1,
-        limit: p.limit,
-    };
-    let r = read_value(s, kinds, vals, q, 1, 0, issued, 6);
+    let r = number_at(s, p.at + 1, ORDINARY, 0);
     match r {
-        ValueRead::Valued(v, u) => Step::Next(u),
-        ValueRead::Unvalued(c) => Step::Stopped(c),
+        NumberRead::Value(v, next) => {
+            if issued <= v {
+                return Step::Stopped(6);
+            }
+            let nodes = p.nodes + 1;
+            put_token(kinds, vals, nodes <= p.limit, p.top, 1, v as u32);
+            Step::Next(Place {
+                at: next,
+                top: p.top + 1,
+                nodes,
+                limit: p.limit,
+            })
+        }
+        NumberRead::Refused(e) => Step::Stopped(e),
     }
 }

@@ -10,7 +10,7 @@ use Rattle.terms.proofs.values.read_code.Statement.{statement}
 use Rattle.terms.proofs.values.read_code.Tie as tie
 
 -- where the code lies
-within : (c : tie.After-r) → Within (now (c .before .before .before .before .before .before .before .args .s)) (c .before .before .before .before .before .before .before .args .p .at) (Value (c .r .given .0 .0) (c .r .given .0 .1 .0))
+within : (c : tie.After-r) → Within (now (c .before .before .before .before .before .before .before .args .s)) (c .before .before .before .before .before .before .before .args .p .at) 255 (Value (c .r .given .0 .0) (c .r .given .0 .1 .0))
 within c = rw (c .r .given .1) at (c .before .before .code-at .ensures .1)
 
 returns : tie.Need-returns

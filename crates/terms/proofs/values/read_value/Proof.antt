@@ -11,7 +11,7 @@ use Rattle.terms.proofs.values.read_value.Statement.{statement}
 use Rattle.terms.proofs.values.read_value.Tie as tie
 
 -- where the number lies
-within : (c : tie.After-r) → Within (now (c .before .before .before .before .before .before .args .s)) (c .before .before .before .before .before .before .args .p .at) (Value (c .r .given .0 .0) (c .r .given .0 .1 .0))
+within : (c : tie.After-r) → Within (now (c .before .before .before .before .before .before .args .s)) (c .before .before .before .before .before .before .args .p .at) (c .before .before .before .before .before .before .args .most) (Value (c .r .given .0 .0) (c .r .given .0 .1 .0))
 within c = rw (c .r .given .1) at (c .before .before .number-at .ensures .1)
 
 number-at-requires : tie.Need-number-at-requires
@@ -21,13 +21,13 @@ enum-known-r : tie.Need-enum-known-r
 enum-known-r c = search needs
 
 cast-put-token : tie.Need-cast-put-token
-cast-put-token c = omega (arith, within (c .before .before .before .before))
+cast-put-token c = omega (arith, within (c .before .before .before .before), c .before .before .before .before .before .before .before .before .before .before .pre .1)
 
 put-token-requires : tie.Need-put-token-requires
 put-token-requires c κs = search needs
 
-add-t21 : tie.Need-add-t21
-add-t21 c = search needs
+add-t19 : tie.Need-add-t19
+add-t19 c = search needs
 
 enum-known-r-2 : tie.Need-enum-known-r-2
 enum-known-r-2 c = search needs
@@ -52,7 +52,7 @@ read-value-spec =
     enum-known-r
     cast-put-token
     put-token-requires
-    add-t21
+    add-t19
     enum-known-r-2
     same-length
     same-length-2
