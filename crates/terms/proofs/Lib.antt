@@ -14,5 +14,6 @@ pub mod ShapeLaws
 pub mod Weights
 pub mod Sound
 pub mod RoundTrip
+pub mod WriteLaws
 pub mod Answers
 pub mod Marked

@@ -3,6 +3,7 @@ pub mod Number
 pub mod Parser
 pub mod Tokens
 pub mod Term
+pub mod Writing
 pub mod Shape
 pub mod Formed
 pub mod Reading

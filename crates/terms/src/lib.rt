@@ -5,6 +5,7 @@ mod numbers;
 mod read;
 mod store;
 mod values;
+mod write;
 
 pub use keep::keep_nominal;
 pub use keep::keep_term;
@@ -12,6 +13,10 @@ pub use numbers::number_len;
 pub use numbers::read_number;
 pub use numbers::write_number;
 pub use store::clear_tokens;
+pub use write::run_len;
+pub use write::token_len;
+pub use write::write_run;
+pub use write::write_token;
 
 // Where reading stands: the position in the bytes, the number of the next token, and how many nodes were read. While these are at most
 // `limit`, tokens are stored; past it reading goes on without.
