@@ -17,3 +17,4 @@ pub mod RoundTrip
 pub mod WriteLaws
 pub mod Answers
 pub mod Marked
+pub mod Examples

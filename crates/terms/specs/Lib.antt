@@ -9,3 +9,8 @@ pub mod Formed
 pub mod Reading
 pub mod Pieces
 pub mod Done
+pub mod Tree
+pub mod Questions
+pub mod Views
+pub mod Substitution
+pub mod Recovery

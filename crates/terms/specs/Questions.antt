@@ -1,0 +1,122 @@
+-- The questions of `TypeId` that look for a term of some kind: one walk, told by a question number which terms count and which it enters.
+-- The numbers 0 to 6 are the places of the questions in order 15, 7 is `is_resolved_in`. Assumes nothing.
+use mathlib.Core.Bool.{Bool, true, false, not, _&&_, _||_}
+use mathlib.Core.List.{List, [], _∷_}
+use Prim.Native.Nat.{ℕ, zero, suc}
+use lib.Dec.{eqb, ltb}
+use lib.ListN.{getD}
+use Rattle.terms.specs.Term.{Term, Parts, var, node, end, num, sub}
+use Rattle.terms.specs.Tree.{nums, row, tag}
+
+-- ---- the walk
+
+-- whether a term that counts is among those entered from a term on
+module _ (counts enters : Term → Bool) where
+  unfoldable mutual
+    pub meets : Term → Bool
+    meets (var v) = counts (var v)
+    meets (node k ps) = counts (node k ps) || (enters (node k ps) && meetsRow ps)
+
+    pub meetsRow : Parts → Bool
+    meetsRow end = false
+    meetsRow (num n ps) = meetsRow ps
+    meetsRow (sub t ps) = meets t || meetsRow ps
+
+-- ---- which terms count
+
+-- `GenericParameterType` without its name: equality goes by owner and position
+pub record Parameter : Type 0 where
+  pub owner : ℕ
+  pub position : ℕ
+
+unfoldable pub sameParameter : Parameter → Parameter → Bool
+sameParameter p q = eqb (p .owner) (q .owner) && eqb (p .position) (q .position)
+
+-- `parameters.contains`
+unfoldable pub contains : List Parameter → Parameter → Bool
+contains [] p = false
+contains (q ∷ qs) p = sameParameter q p || contains qs p
+
+abbrev pub isEmpty : List Parameter → Bool
+isEmpty [] = true
+isEmpty (q ∷ qs) = false
+
+-- the first and the second number of a term's row: a Builtin's code; a Generic's owner and position
+unfoldable pub first : Term → ℕ
+first t = getD (nums (row t)) 0 0
+
+unfoldable pub second : Term → ℕ
+second t = getD (nums (row t)) 1 0
+
+abbrev pub parameterOf : Term → Parameter
+parameterOf t = record { owner = first t; position = second t }
+
+unfoldable pub among : ℕ → List ℕ → Bool
+among n [] = false
+among n (m ∷ ms) = eqb n m || among n ms
+
+-- the terms that count: 1 Inference, 2 Unknown, 3 Error, 4 Builtin, 17 Generic, 18 Projection, 19 SelfType
+unfoldable pub counted : List Parameter → ℕ → Term → Bool
+counted ps zero t = eqb (tag t) 4 && eqb (first t) 10
+counted ps (suc zero) t = eqb (tag t) 4 && ltb (first t) 8
+counted ps (suc (suc zero)) t = among (tag t) (1 ∷ 2 ∷ 3 ∷ 17 ∷ 18 ∷ 19 ∷ [])
+counted ps (suc (suc (suc zero))) t = among (tag t) (1 ∷ 2 ∷ 3 ∷ [])
+counted ps (suc (suc (suc (suc zero)))) t = among (tag t) (1 ∷ 2 ∷ [])
+counted ps (suc (suc (suc (suc (suc zero))))) t = eqb (tag t) 19
+counted ps (suc (suc (suc (suc (suc (suc zero)))))) t = eqb (tag t) 18
+counted ps (suc (suc (suc (suc (suc (suc (suc q))))))) t =
+    among (tag t) (1 ∷ 2 ∷ 3 ∷ 19 ∷ []) || (eqb (tag t) 17 && not (contains ps (parameterOf t)) || eqb (tag t) 18 && isEmpty ps)
+
+-- the terms that are entered: none for 0 and 1, for 4 all but projections, else all
+unfoldable pub entered : ℕ → Term → Bool
+entered zero t = false
+entered (suc zero) t = false
+entered (suc (suc zero)) t = true
+entered (suc (suc (suc zero))) t = true
+entered (suc (suc (suc (suc zero)))) t = not (eqb (tag t) 18)
+entered (suc (suc (suc (suc (suc q))))) t = true
+
+-- ---- the questions
+
+abbrev pub asked : List Parameter → ℕ → Term → Bool
+asked ps q t = meets (counted ps q) (entered q) t
+
+-- `is_never`
+abbrev pub is-never : Term → Bool
+is-never t = asked [] 0 t
+
+-- `is_integer`
+abbrev pub is-integer : Term → Bool
+is-integer t = asked [] 1 t
+
+-- `is_resolved_in`: a projection's receiver is asked first, which is as if it were entered with the rest; without parameters no projection is resolved
+abbrev pub is-resolved-in : List Parameter → Term → Bool
+is-resolved-in ps t = not (asked ps 7 t)
+
+-- `is_concrete`
+abbrev pub is-concrete : Term → Bool
+is-concrete t = not (asked [] 2 t)
+
+-- `is_unresolved`
+abbrev pub is-unresolved : Term → Bool
+is-unresolved t = asked [] 3 t
+
+-- `contains_unknown`: Error does not count, and projections are not entered
+abbrev pub contains-unknown : Term → Bool
+contains-unknown t = asked [] 4 t
+
+-- `contains_self_type`
+abbrev pub contains-self-type : Term → Bool
+contains-self-type t = asked [] 5 t
+
+-- `contains_projection`
+abbrev pub contains-projection : Term → Bool
+contains-projection t = asked [] 6 t
+
+-- the answers of order 15: the question's own, or its contrary for `is_concrete`
+unfoldable pub answered : ℕ → Term → Bool
+answered q t = pickNot (eqb q 2) (asked [] q t)
+  where
+    pickNot : Bool → Bool → Bool
+    pickNot true b = not b
+    pickNot false b = b
