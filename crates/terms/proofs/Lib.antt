@@ -15,6 +15,9 @@ pub mod Weights
 pub mod Sound
 pub mod RoundTrip
 pub mod WriteLaws
+pub mod Bools
+pub mod HeldLaws
+pub mod SameLaws
 pub mod Answers
 pub mod Marked
 pub mod Examples

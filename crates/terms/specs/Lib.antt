@@ -4,6 +4,7 @@ pub mod Parser
 pub mod Tokens
 pub mod Term
 pub mod Writing
+pub mod Held
 pub mod Shape
 pub mod Formed
 pub mod Reading

@@ -3,6 +3,7 @@ mod keep;
 mod kinds;
 mod numbers;
 mod read;
+mod runs;
 mod store;
 mod values;
 mod write;

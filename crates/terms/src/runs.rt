@@ -1,0 +1,66 @@
+// Runs of tokens: how long a term is, and whether two are the same.
+ghost use mathlib.Core.Path.{_≡_};
+ghost use mathlib.Core.Bool.{true, false};
+ghost use Prim.Native.Nat.{_+_, _≤_, _<_};
+ghost use lib.ListN.{length, getD};
+ghost use Rattle.terms.specs.Tokens.{toks};
+ghost use Rattle.terms.specs.Term.{Term};
+ghost use Rattle.terms.specs.Held.{Held, span};
+ghost use Rattle.terms.specs.Tree.{same};
+
+pub fn wide(x: u32) -> usize
+    ensures { λ r. ⌜ r ≡ x ⌝ }
+{
+    x as usize
+}
+
+// How many tokens the term at i has, at least 1 and at most `room`.
+pub fn skip(kinds: &[u32], vals: &[u32], i: usize, room: usize) -> usize
+    requires { ⌜ (i < length (now kinds)) × (length (now vals) ≡ length (now kinds)) × (1 ≤ room) ⌝ }
+    ensures { λ r. ⌜ (1 ≤ r) × (r ≤ room) × (1 ≤ span (getD (now (kinds .entry)) i 0) (getD (now (vals .entry)) i 0) → span (getD (now (kinds .entry)) i 0) (getD (now (vals .entry)) i 0) ≤ room → r ≡ span (getD (now (kinds .entry)) i 0) (getD (now (vals .entry)) i 0)) ⌝ }
+{
+    if kinds[i] < 2 {
+        return 1;
+    }
+    let s = wide(vals[i]);
+    if s == 0 {
+        return 1;
+    }
+    if room < s {
+        return room;
+    }
+    s
+}
+
+// Whether the two runs of `count` tokens are the same, token by token.
+pub fn same_run(kinds: &[u32], vals: &[u32], a: usize, b: usize, count: usize) -> bool
+    requires first { ⌜ (a + count ≤ length (now kinds)) × (a + count ≤ length (now vals)) ⌝ }
+    requires second { ⌜ (b + count ≤ length (now kinds)) × (b + count ≤ length (now vals)) ⌝ }
+    ensures yes { λ r. ⌜ (r ≡ true → toks (now (kinds .entry)) (now (vals .entry)) a count ≡ toks (now (kinds .entry)) (now (vals .entry)) b count) ⌝ }
+    ensures no { λ r. ⌜ (r ≡ false → toks (now (kinds .entry)) (now (vals .entry)) a count ≡ toks (now (kinds .entry)) (now (vals .entry)) b count → ⊥) ⌝ }
+{
+    let mut i = 0;
+    while i < count {
+        if kinds[a + i] != kinds[b + i] {
+            return false;
+        }
+        if vals[a + i] != vals[b + i] {
+            return false;
+        }
+        i += 1;
+    }
+    true
+}
+
+// Whether the terms at a and b are the same.
+pub fn same_term(kinds: &[u32], vals: &[u32], a: usize, b: usize) -> bool
+    requires { ⌜ (a < length (now kinds)) × (b < length (now kinds)) × (length (now vals) ≡ length (now kinds)) ⌝ }
+    ensures { λ r. ⌜ ((t u : Term) → Held (now (kinds .entry)) (now (vals .entry)) a t → Held (now (kinds .entry)) (now (vals .entry)) b u → r ≡ same t u) ⌝ }
+{
+    let n = skip(kinds, vals, a, kinds.len() - a);
+    let m = skip(kinds, vals, b, kinds.len() - b);
+    if n != m {
+        return false;
+    }
+    same_run(kinds, vals, a, b, n)
+}
