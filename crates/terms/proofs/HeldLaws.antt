@@ -133,13 +133,13 @@ module _ (ks vs : List ℕ) where
   toks-length a (suc m) = ap suc (toks-length (suc a) m)
 
   -- a row that begins with a number, and one that begins with a term
-  held-num : (a e n : ℕ) (ps : Parts) → HeldParts ks vs a e (num n ps) → (getD ks a 0 ≡ 0) × (getD vs a 0 ≡ n) × HeldParts ks vs (a + 1) e ps
+  pub held-num : (a e n : ℕ) (ps : Parts) → HeldParts ks vs a e (num n ps) → (getD ks a 0 ≡ 0) × (getD vs a 0 ≡ n) × HeldParts ks vs (a + 1) e ps
   unfolding items spell
   held-num a e n ps h =
       let q = h .tokens in
       (cc, cc, record { tokens = rw add-one (cc); ends = omega (arith, h .ends); within = h .within })
 
-  held-sub : (a e : ℕ) (t : Term) (ps : Parts) → HeldParts ks vs a e (sub t ps) → Held ks vs a t × HeldParts ks vs (a + length (items t)) e ps
+  pub held-sub : (a e : ℕ) (t : Term) (ps : Parts) → HeldParts ks vs a e (sub t ps) → Held ks vs a t × HeldParts ks vs (a + length (items t)) e ps
   unfolding items
   held-sub a e t ps h =
       let l = length-append (items t) (partItems ps) in
@@ -167,7 +167,7 @@ module _ (ks vs : List ℕ) where
   sub-kind : (i e : ℕ) (t : Term) (ps : Parts) → HeldParts ks vs i e (sub t ps) → 1 ≤ getD ks i 0
   sub-kind i e t ps h = omega (arith, held-first ks vs i t (held-sub i e t ps h .0) .0, kind-some t)
 
-  end-ends : (i e : ℕ) → HeldParts ks vs i e end → i ≡ e
+  pub end-ends : (i e : ℕ) → HeldParts ks vs i e end → i ≡ e
   unfolding items
   end-ends i e h = omega (arith, h .ends)
 

@@ -18,6 +18,9 @@ pub mod WriteLaws
 pub mod Bools
 pub mod HeldLaws
 pub mod SameLaws
+pub mod FlatLaws
+pub mod ConflictLaws
+pub mod WeakenLaws
 pub mod Answers
 pub mod Marked
 pub mod Examples

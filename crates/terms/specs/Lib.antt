@@ -13,5 +13,6 @@ pub mod Done
 pub mod Tree
 pub mod Questions
 pub mod Views
+pub mod Comparing
 pub mod Substitution
 pub mod Recovery

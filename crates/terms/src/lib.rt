@@ -6,6 +6,7 @@ mod read;
 mod runs;
 mod store;
 mod values;
+mod views;
 mod write;
 
 pub use keep::keep_nominal;
@@ -14,6 +15,8 @@ pub use numbers::number_len;
 pub use numbers::read_number;
 pub use numbers::write_number;
 pub use store::clear_tokens;
+pub use views::can_weaken_to;
+pub use views::conflicts_with;
 pub use write::run_len;
 pub use write::token_len;
 pub use write::write_run;
@@ -67,4 +70,10 @@ pub enum ValueRead {
 pub enum NumberRead {
     Value(u64, usize),
     Refused(u8),
+}
+
+// A step of a comparison: the rows conflict, or it goes on at these places.
+pub enum Pace {
+    Clash,
+    Onward(usize, usize),
 }
