@@ -20,4 +20,5 @@ pub mod HeldLaws
 pub mod SameLaws
 pub mod Answers
 pub mod Marked
+pub mod SubstitutionLaws
 pub mod Examples
