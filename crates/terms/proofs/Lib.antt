@@ -21,4 +21,5 @@ pub mod SameLaws
 pub mod Answers
 pub mod Marked
 pub mod SubstitutionLaws
+pub mod ParameterLaws
 pub mod Examples

@@ -15,3 +15,4 @@ pub mod Questions
 pub mod Views
 pub mod Substitution
 pub mod Recovery
+pub mod Parameters
