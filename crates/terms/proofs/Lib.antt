@@ -23,4 +23,6 @@ pub mod ConflictLaws
 pub mod WeakenLaws
 pub mod Answers
 pub mod Marked
+pub mod SubstitutionLaws
+pub mod ParameterLaws
 pub mod Examples

@@ -16,3 +16,4 @@ pub mod Views
 pub mod Comparing
 pub mod Substitution
 pub mod Recovery
+pub mod Parameters

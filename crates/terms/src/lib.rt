@@ -1,4 +1,5 @@
 // The reader of terms: it stores a term as a run of tokens, in the order of its bytes, into two areas that the caller lends.
+mod find;
 mod keep;
 mod kinds;
 mod numbers;
@@ -9,6 +10,8 @@ mod values;
 mod views;
 mod write;
 
+pub use find::find_parameter;
+pub use find::skip_parameters;
 pub use keep::keep_nominal;
 pub use keep::keep_term;
 pub use numbers::number_len;
@@ -76,4 +79,22 @@ pub enum NumberRead {
 pub enum Pace {
     Clash,
     Onward(usize, usize),
+}
+
+// What a search finds: a place, or an index.
+pub enum Lookup {
+    At(usize),
+    Nothing,
+}
+
+// What reading a parameter finds: its owner, its position in the owner's list, and the position in the bytes after it; or the refusal's code.
+pub enum ParameterRead {
+    Named(u64, u64, usize),
+    Unnamed(u8),
+}
+
+// What going through parameters finds: the position after them, and the index of the last one that was looked for; or the refusal's code.
+pub enum ParametersRead {
+    Through(usize, Lookup),
+    Faulty(u8),
 }

@@ -1,5 +1,6 @@
 // Comparing two terms without building anything: `conflicts_with` and `can_weaken_to`.
 use super::Pace;
+use super::runs::is_one;
 use super::runs::same_term;
 use super::runs::skip;
 ghost use mathlib.Core.Path.{_≡_};
@@ -10,22 +11,7 @@ ghost use Rattle.terms.specs.Term.{Term, Parts, sub};
 ghost use Rattle.terms.specs.Held.{Held, HeldParts};
 ghost use Rattle.terms.specs.Formed.{Formed};
 ghost use Rattle.terms.specs.Views.{conflicts-with, can-weaken-to};
-ghost use Rattle.terms.specs.Questions.{among};
 ghost use Rattle.terms.specs.Comparing.{Rows, Forward, Stepped, Passed};
-ghost use mathlib.Core.List.{[], _∷_};
-
-// Whether a term whose first token has this kind conflicts with nothing: Inference, Unknown, Error.
-fn yields(k: u32) -> bool
-    ensures { λ r. ⌜ r ≡ among k (1 ∷ 4 ∷ 5 ∷ []) ⌝ }
-{
-    if k == 1 {
-        return true;
-    }
-    if k == 4 {
-        return true;
-    }
-    k == 5
-}
 
 // One step through two rows: a number, or a term that yields or a projection as a whole, or a node's head.
 fn pair_step(kinds: &[u32], vals: &[u32], i: usize, ae: usize, j: usize, be: usize) -> Pace
@@ -58,10 +44,11 @@ fn pair_terms(kinds: &[u32], vals: &[u32], i: usize, ae: usize, j: usize, be: us
 {
     let k = kinds[i];
     let l = kinds[j];
-    if yields(k) {
+    // Inference, Unknown and Error conflict with nothing
+    if is_one(k, 1, 4, 5) {
         return past(kinds, vals, i, ae, j, be);
     }
-    if yields(l) {
+    if is_one(l, 1, 4, 5) {
         return past(kinds, vals, i, ae, j, be);
     }
     if k != l {
@@ -131,7 +118,8 @@ pub fn can_weaken_to(kinds: &[u32], vals: &[u32], a: usize, b: usize) -> bool
     if k != kinds[b] {
         return false;
     }
-    if !has_access(k) {
+    // Reference, Map, Set
+    if !is_one(k, 2, 12, 13) {
         return false;
     }
     let n = skip(kinds, vals, a, kinds.len() - a);
@@ -149,17 +137,4 @@ pub fn can_weaken_to(kinds: &[u32], vals: &[u32], a: usize, b: usize) -> bool
         return false;
     }
     !rows_conflict(kinds, vals, a + 2, a + n, b + 2, b + m)
-}
-
-// Whether a head of this kind has an access mark first: Reference, Map, Set.
-fn has_access(k: u32) -> bool
-    ensures { λ r. ⌜ r ≡ among k (2 ∷ 12 ∷ 13 ∷ []) ⌝ }
-{
-    if k == 2 {
-        return true;
-    }
-    if k == 12 {
-        return true;
-    }
-    k == 13
 }

@@ -35,11 +35,11 @@ shared-slice-read-if1 c = search needs
 returns : tie.Need-returns
 returns c = λ t u ht hu ft fu. kinds-apart t u (λ e. c .if1 .taken (kind _ _ _ t ht ∙ e ∙ sym (kind _ _ _ u hu)))
 
-has-access-requires : tie.Need-has-access-requires
-has-access-requires c κs = search needs
+is-one-requires : tie.Need-is-one-requires
+is-one-requires c κs = search needs
 
 returns-2 : tie.Need-returns-2
-returns-2 c = λ t u ht hu ft fu. without-access t u (ap (λ (x : ℕ). among x (2 ∷ 12 ∷ 13 ∷ [])) (sym (kind _ _ _ t ht)) ∙ sym (c .before .has-access .ensures) ∙ not-true _ (c .if2 .taken))
+returns-2 c = λ t u ht hu ft fu. without-access t u (ap (λ (x : ℕ). among x (2 ∷ 12 ∷ 13 ∷ [])) (sym (kind _ _ _ t ht)) ∙ sym (c .before .is-one .ensures) ∙ not-true _ (c .if2 .taken))
 
 sub-skip : tie.Need-sub-skip
 sub-skip c = search needs
@@ -56,7 +56,7 @@ skip-requires-2 c κs = search needs
 returns-3 : tie.Need-returns-3
 returns-3 c =
     λ t u ht hu ft fu.
-    let h = sym (c .before .before .before .before .has-access .ensures) ∙ not-false _ (c .before .before .before .if2 .left) in
+    let h = sym (c .before .before .before .before .is-one .ensures) ∙ not-false _ (c .before .before .before .if2 .left) in
     let k = sym (kind _ _ _ t ht) ∙ c .before .before .before .before .before .if1 .left ∙ kind _ _ _ u hu in
     let a = marked t ft (ap (λ (x : ℕ). among x (2 ∷ 12 ∷ 13 ∷ [])) (sym (kind _ _ _ t ht)) ∙ h) in
     let b = marked u fu (ap (λ (x : ℕ). among x (2 ∷ 12 ∷ 13 ∷ [])) (sym k) ∙ ap (λ (x : ℕ). among x (2 ∷ 12 ∷ 13 ∷ [])) (sym (kind _ _ _ t ht)) ∙ h) in
@@ -67,7 +67,7 @@ returns-3 c =
 returns-4 : tie.Need-returns-4
 returns-4 c =
     λ t u ht hu ft fu.
-    let h = sym (c .before .before .before .before .before .has-access .ensures) ∙ not-false _ (c .before .before .before .before .if2 .left) in
+    let h = sym (c .before .before .before .before .before .is-one .ensures) ∙ not-false _ (c .before .before .before .before .if2 .left) in
     let k = sym (kind _ _ _ t ht) ∙ c .before .before .before .before .before .before .if1 .left ∙ kind _ _ _ u hu in
     let a = marked t ft (ap (λ (x : ℕ). among x (2 ∷ 12 ∷ 13 ∷ [])) (sym (kind _ _ _ t ht)) ∙ h) in
     let b = marked u fu (ap (λ (x : ℕ). among x (2 ∷ 12 ∷ 13 ∷ [])) (sym k) ∙ ap (λ (x : ℕ). among x (2 ∷ 12 ∷ 13 ∷ [])) (sym (kind _ _ _ t ht)) ∙ h) in
@@ -87,7 +87,7 @@ shared-slice-read-if5 c = search needs
 returns-5 : tie.Need-returns-5
 returns-5 c =
     λ t u ht hu ft fu.
-    let h = sym (c .before .before .before .before .before .before .before .has-access .ensures) ∙ not-false _ (c .before .before .before .before .before .before .if2 .left) in
+    let h = sym (c .before .before .before .before .before .before .before .is-one .ensures) ∙ not-false _ (c .before .before .before .before .before .before .if2 .left) in
     let k = sym (kind _ _ _ t ht) ∙ c .before .before .before .before .before .before .before .before .if1 .left ∙ kind _ _ _ u hu in
     let a = marked t ft (ap (λ (x : ℕ). among x (2 ∷ 12 ∷ 13 ∷ [])) (sym (kind _ _ _ t ht)) ∙ h) in
     let b = marked u fu (ap (λ (x : ℕ). among x (2 ∷ 12 ∷ 13 ∷ [])) (sym k) ∙ ap (λ (x : ℕ). among x (2 ∷ 12 ∷ 13 ∷ [])) (sym (kind _ _ _ t ht)) ∙ h) in
@@ -107,7 +107,7 @@ shared-slice-read-if6 c = search needs
 returns-6 : tie.Need-returns-6
 returns-6 c =
     λ t u ht hu ft fu.
-    let h = sym (c .before .before .before .before .before .before .before .before .before .has-access .ensures) ∙ not-false _ (c .before .before .before .before .before .before .before .before .if2 .left) in
+    let h = sym (c .before .before .before .before .before .before .before .before .before .is-one .ensures) ∙ not-false _ (c .before .before .before .before .before .before .before .before .if2 .left) in
     let k = sym (kind _ _ _ t ht) ∙ c .before .before .before .before .before .before .before .before .before .before .if1 .left ∙ kind _ _ _ u hu in
     let a = marked t ft (ap (λ (x : ℕ). among x (2 ∷ 12 ∷ 13 ∷ [])) (sym (kind _ _ _ t ht)) ∙ h) in
     let b = marked u fu (ap (λ (x : ℕ). among x (2 ∷ 12 ∷ 13 ∷ [])) (sym k) ∙ ap (λ (x : ℕ). among x (2 ∷ 12 ∷ 13 ∷ [])) (sym (kind _ _ _ t ht)) ∙ h) in
@@ -133,7 +133,7 @@ rows-conflict-requires c κs = search needs
 returns-7 : tie.Need-returns-7
 returns-7 c =
     λ t u ht hu ft fu.
-    let h = sym (c .before .before .before .before .before .before .before .before .before .before .has-access .ensures) ∙ not-false _ (c .before .before .before .before .before .before .before .before .before .if2 .left) in
+    let h = sym (c .before .before .before .before .before .before .before .before .before .before .is-one .ensures) ∙ not-false _ (c .before .before .before .before .before .before .before .before .before .if2 .left) in
     let k = sym (kind _ _ _ t ht) ∙ c .before .before .before .before .before .before .before .before .before .before .before .if1 .left ∙ kind _ _ _ u hu in
     let a = marked t ft (ap (λ (x : ℕ). among x (2 ∷ 12 ∷ 13 ∷ [])) (sym (kind _ _ _ t ht)) ∙ h) in
     let b = marked u fu (ap (λ (x : ℕ). among x (2 ∷ 12 ∷ 13 ∷ [])) (sym k) ∙ ap (λ (x : ℕ). among x (2 ∷ 12 ∷ 13 ∷ [])) (sym (kind _ _ _ t ht)) ∙ h) in
@@ -151,7 +151,7 @@ can-weaken-to-spec =
     mul-if1
     shared-slice-read-if1
     returns
-    has-access-requires
+    is-one-requires
     returns-2
     sub-skip
     skip-requires

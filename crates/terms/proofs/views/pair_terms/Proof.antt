@@ -18,8 +18,8 @@ mul-l c = search needs
 shared-slice-read-l : tie.Need-shared-slice-read-l
 shared-slice-read-l c = search needs
 
-yields-requires : tie.Need-yields-requires
-yields-requires c κs = search needs
+is-one-requires : tie.Need-is-one-requires
+is-one-requires c κs = search needs
 
 past-requires : tie.Need-past-requires
 past-requires c κs = search needs
@@ -29,11 +29,11 @@ returns c = (
   c .past .ensures .0,
   λ w x.
       let n = next-terms _ _ _ _ _ _ w x (c .before .before .before .before .before .before .before .pre .0) (c .before .before .before .before .before .before .before .pre .2) (λ e. omega (arith, c .before .before .before .before .before .before .before .pre .5)) (λ e. omega (arith, c .before .before .before .before .before .before .before .pre .6)) in
-      step-left _ _ _ _ _ _ w n (sym (c .before .before .yields .ensures) ∙ c .before .if1 .taken) (c .past .result) (c .past .ensures .1 (n .t) (n .u) (n .ps) (n .qs) (n .rowLeft) (n .rowRight)),
+      step-left _ _ _ _ _ _ w n (sym (c .before .before .is-one .ensures) ∙ c .before .if1 .taken) (c .past .result) (c .past .ensures .1 (n .t) (n .u) (n .ps) (n .qs) (n .rowLeft) (n .rowRight)),
 )
 
-yields-requires-2 : tie.Need-yields-requires-2
-yields-requires-2 c κs = search needs
+is-one-requires-2 : tie.Need-is-one-requires-2
+is-one-requires-2 c κs = search needs
 
 past-requires-2 : tie.Need-past-requires-2
 past-requires-2 c κs = search needs
@@ -43,7 +43,7 @@ returns-2 c = (
   c .past2 .ensures .0,
   λ w x.
       let n = next-terms _ _ _ _ _ _ w x (c .before .before .before .before .before .before .before .before .before .pre .0) (c .before .before .before .before .before .before .before .before .before .pre .2) (λ e. omega (arith, c .before .before .before .before .before .before .before .before .before .pre .5)) (λ e. omega (arith, c .before .before .before .before .before .before .before .before .before .pre .6)) in
-      step-right _ _ _ _ _ _ w n (sym (c .before .before .yields2 .ensures) ∙ c .before .if2 .taken) (c .past2 .result) (c .past2 .ensures .1 (n .t) (n .u) (n .ps) (n .qs) (n .rowLeft) (n .rowRight)),
+      step-right _ _ _ _ _ _ w n (sym (c .before .before .is-one2 .ensures) ∙ c .before .if2 .taken) (c .past2 .result) (c .past2 .ensures .1 (n .t) (n .u) (n .ps) (n .qs) (n .rowLeft) (n .rowRight)),
 )
 
 returns-3 : tie.Need-returns-3
@@ -51,7 +51,7 @@ returns-3 c = (
   tt,
   λ w x.
       let n = next-terms _ _ _ _ _ _ w x (c .before .before .before .before .before .before .before .before .before .pre .0) (c .before .before .before .before .before .before .before .before .before .pre .2) (λ e. omega (arith, c .before .before .before .before .before .before .before .before .before .pre .5)) (λ e. omega (arith, c .before .before .before .before .before .before .before .before .before .pre .6)) in
-      step-kinds _ _ _ _ _ _ w n (sym (c .before .before .before .before .yields .ensures) ∙ c .before .before .before .if1 .left) (sym (c .before .before .yields2 .ensures) ∙ c .before .if2 .left) (c .if3 .taken),
+      step-kinds _ _ _ _ _ _ w n (sym (c .before .before .before .before .is-one .ensures) ∙ c .before .before .before .if1 .left) (sym (c .before .before .is-one2 .ensures) ∙ c .before .if2 .left) (c .if3 .taken),
 )
 
 same-term-requires : tie.Need-same-term-requires
@@ -62,7 +62,7 @@ returns-4 c = (
   tt,
   λ w x.
       let n = next-terms _ _ _ _ _ _ w x (c .before .before .before .before .before .before .before .before .before .before .before .before .pre .0) (c .before .before .before .before .before .before .before .before .before .before .before .before .pre .2) (λ e. omega (arith, c .before .before .before .before .before .before .before .before .before .before .before .before .pre .5)) (λ e. omega (arith, c .before .before .before .before .before .before .before .before .before .before .before .before .pre .6)) in
-      step-projections _ _ _ _ _ _ w n (sym (c .before .before .before .before .before .before .before .yields .ensures) ∙ c .before .before .before .before .before .before .if1 .left) (sym (c .before .before .before .before .before .yields2 .ensures) ∙ c .before .before .before .before .if2 .left) (c .before .before .before .if3 .left) (c .before .before .if4 .taken) (sym (c .before .same-term .ensures (n .t) (n .u) (n .heldLeft) (n .heldRight)) ∙ not-true _ (c .if5 .taken)),
+      step-projections _ _ _ _ _ _ w n (sym (c .before .before .before .before .before .before .before .is-one .ensures) ∙ c .before .before .before .before .before .before .if1 .left) (sym (c .before .before .before .before .before .is-one2 .ensures) ∙ c .before .before .before .before .if2 .left) (c .before .before .before .if3 .left) (c .before .before .if4 .taken) (sym (c .before .same-term .ensures (n .t) (n .u) (n .heldLeft) (n .heldRight)) ∙ not-true _ (c .if5 .taken)),
 )
 
 past-requires-3 : tie.Need-past-requires-3
@@ -73,7 +73,7 @@ returns-5 c = (
   c .past3 .ensures .0,
   λ w x.
       let n = next-terms _ _ _ _ _ _ w x (c .before .before .before .before .before .before .before .before .before .before .before .before .before .pre .0) (c .before .before .before .before .before .before .before .before .before .before .before .before .before .pre .2) (λ e. omega (arith, c .before .before .before .before .before .before .before .before .before .before .before .before .before .pre .5)) (λ e. omega (arith, c .before .before .before .before .before .before .before .before .before .before .before .before .before .pre .6)) in
-      step-whole _ _ _ _ _ _ w n (sym (c .before .before .before .before .before .before .before .before .yields .ensures) ∙ c .before .before .before .before .before .before .before .if1 .left) (sym (c .before .before .before .before .before .before .yields2 .ensures) ∙ c .before .before .before .before .before .if2 .left) (c .before .before .before .before .if3 .left) (c .before .before .before .if4 .taken) (sym (c .before .before .same-term .ensures (n .t) (n .u) (n .heldLeft) (n .heldRight)) ∙ not-false _ (c .before .if5 .left)) (c .past3 .result) (c .past3 .ensures .1 (n .t) (n .u) (n .ps) (n .qs) (n .rowLeft) (n .rowRight)),
+      step-whole _ _ _ _ _ _ w n (sym (c .before .before .before .before .before .before .before .before .is-one .ensures) ∙ c .before .before .before .before .before .before .before .if1 .left) (sym (c .before .before .before .before .before .before .is-one2 .ensures) ∙ c .before .before .before .before .before .if2 .left) (c .before .before .before .before .if3 .left) (c .before .before .before .if4 .taken) (sym (c .before .before .same-term .ensures (n .t) (n .u) (n .heldLeft) (n .heldRight)) ∙ not-false _ (c .before .if5 .left)) (c .past3 .result) (c .past3 .ensures .1 (n .t) (n .u) (n .ps) (n .qs) (n .rowLeft) (n .rowRight)),
 )
 
 add-t9 : tie.Need-add-t9
@@ -87,7 +87,7 @@ returns-6 c = (
   omega arith,
   λ w x.
       let n = next-terms _ _ _ _ _ _ w x (c .before .before .before .before .before .before .before .before .before .before .pre .0) (c .before .before .before .before .before .before .before .before .before .before .pre .2) (λ e. omega (arith, c .before .before .before .before .before .before .before .before .before .before .pre .5)) (λ e. omega (arith, c .before .before .before .before .before .before .before .before .before .before .pre .6)) in
-      step-enter _ _ _ _ _ _ w n (sym (c .before .before .before .before .before .yields .ensures) ∙ c .before .before .before .before .if1 .left) (sym (c .before .before .before .yields2 .ensures) ∙ c .before .before .if2 .left) (c .before .if3 .left) (c .if4 .left),
+      step-enter _ _ _ _ _ _ w n (sym (c .before .before .before .before .before .is-one .ensures) ∙ c .before .before .before .before .if1 .left) (sym (c .before .before .before .is-one2 .ensures) ∙ c .before .before .if2 .left) (c .before .if3 .left) (c .if4 .left),
 )
 
 pub pair-terms-spec : {M : Type 1} → statement M
@@ -98,10 +98,10 @@ pair-terms-spec =
     shared-slice-read-k
     mul-l
     shared-slice-read-l
-    yields-requires
+    is-one-requires
     past-requires
     returns
-    yields-requires-2
+    is-one-requires-2
     past-requires-2
     returns-2
     returns-3
