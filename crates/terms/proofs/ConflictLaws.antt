@@ -5,7 +5,7 @@ use mathlib.Core.List.{List, [], _∷_}
 use mathlib.Core.Logic.{_⊎_, inl, inr}
 use Prim.Native.Nat.{ℕ, zero, suc, _+_, _-_, _≤_, _<_}
 use native.Mathlib.Omega.{arith}
-use native.Mathlib.Decide.{decLt}
+use native.Mathlib.Decide.{decLt, ℕ-discrete}
 use borrow.Author.Tests.{eq-eqb, ne-eqb, eqb-true, lt-ltb, le-ltb}
 use lib.Dec.{eqb, ltb}
 use lib.ListN.{length, getD, length-append}
@@ -21,26 +21,12 @@ use Rattle.terms.specs.Views.{recovery, conflicts-with, rows-conflict}
 use Rattle.terms.specs.declared.Pace.{Pace}
 use Rattle.terms.specs.declared.Pace.the-variants.{Clash, Onward}
 use Rattle.terms.specs.Comparing.{Rows, Passed, Stepped}
-use Rattle.terms.proofs.Bools.{never-true, never-false}
+use Rattle.terms.proofs.Bools.{never-true, never-false, or-true, or-right, or-assoc, or-false, or-none}
 use Rattle.terms.proofs.HeldLaws.{held-first, headKind, headValue, row-num, row-sub, row-end, end-ends, held-sub, items-some}
 use Rattle.terms.proofs.FlatLaws.{join, fit-append, held-enter, held-one}
 use Rattle.terms.proofs.SameLaws.{span-held}
 
 -- ---- the definition
-
-or-true : (a b : Bool) → a ≡ true → (a || b) ≡ true
-or-true a b h = rw h
-
-or-right : (a b : Bool) → b ≡ true → (a || b) ≡ true
-or-right true b h = refl
-or-right false b h = h
-
-or-assoc : (a b c : Bool) → ((a || b) || c) ≡ (a || (b || c))
-or-assoc true b c = refl
-or-assoc false b c = refl
-
-or-false : (a b : Bool) → a ≡ false → (a || b) ≡ b
-or-false a b h = rw h
 
 -- a row that is over takes nothing more
 done-number : {A : Type 0} (r : Shape) (n : ℕ) → r ≡ shape.done → TakesNumber r n → A
@@ -386,11 +372,7 @@ module _ (n a b c : ℕ) where
 
   pub among-last : (n ≡ a → ⊥) → (n ≡ b → ⊥) → eqb n c ≡ among n (a ∷ b ∷ c ∷ [])
   unfolding among
-  among-last p q = rw (ne-eqb n a p, ne-eqb n b q) (or-none (eqb n c))
-    where
-      or-none : (x : Bool) → x ≡ (x || false)
-      or-none true = refl
-      or-none false = refl
+  among-last p q = rw (ne-eqb n a p, ne-eqb n b q) (sym (or-none (eqb n c)))
 
 -- what `skip` tells of the term that comes next in a row
 pub passed : (ks vs : List ℕ) (i ae n : ℕ) (t : Term) (ps : Parts) → HeldParts ks vs i ae (sub t ps)
@@ -418,12 +400,8 @@ terms-rows ks vs a b n m t u ht hu ft fu en em = record {
   heldRight = held-one ks vs b m u hu em;
   fitLeft = (tt, ft, refl);
   fitRight = (tt, fu, refl);
-  same = or-none (conflicts-with t u);
+  same = sym (or-none (conflicts-with t u));
 }
-  where
-    or-none : (x : Bool) → x ≡ (x || false)
-    or-none true = refl
-    or-none false = refl
 
 -- the first row is over: the test of the second
 pub rows-last : (ks vs : List ℕ) (i ae j be : ℕ) (whole : Bool) → Rows ks vs i ae j be whole → ae ≤ i → ltb j be ≡ whole
@@ -433,11 +411,67 @@ rows-last ks vs i ae j be whole x h = go (decLt j be)
     go (yes k) = lt-ltb j be k ∙ sym (rows-over ks vs i ae j be whole x h k)
     go (no k) = le-ltb j be (omega arith) ∙ sym (rows-done ks vs i ae j be whole x h (omega arith))
 
--- flags turned round
-pub not-true : (b : Bool) → not b ≡ true → b ≡ false
-not-true true h = never-true h
-not-true false h = refl
+-- ---- `conflicts_with` is symmetric
 
-pub not-false : (b : Bool) → not b ≡ false → b ≡ true
-not-false true h = refl
-not-false false h = never-false h
+eqb-swap : (a b : ℕ) → eqb a b ≡ eqb b a
+eqb-swap a b = go (ℕ-discrete a b)
+  where
+    go : Dec (a ≡ b) → eqb a b ≡ eqb b a
+    go (yes e) = eq-eqb a b e ∙ sym (eq-eqb b a (sym e))
+    go (no d) = ne-eqb a b d ∙ sym (ne-eqb b a (λ e. d (sym e)))
+
+or-swap : (a b : Bool) → (a || b) ≡ (b || a)
+or-swap true true = refl
+or-swap true false = refl
+or-swap false true = refl
+or-swap false false = refl
+
+mutual
+  unfolding same
+
+  same-swap : (t u : Term) → same t u ≡ same u t
+  same-swap (var v) (var w) = eqb-swap v w
+  same-swap (var v) (node j qs) = refl
+  same-swap (node k ps) (var w) = refl
+  same-swap (node k ps) (node j qs) = rw (eqb-swap k j, rows-swap ps qs)
+
+  rows-swap : (ps qs : Parts) → sameRows ps qs ≡ sameRows qs ps
+  rows-swap end end = refl
+  rows-swap end (num m qs) = refl
+  rows-swap end (sub u qs) = refl
+  rows-swap (num n ps) end = refl
+  rows-swap (num n ps) (num m qs) = rw (eqb-swap n m, rows-swap ps qs)
+  rows-swap (num n ps) (sub u qs) = refl
+  rows-swap (sub t ps) end = refl
+  rows-swap (sub t ps) (num m qs) = refl
+  rows-swap (sub t ps) (sub u qs) = rw (same-swap t u, rows-swap ps qs)
+
+-- of the tag that decides whether projections are compared, where the tags are the same
+tag-swap : (k j : ℕ) (x y : Bool) → pick (eqb k j) (pick (eqb k 18) x y) true ≡ pick (eqb k j) (pick (eqb j 18) x y) true
+tag-swap k j x y = go (ℕ-discrete k j)
+  where
+    go : Dec (k ≡ j) → pick (eqb k j) (pick (eqb k 18) x y) true ≡ pick (eqb k j) (pick (eqb j 18) x y) true
+    go (yes e) = rw e
+    go (no d) = rw (ne-eqb k j d)
+
+mutual
+  unfolding conflicts-with
+
+  pub conflicts-swap : (t u : Term) → conflicts-with t u ≡ conflicts-with u t
+  conflicts-swap (var v) (var w) = refl
+  conflicts-swap (var v) (node j qs) = refl
+  conflicts-swap (node k ps) (var w) = refl
+  conflicts-swap (node k ps) (node j qs) =
+      ap (λ (b : Bool). pick (recovery k || recovery j) false b) (tag-swap k j (not (sameRows ps qs)) (rows-conflict ps qs))
+      ∙ rw (or-swap (recovery k) (recovery j), eqb-swap k j, rows-swap ps qs, rows-conflict-swap ps qs)
+
+  rows-conflict-swap : (ps qs : Parts) → rows-conflict ps qs ≡ rows-conflict qs ps
+  rows-conflict-swap end end = refl
+  rows-conflict-swap end (num m qs) = refl
+  rows-conflict-swap end (sub u qs) = refl
+  rows-conflict-swap (num n ps) end = refl
+  rows-conflict-swap (num n ps) (num m qs) = rw (eqb-swap n m, rows-conflict-swap ps qs)
+  rows-conflict-swap (num n ps) (sub u qs) = refl
+  rows-conflict-swap (sub t ps) end = refl
+  rows-conflict-swap (sub t ps) (num m qs) = refl
+  rows-conflict-swap (sub t ps) (sub u qs) = rw (conflicts-swap t u, rows-conflict-swap ps qs)

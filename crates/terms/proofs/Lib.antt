@@ -21,6 +21,7 @@ pub mod SameLaws
 pub mod FlatLaws
 pub mod ConflictLaws
 pub mod WeakenLaws
+pub mod QuestionLaws
 pub mod Answers
 pub mod Marked
 pub mod SubstitutionLaws

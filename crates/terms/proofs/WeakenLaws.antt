@@ -20,17 +20,13 @@ use Rattle.terms.specs.Tree.{nums, row, tag}
 use Rattle.terms.specs.Questions.{first, among}
 use Rattle.terms.specs.Views.{recovery, conflicts-with, rows-conflict, collection-access, read-only-view, withFirst, agrees, is, can-weaken-to}
 use Rattle.terms.specs.Comparing.{Rows}
-use Rattle.terms.proofs.Bools.{never-true, never-false}
+use Rattle.terms.proofs.Bools.{never-true, and-false}
 use Rattle.terms.proofs.HeldLaws.{headKind, held-first, held-node, held-num}
 use Rattle.terms.proofs.SameLaws.{told}
 use Rattle.terms.proofs.ShapeLaws.{More, some-done}
 use Rattle.terms.proofs.ConflictLaws.{among-three, not-among}
 
 -- ---- the definition, by the tag
-
-and-false : (a : Bool) → (a && false) ≡ false
-and-false true = refl
-and-false false = refl
 
 eqb-swap : (b : ℕ) → eqb 0 b ≡ eqb b 0
 eqb-swap zero = refl

@@ -12,6 +12,7 @@ pub mod Pieces
 pub mod Done
 pub mod Tree
 pub mod Questions
+pub mod Asking
 pub mod Views
 pub mod Comparing
 pub mod Substitution

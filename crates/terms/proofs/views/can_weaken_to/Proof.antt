@@ -10,7 +10,7 @@ use Rattle.terms.specs.Held.{Held}
 use Rattle.terms.specs.Questions.{among}
 use Rattle.terms.proofs.HeldLaws.{headKind, held-first}
 use Rattle.terms.proofs.SameLaws.{told}
-use Rattle.terms.proofs.ConflictLaws.{not-true, not-false}
+use Rattle.terms.proofs.Bools.{not-true, not-false}
 use Rattle.terms.proofs.WeakenLaws.{kinds-apart, without-access, marked, marked-long, mark-at, rest-at, not-mutable, not-shared, by-rest, rest-rows}
 use borrow.Author.Needs.{needs}
 use Rattle.terms.proofs.views.can_weaken_to.Statement.{statement}

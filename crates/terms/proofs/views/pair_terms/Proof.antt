@@ -1,7 +1,8 @@
 -- `pair_terms`: by the kinds of the two terms. Assumes nothing.
 use native.Mathlib.Omega.{arith}
 use mathlib.Core.Path.{sym, _∙_}
-use Rattle.terms.proofs.ConflictLaws.{next-terms, step-left, step-right, step-kinds, step-projections, step-whole, step-enter, not-true, not-false}
+use Rattle.terms.proofs.ConflictLaws.{next-terms, step-left, step-right, step-kinds, step-projections, step-whole, step-enter}
+use Rattle.terms.proofs.Bools.{not-true, not-false}
 use borrow.Author.Needs.{needs}
 use Rattle.terms.proofs.views.pair_terms.Statement.{statement}
 use Rattle.terms.proofs.views.pair_terms.Tie as tie
