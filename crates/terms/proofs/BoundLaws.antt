@@ -2,24 +2,28 @@
 use mathlib.Core.Path.{_≡_, refl, sym, ap, subst, _∙_}
 use mathlib.Core.Bool.{Bool, true, false, not, _&&_}
 use mathlib.Core.List.{List, [], _∷_}
-use mathlib.Core.Option.{Option, none}
-use Prim.Native.Nat.{ℕ, suc, _+_, _-_, _<_}
+use mathlib.Core.Option.{Option, none, some}
+use Prim.Native.Nat.{ℕ, suc, _+_, _-_, _≤_, _<_}
 use native.Mathlib.Omega.{arith}
-use borrow.Author.Tests.{eq-eqb, ne-eqb}
+use borrow.Author.Tests.{eq-eqb, ne-eqb, eqb-true}
 use lib.Dec.{eqb}
 use lib.ListN.{length, getD}
 use Rattle.terms.specs.declared.Lookup.the-variants.{At, Nothing}
 use Rattle.terms.specs.declared.Pace.{Pace}
 use Rattle.terms.specs.declared.Pace.the-variants.{Clash, Onward}
 use Rattle.terms.specs.declared.Given.the-variants.{All, Lacking}
+use Rattle.terms.specs.Result.{pick}
 use Rattle.terms.specs.Term.{Term, Parts, sub, items, Subs}
 use Rattle.terms.specs.Held.{Held, HeldParts}
-use Rattle.terms.specs.Formed.{Formed}
-use Rattle.terms.specs.Tree.{Nominal, lookUp, putTerms, putMembers, same, sameTerms}
-use Rattle.terms.specs.Views.{sameOption, every, has, bounded, satisfies, reflexive}
+use Rattle.terms.specs.Shape as shape
+use Rattle.terms.specs.Shape.{nominal}
+use Rattle.terms.specs.Formed.{Formed, Fit}
+use Rattle.terms.specs.Tree.{Nominal, nominalOf, lookUp, putTerms, putMembers, same, sameTerms}
+use Rattle.terms.specs.Views.{sameOption, every, has, bounded, satisfies, reflexive, satisfies-for}
 use Rattle.terms.specs.Satisfying.{pairing, Laid, Listed, Lists, Agreed, agree, Headed, Pairs, Next-pair, Looked, Passes, Gave, Satisfied, covers}
-use Rattle.terms.proofs.Bools.{or-true, or-false, and-false, not-true, not-false}
-use Rattle.terms.proofs.NominalLaws.{Projected, reflexive-parts}
+use Rattle.terms.proofs.Bools.{never-true, or-true, or-false, and-false, not-true, not-false}
+use Rattle.terms.proofs.SameLaws.{both, same-refl, same-true}
+use Rattle.terms.proofs.NominalLaws.{Rising, nominal-is, split, Projected, reflexive-parts}
 use Rattle.terms.proofs.HeldLaws.{held-num, held-sub, items-some}
 
 -- ---- pairs of a member and a term
@@ -365,3 +369,100 @@ module _ (a : Nominal) (w : Term) (m : ℕ) (u : Term) (x : Projected u) where
 
   pub by-arguments : (r : Bool) (n : ℕ) → r ≡ same (x .receiver) w → not r ≡ false → satisfies a (x .interface) ≡ true → x .member ≡ m → n ≡ length (x .arguments) → eqb n 0 ≡ reflexive a w m u
   by-arguments r n h t s e k = sym (reflexive-parts a w m u x ∙ rw (sym h ∙ not-false r t, eq-eqb (x .member) m e, s, ← k) (and-true (eqb n 0)))
+
+-- ---- `satisfies` is an order, and `satisfies_for` admits what it admits
+
+terms-refl : (ts : List Term) → sameTerms ts ts ≡ true
+unfolding sameTerms
+terms-refl [] = refl
+terms-refl (t ∷ ts) = rw (same-refl t) (terms-refl ts)
+
+terms-true : (ts us : List Term) → sameTerms ts us ≡ true → ts ≡ us
+unfolding sameTerms
+terms-true [] [] h = refl
+terms-true [] (u ∷ us) h = never-true h
+terms-true (t ∷ ts) [] h = never-true h
+terms-true (t ∷ ts) (u ∷ us) h = let b = both (same t u) (sameTerms ts us) h in rw (same-true t u (b .0), terms-true ts us (b .1))
+
+every-ext : (f g : ℕ → Term → Bool) (least : ℕ) (ms : List ℕ) (ts : List Term) → Rising least ms → ((m : ℕ) (t : Term) → least ≤ m → f m t ≡ g m t) → every f ms ts ≡ every g ms ts
+unfolding every Rising
+every-ext f g least [] ts r h = refl
+every-ext f g least (m ∷ ms) [] r h = refl
+every-ext f g least (m ∷ ms) (t ∷ ts) r h = rw (h m t (r .0), every-ext f g (m + 1) ms ts (r .1) (λ k u l. h k u (omega (arith, r .0))))
+
+every-more : (f g : ℕ → Term → Bool) → ((m : ℕ) (t : Term) → f m t ≡ true → g m t ≡ true) → (ms : List ℕ) (ts : List Term) → every f ms ts ≡ true → every g ms ts ≡ true
+unfolding every
+every-more f g h [] ts e = refl
+every-more f g h (m ∷ ms) [] e = refl
+every-more f g h (m ∷ ms) (t ∷ ts) e = let b = both (f m t) (every f ms ts) e in rw (h m t (b .0)) (every-more f g h ms ts (b .1))
+
+-- members that rise have each of themselves
+every-own : (least : ℕ) (ms : List ℕ) (ts : List Term) → Rising least ms → every (λ m t. sameOption (lookUp m ms ts) t) ms ts ≡ true
+unfolding every lookUp Rising
+every-own least [] ts r = refl
+every-own least (m ∷ ms) [] r = refl
+every-own least (m ∷ ms) (t ∷ ts) r =
+    rw (eq-eqb m m refl, same-refl t)
+    (every-ext (λ k u. sameOption (lookUp k (m ∷ ms) (t ∷ ts)) u) (λ k u. sameOption (lookUp k ms ts) u) (m + 1) ms ts (r .1) (λ k u l. rw (ne-eqb m k (λ e. omega arith)))
+    ∙ every-own (m + 1) ms ts (r .1))
+
+-- what is found passed the test
+every-found : (f : ℕ → Term → Bool) (m : ℕ) (u : Term) (ms : List ℕ) (ts : List Term) → every f ms ts ≡ true → lookUp m ms ts ≡ some u → f m u ≡ true
+unfolding every lookUp
+every-found f m u [] ts e h = let z : _≡_ {A = ℕ} 0 1 = cc in absurd (omega arith)
+every-found f m u (k ∷ ms) [] e h = let z : _≡_ {A = ℕ} 0 1 = cc in absurd (omega arith)
+every-found f m u (k ∷ ms) (t ∷ ts) e h =
+    let s = both (f k t) (every f ms ts) e in
+    go (eqb k m) refl (s .0) (λ p. every-found f m u ms ts (s .1) p) h
+  where
+    go : (b : Bool) → eqb k m ≡ b → f k t ≡ true → (lookUp m ms ts ≡ some u → f m u ≡ true) → pick b (some t) (lookUp m ms ts) ≡ some u → f m u ≡ true
+    go true q x later p =
+        let s : t ≡ u = cc in
+        ap (λ (v : Term). f m v) (sym s) ∙ ap (λ (j : ℕ). f j t) (sym (eqb-true k m q)) ∙ x
+    go false q x later p = later p
+
+module _ (a b : Nominal) where
+  agree-both : agree a b ≡ true → (a .declaration ≡ b .declaration) × (a .arguments ≡ b .arguments)
+  unfolding agree
+  agree-both h =
+      let s = both (eqb (a .declaration) (b .declaration)) (sameTerms (a .arguments) (b .arguments)) h in
+      (eqb-true (a .declaration) (b .declaration) (s .0), terms-true (a .arguments) (b .arguments) (s .1))
+
+  both-agree : a .declaration ≡ b .declaration → a .arguments ≡ b .arguments → agree a b ≡ true
+  unfolding agree
+  both-agree h k = rw (eq-eqb (a .declaration) (b .declaration) h, k) (terms-refl (b .arguments))
+
+  bounded-both : (f : ℕ → Term → Bool) → bounded f a b ≡ true → (agree a b ≡ true) × (every f (b .members) (b .values) ≡ true)
+  bounded-both f h = both (agree a b) (every f (b .members) (b .values)) (sym (bounded-is f a b) ∙ h)
+
+  -- `satisfies_for` admits what `satisfies` admits
+  pub satisfies-more : (w : Term) → satisfies a b ≡ true → satisfies-for a b w ≡ true
+  satisfies-more w h =
+      let s = bounded-both (has a) h in
+      bounded-members (covers a w) a b (s .0) ∙ every-more (has a) (covers a w) (λ m t e. or-true (has a m t) (reflexive a w m t) e) (b .members) (b .values) (s .1)
+
+-- a nominal satisfies itself
+pub satisfies-own : (a : Nominal) → Rising 0 (a .members) → satisfies a a ≡ true
+unfolding has
+satisfies-own a r = bounded-members (has a) a a (both-agree a a refl refl) ∙ every-own 0 (a .members) (a .values) r
+
+pub satisfies-self : (ps : Parts) → Fit (nominal shape.done) ps → satisfies (nominalOf ps) (nominalOf ps) ≡ true
+satisfies-self ps f =
+    let s = split shape.done ps f in
+    let e : nominalOf ps ≡ s .name = ap nominalOf (s .is) ∙ nominal-is (s .name) (s .rest) (s .paired) in
+    ap (λ (a : Nominal). satisfies a a) e ∙ satisfies-own (s .name) (s .rising)
+
+-- and what a nominal satisfies is satisfied by what satisfies it
+pub satisfies-trans : (a b c : Nominal) → satisfies a b ≡ true → satisfies b c ≡ true → satisfies a c ≡ true
+unfolding has
+satisfies-trans a b c h k =
+    let s = bounded-both a b (has a) h in
+    let t = bounded-both b c (has b) k in
+    let x = agree-both a b (s .0) in
+    let y = agree-both b c (t .0) in
+    bounded-members (has a) a c (both-agree a c (x .0 ∙ y .0) (x .1 ∙ y .1))
+    ∙ every-more (has b) (has a) (λ m u e. found m u (lookUp m (b .members) (b .values)) refl e (s .1)) (c .members) (c .values) (t .1)
+  where
+    found : (m : ℕ) (u : Term) (o : Option Term) → lookUp m (b .members) (b .values) ≡ o → sameOption o u ≡ true → every (has a) (b .members) (b .values) ≡ true → has a m u ≡ true
+    found m u none q e w = never-true e
+    found m u (some v) q e w = every-found (has a) m u (b .members) (b .values) w (q ∙ ap (λ (x : Term). some x) (same-true v u e))
