@@ -21,6 +21,8 @@ pub mod SameLaws
 pub mod FlatLaws
 pub mod ConflictLaws
 pub mod WeakenLaws
+pub mod NominalLaws
+pub mod BoundLaws
 pub mod QuestionLaws
 pub mod Answers
 pub mod Marked

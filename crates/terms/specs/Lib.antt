@@ -15,6 +15,7 @@ pub mod Questions
 pub mod Asking
 pub mod Views
 pub mod Comparing
+pub mod Satisfying
 pub mod Substitution
 pub mod Recovery
 pub mod Parameters

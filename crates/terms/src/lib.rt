@@ -6,6 +6,7 @@ mod numbers;
 mod questions;
 mod read;
 mod runs;
+mod satisfy;
 mod store;
 mod values;
 mod views;
@@ -19,6 +20,8 @@ pub use numbers::number_len;
 pub use numbers::read_number;
 pub use numbers::write_number;
 pub use questions::ask;
+pub use satisfy::satisfies;
+pub use satisfy::satisfies_for;
 pub use store::clear_tokens;
 pub use views::can_weaken_to;
 pub use views::conflicts_with;
@@ -87,6 +90,12 @@ pub enum Pace {
 pub enum Lookup {
     At(usize),
     Nothing,
+}
+
+// What going through required members finds: the place behind them, or the place of one that is not given, and how many are left from it on.
+pub enum Given {
+    All(usize),
+    Lacking(usize, usize),
 }
 
 // What reading a parameter finds: its owner, its position in the owner's list, and the position in the bytes after it; or the refusal's code.
