@@ -9,7 +9,7 @@ use Rattle.terms.specs.Tree.{unknown, error, nums, subs, row, tag, same,
 use Rattle.terms.specs.Questions.{meets, Parameter, sameParameter, contains, first, second, among, countedBy, enteredBy, is-never, is-integer, is-concrete, is-unresolved, contains-unknown, contains-self-type, contains-projection, is-resolved-in}
 use Rattle.terms.specs.Views.{conflicts-with, collection-access, read-only-view, can-weaken-to, every, has, bounded, satisfies, reflexive, satisfies-for}
 use Rattle.terms.specs.Substitution.{substitute-once, Entry, Receiver, TypeSubstitution, get, receiver, instantiated, instantiate, contextual, argument-context, selfOf, with-self, zipped, apply}
-use Rattle.terms.specs.Recovery.{parts, reach, recover-from}
+use Rattle.terms.specs.Recovery.{parts, reach, nominalReach, recover-from}
 
 abbrev i32 : Term
 i32 = node 4 (num 2 end)
@@ -129,5 +129,5 @@ recoveries : (recover-from (pair unknown i32) (pair f64 f64) ≡ pair f64 i32) �
     × (recover-from (struct 3 unknown 8 unknown) (struct 3 i32 9 i32) ≡ struct 3 i32 8 unknown)
     × (recover-from (struct 3 unknown 8 unknown) (struct 3 i32 8 i32) ≡ struct 3 i32 8 i32)
     × (recover-from (proj unknown) (proj i32) ≡ proj unknown)
-unfolding recover-from parts reach nums subs row tag first second among sameNumbers nominalOf
+unfolding recover-from parts reach nominalReach nums subs row tag first second among sameNumbers nominalOf
 recoveries = (refl, refl, refl, refl, refl, refl, refl, refl)

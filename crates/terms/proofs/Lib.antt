@@ -24,6 +24,7 @@ pub mod WeakenLaws
 pub mod NominalLaws
 pub mod BoundLaws
 pub mod QuestionLaws
+pub mod RecoverLaws
 pub mod Answers
 pub mod Marked
 pub mod SubstitutionLaws

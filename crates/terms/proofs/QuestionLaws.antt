@@ -35,15 +35,17 @@ unfolding tagOf headKind tag
 tag-kind (var v) = refl
 tag-kind (node k ps) = refl
 
-pub tag-variable : (k : ℕ) → k ≡ 1 → 1 ≡ tagOf k
+pub tag-few : (k : ℕ) → k < 2 → k ≡ tagOf k
 unfolding tagOf
-tag-variable k e = rw e
+tag-few zero h = refl
+tag-few (suc zero) h = refl
+tag-few (suc (suc k)) h = absurd (omega arith)
 
-pub tag-node : (k : ℕ) → 0 < k → (k ≡ 1 → ⊥) → k - 2 ≡ tagOf k
+pub tag-node : (k : ℕ) → 2 ≤ k → k - 2 ≡ tagOf k
 unfolding tagOf
-tag-node zero h d = absurd (omega arith)
-tag-node (suc zero) h d = absurd (d refl)
-tag-node (suc (suc k)) h d = omega arith
+tag-node zero h = absurd (omega arith)
+tag-node (suc zero) h = absurd (omega arith)
+tag-node (suc (suc k)) h = omega arith
 
 -- ---- which terms count
 
@@ -158,7 +160,7 @@ entered-most (suc (suc (suc (suc (suc q))))) k h d = refl
 
 -- ---- the numbers behind a head
 
-number-inside : (ks vs : List ℕ) (i e n : ℕ) (ps : Parts) → HeldParts ks vs i e (num n ps) → i < e
+pub number-inside : (ks vs : List ℕ) (i e n : ℕ) (ps : Parts) → HeldParts ks vs i e (num n ps) → i < e
 unfolding items
 number-inside ks vs i e n ps h = omega (arith, h .ends)
 
@@ -186,7 +188,7 @@ blind-second ps (suc (suc (suc (suc (suc zero))))) k a b d e = refl
 blind-second ps (suc (suc (suc (suc (suc (suc zero)))))) k a b d e = refl
 blind-second ps (suc (suc (suc (suc (suc (suc (suc q))))))) k a b d e = rw e
 
-word-in : (vs : List ℕ) (i e : ℕ) → i < e → word vs i e ≡ getD vs i 0
+pub word-in : (vs : List ℕ) (i e : ℕ) → i < e → word vs i e ≡ getD vs i 0
 word-in vs i e h = rw (lt-ltb i e h)
 
 -- the row of a Builtin is its code, that of a Generic its owner and its position

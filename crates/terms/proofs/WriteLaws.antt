@@ -127,6 +127,12 @@ spelt-short ks vs w a zero = omega arith
 spelt-short ks vs w a (suc c) =
     omega (arith, length-append (plain (getD ks a 0) (getD vs a 0)) (spelt ks vs (suc a) c), plain-short (getD ks a 0) (getD vs a 0) (w a), spelt-short ks vs w (suc a) c)
 
+-- a run in two parts
+pub spelt-add : (ks vs : List ℕ) (a m n : ℕ) → spelt ks vs a (m + n) ≡ spelt ks vs a m ++ spelt ks vs (a + m) n
+unfolding spell
+spelt-add ks vs a zero n = rw (zero-add, add-zero)
+spelt-add ks vs a (suc m) n = rw (suc-add, add-suc, ← suc-add, append-assoc) (ap (λ (l : List ℕ). plain (getD ks a 0) (getD vs a 0) ++ l) (spelt-add ks vs (suc a) m n))
+
 -- ---- the bytes of a term that the areas hold
 
 -- the bytes of a list of tokens

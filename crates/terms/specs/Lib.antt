@@ -18,4 +18,5 @@ pub mod Comparing
 pub mod Satisfying
 pub mod Substitution
 pub mod Recovery
+pub mod Recovering
 pub mod Parameters

@@ -18,12 +18,11 @@ ghost use Rattle.terms.specs.Parameters.{parameters};
 ghost use Rattle.terms.specs.Asking.{tagOf, word, Asking};
 
 // The tag of the term whose first token has this kind.
-fn tag_of(k: u32) -> u32
-    requires { ⌜ 0 < k ⌝ }
+pub fn tag_of(k: u32) -> u32
     ensures { λ r. ⌜ r ≡ tagOf k ⌝ }
 {
-    if k == 1 {
-        return 1;
+    if k < 2 {
+        return k;
     }
     k - 2
 }
@@ -94,7 +93,7 @@ fn enters(question: u32, tag: u32) -> bool
 }
 
 // The word at i, or 0 at the end.
-fn word_at(vals: &[u32], i: usize, end: usize) -> u32
+pub fn word_at(vals: &[u32], i: usize, end: usize) -> u32
     requires { ⌜ end ≤ length (now vals) ⌝ }
     ensures { λ r. ⌜ r ≡ word (now (vals .entry)) i end ⌝ }
 {

@@ -2,10 +2,11 @@
 use super::numbers::number_len;
 use super::numbers::write_number;
 ghost use mathlib.Core.Path.{_≡_};
-ghost use Prim.Native.Nat.{_+_, _≤_};
+ghost use Prim.Native.Nat.{_+_, _*_, _^_, _≤_, _<_};
 ghost use lib.ListN.{length};
 ghost use lib.Seq.{sets};
 ghost use Rattle.terms.specs.Writing.{plain, spelt};
+ghost use Rattle.terms.specs.Recovering.{putIf};
 
 // How many bytes a token has.
 pub fn token_len(k: u32, v: u32) -> usize
@@ -74,4 +75,26 @@ pub fn write_run(
         p += 1;
     }
     i
+}
+
+// The same where the tokens fit; else nothing is written. In either case returns the position after them.
+pub fn put_run(
+    kinds: &[u32],
+    vals: &[u32],
+    from: usize,
+    count: usize,
+    out: &mut [u8],
+    at: usize,
+) -> usize
+    requires run { ⌜ (from + count ≤ length (now kinds)) × (from + count ≤ length (now vals)) ⌝ }
+    requires room { ⌜ at + 6 * count < 2 ^ 64 ⌝ }
+    ensures next { λ r. ⌜ r ≡ at + length (spelt (now (kinds .entry)) (now (vals .entry)) from count) ⌝ }
+    ensures put { λ _. ⌜ now (out .exit) ≡ putIf (now (out .entry)) at (spelt (now (kinds .entry)) (now (vals .entry)) from count) ⌝ }
+    ensures bound { λ r. ⌜ (at ≤ r) × (r ≤ at + 6 * count) ⌝ }
+{
+    let n = run_len(kinds, vals, from, count);
+    if at + n <= out.len() {
+        return write_run(kinds, vals, from, count, out, at);
+    }
+    at + n
 }
