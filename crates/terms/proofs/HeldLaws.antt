@@ -133,13 +133,13 @@ module _ (ks vs : List ℕ) where
   toks-length a (suc m) = ap suc (toks-length (suc a) m)
 
   -- a row that begins with a number, and one that begins with a term
-  held-num : (a e n : ℕ) (ps : Parts) → HeldParts ks vs a e (num n ps) → (getD ks a 0 ≡ 0) × (getD vs a 0 ≡ n) × HeldParts ks vs (a + 1) e ps
+  pub held-num : (a e n : ℕ) (ps : Parts) → HeldParts ks vs a e (num n ps) → (getD ks a 0 ≡ 0) × (getD vs a 0 ≡ n) × HeldParts ks vs (a + 1) e ps
   unfolding items spell
   held-num a e n ps h =
       let q = h .tokens in
       (cc, cc, record { tokens = rw add-one (cc); ends = omega (arith, h .ends); within = h .within })
 
-  held-sub : (a e : ℕ) (t : Term) (ps : Parts) → HeldParts ks vs a e (sub t ps) → Held ks vs a t × HeldParts ks vs (a + length (items t)) e ps
+  pub held-sub : (a e : ℕ) (t : Term) (ps : Parts) → HeldParts ks vs a e (sub t ps) → Held ks vs a t × HeldParts ks vs (a + length (items t)) e ps
   unfolding items
   held-sub a e t ps h =
       let l = length-append (items t) (partItems ps) in

@@ -22,4 +22,5 @@ pub mod Answers
 pub mod Marked
 pub mod SubstitutionLaws
 pub mod ParameterLaws
+pub mod SearchLaws
 pub mod Examples

@@ -16,3 +16,5 @@ pub mod Views
 pub mod Substitution
 pub mod Recovery
 pub mod Parameters
+pub mod Rows
+pub mod Search

@@ -9,7 +9,10 @@ mod store;
 mod values;
 mod write;
 
+pub use find::find_entry;
 pub use find::find_parameter;
+pub use find::find_receiver;
+pub use find::nth_term;
 pub use find::skip_parameters;
 pub use keep::keep_nominal;
 pub use keep::keep_term;
