@@ -23,4 +23,5 @@ pub mod Marked
 pub mod SubstitutionLaws
 pub mod ParameterLaws
 pub mod SearchLaws
+pub mod RewriteLaws
 pub mod Examples

@@ -18,3 +18,4 @@ pub mod Recovery
 pub mod Parameters
 pub mod Rows
 pub mod Search
+pub mod Rewriting

@@ -92,7 +92,7 @@ pub fn find_parameter(s: &[u8], at: usize, count: u64, owner: u64, position: u64
     }
 }
 
-fn long(x: u32) -> u64
+pub fn long(x: u32) -> u64
     ensures { λ r. ⌜ r ≡ x ⌝ }
 {
     x as u64

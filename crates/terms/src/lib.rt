@@ -4,6 +4,7 @@ mod keep;
 mod kinds;
 mod numbers;
 mod read;
+mod rewrite;
 mod runs;
 mod store;
 mod values;
@@ -91,4 +92,24 @@ pub enum ParameterRead {
 pub enum ParametersRead {
     Through(usize, Lookup),
     Faulty(u8),
+}
+
+// What takes the place of binders. A substitution is two rows in the areas: its entries from `entries` up to `receivers`, its receivers from there up
+// to `finish`. `count` parameters stand at a position of the order's bytes, and their arguments from `arguments` on in the areas. In a `context` the
+// parameters have no arguments: one that the substitution does not have becomes Unknown, and receivers are not looked at.
+pub struct Binders {
+    pub context: bool,
+    pub entries: usize,
+    pub receivers: usize,
+    pub finish: usize,
+    pub parameters: usize,
+    pub count: u64,
+    pub arguments: usize,
+}
+
+// What takes the place of a term: the term itself, the one at a place, or Unknown.
+pub enum Choice {
+    Keep,
+    By(usize),
+    Unknown,
 }
