@@ -203,3 +203,33 @@ fn pace(kinds: &[u32], vals: &[u32], c: Choice, p: usize, end: usize) -> usize
         Choice::Unknown => stride(kinds, vals, p, end - p),
     }
 }
+
+// Writes the `count` tokens from `from` on at a position of `out`, with the binders replaced, and returns the position after them; or, where it is not
+// `on`, only counts.
+pub fn rewrite(
+    kinds: &[u32],
+    vals: &[u32],
+    s: &[u8],
+    b: Binders,
+    from: usize,
+    count: usize,
+    out: &mut [u8],
+    at: usize,
+    on: bool,
+) -> usize
+    requires areas { ⌜ Ready (now kinds) (now vals) b ⌝ }
+    requires run { ⌜ from + count ≤ length (now kinds) ⌝ }
+    requires space { ⌜ Space on at (length (rewritten (now kinds) (now vals) (now s) b from count)) (length (now out)) ⌝ }
+    ensures next { λ r. ⌜ r ≡ at + length (rewritten (now (kinds .entry)) (now (vals .entry)) (now (s .entry)) b from count) ⌝ }
+    ensures wrote { λ _. ⌜ now (out .exit) ≡ pick on (sets (now (out .entry)) at (rewritten (now (kinds .entry)) (now (vals .entry)) (now (s .entry)) b from count)) (now (out .entry)) ⌝ }
+{
+    let end = from + count;
+    let mut i = at;
+    let mut p = from;
+    while p < end {
+        let c = replaced_at(kinds, vals, s, b, p);
+        i = emit(kinds, vals, c, p, out, i, on);
+        p += pace(kinds, vals, c, p, end);
+    }
+    i
+}
