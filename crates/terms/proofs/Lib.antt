@@ -24,4 +24,6 @@ pub mod SubstitutionLaws
 pub mod ParameterLaws
 pub mod SearchLaws
 pub mod RewriteLaws
+pub mod InsertLaws
+pub mod UseLaws
 pub mod Examples

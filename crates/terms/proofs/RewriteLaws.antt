@@ -3,8 +3,7 @@ use mathlib.Core.Path.{_≡_, refl, sym, ap, _∙_}
 use mathlib.Core.Bool.{Bool, true, false, _&&_}
 use mathlib.Core.List.{List, [], _∷_, _++_}
 use Prim.Native.Nat.{ℕ, zero, suc, _+_, _-_, _*_, _^_, _≤_, _<_}
-use native.Mathlib.Nat.{add-zero}
-use native.Mathlib.Numerals.{add-one}
+use native.Mathlib.Nat.{suc-mul, mul-le-mul}
 use native.Mathlib.Omega.{arith}
 use borrow.Author.Tests.{eq-eqb, ne-eqb, lt-ltb, le-ltb, ltb-true}
 use lib.Dec.{eqb, ltb}
@@ -20,7 +19,7 @@ use Rattle.terms.specs.Writing.{spelt}
 use Rattle.terms.specs.Parameters.{isFound}
 use Rattle.terms.specs.Held.{span}
 use Rattle.terms.specs.Search.{stride, lastAt, nthAt, entryAt, receiverAt, argumentFor}
-use Rattle.terms.specs.Rewriting.{by, index, self, generic, inContext, chosen, piece, pace, pieces, rewritten, Ready, Space, Inside}
+use Rattle.terms.specs.Rewriting.{by, index, self, generic, inContext, chosen, piece, pace, pieces, rewritten, written, Ready, Space, Inside, Writes}
 use Rattle.terms.proofs.WriteLaws.{sets-append, spelt-short}
 use Rattle.terms.proofs.SearchLaws.{clip-within}
 
@@ -284,3 +283,47 @@ module _ (ks vs : List ℕ) (f : ℕ → Choice) (on : Bool) (out₀ : List ℕ)
   pub step-on : (n : ℕ) → n ≡ pace ks vs p e c → (j : ℕ) → j ≡ i + length (piece ks vs p c) → (out′ : List ℕ) → out′ ≡ pick on (sets out i (piece ks vs p c)) out
       → Going on out₀ at whole out′ j (pieces ks vs f (e - (p + n)) (p + n) e)
   step-on n m j ej out′ eo = going-on on out₀ at whole out i _ g (piece ks vs p c) _ out′ j (pieces-step ks vs f p e h c k n m) ej eo
+
+-- ---- a whole term
+
+module _ (ks vs s : List ℕ) (b : Binders) (a n : ℕ) (e : n ≡ stride ks vs a (length ks - a)) where
+  pub whole-space : (on : Bool) (at size : ℕ) → Space on at (length (written ks vs s b a)) size → Space on at (length (rewritten ks vs s b a n)) size
+  whole-space on at size h = rw e h
+
+  pub whole-writes : (on : Bool) (out : List ℕ) (at r : ℕ) (out′ : List ℕ) → r ≡ at + length (rewritten ks vs s b a n) → out′ ≡ pick on (sets out at (rewritten ks vs s b a n)) out
+      → Writes on out at r out′ (written ks vs s b a)
+  whole-writes on out at r out′ h k = record { next = rw e at h; wrote = rw e at k }
+
+-- ---- how long it can be
+
+module _ (ks vs : List ℕ) (words : (i : ℕ) → getD vs i 0 < 2 ^ 32) where
+  piece-short : (p : ℕ) (c : Choice) → p < length ks → Inside ks c → length (piece ks vs p c) ≤ 6 * length ks
+  unfolding piece
+  piece-short p Keep h k = omega (arith, spelt-short ks vs words p 1)
+  piece-short p (By q) h k =
+      omega (arith, spelt-short ks vs words q (stride ks vs q (length ks - q)), clip-within (length ks - q) (span (getD ks q 0) (getD vs q 0)) (omega arith))
+  piece-short p Unknown h k = omega arith
+
+  pieces-short : (f : ℕ → Choice) → ((p : ℕ) → Inside ks (f p)) → (fuel p e : ℕ) → e ≤ length ks → length (pieces ks vs f fuel p e) ≤ fuel * (6 * length ks)
+  unfolding pieces
+  pieces-short f k zero p e h = omega arith
+  pieces-short f k (suc n) p e h = rw (suc-mul n (6 * length ks)) (go (ltb p e) refl (pieces-short f k n (p + pace ks vs p e (f p)) e h))
+    where
+      go : (t : Bool) → ltb p e ≡ t → length (pieces ks vs f n (p + pace ks vs p e (f p)) e) ≤ n * (6 * length ks)
+          → length (pick t (piece ks vs p (f p) ++ pieces ks vs f n (p + pace ks vs p e (f p)) e) []) ≤ n * (6 * length ks) + 6 * length ks
+      go true q ih =
+          let below = ltb-true p e q in
+          omega (arith, length-append (piece ks vs p (f p)) (pieces ks vs f n (p + pace ks vs p e (f p)) e), piece-short p (f p) (omega arith) (k p), ih)
+      go false q ih = omega arith
+
+  -- in areas of at most 2 ^ 24 words the bytes can be counted
+  pub counted : (s : List ℕ) (b : Binders) → Ready ks vs b → (a c : ℕ) → a + c ≤ length ks → length ks ≤ 2 ^ 24 → length (rewritten ks vs s b a c) ≤ 2 ^ 51
+  counted s b r a c h l =
+      let m = pieces-short (chosen ks vs s b) (chosen-inside ks vs s b r) (a + c - a) a (a + c) h in
+      let x : a + c - a ≤ 2 ^ 24 = omega arith in
+      let y : 6 * length ks ≤ 6 * 2 ^ 24 = omega arith in
+      let n : (a + c - a) * (6 * length ks) ≤ 2 ^ 24 * (6 * 2 ^ 24) = mul-le-mul {n₂ = 2 ^ 24} {m₂ = 6 * 2 ^ 24} x y in
+      omega arith
+
+  pub counted-term : (s : List ℕ) (b : Binders) → Ready ks vs b → (a : ℕ) → a < length ks → length ks ≤ 2 ^ 24 → length (written ks vs s b a) ≤ 2 ^ 51
+  counted-term s b r a h l = counted s b r a _ (stride-in ks vs a a _ h refl) l

@@ -160,3 +160,14 @@ pub apply-some : (ps : List Parameter) (value : Term) (s : TypeSubstitution) (ts
     → apply ps value s ts ≡ some (instantiate (extend s (zipped ps ts)) value)
 unfolding apply
 apply-some ps value s ts h = rw (eq-eqb (length ts) (length ps) h)
+
+-- where it gives a term there are as many arguments as parameters, and it instantiates
+pub apply-gives : (ps : List Parameter) (value : Term) (s : TypeSubstitution) (ts : List Term) (u : Term) → apply ps value s ts ≡ some u
+    → (length ts ≡ length ps) × (instantiate (extend s (zipped ps ts)) value ≡ u)
+unfolding apply
+apply-gives ps value s ts u e = go (eqb (length ts) (length ps)) refl e
+  where
+    go : (b : Bool) → eqb (length ts) (length ps) ≡ b → pick b (some (instantiate (extend s (zipped ps ts)) value)) none ≡ some u
+        → (length ts ≡ length ps) × (instantiate (extend s (zipped ps ts)) value ≡ u)
+    go true h k = (eqb-true (length ts) (length ps) h, cc)
+    go false h k = absurd (let z : _≡_ {A = ℕ} 0 1 = cc in omega arith)

@@ -1,22 +1,26 @@
 -- Writing a term with its binders replaced: on words, whatever they are, and what that says of terms. Assumes nothing.
 use mathlib.Core.Path.{_≡_}
-use mathlib.Core.Bool.{Bool, true}
+use mathlib.Core.Bool.{Bool, true, false}
 use mathlib.Core.List.{List, [], _∷_, _++_}
 use mathlib.Core.Option.{Option, none, some}
 use Prim.Native.Nat.{ℕ, zero, suc, _+_, _-_, _^_, _≤_, _<_}
 use lib.Dec.{eqb, ltb}
 use lib.ListN.{length, getD}
+use lib.Seq.{sets}
 use Rattle.terms.specs.declared.Lookup.{Lookup}
 use Rattle.terms.specs.declared.Lookup.the-variants.{At, Nothing}
 use Rattle.terms.specs.declared.Binders.{Binders}
 use Rattle.terms.specs.declared.Choice.{Choice}
 use Rattle.terms.specs.declared.Choice.the-variants.{Keep, By, Unknown}
-use Rattle.terms.specs.Result.{pick}
-use Rattle.terms.specs.Term.{Term}
-use Rattle.terms.specs.Held.{Held}
+use Rattle.terms.specs.Result.{got, pick}
+use Rattle.terms.specs.Term.{Term, bytes}
+use Rattle.terms.specs.Formed.{Formed}
+use Rattle.terms.specs.Held.{Held, HeldParts}
 use Rattle.terms.specs.Tree.{unknown}
 use Rattle.terms.specs.Writing.{spelt}
 use Rattle.terms.specs.Questions.{Parameter}
+use Rattle.terms.specs.Substitution.{Entry, Receiver, TypeSubstitution, instantiate, argument-context, with-self, apply}
+use Rattle.terms.specs.Rows.{entryRow, receiverRow, argumentRow}
 use Rattle.terms.specs.Parameters.{parameters, indexIn, isFound}
 use Rattle.terms.specs.Search.{stride, entryAt, receiverAt, argumentFor}
 
@@ -97,3 +101,44 @@ abbrev pub Agrees : List ℕ → List ℕ → Choice → Option Term → Type 0
 Agrees ks vs Keep o = o ≡ none
 Agrees ks vs (By q) o = (u : Term) × (o ≡ some u) × Held ks vs q u
 Agrees ks vs Unknown o = o ≡ some unknown
+
+-- The areas hold the rows of a substitution with the entries es and the receivers rs, and the bytes the parameters ps.
+pub record HeldBinders (ks vs s : List ℕ) (b : Binders) (es : List Entry) (rs : List Receiver) (ps : List Parameter) : Type 0 where
+  pub entries : HeldParts ks vs (b .entries) (b .receivers) (entryRow es)
+  pub receivers : HeldParts ks vs (b .receivers) (b .finish) (receiverRow rs)
+  pub after : ℕ
+  pub parameters : parameters s (b .count) (b .parameters) ≡ got ps after
+
+-- the term at a place
+abbrev pub written : (ks vs s : List ℕ) → Binders → ℕ → List ℕ
+written ks vs s b a = rewritten ks vs s b a (stride ks vs a (length ks - a))
+
+-- The bytes x were written at a position, or counted: the position after them, and what was written.
+pub record Writes (on : Bool) (out : List ℕ) (at r : ℕ) (out′ : List ℕ) (x : List ℕ) : Type 0 where
+  pub next : r ≡ at + length x
+  pub wrote : out′ ≡ pick on (sets out at x) out
+
+-- The uses, on trees. Where the areas hold a formed term t at a place, and the binders, W holds of the bytes of t after the operation. For `apply` that is
+-- where it gives a term: where the arguments are not as many as the parameters, nothing is to be written.
+pub record Rewrites (ks vs s : List ℕ) (b : Binders) (a : ℕ) (W : List ℕ → Type 0) : Type 0 where
+  pub instantiated : (t : Term) (es : List Entry) (rs : List Receiver) → Formed t → Held ks vs a t → HeldBinders ks vs s b es rs [] → b .context ≡ false
+      → W (bytes (instantiate (record { parameters = es; receivers = rs }) t))
+  pub in-context : (t : Term) (es : List Entry) (rs : List Receiver) (ps : List Parameter) → Formed t → Held ks vs a t → HeldBinders ks vs s b es rs ps → b .context ≡ true
+      → W (bytes (argument-context (record { parameters = es; receivers = rs }) ps t))
+  pub with-self : (t : Term) (owner : ℕ) (u : Term) → Formed t → Held ks vs a t → HeldBinders ks vs s b [] (record { owner = owner; term = u } ∷ []) [] → b .context ≡ false
+      → W (bytes (with-self owner u t))
+  pub applied : (t : Term) (es : List Entry) (rs : List Receiver) (ps : List Parameter) (ts : List Term) (e : ℕ) (u : Term) → Formed t → Held ks vs a t → HeldBinders ks vs s b es rs ps
+      → HeldParts ks vs (b .arguments) e (argumentRow ts) → b .context ≡ false → apply ps t (record { parameters = es; receivers = rs }) ts ≡ some u → W (bytes u)
+
+-- ---- the binders of each use
+
+abbrev pub forFamily : (entries receivers finish parameters count arguments : ℕ) → Binders
+forFamily e r f p n a = record { context = false; entries = e; receivers = r; finish = f; parameters = p; count = n; arguments = a }
+
+-- no parameters
+abbrev pub forInstance : (entries receivers finish : ℕ) → Binders
+forInstance e r f = forFamily e r f 0 0 0
+
+-- no receivers
+abbrev pub forContext : (entries receivers parameters count : ℕ) → Binders
+forContext e r p n = record { context = true; entries = e; receivers = r; finish = r; parameters = p; count = n; arguments = 0 }

@@ -19,7 +19,7 @@ ghost use lib.Seq.{sets};
 ghost use Rattle.terms.specs.Result.{pick};
 ghost use Rattle.terms.specs.Writing.{spelt};
 ghost use Rattle.terms.specs.Search.{argumentFor};
-ghost use Rattle.terms.specs.Rewriting.{by, index, generic, inContext, self, chosen, piece, pace, rewritten, Ready, Space, Inside};
+ghost use Rattle.terms.specs.Rewriting.{by, index, generic, inContext, self, chosen, piece, pace, rewritten, written, Ready, Space, Inside, Writes, Rewrites, forInstance, forContext, forFamily};
 
 // A word, or 0 past the end.
 fn word(words: &[u32], i: usize) -> u64
@@ -206,7 +206,7 @@ fn pace(kinds: &[u32], vals: &[u32], c: Choice, p: usize, end: usize) -> usize
 
 // Writes the `count` tokens from `from` on at a position of `out`, with the binders replaced, and returns the position after them; or, where it is not
 // `on`, only counts.
-pub fn rewrite(
+pub fn rewrite_run(
     kinds: &[u32],
     vals: &[u32],
     s: &[u8],
@@ -232,4 +232,84 @@ pub fn rewrite(
         p += pace(kinds, vals, c, p, end);
     }
     i
+}
+
+// Writes the term at a place at a position of `out`, with the binders replaced, and returns the position after it; or, where it is not `on`, only counts.
+pub fn write_term(
+    kinds: &[u32],
+    vals: &[u32],
+    s: &[u8],
+    b: Binders,
+    from: usize,
+    out: &mut [u8],
+    at: usize,
+    on: bool,
+) -> usize
+    requires areas { ⌜ Ready (now kinds) (now vals) b ⌝ }
+    requires place { ⌜ from < length (now kinds) ⌝ }
+    requires space { ⌜ Space on at (length (written (now kinds) (now vals) (now s) b from)) (length (now out)) ⌝ }
+    ensures words { λ r. ⌜ Writes on (now (out .entry)) at r (now (out .exit)) (written (now (kinds .entry)) (now (vals .entry)) (now (s .entry)) b from) ⌝ }
+    ensures trees { λ r. ⌜ Rewrites (now (kinds .entry)) (now (vals .entry)) (now (s .entry)) b from (Writes on (now (out .entry)) at r (now (out .exit))) ⌝ }
+{
+    let n = stride(kinds, vals, from, kinds.len() - from);
+    rewrite_run(kinds, vals, s, b, from, n, out, at, on)
+}
+
+// What takes the place of binders in `instantiate`.
+pub fn instantiation(entries: usize, receivers: usize, finish: usize) -> Binders
+    ensures { λ r. ⌜ r ≡ forInstance entries receivers finish ⌝ }
+{
+    Binders {
+        context: false,
+        entries,
+        receivers,
+        finish,
+        parameters: 0,
+        count: 0,
+        arguments: 0,
+    }
+}
+
+// The same in `argument_context`.
+pub fn context(entries: usize, receivers: usize, parameters: usize, count: u64) -> Binders
+    ensures { λ r. ⌜ r ≡ forContext entries receivers parameters count ⌝ }
+{
+    Binders {
+        context: true,
+        entries,
+        receivers,
+        finish: receivers,
+        parameters,
+        count,
+        arguments: 0,
+    }
+}
+
+// The same in `with_self`: the owner and the replacement are the one receiver.
+pub fn self_only(receivers: usize, finish: usize) -> Binders
+    ensures { λ r. ⌜ r ≡ forInstance receivers receivers finish ⌝ }
+{
+    instantiation(receivers, receivers, finish)
+}
+
+// The same in `apply`.
+pub fn family(
+    entries: usize,
+    receivers: usize,
+    finish: usize,
+    parameters: usize,
+    count: u64,
+    arguments: usize,
+) -> Binders
+    ensures { λ r. ⌜ r ≡ forFamily entries receivers finish parameters count arguments ⌝ }
+{
+    Binders {
+        context: false,
+        entries,
+        receivers,
+        finish,
+        parameters,
+        count,
+        arguments,
+    }
 }

@@ -1,4 +1,4 @@
--- `rewrite`. Invariant: with the pieces from p on done at i, all is done (`Going`). Assumes nothing.
+-- `rewrite_run`. Invariant: with the pieces from p on done at i, all is done (`Going`). Assumes nothing.
 use mathlib.Core.Path.{_≡_, refl, sym, ap, _∙_}
 use Prim.Native.Nat.{ℕ, _+_, _-_, _≤_}
 use denote.Ref.{now}
@@ -6,8 +6,8 @@ use native.Mathlib.Omega.{arith}
 use Rattle.terms.specs.Rewriting.{chosen, pieces, rewritten}
 use Rattle.terms.proofs.RewriteLaws.{chosen-inside, pieces-end, pace-within, Going, going-start, going-end, step-space, step-on}
 use borrow.Author.Needs.{needs}
-use Rattle.terms.proofs.rewrite.rewrite.Statement.{statement}
-use Rattle.terms.proofs.rewrite.rewrite.Tie as tie
+use Rattle.terms.proofs.rewrite.rewrite_run.Statement.{statement}
+use Rattle.terms.proofs.rewrite.rewrite_run.Tie as tie
 
 abbrev Inv-loop : tie.InvT-loop
 Inv-loop kinds vals s b from count out₀ at on end i₀ p₀ out i p =
@@ -67,8 +67,8 @@ returns c =
     let l = c .before .loop in
     going-end _ _ _ _ _ _ _ (l .inv .2) (pieces-end (now (a .kinds)) (now (a .vals)) (chosen (now (a .kinds)) (now (a .vals)) (now (a .s)) (a .b)) (l .p) (a .from + a .count) (omega arith))
 
-pub rewrite-spec : {M : Type 1} → statement M
-rewrite-spec =
+pub rewrite-run-spec : {M : Type 1} → statement M
+rewrite-run-spec =
     tie.close
     (tie.spec
     Inv-loop
