@@ -26,4 +26,5 @@ pub mod SearchLaws
 pub mod RewriteLaws
 pub mod InsertLaws
 pub mod UseLaws
+pub mod ListLaws
 pub mod Examples

@@ -2,6 +2,7 @@
 mod find;
 mod keep;
 mod kinds;
+mod lists;
 mod numbers;
 mod read;
 mod rewrite;
@@ -17,6 +18,9 @@ pub use find::nth_term;
 pub use find::skip_parameters;
 pub use keep::keep_nominal;
 pub use keep::keep_term;
+pub use lists::keep_entries;
+pub use lists::keep_receivers;
+pub use lists::keep_terms;
 pub use numbers::number_len;
 pub use numbers::read_number;
 pub use numbers::write_number;
