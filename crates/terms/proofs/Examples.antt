@@ -6,7 +6,7 @@ use mathlib.Core.Option.{Option, none, some}
 use Prim.Native.Nat.{ℕ}
 use Rattle.terms.specs.Term.{Term, Parts, var, node, end, num, sub}
 use Rattle.terms.specs.Tree.{unknown, error, nums, subs, row, tag, same, sameTerms, sameNumbers, Nominal, lookUp, nominalOf, interfaceOf, receiverOf, memberOf, argumentsOf}
-use Rattle.terms.specs.Questions.{meets, Parameter, sameParameter, contains, first, second, among, counted, entered, is-never, is-integer, is-concrete, is-unresolved, contains-unknown, contains-self-type, contains-projection, is-resolved-in}
+use Rattle.terms.specs.Questions.{meets, Parameter, sameParameter, contains, first, second, among, countedBy, enteredBy, is-never, is-integer, is-concrete, is-unresolved, contains-unknown, contains-self-type, contains-projection, is-resolved-in}
 use Rattle.terms.specs.Views.{conflicts-with, collection-access, read-only-view, can-weaken-to, every, has, bounded, satisfies, reflexive, satisfies-for}
 use Rattle.terms.specs.Substitution.{substitute-once, Entry, Receiver, TypeSubstitution, get, receiver, instantiated, instantiate, contextual, argument-context, selfOf, with-self, zipped, apply}
 use Rattle.terms.specs.Recovery.{parts, reach, recover-from}
@@ -51,7 +51,7 @@ accesses = (refl, refl, refl)
 
 -- a projection with receiver Unknown is unresolved, but `contains_unknown` is 0
 unknown-receiver : (is-unresolved (proj unknown) ≡ true) × (contains-unknown (proj unknown) ≡ false)
-unfolding meets counted entered nums row tag first among
+unfolding meets countedBy enteredBy nums row tag first second among
 unknown-receiver = (refl, refl)
 
 -- ---- the questions
@@ -60,7 +60,7 @@ questions : (is-never (node 4 (num 10 end)) ≡ true) × (is-never (array (node 
     × (is-concrete (pair i32 f64) ≡ true) × (is-concrete (pair i32 (generic 1 0)) ≡ false) × (is-concrete (proj i32) ≡ false)
     × (contains-unknown (pair i32 error) ≡ false) × (contains-unknown (pair i32 (var 3)) ≡ true)
     × (contains-self-type (proj (self 5)) ≡ true) × (contains-projection (array (proj i32)) ≡ true)
-unfolding meets counted entered nums row tag first among
+unfolding meets countedBy enteredBy nums row tag first second among
 questions = (refl, refl, refl, refl, refl, refl, refl, refl, refl, refl, refl)
 
 abbrev one : Parameter
@@ -69,7 +69,7 @@ one = record { owner = 1; position = 0 }
 -- a binder of the caller's is known; a projection of one is too, but not without parameters
 resolved : (is-resolved-in (one ∷ []) (generic 1 0) ≡ true) × (is-resolved-in (one ∷ []) (generic 1 1) ≡ false)
     × (is-resolved-in (one ∷ []) (proj (generic 1 0)) ≡ true) × (is-resolved-in [] (proj i32) ≡ false) × (is-resolved-in (one ∷ []) (self 1) ≡ false)
-unfolding meets counted entered nums row tag first second among sameParameter contains
+unfolding meets countedBy enteredBy nums row tag first second among sameParameter contains
 resolved = (refl, refl, refl, refl, refl)
 
 -- ---- comparing

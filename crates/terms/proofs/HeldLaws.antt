@@ -167,7 +167,7 @@ module _ (ks vs : List ℕ) where
   sub-kind : (i e : ℕ) (t : Term) (ps : Parts) → HeldParts ks vs i e (sub t ps) → 1 ≤ getD ks i 0
   sub-kind i e t ps h = omega (arith, held-first ks vs i t (held-sub i e t ps h .0) .0, kind-some t)
 
-  end-ends : (i e : ℕ) → HeldParts ks vs i e end → i ≡ e
+  pub end-ends : (i e : ℕ) → HeldParts ks vs i e end → i ≡ e
   unfolding items
   end-ends i e h = omega (arith, h .ends)
 

@@ -18,6 +18,10 @@ pub mod WriteLaws
 pub mod Bools
 pub mod HeldLaws
 pub mod SameLaws
+pub mod FlatLaws
+pub mod ConflictLaws
+pub mod WeakenLaws
+pub mod QuestionLaws
 pub mod Answers
 pub mod Marked
 pub mod SubstitutionLaws

@@ -12,7 +12,9 @@ pub mod Pieces
 pub mod Done
 pub mod Tree
 pub mod Questions
+pub mod Asking
 pub mod Views
+pub mod Comparing
 pub mod Substitution
 pub mod Recovery
 pub mod Parameters

@@ -55,26 +55,32 @@ unfoldable pub among : ℕ → List ℕ → Bool
 among n [] = false
 among n (m ∷ ms) = eqb n m || among n ms
 
--- the terms that count: 1 Inference, 2 Unknown, 3 Error, 4 Builtin, 17 Generic, 18 Projection, 19 SelfType
-unfoldable pub counted : List Parameter → ℕ → Term → Bool
-counted ps zero t = eqb (tag t) 4 && eqb (first t) 10
-counted ps (suc zero) t = eqb (tag t) 4 && ltb (first t) 8
-counted ps (suc (suc zero)) t = among (tag t) (1 ∷ 2 ∷ 3 ∷ 17 ∷ 18 ∷ 19 ∷ [])
-counted ps (suc (suc (suc zero))) t = among (tag t) (1 ∷ 2 ∷ 3 ∷ [])
-counted ps (suc (suc (suc (suc zero)))) t = among (tag t) (1 ∷ 2 ∷ [])
-counted ps (suc (suc (suc (suc (suc zero))))) t = eqb (tag t) 19
-counted ps (suc (suc (suc (suc (suc (suc zero)))))) t = eqb (tag t) 18
-counted ps (suc (suc (suc (suc (suc (suc (suc q))))))) t =
-    among (tag t) (1 ∷ 2 ∷ 3 ∷ 19 ∷ []) || (eqb (tag t) 17 && not (contains ps (parameterOf t)) || eqb (tag t) 18 && isEmpty ps)
+-- By its tag and its first two numbers, whether a term counts: 1 Inference, 2 Unknown, 3 Error, 4 Builtin, 17 Generic, 18 Projection, 19 SelfType.
+unfoldable pub countedBy : List Parameter → ℕ → ℕ → ℕ → ℕ → Bool
+countedBy ps zero k a b = eqb k 4 && eqb a 10
+countedBy ps (suc zero) k a b = eqb k 4 && ltb a 8
+countedBy ps (suc (suc zero)) k a b = among k (1 ∷ 2 ∷ 3 ∷ 17 ∷ 18 ∷ 19 ∷ [])
+countedBy ps (suc (suc (suc zero))) k a b = among k (1 ∷ 2 ∷ 3 ∷ [])
+countedBy ps (suc (suc (suc (suc zero)))) k a b = among k (1 ∷ 2 ∷ [])
+countedBy ps (suc (suc (suc (suc (suc zero))))) k a b = eqb k 19
+countedBy ps (suc (suc (suc (suc (suc (suc zero)))))) k a b = eqb k 18
+countedBy ps (suc (suc (suc (suc (suc (suc (suc q))))))) k a b =
+    among k (1 ∷ 2 ∷ 3 ∷ 19 ∷ []) || (eqb k 17 && not (contains ps (record { owner = a; position = b })) || eqb k 18 && isEmpty ps)
+
+abbrev pub counted : List Parameter → ℕ → Term → Bool
+counted ps q t = countedBy ps q (tag t) (first t) (second t)
 
 -- the terms that are entered: none for 0 and 1, for 4 all but projections, else all
-unfoldable pub entered : ℕ → Term → Bool
-entered zero t = false
-entered (suc zero) t = false
-entered (suc (suc zero)) t = true
-entered (suc (suc (suc zero))) t = true
-entered (suc (suc (suc (suc zero)))) t = not (eqb (tag t) 18)
-entered (suc (suc (suc (suc (suc q))))) t = true
+unfoldable pub enteredBy : ℕ → ℕ → Bool
+enteredBy zero k = false
+enteredBy (suc zero) k = false
+enteredBy (suc (suc zero)) k = true
+enteredBy (suc (suc (suc zero))) k = true
+enteredBy (suc (suc (suc (suc zero)))) k = not (eqb k 18)
+enteredBy (suc (suc (suc (suc (suc q))))) k = true
+
+abbrev pub entered : ℕ → Term → Bool
+entered q t = enteredBy q (tag t)
 
 -- ---- the questions
 

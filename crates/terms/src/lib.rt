@@ -4,11 +4,13 @@ mod keep;
 mod kinds;
 mod lists;
 mod numbers;
+mod questions;
 mod read;
 mod rewrite;
 mod runs;
 mod store;
 mod values;
+mod views;
 mod write;
 
 pub use find::find_entry;
@@ -24,6 +26,7 @@ pub use lists::keep_terms;
 pub use numbers::number_len;
 pub use numbers::read_number;
 pub use numbers::write_number;
+pub use questions::ask;
 pub use rewrite::context;
 pub use rewrite::family;
 pub use rewrite::instantiation;
@@ -31,6 +34,8 @@ pub use rewrite::rewrite_run;
 pub use rewrite::self_only;
 pub use rewrite::write_term;
 pub use store::clear_tokens;
+pub use views::can_weaken_to;
+pub use views::conflicts_with;
 pub use write::run_len;
 pub use write::token_len;
 pub use write::write_run;
@@ -84,6 +89,12 @@ pub enum ValueRead {
 pub enum NumberRead {
     Value(u64, usize),
     Refused(u8),
+}
+
+// A step of a comparison: the rows conflict, or it goes on at these places.
+pub enum Pace {
+    Clash,
+    Onward(usize, usize),
 }
 
 // What a search finds: a place, or an index.

@@ -7,11 +7,26 @@ ghost use Rattle.terms.specs.Tokens.{toks};
 ghost use Rattle.terms.specs.Term.{Term};
 ghost use Rattle.terms.specs.Held.{Held, span};
 ghost use Rattle.terms.specs.Tree.{same};
+ghost use Rattle.terms.specs.Questions.{among};
+ghost use mathlib.Core.List.{[], _∷_};
 
 pub fn wide(x: u32) -> usize
     ensures { λ r. ⌜ r ≡ x ⌝ }
 {
     x as usize
+}
+
+// Whether n is one of three numbers.
+pub fn is_one(n: u32, a: u32, b: u32, c: u32) -> bool
+    ensures { λ r. ⌜ r ≡ among n (a ∷ b ∷ c ∷ []) ⌝ }
+{
+    if n == a {
+        return true;
+    }
+    if n == b {
+        return true;
+    }
+    n == c
 }
 
 // How many tokens the term at i has, at least 1 and at most `room`.
