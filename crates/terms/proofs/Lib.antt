@@ -31,4 +31,7 @@ pub mod RewriteLaws
 pub mod InsertLaws
 pub mod UseLaws
 pub mod ListLaws
+pub mod KeptLaws
+pub mod FormedLists
 pub mod Examples
+pub mod BinderExamples

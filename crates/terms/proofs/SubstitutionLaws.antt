@@ -48,7 +48,7 @@ module _ (f : Term → Option Term) (nothing : (t : Term) → f t ≡ none) wher
     row-nothing (sub t ps) = rw (substitute-nothing t, row-nothing ps)
 
 -- what is formed stays formed, where the terms inserted are formed
-pub FormedOr : Option Term → Type 0
+unfoldable pub FormedOr : Option Term → Type 0
 FormedOr none = Unit {0}
 FormedOr (some u) = Formed u
 
