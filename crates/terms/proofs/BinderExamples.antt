@@ -1,24 +1,20 @@
 -- Lists, searches and rewriting on small bytes and areas, by computation. Assumes nothing.
 use mathlib.Core.Path.{_≡_, refl}
-use mathlib.Core.Bool.{Bool, true, false}
 use mathlib.Core.List.{List, [], _∷_, _++_}
 use Prim.Native.Nat.{ℕ}
-use lib.ListN.{length}
-use Rattle.terms.specs.declared.Binders.{Binders}
 use Rattle.terms.specs.declared.Lookup.the-variants.{At, Nothing}
 use Rattle.terms.specs.Number.{groups, shortest, digits}
-use Rattle.terms.specs.Parser.{Result, got, refused}
+use Rattle.terms.specs.Parser.{got, refused}
 use Rattle.terms.specs.Tokens.{Item, item, spell}
-use Rattle.terms.specs.Term.{Term, Parts, var, node, end, num, sub, _+++_, items, partItems, bytes}
+use Rattle.terms.specs.Term.{Term, node, end, num, sub, items, partItems, bytes}
 use Rattle.terms.specs.Held.{span}
 use Rattle.terms.specs.Writing.{plain}
 use Rattle.terms.specs.Shape.{kindOf}
-use Rattle.terms.specs.Reading.{code, variable, many, pairs, row, kinded, term}
-use Rattle.terms.specs.Questions.{Parameter, sameParameter}
-use Rattle.terms.specs.Substitution.{Entry, Receiver}
+use Rattle.terms.specs.Reading.{code, row, kinded, term}
+use Rattle.terms.specs.Questions.{sameParameter}
 use Rattle.terms.specs.Parameters.{parameter, parameters, lastFrom, lastIndex}
-use Rattle.terms.specs.Rows.{entries, receivers, arguments, entryRow, receiverRow, argumentRow}
-use Rattle.terms.specs.Search.{clip, lastAt, nthAt, entryAt, receiverAt}
+use Rattle.terms.specs.Rows.{entries, entryRow, receiverRow}
+use Rattle.terms.specs.Search.{clip, lastAt, nthAt}
 use Rattle.terms.specs.Rewriting.{self, generic, inContext, chosen, piece, pace, pieces, written, forInstance, forContext, forFamily}
 
 abbrev i32 : Term

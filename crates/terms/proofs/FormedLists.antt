@@ -1,5 +1,5 @@
 -- Lists of formed terms, and that the uses of substitution keep terms formed. Assumes nothing.
-use mathlib.Core.Path.{_≡_, refl, sym, _∙_}
+use mathlib.Core.Path.{_≡_, refl}
 use mathlib.Core.Bool.{Bool, true, false}
 use mathlib.Core.List.{List, [], _∷_}
 use mathlib.Core.Option.{Option, none, some}
@@ -7,12 +7,12 @@ use Prim.Native.Nat.{ℕ, zero, suc}
 use native.Mathlib.Omega.{arith}
 use lib.Dec.{eqb}
 use Rattle.terms.specs.Parser.{Result, Parser, got, refused, bind, pick, number}
-use Rattle.terms.specs.Term.{Term, Parts, node, end}
+use Rattle.terms.specs.Term.{Term}
 use Rattle.terms.specs.Shape.{definition, ordinary, ceiling, kindOf}
 use Rattle.terms.specs.Formed.{Formed}
 use Rattle.terms.specs.Tree.{tag, unknown}
 use Rattle.terms.specs.Questions.{Parameter, sameParameter, contains, first, parameterOf}
-use Rattle.terms.specs.Substitution.{orElse, Entry, Receiver, TypeSubstitution, get, receiver, instantiated, instantiate, contextual, argument-context}
+use Rattle.terms.specs.Substitution.{orElse, Entry, Receiver, get, receiver, instantiated, instantiate, contextual, argument-context}
 use Rattle.terms.specs.Rows.{entries, receivers, arguments}
 use Rattle.terms.proofs.SubstitutionLaws.{FormedOr, substitute-formed}
 

@@ -1,16 +1,15 @@
 -- What is written with binders replaced is the bytes of the substituted term, where the areas hold the term. Assumes nothing.
 use mathlib.Core.Path.{_≡_, refl, sym, ap, _∙_}
-use mathlib.Core.Bool.{Bool, true, false}
-use mathlib.Core.List.{List, [], _∷_, _++_, append-assoc, append-nil}
-use mathlib.Core.Option.{Option, none, some}
-use Prim.Native.Nat.{ℕ, zero, suc, _+_, _-_, _%_, _≤_, _<_}
+use mathlib.Core.List.{List, _∷_, _++_, append-assoc, append-nil}
+use mathlib.Core.Option.{Option, none}
+use Prim.Native.Nat.{ℕ, suc, _+_, _-_, _%_, _≤_, _<_}
 use native.Mathlib.Omega.{arith}
 use lib.ListN.{length, getD}
 use Rattle.terms.specs.declared.Choice.{Choice}
 use Rattle.terms.specs.declared.Choice.the-variants.{Keep, By, Unknown}
 use Rattle.terms.specs.Number.{shortest}
 use Rattle.terms.specs.Tokens.{spell}
-use Rattle.terms.specs.Term.{Term, Parts, var, node, end, num, sub, items, partItems, bytes, partBytes}
+use Rattle.terms.specs.Term.{Term, Parts, var, node, end, num, sub, items, bytes, partBytes}
 use Rattle.terms.specs.Held.{Held, HeldParts}
 use Rattle.terms.specs.Writing.{plain, spelt}
 use Rattle.terms.specs.Shape.{Shape, layout}

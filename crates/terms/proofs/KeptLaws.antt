@@ -1,20 +1,20 @@
 -- What is kept stays: what a caller has after reading lists and terms one after another. Assumes nothing.
 use mathlib.Core.Path.{_≡_, refl, sym, ap, _∙_}
 use mathlib.Core.Bool.{Bool, true, false}
-use mathlib.Core.List.{List, [], _∷_, _++_}
+use mathlib.Core.List.{List}
 use Prim.Native.Nat.{ℕ, zero, suc, _+_, _-_, _≤_, _<_}
 use native.Mathlib.Omega.{arith}
 use borrow.Author.Tests.{le-leb}
 use lib.Dec.{leb}
-use lib.ListN.{length, getD, take}
+use lib.ListN.{length, getD}
 use lib.Seq.{getD-take}
 use Rattle.terms.specs.declared.Place.{Place}
 use Rattle.terms.specs.Parser.{Result, got, refused, pick}
-use Rattle.terms.specs.Tokens.{Item, item, Area, puts, zeros, blank, before, spell, toks}
-use Rattle.terms.specs.Term.{Term, Parts, items, partItems, size, sizes}
+use Rattle.terms.specs.Tokens.{Area, puts, zeros, blank, before, spell, toks}
+use Rattle.terms.specs.Term.{Term, Parts, items, partItems, sizes}
 use Rattle.terms.specs.Held.{Held, HeldParts}
 use Rattle.terms.specs.Rows.{keptOf}
-use Rattle.terms.proofs.StoreLaws.{length-kinds, length-vals, before-puts}
+use Rattle.terms.proofs.StoreLaws.{length-kinds, before-puts}
 use Rattle.terms.proofs.Answers.{stored-at}
 
 -- ---- a list that is kept

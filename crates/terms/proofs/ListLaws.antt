@@ -1,7 +1,7 @@
 -- Lists read record by record and kept as rows. Assumes nothing.
 use mathlib.Core.Path.{_≡_, refl, sym, ap, _∙_}
 use mathlib.Core.Bool.{Bool, true, false}
-use mathlib.Core.List.{List, [], _∷_}
+use mathlib.Core.List.{List, _∷_}
 use Prim.Native.Nat.{ℕ, zero, suc, _+_, _-_, _≤_, _<_}
 use native.Mathlib.Numerals.{sub-one}
 use native.Mathlib.Omega.{arith}
@@ -14,11 +14,10 @@ use Rattle.terms.specs.declared.Step.{Step}
 use Rattle.terms.specs.declared.Step.the-variants.{Next, Stopped}
 use Rattle.terms.specs.Parser.{Result, Parser, got, refused, bind, pick, number}
 use Rattle.terms.specs.Tokens.{Item, Area, puts, blank}
-use Rattle.terms.specs.Term.{Term, Parts, end, num, sub, partItems, sizes, _+++_}
+use Rattle.terms.specs.Term.{Term, Parts, end, num, sub, partItems, _+++_}
 use Rattle.terms.specs.Shape.{definition, ordinary, ceiling}
 use Rattle.terms.specs.Pieces.{coded, numbered, fields}
-use Rattle.terms.specs.Done.{Room, RoomAfter, Only, Wrote, TermDone, PartsDone, Clearable, Cleared, after, seq}
-use Rattle.terms.specs.Questions.{Parameter}
+use Rattle.terms.specs.Done.{Room, RoomAfter, Only, TermDone, PartsDone, Clearable, Cleared, after, seq}
 use Rattle.terms.specs.Substitution.{Entry, Receiver}
 use Rattle.terms.specs.Rows.{entries, receivers, arguments, entryRow, receiverRow, argumentRow, keys, single, records, answerOf, keptOf}
 use Rattle.terms.proofs.StoreLaws.{only-wider}

@@ -7,7 +7,7 @@ use native.Mathlib.Nat.{suc-mul, mul-le-mul}
 use native.Mathlib.Omega.{arith}
 use borrow.Author.Tests.{eq-eqb, ne-eqb, lt-ltb, le-ltb, ltb-true}
 use lib.Dec.{eqb, ltb}
-use lib.ListN.{length, getD, length-append, length-set}
+use lib.ListN.{length, getD, length-append}
 use lib.Seq.{sets, length-sets}
 use Rattle.terms.specs.declared.Lookup.{Lookup}
 use Rattle.terms.specs.declared.Lookup.the-variants.{At, Nothing}

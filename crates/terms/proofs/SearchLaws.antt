@@ -6,14 +6,14 @@ use mathlib.Core.Option.{Option, none, some}
 use Prim.Native.Nat.{ℕ, zero, suc, _+_, _-_, _≤_, _<_}
 use native.Mathlib.Numerals.{sub-one}
 use native.Mathlib.Omega.{arith}
-use borrow.Author.Tests.{eq-eqb, ne-eqb, eqb-true, eqb-false, lt-ltb, le-ltb, ltb-true, ltb-false}
+use borrow.Author.Tests.{eq-eqb, ne-eqb, eqb-false, lt-ltb, le-ltb, ltb-false}
 use lib.Dec.{eqb, ltb}
 use lib.ListN.{length, getD}
 use Rattle.terms.specs.declared.Lookup.{Lookup}
 use Rattle.terms.specs.declared.Lookup.the-variants.{At, Nothing}
 use Rattle.terms.specs.Result.{pick}
-use Rattle.terms.specs.Term.{Term, Parts, end, num, sub, items, partItems}
-use Rattle.terms.specs.Held.{Held, HeldParts, span}
+use Rattle.terms.specs.Term.{Term, Parts, items}
+use Rattle.terms.specs.Held.{Held, HeldParts}
 use Rattle.terms.specs.Questions.{Parameter, sameParameter}
 use Rattle.terms.specs.Substitution.{orElse, Entry, Receiver, get, receiver, zipped}
 use Rattle.terms.specs.Parameters.{lastFrom, lastIndex}

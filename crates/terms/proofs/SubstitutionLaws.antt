@@ -11,11 +11,11 @@ use lib.Dec.{eqb}
 use lib.ListN.{length}
 use Rattle.terms.specs.Result.{pick}
 use Rattle.terms.specs.Term.{Term, Parts, var, node, end, num, sub}
-use Rattle.terms.specs.Tree.{tag, unknown}
-use Rattle.terms.specs.Questions.{Parameter, sameParameter, contains, first, parameterOf}
+use Rattle.terms.specs.Tree.{tag}
+use Rattle.terms.specs.Questions.{Parameter, sameParameter, contains, first}
 use Rattle.terms.specs.Substitution.{orElse, or, substitute-once, substitute-row, Entry, Receiver, TypeSubstitution, get, receiver, extend, instantiated, instantiate, contextual, argument-context, selfOf, with-self, zipped, apply}
 use Rattle.terms.specs.Shape.{Shape, layout}
-use Rattle.terms.specs.Formed.{Formed, Fit, TakesNumber, afterNumber, TakesTerm, afterTerm}
+use Rattle.terms.specs.Formed.{Formed, Fit, afterNumber, afterTerm}
 
 -- ---- `substitute_once`
 

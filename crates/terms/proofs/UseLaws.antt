@@ -1,9 +1,9 @@
 -- What is chosen for a term is what the step of each use gives: `instantiate`, `apply`, `argument_context`. Assumes nothing.
 use mathlib.Core.Path.{_≡_, refl, sym, ap, _∙_}
 use mathlib.Core.Bool.{Bool, true, false}
-use mathlib.Core.List.{List, [], _∷_, _++_, append-nil}
+use mathlib.Core.List.{List, [], _++_, append-nil}
 use mathlib.Core.Option.{Option, none, some}
-use Prim.Native.Nat.{ℕ, zero, suc, _+_, _-_, _≤_, _<_}
+use Prim.Native.Nat.{ℕ, _+_, _-_}
 use native.Mathlib.Omega.{arith}
 use borrow.Author.Tests.{eq-eqb, ne-eqb, eqb-true, eqb-false}
 use lib.Dec.{eqb}
@@ -12,25 +12,23 @@ use Rattle.terms.specs.declared.Lookup.{Lookup}
 use Rattle.terms.specs.declared.Lookup.the-variants.{At, Nothing}
 use Rattle.terms.specs.declared.Binders.{Binders}
 use Rattle.terms.specs.declared.Choice.{Choice}
-use Rattle.terms.specs.declared.Choice.the-variants.{Keep, By, Unknown}
-use Rattle.terms.specs.Result.{Result, got, refused, pick}
-use Rattle.terms.specs.Term.{Term, Parts, var, node, end, num, sub, items, bytes}
-use Rattle.terms.specs.Held.{Held, HeldParts}
-use Rattle.terms.specs.Shape as shape
-use Rattle.terms.specs.Shape.{Shape, layout}
+use Rattle.terms.specs.declared.Choice.the-variants.{Keep, Unknown}
+use Rattle.terms.specs.Result.{pick}
+use Rattle.terms.specs.Term.{Term, Parts, var, node, end, num, sub, bytes}
+use Rattle.terms.specs.Held.{Held}
+use Rattle.terms.specs.Shape.{layout}
 use Rattle.terms.specs.Formed.{Formed, Fit, TakesNumber, afterNumber, TakesTerm}
 use Rattle.terms.specs.Tree.{tag, row, nums, unknown}
-use Rattle.terms.specs.Questions.{Parameter, contains, first, second, parameterOf}
-use Rattle.terms.specs.Substitution.{orElse, substitute-once, Entry, Receiver, TypeSubstitution, get, receiver, extend, instantiated, instantiate, contextual, argument-context, with-self, zipped, apply}
-use Rattle.terms.specs.Rows.{entryRow, receiverRow, argumentRow}
-use Rattle.terms.specs.Parameters.{parameters, lastFrom, lastIndex, indexIn, isFound}
-use Rattle.terms.specs.Search.{Finds, stride, entryAt, receiverAt, argumentFor}
-use Rattle.terms.specs.Rewriting.{by, index, self, generic, inContext, chosen, rewritten, written, Agrees, HeldBinders, Rewrites}
+use Rattle.terms.specs.Questions.{Parameter, contains, first, second}
+use Rattle.terms.specs.Substitution.{orElse, substitute-once, Entry, Receiver, TypeSubstitution, get, receiver, extend, instantiated, instantiate, contextual, argument-context, with-self, zipped}
+use Rattle.terms.specs.Parameters.{parameters, lastFrom, lastIndex, isFound}
+use Rattle.terms.specs.Search.{Finds, entryAt, receiverAt, argumentFor}
+use Rattle.terms.specs.Rewriting.{by, index, generic, inContext, chosen, written, Agrees, HeldBinders, Rewrites}
 use Rattle.terms.proofs.HeldLaws.{held-first, held-node, held-num, headKind}
 use Rattle.terms.proofs.ParameterLaws.{found-contains}
-use Rattle.terms.proofs.SubstitutionLaws.{else-none, get-append, with-self-is, selfOnly, apply-gives}
+use Rattle.terms.proofs.SubstitutionLaws.{else-none, get-append, with-self-is, apply-gives}
 use Rattle.terms.proofs.SearchLaws.{stride-held, entry-held, receiver-held, argument-held}
-use Rattle.terms.proofs.RewriteLaws.{pick-yes, pick-no, chosen-context, chosen-generic, chosen-self, chosen-keep, self-context, self-receiver}
+use Rattle.terms.proofs.RewriteLaws.{chosen-context, chosen-generic, chosen-self, chosen-keep, self-context, self-receiver}
 use Rattle.terms.proofs.InsertLaws.{substituted-bytes}
 
 -- ---- the heads of a Generic and of a SelfType

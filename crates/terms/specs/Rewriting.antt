@@ -19,7 +19,7 @@ use Rattle.terms.specs.Held.{Held, HeldParts}
 use Rattle.terms.specs.Tree.{unknown}
 use Rattle.terms.specs.Writing.{spelt}
 use Rattle.terms.specs.Questions.{Parameter}
-use Rattle.terms.specs.Substitution.{Entry, Receiver, TypeSubstitution, instantiate, argument-context, with-self, apply}
+use Rattle.terms.specs.Substitution.{Entry, Receiver, instantiate, argument-context, with-self, apply}
 use Rattle.terms.specs.Rows.{entryRow, receiverRow, argumentRow}
 use Rattle.terms.specs.Parameters.{parameters, indexIn, isFound}
 use Rattle.terms.specs.Search.{stride, entryAt, receiverAt, argumentFor}

@@ -1,6 +1,6 @@
 -- The lists that a substitution and a family have in an order's bytes: entries as owner, position, term; receivers as owner, term; arguments as terms.
 -- In the areas each list is a row of parts, in byte order. Assumes nothing.
-use mathlib.Core.Bool.{Bool, true, false}
+use mathlib.Core.Bool.{Bool, false}
 use mathlib.Core.List.{List, [], _∷_}
 use Prim.Native.Nat.{ℕ, zero, suc, _+_, _-_}
 use lib.Dec.{leb}
@@ -15,7 +15,6 @@ use Rattle.terms.specs.Term.{Term, Parts, end, num, sub, partItems, size
 use Rattle.terms.specs.Reading.{_then_}
 use Rattle.terms.specs.Pieces.{fields}
 use Rattle.terms.specs.Shape.{definition, ordinary, ceiling}
-use Rattle.terms.specs.Questions.{Parameter}
 use Rattle.terms.specs.Substitution.{Entry, Receiver}
 
 -- ---- reading n of them

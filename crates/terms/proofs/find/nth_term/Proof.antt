@@ -1,7 +1,7 @@
 -- `nth_term`. Invariant: what is left to count from i on gives the answer. Assumes nothing.
 use Rattle.terms.proofs.SearchLaws.{clip-within, nth-here, nth-out, nth-more}
-use mathlib.Core.Path.{_≡_, refl, sym, ap, _∙_}
-use Prim.Native.Nat.{ℕ, _+_, _-_, _≤_}
+use mathlib.Core.Path.{_≡_, refl, ap, _∙_}
+use Prim.Native.Nat.{ℕ, _+_, _-_}
 use native.Mathlib.Omega.{arith}
 use denote.Ref.{now}
 use lib.ListN.{getD, length}

@@ -1,7 +1,4 @@
 -- `stride`: by the tests on the span. Assumes nothing.
-use lib.ListN.{getD}
-use mathlib.Core.Path.{_≡_, sym, _∙_}
-use denote.Ref.{now}
 use Rattle.terms.proofs.SearchLaws.{clip-none, clip-room, clip-span}
 use borrow.Author.Needs.{needs}
 use Rattle.terms.proofs.find.stride.Statement.{statement}

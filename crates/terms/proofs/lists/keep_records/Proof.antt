@@ -1,8 +1,7 @@
 -- `keep_records`: what was read, and then cleared where it is not kept. Assumes nothing.
 use denote.Ref.{now}
 use Rattle.terms.specs.Tokens.{area}
-use Rattle.terms.specs.Reading.{term}
-use mathlib.Core.Path.{_≡_, _∙_}
+use mathlib.Core.Path.{_∙_}
 use Rattle.terms.proofs.ListLaws.{row-clearable, row-answer, row-kept, row-room}
 use borrow.Author.Needs.{needs}
 use Rattle.terms.proofs.lists.keep_records.Statement.{statement}

@@ -1,5 +1,5 @@
 -- `argument_for`: the index, and then the argument of that index. Assumes nothing.
-use mathlib.Core.Path.{_≡_, _∙_}
+use mathlib.Core.Path.{_∙_}
 use borrow.Author.Needs.{needs}
 use Rattle.terms.proofs.rewrite.argument_for.Statement.{statement}
 use Rattle.terms.proofs.rewrite.argument_for.Tie as tie

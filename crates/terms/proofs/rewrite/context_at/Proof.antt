@@ -1,8 +1,4 @@
 -- `context_at`: an entry, or a parameter. Assumes nothing.
-use mathlib.Core.Path.{_≡_, refl, sym, ap, _∙_}
-use Prim.Native.Nat.{ℕ, _+_}
-use denote.Ref.{now}
-use native.Mathlib.Omega.{arith}
 use Rattle.terms.proofs.RewriteLaws.{context-entry, context-parameter, context-none}
 use borrow.Author.Needs.{needs}
 use Rattle.terms.proofs.rewrite.context_at.Statement.{statement}

@@ -1,6 +1,5 @@
 -- `emit`: the token, the term chosen, or Unknown. Assumes nothing.
-use mathlib.Core.Path.{_≡_, refl, sym, ap, _∙_}
-use Prim.Native.Nat.{ℕ, _+_}
+use mathlib.Core.Path.{refl}
 use mathlib.Core.List.{[], _∷_}
 use lib.Seq.{sets}
 use denote.Ref.{now}

@@ -1,7 +1,6 @@
 -- `emit_run`: written, or counted. Assumes nothing.
-use mathlib.Core.Path.{_≡_, refl, sym, ap, _∙_}
+use mathlib.Core.Path.{ap, _∙_}
 use Prim.Native.Nat.{ℕ, _+_}
-use denote.Ref.{now}
 use native.Mathlib.Omega.{arith}
 use Rattle.terms.proofs.RewriteLaws.{pick-yes, pick-no}
 use borrow.Author.Needs.{needs}

@@ -1,8 +1,4 @@
 -- `generic_at`: an argument, or an entry. Assumes nothing.
-use mathlib.Core.Path.{_≡_, refl, sym, ap, _∙_}
-use Prim.Native.Nat.{ℕ, _+_}
-use denote.Ref.{now}
-use native.Mathlib.Omega.{arith}
 use Rattle.terms.proofs.RewriteLaws.{generic-argument, generic-entry}
 use borrow.Author.Needs.{needs}
 use Rattle.terms.proofs.rewrite.generic_at.Statement.{statement}

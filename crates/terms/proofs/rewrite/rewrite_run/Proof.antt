@@ -1,11 +1,10 @@
 -- `rewrite_run`. Invariant: with the pieces from p on done at i, all is done (`Going`). Assumes nothing.
-use mathlib.Core.Path.{_≡_, refl, sym, ap, _∙_}
-use Prim.Native.Nat.{ℕ, _+_, _-_, _≤_}
+use mathlib.Core.Path.{_≡_, refl}
+use Prim.Native.Nat.{_+_, _-_, _≤_}
 use denote.Ref.{now}
 use native.Mathlib.Omega.{arith}
 use Rattle.terms.specs.Rewriting.{chosen, pieces, rewritten}
 use Rattle.terms.proofs.RewriteLaws.{chosen-inside, pieces-end, pace-within, Going, going-start, going-end, step-space, step-on}
-use borrow.Author.Needs.{needs}
 use Rattle.terms.proofs.rewrite.rewrite_run.Statement.{statement}
 use Rattle.terms.proofs.rewrite.rewrite_run.Tie as tie
 

@@ -1,5 +1,4 @@
 -- `taken`: by the two cases. Assumes nothing.
-use mathlib.Core.Path.{_≡_}
 use borrow.Author.Needs.{needs}
 use Rattle.terms.proofs.rewrite.taken.Statement.{statement}
 use Rattle.terms.proofs.rewrite.taken.Tie as tie

@@ -1,5 +1,4 @@
 -- `word`: within, or past the end. Assumes nothing.
-use native.Mathlib.Omega.{arith}
 use mathlib.Core.Path.{sym}
 use denote.Ref.{now}
 use lib.ListN.{List·getD-eq-default}

@@ -1,8 +1,5 @@
 -- `write_term`: as many tokens as its span tells; what that says of trees is `rewrites`. Assumes nothing.
-use mathlib.Core.Path.{_≡_, refl, sym, ap, _∙_}
-use Prim.Native.Nat.{ℕ, _+_}
 use denote.Ref.{now}
-use native.Mathlib.Omega.{arith}
 use Rattle.terms.proofs.UseLaws.{rewrites}
 use Rattle.terms.proofs.RewriteLaws.{stride-in, whole-space, whole-writes}
 use borrow.Author.Needs.{needs}
