@@ -29,4 +29,12 @@ pub mod Answers
 pub mod Marked
 pub mod SubstitutionLaws
 pub mod ParameterLaws
+pub mod SearchLaws
+pub mod RewriteLaws
+pub mod InsertLaws
+pub mod UseLaws
+pub mod ListLaws
+pub mod KeptLaws
+pub mod FormedLists
 pub mod Examples
+pub mod BinderExamples

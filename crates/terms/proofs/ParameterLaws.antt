@@ -1,16 +1,15 @@
 -- Parameters in the bytes: one, and going through them. Assumes nothing.
-use mathlib.Core.Path.{_≡_, refl, sym, _∙_}
+use mathlib.Core.Path.{_≡_, refl, _∙_}
 use mathlib.Core.Bool.{Bool, true, false, _&&_, _||_}
 use mathlib.Core.List.{List, [], _∷_}
-use Prim.Native.Nat.{ℕ, zero, suc, _+_, _-_, _≤_, _<_}
+use Prim.Native.Nat.{ℕ, suc, _+_, _-_, _≤_, _<_}
 use native.Mathlib.Omega.{arith}
 use borrow.Author.Tests.{eq-eqb, ne-eqb}
 use lib.Dec.{eqb}
 use Rattle.terms.specs.declared.Lookup.{Lookup}
 use Rattle.terms.specs.declared.Lookup.the-variants.{At, Nothing}
-use Rattle.terms.specs.declared.ParametersRead.{ParametersRead}
 use Rattle.terms.specs.declared.ParametersRead.the-variants.{Through, Faulty}
-use Rattle.terms.specs.Parser.{Result, Parser, got, refused, bind, pick, number}
+use Rattle.terms.specs.Parser.{Result, got, refused, bind, pick, number}
 use Rattle.terms.specs.Shape.{definition, ordinary, ceiling}
 use Rattle.terms.specs.Questions.{Parameter, sameParameter, contains}
 use Rattle.terms.specs.Parameters.{parameter, parameters, lastFrom, lastIndex, passed, indexIn, past, isFound}

@@ -11,11 +11,11 @@ use lib.Dec.{eqb}
 use lib.ListN.{length}
 use Rattle.terms.specs.Result.{pick}
 use Rattle.terms.specs.Term.{Term, Parts, var, node, end, num, sub}
-use Rattle.terms.specs.Tree.{tag, unknown}
-use Rattle.terms.specs.Questions.{Parameter, sameParameter, contains, first, parameterOf}
+use Rattle.terms.specs.Tree.{tag}
+use Rattle.terms.specs.Questions.{Parameter, sameParameter, contains, first}
 use Rattle.terms.specs.Substitution.{orElse, or, substitute-once, substitute-row, Entry, Receiver, TypeSubstitution, get, receiver, extend, instantiated, instantiate, contextual, argument-context, selfOf, with-self, zipped, apply}
 use Rattle.terms.specs.Shape.{Shape, layout}
-use Rattle.terms.specs.Formed.{Formed, Fit, TakesNumber, afterNumber, TakesTerm, afterTerm}
+use Rattle.terms.specs.Formed.{Formed, Fit, afterNumber, afterTerm}
 
 -- ---- `substitute_once`
 
@@ -48,7 +48,7 @@ module _ (f : Term → Option Term) (nothing : (t : Term) → f t ≡ none) wher
     row-nothing (sub t ps) = rw (substitute-nothing t, row-nothing ps)
 
 -- what is formed stays formed, where the terms inserted are formed
-pub FormedOr : Option Term → Type 0
+unfoldable pub FormedOr : Option Term → Type 0
 FormedOr none = Unit {0}
 FormedOr (some u) = Formed u
 
@@ -160,3 +160,14 @@ pub apply-some : (ps : List Parameter) (value : Term) (s : TypeSubstitution) (ts
     → apply ps value s ts ≡ some (instantiate (extend s (zipped ps ts)) value)
 unfolding apply
 apply-some ps value s ts h = rw (eq-eqb (length ts) (length ps) h)
+
+-- where it gives a term there are as many arguments as parameters, and it instantiates
+pub apply-gives : (ps : List Parameter) (value : Term) (s : TypeSubstitution) (ts : List Term) (u : Term) → apply ps value s ts ≡ some u
+    → (length ts ≡ length ps) × (instantiate (extend s (zipped ps ts)) value ≡ u)
+unfolding apply
+apply-gives ps value s ts u e = go (eqb (length ts) (length ps)) refl e
+  where
+    go : (b : Bool) → eqb (length ts) (length ps) ≡ b → pick b (some (instantiate (extend s (zipped ps ts)) value)) none ≡ some u
+        → (length ts ≡ length ps) × (instantiate (extend s (zipped ps ts)) value ≡ u)
+    go true h k = (eqb-true (length ts) (length ps) h, cc)
+    go false h k = absurd (let z : _≡_ {A = ℕ} 0 1 = cc in omega arith)

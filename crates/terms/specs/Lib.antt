@@ -20,3 +20,6 @@ pub mod Substitution
 pub mod Recovery
 pub mod Recovering
 pub mod Parameters
+pub mod Rows
+pub mod Search
+pub mod Rewriting

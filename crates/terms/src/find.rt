@@ -4,14 +4,19 @@ use super::NumberRead;
 use super::ParameterRead;
 use super::ParametersRead;
 use super::numbers::read_number;
+use super::runs::wide;
 use super::values::DEFINITION;
 use super::values::ORDINARY;
 ghost use mathlib.Core.Path.{_≡_};
 ghost use mathlib.Core.Bool.{_&&_};
+ghost use Prim.Native.Nat.{_-_, _≤_, _<_};
 ghost use lib.Dec.{eqb};
+ghost use lib.ListN.{length};
 ghost use Rattle.terms.specs.Result.{pick};
+ghost use Rattle.terms.specs.Held.{span};
 ghost use Rattle.terms.specs.Number.{resultOf};
 ghost use Rattle.terms.specs.Parameters.{parameter, parameters, parameterRead, passed, past, indexIn};
+ghost use Rattle.terms.specs.Search.{stride, lastAt, entryAt, receiverAt, nthAt};
 
 // Reads a parameter: an owner and a position.
 fn parameter_at(s: &[u8], at: usize) -> ParameterRead
@@ -84,5 +89,107 @@ pub fn find_parameter(s: &[u8], at: usize, count: u64, owner: u64, position: u64
     match r {
         ParametersRead::Through(next, best) => best,
         ParametersRead::Faulty(c) => Lookup::Nothing,
+    }
+}
+
+pub fn long(x: u32) -> u64
+    ensures { λ r. ⌜ r ≡ x ⌝ }
+{
+    x as u64
+}
+
+// How many tokens a term has whose first token this is.
+fn span_of(k: u32, v: u32) -> usize
+    ensures { λ r. ⌜ r ≡ span k v ⌝ }
+{
+    if k < 2 {
+        return 1;
+    }
+    wide(v)
+}
+
+// How far the term at i goes, within `room`.
+pub fn stride(kinds: &[u32], vals: &[u32], i: usize, room: usize) -> usize
+    requires { ⌜ (i < length (now kinds)) × (length (now vals) ≡ length (now kinds)) ⌝ }
+    ensures { λ r. ⌜ r ≡ stride (now (kinds .entry)) (now (vals .entry)) i room ⌝ }
+{
+    let s = span_of(kinds[i], vals[i]);
+    if s == 0 {
+        return 1;
+    }
+    if room < s {
+        return room;
+    }
+    s
+}
+
+// Looks in a row of records, each of `width` numbers and a term, for the last one with this first and this last number. Linear in the records.
+fn find_record(
+    kinds: &[u32],
+    vals: &[u32],
+    from: usize,
+    end: usize,
+    width: usize,
+    first: u64,
+    last: u64,
+) -> Lookup
+    requires areas { ⌜ (end ≤ length (now kinds)) × (length (now vals) ≡ length (now kinds)) ⌝ }
+    requires width { ⌜ (1 ≤ width) × (width ≤ 2) ⌝ }
+    ensures { λ r. ⌜ r ≡ lastAt (now (kinds .entry)) (now (vals .entry)) width first last (end - from) from end Lookup.Nothing ⌝ }
+{
+    let mut best = Lookup::Nothing;
+    let mut i = from;
+    while i < end {
+        if end - i <= width {
+            return best;
+        }
+        let t = i + width;
+        best = later(best, t, long(vals[i]), long(vals[t - 1]), first, last);
+        i = t + stride(kinds, vals, t, end - t);
+    }
+    best
+}
+
+// The place of the last entry's term for an owner and a position, in a row of entries.
+pub fn find_entry(
+    kinds: &[u32],
+    vals: &[u32],
+    from: usize,
+    end: usize,
+    owner: u64,
+    position: u64,
+) -> Lookup
+    requires { ⌜ (end ≤ length (now kinds)) × (length (now vals) ≡ length (now kinds)) ⌝ }
+    ensures { λ r. ⌜ r ≡ entryAt (now (kinds .entry)) (now (vals .entry)) from end owner position ⌝ }
+{
+    find_record(kinds, vals, from, end, 2, owner, position)
+}
+
+// The place of the last receiver's term for an owner, in a row of receivers.
+pub fn find_receiver(kinds: &[u32], vals: &[u32], from: usize, end: usize, owner: u64) -> Lookup
+    requires { ⌜ (end ≤ length (now kinds)) × (length (now vals) ≡ length (now kinds)) ⌝ }
+    ensures { λ r. ⌜ r ≡ receiverAt (now (kinds .entry)) (now (vals .entry)) from end owner ⌝ }
+{
+    find_record(kinds, vals, from, end, 1, owner, owner)
+}
+
+// The place of the n-th term from a place on.
+pub fn nth_term(kinds: &[u32], vals: &[u32], from: usize, n: usize) -> Lookup
+    requires { ⌜ length (now vals) ≡ length (now kinds) ⌝ }
+    ensures { λ r. ⌜ r ≡ nthAt (now (kinds .entry)) (now (vals .entry)) n from ⌝ }
+{
+    let mut i = from;
+    let mut left = n;
+    while 0 < left {
+        if kinds.len() <= i {
+            return Lookup::Nothing;
+        }
+        i += stride(kinds, vals, i, kinds.len() - i);
+        left -= 1;
+    }
+    if i < kinds.len() {
+        Lookup::At(i)
+    } else {
+        Lookup::Nothing
     }
 }

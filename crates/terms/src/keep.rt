@@ -13,7 +13,7 @@ ghost use Rattle.terms.specs.Reading.{term, bare};
 ghost use Rattle.terms.specs.Done.{Room, RoomAfter, answer, kept, contents, Clearable, Cleared};
 
 // Clears what a refusal has left from `p` on, and what was read past the limit.
-fn clear_rest(kinds: &mut [u32], vals: &mut [u32], p: Place, left: usize, r: Step) -> Step
+pub fn clear_rest(kinds: &mut [u32], vals: &mut [u32], p: Place, left: usize, r: Step) -> Step
     requires { ⌜ Clearable p left r ⌝ }
     ensures same { λ q. ⌜ q ≡ r ⌝ }
     ensures cleared { λ _. ⌜ Cleared p left (area (now (kinds .entry)) (now (vals .entry))) (area (now (kinds .exit)) (now (vals .exit))) r ⌝ }

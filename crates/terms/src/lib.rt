@@ -2,10 +2,12 @@
 mod find;
 mod keep;
 mod kinds;
+mod lists;
 mod numbers;
 mod questions;
 mod read;
 mod recover;
+mod rewrite;
 mod runs;
 mod satisfy;
 mod store;
@@ -13,15 +15,27 @@ mod values;
 mod views;
 mod write;
 
+pub use find::find_entry;
 pub use find::find_parameter;
+pub use find::find_receiver;
+pub use find::nth_term;
 pub use find::skip_parameters;
 pub use keep::keep_nominal;
 pub use keep::keep_term;
+pub use lists::keep_entries;
+pub use lists::keep_receivers;
+pub use lists::keep_terms;
 pub use numbers::number_len;
 pub use numbers::read_number;
 pub use numbers::write_number;
 pub use questions::ask;
 pub use recover::recover_from;
+pub use rewrite::context;
+pub use rewrite::family;
+pub use rewrite::instantiation;
+pub use rewrite::rewrite_run;
+pub use rewrite::self_only;
+pub use rewrite::write_term;
 pub use satisfy::satisfies;
 pub use satisfy::satisfies_for;
 pub use store::clear_tokens;
@@ -110,4 +124,24 @@ pub enum ParameterRead {
 pub enum ParametersRead {
     Through(usize, Lookup),
     Faulty(u8),
+}
+
+// What takes the place of binders. A substitution is two rows in the areas: its entries from `entries` up to `receivers`, its receivers from there up
+// to `finish`. `count` parameters stand at a position of the order's bytes, and their arguments from `arguments` on in the areas. In a `context` the
+// parameters have no arguments: one that the substitution does not have becomes Unknown, and receivers are not looked at.
+pub struct Binders {
+    pub context: bool,
+    pub entries: usize,
+    pub receivers: usize,
+    pub finish: usize,
+    pub parameters: usize,
+    pub count: u64,
+    pub arguments: usize,
+}
+
+// What takes the place of a term: the term itself, the one at a place, or Unknown.
+pub enum Choice {
+    Keep,
+    By(usize),
+    Unknown,
 }

@@ -1,6 +1,5 @@
 -- `later`: by the two tests. Assumes nothing.
 use Rattle.terms.proofs.ParameterLaws.{later-same, later-owner, later-position}
-use borrow.Author.Needs.{needs}
 use Rattle.terms.proofs.find.later.Statement.{statement}
 use Rattle.terms.proofs.find.later.Tie as tie
 

@@ -1,6 +1,6 @@
 -- `pass_parameters`. Invariant: the parameters that are left, with what was found, give the answer. Assumes nothing.
 use Rattle.terms.proofs.ParameterLaws.{pass-end, pass-stop, pass-more}
-use mathlib.Core.Path.{_≡_, refl, sym, _∙_}
+use mathlib.Core.Path.{_≡_, _∙_}
 use Prim.Native.Nat.{_-_, _≤_}
 use native.Mathlib.Nat.{sub-zero}
 use native.Mathlib.Omega.{arith}
