@@ -1,9 +1,9 @@
 -- What is chosen for a term is what the step of each use gives: `instantiate`, `apply`, `argument_context`. Assumes nothing.
 use mathlib.Core.Path.{_≡_, refl, sym, ap, _∙_}
 use mathlib.Core.Bool.{Bool, true, false}
-use mathlib.Core.List.{List, [], _++_, append-nil}
+use mathlib.Core.List.{List, [], _∷_, _++_, append-nil}
 use mathlib.Core.Option.{Option, none, some}
-use Prim.Native.Nat.{ℕ, _+_, _-_}
+use Prim.Native.Nat.{ℕ, _+_, _-_, _≤_}
 use native.Mathlib.Omega.{arith}
 use borrow.Author.Tests.{eq-eqb, ne-eqb, eqb-true, eqb-false}
 use lib.Dec.{eqb}
@@ -13,17 +13,19 @@ use Rattle.terms.specs.declared.Lookup.the-variants.{At, Nothing}
 use Rattle.terms.specs.declared.Binders.{Binders}
 use Rattle.terms.specs.declared.Choice.{Choice}
 use Rattle.terms.specs.declared.Choice.the-variants.{Keep, Unknown}
-use Rattle.terms.specs.Result.{pick}
-use Rattle.terms.specs.Term.{Term, Parts, var, node, end, num, sub, bytes}
-use Rattle.terms.specs.Held.{Held}
+use Rattle.terms.specs.Result.{got, pick}
+use Rattle.terms.specs.Tokens.{spell}
+use Rattle.terms.specs.Term.{Term, Parts, var, node, end, num, sub, bytes, items}
+use Rattle.terms.specs.Held.{Held, HeldParts}
 use Rattle.terms.specs.Shape.{layout}
 use Rattle.terms.specs.Formed.{Formed, Fit, TakesNumber, afterNumber, TakesTerm}
 use Rattle.terms.specs.Tree.{tag, row, nums, unknown}
 use Rattle.terms.specs.Questions.{Parameter, contains, first, second}
 use Rattle.terms.specs.Substitution.{orElse, substitute-once, Entry, Receiver, TypeSubstitution, get, receiver, extend, instantiated, instantiate, contextual, argument-context, with-self, zipped}
-use Rattle.terms.specs.Parameters.{parameters, lastFrom, lastIndex, isFound}
+use Rattle.terms.specs.Parameters.{isFound, lastFrom, lastIndex, parameters}
+use Rattle.terms.specs.Rows.{entryRow, receiverRow}
 use Rattle.terms.specs.Search.{Finds, entryAt, receiverAt, argumentFor}
-use Rattle.terms.specs.Rewriting.{by, index, generic, inContext, chosen, written, Agrees, HeldBinders, Rewrites}
+use Rattle.terms.specs.Rewriting.{by, index, generic, inContext, chosen, written, Agrees, HeldBinders, Rewrites, forInstance, forContext, forFamily}
 use Rattle.terms.proofs.HeldLaws.{held-first, held-node, held-num, headKind}
 use Rattle.terms.proofs.ParameterLaws.{found-contains}
 use Rattle.terms.proofs.SubstitutionLaws.{else-none, get-append, with-self-is, apply-gives}
@@ -220,3 +222,31 @@ module _ (ks vs s : List ℕ) (b : Binders) (a : ℕ) where
           let q = apply-gives ps t (record { parameters = es; receivers = rs }) ts u g in
           told _ (family-bytes t es rs ps ts w h k c (λ p. argument-held ks vs (b .arguments) e p ps ts (q .0) r) ∙ ap bytes (q .1));
     }
+
+-- ---- the binders of each use are held, where their rows are
+
+module _ (ks vs s : List ℕ) where
+  empty-held : (a : ℕ) → a ≤ length ks → HeldParts ks vs a a end
+  unfolding items spell
+  empty-held a h = record { tokens = refl; ends = omega arith; within = h }
+
+  pub family-binders : (e r f p n a : ℕ) (es : List Entry) (rs : List Receiver) (ps : List Parameter) (m : ℕ) → HeldParts ks vs e r (entryRow es) → HeldParts ks vs r f (receiverRow rs)
+      → parameters s n p ≡ got ps m → HeldBinders ks vs s (forFamily e r f p n a) es rs ps
+  family-binders e r f p n a es rs ps m h k q = record { entries = h; receivers = k; after = m; parameters = q }
+
+  pub instance-binders : (e r f : ℕ) (es : List Entry) (rs : List Receiver) → HeldParts ks vs e r (entryRow es) → HeldParts ks vs r f (receiverRow rs)
+      → HeldBinders ks vs s (forInstance e r f) es rs []
+  unfolding parameters
+  instance-binders e r f es rs h k = record { entries = h; receivers = k; after = 0; parameters = refl }
+
+  -- an owner and a replacement, read as one receiver
+  pub self-binders : (r f o : ℕ) (u : Term) → HeldParts ks vs r f (receiverRow (record { owner = o; term = u } ∷ []))
+      → HeldBinders ks vs s (forInstance r r f) [] (record { owner = o; term = u } ∷ []) []
+  unfolding entryRow
+  self-binders r f o u k = instance-binders r r f [] _ (empty-held r (omega (arith, k .ends, k .within))) k
+
+  -- the receivers are left out: `argument-context-receivers` says that they play no part
+  pub context-binders : (e r p n : ℕ) (es : List Entry) (ps : List Parameter) (m : ℕ) → HeldParts ks vs e r (entryRow es) → parameters s n p ≡ got ps m
+      → HeldBinders ks vs s (forContext e r p n) es [] ps
+  unfolding receiverRow
+  context-binders e r p n es ps m h q = record { entries = h; receivers = empty-held r (h .within); after = m; parameters = q }

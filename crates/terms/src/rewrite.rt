@@ -31,6 +31,7 @@ fn word(words: &[u32], i: usize) -> u64
     0
 }
 
+// What was found, or the term itself.
 fn taken(found: Lookup) -> Choice
     ensures { λ r. ⌜ r ≡ by found Choice.Keep ⌝ }
 {
