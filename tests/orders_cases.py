@@ -906,9 +906,13 @@ def listing():
 
 
 def slips():
-    from orders_slips import RUN_SLIPS, SLIPS
+    from orders_slips import PLAIN, RUN_SLIPS, SLIPS
     check_stated()
     missed = 0
+    for how in PLAIN:
+        for comment, body, outcome in CASES + MORE:
+            if reference.answer(body, how) != stated(outcome, body):
+                sys.exit("%s has no fault, but differs: %s" % (how.__name__, comment))
     for name, how in SLIPS.items():
         if name in RUN_SLIPS:
             continue
