@@ -19,9 +19,9 @@ what the unrefused ones answer; an entry that can occur but has a share below
 """
 
 import argparse
-import os
 import random
 import shlex
+import shutil
 import subprocess
 import sys
 
@@ -50,6 +50,8 @@ ANSWERS = {
     20: ("same", "changed", "new Error"),
 }
 I8, NEVER = (BUILTIN, 0), (BUILTIN, 10)
+# A term that add_inside puts into an order.
+NEW = (HOST, 0)
 HOLES = (THE_UNKNOWN, THE_ERROR, (INFERENCE, 0))
 
 
@@ -95,6 +97,13 @@ class Fields(Orders):
 
     def read(self):
         return self.row(self.ORDERS[self.byte()][0], 1)
+
+
+class Bare:
+    """A nominal as a field of an order."""
+
+    def __init__(self, nominal):
+        self.nominal = nominal
 
 
 def height(term):
@@ -274,6 +283,17 @@ class Maker:
             term = self.somewhere(term, self.hole, 0.1)
         return term
 
+    def two_copies(self, term):
+        """A copy with a hole, and one with changes on the way to that hole."""
+        parts = children(term)
+        if not parts or self.chance(0.15):
+            return self.hole(term), term
+        at = self.rng.randrange(len(parts))
+        left, right = self.two_copies(parts[at])
+        left = with_children(term, parts[:at] + (left,) + parts[at + 1:])
+        right = with_children(term, parts[:at] + (right,) + parts[at + 1:])
+        return left, self.other(right) if self.chance(0.35) else right
+
     # Orders
 
     def order(self):
@@ -288,7 +308,7 @@ class Maker:
         right = self.with_holes(left)
         left = self.with_holes(left)
         if self.chance(0.5):
-            right = self.somewhere(right, self.other)
+            right = self.somewhere(right, self.other, self.rng.choice((0.2, 0.5)))
         self.put(left, right)
 
     def order_10(self):
@@ -307,19 +327,21 @@ class Maker:
             right = self.somewhere(right, self.other)
         elif pick == 5:
             left, right = self.around([left]), self.around([right])
+        elif pick == 7:
+            # A Set inside, whose access may weaken too.
+            left = (tag, 1) + ((SET, 1, left[2]),) + left[3:]
+            right = (tag, 0) + ((SET, self.rng.randrange(2), right[2]),) + right[3:]
         elif pick == 6:
             right = self.rng.choice((self.hole(right), (MAP, 0) + (right[2],) * 2, (SET, 0, right[2]), (REFERENCE, 0, right[2])))
         self.put(left, right)
 
     def order_11(self):
         self.without(UNKNOWN, ERROR)
-        base = self.term()
-        left = base
-        for _ in range(self.rng.choice((1, 1, 2, 3))):
+        left, right = self.two_copies(self.term())
+        if self.chance(0.4):
             left = self.somewhere(left, self.hole, 0.1)
-        right = self.with_holes(base)
-        for _ in range(self.rng.choice((0, 0, 1, 2))):
-            right = self.somewhere(right, self.other)
+        if self.chance(0.3):
+            right = self.with_holes(right)
         self.put(left, right)
 
     def generic_leaves(self):
@@ -361,7 +383,7 @@ class Maker:
     def order_15(self):
         pick = self.rng.randrange(6)
         if pick == 0:
-            self.put((BUILTIN, self.rng.choice((10, 10, 11, self.rng.randrange(8), self.rng.randrange(32)))))
+            self.put((BUILTIN, self.rng.choice((10, 10, 11, 0, 7, 7, 8, 8, self.rng.randrange(8), self.rng.randrange(32)))))
             return
         if pick <= 3:
             self.without(UNKNOWN, ERROR, INFERENCE, GENERIC, SELF_TYPE)
@@ -390,13 +412,17 @@ class Maker:
         for _ in range(rng.choice((0, 0, 1, 1, 2))):
             member = rng.randrange(6)
             interface = (declaration, arguments, tuple(pair for pair in members if self.chance(0.5)))
+            if self.chance(0.15) and member < 5:
+                # The interface asks for a reflexive projection in its turn.
+                inner = (PROJECTION, receiver, (declaration, arguments, ()), 5, ())
+                interface = interface[:2] + (tuple(pair for pair in interface[2] if pair[0] < 5) + ((5, inner),),)
             asked[member] = (PROJECTION, receiver, interface, member, ())
             if self.chance(0.35):
                 asked[member] = self.other(asked[member])
         required = (declaration, arguments, tuple(sorted(asked.items())))
         if self.chance(0.15):
             required = self.other_nominal(required)
-        self.put(nominal, required, receiver)
+        self.put(Bare(nominal), Bare(required), receiver)
 
     def order_18(self):
         self.generic_leaves()
@@ -428,19 +454,31 @@ class Maker:
         return term
 
     def wide(self, one):
-        """A term that uses about all visits and children, if one takes the place of a projection."""
+        """A term that uses about all visits and children, and the value that stands for its projection one.
+
+        The term is a Tuple of a projection with an own member and a tail. The
+        receiver of that projection has copies of one.
+        """
         rng = self.rng
         copies = rng.randint(12, 60)
-        projection, width = one
-        receiver = (TUPLE, (projection,) * copies)
-        big = (PROJECTION, receiver, (9, (), ((0, I8),)), 0, ())
-        left = 8192 - 5 - copies * (3 + width(copies))
-        tail = []
-        while len(tail) < left - 6:
-            tail.append(THE_UNKNOWN)
-        most = rng.choice((6, copies, copies + 8))
-        tail += [self.term(rng.choice((1, 1, 2, 4))) if self.chance(0.4) else THE_UNKNOWN for _ in range(rng.randint(0, most))]
-        return (TUPLE, (big,) + tuple(tail[:1200]))
+        width = max(1, (8187 - rng.randint(0, 12)) // copies - 3 - rng.randint(0, 3))
+        big = (PROJECTION, (TUPLE, (one,) * copies), (9, (), ((0, I8),)), 0, ())
+        # The visits that are left for the tail.
+        left = 8187 - copies * (3 + width)
+        pick = rng.random()
+        if pick < 0.4:
+            # Children close to 8,192.
+            tail = [THE_UNKNOWN] * (8192 - 3 - copies * (2 + width) + rng.choice((-1, 0, 1, 1, 2)))
+        else:
+            # The visits end inside a term with several kinds of children.
+            tail = [THE_UNKNOWN] * (left - rng.randrange(7))
+            tail.append(rng.choice((
+                (rng.choice(NOMINALS), (0, (I8, I8), ((0, I8), (1, I8)))),
+                (PROJECTION, I8, (7, (I8, I8), ((4, I8), (5, I8))), 0, (I8,) * rng.randrange(3)),
+                (PROJECTION, I8, (7, (I8,), ((0, (TUPLE, (I8, I8))), (5, I8))), 0, ()),
+                (FUNCTION, (I8, I8), I8), (MAP, 1, I8, I8), (TUPLE, (THE_UNKNOWN,) * rng.randrange(2 * copies)), self.term(4))))
+            tail += [self.term(rng.choice((1, 1, 2))) for _ in range(rng.randrange(4))]
+        return (TUPLE, (big,) + tuple(tail[:1000])), (TUPLE, (THE_UNKNOWN,) * width)
 
     def order_19(self):
         rng = self.rng
@@ -460,18 +498,12 @@ class Maker:
             interface = interface[:2] + (interface[2][:at] + ((interface[2][at][0], new),) + interface[2][at + 1:],)
         term = self.with_pool()
         if self.chance(0.08):
-            term = self.deep(term)
-        elif self.chance(0.06):
-            copies_width = rng.randint(0, 3)
-            owner, interface = I8, (1, (), ((0, THE_UNKNOWN),))
-
-            def width(copies):
-                found = max(1, (8187 - rng.randint(0, 12)) // copies - 3 - copies_width)
-                nonlocal interface
-                interface = (1, (), ((0, (TUPLE, (THE_UNKNOWN,) * found)),))
-                return found
-            term = self.wide(((PROJECTION, I8, (1, (), ()), 0, ()), width))
-        self.put(term, interface, owner)
+            term = self.deep(term if self.chance(0.8) else I8)
+        elif self.chance(0.09):
+            owner = I8
+            term, value = self.wide((PROJECTION, I8, (1, (), ()), 0, ()))
+            interface = (1, (), ((0, value),))
+        self.put(term, Bare(interface), owner)
 
     def with_pool(self):
         self.pool_share = 0.5
@@ -496,19 +528,14 @@ class Maker:
         if self.chance(0.15):
             term = self.somewhere(term, self.other)
         if self.chance(0.08):
-            term = self.deep(term)
-        elif self.chance(0.06):
-            copies_width = rng.randint(0, 3)
+            term = self.deep(term if self.chance(0.8) else I8)
+        elif self.chance(0.09):
             one = (PROJECTION, I8, (1, (), ()), 0, ())
-
-            def width(copies):
-                found = max(1, (8187 - rng.randint(0, 12)) // copies - 3 - copies_width)
-                rules.insert(0, (one, (TUPLE, (THE_UNKNOWN,) * found)))
-                return found
-            term = self.wide((one, width))
+            term, value = self.wide(one)
+            rules.insert(0, (one, value))
         self.put(len(rules))
         for (_, receiver, interface, member, arguments), value in rules:
-            self.put(interface, receiver, member, len(arguments), *arguments, value)
+            self.put(Bare(interface), receiver, member, len(arguments), *arguments, value)
         self.put(term)
 
     # Bytes
@@ -518,36 +545,29 @@ class Maker:
         for piece in self.pieces:
             if isinstance(piece, int):
                 out += number_bytes(piece)
-            elif len(piece) == 3 and isinstance(piece[2], tuple) and isinstance(piece[1], tuple) and self.is_nominal(piece):
-                out += nominal_written(piece)
+            elif isinstance(piece, Bare):
+                out += nominal_written(piece.nominal)
             else:
                 out += written(piece)
         return bytes(out)
 
-    def is_nominal(self, piece):
-        """A Function has a term at the end, a nominal has pairs (member, term)."""
-        return all(isinstance(pair, tuple) and len(pair) == 2 and isinstance(pair[1], tuple) for pair in piece[2])
-
     def terms_at(self):
-        return [at for at, piece in enumerate(self.pieces)
-                if not isinstance(piece, int) and not (len(piece) == 3 and isinstance(piece[1], tuple)
-                                                       and isinstance(piece[2], tuple) and self.is_nominal(piece))]
+        return [at for at, piece in enumerate(self.pieces) if isinstance(piece, tuple)]
 
     def nominals_at(self):
-        terms = set(self.terms_at())
-        return [at for at, piece in enumerate(self.pieces) if not isinstance(piece, int) and at not in terms]
+        return [at for at, piece in enumerate(self.pieces) if isinstance(piece, Bare)]
 
     def add_inside(self, change):
         """One of the terms of the order changed, or one more argument in a nominal."""
         nominals = self.nominals_at()
         if nominals and self.chance(0.4):
             at = self.rng.choice(nominals)
-            declaration, arguments, members = self.pieces[at]
+            declaration, arguments, members = self.pieces[at].nominal
             if members and self.chance(0.5):
                 members = members[:-1] + ((members[-1][0], change(members[-1][1])),)
             else:
-                arguments += (change(I8),)
-            self.pieces[at] = (declaration, arguments, members)
+                arguments += (change(NEW),)
+            self.pieces[at] = Bare((declaration, arguments, members))
         else:
             at = self.rng.choice(self.terms_at())
             self.pieces[at] = change(self.pieces[at])
@@ -566,24 +586,13 @@ class Maker:
         before = Fields(self.data())
         before.read()
         more = nodes - before.nodes_read
-        if more < 3:
-            return
-        self.add_inside(lambda term: (TUPLE, (term,) + (THE_UNKNOWN,) * (more - 1)))
-        after = Fields(self.data())
-        after.read()
-        # A new argument of a nominal brought one node more.
-        if after.nodes_read > nodes:
-            self.pieces = [self.shortened(piece, after.nodes_read - nodes) for piece in self.pieces]
 
-    def shortened(self, piece, by):
-        if isinstance(piece, int):
-            return piece
-        if piece[0] == TUPLE and len(piece) == 2 and isinstance(piece[1], tuple) and len(piece[1]) > 500:
-            return (TUPLE, piece[1][:-by])
-        if piece in [self.pieces[at] for at in self.nominals_at()] and piece[1] and piece[1][-1][0] == TUPLE \
-                and len(piece[1][-1][1]) > 500:
-            return (piece[0], piece[1][:-1] + ((TUPLE, piece[1][-1][1][:-by]),), piece[2])
-        return piece
+        def change(term):
+            # A new argument of a nominal is one node more.
+            pads = more - 1 - (term is NEW)
+            return (TUPLE, (term,) + (THE_UNKNOWN,) * pads)
+        if more >= 3:
+            self.add_inside(change)
 
 
 # Damage
@@ -625,7 +634,7 @@ def with_falling_members(maker):
     nominal = (rng.randrange(3), (), ((last, maker.leaf()), (rng.choice((last, last, max(0, last - 1), 0)), maker.leaf())))
     nominals = maker.nominals_at()
     if nominals and rng.random() < 0.5:
-        maker.pieces[rng.choice(nominals)] = nominal
+        maker.pieces[rng.choice(nominals)] = Bare(nominal)
     elif rng.random() < 0.5:
         maker.add_inside(lambda term: (TUPLE, (term, (rng.choice(NOMINALS), nominal))))
     else:
@@ -654,11 +663,11 @@ def random_order(rng):
             fields.read()
             return data[:fields.deepest[0]] + rng.choice((b"", b"\x14", b"\xff\x02"))
         return data
-    if pick < 0.055:
-        maker.make_nodes(rng.choice((2047, 2048, 2048, 2049, 2049, 2050)))
+    if pick < 0.06:
+        maker.make_nodes(rng.choice((2047, 2048, 2048, 2049, 2049, 2049, 2050)))
         data = maker.data()
         return data if rng.random() < 0.8 else rng.choice((data + b"\x02", data[:-1]))
-    if pick < 0.075:
+    if pick < 0.08:
         with_falling_members(maker)
         return maker.data()
     data = maker.data()
@@ -952,7 +961,7 @@ def main():
     if bool(options.program) == options.self:
         parser.error("give --program or --self")
     command = shlex.split(options.program) if options.program else None
-    if command and not os.path.exists(command[0]):
+    if command and not shutil.which(command[0]):
         sys.exit("there is no program %s" % command[0])
     if options.slip == "all":
         return check_slips(command, options)
