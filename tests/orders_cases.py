@@ -818,7 +818,8 @@ NUMBER_FIELDS = [
     ("20 argument count of a rule's interface", "14 01 00 {}", True),
     ("20 member count of a rule's interface", "14 01 00 00 {}", True),
     ("20 member of a rule's interface", "14 01 00 00 01 {} 02 02 00 00 02 02", False),
-    ("20 member of a rule", "14 01 00 00 00 02 {} 00 02 02", False), ("20 argument count of a rule", "14 01 00 00 00 02 00 {}", True),
+    ("20 member of a rule", "14 01 00 00 00 02 {} 00 02 02", False),
+    ("20 argument count of a rule", "14 01 00 00 00 02 00 {}", True),
 ]
 for field, text, is_count in NUMBER_FIELDS:
     case(field + ": not shortest", 3, text.format("80 00"))
@@ -835,9 +836,8 @@ case("18: the arity is looked at after reading: a fault in an argument", 2, "12"
 case("18: the arity is looked at after reading: leftover bytes", 1, "12" + params() + U + NONE + seq(I32) + "00")
 
 # 2,048 and 2,049 nodes spread over the fields of one order.
-many = [U] * 1021
-case("9 2,048 nodes in two terms", "00", "09" + tup(*many, I32, I32) + tup(*many, I32, I32))
-case("9 2,049 nodes in two terms", 7, "09" + tup(*many, I32, I32, I32) + tup(*many, I32, I32))
+case("9 2,048 nodes in two terms", "00", "09" + tup(*[U] * 1023) * 2)
+case("9 2,049 nodes in two terms", 7, "09" + tup(*[U] * 1024) + tup(*[U] * 1023))
 for count, outcome in ((1545, "00"), (1546, 7)):
     # The value has 501 nodes, the entry and the receiver have one each.
     case("18 %d nodes in value, entry, receiver and arguments" % (503 + count), outcome,
