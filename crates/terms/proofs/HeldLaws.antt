@@ -122,7 +122,7 @@ items-injective t u e = items-inj t u [] [] (ap (λ (l : List Item). l ++ []) e)
 -- ---- rows
 
 module _ (ks vs : List ℕ) where
-  toks-add : (a m n : ℕ) → toks ks vs a (m + n) ≡ toks ks vs a m ++ toks ks vs (a + m) n
+  pub toks-add : (a m n : ℕ) → toks ks vs a (m + n) ≡ toks ks vs a m ++ toks ks vs (a + m) n
   unfolding spell
   toks-add a zero n = rw (zero-add, add-zero)
   toks-add a (suc m) n = rw (suc-add, add-suc, ← suc-add) (ap {B = List Item} (λ l. item (getD ks a 0) (getD vs a 0) ∷ l) (toks-add (suc a) m n))

@@ -23,3 +23,11 @@ pub mod Parameters
 pub mod Rows
 pub mod Search
 pub mod Rewriting
+pub mod Normal
+pub mod View
+pub mod Arena
+pub mod Lookup
+pub mod RuleSearch
+pub mod Walk
+pub mod Show
+pub mod Normalising

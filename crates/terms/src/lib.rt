@@ -1,18 +1,29 @@
 // The reader of terms: it stores a term as a run of tokens, in the order of its bytes, into two areas that the caller lends.
+mod alike;
 mod find;
+mod interface;
 mod keep;
 mod kinds;
 mod lists;
+mod members;
+mod normal;
 mod numbers;
+mod opening;
 mod questions;
 mod read;
 mod recover;
 mod rewrite;
+mod rows;
+mod rules;
 mod runs;
 mod satisfy;
+mod showing;
+mod slots;
 mod store;
 mod values;
+mod view;
 mod views;
+mod walking;
 mod write;
 
 pub use find::find_entry;
@@ -25,6 +36,9 @@ pub use keep::keep_term;
 pub use lists::keep_entries;
 pub use lists::keep_receivers;
 pub use lists::keep_terms;
+pub use normal::normalise;
+pub use normal::with_associated_types;
+pub use normal::write_normalised;
 pub use numbers::number_len;
 pub use numbers::read_number;
 pub use numbers::write_number;
@@ -144,4 +158,122 @@ pub enum Choice {
     Keep,
     By(usize),
     Unknown,
+}
+
+// A token: its kind and its value.
+pub struct Token {
+    pub kind: u32,
+    pub value: u32,
+}
+
+// Where a token that is seen is from: a lent one, Error, the head of a projection made anew, or nowhere.
+pub enum Spot {
+    Lent(usize),
+    Error,
+    Head,
+    Nowhere,
+}
+
+// What order 19 makes projections from: the place of the owner and its tokens, the place of the interface and the tokens of its row, and how many
+// tokens a projection has that is made anew; 0 in order 20.
+pub struct Origin {
+    pub owner: u32,
+    pub span: u32,
+    pub interface: u32,
+    pub row: u32,
+    pub size: u32,
+}
+
+// The tokens from `from` up to `end`.
+pub struct Part {
+    pub from: usize,
+    pub end: usize,
+}
+
+// A tree in words: the place of its first token, and where its children are.
+pub struct Content {
+    pub head: u32,
+    pub kids: u32,
+}
+
+pub enum Found {
+    At(Content),
+    Nothing,
+}
+
+// Which member a key is, if it is one.
+pub enum Key {
+    KeyAt(usize),
+    NoKey,
+}
+
+// How many children were put into records, or that they would be too many.
+pub struct Count {
+    pub n: usize,
+    pub over: bool,
+}
+
+// A node whose children are in records: how many, its tag, its counts of arguments and members; or that the children are too many.
+pub struct Begun {
+    pub n: usize,
+    pub tag: u32,
+    pub arguments: usize,
+    pub members: usize,
+    pub over: bool,
+}
+
+// A place in the row of a content: the next token, the row's end, how many children were passed, and the content's child word.
+pub struct Cursor {
+    pub at: usize,
+    pub end: usize,
+    pub child: usize,
+    pub kids: u32,
+}
+
+// Whether a row begins with another: the next token behind that and how many children were passed, or not.
+pub enum Met {
+    Behind(usize, usize),
+    Apart,
+}
+
+// A rule of order 20: the places of its interface and its receiver, its member, the place of its arguments and how many they are, and the place of its
+// value.
+pub struct Rule {
+    pub interface: u32,
+    pub receiver: u32,
+    pub member: u32,
+    pub arguments: u32,
+    pub count: u32,
+    pub value: u32,
+}
+
+// What a visit gives: a content, how many records are used, and the visits left; or that the children are too many.
+pub struct Walked {
+    pub head: u32,
+    pub kids: u32,
+    pub next: usize,
+    pub visits: usize,
+    pub over: bool,
+}
+
+// Bytes sized or written: the position behind them, or that there is no room.
+pub enum Shown {
+    Upto(usize),
+    Full,
+}
+
+// A normalised term: its content, the records used, its bytes, and what it was looked up by.
+pub struct Ready {
+    pub head: u32,
+    pub kids: u32,
+    pub next: usize,
+    pub size: usize,
+    pub given: Origin,
+}
+
+// What normalising answers: refusal 9; that the term's bytes are more than there is room for; or the term, whose records stay until it is written.
+pub enum Normalised {
+    Refused,
+    Long,
+    Done(Ready),
 }

@@ -1,0 +1,64 @@
+-- `show_token`. By its tests. Assumes nothing.
+use native.Mathlib.Omega.{arith}
+use denote.Ref.{now}
+use lib.ListN.{length}
+use Rattle.terms.specs.Writing.{plain}
+use Rattle.terms.proofs.ShowLaws.{kept-at, kept-full, token-full, token-written, token-sized}
+use borrow.Author.Needs.{needs}
+use Rattle.terms.proofs.showing.show_token.Statement.{statement}
+use Rattle.terms.proofs.showing.show_token.Tie as tie
+
+token-len-requires : tie.Need-token-len-requires
+token-len-requires c κs = search needs
+
+sub-if1 : tie.Need-sub-if1
+sub-if1 c = search needs
+
+returns : tie.Need-returns
+returns c =
+    let start = c .before .before .before in (
+      kept-full _ _ _,
+      token-full (start .args .on) (now (start .args .out)) (start .args .at) _ (plain (start .args .x .kind) (start .args .x .value))
+          (start .pre) (c .before .token-len .ensures) (c .if1 .taken),
+    )
+
+write-token-requires : tie.Need-write-token-requires
+write-token-requires c κs = omega (arith, c .before .before .before .before .before .pre, c .before .before .before .token-len .ensures, c .before .before .if1 .left)
+
+same-length : tie.Need-same-length
+same-length c = search needs
+
+returns-2 : tie.Need-returns-2
+returns-2 c =
+    let start = c .before .before .before .before .before .before .before .before in
+    let write-token′ = c .before .before .write-token in
+    let w = token-written (start .args .on) (now (start .args .out)) _ (start .args .at) _ (plain (start .args .x .kind) (start .args .x .value)) (c .before .before .before .before .if2 .taken)
+    (omega (arith, start .pre, c .before .before .before .before .before .before .token-len .ensures, c .before .before .before .before .before .if1 .left))
+    (write-token′ .ensures .0) (write-token′ .ensures .1) in
+    (w .0, w .1)
+
+add-t6 : tie.Need-add-t6
+add-t6 c = omega (arith, c .before .before .before .before .pre, c .before .if1 .left)
+
+returns-3 : tie.Need-returns-3
+returns-3 c =
+    let start = c .before .before .before .before in
+    let token-len′ = c .before .before .token-len in (
+      kept-at _ _ _ _ (omega arith) (omega (arith, start .pre, c .before .if1 .left)),
+      token-sized (start .args .on) (now (start .args .out)) (start .args .at)
+          _ (plain (start .args .x .kind) (start .args .x .value)) (c .if2 .left) (omega (arith, start .pre, token-len′ .ensures, c .before .if1 .left)) (omega
+          (arith, token-len′ .ensures)),
+    )
+
+pub show-token-spec : {M : Type 1} → statement M
+show-token-spec =
+    tie.close
+    (tie.spec
+    token-len-requires
+    sub-if1
+    returns
+    write-token-requires
+    same-length
+    returns-2
+    add-t6
+    returns-3)
