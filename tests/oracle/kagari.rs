@@ -10,6 +10,7 @@ use std::{
     collections::{BTreeMap, HashMap},
     hash::{Hash, Hasher},
     ops::{Deref, DerefMut},
+    panic::{self, AssertUnwindSafe},
 };
 
 include!(env!("KAGARI_TYPES"));
@@ -26,22 +27,33 @@ trait Children {
 }
 
 thread_local! {
-    static CHILDREN: Cell<usize> = const { Cell::new(0) };
+    /// How many children may still be met.
+    static LEFT: Cell<usize> = const { Cell::new(0) };
 }
+
+/// The reason for leaving a walk.
+struct TooMany;
 
 impl TypeId {
     /// Kagari's map_children, with the children counted.
     fn map_children(&self, mut map: impl FnMut(&TypeId) -> TypeId) -> Self {
         Children::map_children(self, |child| {
-            CHILDREN.set(CHILDREN.get() + 1);
+            match LEFT.get().checked_sub(1) {
+                Some(left) => LEFT.set(left),
+                None => panic::resume_unwind(Box::new(TooMany)),
+            }
             map(child)
         })
     }
 }
 
-/// What the work gives, and how many children map_children met in it.
-pub fn with_children_counted<T>(work: impl FnOnce() -> T) -> (T, usize) {
-    CHILDREN.set(0);
-    let result = work();
-    (result, CHILDREN.get())
+/// What the work gives, or None if map_children meets more children in it. The work is left at once then: to its end,
+/// an order of 8,000 bytes can take more than 100 megabytes.
+pub fn within_children<T>(most: usize, work: impl FnOnce() -> T) -> Option<T> {
+    LEFT.set(most);
+    match panic::catch_unwind(AssertUnwindSafe(work)) {
+        Ok(result) => Some(result),
+        Err(reason) if reason.is::<TooMany>() => None,
+        Err(reason) => panic::resume_unwind(reason),
+    }
 }

@@ -2,7 +2,7 @@
 
 use crate::format::{Read, Reader, Refused, put_term};
 use crate::kagari::{
-    AssociatedTypeFamily, AssociatedTypeParameters, NominalType, TypeId, associated, with_children_counted,
+    AssociatedTypeFamily, AssociatedTypeParameters, NominalType, TypeId, associated, within_children,
 };
 use crate::standins::{DefinitionId, GenericBounds};
 
@@ -119,8 +119,8 @@ fn family(fields: &mut Reader) -> Read<Vec<u8>> {
 
 /// The term that a walk gives, or refusal 9.
 fn walked(walk: impl FnOnce() -> TypeId) -> Read<Vec<u8>> {
-    let (term, children) = with_children_counted(walk);
-    if children > CHILDREN { Err(Refused(9)) } else { Ok(bytes_of(&term)) }
+    let term = within_children(CHILDREN, walk).ok_or(Refused(9))?;
+    Ok(bytes_of(&term))
 }
 
 fn with_associated_types(fields: &mut Reader) -> Read<Vec<u8>> {
