@@ -90,13 +90,20 @@ def pairs_of_terms():
     return (left + right for left in texts for right in texts)
 
 
+def reflexive_projections():
+    """Those that order 17 takes for given, and ones that differ in a part."""
+    interfaces = [(0, (), ()), (0, (), ((0, I8),)), (0, (), ((1, THE_UNKNOWN),)), (0, (I8,), ()), (1, (), ())]
+    found = [(PROJECTION, receiver, interface, member, ()) for receiver in FEW for interface in interfaces for member in (0, 1)]
+    return found + [(PROJECTION, I8, (0, (), ()), member, (I8,)) for member in (0, 1)]
+
+
 def satisfied_fields():
-    reflexive = [(PROJECTION, I8, interface, member, arguments) for interface in ((0, (), ()), (0, (), ((0, I8),)), (1, (), ()))
-                 for member in (0, 1) for arguments in ((), (I8,))]
-    required = nominals(FEW) + nominals(reflexive, (0,))
+    terms = FEW + reflexive_projections()
+    members = [()] + [((0, term),) for term in terms] + [((1, term),) for term in terms]
+    members += [((0, first), (1, last)) for first in terms for last in terms]
+    required = [(0, arguments, row) for arguments in rows([I8], 1) for row in members] + nominals(FEW, (1,))
     for nominal, other in itertools.product(nominals(FEW), required):
-        for receiver in FEW:
-            yield nominal_written(nominal) + nominal_written(other) + written(receiver)
+        yield nominal_written(nominal) + nominal_written(other) + written(I8)
 
 
 def family_fields():

@@ -188,11 +188,7 @@ impl Reader<'_> {
 
     /// Owner and position. The name, which the byte form leaves out, is empty.
     pub fn parameter(&mut self) -> Read<GenericParameterType> {
-        Ok(GenericParameterType {
-            owner: self.definition()?,
-            position: self.number()? as usize,
-            name: String::new(),
-        })
+        Ok(GenericParameterType { owner: self.definition()?, position: self.number()? as usize, name: String::new() })
     }
 
     pub fn parameters(&mut self) -> Read<Vec<GenericParameterType>> {

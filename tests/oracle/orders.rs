@@ -1,9 +1,7 @@
 //! Orders 9 to 20: the fields, then Kagari's function on them.
 
 use crate::format::{Read, Reader, Refused, put_term};
-use crate::kagari::{
-    AssociatedTypeFamily, AssociatedTypeParameters, NominalType, TypeId, associated, within_children,
-};
+use crate::kagari::{AssociatedTypeFamily, AssociatedTypeParameters, NominalType, TypeId, associated, within_children};
 use crate::standins::{DefinitionId, GenericBounds};
 
 /// Children of all terms that a visit was spent on.
