@@ -372,12 +372,12 @@ module _ (a : Nominal) (w : Term) (m : ℕ) (u : Term) (x : Projected u) where
 
 -- ---- `satisfies` is an order, and `satisfies_for` admits what it admits
 
-terms-refl : (ts : List Term) → sameTerms ts ts ≡ true
+pub terms-refl : (ts : List Term) → sameTerms ts ts ≡ true
 unfolding sameTerms
 terms-refl [] = refl
 terms-refl (t ∷ ts) = rw (same-refl t) (terms-refl ts)
 
-terms-true : (ts us : List Term) → sameTerms ts us ≡ true → ts ≡ us
+pub terms-true : (ts us : List Term) → sameTerms ts us ≡ true → ts ≡ us
 unfolding sameTerms
 terms-true [] [] h = refl
 terms-true [] (u ∷ us) h = never-true h

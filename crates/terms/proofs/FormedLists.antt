@@ -72,12 +72,12 @@ module _ (s : List ℕ) (term : Parser Term) (P : Term → Type 0) (good : (at :
 
 -- ---- what is found among formed terms is formed
 
-formed-else : (o p : Option Term) → FormedOr o → FormedOr p → FormedOr (orElse o p)
+pub formed-else : (o p : Option Term) → FormedOr o → FormedOr p → FormedOr (orElse o p)
 unfolding FormedOr
 formed-else none p h k = k
 formed-else (some t) p h k = h
 
-formed-pick : (b : Bool) (o p : Option Term) → FormedOr o → FormedOr p → FormedOr (pick b o p)
+pub formed-pick : (b : Bool) (o p : Option Term) → FormedOr o → FormedOr p → FormedOr (pick b o p)
 formed-pick true o p h k = h
 formed-pick false o p h k = k
 

@@ -53,3 +53,6 @@ pub mod VisitLaws
 pub mod WalkLaws
 pub mod ShowLaws
 pub mod NormalLaws
+pub mod RespectLaws
+pub mod FormedLaws
+pub mod NormalizeLaws

@@ -187,7 +187,7 @@ fit-term s end h = absurd (some-done (shape.term s) tt h)
 fit-term s (num n ps) h = absurd (h .0)
 fit-term s (sub t ps) h = (t, ps, refl, h .2)
 
-fit-done : (ps : Parts) → Fit shape.done ps → ps ≡ end
+pub fit-done : (ps : Parts) → Fit shape.done ps → ps ≡ end
 unfolding Fit TakesNumber TakesTerm
 fit-done end h = refl
 fit-done (num n ps) h = absurd (h .0)
@@ -237,7 +237,7 @@ unfolding headKind reflexive tag
 not-projected a w m (var v) h = refl
 not-projected a w m (node k ps) h = rw (ne-eqb k 18 (λ e. h (omega arith)))
 
-subs-called : (m : ℕ) (ts : List Term) → subs (called m ts) ≡ ts
+pub subs-called : (m : ℕ) (ts : List Term) → subs (called m ts) ≡ ts
 unfolding subs
 subs-called m ts = subs-terms ts end ∙ append-nil ts
 

@@ -52,7 +52,7 @@ unfoldable pub FormedOr : Option Term → Type 0
 FormedOr none = Unit {0}
 FormedOr (some u) = Formed u
 
-or-formed : (o : Option Term) (t : Term) → FormedOr o → Formed t → Formed (or o t)
+pub or-formed : (o : Option Term) (t : Term) → FormedOr o → Formed t → Formed (or o t)
 unfolding FormedOr
 or-formed none t h f = f
 or-formed (some u) t h f = h
