@@ -21,7 +21,7 @@ use Rattle.terms.specs.Asking.{word, tagOf}
 use Rattle.terms.specs.Tokens.{spell}
 use Rattle.terms.specs.Views.{recovery}
 use Rattle.terms.specs.Recovery.{recover-from, recover-row, reach, nominalReach, parts}
-use Rattle.terms.specs.Recovering.{putIf, Put, upto, alike}
+use Rattle.terms.specs.Recovering.{putIf, Put, upto, alike, Parted, noLeft, noRight, numberTerm, termNumber}
 use Rattle.terms.proofs.Bools.{never-true, and-false, or-true, or-right, or-false, or-none}
 use Rattle.terms.proofs.WriteLaws.{sets-append, held-bytes, spell-step, spelt-add}
 use Rattle.terms.specs.Shape as shape
@@ -231,6 +231,13 @@ alike-last ks vs i ae j be whole x h = go (decLt j be)
     go : Dec (j < be) → leb be j ≡ whole
     go (yes k) = lt-leb be j k ∙ sym (more (x .right) (x .heldRight) k over)
     go (no k) = le-leb be j (omega arith) ∙ sym (over ∙ ap (λ (y : Parts). alike end y) (row-end ks vs j be (x .right) (x .heldRight) (omega arith)))
+
+-- rows that part before the first one ends
+pub alike-parted : (ks vs : List ℕ) (i ae j be : ℕ) (whole : Bool) → Alike ks vs i ae j be whole → Parted ks i ae j be → i < ae → false ≡ whole
+alike-parted ks vs i ae j be whole x (noLeft h) k = absurd (omega arith)
+alike-parted ks vs i ae j be whole x (noRight h l) k = alike-short ks vs i ae j be whole x h l
+alike-parted ks vs i ae j be whole x (numberTerm h l p q) k = alike-number-term ks vs i ae j be whole x h l p q
+alike-parted ks vs i ae j be whole x (termNumber h l p q) k = alike-term-number ks vs i ae j be whole x h l p q
 
 -- ---- rows by parts
 
@@ -876,6 +883,13 @@ module _ (ks vs : List ℕ) (i pe stop j qe : ℕ) (out₀ out : List ℕ) (at t
               ∙ ap (λ (k : ℕ). x .done ++ partBytes (recover-row (sub (y .t) (y .ps)) k (sub (y .u) (y .qs)))) (y .counts)
               ∙ sym (append-assoc (x .done) z (partBytes (recover-row (y .ps) (y .count) (y .qs))));
         }
+
+  -- rows that part here: the first stays as it is
+  pub stays-parted : stop ≤ pe → Parted ks i stop j qe → recover-row (x .left) (x .count) (x .right) ≡ x .left
+  stays-parted hp (noLeft h) = stays-no-left h
+  stays-parted hp (noRight h k) = stays-no-right k
+  stays-parted hp (numberTerm h k p q) = stays-numbers h hp k p q
+  stays-parted hp (termNumber h k p q) = stays-terms h hp k p q
 
 -- what `skip` tells of the term that comes next
 pub told-row : (ks vs : List ℕ) (i e n : ℕ) (t : Term) (ps : Parts) → HeldParts ks vs i e (sub t ps)

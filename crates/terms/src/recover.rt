@@ -6,6 +6,7 @@ use super::runs::is_one;
 use super::runs::skip;
 use super::write::put_run;
 ghost use mathlib.Core.Path.{_≡_};
+ghost use mathlib.Core.Bool.{true, false};
 ghost use Prim.Native.Nat.{ℕ, _+_, _-_, _*_, _^_, _≤_, _<_};
 ghost use lib.Dec.{eqb};
 ghost use lib.ListN.{length};
@@ -17,7 +18,7 @@ ghost use Rattle.terms.specs.Shape.{Shape, manyTerms, nominal, done};
 ghost use Rattle.terms.specs.Formed.{Formed, Fit};
 ghost use Rattle.terms.specs.Tree.{row};
 ghost use Rattle.terms.specs.Recovery.{recover-from, recover-row, reach, nominalReach};
-ghost use Rattle.terms.specs.Recovering.{putIf, Put, upto, alike};
+ghost use Rattle.terms.specs.Recovering.{putIf, Put, upto, alike, Paired, Parted};
 
 // The place behind n terms from i on, at most e.
 fn behind_terms(kinds: &[u32], vals: &[u32], i: usize, e: usize, n: u32) -> usize
@@ -37,6 +38,24 @@ fn behind_terms(kinds: &[u32], vals: &[u32], i: usize, e: usize, n: u32) -> usiz
     p
 }
 
+// Whether the rows from i up to ae and from j up to be both go on with a number, or both with a term.
+fn paired(kinds: &[u32], i: usize, ae: usize, j: usize, be: usize) -> bool
+    requires { ⌜ (ae ≤ length (now kinds)) × (be ≤ length (now kinds)) ⌝ }
+    ensures on { λ r. ⌜ (r ≡ true → Paired (now (kinds .entry)) i ae j be) ⌝ }
+    ensures off { λ r. ⌜ (r ≡ false → Parted (now (kinds .entry)) i ae j be) ⌝ }
+{
+    if ae <= i {
+        return false;
+    }
+    if be <= j {
+        return false;
+    }
+    if kinds[i] == 0 {
+        return kinds[j] == 0;
+    }
+    kinds[j] != 0
+}
+
 // Whether two rows have the same numbers at the same places.
 fn alike_rows(kinds: &[u32], vals: &[u32], a: usize, ae: usize, b: usize, be: usize) -> bool
     requires { ⌜ (a ≤ ae) × (ae ≤ length (now kinds)) × (b ≤ be) × (be ≤ length (now kinds)) × (length (now vals) ≡ length (now kinds)) ⌝ }
@@ -44,26 +63,20 @@ fn alike_rows(kinds: &[u32], vals: &[u32], a: usize, ae: usize, b: usize, be: us
 {
     let mut i = a;
     let mut j = b;
-    while i < ae {
-        if be <= j {
-            return false;
-        }
+    while paired(kinds, i, ae, j, be) {
         if kinds[i] == 0 {
-            if kinds[j] != 0 {
-                return false;
-            }
             if vals[i] != vals[j] {
                 return false;
             }
             i += 1;
             j += 1;
         } else {
-            if kinds[j] == 0 {
-                return false;
-            }
             i += skip(kinds, vals, i, ae - i);
             j += skip(kinds, vals, j, be - j);
         }
+    }
+    if i < ae {
+        return false;
     }
     be <= j
 }
@@ -192,21 +205,12 @@ fn recover_row(
     let mut i = p;
     let mut j = q;
     let mut to = at;
-    while i < stop {
-        if qe <= j {
-            return put_run(kinds, vals, i, pe - i, out, to);
-        }
+    while paired(kinds, i, stop, j, qe) {
         if kinds[i] == 0 {
-            if kinds[j] != 0 {
-                return put_run(kinds, vals, i, pe - i, out, to);
-            }
             to = put_run(kinds, vals, i, 1, out, to);
             i += 1;
             j += 1;
         } else {
-            if kinds[j] == 0 {
-                return put_run(kinds, vals, i, pe - i, out, to);
-            }
             let n = skip(kinds, vals, i, pe - i);
             let m = skip(kinds, vals, j, qe - j);
             to = recover_term(kinds, vals, i, i + n, j, j + m, out, to);
