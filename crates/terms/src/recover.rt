@@ -4,14 +4,16 @@ use super::questions::tag_of;
 use super::questions::word_at;
 use super::runs::is_one;
 use super::runs::skip;
+use super::runs::word;
 use super::write::put_run;
 ghost use mathlib.Core.Path.{_≡_};
-ghost use mathlib.Core.Bool.{true, false};
+ghost use mathlib.Core.Bool.{true, false, _||_};
 ghost use Prim.Native.Nat.{ℕ, _+_, _-_, _*_, _^_, _≤_, _<_};
 ghost use lib.Dec.{eqb};
 ghost use lib.ListN.{length};
 ghost use Rattle.terms.specs.Result.{pick};
 ghost use Rattle.terms.specs.Asking.{word};
+ghost use Rattle.terms.specs.Views.{recovery};
 ghost use Rattle.terms.specs.Term.{Term, Parts, node, end, sub, bytes, partBytes, Subs};
 ghost use Rattle.terms.specs.Held.{Held, HeldParts};
 ghost use Rattle.terms.specs.Shape.{Shape, manyTerms, nominal, done};
@@ -114,8 +116,8 @@ fn reach_end(kinds: &[u32], vals: &[u32], p: usize, pe: usize, q: usize, qe: usi
     ensures within { λ r. ⌜ (p < r) × (r ≤ pe) ⌝ }
     ensures reached { λ r. ⌜ ((t u : Term) → HeldParts (now (kinds .entry)) (now (vals .entry)) p pe (sub t end) → HeldParts (now (kinds .entry)) (now (vals .entry)) q qe (sub u end) → Formed t → Formed u → r ≡ p + 1 + upto (reach t u) (row t)) ⌝ }
 {
-    let k = tag_of(kinds[p]);
-    if k != tag_of(kinds[q]) {
+    let k = tag_of(word(kinds, p));
+    if k != tag_of(word(kinds, q)) {
         return p + 1;
     }
     // Iter, Array, Map, Set
@@ -153,6 +155,16 @@ fn first_reach(vals: &[u32], p: usize, pe: usize, q: usize, qe: usize) -> usize
     p + 1
 }
 
+// Whether the first of two terms stays as it is, by their tags: Unknown and Error fill nothing, and Inference is never replaced.
+fn stays(k: u32, l: u32) -> bool
+    ensures { λ r. ⌜ r ≡ (recovery l || eqb k 1) ⌝ }
+{
+    if is_one(l, 2, 3, 3) {
+        return true;
+    }
+    k == 1
+}
+
 // Writes the term at p with its holes filled from the term at q where it fits, and returns the position after it.
 fn recover_term(
     kinds: &[u32],
@@ -169,12 +181,8 @@ fn recover_term(
     ensures bound { λ r. ⌜ (at ≤ r) × (r ≤ at + 6 * (pe - p) + 6 * (qe - q)) ⌝ }
     ensures put { λ r. ⌜ ((t u : Term) → HeldParts (now (kinds .entry)) (now (vals .entry)) p pe (sub t end) → HeldParts (now (kinds .entry)) (now (vals .entry)) q qe (sub u end) → Formed t → Formed u → Put (now (out .entry)) (now (out .exit)) at r (bytes (recover-from t u))) ⌝ }
 {
-    let k = tag_of(kinds[p]);
-    // Unknown and Error fill nothing, and Inference is never replaced
-    if is_one(tag_of(kinds[q]), 2, 3, 3) {
-        return put_run(kinds, vals, p, pe - p, out, at);
-    }
-    if k == 1 {
+    let k = tag_of(word(kinds, p));
+    if stays(k, tag_of(word(kinds, q))) {
         return put_run(kinds, vals, p, pe - p, out, at);
     }
     if is_one(k, 2, 3, 3) {

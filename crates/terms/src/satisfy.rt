@@ -7,6 +7,7 @@ use super::Pace;
 use super::runs::same_term;
 use super::runs::skip;
 use super::runs::wide;
+use super::runs::word;
 ghost use mathlib.Core.Path.{_≡_};
 ghost use mathlib.Core.Bool.{Bool};
 ghost use mathlib.Core.List.{List};
@@ -20,16 +21,6 @@ ghost use Rattle.terms.specs.Formed.{Formed, Fit};
 ghost use Rattle.terms.specs.Tree.{Nominal, lookUp, nominalOf};
 ghost use Rattle.terms.specs.Views.{sameOption, every, satisfies, reflexive, satisfies-for};
 ghost use Rattle.terms.specs.Satisfying.{Laid, Listed, Lists, Near, Agreed, Headed, Pairs, Inside, Looked, Short, Passes, Gave, Ended, Satisfied, covers};
-
-// The word at i, or 0 past the end.
-fn word(vals: &[u32], i: usize) -> u32
-    ensures { λ r. ⌜ r ≡ getD (now (vals .entry)) i 0 ⌝ }
-{
-    if i < vals.len() {
-        return vals[i];
-    }
-    0
-}
 
 // The place behind the term at i.
 fn behind(kinds: &[u32], vals: &[u32], i: usize) -> usize
