@@ -124,13 +124,14 @@ fn heads(kinds: &[u32], vals: &[u32], a: usize, b: usize) -> Pace
     if kinds.len() <= b + 1 {
         return Pace::Clash;
     }
-    if vals[a] != vals[b] {
+    if word(vals, a) != word(vals, b) {
         return Pace::Clash;
     }
-    if vals[a + 1] != vals[b + 1] {
+    let n = word(vals, a + 1);
+    if n != word(vals, b + 1) {
         return Pace::Clash;
     }
-    let count = wide(vals[a + 1]);
+    let count = wide(n);
     same_terms(kinds, vals, a + 2, b + 2, count)
 }
 
