@@ -13,7 +13,7 @@ ghost use mathlib.Core.Bool.{Bool};
 ghost use mathlib.Core.List.{List};
 ghost use mathlib.Core.Option.{Option};
 ghost use Prim.Native.Nat.{ℕ, _+_, _≤_, _<_};
-ghost use lib.ListN.{length, getD};
+ghost use lib.ListN.{length};
 ghost use Rattle.terms.specs.Term.{Term, Parts, node, items};
 ghost use Rattle.terms.specs.Held.{Held};
 ghost use Rattle.terms.specs.Shape.{nominal, done};

@@ -20,13 +20,13 @@ fn pair_step(kinds: &[u32], vals: &[u32], i: usize, ae: usize, j: usize, be: usi
     ensures forward { λ r. ⌜ Forward i ae j be r ⌝ }
     ensures stepped { λ r. ⌜ ((whole : Bool) → Rows (now (kinds .entry)) (now (vals .entry)) i ae j be whole → Stepped (now (kinds .entry)) (now (vals .entry)) ae be whole r) ⌝ }
 {
-    let k = kinds[i];
-    let l = kinds[j];
+    let k = word(kinds, i);
+    let l = word(kinds, j);
     if k == 0 {
         if l != 0 {
             return Pace::Clash;
         }
-        if vals[i] != vals[j] {
+        if word(vals, i) != word(vals, j) {
             return Pace::Clash;
         }
         return Pace::Onward(i + 1, j + 1);
@@ -43,8 +43,8 @@ fn pair_terms(kinds: &[u32], vals: &[u32], i: usize, ae: usize, j: usize, be: us
     ensures forward { λ r. ⌜ Forward i ae j be r ⌝ }
     ensures stepped { λ r. ⌜ ((whole : Bool) → Rows (now (kinds .entry)) (now (vals .entry)) i ae j be whole → Stepped (now (kinds .entry)) (now (vals .entry)) ae be whole r) ⌝ }
 {
-    let k = kinds[i];
-    let l = kinds[j];
+    let k = word(kinds, i);
+    let l = word(kinds, j);
     // Inference, Unknown and Error conflict with nothing
     if is_one(k, 1, 4, 5) {
         return past(kinds, vals, i, ae, j, be);

@@ -3,7 +3,6 @@ use mathlib.Core.Path.{_≡_, sym, ap, _∙_}
 use mathlib.Core.Bool.{not}
 use mathlib.Core.List.{List, [], _∷_}
 use Prim.Native.Nat.{ℕ}
-use native.Mathlib.Omega.{arith}
 use lib.ListN.{getD}
 use Rattle.terms.specs.Term.{Term}
 use Rattle.terms.specs.Held.{Held}

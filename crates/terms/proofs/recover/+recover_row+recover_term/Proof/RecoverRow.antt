@@ -1,9 +1,8 @@
 -- `recover_row`. The loop's invariant is `Recovering`: what was written, and what the rest of the rows gives. Assumes nothing.
-use mathlib.Core.Path.{_≡_, refl, _∙_}
+use mathlib.Core.Path.{_≡_, refl}
 use Prim.Native.Nat.{_+_, _*_, _-_, _≤_}
 use mathlib.Core.List.{[]}
 use lib.ListN.{length}
-use denote.Ref.{now}
 use Rattle.terms.specs.Term.{Parts, partBytes, Subs}
 use Rattle.terms.specs.Held.{HeldParts}
 use Rattle.terms.specs.Formed.{Formed}
@@ -11,7 +10,6 @@ use Rattle.terms.specs.Recovery.{recover-row}
 use Rattle.terms.specs.Recovering.{upto}
 use Rattle.terms.proofs.FlatLaws.{held-one}
 use Rattle.terms.proofs.RecoverLaws.{Recovering, put-none, recover-stays, stays-parted, recover-number, both-terms, recover-both, told-row}
-use borrow.Author.Needs.{needs}
 use native.Mathlib.Omega.{arith}
 use Prim.Native.Nat.{ℕ}
 use Rattle.terms.proofs.recover.+recover_row+recover_term.Lts-recover_row as lts

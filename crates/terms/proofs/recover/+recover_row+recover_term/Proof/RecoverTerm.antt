@@ -1,6 +1,6 @@
 -- `recover_term`: the holes of either term, or the head and the rows. Assumes nothing.
 use mathlib.Core.Path.{_≡_, sym, ap, _∙_}
-use mathlib.Core.Bool.{Bool, _||_}
+use mathlib.Core.Bool.{_||_}
 use mathlib.Core.List.{[], _∷_}
 use lib.Dec.{eqb}
 use denote.Ref.{now}
