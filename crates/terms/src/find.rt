@@ -4,7 +4,7 @@ use super::NumberRead;
 use super::ParameterRead;
 use super::ParametersRead;
 use super::numbers::read_number;
-use super::runs::long;
+use super::runs::long_at;
 use super::runs::stride;
 use super::values::DEFINITION;
 use super::values::ORDINARY;
@@ -113,7 +113,7 @@ fn find_record(
             return best;
         }
         let t = i + width;
-        best = later(best, t, long(vals[i]), long(vals[t - 1]), first, last);
+        best = later(best, t, long_at(vals, i), long_at(vals, t - 1), first, last);
         i = t + stride(kinds, vals, t, end - t);
     }
     best

@@ -52,10 +52,10 @@ fn paired(kinds: &[u32], i: usize, ae: usize, j: usize, be: usize) -> bool
     if be <= j {
         return false;
     }
-    if kinds[i] == 0 {
-        return kinds[j] == 0;
+    if word(kinds, i) == 0 {
+        return word(kinds, j) == 0;
     }
-    kinds[j] != 0
+    word(kinds, j) != 0
 }
 
 // Whether two rows have the same numbers at the same places.
@@ -66,8 +66,8 @@ fn alike_rows(kinds: &[u32], vals: &[u32], a: usize, ae: usize, b: usize, be: us
     let mut i = a;
     let mut j = b;
     while paired(kinds, i, ae, j, be) {
-        if kinds[i] == 0 {
-            if vals[i] != vals[j] {
+        if word(kinds, i) == 0 {
+            if word(vals, i) != word(vals, j) {
                 return false;
             }
             i += 1;
@@ -214,7 +214,7 @@ fn recover_row(
     let mut j = q;
     let mut to = at;
     while paired(kinds, i, stop, j, qe) {
-        if kinds[i] == 0 {
+        if word(kinds, i) == 0 {
             to = put_run(kinds, vals, i, 1, out, to);
             i += 1;
             j += 1;

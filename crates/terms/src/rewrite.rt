@@ -8,26 +8,18 @@ use super::find::find_entry;
 use super::find::find_parameter;
 use super::find::find_receiver;
 use super::find::nth_term;
-use super::runs::long;
+use super::runs::long_at;
 use super::runs::stride;
-use super::runs::word;
 use super::write::run_len;
 use super::write::write_run;
 ghost use mathlib.Core.Path.{_≡_};
 ghost use Prim.Native.Nat.{_+_, _-_, _≤_, _<_};
-ghost use lib.ListN.{length, getD};
+ghost use lib.ListN.{length};
 ghost use lib.Seq.{sets};
 ghost use Rattle.terms.specs.Result.{pick};
 ghost use Rattle.terms.specs.Writing.{spelt};
 ghost use Rattle.terms.specs.Search.{argumentFor};
 ghost use Rattle.terms.specs.Rewriting.{by, index, generic, inContext, self, chosen, piece, pace, rewritten, written, Ready, Space, Inside, Writes, Rewrites, forInstance, forContext, forFamily};
-
-// The word at i, 0 past the end.
-fn long_at(words: &[u32], i: usize) -> u64
-    ensures { λ r. ⌜ r ≡ getD (now (words .entry)) i 0 ⌝ }
-{
-    long(word(words, i))
-}
 
 // What was found, or the term itself.
 fn taken(found: Lookup) -> Choice

@@ -17,7 +17,7 @@ pub fn wide(x: u32) -> usize
     x as usize
 }
 
-pub fn long(x: u32) -> u64
+fn long(x: u32) -> u64
     ensures { λ r. ⌜ r ≡ x ⌝ }
 {
     x as u64
@@ -31,6 +31,13 @@ pub fn word(words: &[u32], i: usize) -> u32
         return words[i];
     }
     0
+}
+
+// The same, as a wider number.
+pub fn long_at(words: &[u32], i: usize) -> u64
+    ensures { λ r. ⌜ r ≡ getD (now (words .entry)) i 0 ⌝ }
+{
+    long(word(words, i))
 }
 
 // Whether n is one of three numbers.

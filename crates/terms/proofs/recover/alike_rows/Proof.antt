@@ -1,6 +1,6 @@
 -- `alike_rows`. The loop's invariant: what is left of the rows is alike as the whole rows are. Assumes nothing.
 use native.Mathlib.Omega.{arith}
-use mathlib.Core.Path.{refl}
+use mathlib.Core.Path.{refl, sym, _∙_}
 use Prim.Native.Nat.{_-_, _≤_}
 use Rattle.terms.specs.Term.{Parts}
 use Rattle.terms.specs.Held.{HeldParts}
@@ -23,28 +23,19 @@ loop-holds c = (omega arith, omega arith, λ ps qs h g. record { left = ps; righ
 paired-requires : tie.Need-paired-requires Inv-loop μ-loop
 paired-requires c κs = (c .before .before .before .pre .1, c .before .before .before .pre .3)
 
-mul-if2 : tie.Need-mul-if2 Inv-loop μ-loop
-mul-if2 c = omega (arith, c .before .paired .ensures .0 (c .if1 .taken))
+word-requires : tie.Need-word-requires Inv-loop μ-loop
+word-requires c κs = search needs
 
-shared-slice-read-if2 : tie.Need-shared-slice-read-if2 Inv-loop μ-loop
-shared-slice-read-if2 c = omega (arith, c .before .before .paired .ensures .0 (c .before .if1 .taken))
+word-requires-2 : tie.Need-word-requires-2 Inv-loop μ-loop
+word-requires-2 c κs = search needs
 
-mul-if3 : tie.Need-mul-if3 Inv-loop μ-loop
-mul-if3 c = omega (arith, c .before .before .before .paired .ensures .0 (c .before .before .if1 .taken))
-
-shared-slice-read-if3 : tie.Need-shared-slice-read-if3 Inv-loop μ-loop
-shared-slice-read-if3 c = omega (arith, c .before .before .before .before .paired .ensures .0 (c .before .before .before .if1 .taken))
-
-mul-if3-2 : tie.Need-mul-if3-2 Inv-loop μ-loop
-mul-if3-2 c = omega (arith, c .before .before .before .before .paired .ensures .0 (c .before .before .before .if1 .taken))
-
-shared-slice-read-if3-2 : tie.Need-shared-slice-read-if3-2 Inv-loop μ-loop
-shared-slice-read-if3-2 c = omega (arith, c .before .before .before .before .before .paired .ensures .0 (c .before .before .before .before .if1 .taken))
+word-requires-3 : tie.Need-word-requires-3 Inv-loop μ-loop
+word-requires-3 c κs = search needs
 
 returns : tie.Need-returns Inv-loop μ-loop
 returns c = λ ps qs h g.
     let y = c .before .before .before .before .before .before .paired .ensures .0 (c .before .before .before .before .before .if1 .taken) in
-    alike-differ _ _ _ _ _ _ _ (c .before .before .before .before .before .before .before .loop .inv .2 ps qs h g) (y .left) (y .right) (c .before .before .before .if2 .taken) (y .number (c .before .before .before .if2 .taken)) (c .if3 .taken)
+    alike-differ _ _ _ _ _ _ _ (c .before .before .before .before .before .before .before .loop .inv .2 ps qs h g) (y .left) (y .right) (sym (c .before .before .before .before .word .ensures) ∙ c .before .before .before .if2 .taken) (y .number (sym (c .before .before .before .before .word .ensures) ∙ c .before .before .before .if2 .taken)) (λ z. c .if3 .taken (c .before .before .word2 .ensures ∙ z ∙ sym (c .before .word3 .ensures)))
 
 add-i : tie.Need-add-i Inv-loop μ-loop
 add-i c = omega (arith, c .before .before .before .before .before .before .paired .ensures .0 (c .before .before .before .before .before .if1 .taken))
@@ -58,7 +49,7 @@ loop-less c = omega (arith, c .before .before .before .before .before .before .p
 loop-again : tie.Need-loop-again Inv-loop μ-loop
 loop-again c =
     let y = c .before .before .before .before .before .before .paired .ensures .0 (c .before .before .before .before .before .if1 .taken) in
-    (omega arith, omega arith, λ ps qs h g. alike-numbers _ _ _ _ _ _ _ (c .before .before .before .before .before .before .before .loop .inv .2 ps qs h g) (y .left) (y .right) (c .before .before .before .if2 .taken) (y .number (c .before .before .before .if2 .taken)) (c .if3 .left))
+    (omega arith, omega arith, λ ps qs h g. alike-numbers _ _ _ _ _ _ _ (c .before .before .before .before .before .before .before .loop .inv .2 ps qs h g) (y .left) (y .right) (sym (c .before .before .before .before .word .ensures) ∙ c .before .before .before .if2 .taken) (y .number (sym (c .before .before .before .before .word .ensures) ∙ c .before .before .before .if2 .taken)) (sym (c .before .before .word2 .ensures) ∙ c .if3 .left ∙ c .before .word3 .ensures))
 
 sub-skip : tie.Need-sub-skip Inv-loop μ-loop
 sub-skip c = search needs
@@ -88,7 +79,7 @@ loop-less-2 c = omega (arith, c .before .before .before .before .before .paired 
 loop-again-2 : tie.Need-loop-again-2 Inv-loop μ-loop
 loop-again-2 c =
     let y = c .before .before .before .before .before .paired .ensures .0 (c .before .before .before .before .if1 .taken) in
-    (omega arith, omega arith, λ ps qs h g. alike-terms _ _ _ _ _ _ _ (c .before .before .before .before .before .before .loop .inv .2 ps qs h g) (y .left) (y .right) _ _ (c .before .before .if2 .left) (y .term (c .before .before .if2 .left)) (c .before .skip .ensures .2) (c .skip2 .ensures .2))
+    (omega arith, omega arith, λ ps qs h g. alike-terms _ _ _ _ _ _ _ (c .before .before .before .before .before .before .loop .inv .2 ps qs h g) (y .left) (y .right) _ _ (λ z. c .before .before .if2 .left (c .before .before .before .word .ensures ∙ z)) (y .term (λ z. c .before .before .if2 .left (c .before .before .before .word .ensures ∙ z))) (c .before .skip .ensures .2) (c .skip2 .ensures .2))
 
 returns-2 : tie.Need-returns-2 Inv-loop μ-loop
 returns-2 c = λ ps qs h g. alike-parted _ _ _ _ _ _ _ (c .before .before .before .loop .inv .2 ps qs h g) (c .before .before .paired .ensures .1 (c .before .if1 .left)) (c .if4 .taken)
@@ -104,12 +95,9 @@ alike-rows-spec =
     μ-loop
     loop-holds
     paired-requires
-    mul-if2
-    shared-slice-read-if2
-    mul-if3
-    shared-slice-read-if3
-    mul-if3-2
-    shared-slice-read-if3-2
+    word-requires
+    word-requires-2
+    word-requires-3
     returns
     add-i
     add-j

@@ -1,6 +1,5 @@
 -- `word`. Assumes nothing.
 use mathlib.Core.Path.{sym}
-use native.Mathlib.Omega.{arith}
 use lib.ListN.{List·getD-eq-default}
 use denote.Ref.{now}
 use borrow.Author.Needs.{needs}

@@ -1,5 +1,5 @@
 -- `recover_row`. The loop's invariant is `Recovering`: what was written, and what the rest of the rows gives. Assumes nothing.
-use mathlib.Core.Path.{_≡_, refl}
+use mathlib.Core.Path.{_≡_, refl, sym, _∙_}
 use Prim.Native.Nat.{_+_, _*_, _-_, _≤_}
 use mathlib.Core.List.{[]}
 use lib.ListN.{length}
@@ -10,6 +10,7 @@ use Rattle.terms.specs.Recovery.{recover-row}
 use Rattle.terms.specs.Recovering.{upto}
 use Rattle.terms.proofs.FlatLaws.{held-one}
 use Rattle.terms.proofs.RecoverLaws.{Recovering, put-none, recover-stays, stays-parted, recover-number, both-terms, recover-both, told-row}
+use borrow.Author.Needs.{needs}
 use native.Mathlib.Omega.{arith}
 use Prim.Native.Nat.{ℕ}
 use Rattle.terms.proofs.recover.+recover_row+recover_term.Lts-recover_row as lts
@@ -18,6 +19,7 @@ use Rattle.terms.proofs.recover.recover_row.Reads as recover-row
 use Rattle.terms.proofs.recover.recover_term.Reads as recover-term
 use Rattle.terms.proofs.recover.paired.Reads as paired-reads
 use Rattle.terms.proofs.runs.skip.Reads as skip-reads
+use Rattle.terms.proofs.runs.word.Reads as word-reads
 use Rattle.terms.proofs.write.put_run.Reads as put-run-reads
 use Rattle.terms.proofs.recover.+recover_row+recover_term.Proof.Measures.{recover-row-at, recover-term-below}
 
@@ -31,7 +33,7 @@ abbrev μ-loop : lts.MeasureT-loop
 
 module _ (t : ℕ) where
   abbrev claims : lts.Claims
-  claims = (paired-reads.Asked, paired-reads.Learnt, put-run-reads.Asked, put-run-reads.Learnt, skip-reads.Asked, skip-reads.Learnt, recover-term-below t, recover-term.Post)
+  claims = (paired-reads.Asked, paired-reads.Learnt, word-reads.Asked, word-reads.Learnt, put-run-reads.Asked, put-run-reads.Learnt, skip-reads.Asked, skip-reads.Learnt, recover-term-below t, recover-term.Post)
 
   loop-holds : lts.Need-loop-holds claims (recover-row-at t) recover-row.Post Inv-loop μ-loop
   loop-holds c = (omega (arith, c .before .before .before .pre .1 .0), omega (arith, c .before .before .before .pre .1 .0), omega arith, λ k ps qs hp hq fp fq e. record { count = k; left = ps; right = qs; heldLeft = hp; heldRight = hq; formedLeft = fp; formedRight = fq; stops = e; done = []; put = put-none _ _; same = refl })
@@ -39,11 +41,8 @@ module _ (t : ℕ) where
   paired-requires : lts.Need-paired-requires claims (recover-row-at t) recover-row.Post Inv-loop μ-loop
   paired-requires c κs = (omega (arith, c .before .before .before .before .pre .1 .0), omega (arith, c .before .before .before .before .pre .1 .0))
 
-  mul-if2 : lts.Need-mul-if2 claims (recover-row-at t) recover-row.Post Inv-loop μ-loop
-  mul-if2 c = omega (arith, c .before .paired .ensures .0 (c .if1 .taken), c .before .before .before .before .before .before .pre .1 .0)
-
-  shared-slice-read-if2 : lts.Need-shared-slice-read-if2 claims (recover-row-at t) recover-row.Post Inv-loop μ-loop
-  shared-slice-read-if2 c = omega (arith, c .before .before .paired .ensures .0 (c .before .if1 .taken), c .before .before .before .before .before .before .before .pre .1 .0)
+  word-requires : lts.Need-word-requires claims (recover-row-at t) recover-row.Post Inv-loop μ-loop
+  word-requires c κs = search needs
 
   put-run-requires : lts.Need-put-run-requires claims (recover-row-at t) recover-row.Post Inv-loop μ-loop
   put-run-requires c κs = ((omega (arith, c .before .before .before .before .paired .ensures .0 (c .before .before .before .if1 .taken), c .before .before .before .before .before .loop .inv .0, c .before .before .before .before .before .loop .inv .1, c .before .before .before .before .before .loop .inv .2, c .before .before .before .before .before .before .before .before .before .pre .1 .0), omega (arith, c .before .before .before .before .paired .ensures .0 (c .before .before .before .if1 .taken), c .before .before .before .before .before .loop .inv .0, c .before .before .before .before .before .loop .inv .1, c .before .before .before .before .before .loop .inv .2, c .before .before .before .before .before .before .before .before .before .pre .1 .0)), omega (arith, c .before .before .before .before .paired .ensures .0 (c .before .before .before .if1 .taken), c .before .before .before .before .before .loop .inv .0, c .before .before .before .before .before .loop .inv .1, c .before .before .before .before .before .loop .inv .2, c .before .before .before .before .before .before .before .before .before .pre .1 .0, c .before .before .before .before .before .before .before .before .before .pre .1 .1))
@@ -64,7 +63,7 @@ module _ (t : ℕ) where
     omega (arith, c .before .before .before .before .before .before .before .paired .ensures .0 (c .before .before .before .before .before .before .if1 .taken), c .before .before .put-run .ensures .1 .1, c .before .before .before .before .before .before .before .before .loop .inv .0, c .before .before .before .before .before .before .before .before .loop .inv .1, c .before .before .before .before .before .before .before .before .loop .inv .2),
     λ k ps qs hp hq fp fq e.
         let x = c .before .before .before .before .before .before .before .before .loop .inv .3 k ps qs hp hq fp fq e in
-        recover-number _ _ _ _ _ _ _ _ _ _ _ _ x (c .before .before .before .before .before .before .before .paired .ensures .0 (c .before .before .before .before .before .before .if1 .taken) .left) (c .before .before .before .before .before .before .before .before .before .before .before .before .pre .1 .0 .1) (c .before .before .before .before .before .before .before .paired .ensures .0 (c .before .before .before .before .before .before .if1 .taken) .right) (c .before .before .before .before .if2 .taken) (c .before .before .before .before .before .before .before .paired .ensures .0 (c .before .before .before .before .before .before .if1 .taken) .number (c .before .before .before .before .if2 .taken)) _ _ (c .before .before .put-run .ensures .0) (c .before .before .put-run .ensures .1 .0),
+        recover-number _ _ _ _ _ _ _ _ _ _ _ _ x (c .before .before .before .before .before .before .before .paired .ensures .0 (c .before .before .before .before .before .before .if1 .taken) .left) (c .before .before .before .before .before .before .before .before .before .before .before .before .pre .1 .0 .1) (c .before .before .before .before .before .before .before .paired .ensures .0 (c .before .before .before .before .before .before .if1 .taken) .right) (sym (c .before .before .before .before .before .word .ensures) ∙ c .before .before .before .before .if2 .taken) (c .before .before .before .before .before .before .before .paired .ensures .0 (c .before .before .before .before .before .before .if1 .taken) .number (sym (c .before .before .before .before .before .word .ensures) ∙ c .before .before .before .before .if2 .taken)) _ _ (c .before .before .put-run .ensures .0) (c .before .before .put-run .ensures .1 .0),
   )
 
   sub-skip : lts.Need-sub-skip claims (recover-row-at t) recover-row.Post Inv-loop μ-loop
@@ -104,7 +103,7 @@ module _ (t : ℕ) where
     omega (arith, c .before .before .before .before .before .before .before .before .before .paired .ensures .0 (c .before .before .before .before .before .before .before .before .if1 .taken), c .before .before .before .before .before .before .before .before .before .before .loop .inv .0, c .before .before .before .before .before .before .before .before .before .before .loop .inv .1, c .before .before .before .before .before .before .before .before .before .before .loop .inv .2, c .before .before .recover-term .ensures .0, c .before .before .before .before .before .skip .ensures .0, c .before .before .before .before .skip2 .ensures .0),
     λ k ps qs hp hq fp fq e.
         let x = c .before .before .before .before .before .before .before .before .before .before .loop .inv .3 k ps qs hp hq fp fq e in
-        let y = both-terms _ _ _ _ _ _ _ _ _ _ _ _ x (c .before .before .before .before .before .before .before .before .before .paired .ensures .0 (c .before .before .before .before .before .before .before .before .if1 .taken) .left) (c .before .before .before .before .before .before .before .before .before .before .before .before .before .before .pre .1 .0 .1) (c .before .before .before .before .before .before .before .before .before .paired .ensures .0 (c .before .before .before .before .before .before .before .before .if1 .taken) .right) (c .before .before .before .before .before .before .if2 .left) (c .before .before .before .before .before .before .before .before .before .paired .ensures .0 (c .before .before .before .before .before .before .before .before .if1 .taken) .term (c .before .before .before .before .before .before .if2 .left)) in
+        let y = both-terms _ _ _ _ _ _ _ _ _ _ _ _ x (c .before .before .before .before .before .before .before .before .before .paired .ensures .0 (c .before .before .before .before .before .before .before .before .if1 .taken) .left) (c .before .before .before .before .before .before .before .before .before .before .before .before .before .before .pre .1 .0 .1) (c .before .before .before .before .before .before .before .before .before .paired .ensures .0 (c .before .before .before .before .before .before .before .before .if1 .taken) .right) (λ z. c .before .before .before .before .before .before .if2 .left (c .before .before .before .before .before .before .before .word .ensures ∙ z)) (c .before .before .before .before .before .before .before .before .before .paired .ensures .0 (c .before .before .before .before .before .before .before .before .if1 .taken) .term (λ z. c .before .before .before .before .before .before .if2 .left (c .before .before .before .before .before .before .before .word .ensures ∙ z))) in
         let n = told-row _ _ _ _ _ (y .t) (y .ps) (y .rowLeft) (c .before .before .before .before .before .skip .ensures .2) in
         let m = told-row _ _ _ _ _ (y .u) (y .qs) (y .rowRight) (c .before .before .before .before .skip2 .ensures .2) in
         recover-both _ _ _ _ _ _ _ _ _ _ _ _ x (c .before .before .before .before .before .before .before .before .before .paired .ensures .0 (c .before .before .before .before .before .before .before .before .if1 .taken) .left) (c .before .before .before .before .before .before .before .before .before .before .before .before .before .before .pre .1 .0 .1) (c .before .before .before .before .before .before .before .before .before .paired .ensures .0 (c .before .before .before .before .before .before .before .before .if1 .taken) .right) y _ _ n m _ _ (c .before .before .recover-term .ensures .1 (y .t) (y .u) (held-one _ _ _ _ (y .t) (y .heldLeft) n) (held-one _ _ _ _ (y .u) (y .heldRight) m) (y .formedLeft) (y .formedRight)),
@@ -128,4 +127,4 @@ module _ (t : ℕ) where
   )
 
   pub member : {M : Type 1} → lts.Closed claims (recover-row-at t) recover-row.Post M
-  member = lts.spec claims (recover-row-at t) recover-row.Post Inv-loop μ-loop loop-holds paired-requires mul-if2 shared-slice-read-if2 put-run-requires add-i add-j loop-less loop-again sub-skip skip-requires sub-skip-2 skip-requires-2 add-recover-term add-recover-term-2 recover-term-requires add-i-2 add-j-2 loop-less-2 loop-again-2 sub-put-run put-run-requires-2 same-length returns
+  member = lts.spec claims (recover-row-at t) recover-row.Post Inv-loop μ-loop loop-holds paired-requires word-requires put-run-requires add-i add-j loop-less loop-again sub-skip skip-requires sub-skip-2 skip-requires-2 add-recover-term add-recover-term-2 recover-term-requires add-i-2 add-j-2 loop-less-2 loop-again-2 sub-put-run put-run-requires-2 same-length returns

@@ -1,8 +1,8 @@
 -- `long_at`. Assumes nothing.
 use mathlib.Core.Path.{_∙_}
 use borrow.Author.Needs.{needs}
-use Rattle.terms.proofs.rewrite.long_at.Statement.{statement}
-use Rattle.terms.proofs.rewrite.long_at.Tie as tie
+use Rattle.terms.proofs.runs.long_at.Statement.{statement}
+use Rattle.terms.proofs.runs.long_at.Tie as tie
 
 word-requires : tie.Need-word-requires
 word-requires c κs = search needs
