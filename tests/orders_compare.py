@@ -2,6 +2,7 @@
 """Compares a program with the reference on random orders of kinds 9 to 20.
 
   python3 tests/orders_compare.py --program PROGRAM [--orders N] [--seed S] [--output BYTES]
+  python3 tests/orders_compare.py --oracle          the oracle, which is built first, in the place of the program
   python3 tests/orders_compare.py --self            the plain reference in the place of the program
   python3 tests/orders_compare.py --slip NAME ...   with a reference that has one fault: must fail
   python3 tests/orders_compare.py --slip all ...    with each of them: passes if every one fails
@@ -16,9 +17,18 @@ printed in hexadecimal, and the exit status is 1. The random orders are the
 same for the same seed. The tables show the outcomes of the random orders and
 what the unrefused ones answer; an entry that can occur but has a share below
 0.3% of its row is a failure in a run of 20,000 orders or more.
+
+The oracle answers by Kagari's own functions. They are taken out of its
+sources when it is built: the types of types.rs with their methods that the
+orders ask for, and normalize of typeck/associated.rs. Ids, builtins,
+accesses, range kinds and bounds are stand-ins; reading, writing and refusals
+are written apart from the reference. tests/oracle/build.py says more. The
+sources are looked for in ../shared/docs/src beside the repository, or in DIR
+of --source; without them the comparison stops with status 1.
 """
 
 import argparse
+import os
 import random
 import shlex
 import shutil
@@ -33,6 +43,10 @@ from orders_reference import (
     nominal_written, number_bytes, with_children, written)
 from orders_slips import RUN_SLIPS, SLIPS
 from terms_compare import ENDS, Differs, damaged_bytes, not_shortest, shown, too_large
+
+sys.path.insert(0, os.path.join(os.path.dirname(os.path.abspath(__file__)), "oracle"))
+
+import build as oracle
 
 DEFAULT_ORDERS = 20000
 LEAST_SHARE = 0.003
@@ -949,20 +963,33 @@ def check_slips(command, options):
     return 1 if left else 0
 
 
+def command_of(options):
+    """The command that answers, or None for the plain reference."""
+    if options.oracle:
+        try:
+            return [oracle.build(options.source), str(options.output)]
+        except oracle.extract.NotFound as fault:
+            sys.exit("oracle: %s" % fault)
+    command = shlex.split(options.program) if options.program else None
+    if command and not shutil.which(command[0]):
+        sys.exit("there is no program %s" % command[0])
+    return command
+
+
 def main():
     parser = argparse.ArgumentParser(description=__doc__, formatter_class=argparse.RawDescriptionHelpFormatter)
     parser.add_argument("--program", help="the program, with its arguments if it takes any")
+    parser.add_argument("--oracle", action="store_true")
+    parser.add_argument("--source", default=oracle.SOURCE, metavar="DIR", help="Kagari's sources, for --oracle")
     parser.add_argument("--self", action="store_true")
     parser.add_argument("--orders", type=int, default=DEFAULT_ORDERS, metavar="N")
     parser.add_argument("--seed", type=int, default=1, metavar="S")
     parser.add_argument("--output", type=int, default=Orders.OUTPUT, metavar="BYTES")
     parser.add_argument("--slip", choices=["all"] + list(SLIPS), metavar="NAME")
     options = parser.parse_args()
-    if bool(options.program) == options.self:
-        parser.error("give --program or --self")
-    command = shlex.split(options.program) if options.program else None
-    if command and not shutil.which(command[0]):
-        sys.exit("there is no program %s" % command[0])
+    if bool(options.program) + options.oracle + options.self != 1:
+        parser.error("give one of --program, --oracle and --self")
+    command = command_of(options)
     if options.slip == "all":
         return check_slips(command, options)
     return check(command, options, SLIPS[options.slip] if options.slip else Orders)

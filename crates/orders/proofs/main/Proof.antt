@@ -1,0 +1,71 @@
+-- `main`: the areas and the output are long enough. Assumes nothing.
+use mathlib.Core.Path.{sym}
+use lib.Seq.{length-take-le}
+use borrow.Author.Needs.{needs}
+use Rattle.orders.proofs.main.Statement.{statement}
+use Rattle.orders.proofs.main.Tie as tie
+
+slice-aggregate-read-full : tie.Need-slice-aggregate-read-full
+slice-aggregate-read-full c = search needs
+
+read-full-requires : tie.Need-read-full-requires
+read-full-requires c κs = search needs
+
+array-share-prefix-input : tie.Need-array-share-prefix-input
+array-share-prefix-input c = search needs
+
+slice-aggregate-run : tie.Need-slice-aggregate-run
+slice-aggregate-run c = search needs
+
+slice-aggregate-run-2 : tie.Need-slice-aggregate-run-2
+slice-aggregate-run-2 c = search needs
+
+slice-aggregate-run-3 : tie.Need-slice-aggregate-run-3
+slice-aggregate-run-3 c = search needs
+
+slice-aggregate-run-4 : tie.Need-slice-aggregate-run-4
+slice-aggregate-run-4 c = search needs
+
+slice-aggregate-run-5 : tie.Need-slice-aggregate-run-5
+slice-aggregate-run-5 c = search needs
+
+slice-aggregate-run-6 : tie.Need-slice-aggregate-run-6
+slice-aggregate-run-6 c = search needs
+
+slice-aggregate-run-7 : tie.Need-slice-aggregate-run-7
+slice-aggregate-run-7 c = search needs
+
+run-requires : tie.Need-run-requires
+run-requires c κs = search needs
+
+array-share-prefix-out : tie.Need-array-share-prefix-out
+array-share-prefix-out c = search needs
+
+slice-aggregate-write-all : tie.Need-slice-aggregate-write-all
+slice-aggregate-write-all c = sym (length-take-le _ _ (c .before .before .before .before .before .before .before .run .ensures))
+
+write-all-requires : tie.Need-write-all-requires
+write-all-requires c κs = search needs
+
+returns : tie.Need-returns
+returns c = search needs
+
+pub main-spec : {M : Type 1} → statement M
+main-spec =
+    tie.close
+    (tie.spec
+    slice-aggregate-read-full
+    read-full-requires
+    array-share-prefix-input
+    slice-aggregate-run
+    slice-aggregate-run-2
+    slice-aggregate-run-3
+    slice-aggregate-run-4
+    slice-aggregate-run-5
+    slice-aggregate-run-6
+    slice-aggregate-run-7
+    run-requires
+    array-share-prefix-out
+    slice-aggregate-write-all
+    write-all-requires
+    returns)

@@ -1,0 +1,38 @@
+-- `receivers`: the place has room for receivers, and stays within the bytes. Assumes nothing.
+use native.Mathlib.Omega.{arith}
+use borrow.Author.Needs.{needs}
+use Rattle.orders.proofs.reading.receivers.Statement.{statement}
+use Rattle.orders.proofs.reading.receivers.Tie as tie
+
+returns : tie.Need-returns
+returns c = search needs
+
+place-requires : tie.Need-place-requires
+place-requires c κs = search needs
+
+keep-receivers-requires : tie.Need-keep-receivers-requires
+keep-receivers-requires c κs = record { inside = omega arith; tokens = omega arith; counts = omega arith }
+
+after-requires : tie.Need-after-requires
+after-requires c κs = search needs
+
+same-length : tie.Need-same-length
+same-length c = search needs
+
+same-length-2 : tie.Need-same-length-2
+same-length-2 c = search needs
+
+returns-2 : tie.Need-returns-2
+returns-2 c = search needs
+
+pub receivers-spec : {M : Type 1} → statement M
+receivers-spec =
+    tie.close
+    (tie.spec
+    returns
+    place-requires
+    keep-receivers-requires
+    after-requires
+    same-length
+    same-length-2
+    returns-2)
