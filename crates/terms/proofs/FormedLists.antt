@@ -36,6 +36,9 @@ from : {A B : Type 0} (r : Result A) (k : A → Parser B) (b : B) (n : ℕ) → 
 from (got a m) k b n e = (a, m, refl, e)
 from (refused c) k b n e = absurd (let z : _≡_ {A = ℕ} 0 1 = cc in omega arith)
 
+got-same : {A : Type 0} {a b : A} {m n : ℕ} → got a m ≡ got b n → a ≡ b
+got-same e = cc
+
 module _ (s : List ℕ) (term : Parser Term) (P : Term → Type 0) (good : (at : ℕ) (t : Term) (n : ℕ) → term at ≡ got t n → P t) where
   pub each-entry : (n at : ℕ) (es : List Entry) (m : ℕ) → entries s term n at ≡ got es m → EachEntry P es
   unfolding entries EachEntry
@@ -46,7 +49,7 @@ module _ (s : List ℕ) (term : Parser Term) (P : Term → Type 0) (good : (at :
       let b = from (number s (ceiling ordinary) (a .1)) _ es m (a .3) in
       let t = from (term (b .1)) _ es m (b .3) in
       let r = from (entries s term n (t .1)) _ es m (t .3) in
-      let x : record { parameter = record { owner = a .0; position = b .0 }; term = t .0 } ∷ r .0 ≡ es = cc in
+      let x : record { parameter = record { owner = a .0; position = b .0 }; term = t .0 } ∷ r .0 ≡ es = got-same (r .3) in
       rw (← x) (good (b .1) (t .0) (t .1) (t .2), each-entry n (t .1) (r .0) (r .1) (r .2))
 
   pub each-receiver : (n at : ℕ) (rs : List Receiver) (m : ℕ) → receivers s term n at ≡ got rs m → EachReceiver P rs
@@ -57,7 +60,7 @@ module _ (s : List ℕ) (term : Parser Term) (P : Term → Type 0) (good : (at :
       let a = from (number s (ceiling definition) at) _ rs m e in
       let t = from (term (a .1)) _ rs m (a .3) in
       let r = from (receivers s term n (t .1)) _ rs m (t .3) in
-      let x : record { owner = a .0; term = t .0 } ∷ r .0 ≡ rs = cc in
+      let x : record { owner = a .0; term = t .0 } ∷ r .0 ≡ rs = got-same (r .3) in
       rw (← x) (good (a .1) (t .0) (t .1) (t .2), each-receiver n (t .1) (r .0) (r .1) (r .2))
 
   pub each-argument : (n at : ℕ) (ts : List Term) (m : ℕ) → arguments s term n at ≡ got ts m → Each P ts
@@ -67,7 +70,7 @@ module _ (s : List ℕ) (term : Parser Term) (P : Term → Type 0) (good : (at :
   each-argument (suc n) at ts m e =
       let t = from (term at) _ ts m e in
       let r = from (arguments s term n (t .1)) _ ts m (t .3) in
-      let x : t .0 ∷ r .0 ≡ ts = cc in
+      let x : t .0 ∷ r .0 ≡ ts = got-same (r .3) in
       rw (← x) (good at (t .0) (t .1) (t .2), each-argument n (t .1) (r .0) (r .1) (r .2))
 
 -- ---- what is found among formed terms is formed

@@ -1,27 +1,25 @@
 -- Lists read record by record and kept as rows. Assumes nothing.
 use mathlib.Core.Path.{_≡_, refl, sym, ap, _∙_}
-use mathlib.Core.Bool.{Bool, true, false}
+use mathlib.Core.Bool.{true, false}
 use mathlib.Core.List.{List, _∷_}
 use Prim.Native.Nat.{ℕ, zero, suc, _+_, _-_, _≤_, _<_}
 use native.Mathlib.Numerals.{sub-one}
 use native.Mathlib.Omega.{arith}
-use borrow.Author.Tests.{leb-true}
-use lib.Dec.{leb}
 use lib.ListN.{length}
 use Rattle.terms.specs.declared.Fields.{Fields}
 use Rattle.terms.specs.declared.Place.{Place}
 use Rattle.terms.specs.declared.Step.{Step}
 use Rattle.terms.specs.declared.Step.the-variants.{Next, Stopped}
-use Rattle.terms.specs.Parser.{Result, Parser, got, refused, bind, pick, number}
-use Rattle.terms.specs.Tokens.{Item, Area, puts, blank}
-use Rattle.terms.specs.Term.{Term, Parts, end, num, sub, partItems, _+++_}
+use Rattle.terms.specs.Parser.{Result, Parser, got, refused, bind, number}
+use Rattle.terms.specs.Tokens.{Area}
+use Rattle.terms.specs.Term.{Term, Parts, end, num, sub, partItems, sizes, _+++_}
 use Rattle.terms.specs.Shape.{definition, ordinary, ceiling}
 use Rattle.terms.specs.Pieces.{coded, numbered, fields}
-use Rattle.terms.specs.Done.{Room, RoomAfter, Only, TermDone, PartsDone, Clearable, Cleared, after, seq}
+use Rattle.terms.specs.Done.{TermDone, PartsDone, Cleared, after, seq}
 use Rattle.terms.specs.Substitution.{Entry, Receiver}
 use Rattle.terms.specs.Rows.{entries, receivers, arguments, entryRow, receiverRow, argumentRow, keys, single, records, answerOf, keptOf}
-use Rattle.terms.proofs.StoreLaws.{only-wider}
-use Rattle.terms.proofs.WroteLaws.{wrote-sub, none-done, seq-stop, seq-next, room-after}
+use Rattle.terms.proofs.Answers.{next-answer, done-next, done-stop}
+use Rattle.terms.proofs.WroteLaws.{wrote-sub, none-done, seq-stop, seq-next}
 use Rattle.terms.proofs.ReadLaws.{SoFar, so-far-done, so-far-more}
 
 -- ---- one record
@@ -63,31 +61,14 @@ module _ (s : List ℕ) (t : Parser Term) (f : Fields) (whole : Result Parts) (p
 
 -- ---- a row kept, or nothing
 
-fresh : (on : Bool) (d e f : Area) (i n : ℕ) (ws : List Item) → (on ≡ true → e ≡ puts d i ws) → Only i n d e → f ≡ pick on e (blank e i n) → f ≡ pick on (puts d i ws) (blank d i n)
-fresh true d e f i n ws s o h = h ∙ s refl
-fresh false d e f i n ws s o h = h ∙ o
-
 module _ (s : List ℕ) (found : Result Parts) (p : Place) (d e : Area) where
-  pub row-clearable : (r : Step) → PartsDone s found p d e r → Room s p → Clearable p (length s - p .at) r
-  row-clearable (Next q) x room = (omega (arith, x .2 .tokens), omega (arith, room-after s p d e _ _ q (x .2) room .tokens))
-  row-clearable (Stopped c) x room = omega (arith, room .tokens)
-
   pub row-answer : (r : Step) → PartsDone s found p d e r → r ≡ answerOf (λ ps. ps) p found
-  row-answer (Next q) x = rw (x .1, ← x .2 .tokens, ← x .2 .counts, ← x .2 .limit)
+  row-answer (Next q) x = rw (x .1) (next-answer p q (partItems (x .0)) (sizes (x .0)) (x .2 .tokens) (x .2 .counts) (x .2 .limit))
   row-answer (Stopped c) x = rw (x .0)
 
   pub row-kept : (r : Step) (f : Area) → PartsDone s found p d e r → Cleared p (length s - p .at) e f r → f ≡ keptOf (λ ps. ps) s p found d
-  row-kept (Next q) f x c =
-      let w = x .2 in
-      let n : q .top - p .top ≡ length (partItems (x .0)) = omega (arith, w .tokens) in
-      let y = fresh (leb (q .nodes) (q .limit)) d e f (p .top) (length (partItems (x .0))) (partItems (x .0)) (λ h. w .stored (omega (arith, w .limit, leb-true (q .nodes) (q .limit) h))) (w .only) (rw n at c) in
-      rw (x .1, ← w .counts, ← w .limit) y
-  row-kept (Stopped c) f x y =
-      rw (x .0) (y ∙ only-wider d e (p .top) (length s - p .at) (x .1) (p .top) (length s - p .at + 1) (omega arith) (omega arith))
-
-  pub row-room : (r : Step) → PartsDone s found p d e r → Room s p → RoomAfter s r
-  row-room (Next q) x room = room-after s p d e _ _ q (x .2) room
-  row-room (Stopped c) x room = tt
+  row-kept (Next q) f x c = rw (x .1) (done-next partItems sizes s found p d e q f x c)
+  row-kept (Stopped c) f x y = rw (x .0) (done-stop partItems sizes s found p d e c f x y)
 
 -- ---- the lists, as rows
 

@@ -6,7 +6,7 @@ use mathlib.Core.Logic.{_⊎_, inl, inr}
 use Prim.Native.Nat.{ℕ, zero, suc, _+_, _-_, _%_, _≤_, _<_}
 use native.Mathlib.Decide.{decLt, ℕ-discrete}
 use native.Mathlib.Omega.{arith}
-use borrow.Author.Tests.{eq-eqb, ne-eqb, eqb-true, le-leb, lt-leb}
+use borrow.Author.Tests.{eq-eqb, ne-eqb, eqb-true, eqb-false, le-leb, lt-leb}
 use lib.Dec.{eqb, leb}
 use lib.ListN.{length, getD, take, drop, length-append}
 use lib.Seq.{sets, length-sets}
@@ -21,8 +21,8 @@ use Rattle.terms.specs.Asking.{word, tagOf}
 use Rattle.terms.specs.Tokens.{spell}
 use Rattle.terms.specs.Views.{recovery}
 use Rattle.terms.specs.Recovery.{recover-from, recover-row, reach, nominalReach, parts}
-use Rattle.terms.specs.Recovering.{putIf, Put, upto, alike}
-use Rattle.terms.proofs.Bools.{never-true, and-false, or-true, or-right, or-false, or-none}
+use Rattle.terms.specs.Recovering.{putIf, Put, upto, alike, Parted, noLeft, noRight, numberTerm, termNumber}
+use Rattle.terms.proofs.Bools.{never-true, never-false, and-false, or-true, or-right, or-false, or-none}
 use Rattle.terms.proofs.WriteLaws.{sets-append, held-bytes, spell-step, spelt-add}
 use Rattle.terms.specs.Shape as shape
 use Rattle.terms.specs.Shape.{Shape, Meaning, kindOf, manyTerms, manyMembers, nominal, layout}
@@ -231,6 +231,13 @@ alike-last ks vs i ae j be whole x h = go (decLt j be)
     go : Dec (j < be) → leb be j ≡ whole
     go (yes k) = lt-leb be j k ∙ sym (more (x .right) (x .heldRight) k over)
     go (no k) = le-leb be j (omega arith) ∙ sym (over ∙ ap (λ (y : Parts). alike end y) (row-end ks vs j be (x .right) (x .heldRight) (omega arith)))
+
+-- rows that part before the first one ends
+pub alike-parted : (ks vs : List ℕ) (i ae j be : ℕ) (whole : Bool) → Alike ks vs i ae j be whole → Parted ks i ae j be → i < ae → false ≡ whole
+alike-parted ks vs i ae j be whole x (noLeft h) k = absurd (omega arith)
+alike-parted ks vs i ae j be whole x (noRight h l) k = alike-short ks vs i ae j be whole x h l
+alike-parted ks vs i ae j be whole x (numberTerm h l p q) k = alike-number-term ks vs i ae j be whole x h l p q
+alike-parted ks vs i ae j be whole x (termNumber h l p q) k = alike-term-number ks vs i ae j be whole x h l p q
 
 -- ---- rows by parts
 
@@ -530,8 +537,12 @@ unfolding Formed
 node-fit k ps f = f .1
 
 -- the tag of a term that fills a part of the areas
-pub tag-held : (ks vs : List ℕ) (p pe : ℕ) (t : Term) → HeldParts ks vs p pe (sub t end) → tagOf (getD ks p 0) ≡ tag t
+tag-held : (ks vs : List ℕ) (p pe : ℕ) (t : Term) → HeldParts ks vs p pe (sub t end) → tagOf (getD ks p 0) ≡ tag t
 tag-held ks vs p pe t h = ap tagOf (held-first ks vs p t (held-sub ks vs p pe t end h .0) .0) ∙ tag-kind t
+
+-- a tag that was told of the word there
+pub tag-told : (ks vs : List ℕ) (p pe : ℕ) (t : Term) → HeldParts ks vs p pe (sub t end) → (w k : ℕ) → w ≡ getD ks p 0 → k ≡ tagOf w → k ≡ tag t
+tag-told ks vs p pe t h w k e f = f ∙ ap tagOf e ∙ tag-held ks vs p pe t h
 
 -- a tag of a list that has no 1
 pub not-variable : (t : Term) (a b c d : ℕ) → among 1 (a ∷ b ∷ c ∷ d ∷ []) ≡ false → among (tag t) (a ∷ b ∷ c ∷ d ∷ []) ≡ true → tag t ≡ 1 → ⊥
@@ -668,12 +679,12 @@ row-bytes ks vs i e (sub t ps) h =
     ∙ ap (λ (l : List ℕ). bytes t ++ l) (row-bytes ks vs (i + length (items t)) e ps (q .1))
 
 -- the cases of the definition
-pub hole-right : (t u : Term) → recovery (tag u) ≡ true → recover-from t u ≡ t
+hole-right : (t u : Term) → recovery (tag u) ≡ true → recover-from t u ≡ t
 unfolding recover-from
 hole-right (var v) u h = refl
 hole-right (node k ps) u h = rw h
 
-pub variable-left : (t u : Term) → Formed t → tag t ≡ 1 → recover-from t u ≡ t
+variable-left : (t u : Term) → Formed t → tag t ≡ 1 → recover-from t u ≡ t
 unfolding recover-from Formed tag kindOf
 variable-left (var v) u f h = refl
 variable-left (node k ps) u f h = absurd (no-node k h (f .0))
@@ -688,6 +699,22 @@ pub hole-left : (t u : Term) → recovery (tag u) ≡ false → (tag t ≡ 1 →
 unfolding recover-from tag
 hole-left (var v) u n d h = absurd (d refl)
 hole-left (node k ps) u n d h = rw (n, h)
+
+-- the first stays as it is
+pub stays-first : (t u : Term) → Formed t → (recovery (tag u) || eqb (tag t) 1) ≡ true → recover-from t u ≡ t
+stays-first t u f h = go (recovery (tag u)) refl h
+  where
+    go : (x : Bool) → recovery (tag u) ≡ x → (x || eqb (tag t) 1) ≡ true → recover-from t u ≡ t
+    go true e h = hole-right t u e
+    go false e h = variable-left t u f (eqb-true (tag t) 1 h)
+
+-- it does not
+pub stays-not : (t u : Term) → (recovery (tag u) || eqb (tag t) 1) ≡ false → (recovery (tag u) ≡ false) × (tag t ≡ 1 → ⊥)
+stays-not t u h = go (recovery (tag u)) refl h
+  where
+    go : (x : Bool) → recovery (tag u) ≡ x → (x || eqb (tag t) 1) ≡ false → (recovery (tag u) ≡ false) × (tag t ≡ 1 → ⊥)
+    go true e h = never-false h
+    go false e h = (e, eqb-false (tag t) 1 h)
 
 -- the head and the row
 pub entered-term : (t u : Term) → recovery (tag u) ≡ false → (tag t ≡ 1 → ⊥) → recovery (tag t) ≡ false
@@ -876,6 +903,13 @@ module _ (ks vs : List ℕ) (i pe stop j qe : ℕ) (out₀ out : List ℕ) (at t
               ∙ ap (λ (k : ℕ). x .done ++ partBytes (recover-row (sub (y .t) (y .ps)) k (sub (y .u) (y .qs)))) (y .counts)
               ∙ sym (append-assoc (x .done) z (partBytes (recover-row (y .ps) (y .count) (y .qs))));
         }
+
+  -- rows that part here: the first stays as it is
+  pub stays-parted : stop ≤ pe → Parted ks i stop j qe → recover-row (x .left) (x .count) (x .right) ≡ x .left
+  stays-parted hp (noLeft h) = stays-no-left h
+  stays-parted hp (noRight h k) = stays-no-right k
+  stays-parted hp (numberTerm h k p q) = stays-numbers h hp k p q
+  stays-parted hp (termNumber h k p q) = stays-terms h hp k p q
 
 -- what `skip` tells of the term that comes next
 pub told-row : (ks vs : List ℕ) (i e n : ℕ) (t : Term) (ps : Parts) → HeldParts ks vs i e (sub t ps)

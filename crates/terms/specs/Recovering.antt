@@ -2,9 +2,9 @@
 use mathlib.Core.Path.{_≡_}
 use mathlib.Core.Bool.{Bool, true, false, _&&_}
 use mathlib.Core.List.{List}
-use Prim.Native.Nat.{ℕ, zero, suc, _+_, _≤_}
+use Prim.Native.Nat.{ℕ, zero, suc, _+_, _≤_, _<_}
 use lib.Dec.{eqb, leb}
-use lib.ListN.{length}
+use lib.ListN.{length, getD}
 use lib.Seq.{sets}
 use Rattle.terms.specs.Result.{pick}
 use Rattle.terms.specs.Term.{Term, Parts, end, num, sub, items}
@@ -37,3 +37,17 @@ alike (num n ps) (sub u qs) = false
 alike (sub t ps) end = false
 alike (sub t ps) (num m qs) = false
 alike (sub t ps) (sub u qs) = alike ps qs
+
+-- rows from i up to ae and from j up to be both go on with a number, or both with a term
+pub record Paired (ks : List ℕ) (i ae j be : ℕ) : Type 0 where
+  pub left : i < ae
+  pub right : j < be
+  pub number : getD ks i 0 ≡ 0 → getD ks j 0 ≡ 0
+  pub term : (getD ks i 0 ≡ 0 → ⊥) → getD ks j 0 ≡ 0 → ⊥
+
+-- they do not: one of them ends, or they have a number and a term
+pub data Parted (ks : List ℕ) (i ae j be : ℕ) : Type 0 where
+  noLeft : ae ≤ i → Parted ks i ae j be
+  noRight : i < ae → be ≤ j → Parted ks i ae j be
+  numberTerm : i < ae → j < be → getD ks i 0 ≡ 0 → (getD ks j 0 ≡ 0 → ⊥) → Parted ks i ae j be
+  termNumber : i < ae → j < be → (getD ks i 0 ≡ 0 → ⊥) → getD ks j 0 ≡ 0 → Parted ks i ae j be

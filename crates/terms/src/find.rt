@@ -4,7 +4,8 @@ use super::NumberRead;
 use super::ParameterRead;
 use super::ParametersRead;
 use super::numbers::read_number;
-use super::runs::wide;
+use super::runs::long_at;
+use super::runs::stride;
 use super::values::DEFINITION;
 use super::values::ORDINARY;
 ghost use mathlib.Core.Path.{_≡_};
@@ -13,10 +14,9 @@ ghost use Prim.Native.Nat.{_-_, _≤_, _<_};
 ghost use lib.Dec.{eqb};
 ghost use lib.ListN.{length};
 ghost use Rattle.terms.specs.Result.{pick};
-ghost use Rattle.terms.specs.Held.{span};
 ghost use Rattle.terms.specs.Number.{resultOf};
 ghost use Rattle.terms.specs.Parameters.{parameter, parameters, parameterRead, passed, past, indexIn};
-ghost use Rattle.terms.specs.Search.{stride, lastAt, entryAt, receiverAt, nthAt};
+ghost use Rattle.terms.specs.Search.{lastAt, entryAt, receiverAt, nthAt};
 
 // Reads a parameter: an owner and a position.
 fn parameter_at(s: &[u8], at: usize) -> ParameterRead
@@ -92,37 +92,6 @@ pub fn find_parameter(s: &[u8], at: usize, count: u64, owner: u64, position: u64
     }
 }
 
-pub fn long(x: u32) -> u64
-    ensures { λ r. ⌜ r ≡ x ⌝ }
-{
-    x as u64
-}
-
-// How many tokens a term has whose first token this is.
-fn span_of(k: u32, v: u32) -> usize
-    ensures { λ r. ⌜ r ≡ span k v ⌝ }
-{
-    if k < 2 {
-        return 1;
-    }
-    wide(v)
-}
-
-// How far the term at i goes, within `room`.
-pub fn stride(kinds: &[u32], vals: &[u32], i: usize, room: usize) -> usize
-    requires { ⌜ (i < length (now kinds)) × (length (now vals) ≡ length (now kinds)) ⌝ }
-    ensures { λ r. ⌜ r ≡ stride (now (kinds .entry)) (now (vals .entry)) i room ⌝ }
-{
-    let s = span_of(kinds[i], vals[i]);
-    if s == 0 {
-        return 1;
-    }
-    if room < s {
-        return room;
-    }
-    s
-}
-
 // Looks in a row of records, each of `width` numbers and a term, for the last one with this first and this last number. Linear in the records.
 fn find_record(
     kinds: &[u32],
@@ -144,7 +113,7 @@ fn find_record(
             return best;
         }
         let t = i + width;
-        best = later(best, t, long(vals[i]), long(vals[t - 1]), first, last);
+        best = later(best, t, long_at(vals, i), long_at(vals, t - 1), first, last);
         i = t + stride(kinds, vals, t, end - t);
     }
     best

@@ -2,6 +2,7 @@
 // of question 7 is looked for among the parameters.
 use super::Lookup;
 use super::find::find_parameter;
+use super::runs;
 use super::runs::is_one;
 use super::runs::skip;
 ghost use mathlib.Core.Path.{_≡_};
@@ -98,7 +99,7 @@ pub fn word_at(vals: &[u32], i: usize, end: usize) -> u32
     ensures { λ r. ⌜ r ≡ word (now (vals .entry)) i end ⌝ }
 {
     if i < end {
-        return vals[i];
+        return runs::word(vals, i);
     }
     0
 }

@@ -4,20 +4,23 @@ use super::questions::tag_of;
 use super::questions::word_at;
 use super::runs::is_one;
 use super::runs::skip;
+use super::runs::word;
 use super::write::put_run;
 ghost use mathlib.Core.Path.{_≡_};
+ghost use mathlib.Core.Bool.{true, false, _||_};
 ghost use Prim.Native.Nat.{ℕ, _+_, _-_, _*_, _^_, _≤_, _<_};
 ghost use lib.Dec.{eqb};
 ghost use lib.ListN.{length};
 ghost use Rattle.terms.specs.Result.{pick};
 ghost use Rattle.terms.specs.Asking.{word};
+ghost use Rattle.terms.specs.Views.{recovery};
 ghost use Rattle.terms.specs.Term.{Term, Parts, node, end, sub, bytes, partBytes, Subs};
 ghost use Rattle.terms.specs.Held.{Held, HeldParts};
 ghost use Rattle.terms.specs.Shape.{Shape, manyTerms, nominal, done};
 ghost use Rattle.terms.specs.Formed.{Formed, Fit};
 ghost use Rattle.terms.specs.Tree.{row};
 ghost use Rattle.terms.specs.Recovery.{recover-from, recover-row, reach, nominalReach};
-ghost use Rattle.terms.specs.Recovering.{putIf, Put, upto, alike};
+ghost use Rattle.terms.specs.Recovering.{putIf, Put, upto, alike, Paired, Parted};
 
 // The place behind n terms from i on, at most e.
 fn behind_terms(kinds: &[u32], vals: &[u32], i: usize, e: usize, n: u32) -> usize
@@ -37,6 +40,24 @@ fn behind_terms(kinds: &[u32], vals: &[u32], i: usize, e: usize, n: u32) -> usiz
     p
 }
 
+// Whether the rows from i up to ae and from j up to be both go on with a number, or both with a term.
+fn paired(kinds: &[u32], i: usize, ae: usize, j: usize, be: usize) -> bool
+    requires { ⌜ (ae ≤ length (now kinds)) × (be ≤ length (now kinds)) ⌝ }
+    ensures on { λ r. ⌜ (r ≡ true → Paired (now (kinds .entry)) i ae j be) ⌝ }
+    ensures off { λ r. ⌜ (r ≡ false → Parted (now (kinds .entry)) i ae j be) ⌝ }
+{
+    if ae <= i {
+        return false;
+    }
+    if be <= j {
+        return false;
+    }
+    if word(kinds, i) == 0 {
+        return word(kinds, j) == 0;
+    }
+    word(kinds, j) != 0
+}
+
 // Whether two rows have the same numbers at the same places.
 fn alike_rows(kinds: &[u32], vals: &[u32], a: usize, ae: usize, b: usize, be: usize) -> bool
     requires { ⌜ (a ≤ ae) × (ae ≤ length (now kinds)) × (b ≤ be) × (be ≤ length (now kinds)) × (length (now vals) ≡ length (now kinds)) ⌝ }
@@ -44,26 +65,20 @@ fn alike_rows(kinds: &[u32], vals: &[u32], a: usize, ae: usize, b: usize, be: us
 {
     let mut i = a;
     let mut j = b;
-    while i < ae {
-        if be <= j {
-            return false;
-        }
-        if kinds[i] == 0 {
-            if kinds[j] != 0 {
-                return false;
-            }
-            if vals[i] != vals[j] {
+    while paired(kinds, i, ae, j, be) {
+        if word(kinds, i) == 0 {
+            if word(vals, i) != word(vals, j) {
                 return false;
             }
             i += 1;
             j += 1;
         } else {
-            if kinds[j] == 0 {
-                return false;
-            }
             i += skip(kinds, vals, i, ae - i);
             j += skip(kinds, vals, j, be - j);
         }
+    }
+    if i < ae {
+        return false;
     }
     be <= j
 }
@@ -101,8 +116,8 @@ fn reach_end(kinds: &[u32], vals: &[u32], p: usize, pe: usize, q: usize, qe: usi
     ensures within { λ r. ⌜ (p < r) × (r ≤ pe) ⌝ }
     ensures reached { λ r. ⌜ ((t u : Term) → HeldParts (now (kinds .entry)) (now (vals .entry)) p pe (sub t end) → HeldParts (now (kinds .entry)) (now (vals .entry)) q qe (sub u end) → Formed t → Formed u → r ≡ p + 1 + upto (reach t u) (row t)) ⌝ }
 {
-    let k = tag_of(kinds[p]);
-    if k != tag_of(kinds[q]) {
+    let k = tag_of(word(kinds, p));
+    if k != tag_of(word(kinds, q)) {
         return p + 1;
     }
     // Iter, Array, Map, Set
@@ -140,6 +155,16 @@ fn first_reach(vals: &[u32], p: usize, pe: usize, q: usize, qe: usize) -> usize
     p + 1
 }
 
+// Whether the first of two terms stays as it is, by their tags: Unknown and Error fill nothing, and Inference is never replaced.
+fn stays(k: u32, l: u32) -> bool
+    ensures { λ r. ⌜ r ≡ (recovery l || eqb k 1) ⌝ }
+{
+    if is_one(l, 2, 3, 3) {
+        return true;
+    }
+    k == 1
+}
+
 // Writes the term at p with its holes filled from the term at q where it fits, and returns the position after it.
 fn recover_term(
     kinds: &[u32],
@@ -156,12 +181,8 @@ fn recover_term(
     ensures bound { λ r. ⌜ (at ≤ r) × (r ≤ at + 6 * (pe - p) + 6 * (qe - q)) ⌝ }
     ensures put { λ r. ⌜ ((t u : Term) → HeldParts (now (kinds .entry)) (now (vals .entry)) p pe (sub t end) → HeldParts (now (kinds .entry)) (now (vals .entry)) q qe (sub u end) → Formed t → Formed u → Put (now (out .entry)) (now (out .exit)) at r (bytes (recover-from t u))) ⌝ }
 {
-    let k = tag_of(kinds[p]);
-    // Unknown and Error fill nothing, and Inference is never replaced
-    if is_one(tag_of(kinds[q]), 2, 3, 3) {
-        return put_run(kinds, vals, p, pe - p, out, at);
-    }
-    if k == 1 {
+    let k = tag_of(word(kinds, p));
+    if stays(k, tag_of(word(kinds, q))) {
         return put_run(kinds, vals, p, pe - p, out, at);
     }
     if is_one(k, 2, 3, 3) {
@@ -192,21 +213,12 @@ fn recover_row(
     let mut i = p;
     let mut j = q;
     let mut to = at;
-    while i < stop {
-        if qe <= j {
-            return put_run(kinds, vals, i, pe - i, out, to);
-        }
-        if kinds[i] == 0 {
-            if kinds[j] != 0 {
-                return put_run(kinds, vals, i, pe - i, out, to);
-            }
+    while paired(kinds, i, stop, j, qe) {
+        if word(kinds, i) == 0 {
             to = put_run(kinds, vals, i, 1, out, to);
             i += 1;
             j += 1;
         } else {
-            if kinds[j] == 0 {
-                return put_run(kinds, vals, i, pe - i, out, to);
-            }
             let n = skip(kinds, vals, i, pe - i);
             let m = skip(kinds, vals, j, qe - j);
             to = recover_term(kinds, vals, i, i + n, j, j + m, out, to);

@@ -7,29 +7,19 @@ use super::Lookup;
 use super::find::find_entry;
 use super::find::find_parameter;
 use super::find::find_receiver;
-use super::find::long;
 use super::find::nth_term;
-use super::find::stride;
+use super::runs::long_at;
+use super::runs::stride;
 use super::write::run_len;
 use super::write::write_run;
 ghost use mathlib.Core.Path.{_≡_};
 ghost use Prim.Native.Nat.{_+_, _-_, _≤_, _<_};
-ghost use lib.ListN.{length, getD};
+ghost use lib.ListN.{length};
 ghost use lib.Seq.{sets};
 ghost use Rattle.terms.specs.Result.{pick};
 ghost use Rattle.terms.specs.Writing.{spelt};
 ghost use Rattle.terms.specs.Search.{argumentFor};
 ghost use Rattle.terms.specs.Rewriting.{by, index, generic, inContext, self, chosen, piece, pace, rewritten, written, Ready, Space, Inside, Writes, Rewrites, forInstance, forContext, forFamily};
-
-// A word, or 0 past the end.
-fn word(words: &[u32], i: usize) -> u64
-    ensures { λ r. ⌜ r ≡ getD (now (words .entry)) i 0 ⌝ }
-{
-    if i < words.len() {
-        return long(words[i]);
-    }
-    0
-}
 
 // What was found, or the term itself.
 fn taken(found: Lookup) -> Choice
@@ -127,15 +117,15 @@ fn replaced_at(kinds: &[u32], vals: &[u32], s: &[u8], b: Binders, p: usize) -> C
 {
     let k = kinds[p];
     if k == 19 {
-        let owner = word(vals, p + 1);
-        let position = word(vals, p + 2);
+        let owner = long_at(vals, p + 1);
+        let position = long_at(vals, p + 2);
         if b.context {
             return context_at(kinds, vals, s, b, owner, position);
         }
         return generic_at(kinds, vals, s, b, owner, position);
     }
     if k == 21 {
-        let owner = word(vals, p + 1);
+        let owner = long_at(vals, p + 1);
         return self_at(kinds, vals, b, owner);
     }
     Choice::Keep

@@ -9,14 +9,14 @@ use super::alike::cursor;
 use super::alike::moved;
 use super::alike::same_rows;
 use super::runs::wide;
+use super::runs::word;
 use super::view::step;
 use super::view::token_at;
-use super::view::word;
 ghost use mathlib.Core.Path.{_≡_};
-ghost use mathlib.Core.Bool.{Bool};
+ghost use mathlib.Core.Bool.{Bool, true, false};
 ghost use mathlib.Core.List.{List};
 ghost use Prim.Native.Nat.{ℕ, _+_, _*_, _≤_, _<_};
-ghost use lib.ListN.{length};
+ghost use lib.ListN.{length, getD};
 ghost use Rattle.terms.specs.View.{view, Sight};
 ghost use Rattle.terms.specs.Term.{Term, depths};
 ghost use Rattle.terms.specs.Tree.{row};
@@ -73,6 +73,22 @@ fn term_cursor(kinds: &[u32], vals: &[u32], g: Origin, p: usize) -> Cursor
     }
 }
 
+// Whether the number m stands at a place of a row that ends at `end`.
+fn number_next(kinds: &[u32], vals: &[u32], g: Origin, at: usize, end: usize, m: u32) -> bool
+    requires { ⌜ Sight (now kinds) (now vals) g ⌝ }
+    ensures yes { λ r. ⌜ (r ≡ true → (at < end) × (getD (view (now (kinds .entry)) (now (vals .entry)) g .kinds) at 0 ≡ 0) × (getD (view (now (kinds .entry)) (now (vals .entry)) g .vals) at 0 ≡ m)) ⌝ }
+    ensures no { λ r. ⌜ (r ≡ false → at < end → getD (view (now (kinds .entry)) (now (vals .entry)) g .kinds) at 0 ≡ 0 → getD (view (now (kinds .entry)) (now (vals .entry)) g .vals) at 0 ≡ m → ⊥) ⌝ }
+{
+    if end <= at {
+        return false;
+    }
+    let a = token_at(kinds, vals, g, at);
+    if a.kind != 0 {
+        return false;
+    }
+    a.value == m
+}
+
 // Whether two numbers come next in a row, and the place behind them.
 fn two_numbers(kinds: &[u32], vals: &[u32], g: Origin, x: Cursor, m: u32, n: u32) -> Met
     requires sight { ⌜ Sight (now kinds) (now vals) g ⌝ }
@@ -80,24 +96,10 @@ fn two_numbers(kinds: &[u32], vals: &[u32], g: Origin, x: Cursor, m: u32, n: u32
     ensures { λ r. ⌜ Numbers (view (now (kinds .entry)) (now (vals .entry)) g) x m n r ⌝ }
 {
     let at = x.at;
-    if x.end <= at {
+    if !number_next(kinds, vals, g, at, x.end, m) {
         return Met::Apart;
     }
-    if x.end <= at + 1 {
-        return Met::Apart;
-    }
-    let a = token_at(kinds, vals, g, at);
-    if a.kind != 0 {
-        return Met::Apart;
-    }
-    if a.value != m {
-        return Met::Apart;
-    }
-    let b = token_at(kinds, vals, g, at + 1);
-    if b.kind != 0 {
-        return Met::Apart;
-    }
-    if b.value != n {
+    if !number_next(kinds, vals, g, at + 1, x.end, n) {
         return Met::Apart;
     }
     Met::Behind(at + 2, x.child)

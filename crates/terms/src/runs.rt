@@ -8,12 +8,36 @@ ghost use Rattle.terms.specs.Term.{Term};
 ghost use Rattle.terms.specs.Held.{Held, span};
 ghost use Rattle.terms.specs.Tree.{same};
 ghost use Rattle.terms.specs.Questions.{among};
+ghost use Rattle.terms.specs.Search.{stride};
 ghost use mathlib.Core.List.{[], _∷_};
 
 pub fn wide(x: u32) -> usize
     ensures { λ r. ⌜ r ≡ x ⌝ }
 {
     x as usize
+}
+
+fn long(x: u32) -> u64
+    ensures { λ r. ⌜ r ≡ x ⌝ }
+{
+    x as u64
+}
+
+// The word at i, 0 past the end.
+pub fn word(words: &[u32], i: usize) -> u32
+    ensures { λ r. ⌜ r ≡ getD (now (words .entry)) i 0 ⌝ }
+{
+    if i < words.len() {
+        return words[i];
+    }
+    0
+}
+
+// The same, as a wider number.
+pub fn long_at(words: &[u32], i: usize) -> u64
+    ensures { λ r. ⌜ r ≡ getD (now (words .entry)) i 0 ⌝ }
+{
+    long(word(words, i))
 }
 
 // Whether n is one of three numbers.
@@ -29,15 +53,22 @@ pub fn is_one(n: u32, a: u32, b: u32, c: u32) -> bool
     n == c
 }
 
-// How many tokens the term at i has, at least 1 and at most `room`.
-pub fn skip(kinds: &[u32], vals: &[u32], i: usize, room: usize) -> usize
-    requires { ⌜ (i < length (now kinds)) × (length (now vals) ≡ length (now kinds)) × (1 ≤ room) ⌝ }
-    ensures { λ r. ⌜ (1 ≤ r) × (r ≤ room) × (1 ≤ span (getD (now (kinds .entry)) i 0) (getD (now (vals .entry)) i 0) → span (getD (now (kinds .entry)) i 0) (getD (now (vals .entry)) i 0) ≤ room → r ≡ span (getD (now (kinds .entry)) i 0) (getD (now (vals .entry)) i 0)) ⌝ }
+// How many tokens a term has whose first token this is.
+fn span_of(k: u32, v: u32) -> usize
+    ensures { λ r. ⌜ r ≡ span k v ⌝ }
 {
-    if kinds[i] < 2 {
+    if k < 2 {
         return 1;
     }
-    let s = wide(vals[i]);
+    wide(v)
+}
+
+// How far the term at i goes, within `room`.
+pub fn stride(kinds: &[u32], vals: &[u32], i: usize, room: usize) -> usize
+    requires { ⌜ (i < length (now kinds)) × (length (now vals) ≡ length (now kinds)) ⌝ }
+    ensures { λ r. ⌜ r ≡ stride (now (kinds .entry)) (now (vals .entry)) i room ⌝ }
+{
+    let s = span_of(word(kinds, i), word(vals, i));
     if s == 0 {
         return 1;
     }
@@ -45,6 +76,14 @@ pub fn skip(kinds: &[u32], vals: &[u32], i: usize, room: usize) -> usize
         return room;
     }
     s
+}
+
+// How many tokens the term at i has, at least 1 and at most `room`.
+pub fn skip(kinds: &[u32], vals: &[u32], i: usize, room: usize) -> usize
+    requires { ⌜ (i < length (now kinds)) × (length (now vals) ≡ length (now kinds)) × (1 ≤ room) ⌝ }
+    ensures { λ r. ⌜ (1 ≤ r) × (r ≤ room) × (1 ≤ span (getD (now (kinds .entry)) i 0) (getD (now (vals .entry)) i 0) → span (getD (now (kinds .entry)) i 0) (getD (now (vals .entry)) i 0) ≤ room → r ≡ span (getD (now (kinds .entry)) i 0) (getD (now (vals .entry)) i 0)) ⌝ }
+{
+    stride(kinds, vals, i, room)
 }
 
 // Whether the two runs of `count` tokens are the same, token by token.

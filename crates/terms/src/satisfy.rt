@@ -7,12 +7,13 @@ use super::Pace;
 use super::runs::same_term;
 use super::runs::skip;
 use super::runs::wide;
+use super::runs::word;
 ghost use mathlib.Core.Path.{_≡_};
 ghost use mathlib.Core.Bool.{Bool};
 ghost use mathlib.Core.List.{List};
 ghost use mathlib.Core.Option.{Option};
 ghost use Prim.Native.Nat.{ℕ, _+_, _≤_, _<_};
-ghost use lib.ListN.{length, getD};
+ghost use lib.ListN.{length};
 ghost use Rattle.terms.specs.Term.{Term, Parts, node, items};
 ghost use Rattle.terms.specs.Held.{Held};
 ghost use Rattle.terms.specs.Shape.{nominal, done};
@@ -20,16 +21,6 @@ ghost use Rattle.terms.specs.Formed.{Formed, Fit};
 ghost use Rattle.terms.specs.Tree.{Nominal, lookUp, nominalOf};
 ghost use Rattle.terms.specs.Views.{sameOption, every, satisfies, reflexive, satisfies-for};
 ghost use Rattle.terms.specs.Satisfying.{Laid, Listed, Lists, Near, Agreed, Headed, Pairs, Inside, Looked, Short, Passes, Gave, Ended, Satisfied, covers};
-
-// The word at i, or 0 past the end.
-fn word(vals: &[u32], i: usize) -> u32
-    ensures { λ r. ⌜ r ≡ getD (now (vals .entry)) i 0 ⌝ }
-{
-    if i < vals.len() {
-        return vals[i];
-    }
-    0
-}
 
 // The place behind the term at i.
 fn behind(kinds: &[u32], vals: &[u32], i: usize) -> usize
@@ -133,13 +124,14 @@ fn heads(kinds: &[u32], vals: &[u32], a: usize, b: usize) -> Pace
     if kinds.len() <= b + 1 {
         return Pace::Clash;
     }
-    if vals[a] != vals[b] {
+    if word(vals, a) != word(vals, b) {
         return Pace::Clash;
     }
-    if vals[a + 1] != vals[b + 1] {
+    let n = word(vals, a + 1);
+    if n != word(vals, b + 1) {
         return Pace::Clash;
     }
-    let count = wide(vals[a + 1]);
+    let count = wide(n);
     same_terms(kinds, vals, a + 2, b + 2, count)
 }
 

@@ -3,21 +3,12 @@ use super::Origin;
 use super::Spot;
 use super::Token;
 use super::runs::wide;
+use super::runs::word;
 ghost use mathlib.Core.Path.{_≡_};
 ghost use Prim.Native.Nat.{_+_, _≤_, _<_};
 ghost use lib.ListN.{getD};
 ghost use Rattle.terms.specs.Held.{span};
 ghost use Rattle.terms.specs.View.{copied, Located, view, Sight};
-
-// The word at i, 0 past the end.
-pub fn word(words: &[u32], i: usize) -> u32
-    ensures { λ r. ⌜ r ≡ getD (now (words .entry)) i 0 ⌝ }
-{
-    if i < words.len() {
-        return words[i];
-    }
-    0
-}
 
 // Which lent token stands r-th behind the head of the projection for the token t.
 fn copied(g: Origin, len: usize, r: usize, t: usize) -> usize

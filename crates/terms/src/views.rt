@@ -3,6 +3,7 @@ use super::Pace;
 use super::runs::is_one;
 use super::runs::same_term;
 use super::runs::skip;
+use super::runs::word;
 ghost use mathlib.Core.Path.{_≡_};
 ghost use mathlib.Core.Bool.{Bool};
 ghost use Prim.Native.Nat.{_≤_, _<_};
@@ -19,13 +20,13 @@ fn pair_step(kinds: &[u32], vals: &[u32], i: usize, ae: usize, j: usize, be: usi
     ensures forward { λ r. ⌜ Forward i ae j be r ⌝ }
     ensures stepped { λ r. ⌜ ((whole : Bool) → Rows (now (kinds .entry)) (now (vals .entry)) i ae j be whole → Stepped (now (kinds .entry)) (now (vals .entry)) ae be whole r) ⌝ }
 {
-    let k = kinds[i];
-    let l = kinds[j];
+    let k = word(kinds, i);
+    let l = word(kinds, j);
     if k == 0 {
         if l != 0 {
             return Pace::Clash;
         }
-        if vals[i] != vals[j] {
+        if word(vals, i) != word(vals, j) {
             return Pace::Clash;
         }
         return Pace::Onward(i + 1, j + 1);
@@ -42,8 +43,8 @@ fn pair_terms(kinds: &[u32], vals: &[u32], i: usize, ae: usize, j: usize, be: us
     ensures forward { λ r. ⌜ Forward i ae j be r ⌝ }
     ensures stepped { λ r. ⌜ ((whole : Bool) → Rows (now (kinds .entry)) (now (vals .entry)) i ae j be whole → Stepped (now (kinds .entry)) (now (vals .entry)) ae be whole r) ⌝ }
 {
-    let k = kinds[i];
-    let l = kinds[j];
+    let k = word(kinds, i);
+    let l = word(kinds, j);
     // Inference, Unknown and Error conflict with nothing
     if is_one(k, 1, 4, 5) {
         return past(kinds, vals, i, ae, j, be);
@@ -114,8 +115,8 @@ pub fn can_weaken_to(kinds: &[u32], vals: &[u32], a: usize, b: usize) -> bool
     requires { ⌜ (a < length (now kinds)) × (b < length (now kinds)) × (length (now vals) ≡ length (now kinds)) ⌝ }
     ensures { λ r. ⌜ ((t u : Term) → Held (now (kinds .entry)) (now (vals .entry)) a t → Held (now (kinds .entry)) (now (vals .entry)) b u → Formed t → Formed u → r ≡ can-weaken-to t u) ⌝ }
 {
-    let k = kinds[a];
-    if k != kinds[b] {
+    let k = word(kinds, a);
+    if k != word(kinds, b) {
         return false;
     }
     // Reference, Map, Set
@@ -130,10 +131,10 @@ pub fn can_weaken_to(kinds: &[u32], vals: &[u32], a: usize, b: usize) -> bool
     if m < 2 {
         return false;
     }
-    if vals[a + 1] != 1 {
+    if word(vals, a + 1) != 1 {
         return false;
     }
-    if vals[b + 1] != 0 {
+    if word(vals, b + 1) != 0 {
         return false;
     }
     !rows_conflict(kinds, vals, a + 2, a + n, b + 2, b + m)

@@ -20,10 +20,10 @@ abbrev μ-loop : tie.MeasureT-loop
 μ-loop kinds vals from end width first last best₀ i₀ best i = end - i
 
 -- how far it goes
-far : (c : tie.After-stride Inv-loop μ-loop) → (1 ≤ c .stride .result) × (c .stride .result ≤ c .before .before .before .before .before .before .before .before .before .before .before .args .end - (c .before .before .before .before .before .before .before .before .loop .i + c .before .before .before .before .before .before .before .before .before .before .before .args .width))
+far : (c : tie.After-stride Inv-loop μ-loop) → (1 ≤ c .stride .result) × (c .stride .result ≤ c .before .before .before .before .before .before .before .before .before .args .end - (c .before .before .before .before .before .before .loop .i + c .before .before .before .before .before .before .before .before .before .args .width))
 far c =
-    let a = c .before .before .before .before .before .before .before .before .before .before .before .args in
-    let t = c .before .before .before .before .before .before .before .before .loop .i + a .width in
+    let a = c .before .before .before .before .before .before .before .before .before .args in
+    let t = c .before .before .before .before .before .before .loop .i + a .width in
     rw (c .stride .ensures) (clip-within (a .end - t) (span (getD (now (a .kinds)) t 0) (getD (now (a .vals)) t 0)) (omega arith))
 
 loop-holds : tie.Need-loop-holds Inv-loop μ-loop
@@ -38,26 +38,14 @@ returns c = search-end _ _ _ _ _ (omega arith) _ _ _ (c .if1 .taken) ∙ c .befo
 add-t : tie.Need-add-t Inv-loop μ-loop
 add-t c = search needs
 
-mul-long : tie.Need-mul-long Inv-loop μ-loop
-mul-long c = search needs
+long-at-requires : tie.Need-long-at-requires Inv-loop μ-loop
+long-at-requires c κs = search needs
 
-shared-slice-read-long : tie.Need-shared-slice-read-long Inv-loop μ-loop
-shared-slice-read-long c = search needs
+sub-long-at : tie.Need-sub-long-at Inv-loop μ-loop
+sub-long-at c = search needs
 
-long-requires : tie.Need-long-requires Inv-loop μ-loop
-long-requires c κs = search needs
-
-sub-long : tie.Need-sub-long Inv-loop μ-loop
-sub-long c = search needs
-
-mul-long-2 : tie.Need-mul-long-2 Inv-loop μ-loop
-mul-long-2 c = search needs
-
-shared-slice-read-long-2 : tie.Need-shared-slice-read-long-2 Inv-loop μ-loop
-shared-slice-read-long-2 c = search needs
-
-long-requires-2 : tie.Need-long-requires-2 Inv-loop μ-loop
-long-requires-2 c κs = search needs
+long-at-requires-2 : tie.Need-long-at-requires-2 Inv-loop μ-loop
+long-at-requires-2 c κs = search needs
 
 later-requires : tie.Need-later-requires Inv-loop μ-loop
 later-requires c κs = search needs
@@ -76,9 +64,9 @@ loop-less c = omega (arith, far c)
 
 loop-again : tie.Need-loop-again Inv-loop μ-loop
 loop-again c =
-    let a = c .before .before .before .before .before .before .before .before .before .before .before .args in
-    let l = c .before .before .before .before .before .before .before .before .loop in
-    search-more (now (a .kinds)) (now (a .vals)) (a .width) (a .first) (a .last) (omega arith) (l .i) (a .end) (l .best) (omega arith) _ (c .before .later .ensures ∙ rw (c .before .before .before .before .long .ensures, c .before .before .long2 .ensures)) _ (ap (λ (x : ℕ). l .i + a .width + x) (c .stride .ensures)) ∙ l .inv
+    let a = c .before .before .before .before .before .before .before .before .before .args in
+    let l = c .before .before .before .before .before .before .loop in
+    search-more (now (a .kinds)) (now (a .vals)) (a .width) (a .first) (a .last) (omega arith) (l .i) (a .end) (l .best) (omega arith) _ (c .before .later .ensures ∙ rw (c .before .before .before .long-at .ensures, c .before .before .long-at2 .ensures)) _ (ap (λ (x : ℕ). l .i + a .width + x) (c .stride .ensures)) ∙ l .inv
 
 returns-2 : tie.Need-returns-2 Inv-loop μ-loop
 returns-2 c = search-end _ _ _ _ _ (omega arith) _ _ _ (omega arith) ∙ c .before .loop .inv
@@ -93,13 +81,9 @@ find-record-spec =
     sub-if1
     returns
     add-t
-    mul-long
-    shared-slice-read-long
-    long-requires
-    sub-long
-    mul-long-2
-    shared-slice-read-long-2
-    long-requires-2
+    long-at-requires
+    sub-long-at
+    long-at-requires-2
     later-requires
     sub-stride
     stride-requires

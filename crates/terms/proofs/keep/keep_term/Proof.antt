@@ -3,7 +3,8 @@ use mathlib.Core.Path.{_≡_, _∙_}
 use native.Mathlib.Omega.{arith}
 use denote.Ref.{now}
 use Rattle.terms.specs.Tokens.{area}
-use Rattle.terms.proofs.Answers.{term-clearable, term-answer, term-kept, term-room}
+use Rattle.terms.specs.Term.{items, size}
+use Rattle.terms.proofs.Answers.{done-clearable, done-room, term-answer, term-kept}
 use borrow.Author.Needs.{needs}
 use Rattle.terms.proofs.keep.keep_term.Statement.{statement}
 use Rattle.terms.proofs.keep.keep_term.Tie as tie
@@ -18,7 +19,7 @@ clear-rest-requires : tie.Need-clear-rest-requires
 clear-rest-requires c κs =
     let a = c .before .before .before .before .before .before .before .before .before .before .before .before .before .args in
     let r = c .before .before .before .before .before .before .before .read-term in
-    term-clearable (now (a .s)) _ (a .p) (area (a .kinds .now) (a .vals .now)) (area (r .last .1 .0) (r .last .1 .1 .0)) (r .result) (r .ensures) (c .before .before .before .before .before .before .before .before .before .before .before .before .before .pre)
+    done-clearable items size (now (a .s)) _ (a .p) (area (a .kinds .now) (a .vals .now)) (area (r .last .1 .0) (r .last .1 .1 .0)) (r .result) (r .ensures) (c .before .before .before .before .before .before .before .before .before .before .before .before .before .pre)
 
 same-length : tie.Need-same-length
 same-length c = search needs
@@ -34,7 +35,7 @@ returns c =
     let r = c .before .before .before .before .before .before .before .before .before .before .before .before .read-term in
     let e = area (r .last .1 .0) (r .last .1 .1 .0) in
     let k = c .before .before .before .before .clear-rest in
-    (k .ensures .0 ∙ term-answer s _ (a .p) d e (r .result) (r .ensures), (term-kept s _ (a .p) d e (r .result) _ (r .ensures) (k .ensures .1), rw (k .ensures .0) (term-room s _ (a .p) d e (r .result) (r .ensures) (c .before .before .before .before .before .before .before .before .before .before .before .before .before .before .before .before .before .before .pre))))
+    (k .ensures .0 ∙ term-answer s _ (a .p) d e (r .result) (r .ensures), (term-kept s _ (a .p) d e (r .result) _ (r .ensures) (k .ensures .1), rw (k .ensures .0) (done-room items size s _ (a .p) d e (r .result) (r .ensures) (c .before .before .before .before .before .before .before .before .before .before .before .before .before .before .before .before .before .before .pre))))
 
 pub keep-term-spec : {M : Type 1} → statement M
 keep-term-spec =

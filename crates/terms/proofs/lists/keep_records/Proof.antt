@@ -2,7 +2,9 @@
 use denote.Ref.{now}
 use Rattle.terms.specs.Tokens.{area}
 use mathlib.Core.Path.{_∙_}
-use Rattle.terms.proofs.ListLaws.{row-clearable, row-answer, row-kept, row-room}
+use Rattle.terms.specs.Term.{partItems, sizes}
+use Rattle.terms.proofs.Answers.{done-clearable, done-room}
+use Rattle.terms.proofs.ListLaws.{row-answer, row-kept}
 use borrow.Author.Needs.{needs}
 use Rattle.terms.proofs.lists.keep_records.Statement.{statement}
 use Rattle.terms.proofs.lists.keep_records.Tie as tie
@@ -17,7 +19,7 @@ clear-rest-requires : tie.Need-clear-rest-requires
 clear-rest-requires c κs =
     let a = c .before .before .before .before .before .before .before .before .before .before .before .before .before .args in
     let r = c .before .before .before .before .before .before .before .read-records in
-    row-clearable (now (a .s)) _ (a .p) (area (a .kinds .now) (a .vals .now)) (area (r .last .1 .0) (r .last .1 .1 .0)) (r .result) (r .ensures) (c .before .before .before .before .before .before .before .before .before .before .before .before .before .pre)
+    done-clearable partItems sizes (now (a .s)) _ (a .p) (area (a .kinds .now) (a .vals .now)) (area (r .last .1 .0) (r .last .1 .1 .0)) (r .result) (r .ensures) (c .before .before .before .before .before .before .before .before .before .before .before .before .before .pre)
 
 same-length : tie.Need-same-length
 same-length c = search needs
@@ -33,7 +35,7 @@ returns c =
     let r = c .before .before .before .before .before .before .before .before .before .before .before .before .read-records in
     let e = area (r .last .1 .0) (r .last .1 .1 .0) in
     let k = c .before .before .before .before .clear-rest in
-    (k .ensures .0 ∙ row-answer s _ (a .p) d e (r .result) (r .ensures), (row-kept s _ (a .p) d e (r .result) _ (r .ensures) (k .ensures .1), rw (k .ensures .0) (row-room s _ (a .p) d e (r .result) (r .ensures) (c .before .before .before .before .before .before .before .before .before .before .before .before .before .before .before .before .before .before .pre))))
+    (k .ensures .0 ∙ row-answer s _ (a .p) d e (r .result) (r .ensures), (row-kept s _ (a .p) d e (r .result) _ (r .ensures) (k .ensures .1), rw (k .ensures .0) (done-room partItems sizes s _ (a .p) d e (r .result) (r .ensures) (c .before .before .before .before .before .before .before .before .before .before .before .before .before .before .before .before .before .before .pre))))
 
 pub keep-records-spec : {M : Type 1} → statement M
 keep-records-spec =

@@ -2,7 +2,7 @@
 use denote.Ref.{now}
 use Rattle.terms.specs.Tokens.{area}
 use Rattle.terms.specs.Reading.{term}
-use Rattle.terms.proofs.WroteLaws.{room-after}
+use Rattle.terms.proofs.WroteLaws.{room-next}
 use Rattle.terms.proofs.ListLaws.{single-no, single-yes}
 use borrow.Author.Needs.{needs}
 use Rattle.terms.proofs.lists.read_record.Statement.{statement}
@@ -17,7 +17,7 @@ enum-known-a c = search needs
 read-term-requires : tie.Need-read-term-requires
 read-term-requires c κs =
     let x = rw (c .before .before .before .a .given .1) at (c .before .before .before .before .before .before .before .before .before .read-fields .ensures) in
-    room-after _ _ _ _ _ _ _ (x .2) (c .before .before .before .before .before .before .before .before .before .before .before .before .before .before .before .pre)
+    room-next _ _ _ (x .2 .inside) (x .2 .pace) (x .2 .paced) (c .before .before .before .before .before .before .before .before .before .before .before .before .before .before .before .pre)
 
 enum-known-a-2 : tie.Need-enum-known-a-2
 enum-known-a-2 c = search needs

@@ -4,7 +4,7 @@ use Rattle.terms.specs.Tokens.{area}
 use Rattle.terms.specs.Reading.{term}
 use native.Mathlib.Omega.{arith}
 use Rattle.terms.specs.Rows.{records}
-use Rattle.terms.proofs.WroteLaws.{room-after}
+use Rattle.terms.proofs.WroteLaws.{room-next}
 use Rattle.terms.proofs.ReadLaws.{SoFar, so-far-start, kinds-length, vals-length}
 use Rattle.terms.proofs.ListLaws.{records-end, records-stop, records-more}
 use borrow.Author.Needs.{needs}
@@ -25,7 +25,7 @@ loop-holds c =
     so-far-start s (records s (term s (a .issued) (a .levels)) (a .f) (a .count) (a .p .at)) (a .p) (area (a .kinds .now) (a .vals .now)) (c .before .before .before .pre .inside)
 
 read-record-requires : tie.Need-read-record-requires Inv-loop μ-loop
-read-record-requires c κs = room-after _ _ _ _ _ _ _ (c .before .before .before .loop .inv .wrote) (c .before .before .before .before .before .before .before .pre)
+read-record-requires c κs = room-next _ _ _ (c .before .before .before .loop .inv .wrote .inside) (c .before .before .before .loop .inv .wrote .pace) (c .before .before .before .loop .inv .wrote .paced) (c .before .before .before .before .before .before .before .pre)
 
 enum-known-r : tie.Need-enum-known-r Inv-loop μ-loop
 enum-known-r c = search needs

@@ -1,21 +1,17 @@
 -- `word_at`: within the row or not. Assumes nothing.
-use mathlib.Core.Path.{sym}
 use borrow.Author.Tests.{lt-ltb, le-ltb}
 use borrow.Author.Needs.{needs}
 use Rattle.terms.proofs.questions.word_at.Statement.{statement}
 use Rattle.terms.proofs.questions.word_at.Tie as tie
 
-mul-result : tie.Need-mul-result
-mul-result c = search needs
-
-shared-slice-read-result : tie.Need-shared-slice-read-result
-shared-slice-read-result c = search needs
+word-requires : tie.Need-word-requires
+word-requires c κs = search needs
 
 returns : tie.Need-returns
-returns c = rw (lt-ltb _ _ (c .before .if1 .taken))
+returns c = rw (lt-ltb _ _ (c .before .if1 .taken)) (c .word .ensures)
 
 returns-2 : tie.Need-returns-2
 returns-2 c = rw (le-ltb _ _ (c .if1 .left))
 
 pub word-at-spec : {M : Type 1} → statement M
-word-at-spec = tie.close (tie.spec mul-result shared-slice-read-result returns returns-2)
+word-at-spec = tie.close (tie.spec word-requires returns returns-2)

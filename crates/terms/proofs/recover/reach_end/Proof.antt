@@ -5,25 +5,19 @@ use mathlib.Core.List.{[], _∷_}
 use Prim.Native.Nat.{ℕ}
 use Rattle.terms.specs.Tree.{tag}
 use Rattle.terms.specs.Questions.{among}
-use Rattle.terms.proofs.RecoverLaws.{tag-held, four-left, four-last, four-none, reach-differ, reach-whole, reach-first, reach-nominals, reach-none, place-none, place-whole, place-first, place-nominal, whole-node}
+use Rattle.terms.proofs.RecoverLaws.{tag-told, four-left, four-last, four-none, reach-differ, reach-whole, reach-first, reach-nominals, reach-none, place-none, place-whole, place-first, place-nominal, whole-node}
 use borrow.Author.Needs.{needs}
 use Rattle.terms.proofs.recover.reach_end.Statement.{statement}
 use Rattle.terms.proofs.recover.reach_end.Tie as tie
 
-mul-tag-of : tie.Need-mul-tag-of
-mul-tag-of c = search needs
-
-shared-slice-read-tag-of : tie.Need-shared-slice-read-tag-of
-shared-slice-read-tag-of c = search needs
+word-requires : tie.Need-word-requires
+word-requires c κs = search needs
 
 tag-of-requires : tie.Need-tag-of-requires
 tag-of-requires c κs = search needs
 
-mul-tag-of-2 : tie.Need-mul-tag-of-2
-mul-tag-of-2 c = search needs
-
-shared-slice-read-tag-of-2 : tie.Need-shared-slice-read-tag-of-2
-shared-slice-read-tag-of-2 c = search needs
+word-requires-2 : tie.Need-word-requires-2
+word-requires-2 c κs = search needs
 
 tag-of-requires-2 : tie.Need-tag-of-requires-2
 tag-of-requires-2 c κs = search needs
@@ -35,8 +29,8 @@ returns : tie.Need-returns
 returns c = (
   omega arith,
   λ t u ht hu ft fu.
-      let x = c .before .before .before .tag-of .ensures ∙ tag-held _ _ _ _ t ht in
-      let y = c .before .tag-of2 .ensures ∙ tag-held _ _ _ _ u hu in
+      let x = tag-told _ _ _ _ t ht _ _ (c .before .before .before .before .word .ensures) (c .before .before .before .tag-of .ensures) in
+      let y = tag-told _ _ _ _ u hu _ _ (c .before .before .word2 .ensures) (c .before .tag-of2 .ensures) in
       place-none _ _ _ (reach-differ t u (λ e. c .if1 .taken (x ∙ e ∙ sym y))),
 )
 
@@ -47,8 +41,8 @@ returns-2 : tie.Need-returns-2
 returns-2 c = (
   omega arith,
   λ t u ht hu ft fu.
-      let x = c .before .before .before .before .before .tag-of .ensures ∙ tag-held _ _ _ _ t ht in
-      let y = c .before .before .before .tag-of2 .ensures ∙ tag-held _ _ _ _ u hu in
+      let x = tag-told _ _ _ _ t ht _ _ (c .before .before .before .before .before .before .word .ensures) (c .before .before .before .before .before .tag-of .ensures) in
+      let y = tag-told _ _ _ _ u hu _ _ (c .before .before .before .before .word2 .ensures) (c .before .before .before .tag-of2 .ensures) in
       let e : tag t ≡ tag u = sym x ∙ c .before .before .if1 .left ∙ y in
       let w = four-left _ 7 9 10 11 (ap (λ (n : ℕ). among n (7 ∷ 9 ∷ 10 ∷ [])) (sym x) ∙ sym (c .before .is-one .ensures) ∙ c .if2 .taken) in
       place-whole _ _ _ _ t _ ht (whole-node t w) (reach-whole t u e w),
@@ -58,8 +52,8 @@ returns-3 : tie.Need-returns-3
 returns-3 c = (
   omega arith,
   λ t u ht hu ft fu.
-      let x = c .before .before .before .before .before .before .tag-of .ensures ∙ tag-held _ _ _ _ t ht in
-      let y = c .before .before .before .before .tag-of2 .ensures ∙ tag-held _ _ _ _ u hu in
+      let x = tag-told _ _ _ _ t ht _ _ (c .before .before .before .before .before .before .before .word .ensures) (c .before .before .before .before .before .before .tag-of .ensures) in
+      let y = tag-told _ _ _ _ u hu _ _ (c .before .before .before .before .before .word2 .ensures) (c .before .before .before .before .tag-of2 .ensures) in
       let e : tag t ≡ tag u = sym x ∙ c .before .before .before .if1 .left ∙ y in
       let w = four-last _ 7 9 10 11 (sym x ∙ c .if3 .taken) in
       place-whole _ _ _ _ t _ ht (whole-node t w) (reach-whole t u e w),
@@ -75,8 +69,8 @@ returns-4 : tie.Need-returns-4
 returns-4 c = (
   c .first-reach .ensures .0,
   λ t u ht hu ft fu.
-      let x = c .before .before .before .before .before .before .before .before .before .tag-of .ensures ∙ tag-held _ _ _ _ t ht in
-      let y = c .before .before .before .before .before .before .before .tag-of2 .ensures ∙ tag-held _ _ _ _ u hu in
+      let x = tag-told _ _ _ _ t ht _ _ (c .before .before .before .before .before .before .before .before .before .before .word .ensures) (c .before .before .before .before .before .before .before .before .before .tag-of .ensures) in
+      let y = tag-told _ _ _ _ u hu _ _ (c .before .before .before .before .before .before .before .before .word2 .ensures) (c .before .before .before .before .before .before .before .tag-of2 .ensures) in
       let e : tag t ≡ tag u = sym x ∙ c .before .before .before .before .before .before .if1 .left ∙ y in
       let w = four-left _ 0 5 6 8 (ap (λ (n : ℕ). among n (0 ∷ 5 ∷ 6 ∷ [])) (sym x) ∙ sym (c .before .before .is-one2 .ensures) ∙ c .before .if4 .taken) in
       c .first-reach .ensures .1 ∙ place-first _ _ _ _ _ _ t u ht hu ft fu e w (reach-first t u e (four-none _ 7 9 10 11 (ap (λ (n : ℕ). among n (7 ∷ 9 ∷ 10 ∷ [])) (sym x) ∙ sym (c .before .before .before .before .before .is-one .ensures) ∙ c .before .before .before .before .if2 .left) (λ z. c .before .before .before .if3 .left (x ∙ z))) w),
@@ -89,8 +83,8 @@ returns-5 : tie.Need-returns-5
 returns-5 c = (
   c .first-reach2 .ensures .0,
   λ t u ht hu ft fu.
-      let x = c .before .before .before .before .before .before .before .before .before .before .tag-of .ensures ∙ tag-held _ _ _ _ t ht in
-      let y = c .before .before .before .before .before .before .before .before .tag-of2 .ensures ∙ tag-held _ _ _ _ u hu in
+      let x = tag-told _ _ _ _ t ht _ _ (c .before .before .before .before .before .before .before .before .before .before .before .word .ensures) (c .before .before .before .before .before .before .before .before .before .before .tag-of .ensures) in
+      let y = tag-told _ _ _ _ u hu _ _ (c .before .before .before .before .before .before .before .before .before .word2 .ensures) (c .before .before .before .before .before .before .before .before .tag-of2 .ensures) in
       let e : tag t ≡ tag u = sym x ∙ c .before .before .before .before .before .before .before .if1 .left ∙ y in
       let w = four-last _ 0 5 6 8 (sym x ∙ c .before .if5 .taken) in
       c .first-reach2 .ensures .1 ∙ place-first _ _ _ _ _ _ t u ht hu ft fu e w (reach-first t u e (four-none _ 7 9 10 11 (ap (λ (n : ℕ). among n (7 ∷ 9 ∷ 10 ∷ [])) (sym x) ∙ sym (c .before .before .before .before .before .before .is-one .ensures) ∙ c .before .before .before .before .before .if2 .left) (λ z. c .before .before .before .before .if3 .left (x ∙ z))) w),
@@ -106,8 +100,8 @@ returns-6 : tie.Need-returns-6
 returns-6 c = (
   c .nominal-reach .ensures .0,
   λ t u ht hu ft fu.
-      let x = c .before .before .before .before .before .before .before .before .before .before .before .before .tag-of .ensures ∙ tag-held _ _ _ _ t ht in
-      let y = c .before .before .before .before .before .before .before .before .before .before .tag-of2 .ensures ∙ tag-held _ _ _ _ u hu in
+      let x = tag-told _ _ _ _ t ht _ _ (c .before .before .before .before .before .before .before .before .before .before .before .before .before .word .ensures) (c .before .before .before .before .before .before .before .before .before .before .before .before .tag-of .ensures) in
+      let y = tag-told _ _ _ _ u hu _ _ (c .before .before .before .before .before .before .before .before .before .before .before .word2 .ensures) (c .before .before .before .before .before .before .before .before .before .before .tag-of2 .ensures) in
       let e : tag t ≡ tag u = sym x ∙ c .before .before .before .before .before .before .before .before .before .if1 .left ∙ y in
       let w = four-left _ 12 13 14 15 (ap (λ (n : ℕ). among n (12 ∷ 13 ∷ 14 ∷ [])) (sym x) ∙ sym (c .before .before .is-one3 .ensures) ∙ c .before .if6 .taken) in
       place-nominal _ _ _ _ _ _ t u ht hu ft fu e _ w (c .nominal-reach .ensures .1) (reach-nominals t u e (four-none _ 7 9 10 11 (ap (λ (n : ℕ). among n (7 ∷ 9 ∷ 10 ∷ [])) (sym x) ∙ sym (c .before .before .before .before .before .before .before .before .is-one .ensures) ∙ c .before .before .before .before .before .before .before .if2 .left) (λ z. c .before .before .before .before .before .before .if3 .left (x ∙ z))) (four-none _ 0 5 6 8 (ap (λ (n : ℕ). among n (0 ∷ 5 ∷ 6 ∷ [])) (sym x) ∙ sym (c .before .before .before .before .before .is-one2 .ensures) ∙ c .before .before .before .before .if4 .left) (λ z. c .before .before .before .if5 .left (x ∙ z))) w),
@@ -120,8 +114,8 @@ returns-7 : tie.Need-returns-7
 returns-7 c = (
   c .nominal-reach2 .ensures .0,
   λ t u ht hu ft fu.
-      let x = c .before .before .before .before .before .before .before .before .before .before .before .before .before .tag-of .ensures ∙ tag-held _ _ _ _ t ht in
-      let y = c .before .before .before .before .before .before .before .before .before .before .before .tag-of2 .ensures ∙ tag-held _ _ _ _ u hu in
+      let x = tag-told _ _ _ _ t ht _ _ (c .before .before .before .before .before .before .before .before .before .before .before .before .before .before .word .ensures) (c .before .before .before .before .before .before .before .before .before .before .before .before .before .tag-of .ensures) in
+      let y = tag-told _ _ _ _ u hu _ _ (c .before .before .before .before .before .before .before .before .before .before .before .before .word2 .ensures) (c .before .before .before .before .before .before .before .before .before .before .before .tag-of2 .ensures) in
       let e : tag t ≡ tag u = sym x ∙ c .before .before .before .before .before .before .before .before .before .before .if1 .left ∙ y in
       let w = four-last _ 12 13 14 15 (sym x ∙ c .before .if7 .taken) in
       place-nominal _ _ _ _ _ _ t u ht hu ft fu e _ w (c .nominal-reach2 .ensures .1) (reach-nominals t u e (four-none _ 7 9 10 11 (ap (λ (n : ℕ). among n (7 ∷ 9 ∷ 10 ∷ [])) (sym x) ∙ sym (c .before .before .before .before .before .before .before .before .before .is-one .ensures) ∙ c .before .before .before .before .before .before .before .before .if2 .left) (λ z. c .before .before .before .before .before .before .before .if3 .left (x ∙ z))) (four-none _ 0 5 6 8 (ap (λ (n : ℕ). among n (0 ∷ 5 ∷ 6 ∷ [])) (sym x) ∙ sym (c .before .before .before .before .before .before .is-one2 .ensures) ∙ c .before .before .before .before .before .if4 .left) (λ z. c .before .before .before .before .if5 .left (x ∙ z))) w),
@@ -134,8 +128,8 @@ returns-8 : tie.Need-returns-8
 returns-8 c = (
   omega arith,
   λ t u ht hu ft fu.
-      let x = c .before .before .before .before .before .before .before .before .before .before .before .before .tag-of .ensures ∙ tag-held _ _ _ _ t ht in
-      let y = c .before .before .before .before .before .before .before .before .before .before .tag-of2 .ensures ∙ tag-held _ _ _ _ u hu in
+      let x = tag-told _ _ _ _ t ht _ _ (c .before .before .before .before .before .before .before .before .before .before .before .before .before .word .ensures) (c .before .before .before .before .before .before .before .before .before .before .before .before .tag-of .ensures) in
+      let y = tag-told _ _ _ _ u hu _ _ (c .before .before .before .before .before .before .before .before .before .before .before .word2 .ensures) (c .before .before .before .before .before .before .before .before .before .before .tag-of2 .ensures) in
       let e : tag t ≡ tag u = sym x ∙ c .before .before .before .before .before .before .before .before .before .if1 .left ∙ y in
       place-none _ _ _ (reach-none t u e (four-none _ 7 9 10 11 (ap (λ (n : ℕ). among n (7 ∷ 9 ∷ 10 ∷ [])) (sym x) ∙ sym (c .before .before .before .before .before .before .before .before .is-one .ensures) ∙ c .before .before .before .before .before .before .before .if2 .left) (λ z. c .before .before .before .before .before .before .if3 .left (x ∙ z))) (four-none _ 0 5 6 8 (ap (λ (n : ℕ). among n (0 ∷ 5 ∷ 6 ∷ [])) (sym x) ∙ sym (c .before .before .before .before .before .is-one2 .ensures) ∙ c .before .before .before .before .if4 .left) (λ z. c .before .before .before .if5 .left (x ∙ z))) (four-none _ 12 13 14 15 (ap (λ (n : ℕ). among n (12 ∷ 13 ∷ 14 ∷ [])) (sym x) ∙ sym (c .before .before .is-one3 .ensures) ∙ c .before .if6 .left) (λ z. c .if7 .left (x ∙ z)))),
 )
@@ -144,11 +138,9 @@ pub reach-end-spec : {M : Type 1} → statement M
 reach-end-spec =
     tie.close
     (tie.spec
-    mul-tag-of
-    shared-slice-read-tag-of
+    word-requires
     tag-of-requires
-    mul-tag-of-2
-    shared-slice-read-tag-of-2
+    word-requires-2
     tag-of-requires-2
     add-result
     returns

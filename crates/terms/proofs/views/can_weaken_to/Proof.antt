@@ -3,7 +3,6 @@ use mathlib.Core.Path.{_≡_, sym, ap, _∙_}
 use mathlib.Core.Bool.{not}
 use mathlib.Core.List.{List, [], _∷_}
 use Prim.Native.Nat.{ℕ}
-use native.Mathlib.Omega.{arith}
 use lib.ListN.{getD}
 use Rattle.terms.specs.Term.{Term}
 use Rattle.terms.specs.Held.{Held}
@@ -20,26 +19,20 @@ use Rattle.terms.proofs.views.can_weaken_to.Tie as tie
 kind : (ks vs : List ℕ) (p : ℕ) (t : Term) → Held ks vs p t → getD ks p 0 ≡ headKind t
 kind ks vs p t h = held-first ks vs p t h .0
 
-mul-k : tie.Need-mul-k
-mul-k c = search needs
+word-requires : tie.Need-word-requires
+word-requires c κs = search needs
 
-shared-slice-read-k : tie.Need-shared-slice-read-k
-shared-slice-read-k c = search needs
-
-mul-if1 : tie.Need-mul-if1
-mul-if1 c = search needs
-
-shared-slice-read-if1 : tie.Need-shared-slice-read-if1
-shared-slice-read-if1 c = search needs
+word-requires-2 : tie.Need-word-requires-2
+word-requires-2 c κs = search needs
 
 returns : tie.Need-returns
-returns c = λ t u ht hu ft fu. kinds-apart t u (λ e. c .if1 .taken (kind _ _ _ t ht ∙ e ∙ sym (kind _ _ _ u hu)))
+returns c = λ t u ht hu ft fu. kinds-apart t u (λ e. c .if1 .taken (c .before .before .word .ensures ∙ kind _ _ _ t ht ∙ e ∙ sym (c .before .word2 .ensures ∙ kind _ _ _ u hu)))
 
 is-one-requires : tie.Need-is-one-requires
 is-one-requires c κs = search needs
 
 returns-2 : tie.Need-returns-2
-returns-2 c = λ t u ht hu ft fu. without-access t u (ap (λ (x : ℕ). among x (2 ∷ 12 ∷ 13 ∷ [])) (sym (kind _ _ _ t ht)) ∙ sym (c .before .is-one .ensures) ∙ not-true _ (c .if2 .taken))
+returns-2 c = λ t u ht hu ft fu. without-access t u (ap (λ (x : ℕ). among x (2 ∷ 12 ∷ 13 ∷ [])) (sym (c .before .before .before .before .word .ensures ∙ kind _ _ _ t ht)) ∙ sym (c .before .is-one .ensures) ∙ not-true _ (c .if2 .taken))
 
 sub-skip : tie.Need-sub-skip
 sub-skip c = search needs
@@ -57,63 +50,52 @@ returns-3 : tie.Need-returns-3
 returns-3 c =
     λ t u ht hu ft fu.
     let h = sym (c .before .before .before .before .is-one .ensures) ∙ not-false _ (c .before .before .before .if2 .left) in
-    let k = sym (kind _ _ _ t ht) ∙ c .before .before .before .before .before .if1 .left ∙ kind _ _ _ u hu in
-    let a = marked t ft (ap (λ (x : ℕ). among x (2 ∷ 12 ∷ 13 ∷ [])) (sym (kind _ _ _ t ht)) ∙ h) in
-    let b = marked u fu (ap (λ (x : ℕ). among x (2 ∷ 12 ∷ 13 ∷ [])) (sym k) ∙ ap (λ (x : ℕ). among x (2 ∷ 12 ∷ 13 ∷ [])) (sym (kind _ _ _ t ht)) ∙ h) in
+    let a = marked t ft (ap (λ (x : ℕ). among x (2 ∷ 12 ∷ 13 ∷ [])) (sym (c .before .before .before .before .before .before .before .word .ensures ∙ kind _ _ _ t ht)) ∙ h) in
     let n = told _ _ _ _ t ht (c .before .before .skip .ensures .2) in
-    let m = told _ _ _ _ u hu (c .before .skip2 .ensures .2) in
     absurd (marked-long _ _ _ _ t ht a n (c .if3 .taken))
 
 returns-4 : tie.Need-returns-4
 returns-4 c =
     λ t u ht hu ft fu.
     let h = sym (c .before .before .before .before .before .is-one .ensures) ∙ not-false _ (c .before .before .before .before .if2 .left) in
-    let k = sym (kind _ _ _ t ht) ∙ c .before .before .before .before .before .before .if1 .left ∙ kind _ _ _ u hu in
-    let a = marked t ft (ap (λ (x : ℕ). among x (2 ∷ 12 ∷ 13 ∷ [])) (sym (kind _ _ _ t ht)) ∙ h) in
-    let b = marked u fu (ap (λ (x : ℕ). among x (2 ∷ 12 ∷ 13 ∷ [])) (sym k) ∙ ap (λ (x : ℕ). among x (2 ∷ 12 ∷ 13 ∷ [])) (sym (kind _ _ _ t ht)) ∙ h) in
-    let n = told _ _ _ _ t ht (c .before .before .before .skip .ensures .2) in
+    let k = sym (c .before .before .before .before .before .before .before .before .word .ensures ∙ kind _ _ _ t ht) ∙ c .before .before .before .before .before .before .if1 .left ∙ c .before .before .before .before .before .before .before .word2 .ensures ∙ kind _ _ _ u hu in
+    let b = marked u fu (ap (λ (x : ℕ). among x (2 ∷ 12 ∷ 13 ∷ [])) (sym k) ∙ ap (λ (x : ℕ). among x (2 ∷ 12 ∷ 13 ∷ [])) (sym (c .before .before .before .before .before .before .before .before .word .ensures ∙ kind _ _ _ t ht)) ∙ h) in
     let m = told _ _ _ _ u hu (c .before .before .skip2 .ensures .2) in
     absurd (marked-long _ _ _ _ u hu b m (c .if4 .taken))
 
-add-if5 : tie.Need-add-if5
-add-if5 c = search needs
+add-word : tie.Need-add-word
+add-word c = search needs
 
-mul-if5 : tie.Need-mul-if5
-mul-if5 c = search needs
-
-shared-slice-read-if5 : tie.Need-shared-slice-read-if5
-shared-slice-read-if5 c = search needs
+word-requires-3 : tie.Need-word-requires-3
+word-requires-3 c κs = search needs
 
 returns-5 : tie.Need-returns-5
 returns-5 c =
     λ t u ht hu ft fu.
     let h = sym (c .before .before .before .before .before .before .before .is-one .ensures) ∙ not-false _ (c .before .before .before .before .before .before .if2 .left) in
-    let k = sym (kind _ _ _ t ht) ∙ c .before .before .before .before .before .before .before .before .if1 .left ∙ kind _ _ _ u hu in
-    let a = marked t ft (ap (λ (x : ℕ). among x (2 ∷ 12 ∷ 13 ∷ [])) (sym (kind _ _ _ t ht)) ∙ h) in
-    let b = marked u fu (ap (λ (x : ℕ). among x (2 ∷ 12 ∷ 13 ∷ [])) (sym k) ∙ ap (λ (x : ℕ). among x (2 ∷ 12 ∷ 13 ∷ [])) (sym (kind _ _ _ t ht)) ∙ h) in
+    let k = sym (c .before .before .before .before .before .before .before .before .before .before .word .ensures ∙ kind _ _ _ t ht) ∙ c .before .before .before .before .before .before .before .before .if1 .left ∙ c .before .before .before .before .before .before .before .before .before .word2 .ensures ∙ kind _ _ _ u hu in
+    let a = marked t ft (ap (λ (x : ℕ). among x (2 ∷ 12 ∷ 13 ∷ [])) (sym (c .before .before .before .before .before .before .before .before .before .before .word .ensures ∙ kind _ _ _ t ht)) ∙ h) in
+    let b = marked u fu (ap (λ (x : ℕ). among x (2 ∷ 12 ∷ 13 ∷ [])) (sym k) ∙ ap (λ (x : ℕ). among x (2 ∷ 12 ∷ 13 ∷ [])) (sym (c .before .before .before .before .before .before .before .before .before .before .word .ensures ∙ kind _ _ _ t ht)) ∙ h) in
     let n = told _ _ _ _ t ht (c .before .before .before .before .before .skip .ensures .2) in
     let m = told _ _ _ _ u hu (c .before .before .before .before .skip2 .ensures .2) in
-    not-mutable t u a b k (λ e. c .if5 .taken (mark-at _ _ _ _ t ht a n ∙ e))
+    not-mutable t u a b k (λ e. c .if5 .taken (c .before .word3 .ensures ∙ mark-at _ _ _ _ t ht a n ∙ e))
 
-add-if6 : tie.Need-add-if6
-add-if6 c = search needs
+add-word-2 : tie.Need-add-word-2
+add-word-2 c = search needs
 
-mul-if6 : tie.Need-mul-if6
-mul-if6 c = search needs
-
-shared-slice-read-if6 : tie.Need-shared-slice-read-if6
-shared-slice-read-if6 c = search needs
+word-requires-4 : tie.Need-word-requires-4
+word-requires-4 c κs = search needs
 
 returns-6 : tie.Need-returns-6
 returns-6 c =
     λ t u ht hu ft fu.
     let h = sym (c .before .before .before .before .before .before .before .before .before .is-one .ensures) ∙ not-false _ (c .before .before .before .before .before .before .before .before .if2 .left) in
-    let k = sym (kind _ _ _ t ht) ∙ c .before .before .before .before .before .before .before .before .before .before .if1 .left ∙ kind _ _ _ u hu in
-    let a = marked t ft (ap (λ (x : ℕ). among x (2 ∷ 12 ∷ 13 ∷ [])) (sym (kind _ _ _ t ht)) ∙ h) in
-    let b = marked u fu (ap (λ (x : ℕ). among x (2 ∷ 12 ∷ 13 ∷ [])) (sym k) ∙ ap (λ (x : ℕ). among x (2 ∷ 12 ∷ 13 ∷ [])) (sym (kind _ _ _ t ht)) ∙ h) in
+    let k = sym (c .before .before .before .before .before .before .before .before .before .before .before .before .word .ensures ∙ kind _ _ _ t ht) ∙ c .before .before .before .before .before .before .before .before .before .before .if1 .left ∙ c .before .before .before .before .before .before .before .before .before .before .before .word2 .ensures ∙ kind _ _ _ u hu in
+    let a = marked t ft (ap (λ (x : ℕ). among x (2 ∷ 12 ∷ 13 ∷ [])) (sym (c .before .before .before .before .before .before .before .before .before .before .before .before .word .ensures ∙ kind _ _ _ t ht)) ∙ h) in
+    let b = marked u fu (ap (λ (x : ℕ). among x (2 ∷ 12 ∷ 13 ∷ [])) (sym k) ∙ ap (λ (x : ℕ). among x (2 ∷ 12 ∷ 13 ∷ [])) (sym (c .before .before .before .before .before .before .before .before .before .before .before .before .word .ensures ∙ kind _ _ _ t ht)) ∙ h) in
     let n = told _ _ _ _ t ht (c .before .before .before .before .before .before .before .skip .ensures .2) in
     let m = told _ _ _ _ u hu (c .before .before .before .before .before .before .skip2 .ensures .2) in
-    not-shared t u a b k (sym (mark-at _ _ _ _ t ht a n) ∙ c .before .before .if5 .left) (λ e. c .if6 .taken (mark-at _ _ _ _ u hu b m ∙ e))
+    not-shared t u a b k (sym (c .before .before .before .word3 .ensures ∙ mark-at _ _ _ _ t ht a n) ∙ c .before .before .if5 .left) (λ e. c .if6 .taken (c .before .word4 .ensures ∙ mark-at _ _ _ _ u hu b m ∙ e))
 
 add-rows-conflict : tie.Need-add-rows-conflict
 add-rows-conflict c = search needs
@@ -134,22 +116,20 @@ returns-7 : tie.Need-returns-7
 returns-7 c =
     λ t u ht hu ft fu.
     let h = sym (c .before .before .before .before .before .before .before .before .before .before .is-one .ensures) ∙ not-false _ (c .before .before .before .before .before .before .before .before .before .if2 .left) in
-    let k = sym (kind _ _ _ t ht) ∙ c .before .before .before .before .before .before .before .before .before .before .before .if1 .left ∙ kind _ _ _ u hu in
-    let a = marked t ft (ap (λ (x : ℕ). among x (2 ∷ 12 ∷ 13 ∷ [])) (sym (kind _ _ _ t ht)) ∙ h) in
-    let b = marked u fu (ap (λ (x : ℕ). among x (2 ∷ 12 ∷ 13 ∷ [])) (sym k) ∙ ap (λ (x : ℕ). among x (2 ∷ 12 ∷ 13 ∷ [])) (sym (kind _ _ _ t ht)) ∙ h) in
+    let k = sym (c .before .before .before .before .before .before .before .before .before .before .before .before .before .word .ensures ∙ kind _ _ _ t ht) ∙ c .before .before .before .before .before .before .before .before .before .before .before .if1 .left ∙ c .before .before .before .before .before .before .before .before .before .before .before .before .word2 .ensures ∙ kind _ _ _ u hu in
+    let a = marked t ft (ap (λ (x : ℕ). among x (2 ∷ 12 ∷ 13 ∷ [])) (sym (c .before .before .before .before .before .before .before .before .before .before .before .before .before .word .ensures ∙ kind _ _ _ t ht)) ∙ h) in
+    let b = marked u fu (ap (λ (x : ℕ). among x (2 ∷ 12 ∷ 13 ∷ [])) (sym k) ∙ ap (λ (x : ℕ). among x (2 ∷ 12 ∷ 13 ∷ [])) (sym (c .before .before .before .before .before .before .before .before .before .before .before .before .before .word .ensures ∙ kind _ _ _ t ht)) ∙ h) in
     let n = told _ _ _ _ t ht (c .before .before .before .before .before .before .before .before .skip .ensures .2) in
     let m = told _ _ _ _ u hu (c .before .before .before .before .before .before .before .skip2 .ensures .2) in
     ap not (c .rows-conflict .ensures _ (rest-rows t u a b k _ _ _ _ _ _ (rest-at _ _ _ _ t ht a n) (rest-at _ _ _ _ u hu b m)))
-    ∙ sym (by-rest t u a b k (sym (mark-at _ _ _ _ t ht a n) ∙ c .before .before .before .if5 .left) (sym (mark-at _ _ _ _ u hu b m) ∙ c .before .if6 .left))
+    ∙ sym (by-rest t u a b k (sym (c .before .before .before .before .word3 .ensures ∙ mark-at _ _ _ _ t ht a n) ∙ c .before .before .before .if5 .left) (sym (c .before .before .word4 .ensures ∙ mark-at _ _ _ _ u hu b m) ∙ c .before .if6 .left))
 
 pub can-weaken-to-spec : {M : Type 1} → statement M
 can-weaken-to-spec =
     tie.close
     (tie.spec
-    mul-k
-    shared-slice-read-k
-    mul-if1
-    shared-slice-read-if1
+    word-requires
+    word-requires-2
     returns
     is-one-requires
     returns-2
@@ -159,13 +139,11 @@ can-weaken-to-spec =
     skip-requires-2
     returns-3
     returns-4
-    add-if5
-    mul-if5
-    shared-slice-read-if5
+    add-word
+    word-requires-3
     returns-5
-    add-if6
-    mul-if6
-    shared-slice-read-if6
+    add-word-2
+    word-requires-4
     returns-6
     add-rows-conflict
     add-rows-conflict-2

@@ -1,51 +1,40 @@
 -- `pair_step`: a number or a term in each row. Assumes nothing.
+use mathlib.Core.Path.{sym, _∙_}
 use native.Mathlib.Omega.{arith}
 use Rattle.terms.proofs.ConflictLaws.{number-term-clash, term-number-clash, numbers-clash, numbers-onward}
 use borrow.Author.Needs.{needs}
 use Rattle.terms.proofs.views.pair_step.Statement.{statement}
 use Rattle.terms.proofs.views.pair_step.Tie as tie
 
-mul-k : tie.Need-mul-k
-mul-k c = search needs
+word-requires : tie.Need-word-requires
+word-requires c κs = search needs
 
-shared-slice-read-k : tie.Need-shared-slice-read-k
-shared-slice-read-k c = search needs
-
-mul-l : tie.Need-mul-l
-mul-l c = search needs
-
-shared-slice-read-l : tie.Need-shared-slice-read-l
-shared-slice-read-l c = search needs
+word-requires-2 : tie.Need-word-requires-2
+word-requires-2 c κs = search needs
 
 returns : tie.Need-returns
-returns c = (tt, λ w x. number-term-clash _ _ _ _ _ _ w x (c .before .before .before .before .before .before .pre .0) (c .before .before .before .before .before .before .pre .2) (c .before .if1 .taken) (c .if2 .taken))
+returns c = (tt, λ w x. number-term-clash _ _ _ _ _ _ w x (c .before .before .before .before .before .before .pre .0) (c .before .before .before .before .before .before .pre .2) (sym (c .before .before .before .word .ensures) ∙ c .before .if1 .taken) (λ z. c .if2 .taken (c .before .before .word2 .ensures ∙ z)))
 
-mul-if3 : tie.Need-mul-if3
-mul-if3 c = search needs
+word-requires-3 : tie.Need-word-requires-3
+word-requires-3 c κs = search needs
 
-shared-slice-read-if3 : tie.Need-shared-slice-read-if3
-shared-slice-read-if3 c = search needs
-
-mul-if3-2 : tie.Need-mul-if3-2
-mul-if3-2 c = search needs
-
-shared-slice-read-if3-2 : tie.Need-shared-slice-read-if3-2
-shared-slice-read-if3-2 c = search needs
+word-requires-4 : tie.Need-word-requires-4
+word-requires-4 c κs = search needs
 
 returns-2 : tie.Need-returns-2
-returns-2 c = (tt, λ w x. numbers-clash _ _ _ _ _ _ w x (c .before .before .before .before .before .before .before .before .before .pre .0) (c .before .before .before .before .before .before .before .before .before .pre .2) (c .before .before .before .before .if1 .taken) (c .before .before .before .if2 .left) (c .if3 .taken))
+returns-2 c = (tt, λ w x. numbers-clash _ _ _ _ _ _ w x (c .before .before .before .before .before .before .before .before .before .pre .0) (c .before .before .before .before .before .before .before .before .before .pre .2) (sym (c .before .before .before .before .before .before .word .ensures) ∙ c .before .before .before .before .if1 .taken) (sym (c .before .before .before .before .before .word2 .ensures) ∙ c .before .before .before .if2 .left) (λ z. c .if3 .taken (c .before .before .word3 .ensures ∙ z ∙ sym (c .before .word4 .ensures))))
 
-add-t15 : tie.Need-add-t15
-add-t15 c = search needs
+add-t13 : tie.Need-add-t13
+add-t13 c = search needs
 
-add-t18 : tie.Need-add-t18
-add-t18 c = search needs
+add-t14 : tie.Need-add-t14
+add-t14 c = search needs
 
 returns-3 : tie.Need-returns-3
-returns-3 c = (omega arith, λ w x. numbers-onward _ _ _ _ _ _ w x (c .before .before .before .before .before .before .before .before .before .pre .0) (c .before .before .before .before .before .before .before .before .before .pre .2) (c .before .before .before .before .if1 .taken) (c .before .before .before .if2 .left) (c .if3 .left))
+returns-3 c = (omega arith, λ w x. numbers-onward _ _ _ _ _ _ w x (c .before .before .before .before .before .before .before .before .before .pre .0) (c .before .before .before .before .before .before .before .before .before .pre .2) (sym (c .before .before .before .before .before .before .word .ensures) ∙ c .before .before .before .before .if1 .taken) (sym (c .before .before .before .before .before .word2 .ensures) ∙ c .before .before .before .if2 .left) (sym (c .before .before .word3 .ensures) ∙ c .if3 .left ∙ c .before .word4 .ensures))
 
 returns-4 : tie.Need-returns-4
-returns-4 c = (tt, λ w x. term-number-clash _ _ _ _ _ _ w x (c .before .before .before .before .before .before .pre .0) (c .before .before .before .before .before .before .pre .2) (c .before .if1 .left) (c .if4 .taken))
+returns-4 c = (tt, λ w x. term-number-clash _ _ _ _ _ _ w x (c .before .before .before .before .before .before .pre .0) (c .before .before .before .before .before .before .pre .2) (λ z. c .before .if1 .left (c .before .before .before .word .ensures ∙ z)) (sym (c .before .before .word2 .ensures) ∙ c .if4 .taken))
 
 pair-terms-requires : tie.Need-pair-terms-requires
 pair-terms-requires c κs = search needs
@@ -57,18 +46,14 @@ pub pair-step-spec : {M : Type 1} → statement M
 pair-step-spec =
     tie.close
     (tie.spec
-    mul-k
-    shared-slice-read-k
-    mul-l
-    shared-slice-read-l
+    word-requires
+    word-requires-2
     returns
-    mul-if3
-    shared-slice-read-if3
-    mul-if3-2
-    shared-slice-read-if3-2
+    word-requires-3
+    word-requires-4
     returns-2
-    add-t15
-    add-t18
+    add-t13
+    add-t14
     returns-3
     returns-4
     pair-terms-requires

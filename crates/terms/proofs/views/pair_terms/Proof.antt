@@ -1,23 +1,20 @@
 -- `pair_terms`: by the kinds of the two terms. Assumes nothing.
 use native.Mathlib.Omega.{arith}
-use mathlib.Core.Path.{sym, _∙_}
+use mathlib.Core.Path.{sym, ap, _∙_}
+use mathlib.Core.List.{[], _∷_}
+use Prim.Native.Nat.{ℕ}
+use Rattle.terms.specs.Questions.{among}
 use Rattle.terms.proofs.ConflictLaws.{next-terms, step-left, step-right, step-kinds, step-projections, step-whole, step-enter}
 use Rattle.terms.proofs.Bools.{not-true, not-false}
 use borrow.Author.Needs.{needs}
 use Rattle.terms.proofs.views.pair_terms.Statement.{statement}
 use Rattle.terms.proofs.views.pair_terms.Tie as tie
 
-mul-k : tie.Need-mul-k
-mul-k c = search needs
+word-requires : tie.Need-word-requires
+word-requires c κs = search needs
 
-shared-slice-read-k : tie.Need-shared-slice-read-k
-shared-slice-read-k c = search needs
-
-mul-l : tie.Need-mul-l
-mul-l c = search needs
-
-shared-slice-read-l : tie.Need-shared-slice-read-l
-shared-slice-read-l c = search needs
+word-requires-2 : tie.Need-word-requires-2
+word-requires-2 c κs = search needs
 
 is-one-requires : tie.Need-is-one-requires
 is-one-requires c κs = search needs
@@ -30,7 +27,7 @@ returns c = (
   c .past .ensures .0,
   λ w x.
       let n = next-terms _ _ _ _ _ _ w x (c .before .before .before .before .before .before .before .pre .0) (c .before .before .before .before .before .before .before .pre .2) (λ e. omega (arith, c .before .before .before .before .before .before .before .pre .5)) (λ e. omega (arith, c .before .before .before .before .before .before .before .pre .6)) in
-      step-left _ _ _ _ _ _ w n (sym (c .before .before .is-one .ensures) ∙ c .before .if1 .taken) (c .past .result) (c .past .ensures .1 (n .t) (n .u) (n .ps) (n .qs) (n .rowLeft) (n .rowRight)),
+      step-left _ _ _ _ _ _ w n (ap (λ (m : ℕ). among m (1 ∷ 4 ∷ 5 ∷ [])) (sym (c .before .before .before .before .word .ensures)) ∙ sym (c .before .before .is-one .ensures) ∙ c .before .if1 .taken) (c .past .result) (c .past .ensures .1 (n .t) (n .u) (n .ps) (n .qs) (n .rowLeft) (n .rowRight)),
 )
 
 is-one-requires-2 : tie.Need-is-one-requires-2
@@ -44,7 +41,7 @@ returns-2 c = (
   c .past2 .ensures .0,
   λ w x.
       let n = next-terms _ _ _ _ _ _ w x (c .before .before .before .before .before .before .before .before .before .pre .0) (c .before .before .before .before .before .before .before .before .before .pre .2) (λ e. omega (arith, c .before .before .before .before .before .before .before .before .before .pre .5)) (λ e. omega (arith, c .before .before .before .before .before .before .before .before .before .pre .6)) in
-      step-right _ _ _ _ _ _ w n (sym (c .before .before .is-one2 .ensures) ∙ c .before .if2 .taken) (c .past2 .result) (c .past2 .ensures .1 (n .t) (n .u) (n .ps) (n .qs) (n .rowLeft) (n .rowRight)),
+      step-right _ _ _ _ _ _ w n (ap (λ (m : ℕ). among m (1 ∷ 4 ∷ 5 ∷ [])) (sym (c .before .before .before .before .before .word2 .ensures)) ∙ sym (c .before .before .is-one2 .ensures) ∙ c .before .if2 .taken) (c .past2 .result) (c .past2 .ensures .1 (n .t) (n .u) (n .ps) (n .qs) (n .rowLeft) (n .rowRight)),
 )
 
 returns-3 : tie.Need-returns-3
@@ -52,7 +49,7 @@ returns-3 c = (
   tt,
   λ w x.
       let n = next-terms _ _ _ _ _ _ w x (c .before .before .before .before .before .before .before .before .before .pre .0) (c .before .before .before .before .before .before .before .before .before .pre .2) (λ e. omega (arith, c .before .before .before .before .before .before .before .before .before .pre .5)) (λ e. omega (arith, c .before .before .before .before .before .before .before .before .before .pre .6)) in
-      step-kinds _ _ _ _ _ _ w n (sym (c .before .before .before .before .is-one .ensures) ∙ c .before .before .before .if1 .left) (sym (c .before .before .is-one2 .ensures) ∙ c .before .if2 .left) (c .if3 .taken),
+      step-kinds _ _ _ _ _ _ w n (ap (λ (m : ℕ). among m (1 ∷ 4 ∷ 5 ∷ [])) (sym (c .before .before .before .before .before .before .word .ensures)) ∙ sym (c .before .before .before .before .is-one .ensures) ∙ c .before .before .before .if1 .left) (ap (λ (m : ℕ). among m (1 ∷ 4 ∷ 5 ∷ [])) (sym (c .before .before .before .before .before .word2 .ensures)) ∙ sym (c .before .before .is-one2 .ensures) ∙ c .before .if2 .left) (λ z. c .if3 .taken (c .before .before .before .before .before .before .word .ensures ∙ z ∙ sym (c .before .before .before .before .before .word2 .ensures))),
 )
 
 same-term-requires : tie.Need-same-term-requires
@@ -63,7 +60,7 @@ returns-4 c = (
   tt,
   λ w x.
       let n = next-terms _ _ _ _ _ _ w x (c .before .before .before .before .before .before .before .before .before .before .before .before .pre .0) (c .before .before .before .before .before .before .before .before .before .before .before .before .pre .2) (λ e. omega (arith, c .before .before .before .before .before .before .before .before .before .before .before .before .pre .5)) (λ e. omega (arith, c .before .before .before .before .before .before .before .before .before .before .before .before .pre .6)) in
-      step-projections _ _ _ _ _ _ w n (sym (c .before .before .before .before .before .before .before .is-one .ensures) ∙ c .before .before .before .before .before .before .if1 .left) (sym (c .before .before .before .before .before .is-one2 .ensures) ∙ c .before .before .before .before .if2 .left) (c .before .before .before .if3 .left) (c .before .before .if4 .taken) (sym (c .before .same-term .ensures (n .t) (n .u) (n .heldLeft) (n .heldRight)) ∙ not-true _ (c .if5 .taken)),
+      step-projections _ _ _ _ _ _ w n (ap (λ (m : ℕ). among m (1 ∷ 4 ∷ 5 ∷ [])) (sym (c .before .before .before .before .before .before .before .before .before .word .ensures)) ∙ sym (c .before .before .before .before .before .before .before .is-one .ensures) ∙ c .before .before .before .before .before .before .if1 .left) (ap (λ (m : ℕ). among m (1 ∷ 4 ∷ 5 ∷ [])) (sym (c .before .before .before .before .before .before .before .before .word2 .ensures)) ∙ sym (c .before .before .before .before .before .is-one2 .ensures) ∙ c .before .before .before .before .if2 .left) (sym (c .before .before .before .before .before .before .before .before .before .word .ensures) ∙ c .before .before .before .if3 .left ∙ c .before .before .before .before .before .before .before .before .word2 .ensures) (sym (c .before .before .before .before .before .before .before .before .before .word .ensures) ∙ c .before .before .if4 .taken) (sym (c .before .same-term .ensures (n .t) (n .u) (n .heldLeft) (n .heldRight)) ∙ not-true _ (c .if5 .taken)),
 )
 
 past-requires-3 : tie.Need-past-requires-3
@@ -74,31 +71,29 @@ returns-5 c = (
   c .past3 .ensures .0,
   λ w x.
       let n = next-terms _ _ _ _ _ _ w x (c .before .before .before .before .before .before .before .before .before .before .before .before .before .pre .0) (c .before .before .before .before .before .before .before .before .before .before .before .before .before .pre .2) (λ e. omega (arith, c .before .before .before .before .before .before .before .before .before .before .before .before .before .pre .5)) (λ e. omega (arith, c .before .before .before .before .before .before .before .before .before .before .before .before .before .pre .6)) in
-      step-whole _ _ _ _ _ _ w n (sym (c .before .before .before .before .before .before .before .before .is-one .ensures) ∙ c .before .before .before .before .before .before .before .if1 .left) (sym (c .before .before .before .before .before .before .is-one2 .ensures) ∙ c .before .before .before .before .before .if2 .left) (c .before .before .before .before .if3 .left) (c .before .before .before .if4 .taken) (sym (c .before .before .same-term .ensures (n .t) (n .u) (n .heldLeft) (n .heldRight)) ∙ not-false _ (c .before .if5 .left)) (c .past3 .result) (c .past3 .ensures .1 (n .t) (n .u) (n .ps) (n .qs) (n .rowLeft) (n .rowRight)),
+      step-whole _ _ _ _ _ _ w n (ap (λ (m : ℕ). among m (1 ∷ 4 ∷ 5 ∷ [])) (sym (c .before .before .before .before .before .before .before .before .before .before .word .ensures)) ∙ sym (c .before .before .before .before .before .before .before .before .is-one .ensures) ∙ c .before .before .before .before .before .before .before .if1 .left) (ap (λ (m : ℕ). among m (1 ∷ 4 ∷ 5 ∷ [])) (sym (c .before .before .before .before .before .before .before .before .before .word2 .ensures)) ∙ sym (c .before .before .before .before .before .before .is-one2 .ensures) ∙ c .before .before .before .before .before .if2 .left) (sym (c .before .before .before .before .before .before .before .before .before .before .word .ensures) ∙ c .before .before .before .before .if3 .left ∙ c .before .before .before .before .before .before .before .before .before .word2 .ensures) (sym (c .before .before .before .before .before .before .before .before .before .before .word .ensures) ∙ c .before .before .before .if4 .taken) (sym (c .before .before .same-term .ensures (n .t) (n .u) (n .heldLeft) (n .heldRight)) ∙ not-false _ (c .before .if5 .left)) (c .past3 .result) (c .past3 .ensures .1 (n .t) (n .u) (n .ps) (n .qs) (n .rowLeft) (n .rowRight)),
 )
 
-add-t9 : tie.Need-add-t9
-add-t9 c = search needs
+add-t14 : tie.Need-add-t14
+add-t14 c = search needs
 
-add-t18 : tie.Need-add-t18
-add-t18 c = search needs
+add-t15 : tie.Need-add-t15
+add-t15 c = search needs
 
 returns-6 : tie.Need-returns-6
 returns-6 c = (
   omega arith,
   λ w x.
       let n = next-terms _ _ _ _ _ _ w x (c .before .before .before .before .before .before .before .before .before .before .pre .0) (c .before .before .before .before .before .before .before .before .before .before .pre .2) (λ e. omega (arith, c .before .before .before .before .before .before .before .before .before .before .pre .5)) (λ e. omega (arith, c .before .before .before .before .before .before .before .before .before .before .pre .6)) in
-      step-enter _ _ _ _ _ _ w n (sym (c .before .before .before .before .before .is-one .ensures) ∙ c .before .before .before .before .if1 .left) (sym (c .before .before .before .is-one2 .ensures) ∙ c .before .before .if2 .left) (c .before .if3 .left) (c .if4 .left),
+      step-enter _ _ _ _ _ _ w n (ap (λ (m : ℕ). among m (1 ∷ 4 ∷ 5 ∷ [])) (sym (c .before .before .before .before .before .before .before .word .ensures)) ∙ sym (c .before .before .before .before .before .is-one .ensures) ∙ c .before .before .before .before .if1 .left) (ap (λ (m : ℕ). among m (1 ∷ 4 ∷ 5 ∷ [])) (sym (c .before .before .before .before .before .before .word2 .ensures)) ∙ sym (c .before .before .before .is-one2 .ensures) ∙ c .before .before .if2 .left) (sym (c .before .before .before .before .before .before .before .word .ensures) ∙ c .before .if3 .left ∙ c .before .before .before .before .before .before .word2 .ensures) (λ z. c .if4 .left (c .before .before .before .before .before .before .before .word .ensures ∙ z)),
 )
 
 pub pair-terms-spec : {M : Type 1} → statement M
 pair-terms-spec =
     tie.close
     (tie.spec
-    mul-k
-    shared-slice-read-k
-    mul-l
-    shared-slice-read-l
+    word-requires
+    word-requires-2
     is-one-requires
     past-requires
     returns
@@ -110,6 +105,6 @@ pair-terms-spec =
     returns-4
     past-requires-3
     returns-5
-    add-t9
-    add-t18
+    add-t14
+    add-t15
     returns-6)

@@ -1,16 +1,15 @@
 -- `recover_row`. The loop's invariant is `Recovering`: what was written, and what the rest of the rows gives. Assumes nothing.
-use mathlib.Core.Path.{_≡_, refl, _∙_}
+use mathlib.Core.Path.{_≡_, refl, sym, _∙_}
 use Prim.Native.Nat.{_+_, _*_, _-_, _≤_}
 use mathlib.Core.List.{[]}
 use lib.ListN.{length}
-use denote.Ref.{now}
 use Rattle.terms.specs.Term.{Parts, partBytes, Subs}
 use Rattle.terms.specs.Held.{HeldParts}
 use Rattle.terms.specs.Formed.{Formed}
 use Rattle.terms.specs.Recovery.{recover-row}
 use Rattle.terms.specs.Recovering.{upto}
 use Rattle.terms.proofs.FlatLaws.{held-one}
-use Rattle.terms.proofs.RecoverLaws.{Recovering, put-none, recover-stays, stays-no-right, stays-no-left, stays-numbers, stays-terms, recover-number, both-terms, recover-both, told-row}
+use Rattle.terms.proofs.RecoverLaws.{Recovering, put-none, recover-stays, stays-parted, recover-number, both-terms, recover-both, told-row}
 use borrow.Author.Needs.{needs}
 use native.Mathlib.Omega.{arith}
 use Prim.Native.Nat.{ℕ}
@@ -18,7 +17,9 @@ use Rattle.terms.proofs.recover.+recover_row+recover_term.Lts-recover_r
 use Rattle.terms.proofs.recover.recover_row.Kinds as kinds
 use Rattle.terms.proofs.recover.recover_row.Reads as recover-row
 use Rattle.terms.proofs.recover.recover_term.Reads as recover-term
+use Rattle.terms.proofs.recover.paired.Reads as paired-reads
 use Rattle.terms.proofs.runs.skip.Reads as skip-reads
+use Rattle.terms.proofs.runs.word.Reads as word-reads
 use Rattle.terms.proofs.write.put_run.Reads as put-run-reads
 use Rattle.terms.proofs.recover.+recover_row+recover_term.Proof.Measures.{recover-row-at, recover-term-below}
 
@@ -32,161 +33,98 @@ abbrev μ-loop : lts.MeasureT-loop
 
 module _ (t : ℕ) where
   abbrev claims : lts.Claims
-  claims = (put-run-reads.Asked, put-run-reads.Learnt, skip-reads.Asked, skip-reads.Learnt, recover-term-below t, recover-term.Post)
+  claims = (paired-reads.Asked, paired-reads.Learnt, word-reads.Asked, word-reads.Learnt, put-run-reads.Asked, put-run-reads.Learnt, skip-reads.Asked, skip-reads.Learnt, recover-term-below t, recover-term.Post)
 
   loop-holds : lts.Need-loop-holds claims (recover-row-at t) recover-row.Post Inv-loop μ-loop
   loop-holds c = (omega (arith, c .before .before .before .pre .1 .0), omega (arith, c .before .before .before .pre .1 .0), omega arith, λ k ps qs hp hq fp fq e. record { count = k; left = ps; right = qs; heldLeft = hp; heldRight = hq; formedLeft = fp; formedRight = fq; stops = e; done = []; put = put-none _ _; same = refl })
 
-  sub-put-run : lts.Need-sub-put-run claims (recover-row-at t) recover-row.Post Inv-loop μ-loop
-  sub-put-run c = omega (arith, c .before .before .loop .inv .0, c .before .before .loop .inv .1, c .before .before .loop .inv .2)
+  paired-requires : lts.Need-paired-requires claims (recover-row-at t) recover-row.Post Inv-loop μ-loop
+  paired-requires c κs = (omega (arith, c .before .before .before .before .pre .1 .0), omega (arith, c .before .before .before .before .pre .1 .0))
+
+  word-requires : lts.Need-word-requires claims (recover-row-at t) recover-row.Post Inv-loop μ-loop
+  word-requires c κs = search needs
 
   put-run-requires : lts.Need-put-run-requires claims (recover-row-at t) recover-row.Post Inv-loop μ-loop
-  put-run-requires c κs = ((omega (arith, c .before .before .before .loop .inv .0, c .before .before .before .loop .inv .1, c .before .before .before .loop .inv .2, c .before .before .before .before .before .before .before .pre .1 .0), omega (arith, c .before .before .before .loop .inv .0, c .before .before .before .loop .inv .1, c .before .before .before .loop .inv .2, c .before .before .before .before .before .before .before .pre .1 .0)), omega (arith, c .before .before .before .loop .inv .0, c .before .before .before .loop .inv .1, c .before .before .before .loop .inv .2, c .before .before .before .before .before .before .before .pre .1 .0, c .before .before .before .before .before .before .before .pre .1 .1))
-
-  same-length : lts.Need-same-length claims (recover-row-at t) recover-row.Post Inv-loop μ-loop
-  same-length c = omega (arith, c .before .before .before .before .before .before .loop .inv .0, c .before .before .before .before .before .before .loop .inv .1, c .before .before .before .before .before .before .loop .inv .2, c .before .before .put-run .kept)
-
-  returns : lts.Need-returns claims (recover-row-at t) recover-row.Post Inv-loop μ-loop
-  returns c = (
-    omega (arith, c .before .before .put-run .ensures .1 .1, c .before .before .before .before .before .before .loop .inv .0, c .before .before .before .before .before .before .loop .inv .1, c .before .before .before .before .before .before .loop .inv .2, c .before .before .before .before .before .before .before .before .before .before .pre .1 .0),
-    λ k ps qs hp hq fp fq e.
-        let x = c .before .before .before .before .before .before .loop .inv .3 k ps qs hp hq fp fq e in
-        recover-stays _ _ _ _ _ _ _ _ _ _ _ _ x (stays-no-right _ _ _ _ _ _ _ _ _ _ _ _ x (c .before .before .before .before .if1 .taken)) _ _ (c .before .before .put-run .ensures .0) (c .before .before .put-run .ensures .1 .0),
-  )
-
-  mul-if2 : lts.Need-mul-if2 claims (recover-row-at t) recover-row.Post Inv-loop μ-loop
-  mul-if2 c = search needs
-
-  shared-slice-read-if2 : lts.Need-shared-slice-read-if2 claims (recover-row-at t) recover-row.Post Inv-loop μ-loop
-  shared-slice-read-if2 c = search needs
-
-  mul-if3 : lts.Need-mul-if3 claims (recover-row-at t) recover-row.Post Inv-loop μ-loop
-  mul-if3 c = search needs
-
-  shared-slice-read-if3 : lts.Need-shared-slice-read-if3 claims (recover-row-at t) recover-row.Post Inv-loop μ-loop
-  shared-slice-read-if3 c = search needs
-
-  sub-put-run-2 : lts.Need-sub-put-run-2 claims (recover-row-at t) recover-row.Post Inv-loop μ-loop
-  sub-put-run-2 c = omega (arith, c .before .before .before .before .before .before .loop .inv .0, c .before .before .before .before .before .before .loop .inv .1, c .before .before .before .before .before .before .loop .inv .2)
-
-  put-run-requires-2 : lts.Need-put-run-requires-2 claims (recover-row-at t) recover-row.Post Inv-loop μ-loop
-  put-run-requires-2 c κs = ((omega (arith, c .before .before .before .before .before .before .before .loop .inv .0, c .before .before .before .before .before .before .before .loop .inv .1, c .before .before .before .before .before .before .before .loop .inv .2, c .before .before .before .before .before .before .before .before .before .before .before .pre .1 .0), omega (arith, c .before .before .before .before .before .before .before .loop .inv .0, c .before .before .before .before .before .before .before .loop .inv .1, c .before .before .before .before .before .before .before .loop .inv .2, c .before .before .before .before .before .before .before .before .before .before .before .pre .1 .0)), omega (arith, c .before .before .before .before .before .before .before .loop .inv .0, c .before .before .before .before .before .before .before .loop .inv .1, c .before .before .before .before .before .before .before .loop .inv .2, c .before .before .before .before .before .before .before .before .before .before .before .pre .1 .0, c .before .before .before .before .before .before .before .before .before .before .before .pre .1 .1))
-
-  same-length-2 : lts.Need-same-length-2 claims (recover-row-at t) recover-row.Post Inv-loop μ-loop
-  same-length-2 c = omega (arith, c .before .before .before .before .before .before .before .before .before .before .loop .inv .0, c .before .before .before .before .before .before .before .before .before .before .loop .inv .1, c .before .before .before .before .before .before .before .before .before .before .loop .inv .2, c .before .before .put-run2 .kept)
-
-  returns-2 : lts.Need-returns-2 claims (recover-row-at t) recover-row.Post Inv-loop μ-loop
-  returns-2 c = (
-    omega (arith, c .before .before .put-run2 .ensures .1 .1, c .before .before .before .before .before .before .before .before .before .before .loop .inv .0, c .before .before .before .before .before .before .before .before .before .before .loop .inv .1, c .before .before .before .before .before .before .before .before .before .before .loop .inv .2, c .before .before .before .before .before .before .before .before .before .before .before .before .before .before .pre .1 .0),
-    λ k ps qs hp hq fp fq e.
-        let x = c .before .before .before .before .before .before .before .before .before .before .loop .inv .3 k ps qs hp hq fp fq e in
-        recover-stays _ _ _ _ _ _ _ _ _ _ _ _ x (stays-numbers _ _ _ _ _ _ _ _ _ _ _ _ x (c .before .before .before .before .before .before .before .before .before .loop-test .taken) (c .before .before .before .before .before .before .before .before .before .before .before .before .before .before .pre .1 .0 .1) (c .before .before .before .before .before .before .before .before .if1 .left) (c .before .before .before .before .before .before .if2 .taken) (c .before .before .before .before .if3 .taken)) _ _ (c .before .before .put-run2 .ensures .0) (c .before .before .put-run2 .ensures .1 .0),
-  )
-
-  put-run-requires-3 : lts.Need-put-run-requires-3 claims (recover-row-at t) recover-row.Post Inv-loop μ-loop
-  put-run-requires-3 c κs = ((omega (arith, c .before .before .before .before .before .before .before .loop .inv .0, c .before .before .before .before .before .before .before .loop .inv .1, c .before .before .before .before .before .before .before .loop .inv .2, c .before .before .before .before .before .before .before .before .before .before .before .pre .1 .0), omega (arith, c .before .before .before .before .before .before .before .loop .inv .0, c .before .before .before .before .before .before .before .loop .inv .1, c .before .before .before .before .before .before .before .loop .inv .2, c .before .before .before .before .before .before .before .before .before .before .before .pre .1 .0)), omega (arith, c .before .before .before .before .before .before .before .loop .inv .0, c .before .before .before .before .before .before .before .loop .inv .1, c .before .before .before .before .before .before .before .loop .inv .2, c .before .before .before .before .before .before .before .before .before .before .before .pre .1 .0, c .before .before .before .before .before .before .before .before .before .before .before .pre .1 .1))
+  put-run-requires c κs = ((omega (arith, c .before .before .before .before .paired .ensures .0 (c .before .before .before .if1 .taken), c .before .before .before .before .before .loop .inv .0, c .before .before .before .before .before .loop .inv .1, c .before .before .before .before .before .loop .inv .2, c .before .before .before .before .before .before .before .before .before .pre .1 .0), omega (arith, c .before .before .before .before .paired .ensures .0 (c .before .before .before .if1 .taken), c .before .before .before .before .before .loop .inv .0, c .before .before .before .before .before .loop .inv .1, c .before .before .before .before .before .loop .inv .2, c .before .before .before .before .before .before .before .before .before .pre .1 .0)), omega (arith, c .before .before .before .before .paired .ensures .0 (c .before .before .before .if1 .taken), c .before .before .before .before .before .loop .inv .0, c .before .before .before .before .before .loop .inv .1, c .before .before .before .before .before .loop .inv .2, c .before .before .before .before .before .before .before .before .before .pre .1 .0, c .before .before .before .before .before .before .before .before .before .pre .1 .1))
 
   add-i : lts.Need-add-i claims (recover-row-at t) recover-row.Post Inv-loop μ-loop
-  add-i c = omega (arith, c .before .before .before .before .before .before .before .before .before .before .loop .inv .0, c .before .before .before .before .before .before .before .before .before .before .loop .inv .1, c .before .before .before .before .before .before .before .before .before .before .loop .inv .2, c .before .before .before .before .before .before .before .before .before .before .before .before .before .before .pre .1 .0)
+  add-i c = omega (arith, c .before .before .before .before .before .before .before .paired .ensures .0 (c .before .before .before .before .before .before .if1 .taken), c .before .before .before .before .before .before .before .before .loop .inv .0, c .before .before .before .before .before .before .before .before .loop .inv .1, c .before .before .before .before .before .before .before .before .loop .inv .2, c .before .before .before .before .before .before .before .before .before .before .before .before .pre .1 .0)
 
   add-j : lts.Need-add-j claims (recover-row-at t) recover-row.Post Inv-loop μ-loop
-  add-j c = omega (arith, c .before .before .before .before .before .before .before .before .before .before .loop .inv .0, c .before .before .before .before .before .before .before .before .before .before .loop .inv .1, c .before .before .before .before .before .before .before .before .before .before .loop .inv .2, c .before .before .before .before .before .before .before .before .before .before .before .before .before .before .pre .1 .0)
+  add-j c = omega (arith, c .before .before .before .before .before .before .before .paired .ensures .0 (c .before .before .before .before .before .before .if1 .taken), c .before .before .before .before .before .before .before .before .loop .inv .0, c .before .before .before .before .before .before .before .before .loop .inv .1, c .before .before .before .before .before .before .before .before .loop .inv .2, c .before .before .before .before .before .before .before .before .before .before .before .before .pre .1 .0)
 
   loop-less : lts.Need-loop-less claims (recover-row-at t) recover-row.Post Inv-loop μ-loop
-  loop-less c = omega (arith, c .before .before .before .before .before .before .before .before .before .before .loop .inv .0, c .before .before .before .before .before .before .before .before .before .before .loop .inv .1, c .before .before .before .before .before .before .before .before .before .before .loop .inv .2, c .before .before .before .before .before .before .before .before .before .before .before .before .before .before .pre .1 .0)
+  loop-less c = omega (arith, c .before .before .before .before .before .before .before .paired .ensures .0 (c .before .before .before .before .before .before .if1 .taken), c .before .before .before .before .before .before .before .before .loop .inv .0, c .before .before .before .before .before .before .before .before .loop .inv .1, c .before .before .before .before .before .before .before .before .loop .inv .2, c .before .before .before .before .before .before .before .before .before .before .before .before .pre .1 .0)
 
   loop-again : lts.Need-loop-again claims (recover-row-at t) recover-row.Post Inv-loop μ-loop
   loop-again c = (
-    omega (arith, c .before .before .before .before .before .before .before .before .before .before .loop .inv .0, c .before .before .before .before .before .before .before .before .before .before .loop .inv .1, c .before .before .before .before .before .before .before .before .before .before .loop .inv .2, c .before .before .before .before .before .before .before .before .before .before .before .before .before .before .pre .1 .0),
-    omega (arith, c .before .before .before .before .before .before .before .before .before .before .loop .inv .0, c .before .before .before .before .before .before .before .before .before .before .loop .inv .1, c .before .before .before .before .before .before .before .before .before .before .loop .inv .2, c .before .before .before .before .before .before .before .before .before .before .before .before .before .before .pre .1 .0),
-    omega (arith, c .before .before .put-run3 .ensures .1 .1, c .before .before .before .before .before .before .before .before .before .before .loop .inv .0, c .before .before .before .before .before .before .before .before .before .before .loop .inv .1, c .before .before .before .before .before .before .before .before .before .before .loop .inv .2),
+    omega (arith, c .before .before .before .before .before .before .before .paired .ensures .0 (c .before .before .before .before .before .before .if1 .taken), c .before .before .before .before .before .before .before .before .loop .inv .0, c .before .before .before .before .before .before .before .before .loop .inv .1, c .before .before .before .before .before .before .before .before .loop .inv .2, c .before .before .before .before .before .before .before .before .before .before .before .before .pre .1 .0),
+    omega (arith, c .before .before .before .before .before .before .before .paired .ensures .0 (c .before .before .before .before .before .before .if1 .taken), c .before .before .before .before .before .before .before .before .loop .inv .0, c .before .before .before .before .before .before .before .before .loop .inv .1, c .before .before .before .before .before .before .before .before .loop .inv .2, c .before .before .before .before .before .before .before .before .before .before .before .before .pre .1 .0),
+    omega (arith, c .before .before .before .before .before .before .before .paired .ensures .0 (c .before .before .before .before .before .before .if1 .taken), c .before .before .put-run .ensures .1 .1, c .before .before .before .before .before .before .before .before .loop .inv .0, c .before .before .before .before .before .before .before .before .loop .inv .1, c .before .before .before .before .before .before .before .before .loop .inv .2),
     λ k ps qs hp hq fp fq e.
-        let x = c .before .before .before .before .before .before .before .before .before .before .loop .inv .3 k ps qs hp hq fp fq e in
-        recover-number _ _ _ _ _ _ _ _ _ _ _ _ x (c .before .before .before .before .before .before .before .before .before .loop-test .taken) (c .before .before .before .before .before .before .before .before .before .before .before .before .before .before .pre .1 .0 .1) (c .before .before .before .before .before .before .before .before .if1 .left) (c .before .before .before .before .before .before .if2 .taken) (c .before .before .before .before .if3 .left) _ _ (c .before .before .put-run3 .ensures .0) (c .before .before .put-run3 .ensures .1 .0),
-  )
-
-  mul-if4 : lts.Need-mul-if4 claims (recover-row-at t) recover-row.Post Inv-loop μ-loop
-  mul-if4 c = search needs
-
-  shared-slice-read-if4 : lts.Need-shared-slice-read-if4 claims (recover-row-at t) recover-row.Post Inv-loop μ-loop
-  shared-slice-read-if4 c = search needs
-
-  sub-put-run-3 : lts.Need-sub-put-run-3 claims (recover-row-at t) recover-row.Post Inv-loop μ-loop
-  sub-put-run-3 c = omega (arith, c .before .before .before .before .before .before .loop .inv .0, c .before .before .before .before .before .before .loop .inv .1, c .before .before .before .before .before .before .loop .inv .2)
-
-  put-run-requires-4 : lts.Need-put-run-requires-4 claims (recover-row-at t) recover-row.Post Inv-loop μ-loop
-  put-run-requires-4 c κs = ((omega (arith, c .before .before .before .before .before .before .before .loop .inv .0, c .before .before .before .before .before .before .before .loop .inv .1, c .before .before .before .before .before .before .before .loop .inv .2, c .before .before .before .before .before .before .before .before .before .before .before .pre .1 .0), omega (arith, c .before .before .before .before .before .before .before .loop .inv .0, c .before .before .before .before .before .before .before .loop .inv .1, c .before .before .before .before .before .before .before .loop .inv .2, c .before .before .before .before .before .before .before .before .before .before .before .pre .1 .0)), omega (arith, c .before .before .before .before .before .before .before .loop .inv .0, c .before .before .before .before .before .before .before .loop .inv .1, c .before .before .before .before .before .before .before .loop .inv .2, c .before .before .before .before .before .before .before .before .before .before .before .pre .1 .0, c .before .before .before .before .before .before .before .before .before .before .before .pre .1 .1))
-
-  same-length-3 : lts.Need-same-length-3 claims (recover-row-at t) recover-row.Post Inv-loop μ-loop
-  same-length-3 c = omega (arith, c .before .before .before .before .before .before .before .before .before .before .loop .inv .0, c .before .before .before .before .before .before .before .before .before .before .loop .inv .1, c .before .before .before .before .before .before .before .before .before .before .loop .inv .2, c .before .before .put-run4 .kept)
-
-  returns-3 : lts.Need-returns-3 claims (recover-row-at t) recover-row.Post Inv-loop μ-loop
-  returns-3 c = (
-    omega (arith, c .before .before .put-run4 .ensures .1 .1, c .before .before .before .before .before .before .before .before .before .before .loop .inv .0, c .before .before .before .before .before .before .before .before .before .before .loop .inv .1, c .before .before .before .before .before .before .before .before .before .before .loop .inv .2, c .before .before .before .before .before .before .before .before .before .before .before .before .before .before .pre .1 .0),
-    λ k ps qs hp hq fp fq e.
-        let x = c .before .before .before .before .before .before .before .before .before .before .loop .inv .3 k ps qs hp hq fp fq e in
-        recover-stays _ _ _ _ _ _ _ _ _ _ _ _ x (stays-terms _ _ _ _ _ _ _ _ _ _ _ _ x (c .before .before .before .before .before .before .before .before .before .loop-test .taken) (c .before .before .before .before .before .before .before .before .before .before .before .before .before .before .pre .1 .0 .1) (c .before .before .before .before .before .before .before .before .if1 .left) (c .before .before .before .before .before .before .if2 .left) (c .before .before .before .before .if4 .taken)) _ _ (c .before .before .put-run4 .ensures .0) (c .before .before .put-run4 .ensures .1 .0),
+        let x = c .before .before .before .before .before .before .before .before .loop .inv .3 k ps qs hp hq fp fq e in
+        recover-number _ _ _ _ _ _ _ _ _ _ _ _ x (c .before .before .before .before .before .before .before .paired .ensures .0 (c .before .before .before .before .before .before .if1 .taken) .left) (c .before .before .before .before .before .before .before .before .before .before .before .before .pre .1 .0 .1) (c .before .before .before .before .before .before .before .paired .ensures .0 (c .before .before .before .before .before .before .if1 .taken) .right) (sym (c .before .before .before .before .before .word .ensures) ∙ c .before .before .before .before .if2 .taken) (c .before .before .before .before .before .before .before .paired .ensures .0 (c .before .before .before .before .before .before .if1 .taken) .number (sym (c .before .before .before .before .before .word .ensures) ∙ c .before .before .before .before .if2 .taken)) _ _ (c .before .before .put-run .ensures .0) (c .before .before .put-run .ensures .1 .0),
   )
 
   sub-skip : lts.Need-sub-skip claims (recover-row-at t) recover-row.Post Inv-loop μ-loop
-  sub-skip c = omega (arith, c .before .before .before .before .before .before .loop .inv .0, c .before .before .before .before .before .before .loop .inv .1, c .before .before .before .before .before .before .loop .inv .2, c .before .before .before .before .before .before .before .before .before .before .pre .1 .0)
+  sub-skip c = omega (arith, c .before .before .before .paired .ensures .0 (c .before .before .if1 .taken), c .before .before .before .before .loop .inv .0, c .before .before .before .before .loop .inv .1, c .before .before .before .before .loop .inv .2, c .before .before .before .before .before .before .before .before .pre .1 .0)
 
   skip-requires : lts.Need-skip-requires claims (recover-row-at t) recover-row.Post Inv-loop μ-loop
-  skip-requires c κs = (omega (arith, c .before .before .before .before .before .before .loop .inv .0, c .before .before .before .before .before .before .loop .inv .1, c .before .before .before .before .before .before .loop .inv .2, c .before .before .before .before .before .before .before .before .before .before .pre .1 .0), c .before .before .before .before .before .before .before .before .before .before .pre .1 .0 .5, omega (arith, c .before .before .before .before .before .before .loop .inv .0, c .before .before .before .before .before .before .loop .inv .1, c .before .before .before .before .before .before .loop .inv .2, c .before .before .before .before .before .before .before .before .before .before .pre .1 .0, c .before .before .before .before .before .loop-test .taken))
+  skip-requires c κs = (omega (arith, c .before .before .before .paired .ensures .0 (c .before .before .if1 .taken), c .before .before .before .before .loop .inv .0, c .before .before .before .before .loop .inv .1, c .before .before .before .before .loop .inv .2, c .before .before .before .before .before .before .before .before .pre .1 .0), c .before .before .before .before .before .before .before .before .pre .1 .0 .5, omega (arith, c .before .before .before .paired .ensures .0 (c .before .before .if1 .taken), c .before .before .before .before .loop .inv .0, c .before .before .before .before .loop .inv .1, c .before .before .before .before .loop .inv .2, c .before .before .before .before .before .before .before .before .pre .1 .0))
 
   sub-skip-2 : lts.Need-sub-skip-2 claims (recover-row-at t) recover-row.Post Inv-loop μ-loop
-  sub-skip-2 c = omega (arith, c .before .before .before .before .before .before .before .loop .inv .0, c .before .before .before .before .before .before .before .loop .inv .1, c .before .before .before .before .before .before .before .loop .inv .2, c .before .before .before .before .before .before .before .before .before .before .before .pre .1 .0)
+  sub-skip-2 c = omega (arith, c .before .before .before .before .paired .ensures .0 (c .before .before .before .if1 .taken), c .before .before .before .before .before .loop .inv .0, c .before .before .before .before .before .loop .inv .1, c .before .before .before .before .before .loop .inv .2, c .before .before .before .before .before .before .before .before .before .pre .1 .0)
 
   skip-requires-2 : lts.Need-skip-requires-2 claims (recover-row-at t) recover-row.Post Inv-loop μ-loop
-  skip-requires-2 c κs = (omega (arith, c .before .before .before .before .before .before .before .loop .inv .0, c .before .before .before .before .before .before .before .loop .inv .1, c .before .before .before .before .before .before .before .loop .inv .2, c .before .before .before .before .before .before .before .before .before .before .before .pre .1 .0), c .before .before .before .before .before .before .before .before .before .before .before .pre .1 .0 .5, omega (arith, c .before .before .before .before .before .before .before .loop .inv .0, c .before .before .before .before .before .before .before .loop .inv .1, c .before .before .before .before .before .before .before .loop .inv .2, c .before .before .before .before .before .before .before .before .before .before .before .pre .1 .0, c .before .before .before .before .before .if1 .left))
+  skip-requires-2 c κs = (omega (arith, c .before .before .before .before .paired .ensures .0 (c .before .before .before .if1 .taken), c .before .before .before .before .before .loop .inv .0, c .before .before .before .before .before .loop .inv .1, c .before .before .before .before .before .loop .inv .2, c .before .before .before .before .before .before .before .before .before .pre .1 .0), c .before .before .before .before .before .before .before .before .before .pre .1 .0 .5, omega (arith, c .before .before .before .before .paired .ensures .0 (c .before .before .before .if1 .taken), c .before .before .before .before .before .loop .inv .0, c .before .before .before .before .before .loop .inv .1, c .before .before .before .before .before .loop .inv .2, c .before .before .before .before .before .before .before .before .before .pre .1 .0))
 
   add-recover-term : lts.Need-add-recover-term claims (recover-row-at t) recover-row.Post Inv-loop μ-loop
-  add-recover-term c = omega (arith, c .before .before .before .before .before .before .before .before .loop .inv .0, c .before .before .before .before .before .before .before .before .loop .inv .1, c .before .before .before .before .before .before .before .before .loop .inv .2, c .before .before .before .before .before .before .before .before .before .before .before .before .pre .1 .0, c .before .skip .ensures .1)
+  add-recover-term c = omega (arith, c .before .before .before .before .before .paired .ensures .0 (c .before .before .before .before .if1 .taken), c .before .before .before .before .before .before .loop .inv .0, c .before .before .before .before .before .before .loop .inv .1, c .before .before .before .before .before .before .loop .inv .2, c .before .before .before .before .before .before .before .before .before .before .pre .1 .0, c .before .skip .ensures .1)
 
   add-recover-term-2 : lts.Need-add-recover-term-2 claims (recover-row-at t) recover-row.Post Inv-loop μ-loop
-  add-recover-term-2 c = omega (arith, c .before .before .before .before .before .before .before .before .loop .inv .0, c .before .before .before .before .before .before .before .before .loop .inv .1, c .before .before .before .before .before .before .before .before .loop .inv .2, c .before .before .before .before .before .before .before .before .before .before .before .before .pre .1 .0, c .skip2 .ensures .1)
+  add-recover-term-2 c = omega (arith, c .before .before .before .before .before .paired .ensures .0 (c .before .before .before .before .if1 .taken), c .before .before .before .before .before .before .loop .inv .0, c .before .before .before .before .before .before .loop .inv .1, c .before .before .before .before .before .before .loop .inv .2, c .before .before .before .before .before .before .before .before .before .before .pre .1 .0, c .skip2 .ensures .1)
 
   recover-term-requires : lts.Need-recover-term-requires claims (recover-row-at t) recover-row.Post Inv-loop μ-loop
-  recover-term-requires c κs = (omega (arith, c .before .before .before .before .before .before .before .before .before .loop .inv .0, c .before .before .before .before .before .before .before .before .before .loop .inv .1, c .before .before .before .before .before .before .before .before .before .loop .inv .2, c .before .before .before .before .before .before .before .before .before .before .before .before .before .pre .0, c .before .before .before .before .before .before .before .before .before .before .before .before .before .pre .1 .0, c .before .before .skip .ensures .0, c .before .before .skip .ensures .1), ((omega (arith, c .before .before .skip .ensures .0), omega (arith, c .before .before .before .before .before .before .before .before .before .loop .inv .0, c .before .before .before .before .before .before .before .before .before .loop .inv .1, c .before .before .before .before .before .before .before .before .before .loop .inv .2, c .before .before .before .before .before .before .before .before .before .before .before .before .before .pre .1 .0, c .before .before .skip .ensures .1), omega (arith, c .before .skip2 .ensures .0), omega (arith, c .before .before .before .before .before .before .before .before .before .loop .inv .0, c .before .before .before .before .before .before .before .before .before .loop .inv .1, c .before .before .before .before .before .before .before .before .before .loop .inv .2, c .before .before .before .before .before .before .before .before .before .before .before .before .before .pre .1 .0, c .before .skip2 .ensures .1), c .before .before .before .before .before .before .before .before .before .before .before .before .before .pre .1 .0 .5), omega (arith, c .before .before .before .before .before .before .before .before .before .loop .inv .0, c .before .before .before .before .before .before .before .before .before .loop .inv .1, c .before .before .before .before .before .before .before .before .before .loop .inv .2, c .before .before .before .before .before .before .before .before .before .before .before .before .before .pre .1 .0, c .before .before .before .before .before .before .before .before .before .before .before .before .before .pre .1 .1, c .before .before .skip .ensures .1, c .before .skip2 .ensures .1, c .before .before .skip .ensures .0, c .before .skip2 .ensures .0)))
+  recover-term-requires c κs = (omega (arith, c .before .before .before .before .before .before .paired .ensures .0 (c .before .before .before .before .before .if1 .taken), c .before .before .before .before .before .before .before .loop .inv .0, c .before .before .before .before .before .before .before .loop .inv .1, c .before .before .before .before .before .before .before .loop .inv .2, c .before .before .before .before .before .before .before .before .before .before .before .pre .0, c .before .before .before .before .before .before .before .before .before .before .before .pre .1 .0, c .before .before .skip .ensures .0, c .before .before .skip .ensures .1), ((omega (arith, c .before .before .before .before .before .before .paired .ensures .0 (c .before .before .before .before .before .if1 .taken), c .before .before .skip .ensures .0), omega (arith, c .before .before .before .before .before .before .paired .ensures .0 (c .before .before .before .before .before .if1 .taken), c .before .before .before .before .before .before .before .loop .inv .0, c .before .before .before .before .before .before .before .loop .inv .1, c .before .before .before .before .before .before .before .loop .inv .2, c .before .before .before .before .before .before .before .before .before .before .before .pre .1 .0, c .before .before .skip .ensures .1), omega (arith, c .before .before .before .before .before .before .paired .ensures .0 (c .before .before .before .before .before .if1 .taken), c .before .skip2 .ensures .0), omega (arith, c .before .before .before .before .before .before .paired .ensures .0 (c .before .before .before .before .before .if1 .taken), c .before .before .before .before .before .before .before .loop .inv .0, c .before .before .before .before .before .before .before .loop .inv .1, c .before .before .before .before .before .before .before .loop .inv .2, c .before .before .before .before .before .before .before .before .before .before .before .pre .1 .0, c .before .skip2 .ensures .1), c .before .before .before .before .before .before .before .before .before .before .before .pre .1 .0 .5), omega (arith, c .before .before .before .before .before .before .paired .ensures .0 (c .before .before .before .before .before .if1 .taken), c .before .before .before .before .before .before .before .loop .inv .0, c .before .before .before .before .before .before .before .loop .inv .1, c .before .before .before .before .before .before .before .loop .inv .2, c .before .before .before .before .before .before .before .before .before .before .before .pre .1 .0, c .before .before .before .before .before .before .before .before .before .before .before .pre .1 .1, c .before .before .skip .ensures .1, c .before .skip2 .ensures .1, c .before .before .skip .ensures .0, c .before .skip2 .ensures .0)))
 
   add-i-2 : lts.Need-add-i-2 claims (recover-row-at t) recover-row.Post Inv-loop μ-loop
-  add-i-2 c = omega (arith, c .before .before .before .before .before .before .before .before .before .before .before .before .loop .inv .0, c .before .before .before .before .before .before .before .before .before .before .before .before .loop .inv .1, c .before .before .before .before .before .before .before .before .before .before .before .before .loop .inv .2, c .before .before .before .before .before .before .before .before .before .before .before .before .before .before .before .before .pre .1 .0, c .before .before .before .before .before .skip .ensures .1)
+  add-i-2 c = omega (arith, c .before .before .before .before .before .before .before .before .before .paired .ensures .0 (c .before .before .before .before .before .before .before .before .if1 .taken), c .before .before .before .before .before .before .before .before .before .before .loop .inv .0, c .before .before .before .before .before .before .before .before .before .before .loop .inv .1, c .before .before .before .before .before .before .before .before .before .before .loop .inv .2, c .before .before .before .before .before .before .before .before .before .before .before .before .before .before .pre .1 .0, c .before .before .before .before .before .skip .ensures .1)
 
   add-j-2 : lts.Need-add-j-2 claims (recover-row-at t) recover-row.Post Inv-loop μ-loop
-  add-j-2 c = omega (arith, c .before .before .before .before .before .before .before .before .before .before .before .before .loop .inv .0, c .before .before .before .before .before .before .before .before .before .before .before .before .loop .inv .1, c .before .before .before .before .before .before .before .before .before .before .before .before .loop .inv .2, c .before .before .before .before .before .before .before .before .before .before .before .before .before .before .before .before .pre .1 .0, c .before .before .before .before .skip2 .ensures .1)
+  add-j-2 c = omega (arith, c .before .before .before .before .before .before .before .before .before .paired .ensures .0 (c .before .before .before .before .before .before .before .before .if1 .taken), c .before .before .before .before .before .before .before .before .before .before .loop .inv .0, c .before .before .before .before .before .before .before .before .before .before .loop .inv .1, c .before .before .before .before .before .before .before .before .before .before .loop .inv .2, c .before .before .before .before .before .before .before .before .before .before .before .before .before .before .pre .1 .0, c .before .before .before .before .skip2 .ensures .1)
 
   loop-less-2 : lts.Need-loop-less-2 claims (recover-row-at t) recover-row.Post Inv-loop μ-loop
-  loop-less-2 c = omega (arith, c .before .before .before .before .before .before .before .before .before .before .before .before .loop .inv .0, c .before .before .before .before .before .before .before .before .before .before .before .before .loop .inv .1, c .before .before .before .before .before .before .before .before .before .before .before .before .loop .inv .2, c .before .before .before .before .before .before .before .before .before .before .before .before .before .before .before .before .pre .1 .0, c .before .before .before .before .before .skip .ensures .0, c .before .before .before .before .before .skip .ensures .1)
+  loop-less-2 c = omega (arith, c .before .before .before .before .before .before .before .before .before .paired .ensures .0 (c .before .before .before .before .before .before .before .before .if1 .taken), c .before .before .before .before .before .before .before .before .before .before .loop .inv .0, c .before .before .before .before .before .before .before .before .before .before .loop .inv .1, c .before .before .before .before .before .before .before .before .before .before .loop .inv .2, c .before .before .before .before .before .before .before .before .before .before .before .before .before .before .pre .1 .0, c .before .before .before .before .before .skip .ensures .0, c .before .before .before .before .before .skip .ensures .1)
 
   loop-again-2 : lts.Need-loop-again-2 claims (recover-row-at t) recover-row.Post Inv-loop μ-loop
   loop-again-2 c = (
-    omega (arith, c .before .before .before .before .before .before .before .before .before .before .before .before .loop .inv .0, c .before .before .before .before .before .before .before .before .before .before .before .before .loop .inv .1, c .before .before .before .before .before .before .before .before .before .before .before .before .loop .inv .2, c .before .before .before .before .before .before .before .before .before .before .before .before .before .before .before .before .pre .1 .0, c .before .before .before .before .before .skip .ensures .0, c .before .before .before .before .before .skip .ensures .1),
-    omega (arith, c .before .before .before .before .before .before .before .before .before .before .before .before .loop .inv .0, c .before .before .before .before .before .before .before .before .before .before .before .before .loop .inv .1, c .before .before .before .before .before .before .before .before .before .before .before .before .loop .inv .2, c .before .before .before .before .before .before .before .before .before .before .before .before .before .before .before .before .pre .1 .0, c .before .before .before .before .skip2 .ensures .0, c .before .before .before .before .skip2 .ensures .1),
-    omega (arith, c .before .before .before .before .before .before .before .before .before .before .before .before .loop .inv .0, c .before .before .before .before .before .before .before .before .before .before .before .before .loop .inv .1, c .before .before .before .before .before .before .before .before .before .before .before .before .loop .inv .2, c .before .before .recover-term .ensures .0, c .before .before .before .before .before .skip .ensures .0, c .before .before .before .before .skip2 .ensures .0),
+    omega (arith, c .before .before .before .before .before .before .before .before .before .paired .ensures .0 (c .before .before .before .before .before .before .before .before .if1 .taken), c .before .before .before .before .before .before .before .before .before .before .loop .inv .0, c .before .before .before .before .before .before .before .before .before .before .loop .inv .1, c .before .before .before .before .before .before .before .before .before .before .loop .inv .2, c .before .before .before .before .before .before .before .before .before .before .before .before .before .before .pre .1 .0, c .before .before .before .before .before .skip .ensures .0, c .before .before .before .before .before .skip .ensures .1),
+    omega (arith, c .before .before .before .before .before .before .before .before .before .paired .ensures .0 (c .before .before .before .before .before .before .before .before .if1 .taken), c .before .before .before .before .before .before .before .before .before .before .loop .inv .0, c .before .before .before .before .before .before .before .before .before .before .loop .inv .1, c .before .before .before .before .before .before .before .before .before .before .loop .inv .2, c .before .before .before .before .before .before .before .before .before .before .before .before .before .before .pre .1 .0, c .before .before .before .before .skip2 .ensures .0, c .before .before .before .before .skip2 .ensures .1),
+    omega (arith, c .before .before .before .before .before .before .before .before .before .paired .ensures .0 (c .before .before .before .before .before .before .before .before .if1 .taken), c .before .before .before .before .before .before .before .before .before .before .loop .inv .0, c .before .before .before .before .before .before .before .before .before .before .loop .inv .1, c .before .before .before .before .before .before .before .before .before .before .loop .inv .2, c .before .before .recover-term .ensures .0, c .before .before .before .before .before .skip .ensures .0, c .before .before .before .before .skip2 .ensures .0),
     λ k ps qs hp hq fp fq e.
-        let x = c .before .before .before .before .before .before .before .before .before .before .before .before .loop .inv .3 k ps qs hp hq fp fq e in
-        let y = both-terms _ _ _ _ _ _ _ _ _ _ _ _ x (c .before .before .before .before .before .before .before .before .before .before .before .loop-test .taken) (c .before .before .before .before .before .before .before .before .before .before .before .before .before .before .before .before .pre .1 .0 .1) (c .before .before .before .before .before .before .before .before .before .before .if1 .left) (c .before .before .before .before .before .before .before .before .if2 .left) (c .before .before .before .before .before .before .if4 .left) in
+        let x = c .before .before .before .before .before .before .before .before .before .before .loop .inv .3 k ps qs hp hq fp fq e in
+        let y = both-terms _ _ _ _ _ _ _ _ _ _ _ _ x (c .before .before .before .before .before .before .before .before .before .paired .ensures .0 (c .before .before .before .before .before .before .before .before .if1 .taken) .left) (c .before .before .before .before .before .before .before .before .before .before .before .before .before .before .pre .1 .0 .1) (c .before .before .before .before .before .before .before .before .before .paired .ensures .0 (c .before .before .before .before .before .before .before .before .if1 .taken) .right) (λ z. c .before .before .before .before .before .before .if2 .left (c .before .before .before .before .before .before .before .word .ensures ∙ z)) (c .before .before .before .before .before .before .before .before .before .paired .ensures .0 (c .before .before .before .before .before .before .before .before .if1 .taken) .term (λ z. c .before .before .before .before .before .before .if2 .left (c .before .before .before .before .before .before .before .word .ensures ∙ z))) in
         let n = told-row _ _ _ _ _ (y .t) (y .ps) (y .rowLeft) (c .before .before .before .before .before .skip .ensures .2) in
         let m = told-row _ _ _ _ _ (y .u) (y .qs) (y .rowRight) (c .before .before .before .before .skip2 .ensures .2) in
-        recover-both _ _ _ _ _ _ _ _ _ _ _ _ x (c .before .before .before .before .before .before .before .before .before .before .before .loop-test .taken) (c .before .before .before .before .before .before .before .before .before .before .before .before .before .before .before .before .pre .1 .0 .1) (c .before .before .before .before .before .before .before .before .before .before .if1 .left) y _ _ n m _ _ (c .before .before .recover-term .ensures .1 (y .t) (y .u) (held-one _ _ _ _ (y .t) (y .heldLeft) n) (held-one _ _ _ _ (y .u) (y .heldRight) m) (y .formedLeft) (y .formedRight)),
+        recover-both _ _ _ _ _ _ _ _ _ _ _ _ x (c .before .before .before .before .before .before .before .before .before .paired .ensures .0 (c .before .before .before .before .before .before .before .before .if1 .taken) .left) (c .before .before .before .before .before .before .before .before .before .before .before .before .before .before .pre .1 .0 .1) (c .before .before .before .before .before .before .before .before .before .paired .ensures .0 (c .before .before .before .before .before .before .before .before .if1 .taken) .right) y _ _ n m _ _ (c .before .before .recover-term .ensures .1 (y .t) (y .u) (held-one _ _ _ _ (y .t) (y .heldLeft) n) (held-one _ _ _ _ (y .u) (y .heldRight) m) (y .formedLeft) (y .formedRight)),
   )
 
-  sub-put-run-4 : lts.Need-sub-put-run-4 claims (recover-row-at t) recover-row.Post Inv-loop μ-loop
-  sub-put-run-4 c = omega (arith, c .before .loop .inv .0, c .before .loop .inv .1, c .before .loop .inv .2)
+  sub-put-run : lts.Need-sub-put-run claims (recover-row-at t) recover-row.Post Inv-loop μ-loop
+  sub-put-run c = omega (arith, c .before .before .loop .inv .0, c .before .before .loop .inv .1, c .before .before .loop .inv .2)
 
-  put-run-requires-5 : lts.Need-put-run-requires-5 claims (recover-row-at t) recover-row.Post Inv-loop μ-loop
-  put-run-requires-5 c κs = ((omega (arith, c .before .before .loop .inv .0, c .before .before .loop .inv .1, c .before .before .loop .inv .2, c .before .before .before .before .before .before .pre .1 .0), omega (arith, c .before .before .loop .inv .0, c .before .before .loop .inv .1, c .before .before .loop .inv .2, c .before .before .before .before .before .before .pre .1 .0)), omega (arith, c .before .before .loop .inv .0, c .before .before .loop .inv .1, c .before .before .loop .inv .2, c .before .before .before .before .before .before .pre .1 .0, c .before .before .before .before .before .before .pre .1 .1))
+  put-run-requires-2 : lts.Need-put-run-requires-2 claims (recover-row-at t) recover-row.Post Inv-loop μ-loop
+  put-run-requires-2 c κs = ((omega (arith, c .before .before .before .loop .inv .0, c .before .before .before .loop .inv .1, c .before .before .before .loop .inv .2, c .before .before .before .before .before .before .before .pre .1 .0), omega (arith, c .before .before .before .loop .inv .0, c .before .before .before .loop .inv .1, c .before .before .before .loop .inv .2, c .before .before .before .before .before .before .before .pre .1 .0)), omega (arith, c .before .before .before .loop .inv .0, c .before .before .before .loop .inv .1, c .before .before .before .loop .inv .2, c .before .before .before .before .before .before .before .pre .1 .0, c .before .before .before .before .before .before .before .pre .1 .1))
 
-  same-length-4 : lts.Need-same-length-4 claims (recover-row-at t) recover-row.Post Inv-loop μ-loop
-  same-length-4 c = omega (arith, c .before .before .before .before .before .loop .inv .0, c .before .before .before .before .before .loop .inv .1, c .before .before .before .before .before .loop .inv .2, c .before .before .put-run5 .kept)
+  same-length : lts.Need-same-length claims (recover-row-at t) recover-row.Post Inv-loop μ-loop
+  same-length c = omega (arith, c .before .before .before .before .before .before .loop .inv .0, c .before .before .before .before .before .before .loop .inv .1, c .before .before .before .before .before .before .loop .inv .2, c .before .before .put-run2 .kept)
 
-  returns-4 : lts.Need-returns-4 claims (recover-row-at t) recover-row.Post Inv-loop μ-loop
-  returns-4 c = (
-    omega (arith, c .before .before .put-run5 .ensures .1 .1, c .before .before .before .before .before .loop .inv .0, c .before .before .before .before .before .loop .inv .1, c .before .before .before .before .before .loop .inv .2, c .before .before .before .before .before .before .before .before .before .pre .1 .0),
+  returns : lts.Need-returns claims (recover-row-at t) recover-row.Post Inv-loop μ-loop
+  returns c = (
+    omega (arith, c .before .before .put-run2 .ensures .1 .1, c .before .before .before .before .before .before .loop .inv .0, c .before .before .before .before .before .before .loop .inv .1, c .before .before .before .before .before .before .loop .inv .2, c .before .before .before .before .before .before .before .before .before .before .pre .1 .0),
     λ k ps qs hp hq fp fq e.
-        let x = c .before .before .before .before .before .loop .inv .3 k ps qs hp hq fp fq e in
-        recover-stays _ _ _ _ _ _ _ _ _ _ _ _ x (stays-no-left _ _ _ _ _ _ _ _ _ _ _ _ x (c .before .before .before .before .loop-test .left)) _ _ (c .before .before .put-run5 .ensures .0) (c .before .before .put-run5 .ensures .1 .0),
+        let x = c .before .before .before .before .before .before .loop .inv .3 k ps qs hp hq fp fq e in
+        recover-stays _ _ _ _ _ _ _ _ _ _ _ _ x (stays-parted _ _ _ _ _ _ _ _ _ _ _ _ x (c .before .before .before .before .before .before .before .before .before .before .pre .1 .0 .1) (c .before .before .before .before .before .paired .ensures .1 (c .before .before .before .before .if1 .left))) _ _ (c .before .before .put-run2 .ensures .0) (c .before .before .put-run2 .ensures .1 .0),
   )
 
   pub member : {M : Type 1} → lts.Closed claims (recover-row-at t) recover-row.Post M
-  member = lts.spec claims (recover-row-at t) recover-row.Post Inv-loop μ-loop loop-holds sub-put-run put-run-requires same-length returns mul-if2 shared-slice-read-if2 mul-if3 shared-slice-read-if3 sub-put-run-2 put-run-requires-2 same-length-2 returns-2 put-run-requires-3 add-i add-j loop-less loop-again mul-if4 shared-slice-read-if4 sub-put-run-3 put-run-requires-4 same-length-3 returns-3 sub-skip skip-requires sub-skip-2 skip-requires-2 add-recover-term add-recover-term-2 recover-term-requires add-i-2 add-j-2 loop-less-2 loop-again-2 sub-put-run-4 put-run-requires-5 same-length-4 returns-4
+  member = lts.spec claims (recover-row-at t) recover-row.Post Inv-loop μ-loop loop-holds paired-requires word-requires put-run-requires add-i add-j loop-less loop-again sub-skip skip-requires sub-skip-2 skip-requires-2 add-recover-term add-recover-term-2 recover-term-requires add-i-2 add-j-2 loop-less-2 loop-again-2 sub-put-run put-run-requires-2 same-length returns

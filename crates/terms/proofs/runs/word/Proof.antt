@@ -1,11 +1,10 @@
 -- `word`. Assumes nothing.
 use mathlib.Core.Path.{sym}
-use native.Mathlib.Omega.{arith}
 use lib.ListN.{List·getD-eq-default}
 use denote.Ref.{now}
 use borrow.Author.Needs.{needs}
-use Rattle.terms.proofs.view.word.Statement.{statement}
-use Rattle.terms.proofs.view.word.Tie as tie
+use Rattle.terms.proofs.runs.word.Statement.{statement}
+use Rattle.terms.proofs.runs.word.Tie as tie
 
 mul-result : tie.Need-mul-result
 mul-result c = search needs

@@ -2,8 +2,8 @@
 use mathlib.Core.Path.{sym, _∙_}
 use Rattle.terms.proofs.HeldLaws.{span-one, span-node}
 use borrow.Author.Needs.{needs}
-use Rattle.terms.proofs.find.span_of.Statement.{statement}
-use Rattle.terms.proofs.find.span_of.Tie as tie
+use Rattle.terms.proofs.runs.span_of.Statement.{statement}
+use Rattle.terms.proofs.runs.span_of.Tie as tie
 
 returns : tie.Need-returns
 returns c = let a = c .before .args in sym (span-one (a .k) (a .v) (c .if1 .taken))
