@@ -26,10 +26,6 @@ mod views;
 mod walking;
 mod write;
 
-pub use find::find_entry;
-pub use find::find_parameter;
-pub use find::find_receiver;
-pub use find::nth_term;
 pub use find::skip_parameters;
 pub use keep::keep_nominal;
 pub use keep::keep_term;
@@ -47,7 +43,6 @@ pub use recover::recover_from;
 pub use rewrite::context;
 pub use rewrite::family;
 pub use rewrite::instantiation;
-pub use rewrite::rewrite_run;
 pub use rewrite::self_only;
 pub use rewrite::write_term;
 pub use satisfy::satisfies;
@@ -56,9 +51,7 @@ pub use store::clear_tokens;
 pub use views::can_weaken_to;
 pub use views::conflicts_with;
 pub use write::run_len;
-pub use write::token_len;
 pub use write::write_run;
-pub use write::write_token;
 
 // Where reading stands: the position in the bytes, the number of the next token, and how many nodes were read. While these are at most
 // `limit`, tokens are stored; past it reading goes on without.
