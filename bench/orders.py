@@ -1,0 +1,511 @@
+#!/usr/bin/env python3
+"""Counts the instructions of orders 9 to 20 for growing inputs, and prints Markdown tables.
+
+  python3 bench/orders.py             every order, then the orders at the limits
+  python3 bench/orders.py 12 20       these orders alone
+  python3 bench/orders.py limits      the orders at the limits alone
+
+It needs valgrind and target/bin/orders. The instructions are those that
+callgrind counts; they are the same in every run. With A an order and B the
+same order with one byte too many, which is read, cleared and refused:
+
+  whole      = (count of A A) - (count of A), less the same of the smallest
+               order of the kind: reading, the operation, writing, clearing
+  operation  = (count of A A) - (count of A B), less the same of the smallest
+               order of the kind: the operation and writing its answer
+
+Every answer is compared with that of tests/orders_reference.py. The reference
+also counts what the operation should be linear in. The exit status is 1 where
+the quotient of the largest size is over 2.5 times that of the second smallest.
+"""
+
+import collections
+import os
+import re
+import subprocess
+import sys
+import time
+
+ROOT = os.path.dirname(os.path.dirname(os.path.abspath(__file__)))
+sys.path.insert(0, os.path.join(ROOT, "tests"))
+
+import orders_reference as reference  # noqa: E402
+from orders_cases import (E, F64, G, I8, I32, I64, NONE, RO, RW, U, arr, fun, gen, host, nom, p, params, proj,  # noqa: E402
+                          ref, rule, self_, seq, set_, struct, subst, to, tup)
+from orders_reference import GENERIC, PROJECTION, SELF_TYPE, children, framed, member_of  # noqa: E402
+
+PROGRAM = os.path.join(ROOT, "target", "bin", "orders")
+NODES = (64, 128, 256, 512, 1024, 2047)
+VISITS = (256, 512, 1024, 2048, 4096, 8192)
+MOST_GROWTH = 2.5
+INPUT = 32768
+LEVELS = 190
+
+# make(size) gives the bytes of an order in hexadecimal; measure is a name of MEASURES.
+Shape = collections.namedtuple("Shape", "kind name measure make sizes")
+Row = collections.namedtuple("Row", "size nodes bytes tokens whole operation steps")
+
+
+# What the reference counts
+
+def flat(part):
+    """The tokens of a term, of a nominal or of a list of either."""
+    if not isinstance(part, tuple):
+        return [part]
+    listed = not part or isinstance(part[0], tuple)
+    out = [len(part)] if listed else []
+    for inner in part:
+        out += flat(inner)
+    return out
+
+
+def front(receiver, interface, member, arguments):
+    """The tokens of a projection or of a rule, in the order in which they are compared."""
+    return flat(receiver) + flat(interface) + [member] + flat(arguments)
+
+
+def compared(left, right):
+    """How many tokens are compared up to the first difference."""
+    for at, (a, b) in enumerate(zip(left, right)):
+        if a != b:
+            return at + 1
+    return min(len(left), len(right))
+
+
+class Counting(reference.Orders):
+    """Carries an order out and counts tokens, searches, visits and what is compared."""
+
+    def __init__(self, data):
+        super().__init__(data)
+        self.tokens = self.searched = self.entries = self.listed_parameters = 0
+        self.known = {}
+
+    def number(self):
+        self.tokens += 1
+        return super().number()
+
+    def listed(self, how_many):
+        self.tokens += 1
+        return super().listed(how_many)
+
+    def term(self, level):
+        found = super().term(level)
+        self.tokens += found[0] != reference.INFERENCE
+        return found
+
+    def rows(self, names, level):
+        found = super().rows(names, level)
+        if names == ("one_number", "one_number"):
+            self.listed_parameters = len(found)
+        elif names[-1] == "one_term" and len(names) < 4:
+            self.entries += len(found)
+        return found
+
+    def substituted(self, term, replacement):
+        if term[0] in (GENERIC, SELF_TYPE):
+            self.searched += self.entries + self.listed_parameters
+        return super().substituted(term, replacement)
+
+    def resolved_in(self, parameters, term):
+        self.searched += len(parameters) if term[0] == GENERIC else 0
+        return super().resolved_in(parameters, term)
+
+    def count_members(self, nominal, required, all_of_them):
+        for member, term in required[2]:
+            names = [name for name, _ in nominal[2]]
+            self.searched += names.index(member) + 1 if member in names else len(names)
+            if not all_of_them and member_of(nominal, member) != term:
+                return
+
+    def satisfies(self, nominal, required):
+        self.count_members(nominal, required, False)
+        return super().satisfies(nominal, required)
+
+    def satisfies_for(self, nominal, required, receiver):
+        self.count_members(nominal, required, True)
+        return super().satisfies_for(nominal, required, receiver)
+
+    def walked_from(self, term, lookup):
+        def counting(projection):
+            if projection not in self.known:
+                self.known[projection] = lookup(projection), self.looked_through(projection)
+            value, cost = self.known[projection]
+            self.searched += cost
+            return value
+        return super().walked_from(term, counting)
+
+    def with_associated_types(self, term, interface, owner):
+        self.looked_through = lambda projection: len(interface[1]) + len(interface[2])
+        return super().with_associated_types(term, interface, owner)
+
+    def normalised(self, rules, term):
+        fronts = [front(receiver, interface, *rest) for interface, receiver, *rest in (found[:4] for found in rules)]
+
+        def cost(projection):
+            own, total = front(*projection[1:]), 0
+            for other in fronts:
+                total += compared(own, other)
+                if own == other:
+                    break
+            return total
+        self.looked_through = cost
+        return super().normalised(rules, term)
+
+    @property
+    def visits(self):
+        return self.VISITS - self.visits_left
+
+
+MEASURES = {
+    "tokens": lambda counts, answer: counts.tokens,
+    "tokens + answer bytes": lambda counts, answer: counts.tokens + len(answer),
+    "tokens + Generics x list": lambda counts, answer: counts.tokens + counts.searched,
+    "tokens + SelfTypes x list": lambda counts, answer: counts.tokens + counts.searched,
+    "tokens + members x members": lambda counts, answer: counts.tokens + counts.searched,
+    "visits": lambda counts, answer: counts.visits,
+    "visits + projections x members": lambda counts, answer: counts.visits + counts.searched,
+    "visits + rule tokens compared": lambda counts, answer: counts.visits + counts.searched,
+}
+
+
+# Terms
+
+def leaves(count):
+    """Small terms that every question has to look at."""
+    items = [I32, host(300), F64, struct(201)]
+    return [items[n % 4] for n in range(count)]
+
+
+def wide(nodes):
+    return tup(*leaves(nodes - 1))
+
+
+def chain(levels, leaf):
+    """A term of so many levels and nodes, of six kinds."""
+    layers = [lambda t: arr(t), lambda t: ref(0, t), lambda t: tup(t), lambda t: fun([], t), lambda t: set_(RW, t),
+              lambda t: struct(201, [t])]
+    for level in range(levels - 1):
+        leaf = layers[level % 6](leaf)
+    return leaf
+
+
+def deep(nodes, leaf=I32, levels=LEVELS):
+    """A Tuple of chains, as few as the levels allow."""
+    count = -(-(nodes - 1) // levels)
+    return tup(*(chain((nodes - 1 + n) // count, leaf) for n in range(count)))
+
+
+def nested(nodes, make, leaf=I32):
+    """A tree of terms with three children each."""
+    if nodes < 4:
+        return arr(leaf, nodes - 1)
+    third = (nodes - 1) // 3
+    return make(*(nested(n, make, leaf) for n in (third, third, nodes - 1 - 2 * third)))
+
+
+def nominals(nodes, leaf=I32):
+    return nested(nodes, lambda a, b, c: struct(202, [a], [(5, b), (6, c)]), leaf)
+
+
+def projections(nodes, leaf=I32):
+    return nested(nodes, lambda a, b, c: proj(a, nom(203, [b], [(9, c)]), 8), leaf)
+
+
+def generics(count, owner=1):
+    return tup(*(gen(owner, n) for n in range(count)))
+
+
+def entries(count, term=I32, owner=1):
+    return [(owner, n, term) for n in range(count)]
+
+
+def pairs(count, owner=1):
+    return params(*((owner, n) for n in range(count)))
+
+
+# Orders 9 to 11
+
+def twice(make, outer=lambda side, term: term):
+    """Two equal terms with half of the nodes each."""
+    return lambda nodes: outer(0, make(nodes // 2 - 1)) + outer(1, make(nodes // 2 - 1))
+
+
+def weakened(side, term):
+    return set_((RW, RO)[side], term)
+
+
+def filled(make):
+    """A term with holes, and the same without."""
+    return lambda nodes: make(nodes // 2, U) + make(nodes // 2, I64)
+
+
+COMPARED = [
+    Shape(kind, name, "tokens", twice(make, outer), NODES)
+    for kind, outer in ((9, lambda side, term: term), (10, weakened))
+    for name, make in (("wide", wide), ("190 levels", deep), ("nominals", nominals), ("equal projections", projections))
+]
+RECOVERED = [
+    Shape(11, "wide, all Unknown", "tokens", filled(lambda nodes, leaf: tup(*[leaf] * (nodes - 1))), NODES),
+    Shape(11, "190 levels", "tokens", filled(deep), NODES),
+    Shape(11, "nominals", "tokens", filled(nominals), NODES),
+    Shape(11, "one Unknown, all taken", "tokens", lambda nodes: U + wide(nodes - 1), NODES),
+]
+
+
+# Orders 12 to 14 and 18
+
+def searched(kind, nodes):
+    """Half of the nodes are entries, half are Generics that none of them has."""
+    half = nodes // 2 - 1
+    rows = subst(entries(half))
+    return rows + (params() if kind == 13 else "") + generics(half, 2)
+
+
+SUBSTITUTED = [
+    Shape(12, "wide", "tokens", lambda nodes: subst([(0, 0, I32)]) + tup(G, *leaves(nodes - 3)), NODES),
+    Shape(12, "190 levels", "tokens", lambda nodes: subst([(0, 0, I32)]) + deep(nodes - 1, G), NODES),
+    Shape(12, "Generics, entries", "tokens + Generics x list", lambda nodes: searched(12, nodes), NODES),
+    Shape(12, "SelfTypes, receivers", "tokens + SelfTypes x list",
+          lambda nodes: subst([], [(n, I32) for n in range(nodes // 2 - 1)])
+          + tup(*(self_(n) for n in range(nodes // 2 - 1))), NODES),
+    Shape(12, "a wide entry put in twice", "tokens + answer bytes",
+          lambda nodes: subst([(0, 0, wide(nodes - 3))]) + tup(G, G), NODES),
+    Shape(13, "wide", "tokens", lambda nodes: subst([(0, 0, I32)]) + params((0, 1)) + tup(G, *leaves(nodes - 3)), NODES),
+    Shape(13, "190 levels", "tokens", lambda nodes: subst([(0, 0, I32)]) + params((0, 1)) + deep(nodes - 1, G), NODES),
+    Shape(13, "Generics, entries", "tokens + Generics x list", lambda nodes: searched(13, nodes), NODES),
+    Shape(13, "Generics, parameters", "tokens + Generics x list",
+          lambda nodes: NONE + pairs(nodes - 1) + generics(nodes - 1), NODES),
+    Shape(14, "wide, all SelfType", "tokens", lambda nodes: "05" + I32 + tup(*[self_(5)] * (nodes - 2)), NODES),
+    Shape(14, "190 levels", "tokens", lambda nodes: "05" + I32 + deep(nodes - 1, self_(5)), NODES),
+    Shape(14, "a wide term put in twice", "tokens + answer bytes",
+          lambda nodes: "05" + wide(nodes - 3) + tup(self_(5), self_(5)), NODES),
+    Shape(18, "wide", "tokens", lambda nodes: params((0, 0)) + tup(G, *leaves(nodes - 3)) + NONE + seq(I32), NODES),
+    Shape(18, "190 levels", "tokens", lambda nodes: params((0, 0)) + deep(nodes - 1, G) + NONE + seq(I32), NODES),
+    Shape(18, "Generics, parameters with arguments", "tokens + Generics x list",
+          lambda nodes: pairs(nodes // 2 - 1) + generics(nodes // 2 - 1) + NONE + seq(*[I32] * (nodes // 2 - 1)), NODES),
+    Shape(18, "Generics, parameters and entries", "tokens + Generics x list",
+          lambda nodes: pairs(nodes // 3 - 1, 3) + generics(nodes // 3 - 1) + subst(entries(nodes // 3 - 1))
+          + seq(*[I32] * (nodes // 3 - 1)), NODES),
+]
+
+
+# Orders 15 to 17
+
+def members(count, first=0):
+    return [(first + n, I32) for n in range(count)]
+
+
+def reflexive(nodes):
+    """An eighth of the nodes are required projections, whose interfaces require two members."""
+    given = nodes // 2
+    last = members(2, given - 2)
+    required = [(given + n, proj(U, nom(1, [], last), given + n)) for n in range(nodes // 8 - 1)]
+    return nom(1, [], members(given)) + nom(1, [], required) + U
+
+
+ASKED = [
+    Shape(15, "wide", "tokens", wide, NODES),
+    Shape(15, "190 levels", "tokens", deep, NODES),
+    Shape(15, "nominals", "tokens", nominals, NODES),
+    Shape(15, "projections", "tokens", projections, NODES),
+    Shape(16, "wide", "tokens", lambda nodes: params((0, 0)) + wide(nodes), NODES),
+    Shape(16, "190 levels", "tokens", lambda nodes: params((0, 0)) + deep(nodes, G), NODES),
+    Shape(16, "projections", "tokens", lambda nodes: params((0, 0)) + projections(nodes, G), NODES),
+    Shape(16, "Generics, parameters", "tokens + Generics x list",
+          lambda nodes: pairs(nodes - 1) + generics(nodes - 1), NODES),
+    Shape(17, "wide arguments", "tokens", lambda nodes: nom(1, leaves(nodes // 2 - 1)) * 2 + U, NODES),
+    Shape(17, "190 levels", "tokens", lambda nodes: nom(1, [deep(nodes // 2 - 1)]) * 2 + U, NODES),
+    Shape(17, "members required, given", "tokens + members x members",
+          lambda nodes: nom(1, [], members(nodes // 2 - 1)) * 2 + U, NODES),
+    Shape(17, "reflexive projections, given", "tokens + members x members", reflexive, NODES),
+]
+
+
+# Orders 19 and 20. The walk goes 64 levels down, so that deeper terms cost no more.
+
+OWN = proj(I32, nom(8, [], [(0, F64)]), 0)  # 3 nodes
+
+
+def walked(kind, term):
+    """Without anything that the term's projections could be looked up in."""
+    return term + nom(99) + I32 if kind == 19 else seq() + term
+
+
+def inserted(kind, visits):
+    """A shared Tuple of 29 is put in again and again: 32 visits and 31 children each time."""
+    term, value = tup(*[p(1)] * ((visits - 1) // 32)), tup(*[U] * 29)
+    return term + nom(1, [], [(0, value)]) + I32 if kind == 19 else seq(to(1, value)) + term
+
+
+def looked_up(nodes):
+    """Half of the nodes are members of the interface; the last one is looked up again and again."""
+    last = nodes // 2 - 1
+    return tup(*[proj(I32, nom(1), last)] * (nodes // 4 - 1)) + nom(1, [], members(last + 1)) + I32
+
+
+def put_in(nodes):
+    """The interface has no such member and is put in, twice."""
+    return tup(*[proj(I32, nom(1), 9999)] * 2) + nom(1, [], members(nodes - 6)) + I32
+
+
+def same_but_member(nodes):
+    """Rules and projections, a quarter each, which differ in the member alone."""
+    count = nodes // 4 - 1
+    rules = [rule(nom(1), struct(4), 1000 + n, [], I32) for n in range(count)]
+    return seq(*rules) + tup(*(proj(struct(4), nom(1), n) for n in range(count)))
+
+
+def long_rules(nodes):
+    """The same with 29 arguments each, of which the last ones differ."""
+    same = leaves(28)
+    count = nodes // 64
+    rules = [rule(nom(1), struct(4), 5, same + [gen(1, n)], I32) for n in range(count)]
+    return seq(*rules) + tup(*(proj(struct(4), nom(1), 5, *same, gen(2, n)) for n in range(count)))
+
+
+def doubled(visits):
+    """Each value has the next projection twice."""
+    count = visits.bit_length() - 4
+    rules = [to(n, tup(p(n + 1), p(n + 1))) for n in range(count)]
+    return seq(*rules, to(count, I32)) + p(0)
+
+
+def unmatched(rules, visits):
+    """A shared Tuple of 40 projections, each compared with every rule: 83 visits each time. In the end all is
+    replaced by an own member, so that the answer is short."""
+    other = proj(struct(4), nom(1), 0)
+    given = [to(2, tup(*[other] * 40))] + [rule(nom(1), struct(4), 1000 + n, [], I32) for n in range(rules - 1)]
+    return seq(*given) + proj(tup(*[p(2)] * ((visits - 4) // 83)), nom(9, [], [(0, I32)]), 0)
+
+
+def expanded(nodes):
+    return unmatched(nodes // 4, 4 * nodes - 4)
+
+
+NORMALISED = [
+    Shape(kind, name, "visits", lambda size, kind=kind, make=make: make(kind, size), sizes)
+    for kind in (19, 20)
+    for name, make, sizes in (
+        ("wide", lambda kind, nodes: walked(kind, tup(OWN, *leaves(nodes - 6))), NODES),
+        ("60 levels", lambda kind, nodes: walked(kind, tup(OWN, deep(nodes - 6, levels=60))), NODES),
+        ("projections", lambda kind, nodes: walked(kind, projections(nodes - 1)), NODES),
+        ("a shared value, to 8,192 visits", inserted, VISITS))
+] + [
+    Shape(19, "projections, members", "visits + projections x members", looked_up, NODES),
+    Shape(19, "the interface put in", "visits + projections x members", put_in, NODES),
+    Shape(20, "projections, rules", "visits + rule tokens compared", same_but_member, NODES),
+    Shape(20, "projections, long rules", "visits + rule tokens compared", long_rules, NODES),
+    Shape(20, "values with two projections", "visits + rule tokens compared", doubled, VISITS),
+    Shape(20, "shared projections, rules", "visits + rule tokens compared", expanded, NODES),
+]
+SHAPES = sorted(COMPARED + RECOVERED + SUBSTITUTED + ASKED + NORMALISED, key=lambda shape: shape.kind)
+SMALLEST = {9: U + U, 10: U + U, 11: U + U, 12: NONE + U, 13: NONE + params() + U, 14: "00" + U + U, 15: U, 16: params() + U,
+            17: nom(0) + nom(0) + U, 18: params() + U + NONE + seq(), 19: U + nom(0) + U, 20: seq() + U}
+
+
+# Counting
+
+def instructions(orders):
+    """The instructions of a run that reads and answers these orders."""
+    data = b"".join(map(framed, orders))
+    assert len(data) <= INPUT
+    done = subprocess.run(["valgrind", "--tool=callgrind", "--callgrind-out-file=/dev/null", PROGRAM], input=data,
+                          capture_output=True)
+    found = re.search(rb"Collected : (\d+)", done.stderr)
+    if done.returncode != 0 or not found:
+        sys.exit("the program or valgrind failed:\n" + done.stderr.decode())
+    if done.stdout != b"".join(framed(answer_of(order)) for order in orders):
+        sys.exit("an answer is not that of the reference: " + orders[0].hex()[:100])
+    return int(found.group(1))
+
+
+KNOWN = {}
+
+
+def answer_of(order):
+    if order not in KNOWN:
+        KNOWN[order] = reference.answer(order)
+    return KNOWN[order]
+
+
+def order_of(kind, fields):
+    return bytes([kind]) + bytes.fromhex(fields)
+
+
+def cost(order):
+    """The instructions of an order, and those of its operation alone."""
+    both = instructions([order, order])
+    return both - instructions([order]), both - instructions([order, order + b"\0"])
+
+
+def measured(shape, size, smallest):
+    order = order_of(shape.kind, shape.make(size))
+    counts = Counting(order)
+    answer = b"\0" + counts.order()
+    assert answer == answer_of(order)
+    whole, operation = (spent - least for spent, least in zip(cost(order), smallest))
+    return Row(size, counts.nodes_read, len(order), counts.tokens, whole, operation, MEASURES[shape.measure](counts, answer))
+
+
+# Printing
+
+def table(columns, rows):
+    print("| " + " | ".join(columns) + " |")
+    print("|---|" + "---:|" * (len(columns) - 1))
+    for row in rows:
+        print("| " + " | ".join(row) + " |", flush=True)
+    print()
+
+
+def shown(number):
+    return "{:,}".format(number)
+
+
+def cells(row, shape):
+    return [shape.name, shown(row.nodes), shown(row.bytes), shown(row.tokens), shown(row.whole), "%.0f" % (row.whole / row.tokens),
+            shown(row.operation), shown(row.steps), "%.1f" % (row.operation / row.steps)]
+
+
+def growth(rows):
+    """The quotient at the largest size against that at the second smallest."""
+    first, last = rows[1], rows[-1]
+    return (last.operation / last.steps) / (first.operation / first.steps)
+
+
+def order_tables(kind):
+    """Prints a table for each shape of an order, and gives the lines of the summary."""
+    smallest = cost(order_of(kind, SMALLEST[kind]))
+    print("## Order %d\n\nThe smallest order takes %s instructions, %s of them for its operation.\n"
+          % (kind, shown(smallest[0]), shown(smallest[1])), flush=True)
+    lines = []
+    for shape in SHAPES:
+        if shape.kind == kind:
+            rows = [measured(shape, size, smallest) for size in shape.sizes]
+            table(["shape", "nodes", "bytes", "tokens", "whole", "per token", "operation", shape.measure, "quotient"],
+                  [cells(row, shape) for row in rows])
+            lines.append((shape, rows))
+    return lines
+
+
+def summary(lines):
+    """Prints a line for each shape. True where no quotient grows too much."""
+    print("## Instructions of the operation, divided by what it should be linear in\n")
+    table(["order", "shape", "linear in", "largest"] + ["size %d" % (n + 1) for n in range(len(NODES))] + ["growth"],
+          [[str(shape.kind), shape.name, shape.measure, shown(rows[-1].steps)]
+           + ["%.1f" % (row.operation / row.steps) for row in rows] + ["%.2f" % growth(rows)] for shape, rows in lines])
+    too_much = [shape for shape, rows in lines if growth(rows) > MOST_GROWTH]
+    for shape in too_much:
+        print("Order %d, %s: the quotient grows by more than %.1f." % (shape.kind, shape.name, MOST_GROWTH))
+    return not too_much
+
+
+def main(words):
+    if not os.path.exists(PROGRAM):
+        sys.exit("there is no target/bin/orders")
+    kinds = [int(word) for word in words] or sorted(SMALLEST)
+    lines = [line for kind in kinds for line in order_tables(kind)]
+    return 0 if summary(lines) else 1
+
+
+if __name__ == "__main__":
+    sys.exit(main(sys.argv[1:]))
