@@ -16,7 +16,8 @@ same order with one byte too many, which is read, cleared and refused:
 
 Every answer is compared with that of tests/orders_reference.py. The reference
 also counts what the operation should be linear in. The exit status is 1 where
-the quotient of the largest size is over 2.5 times that of the second smallest.
+the quotient of the largest size is over 2.5 times that of the second smallest,
+or where that holds for reading and clearing, for each token.
 """
 
 import collections
@@ -30,9 +31,9 @@ ROOT = os.path.dirname(os.path.dirname(os.path.abspath(__file__)))
 sys.path.insert(0, os.path.join(ROOT, "tests"))
 
 import orders_reference as reference  # noqa: E402
-from orders_cases import (E, F64, G, I8, I32, I64, NONE, RO, RW, U, arr, fun, gen, host, nom, p, params, proj,  # noqa: E402
+from orders_cases import (F64, G, I32, I64, NONE, RO, RW, U, arr, fun, gen, host, nom, p, params, proj,  # noqa: E402
                           ref, rule, self_, seq, set_, struct, subst, to, tup)
-from orders_reference import GENERIC, PROJECTION, SELF_TYPE, children, framed, member_of  # noqa: E402
+from orders_reference import GENERIC, SELF_TYPE, framed, member_of  # noqa: E402
 
 PROGRAM = os.path.join(ROOT, "target", "bin", "orders")
 NODES = (64, 128, 256, 512, 1024, 2047)
@@ -41,8 +42,9 @@ MOST_GROWTH = 2.5
 INPUT = 32768
 LEVELS = 190
 
-# make(size) gives the bytes of an order in hexadecimal; measure is a name of MEASURES.
-Shape = collections.namedtuple("Shape", "kind name measure make sizes")
+# make(size) gives the bytes of an order in hexadecimal; measure is a name of MEASURES. Where base(size) gives another order,
+# its operation is taken off, and its measure.
+Shape = collections.namedtuple("Shape", "kind name measure make sizes base", defaults=[None])
 Row = collections.namedtuple("Row", "size nodes bytes tokens whole operation steps")
 
 
@@ -163,6 +165,8 @@ MEASURES = {
     "tokens + SelfTypes x list": lambda counts, answer: counts.tokens + counts.searched,
     "tokens + members x members": lambda counts, answer: counts.tokens + counts.searched,
     "visits": lambda counts, answer: counts.visits,
+    "projections x members": lambda counts, answer: counts.searched,
+    "rule tokens compared": lambda counts, answer: counts.searched,
     "visits + projections x members": lambda counts, answer: counts.visits + counts.searched,
     "visits + rule tokens compared": lambda counts, answer: counts.visits + counts.searched,
 }
@@ -211,16 +215,20 @@ def projections(nodes, leaf=I32):
     return nested(nodes, lambda a, b, c: proj(a, nom(203, [b], [(9, c)]), 8), leaf)
 
 
+# Positions take two bytes at every size.
+FIRST = 128
+
+
 def generics(count, owner=1):
-    return tup(*(gen(owner, n) for n in range(count)))
+    return tup(*(gen(owner, FIRST + n) for n in range(count)))
 
 
-def entries(count, term=I32, owner=1):
-    return [(owner, n, term) for n in range(count)]
+def entries(count):
+    return [(1, FIRST + n, I32) for n in range(count)]
 
 
 def pairs(count, owner=1):
-    return params(*((owner, n) for n in range(count)))
+    return params(*((owner, FIRST + n) for n in range(count)))
 
 
 # Orders 9 to 11
@@ -274,7 +282,7 @@ SUBSTITUTED = [
     Shape(13, "190 levels", "tokens", lambda nodes: subst([(0, 0, I32)]) + params((0, 1)) + deep(nodes - 1, G), NODES),
     Shape(13, "Generics, entries", "tokens + Generics x list", lambda nodes: searched(13, nodes), NODES),
     Shape(13, "Generics, parameters", "tokens + Generics x list",
-          lambda nodes: NONE + pairs(nodes - 1) + generics(nodes - 1), NODES),
+          lambda nodes: NONE + pairs(nodes // 2) + generics(nodes - 1), NODES),
     Shape(14, "wide, all SelfType", "tokens", lambda nodes: "05" + I32 + tup(*[self_(5)] * (nodes - 2)), NODES),
     Shape(14, "190 levels", "tokens", lambda nodes: "05" + I32 + deep(nodes - 1, self_(5)), NODES),
     Shape(14, "a wide term put in twice", "tokens + answer bytes",
@@ -312,7 +320,7 @@ ASKED = [
     Shape(16, "190 levels", "tokens", lambda nodes: params((0, 0)) + deep(nodes, G), NODES),
     Shape(16, "projections", "tokens", lambda nodes: params((0, 0)) + projections(nodes, G), NODES),
     Shape(16, "Generics, parameters", "tokens + Generics x list",
-          lambda nodes: pairs(nodes - 1) + generics(nodes - 1), NODES),
+          lambda nodes: pairs(nodes // 2) + tup(*(gen(1, FIRST + n // 2) for n in range(nodes - 1))), NODES),
     Shape(17, "wide arguments", "tokens", lambda nodes: nom(1, leaves(nodes // 2 - 1)) * 2 + U, NODES),
     Shape(17, "190 levels", "tokens", lambda nodes: nom(1, [deep(nodes // 2 - 1)]) * 2 + U, NODES),
     Shape(17, "members required, given", "tokens + members x members",
@@ -337,10 +345,25 @@ def inserted(kind, visits):
     return term + nom(1, [], [(0, value)]) + I32 if kind == 19 else seq(to(1, value)) + term
 
 
-def looked_up(nodes):
+def own_members(kind, visits):
+    """A Tuple as own member of an own member, ten levels: it is walked again at each level."""
+    term = tup(*leaves(visits // 12))
+    for _ in range(10):
+        term = proj(I32, nom(8, [], [(0, term)]), 0)
+    return walked(kind, term)
+
+
+def wide_owner(nodes):
+    """Every receiver is compared with the owner to its end."""
+    owner = tup(*leaves(29))
+    return tup(*[proj(owner, nom(1), 0)] * (nodes // 31 - 1)) + nom(1, [], [(0, I32)]) + owner
+
+
+def looked_up(nodes, all_of_them=True):
     """Half of the nodes are members of the interface; the last one is looked up again and again."""
     last = nodes // 2 - 1
-    return tup(*[proj(I32, nom(1), last)] * (nodes // 4 - 1)) + nom(1, [], members(last + 1)) + I32
+    known = members(last + 1) if all_of_them else members(1, last)
+    return tup(*[proj(I32, nom(1), last)] * (nodes // 4 - 1)) + nom(1, [], known) + I32
 
 
 def put_in(nodes):
@@ -348,19 +371,26 @@ def put_in(nodes):
     return tup(*[proj(I32, nom(1), 9999)] * 2) + nom(1, [], members(nodes - 6)) + I32
 
 
-def same_but_member(nodes):
+def same_but_member(nodes, rules=True):
     """Rules and projections, a quarter each, which differ in the member alone."""
     count = nodes // 4 - 1
-    rules = [rule(nom(1), struct(4), 1000 + n, [], I32) for n in range(count)]
-    return seq(*rules) + tup(*(proj(struct(4), nom(1), n) for n in range(count)))
+    given = [rule(nom(1), struct(4), 1000 + n, [], I32) for n in range(count if rules else 0)]
+    return seq(*given) + tup(*(proj(struct(4), nom(1), n) for n in range(count)))
 
 
-def long_rules(nodes):
+def long_rules(nodes, rules=True):
     """The same with 29 arguments each, of which the last ones differ."""
     same = leaves(28)
     count = nodes // 64
-    rules = [rule(nom(1), struct(4), 5, same + [gen(1, n)], I32) for n in range(count)]
-    return seq(*rules) + tup(*(proj(struct(4), nom(1), 5, *same, gen(2, n)) for n in range(count)))
+    given = [rule(nom(1), struct(4), 5, same + [gen(1, n)], I32) for n in range(count if rules else 0)]
+    return seq(*given) + tup(*(proj(struct(4), nom(1), 5, *same, gen(2, n)) for n in range(count)))
+
+
+def deep_rules(nodes, rules=True):
+    """The same with receivers of 30 levels, of which the innermost differ."""
+    count = nodes // 64
+    given = [rule(nom(1), chain(30, gen(1, n)), 5, [], I32) for n in range(count if rules else 0)]
+    return seq(*given) + tup(*(proj(chain(30, gen(2, n)), nom(1), 5) for n in range(count)))
 
 
 def doubled(visits):
@@ -378,8 +408,13 @@ def unmatched(rules, visits):
     return seq(*given) + proj(tup(*[p(2)] * ((visits - 4) // 83)), nom(9, [], [(0, I32)]), 0)
 
 
-def expanded(nodes):
-    return unmatched(nodes // 4, 4 * nodes - 4)
+def expanded(nodes, rules=True):
+    return unmatched(nodes // 8 if rules else 1, 4 * nodes - 4)
+
+
+def without(make):
+    """The same projections with nothing to look through."""
+    return lambda nodes: make(nodes, False)
 
 
 NORMALISED = [
@@ -389,14 +424,17 @@ NORMALISED = [
         ("wide", lambda kind, nodes: walked(kind, tup(OWN, *leaves(nodes - 6))), NODES),
         ("60 levels", lambda kind, nodes: walked(kind, tup(OWN, deep(nodes - 6, levels=60))), NODES),
         ("projections", lambda kind, nodes: walked(kind, projections(nodes - 1)), NODES),
-        ("a shared value, to 8,192 visits", inserted, VISITS))
+        ("a shared value, to 8,192 visits", inserted, VISITS),
+        ("own members of own members", own_members, VISITS))
 ] + [
-    Shape(19, "projections, members", "visits + projections x members", looked_up, NODES),
+    Shape(19, "projections, members", "projections x members", looked_up, NODES, without(looked_up)),
+    Shape(19, "a wide owner", "visits", wide_owner, NODES),
     Shape(19, "the interface put in", "visits + projections x members", put_in, NODES),
-    Shape(20, "projections, rules", "visits + rule tokens compared", same_but_member, NODES),
-    Shape(20, "projections, long rules", "visits + rule tokens compared", long_rules, NODES),
+    Shape(20, "projections, rules", "rule tokens compared", same_but_member, NODES, without(same_but_member)),
+    Shape(20, "projections, long rules", "rule tokens compared", long_rules, NODES, without(long_rules)),
+    Shape(20, "projections, deep rules", "rule tokens compared", deep_rules, NODES, without(deep_rules)),
     Shape(20, "values with two projections", "visits + rule tokens compared", doubled, VISITS),
-    Shape(20, "shared projections, rules", "visits + rule tokens compared", expanded, NODES),
+    Shape(20, "shared projections, rules", "rule tokens compared", expanded, NODES, without(expanded)),
 ]
 SHAPES = sorted(COMPARED + RECOVERED + SUBSTITUTED + ASKED + NORMALISED, key=lambda shape: shape.kind)
 SMALLEST = {9: U + U, 10: U + U, 11: U + U, 12: NONE + U, 13: NONE + params() + U, 14: "00" + U + U, 15: U, 16: params() + U,
@@ -438,13 +476,23 @@ def cost(order):
     return both - instructions([order]), both - instructions([order, order + b"\0"])
 
 
-def measured(shape, size, smallest):
-    order = order_of(shape.kind, shape.make(size))
+def counted(shape, make, size):
+    """An order, what the reference counts of it, and its measure."""
+    order = order_of(shape.kind, make(size))
     counts = Counting(order)
     answer = b"\0" + counts.order()
     assert answer == answer_of(order)
+    return order, counts, MEASURES[shape.measure](counts, answer)
+
+
+def measured(shape, size, smallest):
+    order, counts, steps = counted(shape, shape.make, size)
     whole, operation = (spent - least for spent, least in zip(cost(order), smallest))
-    return Row(size, counts.nodes_read, len(order), counts.tokens, whole, operation, MEASURES[shape.measure](counts, answer))
+    if shape.base:
+        base, _, fewer = counted(shape, shape.base, size)
+        operation -= cost(base)[1] - smallest[1]
+        steps -= fewer
+    return Row(size, counts.nodes_read, len(order), counts.tokens, whole, operation, steps)
 
 
 # Printing
@@ -463,13 +511,21 @@ def shown(number):
 
 def cells(row, shape):
     return [shape.name, shown(row.nodes), shown(row.bytes), shown(row.tokens), shown(row.whole), "%.0f" % (row.whole / row.tokens),
-            shown(row.operation), shown(row.steps), "%.1f" % (row.operation / row.steps)]
+            "%.0f" % reading(row), shown(row.operation), shown(row.steps), "%.1f" % quotient(row)]
 
 
-def growth(rows):
-    """The quotient at the largest size against that at the second smallest."""
-    first, last = rows[1], rows[-1]
-    return (last.operation / last.steps) / (first.operation / first.steps)
+def quotient(row):
+    return row.operation / row.steps
+
+
+def reading(row):
+    """Reading and clearing, for each token."""
+    return (row.whole - row.operation) / row.tokens
+
+
+def growth(rows, value=quotient):
+    """The value at the largest size against that at the second smallest."""
+    return value(rows[-1]) / value(rows[1])
 
 
 def order_tables(kind):
@@ -481,7 +537,8 @@ def order_tables(kind):
     for shape in SHAPES:
         if shape.kind == kind:
             rows = [measured(shape, size, smallest) for size in shape.sizes]
-            table(["shape", "nodes", "bytes", "tokens", "whole", "per token", "operation", shape.measure, "quotient"],
+            table(["shape", "nodes", "bytes", "tokens", "whole", "per token", "read, per token", "operation", shape.measure,
+                   "quotient"],
                   [cells(row, shape) for row in rows])
             lines.append((shape, rows))
     return lines
@@ -492,19 +549,82 @@ def summary(lines):
     print("## Instructions of the operation, divided by what it should be linear in\n")
     table(["order", "shape", "linear in", "largest"] + ["size %d" % (n + 1) for n in range(len(NODES))] + ["growth"],
           [[str(shape.kind), shape.name, shape.measure, shown(rows[-1].steps)]
-           + ["%.1f" % (row.operation / row.steps) for row in rows] + ["%.2f" % growth(rows)] for shape, rows in lines])
-    too_much = [shape for shape, rows in lines if growth(rows) > MOST_GROWTH]
+           + ["%.1f" % quotient(row) for row in rows] + ["%.2f" % growth(rows)] for shape, rows in lines])
+    too_much = [shape for shape, rows in lines if max(growth(rows), growth(rows, reading)) > MOST_GROWTH]
     for shape in too_much:
         print("Order %d, %s: the quotient grows by more than %.1f." % (shape.kind, shape.name, MOST_GROWTH))
     return not too_much
 
 
+# Orders at the limits
+
+def all_keys(count):
+    """Parameters of two bytes each, none of which is gen(127, 127)."""
+    return params(*((n % 127, n % 128) for n in range(count)))
+
+
+def most_rules():
+    """About 4,000 projections, each compared with every rule; a shared value twice, so that few nodes are needed."""
+    other = proj(struct(4), nom(1), 0)
+    given = [to(2, tup(*[p(3)] * 13)), to(3, tup(*[other] * 13))]
+    given += [rule(nom(1), struct(4), 1000 + n, [], I32) for n in range(970)]
+    return seq(*given) + proj(tup(*[p(2)] * 21), nom(9, [], [(0, I32)]), 0)
+
+
+def most_members():
+    """About 4,000 projections of the last member, whose value is that projection: it stays."""
+    last = proj(I32, nom(1), 1800)
+    values = [(0, tup(*[proj(I32, nom(1), 1)] * 13)), (1, tup(*[last] * 13))] + members(1798, 2) + [(1800, last)]
+    return proj(tup(*[p(1)] * 21), nom(9, [], [(0, I32)]), 0) + nom(1, [], values) + I32
+
+
+LIMITS = [
+    (12, "1,022 Generics, 1,022 entries", searched(12, 2047)),
+    (13, "2,047 Generics, 13,300 parameters", NONE + all_keys(13300) + tup(*[gen(127, 127)] * 2047)),
+    (16, "2,047 Generics, 13,300 parameters", all_keys(13300) + tup(*[gen(0, 0)] * 2047)),
+    (17, "682 members required, the last of 1,365 given", nom(1, [], members(1365)) + nom(1, [], members(682, 683)) + U),
+    (18, "1,023 Generics, the last of 1,023 parameters", pairs(1023) + tup(*[gen(1, FIRST + 1022)] * 1023) + NONE + seq(*[I32] * 1023)),
+    (19, "about 4,000 projections, 1,801 members", most_members()),
+    (20, "about 4,000 projections, 972 rules", most_rules()),
+]
+
+
+def seconds(orders):
+    """The shortest time of five runs."""
+    data = b"".join(map(framed, orders))
+    best = float("inf")
+    for _ in range(5):
+        start = time.perf_counter()
+        subprocess.run([PROGRAM], input=data, stdout=subprocess.DEVNULL, check=True)
+        best = min(best, time.perf_counter() - start)
+    return best
+
+
+def limits():
+    """Each order alone, less an empty input."""
+    print("## Orders at the limits\n")
+    none, start, rows = instructions([]), seconds([]), []
+    for kind, name, fields in LIMITS:
+        order = order_of(kind, fields)
+        counts = Counting(order)
+        counts.order()
+        rows.append([str(kind), name, shown(counts.nodes_read), shown(len(order)), shown(counts.visits),
+                     shown(instructions([order]) - none), "%.0f" % (1000 * (seconds([order]) - start))])
+    table(["order", "shape", "nodes", "bytes", "visits", "instructions", "milliseconds"], rows)
+
+
 def main(words):
     if not os.path.exists(PROGRAM):
         sys.exit("there is no target/bin/orders")
+    if words == ["limits"]:
+        limits()
+        return 0
     kinds = [int(word) for word in words] or sorted(SMALLEST)
     lines = [line for kind in kinds for line in order_tables(kind)]
-    return 0 if summary(lines) else 1
+    passed = summary(lines)
+    if not words:
+        limits()
+    return 0 if passed else 1
 
 
 if __name__ == "__main__":
