@@ -566,7 +566,7 @@ def all_keys(count):
 
 
 def most_rules():
-    """About 4,000 projections, each compared with every rule; a shared value twice, so that few nodes are needed."""
+    """3,549 projections, each compared with every rule; a shared value twice, so that few nodes are needed."""
     other = proj(struct(4), nom(1), 0)
     given = [to(2, tup(*[p(3)] * 13)), to(3, tup(*[other] * 13))]
     given += [rule(nom(1), struct(4), 1000 + n, [], I32) for n in range(970)]
@@ -574,7 +574,7 @@ def most_rules():
 
 
 def most_members():
-    """About 4,000 projections of the last member, whose value is that projection: it stays."""
+    """3,549 projections of the last member, whose value is that projection: it stays."""
     last = proj(I32, nom(1), 1800)
     values = [(0, tup(*[proj(I32, nom(1), 1)] * 13)), (1, tup(*[last] * 13))] + members(1798, 2) + [(1800, last)]
     return proj(tup(*[p(1)] * 21), nom(9, [], [(0, I32)]), 0) + nom(1, [], values) + I32
@@ -587,8 +587,8 @@ LIMITS = [
     (17, "682 members required, the last of 1,365 given", nom(1, [], members(1365)) + nom(1, [], members(682, 683)) + U),
     (18, "1,023 Generics, the last of 1,023 parameters",
      pairs(1023) + tup(*[gen(1, FIRST + 1022)] * 1023) + NONE + seq(*[I32] * 1023)),
-    (19, "about 4,000 projections, 1,801 members", most_members()),
-    (20, "about 4,000 projections, 972 rules", most_rules()),
+    (19, "3,843 projections, 1,801 members", most_members()),
+    (20, "3,549 projections, 972 rules", most_rules()),
 ]
 
 
