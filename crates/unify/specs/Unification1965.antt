@@ -6,9 +6,9 @@ use mathlib.Core.Bool.{Bool, true, false}
 use mathlib.Core.Option.{Option, none, some}
 use mathlib.Core.List.{List, [], _∷_, _++_}
 use Prim.Native.Nat.{ℕ, zero, suc, _+_, _≤_, _<_, max}
-use native.Mathlib.Decide.{ℕ-discrete, decLe}
+use native.Mathlib.Decide.{ℕ-discrete, decLe, le-ind}
 use native.Mathlib.Omega.{arith}
-use Rattle.unify.specs.Term.{Sort, one, many, Tree, var, node, nil, _▸_, Term, Forest, width, width-sub, sub, sub-sub, sub-ext, In, in?, in-sub, same?, clash, occurs-clash, sim-of-eq}
+use Rattle.unify.specs.Term.{Sort, one, many, Tree, var, node, nil, _▸_, Term, Forest, width, width-sub, sub, sub-sub, sub-ext, sub-fix, In, in?, in-sub, same?, clash, occurs-clash, sim-of-eq}
 use Rattle.unify.specs.Robinson1965.{Subst, Outcome, going, unifier, without, Has, has?, Substitution, value, inst, Unifier, ordered, above, occurring, variables, or-else}
 use Rattle.unify.specs.Robinson1965.{images, others, compose, disagreement, replace, step3, step2, again, rounds, unification, MostGeneralUnifier}
 
@@ -172,3 +172,267 @@ module _ {H : Type 0} where
 
     inst-compose : (θ l : Subst H) → Substitution θ → {s : Sort} (t : Tree H s) → inst t (compose head? θ l) ≡ inst (inst t θ) l
     inst-compose θ l p t = sub-ext t (λ v i. value-compose θ l p v) ∙ sym (sub-sub (value l) (value θ) t)
+
+    -- the disagreement set
+    abbrev Apart : Term H → Term H → Type 0
+    Apart (var v) (var w) = v ≢ w
+    Apart (var v) (node k us) = Unit {0}
+    Apart (node h ts) (var w) = Unit {0}
+    Apart (node h ts) (node k us) = ¬ ((h ≡ k) × (width ts ≡ width us))
+
+    record Disagrees {s : Sort} (t u : Tree H s) (d : Term H × Term H) : Type 0 where
+      equal : (θ : ℕ → Term H) → sub θ t ≡ sub θ u → sub θ (d .0) ≡ sub θ (d .1)
+      left : (v : ℕ) → In v (d .0) → In v t
+      right : (v : ℕ) → In v (d .1) → In v u
+      apart : Apart (d .0) (d .1)
+
+    here : (t u : Term H) → Apart t u → (d : Term H × Term H) → _≡_ {A = Option (Term H × Term H)} (some (t, u)) (some d) → Disagrees t u d
+    here t u a d e =
+        let p : (t, u) ≡ d = cc in
+        subst (λ (x : Term H × Term H). Disagrees t u x) p (record { equal = λ θ q. q; left = λ v i. i; right = λ v i. i; apart = a })
+
+    or-cases : (a b : Option (Term H × Term H)) (d : Term H × Term H) → or-else a b ≡ some d → (a ≡ some d) ⊎ (b ≡ some d)
+    unfolding or-else
+    or-cases none b d e = inr e
+    or-cases (some a) b d e = inl e
+
+    disagrees : {s : Sort} (t u : Tree H s) (d : Term H × Term H) → disagreement head? t u ≡ some d → Disagrees t u d
+    unfolding disagreement sub
+    disagrees (var v) (var w) d e = go (ℕ-discrete v w) e
+      where
+        go : (c : Dec (v ≡ w)) → ite c none (some (var v, var w)) ≡ some d → Disagrees (var v) (var w) d
+        go (yes p) e = clash (cc)
+        go (no p) e = here (var v) (var w) p d e
+    disagrees (var v) (node k us) d e = here (var v) (node k us) tt d e
+    disagrees (node h ts) (var w) d e = here (node h ts) (var w) tt d e
+    disagrees (node h ts) (node k us) d e = go (disagrees ts us d) (head? h k) (ℕ-discrete (width ts) (width us)) e
+      where
+        go : (disagreement head? ts us ≡ some d → Disagrees ts us d) → (a : Dec (h ≡ k)) (b : Dec (width ts ≡ width us))
+            → ite a (ite b (disagreement head? ts us) (some (node h ts, node k us))) (some (node h ts, node k us)) ≡ some d → Disagrees (node h ts) (node k us) d
+        go more (yes p) (yes q) e = let r = more e in record { equal = λ θ x. r .equal θ (cc); left = r .left; right = r .right; apart = r .apart }
+        go more (yes p) (no q) e = here (node h ts) (node k us) (λ x. q (x .1)) d e
+        go more (no p) b e = here (node h ts) (node k us) (λ x. p (x .0)) d e
+    disagrees nil nil d e = clash (cc)
+    disagrees nil (u ▸ us) d e = clash (cc)
+    disagrees (t ▸ ts) nil d e = clash (cc)
+    disagrees (t ▸ ts) (u ▸ us) d e = go (disagrees t u d) (disagrees ts us d) (or-cases (disagreement head? t u) (disagreement head? ts us) d e)
+      where
+        go : (disagreement head? t u ≡ some d → Disagrees t u d) → (disagreement head? ts us ≡ some d → Disagrees ts us d)
+            → (disagreement head? t u ≡ some d) ⊎ (disagreement head? ts us ≡ some d) → Disagrees (t ▸ ts) (u ▸ us) d
+        go f g (inl e) = let r = f e in record { equal = λ θ x. r .equal θ (cc); left = λ v i. inl (r .left v i); right = λ v i. inl (r .right v i); apart = r .apart }
+        go f g (inr e) = let r = g e in record { equal = λ θ x. r .equal θ (cc); left = λ v i. inr (r .left v i); right = λ v i. inr (r .right v i); apart = r .apart }
+
+    -- equally long, where they are lists
+    abbrev Level : {s : Sort} → Tree H s → Tree H s → Type 0
+    Level (var v) u = Unit {0}
+    Level (node h ts) u = Unit {0}
+    Level nil us = 0 ≡ width us
+    Level (t ▸ ts) us = suc (width ts) ≡ width us
+
+    level : (ts us : Forest H) → width ts ≡ width us → Level ts us
+    unfolding width
+    level nil us e = e
+    level (t ▸ ts) us e = e
+
+    level-terms : (t u : Term H) → Level t u
+    level-terms (var v) u = tt
+    level-terms (node h ts) u = tt
+
+    or-none : (a b : Option (Term H × Term H)) → or-else a b ≡ none → (a ≡ none) × (b ≡ none)
+    unfolding or-else
+    or-none none b e = (refl, e)
+    or-none (some a) b e = clash (cc)
+
+    agrees : {s : Sort} (t u : Tree H s) → Level t u → disagreement head? t u ≡ none → t ≡ u
+    unfolding disagreement width
+    agrees (var v) (var w) l e = go (ℕ-discrete v w) e
+      where
+        go : (c : Dec (v ≡ w)) → ite {C = Option (Term H × Term H)} c none (some (var v, var w)) ≡ none → _≡_ {A = Term H} (var v) (var w)
+        go (yes p) e = ap var p
+        go (no p) e = clash (cc)
+    agrees (var v) (node k us) l e = clash (cc)
+    agrees (node h ts) (var w) l e = clash (cc)
+    agrees (node h ts) (node k us) l e = go (agrees ts us) (head? h k) (ℕ-discrete (width ts) (width us)) e
+      where
+        go : (Level ts us → disagreement head? ts us ≡ none → ts ≡ us) → (a : Dec (h ≡ k)) (b : Dec (width ts ≡ width us))
+            → ite {C = Option (Term H × Term H)} a (ite b (disagreement head? ts us) (some (node h ts, node k us))) (some (node h ts, node k us)) ≡ none → node h ts ≡ node k us
+        go more (yes p) (yes q) e = ap₂ node p (more (level ts us q) e)
+        go more (yes p) (no q) e = clash (cc)
+        go more (no p) b e = clash (cc)
+    agrees nil nil l e = refl
+    agrees nil (u ▸ us) l e = absurd (omega arith)
+    agrees (t ▸ ts) nil l e = absurd (omega arith)
+    agrees (t ▸ ts) (u ▸ us) l e = go (agrees t u) (agrees ts us (level ts us (omega arith))) (or-none (disagreement head? t u) (disagreement head? ts us) e)
+      where
+        go : (Level t u → disagreement head? t u ≡ none → t ≡ u) → (disagreement head? ts us ≡ none → ts ≡ us)
+            → (disagreement head? t u ≡ none) × (disagreement head? ts us ≡ none) → t ▸ ts ≡ u ▸ us
+        go f g e = ap₂ _▸_ (f (level-terms t u) (e .0)) (g (e .1))
+
+    -- two terms with different symbols have no unifier, and neither have a variable and another term that holds it
+    apart-clash : (θ : ℕ → Term H) (h k : H) (ts us : Forest H) → ¬ ((h ≡ k) × (width ts ≡ width us)) → ¬ (sub θ (node h ts) ≡ sub θ (node k us))
+    unfolding sub
+    apart-clash θ h k ts us a e =
+        let p : h ≡ k = cc in
+        let q : sub θ ts ≡ sub θ us = cc in
+        a (p, sym (width-sub θ ts) ∙ ap width q ∙ width-sub θ us)
+
+    occurs : (θ : ℕ → Term H) (v : ℕ) (t : Term H) → Apart (var v) t → In v t → ¬ (θ v ≡ sub θ t)
+    occurs θ v (var w) a i e = a i
+    occurs θ v (node h ts) a i e = occurs-clash {n = λ h. h} θ v h ts i (sim-of-eq e)
+
+    module _ (t u : Term H) where
+      abbrev both : Forest H
+      both = t ▸ u ▸ nil
+
+      -- every unifier θ of {t, u} is σθ
+      abbrev General : Subst H → Type 0
+      General σ = (θ : ℕ → Term H) → Unifier θ t u → (v : ℕ) → θ v ≡ sub θ (value σ v)
+
+      -- what holds of σk
+      record Kept (k : ℕ) (σ : Subst H) : Type 0 where
+        proper : Substitution σ
+        steps : k + occurring (above both) (inst both σ) ≤ variables t u
+        within : (v : ℕ) → In v (inst both σ) → In v both
+        general : General σ
+
+      abbrev Right : ℕ → Outcome H → Type 0
+      Right k (going σ) = Kept k σ
+      Right k (unifier σ) = Substitution σ × Unifier (value σ) t u × General σ
+      Right k without = (θ : ℕ → Term H) → ¬ Unifier θ t u
+
+      general-inst : (σ : Subst H) → General σ → (θ : ℕ → Term H) → Unifier θ t u → sub θ (inst t σ) ≡ sub θ (inst u σ)
+      general-inst σ g θ e =
+          let p : (x : Term H) → sub θ x ≡ sub θ (inst x σ) = λ x. sub-ext x (λ v i. g θ e v) ∙ sym (sub-sub θ (value σ) x) in
+          sym (p t) ∙ e ∙ p u
+
+      module _ (k : ℕ) (σ : Subst H) (x : Kept k σ) where
+        -- σk{U/V}
+        bind-right : (v : ℕ) (r : Term H) → ((θ : ℕ → Term H) → Unifier θ t u → θ v ≡ sub θ r) → In v (inst both σ) → ((w : ℕ) → In w r → In w (inst both σ)) → ¬ In v r
+            → Kept (suc k) (compose head? σ ((v, r) ∷ []))
+        unfolding sub
+        bind-right v r e i j o = record {
+          proper = proper-compose σ c (x .proper) ((λ p. o (rw p refl)), (λ h. h), tt);
+          steps = let a = occurring-lt (above both) (inst both (compose head? σ c)) (inst both σ) fewer v (above-in v both (x .within v i)) i gone in let b = x .steps in omega arith;
+          within = λ w m. x .within w (fewer w m);
+          general = λ θ q w.
+              x .general θ q w ∙ sub-ext (value σ w) (λ y m. through θ q y (value-case y))
+              ∙ sym (sub-sub θ (value c) (value σ w)) ∙ ap (sub θ) (sym (value-compose σ c (x .proper) w));
+        }
+          where
+            c : Subst H
+            c = (v, r) ∷ []
+
+            from : (w : ℕ) → In w (inst both (compose head? σ c)) → (y : ℕ) × In y (inst both σ) × In w (value c y)
+            from w m = in-sub w (value c) (inst both σ) (subst (λ (f : Forest H). In w f) (inst-compose σ c (x .proper) both) m)
+
+            value-case : (y : ℕ) → ((y ≡ v) × (value c y ≡ r)) ⊎ ((y ≢ v) × (value c y ≡ var y))
+            value-case y = go (ℕ-discrete y v)
+              where
+                go : Dec (y ≡ v) → ((y ≡ v) × (value c y ≡ r)) ⊎ ((y ≢ v) × (value c y ≡ var y))
+                go (yes p) = inl (p, ap (value c) p ∙ value-here (v, r) [])
+                go (no p) = inr (p, value-none c y (λ h. elim h [ inl q ↦ p q | inr q ↦ q ]))
+
+            fewer : (w : ℕ) → In w (inst both (compose head? σ c)) → In w (inst both σ)
+            fewer w m = let y = from w m in go (y .0) (y .1) (y .2) (value-case (y .0))
+              where
+                go : (y : ℕ) → In y (inst both σ) → In w (value c y) → ((y ≡ v) × (value c y ≡ r)) ⊎ ((y ≢ v) × (value c y ≡ var y)) → In w (inst both σ)
+                go y a b (inl p) = j w (rw (p .1) at b)
+                go y a b (inr p) = let q : w ≡ y = rw (p .1) at b in rw q a
+
+            gone : ¬ In v (inst both (compose head? σ c))
+            gone m = let y = from v m in go (y .0) (y .2) (value-case (y .0))
+              where
+                go : (y : ℕ) → In v (value c y) → ((y ≡ v) × (value c y ≡ r)) ⊎ ((y ≢ v) × (value c y ≡ var y)) → ⊥
+                go y b (inl p) = o (rw (p .1) at b)
+                go y b (inr p) = let q : v ≡ y = rw (p .1) at b in p .0 (sym q)
+
+            through : (θ : ℕ → Term H) → Unifier θ t u → (y : ℕ) → ((y ≡ v) × (value c y ≡ r)) ⊎ ((y ≢ v) × (value c y ≡ var y)) → θ y ≡ sub θ (value c y)
+            through θ q y (inl p) = ap θ (p .0) ∙ e θ q ∙ ap (sub θ) (sym (p .1))
+            through θ q y (inr p) = ap (sub θ) (sym (p .1))
+
+        -- step 3, where the earliest is a variable
+        replace-right : (v : ℕ) (r : Term H) → ((θ : ℕ → Term H) → Unifier θ t u → θ v ≡ sub θ r) → In v (inst both σ) → ((w : ℕ) → In w r → In w (inst both σ)) → Apart (var v) r
+            → Right (suc k) (replace head? σ (var v, r))
+        unfolding replace
+        replace-right v r e i j a = go (in? v r)
+          where
+            go : (d : Dec (In v r)) → Right (suc k) (ite d without (going (compose head? σ ((v, r) ∷ []))))
+            go (yes o) = λ θ q. occurs θ v r a o (e θ q)
+            go (no o) = bind-right v r e i j o
+
+        step3-right : (d e : Term H) → Disagrees (inst t σ) (inst u σ) (d, e) → Right (suc k) (replace head? σ (ordered d e))
+        unfolding ordered replace sub
+        step3-right (var v) (var w) y = go (decLe v w)
+          where
+            go : (c : Dec (v ≤ w)) → Right (suc k) (replace head? σ (ite {C = Term H × Term H} c (var v, var w) (var w, var v)))
+            go (yes l) = replace-right v (var w) (λ θ q. y .equal θ (general-inst σ (x .general) θ q)) (inl (y .left v refl)) (λ z i. inr (inl (y .right z i))) (y .apart)
+            go (no l) = replace-right w (var v) (λ θ q. sym (y .equal θ (general-inst σ (x .general) θ q))) (inr (inl (y .right w refl))) (λ z i. inl (y .left z i)) (λ p. y .apart (sym p))
+        step3-right (var v) (node h ts) y =
+            replace-right v (node h ts) (λ θ q. y .equal θ (general-inst σ (x .general) θ q)) (inl (y .left v refl)) (λ z i. inr (inl (y .right z i))) tt
+        step3-right (node h ts) (var w) y =
+            replace-right w (node h ts) (λ θ q. sym (y .equal θ (general-inst σ (x .general) θ q))) (inr (inl (y .right w refl))) (λ z i. inl (y .left z i)) tt
+        step3-right (node h ts) (node k′ us) y = λ θ q. apart-clash θ h k′ ts us (y .apart) (y .equal θ (general-inst σ (x .general) θ q))
+
+        step2-right : Right (suc k) (step2 head? t u σ)
+        unfolding step2 step3
+        step2-right = go (same? head? (inst t σ) (inst u σ))
+          where
+            set : (o : Option (Term H × Term H)) → disagreement head? (inst t σ) (inst u σ) ≡ o → ¬ (inst t σ ≡ inst u σ) → Right (suc k) (step3 head? σ o)
+            set none e n = absurd (n (agrees (inst t σ) (inst u σ) (level-terms (inst t σ) (inst u σ)) e))
+            set (some d) e n = step3-right (d .0) (d .1) (disagrees (inst t σ) (inst u σ) d e)
+
+            go : (c : Dec (inst t σ ≡ inst u σ)) → Right (suc k) (ite c (unifier σ) (step3 head? σ (disagreement head? (inst t σ) (inst u σ))))
+            go (yes e) = (x .proper, e, x .general)
+            go (no n) = set (disagreement head? (inst t σ) (inst u σ)) refl n
+
+      again-right : (k : ℕ) (o : Outcome H) → Right k o → Right (suc k) (again head? t u o)
+      unfolding again
+      again-right k (going σ) x = step2-right k σ x
+      again-right k (unifier σ) x = x
+      again-right k without x = x
+
+      fixed : inst both [] ≡ both
+      unfolding value
+      fixed = sub-fix (value []) both (λ v i. refl)
+
+      rounds-right : (k : ℕ) → Right k (rounds head? t u k)
+      unfolding rounds value sub
+      rounds-right zero = record { proper = tt; steps = let e = ap (occurring (above both)) fixed in omega arith; within = λ v. subst (λ (f : Forest H). In v f) fixed; general = λ θ q v. refl }
+      rounds-right (suc k) = again-right k (rounds head? t u k) (rounds-right k)
+
+      -- THE ALGORITHM ENDS: after one round more than there are variables it stands at no step 2.
+      pub ends : (σ : Subst H) → ¬ (unification head? t u ≡ going σ)
+      ends σ e =
+          let r : Right (suc (variables t u)) (going σ) = subst (λ (o : Outcome H). Right (suc (variables t u)) o) e (rounds-right (suc (variables t u))) in
+          let l = r .steps in
+          omega arith
+
+      stays : (o : Outcome H) → ((σ : Subst H) → ¬ (o ≡ going σ)) → again head? t u o ≡ o
+      unfolding again
+      stays (going σ) e = absurd (e σ refl)
+      stays (unifier σ) e = refl
+      stays without e = refl
+
+      -- and further rounds change nothing
+      pub ended : (k : ℕ) → variables t u < k → rounds head? t u k ≡ unification head? t u
+      unfolding rounds
+      ended k l = le-ind (λ m. rounds head? t u m ≡ unification head? t u) refl (λ m l h. ap (again head? t u) h ∙ stays (unification head? t u) ends) k l
+
+      -- THE UNIFICATION THEOREM. Ended with σ, the algorithm has found a most general unifier, and every unifier θ, also one that changes
+      -- infinitely many variables, is σθ; ended without, there is no unifier, not even such a one.
+      pub with-unifier : (σ : Subst H) → unification head? t u ≡ unifier σ → MostGeneralUnifier head? σ t u × ((θ : ℕ → Term H) → Unifier θ t u → (v : ℕ) → θ v ≡ sub θ (value σ v))
+      with-unifier σ e =
+          let r : Right (suc (variables t u)) (unifier σ) = subst (λ (o : Outcome H). Right (suc (variables t u)) o) e (rounds-right (suc (variables t u))) in
+          (record { proper = r .0; unifies = r .1; general = λ θ p q. (θ, p, λ v. r .2 (value θ) q v ∙ sym (value-compose σ θ (r .0) v)) }, r .2)
+
+      pub without-unifier : unification head? t u ≡ without → (θ : ℕ → Term H) → ¬ Unifier θ t u
+      without-unifier e = subst (λ (o : Outcome H). Right (suc (variables t u)) o) e (rounds-right (suc (variables t u)))
+
+      -- one of the two it is
+      pub either : ((σ : Subst H) × (unification head? t u ≡ unifier σ)) ⊎ (unification head? t u ≡ without)
+      either = go (unification head? t u) refl
+        where
+          go : (o : Outcome H) → unification head? t u ≡ o → ((σ : Subst H) × (unification head? t u ≡ unifier σ)) ⊎ (unification head? t u ≡ without)
+          go (going σ) e = absurd (ends σ e)
+          go (unifier σ) e = inl (σ, e)
+          go without e = inr e
