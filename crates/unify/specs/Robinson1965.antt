@@ -53,6 +53,15 @@ module _ {H : Type 0} where
   abbrev pub Unifier : (ℕ → Term H) → Term H → Term H → Type 0
   Unifier θ t u = sub θ t ≡ sub θ u
 
+  -- Pairs as two expressions: a node over the left sides and one over the right sides.
+  unfoldable pub lefts : List (Term H × Term H) → Forest H
+  lefts [] = nil
+  lefts (p ∷ ps) = p .0 ▸ lefts ps
+
+  unfoldable pub rights : List (Term H × Term H) → Forest H
+  rights [] = nil
+  rights (p ∷ ps) = p .1 ▸ rights ps
+
   -- The lexical ordering of the two members of a disagreement set, the earliest first. Variables come before other terms, and of two
   -- variables that with the lower number is the earlier one; the theorems hold by either choice. Two terms that are no variables are left
   -- as they stand: step 3 ends there, whichever is the earlier.

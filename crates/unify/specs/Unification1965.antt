@@ -9,7 +9,15 @@ use Prim.Native.Nat.{ℕ, zero, suc, _+_, _≤_, _<_, max}
 use native.Mathlib.Decide.{ℕ-discrete, decLe, le-ind}
 use native.Mathlib.Omega.{arith}
 use Rattle.unify.specs.Term.{Sort, one, many, Tree, var, node, nil, _▸_, Term, Forest, width, width-sub, sub, sub-sub, sub-ext, sub-fix, In, in?, in-sub, same?, clash, occurs-clash, sim-of-eq}
-use Rattle.unify.specs.Robinson1965.{Subst, Outcome, going, unifier, without, Has, has?, Substitution, value, inst, Unifier, ordered, above, occurring, variables, or-else}
+use Rattle.unify.specs.Solver.{Sig, T, Pair, State}
+use Rattle.unify.specs.Orders.{Order, Run, fresh}
+use Rattle.unify.specs.Demand.{Premises, end}
+use Rattle.unify.specs.Table.{Table, answer}
+use Rattle.unify.specs.Refine.{over, table-end, table-means}
+use Rattle.unify.specs.Session.{Command, session-begin, sheet, AllAllowed}
+use Rattle.unify.specs.Whole.{project, sheet-means}
+use Rattle.unify.specs.Robinson.{Unifies, MostGeneral, NoNumbers, Robinson, same-head, robinson-strict, NormalPairs, robinson-loose}
+use Rattle.unify.specs.Robinson1965.{Subst, Outcome, going, unifier, without, Has, has?, Substitution, value, inst, Unifier, ordered, above, occurring, variables, or-else, lefts, rights}
 use Rattle.unify.specs.Robinson1965.{images, others, compose, disagreement, replace, step3, step2, again, rounds, unification, MostGeneralUnifier}
 
 one-le : {A B : Type 0} (a : Dec A) (b : Dec B) → (A → B) → ite a 1 0 ≤ ite b 1 0
@@ -436,3 +444,95 @@ module _ {H : Type 0} where
           go (going σ) e = absurd (ends σ e)
           go (unifier σ) e = inl (σ, e)
           go without e = inr e
+
+-- The solver and the algorithm, on plain pairs.
+module _ (S : Sig) where
+  module _ (h : S .Head) (ps : List (Pair S)) where
+    -- the algorithm on the pairs, as two expressions under one head
+    abbrev pub decides : Outcome (S .Head)
+    decides = unification (S .head?) (node h (lefts ps)) (node h (rights ps))
+
+    -- THE SOLVER ANSWERS AS THE ALGORITHM DOES: `wrong` is that some pair was answered incompatible, `res` what the variables resolve to.
+    pub record Answers (wrong : Bool) (res : ℕ → T S) : Type 0 where
+      -- some pair was answered incompatible exactly if the algorithm ends without a unifier
+      pub incompatible : (wrong ≡ true) ↔ (decides ≡ without)
+      -- if none was, the algorithm ends with some σ, and σ and `res` are instances of each other: res = σλ and σ = res μ
+      pub compatible : wrong ≡ false → (σ : Subst (S .Head)) × (decides ≡ unifier σ)
+          × ((l : ℕ → T S) × ((v : ℕ) → res v ≡ sub l (value σ v))) × ((m : ℕ → T S) × ((v : ℕ) → value σ v ≡ sub m (res v)))
+
+  unifies-lists : (θ : ℕ → T S) (ps : List (Pair S)) → Unifies S θ ps → sub θ (lefts ps) ≡ sub θ (rights ps)
+  unfolding lefts rights sub
+  unifies-lists θ [] e = refl
+  unifies-lists θ (p ∷ ps) e = ap₂ _▸_ (e .0) (unifies-lists θ ps (e .1))
+
+  lists-unifies : (θ : ℕ → T S) (ps : List (Pair S)) → sub θ (lefts ps) ≡ sub θ (rights ps) → Unifies S θ ps
+  unfolding lefts rights sub
+  lists-unifies θ [] e = tt
+  lists-unifies θ (p ∷ ps) e = (cc, lists-unifies θ ps (cc))
+
+  module _ (h : S .Head) (ps : List (Pair S)) where
+    to-node : (θ : ℕ → T S) → Unifies S θ ps → Unifier θ (node h (lefts ps)) (node h (rights ps))
+    unfolding sub
+    to-node θ e = ap (node h) (unifies-lists θ ps e)
+
+    from-node : (θ : ℕ → T S) → Unifier θ (node h (lefts ps)) (node h (rights ps)) → Unifies S θ ps
+    unfolding sub
+    from-node θ e = lists-unifies θ ps (cc)
+
+    answers : (wrong : Bool) (res : ℕ → T S) → Robinson S wrong res ps → Answers h ps wrong res
+    answers wrong res r = record {
+      incompatible = (λ w. fails w found, λ e. wrongs e wrong refl);
+      compatible = λ w. succeeds w found;
+    }
+      where
+        found : ((σ : Subst (S .Head)) × (decides h ps ≡ unifier σ)) ⊎ (decides h ps ≡ without)
+        found = either (S .head?) (node h (lefts ps)) (node h (rights ps))
+
+        fails : wrong ≡ true → ((σ : Subst (S .Head)) × (decides h ps ≡ unifier σ)) ⊎ (decides h ps ≡ without) → decides h ps ≡ without
+        fails w (inl f) = absurd (r .none-left w (value (f .0)) (from-node (value (f .0)) (with-unifier (S .head?) (node h (lefts ps)) (node h (rights ps)) (f .0) (f .1) .0 .unifies)))
+        fails w (inr e) = e
+
+        wrongs : decides h ps ≡ without → (b : Bool) → wrong ≡ b → wrong ≡ true
+        wrongs e true w = w
+        wrongs e false w = absurd (without-unifier (S .head?) (node h (lefts ps)) (node h (rights ps)) e res (to-node res (r .most-general w .unifies)))
+
+        succeeds : wrong ≡ false → ((σ : Subst (S .Head)) × (decides h ps ≡ unifier σ)) ⊎ (decides h ps ≡ without)
+            → (σ : Subst (S .Head)) × (decides h ps ≡ unifier σ)
+            × ((l : ℕ → T S) × ((v : ℕ) → res v ≡ sub l (value σ v))) × ((m : ℕ → T S) × ((v : ℕ) → value σ v ≡ sub m (res v)))
+        succeeds w (inr e) = absurd (without-unifier (S .head?) (node h (lefts ps)) (node h (rights ps)) e res (to-node res (r .most-general w .unifies)))
+        succeeds w (inl f) =
+            let g = with-unifier (S .head?) (node h (lefts ps)) (node h (rights ps)) (f .0) (f .1) in
+            (f .0, f .1, (res, g .1 res (to-node res (r .most-general w .unifies))), r .most-general w .general (value (f .0)) (from-node (value (f .0)) (g .0 .unifies)))
+
+  -- over substitutions, by the strict notion of equal shape
+  pub algorithm-strict : (os : List (Order S)) → Premises S (λ h. h) (same-head S) (end S (λ h. h) (same-head S) os) → NoNumbers S (end S (λ h. h) (same-head S) os)
+      → (h : S .Head) → Answers h (end S (λ h. h) (same-head S) os .posed) (end S (λ h. h) (same-head S) os .wrong) (end S (λ h. h) (same-head S) os .state .res)
+  algorithm-strict os p e h =
+      let x = end S (λ h. h) (same-head S) os in
+      answers h (x .posed) (x .wrong) (x .state .res) (robinson-strict S os p e)
+
+  module _ (n : S .Head → S .Head) (respects : (f : S .Fam) (h k : S .Head) → n h ≡ n k → S .admits f h ≡ S .admits f k) where
+    -- over substitutions, by the notion of equal shape that ignores access, on pairs with no access marks
+    pub algorithm-loose : (os : List (Order S)) → NormalPairs S n (end S n respects os .posed) → Premises S n respects (end S n respects os) → NoNumbers S (end S n respects os)
+        → (h : S .Head) → Answers h (end S n respects os .posed) (end S n respects os .wrong) (end S n respects os .state .res)
+    algorithm-loose os q p e h =
+        let x = end S n respects os in
+        answers h (x .posed) (x .wrong) (x .state .res) (robinson-loose S n respects os q p e)
+
+    -- what the three premises and the conclusion say of a run, over whatever session
+    abbrev Agrees : {X : Type 0} → Run S X → (ℕ → T S) → Type 0
+    Agrees x res = NormalPairs S n (x .posed) → Premises S n respects x → NoNumbers S x → (h : S .Head) → Answers h (x .posed) (x .wrong) res
+
+    -- over a table
+    pub algorithm-table : (os : List (Order S)) → Agrees (table-end S n respects os) (λ v. answer S (table-end S n respects os .state) (var v))
+    algorithm-table os =
+        let a = table-means S n respects os in
+        let b : Agrees (over S n respects (table-end S n respects os) (a .0)) (a .0 .res) = subst (λ (x : Run S (State S)). Agrees x (x .state .res)) (a .1) (algorithm-loose os) in
+        subst (λ (ρ : ℕ → T S). Agrees (table-end S n respects os) ρ) (a .2) b
+
+    -- over a session of orders 0 to 8
+    pub algorithm-sheet : (default : S .Fam → S .Head) (never : S .Head) (cs : List (Command S)) → AllAllowed S default never n (fresh S (session-begin S default never)) cs
+        → Agrees (sheet S default never n cs) (λ v. answer S (sheet S default never n cs .state .table) (var v))
+    algorithm-sheet default never cs a =
+        let e = sheet-means S default never n respects cs a in
+        subst (λ (y : Run S (Table S)). Agrees y (λ v. answer S (y .state) (var v))) (sym (e .1)) (algorithm-table (e .0))
