@@ -1,7 +1,7 @@
 -- J. A. Robinson, "A Machine-Oriented Logic Based on the Resolution Principle", Journal of the ACM 12 (1965): the Unification Algorithm,
 -- as the paper has it, for a set of two expressions. Definitions only: `Unification1965` has the theorems.
 -- An expression of the paper is a string of symbols, and a function symbol has a fixed number of arguments. Here an expression is a term, and
--- the symbol at a node is its head together with the number of its children. Reading the string is walking the term from left to right.
+-- the symbol at a node is its head together with the number of its children; `spelled` is the string.
 use mathlib.Core.Path.{_≡_}
 use mathlib.Core.Logic.{_⊎_, inl, inr, _≢_, ite}
 use mathlib.Core.HLevel.{Discrete}
@@ -15,6 +15,10 @@ use Rattle.unify.specs.Term.{Sort, one, many, Tree, var, node, nil, _▸
 abbrev pub Subst : Type 0 → Type 0
 Subst H = List (ℕ × Term H)
 
+pub data Symbol (H : Type 0) : Type 0 where
+  variable : ℕ → Symbol H
+  function : H → ℕ → Symbol H
+
 -- Where the algorithm stands: at step 2 with σk; ended in step 2 with σ; ended in step 3, without a unifier.
 pub data Outcome (H : Type 0) : Type 0 where
   going : Subst H → Outcome H
@@ -22,6 +26,17 @@ pub data Outcome (H : Type 0) : Type 0 where
   without : Outcome H
 
 module _ {H : Type 0} where
+  -- the symbol with which a term begins, and all its symbols from left to right
+  unfoldable pub symbol : Term H → Symbol H
+  symbol (var v) = variable v
+  symbol (node h ts) = function h (width ts)
+
+  unfoldable pub spelled : {s : Sort} → Tree H s → List (Symbol H)
+  spelled (var v) = variable v ∷ []
+  spelled (node h ts) = function h (width ts) ∷ spelled ts
+  spelled nil = []
+  spelled (t ▸ ts) = spelled t ++ spelled ts
+
   -- V is the variable of some component
   abbrev pub Has : ℕ → Subst H → Type 0
   Has v [] = ⊥
@@ -63,7 +78,7 @@ module _ {H : Type 0} where
   rights (p ∷ ps) = p .1 ▸ rights ps
 
   -- The lexical ordering of the two members of a disagreement set, the earliest first. Variables come before other terms, and of two
-  -- variables that with the lower number is the earlier one; the theorems hold by either choice. Two terms that are no variables are left
+  -- variables that with the lower number is the earlier one; the theorems hold, and are proved, by either choice. Two terms that are no variables are left
   -- as they stand: step 3 ends there, whichever is the earlier.
   unfoldable pub ordered : Term H → Term H → Term H × Term H
   ordered (var v) (var w) = ite (decLe v w) (var v, var w) (var w, var v)
@@ -102,8 +117,8 @@ module _ {H : Type 0} where
     abbrev pub compose : Subst H → Subst H → Subst H
     compose θ l = images θ l ++ others θ l
 
-    -- Disagreement set: at the first symbol position at which the two differ, the subexpressions that begin there. `none`: they do not
-    -- differ. (Lists under one symbol are equally long, so the two lines with one list at its end are not met.)
+    -- Disagreement set: at the first symbol position at which the two have different symbols, the subexpressions that begin there
+    -- (`first-position` proves it of the strings). `none`: there is no such position. (Lists under one symbol are equally long, so the two lines with one list at its end are not met.)
     unfoldable pub disagreement : {s : Sort} → Tree H s → Tree H s → Option (Term H × Term H)
     disagreement (var v) (var w) = ite (ℕ-discrete v w) none (some (var v, var w))
     disagreement (var v) (node k us) = some (var v, node k us)

@@ -4,7 +4,7 @@ use mathlib.Core.Logic.{_⊎_, inl, inr, _↔_, _≢_, ite}
 use mathlib.Core.HLevel.{Discrete}
 use mathlib.Core.Bool.{Bool, true, false}
 use mathlib.Core.Option.{Option, none, some}
-use mathlib.Core.List.{List, [], _∷_, _++_}
+use mathlib.Core.List.{List, [], _∷_, _++_, append-nil, append-assoc}
 use Prim.Native.Nat.{ℕ, zero, suc, _+_, _≤_, _<_, max}
 use native.Mathlib.Decide.{ℕ-discrete, decLe, le-ind}
 use native.Mathlib.Omega.{arith}
@@ -17,7 +17,7 @@ use Rattle.unify.specs.Refine.{over, table-end, table-means}
 use Rattle.unify.specs.Session.{Command, session-begin, sheet, AllAllowed}
 use Rattle.unify.specs.Whole.{project, sheet-means}
 use Rattle.unify.specs.Robinson.{Unifies, MostGeneral, NoNumbers, Robinson, same-head, robinson-strict, NormalPairs, robinson-loose}
-use Rattle.unify.specs.Robinson1965.{Subst, Outcome, going, unifier, without, Has, has?, Substitution, value, inst, Unifier, ordered, above, occurring, variables, or-else, lefts, rights}
+use Rattle.unify.specs.Robinson1965.{Subst, Symbol, variable, function, symbol, spelled, Outcome, going, unifier, without, Has, has?, Substitution, value, inst, Unifier, ordered, above, occurring, variables, or-else, lefts, rights}
 use Rattle.unify.specs.Robinson1965.{images, others, compose, disagreement, replace, step3, step2, again, rounds, unification, MostGeneralUnifier}
 
 one-le : {A B : Type 0} (a : Dec A) (b : Dec B) → (A → B) → ite a 1 0 ≤ ite b 1 0
@@ -181,56 +181,7 @@ module _ {H : Type 0} where
     inst-compose : (θ l : Subst H) → Substitution θ → {s : Sort} (t : Tree H s) → inst t (compose head? θ l) ≡ inst (inst t θ) l
     inst-compose θ l p t = sub-ext t (λ v i. value-compose θ l p v) ∙ sym (sub-sub (value l) (value θ) t)
 
-    -- the disagreement set
-    abbrev Apart : Term H → Term H → Type 0
-    Apart (var v) (var w) = v ≢ w
-    Apart (var v) (node k us) = Unit {0}
-    Apart (node h ts) (var w) = Unit {0}
-    Apart (node h ts) (node k us) = ¬ ((h ≡ k) × (width ts ≡ width us))
-
-    record Disagrees {s : Sort} (t u : Tree H s) (d : Term H × Term H) : Type 0 where
-      equal : (θ : ℕ → Term H) → sub θ t ≡ sub θ u → sub θ (d .0) ≡ sub θ (d .1)
-      left : (v : ℕ) → In v (d .0) → In v t
-      right : (v : ℕ) → In v (d .1) → In v u
-      apart : Apart (d .0) (d .1)
-
-    here : (t u : Term H) → Apart t u → (d : Term H × Term H) → _≡_ {A = Option (Term H × Term H)} (some (t, u)) (some d) → Disagrees t u d
-    here t u a d e =
-        let p : (t, u) ≡ d = cc in
-        subst (λ (x : Term H × Term H). Disagrees t u x) p (record { equal = λ θ q. q; left = λ v i. i; right = λ v i. i; apart = a })
-
-    or-cases : (a b : Option (Term H × Term H)) (d : Term H × Term H) → or-else a b ≡ some d → (a ≡ some d) ⊎ (b ≡ some d)
-    unfolding or-else
-    or-cases none b d e = inr e
-    or-cases (some a) b d e = inl e
-
-    disagrees : {s : Sort} (t u : Tree H s) (d : Term H × Term H) → disagreement head? t u ≡ some d → Disagrees t u d
-    unfolding disagreement sub
-    disagrees (var v) (var w) d e = go (ℕ-discrete v w) e
-      where
-        go : (c : Dec (v ≡ w)) → ite c none (some (var v, var w)) ≡ some d → Disagrees (var v) (var w) d
-        go (yes p) e = clash (cc)
-        go (no p) e = here (var v) (var w) p d e
-    disagrees (var v) (node k us) d e = here (var v) (node k us) tt d e
-    disagrees (node h ts) (var w) d e = here (node h ts) (var w) tt d e
-    disagrees (node h ts) (node k us) d e = go (disagrees ts us d) (head? h k) (ℕ-discrete (width ts) (width us)) e
-      where
-        go : (disagreement head? ts us ≡ some d → Disagrees ts us d) → (a : Dec (h ≡ k)) (b : Dec (width ts ≡ width us))
-            → ite a (ite b (disagreement head? ts us) (some (node h ts, node k us))) (some (node h ts, node k us)) ≡ some d → Disagrees (node h ts) (node k us) d
-        go more (yes p) (yes q) e = let r = more e in record { equal = λ θ x. r .equal θ (cc); left = r .left; right = r .right; apart = r .apart }
-        go more (yes p) (no q) e = here (node h ts) (node k us) (λ x. q (x .1)) d e
-        go more (no p) b e = here (node h ts) (node k us) (λ x. p (x .0)) d e
-    disagrees nil nil d e = clash (cc)
-    disagrees nil (u ▸ us) d e = clash (cc)
-    disagrees (t ▸ ts) nil d e = clash (cc)
-    disagrees (t ▸ ts) (u ▸ us) d e = go (disagrees t u d) (disagrees ts us d) (or-cases (disagreement head? t u) (disagreement head? ts us) d e)
-      where
-        go : (disagreement head? t u ≡ some d → Disagrees t u d) → (disagreement head? ts us ≡ some d → Disagrees ts us d)
-            → (disagreement head? t u ≡ some d) ⊎ (disagreement head? ts us ≡ some d) → Disagrees (t ▸ ts) (u ▸ us) d
-        go f g (inl e) = let r = f e in record { equal = λ θ x. r .equal θ (cc); left = λ v i. inl (r .left v i); right = λ v i. inl (r .right v i); apart = r .apart }
-        go f g (inr e) = let r = g e in record { equal = λ θ x. r .equal θ (cc); left = λ v i. inr (r .left v i); right = λ v i. inr (r .right v i); apart = r .apart }
-
-    -- equally long, where they are lists
+    -- where two trees do not disagree they are equal: lists, if they are equally long
     abbrev Level : {s : Sort} → Tree H s → Tree H s → Type 0
     Level (var v) u = Unit {0}
     Level (node h ts) u = Unit {0}
@@ -270,22 +221,116 @@ module _ {H : Type 0} where
     agrees nil nil l e = refl
     agrees nil (u ▸ us) l e = absurd (omega arith)
     agrees (t ▸ ts) nil l e = absurd (omega arith)
-    agrees (t ▸ ts) (u ▸ us) l e = go (agrees t u) (agrees ts us (level ts us (omega arith))) (or-none (disagreement head? t u) (disagreement head? ts us) e)
+    agrees (t ▸ ts) (u ▸ us) l e =
+        let o = or-none (disagreement head? t u) (disagreement head? ts us) e in
+        ap₂ _▸_ (agrees t u (level-terms t u) (o .0)) (agrees ts us (level ts us (omega arith)) (o .1))
+
+    -- what is known of a disagreement set
+    pub record Disagrees {s : Sort} (t u : Tree H s) (d : Term H × Term H) : Type 0 where
+      -- before it the strings are the same
+      pub before : List (Symbol H)
+      pub left : (b : List (Symbol H)) × (spelled t ≡ before ++ (spelled (d .0) ++ b))
+      pub right : (c : List (Symbol H)) × (spelled u ≡ before ++ (spelled (d .1) ++ c))
+      -- there they differ
+      pub apart : symbol (d .0) ≢ symbol (d .1)
+      -- who unifies the trees unifies its members, whose variables are theirs
+      pub equal : (θ : ℕ → Term H) → sub θ t ≡ sub θ u → sub θ (d .0) ≡ sub θ (d .1)
+      pub in-left : (v : ℕ) → In v (d .0) → In v t
+      pub in-right : (v : ℕ) → In v (d .1) → In v u
+
+    here : (t u : Term H) → symbol t ≢ symbol u → (d : Term H × Term H) → _≡_ {A = Option (Term H × Term H)} (some (t, u)) (some d) → Disagrees t u d
+    here t u a d e =
+        let p : (t, u) ≡ d = cc in
+        subst (λ (x : Term H × Term H). Disagrees t u x) p (record {
+          before = [];
+          left = ([], sym (append-nil (spelled t)));
+          right = ([], sym (append-nil (spelled u)));
+          apart = a;
+          equal = λ θ q. q;
+          in-left = λ v i. i;
+          in-right = λ v i. i;
+        })
+
+    or-some : (a b : Option (Term H × Term H)) (d : Term H × Term H) → or-else a b ≡ some d → (a ≡ some d) ⊎ ((a ≡ none) × (b ≡ some d))
+    unfolding or-else
+    or-some none b d e = inr (refl, e)
+    or-some (some a) b d e = inl e
+
+    disagrees : {s : Sort} (t u : Tree H s) (d : Term H × Term H) → disagreement head? t u ≡ some d → Disagrees t u d
+    unfolding disagreement sub symbol spelled
+    disagrees (var v) (var w) d e = go (ℕ-discrete v w) e
       where
-        go : (Level t u → disagreement head? t u ≡ none → t ≡ u) → (disagreement head? ts us ≡ none → ts ≡ us)
-            → (disagreement head? t u ≡ none) × (disagreement head? ts us ≡ none) → t ▸ ts ≡ u ▸ us
-        go f g e = ap₂ _▸_ (f (level-terms t u) (e .0)) (g (e .1))
+        go : (c : Dec (v ≡ w)) → ite c none (some (var v, var w)) ≡ some d → Disagrees (var v) (var w) d
+        go (yes p) e = clash (cc)
+        go (no p) e = here (var v) (var w) (λ q. p (cc)) d e
+    disagrees (var v) (node k us) d e = here (var v) (node k us) (λ q. clash (cc)) d e
+    disagrees (node h ts) (var w) d e = here (node h ts) (var w) (λ q. clash (cc)) d e
+    disagrees (node h ts) (node k us) d e = go (disagrees ts us d) (head? h k) (ℕ-discrete (width ts) (width us)) e
+      where
+        go : (disagreement head? ts us ≡ some d → Disagrees ts us d) → (a : Dec (h ≡ k)) (b : Dec (width ts ≡ width us))
+            → ite a (ite b (disagreement head? ts us) (some (node h ts, node k us))) (some (node h ts, node k us)) ≡ some d → Disagrees (node h ts) (node k us) d
+        go more (yes p) (yes q) e = let r = more e in record {
+          before = function h (width ts) ∷ r .before;
+          left = (r .left .0, ap (λ (x : List (Symbol H)). function h (width ts) ∷ x) (r .left .1));
+          right = (r .right .0, ap₂ (λ (a : Symbol H) (x : List (Symbol H)). a ∷ x) (ap₂ function (sym p) (sym q)) (r .right .1));
+          apart = r .apart;
+          equal = λ θ x. r .equal θ (cc);
+          in-left = r .in-left;
+          in-right = r .in-right;
+        }
+        go more (yes p) (no q) e = here (node h ts) (node k us) (λ x. q (cc)) d e
+        go more (no p) b e = here (node h ts) (node k us) (λ x. p (cc)) d e
+    disagrees nil nil d e = clash (cc)
+    disagrees nil (u ▸ us) d e = clash (cc)
+    disagrees (t ▸ ts) nil d e = clash (cc)
+    disagrees (t ▸ ts) (u ▸ us) d e = go (disagrees t u d) (disagrees ts us d) (or-some (disagreement head? t u) (disagreement head? ts us) d e)
+      where
+        later : (a m b c : List (Symbol H)) → a ++ (m ++ b) ++ c ≡ a ++ (m ++ (b ++ c))
+        later a m b c = simp append-assoc
+
+        go : (disagreement head? t u ≡ some d → Disagrees t u d) → (disagreement head? ts us ≡ some d → Disagrees ts us d)
+            → (disagreement head? t u ≡ some d) ⊎ ((disagreement head? t u ≡ none) × (disagreement head? ts us ≡ some d)) → Disagrees (t ▸ ts) (u ▸ us) d
+        go f g (inl e) = let r = f e in record {
+          before = r .before;
+          left = (r .left .0 ++ spelled ts, ap (λ (x : List (Symbol H)). x ++ spelled ts) (r .left .1) ∙ later (r .before) (spelled (d .0)) (r .left .0) (spelled ts));
+          right = (r .right .0 ++ spelled us, ap (λ (x : List (Symbol H)). x ++ spelled us) (r .right .1) ∙ later (r .before) (spelled (d .1)) (r .right .0) (spelled us));
+          apart = r .apart;
+          equal = λ θ x. r .equal θ (cc);
+          in-left = λ v i. inl (r .in-left v i);
+          in-right = λ v i. inl (r .in-right v i);
+        }
+        go f g (inr e) =
+            let r = g (e .1) in
+            let p : t ≡ u = agrees t u (level-terms t u) (e .0) in
+            record {
+              before = spelled t ++ r .before;
+              left = (r .left .0, ap (λ (x : List (Symbol H)). spelled t ++ x) (r .left .1) ∙ sym (append-assoc (spelled t) (r .before) (spelled (d .0) ++ r .left .0)));
+              right = (r .right .0, ap₂ (λ (a x : List (Symbol H)). a ++ x) (ap spelled (sym p)) (r .right .1) ∙ sym (append-assoc (spelled t) (r .before) (spelled (d .1) ++ r .right .0)));
+              apart = r .apart;
+              equal = λ θ x. r .equal θ (cc);
+              in-left = λ v i. inr (r .in-left v i);
+              in-right = λ v i. inr (r .in-right v i);
+            }
+
+    -- THE DISAGREEMENT SET IS THE PAPER'S: it stands at the first position at which the strings have different symbols, and without it
+    -- the two terms are the same.
+    pub first-position : (t u : Term H) (d : Term H × Term H) → disagreement head? t u ≡ some d → Disagrees t u d
+    first-position = disagrees
+
+    pub no-position : (t u : Term H) → disagreement head? t u ≡ none → t ≡ u
+    no-position t u = agrees t u (level-terms t u)
 
     -- two terms with different symbols have no unifier, and neither have a variable and another term that holds it
-    apart-clash : (θ : ℕ → Term H) (h k : H) (ts us : Forest H) → ¬ ((h ≡ k) × (width ts ≡ width us)) → ¬ (sub θ (node h ts) ≡ sub θ (node k us))
-    unfolding sub
+    apart-clash : (θ : ℕ → Term H) (h k : H) (ts us : Forest H) → symbol (node h ts) ≢ symbol (node k us) → ¬ (sub θ (node h ts) ≡ sub θ (node k us))
+    unfolding sub symbol
     apart-clash θ h k ts us a e =
         let p : h ≡ k = cc in
         let q : sub θ ts ≡ sub θ us = cc in
-        a (p, sym (width-sub θ ts) ∙ ap width q ∙ width-sub θ us)
+        a (ap₂ function p (sym (width-sub θ ts) ∙ ap width q ∙ width-sub θ us))
 
-    occurs : (θ : ℕ → Term H) (v : ℕ) (t : Term H) → Apart (var v) t → In v t → ¬ (θ v ≡ sub θ t)
-    occurs θ v (var w) a i e = a i
+    occurs : (θ : ℕ → Term H) (v : ℕ) (t : Term H) → symbol (var v) ≢ symbol t → In v t → ¬ (θ v ≡ sub θ t)
+    unfolding symbol
+    occurs θ v (var w) a i e = a (ap variable i)
     occurs θ v (node h ts) a i e = occurs-clash {n = λ h. h} θ v h ts i (sim-of-eq e)
 
     module _ (t u : Term H) where
@@ -359,7 +404,7 @@ module _ {H : Type 0} where
             through θ q y (inr p) = ap (sub θ) (sym (p .1))
 
         -- step 3, where the earliest is a variable
-        replace-right : (v : ℕ) (r : Term H) → ((θ : ℕ → Term H) → Unifier θ t u → θ v ≡ sub θ r) → In v (inst both σ) → ((w : ℕ) → In w r → In w (inst both σ)) → Apart (var v) r
+        replace-right : (v : ℕ) (r : Term H) → ((θ : ℕ → Term H) → Unifier θ t u → θ v ≡ sub θ r) → In v (inst both σ) → ((w : ℕ) → In w r → In w (inst both σ)) → symbol (var v) ≢ symbol r
             → Right (suc k) (replace head? σ (var v, r))
         unfolding replace
         replace-right v r e i j a = go (in? v r)
@@ -373,12 +418,12 @@ module _ {H : Type 0} where
         step3-right (var v) (var w) y = go (decLe v w)
           where
             go : (c : Dec (v ≤ w)) → Right (suc k) (replace head? σ (ite {C = Term H × Term H} c (var v, var w) (var w, var v)))
-            go (yes l) = replace-right v (var w) (λ θ q. y .equal θ (general-inst σ (x .general) θ q)) (inl (y .left v refl)) (λ z i. inr (inl (y .right z i))) (y .apart)
-            go (no l) = replace-right w (var v) (λ θ q. sym (y .equal θ (general-inst σ (x .general) θ q))) (inr (inl (y .right w refl))) (λ z i. inl (y .left z i)) (λ p. y .apart (sym p))
+            go (yes l) = replace-right v (var w) (λ θ q. y .equal θ (general-inst σ (x .general) θ q)) (inl (y .in-left v refl)) (λ z i. inr (inl (y .in-right z i))) (y .apart)
+            go (no l) = replace-right w (var v) (λ θ q. sym (y .equal θ (general-inst σ (x .general) θ q))) (inr (inl (y .in-right w refl))) (λ z i. inl (y .in-left z i)) (λ p. y .apart (sym p))
         step3-right (var v) (node h ts) y =
-            replace-right v (node h ts) (λ θ q. y .equal θ (general-inst σ (x .general) θ q)) (inl (y .left v refl)) (λ z i. inr (inl (y .right z i))) tt
+            replace-right v (node h ts) (λ θ q. y .equal θ (general-inst σ (x .general) θ q)) (inl (y .in-left v refl)) (λ z i. inr (inl (y .in-right z i))) (y .apart)
         step3-right (node h ts) (var w) y =
-            replace-right w (node h ts) (λ θ q. sym (y .equal θ (general-inst σ (x .general) θ q))) (inr (inl (y .right w refl))) (λ z i. inl (y .left z i)) tt
+            replace-right w (node h ts) (λ θ q. sym (y .equal θ (general-inst σ (x .general) θ q))) (inr (inl (y .in-right w refl))) (λ z i. inl (y .in-left z i)) (λ p. y .apart (sym p))
         step3-right (node h ts) (node k′ us) y = λ θ q. apart-clash θ h k′ ts us (y .apart) (y .equal θ (general-inst σ (x .general) θ q))
 
         step2-right : Right (suc k) (step2 head? t u σ)
@@ -386,7 +431,7 @@ module _ {H : Type 0} where
         step2-right = go (same? head? (inst t σ) (inst u σ))
           where
             set : (o : Option (Term H × Term H)) → disagreement head? (inst t σ) (inst u σ) ≡ o → ¬ (inst t σ ≡ inst u σ) → Right (suc k) (step3 head? σ o)
-            set none e n = absurd (n (agrees (inst t σ) (inst u σ) (level-terms (inst t σ) (inst u σ)) e))
+            set none e n = absurd (n (no-position (inst t σ) (inst u σ) e))
             set (some d) e n = step3-right (d .0) (d .1) (disagrees (inst t σ) (inst u σ) d e)
 
             go : (c : Dec (inst t σ ≡ inst u σ)) → Right (suc k) (ite c (unifier σ) (step3 head? σ (disagreement head? (inst t σ) (inst u σ))))
