@@ -16,7 +16,7 @@ use Rattle.unify.specs.Table.{Table, answer}
 use Rattle.unify.specs.Refine.{over, table-end, table-means}
 use Rattle.unify.specs.Session.{Command, session-begin, sheet, AllAllowed}
 use Rattle.unify.specs.Whole.{project, sheet-means}
-use Rattle.unify.specs.Robinson.{Unifies, MostGeneral, NoNumbers, Robinson, same-head, robinson-strict, NormalPairs, robinson-loose}
+use Rattle.unify.specs.Robinson.{Unifies, NoNumbers, Robinson, Normal, NormalPairs, robinson-loose}
 use Rattle.unify.specs.Robinson1965.{Subst, Symbol, variable, function, symbol, spelled, Outcome, going, unifier, without, Has, has?, Substitution, value, inst, Unifier, ordered, above, occurring, variables, or-else, lefts, rights}
 use Rattle.unify.specs.Robinson1965.{images, others, compose, disagreement, replace, step3, step2, again, rounds, unification, MostGeneralUnifier}
 
@@ -490,6 +490,10 @@ module _ {H : Type 0} where
           go (unifier σ) e = inl (σ, e)
           go without e = inr e
 
+true-of : (b : Bool) → (b ≡ false → ⊥) → b ≡ true
+true-of true e = refl
+true-of false e = absurd (e refl)
+
 -- The solver and the algorithm, on plain pairs.
 module _ (S : Sig) where
   module _ (h : S .Head) (ps : List (Pair S)) where
@@ -497,7 +501,7 @@ module _ (S : Sig) where
     abbrev pub decides : Outcome (S .Head)
     decides = unification (S .head?) (node h (lefts ps)) (node h (rights ps))
 
-    -- THE SOLVER ANSWERS AS THE ALGORITHM DOES: `wrong` is that some pair was answered incompatible, `res` what the variables resolve to.
+    -- `wrong` is that some pair was answered incompatible, `res` what the variables resolve to.
     pub record Answers (wrong : Bool) (res : ℕ → T S) : Type 0 where
       -- some pair was answered incompatible exactly if the algorithm ends without a unifier
       pub incompatible : (wrong ≡ true) ↔ (decides ≡ without)
@@ -505,79 +509,100 @@ module _ (S : Sig) where
       pub compatible : wrong ≡ false → (σ : Subst (S .Head)) × (decides ≡ unifier σ)
           × ((l : ℕ → T S) × ((v : ℕ) → res v ≡ sub l (value σ v))) × ((m : ℕ → T S) × ((v : ℕ) → value σ v ≡ sub m (res v)))
 
-  unifies-lists : (θ : ℕ → T S) (ps : List (Pair S)) → Unifies S θ ps → sub θ (lefts ps) ≡ sub θ (rights ps)
+  abbrev pub Among : Pair S → List (Pair S) → Type 0
+  Among p [] = ⊥
+  Among p (q ∷ qs) = (p ≡ q) ⊎ Among p qs
+
+  -- the same pairs, in whatever order and however often
+  abbrev pub SamePairs : List (Pair S) → List (Pair S) → Type 0
+  SamePairs qs ps = (p : Pair S) → Among p qs ↔ Among p ps
+
+  unifies-one : (θ : ℕ → T S) (ps : List (Pair S)) (p : Pair S) → Unifies S θ ps → Among p ps → sub θ (p .0) ≡ sub θ (p .1)
+  unifies-one θ [] p e i = absurd i
+  unifies-one θ (q ∷ ps) p e (inl i) = rw i (e .0)
+  unifies-one θ (q ∷ ps) p e (inr i) = unifies-one θ ps p (e .1) i
+
+  to-lists : (θ : ℕ → T S) (qs : List (Pair S)) → ((p : Pair S) → Among p qs → sub θ (p .0) ≡ sub θ (p .1)) → sub θ (lefts qs) ≡ sub θ (rights qs)
   unfolding lefts rights sub
-  unifies-lists θ [] e = refl
-  unifies-lists θ (p ∷ ps) e = ap₂ _▸_ (e .0) (unifies-lists θ ps (e .1))
+  to-lists θ [] e = refl
+  to-lists θ (p ∷ ps) e = ap₂ _▸_ (e p (inl refl)) (to-lists θ ps (λ q i. e q (inr i)))
 
-  lists-unifies : (θ : ℕ → T S) (ps : List (Pair S)) → sub θ (lefts ps) ≡ sub θ (rights ps) → Unifies S θ ps
+  from-lists : (θ : ℕ → T S) (qs : List (Pair S)) → sub θ (lefts qs) ≡ sub θ (rights qs) → Unifies S θ qs
   unfolding lefts rights sub
-  lists-unifies θ [] e = tt
-  lists-unifies θ (p ∷ ps) e = (cc, lists-unifies θ ps (cc))
+  from-lists θ [] e = tt
+  from-lists θ (p ∷ ps) e = (cc, from-lists θ ps (cc))
 
-  module _ (h : S .Head) (ps : List (Pair S)) where
-    to-node : (θ : ℕ → T S) → Unifies S θ ps → Unifier θ (node h (lefts ps)) (node h (rights ps))
+  to-pairs : (θ : ℕ → T S) (ps : List (Pair S)) → ((p : Pair S) → Among p ps → sub θ (p .0) ≡ sub θ (p .1)) → Unifies S θ ps
+  to-pairs θ [] e = tt
+  to-pairs θ (p ∷ ps) e = (e p (inl refl), to-pairs θ ps (λ q i. e q (inr i)))
+
+  module _ (h : S .Head) (ps qs : List (Pair S)) (same : SamePairs qs ps) where
+    to-node : (θ : ℕ → T S) → Unifies S θ ps → Unifier θ (node h (lefts qs)) (node h (rights qs))
     unfolding sub
-    to-node θ e = ap (node h) (unifies-lists θ ps e)
+    to-node θ e = ap (node h) (to-lists θ qs (λ p i. unifies-one θ ps p e (same p .0 i)))
 
-    from-node : (θ : ℕ → T S) → Unifier θ (node h (lefts ps)) (node h (rights ps)) → Unifies S θ ps
+    from-node : (θ : ℕ → T S) → Unifier θ (node h (lefts qs)) (node h (rights qs)) → Unifies S θ ps
     unfolding sub
-    from-node θ e = lists-unifies θ ps (cc)
+    from-node θ e = to-pairs θ ps (λ p i. unifies-one θ qs p (from-lists θ qs (cc)) (same p .1 i))
 
-    answers : (wrong : Bool) (res : ℕ → T S) → Robinson S wrong res ps → Answers h ps wrong res
-    answers wrong res r = record {
-      incompatible = (λ w. fails w found, λ e. wrongs e wrong refl);
-      compatible = λ w. succeeds w found;
-    }
+    answers : (wrong : Bool) (res : ℕ → T S) → Robinson S wrong res ps → Answers h qs wrong res
+    answers wrong res r = go (either (S .head?) l₀ r₀)
       where
-        found : ((σ : Subst (S .Head)) × (decides h ps ≡ unifier σ)) ⊎ (decides h ps ≡ without)
-        found = either (S .head?) (node h (lefts ps)) (node h (rights ps))
+        l₀ : T S
+        l₀ = node h (lefts qs)
 
-        fails : wrong ≡ true → ((σ : Subst (S .Head)) × (decides h ps ≡ unifier σ)) ⊎ (decides h ps ≡ without) → decides h ps ≡ without
-        fails w (inl f) = absurd (r .none-left w (value (f .0)) (from-node (value (f .0)) (with-unifier (S .head?) (node h (lefts ps)) (node h (rights ps)) (f .0) (f .1) .0 .unifies)))
-        fails w (inr e) = e
+        r₀ : T S
+        r₀ = node h (rights qs)
 
-        wrongs : decides h ps ≡ without → (b : Bool) → wrong ≡ b → wrong ≡ true
-        wrongs e true w = w
-        wrongs e false w = absurd (without-unifier (S .head?) (node h (lefts ps)) (node h (rights ps)) e res (to-node res (r .most-general w .unifies)))
+        go : ((σ : Subst (S .Head)) × (decides h qs ≡ unifier σ)) ⊎ (decides h qs ≡ without) → Answers h qs wrong res
+        go (inl f) =
+            let g = with-unifier (S .head?) l₀ r₀ (f .0) (f .1) in
+            let u = from-node (value (f .0)) (g .0 .unifies) in
+            record {
+              incompatible = (λ w. absurd (r .none-left w (value (f .0)) u), λ e. clash (cc (f .1, e)));
+              compatible = λ w. (f .0, f .1, (res, g .1 res (to-node res (r .most-general w .unifies))), r .most-general w .general (value (f .0)) u);
+            }
+        go (inr e) =
+            let never : wrong ≡ false → ⊥ = λ w. without-unifier (S .head?) l₀ r₀ e res (to-node res (r .most-general w .unifies)) in
+            record {
+              incompatible = (λ w. e, λ e. true-of wrong never);
+              compatible = λ w. absurd (never w);
+            }
 
-        succeeds : wrong ≡ false → ((σ : Subst (S .Head)) × (decides h ps ≡ unifier σ)) ⊎ (decides h ps ≡ without)
-            → (σ : Subst (S .Head)) × (decides h ps ≡ unifier σ)
-            × ((l : ℕ → T S) × ((v : ℕ) → res v ≡ sub l (value σ v))) × ((m : ℕ → T S) × ((v : ℕ) → value σ v ≡ sub m (res v)))
-        succeeds w (inr e) = absurd (without-unifier (S .head?) (node h (lefts ps)) (node h (rights ps)) e res (to-node res (r .most-general w .unifies)))
-        succeeds w (inl f) =
-            let g = with-unifier (S .head?) (node h (lefts ps)) (node h (rights ps)) (f .0) (f .1) in
-            (f .0, f .1, (res, g .1 res (to-node res (r .most-general w .unifies))), r .most-general w .general (value (f .0)) (from-node (value (f .0)) (g .0 .unifies)))
-
-  -- over substitutions, by the strict notion of equal shape
-  pub algorithm-strict : (os : List (Order S)) → Premises S (λ h. h) (same-head S) (end S (λ h. h) (same-head S) os) → NoNumbers S (end S (λ h. h) (same-head S) os)
-      → (h : S .Head) → Answers h (end S (λ h. h) (same-head S) os .posed) (end S (λ h. h) (same-head S) os .wrong) (end S (λ h. h) (same-head S) os .state .res)
-  algorithm-strict os p e h =
-      let x = end S (λ h. h) (same-head S) os in
-      answers h (x .posed) (x .wrong) (x .state .res) (robinson-strict S os p e)
-
+  -- THE SOLVER ANSWERS AS THE ALGORITHM DOES: of the pairs that were posed, in whatever order they are taken, under whatever head; where no pair
+  -- was cancelled, no pair has a recovery term or a projection (`Premises`), none an access mark (`NormalPairs`), and no variable is a number.
   module _ (n : S .Head → S .Head) (respects : (f : S .Fam) (h k : S .Head) → n h ≡ n k → S .admits f h ≡ S .admits f k) where
-    -- over substitutions, by the notion of equal shape that ignores access, on pairs with no access marks
-    pub algorithm-loose : (os : List (Order S)) → NormalPairs S n (end S n respects os .posed) → Premises S n respects (end S n respects os) → NoNumbers S (end S n respects os)
-        → (h : S .Head) → Answers h (end S n respects os .posed) (end S n respects os .wrong) (end S n respects os .state .res)
-    algorithm-loose os q p e h =
-        let x = end S n respects os in
-        answers h (x .posed) (x .wrong) (x .state .res) (robinson-loose S n respects os q p e)
+    abbrev pub AsRobinson : {X : Type 0} → Run S X → (ℕ → T S) → Type 0
+    AsRobinson x res = NormalPairs S n (x .posed) → Premises S n respects x → NoNumbers S x
+        → (h : S .Head) (qs : List (Pair S)) → SamePairs qs (x .posed) → Answers h qs (x .wrong) res
 
-    -- what the three premises and the conclusion say of a run, over whatever session
-    abbrev Agrees : {X : Type 0} → Run S X → (ℕ → T S) → Type 0
-    Agrees x res = NormalPairs S n (x .posed) → Premises S n respects x → NoNumbers S x → (h : S .Head) → Answers h (x .posed) (x .wrong) res
+    -- over substitutions
+    pub algorithm-orders : (os : List (Order S)) → AsRobinson (end S n respects os) (end S n respects os .state .res)
+    algorithm-orders os q p e h qs same =
+        let x = end S n respects os in
+        answers h (x .posed) qs same (x .wrong) (x .state .res) (robinson-loose S n respects os q p e)
 
     -- over a table
-    pub algorithm-table : (os : List (Order S)) → Agrees (table-end S n respects os) (λ v. answer S (table-end S n respects os .state) (var v))
+    pub algorithm-table : (os : List (Order S)) → AsRobinson (table-end S n respects os) (λ v. answer S (table-end S n respects os .state) (var v))
     algorithm-table os =
         let a = table-means S n respects os in
-        let b : Agrees (over S n respects (table-end S n respects os) (a .0)) (a .0 .res) = subst (λ (x : Run S (State S)). Agrees x (x .state .res)) (a .1) (algorithm-loose os) in
-        subst (λ (ρ : ℕ → T S). Agrees (table-end S n respects os) ρ) (a .2) b
+        let b : AsRobinson (over S n respects (table-end S n respects os) (a .0)) (a .0 .res) = subst (λ (x : Run S (State S)). AsRobinson x (x .state .res)) (a .1) (algorithm-orders os) in
+        subst (λ (ρ : ℕ → T S). AsRobinson (table-end S n respects os) ρ) (a .2) b
 
-    -- over a session of orders 0 to 8
+    -- in a session of orders 0 to 8
     pub algorithm-sheet : (default : S .Fam → S .Head) (never : S .Head) (cs : List (Command S)) → AllAllowed S default never n (fresh S (session-begin S default never)) cs
-        → Agrees (sheet S default never n cs) (λ v. answer S (sheet S default never n cs .state .table) (var v))
+        → AsRobinson (sheet S default never n cs) (λ v. answer S (sheet S default never n cs .state .table) (var v))
     algorithm-sheet default never cs a =
         let e = sheet-means S default never n respects cs a in
-        subst (λ (y : Run S (Table S)). Agrees y (λ v. answer S (y .state) (var v))) (sym (e .1)) (algorithm-table (e .0))
+        subst (λ (y : Run S (Table S)). AsRobinson y (λ v. answer S (y .state) (var v))) (sym (e .1)) (algorithm-table (e .0))
+
+  -- by the strict notion of equal shape nothing is asked of access
+  all-normal : {k : Sort} (t : Tree (S .Head) k) → Normal S (λ h. h) t
+  all-normal (var v) = tt
+  all-normal (node h ts) = (refl, all-normal ts)
+  all-normal nil = tt
+  all-normal (t ▸ ts) = (all-normal t, all-normal ts)
+
+  pub strict-normal : (ps : List (Pair S)) → NormalPairs S (λ h. h) ps
+  strict-normal [] = tt
+  strict-normal (p ∷ ps) = (all-normal (p .0), all-normal (p .1), strict-normal ps)
