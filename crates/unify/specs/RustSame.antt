@@ -23,8 +23,13 @@ use Rattle.unify.specs.Rust.{look, insert, place, sorted, look-site, or-
 use Rattle.unify.specs.Rust.{Solver, rust-begin, with-numeric, with-binding, unless-same, rounds, rust-resolve, deferred, variable-entry, hole-entry, requested}
 use Rattle.unify.specs.Rust.{Pass, continue, is-recovery, is-some, same-kind, admissible, hand-on, bind-unless, occurs-then, if-admissible, if-numeric, unless-recovery, inference}
 use Rattle.unify.specs.Rust.{shape-test, same-shape, if-shape, arms, first-arm, if-equal, pass, while-pending, rust-constrain}
-use Rattle.unify.specs.RustLists.{nth-push, length-push, nth-set, look-cons, look-nil, look-insert, Once, once-insert}
-use Rattle.unify.specs.Session.{is-same}
+use Rattle.unify.specs.Rust.{defer-never, rust-variable, annotation-hole, numeric-variable, default-root, numeric-defaults, apply-numeric-defaults, never-defaults, apply-never-defaults}
+use Rattle.unify.specs.Rust.{with-term, with-verdict, with-change, guard, rust-order, rust-orders, rust-replies}
+use Rattle.unify.specs.RustLists.{nth-push, length-push, nth-set, look-cons, look-nil, look-insert, Once, once-insert, with-some, collect, sorted-collect, site-cons}
+use Rattle.unify.specs.Session.{Command, variable, number, hole, defer, pair, resolving, numbers, nevers, revision, refused, Session, session-begin, with-table, with-site, with-hole, with-diverging}
+use Rattle.unify.specs.Session.{is-same, fill, number-one, never-one, fill-numbers, fill-nevers, deferring, R, move, grow, serve-variable, serve-hole, asking, serve-number, serve-defer, lift, serve-pair, obey, obey-all, sheet}
+use Rattle.unify.specs.Session.{Reply, term, verdict, changed, count, nothing, refusal, reply, replies, if-issued, verdict-of, variable-at}
+use Rattle.unify.specs.Whole.{Sane, sane-begin, sane-more, sane-asks, sane-bind, site-more}
 
 -- one round of `resolve`, and the walks that only look
 module _ {H : Type 0} (bs : List (Option (Term H))) where
@@ -376,3 +381,107 @@ module _ (S : Sig) where
         pass-goes l r bl br =
             equal-goes (sub (s .res) l) (sub (s .res) r) (rust-resolve S panic z l) (rust-resolve S panic z r) (held-resolve N z s h l) (held-resolve N z s h r) bl br (idem l) (idem r)
             (same? (S .head?) (rust-resolve S panic z l) (rust-resolve S panic z r)) (same? (S .head?) (sub (s .res) l) (sub (s .res) r))
+
+    module _ (n : S .Head → S .Head) (respects : (f : S .Fam) (h k : S .Head) → n h ≡ n k → S .admits f h ≡ S .admits f k)
+        (keeps : (f g e : S .Fam) → S .meet f g ≡ some e → e ≡ f) where
+      -- the two loops end alike
+      abbrev Meets : ℕ → Out (Solver S panic) → Out (State S) → Type 0
+      Meets N (cancelled z) (cancelled s) = Held N z s
+      Meets N (cancelled z) (done s c) = ⊥
+      Meets N (done z b) (cancelled s) = ⊥
+      Meets N (done z b) (done s c) = Held N z s × (b ≡ c)
+
+      within : (N : ℕ) (s : State S) → Fine S N s → (t : T S) → ((v : ℕ) → In v t → v < N) → (v : ℕ) → In v (sub (s .res) t) → v < N
+      within N s f t b v i = let r = in-sub v (s .res) t i in f .within (r .0) v (b (r .0) (r .1)) (r .2)
+
+      while-goes : (k N : ℕ) (z : Solver S panic) (s : State S) (ok : Bool) (ps : List (Pair S)) → Held N z s → Fine S N s → Below S N ps
+          → Meets N (while-pending S panic n k z ok ps) (constrain S n k s ok ps)
+      unfolding while-pending constrain
+      while-goes zero N z s ok [] h f b = (h, refl)
+      while-goes zero N z s ok (p ∷ ps) h f b = h
+      while-goes (suc k) N z s ok [] h f b = (h, refl)
+      while-goes (suc k) N z s ok (p ∷ ps) h f b =
+          let x = pass S panic n z ok ps (p .0) (p .1) in
+          let y = step S n s (p .0) (p .1) ps in
+          let g : Goes N ok x y = pass-goes keeps N z s h (idem-sub S n respects N s f) ok ps n (p .0) (p .1) (within N s f (p .0) (b .0)) (within N s f (p .1) (b .1)) in
+          let r = step-right S n respects N s f ps (b .2) (p .0) (p .1) (b .0) (b .1) in
+          subst (λ (o : Out (State S)). Meets N (while-pending S panic n k (x .solver) (x .compatible) (x .pending)) o)
+          (ap₂ (constrain S n k (y .state)) (g .good) (g .todo))
+          (while-goes k N (x .solver) (y .state) (x .compatible) (x .pending) (g .holds) (r .fine) (subst (λ (qs : List (Pair S)). Below S N qs) (sym (g .todo)) (r .below)))
+
+      module _ (default : S .Fam → S .Head) (never : S .Head) where
+        -- a table of `Session` and a solver of the Rust that stand for one session over N variables
+        pub record Both (N : ℕ) (tab : Table S) (z : Solver S panic) : Type 0 where
+          pub sane : Sane S default never n respects N tab
+          pub held : Held N z (sane .means)
+
+        both-answer : (N : ℕ) (tab : Table S) (z : Solver S panic) → Both N tab z → (t : T S) → rust-resolve S panic z t ≡ answer S tab t
+        both-answer N tab z b t =
+            held-resolve N z (b .sane .means) (b .held) t ∙ sym (resolve-right (tab .bound) (tab .rev) (b .sane .means .res) (b .sane .stands .rep) t)
+
+        both-rev : (N : ℕ) (tab : Table S) (z : Solver S panic) → Both N tab z → z .revision ≡ tab .rev
+        both-rev N tab z b = b .held .stands .revs ∙ sym (b .sane .stands .revs)
+
+        both-long : (N : ℕ) (tab : Table S) (z : Solver S panic) → Both N tab z → length (z .bindings) ≡ N
+        both-long N tab z b = b .held .long
+
+        -- a default: the root, if it is a variable, is bound
+        both-fill : (N : ℕ) (tab : Table S) (z : Solver S panic) (h : S .Head) (v : ℕ) → v < N → Both N tab z
+            → Both N (fill S default never tab h (top S tab (var v))) (default-root S panic default never z h (rust-resolve S panic z (var v)))
+        unfolding fill default-root sane-bind sub
+        both-fill N tab z h v l b =
+            subst (λ (u : T S). Both N (fill S default never tab h (top S tab (var v))) (default-root S panic default never z h u)) (sym (held-resolve N z s (b .held) (var v)))
+            (go (top S tab (var v)) (tops S tab s (b .sane .stands) idem [] [] tt (var v)) (reach S n respects N tab s (b .sane .stands) (b .sane .fine) (var v) (var v) refl (λ w e. omega arith)))
+          where
+            s : State S
+            s = b .sane .means
+
+            idem : (t : T S) → sub (s .res) (sub (s .res) t) ≡ sub (s .res) t
+            idem = idem-sub S n respects N s (b .sane .fine)
+
+            bound : (w : ℕ) → w < N → tab .bound w ≡ none → Both N (fill S default never tab h (var w)) (default-root S panic default never z h (var w))
+            bound w m e = record {
+              sane = sane-bind S default never n respects N tab h w m e (b .sane);
+              held = holds-bind N (z .bindings) (z .numeric) (z .revision) s (b .held) w (node h nil) m
+                  (holds-free N (z .bindings) (z .numeric) (z .revision) s (b .held) w idem (b .sane .stands .rep .unbound w e)) refl (λ i. i);
+            }
+
+            go : (t : T S) → sub (s .res) t ≡ s .res v → ((w : ℕ) → t ≡ var w → (w < N) × (tab .bound w ≡ none))
+                → Both N (fill S default never tab h t) (default-root S panic default never z h (s .res v))
+            go (var w) p q =
+                let e : s .res v ≡ var w = sym p ∙ b .sane .stands .rep .unbound w (q w refl .1) in
+                subst (λ (u : T S). Both N (fill S default never tab h (var w)) (default-root S panic default never z h u)) (sym e) (bound w (q w refl .0) (q w refl .1))
+            go (node k ts) p q = subst (λ (u : T S). Both N tab (default-root S panic default never z h u)) p b
+
+        fill-fam : (tab : Table S) (h : S .Head) (t : T S) → fill S default never tab h t .fam ≡ tab .fam
+        unfolding fill
+        fill-fam tab h (var w) = refl
+        fill-fam tab h (node k ts) = refl
+
+        both-numbers : (g : ℕ → Option (S .Fam)) (N m v : ℕ) (tab : Table S) (z : Solver S panic) → v + m ≤ N → tab .fam ≡ g → Both N tab z
+            → Both N (fill-numbers S default never m v tab) (numeric-defaults S panic default never (collect m v g) z)
+        unfolding fill-numbers number-one numeric-defaults collect with-some
+        both-numbers g N zero v tab z l e b = b
+        both-numbers g N (suc m) v tab z l e b =
+            subst (λ (o : Option (S .Fam)). Both N (fill-numbers S default never m (suc v) (number-one S default never tab v o)) (numeric-defaults S panic default never (with-some v (g v) (collect m (suc v) g)) z))
+            (ap (λ (f : ℕ → Option (S .Fam)). f v) (sym e)) (go (g v) (λ tab′ z′ e′ b′. both-numbers g N m (suc v) tab′ z′ (omega arith) e′ b′))
+          where
+            go : (o : Option (S .Fam)) → ((tab′ : Table S) (z′ : Solver S panic) → tab′ .fam ≡ g → Both N tab′ z′ → Both N (fill-numbers S default never m (suc v) tab′) (numeric-defaults S panic default never (collect m (suc v) g) z′))
+                → Both N (fill-numbers S default never m (suc v) (number-one S default never tab v o)) (numeric-defaults S panic default never (with-some v o (collect m (suc v) g)) z)
+            go none i = i tab z e b
+            go (some f) i =
+                i (fill S default never tab (default f) (top S tab (var v))) (default-root S panic default never z (default f) (rust-resolve S panic z (var v)))
+                (fill-fam tab (default f) (top S tab (var v)) ∙ e) (both-fill N tab z (default f) v (omega arith) b)
+
+        both-nevers : (d : ℕ → Bool) (g : ℕ → Option (Unit {0})) (N m v : ℕ) (tab : Table S) (z : Solver S panic) → v + m ≤ N → ((w : ℕ) → is-some S panic (g w) ≡ d w) → Both N tab z
+            → Both N (fill-nevers S default never d m v tab) (never-defaults S panic default never (collect m v g) z)
+        unfolding fill-nevers never-one never-defaults collect with-some is-some
+        both-nevers d g N zero v tab z l e b = b
+        both-nevers d g N (suc m) v tab z l e b =
+            subst (λ (c : Bool). Both N (fill-nevers S default never d m (suc v) (never-one S default never tab v c)) (never-defaults S panic default never (with-some v (g v) (collect m (suc v) g)) z))
+            (e v) (go (g v) (λ tab′ z′ b′. both-nevers d g N m (suc v) tab′ z′ (omega arith) e b′))
+          where
+            go : (o : Option (Unit {0})) → ((tab′ : Table S) (z′ : Solver S panic) → Both N tab′ z′ → Both N (fill-nevers S default never d m (suc v) tab′) (never-defaults S panic default never (collect m (suc v) g) z′))
+                → Both N (fill-nevers S default never d m (suc v) (never-one S default never tab v (is-some S panic o))) (never-defaults S panic default never (with-some v o (collect m (suc v) g)) z)
+            go none i = i tab z b
+            go (some u) i = i (fill S default never tab never (top S tab (var v))) (default-root S panic default never z never (rust-resolve S panic z (var v))) (both-fill N tab z never v (omega arith) b)
