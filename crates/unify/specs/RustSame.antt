@@ -246,137 +246,146 @@ module _ (S : Sig) where
     unfolding or-else
     held-resolve N z s h t = ap (λ (o : Option (T S)). or-else o panic) (holds-rounds N (z .bindings) (z .numeric) (z .revision) s h panic t)
 
+    -- the places and the deferred variables are the same
+    abbrev Kept : Solver S panic → Solver S panic → Type 0
+    Kept z z′ = (z′ .variables ≡ z .variables) × (z′ .holes ≡ z .holes) × (z′ .diverging ≡ z .diverging)
+
+    kept-trans : (x y z : Solver S panic) → Kept x y → Kept y z → Kept x z
+    kept-trans x y z p q = (q .0 ∙ p .0, q .1 ∙ p .1, q .2 ∙ p .2)
+
     -- one pass of the Rust's loop against one step of `Solver`
-    record Goes (N : ℕ) (ok : Bool) (x : Pass S panic) (y : Step S) : Type 0 where
+    record Goes (N : ℕ) (z : Solver S panic) (ok : Bool) (x : Pass S panic) (y : Step S) : Type 0 where
       holds : Held N (x .solver) (y .state)
+      kept : Kept z (x .solver)
       good : x .compatible ≡ (ok && y .good)
       todo : x .pending ≡ y .todo
 
     -- the number variable that is bound hands on its own fallback
     module _ (keeps : (f g e : S .Fam) → S .meet f g ≡ some e → e ≡ f) (N : ℕ) (z : Solver S panic) (s : State S) (h : Held N z s)
         (idem : (t : T S) → sub (s .res) (sub (s .res) t) ≡ sub (s .res) t) (ok : Bool) (pending : List (Pair S)) where
-      skip : Goes N ok (continue S panic z ok pending) (record { state = s; good = true; todo = pending })
-      skip = record { holds = h; good = and-true ok; todo = refl }
+      skip : Goes N z ok (continue S panic z ok pending) (record { state = s; good = true; todo = pending })
+      skip = record { holds = h; kept = (refl, refl, refl); good = and-true ok; todo = refl }
 
-      fail : Goes N ok (continue S panic z false pending) (record { state = s; good = false; todo = pending })
-      fail = record { holds = h; good = and-false ok; todo = refl }
+      fail : Goes N z ok (continue S panic z false pending) (record { state = s; good = false; todo = pending })
+      fail = record { holds = h; kept = (refl, refl, refl); good = and-false ok; todo = refl }
 
       -- a variable that resolves to itself, and another term that does
       abbrev Apart : ℕ → T S → Type 0
       Apart v t = (v < N) × (s .res v ≡ var v) × (sub (s .res) t ≡ t) × (var v ≢ t)
 
-      occurs-goes : (v : ℕ) (t : T S) → Apart v t → (z₁ : Solver S panic) (fam₁ : ℕ → Option (S .Fam)) → Held N z₁ (record { res = s .res; fam = fam₁; rev = s .rev })
-          → (In v t → Held N z₁ s) → (d : Dec (In v t)) → Goes N ok (occurs-then S panic z₁ ok pending v t) (assign₁ S s v t pending (some fam₁) d)
+      occurs-goes : (v : ℕ) (t : T S) → Apart v t → (z₁ : Solver S panic) (fam₁ : ℕ → Option (S .Fam)) → Kept z z₁ → Held N z₁ (record { res = s .res; fam = fam₁; rev = s .rev })
+          → (In v t → Held N z₁ s) → (d : Dec (In v t)) → Goes N z ok (occurs-then S panic z₁ ok pending v t) (assign₁ S s v t pending (some fam₁) d)
       unfolding bind-unless assign₁
-      occurs-goes v t a z₁ fam₁ h₁ h₂ (yes i) =
-          subst (λ (b : Bool). Goes N ok (bind-unless S panic z₁ ok pending v t b) (record { state = s; good = false; todo = pending })) (sym (occurs-yes v t i))
-          (record { holds = h₂ i; good = and-false ok; todo = refl })
-      occurs-goes v t a z₁ fam₁ h₁ h₂ (no i) =
+      occurs-goes v t a z₁ fam₁ k h₁ h₂ (yes i) =
+          subst (λ (b : Bool). Goes N z ok (bind-unless S panic z₁ ok pending v t b) (record { state = s; good = false; todo = pending })) (sym (occurs-yes v t i))
+          (record { holds = h₂ i; kept = k; good = and-false ok; todo = refl })
+      occurs-goes v t a z₁ fam₁ k h₁ h₂ (no i) =
           let s₁ : State S = record { res = s .res; fam = fam₁; rev = s .rev } in
-          subst (λ (b : Bool). Goes N ok (bind-unless S panic z₁ ok pending v t b) (record { state = bind S s v t fam₁; good = true; todo = pending })) (sym (occurs-no v t i))
+          subst (λ (b : Bool). Goes N z ok (bind-unless S panic z₁ ok pending v t b) (record { state = bind S s v t fam₁; good = true; todo = pending })) (sym (occurs-no v t i))
           (record {
             holds = holds-bind N (z₁ .bindings) (z₁ .numeric) (z₁ .revision) s₁ h₁ v t (a .0)
                 (holds-free N (z₁ .bindings) (z₁ .numeric) (z₁ .revision) s₁ h₁ v idem (a .1)) (a .2) i;
+            kept = k;
             good = and-true ok;
             todo = refl;
           })
 
       -- a number variable. The Rust hands the fallback on before it looks whether v occurs; in a variable other than v it does not.
       kind-goes : (v : ℕ) (t : T S) → Apart v t → (f : S .Fam)
-          → Goes N ok (if-admissible S panic z ok pending v t f (admissible S panic z f t)) (assign₁ S s v t pending (admit S (s .fam) (some f) t) (in? v t))
+          → Goes N z ok (if-admissible S panic z ok pending v t f (admissible S panic z f t)) (assign₁ S s v t pending (admit S (s .fam) (some f) t) (in? v t))
       unfolding if-admissible admissible hand-on admit join joined allow assign₁ same-kind is-some
       kind-goes v (var w) a f =
-          subst (λ (o : Option (S .Fam)). Goes N ok (if-admissible S panic z ok pending v (var w) f (same-kind S panic f o)) (assign₁ S s v (var w) pending (join S (s .fam) f w (s .fam w)) (in? {H = S .Head} v (var w))))
+          subst (λ (o : Option (S .Fam)). Goes N z ok (if-admissible S panic z ok pending v (var w) f (same-kind S panic f o)) (assign₁ S s v (var w) pending (join S (s .fam) f w (s .fam w)) (in? {H = S .Head} v (var w))))
           (ap (λ (g : ℕ → Option (S .Fam)). g w) (sym (h .stands .fams))) (go (s .fam w))
         where
           handed : Held N (with-numeric S panic z w f) (asks S s w f)
           handed = holds-asks N (z .bindings) (z .numeric) (z .revision) s h w f
 
           meets : (g : S .Fam) (o : Option (S .Fam)) → S .meet f g ≡ o
-              → Goes N ok (if-admissible S panic z ok pending v (var w) f (is-some S panic o)) (assign₁ S s v (var w) pending (joined S (s .fam) w o) (in? {H = S .Head} v (var w)))
+              → Goes N z ok (if-admissible S panic z ok pending v (var w) f (is-some S panic o)) (assign₁ S s v (var w) pending (joined S (s .fam) w o) (in? {H = S .Head} v (var w)))
           meets g none p = fail
           meets g (some e) p =
-              occurs-goes v (var w) a (with-numeric S panic z w f) (put (s .fam) w (some e))
+              occurs-goes v (var w) a (with-numeric S panic z w f) (put (s .fam) w (some e)) (refl, refl, refl)
               (subst (λ (x : S .Fam). Held N (with-numeric S panic z w f) (asks S s w x)) (sym (keeps f g e p)) handed)
               (λ i. absurd (a .3 (ap var i))) (in? {H = S .Head} v (var w))
 
-          go : (o : Option (S .Fam)) → Goes N ok (if-admissible S panic z ok pending v (var w) f (same-kind S panic f o)) (assign₁ S s v (var w) pending (join S (s .fam) f w o) (in? {H = S .Head} v (var w)))
-          go none = occurs-goes v (var w) a (with-numeric S panic z w f) (put (s .fam) w (some f)) handed (λ i. absurd (a .3 (ap var i))) (in? {H = S .Head} v (var w))
+          go : (o : Option (S .Fam)) → Goes N z ok (if-admissible S panic z ok pending v (var w) f (same-kind S panic f o)) (assign₁ S s v (var w) pending (join S (s .fam) f w o) (in? {H = S .Head} v (var w)))
+          go none = occurs-goes v (var w) a (with-numeric S panic z w f) (put (s .fam) w (some f)) (refl, refl, refl) handed (λ i. absurd (a .3 (ap var i))) (in? {H = S .Head} v (var w))
           go (some g) = meets g (S .meet f g) refl
       kind-goes v (node k nil) a f = go (S .admits f k)
         where
-          go : (b : Bool) → Goes N ok (if-admissible S panic z ok pending v (node k nil) f b) (assign₁ S s v (node k nil) pending (allow S (s .fam) b) (in? {H = S .Head} v (node k nil)))
-          go true = occurs-goes v (node k nil) a z (s .fam) h (λ i. h) (in? {H = S .Head} v (node k nil))
+          go : (b : Bool) → Goes N z ok (if-admissible S panic z ok pending v (node k nil) f b) (assign₁ S s v (node k nil) pending (allow S (s .fam) b) (in? {H = S .Head} v (node k nil)))
+          go true = occurs-goes v (node k nil) a z (s .fam) (refl, refl, refl) h (λ i. h) (in? {H = S .Head} v (node k nil))
           go false = fail
       kind-goes v (node k (u ▸ us)) a f = fail
 
-      inference-goes : (v : ℕ) (t : T S) → Apart v t → Goes N ok (inference S panic z ok pending v t) (assign S s v t pending)
+      inference-goes : (v : ℕ) (t : T S) → Apart v t → Goes N z ok (inference S panic z ok pending v t) (assign S s v t pending)
       unfolding assign assign₀ unless-recovery if-numeric admit
       inference-goes v t a = soft (any-member (is-recovery S panic) t) (any-soft S t) (recovery-same panic t)
         where
-          numeric : (o : Option (S .Fam)) → Goes N ok (if-numeric S panic z ok pending v t o) (assign₁ S s v t pending (admit S (s .fam) o t) (in? v t))
-          numeric none = occurs-goes v t a z (s .fam) h (λ i. h) (in? v t)
+          numeric : (o : Option (S .Fam)) → Goes N z ok (if-numeric S panic z ok pending v t o) (assign₁ S s v t pending (admit S (s .fam) o t) (in? v t))
+          numeric none = occurs-goes v t a z (s .fam) (refl, refl, refl) h (λ i. h) (in? v t)
           numeric (some f) = kind-goes v t a f
 
-          soft : (b c : Bool) → b ≡ c → Goes N ok (unless-recovery S panic z ok pending v t b) (assign₀ S s v t pending c)
+          soft : (b c : Bool) → b ≡ c → Goes N z ok (unless-recovery S panic z ok pending v t b) (assign₀ S s v t pending c)
           soft true true q = skip
           soft true false q = clash (cc)
           soft false true q = clash (cc)
           soft false false q =
-              subst (λ (o : Option (S .Fam)). Goes N ok (if-numeric S panic z ok pending v t o) (assign₁ S s v t pending (admit S (s .fam) (s .fam v) t) (in? v t)))
+              subst (λ (o : Option (S .Fam)). Goes N z ok (if-numeric S panic z ok pending v t o) (assign₁ S s v t pending (admit S (s .fam) (s .fam v) t) (in? v t)))
               (ap (λ (g : ℕ → Option (S .Fam)). g v) (sym (h .stands .fams))) (numeric (s .fam v))
 
       module _ (n : S .Head → S .Head) where
         shape-goes : (k j : S .Head) (ts us : Forest (S .Head)) (b : Bool) (d : Dec (n k ≡ n j)) (e : Dec (width ts ≡ width us))
-            → Goes N ok (if-shape S panic n z ok pending ts us (shape-test S panic n b d e)) (split S n s k j ts us pending false b d)
+            → Goes N z ok (if-shape S panic n z ok pending ts us (shape-test S panic n b d e)) (split S n s k j ts us pending false b d)
         unfolding if-shape shape-test split split₁
         shape-goes k j ts us true d e = fail
         shape-goes k j ts us false (no d) e = fail
         shape-goes k j ts us false (yes d) (no e) = rw (zip-off ts us pending e) fail
-        shape-goes k j ts us false (yes d) (yes e) = rw (zip-on ts us pending e) (record { holds = h; good = and-true ok; todo = refl })
+        shape-goes k j ts us false (yes d) (yes e) = rw (zip-on ts us pending e) (record { holds = h; kept = (refl, refl, refl); good = and-true ok; todo = refl })
 
         -- a recovery term at the top is met first by the Rust, and inside the other arm by `Solver`
         soft-assign : (v : ℕ) (k : S .Head) (us : Forest (S .Head)) → S .soft k ≡ true → assign S s v (node k us) pending ≡ record { state = s; good = true; todo = pending }
         unfolding assign assign₀ any-soft
         soft-assign v k us p = rw p
 
-        soft-goes : (k j : S .Head) (ts us : Forest (S .Head)) (b : Bool) (d : Dec (n k ≡ n j)) → Goes N ok (continue S panic z ok pending) (split S n s k j ts us pending true b d)
+        soft-goes : (k j : S .Head) (ts us : Forest (S .Head)) (b : Bool) (d : Dec (n k ≡ n j)) → Goes N z ok (continue S panic z ok pending) (split S n s k j ts us pending true b d)
         unfolding split
         soft-goes k j ts us b d = skip
 
         arms-goes : (l r : T S) → ((v : ℕ) → In v l → v < N) → ((v : ℕ) → In v r → v < N) → sub (s .res) l ≡ l → sub (s .res) r ≡ r → l ≢ r
-            → Goes N ok (first-arm S panic n z ok pending l r (is-recovery S panic l || is-recovery S panic r)) (unequal S n s l r pending)
+            → Goes N z ok (first-arm S panic n z ok pending l r (is-recovery S panic l || is-recovery S panic r)) (unequal S n s l r pending)
         unfolding first-arm arms unequal is-recovery sub
         arms-goes (var v) (var w) bl br el er ne = inference-goes v (var w) (bl v refl, el, er, ne)
         arms-goes (var v) (node k us) bl br el er ne = go (S .soft k) refl
           where
-            go : (b : Bool) → S .soft k ≡ b → Goes N ok (first-arm S panic n z ok pending (var v) (node k us) b) (assign S s v (node k us) pending)
+            go : (b : Bool) → S .soft k ≡ b → Goes N z ok (first-arm S panic n z ok pending (var v) (node k us) b) (assign S s v (node k us) pending)
             go true p = rw (soft-assign v k us p) skip
             go false p = inference-goes v (node k us) (bl v refl, el, er, ne)
         arms-goes (node k ts) (var v) bl br el er ne = go (S .soft k) refl
           where
-            go : (b : Bool) → S .soft k ≡ b → Goes N ok (first-arm S panic n z ok pending (node k ts) (var v) (b || false)) (assign S s v (node k ts) pending)
+            go : (b : Bool) → S .soft k ≡ b → Goes N z ok (first-arm S panic n z ok pending (node k ts) (var v) (b || false)) (assign S s v (node k ts) pending)
             go true p = rw (soft-assign v k ts p) skip
             go false p = inference-goes v (node k ts) (br v refl, er, el, λ q. ne (sym q))
         arms-goes (node k ts) (node j us) bl br el er ne = go (S .soft k || S .soft j)
           where
-            go : (b : Bool) → Goes N ok (first-arm S panic n z ok pending (node k ts) (node j us) b) (split S n s k j ts us pending b (S .rigid k) (S .head? (n k) (n j)))
+            go : (b : Bool) → Goes N z ok (first-arm S panic n z ok pending (node k ts) (node j us) b) (split S n s k j ts us pending b (S .rigid k) (S .head? (n k) (n j)))
             go true = soft-goes k j ts us (S .rigid k) (S .head? (n k) (n j))
             go false = shape-goes k j ts us (S .rigid k) (S .head? (n k) (n j)) (ℕ-discrete (width ts) (width us))
 
         -- the Rust resolves both sides first, as `step` does
         equal-goes : (l r l′ r′ : T S) → l′ ≡ l → r′ ≡ r → ((v : ℕ) → In v l → v < N) → ((v : ℕ) → In v r → v < N) → sub (s .res) l ≡ l → sub (s .res) r ≡ r
-            → (d : Dec (l′ ≡ r′)) (e : Dec (l ≡ r)) → Goes N ok (if-equal S panic n z ok pending l′ r′ d) (compare S n s l r pending e)
+            → (d : Dec (l′ ≡ r′)) (e : Dec (l ≡ r)) → Goes N z ok (if-equal S panic n z ok pending l′ r′ d) (compare S n s l r pending e)
         unfolding if-equal compare
         equal-goes l r l′ r′ p q bl br el er (yes d) (yes e) = skip
         equal-goes l r l′ r′ p q bl br el er (yes d) (no e) = absurd (e (cc))
         equal-goes l r l′ r′ p q bl br el er (no d) (yes e) = absurd (d (cc))
         equal-goes l r l′ r′ p q bl br el er (no d) (no e) =
-            subst (λ (x : T S). Goes N ok (first-arm S panic n z ok pending x r′ (is-recovery S panic x || is-recovery S panic r′)) (unequal S n s l r pending)) (sym p)
-            (subst (λ (y : T S). Goes N ok (first-arm S panic n z ok pending l y (is-recovery S panic l || is-recovery S panic y)) (unequal S n s l r pending)) (sym q)
+            subst (λ (x : T S). Goes N z ok (first-arm S panic n z ok pending x r′ (is-recovery S panic x || is-recovery S panic r′)) (unequal S n s l r pending)) (sym p)
+            (subst (λ (y : T S). Goes N z ok (first-arm S panic n z ok pending l y (is-recovery S panic l || is-recovery S panic y)) (unequal S n s l r pending)) (sym q)
             (arms-goes l r bl br el er e))
 
-        pass-goes : (l r : T S) → ((v : ℕ) → In v (sub (s .res) l) → v < N) → ((v : ℕ) → In v (sub (s .res) r) → v < N) → Goes N ok (pass S panic n z ok pending l r) (step S n s l r pending)
+        pass-goes : (l r : T S) → ((v : ℕ) → In v (sub (s .res) l) → v < N) → ((v : ℕ) → In v (sub (s .res) r) → v < N) → Goes N z ok (pass S panic n z ok pending l r) (step S n s l r pending)
         unfolding pass step
         pass-goes l r bl br =
             equal-goes (sub (s .res) l) (sub (s .res) r) (rust-resolve S panic z l) (rust-resolve S panic z r) (held-resolve N z s h l) (held-resolve N z s h r) bl br (idem l) (idem r)
@@ -385,29 +394,30 @@ module _ (S : Sig) where
     module _ (n : S .Head → S .Head) (respects : (f : S .Fam) (h k : S .Head) → n h ≡ n k → S .admits f h ≡ S .admits f k)
         (keeps : (f g e : S .Fam) → S .meet f g ≡ some e → e ≡ f) where
       -- the two loops end alike
-      abbrev Meets : ℕ → Out (Solver S panic) → Out (State S) → Type 0
-      Meets N (cancelled z) (cancelled s) = Held N z s
-      Meets N (cancelled z) (done s c) = ⊥
-      Meets N (done z b) (cancelled s) = ⊥
-      Meets N (done z b) (done s c) = Held N z s × (b ≡ c)
+      abbrev Meets : ℕ → Solver S panic → Out (Solver S panic) → Out (State S) → Type 0
+      Meets N z₀ (cancelled z) (cancelled s) = Held N z s × Kept z₀ z
+      Meets N z₀ (cancelled z) (done s c) = ⊥
+      Meets N z₀ (done z b) (cancelled s) = ⊥
+      Meets N z₀ (done z b) (done s c) = Held N z s × Kept z₀ z × (b ≡ c)
 
       within : (N : ℕ) (s : State S) → Fine S N s → (t : T S) → ((v : ℕ) → In v t → v < N) → (v : ℕ) → In v (sub (s .res) t) → v < N
       within N s f t b v i = let r = in-sub v (s .res) t i in f .within (r .0) v (b (r .0) (r .1)) (r .2)
 
-      while-goes : (k N : ℕ) (z : Solver S panic) (s : State S) (ok : Bool) (ps : List (Pair S)) → Held N z s → Fine S N s → Below S N ps
-          → Meets N (while-pending S panic n k z ok ps) (constrain S n k s ok ps)
+      while-goes : (k N : ℕ) (z₀ z : Solver S panic) (s : State S) (ok : Bool) (ps : List (Pair S)) → Kept z₀ z → Held N z s → Fine S N s → Below S N ps
+          → Meets N z₀ (while-pending S panic n k z ok ps) (constrain S n k s ok ps)
       unfolding while-pending constrain
-      while-goes zero N z s ok [] h f b = (h, refl)
-      while-goes zero N z s ok (p ∷ ps) h f b = h
-      while-goes (suc k) N z s ok [] h f b = (h, refl)
-      while-goes (suc k) N z s ok (p ∷ ps) h f b =
+      while-goes zero N z₀ z s ok [] e h f b = (h, e, refl)
+      while-goes zero N z₀ z s ok (p ∷ ps) e h f b = (h, e)
+      while-goes (suc k) N z₀ z s ok [] e h f b = (h, e, refl)
+      while-goes (suc k) N z₀ z s ok (p ∷ ps) e h f b =
           let x = pass S panic n z ok ps (p .0) (p .1) in
           let y = step S n s (p .0) (p .1) ps in
-          let g : Goes N ok x y = pass-goes keeps N z s h (idem-sub S n respects N s f) ok ps n (p .0) (p .1) (within N s f (p .0) (b .0)) (within N s f (p .1) (b .1)) in
+          let g : Goes N z ok x y = pass-goes keeps N z s h (idem-sub S n respects N s f) ok ps n (p .0) (p .1) (within N s f (p .0) (b .0)) (within N s f (p .1) (b .1)) in
           let r = step-right S n respects N s f ps (b .2) (p .0) (p .1) (b .0) (b .1) in
-          subst (λ (o : Out (State S)). Meets N (while-pending S panic n k (x .solver) (x .compatible) (x .pending)) o)
+          subst (λ (o : Out (State S)). Meets N z₀ (while-pending S panic n k (x .solver) (x .compatible) (x .pending)) o)
           (ap₂ (constrain S n k (y .state)) (g .good) (g .todo))
-          (while-goes k N (x .solver) (y .state) (x .compatible) (x .pending) (g .holds) (r .fine) (subst (λ (qs : List (Pair S)). Below S N qs) (sym (g .todo)) (r .below)))
+          (while-goes k N z₀ (x .solver) (y .state) (x .compatible) (x .pending) (kept-trans z₀ z (x .solver) e (g .kept))
+          (g .holds) (r .fine) (subst (λ (qs : List (Pair S)). Below S N qs) (sym (g .todo)) (r .below)))
 
       module _ (default : S .Fam → S .Head) (never : S .Head) where
         -- a table of `Session` and a solver of the Rust that stand for one session over N variables
@@ -485,3 +495,56 @@ module _ (S : Sig) where
                 → Both N (fill-nevers S default never d m (suc v) (never-one S default never tab v (is-some S panic o))) (never-defaults S panic default never (with-some v o (collect m (suc v) g)) z)
             go none i = i tab z b
             go (some u) i = i (fill S default never tab never (top S tab (var v))) (default-root S panic default never z never (rust-resolve S panic z (var v))) (both-fill N tab z never v (omega arith) b)
+
+        root-kept : (z : Solver S panic) (h : S .Head) (t : T S) → Kept z (default-root S panic default never z h t)
+        unfolding default-root
+        root-kept z h (var v) = (refl, refl, refl)
+        root-kept z h (node k ts) = (refl, refl, refl)
+
+        numbers-kept : (ps : List (ℕ × S .Fam)) (z : Solver S panic) → Kept z (numeric-defaults S panic default never ps z)
+        unfolding numeric-defaults
+        numbers-kept [] z = (refl, refl, refl)
+        numbers-kept (p ∷ ps) z =
+            let z′ = default-root S panic default never z (default (p .1)) (rust-resolve S panic z (var (p .0))) in
+            kept-trans z z′ (numeric-defaults S panic default never ps z′) (root-kept z (default (p .1)) (rust-resolve S panic z (var (p .0)))) (numbers-kept ps z′)
+
+        nevers-kept : (ps : List (ℕ × Unit {0})) (z : Solver S panic) → Kept z (never-defaults S panic default never ps z)
+        unfolding never-defaults
+        nevers-kept [] z = (refl, refl, refl)
+        nevers-kept (p ∷ ps) z =
+            let z′ = default-root S panic default never z never (rust-resolve S panic z (var (p .0))) in
+            kept-trans z z′ (never-defaults S panic default never ps z′) (root-kept z never (rust-resolve S panic z (var (p .0)))) (nevers-kept ps z′)
+
+        -- A run of `Session` and a solver of the Rust that have answered the same orders.
+        pub record Same (x : R S default never) (z : Solver S panic) : Type 0 where
+          pub both : Both (x .count) (x .state .table) z
+          pub placed : (s i v : ℕ) → x .state .sites s i ≡ some v → v < x .count
+          pub sites : (s i : ℕ) → look-site (z .variables) s i ≡ x .state .sites s i
+          pub holes : (s : ℕ) → look (z .holes) s ≡ x .state .holes s
+          pub diverging : (v : ℕ) → is-some S panic (look (z .diverging) v) ≡ x .state .diverging v
+          pub once : Once (z .diverging)
+          pub far : (v : ℕ) → x .count ≤ v → look (z .diverging) v ≡ none
+
+        same-begin : Same (fresh S (session-begin S default never)) (rust-begin S panic)
+        unfolding sane-begin look look-site is-some
+        same-begin = record {
+          both = record { sane = sane-begin S default never n respects; held = holds-begin };
+          placed = λ s i v p. clash (cc);
+          sites = λ s i. refl;
+          holes = λ s. refl;
+          diverging = λ v. refl;
+          once = tt;
+          far = λ v l. refl;
+        }
+
+        -- another table and another solver with the same places
+        same-table : (x : R S default never) (z z′ : Solver S panic) (tab : Table S) → Same x z → Kept z z′ → Both (x .count) tab z′ → Same (move S default never x (with-table S default never (x .state) tab)) z′
+        same-table x z z′ tab y k b = record {
+          both = b;
+          placed = y .placed;
+          sites = λ s i. ap (λ (ps : List (ℕ × ℕ × ℕ)). look-site ps s i) (k .0) ∙ y .sites s i;
+          holes = λ s. ap (λ (ps : List (ℕ × ℕ)). look ps s) (k .1) ∙ y .holes s;
+          diverging = λ v. ap (λ (ps : List (ℕ × Unit {0})). is-some S panic (look ps v)) (k .2) ∙ y .diverging v;
+          once = subst (λ (ps : List (ℕ × Unit {0})). Once ps) (sym (k .2)) (y .once);
+          far = λ v l. ap (λ (ps : List (ℕ × Unit {0})). look ps v) (k .2) ∙ y .far v l;
+        }
