@@ -6,15 +6,16 @@ use mathlib.Core.List.{List, [], _∷_}
 use Prim.Native.Nat.{ℕ, zero, suc}
 use native.Mathlib.Decide.{ℕ-discrete, decLt, decLe}
 use Rattle.unify.specs.Term.{Sort, one, many, Tree, var, node, nil, _▸_, Term, same?, width}
-use Rattle.unify.specs.Orders.{issued?}
+use Rattle.unify.specs.Orders.{issued?, fresh}
 use Rattle.unify.specs.Session.{Command, variable, number, hole, defer, pair, resolving, numbers, nevers, revision, refused, is-same}
-use Rattle.unify.specs.Session.{Reply, term, verdict, changed, count, nothing, refusal}
+use Rattle.unify.specs.Session.{Reply, term, verdict, changed, count, nothing, refusal, replies, session-begin}
 use Rattle.unify.specs.Kagari.{Head, head, kagari, fallback, neverHead, loose, exact, I32, array, tuple₂, set-of}
-use Rattle.unify.specs.Kagari.{head-discrete, list-discrete, kagari-soft, kagari-rigid, kagari-admits, kagari-meet, floating, in-family}
+use Rattle.unify.specs.Kagari.{head-discrete, list-discrete, kagari-soft, kagari-rigid, kagari-admits, kagari-meet, meet-kind, loose-respects, floating, in-family}
 use Rattle.unify.specs.Rust.{look, insert, place, sorted, look-site, or-else, substitute-once, any-member, is-variable, zip, extend, binding}
 use Rattle.unify.specs.Rust.{rust-begin, unless-same, rounds, deferred, variable-entry, hole-entry, requested, is-recovery, is-some, same-kind, admissible}
 use Rattle.unify.specs.Rust.{hand-on, bind-unless, if-admissible, if-numeric, unless-recovery, shape-test, if-shape, arms, first-arm, if-equal, pass, while-pending}
 use Rattle.unify.specs.Rust.{default-root, numeric-defaults, never-defaults, with-verdict, guard, rust-order, rust-replies}
+use Rattle.unify.specs.RustSame.{rust-same}
 
 abbrev unknown : Term Head
 unknown = node (head 2 0 []) nil
@@ -51,3 +52,8 @@ unfolding answers loose head-discrete list-discrete kagari-soft kagari-rigid kag
     hand-on bind-unless if-admissible if-numeric unless-recovery shape-test if-shape arms first-arm if-equal pass while-pending
     default-root numeric-defaults never-defaults with-verdict guard rust-order rust-replies
 examples = record { bar = refl; checks = refl; loosely = refl; strictly = refl; numbered = refl; deferring = refl }
+
+-- THE RUST'S SOLVER ON KAGARI'S TERMS ANSWERS AS THE SESSION DOES, for every list of orders.
+pub kagari-rust-same : (panic : Term Head) (cs : List (Command kagari))
+    → rust-replies kagari panic fallback neverHead loose (rust-begin kagari panic) cs ≡ replies kagari fallback neverHead loose (fresh kagari (session-begin kagari fallback neverHead)) cs
+kagari-rust-same panic cs = rust-same kagari panic loose loose-respects (λ f g e p. meet-kind f g e p .1) fallback neverHead cs

@@ -81,8 +81,8 @@ module _ (S : Sig) where
       go : (d : Dec (substitute-once (binding bs) t ≡ t)) → unless-same S panic d t none ≡ some a
       go (yes e) = ap some (sym (resolve-zero (λ v. getD bs v none) t) ∙ h 0 (omega arith))
       go (no e) = absurd (e (
-        sym (resolve-zero (λ v. getD bs v none) (substitute-once (binding bs) t)) ∙ sym (resolve-round bs 0 t) ∙ h 1 (omega arith) ∙ sym (h 0 (omega arith)) ∙ resolve-zero (λ v. getD bs v none) t
-      ))
+          sym (resolve-zero (λ v. getD bs v none) (substitute-once (binding bs) t)) ∙ sym (resolve-round bs 0 t) ∙ h 1 (omega arith) ∙ sym (h 0 (omega arith)) ∙ resolve-zero (λ v. getD bs v none) t
+          ))
   rounds-right bs panic (suc f) t a h =
       go (same? (S .head?) (substitute-once (binding bs) t) t) (rounds-right bs panic f (substitute-once (binding bs) t) a (λ g l. sym (resolve-round bs g t) ∙ h (suc g) (omega arith)))
     where
@@ -525,6 +525,10 @@ module _ (S : Sig) where
           pub once : Once (z .diverging)
           pub far : (v : ℕ) → x .count ≤ v → look (z .diverging) v ≡ none
 
+        -- what an order leaves, and what it answers
+        abbrev Answered : R S default never → Solver S panic × Reply S → Reply S → Type 0
+        Answered x p r = Same x (p .0) × (p .1 ≡ r)
+
         same-begin : Same (fresh S (session-begin S default never)) (rust-begin S panic)
         unfolding sane-begin look look-site is-some
         same-begin = record {
@@ -538,8 +542,9 @@ module _ (S : Sig) where
         }
 
         -- another table and another solver with the same places
-        same-table : (x : R S default never) (z z′ : Solver S panic) (tab : Table S) → Same x z → Kept z z′ → Both (x .count) tab z′ → Same (move S default never x (with-table S default never (x .state) tab)) z′
-        same-table x z z′ tab y k b = record {
+        same-table : (x : R S default never) (z z′ : Solver S panic) (tab : Table S) → Same x z → Kept z z′ → Both (x .count) tab z′ → (posed : List (Pair S)) (wrong cut : Bool)
+            → Same (record { state = with-table S default never (x .state) tab; count = x .count; asked = x .asked; posed = posed; wrong = wrong; cut = cut }) z′
+        same-table x z z′ tab y k b posed wrong cut = record {
           both = b;
           placed = y .placed;
           sites = λ s i. ap (λ (ps : List (ℕ × ℕ × ℕ)). look-site ps s i) (k .0) ∙ y .sites s i;
@@ -548,3 +553,259 @@ module _ (S : Sig) where
           once = subst (λ (ps : List (ℕ × Unit {0})). Once ps) (sym (k .2)) (y .once);
           far = λ v l. ap (λ (ps : List (ℕ × Unit {0})). look ps v) (k .2) ∙ y .far v l;
         }
+
+        module _ (x : R S default never) (z : Solver S panic) (y : Same x z) where
+          long : length (z .bindings) ≡ x .count
+          long = y .both .held .long
+
+          -- order 0
+          entry-same : (s i : ℕ) (o : Option ℕ) → Same (serve-variable S default never x s i o) (variable-entry S panic z s i o .0) × (variable-entry S panic z s i o .1 ≡ variable-at S default never n o (x .count))
+          unfolding serve-variable variable-entry variable-at sane-more
+          entry-same s i (some v) = (y, refl)
+          entry-same s i none = (
+            record {
+              both = record {
+                sane = sane-more S default never n respects (x .count) (x .state .table) (y .both .sane);
+                held = holds-push (x .count) (z .bindings) (z .numeric) (z .revision) (y .both .sane .means) (y .both .held) n respects;
+              };
+              placed = site-more S default never n respects (x .state .sites) (x .count) s i (y .placed);
+              sites = λ s′ i′. ap (λ (v : ℕ). look-site ((s, i, v) ∷ z .variables) s′ i′) long ∙ site-cons s i (x .count) (z .variables) (x .state .sites) (y .sites) s′ i′;
+              holes = y .holes;
+              diverging = y .diverging;
+              once = y .once;
+              far = λ v l. y .far v (omega arith);
+            },
+            ap var long,
+          )
+
+          -- order 2
+          hole-same : (s : ℕ) (o : Option ℕ) → Same (serve-hole S default never x s o) (hole-entry S panic z s o .0) × (hole-entry S panic z s o .1 ≡ answer S (x .state .table) (variable-at S default never n o (x .count)))
+          unfolding serve-hole hole-entry variable-at sane-more
+          hole-same s (some v) = (y, both-answer (x .count) (x .state .table) z (y .both) (var v))
+          hole-same s none = (
+            record {
+              both = grown;
+              placed = λ s i v p. let q = y .placed s i v p in omega arith;
+              sites = y .sites;
+              holes = λ s′. look-cons (s, length (z .bindings)) (z .holes) s′ ∙ ap₂ (λ (g : ℕ → Option ℕ) (v : ℕ). put g s (some v) s′) (fun-ext (y .holes)) long;
+              diverging = y .diverging;
+              once = y .once;
+              far = λ v l. y .far v (omega arith);
+            },
+            both-answer (suc (x .count)) (x .state .table) z′ grown (var (length (z .bindings))) ∙ ap (λ (v : ℕ). answer S (x .state .table) (var v)) long,
+          )
+            where
+              z′ : Solver S panic
+              z′ = hole-entry S panic z s none .0
+
+              grown : Both (suc (x .count)) (x .state .table) z′
+              grown = record {
+                sane = sane-more S default never n respects (x .count) (x .state .table) (y .both .sane);
+                held = holds-push (x .count) (z .bindings) (z .numeric) (z .revision) (y .both .sane .means) (y .both .held) n respects;
+              }
+
+          asks-same : (v : ℕ) (f : S .Fam) → v < x .count → Same (asking S default never x v f) (with-numeric S panic z v f)
+          unfolding sane-asks
+          asks-same v f l = record {
+            both = record {
+              sane = sane-asks S default never n respects (x .count) (x .state .table) v f l (y .both .sane);
+              held = holds-asks (x .count) (z .bindings) (z .numeric) (z .revision) (y .both .sane .means) (y .both .held) v f;
+            };
+            placed = y .placed;
+            sites = y .sites;
+            holes = y .holes;
+            diverging = y .diverging;
+            once = y .once;
+            far = y .far;
+          }
+
+          -- order 3
+          defer-same : (u : T S) → ((v : ℕ) → u ≡ var v → v < x .count) → Same (move S default never x (deferring S default never (x .state) u)) (deferred S panic z u)
+          unfolding deferring deferred is-some
+          defer-same (node h ts) b = record {
+            both = y .both;
+            placed = y .placed;
+            sites = y .sites;
+            holes = y .holes;
+            diverging = y .diverging;
+            once = y .once;
+            far = y .far;
+          }
+          defer-same (var v) b = record {
+            both = record { sane = y .both .sane; held = y .both .held };
+            placed = y .placed;
+            sites = y .sites;
+            holes = y .holes;
+            diverging = λ w. ap (λ (g : ℕ → Option (Unit {0})). is-some S panic (g w)) (look-insert (z .diverging) v tt) ∙ go w (ℕ-discrete w v);
+            once = once-insert (z .diverging) v tt (y .once);
+            far = λ w l. ap (λ (g : ℕ → Option (Unit {0})). g w) (look-insert (z .diverging) v tt) ∙ put-other (look (z .diverging)) v (some tt) w (λ e. let q = b v refl in omega arith) ∙ y .far w l;
+          }
+            where
+              go : (w : ℕ) → Dec (w ≡ v) → is-some S panic (put (look (z .diverging)) v (some tt) w) ≡ put (x .state .diverging) v true w
+              go w (yes e) = rw e (ap (is-some S panic) (put-same (look (z .diverging)) v (some tt)) ∙ sym (put-same (x .state .diverging) v true))
+              go w (no e) = ap (is-some S panic) (put-other (look (z .diverging)) v (some tt) w e) ∙ y .diverging w ∙ sym (put-other (x .state .diverging) v true w e)
+
+        -- order 1
+        number-same : (x : R S default never) (z : Solver S panic) (y : Same x z) (s : ℕ) (f : S .Fam) (o : Option ℕ) → x .state .sites s 1 ≡ o
+            → Same (serve-number S default never x s f o) (requested S panic (variable-entry S panic z s 1 o .0) f (variable-entry S panic z s 1 o .1) .0)
+            × (requested S panic (variable-entry S panic z s 1 o .0) f (variable-entry S panic z s 1 o .1) .1 ≡ answer S (serve-number S default never x s f o .state .table) (variable-at S default never n o (x .count)))
+        unfolding serve-number requested variable-entry variable-at serve-variable
+        number-same x z y s f (some v) e =
+            let y′ = asks-same x z y v f (y .placed s 1 v e) in
+            (y′, both-answer (x .count) (table-asks S (x .state .table) v f) (with-numeric S panic z v f) (y′ .both) (var v))
+        number-same x z y s f none e =
+            let x′ = serve-variable S default never x s 1 none in
+            let z′ = variable-entry S panic z s 1 none .0 in
+            let y′ = asks-same x′ z′ (entry-same x z y s 1 none .0) (x .count) f (omega arith) in
+            subst (λ (v : ℕ). Same (asking S default never x′ (x .count) f) (requested S panic z′ f (var v) .0) × (requested S panic z′ f (var v) .1 ≡ answer S (table-asks S (x .state .table) (x .count) f) (var (x .count))))
+            (sym (y .both .held .long)) (y′, both-answer (suc (x .count)) (table-asks S (x .state .table) (x .count) f) (with-numeric S panic z′ (x .count) f) (y′ .both) (var (x .count)))
+
+        -- order 4: both end as `Solver.constrain` does
+        pose-same : (x : R S default never) (z : Solver S panic) → Same x z → (k : ℕ) (l r : T S) → Issued (x .count) l → Issued (x .count) r
+            → Answered (settle S x l r (lift S default never (x .state) (table-poses S n k (x .state .table) l r)))
+            (with-verdict S panic default never n (rust-constrain S panic n k z l r)) (verdict (verdict-of S default never n (table-poses S n k (x .state .table) l r)))
+        unfolding settle lift with-verdict verdict-of
+        pose-same x z y k l r a b =
+            go (table-poses S n k (x .state .table) l r) (poses S n k s l r) (rust-constrain S panic n k z l r)
+            (settles-follows S n respects k (x .count) (x .state .table) s true true ((l, r) ∷ []) ((l, r) ∷ []) (y .both .sane .stands) (y .both .sane .counted) refl (y .both .sane .fine) (a, b, tt) (refl, refl, tt))
+            (while-goes k (x .count) z z s true ((l, r) ∷ []) (refl, refl, refl) (y .both .held) (y .both .sane .fine) (a, b, tt))
+          where
+            s : State S
+            s = y .both .sane .means
+
+            both : (tab : Table S) (z′ : Solver S panic) (s′ : State S) → Stands S tab s′ → Counted S (x .count) tab → Fine S (x .count) s′ → Held (x .count) z′ s′ → Both (x .count) tab z′
+            both tab z′ s′ p q f h = record { sane = record { means = s′; stands = p; counted = q; fine = f }; held = h }
+
+            go : (o : Out (Table S)) (p : Out (State S)) (q : Out (Solver S panic)) → Ends S n respects (x .count) o p → Meets (x .count) z q p
+                → Answered (settle S x l r (lift S default never (x .state) o)) (with-verdict S panic default never n q) (verdict (verdict-of S default never n o))
+            go (cancelled tab) (cancelled s′) (cancelled z′) e m = (same-table x z z′ tab y (m .1) (both tab z′ s′ (e .0) (e .1) (e .2) (m .0)) ((l, r) ∷ x .posed) (x .wrong) true, refl)
+            go (cancelled tab) (cancelled s′) (done z′ c) e m = absurd m
+            go (cancelled tab) (done s′ c) q e m = absurd e
+            go (done tab c) (cancelled s′) q e m = absurd e
+            go (done tab c) (done s′ c′) (cancelled z′) e m = absurd m
+            go (done tab true) (done s′ c′) (done z′ true) e m = (same-table x z z′ tab y (m .1) (both tab z′ s′ (e .0) (e .1) (e .2) (m .0)) ((l, r) ∷ x .posed) (x .wrong || not true) (x .cut), refl)
+            go (done tab true) (done s′ c′) (done z′ false) e m = clash (cc (e .3, m .2))
+            go (done tab false) (done s′ c′) (done z′ true) e m = clash (cc (e .3, m .2))
+            go (done tab false) (done s′ c′) (done z′ false) e m = (same-table x z z′ tab y (m .1) (both tab z′ s′ (e .0) (e .1) (e .2) (m .0)) ((l, r) ∷ x .posed) (x .wrong || not false) (x .cut), refl)
+
+        -- the answer of both defaults
+        change-same : (x : R S default never) (z z′ : Solver S panic) (tab : Table S) → Same x z → Both (x .count) tab z′
+            → _≡_ {A = Reply S} (changed (not (is-same (z′ .revision) (z .revision)))) (changed (not (is-same (tab .rev) (x .state .table .rev))))
+        change-same x z z′ tab y b = ap₂ (λ (a c : ℕ). changed (not (is-same a c))) (both-rev (x .count) tab z′ b) (both-rev (x .count) (x .state .table) z (y .both))
+
+        -- ONE ORDER: the same answer, and the two agree after it.
+        order-same : (x : R S default never) (z : Solver S panic) → Same x z → (c : Command S)
+            → Answered (obey S default never n x c) (rust-order S panic default never n z c) (reply S default never n x c)
+        unfolding obey rust-order reply serve-defer serve-pair guard if-issued
+        order-same x z y (variable s i) =
+            let e = entry-same x z y s i (x .state .sites s i) in
+            subst (λ (o : Option ℕ). Answered (serve-variable S default never x s i (x .state .sites s i)) (with-term S panic default never n (variable-entry S panic z s i o))
+            (term (variable-at S default never n (x .state .sites s i) (x .count))))
+            (sym (y .sites s i)) (e .0, ap term (e .1))
+        order-same x z y (number s f) =
+            let e = number-same x z y s f (x .state .sites s 1) refl in
+            subst (λ (o : Option ℕ). Answered (serve-number S default never x s f (x .state .sites s 1))
+            (with-term S panic default never n (requested S panic (variable-entry S panic z s 1 o .0) f (variable-entry S panic z s 1 o .1)))
+            (term (answer S (serve-number S default never x s f (x .state .sites s 1) .state .table) (variable-at S default never n (x .state .sites s 1) (x .count)))))
+            (sym (y .sites s 1)) (e .0, ap term (e .1))
+        order-same x z y (hole s) =
+            let e = hole-same x z y s (x .state .holes s) in
+            subst (λ (o : Option ℕ). Answered (serve-hole S default never x s (x .state .holes s)) (with-term S panic default never n (hole-entry S panic z s o))
+            (term (answer S (x .state .table) (variable-at S default never n (x .state .holes s) (x .count)))))
+            (sym (y .holes s)) (e .0, ap term (e .1))
+        order-same x z y (defer t) = go (issued? (length (z .bindings)) t) (issued? (x .count) t)
+          where
+            b : Both (x .count) (x .state .table) z
+            b = y .both
+
+            small : Issued (x .count) t → (v : ℕ) → answer S (x .state .table) t ≡ var v → v < x .count
+            small a v p =
+                let e : var v ≡ sub (b .sane .means .res) t = sym p ∙ resolve-right (x .state .table .bound) (x .state .table .rev) (b .sane .means .res) (b .sane .stands .rep) t in
+                within (x .count) (b .sane .means) (b .sane .fine) t a v (subst (λ (u : T S). In v u) e refl)
+
+            go : (d : Dec (Issued (length (z .bindings)) t)) (e : Dec (Issued (x .count) t))
+                → Answered (serve-defer S default never x t e) (guard S panic default never n d z (defer-never S panic z t, nothing)) (if-issued S default never n e nothing)
+            go (yes d) (yes e) = (
+              subst (λ (u : T S). Same (move S default never x (deferring S default never (x .state) (answer S (x .state .table) t))) (deferred S panic z u)) (sym (both-answer (x .count) (x .state .table) z b t))
+                  (defer-same x z y (answer S (x .state .table) t) (small e)),
+              refl,
+            )
+            go (yes d) (no e) = absurd (e (rw (b .held .long) at d))
+            go (no d) (yes e) = absurd (d (rw (b .held .long) e))
+            go (no d) (no e) = (y, refl)
+        order-same x z y (pair k l r) = go (issued? (length (z .bindings)) l) (issued? (x .count) l) (issued? (length (z .bindings)) r) (issued? (x .count) r)
+          where
+            long : length (z .bindings) ≡ x .count
+            long = y .both .held .long
+
+            posed : Solver S panic × Reply S
+            posed = with-verdict S panic default never n (rust-constrain S panic n k z l r)
+
+            said : Reply S
+            said = verdict (verdict-of S default never n (table-poses S n k (x .state .table) l r))
+
+            go : (d : Dec (Issued (length (z .bindings)) l)) (d′ : Dec (Issued (x .count) l)) (e : Dec (Issued (length (z .bindings)) r)) (e′ : Dec (Issued (x .count) r))
+                → Answered (serve-pair S default never n x k l r d′ e′) (guard S panic default never n d z (guard S panic default never n e z posed)) (if-issued S default never n d′ (if-issued S default never n e′ said))
+            go (yes d) (no d′) e e′ = absurd (d′ (rw long at d))
+            go (no d) (yes d′) e e′ = absurd (d (rw long d′))
+            go (no d) (no d′) e e′ = (y, refl)
+            go (yes d) (yes d′) (yes e) (no e′) = absurd (e′ (rw long at e))
+            go (yes d) (yes d′) (no e) (yes e′) = absurd (e (rw long e′))
+            go (yes d) (yes d′) (no e) (no e′) = (y, refl)
+            go (yes d) (yes d′) (yes e) (yes e′) = pose-same x z y k l r d′ e′
+        order-same x z y (resolving t) = go (issued? (length (z .bindings)) t) (issued? (x .count) t)
+          where
+            long : length (z .bindings) ≡ x .count
+            long = y .both .held .long
+
+            go : (d : Dec (Issued (length (z .bindings)) t)) (e : Dec (Issued (x .count) t))
+                → Answered x (guard S panic default never n d z (z, term (rust-resolve S panic z t))) (if-issued S default never n e (term (answer S (x .state .table) t)))
+            go (yes d) (yes e) = (y, ap term (both-answer (x .count) (x .state .table) z (y .both) t))
+            go (yes d) (no e) = absurd (e (rw long at d))
+            go (no d) (yes e) = absurd (d (rw long e))
+            go (no d) (no e) = (y, refl)
+        order-same x z y numbers =
+            let b = y .both in
+            let tab = fill-numbers S default never (x .count) 0 (x .state .table) in
+            let z′ = numeric-defaults S panic default never (collect (x .count) 0 (look (z .numeric))) z in
+            let e : sorted (z .numeric) ≡ collect (x .count) 0 (look (z .numeric)) =
+            sorted-collect (x .count) (z .numeric) (b .held .once) (λ v l. ap (λ (g : ℕ → Option (S .Fam)). g v) (b .held .stands .fams) ∙ b .sane .fine .fresh v l .1) in
+            let c : Both (x .count) tab z′ = both-numbers (look (z .numeric)) (x .count) (x .count) 0 (x .state .table) z (omega arith) (b .sane .stands .fams ∙ sym (b .held .stands .fams)) b in
+            subst (λ (ps : List (ℕ × S .Fam)). Answered (move S default never x (with-table S default never (x .state) tab))
+            (with-change S panic default never n z (numeric-defaults S panic default never ps z)) (changed (not (is-same (tab .rev) (x .state .table .rev)))))
+            (sym e) (same-table x z z′ tab y (numbers-kept (collect (x .count) 0 (look (z .numeric))) z) c (x .posed) (x .wrong) (x .cut), change-same x z z′ tab y c)
+        order-same x z y nevers =
+            let b = y .both in
+            let tab = fill-nevers S default never (x .state .diverging) (x .count) 0 (x .state .table) in
+            let z′ = never-defaults S panic default never (collect (x .count) 0 (look (z .diverging))) z in
+            let e : sorted (z .diverging) ≡ collect (x .count) 0 (look (z .diverging)) = sorted-collect (x .count) (z .diverging) (y .once) (y .far) in
+            let c : Both (x .count) tab z′ = both-nevers (x .state .diverging) (look (z .diverging)) (x .count) (x .count) 0 (x .state .table) z (omega arith) (y .diverging) b in
+            subst (λ (ps : List (ℕ × Unit {0})). Answered (move S default never x (with-table S default never (x .state) tab))
+            (with-change S panic default never n z (never-defaults S panic default never ps z)) (changed (not (is-same (tab .rev) (x .state .table .rev)))))
+            (sym e) (same-table x z z′ tab y (nevers-kept (collect (x .count) 0 (look (z .diverging))) z) c (x .posed) (x .wrong) (x .cut), change-same x z z′ tab y c)
+        order-same x z y revision = (y, ap count (both-rev (x .count) (x .state .table) z (y .both)))
+        order-same x z y refused = (y, refl)
+
+        all-same : (x : R S default never) (z : Solver S panic) → Same x z → (cs : List (Command S))
+            → Same (obey-all S default never n x cs) (rust-orders S panic default never n z cs) × (rust-replies S panic default never n z cs ≡ replies S default never n x cs)
+        unfolding obey-all rust-orders rust-replies replies
+        all-same x z y [] = (y, refl)
+        all-same x z y (c ∷ cs) =
+            let a = order-same x z y c in
+            let b = all-same (obey S default never n x c) (rust-order S panic default never n z c .0) (a .0) cs in
+            (b .0, ap₂ _∷_ (a .1) (b .1))
+
+        -- THE RUST'S SOLVER ANSWERS AS THE SESSION DOES, for every list of orders; whatever value an `unreachable!` is given.
+        pub rust-same : (cs : List (Command S)) → rust-replies S panic default never n (rust-begin S panic) cs ≡ replies S default never n (fresh S (session-begin S default never)) cs
+        rust-same cs = all-same (fresh S (session-begin S default never)) (rust-begin S panic) same-begin cs .1
+
+        -- Where a list of orders leads, the loop of `resolve` returns before it has made its rounds: its `unreachable!` is not reached.
+        pub never-unreachable : (cs : List (Command S)) (t : T S)
+            → rounds S panic (rust-orders S panic default never n (rust-begin S panic) cs .bindings) (suc (length (rust-orders S panic default never n (rust-begin S panic) cs .bindings))) t
+            ≡ some (answer S (sheet S default never n cs .state .table) t)
+        never-unreachable cs t =
+            let z = rust-orders S panic default never n (rust-begin S panic) cs in
+            let tab = sheet S default never n cs .state .table in
+            let b = all-same (fresh S (session-begin S default never)) (rust-begin S panic) same-begin cs .0 .both in
+            holds-rounds (sheet S default never n cs .count) (z .bindings) (z .numeric) (z .revision) (b .sane .means) (b .held) panic t
+            ∙ ap some (sym (resolve-right (tab .bound) (tab .rev) (b .sane .means .res) (b .sane .stands .rep) t))
