@@ -14,7 +14,7 @@ use mathlib.Core.Logic.{ite}
 use mathlib.Core.Bool.{Bool, true, false, not, _&&_, _||_}
 use mathlib.Core.Option.{Option, none, some}
 use mathlib.Core.List.{List, [], _∷_, _++_}
-use lib.ListN.{length, getD, set}
+use lib.ListN.{length, getD}
 use Prim.Native.Nat.{ℕ, zero, suc}
 use native.Mathlib.Decide.{ℕ-discrete, decLe}
 use Rattle.unify.specs.Term.{Sort, one, many, Tree, var, node, nil, _▸_, Term, Forest, width, same?}
@@ -80,12 +80,18 @@ module _ {H : Type 0} where
   extend pending [] = pending
   extend pending (p ∷ ps) = extend (p ∷ pending) ps
 
-  -- the function that `resolve` hands to substitute_once
-  unfoldable pub binding : List (Option (Term H)) → Term H → Option (Term H)
-  binding bs (var v) = getD bs v none
-  binding bs (node h ts) = none
+  -- the function that `resolve` hands to substitute_once: self.bindings[id] of an Inference; `panic` where there is no such place
+  unfoldable pub binding : Term H → List (Option (Term H)) → Term H → Option (Term H)
+  binding panic bs (var v) = getD bs v (some panic)
+  binding panic bs (node h ts) = none
 
--- `panic` is the value that an `unreachable!` is given here.
+  -- self.bindings[id] = Some(ty)
+  unfoldable pub store : Term H → List (Option (Term H)) → ℕ → Term H → List (Option (Term H))
+  store panic [] v t = some panic ∷ []
+  store panic (b ∷ bs) zero t = some t ∷ bs
+  store panic (b ∷ bs) (suc v) t = b ∷ store panic bs v t
+
+-- `panic` stands where the Rust would panic: at an `unreachable!`, and at an index out of range.
 module _ (S : Sig) (panic : T S) where
   pub record Solver : Type 0 where
     -- (site, slot, id)
@@ -116,7 +122,7 @@ module _ (S : Sig) (panic : T S) where
   with-binding z v t = record {
     variables = z .variables;
     holes = z .holes;
-    bindings = set (z .bindings) v (some t);
+    bindings = store panic (z .bindings) v t;
     numeric = z .numeric;
     diverging = z .diverging;
     revision = suc (z .revision);
@@ -129,7 +135,7 @@ module _ (S : Sig) (panic : T S) where
 
   unfoldable pub rounds : List (Option (T S)) → ℕ → T S → Option (T S)
   rounds bs zero t = none
-  rounds bs (suc f) t = unless-same (same? (S .head?) (substitute-once (binding bs) t) t) t (rounds bs f (substitute-once (binding bs) t))
+  rounds bs (suc f) t = unless-same (same? (S .head?) (substitute-once (binding panic bs) t) t) t (rounds bs f (substitute-once (binding panic bs) t))
 
   -- Solver::resolve
   abbrev pub rust-resolve : Solver → T S → T S

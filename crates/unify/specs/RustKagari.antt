@@ -11,7 +11,7 @@ use Rattle.unify.specs.Session.{Command, variable, number, hole, defer, 
 use Rattle.unify.specs.Session.{Reply, term, verdict, changed, count, nothing, refusal, replies, session-begin}
 use Rattle.unify.specs.Kagari.{Head, head, kagari, fallback, neverHead, loose, exact, I32, array, tuple₂, set-of}
 use Rattle.unify.specs.Kagari.{head-discrete, list-discrete, kagari-soft, kagari-rigid, kagari-admits, kagari-meet, meet-kind, loose-respects, floating, in-family}
-use Rattle.unify.specs.Rust.{look, insert, place, sorted, look-site, or-else, substitute-once, any-member, is-variable, zip, extend, binding}
+use Rattle.unify.specs.Rust.{look, insert, place, sorted, look-site, or-else, substitute-once, any-member, is-variable, zip, extend, binding, store}
 use Rattle.unify.specs.Rust.{rust-begin, unless-same, rounds, deferred, variable-entry, hole-entry, requested, is-recovery, is-some, same-kind, admissible}
 use Rattle.unify.specs.Rust.{hand-on, bind-unless, if-admissible, if-numeric, unless-recovery, shape-test, if-shape, arms, first-arm, if-equal, pass, while-pending}
 use Rattle.unify.specs.Rust.{default-root, numeric-defaults, never-defaults, with-verdict, guard, rust-order, rust-replies}
@@ -47,7 +47,7 @@ record Examples : Type 0 where
 examples : Examples
 unfolding answers loose head-discrete list-discrete kagari-soft kagari-rigid kagari-admits kagari-meet floating in-family ℕ-discrete decLt decLe
     same? width issued? is-same
-    look insert place sorted look-site or-else substitute-once any-member is-variable zip extend binding
+    look insert place sorted look-site or-else substitute-once any-member is-variable zip extend binding store
     unless-same rounds deferred variable-entry hole-entry requested is-recovery is-some same-kind admissible
     hand-on bind-unless if-admissible if-numeric unless-recovery shape-test if-shape arms first-arm if-equal pass while-pending
     default-root numeric-defaults never-defaults with-verdict guard rust-order rust-replies

@@ -9,9 +9,9 @@ use lib.Seq.{getD-set-same, getD-set-other}
 use Prim.Native.Nat.{ℕ, zero, suc, _+_, _≤_, _<_}
 use native.Mathlib.Decide.{ℕ-discrete, decLe, decLt}
 use native.Mathlib.Omega.{arith}
-use Rattle.unify.specs.Term.{clash}
+use Rattle.unify.specs.Term.{Term, clash}
 use Rattle.unify.specs.Solver.{put, put-same, put-other}
-use Rattle.unify.specs.Rust.{look, insert, place, sorted, look-site}
+use Rattle.unify.specs.Rust.{look, insert, place, sorted, look-site, store}
 
 module _ {A : Type 0} where
   -- a vector of options, read as a function
@@ -30,6 +30,12 @@ module _ {A : Type 0} where
       go : Dec (w ≡ v) → getD (set bs v o) w none ≡ put (λ u. getD bs u none) v o w
       go (yes e) = rw e (getD-set-same bs v o none l ∙ sym (put-same (λ u. getD bs u none) v o))
       go (no e) = getD-set-other bs v w o none e ∙ sym (put-other (λ u. getD bs u none) v o w e)
+
+  -- in range the default does not count
+  pub nth-inside : (bs : List (Option A)) (v : ℕ) (d e : Option A) → v < length bs → getD bs v d ≡ getD bs v e
+  nth-inside [] v d e l = absurd (omega arith)
+  nth-inside (b ∷ bs) zero d e l = refl
+  nth-inside (b ∷ bs) (suc v) d e l = nth-inside bs v d e (omega arith)
 
   -- a map, read as a function
   pub look-cons : (p : ℕ × A) (ps : List (ℕ × A)) (v : ℕ) → look (p ∷ ps) v ≡ put (look ps) (p .0) (some (p .1)) v
@@ -167,6 +173,12 @@ module _ {A : Type 0} where
           ap (place p) (h (λ v l. sym (put-other (look ps) (p .0) (some (p .1)) v (λ q. omega arith)) ∙ sym (look-cons p ps v) ∙ far v l))
           ∙ place-collect N 0 (look ps) p (omega arith) (omega arith) (o .0)
           ∙ collect-ext N 0 (put (look ps) (p .0) (some (p .1))) (look (p ∷ ps)) (λ w l. sym (look-cons p ps w))
+
+pub store-set : {H : Type 0} (panic : Term H) (bs : List (Option (Term H))) (v : ℕ) (t : Term H) → v < length bs → set bs v (some t) ≡ store panic bs v t
+unfolding store
+store-set panic [] v t l = absurd (omega arith)
+store-set panic (b ∷ bs) zero t l = refl
+store-set panic (b ∷ bs) (suc v) t l = ap (λ (r : List (Option (Term _))). b ∷ r) (store-set panic bs v t (omega arith))
 
 -- the map with keys (site, slot): one entry more
 pub site-cons : (s i v : ℕ) (ps : List (ℕ × ℕ × ℕ)) (sites : ℕ → ℕ → Option ℕ) → ((s i : ℕ) → look-site ps s i ≡ sites s i)

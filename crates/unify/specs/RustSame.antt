@@ -1,4 +1,6 @@
--- THE RUST'S `Solver` ANSWERS AS `Session` DOES, for every list of orders; and the end of its `resolve` is never reached.
+-- THE RUST'S `Solver` ANSWERS AS `Session` DOES, for every list of orders (`rust-same`); and the loop of its `resolve` always returns
+-- (`never-unreachable`). The premises are about the signature alone: a family sees no more of a head than `n` leaves, and a number variable
+-- that is bound to another hands on its own fallback.
 -- Both stand for one session over substitutions (`Solver`): the table with bindings as posed by `Refine`, the Rust's with bindings resolved
 -- by what is here. The Rust's pending pairs are those of `Solver.constrain`, term by term.
 use mathlib.Core.Path.{_≡_, refl, ap, ap₂, sym, _∙_, subst, fun-ext}
@@ -8,44 +10,48 @@ use mathlib.Core.Option.{Option, none, some}
 use mathlib.Core.List.{List, [], _∷_, _++_}
 use lib.ListN.{length, getD, set, length-set}
 use Prim.Native.Nat.{ℕ, zero, suc, _+_, _≤_, _<_}
-use native.Mathlib.Decide.{ℕ-discrete}
+use native.Mathlib.Decide.{ℕ-discrete, decLt}
 use native.Mathlib.Omega.{arith}
-use Rattle.unify.specs.Term.{Sort, one, many, Tree, var, node, nil, _▸_, Term, Forest, width, sub, In, in?, same?, clash, sub-ext, sub-sub, sub-fix, in-sub}
+use Rattle.unify.specs.Term.{Sort, one, many, Tree, var, node, nil, _▸_, Term, Forest, width, sub, In, in?, same?, clash, sub-ext, sub-sub, sub-fix, in-sub, sub-in}
 use Rattle.unify.specs.Solver.{Sig, T, Pair, State, bind, Step, Out, cancelled, done, put, put-same, put-other}
 use Rattle.unify.specs.Solver.{joined, join, allow, admit, any-soft, assign₁, assign₀, assign, zipOn, split₁, split, unequal, compare, step, constrain, poses, asks, begin}
 use Rattle.unify.specs.Meaning.{Fine, Below}
 use Rattle.unify.specs.Lazy.{Rep, expand, resolve, resolve-enough, resolve-right, resolve-zero, resolve-none, rep-fresh, rep-bind}
-use Rattle.unify.specs.Sound.{Right, step-right}
+use Rattle.unify.specs.Sound.{Right, step-right, put-cases}
 use Rattle.unify.specs.Orders.{Issued, issued?, Run, fresh, settle}
 use Rattle.unify.specs.Table.{Table, answer, top, tally, taken, taken-put, table-poses, table-asks, table-begin}
 use Rattle.unify.specs.Refine.{Stands, Counted, Ends, tops, topped, reach, idem-sub, settles-follows, counted-more}
-use Rattle.unify.specs.Rust.{look, insert, place, sorted, look-site, or-else, substitute-once, any-member, is-variable, zip, extend, binding}
+use Rattle.unify.specs.Rust.{look, insert, place, sorted, look-site, or-else, substitute-once, any-member, is-variable, zip, extend, binding, store}
 use Rattle.unify.specs.Rust.{Solver, rust-begin, with-numeric, with-binding, unless-same, rounds, rust-resolve, deferred, variable-entry, hole-entry, requested}
 use Rattle.unify.specs.Rust.{Pass, continue, is-recovery, is-some, same-kind, admissible, hand-on, bind-unless, occurs-then, if-admissible, if-numeric, unless-recovery, inference}
 use Rattle.unify.specs.Rust.{shape-test, same-shape, if-shape, arms, first-arm, if-equal, pass, while-pending, rust-constrain}
 use Rattle.unify.specs.Rust.{defer-never, rust-variable, annotation-hole, numeric-variable, default-root, numeric-defaults, apply-numeric-defaults, never-defaults, apply-never-defaults}
 use Rattle.unify.specs.Rust.{with-term, with-verdict, with-change, guard, rust-order, rust-orders, rust-replies}
-use Rattle.unify.specs.RustLists.{nth-push, length-push, nth-set, look-cons, look-nil, look-insert, Once, once-insert, with-some, collect, sorted-collect, site-cons}
+use Rattle.unify.specs.RustLists.{nth-push, length-push, nth-set, nth-inside, store-set, look-cons, look-nil, look-insert, Once, once-insert, with-some, collect, sorted-collect, site-cons}
 use Rattle.unify.specs.Session.{Command, variable, number, hole, defer, pair, resolving, numbers, nevers, revision, refused, Session, session-begin, with-table, with-site, with-hole, with-diverging}
 use Rattle.unify.specs.Session.{is-same, fill, number-one, never-one, fill-numbers, fill-nevers, deferring, R, move, grow, serve-variable, serve-hole, asking, serve-number, serve-defer, lift, serve-pair, obey, obey-all, sheet}
 use Rattle.unify.specs.Session.{Reply, term, verdict, changed, count, nothing, refusal, reply, replies, if-issued, verdict-of, variable-at}
 use Rattle.unify.specs.Whole.{Sane, sane-begin, sane-more, sane-asks, sane-bind, site-more}
 
 -- one round of `resolve`, and the walks that only look
-module _ {H : Type 0} (bs : List (Option (Term H))) where
+module _ {H : Type 0} (panic : Term H) (bs : List (Option (Term H))) where
   abbrev bound-by : ℕ → Option (Term H)
   bound-by v = getD bs v none
 
-  round-sub : {k : Sort} (t : Tree H k) → substitute-once (binding bs) t ≡ sub (λ v. expand v (bound-by v) (λ u. u)) t
+  -- no index out of range
+  abbrev Inside : {k : Sort} → Tree H k → Type 0
+  Inside t = (v : ℕ) → In v t → v < length bs
+
+  round-sub : {k : Sort} (t : Tree H k) → Inside t → substitute-once (binding panic bs) t ≡ sub (λ v. expand v (bound-by v) (λ u. u)) t
   unfolding substitute-once binding sub or-else expand
-  round-sub (var v) = go (bound-by v)
+  round-sub (var v) l = ap (λ (o : Option (Term H)). or-else o (var v)) (nth-inside bs v (some panic) none (l v refl)) ∙ go (bound-by v)
     where
       go : (o : Option (Term H)) → or-else o (var v) ≡ expand v o (λ u. u)
       go none = refl
       go (some u) = refl
-  round-sub (node h ts) = ap (node h) (round-sub ts)
-  round-sub nil = refl
-  round-sub (t ▸ ts) = ap₂ _▸_ (round-sub t) (round-sub ts)
+  round-sub (node h ts) l = ap (node h) (round-sub ts l)
+  round-sub nil l = refl
+  round-sub (t ▸ ts) l = ap₂ _▸_ (round-sub t (λ v i. l v (inl i))) (round-sub ts (λ v i. l v (inr i)))
 
   resolve-is-sub : (f : ℕ) {k : Sort} (t : Tree H k) → resolve f bound-by t ≡ sub (λ v. resolve f bound-by (var v)) t
   unfolding resolve sub
@@ -53,9 +59,9 @@ module _ {H : Type 0} (bs : List (Option (Term H))) where
   resolve-is-sub (suc f) t = refl
 
   -- a round first, or a level of expansion last: the same
-  resolve-round : (f : ℕ) {k : Sort} (t : Tree H k) → resolve (suc f) bound-by t ≡ resolve f bound-by (substitute-once (binding bs) t)
+  resolve-round : (f : ℕ) {k : Sort} (t : Tree H k) → Inside t → resolve (suc f) bound-by t ≡ resolve f bound-by (substitute-once (binding panic bs) t)
   unfolding resolve expand sub
-  resolve-round f t = sub-ext t (λ v i. go v (bound-by v) refl) ∙ sym (sub-sub θ σ t) ∙ sym (resolve-is-sub f (sub σ t)) ∙ ap (resolve f bound-by) (sym (round-sub t))
+  resolve-round f t l = sub-ext t (λ v i. go v (bound-by v) refl) ∙ sym (sub-sub θ σ t) ∙ sym (resolve-is-sub f (sub σ t)) ∙ ap (resolve f bound-by) (sym (round-sub t l))
     where
       σ : ℕ → Term H
       σ v = expand v (bound-by v) (λ u. u)
@@ -68,28 +74,41 @@ module _ {H : Type 0} (bs : List (Option (Term H))) where
       go v (some u) e = resolve-is-sub f u
 
   -- where a round changes nothing, none does
-  resolve-still : (f : ℕ) (t : Term H) → substitute-once (binding bs) t ≡ t → resolve f bound-by t ≡ t
-  resolve-still zero t e = resolve-zero bound-by t
-  resolve-still (suc f) t e = resolve-round f t ∙ ap (resolve f bound-by) e ∙ resolve-still f t e
+  resolve-still : (f : ℕ) (t : Term H) → Inside t → substitute-once (binding panic bs) t ≡ t → resolve f bound-by t ≡ t
+  resolve-still zero t l e = resolve-zero bound-by t
+  resolve-still (suc f) t l e = resolve-round f t l ∙ ap (resolve f bound-by) e ∙ resolve-still f t l e
+
+  round-inside : ((v : ℕ) (u : Term H) → bound-by v ≡ some u → Inside u) → (t : Term H) → Inside t → Inside (substitute-once (binding panic bs) t)
+  unfolding expand
+  round-inside all t l w i =
+      let r = in-sub w (λ v. expand v (bound-by v) (λ u. u)) t (subst (λ (u : Term H). In w u) (round-sub t l) i) in
+      go (r .0) (l (r .0) (r .1)) (bound-by (r .0)) refl (r .2)
+    where
+      go : (v : ℕ) → v < length bs → (o : Option (Term H)) → bound-by v ≡ o → In w (expand v o (λ u. u)) → w < length bs
+      go v m none e j = omega arith
+      go v m (some u) e j = all v u e w j
 
 module _ (S : Sig) where
   -- the loop ends in time if a fuel of one round less is enough
-  rounds-right : (bs : List (Option (T S))) (panic : T S) (f : ℕ) (t a : T S) → ((g : ℕ) → f ≤ g → resolve g (λ v. getD bs v none) t ≡ a) → rounds S panic bs (suc f) t ≡ some a
-  unfolding rounds unless-same
-  rounds-right bs panic zero t a h = go (same? (S .head?) (substitute-once (binding bs) t) t)
-    where
-      go : (d : Dec (substitute-once (binding bs) t ≡ t)) → unless-same S panic d t none ≡ some a
-      go (yes e) = ap some (sym (resolve-zero (λ v. getD bs v none) t) ∙ h 0 (omega arith))
-      go (no e) = absurd (e (
-          sym (resolve-zero (λ v. getD bs v none) (substitute-once (binding bs) t)) ∙ sym (resolve-round bs 0 t) ∙ h 1 (omega arith) ∙ sym (h 0 (omega arith)) ∙ resolve-zero (λ v. getD bs v none) t
-          ))
-  rounds-right bs panic (suc f) t a h =
-      go (same? (S .head?) (substitute-once (binding bs) t) t) (rounds-right bs panic f (substitute-once (binding bs) t) a (λ g l. sym (resolve-round bs g t) ∙ h (suc g) (omega arith)))
-    where
-      go : (d : Dec (substitute-once (binding bs) t ≡ t)) → rounds S panic bs (suc f) (substitute-once (binding bs) t) ≡ some a
-          → unless-same S panic d t (rounds S panic bs (suc f) (substitute-once (binding bs) t)) ≡ some a
-      go (yes e) i = ap some (sym (resolve-still bs (suc f) t e) ∙ h (suc f) (omega arith))
-      go (no e) i = i
+  module _ (panic : T S) (bs : List (Option (T S))) (all : (v : ℕ) (u : T S) → getD bs v none ≡ some u → (w : ℕ) → In w u → w < length bs) where
+    abbrev next : T S → T S
+    next t = substitute-once (binding panic bs) t
+
+    rounds-right : (f : ℕ) (t a : T S) → ((v : ℕ) → In v t → v < length bs) → ((g : ℕ) → f ≤ g → resolve g (λ v. getD bs v none) t ≡ a) → rounds S panic bs (suc f) t ≡ some a
+    unfolding rounds unless-same
+    rounds-right zero t a l h = go (same? (S .head?) (next t) t)
+      where
+        go : (d : Dec (next t ≡ t)) → unless-same S panic d t none ≡ some a
+        go (yes e) = ap some (sym (resolve-zero (λ v. getD bs v none) t) ∙ h 0 (omega arith))
+        go (no e) = absurd (e (
+            sym (resolve-zero (λ v. getD bs v none) (next t)) ∙ sym (resolve-round panic bs 0 t l) ∙ h 1 (omega arith) ∙ sym (h 0 (omega arith)) ∙ resolve-zero (λ v. getD bs v none) t
+            ))
+    rounds-right (suc f) t a l h =
+        go (same? (S .head?) (next t) t) (rounds-right f (next t) a (round-inside panic bs all t l) (λ g m. sym (resolve-round panic bs g t l) ∙ h (suc g) (omega arith)))
+      where
+        go : (d : Dec (next t ≡ t)) → rounds S panic bs (suc f) (next t) ≡ some a → unless-same S panic d t (rounds S panic bs (suc f) (next t)) ≡ some a
+        go (yes e) i = ap some (sym (resolve-still panic bs (suc f) t l e) ∙ h (suc f) (omega arith))
+        go (no e) i = i
 
   -- the walks that only look are the tests of `Solver`
   recovery-same : (panic : T S) {k : Sort} (t : Tree (S .Head) k) → any-member (is-recovery S panic) t ≡ any-soft S t
@@ -165,13 +184,27 @@ module _ (S : Sig) where
   }
 
   module _ (N : ℕ) (bs : List (Option (T S))) (ns : List (ℕ × S .Fam)) (rev : ℕ) (s : State S) (h : Holds N bs ns rev s) where
+    -- a binding names issued variables
+    holds-inside : Fine S N s → (v : ℕ) (u : T S) → reading bs v ≡ some u → (w : ℕ) → In w u → w < length bs
+    holds-inside f v u p w i = let l = h .long in let m = go (reading bs w) refl in omega arith
+      where
+        bound-below : (x : ℕ) (y : T S) → reading bs x ≡ some y → Dec (x < N) → x < N
+        bound-below x y e (yes d) = d
+        bound-below x y e (no d) = clash (cc (h .counted .far x (omega arith), e))
+
+        go : (o : Option (T S)) → reading bs w ≡ o → w < N
+        go none e =
+            let a : In w (s .res w) = subst (λ (y : T S). In w y) (sym (h .stands .rep .unbound w e)) refl in
+            f .within v w (bound-below v u p (decLt v N)) (subst (λ (y : T S). In w y) (sym (h .stands .rep .bound v u p)) (sub-in w (s .res) u w i a))
+        go (some y) e = bound-below w y e (decLt w N)
+
     -- RESOLVING ENDS IN TIME, with what the session says
-    pub holds-rounds : (panic t : T S) → rounds S panic bs (suc (length bs)) t ≡ some (sub (s .res) t)
-    holds-rounds panic t =
+    pub holds-rounds : Fine S N s → (panic t : T S) → Issued N t → rounds S panic bs (suc (length bs)) t ≡ some (sub (s .res) t)
+    holds-rounds f panic t is =
         let a = taken-le N (reading bs) in
         let b = h .counted .number in
         let c = h .long in
-        rounds-right bs panic (length bs) t (sub (s .res) t) (λ g l. resolve-enough (reading bs) rev (s .res) (h .stands .rep) g (omega arith) t)
+        rounds-right panic bs (holds-inside f) (length bs) t (sub (s .res) t) (λ v i. let l = is v i in omega arith) (λ g l. resolve-enough (reading bs) rev (s .res) (h .stands .rep) g (omega arith) t)
 
     holds-push : (n : S .Head → S .Head) (respects : (f : S .Fam) (h k : S .Head) → n h ≡ n k → S .admits f h ≡ S .admits f k) → Holds (suc N) (bs ++ (none ∷ [])) ns rev s
     holds-push n respects =
@@ -211,8 +244,8 @@ module _ (S : Sig) where
         go (node k ts) p q = clash (cc)
 
     -- one binding more, to a resolved term
-    holds-bind : (v : ℕ) (t : T S) → v < N → getD bs v none ≡ none → sub (s .res) t ≡ t → ¬ In v t → Holds N (set bs v (some t)) ns (suc rev) (bind S s v t (s .fam))
-    holds-bind v t l e r i =
+    holds-set : (v : ℕ) (t : T S) → v < N → getD bs v none ≡ none → sub (s .res) t ≡ t → ¬ In v t → Holds N (set bs v (some t)) ns (suc rev) (bind S s v t (s .fam))
+    holds-set v t l e r i =
         let lm = h .long in
         let p : put (reading bs) v (some t) ≡ reading (set bs v (some t)) = fun-ext (λ w. sym (nth-set bs v (some t) (omega arith) w)) in
         record {
@@ -230,6 +263,14 @@ module _ (S : Sig) where
           once = h .once;
         }
 
+    holds-bind : (panic : T S) (v : ℕ) (t : T S) → v < N → getD bs v none ≡ none → sub (s .res) t ≡ t → ¬ In v t → Holds N (store panic bs v t) ns (suc rev) (bind S s v t (s .fam))
+    holds-bind panic v t l e r i =
+        let lm = h .long in
+        subst (λ (b : List (Option (T S))). Holds N b ns (suc rev) (bind S s v t (s .fam))) (store-set panic bs v t (omega arith)) (holds-set v t l e r i)
+
+  within : (N : ℕ) (s : State S) → Fine S N s → (t : T S) → ((v : ℕ) → In v t → v < N) → (v : ℕ) → In v (sub (s .res) t) → v < N
+  within N s f t b v i = let r = in-sub v (s .res) t i in f .within (r .0) v (b (r .0) (r .1)) (r .2)
+
   and-true : (a : Bool) → a ≡ (a && true)
   and-true true = refl
   and-true false = refl
@@ -242,9 +283,9 @@ module _ (S : Sig) where
     abbrev pub Held : ℕ → Solver S panic → State S → Type 0
     Held N z s = Holds N (z .bindings) (z .numeric) (z .revision) s
 
-    pub held-resolve : (N : ℕ) (z : Solver S panic) (s : State S) → Held N z s → (t : T S) → rust-resolve S panic z t ≡ sub (s .res) t
+    pub held-resolve : (N : ℕ) (z : Solver S panic) (s : State S) → Held N z s → Fine S N s → (t : T S) → Issued N t → rust-resolve S panic z t ≡ sub (s .res) t
     unfolding or-else
-    held-resolve N z s h t = ap (λ (o : Option (T S)). or-else o panic) (holds-rounds N (z .bindings) (z .numeric) (z .revision) s h panic t)
+    held-resolve N z s h f t is = ap (λ (o : Option (T S)). or-else o panic) (holds-rounds N (z .bindings) (z .numeric) (z .revision) s h f panic t is)
 
     -- the places and the deferred variables are the same
     abbrev Kept : Solver S panic → Solver S panic → Type 0
@@ -283,7 +324,7 @@ module _ (S : Sig) where
           let s₁ : State S = record { res = s .res; fam = fam₁; rev = s .rev } in
           subst (λ (b : Bool). Goes N z ok (bind-unless S panic z₁ ok pending v t b) (record { state = bind S s v t fam₁; good = true; todo = pending })) (sym (occurs-no v t i))
           (record {
-            holds = holds-bind N (z₁ .bindings) (z₁ .numeric) (z₁ .revision) s₁ h₁ v t (a .0)
+            holds = holds-bind N (z₁ .bindings) (z₁ .numeric) (z₁ .revision) s₁ h₁ panic v t (a .0)
                 (holds-free N (z₁ .bindings) (z₁ .numeric) (z₁ .revision) s₁ h₁ v idem (a .1)) (a .2) i;
             kept = k;
             good = and-true ok;
@@ -385,10 +426,10 @@ module _ (S : Sig) where
             (subst (λ (y : T S). Goes N z ok (first-arm S panic n z ok pending l y (is-recovery S panic l || is-recovery S panic y)) (unequal S n s l r pending)) (sym q)
             (arms-goes l r bl br el er e))
 
-        pass-goes : (l r : T S) → ((v : ℕ) → In v (sub (s .res) l) → v < N) → ((v : ℕ) → In v (sub (s .res) r) → v < N) → Goes N z ok (pass S panic n z ok pending l r) (step S n s l r pending)
+        pass-goes : Fine S N s → (l r : T S) → Issued N l → Issued N r → Goes N z ok (pass S panic n z ok pending l r) (step S n s l r pending)
         unfolding pass step
-        pass-goes l r bl br =
-            equal-goes (sub (s .res) l) (sub (s .res) r) (rust-resolve S panic z l) (rust-resolve S panic z r) (held-resolve N z s h l) (held-resolve N z s h r) bl br (idem l) (idem r)
+        pass-goes f l r bl br =
+            equal-goes (sub (s .res) l) (sub (s .res) r) (rust-resolve S panic z l) (rust-resolve S panic z r) (held-resolve N z s h f l bl) (held-resolve N z s h f r br) (within N s f l bl) (within N s f r br) (idem l) (idem r)
             (same? (S .head?) (rust-resolve S panic z l) (rust-resolve S panic z r)) (same? (S .head?) (sub (s .res) l) (sub (s .res) r))
 
     module _ (n : S .Head → S .Head) (respects : (f : S .Fam) (h k : S .Head) → n h ≡ n k → S .admits f h ≡ S .admits f k)
@@ -400,9 +441,6 @@ module _ (S : Sig) where
       Meets N z₀ (done z b) (cancelled s) = ⊥
       Meets N z₀ (done z b) (done s c) = Held N z s × Kept z₀ z × (b ≡ c)
 
-      within : (N : ℕ) (s : State S) → Fine S N s → (t : T S) → ((v : ℕ) → In v t → v < N) → (v : ℕ) → In v (sub (s .res) t) → v < N
-      within N s f t b v i = let r = in-sub v (s .res) t i in f .within (r .0) v (b (r .0) (r .1)) (r .2)
-
       while-goes : (k N : ℕ) (z₀ z : Solver S panic) (s : State S) (ok : Bool) (ps : List (Pair S)) → Kept z₀ z → Held N z s → Fine S N s → Below S N ps
           → Meets N z₀ (while-pending S panic n k z ok ps) (constrain S n k s ok ps)
       unfolding while-pending constrain
@@ -412,7 +450,7 @@ module _ (S : Sig) where
       while-goes (suc k) N z₀ z s ok (p ∷ ps) e h f b =
           let x = pass S panic n z ok ps (p .0) (p .1) in
           let y = step S n s (p .0) (p .1) ps in
-          let g : Goes N z ok x y = pass-goes keeps N z s h (idem-sub S n respects N s f) ok ps n (p .0) (p .1) (within N s f (p .0) (b .0)) (within N s f (p .1) (b .1)) in
+          let g : Goes N z ok x y = pass-goes keeps N z s h (idem-sub S n respects N s f) ok ps n f (p .0) (p .1) (b .0) (b .1) in
           let r = step-right S n respects N s f ps (b .2) (p .0) (p .1) (b .0) (b .1) in
           subst (λ (o : Out (State S)). Meets N z₀ (while-pending S panic n k (x .solver) (x .compatible) (x .pending)) o)
           (ap₂ (constrain S n k (y .state)) (g .good) (g .todo))
@@ -425,9 +463,9 @@ module _ (S : Sig) where
           pub sane : Sane S default never n respects N tab
           pub held : Held N z (sane .means)
 
-        both-answer : (N : ℕ) (tab : Table S) (z : Solver S panic) → Both N tab z → (t : T S) → rust-resolve S panic z t ≡ answer S tab t
-        both-answer N tab z b t =
-            held-resolve N z (b .sane .means) (b .held) t ∙ sym (resolve-right (tab .bound) (tab .rev) (b .sane .means .res) (b .sane .stands .rep) t)
+        both-answer : (N : ℕ) (tab : Table S) (z : Solver S panic) → Both N tab z → (t : T S) → Issued N t → rust-resolve S panic z t ≡ answer S tab t
+        both-answer N tab z b t is =
+            held-resolve N z (b .sane .means) (b .held) (b .sane .fine) t is ∙ sym (resolve-right (tab .bound) (tab .rev) (b .sane .means .res) (b .sane .stands .rep) t)
 
         both-rev : (N : ℕ) (tab : Table S) (z : Solver S panic) → Both N tab z → z .revision ≡ tab .rev
         both-rev N tab z b = b .held .stands .revs ∙ sym (b .sane .stands .revs)
@@ -440,7 +478,7 @@ module _ (S : Sig) where
             → Both N (fill S default never tab h (top S tab (var v))) (default-root S panic default never z h (rust-resolve S panic z (var v)))
         unfolding fill default-root sane-bind sub
         both-fill N tab z h v l b =
-            subst (λ (u : T S). Both N (fill S default never tab h (top S tab (var v))) (default-root S panic default never z h u)) (sym (held-resolve N z s (b .held) (var v)))
+            subst (λ (u : T S). Both N (fill S default never tab h (top S tab (var v))) (default-root S panic default never z h u)) (sym (held-resolve N z s (b .held) (b .sane .fine) (var v) (λ w e. omega arith)))
             (go (top S tab (var v)) (tops S tab s (b .sane .stands) idem [] [] tt (var v)) (reach S n respects N tab s (b .sane .stands) (b .sane .fine) (var v) (var v) refl (λ w e. omega arith)))
           where
             s : State S
@@ -452,7 +490,7 @@ module _ (S : Sig) where
             bound : (w : ℕ) → w < N → tab .bound w ≡ none → Both N (fill S default never tab h (var w)) (default-root S panic default never z h (var w))
             bound w m e = record {
               sane = sane-bind S default never n respects N tab h w m e (b .sane);
-              held = holds-bind N (z .bindings) (z .numeric) (z .revision) s (b .held) w (node h nil) m
+              held = holds-bind N (z .bindings) (z .numeric) (z .revision) s (b .held) panic w (node h nil) m
                   (holds-free N (z .bindings) (z .numeric) (z .revision) s (b .held) w idem (b .sane .stands .rep .unbound w e)) refl (λ i. i);
             }
 
@@ -519,6 +557,7 @@ module _ (S : Sig) where
         pub record Same (x : R S default never) (z : Solver S panic) : Type 0 where
           pub both : Both (x .count) (x .state .table) z
           pub placed : (s i v : ℕ) → x .state .sites s i ≡ some v → v < x .count
+          pub hole-placed : (s v : ℕ) → x .state .holes s ≡ some v → v < x .count
           pub sites : (s i : ℕ) → look-site (z .variables) s i ≡ x .state .sites s i
           pub holes : (s : ℕ) → look (z .holes) s ≡ x .state .holes s
           pub diverging : (v : ℕ) → is-some S panic (look (z .diverging) v) ≡ x .state .diverging v
@@ -534,6 +573,7 @@ module _ (S : Sig) where
         same-begin = record {
           both = record { sane = sane-begin S default never n respects; held = holds-begin };
           placed = λ s i v p. clash (cc);
+          hole-placed = λ s v p. clash (cc);
           sites = λ s i. refl;
           holes = λ s. refl;
           diverging = λ v. refl;
@@ -547,6 +587,7 @@ module _ (S : Sig) where
         same-table x z z′ tab y k b posed wrong cut = record {
           both = b;
           placed = y .placed;
+          hole-placed = y .hole-placed;
           sites = λ s i. ap (λ (ps : List (ℕ × ℕ × ℕ)). look-site ps s i) (k .0) ∙ y .sites s i;
           holes = λ s. ap (λ (ps : List (ℕ × ℕ)). look ps s) (k .1) ∙ y .holes s;
           diverging = λ v. ap (λ (ps : List (ℕ × Unit {0})). is-some S panic (look ps v)) (k .2) ∙ y .diverging v;
@@ -569,6 +610,7 @@ module _ (S : Sig) where
                 held = holds-push (x .count) (z .bindings) (z .numeric) (z .revision) (y .both .sane .means) (y .both .held) n respects;
               };
               placed = site-more S default never n respects (x .state .sites) (x .count) s i (y .placed);
+              hole-placed = λ s v p. let q = y .hole-placed s v p in omega arith;
               sites = λ s′ i′. ap (λ (v : ℕ). look-site ((s, i, v) ∷ z .variables) s′ i′) long ∙ site-cons s i (x .count) (z .variables) (x .state .sites) (y .sites) s′ i′;
               holes = y .holes;
               diverging = y .diverging;
@@ -579,22 +621,27 @@ module _ (S : Sig) where
           )
 
           -- order 2
-          hole-same : (s : ℕ) (o : Option ℕ) → Same (serve-hole S default never x s o) (hole-entry S panic z s o .0) × (hole-entry S panic z s o .1 ≡ answer S (x .state .table) (variable-at S default never n o (x .count)))
+          hole-same : (s : ℕ) (o : Option ℕ) → x .state .holes s ≡ o → Same (serve-hole S default never x s o) (hole-entry S panic z s o .0) × (hole-entry S panic z s o .1 ≡ answer S (x .state .table) (variable-at S default never n o (x .count)))
           unfolding serve-hole hole-entry variable-at sane-more
-          hole-same s (some v) = (y, both-answer (x .count) (x .state .table) z (y .both) (var v))
-          hole-same s none = (
+          hole-same s (some v) e = (y, both-answer (x .count) (x .state .table) z (y .both) (var v) (λ w i. let q = y .hole-placed s v e in omega arith))
+          hole-same s none e = (
             record {
               both = grown;
               placed = λ s i v p. let q = y .placed s i v p in omega arith;
+              hole-placed = λ s′ v p. more v s′ (put-cases (x .state .holes) s (x .count) s′ v p);
               sites = y .sites;
               holes = λ s′. look-cons (s, length (z .bindings)) (z .holes) s′ ∙ ap₂ (λ (g : ℕ → Option ℕ) (v : ℕ). put g s (some v) s′) (fun-ext (y .holes)) long;
               diverging = y .diverging;
               once = y .once;
               far = λ v l. y .far v (omega arith);
             },
-            both-answer (suc (x .count)) (x .state .table) z′ grown (var (length (z .bindings))) ∙ ap (λ (v : ℕ). answer S (x .state .table) (var v)) long,
+            both-answer (suc (x .count)) (x .state .table) z′ grown (var (length (z .bindings))) (λ w i. let q = long in omega arith) ∙ ap (λ (v : ℕ). answer S (x .state .table) (var v)) long,
           )
             where
+              more : (v s′ : ℕ) → ((s′ ≡ s) × (x .count ≡ v)) ⊎ ((s′ ≢ s) × (x .state .holes s′ ≡ some v)) → v < suc (x .count)
+              more v s′ (inl p) = let q = p .1 in omega arith
+              more v s′ (inr p) = let q = y .hole-placed s′ v (p .1) in omega arith
+
               z′ : Solver S panic
               z′ = hole-entry S panic z s none .0
 
@@ -612,6 +659,7 @@ module _ (S : Sig) where
               held = holds-asks (x .count) (z .bindings) (z .numeric) (z .revision) (y .both .sane .means) (y .both .held) v f;
             };
             placed = y .placed;
+            hole-placed = y .hole-placed;
             sites = y .sites;
             holes = y .holes;
             diverging = y .diverging;
@@ -625,6 +673,7 @@ module _ (S : Sig) where
           defer-same (node h ts) b = record {
             both = y .both;
             placed = y .placed;
+            hole-placed = y .hole-placed;
             sites = y .sites;
             holes = y .holes;
             diverging = y .diverging;
@@ -634,6 +683,7 @@ module _ (S : Sig) where
           defer-same (var v) b = record {
             both = record { sane = y .both .sane; held = y .both .held };
             placed = y .placed;
+            hole-placed = y .hole-placed;
             sites = y .sites;
             holes = y .holes;
             diverging = λ w. ap (λ (g : ℕ → Option (Unit {0})). is-some S panic (g w)) (look-insert (z .diverging) v tt) ∙ go w (ℕ-discrete w v);
@@ -652,13 +702,13 @@ module _ (S : Sig) where
         unfolding serve-number requested variable-entry variable-at serve-variable
         number-same x z y s f (some v) e =
             let y′ = asks-same x z y v f (y .placed s 1 v e) in
-            (y′, both-answer (x .count) (table-asks S (x .state .table) v f) (with-numeric S panic z v f) (y′ .both) (var v))
+            (y′, both-answer (x .count) (table-asks S (x .state .table) v f) (with-numeric S panic z v f) (y′ .both) (var v) (λ w i. let q = y .placed s 1 v e in omega arith))
         number-same x z y s f none e =
             let x′ = serve-variable S default never x s 1 none in
             let z′ = variable-entry S panic z s 1 none .0 in
             let y′ = asks-same x′ z′ (entry-same x z y s 1 none .0) (x .count) f (omega arith) in
             subst (λ (v : ℕ). Same (asking S default never x′ (x .count) f) (requested S panic z′ f (var v) .0) × (requested S panic z′ f (var v) .1 ≡ answer S (table-asks S (x .state .table) (x .count) f) (var (x .count))))
-            (sym (y .both .held .long)) (y′, both-answer (suc (x .count)) (table-asks S (x .state .table) (x .count) f) (with-numeric S panic z′ (x .count) f) (y′ .both) (var (x .count)))
+            (sym (y .both .held .long)) (y′, both-answer (suc (x .count)) (table-asks S (x .state .table) (x .count) f) (with-numeric S panic z′ (x .count) f) (y′ .both) (var (x .count)) (λ w i. omega arith))
 
         -- order 4: both end as `Solver.constrain` does
         pose-same : (x : R S default never) (z : Solver S panic) → Same x z → (k : ℕ) (l r : T S) → Issued (x .count) l → Issued (x .count) r
@@ -709,7 +759,7 @@ module _ (S : Sig) where
             (term (answer S (serve-number S default never x s f (x .state .sites s 1) .state .table) (variable-at S default never n (x .state .sites s 1) (x .count)))))
             (sym (y .sites s 1)) (e .0, ap term (e .1))
         order-same x z y (hole s) =
-            let e = hole-same x z y s (x .state .holes s) in
+            let e = hole-same x z y s (x .state .holes s) refl in
             subst (λ (o : Option ℕ). Answered (serve-hole S default never x s (x .state .holes s)) (with-term S panic default never n (hole-entry S panic z s o))
             (term (answer S (x .state .table) (variable-at S default never n (x .state .holes s) (x .count)))))
             (sym (y .holes s)) (e .0, ap term (e .1))
@@ -726,7 +776,7 @@ module _ (S : Sig) where
             go : (d : Dec (Issued (length (z .bindings)) t)) (e : Dec (Issued (x .count) t))
                 → Answered (serve-defer S default never x t e) (guard S panic default never n d z (defer-never S panic z t, nothing)) (if-issued S default never n e nothing)
             go (yes d) (yes e) = (
-              subst (λ (u : T S). Same (move S default never x (deferring S default never (x .state) (answer S (x .state .table) t))) (deferred S panic z u)) (sym (both-answer (x .count) (x .state .table) z b t))
+              subst (λ (u : T S). Same (move S default never x (deferring S default never (x .state) (answer S (x .state .table) t))) (deferred S panic z u)) (sym (both-answer (x .count) (x .state .table) z b t e))
                   (defer-same x z y (answer S (x .state .table) t) (small e)),
               refl,
             )
@@ -760,7 +810,7 @@ module _ (S : Sig) where
 
             go : (d : Dec (Issued (length (z .bindings)) t)) (e : Dec (Issued (x .count) t))
                 → Answered x (guard S panic default never n d z (z, term (rust-resolve S panic z t))) (if-issued S default never n e (term (answer S (x .state .table) t)))
-            go (yes d) (yes e) = (y, ap term (both-answer (x .count) (x .state .table) z (y .both) t))
+            go (yes d) (yes e) = (y, ap term (both-answer (x .count) (x .state .table) z (y .both) t e))
             go (yes d) (no e) = absurd (e (rw long at d))
             go (no d) (yes e) = absurd (d (rw long e))
             go (no d) (no e) = (y, refl)
@@ -795,17 +845,18 @@ module _ (S : Sig) where
             let b = all-same (obey S default never n x c) (rust-order S panic default never n z c .0) (a .0) cs in
             (b .0, ap₂ _∷_ (a .1) (b .1))
 
-        -- THE RUST'S SOLVER ANSWERS AS THE SESSION DOES, for every list of orders; whatever value an `unreachable!` is given.
+        -- THE RUST'S SOLVER ANSWERS AS THE SESSION DOES, for every list of orders. It does so for every `panic`, so no answer depends on what an
+        -- `unreachable!` or an index out of range would give, in whatever state they are met.
         pub rust-same : (cs : List (Command S)) → rust-replies S panic default never n (rust-begin S panic) cs ≡ replies S default never n (fresh S (session-begin S default never)) cs
         rust-same cs = all-same (fresh S (session-begin S default never)) (rust-begin S panic) same-begin cs .1
 
-        -- Where a list of orders leads, the loop of `resolve` returns before it has made its rounds: its `unreachable!` is not reached.
-        pub never-unreachable : (cs : List (Command S)) (t : T S)
+        -- Where a list of orders leads, the loop of `resolve` returns for every issued term: its `unreachable!` is not reached.
+        pub never-unreachable : (cs : List (Command S)) (t : T S) → Issued (sheet S default never n cs .count) t
             → rounds S panic (rust-orders S panic default never n (rust-begin S panic) cs .bindings) (suc (length (rust-orders S panic default never n (rust-begin S panic) cs .bindings))) t
             ≡ some (answer S (sheet S default never n cs .state .table) t)
-        never-unreachable cs t =
+        never-unreachable cs t is =
             let z = rust-orders S panic default never n (rust-begin S panic) cs in
             let tab = sheet S default never n cs .state .table in
             let b = all-same (fresh S (session-begin S default never)) (rust-begin S panic) same-begin cs .0 .both in
-            holds-rounds (sheet S default never n cs .count) (z .bindings) (z .numeric) (z .revision) (b .sane .means) (b .held) panic t
+            holds-rounds (sheet S default never n cs .count) (z .bindings) (z .numeric) (z .revision) (b .sane .means) (b .held) (b .sane .fine) panic t is
             ∙ ap some (sym (resolve-right (tab .bound) (tab .rev) (b .sane .means .res) (b .sane .stands .rep) t))
