@@ -9,19 +9,19 @@
 --   CancellationToken          the number k of checks that pass
 --   HashMap                    a list of keys with their values, each key once; a HashSet is a HashMap to the unit
 --   Vec                        a list; one that is used as a stack has its end, where it is popped, at the head of the list
-use mathlib.Core.Path.{_≡_, refl}
+use mathlib.Core.Path.{_≡_}
 use mathlib.Core.Logic.{ite}
-use mathlib.Core.Bool.{Bool, true, false, not, _&&_, _||_}
+use mathlib.Core.Bool.{Bool, true, false, not, _||_}
 use mathlib.Core.Option.{Option, none, some}
 use mathlib.Core.List.{List, [], _∷_, _++_}
 use lib.ListN.{length, getD}
 use Prim.Native.Nat.{ℕ, zero, suc}
 use native.Mathlib.Decide.{ℕ-discrete, decLe}
-use Rattle.unify.specs.Term.{Sort, one, many, Tree, var, node, nil, _▸_, Term, Forest, width, same?}
+use Rattle.unify.specs.Term.{Sort, Tree, var, node, nil, _▸_, Term, Forest, width, same?}
 use Rattle.unify.specs.Solver.{Sig, T, Pair, Out, cancelled, done}
 use Rattle.unify.specs.Orders.{issued?}
 use Rattle.unify.specs.Session.{Command, variable, number, hole, defer, pair, resolving, numbers, nevers, revision, refused, is-same}
-use Rattle.unify.specs.Session.{Reply, term, verdict, changed, count, nothing, refusal, verdict-of}
+use Rattle.unify.specs.Session.{Reply, term, verdict, changed, count, nothing, refusal}
 
 -- HashMap::get, HashMap::insert (it replaces), and a map sorted by its keys
 unfoldable pub look : {A : Type 0} → List (ℕ × A) → ℕ → Option A

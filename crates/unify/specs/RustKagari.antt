@@ -1,13 +1,11 @@
 -- The Rust's `Solver` on Kagari's heads and families: the worked session of document 01 and other sessions, run on it.
-use mathlib.Core.Path.{_≡_, refl, ap, sym, _∙_}
-use mathlib.Core.Bool.{Bool, true, false}
-use mathlib.Core.Option.{Option, none, some}
+use mathlib.Core.Path.{_≡_, refl}
+use mathlib.Core.Bool.{true, false}
 use mathlib.Core.List.{List, [], _∷_}
-use Prim.Native.Nat.{ℕ, zero, suc}
 use native.Mathlib.Decide.{ℕ-discrete, decLt, decLe}
-use Rattle.unify.specs.Term.{Sort, one, many, Tree, var, node, nil, _▸_, Term, same?, width}
+use Rattle.unify.specs.Term.{var, node, nil, Term, same?, width}
 use Rattle.unify.specs.Orders.{issued?, fresh}
-use Rattle.unify.specs.Session.{Command, variable, number, hole, defer, pair, resolving, numbers, nevers, revision, refused, is-same}
+use Rattle.unify.specs.Session.{Command, variable, number, hole, defer, pair, resolving, numbers, nevers, revision, is-same}
 use Rattle.unify.specs.Session.{Reply, term, verdict, changed, count, nothing, refusal, replies, session-begin}
 use Rattle.unify.specs.Kagari.{Head, head, kagari, fallback, neverHead, loose, exact, I32, array, tuple₂, set-of}
 use Rattle.unify.specs.Kagari.{head-discrete, list-discrete, kagari-soft, kagari-rigid, kagari-admits, kagari-meet, meet-kind, loose-respects, floating, in-family}

@@ -4,7 +4,7 @@
 -- Both stand for one session over substitutions (`Solver`): the table with bindings as posed by `Refine`, the Rust's with bindings resolved
 -- by what is here. The Rust's pending pairs are those of `Solver.constrain`, term by term.
 use mathlib.Core.Path.{_≡_, refl, ap, ap₂, sym, _∙_, subst, fun-ext}
-use mathlib.Core.Logic.{_⊎_, inl, inr, _↔_, _≢_, ite, if-pos, if-neg}
+use mathlib.Core.Logic.{_⊎_, inl, inr, _≢_, if-pos, if-neg}
 use mathlib.Core.Bool.{Bool, true, false, not, _&&_, _||_}
 use mathlib.Core.Option.{Option, none, some}
 use mathlib.Core.List.{List, [], _∷_, _++_}
@@ -12,25 +12,25 @@ use lib.ListN.{length, getD, set, length-set}
 use Prim.Native.Nat.{ℕ, zero, suc, _+_, _≤_, _<_}
 use native.Mathlib.Decide.{ℕ-discrete, decLt}
 use native.Mathlib.Omega.{arith}
-use Rattle.unify.specs.Term.{Sort, one, many, Tree, var, node, nil, _▸_, Term, Forest, width, sub, In, in?, same?, clash, sub-ext, sub-sub, sub-fix, in-sub, sub-in}
+use Rattle.unify.specs.Term.{Sort, Tree, var, node, nil, _▸_, Term, Forest, width, sub, In, in?, same?, clash, sub-ext, sub-sub, sub-fix, in-sub, sub-in}
 use Rattle.unify.specs.Solver.{Sig, T, Pair, State, bind, Step, Out, cancelled, done, put, put-same, put-other}
 use Rattle.unify.specs.Solver.{joined, join, allow, admit, any-soft, assign₁, assign₀, assign, zipOn, split₁, split, unequal, compare, step, constrain, poses, asks, begin}
 use Rattle.unify.specs.Meaning.{Fine, Below}
 use Rattle.unify.specs.Lazy.{Rep, expand, resolve, resolve-enough, resolve-right, resolve-zero, resolve-none, rep-fresh, rep-bind}
-use Rattle.unify.specs.Sound.{Right, step-right, put-cases}
-use Rattle.unify.specs.Orders.{Issued, issued?, Run, fresh, settle}
-use Rattle.unify.specs.Table.{Table, answer, top, tally, taken, taken-put, table-poses, table-asks, table-begin}
+use Rattle.unify.specs.Sound.{step-right, put-cases}
+use Rattle.unify.specs.Orders.{Issued, issued?, fresh, settle}
+use Rattle.unify.specs.Table.{Table, answer, top, tally, taken, taken-put, table-poses, table-asks}
 use Rattle.unify.specs.Refine.{Stands, Counted, Ends, tops, topped, reach, idem-sub, settles-follows, counted-more}
-use Rattle.unify.specs.Rust.{look, insert, place, sorted, look-site, or-else, substitute-once, any-member, is-variable, zip, extend, binding, store}
-use Rattle.unify.specs.Rust.{Solver, rust-begin, with-numeric, with-binding, unless-same, rounds, rust-resolve, deferred, variable-entry, hole-entry, requested}
+use Rattle.unify.specs.Rust.{look, insert, sorted, look-site, or-else, substitute-once, any-member, is-variable, zip, extend, binding, store}
+use Rattle.unify.specs.Rust.{Solver, rust-begin, with-numeric, unless-same, rounds, rust-resolve, deferred, variable-entry, hole-entry, requested}
 use Rattle.unify.specs.Rust.{Pass, continue, is-recovery, is-some, same-kind, admissible, hand-on, bind-unless, occurs-then, if-admissible, if-numeric, unless-recovery, inference}
-use Rattle.unify.specs.Rust.{shape-test, same-shape, if-shape, arms, first-arm, if-equal, pass, while-pending, rust-constrain}
-use Rattle.unify.specs.Rust.{defer-never, rust-variable, annotation-hole, numeric-variable, default-root, numeric-defaults, apply-numeric-defaults, never-defaults, apply-never-defaults}
+use Rattle.unify.specs.Rust.{shape-test, if-shape, arms, first-arm, if-equal, pass, while-pending, rust-constrain}
+use Rattle.unify.specs.Rust.{defer-never, default-root, numeric-defaults, never-defaults}
 use Rattle.unify.specs.Rust.{with-term, with-verdict, with-change, guard, rust-order, rust-orders, rust-replies}
 use Rattle.unify.specs.RustLists.{nth-push, length-push, nth-set, nth-inside, store-set, look-cons, look-nil, look-insert, Once, once-insert, with-some, collect, sorted-collect, site-cons}
-use Rattle.unify.specs.Session.{Command, variable, number, hole, defer, pair, resolving, numbers, nevers, revision, refused, Session, session-begin, with-table, with-site, with-hole, with-diverging}
-use Rattle.unify.specs.Session.{is-same, fill, number-one, never-one, fill-numbers, fill-nevers, deferring, R, move, grow, serve-variable, serve-hole, asking, serve-number, serve-defer, lift, serve-pair, obey, obey-all, sheet}
-use Rattle.unify.specs.Session.{Reply, term, verdict, changed, count, nothing, refusal, reply, replies, if-issued, verdict-of, variable-at}
+use Rattle.unify.specs.Session.{Command, variable, number, hole, defer, pair, resolving, numbers, nevers, revision, refused, session-begin, with-table}
+use Rattle.unify.specs.Session.{is-same, fill, number-one, never-one, fill-numbers, fill-nevers, deferring, R, move, serve-variable, serve-hole, asking, serve-number, serve-defer, lift, serve-pair, obey, obey-all, sheet}
+use Rattle.unify.specs.Session.{Reply, term, verdict, changed, count, nothing, reply, replies, if-issued, verdict-of, variable-at}
 use Rattle.unify.specs.Whole.{Sane, sane-begin, sane-more, sane-asks, sane-bind, site-more}
 
 -- one round of `resolve`, and the walks that only look
