@@ -11,7 +11,7 @@ use Rattle.unify.specs.Kagari.{Head, head, kagari, fallback, neverHead, 
 use Rattle.unify.specs.Kagari.{head-discrete, list-discrete, kagari-soft, kagari-rigid, kagari-admits, kagari-meet, meet-kind, loose-respects, floating, in-family}
 use Rattle.unify.specs.Rust.{look, insert, place, sorted, look-site, or-else, substitute-once, any-member, is-variable, zip, extend, binding, store}
 use Rattle.unify.specs.Rust.{rust-begin, unless-same, rounds, deferred, variable-entry, hole-entry, requested, is-recovery, is-some, same-kind, admissible}
-use Rattle.unify.specs.Rust.{hand-on, bind-unless, if-admissible, if-numeric, unless-recovery, shape-test, if-shape, arms, first-arm, if-equal, pass, while-pending}
+use Rattle.unify.specs.Rust.{hand-on, bind-unless, if-admissible, if-numeric, unless-recovery, shape-test, same-shape, if-shape, arms, first-arm, if-equal, pass, while-pending}
 use Rattle.unify.specs.Rust.{default-root, numeric-defaults, never-defaults, with-verdict, guard, rust-order, rust-replies}
 use Rattle.unify.specs.RustSame.{rust-same}
 
@@ -23,7 +23,7 @@ Never = node neverHead nil
 
 -- an `unreachable!` would be seen as Unknown
 answers : (Head → Head) → List (Command kagari) → List (Reply kagari)
-answers n cs = rust-replies kagari unknown fallback neverHead n (rust-begin kagari unknown) cs
+answers n cs = rust-replies kagari unknown fallback neverHead (same-shape kagari unknown n) (rust-begin kagari unknown) cs
 
 record Examples : Type 0 where
   -- two variables; Array(?0) meets Array(Tuple(?1, I32)); ?1 meets Array(?0), which contains it; ?0 resolved; the revision
@@ -53,5 +53,5 @@ examples = record { bar = refl; checks = refl; loosely = refl; strictly = refl; 
 
 -- THE RUST'S SOLVER ON KAGARI'S TERMS ANSWERS AS THE SESSION DOES, for every list of orders.
 pub kagari-rust-same : (panic : Term Head) (cs : List (Command kagari))
-    → rust-replies kagari panic fallback neverHead loose (rust-begin kagari panic) cs ≡ replies kagari fallback neverHead loose (fresh kagari (session-begin kagari fallback neverHead)) cs
+    → rust-replies kagari panic fallback neverHead (same-shape kagari panic loose) (rust-begin kagari panic) cs ≡ replies kagari fallback neverHead loose (fresh kagari (session-begin kagari fallback neverHead)) cs
 kagari-rust-same panic cs = rust-same kagari panic loose loose-respects (λ f g e p. meet-kind f g e p .1) fallback neverHead cs

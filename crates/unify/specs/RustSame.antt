@@ -24,7 +24,7 @@ use Rattle.unify.specs.Refine.{Stands, Counted, Ends, tops, topped, reac
 use Rattle.unify.specs.Rust.{look, insert, sorted, look-site, or-else, substitute-once, any-member, is-variable, zip, extend, binding, store}
 use Rattle.unify.specs.Rust.{Solver, rust-begin, with-numeric, unless-same, rounds, rust-resolve, deferred, variable-entry, hole-entry, requested}
 use Rattle.unify.specs.Rust.{Pass, continue, is-recovery, is-some, same-kind, admissible, hand-on, bind-unless, occurs-then, if-admissible, if-numeric, unless-recovery, inference}
-use Rattle.unify.specs.Rust.{shape-test, if-shape, arms, first-arm, if-equal, pass, while-pending, rust-constrain}
+use Rattle.unify.specs.Rust.{shape-test, same-shape, if-shape, arms, first-arm, if-equal, pass, while-pending, rust-constrain}
 use Rattle.unify.specs.Rust.{defer-never, default-root, numeric-defaults, never-defaults}
 use Rattle.unify.specs.Rust.{with-term, with-verdict, with-change, guard, rust-order, rust-orders, rust-replies}
 use Rattle.unify.specs.RustLists.{nth-push, length-push, nth-set, nth-inside, store-set, look-cons, look-nil, look-insert, Once, once-insert, with-some, collect, sorted-collect, site-cons}
@@ -378,7 +378,7 @@ module _ (S : Sig) where
 
       module _ (n : S .Head → S .Head) where
         shape-goes : (k j : S .Head) (ts us : Forest (S .Head)) (b : Bool) (d : Dec (n k ≡ n j)) (e : Dec (width ts ≡ width us))
-            → Goes N z ok (if-shape S panic n z ok pending ts us (shape-test S panic n b d e)) (split S n s k j ts us pending false b d)
+            → Goes N z ok (if-shape S panic (same-shape S panic n) z ok pending ts us (shape-test S panic n b d e)) (split S n s k j ts us pending false b d)
         unfolding if-shape shape-test split split₁
         shape-goes k j ts us true d e = fail
         shape-goes k j ts us false (no d) e = fail
@@ -395,38 +395,38 @@ module _ (S : Sig) where
         soft-goes k j ts us b d = skip
 
         arms-goes : (l r : T S) → ((v : ℕ) → In v l → v < N) → ((v : ℕ) → In v r → v < N) → sub (s .res) l ≡ l → sub (s .res) r ≡ r → l ≢ r
-            → Goes N z ok (first-arm S panic n z ok pending l r (is-recovery S panic l || is-recovery S panic r)) (unequal S n s l r pending)
+            → Goes N z ok (first-arm S panic (same-shape S panic n) z ok pending l r (is-recovery S panic l || is-recovery S panic r)) (unequal S n s l r pending)
         unfolding first-arm arms unequal is-recovery sub
         arms-goes (var v) (var w) bl br el er ne = inference-goes v (var w) (bl v refl, el, er, ne)
         arms-goes (var v) (node k us) bl br el er ne = go (S .soft k) refl
           where
-            go : (b : Bool) → S .soft k ≡ b → Goes N z ok (first-arm S panic n z ok pending (var v) (node k us) b) (assign S s v (node k us) pending)
+            go : (b : Bool) → S .soft k ≡ b → Goes N z ok (first-arm S panic (same-shape S panic n) z ok pending (var v) (node k us) b) (assign S s v (node k us) pending)
             go true p = rw (soft-assign v k us p) skip
             go false p = inference-goes v (node k us) (bl v refl, el, er, ne)
         arms-goes (node k ts) (var v) bl br el er ne = go (S .soft k) refl
           where
-            go : (b : Bool) → S .soft k ≡ b → Goes N z ok (first-arm S panic n z ok pending (node k ts) (var v) (b || false)) (assign S s v (node k ts) pending)
+            go : (b : Bool) → S .soft k ≡ b → Goes N z ok (first-arm S panic (same-shape S panic n) z ok pending (node k ts) (var v) (b || false)) (assign S s v (node k ts) pending)
             go true p = rw (soft-assign v k ts p) skip
             go false p = inference-goes v (node k ts) (br v refl, er, el, λ q. ne (sym q))
         arms-goes (node k ts) (node j us) bl br el er ne = go (S .soft k || S .soft j)
           where
-            go : (b : Bool) → Goes N z ok (first-arm S panic n z ok pending (node k ts) (node j us) b) (split S n s k j ts us pending b (S .rigid k) (S .head? (n k) (n j)))
+            go : (b : Bool) → Goes N z ok (first-arm S panic (same-shape S panic n) z ok pending (node k ts) (node j us) b) (split S n s k j ts us pending b (S .rigid k) (S .head? (n k) (n j)))
             go true = soft-goes k j ts us (S .rigid k) (S .head? (n k) (n j))
             go false = shape-goes k j ts us (S .rigid k) (S .head? (n k) (n j)) (ℕ-discrete (width ts) (width us))
 
         -- the Rust resolves both sides first, as `step` does
         equal-goes : (l r l′ r′ : T S) → l′ ≡ l → r′ ≡ r → ((v : ℕ) → In v l → v < N) → ((v : ℕ) → In v r → v < N) → sub (s .res) l ≡ l → sub (s .res) r ≡ r
-            → (d : Dec (l′ ≡ r′)) (e : Dec (l ≡ r)) → Goes N z ok (if-equal S panic n z ok pending l′ r′ d) (compare S n s l r pending e)
+            → (d : Dec (l′ ≡ r′)) (e : Dec (l ≡ r)) → Goes N z ok (if-equal S panic (same-shape S panic n) z ok pending l′ r′ d) (compare S n s l r pending e)
         unfolding if-equal compare
         equal-goes l r l′ r′ p q bl br el er (yes d) (yes e) = skip
         equal-goes l r l′ r′ p q bl br el er (yes d) (no e) = absurd (e (cc))
         equal-goes l r l′ r′ p q bl br el er (no d) (yes e) = absurd (d (cc))
         equal-goes l r l′ r′ p q bl br el er (no d) (no e) =
-            subst (λ (x : T S). Goes N z ok (first-arm S panic n z ok pending x r′ (is-recovery S panic x || is-recovery S panic r′)) (unequal S n s l r pending)) (sym p)
-            (subst (λ (y : T S). Goes N z ok (first-arm S panic n z ok pending l y (is-recovery S panic l || is-recovery S panic y)) (unequal S n s l r pending)) (sym q)
+            subst (λ (x : T S). Goes N z ok (first-arm S panic (same-shape S panic n) z ok pending x r′ (is-recovery S panic x || is-recovery S panic r′)) (unequal S n s l r pending)) (sym p)
+            (subst (λ (y : T S). Goes N z ok (first-arm S panic (same-shape S panic n) z ok pending l y (is-recovery S panic l || is-recovery S panic y)) (unequal S n s l r pending)) (sym q)
             (arms-goes l r bl br el er e))
 
-        pass-goes : Fine S N s → (l r : T S) → Issued N l → Issued N r → Goes N z ok (pass S panic n z ok pending l r) (step S n s l r pending)
+        pass-goes : Fine S N s → (l r : T S) → Issued N l → Issued N r → Goes N z ok (pass S panic (same-shape S panic n) z ok pending l r) (step S n s l r pending)
         unfolding pass step
         pass-goes f l r bl br =
             equal-goes (sub (s .res) l) (sub (s .res) r) (rust-resolve S panic z l) (rust-resolve S panic z r) (held-resolve N z s h f l bl) (held-resolve N z s h f r br) (within N s f l bl) (within N s f r br) (idem l) (idem r)
@@ -442,17 +442,17 @@ module _ (S : Sig) where
       Meets N z₀ (done z b) (done s c) = Held N z s × Kept z₀ z × (b ≡ c)
 
       while-goes : (k N : ℕ) (z₀ z : Solver S panic) (s : State S) (ok : Bool) (ps : List (Pair S)) → Kept z₀ z → Held N z s → Fine S N s → Below S N ps
-          → Meets N z₀ (while-pending S panic n k z ok ps) (constrain S n k s ok ps)
+          → Meets N z₀ (while-pending S panic (same-shape S panic n) k z ok ps) (constrain S n k s ok ps)
       unfolding while-pending constrain
       while-goes zero N z₀ z s ok [] e h f b = (h, e, refl)
       while-goes zero N z₀ z s ok (p ∷ ps) e h f b = (h, e)
       while-goes (suc k) N z₀ z s ok [] e h f b = (h, e, refl)
       while-goes (suc k) N z₀ z s ok (p ∷ ps) e h f b =
-          let x = pass S panic n z ok ps (p .0) (p .1) in
+          let x = pass S panic (same-shape S panic n) z ok ps (p .0) (p .1) in
           let y = step S n s (p .0) (p .1) ps in
           let g : Goes N z ok x y = pass-goes keeps N z s h (idem-sub S n respects N s f) ok ps n f (p .0) (p .1) (b .0) (b .1) in
           let r = step-right S n respects N s f ps (b .2) (p .0) (p .1) (b .0) (b .1) in
-          subst (λ (o : Out (State S)). Meets N z₀ (while-pending S panic n k (x .solver) (x .compatible) (x .pending)) o)
+          subst (λ (o : Out (State S)). Meets N z₀ (while-pending S panic (same-shape S panic n) k (x .solver) (x .compatible) (x .pending)) o)
           (ap₂ (constrain S n k (y .state)) (g .good) (g .todo))
           (while-goes k N z₀ (x .solver) (y .state) (x .compatible) (x .pending) (kept-trans z₀ z (x .solver) e (g .kept))
           (g .holds) (r .fine) (subst (λ (qs : List (Pair S)). Below S N qs) (sym (g .todo)) (r .below)))
@@ -713,10 +713,10 @@ module _ (S : Sig) where
         -- order 4: both end as `Solver.constrain` does
         pose-same : (x : R S default never) (z : Solver S panic) → Same x z → (k : ℕ) (l r : T S) → Issued (x .count) l → Issued (x .count) r
             → Answered (settle S x l r (lift S default never (x .state) (table-poses S n k (x .state .table) l r)))
-            (with-verdict S panic default never n (rust-constrain S panic n k z l r)) (verdict (verdict-of S default never n (table-poses S n k (x .state .table) l r)))
+            (with-verdict S panic default never (same-shape S panic n) (rust-constrain S panic (same-shape S panic n) k z l r)) (verdict (verdict-of S default never n (table-poses S n k (x .state .table) l r)))
         unfolding settle lift with-verdict verdict-of
         pose-same x z y k l r a b =
-            go (table-poses S n k (x .state .table) l r) (poses S n k s l r) (rust-constrain S panic n k z l r)
+            go (table-poses S n k (x .state .table) l r) (poses S n k s l r) (rust-constrain S panic (same-shape S panic n) k z l r)
             (settles-follows S n respects k (x .count) (x .state .table) s true true ((l, r) ∷ []) ((l, r) ∷ []) (y .both .sane .stands) (y .both .sane .counted) refl (y .both .sane .fine) (a, b, tt) (refl, refl, tt))
             (while-goes k (x .count) z z s true ((l, r) ∷ []) (refl, refl, refl) (y .both .held) (y .both .sane .fine) (a, b, tt))
           where
@@ -727,7 +727,7 @@ module _ (S : Sig) where
             both tab z′ s′ p q f h = record { sane = record { means = s′; stands = p; counted = q; fine = f }; held = h }
 
             go : (o : Out (Table S)) (p : Out (State S)) (q : Out (Solver S panic)) → Ends S n respects (x .count) o p → Meets (x .count) z q p
-                → Answered (settle S x l r (lift S default never (x .state) o)) (with-verdict S panic default never n q) (verdict (verdict-of S default never n o))
+                → Answered (settle S x l r (lift S default never (x .state) o)) (with-verdict S panic default never (same-shape S panic n) q) (verdict (verdict-of S default never n o))
             go (cancelled tab) (cancelled s′) (cancelled z′) e m = (same-table x z z′ tab y (m .1) (both tab z′ s′ (e .0) (e .1) (e .2) (m .0)) ((l, r) ∷ x .posed) (x .wrong) true, refl)
             go (cancelled tab) (cancelled s′) (done z′ c) e m = absurd m
             go (cancelled tab) (done s′ c) q e m = absurd e
@@ -745,22 +745,22 @@ module _ (S : Sig) where
 
         -- ONE ORDER: the same answer, and the two agree after it.
         order-same : (x : R S default never) (z : Solver S panic) → Same x z → (c : Command S)
-            → Answered (obey S default never n x c) (rust-order S panic default never n z c) (reply S default never n x c)
+            → Answered (obey S default never n x c) (rust-order S panic default never (same-shape S panic n) z c) (reply S default never n x c)
         unfolding obey rust-order reply serve-defer serve-pair guard if-issued
         order-same x z y (variable s i) =
             let e = entry-same x z y s i (x .state .sites s i) in
-            subst (λ (o : Option ℕ). Answered (serve-variable S default never x s i (x .state .sites s i)) (with-term S panic default never n (variable-entry S panic z s i o))
+            subst (λ (o : Option ℕ). Answered (serve-variable S default never x s i (x .state .sites s i)) (with-term S panic default never (same-shape S panic n) (variable-entry S panic z s i o))
             (term (variable-at S default never n (x .state .sites s i) (x .count))))
             (sym (y .sites s i)) (e .0, ap term (e .1))
         order-same x z y (number s f) =
             let e = number-same x z y s f (x .state .sites s 1) refl in
             subst (λ (o : Option ℕ). Answered (serve-number S default never x s f (x .state .sites s 1))
-            (with-term S panic default never n (requested S panic (variable-entry S panic z s 1 o .0) f (variable-entry S panic z s 1 o .1)))
+            (with-term S panic default never (same-shape S panic n) (requested S panic (variable-entry S panic z s 1 o .0) f (variable-entry S panic z s 1 o .1)))
             (term (answer S (serve-number S default never x s f (x .state .sites s 1) .state .table) (variable-at S default never n (x .state .sites s 1) (x .count)))))
             (sym (y .sites s 1)) (e .0, ap term (e .1))
         order-same x z y (hole s) =
             let e = hole-same x z y s (x .state .holes s) refl in
-            subst (λ (o : Option ℕ). Answered (serve-hole S default never x s (x .state .holes s)) (with-term S panic default never n (hole-entry S panic z s o))
+            subst (λ (o : Option ℕ). Answered (serve-hole S default never x s (x .state .holes s)) (with-term S panic default never (same-shape S panic n) (hole-entry S panic z s o))
             (term (answer S (x .state .table) (variable-at S default never n (x .state .holes s) (x .count)))))
             (sym (y .holes s)) (e .0, ap term (e .1))
         order-same x z y (defer t) = go (issued? (length (z .bindings)) t) (issued? (x .count) t)
@@ -774,7 +774,7 @@ module _ (S : Sig) where
                 within (x .count) (b .sane .means) (b .sane .fine) t a v (subst (λ (u : T S). In v u) e refl)
 
             go : (d : Dec (Issued (length (z .bindings)) t)) (e : Dec (Issued (x .count) t))
-                → Answered (serve-defer S default never x t e) (guard S panic default never n d z (defer-never S panic z t, nothing)) (if-issued S default never n e nothing)
+                → Answered (serve-defer S default never x t e) (guard S panic default never (same-shape S panic n) d z (defer-never S panic z t, nothing)) (if-issued S default never n e nothing)
             go (yes d) (yes e) = (
               subst (λ (u : T S). Same (move S default never x (deferring S default never (x .state) (answer S (x .state .table) t))) (deferred S panic z u)) (sym (both-answer (x .count) (x .state .table) z b t e))
                   (defer-same x z y (answer S (x .state .table) t) (small e)),
@@ -789,13 +789,13 @@ module _ (S : Sig) where
             long = y .both .held .long
 
             posed : Solver S panic × Reply S
-            posed = with-verdict S panic default never n (rust-constrain S panic n k z l r)
+            posed = with-verdict S panic default never (same-shape S panic n) (rust-constrain S panic (same-shape S panic n) k z l r)
 
             said : Reply S
             said = verdict (verdict-of S default never n (table-poses S n k (x .state .table) l r))
 
             go : (d : Dec (Issued (length (z .bindings)) l)) (d′ : Dec (Issued (x .count) l)) (e : Dec (Issued (length (z .bindings)) r)) (e′ : Dec (Issued (x .count) r))
-                → Answered (serve-pair S default never n x k l r d′ e′) (guard S panic default never n d z (guard S panic default never n e z posed)) (if-issued S default never n d′ (if-issued S default never n e′ said))
+                → Answered (serve-pair S default never n x k l r d′ e′) (guard S panic default never (same-shape S panic n) d z (guard S panic default never (same-shape S panic n) e z posed)) (if-issued S default never n d′ (if-issued S default never n e′ said))
             go (yes d) (no d′) e e′ = absurd (d′ (rw long at d))
             go (no d) (yes d′) e e′ = absurd (d (rw long d′))
             go (no d) (no d′) e e′ = (y, refl)
@@ -809,7 +809,7 @@ module _ (S : Sig) where
             long = y .both .held .long
 
             go : (d : Dec (Issued (length (z .bindings)) t)) (e : Dec (Issued (x .count) t))
-                → Answered x (guard S panic default never n d z (z, term (rust-resolve S panic z t))) (if-issued S default never n e (term (answer S (x .state .table) t)))
+                → Answered x (guard S panic default never (same-shape S panic n) d z (z, term (rust-resolve S panic z t))) (if-issued S default never n e (term (answer S (x .state .table) t)))
             go (yes d) (yes e) = (y, ap term (both-answer (x .count) (x .state .table) z (y .both) t e))
             go (yes d) (no e) = absurd (e (rw long at d))
             go (no d) (yes e) = absurd (d (rw long e))
@@ -822,7 +822,7 @@ module _ (S : Sig) where
             sorted-collect (x .count) (z .numeric) (b .held .once) (λ v l. ap (λ (g : ℕ → Option (S .Fam)). g v) (b .held .stands .fams) ∙ b .sane .fine .fresh v l .1) in
             let c : Both (x .count) tab z′ = both-numbers (look (z .numeric)) (x .count) (x .count) 0 (x .state .table) z (omega arith) (b .sane .stands .fams ∙ sym (b .held .stands .fams)) b in
             subst (λ (ps : List (ℕ × S .Fam)). Answered (move S default never x (with-table S default never (x .state) tab))
-            (with-change S panic default never n z (numeric-defaults S panic default never ps z)) (changed (not (is-same (tab .rev) (x .state .table .rev)))))
+            (with-change S panic default never (same-shape S panic n) z (numeric-defaults S panic default never ps z)) (changed (not (is-same (tab .rev) (x .state .table .rev)))))
             (sym e) (same-table x z z′ tab y (numbers-kept (collect (x .count) 0 (look (z .numeric))) z) c (x .posed) (x .wrong) (x .cut), change-same x z z′ tab y c)
         order-same x z y nevers =
             let b = y .both in
@@ -831,31 +831,31 @@ module _ (S : Sig) where
             let e : sorted (z .diverging) ≡ collect (x .count) 0 (look (z .diverging)) = sorted-collect (x .count) (z .diverging) (y .once) (y .far) in
             let c : Both (x .count) tab z′ = both-nevers (x .state .diverging) (look (z .diverging)) (x .count) (x .count) 0 (x .state .table) z (omega arith) (y .diverging) b in
             subst (λ (ps : List (ℕ × Unit {0})). Answered (move S default never x (with-table S default never (x .state) tab))
-            (with-change S panic default never n z (never-defaults S panic default never ps z)) (changed (not (is-same (tab .rev) (x .state .table .rev)))))
+            (with-change S panic default never (same-shape S panic n) z (never-defaults S panic default never ps z)) (changed (not (is-same (tab .rev) (x .state .table .rev)))))
             (sym e) (same-table x z z′ tab y (nevers-kept (collect (x .count) 0 (look (z .diverging))) z) c (x .posed) (x .wrong) (x .cut), change-same x z z′ tab y c)
         order-same x z y revision = (y, ap count (both-rev (x .count) (x .state .table) z (y .both)))
         order-same x z y refused = (y, refl)
 
         all-same : (x : R S default never) (z : Solver S panic) → Same x z → (cs : List (Command S))
-            → Same (obey-all S default never n x cs) (rust-orders S panic default never n z cs) × (rust-replies S panic default never n z cs ≡ replies S default never n x cs)
+            → Same (obey-all S default never n x cs) (rust-orders S panic default never (same-shape S panic n) z cs) × (rust-replies S panic default never (same-shape S panic n) z cs ≡ replies S default never n x cs)
         unfolding obey-all rust-orders rust-replies replies
         all-same x z y [] = (y, refl)
         all-same x z y (c ∷ cs) =
             let a = order-same x z y c in
-            let b = all-same (obey S default never n x c) (rust-order S panic default never n z c .0) (a .0) cs in
+            let b = all-same (obey S default never n x c) (rust-order S panic default never (same-shape S panic n) z c .0) (a .0) cs in
             (b .0, ap₂ _∷_ (a .1) (b .1))
 
         -- THE RUST'S SOLVER ANSWERS AS THE SESSION DOES, for every list of orders. It does so for every `panic`, so no answer depends on what an
         -- `unreachable!` or an index out of range would give, in whatever state they are met.
-        pub rust-same : (cs : List (Command S)) → rust-replies S panic default never n (rust-begin S panic) cs ≡ replies S default never n (fresh S (session-begin S default never)) cs
+        pub rust-same : (cs : List (Command S)) → rust-replies S panic default never (same-shape S panic n) (rust-begin S panic) cs ≡ replies S default never n (fresh S (session-begin S default never)) cs
         rust-same cs = all-same (fresh S (session-begin S default never)) (rust-begin S panic) same-begin cs .1
 
         -- Where a list of orders leads, the loop of `resolve` returns for every issued term: its `unreachable!` is not reached.
         pub never-unreachable : (cs : List (Command S)) (t : T S) → Issued (sheet S default never n cs .count) t
-            → rounds S panic (rust-orders S panic default never n (rust-begin S panic) cs .bindings) (suc (length (rust-orders S panic default never n (rust-begin S panic) cs .bindings))) t
+            → rounds S panic (rust-orders S panic default never (same-shape S panic n) (rust-begin S panic) cs .bindings) (suc (length (rust-orders S panic default never (same-shape S panic n) (rust-begin S panic) cs .bindings))) t
             ≡ some (answer S (sheet S default never n cs .state .table) t)
         never-unreachable cs t is =
-            let z = rust-orders S panic default never n (rust-begin S panic) cs in
+            let z = rust-orders S panic default never (same-shape S panic n) (rust-begin S panic) cs in
             let tab = sheet S default never n cs .state .table in
             let b = all-same (fresh S (session-begin S default never)) (rust-begin S panic) same-begin cs .0 .both in
             holds-rounds (sheet S default never n cs .count) (z .bindings) (z .numeric) (z .revision) (b .sane .means) (b .held) (b .sane .fine) panic t is
