@@ -56,7 +56,8 @@ examples = record { bar = refl; checks = refl; loosely = refl; strictly = refl; 
 
 -- THE RUST'S SOLVER ON KAGARI'S TERMS ANSWERS AS THE SESSION DOES, for every list of orders.
 pub kagari-rust-same : (panic : Term Head) (cs : List (Command kagari))
-    → rust-replies kagari panic fallback neverHead (same-shape kagari panic loose) (rust-begin kagari panic) cs ≡ replies kagari fallback neverHead loose (fresh kagari (session-begin kagari fallback neverHead)) cs
+    → rust-replies kagari panic fallback neverHead (same-shape kagari panic loose) (rust-begin kagari panic) cs
+    ≡ replies kagari fallback neverHead loose (fresh kagari (session-begin kagari fallback neverHead)) cs
 kagari-rust-same panic cs = rust-same kagari panic loose loose-respects (λ f g e p. meet-kind f g e p .1) fallback neverHead cs
 
 -- THE SAME WITH `same_shape` AS THE RUST HAS IT, tag by tag, for orders whose terms are terms of document 01: each head has the children that
@@ -74,7 +75,8 @@ fallback-form f = (tt, refl)
 pub kagari-literal-same : (panic : Term Head) → Ok kagari Form panic → (cs : List (Command kagari)) → OkCommands kagari Form cs
     → rust-replies kagari panic fallback neverHead literal-shape (rust-begin kagari panic) cs ≡ replies kagari fallback neverHead loose (fresh kagari (session-begin kagari fallback neverHead)) cs
 kagari-literal-same panic a cs o =
-    shapes-same kagari Form panic a literal-shape (same-shape kagari panic loose) (λ h k ts us p q ne. sym (shape-right panic h k ts us (p .0) (q .0) (p .1) (q .1) ne)) fallback neverHead fallback-form (fallback-form 10) cs o
+    shapes-same kagari Form panic a literal-shape (same-shape kagari panic loose)
+    (λ h k ts us p q ne. sym (shape-right panic h k ts us (p .0) (q .0) (p .1) (q .1) ne)) fallback neverHead fallback-form (fallback-form 10) cs o
     ∙ kagari-rust-same panic cs
 
 -- the pairs of the worked session have that form
