@@ -4,8 +4,10 @@
 --   Solving    `resolve` and `constrain`
 --   Session    places, deferrals, defaults
 --   Orders     orders 0 to 8 and their answers
+--   Demand3    demand 3: its premises and its two sentences
 pub mod Families
 pub mod Shapes
 pub mod Solving
 pub mod Session
 pub mod Orders
+pub mod Demand3

@@ -1,0 +1,269 @@
+-- For every list of orders, the history viewed is the run of the theory, order by order. Assumes nothing.
+use mathlib.Core.Path.{_≡_, refl, sym, ap, ap₂, _∙_, subst}
+use mathlib.Core.Bool.{Bool, true, false, not, _&&_, _||_}
+use mathlib.Core.List.{List, [], _∷_, map}
+use mathlib.Core.Option.{Option, none, some}
+use Prim.Native.Nat.{ℕ, zero, suc, _+_}
+use lib.Dec.{leb, ltb, eqb}
+use Rattle.terms.specs.Result.{pick}
+use Rattle.terms.specs.Term.{Term, Parts, var, node, end, num, sub, size}
+use Rattle.terms.specs.Questions.{meets}
+use Rattle.terms.proofs.Bools.{never-true, never-false, or-none, not-true}
+use Rattle.unify.specs.Term as tree
+use Rattle.unify.specs.Solver.{Sig, Out, cancelled, done, put}
+use Rattle.unify.specs.Orders.{Run, Issued, issued?, settle}
+use Rattle.unify.specs.Table as table
+use Rattle.unify.specs.Table.{Table, answer}
+use Rattle.unify.specs.Session as session
+use Rattle.solver.specs.Families.{Request}
+use Rattle.solver.specs.Shapes.{Notion, read}
+use Rattle.solver.specs.Solving.{Solver, Pair, resolved, always, constrain}
+use Rattle.solver.specs.Session.{Limits, Session, fresh, withSolver, never, deferring, numericDefaults, neverDefaults}
+use Rattle.solver.specs.Orders.{Command, variable, number, hole, defer, pair, resolving, numbers, nevers, revision, unread}
+use Rattle.solver.specs.Orders.{Reply, term, verdict, changed, count, nothing, refused, Step, _gives_, verdictOf, solverOf, beyond, known, full, crowded, unless, variableAt, numberAt, holeAt, posing, order}
+use Rattle.solver.specs.Demand3.{History, accepted, says, placed, requestedBy, posedBy, noted, beginning, after, history, Allowed, AllAllowed}
+use Rattle.solver.proofs.View.{T, view}
+use Rattle.solver.proofs.Signature.{S}
+use Rattle.solver.proofs.ViewLaws.{view-resolve, known-issued, unknown-issued}
+use Rattle.solver.proofs.ConstrainView.{view-table, view-pairs, view-out, settles-view, fallback, numerics-view, nevers-view}
+
+abbrev pub TheSession : Type 0
+TheSession = session.Session S fallback never
+
+abbrev pub view-session : Session → TheSession
+view-session s = record { table = view-table (s .solver); sites = s .sites; holes = s .holes; diverging = s .deferred }
+
+abbrev pub view-run : History → Run S TheSession
+view-run h = record {
+  state = view-session (h .session);
+  count = h .session .issued;
+  asked = h .requests;
+  posed = view-pairs (h .posed);
+  wrong = h .incompatible;
+  cut = h .cancelled;
+}
+
+or-yes : (a : Bool) → (a || true) ≡ true
+or-yes true = refl
+or-yes false = refl
+
+-- the flags of an order that answers no verdict
+flags : (h : History) (s : TheSession) (c : ℕ) (f : ℕ → Option Request)
+    → _≡_ {A = Run S TheSession}
+    (record { state = s; count = c; asked = f; posed = view-pairs (h .posed); wrong = h .incompatible; cut = h .cancelled })
+    (record { state = s; count = c; asked = f; posed = view-pairs (h .posed); wrong = h .incompatible || false; cut = h .cancelled || false })
+flags h s c f =
+    ap₂ (λ (a b : Bool). record { state = s; count = c; asked = f; posed = view-pairs (h .posed); wrong = a; cut = b }) (sym (or-none (h .incompatible))) (sym (or-none (h .cancelled)))
+
+module _ (lim : Limits) (n : Notion) where
+  -- An order as the theory has it. The theory knows no limits: an order refused with 7 or 8 is one that is refused.
+  if-room : Option ℕ → Bool → session.Command S → session.Command S
+  if-room none true c = session.refused
+  if-room none false c = c
+  if-room (some v) b c = c
+
+  pub view-command : Session → Command → session.Command S
+  view-command s (variable site slot) = if-room (s .sites site slot) (full lim s) (session.variable site slot)
+  view-command s (number site r) = if-room (s .sites site 1) (full lim s) (session.number site r)
+  view-command s (hole site) = if-room (s .holes site) (full lim s) (session.hole site)
+  view-command s (defer t) = pick (crowded lim s (size t)) session.refused (session.defer (view t))
+  view-command s (pair k t u) = pick (crowded lim s (size t + size u)) session.refused (session.pair k (view t) (view u))
+  view-command s (resolving t) = session.resolving (view t)
+  view-command s numbers = session.numbers
+  view-command s nevers = session.nevers
+  view-command s revision = session.revision
+  view-command s (unread r) = session.refused
+
+  abbrev obeyed : History → session.Command S → Run S TheSession
+  obeyed h c = session.obey S fallback never (read n) (view-run h) c
+
+  variable-view : (h : History) (site slot : ℕ) (o : Option ℕ) (b : Bool) → h .session .sites site slot ≡ o
+      → obeyed h (if-room o b (session.variable site slot)) ≡ view-run (noted h (variable site slot) (variableAt lim (h .session) site slot o b))
+  unfolding session.obey session.serve-variable variableAt if-room requestedBy posedBy says accepted
+  variable-view h site slot (some v) b e =
+      ap (session.serve-variable S fallback never (view-run h) site slot) e ∙ flags h (view-session (h .session)) (h .session .issued) (h .requests)
+  variable-view h site slot none true e = flags h (view-session (h .session)) (h .session .issued) (h .requests)
+  variable-view h site slot none false e =
+      ap (session.serve-variable S fallback never (view-run h) site slot) e ∙ flags h _ (suc (h .session .issued)) (h .requests)
+
+  number-view : (h : History) (site : ℕ) (r : Request) (o : Option ℕ) (b : Bool) → h .session .sites site 1 ≡ o
+      → obeyed h (if-room o b (session.number site r)) ≡ view-run (noted h (number site r) (numberAt lim (h .session) site r o b))
+  unfolding session.obey session.serve-number numberAt if-room requestedBy posedBy says accepted placed
+  number-view h site r (some v) b e =
+      ap (session.serve-number S fallback never (view-run h) site r) e
+      ∙ ap (λ (w : ℕ). record {
+        state = session.with-table S fallback never (view-session (h .session)) (table.table-asks S (view-table (h .session .solver)) v r);
+        count = h .session .issued;
+        asked = put (h .requests) w (some r);
+        posed = view-pairs (h .posed);
+        wrong = h .incompatible;
+        cut = h .cancelled;
+      }) (sym (ap (λ (o : Option ℕ). placed o (h .session .issued)) e))
+      ∙ flags h _ (h .session .issued) _
+  number-view h site r none true e = flags h (view-session (h .session)) (h .session .issued) (h .requests)
+  number-view h site r none false e =
+      ap (session.serve-number S fallback never (view-run h) site r) e
+      ∙ ap (λ (w : ℕ). record {
+        state = session.with-table S fallback never (session.with-site S fallback never (view-session (h .session)) site 1 (h .session .issued))
+            (table.table-asks S (view-table (h .session .solver)) (h .session .issued) r);
+        count = suc (h .session .issued);
+        asked = put (h .requests) w (some r);
+        posed = view-pairs (h .posed);
+        wrong = h .incompatible;
+        cut = h .cancelled;
+      }) (sym (ap (λ (o : Option ℕ). placed o (h .session .issued)) e))
+      ∙ flags h _ (suc (h .session .issued)) _
+
+  hole-view : (h : History) (site : ℕ) (o : Option ℕ) (b : Bool) → h .session .holes site ≡ o
+      → obeyed h (if-room o b (session.hole site)) ≡ view-run (noted h (hole site) (holeAt lim (h .session) site o b))
+  unfolding session.obey session.serve-hole holeAt if-room requestedBy posedBy says accepted
+  hole-view h site (some v) b e = ap (session.serve-hole S fallback never (view-run h) site) e ∙ flags h (view-session (h .session)) (h .session .issued) (h .requests)
+  hole-view h site none true e = flags h (view-session (h .session)) (h .session .issued) (h .requests)
+  hole-view h site none false e = ap (session.serve-hole S fallback never (view-run h) site) e ∙ flags h _ (suc (h .session .issued)) (h .requests)
+
+  -- terms whose variables are issued
+  known-yes : (s : Session) (t : Term) → known s t ≡ true → Issued (s .issued) (view t)
+  known-yes s t e = known-issued (s .issued) t (not-true (meets (beyond (s .issued)) always t) e)
+
+  yes-known : (s : Session) (t : Term) → Issued (s .issued) (view t) → known s t ≡ true
+  yes-known s t i = go (meets (beyond (s .issued)) always t) refl
+    where
+      go : (b : Bool) → meets (beyond (s .issued)) always t ≡ b → not b ≡ true
+      go true e = absurd (unknown-issued (s .issued) t e i)
+      go false e = refl
+
+  deferred-view : (h : History) (t u : Term)
+      → session.move S fallback never (view-run h) (session.deferring S fallback never (view-session (h .session)) (view u))
+      ≡ view-run (noted h (defer t) (deferring (h .session) u gives nothing))
+  unfolding session.deferring deferring view requestedBy posedBy says accepted
+  deferred-view h t (var v) = flags h _ (h .session .issued) (h .requests)
+  deferred-view h t (node k ps) = flags h _ (h .session .issued) (h .requests)
+
+  defer-view : (h : History) (t : Term) (b c : Bool) → (b ≡ true → Issued (h .session .issued) (view t)) → (Issued (h .session .issued) (view t) → b ≡ true)
+      → obeyed h (pick c session.refused (session.defer (view t)))
+      ≡ view-run (noted h (defer t) (unless lim (h .session) b c (deferring (h .session) (resolved (h .session .solver) t) gives nothing)))
+  unfolding session.obey session.serve-defer requestedBy posedBy says accepted
+  defer-view h t true true f g = flags h (view-session (h .session)) (h .session .issued) (h .requests)
+  defer-view h t false true f g = flags h (view-session (h .session)) (h .session .issued) (h .requests)
+  defer-view h t b false f g = go b f g (issued? (h .session .issued) (view t))
+    where
+      go : (b : Bool) → (b ≡ true → Issued (h .session .issued) (view t)) → (Issued (h .session .issued) (view t) → b ≡ true) → (d : Dec (Issued (h .session .issued) (view t)))
+          → session.serve-defer S fallback never (view-run h) (view t) d
+          ≡ view-run (noted h (defer t) (unless lim (h .session) b false (deferring (h .session) (resolved (h .session .solver) t) gives nothing)))
+      go true f g (yes i) =
+          ap (λ (x : T). session.move S fallback never (view-run h) (session.deferring S fallback never (view-session (h .session)) x))
+          (sym (view-resolve (h .session .solver .revision) (h .session .solver .bindings) t))
+          ∙ deferred-view h t (resolved (h .session .solver) t)
+      go true f g (no i) = absurd (i (f refl))
+      go false f g (yes i) = never-true (g i)
+      go false f g (no i) = flags h (view-session (h .session)) (h .session .issued) (h .requests)
+
+  settled-view : (h : History) (k m : ℕ) (t u : Term) (o : Out Solver)
+      → settle S (view-run h) (view t) (view u) (session.lift S fallback never (view-session (h .session)) (view-out o))
+      ≡ view-run (noted h (pair k t u) (posing lim n (h .session) m o))
+  unfolding settle session.lift view-out verdictOf solverOf requestedBy posedBy says accepted
+  settled-view h k m t u (cancelled z) = rw (or-none (h .incompatible), or-yes (h .cancelled))
+  settled-view h k m t u (done z true) = rw (or-none (h .cancelled))
+  settled-view h k m t u (done z false) = rw (or-none (h .cancelled))
+
+  pair-view : (h : History) (k : ℕ) (t u : Term) (a b c : Bool)
+      → (a ≡ true → Issued (h .session .issued) (view t)) → (Issued (h .session .issued) (view t) → a ≡ true)
+      → (b ≡ true → Issued (h .session .issued) (view u)) → (Issued (h .session .issued) (view u) → b ≡ true)
+      → obeyed h (pick c session.refused (session.pair k (view t) (view u)))
+      ≡ view-run (noted h (pair k t u) (unless lim (h .session) (a && b) c (posing lim n (h .session) (size t + size u) (constrain n k (h .session .solver) t u))))
+  unfolding session.obey session.serve-pair requestedBy posedBy says accepted
+  pair-view h k t u true true true f f′ g g′ = flags h (view-session (h .session)) (h .session .issued) (h .requests)
+  pair-view h k t u true false true f f′ g g′ = flags h (view-session (h .session)) (h .session .issued) (h .requests)
+  pair-view h k t u false b true f f′ g g′ = flags h (view-session (h .session)) (h .session .issued) (h .requests)
+  pair-view h k t u a b false f f′ g g′ = go a b f f′ g g′ (issued? (h .session .issued) (view t)) (issued? (h .session .issued) (view u))
+    where
+      go : (a b : Bool)
+          → (a ≡ true → Issued (h .session .issued) (view t)) → (Issued (h .session .issued) (view t) → a ≡ true)
+          → (b ≡ true → Issued (h .session .issued) (view u)) → (Issued (h .session .issued) (view u) → b ≡ true)
+          → (d : Dec (Issued (h .session .issued) (view t))) (e : Dec (Issued (h .session .issued) (view u)))
+          → session.serve-pair S fallback never (read n) (view-run h) k (view t) (view u) d e
+          ≡ view-run (noted h (pair k t u) (unless lim (h .session) (a && b) false (posing lim n (h .session) (size t + size u) (constrain n k (h .session .solver) t u))))
+      go true true f f′ g g′ (yes i) (yes j) =
+          ap (λ (o : Out (Table S)). settle S (view-run h) (view t) (view u) (session.lift S fallback never (view-session (h .session)) o))
+          (settles-view n k (h .session .solver) true ((t, u) ∷ []))
+          ∙ settled-view h k (size t + size u) t u (constrain n k (h .session .solver) t u)
+      go true true f f′ g g′ (yes i) (no j) = absurd (j (g refl))
+      go true true f f′ g g′ (no i) e = absurd (i (f refl))
+      go true false f f′ g g′ (yes i) (yes j) = never-true (g′ j)
+      go true false f f′ g g′ (yes i) (no j) = flags h (view-session (h .session)) (h .session .issued) (h .requests)
+      go true false f f′ g g′ (no i) e = absurd (i (f refl))
+      go false b f f′ g g′ (yes i) e = never-true (f′ i)
+      go false b f f′ g g′ (no i) e = flags h (view-session (h .session)) (h .session .issued) (h .requests)
+
+  resolving-view : (h : History) (t u : Term) (b c : Bool) → view-run h ≡ view-run (noted h (resolving t) (unless lim (h .session) b c (h .session gives term u)))
+  unfolding requestedBy posedBy says accepted
+  resolving-view h t u true true = flags h (view-session (h .session)) (h .session .issued) (h .requests)
+  resolving-view h t u true false = flags h (view-session (h .session)) (h .session .issued) (h .requests)
+  resolving-view h t u false c = flags h (view-session (h .session)) (h .session .issued) (h .requests)
+
+  -- AN ORDER ON THE TERMS' SESSION IS, VIEWED, THE ORDER OF THE THEORY.
+  pub order-view : (h : History) (c : Command) → obeyed h (view-command (h .session) c) ≡ view-run (after lim n h c)
+  unfolding order view-command session.obey requestedBy posedBy says accepted
+  order-view h (variable site slot) = variable-view h site slot (h .session .sites site slot) (full lim (h .session)) refl
+  order-view h (number site r) = number-view h site r (h .session .sites site 1) (full lim (h .session)) refl
+  order-view h (hole site) = hole-view h site (h .session .holes site) (full lim (h .session)) refl
+  order-view h (defer t) = defer-view h t (known (h .session) t) (crowded lim (h .session) (size t)) (known-yes (h .session) t) (yes-known (h .session) t)
+  order-view h (pair k t u) =
+      pair-view h k t u (known (h .session) t) (known (h .session) u) (crowded lim (h .session) (size t + size u))
+      (known-yes (h .session) t) (yes-known (h .session) t) (known-yes (h .session) u) (yes-known (h .session) u)
+  order-view h (resolving t) = resolving-view h t (resolved (h .session .solver) t) (known (h .session) t) (crowded lim (h .session) (size t))
+  order-view h numbers =
+      ap (λ (z : Table S). session.move S fallback never (view-run h) (session.with-table S fallback never (view-session (h .session)) z))
+      (numerics-view (h .session .issued) 0 (h .session .solver))
+      ∙ flags h _ (h .session .issued) (h .requests)
+  order-view h nevers =
+      ap (λ (z : Table S). session.move S fallback never (view-run h) (session.with-table S fallback never (view-session (h .session)) z))
+      (nevers-view (h .session .deferred) (h .session .issued) 0 (h .session .solver))
+      ∙ flags h _ (h .session .issued) (h .requests)
+  order-view h revision = flags h (view-session (h .session)) (h .session .issued) (h .requests)
+  order-view h (unread r) = flags h (view-session (h .session)) (h .session .issued) (h .requests)
+
+  -- and so is a list of orders
+  pub view-commands : Session → List Command → List (session.Command S)
+  view-commands s [] = []
+  view-commands s (c ∷ cs) = view-command s c ∷ view-commands (order lim n s c .session) cs
+
+  pub history-view : (h : History) (cs : List Command) → session.obey-all S fallback never (read n) (view-run h) (view-commands (h .session) cs) ≡ view-run (history lim n h cs)
+  unfolding session.obey-all history view-commands
+  history-view h [] = refl
+  history-view h (c ∷ cs) =
+      ap (λ (x : Run S TheSession). session.obey-all S fallback never (read n) x (view-commands (order lim n (h .session) c .session) cs)) (order-view h c)
+      ∙ history-view (after lim n h c) cs
+
+  -- the premises that are about an order where it stands
+  room-allowed : (h : History) (o : Option ℕ) (b : Bool) (c : session.Command S) → session.Allowed S fallback never (read n) (view-run h) c → session.Allowed S fallback never (read n) (view-run h) (if-room o b c)
+  unfolding if-room
+  room-allowed h none true c p = tt
+  room-allowed h none false c p = p
+  room-allowed h (some v) b c p = p
+
+  pick-allowed : (h : History) (b : Bool) (c : session.Command S) → session.Allowed S fallback never (read n) (view-run h) c → session.Allowed S fallback never (read n) (view-run h) (pick b session.refused c)
+  pick-allowed h true c p = tt
+  pick-allowed h false c p = p
+
+  allowed-view : (h : History) (c : Command) → Allowed lim n (h .session) c → session.Allowed S fallback never (read n) (view-run h) (view-command (h .session) c)
+  unfolding view-command order
+  allowed-view h (variable site slot) p = room-allowed h (h .session .sites site slot) (full lim (h .session)) (session.variable site slot) tt
+  allowed-view h (number site r) p = room-allowed h (h .session .sites site 1) (full lim (h .session)) (session.number site r) p
+  allowed-view h (hole site) p = room-allowed h (h .session .holes site) (full lim (h .session)) (session.hole site) tt
+  allowed-view h (defer t) p = pick-allowed h (crowded lim (h .session) (size t)) (session.defer (view t)) tt
+  allowed-view h (pair k t u) p = pick-allowed h (crowded lim (h .session) (size t + size u)) (session.pair k (view t) (view u)) tt
+  allowed-view h (resolving t) p = tt
+  allowed-view h numbers p = ap (λ (z : Table S). z .rev) (numerics-view (h .session .issued) 0 (h .session .solver)) ∙ p
+  allowed-view h nevers p = ap (λ (z : Table S). z .rev) (nevers-view (h .session .deferred) (h .session .issued) 0 (h .session .solver)) ∙ p
+  allowed-view h revision p = tt
+  allowed-view h (unread r) p = tt
+
+  pub all-allowed-view : (h : History) (cs : List Command) → AllAllowed lim n (h .session) cs → session.AllAllowed S fallback never (read n) (view-run h) (view-commands (h .session) cs)
+  unfolding view-commands
+  all-allowed-view h [] p = tt
+  all-allowed-view h (c ∷ cs) p = (
+    allowed-view h c (p .0),
+    subst (λ (x : Run S TheSession). session.AllAllowed S fallback never (read n) x (view-commands (order lim n (h .session) c .session) cs)) (sym (order-view h c))
+        (all-allowed-view (after lim n h c) cs (p .1)),
+  )
