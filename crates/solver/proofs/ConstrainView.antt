@@ -221,7 +221,7 @@ module _ (n : Notion) where
 abbrev pub fallback : Request → Term
 fallback r = defaultOf r
 
-leaf-view : (c : ℕ) → view (node 4 (num c end)) ≡ tree.node (node 4 (num c end)) nil
+pub leaf-view : (c : ℕ) → view (node 4 (num c end)) ≡ tree.node (node 4 (num c end)) nil
 unfolding view blankRow turned class forest nums
 leaf-view c = refl
 

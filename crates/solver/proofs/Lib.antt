@@ -6,3 +6,4 @@ pub mod Signature
 pub mod ViewLaws
 pub mod ConstrainView
 pub mod Simulation
+pub mod Demand3Laws
