@@ -28,7 +28,7 @@ use Rattle.unify.specs.Whole.{whole-demand-3}
 use Rattle.solver.specs.Families.{Family, Request, admits, belongs, belongsRow}
 use Rattle.solver.specs.Shapes.{Notion, loose, exact, unmarked, readRow, read, readAll, blankRow}
 use Rattle.solver.specs.Solving.{Pair, replace, resolved, always, occurs, recovery, projects}
-use Rattle.solver.specs.Session.{Limits, Session, fresh, never}
+use Rattle.solver.specs.Session.{Limits, Session, issued, find, fresh, never}
 use Rattle.solver.specs.Orders.{Command}
 use Rattle.solver.specs.Demand3.{History, beginning, history, isVariable, VariableFree, Assigns, True, Alike, Equal, Agrees, Demand3, outside, Plain, PlainPairs, Premises}
 use Rattle.solver.proofs.View.{T, view, view-injective, back, back-view, meets-view, some-of, some-in, in-some}
@@ -167,7 +167,7 @@ module _ (n : Notion) (θ : ℕ → Term) where
       ∙ sym (view-replace θ (resolved (s .solver) (var v)))
 
   abbrev Their : Session → Type 0
-  Their s = (v : ℕ) → v < s .issued → Sim (read n) (viewing θ v) (tree.sub (viewing θ) (answer S (view-table (s .solver)) (tree.var v)))
+  Their s = (v : ℕ) → v < issued s → Sim (read n) (viewing θ v) (tree.sub (viewing θ) (answer S (view-table (s .solver)) (tree.var v)))
 
   agrees-view : (s : Session) → Agrees n θ s → Their s
   agrees-view s a v l =
@@ -249,7 +249,7 @@ all-same n N θ σ e (p ∷ ps) w a = (
 
 module _ (n : Notion) (h : History) where
   abbrev N : ℕ
-  N = h .session .issued
+  N = issued (h .session)
 
   abbrev res : ℕ → T
   res v = answer S (view-table (h .session .solver)) (tree.var v)
@@ -292,7 +292,7 @@ module _ (lim : Limits) (n : Notion) (codes-count : n 4 ≡ false) where
   -- DEMAND 3: for every list of orders 0 to 8, refused ones included, given in turn to a fresh session; for every notion of equal shape in which
   -- the code of a builtin counts, and for all limits.
   pub demand-3-of : (cs : List Command) → Premises lim n cs → Demand3 n (history lim n beginning cs)
-  unfolding viewed
+  unfolding viewed find
   demand-3-of cs p =
       let h = history lim n beginning cs in
       let ds = view-commands lim n fresh cs in

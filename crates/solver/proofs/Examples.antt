@@ -11,7 +11,7 @@ use Rattle.unify.specs.Solver.{put}
 use Rattle.solver.specs.Families.{requested, code, codes, familyOf, admits, belongs, belongsRow, shared, gathered, withFallback, meet}
 use Rattle.solver.specs.Shapes.{Notion, loose, exact, blank, blankRow, unmarked, read, sameShape, turned}
 use Rattle.solver.specs.Solving.{replace, followed, resolve, follow, recovery, is, projects, joined, join, allow, admit, bind₁, bind₀, bind, zipOn, part, differ, match, turn, settles}
-use Rattle.solver.specs.Session.{box, fresh, deferring, settleAt, numericAt, neverAt, numericDefaults, neverDefaults}
+use Rattle.solver.specs.Session.{box, samePlace, find, fresh, deferring, settleAt, numericAt, neverAt, numericDefaults, neverDefaults}
 use Rattle.solver.specs.Orders.{Command, variable, number, hole, defer, pair, resolving, numbers, nevers, revision}
 use Rattle.solver.specs.Orders.{Reply, term, verdict, changed, count, nothing, refused, verdictOf, solverOf, beyond, variableAt, numberAt, holeAt, order, replies}
 
@@ -73,7 +73,7 @@ examples : Examples
 unfolding answers loose exact ℕ-discrete put size nums row tag class children subs same among meets
     code codes familyOf admits belongs belongsRow shared gathered withFallback meet blank blankRow unmarked read sameShape turned
     replace followed resolve follow recovery is projects joined join allow admit bind₁ bind₀ bind zipOn part differ match turn settles
-    deferring settleAt numericAt neverAt numericDefaults neverDefaults verdictOf solverOf beyond variableAt numberAt holeAt order replies
+    samePlace find deferring settleAt numericAt neverAt numericDefaults neverDefaults verdictOf solverOf beyond variableAt numberAt holeAt order replies
 examples = record {
   bar = refl;
   checks = refl;

@@ -1,10 +1,14 @@
 -- For every list of orders, the history viewed is the run of the theory, order by order. Assumes nothing.
-use mathlib.Core.Path.{_≡_, refl, sym, ap, ap₂, _∙_, subst}
+use mathlib.Core.Path.{_≡_, refl, sym, ap, ap₂, _∙_, subst, fun-ext}
+use mathlib.Core.Logic.{ite}
 use mathlib.Core.Bool.{Bool, true, false, not, _&&_, _||_}
 use mathlib.Core.List.{List, [], _∷_, map}
 use mathlib.Core.Option.{Option, none, some}
 use Prim.Native.Nat.{ℕ, zero, suc, _+_}
+use native.Mathlib.Decide.{ℕ-discrete}
+use borrow.Author.Tests.{eq-eqb, ne-eqb}
 use lib.Dec.{leb, ltb, eqb}
+use lib.ListN.{length}
 use Rattle.terms.specs.Result.{pick}
 use Rattle.terms.specs.Term.{Term, Parts, var, node, end, num, sub, size}
 use Rattle.terms.specs.Questions.{meets}
@@ -18,7 +22,7 @@ use Rattle.unify.specs.Session as session
 use Rattle.solver.specs.Families.{Request}
 use Rattle.solver.specs.Shapes.{Notion, read}
 use Rattle.solver.specs.Solving.{Solver, Pair, resolved, always, constrain}
-use Rattle.solver.specs.Session.{Limits, Session, fresh, withSolver, never, deferring, numericDefaults, neverDefaults}
+use Rattle.solver.specs.Session.{Limits, Place, at, gap, samePlace, Session, issued, find, fresh, withSolver, issueAt, never, deferring, numericDefaults, neverDefaults}
 use Rattle.solver.specs.Orders.{Command, variable, number, hole, defer, pair, resolving, numbers, nevers, revision, unread}
 use Rattle.solver.specs.Orders.{Reply, term, verdict, changed, count, nothing, refused, Step, _gives_, verdictOf, solverOf, beyond, known, full, crowded, unless, variableAt, numberAt, holeAt, posing, order}
 use Rattle.solver.specs.Demand3.{History, accepted, says, placed, requestedBy, posedBy, noted, beginning, after, history, Allowed, AllAllowed}
@@ -31,12 +35,12 @@ abbrev pub TheSession : Type 0
 TheSession = session.Session S fallback never
 
 abbrev pub view-session : Session → TheSession
-view-session s = record { table = view-table (s .solver); sites = s .sites; holes = s .holes; diverging = s .deferred }
+view-session s = record { table = view-table (s .solver); sites = λ r i. find (at r i) (s .places); holes = λ r. find (gap r) (s .places); diverging = s .deferred }
 
 abbrev pub view-run : History → Run S TheSession
 view-run h = record {
   state = view-session (h .session);
-  count = h .session .issued;
+  count = issued (h .session);
   asked = h .requests;
   posed = view-pairs (h .posed);
   wrong = h .incompatible;
@@ -55,6 +59,42 @@ flags : (h : History) (s : TheSession) (c : ℕ) (f : ℕ → Option Request)
 flags h s c f =
     ap₂ (λ (a b : Bool). record { state = s; count = c; asked = f; posed = view-pairs (h .posed); wrong = a; cut = b }) (sym (or-none (h .incompatible))) (sym (or-none (h .cancelled)))
 
+-- ---- places
+
+module _ (ps : List Place) where
+  sites-more : (site slot : ℕ) → put (λ (r i : ℕ). find (at r i) ps) site (put (λ (i : ℕ). find (at site i) ps) slot (some (length ps))) ≡ (λ r i. find (at r i) (at site slot ∷ ps))
+  unfolding put find samePlace
+  sites-more site slot = fun-ext (λ r. outer r (ℕ-discrete r site))
+    where
+      inner : (r : ℕ) → r ≡ site → (i : ℕ) (d : Dec (i ≡ slot)) → ite d (some (length ps)) (find (at site i) ps) ≡ pick (eqb r site && eqb i slot) (some (length ps)) (find (at r i) ps)
+      inner r e i (yes p) = rw (eq-eqb r site e, eq-eqb i slot p)
+      inner r e i (no p) = rw (eq-eqb r site e, ne-eqb i slot p) (ap (λ (x : ℕ). find (at x i) ps) (sym e))
+
+      outer : (r : ℕ) (d : Dec (r ≡ site))
+          → ite d (put (λ (i : ℕ). find (at site i) ps) slot (some (length ps))) (λ i. find (at r i) ps) ≡ (λ i. find (at r i) (at site slot ∷ ps))
+      outer r (yes p) = fun-ext (λ i. inner r p i (ℕ-discrete i slot))
+      outer r (no p) = fun-ext (λ i. rw (ne-eqb r site p))
+
+  holes-more : (site : ℕ) → put (λ (r : ℕ). find (gap r) ps) site (some (length ps)) ≡ (λ r. find (gap r) (gap site ∷ ps))
+  unfolding put find samePlace
+  holes-more site = fun-ext (λ r. go r (ℕ-discrete r site))
+    where
+      go : (r : ℕ) (d : Dec (r ≡ site)) → ite d (some (length ps)) (find (gap r) ps) ≡ pick (eqb r site) (some (length ps)) (find (gap r) ps)
+      go r (yes p) = rw (eq-eqb r site p)
+      go r (no p) = rw (ne-eqb r site p)
+
+site-view : (s : Session) (site slot : ℕ) → session.with-site S fallback never (view-session s) site slot (issued s) ≡ view-session (issueAt s (at site slot))
+unfolding find samePlace
+site-view s site slot =
+    ap (λ (f : ℕ → ℕ → Option ℕ). record { table = view-table (s .solver); sites = f; holes = λ r. find (gap r) (s .places); diverging = s .deferred }) (sites-more (s .places) site slot)
+
+gap-view : (s : Session) (site : ℕ) → session.with-hole S fallback never (view-session s) site (issued s) ≡ view-session (issueAt s (gap site))
+unfolding find samePlace
+gap-view s site =
+    ap (λ (f : ℕ → Option ℕ). record { table = view-table (s .solver); sites = λ r i. find (at r i) (s .places); holes = f; diverging = s .deferred }) (holes-more (s .places) site)
+
+-- ---- orders
+
 module _ (lim : Limits) (n : Notion) where
   -- An order as the theory has it. The theory knows no limits: an order refused with 7 or 8 is one that is refused.
   if-room : Option ℕ → Bool → session.Command S → session.Command S
@@ -63,9 +103,9 @@ module _ (lim : Limits) (n : Notion) where
   if-room (some v) b c = c
 
   pub view-command : Session → Command → session.Command S
-  view-command s (variable site slot) = if-room (s .sites site slot) (full lim s) (session.variable site slot)
-  view-command s (number site r) = if-room (s .sites site 1) (full lim s) (session.number site r)
-  view-command s (hole site) = if-room (s .holes site) (full lim s) (session.hole site)
+  view-command s (variable site slot) = if-room (find (at site slot) (s .places)) (full lim s) (session.variable site slot)
+  view-command s (number site r) = if-room (find (at site 1) (s .places)) (full lim s) (session.number site r)
+  view-command s (hole site) = if-room (find (gap site) (s .places)) (full lim s) (session.hole site)
   view-command s (defer t) = pick (crowded lim s (size t)) session.refused (session.defer (view t))
   view-command s (pair k t u) = pick (crowded lim s (size t + size u)) session.refused (session.pair k (view t) (view u))
   view-command s (resolving t) = session.resolving (view t)
@@ -77,77 +117,81 @@ module _ (lim : Limits) (n : Notion) where
   abbrev obeyed : History → session.Command S → Run S TheSession
   obeyed h c = session.obey S fallback never (read n) (view-run h) c
 
-  variable-view : (h : History) (site slot : ℕ) (o : Option ℕ) (b : Bool) → h .session .sites site slot ≡ o
-      → obeyed h (if-room o b (session.variable site slot)) ≡ view-run (noted h (variable site slot) (variableAt lim (h .session) site slot o b))
+  variable-view : (h : History) (site slot : ℕ) (o : Option ℕ) (b : Bool) → find (at site slot) (h .session .places) ≡ o
+      → obeyed h (if-room o b (session.variable site slot)) ≡ view-run (noted h (variable site slot) (variableAt lim (h .session) (at site slot) o b))
   unfolding session.obey session.serve-variable variableAt if-room requestedBy posedBy says accepted
   variable-view h site slot (some v) b e =
-      ap (session.serve-variable S fallback never (view-run h) site slot) e ∙ flags h (view-session (h .session)) (h .session .issued) (h .requests)
-  variable-view h site slot none true e = flags h (view-session (h .session)) (h .session .issued) (h .requests)
+      ap (session.serve-variable S fallback never (view-run h) site slot) e ∙ flags h (view-session (h .session)) (issued (h .session)) (h .requests)
+  variable-view h site slot none true e = flags h (view-session (h .session)) (issued (h .session)) (h .requests)
   variable-view h site slot none false e =
-      ap (session.serve-variable S fallback never (view-run h) site slot) e ∙ flags h _ (suc (h .session .issued)) (h .requests)
+      ap (session.serve-variable S fallback never (view-run h) site slot) e
+      ∙ ap (session.grow S fallback never (view-run h)) (site-view (h .session) site slot)
+      ∙ flags h (view-session (issueAt (h .session) (at site slot))) (suc (issued (h .session))) (h .requests)
 
-  number-view : (h : History) (site : ℕ) (r : Request) (o : Option ℕ) (b : Bool) → h .session .sites site 1 ≡ o
-      → obeyed h (if-room o b (session.number site r)) ≡ view-run (noted h (number site r) (numberAt lim (h .session) site r o b))
+  number-view : (h : History) (site : ℕ) (r : Request) (o : Option ℕ) (b : Bool) → find (at site 1) (h .session .places) ≡ o
+      → obeyed h (if-room o b (session.number site r)) ≡ view-run (noted h (number site r) (numberAt lim (h .session) (at site 1) r o b))
   unfolding session.obey session.serve-number numberAt if-room requestedBy posedBy says accepted placed
   number-view h site r (some v) b e =
       ap (session.serve-number S fallback never (view-run h) site r) e
       ∙ ap (λ (w : ℕ). record {
         state = session.with-table S fallback never (view-session (h .session)) (table.table-asks S (view-table (h .session .solver)) v r);
-        count = h .session .issued;
+        count = issued (h .session);
         asked = put (h .requests) w (some r);
         posed = view-pairs (h .posed);
         wrong = h .incompatible;
         cut = h .cancelled;
-      }) (sym (ap (λ (o : Option ℕ). placed o (h .session .issued)) e))
-      ∙ flags h _ (h .session .issued) _
-  number-view h site r none true e = flags h (view-session (h .session)) (h .session .issued) (h .requests)
+      }) (sym (ap (λ (o : Option ℕ). placed o (issued (h .session))) e))
+      ∙ flags h _ (issued (h .session)) _
+  number-view h site r none true e = flags h (view-session (h .session)) (issued (h .session)) (h .requests)
   number-view h site r none false e =
       ap (session.serve-number S fallback never (view-run h) site r) e
-      ∙ ap (λ (w : ℕ). record {
-        state = session.with-table S fallback never (session.with-site S fallback never (view-session (h .session)) site 1 (h .session .issued))
-            (table.table-asks S (view-table (h .session .solver)) (h .session .issued) r);
-        count = suc (h .session .issued);
+      ∙ ap₂ (λ (x : TheSession) (w : ℕ). record {
+        state = session.with-table S fallback never x (table.table-asks S (view-table (h .session .solver)) (issued (h .session)) r);
+        count = suc (issued (h .session));
         asked = put (h .requests) w (some r);
         posed = view-pairs (h .posed);
         wrong = h .incompatible;
         cut = h .cancelled;
-      }) (sym (ap (λ (o : Option ℕ). placed o (h .session .issued)) e))
-      ∙ flags h _ (suc (h .session .issued)) _
+      }) (site-view (h .session) site 1) (sym (ap (λ (o : Option ℕ). placed o (issued (h .session))) e))
+      ∙ flags h _ (suc (issued (h .session))) _
 
-  hole-view : (h : History) (site : ℕ) (o : Option ℕ) (b : Bool) → h .session .holes site ≡ o
-      → obeyed h (if-room o b (session.hole site)) ≡ view-run (noted h (hole site) (holeAt lim (h .session) site o b))
+  hole-view : (h : History) (site : ℕ) (o : Option ℕ) (b : Bool) → find (gap site) (h .session .places) ≡ o
+      → obeyed h (if-room o b (session.hole site)) ≡ view-run (noted h (hole site) (holeAt lim (h .session) (gap site) o b))
   unfolding session.obey session.serve-hole holeAt if-room requestedBy posedBy says accepted
-  hole-view h site (some v) b e = ap (session.serve-hole S fallback never (view-run h) site) e ∙ flags h (view-session (h .session)) (h .session .issued) (h .requests)
-  hole-view h site none true e = flags h (view-session (h .session)) (h .session .issued) (h .requests)
-  hole-view h site none false e = ap (session.serve-hole S fallback never (view-run h) site) e ∙ flags h _ (suc (h .session .issued)) (h .requests)
+  hole-view h site (some v) b e = ap (session.serve-hole S fallback never (view-run h) site) e ∙ flags h (view-session (h .session)) (issued (h .session)) (h .requests)
+  hole-view h site none true e = flags h (view-session (h .session)) (issued (h .session)) (h .requests)
+  hole-view h site none false e =
+      ap (session.serve-hole S fallback never (view-run h) site) e
+      ∙ ap (session.grow S fallback never (view-run h)) (gap-view (h .session) site)
+      ∙ flags h (view-session (issueAt (h .session) (gap site))) (suc (issued (h .session))) (h .requests)
 
   -- terms whose variables are issued
-  known-yes : (s : Session) (t : Term) → known s t ≡ true → Issued (s .issued) (view t)
-  known-yes s t e = known-issued (s .issued) t (not-true (meets (beyond (s .issued)) always t) e)
+  known-yes : (s : Session) (t : Term) → known s t ≡ true → Issued (issued s) (view t)
+  known-yes s t e = known-issued (issued s) t (not-true (meets (beyond (issued s)) always t) e)
 
-  yes-known : (s : Session) (t : Term) → Issued (s .issued) (view t) → known s t ≡ true
-  yes-known s t i = go (meets (beyond (s .issued)) always t) refl
+  yes-known : (s : Session) (t : Term) → Issued (issued s) (view t) → known s t ≡ true
+  yes-known s t i = go (meets (beyond (issued s)) always t) refl
     where
-      go : (b : Bool) → meets (beyond (s .issued)) always t ≡ b → not b ≡ true
-      go true e = absurd (unknown-issued (s .issued) t e i)
+      go : (b : Bool) → meets (beyond (issued s)) always t ≡ b → not b ≡ true
+      go true e = absurd (unknown-issued (issued s) t e i)
       go false e = refl
 
   deferred-view : (h : History) (t u : Term)
       → session.move S fallback never (view-run h) (session.deferring S fallback never (view-session (h .session)) (view u))
       ≡ view-run (noted h (defer t) (deferring (h .session) u gives nothing))
   unfolding session.deferring deferring view requestedBy posedBy says accepted
-  deferred-view h t (var v) = flags h _ (h .session .issued) (h .requests)
-  deferred-view h t (node k ps) = flags h _ (h .session .issued) (h .requests)
+  deferred-view h t (var v) = flags h _ (issued (h .session)) (h .requests)
+  deferred-view h t (node k ps) = flags h _ (issued (h .session)) (h .requests)
 
-  defer-view : (h : History) (t : Term) (b c : Bool) → (b ≡ true → Issued (h .session .issued) (view t)) → (Issued (h .session .issued) (view t) → b ≡ true)
+  defer-view : (h : History) (t : Term) (b c : Bool) → (b ≡ true → Issued (issued (h .session)) (view t)) → (Issued (issued (h .session)) (view t) → b ≡ true)
       → obeyed h (pick c session.refused (session.defer (view t)))
       ≡ view-run (noted h (defer t) (unless lim (h .session) b c (deferring (h .session) (resolved (h .session .solver) t) gives nothing)))
   unfolding session.obey session.serve-defer requestedBy posedBy says accepted
-  defer-view h t true true f g = flags h (view-session (h .session)) (h .session .issued) (h .requests)
-  defer-view h t false true f g = flags h (view-session (h .session)) (h .session .issued) (h .requests)
-  defer-view h t b false f g = go b f g (issued? (h .session .issued) (view t))
+  defer-view h t true true f g = flags h (view-session (h .session)) (issued (h .session)) (h .requests)
+  defer-view h t false true f g = flags h (view-session (h .session)) (issued (h .session)) (h .requests)
+  defer-view h t b false f g = go b f g (issued? (issued (h .session)) (view t))
     where
-      go : (b : Bool) → (b ≡ true → Issued (h .session .issued) (view t)) → (Issued (h .session .issued) (view t) → b ≡ true) → (d : Dec (Issued (h .session .issued) (view t)))
+      go : (b : Bool) → (b ≡ true → Issued (issued (h .session)) (view t)) → (Issued (issued (h .session)) (view t) → b ≡ true) → (d : Dec (Issued (issued (h .session)) (view t)))
           → session.serve-defer S fallback never (view-run h) (view t) d
           ≡ view-run (noted h (defer t) (unless lim (h .session) b false (deferring (h .session) (resolved (h .session .solver) t) gives nothing)))
       go true f g (yes i) =
@@ -156,7 +200,7 @@ module _ (lim : Limits) (n : Notion) where
           ∙ deferred-view h t (resolved (h .session .solver) t)
       go true f g (no i) = absurd (i (f refl))
       go false f g (yes i) = never-true (g i)
-      go false f g (no i) = flags h (view-session (h .session)) (h .session .issued) (h .requests)
+      go false f g (no i) = flags h (view-session (h .session)) (issued (h .session)) (h .requests)
 
   settled-view : (h : History) (k m : ℕ) (t u : Term) (o : Out Solver)
       → settle S (view-run h) (view t) (view u) (session.lift S fallback never (view-session (h .session)) (view-out o))
@@ -167,20 +211,20 @@ module _ (lim : Limits) (n : Notion) where
   settled-view h k m t u (done z false) = rw (or-none (h .cancelled))
 
   pair-view : (h : History) (k : ℕ) (t u : Term) (a b c : Bool)
-      → (a ≡ true → Issued (h .session .issued) (view t)) → (Issued (h .session .issued) (view t) → a ≡ true)
-      → (b ≡ true → Issued (h .session .issued) (view u)) → (Issued (h .session .issued) (view u) → b ≡ true)
+      → (a ≡ true → Issued (issued (h .session)) (view t)) → (Issued (issued (h .session)) (view t) → a ≡ true)
+      → (b ≡ true → Issued (issued (h .session)) (view u)) → (Issued (issued (h .session)) (view u) → b ≡ true)
       → obeyed h (pick c session.refused (session.pair k (view t) (view u)))
       ≡ view-run (noted h (pair k t u) (unless lim (h .session) (a && b) c (posing lim n (h .session) (size t + size u) (constrain n k (h .session .solver) t u))))
   unfolding session.obey session.serve-pair requestedBy posedBy says accepted
-  pair-view h k t u true true true f f′ g g′ = flags h (view-session (h .session)) (h .session .issued) (h .requests)
-  pair-view h k t u true false true f f′ g g′ = flags h (view-session (h .session)) (h .session .issued) (h .requests)
-  pair-view h k t u false b true f f′ g g′ = flags h (view-session (h .session)) (h .session .issued) (h .requests)
-  pair-view h k t u a b false f f′ g g′ = go a b f f′ g g′ (issued? (h .session .issued) (view t)) (issued? (h .session .issued) (view u))
+  pair-view h k t u true true true f f′ g g′ = flags h (view-session (h .session)) (issued (h .session)) (h .requests)
+  pair-view h k t u true false true f f′ g g′ = flags h (view-session (h .session)) (issued (h .session)) (h .requests)
+  pair-view h k t u false b true f f′ g g′ = flags h (view-session (h .session)) (issued (h .session)) (h .requests)
+  pair-view h k t u a b false f f′ g g′ = go a b f f′ g g′ (issued? (issued (h .session)) (view t)) (issued? (issued (h .session)) (view u))
     where
       go : (a b : Bool)
-          → (a ≡ true → Issued (h .session .issued) (view t)) → (Issued (h .session .issued) (view t) → a ≡ true)
-          → (b ≡ true → Issued (h .session .issued) (view u)) → (Issued (h .session .issued) (view u) → b ≡ true)
-          → (d : Dec (Issued (h .session .issued) (view t))) (e : Dec (Issued (h .session .issued) (view u)))
+          → (a ≡ true → Issued (issued (h .session)) (view t)) → (Issued (issued (h .session)) (view t) → a ≡ true)
+          → (b ≡ true → Issued (issued (h .session)) (view u)) → (Issued (issued (h .session)) (view u) → b ≡ true)
+          → (d : Dec (Issued (issued (h .session)) (view t))) (e : Dec (Issued (issued (h .session)) (view u)))
           → session.serve-pair S fallback never (read n) (view-run h) k (view t) (view u) d e
           ≡ view-run (noted h (pair k t u) (unless lim (h .session) (a && b) false (posing lim n (h .session) (size t + size u) (constrain n k (h .session .solver) t u))))
       go true true f f′ g g′ (yes i) (yes j) =
@@ -190,23 +234,23 @@ module _ (lim : Limits) (n : Notion) where
       go true true f f′ g g′ (yes i) (no j) = absurd (j (g refl))
       go true true f f′ g g′ (no i) e = absurd (i (f refl))
       go true false f f′ g g′ (yes i) (yes j) = never-true (g′ j)
-      go true false f f′ g g′ (yes i) (no j) = flags h (view-session (h .session)) (h .session .issued) (h .requests)
+      go true false f f′ g g′ (yes i) (no j) = flags h (view-session (h .session)) (issued (h .session)) (h .requests)
       go true false f f′ g g′ (no i) e = absurd (i (f refl))
       go false b f f′ g g′ (yes i) e = never-true (f′ i)
-      go false b f f′ g g′ (no i) e = flags h (view-session (h .session)) (h .session .issued) (h .requests)
+      go false b f f′ g g′ (no i) e = flags h (view-session (h .session)) (issued (h .session)) (h .requests)
 
   resolving-view : (h : History) (t u : Term) (b c : Bool) → view-run h ≡ view-run (noted h (resolving t) (unless lim (h .session) b c (h .session gives term u)))
   unfolding requestedBy posedBy says accepted
-  resolving-view h t u true true = flags h (view-session (h .session)) (h .session .issued) (h .requests)
-  resolving-view h t u true false = flags h (view-session (h .session)) (h .session .issued) (h .requests)
-  resolving-view h t u false c = flags h (view-session (h .session)) (h .session .issued) (h .requests)
+  resolving-view h t u true true = flags h (view-session (h .session)) (issued (h .session)) (h .requests)
+  resolving-view h t u true false = flags h (view-session (h .session)) (issued (h .session)) (h .requests)
+  resolving-view h t u false c = flags h (view-session (h .session)) (issued (h .session)) (h .requests)
 
   -- AN ORDER ON THE TERMS' SESSION IS, VIEWED, THE ORDER OF THE THEORY.
   pub order-view : (h : History) (c : Command) → obeyed h (view-command (h .session) c) ≡ view-run (after lim n h c)
   unfolding order view-command session.obey requestedBy posedBy says accepted
-  order-view h (variable site slot) = variable-view h site slot (h .session .sites site slot) (full lim (h .session)) refl
-  order-view h (number site r) = number-view h site r (h .session .sites site 1) (full lim (h .session)) refl
-  order-view h (hole site) = hole-view h site (h .session .holes site) (full lim (h .session)) refl
+  order-view h (variable site slot) = variable-view h site slot (find (at site slot) (h .session .places)) (full lim (h .session)) refl
+  order-view h (number site r) = number-view h site r (find (at site 1) (h .session .places)) (full lim (h .session)) refl
+  order-view h (hole site) = hole-view h site (find (gap site) (h .session .places)) (full lim (h .session)) refl
   order-view h (defer t) = defer-view h t (known (h .session) t) (crowded lim (h .session) (size t)) (known-yes (h .session) t) (yes-known (h .session) t)
   order-view h (pair k t u) =
       pair-view h k t u (known (h .session) t) (known (h .session) u) (crowded lim (h .session) (size t + size u))
@@ -214,14 +258,14 @@ module _ (lim : Limits) (n : Notion) where
   order-view h (resolving t) = resolving-view h t (resolved (h .session .solver) t) (known (h .session) t) (crowded lim (h .session) (size t))
   order-view h numbers =
       ap (λ (z : Table S). session.move S fallback never (view-run h) (session.with-table S fallback never (view-session (h .session)) z))
-      (numerics-view (h .session .issued) 0 (h .session .solver))
-      ∙ flags h _ (h .session .issued) (h .requests)
+      (numerics-view (issued (h .session)) 0 (h .session .solver))
+      ∙ flags h _ (issued (h .session)) (h .requests)
   order-view h nevers =
       ap (λ (z : Table S). session.move S fallback never (view-run h) (session.with-table S fallback never (view-session (h .session)) z))
-      (nevers-view (h .session .deferred) (h .session .issued) 0 (h .session .solver))
-      ∙ flags h _ (h .session .issued) (h .requests)
-  order-view h revision = flags h (view-session (h .session)) (h .session .issued) (h .requests)
-  order-view h (unread r) = flags h (view-session (h .session)) (h .session .issued) (h .requests)
+      (nevers-view (h .session .deferred) (issued (h .session)) 0 (h .session .solver))
+      ∙ flags h _ (issued (h .session)) (h .requests)
+  order-view h revision = flags h (view-session (h .session)) (issued (h .session)) (h .requests)
+  order-view h (unread r) = flags h (view-session (h .session)) (issued (h .session)) (h .requests)
 
   -- and so is a list of orders
   pub view-commands : Session → List Command → List (session.Command S)
@@ -248,14 +292,14 @@ module _ (lim : Limits) (n : Notion) where
 
   allowed-view : (h : History) (c : Command) → Allowed lim n (h .session) c → session.Allowed S fallback never (read n) (view-run h) (view-command (h .session) c)
   unfolding view-command order
-  allowed-view h (variable site slot) p = room-allowed h (h .session .sites site slot) (full lim (h .session)) (session.variable site slot) tt
-  allowed-view h (number site r) p = room-allowed h (h .session .sites site 1) (full lim (h .session)) (session.number site r) p
-  allowed-view h (hole site) p = room-allowed h (h .session .holes site) (full lim (h .session)) (session.hole site) tt
+  allowed-view h (variable site slot) p = room-allowed h (find (at site slot) (h .session .places)) (full lim (h .session)) (session.variable site slot) tt
+  allowed-view h (number site r) p = room-allowed h (find (at site 1) (h .session .places)) (full lim (h .session)) (session.number site r) p
+  allowed-view h (hole site) p = room-allowed h (find (gap site) (h .session .places)) (full lim (h .session)) (session.hole site) tt
   allowed-view h (defer t) p = pick-allowed h (crowded lim (h .session) (size t)) (session.defer (view t)) tt
   allowed-view h (pair k t u) p = pick-allowed h (crowded lim (h .session) (size t + size u)) (session.pair k (view t) (view u)) tt
   allowed-view h (resolving t) p = tt
-  allowed-view h numbers p = ap (λ (z : Table S). z .rev) (numerics-view (h .session .issued) 0 (h .session .solver)) ∙ p
-  allowed-view h nevers p = ap (λ (z : Table S). z .rev) (nevers-view (h .session .deferred) (h .session .issued) 0 (h .session .solver)) ∙ p
+  allowed-view h numbers p = ap (λ (z : Table S). z .rev) (numerics-view (issued (h .session)) 0 (h .session .solver)) ∙ p
+  allowed-view h nevers p = ap (λ (z : Table S). z .rev) (nevers-view (h .session .deferred) (issued (h .session)) 0 (h .session .solver)) ∙ p
   allowed-view h revision p = tt
   allowed-view h (unread r) p = tt
 

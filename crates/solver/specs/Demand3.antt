@@ -14,7 +14,7 @@ use Rattle.unify.specs.Solver.{put}
 use Rattle.solver.specs.Families.{Request, belongs}
 use Rattle.solver.specs.Shapes.{Notion, readAll}
 use Rattle.solver.specs.Solving.{Pair, replace, resolved, always, occurs}
-use Rattle.solver.specs.Session.{Limits, Session, fresh}
+use Rattle.solver.specs.Session.{Limits, at, Session, issued, find, fresh}
 use Rattle.solver.specs.Orders.{Command, variable, number, hole, defer, pair, resolving, numbers, nevers, revision, unread}
 use Rattle.solver.specs.Orders.{Reply, term, verdict, changed, count, nothing, refused, Step, order}
 
@@ -54,7 +54,7 @@ placed (some v) n = v
 -- "Only orders answered with outcome 0 issue, request and pose"; "a posed pair is the two terms of such an order 4"
 unfoldable pub requestedBy : Session → (ℕ → Option Request) → Command → Bool → ℕ → Option Request
 requestedBy s f (variable site slot) b = f
-requestedBy s f (number site r) b = pick b (put f (placed (s .sites site 1) (s .issued)) (some r)) f
+requestedBy s f (number site r) b = pick b (put f (placed (find (at site 1) (s .places)) (issued s)) (some r)) f
 requestedBy s f (hole site) b = f
 requestedBy s f (defer t) b = f
 requestedBy s f (pair k t u) b = f
@@ -100,7 +100,7 @@ VariableFree t = meets isVariable always t ≡ false
 
 -- "An assignment gives each issued variable a variable-free term"
 abbrev pub Assigns : ℕ → (ℕ → Term) → Type 0
-Assigns issued θ = (v : ℕ) → v < issued → Formed (θ v) × VariableFree (θ v)
+Assigns N θ = (v : ℕ) → v < N → Formed (θ v) × VariableFree (θ v)
 
 -- "true to the families if each requested number variable gets a builtin of its family"
 abbrev pub True : (ℕ → Term) → (ℕ → Option Request) → Type 0
@@ -119,21 +119,21 @@ module _ (n : Notion) where
   -- "An assignment agrees with it if it makes the variable and that term equal, up to access"; "What a variable resolves to is the term order 5
   -- would answer for it after the list"
   abbrev pub Agrees : (ℕ → Term) → Session → Type 0
-  Agrees θ s = (v : ℕ) → v < s .issued → Alike (θ v) (replace θ (resolved (s .solver) (var v)))
+  Agrees θ s = (v : ℕ) → v < issued s → Alike (θ v) (replace θ (resolved (s .solver) (var v)))
 
   -- ---- the two sentences
 
   pub record Demand3 (h : History) : Type 0 where
     -- "Some pair was answered incompatible exactly if no assignment of variable-free terms of any size, true to the number families requested,
     -- makes every posed pair equal up to Set and Map access."
-    pub first : (h .incompatible ≡ true) ↔ ((θ : ℕ → Term) → Assigns (h .session .issued) θ → True θ (h .requests) → ¬ Equal θ (h .posed))
+    pub first : (h .incompatible ≡ true) ↔ ((θ : ℕ → Term) → Assigns (issued (h .session)) θ → True θ (h .requests) → ¬ Equal θ (h .posed))
     -- "If none was, the assignments that do so are exactly those true to the families that agree, up to that access, with what each variable
     -- resolves to,"
-    pub second : h .incompatible ≡ false → (θ : ℕ → Term) → Assigns (h .session .issued) θ
+    pub second : h .incompatible ≡ false → (θ : ℕ → Term) → Assigns (issued (h .session)) θ
         → (True θ (h .requests) × Equal θ (h .posed)) ↔ (True θ (h .requests) × Agrees θ (h .session))
     -- "and every variable left in those terms resolves to itself."
-    pub left : (v w : ℕ) → v < h .session .issued → occurs w (resolved (h .session .solver) (var v)) ≡ true
-        → (w < h .session .issued) × (resolved (h .session .solver) (var w) ≡ var w)
+    pub left : (v w : ℕ) → v < issued (h .session) → occurs w (resolved (h .session .solver) (var v)) ≡ true
+        → (w < issued (h .session)) × (resolved (h .session .solver) (var w) ≡ var w)
 
 -- ---- the premises
 
@@ -163,7 +163,7 @@ module _ (lim : Limits) (n : Notion) where
   -- "no default that bound a variable": "A default bound a variable where order 6 or 7 leaves another revision than it found"
   abbrev pub Allowed : Session → Command → Type 0
   Allowed s (variable site slot) = Unit {0}
-  Allowed s (number site r) = s .sites site 1 ≡ none
+  Allowed s (number site r) = find (at site 1) (s .places) ≡ none
   Allowed s (hole site) = Unit {0}
   Allowed s (defer t) = Unit {0}
   Allowed s (pair k t u) = Unit {0}

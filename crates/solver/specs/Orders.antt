@@ -11,7 +11,7 @@ use Rattle.unify.specs.Solver.{Out, cancelled, done}
 use Rattle.solver.specs.Families.{Request}
 use Rattle.solver.specs.Shapes.{Notion}
 use Rattle.solver.specs.Solving.{Solver, resolved, always, constrain}
-use Rattle.solver.specs.Session.{Limits, Session, withSolver, issueAt, issueHole, request, deferring, keep, numericDefaults, neverDefaults}
+use Rattle.solver.specs.Session.{Limits, Place, at, gap, Session, issued, find, withSolver, issueAt, request, deferring, keep, numericDefaults, neverDefaults}
 
 -- an order, read
 pub data Command : Type 0 where
@@ -67,7 +67,7 @@ beyond n (var v) = leb n v
 beyond n (node k ps) = false
 
 abbrev pub known : Session → Term → Bool
-known s t = not (meets (beyond (s .issued)) always t)
+known s t = not (meets (beyond (issued s)) always t)
 
 -- 0 or 1: whether the revision is another
 abbrev pub moved : Solver → Solver → Bool
@@ -76,7 +76,7 @@ moved z y = not (eqb (y .revision) (z .revision))
 module _ (lim : Limits) where
   -- 8: "a new variable while 512 exist"
   abbrev pub full : Session → Bool
-  full s = leb (lim .variables) (s .issued)
+  full s = leb (lim .variables) (issued s)
 
   -- 7: "kept nodes and this order's nodes exceed 2,048"
   abbrev pub crowded : Session → ℕ → Bool
@@ -89,25 +89,25 @@ module _ (lim : Limits) where
   unless s false c x = s gives refused 6
 
   -- `variable`: answers the variable itself
-  unfoldable pub variableAt : Session → ℕ → ℕ → Option ℕ → Bool → Step
-  variableAt s site slot (some v) f = s gives term (var v)
-  variableAt s site slot none true = s gives refused 8
-  variableAt s site slot none false = issueAt s site slot gives term (var (s .issued))
+  unfoldable pub variableAt : Session → Place → Option ℕ → Bool → Step
+  variableAt s p (some v) f = s gives term (var v)
+  variableAt s p none true = s gives refused 8
+  variableAt s p none false = issueAt s p gives term (var (issued s))
 
   -- `numeric_variable`: "Number variables share slot 1 of their site with `variable`"
   abbrev pub asked : Session → ℕ → Request → Step
   asked s v r = request s v r gives term (resolved (s .solver) (var v))
 
-  unfoldable pub numberAt : Session → ℕ → Request → Option ℕ → Bool → Step
-  numberAt s site r (some v) f = asked s v r
-  numberAt s site r none true = s gives refused 8
-  numberAt s site r none false = asked (issueAt s site 1) (s .issued) r
+  unfoldable pub numberAt : Session → Place → Request → Option ℕ → Bool → Step
+  numberAt s p r (some v) f = asked s v r
+  numberAt s p r none true = s gives refused 8
+  numberAt s p r none false = asked (issueAt s p) (issued s) r
 
   -- `annotation_hole`
-  unfoldable pub holeAt : Session → ℕ → Option ℕ → Bool → Step
-  holeAt s site (some v) f = s gives term (resolved (s .solver) (var v))
-  holeAt s site none true = s gives refused 8
-  holeAt s site none false = issueHole s site gives term (resolved (s .solver) (var (s .issued)))
+  unfoldable pub holeAt : Session → Place → Option ℕ → Bool → Step
+  holeAt s p (some v) f = s gives term (resolved (s .solver) (var v))
+  holeAt s p none true = s gives refused 8
+  holeAt s p none false = issueAt s p gives term (resolved (s .solver) (var (issued s)))
 
   abbrev pub defaults : Session → Solver → Step
   defaults s z = withSolver s z gives changed (moved (s .solver) z)
@@ -117,14 +117,14 @@ module _ (lim : Limits) where
     posing s m o = keep s (solverOf o) m gives verdict (verdictOf o)
 
     unfoldable pub order : Session → Command → Step
-    order s (variable site slot) = variableAt s site slot (s .sites site slot) (full s)
-    order s (number site r) = numberAt s site r (s .sites site 1) (full s)
-    order s (hole site) = holeAt s site (s .holes site) (full s)
+    order s (variable site slot) = variableAt s (at site slot) (find (at site slot) (s .places)) (full s)
+    order s (number site r) = numberAt s (at site 1) r (find (at site 1) (s .places)) (full s)
+    order s (hole site) = holeAt s (gap site) (find (gap site) (s .places)) (full s)
     order s (defer t) = unless s (known s t) (crowded s (size t)) (deferring s (resolved (s .solver) t) gives nothing)
     order s (pair k t u) = unless s (known s t && known s u) (crowded s (size t + size u)) (posing s (size t + size u) (constrain n k (s .solver) t u))
     order s (resolving t) = unless s (known s t) (crowded s (size t)) (s gives term (resolved (s .solver) t))
-    order s numbers = defaults s (numericDefaults (s .issued) 0 (s .solver))
-    order s nevers = defaults s (neverDefaults (s .deferred) (s .issued) 0 (s .solver))
+    order s numbers = defaults s (numericDefaults (issued s) 0 (s .solver))
+    order s nevers = defaults s (neverDefaults (s .deferred) (issued s) 0 (s .solver))
     order s revision = s gives count (s .solver .revision)
     order s (unread r) = s gives refused r
 

@@ -1,7 +1,11 @@
 -- A session: the solver with the places of its variables, the deferrals, and the nodes kept. Assumes nothing.
-use mathlib.Core.Bool.{Bool, true, false}
+use mathlib.Core.Bool.{Bool, true, false, _&&_}
+use mathlib.Core.List.{List, [], _∷_}
 use mathlib.Core.Option.{Option, none, some}
 use Prim.Native.Nat.{ℕ, zero, suc, _+_}
+use lib.Dec.{eqb}
+use lib.ListN.{length}
+use Rattle.terms.specs.Result.{pick}
 use Rattle.terms.specs.Term.{Term, Parts, var, node, end, num, sub}
 use Rattle.unify.specs.Solver.{put}
 use Rattle.solver.specs.Families.{Request, defaultOf}
@@ -15,50 +19,47 @@ pub record Limits : Type 0 where
 abbrev pub box : Limits
 box = record { variables = 512; nodes = 2048 }
 
+-- where a variable stands: the slot of a site, by orders 0 and 1, or a hole's site, by order 2
+pub data Place : Type 0 where
+  at : ℕ → ℕ → Place
+  gap : ℕ → Place
+
+unfoldable pub samePlace : Place → Place → Bool
+samePlace (at s i) (at r j) = eqb s r && eqb i j
+samePlace (at s i) (gap r) = false
+samePlace (gap s) (at r j) = false
+samePlace (gap s) (gap r) = eqb s r
+
 pub record Session : Type 0 where
   pub solver : Solver
-  -- the variables issued are those below this number
-  pub issued : ℕ
-  -- (site, slot) and hole sites to variables
-  pub sites : ℕ → ℕ → Option ℕ
-  pub holes : ℕ → Option ℕ
+  -- the places of the variables issued, the last first: a variable's id is the number of those issued before it
+  pub places : List Place
   pub deferred : ℕ → Bool
   pub kept : ℕ
+
+abbrev pub issued : Session → ℕ
+issued s = length (s .places)
+
+-- `variables` and `holes`: the variable of a place
+unfoldable pub find : Place → List Place → Option ℕ
+find p [] = none
+find p (q ∷ qs) = pick (samePlace p q) (some (length qs)) (find p qs)
 
 -- "nothing issued, requested, deferred, bound or kept"
 abbrev pub fresh : Session
 fresh = record {
   solver = record { bindings = λ v. none; requests = λ v. none; revision = 0 };
-  issued = 0;
-  sites = λ s i. none;
-  holes = λ s. none;
+  places = [];
   deferred = λ v. false;
   kept = 0;
 }
 
 abbrev pub withSolver : Session → Solver → Session
-withSolver s z = record { solver = z; issued = s .issued; sites = s .sites; holes = s .holes; deferred = s .deferred; kept = s .kept }
+withSolver s z = record { solver = z; places = s .places; deferred = s .deferred; kept = s .kept }
 
--- a new variable at a place
-abbrev pub issueAt : Session → ℕ → ℕ → Session
-issueAt s site slot = record {
-  solver = s .solver;
-  issued = suc (s .issued);
-  sites = put (s .sites) site (put (s .sites site) slot (some (s .issued)));
-  holes = s .holes;
-  deferred = s .deferred;
-  kept = s .kept;
-}
-
-abbrev pub issueHole : Session → ℕ → Session
-issueHole s site = record {
-  solver = s .solver;
-  issued = suc (s .issued);
-  sites = s .sites;
-  holes = put (s .holes) site (some (s .issued));
-  deferred = s .deferred;
-  kept = s .kept;
-}
+-- a new variable
+abbrev pub issueAt : Session → Place → Session
+issueAt s p = record { solver = s .solver; places = p ∷ s .places; deferred = s .deferred; kept = s .kept }
 
 -- `self.numeric.insert(id, fallback)`: a repeated request overwrites
 abbrev pub request : Session → ℕ → Request → Session
@@ -66,12 +67,12 @@ request s v r = withSolver s (record { bindings = s .solver .bindings; requests 
 
 -- `defer_never`: the term is resolved
 unfoldable pub deferring : Session → Term → Session
-deferring s (var v) = record { solver = s .solver; issued = s .issued; sites = s .sites; holes = s .holes; deferred = put (s .deferred) v true; kept = s .kept }
+deferring s (var v) = record { solver = s .solver; places = s .places; deferred = put (s .deferred) v true; kept = s .kept }
 deferring s (node k ps) = s
 
 -- order 4: the solver after it, and its nodes kept
 abbrev pub keep : Session → Solver → ℕ → Session
-keep s z n = record { solver = z; issued = s .issued; sites = s .sites; holes = s .holes; deferred = s .deferred; kept = s .kept + n }
+keep s z n = record { solver = z; places = s .places; deferred = s .deferred; kept = s .kept + n }
 
 -- ---- defaults
 
