@@ -7,3 +7,4 @@ pub mod ViewLaws
 pub mod ConstrainView
 pub mod Simulation
 pub mod Demand3Laws
+pub mod InOrderLaws

@@ -24,7 +24,7 @@ use Rattle.solver.specs.Shapes.{Notion, read}
 use Rattle.solver.specs.Solving.{Solver, Pair, resolved, always, constrain}
 use Rattle.solver.specs.Session.{Limits, Place, at, gap, samePlace, Session, issued, find, fresh, withSolver, issueAt, never, deferring, numericDefaults, neverDefaults}
 use Rattle.solver.specs.Orders.{Command, variable, number, hole, defer, pair, resolving, numbers, nevers, revision, unread}
-use Rattle.solver.specs.Orders.{Reply, term, verdict, changed, count, nothing, refused, Step, _gives_, verdictOf, solverOf, beyond, known, full, crowded, unless, variableAt, numberAt, holeAt, posing, order}
+use Rattle.solver.specs.Orders.{Reply, term, verdict, changed, count, nothing, refused, Step, _gives_, verdictOf, solverOf, beyond, known, full, crowded, unless, variableAt, numberAt, holeAt, posing, order, replies}
 use Rattle.solver.specs.Demand3.{History, accepted, says, placed, requestedBy, posedBy, noted, beginning, after, history, Allowed, AllAllowed}
 use Rattle.solver.proofs.View.{T, view}
 use Rattle.solver.proofs.Signature.{S}
@@ -93,6 +93,17 @@ unfolding find samePlace
 gap-view s site =
     ap (λ (f : ℕ → Option ℕ). record { table = view-table (s .solver); sites = λ r i. find (at r i) (s .places); holes = f; diverging = s .deferred }) (holes-more (s .places) site)
 
+-- terms whose variables are issued
+pub known-yes : (s : Session) (t : Term) → known s t ≡ true → Issued (issued s) (view t)
+known-yes s t e = known-issued (issued s) t (not-true (meets (beyond (issued s)) always t) e)
+
+pub yes-known : (s : Session) (t : Term) → Issued (issued s) (view t) → known s t ≡ true
+yes-known s t i = go (meets (beyond (issued s)) always t) refl
+  where
+    go : (b : Bool) → meets (beyond (issued s)) always t ≡ b → not b ≡ true
+    go true e = absurd (unknown-issued (issued s) t e i)
+    go false e = refl
+
 -- ---- orders
 
 module _ (lim : Limits) (n : Notion) where
@@ -108,7 +119,7 @@ module _ (lim : Limits) (n : Notion) where
   view-command s (hole site) = if-room (find (gap site) (s .places)) (full lim s) (session.hole site)
   view-command s (defer t) = pick (crowded lim s (size t)) session.refused (session.defer (view t))
   view-command s (pair k t u) = pick (crowded lim s (size t + size u)) session.refused (session.pair k (view t) (view u))
-  view-command s (resolving t) = session.resolving (view t)
+  view-command s (resolving t) = pick (crowded lim s (size t)) session.refused (session.resolving (view t))
   view-command s numbers = session.numbers
   view-command s nevers = session.nevers
   view-command s revision = session.revision
@@ -164,17 +175,6 @@ module _ (lim : Limits) (n : Notion) where
       ap (session.serve-hole S fallback never (view-run h) site) e
       ∙ ap (session.grow S fallback never (view-run h)) (gap-view (h .session) site)
       ∙ flags h (view-session (issueAt (h .session) (gap site))) (suc (issued (h .session))) (h .requests)
-
-  -- terms whose variables are issued
-  known-yes : (s : Session) (t : Term) → known s t ≡ true → Issued (issued s) (view t)
-  known-yes s t e = known-issued (issued s) t (not-true (meets (beyond (issued s)) always t) e)
-
-  yes-known : (s : Session) (t : Term) → Issued (issued s) (view t) → known s t ≡ true
-  yes-known s t i = go (meets (beyond (issued s)) always t) refl
-    where
-      go : (b : Bool) → meets (beyond (issued s)) always t ≡ b → not b ≡ true
-      go true e = absurd (unknown-issued (issued s) t e i)
-      go false e = refl
 
   deferred-view : (h : History) (t u : Term)
       → session.move S fallback never (view-run h) (session.deferring S fallback never (view-session (h .session)) (view u))
@@ -239,11 +239,13 @@ module _ (lim : Limits) (n : Notion) where
       go false b f f′ g g′ (yes i) e = never-true (f′ i)
       go false b f f′ g g′ (no i) e = flags h (view-session (h .session)) (issued (h .session)) (h .requests)
 
-  resolving-view : (h : History) (t u : Term) (b c : Bool) → view-run h ≡ view-run (noted h (resolving t) (unless lim (h .session) b c (h .session gives term u)))
-  unfolding requestedBy posedBy says accepted
+  resolving-view : (h : History) (t u : Term) (b c : Bool)
+      → obeyed h (pick c session.refused (session.resolving (view t))) ≡ view-run (noted h (resolving t) (unless lim (h .session) b c (h .session gives term u)))
+  unfolding session.obey requestedBy posedBy says accepted
   resolving-view h t u true true = flags h (view-session (h .session)) (issued (h .session)) (h .requests)
   resolving-view h t u true false = flags h (view-session (h .session)) (issued (h .session)) (h .requests)
-  resolving-view h t u false c = flags h (view-session (h .session)) (issued (h .session)) (h .requests)
+  resolving-view h t u false true = flags h (view-session (h .session)) (issued (h .session)) (h .requests)
+  resolving-view h t u false false = flags h (view-session (h .session)) (issued (h .session)) (h .requests)
 
   -- AN ORDER ON THE TERMS' SESSION IS, VIEWED, THE ORDER OF THE THEORY.
   pub order-view : (h : History) (c : Command) → obeyed h (view-command (h .session) c) ≡ view-run (after lim n h c)
@@ -297,7 +299,7 @@ module _ (lim : Limits) (n : Notion) where
   allowed-view h (hole site) p = room-allowed h (find (gap site) (h .session .places)) (full lim (h .session)) (session.hole site) tt
   allowed-view h (defer t) p = pick-allowed h (crowded lim (h .session) (size t)) (session.defer (view t)) tt
   allowed-view h (pair k t u) p = pick-allowed h (crowded lim (h .session) (size t + size u)) (session.pair k (view t) (view u)) tt
-  allowed-view h (resolving t) p = tt
+  allowed-view h (resolving t) p = pick-allowed h (crowded lim (h .session) (size t)) (session.resolving (view t)) tt
   allowed-view h numbers p = ap (λ (z : Table S). z .rev) (numerics-view (issued (h .session)) 0 (h .session .solver)) ∙ p
   allowed-view h nevers p = ap (λ (z : Table S). z .rev) (nevers-view (h .session .deferred) (issued (h .session)) 0 (h .session .solver)) ∙ p
   allowed-view h revision p = tt
@@ -311,3 +313,134 @@ module _ (lim : Limits) (n : Notion) where
     subst (λ (x : Run S TheSession). session.AllAllowed S fallback never (read n) x (view-commands (order lim n (h .session) c .session) cs)) (sym (order-view h c))
         (all-allowed-view (after lim n h c) cs (p .1)),
   )
+
+  -- ---- answers
+
+  unfoldable pub view-reply : Reply → session.Reply S
+  view-reply (term t) = session.term (view t)
+  view-reply (verdict a) = session.verdict a
+  view-reply (changed b) = session.changed b
+  view-reply (count c) = session.count c
+  view-reply nothing = session.nothing
+  view-reply (refused r) = session.refusal
+
+  abbrev answered : History → session.Command S → session.Reply S
+  answered h c = session.reply S fallback never (read n) (view-run h) c
+
+  answer-view : (z : Solver) (t : Term) → _≡_ {A = session.Reply S} (session.term (answer S (view-table z) (view t))) (session.term (view (resolved z t)))
+  answer-view z t = ap session.term (sym (view-resolve (z .revision) (z .bindings) t))
+
+  variable-reply : (h : History) (site slot : ℕ) (o : Option ℕ) (b : Bool) → find (at site slot) (h .session .places) ≡ o
+      → answered h (if-room o b (session.variable site slot)) ≡ view-reply (variableAt lim (h .session) (at site slot) o b .reply)
+  unfolding session.reply session.variable-at variableAt if-room view-reply view
+  variable-reply h site slot (some v) b e = ap (λ (o : Option ℕ). session.term (session.variable-at S fallback never (read n) o (issued (h .session)))) e
+  variable-reply h site slot none true e = refl
+  variable-reply h site slot none false e = ap (λ (o : Option ℕ). session.term (session.variable-at S fallback never (read n) o (issued (h .session)))) e
+
+  number-reply : (h : History) (site : ℕ) (r : Request) (o : Option ℕ) (b : Bool) → find (at site 1) (h .session .places) ≡ o
+      → answered h (if-room o b (session.number site r)) ≡ view-reply (numberAt lim (h .session) (at site 1) r o b .reply)
+  unfolding session.reply session.obey session.serve-number session.variable-at numberAt if-room view-reply view
+  number-reply h site r (some v) b e =
+      ap (λ (o : Option ℕ). session.term (answer S (session.serve-number S fallback never (view-run h) site r o .state .table) (session.variable-at S fallback never (read n) o (issued (h .session))))) e
+      ∙ answer-view (h .session .solver) (var v)
+  number-reply h site r none true e = refl
+  number-reply h site r none false e =
+      ap (λ (o : Option ℕ). session.term (answer S (session.serve-number S fallback never (view-run h) site r o .state .table) (session.variable-at S fallback never (read n) o (issued (h .session))))) e
+      ∙ answer-view (h .session .solver) (var (issued (h .session)))
+
+  hole-reply : (h : History) (site : ℕ) (o : Option ℕ) (b : Bool) → find (gap site) (h .session .places) ≡ o
+      → answered h (if-room o b (session.hole site)) ≡ view-reply (holeAt lim (h .session) (gap site) o b .reply)
+  unfolding session.reply session.variable-at holeAt if-room view-reply view
+  hole-reply h site (some v) b e =
+      ap (λ (o : Option ℕ). session.term (answer S (view-table (h .session .solver)) (session.variable-at S fallback never (read n) o (issued (h .session))))) e
+      ∙ answer-view (h .session .solver) (var v)
+  hole-reply h site none true e = refl
+  hole-reply h site none false e =
+      ap (λ (o : Option ℕ). session.term (answer S (view-table (h .session .solver)) (session.variable-at S fallback never (read n) o (issued (h .session))))) e
+      ∙ answer-view (h .session .solver) (var (issued (h .session)))
+
+  -- an order on a term: refused with 6, with 7, or answered
+  term-reply : (s : Session) (t : Term) (b c : Bool) → (b ≡ true → Issued (issued s) (view t)) → (Issued (issued s) (view t) → b ≡ true) → (d : Dec (Issued (issued s) (view t)))
+      → (x : Step) (y : session.Reply S) → y ≡ view-reply (x .reply)
+      → pick c session.refusal (session.if-issued S fallback never (read n) d y) ≡ view-reply (unless lim s b c x .reply)
+  unfolding session.if-issued view-reply
+  term-reply s t true true f g d x y e = refl
+  term-reply s t false true f g d x y e = refl
+  term-reply s t true false f g (yes i) x y e = e
+  term-reply s t true false f g (no i) x y e = absurd (i (f refl))
+  term-reply s t false false f g (yes i) x y e = never-true (g i)
+  term-reply s t false false f g (no i) x y e = refl
+
+  pair-reply : (s : Session) (t u : Term) (a b c : Bool) → (a ≡ true → Issued (issued s) (view t)) → (Issued (issued s) (view t) → a ≡ true)
+      → (b ≡ true → Issued (issued s) (view u)) → (Issued (issued s) (view u) → b ≡ true) → (d : Dec (Issued (issued s) (view t))) (e : Dec (Issued (issued s) (view u)))
+      → (x : Step) (y : session.Reply S) → y ≡ view-reply (x .reply)
+      → pick c session.refusal (session.if-issued S fallback never (read n) d (session.if-issued S fallback never (read n) e y)) ≡ view-reply (unless lim s (a && b) c x .reply)
+  unfolding session.if-issued view-reply
+  pair-reply s t u true true true f f′ g g′ d e x y q = refl
+  pair-reply s t u true false true f f′ g g′ d e x y q = refl
+  pair-reply s t u false b true f f′ g g′ d e x y q = refl
+  pair-reply s t u true true false f f′ g g′ (yes i) (yes j) x y q = q
+  pair-reply s t u true true false f f′ g g′ (yes i) (no j) x y q = absurd (j (g refl))
+  pair-reply s t u true true false f f′ g g′ (no i) e x y q = absurd (i (f refl))
+  pair-reply s t u true false false f f′ g g′ (yes i) (yes j) x y q = never-true (g′ j)
+  pair-reply s t u true false false f f′ g g′ (yes i) (no j) x y q = refl
+  pair-reply s t u true false false f f′ g g′ (no i) e x y q = absurd (i (f refl))
+  pair-reply s t u false b false f f′ g g′ (yes i) e x y q = never-true (f′ i)
+  pair-reply s t u false b false f f′ g g′ (no i) e x y q = refl
+
+  picked : (h : History) (b : Bool) (c : session.Command S) → answered h (pick b session.refused c) ≡ pick b session.refusal (answered h c)
+  unfolding session.reply
+  picked h true c = refl
+  picked h false c = refl
+
+  verdict-view : (o : Out Solver) → session.verdict-of S fallback never (read n) (view-out o) ≡ verdictOf o
+  unfolding session.verdict-of verdictOf view-out
+  verdict-view (cancelled z) = refl
+  verdict-view (done z true) = refl
+  verdict-view (done z false) = refl
+
+  moved-view : (a b : ℕ) → session.is-same a b ≡ eqb a b
+  unfolding session.is-same
+  moved-view a b = go (ℕ-discrete a b)
+    where
+      go : (d : Dec (a ≡ b)) → ite d true false ≡ eqb a b
+      go (yes p) = sym (eq-eqb a b p)
+      go (no p) = sym (ne-eqb a b p)
+
+  -- EACH ANSWER IS THAT OF THE THEORY.
+  pub reply-view : (h : History) (c : Command) → answered h (view-command (h .session) c) ≡ view-reply (order lim n (h .session) c .reply)
+  unfolding order view-command session.reply session.obey view-reply
+  reply-view h (variable site slot) = variable-reply h site slot (find (at site slot) (h .session .places)) (full lim (h .session)) refl
+  reply-view h (number site r) = number-reply h site r (find (at site 1) (h .session .places)) (full lim (h .session)) refl
+  reply-view h (hole site) = hole-reply h site (find (gap site) (h .session .places)) (full lim (h .session)) refl
+  reply-view h (defer t) =
+      picked h (crowded lim (h .session) (size t)) (session.defer (view t))
+      ∙ term-reply (h .session) t (known (h .session) t) (crowded lim (h .session) (size t)) (known-yes (h .session) t) (yes-known (h .session) t) (issued? (issued (h .session)) (view t))
+      (deferring (h .session) (resolved (h .session .solver) t) gives nothing) session.nothing refl
+  reply-view h (pair k t u) =
+      let o = constrain n k (h .session .solver) t u in
+      picked h (crowded lim (h .session) (size t + size u)) (session.pair k (view t) (view u))
+      ∙ pair-reply (h .session) t u (known (h .session) t) (known (h .session) u) (crowded lim (h .session) (size t + size u))
+      (known-yes (h .session) t) (yes-known (h .session) t) (known-yes (h .session) u) (yes-known (h .session) u)
+      (issued? (issued (h .session)) (view t)) (issued? (issued (h .session)) (view u))
+      (posing lim n (h .session) (size t + size u) o) (session.verdict (session.verdict-of S fallback never (read n) (table.table-poses S (read n) k (view-table (h .session .solver)) (view t) (view u))))
+      (ap session.verdict (ap (session.verdict-of S fallback never (read n)) (settles-view n k (h .session .solver) true ((t, u) ∷ [])) ∙ verdict-view o))
+  reply-view h (resolving t) =
+      picked h (crowded lim (h .session) (size t)) (session.resolving (view t))
+      ∙ term-reply (h .session) t (known (h .session) t) (crowded lim (h .session) (size t)) (known-yes (h .session) t) (yes-known (h .session) t) (issued? (issued (h .session)) (view t))
+      (h .session gives term (resolved (h .session .solver) t)) (session.term (answer S (view-table (h .session .solver)) (view t))) (answer-view (h .session .solver) t)
+  reply-view h numbers =
+      ap (λ (z : Table S). session.changed (not (session.is-same (z .rev) (h .session .solver .revision)))) (numerics-view (issued (h .session)) 0 (h .session .solver))
+      ∙ ap (λ (b : Bool). session.changed (not b)) (moved-view (numericDefaults (issued (h .session)) 0 (h .session .solver) .revision) (h .session .solver .revision))
+  reply-view h nevers =
+      ap (λ (z : Table S). session.changed (not (session.is-same (z .rev) (h .session .solver .revision)))) (nevers-view (h .session .deferred) (issued (h .session)) 0 (h .session .solver))
+      ∙ ap (λ (b : Bool). session.changed (not b)) (moved-view (neverDefaults (h .session .deferred) (issued (h .session)) 0 (h .session .solver) .revision) (h .session .solver .revision))
+  reply-view h revision = refl
+  reply-view h (unread r) = refl
+
+  pub replies-view : (h : History) (cs : List Command) → session.replies S fallback never (read n) (view-run h) (view-commands (h .session) cs) ≡ map view-reply (replies lim n (h .session) cs)
+  unfolding session.replies replies view-commands
+  replies-view h [] = refl
+  replies-view h (c ∷ cs) =
+      ap₂ (λ (r : session.Reply S) (x : Run S TheSession). r ∷ session.replies S fallback never (read n) x (view-commands (order lim n (h .session) c .session) cs)) (reply-view h c) (order-view h c)
+      ∙ ap (λ (rs : List (session.Reply S)). view-reply (order lim n (h .session) c .reply) ∷ rs) (replies-view (after lim n h c) cs)

@@ -5,9 +5,11 @@
 --   Session    places, deferrals, defaults
 --   Orders     orders 0 to 8 and their answers
 --   Demand3    demand 3: its premises and its two sentences
+--   InOrder    what holds after every list of orders
 pub mod Families
 pub mod Shapes
 pub mod Solving
 pub mod Session
 pub mod Orders
 pub mod Demand3
+pub mod InOrder
