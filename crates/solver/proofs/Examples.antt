@@ -15,19 +15,19 @@ use Rattle.solver.specs.Session.{box, samePlace, find, fresh, deferring,
 use Rattle.solver.specs.Orders.{Command, variable, number, hole, defer, pair, resolving, numbers, nevers, revision}
 use Rattle.solver.specs.Orders.{Reply, term, verdict, changed, count, nothing, refused, verdictOf, solverOf, beyond, variableAt, numberAt, holeAt, order, replies}
 
-abbrev builtin : ℕ → Term
+abbrev pub builtin : ℕ → Term
 builtin c = node 4 (num c end)
 
-abbrev I32 : Term
+abbrev pub I32 : Term
 I32 = builtin 2
 
-abbrev array : Term → Term
+abbrev pub array : Term → Term
 array t = node 9 (sub t end)
 
-abbrev tuple₂ : Term → Term → Term
+abbrev pub tuple₂ : Term → Term → Term
 tuple₂ t u = node 5 (num 2 (sub t (sub u end)))
 
-abbrev setOf : ℕ → Term → Term
+abbrev pub setOf : ℕ → Term → Term
 setOf a t = node 11 (num a (sub t end))
 
 -- a Struct of declaration 1, with one argument and the member 4

@@ -8,3 +8,5 @@ pub mod ConstrainView
 pub mod Simulation
 pub mod Demand3Laws
 pub mod InOrderLaws
+pub mod HistoryLaws
+pub mod Demand3Examples
