@@ -6,16 +6,15 @@ use mathlib.Core.Option.{Option, none, some}
 use Prim.Native.Nat.{ℕ, zero, suc}
 use native.Mathlib.Omega.{arith}
 use lib.Dec.{eqb}
-use lib.ListN.{length, getD, length-map}
+use lib.ListN.{length, getD}
 use Rattle.terms.specs.Term.{Term, Parts, var, node, end, num, sub}
-use Rattle.terms.specs.Tree.{same, class, nums, subs}
-use Rattle.terms.proofs.Bools.{never-true, never-false, and-false}
+use Rattle.terms.specs.Tree.{same, class, nums}
+use Rattle.terms.proofs.Bools.{never-true, and-false}
 use Rattle.terms.proofs.SameLaws.{same-refl, same-true}
 use Rattle.unify.specs.Term as tree
-use Rattle.unify.specs.Term.{Sort, one, many, Tree, nil, _▸_, In, in?, same?}
+use Rattle.unify.specs.Term.{nil, In, in?, same?}
 use Rattle.unify.specs.Solver as theory
-use Rattle.unify.specs.Solver.{Sig, Out, cancelled, done, put, any-soft}
-use Rattle.unify.specs.Lazy as lazy
+use Rattle.unify.specs.Solver.{Out, cancelled, done, put, any-soft}
 use Rattle.unify.specs.Table as table
 use Rattle.unify.specs.Table.{Table, answer}
 use Rattle.unify.specs.Session as session
@@ -25,7 +24,7 @@ use Rattle.solver.specs.Solving.{Solver, resolved, top, recovery, recove
 use Rattle.solver.specs.Session.{never, settleAt, numericAt, neverAt, numericDefaults, neverDefaults}
 use Rattle.solver.proofs.View.{T, forest, view, views, view-injective, view-node, turned-length}
 use Rattle.solver.proofs.Signature.{S, term?}
-use Rattle.solver.proofs.ViewLaws.{viewed, all-viewed, put-viewed, view-resolve, view-follow, recovers-view, occurs-in, in-occurs, same-wide}
+use Rattle.solver.proofs.ViewLaws.{all-viewed, put-viewed, view-resolve, view-follow, recovers-view, occurs-in, in-occurs, same-wide}
 
 abbrev pub view-table : Solver → Table S
 view-table z = record { bound = all-viewed (z .bindings); fam = z .requests; rev = z .revision }

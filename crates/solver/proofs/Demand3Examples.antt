@@ -1,24 +1,22 @@
 -- Demand 3 used on two sessions: its premises can be met, on both sides of the first sentence. Assumes nothing.
-use mathlib.Core.Path.{_≡_, refl}
-use mathlib.Core.Bool.{Bool, true, false}
+use mathlib.Core.Path.{refl}
 use mathlib.Core.List.{List, [], _∷_}
-use mathlib.Core.Option.{Option, none, some}
 use Prim.Native.Nat.{ℕ, _≤_, _<_}
 use native.Mathlib.Decide.{ℕ-discrete}
 use native.Mathlib.Omega.{arith}
-use Rattle.terms.specs.Term.{Term, Parts, var, node, end, num, sub, size}
-use Rattle.terms.specs.Tree.{unknown, nums, row, tag, class, children, subs, same}
+use Rattle.terms.specs.Term.{Term, var, size}
+use Rattle.terms.specs.Tree.{nums, row, tag, class, children, subs, same}
 use Rattle.terms.specs.Questions.{among, meets}
 use Rattle.terms.specs.Shape.{kindOf, manyTerms}
-use Rattle.terms.specs.Formed.{Formed, Fit, TakesNumber, afterNumber, TakesTerm, afterTerm}
+use Rattle.terms.specs.Formed.{Formed, TakesNumber, afterNumber, TakesTerm, afterTerm}
 use Rattle.unify.specs.Term.{clash}
 use Rattle.unify.specs.Solver.{put}
-use Rattle.solver.specs.Families.{requested, code, codes, familyOf, admits, belongs, belongsRow, shared, gathered, withFallback, meet}
-use Rattle.solver.specs.Shapes.{Notion, loose, exact, blank, blankRow, unmarked, read, readAll, sameShape, turned}
+use Rattle.solver.specs.Families.{requested, code, codes, familyOf, admits, belongs, belongsRow}
+use Rattle.solver.specs.Shapes.{loose, blank, blankRow, unmarked, read, sameShape, turned}
 use Rattle.solver.specs.Solving.{replace, followed, resolve, follow, recovery, is, projects, joined, join, allow, admit, bind₁, bind₀, bind, zipOn, part, differ, match, turn, settles}
-use Rattle.solver.specs.Session.{box, samePlace, find, fresh, deferring, settleAt, numericAt, neverAt, numericDefaults, neverDefaults}
-use Rattle.solver.specs.Orders.{Command, variable, number, pair, numbers, verdictOf, solverOf, beyond, variableAt, numberAt, holeAt, order}
-use Rattle.solver.specs.Demand3.{History, accepted, says, placed, requestedBy, posedBy, beginning, history, outside, Premises, Demand3, Assigns, True, Equal, isVariable}
+use Rattle.solver.specs.Session.{box, samePlace, find, settleAt, numericAt, numericDefaults}
+use Rattle.solver.specs.Orders.{Command, variable, number, pair, numbers, verdictOf, solverOf, beyond, variableAt, numberAt, order}
+use Rattle.solver.specs.Demand3.{accepted, says, placed, requestedBy, posedBy, beginning, history, outside, Premises, Assigns, True, Equal}
 use Rattle.solver.proofs.Examples.{I32, builtin, array, tuple₂, setOf}
 use Rattle.solver.proofs.Demand3Laws.{demand-3}
 

@@ -1,23 +1,20 @@
 -- Demand 3 for every list of orders 0 to 8, on terms: carried over from the theory along the view. Assumes nothing.
-use mathlib.Core.Path.{_≡_, refl, sym, ap, ap₂, _∙_, subst}
-use mathlib.Core.Bool.{Bool, true, false, not, _&&_, _||_}
+use mathlib.Core.Path.{_≡_, refl, sym, ap, _∙_, subst}
+use mathlib.Core.Bool.{Bool, true, false, _&&_, _||_}
 use mathlib.Core.List.{List, [], _∷_, map}
-use mathlib.Core.Logic.{_⊎_, inl, inr, _↔_}
 use mathlib.Core.Option.{Option, none, some}
-use Prim.Native.Nat.{ℕ, zero, suc, _+_, _≤_, _<_}
-use native.Mathlib.Decide.{decLt}
+use Prim.Native.Nat.{ℕ, suc, _<_}
 use native.Mathlib.Omega.{arith}
 use borrow.Author.Tests.{eqb-true}
-use lib.Dec.{leb, ltb, eqb}
+use lib.Dec.{eqb}
 use Rattle.terms.specs.Result.{pick}
-use Rattle.terms.specs.Term.{Term, Parts, var, node, end, num, sub, size}
+use Rattle.terms.specs.Term.{Term, Parts, var, node, end, num, sub}
 use Rattle.terms.specs.Questions.{among, meets}
 use Rattle.terms.specs.Formed.{Formed}
-use Rattle.terms.proofs.Bools.{never-true, never-false, not-true}
-use Rattle.terms.proofs.SameLaws.{both}
+use Rattle.terms.proofs.Bools.{never-true, never-false}
 use Rattle.unify.specs.Term as tree
-use Rattle.unify.specs.Term.{Sort, one, many, Tree, nil, _▸_, In, Closed, Sim, sub-ext, width}
-use Rattle.unify.specs.Solver.{Sig, Out, cancelled, done, put}
+use Rattle.unify.specs.Term.{Sort, Tree, nil, _▸_, In, Closed, Sim, sub-ext}
+use Rattle.unify.specs.Solver.{Out, cancelled, done}
 use Rattle.unify.specs.Meaning as meaning
 use Rattle.unify.specs.Orders as theirs
 use Rattle.unify.specs.Orders.{Run, Issued}
@@ -25,16 +22,16 @@ use Rattle.unify.specs.Demand as demand
 use Rattle.unify.specs.Table.{answer, table-poses}
 use Rattle.unify.specs.Session as session
 use Rattle.unify.specs.Whole.{whole-demand-3}
-use Rattle.solver.specs.Families.{Family, Request, admits, belongs, belongsRow}
-use Rattle.solver.specs.Shapes.{Notion, loose, exact, unmarked, readRow, read, readAll, blankRow}
+use Rattle.solver.specs.Families.{Family, Request, belongs, belongsRow}
+use Rattle.solver.specs.Shapes.{Notion, loose, exact, unmarked, readRow, read, blankRow}
 use Rattle.solver.specs.Solving.{Pair, replace, resolved, always, occurs, recovery, projects}
 use Rattle.solver.specs.Session.{Limits, Session, issued, find, fresh, never}
 use Rattle.solver.specs.Orders.{Command}
-use Rattle.solver.specs.Demand3.{History, beginning, history, isVariable, VariableFree, Assigns, True, Alike, Equal, Agrees, Demand3, outside, Plain, PlainPairs, Premises}
+use Rattle.solver.specs.Demand3.{History, beginning, history, isVariable, VariableFree, Assigns, True, Equal, Agrees, Demand3, outside, Plain, PlainPairs, Premises}
 use Rattle.solver.proofs.View.{T, view, view-injective, back, back-view, meets-view, some-of, some-in, in-some}
 use Rattle.solver.proofs.Signature.{S, view-back, formed-back, formed-view}
 use Rattle.solver.proofs.FamilyLaws.{belongs-code}
-use Rattle.solver.proofs.ViewLaws.{viewed, view-replace, view-resolve, occurs-in, in-occurs, alike-sim, sim-alike}
+use Rattle.solver.proofs.ViewLaws.{viewed, view-replace, view-resolve, occurs-in, alike-sim, sim-alike}
 use Rattle.solver.proofs.ConstrainView.{view-table, view-pairs, leaf-view, fallback}
 use Rattle.solver.proofs.Simulation.{TheSession, view-run, view-commands, history-view, all-allowed-view}
 

@@ -1,10 +1,10 @@
 -- Document 01's worked session, the marked lines about constrain, and the slips, by computation. Assumes nothing.
 use mathlib.Core.Path.{_≡_, refl}
-use mathlib.Core.Bool.{Bool, true, false}
+use mathlib.Core.Bool.{true, false}
 use mathlib.Core.List.{List, [], _∷_}
 use Prim.Native.Nat.{ℕ}
 use native.Mathlib.Decide.{ℕ-discrete}
-use Rattle.terms.specs.Term.{Term, Parts, var, node, end, num, sub, size}
+use Rattle.terms.specs.Term.{Term, var, node, end, num, sub, size}
 use Rattle.terms.specs.Tree.{unknown, nums, row, tag, class, children, subs, same}
 use Rattle.terms.specs.Questions.{among, meets}
 use Rattle.unify.specs.Solver.{put}

@@ -11,7 +11,7 @@ use lib.Dec.{eqb}
 use Rattle.terms.specs.Result.{pick}
 use Rattle.terms.specs.Term.{Term, Parts, var, node, end, num, sub}
 use Rattle.terms.specs.Questions.{among}
-use Rattle.terms.proofs.Bools.{never-true, never-false, and-false}
+use Rattle.terms.proofs.Bools.{never-true, and-false}
 use Rattle.terms.proofs.SameLaws.{both}
 use Rattle.unify.specs.Term.{clash}
 use Rattle.solver.specs.Families.{Numeric, I8, I16, I32, I64, U8, U16, U32, U64, F32, F64, code, codes, Family, numerics, admits, belongs, belongsRow, shared, gathered, Request, withFallback, meet}

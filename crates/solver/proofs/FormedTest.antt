@@ -1,14 +1,13 @@
 -- Whether a term is formed, decided. Assumes nothing.
-use mathlib.Core.Path.{_≡_, refl, sym, ap, _∙_}
+use mathlib.Core.Path.{_≡_, refl}
 use mathlib.Core.Bool.{Bool, true, false}
-use Prim.Native.Nat.{ℕ, zero, suc, _+_, _≤_, _<_}
+use Prim.Native.Nat.{ℕ}
 use native.Mathlib.Decide.{decLt, decLe}
-use native.Mathlib.Omega.{arith}
 use lib.Dec.{eqb, ltb}
 use Rattle.terms.specs.Result.{pick}
 use Rattle.terms.specs.Term.{Term, Parts, var, node, end, num, sub}
 use Rattle.terms.specs.Shape as shape
-use Rattle.terms.specs.Shape.{Shape, Meaning, kindOf, layout, ceiling}
+use Rattle.terms.specs.Shape.{Shape, kindOf, layout, ceiling}
 use Rattle.terms.specs.Formed.{TakesNumber, afterNumber, TakesTerm, afterTerm, Formed, Fit}
 use Rattle.unify.specs.Term.{clash}
 

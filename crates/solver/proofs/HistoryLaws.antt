@@ -7,14 +7,14 @@ use native.Mathlib.Decide.{decLt, decLe}
 use native.Mathlib.Omega.{arith}
 use borrow.Author.Tests.{lt-ltb, le-ltb}
 use lib.Dec.{eqb, ltb}
-use lib.ListN.{length, getD, take, drop, length-drop, length-append, List·getD-append, drop-of-length-le}
+use lib.ListN.{length, getD, take, drop, length-drop, List·getD-append, drop-of-length-le}
 use lib.Seq.{getD-take, getD-drop, getD-append-add, take-all}
 use Rattle.terms.specs.Result.{pick}
-use Rattle.terms.specs.Term.{Term, Parts, var, node, end, num, sub}
+use Rattle.terms.specs.Term.{Term}
 use Rattle.terms.specs.Tree.{nums, row, tag, class, children, nominalSlot, slotBy, slot}
 use Rattle.terms.proofs.Bools.{or-none, or-assoc}
 use Rattle.solver.specs.Shapes.{Notion, turned, pushed}
-use Rattle.solver.specs.Session.{Limits, Session}
+use Rattle.solver.specs.Session.{Limits}
 use Rattle.solver.specs.Orders.{Command, Reply, order, replies}
 use Rattle.solver.specs.Demand3.{History, says, after, history}
 

@@ -1,37 +1,40 @@
 -- After every list of orders the session is in order: carried over from the theory. Assumes nothing.
 use mathlib.Core.Path.{_≡_, refl, sym, ap, ap₂, _∙_, subst}
-use mathlib.Core.Bool.{Bool, true, false}
+use mathlib.Core.Bool.{Bool, true, false, _&&_}
 use mathlib.Core.List.{List, [], _∷_}
 use mathlib.Core.Option.{Option, none, some}
 use Prim.Native.Nat.{ℕ, zero, suc, _+_, _≤_, _<_}
 use native.Mathlib.Decide.{decLt}
 use native.Mathlib.Omega.{arith}
+use borrow.Author.Tests.{leb-false, ltb-false}
+use lib.Dec.{leb}
 use lib.ListN.{length}
 use Rattle.terms.specs.Result.{pick}
-use Rattle.terms.specs.Term.{Term, Parts, var, node, end, num, sub}
+use Rattle.terms.specs.Term.{Term, var, node, sub, size}
 use Rattle.unify.specs.Term as tree
-use Rattle.unify.specs.Term.{Sort, one, many, Tree, nil, _▸_, In, clash, in-sub, sub-in}
-use Rattle.unify.specs.Solver.{Sig}
-use Rattle.unify.specs.Orders.{Run, Issued}
+use Rattle.unify.specs.Term.{one, In, clash, in-sub, sub-in}
+use Rattle.unify.specs.Solver.{Out, cancelled, done}
+use Rattle.unify.specs.Orders.{Run}
 use Rattle.unify.specs.Lazy.{resolve-right}
 use Rattle.unify.specs.Table as table
-use Rattle.unify.specs.Table.{Table, answer, taken, tally}
+use Rattle.unify.specs.Table.{Table, taken, tally}
 use Rattle.unify.specs.Refine as refine
 use Rattle.unify.specs.Session as session
+use Rattle.unify.specs.Enough.{Finished, settles-enough}
 use Rattle.unify.specs.Whole.{Sane, SaneRun, sheet-sane}
-use Rattle.solver.specs.Families.{Request, belongs}
-use Rattle.solver.specs.Shapes.{Notion, loose, exact, read}
-use Rattle.solver.specs.Solving.{Solver, resolved, top, occurs}
-use Rattle.solver.specs.Session.{Limits, Place, samePlace, Session, issued, find, fresh, never}
-use Rattle.solver.specs.Orders.{Command, known, order, run}
+use Rattle.solver.specs.Shapes.{Notion, read}
+use Rattle.solver.specs.Solving.{Solver, resolved, top, constrain}
+use Rattle.solver.specs.Session.{Limits, Place, at, gap, samePlace, Session, issued, find, fresh, issueAt, deferring, never}
+use Rattle.solver.specs.Orders.{Command, variable, number, hole, defer, pair, resolving, numbers, nevers, revision, unread}
+use Rattle.solver.specs.Orders.{term, nothing, _gives_, known, full, crowded, unless, variableAt, numberAt, holeAt, posing, order, run}
 use Rattle.solver.specs.Demand3.{History, beginning, after, history}
 use Rattle.solver.specs.InOrder as counting
-use Rattle.solver.specs.InOrder.{InOrder, boundBelow}
+use Rattle.solver.specs.InOrder.{InOrder, boundBelow, Fits, Settled, SettledBy}
 use Rattle.solver.proofs.View.{T, view, view-injective}
 use Rattle.solver.proofs.Signature.{S}
-use Rattle.solver.proofs.ViewLaws.{viewed, all-viewed, view-resolve, view-follow, occurs-in, in-occurs}
-use Rattle.solver.proofs.ConstrainView.{view-table, fallback}
-use Rattle.solver.proofs.Simulation.{TheSession, view-run, view-commands, history-view, yes-known}
+use Rattle.solver.proofs.ViewLaws.{viewed, all-viewed, view-resolve, view-follow, occurs-in}
+use Rattle.solver.proofs.ConstrainView.{view-table, view-out, settles-view, fallback}
+use Rattle.solver.proofs.Simulation.{TheSession, view-run, view-commands, history-view, known-yes, yes-known}
 use Rattle.solver.proofs.Demand3Laws.{respects}
 
 none-viewed : (o : Option Term) → viewed o ≡ none → o ≡ none
@@ -120,6 +123,17 @@ module _ (n : Notion) (codes-count : n 4 ≡ false) (s : Session) (sane : Sane S
     topped = λ t v e. none-viewed (z .bindings v) (topped-view (view t) v (sym (view-follow (z .revision) (z .bindings) t) ∙ ap view e));
   }
 
+  -- every pair is settled by some number of checks
+  settled-view : (o : Out Solver) → Finished S (read n) (respects n codes-count) (view-out o) → Settled o
+  unfolding view-out
+  settled-view (cancelled z) f = f
+  settled-view (done z b) f = tt
+
+  pub settled-of : (t u : Term) → known s t ≡ true → known s u ≡ true → (K : ℕ) × SettledBy n K z t u
+  settled-of t u e f =
+      let x = settles-enough S (read n) (respects n codes-count) (issued s) Z (sane .means) (sane .stands) (sane .counted) (sane .fine) (view t) (view u) (known-yes s t e) (known-yes s u f) in
+      (x .0, λ k l. settled-view (constrain n k z t u) (subst (Finished S (read n) (respects n codes-count)) (settles-view n k z true ((t, u) ∷ [])) (x .1 k l)))
+
 -- the history's session is the run's
 history-run : (lim : Limits) (n : Notion) (h : History) (cs : List Command) → history lim n h cs .session ≡ run lim n (h .session) cs
 unfolding history run
@@ -127,14 +141,22 @@ history-run lim n h [] = refl
 history-run lim n h (c ∷ cs) = history-run lim n (after lim n h c) cs
 
 module _ (lim : Limits) (n : Notion) (codes-count : n 4 ≡ false) where
-  -- AFTER EVERY LIST OF ORDERS, premises or not, the session is in order.
-  pub in-order : (cs : List Command) → InOrder (run lim n fresh cs)
+  all-sane : (cs : List Command) → Sane S fallback never (read n) (respects n codes-count) (issued (run lim n fresh cs)) (view-table (run lim n fresh cs .solver))
   unfolding viewed find
-  in-order cs =
+  all-sane cs =
       let h = history lim n beginning cs in
       let e : session.sheet S fallback never (read n) (view-commands lim n fresh cs) ≡ view-run h = history-view lim n beginning cs in
       let x = subst (λ (y : Run S TheSession). SaneRun S fallback never (read n) (respects n codes-count) y) e (sheet-sane S fallback never (read n) (respects n codes-count) (view-commands lim n fresh cs)) in
-      subst InOrder (history-run lim n beginning cs) (in-order-of n codes-count (h .session) (x .sane))
+      subst (λ (s : Session). Sane S fallback never (read n) (respects n codes-count) (issued s) (view-table (s .solver))) (history-run lim n beginning cs) (x .sane)
+
+  -- AFTER EVERY LIST OF ORDERS, premises or not, the session is in order.
+  pub in-order : (cs : List Command) → InOrder (run lim n fresh cs)
+  in-order cs = in-order-of n codes-count (run lim n fresh cs) (all-sane cs)
+
+  -- AND EVERY PAIR IS SETTLED WITH ENOUGH CHECKS.
+  pub settled : (cs : List Command) (t u : Term) → known (run lim n fresh cs) t ≡ true → known (run lim n fresh cs) u ≡ true
+      → (K : ℕ) × SettledBy n K (run lim n fresh cs .solver) t u
+  settled cs = settled-of n codes-count (run lim n fresh cs) (all-sane cs)
 
 -- the variable of a place is issued
 pub find-issued : (p : Place) (ps : List Place) (v : ℕ) → find p ps ≡ some v → v < length ps
@@ -145,3 +167,68 @@ find-issued p (q ∷ ps) v e = go (samePlace p q) e (find-issued p ps v)
     go : (b : Bool) → pick b (some (length ps)) (find p ps) ≡ some v → (find p ps ≡ some v → v < length ps) → v < suc (length ps)
     go true d f = let x : length ps ≡ v = cc in omega arith
     go false d f = let x = f d in omega arith
+
+-- ---- limits
+
+module _ (lim : Limits) (n : Notion) where
+  full-fits : (s : Session) → leb (lim .variables) (issued s) ≡ false → suc (issued s) ≤ lim .variables
+  full-fits s e = leb-false (lim .variables) (issued s) e
+
+  place-fits : (s : Session) (p : Place) → Fits lim s → leb (lim .variables) (issued s) ≡ false → Fits lim (issueAt s p)
+  place-fits s p f e = record { variables = full-fits s e; nodes = f .nodes }
+
+  pub order-fits : (s : Session) (c : Command) → Fits lim s → Fits lim (order lim n s c .session)
+  unfolding order variableAt numberAt holeAt deferring
+  order-fits s (variable site slot) f = go (find (at site slot) (s .places)) (full lim s) refl
+    where
+      go : (o : Option ℕ) (b : Bool) → full lim s ≡ b → Fits lim (variableAt lim s (at site slot) o b .session)
+      go (some v) b e = f
+      go none true e = f
+      go none false e = place-fits s (at site slot) f e
+  order-fits s (number site r) f = go (find (at site 1) (s .places)) (full lim s) refl
+    where
+      go : (o : Option ℕ) (b : Bool) → full lim s ≡ b → Fits lim (numberAt lim s (at site 1) r o b .session)
+      go (some v) b e = record { variables = f .variables; nodes = f .nodes }
+      go none true e = f
+      go none false e = record { variables = full-fits s e; nodes = f .nodes }
+  order-fits s (hole site) f = go (find (gap site) (s .places)) (full lim s) refl
+    where
+      go : (o : Option ℕ) (b : Bool) → full lim s ≡ b → Fits lim (holeAt lim s (gap site) o b .session)
+      go (some v) b e = f
+      go none true e = f
+      go none false e = place-fits s (gap site) f e
+  order-fits s (defer t) f = go (known s t) (crowded lim s (size t))
+    where
+      last : (u : Term) → Fits lim (deferring s u)
+      last (var v) = record { variables = f .variables; nodes = f .nodes }
+      last (node k ps) = f
+
+      go : (b c : Bool) → Fits lim (unless lim s b c (deferring s (resolved (s .solver) t) gives nothing) .session)
+      go true true = f
+      go true false = last (resolved (s .solver) t)
+      go false c = f
+  order-fits s (pair k t u) f = go (known s t && known s u) (crowded lim s (size t + size u)) refl
+    where
+      go : (b c : Bool) → crowded lim s (size t + size u) ≡ c → Fits lim (unless lim s b c (posing lim n s (size t + size u) (constrain n k (s .solver) t u)) .session)
+      go true true e = f
+      go true false e = record { variables = f .variables; nodes = ltb-false (lim .nodes) (s .kept + (size t + size u)) e }
+      go false c e = f
+  order-fits s (resolving t) f = go (known s t) (crowded lim s (size t))
+    where
+      go : (b c : Bool) → Fits lim (unless lim s b c (s gives term (resolved (s .solver) t)) .session)
+      go true true = f
+      go true false = f
+      go false c = f
+  order-fits s numbers f = record { variables = f .variables; nodes = f .nodes }
+  order-fits s nevers f = record { variables = f .variables; nodes = f .nodes }
+  order-fits s revision f = f
+  order-fits s (unread r) f = f
+
+  run-fits : (s : Session) (cs : List Command) → Fits lim s → Fits lim (run lim n s cs)
+  unfolding run
+  run-fits s [] f = f
+  run-fits s (c ∷ cs) f = run-fits (order lim n s c .session) cs (order-fits s c f)
+
+  -- AFTER EVERY LIST OF ORDERS the session is within its limits.
+  pub fits : (cs : List Command) → Fits lim (run lim n fresh cs)
+  fits cs = run-fits fresh cs (record { variables = omega arith; nodes = omega arith })

@@ -1,33 +1,30 @@
 -- The heads and families of the theory, for the terms of crate terms; which trees are views. Assumes nothing.
 use mathlib.Core.Path.{_≡_, refl, sym, ap, ap₂, _∙_}
-use mathlib.Core.Bool.{Bool, true, false, _&&_, _||_}
+use mathlib.Core.Bool.{Bool, true, false, _&&_}
 use mathlib.Core.List.{List, [], _∷_, map}
 use mathlib.Core.HLevel.{Discrete}
-use mathlib.Core.Logic.{_⊎_, inl, inr, _↔_}
-use mathlib.Core.Option.{Option, none, some}
-use Prim.Native.Nat.{ℕ, zero, suc, _-_, _≤_, _<_}
+use mathlib.Core.Logic.{inl, inr}
+use Prim.Native.Nat.{ℕ, zero, suc, _-_, _<_}
 use native.Mathlib.Omega.{arith}
 use borrow.Author.Tests.{eq-eqb, eqb-true}
 use lib.Dec.{eqb}
-use lib.ListN.{length, getD, length-map}
+use lib.ListN.{length, getD}
 use Rattle.terms.specs.Term.{Term, Parts, var, node, end, num, sub}
 use Rattle.terms.specs.Tree.{unknown, error, nums, row, tag, class, children, subs, fill, withKids, same}
 use Rattle.terms.specs.Questions.{among}
-use Rattle.terms.specs.Shape as shape
 use Rattle.terms.specs.Shape.{Shape, kindOf, layout}
-use Rattle.terms.specs.Formed.{TakesNumber, afterNumber, TakesTerm, afterTerm, Formed, Fit}
-use Rattle.terms.proofs.Bools.{never-true, never-false}
+use Rattle.terms.specs.Formed.{TakesNumber, afterNumber, afterTerm, Formed, Fit}
+use Rattle.terms.proofs.Bools.{never-true}
 use Rattle.terms.proofs.SameLaws.{both, same-refl, same-true}
 use Rattle.terms.proofs.FormedLaws.{formed-error, formed-with}
 use Rattle.unify.specs.Term as tree
-use Rattle.unify.specs.Term.{Sort, one, many, Tree, nil, _▸_, In, Closed, width, clash}
-use Rattle.unify.specs.Solver.{Sig, any-soft}
+use Rattle.unify.specs.Term.{Sort, one, many, Tree, nil, _▸_, Closed, width}
+use Rattle.unify.specs.Solver.{Sig}
 use Rattle.unify.specs.Meaning as meaning
-use Rattle.unify.specs.Meaning.{Plain}
 use Rattle.solver.specs.Families.{Request, code, belongs, meet}
-use Rattle.solver.specs.Shapes.{blank, blankRow, turned}
+use Rattle.solver.specs.Shapes.{blankRow, turned}
 use Rattle.solver.specs.Solving.{recovery, projects}
-use Rattle.solver.proofs.View.{T, forest, view, views, backs, back, views-map, nums-blank, map-turned, turned-length, back-turn, Every, every-turned, some-of}
+use Rattle.solver.proofs.View.{T, forest, view, views, backs, back, views-map, map-turned, turned-length, back-turn, Every, every-turned}
 use Rattle.solver.proofs.FamilyLaws.{code-low, admits-one, code-belongs, meet-some, meet-none}
 use Rattle.solver.proofs.FormedTest.{formed?}
 

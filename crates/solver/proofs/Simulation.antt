@@ -4,28 +4,27 @@ use mathlib.Core.Logic.{ite}
 use mathlib.Core.Bool.{Bool, true, false, not, _&&_, _||_}
 use mathlib.Core.List.{List, [], _∷_, map}
 use mathlib.Core.Option.{Option, none, some}
-use Prim.Native.Nat.{ℕ, zero, suc, _+_}
+use Prim.Native.Nat.{ℕ, suc, _+_}
 use native.Mathlib.Decide.{ℕ-discrete}
 use borrow.Author.Tests.{eq-eqb, ne-eqb}
-use lib.Dec.{leb, ltb, eqb}
+use lib.Dec.{eqb}
 use lib.ListN.{length}
 use Rattle.terms.specs.Result.{pick}
-use Rattle.terms.specs.Term.{Term, Parts, var, node, end, num, sub, size}
+use Rattle.terms.specs.Term.{Term, var, node, size}
 use Rattle.terms.specs.Questions.{meets}
-use Rattle.terms.proofs.Bools.{never-true, never-false, or-none, not-true}
-use Rattle.unify.specs.Term as tree
-use Rattle.unify.specs.Solver.{Sig, Out, cancelled, done, put}
+use Rattle.terms.proofs.Bools.{never-true, or-none, not-true}
+use Rattle.unify.specs.Solver.{Out, cancelled, done, put}
 use Rattle.unify.specs.Orders.{Run, Issued, issued?, settle}
 use Rattle.unify.specs.Table as table
 use Rattle.unify.specs.Table.{Table, answer}
 use Rattle.unify.specs.Session as session
 use Rattle.solver.specs.Families.{Request}
 use Rattle.solver.specs.Shapes.{Notion, read}
-use Rattle.solver.specs.Solving.{Solver, Pair, resolved, always, constrain}
-use Rattle.solver.specs.Session.{Limits, Place, at, gap, samePlace, Session, issued, find, fresh, withSolver, issueAt, never, deferring, numericDefaults, neverDefaults}
+use Rattle.solver.specs.Solving.{Solver, resolved, always, constrain}
+use Rattle.solver.specs.Session.{Limits, Place, at, gap, samePlace, Session, issued, find, issueAt, never, deferring, numericDefaults, neverDefaults}
 use Rattle.solver.specs.Orders.{Command, variable, number, hole, defer, pair, resolving, numbers, nevers, revision, unread}
 use Rattle.solver.specs.Orders.{Reply, term, verdict, changed, count, nothing, refused, Step, _gives_, verdictOf, solverOf, beyond, known, full, crowded, unless, variableAt, numberAt, holeAt, posing, order, replies}
-use Rattle.solver.specs.Demand3.{History, accepted, says, placed, requestedBy, posedBy, noted, beginning, after, history, Allowed, AllAllowed}
+use Rattle.solver.specs.Demand3.{History, accepted, says, placed, requestedBy, posedBy, noted, after, history, Allowed, AllAllowed}
 use Rattle.solver.proofs.View.{T, view}
 use Rattle.solver.proofs.Signature.{S}
 use Rattle.solver.proofs.ViewLaws.{view-resolve, known-issued, unknown-issued}

@@ -3,23 +3,20 @@
 use mathlib.Core.Path.{_≡_, refl, sym, ap, ap₂, _∙_}
 use mathlib.Core.Bool.{Bool, true, false, _||_}
 use mathlib.Core.List.{List, [], _∷_, _++_, map, append-nil}
-use mathlib.Core.Logic.{_⊎_, inl, inr, _↔_}
-use Prim.Native.Nat.{ℕ, zero, suc, min, _+_, _-_, _≤_, _<_}
+use mathlib.Core.Logic.{_⊎_, inl, inr}
+use Prim.Native.Nat.{ℕ, zero, suc, _-_, _≤_}
 use native.Mathlib.Decide.{decLe}
 use native.Mathlib.Omega.{arith}
-use borrow.Author.Tests.{eq-eqb, eqb-true, leb-true, leb-false, le-leb, lt-leb}
-use lib.Dec.{eqb, leb}
-use lib.ListN.{length, getD, take, drop, length-append, length-take, length-drop, take-append-drop, drop-of-length-le}
+use lib.ListN.{length, getD, take, drop, length-append, length-drop, take-append-drop, drop-of-length-le}
 use lib.Seq.{take-append-seam, drop-append-seam, take-all}
 use Rattle.terms.specs.Term.{Term, Parts, var, node, end, num, sub}
-use Rattle.terms.specs.Tree.{unknown, error, nums, row, tag, class, children, subs, fill, withKids}
+use Rattle.terms.specs.Tree.{error, nums, row, tag, class, children, subs, fill, withKids}
 use Rattle.terms.specs.Questions.{meets, meetsRow}
-use Rattle.terms.proofs.Bools.{never-true, never-false, or-assoc}
+use Rattle.terms.proofs.Bools.{never-true, or-assoc}
 use Rattle.unify.specs.Term as tree
-use Rattle.unify.specs.Term.{Sort, one, many, Tree, nil, _▸_, In, width}
-use Rattle.unify.specs.Orders.{Issued}
-use Rattle.solver.specs.Shapes.{blank, blankRow, turned, pushed}
-use Rattle.solver.specs.Solving.{replace, replaceRow, always}
+use Rattle.unify.specs.Term.{Sort, one, many, Tree, nil, _▸_, In}
+use Rattle.solver.specs.Shapes.{blankRow, turned, pushed}
+use Rattle.solver.specs.Solving.{always}
 
 -- ---- lists turned
 

@@ -1,29 +1,27 @@
 -- The view keeps substitution, resolving, the questions and shapes. Assumes nothing.
 use mathlib.Core.Path.{_≡_, refl, sym, ap, ap₂, _∙_, fun-ext}
-use mathlib.Core.Bool.{Bool, true, false, _&&_, _||_, not}
+use mathlib.Core.Bool.{Bool, true, false, _||_}
 use mathlib.Core.List.{List, [], _∷_, map}
-use mathlib.Core.Logic.{_⊎_, inl, inr, _↔_, ite}
+use mathlib.Core.Logic.{ite}
 use mathlib.Core.Option.{Option, none, some}
-use Prim.Native.Nat.{ℕ, zero, suc, _-_, _≤_, _<_}
+use Prim.Native.Nat.{ℕ, zero, suc, _<_}
 use native.Mathlib.Decide.{ℕ-discrete}
 use native.Mathlib.Omega.{arith}
-use borrow.Author.Tests.{eq-eqb, eqb-true, leb-true, leb-false, le-leb, lt-leb}
+use borrow.Author.Tests.{eq-eqb, eqb-true, leb-true, leb-false}
 use lib.Dec.{eqb, leb}
-use lib.ListN.{length, getD, length-map}
+use lib.ListN.{length, getD}
 use Rattle.terms.specs.Result.{pick}
 use Rattle.terms.specs.Term.{Term, Parts, var, node, end, num, sub}
-use Rattle.terms.specs.Tree.{unknown, nums, row, tag, class, children, subs, same}
-use Rattle.terms.specs.Questions.{among, meets}
-use Rattle.terms.proofs.Bools.{never-true, never-false}
-use Rattle.terms.proofs.SameLaws.{same-refl, same-true}
+use Rattle.terms.specs.Tree.{unknown, nums, row, tag, class, children, subs}
+use Rattle.terms.specs.Questions.{meets}
+use Rattle.terms.proofs.Bools.{never-true}
 use Rattle.unify.specs.Term as tree
-use Rattle.unify.specs.Term.{Sort, one, many, Tree, nil, _▸_, In, Sim, sub-ext}
-use Rattle.unify.specs.Solver.{Sig, any-soft, put}
+use Rattle.unify.specs.Term.{Sort, many, Tree, nil, _▸_, In, Sim, sub-ext}
+use Rattle.unify.specs.Solver.{any-soft, put}
 use Rattle.unify.specs.Orders.{Issued}
 use Rattle.unify.specs.Lazy as lazy
 use Rattle.unify.specs.Table as table
-use Rattle.solver.specs.Families.{Request}
-use Rattle.solver.specs.Shapes.{Notion, blank, blankRow, unmarked, readRow, read, readAll, readAllRow, sameShape, turned, pushed}
+use Rattle.solver.specs.Shapes.{Notion, blankRow, unmarked, readRow, read, readAll, readAllRow, turned, pushed}
 use Rattle.solver.specs.Solving.{replace, replaceRow, followed, resolve, follow, always, recovery, recovers, occurs}
 use Rattle.solver.specs.Solving as solving
 use Rattle.solver.specs.Orders.{beyond}

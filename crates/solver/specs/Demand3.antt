@@ -1,13 +1,13 @@
 -- Demand 3 over lists of orders 0 to 8, on terms: its premises and its two sentences. Assumes nothing.
 use mathlib.Core.Path.{_≡_}
-use mathlib.Core.Bool.{Bool, true, false, not, _||_}
+use mathlib.Core.Bool.{Bool, true, false, _||_}
 use mathlib.Core.List.{List, [], _∷_}
 use mathlib.Core.Logic.{_↔_}
 use mathlib.Core.Option.{Option, none, some}
 use Prim.Native.Nat.{ℕ, _<_}
 use lib.Dec.{eqb}
 use Rattle.terms.specs.Result.{pick}
-use Rattle.terms.specs.Term.{Term, Parts, var, node, end, num, sub}
+use Rattle.terms.specs.Term.{Term, var, node}
 use Rattle.terms.specs.Questions.{among, meets}
 use Rattle.terms.specs.Formed.{Formed}
 use Rattle.unify.specs.Solver.{put}

@@ -1,11 +1,13 @@
 -- What holds of a session after every list of orders, whatever they were. Assumes nothing.
 use mathlib.Core.Path.{_≡_}
-use mathlib.Core.Bool.{Bool, true, false}
+use mathlib.Core.Bool.{true}
 use mathlib.Core.Option.{Option, none, some}
-use Prim.Native.Nat.{ℕ, zero, suc, _+_, _≤_, _<_}
-use Rattle.terms.specs.Term.{Term, Parts, var, node, end, num, sub}
-use Rattle.solver.specs.Solving.{Solver, resolved, top, occurs}
-use Rattle.solver.specs.Session.{Place, Session, issued, find}
+use Prim.Native.Nat.{ℕ, zero, suc, _+_, _≤_}
+use Rattle.terms.specs.Term.{Term, var}
+use Rattle.solver.specs.Solving.{Solver, resolved, top, occurs, constrain}
+use Rattle.unify.specs.Solver.{Out, cancelled, done}
+use Rattle.solver.specs.Shapes.{Notion}
+use Rattle.solver.specs.Session.{Limits, Session, issued}
 use Rattle.solver.specs.Orders.{known}
 
 unfoldable pub one : Option Term → ℕ
@@ -29,3 +31,16 @@ pub record InOrder (s : Session) : Type 0 where
   -- the top of a term: it resolves to the same, and a variable there is free
   pub tops : (t : Term) → resolved (s .solver) (top (s .solver) t) ≡ resolved (s .solver) t
   pub topped : (t : Term) (v : ℕ) → top (s .solver) t ≡ var v → s .solver .bindings v ≡ none
+
+-- a session within its limits
+pub record Fits (lim : Limits) (s : Session) : Type 0 where
+  pub variables : issued s ≤ lim .variables
+  pub nodes : s .kept ≤ lim .nodes
+
+-- a pair is settled, with K checks or more
+abbrev pub Settled : Out Solver → Type 0
+Settled (cancelled z) = ⊥
+Settled (done z b) = Unit {0}
+
+abbrev pub SettledBy : Notion → ℕ → Solver → Term → Term → Type 0
+SettledBy n K z t u = (k : ℕ) → K ≤ k → Settled (constrain n k z t u)

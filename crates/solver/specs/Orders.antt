@@ -1,11 +1,10 @@
 -- Orders 0 to 8 on a session: the session after an order, and its answer. Assumes nothing.
-use mathlib.Core.Bool.{Bool, true, false, not, _&&_, _||_}
+use mathlib.Core.Bool.{Bool, true, false, not, _&&_}
 use mathlib.Core.List.{List, [], _∷_}
 use mathlib.Core.Option.{Option, none, some}
-use Prim.Native.Nat.{ℕ, zero, suc, _+_}
+use Prim.Native.Nat.{ℕ, _+_}
 use lib.Dec.{eqb, ltb, leb}
-use Rattle.terms.specs.Result.{pick}
-use Rattle.terms.specs.Term.{Term, Parts, var, node, end, num, sub, size}
+use Rattle.terms.specs.Term.{Term, var, node, size}
 use Rattle.terms.specs.Questions.{meets}
 use Rattle.unify.specs.Solver.{Out, cancelled, done}
 use Rattle.solver.specs.Families.{Request}

@@ -6,7 +6,7 @@ use Prim.Native.Nat.{ℕ, zero, suc, _+_}
 use lib.Dec.{eqb}
 use lib.ListN.{length}
 use Rattle.terms.specs.Result.{pick}
-use Rattle.terms.specs.Term.{Term, Parts, var, node, end, num, sub}
+use Rattle.terms.specs.Term.{Term, var, node, end, num}
 use Rattle.unify.specs.Solver.{put}
 use Rattle.solver.specs.Families.{Request, defaultOf}
 use Rattle.solver.specs.Solving.{Solver, top}

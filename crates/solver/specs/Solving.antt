@@ -1,14 +1,14 @@
 -- `Solver` of solver.rs: bindings, requests, the revision; `resolve` and `constrain`. Assumes nothing.
-use mathlib.Core.Bool.{Bool, true, false, not, _&&_, _||_}
+use mathlib.Core.Bool.{Bool, true, false, _&&_, _||_}
 use mathlib.Core.List.{List, [], _∷_}
 use mathlib.Core.Option.{Option, none, some}
 use Prim.Native.Nat.{ℕ, zero, suc}
-use lib.Dec.{eqb, leb}
+use lib.Dec.{eqb}
 use Rattle.terms.specs.Term.{Term, Parts, var, node, end, num, sub}
-use Rattle.terms.specs.Tree.{tag, same}
+use Rattle.terms.specs.Tree.{same}
 use Rattle.terms.specs.Questions.{among, meets}
 use Rattle.unify.specs.Solver.{put, Out, cancelled, done}
-use Rattle.solver.specs.Families.{Family, Request, belongs, meet}
+use Rattle.solver.specs.Families.{Request, belongs, meet}
 use Rattle.solver.specs.Shapes.{Notion, sameShape, pushed}
 
 -- A binding is the term that was posed, or the end of its chain where that is a variable, or a default: none of its own variables is
