@@ -1,5 +1,6 @@
 -- Demand 3 used on two sessions: its premises can be met, on both sides of the first sentence. Assumes nothing.
-use mathlib.Core.Path.{refl}
+use mathlib.Core.Path.{_≡_, refl, sym, _∙_}
+use mathlib.Core.Bool.{Bool, true, false}
 use mathlib.Core.List.{List, [], _∷_}
 use Prim.Native.Nat.{ℕ, _≤_, _<_}
 use native.Mathlib.Decide.{ℕ-discrete}
@@ -9,12 +10,12 @@ use Rattle.terms.specs.Tree.{nums, row, tag, class, children, subs, same}
 use Rattle.terms.specs.Questions.{among, meets}
 use Rattle.terms.specs.Shape.{kindOf, manyTerms}
 use Rattle.terms.specs.Formed.{Formed, TakesNumber, afterNumber, TakesTerm, afterTerm}
-use Rattle.unify.specs.Term.{clash}
+use Rattle.terms.proofs.Bools.{never-false}
 use Rattle.unify.specs.Solver.{put}
 use Rattle.solver.specs.Families.{requested, code, codes, familyOf, admits, belongs, belongsRow}
 use Rattle.solver.specs.Shapes.{loose, blank, blankRow, unmarked, read, sameShape, turned}
 use Rattle.solver.specs.Solving.{replace, followed, resolve, follow, recovery, is, projects, joined, join, allow, admit, bind₁, bind₀, bind, zipOn, part, differ, match, turn, settles}
-use Rattle.solver.specs.Session.{box, samePlace, find, settleAt, numericAt, numericDefaults}
+use Rattle.solver.specs.Session.{box, samePlace, issued, find, settleAt, numericAt, numericDefaults}
 use Rattle.solver.specs.Orders.{Command, variable, number, pair, numbers, verdictOf, solverOf, beyond, variableAt, numberAt, order}
 use Rattle.solver.specs.Demand3.{accepted, says, placed, requestedBy, posedBy, beginning, history, outside, Premises, Assigns, True, Equal}
 use Rattle.solver.proofs.Examples.{I32, builtin, array, tuple₂, setOf}
@@ -80,16 +81,28 @@ level-premises = record {
   uncut = refl;
 }
 
--- no assignment makes the pairs of the first equal, and some assignment makes those of the second
-record Uses : Type 0 where
-  bar-none : (θ : ℕ → Term) → Assigns 2 θ → ¬ Equal loose θ ((var 1, array (var 0)) ∷ (array (var 0), array (tuple₂ (var 1) I32)) ∷ [])
-  level-some : ¬ ((θ : ℕ → Term) → Assigns 2 θ → True θ (history box loose beginning level .requests) → ¬ Equal loose θ (history box loose beginning level .posed))
+-- what is answered
+record Answered : Type 0 where
+  bar-no : history box loose beginning bar .incompatible ≡ true
+  level-yes : history box loose beginning level .incompatible ≡ false
 
-uses : Uses
+answered : Answered
 unfolding bar level history order variableAt numberAt find samePlace settles turn match differ part bind bind₀ bind₁ zipOn admit allow join joined sameShape same read blank blankRow loose unmarked turned class nums
     row tag children subs resolve follow followed replace recovery projects is meets among beyond size put ℕ-discrete verdictOf solverOf accepted says requestedBy posedBy placed outside
     familyOf admits belongs belongsRow code codes numericDefaults numericAt settleAt
-uses = record {
-  bar-none = λ θ a e. demand-3 box bar bar-premises .first .0 refl θ a (λ v r p. clash (cc)) e;
-  level-some = λ f. let e = demand-3 box level level-premises .first .1 f in clash (cc);
-}
+answered = record { bar-no = refl; level-yes = refl }
+
+abbrev None : List Command → Type 0
+None cs =
+    let h = history box loose beginning cs in
+    (θ : ℕ → Term) → Assigns (issued (h .session)) θ → True θ (h .requests) → ¬ Equal loose θ (h .posed)
+
+-- so no assignment makes the pairs of the first equal, and not none those of the second
+bar-none : None bar
+bar-none = demand-3 box bar bar-premises .first .0 (answered .bar-no)
+
+apart : (b : Bool) → b ≡ false → b ≡ true → ⊥
+apart b p q = never-false (sym q ∙ p)
+
+level-some : ¬ None level
+level-some f = apart (history box loose beginning level .incompatible) (answered .level-yes) (demand-3 box level level-premises .first .1 f)

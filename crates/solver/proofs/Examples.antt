@@ -30,6 +30,9 @@ tuple₂ t u = node 5 (num 2 (sub t (sub u end)))
 abbrev pub setOf : ℕ → Term → Term
 setOf a t = node 11 (num a (sub t end))
 
+abbrev mapOf : ℕ → Term → Term → Term
+mapOf a k v = node 10 (num a (sub k (sub v end)))
+
 -- a Struct of declaration 1, with one argument and the member 4
 abbrev structOf : Term → Term → Term
 structOf a m = node 13 (num 1 (num 1 (sub a (num 1 (num 4 (sub m end))))))
@@ -51,6 +54,9 @@ record Examples : Type 0 where
   -- "ReadOnly and Mutable Set of I32 conflict yet constrain compatibly", and not where access counts
   loosely : answers loose (pair 9 (setOf 0 I32) (setOf 1 I32) ∷ []) ≡ verdict 1 ∷ []
   strictly : answers exact (pair 9 (setOf 0 I32) (setOf 1 I32) ∷ []) ≡ verdict 0 ∷ []
+  maps : answers loose (pair 9 (mapOf 0 I32 I32) (mapOf 1 I32 I32) ∷ []) ≡ verdict 1 ∷ []
+  -- "Reference access counts"
+  references : answers loose (pair 9 (node 0 (num 0 (sub I32 end))) (node 0 (num 1 (sub I32 end))) ∷ []) ≡ verdict 0 ∷ []
   -- "entering projections in constrain": equal ones pass, others do not meet and bind nothing
   projections : answers loose (variable 7 0 ∷ pair 9 (projected (var 0)) (projected I32) ∷ pair 9 (projected (var 0)) (projected (var 0)) ∷ revision ∷ [])
       ≡ term (var 0) ∷ verdict 0 ∷ verdict 1 ∷ count 0 ∷ []
@@ -68,6 +74,9 @@ record Examples : Type 0 where
   -- holes and deferrals; "never defaults may bind a number variable"; a variable not issued is refused
   nevermore : answers loose (hole 7 ∷ number 7 (requested 2) ∷ hole 7 ∷ defer (var 1) ∷ nevers ∷ nevers ∷ resolving (var 1) ∷ resolving (var 2) ∷ variable 7 1 ∷ number 7 (requested 9) ∷ [])
       ≡ term (var 0) ∷ term (var 1) ∷ term (var 0) ∷ nothing ∷ changed true ∷ changed false ∷ term (builtin 10) ∷ refused 6 ∷ term (var 1) ∷ term (builtin 10) ∷ []
+  -- refusals 8 and 7, with room for one variable and five nodes; 6 comes before 7, and a pair keeps its nodes whatever its answer
+  limits : replies (record { variables = 1; nodes = 5 }) loose fresh (variable 7 0 ∷ hole 7 ∷ variable 7 0 ∷ pair 0 (var 0) I32 ∷ resolving (array (array I32)) ∷ resolving (tuple₂ (var 0) I32) ∷ pair 9 (array (var 0)) (array (var 1)) ∷ pair 9 (array (var 0)) (array I32) ∷ revision ∷ [])
+      ≡ term (var 0) ∷ refused 8 ∷ term (var 0) ∷ verdict 2 ∷ term (array (array I32)) ∷ term (tuple₂ (var 0) I32) ∷ refused 6 ∷ refused 7 ∷ count 0 ∷ []
 
 examples : Examples
 unfolding answers loose exact ℕ-discrete put size nums row tag class children subs same among meets
@@ -79,10 +88,13 @@ examples = record {
   checks = refl;
   loosely = refl;
   strictly = refl;
+  maps = refl;
+  references = refl;
   projections = refl;
   tuples = refl;
   unknowns = refl;
   families = refl;
   parts = refl;
   nevermore = refl;
+  limits = refl;
 }
