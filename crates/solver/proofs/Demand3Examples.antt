@@ -97,7 +97,7 @@ None cs =
     let h = history box loose beginning cs in
     (θ : ℕ → Term) → Assigns (issued (h .session)) θ → True θ (h .requests) → ¬ Equal loose θ (h .posed)
 
--- so no assignment makes the pairs of the first equal, and not none those of the second
+-- so no assignment makes the pairs of the first equal, and for the second it is not so
 bar-none : None bar
 bar-none = demand-3 box bar bar-premises .first .0 (answered .bar-no)
 
