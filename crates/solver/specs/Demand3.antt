@@ -1,0 +1,185 @@
+-- Demand 3 over lists of orders 0 to 8, on terms: its premises and its two sentences. Assumes nothing.
+use mathlib.Core.Path.{_≡_}
+use mathlib.Core.Bool.{Bool, true, false, _||_}
+use mathlib.Core.List.{List, [], _∷_}
+use mathlib.Core.Logic.{_↔_}
+use mathlib.Core.Option.{Option, none, some}
+use Prim.Native.Nat.{ℕ, _<_}
+use lib.Dec.{eqb}
+use Rattle.terms.specs.Result.{pick}
+use Rattle.terms.specs.Term.{Term, var, node}
+use Rattle.terms.specs.Questions.{among, meets}
+use Rattle.terms.specs.Formed.{Formed}
+use Rattle.unify.specs.Solver.{put}
+use Rattle.solver.specs.Families.{Request, belongs}
+use Rattle.solver.specs.Shapes.{Notion, readAll}
+use Rattle.solver.specs.Solving.{Pair, replace, resolved, always, occurs}
+use Rattle.solver.specs.Session.{Limits, at, Session, issued, find, fresh}
+use Rattle.solver.specs.Orders.{Command, variable, number, hole, defer, pair, resolving, numbers, nevers, revision, unread}
+use Rattle.solver.specs.Orders.{Reply, term, verdict, changed, count, nothing, refused, Step, order}
+
+-- ---- what a list of orders requested, posed and was answered
+
+pub record History : Type 0 where
+  pub session : Session
+  -- what was requested of each variable
+  pub requests : ℕ → Option Request
+  pub posed : List Pair
+  -- some pair was answered incompatible; some pair was cancelled
+  pub incompatible : Bool
+  pub cancelled : Bool
+
+-- outcome 0
+unfoldable pub accepted : Reply → Bool
+accepted (term t) = true
+accepted (verdict a) = true
+accepted (changed b) = true
+accepted (count c) = true
+accepted nothing = true
+accepted (refused r) = false
+
+unfoldable pub says : ℕ → Reply → Bool
+says a (term t) = false
+says a (verdict b) = eqb a b
+says a (changed b) = false
+says a (count c) = false
+says a nothing = false
+says a (refused r) = false
+
+-- the variable of a place, or the next one
+unfoldable pub placed : Option ℕ → ℕ → ℕ
+placed none n = n
+placed (some v) n = v
+
+-- "Only orders answered with outcome 0 issue, request and pose"; "a posed pair is the two terms of such an order 4"
+unfoldable pub requestedBy : Session → (ℕ → Option Request) → Command → Bool → ℕ → Option Request
+requestedBy s f (variable site slot) b = f
+requestedBy s f (number site r) b = pick b (put f (placed (find (at site 1) (s .places)) (issued s)) (some r)) f
+requestedBy s f (hole site) b = f
+requestedBy s f (defer t) b = f
+requestedBy s f (pair k t u) b = f
+requestedBy s f (resolving t) b = f
+requestedBy s f numbers b = f
+requestedBy s f nevers b = f
+requestedBy s f revision b = f
+requestedBy s f (unread r) b = f
+
+unfoldable pub posedBy : List Pair → Command → Bool → List Pair
+posedBy ps (variable site slot) b = ps
+posedBy ps (number site r) b = ps
+posedBy ps (hole site) b = ps
+posedBy ps (defer t) b = ps
+posedBy ps (pair k t u) b = pick b ((t, u) ∷ ps) ps
+posedBy ps (resolving t) b = ps
+posedBy ps numbers b = ps
+posedBy ps nevers b = ps
+posedBy ps revision b = ps
+posedBy ps (unread r) b = ps
+
+abbrev pub noted : History → Command → Step → History
+noted h c x = record {
+  session = x .session;
+  requests = requestedBy (h .session) (h .requests) c (accepted (x .reply));
+  posed = posedBy (h .posed) c (accepted (x .reply));
+  incompatible = h .incompatible || says 0 (x .reply);
+  cancelled = h .cancelled || says 2 (x .reply);
+}
+
+abbrev pub beginning : History
+beginning = record { session = fresh; requests = λ v. none; posed = []; incompatible = false; cancelled = false }
+
+-- ---- assignments
+
+-- "Variable-free means without Inference"
+unfoldable pub isVariable : Term → Bool
+isVariable (var v) = true
+isVariable (node k ps) = false
+
+abbrev pub VariableFree : Term → Type 0
+VariableFree t = meets isVariable always t ≡ false
+
+-- "An assignment gives each issued variable a variable-free term"
+abbrev pub Assigns : ℕ → (ℕ → Term) → Type 0
+Assigns N θ = (v : ℕ) → v < N → Formed (θ v) × VariableFree (θ v)
+
+-- "true to the families if each requested number variable gets a builtin of its family"
+abbrev pub True : (ℕ → Term) → (ℕ → Option Request) → Type 0
+True θ requests = (v : ℕ) (r : Request) → requests v ≡ some r → belongs (r .family) (θ v) ≡ true
+
+module _ (n : Notion) where
+  -- "the same once every Set and Map access at any depth is read as ReadOnly"
+  abbrev pub Alike : Term → Term → Type 0
+  Alike t u = readAll n t ≡ readAll n u
+
+  -- "both terms, each Inference replaced by its variable's term"
+  abbrev pub Equal : (ℕ → Term) → List Pair → Type 0
+  Equal θ [] = Unit {0}
+  Equal θ (p ∷ ps) = Alike (replace θ (p .0)) (replace θ (p .1)) × Equal θ ps
+
+  -- "An assignment agrees with it if it makes the variable and that term equal, up to access"; "What a variable resolves to is the term order 5
+  -- would answer for it after the list"
+  abbrev pub Agrees : (ℕ → Term) → Session → Type 0
+  Agrees θ s = (v : ℕ) → v < issued s → Alike (θ v) (replace θ (resolved (s .solver) (var v)))
+
+  -- ---- the two sentences
+
+  pub record Demand3 (h : History) : Type 0 where
+    -- "Some pair was answered incompatible exactly if no assignment of variable-free terms of any size, true to the number families requested,
+    -- makes every posed pair equal up to Set and Map access."
+    pub first : (h .incompatible ≡ true) ↔ ((θ : ℕ → Term) → Assigns (issued (h .session)) θ → True θ (h .requests) → ¬ Equal θ (h .posed))
+    -- "If none was, the assignments that do so are exactly those true to the families that agree, up to that access, with what each variable
+    -- resolves to,"
+    pub second : h .incompatible ≡ false → (θ : ℕ → Term) → Assigns (issued (h .session)) θ
+        → (True θ (h .requests) × Equal θ (h .posed)) ↔ (True θ (h .requests) × Agrees θ (h .session))
+    -- "and every variable left in those terms resolves to itself."
+    pub left : (v w : ℕ) → v < issued (h .session) → occurs w (resolved (h .session .solver) (var v)) ≡ true
+        → (w < issued (h .session)) × (resolved (h .session .solver) (var w) ≡ var w)
+
+-- ---- the premises
+
+-- "pairs free of Unknown, Error and projections"
+unfoldable pub outside : Term → Bool
+outside (var v) = false
+outside (node k ps) = among k (2 ∷ 3 ∷ 18 ∷ [])
+
+-- what is read is formed
+abbrev pub Plain : Term → Type 0
+Plain t = Formed t × (meets outside always t ≡ false)
+
+abbrev pub PlainPairs : List Pair → Type 0
+PlainPairs [] = Unit {0}
+PlainPairs (p ∷ ps) = Plain (p .0) × Plain (p .1) × PlainPairs ps
+
+module _ (lim : Limits) (n : Notion) where
+  -- the history after an order, and after a list of orders given in turn
+  abbrev pub after : History → Command → History
+  after h c = noted h c (order lim n (h .session) c)
+
+  unfoldable pub history : History → List Command → History
+  history h [] = h
+  history h (c ∷ cs) = history (after h c) cs
+
+  -- of an order where it stands: "each number place requested once and not issued earlier" (an order 1 refused with 8 has such a place too), and
+  -- "no default that bound a variable": "A default bound a variable where order 6 or 7 leaves another revision than it found"
+  abbrev pub Allowed : Session → Command → Type 0
+  Allowed s (variable site slot) = Unit {0}
+  Allowed s (number site r) = find (at site 1) (s .places) ≡ none
+  Allowed s (hole site) = Unit {0}
+  Allowed s (defer t) = Unit {0}
+  Allowed s (pair k t u) = Unit {0}
+  Allowed s (resolving t) = Unit {0}
+  Allowed s numbers = order lim n s numbers .session .solver .revision ≡ s .solver .revision
+  Allowed s nevers = order lim n s nevers .session .solver .revision ≡ s .solver .revision
+  Allowed s revision = Unit {0}
+  Allowed s (unread r) = Unit {0}
+
+  abbrev pub AllAllowed : Session → List Command → Type 0
+  AllAllowed s [] = Unit {0}
+  AllAllowed s (c ∷ cs) = Allowed s c × AllAllowed (order lim n s c .session) cs
+
+  -- (that fallbacks are integers or F64 is not needed: any other fallback has the integers as its family)
+  pub record Premises (cs : List Command) : Type 0 where
+    pub allowed : AllAllowed fresh cs
+    pub pairs : PlainPairs (history beginning cs .posed)
+    -- "no cancelled pair"
+    pub uncut : history beginning cs .cancelled ≡ false

@@ -1,0 +1,15 @@
+-- The solver's definition on the terms of crate terms, and demand 3. Read in this order:
+--   Families   what is requested of a number variable
+--   Shapes     equal shape, with the access that counts as a parameter
+--   Solving    `resolve` and `constrain`
+--   Session    places, deferrals, defaults
+--   Orders     orders 0 to 8 and their answers
+--   Demand3    demand 3: its premises and its two sentences
+--   InOrder    what holds after every list of orders
+pub mod Families
+pub mod Shapes
+pub mod Solving
+pub mod Session
+pub mod Orders
+pub mod Demand3
+pub mod InOrder

@@ -1,0 +1,1 @@
+// The definition of the solver and its theory; no code yet.
