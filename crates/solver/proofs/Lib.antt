@@ -10,3 +10,6 @@ pub mod Demand3Laws
 pub mod InOrderLaws
 pub mod HistoryLaws
 pub mod Demand3Examples
+pub mod OverLaws
+pub mod FrameLaws
+pub mod ResolvedLaws
