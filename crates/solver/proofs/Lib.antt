@@ -13,3 +13,4 @@ pub mod Demand3Examples
 pub mod OverLaws
 pub mod FrameLaws
 pub mod ResolvedLaws
+pub mod FuelLaws

@@ -39,7 +39,7 @@ module _ (g : ℕ → ℕ → List ℕ) (h : ℕ → Term) (gn : (v : ℕ) → g
 mutual
   unfolding replace
 
-  replace-var : (t : Term) → replace var t ≡ t
+  pub replace-var : (t : Term) → replace var t ≡ t
   replace-var (var v) = refl
   replace-var (node k ps) = ap (node k) (replace-var-row ps)
 

@@ -1,6 +1,8 @@
 // The definition of the solver and its theory; the code so far resolves a term.
 mod resolving;
 
+pub use resolving::clear_words;
+pub use resolving::resolve_into;
 pub use resolving::resolved_len;
 pub use resolving::write_resolved;
 
