@@ -1,19 +1,17 @@
 -- Laws of bound runs, of `walk`, and of the stack of runs that wait while a bound variable's run is walked. Assumes nothing.
 use mathlib.Core.Path.{_≡_, refl, sym, ap, _∙_}
-use mathlib.Core.Bool.{true, false}
 use mathlib.Core.List.{List, [], _∷_, _++_, append-assoc, append-nil}
 use Prim.Native.Nat.{ℕ, zero, suc, pred, min, _+_, _-_, _≤_, _<_}
 use native.Mathlib.Numerals.{add-one}
 use native.Mathlib.Omega.{arith}
 use native.Mathlib.Decide.{ℕ-discrete}
 use borrow.Author.Tests.{le-leb, lt-leb}
-use lib.Dec.{leb}
-use lib.ListN.{length, getD, set, length-set, length-append}
+use lib.ListN.{length, getD, set, length-set}
 use lib.Seq.{sets, getD-set-same, getD-set-other}
 use Rattle.terms.specs.Tokens.{Item, item, spell, one}
 use Rattle.terms.specs.Held.{span}
 use Rattle.terms.proofs.WriteLaws.{spell-step, spell-none}
-use Rattle.solver.specs.Walk.{runLen, inner, choose, walk, Entered, walked}
+use Rattle.solver.specs.Walk.{runLen, inner, walk, Entered, walked}
 use Rattle.solver.specs.Frames.{pend, rest, left, Sound, Apart, Ready, Settled, Cleared, Answered}
 
 -- ---- what a cell names, and what takes a token's place

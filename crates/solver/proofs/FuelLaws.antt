@@ -7,7 +7,7 @@ use Prim.Native.Nat.{ℕ, zero, suc, _+_, _-_, _≤_}
 use native.Mathlib.Nat.{zero-add, suc-add}
 use native.Mathlib.Omega.{arith}
 use Rattle.terms.specs.Term.{Term, Parts, var, node, end, num, sub, Held, bytes}
-use Rattle.solver.specs.Solving.{Solver, replace, replaceRow, followed, resolve, resolved}
+use Rattle.solver.specs.Solving.{replace, replaceRow, followed, resolve, resolved}
 use Rattle.solver.specs.Session.{Session, issued}
 use Rattle.solver.specs.InOrder.{one, boundBelow, InOrder}
 use Rattle.solver.specs.Walk.{resolvedBytes}

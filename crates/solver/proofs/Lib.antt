@@ -14,3 +14,4 @@ pub mod OverLaws
 pub mod FrameLaws
 pub mod ResolvedLaws
 pub mod FuelLaws
+pub mod ResolvedExamples

@@ -1,13 +1,13 @@
 -- What the tokens of a held term write, bound variables replaced, is the bytes of the resolved term. Assumes nothing.
-use mathlib.Core.Path.{_≡_, refl, sym, ap, ap₂, _∙_}
-use mathlib.Core.List.{List, [], _∷_, _++_, append-assoc, append-nil}
+use mathlib.Core.Path.{_≡_, refl, sym, ap, _∙_}
+use mathlib.Core.List.{List, [], _∷_, append-nil}
 use mathlib.Core.Option.{Option, none, some}
-use Prim.Native.Nat.{ℕ, zero, suc, pred, _+_, _-_, _%_, _≤_, _<_}
+use Prim.Native.Nat.{ℕ, zero, suc, pred, _+_, _-_, _%_}
 use native.Mathlib.Numerals.{add-one}
 use native.Mathlib.Omega.{arith}
 use lib.ListN.{length, getD}
 use Rattle.terms.specs.Number.{shortest}
-use Rattle.terms.specs.Tokens.{Item, item, spell, one, toks}
+use Rattle.terms.specs.Tokens.{one, toks}
 use Rattle.terms.specs.Term.{Term, Parts, var, node, end, num, sub, items, partItems, bytes, partBytes, Held}
 use Rattle.terms.specs.Held.{span}
 use Rattle.terms.specs.Writing.{plain}

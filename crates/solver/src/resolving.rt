@@ -6,7 +6,7 @@ use terms::run_len;
 use terms::write_run;
 ghost use mathlib.Core.Path.{_≡_};
 ghost use mathlib.Core.Option.{Option};
-ghost use Prim.Native.Nat.{ℕ, suc, min, _+_, _^_, _≤_, _<_};
+ghost use Prim.Native.Nat.{ℕ, min, _+_, _^_, _≤_, _<_};
 ghost use lib.ListN.{length};
 ghost use lib.Seq.{sets};
 ghost use Rattle.terms.specs.Term.{Term, Held, bytes};

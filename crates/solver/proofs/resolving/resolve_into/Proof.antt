@@ -1,7 +1,7 @@
 -- `resolve_into`. Assumes nothing.
 use denote.Ref.{now}
 use borrow.Author.Needs.{needs}
-use mathlib.Core.Path.{_≡_, refl, _∙_}
+use mathlib.Core.Path.{_∙_}
 use native.Mathlib.Omega.{arith}
 use Rattle.solver.proofs.FrameLaws.{cleared-after, answered-long, answered-fits}
 use Rattle.solver.proofs.resolving.resolve_into.Statement.{statement}

@@ -2,9 +2,8 @@
 use denote.Ref.{now}
 use borrow.Author.Needs.{needs}
 use mathlib.Core.List.{List}
-use mathlib.Core.Path.{_≡_, ap, _∙_}
+use mathlib.Core.Path.{ap, _∙_}
 use Prim.Native.Nat.{ℕ, min, _+_}
-use native.Mathlib.Omega.{arith}
 use lib.ListN.{length}
 use Rattle.solver.proofs.ResolvedLaws.{named-bytes, resolved-bytes}
 use Rattle.solver.proofs.resolving.resolved_len.Statement.{statement}
