@@ -1,5 +1,4 @@
--- In a session in order the revision is fuel enough for `resolve`, more gives the same, and the revision is at most the number of
--- variables issued. Assumes nothing.
+-- In a session in order the revision is fuel enough for `resolve`, and at most the variables issued. Assumes nothing.
 use mathlib.Core.Path.{_≡_, refl, sym, ap, ap₂, _∙_}
 use mathlib.Core.List.{List}
 use mathlib.Core.Option.{Option, none, some}

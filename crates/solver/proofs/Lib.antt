@@ -15,3 +15,4 @@ pub mod FrameLaws
 pub mod ResolvedLaws
 pub mod FuelLaws
 pub mod ResolvedExamples
+pub mod BindingLaws

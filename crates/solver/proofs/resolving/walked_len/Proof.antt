@@ -1,5 +1,4 @@
--- `walked_len`. Invariant: the place is ready, and the bytes counted and those that are left are all. Measure: the tokens that are
--- left. Assumes nothing.
+-- `walked_len`. Invariant: the bytes counted and those left are all. Measure: the tokens left. Assumes nothing.
 use denote.Ref.{now}
 use mathlib.Core.List.{List}
 use mathlib.Core.Path.{_≡_, refl, ap, _∙_}

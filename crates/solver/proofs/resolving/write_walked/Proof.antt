@@ -1,5 +1,4 @@
--- `write_walked`. Invariant: the place is ready, and writing what is left at i gives what was to be written (`Left`). Measure: the
--- tokens that are left. Assumes nothing.
+-- `write_walked`. Invariant: writing what is left at i gives what was to be written. Measure: the tokens left. Assumes nothing.
 use denote.Ref.{now}
 use mathlib.Core.List.{List}
 use mathlib.Core.Path.{_≡_, refl, ap, _∙_}
