@@ -23,3 +23,9 @@ pub mod Demand3Laws
 pub mod InOrderLaws
 pub mod HistoryLaws
 pub mod Demand3Examples
+pub mod OverLaws
+pub mod FrameLaws
+pub mod ResolvedLaws
+pub mod FuelLaws
+pub mod ResolvedExamples
+pub mod BindingLaws

@@ -6,6 +6,10 @@
 --   Orders     orders 0 to 8 and their answers
 --   Demand3    demand 3: its premises and its two sentences
 --   InOrder    what holds after every list of orders
+-- What the code says of the lent areas:
+--   Walk       a held term with bound variables replaced, on any words
+--   Frames     where such a walk stands, with its frames
+--   Bindings   bindings that the areas and a table hold
 pub mod Families
 pub mod Shapes
 pub mod Solving
@@ -13,3 +17,6 @@ pub mod Session
 pub mod Orders
 pub mod Demand3
 pub mod InOrder
+pub mod Walk
+pub mod Frames
+pub mod Bindings

@@ -1,1 +1,20 @@
-// The definition of the solver and its theory; no code yet.
+// The definition of the solver and its theory; the code so far resolves a term.
+mod resolving;
+
+pub use resolving::clear_words;
+pub use resolving::resolve_into;
+pub use resolving::resolved_len;
+pub use resolving::write_resolved;
+
+// A run of tokens: len of them, from at on.
+pub struct Run {
+    pub at: usize,
+    pub len: usize,
+}
+
+// A place in a walk: the token at, of a run that ends before end, below which depth runs wait in the frames.
+pub struct Stand {
+    pub at: usize,
+    pub end: usize,
+    pub depth: usize,
+}
