@@ -15,3 +15,6 @@ pub mod FrameLaws
 pub mod ResolvedLaws
 pub mod FuelLaws
 pub mod ResolvedExamples
+pub mod WorkLaws
+pub mod AskLaws
+pub mod ReachLaws
