@@ -12,7 +12,7 @@ use lib.ListN.{length, getD, List·getD-eq-default}
 use Rattle.terms.specs.Tokens.{Item, spell, toks}
 use Rattle.terms.specs.Term.{Term, var, items, Held}
 use Rattle.terms.proofs.Bools.{never-false}
-use Rattle.solver.specs.Solving.{replace, followed, resolve, occurs, recovers}
+use Rattle.solver.specs.Solving.{replace, followed, resolve, occurs, recovers, resolved}
 use Rattle.solver.specs.Session.{Session}
 use Rattle.solver.specs.InOrder.{InOrder}
 use Rattle.solver.specs.Walk.{runLen, Named}
@@ -210,6 +210,11 @@ told-asked ks vs bs p q hit T t b n h g S f = told-root ks vs bs b g n S q f t (
 -- in a session in order the revision is rounds enough
 pub session-steady : (s : Session) → InOrder s → Steady (s .solver .revision) (s .solver .bindings)
 session-steady s o = record { free = o .free; bound = o .bound }
+
+-- what is told of a held term in a session in order
+pub session-asked : (s : Session) → InOrder s → (ks vs bs : List ℕ) → HeldBindings ks vs bs (s .solver .bindings) → (p q : ℕ) (hit : Bool)
+    → Told ks vs bs (runOf ks vs (p + 1)) q hit → (t : Term) → Held ks vs p t → Free q (s .solver .bindings) → hit ≡ asked q (resolved (s .solver) t)
+session-asked s o ks vs bs g p q hit T t h f = told-asked ks vs bs p q hit T t (s .solver .bindings) (s .solver .revision) h g (session-steady s o) f
 
 -- ---- the two questions
 

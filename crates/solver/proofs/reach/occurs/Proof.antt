@@ -1,10 +1,8 @@
 -- `occurs`. Assumes nothing.
-use mathlib.Core.Path.{_∙_}
-use Prim.Native.Nat.{_+_}
+use mathlib.Core.Path.{ap, _∙_}
+use Prim.Native.Nat.{ℕ, _+_}
 use Rattle.solver.specs.Solving.{resolve}
 use Rattle.solver.proofs.ReachLaws.{asks-variable, free-variable}
-use mathlib.Core.Path.{ap}
-use Prim.Native.Nat.{ℕ}
 use borrow.Author.Needs.{needs}
 use Rattle.solver.proofs.reach.occurs.Statement.{statement}
 use Rattle.solver.proofs.reach.occurs.Tie as tie
