@@ -29,3 +29,6 @@ pub mod ResolvedLaws
 pub mod FuelLaws
 pub mod ResolvedExamples
 pub mod BindingLaws
+pub mod WorkLaws
+pub mod AskLaws
+pub mod ReachLaws

@@ -10,6 +10,8 @@
 --   Walk       a held term with bound variables replaced, on any words
 --   Frames     where such a walk stands, with its frames
 --   Bindings   bindings that the areas and a table hold
+--   Work       marks, and a queue of what is marked
+--   Reach      what a held term has with bound variables replaced
 pub mod Families
 pub mod Shapes
 pub mod Solving
@@ -20,3 +22,5 @@ pub mod InOrder
 pub mod Walk
 pub mod Frames
 pub mod Bindings
+pub mod Work
+pub mod Reach

@@ -1,6 +1,9 @@
-// The definition of the solver and its theory; the code so far resolves a term.
+// The definition of the solver and its theory; the code so far resolves a term, and asks what a resolved term has.
+mod reach;
 mod resolving;
 
+pub use reach::occurs;
+pub use reach::recovers;
 pub use resolving::clear_words;
 pub use resolving::resolve_into;
 pub use resolving::resolved_len;
@@ -17,4 +20,10 @@ pub struct Stand {
     pub at: usize,
     pub end: usize,
     pub depth: usize,
+}
+
+// Whether what is asked for was met, and how many variables stand in the queue.
+pub struct Reached {
+    pub hit: bool,
+    pub top: usize,
 }

@@ -1,0 +1,24 @@
+-- `recovers`. Assumes nothing.
+use mathlib.Core.Path.{_∙_}
+use Rattle.solver.specs.Solving.{resolve}
+use Rattle.solver.proofs.ReachLaws.{asks-recovery}
+use borrow.Author.Needs.{needs}
+use Rattle.solver.proofs.reach.recovers.Statement.{statement}
+use Rattle.solver.proofs.reach.recovers.Tie as tie
+
+reaches-requires : tie.Need-reaches-requires
+reaches-requires c κs = search needs
+
+same-length : tie.Need-same-length
+same-length c = search needs
+
+same-length-2 : tie.Need-same-length-2
+same-length-2 c = search needs
+
+returns : tie.Need-returns
+returns c =
+    let m = c .before .before .before .before .reaches .ensures in
+    ((λ t b n h g S. m .1 .0 t b n h g S tt ∙ asks-recovery (resolve n b t)), m .1 .1)
+
+pub recovers-spec : {M : Type 1} → statement M
+recovers-spec = tie.close (tie.spec reaches-requires same-length same-length-2 returns)
