@@ -32,7 +32,6 @@ import os
 import random
 import shlex
 import shutil
-import subprocess
 import sys
 
 import orders_cases
@@ -42,7 +41,7 @@ from orders_reference import (
     REFERENCE, SELF_TYPE, SET, STRUCT, THE_ERROR, THE_UNKNOWN, TRAIT, TUPLE, UNKNOWN, Orders, children, framed,
     nominal_written, number_bytes, with_children, written)
 from orders_slips import RUN_SLIPS, SLIPS
-from terms_compare import ENDS, Differs, damaged_bytes, not_shortest, shown, too_large
+from terms_compare import ENDS, Differs, damaged_bytes, not_shortest, program_output, shown, too_large
 
 sys.path.insert(0, os.path.join(os.path.dirname(os.path.abspath(__file__)), "oracle"))
 
@@ -787,16 +786,7 @@ def tuple_answer(size):
 
 def output_of(command, data, room):
     """The program's output, or without a program that of the plain reference."""
-    if command is None:
-        return reference.run(data, room=room)
-    try:
-        done = subprocess.run(command, input=data, stdout=subprocess.PIPE, stderr=subprocess.PIPE, timeout=60)
-    except subprocess.TimeoutExpired:
-        raise Differs("the program did not end in 60 seconds\ninput %s" % shown(data), 0)
-    if done.returncode != 0:
-        raise Differs("the program ended with status %d\ninput %s\n%s"
-                      % (done.returncode, shown(data), done.stderr.decode(errors="replace")[:500]), 0)
-    return done.stdout
+    return reference.run(data, room=room) if command is None else program_output(command, data)
 
 
 def compare(pairs, output):

@@ -408,8 +408,10 @@ def shown(data):
 
 def output_of(command, data):
     """The program's output, or without a program that of the plain reference."""
-    if command is None:
-        return reference.run(data)
+    return reference.run(data) if command is None else program_output(command, data)
+
+
+def program_output(command, data):
     try:
         done = subprocess.run(command, input=data, stdout=subprocess.PIPE, stderr=subprocess.PIPE, timeout=60)
     except subprocess.TimeoutExpired:

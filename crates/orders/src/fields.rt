@@ -248,6 +248,7 @@ pub fn read_order(
     kind: u8,
 ) -> Order
     requires { ⌜ length (now s) < 65536 ⌝ }
+    ensures { λ r. ⌜ (r .scan .fault ≡ 0 → (length (now (s .entry)) ≤ r .scan .at) × (r .scan .nodes ≤ 2048)) ⌝ }
 {
     let o = fields_of(s, kinds, vals, rules, kind);
     let x = finish(s.len(), o.scan);

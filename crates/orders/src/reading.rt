@@ -40,7 +40,7 @@ fn place(x: Scan) -> Place
 }
 
 pub fn stopped(x: Scan, c: u8) -> Scan
-    ensures { λ r. ⌜ (r .at ≡ x .at) × (r .top ≡ x .top) × (r .nodes ≡ x .nodes) ⌝ }
+    ensures { λ r. ⌜ (r .at ≡ x .at) × (r .top ≡ x .top) × (r .nodes ≡ x .nodes) × (r .fault ≡ c) ⌝ }
 {
     Scan {
         at: x.at,
@@ -246,7 +246,8 @@ fn least(a: usize, b: usize) -> usize
 
 // After the last field: bytes left over (1), then too many nodes (7).
 pub fn finish(size: usize, x: Scan) -> Scan
-    ensures { λ r. ⌜ r .top ≡ x .top ⌝ }
+    ensures top { λ r. ⌜ r .top ≡ x .top ⌝ }
+    ensures whole { λ r. ⌜ (r .fault ≡ 0 → (size ≤ r .at) × (r .nodes ≤ 2048)) ⌝ }
 {
     if x.fault != 0 {
         return x;

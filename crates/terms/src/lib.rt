@@ -1,4 +1,4 @@
-// The reader of terms: it stores a term as a run of tokens, in the order of its bytes, into two areas that the caller lends.
+// Terms: numbers; terms read into two lent areas as runs of tokens, and written again; the operations on them.
 mod alike;
 mod find;
 mod interface;
