@@ -98,7 +98,7 @@ admit-node rs r k ps (t ∷ ts) e =
     ap (λ (m : List T). theory.admit S rs (some r) (tree.node (node k (blankRow ps)) (forest m))) (x .2)
     ∙ sym (ap (λ (b : Bool). allow rs (eqb k 4 && b)) (no-children (r .family) ps t ts e) ∙ ap (allow rs) (and-false (eqb k 4)))
 
-admit-view : (rs : Requests) (o : Option Request) (t : Term) → theory.admit S rs o (view t) ≡ admit rs o t
+pub admit-view : (rs : Requests) (o : Option Request) (t : Term) → theory.admit S rs o (view t) ≡ admit rs o t
 unfolding theory.admit admit view
 admit-view rs none t = refl
 admit-view rs (some r) (var w) = join-view rs r w (rs w)
@@ -144,7 +144,7 @@ module _ (z : Solver) (v : ℕ) (t : Term) (ps : List Pair) where
 
 -- ---- two nodes
 
-zip-view : (l m : List Term) (ps : List Pair) → length l ≡ length m → theory.zipOn S (forest (map view l)) (forest (map view m)) (view-pairs ps) ≡ some (view-pairs (zipOn l m ps))
+pub zip-view : (l m : List Term) (ps : List Pair) → length l ≡ length m → theory.zipOn S (forest (map view l)) (forest (map view m)) (view-pairs ps) ≡ some (view-pairs (zipOn l m ps))
 unfolding theory.zipOn zipOn forest
 zip-view [] [] ps e = refl
 zip-view [] (u ∷ m) ps e = absurd (omega arith)
@@ -224,7 +224,7 @@ pub leaf-view : (c : ℕ) → view (node 4 (num c end)) ≡ tree.node (node 4 (n
 unfolding view blankRow turned class forest nums
 leaf-view c = refl
 
-fill-view : (z : Solver) (c : ℕ) (t : Term) → session.fill S fallback never (view-table z) (node 4 (num c end)) (view t) ≡ view-table (settleAt z (node 4 (num c end)) t)
+pub fill-view : (z : Solver) (c : ℕ) (t : Term) → session.fill S fallback never (view-table z) (node 4 (num c end)) (view t) ≡ view-table (settleAt z (node 4 (num c end)) t)
 unfolding session.fill settleAt view
 fill-view z c (var w) =
     ap (λ (f : ℕ → Option T). record { bound = f; fam = z .requests; rev = suc (z .revision) })

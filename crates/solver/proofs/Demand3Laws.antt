@@ -86,7 +86,7 @@ plain-view : (t : Term) → Plain t → meaning.Plain S (view t)
 unfolding outside
 plain-view t p = plain-tree (view t) (formed-view t (p .0)) (sym (meets-view outside odd outside-odd t) ∙ p .1)
 
-plain-pairs-view : (ps : List Pair) → PlainPairs ps → meaning.PlainPairs S (view-pairs ps)
+pub plain-pairs-view : (ps : List Pair) → PlainPairs ps → meaning.PlainPairs S (view-pairs ps)
 plain-pairs-view [] p = tt
 plain-pairs-view (x ∷ ps) p = (plain-view (x .0) (p .0), plain-view (x .1) (p .1), plain-pairs-view ps (p .2))
 

@@ -45,7 +45,7 @@ module _ (f g : ℕ → Term) (h : (v : ℕ) → f v ≡ g v) where
     replace-same-row (sub t ps) = ap₂ sub (replace-same t) (replace-same-row ps)
 
 -- a term resolves variable by variable
-by-variable : (n : ℕ) (b : ℕ → Option Term) (t : Term) → replace (λ v. resolve n b (var v)) t ≡ resolve n b t
+pub by-variable : (n : ℕ) (b : ℕ → Option Term) (t : Term) → replace (λ v. resolve n b (var v)) t ≡ resolve n b t
 unfolding resolve replace
 by-variable zero b t = replace-var t
 by-variable (suc n) b t = refl

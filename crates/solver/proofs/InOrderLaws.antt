@@ -1,126 +1,54 @@
 -- After every list of orders the session is in order: carried over from the theory. Assumes nothing.
-use mathlib.Core.Path.{_≡_, refl, sym, ap, ap₂, _∙_, subst}
+use mathlib.Core.Path.{_≡_, refl, subst}
 use mathlib.Core.Bool.{Bool, true, false, _&&_}
 use mathlib.Core.List.{List, [], _∷_}
 use mathlib.Core.Option.{Option, none, some}
-use Prim.Native.Nat.{ℕ, zero, suc, _+_, _≤_, _<_}
-use native.Mathlib.Decide.{decLt}
+use Prim.Native.Nat.{ℕ, suc, _+_, _≤_, _<_}
 use native.Mathlib.Omega.{arith}
 use borrow.Author.Tests.{leb-false, ltb-false}
 use lib.Dec.{leb}
 use lib.ListN.{length}
 use Rattle.terms.specs.Result.{pick}
-use Rattle.terms.specs.Term.{Term, var, node, sub, size}
-use Rattle.unify.specs.Term as tree
-use Rattle.unify.specs.Term.{one, In, clash, in-sub, sub-in}
+use Rattle.terms.specs.Term.{Term, var, node, size}
+use Rattle.unify.specs.Term.{clash}
 use Rattle.unify.specs.Solver.{Out, cancelled, done}
 use Rattle.unify.specs.Orders.{Run}
-use Rattle.unify.specs.Lazy.{resolve-right}
-use Rattle.unify.specs.Table as table
-use Rattle.unify.specs.Table.{Table, taken, tally}
-use Rattle.unify.specs.Refine as refine
+use Rattle.unify.specs.Table.{Table}
 use Rattle.unify.specs.Session as session
 use Rattle.unify.specs.Enough.{Finished, settles-enough}
-use Rattle.unify.specs.Whole.{Sane, SaneRun, sheet-sane}
+use Rattle.unify.specs.Whole.{SaneRun, sheet-sane}
 use Rattle.solver.specs.Shapes.{Notion, read}
-use Rattle.solver.specs.Solving.{Solver, resolved, top, constrain}
+use Rattle.solver.specs.Solving.{Solver, resolved, constrain}
 use Rattle.solver.specs.Session.{Limits, Place, at, gap, samePlace, Session, issued, find, fresh, issueAt, deferring, never}
 use Rattle.solver.specs.Orders.{Command, variable, number, hole, defer, pair, resolving, numbers, nevers, revision, unread}
 use Rattle.solver.specs.Orders.{term, nothing, _gives_, known, full, crowded, unless, variableAt, numberAt, holeAt, posing, order, run}
 use Rattle.solver.specs.Demand3.{History, beginning, after, history}
-use Rattle.solver.specs.InOrder as counting
-use Rattle.solver.specs.InOrder.{InOrder, boundBelow, Fits, Settled, SettledBy}
-use Rattle.solver.proofs.View.{T, view, view-injective}
+use Rattle.solver.specs.InOrder.{InOrder, Fits, Settled, SettledBy}
+use Rattle.solver.proofs.View.{view}
 use Rattle.solver.proofs.Signature.{S}
-use Rattle.solver.proofs.ViewLaws.{viewed, all-viewed, view-resolve, view-follow, occurs-in}
+use Rattle.solver.proofs.ViewLaws.{viewed}
 use Rattle.solver.proofs.ConstrainView.{view-table, view-out, settles-view, fallback}
-use Rattle.solver.proofs.Simulation.{TheSession, view-run, view-commands, history-view, known-yes, yes-known}
+use Rattle.solver.proofs.Simulation.{TheSession, view-run, view-commands, history-view, known-yes}
 use Rattle.solver.proofs.Demand3Laws.{respects}
+use Rattle.solver.proofs.OrderedLaws.{within-known, Ordered, ordered-counted, ordered-far, ordered-within, ordered-steady, ordered-stays, ordered-topped}
 
-none-viewed : (o : Option Term) → viewed o ≡ none → o ≡ none
-unfolding viewed
-none-viewed none e = refl
-none-viewed (some t) e = clash (cc)
-
-taken-bound : (n : ℕ) (b : ℕ → Option Term) → boundBelow n b ≡ taken n (all-viewed b)
-unfolding boundBelow taken counting.one tally viewed
-taken-bound zero b = refl
-taken-bound (suc n) b = ap₂ _+_ (go (b n)) (taken-bound n b)
-  where
-    go : (o : Option Term) → counting.one o ≡ tally (viewed o)
-    go none = refl
-    go (some t) = refl
-
-module _ (n : Notion) (codes-count : n 4 ≡ false) (s : Session) (sane : Sane S fallback never (read n) (respects n codes-count) (issued s) (view-table (s .solver))) where
+module _ (n : Notion) (codes-count : n 4 ≡ false) (s : Session) (sane : Ordered n codes-count (issued s) (s .solver)) where
   abbrev z : Solver
   z = s .solver
 
   abbrev Z : Table S
   Z = view-table (s .solver)
 
-  abbrev ρ : ℕ → T
-  ρ = sane .means .res
-
-  -- what a term resolves to
-  right : (t : Term) → view (resolved z t) ≡ tree.sub ρ (view t)
-  right t = view-resolve (z .revision) (z .bindings) t ∙ resolve-right (Z .bound) (Z .rev) ρ (sane .stands .rep) (view t)
-
-  idem : (t : T) → tree.sub ρ (tree.sub ρ t) ≡ tree.sub ρ t
-  idem = refine.idem-sub S (read n) (respects n codes-count) (issued s) (sane .means) (sane .fine)
-
-  tops-view : (t : T) → tree.sub ρ (table.top S Z t) ≡ tree.sub ρ t
-  tops-view = refine.tops S Z (sane .means) (sane .stands) idem [] [] tt
-
-  topped-view : (t : T) (v : ℕ) → table.top S Z t ≡ tree.var v → Z .bound v ≡ none
-  topped-view = refine.topped S Z (sane .means) (sane .stands) idem [] [] tt
-
-  -- a variable that resolves to itself is free
-  itself : (w : ℕ) → ρ w ≡ tree.var w → z .bindings w ≡ none
-  unfolding tree.sub
-  itself w e = go (table.top S Z (tree.var w)) refl
-    where
-      go : (x : T) → table.top S Z (tree.var w) ≡ x → z .bindings w ≡ none
-      go (tree.var u) q =
-          let f = topped-view (tree.var w) u q in
-          let r : tree.var u ≡ tree.var w = sym (sane .stands .rep .unbound u f) ∙ ap (λ (t : T). tree.sub ρ t) (sym q) ∙ tops-view (tree.var w) ∙ e in
-          let a : u ≡ w = cc in
-          none-viewed (z .bindings w) (ap (λ (i : ℕ). viewed (z .bindings i)) (sym a) ∙ f)
-      go (tree.node h ts) q =
-          let r : tree.node h (tree.sub ρ ts) ≡ tree.var w = ap (λ (t : T). tree.sub ρ t) (sym q) ∙ tops-view (tree.var w) ∙ e in
-          clash (cc)
-
-  -- a variable in a binding is bound, so it is issued, or it is left in what the bound variable resolves to
-  low : (v : ℕ) (t : Term) → z .bindings v ≡ some t → (w : ℕ) → In w (view t) → w < issued s
-  unfolding viewed
-  low v t e w i = go (decLt w (issued s)) (decLt v (issued s))
-    where
-      go : Dec (w < issued s) → Dec (v < issued s) → w < issued s
-      go (yes l) d = l
-      go (no l) (no m) =
-          let q = sane .counted .far v (omega arith) in
-          let r : viewed (z .bindings v) ≡ some (view t) = ap viewed e in
-          clash (cc)
-      go (no l) (yes m) =
-          let q : ρ w ≡ tree.var w = sane .stands .rep .unbound w (sane .counted .far w (omega arith)) in
-          let r : ρ v ≡ tree.sub ρ (view t) = sane .stands .rep .bound v (view t) (ap viewed e) in
-          let j : In w (tree.sub ρ (view t)) = sub-in w ρ (view t) w i (subst (λ (x : T). In w x) (sym q) refl) in
-          sane .fine .within v w m (subst (λ (x : T). In w x) (sym r) j)
-
   pub in-order-of : InOrder s
-  unfolding view viewed tree.sub
   in-order-of = record {
-    counted = taken-bound (issued s) (z .bindings) ∙ sane .counted .number;
-    far = λ v l. none-viewed (z .bindings v) (sane .counted .far v l);
-    within = λ v t e. yes-known s t (λ w i. low v t e w i);
-    free = λ v e. view-injective (resolved z (var v)) (var v) (right (var v) ∙ sane .stands .rep .unbound v (ap viewed e));
-    bound = λ v t e. view-injective (resolved z (var v)) (resolved z t) (right (var v) ∙ sane .stands .rep .bound v (view t) (ap viewed e) ∙ sym (right t));
-    stays = λ t w o.
-        let i : In w (tree.sub ρ (view t)) = subst (λ (x : T). In w x) (right t) (occurs-in w (resolved z t) o) in
-        let r = in-sub w ρ (view t) i in
-        itself w (sane .fine .idem (r .0) w (r .2));
-    tops = λ t. view-injective (resolved z (top z t)) (resolved z t)
-        (right (top z t) ∙ ap (λ (x : T). tree.sub ρ x) (view-follow (z .revision) (z .bindings) t) ∙ tops-view (view t) ∙ sym (right t));
-    topped = λ t v e. none-viewed (z .bindings v) (topped-view (view t) v (sym (view-follow (z .revision) (z .bindings) t) ∙ ap view e));
+    counted = ordered-counted n codes-count (issued s) z sane;
+    far = ordered-far n codes-count (issued s) z sane;
+    within = λ v t e. within-known s t (ordered-within n codes-count (issued s) z sane v t e);
+    free = ordered-steady n codes-count (issued s) z sane .free;
+    bound = ordered-steady n codes-count (issued s) z sane .bound;
+    stays = ordered-stays n codes-count (issued s) z sane;
+    tops = ordered-topped n codes-count (issued s) z sane .tops;
+    topped = ordered-topped n codes-count (issued s) z sane .topped;
   }
 
   -- every pair is settled by some number of checks
@@ -135,19 +63,20 @@ module _ (n : Notion) (codes-count : n 4 ≡ false) (s : Session) (sane : Sane S
       (x .0, λ k l. settled-view (constrain n k z t u) (subst (Finished S (read n) (respects n codes-count)) (settles-view n k z true ((t, u) ∷ [])) (x .1 k l)))
 
 -- the history's session is the run's
-history-run : (lim : Limits) (n : Notion) (h : History) (cs : List Command) → history lim n h cs .session ≡ run lim n (h .session) cs
+pub history-run : (lim : Limits) (n : Notion) (h : History) (cs : List Command) → history lim n h cs .session ≡ run lim n (h .session) cs
 unfolding history run
 history-run lim n h [] = refl
 history-run lim n h (c ∷ cs) = history-run lim n (after lim n h c) cs
 
 module _ (lim : Limits) (n : Notion) (codes-count : n 4 ≡ false) where
-  all-sane : (cs : List Command) → Sane S fallback never (read n) (respects n codes-count) (issued (run lim n fresh cs)) (view-table (run lim n fresh cs .solver))
+  -- after every list of orders
+  pub all-sane : (cs : List Command) → Ordered n codes-count (issued (run lim n fresh cs)) (run lim n fresh cs .solver)
   unfolding viewed find
   all-sane cs =
       let h = history lim n beginning cs in
       let e : session.sheet S fallback never (read n) (view-commands lim n fresh cs) ≡ view-run h = history-view lim n beginning cs in
       let x = subst (λ (y : Run S TheSession). SaneRun S fallback never (read n) (respects n codes-count) y) e (sheet-sane S fallback never (read n) (respects n codes-count) (view-commands lim n fresh cs)) in
-      subst (λ (s : Session). Sane S fallback never (read n) (respects n codes-count) (issued s) (view-table (s .solver))) (history-run lim n beginning cs) (x .sane)
+      subst (λ (s : Session). Ordered n codes-count (issued s) (s .solver)) (history-run lim n beginning cs) (x .sane)
 
   -- AFTER EVERY LIST OF ORDERS, premises or not, the session is in order.
   pub in-order : (cs : List Command) → InOrder (run lim n fresh cs)

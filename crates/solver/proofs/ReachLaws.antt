@@ -130,7 +130,7 @@ module _ {ks vs bs : List ℕ} {root : List Item} {q : ℕ} where
 
 -- ---- terms
 
-by-variable : (n : ℕ) (b : ℕ → Option Term) (t : Term) → replace (λ v. resolve n b (var v)) t ≡ resolve n b t
+pub by-variable : (n : ℕ) (b : ℕ → Option Term) (t : Term) → replace (λ v. resolve n b (var v)) t ≡ resolve n b t
 unfolding resolve replace
 by-variable zero b t = replace-var t
 by-variable (suc n) b t = refl

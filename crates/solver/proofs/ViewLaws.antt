@@ -39,7 +39,7 @@ module _ (f : ℕ → Term) where
   forest-sub [] = refl
   forest-sub (t ∷ l) = ap (λ (r : Tree Term many). tree.sub g t ▸ r) (forest-sub l)
 
-  replace-blank : (ps : Parts) → blankRow (replaceRow f ps) ≡ blankRow ps
+  pub replace-blank : (ps : Parts) → blankRow (replaceRow f ps) ≡ blankRow ps
   unfolding blankRow replace
   replace-blank end = refl
   replace-blank (num n ps) = ap (num n) (replace-blank ps)

@@ -2,11 +2,21 @@
 use mathlib.Core.List.{List, [], _∷_}
 use mathlib.Core.Logic.{_⊎_, inl, inr, ⊎-elim}
 use mathlib.Core.Path.{_≡_, refl, sym, ap, subst, _∙_}
-use Prim.Native.Nat.{ℕ, zero, suc, _+_, _<_, _≤_}
+use Prim.Native.Nat.{ℕ, zero, suc, _+_, _-_, _<_, _≤_}
 use native.Mathlib.Omega.{arith}
-use native.Mathlib.Decide.{ℕ-discrete}
-use lib.ListN.{length, getD, set, length-set}
-use lib.Seq.{getD-set-same, getD-set-other}
+use native.Mathlib.Decide.{ℕ-discrete, decLt}
+use lib.ListN.{length, getD, set, take, drop, length-set, length-drop}
+use lib.Seq.{
+  getD-set-same,
+  getD-set-other,
+  getD-take,
+  getD-drop,
+  length-take-le,
+  take-set-lt,
+  take-set-le,
+  drop-set-lt,
+  drop-set-add,
+}
 use Rattle.solver.specs.Work.{sum, Zero, Work, Grown}
 
 sum-set : (l : List ℕ) (i : ℕ) → i < length l → getD l i 0 ≡ 0 → sum (set l i 1) ≡ sum l + 1
@@ -167,3 +177,42 @@ module _ {marks queue : List ℕ} {k : ℕ} (C : Clearing marks queue k) (n : �
 
 pub clearing-end : {marks queue : List ℕ} {k : ℕ} → Clearing marks queue k → k ≤ 0 → Zero marks × Zero queue
 clearing-end C z = ((λ v. ⊎-elim (λ e. e) (λ f. let l = f .1 in absurd (omega arith)) (C .left v)), λ j. C .blank j (omega arith))
+
+-- ---- both in one area: its first n words are the marks, the others the queue
+
+pub zero-take : (n : ℕ) (w : List ℕ) → Zero w → Zero (take n w)
+zero-take zero w z i = refl
+zero-take (suc n) [] z i = refl
+zero-take (suc n) (x ∷ xs) z zero = z 0
+zero-take (suc n) (x ∷ xs) z (suc i) = zero-take n xs (λ j. z (suc j)) i
+
+module _ (n : ℕ) (w : List ℕ) where
+  pub zero-drop : Zero w → Zero (drop n w)
+  zero-drop z i = getD-drop n w i 0 ∙ z (n + i)
+
+  pub zero-join : Zero (take n w) → Zero (drop n w) → Zero w
+  zero-join y z i = go (decLt i n)
+    where
+      go : Dec (i < n) → getD w i 0 ≡ 0
+      go (yes p) = sym (getD-take n w i 0 p) ∙ y i
+      go (no p) =
+          let e : i ≡ n + (i - n) = omega arith in
+          ap (λ (j : ℕ). getD w j 0) e ∙ sym (getD-drop n w (i - n) 0) ∙ z (i - n)
+
+  -- how long the two are
+  pub parts-long : n + n ≤ length w → (length (take n w) ≡ n) × (length (drop n w) ≡ length w - n)
+  parts-long h = (length-take-le n w (omega arith), length-drop n w)
+
+  -- a mark and a word of the queue are stored, in either order
+  module _ (v k x y : ℕ) (lt : v < n) where
+    pub take-marked : take n (set (set w v x) (n + k) y) ≡ set (take n w) v x
+    take-marked = take-set-le n (set w v x) (n + k) y (omega arith) ∙ take-set-lt n w v x lt
+
+    pub drop-marked : drop n (set (set w v x) (n + k) y) ≡ set (drop n w) k y
+    drop-marked = drop-set-add n (set w v x) k y ∙ ap (λ (l : List ℕ). set l k y) (drop-set-lt n w v x lt)
+
+    pub take-cleared : take n (set (set w (n + k) y) v x) ≡ set (take n w) v x
+    take-cleared = take-set-lt n (set w (n + k) y) v x lt ∙ ap (λ (l : List ℕ). set l v x) (take-set-le n w (n + k) y (omega arith))
+
+    pub drop-cleared : drop n (set (set w (n + k) y) v x) ≡ set (drop n w) k y
+    drop-cleared = drop-set-lt n (set w (n + k) y) v x lt ∙ drop-set-add n w k y

@@ -6,12 +6,19 @@
 --   Orders     orders 0 to 8 and their answers
 --   Demand3    demand 3: its premises and its two sentences
 --   InOrder    what holds after every list of orders
+--   Robinson   Robinson 1965 on terms: the Unification Algorithm, most general unifiers, and what demand 2 says of plain pairs
+--   Rust       the Rust's `Solver`, line by line, on terms
 -- What the code says of the lent areas:
 --   Walk       a held term with bound variables replaced, on any words
 --   Frames     where such a walk stands, with its frames
 --   Bindings   bindings that the areas and a table hold
 --   Work       marks, and a queue of what is marked
 --   Reach      what a held term has with bound variables replaced
+--   Pending    pending pairs as words, places of children, rows in step
+--   Lent       a session that the counters, the areas and a table hold
+--   Links      classes of token places
+--   Methods    what the methods say of the counters and the table
+--   Turning    one check of `constrain` on what is lent
 pub mod Families
 pub mod Shapes
 pub mod Solving
@@ -19,8 +26,15 @@ pub mod Session
 pub mod Orders
 pub mod Demand3
 pub mod InOrder
+pub mod Robinson
+pub mod Rust
 pub mod Walk
 pub mod Frames
 pub mod Bindings
 pub mod Work
 pub mod Reach
+pub mod Pending
+pub mod Lent
+pub mod Links
+pub mod Methods
+pub mod Turning

@@ -11,7 +11,7 @@ use lib.ListN.{length, getD}
 use Rattle.terms.specs.Tokens.{Item, item, toks}
 use Rattle.terms.specs.Term.{Term, var}
 use Rattle.terms.specs.Questions.{meets}
-use Rattle.solver.specs.Solving.{resolve, recovery, is, always}
+use Rattle.solver.specs.Solving.{resolve, follow, recovery, is, always}
 use Rattle.solver.specs.Walk.{runLen}
 
 -- ---- of tokens
@@ -52,6 +52,11 @@ asked q t = meets (wanted q) always t
 pub record Steady (n : ℕ) (b : ℕ → Option Term) : Type 0 where
   pub free : (v : ℕ) → b v ≡ none → resolve n b (var v) ≡ var v
   pub bound : (v : ℕ) (t : Term) → b v ≡ some t → resolve n b (var v) ≡ resolve n b t
+
+-- and so they do at the top alone: what a term stands for is no bound variable, and has the same resolved term
+pub record Topped (n : ℕ) (b : ℕ → Option Term) : Type 0 where
+  pub tops : (t : Term) → resolve n b (follow n b t) ≡ resolve n b t
+  pub topped : (t : Term) (v : ℕ) → follow n b t ≡ var v → b v ≡ none
 
 -- the variable that is asked for is unbound
 abbrev pub Free : ℕ → (ℕ → Option Term) → Type 0

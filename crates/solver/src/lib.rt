@@ -1,13 +1,31 @@
-// The definition of the solver and its theory; the code so far resolves a term, and asks what a resolved term has.
+// The solver: its counters by value, its tables lent. Variables, deferrals, defaults, constrain, resolving, and what a resolved term has.
+mod answers;
+mod constrain;
+mod defaults;
+mod equality;
+mod families;
+mod pending;
 mod reach;
 mod resolving;
+mod top;
+mod variables;
 
+pub use defaults::end_of;
+pub use equality::same_terms;
+pub use families::admissible;
+pub use pending::clear_pairs;
+pub use pending::push_children;
+pub use pending::put_pair;
+pub use pending::same_shape;
+pub use pending::take_pair;
 pub use reach::occurs;
 pub use reach::recovers;
 pub use resolving::clear_words;
 pub use resolving::resolve_into;
 pub use resolving::resolved_len;
 pub use resolving::write_resolved;
+pub use top::top_at;
+pub use variables::find_place;
 
 // A run of tokens: len of them, from at on.
 pub struct Run {
@@ -26,4 +44,65 @@ pub struct Stand {
 pub struct Reached {
     pub hit: bool,
     pub top: usize,
+}
+
+// Whether no difference was seen, and how many places hang.
+pub struct Joint {
+    pub equal: bool,
+    pub top: usize,
+}
+
+// A pending pair: the places of its two terms.
+pub struct PairAt {
+    pub left: usize,
+    pub right: usize,
+}
+
+// How many children of a node have been passed, and how many pairs are pending.
+pub struct Counted {
+    pub child: usize,
+    pub top: usize,
+}
+
+// The counters of a session, with its limits: at most `variables` variables and `nodes` kept nodes. So far `issued` variables, `revision`
+// bindings, `kept` nodes, and `top` tokens in use.
+pub struct Solver {
+    pub variables: usize,
+    pub nodes: usize,
+    pub issued: usize,
+    pub revision: usize,
+    pub kept: usize,
+    pub top: usize,
+}
+
+// What `constrain` answers.
+pub enum Verdict {
+    Incompatible,
+    Compatible,
+    Cancelled,
+}
+
+// The solver after a pair, and what came of it.
+pub struct Solved {
+    pub solver: Solver,
+    pub verdict: Verdict,
+}
+
+// The solver after a check, whether the pair is compatible so far, and how many pairs are pending.
+pub struct Turn {
+    pub solver: Solver,
+    pub good: bool,
+    pub count: usize,
+}
+
+// The variable of a place, or that no more may be issued: refusal 8.
+pub enum Named {
+    Variable(u32),
+    Full,
+}
+
+// The solver after orders 0 to 2, and what it answers.
+pub struct Issue {
+    pub solver: Solver,
+    pub answer: Named,
 }

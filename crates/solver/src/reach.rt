@@ -1,6 +1,7 @@
 // Whether a term has, bound variables replaced, a variable, or an Unknown or Error: one worklist over variables, so that the run of each
-// bound variable is scanned once. Question v + 1 asks for the variable v, question 0 for an Unknown or Error. A variable's mark is 1 once
-// it stands in the queue.
+// bound variable is scanned once. Question v + 1 asks for the variable v, question 0 for an Unknown or Error. One area of words is the
+// scratch: its first n words, n being the number of variables in the table, are the marks, the words from n on the queue. A variable's
+// mark is 1 once it stands in the queue.
 use super::Reached;
 use super::Run;
 use super::resolving::named_run;
@@ -8,7 +9,7 @@ ghost use mathlib.Core.Path.{_≡_};
 ghost use mathlib.Core.Bool.{true, _||_};
 ghost use mathlib.Core.Option.{Option, none};
 ghost use Prim.Native.Nat.{ℕ, suc, _+_, _^_, _≤_, _<_};
-ghost use lib.ListN.{length};
+ghost use lib.ListN.{length, take, drop};
 ghost use Rattle.terms.specs.Tokens.{toks};
 ghost use Rattle.terms.specs.Term.{Term, Held};
 ghost use Rattle.solver.specs.Solving.{resolve};
@@ -43,22 +44,22 @@ pub fn seen(kind: u32, val: u32, want: usize, before: bool) -> bool
 }
 
 // Marks the variable of a token and puts it into the queue, if the token is one, the table has it, and it was not marked.
-pub fn push(marks: &mut [u32], queue: &mut [u32], top: usize, kind: u32, val: u32) -> usize
-    requires { ⌜ Work (now marks) (now queue) top × (length (now marks) ≤ length (now queue)) ⌝ }
-    ensures { λ r. ⌜ Grown (λ (u : ℕ). counts (suc u) kind val ≡ true) (now (marks .entry)) (now (queue .entry)) top (now (marks .exit)) (now (queue .exit)) r ⌝ }
+pub fn push(work: &mut [u32], n: usize, top: usize, kind: u32, val: u32) -> usize
+    requires { ⌜ Work (take n (now work)) (drop n (now work)) top × (n + n ≤ length (now work)) ⌝ }
+    ensures { λ r. ⌜ Grown (λ (u : ℕ). counts (suc u) kind val ≡ true) (take n (now (work .entry))) (drop n (now (work .entry))) top (take n (now (work .exit))) (drop n (now (work .exit))) r ⌝ }
 {
     if kind != 1 {
         return top;
     }
     let at = wide(val);
-    if marks.len() <= at {
+    if n <= at {
         return top;
     }
-    if marks[at] != 0 {
+    if work[at] != 0 {
         return top;
     }
-    marks[at] = 1;
-    queue[top] = val;
+    work[at] = 1;
+    work[n + top] = val;
     top + 1
 }
 
@@ -68,14 +69,14 @@ pub fn scan(
     vals: &[u32],
     run: Run,
     want: usize,
-    marks: &mut [u32],
-    queue: &mut [u32],
+    work: &mut [u32],
+    n: usize,
     from: usize,
 ) -> Reached
     requires areas { ⌜ (length (now vals) ≡ length (now kinds)) × (run .at + run .len ≤ length (now kinds)) ⌝ }
-    requires work { ⌜ Work (now marks) (now queue) from × (length (now marks) ≤ length (now queue)) ⌝ }
+    requires work { ⌜ Work (take n (now work)) (drop n (now work)) from × (n + n ≤ length (now work)) ⌝ }
     ensures hit { λ r. ⌜ r .hit ≡ has want (toks (now (kinds .entry)) (now (vals .entry)) (run .at) (run .len)) ⌝ }
-    ensures grown { λ r. ⌜ Grown (λ (u : ℕ). has (suc u) (toks (now (kinds .entry)) (now (vals .entry)) (run .at) (run .len)) ≡ true) (now (marks .entry)) (now (queue .entry)) from (now (marks .exit)) (now (queue .exit)) (r .top) ⌝ }
+    ensures grown { λ r. ⌜ Grown (λ (u : ℕ). has (suc u) (toks (now (kinds .entry)) (now (vals .entry)) (run .at) (run .len)) ≡ true) (take n (now (work .entry))) (drop n (now (work .entry))) from (take n (now (work .exit))) (drop n (now (work .exit))) (r .top) ⌝ }
 {
     let mut hit = false;
     let mut top = from;
@@ -84,7 +85,7 @@ pub fn scan(
         let k = kinds[run.at + i];
         let v = vals[run.at + i];
         hit = seen(k, v, want, hit);
-        top = push(marks, queue, top, k, v);
+        top = push(work, n, top, k, v);
         i += 1;
     }
     Reached { hit, top }
@@ -97,41 +98,41 @@ pub fn reach(
     bound: &[u32],
     p: usize,
     want: usize,
-    marks: &mut [u32],
-    queue: &mut [u32],
+    work: &mut [u32],
 ) -> Reached
     requires areas { ⌜ (length (now vals) ≡ length (now kinds)) × (p < 2 ^ 32) ⌝ }
-    requires scratch { ⌜ (length (now marks) ≡ length (now bound)) × (length (now marks) ≤ length (now queue)) × Zero (now marks) × Zero (now queue) ⌝ }
+    requires scratch { ⌜ (length (now bound) + length (now bound) ≤ length (now work)) × Zero (now work) ⌝ }
     ensures told { λ r. ⌜ Told (now (kinds .entry)) (now (vals .entry)) (now (bound .entry)) (runOf (now (kinds .entry)) (now (vals .entry)) (p + 1)) want (r .hit) ⌝ }
-    ensures work { λ r. ⌜ Work (now (marks .exit)) (now (queue .exit)) (r .top) ⌝ }
+    ensures work { λ r. ⌜ Work (take (length (now (bound .entry))) (now (work .exit))) (drop (length (now (bound .entry))) (now (work .exit))) (r .top) ⌝ }
 {
+    let n = bound.len();
     let run = named_run(kinds, vals, p + 1);
-    let mut c = scan(kinds, vals, run, want, marks, queue, 0);
+    let mut c = scan(kinds, vals, run, want, work, n, 0);
     let mut done = 0;
     while done < c.top {
         let hit = c.hit;
         if hit {
             return c;
         }
-        let w = wide(queue[done]);
+        let w = wide(work[n + done]);
         let next = named_run(kinds, vals, wide(bound[w]));
-        c = scan(kinds, vals, next, want, marks, queue, c.top);
+        c = scan(kinds, vals, next, want, work, n, c.top);
         done += 1;
     }
     c
 }
 
 // Sets the marks of the variables in the queue, and the queue, back to 0.
-pub fn clear_marks(marks: &mut [u32], queue: &mut [u32], top: usize)
-    requires { ⌜ Work (now marks) (now queue) top × (length (now marks) ≤ length (now queue)) ⌝ }
-    ensures { λ _. ⌜ Zero (now (marks .exit)) × Zero (now (queue .exit)) ⌝ }
+pub fn clear_marks(work: &mut [u32], n: usize, top: usize)
+    requires { ⌜ Work (take n (now work)) (drop n (now work)) top × (n + n ≤ length (now work)) ⌝ }
+    ensures { λ _. ⌜ Zero (now (work .exit)) ⌝ }
 {
     let mut k = top;
     while 0 < k {
         k -= 1;
-        let v = wide(queue[k]);
-        queue[k] = 0;
-        marks[v] = 0;
+        let v = wide(work[n + k]);
+        work[n + k] = 0;
+        work[v] = 0;
     }
 }
 
@@ -142,17 +143,16 @@ pub fn reaches(
     bound: &[u32],
     p: usize,
     want: usize,
-    marks: &mut [u32],
-    queue: &mut [u32],
+    work: &mut [u32],
 ) -> bool
     requires areas { ⌜ (length (now vals) ≡ length (now kinds)) × (p < 2 ^ 32) ⌝ }
-    requires scratch { ⌜ (length (now marks) ≡ length (now bound)) × (length (now marks) ≤ length (now queue)) × Zero (now marks) × Zero (now queue) ⌝ }
+    requires scratch { ⌜ (length (now bound) + length (now bound) ≤ length (now work)) × Zero (now work) ⌝ }
     ensures told { λ r. ⌜ Told (now (kinds .entry)) (now (vals .entry)) (now (bound .entry)) (runOf (now (kinds .entry)) (now (vals .entry)) (p + 1)) want r ⌝ }
     ensures term { λ r. ⌜ ((t : Term) (b : ℕ → Option Term) (n : ℕ) → Held (now (kinds .entry)) (now (vals .entry)) p t → HeldBindings (now (kinds .entry)) (now (vals .entry)) (now (bound .entry)) b → Steady n b → Free want b → r ≡ asked want (resolve n b t)) ⌝ }
-    ensures clear { λ _. ⌜ Zero (now (marks .exit)) × Zero (now (queue .exit)) ⌝ }
+    ensures clear { λ _. ⌜ Zero (now (work .exit)) ⌝ }
 {
-    let c = reach(kinds, vals, bound, p, want, marks, queue);
-    clear_marks(marks, queue, c.top);
+    let c = reach(kinds, vals, bound, p, want, work);
+    clear_marks(work, bound.len(), c.top);
     c.hit
 }
 
@@ -163,31 +163,23 @@ pub fn occurs(
     bound: &[u32],
     p: usize,
     v: u32,
-    marks: &mut [u32],
-    queue: &mut [u32],
+    work: &mut [u32],
 ) -> bool
     requires areas { ⌜ (length (now vals) ≡ length (now kinds)) × (p < 2 ^ 32) ⌝ }
-    requires scratch { ⌜ (length (now marks) ≡ length (now bound)) × (length (now marks) ≤ length (now queue)) × Zero (now marks) × Zero (now queue) ⌝ }
+    requires scratch { ⌜ (length (now bound) + length (now bound) ≤ length (now work)) × Zero (now work) ⌝ }
     ensures term { λ r. ⌜ ((t : Term) (b : ℕ → Option Term) (n : ℕ) → Held (now (kinds .entry)) (now (vals .entry)) p t → HeldBindings (now (kinds .entry)) (now (vals .entry)) (now (bound .entry)) b → Steady n b → b v ≡ none → r ≡ solving.occurs v (resolve n b t)) ⌝ }
-    ensures clear { λ _. ⌜ Zero (now (marks .exit)) × Zero (now (queue .exit)) ⌝ }
+    ensures clear { λ _. ⌜ Zero (now (work .exit)) ⌝ }
 {
     let want = wide(v) + 1;
-    reaches(kinds, vals, bound, p, want, marks, queue)
+    reaches(kinds, vals, bound, p, want, work)
 }
 
 // Whether an Unknown or Error is in the term at p, bound variables replaced.
-pub fn recovers(
-    kinds: &[u32],
-    vals: &[u32],
-    bound: &[u32],
-    p: usize,
-    marks: &mut [u32],
-    queue: &mut [u32],
-) -> bool
+pub fn recovers(kinds: &[u32], vals: &[u32], bound: &[u32], p: usize, work: &mut [u32]) -> bool
     requires areas { ⌜ (length (now vals) ≡ length (now kinds)) × (p < 2 ^ 32) ⌝ }
-    requires scratch { ⌜ (length (now marks) ≡ length (now bound)) × (length (now marks) ≤ length (now queue)) × Zero (now marks) × Zero (now queue) ⌝ }
+    requires scratch { ⌜ (length (now bound) + length (now bound) ≤ length (now work)) × Zero (now work) ⌝ }
     ensures term { λ r. ⌜ ((t : Term) (b : ℕ → Option Term) (n : ℕ) → Held (now (kinds .entry)) (now (vals .entry)) p t → HeldBindings (now (kinds .entry)) (now (vals .entry)) (now (bound .entry)) b → Steady n b → r ≡ solving.recovers (resolve n b t)) ⌝ }
-    ensures clear { λ _. ⌜ Zero (now (marks .exit)) × Zero (now (queue .exit)) ⌝ }
+    ensures clear { λ _. ⌜ Zero (now (work .exit)) ⌝ }
 {
-    reaches(kinds, vals, bound, p, 0, marks, queue)
+    reaches(kinds, vals, bound, p, 0, work)
 }

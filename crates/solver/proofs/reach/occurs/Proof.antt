@@ -19,16 +19,12 @@ reaches-requires c κs = search needs
 same-length : tie.Need-same-length
 same-length c = search needs
 
-same-length-2 : tie.Need-same-length-2
-same-length-2 c = search needs
-
 returns : tie.Need-returns
 returns c =
-    let a = c .before .before .before .before .before .before .before .before .before .before .before .before .before .args in
-    let m = c .before .before .before .before .reaches .ensures in
-    let e = ap (λ (x : ℕ). x + 1) (c .before .before .before .before .before .before .before .wide .ensures) in
+    let a = c .before .before .before .before .before .before .before .before .before .args in
+    let m = c .before .before .reaches .ensures in
+    let e = ap (λ (x : ℕ). x + 1) (c .before .before .before .before .wide .ensures) in
     ((λ t b n h g S f. m .1 .0 t b n h g S (free-variable b _ (a .v) e f) ∙ asks-variable _ (a .v) e (resolve n b t)), m .1 .1)
 
 pub occurs-spec : {M : Type 1} → statement M
-occurs-spec =
-    tie.close (tie.spec wide-requires add-want reaches-requires same-length same-length-2 returns)
+occurs-spec = tie.close (tie.spec wide-requires add-want reaches-requires same-length returns)

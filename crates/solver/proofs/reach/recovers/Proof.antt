@@ -12,13 +12,10 @@ reaches-requires c κs = search needs
 same-length : tie.Need-same-length
 same-length c = search needs
 
-same-length-2 : tie.Need-same-length-2
-same-length-2 c = search needs
-
 returns : tie.Need-returns
 returns c =
-    let m = c .before .before .before .before .reaches .ensures in
+    let m = c .before .before .reaches .ensures in
     ((λ t b n h g S. m .1 .0 t b n h g S tt ∙ asks-recovery (resolve n b t)), m .1 .1)
 
 pub recovers-spec : {M : Type 1} → statement M
-recovers-spec = tie.close (tie.spec reaches-requires same-length same-length-2 returns)
+recovers-spec = tie.close (tie.spec reaches-requires same-length returns)

@@ -4,30 +4,29 @@ use mathlib.Core.Path.{_≡_, refl, sym, ap, _∙_}
 use mathlib.Core.Bool.{Bool, true, _||_}
 use Prim.Native.Nat.{ℕ, suc, _+_, _-_, _≤_}
 use native.Mathlib.Omega.{arith}
-use lib.ListN.{length, getD}
+use lib.ListN.{length, getD, take, drop}
 use denote.Ref.{now}
 use Rattle.terms.specs.Tokens.{toks}
 use Rattle.solver.specs.Work.{Grown}
 use Rattle.solver.specs.Reach.{counts, has}
-use Rattle.solver.proofs.WorkLaws.{grown-none, grown-then}
+use Rattle.solver.proofs.WorkLaws.{grown-none, grown-then, parts-long}
 use Rattle.solver.proofs.AskLaws.{has-snoc, has-start, or-split, or-left}
 use borrow.Author.Needs.{needs}
 use Rattle.solver.proofs.reach.scan.Statement.{statement}
 use Rattle.solver.proofs.reach.scan.Tie as tie
 
 abbrev Inv-loop : tie.InvT-loop
-Inv-loop kinds vals run want marks₀ queue₀ from hit₀ top₀ i₀ marks queue hit top i = (i ≤ run .len) × (hit ≡ has want (toks kinds vals (run .at) i)) × Grown (λ (u : ℕ). has (suc u) (toks kinds vals (run .at) i) ≡ true) marks₀ queue₀ from marks queue top × (length marks ≡ length marks₀) × (length queue ≡ length queue₀)
+Inv-loop kinds vals run want work₀ n from hit₀ top₀ i₀ work hit top i = (i ≤ run .len) × (hit ≡ has want (toks kinds vals (run .at) i)) × Grown (λ (u : ℕ). has (suc u) (toks kinds vals (run .at) i) ≡ true) (take n work₀) (drop n work₀) from (take n work) (drop n work) top × (length work ≡ length work₀)
 
 abbrev μ-loop : tie.MeasureT-loop
-μ-loop kinds vals run want marks₀ queue₀ from hit₀ top₀ i₀ marks queue hit top i = run .len - i
+μ-loop kinds vals run want work₀ n from hit₀ top₀ i₀ work hit top i = run .len - i
 
 loop-holds : tie.Need-loop-holds Inv-loop μ-loop
 loop-holds c =
-    let s = c .before .before .before .before in (
+    let s = c .before .before .before in (
       omega arith,
       sym (has-start (s .args .want) (now (s .args .kinds)) (now (s .args .vals)) (s .args .run .at)),
       grown-none (s .pre .1 .0) _ (λ u l i. never-true (sym (has-start (suc u) (now (s .args .kinds)) (now (s .args .vals)) (s .args .run .at)) ∙ i)),
-      refl,
       refl,
     )
 
@@ -53,7 +52,7 @@ seen-requires : tie.Need-seen-requires Inv-loop μ-loop
 seen-requires c κs = search needs
 
 push-requires : tie.Need-push-requires Inv-loop μ-loop
-push-requires c κs = search needs
+push-requires c κs = (c .before .before .before .before .before .before .before .before .loop .inv .2 .work, omega (arith, c .before .before .before .before .before .before .before .before .loop .inv .3, c .before .before .before .before .before .before .before .before .before .before .before .before .pre .1 .1))
 
 add-i : tie.Need-add-i Inv-loop μ-loop
 add-i c = search needs
@@ -63,31 +62,29 @@ loop-less c = search needs
 
 loop-again : tie.Need-loop-again Inv-loop μ-loop
 loop-again c =
-    let s = c .before .before .before .before .before .before .before .before .before .before .before .before .before .before .before .before .before .before .before in
-    let l = c .before .before .before .before .before .before .before .before .before .before .before .before .before .before .loop in
-    let m = c .before .before .before .before .push in
+    let s = c .before .before .before .before .before .before .before .before .before .before .before .before .before .before .before in
+    let l = c .before .before .before .before .before .before .before .before .before .before .before .loop in
+    let m = c .before .before .push in
     let ks = now (s .args .kinds) in
     let vs = now (s .args .vals) in
-    let a = s .args .run .at in (
+    let n = s .args .n in
+    let a = s .args .run .at in
+    let e = m .kept .0 ∙ l .inv .3 in (
       omega arith,
-      c .before .before .before .before .before .before .before .seen .ensures ∙ ap (λ (b : Bool). b || counts (s .args .want) (getD ks (a + l .i) 0) (getD vs (a + l .i) 0)) (l .inv .1) ∙ sym (has-snoc (s .args .want) ks vs a (l .i)),
-      grown-then _ _ _ (l .inv .2) (m .ensures) (m .kept .0)
+      c .before .before .before .before .seen .ensures ∙ ap (λ (b : Bool). b || counts (s .args .want) (getD ks (a + l .i) 0) (getD vs (a + l .i) 0)) (l .inv .1) ∙ sym (has-snoc (s .args .want) ks vs a (l .i)),
+      grown-then _ _ _ (l .inv .2) (m .ensures) (parts-long n _ (omega (arith, e, s .pre .1 .1)) .0 ∙ sym (parts-long n (l .work) (omega (arith, l .inv .3, s .pre .1 .1)) .0))
           (λ u r. or-split (has (suc u) (toks ks vs a (l .i))) (counts (suc u) (getD ks (a + l .i) 0) (getD vs (a + l .i) 0)) (sym (has-snoc (suc u) ks vs a (l .i)) ∙ r))
           (λ u p. has-snoc (suc u) ks vs a (l .i) ∙ or-left (has (suc u) (toks ks vs a (l .i))) (counts (suc u) (getD ks (a + l .i) 0) (getD vs (a + l .i) 0)) p)
           (λ u p. has-snoc (suc u) ks vs a (l .i) ∙ or-right (has (suc u) (toks ks vs a (l .i))) (counts (suc u) (getD ks (a + l .i) 0) (getD vs (a + l .i) 0)) p),
-      m .kept .0 ∙ l .inv .3,
-      m .kept .1 .0 ∙ l .inv .4,
+      e,
     )
 
 same-length : tie.Need-same-length Inv-loop μ-loop
 same-length c = search needs
 
-same-length-2 : tie.Need-same-length-2 Inv-loop μ-loop
-same-length-2 c = search needs
-
 returns : tie.Need-returns Inv-loop μ-loop
 returns c =
-    let s = c .before .before .before .before .before .before .before in
+    let s = c .before .before .before .before .before .before in
     let l = c .before .before .loop in
     let e : s .args .run .len ≡ l .i = omega (arith, l .inv .0, c .if1 .left) in
     rw e (l .inv .1, l .inv .2)
@@ -111,5 +108,4 @@ scan-spec =
     loop-less
     loop-again
     same-length
-    same-length-2
     returns)

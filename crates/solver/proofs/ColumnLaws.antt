@@ -1,0 +1,137 @@
+-- Laws of a table's columns: the column at o is the m words from o on, `take m (drop o ts)`. A place i of the table that is word v of it is
+-- given by the equation i ≡ o + v. Assumes nothing.
+use mathlib.Core.List.{List, [], _∷_}
+use mathlib.Core.Logic.{_⊎_, ⊎-elim}
+use mathlib.Core.Path.{_≡_, refl, sym, ap, _∙_}
+use Prim.Native.Nat.{ℕ, zero, suc, _+_, _-_, _<_, _≤_}
+use native.Mathlib.Decide.{ℕ-discrete, decLt}
+use native.Mathlib.Omega.{arith}
+use lib.ListN.{length, getD, set, take, drop, length-drop, List·getD-eq-default}
+use lib.Seq.{getD-set-same, getD-set-other, getD-take, getD-drop, length-take-le, set-out, take-set-lt, take-set-le, drop-set-lt, drop-set-add, take-take, take-nil}
+use Rattle.solver.specs.Work.{Zero}
+use Rattle.solver.proofs.WorkLaws.{zero-take, zero-drop}
+
+-- what stands past the first m words is 0
+pub take-past : (m : ℕ) (l : List ℕ) (v : ℕ) → m ≤ v → getD (take m l) v 0 ≡ 0
+take-past zero l v h = refl
+take-past (suc m) [] v h = refl
+take-past (suc m) (x ∷ xs) zero h = absurd (omega arith)
+take-past (suc m) (x ∷ xs) (suc v) h = take-past m xs v (omega arith)
+
+-- the m words from o on are among the first o + m
+take-drop : (m o : ℕ) (l : List ℕ) → take m (drop o (take (o + m) l)) ≡ take m (drop o l)
+take-drop m zero l = take-take m (0 + m) l (omega arith)
+take-drop m (suc o) [] = ap (λ (l : List ℕ). take m (drop (suc o) l)) (take-nil (suc o + m))
+take-drop m (suc o) (x ∷ xs) =
+    let e : suc o + m ≡ suc (o + m) = omega arith in
+    ap (λ (k : ℕ). take m (drop (suc o) (take k (x ∷ xs)))) e ∙ take-drop m o xs
+
+-- ---- reading
+
+module _ (m o : ℕ) (ts : List ℕ) where
+  pub column-read : (i v : ℕ) → i ≡ o + v → v < m → getD (take m (drop o ts)) v 0 ≡ getD ts i 0
+  column-read i v e h = getD-take m (drop o ts) v 0 h ∙ getD-drop o ts v 0 ∙ ap (λ (k : ℕ). getD ts k 0) (sym e)
+
+  pub column-past : (v : ℕ) → m ≤ v → getD (take m (drop o ts)) v 0 ≡ 0
+  column-past v h = take-past m (drop o ts) v h
+
+  pub column-length : o + m ≤ length ts → length (take m (drop o ts)) ≡ m
+  column-length h = length-take-le m (drop o ts) (omega (arith, length-drop o ts))
+
+  pub column-zero : Zero ts → Zero (take m (drop o ts))
+  column-zero z = zero-take m (drop o ts) (zero-drop o ts z)
+
+  -- ---- writing
+
+  -- in the column, and before or behind it
+  pub column-write : (i v x : ℕ) → i ≡ o + v → v < m → take m (drop o (set ts i x)) ≡ set (take m (drop o ts)) v x
+  column-write i v x e h =
+      ap (λ (k : ℕ). take m (drop o (set ts k x))) e ∙ ap (λ (l : List ℕ). take m l) (drop-set-add o ts v x) ∙ take-set-lt m (drop o ts) v x h
+
+  pub column-before : (i x : ℕ) → i < o → take m (drop o (set ts i x)) ≡ take m (drop o ts)
+  column-before i x h = ap (λ (l : List ℕ). take m l) (drop-set-lt o ts i x h)
+
+  pub column-behind : (i x : ℕ) → o + m ≤ i → take m (drop o (set ts i x)) ≡ take m (drop o ts)
+  column-behind i x h =
+      let e : i ≡ o + (i - o) = omega arith in
+      ap (λ (k : ℕ). take m (drop o (set ts k x))) e ∙ ap (λ (l : List ℕ). take m l) (drop-set-add o ts (i - o) x)
+      ∙ take-set-le m (drop o ts) (i - o) x (omega arith)
+
+  -- in another column
+  pub column-other : (o′ i v x : ℕ) → i ≡ o′ + v → v < m → (o + m ≤ o′) ⊎ (o′ + m ≤ o) → take m (drop o (set ts i x)) ≡ take m (drop o ts)
+  column-other o′ i v x e h d = ⊎-elim (λ l. column-behind i x (omega arith)) (λ l. column-before i x (omega arith)) d
+
+  -- what a write leaves there, word by word
+  pub column-here : (i v x : ℕ) → i ≡ o + v → v < m → o + m ≤ length ts → getD (take m (drop o (set ts i x))) v 0 ≡ x
+  column-here i v x e h r =
+      ap (λ (l : List ℕ). getD l v 0) (column-write i v x e h) ∙ getD-set-same (take m (drop o ts)) v x 0 (omega (arith, column-length r))
+
+  pub column-there : (i v u x : ℕ) → i ≡ o + v → v < m → (u ≡ v → ⊥) → getD (take m (drop o (set ts i x))) u 0 ≡ getD (take m (drop o ts)) u 0
+  column-there i v u x e h p =
+      ap (λ (l : List ℕ). getD l u 0) (column-write i v x e h) ∙ getD-set-other (take m (drop o ts)) v u x 0 p
+
+-- tables with the same first k words have the same columns there
+pub column-same : (m o k : ℕ) (ts ts′ : List ℕ) → take k ts ≡ take k ts′ → o + m ≤ k → take m (drop o ts) ≡ take m (drop o ts′)
+column-same m o k ts ts′ e h =
+    sym (take-drop m o ts)
+    ∙ ap (λ (l : List ℕ). take m (drop o l)) (sym (take-take (o + m) k ts h) ∙ ap (λ (l : List ℕ). take (o + m) l) e ∙ take-take (o + m) k ts′ h)
+    ∙ take-drop m o ts′
+
+-- ---- what stands from k on
+
+pub zero-set : (l : List ℕ) (i : ℕ) → Zero l → Zero (set l i 0)
+zero-set [] i z j = refl
+zero-set (x ∷ xs) zero z zero = refl
+zero-set (x ∷ xs) zero z (suc j) = z (suc j)
+zero-set (x ∷ xs) (suc i) z zero = z 0
+zero-set (x ∷ xs) (suc i) z (suc j) = zero-set xs i (λ k. z (suc k)) j
+
+module _ (k : ℕ) (ts : List ℕ) where
+  -- a word that is written before k leaves what stands from k on, one written from k on what stands before
+  pub rest-before : (i x : ℕ) → i < k → drop k (set ts i x) ≡ drop k ts
+  rest-before i x h = drop-set-lt k ts i x h
+
+  pub start-behind : (i x : ℕ) → k ≤ i → take k (set ts i x) ≡ take k ts
+  start-behind i x h = take-set-le k ts i x h
+
+  pub rest-write : (i j x : ℕ) → i ≡ k + j → drop k (set ts i x) ≡ set (drop k ts) j x
+  rest-write i j x e = ap (λ (n : ℕ). drop k (set ts n x)) e ∙ drop-set-add k ts j x
+
+  -- all 0 from k on
+  pub rest-read : Zero (drop k ts) → (i : ℕ) → k ≤ i → getD ts i 0 ≡ 0
+  rest-read z i h =
+      let e : i ≡ k + (i - k) = omega arith in
+      ap (λ (n : ℕ). getD ts n 0) e ∙ sym (getD-drop k ts (i - k) 0) ∙ z (i - k)
+
+  pub rest-zero : ((i : ℕ) → k ≤ i → getD ts i 0 ≡ 0) → Zero (drop k ts)
+  rest-zero f j = getD-drop k ts j 0 ∙ f (k + j) (omega arith)
+
+-- it stays so, where a word before k is written, or a 0 anywhere, and from a later place on
+pub zero-before : (k : ℕ) (ts : List ℕ) (i x : ℕ) → i < k → Zero (drop k ts) → Zero (drop k (set ts i x))
+zero-before k ts i x h z j = ap (λ (l : List ℕ). getD l j 0) (rest-before k ts i x h) ∙ z j
+
+pub zero-after : (k : ℕ) (ts : List ℕ) (i : ℕ) → Zero (drop k ts) → Zero (drop k (set ts i 0))
+zero-after k ts i z = go (decLt i k)
+  where
+    go : Dec (i < k) → Zero (drop k (set ts i 0))
+    go (yes p) = zero-before k ts i 0 p z
+    go (no p) = λ j. ap (λ (l : List ℕ). getD l j 0) (rest-write k ts i (i - k) 0 (omega arith)) ∙ zero-set (drop k ts) (i - k) z j
+
+pub zero-later : (k n : ℕ) (ts : List ℕ) → k ≤ n → Zero (drop k ts) → Zero (drop n ts)
+zero-later k n ts h z = rest-zero n ts (λ i l. rest-read k ts z i (omega arith))
+
+-- one word more from k on: what is 0 from k + 1 on, and at k
+pub zero-earlier : (k : ℕ) (ts : List ℕ) → getD ts k 0 ≡ 0 → Zero (drop (k + 1) ts) → Zero (drop k ts)
+zero-earlier k ts e z = rest-zero k ts (λ i l. go i l (ℕ-discrete i k))
+  where
+    go : (i : ℕ) → k ≤ i → Dec (i ≡ k) → getD ts i 0 ≡ 0
+    go i l (yes p) = ap (λ (n : ℕ). getD ts n 0) p ∙ e
+    go i l (no p) = rest-read (k + 1) ts z i (omega arith)
+
+-- the last word that is not 0 is cleared
+pub zero-clear : (k : ℕ) (ts : List ℕ) → Zero (drop (k + 1) ts) → Zero (drop k (set ts k 0))
+zero-clear k ts z = go (decLt k (length ts))
+  where
+    go : Dec (k < length ts) → Zero (drop k (set ts k 0))
+    go (yes p) = zero-earlier k (set ts k 0) (getD-set-same ts k 0 0 p) (zero-before (k + 1) ts k 0 (omega arith) z)
+    go (no p) = zero-earlier k (set ts k 0) (ap (λ (l : List ℕ). getD l k 0) (set-out ts k 0 (omega arith)) ∙ List·getD-eq-default ts 0 {n = k} (omega arith)) (zero-before (k + 1) ts k 0 (omega arith) z)

@@ -1,0 +1,152 @@
+// Orders 3, 6 and 7: deferrals and defaults. The builtin with the code c stands at 2 * c of the areas.
+use super::Solver;
+use super::resolving::named_run;
+use super::top::top_at;
+ghost use mathlib.Core.Path.{_≡_};
+ghost use mathlib.Core.Bool.{true, false};
+ghost use mathlib.Core.Option.{Option};
+ghost use Prim.Native.Nat.{ℕ, _+_, _^_, _≤_, _<_};
+ghost use lib.ListN.{length};
+ghost use Rattle.terms.specs.Term.{Term, var, Held};
+ghost use Rattle.solver.specs.Shapes.{Notion};
+ghost use Rattle.solver.specs.Solving.{follow, resolved};
+ghost use Rattle.solver.specs.Session.{Session, withSolver, deferring};
+ghost use Rattle.solver.specs.Orders as orders;
+ghost use Rattle.solver.specs.Bindings.{HeldBindings};
+ghost use Rattle.solver.specs.Lent.{limitsOf, Arises, Lent};
+ghost use Rattle.solver.specs.Methods.{Shaped, Beside, Low, EndsAt, settleWord, neverWord};
+
+fn wide(x: u32) -> usize
+    ensures { λ r. ⌜ r ≡ x ⌝ }
+{
+    x as usize
+}
+
+// The variable at the end of the chain of bindings from v on, or the length of the table where the chain ends at no variable of the table.
+pub fn end_of(kinds: &[u32], vals: &[u32], bound: &[u32], most: usize, v: usize) -> usize
+    requires { ⌜ (v < length (now bound)) × (length (now vals) ≡ length (now kinds)) ⌝ }
+    ensures { λ r. ⌜ ((b : ℕ → Option Term) → HeldBindings (now (kinds .entry)) (now (vals .entry)) (now (bound .entry)) b → EndsAt (length (now (bound .entry))) (follow most b (var v)) r) ⌝ }
+{
+    if most == 0 {
+        return v;
+    }
+    let run = named_run(kinds, vals, wide(bound[v]));
+    let len = run.len;
+    let at = run.at;
+    if len == 0 {
+        return v;
+    }
+    let q = top_at(kinds, vals, bound, most - 1, at);
+    if kinds[q] != 1 {
+        return bound.len();
+    }
+    let w = wide(vals[q]);
+    if bound.len() <= w {
+        return bound.len();
+    }
+    w
+}
+
+// The word that names Never, where a variable is deferred.
+pub fn never_word(deferral: u32) -> usize
+    ensures { λ r. ⌜ r ≡ neverWord deferral ⌝ }
+{
+    if deferral == 0 {
+        return 0;
+    }
+    11
+}
+
+impl Solver {
+    // Order 3: the variable that the term at p stands for, if it stands for one, is deferred.
+    pub fn defer_never(self, kinds: &[u32], vals: &[u32], tables: &mut [u32], p: usize) -> Solver
+        requires shape { ⌜ Shaped self (length (now tables)) ⌝ }
+        requires areas { ⌜ (p < length (now kinds)) × (length (now vals) ≡ length (now kinds)) ⌝ }
+        ensures held { λ r. ⌜ ((s : Session) (n : Notion) (t : Term) → n 4 ≡ false → Arises (limitsOf self) n s → Lent self (now (kinds .entry)) (now (vals .entry)) (now (tables .entry)) s → Held (now (kinds .entry)) (now (vals .entry)) p t → orders.known s t ≡ true → Lent r (now (kinds .entry)) (now (vals .entry)) (now (tables .exit)) (deferring s (resolved (s .solver) t))) ⌝ }
+        ensures beside { λ r. ⌜ Beside self r (now (tables .entry)) (now (tables .exit)) ⌝ }
+    {
+        let m = self.variables;
+        let most = self.revision;
+        let q = top_at(kinds, vals, &tables[..m], most, p);
+        if kinds[q] == 1 {
+            let v = wide(vals[q]);
+            if v < m {
+                tables[5 * m + v] = 1;
+            }
+        }
+        self
+    }
+
+    // Binds the variable that v leads to, if it leads to one, to the builtin that a word names: 0 names none, c + 1 the one with the code c.
+    pub fn settle_at(
+        mut self,
+        kinds: &[u32],
+        vals: &[u32],
+        tables: &mut [u32],
+        v: usize,
+        word: usize,
+    ) -> Solver
+        requires shape { ⌜ Shaped self (length (now tables)) ⌝ }
+        requires areas { ⌜ (v < self .variables) × (self .revision < 2 ^ 33) × (length (now vals) ≡ length (now kinds)) ⌝ }
+        ensures held { λ r. ⌜ ((s : Session) → word ≤ 32 → Lent self (now (kinds .entry)) (now (vals .entry)) (now (tables .entry)) s → Low (self .variables) (s .solver .bindings) → Lent r (now (kinds .entry)) (now (vals .entry)) (now (tables .exit)) (withSolver s (settleWord (s .solver) v word))) ⌝ }
+        ensures steps { λ r. ⌜ (r .revision ≤ self .revision + 1) × (r .issued ≡ self .issued) ⌝ }
+        ensures beside { λ r. ⌜ Beside self r (now (tables .entry)) (now (tables .exit)) ⌝ }
+    {
+        if word == 0 {
+            return self;
+        }
+        if 32 < word {
+            return self;
+        }
+        let m = self.variables;
+        let most = self.revision;
+        let w = end_of(kinds, vals, &tables[..m], most, v);
+        if m <= w {
+            return self;
+        }
+        tables[w] = (2 * word - 1) as u32;
+        self.revision = most + 1;
+        self
+    }
+
+    // Order 6: each number variable, by rising id, takes its fallback.
+    pub fn apply_numeric_defaults(
+        mut self,
+        kinds: &[u32],
+        vals: &[u32],
+        tables: &mut [u32],
+    ) -> Solver
+        requires shape { ⌜ Shaped self (length (now tables)) ⌝ }
+        requires areas { ⌜ (self .revision < 2 ^ 32) × (length (now vals) ≡ length (now kinds)) ⌝ }
+        ensures held { λ r. ⌜ ((s : Session) (n : Notion) → Lent self (now (kinds .entry)) (now (vals .entry)) (now (tables .entry)) s → Low (self .variables) (s .solver .bindings) → Lent r (now (kinds .entry)) (now (vals .entry)) (now (tables .exit)) (orders.order (limitsOf self) n s orders.numbers .session)) ⌝ }
+        ensures beside { λ r. ⌜ Beside self r (now (tables .entry)) (now (tables .exit)) ⌝ }
+    {
+        let m = self.variables;
+        let n = self.issued;
+        let mut v = 0;
+        while v < n {
+            let word = wide(tables[m + v]);
+            self = self.settle_at(kinds, vals, tables, v, word);
+            v += 1;
+        }
+        self
+    }
+
+    // Order 7: each variable that is deferred, by rising id, takes Never.
+    pub fn apply_never_defaults(mut self, kinds: &[u32], vals: &[u32], tables: &mut [u32]) -> Solver
+        requires shape { ⌜ Shaped self (length (now tables)) ⌝ }
+        requires areas { ⌜ (self .revision < 2 ^ 32) × (length (now vals) ≡ length (now kinds)) ⌝ }
+        ensures held { λ r. ⌜ ((s : Session) (n : Notion) → Lent self (now (kinds .entry)) (now (vals .entry)) (now (tables .entry)) s → Low (self .variables) (s .solver .bindings) → Lent r (now (kinds .entry)) (now (vals .entry)) (now (tables .exit)) (orders.order (limitsOf self) n s orders.nevers .session)) ⌝ }
+        ensures beside { λ r. ⌜ Beside self r (now (tables .entry)) (now (tables .exit)) ⌝ }
+    {
+        let m = self.variables;
+        let n = self.issued;
+        let mut v = 0;
+        while v < n {
+            let word = never_word(tables[5 * m + v]);
+            self = self.settle_at(kinds, vals, tables, v, word);
+            v += 1;
+        }
+        self
+    }
+}

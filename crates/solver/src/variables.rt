@@ -1,0 +1,135 @@
+// Orders 0 to 2: the variable of a place. A variable's words in the table say what it is the variable of: 1, a site and a slot, or 2 and
+// the site of a hole.
+use super::Issue;
+use super::Named;
+use super::Solver;
+ghost use mathlib.Core.Path.{_≡_};
+ghost use mathlib.Core.List.{List};
+ghost use Prim.Native.Nat.{ℕ, _*_, _≤_, _<_};
+ghost use lib.ListN.{length};
+ghost use Rattle.solver.specs.declared.Named.the-variants.{Variable};
+ghost use Rattle.solver.specs.Families.{requested};
+ghost use Rattle.solver.specs.Shapes.{Notion};
+ghost use Rattle.solver.specs.Session.{Place, at, gap, Session, find};
+ghost use Rattle.solver.specs.Orders as orders;
+ghost use Rattle.solver.specs.Lent.{limitsOf, placeWords, siteWords, slotWords, HeldPlace, HeldPlaces, Lent};
+ghost use Rattle.solver.specs.Methods.{matches, lastMatch, found, Shaped, Beside, placed, Issued, Replied, replyOf, resolvedReply};
+
+fn wide(x: u32) -> usize
+    ensures { λ r. ⌜ r ≡ x ⌝ }
+{
+    x as usize
+}
+
+// Whether a variable's words are those asked for: a hole has no slot.
+pub fn is_place(kind: u32, site: u32, slot: u32, k: u32, s: u32, i: u32) -> bool
+    ensures { λ r. ⌜ r ≡ matches kind site slot k s i ⌝ }
+{
+    if k != kind {
+        return false;
+    }
+    if s != site {
+        return false;
+    }
+    if kind == 2 {
+        return true;
+    }
+    i == slot
+}
+
+// The last variable whose words are those asked for, or issued.
+pub fn find_place(tables: &[u32], m: usize, issued: usize, kind: u32, site: u32, slot: u32) -> usize
+    requires { ⌜ (issued ≤ m) × (7 * m ≤ length (now tables)) ⌝ }
+    ensures word { λ r. ⌜ r ≡ lastMatch kind site slot (placeWords m (now (tables .entry))) (siteWords m (now (tables .entry))) (slotWords m (now (tables .entry))) issued issued ⌝ }
+    ensures place { λ r. ⌜ ((p : Place) (ps : List Place) → HeldPlace p kind site slot → length ps ≡ issued → HeldPlaces (placeWords m (now (tables .entry))) (siteWords m (now (tables .entry))) (slotWords m (now (tables .entry))) ps → r ≡ found issued (find p ps)) ⌝ }
+{
+    let mut v = issued;
+    while 0 < v {
+        v -= 1;
+        let k = tables[2 * m + v];
+        let s = tables[3 * m + v];
+        let i = tables[4 * m + v];
+        if is_place(kind, site, slot, k, s, i) {
+            return v;
+        }
+    }
+    issued
+}
+
+impl Solver {
+    // The variable of a place: the one that it has, or a new one.
+    pub fn issue(mut self, tables: &mut [u32], kind: u32, site: u32, slot: u32) -> Issue
+        requires { ⌜ Shaped self (length (now tables)) ⌝ }
+        ensures held { λ r. ⌜ ((ks vs : List ℕ) (s : Session) (p : Place) → HeldPlace p kind site slot → Lent self ks vs (now (tables .entry)) s → Issued (r .solver) ks vs (now (tables .exit)) p (placed (limitsOf self) s p) (r .answer)) ⌝ }
+        ensures low { λ r. ⌜ ((v : ℕ) → r .answer ≡ Variable v → v < self .variables) ⌝ }
+        ensures beside { λ r. ⌜ Beside self (r .solver) (now (tables .entry)) (now (tables .exit)) ⌝ }
+    {
+        let m = self.variables;
+        let issued = self.issued;
+        let v = find_place(tables, m, issued, kind, site, slot);
+        if v < issued {
+            return Issue {
+                solver: self,
+                answer: Named::Variable(v as u32),
+            };
+        }
+        if m <= issued {
+            return Issue {
+                solver: self,
+                answer: Named::Full,
+            };
+        }
+        tables[2 * m + issued] = kind;
+        tables[3 * m + issued] = site;
+        tables[4 * m + issued] = slot;
+        self.issued = issued + 1;
+        Issue {
+            solver: self,
+            answer: Named::Variable(issued as u32),
+        }
+    }
+
+    // Order 0: the variable of a slot of a site.
+    pub fn variable(mut self, tables: &mut [u32], site: u32, slot: u32) -> Issue
+        requires { ⌜ Shaped self (length (now tables)) ⌝ }
+        ensures held { λ r. ⌜ ((ks vs : List ℕ) (s : Session) (n : Notion) → Lent self ks vs (now (tables .entry)) s → Replied (r .solver) ks vs (now (tables .exit)) (at site slot) (orders.order (limitsOf self) n s (orders.variable site slot)) replyOf (r .answer)) ⌝ }
+        ensures beside { λ r. ⌜ Beside self (r .solver) (now (tables .entry)) (now (tables .exit)) ⌝ }
+    {
+        self.issue(tables, 1, site, slot)
+    }
+
+    // Order 1: the number variable of a site, with its fallback from now on.
+    pub fn numeric_variable(mut self, tables: &mut [u32], site: u32, fallback: u32) -> Issue
+        requires { ⌜ Shaped self (length (now tables)) × (fallback < 32) ⌝ }
+        ensures held { λ r. ⌜ ((ks vs : List ℕ) (s : Session) (n : Notion) → Lent self ks vs (now (tables .entry)) s → Replied (r .solver) ks vs (now (tables .exit)) (at site 1) (orders.order (limitsOf self) n s (orders.number site (requested fallback))) (resolvedReply (orders.order (limitsOf self) n s (orders.number site (requested fallback)) .session .solver)) (r .answer)) ⌝ }
+        ensures beside { λ r. ⌜ Beside self (r .solver) (now (tables .entry)) (now (tables .exit)) ⌝ }
+    {
+        let m = self.variables;
+        let c = self.issue(tables, 1, site, 1);
+        let solver = c.solver;
+        let answer = c.answer;
+        match answer {
+            Named::Variable(v) => {
+                let at = m + wide(v);
+                tables[at] = fallback + 1;
+                Issue {
+                    solver,
+                    answer: Named::Variable(v),
+                }
+            }
+            Named::Full => Issue {
+                solver,
+                answer: Named::Full,
+            },
+        }
+    }
+
+    // Order 2: the variable of a hole.
+    pub fn annotation_hole(mut self, tables: &mut [u32], site: u32) -> Issue
+        requires { ⌜ Shaped self (length (now tables)) ⌝ }
+        ensures held { λ r. ⌜ ((ks vs : List ℕ) (s : Session) (n : Notion) → Lent self ks vs (now (tables .entry)) s → Replied (r .solver) ks vs (now (tables .exit)) (gap site) (orders.order (limitsOf self) n s (orders.hole site)) (resolvedReply (orders.order (limitsOf self) n s (orders.hole site) .session .solver)) (r .answer)) ⌝ }
+        ensures beside { λ r. ⌜ Beside self (r .solver) (now (tables .entry)) (now (tables .exit)) ⌝ }
+    {
+        self.issue(tables, 2, site, 0)
+    }
+}
