@@ -8,6 +8,13 @@ standard input, at most 32,768 bytes, and writes answers with their lengths,
 at most 32,768 bytes or as many as its argument says. Other kinds get
 refusal 2.
 
+With the argument sheets it answers whole sheets, orders 0 to 20, each sheet
+with a session of its own. Standard input is a run of sheets: room for
+answers, length, each four bytes with the low byte first, and the sheet. For
+each one come out: the reason, a byte; orders answered, bytes of answers, four
+bytes each; the answers. Reason 255 stands for a sheet that the Rust could
+not go on with, as its terms grew too large; the answers before stand.
+
 DIR of --source holds Kagari's sources (../shared/docs/src beside the
 repository). What is built goes to DIR of --out (target/oracle). rustc alone
 is needed.
@@ -17,6 +24,7 @@ kept in this repository:
   types.rs                 the types TYPES below with their impl blocks, and
                            the methods METHODS of TypeId
   typeck/associated.rs     normalize
+  typeck/solver.rs         Solver with all its methods
 Not taken are methods of TypeId that no order asks for; some of them lean on
 files that we do not have.
 
@@ -27,10 +35,19 @@ Written here, as stand-ins or around it:
                  trait, and a method of the same name counts the children
                  before it calls it: refusal 9 needs the number. No line of
                  normalize or map_children is changed, but for the word pub
-                 before the latter.
-  format.rs      reader and writer of the byte form, with refusals 1 to 5 and 7
-  orders.rs      the orders, and refusal 9
+                 before the latter. substitute_once is taken in the same way,
+                 and a method of its name counts the nodes it meets and
+                 inserts, so that a term that grows without end is left.
+  format.rs      reader and writer of the byte form, with refusals 1 to 7
+  orders.rs      orders 9 to 20, and refusal 9
+  solver.rs      the place of Solver
+  sheets.rs      orders 0 to 8, refusal 8, whole sheets
+  stack.rs       a thread with a large stack
   main.rs        lengths, the limits of input and output
+and for tests/judge.py, which links the static library beside all this:
+  judge.rs       frames in, both sides compared, the first difference told
+  lent.rs        what is lent to the library, between guards
+  tables.rs      counts by kind, outcome and answer
 
 The build stops where the sources lack an item.
 """
@@ -51,6 +68,9 @@ SOURCE = os.path.join(ROOT, "..", "shared", "docs", "src")
 OUT = os.path.join(ROOT, "target", "oracle")
 TYPES_FILE = "src--crates--kagari-hir--src--types.rs.txt"
 ASSOCIATED_FILE = "src--crates--kagari-hir--src--typeck--associated.rs.txt"
+SOLVER_FILE = "src--crates--kagari-hir--src--typeck--solver.rs.txt"
+# Where what is taken stands, by the variable that tells the compiler.
+PLACES = {"KAGARI_TYPES": "taken_types.rs", "KAGARI_ASSOCIATED": "taken_associated.rs", "KAGARI_SOLVER": "taken_solver.rs"}
 
 TYPES = (
     "struct TypeSubstitution",
@@ -72,9 +92,12 @@ TYPES = (
 METHODS = (
     "is_never", "is_integer", "is_concrete", "is_unresolved", "contains_unknown", "contains_self_type",
     "contains_projection", "contains_type", "is_resolved_in", "conflicts_with", "can_weaken_to", "read_only_view",
-    "collection_access", "recover_from", "substitute_once", "instantiate", "argument_context", "with_self",
-    "with_associated_types",
+    "collection_access", "recover_from", "instantiate", "argument_context", "with_self", "with_associated_types",
 )
+
+
+class Absent(extract.NotFound):
+    """There is no compiler, or there are no sources."""
 
 
 def read(source, name):
@@ -99,37 +122,53 @@ def types_taken(text):
         return extract.the_one(inner, "fn " + name, TYPES_FILE)
     methods = block("impl TypeId", [method(name).text for name in METHODS])
     children = block("impl Children for TypeId", [method("map_children").without_visibility()])
-    return "\n".join(whole + [methods, children])
+    substitute = block("impl Substitute for TypeId", [method("substitute_once").without_visibility()])
+    return "\n".join(whole + [methods, children, substitute])
 
 
 def associated_taken(text):
     return extract.the_one(extract.items(text), "fn normalize", ASSOCIATED_FILE).text
 
 
-def write(path, text):
-    with open(path, "w", encoding="utf-8") as file:
-        file.write("// Taken from Kagari's sources by tests/oracle/build.py. Not to be committed.\n" + text)
+def solver_taken(text):
+    found = extract.items(text)
+    return "\n".join(extract.the_one(found, name, SOLVER_FILE).text for name in ("struct Solver", "impl Solver"))
+
+
+def taken(source=SOURCE):
+    """The files with what is taken, by name."""
+    if not os.path.isdir(source):
+        raise Absent("there is no directory %s with Kagari's sources: the oracle cannot be built" % source)
+    if not shutil.which("rustc"):
+        raise Absent("there is no rustc: the oracle cannot be built")
+    head = "// Taken from Kagari's sources by tests/oracle/build.py. Not to be committed.\n"
+    texts = (types_taken(read(source, TYPES_FILE)), associated_taken(read(source, ASSOCIATED_FILE)),
+             solver_taken(read(source, SOLVER_FILE)))
+    return {name: head + text for name, text in zip(PLACES.values(), texts)}
+
+
+def write(texts, out):
+    os.makedirs(out, exist_ok=True)
+    for name, text in texts.items():
+        with open(os.path.join(out, name), "w", encoding="utf-8") as file:
+            file.write(text)
+
+
+def compiled(root, out, name, words=("-C", "opt-level=2")):
+    """Compiles the program of that root, with what was taken in the directory out; gives its path."""
+    out = os.path.abspath(out)
+    places = {variable: os.path.join(out, place) for variable, place in PLACES.items()}
+    program = os.path.join(out, name)
+    command = ["rustc", "--edition", "2024", "--crate-name", name, "-o", program, root, *words]
+    if subprocess.run(command, env={**os.environ, **places}).returncode != 0:
+        raise extract.NotFound("rustc does not accept what was taken beside the stand-ins")
+    return program
 
 
 def build(source=SOURCE, out=OUT):
     """Builds the oracle and gives its path."""
-    if not os.path.isdir(source):
-        raise extract.NotFound("there is no directory %s with Kagari's sources: the oracle cannot be built" % source)
-    if not shutil.which("rustc"):
-        raise extract.NotFound("there is no rustc: the oracle cannot be built")
-    types = types_taken(read(source, TYPES_FILE))
-    associated = associated_taken(read(source, ASSOCIATED_FILE))
-    os.makedirs(out, exist_ok=True)
-    out = os.path.abspath(out)
-    names = {"KAGARI_TYPES": os.path.join(out, "types.rs"), "KAGARI_ASSOCIATED": os.path.join(out, "associated.rs")}
-    write(names["KAGARI_TYPES"], types)
-    write(names["KAGARI_ASSOCIATED"], associated)
-    program = os.path.join(out, "oracle")
-    command = ["rustc", "--edition", "2024", "-C", "opt-level=2", "--crate-name", "oracle", "-o", program,
-               os.path.join(HERE, "main.rs")]
-    if subprocess.run(command, env={**os.environ, **names}).returncode != 0:
-        raise extract.NotFound("rustc does not accept what was taken beside the stand-ins")
-    return program
+    write(taken(source), out)
+    return compiled(os.path.join(HERE, "main.rs"), out, "oracle")
 
 
 def main():

@@ -1,4 +1,4 @@
-//! Document 01's byte form: reading with refusals 1 to 5 and 7, and writing.
+//! Document 01's byte form: reading with refusals 1 to 7, and writing.
 
 use crate::kagari::{GenericParameterType, NominalType, TypeId, TypeSubstitution};
 use crate::standins::{BuiltinType, CollectionAccess, DefinitionId, NAMED, RangeKind, ReferenceAccess};
@@ -16,23 +16,42 @@ pub type Read<T> = Result<T, Refused>;
 pub struct Reader<'a> {
     bytes: &'a [u8],
     at: usize,
+    /// Nodes kept before and read since.
     nodes: usize,
+    /// Inference ids from here on are refused.
+    issued: usize,
 }
 
 /// Bytes, numbers and the end.
 impl<'a> Reader<'a> {
     pub fn new(bytes: &'a [u8]) -> Self {
-        Self { bytes, at: 0, nodes: 0 }
+        Self { bytes, at: 0, nodes: 0, issued: usize::MAX }
+    }
+
+    pub fn keeping(self, nodes: usize) -> Self {
+        Self { nodes, ..self }
+    }
+
+    pub fn with_issued(self, issued: usize) -> Self {
+        Self { issued, ..self }
+    }
+
+    pub fn nodes(&self) -> usize {
+        self.nodes
     }
 
     pub fn is_used_up(&self) -> bool {
         self.at == self.bytes.len()
     }
 
+    /// What was not read yet.
+    pub fn rest(&self) -> &'a [u8] {
+        &self.bytes[self.at..]
+    }
+
     /// So many bytes, if they are there.
     pub fn part(&mut self, length: u32) -> Option<&'a [u8]> {
-        let rest = &self.bytes[self.at..];
-        let part = rest.get(..length as usize)?;
+        let part = self.rest().get(..length as usize)?;
         self.at += part.len();
         Some(part)
     }
@@ -91,10 +110,10 @@ impl Reader<'_> {
                 let access = self.reference_access()?;
                 TypeId::Reference { access, target: self.boxed(below)? }
             }
-            1 => TypeId::Inference(self.number()?),
+            1 => TypeId::Inference(self.inference()?),
             2 => TypeId::Unknown,
             3 => TypeId::Error,
-            4 => TypeId::Builtin(builtin(self.listed(CODES)?)),
+            4 => TypeId::Builtin(self.code()?),
             5 => TypeId::Tuple(self.terms(below)?),
             6 => TypeId::Function { params: self.terms(below)?, result: self.boxed(below)? },
             7 => TypeId::Iter(self.boxed(below)?),
@@ -133,6 +152,11 @@ impl Reader<'_> {
             19 => TypeId::SelfType(self.definition()?),
             _ => return Err(Refused(2)),
         })
+    }
+
+    fn inference(&mut self) -> Read<u32> {
+        let id = self.number()?;
+        if (id as usize) < self.issued { Ok(id) } else { Err(Refused(6)) }
     }
 
     fn boxed(&mut self, level: usize) -> Read<Box<TypeId>> {
@@ -203,6 +227,13 @@ impl Reader<'_> {
             substitution.insert_receiver(owner, term);
         }
         Ok(substitution)
+    }
+}
+
+/// A builtin by its code alone.
+impl Reader<'_> {
+    pub fn code(&mut self) -> Read<BuiltinType> {
+        self.listed(CODES).map(builtin)
     }
 }
 

@@ -7,9 +7,9 @@ use crate::standins::{DefinitionId, GenericBounds};
 /// Children of all terms that a visit was spent on.
 const CHILDREN: usize = 8192;
 
-/// The outcome byte and, on outcome 0, the value.
-pub fn answer(order: &[u8]) -> Vec<u8> {
-    match value(&mut Reader::new(order)) {
+/// The outcome byte and, on outcome 0, the value. So many nodes are kept already.
+pub fn answer(order: &[u8], kept: usize) -> Vec<u8> {
+    match value(&mut Reader::new(order).keeping(kept)) {
         Ok(value) => [vec![0], value].concat(),
         Err(Refused(refusal)) => vec![refusal],
     }
@@ -33,7 +33,7 @@ fn value(fields: &mut Reader) -> Read<Vec<u8>> {
     }
 }
 
-fn bytes_of(term: &TypeId) -> Vec<u8> {
+pub fn bytes_of(term: &TypeId) -> Vec<u8> {
     let mut out = Vec::new();
     put_term(&mut out, term);
     out
@@ -127,7 +127,7 @@ fn with_associated_types(fields: &mut Reader) -> Read<Vec<u8>> {
     walked(|| term.with_associated_types(&interface, &owner))
 }
 
-struct Rule {
+pub struct Rule {
     interface: NominalType,
     receiver: TypeId,
     member: DefinitionId,
@@ -135,7 +135,7 @@ struct Rule {
     value: TypeId,
 }
 
-fn rule(fields: &mut Reader) -> Read<Rule> {
+pub fn rule(fields: &mut Reader) -> Read<Rule> {
     Ok(Rule {
         interface: fields.nominal(1)?,
         receiver: fields.term(1)?,

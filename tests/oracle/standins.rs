@@ -55,3 +55,23 @@ pub struct RangeKind(pub u8);
 /// The bounds of a family, which no order carries.
 #[derive(Debug, Clone, PartialEq, Eq)]
 pub struct GenericBounds;
+
+/// The number of an expression.
+#[derive(Debug, Clone, Copy, PartialEq, Eq, Hash)]
+pub struct ExprId(pub u32);
+
+/// The number of a written type.
+#[derive(Debug, Clone, Copy, PartialEq, Eq, Hash)]
+pub struct TypeRefId(pub u32);
+
+/// Lets so many checks pass; the next one cancels.
+pub struct CancellationToken(pub std::cell::Cell<u32>);
+
+pub struct Cancelled;
+
+impl CancellationToken {
+    pub fn check(&self) -> Result<(), Cancelled> {
+        self.0.set(self.0.get().checked_sub(1).ok_or(Cancelled)?);
+        Ok(())
+    }
+}

@@ -1,0 +1,348 @@
+-- Steps of orders 0 to 8 done on what is lent: what each answers, and that it is done or not. Assumes nothing.
+use mathlib.Core.Path.{_≡_, refl, sym, ap, subst, _∙_}
+use mathlib.Core.Bool.{Bool, true, false, not}
+use mathlib.Core.List.{List, [], _∷_, _++_}
+use mathlib.Core.Option.{Option, none, some}
+use Prim.Native.Nat.{ℕ, zero, suc, _+_, _-_, _≤_, _<_}
+use native.Mathlib.Omega.{arith}
+use native.Mathlib.Numerals.{add-one}
+use borrow.Author.Tests.{leb-true, leb-false, eq-eqb, ne-eqb}
+use lib.Dec.{eqb, leb}
+use lib.ListN.{length, getD, set, take, length-append}
+use lib.Seq.{sets, getD-take}
+use Rattle.terms.specs.Number.{shortest}
+use Rattle.terms.specs.Term.{Term, var, bytes, Held}
+use Rattle.solver.specs.declared.Solver.{Solver}
+use Rattle.solver.specs.Families.{Request, requested}
+use Rattle.solver.specs.Shapes.{loose}
+use Rattle.solver.specs.Solving as solving
+use Rattle.solver.specs.Solving.{resolve, resolved}
+use Rattle.solver.specs.Session.{Limits, Session, Place, at, gap, issued, find}
+use Rattle.solver.specs.Orders as orders
+use Rattle.solver.specs.Orders.{order, variableAt, numberAt, holeAt, full, refused, _gives_}
+use Rattle.solver.specs.InOrder.{Fits}
+use Rattle.solver.specs.Bindings.{HeldBinding}
+use Rattle.solver.specs.Work.{Zero}
+use Rattle.solver.specs.Frames.{Apart, Cleared}
+use Rattle.solver.specs.Lent.{Arises, Lent, limitsOf}
+use Rattle.solver.specs.Methods.{Beside, found}
+use Rattle.solver.proofs.InOrderLaws.{find-issued}
+use Rattle.solver.proofs.OrderedLaws.{ordered-revision}
+use Rattle.solver.proofs.DefaultLaws.{arises-ordered}
+use Rattle.solver.proofs.MethodLaws.{beside-same}
+use Rattle.sheet.specs.Operations.{Answer, refusal, outcome, bit}
+use Rattle.sheet.specs.Sheet.{Step, solve, answerOf, framed}
+use Rattle.sheet.specs.Written.{Framed, opening}
+use Rattle.sheet.specs.Doing.{Does, plainCommand}
+use Rattle.sheet.proofs.FramingLaws.{one-frame, frame-over, value-frame}
+
+-- ---- done, or not
+
+module _ {x : Solver} {ks vs ts : List ℕ} {z : Session} (L : Lent x ks vs ts z) (st : Step) (out₀ : List ℕ) (to : ℕ) where
+  -- the answer does not fit
+  pub does-not : length out₀ < to + length (framed (st .answer)) → Does x x ks vs ts ts z st out₀ to out₀ (length out₀ + 1)
+  does-not h =
+      record {
+        answer = record { fits = λ k. absurd (omega arith); over = λ k. (refl, refl) };
+        whole = λ k. absurd (omega arith);
+        long = λ k. L;
+        beside = beside-same x ts;
+      }
+
+  -- and so a position past the end tells
+  pub does-over : (out : List ℕ) (r : ℕ) → Framed (st .answer) out₀ to out r → length out₀ < r → Does x x ks vs ts ts z st out₀ to out r
+  does-over out r f h =
+      record {
+        answer = f;
+        whole = λ k. absurd (omega (arith, f .fits k .0));
+        long = λ k. L;
+        beside = beside-same x ts;
+      }
+
+  -- the session stays as it is
+  pub does-same : (out : List ℕ) (r : ℕ) → st .session ≡ z → Framed (st .answer) out₀ to out r → Does x x ks vs ts ts z st out₀ to out r
+  does-same out r e f =
+      record {
+        answer = f;
+        whole = λ k. subst (λ (s : Session). Lent x ks vs ts s) (sym e) L;
+        long = λ k. L;
+        beside = beside-same x ts;
+      }
+
+  -- the answer fits
+  pub does-whole : (y : Solver) (us out : List ℕ) (r : ℕ) → Framed (st .answer) out₀ to out r → r ≤ length out₀
+      → Lent y ks vs us (st .session) → Beside x y ts us → Does x y ks vs ts us z st out₀ to out r
+  does-whole y us out r f h M B =
+      record {
+        answer = f;
+        whole = λ k. M;
+        long = λ k. absurd (omega (arith, f .over k .0));
+        beside = B;
+      }
+
+-- ---- the revision
+
+-- it is at most the count of variables
+pub loose-codes : loose 4 ≡ false
+unfolding loose
+loose-codes = refl
+
+pub arises-revision : (lim : Limits) (z : Session) → Arises lim loose z → z .solver .revision ≤ issued z
+arises-revision lim z A = ordered-revision loose loose-codes (issued z) (z .solver) (arises-ordered loose loose-codes lim z A)
+
+pub lent-revision : (x : Solver) (ks vs ts : List ℕ) (z : Session) → Arises (limitsOf x) loose z → Lent x ks vs ts z → x .revision ≤ x .variables
+lent-revision x ks vs ts z A L = omega (arith, arises-revision (limitsOf x) z A, L .revision, L .fits .variables)
+
+pub revision-does : (x : Solver) (ks vs ts : List ℕ) (z : Session) → Lent x ks vs ts z → (out₀ : List ℕ) (to : ℕ) (out : List ℕ) (r : ℕ)
+    → Framed (outcome (shortest (x .revision))) out₀ to out r → Does x x ks vs ts ts z (solve (limitsOf x) z orders.revision) out₀ to out r
+unfolding order answerOf
+revision-does x ks vs ts z L out₀ to out r f =
+    does-same L (solve (limitsOf x) z orders.revision) out₀ to out r refl
+    (subst (λ (n : ℕ). Framed (outcome (shortest n)) out₀ to out r) (L .revision) f)
+
+-- ---- defaults
+
+-- a step that answers whether the revision is another
+abbrev pub Tells : Session → Step → Type 0
+Tells z st = st .answer ≡ outcome (bit (not (eqb (st .session .solver .revision) (z .solver .revision))) ∷ [])
+
+pub numbers-tell : (lim : Limits) (z : Session) → Tells z (solve lim z orders.numbers)
+unfolding order answerOf
+numbers-tell lim z = refl
+
+pub nevers-tell : (lim : Limits) (z : Session) → Tells z (solve lim z orders.nevers)
+unfolding order answerOf
+nevers-tell lim z = refl
+
+module _ {x : Solver} {ks vs ts : List ℕ} {z : Session} (L : Lent x ks vs ts z) (st : Step) (e : Tells z st) (out₀ : List ℕ) (to : ℕ) (inside : to ≤ length out₀) where
+  size : length (framed (st .answer)) ≡ 3
+  size = ap (λ a. length (framed a)) e ∙ ap length (one-frame (bit (not (eqb (st .session .solver .revision) (z .solver .revision)))))
+
+  pub defaults-not : length out₀ - to < 3 → Does x x ks vs ts ts z st out₀ to out₀ (length out₀ + 1)
+  defaults-not h = does-not L st out₀ to (omega (arith, size))
+
+  pub defaults-done : (y : Solver) (us out : List ℕ) (r a : ℕ) → 3 ≤ length out₀ - to → Lent y ks vs us (st .session) → Beside x y ts us
+      → a ≡ bit (not (eqb (y .revision) (x .revision))) → Framed (outcome (a ∷ [])) out₀ to out r → Does x y ks vs ts us z st out₀ to out r
+  defaults-done y us out r a h M B p f =
+      let q : a ≡ bit (not (eqb (st .session .solver .revision) (z .solver .revision))) = p ∙ rw (M .revision, L .revision) refl in
+      let g : Framed (st .answer) out₀ to out r
+      = subst (λ b. Framed b out₀ to out r) (ap (λ (n : ℕ). outcome (n ∷ [])) q ∙ sym e) f in
+      does-whole L st out₀ to y us out r g (omega (arith, g .fits (omega (arith, size)) .0, size)) M B
+
+-- ---- the variable of a place
+
+-- it is the one that there is or the next one
+abbrev pub nextOf : Session → Place → ℕ
+nextOf z p = found (issued z) (find p (z .places))
+
+module _ (lim : Limits) (z : Session) (p : Place) (fits : Fits lim z) where
+  -- none where that is past the limit
+  unfound : (o : Option ℕ) (f : Bool) → find p (z .places) ≡ o → full lim z ≡ f → lim .variables ≤ found (issued z) o → (o ≡ none) × (f ≡ true)
+  unfound (some v) f e g h = absurd (omega (arith, find-issued p (z .places) v e, fits .variables))
+  unfound none true e g h = (refl, refl)
+  unfound none false e g h = absurd (omega (arith, leb-false (lim .variables) (issued z) g))
+
+  pub unplaced : lim .variables ≤ nextOf z p → (find p (z .places) ≡ none) × (full lim z ≡ true)
+  unplaced h = unfound (find p (z .places)) (full lim z) refl refl h
+
+-- order 0
+module _ (lim : Limits) (z : Session) (site slot : ℕ) where
+  variable-go : (o : Option ℕ) (f : Bool) → full lim z ≡ f → found (issued z) o < lim .variables
+      → answerOf (variableAt lim z (at site slot) o f .reply) ≡ outcome (bytes (var (found (issued z) o)))
+  unfolding answerOf variableAt
+  variable-go (some v) f g h = refl
+  variable-go none true g h = absurd (omega (arith, leb-true (lim .variables) (issued z) g))
+  variable-go none false g h = refl
+
+  pub variable-answer : nextOf z (at site slot) < lim .variables → solve lim z (orders.variable site slot) .answer ≡ outcome (bytes (var (nextOf z (at site slot))))
+  unfolding order
+  variable-answer h = variable-go (find (at site slot) (z .places)) (full lim z) refl h
+
+  pub variable-full : Fits lim z → lim .variables ≤ nextOf z (at site slot) → order lim loose z (orders.variable site slot) ≡ (z gives refused 8)
+  unfolding order variableAt
+  variable-full fits h = let u = unplaced lim z (at site slot) fits h in rw (u .0, u .1) refl
+
+-- order 1
+module _ (lim : Limits) (z : Session) (site : ℕ) (r : Request) where
+  number-go : (o : Option ℕ) (f : Bool) → full lim z ≡ f → found (issued z) o < lim .variables
+      → answerOf (numberAt lim z (at site 1) r o f .reply) ≡ outcome (bytes (resolved (z .solver) (var (found (issued z) o))))
+  unfolding answerOf numberAt
+  number-go (some v) f g h = refl
+  number-go none true g h = absurd (omega (arith, leb-true (lim .variables) (issued z) g))
+  number-go none false g h = refl
+
+  pub number-answer : nextOf z (at site 1) < lim .variables
+      → solve lim z (orders.number site r) .answer ≡ outcome (bytes (resolved (z .solver) (var (nextOf z (at site 1)))))
+  unfolding order
+  number-answer h = number-go (find (at site 1) (z .places)) (full lim z) refl h
+
+  pub number-full : Fits lim z → lim .variables ≤ nextOf z (at site 1) → order lim loose z (orders.number site r) ≡ (z gives refused 8)
+  unfolding order numberAt
+  number-full fits h = let u = unplaced lim z (at site 1) fits h in rw (u .0, u .1) refl
+
+-- order 2
+module _ (lim : Limits) (z : Session) (site : ℕ) where
+  hole-go : (o : Option ℕ) (f : Bool) → full lim z ≡ f → found (issued z) o < lim .variables
+      → answerOf (holeAt lim z (gap site) o f .reply) ≡ outcome (bytes (resolved (z .solver) (var (found (issued z) o))))
+  unfolding answerOf holeAt
+  hole-go (some v) f g h = refl
+  hole-go none true g h = absurd (omega (arith, leb-true (lim .variables) (issued z) g))
+  hole-go none false g h = refl
+
+  pub hole-answer : nextOf z (gap site) < lim .variables → solve lim z (orders.hole site) .answer ≡ outcome (bytes (resolved (z .solver) (var (nextOf z (gap site)))))
+  unfolding order
+  hole-answer h = hole-go (find (gap site) (z .places)) (full lim z) refl h
+
+  pub hole-full : Fits lim z → lim .variables ≤ nextOf z (gap site) → order lim loose z (orders.hole site) ≡ (z gives refused 8)
+  unfolding order holeAt
+  hole-full fits h = let u = unplaced lim z (gap site) fits h in rw (u .0, u .1) refl
+
+-- refusal 8, whatever the order
+pub full-does : (x : Solver) (ks vs ts : List ℕ) (z : Session) → Lent x ks vs ts z → (c : orders.Command) → order (limitsOf x) loose z c ≡ (z gives refused 8)
+    → (out₀ : List ℕ) (to : ℕ) (out : List ℕ) (r : ℕ) → Framed (refusal 8) out₀ to out r → Does x x ks vs ts ts z (solve (limitsOf x) z c) out₀ to out r
+unfolding answerOf
+full-does x ks vs ts z L c e out₀ to out r f =
+    does-same L (solve (limitsOf x) z c) out₀ to out r (ap (λ (s : orders.Step). s .session) e)
+    (subst (λ a. Framed a out₀ to out r) (sym (ap (λ (s : orders.Step). answerOf (s .reply)) e)) f)
+
+-- ---- what a variable resolves to
+
+pub resolved-none : (n : ℕ) (b : ℕ → Option Term) (v : ℕ) → n ≡ 0 → resolve n b (var v) ≡ var v
+unfolding resolve
+resolved-none zero b v e = refl
+resolved-none (suc n) b v e = absurd (omega arith)
+
+pub resolved-free : (n : ℕ) (b : ℕ → Option Term) (v : ℕ) → b v ≡ none → resolve n b (var v) ≡ var v
+unfolding resolve solving.replace solving.followed
+resolved-free zero b v e = refl
+resolved-free (suc n) b v e = rw e refl
+
+pub resolved-bound : (n : ℕ) (b : ℕ → Option Term) (v : ℕ) (t : Term) → (n ≡ 0 → ⊥) → b v ≡ some t → resolve n b (var v) ≡ resolve (n - 1) b t
+unfolding resolve solving.replace solving.followed
+resolved-bound zero b v t h e = absurd (h refl)
+resolved-bound (suc n) b v t h e =
+    let p : n ≡ suc n - 1 = omega arith in
+    rw e (ap (λ (k : ℕ). resolve k b t) p)
+
+module _ (x : Solver) (ks vs ts : List ℕ) (z : Session) (L : Lent x ks vs ts z) (v : ℕ) (below : v < x .variables) where
+  word-of : HeldBinding ks vs (z .solver .bindings v) (getD ts v 0)
+  word-of = subst (λ (w : ℕ). HeldBinding ks vs (z .solver .bindings v) w) (getD-take (x .variables) ts v 0 below) (L .bindings v)
+
+  pub variable-none : x .revision ≡ 0 → resolved (z .solver) (var v) ≡ var v
+  variable-none e = resolved-none (z .solver .revision) (z .solver .bindings) v (sym (L .revision) ∙ e)
+
+  pub variable-free : (w : ℕ) → w ≡ getD ts v 0 → w ≡ 0 → resolved (z .solver) (var v) ≡ var v
+  variable-free w p e = resolved-free (z .solver .revision) (z .solver .bindings) v (go (z .solver .bindings v) word-of)
+    where
+      go : (o : Option Term) → HeldBinding ks vs o (getD ts v 0) → o ≡ none
+      go none h = refl
+      go (some t) h = absurd (omega (arith, h .1))
+
+  pub variable-bound : (w : ℕ) → w ≡ getD ts v 0 → (w ≡ 0 → ⊥) → (x .revision ≡ 0 → ⊥)
+      → (t : Term) × Held ks vs (w - 1) t × (resolved (z .solver) (var v) ≡ resolve (x .revision - 1) (z .solver .bindings) t)
+  variable-bound w p e f = go (z .solver .bindings v) refl word-of
+    where
+      go : (o : Option Term) → z .solver .bindings v ≡ o → HeldBinding ks vs o (getD ts v 0)
+          → (t : Term) × Held ks vs (w - 1) t × (resolved (z .solver) (var v) ≡ resolve (x .revision - 1) (z .solver .bindings) t)
+      go none q h = absurd (e (p ∙ h))
+      go (some t) q h =
+          let a : h .0 ≡ w - 1 = omega (arith, h .1) in
+          (t, subst (λ (i : ℕ). Held ks vs i t) a (h .2), ap (λ (n : ℕ). resolve n (z .solver .bindings) (var v)) (sym (L .revision)) ∙ resolved-bound (x .revision) (z .solver .bindings) v t f q)
+
+-- ---- answers that are terms
+
+pub framed-as : (t u : Term) → t ≡ u → (out₀ : List ℕ) (to : ℕ) (out : List ℕ) (r : ℕ) → Framed (outcome (bytes t)) out₀ to out r → Framed (outcome (bytes u)) out₀ to out r
+framed-as t u e out₀ to out r f = subst (λ (x : Term). Framed (outcome (bytes x)) out₀ to out r) e f
+
+-- a value longer than the output does not fit
+pub long-over : (v out₀ : List ℕ) (to : ℕ) → length out₀ < length v → Framed (outcome v) out₀ to out₀ (length out₀ + 1)
+long-over v out₀ to h =
+    frame-over (outcome v) (opening (length v) ++ v) (value-frame v) out₀ to out₀ (length out₀ + 1) (omega (arith, length-append (opening (length v)) v)) refl refl
+
+-- a variable: a byte and its number
+pub var-size : (n v : ℕ) → n ≡ length (shortest v) → n + 1 ≡ length (bytes (var v))
+unfolding bytes
+var-size n v e = omega (arith, e)
+
+pub var-stored : (o : List ℕ) (i v : ℕ) (out : List ℕ) → out ≡ sets (set o i 1) (i + 1) (shortest v) → out ≡ sets o i (bytes (var v))
+unfolding bytes
+var-stored o i v out e = e ∙ ap (λ (k : ℕ). sets (set o i 1) k (shortest v)) (add-one i)
+
+-- ---- frames
+
+pub zero-after : (n : ℕ) (st₀ st₁ st : List ℕ) → Zero st₀ → Apart n st₀ st₁ → Cleared (n + n) st₁ st → Zero st
+zero-after n st₀ st₁ st z a c j = go (leb (n + n) j) refl
+  where
+    go : (b : Bool) → leb (n + n) j ≡ b → getD st j 0 ≡ 0
+    go true e = let l = leb-true (n + n) j e in c .others j l ∙ a j l ∙ z j
+    go false e = c .zeros j (leb-false (n + n) j e)
+
+-- ---- bytes of the revision
+
+pub changed-same : (old new : ℕ) → new ≡ old → 0 ≡ bit (not (eqb new old))
+changed-same old new e = rw (eq-eqb new old e) refl
+
+pub changed-other : (old new : ℕ) → (new ≡ old → ⊥) → 1 ≡ bit (not (eqb new old))
+changed-other old new e = rw (ne-eqb new old e) refl
+
+-- ---- orders 0 to 2: id is the variable of the place, or the next one
+
+module _ (x : Solver) (ks vs ts : List ℕ) (z : Session) (L : Lent x ks vs ts z) (c : orders.Command) (p : Place) (w : ℕ → List ℕ)
+    (answers : nextOf z p < x .variables → solve (limitsOf x) z c .answer ≡ outcome (w (nextOf z p)))
+    (fullness : Fits (limitsOf x) z → x .variables ≤ nextOf z p → order (limitsOf x) loose z c ≡ (z gives refused 8))
+    (id : ℕ) (e : id ≡ found (x .issued) (find p (z .places))) (out₀ : List ℕ) (to : ℕ) (out : List ℕ) (r : ℕ) where
+  is-next : id ≡ nextOf z p
+  is-next = e ∙ ap (λ (n : ℕ). found n (find p (z .places))) (L .issued)
+
+  pub place-refused : x .variables ≤ id → Framed (refusal 8) out₀ to out r → Does x x ks vs ts ts z (solve (limitsOf x) z c) out₀ to out r
+  place-refused h f = full-does x ks vs ts z L c (fullness (L .fits) (omega (arith, is-next))) out₀ to out r f
+
+  says : id < x .variables → Framed (outcome (w id)) out₀ to out r → Framed (solve (limitsOf x) z c .answer) out₀ to out r
+  says h f = subst (λ (a : Answer). Framed a out₀ to out r) (ap (λ (n : ℕ). outcome (w n)) is-next ∙ sym (answers (omega (arith, is-next)))) f
+
+  pub place-over : id < x .variables → Framed (outcome (w id)) out₀ to out r → length out₀ < r → Does x x ks vs ts ts z (solve (limitsOf x) z c) out₀ to out r
+  place-over h f l = does-over L (solve (limitsOf x) z c) out₀ to out r (says h f) l
+
+  pub place-done : id < x .variables → Framed (outcome (w id)) out₀ to out r → r ≤ length out₀ → (y : Solver) (us : List ℕ)
+      → Lent y ks vs us (order (limitsOf x) loose z c .session) → Beside x y ts us → Does x y ks vs ts us z (solve (limitsOf x) z c) out₀ to out r
+  place-done h f l y us M B = does-whole L (solve (limitsOf x) z c) out₀ to y us out r (says h f) l M B
+
+-- ---- the command of a kind
+
+module _ (k a b : ℕ) where
+  pub plain-variable : k ≡ 0 → orders.variable a b ≡ plainCommand k a b
+  unfolding plainCommand
+  plain-variable e = rw e refl
+
+  pub plain-number : k ≡ 1 → orders.number a (requested b) ≡ plainCommand k a b
+  unfolding plainCommand
+  plain-number e = rw e refl
+
+  pub plain-hole : k ≡ 2 → orders.hole a ≡ plainCommand k a b
+  unfolding plainCommand
+  plain-hole e = rw e refl
+
+  pub plain-numbers : k ≡ 6 → orders.numbers ≡ plainCommand k a b
+  unfolding plainCommand
+  plain-numbers e = rw e refl
+
+  pub plain-nevers : k ≡ 7 → orders.nevers ≡ plainCommand k a b
+  unfolding plainCommand
+  plain-nevers e = rw e refl
+
+pub plain-revision : (k a b : ℕ) → (k ≡ 0 → ⊥) → (k ≡ 1 → ⊥) → (k ≡ 2 → ⊥) → (k ≡ 6 → ⊥) → (k ≡ 7 → ⊥) → orders.revision ≡ plainCommand k a b
+unfolding plainCommand
+plain-revision zero a b p q r s t = absurd (p refl)
+plain-revision (suc zero) a b p q r s t = absurd (q refl)
+plain-revision (suc (suc zero)) a b p q r s t = absurd (r refl)
+plain-revision (suc (suc (suc zero))) a b p q r s t = refl
+plain-revision (suc (suc (suc (suc zero)))) a b p q r s t = refl
+plain-revision (suc (suc (suc (suc (suc zero))))) a b p q r s t = refl
+plain-revision (suc (suc (suc (suc (suc (suc zero)))))) a b p q r s t = absurd (s refl)
+plain-revision (suc (suc (suc (suc (suc (suc (suc zero))))))) a b p q r s t = absurd (t refl)
+plain-revision (suc (suc (suc (suc (suc (suc (suc (suc k)))))))) a b p q r s t = refl
+
+-- a command under another name
+pub does-as : (x y : Solver) (ks vs ts us : List ℕ) (z : Session) (c d : orders.Command) → c ≡ d → (out₀ : List ℕ) (to : ℕ) (out : List ℕ) (r : ℕ)
+    → Does x y ks vs ts us z (solve (limitsOf x) z c) out₀ to out r → Does x y ks vs ts us z (solve (limitsOf x) z d) out₀ to out r
+does-as x y ks vs ts us z c d e out₀ to out r h = subst (λ (k : orders.Command). Does x y ks vs ts us z (solve (limitsOf x) z k) out₀ to out r) e h

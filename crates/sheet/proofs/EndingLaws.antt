@@ -1,0 +1,131 @@
+-- The end of a run, and when there is one. Assumes nothing.
+use mathlib.Core.Path.{_≡_, refl, sym, ap, _∙_}
+use mathlib.Core.Bool.{Bool, true, false, _&&_}
+use mathlib.Core.List.{List, _++_}
+use Prim.Native.Nat.{ℕ, _≤_}
+use native.Mathlib.Omega.{arith}
+use borrow.Author.Tests.{leb-true}
+use lib.ListN.{length, take, drop, replicate, length-append}
+use lib.Seq.{length-front, length-take-le}
+use Rattle.terms.specs.Result.{pick}
+use Rattle.solver.specs.declared.Solver.{Solver}
+use Rattle.solver.specs.Session.{Limits}
+use Rattle.sheet.specs.Sheet.{runOf}
+use Rattle.sheet.specs.Lays.{Roomy}
+use Rattle.sheet.specs.Ending.{counters, Ended, Finish, finished, suits, leaving, finishOf}
+
+-- ---- sizes
+
+-- areas of as many words do for the same limits
+pub roomy-same : (x y : Solver) (half : ℕ) (a b c d a′ b′ c′ d′ : List ℕ) → y .variables ≡ x .variables → y .nodes ≡ x .nodes
+    → length a′ ≡ length a → length b′ ≡ length b → length c′ ≡ length c → length d′ ≡ length d
+    → Roomy x half (length a) a b c d → Roomy y half (length a′) a′ b′ c′ d′
+roomy-same x y half a b c d a′ b′ c′ d′ v k la lb lc ld R =
+    record {
+      a-size = refl;
+      b-size = lb ∙ R .b-size ∙ sym la;
+      c-size = lc ∙ R .c-size ∙ sym la;
+      d-size = ld ∙ R .d-size ∙ sym la;
+      tokens = rw (k, la) (R .tokens);
+      few = rw la (R .few);
+      records = R .records;
+      table = rw (v, k, la) (R .table);
+      links = rw (k, la) (R .links);
+      marks = rw (v, la) (R .marks);
+      rules = rw k (R .rules);
+    }
+
+-- 16,384 words do for 512 variables and 2,048 nodes
+pub roomy-box : (a b c d : List ℕ) → 16384 ≤ length a → 16384 ≤ length b → 16384 ≤ length c → 16384 ≤ length d
+    → Roomy (counters 512 2048) 8192 16384 (take 16384 a) (take 16384 b) (take 16384 c) (take 16384 d)
+roomy-box a b c d ha hb hc hd =
+    record {
+      a-size = length-take-le 16384 a ha;
+      b-size = length-take-le 16384 b hb;
+      c-size = length-take-le 16384 c hc;
+      d-size = length-take-le 16384 d hd;
+      tokens = omega arith;
+      few = omega arith;
+      records = omega arith;
+      table = omega arith;
+      links = omega arith;
+      marks = omega arith;
+      rules = omega arith;
+    }
+
+pub record Suited (words sheet out a b c d : ℕ) : Type 0 where
+  pub sheet-size : sheet ≤ 16777216
+  pub out-size : out ≤ 16777216
+  pub a-size : words ≤ a
+  pub b-size : words ≤ b
+  pub c-size : words ≤ c
+  pub d-size : words ≤ d
+
+both : (p q : Bool) → (p && q) ≡ true → (p ≡ true) × (q ≡ true)
+both true true e = (refl, refl)
+both true false e = (refl, e)
+both false q e = let z : _≡_ {A = ℕ} 0 1 = cc in absurd (omega arith)
+
+pub suited : (words sheet out a b c d : ℕ) → suits words sheet out a b c d ≡ true → Suited words sheet out a b c d
+unfolding suits
+suited words sheet out a b c d e =
+    let p₁ = both _ _ e in
+    let p₂ = both _ _ (p₁ .0) in
+    let p₃ = both _ _ (p₂ .0) in
+    let p₄ = both _ _ (p₃ .0) in
+    let p₅ = both _ _ (p₄ .0) in
+    record {
+      sheet-size = leb-true sheet 16777216 (p₅ .0);
+      out-size = leb-true out 16777216 (p₅ .1);
+      a-size = leb-true words a (p₄ .1);
+      b-size = leb-true words b (p₃ .1);
+      c-size = leb-true words c (p₂ .1);
+      d-size = leb-true words d (p₁ .1);
+    }
+
+-- ---- the end
+
+-- an area of which a front part was lent and came back, and which was cleared then
+pub front-cleared : (a part l : List ℕ) (n : ℕ) → length part ≡ length (take n a) → l ≡ replicate (length (part ++ drop n a)) 0 → l ≡ replicate (length a) 0
+front-cleared a part l n h e = e ∙ ap (λ (k : ℕ). replicate k 0) (length-front a part n h)
+
+pub ended-leaving : (lim : Limits) (half : ℕ) (s out₀ : List ℕ) (r n m : ℕ) (out a b c d a₀ b₀ c₀ d₀ a₁ b₁ c₁ d₁ : List ℕ)
+    → Ended lim half s out₀ r n m out a₁ b₁ c₁ d₁
+    → a ≡ replicate (length a₀) 0 → b ≡ replicate (length b₀) 0 → c ≡ replicate (length c₀) 0 → d ≡ replicate (length d₀) 0
+    → finished r n m out a b c d ≡ leaving (runOf lim s (length out₀)) out₀ a₀ b₀ c₀ d₀
+unfolding leaving
+ended-leaving lim half s out₀ r n m out a b c d a₀ b₀ c₀ d₀ a₁ b₁ c₁ d₁ E ea eb ec ed =
+    let er = E .reason in
+    let en = E .orders in
+    let em = E .bytes in
+    let eo = E .output in
+    rw (er, en, em, eo, ea, eb, ec, ed) refl
+
+pub finish-unfit : (lim : Limits) (words : ℕ) (s out a b c d : List ℕ) → suits words (length s) (length out) (length a) (length b) (length c) (length d) ≡ false
+    → finished 12 0 0 out a b c d ≡ finishOf lim words s out a b c d
+unfolding finishOf
+finish-unfit lim words s out a b c d e = rw e refl
+
+pub finish-run : (lim : Limits) (words : ℕ) (s out a b c d : List ℕ) (x : Finish)
+    → suits words (length s) (length out) (length a) (length b) (length c) (length d) ≡ true
+    → x ≡ leaving (runOf lim s (length out)) out a b c d → x ≡ finishOf lim words s out a b c d
+unfolding finishOf
+finish-run lim words s out a b c d x e p = rw e p
+
+-- what a caller may write out: the bytes of the answers lie within the output
+pub bytes-inside : (lim : Limits) (words : ℕ) (s out₀ a₀ b₀ c₀ d₀ : List ℕ) (r n m : ℕ) (out a b c d : List ℕ)
+    → finished r n m out a b c d ≡ finishOf lim words s out₀ a₀ b₀ c₀ d₀ → m ≤ length out
+unfolding finishOf leaving
+bytes-inside lim words s out₀ a₀ b₀ c₀ d₀ r n m out a b c d e = go (suits words (length s) (length out₀) (length a₀) (length b₀) (length c₀) (length d₀)) e
+  where
+    w : List ℕ
+    w = runOf lim s (length out₀) .answers
+
+    go : (t : Bool)
+        → finished r n m out a b c d ≡ pick t (leaving (runOf lim s (length out₀)) out₀ a₀ b₀ c₀ d₀) (finished 12 0 0 out₀ a₀ b₀ c₀ d₀)
+        → m ≤ length out
+    go true q =
+        let l : m ≡ length w = ap (λ (x : Finish). x .bytes) q in
+        let o : out ≡ w ++ drop (length w) out₀ = ap (λ (x : Finish). x .out) q in
+        omega (arith, l, ap length o, length-append w (drop (length w) out₀))
+    go false q = let l : m ≡ 0 = ap (λ (x : Finish). x .bytes) q in omega (arith, l)

@@ -1,0 +1,214 @@
+-- A session in the four areas: what the solver is lent of them, and an order answered there. Assumes nothing.
+use mathlib.Core.Path.{_≡_, refl, sym, ap, subst, _∙_}
+use mathlib.Core.Bool.{Bool, true, false, _&&_}
+use mathlib.Core.Option.{Option, none, some}
+use mathlib.Core.List.{List, _++_, append-nil}
+use Prim.Native.Nat.{ℕ, _+_, _-_, _*_, _≤_, _<_}
+use native.Mathlib.Omega.{arith}
+use lib.ListN.{length, take, drop, length-drop}
+use lib.Seq.{length-take-le, take-length, drop-length, drop-at}
+use borrow.Rule.Slice.PartMut.{postOf, putMid, post-is, take-put}
+use Rattle.terms.specs.Term.{Term, var, node, size}
+use Rattle.solver.specs.declared.Solver.{Solver}
+use Rattle.solver.specs.Shapes.{loose}
+use Rattle.solver.specs.Families.{Request}
+use Rattle.solver.specs.Solving.{resolved, constrain}
+use Rattle.solver.specs.Session.{Limits, Session, Place, at, gap, find, deferring}
+use Rattle.solver.specs.Orders as orders
+use Rattle.solver.specs.Orders.{order, variableAt, numberAt, holeAt, unless, known, crowded, full, posing, _gives_}
+use Rattle.solver.specs.Work.{Zero}
+use Rattle.solver.specs.Turning.{Scratch}
+use Rattle.solver.specs.Lent.{Arises, Lent, limitsOf}
+use Rattle.solver.specs.Methods.{Beside}
+use Rattle.sheet.specs.Sheet.{Step, solve, framed}
+use Rattle.sheet.specs.Lays.{Lays, Roomy, Answers}
+use Rattle.sheet.specs.Ending.{Ready}
+use Rattle.sheet.specs.Doing.{Does, Poses, PosesPair, DoesPair}
+use Rattle.sheet.proofs.DoingLaws.{lent-revision}
+
+-- ---- room
+
+module _ (x : Solver) (half : ℕ) (a b c d : List ℕ) (R : Ready x half a b c d) where
+  pub ready-half : half ≤ length c
+  ready-half = omega (arith, R .roomy .c-size, R .roomy .table)
+
+  pub ready-frames : x .revision + x .revision ≤ length d
+  ready-frames = omega (arith, R .roomy .d-size, R .roomy .marks, lent-revision _ _ _ _ _ (R .arises) (R .lays .lent))
+
+-- ---- what is kept stays kept
+
+variable-kept : (lim : Limits) (z : Session) (p : Place) (o : Option ℕ) (f : Bool) → z .kept ≤ variableAt lim z p o f .session .kept
+unfolding variableAt
+variable-kept lim z p (some v) f = omega arith
+variable-kept lim z p none true = omega arith
+variable-kept lim z p none false = omega arith
+
+number-kept : (lim : Limits) (z : Session) (p : Place) (r : Request) (o : Option ℕ) (f : Bool) → z .kept ≤ numberAt lim z p r o f .session .kept
+unfolding numberAt
+number-kept lim z p r (some v) f = omega arith
+number-kept lim z p r none true = omega arith
+number-kept lim z p r none false = omega arith
+
+hole-kept : (lim : Limits) (z : Session) (p : Place) (o : Option ℕ) (f : Bool) → z .kept ≤ holeAt lim z p o f .session .kept
+unfolding holeAt
+hole-kept lim z p (some v) f = omega arith
+hole-kept lim z p none true = omega arith
+hole-kept lim z p none false = omega arith
+
+unless-kept : (lim : Limits) (z : Session) (a b : Bool) (x : orders.Step) → z .kept ≤ x .session .kept → z .kept ≤ unless lim z a b x .session .kept
+unless-kept lim z true true x h = omega arith
+unless-kept lim z true false x h = h
+unless-kept lim z false b x h = omega arith
+
+defer-kept : (z : Session) (t : Term) → z .kept ≤ deferring z t .kept
+unfolding deferring
+defer-kept z (var v) = omega arith
+defer-kept z (node k ps) = omega arith
+
+pub solve-kept : (lim : Limits) (z : Session) (c : orders.Command) → z .kept ≤ solve lim z c .session .kept
+unfolding order
+solve-kept lim z (orders.variable site slot) = variable-kept lim z (at site slot) (find (at site slot) (z .places)) (full lim z)
+solve-kept lim z (orders.number site r) = number-kept lim z (at site 1) r (find (at site 1) (z .places)) (full lim z)
+solve-kept lim z (orders.hole site) = hole-kept lim z (gap site) (find (gap site) (z .places)) (full lim z)
+solve-kept lim z (orders.defer t) =
+    unless-kept lim z (known z t) (crowded lim z (size t)) (deferring z (resolved (z .solver) t) gives orders.nothing) (defer-kept z (resolved (z .solver) t))
+solve-kept lim z (orders.pair k t u) =
+    unless-kept lim z (known z t && known z u) (crowded lim z (size t + size u)) (posing lim loose z (size t + size u) (constrain loose k (z .solver) t u)) (omega arith)
+solve-kept lim z (orders.resolving t) =
+    unless-kept lim z (known z t) (crowded lim z (size t)) (z gives orders.term (resolved (z .solver) t)) (omega arith)
+solve-kept lim z orders.numbers = omega arith
+solve-kept lim z orders.nevers = omega arith
+solve-kept lim z orders.revision = omega arith
+solve-kept lim z (orders.unread r) = omega arith
+
+-- ---- a session laid out again
+
+-- the tokens are those that there were, and so is what stands behind the columns
+module _ {x : Solver} {half : ℕ} {a b c d : List ℕ} {z : Session} (Z : Lays x half a b c d z) where
+  pub lays-again : (y : Solver) (c′ d′ : List ℕ) (s : Session) → z .kept ≤ s .kept → Lent y (take (x .top) a) (take (x .top) b) (drop half c′) s
+      → Beside x y (drop half c) (drop half c′) → Zero (take half c′) → Zero d′ → Lays y half a b c′ d′ s
+  lays-again y c′ d′ s m L B f w =
+      record {
+        lent = subst (λ (n : ℕ). Lent y (take n a) (take n b) (drop half c′) s) (sym (B .top)) L;
+        kinds = subst (λ (n : ℕ). Zero (drop n a)) (sym (B .top)) (Z .kinds);
+        vals = subst (λ (n : ℕ). Zero (drop n b)) (sym (B .top)) (Z .vals);
+        front = f;
+        blank = subst (λ (m : ℕ). Zero (drop (7 * m) (drop half c′))) (sym (B .variables)) (subst (λ (l : List ℕ). Zero l) (sym (B .rest)) (Z .blank));
+        work = w;
+        few = omega (arith, Z .few, Z .lent .kept, L .kept, B .top);
+      }
+
+  -- AN ORDER DONE ON WHAT IS LENT IS ANSWERED IN THE AREAS
+  pub answers-does : (y : Solver) (c′ d′ : List ℕ) (st : Step) (out₀ : List ℕ) (to : ℕ) (out : List ℕ) (r : ℕ)
+      → Does x y (take (x .top) a) (take (x .top) b) (drop half c) (drop half c′) z st out₀ to out r → z .kept ≤ st .session .kept → Zero (take half c′) → Zero d′
+      → Answers y half a b c′ d′ out z st out₀ to r x
+  answers-does y c′ d′ st out₀ to out r D m f w =
+      record {
+        fits = λ k. (D .answer .fits k .0, D .answer .fits k .1, lays-again y c′ d′ (st .session) m (D .whole k) (D .beside) f w);
+        long = λ k. (D .answer .over k .0, D .answer .over k .1, lays-again y c′ d′ z (omega arith) (D .long k) (D .beside) f w);
+        variables = D .beside .variables;
+        nodes = D .beside .nodes;
+      }
+
+-- ---- order 4: its tokens stay where it is answered
+
+-- a and b are the areas with its tokens, which end before `top`; a₀ and b₀ those without
+module _ {x : Solver} {half : ℕ} {a₀ b₀ c d : List ℕ} {z : Session} (Z : Lays x half a₀ b₀ c d z) (a b : List ℕ) (top : ℕ)
+    (long-a : top ≤ length a) (rest-a : Zero (drop top a)) (rest-b : Zero (drop top b)) where
+  pub lays-pair : (y : Solver) (c′ d′ : List ℕ) (s : Session) → top ≤ 64 + 6 * s .kept → Lent y (take top a) (take top b) (drop half c′) s → y .variables ≡ x .variables
+      → Zero (drop (7 * x .variables) (drop half c′)) → Zero (take half c′) → Zero d′ → Lays y half a b c′ d′ s
+  lays-pair y c′ d′ s m L v k f w =
+      let e : top ≡ y .top = sym (L .top ∙ length-take-le top a long-a) in
+      record {
+        lent = subst (λ (n : ℕ). Lent y (take n a) (take n b) (drop half c′) s) e L;
+        kinds = subst (λ (n : ℕ). Zero (drop n a)) e rest-a;
+        vals = subst (λ (n : ℕ). Zero (drop n b)) e rest-b;
+        front = f;
+        blank = subst (λ (m : ℕ). Zero (drop (7 * m) (drop half c′))) (sym v) k;
+        work = w;
+        few = omega (arith, L .kept);
+      }
+
+  -- answered: the tokens stay
+  pub answers-pair : (y : Solver) (c′ d′ : List ℕ) (st : Step) (out₀ : List ℕ) (to : ℕ) (out : List ℕ) (r : ℕ)
+      → DoesPair x y (take top a) (take top b) (drop half c) (drop half c′) z st out₀ to out r → top ≤ 64 + 6 * st .session .kept → r ≤ length out₀ → Zero (take half c′) → Zero d′
+      → Answers y half a b c′ d′ out z st out₀ to r x
+  answers-pair y c′ d′ st out₀ to out r D m h f w =
+      record {
+        fits = λ k. (D .answer .fits k .0, D .answer .fits k .1, lays-pair y c′ d′ (st .session) m (D .whole k) (D .variables) (D .blank) f w);
+        long = λ k. absurd (omega (arith, D .answer .over k .0));
+        variables = D .variables;
+        nodes = D .nodes;
+      }
+
+  -- not answered: they have been cleared, and all is as it was
+  pub unanswered-pair : (y : Solver) (c′ d′ : List ℕ) (st : Step) (out₀ : List ℕ) (to : ℕ) (out : List ℕ) (r : ℕ)
+      → DoesPair x y (take top a) (take top b) (drop half c) (drop half c′) z st out₀ to out r → length out₀ < r → Zero (take half c′) → Zero d′
+      → Answers y half a₀ b₀ c′ d′ out z st out₀ to r x
+  unanswered-pair y c′ d′ st out₀ to out r D h f w =
+      record {
+        fits = λ k. absurd (omega (arith, D .answer .fits k .0));
+        long = λ k. (
+          D .answer .over k .0,
+          D .answer .over k .1,
+          subst (λ (v : Solver). Lays v half a₀ b₀ c′ d′ z) (sym (D .long k .0))
+              (record {
+                lent = subst (λ (l : List ℕ). Lent x (take (x .top) a₀) (take (x .top) b₀) l z) (sym (D .long k .1)) (Z .lent);
+                kinds = Z .kinds;
+                vals = Z .vals;
+                front = f;
+                blank = D .blank;
+                work = w;
+                few = Z .few;
+              }),
+        );
+        variables = D .variables;
+        nodes = D .nodes;
+      }
+
+-- ---- the table is the part of c from `half` on, lent and put back
+
+module _ (half : ℕ) (c : List ℕ) where
+  pub tail-all : take (length c - half) (drop half c) ≡ drop half c
+  tail-all = ap (λ (n : ℕ). take n (drop half c)) (sym (length-drop half c)) ∙ take-length (drop half c)
+
+  pub tail-back : (us : List ℕ) → half ≤ length c → drop half (putMid half (length c - half) c us) ≡ us
+  tail-back us h =
+      drop-at (take half c) (us ++ postOf half (length c - half) c) half (length-take-le half c h)
+      ∙ ap (λ (l : List ℕ). us ++ l) (post-is half (length c) c h ∙ drop-length c) ∙ append-nil us
+
+  pub zero-front : (us : List ℕ) → half ≤ length c → Zero (take half c) → Zero (take half (putMid half (length c - half) c us))
+  zero-front us h z = subst (λ (l : List ℕ). Zero l) (sym (take-put half (length c - half) c us h)) z
+
+  pub lent-tail : (x : Solver) (ks vs : List ℕ) (z : Session) → Lent x ks vs (drop half c) z → Lent x ks vs (take (length c - half) (drop half c)) z
+  lent-tail x ks vs z L = subst (λ (l : List ℕ). Lent x ks vs l z) (sym tail-all) L
+
+  pub poses-tail : (x : Solver) (ks vs : List ℕ) (z : Session) (t : Term) → Poses x ks vs (drop half c) z t → Poses x ks vs (take (length c - half) (drop half c)) z t
+  poses-tail x ks vs z t P = subst (λ (l : List ℕ). Poses x ks vs l z t) (sym tail-all) P
+
+  pub pair-tail : (x : Solver) (ks vs : List ℕ) (z : Session) (q : ℕ) (t u : Term) → PosesPair x ks vs (drop half c) z q t u
+      → PosesPair x ks vs (take (length c - half) (drop half c)) z q t u
+  pair-tail x ks vs z q t u P = subst (λ (l : List ℕ). PosesPair x ks vs l z q t u) (sym tail-all) P
+
+  pub scratch-tail : (x : Solver) (ks work : List ℕ) → Scratch x ks (drop half c) work → Scratch x ks (take (length c - half) (drop half c)) work
+  scratch-tail x ks work S = subst (λ (l : List ℕ). Scratch x ks l work) (sym tail-all) S
+
+  pub blank-tail : (m : ℕ) → Zero (drop m (drop half c)) → Zero (drop m (take (length c - half) (drop half c)))
+  blank-tail m z = subst (λ (l : List ℕ). Zero (drop m l)) (sym tail-all) z
+
+  module _ (x y : Solver) (ks vs : List ℕ) (z : Session) (st : Step) (out₀ : List ℕ) (to : ℕ) (out : List ℕ) (r : ℕ) where
+    -- read only
+    pub does-part : Does x y ks vs (take (length c - half) (drop half c)) (take (length c - half) (drop half c)) z st out₀ to out r
+        → Does x y ks vs (drop half c) (drop half c) z st out₀ to out r
+    does-part D = subst (λ (l : List ℕ). Does x y ks vs l l z st out₀ to out r) tail-all D
+
+    -- written
+    pub does-tail : (us : List ℕ) → half ≤ length c → Does x y ks vs (take (length c - half) (drop half c)) us z st out₀ to out r
+        → Does x y ks vs (drop half c) (drop half (putMid half (length c - half) c us)) z st out₀ to out r
+    does-tail us h D =
+        subst (λ (l : List ℕ). Does x y ks vs (drop half c) l z st out₀ to out r) (sym (tail-back us h)) (subst (λ (l : List ℕ). Does x y ks vs l us z st out₀ to out r) tail-all D)
+
+    pub pair-does-tail : (us : List ℕ) → half ≤ length c → DoesPair x y ks vs (take (length c - half) (drop half c)) us z st out₀ to out r
+        → DoesPair x y ks vs (drop half c) (drop half (putMid half (length c - half) c us)) z st out₀ to out r
+    pair-does-tail us h D =
+        subst (λ (l : List ℕ). DoesPair x y ks vs (drop half c) l z st out₀ to out r) (sym (tail-back us h)) (subst (λ (l : List ℕ). DoesPair x y ks vs l us z st out₀ to out r) tail-all D)

@@ -1,0 +1,223 @@
+-- One field: what is read and kept of it, and its spot. Assumes nothing.
+use mathlib.Core.Path.{_≡_, refl, sym, ap, _∙_}
+use mathlib.Core.List.{List}
+use Prim.Native.Nat.{ℕ, zero, suc, _+_, _-_, _^_, _≤_, _<_}
+use native.Mathlib.Omega.{arith}
+use borrow.Author.Tests.{ne-eqb}
+use lib.ListN.{length, getD}
+use Rattle.terms.specs.declared.Place.{Place}
+use Rattle.terms.specs.declared.Step.{Step}
+use Rattle.terms.specs.declared.Step.the-variants.{Next, Stopped}
+use Rattle.terms.specs.Parser.{Result, Parser, got, refused, bind, number}
+use Rattle.terms.specs.Tokens.{Area}
+use Rattle.terms.specs.Term.{Term, Parts, node, items, partItems, size, sizes}
+use Rattle.terms.specs.Tree.{row}
+use Rattle.terms.specs.Shape as shape
+use Rattle.terms.specs.Shape.{ceiling}
+use Rattle.terms.specs.Reading as reading
+use Rattle.terms.specs.Done.{Room, RoomAfter, answer, kept, contents}
+use Rattle.terms.specs.Questions.{Parameter}
+use Rattle.terms.specs.Substitution.{Entry, Receiver}
+use Rattle.terms.specs.Parameters.{parameters, past}
+use Rattle.terms.specs.Rows as rows
+use Rattle.terms.specs.Rows.{entryRow, receiverRow, argumentRow, answerOf, keptOf}
+use Rattle.terms.proofs.Bounds.{number-bounds}
+use Rattle.terms.proofs.FieldLaws.{code-end, code-listed, code-unlisted}
+use Rattle.sheet.specs.declared.FieldRead.the-variants.{Spotted, Unread}
+use Rattle.sheet.specs.declared.Spot.{Spot}
+use Rattle.sheet.specs.Fields as fields
+use Rattle.sheet.specs.Fields.{Field, value, tree, bare, entered, received, named, listed, levels, nodes}
+use Rattle.sheet.specs.Laid.{plainOf, partOf, fieldItems, Free, Ample, PartDone, spotOf, moved, FieldDone, ReadOnly, valueField, listField}
+use Rattle.sheet.proofs.StoredLaws.{stored-none, stored-kept}
+use Rattle.sheet.proofs.FieldLaws.{parts-of, same-value, parameters-found}
+
+pub room-of : (s : List ℕ) (p : Place) → Ample s p → Room s p
+room-of s p a = record { inside = a .inside; tokens = omega (arith, a .tokens); counts = omega (arith, a .counts) }
+
+pub space-of : (s : List ℕ) (p : Place) → Ample s p → p .top + 1 + (length s - p .at) < 2 ^ 32
+space-of s p a = omega (arith, a .tokens)
+
+-- ---- how many
+
+module _ (s : List ℕ) (t : Parser Term) where
+  entries-many : (k at : ℕ) (es : List Entry) (n : ℕ) → rows.entries s t k at ≡ got es n → length es ≡ k
+  unfolding rows.entries
+  entries-many zero at es n e = rw (← (same-value e))
+  entries-many (suc k) at es n e =
+      let v = parts-of (number s (ceiling shape.definition) at) _ es n e in
+      let w = parts-of (number s (ceiling shape.ordinary) (v .1)) _ es n (v .3) in
+      let u = parts-of (t (w .1)) _ es n (w .3) in
+      let r = parts-of (rows.entries s t k (u .1)) _ es n (u .3) in
+      rw (← (same-value (r .3))) (ap suc (entries-many k (u .1) (r .0) (r .1) (r .2)))
+
+  receivers-many : (k at : ℕ) (rs : List Receiver) (n : ℕ) → rows.receivers s t k at ≡ got rs n → length rs ≡ k
+  unfolding rows.receivers
+  receivers-many zero at rs n e = rw (← (same-value e))
+  receivers-many (suc k) at rs n e =
+      let v = parts-of (number s (ceiling shape.definition) at) _ rs n e in
+      let u = parts-of (t (v .1)) _ rs n (v .3) in
+      let r = parts-of (rows.receivers s t k (u .1)) _ rs n (u .3) in
+      rw (← (same-value (r .3))) (ap suc (receivers-many k (u .1) (r .0) (r .1) (r .2)))
+
+  arguments-many : (k at : ℕ) (ts : List Term) (n : ℕ) → rows.arguments s t k at ≡ got ts n → length ts ≡ k
+  unfolding rows.arguments
+  arguments-many zero at ts n e = rw (← (same-value e))
+  arguments-many (suc k) at ts n e =
+      let u = parts-of (t at) _ ts n e in
+      let r = parts-of (rows.arguments s t k (u .1)) _ ts n (u .3) in
+      rw (← (same-value (r .3))) (ap suc (arguments-many k (u .1) (r .0) (r .1) (r .2)))
+
+-- ---- tokens that are kept
+
+module _ (s ws : List ℕ) (issued : ℕ) (p : Place) (d e : Area) (f : Free (p .top) d) (n : ℕ) (r : Step) (room : RoomAfter s r) where
+  pub term-part : r ≡ answer p (reading.term s issued levels (p .at)) size → e ≡ kept s p (reading.term s issued levels (p .at)) size d
+      → PartDone s ws n (fields.field s issued fields.term (p .at)) p d e r
+  unfolding fields.field fieldItems nodes
+  term-part er ee = go (reading.term s issued levels (p .at)) er ee
+    where
+      go : (x : Result Term) → r ≡ answer p x size → e ≡ kept s p x size d → PartDone s ws n (bind x (λ t m. got (tree t) m)) p d e r
+      go (got t m) er ee = let q = rw er at room in rw er (tree t, refl, stored-kept p _ d f e (items t) (size t) refl refl refl ee, q .inside, refl)
+      go (refused c) er ee = rw er (refl, ee ∙ f _)
+
+  pub nominal-part : r ≡ answer p (reading.bare s issued levels (p .at)) contents → e ≡ kept s p (reading.bare s issued levels (p .at)) contents d
+      → PartDone s ws n (fields.field s issued fields.nominal (p .at)) p d e r
+  unfolding fields.field fields.nominalField fieldItems nodes reading.bare row
+  nominal-part er ee = go (reading.row s (reading.term s issued levels) (shape.nominal shape.done) (p .at)) er ee
+    where
+      go : (x : Result Parts) → r ≡ answer p (bind x (λ ps m. got (node 20 ps) m)) contents → e ≡ kept s p (bind x (λ ps m. got (node 20 ps) m)) contents d
+          → PartDone s ws n (bind (bind (bind x (λ ps m. got (node 20 ps) m)) (λ t m. got (row t) m)) (λ ps m. got (bare ps) m)) p d e r
+      go (got ps m) er ee = let q = rw er at room in rw er (bare ps, refl, stored-kept p _ d f e (items (node 20 ps)) (sizes ps) refl refl refl ee, q .inside, refl)
+      go (refused c) er ee = rw er (refl, ee ∙ f _)
+
+  pub entries-part : r ≡ answerOf entryRow p (rows.entries s (reading.term s issued levels) n (p .at)) → e ≡ keptOf entryRow s p (rows.entries s (reading.term s issued levels) n (p .at)) d
+      → PartDone s ws n (partOf s issued 6 n (p .at)) p d e r
+  unfolding partOf fieldItems nodes
+  entries-part er ee = go (rows.entries s (reading.term s issued levels) n (p .at)) (entries-many s (reading.term s issued levels) n (p .at)) er ee
+    where
+      go : (x : Result (List Entry)) → ((es : List Entry) (m : ℕ) → x ≡ got es m → length es ≡ n) → r ≡ answerOf entryRow p x → e ≡ keptOf entryRow s p x d
+          → PartDone s ws n (bind x (λ es m. got (entered es) m)) p d e r
+      go (got es m) c er ee =
+          let q = rw er at room in
+          rw er (entered es, refl, stored-kept p _ d f e (partItems (entryRow es)) (sizes (entryRow es)) refl refl refl ee, q .inside, (sym (c es m refl), refl, refl))
+      go (refused c) h er ee = rw er (refl, ee ∙ f _)
+
+  pub receivers-part : r ≡ answerOf receiverRow p (rows.receivers s (reading.term s issued levels) n (p .at)) → e ≡ keptOf receiverRow s p (rows.receivers s (reading.term s issued levels) n (p .at)) d
+      → PartDone s ws n (partOf s issued 7 n (p .at)) p d e r
+  unfolding partOf fieldItems nodes
+  receivers-part er ee = go (rows.receivers s (reading.term s issued levels) n (p .at)) (receivers-many s (reading.term s issued levels) n (p .at)) er ee
+    where
+      go : (x : Result (List Receiver)) → ((rs : List Receiver) (m : ℕ) → x ≡ got rs m → length rs ≡ n) → r ≡ answerOf receiverRow p x → e ≡ keptOf receiverRow s p x d
+          → PartDone s ws n (bind x (λ rs m. got (received rs) m)) p d e r
+      go (got rs m) c er ee =
+          let q = rw er at room in
+          rw er (received rs, refl, stored-kept p _ d f e (partItems (receiverRow rs)) (sizes (receiverRow rs)) refl refl refl ee, q .inside, (sym (c rs m refl), refl, refl))
+      go (refused c) h er ee = rw er (refl, ee ∙ f _)
+
+  pub arguments-part : r ≡ answerOf argumentRow p (rows.arguments s (reading.term s issued levels) n (p .at)) → e ≡ keptOf argumentRow s p (rows.arguments s (reading.term s issued levels) n (p .at)) d
+      → PartDone s ws n (bind (rows.arguments s (reading.term s issued levels) n (p .at)) (λ ts m. got (listed ts) m)) p d e r
+  unfolding fieldItems nodes
+  arguments-part er ee = go (rows.arguments s (reading.term s issued levels) n (p .at)) (arguments-many s (reading.term s issued levels) n (p .at)) er ee
+    where
+      go : (x : Result (List Term)) → ((ts : List Term) (m : ℕ) → x ≡ got ts m → length ts ≡ n) → r ≡ answerOf argumentRow p x → e ≡ keptOf argumentRow s p x d
+          → PartDone s ws n (bind x (λ ts m. got (listed ts) m)) p d e r
+      go (got ts m) c er ee =
+          let q = rw er at room in
+          rw er (listed ts, refl, stored-kept p _ d f e (partItems (argumentRow ts)) (sizes (argumentRow ts)) refl refl refl ee, q .inside, (sym (c ts m refl), refl, refl))
+      go (refused c) h er ee = rw er (refl, ee ∙ f _)
+
+-- ---- by their numbers
+
+pub part-else : (s : List ℕ) (issued k n : ℕ) → (k ≡ 4 → ⊥) → (k ≡ 5 → ⊥) → (k ≡ 6 → ⊥) → (k ≡ 7 → ⊥)
+    → (at : ℕ) → partOf s issued k n at ≡ bind (rows.arguments s (reading.term s issued levels) n at) (λ ts m. got (listed ts) m)
+unfolding partOf
+part-else s issued k n a b c d at = rw (ne-eqb k 4 a, ne-eqb k 5 b, ne-eqb k 6 c, ne-eqb k 7 d)
+
+-- ---- a spot for them
+
+-- a term or a nominal
+pub part-field : (s ws : List ℕ) (n : ℕ) (found : Result Field) (p : Place) (d e : Area) (r : Step) → PartDone s ws n found p d e r → FieldDone s ws found p d e (spotOf (p .top) n r)
+part-field s ws n found p d e (Next q) x = x
+part-field s ws n found p d e (Stopped c) x = x
+
+-- a list behind its count
+pub list-field : (s ws : List ℕ) (n at : ℕ) (found whole : Result Field) (p : Place) (d e : Area) (r : Step) → whole ≡ found → PartDone s ws n found (moved p at) d e r
+    → FieldDone s ws whole p d e (spotOf (p .top) n r)
+list-field s ws n at found whole p d e (Next q) h x =
+    let y = x .2 in
+    (x .0, h ∙ x .1, record { whole = y .whole; only = y .only; free = y .free; limit = y .limit; tokens = y .tokens; counts = y .counts }, x .3, x .4)
+list-field s ws n at found whole p d e (Stopped c) h x = (h ∙ x .0, x .1)
+
+-- ---- fields without tokens
+
+module _ (s : List ℕ) (p : Place) (inside : p .at ≤ length s) where
+  pub value-yes : (most v n : ℕ) (x : Spot) → got v n ≡ number s most (p .at) → x .value ≡ v → ReadOnly s (valueField s most (p .at)) p (Spotted x (moved p n))
+  unfolding fieldItems nodes
+  value-yes most v n x e h ws d f =
+      (value v, rw (← e), stored-none p (moved p n) d f refl refl refl, number-bounds most s (p .at) v n inside (sym e) .inside, h)
+
+  pub value-no : (most c : ℕ) → refused c ≡ number s most (p .at) → ReadOnly s (valueField s most (p .at)) p (Unread c)
+  value-no most c e ws d f = (rw (← e), refl)
+
+  pub code-none : length s ≤ p .at → ReadOnly s (fields.field s 0 fields.code (p .at)) p (Unread 1)
+  unfolding fields.field
+  code-none h ws d f = (rw (← (code-end s (p .at) 32 h)), refl)
+
+  pub code-no : p .at < length s → 32 ≤ getD s (p .at) 0 → ReadOnly s (fields.field s 0 fields.code (p .at)) p (Unread 2)
+  unfolding fields.field
+  code-no h k ws d f = (rw (← (code-unlisted s (p .at) 32 h k)), refl)
+
+  pub code-yes : p .at < length s → getD s (p .at) 0 < 32 → (x : Spot) → x .value ≡ getD s (p .at) 0 → ReadOnly s (fields.field s 0 fields.code (p .at)) p (Spotted x (moved p (p .at + 1)))
+  unfolding fields.field fieldItems nodes
+  code-yes h k x e ws d f =
+      (value (getD s (p .at) 0), rw (← (code-listed s (p .at) 32 h k)), stored-none p (moved p (p .at + 1)) d f refl refl refl, omega arith, e)
+
+  pub parameters-count : (c : ℕ) → refused c ≡ number s (ceiling shape.ordinary) (p .at) → ReadOnly s (fields.field s 0 fields.parameters (p .at)) p (Unread c)
+  unfolding fields.field
+  parameters-count c e ws d f = (rw (← e), refl)
+
+  module _ (n m : ℕ) (e : got n m ≡ number s (ceiling shape.ordinary) (p .at)) where
+    pub parameters-no : (c : ℕ) → refused c ≡ past n (parameters s n m) → ReadOnly s (fields.field s 0 fields.parameters (p .at)) p (Unread c)
+    unfolding fields.field
+    parameters-no c h ws d f = (rw (← e) (go (parameters s n m) h), refl)
+      where
+        go : (x : Result (List Parameter)) → refused c ≡ past n x → bind x (λ ps k. got (named ps) k) ≡ refused c
+        go (got ps k) h = absurd (let z : _≡_ {A = ℕ} 0 1 = cc in omega arith)
+        go (refused b) h = let z : b ≡ c = cc in rw z
+
+    pub parameters-yes : (count next : ℕ) (x : Spot) → got count next ≡ past n (parameters s n m) → x .value ≡ n → x .place ≡ m
+        → ReadOnly s (fields.field s 0 fields.parameters (p .at)) p (Spotted x (moved p next))
+    unfolding fields.field fieldItems nodes
+    parameters-yes count next x h ev ep ws d f = go (parameters s n m) refl h
+      where
+        go : (y : Result (List Parameter)) → parameters s n m ≡ y → got count next ≡ past n y → FieldDone s ws (fields.field s 0 fields.parameters (p .at)) p d d (Spotted x (moved p next))
+        go (got ps k) w h =
+            let z : k ≡ next = cc in
+            let found = parameters-found s n m ps k w in
+            let here : bind (parameters s n m) (λ ps j. got (named ps) j) ≡ got (named ps) next = rw w (rw z) in
+            let there : parameters s (x .value) (x .place) ≡ got ps k = rw (ev, ep) w in (
+              named ps,
+              rw (← e) here,
+              stored-none p (moved p next) d f refl refl refl,
+              omega (arith, found .2 (number-bounds (ceiling shape.ordinary) s (p .at) n m inside (sym e) .inside)),
+              (ev ∙ sym (found .0), (k, there)),
+            )
+        go (refused b) w h = absurd (let z : _≡_ {A = ℕ} 0 1 = cc in omega arith)
+
+-- ---- lists behind their counts
+
+pub ample-moved : (s : List ℕ) (p : Place) (n at : ℕ) → Ample s p → got n at ≡ number s (ceiling shape.ordinary) (p .at) → Ample s (moved p at)
+ample-moved s p n at a e =
+    let b = number-bounds (ceiling shape.ordinary) s (p .at) n at (a .inside) (sym e) in
+    record { inside = b .inside; tokens = omega (arith, a .tokens, b .after); counts = omega (arith, a .counts, b .after) }
+
+pub list-counted : (s : List ℕ) (issued k at n m : ℕ) → got n m ≡ number s (ceiling shape.ordinary) at → listField s issued k at ≡ partOf s issued k n m
+list-counted s issued k at n m e = rw (← e)
+
+pub list-refused : (s : List ℕ) (issued k at c : ℕ) → refused c ≡ number s (ceiling shape.ordinary) at → listField s issued k at ≡ refused c
+list-refused s issued k at c e = rw (← e)
+
+-- ---- sorts by their numbers
+
+pub plain-else : (k : ℕ) → (k ≡ 1 → ⊥) → (k ≡ 2 → ⊥) → (k ≡ 3 → ⊥) → (k ≡ 4 → ⊥) → (k ≡ 5 → ⊥) → (k ≡ 6 → ⊥) → (k ≡ 7 → ⊥) → (k ≡ 8 → ⊥) → plainOf k ≡ fields.arguments
+unfolding plainOf
+plain-else k a b c d e f g h = rw (ne-eqb k 1 a, ne-eqb k 2 b, ne-eqb k 3 c, ne-eqb k 4 d, ne-eqb k 5 e, ne-eqb k 6 f, ne-eqb k 7 g, ne-eqb k 8 h)

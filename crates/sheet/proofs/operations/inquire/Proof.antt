@@ -1,0 +1,110 @@
+-- `inquire`: by the kind. Assumes nothing.
+use mathlib.Core.Path.{ap, _∙_}
+use mathlib.Core.Bool.{Bool, not}
+use denote.Ref.{now}
+use Rattle.sheet.specs.Operations.{bit}
+use Rattle.sheet.proofs.AnswerLaws.{held-in, frame-as, one-byte, two-bytes}
+use Rattle.sheet.proofs.GivenLaws.{third, questions-asks, questions-replies, resolved-asks, resolved-replies, satisfied-asks, satisfied-replies}
+use borrow.Author.Needs.{needs}
+use Rattle.sheet.proofs.operations.inquire.Statement.{statement}
+use Rattle.sheet.proofs.operations.inquire.Tie as tie
+
+asked-requires : tie.Need-asked-requires
+asked-requires c κs =
+    let p = c .before .before .before .before .before .before .before .before .before .before .pre in
+    let a = c .before .before .before .before .before .before .before .before .before .before .args in
+    let y = p .1 .0 .1 in
+    let x = questions-asks _ _ _ _ (a .o) 15 18 (c .before .if1 .taken) y in
+    ((held-in _ _ _ _ (x .1), p .0 .pairs), p .1 .1)
+
+same-length : tie.Need-same-length
+same-length c = search needs
+
+returns : tie.Need-returns
+returns c =
+    λ ws.
+    let a = c .before .before .before .before .before .before .before .before .before .before .before .before .before .args in
+    questions-replies (now (a .kinds)) (now (a .vals)) (now (a .s)) ws (a .o) (c .before .before .before .before .if1 .taken) _ (λ t h f. c .before .before .asked .ensures t h f)
+
+ask-requires : tie.Need-ask-requires
+ask-requires c κs =
+    let p = c .before .before .before .before .before .before .before .before .before .before .before .pre in
+    let a = c .before .before .before .before .before .before .before .before .before .before .before .args in
+    let y = p .1 .0 .1 in
+    let x = resolved-asks _ _ _ _ (a .o) 15 18 (c .if2 .taken) y in
+    (held-in _ _ _ _ (x .3), p .0 .pairs)
+
+bit-requires : tie.Need-bit-requires
+bit-requires c κs = search needs
+
+told-requires : tie.Need-told-requires
+told-requires c κs = c .before .before .before .before .before .before .before .before .before .before .before .before .before .before .pre .1 .1
+
+same-length-2 : tie.Need-same-length-2
+same-length-2 c = search needs
+
+returns-2 : tie.Need-returns-2
+returns-2 c =
+    λ ws.
+    let a = c .before .before .before .before .before .before .before .before .before .before .before .before .before .before .before .before .before .args in
+    resolved-replies (now (a .kinds)) (now (a .vals)) (now (a .s)) ws (a .o) (c .before .before .before .before .before .before .if2 .taken) _ (λ ps t q h f. frame-as _ _ (one-byte _ _ (c .before .before .before .bit .ensures ∙ ap (λ (b : Bool). bit (not b)) (c .before .before .before .before .before .ask .ensures ps (q .0) (q .1) t h f))) _ _ _ _ (c .before .before .told .ensures))
+
+satisfies-requires : tie.Need-satisfies-requires
+satisfies-requires c κs =
+    let p = c .before .before .before .before .before .before .before .before .before .before .before .pre in
+    let a = c .before .before .before .before .before .before .before .before .before .before .before .args in
+    let y = p .1 .0 .1 in
+    let k = third 15 (a .o .kind) (y .from) (y .below) (c .before .before .if1 .left) (c .if2 .left) in
+    let x = satisfied-asks _ _ _ _ (a .o) 15 18 k y in
+    (held-in _ _ _ _ (x .3), held-in _ _ _ _ (x .4), p .0 .pairs)
+
+satisfies-for-requires : tie.Need-satisfies-for-requires
+satisfies-for-requires c κs =
+    let p = c .before .before .before .before .before .before .before .before .before .before .before .before .pre in
+    let a = c .before .before .before .before .before .before .before .before .before .before .before .before .args in
+    let y = p .1 .0 .1 in
+    let k = third 15 (a .o .kind) (y .from) (y .below) (c .before .before .before .if1 .left) (c .before .if2 .left) in
+    let x = satisfied-asks _ _ _ _ (a .o) 15 18 k y in
+    (held-in _ _ _ _ (x .3), held-in _ _ _ _ (x .4), held-in _ _ _ _ (x .5), p .0 .pairs)
+
+bit-requires-2 : tie.Need-bit-requires-2
+bit-requires-2 c κs = search needs
+
+bit-requires-3 : tie.Need-bit-requires-3
+bit-requires-3 c κs = search needs
+
+told-twice-requires : tie.Need-told-twice-requires
+told-twice-requires c κs = c .before .before .before .before .before .before .before .before .before .before .before .before .before .before .before .before .pre .1 .1
+
+same-length-3 : tie.Need-same-length-3
+same-length-3 c = search needs
+
+returns-3 : tie.Need-returns-3
+returns-3 c =
+    λ ws.
+    let p = c .before .before .before .before .before .before .before .before .before .before .before .before .before .before .before .before .before .before .before .pre in
+    let a = c .before .before .before .before .before .before .before .before .before .before .before .before .before .before .before .before .before .before .before .args in
+    let y = p .1 .0 .1 in
+    let k = third 15 (a .o .kind) (y .from) (y .below) (c .before .before .before .before .before .before .before .before .before .before .if1 .left) (c .before .before .before .before .before .before .before .before .if2 .left) in
+    satisfied-replies (now (a .kinds)) (now (a .vals)) (now (a .s)) ws (a .o) k _ (λ ps qs t h i j f g.
+    frame-as _ _ (two-bytes _ _ _ _ (c .before .before .before .before .bit2 .ensures ∙ ap bit (c .before .before .before .before .before .before .before .satisfies .ensures ps qs h i f g)) (c .before .before .before .bit3 .ensures ∙ ap bit (c .before .before .before .before .before .before .satisfies-for .ensures ps qs t h i j f g))) _ _ _ _ (c .before .before .told-twice .ensures))
+
+pub inquire-spec : {M : Type 1} → statement M
+inquire-spec =
+    tie.close
+    (tie.spec
+    asked-requires
+    same-length
+    returns
+    ask-requires
+    bit-requires
+    told-requires
+    same-length-2
+    returns-2
+    satisfies-requires
+    satisfies-for-requires
+    bit-requires-2
+    bit-requires-3
+    told-twice-requires
+    same-length-3
+    returns-3)

@@ -1,0 +1,94 @@
+-- `reduce`: by the kind. Assumes nothing.
+use mathlib.Core.Path.{sym}
+use native.Mathlib.Omega.{arith}
+use denote.Ref.{now}
+use lib.ListN.{length-take}
+use lib.Seq.{length-take-le}
+use Rattle.sheet.proofs.AnswerLaws.{held-in}
+use Rattle.sheet.proofs.GivenLaws.{other, associated-asks, associated-replies, rules-asks, rules-replies}
+use borrow.Author.Needs.{needs}
+use Rattle.sheet.proofs.operations.reduce.Statement.{statement}
+use Rattle.sheet.proofs.operations.reduce.Tie as tie
+
+associated-requires : tie.Need-associated-requires
+associated-requires c κs =
+    let p = c .before .before .before .before .before .before .before .before .before .before .before .before .before .before .pre in
+    let a = c .before .before .before .before .before .before .before .before .before .before .before .before .before .before .args in
+    let y = p .1 .0 .1 in
+    let x = associated-asks _ _ _ _ (a .o) 19 21 (c .before .before .before .if1 .taken) y .3 in
+    (p .0, ((held-in _ _ _ _ (x .term), held-in _ _ _ _ (x .interface), held-in _ _ _ _ (x .owns)), p .1 .1 .1))
+
+same-length : tie.Need-same-length
+same-length c = search needs
+
+same-length-2 : tie.Need-same-length-2
+same-length-2 c = search needs
+
+same-length-3 : tie.Need-same-length-3
+same-length-3 c = search needs
+
+returns : tie.Need-returns
+returns c =
+    let a = c .before .before .before .before .before .before .before .before .before .before .before .before .before .before .before .before .before .before .before .before .before .args in
+    let d = c .before .before .before .before .before .before .associated .ensures in
+    (d .0, λ s. associated-replies (now (a .kinds)) (now (a .vals)) s (now (a .rules)) (a .o) (c .before .before .before .before .before .before .before .before .before .before .if1 .taken) _ (λ t ps u x. d .1 t ps u x))
+
+mul-n : tie.Need-mul-n
+mul-n c =
+    let p = c .before .before .before .before .before .before .before .before .before .before .before .pre in
+    let a = c .before .before .before .before .before .before .before .before .before .before .before .args in
+    let y = p .1 .0 .1 in
+    let k = other 19 (a .o .kind) (y .from) (y .below) (c .if1 .left) in
+    omega (arith, rules-asks _ _ _ _ (a .o) 19 21 k y .3, p .1 .1 .0)
+
+slice-aggregate-normalised : tie.Need-slice-aggregate-normalised
+slice-aggregate-normalised c =
+    let p = c .before .before .before .before .before .before .before .before .before .before .before .before .before .before .pre in
+    let a = c .before .before .before .before .before .before .before .before .before .before .before .before .before .before .args in
+    let y = p .1 .0 .1 in
+    let k = other 19 (a .o .kind) (y .from) (y .below) (c .before .before .before .if1 .left) in
+    sym (length-take-le _ _ (rules-asks _ _ _ _ (a .o) 19 21 k y .3))
+
+normalised-requires : tie.Need-normalised-requires
+normalised-requires c κs =
+    let p = c .before .before .before .before .before .before .before .before .before .before .before .before .before .before .before .pre in
+    let a = c .before .before .before .before .before .before .before .before .before .before .before .before .before .before .before .args in
+    let y = p .1 .0 .1 in
+    let k = other 19 (a .o .kind) (y .from) (y .below) (c .before .before .before .before .if1 .left) in
+    let x = rules-asks _ _ _ _ (a .o) 19 21 k y .2 in
+    (p .0, (held-in _ _ _ _ (x .term), (simp length-take (omega (arith, p .1 .1 .0)), p .1 .1 .1)))
+
+same-length-4 : tie.Need-same-length-4
+same-length-4 c = search needs
+
+same-length-5 : tie.Need-same-length-5
+same-length-5 c = search needs
+
+same-length-6 : tie.Need-same-length-6
+same-length-6 c = search needs
+
+returns-2 : tie.Need-returns-2
+returns-2 c =
+    let p = c .before .before .before .before .before .before .before .before .before .before .before .before .before .before .before .before .before .before .before .before .before .before .pre in
+    let a = c .before .before .before .before .before .before .before .before .before .before .before .before .before .before .before .before .before .before .before .before .before .before .args in
+    let y = p .1 .0 .1 in
+    let k = other 19 (a .o .kind) (y .from) (y .below) (c .before .before .before .before .before .before .before .before .before .before .before .if1 .left) in
+    let d = c .before .before .before .before .before .before .normalised .ensures in
+    (d .0, λ s. rules-replies (now (a .kinds)) (now (a .vals)) s (now (a .rules)) (a .o) k _ (λ rs t x l. d .1 t rs x))
+
+pub reduce-spec : {M : Type 1} → statement M
+reduce-spec =
+    tie.close
+    (tie.spec
+    associated-requires
+    same-length
+    same-length-2
+    same-length-3
+    returns
+    mul-n
+    slice-aggregate-normalised
+    normalised-requires
+    same-length-4
+    same-length-5
+    same-length-6
+    returns-2)

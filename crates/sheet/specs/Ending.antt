@@ -1,0 +1,73 @@
+-- The session as a run begins it and as an order finds it; what a run hands back and leaves. Assumes nothing.
+use mathlib.Core.Bool.{Bool, _&&_}
+use mathlib.Core.List.{List, _++_}
+use mathlib.Core.Path.{_≡_}
+use Prim.Native.Nat.{ℕ, _+_}
+use lib.Dec.{leb}
+use lib.ListN.{length, take, drop, replicate}
+use Rattle.terms.specs.Result.{Result, got, refused, pick}
+use Rattle.solver.specs.declared.Solver.{Solver}
+use Rattle.solver.specs.Shapes.{loose}
+use Rattle.solver.specs.Session.{Limits, Session}
+use Rattle.solver.specs.Lent.{Arises, limitsOf}
+use Rattle.sheet.specs.declared.Frame.{Frame}
+use Rattle.sheet.specs.declared.Frame.the-variants.{Lies, Faulty}
+use Rattle.sheet.specs.Sheet.{Run, runOf}
+use Rattle.sheet.specs.Lays.{Lays, Roomy}
+
+-- where framing says that the next order lies, as that part of the sheet and the position after it; 10 where a length is faulty
+abbrev pub partOf : List ℕ → Frame → Result (List ℕ)
+partOf s (Lies from size) = got (take size (drop from s)) (from + size)
+partOf s Faulty = refused 10
+
+-- the counters of a fresh session: the 32 builtins take 64 tokens
+abbrev pub counters : ℕ → ℕ → Solver
+counters variables nodes = record { variables = variables; nodes = nodes; issued = 0; revision = 0; kept = 0; top = 64 }
+
+-- As an order finds the areas: they are large enough, and hold a session that some list of orders leaves.
+pub record Ready (x : Solver) (half : ℕ) (a b c d : List ℕ) : Type 0 where
+  pub roomy : Roomy x half (length a) a b c d
+  pub session : Session
+  pub arises : Arises (limitsOf x) loose session
+  pub lays : Lays x half a b c d session
+
+-- ---- the run
+
+-- A run of the sheet s ended: reason, orders and bytes are those of the definition, the output is its answers and then the old bytes, and the
+-- areas hold its session.
+pub record Ended (lim : Limits) (half : ℕ) (s out₀ : List ℕ) (r n m : ℕ) (out a b c d : List ℕ) : Type 0 where
+  pub reason : r ≡ runOf lim s (length out₀) .reason
+  pub orders : n ≡ runOf lim s (length out₀) .orders
+  pub bytes : m ≡ length (runOf lim s (length out₀) .answers)
+  pub output : out ≡ runOf lim s (length out₀) .answers ++ drop (length (runOf lim s (length out₀) .answers)) out₀
+  pub solver : Solver
+  pub lays : Lays solver half a b c d (runOf lim s (length out₀) .session)
+
+-- what a run hands back, and the end state of all that it was lent
+pub record Finish : Type 0 where
+  pub reason : ℕ
+  pub orders : ℕ
+  pub bytes : ℕ
+  pub out : List ℕ
+  pub a : List ℕ
+  pub b : List ℕ
+  pub c : List ℕ
+  pub d : List ℕ
+
+abbrev pub finished : (reason orders bytes : ℕ) (out a b c d : List ℕ) → Finish
+finished reason orders bytes out a b c d = record { reason = reason; orders = orders; bytes = bytes; out = out; a = a; b = b; c = c; d = d }
+
+-- "sheet or output over 16,777,216 bytes, or one of four work areas below 16,384 words": none of this
+unfoldable pub suits : (words sheet out a b c d : ℕ) → Bool
+suits words sheet out a b c d = leb sheet 16777216 && leb out 16777216 && leb words a && leb words b && leb words c && leb words d
+
+-- "Bytes past those written are untouched. Work areas end all zero"
+unfoldable pub leaving : Run → (out a b c d : List ℕ) → Finish
+leaving r out a b c d =
+    finished (r .reason) (r .orders) (length (r .answers)) (r .answers ++ drop (length (r .answers)) out)
+    (replicate (length a) 0) (replicate (length b) 0) (replicate (length c) 0) (replicate (length d) 0)
+
+-- THE END of a run. "12 is tested first": "nothing written, orders 0, bytes 0", and the areas stay as they were.
+unfoldable pub finishOf : Limits → ℕ → (s out a b c d : List ℕ) → Finish
+finishOf lim words s out a b c d =
+    pick (suits words (length s) (length out) (length a) (length b) (length c) (length d)) (leaving (runOf lim s (length out)) out a b c d) (finished 12 0 0 out a b c d)

@@ -1,0 +1,39 @@
+-- An order that was read: its fields are of the sorts that its kind asks, their terms are formed, and all of them are held. Assumes nothing.
+use mathlib.Core.Path.{_≡_}
+use mathlib.Core.List.{List, [], _∷_}
+use Prim.Native.Nat.{ℕ}
+use Rattle.terms.specs.Term.{Term, Parts}
+use Rattle.terms.specs.Questions.{Parameter}
+use Rattle.terms.specs.Substitution.{Entry, Receiver}
+use Rattle.terms.specs.Lookup.{Pattern}
+use Rattle.sheet.specs.declared.Order.{Order}
+use Rattle.sheet.specs.Fields as fields
+use Rattle.sheet.specs.Fields.{Sort, Kind, Field, layout, value, tree, bare, entered, received, named, listed, ruled}
+use Rattle.sheet.specs.Formed.{FormedFields}
+use Rattle.sheet.specs.Held.{HeldFields}
+
+-- a field is of a sort
+abbrev pub OfSort : Sort → Field → Type 0
+OfSort fields.ordinary f = (n : ℕ) × (f ≡ value n)
+OfSort fields.code f = (n : ℕ) × (f ≡ value n)
+OfSort fields.term f = (t : Term) × (f ≡ tree t)
+OfSort fields.nominal f = (ps : Parts) × (f ≡ bare ps)
+OfSort fields.receiver f = (r : Receiver) × (f ≡ received (r ∷ []))
+OfSort fields.entries f = (es : List Entry) × (f ≡ entered es)
+OfSort fields.receivers f = (rs : List Receiver) × (f ≡ received rs)
+OfSort fields.parameters f = (ps : List Parameter) × (f ≡ named ps)
+OfSort fields.arguments f = (ts : List Term) × (f ≡ listed ts)
+OfSort fields.rules f = (rs : List Pattern) × (f ≡ ruled rs)
+
+-- each is of its sort
+unfoldable pub Fits : List Sort → List Field → Type 0
+Fits [] [] = Unit {0}
+Fits [] (f ∷ fs) = ⊥
+Fits (a ∷ l) [] = ⊥
+Fits (a ∷ l) (f ∷ fs) = OfSort a f × Fits l fs
+
+-- an order of a kind, whose variables are below `known`
+pub record Given (ks vs s ws : List ℕ) (known : ℕ) (k : Kind) (o : Order) (fs : List Field) : Type 0 where
+  pub held : HeldFields ks vs s ws o fs
+  pub formed : FormedFields known fs
+  pub fits : Fits (layout k) fs

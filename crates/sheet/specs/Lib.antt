@@ -1,0 +1,38 @@
+-- The sheet: what the bytes of an order say, what each order answers, and the run. Read in this order:
+--   Fields       the orders' fields, and reading them
+--   Operations   what orders 9 to 20 answer
+--   Sheet        an order on a session; the run of a sheet
+--   Formed       fields whose terms are formed
+--   Held         the fields of an order, held
+--   Laid         the fields' sorts, tokens and spots, and what the reading functions leave
+--   Ordered      an order read into the areas
+--   Lays         a session in the four areas, and an order answered there
+--   Given        an order that was read: held, formed, of the sorts of its kind
+--   Written      answers in the output
+--   Answering    what the functions that answer ask and promise
+--   Ending       the session as a run begins it and as an order finds it; what a run hands back and leaves
+--   Doing        orders 0 to 8 on what the solver is lent
+--   Taken        an order taken into the areas, and served there
+-- What is claimed of lists of orders, each given as its bytes:
+--   Demand3        demand 3
+--   Commands       what such a list says to the solver
+--   RobinsonBytes  the lists of plain first-order pairs
+--   RustBytes      the answers that are compared with the Rust's
+pub mod Fields
+pub mod Operations
+pub mod Sheet
+pub mod Formed
+pub mod Held
+pub mod Laid
+pub mod Ordered
+pub mod Lays
+pub mod Given
+pub mod Written
+pub mod Answering
+pub mod Ending
+pub mod Doing
+pub mod Taken
+pub mod Demand3
+pub mod Commands
+pub mod RobinsonBytes
+pub mod RustBytes

@@ -1,0 +1,26 @@
+-- The answers to orders 0 to 8 of a list, to be compared with the Rust's `Solver` byte by byte. Assumes nothing.
+use mathlib.Core.List.{List, [], _∷_, _++_}
+use mathlib.Core.Option.{Option, none, some}
+use Prim.Native.Nat.{ℕ}
+use Rattle.terms.specs.Result.{pick}
+use Rattle.solver.specs.Session.{Limits, Session}
+use Rattle.solver.specs.Orders.{Command, Reply}
+use Rattle.sheet.specs.Operations.{Answer}
+use Rattle.sheet.specs.Sheet.{answerOf, orderOf, framed}
+use Rattle.sheet.specs.Demand3.{accepted}
+use Rattle.sheet.specs.Commands.{command}
+
+-- what the Rust answers, in the sheet's format
+unfoldable pub frames : List Reply → List ℕ
+frames [] = []
+frames (r ∷ rs) = framed (answerOf r) ++ frames rs
+
+-- an answer to an order of kinds 0 to 8 that is no refusal: "The Rust is compared where no refusal arises"
+abbrev pub solvedOne : Option Command → Answer → List ℕ
+solvedOne none a = []
+solvedOne (some c) a = pick (accepted a) (framed a) []
+
+-- those of a list, one behind the other
+unfoldable pub solvedTo : Limits → Session → List (List ℕ) → List ℕ
+solvedTo lim s [] = []
+solvedTo lim s (b ∷ bs) = solvedOne (command s b) (orderOf lim s b .answer) ++ solvedTo lim (orderOf lim s b .session) bs

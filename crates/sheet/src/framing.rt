@@ -1,0 +1,119 @@
+// Answers in the output: a length, an outcome byte, and on 0 the value. An answer is written whole or not at all: where it does not fit, the
+// position that comes back is past the end.
+use terms::number_len;
+use terms::write_number;
+ghost use lib.ListN.{length};
+ghost use mathlib.Core.List.{[], _∷_};
+ghost use Rattle.terms.specs.Number.{shortest};
+ghost use Rattle.sheet.specs.Operations.{refusal, outcome};
+ghost use Rattle.sheet.specs.Written.{Room, Framed, Begun};
+
+// A refusal.
+pub fn refused(out: &mut [u8], to: usize, c: u8) -> usize
+    requires { ⌜ Room (now out) to ⌝ }
+    ensures { λ r. ⌜ Framed (refusal c) (now (out .entry)) to (now (out .exit)) r ⌝ }
+{
+    if out.len() - to < 2 {
+        return out.len() + 1;
+    }
+    out[to] = 1;
+    out[to + 1] = c;
+    to + 2
+}
+
+// Outcome 0 and a value of one byte.
+pub fn told(out: &mut [u8], to: usize, a: u8) -> usize
+    requires { ⌜ Room (now out) to ⌝ }
+    ensures { λ r. ⌜ Framed (outcome (a ∷ [])) (now (out .entry)) to (now (out .exit)) r ⌝ }
+{
+    if out.len() - to < 3 {
+        return out.len() + 1;
+    }
+    out[to] = 2;
+    out[to + 1] = 0;
+    out[to + 2] = a;
+    to + 3
+}
+
+// A value of two bytes.
+pub fn told_twice(out: &mut [u8], to: usize, a: u8, b: u8) -> usize
+    requires { ⌜ Room (now out) to ⌝ }
+    ensures { λ r. ⌜ Framed (outcome (a ∷ b ∷ [])) (now (out .entry)) to (now (out .exit)) r ⌝ }
+{
+    if out.len() - to < 4 {
+        return out.len() + 1;
+    }
+    out[to] = 3;
+    out[to + 1] = 0;
+    out[to + 2] = a;
+    out[to + 3] = b;
+    to + 4
+}
+
+// The seven bytes of order 15.
+pub fn told_seven(
+    out: &mut [u8],
+    to: usize,
+    a: u8,
+    b: u8,
+    c: u8,
+    d: u8,
+    e: u8,
+    f: u8,
+    g: u8,
+) -> usize
+    requires { ⌜ Room (now out) to ⌝ }
+    ensures { λ r. ⌜ Framed (outcome (a ∷ b ∷ c ∷ d ∷ e ∷ f ∷ g ∷ [])) (now (out .entry)) to (now (out .exit)) r ⌝ }
+{
+    if out.len() - to < 9 {
+        return out.len() + 1;
+    }
+    out[to] = 8;
+    out[to + 1] = 0;
+    out[to + 2] = a;
+    out[to + 3] = b;
+    out[to + 4] = c;
+    out[to + 5] = d;
+    out[to + 6] = e;
+    out[to + 7] = f;
+    out[to + 8] = g;
+    to + 9
+}
+
+// The length and outcome 0, where a value of so many bytes fits behind them: the position of the value.
+pub fn begin(out: &mut [u8], to: usize, size: usize) -> usize
+    requires { ⌜ Room (now out) to ⌝ }
+    ensures { λ r. ⌜ Begun size (now (out .entry)) to (now (out .exit)) r ⌝ }
+{
+    if out.len() - to < size {
+        return out.len() + 1;
+    }
+    let n = number_len(size as u64 + 1);
+    if out.len() - to < n + 1 + size {
+        return out.len() + 1;
+    }
+    let i = write_number(out, to, size as u64 + 1);
+    out[i] = 0;
+    i + 1
+}
+
+// Outcome 0 and no value.
+pub fn nothing(out: &mut [u8], to: usize) -> usize
+    requires { ⌜ Room (now out) to ⌝ }
+    ensures { λ r. ⌜ Framed (outcome []) (now (out .entry)) to (now (out .exit)) r ⌝ }
+{
+    begin(out, to, 0)
+}
+
+// A number as the value.
+pub fn count(out: &mut [u8], to: usize, n: u64) -> usize
+    requires { ⌜ Room (now out) to ⌝ }
+    ensures { λ r. ⌜ Framed (outcome (shortest n)) (now (out .entry)) to (now (out .exit)) r ⌝ }
+{
+    let size = number_len(n);
+    let at = begin(out, to, size);
+    if out.len() < at {
+        return at;
+    }
+    write_number(out, at, n)
+}

@@ -1,0 +1,76 @@
+// The sheet: orders read, answered and framed; the run, and the exported entry.
+mod fields;
+mod framing;
+mod lending;
+mod operations;
+mod posing;
+mod rules;
+mod running;
+mod scan;
+mod serving;
+mod solving;
+mod splitting;
+mod starting;
+mod tables;
+
+pub use running::run_sheet;
+pub use running::sheet_run;
+use solver::Solver;
+use terms::Place;
+
+// A field of an order: a number or count, the place of its first token (of parameters: their position in the bytes), and the token after
+// its last.
+pub struct Spot {
+    pub value: u64,
+    pub place: usize,
+    pub end: usize,
+}
+
+// An order that was read: its kind, at most five fields, the token after the last one, and the nodes kept with those of the order.
+pub struct Order {
+    pub kind: u8,
+    pub first: Spot,
+    pub second: Spot,
+    pub third: Spot,
+    pub fourth: Spot,
+    pub fifth: Spot,
+    pub top: usize,
+    pub nodes: usize,
+}
+
+// What reading an order finds, or the refusal.
+pub enum Reading {
+    Whole(Order),
+    Refused(u8),
+}
+
+// The counters after an order, and the position after its answer: past the end of the output where it does not fit.
+pub struct Reached {
+    pub solver: Solver,
+    pub next: usize,
+}
+
+// Where the next order lies, its first byte and its size, or that its length is faulty.
+pub enum Frame {
+    Lies(usize, usize),
+    Faulty,
+}
+
+// What a run returns: why it ended, how many orders it answered, and how many bytes it wrote.
+pub struct Report {
+    pub reason: u32,
+    pub orders: u64,
+    pub bytes: usize,
+}
+
+// A field that was read and the place after it, or the refusal.
+pub enum FieldRead {
+    Spotted(Spot, Place),
+    Unread(u8),
+}
+
+// Fields that were read and the place after them, or the refusal.
+pub enum FieldsRead {
+    Filled(Order, Place),
+    Unfilled(u8),
+}

@@ -1,0 +1,265 @@
+// An order answered on the session that the areas hold.
+use super::Order;
+use super::Reached;
+use super::Reading;
+use super::framing::refused;
+use super::lending::lend_defer;
+use super::lending::lend_pair;
+use super::lending::lend_plain;
+use super::lending::lend_resolve;
+use super::operations::operate;
+use super::scan::clear_order;
+use super::scan::read_order;
+use solver::Solver;
+ghost use mathlib.Core.Path.{_≡_};
+ghost use mathlib.Core.List.{List};
+ghost use Prim.Native.Nat.{ℕ, _*_, _≤_, _<_};
+ghost use lib.Dec.{eqb};
+ghost use lib.ListN.{length, getD};
+ghost use Rattle.solver.specs.Shapes.{loose};
+ghost use Rattle.solver.specs.Session.{Session};
+ghost use Rattle.solver.specs.Lent.{Arises, limitsOf};
+ghost use Rattle.sheet.specs.Lays.{Lays, Served};
+ghost use Rattle.sheet.specs.Ending.{Ready};
+ghost use Rattle.sheet.specs.Written.{Room};
+ghost use Rattle.sheet.specs.Taken.{Taken, Serves};
+
+// Orders 9 to 20: the session stays as it was.
+fn operate_order(
+    x: Solver,
+    half: usize,
+    s: &[u8],
+    a: &mut [u32],
+    b: &mut [u32],
+    c: &mut [u32],
+    d: &mut [u32],
+    rules: &[u32],
+    o: Order,
+    out: &mut [u8],
+    to: usize,
+) -> Reached
+    requires taken { ⌜ ((a₀ b₀ : List ℕ) × Taken x half (now s) a₀ b₀ (now a) (now b) (now c) (now d) (now rules) o) ⌝ }
+    requires kind { ⌜ 9 ≤ o .kind ⌝ }
+    requires words { ⌜ length (now rules) < 4294967296 ⌝ }
+    requires room { ⌜ Room (now out) to ⌝ }
+    ensures { λ r. ⌜ ((a₀ b₀ : List ℕ) → Taken x half (now (s .entry)) a₀ b₀ (now (a .entry)) (now (b .entry)) (now (c .entry)) (now (d .entry)) (now (rules .entry)) o → Serves x (r .solver) half (now (s .entry)) a₀ b₀ (now (c .entry)) (now (d .entry)) (now (a .exit)) (now (b .exit)) (now (c .exit)) (now (d .exit)) (now (out .entry)) to (now (out .exit)) (r .next)) ⌝ }
+{
+    let next = operate(s, a, b, &mut c[..half], d, rules, o, out, to);
+    clear_order(a, b, x.top, o);
+    Reached { solver: x, next }
+}
+
+// Order 3.
+fn defer_order(
+    x: Solver,
+    half: usize,
+    a: &mut [u32],
+    b: &mut [u32],
+    c: &mut [u32],
+    o: Order,
+    out: &mut [u8],
+    to: usize,
+) -> Reached
+    requires taken { ⌜ ((s a₀ b₀ d ws : List ℕ) × Taken x half s a₀ b₀ (now a) (now b) (now c) d ws o) ⌝ }
+    requires kind { ⌜ o .kind ≡ 3 ⌝ }
+    requires room { ⌜ Room (now out) to ⌝ }
+    ensures { λ r. ⌜ ((s a₀ b₀ d ws : List ℕ) → Taken x half s a₀ b₀ (now (a .entry)) (now (b .entry)) (now (c .entry)) d ws o → Serves x (r .solver) half s a₀ b₀ (now (c .entry)) d (now (a .exit)) (now (b .exit)) (now (c .exit)) d (now (out .entry)) to (now (out .exit)) (r .next)) ⌝ }
+{
+    let r = lend_defer(x, half, o.top, a, b, c, out, to);
+    clear_order(a, b, x.top, o);
+    r
+}
+
+// Order 5.
+fn resolve_order(
+    x: Solver,
+    half: usize,
+    a: &mut [u32],
+    b: &mut [u32],
+    c: &[u32],
+    d: &mut [u32],
+    o: Order,
+    out: &mut [u8],
+    to: usize,
+) -> Reached
+    requires taken { ⌜ ((s a₀ b₀ ws : List ℕ) × Taken x half s a₀ b₀ (now a) (now b) (now c) (now d) ws o) ⌝ }
+    requires kind { ⌜ o .kind ≡ 5 ⌝ }
+    requires room { ⌜ Room (now out) to ⌝ }
+    ensures { λ r. ⌜ ((s a₀ b₀ ws : List ℕ) → Taken x half s a₀ b₀ (now (a .entry)) (now (b .entry)) (now (c .entry)) (now (d .entry)) ws o → Serves x (r .solver) half s a₀ b₀ (now (c .entry)) (now (d .entry)) (now (a .exit)) (now (b .exit)) (now (c .entry)) (now (d .exit)) (now (out .entry)) to (now (out .exit)) (r .next)) ⌝ }
+{
+    let r = lend_resolve(x, half, o.top, a, b, c, d, out, to);
+    clear_order(a, b, x.top, o);
+    r
+}
+
+// Order 4: where it is answered, its tokens stay.
+fn pair_order(
+    x: Solver,
+    half: usize,
+    a: &mut [u32],
+    b: &mut [u32],
+    c: &mut [u32],
+    d: &mut [u32],
+    o: Order,
+    out: &mut [u8],
+    to: usize,
+) -> Reached
+    requires taken { ⌜ ((s a₀ b₀ ws : List ℕ) × Taken x half s a₀ b₀ (now a) (now b) (now c) (now d) ws o) ⌝ }
+    requires kind { ⌜ o .kind ≡ 4 ⌝ }
+    requires room { ⌜ Room (now out) to ⌝ }
+    ensures { λ r. ⌜ ((s a₀ b₀ ws : List ℕ) → Taken x half s a₀ b₀ (now (a .entry)) (now (b .entry)) (now (c .entry)) (now (d .entry)) ws o → Serves x (r .solver) half s a₀ b₀ (now (c .entry)) (now (d .entry)) (now (a .exit)) (now (b .exit)) (now (c .exit)) (now (d .exit)) (now (out .entry)) to (now (out .exit)) (r .next)) ⌝ }
+{
+    let k = o.first.value as u32;
+    let q = o.third.place;
+    let r = lend_pair(x, half, o.top, q, k, o.nodes, a, b, c, d, out, to);
+    if r.next <= out.len() {
+        return r;
+    }
+    clear_order(a, b, x.top, o);
+    r
+}
+
+// Orders 0, 1, 2, 6, 7 and 8, which have no tokens.
+fn plain_order(
+    x: Solver,
+    half: usize,
+    a: &[u32],
+    b: &[u32],
+    c: &mut [u32],
+    d: &mut [u32],
+    o: Order,
+    out: &mut [u8],
+    to: usize,
+) -> Reached
+    requires taken { ⌜ ((s a₀ b₀ ws : List ℕ) × Taken x half s a₀ b₀ (now a) (now b) (now c) (now d) ws o) ⌝ }
+    requires kind { ⌜ (o .kind < 9) × ((o .kind ≡ 3) → ⊥) × ((o .kind ≡ 4) → ⊥) × ((o .kind ≡ 5) → ⊥) ⌝ }
+    requires room { ⌜ Room (now out) to ⌝ }
+    ensures { λ r. ⌜ ((s a₀ b₀ ws : List ℕ) → Taken x half s a₀ b₀ (now (a .entry)) (now (b .entry)) (now (c .entry)) (now (d .entry)) ws o → Serves x (r .solver) half s a₀ b₀ (now (c .entry)) (now (d .entry)) (now (a .entry)) (now (b .entry)) (now (c .exit)) (now (d .exit)) (now (out .entry)) to (now (out .exit)) (r .next)) ⌝ }
+{
+    let first = o.first.value as u32;
+    let second = o.second.value as u32;
+    lend_plain(x, half, o.kind, first, second, a, b, c, d, out, to)
+}
+
+// An order that was read, by its kind.
+fn answer_order(
+    x: Solver,
+    half: usize,
+    s: &[u8],
+    a: &mut [u32],
+    b: &mut [u32],
+    c: &mut [u32],
+    d: &mut [u32],
+    rules: &[u32],
+    o: Order,
+    out: &mut [u8],
+    to: usize,
+) -> Reached
+    requires taken { ⌜ ((a₀ b₀ : List ℕ) × Taken x half (now s) a₀ b₀ (now a) (now b) (now c) (now d) (now rules) o) ⌝ }
+    requires words { ⌜ length (now rules) < 4294967296 ⌝ }
+    requires room { ⌜ Room (now out) to ⌝ }
+    ensures { λ r. ⌜ ((a₀ b₀ : List ℕ) → Taken x half (now (s .entry)) a₀ b₀ (now (a .entry)) (now (b .entry)) (now (c .entry)) (now (d .entry)) (now (rules .entry)) o → Serves x (r .solver) half (now (s .entry)) a₀ b₀ (now (c .entry)) (now (d .entry)) (now (a .exit)) (now (b .exit)) (now (c .exit)) (now (d .exit)) (now (out .entry)) to (now (out .exit)) (r .next)) ⌝ }
+{
+    let k = o.kind;
+    if 9 <= k {
+        return operate_order(x, half, s, a, b, c, d, rules, o, out, to);
+    }
+    if k == 3 {
+        return defer_order(x, half, a, b, c, o, out, to);
+    }
+    if k == 4 {
+        return pair_order(x, half, a, b, c, d, o, out, to);
+    }
+    if k == 5 {
+        return resolve_order(x, half, a, b, c, d, o, out, to);
+    }
+    plain_order(x, half, a, b, c, d, o, out, to)
+}
+
+// Reads an order, with words for its rules, and answers it.
+fn serve_with(
+    x: Solver,
+    half: usize,
+    s: &[u8],
+    a: &mut [u32],
+    b: &mut [u32],
+    c: &mut [u32],
+    d: &mut [u32],
+    rules: &mut [u32],
+    out: &mut [u8],
+    to: usize,
+) -> Reached
+    requires held { ⌜ Ready x half (now a) (now b) (now c) (now d) ⌝ }
+    requires words { ⌜ (getD (now s) 0 0 ≡ 20 → 6144 ≤ length (now rules)) × (length (now rules) < 4294967296) ⌝ }
+    requires room { ⌜ (length (now s) ≤ 16777216) × (to ≤ length (now out)) × (length (now out) ≤ 16777216) ⌝ }
+    ensures { λ r. ⌜ Serves x (r .solver) half (now (s .entry)) (now (a .entry)) (now (b .entry)) (now (c .entry)) (now (d .entry)) (now (a .exit)) (now (b .exit)) (now (c .exit)) (now (d .exit)) (now (out .entry)) to (now (out .exit)) (r .next) ⌝ }
+{
+    let r = read_order(s, a, b, rules, x.issued as u64, x.top, x.kept, x.nodes);
+    match r {
+        Reading::Whole(o) => {
+            if x.nodes < o.nodes {
+                clear_order(a, b, x.top, o);
+                let next = refused(out, to, 7);
+                return Reached { solver: x, next };
+            }
+            answer_order(x, half, s, a, b, c, d, rules, o, out, to)
+        }
+        Reading::Refused(code) => {
+            let next = refused(out, to, code);
+            Reached { solver: x, next }
+        }
+    }
+}
+
+// Whether an order may have rules.
+fn has_rules(s: &[u8]) -> bool
+    ensures { λ r. ⌜ r ≡ eqb (getD (now (s .entry)) 0 0) 20 ⌝ }
+{
+    if s.len() == 0 {
+        return false;
+    }
+    s[0] == 20
+}
+
+// An order that may have rules: six words for each, of at most 1,024.
+fn serve_rules(
+    x: Solver,
+    half: usize,
+    s: &[u8],
+    a: &mut [u32],
+    b: &mut [u32],
+    c: &mut [u32],
+    d: &mut [u32],
+    out: &mut [u8],
+    to: usize,
+) -> Reached
+    requires held { ⌜ Ready x half (now a) (now b) (now c) (now d) ⌝ }
+    requires room { ⌜ (length (now s) ≤ 16777216) × (to ≤ length (now out)) × (length (now out) ≤ 16777216) ⌝ }
+    ensures { λ r. ⌜ Serves x (r .solver) half (now (s .entry)) (now (a .entry)) (now (b .entry)) (now (c .entry)) (now (d .entry)) (now (a .exit)) (now (b .exit)) (now (c .exit)) (now (d .exit)) (now (out .entry)) to (now (out .exit)) (r .next) ⌝ }
+{
+    let mut rules = [0u32; 6144];
+    serve_with(x, half, s, a, b, c, d, &mut rules, out, to)
+}
+
+// Reads an order and answers it from `to` on: whole, with its effect on the session, or not at all.
+pub fn serve_order(
+    x: Solver,
+    half: usize,
+    s: &[u8],
+    a: &mut [u32],
+    b: &mut [u32],
+    c: &mut [u32],
+    d: &mut [u32],
+    out: &mut [u8],
+    to: usize,
+) -> Reached
+    requires held { ⌜ Ready x half (now a) (now b) (now c) (now d) ⌝ }
+    requires room { ⌜ (length (now s) ≤ 16777216) × (to ≤ length (now out)) × (length (now out) ≤ 16777216) ⌝ }
+    ensures { λ r. ⌜ ((z : Session) → Arises (limitsOf x) loose z → Lays x half (now (a .entry)) (now (b .entry)) (now (c .entry)) (now (d .entry)) z → Served (r .solver) half (now (a .exit)) (now (b .exit)) (now (c .exit)) (now (d .exit)) (now (out .exit)) z (now (s .entry)) (now (out .entry)) to (r .next) x) ⌝ }
+{
+    if has_rules(s) {
+        return serve_rules(x, half, s, a, b, c, d, out, to);
+    }
+    let mut none = [0u32; 1];
+    serve_with(x, half, s, a, b, c, d, &mut none, out, to)
+}

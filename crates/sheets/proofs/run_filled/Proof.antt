@@ -1,0 +1,72 @@
+-- `run_filled`: the answers lie within the output. Assumes nothing.
+use Prim.Native.Nat.{_≤_}
+use lib.ListN.{length}
+use Rattle.sheet.proofs.EndingLaws.{bytes-inside}
+use borrow.Author.Needs.{needs}
+use Rattle.sheets.proofs.run_filled.Statement.{statement}
+use Rattle.sheets.proofs.run_filled.Tie as tie
+
+-- the answers lie within the output
+inside : (c : tie.After-run-sheet) → c .run-sheet .result .bytes ≤ length (c .run-sheet .last .1 .0)
+inside c = bytes-inside _ _ _ _ _ _ _ _ _ _ _ _ _ _ _ _ (c .run-sheet .ensures)
+
+run-sheet-requires : tie.Need-run-sheet-requires
+run-sheet-requires c κs = search needs
+
+low-byte-requires : tie.Need-low-byte-requires
+low-byte-requires c κs = search needs
+
+all-bytes-requires : tie.Need-all-bytes-requires
+all-bytes-requires c κs = search needs
+
+left-in-requires : tie.Need-left-in-requires
+left-in-requires c κs = search needs
+
+all-areas-requires : tie.Need-all-areas-requires
+all-areas-requires c κs = search needs
+
+flag-requires : tie.Need-flag-requires
+flag-requires c κs = search needs
+
+tell-requires : tie.Need-tell-requires
+tell-requires c κs = c .before .before .before .before .before .before .before .before .before .before .before .before .before .before .before .before .before .before .before .before .before .before .before .before .before .before .before .before .before .before .before .before .before .before .pre
+
+same-length : tie.Need-same-length
+same-length c = search needs
+
+same-length-2 : tie.Need-same-length-2
+same-length-2 c = search needs
+
+same-length-3 : tie.Need-same-length-3
+same-length-3 c = search needs
+
+same-length-4 : tie.Need-same-length-4
+same-length-4 c = search needs
+
+same-length-5 : tie.Need-same-length-5
+same-length-5 c = search needs
+
+same-length-6 : tie.Need-same-length-6
+same-length-6 c = search needs
+
+returns : tie.Need-returns
+returns c = inside (c .before .before .before .before .before .before .before .before .before .before .before .before .before .before .before .before .before .before .before .before .before .before .before .before)
+
+pub run-filled-spec : {M : Type 1} → statement M
+run-filled-spec =
+    tie.close
+    (tie.spec
+    run-sheet-requires
+    low-byte-requires
+    all-bytes-requires
+    left-in-requires
+    all-areas-requires
+    flag-requires
+    tell-requires
+    same-length
+    same-length-2
+    same-length-3
+    same-length-4
+    same-length-5
+    same-length-6
+    returns)

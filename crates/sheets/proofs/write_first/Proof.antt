@@ -1,0 +1,19 @@
+-- `write_first`: the part lies within the bytes. Assumes nothing.
+use mathlib.Core.Path.{sym}
+use native.Mathlib.Omega.{arith}
+use lib.Seq.{length-take-le}
+use borrow.Author.Needs.{needs}
+use Rattle.sheets.proofs.write_first.Statement.{statement}
+use Rattle.sheets.proofs.write_first.Tie as tie
+
+slice-aggregate-write-all : tie.Need-slice-aggregate-write-all
+slice-aggregate-write-all c = sym (length-take-le _ _ (omega arith))
+
+write-all-requires : tie.Need-write-all-requires
+write-all-requires c κs = search needs
+
+returns : tie.Need-returns
+returns c = search needs
+
+pub write-first-spec : {M : Type 1} → statement M
+write-first-spec = tie.close (tie.spec slice-aggregate-write-all write-all-requires returns)

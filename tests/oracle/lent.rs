@@ -1,0 +1,139 @@
+//! What is lent to the static library, between guards, and the call of its entry.
+
+/// Items before and behind each slice that the library is not to touch.
+const GUARD: usize = 64;
+const GUARD_WORD: u32 = 0xc3a5_5a3c;
+const LEAST_WORDS: usize = 16384;
+/// What the two counts hold before a run.
+const UNSET: u64 = 0x7777_7777_7777_7777;
+
+unsafe extern "C" {
+    #[allow(clippy::too_many_arguments)]
+    fn sheet_run(
+        sheet: *const u8, sheet_len: usize, out: *mut u8, out_len: usize, a: *mut u32, a_len: usize, b: *mut u32, b_len: usize,
+        c: *mut u32, c_len: usize, d: *mut u32, d_len: usize, orders: *mut u64, bytes: *mut u64,
+    ) -> u32;
+}
+
+/// A slice between two guards.
+struct Lent<T> {
+    all: Vec<T>,
+    length: usize,
+    guard: T,
+}
+
+impl<T: Copy + PartialEq> Lent<T> {
+    fn new(guard: T) -> Self {
+        Self { all: Vec::new(), length: 0, guard }
+    }
+
+    /// So many items, all the same.
+    fn fill(&mut self, length: usize, item: T) {
+        self.length = length;
+        self.all.clear();
+        self.all.resize(GUARD, self.guard);
+        self.all.resize(GUARD + length, item);
+        self.all.resize(GUARD + length + GUARD, self.guard);
+    }
+
+    fn items(&self) -> &[T] {
+        &self.all[GUARD..GUARD + self.length]
+    }
+
+    fn items_mut(&mut self) -> &mut [T] {
+        &mut self.all[GUARD..GUARD + self.length]
+    }
+
+    fn guarded(&self) -> bool {
+        let same = |items: &[T]| items.iter().all(|item| *item == self.guard);
+        same(&self.all[..GUARD]) && same(&self.all[GUARD + self.length..])
+    }
+
+    /// Whether all items from a place on are the same.
+    fn is(&self, from: usize, item: T) -> bool {
+        self.items()[from..].iter().all(|other| *other == item)
+    }
+}
+
+/// How a sheet is run: room of the output, words of the areas, what all of them are filled with.
+#[derive(Clone, Copy)]
+pub struct Room {
+    pub bytes: usize,
+    pub words: [usize; 4],
+    pub fill: u32,
+}
+
+impl Room {
+    pub fn has_small_area(&self) -> bool {
+        self.words.iter().any(|words| *words < LEAST_WORDS)
+    }
+}
+
+/// What a run left, and what it touched that it should not.
+pub struct Found {
+    pub reason: u32,
+    pub orders: u64,
+    pub answers: Vec<u8>,
+    pub touched: Vec<&'static str>,
+}
+
+/// The library, with what is lent to it.
+pub struct Library {
+    sheet: Lent<u8>,
+    out: Lent<u8>,
+    areas: [Lent<u32>; 4],
+}
+
+impl Library {
+    pub fn new() -> Self {
+        let [guard, ..] = GUARD_WORD.to_le_bytes();
+        let area = || Lent::new(GUARD_WORD);
+        Self { sheet: Lent::new(guard), out: Lent::new(guard), areas: [area(), area(), area(), area()] }
+    }
+
+    pub fn run(&mut self, sheet: &[u8], room: Room) -> Found {
+        let [byte, ..] = room.fill.to_le_bytes();
+        self.sheet.fill(sheet.len(), 0);
+        self.sheet.items_mut().copy_from_slice(sheet);
+        self.out.fill(room.bytes, byte);
+        for (area, words) in self.areas.iter_mut().zip(room.words) {
+            area.fill(words, room.fill);
+        }
+        let (reason, orders, bytes) = self.call();
+        let within = bytes as usize <= room.bytes;
+        let answers = if within { self.out.items()[..bytes as usize].to_vec() } else { Vec::new() };
+        let mut touched = self.touched(sheet, room, reason, answers.len());
+        if !within {
+            touched.push("the count of bytes, which is more than the output has");
+        }
+        Found { reason, orders, answers, touched }
+    }
+
+    fn call(&mut self) -> (u32, u64, u64) {
+        let (mut orders, mut bytes) = (UNSET, UNSET);
+        let (sheet, out) = (self.sheet.items(), self.out.items_mut());
+        let [a, b, c, d] = self.areas.each_mut().map(Lent::items_mut);
+        // SAFETY: pointers and lengths are those of slices that are borrowed here, each apart from the others.
+        let reason = unsafe {
+            sheet_run(
+                sheet.as_ptr(), sheet.len(), out.as_mut_ptr(), out.len(), a.as_mut_ptr(), a.len(), b.as_mut_ptr(), b.len(),
+                c.as_mut_ptr(), c.len(), d.as_mut_ptr(), d.len(), &mut orders, &mut bytes,
+            )
+        };
+        (reason, orders, bytes)
+    }
+
+    /// Output past the answers is as it was; areas are 0, or under 12 as they were; nothing else changed.
+    fn touched(&self, sheet: &[u8], room: Room, reason: u32, bytes: usize) -> Vec<&'static str> {
+        let [byte, ..] = room.fill.to_le_bytes();
+        let word = if reason == 12 { room.fill } else { 0 };
+        let guarded = self.sheet.guarded() && self.out.guarded() && self.areas.iter().all(Lent::guarded);
+        let checks = [
+            (guarded, "a guard"),
+            (self.sheet.items() == sheet, "the sheet"),
+            (self.out.is(bytes, byte), "the output past the answers"),
+            (self.areas.iter().all(|area| area.is(0, word)), "an area, which is not left as promised"),
+        ];
+        checks.iter().filter(|(good, _)| !good).map(|(_, what)| *what).collect()
+    }
+}

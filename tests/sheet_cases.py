@@ -1,0 +1,978 @@
+#!/usr/bin/env python3
+"""Fixed sheets, with the outcome of every order stated by hand.
+
+  python3 tests/sheet_cases.py write DIR     write DIR/stdin and DIR/stdout, one sheet with all parts
+  python3 tests/sheet_cases.py sheets DIR    write every sheet as DIR/NAME.in, and its answers as DIR/NAME.out
+  python3 tests/sheet_cases.py frames DIR    write DIR/stdin and DIR/stdout for the program `sheets`: all runs, areas filled before
+  python3 tests/sheet_cases.py list          print every order with its answer
+  python3 tests/sheet_cases.py slips         show for each slip the first sheet that finds it
+
+Each part is a function that poses orders and states their answers. It makes
+a sheet of its own, and all parts but those that fill the session make one
+sheet together: every part takes variables and sites of its own. The script
+stops where the reference answers anything else. tests/sheet_compare.py runs
+all of them, and with --oracle compares them with the Rust.
+
+Bytes are hexadecimal. orders_cases.py has the functions that write terms.
+"""
+
+import os
+import sys
+from struct import pack
+
+import orders_cases
+import sheet_reference as reference
+from orders_cases import (
+    F32, F64, I8, I32, I64, MUT, NEVER, NONE, RO, RW, SHARED, E, U, arr, builtin, enum, fun, gen, host, inf, iter_, map_, native,
+    nom, num, params, proj, range_, ref, self_, seq, set_, struct, subst, trait, tup)
+from sheet_reference import Run, Sheet
+from terms_reference import Reader, framed
+
+MOST = 4294967295
+ROOM = Sheet.OUTPUT
+NO, YES, CANCELLED = "00", "01", "02"
+ANY = "any"     # outcome 0, with the value of the reference
+PARTS = []      # (name, function, whether it may stand with others)
+SHEETS = []     # (name, room, sheet, run)
+LARGE = ("exponential_large", "exponential_large_both", "doubled_500")
+RUNS = []       # (name, sheet, room, words, reason, orders, bytes)
+
+
+def part(alone=False):
+    def add(function):
+        PARTS.append((function.__name__, function, alone))
+        return function
+    return add
+
+
+class Script:
+    """Orders with their stated outcomes. Variables get sites that no other part uses."""
+
+    def __init__(self):
+        self.steps = []     # (comment, order, outcome)
+        self.count = 0
+        self.site = 1000
+        self.bound = 0
+        self.kept = 0
+        self.has_number = False     # whether a number variable is free
+
+    def order(self, comment, text, outcome):
+        """An outcome is a refusal, or the value that follows outcome 0."""
+        self.steps.append((comment, bytes.fromhex(text), outcome))
+
+    def new_site(self):
+        self.site += 1
+        return self.site
+
+    def var(self):
+        """A new variable."""
+        return self.variable_at(self.new_site(), 0)
+
+    def variable_at(self, site, slot):
+        self.count += 1
+        self.order("a variable", "00" + num(site) + num(slot), inf(self.count - 1))
+        return inf(self.count - 1)
+
+    def vars(self, how_many):
+        return [self.var() for _ in range(how_many)]
+
+    def number(self, fallback):
+        """A new number variable."""
+        self.count += 1
+        self.order("a number variable", "01" + num(self.new_site()) + "%02x" % fallback, inf(self.count - 1))
+        return inf(self.count - 1)
+
+    def hole(self):
+        self.count += 1
+        self.order("a hole", "02" + num(self.new_site()), inf(self.count - 1))
+        return inf(self.count - 1)
+
+    def pose(self, comment, left, right, answer=YES, bound=0, k=1000):
+        self.order(comment, "04" + num(k) + left + right, answer)
+        self.kept += nodes(left) + nodes(right)
+        self.bound += bound
+
+    def shows(self, comment, term, value):
+        self.order(comment, "05" + term, value)
+
+    def free(self, *variables):
+        for variable in variables:
+            self.shows("still free", variable, variable)
+
+    def revision(self, comment="the revision"):
+        self.order(comment, "08", num(self.bound))
+
+    def sheet(self):
+        return b"".join(framed(order) for _, order, _ in self.steps)
+
+    def stated(self):
+        """The answers, with the reference's where ANY is stated."""
+        session, out = Sheet(), b""
+        for comment, order, outcome in self.steps:
+            found = session.step(order, 1 << 24)
+            if outcome == ANY and outcome_of(found) == 0:
+                wanted = found
+            else:
+                wanted = framed(bytes([outcome]) if isinstance(outcome, int) else b"\x00" + bytes.fromhex(outcome))
+            if found != wanted:
+                sys.exit("%s\n  order     %s\n  stated    %s\n  reference %s"
+                         % (comment, order.hex(" ")[:300], wanted.hex(" ")[:300], found.hex(" ")[:300]))
+            out += found
+        return out
+
+
+def outcome_of(answer):
+    fields = Reader(answer)
+    fields.number()
+    return fields.byte()
+
+
+def nodes(text):
+    fields = reference.Fields(bytes.fromhex(text), 1 << 32)
+    fields.term(1)
+    return fields.nodes_read
+
+
+# ---------------------------------------------------------------- Document 01
+
+@part()
+def bar(s):
+    """The bar's session of document 01, byte for byte."""
+    first = len(s.steps)
+    x, y = s.variable_at(7, 0), s.variable_at(8, 0)
+    s.pose("Array(?0) meets Array(Tuple(?1, I32))", arr(x), arr(tup(y, I32)), YES, 1, 9)
+    s.pose("?1 meets Array(?0), which contains it", y, arr(x), NO, 0, 9)
+    s.shows("?0", x, tup(y, I32))
+    s.revision()
+    if first == 0:
+        given = bytes.fromhex("03 00 07 00 03 00 08 00 0c 04 09 09 01 00 09 05 02 01 01 04 02"
+                              "07 04 09 01 01 09 01 00 03 05 01 00 01 08")
+        wanted = bytes.fromhex("03 00 01 00 03 00 01 01 02 00 01 02 00 00 07 00 05 02 01 01 04 02 02 00 01")
+        if s.sheet() != given or s.stated() != wanted:
+            sys.exit("the bar's session is not that of document 01")
+
+
+@part()
+def marked_lines(s):
+    """The marked lines of document 01 that a sheet can show."""
+    s.order("7f is 127", "0b 10 7f 02", "10 7f")
+    s.order("80 01 is 128", "0b 10 80 01 02", "10 80 01")
+    s.order("80 00", "0b 10 80 00 02", 3)
+    s.order("the largest number", "0b 10 ff ff ff ff 0f 02", "10 ff ff ff ff 0f")
+    s.order("80 80 80 80 10", "0b 10 80 80 80 80 10 02", 3)
+    s.order("ReadOnly and Mutable Set of I32 conflict", "09" + set_(RO, I32) + set_(RW, I32), "01")
+    s.pose("yet constrain compatibly", set_(RO, I32), set_(RW, I32), YES)
+    s.order("Mutable weakens to ReadOnly", "0a" + set_(RW, I32) + set_(RO, I32), "01")
+    s.order("not back", "0a" + set_(RO, I32) + set_(RW, I32), "00")
+    s.order("a projection with receiver Unknown is unresolved, contains_unknown is 0", "0f" + proj(U, nom(0), 0),
+            "00 00 00 01 00 00 01")
+    for k, answer, bound in ((1, CANCELLED, 0), (2, YES, 1)):
+        x, y = s.vars(2)
+        s.pose("the session's first pair with k = %d" % k, arr(x), arr(tup(y, I32)), answer, bound, k)
+        s.shows("its variable", x, tup(y, I32) if bound else x)
+    s.revision()
+
+
+@part()
+def run_only(s):
+    """Levels, the depth of normalising, an empty order."""
+    x = s.var()
+    s.order("3: 200 levels", "03" + arr(x, 199), "")
+    s.order("3: 201 levels", "03" + arr(x, 200), 4)
+    s.shows("5: 200 levels", arr(x, 199), arr(x, 199))
+    s.order("5: 201 levels", "05" + arr(x, 200), 4)
+    s.pose("4: 200 levels", arr(x, 199), arr(I32, 199), YES, 1)
+    s.order("4: 201 levels on the right", "04 09" + I32 + arr(x, 200), 4)
+    s.shows("what that bound", x, I32)
+    s.order("15: 200 levels", "0f" + arr(U, 199), "00 00 00 01 01 00 00")
+    s.order("15: 201 levels", "0f" + arr(U, 200), 4)
+    s.order("201 levels: the level before an unlisted tag", "05" + "09" * 200 + "14", 4)
+    s.order("200 levels: an unlisted tag", "05" + "09" * 199 + "14", 2)
+    s.order("a projection under 63 Arrays keeps I32", "14 00" + arr(proj(I32, nom(0), 0), 63), arr(proj(I32, nom(0), 0), 63))
+    s.order("under 64 it gets Error there", "14 00" + arr(proj(I32, nom(0), 0), 64), arr(proj(E, nom(0), 0), 64))
+    s.order("the depth cuts every branch of a term with a projection", "14 00" + tup(arr(I32, 65), proj(I32, nom(0), 0)),
+            tup(arr(E, 64), proj(I32, nom(0), 0)))
+    s.order("an empty order", "", 1)
+    s.revision()
+
+
+@part(alone=True)
+def variables_512(s):
+    """512 variables of all three kinds, and no more."""
+    fill_variables(s)
+
+
+def fill_variables(s):
+    first, last_hole = None, None
+    while s.count < 512:
+        if s.count % 3 == 0:
+            first = first or s.site + 1
+            s.var()
+        elif s.count % 3 == 1:
+            last_hole = s.site + 1
+            s.hole()
+        else:
+            s.number(9)
+    site = num(s.new_site())
+    s.order("a 513th variable", "00" + site + "00", 8)
+    s.order("a 513th number variable", "01" + site + "02", 8)
+    s.order("a 513th hole", "02" + site, 8)
+    s.order("a place that is there", "00" + num(first) + "00", ANY)
+    s.order("a hole that is there", "02" + num(last_hole), ANY)
+    s.shows("variable 511", inf(511), inf(511))
+    s.order("variable 512", "05" + inf(512), 6)
+    s.order("leftover bytes before 8", "00" + site + "00 00", 1)
+
+
+@part(alone=True)
+def nodes_2048(s):
+    """2,048 kept nodes, and no more."""
+    x = s.var()
+    s.order("2,048 nodes in one order", "05" + tup(*[U] * 2047), tup(*[U] * 2047))
+    s.order("2,049 nodes in one order", "05" + tup(*[U] * 2048), 7)
+    s.order("an order 5 keeps none", "05" + tup(*[U] * 2047), tup(*[U] * 2047))
+    s.order("an order 3 keeps none", "03" + tup(*[U] * 2047), "")
+    fill_nodes(s, x)
+
+
+def fill_nodes(s, x):
+    s.pose("a compatible pair keeps its nodes", tup(*[U] * 99), U)
+    s.pose("an incompatible one too", tup(*[I32] * 99), arr(I32), NO)
+    s.pose("a cancelled one too", tup(*[U] * 99), U, CANCELLED, 0, 0)
+    s.order("a refused one none", "04 09" + tup(*[U] * 99) + inf(600), 6)
+    left = 2048 - s.kept
+    s.order("one node too many", "04 09" + tup(*[U] * (left - 1)) + U, 7)
+    s.pose("up to one less than 2,048", tup(*[U] * (left - 3)), U)
+    s.shows("one node fits", x, x)
+    s.order("two do not", "05" + arr(x), 7)
+    s.order("nor in a pair", "04 09" + x + U, 7)
+    s.order("nor in orders 9 to 20", "09" + U + U, 7)
+    s.order("one node in order 15", "0f" + U, "00 00 00 01 01 00 00")
+    s.order("two nodes in order 15", "0f" + arr(U), 7)
+    s.order("an unlisted tag before 7", "05" + tup(*["02"] * 5000) + "14", 1)
+    s.order("an id that is not issued before 7", "05" + arr(inf(600), 4), 6)
+    s.order("leftover bytes before 7", "05" + arr(x, 4) + "00", 1)
+    s.order("defaults count no node", "06", "01" if s.has_number else "00")
+    s.shows("one node fits as before", U, U)
+    s.order("a level before 7", "05" + arr(x, 200), 4)
+
+
+# ---------------------------------------------------------------- Unification, from outside
+
+def sym(declaration):
+    """A function symbol as a Struct."""
+    return lambda *arguments: struct(declaration, arguments)
+
+
+@part()
+def robinson_1965(s):
+    """J. A. Robinson, A Machine-Oriented Logic Based on the Resolution Principle, JACM 12 (1965): the two clauses
+    Q(x, g(x), y, h(x, y), z, k(x, y, z)) and not Q(u, v, e(v), w, f(v, w), x). Resolution takes the variables of the
+    clauses apart; taken as one x, there is a circle.
+    """
+    q, g, h, k, e, f = map(sym, range(1, 7))
+    x, y, z, u, v, w, other = s.vars(7)
+    s.pose("the clauses, taken apart", q(x, g(x), y, h(x, y), z, k(x, y, z)), q(u, v, e(v), w, f(v, w), other), YES, 6)
+    y1 = e(g(u))
+    w1 = h(u, y1)
+    z1 = f(g(u), w1)
+    for name, term, value in (("x", x, u), ("v", v, g(u)), ("y", y, y1), ("w", w, w1), ("z", z, z1),
+                              ("the other x", other, k(u, y1, z1))):
+        s.shows(name, term, value)
+    s.free(u)
+    x, y, z, u, v, w = s.vars(6)
+    s.pose("with the same x", q(x, g(x), y, h(x, y), z, k(x, y, z)), q(u, v, e(v), w, f(v, w), x), NO, 5)
+    s.shows("the other parts were met", z, f(g(u), h(u, e(g(u)))))
+    s.revision()
+
+
+@part()
+def martelli_montanari_1982(s):
+    """A. Martelli and U. Montanari, An Efficient Unification Algorithm, TOPLAS 4 (1982): the system
+    g(x2) = x1, f(x1, h(x1), x2) = f(g(x3), x4, x3), and f(x1, g(x2, x3), x2, b) = f(g(h(a, x5), x2), x1, h(a, x4), x4).
+    """
+    f, g, h = map(sym, range(11, 14))
+    x1, x2, x3, x4 = s.vars(4)
+    s.pose("the first equation", g(x2), x1, YES, 1)
+    s.pose("the second equation", f(x1, h(x1), x2), f(g(x3), x4, x3), YES, 2)
+    s.shows("x1", x1, g(x3))
+    s.shows("x2", x2, x3)
+    s.shows("x4", x4, h(g(x3)))
+    s.free(x3)
+    a, b = struct(14), struct(15)
+    x1, x2, x3, x4, x5 = s.vars(5)
+    s.pose("the example of the algorithm", f(x1, g(x2, x3), x2, b), f(g(h(a, x5), x2), x1, h(a, x4), x4), YES, 5)
+    for name, term, value in (("x1", x1, g(h(a, b), h(a, b))), ("x2", x2, h(a, b)), ("x3", x3, h(a, b)), ("x4", x4, b),
+                              ("x5", x5, b)):
+        s.shows(name, term, value)
+    s.revision()
+
+
+@part()
+def baader_snyder_2001(s):
+    """F. Baader and W. Snyder, Unification Theory, Handbook of Automated Reasoning, chapter 8 (2001): f(a, x) and
+    f(y, b); x and f(x); terms with different symbols.
+    """
+    f, g = map(sym, (21, 22))
+    a, b = struct(23), struct(24)
+    x, y = s.vars(2)
+    s.pose("f(a, x) = f(y, b)", f(a, x), f(y, b), YES, 2)
+    s.shows("x", x, b)
+    s.shows("y", y, a)
+    x, y = s.vars(2)
+    s.pose("x = f(x)", x, f(x), NO)
+    s.pose("f(x) = x", f(x), x, NO)
+    s.pose("x = y", x, y, YES, 1)
+    s.pose("x = f(y), a circle of two", x, f(y), NO)
+    s.free(y)
+    s.pose("f(y) = g(y)", f(y), g(y), NO)
+    s.pose("f(y) = f(y, y)", f(y), f(y, y), NO)
+    s.pose("a = b", a, b, NO)
+    s.free(y)
+    s.revision()
+
+
+def exponential(s, n):
+    """h(x1, ..., xn) = h(f(x0, x0), ..., f(xn-1, xn-1))."""
+    f, h = map(sym, (25, 26))
+    x = s.vars(n + 1)
+    s.pose("the exponential family, n = %d" % n, h(*x[1:]), h(*(f(t, t) for t in x[:-1])), YES, n)
+    values = [x[0]]
+    for _ in range(min(n, 10)):
+        values.append(f(values[-1], values[-1]))
+    return x, values
+
+
+def exponential_both(s, n):
+    """h(x1, ..., xn, f(y0, y0), ..., f(yn-1, yn-1), yn) = h(f(x0, x0), ..., f(xn-1, xn-1), y1, ..., yn, xn)."""
+    f, h = map(sym, (25, 27))
+    x, y = s.vars(n + 1), s.vars(n + 1)
+    s.pose("the exponential family on both sides, n = %d" % n, h(*x[1:], *(f(t, t) for t in y[:-1]), y[-1]),
+           h(*(f(t, t) for t in x[:-1]), *y[1:], x[-1]), YES, 2 * n + 1)
+    s.shows("y0", y[0], x[0])
+    s.shows("y1", y[1], f(x[0], x[0]))
+    return x, y
+
+
+@part()
+def exponential_small(s):
+    """Baader and Snyder, as above: the family with a most general unifier of exponential size."""
+    x, values = exponential(s, 5)
+    for index in range(6):
+        s.shows("x%d" % index, x[index], values[index])
+    x, y = exponential_both(s, 4)
+    s.shows("x4 and y4 are one", tup(x[4], y[4]), ANY)
+    s.pose("posed once more, x4 = y4", x[4], y[4], YES, 0, 1)
+    s.pose("a circle through all of it", x[0], y[4], NO)
+    s.revision()
+
+
+@part(alone=True)
+def exponential_large(s):
+    """The same with 250 variables: the answer to the last order would have some 2^250 bytes."""
+    x, values = exponential(s, 250)
+    s.shows("x8", x[8], values[8])
+    s.revision()
+    s.pose("a circle", x[0], x[250], NO)
+    s.pose("the same pair", x[250], x[250], YES)
+
+
+@part(alone=True)
+def exponential_large_both(s):
+    """The same on both sides, n = 100."""
+    x, y = exponential_both(s, 100)
+    s.revision()
+    s.pose("x100 = y100", x[100], y[100], YES, 0, 1)
+    s.pose("another circle", y[0], x[100], NO)
+    s.pose("x0 gets a value", y[0], I32, YES, 1)
+    s.shows("x1", x[1], struct(25, (I32, I32)))
+
+
+@part(alone=True)
+def doubled_500(s):
+    """x0 = (x1, x1), x1 = (x2, x2), ..., and the same with y; then x0 = y0."""
+    half = 250
+    x, y = s.vars(half), s.vars(half)
+    for row in (x, y):
+        for index in range(half - 1):
+            s.pose("one step", row[index], tup(row[index + 1], row[index + 1]), YES, 1)
+    s.pose("250 checks down to the ends, and 249 that find equal terms", x[0], y[0], YES, 1, 499)
+    s.pose("equal at once", x[0], y[0], YES, 0, 1)
+    s.revision()
+    s.shows("the ends", x[-1], y[-1])
+
+
+# ---------------------------------------------------------------- The solver, step by step
+
+@part()
+def shapes(s):
+    """Which terms meet, and which parts are met."""
+    x = s.var()
+    for name, left, right in (
+            ("Reference", ref(SHARED, I32), ref(MUT, I32)), ("Range", range_(0, I32), range_(1, I32)),
+            ("Tuple", tup(I32), tup(I32, I32)), ("Function", fun([I32], I32), fun([], I32)), ("Builtin", I32, I64),
+            ("declaration", struct(1), struct(2)), ("arguments", struct(1, [I32]), struct(1)),
+            ("members", struct(1, [], [(1, I32)]), struct(1, [], [(2, I32)])), ("Struct and Enum", struct(1), enum(1)),
+            ("NativeObject and Trait", native(1), trait(1)), ("Host", host(1), host(2)), ("Generic", gen(0, 0), gen(0, 1)),
+            ("SelfType", self_(0), self_(1)), ("Array and Iter", arr(I32), iter_(I32)),
+            ("Set and Map", set_(RO, I32), map_(RO, I32, I32)),
+            ("projections, receiver", proj(I32, nom(0), 0), proj(I64, nom(0), 0)),
+            ("projections, member", proj(I32, nom(0), 0), proj(I32, nom(0), 1)),
+            ("projections are not entered", proj(x, nom(0), 0), proj(I32, nom(0), 0)),
+            ("a projection and a type", proj(I32, nom(0), 0), I32)):
+        s.pose("%s: two that differ" % name, left, right, NO)
+        s.pose("%s: the same" % name, left, left, YES)
+    s.free(x)
+    for name, around in (
+            ("Reference", lambda t: ref(MUT, t)), ("Tuple", lambda t: tup(I8, t)), ("parameter", lambda t: fun([t], I8)),
+            ("result", lambda t: fun([I8], t)), ("Iter", iter_), ("Range", lambda t: range_(2, t)), ("Array", arr),
+            ("key", lambda t: map_(RO, t, I8)), ("value", lambda t: map_(RW, I8, t)), ("Set", lambda t: set_(RW, t)),
+            ("argument of a NativeObject", lambda t: native(1, [t])), ("member of a Struct", lambda t: struct(1, [I8], [(4, t)])),
+            ("argument of an Enum", lambda t: enum(1, [t, I8])), ("member of a Trait", lambda t: trait(1, [], [(1, I8), (2, t)]))):
+        v = s.var()
+        s.pose("%s: a variable inside" % name, around(v), around(I32), YES, 1)
+        s.shows("%s: what it got" % name, v, I32)
+        s.pose("%s: another type inside" % name, around(v), around(I64), NO)
+        w = s.var()
+        s.pose("%s: a circle" % name, w, around(w), NO)
+        s.pose("%s: Unknown inside" % name, w, around(U), YES)
+        s.pose("%s: Error inside, with the variable itself" % name, tup(w, E), w, YES)
+        s.free(w)
+    s.revision()
+
+
+@part()
+def projections(s):
+    """Projections as wholes: bound, compared, not entered; looked through for recovery and circles."""
+    for name, around in (
+            ("receiver", lambda t: proj(t, nom(0), 0)), ("argument", lambda t: proj(I8, nom(0), 0, t)),
+            ("interface argument", lambda t: proj(I8, nom(0, [t]), 0)),
+            ("interface member", lambda t: proj(I8, nom(0, [], [(3, t)]), 0))):
+        x, y, z = s.vars(3)
+        s.pose("%s: a variable gets the projection" % name, x, around(y), YES, 1)
+        s.pose("%s: not entered" % name, around(y), around(I32), NO)
+        s.pose("%s: nor behind a variable" % name, x, around(I32), NO)
+        s.free(y)
+        s.pose("%s: the variable inside" % name, y, I32, YES, 1)
+        s.pose("%s: equal after resolving" % name, x, around(I32), YES, 0, 1)
+        s.shows("%s: resolved" % name, x, around(I32))
+        s.pose("%s: Unknown inside is not frozen" % name, z, around(U), YES)
+        s.pose("%s: nor Error" % name, arr(around(E)), z, YES)
+        s.pose("%s: a circle" % name, around(z), z, NO)
+        s.pose("%s: Unknown beside it does not help" % name, around(U), around(I32), NO)
+        s.free(z)
+    s.pose("Unknown meets any", U, proj(I8, nom(0), 0), YES)
+    s.revision()
+
+
+@part()
+def recovery(s):
+    x, y = s.vars(2)
+    n = s.number(2)
+    for name, term in (("Unknown", U), ("Error", E)):
+        s.pose("%s and a variable" % name, term, x, YES)
+        s.pose("a variable and %s" % name, x, term, YES)
+        s.pose("%s and a type" % name, term, I32, YES)
+        s.pose("a type and %s" % name, arr(I32), term, YES)
+        s.pose("recovery before family: %s in a Tuple" % name, n, tup(I32, term), YES)
+        s.pose("recovery before the circle: %s" % name, x, tup(x, term), YES)
+        s.pose("%s is not frozen" % name, x, fun([term], I32), YES)
+    s.pose("Unknown and Error", U, E, YES)
+    s.free(x, y, n)
+    s.pose("beside Unknown a part is met", tup(x, U), tup(I32, y), YES, 1)
+    s.shows("it was bound", x, I32)
+    s.pose("Unknown behind a bound variable", y, arr(x), YES, 1)
+    s.pose("the pair itself may hold it", y, arr(U), YES)
+    s.revision()
+
+
+@part()
+def order_of_parts(s):
+    """Parts are met last to first; of a nominal the arguments from the last, then the members from the last."""
+    x = s.var()
+    s.pose("the last part of a Tuple first", tup(x, x), tup(I32, I64), NO, 1)
+    s.shows("Tuple", x, I64)
+    x = s.var()
+    s.pose("a result before parameters", fun([x], x), fun([I32], I64), NO, 1)
+    s.shows("Function", x, I64)
+    x = s.var()
+    s.pose("a value before its key", map_(RO, x, x), map_(RO, I32, I64), NO, 1)
+    s.shows("Map", x, I64)
+    x = s.var()
+    s.pose("arguments before members", struct(1, [x], [(1, x)]), struct(1, [I32], [(1, I64)]), NO, 1)
+    s.shows("Struct", x, I32)
+    x = s.var()
+    s.pose("the last argument first", struct(1, [x, x], [(1, x)]), struct(1, [I8, I32], [(1, I64)]), NO, 1)
+    s.shows("arguments", x, I32)
+    x = s.var()
+    s.pose("the last member first", trait(1, [], [(1, x), (2, x)]), trait(1, [], [(1, I32), (2, I64)]), NO, 1)
+    s.shows("members", x, I64)
+    x, y = s.vars(2)
+    s.pose("after a clash the rest is met", tup(x, I32, y), tup(I32, I64, I8), NO, 2)
+    s.shows("both", tup(x, y), tup(I32, I8))
+    x, y = s.vars(2)
+    s.pose("a part's parts before its neighbour", tup(x, arr(x)), tup(I32, arr(y)), YES, 2)
+    s.shows("x was bound to y first", y, I32)
+    s.shows("x", x, I32)
+    x, y = s.vars(2)
+    s.pose("of two variables the left is bound", x, y, YES, 1)
+    s.shows("x", x, y)
+    x, y = s.vars(2)
+    s.pose("also where its number is larger", y, x, YES, 1)
+    s.shows("y", y, x)
+    s.pose("a variable and itself", x, x, YES)
+    s.pose("and behind a chain", x, y, YES)
+    s.revision()
+
+
+@part()
+def checks(s):
+    """k checks pass, the next cancels; bindings before it stay."""
+    x, y, z = s.vars(3)
+    s.pose("k = 0", I32, I32, CANCELLED, 0, 0)
+    s.pose("k = 1, equal terms", tup(x, y), tup(x, y), YES, 0, 1)
+    s.pose("k = 1, a variable", x, I8, YES, 1, 1)
+    s.pose("k = 1, a Tuple", tup(y, z), tup(I32, I64), CANCELLED, 0, 1)
+    s.free(y, z)
+    s.pose("k = 2: one part is met", tup(y, z), tup(I32, I64), CANCELLED, 1, 2)
+    s.shows("it stays", tup(y, z), tup(y, I64))
+    s.pose("k = 3", tup(y, z), tup(I32, I64), YES, 1, 3)
+    x = s.var()
+    s.pose("cancelled outranks the incompatible part before", tup(x, I32), tup(I8, I64), CANCELLED, 0, 2)
+    s.pose("one check more", tup(x, I32), tup(I8, I64), NO, 1, 3)
+    s.pose("k = 1, a clash", I32, I64, NO, 0, 1)
+    s.pose("the largest k", I32, I32, YES, 0, MOST)
+    s.order("k too large", "04 80 80 80 80 10" + I32 + I32, 3)
+    s.order("refusal 6 also with k = 0", "04 00" + inf(600) + I32, 6)
+    a, b = set_(RO, I32), set_(RW, I32)
+    for step in range(3):
+        # A pair of Sets with different access takes two checks, and each Tuple of two such pairs one more than twice that.
+        need = 3 * 2 ** step - 1
+        s.pose("checks of doubled Sets, one too few", a, b, CANCELLED, 0, need - 1)
+        s.pose("checks of doubled Sets", a, b, YES, 0, need)
+        a, b = tup(a, a), tup(b, b)
+    s.revision()
+
+
+@part()
+def access(s):
+    """Set and Map access is not looked at, Reference access is; the first access stays."""
+    x, y = s.vars(2)
+    s.pose("x gets a ReadOnly Set", x, set_(RO, y), YES, 1)
+    s.pose("and meets a Mutable one", x, set_(RW, I32), YES, 1)
+    s.shows("the first access stays", x, set_(RO, I32))
+    s.pose("Maps", map_(RO, x, set_(RW, y)), map_(RW, x, set_(RO, I32)), YES)
+    s.pose("inside a Reference", ref(MUT, set_(RW, y)), ref(MUT, set_(RO, y)), YES)
+    s.pose("References", ref(MUT, x), ref(SHARED, x), NO)
+    s.pose("inside a projection it counts", proj(set_(RO, I32), nom(0), 0), proj(set_(RW, I32), nom(0), 0), NO)
+    s.pose("k: equal Sets take one check", tup(set_(RO, I32)), tup(set_(RO, I32)), YES, 0, 1)
+    s.pose("k: Sets that differ in access take more", tup(set_(RO, I32)), tup(set_(RW, I32)), CANCELLED, 0, 2)
+    s.revision()
+
+
+@part()
+def families(s):
+    for name, fallback, takes, takes_not in (
+            ("I32", 2, range(8), (8, 9, 10, 11, 31)), ("F64", 9, (8, 9), (0, 2, 7, 10, 11)),
+            ("F32, which counts as integer", 8, (0, 7), (8, 9)),
+            ("Never, which counts as integer", 10, (2,), (9, 10)), ("code 31", 31, (3,), (31, 9))):
+        for code in takes:
+            n = s.number(fallback)
+            s.pose("fallback %s takes code %d" % (name, code), n, builtin(code), YES, 1)
+        n = s.number(fallback)
+        for code in takes_not:
+            s.pose("fallback %s does not take code %d" % (name, code), builtin(code), n, NO)
+        s.pose("fallback %s takes no Tuple" % name, n, tup(), NO)
+        s.pose("fallback %s takes no Array" % name, arr(I32), n, NO)
+        s.free(n)
+    a, b, x, y = s.number(2), s.number(9), s.var(), s.var()
+    s.pose("two families do not meet", a, b, NO)
+    s.pose("nor the other way", b, a, NO)
+    s.pose("a number variable joins a free one", a, x, YES, 1)
+    s.pose("which is a number variable then", x, F64, NO)
+    s.pose("and does not meet the other family", x, b, NO)
+    s.pose("nor a Tuple", x, tup(I32), NO)
+    s.pose("a free variable joins a number variable", y, b, YES, 1)
+    s.pose("the family holds through the chain", y, I32, NO)
+    s.pose("F32 for a floating one", y, F32, YES, 1)
+    s.pose("I8 for an integer", a, I8, YES, 1)
+    s.shows("all", tup(a, b, x, y), tup(I8, F32, I8, F32))
+    s.pose("a circle with a number variable", s.number(2), I64, YES, 1)
+    s.revision()
+
+
+@part(alone=True)
+def numeric_defaults(s):
+    """Order 6 binds the end of each requested variable's chain, by rising id."""
+    s.order("nothing requested", "06", "00")
+    a, b, c, d = s.number(2), s.number(3), s.number(0), s.number(9)
+    x, y = s.vars(2)
+    s.pose("a joins b, whose fallback it overwrites", a, b, YES, 1)
+    s.pose("c joins b too", c, b, YES, 1)
+    s.pose("x is Array of d", x, arr(d), YES, 1)
+    s.order("defaults", "06", "01")
+    s.bound += 2
+    s.shows("a's own fallback comes first", tup(a, b, c), tup(I32, I32, I32))
+    s.shows("d", x, arr(F64))
+    s.free(y)
+    s.revision()
+    s.order("again", "06", "00")
+    s.revision()
+    site = s.new_site()
+    z = s.variable_at(site, 1)
+    s.pose("a place of slot 1 before its request", z, y, YES, 1)
+    s.order("the request of a bound variable answers its end", "01" + num(site) + "09", y)
+    s.order("defaults", "06", "01")
+    s.bound += 1
+    s.shows("the default went to the end of the chain", tup(z, y), tup(F64, F64))
+    other, end = s.variable_at(s.new_site(), 1), s.var()
+    s.pose("another such place", other, end, YES, 1)
+    s.order("its request", "01" + num(s.site - 1) + "02", end)
+    s.pose("the end is no number variable", end, tup(), YES, 1)
+    p, q = s.number(3), s.number(2)
+    s.pose("q joins p, whose fallback it overwrites", q, p, YES, 1)
+    s.order("defaults", "06", "01")
+    s.bound += 1
+    s.shows("q's fallback", tup(p, q), tup(I32, I32))
+    s.order("a request of a variable with a value", "01" + num(site) + "02", F64)
+    s.order("order 0 answers the variable itself", "00" + num(site) + "01", z)
+    n = s.number(2)
+    last = s.site
+    s.order("a repeated request overwrites", "01" + num(last) + "1f", n)
+    s.order("defaults", "06", "01")
+    s.bound += 1
+    s.shows("the last fallback", n, builtin(31))
+    w, v = s.number(2), s.number(3)
+    s.pose("v joins w", v, w, YES, 1)
+    s.order("w is requested again", "01" + num(s.site - 1) + "04", w)
+    s.order("defaults", "06", "01")
+    s.bound += 1
+    s.shows("the last request of the smaller id", v, builtin(4))
+    s.revision()
+
+
+@part(alone=True)
+def never_defaults(s):
+    """Order 7 binds what was deferred, number variables too."""
+    s.order("nothing deferred", "07", "00")
+    x, y, z, w = s.vars(4)
+    n = s.number(2)
+    s.order("defer x", "03" + x, "")
+    s.order("defer a Tuple: nothing", "03" + tup(z), "")
+    s.order("defer Unknown: nothing", "03" + U, "")
+    s.order("defer a number variable", "03" + n, "")
+    s.free(x, n)
+    s.pose("x joins y", x, y, YES, 1)
+    s.pose("w gets a value", w, I32, YES, 1)
+    s.order("defer w: it has a value", "03" + w, "")
+    s.order("defaults", "07", "01")
+    s.bound += 2
+    s.shows("x and y", tup(x, y), tup(NEVER, NEVER))
+    s.shows("the number variable", n, NEVER)
+    s.free(z)
+    s.shows("w", w, I32)
+    s.revision()
+    s.order("again", "07", "00")
+    s.order("numeric defaults have nothing left", "06", "00")
+    a, b = s.vars(2)
+    s.pose("a joins b", a, b, YES, 1)
+    s.order("defer a: its end is b", "03" + a, "")
+    s.pose("b gets a value", b, I8, YES, 1)
+    s.order("so there is nothing to default", "07", "00")
+    s.shows("a", a, I8)
+    c, d = s.vars(2)
+    s.pose("c joins d", c, d, YES, 1)
+    s.order("defer c: its end d is free", "03" + c, "")
+    s.order("defaults", "07", "01")
+    s.bound += 1
+    s.shows("c and d", tup(c, d), tup(NEVER, NEVER))
+    s.revision()
+
+
+@part()
+def places(s):
+    """Orders 0 and 1 share sites, order 2 has its own."""
+    site = s.new_site()
+    x = s.variable_at(site, 0)
+    s.order("the same place", "00" + num(site) + "00", x)
+    y = s.variable_at(site, 1)
+    s.order("slot 1 is the number place", "01" + num(site) + "09", y)
+    z = s.variable_at(site, 2)
+    s.count += 1
+    h = inf(s.count - 1)
+    s.order("a hole at the same site", "02" + num(site), h)
+    s.order("the same hole", "02" + num(site), h)
+    s.pose("the hole gets a value", h, arr(z), YES, 1)
+    s.order("the hole answers what it resolves to", "02" + num(site), arr(z))
+    s.order("order 0 answers the variable", "00" + num(site) + "02", z)
+    s.pose("y keeps its family", y, I32, NO)
+    s.pose("y gets a value", y, F32, YES, 1)
+    s.order("order 1 answers what it resolves to", "01" + num(site) + "02", F32)
+    s.order("the largest site and slot", "00 ff ff ff ff 0f ff ff ff ff 0f", inf(s.count))
+    s.count += 1
+    s.revision()
+
+
+@part()
+def refusals(s):
+    x = s.var()
+    more = inf(600)
+    for name, text, refusal in (
+            ("0: ends early", "00 05", 1), ("0: leftover", "00 05 00 00", 1), ("0: a faulty site", "00 80 00 00", 3),
+            ("0: a faulty slot", "00 05 80 80 80 80 10", 3),
+            ("1: an unlisted code", "01 05 20", 2), ("1: a code is a byte", "01 05 82 00", 2), ("1: ends early", "01 05", 1),
+            ("1: leftover", "01 05 02 00", 1),
+            ("2: ends early", "02", 1), ("2: leftover", "02 05 05", 1), ("2: a faulty site", "02 ff 00", 3),
+            ("3: ends early", "03", 1), ("3: leftover", "03 02 02", 1), ("3: not issued", "03" + more, 6),
+            ("4: ends before k", "04", 1), ("4: ends after k", "04 09", 1), ("4: one term", "04 09 02", 1),
+            ("4: three terms", "04 09 02 02 02", 1),
+            ("4: k not shortest", "04 89 00 02 02", 3), ("4: an unlisted tag on the right", "04 09 02 14", 2),
+            ("4: an unlisted access", "04 09" + x + "0b 02 02", 2), ("4: an unlisted range kind", "04 09" + x + "08 04 02", 2),
+            ("4: an unlisted code", "04 09 04 20" + x, 2), ("4: members fall", "04 09" + struct(0, [], [(2, U), (1, U)]) + U, 5),
+            ("4: members repeat, before their term", "04 09 02 0d 00 00 02 01 02 01 14", 5),
+            ("4: not issued on the left, before the fault on the right", "04 09" + more + "14", 6),
+            ("4: the fault on the left, before the id", "04 09 14" + more, 2),
+            ("4: not issued, in a projection", "04 09 02" + proj(U, nom(0, [], [(1, more)]), 0), 6),
+            ("4: not issued, before leftover bytes", "04 09" + more + "02 02", 6), ("4: the largest id", "04 09 02" + inf(MOST), 6),
+            ("5: ends early", "05 09", 1), ("5: leftover", "05 02 00", 1), ("5: not issued", "05" + arr(more), 6),
+            ("5: a tag is a byte", "05 82 00", 2), ("5: a count larger than the bytes", "05 05 ff ff ff ff 0f 02", 1),
+            ("6: leftover", "06 00", 1), ("7: leftover", "07 00", 1), ("8: leftover", "08 00", 1),
+            ("kind 21", "15", 2), ("kind 27", "1b 00", 2), ("a kind is a byte", "80 00", 2), ("kind 255", "ff", 2),
+            ("empty", "", 1)):
+        s.order(name, text, refusal)
+    s.order("orders 9 to 20 take any id", "0b" + more + U, more)
+    s.free(x)
+    s.revision("no refused order had an effect")
+
+
+@part()
+def between(s):
+    """Orders 9 to 20 leave the session as it was."""
+    x = s.var()
+    s.order("conflicts does not resolve", "09" + x + I32, "00")
+    s.pose("x", x, I64, YES, 1)
+    s.order("two projections conflict as wholes", "09" + proj(U, nom(0), 0) + proj(I8, nom(0), 0), "01")
+    s.order("weakens", "0a" + set_(RW, x) + set_(RO, x), "01")
+    s.order("weakens: the outer access only", "0a" + set_(RW, set_(RW, x)) + set_(RO, set_(RO, x)), "00")
+    s.order("recover does not resolve", "0b" + tup(U, x) + tup(I8, U), tup(I8, x))
+    s.order("instantiate: an inserted term is not followed",
+            "0c" + subst([(0, 0, tup(gen(0, 1))), (0, 1, I8)]) + gen(0, 0), tup(gen(0, 1)))
+    s.order("argument context", "0d" + NONE + params((0, 0)) + tup(gen(0, 0), x), tup(U, x))
+    s.order("with_self", "0e" + "00" + x + self_(0), x)
+    s.order("questions", "0f" + x, "00 00 00 01 01 00 00")
+    s.order("resolved in", "10" + params() + x, "00")
+    s.order("satisfies", "11" + nom(0, [x]) + nom(0, [x]) + I8, "01 01")
+    s.order("family", "12" + params((0, 0)) + arr(gen(0, 0)) + NONE + seq(x), "01" + arr(x))
+    s.order("family with another number of arguments", "12" + params((0, 0)) + U + NONE + seq(), "00")
+    s.order("with_associated_types", "13" + proj(x, nom(0), 1) + nom(0, [], [(1, I8)]) + x, I8)
+    s.order("normalise", "14" + seq(nom(0) + x + num(1) + seq() + I8) + proj(x, nom(0), 1), I8)
+    s.shows("x", x, I64)
+    s.revision()
+
+
+# ---------------------------------------------------------------- Runs
+
+def run_case(name, sheet, reason, orders, output, room=ROOM, words=Sheet.LEAST_WORDS):
+    RUNS.append((name, bytes.fromhex(sheet) if isinstance(sheet, str) else sheet, room, words,
+                 Run(reason, orders, bytes.fromhex(output))))
+
+
+TWO = "03 00 07 00 01 08"           # a variable, the revision
+TWO_OUT = "03 00 01 00 02 00 00"
+run_case("an empty sheet", "", 0, 0, "")
+run_case("an empty sheet and no room", "", 0, 0, "", room=0)
+run_case("an empty order", "00", 0, 1, "01 01")
+run_case("two orders", TWO, 0, 2, TWO_OUT)
+run_case("room for both", TWO, 0, 2, TWO_OUT, room=7)
+run_case("a byte more than both", TWO, 0, 2, TWO_OUT, room=8)
+run_case("a byte too few for the second", TWO, 11, 1, "03 00 01 00", room=6)
+run_case("room for the first", TWO, 11, 1, "03 00 01 00", room=4)
+run_case("a byte too few for the first", TWO, 11, 0, "", room=3)
+run_case("no room", TWO, 11, 0, "", room=0)
+run_case("no room for a refusal", "00", 11, 0, "", room=1)
+run_case("room for a refusal", "00", 0, 1, "01 01", room=2)
+run_case("a length beyond the sheet", TWO + "02 08", 10, 2, TWO_OUT)
+run_case("a length alone", TWO + "01", 10, 2, TWO_OUT)
+run_case("a length that ends early", TWO + "80", 10, 2, TWO_OUT)
+run_case("a length not shortest", TWO + "81 00 08", 10, 2, TWO_OUT)
+run_case("a length too large", TWO + "80 80 80 80 10 08", 10, 2, TWO_OUT)
+run_case("the largest length", TWO + "ff ff ff ff 0f", 10, 2, TWO_OUT)
+run_case("a faulty length in a full output", TWO + "80 00", 10, 2, TWO_OUT, room=7)
+run_case("a faulty first length, no room", "80 00", 10, 0, "", room=0)
+run_case("an order that does not fit before a faulty length", TWO + "80 00", 11, 1, "03 00 01 00", room=6)
+run_case("the order that does not fit has no effect and ends the run", "03 00 07 00 03 00 08 00 00", 11, 1, "03 00 01 00", room=6)
+run_case("a refused order counts as answered", "00" + TWO, 0, 3, "01 01" + TWO_OUT)
+for kind, first, last in (("resolve", "00 00 00", "05 01 00"), ("a hole", "02 00", "02 00"), ("a number place", "00 00 01", "01 00 02")):
+    run_case("an answer that would have 2^40 bytes, to " + kind, b"".join(
+        [framed(bytes.fromhex(first))] + [framed(bytes.fromhex("00" + num(n) + "00")) for n in range(1, 41)]
+        + [framed(bytes.fromhex("04 09" + inf(n) + tup(inf(n + 1), inf(n + 1)))) for n in range(40)]
+        + [framed(bytes.fromhex(last))]),
+        11, 81, "".join("03 00 01" + num(n) for n in range(41)) + "02 00 01" * 40)
+
+
+def tuple_order(size):
+    """An order 16 of a Tuple that takes so many bytes with its length; its answer takes 3."""
+    count = size - 7
+    return framed(bytes.fromhex("10 00 05" + num(count)) + b"\x02" * count)
+
+
+# The sheet program reads 32,768 bytes: what the last order has beyond them makes run 10 there.
+for more in range(-2, 3):
+    long_sheet = tuple_order(1000) * 31 + tuple_order(1768 + more - 2) + bytes.fromhex("01 08")
+    run_case("a sheet of %d bytes" % len(long_sheet), long_sheet, 0, 33, "02 00 00" * 33)
+
+# An output of 32,768 bytes: 32 answers of 1,000 bytes, one that leaves room for the revision or a byte more or less.
+WIDE = framed(bytes.fromhex("05" + tup(*[U] * 994)))
+WIDE_OUT = framed(bytes.fromhex("00" + tup(*[U] * 994))).hex()
+for more in range(-1, 2):
+    last = tup(*[U] * (768 - 3 - 6 + more))
+    answers = WIDE_OUT * 32 + framed(bytes.fromhex("00" + last)).hex()
+    run_case("answers of %d bytes" % (32768 + more), WIDE * 32 + framed(bytes.fromhex("05" + last)) + bytes.fromhex("01 08"),
+             *((0, 34, answers + "02 00 00") if more < 1 else (11, 33, answers)))
+
+run_case("an area of 16,383 words", TWO, 12, 0, "", words=16383)
+run_case("no area, an empty sheet", "", 12, 0, "", words=0)
+run_case("12 before 10", "80 00", 12, 0, "", words=16383)
+run_case("an output of 16,777,216 bytes", TWO, 0, 2, TWO_OUT, room=16777216)
+run_case("an output of 16,777,217 bytes", TWO, 12, 0, "", room=16777217)
+run_case("a sheet of 16,777,217 bytes", bytes(16777217), 12, 0, "")
+run_case("a sheet of 16,777,216 bytes", b"\x80" + bytes(16777215), 10, 0, "")
+
+
+# ---------------------------------------------------------------- Making
+
+def scripts():
+    """Pairs (name, script): each part alone, and all of them but the lone ones together."""
+    together = Script()
+    for name, function, alone in PARTS:
+        script = Script()
+        function(script)
+        yield name, script
+        if not alone:
+            function(together)
+    x = together.var()
+    fill_variables(together)
+    together.has_number = True
+    fill_nodes(together, x)
+    yield "together", together
+
+
+def make():
+    for name, script in scripts():
+        sheet, answers = script.sheet(), script.stated()
+        if len(sheet) > Sheet.INPUT or len(answers) > ROOM:
+            sys.exit("%s takes %d bytes, its answers %d" % (name, len(sheet), len(answers)))
+        wanted = Run(0, len(script.steps), answers)
+        if reference.run(sheet) != wanted:
+            sys.exit("the reference does not answer %s as stated" % name)
+        SHEETS.append((name, ROOM, sheet, wanted))
+    for name, sheet, room, words, wanted in RUNS:
+        if reference.run(sheet, room, words=words) != wanted:
+            sys.exit("%s: the reference gives %s" % (name, reference.run(sheet, room, words=words)))
+        if words == Sheet.LEAST_WORDS:
+            SHEETS.append((name, room, sheet, wanted))
+
+
+make()
+
+
+# ---------------------------------------------------------------- Running
+
+def put(path, content):
+    with open(path, "wb") as file:
+        file.write(content)
+
+
+def write(directory):
+    sheet, run = next((sheet, run) for name, _, sheet, run in SHEETS if name == "together")
+    put(os.path.join(directory, "stdin"), sheet)
+    put(os.path.join(directory, "stdout"), run.output)
+    print("%d orders, %d bytes in, %d bytes out" % (run.orders, len(sheet), len(run.output)))
+
+
+def write_sheets(directory):
+    """Those with the sheet program's room, each in a file."""
+    count = 0
+    for name, room, sheet, run in SHEETS:
+        if room == ROOM and len(sheet) < 2 * Sheet.INPUT:
+            path = os.path.join(directory, name.replace(" ", "_").replace(",", ""))
+            put(path + ".in", sheet)
+            put(path + ".out", reference.program(sheet))
+            count += 1
+    print("%d sheets" % count)
+
+
+def frame(room, sheet, words, fill, run):
+    """What the program `sheets` takes and gives for a run; the last byte before the answers says that nothing else was touched."""
+    return (pack("<IIII", room, len(sheet), words, fill) + sheet,
+            pack("<BIIB", run.reason, run.orders, len(run.output), 1) + run.output)
+
+
+def write_frames(directory):
+    """All runs that the program `sheets` can hold, with areas of the least size and larger ones, all of them filled before."""
+    frames = []
+    for name, room, sheet, run in SHEETS:
+        if room <= ROOM and len(sheet) <= Sheet.INPUT:
+            frames.append(frame(room, sheet, Sheet.LEAST_WORDS, 0xffffffff, run))
+    for name, sheet, room, words, run in RUNS:
+        if room <= ROOM and len(sheet) <= Sheet.INPUT:
+            frames.append(frame(room, sheet, words if words < Sheet.LEAST_WORDS else 20000, 0xa5a5a5a5, run))
+    sheet = orders_cases.case_input()[0]
+    frames.append(frame(ROOM, sheet, 16385, 1, reference.run(sheet)))
+    put(os.path.join(directory, "stdin"), b"".join(frame[0] for frame in frames))
+    put(os.path.join(directory, "stdout"), b"".join(frame[1] for frame in frames))
+    print("%d runs, %d bytes in, %d bytes out" % (len(frames), sum(len(f[0]) for f in frames), sum(len(f[1]) for f in frames)))
+
+
+def shortened(text):
+    return text if len(text) < 90 else text[:84] + " ..."
+
+
+def listing():
+    count = 0
+    for name, script in scripts():
+        if name == "together":
+            break
+        print(name)
+        session = Sheet()
+        for comment, order, _ in script.steps:
+            count += 1
+            answer = session.step(order, 1 << 24)
+            print("  %s\n      %s\n      %s" % (comment, shortened(order.hex(" ")), shortened(answer.hex(" "))))
+    for name, sheet, room, words, run in RUNS:
+        print("%s\n      reason %d, %d orders, %d bytes" % (name, run.reason, run.orders, len(run.output)))
+    print("%d orders in %d parts, %d runs" % (count, len(PARTS), len(RUNS)))
+
+
+def slips():
+    """Sheets with large shared terms are left out: some slips walk them as trees."""
+    from sheet_slips import PLAIN, SLIPS
+    missed = 0
+    sheets = [each for each in SHEETS if each[0] not in LARGE and "2^40" not in each[0] and len(each[2]) <= Sheet.INPUT
+              and each[3].reason != 12]
+    for how in PLAIN:
+        for name, room, sheet, run in sheets:
+            if reference.run(sheet, room, how) != run:
+                sys.exit("%s has no fault, but differs: %s" % (how.__name__, name))
+    for slip, how in SLIPS.items():
+        finder = next((name for name, room, sheet, run in sheets if reference.run(sheet, room, how) != run), None)
+        missed += finder is None
+        print("%-44s %s" % (slip, finder or "NOT FOUND"))
+    print("%d passed, %d failed" % (len(SLIPS) - missed, missed))
+    return missed != 0
+
+
+def main(words):
+    if len(words) == 2 and words[0] in ("write", "sheets"):
+        return (write if words[0] == "write" else write_sheets)(words[1])
+    if len(words) == 2 and words[0] == "frames":
+        return write_frames(words[1])
+    if words == ["list"]:
+        return listing()
+    if words == ["slips"]:
+        return slips()
+    sys.exit(__doc__)
+
+
+if __name__ == "__main__":
+    sys.exit(main(sys.argv[1:]))

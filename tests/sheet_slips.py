@@ -1,0 +1,948 @@
+#!/usr/bin/env python3
+"""Sheets carried out with one deliberate fault each.
+
+A comparison that does not tell such a solver from a sound one tests too
+little. SLIPS gives them by name.
+
+  python3 tests/sheet_slips.py [--sheets N] [--seed S]
+
+shows for each slip the first random sheet that finds it, and ends with status
+1 if one is not found. sheet_cases.py slips shows what the fixed cases find.
+
+Slips that would go round in a circle answer at once what they would answer
+if they came to an end: a solver without an occurs check says compatible and
+does not bind.
+
+No slip: occurrence before family (a number variable and a term around it
+are incompatible either way), and deferring a variable in the place of its
+end (the chain leads there later too).
+"""
+
+import sys
+
+import orders_slips
+import sheet_reference as reference
+from orders_reference import BUILTIN, ENUM, ERROR, FUNCTION, HOST, INFERENCE, MAP, NOMINALS, PROJECTION, RANGE, REFERENCE, SET
+from orders_reference import STRUCT, TUPLE, UNKNOWN, Orders
+from sheet_reference import (
+    CANCELLED, COMPATIBLE, ENTERED, F32, F64, FLOATS, INCOMPATIBLE, INTEGERS, NEVER, Fields, Node, Run, Sheet)
+from terms_reference import Reader, Refused, number_bytes
+
+SLIPS = {}
+
+
+def slip(how):
+    SLIPS[how.__name__] = how
+    return how
+
+
+def constant(name, **values):
+    SLIPS[name] = type(name, (Sheet,), values)
+
+
+# What the buyer sends back
+
+@slip
+class every_pair_compatible(Sheet):
+    def constrain(self, checks, left, right):
+        answer = super().constrain(checks, left, right)
+        return COMPATIBLE if answer == INCOMPATIBLE else answer
+
+
+@slip
+class first_pair_only(Sheet):
+    posed = False
+
+    def constrain(self, checks, left, right):
+        if self.posed:
+            return COMPATIBLE
+        self.posed = True
+        return super().constrain(checks, left, right)
+
+
+@slip
+class binds_nothing(Sheet):
+    def bind(self, variable, term):
+        pass
+
+
+@slip
+class binds_without_telling_resolve(Sheet):
+    def resolve_order(self, term):
+        return self.shared(term)
+
+
+@slip
+class revision_counts_pairs(Sheet):
+    pairs = 0
+
+    def constrain(self, checks, left, right):
+        self.pairs += 1
+        return super().constrain(checks, left, right)
+
+    def revision_order(self):
+        return number_bytes(self.pairs)
+
+
+@slip
+class revision_counts_variables(Sheet):
+    def revision_order(self):
+        return number_bytes(self.issued())
+
+
+@slip
+class revision_without_defaults(Sheet):
+    by_default = 0
+
+    def numeric_default_order(self):
+        before = self.revision
+        answer = super().numeric_default_order()
+        self.by_default += self.revision - before
+        return answer
+
+    def revision_order(self):
+        return number_bytes(self.revision - self.by_default)
+
+
+@slip
+class revision_counts_changed_orders(Sheet):
+    def constrain(self, checks, left, right):
+        before = self.revision
+        answer = super().constrain(checks, left, right)
+        self.revision = min(self.revision, before + 1)
+        return answer
+
+
+@slip
+class cancels_with_a_check_left(Sheet):
+    def constrain(self, checks, left, right):
+        return super().constrain(max(0, checks - 1), left, right)
+
+
+@slip
+class cancels_a_check_late(Sheet):
+    def constrain(self, checks, left, right):
+        return super().constrain(checks + 1, left, right)
+
+
+@slip
+class never_cancels(Sheet):
+    def constrain(self, checks, left, right):
+        return super().constrain(1 << 64, left, right)
+
+
+@slip
+class no_check_for_the_first_pair(Sheet):
+    def constrain(self, checks, left, right):
+        return super().constrain(max(1, checks), left, right)
+
+
+@slip
+class run_11_with_space_left(Sheet):
+    def fitting(self, outcome, value, room):
+        return super().fitting(outcome, value, room - 1)
+
+
+@slip
+class run_11_a_byte_late(Sheet):
+    def fitting(self, outcome, value, room):
+        return super().fitting(outcome, value, room + 1)
+
+
+@slip
+class refuses_everything(Sheet):
+    def value(self, order):
+        raise Refused(1)
+
+
+# Slips that were met
+
+constant("projections_entered", same_shape=lambda self, left, right: left.shape() == right.shape()
+         if left.tag == PROJECTION else Sheet.same_shape(self, left, right))
+
+
+@slip
+class number_bound_to_a_tuple(Sheet):
+    def admits(self, variable, term):
+        return term.tag == TUPLE or super().admits(variable, term)
+
+
+@slip
+class number_bound_to_anything(Sheet):
+    def admits(self, variable, term):
+        return term.tag not in (INFERENCE, BUILTIN) or super().admits(variable, term)
+
+
+@slip
+class unknown_frozen_in_a_binding(Sheet):
+    def recovers(self, term):
+        return False
+
+
+constant("error_frozen_in_a_binding", recovers=lambda self, term: self.has_tag(term, UNKNOWN),
+         has_tag=lambda self, term, tag: term.tag == tag or any(self.has_tag(part, tag) for part in term.below))
+constant("inserted_term_followed", PLAIN=orders_slips.SLIPS["an_inserted_term_is_followed"])
+for each in ("conflicts_enter_projections", "weakens_inside", "depth_63", "depth_65", "branches_without_projection_not_walked"):
+    # orders_slips.py has many more; these are on our list of what is easy to slip on.
+    constant(each, PLAIN=orders_slips.SLIPS[each])
+
+
+# Occurrence and recovery
+
+@slip
+class no_occurs_check(Sheet):
+    def variable_met(self, variable, term):
+        if self.occurs(variable, term) and not term.recovery and variable not in self.numeric:
+            return ()
+        return super().variable_met(variable, term)
+
+
+@slip
+class occurrence_in_a_projection_overlooked(Sheet):
+    def outside(self, variable, term):
+        if term.tag == PROJECTION:
+            return False
+        return term.tag == INFERENCE and term.parts[0] == variable or any(self.outside(variable, part) for part in term.below)
+
+    def variable_met(self, variable, term):
+        if self.occurs(variable, term) and not term.recovery and variable not in self.numeric and not self.outside(variable, term):
+            return ()
+        return super().variable_met(variable, term)
+
+
+@slip
+class occurs_before_recovery(Sheet):
+    def variable_met(self, variable, term):
+        return None if self.occurs(variable, term) else super().variable_met(variable, term)
+
+
+@slip
+class family_before_recovery(Sheet):
+    def variable_met(self, variable, term):
+        if variable in self.numeric and not self.admits(variable, term):
+            return None
+        return super().variable_met(variable, term)
+
+
+@slip
+class recovery_is_incompatible(Sheet):
+    def variable_met(self, variable, term):
+        return None if term.recovery else super().variable_met(variable, term)
+
+
+@slip
+class recovery_in_a_projection_overlooked(Sheet):
+    def recovers(self, term):
+        if term.tag == PROJECTION:
+            return False
+        return term.tag in (UNKNOWN, ERROR) or any(map(self.recovers, term.below))
+
+
+@slip
+class recovery_at_the_top_only(Sheet):
+    def recovers(self, term):
+        return term.tag in (UNKNOWN, ERROR)
+
+
+@slip
+class unknown_clashes_on_the_right(Sheet):
+    def met(self, left, right):
+        if left is not right and right.tag in (UNKNOWN, ERROR) and left.tag not in (UNKNOWN, ERROR, INFERENCE):
+            return None
+        return super().met(left, right)
+
+
+@slip
+class error_clashes(Sheet):
+    def met(self, left, right):
+        if left is not right and ERROR in (left.tag, right.tag) and INFERENCE not in (left.tag, right.tag):
+            return None
+        return super().met(left, right)
+
+
+@slip
+class error_bound(Sheet):
+    def met(self, left, right):
+        if left.tag == INFERENCE and right.tag == ERROR and left.parts[0] not in self.numeric:
+            self.bind(left.parts[0], right)
+            return ()
+        return super().met(left, right)
+
+
+@slip
+class projections_not_bound(Sheet):
+    def variable_met(self, variable, term):
+        return None if term.tag == PROJECTION and not term.recovery else super().variable_met(variable, term)
+
+
+@slip
+class projections_always_compatible(Sheet):
+    def met(self, left, right):
+        if left.tag == right.tag == PROJECTION:
+            return ()
+        return super().met(left, right)
+
+
+# Which variable, in which order
+
+@slip
+class right_variable_bound(Sheet):
+    def met(self, left, right):
+        if left is not right and left.tag == right.tag == INFERENCE:
+            return self.variable_met(right.parts[0], left)
+        return super().met(left, right)
+
+
+@slip
+class larger_variable_bound(Sheet):
+    def met(self, left, right):
+        if left is not right and left.tag == right.tag == INFERENCE and left.parts[0] < right.parts[0]:
+            return self.variable_met(right.parts[0], left)
+        return super().met(left, right)
+
+
+@slip
+class a_variable_meets_itself(Sheet):
+    def met(self, left, right):
+        if left is right and left.tag == INFERENCE:
+            return None
+        return super().met(left, right)
+
+
+@slip
+class parts_met_first_to_last(Sheet):
+    def pushed(self, parts):
+        return parts[::-1]
+
+
+@slip
+class arguments_pushed_before_members(Sheet):
+    def met(self, left, right):
+        parts = super().met(left, right)
+        if parts and left.tag in NOMINALS:
+            members = len(left.below) - left.parts[1]
+            parts = parts[members:] + parts[:members]
+        return parts
+
+
+@slip
+class incompatible_outranks_cancelled(Sheet):
+    def cancelled(self, faults):
+        return INCOMPATIBLE if faults else CANCELLED
+
+
+@slip
+class stops_at_the_first_incompatible_part(Sheet):
+    def constrain(self, checks, left, right):
+        self.clash = False
+        return super().constrain(checks, left, right)
+
+    def met(self, left, right):
+        parts = None if self.clash else super().met(left, right)
+        self.clash = self.clash or parts is None
+        return parts
+
+
+class Rollback(Sheet):
+    """Takes bindings and families back after some answers."""
+
+    WHEN = ()
+
+    def constrain(self, checks, left, right):
+        before = list(self.bindings), dict(self.numeric), self.revision, self.bound
+        answer = super().constrain(checks, left, right)
+        if answer in self.WHEN:
+            self.bindings, self.numeric, self.revision, self.bound = before
+            self.resolved = {}
+        return answer
+
+
+@slip
+class incompatible_pair_taken_back(Rollback):
+    WHEN = (INCOMPATIBLE,)
+
+
+@slip
+class cancelled_pair_taken_back(Rollback):
+    WHEN = (CANCELLED,)
+
+
+# Shapes
+
+class OtherShape(Sheet):
+    """Shapes compared after a change."""
+
+    def changed(self, tag, shape):
+        return shape
+
+    def same_shape(self, left, right):
+        if left.tag not in ENTERED or right.tag not in ENTERED:
+            return False
+        first, second = self.changed(left.tag, left.shape()), self.changed(right.tag, right.shape())
+        if left.tag in (SET, MAP) and left.tag == right.tag:
+            first, second = first[:1] + first[2:], second[:1] + second[2:]
+        return first == second and len(left.below) == len(right.below)
+
+
+@slip
+class set_access_counts(Sheet):
+    def same_shape(self, left, right):
+        return super().same_shape(left, right) and (left.tag != SET or left.parts[0] == right.parts[0])
+
+
+@slip
+class map_access_counts(Sheet):
+    def same_shape(self, left, right):
+        return super().same_shape(left, right) and (left.tag != MAP or left.parts[0] == right.parts[0])
+
+
+@slip
+class equality_ignores_access(Sheet):
+    def met(self, left, right):
+        if left is not right and self.bare(left) is self.bare(right):
+            return ()
+        return super().met(left, right)
+
+    def bare(self, term):
+        parts = [self.bare(part) if isinstance(part, Node) else part for part in term.parts]
+        if term.tag in (SET, MAP):
+            parts[0] = 0
+        return self.node(term.tag, *parts)
+
+
+@slip
+class last_access_stays(Sheet):
+    def met(self, left, right):
+        # A Set that meets one with another access: the variable's end takes the second.
+        if left.tag == right.tag == SET and left.parts[0] != right.parts[0]:
+            for variable, bound in enumerate(self.bindings):
+                if bound is left:
+                    self.bindings[variable] = self.node(SET, right.parts[0], left.parts[1])
+                    self.resolved = {}
+        return super().met(left, right)
+
+
+@slip
+class reference_access_ignored(OtherShape):
+    def changed(self, tag, shape):
+        return shape[:1] + shape[2:] if tag == REFERENCE else shape
+
+
+@slip
+class range_kind_ignored(OtherShape):
+    def changed(self, tag, shape):
+        return shape[:1] + shape[2:] if tag == RANGE else shape
+
+
+@slip
+class declaration_ignored(OtherShape):
+    def changed(self, tag, shape):
+        return shape[:1] + shape[2:] if tag in NOMINALS else shape
+
+
+@slip
+class member_names_ignored(OtherShape):
+    def changed(self, tag, shape):
+        return shape[:3] + (shape[-1],) if tag in NOMINALS else shape
+
+
+@slip
+class struct_meets_enum(OtherShape):
+    def changed(self, tag, shape):
+        return (STRUCT,) + shape[1:] if tag == ENUM else shape
+
+
+@slip
+class shorter_tuple_fits(Sheet):
+    def same_shape(self, left, right):
+        return left.tag == right.tag == TUPLE or super().same_shape(left, right)
+
+
+@slip
+class result_not_met(Sheet):
+    def met(self, left, right):
+        parts = super().met(left, right)
+        return parts[:-1] if parts and left.tag == FUNCTION else parts
+
+
+@slip
+class map_value_not_met(Sheet):
+    def met(self, left, right):
+        parts = super().met(left, right)
+        return parts[:-1] if parts and left.tag == MAP else parts
+
+
+@slip
+class members_not_met(Sheet):
+    def met(self, left, right):
+        parts = super().met(left, right)
+        return parts[len(left.below) - left.parts[1]:] if parts and left.tag in NOMINALS else parts
+
+
+@slip
+class builtins_meet(Sheet):
+    def met(self, left, right):
+        return () if left.tag == right.tag == BUILTIN else super().met(left, right)
+
+
+@slip
+class hosts_meet(Sheet):
+    def met(self, left, right):
+        return () if left.tag == right.tag == HOST else super().met(left, right)
+
+
+# Families
+
+constant("family_lost_in_a_join", join=lambda self, variable, other: None)
+constant("join_keeps_the_right_fallback", join=lambda self, variable, other: self.numeric.setdefault(other, self.numeric[variable]))
+constant("families_join_freely", admits=lambda self, variable, term: term.tag == INFERENCE or Sheet.admits(self, variable, term))
+constant("number_joins_only_numbers", admits=lambda self, variable, term: Sheet.admits(self, variable, term)
+         and (term.tag != INFERENCE or term.parts[0] in self.numeric))
+constant("f32_is_floating", family=lambda self, fallback: FLOATS if fallback in (F32, F64) else INTEGERS)
+constant("only_f64_for_floats", family=lambda self, fallback: frozenset((F64,)) if fallback == F64 else INTEGERS)
+constant("integers_with_f32", family=lambda self, fallback: FLOATS if fallback == F64 else INTEGERS | {F32})
+constant("integers_without_u64", family=lambda self, fallback: FLOATS if fallback == F64 else INTEGERS - {7})
+constant("signed_integers_only", family=lambda self, fallback: FLOATS if fallback == F64 else frozenset(range(4)))
+constant("family_is_the_fallback", family=lambda self, fallback: frozenset((fallback,)))
+constant("number_takes_never", admits=lambda self, variable, term: term.tag == BUILTIN and term.parts[0] == NEVER
+         or Sheet.admits(self, variable, term))
+
+
+@slip
+class family_of_the_left_only(Sheet):
+    def met(self, left, right):
+        # A number variable on the right binds to anything.
+        if left.tag != INFERENCE and right.tag == INFERENCE and left.tag not in (UNKNOWN, ERROR):
+            variable = right.parts[0]
+            if not self.recovers(left) and not self.occurs(variable, left):
+                self.bind(variable, left)
+                return ()
+        return super().met(left, right)
+
+
+# Places and requests
+
+constant("number_places_apart", number_place=lambda self, site: ("number", site))
+constant("number_place_in_slot_0", number_place=lambda self, site: ("expression", site, 0))
+constant("holes_share_sites", hole_place=lambda self, site: ("expression", site, 0))
+constant("slots_ignored", expression_place=lambda self, site, slot: ("expression", site, 0))
+constant("first_request_stays", request=lambda self, variable, fallback: self.numeric.setdefault(variable, fallback))
+
+
+@slip
+class request_of_a_bound_variable_ignored(Sheet):
+    def request(self, variable, fallback):
+        if not self.is_bound(variable):
+            super().request(variable, fallback)
+
+
+@slip
+class request_at_the_end_of_the_chain(Sheet):
+    def request(self, variable, fallback):
+        end = self.free_end(variable)
+        super().request(variable if end is None else end, fallback)
+
+
+@slip
+class number_order_answers_the_variable(Sheet):
+    def number_order(self, site, fallback):
+        super().number_order(site, fallback)
+        return self.inference(self.placed(self.number_place(site)))
+
+
+@slip
+class hole_order_answers_the_variable(Sheet):
+    def hole_order(self, site):
+        return self.inference(self.placed(self.hole_place(site)))
+
+
+@slip
+class variable_order_answers_the_end(Sheet):
+    def variable_order(self, site, slot):
+        return self.resolve(super().variable_order(site, slot))
+
+
+@slip
+class variables_from_1(Sheet):
+    def variable_order(self, site, slot):
+        return self.inference(super().variable_order(site, slot).parts[0] + 1)
+
+
+# Resolving
+
+@slip
+class resolves_one_step(Sheet):
+    def resolve_order(self, term):
+        return self.once(self.shared(term))
+
+    def once(self, term):
+        if term.tag == INFERENCE:
+            return self.bindings[term.parts[0]] or term
+        return self.node(term.tag, *(self.once(part) if isinstance(part, Node) else part for part in term.parts))
+
+
+@slip
+class resolve_enters_no_projection(Sheet):
+    def resolve_order(self, term):
+        return self.outside(self.shared(term))
+
+    def outside(self, term):
+        if term.tag == PROJECTION:
+            return term
+        if term.tag == INFERENCE:
+            bound = self.bindings[term.parts[0]]
+            return term if bound is None else self.outside(bound)
+        return self.node(term.tag, *(self.outside(part) if isinstance(part, Node) else part for part in term.parts))
+
+
+@slip
+class resolve_gives_unknown_for_free_variables(Sheet):
+    def resolve_order(self, term):
+        found = super().resolve_order(term)
+        return self.node(UNKNOWN) if found.tag == INFERENCE else found
+
+
+# Defaults and deferrals
+
+constant("numeric_defaults_by_falling_id", defaults_in_turn=lambda self: sorted(self.numeric.items(), reverse=True))
+
+
+@slip
+class default_by_the_end(Sheet):
+    def defaults_in_turn(self):
+        for variable in sorted(self.numeric):
+            end = self.free_end(variable)
+            if end is not None:
+                yield variable, self.numeric.get(end, self.numeric[variable])
+
+
+@slip
+class defaults_for_free_requests_only(Sheet):
+    def defaults_in_turn(self):
+        return [entry for entry in sorted(self.numeric.items()) if not self.is_bound(entry[0])]
+
+
+@slip
+class default_i32_or_f64(Sheet):
+    def defaults_in_turn(self):
+        return [(variable, F64 if fallback == F64 else 2) for variable, fallback in sorted(self.numeric.items())]
+
+
+@slip
+class numeric_default_says_whether_requested(Sheet):
+    def numeric_default_order(self):
+        super().numeric_default_order()
+        return bytes([bool(self.numeric)])
+
+
+@slip
+class never_default_says_whether_deferred(Sheet):
+    def never_default_order(self):
+        super().never_default_order()
+        return bytes([bool(self.diverging)])
+
+
+@slip
+class never_defaults_spare_numbers(Sheet):
+    def deferred_in_turn(self):
+        return [variable for variable in sorted(self.diverging) if self.free_end(variable) not in self.numeric]
+
+
+@slip
+class every_free_variable_is_never(Sheet):
+    def deferred_in_turn(self):
+        return range(self.issued())
+
+
+@slip
+class deferral_forgotten_once_bound(Sheet):
+    def deferred_in_turn(self):
+        return [variable for variable in sorted(self.diverging) if not self.is_bound(variable)]
+
+
+@slip
+class deferral_of_every_variable_inside(Sheet):
+    def defer_order(self, term):
+        end = self.resolve(self.shared(term))
+        for variable in range(self.issued()):
+            if end.variables >> variable & 1:
+                self.defer(variable)
+        return b""
+
+
+@slip
+class deferral_is_an_equality(Sheet):
+    def defer(self, variable):
+        self.bind(variable, self.builtin(NEVER))
+
+
+@slip
+class deferral_not_resolved(Sheet):
+    def defer_order(self, term):
+        if term[0] == INFERENCE and not self.is_bound(term[1][0]):
+            self.defer(term[1][0])
+        return b""
+
+
+# Refusals and limits
+
+constant("nodes_2047", NODES=2047)
+constant("nodes_2049", NODES=2049)
+constant("variables_511", VARIABLES=511)
+constant("variables_513", VARIABLES=513)
+constant("levels_199", FIELDS=type("levels_199", (Fields,), {"LEVELS": 199}))
+constant("levels_201", FIELDS=type("levels_201", (Fields,), {"LEVELS": 201}))
+constant("kind_20_unlisted", KINDS=tuple(range(20)))
+constant("compatible_pairs_keep_no_nodes", keep=lambda self, kind, nodes, value:
+         None if value == b"\x01" else Sheet.keep(self, kind, nodes, value))
+constant("incompatible_pairs_keep_no_nodes", keep=lambda self, kind, nodes, value:
+         None if value == b"\x00" else Sheet.keep(self, kind, nodes, value))
+constant("cancelled_pairs_keep_no_nodes", keep=lambda self, kind, nodes, value:
+         None if value == b"\x02" else Sheet.keep(self, kind, nodes, value))
+constant("order_5_keeps_nodes", keep=lambda self, kind, nodes, value: Sheet.keep(self, 4 if kind == 5 else kind, nodes, value))
+constant("order_3_keeps_nodes", keep=lambda self, kind, nodes, value: Sheet.keep(self, 4 if kind == 3 else kind, nodes, value))
+constant("kept_nodes_not_counted_in_orders_9_to_20", plain_value=lambda self, order: self.PLAIN(order).order())
+
+
+@slip
+class refused_pairs_keep_nodes(Sheet):
+    def solver_value(self, order):
+        try:
+            return super().solver_value(order)
+        except Refused:
+            if order[0] == 4:
+                self.kept += 2
+            raise
+
+
+@slip
+class defaults_keep_nodes(Sheet):
+    def numeric_default_order(self):
+        before = self.revision
+        answer = super().numeric_default_order()
+        self.kept += self.revision - before
+        return answer
+
+
+@slip
+class repeated_place_refused_at_512(Sheet):
+    def placed(self, place):
+        if self.issued() >= self.VARIABLES:
+            raise Refused(8)
+        return super().placed(place)
+
+
+@slip
+class holes_not_counted_as_variables(Sheet):
+    def placed(self, place):
+        if place[0] == "hole" and place not in self.places and self.issued() >= self.VARIABLES:
+            return 0
+        return super().placed(place)
+
+
+@slip
+class refusal_6_after_reading(Sheet):
+    class FIELDS(Fields):
+        unissued = False
+
+        def inference_id(self, level):
+            value = self.number()
+            self.unissued |= value >= self.issued
+            return [value]
+
+        def used_up(self):
+            super().used_up()
+            if self.unissued:
+                raise Refused(6)
+
+
+@slip
+class refusal_6_in_orders_9_to_20(Sheet):
+    def plain_value(self, order):
+        session = self
+
+        class Strict(Orders):
+            def inference_id(self, level):
+                value = self.number()
+                if value >= session.issued():
+                    raise Refused(6)
+                return [value]
+        how = Strict(order)
+        how.NODES = self.NODES - self.kept
+        return how.order()
+
+
+@slip
+class refusal_7_before_leftover_bytes(Sheet):
+    def solver_value(self, order):
+        names, _ = reference.ORDERS[order[0]]
+        fields = self.FIELDS(order[1:], self.issued())
+        fields.row(names, 1)
+        if self.kept + fields.nodes_read > self.NODES:
+            raise Refused(7)
+        return super().solver_value(order)
+
+
+@slip
+class refusal_7_at_the_node(Sheet):
+    def solver_value(self, order):
+        session = self
+
+        class Bounded(Fields):
+            def term(self, level):
+                if session.kept + self.nodes_read >= session.NODES:
+                    raise Refused(7)
+                return super().term(level)
+        self.FIELDS = Bounded
+        return super().solver_value(order)
+
+
+@slip
+class leftover_bytes_allowed(Sheet):
+    class FIELDS(Fields):
+        def used_up(self):
+            pass
+
+
+@slip
+class members_may_repeat(Sheet):
+    class FIELDS(Fields):
+        def members(self, level):
+            try:
+                return super().members(level)
+            except Refused as refusal:
+                raise Refused(2) if refusal.args == (5,) else refusal
+
+
+@slip
+class fallback_must_be_a_number_type(Sheet):
+    def number_order(self, site, fallback):
+        if fallback > F64:
+            raise Refused(2)
+        return super().number_order(site, fallback)
+
+
+# The run
+
+@slip
+class refused_orders_have_no_answer(Sheet):
+    def step(self, order, room):
+        answer = super().step(order, room)
+        return b"" if answer is not None and answer[:1] == b"\x01" and len(answer) == 2 and answer[1] else answer
+
+
+@slip
+class empty_orders_passed_over(Sheet):
+    def step(self, order, room):
+        return super().step(order, room) if order else b""
+
+
+class OtherRun(Sheet):
+    """The run, with places to change."""
+
+    def length(self, lengths):
+        return lengths.number()
+
+    def beyond(self, length, left):
+        return length > left
+
+    def full(self, lengths):
+        """Whether the run goes on after an answer that does not fit."""
+        return False
+
+    def end(self, reason, orders, out, room):
+        return Run(reason, orders, bytes(out))
+
+    def run(self, sheet, room, words=None):
+        lengths, out, orders = Reader(sheet), bytearray(), 0
+        while lengths.at < len(sheet):
+            try:
+                length = self.length(lengths)
+            except Refused:
+                return self.end(10, orders, out, room)
+            if self.beyond(length, len(sheet) - lengths.at):
+                return self.end(10, orders, out, room)
+            order = sheet[lengths.at:lengths.at + length]
+            lengths.at += length
+            answer = self.step(order, room - len(out))
+            if answer is None:
+                if self.full(lengths):
+                    continue
+                return self.end(11, orders, out, room)
+            out += answer
+            orders += 1
+        return self.end(0, orders, out, room)
+
+
+@slip
+class goes_on_after_a_full_output(OtherRun):
+    def full(self, lengths):
+        return True
+
+
+@slip
+class last_order_may_be_short(OtherRun):
+    def beyond(self, length, left):
+        return False
+
+
+@slip
+class full_output_before_a_faulty_length(OtherRun):
+    def end(self, reason, orders, out, room):
+        return super().end(11 if reason == 10 and len(out) == room else reason, orders, out, room)
+
+
+@slip
+class full_output_before_a_used_up_sheet(OtherRun):
+    def end(self, reason, orders, out, room):
+        return super().end(11 if reason == 0 and len(out) == room else reason, orders, out, room)
+
+
+@slip
+class faulty_length_ends_well(OtherRun):
+    def end(self, reason, orders, out, room):
+        return super().end(0 if reason == 10 else reason, orders, out, room)
+
+
+@slip
+class longer_lengths_taken(OtherRun):
+    def length(self, lengths):
+        at = lengths.at
+        try:
+            return lengths.number()
+        except Refused:
+            if lengths.data[at:at + 2] == b"\x80\x00":
+                lengths.at = at + 2
+                return 0
+            raise
+
+
+@slip
+class a_session_for_every_order(Sheet):
+    def step(self, order, room):
+        Sheet.__init__(self)
+        return super().step(order, room)
+
+
+@slip
+class orders_9_to_20_change_the_session(Sheet):
+    def plain_value(self, order):
+        value = super().plain_value(order)
+        self.kept += 1
+        return value
+
+
+@slip
+class the_order_that_does_not_fit_counts(OtherRun):
+    def end(self, reason, orders, out, room):
+        return super().end(reason, orders + (reason == 11), out, room)
+
+
+# Bases of slips, without a fault of their own: nothing may tell them from Sheet.
+PLAIN = (Rollback, OtherShape, OtherRun)
+
+
+if __name__ == "__main__":
+    import sheet_compare
+    sys.argv[1:1] = ["--slip", "all"]
+    sys.exit(sheet_compare.main())
