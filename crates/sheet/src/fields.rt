@@ -1,16 +1,16 @@
 // The fields of an order, rules aside: each read at a place, and its tokens kept.
 use super::FieldRead;
 use super::Spot;
-use terms::NumberRead;
-use terms::Place;
-use terms::Step;
-use terms::keep_entries;
-use terms::keep_nominal;
-use terms::keep_receivers;
-use terms::keep_term;
-use terms::keep_terms;
-use terms::read_number;
-use terms::skip_parameters;
+use solver::NumberRead;
+use solver::Place;
+use solver::Step;
+use solver::keep_entries;
+use solver::keep_nominal;
+use solver::keep_receivers;
+use solver::keep_term;
+use solver::keep_terms;
+use solver::read_number;
+use solver::skip_parameters;
 ghost use mathlib.Core.Path.{_≡_};
 ghost use mathlib.Core.List.{List};
 ghost use Prim.Native.Nat.{ℕ, _≤_};

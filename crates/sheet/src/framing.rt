@@ -1,7 +1,7 @@
 // Answers in the output: a length, an outcome byte, and on 0 the value. An answer is written whole or not at all: where it does not fit, the
 // position that comes back is past the end.
-use terms::number_len;
-use terms::write_number;
+use solver::number_len;
+use solver::write_number;
 ghost use lib.ListN.{length};
 ghost use mathlib.Core.List.{[], _∷_};
 ghost use Rattle.terms.specs.Number.{shortest};

@@ -15,8 +15,8 @@ mod tables;
 
 pub use running::run_sheet;
 pub use running::sheet_run;
+use solver::Place;
 use solver::Solver;
-use terms::Place;
 
 // A field of an order: a number or count, the place of its first token (of parameters: their position in the bytes), and the token after
 // its last.

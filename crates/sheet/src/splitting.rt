@@ -1,7 +1,7 @@
 // Framing: the next order as a part of the sheet.
 use super::Frame;
-use terms::NumberRead;
-use terms::read_number;
+use solver::NumberRead;
+use solver::read_number;
 ghost use mathlib.Core.Path.{_≡_};
 ghost use Prim.Native.Nat.{_+_, _≤_};
 ghost use lib.ListN.{length, take, drop};

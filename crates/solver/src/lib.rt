@@ -10,22 +10,43 @@ mod resolving;
 mod top;
 mod variables;
 
-pub use defaults::end_of;
-pub use equality::same_terms;
-pub use families::admissible;
-pub use pending::clear_pairs;
-pub use pending::push_children;
-pub use pending::put_pair;
-pub use pending::same_shape;
-pub use pending::take_pair;
-pub use reach::occurs;
-pub use reach::recovers;
 pub use resolving::clear_words;
-pub use resolving::resolve_into;
 pub use resolving::resolved_len;
 pub use resolving::write_resolved;
 pub use top::top_at;
 pub use variables::find_place;
+
+// The terms, handed on to the sheet, which names this crate alone.
+pub use terms::Binders;
+pub use terms::Normalised;
+pub use terms::NumberRead;
+pub use terms::Place;
+pub use terms::Rule;
+pub use terms::Step;
+pub use terms::ask;
+pub use terms::can_weaken_to;
+pub use terms::clear_tokens;
+pub use terms::conflicts_with;
+pub use terms::context;
+pub use terms::family;
+pub use terms::instantiation;
+pub use terms::keep_entries;
+pub use terms::keep_nominal;
+pub use terms::keep_receivers;
+pub use terms::keep_term;
+pub use terms::keep_terms;
+pub use terms::normalise;
+pub use terms::number_len;
+pub use terms::read_number;
+pub use terms::recover_from;
+pub use terms::satisfies;
+pub use terms::satisfies_for;
+pub use terms::self_only;
+pub use terms::skip_parameters;
+pub use terms::with_associated_types;
+pub use terms::write_normalised;
+pub use terms::write_number;
+pub use terms::write_term;
 
 // A run of tokens: len of them, from at on.
 pub struct Run {

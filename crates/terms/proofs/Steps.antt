@@ -1,7 +1,7 @@
 -- One byte of a number: the cases of `groups`, and the sums that the code makes. Assumes nothing.
-use mathlib.Core.Path.{_≡_}
+use mathlib.Core.Path.{_≡_, refl, ap, _∙_}
 use mathlib.Core.List.{List, _∷_}
-use Prim.Native.Nat.{ℕ, _+_, _-_, _*_, _/_, _≤_, _<_}
+use Prim.Native.Nat.{ℕ, zero, suc, _+_, _-_, _*_, _/_, _≤_, _<_}
 use native.Mathlib.Nat.{div-lt-iff-lt-mul, le-div-iff-mul-le, add-mul, sub-add-cancel}
 use native.Mathlib.Numerals.{add-one}
 use native.Mathlib.Omega.{arith}
@@ -43,6 +43,11 @@ module _ (most v w at b : ℕ) (bs : List ℕ) where
   pub step-last : v + b * w ≤ most → b < 128 → (b ≡ 0 → ⊥) → groups most v w at (b ∷ bs) ≡ got (v + b * w) (at + 1)
   unfolding groups
   step-last h k n = simp (le-ltb most (v + b * w) h, lt-leb 128 b k, ne-eqb b 0 n)
+
+-- one group is the number
+pub one-group : (most at b : ℕ) (bs : List ℕ) → b ≤ most → b < 128 → groups most 0 1 at (b ∷ bs) ≡ got b (at + 1)
+one-group most at zero bs h k = step-zero most 0 1 at 0 bs (omega (arith, h)) refl (omega arith)
+one-group most at (suc b) bs h k = step-last most 0 1 at (suc b) bs (omega (arith, h)) k (λ z. omega (arith, z)) ∙ ap (λ n. got n (at + 1)) (omega arith)
 
 -- the bytes from i on
 pub at-byte : (s : List ℕ) (i : ℕ) → i < length s → drop i s ≡ getD s i 0 ∷ drop (i + 1) s

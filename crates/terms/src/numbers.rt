@@ -12,8 +12,8 @@ fn wide(b: u8) -> u64
     b as u64
 }
 
-// The number at a position of s, at most `most`.
-pub fn read_number(s: &[u8], at: usize, most: u64) -> NumberRead
+// The number at a position of s, at most `most`, group by group.
+fn read_groups(s: &[u8], at: usize, most: u64) -> NumberRead
     ensures { λ r. ⌜ resultOf r ≡ number most (now (s .entry)) at ⌝ }
 {
     let mut v: u64 = 0;
@@ -37,6 +37,23 @@ pub fn read_number(s: &[u8], at: usize, most: u64) -> NumberRead
         i = i + 1;
     }
     NumberRead::Refused(1)
+}
+
+// The number at a position of s, at most `most`. Most numbers have one group.
+pub fn read_number(s: &[u8], at: usize, most: u64) -> NumberRead
+    ensures { λ r. ⌜ resultOf r ≡ number most (now (s .entry)) at ⌝ }
+{
+    if s.len() <= at {
+        return NumberRead::Refused(1);
+    }
+    let b = wide(s[at]);
+    if 128 <= b {
+        return read_groups(s, at, most);
+    }
+    if most < b {
+        return NumberRead::Refused(3);
+    }
+    NumberRead::Value(b, at + 1)
 }
 
 // How many bytes the shortest form of a number has.
