@@ -5,12 +5,12 @@ use solver::NumberRead;
 use solver::Place;
 use solver::Step;
 use solver::keep_entries;
-use solver::keep_nominal;
 use solver::keep_receivers;
-use solver::keep_term;
 use solver::keep_terms;
+use solver::nominal_at;
 use solver::read_number;
 use solver::skip_parameters;
+use solver::term_at;
 ghost use mathlib.Core.Path.{_≡_};
 ghost use mathlib.Core.List.{List};
 ghost use Prim.Native.Nat.{ℕ, _≤_};
@@ -109,8 +109,8 @@ fn keep_part(
     ensures { λ r. ⌜ ((ws : List ℕ) → PartDone (now (s .entry)) ws count (partOf (now (s .entry)) issued sort count (p .at)) p (area (now (kinds .entry)) (now (vals .entry))) (area (now (kinds .exit)) (now (vals .exit))) r) ⌝ }
 {
     match sort {
-        4 => keep_term(s, kinds, vals, p, LEVELS, issued),
-        5 => keep_nominal(s, kinds, vals, p, LEVELS, issued),
+        4 => term_at(s, kinds, vals, p, LEVELS, issued),
+        5 => nominal_at(s, kinds, vals, p, LEVELS, issued),
         6 => keep_entries(s, kinds, vals, p, LEVELS, issued, count),
         7 => keep_receivers(s, kinds, vals, p, LEVELS, issued, count),
         _ => keep_terms(s, kinds, vals, p, LEVELS, issued, count),

@@ -35,6 +35,7 @@ pub mod InsertLaws
 pub mod UseLaws
 pub mod ListLaws
 pub mod KeptLaws
+pub mod WantingLaws
 pub mod FormedLists
 pub mod Examples
 pub mod BinderExamples

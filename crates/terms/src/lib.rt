@@ -11,6 +11,7 @@ mod numbers;
 mod opening;
 mod questions;
 mod read;
+mod reader;
 mod recover;
 mod rewrite;
 mod rows;
@@ -39,6 +40,8 @@ pub use numbers::number_len;
 pub use numbers::read_number;
 pub use numbers::write_number;
 pub use questions::ask;
+pub use reader::nominal_at;
+pub use reader::term_at;
 pub use recover::recover_from;
 pub use rewrite::context;
 pub use rewrite::family;
@@ -60,6 +63,23 @@ pub struct Place {
     pub top: usize,
     pub nodes: usize,
     pub limit: usize,
+}
+
+// A term reader: the bytes of an order, and the position in them.
+pub struct TermReader<'a> {
+    pub bytes: &'a [u8],
+    pub at: usize,
+}
+
+// What a term reader is asked for: a term, or where `bare` a bare nominal, with the levels left and the number that its variables are below. The
+// rest is as in a place.
+pub struct Wanted {
+    pub bare: bool,
+    pub top: usize,
+    pub nodes: usize,
+    pub limit: usize,
+    pub levels: u32,
+    pub issued: u64,
 }
 
 // What follows the tag of a plain kind: a code below `codes` where that is not 0, at most two numbers, a count with as many terms, and

@@ -7,11 +7,11 @@ use borrow.Author.Needs.{needs}
 use Rattle.sheet.proofs.fields.keep_part.Statement.{statement}
 use Rattle.sheet.proofs.fields.keep_part.Tie as tie
 
-keep-term-requires : tie.Need-keep-term-requires
-keep-term-requires c κs = room-of (now (c .before .before .before .before .before .before .args .s)) (c .before .before .before .before .before .before .args .p) (c .before .before .before .before .before .before .pre .0)
+term-at-requires : tie.Need-term-at-requires
+term-at-requires c κs = room-of (now (c .before .before .before .before .before .before .args .s)) (c .before .before .before .before .before .before .args .p) (c .before .before .before .before .before .before .pre .0)
 
-keep-nominal-requires : tie.Need-keep-nominal-requires
-keep-nominal-requires c κs = (room-of (now (c .before .before .before .before .before .before .args .s)) (c .before .before .before .before .before .before .args .p) (c .before .before .before .before .before .before .pre .0), space-of (now (c .before .before .before .before .before .before .args .s)) (c .before .before .before .before .before .before .args .p) (c .before .before .before .before .before .before .pre .0))
+nominal-at-requires : tie.Need-nominal-at-requires
+nominal-at-requires c κs = (room-of (now (c .before .before .before .before .before .before .args .s)) (c .before .before .before .before .before .before .args .p) (c .before .before .before .before .before .before .pre .0), space-of (now (c .before .before .before .before .before .before .args .s)) (c .before .before .before .before .before .before .args .p) (c .before .before .before .before .before .before .pre .0))
 
 keep-entries-requires : tie.Need-keep-entries-requires
 keep-entries-requires c κs = room-of (now (c .before .before .before .before .before .before .args .s)) (c .before .before .before .before .before .before .args .p) (c .before .before .before .before .before .before .pre .0)
@@ -32,7 +32,7 @@ returns : tie.Need-returns
 unfolding partOf
 returns c =
     let a = c .before .before .before .before .before .before .before .before .before .before .before .args in
-    let r = c .before .before .before .before .keep-term in
+    let r = c .before .before .before .before .term-at in
     λ ws. rw (c .before .before .before .before .before .before .before .match .keys1) (term-part (now (a .s)) ws (a .issued) (a .p) (area (a .kinds .now) (a .vals .now)) (area (r .last .1 .0) (r .last .1 .1 .0)) (c .before .before .before .before .before .before .before .before .before .before .before .pre .1) (a .count) (r .result) (r .ensures .1 .1) (r .ensures .0) (r .ensures .1 .0))
 
 same-length-3 : tie.Need-same-length-3
@@ -45,7 +45,7 @@ returns-2 : tie.Need-returns-2
 unfolding partOf
 returns-2 c =
     let a = c .before .before .before .before .before .before .before .before .before .before .before .args in
-    let r = c .before .before .before .before .keep-nominal in
+    let r = c .before .before .before .before .nominal-at in
     λ ws. rw (c .before .before .before .before .before .before .before .match .keys2) (nominal-part (now (a .s)) ws (a .issued) (a .p) (area (a .kinds .now) (a .vals .now)) (area (r .last .1 .0) (r .last .1 .1 .0)) (c .before .before .before .before .before .before .before .before .before .before .before .pre .1) (a .count) (r .result) (r .ensures .1 .1) (r .ensures .0) (r .ensures .1 .0))
 
 same-length-5 : tie.Need-same-length-5
@@ -93,8 +93,8 @@ pub keep-part-spec : {M : Type 1} → statement M
 keep-part-spec =
     tie.close
     (tie.spec
-    keep-term-requires
-    keep-nominal-requires
+    term-at-requires
+    nominal-at-requires
     keep-entries-requires
     keep-receivers-requires
     keep-terms-requires

@@ -1,0 +1,42 @@
+-- What the term reader is asked, and what it leaves: the reading of a term or of a bare nominal, told by a flag. Assumes nothing.
+use mathlib.Core.Path.{_≡_}
+use mathlib.Core.Bool.{Bool, true, false}
+use Prim.Native.Nat.{ℕ, _+_, _-_, _^_, _<_}
+use mathlib.Core.List.{List}
+use lib.ListN.{length}
+use Rattle.terms.specs.declared.Place.{Place}
+use Rattle.terms.specs.declared.Step.{Step}
+use Rattle.terms.specs.declared.Wanted.{Wanted}
+use Rattle.terms.specs.Parser.{Result, pick}
+use Rattle.terms.specs.Tokens.{Area}
+use Rattle.terms.specs.Term.{Term, size}
+use Rattle.terms.specs.Reading.{term, bare}
+use Rattle.terms.specs.Done.{Room, RoomAfter, answer, kept, contents}
+
+-- the place at a position
+abbrev pub placeOf : ℕ → Wanted → Place
+placeOf at w = record { at = at; top = w .top; nodes = w .nodes; limit = w .limit }
+
+-- what the definition finds there
+abbrev pub foundAt : List ℕ → ℕ → Wanted → Result Term
+foundAt s at w = pick (w .bare) (bare s (w .issued) (w .levels) at) (term s (w .issued) (w .levels) at)
+
+-- how its nodes are counted
+abbrev pub nodesOf : Bool → Term → ℕ
+nodesOf b = pick b contents size
+
+-- a bare nominal has a token more than bytes
+abbrev pub Space : Bool → List ℕ → Place → Type 0
+Space true s p = p .top + 1 + (length s - p .at) < 2 ^ 32
+Space false s p = Unit {0}
+
+-- what is asked of the bytes and the position
+pub record Readable (s : List ℕ) (at : ℕ) (w : Wanted) : Type 0 where
+  pub room : Room s (placeOf at w)
+  pub space : Space (w .bare) s (placeOf at w)
+
+-- What was read, from the areas `d` to the areas `e`.
+pub record WantedDone (s : List ℕ) (at : ℕ) (w : Wanted) (d e : Area) (r : Step) : Type 0 where
+  pub answer : r ≡ answer (placeOf at w) (foundAt s at w) (nodesOf (w .bare))
+  pub areas : e ≡ kept s (placeOf at w) (foundAt s at w) (nodesOf (w .bare)) d
+  pub room : RoomAfter s r
