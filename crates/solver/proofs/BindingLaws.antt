@@ -1,5 +1,5 @@
 -- Bindings held: none at the start, and one more after a binding. Assumes nothing.
-use mathlib.Core.Path.{_≡_, refl, sym, ap, _∙_, subst}
+use mathlib.Core.Path.{_≡_, sym, ap, _∙_, subst}
 use mathlib.Core.List.{List}
 use mathlib.Core.Option.{Option, none, some}
 use Prim.Native.Nat.{ℕ, _+_, _<_}
@@ -9,10 +9,6 @@ use lib.Seq.{getD-set-same, getD-set-other}
 use Rattle.terms.specs.Term.{Term, Held}
 use Rattle.unify.specs.Solver.{put, put-same, put-other}
 use Rattle.solver.specs.Bindings.{HeldBinding, HeldBindings}
-
--- a table of zeros
-pub none-held : (ks vs bs : List ℕ) → ((v : ℕ) → getD bs v 0 ≡ 0) → HeldBindings ks vs bs (λ v. none)
-none-held ks vs bs h v = h v
 
 -- v bound to the term at p
 pub bind-held : (ks vs bs : List ℕ) (b : ℕ → Option Term) (v p : ℕ) (t : Term) → HeldBindings ks vs bs b → v < length bs → Held ks vs p t

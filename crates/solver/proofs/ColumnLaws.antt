@@ -1,13 +1,12 @@
 -- Laws of a table's columns: the column at o is the m words from o on, `take m (drop o ts)`. A place i of the table that is word v of it is
 -- given by the equation i ≡ o + v. Assumes nothing.
 use mathlib.Core.List.{List, [], _∷_}
-use mathlib.Core.Logic.{_⊎_, ⊎-elim}
 use mathlib.Core.Path.{_≡_, refl, sym, ap, _∙_}
 use Prim.Native.Nat.{ℕ, zero, suc, _+_, _-_, _<_, _≤_}
-use native.Mathlib.Decide.{ℕ-discrete, decLt}
+use native.Mathlib.Decide.{decLt}
 use native.Mathlib.Omega.{arith}
-use lib.ListN.{length, getD, set, take, drop, length-drop, List·getD-eq-default}
-use lib.Seq.{getD-set-same, getD-set-other, getD-take, getD-drop, length-take-le, set-out, take-set-lt, take-set-le, drop-set-lt, drop-set-add, take-take, take-nil}
+use lib.ListN.{length, getD, set, take, drop, length-drop}
+use lib.Seq.{getD-take, getD-drop, length-take-le, take-set-lt, take-set-le, drop-set-lt, drop-set-add, take-take, take-nil}
 use Rattle.solver.specs.Work.{Zero}
 use Rattle.solver.proofs.WorkLaws.{zero-take, zero-drop}
 
@@ -57,19 +56,6 @@ module _ (m o : ℕ) (ts : List ℕ) where
       ap (λ (k : ℕ). take m (drop o (set ts k x))) e ∙ ap (λ (l : List ℕ). take m l) (drop-set-add o ts (i - o) x)
       ∙ take-set-le m (drop o ts) (i - o) x (omega arith)
 
-  -- in another column
-  pub column-other : (o′ i v x : ℕ) → i ≡ o′ + v → v < m → (o + m ≤ o′) ⊎ (o′ + m ≤ o) → take m (drop o (set ts i x)) ≡ take m (drop o ts)
-  column-other o′ i v x e h d = ⊎-elim (λ l. column-behind i x (omega arith)) (λ l. column-before i x (omega arith)) d
-
-  -- what a write leaves there, word by word
-  pub column-here : (i v x : ℕ) → i ≡ o + v → v < m → o + m ≤ length ts → getD (take m (drop o (set ts i x))) v 0 ≡ x
-  column-here i v x e h r =
-      ap (λ (l : List ℕ). getD l v 0) (column-write i v x e h) ∙ getD-set-same (take m (drop o ts)) v x 0 (omega (arith, column-length r))
-
-  pub column-there : (i v u x : ℕ) → i ≡ o + v → v < m → (u ≡ v → ⊥) → getD (take m (drop o (set ts i x))) u 0 ≡ getD (take m (drop o ts)) u 0
-  column-there i v u x e h p =
-      ap (λ (l : List ℕ). getD l u 0) (column-write i v x e h) ∙ getD-set-other (take m (drop o ts)) v u x 0 p
-
 -- tables with the same first k words have the same columns there
 pub column-same : (m o k : ℕ) (ts ts′ : List ℕ) → take k ts ≡ take k ts′ → o + m ≤ k → take m (drop o ts) ≡ take m (drop o ts′)
 column-same m o k ts ts′ e h =
@@ -90,9 +76,6 @@ module _ (k : ℕ) (ts : List ℕ) where
   -- a word that is written before k leaves what stands from k on, one written from k on what stands before
   pub rest-before : (i x : ℕ) → i < k → drop k (set ts i x) ≡ drop k ts
   rest-before i x h = drop-set-lt k ts i x h
-
-  pub start-behind : (i x : ℕ) → k ≤ i → take k (set ts i x) ≡ take k ts
-  start-behind i x h = take-set-le k ts i x h
 
   pub rest-write : (i j x : ℕ) → i ≡ k + j → drop k (set ts i x) ≡ set (drop k ts) j x
   rest-write i j x e = ap (λ (n : ℕ). drop k (set ts n x)) e ∙ drop-set-add k ts j x
@@ -116,22 +99,3 @@ zero-after k ts i z = go (decLt i k)
     go : Dec (i < k) → Zero (drop k (set ts i 0))
     go (yes p) = zero-before k ts i 0 p z
     go (no p) = λ j. ap (λ (l : List ℕ). getD l j 0) (rest-write k ts i (i - k) 0 (omega arith)) ∙ zero-set (drop k ts) (i - k) z j
-
-pub zero-later : (k n : ℕ) (ts : List ℕ) → k ≤ n → Zero (drop k ts) → Zero (drop n ts)
-zero-later k n ts h z = rest-zero n ts (λ i l. rest-read k ts z i (omega arith))
-
--- one word more from k on: what is 0 from k + 1 on, and at k
-pub zero-earlier : (k : ℕ) (ts : List ℕ) → getD ts k 0 ≡ 0 → Zero (drop (k + 1) ts) → Zero (drop k ts)
-zero-earlier k ts e z = rest-zero k ts (λ i l. go i l (ℕ-discrete i k))
-  where
-    go : (i : ℕ) → k ≤ i → Dec (i ≡ k) → getD ts i 0 ≡ 0
-    go i l (yes p) = ap (λ (n : ℕ). getD ts n 0) p ∙ e
-    go i l (no p) = rest-read (k + 1) ts z i (omega arith)
-
--- the last word that is not 0 is cleared
-pub zero-clear : (k : ℕ) (ts : List ℕ) → Zero (drop (k + 1) ts) → Zero (drop k (set ts k 0))
-zero-clear k ts z = go (decLt k (length ts))
-  where
-    go : Dec (k < length ts) → Zero (drop k (set ts k 0))
-    go (yes p) = zero-earlier k (set ts k 0) (getD-set-same ts k 0 0 p) (zero-before (k + 1) ts k 0 (omega arith) z)
-    go (no p) = zero-earlier k (set ts k 0) (ap (λ (l : List ℕ). getD l k 0) (set-out ts k 0 (omega arith)) ∙ List·getD-eq-default ts 0 {n = k} (omega arith)) (zero-before (k + 1) ts k 0 (omega arith) z)

@@ -203,9 +203,6 @@ sound-next ks n st p e d s h = record { order = omega arith; within = s .within;
 
 -- ---- for the loops over `settle`
 
-pub sound-start : (ks : List ℕ) (n : ℕ) (st : List ℕ) (a c : ℕ) → a + c ≤ length ks → n + n ≤ length st → Sound ks n st a (a + c) 0
-sound-start ks n st a c h r = record { order = omega arith; within = h; depth = omega arith; room = r; frames = λ j hj. absurd (omega arith) }
-
 module _ (ks vs bs : List ℕ) (n : ℕ) where
   pub left-start : (st : List ℕ) (a c : ℕ) (st′ : List ℕ) (p e d : ℕ) → Settled ks vs bs n st a (a + c) 0 st′ p e d
       → left ks vs bs n st′ p e d ≡ walked ks vs bs n a c

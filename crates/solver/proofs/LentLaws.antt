@@ -14,7 +14,6 @@ use lib.Seq.{ext-getD, getD-set-same, getD-set-other, getD-take, length-take-le,
 use Rattle.terms.specs.Result.{pick}
 use Rattle.terms.specs.Tokens.{Item, item, spell, toks}
 use Rattle.terms.specs.Term.{Term, Parts, var, node, end, num, sub, items, partItems, size, sizes, Held}
-use Rattle.terms.specs.Held.{HeldParts}
 use Rattle.terms.proofs.HeldLaws.{toks-add, toks-cons, split-append}
 use Rattle.terms.proofs.ViewLaws.{toks-same}
 use Rattle.solver.specs.declared.Solver.{Solver}
@@ -69,13 +68,6 @@ begins-items ks vs p t h =
     begins-run ks vs p (length (items t)) (h .within) ∙ ap (λ (l : List Item). begins (take p ks) + heads l) (h .tokens)
     ∙ ap (λ (n : ℕ). begins (take p ks) + n) (heads-items t)
 
-pub begins-parts : (ks vs : List ℕ) (a e : ℕ) (ps : Parts) → HeldParts ks vs a e ps → begins (take e ks) ≡ begins (take a ks) + sizes ps
-begins-parts ks vs a e ps h =
-    ap (λ (k : ℕ). begins (take k ks)) (sym (h .ends))
-    ∙ begins-run ks vs a (length (partItems ps)) (omega (arith, h .ends, h .within))
-    ∙ ap (λ (l : List Item). begins (take a ks) + heads l) (h .tokens)
-    ∙ ap (λ (n : ℕ). begins (take a ks) + n) (heads-parts ps)
-
 -- ---- more tokens
 
 -- the areas ks₀ and vs₀ are the start of ks and vs
@@ -103,14 +95,6 @@ module _ {ks₀ vs₀ ks vs : List ℕ} (G : Longer ks₀ vs₀ ks vs) where
   pub held-longer : (p : ℕ) (t : Term) → Held ks₀ vs₀ p t → Held ks vs p t
   held-longer p t h = record { tokens = toks-longer p (length (items t)) (h .within) ∙ h .tokens; within = omega (arith, h .within, G .longer) }
 
-  pub row-longer : (a e : ℕ) (ps : Parts) → HeldParts ks₀ vs₀ a e ps → HeldParts ks vs a e ps
-  row-longer a e ps h =
-      record {
-        tokens = toks-longer a (length (partItems ps)) (omega (arith, h .ends, h .within)) ∙ h .tokens;
-        ends = h .ends;
-        within = omega (arith, h .within, G .longer);
-      }
-
   pub bindings-longer : (bs : List ℕ) (b : ℕ → Option Term) → HeldBindings ks₀ vs₀ bs b → HeldBindings ks vs bs b
   bindings-longer bs b h v = go (b v) (h v)
     where
@@ -123,22 +107,12 @@ module _ {ks₀ vs₀ ks vs : List ℕ} (G : Longer ks₀ vs₀ ks vs) where
       let l = length-take-le (length ks₀) ks (G .longer) in
       ext-getD 0 (take (length ks₀) ks) ks₀ l (λ i x. getD-take (length ks₀) ks i 0 (omega arith) ∙ G .kinds i (omega arith))
 
-  -- the term that has been stored behind ks₀, or the row
-  pub begins-term : (t : Term) → Held ks vs (length ks₀) t → length ks ≡ length ks₀ + length (items t) → begins ks ≡ begins ks₀ + size t
-  begins-term t h e =
-      ap begins (sym (take-length ks) ∙ ap (λ (n : ℕ). take n ks) e) ∙ begins-items ks vs (length ks₀) t h
-      ∙ ap (λ (l : List ℕ). begins l + size t) start-longer
-
   -- two terms, as order 4 has them
   pub begins-pair : (t u : Term) → Held ks vs (length ks₀) t → Held ks vs (length ks₀ + length (items t)) u
       → length ks ≡ length ks₀ + length (items t) + length (items u) → begins ks ≡ begins ks₀ + (size t + size u)
   begins-pair t u h k e =
       ap begins (sym (take-length ks) ∙ ap (λ (n : ℕ). take n ks) e)
       ∙ omega (arith, begins-items ks vs (length ks₀ + length (items t)) u k, begins-items ks vs (length ks₀) t h, ap begins start-longer)
-
-  pub begins-row : (ps : Parts) → HeldParts ks vs (length ks₀) (length ks) ps → begins ks ≡ begins ks₀ + sizes ps
-  begins-row ps h =
-      ap begins (sym (take-length ks)) ∙ begins-parts ks vs (length ks₀) (length ks) ps h ∙ ap (λ (l : List ℕ). begins l + sizes ps) start-longer
 
   -- a session stays held where n nodes more are kept
   pub lent-more : {x : Solver} {ts : List ℕ} {s : Session} → Lent x ks₀ vs₀ ts s → (n : ℕ)

@@ -11,8 +11,8 @@
 --   OrderedLaws      a solver in order: its bindings, requests, revision, and the top of a term
 --   InOrderLaws      sessions in order and within limits after every list; every pair is settled with enough checks
 --   TurnLaws         what a turn of `constrain` comes to; it leaves a solver in order
---   DefaultLaws      so do a default, one variable more and a request
---   RequestLaws      requests of order 1: what they admit, how two meet; a turn leaves them so
+--   DefaultLaws      so it is after every list of orders; what a default leaves
+--   RequestLaws      requests of order 1: what they admit, how two meet
 --   HistoryLaws      a history is what was answered; pushed children in the order of `slot`
 --   Demand3Examples  demand 3 used on two sessions
 --   TopLaws          what a term stands for, by its tokens

@@ -285,9 +285,6 @@ module _ (ks vs : List ℕ) (σ : ℕ → Term) (par : List ℕ) (x y : ℕ) (in
   hang-keeps : Keeps par (set par x (y + 1))
   hang-keeps z w e = getD-set-other par x z (y + 1) 0 (λ q. omega (arith, ap (λ (v : ℕ). getD par v 0) q)) ∙ e
 
-  hang-up : Up (set par x (y + 1)) x y
-  hang-up = climb (getD-set-same par x (y + 1) 0 inside) here
-
 module _ (σ : ℕ → Term) (τ : Term → Term) (s : Standing σ τ) (ks vs par : List ℕ) (fair : Fair ks vs par) (t u : Term) (a b : ℕ) (ha : Held ks vs a (τ t)) (hb : Held ks vs b (τ u))
     (p q : ℕ) (pa : Up par a p) (qb : Up par b q) (k : 2 ≤ getD ks a 0) (l : getD ks a 0 ≡ getD ks b 0) where
   -- the class of t has been hung below that of u, or the other way round

@@ -102,11 +102,6 @@ pub var-within : (N v : ℕ) → Within N (var v) → v < N
 unfolding AllVars
 var-within N v w = w
 
--- a builtin has no variables
-pub within-builtin : (N c : ℕ) → Within N (node 4 (num c end))
-unfolding AllVars
-within-builtin N c = tt
-
 mutual
   unfolding AllVars
 
@@ -145,19 +140,6 @@ pub bound-most : (n : ℕ) (b : ℕ → Option Term) → boundBelow n b ≤ n
 unfolding boundBelow
 bound-most zero b = omega arith
 bound-most (suc n) b = let p = one-most (b n) in let q = bound-most n b in omega arith
-
-pub bound-fewer : (n : ℕ) (b : ℕ → Option Term) (v : ℕ) → v < n → b v ≡ none → boundBelow n b < n
-unfolding boundBelow counting.one
-bound-fewer zero b v l e = absurd (omega arith)
-bound-fewer (suc n) b v l e = go (λ m. bound-fewer n b v m e) (decLt v n)
-  where
-    go : (v < n → boundBelow n b < n) → Dec (v < n) → counting.one (b n) + boundBelow n b < suc n
-    go h (yes m) = let p = one-most (b n) in let q = h m in omega arith
-    go h (no m) =
-        let a : v ≡ n = omega arith in
-        let p : counting.one (b n) ≡ 0 = ap counting.one (ap b (sym a) ∙ e) in
-        let q = bound-most n b in
-        omega arith
 
 -- ---- in order
 
@@ -206,9 +188,6 @@ module _ (n : Notion) (codes-count : n 4 ≡ false) (N : ℕ) (z : Solver) (orde
   pub ordered-revision : z .revision ≤ N
   ordered-revision = let p = ordered-counted in let q = bound-most N (z .bindings) in omega arith
 
-  pub ordered-room : (v : ℕ) → v < N → z .bindings v ≡ none → z .revision < N
-  ordered-room v l e = let p = ordered-counted in let q = bound-fewer N (z .bindings) v l e in omega arith
-
   -- bound and requested variables are issued
   pub ordered-far : (v : ℕ) → N ≤ v → z .bindings v ≡ none
   ordered-far v l = none-viewed (z .bindings v) (ordered .counted .far v l)
@@ -219,9 +198,6 @@ module _ (n : Notion) (codes-count : n 4 ≡ false) (N : ℕ) (z : Solver) (orde
       go : Dec (v < N) → v < N
       go (yes l) = l
       go (no l) = let q = ordered-far v (omega arith) in clash (cc)
-
-  pub ordered-unrequested : (v : ℕ) → N ≤ v → z .requests v ≡ none
-  ordered-unrequested v l = ap (λ (g : ℕ → Option (S .Fam)). g v) (ordered .stands .fams) ∙ ordered .fine .fresh v l .1
 
   -- a variable in a binding is bound, so it is issued, or it is left in what the bound variable resolves to
   low : (v : ℕ) (t : Term) → z .bindings v ≡ some t → (w : ℕ) → In w (view t) → w < N
@@ -280,7 +256,3 @@ module _ (n : Notion) (codes-count : n 4 ≡ false) (N : ℕ) (z : Solver) (orde
 
   pub top-free : (t : Term) (v : ℕ) → top z t ≡ var v → z .bindings v ≡ none
   top-free t v e = ordered-topped .topped t v e
-
-  -- a variable at the top can still be bound
-  pub top-room : (t : Term) (v : ℕ) → Within N t → top z t ≡ var v → z .revision < N
-  top-room t v w e = ordered-room v (top-low t v w e) (top-free t v e)

@@ -13,9 +13,6 @@ module _ {A : Type 0} (f : ℕ → ℕ → List A) where
   unfolding over
   over-cons m l k v e = ap (over f) e
 
-  pub over-skip : (m l : List Item) (k v : ℕ) → m ≡ item k v ∷ l → f k v ≡ [] → over f m ≡ over f l
-  over-skip m l k v e z = over-cons m l k v e ∙ ap (λ (x : List A). x ++ over f l) z
-
   pub over-none : (m : List Item) → m ≡ [] → over f m ≡ []
   unfolding over
   over-none m e = ap (over f) e

@@ -3,7 +3,7 @@
 -- Assumes nothing.
 use mathlib.Core.List.{List}
 use mathlib.Core.Logic.{_⊎_, inl, inr}
-use mathlib.Core.Option.{Option, none, some}
+use mathlib.Core.Option.{Option}
 use mathlib.Core.Path.{_≡_, refl, sym, ap, ap₂, _∙_}
 use Prim.Native.Nat.{ℕ, suc, _+_, _-_, _≤_, _<_}
 use native.Mathlib.Decide.{decLt}
@@ -14,7 +14,7 @@ use Rattle.terms.specs.Term.{Term, Parts, node, items, Held}
 use Rattle.terms.specs.Held.{span}
 use Rattle.terms.specs.Tree.{tag, children}
 use Rattle.terms.proofs.HeldLaws.{kind-some, items-some, held-first, span-is, items-injective}
-use Rattle.unify.specs.Solver.{put, put-other}
+use Rattle.unify.specs.Solver.{put}
 use Rattle.solver.specs.Solving.{follow}
 use Rattle.solver.specs.Reach.{Steady}
 use Rattle.solver.specs.Lent.{begins}
@@ -35,13 +35,6 @@ held-same ks vs p t u h g =
 -- a term begins with a token that begins one
 pub term-begins : (ks vs : List ℕ) (p : ℕ) (t : Term) → Held ks vs p t → (p < length ks) × (1 ≤ getD ks p 0)
 term-begins ks vs p t h = (omega (arith, h .within, items-some t), omega (arith, held-first ks vs p t h .0, kind-some t))
-
--- binding an unbound variable only adds a binding
-pub extends-put : (b : ℕ → Option Term) (v : ℕ) (s : Term) → b v ≡ none → Extends b (put b v (some s))
-extends-put b v s u w t e = put-other b v (some s) w other ∙ e
-  where
-    other : w ≡ v → ⊥
-    other q = let c : none ≡ some t = sym u ∙ ap b (sym q) ∙ e in let y : _≡_ {A = ℕ} 0 1 = cc in omega arith
 
 module _ (ks vs : List ℕ) where
   -- the node at d is strictly inside the node at a

@@ -1,9 +1,8 @@
 -- The pigeonhole law: n different numbers below m are at most m; and different tokens that begin a term are at most as many as begin one.
 -- Assumes nothing.
-use mathlib.Core.Path.{_≡_, refl, sym, ap, _∙_}
-use mathlib.Core.Bool.{true, false}
+use mathlib.Core.Path.{_≡_, sym, _∙_}
 use mathlib.Core.List.{List, [], _∷_}
-use Prim.Native.Nat.{ℕ, zero, suc, _+_, _-_, _≤_, _<_}
+use Prim.Native.Nat.{ℕ, zero, suc, _+_, _≤_, _<_}
 use native.Mathlib.Omega.{arith}
 use native.Mathlib.Decide.{ℕ-discrete, decLt}
 use borrow.Author.Tests.{ne-eqb}
@@ -60,12 +59,6 @@ more-apart : (f : ℕ → ℕ) (n m x i j : ℕ) (d : Dec (i < n)) (e : Dec (j <
 more-apart f n m x i j (yes p) (yes q) a g h k z = a .apart i j h q z
 more-apart f n m x i j (yes p) (no q) a g h k z = g i p z
 more-apart f n m x i j (no p) e a g h k z = p (omega arith)
-
-pub pigeon-more : (m n : ℕ) (f : ℕ → ℕ) (x : ℕ) → Apart f n m → x < m → ((i : ℕ) → i < n → f i ≡ x → ⊥) → n < m
-pigeon-more m n f x a h g = pigeon m (suc n) (λ i. more f n x i (decLt i n)) (record {
-  below = λ i k. more-below f n m x i (decLt i n) a h;
-  apart = λ i j k l. more-apart f n m x i j (decLt i n) (decLt j n) a g k l;
-})
 
 -- ---- tokens that begin a term
 

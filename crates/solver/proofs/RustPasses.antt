@@ -4,8 +4,8 @@ use mathlib.Core.Bool.{Bool, true, false, not, _&&_, _||_}
 use mathlib.Core.List.{List, [], _∷_, _++_, map}
 use mathlib.Core.Logic.{inl, inr, _≢_, ite}
 use mathlib.Core.Option.{Option, none, some}
-use Prim.Native.Nat.{ℕ, zero, suc, _≤_, _<_}
-use native.Mathlib.Decide.{ℕ-discrete, decLt, decLe}
+use Prim.Native.Nat.{ℕ, zero, suc, _<_}
+use native.Mathlib.Decide.{ℕ-discrete, decLt}
 use native.Mathlib.Omega.{arith}
 use borrow.Author.Tests.{lt-ltb}
 use lib.Dec.{eqb}
@@ -30,7 +30,7 @@ use Rattle.unify.specs.Orders.{Issued}
 use Rattle.unify.specs.Sound.{step-right}
 use Rattle.unify.specs.Refine.{idem-sub}
 use Rattle.unify.specs.Rust as theirs
-use Rattle.unify.specs.Rust.{look, insert, place, sorted}
+use Rattle.unify.specs.Rust.{look, insert}
 use Rattle.unify.specs.RustLists.{look-insert, nth-push, nth-set, nth-inside, store-set}
 use Rattle.unify.specs.RustGoes.{Holds, holds-rounds, holds-asks, holds-free, holds-bind, within}
 use Rattle.solver.specs.Families.{code, codes, integers, floats, familyOf, admits, belongs, belongsRow, shared, gathered, Request, requested, withFallback, meet}
@@ -101,21 +101,6 @@ insert-view (p ∷ ns) v c = go (ℕ-discrete v (p .0)) (insert-view ns v c)
         → ite d ((v, requested c) ∷ view-numeric ns) ((p .0, requested (p .1)) ∷ insert (view-numeric ns) v (requested c)) ≡ view-numeric (ite d ((v, c) ∷ ns) (p ∷ insert ns v c))
     go (yes e) h = refl
     go (no e) h = ap (λ (l : List (ℕ × Request)). (p .0, requested (p .1)) ∷ l) h
-
-place-view : (p : ℕ × ℕ) (ns : List (ℕ × ℕ)) → place (p .0, requested (p .1)) (view-numeric ns) ≡ view-numeric (place p ns)
-unfolding place
-place-view p [] = refl
-place-view p (q ∷ ns) = go (decLe (p .0) (q .0)) (place-view p ns)
-  where
-    go : (d : Dec (p .0 ≤ q .0)) → place (p .0, requested (p .1)) (view-numeric ns) ≡ view-numeric (place p ns)
-        → ite d ((p .0, requested (p .1)) ∷ (q .0, requested (q .1)) ∷ view-numeric ns) ((q .0, requested (q .1)) ∷ place (p .0, requested (p .1)) (view-numeric ns)) ≡ view-numeric (ite d (p ∷ q ∷ ns) (q ∷ place p ns))
-    go (yes e) h = refl
-    go (no e) h = ap (λ (l : List (ℕ × Request)). (q .0, requested (q .1)) ∷ l) h
-
-pub sorted-view : (ns : List (ℕ × ℕ)) → sorted (view-numeric ns) ≡ view-numeric (sorted ns)
-unfolding sorted
-sorted-view [] = refl
-sorted-view (p ∷ ns) = ap (place (p .0, requested (p .1))) (sorted-view ns) ∙ place-view p (sorted ns)
 
 -- ---- formed terms
 

@@ -1,25 +1,25 @@
 -- The pending pairs as `constrain` carries them from turn to turn. Assumes nothing.
 use mathlib.Core.List.{List, [], _∷_}
 use mathlib.Core.Logic.{_⊎_, inl, inr, ⊎-elim}
-use mathlib.Core.Option.{Option, none, some}
+use mathlib.Core.Option.{Option, some}
 use mathlib.Core.Path.{_≡_, refl, sym, ap, subst, _∙_}
 use Prim.Native.Nat.{ℕ, zero, suc, _+_, _-_, _≤_, _<_}
 use native.Mathlib.Decide.{decLt}
-use native.Mathlib.Nat.{add-zero, zero-add}
+use native.Mathlib.Nat.{add-zero}
 use native.Mathlib.Omega.{arith}
 use lib.ListN.{length, getD, drop}
 use lib.Seq.{getD-drop}
 use Rattle.terms.specs.Term.{Term, Parts, node, Held}
 use Rattle.terms.specs.Tree.{nums, row, tag, class, children, subs}
 use Rattle.terms.proofs.HeldLaws.{held-node}
-use Rattle.solver.specs.Shapes.{turned, pushed}
+use Rattle.solver.specs.Shapes.{pushed}
 use Rattle.solver.specs.Solving.{Pair, zipOn, follow}
 use Rattle.solver.specs.Reach.{Steady}
 use Rattle.solver.specs.Lent.{begins}
 use Rattle.solver.specs.Pending.{HeldPairs, Laid, places, pushedPlaces, PushedPairs}
 use Rattle.solver.proofs.Pigeon.{pigeon-begins}
 use Rattle.solver.proofs.Inside.{Extends}
-use Rattle.solver.proofs.TurnedLaws.{Drawn, drawn-turned, turned-length, places-length, HeldAll, all-length, all-turned, all-row}
+use Rattle.solver.proofs.TurnedLaws.{Drawn, drawn-turned, turned-length, places-length, HeldAll, all-turned, all-row}
 use Rattle.solver.proofs.PendingLaws.{Stacked, stacked-none, stacked-first, stacked-expand, stacked-pop, stacked-extends, stacked-agree, stacked-bound, term-begins}
 
 -- ---- pairs in words
@@ -102,9 +102,6 @@ pub record Stack (ks vs : List ℕ) (b : ℕ → Option Term) (st : List ℕ) (c
   pub few : (count ≡ 1) ⊎ Stacked ks vs b (λ i. getD st (i + i) 0) count
 
 module _ (ks vs : List ℕ) where
-  pub stack-none : (b : ℕ → Option Term) (st : List ℕ) → Stack ks vs b st 0 []
-  stack-none b st = record { held = tt; few = inr (stacked-none ks vs b (λ i. getD st (i + i) 0)) }
-
   -- the pair that is given
   pub stack-start : (b : ℕ → Option Term) (st : List ℕ) (t u : Term) → Held ks vs (getD st 0 0) t → Held ks vs (getD st 1 0) u → Stack ks vs b st 1 ((t, u) ∷ [])
   stack-start b st t u ht hu = record { held = (ht, hu, tt); few = inl refl }

@@ -158,16 +158,6 @@ turn-todo n z t u ps = go (turn-came n z t u ps)
     go (inr (inl a)) = inr (a .1)
     go (inr (inr a)) = inl (ap (λ (x : Turn). x .todo) (a .5))
 
--- a turn binds one variable or none
-pub turn-revision : (n : Notion) (z : Solver) (t u : Term) (ps : List Pair)
-    → (turn n z t u ps .state ≡ z) ⊎ (turn n z t u ps .state .revision ≡ suc (z .revision))
-turn-revision n z t u ps = go (turn-came n z t u ps)
-  where
-    go : Came z (top z t) (top z u) ps (turn n z t u ps) → (turn n z t u ps .state ≡ z) ⊎ (turn n z t u ps .state .revision ≡ suc (z .revision))
-    go (inl a) = inl (a .0)
-    go (inr (inl a)) = inl (a .0)
-    go (inr (inr a)) = inr (ap (λ (x : Turn). x .state .revision) (a .5))
-
 -- ---- pairs within N
 
 abbrev pub EachWithin : ℕ → List Term → Type 0

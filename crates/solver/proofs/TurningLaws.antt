@@ -31,14 +31,6 @@ between-ordered n c N (checked z t u ps b wt wu wps) = turn-ordered n c N z (bet
 
 -- ---- lists
 
--- two lists that are as long and agree are equal; so do their starts
-pub same-words : (l m : List ℕ) → length l ≡ length m → ((i : ℕ) → i < length l → getD l i 0 ≡ getD m i 0) → l ≡ m
-same-words [] [] e h = refl
-same-words [] (y ∷ m) e h = absurd (omega arith)
-same-words (x ∷ l) [] e h = absurd (omega arith)
-same-words (x ∷ l) (y ∷ m) e h =
-    ap (λ (z : ℕ). z ∷ l) (h 0 (omega arith)) ∙ ap (λ (r : List ℕ). y ∷ r) (same-words l m (omega arith) (λ i p. h (suc i) (omega arith)))
-
 pub same-start : (k : ℕ) (l m : List ℕ) → length l ≡ length m → ((i : ℕ) → i < k → getD l i 0 ≡ getD m i 0) → take k l ≡ take k m
 same-start zero l m e h = refl
 same-start (suc k) [] [] e h = refl
