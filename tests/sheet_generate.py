@@ -19,6 +19,7 @@ The families:
   mixed      long sheets of all orders
 and in JUDGED, for tests/judge.py, too:
   operations orders 9 to 20 of all sorts between those of a session, damaged ones among them
+  edges      orders 9 to 20 with 200 levels or 2,048 nodes, one less and one more
   shadowed   substitutions with an entry twice, values that hold what is substituted, parameters of a family that are entries too
   every_room one sheet with outputs of every length from 0 to one byte more than its answers
 """
@@ -581,7 +582,8 @@ def doubled(rng, most=7, checks=MOST):
         script.add(4, 9, var(how_many), var(offset))
     elif leaf < 0.7:
         script.add(4, 9, var(how_many), (ARRAY, var(0)))
-    script.add(4, min(checks, rng.choice((MOST, 1000, 3 * 2 ** how_many - 1, 3 * 2 ** how_many - 2, rng.randrange(40)))), var(0), var(offset))
+    first = rng.choice((MOST, 1000, 3 * 2 ** how_many - 1, 3 * 2 ** how_many - 2, rng.randrange(40)))
+    script.add(4, min(checks, first), var(0), var(offset))
     script.add(8)
     script.add(5, var(rng.randrange(how_many + 1)))
     script.add(4, checks, var(0), var(offset))
@@ -694,6 +696,19 @@ def operations(rng):
     yield ROOM, script.sheet()
 
 
+def edges(rng):
+    """Orders 9 to 20 at the limits of what is read."""
+    script = started(rng, 2)
+    for _ in range(rng.randint(2, 4)):
+        maker = Maker(rng, rng.randrange(9, 21)).order()
+        if rng.random() < 0.5:
+            maker.make_levels(rng.choice((199, 200, 200, 201, 201, 202)))
+        else:
+            maker.make_nodes(rng.choice((2047, 2048, 2048, 2049, 2049, 2050)))
+        script.orders.append(maker.data())
+    yield ROOM, script.sheet()
+
+
 def shadowed(rng):
     """Orders 12, 13 and 18 in which few parameters stand in many places."""
     script = Script(rng)
@@ -731,9 +746,9 @@ def every_room(rng):
 
 FAMILIES = ((session, 0.42), (checks, 0.05), (chain, 0.10), (limits, 0.06), (room, 0.05), (full, 0.004), (doubled, 0.03),
             (large_doubled, 0.002), (deep, 0.006), (damaged, 0.25), (mixed, 0.004))
-JUDGED = ((session, 0.32), (checks, 0.02), (chain, 0.08), (limits, 0.04), (room, 0.03), (full, 0.001), (doubled, 0.02),
-          (large_doubled, 0.0005), (deep, 0.004), (damaged, 0.18), (mixed, 0.001), (operations, 0.26), (shadowed, 0.05),
-          (every_room, 0.004))
+JUDGED = ((session, 0.31), (checks, 0.02), (chain, 0.08), (limits, 0.06), (room, 0.03), (full, 0.001), (doubled, 0.02),
+          (large_doubled, 0.0005), (deep, 0.004), (damaged, 0.18), (mixed, 0.001), (operations, 0.25), (edges, 0.03),
+          (shadowed, 0.05), (every_room, 0.004))
 
 
 def sheets(how_many, seed, families=FAMILIES):

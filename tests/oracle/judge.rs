@@ -1,15 +1,17 @@
-//! Compares the static library with Kagari's own functions, in one process. tests/judge.py builds it and gives it sheets.
+//! Compares the static library with Kagari's own functions, in one process. tests/judge.py builds it and feeds it.
 //!
-//! Standard input is a run of frames: eight numbers of four bytes, low byte first, and a sheet. The numbers are the family,
-//! which the tables count; the room of the output; the words of the four areas; what output and areas are filled with; the
-//! length of the sheet. Each sheet is run by both sides. At the first difference orders are taken out as long as the two
-//! differ, the rest is printed in hexadecimal, and the exit status is 1. Else the counts are printed, a line for each.
+//! Standard input is a run of frames: eight numbers of four bytes, low byte first, and a sheet. The numbers are the
+//! family, which the tables count; the room of the output; the words of the four areas; what output and areas are
+//! filled with; the length of the sheet. Each sheet is run by both sides. At the first difference orders are taken out
+//! as long as the two differ, the rest is printed in hexadecimal, and the exit status is 1. Else the counts are
+//! printed, a line for each.
 
 mod format;
 #[allow(dead_code)]
 mod kagari;
 mod lent;
 mod orders;
+#[allow(dead_code)]
 mod sheets;
 mod solver;
 mod stack;
@@ -93,8 +95,11 @@ fn smallest(library: &mut Library, sheet: &[u8], room: Room) -> Vec<u8> {
 }
 
 fn shown(bytes: &[u8]) -> String {
-    let text: Vec<String> = bytes.iter().take(SHOWN).map(|byte| format!("{byte:02x}")).collect();
-    format!("{}{}", text.join(" "), if bytes.len() > SHOWN { format!(" .. ({} bytes)", bytes.len()) } else { String::new() })
+    let mut words: Vec<String> = bytes.iter().take(SHOWN).map(|byte| format!("{byte:02x}")).collect();
+    if bytes.len() > SHOWN {
+        words.push(format!(".. ({} bytes)", bytes.len()));
+    }
+    words.join(" ")
 }
 
 fn describe(library: &mut Library, sheet: &[u8], room: Room) {

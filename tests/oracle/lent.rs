@@ -4,14 +4,25 @@
 const GUARD: usize = 64;
 const GUARD_WORD: u32 = 0xc3a5_5a3c;
 const LEAST_WORDS: usize = 16384;
-/// What the two counts hold before a run.
+/// What the two counts, and those around them, hold before a run.
 const UNSET: u64 = 0x7777_7777_7777_7777;
 
 unsafe extern "C" {
-    #[allow(clippy::too_many_arguments)]
     fn sheet_run(
-        sheet: *const u8, sheet_len: usize, out: *mut u8, out_len: usize, a: *mut u32, a_len: usize, b: *mut u32, b_len: usize,
-        c: *mut u32, c_len: usize, d: *mut u32, d_len: usize, orders: *mut u64, bytes: *mut u64,
+        sheet: *const u8,
+        sheet_len: usize,
+        out: *mut u8,
+        out_len: usize,
+        a: *mut u32,
+        a_len: usize,
+        b: *mut u32,
+        b_len: usize,
+        c: *mut u32,
+        c_len: usize,
+        d: *mut u32,
+        d_len: usize,
+        orders: *mut u64,
+        bytes: *mut u64,
     ) -> u32;
 }
 
@@ -49,9 +60,10 @@ impl<T: Copy + PartialEq> Lent<T> {
         same(&self.all[..GUARD]) && same(&self.all[GUARD + self.length..])
     }
 
-    /// Whether all items from a place on are the same.
+    /// Whether all items from a place on are the same. Chunks have no early end, so that they are fast.
     fn is(&self, from: usize, item: T) -> bool {
-        self.items()[from..].iter().all(|other| *other == item)
+        let same = |chunk: &[T]| chunk.iter().fold(true, |same, other| same & (*other == item));
+        self.items()[from..].chunks(1024).all(same)
     }
 }
 
@@ -82,13 +94,20 @@ pub struct Library {
     sheet: Lent<u8>,
     out: Lent<u8>,
     areas: [Lent<u32>; 4],
+    /// The orders are the second, the bytes the fifth.
+    counts: [u64; 6],
 }
 
 impl Library {
     pub fn new() -> Self {
         let [guard, ..] = GUARD_WORD.to_le_bytes();
         let area = || Lent::new(GUARD_WORD);
-        Self { sheet: Lent::new(guard), out: Lent::new(guard), areas: [area(), area(), area(), area()] }
+        Self {
+            sheet: Lent::new(guard),
+            out: Lent::new(guard),
+            areas: [area(), area(), area(), area()],
+            counts: [UNSET; 6],
+        }
     }
 
     pub fn run(&mut self, sheet: &[u8], room: Room) -> Found {
@@ -99,7 +118,8 @@ impl Library {
         for (area, words) in self.areas.iter_mut().zip(room.words) {
             area.fill(words, room.fill);
         }
-        let (reason, orders, bytes) = self.call();
+        let reason = self.call();
+        let [_, orders, _, _, bytes, _] = self.counts;
         let within = bytes as usize <= room.bytes;
         let answers = if within { self.out.items()[..bytes as usize].to_vec() } else { Vec::new() };
         let mut touched = self.touched(sheet, room, reason, answers.len());
@@ -109,25 +129,39 @@ impl Library {
         Found { reason, orders, answers, touched }
     }
 
-    fn call(&mut self) -> (u32, u64, u64) {
-        let (mut orders, mut bytes) = (UNSET, UNSET);
+    /// The reason; the counts stand in their places.
+    fn call(&mut self) -> u32 {
+        self.counts = [UNSET; 6];
+        let [_, orders, _, _, bytes, _] = &mut self.counts;
         let (sheet, out) = (self.sheet.items(), self.out.items_mut());
         let [a, b, c, d] = self.areas.each_mut().map(Lent::items_mut);
         // SAFETY: pointers and lengths are those of slices that are borrowed here, each apart from the others.
-        let reason = unsafe {
+        unsafe {
             sheet_run(
-                sheet.as_ptr(), sheet.len(), out.as_mut_ptr(), out.len(), a.as_mut_ptr(), a.len(), b.as_mut_ptr(), b.len(),
-                c.as_mut_ptr(), c.len(), d.as_mut_ptr(), d.len(), &mut orders, &mut bytes,
+                sheet.as_ptr(),
+                sheet.len(),
+                out.as_mut_ptr(),
+                out.len(),
+                a.as_mut_ptr(),
+                a.len(),
+                b.as_mut_ptr(),
+                b.len(),
+                c.as_mut_ptr(),
+                c.len(),
+                d.as_mut_ptr(),
+                d.len(),
+                orders,
+                bytes,
             )
-        };
-        (reason, orders, bytes)
+        }
     }
 
     /// Output past the answers is as it was; areas are 0, or under 12 as they were; nothing else changed.
     fn touched(&self, sheet: &[u8], room: Room, reason: u32, bytes: usize) -> Vec<&'static str> {
         let [byte, ..] = room.fill.to_le_bytes();
         let word = if reason == 12 { room.fill } else { 0 };
-        let guarded = self.sheet.guarded() && self.out.guarded() && self.areas.iter().all(Lent::guarded);
+        let around = [0, 2, 3, 5].iter().all(|at| self.counts[*at] == UNSET);
+        let guarded = around && self.sheet.guarded() && self.out.guarded() && self.areas.iter().all(Lent::guarded);
         let checks = [
             (guarded, "a guard"),
             (self.sheet.items() == sheet, "the sheet"),

@@ -1,0 +1,295 @@
+#!/usr/bin/env python3
+"""The Rust as judge: compares the static library with Kagari's own functions.
+
+  python3 tests/judge.py [--sheets N] [--seed S]        fixed sheets, then random ones
+  python3 tests/judge.py --short                        all short orders and sheets, too
+  python3 tests/judge.py --slip NAME                    with a slip in the oracle: must find a difference
+  python3 tests/judge.py --slip all                     with each of them: passes if every one is found
+  python3 tests/judge.py --program target/bin/sheets    the program `sheets` in the place of the library
+  python3 tests/judge.py --checker target/bin/checker   the sheet program, a process for each sheet
+
+The library is target/staticlib/libsheet.a, which `rt staticlib sheet` writes,
+or --library FILE. tests/oracle/build.py says what is taken from the Rust and
+what stands around it. Library and oracle are linked into one program
+(tests/oracle/judge.rs), which is built first, in target/judge or --out DIR,
+and reads sheets from here.
+
+Compared are, for each sheet: the reason, the number of orders, the number of
+bytes, the answers; the output past the answers, which is not to be touched;
+the areas, all zero at the end, and untouched under run 12; the sheet; and 64
+bytes or words before and behind each of the six slices. Output and areas are
+filled before, and the areas have the least length, more, or fewer words. At
+the first difference orders are taken out as long as the sides differ; the
+rest is printed in hexadecimal, and the exit status is 1.
+
+The oracle leaves a sheet at an order that makes the Rust meet more than
+400,000 nodes. What was answered before is compared; the last table says how
+many sheets were left.
+
+The tables show the outcomes of the random orders and what the unrefused ones
+answer. An entry that can occur but is too rare is a failure in a run of
+20,000 sheets or more.
+
+Without rustc or without Kagari's sources nothing is compared: that is said,
+and the exit status is 0.
+"""
+
+import argparse
+import itertools
+import os
+import shlex
+import struct
+import subprocess
+import sys
+import tempfile
+import time
+
+import judge_sheets
+import judge_slips
+import orders_compare
+import sheet_compare
+from sheet_compare import LEFT, Batch, Differs, Frames, Program, in_chunks, oracle, shown
+
+LIBRARY = os.path.join(oracle.ROOT, "target", "staticlib", "libsheet.a")
+OUT = os.path.join(oracle.ROOT, "target", "judge")
+DEFAULT_SHEETS = 20000
+PORTION = 50000             # sheets in a run of the judge
+LEAST_SHARE = 0.0003
+ROWS = [str(kind) for kind in range(21)] + ["other", "empty"]
+OUTCOMES = [outcome for outcome in range(10)]
+CAN_OCCUR = {str(kind): sheet_compare.CAN_OCCUR[kind] for kind in range(9)}
+CAN_OCCUR.update({str(kind): orders_compare.CAN_OCCUR[kind] for kind in range(9, 21)}, other=(2,), empty=(1,))
+YES_NO, CHANGES = ("no", "yes"), ("same", "changed")
+ANSWERS = {
+    1: ("itself", "bound"), 2: ("itself", "bound"), 4: ("incompatible", "compatible", "cancelled"), 5: CHANGES, 6: YES_NO, 7: YES_NO,
+    8: ("0", "1", "more"), 9: YES_NO, 10: YES_NO, 11: CHANGES, 12: CHANGES, 13: CHANGES, 14: CHANGES,
+    15: ("never", "integer", "concrete", "unresolved", "unknown", "self type", "projection"), 16: YES_NO,
+    17: ("neither", "for it", "both"), 18: ("none",) + CHANGES, 19: CHANGES + ("new Error",), 20: CHANGES + ("new Error",)}
+REASONS = (0, 10, 11, 12)
+
+
+# Building
+
+def built(options, slip=None):
+    """The judge's path."""
+    if not os.path.isfile(options.library):
+        sys.exit("there is no library %s: rt staticlib sheet writes it" % options.library)
+    texts = oracle.taken(options.source)
+    for name in sorted(os.listdir(oracle.HERE)):
+        if name.endswith(".rs"):
+            texts[name] = oracle.read(oracle.HERE, name)
+    out = options.out if slip is None else os.path.join(options.out, slip)
+    oracle.write(texts if slip is None else judge_slips.put_in(slip, texts), out)
+    level = ("-C", "opt-level=2") if slip is None else ("-C", "opt-level=0", "-A", "warnings")
+    link = ("-L", "native=" + os.path.dirname(os.path.abspath(options.library)), "-l", "static=sheet")
+    return oracle.compiled(os.path.join(out, "judge.rs"), out, "judge", level + link)
+
+
+# Frames
+
+def frame(family, room, words, fill, sheet):
+    return struct.pack("<8I", judge_sheets.NAMES.index(family), room, *words, fill, len(sheet)) + sheet
+
+
+def groups(options):
+    """The sheets of a whole comparison."""
+    yield "fixed sheets", judge_sheets.fixed()
+    if options.short:
+        yield "short ones", judge_sheets.short()
+    yield "random sheets", judge_sheets.at_random(options.sheets, options.seed)
+
+
+def portions(sheets):
+    """The sheets in parts, each for a run of the judge of its own."""
+    sheets = iter(sheets)
+    for first in sheets:
+        yield itertools.chain([first], itertools.islice(sheets, PORTION - 1))
+
+
+def judged(program, sheets):
+    """Gives sheets to the judge: its exit status and its lines."""
+    with subprocess.Popen([program], stdin=subprocess.PIPE, stdout=subprocess.PIPE) as process:
+        try:
+            for each in sheets:
+                process.stdin.write(frame(*each))
+            process.stdin.close()
+        except BrokenPipeError:
+            pass
+        lines = process.stdout.read().decode().splitlines()
+    return process.returncode, lines
+
+
+# Tables
+
+class Counts(dict):
+    """Counts by the words of the judge's lines, as 'outcome 4 0'."""
+
+    def add(self, lines):
+        for words, count in (line.rsplit(" ", 1) for line in lines):
+            self[words] = self.get(words, 0) + int(count)
+
+    def of(self, *words):
+        return self.get(" ".join(map(str, words)), 0)
+
+    def total(self, *words):
+        start = " ".join(map(str, words)) + " "
+        return sum(count for key, count in self.items() if key.startswith(start))
+
+    def show(self):
+        """Prints the tables; gives the entries that are too rare."""
+        poor = self.show_outcomes() + self.show_answers()
+        print("\nReasons     " + ", ".join("%d: %d" % (reason, self.of("reason", reason)) for reason in REASONS))
+        return poor + ["reason %d" % reason for reason in REASONS if self.of("reason", reason) < 5]
+
+    def show_sheets(self):
+        """How many sheets of each family there were, and how many the oracle left."""
+        for title, word in (("families", "family"), ("left", "left")):
+            found = ["%s %d" % (name, self.of(word, at)) for at, name in enumerate(judge_sheets.NAMES) if self.of(word, at)]
+            print("  %-12s%s" % (title, ", ".join(found) or "none"))
+
+    def show_outcomes(self):
+        poor = []
+        print("\nOutcomes of the orders\n%-7s%10s" % ("", "orders") + "".join("%9d" % outcome for outcome in OUTCOMES))
+        for row in ROWS:
+            total = self.total("outcome", row)
+            found = [self.of("outcome", row, outcome) for outcome in OUTCOMES]
+            print("%-7s%10d" % (row, total)
+                  + "".join("%9s" % (count if count or o in CAN_OCCUR[row] else "-") for o, count in enumerate(found)))
+            poor += ["order %s, outcome %d: %d of %d" % (row, o, found[o], total) for o in CAN_OCCUR[row]
+                     if found[o] < max(5, LEAST_SHARE * total)]
+            poor += ["order %s, outcome %d cannot be" % (row, o) for o, count in enumerate(found) if count and o not in CAN_OCCUR[row]]
+        print("%-7s%10d" % ("all", self.total("outcome")))
+        return poor
+
+    def show_answers(self):
+        poor = []
+        print("\nWhat the unrefused ones answer")
+        for kind, names in ANSWERS.items():
+            total = self.of("outcome", kind, 0)
+            print("%-7s%10d   " % (kind, total) + ", ".join("%s %d" % (name, self.of("answer", kind, name)) for name in names))
+            poor += ["order %d, %s: %d of %d" % (kind, name, self.of("answer", kind, name), total) for name in names
+                     if self.of("answer", kind, name) < max(5, LEAST_SHARE * total)]
+        return poor
+
+
+# Running
+
+def told(lines):
+    """The lines about a difference."""
+    _, index, family = lines[0].split()
+    return ["sheet %s (%s):" % (index, judge_sheets.NAMES[int(family)])] + lines[1:]
+
+
+def counted(program, name, sheets):
+    """The counts of a group, or None where the sides differ, which is told."""
+    counts, start = Counts(), time.time()
+    for part in portions(sheets):
+        status, lines = judged(program, part)
+        if status != 0:
+            lines = told(lines) if lines and lines[0].startswith("differs") else ["the judge ends with status %d" % status] + lines
+            print("%s, after %d that agree, %s" % (name, counts.total("family"), "\n".join(lines)))
+            return None
+        counts.add(lines)
+        done = counts.total("family"), counts.total("outcome"), time.time() - start
+        print("%-14s%9d sheets%11d orders%7d s" % (name, *done), flush=True)
+    counts.show_sheets()
+    return counts
+
+
+def check(options):
+    program, passed, poor = built(options), 0, []
+    for name, sheets in groups(options):
+        counts = counted(program, name, sheets)
+        if counts is None:
+            print("%d passed, 1 failed" % passed)
+            return 1
+        passed += counts.total("family")
+        if name == "random sheets":
+            poor = counts.show()
+    poor = poor if options.sheets >= DEFAULT_SHEETS else []
+    for line in poor:
+        print("too few: " + line)
+    print("%d passed, %d failed" % (passed, len(poor)))
+    return 1 if poor else 0
+
+
+def check_slip(options, name, path):
+    """Whether the judge with a slip finds a difference in the frames of a file; prints it."""
+    program = built(options, name)
+    with open(path, "rb") as file:
+        done = subprocess.run([program], stdin=file, stdout=subprocess.PIPE)
+    lines = done.stdout.decode().splitlines()
+    if done.returncode != 1 or not lines or not lines[0].startswith("differs"):
+        print("%-32s NOT FOUND" % name, flush=True)
+        return False
+    lines = told(lines)
+    print("%-32s %s\n    %s" % (name, lines[0], "\n    ".join(lines[1:])), flush=True)
+    return True
+
+
+def check_slips(options):
+    names = list(judge_slips.SLIPS) if options.slip == "all" else [options.slip]
+    with tempfile.TemporaryDirectory() as directory:
+        path = os.path.join(directory, "frames")
+        with open(path, "wb") as file:
+            file.writelines(frame(*each) for each in judge_sheets.at_random(options.sheets, options.seed))
+        found = sum(check_slip(options, name, path) for name in names)
+    print("%d passed, %d failed" % (found, len(names) - found))
+    return 0 if found == len(names) else 1
+
+
+def same(found, wanted):
+    """Whether a program's run is the oracle's, as far as the oracle went on; the sheet program tells the answers alone."""
+    if wanted.reason == LEFT:
+        return found.output.startswith(wanted.output)
+    return found.output == wanted.output and found[:2] in ((None, None), wanted[:2])
+
+
+def check_program(options):
+    """The proved program against the oracle, sheet by sheet."""
+    judge = Batch([oracle.build(options.source, options.out), "sheets"])
+    program = Frames(shlex.split(options.program)) if options.program else Program(shlex.split(options.checker))
+    passed = 0
+    sheets = (each for source in (judge_sheets.fixed(), judge_sheets.at_random(options.sheets, options.seed)) for each in source
+              if len(each[4]) <= judge_sheets.LENGTH and program.takes(each[1], each[4]) and min(each[2]) >= judge_sheets.LEAST)
+    for chunk in in_chunks(sheets):
+        pairs = [(room, sheet) for _, room, _, _, sheet in chunk]
+        try:
+            runs = zip(chunk, program.runs(pairs), judge.runs(pairs))
+        except Differs as difference:
+            print("%s\n%d passed, 1 failed" % (difference.args[0], passed))
+            return 1
+        for (family, room, _, _, sheet), found, wanted in runs:
+            if not same(found, wanted):
+                print("%s, room %d: %s\noracle  %s %s: %s\nprogram %s %s: %s\n%d passed, 1 failed" % (
+                    family, room, shown(sheet), *wanted[:2], shown(wanted.output), *found[:2], shown(found.output), passed))
+                return 1
+            passed += 1
+    print("%d passed, 0 failed" % passed)
+    return 0
+
+
+def main():
+    parser = argparse.ArgumentParser(description=__doc__, formatter_class=argparse.RawDescriptionHelpFormatter)
+    parser.add_argument("--sheets", type=int, default=DEFAULT_SHEETS, metavar="N")
+    parser.add_argument("--seed", type=int, default=1, metavar="S")
+    parser.add_argument("--short", action="store_true")
+    parser.add_argument("--slip", choices=["all"] + list(judge_slips.SLIPS), metavar="NAME")
+    parser.add_argument("--program", metavar="COMMAND")
+    parser.add_argument("--checker", metavar="COMMAND")
+    parser.add_argument("--library", default=LIBRARY, metavar="FILE")
+    parser.add_argument("--source", default=oracle.SOURCE, metavar="DIR", help="Kagari's sources")
+    parser.add_argument("--out", default=OUT, metavar="DIR")
+    options = parser.parse_args()
+    try:
+        oracle.taken(options.source)
+    except oracle.Absent as fault:
+        print("judge: skipped, nothing was compared: %s" % fault)
+        return 0
+    if options.program or options.checker:
+        return check_program(options)
+    return check_slips(options) if options.slip else check(options)
+
+
+if __name__ == "__main__":
+    sys.exit(main())
