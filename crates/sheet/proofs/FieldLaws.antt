@@ -3,7 +3,7 @@
 use mathlib.Core.Path.{_≡_, refl, sym, ap, _∙_}
 use mathlib.Core.Bool.{Bool, true, false}
 use mathlib.Core.List.{List, [], _∷_, _++_}
-use mathlib.Core.Option.{Option, none, some}
+use mathlib.Core.Option.{some}
 use Prim.Native.Nat.{ℕ, zero, suc, _+_, _*_, _%_, _/_, _≤_, _<_}
 use native.Mathlib.Omega.{arith}
 use borrow.Author.Tests.{ltb-true}
@@ -28,7 +28,7 @@ use Rattle.terms.proofs.Sound.{Took, found, bare-found}
 use Rattle.terms.proofs.Weights.{bare-bound, weights-one, one}
 use Rattle.terms.proofs.Answers.{tokens-fit}
 use Rattle.sheet.specs.Fields as fields
-use Rattle.sheet.specs.Fields.{Sort, Kind, Field, Read, value, bare, levels, layout, known, kinds, nodes, allNodes, ruleNodes, kindedOrder, readOrder}
+use Rattle.sheet.specs.Fields.{Sort, Kind, Field, Read, value, bare, levels, layout, known, kinds, nodes, allNodes, ruleNodes}
 use Rattle.sheet.specs.Formed.{FormedTree, FormedBare, FormedEntries, FormedReceivers, FormedTrees, FormedRules, FormedField, FormedFields}
 use Rattle.sheet.specs.Laid.{ruleItems, fieldItems, allItems, spare, spares}
 
@@ -467,33 +467,3 @@ module _ (s : List ℕ) (o : Octets s) (issued : ℕ) where
     pub found : FieldsFound s o (known (r .kind) issued) (layout (r .kind)) 1 (r .fields) n
     pub formed : FormedFields (known (r .kind) issued) (r .fields)
     pub room : length (allItems (r .fields)) ≤ 6 * allNodes (r .fields) + 8
-
-  pub order-found : (r : Read) (n : ℕ) → readOrder s issued ≡ got r n → OrderFound r n
-  unfolding readOrder kindedOrder
-  order-found r n e =
-      let b = parts-of (byte s 0) _ r n e in
-      let k : (b .0 ≡ getD s 0 0) × (b .1 ≡ 1) = first (ltb 0 (length s)) (b .0) (b .1) (b .2) in
-      go (b .0) (b .1) (k .0) (k .1) (getElem? kinds (b .0)) refl (b .3)
-    where
-      first : (h : Bool) (x m : ℕ) → pick h (got (getD s 0 0) (0 + 1)) (refused 1) ≡ got x m → (x ≡ getD s 0 0) × (m ≡ 1)
-      first true x m e = let a : getD s 0 0 ≡ x = same-value e in let c : 0 + 1 ≡ m = same-next e in (sym a, omega arith)
-      first false x m e = never 1 x m e
-
-      ends : (m : ℕ) (q : Read) (h : Bool) → pick h (refused 1) (got q m) ≡ got r n → (q ≡ r) × (m ≡ n)
-      ends m q true e = never 1 r n e
-      ends m q false e = (same-value e, same-next e)
-
-      moved : (k c : Kind) → k ≡ c → (m : ℕ) → m ≡ 1 → (fs gs : List Field) → fs ≡ gs → (i j : ℕ) → i ≡ j → fields.fields s (known k issued) (layout k) m ≡ got fs i
-          → fields.fields s (known c issued) (layout c) 1 ≡ got gs j
-      moved k c ec m em fs gs ef i j ei h = rw (← ec, ← em, ← ef, ← ei) h
-
-      go : (x m : ℕ) → x ≡ getD s 0 0 → m ≡ 1 → (k : Option Kind) → getElem? kinds x ≡ k → kindedOrder s issued k m ≡ got r n → OrderFound r n
-      go x m ex em none h e = never 2 r n e
-      go x m ex em (some k) h e =
-          let y = parts-of (fields.fields s (known k issued) (layout k) m) _ r n e in
-          let z = ends (y .1) (record { kind = k; fields = y .0 }) (ltb (y .1) (length s)) (y .3) in
-          let c : k ≡ r .kind = ap (λ (q : Read). q .kind) (z .0) in
-          let f : y .0 ≡ r .fields = ap (λ (q : Read). q .fields) (z .0) in
-          let rd = moved k (r .kind) c m em (y .0) (r .fields) f (y .1) n (z .1) (y .2) in
-          let w = fields-found s o (known (r .kind) issued) (layout (r .kind)) 1 (r .fields) n rd in
-          record { kind = rw (← ex) (h ∙ ap some c); read = rd; found = w; formed = w .formed; room = omega (arith, w .room, spares-few (r .kind)) }

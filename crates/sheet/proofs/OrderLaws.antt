@@ -34,10 +34,6 @@ use Rattle.sheet.proofs.ThroughLaws.{Through, through-start}
 
 -- ---- a field of any sort
 
-sort-rules : (k : ℕ) → k ≡ 10 → sortOf k ≡ fields.rules
-unfolding sortOf
-sort-rules k e = rw e
-
 pub sort-plain : (k : ℕ) → (k ≡ 10 → ⊥) → sortOf k ≡ plainOf k
 unfolding sortOf
 sort-plain k e = rw (ne-eqb k 10 e)
