@@ -8,6 +8,7 @@ pub mod StoreLaws
 pub mod WroteLaws
 pub mod RowLaws
 pub mod ValueLaws
+pub mod LentLaws
 pub mod ReadLaws
 pub mod TableLaws
 pub mod ShapeLaws

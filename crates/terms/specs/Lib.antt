@@ -10,6 +10,7 @@ pub mod Formed
 pub mod Reading
 pub mod Pieces
 pub mod Done
+pub mod Lent
 pub mod Wanting
 pub mod Tree
 pub mod Questions

@@ -11,6 +11,7 @@ ghost use Rattle.terms.specs.Tokens.{area};
 ghost use Rattle.terms.specs.Term.{size};
 ghost use Rattle.terms.specs.Reading.{term, bare};
 ghost use Rattle.terms.specs.Done.{Room, RoomAfter, answer, kept, contents, Clearable, Cleared};
+ghost use Rattle.terms.specs.Lent.{stepOf};
 
 // Clears what a refusal has left from `p` on, and what was read past the limit.
 pub fn clear_rest(kinds: &mut [u32], vals: &mut [u32], p: Place, left: usize, r: Step) -> Step
@@ -32,6 +33,21 @@ pub fn clear_rest(kinds: &mut [u32], vals: &mut [u32], p: Place, left: usize, r:
     }
 }
 
+// The answer of a reading function whose code is `code`.
+pub fn step_of(code: u8, at: usize, top: usize, nodes: usize, limit: usize) -> Step
+    ensures { λ r. ⌜ r ≡ stepOf code at top nodes limit ⌝ }
+{
+    if code == 0 {
+        return Step::Next(Place {
+            at,
+            top,
+            nodes,
+            limit,
+        });
+    }
+    Step::Stopped(code)
+}
+
 // Reads a term with `levels` levels left, whose variables are below `issued`.
 pub fn keep_term(
     s: &[u8],
@@ -46,8 +62,27 @@ pub fn keep_term(
     ensures areas { λ _. ⌜ area (now (kinds .exit)) (now (vals .exit)) ≡ kept (now (s .entry)) p (term (now (s .entry)) issued levels (p .at)) size (area (now (kinds .entry)) (now (vals .entry))) ⌝ }
     ensures room { λ r. ⌜ RoomAfter (now (s .entry)) r ⌝ }
 {
-    let r = read_term(s, kinds, vals, p, levels, issued);
-    clear_rest(kinds, vals, p, s.len() - p.at, r)
+    let mut at = p.at;
+    let mut top = p.top;
+    let mut nodes = p.nodes;
+    let r = read_term(
+        s,
+        kinds,
+        vals,
+        &mut at,
+        &mut top,
+        &mut nodes,
+        p.limit,
+        levels,
+        issued,
+    );
+    clear_rest(
+        kinds,
+        vals,
+        p,
+        s.len() - p.at,
+        step_of(r, at, top, nodes, p.limit),
+    )
 }
 
 // Reads a bare nominal, whose contents have `levels` levels left; it stands under a head with the tag 20.
@@ -65,6 +100,25 @@ pub fn keep_nominal(
     ensures areas { λ _. ⌜ area (now (kinds .exit)) (now (vals .exit)) ≡ kept (now (s .entry)) p (bare (now (s .entry)) issued levels (p .at)) contents (area (now (kinds .entry)) (now (vals .entry))) ⌝ }
     ensures room { λ r. ⌜ RoomAfter (now (s .entry)) r ⌝ }
 {
-    let r = read_bare(s, kinds, vals, p, levels, issued);
-    clear_rest(kinds, vals, p, s.len() - p.at, r)
+    let mut at = p.at;
+    let mut top = p.top;
+    let mut nodes = p.nodes;
+    let r = read_bare(
+        s,
+        kinds,
+        vals,
+        &mut at,
+        &mut top,
+        &mut nodes,
+        p.limit,
+        levels,
+        issued,
+    );
+    clear_rest(
+        kinds,
+        vals,
+        p,
+        s.len() - p.at,
+        step_of(r, at, top, nodes, p.limit),
+    )
 }

@@ -1,9 +1,6 @@
-// Codes and numbers, which are stored as tokens of kind 0, and variables, of kind 1.
+// Codes and numbers, which are stored as tokens of kind 0, and variables, of kind 1. Each answers 0 where it has read, else the refusal.
 use super::Fields;
 use super::NumberRead;
-use super::Place;
-use super::Step;
-use super::ValueRead;
 use super::numbers::read_number;
 use super::store::put_token;
 ghost use mathlib.Core.Path.{_≡_};
@@ -14,6 +11,7 @@ ghost use Rattle.terms.specs.Tokens.{area};
 ghost use Rattle.terms.specs.Reading.{code, rising, variable};
 ghost use Rattle.terms.specs.Pieces.{coded, numbered, fields};
 ghost use Rattle.terms.specs.Done.{Within, Room, ValueDone, TermDone, PartsDone};
+ghost use Rattle.terms.specs.Lent.{place, stepOf, valueOf};
 
 // The ceilings of the numbers that name definitions and of the others.
 pub const DEFINITION: u64 = 4294967295;
@@ -60,113 +58,136 @@ pub fn read_value(
     s: &[u8],
     kinds: &mut [u32],
     vals: &mut [u32],
-    p: Place,
+    at: &mut usize,
+    top: &mut usize,
+    value: &mut u64,
+    nodes: usize,
+    limit: usize,
     most: u64,
     least: u64,
-) -> ValueRead
-    requires room { ⌜ Room (now s) p ⌝ }
+) -> u8
+    requires room { ⌜ Room (now s) (place (now at) (now top) nodes limit) ⌝ }
     requires narrow { ⌜ most < 2 ^ 32 ⌝ }
-    ensures { λ r. ⌜ ValueDone most (now (s .entry)) (rising (now (s .entry)) most least (p .at)) p (area (now (kinds .entry)) (now (vals .entry))) (area (now (kinds .exit)) (now (vals .exit))) r ⌝ }
+    ensures { λ r. ⌜ ValueDone most (now (s .entry)) (rising (now (s .entry)) most least (now (at .entry))) (place (now (at .entry)) (now (top .entry)) nodes limit) (area (now (kinds .entry)) (now (vals .entry))) (area (now (kinds .exit)) (now (vals .exit))) (valueOf r (now (value .exit)) (now (at .exit)) (now (top .exit)) nodes limit) ⌝ }
 {
-    let r = number_at(s, p.at, most, least);
+    let r = number_at(s, *at, most, least);
     match r {
         NumberRead::Value(v, next) => {
-            let on = p.nodes <= p.limit;
-            put_token(kinds, vals, on, p.top, 0, v as u32);
-            ValueRead::Valued(
-                v,
-                Place {
-                    at: next,
-                    top: p.top + 1,
-                    nodes: p.nodes,
-                    limit: p.limit,
-                },
-            )
+            put_token(kinds, vals, nodes <= limit, *top, 0, v as u32);
+            *value = v;
+            *at = next;
+            *top = *top + 1;
+            0
         }
-        NumberRead::Refused(e) => ValueRead::Unvalued(e),
+        NumberRead::Refused(e) => e,
     }
 }
 
 // Reads a code below `codes`, or nothing where that is 0.
-fn read_code(s: &[u8], kinds: &mut [u32], vals: &mut [u32], p: Place, codes: u32) -> Step
-    requires { ⌜ Room (now s) p ⌝ }
-    ensures { λ r. ⌜ PartsDone (now (s .entry)) (coded (now (s .entry)) codes (p .at)) p (area (now (kinds .entry)) (now (vals .entry))) (area (now (kinds .exit)) (now (vals .exit))) r ⌝ }
+fn read_code(
+    s: &[u8],
+    kinds: &mut [u32],
+    vals: &mut [u32],
+    at: &mut usize,
+    top: &mut usize,
+    nodes: usize,
+    limit: usize,
+    codes: u32,
+) -> u8
+    requires { ⌜ Room (now s) (place (now at) (now top) nodes limit) ⌝ }
+    ensures { λ r. ⌜ PartsDone (now (s .entry)) (coded (now (s .entry)) codes (now (at .entry))) (place (now (at .entry)) (now (top .entry)) nodes limit) (area (now (kinds .entry)) (now (vals .entry))) (area (now (kinds .exit)) (now (vals .exit))) (stepOf r (now (at .exit)) (now (top .exit)) nodes limit) ⌝ }
 {
     if codes == 0 {
-        return Step::Next(p);
+        return 0;
     }
-    let r = code_at(s, p.at, codes);
+    let r = code_at(s, *at, codes);
     match r {
         NumberRead::Value(v, next) => {
-            let on = p.nodes <= p.limit;
-            put_token(kinds, vals, on, p.top, 0, v as u32);
-            Step::Next(Place {
-                at: next,
-                top: p.top + 1,
-                nodes: p.nodes,
-                limit: p.limit,
-            })
+            put_token(kinds, vals, nodes <= limit, *top, 0, v as u32);
+            *at = next;
+            *top = *top + 1;
+            0
         }
-        NumberRead::Refused(e) => Step::Stopped(e),
+        NumberRead::Refused(e) => e,
     }
 }
 
 // Reads a number of at most `most` where one is wanted.
-fn read_id(s: &[u8], kinds: &mut [u32], vals: &mut [u32], p: Place, most: u64, wanted: bool) -> Step
-    requires room { ⌜ Room (now s) p ⌝ }
+fn read_id(
+    s: &[u8],
+    kinds: &mut [u32],
+    vals: &mut [u32],
+    at: &mut usize,
+    top: &mut usize,
+    nodes: usize,
+    limit: usize,
+    most: u64,
+    wanted: bool,
+) -> u8
+    requires room { ⌜ Room (now s) (place (now at) (now top) nodes limit) ⌝ }
     requires narrow { ⌜ most < 2 ^ 32 ⌝ }
-    ensures { λ r. ⌜ PartsDone (now (s .entry)) (numbered (now (s .entry)) most wanted (p .at)) p (area (now (kinds .entry)) (now (vals .entry))) (area (now (kinds .exit)) (now (vals .exit))) r ⌝ }
+    ensures { λ r. ⌜ PartsDone (now (s .entry)) (numbered (now (s .entry)) most wanted (now (at .entry))) (place (now (at .entry)) (now (top .entry)) nodes limit) (area (now (kinds .entry)) (now (vals .entry))) (area (now (kinds .exit)) (now (vals .exit))) (stepOf r (now (at .exit)) (now (top .exit)) nodes limit) ⌝ }
 {
     if wanted {
-        let r = read_value(s, kinds, vals, p, most, 0);
-        match r {
-            ValueRead::Valued(v, q) => Step::Next(q),
-            ValueRead::Unvalued(e) => Step::Stopped(e),
-        }
-    } else {
-        Step::Next(p)
+        let mut v: u64 = 0;
+        return read_value(s, kinds, vals, at, top, &mut v, nodes, limit, most, 0);
     }
+    0
 }
 
 // Reads what stands before the terms of a plain row.
-pub fn read_fields(s: &[u8], kinds: &mut [u32], vals: &mut [u32], p: Place, f: Fields) -> Step
-    requires { ⌜ Room (now s) p ⌝ }
-    ensures { λ r. ⌜ PartsDone (now (s .entry)) (fields (now (s .entry)) f (p .at)) p (area (now (kinds .entry)) (now (vals .entry))) (area (now (kinds .exit)) (now (vals .exit))) r ⌝ }
+pub fn read_fields(
+    s: &[u8],
+    kinds: &mut [u32],
+    vals: &mut [u32],
+    at: &mut usize,
+    top: &mut usize,
+    nodes: usize,
+    limit: usize,
+    f: Fields,
+) -> u8
+    requires { ⌜ Room (now s) (place (now at) (now top) nodes limit) ⌝ }
+    ensures { λ r. ⌜ PartsDone (now (s .entry)) (fields (now (s .entry)) f (now (at .entry))) (place (now (at .entry)) (now (top .entry)) nodes limit) (area (now (kinds .entry)) (now (vals .entry))) (area (now (kinds .exit)) (now (vals .exit))) (stepOf r (now (at .exit)) (now (top .exit)) nodes limit) ⌝ }
 {
-    let a = read_code(s, kinds, vals, p, f.codes);
-    match a {
-        Step::Next(q) => {
-            let b = read_id(s, kinds, vals, q, DEFINITION, f.first);
-            match b {
-                Step::Next(u) => read_id(s, kinds, vals, u, ORDINARY, f.second),
-                Step::Stopped(c) => Step::Stopped(c),
-            }
-        }
-        Step::Stopped(c) => Step::Stopped(c),
+    let a = read_code(s, kinds, vals, at, top, nodes, limit, f.codes);
+    if a != 0 {
+        return a;
     }
+    let b = read_id(s, kinds, vals, at, top, nodes, limit, DEFINITION, f.first);
+    if b != 0 {
+        return b;
+    }
+    read_id(s, kinds, vals, at, top, nodes, limit, ORDINARY, f.second)
 }
 
-// Reads the id of a variable, whose tag is at the place, and stores it as a token of kind 1.
-pub fn read_variable(s: &[u8], kinds: &mut [u32], vals: &mut [u32], p: Place, issued: u64) -> Step
-    requires room { ⌜ Room (now s) p ⌝ }
-    requires tagged { ⌜ p .at < length (now s) ⌝ }
-    ensures { λ r. ⌜ TermDone (now (s .entry)) (variable (now (s .entry)) issued (p .at + 1)) p (area (now (kinds .entry)) (now (vals .entry))) (area (now (kinds .exit)) (now (vals .exit))) r ⌝ }
+// Reads the id of a variable, whose tag is at the position, and stores it as a token of kind 1.
+pub fn read_variable(
+    s: &[u8],
+    kinds: &mut [u32],
+    vals: &mut [u32],
+    at: &mut usize,
+    top: &mut usize,
+    nodes: &mut usize,
+    limit: usize,
+    issued: u64,
+) -> u8
+    requires room { ⌜ Room (now s) (place (now at) (now top) (now nodes) limit) ⌝ }
+    requires tagged { ⌜ now at < length (now s) ⌝ }
+    ensures { λ r. ⌜ TermDone (now (s .entry)) (variable (now (s .entry)) issued ((now (at .entry)) + 1)) (place (now (at .entry)) (now (top .entry)) (now (nodes .entry)) limit) (area (now (kinds .entry)) (now (vals .entry))) (area (now (kinds .exit)) (now (vals .exit))) (stepOf r (now (at .exit)) (now (top .exit)) (now (nodes .exit)) limit) ⌝ }
 {
-    let r = number_at(s, p.at + 1, ORDINARY, 0);
+    let r = number_at(s, *at + 1, ORDINARY, 0);
     match r {
         NumberRead::Value(v, next) => {
             if issued <= v {
-                return Step::Stopped(6);
+                return 6;
             }
-            let nodes = p.nodes + 1;
-            put_token(kinds, vals, nodes <= p.limit, p.top, 1, v as u32);
-            Step::Next(Place {
-                at: next,
-                top: p.top + 1,
-                nodes,
-                limit: p.limit,
-            })
+            let count = *nodes + 1;
+            put_token(kinds, vals, count <= limit, *top, 1, v as u32);
+            *at = next;
+            *top = *top + 1;
+            *nodes = count;
+            0
         }
-        NumberRead::Refused(e) => Step::Stopped(e),
+        NumberRead::Refused(e) => e,
     }
 }

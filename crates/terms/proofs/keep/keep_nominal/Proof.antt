@@ -1,10 +1,10 @@
 -- `keep_nominal`: what was read, and then cleared where it is not kept. Assumes nothing.
-use mathlib.Core.Path.{_≡_, _∙_}
-use native.Mathlib.Omega.{arith}
 use denote.Ref.{now}
-use Rattle.terms.specs.Tokens.{area}
-use Rattle.terms.proofs.Answers.{bare-clearable, bare-answer, bare-kept, bare-room}
 use borrow.Author.Needs.{needs}
+use Rattle.terms.specs.Tokens.{area}
+use Rattle.terms.specs.Lent.{stepOf}
+use mathlib.Core.Path.{_∙_}
+use Rattle.terms.proofs.Answers.{bare-clearable, bare-answer, bare-kept, bare-room}
 use Rattle.terms.proofs.keep.keep_nominal.Statement.{statement}
 use Rattle.terms.proofs.keep.keep_nominal.Tie as tie
 
@@ -14,11 +14,22 @@ read-bare-requires c κs = search needs
 sub-clear-rest : tie.Need-sub-clear-rest
 sub-clear-rest c = search needs
 
+step-of-requires : tie.Need-step-of-requires
+step-of-requires c κs = search needs
+
 clear-rest-requires : tie.Need-clear-rest-requires
 clear-rest-requires c κs =
-    let a = c .before .before .before .before .before .before .before .before .before .before .before .before .before .args in
-    let r = c .before .before .before .before .before .before .before .read-bare in
-    bare-clearable (now (a .s)) _ (a .p) (area (a .kinds .now) (a .vals .now)) (area (r .last .1 .0) (r .last .1 .1 .0)) (r .result) (r .ensures) (c .before .before .before .before .before .before .before .before .before .before .before .before .before .pre .1) (c .before .before .before .before .before .before .before .before .before .before .before .before .before .pre .0 .inside)
+    let a = c .before .before .before .before .before .before .before .before .before .before .before .before .before .before .before .before .before .args in
+    let read-bare' = c .before .before .before .before .before .before .before .before .read-bare in
+    let pre' = c .before .before .before .before .before .before .before .before .before .before .before .before .before .before .before .before .before .pre in
+    let s = now (a .s) in
+    let p = a .p in
+    let l = a .p .limit in
+    let d = area (a .kinds .now) (a .vals .now) in
+    let e = (area (read-bare' .last .1 .0) (read-bare' .last .1 .1 .0)) in
+    let r = (stepOf (read-bare' .result) (read-bare' .last .1 .1 .1 .0) (read-bare' .last .1 .1 .1 .1 .0) (read-bare' .last .1 .1 .1 .1 .1 .0) l) in
+    let x = (read-bare' .ensures) in
+    rw (c .step-of .ensures) (bare-clearable s _ p d e r x (pre' .1) (pre' .0 .inside))
 
 same-length : tie.Need-same-length
 same-length c = search needs
@@ -28,21 +39,19 @@ same-length-2 c = search needs
 
 returns : tie.Need-returns
 returns c =
-    let a = c .before .before .before .before .before .before .before .before .before .before .before .before .before .before .before .before .before .before .args in
+    let a = c .before .before .before .before .before .before .before .before .before .before .before .before .before .before .before .before .before .before .before .before .before .before .args in
+    let read-bare' = c .before .before .before .before .before .before .before .before .before .before .before .before .before .read-bare in
+    let pre' = c .before .before .before .before .before .before .before .before .before .before .before .before .before .before .before .before .before .before .before .before .before .before .pre in
     let s = now (a .s) in
+    let p = a .p in
+    let l = a .p .limit in
     let d = area (a .kinds .now) (a .vals .now) in
-    let r = c .before .before .before .before .before .before .before .before .before .before .before .before .read-bare in
-    let e = area (r .last .1 .0) (r .last .1 .1 .0) in
+    let e = (area (read-bare' .last .1 .0) (read-bare' .last .1 .1 .0)) in
+    let r = (stepOf (read-bare' .result) (read-bare' .last .1 .1 .1 .0) (read-bare' .last .1 .1 .1 .1 .0) (read-bare' .last .1 .1 .1 .1 .1 .0) l) in
+    let x = (read-bare' .ensures) in
     let k = c .before .before .before .before .clear-rest in
-    (k .ensures .0 ∙ bare-answer s _ (a .p) d e (r .result) (r .ensures), (bare-kept s _ (a .p) d e (r .result) _ (r .ensures) (k .ensures .1), rw (k .ensures .0) (bare-room s _ (a .p) d e (r .result) (r .ensures) (c .before .before .before .before .before .before .before .before .before .before .before .before .before .before .before .before .before .before .pre .0) (c .before .before .before .before .before .before .before .before .before .before .before .before .before .before .before .before .before .before .pre .1))))
+    let z = c .before .before .before .before .before .step-of .ensures in
+    (k .ensures .0 ∙ z ∙ bare-answer s _ p d e r x, (bare-kept s _ p d e r _ x (rw z at (k .ensures .1)), rw (k .ensures .0, z) (bare-room s _ p d e r x (pre' .0) (pre' .1))))
 
 pub keep-nominal-spec : {M : Type 1} → statement M
-keep-nominal-spec =
-    tie.close
-    (tie.spec
-    read-bare-requires
-    sub-clear-rest
-    clear-rest-requires
-    same-length
-    same-length-2
-    returns)
+keep-nominal-spec = tie.close (tie.spec read-bare-requires sub-clear-rest step-of-requires clear-rest-requires same-length same-length-2 returns)

@@ -1,11 +1,12 @@
 -- `keep_records`: what was read, and then cleared where it is not kept. Assumes nothing.
 use denote.Ref.{now}
+use borrow.Author.Needs.{needs}
 use Rattle.terms.specs.Tokens.{area}
+use Rattle.terms.specs.Lent.{stepOf}
 use mathlib.Core.Path.{_∙_}
 use Rattle.terms.specs.Term.{partItems, sizes}
 use Rattle.terms.proofs.Answers.{done-clearable, done-room}
 use Rattle.terms.proofs.ListLaws.{row-answer, row-kept}
-use borrow.Author.Needs.{needs}
 use Rattle.terms.proofs.lists.keep_records.Statement.{statement}
 use Rattle.terms.proofs.lists.keep_records.Tie as tie
 
@@ -15,11 +16,21 @@ read-records-requires c κs = search needs
 sub-clear-rest : tie.Need-sub-clear-rest
 sub-clear-rest c = search needs
 
+step-of-requires : tie.Need-step-of-requires
+step-of-requires c κs = search needs
+
 clear-rest-requires : tie.Need-clear-rest-requires
 clear-rest-requires c κs =
-    let a = c .before .before .before .before .before .before .before .before .before .before .before .before .before .args in
-    let r = c .before .before .before .before .before .before .before .read-records in
-    done-clearable partItems sizes (now (a .s)) _ (a .p) (area (a .kinds .now) (a .vals .now)) (area (r .last .1 .0) (r .last .1 .1 .0)) (r .result) (r .ensures) (c .before .before .before .before .before .before .before .before .before .before .before .before .before .pre)
+    let a = c .before .before .before .before .before .before .before .before .before .before .before .before .before .before .before .before .before .args in
+    let read-records' = c .before .before .before .before .before .before .before .before .read-records in
+    let s = now (a .s) in
+    let p = a .p in
+    let l = a .p .limit in
+    let d = area (a .kinds .now) (a .vals .now) in
+    let e = (area (read-records' .last .1 .0) (read-records' .last .1 .1 .0)) in
+    let r = (stepOf (read-records' .result) (read-records' .last .1 .1 .1 .0) (read-records' .last .1 .1 .1 .1 .0) (read-records' .last .1 .1 .1 .1 .1 .0) l) in
+    let x = (read-records' .ensures) in
+    rw (c .step-of .ensures) (done-clearable partItems sizes s _ p d e r x (c .before .before .before .before .before .before .before .before .before .before .before .before .before .before .before .before .before .pre))
 
 same-length : tie.Need-same-length
 same-length c = search needs
@@ -29,21 +40,18 @@ same-length-2 c = search needs
 
 returns : tie.Need-returns
 returns c =
-    let a = c .before .before .before .before .before .before .before .before .before .before .before .before .before .before .before .before .before .before .args in
+    let a = c .before .before .before .before .before .before .before .before .before .before .before .before .before .before .before .before .before .before .before .before .before .before .args in
+    let read-records' = c .before .before .before .before .before .before .before .before .before .before .before .before .before .read-records in
     let s = now (a .s) in
+    let p = a .p in
+    let l = a .p .limit in
     let d = area (a .kinds .now) (a .vals .now) in
-    let r = c .before .before .before .before .before .before .before .before .before .before .before .before .read-records in
-    let e = area (r .last .1 .0) (r .last .1 .1 .0) in
+    let e = (area (read-records' .last .1 .0) (read-records' .last .1 .1 .0)) in
+    let r = (stepOf (read-records' .result) (read-records' .last .1 .1 .1 .0) (read-records' .last .1 .1 .1 .1 .0) (read-records' .last .1 .1 .1 .1 .1 .0) l) in
+    let x = (read-records' .ensures) in
     let k = c .before .before .before .before .clear-rest in
-    (k .ensures .0 ∙ row-answer s _ (a .p) d e (r .result) (r .ensures), (row-kept s _ (a .p) d e (r .result) _ (r .ensures) (k .ensures .1), rw (k .ensures .0) (done-room partItems sizes s _ (a .p) d e (r .result) (r .ensures) (c .before .before .before .before .before .before .before .before .before .before .before .before .before .before .before .before .before .before .pre))))
+    let z = c .before .before .before .before .before .step-of .ensures in
+    (k .ensures .0 ∙ z ∙ row-answer s _ p d e r x, (row-kept s _ p d e r _ x (rw z at (k .ensures .1)), rw (k .ensures .0, z) (done-room partItems sizes s _ p d e r x (c .before .before .before .before .before .before .before .before .before .before .before .before .before .before .before .before .before .before .before .before .before .before .pre))))
 
 pub keep-records-spec : {M : Type 1} → statement M
-keep-records-spec =
-    tie.close
-    (tie.spec
-    read-records-requires
-    sub-clear-rest
-    clear-rest-requires
-    same-length
-    same-length-2
-    returns)
+keep-records-spec = tie.close (tie.spec read-records-requires sub-clear-rest step-of-requires clear-rest-requires same-length same-length-2 returns)
