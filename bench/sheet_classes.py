@@ -11,12 +11,12 @@ import sys
 ROOT = os.path.dirname(os.path.dirname(os.path.abspath(__file__)))
 sys.path.insert(0, os.path.join(ROOT, "tests"))
 
-import solver as chains  # noqa: E402
+import chains  # noqa: E402
 from orders import LIMITS, inserted, leaves, unmatched  # noqa: E402
 from orders_cases import (F64, I32, I64, RO, RW, U, arr, enum, fun, gen, host, inf, iter_, map_, nom, num, params, proj,  # noqa: E402
                           range_, ref, rule, self_, seq, set_, struct, subst, tup)
 from orders_reference import framed  # noqa: E402
-from solver import order, pair, variables  # noqa: E402
+from chains import order, pair, variables  # noqa: E402
 
 ROOM = 32768
 MOST_ROOM = 16777216
