@@ -3,18 +3,17 @@ use mathlib.Core.Path.{_≡_, refl, sym, ap, _∙_}
 use mathlib.Core.Bool.{Bool, true, false, not}
 use mathlib.Core.List.{List, [], _∷_, _++_}
 use mathlib.Core.Option.{some}
-use Prim.Native.Nat.{ℕ, suc, _+_, _-_, _≤_, _<_}
+use Prim.Native.Nat.{ℕ, _+_, _≤_, _<_}
 use native.Mathlib.Omega.{arith}
 use native.Mathlib.Numerals.{add-one}
-use borrow.Author.Tests.{le-leb, lt-leb, lt-ltb, le-ltb, eq-eqb, ne-eqb}
-use lib.Dec.{leb}
+use borrow.Author.Tests.{lt-ltb, le-ltb, eq-eqb, ne-eqb}
 use lib.ListN.{length, length-append, set}
 use lib.Seq.{sets}
 use Rattle.terms.specs.declared.Binders.{Binders}
 use Rattle.terms.specs.declared.Ready.{Ready}
 use Rattle.terms.specs.declared.Normalised.{Normalised}
 use Rattle.terms.specs.declared.Normalised.the-variants.{Refused, Long, Done}
-use Rattle.terms.specs.Result.{got, pick}
+use Rattle.terms.specs.Result.{got}
 use Rattle.terms.specs.Parameters.{parameters}
 use Rattle.terms.proofs.HeldLaws.{items-some}
 use Rattle.terms.specs.Term.{Term, bytes, Held}
@@ -23,12 +22,11 @@ use Rattle.terms.specs.View.{Sight}
 use Rattle.terms.specs.Questions.{Parameter, asked, answered}
 use Rattle.terms.specs.Substitution.{Entry, Receiver, apply, instantiate, extend, zipped}
 use Rattle.terms.specs.Rewriting.{Rewrites, Writes}
-use Rattle.terms.specs.Recovering.{putIf}
 use Rattle.terms.specs.Normal.{Out, levels, most}
 use Rattle.terms.specs.Normalising.{Answers, Leaves, Stands}
 use Rattle.sheet.specs.Operations.{Answer, refusal, outcome, bit, bits, seven, perhaps, settled}
 use Rattle.sheet.specs.Written.{Framed, opening, Begun}
-use Rattle.sheet.proofs.FramingLaws.{value-frame, frame-over, value-in, value-over, begun-room}
+use Rattle.sheet.proofs.FramingLaws.{value-frame, frame-over, value-in, value-over}
 
 -- ---- in the places of equals
 
@@ -48,34 +46,6 @@ two-bytes a b c d p q = rw (p, q)
 
 pub held-in : (ks vs : List ℕ) (p : ℕ) (t : Term) → Held ks vs p t → p < length ks
 held-in ks vs p t h = omega (arith, h .within, items-some t)
-
--- ---- order 11
-
--- from the end on nothing is written
-pub behind-end : (out v : List ℕ) → putIf out (length out) v ≡ out
-behind-end out [] = go (leb (length out + 0) (length out))
-  where
-    go : (b : Bool) → pick b out out ≡ out
-    go true = refl
-    go false = refl
-behind-end out (x ∷ v) = rw (lt-leb (length out + suc (length v)) (length out) (omega arith))
-
-pub put-whole : (out : List ℕ) (at : ℕ) (v : List ℕ) → at + length v ≤ length out → putIf out at v ≡ sets out at v
-put-whole out at v h = rw (le-leb (at + length v) (length out) h)
-
--- v was sized behind the end, an opening made for it, and it was written or did not fit
-module _ (out₀ out₁ : List ℕ) (sized to : ℕ) (out₂ : List ℕ) (at : ℕ) (v : List ℕ) (n : sized ≡ length out₀ + length v) (o : out₁ ≡ putIf out₀ (length out₀) v) where
-  pub sized-over : Begun (sized - length out₀) out₁ to out₂ at → length out₀ < at → Framed (outcome v) out₀ to out₂ at
-  sized-over y h =
-      let e = o ∙ behind-end out₀ v in
-      frame-from (outcome v) out₁ out₀ e to out₂ at (value-over v _ (omega (arith, n)) out₁ to out₂ at y (omega (arith, h, ap length e)))
-
-  pub sized-in : Begun (sized - length out₀) out₁ to out₂ at → at ≤ length out₀ → (out : List ℕ) (r : ℕ) → r ≡ at + length v → out ≡ putIf out₂ at v → Framed (outcome v) out₀ to out r
-  sized-in y h out r p q =
-      let e = o ∙ behind-end out₀ v in
-      let k : at ≤ length out₁ = omega (arith, h, ap length e) in
-      let m = begun-room _ out₁ to out₂ at y k in
-      frame-from (outcome v) out₁ out₀ e to out r (value-in v _ (omega (arith, n)) out₁ to out₂ at y k out r p (q ∙ put-whole out₂ at v (omega (arith, m, n))))
 
 -- ---- orders 12, 13, 14 and 18
 

@@ -6,6 +6,7 @@
 --   FitLaws         what is read is of the sorts of its kind
 --   SpotLaws        where the fields stand, and that they are held there
 --   ThroughLaws     the loop over a layout
+--   CodeLaws        no refusal is 0
 --   PartLaws        one field read and kept, and its spot
 --   RuleReading     rules as fields, and their words
 --   OrderLaws       the whole order
@@ -41,6 +42,7 @@ pub mod TableLaws
 pub mod FitLaws
 pub mod SpotLaws
 pub mod ThroughLaws
+pub mod CodeLaws
 pub mod PartLaws
 pub mod RuleReading
 pub mod OrderLaws

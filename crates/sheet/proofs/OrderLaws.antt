@@ -1,36 +1,38 @@
 -- An order: its kind, its fields and nothing behind them; and what its reading leaves. Assumes nothing.
 use mathlib.Core.Path.{_≡_, refl, sym, ap, _∙_}
-use mathlib.Core.List.{List}
-use Prim.Native.Nat.{ℕ, _+_, _-_, _^_, _≤_, _<_}
+use mathlib.Core.List.{List, [], _∷_}
+use mathlib.Core.Logic.{⊎-elim}
+use Prim.Native.Nat.{ℕ, zero, suc, _+_, _-_, _*_, _≤_, _<_}
 use native.Mathlib.Decide.{decLt}
 use native.Mathlib.Omega.{arith}
 use borrow.Author.Tests.{lt-ltb, le-ltb, ne-eqb}
-use lib.ListN.{length, getD}
+use lib.ListN.{length, getD, drop}
 use Rattle.terms.specs.declared.Place.{Place}
-use Rattle.terms.specs.declared.Step.{Step}
-use Rattle.terms.specs.declared.Step.the-variants.{Next, Stopped}
 use Rattle.terms.specs.Parser.{Result, got, refused, bind, number}
 use Rattle.terms.specs.Shape as shape
 use Rattle.terms.specs.Shape.{ceiling}
-use Rattle.terms.specs.Tokens.{Area, blank, toks}
+use Rattle.terms.specs.Reading as reading
+use Rattle.terms.specs.Lookup.{Pattern}
+use Rattle.terms.specs.Tokens.{Area, toks}
 use Rattle.terms.proofs.Answers.{stored-at}
 use Rattle.terms.proofs.Bounds.{number-bounds}
+use Rattle.terms.proofs.Steps.{one-group, at-byte, at-end}
 use Rattle.terms.proofs.Shortest.{Octets}
 use Rattle.sheet.specs.declared.Order.{Order}
-use Rattle.sheet.specs.declared.FieldsRead.{FieldsRead}
-use Rattle.sheet.specs.declared.FieldsRead.the-variants.{Filled}
 use Rattle.sheet.specs.Fields as fields
 use Rattle.sheet.specs.Fields.{Field, Sort, ruled, kinds, nodes, allNodes, last, kindedOrder, readOrder}
 use Rattle.sheet.specs.Operations.{nth}
-use Rattle.sheet.specs.Given.{Fits}
-use Rattle.sheet.specs.Laid.{sortOf, plainOf, packed, Plain, kindAt, sortsAt, knownAt, fieldItems, allItems, Free, Ample, moved, spotOf, noFields, FieldDone, FieldsDone, RulesDone}
+use Rattle.sheet.specs.Laid.{sortOf, plainOf, packed, Plain, Plains, kindAt, sortsAt, knownAt, fieldItems, allItems, Free, Ample, noFields, Spots, finished, FieldDone, RulesDone}
+use Rattle.terms.specs.Lent.{stepOf}
+use Rattle.sheet.specs.Lent.{fieldOf}
 use Rattle.sheet.specs.Ordered.{OrderRoom, WholeOrder}
 use Rattle.sheet.proofs.StoredLaws.{stored-kinds, stored-before, stored-undo}
-use Rattle.sheet.proofs.FieldLaws.{fields-found, spares-few}
-use Rattle.sheet.proofs.TableLaws.{kind-listed, kind-unlisted, layout-short, layout-leading, plains-below}
-use Rattle.sheet.proofs.SpotLaws.{RulesFit, plain-fit, rules-room, fields-followed, spots-held}
+use Rattle.sheet.proofs.FieldLaws.{parts-of, same-value, rules-found, fields-found, spares-few}
+use Rattle.sheet.proofs.PartLaws.{moved}
+use Rattle.sheet.proofs.TableLaws.{kind-listed, kind-unlisted, layout-short, layout-leading, plains-below, sorts-ruled}
+use Rattle.sheet.proofs.SpotLaws.{RulesFit, plain-fit, rules-room, fields-followed, spots-held, spot-kept}
 use Rattle.sheet.proofs.FitLaws.{fields-fit}
-use Rattle.sheet.proofs.ThroughLaws.{Through, through-start}
+use Rattle.sheet.proofs.ThroughLaws.{Through, FieldsHere, through-start}
 
 -- ---- a field of any sort
 
@@ -46,17 +48,46 @@ module _ (s us : List ℕ) (issued : ℕ) (p : Place) (d e : Area) where
   unfolding fields.field
   rules-refused c h = rw (← h)
 
-  pub rules-field : (n m : ℕ) → got n m ≡ number s (ceiling shape.ordinary) (p .at) → (r : Step) → RulesDone (fields.ruleList s issued n m) s (moved p m) d e n us r
-      → FieldDone s us (fields.field s issued fields.rules (p .at)) p d e (spotOf (p .top) n r)
+  pub rules-field : (n m : ℕ) → got n m ≡ number s (ceiling shape.ordinary) (p .at) → (c a b at top nodes limit : ℕ) → RulesDone (fields.ruleList s issued n m) s (moved p m) d e n us (stepOf c at top nodes limit)
+      → FieldDone s us (fields.field s issued fields.rules (p .at)) p d e (fieldOf c n a b at top nodes limit)
   unfolding fields.field fieldItems nodes
-  rules-field n m h (Next q) (rs, found, y, inside, count, words) = (
+  rules-field n m h zero a b at top nodes limit (rs, found, y, inside, count, words) = (
     ruled rs,
     rw (← h) (ap (λ (x : Result (List _)). bind x (λ rs j. got (ruled rs) j)) found),
     record { whole = y .whole; only = y .only; free = y .free; limit = y .limit; tokens = y .tokens; counts = y .counts },
     inside,
     (sym count, λ k. words (omega arith)),
   )
-  rules-field n m h (Stopped c) x = (rw (← h) (ap (λ (x : Result (List _)). bind x (λ rs j. got (ruled rs) j)) (x .0)), x .1)
+  rules-field n m h (suc c) a b at top nodes limit x = (rw (← h) (ap (λ (x : Result (List _)). bind x (λ rs j. got (ruled rs) j)) (x .0)), x .1)
+
+-- a number whose first byte is below 128 is that byte
+number-one : (s : List ℕ) (at v m : ℕ) → number s (ceiling shape.ordinary) at ≡ got v m → getD s at 0 < 128 → v ≡ getD s at 0
+number-one s at v m e l = go (decLt at (length s))
+  where
+    go : Dec (at < length s) → v ≡ getD s at 0
+    go (yes h) = same-value (sym (rw (at-byte s at h) at e) ∙ one-group (ceiling shape.ordinary) at (getD s at 0) (drop (at + 1) s) (omega arith) l)
+    go (no h) = absurd (let r = at-end s (ceiling shape.ordinary) 0 1 at (omega arith) in let z : _≡_ {A = ℕ} 0 1 = cc in omega arith)
+
+-- rules that have room, before fields that do
+rules-first : (ws : List ℕ) (rs : List Pattern) (fs : List Field) → 6 * length rs ≤ length ws → ((i : ℕ) → RulesFit ws (nth i fs)) → (i : ℕ) → RulesFit ws (nth i (ruled rs ∷ fs))
+unfolding nth
+rules-first ws rs fs h f zero = h
+rules-first ws rs fs h f (suc i) = f i
+
+-- rules whose count is one byte have room where the words are six for each
+rules-few : (s : List ℕ) → Octets s → (issued : ℕ) (ws : List ℕ) (l : List Sort) → Plains l → (at : ℕ) (fs : List Field) (n : ℕ)
+    → fields.fields s issued (fields.rules ∷ l) at ≡ got fs n → getD s at 0 < 128 → 6 * getD s at 0 ≤ length ws → (i : ℕ) → RulesFit ws (nth i fs)
+unfolding fields.fields fields.field
+rules-few s octets issued ws l p at fs n e b h =
+    let x = parts-of (fields.field s issued fields.rules at) _ fs n e in
+    let y = parts-of (fields.fields s issued l (x .1)) _ fs n (x .3) in
+    let v = parts-of (reading.count s at) _ (x .0) (x .1) (x .2) in
+    let r = parts-of (fields.ruleList s issued (v .0) (v .1)) _ (x .0) (x .1) (v .3) in
+    let many = rules-found s octets issued (v .0) (v .1) (r .0) (r .1) (r .2) .1 in
+    let is = number-one s at (v .0) (v .1) (v .2) b in
+    let all : ruled (r .0) ∷ y .0 ≡ fs = ap (λ (f : Field). f ∷ y .0) (same-value (r .3)) ∙ same-value (y .3) in
+    rw (← all)
+    (rules-first ws (r .0) (y .0) (omega arith) (plain-fit ws l (y .0) p (fields-fit s issued l (x .1) (y .0) (y .1) (y .2))))
 
 -- rules are not plain
 pub not-plain : {A : Type 0} (k : ℕ) → k ≡ 10 → Plain (sortOf k) → A
@@ -105,22 +136,30 @@ module _ (s : List ℕ) (issued : ℕ) where
         start = record { at = 1; top = top; nodes = kept; limit = limit }
 
         -- only order 20 has rules, and for those there is room
-        rules-held : (fs : List Field) → Fits (sortsAt k) fs → kept + allNodes fs ≤ limit → (i : ℕ) → RulesFit ws (nth i fs)
-        rules-held fs fit h = go (decLt k 20)
+        rules-held : (fs : List Field) (n : ℕ) → fields.fields s (knownAt k issued) (sortsAt k) 1 ≡ got fs n → kept + allNodes fs ≤ limit → (i : ℕ) → RulesFit ws (nth i fs)
+        unfolding Plains Plain
+        rules-held fs n found h = go (decLt k 20)
           where
             go : Dec (k < 20) → (i : ℕ) → RulesFit ws (nth i fs)
-            go (yes l) = plain-fit ws (sortsAt k) fs (plains-below k l) fit
-            go (no l) = let z : getD s 0 0 ≡ 20 = omega arith in rules-room ws fs (omega (arith, room .words z))
+            go (yes l) = plain-fit ws (sortsAt k) fs (plains-below k l) (fields-fit s (knownAt k issued) (sortsAt k) 1 fs n found)
+            go (no l) =
+                let told = rw (sorts-ruled k (omega arith)) at found in
+                ⊎-elim (λ w. rules-room ws fs (omega arith)) (λ w. rules-few s octets (knownAt k issued) ws (fields.term ∷ []) (tt, tt) 1 fs n told (w .0) (omega arith)) (room .words (omega arith))
 
-        pub order-done : FieldsDone s ws (fields.fields s (knownAt k issued) (sortsAt k) 1) start d e′ (Filled o q) → o .kind ≡ k → length s ≤ q .at
-            → WholeOrder s issued top kept limit d e′ ws o
-        order-done (fs, found, stored, inside, spots, et, en) ek l =
+        pub order-done : FieldsHere s ws (fields.fields s (knownAt k issued) (sortsAt k) 1) start d e′ o q → length s ≤ q .at
+            → WholeOrder s issued top kept limit d e′ ws (finished o k (q .top) (q .nodes))
+        order-done x l =
+            let fs = x .read in
+            let found = x .is in
+            let stored = x .stored in
+            let u = finished o k (q .top) (q .nodes) in
+            let spots : Spots s ws top u fs = λ i h. rw (spot-kept i o u refl refl refl refl refl) (x .spots i h) in
             let good = fields-found s octets (knownAt k issued) (sortsAt k) 1 fs (q .at) found in
             let items = good .room in
             let fit = fields-fit s (knownAt k issued) (sortsAt k) 1 fs (q .at) found in
             let few = spares-few (kindAt k) in
-            let fits : o .nodes ≤ limit → top + length (allItems fs) ≤ length (d .kinds) = λ h. omega (arith, stored .counts, room .tokens, room .within) in
-            let run : o .nodes ≤ limit → toks (e′ .kinds) (e′ .vals) top (length (allItems fs)) ≡ allItems fs = λ h.
+            let fits : u .nodes ≤ limit → top + length (allItems fs) ≤ length (d .kinds) = λ h. omega (arith, stored .counts, room .tokens, room .within) in
+            let run : u .nodes ≤ limit → toks (e′ .kinds) (e′ .vals) top (length (allItems fs)) ≡ allItems fs = λ h.
             rw (stored .whole (omega arith)) (stored-at (allItems fs) d top (fits h) (omega (arith, fits h, room .paired)))
             in
             let kindsLong = stored-kinds start q d e′ (allItems fs) (allNodes fs) stored in
@@ -128,12 +167,12 @@ module _ (s : List ℕ) (issued : ℕ) where
               read = record { kind = kindAt k; fields = fs };
               next = q .at;
               is = order-whole fs (q .at) found l;
-              kind = rw ek (kind-listed k listed);
+              kind = kind-listed k listed;
               formed = good .formed;
               counts = omega (arith, stored .counts);
               tokens = omega (arith, stored .tokens);
               small = omega (arith, stored .tokens, good .tokens, room .bytes, room .tokens, room .short);
-              held = λ h. spots-held (e′ .kinds) (e′ .vals) s ws top o fs spots (rules-held fs fit (omega (arith, stored .counts, room .within))) (fields-followed (kindAt k) fs fit) (run h) (omega (arith, fits h));
+              held = λ h. spots-held (e′ .kinds) (e′ .vals) s ws top u fs spots (rules-held fs (q .at) found (omega (arith, stored .counts, room .within))) (fields-followed (kindAt k) fs fit) (run h) (omega (arith, fits h));
               fitting = fit;
               found = found;
               spots = spots;
@@ -142,22 +181,13 @@ module _ (s : List ℕ) (issued : ℕ) where
               run = run;
               fits = λ h. omega (arith, fits h, stored .tokens);
               same = stored-before start q d e′ (allItems fs) (allNodes fs) stored;
-              free = rw et (stored .free);
-              cleared = stored-undo start q d (room .free) e′ (allItems fs) (allNodes fs) (o .top - top) stored (omega arith);
+              free = stored .free;
+              cleared = stored-undo start q d (room .free) e′ (allItems fs) (allNodes fs) (u .top - top) stored (omega arith);
             }
 
-        -- behind the fields, and cleared again where bytes are left over
-        pub order-top : FieldsDone s ws (fields.fields s (knownAt k issued) (sortsAt k) 1) start d e′ (Filled o q) → (top ≤ q .top) × (q .top < 2 ^ 32)
-        order-top (fs, found, stored, inside, spots, et, en) =
-            let good = fields-found s octets (knownAt k issued) (sortsAt k) 1 fs (q .at) found in
-            (omega (arith, stored .tokens), omega (arith, stored .tokens, good .tokens, room .bytes, room .tokens, room .short))
-
-        pub order-undo : FieldsDone s ws (fields.fields s (knownAt k issued) (sortsAt k) 1) start d e′ (Filled o q) → (f : Area) → f ≡ blank e′ top (q .top - top) → f ≡ d
-        order-undo (fs, found, stored, inside, spots, et, en) f h = h ∙ stored-undo start q d (room .free) e′ (allItems fs) (allNodes fs) (q .top - top) stored refl
-
 -- what is known below, told another way
-pub done-as : (s ws : List ℕ) (n m : ℕ) (l : List Sort) (at : ℕ) (p : Place) (d e : Area) (r : FieldsRead) → n ≡ m → FieldsDone s ws (fields.fields s n l at) p d e r → FieldsDone s ws (fields.fields s m l at) p d e r
-done-as s ws n m l at p d e r h x = rw (← h) x
+pub here-as : (s ws : List ℕ) (n m : ℕ) (l : List Sort) (at : ℕ) (p : Place) (d e : Area) (o : Order) (q : Place) → n ≡ m → FieldsHere s ws (fields.fields s n l at) p d e o q → FieldsHere s ws (fields.fields s m l at) p d e o q
+here-as s ws n m l at p d e o q h x = rw (← h) x
 
 -- the place where an order's fields begin
 pub ample-start : (s ks vs ws : List ℕ) (top kept limit : ℕ) → OrderRoom s ks vs ws top kept limit → 0 < length s → Ample s (record { at = 1; top = top; nodes = kept; limit = limit })

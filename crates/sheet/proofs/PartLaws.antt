@@ -1,21 +1,27 @@
 -- One field: what is read and kept of it, and its spot. Assumes nothing.
 use mathlib.Core.Path.{_≡_, refl, sym, ap, _∙_}
 use mathlib.Core.List.{List}
+use mathlib.Core.Bool.{Bool, true, false}
+use mathlib.Core.Logic.{_⊎_, inl, inr}
 use Prim.Native.Nat.{ℕ, zero, suc, _+_, _-_, _^_, _≤_, _<_}
+use native.Mathlib.Decide.{decLt}
 use native.Mathlib.Omega.{arith}
 use borrow.Author.Tests.{ne-eqb}
+use lib.Dec.{eqb}
 use lib.ListN.{length, getD}
 use Rattle.terms.specs.declared.Place.{Place}
 use Rattle.terms.specs.declared.Step.{Step}
-use Rattle.terms.specs.declared.Step.the-variants.{Next, Stopped}
-use Rattle.terms.specs.Parser.{Result, Parser, got, refused, bind, number}
+use Rattle.terms.specs.declared.Step.the-variants.{Next}
+use Rattle.terms.specs.Parser.{Result, Parser, got, refused, bind, pick, _>>=_, return, number}
 use Rattle.terms.specs.Tokens.{Area}
 use Rattle.terms.specs.Term.{Term, Parts, node, items, partItems, size, sizes}
 use Rattle.terms.specs.Tree.{row}
 use Rattle.terms.specs.Shape as shape
 use Rattle.terms.specs.Shape.{ceiling}
 use Rattle.terms.specs.Reading as reading
+use Rattle.terms.specs.Lent.{place}
 use Rattle.terms.specs.Done.{Room, RoomAfter, answer, kept, contents}
+use Rattle.terms.specs.Wanting.{part, nodesOf}
 use Rattle.terms.specs.Questions.{Parameter}
 use Rattle.terms.specs.Substitution.{Entry, Receiver}
 use Rattle.terms.specs.Parameters.{parameters, past}
@@ -23,13 +29,20 @@ use Rattle.terms.specs.Rows as rows
 use Rattle.terms.specs.Rows.{entryRow, receiverRow, argumentRow, answerOf, keptOf}
 use Rattle.terms.proofs.Bounds.{number-bounds}
 use Rattle.terms.proofs.FieldLaws.{code-end, code-listed, code-unlisted}
+use Rattle.sheet.specs.declared.FieldRead.{FieldRead}
 use Rattle.sheet.specs.declared.FieldRead.the-variants.{Spotted, Unread}
 use Rattle.sheet.specs.declared.Spot.{Spot}
 use Rattle.sheet.specs.Fields as fields
 use Rattle.sheet.specs.Fields.{Field, value, tree, bare, entered, received, named, listed, levels, nodes}
-use Rattle.sheet.specs.Laid.{plainOf, partOf, fieldItems, Free, Ample, PartDone, spotOf, moved, FieldDone, ReadOnly, valueField, listField}
+use Rattle.sheet.specs.Laid.{plainOf, partOf, fieldItems, Free, Ample, PartDone, FieldDone, ReadOnly, valueField, listField}
+use Rattle.sheet.specs.Lent.{fieldOf, ReadAt}
 use Rattle.sheet.proofs.StoredLaws.{stored-none, stored-kept}
+use Rattle.sheet.proofs.CodeLaws.{Coded, not-zero}
 use Rattle.sheet.proofs.FieldLaws.{parts-of, same-value, parameters-found}
+
+-- the place with another position
+abbrev pub moved : Place → ℕ → Place
+moved p at = record { at = at; top = p .top; nodes = p .nodes; limit = p .limit }
 
 pub room-of : (s : List ℕ) (p : Place) → Ample s p → Room s p
 room-of s p a = record { inside = a .inside; tokens = omega (arith, a .tokens); counts = omega (arith, a .counts) }
@@ -70,7 +83,7 @@ module _ (s : List ℕ) (t : Parser Term) where
 -- ---- tokens that are kept
 
 module _ (s ws : List ℕ) (issued : ℕ) (p : Place) (d e : Area) (f : Free (p .top) d) (n : ℕ) (r : Step) (room : RoomAfter s r) where
-  pub term-part : r ≡ answer p (reading.term s issued levels (p .at)) size → e ≡ kept s p (reading.term s issued levels (p .at)) size d
+  term-part : r ≡ answer p (reading.term s issued levels (p .at)) size → e ≡ kept s p (reading.term s issued levels (p .at)) size d
       → PartDone s ws n (fields.field s issued fields.term (p .at)) p d e r
   unfolding fields.field fieldItems nodes
   term-part er ee = go (reading.term s issued levels (p .at)) er ee
@@ -79,7 +92,7 @@ module _ (s ws : List ℕ) (issued : ℕ) (p : Place) (d e : Area) (f : Free (p 
       go (got t m) er ee = let q = rw er at room in rw er (tree t, refl, stored-kept p _ d f e (items t) (size t) refl refl refl ee, q .inside, refl)
       go (refused c) er ee = rw er (refl, ee ∙ f _)
 
-  pub nominal-part : r ≡ answer p (reading.bare s issued levels (p .at)) contents → e ≡ kept s p (reading.bare s issued levels (p .at)) contents d
+  nominal-part : r ≡ answer p (reading.bare s issued levels (p .at)) contents → e ≡ kept s p (reading.bare s issued levels (p .at)) contents d
       → PartDone s ws n (fields.field s issued fields.nominal (p .at)) p d e r
   unfolding fields.field fields.nominalField fieldItems nodes reading.bare row
   nominal-part er ee = go (reading.row s (reading.term s issued levels) (shape.nominal shape.done) (p .at)) er ee
@@ -88,6 +101,16 @@ module _ (s ws : List ℕ) (issued : ℕ) (p : Place) (d e : Area) (f : Free (p 
           → PartDone s ws n (bind (bind (bind x (λ ps m. got (node 20 ps) m)) (λ t m. got (row t) m)) (λ ps m. got (bare ps) m)) p d e r
       go (got ps m) er ee = let q = rw er at room in rw er (bare ps, refl, stored-kept p _ d f e (items (node 20 ps)) (sizes ps) refl refl refl ee, q .inside, refl)
       go (refused c) er ee = rw er (refl, ee ∙ f _)
+
+  -- a term or a nominal, told by the flag
+  pub either-part : (k : ℕ) → 3 < k → k < 6 → r ≡ answer p (part (eqb k 5) s issued levels (p .at)) (nodesOf (eqb k 5)) → e ≡ kept s p (part (eqb k 5) s issued levels (p .at)) (nodesOf (eqb k 5)) d
+      → PartDone s ws n (partOf s issued k n (p .at)) p d e r
+  unfolding partOf
+  either-part k a b er ee = go (decLt k 5)
+    where
+      go : Dec (k < 5) → PartDone s ws n (partOf s issued k n (p .at)) p d e r
+      go (yes l) = let z : k ≡ 4 = omega arith in rw z (term-part (rw z at er) (rw z at ee))
+      go (no l) = let z : k ≡ 5 = omega arith in rw z (nominal-part (rw z at er) (rw z at ee))
 
   pub entries-part : r ≡ answerOf entryRow p (rows.entries s (reading.term s issued levels) n (p .at)) → e ≡ keptOf entryRow s p (rows.entries s (reading.term s issued levels) n (p .at)) d
       → PartDone s ws n (partOf s issued 6 n (p .at)) p d e r
@@ -102,8 +125,8 @@ module _ (s ws : List ℕ) (issued : ℕ) (p : Place) (d e : Area) (f : Free (p 
       go (refused c) h er ee = rw er (refl, ee ∙ f _)
 
   pub receivers-part : r ≡ answerOf receiverRow p (rows.receivers s (reading.term s issued levels) n (p .at)) → e ≡ keptOf receiverRow s p (rows.receivers s (reading.term s issued levels) n (p .at)) d
-      → PartDone s ws n (partOf s issued 7 n (p .at)) p d e r
-  unfolding partOf fieldItems nodes
+      → PartDone s ws n (bind (rows.receivers s (reading.term s issued levels) n (p .at)) (λ rs m. got (received rs) m)) p d e r
+  unfolding fieldItems nodes
   receivers-part er ee = go (rows.receivers s (reading.term s issued levels) n (p .at)) (receivers-many s (reading.term s issued levels) n (p .at)) er ee
     where
       go : (x : Result (List Receiver)) → ((rs : List Receiver) (m : ℕ) → x ≡ got rs m → length rs ≡ n) → r ≡ answerOf receiverRow p x → e ≡ keptOf receiverRow s p x d
@@ -114,8 +137,8 @@ module _ (s ws : List ℕ) (issued : ℕ) (p : Place) (d e : Area) (f : Free (p 
       go (refused c) h er ee = rw er (refl, ee ∙ f _)
 
   pub arguments-part : r ≡ answerOf argumentRow p (rows.arguments s (reading.term s issued levels) n (p .at)) → e ≡ keptOf argumentRow s p (rows.arguments s (reading.term s issued levels) n (p .at)) d
-      → PartDone s ws n (bind (rows.arguments s (reading.term s issued levels) n (p .at)) (λ ts m. got (listed ts) m)) p d e r
-  unfolding fieldItems nodes
+      → PartDone s ws n (partOf s issued 9 n (p .at)) p d e r
+  unfolding partOf fieldItems nodes
   arguments-part er ee = go (rows.arguments s (reading.term s issued levels) n (p .at)) (arguments-many s (reading.term s issued levels) n (p .at)) er ee
     where
       go : (x : Result (List Term)) → ((ts : List Term) (m : ℕ) → x ≡ got ts m → length ts ≡ n) → r ≡ answerOf argumentRow p x → e ≡ keptOf argumentRow s p x d
@@ -127,25 +150,44 @@ module _ (s ws : List ℕ) (issued : ℕ) (p : Place) (d e : Area) (f : Free (p 
 
 -- ---- by their numbers
 
-pub part-else : (s : List ℕ) (issued k n : ℕ) → (k ≡ 4 → ⊥) → (k ≡ 5 → ⊥) → (k ≡ 6 → ⊥) → (k ≡ 7 → ⊥)
-    → (at : ℕ) → partOf s issued k n at ≡ bind (rows.arguments s (reading.term s issued levels) n at) (λ ts m. got (listed ts) m)
+-- a number outside a range is none of it
+outside : (k a b : ℕ) → (k < a) ⊎ (b ≤ k) → (j : ℕ) → a ≤ j → j < b → k ≡ j → ⊥
+outside k a b (inl l) j x y e = omega arith
+outside k a b (inr l) j x y e = omega arith
+
+pub part-else : (s : List ℕ) (issued k n : ℕ) → (k < 4) ⊎ (6 ≤ k) → (k ≡ 6 → ⊥) → (k ≡ 9 → ⊥)
+    → (at : ℕ) → partOf s issued k n at ≡ bind (rows.receivers s (reading.term s issued levels) n at) (λ rs m. got (received rs) m)
 unfolding partOf
-part-else s issued k n a b c d at = rw (ne-eqb k 4 a, ne-eqb k 5 b, ne-eqb k 6 c, ne-eqb k 7 d)
+part-else s issued k n h c d at = rw (ne-eqb k 4 (outside k 4 6 h 4 (omega arith) (omega arith)), ne-eqb k 5 (outside k 4 6 h 5 (omega arith) (omega arith)), ne-eqb k 6 c, ne-eqb k 9 d)
 
--- ---- a spot for them
+-- ---- a spot for them, as the code answers
 
--- a term or a nominal
-pub part-field : (s ws : List ℕ) (n : ℕ) (found : Result Field) (p : Place) (d e : Area) (r : Step) → PartDone s ws n found p d e r → FieldDone s ws found p d e (spotOf (p .top) n r)
-part-field s ws n found p d e (Next q) x = x
-part-field s ws n found p d e (Stopped c) x = x
+-- a refusal's code
+pub unread : (s ws : List ℕ) (found : Result Field) (p : Place) (d e : Area) → Coded found → (c v a m at top nodes limit : ℕ)
+    → FieldDone s ws found p d e (Unread c) → FieldDone s ws found p d e (fieldOf c v a m at top nodes limit)
+unread s ws found p d e k zero v a m at top nodes limit x = absurd (omega (arith, not-zero found 0 k (x .0)))
+unread s ws found p d e k (suc c) v a m at top nodes limit x = x
+
+pub unread-at : (s : List ℕ) (found : Result Field) (at : ℕ) → Coded found → (c v a next : ℕ) → ((top nodes limit : ℕ) → ReadOnly s found (place at top nodes limit) (Unread c)) → ReadAt s found at c v a next
+unread-at s found at k c v a next h m top nodes limit ws d f = unread s ws found (place at top nodes limit) d d k c v a m next top nodes limit (h top nodes limit ws d f)
+
+-- a code that is not 0 is a refusal
+pub unreads : (c v a m at top nodes limit : ℕ) → (c ≡ 0 → ⊥) → fieldOf c v a m at top nodes limit ≡ Unread c
+unreads zero v a m at top nodes limit h = absurd (h refl)
+unreads (suc c) v a m at top nodes limit h = refl
+
+-- a term or a nominal, or a list whose count is known
+pub part-field : (s ws : List ℕ) (n : ℕ) (found : Result Field) (p : Place) (d e : Area) (q : Place) → PartDone s ws n found p d e (Next q)
+    → FieldDone s ws found p d e (fieldOf 0 n (p .top) (q .top) (q .at) (q .top) (q .nodes) (p .limit))
+part-field s ws n found p d e q (f, is, y, inside, laid) =
+    (f, is, record { whole = y .whole; only = y .only; free = y .free; limit = refl; tokens = y .tokens; counts = y .counts }, inside, laid)
 
 -- a list behind its count
-pub list-field : (s ws : List ℕ) (n at : ℕ) (found whole : Result Field) (p : Place) (d e : Area) (r : Step) → whole ≡ found → PartDone s ws n found (moved p at) d e r
-    → FieldDone s ws whole p d e (spotOf (p .top) n r)
-list-field s ws n at found whole p d e (Next q) h x =
-    let y = x .2 in
-    (x .0, h ∙ x .1, record { whole = y .whole; only = y .only; free = y .free; limit = y .limit; tokens = y .tokens; counts = y .counts }, x .3, x .4)
-list-field s ws n at found whole p d e (Stopped c) h x = (h ∙ x .0, x .1)
+pub list-field : (s ws : List ℕ) (at : ℕ) (found whole : Result Field) (p : Place) (d e : Area) (r : FieldRead) → whole ≡ found → FieldDone s ws found (moved p at) d e r
+    → FieldDone s ws whole p d e r
+list-field s ws at found whole p d e (Spotted z q) h (f, is, y, inside, laid) =
+    (f, h ∙ is, record { whole = y .whole; only = y .only; free = y .free; limit = y .limit; tokens = y .tokens; counts = y .counts }, inside, laid)
+list-field s ws at found whole p d e (Unread c) h x = (h ∙ x .0, x .1)
 
 -- ---- fields without tokens
 
@@ -218,6 +260,29 @@ list-refused s issued k at c e = rw (← e)
 
 -- ---- sorts by their numbers
 
-pub plain-else : (k : ℕ) → (k ≡ 1 → ⊥) → (k ≡ 2 → ⊥) → (k ≡ 3 → ⊥) → (k ≡ 4 → ⊥) → (k ≡ 5 → ⊥) → (k ≡ 6 → ⊥) → (k ≡ 7 → ⊥) → (k ≡ 8 → ⊥) → plainOf k ≡ fields.arguments
-unfolding plainOf
-plain-else k a b c d e f g h = rw (ne-eqb k 1 a, ne-eqb k 2 b, ne-eqb k 3 c, ne-eqb k 4 d, ne-eqb k 5 e, ne-eqb k 6 f, ne-eqb k 7 g, ne-eqb k 8 h)
+module _ (s : List ℕ) (issued k at : ℕ) where
+  -- a receiver, a term and a nominal
+  pub plain-tree : (k ≡ 2) ⊎ ((3 < k) × (k < 6)) → fields.field s issued (plainOf k) at ≡ partOf s issued k 1 at
+  unfolding plainOf partOf fields.field
+  plain-tree (inl e) = rw e
+  plain-tree (inr h) = go (decLt k 5)
+    where
+      go : Dec (k < 5) → fields.field s issued (plainOf k) at ≡ partOf s issued k 1 at
+      go (yes l) = let e : k ≡ 4 = omega (arith, h .0) in rw e
+      go (no l) = let e : k ≡ 5 = omega (arith, h .1) in rw e
+
+  -- lists
+  pub plain-list : (k < 1) ⊎ (6 ≤ k) → (k ≡ 8 → ⊥) → fields.field s issued (plainOf k) at ≡ listField s issued k at
+  unfolding plainOf partOf fields.field
+  plain-list h d =
+      rw (ne-eqb k 1 (outside k 1 6 h 1 (omega arith) (omega arith)), ne-eqb k 2 (outside k 1 6 h 2 (omega arith) (omega arith)), ne-eqb k 3 (outside k 1 6 h 3 (omega arith) (omega arith)), ne-eqb k 4 (outside k 1 6 h 4 (omega arith) (omega arith)), ne-eqb k 5 (outside k 1 6 h 5 (omega arith) (omega arith)), ne-eqb k 8 d) (by (eqb k 6) (eqb k 9))
+    where
+      by : (x y : Bool)
+          → fields.field s issued (pick x fields.entries (pick y fields.arguments fields.receivers)) at
+          ≡ bind (number s (ceiling shape.ordinary) at)
+          (λ n.
+          pick x (rows.entries s (fields.termField s issued) n >>= λ es. return (entered es))
+          (pick y (rows.arguments s (fields.termField s issued) n >>= λ ts. return (listed ts)) (rows.receivers s (fields.termField s issued) n >>= λ rs. return (received rs))))
+      by true y = refl
+      by false true = refl
+      by false false = refl

@@ -23,13 +23,13 @@ use Rattle.terms.specs.Lookup.{Pattern, ruleAt}
 use Rattle.terms.proofs.HeldLaws.{items-some}
 use Rattle.terms.proofs.Shortest.{Octets}
 use Rattle.sheet.specs.declared.Order.{Order}
-use Rattle.sheet.specs.declared.FieldsRead.the-variants.{Filled, Unfilled}
 use Rattle.sheet.specs.Fields as fields
 use Rattle.sheet.specs.Fields.{Field, value, tree, bare, listed, levels, nodes, allNodes, ruleNodes}
 use Rattle.sheet.specs.Operations.{nth}
 use Rattle.sheet.specs.Formed.{FormedFields}
-use Rattle.sheet.specs.Laid.{ruleSorts, ruleFields, ruleItems, fieldItems, allItems, Free, Stored, Ample, ruleWords, RulesAt, putRule, spotAt, startAt, Spots, FieldsDone, RuleDone, RulesDone, ruleFrom, WordsFit}
+use Rattle.sheet.specs.Laid.{ruleSorts, ruleFields, ruleItems, fieldItems, allItems, Free, Stored, Ample, ruleWords, RulesAt, putRule, spotAt, startAt, Spots, RuleDone, RulesDone, ruleFrom, WordsFit}
 use Rattle.sheet.proofs.StoredLaws.{stored-none, stored-then, stored-as, stored-undo, ample-after}
+use Rattle.sheet.proofs.ThroughLaws.{FieldsHere}
 use Rattle.sheet.proofs.FieldLaws.{never, parts-of, same-value, same-next, fields-found}
 
 -- ---- a rule as fields
@@ -137,17 +137,17 @@ module _ (s ws : List ℕ) (octets : Octets s) (issued : ℕ) (p : Place) (d e :
         };
       }
 
-  pub rule-here : (o : Order) (q : Place) → FieldsDone s ws (fields.fields s issued ruleSorts (p .at)) p d e (Filled o q) → RuleHere s issued p d e o q
-  rule-here o q (fs, found, stored, inside, spots, _, _) =
-      let y = parts-of (fields.rule s issued (p .at)) (λ x m. got (ruleFields x) m) fs (q .at) (sym (rule-read s issued (p .at)) ∙ found) in
+  pub rule-here : (o : Order) (q : Place) → FieldsHere s ws (fields.fields s issued ruleSorts (p .at)) p d e o q → RuleHere s issued p d e o q
+  rule-here o q z =
+      let y = parts-of (fields.rule s issued (p .at)) (λ x m. got (ruleFields x) m) (z .read) (q .at) (sym (rule-read s issued (p .at)) ∙ z .is) in
       go (y .0) (y .1) (y .2) (same-value (y .3)) (same-next (y .3))
     where
-      go : (x : Pattern) (m : ℕ) → fields.rule s issued (p .at) ≡ got x m → ruleFields x ≡ fs → m ≡ q .at → RuleHere s issued p d e o q
+      go : (x : Pattern) (m : ℕ) → fields.rule s issued (p .at) ≡ got x m → ruleFields x ≡ z .read → m ≡ q .at → RuleHere s issued p d e o q
       go x m h is next =
-          rule-made x o q (rw (← is) at found) (rw next at h) (stored-as p q d e _ _ _ _ (ap allItems (sym is)) (ap allNodes (sym is)) stored) (λ j k. rw is (spots j k)) inside
+          rule-made x o q (rw (← is) at (z .is)) (rw next at h) (stored-as p q d e _ _ _ _ (ap allItems (sym is)) (ap allNodes (sym is)) (z .stored)) (λ j k. rw is (z .spots j k)) (z .inside)
 
-  pub rule-refused : (c : ℕ) → FieldsDone s ws (fields.fields s issued ruleSorts (p .at)) p d e (Unfilled c) → fields.rule s issued (p .at) ≡ refused c
-  rule-refused c x = refused-from (fields.rule s issued (p .at)) ruleFields c (sym (rule-read s issued (p .at)) ∙ x .0)
+  pub rule-refused : (c : ℕ) → fields.fields s issued ruleSorts (p .at) ≡ refused c → fields.rule s issued (p .at) ≡ refused c
+  rule-refused c e = refused-from (fields.rule s issued (p .at)) ruleFields c (sym (rule-read s issued (p .at)) ∙ e)
 
 -- ---- the words stored
 

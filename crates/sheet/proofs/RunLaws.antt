@@ -182,16 +182,18 @@ going-ready lim half s out₀ x out a b c d at to n g =
 -- ---- how it ends
 
 module _ (lim : Limits) (half : ℕ) (s out₀ : List ℕ) (x y : Solver) (out a b c d : List ℕ) (at to n : ℕ) (g : Going lim half s out₀ x out a b c d at to n) where
-  ending : (r : ℕ) (out′ a′ b′ c′ d′ : List ℕ) → runFrom (limitsOf x) s (g .fuel) (g .session) at (length out₀ - to) ≡ ends r (g .session)
-      → out′ ≡ out → Lays y half a′ b′ c′ d′ (g .session) → Ended lim half s out₀ r n to out′ a′ b′ c′ d′
-  ending r out′ a′ b′ c′ d′ e o L =
-      subst (λ (l : Limits). Ended l half s out₀ r n to out′ a′ b′ c′ d′) (g .limits)
+  ending : (r : ℕ) (out′ a′ b′ c′ d′ : List ℕ) → limitsOf y ≡ limitsOf x → runFrom (limitsOf x) s (g .fuel) (g .session) at (length out₀ - to) ≡ ends r (g .session)
+      → out′ ≡ out → Lays y half a′ b′ c′ d′ (g .session) → Ended lim half s out₀ r n to (y .top) out′ a′ b′ c′ d′
+  ending r out′ a′ b′ c′ d′ v e o L =
+      subst (λ (l : Limits). Ended l half s out₀ r n to (y .top) out′ a′ b′ c′ d′) (g .limits)
       (record {
         reason = sym (ap (λ (q : Run). q .reason) total);
         orders = sym (ap (λ (q : Run). q .orders) total ∙ none);
         bytes = sym (ap length answers ∙ g .sized);
         output = o ∙ g .output ∙ ap (λ (k : ℕ). g .written ++ drop k out₀) (sym (g .sized)) ∙ ap (λ (l : List ℕ). l ++ drop (length l) out₀) (sym answers);
         solver = y;
+        limits = v;
+        ends = refl;
         lays = subst (λ (z : Session). Lays y half a′ b′ c′ d′ z) (sym (ap (λ (q : Run). q .session) total)) L;
       })
     where
@@ -206,14 +208,14 @@ module _ (lim : Limits) (half : ℕ) (s out₀ : List ℕ) (x y : Solver) (out a
 
 module _ (lim : Limits) (half : ℕ) (s out₀ : List ℕ) (x : Solver) (out a b c d : List ℕ) (at to n : ℕ) (g : Going lim half s out₀ x out a b c d at to n) where
   -- the sheet is used up
-  pub ends-used : length s ≤ at → Ended lim half s out₀ 0 n to out a b c d
+  pub ends-used : length s ≤ at → Ended lim half s out₀ 0 n to (x .top) out a b c d
   ends-used h =
-      ending lim half s out₀ x x out a b c d at to n g 0 out a b c d (run-over (limitsOf x) s (g .fuel) (g .session) at (length out₀ - to) h) refl (g .lays)
+      ending lim half s out₀ x x out a b c d at to n g 0 out a b c d refl (run-over (limitsOf x) s (g .fuel) (g .session) at (length out₀ - to) h) refl (g .lays)
 
   -- a length is faulty
-  pub ends-faulty : at < length s → refused 10 ≡ nextOrder s at → Ended lim half s out₀ 10 n to out a b c d
+  pub ends-faulty : at < length s → refused 10 ≡ nextOrder s at → Ended lim half s out₀ 10 n to (x .top) out a b c d
   ends-faulty h e =
-      ending lim half s out₀ x x out a b c d at to n g 10 out a b c d (run-faulty (limitsOf x) s (g .fuel) (g .session) at (length out₀ - to) h (g .enough) e) refl (g .lays)
+      ending lim half s out₀ x x out a b c d at to n g 10 out a b c d refl (run-faulty (limitsOf x) s (g .fuel) (g .session) at (length out₀ - to) h (g .enough) e) refl (g .lays)
 
   -- what came of the order in the session that there is
   module _ (y : Solver) (out′ a′ b′ c′ d′ b₀ : List ℕ) (r next : ℕ)
@@ -240,13 +242,17 @@ module _ (lim : Limits) (half : ℕ) (s out₀ : List ℕ) (x : Solver) (out a b
         go (yes l) = let q = served .fits l in absurd (omega (arith, q .0))
         go (no l) = omega arith
 
+    -- an order keeps the limits
+    same-limits : limitsOf y ≡ limitsOf x
+    same-limits = ap₂ {C = Limits} (λ v k. record { variables = v; nodes = k }) (served .variables) (served .nodes)
+
     -- an answer does not fit
-    pub ends-long : at < length s → got b₀ next ≡ nextOrder s at → length out < r → Ended lim half s out₀ 11 n to out′ a′ b′ c′ d′
+    pub ends-long : at < length s → got b₀ next ≡ nextOrder s at → length out < r → Ended lim half s out₀ 11 n to (y .top) out′ a′ b′ c′ d′
     unfolding a₀
     ends-long h e l =
         let t : length out < to + length (framed (orderOf (limitsOf x) (g .session) b₀ .answer)) = over l in
         let q = served .long t in
-        ending lim half s out₀ x y out a b c d at to n g 11 out′ a′ b′ c′ d′
+        ending lim half s out₀ x y out a b c d at to n g 11 out′ a′ b′ c′ d′ same-limits
         (run-long (limitsOf x) s (g .fuel) (g .session) at (length out₀ - to) b₀ next h (g .enough) e (omega (arith, g .long, g .room)))
         (q .1) (q .2)
 
@@ -271,9 +277,6 @@ module _ (lim : Limits) (half : ℕ) (s out₀ : List ℕ) (x : Solver) (out a b
 
         ahead : Ahead at next (length s)
         ahead = next-ahead s at b₀ next e
-
-        same : limitsOf x ≡ limitsOf y
-        same = ap₂ {C = Limits} (λ v k. record { variables = v; nodes = k }) (sym (served .variables)) (sym (served .nodes))
 
         roomy : Roomy y half (length a′) a′ b′ c′ d′
         roomy = roomy-same x y half a b c d a′ b′ c′ d′ (served .variables) (served .nodes) la lb lc ld (g .roomy)
@@ -303,9 +306,9 @@ module _ (lim : Limits) (half : ℕ) (s out₀ : List ℕ) (x : Solver) (out a b
         go (suc fuel) m v =
             let turn = run-turn (limitsOf x) s fuel (g .session) at (length out₀ - to) b₀ next h e (omega (arith, g .long, g .room, t)) in
             record {
-              limits = sym same ∙ g .limits;
+              limits = same-limits ∙ g .limits;
               session = z′;
-              past = subst (λ (i : Limits). Past i z′) same (past-order (limitsOf x) (g .session) (g .past) b₀);
+              past = subst (λ (i : Limits). Past i z′) (sym same-limits) (past-order (limitsOf x) (g .session) (g .past) b₀);
               lays = q .2;
               roomy = roomy;
               inside = ahead .inside;
@@ -318,7 +321,7 @@ module _ (lim : Limits) (half : ℕ) (s out₀ : List ℕ) (x : Solver) (out a b
               fuel = fuel;
               enough = omega (arith, ahead .after);
               whole =
-                  subst (λ (i : Limits). runOf i s (length out₀) ≡ after (n + 1) (w ++ a₀) (runFrom i s fuel z′ next (length out₀ - r))) same
+                  subst (λ (i : Limits). runOf i s (length out₀) ≡ after (n + 1) (w ++ a₀) (runFrom i s fuel z′ next (length out₀ - r))) (sym same-limits)
                   (v ∙ ap (after n w) turn ∙ after-one n w a₀ _
                   ∙ ap (λ (k : ℕ). after (n + 1) (w ++ a₀) (runFrom (limitsOf x) s fuel z′ next k)) space);
             }

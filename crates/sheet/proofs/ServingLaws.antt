@@ -2,13 +2,14 @@
 use mathlib.Core.Path.{_≡_, refl, sym, ap, subst, _∙_}
 use mathlib.Core.Bool.{Bool, true, false, _&&_}
 use mathlib.Core.List.{List, [], _∷_, _++_, append-nil}
+use mathlib.Core.Logic.{inl, inr, ⊎-elim}
 use mathlib.Core.Option.{Option, none, some}
 use Prim.Native.Nat.{ℕ, zero, suc, _+_, _-_, _*_, _^_, _≤_, _<_}
 use native.Mathlib.Decide.{decLt}
 use native.Mathlib.Omega.{arith}
 use borrow.Author.Tests.{lt-ltb, le-ltb}
-use lib.Dec.{eqb}
-use lib.ListN.{length, length-append, length-drop, getD, getElem?, take, drop, take-append-drop}
+use lib.Dec.{eqb, ltb}
+use lib.ListN.{length, length-append, length-drop, getD, getElem?, take, drop, take-append-drop, List·getD-eq-default}
 use lib.Seq.{length-take-le, getD-take, take-take}
 use Rattle.terms.specs.Result.{Result, got, refused}
 use Rattle.terms.specs.Tokens.{Item, Area, area, puts, blank, toks}
@@ -38,7 +39,7 @@ use Rattle.sheet.specs.Held.{HeldField}
 use Rattle.sheet.specs.Formed.{FormedField, FormedFields}
 use Rattle.sheet.specs.Given.{OfSort, Fits}
 use Rattle.sheet.specs.Laid.{Laid, fieldItems, allItems, spare, spares, Spots, spotAt, startAt}
-use Rattle.sheet.specs.Ordered.{OrderRoom, WholeOrder}
+use Rattle.sheet.specs.Ordered.{RulesRoom, OrderRoom, WholeOrder}
 use Rattle.sheet.specs.Written.{Framed}
 use Rattle.sheet.specs.Answering.{Asks, Replies}
 use Rattle.sheet.specs.Lays.{Lays, Roomy, Answers}
@@ -56,7 +57,7 @@ use Rattle.sheet.proofs.LaysLaws.{solve-kept, answers-does, answers-pai
 
 -- ---- room to read
 
-pub ready-room : (x : Solver) (half : ℕ) (s a b c d ws : List ℕ) → Ready x half a b c d → length s ≤ 16777216 → (getD s 0 0 ≡ 20 → 6144 ≤ length ws)
+pub ready-room : (x : Solver) (half : ℕ) (s a b c d ws : List ℕ) → Ready x half a b c d → length s ≤ 16777216 → (getD s 0 0 ≡ 20 → RulesRoom s ws 2048)
     → OrderRoom s a b ws (x .top) (x .kept) (x .nodes)
 ready-room x half s a b c d ws R h w =
     let Y = R .roomy in
@@ -66,7 +67,7 @@ ready-room x half s a b c d ws R h w =
       within = omega (arith, L .lent .fits .nodes, L .lent .kept);
       tokens = omega (arith, Y .tokens, L .few, L .lent .fits .nodes, L .lent .kept);
       paired = Y .b-size;
-      words = λ e. omega (arith, w e, Y .rules);
+      words = λ e. ⊎-elim (λ v. inl (omega (arith, Y .rules))) inr (w e);
       short = omega (arith, Y .few);
       few = omega (arith, Y .rules);
       free = zero-free (x .top) (area a b) (L .kinds) (L .vals);
@@ -79,6 +80,10 @@ no-rules (x ∷ s) h = absurd (omega arith)
 
 pub rules-never : {A : Type 0} (s : List ℕ) (r : Bool) → r ≡ eqb (getD s 0 0) 20 → r ≡ false → getD s 0 0 ≡ 20 → A
 rules-never s r e f h = let z : true ≡ false = sym (ap (λ (n : ℕ). eqb n 20) h) ∙ sym e ∙ f in let i : _≡_ {A = ℕ} 0 1 = cc in absurd (omega arith)
+
+-- few rules: the byte that begins their count, where there is one, is below 64
+pub few-short : (s : List ℕ) → length s < 2 → true ≡ ltb (getD s 1 0) 64
+few-short s h = let z : getD s 1 0 ≡ 0 = List·getD-eq-default s 0 (omega arith) in rw z
 
 -- ---- answers
 

@@ -143,6 +143,11 @@ plains-below (suc (suc (suc (suc (suc (suc (suc (suc (suc (suc (suc (suc (suc (s
 plains-below (suc (suc (suc (suc (suc (suc (suc (suc (suc (suc (suc (suc (suc (suc (suc (suc (suc (suc (suc zero))))))))))))))))))) h = (tt, (tt, (tt, tt)))
 plains-below (suc (suc (suc (suc (suc (suc (suc (suc (suc (suc (suc (suc (suc (suc (suc (suc (suc (suc (suc (suc k)))))))))))))))))))) h = absurd (omega arith)
 
+-- the kind with rules
+pub sorts-ruled : (k : ℕ) → k ≡ 20 → layout (kindAt k) ≡ fields.rules ∷ fields.term ∷ []
+unfolding layout
+sorts-ruled k e = rw e
+
 -- ---- kinds
 
 at-some : {A : Type 0} (l : List A) (i : ℕ) (d : A) → i < length l → getElem? l i ≡ some (getD l i d)

@@ -11,13 +11,20 @@ use Rattle.terms.proofs.Shortest.{Octets}
 use Rattle.sheet.specs.declared.Spot.{Spot}
 use Rattle.sheet.specs.declared.Order.{Order}
 use Rattle.sheet.specs.declared.FieldRead.the-variants.{Spotted, Unread}
-use Rattle.sheet.specs.declared.FieldsRead.the-variants.{Filled}
 use Rattle.sheet.specs.Fields.{Sort, Field, field, fields, allNodes, nodes}
-use Rattle.sheet.specs.Laid.{sortNumber, plainOf, sortOf, packed, Plain, Plains, ruleSorts, fieldItems, allItems, Free, Stored, Ample, Spots, putSpot, noFields, FieldDone, FieldsDone}
+use Rattle.sheet.specs.Laid.{sortNumber, plainOf, sortOf, packed, Plain, Plains, ruleSorts, fieldItems, allItems, Free, Stored, Ample, Spots, putSpot, noFields, FieldDone}
 use Rattle.sheet.proofs.StoredLaws.{stored-none, stored-then, stored-as, stored-undo, ample-after}
 use Rattle.sheet.proofs.FieldLaws.{field-found}
 use Rattle.sheet.proofs.TableLaws.{sort-number, plain-number, packed-first, packed-rest, packed-some, Leading}
-use Rattle.sheet.proofs.SpotLaws.{items-more, nodes-more, spots-none, spots-more, spot-kept}
+use Rattle.sheet.proofs.SpotLaws.{items-more, nodes-more, spots-none, spots-more}
+
+-- the fields of a layout, all read and stored, and their spots
+pub record FieldsHere (s ws : List ℕ) (found : Result (List Field)) (p : Place) (d e : Area) (o : Order) (q : Place) : Type 0 where
+  pub read : List Field
+  pub is : found ≡ got read (q .at)
+  pub stored : Stored p q d e (allItems read) (allNodes read)
+  pub inside : q .at ≤ length s
+  pub spots : Spots s ws (p .top) o read
 
 -- `read` are the fields read so far, the i first of the layout l, and `left` is what is left of it, as the number `rest` tells. d are the areas at the start.
 pub record Through (s ws : List ℕ) (issued : ℕ) (l : List Sort) (p : Place) (d e : Area) (rest i : ℕ) (o : Order) (q : Place) : Type 0 where
@@ -160,19 +167,11 @@ module _ (s ws : List ℕ) (issued : ℕ) (l : List Sort) (p : Place) (d e : Are
   none-left [] e h = refl
   none-left (a ∷ k) e h = absurd (omega (arith, packed-some a k))
 
-  pub through-end : rest ≤ 0 → (u : Order) → u .first ≡ o .first → u .second ≡ o .second → u .third ≡ o .third → u .fourth ≡ o .fourth → u .fifth ≡ o .fifth
-      → u .top ≡ q .top → u .nodes ≡ q .nodes → FieldsDone s ws (fields s issued l (p .at)) p d e (Filled u q)
+  pub through-all : rest ≤ 0 → FieldsHere s ws (fields s issued l (p .at)) p d e o q
   unfolding fields
-  through-end h u a b c f g t n =
-      let whole : fields s issued l (p .at) ≡ got (x .read ++ []) (q .at) = x .whole ∙ ap (λ (k : List Sort). bind (fields s issued k (q .at)) (λ gs n. got (x .read ++ gs) n)) (none-left (x .left) (x .digits) h) in (
-        x .read,
-        whole ∙ ap (λ (k : List Field). got k (q .at)) (append-nil (x .read)),
-        x .stored,
-        x .ample .inside,
-        λ j k. rw (spot-kept j o u a b c f g) (x .spots j k),
-        t,
-        n,
-      )
+  through-all h =
+      let whole : fields s issued l (p .at) ≡ got (x .read ++ []) (q .at) = x .whole ∙ ap (λ (k : List Sort). bind (fields s issued k (q .at)) (λ gs n. got (x .read ++ gs) n)) (none-left (x .left) (x .digits) h) in
+      record { read = x .read; is = whole ∙ ap (λ (k : List Field). got k (q .at)) (append-nil (x .read)); stored = x .stored; inside = x .ample .inside; spots = x .spots }
     where
       append-nil : (k : List Field) → k ++ [] ≡ k
       append-nil [] = refl

@@ -2,9 +2,9 @@
 use mathlib.Core.Bool.{Bool, _&&_}
 use mathlib.Core.List.{List, _++_}
 use mathlib.Core.Path.{_≡_}
-use Prim.Native.Nat.{ℕ, _+_}
+use Prim.Native.Nat.{ℕ, _+_, _≤_, _<_}
 use lib.Dec.{leb}
-use lib.ListN.{length, take, drop, replicate}
+use lib.ListN.{length, getD, take, drop, replicate}
 use Rattle.terms.specs.Result.{Result, got, refused, pick}
 use Rattle.solver.specs.declared.Solver.{Solver}
 use Rattle.solver.specs.Shapes.{loose}
@@ -34,14 +34,23 @@ pub record Ready (x : Solver) (half : ℕ) (a b c d : List ℕ) : Type 0 where
 -- ---- the run
 
 -- A run of the sheet s ended: reason, orders and bytes are those of the definition, the output is its answers and then the old bytes, and the
--- areas hold its session.
-pub record Ended (lim : Limits) (half : ℕ) (s out₀ : List ℕ) (r n m : ℕ) (out a b c d : List ℕ) : Type 0 where
+-- areas hold its session, whose tokens end before `top`.
+pub record Ended (lim : Limits) (half : ℕ) (s out₀ : List ℕ) (r n m top : ℕ) (out a b c d : List ℕ) : Type 0 where
   pub reason : r ≡ runOf lim s (length out₀) .reason
   pub orders : n ≡ runOf lim s (length out₀) .orders
   pub bytes : m ≡ length (runOf lim s (length out₀) .answers)
   pub output : out ≡ runOf lim s (length out₀) .answers ++ drop (length (runOf lim s (length out₀) .answers)) out₀
   pub solver : Solver
+  pub limits : limitsOf solver ≡ lim
+  pub ends : top ≡ solver .top
   pub lays : Lays solver half a b c d (runOf lim s (length out₀) .session)
+
+-- of the first `words` words of an area only `count` from `from` on can be other than 0
+pub record Used (area : List ℕ) (from count words : ℕ) : Type 0 where
+  pub within : from + count ≤ words
+  pub inside : words ≤ length area
+  pub before : (j : ℕ) → j < from → getD area j 0 ≡ 0
+  pub after : (j : ℕ) → from + count ≤ j → j < words → getD area j 0 ≡ 0
 
 -- what a run hands back, and the end state of all that it was lent
 pub record Finish : Type 0 where

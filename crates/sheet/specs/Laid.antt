@@ -23,8 +23,6 @@ use Rattle.sheet.specs.declared.Spot.{Spot}
 use Rattle.sheet.specs.declared.Order.{Order}
 use Rattle.sheet.specs.declared.FieldRead.{FieldRead}
 use Rattle.sheet.specs.declared.FieldRead.the-variants.{Spotted, Unread}
-use Rattle.sheet.specs.declared.FieldsRead.{FieldsRead}
-use Rattle.sheet.specs.declared.FieldsRead.the-variants.{Filled, Unfilled}
 use Rattle.sheet.specs.Fields as fields
 use Rattle.sheet.specs.Fields.{Sort, Kind, Field, value, tree, bare, entered, received, named, listed, ruled, kinds, layout, known, nodes, allNodes, ruleNodes}
 use Rattle.sheet.specs.Operations.{nth}
@@ -52,8 +50,8 @@ plainOf n =
     (pick (eqb n 4) fields.term
     (pick (eqb n 5) fields.nominal
     (pick (eqb n 6) fields.entries
-    (pick (eqb n 7) fields.receivers
-    (pick (eqb n 8) fields.parameters fields.arguments)))))))
+    (pick (eqb n 8) fields.parameters
+    (pick (eqb n 9) fields.arguments fields.receivers)))))))
 
 unfoldable pub sortOf : ℕ → Sort
 sortOf n = pick (eqb n 10) fields.rules (plainOf n)
@@ -97,15 +95,15 @@ ruleSorts = fields.nominal ∷ fields.term ∷ fields.ordinary ∷ fields.argume
 abbrev pub ruleFields : Pattern → List Field
 ruleFields p = bare (p .interface) ∷ tree (p .receiver) ∷ value (p .member) ∷ listed (p .arguments) ∷ tree (p .value) ∷ []
 
--- the fields whose tokens are stored, by the number of their sort: of a list so many, whose count was read
+-- the fields whose tokens are stored, by the number of their sort: of a list so many; a receiver is a list of one
 module _ (s : List ℕ) (issued : ℕ) where
   unfoldable pub partOf : ℕ → ℕ → Parser Field
   partOf k n =
       pick (eqb k 4) (fields.field s issued fields.term)
       (pick (eqb k 5) (fields.field s issued fields.nominal)
       (pick (eqb k 6) (rows.entries s (fields.termField s issued) n >>= λ es. return (entered es))
-      (pick (eqb k 7) (rows.receivers s (fields.termField s issued) n >>= λ rs. return (received rs))
-      (rows.arguments s (fields.termField s issued) n >>= λ ts. return (listed ts)))))
+      (pick (eqb k 9) (rows.arguments s (fields.termField s issued) n >>= λ ts. return (listed ts))
+      (rows.receivers s (fields.termField s issued) n >>= λ rs. return (received rs)))))
 
 -- ---- tokens
 
@@ -247,9 +245,9 @@ noSpot = record { value = 0; place = 0; end = 0 }
 abbrev pub noFields : Order
 noFields = record { kind = 0; first = noSpot; second = noSpot; third = noSpot; fourth = noSpot; fifth = noSpot; top = 0; nodes = 0 }
 
--- the fields read, as an order of a kind, with the place after them
-abbrev pub finished : Order → ℕ → Place → Order
-finished o k q = record { kind = k; first = o .first; second = o .second; third = o .third; fourth = o .fourth; fifth = o .fifth; top = q .top; nodes = q .nodes }
+-- the fields read, as an order of a kind, with the token after the last one and the nodes
+abbrev pub finished : Order → (kind top nodes : ℕ) → Order
+finished o kind top nodes = record { kind = kind; first = o .first; second = o .second; third = o .third; fourth = o .fourth; fifth = o .fifth; top = top; nodes = nodes }
 
 -- where the tokens of the i-th field begin, where those of the first do at a
 unfoldable pub startAt : ℕ → ℕ → List Field → ℕ
@@ -267,15 +265,6 @@ abbrev pub PartDone : (s ws : List ℕ) (count : ℕ) (found : Result Field) (p 
 PartDone s ws count found p d e (Next q) =
     (f : Field) × (found ≡ got f (q .at)) × Stored p q d e (fieldItems f) (nodes f) × (q .at ≤ length s) × Laid s ws (p .top) (record { value = count; place = p .top; end = q .top }) f
 PartDone s ws count found p d e (Stopped c) = (found ≡ refused c) × (e ≡ d)
-
--- the spot of stored tokens
-abbrev pub spotOf : ℕ → ℕ → Step → FieldRead
-spotOf top count (Next q) = Spotted (record { value = count; place = top; end = q .top }) q
-spotOf top count (Stopped c) = Unread c
-
--- the place with another position
-abbrev pub moved : Place → ℕ → Place
-moved p at = record { at = at; top = p .top; nodes = p .nodes; limit = p .limit }
 
 abbrev pub FieldDone : (s ws : List ℕ) (found : Result Field) (p : Place) (d e : Area) → FieldRead → Type 0
 FieldDone s ws found p d e (Spotted x q) =
@@ -296,11 +285,6 @@ valueField s most = number s most >>= λ n. return (value n)
 -- a list as a field: its count, and then so many
 abbrev pub listField : (s : List ℕ) (issued k : ℕ) → Parser Field
 listField s issued k = number s (ceiling shape.ordinary) >>= λ n. partOf s issued k n
-
-abbrev pub FieldsDone : (s ws : List ℕ) (found : Result (List Field)) (p : Place) (d e : Area) → FieldsRead → Type 0
-FieldsDone s ws found p d e (Filled o q) =
-    (fs : List Field) × (found ≡ got fs (q .at)) × Stored p q d e (allItems fs) (allNodes fs) × (q .at ≤ length s) × Spots s ws (p .top) o fs × (o .top ≡ q .top) × (o .nodes ≡ q .nodes)
-FieldsDone s ws found p d e (Unfilled c) = (found ≡ refused c) × (e ≡ d)
 
 -- a rule, and rules: ws are the words
 abbrev pub RuleDone : (found : Result Pattern) (s : List ℕ) (p : Place) (d e : Area) (r : ℕ) (ws us : List ℕ) → Step → Type 0

@@ -5,6 +5,7 @@
 --   Formed       fields whose terms are formed
 --   Held         the fields of an order, held
 --   Laid         the fields' sorts, tokens and spots, and what the reading functions leave
+--   Lent         the answers of the reading functions, which are lent the numbers of a place
 --   Ordered      an order read into the areas
 --   Lays         a session in the four areas, and an order answered there
 --   Given        an order that was read: held, formed, of the sorts of its kind
@@ -24,6 +25,7 @@ pub mod Sheet
 pub mod Formed
 pub mod Held
 pub mod Laid
+pub mod Lent
 pub mod Ordered
 pub mod Lays
 pub mod Given

@@ -1,5 +1,6 @@
 -- An order read into the areas: what reading it needs, and what it leaves. Assumes nothing.
 use mathlib.Core.List.{List}
+use mathlib.Core.Logic.{_⊎_}
 use mathlib.Core.Option.{some}
 use mathlib.Core.Path.{_≡_}
 use Prim.Native.Nat.{ℕ, _+_, _-_, _*_, _^_, _≤_, _<_}
@@ -7,8 +8,6 @@ use lib.ListN.{length, getD, getElem?}
 use Rattle.terms.specs.Result.{got, refused}
 use Rattle.terms.specs.Tokens.{Area, area, puts, blank, before, toks}
 use Rattle.sheet.specs.declared.Order.{Order}
-use Rattle.sheet.specs.declared.FieldsRead.{FieldsRead}
-use Rattle.sheet.specs.declared.FieldsRead.the-variants.{Filled, Unfilled}
 use Rattle.sheet.specs.declared.Reading.{Reading}
 use Rattle.sheet.specs.declared.Reading.the-variants.{Whole, Refused}
 use Rattle.sheet.specs.Fields.{Read, fields, kinds, layout, known, allNodes, readOrder}
@@ -17,15 +16,19 @@ use Rattle.sheet.specs.Held.{HeldFields}
 use Rattle.sheet.specs.Given.{Fits}
 use Rattle.sheet.specs.Laid.{allItems, Free, Spots, spares}
 
+-- the words have room for the rules of an order: three for each of n nodes, or six for each rule where one byte says how many there are
+abbrev pub RulesRoom : (s ws : List ℕ) → ℕ → Type 0
+RulesRoom s ws n = (3 * n ≤ length ws) ⊎ ((getD s 1 0 < 128) × (6 * getD s 1 0 ≤ length ws))
+
 -- The bytes are not too many, and the areas hold nothing from `top` on. `kept` nodes are kept; for each more, up to the limit, there is room for six tokens,
 -- and for eight in all besides, and where the order may have rules (its first byte is 20)
--- for three words of them.
+-- for the words of them.
 pub record OrderRoom (s ks vs ws : List ℕ) (top kept limit : ℕ) : Type 0 where
   pub bytes : length s ≤ 16777216
   pub within : kept ≤ limit
   pub tokens : top + 6 * (limit - kept) + 8 ≤ length ks
   pub paired : length vs ≡ length ks
-  pub words : getD s 0 0 ≡ 20 → 3 * (limit - kept) ≤ length ws
+  pub words : getD s 0 0 ≡ 20 → RulesRoom s ws (limit - kept)
   pub short : length ks ≤ 2147483648
   pub few : limit ≤ 2147483648
   pub free : Free top (area ks vs)
@@ -59,8 +62,3 @@ pub record WholeOrder (s : List ℕ) (issued top kept limit : ℕ) (d e : Area) 
 abbrev pub OrderDone : (s : List ℕ) (issued top kept limit : ℕ) (d e : Area) (ws : List ℕ) → Reading → Type 0
 OrderDone s issued top kept limit d e ws (Whole o) = WholeOrder s issued top kept limit d e ws o
 OrderDone s issued top kept limit d e ws (Refused c) = (readOrder s issued ≡ refused c) × (e ≡ d)
-
--- the kind that was asked for
-abbrev pub KindIs : ℕ → FieldsRead → Type 0
-KindIs k (Filled o q) = o .kind ≡ k
-KindIs k (Unfilled c) = Unit {0}

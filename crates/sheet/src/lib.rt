@@ -63,14 +63,14 @@ pub struct Report {
     pub bytes: usize,
 }
 
+// A run that ended: what it returns, and the token after the last one that it left.
+pub struct Closed {
+    pub report: Report,
+    pub top: usize,
+}
+
 // A field that was read and the place after it, or the refusal.
 pub enum FieldRead {
     Spotted(Spot, Place),
     Unread(u8),
-}
-
-// Fields that were read and the place after them, or the refusal.
-pub enum FieldsRead {
-    Filled(Order, Place),
-    Unfilled(u8),
 }

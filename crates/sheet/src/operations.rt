@@ -15,12 +15,13 @@ use solver::context;
 use solver::family;
 use solver::instantiation;
 use solver::normalise;
-use solver::recover_from;
+use solver::recovered_len;
 use solver::satisfies;
 use solver::satisfies_for;
 use solver::self_only;
 use solver::with_associated_types;
 use solver::write_normalised;
+use solver::write_recovered;
 use solver::write_term;
 ghost use mathlib.Core.Path.{_≡_};
 ghost use mathlib.Core.List.{List, map};
@@ -51,21 +52,19 @@ fn bit(b: bool) -> u8
     0
 }
 
-// Order 11. Behind the end of `out` nothing is written: that sizes the answer.
+// Order 11.
 fn recovered(kinds: &[u32], vals: &[u32], a: usize, b: usize, out: &mut [u8], to: usize) -> usize
     requires areas { ⌜ Tokens (now kinds) (now vals) ⌝ }
     requires terms { ⌜ ((t : Term) × (u : Term) × Two (now kinds) (now vals) a b t u) ⌝ }
     requires room { ⌜ Room (now out) to ⌝ }
     ensures { λ r. ⌜ ((t u : Term) → Two (now (kinds .entry)) (now (vals .entry)) a b t u → Framed (outcome (bytes (recover-from t u))) (now (out .entry)) to (now (out .exit)) r) ⌝ }
 {
-    let end = out.len();
-    let sized = recover_from(kinds, vals, a, b, out, end);
-    let size = sized - end;
+    let size = recovered_len(kinds, vals, a, b);
     let at = begin(out, to, size);
-    if end < at {
+    if out.len() < at {
         return at;
     }
-    recover_from(kinds, vals, a, b, out, at)
+    write_recovered(kinds, vals, a, b, out, at)
 }
 
 // Orders 12, 13 and 14: the term with its binders replaced.

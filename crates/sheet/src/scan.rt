@@ -1,28 +1,26 @@
-// An order read: its kind, and its fields by the layout of the kind.
-use super::FieldRead;
-use super::FieldsRead;
+// An order read: its kind, and its fields by the layout of the kind. The functions that read a field are lent the numbers of the place, and where the numbers
+// of the field's spot go, and answer 0 where they have read, else the refusal.
 use super::Order;
 use super::Reading;
 use super::fields::ORDINARY;
-use super::fields::moved;
 use super::fields::read_plain;
-use super::fields::spot_of;
-use super::rules::finished;
 use super::rules::read_rules;
 use super::tables::known_of;
 use super::tables::no_fields;
 use super::tables::put_spot;
 use super::tables::sorts_of;
 use solver::NumberRead;
-use solver::Place;
 use solver::clear_tokens;
 use solver::read_number;
 ghost use mathlib.Core.Path.{_≡_};
 ghost use Prim.Native.Nat.{_-_, _<_, _≤_};
+ghost use lib.ListN.{length, getD};
 ghost use Rattle.terms.specs.Tokens.{area, blank};
-ghost use Rattle.sheet.specs.Fields.{field, fields};
-ghost use Rattle.sheet.specs.Laid.{sortOf, sortsAt, knownAt, Plain, Free, Ample, FieldDone, FieldsDone};
-ghost use Rattle.sheet.specs.Ordered.{OrderRoom, OrderDone, KindIs};
+ghost use Rattle.terms.specs.Lent.{place};
+ghost use Rattle.sheet.specs.Fields.{field};
+ghost use Rattle.sheet.specs.Laid.{sortOf, Plain, Free, Ample, FieldDone, finished};
+ghost use Rattle.sheet.specs.Lent.{fieldOf};
+ghost use Rattle.sheet.specs.Ordered.{OrderRoom, OrderDone};
 
 // A count and so many rules.
 fn rules_field(
@@ -30,20 +28,30 @@ fn rules_field(
     kinds: &mut [u32],
     vals: &mut [u32],
     rules: &mut [u32],
-    p: Place,
+    at: &mut usize,
+    top: &mut usize,
+    nodes: &mut usize,
+    limit: usize,
+    value: &mut u64,
+    start: &mut usize,
+    end: &mut usize,
     issued: u64,
-) -> FieldRead
-    requires { ⌜ Ample (now s) p ⌝ }
-    requires { ⌜ Free (p .top) (area (now kinds) (now vals)) ⌝ }
-    ensures { λ r. ⌜ FieldDone (now (s .entry)) (now (rules .exit)) (field (now (s .entry)) issued (sortOf 10) (p .at)) p (area (now (kinds .entry)) (now (vals .entry))) (area (now (kinds .exit)) (now (vals .exit))) r ⌝ }
+) -> u8
+    requires { ⌜ Ample (now s) (place (now at) (now top) (now nodes) limit) ⌝ }
+    requires { ⌜ Free (now top) (area (now kinds) (now vals)) ⌝ }
+    ensures { λ r. ⌜ FieldDone (now (s .entry)) (now (rules .exit)) (field (now (s .entry)) issued (sortOf 10) (now (at .entry))) (place (now (at .entry)) (now (top .entry)) (now (nodes .entry)) limit) (area (now (kinds .entry)) (now (vals .entry))) (area (now (kinds .exit)) (now (vals .exit))) (fieldOf r (now (value .exit)) (now (start .exit)) (now (end .exit)) (now (at .exit)) (now (top .exit)) (now (nodes .exit)) limit) ⌝ }
 {
-    let a = read_number(s, p.at, ORDINARY);
+    let a = read_number(s, *at, ORDINARY);
     match a {
-        NumberRead::Value(n, at) => {
-            let r = read_rules(s, kinds, vals, rules, moved(p, at), n, issued);
-            spot_of(p.top, n, r)
+        NumberRead::Value(n, next) => {
+            *at = next;
+            *value = n;
+            *start = *top;
+            let r = read_rules(s, kinds, vals, rules, at, top, nodes, limit, n, issued);
+            *end = *top;
+            r
         }
-        NumberRead::Refused(c) => FieldRead::Unread(c),
+        NumberRead::Refused(c) => c,
     }
 }
 
@@ -53,58 +61,129 @@ fn read_field(
     kinds: &mut [u32],
     vals: &mut [u32],
     rules: &mut [u32],
-    p: Place,
+    at: &mut usize,
+    top: &mut usize,
+    nodes: &mut usize,
+    limit: usize,
+    value: &mut u64,
+    start: &mut usize,
+    end: &mut usize,
     sort: u8,
     issued: u64,
-) -> FieldRead
-    requires { ⌜ Ample (now s) p ⌝ }
-    requires { ⌜ Free (p .top) (area (now kinds) (now vals)) ⌝ }
-    ensures done { λ r. ⌜ FieldDone (now (s .entry)) (now (rules .exit)) (field (now (s .entry)) issued (sortOf sort) (p .at)) p (area (now (kinds .entry)) (now (vals .entry))) (area (now (kinds .exit)) (now (vals .exit))) r ⌝ }
+) -> u8
+    requires { ⌜ Ample (now s) (place (now at) (now top) (now nodes) limit) ⌝ }
+    requires { ⌜ Free (now top) (area (now kinds) (now vals)) ⌝ }
+    ensures done { λ r. ⌜ FieldDone (now (s .entry)) (now (rules .exit)) (field (now (s .entry)) issued (sortOf sort) (now (at .entry))) (place (now (at .entry)) (now (top .entry)) (now (nodes .entry)) limit) (area (now (kinds .entry)) (now (vals .entry))) (area (now (kinds .exit)) (now (vals .exit))) (fieldOf r (now (value .exit)) (now (start .exit)) (now (end .exit)) (now (at .exit)) (now (top .exit)) (now (nodes .exit)) limit) ⌝ }
     ensures words { λ _. ⌜ (Plain (sortOf sort) → now (rules .exit) ≡ now (rules .entry)) ⌝ }
 {
     if sort == 10 {
-        return rules_field(s, kinds, vals, rules, p, issued);
+        return rules_field(
+            s,
+            kinds,
+            vals,
+            rules,
+            at,
+            top,
+            nodes,
+            limit,
+            value,
+            start,
+            end,
+            issued,
+        );
     }
-    read_plain(s, kinds, vals, p, sort, issued)
+    read_plain(
+        s,
+        kinds,
+        vals,
+        at,
+        top,
+        nodes,
+        limit,
+        value,
+        start,
+        end,
+        sort,
+        issued,
+    )
 }
 
-// The fields of a kind; on a refusal nothing of them remains in the areas.
+// The fields as an order of a kind, with the token after the last one and the nodes.
+fn finished(mut o: Order, kind: u8, top: usize, nodes: usize) -> Order
+    ensures { λ r. ⌜ r ≡ finished o kind top nodes ⌝ }
+{
+    o.kind = kind;
+    o.top = top;
+    o.nodes = nodes;
+    o
+}
+
+// The refusal, with the tokens from `first` up to `last` cleared.
+fn undone(kinds: &mut [u32], vals: &mut [u32], first: usize, last: usize, code: u8) -> Reading
+    requires { ⌜ first ≤ last ⌝ }
+    ensures refusal { λ r. ⌜ r ≡ Reading.Refused code ⌝ }
+    ensures areas { λ _. ⌜ area (now (kinds .exit)) (now (vals .exit)) ≡ blank (area (now (kinds .entry)) (now (vals .entry))) first (last - first) ⌝ }
+{
+    clear_tokens(kinds, vals, first, last - first);
+    Reading::Refused(code)
+}
+
+// Reads the fields of an order of a kind, as `read_order` tells it.
 fn read_fields(
     s: &[u8],
     kinds: &mut [u32],
     vals: &mut [u32],
     rules: &mut [u32],
-    p: Place,
     kind: u8,
     issued: u64,
-) -> FieldsRead
-    requires { ⌜ Ample (now s) p ⌝ }
-    requires { ⌜ Free (p .top) (area (now kinds) (now vals)) ⌝ }
+    first: usize,
+    kept: usize,
+    limit: usize,
+) -> Reading
+    requires { ⌜ OrderRoom (now s) (now kinds) (now vals) (now rules) first kept limit ⌝ }
+    requires { ⌜ 0 < length (now s) ⌝ }
+    requires { ⌜ kind ≡ getD (now s) 0 0 ⌝ }
     requires { ⌜ kind < 21 ⌝ }
-    ensures done { λ r. ⌜ FieldsDone (now (s .entry)) (now (rules .exit)) (fields (now (s .entry)) (knownAt kind issued) (sortsAt kind) (p .at)) p (area (now (kinds .entry)) (now (vals .entry))) (area (now (kinds .exit)) (now (vals .exit))) r ⌝ }
-    ensures kind { λ r. ⌜ KindIs kind r ⌝ }
+    ensures { λ r. ⌜ OrderDone (now (s .entry)) issued first kept limit (area (now (kinds .entry)) (now (vals .entry))) (area (now (kinds .exit)) (now (vals .exit))) (now (rules .exit)) r ⌝ }
 {
     let known = known_of(kind, issued);
-    let mut q = p;
+    let mut at: usize = 1;
+    let mut top = first;
+    let mut nodes = kept;
     let mut rest = sorts_of(kind);
     let mut i: u32 = 0;
     let mut o = no_fields();
     while 0 < rest {
-        let r = read_field(s, kinds, vals, rules, q, (rest % 100) as u8, known);
-        match r {
-            FieldRead::Spotted(x, next) => {
-                o = put_spot(o, i, x);
-                q = next;
-            }
-            FieldRead::Unread(c) => {
-                clear_tokens(kinds, vals, p.top, q.top - p.top);
-                return FieldsRead::Unfilled(c);
-            }
+        let last = top;
+        let mut value: u64 = 0;
+        let mut start: usize = 0;
+        let mut end: usize = 0;
+        let r = read_field(
+            s,
+            kinds,
+            vals,
+            rules,
+            &mut at,
+            &mut top,
+            &mut nodes,
+            limit,
+            &mut value,
+            &mut start,
+            &mut end,
+            (rest % 100) as u8,
+            known,
+        );
+        if r != 0 {
+            return undone(kinds, vals, first, last, r);
         }
+        o = put_spot(o, i, value, start, end);
         i = i + 1;
         rest = rest / 100;
     }
-    FieldsRead::Filled(finished(o, kind, q), q)
+    if at < s.len() {
+        return undone(kinds, vals, first, top, 1);
+    }
+    Reading::Whole(finished(o, kind, top, nodes))
 }
 
 // Reads an order, which is all of `s`. Its tokens stand from `top` on where its nodes with those `kept` are within the limit, and the words of its rules
@@ -129,23 +208,7 @@ pub fn read_order(
     if 20 < kind {
         return Reading::Refused(2);
     }
-    let p = Place {
-        at: 1,
-        top,
-        nodes: kept,
-        limit,
-    };
-    let r = read_fields(s, kinds, vals, rules, p, kind, issued);
-    match r {
-        FieldsRead::Filled(o, q) => {
-            if q.at < s.len() {
-                clear_tokens(kinds, vals, top, q.top - top);
-                return Reading::Refused(1);
-            }
-            Reading::Whole(o)
-        }
-        FieldsRead::Unfilled(c) => Reading::Refused(c),
-    }
+    read_fields(s, kinds, vals, rules, kind, issued, top, kept, limit)
 }
 
 // Clears the tokens of an order that was read from `top` on.

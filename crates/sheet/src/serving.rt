@@ -14,7 +14,7 @@ use solver::Solver;
 ghost use mathlib.Core.Path.{_≡_};
 ghost use mathlib.Core.List.{List};
 ghost use Prim.Native.Nat.{ℕ, _*_, _≤_, _<_};
-ghost use lib.Dec.{eqb};
+ghost use lib.Dec.{eqb, ltb};
 ghost use lib.ListN.{length, getD};
 ghost use Rattle.solver.specs.Shapes.{loose};
 ghost use Rattle.solver.specs.Session.{Session};
@@ -22,6 +22,7 @@ ghost use Rattle.solver.specs.Lent.{Arises, limitsOf};
 ghost use Rattle.sheet.specs.Lays.{Lays, Served};
 ghost use Rattle.sheet.specs.Ending.{Ready};
 ghost use Rattle.sheet.specs.Written.{Room};
+ghost use Rattle.sheet.specs.Ordered.{RulesRoom};
 ghost use Rattle.sheet.specs.Taken.{Taken, Serves};
 
 // Orders 9 to 20: the session stays as it was.
@@ -190,7 +191,7 @@ fn serve_with(
     to: usize,
 ) -> Reached
     requires held { ⌜ Ready x half (now a) (now b) (now c) (now d) ⌝ }
-    requires words { ⌜ (getD (now s) 0 0 ≡ 20 → 6144 ≤ length (now rules)) × (length (now rules) < 4294967296) ⌝ }
+    requires words { ⌜ (getD (now s) 0 0 ≡ 20 → RulesRoom (now s) (now rules) 2048) × (length (now rules) < 4294967296) ⌝ }
     requires room { ⌜ (length (now s) ≤ 16777216) × (to ≤ length (now out)) × (length (now out) ≤ 16777216) ⌝ }
     ensures { λ r. ⌜ Serves x (r .solver) half (now (s .entry)) (now (a .entry)) (now (b .entry)) (now (c .entry)) (now (d .entry)) (now (a .exit)) (now (b .exit)) (now (c .exit)) (now (d .exit)) (now (out .entry)) to (now (out .exit)) (r .next) ⌝ }
 {
@@ -221,7 +222,17 @@ fn has_rules(s: &[u8]) -> bool
     s[0] == 20
 }
 
-// An order that may have rules: six words for each, of at most 1,024.
+// Whether the byte that begins the count of rules says fewer than 64. Where there is none the order is refused.
+fn few_rules(s: &[u8]) -> bool
+    ensures { λ r. ⌜ r ≡ ltb (getD (now (s .entry)) 1 0) 64 ⌝ }
+{
+    if s.len() < 2 {
+        return true;
+    }
+    s[1] < 64
+}
+
+// An order that may have rules: six words for each, of fewer than 64 or of at most 1,024.
 fn serve_rules(
     x: Solver,
     half: usize,
@@ -237,6 +248,10 @@ fn serve_rules(
     requires room { ⌜ (length (now s) ≤ 16777216) × (to ≤ length (now out)) × (length (now out) ≤ 16777216) ⌝ }
     ensures { λ r. ⌜ Serves x (r .solver) half (now (s .entry)) (now (a .entry)) (now (b .entry)) (now (c .entry)) (now (d .entry)) (now (a .exit)) (now (b .exit)) (now (c .exit)) (now (d .exit)) (now (out .entry)) to (now (out .exit)) (r .next) ⌝ }
 {
+    if few_rules(s) {
+        let mut few = [0u32; 384];
+        return serve_with(x, half, s, a, b, c, d, &mut few, out, to);
+    }
     let mut rules = [0u32; 6144];
     serve_with(x, half, s, a, b, c, d, &mut rules, out, to)
 }

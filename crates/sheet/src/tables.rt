@@ -85,9 +85,14 @@ fn chosen(on: bool, x: Spot, y: Spot) -> Spot
 }
 
 // The order with another spot for its i-th field.
-pub fn put_spot(o: Order, i: u32, x: Spot) -> Order
-    ensures { λ r. ⌜ r ≡ putSpot i x o ⌝ }
+pub fn put_spot(o: Order, i: u32, value: u64, start: usize, end: usize) -> Order
+    ensures { λ r. ⌜ r ≡ putSpot i (record { value = value; place = start; end = end }) o ⌝ }
 {
+    let x = Spot {
+        value,
+        place: start,
+        end,
+    };
     Order {
         kind: o.kind,
         first: chosen(i == 0, x, o.first),

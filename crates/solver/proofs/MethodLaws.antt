@@ -118,6 +118,14 @@ module _ (kind site slot k s i : ℕ) where
   unfolding matches
   match-site e f = rw (eq-eqb kind k (sym e), ne-eqb site s (λ g. f (sym g)))
 
+  -- another site, whatever the kind
+  match-none : (s ≡ site → ⊥) → matches kind site slot k s i ≡ false
+  match-none f = go (ℕ-discrete k kind)
+    where
+      go : Dec (k ≡ kind) → matches kind site slot k s i ≡ false
+      go (yes h) = sym (match-site h f)
+      go (no h) = sym (match-kind h)
+
   pub match-hole : k ≡ kind → s ≡ site → kind ≡ 2 → true ≡ matches kind site slot k s i
   unfolding matches
   match-hole e f g = rw (eq-eqb kind k (sym e), eq-eqb site s (sym f), eq-eqb kind 2 g)
@@ -183,6 +191,14 @@ module _ (kind site slot m : ℕ) (ts : List ℕ) (d : ℕ) where
   unfolding lastMatch
   search-over a zero e l = sym e
   search-over a (suc n) e l = absurd (omega arith)
+
+  -- where no variable below n has the site
+  pub search-none : (n : ℕ) → n ≤ m → ((v : ℕ) → v < n → getD ts (3 * m + v) 0 ≡ site → ⊥) → d ≡ Last n
+  unfolding lastMatch
+  search-none zero l f = refl
+  search-none (suc n) l f =
+      search-none n (omega arith) (λ v h. f v (omega arith))
+      ∙ sym (match-on kind site slot (placeWords m ts) (siteWords m ts) (slotWords m ts) d n (sym (in-columns n (omega arith)) ∙ match-none kind site slot _ _ _ (f n (omega arith))))
 
   pub search-answer : (r : ℕ) → r ≡ Last d → (p : Place) (ps : List Place) → HeldPlace p kind site slot → length ps ≡ d
       → HeldPlaces (placeWords m ts) (siteWords m ts) (slotWords m ts) ps → r ≡ found d (find p ps)

@@ -33,19 +33,19 @@ pub use terms::instantiation;
 pub use terms::keep_entries;
 pub use terms::keep_receivers;
 pub use terms::keep_terms;
-pub use terms::nominal_at;
 pub use terms::normalise;
 pub use terms::number_len;
+pub use terms::part_at;
 pub use terms::read_number;
-pub use terms::recover_from;
+pub use terms::recovered_len;
 pub use terms::satisfies;
 pub use terms::satisfies_for;
 pub use terms::self_only;
 pub use terms::skip_parameters;
-pub use terms::term_at;
 pub use terms::with_associated_types;
 pub use terms::write_normalised;
 pub use terms::write_number;
+pub use terms::write_recovered;
 pub use terms::write_term;
 
 // A run of tokens: len of them, from at on.

@@ -4,9 +4,10 @@ use super::Issue;
 use super::Named;
 use super::Solver;
 ghost use mathlib.Core.Path.{_≡_};
+ghost use mathlib.Core.Bool.{true, false};
 ghost use mathlib.Core.List.{List};
-ghost use Prim.Native.Nat.{ℕ, _*_, _≤_, _<_};
-ghost use lib.ListN.{length};
+ghost use Prim.Native.Nat.{ℕ, _+_, _*_, _≤_, _<_};
+ghost use lib.ListN.{length, getD};
 ghost use Rattle.solver.specs.declared.Named.the-variants.{Variable};
 ghost use Rattle.solver.specs.Families.{requested};
 ghost use Rattle.solver.specs.Shapes.{Notion};
@@ -37,12 +38,32 @@ pub fn is_place(kind: u32, site: u32, slot: u32, k: u32, s: u32, i: u32) -> bool
     i == slot
 }
 
-// The last variable whose words are those asked for, or issued.
+// Whether one of `count` words from `from` on is x. It looks at all of them, so that many are compared at once.
+fn has_word(words: &[u32], from: usize, count: usize, x: u32) -> bool
+    requires { ⌜ from + count ≤ length (now words) ⌝ }
+    ensures some { λ r. ⌜ (r ≡ true → (i : ℕ) × (i < count) × (getD (now (words .entry)) (from + i) 0 ≡ x)) ⌝ }
+    ensures none { λ r. ⌜ (r ≡ false → (i : ℕ) → i < count → getD (now (words .entry)) (from + i) 0 ≡ x → ⊥) ⌝ }
+{
+    let mut found = false;
+    let mut i = 0;
+    while i < count {
+        if words[from + i] == x {
+            found = true;
+        }
+        i += 1;
+    }
+    found
+}
+
+// The last variable whose words are those asked for, or issued. Where no variable has the site there is none.
 pub fn find_place(tables: &[u32], m: usize, issued: usize, kind: u32, site: u32, slot: u32) -> usize
     requires { ⌜ (issued ≤ m) × (7 * m ≤ length (now tables)) ⌝ }
     ensures word { λ r. ⌜ r ≡ lastMatch kind site slot (placeWords m (now (tables .entry))) (siteWords m (now (tables .entry))) (slotWords m (now (tables .entry))) issued issued ⌝ }
     ensures place { λ r. ⌜ ((p : Place) (ps : List Place) → HeldPlace p kind site slot → length ps ≡ issued → HeldPlaces (placeWords m (now (tables .entry))) (siteWords m (now (tables .entry))) (slotWords m (now (tables .entry))) ps → r ≡ found issued (find p ps)) ⌝ }
 {
+    if !has_word(tables, 3 * m, issued, site) {
+        return issued;
+    }
     let mut v = issued;
     while 0 < v {
         v -= 1;

@@ -1,6 +1,6 @@
 -- Two rows read in step: what is left of both decides whether the one begins with the other. Assumes nothing.
 use mathlib.Core.Path.{_≡_, refl, sym, ap, ap₂, _∙_}
-use mathlib.Core.Bool.{Bool, true, false}
+use mathlib.Core.Bool.{Bool, true, false, _&&_}
 use mathlib.Core.List.{List, [], _∷_}
 use Prim.Native.Nat.{ℕ, zero, suc, max, _+_, _-_, _≤_, _<_}
 use native.Mathlib.Omega.{arith}
@@ -9,14 +9,18 @@ use lib.Dec.{eqb, leb}
 use lib.ListN.{length, getD}
 use Rattle.terms.specs.Tokens.{Area}
 use Rattle.terms.specs.Term.{Term, Parts, var, node, end, num, sub, _+++_, depth, depths}
-use Rattle.terms.specs.Held.{span}
-use Rattle.terms.specs.Tree.{row}
+use Rattle.terms.specs.Held.{Held, span}
+use Rattle.terms.specs.Tree.{row, same}
+use Rattle.terms.specs.View.{view, Sight}
+use Rattle.terms.specs.declared.Origin.{Origin}
 use Rattle.terms.specs.declared.Content.{Content}
 use Rattle.terms.specs.declared.Cursor.{Cursor}
 use Rattle.terms.specs.declared.Met.the-variants.{Behind, Apart}
 use Rattle.terms.specs.Arena.{headOf, kidsOf, Tree, variable, branch, Parted, RowAt, From, Cut, Alike, Begins, Starts}
 use Rattle.terms.proofs.Bools.{never-true, never-false}
 use Rattle.terms.proofs.HeldLaws.{headKind}
+use Rattle.terms.proofs.SameLaws.{both, same-refl, same-true}
+use Rattle.terms.proofs.SourceLaws.{tree-held}
 use Rattle.terms.proofs.ArenaLaws.{parted-over, parted-more, parted-number, parted-child, tree-kind}
 
 clash : {A : Type 0} → _≡_ {A = ℕ} 0 1 → A
@@ -257,3 +261,28 @@ module _ (a : Area) (hs cs : List ℕ) (x y : Content) (fuel : ℕ) where
             rest-end end rest e = sym e
             rest-end (num n ps) rest e = rest-end ps rest (cc)
             rest-end (sub t ps) rest e = rest-end ps rest (cc)
+
+-- ---- lent trees, compared token by token
+
+-- as in the source, and all its tokens are lent
+abbrev pub Lent : (ks vs : List ℕ) → Content → Type 0
+Lent ks vs x = (x .kids ≡ 0) × (x .head + span (getD ks (x .head) 0) (getD vs (x .head) 0) ≤ length ks)
+
+-- what `is_lent` tells
+pub lent-true : (ks vs : List ℕ) (x : Content) (r : Bool) → r ≡ (eqb (x .kids) 0 && leb (x .head + span (getD ks (x .head) 0) (getD vs (x .head) 0)) (length ks)) → r ≡ true → Lent ks vs x
+lent-true ks vs x r e t = let b = both _ _ (sym e ∙ t) in (eqb-true (x .kids) 0 (b .0), leb-true _ _ (b .1))
+
+module _ (ks vs : List ℕ) (g : Origin) (s : Sight ks vs g) (hs cs : List ℕ) (x y : Content) (fuel : ℕ) where
+  -- r says whether the terms at p and q are the same
+  pub alike-lent : (p q : ℕ) → p ≡ x .head → q ≡ y .head → Lent ks vs x → Lent ks vs y → (r : Bool) → ((t u : Term) → Held ks vs p t → Held ks vs q u → r ≡ same t u)
+      → Alike (view ks vs g) hs cs x y fuel r
+  alike-lent p q ep eq lx ly r f = record {
+    yes = λ e S T t u w z d. same-true t u (sym (is S T t u w z) ∙ e);
+    no = λ e S T t u w z d i. never-true (sym e ∙ is S T t u w z ∙ ap (same t) (sym i) ∙ same-refl t);
+  }
+    where
+      held : (h : Content) (i : ℕ) → i ≡ h .head → Lent ks vs h → (S : ℕ → Bool) (t : Term) → Tree (view ks vs g) hs cs S (h .head) (h .kids) t → Held ks vs i t
+      held h i e l S t w = rw e (tree-held ks vs g s hs cs S (h .head) t (l .1) (rw (l .0) at w))
+
+      is : (S T : ℕ → Bool) (t u : Term) → Tree (view ks vs g) hs cs S (x .head) (x .kids) t → Tree (view ks vs g) hs cs T (y .head) (y .kids) u → r ≡ same t u
+      is S T t u w z = f t u (held x p ep lx S t w) (held y q eq ly T u z)

@@ -21,7 +21,7 @@ use Rattle.terms.proofs.SlotLaws.{nominal-member, nominal-argument, pro
 abbrev Comes : (ℕ → ℕ) → ℕ → ℕ → Type 0
 Comes at c i = (j : ℕ) × (j < c) × (at j ≡ i)
 
-less : (a b : ℕ) {A : Type 0} → (a < b → A) → (b ≤ a → A) → A
+pub less : (a b : ℕ) {A : Type 0} → (a < b → A) → (b ≤ a → A) → A
 less a b {A} f g = by (ltb a b) refl
   where
     by : (x : Bool) → ltb a b ≡ x → A

@@ -43,6 +43,7 @@ pub mod BinderExamples
 pub mod NormalExamples
 pub mod ViewLaws
 pub mod ArenaLaws
+pub mod SourceLaws
 pub mod ScanLaws
 pub mod SlotLaws
 pub mod OpenLaws
@@ -52,6 +53,8 @@ pub mod RuleLaws
 pub mod GivenLaws
 pub mod DepthLaws
 pub mod VisitLaws
+pub mod FixedLaws
+pub mod SumLaws
 pub mod WalkLaws
 pub mod ShowLaws
 pub mod NormalLaws

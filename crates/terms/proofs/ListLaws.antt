@@ -1,6 +1,6 @@
 -- Lists read record by record and kept as rows. Assumes nothing.
 use mathlib.Core.Path.{_≡_, refl, sym, ap, _∙_}
-use mathlib.Core.Bool.{true, false}
+use mathlib.Core.Bool.{Bool, true, false}
 use mathlib.Core.List.{List, _∷_}
 use Prim.Native.Nat.{ℕ, zero, suc, _+_, _-_, _≤_, _<_}
 use native.Mathlib.Numerals.{sub-one}
@@ -20,9 +20,25 @@ use Rattle.terms.specs.Substitution.{Entry, Receiver}
 use Rattle.terms.specs.Rows.{entries, receivers, arguments, entryRow, receiverRow, argumentRow, keys, single, records, answerOf, keptOf}
 use Rattle.terms.proofs.Answers.{next-answer, done-next, done-stop}
 use Rattle.terms.proofs.WroteLaws.{wrote-sub, none-done, seq-stop, seq-next}
+use Rattle.terms.proofs.RowLaws.{after-end}
 use Rattle.terms.proofs.ReadLaws.{SoFar, so-far-done, so-far-more}
 
 -- ---- one record
+
+module _ (s : List ℕ) (first second : Bool) (p : Place) (d e : Area) where
+  -- the fields of a record are its numbers
+  fields-keys : fields s (keys first second) (p .at) ≡ seq (numbered s (ceiling definition) first (p .at)) (numbered s (ceiling ordinary) second)
+  unfolding fields coded
+  fields-keys = sym (after-end (seq (numbered s (ceiling definition) first (p .at)) (numbered s (ceiling ordinary) second)))
+
+  -- the first is refused
+  pub keys-no : (c : ℕ) → PartsDone s (numbered s (ceiling definition) first (p .at)) p d e (Stopped c) → PartsDone s (fields s (keys first second) (p .at)) p d e (Stopped c)
+  keys-no c x = rw fields-keys (seq-stop s p d e (numbered s (ceiling definition) first (p .at)) (numbered s (ceiling ordinary) second) c x)
+
+  -- the first is read, and then the second
+  pub keys-yes : (q : Place) → PartsDone s (numbered s (ceiling definition) first (p .at)) p d e (Next q)
+      → (g : Area) (r : Step) → PartsDone s (numbered s (ceiling ordinary) second (q .at)) q e g r → PartsDone s (fields s (keys first second) (p .at)) p d g r
+  keys-yes q x g r y = rw fields-keys (seq-next s p d e (numbered s (ceiling definition) first (p .at)) (numbered s (ceiling ordinary) second) q x g r y)
 
 module _ (s : List ℕ) (t : Parser Term) (f : Fields) (p : Place) (d e : Area) where
   -- a term alone, as a row
@@ -111,10 +127,10 @@ abbrev numeral : Result ℕ → Result Parts
 numeral r = bind r (λ v n. got (num v end) n)
 
 module _ (s : List ℕ) (t : Parser Term) where
-  arguments-rowed : (n at : ℕ) → records s t (keys false false) n at ≡ rowed argumentRow (arguments s t n at)
+  pub arguments-read : (n at : ℕ) → records s t (keys false false) n at ≡ rowed argumentRow (arguments s t n at)
   unfolding records single fields coded numbered arguments argumentRow
-  arguments-rowed zero at = refl
-  arguments-rowed (suc n) at = (term-more argumentRow (λ u l. u ∷ l) end (λ u l. refl) (arguments s t n) (records s t (keys false false) n) (arguments-rowed n) (t at))
+  arguments-read zero at = refl
+  arguments-read (suc n) at = (term-more argumentRow (λ u l. u ∷ l) end (λ u l. refl) (arguments s t n) (records s t (keys false false) n) (arguments-read n) (t at))
 
   -- an owner, and then a term and the rest
   owner-more : (r : Result ℕ) (xs : Parser (List Receiver)) (ps : Parser Parts) → ((n : ℕ) → ps n ≡ rowed receiverRow (xs n))
@@ -124,10 +140,10 @@ module _ (s : List ℕ) (t : Parser Term) where
   owner-more (got o n) xs ps ih = term-more receiverRow (λ u l. record { owner = o; term = u } ∷ l) (num o end) (λ u l. refl) xs ps ih (t n)
   owner-more (refused c) xs ps ih = refl
 
-  receivers-rowed : (n at : ℕ) → records s t (keys true false) n at ≡ rowed receiverRow (receivers s t n at)
+  pub receivers-read : (n at : ℕ) → records s t (keys true false) n at ≡ rowed receiverRow (receivers s t n at)
   unfolding records single fields coded numbered receivers receiverRow
-  receivers-rowed zero at = refl
-  receivers-rowed (suc n) at = (owner-more (number s (ceiling definition) at) (receivers s t n) (records s t (keys true false) n) (receivers-rowed n))
+  receivers-read zero at = refl
+  receivers-read (suc n) at = (owner-more (number s (ceiling definition) at) (receivers s t n) (records s t (keys true false) n) (receivers-read n))
 
   -- an owner and a position, and then a term and the rest
   module _ (xs : Parser (List Entry)) (ps : Parser Parts) (ih : (n : ℕ) → ps n ≡ rowed entryRow (xs n)) where
@@ -144,17 +160,8 @@ module _ (s : List ℕ) (t : Parser Term) where
     entry-more (got o n) k = position-more o (k n)
     entry-more (refused c) k = refl
 
-  entries-rowed : (n at : ℕ) → records s t (keys true true) n at ≡ rowed entryRow (entries s t n at)
+  pub entries-read : (n at : ℕ) → records s t (keys true true) n at ≡ rowed entryRow (entries s t n at)
   unfolding records single fields coded numbered entries entryRow
-  entries-rowed zero at = refl
-  entries-rowed (suc n) at =
-      (entry-more (entries s t n) (records s t (keys true true) n) (entries-rowed n) (number s (ceiling definition) at) (number s (ceiling ordinary)))
-
-  pub arguments-read : (f : Fields) → f ≡ keys false false → (n at : ℕ) → records s t f n at ≡ rowed argumentRow (arguments s t n at)
-  arguments-read f e n at = ap (λ (g : Fields). records s t g n at) e ∙ arguments-rowed n at
-
-  pub receivers-read : (f : Fields) → f ≡ keys true false → (n at : ℕ) → records s t f n at ≡ rowed receiverRow (receivers s t n at)
-  receivers-read f e n at = ap (λ (g : Fields). records s t g n at) e ∙ receivers-rowed n at
-
-  pub entries-read : (f : Fields) → f ≡ keys true true → (n at : ℕ) → records s t f n at ≡ rowed entryRow (entries s t n at)
-  entries-read f e n at = ap (λ (g : Fields). records s t g n at) e ∙ entries-rowed n at
+  entries-read zero at = refl
+  entries-read (suc n) at =
+      (entry-more (entries s t n) (records s t (keys true true) n) (entries-read n) (number s (ceiling definition) at) (number s (ceiling ordinary)))

@@ -27,7 +27,7 @@ use Rattle.terms.specs.Normal.{Out, replacement, walkBy, normalise}
 use Rattle.terms.specs.Lookup.{Look, lookBy, Looks, HeldGiven}
 use Rattle.terms.specs.Arena.{Tree, grow, Frame, Frames}
 use Rattle.terms.specs.Walk.{Visited, Walks}
-use Rattle.terms.specs.Normalising.{Zero, Stands, Sized, Answers, Leaves}
+use Rattle.terms.specs.Normalising.{Zero, Stands, Sized, Fitted, Answers, Leaves}
 use Rattle.terms.proofs.Bools.{never-true}
 use Rattle.terms.proofs.ViewLaws.{view-held}
 use Rattle.terms.proofs.ArenaLaws.{held-tree}
@@ -208,22 +208,22 @@ module _ (ks vs : List ℕ) (g : Origin) (s : Sight ks vs g) (hs₀ cs₀ hs cs 
 
   -- a term that is walked: w is what the walk gave, in the areas hs₁, cs₁
   module _ (ws hs₁ cs₁ : List ℕ) (y : Content) (visits : ℕ) (w : Walked) (walks : Walks ks vs ws g hs₀ cs₀ hs₁ cs₁ y 0 levels visits most w) (fr : Frames hs₀ cs₀ hs₁ cs₁ 0 (w .next))
-      (zh : Zero hs₀ most) (zc : Zero cs₀ most) (eh : x .head ≡ w .head) (ek : x .kids ≡ w .kids) where
+      (zh : Zero hs₀ most) (zc : Zero cs₀ most) (eh : x .head ≡ w .head) (ek : x .kids ≡ w .kids) (le : at ≤ length out) where
     back : blank (area hs₁ cs₁) 0 (w .next) ≡ area hs₀ cs₀
     back = blank-back hs₀ cs₀ hs₁ cs₁ (w .next) most fr zh zc (walks .within)
 
-    pub walked-leaves : (r : Normalised) → Sized ks vs hs₁ cs₁ hs cs g x (w .next) (levels + 1) out at r → Leaves ks vs hs₀ cs₀ hs cs most r
+    pub walked-leaves : (r : Normalised) → Fitted hs₁ cs₁ hs cs g x (w .next) (w .size) (length out - at) r → Leaves ks vs hs₀ cs₀ hs cs most r
     walked-leaves Refused z = absurd z
     walked-leaves Long z = areas-same hs cs hs₀ cs₀ (z .0 ∙ back)
     walked-leaves (Done v) z =
         (omega (arith, z .4, walks .within), ap (blank (area hs cs) 0) (z .4) ∙ ap (λ (d : Area). blank d 0 (w .next)) (ap₂ area (z .0) (z .1)) ∙ back, rw (z .5) s)
 
     pub walked-answers : w .over ≡ false → (p : ℕ) → y .head ≡ p → y .kids ≡ 0 → (t : Term) (look : Look) (o : Out) → Held ks vs p t → Looks ks vs ws g look
-        → o ≡ walkBy (replacement (lookBy look)) levels t visits 0 → (r : Normalised) → Sized ks vs hs₁ cs₁ hs cs g x (w .next) (levels + 1) out at r
+        → o ≡ walkBy (replacement (lookBy look)) levels t visits 0 → (r : Normalised) → Fitted hs₁ cs₁ hs cs g x (w .next) (w .size) (length out - at) r
         → Answers ks vs hs₀ cs₀ hs cs out at levels most o r
     walked-answers fl p yh yk t look o h k eo r z = go r z
       where
-        v : Visited (view ks vs g) hs₁ cs₁ (λ i. false) 0 (w .head) (w .kids) (w .next) (w .visits) (walkBy (replacement (lookBy look)) levels t visits 0)
+        v : Visited (view ks vs g) hs₁ cs₁ (λ i. false) 0 (w .head) (w .kids) (w .next) (w .visits) (w .size) (walkBy (replacement (lookBy look)) levels t visits 0)
         v =
             walks .done fl (λ i. false) t look (λ i e. never-true e)
             (rw (yh, yk) (held-tree (view ks vs g) hs₀ cs₀ (λ i. false) t p (view-held ks vs g s p t h))) k
@@ -237,12 +237,14 @@ module _ (ks vs : List ℕ) (g : Origin) (s : Sight ks vs g) (hs₀ cs₀ hs cs 
         few : o .count ≤ most
         few = omega (arith, v .count, ap (λ (q : Out). q .count) eo, walks .within)
 
-        go : (r : Normalised) → Sized ks vs hs₁ cs₁ hs cs g x (w .next) (levels + 1) out at r → Answers ks vs hs₀ cs₀ hs cs out at levels most o r
+        sized : w .size ≡ length (bytes (o .term))
+        sized = v .size ∙ ap (λ (q : Out). length (bytes (q .term))) (sym eo)
+
+        go : (r : Normalised) → Fitted hs₁ cs₁ hs cs g x (w .next) (w .size) (length out - at) r → Answers ks vs hs₀ cs₀ hs cs out at levels most o r
         go Refused z = absurd z
-        go Long z = (few, z .1 (grow (λ i. false) 0 (w .next)) (o .term) there (λ k. low))
+        go Long z = (few, omega (arith, z .1, sized))
         go (Done u) z =
-            let q = z .6 (grow (λ i. false) 0 (w .next)) (o .term) there (λ k. low) in
-            (few, q .0, q .1, record { marks = grow (λ i. false) 0 (w .next); tree = rw (z .0, z .1, z .2, z .3, z .5) there; low = λ k. low })
+            (few, z .6 ∙ sized, omega (arith, z .6, z .7), record { marks = grow (λ i. false) 0 (w .next); tree = rw (z .0, z .1, z .2, z .3, z .5) there; low = λ k. low })
 
 -- the children were too many
 module _ (ks vs : List ℕ) (g : Origin) (s : Sight ks vs g) (hs₀ cs₀ hs₁ cs₁ hs cs ws : List ℕ) (y : Content) (levels visits most : ℕ) (w : Walked)

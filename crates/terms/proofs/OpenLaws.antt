@@ -5,13 +5,14 @@ use mathlib.Core.List.{List, [], _∷_}
 use Prim.Native.Nat.{ℕ, zero, suc, _+_, _-_, _≤_, _<_}
 use native.Mathlib.Omega.{arith}
 use borrow.Author.Count.{below-more}
+use borrow.Author.Tests.{lt-ltb, ne-eqb}
 use lib.ListN.{length, getD, set, drop, length-set, length-drop}
 use lib.Seq.{getD-set-same, getD-set-other}
 use Rattle.terms.specs.Tokens.{Area}
 use Rattle.terms.specs.Term.{Term, Parts, var, node, end, num, sub}
 use Rattle.terms.specs.Held.{span}
 use Rattle.terms.specs.Tree.{error, nums, subs, children, row, tag, class, slotBy, slot}
-use Rattle.terms.specs.Arena.{headOf, kidsOf, Tree, Parted, Below, RowAt, TagAt, ValueAt, Frame, Frames, Opened, Opens, Ordered}
+use Rattle.terms.specs.Arena.{headOf, kidsOf, Tree, Parted, Below, RowAt, TagAt, ValueAt, Counts, Frame, Frames, Opened, Opens, Ordered}
 use Rattle.terms.proofs.Bools.{never-true, never-false}
 use Rattle.terms.proofs.HeldLaws.{headKind}
 use Rattle.terms.proofs.ArenaLaws.{Keeps, tree-kept, parted-kept, parted-over, parted-number, parted-child, tree-kind}
@@ -176,5 +177,19 @@ tag-high a h p k ep ek le = record { is = λ hs cs S c t w. go t (tree-kind a hs
     go (var v) e = absurd (omega arith)
     go (node j ps) e = omega arith
 
+-- the counts, from the two numbers found
+pub counted : (a : Area) (h n m : ℕ) → (n < 4294967296) × ValueAt a h 1 n → (m < 4294967296) × ValueAt a h 2 m → Counts a h n m
+counted a h n m x y = record { few = x .0; low = y .0; arguments = x .1; members = y .1 }
+
 pub ordered : (a : Area) (h k n m : ℕ) → TagAt a h k → ValueAt a h 1 n → ValueAt a h 2 m → Ordered a h k n m
 ordered a h k n m x y z = record { is = λ hs cs S c t w j. rw (x .is hs cs S c t w, y .is hs cs S c t w, z .is hs cs S c t w) }
+
+-- below the tag 12 in byte order, whatever the counts
+pub ordered-plain : (a : Area) (h k n m : ℕ) → TagAt a h k → k < 12 → Ordered a h k n m
+unfolding class slotBy
+ordered-plain a h k n m x lt = record {
+  is = λ hs cs S c t w j.
+      let e = x .is hs cs S c t w in
+      let z : class k ≡ 0 = rw (ne-eqb k 18 (omega arith), lt-ltb k 12 lt) in
+      rw (sym e, z);
+}

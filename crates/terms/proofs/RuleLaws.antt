@@ -5,11 +5,13 @@ use mathlib.Core.List.{List, [], _∷_}
 use mathlib.Core.Option.{Option, none, some}
 use Prim.Native.Nat.{ℕ, zero, suc, max, _+_, _-_, _≤_, _<_}
 use native.Mathlib.Omega.{arith}
+use borrow.Author.Tests.{leb-true, leb-false}
+use lib.Dec.{leb}
 use lib.ListN.{length, getD}
 use Rattle.terms.specs.Tokens.{Area}
 use Rattle.terms.specs.Term.{Term, Parts, var, node, end, num, sub, _+++_, items, depth, depths}
 use Rattle.terms.specs.Held.{Held, HeldParts, span}
-use Rattle.terms.specs.Tree.{row, sameRows, putTerms}
+use Rattle.terms.specs.Tree.{nums, row, sameRows, putTerms}
 use Rattle.terms.specs.declared.Origin.{Origin}
 use Rattle.terms.specs.declared.Rule.{Rule}
 use Rattle.terms.specs.declared.Cursor.{Cursor}
@@ -20,11 +22,12 @@ use Rattle.terms.specs.Result.{pick}
 use Rattle.terms.specs.View.{view, Sight}
 use Rattle.terms.specs.Lookup.{Pattern, front, left, byPatterns, ruleAt, ruleCount, HeldRule, Ruled}
 use Rattle.terms.specs.Arena.{Tree, Parted, over, number, child, From, Cut, further, Begins, Starts}
-use Rattle.terms.specs.RuleSearch.{TermStarts, Numbers, Fronted}
+use Rattle.terms.specs.RuleSearch.{TermStarts, Numbers, Fronted, Replaces, lastButOne, MemberIn}
+use Rattle.terms.proofs.Bools.{never-true}
 use Rattle.terms.proofs.HeldLaws.{kind-some, items-some, held-sub}
 use Rattle.terms.proofs.SameLaws.{span-held, rows-refl, rows-true}
 use Rattle.terms.proofs.ViewLaws.{view-held, view-parts}
-use Rattle.terms.proofs.ArenaLaws.{held-tree, tree-kind, tree-row, parted-over, parted-more, parted-number}
+use Rattle.terms.proofs.ArenaLaws.{held-tree, tree-kind, tree-row, parted-over, parted-more, parted-number, parted-child}
 
 clash : {A : Type 0} → _≡_ {A = ℕ} 0 1 → A
 clash e = absurd (omega arith)
@@ -182,6 +185,69 @@ module _ (ks vs : List ℕ) (g : Origin) (s : Sight ks vs g) (hs cs : List ℕ) 
             let u = ap₂ (λ (i j : ℕ). num i (num j rest)) (h .member) (h .count) in
             z hs cs S (r .rest) (r .there) rest (behind-cancel (p .interface) (r .rest) (num (p .member) (num (length (p .arguments)) rest)) (cc) ∙ sym u)
 
+-- ---- the member of a row: the last number but one
+
+-- arguments have no numbers
+terms-numbers : (ts : List Term) → nums (putTerms ts end) ≡ []
+unfolding nums putTerms
+terms-numbers [] = refl
+terms-numbers (t ∷ ts) = terms-numbers ts
+
+-- the member stands there behind any interface
+behind-member : (i : Parts) (a b m n : ℕ) (ts : List Term) → lastButOne a b (nums (i +++ num m (num n (putTerms ts end)))) ≡ m
+unfolding nums lastButOne
+behind-member end a b m n ts = rw (terms-numbers ts)
+behind-member (num v i) a b m n ts = behind-member i b v m n ts
+behind-member (sub t i) a b m n ts = behind-member i a b m n ts
+
+-- and so in the row that a rule replaces
+left-member : (a b : ℕ) (p : Pattern) → lastButOne a b (nums (left p)) ≡ p .member
+unfolding nums front
+left-member a b p = behind-member (p .interface) a b (p .member) (length (p .arguments)) (p .arguments)
+
+module _ (a : Area) (x : Cursor) where
+  -- what is left of a row from the token q on, behind the numbers b and l, has its last number but one
+  pub record CalledAt (q b l : ℕ) (hs cs : List ℕ) (S : ℕ → Bool) (ps : Parts) : Type 0 where
+    pub passed : ℕ
+    pub rest : Parts
+    pub there : Parted a hs cs S (x .kids) (x .end) q passed rest
+    pub so : lastButOne 0 0 (nums ps) ≡ lastButOne b l (nums rest)
+
+  pub record Calling (q b l : ℕ) : Type 0 where
+    pub is : (hs cs : List ℕ) (S : ℕ → Bool) (ps : Parts) → From a hs cs S x ps → CalledAt q b l hs cs S ps
+
+  -- the scan: its start, a number and a child passed, its end
+  pub calling-start : Calling (x .at) 0 0
+  calling-start = record { is = λ hs cs S ps f. record { passed = x .child; rest = ps; there = f; so = refl } }
+
+  module _ (q b l : ℕ) (w : Calling q b l) where
+    pub calling-done : x .end ≤ q → MemberIn a x b
+    unfolding nums lastButOne
+    calling-done le = record {
+      is = λ hs cs S ps f.
+          let c = w .is hs cs S ps f in
+          sym (c .so ∙ ap (λ (r : Parts). lastButOne b l (nums r)) (parted-over a hs cs S (c .there) le));
+    }
+
+    module _ (lt : q < x .end) {k v : ℕ} (ek : k ≡ getD (a .kinds) q 0) (ev : v ≡ getD (a .vals) q 0) where
+      pub calling-number : k ≡ 0 → Calling (q + 1) l v
+      unfolding nums lastButOne
+      calling-number z = record {
+        is = λ hs cs S ps f.
+            let c = w .is hs cs S ps f in
+            let d = parted-number a hs cs S (c .there) lt ek ev z in
+            record { passed = c .passed; rest = d .rest; there = d .behind; so = c .so ∙ ap (λ (r : Parts). lastButOne b l (nums r)) (d .is) };
+      }
+
+      pub calling-child : (k ≡ 0 → ⊥) → (n : ℕ) → (1 ≤ span k v → n ≡ span k v) → Calling (q + n) b l
+      unfolding nums
+      calling-child z n en = record {
+        is = λ hs cs S ps f.
+            let c = w .is hs cs S ps f in
+            let d = parted-child a hs cs S (c .there) lt ek ev z in
+            record { passed = c .passed + 1; rest = d .rest; there = rw (en (d .some)) (d .behind); so = c .so ∙ ap (λ (r : Parts). lastButOne b l (nums r)) (d .is) };
+      }
+
 -- ---- the rules one after the other
 
 front-cancel : (p : Pattern) (l m : Parts) → front p l ≡ front p m → l ≡ m
@@ -215,19 +281,19 @@ pattern-no p rs ps n = go (sameRows (left p) ps) refl
     go true h = absurd (n (sym (rows-true (left p) ps h)))
     go false h = refl
 
-module _ (ks vs ws : List ℕ) (g : Origin) (hs cs : List ℕ) (x : Cursor) (fuel : ℕ) where
+module _ (ks vs : List ℕ) (g : Origin) (hs cs : List ℕ) (x : Cursor) (fuel : ℕ) where
   abbrev seen : Area
   seen = view ks vs g
 
-  -- the r-th rule is not the row's, or it is
-  pub record Missed (r : ℕ) : Type 0 where
-    pub is : (S : ℕ → Bool) (ps : Parts) (p : Pattern) → From seen hs cs S x ps → depths ps ≤ fuel → HeldRule ks vs (ruleAt ws r) p → ps ≡ left p → ⊥
+  -- the rule is not the row's, or it is
+  pub record Missed (w : Rule) : Type 0 where
+    pub is : (S : ℕ → Bool) (ps : Parts) (p : Pattern) → From seen hs cs S x ps → depths ps ≤ fuel → HeldRule ks vs w p → ps ≡ left p → ⊥
 
-  pub record Hit (r : ℕ) : Type 0 where
-    pub is : (S : ℕ → Bool) (ps : Parts) (p : Pattern) → From seen hs cs S x ps → depths ps ≤ fuel → HeldRule ks vs (ruleAt ws r) p → ps ≡ left p
+  pub record Hit (w : Rule) : Type 0 where
+    pub is : (S : ℕ → Bool) (ps : Parts) (p : Pattern) → From seen hs cs S x ps → depths ps ≤ fuel → HeldRule ks vs w p → ps ≡ left p
 
   -- what is left of the row at c, n decides, with the arguments from the token q on
-  pub record ArguingAt (r c n q l : ℕ) (S : ℕ → Bool) (ps : Parts) (p : Pattern) : Type 0 where
+  pub record ArguingAt (c n q l : ℕ) (S : ℕ → Bool) (ps : Parts) (p : Pattern) : Type 0 where
     pub rest : Parts
     pub arguments : List Term
     pub ends : ℕ
@@ -238,34 +304,28 @@ module _ (ks vs ws : List ℕ) (g : Origin) (hs cs : List ℕ) (x : Cursor) (fue
     pub to : ps ≡ left p → rest ≡ putTerms arguments end
     pub from : rest ≡ putTerms arguments end → ps ≡ left p
 
-  pub record ArguedBehind (r c n q l : ℕ) : Type 0 where
+  pub record ArguedBehind (w : Rule) (c n q l : ℕ) : Type 0 where
     pub few : n ≤ c
-    pub is : (S : ℕ → Bool) (ps : Parts) (p : Pattern) → From seen hs cs S x ps → depths ps ≤ fuel → HeldRule ks vs (ruleAt ws r) p → ArguingAt r c n q l S ps p
+    pub is : (S : ℕ → Bool) (ps : Parts) (p : Pattern) → From seen hs cs S x ps → depths ps ≤ fuel → HeldRule ks vs w p → ArguingAt c n q l S ps p
 
-  abbrev pub Arguing : (r : ℕ) → Met → (q l : ℕ) → Type 0
-  Arguing r (Behind c n) q l = ArguedBehind r c n q l
-  Arguing r Apart q l = Missed r
+  abbrev pub Arguing : (w : Rule) → Met → (q l : ℕ) → Type 0
+  Arguing w (Behind c n) q l = ArguedBehind w c n q l
+  Arguing w Apart q l = Missed w
 
-  -- r rules have been passed
-  pub record Searching (r : ℕ) : Type 0 where
-    pub is : (S : ℕ → Bool) (ps : Parts) (rs : List Pattern) → From seen hs cs S x ps → depths ps ≤ fuel → Ruled ks vs ws 0 rs
-        → (qs : List Pattern) × Ruled ks vs ws r qs × (byPatterns rs ps ≡ byPatterns qs ps)
-
-module _ (ks vs ws : List ℕ) (g : Origin) (hs cs : List ℕ) (x : Cursor) (fuel : ℕ) (s : Sight ks vs g) where
-  pub arguing-start : (r : ℕ) (w : Rule) (m : Met) (q : ℕ) → w ≡ ruleAt ws r → q ≡ w .arguments → Fronted ks vs (view ks vs g) hs cs x w fuel m → Arguing ks vs ws g hs cs x fuel r m q (w .count)
-  arguing-start r w (Behind c n) q ew eq f = record {
+module _ (ks vs : List ℕ) (g : Origin) (hs cs : List ℕ) (x : Cursor) (fuel : ℕ) (s : Sight ks vs g) where
+  pub arguing-start : (w : Rule) (m : Met) (q : ℕ) → q ≡ w .arguments → Fronted ks vs (view ks vs g) hs cs x w fuel m → Arguing ks vs g hs cs x fuel w m q (w .count)
+  arguing-start w (Behind c n) q eq f = record {
     few = f .0;
     is = λ S ps p h d k.
-        let k′ : HeldRule ks vs w p = rw ew k in
-        let t = f .1 S ps p h d k′ in
+        let t = f .1 S ps p h d k in
         record {
           rest = t .0;
           arguments = p .arguments;
-          ends = k′ .ends;
+          ends = k .ends;
           there = t .2;
           low = omega (arith, ap depths (t .1 ∙ front-is p (t .0)), front-low p (t .0));
-          held = rw eq (view-parts ks vs g s (w .arguments) (k′ .ends) (putTerms (p .arguments) end) (k′ .arguments));
-          count = k′ .count;
+          held = rw eq (view-parts ks vs g s (w .arguments) (k .ends) (putTerms (p .arguments) end) (k .arguments));
+          count = k .count;
           to = λ e. front-cancel p (t .0) (putTerms (p .arguments) end) (sym (t .1) ∙ e);
           from = λ e. t .1 ∙ ap (front p) e;
         };
@@ -279,17 +339,17 @@ module _ (ks vs ws : List ℕ) (g : Origin) (hs cs : List ℕ) (x : Cursor) (fue
             depths-behind (p .interface) (num (p .member) (num (length (p .arguments)) rest)),
             depths-behind (sub (p .receiver) end) (p .interface +++ num (p .member) (num (length (p .arguments)) rest)),
           )
-  arguing-start r w Apart q ew eq f = record { is = λ S ps p h d k e. f S ps p h d (rw ew k) (putTerms (p .arguments) end) e }
+  arguing-start w Apart q eq f = record { is = λ S ps p h d k e. f S ps p h d k (putTerms (p .arguments) end) e }
 
-  module _ (r c n q l : ℕ) (w : ArguedBehind ks vs ws g hs cs x fuel r c n q l) where
-    pub argued-done : l ≡ 0 → x .end ≤ c → Hit ks vs ws g hs cs x fuel r
+  module _ (u : Rule) (c n q l : ℕ) (w : ArguedBehind ks vs g hs cs x fuel u c n q l) where
+    pub argued-done : l ≡ 0 → x .end ≤ c → Hit ks vs g hs cs x fuel u
     argued-done z le = record {
       is = λ S ps p h d k.
           let t = w .is S ps p h d k in
           t .from (parted-over (view ks vs g) hs cs S (t .there) le ∙ sym (ap (λ (us : List Term). putTerms us end) (empty (t .arguments) (sym (t .count) ∙ z)) ∙ terms-none));
     }
 
-    pub argued-more : l ≡ 0 → c < x .end → Missed ks vs ws g hs cs x fuel r
+    pub argued-more : l ≡ 0 → c < x .end → Missed ks vs g hs cs x fuel u
     argued-more z lt = record {
       is = λ S ps p h d k e.
           let t = w .is S ps p h d k in
@@ -299,17 +359,17 @@ module _ (ks vs ws : List ℕ) (g : Origin) (hs cs : List ℕ) (x : Cursor) (fue
     -- one argument more
     module _ (some : l ≡ 0 → ⊥) (tc : Cursor) (ts : TermStarts (view ks vs g) q tc) where
       pub record Next (S : ℕ → Bool) (ps : Parts) (p : Pattern) : Type 0 where
-        pub old : ArguingAt ks vs ws g hs cs x fuel r c n q l S ps p
+        pub old : ArguingAt ks vs g hs cs x fuel c n q l S ps p
         pub term : Term
         pub terms : List Term
         pub is : old .arguments ≡ term ∷ terms
         pub there : From (view ks vs g) hs cs nothing tc (sub term end)
         pub held : HeldParts (view ks vs g .kinds) (view ks vs g .vals) (tc .end) (old .ends) (putTerms terms end)
 
-      next : (S : ℕ → Bool) (ps : Parts) (p : Pattern) → From (view ks vs g) hs cs S x ps → depths ps ≤ fuel → HeldRule ks vs (ruleAt ws r) p → Next S ps p
+      next : (S : ℕ → Bool) (ps : Parts) (p : Pattern) → From (view ks vs g) hs cs S x ps → depths ps ≤ fuel → HeldRule ks vs u p → Next S ps p
       next S ps p h d k = let t = w .is S ps p h d k in go t (t .arguments) refl
         where
-          go : (t : ArguingAt ks vs ws g hs cs x fuel r c n q l S ps p) (us : List Term) → t .arguments ≡ us → Next S ps p
+          go : (t : ArguingAt ks vs g hs cs x fuel c n q l S ps p) (us : List Term) → t .arguments ≡ us → Next S ps p
           go t [] e = absurd (some (t .count ∙ ap length e))
           go t (u ∷ us) e =
               let h : HeldParts (view ks vs g .kinds) (view ks vs g .vals) q (t .ends) (sub u (putTerms us end)) = rw (e, terms-cons u us) at (t .held) in
@@ -323,7 +383,7 @@ module _ (ks vs ws : List ℕ) (g : Origin) (hs cs : List ℕ) (x : Cursor) (fue
                 held = rw (ts .ends u (y .0)) (y .1);
               }
 
-      pub argued-next : (m : Met) → Begins (view ks vs g) hs cs (further x c n) tc fuel m → Arguing ks vs ws g hs cs x fuel r m (tc .end) (l - 1)
+      pub argued-next : (m : Met) → Begins (view ks vs g) hs cs (further x c n) tc fuel m → Arguing ks vs g hs cs x fuel u m (tc .end) (l - 1)
       argued-next (Behind c′ n′) b = record {
         few = b .0;
         is = λ S ps p h d k.
@@ -351,11 +411,34 @@ module _ (ks vs ws : List ℕ) (g : Origin) (hs cs : List ℕ) (x : Cursor) (fue
             (t .to e ∙ ap (λ (us : List Term). putTerms us end) (y .is) ∙ terms-cons (y .term) (y .terms));
       }
 
+  -- what the comparing of a rule answers
+  module _ (w : Rule) where
+    pub replaces-no : Missed ks vs g hs cs x fuel w → Replaces ks vs (view ks vs g) hs cs x w fuel false
+    replaces-no m = record { yes = λ e. never-true e; no = λ e. m .is }
+
+    pub replaces-ends : (c n q l : ℕ) → ArguedBehind ks vs g hs cs x fuel w c n q l → l ≡ 0 → Replaces ks vs (view ks vs g) hs cs x w fuel (leb (x .end) c)
+    replaces-ends c n q l v z = record {
+      yes = λ e. argued-done w c n q l v z (leb-true (x .end) c e) .is;
+      no = λ e. argued-more w c n q l v z (leb-false (x .end) c e) .is;
+    }
+
+    -- a rule with another member than the row's is not the row's
+    pub replaces-other : (m : ℕ) → MemberIn (view ks vs g) x m → (w .member ≡ m → ⊥) → Missed ks vs g hs cs x fuel w
+    replaces-other m h ne = record {
+      is = λ S ps p f d k e. ne (k .member ∙ sym (h .is hs cs S ps f ∙ ap (λ (l : Parts). lastButOne 0 0 (nums l)) e ∙ left-member 0 0 p));
+    }
+
+-- r rules have been passed
+pub record Searching (ks vs ws : List ℕ) (g : Origin) (hs cs : List ℕ) (x : Cursor) (fuel r : ℕ) : Type 0 where
+  pub is : (S : ℕ → Bool) (ps : Parts) (rs : List Pattern) → From (view ks vs g) hs cs S x ps → depths ps ≤ fuel → Ruled ks vs ws 0 rs
+      → (qs : List Pattern) × Ruled ks vs ws r qs × (byPatterns rs ps ≡ byPatterns qs ps)
+
+module _ (ks vs ws : List ℕ) (g : Origin) (hs cs : List ℕ) (x : Cursor) (fuel : ℕ) (s : Sight ks vs g) where
   pub searching-start : Searching ks vs ws g hs cs x fuel 0
   searching-start = record { is = λ S ps rs h d k. (rs, k, refl) }
 
   module _ (r : ℕ) (w : Searching ks vs ws g hs cs x fuel r) where
-    pub searching-next : r < ruleCount ws → Missed ks vs ws g hs cs x fuel r → Searching ks vs ws g hs cs x fuel (r + 1)
+    pub searching-next : r < ruleCount ws → Missed ks vs g hs cs x fuel (ruleAt ws r) → Searching ks vs ws g hs cs x fuel (r + 1)
     searching-next lt m = record { is = λ S ps rs h d k. let t = w .is S ps rs h d k in go S ps rs h d (t .0) (t .1) (t .2) }
       where
         go : (S : ℕ → Bool) (ps : Parts) (rs : List Pattern) → From (view ks vs g) hs cs S x ps → depths ps ≤ fuel → (qs : List Pattern) → Ruled ks vs ws r qs
@@ -372,7 +455,7 @@ module _ (ks vs ws : List ℕ) (g : Origin) (hs cs : List ℕ) (x : Cursor) (fue
         go [] k = refl
         go (p ∷ qs) k = absurd (omega (arith, k .0))
 
-    pub searching-hit : r < ruleCount ws → Hit ks vs ws g hs cs x fuel r → (S : ℕ → Bool) (ps : Parts) (rs : List Pattern) → From (view ks vs g) hs cs S x ps → depths ps ≤ fuel → Ruled ks vs ws 0 rs
+    pub searching-hit : r < ruleCount ws → Hit ks vs g hs cs x fuel (ruleAt ws r) → (S : ℕ → Bool) (ps : Parts) (rs : List Pattern) → From (view ks vs g) hs cs S x ps → depths ps ≤ fuel → Ruled ks vs ws 0 rs
         → (u : Term) × (byPatterns rs ps ≡ some u) × Tree (view ks vs g) hs cs S (ruleAt ws r .value) 0 u
     searching-hit lt m S ps rs h d k = let t = w .is S ps rs h d k in go (t .0) (t .1) (t .2)
       where

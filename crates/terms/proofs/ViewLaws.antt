@@ -14,7 +14,9 @@ use Rattle.terms.specs.Tokens.{Item, item, spell, toks}
 use Rattle.terms.specs.Term.{Term, Parts, node, end, items, partItems}
 use Rattle.terms.specs.Held.{Held, HeldParts}
 use Rattle.terms.specs.Tree.{error}
+use Rattle.terms.specs.Writing.{spelt}
 use Rattle.terms.specs.View.{tabulate, copied, madeAt, seenAt, wordAt, Located, count, seen, view, Sight}
+use Rattle.terms.proofs.WriteLaws.{spelt-toks}
 
 -- ---- tables
 
@@ -149,11 +151,15 @@ toks-same ks vs js us a b (suc c) f g =
     rw (e, d, r)
 
 module _ (ks vs : List ℕ) (g : Origin) (s : Sight ks vs g) where
-  seen-toks : (a c : ℕ) → a + c ≤ length ks → toks (view ks vs g .kinds) (view ks vs g .vals) a c ≡ toks ks vs a c
+  pub seen-toks : (a c : ℕ) → a + c ≤ length ks → toks (view ks vs g .kinds) (view ks vs g .vals) a c ≡ toks ks vs a c
   seen-toks a c le =
       toks-same (view ks vs g .kinds) (view ks vs g .vals) ks vs a a c
       (λ i lt. seen-lent ks g 5 20 (a + i) (omega arith))
       (λ i lt. seen-lent vs g 1 (g .size) (a + i) (omega (arith, s .pairs)))
+
+  -- lent tokens write the same
+  pub view-spelt : (a c : ℕ) → a + c ≤ length ks → spelt (view ks vs g .kinds) (view ks vs g .vals) a c ≡ spelt ks vs a c
+  view-spelt a c le = spelt-toks (view ks vs g .kinds) (view ks vs g .vals) ks vs a a c (seen-toks a c le)
 
   seen-long : length ks ≤ length (view ks vs g .kinds)
   seen-long = omega (arith, seen-length ks g 5 20)

@@ -1,6 +1,6 @@
 -- What is wanted, by the flag. Assumes nothing.
-use mathlib.Core.Path.{_≡_, subst}
-use mathlib.Core.Bool.{Bool, true, false}
+use mathlib.Core.Path.{_≡_}
+use mathlib.Core.Bool.{true, false}
 use Prim.Native.Nat.{ℕ, _+_, _-_, _^_, _<_}
 use mathlib.Core.List.{List}
 use lib.ListN.{length}
@@ -10,10 +10,10 @@ use Rattle.terms.specs.Tokens.{Area}
 use Rattle.terms.specs.Term.{size}
 use Rattle.terms.specs.Reading.{term, bare}
 use Rattle.terms.specs.Done.{RoomAfter, answer, kept, contents}
-use Rattle.terms.specs.Wanting.{placeOf, Space, Readable, WantedDone}
+use Rattle.terms.specs.Wanting.{placeOf, Readable, WantedDone}
 
 pub nominal-space : (s : List ℕ) (at : ℕ) (w : Wanted) → w .bare ≡ true → Readable s at w → w .top + 1 + (length s - at) < 2 ^ 32
-nominal-space s at w e h = subst (λ (b : Bool). Space b s (placeOf at w)) e (h .space)
+nominal-space s at w e h = h .space e
 
 pub nominal-read : (s : List ℕ) (at : ℕ) (w : Wanted) (d e : Area) (r : Step) → w .bare ≡ true
     → r ≡ answer (placeOf at w) (bare s (w .issued) (w .levels) at) contents

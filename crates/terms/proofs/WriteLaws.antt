@@ -150,6 +150,10 @@ unfolding over spell
 spelt-over ks vs a zero = refl
 spelt-over ks vs a (suc c) = rw (spelt-over ks vs (suc a) c)
 
+-- equal tokens write the same
+pub spelt-toks : (ks vs js us : List ℕ) (a b c : ℕ) → toks ks vs a c ≡ toks js us b c → spelt ks vs a c ≡ spelt js us b c
+spelt-toks ks vs js us a b c e = spelt-over ks vs a c ∙ ap over e ∙ sym (spelt-over js us b c)
+
 mutual
   unfolding over items bytes plain
 

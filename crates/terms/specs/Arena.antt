@@ -17,6 +17,7 @@ use Rattle.terms.specs.declared.Found.the-variants.{At, Nothing}
 use Rattle.terms.specs.declared.Origin.{Origin}
 use Rattle.terms.specs.declared.Key.{Key}
 use Rattle.terms.specs.declared.Key.the-variants.{KeyAt, NoKey}
+use Rattle.terms.specs.Number.{shortest}
 use Rattle.terms.specs.Tokens.{Area}
 use Rattle.terms.specs.Term.{Term, Parts, var, node, end, num, sub, _+++_, depth, depths}
 use Rattle.terms.specs.Held.{span}
@@ -74,6 +75,13 @@ pub record NumberAt (a : Area) (h i p : ℕ) : Type 0 where
 pub record ValueAt (a : Area) (h i r : ℕ) : Type 0 where
   pub is : (hs cs : List ℕ) (S : ℕ → Bool) (c : ℕ) (t : Term) → Tree a hs cs S h c t → r ≡ getD (nums (row t)) i 0
 
+-- n and m are the counts of arguments and members, the numbers 1 and 2 of the row of the term at h
+pub record Counts (a : Area) (h n m : ℕ) : Type 0 where
+  pub few : n < 4294967296
+  pub low : m < 4294967296
+  pub arguments : ValueAt a h 1 n
+  pub members : ValueAt a h 2 m
+
 -- the first number from the third on, counted from there, that is x
 abbrev pub Keyed : (x : ℕ) → List ℕ → Key → Type 0
 Keyed x l (KeyAt i) = (3 + i < length l) × (getD l (3 + i) 0 ≡ x) × ((j : ℕ) → j < i → getD l (3 + j) 0 ≡ x → ⊥)
@@ -90,6 +98,20 @@ Fetched a hs cs S o Nothing = o ≡ none
 -- the tag of the term at h
 pub record TagAt (a : Area) (h r : ℕ) : Type 0 where
   pub is : (hs cs : List ℕ) (S : ℕ → Bool) (c : ℕ) (t : Term) → Tree a hs cs S h c t → r ≡ tag t
+
+-- how many bytes a term has besides those of its children
+unfoldable pub ownNums : Parts → ℕ
+ownNums end = 0
+ownNums (num n ps) = length (shortest n) + ownNums ps
+ownNums (sub t ps) = ownNums ps
+
+unfoldable pub own : Term → ℕ
+own (var v) = 1 + length (shortest v)
+own (node k ps) = 1 + ownNums ps
+
+-- of the term at h
+pub record OwnAt (a : Area) (h r : ℕ) : Type 0 where
+  pub is : (hs cs : List ℕ) (S : ℕ → Bool) (c : ℕ) (t : Term) → Tree a hs cs S h c t → r ≡ own t
 
 -- ---- records
 

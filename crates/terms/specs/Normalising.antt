@@ -65,3 +65,10 @@ Sized ks vs hs₀ cs₀ hs cs g x next fuel out at (Done w) =
     (hs ≡ hs₀) × (cs ≡ cs₀) × (w .head ≡ x .head) × (w .kids ≡ x .kids) × (w .next ≡ next) × (w .given ≡ g)
     × ((S : ℕ → Bool) (t : Term) → Tree (view ks vs g) hs₀ cs₀ S (x .head) (x .kids) t → (0 < x .kids → depth t ≤ fuel)
     → (w .size ≡ length (bytes t)) × (at + w .size ≤ length out))
+
+-- a content of `size` bytes, kept where there is room for them, else its records are cleared
+abbrev pub Fitted : (hs₀ cs₀ hs cs : List ℕ) (g : Origin) (x : Content) (next size room : ℕ) → Normalised → Type 0
+Fitted hs₀ cs₀ hs cs g x next size room Refused = ⊥
+Fitted hs₀ cs₀ hs cs g x next size room Long = (area hs cs ≡ blank (area hs₀ cs₀) 0 next) × (room < size)
+Fitted hs₀ cs₀ hs cs g x next size room (Done w) =
+    (hs ≡ hs₀) × (cs ≡ cs₀) × (w .head ≡ x .head) × (w .kids ≡ x .kids) × (w .next ≡ next) × (w .given ≡ g) × (w .size ≡ size) × (size ≤ room)

@@ -1,7 +1,7 @@
 -- What the search of a rule answers: places in rows. Assumes nothing.
 use mathlib.Core.Path.{_≡_}
-use mathlib.Core.Bool.{Bool}
-use mathlib.Core.List.{List}
+use mathlib.Core.Bool.{Bool, true, false}
+use mathlib.Core.List.{List, [], _∷_}
 use Prim.Native.Nat.{ℕ, _+_, _≤_}
 use lib.ListN.{length}
 use Rattle.terms.specs.declared.Cursor.{Cursor}
@@ -11,7 +11,8 @@ use Rattle.terms.specs.declared.Met.the-variants.{Behind, Apart}
 use Rattle.terms.specs.Tokens.{Area}
 use Rattle.terms.specs.Term.{Term, Parts, end, num, sub, items, depths}
 use Rattle.terms.specs.Held.{Held}
-use Rattle.terms.specs.Lookup.{Pattern, front, HeldRule}
+use Rattle.terms.specs.Tree.{nums}
+use Rattle.terms.specs.Lookup.{Pattern, front, left, HeldRule}
 use Rattle.terms.specs.Arena.{Tree, Parted, From, Cut}
 
 -- a cursor at the term at p, as a row of its own
@@ -36,3 +37,17 @@ Fronted ks vs a hs cs x w fuel (Behind at c) =
     → (rest : Parts) × (ps ≡ front p rest) × Parted a hs cs S (x .kids) (x .end) at c rest)
 Fronted ks vs a hs cs x w fuel Apart =
     (S : ℕ → Bool) (ps : Parts) (p : Pattern) → From a hs cs S x ps → depths ps ≤ fuel → HeldRule ks vs w p → (rest : Parts) → ps ≡ front p rest → ⊥
+
+-- whether the row at a cursor, of at most `fuel` levels, is the one that a rule replaces
+pub record Replaces (ks vs : List ℕ) (a : Area) (hs cs : List ℕ) (x : Cursor) (w : Rule) (fuel : ℕ) (r : Bool) : Type 0 where
+  pub yes : r ≡ true → (S : ℕ → Bool) (ps : Parts) (p : Pattern) → From a hs cs S x ps → depths ps ≤ fuel → HeldRule ks vs w p → ps ≡ left p
+  pub no : r ≡ false → (S : ℕ → Bool) (ps : Parts) (p : Pattern) → From a hs cs S x ps → depths ps ≤ fuel → HeldRule ks vs w p → ps ≡ left p → ⊥
+
+-- the last number but one, where a and b come before these
+unfoldable pub lastButOne : (a b : ℕ) → List ℕ → ℕ
+lastButOne a b [] = a
+lastButOne a b (n ∷ l) = lastButOne b n l
+
+-- The last number but one of the row at a cursor, 0 where it has not two. In the row that a rule replaces it is the member, whatever the interface.
+pub record MemberIn (a : Area) (x : Cursor) (r : ℕ) : Type 0 where
+  pub is : (hs cs : List ℕ) (S : ℕ → Bool) (ps : Parts) → From a hs cs S x ps → r ≡ lastButOne 0 0 (nums ps)

@@ -1,6 +1,6 @@
 -- What the term reader is asked, and what it leaves: the reading of a term or of a bare nominal, told by a flag. Assumes nothing.
 use mathlib.Core.Path.{_≡_}
-use mathlib.Core.Bool.{Bool, true, false}
+use mathlib.Core.Bool.{Bool, true}
 use Prim.Native.Nat.{ℕ, _+_, _-_, _^_, _<_}
 use mathlib.Core.List.{List}
 use lib.ListN.{length}
@@ -17,9 +17,13 @@ use Rattle.terms.specs.Done.{Room, RoomAfter, answer, kept, contents}
 abbrev pub placeOf : ℕ → Wanted → Place
 placeOf at w = record { at = at; top = w .top; nodes = w .nodes; limit = w .limit }
 
+-- a bare nominal, or a term, as `term` reads it
+abbrev pub part : Bool → (s : List ℕ) (issued levels at : ℕ) → Result Term
+part b s issued levels at = pick b (bare s issued levels at) (term s issued levels at)
+
 -- what the definition finds there
 abbrev pub foundAt : List ℕ → ℕ → Wanted → Result Term
-foundAt s at w = pick (w .bare) (bare s (w .issued) (w .levels) at) (term s (w .issued) (w .levels) at)
+foundAt s at w = part (w .bare) s (w .issued) (w .levels) at
 
 -- how its nodes are counted
 abbrev pub nodesOf : Bool → Term → ℕ
@@ -27,8 +31,7 @@ nodesOf b = pick b contents size
 
 -- a bare nominal has a token more than bytes
 abbrev pub Space : Bool → List ℕ → Place → Type 0
-Space true s p = p .top + 1 + (length s - p .at) < 2 ^ 32
-Space false s p = Unit {0}
+Space b s p = b ≡ true → p .top + 1 + (length s - p .at) < 2 ^ 32
 
 -- what is asked of the bytes and the position
 pub record Readable (s : List ℕ) (at : ℕ) (w : Wanted) : Type 0 where

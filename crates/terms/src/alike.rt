@@ -5,10 +5,18 @@ use super::Met;
 use super::Origin;
 use super::rows::child_here;
 use super::rows::row_of;
+use super::runs::same_term;
+use super::runs::span_of;
 use super::runs::wide;
+use super::runs::word;
 use super::view::step;
 use super::view::token_at;
 ghost use mathlib.Core.Path.{_≡_};
+ghost use mathlib.Core.Bool.{_&&_};
+ghost use Prim.Native.Nat.{_+_};
+ghost use lib.Dec.{eqb, leb};
+ghost use lib.ListN.{length, getD};
+ghost use Rattle.terms.specs.Held.{span};
 ghost use Rattle.terms.specs.View.{view, Sight};
 ghost use Rattle.terms.specs.Arena.{Cut, further, Alike, Begins, Starts};
 
@@ -36,6 +44,17 @@ pub fn moved(x: Cursor, at: usize, child: usize) -> Cursor
         child,
         kids: x.kids,
     }
+}
+
+// Whether a content is as in the source and all its tokens are lent.
+fn is_lent(kinds: &[u32], vals: &[u32], x: Content) -> bool
+    ensures { λ r. ⌜ r ≡ (eqb (x .kids) 0 && leb (x .head + span (getD (now (kinds .entry)) (x .head) 0) (getD (now (vals .entry)) (x .head) 0)) (length (now (kinds .entry)))) ⌝ }
+{
+    if x.kids != 0 {
+        return false;
+    }
+    let p = wide(x.head);
+    p + span_of(word(kinds, p), word(vals, p)) <= kinds.len()
 }
 
 // Whether the parts at x begin with all that are at y; the children at x have at most `fuel` levels.
@@ -90,7 +109,7 @@ pub fn same_rows(
     Met::Behind(p, i)
 }
 
-// Whether two contents stand for the same tree; the first has at most `fuel` levels.
+// Whether two contents stand for the same tree; the first has at most `fuel` levels. Lent ones are compared token by token.
 pub fn same_trees(
     kinds: &[u32],
     vals: &[u32],
@@ -114,6 +133,11 @@ pub fn same_trees(
     }
     if s.kind == 1 {
         return s.value == t.value;
+    }
+    if is_lent(kinds, vals, x) {
+        if is_lent(kinds, vals, y) {
+            return same_term(kinds, vals, wide(x.head), wide(y.head));
+        }
     }
     let a = cursor(kinds, vals, g, x);
     let b = cursor(kinds, vals, g, y);

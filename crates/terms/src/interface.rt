@@ -20,7 +20,7 @@ ghost use Rattle.terms.specs.View.{view, Sight, LentAt};
 ghost use Rattle.terms.specs.Term.{Term, Parts, depth};
 ghost use Rattle.terms.specs.Tree.{row, tag};
 ghost use Rattle.terms.specs.Lookup.{output, through, HeldGiven};
-ghost use Rattle.terms.specs.Arena.{Tree, Fetched};
+ghost use Rattle.terms.specs.Arena.{Tree, Counts, Fetched};
 
 // The lent token whose value the number at p has.
 fn lent_place(kinds: &[u32], vals: &[u32], g: Origin, p: usize) -> usize
@@ -48,7 +48,20 @@ fn output(kinds: &[u32], vals: &[u32], heads: &[u32], kids: &[u32], g: Origin, p
     ensures { λ r. ⌜ ((S : ℕ → Bool) (i : Parts) (owner : Term) → HeldGiven (now (kinds .entry)) (now (vals .entry)) g i owner → getD (view (now (kinds .entry)) (now (vals .entry)) g .kinds) p 0 ≡ 0 → Tree (view (now (kinds .entry)) (now (vals .entry)) g) (now (heads .entry)) (now (kids .entry)) S (r .head) (r .kids) (output owner i (getD (view (now (kinds .entry)) (now (vals .entry)) g .vals) p 0))) ⌝ }
 {
     let x = token_at(kinds, vals, g, p);
-    let known = member_of(kinds, vals, heads, kids, g, source(g.interface), 0, x.value);
+    let a = number_at(kinds, vals, g, g.interface, 1);
+    let b = number_at(kinds, vals, g, g.interface, 2);
+    let known = member_of(
+        kinds,
+        vals,
+        heads,
+        kids,
+        g,
+        source(g.interface),
+        a,
+        b,
+        0,
+        x.value,
+    );
     if let Found::At(y) = known {
         return y;
     }
@@ -56,7 +69,7 @@ fn output(kinds: &[u32], vals: &[u32], heads: &[u32], kids: &[u32], g: Origin, p
     source((kinds.len() + 1 + t * wide(g.size)) as u32)
 }
 
-// What the given interface has for a projection; its children have at most `fuel` levels.
+// What the given interface has for a projection with the counts n and m; its children have at most `fuel` levels.
 pub fn by_interface(
     kinds: &[u32],
     vals: &[u32],
@@ -64,14 +77,15 @@ pub fn by_interface(
     kids: &[u32],
     g: Origin,
     x: Content,
+    n: usize,
+    m: usize,
     fuel: usize,
 ) -> Found
     requires sight { ⌜ Sight (now kinds) (now vals) g ⌝ }
+    requires counts { ⌜ Counts (view (now kinds) (now vals) g) (x .head) n m ⌝ }
     requires low { ⌜ fuel < 4294967296 ⌝ }
     ensures { λ r. ⌜ ((S : ℕ → Bool) (t : Term) (i : Parts) (owner : Term) → Tree (view (now (kinds .entry)) (now (vals .entry)) g) (now (heads .entry)) (now (kids .entry)) S (x .head) (x .kids) t → tag t ≡ 18 → depth t ≤ fuel + 1 → HeldGiven (now (kinds .entry)) (now (vals .entry)) g i owner → Fetched (view (now (kinds .entry)) (now (vals .entry)) g) (now (heads .entry)) (now (kids .entry)) S (through i owner (row t)) r) ⌝ }
 {
-    let n = number_at(kinds, vals, g, x.head, 1);
-    let m = number_at(kinds, vals, g, x.head, 2);
     let argument = child_at(kinds, vals, heads, kids, g, x, 1 + n + m);
     if let Found::At(_) = argument {
         return Found::Nothing;

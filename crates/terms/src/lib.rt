@@ -40,9 +40,9 @@ pub use numbers::number_len;
 pub use numbers::read_number;
 pub use numbers::write_number;
 pub use questions::ask;
-pub use reader::nominal_at;
-pub use reader::term_at;
-pub use recover::recover_from;
+pub use reader::part_at;
+pub use recover::recovered_len;
+pub use recover::write_recovered;
 pub use rewrite::context;
 pub use rewrite::family;
 pub use rewrite::instantiation;
@@ -260,19 +260,14 @@ pub struct Rule {
     pub value: u32,
 }
 
-// What a visit gives: a content, how many records are used, and the visits left; or that the children are too many.
+// What a visit gives: a content, how many records are used, the visits left, and how many bytes the content has; or that the children are too many.
 pub struct Walked {
     pub head: u32,
     pub kids: u32,
     pub next: usize,
     pub visits: usize,
     pub over: bool,
-}
-
-// Bytes sized or written: the position behind them, or that there is no room.
-pub enum Shown {
-    Upto(usize),
-    Full,
+    pub size: usize,
 }
 
 // A normalised term: its content, the records used, its bytes, and what it was looked up by.

@@ -1,11 +1,12 @@
 // The lists of an order that are stored: entries, receivers and arguments. Each is kept whole, or nothing of it remains.
-use super::Fields;
 use super::Place;
 use super::Step;
 use super::keep::clear_rest;
 use super::keep::step_of;
 use super::read::read_term;
-use super::values::read_fields;
+use super::values::DEFINITION;
+use super::values::ORDINARY;
+use super::values::read_id;
 ghost use mathlib.Core.Path.{_≡_};
 ghost use Rattle.terms.specs.Tokens.{area};
 ghost use Rattle.terms.specs.Reading.{term};
@@ -13,7 +14,7 @@ ghost use Rattle.terms.specs.Done.{Room, RoomAfter, PartsDone};
 ghost use Rattle.terms.specs.Lent.{place, stepOf};
 ghost use Rattle.terms.specs.Rows.{entries, receivers, arguments, entryRow, receiverRow, argumentRow, keys, single, records, answerOf, keptOf};
 
-// Reads a record: the numbers that its fields say, and a term.
+// Reads a record: an owner and a position, where they are wanted, and a term.
 fn read_record(
     s: &[u8],
     kinds: &mut [u32],
@@ -24,14 +25,19 @@ fn read_record(
     limit: usize,
     levels: u32,
     issued: u64,
-    f: Fields,
+    first: bool,
+    second: bool,
 ) -> u8
     requires { ⌜ Room (now s) (place (now at) (now top) (now nodes) limit) ⌝ }
-    ensures { λ r. ⌜ PartsDone (now (s .entry)) (single (now (s .entry)) (term (now (s .entry)) issued levels) f (now (at .entry))) (place (now (at .entry)) (now (top .entry)) (now (nodes .entry)) limit) (area (now (kinds .entry)) (now (vals .entry))) (area (now (kinds .exit)) (now (vals .exit))) (stepOf r (now (at .exit)) (now (top .exit)) (now (nodes .exit)) limit) ⌝ }
+    ensures { λ r. ⌜ PartsDone (now (s .entry)) (single (now (s .entry)) (term (now (s .entry)) issued levels) (keys first second) (now (at .entry))) (place (now (at .entry)) (now (top .entry)) (now (nodes .entry)) limit) (area (now (kinds .entry)) (now (vals .entry))) (area (now (kinds .exit)) (now (vals .exit))) (stepOf r (now (at .exit)) (now (top .exit)) (now (nodes .exit)) limit) ⌝ }
 {
-    let a = read_fields(s, kinds, vals, at, top, *nodes, limit, f);
+    let a = read_id(s, kinds, vals, at, top, *nodes, limit, DEFINITION, first);
     if a != 0 {
         return a;
+    }
+    let b = read_id(s, kinds, vals, at, top, *nodes, limit, ORDINARY, second);
+    if b != 0 {
+        return b;
     }
     read_term(s, kinds, vals, at, top, nodes, limit, levels, issued)
 }
@@ -47,15 +53,28 @@ fn read_records(
     limit: usize,
     levels: u32,
     issued: u64,
-    f: Fields,
+    first: bool,
+    second: bool,
     count: u64,
 ) -> u8
     requires { ⌜ Room (now s) (place (now at) (now top) (now nodes) limit) ⌝ }
-    ensures { λ r. ⌜ PartsDone (now (s .entry)) (records (now (s .entry)) (term (now (s .entry)) issued levels) f count (now (at .entry))) (place (now (at .entry)) (now (top .entry)) (now (nodes .entry)) limit) (area (now (kinds .entry)) (now (vals .entry))) (area (now (kinds .exit)) (now (vals .exit))) (stepOf r (now (at .exit)) (now (top .exit)) (now (nodes .exit)) limit) ⌝ }
+    ensures { λ r. ⌜ PartsDone (now (s .entry)) (records (now (s .entry)) (term (now (s .entry)) issued levels) (keys first second) count (now (at .entry))) (place (now (at .entry)) (now (top .entry)) (now (nodes .entry)) limit) (area (now (kinds .entry)) (now (vals .entry))) (area (now (kinds .exit)) (now (vals .exit))) (stepOf r (now (at .exit)) (now (top .exit)) (now (nodes .exit)) limit) ⌝ }
 {
     let mut left = count;
     while 0 < left {
-        let r = read_record(s, kinds, vals, at, top, nodes, limit, levels, issued, f);
+        let r = read_record(
+            s,
+            kinds,
+            vals,
+            at,
+            top,
+            nodes,
+            limit,
+            levels,
+            issued,
+            first,
+            second,
+        );
         if r != 0 {
             return r;
         }
@@ -72,12 +91,13 @@ fn keep_records(
     p: Place,
     levels: u32,
     issued: u64,
-    f: Fields,
+    first: bool,
+    second: bool,
     count: u64,
 ) -> Step
     requires { ⌜ Room (now s) p ⌝ }
-    ensures answer { λ r. ⌜ r ≡ answerOf (λ ps. ps) p (records (now (s .entry)) (term (now (s .entry)) issued levels) f count (p .at)) ⌝ }
-    ensures areas { λ _. ⌜ area (now (kinds .exit)) (now (vals .exit)) ≡ keptOf (λ ps. ps) (now (s .entry)) p (records (now (s .entry)) (term (now (s .entry)) issued levels) f count (p .at)) (area (now (kinds .entry)) (now (vals .entry))) ⌝ }
+    ensures answer { λ r. ⌜ r ≡ answerOf (λ ps. ps) p (records (now (s .entry)) (term (now (s .entry)) issued levels) (keys first second) count (p .at)) ⌝ }
+    ensures areas { λ _. ⌜ area (now (kinds .exit)) (now (vals .exit)) ≡ keptOf (λ ps. ps) (now (s .entry)) p (records (now (s .entry)) (term (now (s .entry)) issued levels) (keys first second) count (p .at)) (area (now (kinds .entry)) (now (vals .entry))) ⌝ }
     ensures room { λ r. ⌜ RoomAfter (now (s .entry)) r ⌝ }
 {
     let mut at = p.at;
@@ -93,7 +113,8 @@ fn keep_records(
         p.limit,
         levels,
         issued,
-        f,
+        first,
+        second,
         count,
     );
     clear_rest(
@@ -103,18 +124,6 @@ fn keep_records(
         s.len() - p.at,
         step_of(r, at, top, nodes, p.limit),
     )
-}
-
-fn keys(first: bool, second: bool) -> Fields
-    ensures { λ r. ⌜ r ≡ keys first second ⌝ }
-{
-    Fields {
-        codes: 0,
-        first,
-        second,
-        counted: false,
-        terms: 0,
-    }
 }
 
 // Reads `count` entries of a substitution: each an owner, a position and a term.
@@ -132,7 +141,7 @@ pub fn keep_entries(
     ensures areas { λ _. ⌜ area (now (kinds .exit)) (now (vals .exit)) ≡ keptOf entryRow (now (s .entry)) p (entries (now (s .entry)) (term (now (s .entry)) issued levels) count (p .at)) (area (now (kinds .entry)) (now (vals .entry))) ⌝ }
     ensures room { λ r. ⌜ RoomAfter (now (s .entry)) r ⌝ }
 {
-    keep_records(s, kinds, vals, p, levels, issued, keys(true, true), count)
+    keep_records(s, kinds, vals, p, levels, issued, true, true, count)
 }
 
 // Reads `count` receivers of a substitution: each an owner and a term.
@@ -150,7 +159,7 @@ pub fn keep_receivers(
     ensures areas { λ _. ⌜ area (now (kinds .exit)) (now (vals .exit)) ≡ keptOf receiverRow (now (s .entry)) p (receivers (now (s .entry)) (term (now (s .entry)) issued levels) count (p .at)) (area (now (kinds .entry)) (now (vals .entry))) ⌝ }
     ensures room { λ r. ⌜ RoomAfter (now (s .entry)) r ⌝ }
 {
-    keep_records(s, kinds, vals, p, levels, issued, keys(true, false), count)
+    keep_records(s, kinds, vals, p, levels, issued, true, false, count)
 }
 
 // Reads `count` terms.
@@ -168,5 +177,5 @@ pub fn keep_terms(
     ensures areas { λ _. ⌜ area (now (kinds .exit)) (now (vals .exit)) ≡ keptOf argumentRow (now (s .entry)) p (arguments (now (s .entry)) (term (now (s .entry)) issued levels) count (p .at)) (area (now (kinds .entry)) (now (vals .entry))) ⌝ }
     ensures room { λ r. ⌜ RoomAfter (now (s .entry)) r ⌝ }
 {
-    keep_records(s, kinds, vals, p, levels, issued, keys(false, false), count)
+    keep_records(s, kinds, vals, p, levels, issued, false, false, count)
 }

@@ -3,7 +3,6 @@ use super::Content;
 use super::Normalised;
 use super::Origin;
 use super::Ready;
-use super::Shown;
 use super::Token;
 use super::rules::source;
 use super::runs::wide;
@@ -25,7 +24,7 @@ ghost use Rattle.terms.specs.Tokens.{area, blank};
 ghost use Rattle.terms.specs.Normal.{normalise, levels, visits, most};
 ghost use Rattle.terms.specs.Lookup.{Look, Pattern, lookBy, Looks, Ruled, HeldGiven, byPatterns, through};
 ghost use Rattle.terms.specs.Arena.{Room};
-ghost use Rattle.terms.specs.Normalising.{Zero, Lends, Stands, Sized, Answers, Leaves};
+ghost use Rattle.terms.specs.Normalising.{Zero, Lends, Stands, Sized, Fitted, Answers, Leaves};
 
 // Whether the term at p has a projection.
 fn has_projection(kinds: &[u32], vals: &[u32], p: u32) -> bool
@@ -65,16 +64,41 @@ fn size_up(
     ensures out { λ _. ⌜ now (out .exit) ≡ now (out .entry) ⌝ }
     ensures sized { λ r. ⌜ Sized (now (kinds .entry)) (now (vals .entry)) (now (heads .entry)) (now (kids .entry)) (now (heads .exit)) (now (kids .exit)) g x next fuel (now (out .entry)) at r ⌝ }
 {
-    let s = show_tree(kinds, vals, heads, kids, g, x, fuel, out, at, false);
-    let Shown::Upto(e) = s else {
+    let e = show_tree(kinds, vals, heads, kids, g, x, fuel, out, at, false);
+    if out.len() < e {
         clear_tokens(heads, kids, 0, next);
         return Normalised::Long;
-    };
+    }
     Normalised::Done(Ready {
         head: x.head,
         kids: x.kids,
         next,
         size: e - at,
+        given: g,
+    })
+}
+
+// Keeps a content of `size` bytes, whose records are `next`, where it fits from `at` on.
+fn fit_up(
+    heads: &mut [u32],
+    kids: &mut [u32],
+    g: Origin,
+    x: Content,
+    next: usize,
+    size: usize,
+    room: usize,
+) -> Normalised
+    ensures fitted { λ r. ⌜ Fitted (now (heads .entry)) (now (kids .entry)) (now (heads .exit)) (now (kids .exit)) g x next size room r ⌝ }
+{
+    if room < size {
+        clear_tokens(heads, kids, 0, next);
+        return Normalised::Long;
+    }
+    Normalised::Done(Ready {
+        head: x.head,
+        kids: x.kids,
+        next,
+        size,
         given: g,
     })
 }
@@ -95,7 +119,7 @@ fn run(
     at: usize,
 ) -> Normalised
     requires room { ⌜ Room (now kinds) (now vals) (now heads) (now kids) g 0 most ⌝ }
-    requires few { ⌜ (length (now rules) < 4294967296) × (levels < 4294967295) ⌝ }
+    requires few { ⌜ (length (now rules) < 4294967296) × (levels < 4294967295) × (visits < 134217728) ⌝ }
     requires zero { ⌜ Zero (now heads) most × Zero (now kids) most ⌝ }
     requires place { ⌜ at ≤ length (now out) ⌝ }
     ensures out { λ _. ⌜ now (out .exit) ≡ now (out .entry) ⌝ }
@@ -126,7 +150,7 @@ fn run(
         head: w.head,
         kids: w.kids,
     };
-    size_up(kinds, vals, heads, kids, g, x, w.next, levels + 1, out, at)
+    fit_up(heads, kids, g, x, w.next, w.size, out.len() - at)
 }
 
 // Depth 0 to 64; 8192 visits; refusal 9 for more children than these.
@@ -273,10 +297,10 @@ pub fn write_normalised(
         head: w.head,
         kids: w.kids,
     };
-    let s = show_tree(kinds, vals, heads, kids, g, x, LEVELS + 1, out, at, true);
+    let e = show_tree(kinds, vals, heads, kids, g, x, LEVELS + 1, out, at, true);
     clear_tokens(heads, kids, 0, w.next);
-    let Shown::Upto(e) = s else {
+    if out.len() < e {
         return at;
-    };
+    }
     e
 }

@@ -6,13 +6,9 @@ use super::Wanted;
 use super::keep::keep_nominal;
 use super::keep::keep_term;
 ghost use mathlib.Core.Path.{_≡_};
-ghost use Prim.Native.Nat.{_+_, _-_, _^_, _<_};
-ghost use lib.ListN.{length};
 ghost use Rattle.terms.specs.Tokens.{area};
-ghost use Rattle.terms.specs.Term.{size};
-ghost use Rattle.terms.specs.Reading.{term, bare};
-ghost use Rattle.terms.specs.Done.{Room, RoomAfter, answer, kept, contents};
-ghost use Rattle.terms.specs.Wanting.{Readable, WantedDone};
+ghost use Rattle.terms.specs.Done.{Room, RoomAfter, answer, kept};
+ghost use Rattle.terms.specs.Wanting.{Space, Readable, WantedDone, part, nodesOf};
 
 // Reads what is wanted at a position of the bytes.
 fn keep_wanted(s: &[u8], at: usize, kinds: &mut [u32], vals: &mut [u32], w: Wanted) -> Step
@@ -55,49 +51,21 @@ fn wanted_at(s: &[u8], at: usize, kinds: &mut [u32], vals: &mut [u32], w: Wanted
     next_wanted(reader_at(s, at), kinds, vals, w)
 }
 
-// Reads a term with `levels` levels left, whose variables are below `issued`.
-pub fn term_at(
+// Reads a term with `levels` levels left, whose variables are below `issued`; or a bare nominal, whose contents have as many left and which
+// stands under a head with the tag 20.
+pub fn part_at(
     s: &[u8],
     kinds: &mut [u32],
     vals: &mut [u32],
     p: Place,
-    levels: u32,
-    issued: u64,
-) -> Step
-    requires { ⌜ Room (now s) p ⌝ }
-    ensures answer { λ r. ⌜ r ≡ answer p (term (now (s .entry)) issued levels (p .at)) size ⌝ }
-    ensures areas { λ _. ⌜ area (now (kinds .exit)) (now (vals .exit)) ≡ kept (now (s .entry)) p (term (now (s .entry)) issued levels (p .at)) size (area (now (kinds .entry)) (now (vals .entry))) ⌝ }
-    ensures room { λ r. ⌜ RoomAfter (now (s .entry)) r ⌝ }
-{
-    wanted_at(
-        s,
-        p.at,
-        kinds,
-        vals,
-        Wanted {
-            bare: false,
-            top: p.top,
-            nodes: p.nodes,
-            limit: p.limit,
-            levels,
-            issued,
-        },
-    )
-}
-
-// Reads a bare nominal, whose contents have `levels` levels left; it stands under a head with the tag 20.
-pub fn nominal_at(
-    s: &[u8],
-    kinds: &mut [u32],
-    vals: &mut [u32],
-    p: Place,
+    bare: bool,
     levels: u32,
     issued: u64,
 ) -> Step
     requires room { ⌜ Room (now s) p ⌝ }
-    requires space { ⌜ p .top + 1 + (length (now s) - p .at) < 2 ^ 32 ⌝ }
-    ensures answer { λ r. ⌜ r ≡ answer p (bare (now (s .entry)) issued levels (p .at)) contents ⌝ }
-    ensures areas { λ _. ⌜ area (now (kinds .exit)) (now (vals .exit)) ≡ kept (now (s .entry)) p (bare (now (s .entry)) issued levels (p .at)) contents (area (now (kinds .entry)) (now (vals .entry))) ⌝ }
+    requires space { ⌜ Space bare (now s) p ⌝ }
+    ensures answer { λ r. ⌜ r ≡ answer p (part bare (now (s .entry)) issued levels (p .at)) (nodesOf bare) ⌝ }
+    ensures areas { λ _. ⌜ area (now (kinds .exit)) (now (vals .exit)) ≡ kept (now (s .entry)) p (part bare (now (s .entry)) issued levels (p .at)) (nodesOf bare) (area (now (kinds .entry)) (now (vals .entry))) ⌝ }
     ensures room { λ r. ⌜ RoomAfter (now (s .entry)) r ⌝ }
 {
     wanted_at(
@@ -106,7 +74,7 @@ pub fn nominal_at(
         kinds,
         vals,
         Wanted {
-            bare: true,
+            bare,
             top: p.top,
             nodes: p.nodes,
             limit: p.limit,

@@ -20,7 +20,7 @@ ghost use Rattle.terms.specs.Shape.{Shape, manyTerms, nominal, done};
 ghost use Rattle.terms.specs.Formed.{Formed, Fit};
 ghost use Rattle.terms.specs.Tree.{row};
 ghost use Rattle.terms.specs.Recovery.{recover-from, recover-row, reach, nominalReach};
-ghost use Rattle.terms.specs.Recovering.{putIf, Put, upto, alike, Paired, Parted};
+ghost use Rattle.terms.specs.Recovering.{Put, upto, alike, Paired, Parted};
 
 // The place behind n terms from i on, at most e.
 fn behind_terms(kinds: &[u32], vals: &[u32], i: usize, e: usize, n: u32) -> usize
@@ -229,8 +229,20 @@ fn recover_row(
     put_run(kinds, vals, i, pe - i, out, to)
 }
 
-// `recover_from` of the terms at a and b: returns the position after the answer, which is written where it fits and not at all where it does not.
-pub fn recover_from(
+// How many bytes `recover_from` of the terms at a and b has: where writing from 0 on ends, on an output of one byte.
+pub fn recovered_len(kinds: &[u32], vals: &[u32], a: usize, b: usize) -> usize
+    requires places { ⌜ (a < length (now kinds)) × (b < length (now kinds)) × (length (now vals) ≡ length (now kinds)) ⌝ }
+    requires room { ⌜ 12 * length (now kinds) < 2 ^ 64 ⌝ }
+    ensures { λ r. ⌜ ((t u : Term) → Held (now (kinds .entry)) (now (vals .entry)) a t → Held (now (kinds .entry)) (now (vals .entry)) b u → Formed t → Formed u → r ≡ length (bytes (recover-from t u))) ⌝ }
+{
+    let n = skip(kinds, vals, a, kinds.len() - a);
+    let m = skip(kinds, vals, b, kinds.len() - b);
+    let mut none = [0u8; 1];
+    recover_term(kinds, vals, a, a + n, b, b + m, &mut none, 0)
+}
+
+// Writes `recover_from` of the terms at a and b where it fits, and returns the position after it. Where it does not fit, a part may be written.
+pub fn write_recovered(
     kinds: &[u32],
     vals: &[u32],
     a: usize,
@@ -239,16 +251,10 @@ pub fn recover_from(
     at: usize,
 ) -> usize
     requires places { ⌜ (a < length (now kinds)) × (b < length (now kinds)) × (length (now vals) ≡ length (now kinds)) ⌝ }
-    requires room { ⌜ at + 12 * length (now kinds) + 1 < 2 ^ 64 ⌝ }
-    ensures next { λ r. ⌜ ((t u : Term) → Held (now (kinds .entry)) (now (vals .entry)) a t → Held (now (kinds .entry)) (now (vals .entry)) b u → Formed t → Formed u → r ≡ at + length (bytes (recover-from t u))) ⌝ }
-    ensures put { λ _. ⌜ ((t u : Term) → Held (now (kinds .entry)) (now (vals .entry)) a t → Held (now (kinds .entry)) (now (vals .entry)) b u → Formed t → Formed u → now (out .exit) ≡ putIf (now (out .entry)) at (bytes (recover-from t u))) ⌝ }
+    requires room { ⌜ at + 12 * length (now kinds) < 2 ^ 64 ⌝ }
+    ensures { λ r. ⌜ ((t u : Term) → Held (now (kinds .entry)) (now (vals .entry)) a t → Held (now (kinds .entry)) (now (vals .entry)) b u → Formed t → Formed u → Put (now (out .entry)) (now (out .exit)) at r (bytes (recover-from t u))) ⌝ }
 {
     let n = skip(kinds, vals, a, kinds.len() - a);
     let m = skip(kinds, vals, b, kinds.len() - b);
-    let mut none = [0u8; 1];
-    let size = recover_term(kinds, vals, a, a + n, b, b + m, &mut none, 1) - 1;
-    if at + size <= out.len() {
-        return recover_term(kinds, vals, a, a + n, b, b + m, out, at);
-    }
-    at + size
+    recover_term(kinds, vals, a, a + n, b, b + m, out, at)
 }

@@ -22,7 +22,7 @@ ghost use Rattle.terms.specs.Term.{Term, depths};
 ghost use Rattle.terms.specs.Tree.{row};
 ghost use Rattle.terms.specs.Lookup.{Pattern, ruleAt, ruleCount, byPatterns, Ruled};
 ghost use Rattle.terms.specs.Arena.{Tree, Cut, Fetched};
-ghost use Rattle.terms.specs.RuleSearch.{TermStarts, Numbers, Fronted};
+ghost use Rattle.terms.specs.RuleSearch.{TermStarts, Numbers, Fronted, Replaces, MemberIn};
 
 // A place past all tokens.
 const NOWHERE: usize = 4294967295;
@@ -133,7 +133,61 @@ fn same_front(
     two_numbers(kinds, vals, g, moved(x, q, j), rule.member, rule.count)
 }
 
-// The value of the first rule whose four parts equal those of a projection; its children have at most `fuel` levels.
+// Whether a row is the one that a rule replaces.
+fn same_left(
+    kinds: &[u32],
+    vals: &[u32],
+    heads: &[u32],
+    kids: &[u32],
+    g: Origin,
+    x: Cursor,
+    rule: Rule,
+    fuel: usize,
+) -> bool
+    requires sight { ⌜ Sight (now kinds) (now vals) g ⌝ }
+    requires cut { ⌜ Cut x ⌝ }
+    ensures { λ r. ⌜ Replaces (now (kinds .entry)) (now (vals .entry)) (view (now (kinds .entry)) (now (vals .entry)) g) (now (heads .entry)) (now (kids .entry)) x rule fuel r ⌝ }
+{
+    let mut m = same_front(kinds, vals, heads, kids, g, x, rule, fuel);
+    let mut a = wide(rule.arguments);
+    let mut left = rule.count;
+    loop {
+        let Met::Behind(p, i) = m else {
+            return false;
+        };
+        if left == 0 {
+            return x.end <= p;
+        }
+        let argument = term_cursor(kinds, vals, g, a);
+        m = same_rows(kinds, vals, heads, kids, g, moved(x, p, i), argument, fuel);
+        a = argument.end;
+        left -= 1;
+    }
+}
+
+// The last number but one of a row: of a projection's, its member.
+fn member_in(kinds: &[u32], vals: &[u32], g: Origin, x: Cursor) -> u32
+    requires sight { ⌜ Sight (now kinds) (now vals) g ⌝ }
+    requires cut { ⌜ Cut x ⌝ }
+    ensures { λ r. ⌜ MemberIn (view (now (kinds .entry)) (now (vals .entry)) g) x r ⌝ }
+{
+    let mut q = x.at;
+    let mut before = 0;
+    let mut last = 0;
+    while q < x.end {
+        let y = token_at(kinds, vals, g, q);
+        if y.kind == 0 {
+            before = last;
+            last = y.value;
+            q += 1;
+        } else {
+            q += step(y);
+        }
+    }
+    before
+}
+
+// The value of the first rule whose four parts equal those of a projection; its children have at most `fuel` levels. The member is compared first.
 pub fn find_rule(
     kinds: &[u32],
     vals: &[u32],
@@ -149,35 +203,17 @@ pub fn find_rule(
     ensures { λ r. ⌜ ((S : ℕ → Bool) (t : Term) (rs : List Pattern) → Tree (view (now (kinds .entry)) (now (vals .entry)) g) (now (heads .entry)) (now (kids .entry)) S (x .head) (x .kids) t → depths (row t) ≤ fuel → Ruled (now (kinds .entry)) (now (vals .entry)) (now (rules .entry)) 0 rs → Fetched (view (now (kinds .entry)) (now (vals .entry)) g) (now (heads .entry)) (now (kids .entry)) S (byPatterns rs (row t)) r) ⌝ }
 {
     let s = cursor(kinds, vals, g, x);
+    let member = member_in(kinds, vals, g, s);
     let count = rules.len() / 6;
-    let mut found = count;
     let mut r = 0;
-    'rules: while r < count {
+    while r < count {
         let rule = rule_at(rules, r);
-        let mut m = same_front(kinds, vals, heads, kids, g, s, rule, fuel);
-        let mut a = wide(rule.arguments);
-        let mut left = rule.count;
-        loop {
-            let Met::Behind(p, i) = m else {
-                break;
-            };
-            if left == 0 {
-                if s.end <= p {
-                    found = r;
-                    break 'rules;
-                }
-                break;
+        if rule.member == member {
+            if same_left(kinds, vals, heads, kids, g, s, rule, fuel) {
+                return Found::At(source(rule.value));
             }
-            let argument = term_cursor(kinds, vals, g, a);
-            m = same_rows(kinds, vals, heads, kids, g, moved(s, p, i), argument, fuel);
-            a = argument.end;
-            left -= 1;
         }
         r += 1;
     }
-    if found == count {
-        return Found::Nothing;
-    }
-    let rule = rule_at(rules, found);
-    Found::At(source(rule.value))
+    Found::Nothing
 }

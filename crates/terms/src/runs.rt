@@ -54,7 +54,7 @@ pub fn is_one(n: u32, a: u32, b: u32, c: u32) -> bool
 }
 
 // How many tokens a term has whose first token this is.
-fn span_of(k: u32, v: u32) -> usize
+pub fn span_of(k: u32, v: u32) -> usize
     ensures { λ r. ⌜ r ≡ span k v ⌝ }
 {
     if k < 2 {

@@ -73,10 +73,11 @@ pub fn read_value(
     let r = number_at(s, *at, most, least);
     match r {
         NumberRead::Value(v, next) => {
-            put_token(kinds, vals, nodes <= limit, *top, 0, v as u32);
+            let t = *top;
             *value = v;
             *at = next;
-            *top = *top + 1;
+            *top = t + 1;
+            put_token(kinds, vals, nodes <= limit, t, 0, v as u32);
             0
         }
         NumberRead::Refused(e) => e,
@@ -103,9 +104,10 @@ fn read_code(
     let r = code_at(s, *at, codes);
     match r {
         NumberRead::Value(v, next) => {
-            put_token(kinds, vals, nodes <= limit, *top, 0, v as u32);
+            let t = *top;
             *at = next;
-            *top = *top + 1;
+            *top = t + 1;
+            put_token(kinds, vals, nodes <= limit, t, 0, v as u32);
             0
         }
         NumberRead::Refused(e) => e,
@@ -113,7 +115,7 @@ fn read_code(
 }
 
 // Reads a number of at most `most` where one is wanted.
-fn read_id(
+pub fn read_id(
     s: &[u8],
     kinds: &mut [u32],
     vals: &mut [u32],
@@ -181,11 +183,12 @@ pub fn read_variable(
             if issued <= v {
                 return 6;
             }
+            let t = *top;
             let count = *nodes + 1;
-            put_token(kinds, vals, count <= limit, *top, 1, v as u32);
             *at = next;
-            *top = *top + 1;
+            *top = t + 1;
             *nodes = count;
+            put_token(kinds, vals, count <= limit, t, 1, v as u32);
             0
         }
         NumberRead::Refused(e) => e,

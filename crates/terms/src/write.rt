@@ -92,6 +92,10 @@ pub fn put_run(
     ensures put { λ _. ⌜ now (out .exit) ≡ putIf (now (out .entry)) at (spelt (now (kinds .entry)) (now (vals .entry)) from count) ⌝ }
     ensures bound { λ r. ⌜ (at ≤ r) × (r ≤ at + 6 * count) ⌝ }
 {
+    // A token has at most 6 bytes.
+    if at + 6 * count <= out.len() {
+        return write_run(kinds, vals, from, count, out, at);
+    }
     let n = run_len(kinds, vals, from, count);
     if at + n <= out.len() {
         return write_run(kinds, vals, from, count, out, at);

@@ -1,26 +1,25 @@
 -- `keep_part`: by the sort. Assumes nothing.
 use denote.Ref.{now}
+use mathlib.Core.Logic.{_⊎_, inl, inr, ⊎-elim}
+use Prim.Native.Nat.{_≤_, _<_}
 use Rattle.terms.specs.Tokens.{area}
 use Rattle.sheet.specs.Laid.{partOf}
-use Rattle.sheet.proofs.PartLaws.{room-of, space-of, term-part, nominal-part, entries-part, receivers-part, arguments-part, part-else}
+use Rattle.sheet.proofs.PartLaws.{room-of, space-of, either-part, entries-part, receivers-part, arguments-part, part-else}
 use borrow.Author.Needs.{needs}
 use Rattle.sheet.proofs.fields.keep_part.Statement.{statement}
 use Rattle.sheet.proofs.fields.keep_part.Tie as tie
 
-term-at-requires : tie.Need-term-at-requires
-term-at-requires c κs = room-of (now (c .before .before .before .before .before .before .args .s)) (c .before .before .before .before .before .before .args .p) (c .before .before .before .before .before .before .pre .0)
-
-nominal-at-requires : tie.Need-nominal-at-requires
-nominal-at-requires c κs = (room-of (now (c .before .before .before .before .before .before .args .s)) (c .before .before .before .before .before .before .args .p) (c .before .before .before .before .before .before .pre .0), space-of (now (c .before .before .before .before .before .before .args .s)) (c .before .before .before .before .before .before .args .p) (c .before .before .before .before .before .before .pre .0))
-
 keep-entries-requires : tie.Need-keep-entries-requires
 keep-entries-requires c κs = room-of (now (c .before .before .before .before .before .before .args .s)) (c .before .before .before .before .before .before .args .p) (c .before .before .before .before .before .before .pre .0)
 
-keep-receivers-requires : tie.Need-keep-receivers-requires
-keep-receivers-requires c κs = room-of (now (c .before .before .before .before .before .before .args .s)) (c .before .before .before .before .before .before .args .p) (c .before .before .before .before .before .before .pre .0)
-
 keep-terms-requires : tie.Need-keep-terms-requires
 keep-terms-requires c κs = room-of (now (c .before .before .before .before .before .before .args .s)) (c .before .before .before .before .before .before .args .p) (c .before .before .before .before .before .before .pre .0)
+
+part-at-requires : tie.Need-part-at-requires
+part-at-requires c κs = (room-of (now (c .before .before .before .before .before .before .before .before .args .s)) (c .before .before .before .before .before .before .before .before .args .p) (c .before .before .before .before .before .before .before .before .pre .0), λ _. space-of (now (c .before .before .before .before .before .before .before .before .args .s)) (c .before .before .before .before .before .before .before .before .args .p) (c .before .before .before .before .before .before .before .before .pre .0))
+
+keep-receivers-requires : tie.Need-keep-receivers-requires
+keep-receivers-requires c κs = room-of (now (c .before .before .before .before .before .before .before .args .s)) (c .before .before .before .before .before .before .before .args .p) (c .before .before .before .before .before .before .before .pre .0)
 
 same-length : tie.Need-same-length
 same-length c = search needs
@@ -32,8 +31,8 @@ returns : tie.Need-returns
 unfolding partOf
 returns c =
     let a = c .before .before .before .before .before .before .before .before .before .before .before .args in
-    let r = c .before .before .before .before .term-at in
-    λ ws. rw (c .before .before .before .before .before .before .before .match .keys1) (term-part (now (a .s)) ws (a .issued) (a .p) (area (a .kinds .now) (a .vals .now)) (area (r .last .1 .0) (r .last .1 .1 .0)) (c .before .before .before .before .before .before .before .before .before .before .before .pre .1) (a .count) (r .result) (r .ensures .1 .1) (r .ensures .0) (r .ensures .1 .0))
+    let r = c .before .before .before .before .keep-entries in
+    λ ws. rw (c .before .before .before .before .before .before .before .match .keys1) (entries-part (now (a .s)) ws (a .issued) (a .p) (area (a .kinds .now) (a .vals .now)) (area (r .last .1 .0) (r .last .1 .1 .0)) (c .before .before .before .before .before .before .before .before .before .before .before .pre .1) (a .count) (r .result) (r .ensures .1 .1) (r .ensures .0) (r .ensures .1 .0))
 
 same-length-3 : tie.Need-same-length-3
 same-length-3 c = search needs
@@ -45,8 +44,8 @@ returns-2 : tie.Need-returns-2
 unfolding partOf
 returns-2 c =
     let a = c .before .before .before .before .before .before .before .before .before .before .before .args in
-    let r = c .before .before .before .before .nominal-at in
-    λ ws. rw (c .before .before .before .before .before .before .before .match .keys2) (nominal-part (now (a .s)) ws (a .issued) (a .p) (area (a .kinds .now) (a .vals .now)) (area (r .last .1 .0) (r .last .1 .1 .0)) (c .before .before .before .before .before .before .before .before .before .before .before .pre .1) (a .count) (r .result) (r .ensures .1 .1) (r .ensures .0) (r .ensures .1 .0))
+    let r = c .before .before .before .before .keep-terms in
+    λ ws. rw (c .before .before .before .before .before .before .before .match .keys2) (arguments-part (now (a .s)) ws (a .issued) (a .p) (area (a .kinds .now) (a .vals .now)) (area (r .last .1 .0) (r .last .1 .1 .0)) (c .before .before .before .before .before .before .before .before .before .before .before .pre .1) (a .count) (r .result) (r .ensures .1 .1) (r .ensures .0) (r .ensures .1 .0))
 
 same-length-5 : tie.Need-same-length-5
 same-length-5 c = search needs
@@ -55,11 +54,10 @@ same-length-6 : tie.Need-same-length-6
 same-length-6 c = search needs
 
 returns-3 : tie.Need-returns-3
-unfolding partOf
 returns-3 c =
-    let a = c .before .before .before .before .before .before .before .before .before .before .before .args in
-    let r = c .before .before .before .before .keep-entries in
-    λ ws. rw (c .before .before .before .before .before .before .before .match .keys3) (entries-part (now (a .s)) ws (a .issued) (a .p) (area (a .kinds .now) (a .vals .now)) (area (r .last .1 .0) (r .last .1 .1 .0)) (c .before .before .before .before .before .before .before .before .before .before .before .pre .1) (a .count) (r .result) (r .ensures .1 .1) (r .ensures .0) (r .ensures .1 .0))
+    let a = c .before .before .before .before .before .before .before .before .before .before .before .before .before .args in
+    let r = c .before .before .before .before .part-at in
+    λ ws. either-part (now (a .s)) ws (a .issued) (a .p) (area (a .kinds .now) (a .vals .now)) (area (r .last .1 .0) (r .last .1 .1 .0)) (c .before .before .before .before .before .before .before .before .before .before .before .before .before .pre .1) (a .count) (r .result) (r .ensures .1 .1) (a .sort) (c .before .before .before .before .before .before .before .before .if1 .left) (c .before .before .before .before .before .before .before .if2 .taken) (r .ensures .0) (r .ensures .1 .0)
 
 same-length-7 : tie.Need-same-length-7
 same-length-7 c = search needs
@@ -68,36 +66,23 @@ same-length-8 : tie.Need-same-length-8
 same-length-8 c = search needs
 
 returns-4 : tie.Need-returns-4
-unfolding partOf
 returns-4 c =
-    let a = c .before .before .before .before .before .before .before .before .before .before .before .args in
+    let a = c .before .before .before .before .before .before .before .before .before .before .before .before .args in
     let r = c .before .before .before .before .keep-receivers in
-    λ ws. rw (c .before .before .before .before .before .before .before .match .keys4) (receivers-part (now (a .s)) ws (a .issued) (a .p) (area (a .kinds .now) (a .vals .now)) (area (r .last .1 .0) (r .last .1 .1 .0)) (c .before .before .before .before .before .before .before .before .before .before .before .pre .1) (a .count) (r .result) (r .ensures .1 .1) (r .ensures .0) (r .ensures .1 .0))
-
-same-length-9 : tie.Need-same-length-9
-same-length-9 c = search needs
-
-same-length-10 : tie.Need-same-length-10
-same-length-10 c = search needs
-
-returns-5 : tie.Need-returns-5
-returns-5 c =
-    let a = c .before .before .before .before .before .before .before .before .before .before .before .args in
-    let r = c .before .before .before .before .keep-terms in
-    let n = c .before .before .before .before .before .before .before .match .rest in
+    let n = c .before .before .before .before .before .before .before .before .match .rest in
+    let h : (a .sort < 4) ⊎ (6 ≤ a .sort) = ⊎-elim (λ v. inl (v .taken)) (λ v. inr (v .1 .left)) (c .before .before .before .before .before .before .before .if1 .came) in
     λ ws.
-    rw (part-else (now (a .s)) (a .issued) (a .sort) (a .count) (n .0 .0 .0 .1) (n .0 .0 .1) (n .0 .1) (n .1) (a .p .at))
-    (arguments-part (now (a .s)) ws (a .issued) (a .p) (area (a .kinds .now) (a .vals .now)) (area (r .last .1 .0) (r .last .1 .1 .0)) (c .before .before .before .before .before .before .before .before .before .before .before .pre .1) (a .count) (r .result) (r .ensures .1 .1) (r .ensures .0) (r .ensures .1 .0))
+    rw (part-else (now (a .s)) (a .issued) (a .sort) (a .count) h (n .0 .1) (n .1) (a .p .at))
+    (receivers-part (now (a .s)) ws (a .issued) (a .p) (area (a .kinds .now) (a .vals .now)) (area (r .last .1 .0) (r .last .1 .1 .0)) (c .before .before .before .before .before .before .before .before .before .before .before .before .pre .1) (a .count) (r .result) (r .ensures .1 .1) (r .ensures .0) (r .ensures .1 .0))
 
 pub keep-part-spec : {M : Type 1} → statement M
 keep-part-spec =
     tie.close
     (tie.spec
-    term-at-requires
-    nominal-at-requires
     keep-entries-requires
-    keep-receivers-requires
     keep-terms-requires
+    part-at-requires
+    keep-receivers-requires
     same-length
     same-length-2
     returns
@@ -109,7 +94,4 @@ keep-part-spec =
     returns-3
     same-length-7
     same-length-8
-    returns-4
-    same-length-9
-    same-length-10
-    returns-5)
+    returns-4)

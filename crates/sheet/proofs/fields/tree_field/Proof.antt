@@ -1,7 +1,9 @@
 -- `tree_field`: the spot of what is kept. Assumes nothing.
 use denote.Ref.{now}
+use Rattle.terms.specs.Lent.{place}
 use Rattle.terms.specs.Tokens.{area}
-use Rattle.sheet.proofs.PartLaws.{part-field}
+use Rattle.sheet.proofs.CodeLaws.{part-coded}
+use Rattle.sheet.proofs.PartLaws.{part-field, unread}
 use borrow.Author.Needs.{needs}
 use Rattle.sheet.proofs.fields.tree_field.Statement.{statement}
 use Rattle.sheet.proofs.fields.tree_field.Tie as tie
@@ -9,8 +11,11 @@ use Rattle.sheet.proofs.fields.tree_field.Tie as tie
 keep-part-requires : tie.Need-keep-part-requires
 keep-part-requires c κs = search needs
 
-spot-of-requires : tie.Need-spot-of-requires
-spot-of-requires c κs = search needs
+enum-known-r : tie.Need-enum-known-r
+enum-known-r c = search needs
+
+enum-known-r-2 : tie.Need-enum-known-r-2
+enum-known-r-2 c = search needs
 
 same-length : tie.Need-same-length
 same-length c = search needs
@@ -20,10 +25,32 @@ same-length-2 c = search needs
 
 returns : tie.Need-returns
 returns c =
-    let a = c .before .before .before .before .before .before .before .before .before .before .before .args in
-    let r = c .before .before .before .before .before .keep-part in
-    λ ws. rw (c .spot-of .ensures) (part-field (now (a .s)) ws (a .count) _ (a .p) (area (a .kinds .now) (a .vals .now)) (area (r .last .1 .0) (r .last .1 .1 .0)) (r .result) (r .ensures ws))
+    let a = c .before .before .before .before .before .before .before .before .before .before .before .before .before .before .before .before .args in
+    let k = c .before .before .before .before .before .before .before .keep-part in
+    λ ws. part-field (now (a .s)) ws (a .count) _ (place (now (a .at)) (now (a .top)) (now (a .nodes)) (a .limit)) (area (a .kinds .now) (a .vals .now)) (area (k .last .1 .0) (k .last .1 .1 .0)) _ (rw (c .before .r .given .1) at (k .ensures ws))
+
+same-length-3 : tie.Need-same-length-3
+same-length-3 c = search needs
+
+same-length-4 : tie.Need-same-length-4
+same-length-4 c = search needs
+
+returns-2 : tie.Need-returns-2
+returns-2 c =
+    let a = c .before .before .before .before .before .before .before .before .before .before .before .before .before .before .before .before .args in
+    let k = c .before .before .before .before .before .before .before .keep-part in
+    λ ws. unread (now (a .s)) ws _ (place (now (a .at)) (now (a .top)) (now (a .nodes)) (a .limit)) (area (a .kinds .now) (a .vals .now)) (area (k .last .1 .0) (k .last .1 .1 .0)) (part-coded (now (a .s)) (a .issued) (a .sort) (a .count) (now (a .at))) _ (now (a .value)) (now (a .start)) (now (a .end)) (now (a .at)) (now (a .top)) (now (a .nodes)) (a .limit) (rw (c .before .r2 .given .1) at (k .ensures ws))
 
 pub tree-field-spec : {M : Type 1} → statement M
 tree-field-spec =
-    tie.close (tie.spec keep-part-requires spot-of-requires same-length same-length-2 returns)
+    tie.close
+    (tie.spec
+    keep-part-requires
+    enum-known-r
+    enum-known-r-2
+    same-length
+    same-length-2
+    returns
+    same-length-3
+    same-length-4
+    returns-2)

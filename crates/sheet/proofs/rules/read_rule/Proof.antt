@@ -1,91 +1,199 @@
--- `read_rule`: the parts of a rule, and its words. Assumes nothing.
+-- `read_rule`: the parts of a rule, and its words. Invariant: what was read so far is stored, and the rest of the layout gives the rest (`Through`). Assumes nothing.
 use denote.Ref.{now}
-use mathlib.Core.Path.{ap, _∙_}
+use mathlib.Core.Path.{_≡_, refl, ap, _∙_}
 use mathlib.Core.List.{[]}
 use native.Mathlib.Omega.{arith}
-use Rattle.terms.specs.Tokens.{area}
-use Rattle.terms.proofs.Shortest.{octets}
+use lib.ListN.{length}
+use Rattle.terms.specs.Tokens.{Area, area}
+use Rattle.terms.specs.Lent.{place}
 use Rattle.terms.specs.declared.Rule.{Rule}
-use Rattle.sheet.specs.Laid.{putRule}
+use Rattle.terms.proofs.Shortest.{octets}
+use Rattle.terms.proofs.LentLaws.{stops}
+use Rattle.sheet.specs.Laid.{ruleSorts, Plains, putRule}
+use Rattle.sheet.proofs.StoredLaws.{stored-kinds, stored-vals}
+use Rattle.sheet.proofs.ThroughLaws.{Through, rule-start, through-index, plain-more, plain-stop, through-all, through-undo}
+use Rattle.sheet.proofs.PartLaws.{unreads}
 use Rattle.sheet.proofs.RuleReading.{rule-here, rule-refused}
 use borrow.Author.Needs.{needs}
 use Rattle.sheet.proofs.rules.read_rule.Statement.{statement}
 use Rattle.sheet.proofs.rules.read_rule.Tie as tie
 
-read-parts-requires : tie.Need-read-parts-requires
-read-parts-requires c κs = search needs
+abbrev Inv-loop : tie.InvT-loop
+Inv-loop s kinds₀ vals₀ rules at₀ top₀ nodes₀ limit r issued first rest₀ i₀ o₀ kinds vals at top nodes rest i o =
+    (x : Through s [] issued ruleSorts (place at₀ top₀ nodes₀ limit) (area kinds₀ vals₀) (area kinds vals) rest i o (place at top nodes limit)) × Plains (x .left)
 
-enum-known-a : tie.Need-enum-known-a
-enum-known-a c = search needs
+abbrev μ-loop : tie.MeasureT-loop
+μ-loop s kinds₀ vals₀ rules at₀ top₀ nodes₀ limit r issued first rest₀ i₀ o₀ kinds vals at top nodes rest i o = rest
 
-rule-of-requires : tie.Need-rule-of-requires
-rule-of-requires c κs =
-    let a = c .before .before .before .before .before .before .before .before .before .before .before .before .before .before .before .args in
+no-fields-requires : tie.Need-no-fields-requires Inv-loop μ-loop
+no-fields-requires c κs = search needs
+
+loop-holds : tie.Need-loop-holds Inv-loop μ-loop
+loop-holds c =
+    let a = c .before .before .before .before .before .before .args in
     let s = now (a .s) in
-    let oct = octets s (λ i. omega (arith, c .before .before .before .before .before .before .before .before .before .before .before .before .before .before .shared-slice-known .given i)) in
+    let p = place (now (a .at)) (now (a .top)) (now (a .nodes)) (a .limit) in
     let d = area (a .kinds .now) (a .vals .now) in
-    let m = c .before .before .before .before .before .before .before .before .read-parts in
-    let e = area (m .last .1 .0) (m .last .1 .1 .0) in
-    let y = rw (c .before .before .a .given .1) at (m .ensures) in
-    rule-here s [] oct (a .issued) (a .p) d e (c .before .before .before .before .before .before .before .before .before .before .before .before .before .before .before .pre .0) _ _ y .fits
+    rule-start s (a .issued) p d (c .before .before .before .before .before .before .pre .1 .0) (c .before .before .before .before .before .before .pre .0) (c .no-fields .result) (c .no-fields .ensures)
 
-put-rule-requires : tie.Need-put-rule-requires
-put-rule-requires c κs = c .before .before .before .before .before .before .before .before .before .before .before .before .before .before .before .before .pre .1 .1
+cast-read-plain : tie.Need-cast-read-plain Inv-loop μ-loop
+cast-read-plain c = omega arith
 
-enum-known-a-2 : tie.Need-enum-known-a-2
-enum-known-a-2 c = search needs
+read-plain-requires : tie.Need-read-plain-requires Inv-loop μ-loop
+read-plain-requires c κs =
+    let x = c .before .before .before .before .before .before .before .before .before .before .loop .inv .0 in
+    (x .ample, x .stored .free)
 
-same-length : tie.Need-same-length
-same-length c = search needs
+sub-clear-tokens : tie.Need-sub-clear-tokens Inv-loop μ-loop
+sub-clear-tokens c = omega (arith, c .before .before .before .before .before .before .before .before .before .before .before .before .before .before .before .before .before .before .loop .inv .0 .stored .tokens)
 
-same-length-2 : tie.Need-same-length-2
-same-length-2 c = search needs
+clear-tokens-requires : tie.Need-clear-tokens-requires Inv-loop μ-loop
+clear-tokens-requires c κs =
+    let x = c .before .before .before .before .before .before .before .before .before .before .before .before .before .before .before .before .before .before .loop .inv .0 in
+    omega (arith, x .stored .tokens, x .ample .tokens)
 
-same-length-3 : tie.Need-same-length-3
-same-length-3 c = search needs
+undone : (c : tie.After-slice-known7 Inv-loop μ-loop) → area (c .before .before .before .before .clear-tokens .last .0) (c .before .before .before .before .clear-tokens .last .1 .0) ≡ area (c .before .before .before .before .before .before .before .before .before .before .before .before .before .before .before .before .before .before .before .before .before .before .before .before .before .before .before .before .before .before .args .kinds .now) (c .before .before .before .before .before .before .before .before .before .before .before .before .before .before .before .before .before .before .before .before .before .before .before .before .before .before .before .before .before .before .args .vals .now)
+undone c =
+    let a = c .before .before .before .before .before .before .before .before .before .before .before .before .before .before .before .before .before .before .before .before .before .before .before .before .before .before .before .before .before .before .args in
+    let s = now (a .s) in
+    let p = place (now (a .at)) (now (a .top)) (now (a .nodes)) (a .limit) in
+    let d = area (a .kinds .now) (a .vals .now) in
+    let l = c .before .before .before .before .before .before .before .before .before .before .before .before .before .before .before .before .before .before .before .before .before .before .before .loop in
+    let q = place (l .at) (l .top) (l .nodes) (a .limit) in
+    let e = area (l .kinds) (l .vals) in
+    let m = c .before .before .before .before .before .before .before .before .before .before .before .before .read-plain in
+    let g = area (m .last .1 .0) (m .last .1 .1 .0) in
+    let y = rw (unreads (m .result) (m .last .1 .1 .1 .1 .1 .1 .1 .0) (m .last .1 .1 .1 .1 .1 .1 .1 .1 .0) (m .last .1 .1 .1 .1 .1 .1 .1 .1 .1 .0) (m .last .1 .1 .1 .0) (m .last .1 .1 .1 .1 .0) (m .last .1 .1 .1 .1 .1 .0) (a .limit) (c .before .before .before .before .before .before .before .if1 .taken)) at (m .ensures []) in
+    through-undo s [] (a .issued) ruleSorts p d e (l .rest) (l .i) (l .o) q (l .inv .0) g _ _ (c .before .before .before .before .before .before .before .before .before .before .before .before .before .before .before .before .before .before .before .before .before .before .before .before .before .before .before .before .before .before .pre .1 .0) (y .1) refl (c .before .before .before .before .clear-tokens .ensures)
 
-returns : tie.Need-returns
+same-length : tie.Need-same-length Inv-loop μ-loop
+same-length c = ap (λ (z : Area). length (z .kinds)) (undone c)
+
+same-length-2 : tie.Need-same-length-2 Inv-loop μ-loop
+same-length-2 c = ap (λ (z : Area). length (z .vals)) (undone c)
+
+returns : tie.Need-returns Inv-loop μ-loop
 returns c =
-    let a = c .before .before .before .before .before .before .before .before .before .before .before .before .before .before .before .before .before .before .before .args in
+    let a = c .before .before .before .before .before .before .before .before .before .before .before .before .before .before .before .before .before .before .before .before .before .before .before .before .before .before .before .before .before .before .args in
     let s = now (a .s) in
-    let oct = octets s (λ i. omega (arith, c .before .before .before .before .before .before .before .before .before .before .before .before .before .before .before .before .before .before .shared-slice-known .given i)) in
+    let p = place (now (a .at)) (now (a .top)) (now (a .nodes)) (a .limit) in
     let d = area (a .kinds .now) (a .vals .now) in
-    let m = c .before .before .before .before .before .before .before .before .before .before .before .before .read-parts in
-    let e = area (m .last .1 .0) (m .last .1 .1 .0) in
-    let y = rw (c .before .before .before .before .before .before .a .given .1) at (m .ensures) in
-    let x = rule-here s [] oct (a .issued) (a .p) d e (c .before .before .before .before .before .before .before .before .before .before .before .before .before .before .before .before .before .before .before .pre .0) _ _ y in
-    (x .rule, x .found, x .stored, x .inside, c .before .before .put-rule .ensures ∙ ap (λ (z : Rule). putRule (a .rules .now) (a .r) z) (c .before .before .before .rule-of .ensures ∙ x .words))
+    let oct = octets s (λ i. omega (arith, c .before .before .before .before .before .before .before .before .before .before .before .before .before .before .before .before .before .before .before .before .before .before .before .before .before .before .before .before .before .shared-slice-known .given i)) in
+    let l = c .before .before .before .before .before .before .before .before .before .before .before .before .before .before .before .before .before .before .before .before .before .before .before .loop in
+    let q = place (l .at) (l .top) (l .nodes) (a .limit) in
+    let e = area (l .kinds) (l .vals) in
+    let m = c .before .before .before .before .before .before .before .before .before .before .before .before .read-plain in
+    let g = area (m .last .1 .0) (m .last .1 .1 .0) in
+    let y = rw (unreads (m .result) (m .last .1 .1 .1 .1 .1 .1 .1 .0) (m .last .1 .1 .1 .1 .1 .1 .1 .1 .0) (m .last .1 .1 .1 .1 .1 .1 .1 .1 .1 .0) (m .last .1 .1 .1 .0) (m .last .1 .1 .1 .1 .0) (m .last .1 .1 .1 .1 .1 .0) (a .limit) (c .before .before .before .before .before .before .before .if1 .taken)) at (m .ensures []) in
+    rw (stops (m .result) (m .last .1 .1 .1 .0) (m .last .1 .1 .1 .1 .0) (m .last .1 .1 .1 .1 .1 .0) (a .limit) (c .before .before .before .before .before .before .before .if1 .taken)) (rule-refused s [] oct (a .issued) p d e (c .before .before .before .before .before .before .before .before .before .before .before .before .before .before .before .before .before .before .before .before .before .before .before .before .before .before .before .before .before .before .pre .0) _ (plain-stop s oct [] [] (a .issued) ruleSorts p d e (l .rest) (l .i) (l .o) q (l .inv .0) (c .before .before .before .before .before .before .before .before .before .before .before .before .before .before .before .before .before .before .before .before .before .before .loop-test .taken) (l .inv .1) _ g y), undone c)
 
-same-length-4 : tie.Need-same-length-4
-same-length-4 c = search needs
+put-spot-requires : tie.Need-put-spot-requires Inv-loop μ-loop
+put-spot-requires c κs = search needs
 
-same-length-5 : tie.Need-same-length-5
+add-i : tie.Need-add-i Inv-loop μ-loop
+add-i c =
+    let a = c .before .before .before .before .before .before .before .before .before .before .before .before .before .before .before .before .before .before .before .before .before .before .before .before .args in
+    let s = now (a .s) in
+    let p = place (now (a .at)) (now (a .top)) (now (a .nodes)) (a .limit) in
+    let d = area (a .kinds .now) (a .vals .now) in
+    let oct = octets s (λ i. omega (arith, c .before .before .before .before .before .before .before .before .before .before .before .before .before .before .before .before .before .before .before .before .before .before .before .shared-slice-known .given i)) in
+    let l = c .before .before .before .before .before .before .before .before .before .before .before .before .before .before .before .before .before .loop in
+    let q = place (l .at) (l .top) (l .nodes) (a .limit) in
+    let e = area (l .kinds) (l .vals) in
+    omega (arith, through-index s oct [] [] (a .issued) ruleSorts p d e (l .rest) (l .i) (l .o) q (l .inv .0) (c .before .before .before .before .before .before .before .before .before .before .before .before .before .before .before .before .loop-test .taken))
+
+loop-less : tie.Need-loop-less Inv-loop μ-loop
+loop-less c = omega (arith, c .before .before .before .before .before .before .before .before .before .before .before .before .before .before .before .before .loop-test .taken)
+
+loop-again : tie.Need-loop-again Inv-loop μ-loop
+loop-again c =
+    let a = c .before .before .before .before .before .before .before .before .before .before .before .before .before .before .before .before .before .before .before .before .before .before .before .before .args in
+    let s = now (a .s) in
+    let p = place (now (a .at)) (now (a .top)) (now (a .nodes)) (a .limit) in
+    let d = area (a .kinds .now) (a .vals .now) in
+    let oct = octets s (λ i. omega (arith, c .before .before .before .before .before .before .before .before .before .before .before .before .before .before .before .before .before .before .before .before .before .before .before .shared-slice-known .given i)) in
+    let l = c .before .before .before .before .before .before .before .before .before .before .before .before .before .before .before .before .before .loop in
+    let q = place (l .at) (l .top) (l .nodes) (a .limit) in
+    let e = area (l .kinds) (l .vals) in
+    let m = c .before .before .before .before .before .before .read-plain in
+    let g = area (m .last .1 .0) (m .last .1 .1 .0) in
+    rw (c .put-spot .ensures) (plain-more s oct [] [] (a .issued) ruleSorts p d e (l .rest) (l .i) (l .o) q (l .inv .0) (c .before .before .before .before .before .before .before .before .before .before .before .before .before .before .before .before .loop-test .taken) (l .inv .1) refl _ _ g (rw (c .before .if1 .left) at (m .ensures [])))
+
+rule-of-requires : tie.Need-rule-of-requires Inv-loop μ-loop
+rule-of-requires c κs =
+    let a = c .before .before .before .before .before .before .before .before .before .args in
+    let s = now (a .s) in
+    let p = place (now (a .at)) (now (a .top)) (now (a .nodes)) (a .limit) in
+    let d = area (a .kinds .now) (a .vals .now) in
+    let oct = octets s (λ i. omega (arith, c .before .before .before .before .before .before .before .before .shared-slice-known .given i)) in
+    let l = c .before .before .loop in
+    let q = place (l .at) (l .top) (l .nodes) (a .limit) in
+    let e = area (l .kinds) (l .vals) in
+    rule-here s [] oct (a .issued) p d e (c .before .before .before .before .before .before .before .before .before .pre .0) (l .o) q (through-all s [] (a .issued) ruleSorts p d e (l .rest) (l .i) (l .o) q (l .inv .0) (c .before .loop-test .left)) .fits
+
+put-rule-requires : tie.Need-put-rule-requires Inv-loop μ-loop
+put-rule-requires c κs = c .before .before .before .before .before .before .before .before .before .before .pre .1 .1
+
+same-length-3 : tie.Need-same-length-3 Inv-loop μ-loop
+same-length-3 c =
+    let a = c .before .before .before .before .before .before .before .before .before .before .before .before .before .args in
+    let s = now (a .s) in
+    let p = place (now (a .at)) (now (a .top)) (now (a .nodes)) (a .limit) in
+    let d = area (a .kinds .now) (a .vals .now) in
+    let l = c .before .before .before .before .before .before .loop in
+    let q = place (l .at) (l .top) (l .nodes) (a .limit) in
+    let e = area (l .kinds) (l .vals) in
+    stored-kinds p q d e _ _ (l .inv .0 .stored)
+
+same-length-4 : tie.Need-same-length-4 Inv-loop μ-loop
+same-length-4 c =
+    let a = c .before .before .before .before .before .before .before .before .before .before .before .before .before .args in
+    let s = now (a .s) in
+    let p = place (now (a .at)) (now (a .top)) (now (a .nodes)) (a .limit) in
+    let d = area (a .kinds .now) (a .vals .now) in
+    let l = c .before .before .before .before .before .before .loop in
+    let q = place (l .at) (l .top) (l .nodes) (a .limit) in
+    let e = area (l .kinds) (l .vals) in
+    stored-vals p q d e _ _ (l .inv .0 .stored)
+
+same-length-5 : tie.Need-same-length-5 Inv-loop μ-loop
 same-length-5 c = search needs
 
-returns-2 : tie.Need-returns-2
+returns-2 : tie.Need-returns-2 Inv-loop μ-loop
 returns-2 c =
-    let a = c .before .before .before .before .before .before .before .before .before .before .before .before .before .before .args in
+    let a = c .before .before .before .before .before .before .before .before .before .before .before .before .before .args in
     let s = now (a .s) in
-    let oct = octets s (λ i. omega (arith, c .before .before .before .before .before .before .before .before .before .before .before .before .before .shared-slice-known .given i)) in
+    let p = place (now (a .at)) (now (a .top)) (now (a .nodes)) (a .limit) in
     let d = area (a .kinds .now) (a .vals .now) in
-    let m = c .before .before .before .before .before .before .before .read-parts in
-    let e = area (m .last .1 .0) (m .last .1 .1 .0) in
-    let y = rw (c .before .a2 .given .1) at (m .ensures) in
-    (rule-refused s [] oct (a .issued) (a .p) d e (c .before .before .before .before .before .before .before .before .before .before .before .before .before .before .pre .0) _ y, y .1)
+    let oct = octets s (λ i. omega (arith, c .before .before .before .before .before .before .before .before .before .before .before .before .shared-slice-known .given i)) in
+    let l = c .before .before .before .before .before .before .loop in
+    let q = place (l .at) (l .top) (l .nodes) (a .limit) in
+    let e = area (l .kinds) (l .vals) in
+    let x = rule-here s [] oct (a .issued) p d e (c .before .before .before .before .before .before .before .before .before .before .before .before .before .pre .0) (l .o) q (through-all s [] (a .issued) ruleSorts p d e (l .rest) (l .i) (l .o) q (l .inv .0) (c .before .before .before .before .before .loop-test .left)) in
+    (x .rule, x .found, x .stored, x .inside, c .before .before .put-rule .ensures ∙ ap (λ (z : Rule). putRule (a .rules .now) (a .r) z) (c .before .before .before .rule-of .ensures ∙ x .words))
 
 pub read-rule-spec : {M : Type 1} → statement M
 read-rule-spec =
     tie.close
     (tie.spec
-    read-parts-requires
-    enum-known-a
-    rule-of-requires
-    put-rule-requires
-    enum-known-a-2
+    Inv-loop
+    μ-loop
+    no-fields-requires
+    loop-holds
+    cast-read-plain
+    read-plain-requires
+    sub-clear-tokens
+    clear-tokens-requires
     same-length
     same-length-2
-    same-length-3
     returns
+    put-spot-requires
+    add-i
+    loop-less
+    loop-again
+    rule-of-requires
+    put-rule-requires
+    same-length-3
     same-length-4
     same-length-5
     returns-2)

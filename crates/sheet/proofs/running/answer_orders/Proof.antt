@@ -64,7 +64,7 @@ same-length-5 c = c .before .before .before .before .before .loop .inv .4
 returns : tie.Need-returns Inv-loop μ-loop
 returns c =
     let e = c .closed .ensures in
-    rw (e .0, e .1, e .2) (ends-faulty _ _ _ _ _ _ _ _ _ _ _ _ _ (c .before .before .before .before .before .loop .inv .0) (c .before .before .before .before .loop-test .taken) (rw (c .before .enum-told .given .1) at (c .before .before .before .next-order .ensures)))
+    rw (e .0, e .1, e .2, e .3) (ends-faulty _ _ _ _ _ _ _ _ _ _ _ _ _ (c .before .before .before .before .before .loop .inv .0) (c .before .before .before .before .loop-test .taken) (rw (c .before .enum-told .given .1) at (c .before .before .before .next-order .ensures)))
 
 order-at-requires : tie.Need-order-at-requires Inv-loop μ-loop
 order-at-requires c κs = ahead (c .before) .inside
@@ -96,7 +96,7 @@ same-length-10 c = c .before .before .before .before .before .before .before .be
 returns-2 : tie.Need-returns-2 Inv-loop μ-loop
 returns-2 c =
     let e = c .closed2 .ensures in
-    rw (e .0, e .1, e .2)
+    rw (e .0, e .1, e .2, e .3)
     (ends-long _ _ _ _ _ _ _ _ _ _ _ _ _ (c .before .before .before .before .before .before .before .before .before .before .before .before .before .before .before .before .before .before .before .before .before .before .before .before .before .loop .inv .0) _ _ _ _ _ _ _ _ _ (c .before .before .before .before .before .before .before .before .before .before .before .before .before .serve-order .ensures) (c .before .before .before .before .before .before .before .before .before .before .before .before .before .before .before .before .before .before .before .before .before .before .before .before .loop-test .taken) (told (c .before .before .before .before .before .before .before .before .before .before .before .before .before .before .before .before .before .before .before))
     (omega (arith, c .before .if1 .taken, c .before .before .before .before .before .before .before .before .before .before .before .before .before .serve-order .kept .1 .1 .1 .1 .1 .1 .1 .0)))
 
@@ -137,7 +137,7 @@ same-length-15 c = c .before .before .loop .inv .4
 returns-3 : tie.Need-returns-3 Inv-loop μ-loop
 returns-3 c =
     let e = c .closed3 .ensures in
-    rw (e .0, e .1, e .2) (ends-used _ _ _ _ _ _ _ _ _ _ _ _ _ (c .before .before .loop .inv .0) (c .before .loop-test .left))
+    rw (e .0, e .1, e .2, e .3) (ends-used _ _ _ _ _ _ _ _ _ _ _ _ _ (c .before .before .loop .inv .0) (c .before .loop-test .left))
 
 pub answer-orders-spec : {M : Type 1} → statement M
 answer-orders-spec =

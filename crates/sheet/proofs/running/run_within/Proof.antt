@@ -1,6 +1,7 @@
 -- `run_within`: the run in the front of the areas, which are then cleared. Assumes nothing.
+use native.Mathlib.Omega.{arith}
 use denote.Ref.{now}
-use Rattle.sheet.proofs.EndingLaws.{front-cleared, ended-leaving}
+use Rattle.sheet.proofs.EndingLaws.{kinds-used, vals-used, table-used, work-used, front-cleared, ended-leaving}
 use borrow.Author.Needs.{needs}
 use Rattle.sheet.proofs.running.run_within.Statement.{statement}
 use Rattle.sheet.proofs.running.run_within.Tie as tie
@@ -32,17 +33,32 @@ slice-aggregate-run-in-4 c = search needs
 run-in-requires : tie.Need-run-in-requires
 run-in-requires c κs = search needs
 
-clear-requires : tie.Need-clear-requires
-clear-requires c κs = search needs
+clear-used-requires : tie.Need-clear-used-requires
+clear-used-requires c κs =
+    let x = c .before .before .before .before .before .before .before .before .before .before .before .before .before .before .before .before .before .before .before .before .before .before .before .args in
+    let r = c .before .before .before .before .before .before .before .before .before .before .before .run-in in
+    kinds-used (r .ensures) (x .words) (now (x .a)) (c .before .before .before .before .before .before .before .before .before .before .before .before .before .before .before .before .before .before .before .before .before .before .before .pre .0 .0) (r .kept .1 .1 .1 .1 .1 .0)
 
-clear-requires-2 : tie.Need-clear-requires-2
-clear-requires-2 c κs = search needs
+clear-used-requires-2 : tie.Need-clear-used-requires-2
+clear-used-requires-2 c κs =
+    let x = c .before .before .before .before .before .before .before .before .before .before .before .before .before .before .before .before .before .before .before .before .before .before .before .before .before .before .before .args in
+    let r = c .before .before .before .before .before .before .before .before .before .before .before .before .before .before .before .run-in in
+    vals-used (r .ensures) (x .words) (now (x .b)) (c .before .before .before .before .before .before .before .before .before .before .before .before .before .before .before .before .before .before .before .before .before .before .before .before .before .before .before .pre .0 .1) (r .kept .1 .1 .1 .1 .1 .1 .0)
 
-clear-requires-3 : tie.Need-clear-requires-3
-clear-requires-3 c κs = search needs
+mul-clear-used : tie.Need-mul-clear-used
+mul-clear-used c = omega (arith, c .before .before .before .before .before .before .before .before .before .before .before .before .before .before .before .before .before .before .before .before .before .before .before .before .before .before .before .before .before .before .before .pre .0 .4 .table, c .before .before .before .before .before .before .before .before .before .before .before .before .before .before .before .before .before .before .before .before .before .before .before .before .before .before .before .before .before .before .before .pre .0 .4 .few)
 
-clear-requires-4 : tie.Need-clear-requires-4
-clear-requires-4 c κs = search needs
+clear-used-requires-3 : tie.Need-clear-used-requires-3
+clear-used-requires-3 c κs =
+    let x = c .before .before .before .before .before .before .before .before .before .before .before .before .before .before .before .before .before .before .before .before .before .before .before .before .before .before .before .before .before .before .before .args in
+    let r = c .before .before .before .before .before .before .before .before .before .before .before .before .before .before .before .before .before .before .before .run-in in
+    table-used (r .ensures) (x .words) (now (x .c)) (c .before .before .before .before .before .before .before .before .before .before .before .before .before .before .before .before .before .before .before .before .before .before .before .before .before .before .before .before .before .before .before .pre .0 .2) (r .kept .1 .1 .1 .1 .1 .1 .1 .0) (omega (arith, c .before .before .before .before .before .before .before .before .before .before .before .before .before .before .before .before .before .before .before .before .before .before .before .before .before .before .before .before .before .before .before .pre .0 .4 .table))
+
+clear-used-requires-4 : tie.Need-clear-used-requires-4
+clear-used-requires-4 c κs =
+    let x = c .before .before .before .before .before .before .before .before .before .before .before .before .before .before .before .before .before .before .before .before .before .before .before .before .before .before .before .before .before .before .before .before .before .before .before .args in
+    let r = c .before .before .before .before .before .before .before .before .before .before .before .before .before .before .before .before .before .before .before .before .before .before .before .run-in in
+    work-used (r .ensures) (x .words) (now (x .d)) (c .before .before .before .before .before .before .before .before .before .before .before .before .before .before .before .before .before .before .before .before .before .before .before .before .before .before .before .before .before .before .before .before .before .before .before .pre .0 .3) (r .kept .1 .1 .1 .1 .1 .1 .1 .1 .0)
 
 same-length : tie.Need-same-length
 same-length c = search needs
@@ -61,14 +77,15 @@ same-length-5 c = search needs
 
 returns : tie.Need-returns
 returns c =
-    let k = c .before .before .before .before .before .before .before .before .before .before .before .before .before .before .before .before .before .before .before .before .before .before .before .before .before .before .run-in .kept .1 .1 .1 .1 .1 in
-    let l = c .before .before .before .before .before .before .before .before .before .before .before .before .before .before .before .before .before .before .before .before .before .before .before .before .before .before .run-in .last .1 .1 .1 .1 .1 in
-    let x = c .before .before .before .before .before .before .before .before .before .before .before .before .before .before .before .before .before .before .before .before .before .before .before .before .before .before .before .before .before .before .before .before .before .before .before .before .before .before .args in
-    ended-leaving _ _ _ _ _ _ _ _ _ _ _ _ (now (x .a)) (now (x .b)) (now (x .c)) (now (x .d)) _ _ _ _ (c .before .before .before .before .before .before .before .before .before .before .before .before .before .before .before .before .before .before .before .before .before .before .before .before .before .before .run-in .ensures)
-    (front-cleared (now (x .a)) (l .0) (c .before .before .before .before .before .before .before .before .before .before .before .before .before .before .clear .last .0) (x .words) (k .0) (c .before .before .before .before .before .before .before .before .before .before .before .before .before .before .clear .ensures))
-    (front-cleared (now (x .b)) (l .1 .0) (c .before .before .before .before .before .before .before .before .before .before .clear2 .last .0) (x .words) (k .1 .0) (c .before .before .before .before .before .before .before .before .before .before .clear2 .ensures))
-    (front-cleared (now (x .c)) (l .1 .1 .0) (c .before .before .before .before .before .before .clear3 .last .0) (x .words) (k .1 .1 .0) (c .before .before .before .before .before .before .clear3 .ensures))
-    (front-cleared (now (x .d)) (l .1 .1 .1 .0) (c .before .before .clear4 .last .0) (x .words) (k .1 .1 .1 .0) (c .before .before .clear4 .ensures))
+    let r = c .before .before .before .before .before .before .before .before .before .before .before .before .before .before .before .before .before .before .before .before .before .before .before .before .before .before .before .run-in in
+    let k = r .kept .1 .1 .1 .1 .1 in
+    let l = r .last .1 .1 .1 .1 .1 in
+    let x = c .before .before .before .before .before .before .before .before .before .before .before .before .before .before .before .before .before .before .before .before .before .before .before .before .before .before .before .before .before .before .before .before .before .before .before .before .before .before .before .args in
+    ended-leaving _ _ _ _ _ _ _ _ _ _ _ _ _ (now (x .a)) (now (x .b)) (now (x .c)) (now (x .d)) _ _ _ _ (r .ensures)
+    (front-cleared (now (x .a)) (l .0) (c .before .before .before .before .before .before .before .before .before .before .before .before .before .before .before .clear-used .last .0) (x .words) (k .0) (c .before .before .before .before .before .before .before .before .before .before .before .before .before .before .before .clear-used .ensures))
+    (front-cleared (now (x .b)) (l .1 .0) (c .before .before .before .before .before .before .before .before .before .before .before .clear-used2 .last .0) (x .words) (k .1 .0) (c .before .before .before .before .before .before .before .before .before .before .before .clear-used2 .ensures))
+    (front-cleared (now (x .c)) (l .1 .1 .0) (c .before .before .before .before .before .before .before .clear-used3 .last .0) (x .words) (k .1 .1 .0) (c .before .before .before .before .before .before .before .clear-used3 .ensures))
+    (front-cleared (now (x .d)) (l .1 .1 .1 .0) (c .before .before .before .clear-used4 .last .0) (x .words) (k .1 .1 .1 .0) (c .before .before .before .clear-used4 .ensures))
 
 pub run-within-spec : {M : Type 1} → statement M
 run-within-spec =
@@ -83,10 +100,11 @@ run-within-spec =
     slice-relend-prefix-run-in-4
     slice-aggregate-run-in-4
     run-in-requires
-    clear-requires
-    clear-requires-2
-    clear-requires-3
-    clear-requires-4
+    clear-used-requires
+    clear-used-requires-2
+    mul-clear-used
+    clear-used-requires-3
+    clear-used-requires-4
     same-length
     same-length-2
     same-length-3

@@ -1,5 +1,4 @@
 -- `read_field`: rules, or a plain field. Assumes nothing.
-use denote.Ref.{now}
 use mathlib.Core.Path.{refl}
 use Rattle.sheet.proofs.OrderLaws.{not-plain, sort-plain}
 use borrow.Author.Needs.{needs}
@@ -19,7 +18,7 @@ same-length-3 : tie.Need-same-length-3
 same-length-3 c = search needs
 
 returns : tie.Need-returns
-returns c = (rw (c .before .before .before .before .before .before .before .before .before .before .if1 .taken) (c .before .before .before .before .before .before .rules-field .ensures), not-plain (c .before .before .before .before .before .before .before .before .before .before .before .before .before .before .before .args .sort) (c .before .before .before .before .before .before .before .before .before .before .if1 .taken))
+returns c = (rw (c .before .before .before .before .before .before .before .before .before .before .before .before .before .before .before .before .if1 .taken) (c .before .before .before .before .before .before .rules-field .ensures), not-plain (c .before .before .before .before .before .before .before .before .before .before .before .before .before .before .before .before .before .before .before .before .before .args .sort) (c .before .before .before .before .before .before .before .before .before .before .before .before .before .before .before .before .if1 .taken))
 
 read-plain-requires : tie.Need-read-plain-requires
 read-plain-requires c κs = search needs
@@ -32,8 +31,8 @@ same-length-5 c = search needs
 
 returns-2 : tie.Need-returns-2
 returns-2 c =
-    let a = c .before .before .before .before .before .before .before .before .before .before .before .before .args in
-    (rw (sort-plain (a .sort) (c .before .before .before .before .before .before .before .if1 .left)) (c .before .before .before .before .read-plain .ensures (a .rules .now)), λ _. refl)
+    let a = c .before .before .before .before .before .before .before .before .before .before .before .before .before .before .before .before .before .before .args in
+    (rw (sort-plain (a .sort) (c .before .before .before .before .before .before .before .before .before .before .before .before .before .if1 .left)) (c .before .before .before .before .read-plain .ensures (a .rules .now)), λ _. refl)
 
 pub read-field-spec : {M : Type 1} → statement M
 read-field-spec =

@@ -1,10 +1,11 @@
--- `find_place`. Invariant: what is looked for is among the first v variables. Assumes nothing.
+-- `find_place`: none where no variable has the site. Invariant: what is looked for is among the first v variables. Assumes nothing.
 use denote.Ref.{now}
 use mathlib.Core.Path.{_≡_, refl, sym, _∙_}
 use Prim.Native.Nat.{_-_, _≤_}
 use native.Mathlib.Omega.{arith}
-use Rattle.solver.proofs.MethodLaws.{Last, search-hit, search-on, search-over, search-answer}
+use Rattle.solver.proofs.MethodLaws.{Last, search-hit, search-on, search-over, search-none, search-answer}
 use borrow.Author.Needs.{needs}
+use borrow.Author.Tests.{not-true}
 use Rattle.solver.proofs.variables.find_place.Statement.{statement}
 use Rattle.solver.proofs.variables.find_place.Tie as tie
 
@@ -13,6 +14,18 @@ Inv-loop tables m issued kind site slot v₀ v = (Last kind site slot m tables i
 
 abbrev μ-loop : tie.MeasureT-loop
 μ-loop tables m issued kind site slot v₀ v = v
+
+mul-has-word : tie.Need-mul-has-word Inv-loop μ-loop
+mul-has-word c = search needs
+
+has-word-requires : tie.Need-has-word-requires Inv-loop μ-loop
+has-word-requires c κs = search needs
+
+returns : tie.Need-returns Inv-loop μ-loop
+returns c =
+    let a = c .before .before .before .args in
+    let w = search-none (a .kind) (a .site) (a .slot) (a .m) (now (a .tables)) (a .issued) (a .issued) (omega arith) (c .before .has-word .ensures .1 (not-true _ (c .if1 .taken))) in
+    (w, search-answer (a .kind) (a .site) (a .slot) (a .m) (now (a .tables)) (a .issued) (a .issued) w)
 
 loop-holds : tie.Need-loop-holds Inv-loop μ-loop
 loop-holds c = (refl, omega arith)
@@ -59,13 +72,13 @@ shared-slice-read-i c = search needs
 is-place-requires : tie.Need-is-place-requires Inv-loop μ-loop
 is-place-requires c κs = search needs
 
-returns : tie.Need-returns Inv-loop μ-loop
-returns c =
-    let a = c .before .before .before .before .before .before .before .before .args in
-    let p = c .before .before .before .before .before .before .before .before .pre in
+returns-2 : tie.Need-returns-2 Inv-loop μ-loop
+returns-2 c =
+    let a = c .before .before .before .before .before .before .before .before .before .before .args in
+    let p = c .before .before .before .before .before .before .before .before .before .before .pre in
     let l = c .before .before .before .before .before .before .loop in
     let t = c .before .before .before .before .before .loop-test .taken in
-    let w = search-hit (a .kind) (a .site) (a .slot) (a .m) (now (a .tables)) (a .issued) (Last (a .kind) (a .site) (a .slot) (a .m) (now (a .tables)) (a .issued) (a .issued)) (l .v) (l .inv .0) (omega arith) (omega arith) (sym (c .before .is-place .ensures) ∙ c .if1 .taken) in
+    let w = search-hit (a .kind) (a .site) (a .slot) (a .m) (now (a .tables)) (a .issued) (Last (a .kind) (a .site) (a .slot) (a .m) (now (a .tables)) (a .issued) (a .issued)) (l .v) (l .inv .0) (omega arith) (omega arith) (sym (c .before .is-place .ensures) ∙ c .if2 .taken) in
     (w, search-answer (a .kind) (a .site) (a .slot) (a .m) (now (a .tables)) (a .issued) (l .v - 1) w)
 
 loop-less : tie.Need-loop-less Inv-loop μ-loop
@@ -73,15 +86,15 @@ loop-less c = search needs
 
 loop-again : tie.Need-loop-again Inv-loop μ-loop
 loop-again c =
-    let a = c .before .before .before .before .before .before .before .before .args in
-    let p = c .before .before .before .before .before .before .before .before .pre in
+    let a = c .before .before .before .before .before .before .before .before .before .before .args in
+    let p = c .before .before .before .before .before .before .before .before .before .before .pre in
     let l = c .before .before .before .before .before .before .loop in
     let t = c .before .before .before .before .before .loop-test .taken in
-    (search-on (a .kind) (a .site) (a .slot) (a .m) (now (a .tables)) (a .issued) (Last (a .kind) (a .site) (a .slot) (a .m) (now (a .tables)) (a .issued) (a .issued)) (l .v) (l .inv .0) (omega arith) (omega arith) (sym (c .before .is-place .ensures) ∙ c .if1 .left), omega arith)
+    (search-on (a .kind) (a .site) (a .slot) (a .m) (now (a .tables)) (a .issued) (Last (a .kind) (a .site) (a .slot) (a .m) (now (a .tables)) (a .issued) (a .issued)) (l .v) (l .inv .0) (omega arith) (omega arith) (sym (c .before .is-place .ensures) ∙ c .if2 .left), omega arith)
 
-returns-2 : tie.Need-returns-2 Inv-loop μ-loop
-returns-2 c =
-    let a = c .before .before .before .args in
+returns-3 : tie.Need-returns-3 Inv-loop μ-loop
+returns-3 c =
+    let a = c .before .before .before .before .before .args in
     let l = c .before .loop in
     let w = search-over (a .kind) (a .site) (a .slot) (a .m) (now (a .tables)) (a .issued) (Last (a .kind) (a .site) (a .slot) (a .m) (now (a .tables)) (a .issued) (a .issued)) (l .v) (l .inv .0) (omega arith) in
     (w, search-answer (a .kind) (a .site) (a .slot) (a .m) (now (a .tables)) (a .issued) (a .issued) w)
@@ -92,6 +105,9 @@ find-place-spec =
     (tie.spec
     Inv-loop
     μ-loop
+    mul-has-word
+    has-word-requires
+    returns
     loop-holds
     sub-v
     mul-k
@@ -107,7 +123,7 @@ find-place-spec =
     mul-i-2
     shared-slice-read-i
     is-place-requires
-    returns
+    returns-2
     loop-less
     loop-again
-    returns-2)
+    returns-3)

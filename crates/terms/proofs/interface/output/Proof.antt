@@ -7,6 +7,7 @@ use lib.ListN.{length, getD}
 use Rattle.terms.specs.Term.{Term, Parts}
 use Rattle.terms.specs.Normal.{memberFrom}
 use Rattle.terms.proofs.GivenLaws.{row-node, interface-tree, made-tree, made-fits, output-known, output-made}
+use Rattle.terms.proofs.OpenLaws.{counted}
 use borrow.Author.Needs.{needs}
 use Rattle.terms.proofs.interface.output.Statement.{statement}
 use Rattle.terms.proofs.interface.output.Tie as tie
@@ -14,20 +15,29 @@ use Rattle.terms.proofs.interface.output.Tie as tie
 token-at-requires : tie.Need-token-at-requires
 token-at-requires c κs = c .before .before .before .before .pre
 
+number-at-requires : tie.Need-number-at-requires
+number-at-requires c κs = c .before .before .before .before .before .pre
+
+number-at-requires-2 : tie.Need-number-at-requires-2
+number-at-requires-2 c κs = c .before .before .before .before .before .before .pre
+
 source-requires : tie.Need-source-requires
 source-requires c κs = search needs
 
 member-of-requires : tie.Need-member-of-requires
-member-of-requires c κs = (c .before .before .before .before .before .before .pre, omega arith)
+member-of-requires c κs = (
+  c .before .before .before .before .before .before .before .before .pre,
+  (rw (c .source .ensures .0) (counted _ _ _ _ (c .before .before .number-at .ensures) (c .before .number-at2 .ensures)), omega arith),
+)
 
 enum-known-known : tie.Need-enum-known-known
 enum-known-known c = search needs
 
 returns : tie.Need-returns
 returns c =
-    let start = c .before .before .before .before .before .before .before .before .before .before in
+    let start = c .before .before .before .before .before .before .before .before .before .before .before .before in
     let source′ = c .before .before .before .before .source in
-    let token-at′ = c .before .before .before .before .before .token-at in
+    let token-at′ = c .before .before .before .before .before .before .before .token-at in
     λ S i owner h k.
     let r = rw (c .before .known .given .1) at (c .before .before .before .member-of .ensures S _ (interface-tree (now (start .args .kinds)) (now (start .args .vals))
     (start .args .g) (start .pre) i owner h (now (start .args .heads)) (now (start .args .kids)) S _ _ (source′ .ensures .0) (source′ .ensures .1))) in
@@ -38,7 +48,7 @@ enum-told : tie.Need-enum-told
 enum-told c = search needs
 
 lent-place-requires : tie.Need-lent-place-requires
-lent-place-requires c κs = c .before .before .before .before .before .before .before .before .before .pre
+lent-place-requires c κs = c .before .before .before .before .before .before .before .before .before .before .before .pre
 
 add-source : tie.Need-add-source
 add-source c = search needs
@@ -48,19 +58,19 @@ wide-requires c κs = search needs
 
 mul-source : tie.Need-mul-source
 mul-source c =
-    let start = c .before .before .before .before .before .before .before .before .before .before .before in
+    let start = c .before .before .before .before .before .before .before .before .before .before .before .before .before in
     let f = made-fits (now (start .args .kinds)) (now (start .args .vals)) (start .args .g) (start .pre) (c .before .lent-place .result) _ (c .before .lent-place .ensures .within)
     (c .wide .ensures) in omega arith
 
 add-source-2 : tie.Need-add-source-2
 add-source-2 c =
-    let start = c .before .before .before .before .before .before .before .before .before .before .before in
+    let start = c .before .before .before .before .before .before .before .before .before .before .before .before .before in
     let f = made-fits (now (start .args .kinds)) (now (start .args .vals)) (start .args .g) (start .pre) (c .before .lent-place .result) _ (c .before .lent-place .ensures .within)
     (c .wide .ensures) in omega arith
 
 cast-source : tie.Need-cast-source
 cast-source c =
-    let start = c .before .before .before .before .before .before .before .before .before .before .before in
+    let start = c .before .before .before .before .before .before .before .before .before .before .before .before .before in
     let f = made-fits (now (start .args .kinds)) (now (start .args .vals)) (start .args .g) (start .pre) (c .before .lent-place .result) _ (c .before .lent-place .ensures .within)
     (c .wide .ensures) in omega arith
 
@@ -69,9 +79,9 @@ source-requires-2 c κs = search needs
 
 returns-2 : tie.Need-returns-2
 returns-2 c =
-    let start = c .before .before .before .before .before .before .before .before .before .before .before .before in
+    let start = c .before .before .before .before .before .before .before .before .before .before .before .before .before .before in
     let source′ = c .before .before .before .before .before .before .source in
-    let token-at′ = c .before .before .before .before .before .before .before .token-at in
+    let token-at′ = c .before .before .before .before .before .before .before .before .before .token-at in
     let lent-place′ = c .before .before .lent-place in
     λ S i owner h k.
     let r = rw (c .before .before .before .enum-told .given .1) at (c .before .before .before .before .before .member-of .ensures S _ (interface-tree (now
@@ -88,6 +98,8 @@ output-spec =
     tie.close
     (tie.spec
     token-at-requires
+    number-at-requires
+    number-at-requires-2
     source-requires
     member-of-requires
     enum-known-known

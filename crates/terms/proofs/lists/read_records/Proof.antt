@@ -5,7 +5,7 @@ use native.Mathlib.Omega.{arith}
 use Rattle.terms.specs.Tokens.{area}
 use Rattle.terms.specs.Lent.{place}
 use Rattle.terms.specs.Reading.{term}
-use Rattle.terms.specs.Rows.{records}
+use Rattle.terms.specs.Rows.{keys, records}
 use Rattle.terms.proofs.LentLaws.{stops}
 use Rattle.terms.proofs.WroteLaws.{room-next}
 use Rattle.terms.proofs.ReadLaws.{SoFar, so-far-start, kinds-length, vals-length}
@@ -14,10 +14,10 @@ use Rattle.terms.proofs.lists.read_records.Statement.{statement}
 use Rattle.terms.proofs.lists.read_records.Tie as tie
 
 abbrev Inv-loop : tie.InvT-loop
-Inv-loop s kinds₀ vals₀ at₀ top₀ nodes₀ limit levels issued f count left₀ kinds vals at top nodes left = SoFar s (records s (term s issued levels) f count at₀) (records s (term s issued levels) f left at) (place at₀ top₀ nodes₀ limit) (area kinds₀ vals₀) (area kinds vals) (place at top nodes limit)
+Inv-loop s kinds₀ vals₀ at₀ top₀ nodes₀ limit levels issued first second count left₀ kinds vals at top nodes left = SoFar s (records s (term s issued levels) (keys first second) count at₀) (records s (term s issued levels) (keys first second) left at) (place at₀ top₀ nodes₀ limit) (area kinds₀ vals₀) (area kinds vals) (place at top nodes limit)
 
 abbrev μ-loop : tie.MeasureT-loop
-μ-loop s kinds₀ vals₀ at₀ top₀ nodes₀ limit levels issued f count left₀ kinds vals at top nodes left = left
+μ-loop s kinds₀ vals₀ at₀ top₀ nodes₀ limit levels issued first second count left₀ kinds vals at top nodes left = left
 
 loop-holds : tie.Need-loop-holds Inv-loop μ-loop
 loop-holds c =
@@ -27,7 +27,7 @@ loop-holds c =
     let p = place (now (a .at)) (now (a .top)) (now (a .nodes)) l in
     let t = term s (a .issued) (a .levels) in
     let d = area (a .kinds .now) (a .vals .now) in
-    so-far-start s (records s t (a .f) (a .count) (now (a .at))) p d (c .before .before .before .pre .inside)
+    so-far-start s (records s t (keys (a .first) (a .second)) (a .count) (now (a .at))) p d (c .before .before .before .pre .inside)
 
 read-record-requires : tie.Need-read-record-requires Inv-loop μ-loop
 read-record-requires c κs =
@@ -73,9 +73,9 @@ returns c =
     let o = c .before .before .before .before .before .before .before .before .before .before .before .before .loop in
     let e = area (o .kinds) (o .vals) in
     let q = place (o .at) (o .top) (o .nodes) l in
-    let w = records s t (a .f) (a .count) (now (a .at)) in
+    let w = records s t (keys (a .first) (a .second)) (a .count) (now (a .at)) in
     let z = stops (read-record' .result) (read-record' .last .1 .1 .1 .0) (read-record' .last .1 .1 .1 .1 .0) (read-record' .last .1 .1 .1 .1 .1 .0) l (c .if1 .taken) in
-    rw z (records-stop s t (a .f) w p d e q (o .left) (c .before .before .before .before .before .before .before .before .before .before .before .loop-test .taken) (o .inv) (area (read-record' .last .1 .0) (read-record' .last .1 .1 .0)) (read-record' .result) (rw z at (read-record' .ensures)))
+    rw z (records-stop s t (keys (a .first) (a .second)) w p d e q (o .left) (c .before .before .before .before .before .before .before .before .before .before .before .loop-test .taken) (o .inv) (area (read-record' .last .1 .0) (read-record' .last .1 .1 .0)) (read-record' .result) (rw z at (read-record' .ensures)))
 
 sub-left : tie.Need-sub-left Inv-loop μ-loop
 sub-left c = search needs
@@ -95,8 +95,8 @@ loop-again c =
     let o = c .before .before .before .before .before .before .before .before .before .before .before .before .loop in
     let e = area (o .kinds) (o .vals) in
     let q = place (o .at) (o .top) (o .nodes) l in
-    let w = records s t (a .f) (a .count) (now (a .at)) in
-    records-more s t (a .f) w p d e q (o .left) (c .before .before .before .before .before .before .before .before .before .before .before .loop-test .taken) (o .inv) (area (read-record' .last .1 .0) (read-record' .last .1 .1 .0)) (place (read-record' .last .1 .1 .1 .0) (read-record' .last .1 .1 .1 .1 .0) (read-record' .last .1 .1 .1 .1 .1 .0) l) (rw (c .if1 .left) at (read-record' .ensures))
+    let w = records s t (keys (a .first) (a .second)) (a .count) (now (a .at)) in
+    records-more s t (keys (a .first) (a .second)) w p d e q (o .left) (c .before .before .before .before .before .before .before .before .before .before .before .loop-test .taken) (o .inv) (area (read-record' .last .1 .0) (read-record' .last .1 .1 .0)) (place (read-record' .last .1 .1 .1 .0) (read-record' .last .1 .1 .1 .1 .0) (read-record' .last .1 .1 .1 .1 .1 .0) l) (rw (c .if1 .left) at (read-record' .ensures))
 
 same-length-3 : tie.Need-same-length-3 Inv-loop μ-loop
 same-length-3 c =
@@ -131,8 +131,8 @@ returns-2 c =
     let o = c .before .loop in
     let e = area (o .kinds) (o .vals) in
     let q = place (o .at) (o .top) (o .nodes) l in
-    let w = records s t (a .f) (a .count) (now (a .at)) in
-    records-end s t (a .f) w p d e q (o .left) (c .loop-test .left) (o .inv)
+    let w = records s t (keys (a .first) (a .second)) (a .count) (now (a .at)) in
+    records-end s t (keys (a .first) (a .second)) w p d e q (o .left) (c .loop-test .left) (o .inv)
 
 pub read-records-spec : {M : Type 1} → statement M
 read-records-spec = tie.close (tie.spec Inv-loop μ-loop loop-holds read-record-requires same-length same-length-2 returns sub-left loop-less loop-again same-length-3 same-length-4 returns-2)

@@ -57,7 +57,7 @@ source-requires-2 c κs = search needs
 walk-requires : tie.Need-walk-requires
 walk-requires c κs =
     let start = c .before .before .before .before .before .before .before .before .before .before .before in
-    (start .pre .0, (start .pre .1 .0 .0, omega (arith, start .pre .1 .0 .1)))
+    (start .pre .0, (start .pre .1 .0 .0, (omega (arith, start .pre .1 .0 .1), start .pre .1 .0 .2)))
 
 clear-tokens-requires : tie.Need-clear-tokens-requires
 clear-tokens-requires c κs = omega (arith, c .before .before .before .before .before .before .before .before .before .before .before .before .before .before .before .before .before .before .before .pre .0 .small)
@@ -89,14 +89,11 @@ returns-2 c =
       ),
     )
 
-add-size-up : tie.Need-add-size-up
-add-size-up c = omega (arith, c .before .before .before .before .before .before .before .before .before .before .before .before .before .before .before .before .before .before .before .pre .1 .0 .1)
+sub-fit-up : tie.Need-sub-fit-up
+sub-fit-up c = c .before .before .before .before .before .before .before .before .before .before .before .before .before .before .before .before .before .before .before .pre .1 .1 .1
 
-size-up-requires-2 : tie.Need-size-up-requires-2
-size-up-requires-2 c κs =
-    let start = c .before .before .before .before .before .before .before .before .before .before .before .before .before .before .before .before .before .before .before .before
-    in
-    (start .pre .0 .sight, start .pre .1 .1 .1)
+fit-up-requires : tie.Need-fit-up-requires
+fit-up-requires c κs = search needs
 
 same-length-6 : tie.Need-same-length-6
 same-length-6 c = search needs
@@ -104,30 +101,27 @@ same-length-6 c = search needs
 same-length-7 : tie.Need-same-length-7
 same-length-7 c = search needs
 
-same-length-8 : tie.Need-same-length-8
-same-length-8 c = search needs
-
 returns-3 : tie.Need-returns-3
 returns-3 c =
-    let size-up2′ = c .before .before .before .before .before .before .size-up2 in
-    let start = c .before .before .before .before .before .before .before .before .before .before .before .before .before .before .before .before .before .before .before .before .before .before .before .before .before .before .before
+    let fit-up′ = c .before .before .before .before .fit-up in
+    let start = c .before .before .before .before .before .before .before .before .before .before .before .before .before .before .before .before .before .before .before .before .before .before .before .before
     in
-    let walk′ = c .before .before .before .before .before .before .before .before .before .before .before .before .before .before .before .walk in
-    let source2′ = c .before .before .before .before .before .before .before .before .before .before .before .before .before .before .before .before .source2
+    let walk′ = c .before .before .before .before .before .before .before .before .before .before .before .before .walk in
+    let source2′ = c .before .before .before .before .before .before .before .before .before .before .before .before .before .source2
     in (
-      size-up2′ .ensures .0,
+      refl,
       (
         walked-leaves (now (start .args .kinds)) (now (start .args .vals)) (start .args .g) (start .pre .0 .sight) (now (start .args .heads)) (now (start .args .kids))
             _ _ _ (now (start .args .out)) (start .args .at) (start .args .levels) (start .args .most) (now (start .args .rules)) _ _ _ (start .args .visits)
-            (walk′ .result) (walk′ .ensures .0) (walk′ .ensures .1) (start .pre .1 .1 .0 .0) (start .pre .1 .1 .0 .1) refl refl (size-up2′ .result) (size-up2′ .ensures .1),
+            (walk′ .result) (walk′ .ensures .0) (walk′ .ensures .1) (start .pre .1 .1 .0 .0) (start .pre .1 .1 .0 .1) refl refl (start .pre .1 .1 .1) (fit-up′ .result) (fit-up′ .ensures),
         λ t look h k.
             walked-answers (now (start .args .kinds)) (now (start .args .vals)) (start .args .g) (start .pre .0 .sight) (now (start .args .heads)) (now
             (start .args .kids)) _ _ _ (now (start .args .out)) (start .args .at) (start .args .levels) (start .args .most) (now (start .args .rules)) _ _
-            _ (start .args .visits) (walk′ .result) (walk′ .ensures .0) (walk′ .ensures .1) (start .pre .1 .1 .0 .0) (start .pre .1 .1 .0 .1) refl refl (c .before .before .before .before .before .before .before .before .before .before .if2 .left)
+            _ (start .args .visits) (walk′ .result) (walk′ .ensures .0) (walk′ .ensures .1) (start .pre .1 .1 .0 .0) (start .pre .1 .1 .0 .1) refl refl (start .pre .1 .1 .1) (c .before .before .before .before .before .before .before .if2 .left)
             _ (source2′ .ensures .0) (source2′ .ensures .1) t look _ h k
-            (normalise-walked (start .args .levels) (start .args .visits) (lookBy look) t (sym (c .before .before .before .before .before .before .before .before .before .before .before .before .before .before .before .before .before .before .before .before .has-projection .ensures
-            t h) ∙ not-false _ (c .before .before .before .before .before .before .before .before .before .before .before .before .before .before .before .before .before .before .before .if1 .left)))
-            (size-up2′ .result) (size-up2′ .ensures .1),
+            (normalise-walked (start .args .levels) (start .args .visits) (lookBy look) t (sym (c .before .before .before .before .before .before .before .before .before .before .before .before .before .before .before .before .before .has-projection .ensures
+            t h) ∙ not-false _ (c .before .before .before .before .before .before .before .before .before .before .before .before .before .before .before .before .if1 .left)))
+            (fit-up′ .result) (fit-up′ .ensures),
       ),
     )
 
@@ -148,9 +142,8 @@ run-spec =
     same-length-4
     same-length-5
     returns-2
-    add-size-up
-    size-up-requires-2
+    sub-fit-up
+    fit-up-requires
     same-length-6
     same-length-7
-    same-length-8
     returns-3)

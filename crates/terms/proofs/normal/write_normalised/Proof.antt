@@ -1,9 +1,5 @@
 -- `write_normalised`. Assumes nothing.
-use mathlib.Core.Path.{_≡_, refl, sym, ap, _∙_}
 use native.Mathlib.Omega.{arith}
-use denote.Ref.{now}
-use lib.ListN.{length}
-use Rattle.terms.proofs.NormalLaws.{blank-lengths}
 use borrow.Author.Needs.{needs}
 use Rattle.terms.proofs.normal.write_normalised.Statement.{statement}
 use Rattle.terms.proofs.normal.write_normalised.Tie as tie
@@ -17,12 +13,6 @@ show-tree-requires c κs = search needs
 clear-tokens-requires : tie.Need-clear-tokens-requires
 clear-tokens-requires c κs = search needs
 
-enum-known-s : tie.Need-enum-known-s
-enum-known-s c = search needs
-
-enum-told : tie.Need-enum-told
-enum-told c = search needs
-
 same-length : tie.Need-same-length
 same-length c = search needs
 
@@ -33,11 +23,11 @@ same-length-3 : tie.Need-same-length-3
 same-length-3 c = search needs
 
 returns : tie.Need-returns
-returns c = (
-  c .before .before .before .before .before .before .clear-tokens .ensures,
-  λ u s le. let z = rw (c .enum-told .given .1) at (c .before .before .before .before .before .before .before .before .before .before .before .show-tree .ensures .1
-      (s .marks) u (s .tree) (s .low)) in absurd (omega arith),
-)
+returns c =
+    let show-tree′ = c .before .before .before .before .before .before .before .before .before .before .show-tree in (
+      c .before .before .before .before .before .clear-tokens .ensures,
+      λ u s le. absurd (omega (arith, le, show-tree′ .ensures .1 (s .marks) u (s .tree) (s .low) .full (omega (arith, c .if1 .taken, show-tree′ .ensures .0 .long)))),
+    )
 
 same-length-4 : tie.Need-same-length-4
 same-length-4 c = search needs
@@ -49,11 +39,11 @@ same-length-6 : tie.Need-same-length-6
 same-length-6 c = search needs
 
 returns-2 : tie.Need-returns-2
-returns-2 c = (
-  c .before .before .before .before .before .before .before .clear-tokens .ensures,
-  λ u s le. let z = rw (c .before .s .given .1) at (c .before .before .before .before .before .before .before .before .before .before .before .before .show-tree .ensures .1
-      (s .marks) u (s .tree) (s .low)) in (z .0, z .2),
-)
+returns-2 c =
+    let show-tree′ = c .before .before .before .before .before .before .before .before .before .before .show-tree in (
+      c .before .before .before .before .before .clear-tokens .ensures,
+      λ u s le. show-tree′ .ensures .1 (s .marks) u (s .tree) (s .low) .fits (omega (arith, c .if1 .left, show-tree′ .ensures .0 .long)),
+    )
 
 pub write-normalised-spec : {M : Type 1} → statement M
 write-normalised-spec =
@@ -62,8 +52,6 @@ write-normalised-spec =
     add-show-tree
     show-tree-requires
     clear-tokens-requires
-    enum-known-s
-    enum-told
     same-length
     same-length-2
     same-length-3

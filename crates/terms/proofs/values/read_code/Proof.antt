@@ -26,6 +26,9 @@ code-at-requires c κs = search needs
 enum-known-r : tie.Need-enum-known-r
 enum-known-r c = search needs
 
+add-top : tie.Need-add-top
+add-top c = search needs
+
 cast-put-token : tie.Need-cast-put-token
 cast-put-token c =
     let a = c .before .before .before .before .before .before .before .before .before .before .before .before .args in
@@ -38,9 +41,6 @@ cast-put-token c =
 
 put-token-requires : tie.Need-put-token-requires
 put-token-requires c κs = search needs
-
-add-top : tie.Need-add-top
-add-top c = search needs
 
 enum-known-r-2 : tie.Need-enum-known-r-2
 enum-known-r-2 c = search needs
@@ -79,4 +79,4 @@ returns-3 c =
     rw (stops n (now (a .at)) (now (a .top)) (a .nodes) l (λ z. omega (arith, z, code-some s (a .codes) (now (a .at)) n g))) (coded-no s p d d (a .codes) n (c .before .before .before .before .before .if1 .left) g)
 
 pub read-code-spec : {M : Type 1} → statement M
-read-code-spec = tie.close (tie.spec returns code-at-requires enum-known-r cast-put-token put-token-requires add-top enum-known-r-2 same-length same-length-2 returns-2 returns-3)
+read-code-spec = tie.close (tie.spec returns code-at-requires enum-known-r add-top cast-put-token put-token-requires enum-known-r-2 same-length same-length-2 returns-2 returns-3)

@@ -18,6 +18,9 @@ number-at-requires c κs = search needs
 enum-known-r : tie.Need-enum-known-r
 enum-known-r c = search needs
 
+add-top : tie.Need-add-top
+add-top c = search needs
+
 cast-put-token : tie.Need-cast-put-token
 cast-put-token c =
     let a = c .before .before .before .before .before .before .before .before .before .before .before .args in
@@ -30,9 +33,6 @@ cast-put-token c =
 
 put-token-requires : tie.Need-put-token-requires
 put-token-requires c κs = search needs
-
-add-top : tie.Need-add-top
-add-top c = search needs
 
 enum-known-r-2 : tie.Need-enum-known-r-2
 enum-known-r-2 c = search needs
@@ -69,4 +69,4 @@ returns-2 c =
     rw (unvalued n (now (a .value)) (now (a .at)) (now (a .top)) (a .nodes) l (λ z. omega (arith, z, rising-some s (a .most) (a .least) (now (a .at)) n g))) (sym g, refl)
 
 pub read-value-spec : {M : Type 1} → statement M
-read-value-spec = tie.close (tie.spec number-at-requires enum-known-r cast-put-token put-token-requires add-top enum-known-r-2 same-length same-length-2 returns returns-2)
+read-value-spec = tie.close (tie.spec number-at-requires enum-known-r add-top cast-put-token put-token-requires enum-known-r-2 same-length same-length-2 returns returns-2)

@@ -1,21 +1,17 @@
 -- `show_tree`. As it stands in the source, or its first token and then its row. Assumes nothing.
-use Prim.Native.Nat.{_-_, _+_, _≤_, _<_}
-use mathlib.Core.Path.{_≡_, refl, sym, ap, _∙_}
-use mathlib.Core.List.{List}
+use mathlib.Core.Path.{sym, ap, _∙_}
 use denote.Ref.{now}
-use lib.ListN.{length, getD}
+use lib.ListN.{getD}
 use Rattle.terms.specs.Writing.{plain}
-use Rattle.terms.specs.Term.{Term, bytes, partBytes}
+use Rattle.terms.specs.Term.{bytes, partBytes}
 use Rattle.terms.specs.Tree.{row}
-use Rattle.terms.specs.Show.{Shows}
 use Rattle.terms.specs.View.{view}
 use Rattle.terms.proofs.AlikeLaws.{depth-some, depth-row}
-use Rattle.terms.proofs.ShowLaws.{tree-flat, tree-bytes, shows-first, shows-then, kept-full, kept-stop, kept-then}
+use Rattle.terms.proofs.ShowLaws.{tree-flat, tree-bytes, shows-first, shows-then, kept-at, kept-then}
 use borrow.Author.Needs.{needs}
 use native.Mathlib.Omega.{arith}
 use Prim.Native.Nat.{ℕ}
 use Rattle.terms.proofs.showing.+show_row+show_tree.Lts-show_tree as lts
-use Rattle.terms.proofs.showing.show_tree.Kinds as kinds
 use Rattle.terms.proofs.showing.show_row.Reads as show-row
 use Rattle.terms.proofs.showing.show_tree.Reads as show-tree
 use Rattle.terms.proofs.alike.cursor.Reads as cursor-reads
@@ -69,8 +65,11 @@ module _ (t : ℕ) where
             rw (← e) (show-run′ .ensures .1),
       )
 
+  add-result : lts.Need-add-result claims (show-tree-at t) show-tree.Post
+  add-result c = search needs
+
   returns-2 : lts.Need-returns-2 claims (show-tree-at t) show-tree.Post
-  returns-2 c = (kept-full _ _ _, λ S t w d. absurd (omega (arith, d (omega (arith, c .before .if1 .left)), depth-some t)))
+  returns-2 c = (kept-at _ _ _ _ (omega (arith, c .before .before .before .before .before .before .before .before .before .before .pre .1 .1)), λ S t w d. absurd (omega (arith, d (omega (arith, c .before .if1 .left)), depth-some t)))
 
   cursor-requires : lts.Need-cursor-requires claims (show-tree-at t) show-tree.Post
   cursor-requires c κs = c .before .before .before .before .before .before .before .before .before .before .pre .1 .0
@@ -78,76 +77,54 @@ module _ (t : ℕ) where
   show-token-requires : lts.Need-show-token-requires claims (show-tree-at t) show-tree.Post
   show-token-requires c κs = c .before .before .before .before .before .before .before .before .before .before .before .before .pre .1 .1
 
-  enum-known-s : lts.Need-enum-known-s claims (show-tree-at t) show-tree.Post
-  enum-known-s c = search needs
-
-  enum-told : lts.Need-enum-told claims (show-tree-at t) show-tree.Post
-  enum-told c = search needs
-
   same-length-2 : lts.Need-same-length-2 claims (show-tree-at t) show-tree.Post
-  same-length-2 c = c .before .before .before .before .show-token .ensures .0 .long
+  same-length-2 c = c .before .before .before .show-token .ensures .0 .long
 
   returns-3 : lts.Need-returns-3 claims (show-tree-at t) show-tree.Post
   returns-3 c =
-      let show-token′ = c .before .before .before .before .show-token in
-      let start = c .before .before .before .before .before .before .before .before .before .before .before .before .before .before .before .before .before
-      in
-      let token-at′ = c .before .before .before .before .before .before .before .before .before .before .token-at in
-      let wide′ = c .before .before .before .before .before .before .before .before .before .before .before .wide in (
-        kept-stop _ _ _ _ _ (show-token′ .ensures .0),
-        λ S t w d. shows-first (start .args .on) (now (start .args .out)) (show-token′ .last .0) (start .args .at) (plain (token-at′ .result .kind)
-            (token-at′ .result .value)) (partBytes (row t)) (bytes t) (start .pre .1 .1)
-            (tree-bytes (view (now (start .args .kinds)) (now (start .args .vals)) (start .args .g)) (now (start .args .heads)) (now (start .args .kids)) S
-            w (token-at′ .ensures .0 ∙ ap (λ (i : ℕ). getD ((view (now (start .args .kinds)) (now (start .args .vals)) (start .args .g)) .kinds) i 0) (wide′ .ensures))
-            (token-at′ .ensures .1 ∙ ap (λ (i : ℕ). getD ((view (now (start .args .kinds)) (now (start .args .vals)) (start .args .g)) .vals) i 0) (wide′ .ensures)))
-            (rw (c .enum-told .given .1) at (show-token′ .ensures .1)),
+      let start = c .before .before .before .before .before .before .before .before .before .before .before .before .before .before .before .before in
+      let a = start .args in
+      let show-token′ = c .before .before .before .show-token in
+      let token-at′ = c .before .before .before .before .before .before .before .before .before .token-at in
+      let wide′ = c .before .before .before .before .before .before .before .before .before .before .wide in (
+        show-token′ .ensures .0,
+        λ S t w d. shows-first (a .on) (now (a .out)) (show-token′ .last .0) (a .at) (plain (token-at′ .result .kind) (token-at′ .result .value)) (partBytes (row t)) (bytes t) (start .pre .1 .1)
+            (tree-bytes (view (now (a .kinds)) (now (a .vals)) (a .g)) (now (a .heads)) (now (a .kids)) S w
+            (token-at′ .ensures .0 ∙ ap (λ (i : ℕ). getD ((view (now (a .kinds)) (now (a .vals)) (a .g)) .kinds) i 0) (wide′ .ensures))
+            (token-at′ .ensures .1 ∙ ap (λ (i : ℕ). getD ((view (now (a .kinds)) (now (a .vals)) (a .g)) .vals) i 0) (wide′ .ensures)))
+            _ (show-token′ .ensures .0 .long) (show-token′ .ensures .1)
+            (omega (arith, c .if3 .taken, show-token′ .ensures .0 .long)),
       )
 
   sub-show-row : lts.Need-sub-show-row claims (show-tree-at t) show-tree.Post
-  sub-show-row c = omega (arith, c .before .before .before .before .before .before .before .before .if2 .left)
+  sub-show-row c = omega (arith, c .before .before .before .before .before .before .if2 .left)
 
   show-row-requires : lts.Need-show-row-requires claims (show-tree-at t) show-tree.Post
   show-row-requires c κs =
-      let start = c .before .before .before .before .before .before .before .before .before .before .before .before .before .before .before .before .before .before .before
-      in
-      let show-token′ = c .before .before .before .before .before .before .show-token in (
-        omega (arith, start .pre .0, c .before .before .before .before .before .before .before .before .before .if2 .left),
-        (
-          start .pre .1 .0,
-          (
-            c .before .before .before .before .before .before .before .before .cursor .ensures .cut,
-            omega (arith, show-token′ .ensures .0 .within _ (c .before .before .s .given .1) .1, show-token′ .ensures .0 .long),
-          ),
-        ),
-      )
+      let start = c .before .before .before .before .before .before .before .before .before .before .before .before .before .before .before .before .before in
+      (omega (arith, start .pre .0, c .before .before .before .before .before .before .before .if2 .left), (start .pre .1 .0, (c .before .before .before .before .before .before .cursor .ensures .cut, omega (arith, c .before .if3 .left))))
 
   same-length-3 : lts.Need-same-length-3 claims (show-tree-at t) show-tree.Post
-  same-length-3 c = c .before .before .show-row .ensures .0 .long ∙ c .before .before .before .before .before .before .before .before .before .show-token .ensures .0 .long
+  same-length-3 c = c .before .before .show-row .ensures .0 .long ∙ c .before .before .before .before .before .before .before .show-token .ensures .0 .long
 
   returns-4 : lts.Need-returns-4 claims (show-tree-at t) show-tree.Post
   returns-4 c =
-      let show-token′ = c .before .before .before .before .before .before .before .before .before .show-token in
-      let s′ = c .before .before .before .before .before .s in
+      let start = c .before .before .before .before .before .before .before .before .before .before .before .before .before .before .before .before .before .before .before .before in
+      let a = start .args in
+      let show-token′ = c .before .before .before .before .before .before .before .show-token in
       let show-row′ = c .before .before .show-row in
-      let start = c .before .before .before .before .before .before .before .before .before .before .before .before .before .before .before .before .before .before .before .before .before .before
-      in
-      let token-at′ = c .before .before .before .before .before .before .before .before .before .before .before .before .before .before .before .token-at in
-      let wide′ = c .before .before .before .before .before .before .before .before .before .before .before .before .before .before .before .before .wide in (
-        kept-then _ _ _ _ _ _ _ _ (show-token′ .ensures .0) (s′ .given .1) (show-row′ .ensures .0),
-        λ S t w d. shows-then (start .args .on) (now (start .args .out)) (show-token′ .last .0) (start .args .at) (plain (token-at′ .result .kind)
-            (token-at′ .result .value)) (partBytes (row t)) (bytes t) (start .pre .1 .1)
-            (tree-bytes (view (now (start .args .kinds)) (now (start .args .vals)) (start .args .g)) (now (start .args .heads)) (now (start .args .kids)) S
-            w (token-at′ .ensures .0 ∙ ap (λ (i : ℕ). getD ((view (now (start .args .kinds)) (now (start .args .vals)) (start .args .g)) .kinds) i 0) (wide′ .ensures))
-            (token-at′ .ensures .1 ∙ ap (λ (i : ℕ). getD ((view (now (start .args .kinds)) (now (start .args .vals)) (start .args .g)) .vals) i 0) (wide′ .ensures)))
-            _ (show-token′ .ensures .0 .long) (rw (s′ .given .1) at (show-token′ .ensures .1)) _ (show-row′ .result) (show-row′ .ensures .0 .long)
-            (show-row′ .ensures .1 S (row t) (c .before .before .before .before .before .before .before .before .before .before .before .cursor .ensures .is
-            (now (start .args .heads)) (now (start .args .kids)) S t w) (omega (
-              arith,
-              d (omega (arith, c .before .before .before .before .before .before .before .before .before .before .before .before .before .if1 .left)),
-              depth-row t,
-              c .before .before .before .before .before .before .before .before .before .before .before .before .if2 .left,
-            ))),
+      let token-at′ = c .before .before .before .before .before .before .before .before .before .before .before .before .before .token-at in
+      let wide′ = c .before .before .before .before .before .before .before .before .before .before .before .before .before .before .wide in (
+        kept-then _ _ _ _ _ _ _ (show-token′ .ensures .0) (show-row′ .ensures .0),
+        λ S t w d. shows-then (a .on) (now (a .out)) (show-token′ .last .0) (a .at) (plain (token-at′ .result .kind) (token-at′ .result .value)) (partBytes (row t)) (bytes t) (start .pre .1 .1)
+            (tree-bytes (view (now (a .kinds)) (now (a .vals)) (a .g)) (now (a .heads)) (now (a .kids)) S w
+            (token-at′ .ensures .0 ∙ ap (λ (i : ℕ). getD ((view (now (a .kinds)) (now (a .vals)) (a .g)) .kinds) i 0) (wide′ .ensures))
+            (token-at′ .ensures .1 ∙ ap (λ (i : ℕ). getD ((view (now (a .kinds)) (now (a .vals)) (a .g)) .vals) i 0) (wide′ .ensures)))
+            _ (show-token′ .ensures .0 .long) (show-token′ .ensures .1)
+            (omega (arith, c .before .before .before .before .if3 .left, show-token′ .ensures .0 .long)) _ (show-row′ .result) (show-row′ .ensures .0 .long)
+            (show-row′ .ensures .1 S (row t) (c .before .before .before .before .before .before .before .before .before .cursor .ensures .is (now (a .heads)) (now (a .kids)) S t w)
+            (omega (arith, d (omega (arith, c .before .before .before .before .before .before .before .before .before .before .before .if1 .left)), depth-row t, c .before .before .before .before .before .before .before .before .before .before .if2 .left))),
       )
 
   pub member : {M : Type 1} → lts.Closed claims (show-tree-at t) show-tree.Post M
-  member = lts.spec claims (show-tree-at t) show-tree.Post wide-requires token-at-requires wide-requires-2 step-requires show-run-requires same-length returns returns-2 cursor-requires show-token-requires enum-known-s enum-told same-length-2 returns-3 sub-show-row show-row-requires same-length-3 returns-4
+  member = lts.spec claims (show-tree-at t) show-tree.Post wide-requires token-at-requires wide-requires-2 step-requires show-run-requires same-length returns add-result returns-2 cursor-requires show-token-requires same-length-2 returns-3 sub-show-row show-row-requires same-length-3 returns-4
