@@ -147,7 +147,8 @@ fn variable_of(
     Reached { solver, next }
 }
 
-// The term at p with bound variables replaced, as the answer: at most `most` of them inside each other.
+// The term at p with bound variables replaced, as the answer: at most `most` of them inside each other. A walk that is over leaves the
+// frames 0; one that is left since the answer is too long does not.
 pub fn resolve_at(
     kinds: &[u32],
     vals: &[u32],
@@ -164,20 +165,16 @@ pub fn resolve_at(
     ensures term { λ r. ⌜ ((t : Term) (b : ℕ → Option Term) → Held (now (kinds .entry)) (now (vals .entry)) p t → HeldBindings (now (kinds .entry)) (now (vals .entry)) (now (bound .entry)) b → Framed (outcome (bytes (resolve most b t))) (now (out .entry)) to (now (out .exit)) r) ⌝ }
 {
     let limit = out.len();
-    let words = most + most;
     let size = resolved_len(kinds, vals, bound, most, frames, p, limit);
     if limit < size {
-        clear_words(frames, words);
+        clear_words(frames, most + most);
         return limit + 1;
     }
     let at = begin(out, to, size);
     if limit < at {
-        clear_words(frames, words);
         return at;
     }
-    let r = write_resolved(kinds, vals, bound, most, frames, p, out, at);
-    clear_words(frames, words);
-    r
+    write_resolved(kinds, vals, bound, most, frames, p, out, at)
 }
 
 // What a variable stands for, as the answer.

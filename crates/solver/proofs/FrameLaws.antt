@@ -12,7 +12,7 @@ use Rattle.terms.specs.Tokens.{Item, item, spell, one}
 use Rattle.terms.specs.Held.{span}
 use Rattle.terms.proofs.WriteLaws.{spell-step, spell-none}
 use Rattle.solver.specs.Walk.{runLen, inner, walk, Entered, walked}
-use Rattle.solver.specs.Frames.{pend, rest, left, Sound, Apart, Ready, Settled, Cleared, Answered}
+use Rattle.solver.specs.Frames.{pend, rest, left, Sound, Apart, Bare, Ready, Settled, Cleared, Answered}
 
 -- ---- what a cell names, and what takes a token's place
 
@@ -62,6 +62,10 @@ module _ {A : Type 0} (leaf : ℕ → ℕ → List A) (pre : List A) (ks vs bs :
       let m : suc n - 1 ≡ n = omega arith in
       rw (m, ← size (omega arith))
 
+-- the frame of the last of d waiting runs is 0
+abbrev popped : List ℕ → ℕ → List ℕ
+popped st d = set (set st (d - 1 + (d - 1)) 0) (d - 1 + (d - 1) + 1) 0
+
 module _ {A : Type 0} (f : ℕ → ℕ → ℕ → List A) (n : ℕ) (ks vs : List ℕ) where
   pend-above : (st : List ℕ) (i x d : ℕ) → d + d ≤ i → pend f n ks vs (set st i x) d ≡ pend f n ks vs st d
   unfolding pend
@@ -92,11 +96,13 @@ module _ {A : Type 0} (f : ℕ → ℕ → ℕ → List A) (n : ℕ) (ks vs : Li
       let m : suc d - 1 ≡ d = omega arith in
       rw m
 
+  -- the last run that waits is gone on with, and its frame is 0
   pub rest-pop : (st : List ℕ) (p e d : ℕ) → p ≡ e → 0 < d
-      → rest f n ks vs st p e d ≡ rest f n ks vs st (getD st (d - 1 + (d - 1)) 0) (getD st (d - 1 + (d - 1) + 1) 0) (d - 1)
+      → rest f n ks vs st p e d ≡ rest f n ks vs (popped st d) (getD st (d - 1 + (d - 1)) 0) (getD st (d - 1 + (d - 1) + 1) 0) (d - 1)
   unfolding rest
   rest-pop st p e d q h =
-      rw (spell-none (f (n - d)) ks vs p (e - p) (omega arith)) (pend-pop st d h)
+      let i = d - 1 + (d - 1) in
+      rw (spell-none (f (n - d)) ks vs p (e - p) (omega arith), pend-above (set st i 0) (i + 1) 0 (d - 1) (omega arith), pend-above st i 0 (d - 1) (omega arith)) (pend-pop st d h)
 
   pub rest-over : (st : List ℕ) (p e : ℕ) → e ≤ p → rest f n ks vs st p e 0 ≡ []
   unfolding rest pend
@@ -148,7 +154,7 @@ steps ks vs bs n st p e d = length (rest (walk tick enters ks vs bs) n ks vs st 
 
 module _ (ks vs bs : List ℕ) (n : ℕ) where
   pub steps-pop : (st : List ℕ) (p e d : ℕ) → p ≡ e → 0 < d
-      → steps ks vs bs n st (getD st (d - 1 + (d - 1)) 0) (getD st (d - 1 + (d - 1) + 1) 0) (d - 1) < steps ks vs bs n st p e d
+      → steps ks vs bs n (popped st d) (getD st (d - 1 + (d - 1)) 0) (getD st (d - 1 + (d - 1) + 1) 0) (d - 1) < steps ks vs bs n st p e d
   unfolding steps
   steps-pop st p e d q h = omega (arith, ap length (rest-pop (walk tick enters ks vs bs) n ks vs st p e d q h))
 
@@ -193,10 +199,23 @@ sound-push ks n st p e d at len s h r w =
         (s .frames j (omega (arith, q)))
 
 pub sound-pop : (ks : List ℕ) (n : ℕ) (st : List ℕ) (p e d : ℕ) → Sound ks n st p e d → 0 < d
-    → Sound ks n st (getD st (d - 1 + (d - 1)) 0) (getD st (d - 1 + (d - 1) + 1) 0) (d - 1)
+    → Sound ks n (popped st d) (getD st (d - 1 + (d - 1)) 0) (getD st (d - 1 + (d - 1) + 1) 0) (d - 1)
 sound-pop ks n st p e d s h =
+    let i = d - 1 + (d - 1) in
     let f = s .frames (d - 1) (omega arith) in
-    record { order = f .0; within = f .1; depth = omega (arith, s .depth); room = s .room; frames = λ j hj. s .frames j (omega arith) }
+    record {
+      order = f .0;
+      within = f .1;
+      depth = omega (arith, s .depth);
+      room = omega (arith, s .room, length-set st i 0, length-set (set st i 0) (i + 1) 0);
+      frames = λ j hj. rw (
+        getD-set-other (set st i 0) (i + 1) (j + j) 0 0 (omega arith),
+        getD-set-other st i (j + j) 0 0 (omega arith),
+        getD-set-other (set st i 0) (i + 1) (j + j + 1) 0 0 (omega arith),
+        getD-set-other st i (j + j + 1) 0 0 (omega arith),
+      )
+          (s .frames j (omega arith));
+    }
 
 pub sound-next : (ks : List ℕ) (n : ℕ) (st : List ℕ) (p e d : ℕ) → Sound ks n st p e d → p < e → Sound ks n st (p + 1) e d
 sound-next ks n st p e d s h = record { order = omega arith; within = s .within; depth = s .depth; room = s .room; frames = s .frames }
@@ -219,6 +238,19 @@ module _ (ks vs bs : List ℕ) (n : ℕ) where
 pub apart-push : (n : ℕ) (st₀ st : List ℕ) (d x y : ℕ) → Apart n st₀ st → d < n → Apart n st₀ (set (set st (d + d) x) (d + d + 1) y)
 apart-push n st₀ st d x y h r j m =
     getD-set-other (set st (d + d) x) (d + d + 1) j y 0 (omega arith) ∙ getD-set-other st (d + d) j x 0 (omega arith) ∙ h j m
+
+-- the frames past those of waiting runs are 0, after a push and a pop
+pub bare-push : (st : List ℕ) (d x y : ℕ) → Bare (d + d) st → Bare (d + 1 + (d + 1)) (set (set st (d + d) x) (d + d + 1) y)
+bare-push st d x y h j m =
+    getD-set-other (set st (d + d) x) (d + d + 1) j y 0 (omega arith) ∙ getD-set-other st (d + d) j x 0 (omega arith) ∙ h j (omega arith)
+
+pub bare-pop : (st : List ℕ) (d : ℕ) → 0 < d → d + d ≤ length st → Bare (d + d) st → Bare (d - 1 + (d - 1)) (popped st d)
+bare-pop st d z r h j m = go (ℕ-discrete j (d - 1 + (d - 1) + 1)) (ℕ-discrete j (d - 1 + (d - 1)))
+  where
+    go : Dec (j ≡ d - 1 + (d - 1) + 1) → Dec (j ≡ d - 1 + (d - 1)) → getD (popped st d) j 0 ≡ 0
+    go (yes q) _ = rw q (getD-set-same (set st (d - 1 + (d - 1)) 0) (d - 1 + (d - 1) + 1) 0 0 (omega (arith, length-set st (d - 1 + (d - 1)) 0)))
+    go (no q) (yes u) = getD-set-other (set st (d - 1 + (d - 1)) 0) (d - 1 + (d - 1) + 1) j 0 0 (omega (arith, q)) ∙ rw u (getD-set-same st (d - 1 + (d - 1)) 0 0 (omega arith))
+    go (no q) (no u) = getD-set-other (set st (d - 1 + (d - 1)) 0) (d - 1 + (d - 1) + 1) j 0 0 (omega (arith, q)) ∙ getD-set-other st (d - 1 + (d - 1)) j 0 0 (omega (arith, u)) ∙ h j (omega (arith, q, u))
 
 -- one more word cleared
 pub cleared-step : (i : ℕ) (st₀ st : List ℕ) → Cleared i st₀ st → i < length st → Cleared (i + 1) st₀ (set st i 0)

@@ -33,17 +33,23 @@ pub record Sound (ks : List ℕ) (n : ℕ) (st : List ℕ) (p e d : ℕ) : Type 
 abbrev pub Apart : ℕ → List ℕ → List ℕ → Type 0
 Apart n st₀ st = (j : ℕ) → n + n ≤ j → getD st j 0 ≡ getD st₀ j 0
 
--- what is left begins with the token at p, which stands for itself, or is over
+-- the words from n on are 0
+abbrev pub Bare : ℕ → List ℕ → Type 0
+Bare n st = (j : ℕ) → n ≤ j → getD st j 0 ≡ 0
+
+-- what is left begins with the token at p, which stands for itself, or is over, and then no run waits
 pub record Ready (ks vs bs : List ℕ) (n : ℕ) (st : List ℕ) (p e d : ℕ) : Type 0 where
   pub sound : Sound ks n st p e d
   pub head : p < e → left ks vs bs n st p e d ≡ item (getD ks p 0) (getD vs p 0) ∷ left ks vs bs n st (p + 1) e d
   pub over : e ≤ p → left ks vs bs n st p e d ≡ []
+  pub alone : e ≤ p → d ≡ 0
 
--- after `settle`: what is left is what was
+-- after `settle`: what is left is what was, and the frames past those of waiting runs are 0 where they were
 pub record Settled (ks vs bs : List ℕ) (n : ℕ) (st₀ : List ℕ) (p₀ e₀ d₀ : ℕ) (st : List ℕ) (p e d : ℕ) : Type 0 where
   pub ready : Ready ks vs bs n st p e d
   pub same : left ks vs bs n st p e d ≡ left ks vs bs n st₀ p₀ e₀ d₀
   pub apart : Apart n st₀ st
+  pub bare : Bare (d₀ + d₀) st₀ → Bare (d + d) st
 
 -- the words before n are 0, and no other has changed
 pub record Cleared (n : ℕ) (st₀ st : List ℕ) : Type 0 where

@@ -14,6 +14,7 @@ ghost use Rattle.solver.specs.Solving.{resolve};
 ghost use Rattle.solver.specs.Walk.{Named, Entered, walked, flatBytes, resolvedBytes};
 ghost use Rattle.solver.specs.Frames.{Sound, Settled, Apart, Cleared, Answered};
 ghost use Rattle.solver.specs.Bindings.{HeldBindings};
+ghost use Rattle.solver.specs.Work.{Zero};
 
 fn wide(x: u32) -> usize
     ensures { λ r. ⌜ r ≡ x ⌝ }
@@ -62,7 +63,7 @@ pub fn enter(kinds: &[u32], vals: &[u32], bound: &[u32], p: usize, left: usize) 
 }
 
 // Goes from a place to the next token that stands for itself, into bound variables and out of runs that are over; at == end says that
-// the walk is over.
+// the walk is over. A frame that it comes out of is 0 again, so that the frames of a walk that is over all are.
 pub fn settle(
     kinds: &[u32],
     vals: &[u32],
@@ -84,6 +85,8 @@ pub fn settle(
             let i = c.depth + c.depth;
             c.at = wide(frames[i]);
             c.end = wide(frames[i + 1]);
+            frames[i] = 0;
+            frames[i + 1] = 0;
         } else {
             let r = enter(kinds, vals, bound, c.at, most - c.depth);
             if r.len == 0 {
@@ -153,6 +156,7 @@ pub fn walked_len(
     requires room { ⌜ limit < 2 ^ 32 ⌝ }
     ensures len { λ r. ⌜ r ≡ min (limit + 1) (length (flatBytes (walked (now (kinds .entry)) (now (vals .entry)) (now (bound .entry)) most (run .at) (run .len)))) ⌝ }
     ensures apart { λ _. ⌜ Apart most (now (frames .entry)) (now (frames .exit)) ⌝ }
+    ensures bare { λ r. ⌜ (Zero (now (frames .entry)) → r ≤ limit → Zero (now (frames .exit))) ⌝ }
 {
     let mut c = begin(kinds, vals, bound, most, frames, run);
     let mut n = 0;
@@ -182,6 +186,7 @@ pub fn write_walked(
     ensures next { λ r. ⌜ r ≡ to + length (flatBytes (walked (now (kinds .entry)) (now (vals .entry)) (now (bound .entry)) most (run .at) (run .len))) ⌝ }
     ensures wrote { λ _. ⌜ now (out .exit) ≡ sets (now (out .entry)) to (flatBytes (walked (now (kinds .entry)) (now (vals .entry)) (now (bound .entry)) most (run .at) (run .len))) ⌝ }
     ensures apart { λ _. ⌜ Apart most (now (frames .entry)) (now (frames .exit)) ⌝ }
+    ensures bare { λ _. ⌜ (Zero (now (frames .entry)) → Zero (now (frames .exit))) ⌝ }
 {
     let mut c = begin(kinds, vals, bound, most, frames, run);
     let mut i = to;
@@ -207,6 +212,7 @@ pub fn resolved_len(
     ensures len { λ r. ⌜ r ≡ min (limit + 1) (length (resolvedBytes (now (kinds .entry)) (now (vals .entry)) (now (bound .entry)) most p)) ⌝ }
     ensures term { λ r. ⌜ ((t : Term) (b : ℕ → Option Term) → Held (now (kinds .entry)) (now (vals .entry)) p t → HeldBindings (now (kinds .entry)) (now (vals .entry)) (now (bound .entry)) b → r ≡ min (limit + 1) (length (bytes (resolve most b t)))) ⌝ }
     ensures apart { λ _. ⌜ Apart most (now (frames .entry)) (now (frames .exit)) ⌝ }
+    ensures bare { λ r. ⌜ (Zero (now (frames .entry)) → r ≤ limit → Zero (now (frames .exit))) ⌝ }
 {
     let run = named_run(kinds, vals, p + 1);
     walked_len(kinds, vals, bound, most, frames, run, limit)
@@ -229,6 +235,7 @@ pub fn write_resolved(
     ensures wrote { λ _. ⌜ now (out .exit) ≡ sets (now (out .entry)) to (resolvedBytes (now (kinds .entry)) (now (vals .entry)) (now (bound .entry)) most p) ⌝ }
     ensures term { λ r. ⌜ ((t : Term) (b : ℕ → Option Term) → Held (now (kinds .entry)) (now (vals .entry)) p t → HeldBindings (now (kinds .entry)) (now (vals .entry)) (now (bound .entry)) b → (r ≡ to + length (bytes (resolve most b t))) × (now (out .exit) ≡ sets (now (out .entry)) to (bytes (resolve most b t)))) ⌝ }
     ensures apart { λ _. ⌜ Apart most (now (frames .entry)) (now (frames .exit)) ⌝ }
+    ensures bare { λ _. ⌜ (Zero (now (frames .entry)) → Zero (now (frames .exit))) ⌝ }
 {
     let run = named_run(kinds, vals, p + 1);
     write_walked(kinds, vals, bound, most, frames, run, out, to)

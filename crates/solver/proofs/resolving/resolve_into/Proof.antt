@@ -34,7 +34,7 @@ returns c =
       answered-long _ (a .to) (now (a .out)) _ (n .0) w g,
       (
         λ t b h q. answered-long _ (a .to) (now (a .out)) _ (n .1 .0 t b h q) w g,
-        cleared-after (a .most) (now (a .frames)) _ _ (n .1 .1) (c .before .before .clear-words .ensures),
+        cleared-after (a .most) (now (a .frames)) _ _ (n .1 .1 .0) (c .before .before .clear-words .ensures),
       ),
     )
 
@@ -66,7 +66,7 @@ returns-2 c =
       answered-fits _ (a .to) (now (a .out)) _ (n .0) w (omega (arith, g)) _ _ (e .0) (e .1 .0),
       (
         λ t b h q. answered-fits _ (a .to) (now (a .out)) _ (n .1 .0 t b h q) w (omega (arith, g)) _ _ (e .1 .1 .0 t b h q .0) (e .1 .1 .0 t b h q .1),
-        cleared-after (a .most) (now (a .frames)) _ _ (λ j m. e .1 .1 .1 j m ∙ n .1 .1 j m) (c .before .before .clear-words2 .ensures),
+        cleared-after (a .most) (now (a .frames)) _ _ (λ j m. e .1 .1 .1 .0 j m ∙ n .1 .1 .0 j m) (c .before .before .clear-words2 .ensures),
       ),
     )
 

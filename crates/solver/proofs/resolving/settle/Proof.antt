@@ -1,14 +1,15 @@
--- `settle`. Invariant: the place is sound and what is left of the walk is what was left at the start. Measure: `steps`. Assumes nothing.
+-- `settle`. Invariant: the place is sound, what is left of the walk is what was left at the start, and the frames past those
+-- of waiting runs are 0 where they were. Measure: `steps`. Assumes nothing.
 use denote.Ref.{now}
 use mathlib.Core.List.{[]}
 use mathlib.Core.Path.{_≡_, refl, sym, _∙_}
-use Prim.Native.Nat.{_+_}
+use Prim.Native.Nat.{_+_, _-_}
 use native.Mathlib.Omega.{arith}
 use lib.ListN.{length, length-set}
 use Rattle.terms.specs.Tokens.{one}
 use Rattle.solver.specs.Walk.{walk}
-use Rattle.solver.specs.Frames.{left, Sound, Apart}
-use Rattle.solver.proofs.FrameLaws.{entered-open, steps, steps-pop, steps-into, rest-pop, rest-over, rest-leaf, rest-into, sound-push, sound-pop, apart-push}
+use Rattle.solver.specs.Frames.{left, Sound, Apart, Bare}
+use Rattle.solver.proofs.FrameLaws.{entered-open, steps, steps-pop, steps-into, rest-pop, rest-over, rest-leaf, rest-into, sound-push, sound-pop, apart-push, bare-push, bare-pop}
 use Rattle.solver.proofs.resolving.settle.Statement.{statement}
 use Rattle.solver.proofs.resolving.settle.Tie as tie
 
@@ -18,12 +19,13 @@ Inv-loop kinds vals bound most frames₀ c₀ frames c =
     × (left kinds vals bound most frames (c .at) (c .end) (c .depth) ≡ left kinds vals bound most frames₀ (c₀ .at) (c₀ .end) (c₀ .depth))
     × (length frames ≡ length frames₀)
     × Apart most frames₀ frames
+    × (Bare (c₀ .depth + c₀ .depth) frames₀ → Bare (c .depth + c .depth) frames)
 
 abbrev μ-loop : tie.MeasureT-loop
 μ-loop kinds vals bound most frames₀ c₀ frames c = steps kinds vals bound most frames (c .at) (c .end) (c .depth)
 
 loop-holds : tie.Need-loop-holds Inv-loop μ-loop
-loop-holds c = (c .before .before .before .before .pre .2, refl, refl, λ j h. refl)
+loop-holds c = (c .before .before .before .before .pre .2, refl, refl, (λ j h. refl), λ b. b)
 
 same-length : tie.Need-same-length Inv-loop μ-loop
 same-length c = omega arith
@@ -33,7 +35,7 @@ returns c =
     let a = c .before .before .before .before .before .before .before .before .before .args in
     let l = c .before .before .before .before .loop in
     let o = rest-over (walk one [] (now (a .kinds)) (now (a .vals)) (now (a .bound))) (a .most) (now (a .kinds)) (now (a .vals)) (l .frames) (l .c .at) (l .c .end) (omega arith) in
-    record { ready = record { sound = l .inv .0; head = λ h. absurd (omega arith); over = λ _. rw (c .if2 .taken) o }; same = l .inv .1; apart = l .inv .3 }
+    record { ready = record { sound = l .inv .0; head = λ h. absurd (omega arith); over = λ _. rw (c .if2 .taken) o; alone = λ _. c .if2 .taken }; same = l .inv .1; apart = l .inv .3; bare = l .inv .4 }
 
 sub-c : tie.Need-sub-c Inv-loop μ-loop
 sub-c c = omega arith
@@ -62,6 +64,25 @@ slice-read-wide-2 c = omega arith
 wide-requires-2 : tie.Need-wide-requires-2 Inv-loop μ-loop
 wide-requires-2 c κs = omega arith
 
+mul-frames : tie.Need-mul-frames Inv-loop μ-loop
+mul-frames c = omega arith
+
+slice-write-frames : tie.Need-slice-write-frames Inv-loop μ-loop
+slice-write-frames c =
+    let l = c .before .before .before .before .before .before .before .before .before .before .loop in
+    omega (arith, l .inv .0 .depth, l .inv .0 .room)
+
+add-frames : tie.Need-add-frames Inv-loop μ-loop
+add-frames c = omega arith
+
+mul-frames-2 : tie.Need-mul-frames-2 Inv-loop μ-loop
+mul-frames-2 c = omega arith
+
+slice-write-frames-2 : tie.Need-slice-write-frames-2 Inv-loop μ-loop
+slice-write-frames-2 c =
+    let l = c .before .before .before .before .before .before .before .before .before .before .loop in
+    omega (arith, l .inv .0 .depth, l .inv .0 .room, length-set (l .frames) (l .c .depth - 1 + (l .c .depth - 1)) 0)
+
 loop-less : tie.Need-loop-less Inv-loop μ-loop
 loop-less c =
     let a = c .before .before .before .before .before .before .before .before .before .before .before .before .before .before .before .args in
@@ -75,8 +96,9 @@ loop-again c =
     rw (c .before .before .wide .ensures, c .wide2 .ensures) (
       sound-pop _ _ _ _ _ _ (l .inv .0) (omega arith),
       sym (rest-pop (walk one [] (now (a .kinds)) (now (a .vals)) (now (a .bound))) (a .most) (now (a .kinds)) (now (a .vals)) (l .frames) (l .c .at) (l .c .end) (l .c .depth) (omega arith) (omega arith)) ∙ l .inv .1,
-      l .inv .2,
-      l .inv .3,
+      simp length-set (l .inv .2),
+      apart-push (a .most) (now (a .frames)) (l .frames) (l .c .depth - 1) 0 0 (l .inv .3) (omega (arith, l .inv .0 .depth)),
+      λ b. bare-pop (l .frames) (l .c .depth) (omega arith) (omega (arith, l .inv .0 .depth, l .inv .0 .room)) (l .inv .4 b),
     )
 
 sub-enter : tie.Need-sub-enter Inv-loop μ-loop
@@ -98,39 +120,41 @@ returns-2 c =
         sound = l .inv .0;
         head = λ h. rest-leaf one [] (now (a .kinds)) (now (a .vals)) (now (a .bound)) (a .most) (l .frames) (l .c .at) (l .c .end) (l .c .depth) _ _ h i (c .if3 .taken);
         over = λ h. absurd (omega (arith, l .inv .0 .order));
+        alone = λ h. absurd (omega (arith, l .inv .0 .order));
       };
       same = l .inv .1;
       apart = l .inv .3;
+      bare = l .inv .4;
     }
 
 add-i-2 : tie.Need-add-i-2 Inv-loop μ-loop
 add-i-2 c = omega arith
 
-add-frames : tie.Need-add-frames Inv-loop μ-loop
-add-frames c = omega arith
+add-frames-2 : tie.Need-add-frames-2 Inv-loop μ-loop
+add-frames-2 c = omega arith
 
 cast-frames : tie.Need-cast-frames Inv-loop μ-loop
 cast-frames c = omega arith
 
-mul-frames : tie.Need-mul-frames Inv-loop μ-loop
-mul-frames c = omega arith
+mul-frames-3 : tie.Need-mul-frames-3 Inv-loop μ-loop
+mul-frames-3 c = omega arith
 
-slice-write-frames : tie.Need-slice-write-frames Inv-loop μ-loop
-slice-write-frames c =
+slice-write-frames-3 : tie.Need-slice-write-frames-3 Inv-loop μ-loop
+slice-write-frames-3 c =
     let o = entered-open _ _ _ _ _ _ _ (c .before .before .before .before .enter .ensures) (omega arith) in
     omega (arith, c .before .before .before .before .before .before .before .before .loop .inv)
 
 cast-frames-2 : tie.Need-cast-frames-2 Inv-loop μ-loop
 cast-frames-2 c = omega arith
 
-add-frames-2 : tie.Need-add-frames-2 Inv-loop μ-loop
-add-frames-2 c = omega arith
+add-frames-3 : tie.Need-add-frames-3 Inv-loop μ-loop
+add-frames-3 c = omega arith
 
-mul-frames-2 : tie.Need-mul-frames-2 Inv-loop μ-loop
-mul-frames-2 c = omega arith
+mul-frames-4 : tie.Need-mul-frames-4 Inv-loop μ-loop
+mul-frames-4 c = omega arith
 
-slice-write-frames-2 : tie.Need-slice-write-frames-2 Inv-loop μ-loop
-slice-write-frames-2 c =
+slice-write-frames-4 : tie.Need-slice-write-frames-4 Inv-loop μ-loop
+slice-write-frames-4 c =
     let l = c .before .before .before .before .before .before .before .before .before .loop in
     let o = entered-open _ _ _ _ _ _ _ (c .before .before .before .before .before .enter .ensures) (omega arith) in
     omega (arith, l .inv, length-set (l .frames) (l .c .depth + l .c .depth) (l .c .at + 1))
@@ -158,6 +182,7 @@ loop-again-2 c =
       sym (rest-into one [] (now (a .kinds)) (now (a .vals)) (now (a .bound)) (a .most) (l .frames) (l .c .at) (l .c .end) (l .c .depth) _ _ (omega (arith, l .inv)) i (omega arith) (omega (arith, l .inv))) ∙ l .inv .1,
       simp length-set (l .inv .2),
       apart-push (a .most) (now (a .frames)) (l .frames) (l .c .depth) (l .c .at + 1) (l .c .end) (l .inv .3) (omega arith),
+      λ b. bare-push (l .frames) (l .c .depth) (l .c .at + 1) (l .c .end) (l .inv .4 b),
     )
 
 pub settle-spec : {M : Type 1} → statement M
@@ -178,6 +203,11 @@ settle-spec =
     mul-wide-2
     slice-read-wide-2
     wide-requires-2
+    mul-frames
+    slice-write-frames
+    add-frames
+    mul-frames-2
+    slice-write-frames-2
     loop-less
     loop-again
     sub-enter
@@ -185,14 +215,14 @@ settle-spec =
     same-length-2
     returns-2
     add-i-2
-    add-frames
-    cast-frames
-    mul-frames
-    slice-write-frames
-    cast-frames-2
     add-frames-2
-    mul-frames-2
-    slice-write-frames-2
+    cast-frames
+    mul-frames-3
+    slice-write-frames-3
+    cast-frames-2
+    add-frames-3
+    mul-frames-4
+    slice-write-frames-4
     add-c
     add-c-2
     loop-less-2

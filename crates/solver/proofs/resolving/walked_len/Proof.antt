@@ -9,7 +9,7 @@ use Rattle.terms.specs.Tokens.{Item}
 use Rattle.terms.specs.Writing.{plain}
 use Rattle.terms.proofs.WriteLaws.{spelt-short}
 use Rattle.solver.specs.Walk.{flatBytes}
-use Rattle.solver.specs.Frames.{left, Ready, Apart}
+use Rattle.solver.specs.Frames.{left, Ready, Apart, Bare}
 use Rattle.solver.proofs.OverLaws.{over-none, over-length, spelt-one}
 use Rattle.solver.proofs.FrameLaws.{left-start, turn}
 use Rattle.solver.proofs.resolving.walked_len.Statement.{statement}
@@ -23,6 +23,7 @@ Inv-loop kinds vals bound most frames₀ limit c₀ n₀ frames c n =
     ≡ length (flatBytes (left kinds vals bound most frames₀ (c₀ .at) (c₀ .end) (c₀ .depth))))
     × (length frames ≡ length frames₀)
     × Apart most frames₀ frames
+    × (Bare (c₀ .depth + c₀ .depth) frames₀ → Bare (c .depth + c .depth) frames)
 
 abbrev μ-loop : tie.MeasureT-loop
 μ-loop kinds vals bound most frames₀ limit c₀ n₀ frames c n = length (left kinds vals bound most frames (c .at) (c .end) (c .depth))
@@ -31,7 +32,7 @@ begin-requires : tie.Need-begin-requires Inv-loop μ-loop
 begin-requires c κs = c .before .before .before .before .before .pre .0
 
 loop-holds : tie.Need-loop-holds Inv-loop μ-loop
-loop-holds c = (c .before .before .begin .ensures .ready, omega arith, omega arith, refl, λ j h. refl)
+loop-holds c = (c .before .before .begin .ensures .ready, omega arith, omega arith, refl, (λ j h. refl), λ b. b)
 
 run-len-requires : tie.Need-run-len-requires Inv-loop μ-loop
 run-len-requires c κs = omega (arith, c .before .before .loop .inv .0 .sound .within)
@@ -56,7 +57,7 @@ returns c =
     let e = over-length plain _ _ _ _ (l .inv .0 .head (omega arith)) in
     let w = ap (λ (m : List Item). length (flatBytes m)) (left-start (now (a .kinds)) (now (a .vals)) (now (a .bound)) (a .most) (now (a .frames)) (a .run .at) (a .run .len) _ _ _ _ (b .ensures)) in (
       omega (arith, e, w, l .inv .2, l .inv .1, c .before .run-len .ensures, ap length (spelt-one (now (a .kinds)) (now (a .vals)) (l .c .at)), c .if2 .taken),
-      λ j h. l .inv .4 j h ∙ b .ensures .apart j h,
+      ((λ j h. l .inv .4 j h ∙ b .ensures .apart j h), λ z h. absurd (omega arith)),
     )
 
 next-requires : tie.Need-next-requires Inv-loop μ-loop
@@ -80,7 +81,8 @@ loop-again c =
       omega arith,
       omega (arith, over-length plain _ _ _ _ (turn (now (a .kinds)) (now (a .vals)) (now (a .bound)) (a .most) (l .frames) (l .c .at) (l .c .end) (l .c .depth) _ _ _ _ (l .inv .0) (omega arith) (s .ensures)), l .inv .2, c .before .before .before .before .before .run-len .ensures, ap length (spelt-one (now (a .kinds)) (now (a .vals)) (l .c .at))),
       s .kept .1 .1 .1 .1 .0 ∙ l .inv .3,
-      λ j h. s .ensures .apart j h ∙ l .inv .4 j h,
+      (λ j h. s .ensures .apart j h ∙ l .inv .4 j h),
+      λ b. s .ensures .bare (l .inv .5 b),
     )
 
 same-length-2 : tie.Need-same-length-2 Inv-loop μ-loop
@@ -92,7 +94,7 @@ returns-2 c =
     let l = c .before .before .loop in
     let b = c .before .before .before .before .before .begin in
     let w = ap (λ (m : List Item). length (flatBytes m)) (left-start (now (a .kinds)) (now (a .vals)) (now (a .bound)) (a .most) (now (a .frames)) (a .run .at) (a .run .len) _ _ _ _ (b .ensures)) in
-    (omega (arith, ap length (over-none plain _ (l .inv .0 .over (omega arith))), w, l .inv .2, l .inv .1), λ j h. l .inv .4 j h ∙ b .ensures .apart j h)
+    (omega (arith, ap length (over-none plain _ (l .inv .0 .over (omega arith))), w, l .inv .2, l .inv .1), ((λ j h. l .inv .4 j h ∙ b .ensures .apart j h), λ z h j. l .inv .5 (b .ensures .bare (λ i m. z i)) j (omega (arith, l .inv .0 .alone (omega arith)))))
 
 pub walked-len-spec : {M : Type 1} → statement M
 walked-len-spec =

@@ -2,13 +2,14 @@
 use denote.Ref.{now}
 use mathlib.Core.List.{List}
 use mathlib.Core.Path.{_≡_, refl, ap, _∙_}
+use Prim.Native.Nat.{_+_}
 use native.Mathlib.Omega.{arith}
 use lib.ListN.{length}
 use Rattle.terms.specs.Tokens.{Item}
 use Rattle.terms.specs.Writing.{plain, spelt}
 use Rattle.terms.proofs.WriteLaws.{Left, start, advance, written}
 use Rattle.solver.specs.Walk.{flatBytes}
-use Rattle.solver.specs.Frames.{left, Ready, Apart}
+use Rattle.solver.specs.Frames.{left, Ready, Apart, Bare}
 use Rattle.solver.proofs.OverLaws.{over-cons, over-none, over-length, spelt-one}
 use Rattle.solver.proofs.FrameLaws.{left-start, turn}
 use Rattle.solver.proofs.resolving.write_walked.Statement.{statement}
@@ -21,6 +22,7 @@ Inv-loop kinds vals bound most frames₀ out₀ to c₀ i₀ frames out c i =
     (flatBytes (left kinds vals bound most frames (c .at) (c .end) (c .depth)))
     × (length frames ≡ length frames₀)
     × Apart most frames₀ frames
+    × (Bare (c₀ .depth + c₀ .depth) frames₀ → Bare (c .depth + c .depth) frames)
 
 abbrev μ-loop : tie.MeasureT-loop
 μ-loop kinds vals bound most frames₀ out₀ to c₀ i₀ frames out c i = length (left kinds vals bound most frames (c .at) (c .end) (c .depth))
@@ -29,7 +31,7 @@ begin-requires : tie.Need-begin-requires Inv-loop μ-loop
 begin-requires c κs = c .before .before .before .before .before .before .pre .0
 
 loop-holds : tie.Need-loop-holds Inv-loop μ-loop
-loop-holds c = (c .before .before .begin .ensures .ready, start _ _ _ _ refl, refl, λ j h. refl)
+loop-holds c = (c .before .before .begin .ensures .ready, start _ _ _ _ refl, refl, (λ j h. refl), λ b. b)
 
 write-run-requires : tie.Need-write-run-requires Inv-loop μ-loop
 write-run-requires c κs =
@@ -63,7 +65,8 @@ loop-again c =
       s .ensures .ready,
       advance _ _ _ _ _ _ (spelt (now (a .kinds)) (now (a .vals)) (l .c .at) 1) _ _ _ (l .inv .1) (rw o (over-cons plain _ _ _ _ (turn (now (a .kinds)) (now (a .vals)) (now (a .bound)) (a .most) (l .frames) (l .c .at) (l .c .end) (l .c .depth) _ _ _ _ (l .inv .0) (omega arith) (s .ensures)))) (w .0) (w .1),
       s .kept .1 .1 .1 .1 .0 ∙ l .inv .2,
-      λ j h. s .ensures .apart j h ∙ l .inv .3 j h,
+      (λ j h. s .ensures .apart j h ∙ l .inv .3 j h),
+      λ b. s .ensures .bare (l .inv .4 b),
     )
 
 same-length : tie.Need-same-length Inv-loop μ-loop
@@ -79,7 +82,7 @@ returns c =
     let b = c .before .before .before .before .before .begin in
     let w = ap flatBytes (left-start (now (a .kinds)) (now (a .vals)) (now (a .bound)) (a .most) (now (a .frames)) (a .run .at) (a .run .len) _ _ _ _ (b .ensures)) in
     let r = written _ _ _ _ _ _ (l .inv .1) (over-none plain _ (l .inv .0 .over (omega arith))) in
-    (r .0 ∙ rw w, (r .1 ∙ rw w, λ j h. l .inv .3 j h ∙ b .ensures .apart j h))
+    (r .0 ∙ rw w, (r .1 ∙ rw w, ((λ j h. l .inv .3 j h ∙ b .ensures .apart j h), λ z j. l .inv .4 (b .ensures .bare (λ i m. z i)) j (omega (arith, l .inv .0 .alone (omega arith))))))
 
 pub write-walked-spec : {M : Type 1} → statement M
 write-walked-spec =
