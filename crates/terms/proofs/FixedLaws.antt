@@ -31,14 +31,14 @@ use Rattle.terms.proofs.ArenaLaws.{wider, tree-kept, grow-old}
 use Rattle.terms.proofs.OpenLaws.{frames-same}
 use Rattle.terms.proofs.NormalLaws.{Scanning, scanning-start, scanning-none, scanning-next}
 use Rattle.terms.proofs.WalkLaws.{finds, walks-stopped}
+use Rattle.terms.proofs.SumLaws.{total, total-split, plainly}
 use Rattle.terms.proofs.SlotLaws.{class-low, class-high, class-nominal, nominal-member, nominal-argument, slot-zero, slot-one}
 
 -- ---- the sizes of some terms of a list
 
 -- of r terms from b on
-unfoldable weigh : List Term → ℕ → ℕ → ℕ
-weigh ts b zero = 0
-weigh ts b (suc r) = size (getD ts b error) + weigh ts (suc b) r
+abbrev weigh : List Term → ℕ → ℕ → ℕ
+weigh ts b r = total (λ i. size (getD ts i error)) plainly b r
 
 size-some : (t : Term) → 1 ≤ size t
 unfolding size
@@ -46,23 +46,12 @@ size-some (var v) = omega arith
 size-some (node k ps) = omega arith
 
 weigh-some : (ts : List Term) (b r : ℕ) → r ≤ weigh ts b r
-unfolding weigh
+unfolding total
 weigh-some ts b zero = omega arith
 weigh-some ts b (suc r) = omega (arith, size-some (getD ts b error), weigh-some ts (suc b) r)
 
-weigh-split : (ts : List Term) (n r q b : ℕ) → n ≡ r + q → weigh ts b n ≡ weigh ts b r + weigh ts (b + r) q
-unfolding weigh
-weigh-split ts n zero q b e =
-    let x : n ≡ q = omega arith in
-    let y : b + 0 ≡ b = omega arith in
-    omega (arith, ap (λ (k : ℕ). weigh ts b k) x, ap (λ (i : ℕ). weigh ts i q) y)
-weigh-split ts zero (suc r) q b e = absurd (omega arith)
-weigh-split ts (suc n) (suc r) q b e =
-    let x : suc b + r ≡ b + suc r = omega arith in
-    omega (arith, weigh-split ts n r q (suc b) (omega arith), ap (λ (i : ℕ). weigh ts i q) x)
-
 weigh-one : (ts : List Term) (r b i : ℕ) → b ≤ i → i < b + r → size (getD ts i error) ≤ weigh ts b r
-unfolding weigh
+unfolding total
 weigh-one ts zero b i lo hi = absurd (omega arith)
 weigh-one ts (suc r) b i lo hi = go (ℕ-discrete i b) (λ e. weigh-one ts r (suc b) i (omega arith) (omega arith))
   where
@@ -71,19 +60,19 @@ weigh-one ts (suc r) b i lo hi = go (ℕ-discrete i b) (λ e. weigh-one ts r (su
     go (no e) f = omega (arith, f e)
 
 weigh-tail : (t : Term) (ts : List Term) (b r : ℕ) → weigh (t ∷ ts) (suc b) r ≡ weigh ts b r
-unfolding weigh
+unfolding total
 weigh-tail t ts b zero = refl
 weigh-tail t ts b (suc r) = ap (λ (n : ℕ). size (getD ts b error) + n) (weigh-tail t ts (suc b) r)
 
 weigh-all : (ps : Parts) → sizes ps ≡ weigh (subs ps) 0 (length (subs ps))
-unfolding weigh sizes subs
+unfolding total sizes subs
 weigh-all end = refl
 weigh-all (num n ps) = weigh-all ps
 weigh-all (sub t ps) = ap (λ (n : ℕ). size t + n) (weigh-all ps ∙ sym (weigh-tail t (subs ps) 0 (length (subs ps))))
 
 -- a node's size
 size-children : (t : Term) → size t ≡ 1 + weigh (children t) 0 (length (children t))
-unfolding size children weigh
+unfolding size children total
 size-children (var v) = refl
 size-children (node k ps) = ap (λ (n : ℕ). 1 + n) (weigh-all ps)
 
@@ -114,7 +103,7 @@ module _ (f : Term → ℕ → ℕ → Out) (at : ℕ → ℕ) (ts : List Term) 
   -- r terms from b on, which come j-th, (j + 1)-th, ..
   visit-block : (r j b v c : ℕ) → ((i : ℕ) → i < r → at (j + i) ≡ b + i) → Leaves b (b + r) → weigh ts b r ≤ v
       → visitKids f at r j (record { terms = ts; visits = v; count = c }) ≡ record { terms = ts; visits = v - weigh ts b r; count = c + (weigh ts b r - r) }
-  unfolding visitKids weigh
+  unfolding visitKids total
   visit-block zero j b v c a l h =
       let x : v - 0 ≡ v = omega arith in
       let y : c + (0 - 0) ≡ c = omega arith in
@@ -173,7 +162,7 @@ module _ (f : Term → ℕ → ℕ → Out) (t : Term) (v c : ℕ) (l : Leaves f
   visits-turned a r m f₁ f₂ =
       let ts = children t in
       let x : 0 + a ≡ a = omega arith in
-      let w = weigh-split ts n a r 0 (omega arith) ∙ ap (λ (i : ℕ). weigh ts 0 a + weigh ts i r) x in
+      let w = total-split (λ i. size (getD ts i error)) plainly n a r 0 (omega arith) ∙ ap (λ (i : ℕ). weigh ts 0 a + weigh ts i r) x in
       let p = both-visits v (weigh ts a r) (weigh ts 0 a) (weigh ts 0 n) w in
       let q = both-count c (weigh ts a r) (weigh ts 0 a) r a n (weigh ts 0 n) (weigh-some ts a r) (weigh-some ts 0 a) w m in
       visit-split f (slot t) n r a 0 _ m

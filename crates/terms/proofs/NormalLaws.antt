@@ -28,7 +28,7 @@ use Rattle.terms.specs.Lookup.{Look, lookBy, Looks, HeldGiven}
 use Rattle.terms.specs.Arena.{Tree, grow, Frame, Frames}
 use Rattle.terms.specs.Walk.{Visited, Walks}
 use Rattle.terms.specs.Normalising.{Zero, Stands, Sized, Fitted, Answers, Leaves}
-use Rattle.terms.proofs.Bools.{never-true}
+use Rattle.terms.proofs.Bools.{never-true, or-assoc}
 use Rattle.terms.proofs.ViewLaws.{view-held}
 use Rattle.terms.proofs.ArenaLaws.{held-tree}
 use Rattle.terms.proofs.OpenLaws.{frames-wider}
@@ -95,10 +95,6 @@ blank-lengths hs cs js bs n e =
 unfoldable pub hasKind : ℕ → List Item → Bool
 hasKind k [] = false
 hasKind k (item j v ∷ l) = eqb j k || hasKind k l
-
-or-assoc : (a b c : Bool) → ((a || b) || c) ≡ (a || (b || c))
-or-assoc true b c = refl
-or-assoc false b c = refl
 
 has-append : (k : ℕ) (l m : List Item) → hasKind k (l ++ m) ≡ (hasKind k l || hasKind k m)
 unfolding hasKind

@@ -1,25 +1,27 @@
 -- Bytes sized or written, piece by piece: what is left to show. Assumes nothing.
-use mathlib.Core.Path.{_≡_, refl, sym, ap, _∙_}
+use mathlib.Core.Path.{_≡_, refl, sym, ap, ap₂, _∙_}
 use mathlib.Core.Bool.{Bool, true, false}
 use mathlib.Core.List.{List, [], _++_, append-nil}
-use Prim.Native.Nat.{ℕ, zero, suc, _+_, _-_, _≤_, _<_}
+use Prim.Native.Nat.{ℕ, suc, _+_, _-_, _≤_, _<_}
 use native.Mathlib.Omega.{arith}
 use lib.ListN.{length, getD, length-append}
 use lib.Seq.{sets, length-sets}
 use Rattle.terms.specs.declared.Content.{Content}
 use Rattle.terms.specs.declared.Cursor.{Cursor}
 use Rattle.terms.specs.Result.{pick}
-use Rattle.terms.specs.Tokens.{Area, spell}
+use Rattle.terms.specs.Tokens.{Area}
 use Rattle.terms.specs.Writing.{plain, spelt}
-use Rattle.terms.specs.Term.{Term, Parts, end, num, sub, depth, depths, bytes, partBytes}
+use Rattle.terms.specs.Term.{Term, Parts, end, num, sub, depth, depths, bytes, partBytes, Held}
 use Rattle.terms.specs.Held.{span}
 use Rattle.terms.specs.Tree.{row}
-use Rattle.terms.specs.Arena.{headOf, kidsOf, Tree, variable, branch, Parted, over, number, child, From, Cut}
+use Rattle.terms.specs.Arena.{headOf, kidsOf, Tree, variable, branch, Parted, child, From, Cut}
 use Rattle.terms.specs.Show.{Shows, Kept}
 use Rattle.terms.proofs.Bools.{never-false}
-use Rattle.terms.proofs.HeldLaws.{span-one, span-node}
-use Rattle.terms.proofs.WriteLaws.{sets-append, spell-step, spell-none, spell-whole, spelt-add}
-use Rattle.terms.proofs.ArenaLaws.{parted-over, parted-number, parted-child, tree-row}
+use Rattle.terms.proofs.HeldLaws.{items-some}
+use Rattle.terms.proofs.SameLaws.{span-held}
+use Rattle.terms.proofs.SourceLaws as source
+use Rattle.terms.proofs.WriteLaws.{sets-append, spell-step, spell-none, spell-whole, held-bytes}
+use Rattle.terms.proofs.ArenaLaws.{parted-over, parted-number, parted-child}
 use Rattle.terms.proofs.AlikeLaws.{depths-num, depths-sub}
 
 -- ---- the state of a writer
@@ -140,44 +142,13 @@ module _ (a : Area) (hs cs : List ℕ) (S : ℕ → Bool) where
 
 -- ---- a tree as it stands in the source
 
-spell-one : (ks vs : List ℕ) (a : ℕ) → spelt ks vs a 1 ≡ plain (getD ks a 0) (getD vs a 0)
-unfolding spell
-spell-one ks vs a = append-nil _
-
 module _ (a : Area) (hs cs : List ℕ) (S : ℕ → Bool) where
-  parted-within : {c e q n : ℕ} {ps : Parts} → Parted a hs cs S c e q n ps → q ≤ e
-  parted-within (over z) = omega arith
-  parted-within (number lt z f p) = omega arith
-  parted-within (child lt z f o m w p) = omega arith
-
-  mutual
-    unfolding bytes plain
-
-    flat-tree : {h c : ℕ} {t : Term} → Tree a hs cs S h c t → c ≡ 0 → {k v : ℕ} → k ≡ getD (a .kinds) h 0 → v ≡ getD (a .vals) h 0 → spelt (a .kinds) (a .vals) h (span k v) ≡ bytes t
-    flat-tree {h = h} (variable e f l) c0 {k = k} {v = v} ek ev =
-        let z : span k v ≡ 1 = span-one k v (omega arith) in
-        rw z (spell-one (a .kinds) (a .vals) h ∙ rw (e, f))
-    flat-tree {h = h} (branch {k = j} {l = l} e f o b p) c0 {k = k} {v = v} ek ev =
-        let z : span k v ≡ h + l - h = span-node k v (omega arith) ∙ ev ∙ f ∙ omega arith in
-        let y : j + 2 ≡ suc (suc j) = omega arith in
-        rw z (spell-step plain (a .kinds) (a .vals) h (h + l) (omega arith) ∙ rw (e, y, flat-parted p c0))
-
-    flat-parted : {c e q n : ℕ} {ps : Parts} → Parted a hs cs S c e q n ps → c ≡ 0 → spelt (a .kinds) (a .vals) q (e - q) ≡ partBytes ps
-    flat-parted {e = e} {q = q} (over z) c0 = spell-none plain (a .kinds) (a .vals) q (e - q) (omega arith)
-    flat-parted {e = e} {q = q} (number lt z f p) c0 = spell-step plain (a .kinds) (a .vals) q e lt ∙ rw (z, f, flat-parted p c0)
-    flat-parted {e = e} {q = q} (child {c = zero} {l = l} {t = t} {ps = r} lt z f o m w p) c0 =
-        let b = parted-within p in
-        let y : e - q ≡ l + (e - (q + l)) = omega arith in
-        let u : spelt (a .kinds) (a .vals) q l ≡ bytes t = ap (spelt (a .kinds) (a .vals) q) (sym f) ∙ flat-tree w refl refl refl in
-        rw (y, spelt-add (a .kinds) (a .vals) q l (e - (q + l)), u, flat-parted p refl)
-    flat-parted (child {c = suc d} lt z f o m w p) c0 = absurd (omega arith)
-
   pub tree-flat : {h c : ℕ} {t : Term} → Tree a hs cs S h c t → c ≡ 0 → (p l : ℕ) → p ≡ h → {k v : ℕ} → k ≡ getD (a .kinds) p 0 → v ≡ getD (a .vals) p 0 → (1 ≤ span k v → l ≡ span k v)
       → spelt (a .kinds) (a .vals) p l ≡ bytes t
-  tree-flat w c0 p l ep {k = k} {v = v} ek ev el =
-      let ek′ = ek ∙ ap (λ (i : ℕ). getD (a .kinds) i 0) ep in
-      let ev′ = ev ∙ ap (λ (i : ℕ). getD (a .vals) i 0) ep in
-      rw (ep, el (tree-row a hs cs S w ek′ ev′ .0)) (flat-tree w c0 ek′ ev′)
+  tree-flat {t = t} w c0 p l ep {k = k} {v = v} ek ev el =
+      let u : Held (a .kinds) (a .vals) p t = rw ep (source.tree-flat a hs cs S w c0) in
+      let s = ap₂ span ek ev ∙ span-held (a .kinds) (a .vals) p t u in
+      ap (λ (n : ℕ). spelt (a .kinds) (a .vals) p n) (el (omega (arith, s, items-some t)) ∙ s) ∙ held-bytes (a .kinds) (a .vals) p t u
 
 -- ---- a row built of records
 

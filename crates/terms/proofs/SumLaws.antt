@@ -90,7 +90,7 @@ unfoldable pub total : (ℕ → ℕ) → (ℕ → ℕ) → ℕ → ℕ → ℕ
 total w at j zero = 0
 total w at j (suc r) = w (at j) + total w at (suc j) r
 
-total-split : (w at : ℕ → ℕ) (n r q j : ℕ) → n ≡ r + q → total w at j n ≡ total w at j r + total w at (j + r) q
+pub total-split : (w at : ℕ → ℕ) (n r q j : ℕ) → n ≡ r + q → total w at j n ≡ total w at j r + total w at (j + r) q
 unfolding total
 total-split w at n zero q j e =
     let x : n ≡ q = omega arith in

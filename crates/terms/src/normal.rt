@@ -78,7 +78,7 @@ fn size_up(
     })
 }
 
-// Keeps a content of `size` bytes, whose records are `next`, where it fits from `at` on.
+// Keeps a content of `size` bytes, whose records are `next`, where there is room for them.
 fn fit_up(
     heads: &mut [u32],
     kids: &mut [u32],
