@@ -49,6 +49,7 @@ pub mod SlotLaws
 pub mod OpenLaws
 pub mod MemberLaws
 pub mod AlikeLaws
+pub mod RuleListLaws
 pub mod RuleLaws
 pub mod GivenLaws
 pub mod DepthLaws

@@ -5,8 +5,6 @@ use mathlib.Core.List.{List, [], _∷_}
 use mathlib.Core.Option.{Option, none, some}
 use Prim.Native.Nat.{ℕ, zero, suc, max, _+_, _-_, _≤_, _<_}
 use native.Mathlib.Omega.{arith}
-use borrow.Author.Tests.{leb-true, leb-false}
-use lib.Dec.{leb}
 use lib.ListN.{length, getD}
 use Rattle.terms.specs.Tokens.{Area}
 use Rattle.terms.specs.Term.{Term, Parts, var, node, end, num, sub, _+++_, items, depth, depths}
@@ -21,9 +19,10 @@ use Rattle.terms.specs.declared.Met.the-variants.{Behind, Apart}
 use Rattle.terms.specs.Result.{pick}
 use Rattle.terms.specs.View.{view, Sight}
 use Rattle.terms.specs.Lookup.{Pattern, front, left, byPatterns, ruleAt, ruleCount, HeldRule, Ruled}
+use Rattle.terms.specs.RuleList.{NextWith}
 use Rattle.terms.specs.Arena.{Tree, Parted, over, number, child, From, Cut, further, Begins, Starts}
-use Rattle.terms.specs.RuleSearch.{TermStarts, Numbers, Fronted, Replaces, lastButOne, MemberIn}
-use Rattle.terms.proofs.Bools.{never-true}
+use Rattle.terms.specs.RuleSearch.{TermStarts, Numbers, Fronted, lastButOne, MemberIn}
+use Rattle.terms.proofs.RuleListLaws.{NoneFrom}
 use Rattle.terms.proofs.HeldLaws.{kind-some, items-some, held-sub}
 use Rattle.terms.proofs.SameLaws.{span-held, rows-refl, rows-true}
 use Rattle.terms.proofs.ViewLaws.{view-held, view-parts}
@@ -411,17 +410,7 @@ module _ (ks vs : List ℕ) (g : Origin) (hs cs : List ℕ) (x : Cursor) (fuel :
             (t .to e ∙ ap (λ (us : List Term). putTerms us end) (y .is) ∙ terms-cons (y .term) (y .terms));
       }
 
-  -- what the comparing of a rule answers
   module _ (w : Rule) where
-    pub replaces-no : Missed ks vs g hs cs x fuel w → Replaces ks vs (view ks vs g) hs cs x w fuel false
-    replaces-no m = record { yes = λ e. never-true e; no = λ e. m .is }
-
-    pub replaces-ends : (c n q l : ℕ) → ArguedBehind ks vs g hs cs x fuel w c n q l → l ≡ 0 → Replaces ks vs (view ks vs g) hs cs x w fuel (leb (x .end) c)
-    replaces-ends c n q l v z = record {
-      yes = λ e. argued-done w c n q l v z (leb-true (x .end) c e) .is;
-      no = λ e. argued-more w c n q l v z (leb-false (x .end) c e) .is;
-    }
-
     -- a rule with another member than the row's is not the row's
     pub replaces-other : (m : ℕ) → MemberIn (view ks vs g) x m → (w .member ≡ m → ⊥) → Missed ks vs g hs cs x fuel w
     replaces-other m h ne = record {
@@ -466,3 +455,16 @@ module _ (ks vs ws : List ℕ) (g : Origin) (hs cs : List ℕ) (x : Cursor) (fue
           e ∙ pattern-yes p qs ps (m .is S ps p h d (k .1)),
           held-tree (view ks vs g) hs cs S (p .value) (ruleAt ws r .value) (view-held ks vs g s (ruleAt ws r .value) (p .value) (k .1 .value)),
         )
+
+  -- the rules that the scan passes have another member than the row
+  past : (m : ℕ) → MemberIn (view ks vs g) x m → (k r : ℕ) → r + k ≤ ruleCount ws → NoneFrom ws r m (r + k) → Searching ks vs ws g hs cs x fuel r → Searching ks vs ws g hs cs x fuel (r + k)
+  past m h zero r le f w = let e : r + 0 ≡ r = omega arith in rw e w
+  past m h (suc k) r le f w =
+      let e : r + 1 + k ≡ r + suc k = omega arith in
+      let one = searching-next r w (omega arith) (replaces-other ks vs g hs cs x fuel s (ruleAt ws r) m h (f r (omega arith) (omega arith))) in
+      rw e at (past m h k (r + 1) (omega arith) (λ i a b. f i (omega arith) (omega arith)) one)
+
+  pub searching-to : (m : ℕ) → MemberIn (view ks vs g) x m → (r n : ℕ) → NextWith ws r m n → Searching ks vs ws g hs cs x fuel r → (t : ℕ) → r ≤ t → t ≤ n → t ≤ ruleCount ws → Searching ks vs ws g hs cs x fuel t
+  searching-to m h r n f w t a b c =
+      let e : r + (t - r) ≡ t = omega arith in
+      rw e at (past m h (t - r) r (omega arith) (λ i y z. f .none i y (omega arith)) w)

@@ -29,6 +29,7 @@ pub mod Normal
 pub mod View
 pub mod Arena
 pub mod Lookup
+pub mod RuleList
 pub mod RuleSearch
 pub mod Walk
 pub mod Show

@@ -1,6 +1,6 @@
 -- What the search of a rule answers: places in rows. Assumes nothing.
 use mathlib.Core.Path.{_≡_}
-use mathlib.Core.Bool.{Bool, true, false}
+use mathlib.Core.Bool.{Bool}
 use mathlib.Core.List.{List, [], _∷_}
 use Prim.Native.Nat.{ℕ, _+_, _≤_}
 use lib.ListN.{length}
@@ -12,7 +12,7 @@ use Rattle.terms.specs.Tokens.{Area}
 use Rattle.terms.specs.Term.{Term, Parts, end, num, sub, items, depths}
 use Rattle.terms.specs.Held.{Held}
 use Rattle.terms.specs.Tree.{nums}
-use Rattle.terms.specs.Lookup.{Pattern, front, left, HeldRule}
+use Rattle.terms.specs.Lookup.{Pattern, front, HeldRule}
 use Rattle.terms.specs.Arena.{Tree, Parted, From, Cut}
 
 -- a cursor at the term at p, as a row of its own
@@ -37,11 +37,6 @@ Fronted ks vs a hs cs x w fuel (Behind at c) =
     → (rest : Parts) × (ps ≡ front p rest) × Parted a hs cs S (x .kids) (x .end) at c rest)
 Fronted ks vs a hs cs x w fuel Apart =
     (S : ℕ → Bool) (ps : Parts) (p : Pattern) → From a hs cs S x ps → depths ps ≤ fuel → HeldRule ks vs w p → (rest : Parts) → ps ≡ front p rest → ⊥
-
--- whether the row at a cursor, of at most `fuel` levels, is the one that a rule replaces
-pub record Replaces (ks vs : List ℕ) (a : Area) (hs cs : List ℕ) (x : Cursor) (w : Rule) (fuel : ℕ) (r : Bool) : Type 0 where
-  pub yes : r ≡ true → (S : ℕ → Bool) (ps : Parts) (p : Pattern) → From a hs cs S x ps → depths ps ≤ fuel → HeldRule ks vs w p → ps ≡ left p
-  pub no : r ≡ false → (S : ℕ → Bool) (ps : Parts) (p : Pattern) → From a hs cs S x ps → depths ps ≤ fuel → HeldRule ks vs w p → ps ≡ left p → ⊥
 
 -- the last number but one, where a and b come before these
 unfoldable pub lastButOne : (a b : ℕ) → List ℕ → ℕ

@@ -15,6 +15,7 @@ mod reader;
 mod recover;
 mod rewrite;
 mod rows;
+mod rule_list;
 mod rules;
 mod runs;
 mod satisfy;

@@ -8,8 +8,9 @@ use super::Rule;
 use super::alike::cursor;
 use super::alike::moved;
 use super::alike::same_rows;
+use super::rule_list::next_rule;
+use super::rule_list::rule_at;
 use super::runs::wide;
-use super::runs::word;
 use super::view::step;
 use super::view::token_at;
 ghost use mathlib.Core.Path.{_≡_};
@@ -20,28 +21,12 @@ ghost use lib.ListN.{length, getD};
 ghost use Rattle.terms.specs.View.{view, Sight};
 ghost use Rattle.terms.specs.Term.{Term, depths};
 ghost use Rattle.terms.specs.Tree.{row};
-ghost use Rattle.terms.specs.Lookup.{Pattern, ruleAt, ruleCount, byPatterns, Ruled};
+ghost use Rattle.terms.specs.Lookup.{Pattern, byPatterns, Ruled};
 ghost use Rattle.terms.specs.Arena.{Tree, Cut, Fetched};
-ghost use Rattle.terms.specs.RuleSearch.{TermStarts, Numbers, Fronted, Replaces, MemberIn};
+ghost use Rattle.terms.specs.RuleSearch.{TermStarts, Numbers, Fronted, MemberIn};
 
 // A place past all tokens.
 const NOWHERE: usize = 4294967295;
-
-// The r-th rule.
-pub fn rule_at(rules: &[u32], r: usize) -> Rule
-    requires { ⌜ r < 4294967296 ⌝ }
-    ensures { λ w. ⌜ w ≡ ruleAt (now (rules .entry)) r ⌝ }
-{
-    let i = 6 * r;
-    Rule {
-        interface: word(rules, i),
-        receiver: word(rules, i + 1),
-        member: word(rules, i + 2),
-        arguments: word(rules, i + 3),
-        count: word(rules, i + 4),
-        value: word(rules, i + 5),
-    }
-}
 
 // A term as it stands in the source.
 pub fn source(p: u32) -> Content
@@ -133,38 +118,6 @@ fn same_front(
     two_numbers(kinds, vals, g, moved(x, q, j), rule.member, rule.count)
 }
 
-// Whether a row is the one that a rule replaces.
-fn same_left(
-    kinds: &[u32],
-    vals: &[u32],
-    heads: &[u32],
-    kids: &[u32],
-    g: Origin,
-    x: Cursor,
-    rule: Rule,
-    fuel: usize,
-) -> bool
-    requires sight { ⌜ Sight (now kinds) (now vals) g ⌝ }
-    requires cut { ⌜ Cut x ⌝ }
-    ensures { λ r. ⌜ Replaces (now (kinds .entry)) (now (vals .entry)) (view (now (kinds .entry)) (now (vals .entry)) g) (now (heads .entry)) (now (kids .entry)) x rule fuel r ⌝ }
-{
-    let mut m = same_front(kinds, vals, heads, kids, g, x, rule, fuel);
-    let mut a = wide(rule.arguments);
-    let mut left = rule.count;
-    loop {
-        let Met::Behind(p, i) = m else {
-            return false;
-        };
-        if left == 0 {
-            return x.end <= p;
-        }
-        let argument = term_cursor(kinds, vals, g, a);
-        m = same_rows(kinds, vals, heads, kids, g, moved(x, p, i), argument, fuel);
-        a = argument.end;
-        left -= 1;
-    }
-}
-
 // The last number but one of a row: of a projection's, its member.
 fn member_in(kinds: &[u32], vals: &[u32], g: Origin, x: Cursor) -> u32
     requires sight { ⌜ Sight (now kinds) (now vals) g ⌝ }
@@ -187,7 +140,8 @@ fn member_in(kinds: &[u32], vals: &[u32], g: Origin, x: Cursor) -> u32
     before
 }
 
-// The value of the first rule whose four parts equal those of a projection; its children have at most `fuel` levels. The member is compared first.
+// The value of the first rule whose four parts equal those of a projection; its children have at most `fuel` levels. The member is
+// looked for first, in the list of the rules; rule and argument walk are left together at the match.
 pub fn find_rule(
     kinds: &[u32],
     vals: &[u32],
@@ -206,14 +160,32 @@ pub fn find_rule(
     let member = member_in(kinds, vals, g, s);
     let count = rules.len() / 6;
     let mut r = 0;
-    while r < count {
+    'rules: loop {
+        r = next_rule(rules, r, member);
+        if count <= r {
+            return Found::Nothing;
+        }
         let rule = rule_at(rules, r);
-        if rule.member == member {
-            if same_left(kinds, vals, heads, kids, g, s, rule, fuel) {
-                return Found::At(source(rule.value));
+        let mut m = same_front(kinds, vals, heads, kids, g, s, rule, fuel);
+        let mut a = wide(rule.arguments);
+        let mut left = rule.count;
+        loop {
+            let Met::Behind(p, i) = m else {
+                break;
+            };
+            if left == 0 {
+                if s.end <= p {
+                    break 'rules;
+                }
+                break;
             }
+            let argument = term_cursor(kinds, vals, g, a);
+            m = same_rows(kinds, vals, heads, kids, g, moved(s, p, i), argument, fuel);
+            a = argument.end;
+            left -= 1;
         }
         r += 1;
     }
-    Found::Nothing
+    let rule = rule_at(rules, r);
+    Found::At(source(rule.value))
 }

@@ -1,7 +1,7 @@
 -- `rule_at`. Word by word. Assumes nothing.
 use borrow.Author.Needs.{needs}
-use Rattle.terms.proofs.rules.rule_at.Statement.{statement}
-use Rattle.terms.proofs.rules.rule_at.Tie as tie
+use Rattle.terms.proofs.rule_list.rule_at.Statement.{statement}
+use Rattle.terms.proofs.rule_list.rule_at.Tie as tie
 
 mul-i : tie.Need-mul-i
 mul-i c = search needs
