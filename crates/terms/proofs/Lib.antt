@@ -1,4 +1,5 @@
 pub mod Steps
+pub mod Again
 pub mod Bounds
 pub mod Shortest
 pub mod MarkedNumbers
@@ -35,6 +36,7 @@ pub mod RewriteLaws
 pub mod InsertLaws
 pub mod UseLaws
 pub mod ListLaws
+pub mod ListingLaws
 pub mod KeptLaws
 pub mod WantingLaws
 pub mod FormedLists

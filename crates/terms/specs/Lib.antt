@@ -23,6 +23,7 @@ pub mod Recovery
 pub mod Recovering
 pub mod Parameters
 pub mod Rows
+pub mod Listing
 pub mod Search
 pub mod Rewriting
 pub mod Normal

@@ -5,6 +5,7 @@ use Prim.Native.Nat.{ℕ, _+_, _-_, _^_, _<_}
 use mathlib.Core.List.{List}
 use lib.ListN.{length}
 use Rattle.terms.specs.declared.Place.{Place}
+use Rattle.terms.specs.declared.Stand.{Stand}
 use Rattle.terms.specs.declared.Step.{Step}
 use Rattle.terms.specs.declared.Wanted.{Wanted}
 use Rattle.terms.specs.Parser.{Result, pick}
@@ -13,17 +14,13 @@ use Rattle.terms.specs.Term.{Term, size}
 use Rattle.terms.specs.Reading.{term, bare}
 use Rattle.terms.specs.Done.{Room, RoomAfter, answer, kept, contents}
 
--- the place at a position
-abbrev pub placeOf : ℕ → Wanted → Place
-placeOf at w = record { at = at; top = w .top; nodes = w .nodes; limit = w .limit }
-
 -- a bare nominal, or a term, as `term` reads it
 abbrev pub part : Bool → (s : List ℕ) (issued levels at : ℕ) → Result Term
 part b s issued levels at = pick b (bare s issued levels at) (term s issued levels at)
 
 -- what the definition finds there
-abbrev pub foundAt : List ℕ → ℕ → Wanted → Result Term
-foundAt s at w = part (w .bare) s (w .issued) (w .levels) at
+abbrev pub foundAt : List ℕ → Stand → Wanted → Result Term
+foundAt s z w = part (w .bare) s (w .issued) (w .levels) (z .place .at)
 
 -- how its nodes are counted
 abbrev pub nodesOf : Bool → Term → ℕ
@@ -33,13 +30,13 @@ nodesOf b = pick b contents size
 abbrev pub Space : Bool → List ℕ → Place → Type 0
 Space b s p = b ≡ true → p .top + 1 + (length s - p .at) < 2 ^ 32
 
--- what is asked of the bytes and the position
-pub record Readable (s : List ℕ) (at : ℕ) (w : Wanted) : Type 0 where
-  pub room : Room s (placeOf at w)
-  pub space : Space (w .bare) s (placeOf at w)
+-- what is asked of the bytes and the place
+pub record Readable (s : List ℕ) (z : Stand) (w : Wanted) : Type 0 where
+  pub room : Room s (z .place)
+  pub space : Space (w .bare) s (z .place)
 
 -- What was read, from the areas `d` to the areas `e`.
-pub record WantedDone (s : List ℕ) (at : ℕ) (w : Wanted) (d e : Area) (r : Step) : Type 0 where
-  pub answer : r ≡ answer (placeOf at w) (foundAt s at w) (nodesOf (w .bare))
-  pub areas : e ≡ kept s (placeOf at w) (foundAt s at w) (nodesOf (w .bare)) d
+pub record WantedDone (s : List ℕ) (z : Stand) (w : Wanted) (d e : Area) (r : Step) : Type 0 where
+  pub answer : r ≡ answer (z .place) (foundAt s z w) (nodesOf (w .bare))
+  pub areas : e ≡ kept s (z .place) (foundAt s z w) (nodesOf (w .bare)) d
   pub room : RoomAfter s r

@@ -66,19 +66,30 @@ pub struct Place {
     pub limit: usize,
 }
 
-// A term reader: the bytes of an order, and the position in them.
-pub struct TermReader<'a> {
-    pub bytes: &'a [u8],
-    pub at: usize,
+// Where a term reader stands: the place, how many records are left to be read, and the code of the refusal that it met, 0 where there was none.
+pub struct Stand {
+    pub place: Place,
+    pub left: u64,
+    pub code: u8,
 }
 
-// What a term reader is asked for: a term, or where `bare` a bare nominal, with the levels left and the number that its variables are below. The
-// rest is as in a place.
+// A term reader: the bytes of an order, and where it stands in them.
+pub struct TermReader<'a> {
+    pub bytes: &'a [u8],
+    pub stand: Stand,
+}
+
+// What a term reader is asked for: a term, or where `bare` a bare nominal, with the levels left and the number that its variables are below.
 pub struct Wanted {
     pub bare: bool,
-    pub top: usize,
-    pub nodes: usize,
-    pub limit: usize,
+    pub levels: u32,
+    pub issued: u64,
+}
+
+// What a term reader is asked for in a list: an owner where `first` and a position where `second`, and then a term, as above.
+pub struct RecordWanted {
+    pub first: bool,
+    pub second: bool,
     pub levels: u32,
     pub issued: u64,
 }

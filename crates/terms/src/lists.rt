@@ -1,6 +1,9 @@
 // The lists of an order that are stored: entries, receivers and arguments. Each is kept whole, or nothing of it remains.
 use super::Place;
+use super::RecordWanted;
+use super::Stand;
 use super::Step;
+use super::TermReader;
 use super::keep::clear_rest;
 use super::keep::step_of;
 use super::read::read_term;
@@ -8,10 +11,12 @@ use super::values::DEFINITION;
 use super::values::ORDINARY;
 use super::values::read_id;
 ghost use mathlib.Core.Path.{_≡_};
+ghost use Prim.Native.Nat.{_<_};
 ghost use Rattle.terms.specs.Tokens.{area};
 ghost use Rattle.terms.specs.Reading.{term};
 ghost use Rattle.terms.specs.Done.{Room, RoomAfter, PartsDone};
 ghost use Rattle.terms.specs.Lent.{place, stepOf};
+ghost use Rattle.terms.specs.Listing.{leftAfter, MayRead, MayStart, RecordDone, MovedOn, RecordsDone};
 ghost use Rattle.terms.specs.Rows.{entries, receivers, arguments, entryRow, receiverRow, argumentRow, keys, single, records, answerOf, keptOf};
 
 // Reads a record: an owner and a position, where they are wanted, and a term.
@@ -42,45 +47,74 @@ fn read_record(
     read_term(s, kinds, vals, at, top, nodes, limit, levels, issued)
 }
 
-// Reads `count` records.
-fn read_records(
-    s: &[u8],
+// Reads a record at a place in the bytes; where the reader stands after it.
+fn record_at(s: &[u8], z: Stand, kinds: &mut [u32], vals: &mut [u32], w: RecordWanted) -> Stand
+    requires { ⌜ MayRead (now s) z ⌝ }
+    ensures { λ r. ⌜ RecordDone (now (s .entry)) z w (area (now (kinds .entry)) (now (vals .entry))) (area (now (kinds .exit)) (now (vals .exit))) r ⌝ }
+{
+    let mut at = z.place.at;
+    let mut top = z.place.top;
+    let mut nodes = z.place.nodes;
+    let limit = z.place.limit;
+    let code = read_record(
+        s,
+        kinds,
+        vals,
+        &mut at,
+        &mut top,
+        &mut nodes,
+        limit,
+        w.levels,
+        w.issued,
+        w.first,
+        w.second,
+    );
+    let place = Place {
+        at,
+        top,
+        nodes,
+        limit,
+    };
+    if code != 0 {
+        return Stand {
+            place,
+            left: 0,
+            code,
+        };
+    }
+    Stand {
+        place,
+        left: z.left - 1,
+        code: 0,
+    }
+}
+
+// Reads a record where the reader stands; the reader, moved on.
+fn next_record<'a>(
+    r: TermReader<'a>,
     kinds: &mut [u32],
     vals: &mut [u32],
-    at: &mut usize,
-    top: &mut usize,
-    nodes: &mut usize,
-    limit: usize,
-    levels: u32,
-    issued: u64,
-    first: bool,
-    second: bool,
-    count: u64,
-) -> u8
-    requires { ⌜ Room (now s) (place (now at) (now top) (now nodes) limit) ⌝ }
-    ensures { λ r. ⌜ PartsDone (now (s .entry)) (records (now (s .entry)) (term (now (s .entry)) issued levels) (keys first second) count (now (at .entry))) (place (now (at .entry)) (now (top .entry)) (now (nodes .entry)) limit) (area (now (kinds .entry)) (now (vals .entry))) (area (now (kinds .exit)) (now (vals .exit))) (stepOf r (now (at .exit)) (now (top .exit)) (now (nodes .exit)) limit) ⌝ }
+    w: RecordWanted,
+) -> TermReader<'a>
+    requires { ⌜ MayRead (now (r .bytes)) (r .stand) ⌝ }
+    ensures { λ q. ⌜ MovedOn (r .entry) w (area (now (kinds .entry)) (now (vals .entry))) (area (now (kinds .exit)) (now (vals .exit))) q ⌝ }
 {
-    let mut left = count;
-    while 0 < left {
-        let r = read_record(
-            s,
-            kinds,
-            vals,
-            at,
-            top,
-            nodes,
-            limit,
-            levels,
-            issued,
-            first,
-            second,
-        );
-        if r != 0 {
-            return r;
-        }
-        left = left - 1;
+    TermReader {
+        bytes: r.bytes,
+        stand: record_at(r.bytes, r.stand, kinds, vals, w),
     }
-    0
+}
+
+// Reads the records that are left, by one reader that goes from one to the next; where it stands then.
+fn records_at(s: &[u8], z: Stand, kinds: &mut [u32], vals: &mut [u32], w: RecordWanted) -> Stand
+    requires { ⌜ MayStart (now s) z ⌝ }
+    ensures { λ r. ⌜ RecordsDone (now (s .entry)) z w (area (now (kinds .entry)) (now (vals .entry))) (area (now (kinds .exit)) (now (vals .exit))) r ⌝ }
+{
+    let mut r = TermReader { bytes: s, stand: z };
+    while 0 < r.stand.left {
+        r = next_record(r, kinds, vals, w);
+    }
+    r.stand
 }
 
 // Reads `count` records and keeps them.
@@ -100,29 +134,34 @@ fn keep_records(
     ensures areas { λ _. ⌜ area (now (kinds .exit)) (now (vals .exit)) ≡ keptOf (λ ps. ps) (now (s .entry)) p (records (now (s .entry)) (term (now (s .entry)) issued levels) (keys first second) count (p .at)) (area (now (kinds .entry)) (now (vals .entry))) ⌝ }
     ensures room { λ r. ⌜ RoomAfter (now (s .entry)) r ⌝ }
 {
-    let mut at = p.at;
-    let mut top = p.top;
-    let mut nodes = p.nodes;
-    let r = read_records(
+    let z = records_at(
         s,
+        Stand {
+            place: p,
+            left: count,
+            code: 0,
+        },
         kinds,
         vals,
-        &mut at,
-        &mut top,
-        &mut nodes,
-        p.limit,
-        levels,
-        issued,
-        first,
-        second,
-        count,
+        RecordWanted {
+            first,
+            second,
+            levels,
+            issued,
+        },
     );
     clear_rest(
         kinds,
         vals,
         p,
         s.len() - p.at,
-        step_of(r, at, top, nodes, p.limit),
+        step_of(
+            z.code,
+            z.place.at,
+            z.place.top,
+            z.place.nodes,
+            z.place.limit,
+        ),
     )
 }
 

@@ -1,5 +1,6 @@
 // The term reader, which holds the bytes and the position in them, and what reads by it.
 use super::Place;
+use super::Stand;
 use super::Step;
 use super::TermReader;
 use super::Wanted;
@@ -10,45 +11,32 @@ ghost use Rattle.terms.specs.Tokens.{area};
 ghost use Rattle.terms.specs.Done.{Room, RoomAfter, answer, kept};
 ghost use Rattle.terms.specs.Wanting.{Space, Readable, WantedDone, part, nodesOf};
 
-// Reads what is wanted at a position of the bytes.
-fn keep_wanted(s: &[u8], at: usize, kinds: &mut [u32], vals: &mut [u32], w: Wanted) -> Step
-    requires { ⌜ Readable (now s) at w ⌝ }
-    ensures { λ r. ⌜ WantedDone (now (s .entry)) at w (area (now (kinds .entry)) (now (vals .entry))) (area (now (kinds .exit)) (now (vals .exit))) r ⌝ }
+// Reads what is wanted at a place in the bytes.
+fn keep_wanted(s: &[u8], z: Stand, kinds: &mut [u32], vals: &mut [u32], w: Wanted) -> Step
+    requires { ⌜ Readable (now s) z w ⌝ }
+    ensures { λ r. ⌜ WantedDone (now (s .entry)) z w (area (now (kinds .entry)) (now (vals .entry))) (area (now (kinds .exit)) (now (vals .exit))) r ⌝ }
 {
-    let p = Place {
-        at,
-        top: w.top,
-        nodes: w.nodes,
-        limit: w.limit,
-    };
     if w.bare {
-        keep_nominal(s, kinds, vals, p, w.levels, w.issued)
+        keep_nominal(s, kinds, vals, z.place, w.levels, w.issued)
     } else {
-        keep_term(s, kinds, vals, p, w.levels, w.issued)
+        keep_term(s, kinds, vals, z.place, w.levels, w.issued)
     }
-}
-
-// The reader at a position of the bytes.
-fn reader_at<'a>(bytes: &'a [u8], at: usize) -> TermReader<'a>
-    ensures { λ r. ⌜ (r .bytes ≡ bytes .entry) × (r .at ≡ at) ⌝ }
-{
-    TermReader { bytes, at }
 }
 
 // Reads what is wanted where the reader stands.
 fn next_wanted<'a>(r: TermReader<'a>, kinds: &mut [u32], vals: &mut [u32], w: Wanted) -> Step
-    requires { ⌜ Readable (now (r .bytes)) (r .at) w ⌝ }
-    ensures { λ x. ⌜ WantedDone (now (r .entry .bytes)) (r .entry .at) w (area (now (kinds .entry)) (now (vals .entry))) (area (now (kinds .exit)) (now (vals .exit))) x ⌝ }
+    requires { ⌜ Readable (now (r .bytes)) (r .stand) w ⌝ }
+    ensures { λ x. ⌜ WantedDone (now (r .entry .bytes)) (r .entry .stand) w (area (now (kinds .entry)) (now (vals .entry))) (area (now (kinds .exit)) (now (vals .exit))) x ⌝ }
 {
-    keep_wanted(r.bytes, r.at, kinds, vals, w)
+    keep_wanted(r.bytes, r.stand, kinds, vals, w)
 }
 
-// The same at a position of the bytes, by a reader that is made for it.
-fn wanted_at(s: &[u8], at: usize, kinds: &mut [u32], vals: &mut [u32], w: Wanted) -> Step
-    requires { ⌜ Readable (now s) at w ⌝ }
-    ensures { λ r. ⌜ WantedDone (now (s .entry)) at w (area (now (kinds .entry)) (now (vals .entry))) (area (now (kinds .exit)) (now (vals .exit))) r ⌝ }
+// The same at a place in the bytes, by a reader that is made for it.
+fn wanted_at(s: &[u8], z: Stand, kinds: &mut [u32], vals: &mut [u32], w: Wanted) -> Step
+    requires { ⌜ Readable (now s) z w ⌝ }
+    ensures { λ r. ⌜ WantedDone (now (s .entry)) z w (area (now (kinds .entry)) (now (vals .entry))) (area (now (kinds .exit)) (now (vals .exit))) r ⌝ }
 {
-    next_wanted(reader_at(s, at), kinds, vals, w)
+    next_wanted(TermReader { bytes: s, stand: z }, kinds, vals, w)
 }
 
 // Reads a term with `levels` levels left, whose variables are below `issued`; or a bare nominal, whose contents have as many left and which
@@ -70,14 +58,15 @@ pub fn part_at(
 {
     wanted_at(
         s,
-        p.at,
+        Stand {
+            place: p,
+            left: 1,
+            code: 0,
+        },
         kinds,
         vals,
         Wanted {
             bare,
-            top: p.top,
-            nodes: p.nodes,
-            limit: p.limit,
             levels,
             issued,
         },

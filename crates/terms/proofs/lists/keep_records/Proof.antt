@@ -2,7 +2,7 @@
 use denote.Ref.{now}
 use borrow.Author.Needs.{needs}
 use Rattle.terms.specs.Tokens.{area}
-use Rattle.terms.specs.Lent.{stepOf}
+use Rattle.terms.specs.Listing.{stepAt}
 use mathlib.Core.Path.{_∙_}
 use Rattle.terms.specs.Term.{partItems, sizes}
 use Rattle.terms.proofs.Answers.{done-clearable, done-room}
@@ -10,8 +10,8 @@ use Rattle.terms.proofs.ListLaws.{row-answer, row-kept}
 use Rattle.terms.proofs.lists.keep_records.Statement.{statement}
 use Rattle.terms.proofs.lists.keep_records.Tie as tie
 
-read-records-requires : tie.Need-read-records-requires
-read-records-requires c κs = search needs
+records-at-requires : tie.Need-records-at-requires
+records-at-requires c κs = search needs
 
 sub-clear-rest : tie.Need-sub-clear-rest
 sub-clear-rest c = search needs
@@ -21,16 +21,10 @@ step-of-requires c κs = search needs
 
 clear-rest-requires : tie.Need-clear-rest-requires
 clear-rest-requires c κs =
-    let a = c .before .before .before .before .before .before .before .before .before .before .before .before .before .before .before .before .before .args in
-    let read-records' = c .before .before .before .before .before .before .before .before .read-records in
-    let s = now (a .s) in
-    let p = a .p in
-    let l = a .p .limit in
+    let a = c .before .before .before .before .before .before .before .before .before .before .before .before .before .before .args in
+    let r = c .before .before .before .before .before .before .before .before .records-at in
     let d = area (a .kinds .now) (a .vals .now) in
-    let e = (area (read-records' .last .1 .0) (read-records' .last .1 .1 .0)) in
-    let r = (stepOf (read-records' .result) (read-records' .last .1 .1 .1 .0) (read-records' .last .1 .1 .1 .1 .0) (read-records' .last .1 .1 .1 .1 .1 .0) l) in
-    let x = (read-records' .ensures) in
-    rw (c .step-of .ensures) (done-clearable partItems sizes s _ p d e r x (c .before .before .before .before .before .before .before .before .before .before .before .before .before .before .before .before .before .pre))
+    rw (c .step-of .ensures) (done-clearable partItems sizes (now (a .s)) _ (a .p) d (area (r .last .1 .1 .0) (r .last .1 .1 .1 .0)) (stepAt (r .result)) (r .ensures .done) (c .before .before .before .before .before .before .before .before .before .before .before .before .before .before .pre))
 
 same-length : tie.Need-same-length
 same-length c = search needs
@@ -40,18 +34,17 @@ same-length-2 c = search needs
 
 returns : tie.Need-returns
 returns c =
-    let a = c .before .before .before .before .before .before .before .before .before .before .before .before .before .before .before .before .before .before .before .before .before .before .args in
-    let read-records' = c .before .before .before .before .before .before .before .before .before .before .before .before .before .read-records in
+    let a = c .before .before .before .before .before .before .before .before .before .before .before .before .before .before .before .before .before .before .before .args in
+    let r = c .before .before .before .before .before .before .before .before .before .before .before .before .before .records-at in
     let s = now (a .s) in
     let p = a .p in
-    let l = a .p .limit in
     let d = area (a .kinds .now) (a .vals .now) in
-    let e = (area (read-records' .last .1 .0) (read-records' .last .1 .1 .0)) in
-    let r = (stepOf (read-records' .result) (read-records' .last .1 .1 .1 .0) (read-records' .last .1 .1 .1 .1 .0) (read-records' .last .1 .1 .1 .1 .1 .0) l) in
-    let x = (read-records' .ensures) in
+    let e = area (r .last .1 .1 .0) (r .last .1 .1 .1 .0) in
+    let g = stepAt (r .result) in
+    let x = r .ensures .done in
     let k = c .before .before .before .before .clear-rest in
     let z = c .before .before .before .before .before .step-of .ensures in
-    (k .ensures .0 ∙ z ∙ row-answer s _ p d e r x, (row-kept s _ p d e r _ x (rw z at (k .ensures .1)), rw (k .ensures .0, z) (done-room partItems sizes s _ p d e r x (c .before .before .before .before .before .before .before .before .before .before .before .before .before .before .before .before .before .before .before .before .before .before .pre))))
+    (k .ensures .0 ∙ z ∙ row-answer s _ p d e g x, (row-kept s _ p d e g _ x (rw z at (k .ensures .1)), rw (k .ensures .0, z) (done-room partItems sizes s _ p d e g x (c .before .before .before .before .before .before .before .before .before .before .before .before .before .before .before .before .before .before .before .pre))))
 
 pub keep-records-spec : {M : Type 1} → statement M
-keep-records-spec = tie.close (tie.spec read-records-requires sub-clear-rest step-of-requires clear-rest-requires same-length same-length-2 returns)
+keep-records-spec = tie.close (tie.spec records-at-requires sub-clear-rest step-of-requires clear-rest-requires same-length same-length-2 returns)
