@@ -82,9 +82,10 @@ fn record_at(s: &[u8], z: Stand, kinds: &mut [u32], vals: &mut [u32], w: RecordW
             code,
         };
     }
+    let left = z.left - 1;
     Stand {
         place,
-        left: z.left - 1,
+        left,
         code: 0,
     }
 }

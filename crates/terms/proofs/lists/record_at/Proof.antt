@@ -20,8 +20,8 @@ returns c =
     let r = c .before .before .before .before .before .read-record in
     record { done = r .ensures; left = none-left (r .result) (a .z .left) (c .if1 .taken) }
 
-sub-t23 : tie.Need-sub-t23
-sub-t23 c = search needs
+sub-left : tie.Need-sub-left
+sub-left c = search needs
 
 same-length-3 : tie.Need-same-length-3
 same-length-3 c = search needs
@@ -35,4 +35,4 @@ returns-2 c =
     record { done = rw (c .before .if1 .left) at (r .ensures); left = refl }
 
 pub record-at-spec : {M : Type 1} → statement M
-record-at-spec = tie.close (tie.spec read-record-requires same-length same-length-2 returns sub-t23 same-length-3 same-length-4 returns-2)
+record-at-spec = tie.close (tie.spec read-record-requires same-length same-length-2 returns sub-left same-length-3 same-length-4 returns-2)
