@@ -1,16 +1,17 @@
 -- The term reader goes from record to record: what holds where it stands. Assumes nothing.
 use mathlib.Core.Path.{_≡_, refl}
 use mathlib.Core.List.{List}
-use Prim.Native.Nat.{ℕ, zero, suc, _-_, _≤_, _<_}
+use Prim.Native.Nat.{ℕ, zero, suc, _≤_, _<_}
 use native.Mathlib.Omega.{arith}
+use Rattle.terms.specs.declared.Fields.{Fields}
 use Rattle.terms.specs.declared.Place.{Place}
 use Rattle.terms.specs.declared.RecordWanted.{RecordWanted}
 use Rattle.terms.specs.declared.Stand.{Stand}
 use Rattle.terms.specs.declared.Step.{Step}
 use Rattle.terms.specs.declared.Step.the-variants.{Next, Stopped}
-use Rattle.terms.specs.Parser.{Result}
+use Rattle.terms.specs.Parser.{Parser, Result}
 use Rattle.terms.specs.Tokens.{Area}
-use Rattle.terms.specs.Term.{Parts}
+use Rattle.terms.specs.Term.{Term, Parts}
 use Rattle.terms.specs.Reading.{term}
 use Rattle.terms.specs.Done.{Room, PartsDone}
 use Rattle.terms.specs.Lent.{stepOf}
@@ -32,22 +33,29 @@ pub record Along (s : List ℕ) (y : Stand) (w : RecordWanted) (d : Area) (z : S
   pub state : State s w (listAt s w (y .left) (y .place .at)) (y .place) d e (z .left) (stepAt z)
 
 module _ (s : List ℕ) (w : RecordWanted) (whole : Result Parts) (p : Place) (d e : Area) (left : ℕ) (q : Place) where
-  -- the answer at q with the code c
-  abbrev at-code : ℕ → Step
-  at-code c = stepOf c (q .at) (q .top) (q .nodes) (q .limit)
+  -- the answer at a place with the code c
+  abbrev coded : ℕ → Place → Step
+  coded c u = stepOf c (u .at) (u .top) (u .nodes) (u .limit)
 
-  room-there : (c : ℕ) → 0 < left → Room s p → State s w whole p d e left (at-code c) → Room s q
+  -- a term of the list, and the numbers before it
+  abbrev one : Parser Term
+  one = term s (w .issued) (w .levels)
+
+  abbrev before : Fields
+  before = keys (w .first) (w .second)
+
+  room-there : (c : ℕ) → 0 < left → Room s p → State s w whole p d e left (coded c q) → Room s q
   room-there zero more room x = room-next s p q (x .wrote .inside) (x .wrote .pace) (x .wrote .paced) room
   room-there (suc c) more room x = absurd (omega (arith, x .0, more))
 
-  whole-done : (c : ℕ) → left ≤ 0 → State s w whole p d e left (at-code c) → PartsDone s whole p d e (at-code c)
-  whole-done zero over x = records-end s (term s (w .issued) (w .levels)) (keys (w .first) (w .second)) whole p d e q left over x
+  whole-done : (c : ℕ) → left ≤ 0 → State s w whole p d e left (coded c q) → PartsDone s whole p d e (coded c q)
+  whole-done zero over x = records-end s one before whole p d e q left over x
   whole-done (suc c) over x = x .1
 
-  one-more : (c k : ℕ) (u : Place) (g : Area) → 0 < left → State s w whole p d e left (at-code c) → PartsDone s (oneAt s w (q .at)) q e g (stepOf k (u .at) (u .top) (u .nodes) (u .limit))
-      → State s w whole p d g (leftAfter k left) (stepOf k (u .at) (u .top) (u .nodes) (u .limit))
-  one-more zero zero u g more x y = records-more s (term s (w .issued) (w .levels)) (keys (w .first) (w .second)) whole p d e q left more x g u y
-  one-more zero (suc k) u g more x y = (refl, records-stop s (term s (w .issued) (w .levels)) (keys (w .first) (w .second)) whole p d e q left more x g (suc k) y)
+  one-more : (c k : ℕ) (u : Place) (g : Area) → 0 < left → State s w whole p d e left (coded c q) → PartsDone s (oneAt s w (q .at)) q e g (coded k u)
+      → State s w whole p d g (leftAfter k left) (coded k u)
+  one-more zero zero u g more x y = records-more s one before whole p d e q left more x g u y
+  one-more zero (suc k) u g more x y = (refl, records-stop s one before whole p d e q left more x g (suc k) y)
   one-more (suc c) k u g more x y = absurd (omega (arith, x .0, more))
 
 -- a record was refused: none is left

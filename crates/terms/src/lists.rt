@@ -1,4 +1,5 @@
-// The lists of an order that are stored: entries, receivers and arguments. Each is kept whole, or nothing of it remains.
+// The lists of an order that are stored: entries, receivers and arguments. A term reader goes from record to record; each list is kept whole, or nothing
+// of it remains.
 use super::Place;
 use super::RecordWanted;
 use super::Stand;
@@ -11,12 +12,11 @@ use super::values::DEFINITION;
 use super::values::ORDINARY;
 use super::values::read_id;
 ghost use mathlib.Core.Path.{_≡_};
-ghost use Prim.Native.Nat.{_<_};
 ghost use Rattle.terms.specs.Tokens.{area};
 ghost use Rattle.terms.specs.Reading.{term};
 ghost use Rattle.terms.specs.Done.{Room, RoomAfter, PartsDone};
 ghost use Rattle.terms.specs.Lent.{place, stepOf};
-ghost use Rattle.terms.specs.Listing.{leftAfter, MayRead, MayStart, RecordDone, MovedOn, RecordsDone};
+ghost use Rattle.terms.specs.Listing.{MayRead, MayStart, RecordDone, MovedOn, RecordsDone};
 ghost use Rattle.terms.specs.Rows.{entries, receivers, arguments, entryRow, receiverRow, argumentRow, keys, single, records, answerOf, keptOf};
 
 // Reads a record: an owner and a position, where they are wanted, and a term.
