@@ -201,6 +201,10 @@ module _ (lim : Limits) (n : Notion) (codes-count : n 4 ≡ false) where
   pub robinson-each-of : (cs : List Command) (t u : Term) → PlainPair lim n (run lim n fresh cs) t u → RobinsonDecides lim n (run lim n fresh cs) t u
   robinson-each-of cs t u p = decides-in (run lim n fresh cs) (all-sane lim n codes-count cs) t u p
 
+-- a pair that was not cancelled
+pub not-cancelled : (lim : Limits) (n : Notion) (s : Session) (t u : Term) → RobinsonDecides lim n s t u → (k : ℕ) → ¬ (order lim n s (pair k t u) .reply ≡ verdict 2) → DecidedBy lim n s k t u
+not-cancelled lim n s t u d k uncut = elim (d .fewer k) [ inl e ↦ absurd (uncut e) | inr y ↦ y ]
+
 -- ROBINSON 1965 DECIDES EACH PLAIN FIRST-ORDER PAIR, after every list of orders 0 to 8. Order 4: up to Set and Map access
 pub robinson-each : (lim : Limits) (cs : List Command) (t u : Term) → PlainPair lim loose (run lim loose fresh cs) t u → RobinsonDecides lim loose (run lim loose fresh cs) t u
 unfolding loose
