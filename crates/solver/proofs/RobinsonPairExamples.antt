@@ -48,19 +48,19 @@ told cs t u = order box loose (after cs) (pair 9 t u) .reply
 
 -- a term by what it resolves to; a free variable; a term without variables
 first : (cs : List Command) (t w : Term) → resolved (after cs .solver) t ≡ w → meets outside always w ≡ false → readAll loose w ≡ w
-    → ((v : ℕ) → occurs v w ≡ true → after cs .solver .requests v ≡ none) → FirstOrderIn box loose (after cs) t
+    → ((v : ℕ) → occurs v w ≡ true → after cs .solver .requests v ≡ none) → FirstOrderIn loose (after cs) t
 first cs t w e p m r = record {
   plain = ap (meets outside always) e ∙ p;
   unmarked = ap (readAll loose) e ∙ m ∙ sym e;
   numberless = λ v o. r v (ap (occurs v) (sym e) ∙ o);
 }
 
-free : (cs : List Command) (v : ℕ) → resolved (after cs .solver) (var v) ≡ var v → after cs .solver .requests v ≡ none → FirstOrderIn box loose (after cs) (var v)
+free : (cs : List Command) (v : ℕ) → resolved (after cs .solver) (var v) ≡ var v → after cs .solver .requests v ≡ none → FirstOrderIn loose (after cs) (var v)
 unfolding meets outside readAll is
 free cs v e r = first cs (var v) (var v) e refl refl (λ w o. ap (after cs .solver .requests) (eqb-true w v o) ∙ r)
 
 closed : (cs : List Command) (t w : Term) → resolved (after cs .solver) t ≡ w → meets outside always w ≡ false → readAll loose w ≡ w
-    → ((v : ℕ) → occurs v w ≡ false) → FirstOrderIn box loose (after cs) t
+    → ((v : ℕ) → occurs v w ≡ false) → FirstOrderIn loose (after cs) t
 closed cs t w e p m o = first cs t w e p m (λ v q. never-true (sym (o v) ∙ q))
 
 or-no : (a : Bool) → (a || false) ≡ true → a ≡ true

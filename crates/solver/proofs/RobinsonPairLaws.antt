@@ -152,7 +152,7 @@ module _ (lim : Limits) (n : Notion) (codes-count : n 4 ≡ false) where
           }
 
   -- the premise, viewed
-  first : (s : Session) (t : Term) → FirstOrderIn lim n s t → FirstOrder S (read n) (s .solver .requests) (answer S (view-table (s .solver)) (view t))
+  first : (s : Session) (t : Term) → FirstOrderIn n s t → FirstOrder S (read n) (s .solver .requests) (answer S (view-table (s .solver)) (view t))
   first s t f = subst (λ (x : T). FirstOrder S (read n) (s .solver .requests) x) (seen s t) (
     simple-view n (resolved (s .solver) t) (f .plain) (f .unmarked),
     λ v i. f .numberless v (in-occurs v (resolved (s .solver) t) i),

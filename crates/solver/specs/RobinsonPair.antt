@@ -37,23 +37,23 @@ pub record Decided (s y : Session) (t u : Term) (yes no : Type 0) : Type 0 where
   -- and his unifier, up to the names of variables, is what the pair did to all that is resolved
   pub unified : (σ : Substitution) → unification t u ≡ unifier σ → (μ : ℕ → Term) × Unified s y t u (value σ) μ
 
+-- ---- the pairs
+
+-- t, resolved in s, is a plain first-order term: "no recovery terms, projections", "access marks" (that do not count), "number variables": of none of
+-- its variables anything is requested (a request is handed on along bindings)
+pub record FirstOrderIn (n : Notion) (s : Session) (t : Term) : Type 0 where
+  pub plain : meets outside always (resolved (s .solver) t) ≡ false
+  pub unmarked : Unmarked n (resolved (s .solver) t)
+  pub numberless : (v : ℕ) → occurs v (resolved (s .solver) t) ≡ true → s .solver .requests v ≡ none
+
 module _ (lim : Limits) (n : Notion) where
-  -- ---- the pairs
-
-  -- t, resolved in s, is a plain first-order term: "no recovery terms, projections", "access marks" (that do not count), "number variables": of none of
-  -- its variables anything is requested (a request is handed on along bindings)
-  pub record FirstOrderIn (s : Session) (t : Term) : Type 0 where
-    pub plain : meets outside always (resolved (s .solver) t) ≡ false
-    pub unmarked : Unmarked n (resolved (s .solver) t)
-    pub numberless : (v : ℕ) → occurs v (resolved (s .solver) t) ≡ true → s .solver .requests v ≡ none
-
   -- both are, and the pair is not refused (6 or 7)
   pub record PlainPair (s : Session) (t u : Term) : Type 0 where
     pub known-left : known s t ≡ true
     pub known-right : known s u ≡ true
     pub room : crowded lim s (size t + size u) ≡ false
-    pub left : FirstOrderIn s t
-    pub right : FirstOrderIn s u
+    pub left : FirstOrderIn n s t
+    pub right : FirstOrderIn n s u
 
   -- ---- the claim
 
