@@ -1,8 +1,7 @@
 -- Robinson's theorem for each plain pair, used on pairs that the theorem on whole lists leaves out: after an incompatible pair, beside a number variable,
 -- after a cancelled pair, and after all that with a recovery term, an access mark and a default. Assumes nothing.
-use mathlib.Core.Path.{_≡_, refl, sym, ap, _∙_}
+use mathlib.Core.Path.{_≡_, refl, ap}
 use mathlib.Core.Bool.{Bool, true, false, _||_}
-use mathlib.Core.Option.{none}
 use mathlib.Core.List.{List, [], _∷_}
 use Prim.Native.Nat.{ℕ}
 use native.Mathlib.Decide.{ℕ-discrete}
@@ -12,17 +11,16 @@ use lib.Dec.{eqb}
 use Rattle.terms.specs.Term.{Term, var, size}
 use Rattle.terms.specs.Tree.{unknown, nums, row, tag, class, children, subs, same}
 use Rattle.terms.specs.Questions.{among, meets}
-use Rattle.terms.proofs.Bools.{never-true}
 use Rattle.unify.specs.Solver.{put}
 use Rattle.solver.specs.Families.{requested, code, codes, familyOf, admits, belongs, belongsRow}
 use Rattle.solver.specs.Shapes.{loose, blank, blankRow, unmarked, read, readAll, sameShape, turned}
-use Rattle.solver.specs.Solving.{replace, followed, resolve, resolved, follow, recovery, always, occurs, is, projects, joined, join, allow, admit, bind₁, bind₀, bind, zipOn, part, differ, match, turn, settles}
+use Rattle.solver.specs.Solving.{replace, followed, resolve, follow, recovery, is, projects, joined, join, allow, admit, bind₁, bind₀, bind, zipOn, part, differ, match, turn, settles}
 use Rattle.solver.specs.Session.{Session, box, fresh, samePlace, find, settleAt, numericAt, numericDefaults}
 use Rattle.solver.specs.Orders.{Command, variable, number, pair, numbers, Reply, term, verdict, changed, verdictOf, solverOf, beyond, variableAt, numberAt, order, run, replies}
 use Rattle.solver.specs.Demand3.{outside}
-use Rattle.solver.specs.RobinsonPair.{FirstOrderIn, PlainPair, DecidedBy}
+use Rattle.solver.specs.RobinsonPair.{PlainPair, DecidedBy}
 use Rattle.solver.proofs.Examples.{I32, builtin, array, tuple₂, setOf}
-use Rattle.solver.proofs.RobinsonPairLaws.{robinson-each, not-cancelled}
+use Rattle.solver.proofs.RobinsonPairLaws.{first-order-in, free-in, closed-in, robinson-each, not-cancelled}
 
 clashed : List Command
 clashed = variable 0 0 ∷ pair 9 I32 (builtin 3) ∷ []
@@ -45,23 +43,6 @@ Plain cs t u = PlainPair box loose (after cs) t u
 
 abbrev told : List Command → Term → Term → Reply
 told cs t u = order box loose (after cs) (pair 9 t u) .reply
-
--- a term by what it resolves to; a free variable; a term without variables
-first : (cs : List Command) (t w : Term) → resolved (after cs .solver) t ≡ w → meets outside always w ≡ false → readAll loose w ≡ w
-    → ((v : ℕ) → occurs v w ≡ true → after cs .solver .requests v ≡ none) → FirstOrderIn loose (after cs) t
-first cs t w e p m r = record {
-  plain = ap (meets outside always) e ∙ p;
-  unmarked = ap (readAll loose) e ∙ m ∙ sym e;
-  numberless = λ v o. r v (ap (occurs v) (sym e) ∙ o);
-}
-
-free : (cs : List Command) (v : ℕ) → resolved (after cs .solver) (var v) ≡ var v → after cs .solver .requests v ≡ none → FirstOrderIn loose (after cs) (var v)
-unfolding meets outside readAll is
-free cs v e r = first cs (var v) (var v) e refl refl (λ w o. ap (after cs .solver .requests) (eqb-true w v o) ∙ r)
-
-closed : (cs : List Command) (t w : Term) → resolved (after cs .solver) t ≡ w → meets outside always w ≡ false → readAll loose w ≡ w
-    → ((v : ℕ) → occurs v w ≡ false) → FirstOrderIn loose (after cs) t
-closed cs t w e p m o = first cs t w e p m (λ v q. never-true (sym (o v) ∙ q))
 
 or-no : (a : Bool) → (a || false) ≡ true → a ≡ true
 or-no true e = refl
@@ -93,15 +74,15 @@ pairs = record {
   before₂ = refl;
   before₃ = refl;
   before₄ = refl;
-  plain₁ = record { known-left = refl; known-right = refl; room = refl; left = free clashed 0 refl refl; right = closed clashed I32 I32 refl refl refl (λ v. refl) };
-  plain₂ = record { known-left = refl; known-right = refl; room = refl; left = free numbered 1 refl refl; right = closed numbered I32 I32 refl refl refl (λ v. refl) };
-  plain₃ = record { known-left = refl; known-right = refl; room = refl; left = free cut 0 refl refl; right = closed cut I32 I32 refl refl refl (λ v. refl) };
+  plain₁ = record { known-left = refl; known-right = refl; room = refl; left = free-in loose (after clashed) 0 refl refl; right = closed-in loose (after clashed) I32 I32 refl refl refl (λ v. refl) };
+  plain₂ = record { known-left = refl; known-right = refl; room = refl; left = free-in loose (after numbered) 1 refl refl; right = closed-in loose (after numbered) I32 I32 refl refl refl (λ v. refl) };
+  plain₃ = record { known-left = refl; known-right = refl; room = refl; left = free-in loose (after cut) 0 refl refl; right = closed-in loose (after cut) I32 I32 refl refl refl (λ v. refl) };
   plain₄ = record {
     known-left = refl;
     known-right = refl;
     room = refl;
-    left = first everything (tuple₂ (var 0) I32) (tuple₂ (var 0) I32) refl refl refl (λ v e. ap (after everything .solver .requests) (eqb-true v 0 (or-no (eqb v 0) e)));
-    right = closed everything (tuple₂ (array (builtin 3)) (var 1)) (tuple₂ (array (builtin 3)) I32) refl refl refl (λ v. refl);
+    left = first-order-in loose (after everything) (tuple₂ (var 0) I32) (tuple₂ (var 0) I32) refl refl refl (λ v e. ap (after everything .solver .requests) (eqb-true v 0 (or-no (eqb v 0) e)));
+    right = closed-in loose (after everything) (tuple₂ (array (builtin 3)) (var 1)) (tuple₂ (array (builtin 3)) I32) refl refl refl (λ v. refl);
   };
   answer₁ = refl;
   answer₂ = refl;

@@ -3,7 +3,9 @@ use mathlib.Core.Path.{_≡_, refl, sym, ap, _∙_, subst}
 use mathlib.Core.Bool.{Bool, true, false, _||_}
 use mathlib.Core.List.{List, [], _∷_}
 use mathlib.Core.Logic.{_⊎_, inl, inr, ite}
+use mathlib.Core.Option.{none}
 use Prim.Native.Nat.{ℕ, _+_}
+use borrow.Author.Tests.{eqb-true}
 use Rattle.terms.specs.Result.{pick}
 use Rattle.terms.specs.Term.{Term, var, node, size}
 use Rattle.terms.specs.Tree.{same}
@@ -17,8 +19,8 @@ use Rattle.unify.specs.Table.{answer}
 use Rattle.unify.specs.RobinsonPair as theory
 use Rattle.unify.specs.RobinsonPair.{Simple, FirstOrder, UnifiedBy, Poses, table-pair}
 use Rattle.unify.specs.Robinson.{Normal}
-use Rattle.solver.specs.Shapes.{Notion, read, loose, exact}
-use Rattle.solver.specs.Solving.{Solver, replace, resolved, always, recovery, projects, constrain}
+use Rattle.solver.specs.Shapes.{Notion, read, readAll, loose, exact}
+use Rattle.solver.specs.Solving.{Solver, replace, resolved, always, occurs, is, recovery, projects, constrain}
 use Rattle.solver.specs.Session.{Limits, Session, issued, fresh}
 use Rattle.solver.specs.Orders.{Command, pair, Reply, verdict, Step, verdictOf, solverOf, posing, order, run}
 use Rattle.solver.specs.Demand3.{outside}
@@ -200,6 +202,28 @@ module _ (lim : Limits) (n : Notion) (codes-count : n 4 ≡ false) where
   -- after every list of orders
   pub robinson-each-of : (cs : List Command) (t u : Term) → PlainPair lim n (run lim n fresh cs) t u → RobinsonDecides lim n (run lim n fresh cs) t u
   robinson-each-of cs t u p = decides-in (run lim n fresh cs) (all-sane lim n codes-count cs) t u p
+
+-- ---- the premise, by what a term resolves to
+
+module _ (n : Notion) (s : Session) where
+  pub first-order-in : (t w : Term) → resolved (s .solver) t ≡ w → meets outside always w ≡ false → Unmarked n w
+      → ((v : ℕ) → occurs v w ≡ true → s .solver .requests v ≡ none) → FirstOrderIn n s t
+  first-order-in t w e p m r = record {
+    plain = ap (meets outside always) e ∙ p;
+    unmarked = ap (readAll n) e ∙ m ∙ sym e;
+    numberless = λ v o. r v (ap (occurs v) (sym e) ∙ o);
+  }
+
+  -- a free variable of which nothing is requested
+  pub free-in : (v : ℕ) → resolved (s .solver) (var v) ≡ var v → s .solver .requests v ≡ none → FirstOrderIn n s (var v)
+  unfolding meets outside readAll is
+  free-in v e r = first-order-in (var v) (var v) e refl refl (λ w o. ap (s .solver .requests) (eqb-true w v o) ∙ r)
+
+  -- a term without variables
+  pub closed-in : (t w : Term) → resolved (s .solver) t ≡ w → meets outside always w ≡ false → Unmarked n w → ((v : ℕ) → occurs v w ≡ false) → FirstOrderIn n s t
+  closed-in t w e p m o = first-order-in t w e p m (λ v q. never-true (sym (o v) ∙ q))
+
+-- ---- the theorem
 
 -- a pair that was not cancelled
 pub not-cancelled : (lim : Limits) (n : Notion) (s : Session) (t u : Term) → RobinsonDecides lim n s t u → (k : ℕ) → ¬ (order lim n s (pair k t u) .reply ≡ verdict 2) → DecidedBy lim n s k t u
