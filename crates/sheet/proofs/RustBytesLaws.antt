@@ -69,7 +69,7 @@ all-read lim s (b ∷ bs) o =
 module _ (lim : Limits) where
   -- ---- an order is what it says to the solver
 
-  abbrev Does : Session → Option Command → Step → Type 0
+  abbrev pub Does : Session → Option Command → Step → Type 0
   Does s none x = x .session ≡ s
   Does s (some c) x = x ≡ solve lim s c
 
@@ -97,7 +97,7 @@ module _ (lim : Limits) where
   does-kind s fields.with-associated-types fs = refl
   does-kind s fields.normalise fs = refl
 
-  does-read : (s : Session) (x : Result Read) → Does s (commandRead x) (stepRead lim s x)
+  pub does-read : (s : Session) (x : Result Read) → Does s (commandRead x) (stepRead lim s x)
   does-read s (got r n) = does-kind s (r .kind) (r .fields)
   does-read s (refused c) = refl
 

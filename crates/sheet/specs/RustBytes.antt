@@ -1,4 +1,6 @@
 -- The answers to orders 0 to 8 of a list, to be compared with the Rust's `Solver` byte by byte. Assumes nothing.
+use mathlib.Core.Path.{_≡_}
+use mathlib.Core.Bool.{true}
 use mathlib.Core.List.{List, [], _∷_, _++_}
 use mathlib.Core.Option.{Option, none, some}
 use Prim.Native.Nat.{ℕ}
@@ -24,3 +26,8 @@ solvedOne (some c) a = pick (accepted a) (framed a) []
 unfoldable pub solvedTo : Limits → Session → List (List ℕ) → List ℕ
 solvedTo lim s [] = []
 solvedTo lim s (b ∷ bs) = solvedOne (command s b) (orderOf lim s b .answer) ++ solvedTo lim (orderOf lim s b .session) bs
+
+-- every order of a list is of kinds 0 to 8, and none is refused: then all answers are compared
+unfoldable pub AllSolved : Limits → Session → List (List ℕ) → Type 0
+AllSolved lim s [] = Unit {0}
+AllSolved lim s (b ∷ bs) = ((c : Command) × (command s b ≡ some c)) × (accepted (orderOf lim s b .answer) ≡ true) × AllSolved lim (orderOf lim s b .session) bs
