@@ -18,7 +18,7 @@ use Rattle.solver.specs.Solving.{replace, followed, resolve, follow, rec
 use Rattle.solver.specs.Session.{Session, box, fresh, samePlace, find, settleAt, numericAt, numericDefaults}
 use Rattle.solver.specs.Orders.{Command, variable, number, pair, numbers, Reply, term, verdict, changed, verdictOf, solverOf, beyond, variableAt, numberAt, order, run, replies}
 use Rattle.solver.specs.Demand3.{outside}
-use Rattle.solver.specs.RobinsonPair.{PlainPair, DecidedBy}
+use Rattle.solver.specs.RobinsonPair.{PlainPair, Decided, DecidedBy}
 use Rattle.solver.proofs.Examples.{I32, builtin, array, tuple₂, setOf}
 use Rattle.solver.proofs.RobinsonPairLaws.{first-order-in, free-in, closed-in, robinson-each, not-cancelled}
 
@@ -107,3 +107,12 @@ each-used = record {
   after-cancelled = used cut (var 0) I32 (pairs .plain₃) (pairs .answer₃);
   after-everything = used everything (tuple₂ (var 0) I32) (tuple₂ (array (builtin 3)) (var 1)) (pairs .plain₄) (pairs .answer₄);
 }
+
+-- Another answer contradicts the statement, whatever session follows: 0 to ?0 and I32 after an incompatible pair, 1 to I32 and I64 after a cancelled one.
+never-zero : (y : Session) → ¬ Decided (after clashed) y (var 0) I32 (verdict 0 ≡ verdict 1) (verdict 0 ≡ verdict 0)
+unfolding replace
+never-zero y d = d .clashing .0 refl (λ v. I32) refl
+
+never-one : (y : Session) → ¬ Decided (after cut) y I32 (builtin 3) (verdict 1 ≡ verdict 1) (verdict 1 ≡ verdict 0)
+unfolding replace
+never-one y d = let e : _≡_ {A = Term} I32 (builtin 3) = d .unifiable .0 refl .1 in let x : _≡_ {A = ℕ} 2 3 = cc (e) in absurd (omega arith)

@@ -50,7 +50,7 @@ simple-tree m (t ▸ ts) e q =
     let a = or-both (some-of (λ v. false) odd t) (some-of (λ v. false) odd ts) e in
     (simple-tree m t (a .0) (q .0), simple-tree m ts (a .1) (q .1))
 
-simple-view : (n : Notion) (t : Term) → meets outside always t ≡ false → Unmarked n t → Simple S (read n) (view t)
+pub simple-view : (n : Notion) (t : Term) → meets outside always t ≡ false → Unmarked n t → Simple S (read n) (view t)
 unfolding outside
 simple-view n t e q = simple-tree (read n) (view t) (sym (meets-view outside odd outside-odd t) ∙ e) (normal-map (read n) (view t) (sym (view-read n t) ∙ ap view q))
 
@@ -59,7 +59,7 @@ unfoldable newly : Session → Session → ℕ → Term
 newly s y v = pick (same (resolves s v) (var v)) (resolves y v) (var v)
 
 -- what a term resolves to, viewed
-seen : (x : Session) (w : Term) → view (resolved (x .solver) w) ≡ answer S (view-table (x .solver)) (view w)
+pub seen : (x : Session) (w : Term) → view (resolved (x .solver) w) ≡ answer S (view-table (x .solver)) (view w)
 seen x w = view-resolve (x .solver .revision) (x .solver .bindings) w
 
 module _ (lim : Limits) (n : Notion) (codes-count : n 4 ≡ false) where

@@ -2,14 +2,14 @@
 -- Robinson 1965 decides." A pair is judged by its two terms as they resolve just before it, whatever orders came earlier. Assumes nothing.
 use mathlib.Core.Path.{_≡_}
 use mathlib.Core.Bool.{true, false}
-use mathlib.Core.List.{[], _∷_}
+use mathlib.Core.List.{List, [], _∷_}
 use mathlib.Core.Logic.{_⊎_, _↔_}
 use mathlib.Core.Option.{none}
 use Prim.Native.Nat.{ℕ, _+_, _≤_}
 use Rattle.terms.specs.Term.{Term, size}
 use Rattle.terms.specs.Questions.{meets}
 use Rattle.solver.specs.Shapes.{Notion}
-use Rattle.solver.specs.Solving.{replace, resolved, occurs, always}
+use Rattle.solver.specs.Solving.{Pair, replace, resolved, occurs, always}
 use Rattle.solver.specs.Session.{Limits, Session}
 use Rattle.solver.specs.Orders.{pair, verdict, known, crowded, order}
 use Rattle.solver.specs.Demand3.{outside}
@@ -67,3 +67,13 @@ module _ (lim : Limits) (n : Notion) where
     pub checks : ℕ
     pub enough : (k : ℕ) → checks ≤ k → DecidedBy s k t u
     pub fewer : (k : ℕ) → (order lim n s (pair k t u) .reply ≡ verdict 2) ⊎ DecidedBy s k t u
+
+-- ---- such pairs by the terms as they were posed
+
+-- no recovery term, no projection and no access mark that does not count; in a term, and in all terms of pairs
+abbrev pub Pure : Notion → Term → Type 0
+Pure n t = (meets outside always t ≡ false) × Unmarked n t
+
+abbrev pub AllPure : Notion → List Pair → Type 0
+AllPure n [] = Unit {0}
+AllPure n (p ∷ ps) = Pure n (p .0) × Pure n (p .1) × AllPure n ps
