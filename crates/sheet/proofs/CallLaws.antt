@@ -15,7 +15,7 @@ use Rattle.solver.specs.Session.{Limits, Session, issued, fresh}
 use Rattle.solver.specs.Orders.{Command, order}
 use Rattle.solver.proofs.RustLaws.{refused-stays}
 use Rattle.sheet.specs.Fields.{readOrder}
-use Rattle.sheet.specs.Operations.{Answer, refusal}
+use Rattle.sheet.specs.Operations.{refusal}
 use Rattle.sheet.specs.Sheet.{Step, Run, orderOf, framed, ends, answering, nextOrder, answered, runFrom, runOf}
 use Rattle.sheet.specs.Demand3.{ByteString, accepted, sessionAfter, ordersFrom, answersTo}
 use Rattle.sheet.specs.Commands.{command}
@@ -44,6 +44,10 @@ module _ (lim : Limits) where
       go (some k) x d e =
           ap (λ (y : Step). y .session) d
           ∙ refused-stays lim s k (sym (accepted-of (order lim loose s k .reply)) ∙ ap (λ (y : Step). accepted (y .answer)) (sym d) ∙ ap accepted e)
+
+  -- one that says nothing to the solver
+  pub others-leave : (s : Session) (b : List ℕ) → command s b ≡ none → orderOf lim s b .session ≡ s
+  others-leave s b e = subst (λ (o : Option Command). Does lim s o (orderOf lim s b)) e (does-read lim s (readOrder b (issued s)))
 
   -- ---- lists of orders
 

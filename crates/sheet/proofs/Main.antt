@@ -1,10 +1,10 @@
 -- THE PROMISES, on one page. Each statement is proved by a citation. Quoted are the request, with its demands 1, 2 and 3, and document 01. Lists of ℕ are
 -- bytes or words; `box` are the limits of 512 variables and 2,048 nodes. Assumes nothing.
-use mathlib.Core.Path.{_≡_, refl, sym, ap, _∙_}
+use mathlib.Core.Path.{_≡_, sym, ap, _∙_}
 use mathlib.Core.Bool.{true, false}
 use mathlib.Core.List.{List, [], _∷_, _++_}
 use mathlib.Core.Logic.{_⊎_}
-use mathlib.Core.Option.{some}
+use mathlib.Core.Option.{none}
 use Prim.Native.Nat.{ℕ, _+_, _≤_, _<_}
 use native.Mathlib.Omega.{arith}
 use lib.ListN.{length, getD, take, drop, replicate}
@@ -20,17 +20,16 @@ use Rattle.terms.proofs.Sound.{FoundTerm, found}
 use Rattle.solver.specs.Shapes.{loose}
 use Rattle.solver.specs.Solving.{resolved}
 use Rattle.solver.specs.Session.{Session, box, issued, fresh}
-use Rattle.solver.specs.Orders.{Reply}
 use Rattle.solver.specs.Orders as orders
 use Rattle.solver.specs.Demand3.{beginning, Demand3}
 use Rattle.solver.specs.InOrder.{InOrder, Fits, SettledBy}
-use Rattle.solver.specs.Robinson.{Decides}
-use Rattle.solver.specs.Rust.{answers, default, given}
+use Rattle.solver.specs.Robinson.{Unmarked, UnmarkedPairs, Decides}
+use Rattle.solver.specs.RobinsonPair.{FirstOrderIn}
 use Rattle.sheet.specs.Operations.{refusal, outcome}
 use Rattle.sheet.specs.Sheet.{orderOf, framed}
-use Rattle.sheet.specs.Demand3.{Premises, historyOf, sessionAfter, ordersFrom, answersTo}
-use Rattle.sheet.specs.Commands.{commands}
-use Rattle.sheet.specs.RustBytes.{frames, solvedTo, AllSolved}
+use Rattle.sheet.specs.Demand3.{Pure, PurePairs, Premises, historyOf, sessionAfter, ordersFrom, answersTo}
+use Rattle.sheet.specs.Commands.{command}
+use Rattle.sheet.specs.RustBytes.{frames, AsTheRust, AllSolved}
 use Rattle.sheet.specs.RobinsonBytes.{FirstOrder, PlainOrder, AnsweredSo, DecidesOrders}
 use Rattle.sheet.specs.Ending.{finished, suits, finishOf}
 use Rattle.sheet.proofs.MarkedTable.{MarkedLines, marked}
@@ -38,7 +37,7 @@ use Rattle.sheet.proofs.Demand3Bytes.{demand-3-bytes}
 use Rattle.sheet.proofs.Demand3Run.{orders-bytes}
 use Rattle.sheet.proofs.SessionBytes as session
 use Rattle.sheet.proofs.RustBytesLaws.{rust-bytes}
-use Rattle.sheet.proofs.RobinsonBytesLaws.{robinson-bytes, robinson-orders, settled-bytes}
+use Rattle.sheet.proofs.RobinsonBytesLaws.{robinson-bytes, robinson-orders, settled-bytes, posed-plain-bytes}
 use Rattle.sheet.proofs.CallLaws as call
 
 -- ---- A CALL OF `sheet_run`. It was lent a sheet, an output and four areas, and handed back a reason and two counts; out′ to d′ is how the output and the areas
@@ -80,21 +79,19 @@ module _ (sheet out a b c d : List ℕ) (reason orders bytes : ℕ) (out′ a′
 
   -- DEMAND 2, PAIR BY PAIR. "on plain pairs they are proved against the 1965 definition"; "For plain first-order pairs (no recovery terms, projections, number
   -- variables or access marks) Robinson 1965 decides.": each order 4 that the call answered, whatever came before it, whose terms are plain as they
-  -- resolve there, is answered as his algorithm decides, or cancelled; not cancelled if it has checks enough.
+  -- resolve there, is answered as his algorithm decides, or cancelled (not with checks enough: `robinson-each`).
   pub demand-2-robinson-each : (bs cs : List (List ℕ)) (o : List ℕ) (k : ℕ) (t u : Term) → served ≡ bs ++ (o ∷ cs) → PlainOrder box (sessionAfter box fresh bs) o k t u
       → (orderOf box (sessionAfter box fresh bs) o .answer ≡ outcome (2 ∷ [])) ⊎ AnsweredSo box (sessionAfter box fresh bs) o t u
   demand-2-robinson-each bs cs o k t u e p = robinson-orders box bs t u .fewer k o p
 
   -- The sheet is lent as a slice of bytes.
   module _ (octet : (i : ℕ) → getD sheet i 0 < 256) where
-    -- DEMAND 2, THE RUST. "Everywhere in 01's domain answers equal the Rust's, byte by byte in 01's format": `Solver` of solver.rs (crates/solver/specs/Rust.antt,
-    -- line by line), given those of kinds 0 to 8 that are not refused, comes to no panic, and its answers in 01's format are the call's answers to
-    -- them. Where all orders are such, they are all that the call wrote.
-    pub demand-2-rust : (rs : List Reply) × (answers default (given box loose fresh (commands box fresh served)) ≡ some rs) × (solvedTo box fresh served ≡ frames rs)
-        × (AllSolved box fresh served → take bytes out′ ≡ frames rs)
+    -- DEMAND 2, THE RUST. "Everywhere in 01's domain answers equal the Rust's, byte by byte in 01's format": `Solver` of solver.rs answers those orders that are of
+    -- kinds 0 to 8 and not refused with the same bytes. Where all are such, its answers are all that the call wrote.
+    pub demand-2-rust : (r : AsTheRust box served) × (AllSolved box fresh served → take bytes out′ ≡ frames (r .replies))
     demand-2-rust =
         let r = rust-bytes box served (orders-bytes sheet (call.slice-bytes sheet octet) orders 0) in
-        (r .0, r .1, r .2, λ s. demand-1-answers .1 ∙ sym (call.all-solved box fresh served s) ∙ r .2)
+        (r, λ s. demand-1-answers .1 ∙ sym (call.all-solved box fresh served s) ∙ r .same-bytes)
 
     -- DEMAND 2, ALL PAIRS TOGETHER: where all posed pairs are plain first-order ones, some pair was answered incompatible exactly where Robinson's algorithm ends
     -- without a common unifier of them; if none was, what the variables resolve to is one as general as his.
@@ -113,6 +110,10 @@ module _ (sheet out a b c d : List ℕ) (reason orders bytes : ℕ) (out′ a′
 pub demand-1-refused : (s : Session) (b : List ℕ) (c : ℕ) → orderOf box s b .answer ≡ refusal c → orderOf box s b .session ≡ s
 demand-1-refused = call.refused-unchanged box
 
+-- "Orders 9 to 20 leave the session as it was": each order that is none of the solver's
+pub orders-9-to-20 : (s : Session) (b : List ℕ) → command s b ≡ none → orderOf box s b .session ≡ s
+orders-9-to-20 = call.others-leave box
+
 -- "What a variable resolves to is the term order 5 would answer for it after the list, given space for order and answer."
 pub order-5 : (bs : List (List ℕ)) (v : ℕ)
     → (let s = sessionAfter box fresh bs in v < issued s → s .kept < 2048 → orderOf box s (5 ∷ bytes (var v)) .answer ≡ outcome (bytes (resolved (s .solver) (var v))))
@@ -121,6 +122,11 @@ order-5 bs v l k = let f = session.fits-bytes box bs .variables in session.order
 -- Robinson decides each plain pair: some number of checks is enough, and every order 4 that poses the pair with as many is answered as his algorithm ends.
 pub robinson-each : (bs : List (List ℕ)) (t u : Term) → DecidesOrders box (sessionAfter box fresh bs) t u
 robinson-each = robinson-orders box
+
+-- A pair is plain as it resolves, if neither it nor a pair posed before it has a recovery term, a projection or an access mark, and no number was requested.
+pub plain-by-terms : (bs : List (List ℕ)) → PurePairs (historyOf box beginning bs .posed) → UnmarkedPairs loose (historyOf box beginning bs .posed)
+    → ((v : ℕ) → historyOf box beginning bs .requests v ≡ none) → (t : Term) → Pure t → Unmarked loose t → FirstOrderIn loose (sessionAfter box fresh bs) t
+plain-by-terms = posed-plain-bytes box
 
 -- "k checks pass, the next cancels": every pair is settled by some number of checks
 pub settles : (bs : List (List ℕ)) (t u : Term)

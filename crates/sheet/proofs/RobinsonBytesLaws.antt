@@ -10,26 +10,28 @@ use Rattle.terms.specs.Term.{Term, size}
 use Rattle.terms.proofs.Bools.{never-true}
 use Rattle.unify.specs.Solver.{Out, cancelled, done}
 use Rattle.solver.specs.Shapes.{loose}
-use Rattle.solver.specs.Solving.{Solver, resolved, constrain}
+use Rattle.solver.specs.Solving.{Solver, Pair, resolved, constrain}
 use Rattle.solver.specs.Session.{Limits, Session, issued, fresh}
 use Rattle.solver.specs.Orders as solver
-use Rattle.solver.specs.Orders.{Command, Reply, verdict, verdictOf, known, crowded, unless, posing, order}
+use Rattle.solver.specs.Orders.{Command, verdict, verdictOf, known, crowded, unless, posing, order}
 use Rattle.solver.specs.Demand3 as theirs
 use Rattle.solver.specs.Demand3.{History, beginning, history}
 use Rattle.solver.specs.InOrder.{Settled, SettledBy}
 use Rattle.solver.specs.Robinson as paper
-use Rattle.solver.specs.Robinson.{UnmarkedPairs, Decides}
-use Rattle.solver.specs.RobinsonPair.{PlainPair, Decided, DecidedBy, RobinsonDecides}
+use Rattle.solver.specs.Robinson.{Unmarked, UnmarkedPairs, Decides}
+use Rattle.solver.specs.RobinsonPair.{FirstOrderIn, PlainPair, Decided, DecidedBy, RobinsonDecides, AllPure}
 use Rattle.solver.proofs.InOrderLaws.{settled}
 use Rattle.solver.proofs.RobinsonLaws.{robinson}
 use Rattle.solver.proofs.RobinsonPairLaws.{robinson-each}
+use Rattle.solver.proofs.PlainListLaws.{posed-plain, unrequested}
 use Rattle.sheet.specs.Fields.{readOrder}
 use Rattle.sheet.specs.Operations.{outcome}
-use Rattle.sheet.specs.Sheet.{Step, answerOf, solve, orderOf}
-use Rattle.sheet.specs.Demand3.{ByteStrings, accepted, sessionAfter, historyOf}
+use Rattle.sheet.specs.Sheet.{Step, answerOf, solve, orderOf, runOf}
+use Rattle.sheet.specs.Demand3.{ByteString, ByteStrings, accepted, Pure, PurePairs, sessionAfter, historyOf, answeredOrders}
 use Rattle.sheet.specs.Commands.{command, commands}
 use Rattle.sheet.specs.RobinsonBytes.{FirstOrder, PlainOrder, AnsweredSo, DecidesOrders}
 use Rattle.sheet.proofs.Demand3Bytes.{accepted-of, history-commands, premises-of}
+use Rattle.sheet.proofs.Demand3Run.{orders-bytes}
 use Rattle.sheet.proofs.SessionBytes.{session-commands, order-5}
 use Rattle.sheet.proofs.RustBytesLaws.{Does, does-read}
 
@@ -44,6 +46,10 @@ robinson-bytes lim bs o f =
       numberless = subst (λ (h : History). (v : ℕ) → h .requests v ≡ none) e (f .numberless);
     } in
     subst (λ (h : History). Decides h) (sym e) (robinson lim (commands lim fresh bs) g)
+
+-- and of a run
+pub robinson-run : (lim : Limits) (s : List ℕ) → ByteString s → (space : ℕ) → FirstOrder lim (answeredOrders lim s space) → Decides (historyOf lim beginning (answeredOrders lim s space))
+robinson-run lim s o space = robinson-bytes lim (answeredOrders lim s space) (orders-bytes s o (runOf lim s space .orders) 0)
 
 -- ---- pair by pair
 
@@ -158,3 +164,18 @@ robinson-each-bytes lim bs t u =
 -- ROBINSON 1965 DECIDES EACH PLAIN FIRST-ORDER PAIR: posed after any list of orders, each given as its bytes, whatever was answered.
 pub robinson-orders : (lim : Limits) (bs : List (List ℕ)) (t u : Term) → DecidesOrders lim (sessionAfter lim fresh bs) t u
 robinson-orders lim bs t u = let s = sessionAfter lim fresh bs in decides lim s t u (ends lim s t u (settled-bytes lim bs t u)) (robinson-each-bytes lim bs t u)
+
+-- ---- plain pairs by the terms as they were posed
+
+all-pure : (ps : List Pair) → PurePairs ps → UnmarkedPairs loose ps → AllPure loose ps
+all-pure [] p m = tt
+all-pure (x ∷ ps) p m = ((p .0, m .0), (p .1, m .1), all-pure ps (p .2) (m .2))
+
+-- where no pair had a recovery term, a projection or an access mark, and no number was requested
+pub posed-plain-bytes : (lim : Limits) (bs : List (List ℕ)) → PurePairs (historyOf lim beginning bs .posed) → UnmarkedPairs loose (historyOf lim beginning bs .posed)
+    → ((v : ℕ) → historyOf lim beginning bs .requests v ≡ none) → (t : Term) → Pure t → Unmarked loose t → FirstOrderIn loose (sessionAfter lim fresh bs) t
+posed-plain-bytes lim bs p m r t q u =
+    let e : historyOf lim beginning bs ≡ history lim loose beginning (commands lim fresh bs) = history-commands lim beginning bs in
+    let a = subst (λ (h : History). AllPure loose (h .posed)) e (all-pure (historyOf lim beginning bs .posed) p m) in
+    let f = unrequested lim (commands lim fresh bs) (subst (λ (h : History). (v : ℕ) → h .requests v ≡ none) e r) in
+    subst (λ (s : Session). FirstOrderIn loose s t) (sym (session-commands lim fresh bs)) (posed-plain lim (commands lim fresh bs) a t (q, u) (λ v o. f v))
