@@ -34,8 +34,12 @@
 --   Demand3Run            demand 3 for the orders that a run answered
 --   SessionBytes          the session after any list of orders, and after a run; order 5 for a variable
 --   Demand3BytesExamples  demand 3 used on two lists
---   RobinsonBytesLaws     plain first-order pairs given as order bytes, against Robinson 1965
 --   RustBytesLaws         the Rust's solver answers orders 0 to 8 byte by byte the same
+--   RobinsonBytesLaws     plain first-order pairs given as order bytes, against Robinson 1965: all of a list, and each by itself
+--   RobinsonBytesExamples each by itself, used on three lists
+-- The call:
+--   CallLaws        what the contract of `sheet_run` says of the orders answered
+--   Main            all promises on one page
 pub mod StoredLaws
 pub mod FieldLaws
 pub mod TableLaws
@@ -67,5 +71,8 @@ pub mod Demand3Bytes
 pub mod Demand3Run
 pub mod SessionBytes
 pub mod Demand3BytesExamples
-pub mod RobinsonBytesLaws
 pub mod RustBytesLaws
+pub mod RobinsonBytesLaws
+pub mod RobinsonBytesExamples
+pub mod CallLaws
+pub mod Main

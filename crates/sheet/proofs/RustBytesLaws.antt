@@ -1,5 +1,5 @@
 -- The Rust's `Solver` answers orders 0 to 8 byte by byte as the sheet does: carried over from crate solver. Assumes nothing.
-use mathlib.Core.Path.{_≡_, refl, sym, ap, _∙_}
+use mathlib.Core.Path.{_≡_, refl, ap, _∙_}
 use mathlib.Core.Bool.{Bool, true, false}
 use mathlib.Core.List.{List, [], _∷_, _++_}
 use mathlib.Core.Option.{Option, none, some}
@@ -10,17 +10,18 @@ use Rattle.solver.specs.Shapes.{loose}
 use Rattle.solver.specs.Session.{Limits, Session, issued, fresh}
 use Rattle.solver.specs.Orders.{Command, Reply, order, replies}
 use Rattle.solver.specs.Demand3 as theirs
-use Rattle.solver.specs.Rust.{AsRead, AllRead, answers, default, given, unrefused}
+use Rattle.solver.specs.Rust.{AsRead, AllRead, unrefused}
 use Rattle.solver.proofs.RustLaws.{rust-same}
 use Rattle.sheet.specs.Fields as fields
 use Rattle.sheet.specs.Fields.{Kind, Field, Read, readOrder}
 use Rattle.sheet.specs.Operations.{nth, numberOf, termAt}
-use Rattle.sheet.specs.Sheet.{Step, answerOf, step, stepRead, solve, orderOf, framed}
-use Rattle.sheet.specs.Demand3.{ByteString, ByteStrings, accepted}
+use Rattle.sheet.specs.Sheet.{Step, answerOf, step, stepRead, solve, orderOf, framed, runOf}
+use Rattle.sheet.specs.Demand3.{ByteString, ByteStrings, accepted, answeredOrders}
 use Rattle.sheet.specs.Commands.{commandOf, commandRead, command, prefixed, commands}
-use Rattle.sheet.specs.RustBytes.{frames, solvedOne, solvedTo}
+use Rattle.sheet.specs.RustBytes.{frames, solvedOne, solvedTo, AsTheRust}
 use Rattle.sheet.proofs.FormedReading.{read-formed, read-code}
 use Rattle.sheet.proofs.Demand3Bytes.{accepted-of}
+use Rattle.sheet.proofs.Demand3Run.{orders-bytes}
 
 -- ---- what the bytes say is as the Rust is given it
 
@@ -69,7 +70,7 @@ all-read lim s (b ∷ bs) o =
 module _ (lim : Limits) where
   -- ---- an order is what it says to the solver
 
-  abbrev Does : Session → Option Command → Step → Type 0
+  abbrev pub Does : Session → Option Command → Step → Type 0
   Does s none x = x .session ≡ s
   Does s (some c) x = x ≡ solve lim s c
 
@@ -97,7 +98,7 @@ module _ (lim : Limits) where
   does-kind s fields.with-associated-types fs = refl
   does-kind s fields.normalise fs = refl
 
-  does-read : (s : Session) (x : Result Read) → Does s (commandRead x) (stepRead lim s x)
+  pub does-read : (s : Session) (x : Result Read) → Does s (commandRead x) (stepRead lim s x)
   does-read s (got r n) = does-kind s (r .kind) (r .fields)
   does-read s (refused c) = refl
 
@@ -127,12 +128,13 @@ module _ (lim : Limits) where
           ∙ ap (λ (h : Bool). pick h (framed (answerOf r)) [] ++ frames us) (accepted-of r)
           ∙ framed-one r us (theirs.accepted r)
 
-  -- THE RUST'S SOLVER, for every list of orders given as bytes: given in turn those of kinds 0 to 8 that are not refused, it comes to no panic, and its
-  -- answers are the sheet's, byte by byte.
-  pub rust-bytes : (bs : List (List ℕ)) → ByteStrings bs
-      → (rs : List Reply) × (answers default (given lim loose fresh (commands lim fresh bs)) ≡ some rs) × (solvedTo lim fresh bs ≡ frames rs)
-  rust-bytes bs o = (
-    unrefused (replies lim loose fresh (commands lim fresh bs)),
-    rust-same lim (commands lim fresh bs) (all-read lim fresh bs o),
-    solved-frames fresh bs,
-  )
+  -- THE RUST'S SOLVER, for every list of orders given as bytes, and for those that a run answered.
+  pub rust-bytes : (bs : List (List ℕ)) → ByteStrings bs → AsTheRust lim bs
+  rust-bytes bs o = record {
+    replies = unrefused (replies lim loose fresh (commands lim fresh bs));
+    no-panic = rust-same lim (commands lim fresh bs) (all-read lim fresh bs o);
+    same-bytes = solved-frames fresh bs;
+  }
+
+  pub rust-run : (s : List ℕ) → ByteString s → (space : ℕ) → AsTheRust lim (answeredOrders lim s space)
+  rust-run s o space = rust-bytes (answeredOrders lim s space) (orders-bytes s o (runOf lim s space .orders) 0)

@@ -17,7 +17,7 @@
 -- What is claimed of lists of orders, each given as its bytes:
 --   Demand3        demand 3
 --   Commands       what such a list says to the solver
---   RobinsonBytes  the lists of plain first-order pairs
+--   RobinsonBytes  plain first-order pairs: all of a list, and each by itself
 --   RustBytes      the answers that are compared with the Rust's
 pub mod Fields
 pub mod Operations

@@ -1,14 +1,18 @@
 -- The answers to orders 0 to 8 of a list, to be compared with the Rust's `Solver` byte by byte. Assumes nothing.
+use mathlib.Core.Path.{_≡_}
+use mathlib.Core.Bool.{true}
 use mathlib.Core.List.{List, [], _∷_, _++_}
 use mathlib.Core.Option.{Option, none, some}
 use Prim.Native.Nat.{ℕ}
 use Rattle.terms.specs.Result.{pick}
-use Rattle.solver.specs.Session.{Limits, Session}
+use Rattle.solver.specs.Shapes.{loose}
+use Rattle.solver.specs.Session.{Limits, Session, fresh}
 use Rattle.solver.specs.Orders.{Command, Reply}
+use Rattle.solver.specs.Rust.{answers, default, given}
 use Rattle.sheet.specs.Operations.{Answer}
 use Rattle.sheet.specs.Sheet.{answerOf, orderOf, framed}
 use Rattle.sheet.specs.Demand3.{accepted}
-use Rattle.sheet.specs.Commands.{command}
+use Rattle.sheet.specs.Commands.{command, commands}
 
 -- what the Rust answers, in the sheet's format
 unfoldable pub frames : List Reply → List ℕ
@@ -24,3 +28,15 @@ solvedOne (some c) a = pick (accepted a) (framed a) []
 unfoldable pub solvedTo : Limits → Session → List (List ℕ) → List ℕ
 solvedTo lim s [] = []
 solvedTo lim s (b ∷ bs) = solvedOne (command s b) (orderOf lim s b .answer) ++ solvedTo lim (orderOf lim s b .session) bs
+
+-- THE RUST'S SOLVER (`Solver` of solver.rs, line by line), given in turn those orders of a list that are of kinds 0 to 8 and not refused, comes to no panic, and
+-- its answers, in the sheet's format, are the sheet's answers to them.
+pub record AsTheRust (lim : Limits) (bs : List (List ℕ)) : Type 0 where
+  pub replies : List Reply
+  pub no-panic : answers default (given lim loose fresh (commands lim fresh bs)) ≡ some replies
+  pub same-bytes : solvedTo lim fresh bs ≡ frames replies
+
+-- every order of a list is of kinds 0 to 8, and none is refused: then all answers are compared
+unfoldable pub AllSolved : Limits → Session → List (List ℕ) → Type 0
+AllSolved lim s [] = Unit {0}
+AllSolved lim s (b ∷ bs) = ((c : Command) × (command s b ≡ some c)) × (accepted (orderOf lim s b .answer) ≡ true) × AllSolved lim (orderOf lim s b .session) bs

@@ -53,10 +53,10 @@ closed-free t c = go (meets isVariable always t) refl
 
 -- ---- plain terms
 
-odd : Term → Bool
+unfoldable pub odd : Term → Bool
 odd h = recovery h || projects h
 
-or-both : (a b : Bool) → (a || b) ≡ false → (a ≡ false) × (b ≡ false)
+pub or-both : (a b : Bool) → (a || b) ≡ false → (a ≡ false) × (b ≡ false)
 or-both true b e = never-false e
 or-both false b e = (refl, e)
 
@@ -72,7 +72,7 @@ plain-tree (t ▸ ts) f e =
     let a = or-both (some-of (λ v. false) odd t) (some-of (λ v. false) odd ts) e in
     (plain-tree t (f .0) (a .0), plain-tree ts (f .1) (a .1))
 
-outside-odd : (k : ℕ) (ps : Parts) → outside (node k ps) ≡ odd (node k (blankRow ps))
+pub outside-odd : (k : ℕ) (ps : Parts) → outside (node k ps) ≡ odd (node k (blankRow ps))
 unfolding outside odd recovery projects among
 outside-odd k ps = go (eqb k 2) (eqb k 3) (eqb k 18)
   where

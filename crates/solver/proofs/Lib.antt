@@ -36,6 +36,9 @@
 --   PushLaws         children put on in pairs
 --   RobinsonView     terms as trees with their children in byte order; Robinson's algorithm on terms is that on trees
 --   RobinsonLaws     the Unification Theorem on terms; on plain pairs the solver answers as Robinson's algorithm does
+--   RobinsonPairLaws  each plain pair in every session: it answers as Robinson's algorithm does
+--   PlainListLaws    plain pairs by the terms as they were posed
+--   RobinsonPairExamples  the theorem used on pairs after orders that the one on whole lists leaves out
 --   RustShapes       the Rust's `same_shape` is equality of shapes up to Set and Map access
 --   RustPasses       the Rust's `resolve` and its loop go as the theory's
 --   RustLaws         the Rust's `Solver` answers as the definition does, and never panics
@@ -61,6 +64,9 @@ pub mod HistoryLaws
 pub mod Demand3Examples
 pub mod RobinsonView
 pub mod RobinsonLaws
+pub mod RobinsonPairLaws
+pub mod PlainListLaws
+pub mod RobinsonPairExamples
 pub mod RustShapes
 pub mod RustPasses
 pub mod RustLaws

@@ -1,18 +1,17 @@
 -- The Unification Theorem on terms, and demand 2 on plain first-order pairs: the solver answers as Robinson's algorithm does, and what its
 -- variables resolve to is a most general unifier. Assumes nothing.
 use mathlib.Core.Path.{_≡_, refl, sym, ap, ap₂, _∙_, subst}
-use mathlib.Core.Bool.{Bool, true, false, _||_}
-use mathlib.Core.List.{List, [], _∷_, _++_}
+use mathlib.Core.Bool.{Bool, true, false}
+use mathlib.Core.List.{List, [], _∷_}
 use mathlib.Core.Logic.{_⊎_, inl, inr, _↔_}
-use mathlib.Core.Option.{Option, none, some}
-use Prim.Native.Nat.{ℕ, _+_, _≤_}
+use Prim.Native.Nat.{ℕ}
 use lib.ListN.{length}
-use Rattle.terms.specs.Term.{Term, Parts, var, node, end, num, sub, size}
+use Rattle.terms.specs.Term.{Term, Parts, var, node, end, num, sub}
 use Rattle.terms.specs.Questions.{meets, meetsRow}
-use Rattle.terms.proofs.Bools.{never-true, never-false}
+use Rattle.terms.proofs.Bools.{never-true}
 use Rattle.unify.specs.Term as tree
-use Rattle.unify.specs.Term.{Sort, Tree, nil, _▸_, clash, sub-ext, sub-sub, sub-fix}
-use Rattle.unify.specs.Solver.{Out, cancelled, done, State}
+use Rattle.unify.specs.Term.{Sort, Tree, nil, _▸_, sub-ext, sub-sub, sub-fix}
+use Rattle.unify.specs.Solver.{State}
 use Rattle.unify.specs.Orders as theirs
 use Rattle.unify.specs.Orders.{Run, Order}
 use Rattle.unify.specs.Demand as demand
@@ -24,21 +23,18 @@ use Rattle.unify.specs.Robinson.{Unifies as UnifiesTrees, NoNumbers, Robinson, 
 use Rattle.unify.specs.Robinson1965 as paper
 use Rattle.unify.specs.Unification1965 as theorem
 use Rattle.solver.specs.Shapes.{Notion, read, readAll, readAllRow, loose, exact}
-use Rattle.solver.specs.Solving.{Solver, Pair, replace, replaceRow, always, constrain}
-use Rattle.solver.specs.Session.{Limits, at, gap, Session, find, fresh, never}
-use Rattle.solver.specs.Orders.{Command, variable, number, hole, defer, pair, resolving, numbers, nevers, revision, unread}
-use Rattle.solver.specs.Orders.{Reply, verdict, Step, verdictOf, known, full, crowded, variableAt, holeAt, posing, order, run}
-use Rattle.solver.specs.Demand3.{History, beginning, accepted, says, requestedBy, posedBy, noted, after, history, AllAllowed, Plain, PlainPairs, Premises}
-use Rattle.solver.specs.InOrder.{Settled, SettledBy}
+use Rattle.solver.specs.Solving.{Pair, replace, replaceRow, always}
+use Rattle.solver.specs.Session.{Limits, at, find, fresh, never}
+use Rattle.solver.specs.Orders.{Command, revision}
+use Rattle.solver.specs.Demand3.{History, beginning, history, AllAllowed, Premises}
 use Rattle.solver.specs.Robinson.{Substitution, value, Outcome, going, unifier, without, unification, lefts, rights, tuple}
-use Rattle.solver.specs.Robinson.{Unifies, Instance, MostGeneral, resolves, Unmarked, marked, UnmarkedPairs, FirstOrder, Opening, DecidesPair, Decides}
+use Rattle.solver.specs.Robinson.{Unifies, Instance, MostGeneral, resolves, Unmarked, marked, UnmarkedPairs, FirstOrder, Decides}
 use Rattle.solver.proofs.View.{T, view, view-injective}
 use Rattle.solver.proofs.Signature.{S, term?}
 use Rattle.solver.proofs.ViewLaws.{viewed, view-replace, view-resolve, view-read}
 use Rattle.solver.proofs.ConstrainView.{view-table, view-pairs, fallback}
 use Rattle.solver.proofs.Simulation.{TheSession, view-run, view-commands, history-view, all-allowed-view}
-use Rattle.solver.proofs.Demand3Laws.{respects, plain-pairs-view}
-use Rattle.solver.proofs.InOrderLaws.{history-run, settled}
+use Rattle.solver.proofs.Demand3Laws.{respects, or-both, plain-pairs-view}
 use Rattle.solver.proofs.RobinsonView.{laid, laid-injective, laid-replace, laid-all, value-laid, inst-laid, laid-outcome, unification-laid}
 
 -- ---- the Unification Theorem
@@ -185,10 +181,6 @@ decides-of h f =
 -- ---- from the theory
 
 -- a term without Map and Set is unmarked
-or-both : (a b : Bool) → (a || b) ≡ false → (a ≡ false) × (b ≡ false)
-or-both true b e = never-false e
-or-both false b e = (refl, e)
-
 module _ (n : Notion) where
   mutual
     unfolding meets marked readAll
@@ -205,7 +197,7 @@ module _ (n : Notion) where
     markless-row (sub t ps) e = let a = or-both (meets (marked n) always t) (meetsRow (marked n) always ps) e in ap₂ sub (markless t (a .0)) (markless-row ps (a .1))
 
 -- a term that reading leaves as it is
-normal-map : (m : Term → Term) {s : Sort} (t : Tree Term s) → tree.map m t ≡ t → Normal S m t
+pub normal-map : (m : Term → Term) {s : Sort} (t : Tree Term s) → tree.map m t ≡ t → Normal S m t
 unfolding tree.map
 normal-map m (tree.var v) e = tt
 normal-map m (tree.node h ts) e = let a : m h ≡ h = cc in let b : tree.map m ts ≡ ts = cc in (a, normal-map m ts b)
@@ -297,182 +289,3 @@ robinson lim cs f = robinson-of loose refl lim cs f
 pub strict-robinson : (lim : Limits) (cs : List Command) → FirstOrder lim exact cs → Decides (history lim exact beginning cs)
 unfolding exact
 strict-robinson lim cs f = robinson-of exact refl lim cs f
-
--- ---- one pair in a fresh session
-
-module _ (lim : Limits) (n : Notion) where
-  pub record Opened (h : History) : Type 0 where
-    pub none-posed : h .posed ≡ []
-    pub none-wrong : h .incompatible ≡ false
-    pub none-cut : h .cancelled ≡ false
-    pub none-asked : (v : ℕ) → h .requests v ≡ none
-
-  opened-variable : (h : History) → Opened h → (site slot : ℕ) → Opened (after lim n h (variable site slot))
-  unfolding order variableAt requestedBy posedBy says
-  opened-variable h o site slot = go (find (at site slot) (h .session .places)) (full lim (h .session))
-    where
-      go : (x : Option ℕ) (b : Bool) → Opened (noted h (variable site slot) (variableAt lim (h .session) (at site slot) x b))
-      go (some v) b = record { none-posed = o .none-posed; none-wrong = rw (o .none-wrong); none-cut = rw (o .none-cut); none-asked = o .none-asked }
-      go none true = record { none-posed = o .none-posed; none-wrong = rw (o .none-wrong); none-cut = rw (o .none-cut); none-asked = o .none-asked }
-      go none false = record { none-posed = o .none-posed; none-wrong = rw (o .none-wrong); none-cut = rw (o .none-cut); none-asked = o .none-asked }
-
-  opened-hole : (h : History) → Opened h → (site : ℕ) → Opened (after lim n h (hole site))
-  unfolding order holeAt requestedBy posedBy says
-  opened-hole h o site = go (find (gap site) (h .session .places)) (full lim (h .session))
-    where
-      go : (x : Option ℕ) (b : Bool) → Opened (noted h (hole site) (holeAt lim (h .session) (gap site) x b))
-      go (some v) b = record { none-posed = o .none-posed; none-wrong = rw (o .none-wrong); none-cut = rw (o .none-cut); none-asked = o .none-asked }
-      go none true = record { none-posed = o .none-posed; none-wrong = rw (o .none-wrong); none-cut = rw (o .none-cut); none-asked = o .none-asked }
-      go none false = record { none-posed = o .none-posed; none-wrong = rw (o .none-wrong); none-cut = rw (o .none-cut); none-asked = o .none-asked }
-
-  -- variables issued, then a last order
-  opening-opened : (h : History) (cs : List Command) → Opening cs → Opened h → Opened (history lim n h cs)
-  unfolding history
-  opening-opened h [] x o = o
-  opening-opened h (variable site slot ∷ cs) x o = opening-opened (after lim n h (variable site slot)) cs x (opened-variable h o site slot)
-  opening-opened h (number site r ∷ cs) x o = absurd x
-  opening-opened h (hole site ∷ cs) x o = opening-opened (after lim n h (hole site)) cs x (opened-hole h o site)
-  opening-opened h (defer t ∷ cs) x o = absurd x
-  opening-opened h (pair k t u ∷ cs) x o = absurd x
-  opening-opened h (resolving t ∷ cs) x o = absurd x
-  opening-opened h (numbers ∷ cs) x o = absurd x
-  opening-opened h (nevers ∷ cs) x o = absurd x
-  opening-opened h (revision ∷ cs) x o = absurd x
-  opening-opened h (unread r ∷ cs) x o = absurd x
-
-  opening-allowed : (k : ℕ) (t u : Term) (s : Session) (cs : List Command) → Opening cs → AllAllowed lim n s (cs ++ (pair k t u ∷ []))
-  opening-allowed k t u s [] x = (tt, tt)
-  opening-allowed k t u s (variable site slot ∷ cs) x = (tt, opening-allowed k t u (order lim n s (variable site slot) .session) cs x)
-  opening-allowed k t u s (number site r ∷ cs) x = absurd x
-  opening-allowed k t u s (hole site ∷ cs) x = (tt, opening-allowed k t u (order lim n s (hole site) .session) cs x)
-  opening-allowed k t u s (defer v ∷ cs) x = absurd x
-  opening-allowed k t u s (pair j v w ∷ cs) x = absurd x
-  opening-allowed k t u s (resolving v ∷ cs) x = absurd x
-  opening-allowed k t u s (numbers ∷ cs) x = absurd x
-  opening-allowed k t u s (nevers ∷ cs) x = absurd x
-  opening-allowed k t u s (revision ∷ cs) x = absurd x
-  opening-allowed k t u s (unread r ∷ cs) x = absurd x
-
-  history-last : (h : History) (cs : List Command) (c : Command) → history lim n h (cs ++ (c ∷ [])) ≡ after lim n (history lim n h cs) c
-  unfolding history
-  history-last h [] c = refl
-  history-last h (d ∷ cs) c = history-last (after lim n h d) cs c
-
-  -- a settled pair's answer, and what the history notes of it
-  pub record Said (r : Reply) : Type 0 where
-    pub taken : accepted r ≡ true
-    pub uncut : says 2 r ≡ false
-    pub yes : (r ≡ verdict 1) ↔ (says 0 r ≡ false)
-    pub not : (r ≡ verdict 0) ↔ (says 0 r ≡ true)
-
-  said : (o : Out Solver) → Settled o → Said (verdict (verdictOf o))
-  unfolding verdictOf says accepted
-  said (cancelled z) x = absurd x
-  said (done z true) x = record { taken = refl; uncut = refl; yes = (λ e. refl, λ e. refl); not = (λ e. clash (cc), λ e. never-true e) }
-  said (done z false) x = record { taken = refl; uncut = refl; yes = (λ e. clash (cc), λ e. never-false e); not = (λ e. refl, λ e. refl) }
-
-  -- an order 4 that is not refused
-  poses : (s : Session) (k : ℕ) (t u : Term) → known s t ≡ true → known s u ≡ true → crowded lim s (size t + size u) ≡ false
-      → order lim n s (pair k t u) ≡ posing lim n s (size t + size u) (constrain n k (s .solver) t u)
-  unfolding order
-  poses s k t u a b c = rw (a, b, c)
-
-module _ (lim : Limits) (n : Notion) (codes-count : n 4 ≡ false) where
-  module _ (cs : List Command) (x : Opening cs) (t u : Term) (pt : Plain t) (pu : Plain u) (mt : Unmarked n t) (mu : Unmarked n u) where
-    abbrev h : History
-    h = history lim n beginning cs
-
-    abbrev s : Session
-    s = history lim n beginning cs .session
-
-    opened : Opened lim n h
-    opened = opening-opened lim n beginning cs x (record { none-posed = refl; none-wrong = refl; none-cut = refl; none-asked = λ v. refl })
-
-    module _ (k : ℕ) (y : Said lim n (order lim n s (pair k t u) .reply)) where
-      abbrev r : Reply
-      r = order lim n s (pair k t u) .reply
-
-      abbrev after-pair : History
-      after-pair = after lim n h (pair k t u)
-
-      posed-one : after-pair .posed ≡ (t, u) ∷ []
-      unfolding posedBy
-      posed-one = rw (y .taken) (ap (λ (ps : List Pair). (t, u) ∷ ps) (opened .none-posed))
-
-      wrong-one : after-pair .incompatible ≡ says 0 r
-      wrong-one = ap (λ (b : Bool). b || says 0 r) (opened .none-wrong)
-
-      cut-one : after-pair .cancelled ≡ false
-      cut-one = ap₂ _||_ (opened .none-cut) (y .uncut)
-
-      asked-one : (v : ℕ) → after-pair .requests v ≡ none
-      unfolding requestedBy
-      asked-one v = opened .none-asked v
-
-      first-order : FirstOrder lim n (cs ++ (pair k t u ∷ []))
-      first-order =
-          let e = sym (history-last lim n beginning cs (pair k t u)) in
-          record {
-            premises = record {
-              allowed = opening-allowed lim n k t u fresh cs x;
-              pairs = subst (λ (g : History). PlainPairs (g .posed)) e (subst (λ (ps : List Pair). PlainPairs ps) (sym posed-one) (pt, pu, tt));
-              uncut = ap (λ (g : History). g .cancelled) (sym e) ∙ cut-one;
-            };
-            unmarked = subst (λ (g : History). UnmarkedPairs n (g .posed)) e (subst (λ (ps : List Pair). UnmarkedPairs n ps) (sym posed-one) (mt, mu, tt));
-            numberless = λ v. ap (λ (g : History). g .requests v) (sym e) ∙ asked-one v;
-          }
-
-      found-one : Found (says 0 r) (resolves (order lim n s (pair k t u) .session)) ((t, u) ∷ [])
-      found-one =
-          let a = subst (λ (g : History). Found (g .incompatible) (resolves (g .session)) (g .posed)) (history-last lim n beginning cs (pair k t u))
-          (found n codes-count lim (cs ++ (pair k t u ∷ [])) first-order) in
-          let b : Found (says 0 r) (resolves (after-pair .session)) (after-pair .posed) = subst (λ (w : Bool). Found w (resolves (after-pair .session)) (after-pair .posed)) wrong-one a in
-          subst (λ (ps : List Pair). Found (says 0 r) (resolves (after-pair .session)) ps) posed-one b
-
-      to-pair : (θ : ℕ → Term) → Unifies θ ((t, u) ∷ []) → replace θ t ≡ replace θ u
-      to-pair θ q = q .0
-
-      from-pair : (θ : ℕ → Term) → replace θ t ≡ replace θ u → Unifies θ ((t, u) ∷ [])
-      from-pair θ q = (q, tt)
-
-      through : {A B C : Type 0} → A ↔ B → B ↔ C → A ↔ C
-      through f g = (λ a. g .0 (f .0 a), λ c. f .1 (g .1 c))
-
-      decides-pair : DecidesPair lim n s k t u
-      decides-pair =
-          let ps : List Pair = (t, u) ∷ [] in
-          let w = says 0 r in
-          let ρ = resolves (order lim n s (pair k t u) .session) in
-          let a = unifiable-iff ps t u to-pair from-pair w ρ found-one in
-          let b = clashing-iff ps t u to-pair from-pair w ρ found-one in
-          record {
-            compatible = through (y .yes) (compatible-iff ps t u to-pair from-pair w ρ found-one);
-            unifiable = through (y .yes) (λ e. let q = a .0 e in (q .0, q .1 .0), λ q. a .1 (q .0, from-pair (q .0) (q .1)));
-            incompatible = through (y .not) (incompatible-iff ps t u to-pair from-pair w ρ found-one);
-            clashing = through (y .not) (λ e θ q. b .0 e θ (q, tt), λ f. b .1 (λ θ q. f θ (q .0)));
-            resolved-so = resolved-if ps t u to-pair from-pair w ρ found-one;
-          }
-
-    abbrev Goal : Session → Type 0
-    Goal z = known z t ≡ true → known z u ≡ true → crowded lim z (size t + size u) ≡ false → (K : ℕ) × ((k : ℕ) → K ≤ k → DecidesPair lim n z k t u)
-
-    abbrev Ends : Session → Type 0
-    Ends z = known z t ≡ true → known z u ≡ true → (K : ℕ) × SettledBy n K (z .solver) t u
-
-    -- ROBINSON 1965 DECIDES A PAIR: variables issued in a fresh session, then a plain first-order pair posed with enough checks, which is not
-    -- refused (6 or 7).
-    pub robinson-pair-of : known (run lim n fresh cs) t ≡ true → known (run lim n fresh cs) u ≡ true → crowded lim (run lim n fresh cs) (size t + size u) ≡ false
-        → (K : ℕ) × ((k : ℕ) → K ≤ k → DecidesPair lim n (run lim n fresh cs) k t u)
-    robinson-pair-of = subst (λ (z : Session). Goal z) (history-run lim n beginning cs) inner
-      where
-        inner : Goal s
-        inner a b c =
-            let e = subst (λ (z : Session). Ends z) (sym (history-run lim n beginning cs)) (settled lim n codes-count cs t u) a b in
-            (e .0, λ k l. decides-pair k (subst (λ (z : Step). Said lim n (z .reply)) (sym (poses lim n s k t u a b c)) (said lim n (constrain n k (s .solver) t u) (e .1 k l))))
-
--- order 4: up to Set and Map access
-pub robinson-pair : (lim : Limits) (cs : List Command) → Opening cs → (t u : Term) → Plain t → Plain u → Unmarked loose t → Unmarked loose u
-    → known (run lim loose fresh cs) t ≡ true → known (run lim loose fresh cs) u ≡ true → crowded lim (run lim loose fresh cs) (size t + size u) ≡ false
-    → (K : ℕ) × ((k : ℕ) → K ≤ k → DecidesPair lim loose (run lim loose fresh cs) k t u)
-unfolding loose
-robinson-pair lim cs x t u pt pu mt mu a b c = robinson-pair-of lim loose refl cs x t u pt pu mt mu a b c

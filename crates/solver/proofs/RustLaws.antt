@@ -420,7 +420,7 @@ request-answered s z x v c l m =
 
 module _ (lim : Limits) where
   -- a refused order leaves the session
-  refused-stays : (s : Session) (c : Command) → accepted (order lim loose s c .reply) ≡ false → order lim loose s c .session ≡ s
+  pub refused-stays : (s : Session) (c : Command) → accepted (order lim loose s c .reply) ≡ false → order lim loose s c .session ≡ s
   unfolding order variableAt numberAt holeAt accepted
   refused-stays s (variable site slot) = go (find (at site slot) (s .places)) (full lim s)
     where

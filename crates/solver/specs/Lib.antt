@@ -7,6 +7,7 @@
 --   Demand3    demand 3: its premises and its two sentences
 --   InOrder    what holds after every list of orders
 --   Robinson   Robinson 1965 on terms: the Unification Algorithm, most general unifiers, and what demand 2 says of plain pairs
+--   RobinsonPair  what it says of each plain pair, in every session
 --   Rust       the Rust's `Solver`, line by line, on terms
 -- What the code says of the lent areas:
 --   Walk       a held term with bound variables replaced, on any words
@@ -27,6 +28,7 @@ pub mod Orders
 pub mod Demand3
 pub mod InOrder
 pub mod Robinson
+pub mod RobinsonPair
 pub mod Rust
 pub mod Walk
 pub mod Frames

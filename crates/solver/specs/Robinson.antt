@@ -16,7 +16,7 @@ use Rattle.terms.specs.Tree.{same}
 use Rattle.solver.specs.Shapes.{Notion, blank, readAll}
 use Rattle.solver.specs.Solving.{Pair, replace, resolved, occurs}
 use Rattle.solver.specs.Session.{Limits, Session}
-use Rattle.solver.specs.Orders.{Command, variable, number, hole, defer, pair, resolving, numbers, nevers, revision, unread, verdict, order}
+use Rattle.solver.specs.Orders.{Command, number, pair}
 use Rattle.solver.specs.Demand3.{History, beginning, history, Premises}
 
 -- ---- substitutions
@@ -167,39 +167,12 @@ abbrev pub UnmarkedPairs : Notion → List Pair → Type 0
 UnmarkedPairs n [] = Unit {0}
 UnmarkedPairs n (p ∷ ps) = Unmarked n (p .0) × Unmarked n (p .1) × UnmarkedPairs n ps
 
--- orders that issue variables, and nothing else
-abbrev pub Opening : List Command → Type 0
-Opening [] = Unit {0}
-Opening (variable site slot ∷ cs) = Opening cs
-Opening (number site r ∷ cs) = ⊥
-Opening (hole site ∷ cs) = Opening cs
-Opening (defer t ∷ cs) = ⊥
-Opening (pair k t u ∷ cs) = ⊥
-Opening (resolving t ∷ cs) = ⊥
-Opening (numbers ∷ cs) = ⊥
-Opening (nevers ∷ cs) = ⊥
-Opening (revision ∷ cs) = ⊥
-Opening (unread r ∷ cs) = ⊥
-
 module _ (lim : Limits) (n : Notion) where
   -- "plain first-order pairs (no recovery terms, projections, number variables or access marks)", none of them cancelled
   pub record FirstOrder (cs : List Command) : Type 0 where
     pub premises : Premises lim n cs
     pub unmarked : UnmarkedPairs n (history lim n beginning cs .posed)
     pub numberless : (v : ℕ) → history lim n beginning cs .requests v ≡ none
-
-  -- a pair posed in a session
-  pub record DecidesPair (s : Session) (k : ℕ) (t u : Term) : Type 0 where
-    -- answered compatible: exactly where the algorithm ends with a unifier, and exactly if there is one
-    pub compatible : (order lim n s (pair k t u) .reply ≡ verdict 1) ↔ ((σ : Substitution) × (unification t u ≡ unifier σ))
-    pub unifiable : (order lim n s (pair k t u) .reply ≡ verdict 1) ↔ ((θ : ℕ → Term) × (replace θ t ≡ replace θ u))
-    -- answered incompatible: exactly where it ends without one, and exactly if there is none at all
-    pub incompatible : (order lim n s (pair k t u) .reply ≡ verdict 0) ↔ (unification t u ≡ without)
-    pub clashing : (order lim n s (pair k t u) .reply ≡ verdict 0) ↔ ((θ : ℕ → Term) → ¬ (replace θ t ≡ replace θ u))
-    -- his unifier and what the variables resolve to are most general, and instances of each other
-    pub resolved-so : (σ : Substitution) → unification t u ≡ unifier σ
-        → MostGeneral (value σ) ((t, u) ∷ []) × MostGeneral (resolves (order lim n s (pair k t u) .session)) ((t, u) ∷ [])
-        × Instance (value σ) (resolves (order lim n s (pair k t u) .session)) × Instance (resolves (order lim n s (pair k t u) .session)) (value σ)
 
 -- the pairs posed one after the other, whatever other orders came between
 pub record Decides (h : History) : Type 0 where

@@ -1,0 +1,146 @@
+-- What the contract of `sheet_run` says of a call: the orders that it answered are the first of the sheet, as many as it reports, and their answers are
+-- the first bytes of the output. Assumes nothing.
+use mathlib.Core.Path.{_≡_, refl, sym, ap, ap₂, _∙_, subst}
+use mathlib.Core.Bool.{Bool, true, false}
+use mathlib.Core.List.{List, [], _∷_, _++_, append-assoc}
+use mathlib.Core.Logic.{_⊎_, inl, inr}
+use mathlib.Core.Option.{Option, none, some}
+use Prim.Native.Nat.{ℕ, zero, suc, _-_, _<_}
+use lib.Dec.{ltb, leb}
+use lib.ListN.{length, getD, take, drop, replicate}
+use lib.Seq.{take-append-seam, drop-append-seam}
+use Rattle.terms.specs.Result.{Result, got, refused, pick}
+use Rattle.solver.specs.Shapes.{loose}
+use Rattle.solver.specs.Session.{Limits, Session, issued, fresh}
+use Rattle.solver.specs.Orders.{Command, order}
+use Rattle.solver.proofs.RustLaws.{refused-stays}
+use Rattle.sheet.specs.Fields.{readOrder}
+use Rattle.sheet.specs.Operations.{refusal}
+use Rattle.sheet.specs.Sheet.{Step, Run, orderOf, framed, ends, answering, nextOrder, answered, runFrom, runOf}
+use Rattle.sheet.specs.Demand3.{ByteString, accepted, sessionAfter, ordersFrom, answersTo}
+use Rattle.sheet.specs.Commands.{command}
+use Rattle.sheet.specs.RustBytes.{AllSolved, solvedOne, solvedTo}
+use Rattle.sheet.specs.Ending.{Finish, finished, suits, leaving, finishOf}
+use Rattle.sheet.proofs.EndingLaws.{finish-unfit, finish-run}
+use Rattle.sheet.proofs.Demand3Bytes.{accepted-of}
+use Rattle.sheet.proofs.Demand3Run.{run-follows}
+use Rattle.sheet.proofs.RustBytesLaws.{Does, does-read}
+
+-- the list of a slice of bytes
+pub slice-bytes : (s : List ℕ) → ((i : ℕ) → getD s i 0 < 256) → ByteString s
+unfolding ByteString
+slice-bytes [] h = tt
+slice-bytes (b ∷ s) h = (h 0, slice-bytes s (λ i. h (suc i)))
+
+-- ---- one order
+
+module _ (lim : Limits) where
+  pub refused-unchanged : (s : Session) (b : List ℕ) (c : ℕ) → orderOf lim s b .answer ≡ refusal c → orderOf lim s b .session ≡ s
+  unfolding accepted
+  refused-unchanged s b c = go (command s b) (orderOf lim s b) (does-read lim s (readOrder b (issued s)))
+    where
+      go : (o : Option Command) (x : Step) → Does lim s o x → x .answer ≡ refusal c → x .session ≡ s
+      go none x d e = d
+      go (some k) x d e =
+          ap (λ (y : Step). y .session) d
+          ∙ refused-stays lim s k (sym (accepted-of (order lim loose s k .reply)) ∙ ap (λ (y : Step). accepted (y .answer)) (sym d) ∙ ap accepted e)
+
+  -- one that says nothing to the solver
+  pub others-leave : (s : Session) (b : List ℕ) → command s b ≡ none → orderOf lim s b .session ≡ s
+  others-leave s b e = subst (λ (o : Option Command). Does lim s o (orderOf lim s b)) e (does-read lim s (readOrder b (issued s)))
+
+  -- ---- lists of orders
+
+  pub answers-append : (s : Session) (bs cs : List (List ℕ)) → answersTo lim s (bs ++ cs) ≡ answersTo lim s bs ++ answersTo lim (sessionAfter lim s bs) cs
+  unfolding answersTo sessionAfter
+  answers-append s [] cs = refl
+  answers-append s (b ∷ bs) cs =
+      let x = orderOf lim s b in
+      ap (λ (l : List ℕ). framed (x .answer) ++ l) (answers-append (x .session) bs cs)
+      ∙ sym (append-assoc (framed (x .answer)) (answersTo lim (x .session) bs) (answersTo lim (sessionAfter lim (x .session) bs) cs))
+
+  -- all of them of kinds 0 to 8, and none refused: all answers are compared with the Rust's
+  pub all-solved : (s : Session) (bs : List (List ℕ)) → AllSolved lim s bs → solvedTo lim s bs ≡ answersTo lim s bs
+  unfolding solvedTo answersTo AllSolved
+  all-solved s [] a = refl
+  all-solved s (b ∷ bs) a =
+      ap₂ _++_
+      (ap (λ (o : Option Command). solvedOne o (orderOf lim s b .answer)) (a .0 .1) ∙ ap (λ (h : Bool). pick h (framed (orderOf lim s b .answer)) []) (a .1))
+      (all-solved (orderOf lim s b .session) bs (a .2))
+
+  -- ---- the run
+
+  abbrev Reason : ℕ → Type 0
+  Reason r = (r ≡ 0) ⊎ ((r ≡ 10) ⊎ (r ≡ 11))
+
+  run-reason : (s : List ℕ) (fuel : ℕ) (z : Session) (at space : ℕ) → Reason (runFrom lim s fuel z at space .reason)
+  unfolding runFrom
+  run-reason s zero z at space = inl refl
+  run-reason s (suc fuel) z at space = go (λ y k m. run-reason s fuel y k m) (leb (length s) at)
+    where
+      fits : ((y : Session) (k m : ℕ) → Reason (runFrom lim s fuel y k m .reason)) → (b : List ℕ) (next : ℕ) (over : Bool)
+          → Reason (pick over (ends 11 z) (answering (framed (orderOf lim z b .answer)) (runFrom lim s fuel (orderOf lim z b .session) next (space - length (framed (orderOf lim z b .answer))))) .reason)
+      fits more b next true = inr (inr refl)
+      fits more b next false = more (orderOf lim z b .session) next (space - length (framed (orderOf lim z b .answer)))
+
+      comes : ((y : Session) (k m : ℕ) → Reason (runFrom lim s fuel y k m .reason)) → (x : Result (List ℕ)) → Reason (answered lim s (runFrom lim s fuel) z space x .reason)
+      comes more (got b next) = fits more b next (ltb space (length (framed (orderOf lim z b .answer))))
+      comes more (refused c) = inr (inl refl)
+
+      go : ((y : Session) (k m : ℕ) → Reason (runFrom lim s fuel y k m .reason)) → (b : Bool)
+          → Reason (pick b (ends 0 z) (answered lim s (runFrom lim s fuel) z space (nextOrder s at)) .reason)
+      go more true = inl refl
+      go more false = comes more (nextOrder s at)
+
+-- ---- a call
+
+module _ (lim : Limits) (words : ℕ) (sheet out a b c d : List ℕ) (reason orders bytes : ℕ) (out′ a′ b′ c′ d′ : List ℕ)
+    (contract : finished reason orders bytes out′ a′ b′ c′ d′ ≡ finishOf lim words sheet out a b c d) where
+  abbrev taken : Bool
+  taken = suits words (length sheet) (length out) (length a) (length b) (length c) (length d)
+
+  abbrev ran : Run
+  ran = runOf lim sheet (length out)
+
+  pub unfit : taken ≡ false → finished reason orders bytes out′ a′ b′ c′ d′ ≡ finished 12 0 0 out a b c d
+  unfit e = contract ∙ sym (finish-unfit lim words sheet out a b c d e)
+
+  fit : taken ≡ true → finished reason orders bytes out′ a′ b′ c′ d′ ≡ leaving ran out a b c d
+  fit e = contract ∙ sym (finish-run lim words sheet out a b c d (leaving ran out a b c d) e refl)
+
+  pub zeroed : taken ≡ true → (a′ ≡ replicate (length a) 0) × (b′ ≡ replicate (length b) 0) × (c′ ≡ replicate (length c) 0) × (d′ ≡ replicate (length d) 0)
+  unfolding leaving
+  zeroed e =
+      let f = fit e in
+      (ap (λ (x : Finish). x .a) f, ap (λ (x : Finish). x .b) f, ap (λ (x : Finish). x .c) f, ap (λ (x : Finish). x .d) f)
+
+  pub ended : taken ≡ true → (reason ≡ 0) ⊎ ((reason ≡ 10) ⊎ (reason ≡ 11))
+  unfolding leaving
+  ended e = subst (λ (r : ℕ). (r ≡ 0) ⊎ ((r ≡ 10) ⊎ (r ≡ 11))) (ap (λ (x : Finish). x .reason) (sym (fit e))) (run-reason lim sheet (suc (length sheet)) fresh 0 (length out))
+
+  abbrev served : List (List ℕ)
+  served = ordersFrom sheet orders 0
+
+  pub in-turn : (length served ≡ orders) × (take bytes out′ ≡ answersTo lim fresh served) × (drop bytes out′ ≡ drop bytes out)
+  unfolding leaving ordersFrom answersTo
+  in-turn = go taken refl
+    where
+      go : (t : Bool) → taken ≡ t → (length served ≡ orders) × (take bytes out′ ≡ answersTo lim fresh served) × (drop bytes out′ ≡ drop bytes out)
+      go true e =
+          let f = fit e in
+          let n : orders ≡ ran .orders = ap (λ (x : Finish). x .orders) f in
+          let m : bytes ≡ length (ran .answers) = ap (λ (x : Finish). x .bytes) f in
+          let o : out′ ≡ ran .answers ++ drop (length (ran .answers)) out = ap (λ (x : Finish). x .out) f in
+          let r = run-follows lim sheet (length out) in (
+            subst (λ (k : ℕ). length (ordersFrom sheet k 0) ≡ k) (sym n) (r .2),
+            ap₂ (λ (k : ℕ) (l : List ℕ). take k l) m o ∙ take-append-seam (ran .answers) (drop (length (ran .answers)) out) ∙ r .1 ∙ ap (λ (k : ℕ). answersTo lim fresh (ordersFrom sheet k 0)) (sym n),
+            ap₂ (λ (k : ℕ) (l : List ℕ). drop k l) m o ∙ drop-append-seam (ran .answers) (drop (length (ran .answers)) out) ∙ ap (λ (k : ℕ). drop k out) (sym m),
+          )
+      go false e =
+          let f = unfit e in
+          let n : orders ≡ 0 = ap (λ (x : Finish). x .orders) f in
+          let m : bytes ≡ 0 = ap (λ (x : Finish). x .bytes) f in (
+            subst (λ (k : ℕ). length (ordersFrom sheet k 0) ≡ k) (sym n) refl,
+            ap (λ (k : ℕ). take k out′) m ∙ ap (λ (k : ℕ). answersTo lim fresh (ordersFrom sheet k 0)) (sym n),
+            ap (drop bytes) (ap (λ (x : Finish). x .out) f),
+          )

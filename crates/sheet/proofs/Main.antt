@@ -1,0 +1,164 @@
+-- THE PROMISES, on one page. Each statement is proved by a citation. Quoted are the request, with its demands 1, 2 and 3, and document 01. Lists of ℕ are
+-- bytes or words; `box` are the limits of 512 variables and 2,048 nodes. Assumes nothing.
+use mathlib.Core.Path.{_≡_, sym, ap, _∙_}
+use mathlib.Core.Bool.{true, false}
+use mathlib.Core.List.{List, [], _∷_, _++_}
+use mathlib.Core.Logic.{_⊎_}
+use mathlib.Core.Option.{none}
+use Prim.Native.Nat.{ℕ, _+_, _≤_, _<_}
+use native.Mathlib.Omega.{arith}
+use lib.ListN.{length, getD, take, drop, replicate}
+use Rattle.terms.specs.Result.{got}
+use Rattle.terms.specs.Number.{number, shortest}
+use Rattle.terms.specs.Term.{Term, var, depth, AllVars, bytes}
+use Rattle.terms.specs.Formed.{Formed}
+use Rattle.terms.specs.Reading as reading
+use Rattle.terms.proofs.Shortest as numbers
+use Rattle.terms.proofs.Shortest.{octets}
+use Rattle.terms.proofs.RoundTrip as terms
+use Rattle.terms.proofs.Sound.{FoundTerm, found}
+use Rattle.solver.specs.Shapes.{loose}
+use Rattle.solver.specs.Solving.{resolved}
+use Rattle.solver.specs.Session.{Session, box, issued, fresh}
+use Rattle.solver.specs.Orders as orders
+use Rattle.solver.specs.Demand3.{beginning, Demand3}
+use Rattle.solver.specs.InOrder.{InOrder, Fits, SettledBy}
+use Rattle.solver.specs.Robinson.{Unmarked, UnmarkedPairs, Decides}
+use Rattle.solver.specs.RobinsonPair.{FirstOrderIn}
+use Rattle.sheet.specs.Operations.{refusal, outcome}
+use Rattle.sheet.specs.Sheet.{orderOf, framed}
+use Rattle.sheet.specs.Demand3.{Pure, PurePairs, Premises, historyOf, sessionAfter, ordersFrom, answersTo}
+use Rattle.sheet.specs.Commands.{command}
+use Rattle.sheet.specs.RustBytes.{frames, AsTheRust, AllSolved}
+use Rattle.sheet.specs.RobinsonBytes.{FirstOrder, PlainOrder, AnsweredSo, DecidesOrders}
+use Rattle.sheet.specs.Ending.{finished, suits, finishOf}
+use Rattle.sheet.proofs.MarkedTable.{MarkedLines, marked}
+use Rattle.sheet.proofs.Demand3Bytes.{demand-3-bytes}
+use Rattle.sheet.proofs.Demand3Run.{orders-bytes}
+use Rattle.sheet.proofs.SessionBytes as session
+use Rattle.sheet.proofs.RustBytesLaws.{rust-bytes}
+use Rattle.sheet.proofs.RobinsonBytesLaws.{robinson-bytes, robinson-orders, settled-bytes, posed-plain-bytes}
+use Rattle.sheet.proofs.CallLaws as call
+
+-- ---- A CALL OF `sheet_run`. It was lent a sheet, an output and four areas, and handed back a reason and two counts; out′ to d′ is how the output and the areas
+-- were left. `contract` is what its contract says (crates/sheet/src/running.rt), with no condition: so what follows holds for every call.
+
+module _ (sheet out a b c d : List ℕ) (reason orders bytes : ℕ) (out′ a′ b′ c′ d′ : List ℕ)
+    (contract : finished reason orders bytes out′ a′ b′ c′ d′ ≡ finishOf box 16384 sheet out a b c d) where
+  -- the orders that it answered: the first of the sheet, as many as it reports
+  abbrev pub served : List (List ℕ)
+  served = ordersFrom sheet orders 0
+
+  -- DEMAND 1. "The port as a whole accepts every byte sheet and every lent area, finishes, and gives each order that no run reason stops either its result or
+  -- the one refusal that document 01 fixes.": the first bytes of the output are the answers to these orders, given in turn to a fresh session.
+  pub demand-1-answers : (length served ≡ orders) × (take bytes out′ ≡ answersTo box fresh served)
+  demand-1-answers = let e = call.in-turn box 16384 sheet out a b c d reason orders bytes out′ a′ b′ c′ d′ contract in (e .0, e .1)
+
+  -- "Bytes past the reported answers stay untouched."
+  pub demand-1-output : drop bytes out′ ≡ drop bytes out
+  demand-1-output = call.in-turn box 16384 sheet out a b c d reason orders bytes out′ a′ b′ c′ d′ contract .2
+
+  -- "Work areas end all zero, except under 12."
+  pub demand-1-areas : suits 16384 (length sheet) (length out) (length a) (length b) (length c) (length d) ≡ true
+      → (a′ ≡ replicate (length a) 0) × (b′ ≡ replicate (length b) 0) × (c′ ≡ replicate (length c) 0) × (d′ ≡ replicate (length d) 0)
+  demand-1-areas = call.zeroed box 16384 sheet out a b c d reason orders bytes out′ a′ b′ c′ d′ contract
+
+  -- "12 is tested first", "nothing written, orders 0, bytes 0"; the areas are as they were. Else the reason is 0, 10 or 11.
+  pub demand-1-run-12 : suits 16384 (length sheet) (length out) (length a) (length b) (length c) (length d) ≡ false
+      → finished reason orders bytes out′ a′ b′ c′ d′ ≡ finished 12 0 0 out a b c d
+  demand-1-run-12 = call.unfit box 16384 sheet out a b c d reason orders bytes out′ a′ b′ c′ d′ contract
+
+  pub demand-1-reasons : suits 16384 (length sheet) (length out) (length a) (length b) (length c) (length d) ≡ true → (reason ≡ 0) ⊎ ((reason ≡ 10) ⊎ (reason ≡ 11))
+  demand-1-reasons = call.ended box 16384 sheet out a b c d reason orders bytes out′ a′ b′ c′ d′ contract
+
+  -- where the answer to each of these orders stands: behind the answers to those before it
+  pub answer-at : (bs cs : List (List ℕ)) (o : List ℕ) → served ≡ bs ++ (o ∷ cs)
+      → (let x = orderOf box (sessionAfter box fresh bs) o in take bytes out′ ≡ answersTo box fresh bs ++ (framed (x .answer) ++ answersTo box (x .session) cs))
+  unfolding answersTo
+  answer-at bs cs o e = demand-1-answers .1 ∙ ap (answersTo box fresh) e ∙ call.answers-append box fresh bs (o ∷ cs)
+
+  -- DEMAND 2, PAIR BY PAIR. "on plain pairs they are proved against the 1965 definition"; "For plain first-order pairs (no recovery terms, projections, number
+  -- variables or access marks) Robinson 1965 decides.": each order 4 that the call answered, whatever came before it, whose terms are plain as they
+  -- resolve there, is answered as his algorithm decides, or cancelled (not with checks enough: `robinson-each`).
+  pub demand-2-robinson-each : (bs cs : List (List ℕ)) (o : List ℕ) (k : ℕ) (t u : Term) → served ≡ bs ++ (o ∷ cs) → PlainOrder box (sessionAfter box fresh bs) o k t u
+      → (orderOf box (sessionAfter box fresh bs) o .answer ≡ outcome (2 ∷ [])) ⊎ AnsweredSo box (sessionAfter box fresh bs) o t u
+  demand-2-robinson-each bs cs o k t u e p = robinson-orders box bs t u .fewer k o p
+
+  -- The sheet is lent as a slice of bytes.
+  module _ (octet : (i : ℕ) → getD sheet i 0 < 256) where
+    -- DEMAND 2, THE RUST. "Everywhere in 01's domain answers equal the Rust's, byte by byte in 01's format": `Solver` of solver.rs answers those orders that are of
+    -- kinds 0 to 8 and not refused with the same bytes. Where all are such, its answers are all that the call wrote.
+    pub demand-2-rust : (r : AsTheRust box served) × (AllSolved box fresh served → take bytes out′ ≡ frames (r .replies))
+    demand-2-rust =
+        let r = rust-bytes box served (orders-bytes sheet (call.slice-bytes sheet octet) orders 0) in
+        (r, λ s. demand-1-answers .1 ∙ sym (call.all-solved box fresh served s) ∙ r .same-bytes)
+
+    -- DEMAND 2, ALL PAIRS TOGETHER: where all posed pairs are plain first-order ones, some pair was answered incompatible exactly where Robinson's algorithm ends
+    -- without a common unifier of them; if none was, what the variables resolve to is one as general as his.
+    pub demand-2-robinson : FirstOrder box served → Decides (historyOf box beginning served)
+    demand-2-robinson = robinson-bytes box served (orders-bytes sheet (call.slice-bytes sheet octet) orders 0)
+
+    -- DEMAND 3. "Some pair was answered incompatible exactly if no assignment of variable-free terms of any size, true to the number families requested, makes every
+    -- posed pair equal up to Set and Map access. If none was, the assignments that do so are exactly those true to the families that agree, up to that access,
+    -- with what each variable resolves to, and every variable left in those terms resolves to itself.": the fields `first`, `second` and `left`.
+    pub demand-3 : Premises box served → Demand3 loose (historyOf box beginning served)
+    demand-3 = demand-3-bytes box served (orders-bytes sheet (call.slice-bytes sheet octet) orders 0)
+
+-- ---- AN ORDER, AND A LIST OF ORDERS, each given as its bytes to a session, whatever was answered
+
+-- "A refused order leaves the session unchanged."
+pub demand-1-refused : (s : Session) (b : List ℕ) (c : ℕ) → orderOf box s b .answer ≡ refusal c → orderOf box s b .session ≡ s
+demand-1-refused = call.refused-unchanged box
+
+-- "Orders 9 to 20 leave the session as it was": each order that is none of the solver's
+pub orders-9-to-20 : (s : Session) (b : List ℕ) → command s b ≡ none → orderOf box s b .session ≡ s
+orders-9-to-20 = call.others-leave box
+
+-- "What a variable resolves to is the term order 5 would answer for it after the list, given space for order and answer."
+pub order-5 : (bs : List (List ℕ)) (v : ℕ)
+    → (let s = sessionAfter box fresh bs in v < issued s → s .kept < 2048 → orderOf box s (5 ∷ bytes (var v)) .answer ≡ outcome (bytes (resolved (s .solver) (var v))))
+order-5 bs v l k = let f = session.fits-bytes box bs .variables in session.order-5 box (sessionAfter box fresh bs) v l (omega arith) k
+
+-- Robinson decides each plain pair: some number of checks is enough, and every order 4 that poses the pair with as many is answered as his algorithm ends.
+pub robinson-each : (bs : List (List ℕ)) (t u : Term) → DecidesOrders box (sessionAfter box fresh bs) t u
+robinson-each = robinson-orders box
+
+-- A pair is plain as it resolves, if neither it nor a pair posed before it has a recovery term, a projection or an access mark, and no number was requested.
+pub plain-by-terms : (bs : List (List ℕ)) → PurePairs (historyOf box beginning bs .posed) → UnmarkedPairs loose (historyOf box beginning bs .posed)
+    → ((v : ℕ) → historyOf box beginning bs .requests v ≡ none) → (t : Term) → Pure t → Unmarked loose t → FirstOrderIn loose (sessionAfter box fresh bs) t
+plain-by-terms = posed-plain-bytes box
+
+-- "k checks pass, the next cancels": every pair is settled by some number of checks
+pub settles : (bs : List (List ℕ)) (t u : Term)
+    → (let s = sessionAfter box fresh bs in orders.known s t ≡ true → orders.known s u ≡ true → (K : ℕ) × SettledBy loose K (s .solver) t u)
+settles = settled-bytes box
+
+-- the revision "is the number of bound variables", no variable leads to itself, and resolving comes to an end
+pub in-order : (bs : List (List ℕ)) → InOrder (sessionAfter box fresh bs)
+in-order = session.in-order-bytes box
+
+-- "at most 512 type variables and 2,048 kept term nodes"
+pub within-limits : (bs : List (List ℕ)) → Fits box (sessionAfter box fresh bs)
+within-limits = session.fits-bytes box
+
+-- "The marked lines are proved together against the definitions"
+pub marked-lines : MarkedLines
+marked-lines = marked
+
+-- ---- NUMBERS AND TERMS as bytes
+
+-- "Shortest form only": it is read back, whatever stands before and after it; and what is read as a number is its shortest form
+pub numbers-read : (most v : ℕ) (before rest : List ℕ) → v ≤ most → number most (before ++ (shortest v ++ rest)) (length before) ≡ got v (length before + length (shortest v))
+numbers-read = numbers.round-trip
+
+pub numbers-only : (most at v n : ℕ) (s : List ℕ) → ((i : ℕ) → getD s i 0 < 256) → number most s at ≡ got v n → drop at s ≡ shortest v ++ drop n s
+numbers-only most at v n s o = numbers.number-took most at v n s (octets s o)
+
+-- A formed term within its levels, whose variables are issued, is read back from its bytes; and what is read is such a term, and its bytes are those consumed.
+pub terms-read : (s : List ℕ) (many levels : ℕ) (t : Term) → Formed t → depth t ≤ levels → AllVars (λ v. v < many) t
+    → (at : ℕ) (rest : List ℕ) → drop at s ≡ bytes t ++ rest → reading.term s many levels at ≡ got t (at + length (bytes t))
+terms-read = terms.round-trip
+
+pub terms-only : (s : List ℕ) (octet : (i : ℕ) → getD s i 0 < 256) (many levels at : ℕ) (t : Term) (n : ℕ) → reading.term s many levels at ≡ got t n
+    → FoundTerm s (octets s octet) many levels at t n
+terms-only s octet = found s (octets s octet)
