@@ -6,7 +6,7 @@ use mathlib.Core.Option.{some}
 use Prim.Native.Nat.{ℕ, _+_, _≤_, _<_}
 use native.Mathlib.Omega.{arith}
 use native.Mathlib.Numerals.{add-one}
-use borrow.Author.Tests.{lt-ltb, le-ltb, eq-eqb, ne-eqb}
+use borrow.Author.Tests.{lt-ltb, le-ltb, eq-eqb, ne-eqb, eqb-false}
 use lib.ListN.{length, length-append, set}
 use lib.Seq.{sets}
 use Rattle.terms.specs.declared.Binders.{Binders}
@@ -17,15 +17,18 @@ use Rattle.terms.specs.Result.{got}
 use Rattle.terms.specs.Parameters.{parameters}
 use Rattle.terms.proofs.HeldLaws.{items-some}
 use Rattle.terms.specs.Term.{Term, bytes, Held}
+use Rattle.terms.specs.Placed.{FormedAt}
 use Rattle.terms.specs.Tokens.{area, blank}
 use Rattle.terms.specs.View.{Sight}
 use Rattle.terms.specs.Questions.{Parameter, asked, answered}
 use Rattle.terms.specs.Substitution.{Entry, Receiver, apply, instantiate, extend, zipped}
 use Rattle.terms.specs.Rewriting.{Rewrites, Writes}
 use Rattle.terms.specs.Normal.{Out, levels, most}
-use Rattle.terms.specs.Normalising.{Answers, Leaves, Stands}
+use Rattle.terms.specs.Normalising.{numberOf, numberFor, Answers, Leaves, Stands}
+use Rattle.terms.proofs.NormalLaws.{refused-number, few-number, long-number}
 use Rattle.sheet.specs.Operations.{Answer, refusal, outcome, bit, bits, seven, perhaps, settled}
 use Rattle.sheet.specs.Written.{Framed, opening, Begun}
+use Rattle.sheet.specs.Answering.{Two}
 use Rattle.sheet.proofs.FramingLaws.{value-frame, frame-over, value-in, value-over}
 
 -- ---- in the places of equals
@@ -46,6 +49,9 @@ two-bytes a b c d p q = rw (p, q)
 
 pub held-in : (ks vs : List ℕ) (p : ℕ) (t : Term) → Held ks vs p t → p < length ks
 held-in ks vs p t h = omega (arith, h .within, items-some t)
+
+abbrev pub formed-both : (ks vs : List ℕ) (a b : ℕ) (t u : Term) → Two ks vs a b t u → FormedAt ks vs a × FormedAt ks vs b
+formed-both ks vs a b t u x = (record { term = t; held = x .left; formed = x .left-formed }, record { term = u; held = x .right; formed = x .right-formed })
 
 -- ---- orders 12, 13, 14 and 18
 
@@ -141,31 +147,42 @@ pub value-long : (v out : List ℕ) (to : ℕ) → length out < to + length v �
 value-long v out to h =
     frame-over (outcome v) (opening (length v) ++ v) (value-frame v) out to out (length out + 1) (omega (arith, length-append (opening (length v)) v)) refl refl
 
-module _ (ks vs hs cs hs₁ cs₁ out₀ : List ℕ) (to : ℕ) (r : Normalised) where
-  -- the areas
+-- the areas
+module _ (ks vs hs cs hs₁ cs₁ : List ℕ) (r : Normalised) where
+  leaves-same : (numberOf r ≡ 0 → ⊥) → Leaves ks vs hs cs hs₁ cs₁ most r → area hs₁ cs₁ ≡ area hs cs
+  leaves-same n x = let y = x .same n in rw (y .0, y .1)
+
   pub leaves-refused : r ≡ Refused → Leaves ks vs hs cs hs₁ cs₁ most r → area hs₁ cs₁ ≡ area hs cs
-  leaves-refused e x = let y = rw e at x in rw (y .0, y .1)
+  leaves-refused e = leaves-same (λ z. eqb-false 9 0 refl (sym (ap numberOf e) ∙ z))
 
   pub leaves-long : r ≡ Long → Leaves ks vs hs cs hs₁ cs₁ most r → area hs₁ cs₁ ≡ area hs cs
-  leaves-long e x = let y = rw e at x in rw (y .0, y .1)
+  leaves-long e = leaves-same (λ z. eqb-false 11 0 refl (sym (ap numberOf e) ∙ z))
 
   pub leaves-done : (w : Ready) → r ≡ Done w → Leaves ks vs hs cs hs₁ cs₁ most r → (w .next ≤ most) × (blank (area hs₁ cs₁) 0 (w .next) ≡ area hs cs) × Sight ks vs (w .given)
-  leaves-done w e x = rw e at x
+  leaves-done w e x = rw e at (x .records)
 
-  -- the answers
-  pub answers-refused : (o : Out) → r ≡ Refused → Answers ks vs hs cs hs₁ cs₁ out₀ to levels most o r → refusal 9 ≡ settled o
-  answers-refused o e x = settled-refused o (rw e at x)
+-- the answers
+module _ (ks vs hs cs out₀ : List ℕ) (to : ℕ) (r : Normalised) (o : Out) (x : Answers ks vs hs cs out₀ to levels most o r) where
+  number-is : (n : ℕ) → numberOf r ≡ n → n ≡ numberFor most (length out₀) to o
+  number-is n e = sym e ∙ x .number
 
-  pub answers-long : (o : Out) → r ≡ Long → Answers ks vs hs cs hs₁ cs₁ out₀ to levels most o r → Framed (settled o) out₀ to out₀ (length out₀ + 1)
-  answers-long o e x =
-      let y : (o .count ≤ most) × (length out₀ < to + length (bytes (o .term))) = rw e at x in
-      frame-as (outcome (bytes (o .term))) (settled o) (settled-term o (y .0)) out₀ to out₀ (length out₀ + 1) (value-long (bytes (o .term)) out₀ to (y .1))
+  few-as : (n : ℕ) → numberOf r ≡ n → (9 ≡ n → ⊥) → o .count ≤ most
+  few-as n e f = few-number most (length out₀) to o (λ z. f (z ∙ sym (number-is n e)))
 
-  pub answers-done : (o : Out) (w : Ready) → r ≡ Done w → Answers ks vs hs cs hs₁ cs₁ out₀ to levels most o r
-      → (o .count ≤ most) × (w .size ≡ length (bytes (o .term))) × (to + w .size ≤ length out₀) × Stands ks vs hs₁ cs₁ w levels (o .term)
-  answers-done o w e x = rw e at x
+  pub answers-refused : r ≡ Refused → refusal 9 ≡ settled o
+  answers-refused e = settled-refused o (refused-number most (length out₀) to o (number-is 9 (ap numberOf e)))
+
+  pub answers-long : r ≡ Long → Framed (settled o) out₀ to out₀ (length out₀ + 1)
+  answers-long e =
+      let l = long-number most (length out₀) to o (number-is 11 (ap numberOf e)) in
+      frame-as (outcome (bytes (o .term))) (settled o) (settled-term o (few-as 11 (ap numberOf e) (eqb-false 9 11 refl))) out₀ to out₀ (length out₀ + 1) (value-long (bytes (o .term)) out₀ to l)
+
+  pub answers-done : (w : Ready) → r ≡ Done w → (o .count ≤ most) × (w .size ≡ length (bytes (o .term))) × Stands ks vs hs cs w levels (o .term)
+  answers-done w e =
+      let y : (w .size ≡ length (bytes (o .term))) × Stands ks vs hs cs w levels (o .term) = rw e at (x .values) in
+      (few-as 0 (ap numberOf e) (eqb-false 9 0 refl), y .0, y .1)
 
 -- what is looked for is found in the same output
-pub answers-from : (ks vs hs cs hs₁ cs₁ out₀ out₁ : List ℕ) (to : ℕ) (o : Out) (r : Normalised) → out₁ ≡ out₀ → Answers ks vs hs cs hs₁ cs₁ out₀ to levels most o r
-    → Answers ks vs hs cs hs₁ cs₁ out₁ to levels most o r
-answers-from ks vs hs cs hs₁ cs₁ out₀ out₁ to o r e x = rw (sym e) at x
+pub answers-from : (ks vs hs cs out₀ out₁ : List ℕ) (to : ℕ) (o : Out) (r : Normalised) → out₁ ≡ out₀ → Answers ks vs hs cs out₀ to levels most o r
+    → Answers ks vs hs cs out₁ to levels most o r
+answers-from ks vs hs cs out₀ out₁ to o r e x = rw (sym e) at x

@@ -11,7 +11,7 @@ use Rattle.terms.specs.Tokens.{spell}
 use Rattle.terms.specs.Term.{Term, Parts, node, end, partItems, Held, bytes}
 use Rattle.terms.specs.Held.{HeldParts}
 use Rattle.terms.specs.Shape as shape
-use Rattle.terms.specs.Formed.{Formed, Fit}
+use Rattle.terms.specs.Formed.{Formed, Fit, Each}
 use Rattle.terms.specs.Tree.{nominalOf}
 use Rattle.terms.specs.Questions.{Parameter, is-resolved-in}
 use Rattle.terms.specs.Views.{conflicts-with, can-weaken-to, satisfies, satisfies-for}
@@ -21,10 +21,8 @@ use Rattle.terms.specs.Substitution as substitution
 use Rattle.terms.specs.Substitution.{Entry, Receiver, apply, contextual}
 use Rattle.terms.specs.Rows.{entryRow, receiverRow}
 use Rattle.terms.specs.Rewriting.{Ready, HeldBinders, forInstance, forContext, forFamily}
-use Rattle.terms.specs.Lookup.{Pattern}
+use Rattle.terms.specs.Lookup.{Pattern, FormedPatterns}
 use Rattle.terms.specs.Normal.{normalize, with-associated-types}
-use Rattle.terms.proofs.FormedLists.{Each}
-use Rattle.terms.proofs.NormalizeLaws.{FormedPatterns}
 use Rattle.sheet.specs.declared.Order.{Order}
 use Rattle.sheet.specs.Fields as fields
 use Rattle.sheet.specs.Fields.{Kind, Field, kinds, layout, tree, bare, entered, received, named, listed, ruled}

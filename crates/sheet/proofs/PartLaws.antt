@@ -29,12 +29,10 @@ use Rattle.terms.specs.Rows as rows
 use Rattle.terms.specs.Rows.{entryRow, receiverRow, argumentRow, answerOf, keptOf}
 use Rattle.terms.proofs.Bounds.{number-bounds}
 use Rattle.terms.proofs.FieldLaws.{code-end, code-listed, code-unlisted}
-use Rattle.sheet.specs.declared.FieldRead.{FieldRead}
-use Rattle.sheet.specs.declared.FieldRead.the-variants.{Spotted, Unread}
 use Rattle.sheet.specs.declared.Spot.{Spot}
 use Rattle.sheet.specs.Fields as fields
 use Rattle.sheet.specs.Fields.{Field, value, tree, bare, entered, received, named, listed, levels, nodes}
-use Rattle.sheet.specs.Laid.{plainOf, partOf, fieldItems, Free, Ample, PartDone, FieldDone, ReadOnly, valueField, listField}
+use Rattle.sheet.specs.Laid.{plainOf, partOf, fieldItems, Free, Ample, PartDone, FieldDone, ReadOnly, valueField, listField, FieldRead, Spotted, Unread}
 use Rattle.sheet.specs.Lent.{fieldOf, ReadAt}
 use Rattle.sheet.proofs.StoredLaws.{stored-none, stored-kept}
 use Rattle.sheet.proofs.CodeLaws.{Coded, not-zero}

@@ -10,9 +10,8 @@ use Rattle.terms.specs.Tokens.{Area, blank}
 use Rattle.terms.proofs.Shortest.{Octets}
 use Rattle.sheet.specs.declared.Spot.{Spot}
 use Rattle.sheet.specs.declared.Order.{Order}
-use Rattle.sheet.specs.declared.FieldRead.the-variants.{Spotted, Unread}
 use Rattle.sheet.specs.Fields.{Sort, Field, field, fields, allNodes, nodes}
-use Rattle.sheet.specs.Laid.{sortNumber, plainOf, sortOf, packed, Plain, Plains, ruleSorts, fieldItems, allItems, Free, Stored, Ample, Spots, putSpot, noFields, FieldDone}
+use Rattle.sheet.specs.Laid.{sortNumber, plainOf, sortOf, packed, Plain, Plains, ruleSorts, fieldItems, allItems, Free, Stored, Ample, Spots, putSpot, noFields, FieldDone, Spotted, Unread}
 use Rattle.sheet.proofs.StoredLaws.{stored-none, stored-then, stored-as, stored-undo, ample-after}
 use Rattle.sheet.proofs.FieldLaws.{field-found}
 use Rattle.sheet.proofs.TableLaws.{sort-number, plain-number, packed-first, packed-rest, packed-some, Leading}

@@ -15,8 +15,7 @@ use Rattle.terms.specs.Parameters.{parameters}
 use Rattle.terms.specs.Substitution.{Entry, Receiver}
 use Rattle.terms.specs.Rows.{argumentRow}
 use Rattle.terms.specs.Rewriting.{HeldBinders}
-use Rattle.terms.specs.Lookup.{Pattern, Ruled}
-use Rattle.terms.proofs.NormalizeLaws.{FormedPatterns}
+use Rattle.terms.specs.Lookup.{Pattern, FormedPatterns, Ruled}
 use Rattle.sheet.specs.declared.Order.{Order}
 use Rattle.sheet.specs.Fields.{Kind, Field, kinds}
 use Rattle.sheet.specs.Operations.{Answer, operation}

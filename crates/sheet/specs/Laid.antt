@@ -21,8 +21,6 @@ use Rattle.terms.specs.Lookup.{Pattern, ruleAt}
 use Rattle.terms.specs.Done.{Only}
 use Rattle.sheet.specs.declared.Spot.{Spot}
 use Rattle.sheet.specs.declared.Order.{Order}
-use Rattle.sheet.specs.declared.FieldRead.{FieldRead}
-use Rattle.sheet.specs.declared.FieldRead.the-variants.{Spotted, Unread}
 use Rattle.sheet.specs.Fields as fields
 use Rattle.sheet.specs.Fields.{Sort, Kind, Field, value, tree, bare, entered, received, named, listed, ruled, kinds, layout, known, nodes, allNodes, ruleNodes}
 use Rattle.sheet.specs.Operations.{nth}
@@ -265,6 +263,11 @@ abbrev pub PartDone : (s ws : List ℕ) (count : ℕ) (found : Result Field) (p 
 PartDone s ws count found p d e (Next q) =
     (f : Field) × (found ≡ got f (q .at)) × Stored p q d e (fieldItems f) (nodes f) × (q .at ≤ length s) × Laid s ws (p .top) (record { value = count; place = p .top; end = q .top }) f
 PartDone s ws count found p d e (Stopped c) = (found ≡ refused c) × (e ≡ d)
+
+-- a field that was read and the place after it, or the refusal
+pub data FieldRead : Type 0 where
+  Spotted : Spot → Place → FieldRead
+  Unread : ℕ → FieldRead
 
 abbrev pub FieldDone : (s ws : List ℕ) (found : Result Field) (p : Place) (d e : Area) → FieldRead → Type 0
 FieldDone s ws found p d e (Spotted x q) =

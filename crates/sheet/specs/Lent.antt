@@ -4,10 +4,8 @@ use mathlib.Core.List.{List}
 use Prim.Native.Nat.{ℕ, zero, suc}
 use Rattle.terms.specs.Lent.{place}
 use Rattle.terms.specs.Result.{Result}
-use Rattle.sheet.specs.declared.FieldRead.{FieldRead}
-use Rattle.sheet.specs.declared.FieldRead.the-variants.{Spotted, Unread}
 use Rattle.sheet.specs.Fields.{Field}
-use Rattle.sheet.specs.Laid.{ReadOnly}
+use Rattle.sheet.specs.Laid.{FieldRead, Spotted, Unread, ReadOnly}
 
 abbrev pub fieldOf : (code value start end at top nodes limit : ℕ) → FieldRead
 fieldOf zero value start end at top nodes limit = Spotted (record { value = value; place = start; end = end }) (place at top nodes limit)

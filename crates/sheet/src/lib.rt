@@ -15,7 +15,6 @@ mod tables;
 
 pub use running::run_sheet;
 pub use running::sheet_run;
-use solver::Place;
 use solver::Solver;
 
 // A field of an order: a number or count, the place of its first token (of parameters: their position in the bytes), and the token after
@@ -67,10 +66,4 @@ pub struct Report {
 pub struct Closed {
     pub report: Report,
     pub top: usize,
-}
-
-// A field that was read and the place after it, or the refusal.
-pub enum FieldRead {
-    Spotted(Spot, Place),
-    Unread(u8),
 }

@@ -30,6 +30,7 @@ ghost use lib.ListN.{length};
 ghost use Rattle.terms.specs.Term.{Term, Parts, bytes, Held};
 ghost use Rattle.terms.specs.Tokens.{area};
 ghost use Rattle.terms.specs.Formed.{Formed};
+ghost use Rattle.terms.specs.Placed.{FormedAt};
 ghost use Rattle.terms.specs.Tree.{nominalOf};
 ghost use Rattle.terms.specs.Questions.{Parameter, answered};
 ghost use Rattle.terms.specs.Recovery.{recover-from};
@@ -37,7 +38,7 @@ ghost use Rattle.terms.specs.Substitution.{Entry, Receiver, apply};
 ghost use Rattle.terms.specs.Rewriting.{Ready, Rewrites};
 ghost use Rattle.terms.specs.Lookup.{Pattern};
 ghost use Rattle.terms.specs.Normal.{Out, normalize, with-associated-types, levels, most};
-ghost use Rattle.terms.specs.Normalising.{Answers, Leaves, Lends};
+ghost use Rattle.terms.specs.Normalising.{Answers, Leaves, Lends, RuledAt, OwnedAt};
 ghost use Rattle.sheet.specs.Operations.{bit, seven, perhaps, settled, ruleOf, outcome};
 ghost use Rattle.sheet.specs.Written.{Room, Framed};
 ghost use Rattle.sheet.specs.Answering.{Tokens, Asks, Replies, Two, Applies, Associates, Normalises};
@@ -122,7 +123,8 @@ fn applied(
 
 // One of the seven questions; a term is concrete where question 2 finds nothing.
 fn question(s: &[u8], kinds: &[u32], vals: &[u32], p: usize, q: u32) -> u8
-    requires { ⌜ (p < length (now kinds)) × (length (now vals) ≡ length (now kinds)) ⌝ }
+    requires place { ⌜ (p < length (now kinds)) × (length (now vals) ≡ length (now kinds)) ⌝ }
+    requires term { ⌜ FormedAt (now kinds) (now vals) p ⌝ }
     ensures { λ r. ⌜ ((t : Term) → Held (now (kinds .entry)) (now (vals .entry)) p t → Formed t → r ≡ bit (answered q t)) ⌝ }
 {
     let r = ask(kinds, vals, p, q, s, 0, 0);
@@ -135,6 +137,7 @@ fn question(s: &[u8], kinds: &[u32], vals: &[u32], p: usize, q: u32) -> u8
 // Order 15: the seven questions.
 fn asked(s: &[u8], kinds: &[u32], vals: &[u32], p: usize, out: &mut [u8], to: usize) -> usize
     requires place { ⌜ (p < length (now kinds)) × (length (now vals) ≡ length (now kinds)) ⌝ }
+    requires term { ⌜ FormedAt (now kinds) (now vals) p ⌝ }
     requires room { ⌜ Room (now out) to ⌝ }
     ensures { λ r. ⌜ ((t : Term) → Held (now (kinds .entry)) (now (vals .entry)) p t → Formed t → Framed (outcome (seven t)) (now (out .entry)) to (now (out .exit)) r) ⌝ }
 {
@@ -160,8 +163,9 @@ fn settled(
 ) -> usize
     requires room { ⌜ Room (now out) to ⌝ }
     requires leaves { ⌜ ((hs : List ℕ) × (cs : List ℕ) × Leaves (now kinds) (now vals) hs cs (now heads) (now kids) most r) ⌝ }
+    requires answers { ⌜ ((o : Out) × Answers (now kinds) (now vals) (now heads) (now kids) (now out) to levels most o r) ⌝ }
     ensures clear { λ _. ⌜ ((hs cs : List ℕ) → Leaves (now (kinds .entry)) (now (vals .entry)) hs cs (now (heads .entry)) (now (kids .entry)) most r → area (now (heads .exit)) (now (kids .exit)) ≡ area hs cs) ⌝ }
-    ensures says { λ q. ⌜ ((hs cs : List ℕ) (o : Out) → Answers (now (kinds .entry)) (now (vals .entry)) hs cs (now (heads .entry)) (now (kids .entry)) (now (out .entry)) to levels most o r → Framed (settled o) (now (out .entry)) to (now (out .exit)) q) ⌝ }
+    ensures says { λ q. ⌜ ((o : Out) → Answers (now (kinds .entry)) (now (vals .entry)) (now (heads .entry)) (now (kids .entry)) (now (out .entry)) to levels most o r → Framed (settled o) (now (out .entry)) to (now (out .exit)) q) ⌝ }
 {
     match r {
         Normalised::Refused => refused(out, to, 9),
@@ -193,6 +197,7 @@ fn associated(
     requires lends { ⌜ Lends (now kinds) (now vals) (now heads) (now kids) most ⌝ }
     requires places { ⌜ (p < length (now kinds)) × (interface < length (now kinds)) × (owner < length (now kinds)) ⌝ }
     requires room { ⌜ Room (now out) to ⌝ }
+    requires terms { ⌜ OwnedAt (now kinds) (now vals) p interface owner ⌝ }
     ensures clear { λ _. ⌜ area (now (heads .exit)) (now (kids .exit)) ≡ area (now (heads .entry)) (now (kids .entry)) ⌝ }
     ensures says { λ r. ⌜ ((t : Term) (i : Parts) (o : Term) → Associates (now (kinds .entry)) (now (vals .entry)) p interface owner t i o → Framed (settled (with-associated-types t (nominalOf i) o)) (now (out .entry)) to (now (out .exit)) r) ⌝ }
 {
@@ -225,6 +230,7 @@ fn normalised(
     requires place { ⌜ p < length (now kinds) ⌝ }
     requires few { ⌜ length (now rules) < 4294967296 ⌝ }
     requires room { ⌜ Room (now out) to ⌝ }
+    requires terms { ⌜ RuledAt (now kinds) (now vals) (now rules) p ⌝ }
     ensures clear { λ _. ⌜ area (now (heads .exit)) (now (kids .exit)) ≡ area (now (heads .entry)) (now (kids .entry)) ⌝ }
     ensures says { λ r. ⌜ ((t : Term) (rs : List Pattern) → Normalises (now (kinds .entry)) (now (vals .entry)) (now (rules .entry)) p rs t → Framed (settled (normalize (map ruleOf rs) t)) (now (out .entry)) to (now (out .exit)) r) ⌝ }
 {

@@ -9,7 +9,7 @@ use lib.Dec.{eqb}
 use Rattle.terms.specs.Parser.{Result, Parser, got, refused, bind, pick, number}
 use Rattle.terms.specs.Term.{Term}
 use Rattle.terms.specs.Shape.{definition, ordinary, ceiling, kindOf}
-use Rattle.terms.specs.Formed.{Formed}
+use Rattle.terms.specs.Formed.{Formed, Each}
 use Rattle.terms.specs.Tree.{tag, unknown}
 use Rattle.terms.specs.Questions.{Parameter, sameParameter, contains, first, parameterOf}
 use Rattle.terms.specs.Substitution.{orElse, Entry, Receiver, get, receiver, instantiated, instantiate, contextual, argument-context}
@@ -24,10 +24,6 @@ EachEntry P (e ∷ es) = P (e .term) × EachEntry P es
 unfoldable pub EachReceiver : (Term → Type 0) → List Receiver → Type 0
 EachReceiver P [] = Unit {0}
 EachReceiver P (r ∷ rs) = P (r .term) × EachReceiver P rs
-
-unfoldable pub Each : (Term → Type 0) → List Term → Type 0
-Each P [] = Unit {0}
-Each P (t ∷ ts) = P t × Each P ts
 
 -- ---- what is read has what its terms have
 

@@ -8,13 +8,12 @@ use lib.Dec.{ltb, leb, eqb}
 use lib.ListN.{length, getD, drop}
 use Rattle.terms.specs.declared.Place.{Place}
 use Rattle.terms.specs.declared.Step.the-variants.{Stopped}
-use Rattle.terms.specs.declared.ValueRead.the-variants.{Unvalued}
 use Rattle.terms.specs.Number.{groups}
 use Rattle.terms.specs.Parser.{Result, got, refused, pick, bind, return, refuse, number}
 use Rattle.terms.specs.Tokens.{Area}
 use Rattle.terms.specs.Reading.{code, rising}
 use Rattle.terms.specs.Pieces.{numbered}
-use Rattle.terms.specs.Done.{PartsDone, ValueDone}
+use Rattle.terms.specs.Done.{PartsDone, ValueDone, Unvalued}
 use Rattle.terms.specs.Lent.{place, stepOf, valueOf}
 use Rattle.terms.proofs.ValueLaws.{numbered-yes, numbered-no}
 

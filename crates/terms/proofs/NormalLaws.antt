@@ -7,8 +7,8 @@ use Prim.Native.Nat.{ℕ, zero, suc, min, _+_, _-_, _*_, _≤_, _<_}
 use native.Mathlib.Nat.{mul-le-mul}
 use native.Mathlib.Decide.{decLt, ℕ-discrete}
 use native.Mathlib.Omega.{arith}
-use borrow.Author.Tests.{eq-eqb, ne-eqb}
-use lib.Dec.{eqb}
+use borrow.Author.Tests.{eq-eqb, ne-eqb, eqb-false, lt-ltb, le-ltb, ltb-true, ltb-false}
+use lib.Dec.{eqb, ltb}
 use lib.ListN.{length, getD, set, length-set, List·getD-eq-default}
 use lib.Seq.{getD-set-same, getD-set-other, ext-getD}
 use Rattle.terms.specs.declared.Origin.{Origin}
@@ -17,6 +17,7 @@ use Rattle.terms.specs.declared.Walked.{Walked}
 use Rattle.terms.specs.declared.Ready.{Ready}
 use Rattle.terms.specs.declared.Normalised.{Normalised}
 use Rattle.terms.specs.declared.Normalised.the-variants.{Refused, Long, Done}
+use Rattle.terms.specs.Result.{pick}
 use Rattle.terms.specs.Tokens.{Item, item, Area, area, put, puts, zeros, blank, spell, toks}
 use Rattle.terms.specs.Term.{Term, Parts, var, node, end, num, sub, items, partItems, bytes, depth, Held}
 use Rattle.terms.specs.Held.{span}
@@ -27,7 +28,7 @@ use Rattle.terms.specs.Normal.{Out, replacement, walkBy, normalise}
 use Rattle.terms.specs.Lookup.{Look, lookBy, Looks, HeldGiven}
 use Rattle.terms.specs.Arena.{Tree, grow, Frame, Frames}
 use Rattle.terms.specs.Walk.{Visited, Walks}
-use Rattle.terms.specs.Normalising.{Zero, Stands, Sized, Fitted, Answers, Leaves}
+use Rattle.terms.specs.Normalising.{Zero, Stands, Sized, Fitted, numberOf, numberFor, Answers, Leaves}
 use Rattle.terms.proofs.Bools.{never-true, or-assoc}
 use Rattle.terms.proofs.ViewLaws.{view-held}
 use Rattle.terms.proofs.ArenaLaws.{held-tree}
@@ -160,6 +161,48 @@ module _ (ks vs : List ℕ) (p : ℕ) where
 
 -- ---- the answer
 
+-- the number by the definition, from the children and the bytes, and back
+module _ (most len at : ℕ) (o : Out) where
+  pub number-refused : most < o .count → 9 ≡ numberFor most len at o
+  number-refused h = rw (lt-ltb most (o .count) h)
+
+  pub number-long : o .count ≤ most → len < at + length (bytes (o .term)) → 11 ≡ numberFor most len at o
+  number-long h k = rw (le-ltb most (o .count) h, lt-ltb len (at + length (bytes (o .term))) k)
+
+  pub number-done : o .count ≤ most → at + length (bytes (o .term)) ≤ len → 0 ≡ numberFor most len at o
+  number-done h k = rw (le-ltb most (o .count) h, le-ltb len (at + length (bytes (o .term))) k)
+
+  pub refused-number : 9 ≡ numberFor most len at o → most < o .count
+  refused-number e = go (ltb most (o .count)) refl (ltb len (at + length (bytes (o .term)))) e
+    where
+      go : (b : Bool) → ltb most (o .count) ≡ b → (c : Bool) → 9 ≡ pick {A = ℕ} b 9 (pick {A = ℕ} c 11 0) → most < o .count
+      go true h c f = ltb-true most (o .count) h
+      go false h true f = absurd (eqb-false 9 11 refl f)
+      go false h false f = absurd (eqb-false 9 0 refl f)
+
+  pub few-number : (9 ≡ numberFor most len at o → ⊥) → o .count ≤ most
+  few-number n = go (ltb most (o .count)) refl
+    where
+      go : (b : Bool) → ltb most (o .count) ≡ b → o .count ≤ most
+      go true h = absurd (n (number-refused (ltb-true most (o .count) h)))
+      go false h = ltb-false most (o .count) h
+
+  pub long-number : 11 ≡ numberFor most len at o → len < at + length (bytes (o .term))
+  long-number e = go (ltb most (o .count)) (ltb len (at + length (bytes (o .term)))) refl e
+    where
+      go : (b c : Bool) → ltb len (at + length (bytes (o .term))) ≡ c → 11 ≡ pick {A = ℕ} b 9 (pick {A = ℕ} c 11 0) → len < at + length (bytes (o .term))
+      go true c h f = absurd (eqb-false 11 9 refl f)
+      go false true h f = ltb-true len (at + length (bytes (o .term))) h
+      go false false h f = absurd (eqb-false 11 0 refl f)
+
+  pub done-number : 0 ≡ numberFor most len at o → at + length (bytes (o .term)) ≤ len
+  done-number e = go (ltb most (o .count)) (ltb len (at + length (bytes (o .term)))) refl e
+    where
+      go : (b c : Bool) → ltb len (at + length (bytes (o .term))) ≡ c → 0 ≡ pick {A = ℕ} b 9 (pick {A = ℕ} c 11 0) → at + length (bytes (o .term)) ≤ len
+      go true c h f = absurd (eqb-false 0 9 refl f)
+      go false true h f = absurd (eqb-false 0 11 refl f)
+      go false false h f = ltb-false len (at + length (bytes (o .term))) h
+
 nothing-blank : (d : Area) → blank d 0 0 ≡ d
 unfolding puts zeros
 nothing-blank d = refl
@@ -180,27 +223,32 @@ module _ (ks vs : List ℕ) (g : Origin) (s : Sight ks vs g) (hs₀ cs₀ hs cs 
   module _ (p : ℕ) (eh : x .head ≡ p) (ek : x .kids ≡ 0) where
     pub plain-leaves : (r : Normalised) → Sized ks vs hs₀ cs₀ hs cs g x 0 0 out at r → Leaves ks vs hs₀ cs₀ hs cs most r
     plain-leaves Refused z = absurd z
-    plain-leaves Long z = areas-same hs cs hs₀ cs₀ (z .0 ∙ nothing-blank (area hs₀ cs₀))
-    plain-leaves (Done w) z =
-        (omega (arith, z .4), ap (blank (area hs cs) 0) (z .4) ∙ nothing-blank (area hs cs) ∙ ap₂ area (z .0) (z .1), rw (z .5) s)
+    plain-leaves Long z = record { same = λ n. areas-same hs cs hs₀ cs₀ (z .0 ∙ nothing-blank (area hs₀ cs₀)); records = tt }
+    plain-leaves (Done w) z = record {
+      same = λ n. absurd (n refl);
+      records = (omega (arith, z .4), ap (blank (area hs cs) 0) (z .4) ∙ nothing-blank (area hs cs) ∙ ap₂ area (z .0) (z .1), rw (z .5) s);
+    }
 
     pub plain-answers : (t : Term) (o : Out) → Held ks vs p t → o .term ≡ t → o .count ≡ 0 → (r : Normalised) → Sized ks vs hs₀ cs₀ hs cs g x 0 0 out at r
-        → Answers ks vs hs₀ cs₀ hs cs out at levels most o r
+        → Answers ks vs hs cs out at levels most o r
     plain-answers t o h et ec r z = go r z
       where
         there : Tree (view ks vs g) hs₀ cs₀ (λ i. false) (x .head) (x .kids) t
         there = rw (eh, ek) (held-tree (view ks vs g) hs₀ cs₀ (λ i. false) t p (view-held ks vs g s p t h))
 
-        go : (r : Normalised) → Sized ks vs hs₀ cs₀ hs cs g x 0 0 out at r → Answers ks vs hs₀ cs₀ hs cs out at levels most o r
+        go : (r : Normalised) → Sized ks vs hs₀ cs₀ hs cs g x 0 0 out at r → Answers ks vs hs cs out at levels most o r
         go Refused z = absurd z
-        go Long z = (omega arith, rw et (z .1 (λ i. false) t there (λ k. absurd (omega arith))))
+        go Long z = record {
+          number = number-long most (length out) at o (omega arith) (rw et (z .1 (λ i. false) t there (λ k. absurd (omega arith))));
+          values = tt;
+        }
         go (Done w) z =
-            let y = z .6 (λ i. false) t there (λ k. absurd (omega arith)) in (
-              omega arith,
-              y .0 ∙ ap (λ (u : Term). length (bytes u)) (sym et),
-              y .1,
-              record { marks = λ i. false; tree = rw (et, z .0, z .1, z .2, z .3, z .5) there; low = λ k. absurd (omega (arith, z .3)) },
-            )
+            let y = z .6 (λ i. false) t there (λ k. absurd (omega arith)) in
+            let e = y .0 ∙ ap (λ (u : Term). length (bytes u)) (sym et) in
+            record {
+              number = number-done most (length out) at o (omega arith) (omega (arith, e, y .1));
+              values = (e, record { marks = λ i. false; tree = rw (et, z .0, z .1, z .2, z .3, z .5) there; low = λ k. absurd (omega (arith, z .3)) });
+            }
 
   -- a term that is walked: w is what the walk gave, in the areas hs₁, cs₁
   module _ (ws hs₁ cs₁ : List ℕ) (y : Content) (visits : ℕ) (w : Walked) (walks : Walks ks vs ws g hs₀ cs₀ hs₁ cs₁ y 0 levels visits most w) (fr : Frames hs₀ cs₀ hs₁ cs₁ 0 (w .next))
@@ -210,13 +258,16 @@ module _ (ks vs : List ℕ) (g : Origin) (s : Sight ks vs g) (hs₀ cs₀ hs cs 
 
     pub walked-leaves : (r : Normalised) → Fitted hs₁ cs₁ hs cs g x (w .next) (w .size) (length out - at) r → Leaves ks vs hs₀ cs₀ hs cs most r
     walked-leaves Refused z = absurd z
-    walked-leaves Long z = areas-same hs cs hs₀ cs₀ (z .0 ∙ back)
-    walked-leaves (Done v) z =
-        (omega (arith, z .4, walks .within), ap (blank (area hs cs) 0) (z .4) ∙ ap (λ (d : Area). blank d 0 (w .next)) (ap₂ area (z .0) (z .1)) ∙ back, rw (z .5) s)
+    walked-leaves Long z = record { same = λ n. areas-same hs cs hs₀ cs₀ (z .0 ∙ back); records = tt }
+    walked-leaves (Done v) z = record {
+      same = λ n. absurd (n refl);
+      records =
+          (omega (arith, z .4, walks .within), ap (blank (area hs cs) 0) (z .4) ∙ ap (λ (d : Area). blank d 0 (w .next)) (ap₂ area (z .0) (z .1)) ∙ back, rw (z .5) s);
+    }
 
     pub walked-answers : w .over ≡ false → (p : ℕ) → y .head ≡ p → y .kids ≡ 0 → (t : Term) (look : Look) (o : Out) → Held ks vs p t → Looks ks vs ws g look
         → o ≡ walkBy (replacement (lookBy look)) levels t visits 0 → (r : Normalised) → Fitted hs₁ cs₁ hs cs g x (w .next) (w .size) (length out - at) r
-        → Answers ks vs hs₀ cs₀ hs cs out at levels most o r
+        → Answers ks vs hs cs out at levels most o r
     walked-answers fl p yh yk t look o h k eo r z = go r z
       where
         v : Visited (view ks vs g) hs₁ cs₁ (λ i. false) 0 (w .head) (w .kids) (w .next) (w .visits) (w .size) (walkBy (replacement (lookBy look)) levels t visits 0)
@@ -236,24 +287,31 @@ module _ (ks vs : List ℕ) (g : Origin) (s : Sight ks vs g) (hs₀ cs₀ hs cs 
         sized : w .size ≡ length (bytes (o .term))
         sized = v .size ∙ ap (λ (q : Out). length (bytes (q .term))) (sym eo)
 
-        go : (r : Normalised) → Fitted hs₁ cs₁ hs cs g x (w .next) (w .size) (length out - at) r → Answers ks vs hs₀ cs₀ hs cs out at levels most o r
+        go : (r : Normalised) → Fitted hs₁ cs₁ hs cs g x (w .next) (w .size) (length out - at) r → Answers ks vs hs cs out at levels most o r
         go Refused z = absurd z
-        go Long z = (few, omega (arith, z .1, sized))
-        go (Done u) z =
-            (few, z .6 ∙ sized, omega (arith, z .6, z .7), record { marks = grow (λ i. false) 0 (w .next); tree = rw (z .0, z .1, z .2, z .3, z .5) there; low = λ k. low })
+        go Long z = record { number = number-long most (length out) at o few (omega (arith, z .1, sized)); values = tt }
+        go (Done u) z = record {
+          number = number-done most (length out) at o few (omega (arith, z .6, z .7, sized));
+          values = (z .6 ∙ sized, record { marks = grow (λ i. false) 0 (w .next); tree = rw (z .0, z .1, z .2, z .3, z .5) there; low = λ k. low });
+        }
 
 -- the children were too many
 module _ (ks vs : List ℕ) (g : Origin) (s : Sight ks vs g) (hs₀ cs₀ hs₁ cs₁ hs cs ws : List ℕ) (y : Content) (levels visits most : ℕ) (w : Walked)
     (walks : Walks ks vs ws g hs₀ cs₀ hs₁ cs₁ y 0 levels visits most w) where
-  pub over-leaves : Frames hs₀ cs₀ hs₁ cs₁ 0 (w .next) → Zero hs₀ most → Zero cs₀ most → area hs cs ≡ blank (area hs₁ cs₁) 0 most → (hs ≡ hs₀) × (cs ≡ cs₀)
-  over-leaves fr zh zc e =
-      areas-same hs cs hs₀ cs₀ (e ∙ blank-back hs₀ cs₀ hs₁ cs₁ most most (frames-wider hs₀ cs₀ hs₁ cs₁ 0 (w .next) most fr (walks .within)) zh zc (omega arith))
+  pub over-leaves : Frames hs₀ cs₀ hs₁ cs₁ 0 (w .next) → Zero hs₀ most → Zero cs₀ most → area hs cs ≡ blank (area hs₁ cs₁) 0 most → Leaves ks vs hs₀ cs₀ hs cs most Refused
+  over-leaves fr zh zc e = record {
+    same = λ n. areas-same hs cs hs₀ cs₀ (e ∙ blank-back hs₀ cs₀ hs₁ cs₁ most most (frames-wider hs₀ cs₀ hs₁ cs₁ 0 (w .next) most fr (walks .within)) zh zc (omega arith));
+    records = tt;
+  }
 
   pub over-answers : w .over ≡ true → (p : ℕ) → y .head ≡ p → y .kids ≡ 0 → (t : Term) (look : Look) (o : Out) → Held ks vs p t → Looks ks vs ws g look
-      → o ≡ walkBy (replacement (lookBy look)) levels t visits 0 → most < o .count
-  over-answers tr p yh yk t look o h k eo =
-      rw eo (walks .stopped tr (λ i. false) t look (λ i e. never-true e)
-      (rw (yh, yk) (held-tree (view ks vs g) hs₀ cs₀ (λ i. false) t p (view-held ks vs g s p t h))) k)
+      → o ≡ walkBy (replacement (lookBy look)) levels t visits 0 → (out : List ℕ) (at : ℕ) → Answers ks vs hs cs out at levels most o Refused
+  over-answers tr p yh yk t look o h k eo out at = record { number = number-refused most (length out) at o many; values = tt }
+    where
+      many : most < o .count
+      many =
+          rw eo (walks .stopped tr (λ i. false) t look (λ i e. never-true e)
+          (rw (yh, yk) (held-tree (view ks vs g) hs₀ cs₀ (λ i. false) t p (view-held ks vs g s p t h))) k)
 
 -- ---- what order 19 looks up by
 

@@ -14,21 +14,21 @@ use lib.ListN.{length, getD, take, drop, getElem?}
 use Rattle.terms.specs.Term.{Term, Parts, var, node, end, num, sub, _+++_, Subs}
 use Rattle.terms.specs.Shape as shape
 use Rattle.terms.specs.Shape.{Shape, kindOf, layout, nominal, manyTerms, manyMembers}
-use Rattle.terms.specs.Formed.{Formed, Fit, TakesNumber, TakesTerm, afterNumber, afterTerm}
+use Rattle.terms.specs.Formed.{Formed, Fit, TakesNumber, TakesTerm, afterNumber, afterTerm, Each}
 use Rattle.terms.specs.Tree.{nums, subs, children, row, tag, same, sameRows, sameTerms, sameNumbers, Nominal, sameNominal, lookUp, nominalOf, interfaceOf, receiverOf, memberOf, argumentsOf, putTerms, putMembers, projection}
 use Rattle.terms.specs.Questions.{contains-projection}
 use Rattle.terms.specs.Views.{noTerms, sameOption}
 use Rattle.terms.specs.Substitution.{or, orElse}
 use Rattle.terms.specs.Satisfying.{nominalRow}
 use Rattle.terms.specs.Normal.{onlyIf, memberFrom, traitMember, ownMember, replacement, normaliseIf, normalise, Rule, matches, byRules, known, byInterface, levels, visits, normalize, with-associated-types}
-use Rattle.terms.specs.Lookup.{Pattern, front, left, byPatterns, made, unless, output, through, Look, rules, interface, lookBy}
+use Rattle.terms.specs.Lookup.{Pattern, FormedPattern, FormedPatterns, front, left, byPatterns, made, unless, output, through, Look, rules, interface, lookBy}
 use Rattle.terms.proofs.Bools.{never-true}
 use Rattle.terms.proofs.HeldLaws.{headKind}
 use Rattle.terms.proofs.SameLaws.{both, same-refl, same-true, rows-refl, rows-true}
 use Rattle.terms.proofs.BoundLaws.{terms-refl, terms-true}
 use Rattle.terms.proofs.NominalLaws.{interface-is, arguments-are, member-is, nominal-is, split, fit-formed, fit-done, called, subs-called, Projected, projected}
 use Rattle.terms.proofs.SubstitutionLaws.{FormedOr, or-formed}
-use Rattle.terms.proofs.FormedLists.{Each, formed-else, formed-pick}
+use Rattle.terms.proofs.FormedLists.{formed-else, formed-pick}
 use Rattle.terms.proofs.MemberLaws.{replace-other}
 use Rattle.terms.proofs.RespectLaws.{walk-agree}
 use Rattle.terms.proofs.FormedLaws.{formed-child, formed-inherited}
@@ -158,18 +158,6 @@ bare i f =
 -- the rule, with its interface as a nominal
 abbrev pub ruleOf : Pattern → Rule
 ruleOf p = record { interface = nominalOf (p .interface); receiver = p .receiver; member = p .member; arguments = p .arguments; value = p .value }
-
--- a rule all of whose parts are formed
-pub record FormedPattern (p : Pattern) : Type 0 where
-  pub interface : Fit (nominal shape.done) (p .interface)
-  pub receiver : Formed (p .receiver)
-  pub arguments : Each Formed (p .arguments)
-  pub value : Formed (p .value)
-
--- each of a list is such a rule
-unfoldable pub FormedPatterns : List Pattern → Type 0
-FormedPatterns [] = Unit {0}
-FormedPatterns (p ∷ rs) = FormedPattern p × FormedPatterns rs
 
 -- a rule's row by its four parts
 left-is : (p : Pattern) (a : Nominal) → p .interface ≡ nominalRow a end → left p ≡ rowOf (p .receiver) a (p .member) (p .arguments)

@@ -10,15 +10,13 @@ use lib.ListN.{length}
 use Rattle.terms.specs.declared.NumberRead.the-variants.{Value}
 use Rattle.terms.specs.declared.Place.{Place}
 use Rattle.terms.specs.declared.Step.the-variants.{Next, Stopped}
-use Rattle.terms.specs.declared.ValueRead.{ValueRead}
-use Rattle.terms.specs.declared.ValueRead.the-variants.{Valued, Unvalued}
 use Rattle.terms.specs.Parser.{Result, got, refused, number}
 use Rattle.terms.specs.Tokens.{item, Area, puts, putIf}
 use Rattle.terms.specs.Term.{var, end, num, items, size}
 use Rattle.terms.specs.Shape.{ceiling, ordinary}
 use Rattle.terms.specs.Reading.{code, rising, variable}
 use Rattle.terms.specs.Pieces.{coded, numbered}
-use Rattle.terms.specs.Done.{Within, Wrote, TermDone, PartsDone, ValueDone}
+use Rattle.terms.specs.Done.{Within, Wrote, TermDone, PartsDone, ValueDone, ValueRead, Valued, Unvalued}
 use Rattle.terms.proofs.FieldLaws.{rising-any, variable-refused, variable-unissued, variable-got}
 use Rattle.terms.proofs.StoreLaws.{only-one}
 use Rattle.terms.proofs.WroteLaws.{on, none-done, wrote-num}

@@ -9,8 +9,6 @@ use Rattle.terms.specs.declared.NumberRead.the-variants.{Value, Refused}
 use Rattle.terms.specs.declared.Place.{Place}
 use Rattle.terms.specs.declared.Step.{Step}
 use Rattle.terms.specs.declared.Step.the-variants.{Next, Stopped}
-use Rattle.terms.specs.declared.ValueRead.{ValueRead}
-use Rattle.terms.specs.declared.ValueRead.the-variants.{Valued, Unvalued}
 use Rattle.terms.specs.Parser.{Result, Parser, got, refused, bind, pick}
 use Rattle.terms.specs.Tokens.{Item, item, Area, puts, putIf, blank}
 use Rattle.terms.specs.Term.{Term, Parts, var, node, end, num, sub, _+++_, items, partItems, size, sizes}
@@ -72,6 +70,11 @@ pub record WroteBare (s : List ℕ) (p : Place) (d e : Area) (ps : Parts) (q : P
 abbrev pub BareDone : (s : List ℕ) (found : Result Term) (p : Place) (d e : Area) → Step → Type 0
 BareDone s found p d e (Next q) = (ps : Parts) × (found ≡ got (node 20 ps) (q .at)) × WroteBare s p d e ps q
 BareDone s found p d e (Stopped c) = (found ≡ refused c) × Only (p .top) (length s - p .at + 1) d e
+
+-- a number and the place after it, or the refusal
+pub data ValueRead : Type 0 where
+  Valued : ℕ → Place → ValueRead
+  Unvalued : ℕ → ValueRead
 
 -- a number was read, and stored as a token of kind 0
 abbrev pub ValueDone : (most : ℕ) (s : List ℕ) (found : Result ℕ) (p : Place) (d e : Area) → ValueRead → Type 0

@@ -4,8 +4,7 @@ use Prim.Native.Nat.{ℕ, zero, suc}
 use Rattle.terms.specs.declared.Place.{Place}
 use Rattle.terms.specs.declared.Step.{Step}
 use Rattle.terms.specs.declared.Step.the-variants.{Next, Stopped}
-use Rattle.terms.specs.declared.ValueRead.{ValueRead}
-use Rattle.terms.specs.declared.ValueRead.the-variants.{Valued, Unvalued}
+use Rattle.terms.specs.Done.{ValueRead, Valued, Unvalued}
 
 abbrev pub place : (at top nodes limit : ℕ) → Place
 place at top nodes limit = record { at = at; top = top; nodes = nodes; limit = limit }

@@ -22,6 +22,7 @@ pub mod Substitution
 pub mod Recovery
 pub mod Recovering
 pub mod Parameters
+pub mod Placed
 pub mod Rows
 pub mod Listing
 pub mod Search

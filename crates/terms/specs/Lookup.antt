@@ -12,6 +12,8 @@ use Rattle.terms.specs.declared.Rule.{Rule}
 use Rattle.terms.specs.Result.{pick}
 use Rattle.terms.specs.Term.{Term, Parts, var, node, end, num, sub, _+++_, items, partItems}
 use Rattle.terms.specs.Held.{Held, HeldParts}
+use Rattle.terms.specs.Shape.{nominal, done}
+use Rattle.terms.specs.Formed.{Formed, Fit, Each}
 use Rattle.terms.specs.Tree.{nums, subs, same, sameRows, memberOf, argumentsOf, putTerms}
 use Rattle.terms.specs.Views.{noTerms, sameOption}
 use Rattle.terms.specs.Substitution.{or}
@@ -26,6 +28,18 @@ pub record Pattern : Type 0 where
   pub member : ℕ
   pub arguments : List Term
   pub value : Term
+
+-- one all of whose parts are formed
+pub record FormedPattern (p : Pattern) : Type 0 where
+  pub interface : Fit (nominal done) (p .interface)
+  pub receiver : Formed (p .receiver)
+  pub arguments : Each Formed (p .arguments)
+  pub value : Formed (p .value)
+
+-- each of a list is such a rule
+unfoldable pub FormedPatterns : List Pattern → Type 0
+FormedPatterns [] = Unit {0}
+FormedPatterns (p ∷ rs) = FormedPattern p × FormedPatterns rs
 
 -- the row of the projection that it replaces: receiver, interface, member, count of arguments, and then the arguments
 unfoldable pub front : Pattern → Parts → Parts

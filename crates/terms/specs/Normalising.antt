@@ -3,24 +3,31 @@ use mathlib.Core.Path.{_≡_}
 use mathlib.Core.Bool.{Bool}
 use mathlib.Core.List.{List}
 use Prim.Native.Nat.{ℕ, _+_, _≤_, _<_}
+use lib.Dec.{ltb}
 use lib.ListN.{length, getD}
 use Rattle.terms.specs.declared.Origin.{Origin}
 use Rattle.terms.specs.declared.Content.{Content}
 use Rattle.terms.specs.declared.Ready.{Ready}
 use Rattle.terms.specs.declared.Normalised.{Normalised}
 use Rattle.terms.specs.declared.Normalised.the-variants.{Refused, Long, Done}
+use Rattle.terms.specs.Result.{pick}
 use Rattle.terms.specs.Tokens.{area, blank}
-use Rattle.terms.specs.Term.{Term, depth, bytes, Held}
+use Rattle.terms.specs.Term.{Term, Parts, node, depth, bytes, Held}
 use Rattle.terms.specs.View.{view, Sight}
 use Rattle.terms.specs.Normal.{Out}
-use Rattle.terms.specs.Lookup.{Look, lookBy, Looks}
+use Rattle.terms.specs.Lookup.{Pattern, Ruled}
 use Rattle.terms.specs.Arena.{Tree}
 
--- document 01's numbers: refusal 9, run 11, outcome 0
+-- Document 01's number for each case: refusal 9; 11, where the term has more bytes than there is room for; 0, whose value is the term. 9 and 0 are outcomes of
+-- an order, 11 is a reason of the run.
 abbrev pub numberOf : Normalised → ℕ
 numberOf Refused = 9
 numberOf Long = 11
 numberOf (Done w) = 0
+
+-- the number by the definition, whose result is o: with at most `most` children, and an output of so many bytes from `at` on
+abbrev pub numberFor : (most len at : ℕ) → Out → ℕ
+numberFor most len at o = pick (ltb most (o .count)) 9 (pick (ltb len (at + length (bytes (o .term)))) 11 0)
 
 -- the first n words are 0
 pub record Zero (l : List ℕ) (n : ℕ) : Type 0 where
@@ -32,19 +39,49 @@ pub record Stands (ks vs hs cs : List ℕ) (w : Ready) (levels : ℕ) (u : Term)
   pub tree : Tree (view ks vs (w .given)) hs cs marks (w .head) (w .kids) u
   pub low : 0 < w .kids → depth u ≤ levels + 1
 
--- The answer to a term whose result by the definition is o, with at most `most` children, when there is room in `out` from `at` on. hs₀ and cs₀ are the record
--- areas at entry, hs and cs at exit.
-abbrev pub Answers : (ks vs hs₀ cs₀ hs cs out : List ℕ) (at levels most : ℕ) → Out → Normalised → Type 0
-Answers ks vs hs₀ cs₀ hs cs out at levels most o Refused = most < o .count
-Answers ks vs hs₀ cs₀ hs cs out at levels most o Long = (o .count ≤ most) × (length out < at + length (bytes (o .term)))
-Answers ks vs hs₀ cs₀ hs cs out at levels most o (Done w) =
-    (o .count ≤ most) × (w .size ≡ length (bytes (o .term))) × (at + w .size ≤ length out) × Stands ks vs hs cs w levels (o .term)
+-- the values of each case: the bytes that the term u has, and records that hold it. Which words these are is the program's choice.
+abbrev pub Values : (ks vs hs cs : List ℕ) (levels : ℕ) → Term → Normalised → Type 0
+Values ks vs hs cs levels u Refused = Unit {0}
+Values ks vs hs cs levels u Long = Unit {0}
+Values ks vs hs cs levels u (Done w) = (w .size ≡ length (bytes u)) × Stands ks vs hs cs w levels u
 
--- the record areas: as they were, or the records used are to be cleared
-abbrev pub Leaves : (ks vs hs₀ cs₀ hs cs : List ℕ) (most : ℕ) → Normalised → Type 0
-Leaves ks vs hs₀ cs₀ hs cs most Refused = (hs ≡ hs₀) × (cs ≡ cs₀)
-Leaves ks vs hs₀ cs₀ hs cs most Long = (hs ≡ hs₀) × (cs ≡ cs₀)
-Leaves ks vs hs₀ cs₀ hs cs most (Done w) = (w .next ≤ most) × (blank (area hs cs) 0 (w .next) ≡ area hs₀ cs₀) × Sight ks vs (w .given)
+-- The answer to a term whose result by the definition is o, with at most `most` children, and room in `out` from `at` on. hs and cs are the record areas at exit.
+pub record Answers (ks vs hs cs out : List ℕ) (at levels most : ℕ) (o : Out) (r : Normalised) : Type 0 where
+  pub number : numberOf r ≡ numberFor most (length out) at o
+  pub values : Values ks vs hs cs levels (o .term) r
+
+-- the records of each case
+abbrev pub Records : (ks vs hs₀ cs₀ hs cs : List ℕ) (most : ℕ) → Normalised → Type 0
+Records ks vs hs₀ cs₀ hs cs most Refused = Unit {0}
+Records ks vs hs₀ cs₀ hs cs most Long = Unit {0}
+Records ks vs hs₀ cs₀ hs cs most (Done w) = (w .next ≤ most) × (blank (area hs cs) 0 (w .next) ≡ area hs₀ cs₀) × Sight ks vs (w .given)
+
+-- The record areas, hs₀ and cs₀ at entry, hs and cs at exit: as they were where the number is not 0, else the records used are to be cleared.
+pub record Leaves (ks vs hs₀ cs₀ hs cs : List ℕ) (most : ℕ) (r : Normalised) : Type 0 where
+  pub same : (numberOf r ≡ 0 → ⊥) → (hs ≡ hs₀) × (cs ≡ cs₀)
+  pub records : Records ks vs hs₀ cs₀ hs cs most r
+
+-- order 20: a term at p, and rules in words
+pub record RuledAt (ks vs ws : List ℕ) (p : ℕ) : Type 0 where
+  pub term : Term
+  pub patterns : List Pattern
+  pub held : Held ks vs p term
+  pub ruled : Ruled ks vs ws 0 patterns
+
+-- order 19: a term at p, an interface at i and an owner at o
+pub record OwnedAt (ks vs : List ℕ) (p i o : ℕ) : Type 0 where
+  pub term : Term
+  pub row : Parts
+  pub owner : Term
+  pub held : Held ks vs p term
+  pub interface : Held ks vs i (node 20 row)
+  pub owns : Held ks vs o owner
+
+-- a term that is kept, with room in the output from a position on
+pub record KeptAt (ks vs hs cs : List ℕ) (w : Ready) (levels : ℕ) (out : List ℕ) (at : ℕ) : Type 0 where
+  pub term : Term
+  pub stands : Stands ks vs hs cs w levels term
+  pub room : at + length (bytes term) ≤ length out
 
 -- what is lent: tokens few enough, and two areas with room for `most` records, which are 0
 pub record Lends (ks vs hs cs : List ℕ) (most : ℕ) : Type 0 where

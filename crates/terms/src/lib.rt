@@ -123,12 +123,6 @@ pub enum Step {
     Stopped(u8),
 }
 
-// A number and the place after it, or the refusal.
-pub enum ValueRead {
-    Valued(u64, Place),
-    Unvalued(u8),
-}
-
 // What reading a number finds: its value and the position after it, or the refusal's code.
 pub enum NumberRead {
     Value(u64, usize),

@@ -24,7 +24,7 @@ ghost use Rattle.terms.specs.Tokens.{area, blank};
 ghost use Rattle.terms.specs.Normal.{normalise, levels, visits, most};
 ghost use Rattle.terms.specs.Lookup.{Look, Pattern, lookBy, Looks, Ruled, HeldGiven, byPatterns, through};
 ghost use Rattle.terms.specs.Arena.{Room};
-ghost use Rattle.terms.specs.Normalising.{Zero, Lends, Stands, Sized, Fitted, Answers, Leaves};
+ghost use Rattle.terms.specs.Normalising.{Zero, Lends, Stands, Sized, Fitted, Answers, Leaves, RuledAt, OwnedAt, KeptAt};
 
 // Whether the term at p has a projection.
 fn has_projection(kinds: &[u32], vals: &[u32], p: u32) -> bool
@@ -124,7 +124,7 @@ fn run(
     requires place { ⌜ at ≤ length (now out) ⌝ }
     ensures out { λ _. ⌜ now (out .exit) ≡ now (out .entry) ⌝ }
     ensures leaves { λ r. ⌜ Leaves (now (kinds .entry)) (now (vals .entry)) (now (heads .entry)) (now (kids .entry)) (now (heads .exit)) (now (kids .exit)) most r ⌝ }
-    ensures answers { λ r. ⌜ ((t : Term) (look : Look) → Held (now (kinds .entry)) (now (vals .entry)) p t → Looks (now (kinds .entry)) (now (vals .entry)) (now (rules .entry)) g look → Answers (now (kinds .entry)) (now (vals .entry)) (now (heads .entry)) (now (kids .entry)) (now (heads .exit)) (now (kids .exit)) (now (out .entry)) at levels most (normalise levels visits (lookBy look) t) r) ⌝ }
+    ensures answers { λ r. ⌜ ((t : Term) (look : Look) → Held (now (kinds .entry)) (now (vals .entry)) p t → Looks (now (kinds .entry)) (now (vals .entry)) (now (rules .entry)) g look → Answers (now (kinds .entry)) (now (vals .entry)) (now (heads .exit)) (now (kids .exit)) (now (out .entry)) at levels most (normalise levels visits (lookBy look) t) r) ⌝ }
 {
     if !has_projection(kinds, vals, p) {
         return size_up(kinds, vals, heads, kids, g, source(p), 0, 0, out, at);
@@ -215,9 +215,10 @@ pub fn normalise(
     requires lends { ⌜ Lends (now kinds) (now vals) (now heads) (now kids) most ⌝ }
     requires few { ⌜ length (now rules) < 4294967296 ⌝ }
     requires place { ⌜ at ≤ length (now out) ⌝ }
+    requires terms { ⌜ RuledAt (now kinds) (now vals) (now rules) p ⌝ }
     ensures out { λ _. ⌜ now (out .exit) ≡ now (out .entry) ⌝ }
     ensures leaves { λ r. ⌜ Leaves (now (kinds .entry)) (now (vals .entry)) (now (heads .entry)) (now (kids .entry)) (now (heads .exit)) (now (kids .exit)) most r ⌝ }
-    ensures answers { λ r. ⌜ ((t : Term) (rs : List Pattern) → Held (now (kinds .entry)) (now (vals .entry)) p t → Ruled (now (kinds .entry)) (now (vals .entry)) (now (rules .entry)) 0 rs → Answers (now (kinds .entry)) (now (vals .entry)) (now (heads .entry)) (now (kids .entry)) (now (heads .exit)) (now (kids .exit)) (now (out .entry)) at levels most (normalise levels visits (byPatterns rs) t) r) ⌝ }
+    ensures answers { λ r. ⌜ ((t : Term) (rs : List Pattern) → Held (now (kinds .entry)) (now (vals .entry)) p t → Ruled (now (kinds .entry)) (now (vals .entry)) (now (rules .entry)) 0 rs → Answers (now (kinds .entry)) (now (vals .entry)) (now (heads .exit)) (now (kids .exit)) (now (out .entry)) at levels most (normalise levels visits (byPatterns rs) t) r) ⌝ }
 {
     let g = Origin {
         owner: 0,
@@ -256,9 +257,10 @@ pub fn with_associated_types(
 ) -> Normalised
     requires lends { ⌜ Lends (now kinds) (now vals) (now heads) (now kids) most ⌝ }
     requires place { ⌜ at ≤ length (now out) ⌝ }
+    requires terms { ⌜ OwnedAt (now kinds) (now vals) p interface owner ⌝ }
     ensures out { λ _. ⌜ now (out .exit) ≡ now (out .entry) ⌝ }
     ensures leaves { λ r. ⌜ Leaves (now (kinds .entry)) (now (vals .entry)) (now (heads .entry)) (now (kids .entry)) (now (heads .exit)) (now (kids .exit)) most r ⌝ }
-    ensures answers { λ r. ⌜ ((t : Term) (i : Parts) (o : Term) → Held (now (kinds .entry)) (now (vals .entry)) p t → Held (now (kinds .entry)) (now (vals .entry)) interface (node 20 i) → Held (now (kinds .entry)) (now (vals .entry)) owner o → Answers (now (kinds .entry)) (now (vals .entry)) (now (heads .entry)) (now (kids .entry)) (now (heads .exit)) (now (kids .exit)) (now (out .entry)) at levels most (normalise levels visits (through i o) t) r) ⌝ }
+    ensures answers { λ r. ⌜ ((t : Term) (i : Parts) (o : Term) → Held (now (kinds .entry)) (now (vals .entry)) p t → Held (now (kinds .entry)) (now (vals .entry)) interface (node 20 i) → Held (now (kinds .entry)) (now (vals .entry)) owner o → Answers (now (kinds .entry)) (now (vals .entry)) (now (heads .exit)) (now (kids .exit)) (now (out .entry)) at levels most (normalise levels visits (through i o) t) r) ⌝ }
 {
     let g = given(kinds, vals, interface, owner);
     run(
@@ -289,6 +291,7 @@ pub fn write_normalised(
 ) -> usize
     requires sight { ⌜ Sight (now kinds) (now vals) (w .given) ⌝ }
     requires place { ⌜ at ≤ length (now out) ⌝ }
+    requires kept { ⌜ KeptAt (now kinds) (now vals) (now heads) (now kids) w levels (now out) at ⌝ }
     ensures areas { λ _. ⌜ area (now (heads .exit)) (now (kids .exit)) ≡ blank (area (now (heads .entry)) (now (kids .entry))) 0 (w .next) ⌝ }
     ensures wrote { λ r. ⌜ ((u : Term) → Stands (now (kinds .entry)) (now (vals .entry)) (now (heads .entry)) (now (kids .entry)) w levels u → at + length (bytes u) ≤ length (now (out .entry)) → (r ≡ at + length (bytes u)) × (now (out .exit) ≡ sets (now (out .entry)) at (bytes u))) ⌝ }
 {

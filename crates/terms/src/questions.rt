@@ -16,6 +16,7 @@ ghost use Rattle.terms.specs.Held.{Held};
 ghost use Rattle.terms.specs.Formed.{Formed};
 ghost use Rattle.terms.specs.Questions.{Parameter, countedBy, enteredBy, counted, entered, asked};
 ghost use Rattle.terms.specs.Parameters.{parameters};
+ghost use Rattle.terms.specs.Placed.{FormedAt, ParametersAt};
 ghost use Rattle.terms.specs.Asking.{tagOf, word, Asking};
 
 // The tag of the term whose first token has this kind.
@@ -150,7 +151,9 @@ pub fn ask(
     at: usize,
     params: u64,
 ) -> bool
-    requires { ⌜ (p < length (now kinds)) × (length (now vals) ≡ length (now kinds)) ⌝ }
+    requires place { ⌜ (p < length (now kinds)) × (length (now vals) ≡ length (now kinds)) ⌝ }
+    requires term { ⌜ FormedAt (now kinds) (now vals) p ⌝ }
+    requires parameters { ⌜ ParametersAt (now s) params at ⌝ }
     ensures { λ r. ⌜ ((qs : List Parameter) (n : ℕ) → parameters (now (s .entry)) params at ≡ got qs n → (t : Term) → Held (now (kinds .entry)) (now (vals .entry)) p t → Formed t → r ≡ asked qs question t) ⌝ }
 {
     let n = skip(kinds, vals, p, kinds.len() - p);

@@ -18,6 +18,7 @@ ghost use Rattle.terms.specs.Term.{Term, Parts, node, end, sub, bytes, p
 ghost use Rattle.terms.specs.Held.{Held, HeldParts};
 ghost use Rattle.terms.specs.Shape.{Shape, manyTerms, nominal, done};
 ghost use Rattle.terms.specs.Formed.{Formed, Fit};
+ghost use Rattle.terms.specs.Placed.{FormedAt, RecoversAt};
 ghost use Rattle.terms.specs.Tree.{row};
 ghost use Rattle.terms.specs.Recovery.{recover-from, recover-row, reach, nominalReach};
 ghost use Rattle.terms.specs.Recovering.{Put, upto, alike, Paired, Parted};
@@ -233,6 +234,7 @@ fn recover_row(
 pub fn recovered_len(kinds: &[u32], vals: &[u32], a: usize, b: usize) -> usize
     requires places { ⌜ (a < length (now kinds)) × (b < length (now kinds)) × (length (now vals) ≡ length (now kinds)) ⌝ }
     requires room { ⌜ 12 * length (now kinds) < 2 ^ 64 ⌝ }
+    requires terms { ⌜ FormedAt (now kinds) (now vals) a × FormedAt (now kinds) (now vals) b ⌝ }
     ensures { λ r. ⌜ ((t u : Term) → Held (now (kinds .entry)) (now (vals .entry)) a t → Held (now (kinds .entry)) (now (vals .entry)) b u → Formed t → Formed u → r ≡ length (bytes (recover-from t u))) ⌝ }
 {
     let n = skip(kinds, vals, a, kinds.len() - a);
@@ -241,7 +243,7 @@ pub fn recovered_len(kinds: &[u32], vals: &[u32], a: usize, b: usize) -> usize
     recover_term(kinds, vals, a, a + n, b, b + m, &mut none, 0)
 }
 
-// Writes `recover_from` of the terms at a and b where it fits, and returns the position after it. Where it does not fit, a part may be written.
+// Writes `recover_from` of the terms at a and b, for which there is room, and returns the position after it.
 pub fn write_recovered(
     kinds: &[u32],
     vals: &[u32],
@@ -252,6 +254,7 @@ pub fn write_recovered(
 ) -> usize
     requires places { ⌜ (a < length (now kinds)) × (b < length (now kinds)) × (length (now vals) ≡ length (now kinds)) ⌝ }
     requires room { ⌜ at + 12 * length (now kinds) < 2 ^ 64 ⌝ }
+    requires terms { ⌜ RecoversAt (now kinds) (now vals) a b (now out) at ⌝ }
     ensures { λ r. ⌜ ((t u : Term) → Held (now (kinds .entry)) (now (vals .entry)) a t → Held (now (kinds .entry)) (now (vals .entry)) b u → Formed t → Formed u → Put (now (out .entry)) (now (out .exit)) at r (bytes (recover-from t u))) ⌝ }
 {
     let n = skip(kinds, vals, a, kinds.len() - a);

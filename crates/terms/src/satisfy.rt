@@ -18,6 +18,7 @@ ghost use Rattle.terms.specs.Term.{Term, Parts, node, items};
 ghost use Rattle.terms.specs.Held.{Held};
 ghost use Rattle.terms.specs.Shape.{nominal, done};
 ghost use Rattle.terms.specs.Formed.{Formed, Fit};
+ghost use Rattle.terms.specs.Placed.{BareAt};
 ghost use Rattle.terms.specs.Tree.{Nominal, lookUp, nominalOf};
 ghost use Rattle.terms.specs.Views.{sameOption, every, satisfies, reflexive, satisfies-for};
 ghost use Rattle.terms.specs.Satisfying.{Laid, Listed, Lists, Near, Agreed, Headed, Pairs, Inside, Looked, Short, Passes, Gave, Ended, Satisfied, covers};
@@ -224,7 +225,8 @@ fn covered(
 
 // `satisfies` of the bare nominals at a and b.
 pub fn satisfies(kinds: &[u32], vals: &[u32], a: usize, b: usize) -> bool
-    requires { ⌜ (a < length (now kinds)) × (b < length (now kinds)) × (length (now vals) ≡ length (now kinds)) ⌝ }
+    requires places { ⌜ (a < length (now kinds)) × (b < length (now kinds)) × (length (now vals) ≡ length (now kinds)) ⌝ }
+    requires nominals { ⌜ BareAt (now kinds) (now vals) a × BareAt (now kinds) (now vals) b ⌝ }
     ensures { λ r. ⌜ ((ps qs : Parts) → Held (now (kinds .entry)) (now (vals .entry)) a (node 20 ps) → Held (now (kinds .entry)) (now (vals .entry)) b (node 20 qs) → Fit (nominal done) ps → Fit (nominal done) qs → r ≡ satisfies (nominalOf ps) (nominalOf qs)) ⌝ }
 {
     let r = satisfies_row(kinds, vals, a + 1, b + 1);
@@ -236,7 +238,9 @@ pub fn satisfies(kinds: &[u32], vals: &[u32], a: usize, b: usize) -> bool
 
 // `satisfies_for` of the bare nominals at a and b, for the receiver that stands at its place.
 pub fn satisfies_for(kinds: &[u32], vals: &[u32], a: usize, b: usize, receiver: usize) -> bool
-    requires { ⌜ (a < length (now kinds)) × (b < length (now kinds)) × (receiver < length (now kinds)) × (length (now vals) ≡ length (now kinds)) ⌝ }
+    requires places { ⌜ (a < length (now kinds)) × (b < length (now kinds)) × (receiver < length (now kinds)) × (length (now vals) ≡ length (now kinds)) ⌝ }
+    requires nominals { ⌜ BareAt (now kinds) (now vals) a × BareAt (now kinds) (now vals) b ⌝ }
+    requires receiver { ⌜ ((t : Term) × Held (now kinds) (now vals) receiver t) ⌝ }
     ensures { λ r. ⌜ ((ps qs : Parts) (t : Term) → Held (now (kinds .entry)) (now (vals .entry)) a (node 20 ps) → Held (now (kinds .entry)) (now (vals .entry)) b (node 20 qs) → Held (now (kinds .entry)) (now (vals .entry)) receiver t → Fit (nominal done) ps → Fit (nominal done) qs → r ≡ satisfies-for (nominalOf ps) (nominalOf qs) t) ⌝ }
 {
     let h = heads(kinds, vals, a + 1, b + 1);

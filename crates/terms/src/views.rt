@@ -11,6 +11,7 @@ ghost use lib.ListN.{length, getD};
 ghost use Rattle.terms.specs.Term.{Term, Parts, sub};
 ghost use Rattle.terms.specs.Held.{Held, HeldParts};
 ghost use Rattle.terms.specs.Formed.{Formed};
+ghost use Rattle.terms.specs.Placed.{FormedAt};
 ghost use Rattle.terms.specs.Views.{conflicts-with, can-weaken-to};
 ghost use Rattle.terms.specs.Comparing.{Rows, Forward, Stepped, Passed};
 
@@ -102,7 +103,8 @@ fn rows_conflict(kinds: &[u32], vals: &[u32], a: usize, ae: usize, b: usize, be:
 
 // `conflicts_with` of the terms at a and b.
 pub fn conflicts_with(kinds: &[u32], vals: &[u32], a: usize, b: usize) -> bool
-    requires { ⌜ (a < length (now kinds)) × (b < length (now kinds)) × (length (now vals) ≡ length (now kinds)) ⌝ }
+    requires places { ⌜ (a < length (now kinds)) × (b < length (now kinds)) × (length (now vals) ≡ length (now kinds)) ⌝ }
+    requires terms { ⌜ FormedAt (now kinds) (now vals) a × FormedAt (now kinds) (now vals) b ⌝ }
     ensures { λ r. ⌜ ((t u : Term) → Held (now (kinds .entry)) (now (vals .entry)) a t → Held (now (kinds .entry)) (now (vals .entry)) b u → Formed t → Formed u → r ≡ conflicts-with t u) ⌝ }
 {
     let n = skip(kinds, vals, a, kinds.len() - a);
@@ -112,7 +114,8 @@ pub fn conflicts_with(kinds: &[u32], vals: &[u32], a: usize, b: usize) -> bool
 
 // `can_weaken_to` of the terms at a and b: a Mutable access against one that is not, and the rest does not conflict.
 pub fn can_weaken_to(kinds: &[u32], vals: &[u32], a: usize, b: usize) -> bool
-    requires { ⌜ (a < length (now kinds)) × (b < length (now kinds)) × (length (now vals) ≡ length (now kinds)) ⌝ }
+    requires places { ⌜ (a < length (now kinds)) × (b < length (now kinds)) × (length (now vals) ≡ length (now kinds)) ⌝ }
+    requires terms { ⌜ FormedAt (now kinds) (now vals) a × FormedAt (now kinds) (now vals) b ⌝ }
     ensures { λ r. ⌜ ((t u : Term) → Held (now (kinds .entry)) (now (vals .entry)) a t → Held (now (kinds .entry)) (now (vals .entry)) b u → Formed t → Formed u → r ≡ can-weaken-to t u) ⌝ }
 {
     let k = word(kinds, a);

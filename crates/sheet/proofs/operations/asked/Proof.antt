@@ -26,7 +26,7 @@ question-requires-7 : tie.Need-question-requires-7
 question-requires-7 c κs = search needs
 
 told-seven-requires : tie.Need-told-seven-requires
-told-seven-requires c κs = search needs
+told-seven-requires c κs = c .before .before .before .before .before .before .before .before .before .before .before .before .pre .1 .1
 
 same-length : tie.Need-same-length
 same-length c = search needs

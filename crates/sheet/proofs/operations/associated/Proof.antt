@@ -28,7 +28,17 @@ settled-requires : tie.Need-settled-requires
 settled-requires c κs =
     let p = c .before .before .before .before .before .before .before .before .before .before .before .before .before .before .before .before .before .before .pre in
     let e = c .before .before .before .before .before .before .before .before .before .with-associated-types .ensures in
-    (record { inside = omega (arith, ap length (e .0), p .1 .1 .inside); short = omega (arith, ap length (e .0), p .1 .1 .short) }, (_, _, e .1 .0))
+    let a = c .before .before .before .before .before .before .before .before .before .before .before .before .before .before .before .before .before .before .args in
+    let x = p .1 .1 .1 in (
+      record { inside = omega (arith, ap length (e .0), p .1 .1 .0 .inside); short = omega (arith, ap length (e .0), p .1 .1 .0 .short) },
+      (
+        (_, _, e .1 .0),
+        (
+          normalise levels visits (through (x .row) (x .owner)) (x .term),
+          answers-from _ _ _ _ (now (a .out)) _ (a .to) _ _ (e .0) (e .1 .1 (x .term) (x .row) (x .owner) (x .held) (x .interface) (x .owns)),
+        ),
+      ),
+    )
 
 same-length : tie.Need-same-length
 same-length c = search needs
@@ -47,7 +57,7 @@ returns c =
       d .0 _ _ (e .1 .0),
       λ t i o x.
           frame-as _ _ (ap settled (interface-normalize i o (x .interface-fit) (x .owner-formed) t (x .term-formed))) _ _ _ _
-          (frame-from _ _ (now (a .out)) (e .0) (a .to) _ _ (d .1 _ _ _ (answers-from _ _ _ _ _ _ (now (a .out)) _ (a .to) (normalise levels visits (through i o) t) (c .before .before .before .before .before .before .before .before .before .before .before .before .before .before .before .before .with-associated-types .result) (e .0) (e .1 .1 t i o (x .term) (x .interface) (x .owns))))),
+          (frame-from _ _ (now (a .out)) (e .0) (a .to) _ _ (d .1 _ (answers-from _ _ _ _ (now (a .out)) _ (a .to) (normalise levels visits (through i o) t) (c .before .before .before .before .before .before .before .before .before .before .before .before .before .before .before .before .with-associated-types .result) (e .0) (e .1 .1 t i o (x .term) (x .interface) (x .owns))))),
     )
 
 pub associated-spec : {M : Type 1} → statement M

@@ -2,7 +2,7 @@
 use mathlib.Core.Path.{ap, _∙_}
 use denote.Ref.{now}
 use Rattle.sheet.specs.Operations.{bit}
-use Rattle.sheet.proofs.AnswerLaws.{held-in, frame-as, one-byte}
+use Rattle.sheet.proofs.AnswerLaws.{held-in, formed-both, frame-as, one-byte}
 use Rattle.sheet.proofs.GivenLaws.{third, conflicts-asks, conflicts-replies, weakens-asks, weakens-replies, recover-asks, recover-replies}
 use borrow.Author.Needs.{needs}
 use Rattle.sheet.proofs.operations.compare.Statement.{statement}
@@ -13,7 +13,7 @@ conflicts-with-requires c κs =
     let p = c .before .before .before .before .before .before .before .pre in
     let a = c .before .before .before .before .before .before .before .args in
     let x = conflicts-asks _ _ _ _ (a .o) 9 12 (c .if1 .taken) (p .1 .0 .2) in
-    (held-in _ _ _ _ (x .2 .left), held-in _ _ _ _ (x .2 .right), p .0 .pairs)
+    ((held-in _ _ _ _ (x .2 .left), held-in _ _ _ _ (x .2 .right), p .0 .pairs), formed-both _ _ _ _ _ _ (x .2))
 
 bit-requires : tie.Need-bit-requires
 bit-requires c κs = search needs
@@ -35,7 +35,7 @@ can-weaken-to-requires c κs =
     let p = c .before .before .before .before .before .before .before .before .before .pre in
     let a = c .before .before .before .before .before .before .before .before .before .args in
     let x = weakens-asks _ _ _ _ (a .o) 9 12 (c .if2 .taken) (p .1 .0 .2) in
-    (held-in _ _ _ _ (x .2 .left), held-in _ _ _ _ (x .2 .right), p .0 .pairs)
+    ((held-in _ _ _ _ (x .2 .left), held-in _ _ _ _ (x .2 .right), p .0 .pairs), formed-both _ _ _ _ _ _ (x .2))
 
 bit-requires-2 : tie.Need-bit-requires-2
 bit-requires-2 c κs = search needs

@@ -15,7 +15,7 @@ asked-requires c κs =
     let a = c .before .before .before .before .before .before .before .before .before .before .args in
     let y = p .1 .0 .1 in
     let x = questions-asks _ _ _ _ (a .o) 15 18 (c .before .if1 .taken) y in
-    ((held-in _ _ _ _ (x .1), p .0 .pairs), p .1 .1)
+    ((held-in _ _ _ _ (x .1), p .0 .pairs), (record { term = x .0; held = x .1; formed = x .2 }, p .1 .1))
 
 same-length : tie.Need-same-length
 same-length c = search needs
@@ -32,7 +32,7 @@ ask-requires c κs =
     let a = c .before .before .before .before .before .before .before .before .before .before .before .args in
     let y = p .1 .0 .1 in
     let x = resolved-asks _ _ _ _ (a .o) 15 18 (c .if2 .taken) y in
-    (held-in _ _ _ _ (x .3), p .0 .pairs)
+    ((held-in _ _ _ _ (x .3), p .0 .pairs), (record { term = x .1; held = x .3; formed = x .4 }, record { list = x .0; next = x .2 .0; read = x .2 .1 }))
 
 bit-requires : tie.Need-bit-requires
 bit-requires c κs = search needs
@@ -56,7 +56,7 @@ satisfies-requires c κs =
     let y = p .1 .0 .1 in
     let k = third 15 (a .o .kind) (y .from) (y .below) (c .before .before .if1 .left) (c .if2 .left) in
     let x = satisfied-asks _ _ _ _ (a .o) 15 18 k y in
-    (held-in _ _ _ _ (x .3), held-in _ _ _ _ (x .4), p .0 .pairs)
+    ((held-in _ _ _ _ (x .3), held-in _ _ _ _ (x .4), p .0 .pairs), (record { row = x .0; held = x .3; fit = x .6 }, record { row = x .1; held = x .4; fit = x .7 }))
 
 satisfies-for-requires : tie.Need-satisfies-for-requires
 satisfies-for-requires c κs =
@@ -64,8 +64,10 @@ satisfies-for-requires c κs =
     let a = c .before .before .before .before .before .before .before .before .before .before .before .before .args in
     let y = p .1 .0 .1 in
     let k = third 15 (a .o .kind) (y .from) (y .below) (c .before .before .before .if1 .left) (c .before .if2 .left) in
-    let x = satisfied-asks _ _ _ _ (a .o) 15 18 k y in
-    (held-in _ _ _ _ (x .3), held-in _ _ _ _ (x .4), held-in _ _ _ _ (x .5), p .0 .pairs)
+    let x = satisfied-asks _ _ _ _ (a .o) 15 18 k y in (
+      (held-in _ _ _ _ (x .3), held-in _ _ _ _ (x .4), held-in _ _ _ _ (x .5), p .0 .pairs),
+      ((record { row = x .0; held = x .3; fit = x .6 }, record { row = x .1; held = x .4; fit = x .7 }), (x .2, x .5)),
+    )
 
 bit-requires-2 : tie.Need-bit-requires-2
 bit-requires-2 c κs = search needs

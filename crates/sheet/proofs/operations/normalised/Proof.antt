@@ -16,13 +16,25 @@ cast-normalise : tie.Need-cast-normalise
 cast-normalise c = search needs
 
 normalise-requires : tie.Need-normalise-requires
-normalise-requires c κs = search needs
+normalise-requires c κs =
+    let p = c .before .before .before .before .before .before .before .before .before .pre in
+    (p .0, (p .1 .1 .0, (p .1 .1 .1 .0 .inside, p .1 .1 .1 .1)))
 
 settled-requires : tie.Need-settled-requires
 settled-requires c κs =
     let p = c .before .before .before .before .before .before .before .before .before .before .before .before .before .before .before .before .before .before .before .pre in
     let e = c .before .before .before .before .before .before .before .before .before .normalise .ensures in
-    (record { inside = omega (arith, ap length (e .0), p .1 .1 .1 .inside); short = omega (arith, ap length (e .0), p .1 .1 .1 .short) }, (_, _, e .1 .0))
+    let a = c .before .before .before .before .before .before .before .before .before .before .before .before .before .before .before .before .before .before .before .args in
+    let x = p .1 .1 .1 .1 in (
+      record { inside = omega (arith, ap length (e .0), p .1 .1 .1 .0 .inside); short = omega (arith, ap length (e .0), p .1 .1 .1 .0 .short) },
+      (
+        (_, _, e .1 .0),
+        (
+          normalise levels visits (byPatterns (x .patterns)) (x .term),
+          answers-from _ _ _ _ (now (a .out)) _ (a .to) _ _ (e .0) (e .1 .1 (x .term) (x .patterns) (x .held) (x .ruled)),
+        ),
+      ),
+    )
 
 same-length : tie.Need-same-length
 same-length c = search needs
@@ -41,7 +53,7 @@ returns c =
       d .0 _ _ (e .1 .0),
       λ t rs x.
           frame-as _ _ (ap settled (rules-normalize rs (x .rules-formed) t (x .term-formed))) _ _ _ _
-          (frame-from _ _ (now (a .out)) (e .0) (a .to) _ _ (d .1 _ _ _ (answers-from _ _ _ _ _ _ (now (a .out)) _ (a .to) (normalise levels visits (byPatterns rs) t) (c .before .before .before .before .before .before .before .before .before .before .before .before .before .before .before .before .normalise .result) (e .0) (e .1 .1 t rs (x .term) (x .rules))))),
+          (frame-from _ _ (now (a .out)) (e .0) (a .to) _ _ (d .1 _ (answers-from _ _ _ _ (now (a .out)) _ (a .to) (normalise levels visits (byPatterns rs) t) (c .before .before .before .before .before .before .before .before .before .before .before .before .before .before .before .before .normalise .result) (e .0) (e .1 .1 t rs (x .term) (x .rules))))),
     )
 
 pub normalised-spec : {M : Type 1} → statement M

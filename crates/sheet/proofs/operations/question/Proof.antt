@@ -7,7 +7,9 @@ use Rattle.sheet.proofs.operations.question.Statement.{statement}
 use Rattle.sheet.proofs.operations.question.Tie as tie
 
 ask-requires : tie.Need-ask-requires
-ask-requires c κs = search needs
+ask-requires c κs =
+    let p = c .before .before .before .pre in
+    (p .0, (p .1, record { list = []; next = 0; read = no-parameters _ }))
 
 bit-requires : tie.Need-bit-requires
 bit-requires c κs = search needs

@@ -3,7 +3,7 @@ use native.Mathlib.Omega.{arith}
 use denote.Ref.{now}
 use Rattle.terms.specs.Term.{bytes}
 use Rattle.terms.specs.Recovery.{recover-from}
-use Rattle.sheet.proofs.AnswerLaws.{held-in}
+use Rattle.sheet.proofs.AnswerLaws.{held-in, formed-both}
 use Rattle.sheet.proofs.FramingLaws.{value-in, value-over, begun-long, begun-room}
 use borrow.Author.Needs.{needs}
 use Rattle.sheet.proofs.operations.recovered.Statement.{statement}
@@ -13,7 +13,7 @@ recovered-len-requires : tie.Need-recovered-len-requires
 recovered-len-requires c κs =
     let p = c .before .before .before .pre in
     let x = p .1 .0 .2 in
-    ((held-in _ _ _ _ (x .left), held-in _ _ _ _ (x .right), p .0 .pairs), omega (arith, p .0 .short))
+    ((held-in _ _ _ _ (x .left), held-in _ _ _ _ (x .right), p .0 .pairs), (omega (arith, p .0 .short), formed-both _ _ _ _ _ _ x))
 
 begin-requires : tie.Need-begin-requires
 begin-requires c κs = search needs
@@ -33,8 +33,14 @@ write-recovered-requires : tie.Need-write-recovered-requires
 write-recovered-requires c κs =
     let p = c .before .before .before .before .before .before .before .before .before .before .pre in
     let x = p .1 .0 .2 in
-    let l = begun-long _ _ _ _ _ (c .before .before .before .before .begin .ensures) in
-    ((held-in _ _ _ _ (x .left), held-in _ _ _ _ (x .right), p .0 .pairs), omega (arith, p .0 .short, p .1 .1 .short, c .before .if1 .left))
+    let y = c .before .before .before .before .begin .ensures in
+    let l = begun-long _ _ _ _ _ y in
+    let e = c .before .before .before .before .before .before .recovered-len .ensures _ _ (x .left) (x .right) (x .left-formed) (x .right-formed) in
+    let m = begun-room _ _ _ _ _ y (omega (arith, c .before .if1 .left)) in
+    let f = formed-both _ _ _ _ _ _ x in (
+      (held-in _ _ _ _ (x .left), held-in _ _ _ _ (x .right), p .0 .pairs),
+      (omega (arith, p .0 .short, p .1 .1 .short, c .before .if1 .left), record { left = f .0; right = f .1; room = omega (arith, m, e) }),
+    )
 
 same-length-2 : tie.Need-same-length-2
 same-length-2 c = search needs

@@ -15,8 +15,14 @@ associated-requires c κs =
     let p = c .before .before .before .before .before .before .before .before .before .before .before .before .before .before .pre in
     let a = c .before .before .before .before .before .before .before .before .before .before .before .before .before .before .args in
     let y = p .1 .0 .1 in
-    let x = associated-asks _ _ _ _ (a .o) 19 21 (c .before .before .before .if1 .taken) y .3 in
-    (p .0, ((held-in _ _ _ _ (x .term), held-in _ _ _ _ (x .interface), held-in _ _ _ _ (x .owns)), p .1 .1 .1))
+    let f = associated-asks _ _ _ _ (a .o) 19 21 (c .before .before .before .if1 .taken) y in
+    let x = f .3 in (
+      p .0,
+      (
+        (held-in _ _ _ _ (x .term), held-in _ _ _ _ (x .interface), held-in _ _ _ _ (x .owns)),
+        (p .1 .1 .1, record { term = f .0; row = f .1; owner = f .2; held = x .term; interface = x .interface; owns = x .owns }),
+      ),
+    )
 
 same-length : tie.Need-same-length
 same-length c = search needs
@@ -55,8 +61,9 @@ normalised-requires c κs =
     let a = c .before .before .before .before .before .before .before .before .before .before .before .before .before .before .before .args in
     let y = p .1 .0 .1 in
     let k = other 19 (a .o .kind) (y .from) (y .below) (c .before .before .before .before .if1 .left) in
-    let x = rules-asks _ _ _ _ (a .o) 19 21 k y .2 in
-    (p .0, (held-in _ _ _ _ (x .term), (simp length-take (omega (arith, p .1 .1 .0)), p .1 .1 .1)))
+    let f = rules-asks _ _ _ _ (a .o) 19 21 k y in
+    let x = f .2 in
+    (p .0, (held-in _ _ _ _ (x .term), (simp length-take (omega (arith, p .1 .1 .0)), (p .1 .1 .1, record { term = f .1; patterns = f .0; held = x .term; ruled = x .rules }))))
 
 same-length-4 : tie.Need-same-length-4
 same-length-4 c = search needs

@@ -43,9 +43,9 @@ returns : tie.Need-returns
 returns c =
     let a = c .before .before .before .before .before .before .before .before .before .before .before .before .before .before .before .before .before .before .before .before .args in
     let l = begun-long _ _ (a .to) _ _ (c .before .before .before .before .before .before .before .before .before .before .begin .ensures) in (
-      λ hs cs x. c .before .before .before .before .clear-tokens .ensures ∙ leaves-done (now (a .kinds)) (now (a .vals)) hs cs (now (a .heads)) (now (a .kids)) (now (a .out)) (a .to) (a .r) _ (c .before .before .before .before .before .before .before .before .before .before .before .before .before .r .given .1) x .1,
-      λ hs cs o x.
-          let y = answers-done (now (a .kinds)) (now (a .vals)) hs cs (now (a .heads)) (now (a .kids)) (now (a .out)) (a .to) (a .r) o _ (c .before .before .before .before .before .before .before .before .before .before .before .before .before .r .given .1) x in
+      λ hs cs x. c .before .before .before .before .clear-tokens .ensures ∙ leaves-done (now (a .kinds)) (now (a .vals)) hs cs (now (a .heads)) (now (a .kids)) (a .r) _ (c .before .before .before .before .before .before .before .before .before .before .before .before .before .r .given .1) x .1,
+      λ o x.
+          let y = answers-done (now (a .kinds)) (now (a .vals)) (now (a .heads)) (now (a .kids)) (now (a .out)) (a .to) (a .r) o x _ (c .before .before .before .before .before .before .before .before .before .before .before .before .before .r .given .1) in
           frame-as _ _ (settled-term o (y .0)) _ _ _ _ (value-over (bytes (o .term)) _ (y .1) (now (a .out)) (a .to) _ _ (c .before .before .before .before .before .before .before .before .before .before .begin .ensures) (omega (arith, l, c .before .before .before .before .before .before .before .if1 .taken))),
     )
 
@@ -54,7 +54,11 @@ write-normalised-requires c κs =
     let a = c .before .before .before .before .before .before .before .before .before .before .before .before .before .before .before .before .args in
     let p = c .before .before .before .before .before .before .before .before .before .before .before .before .before .before .before .before .pre in
     let l = begun-long _ _ (a .to) _ _ (c .before .before .before .before .before .before .begin .ensures) in
-    (leaves-done (now (a .kinds)) (now (a .vals)) (p .1 .0) (p .1 .1) (now (a .heads)) (now (a .kids)) (now (a .out)) (a .to) (a .r) _ (c .before .before .before .before .before .before .before .before .before .r .given .1) (p .1 .2) .2, omega (arith, c .before .before .before .if1 .left))
+    let m = begun-room _ _ (a .to) _ _ (c .before .before .before .before .before .before .begin .ensures) (omega (arith, l, c .before .before .before .if1 .left)) in
+    let o = p .1 .1 .0 in
+    let x = p .1 .1 .1 in
+    let y = answers-done (now (a .kinds)) (now (a .vals)) (now (a .heads)) (now (a .kids)) (now (a .out)) (a .to) (a .r) o x _ (c .before .before .before .before .before .before .before .before .before .r .given .1) in
+    (leaves-done (now (a .kinds)) (now (a .vals)) (p .1 .0 .0) (p .1 .0 .1) (now (a .heads)) (now (a .kids)) (a .r) _ (c .before .before .before .before .before .before .before .before .before .r .given .1) (p .1 .0 .2) .2, (omega (arith, c .before .before .before .if1 .left), record { term = o .term; stands = y .2; room = omega (arith, m, y .1) }))
 
 same-length-4 : tie.Need-same-length-4
 same-length-4 c = search needs
@@ -62,15 +66,15 @@ same-length-4 c = search needs
 returns-2 : tie.Need-returns-2
 returns-2 c =
     let a = c .before .before .before .before .before .before .before .before .before .before .before .args in (
-      λ hs cs x. leaves-refused (now (a .kinds)) (now (a .vals)) hs cs (now (a .heads)) (now (a .kids)) (now (a .out)) (a .to) (a .r) (c .before .before .before .before .enum-told .given .1) x,
-      λ hs cs o x. frame-as _ _ (answers-refused (now (a .kinds)) (now (a .vals)) hs cs (now (a .heads)) (now (a .kids)) (now (a .out)) (a .to) (a .r) o (c .before .before .before .before .enum-told .given .1) x) _ _ _ _ (c .before .before .refused .ensures),
+      λ hs cs x. leaves-refused (now (a .kinds)) (now (a .vals)) hs cs (now (a .heads)) (now (a .kids)) (a .r) (c .before .before .before .before .enum-told .given .1) x,
+      λ o x. frame-as _ _ (answers-refused (now (a .kinds)) (now (a .vals)) (now (a .heads)) (now (a .kids)) (now (a .out)) (a .to) (a .r) o x (c .before .before .before .before .enum-told .given .1)) _ _ _ _ (c .before .before .refused .ensures),
     )
 
 returns-3 : tie.Need-returns-3
 returns-3 c =
     let a = c .before .before .before .before .before .before .before .args in (
-      λ hs cs x. leaves-long (now (a .kinds)) (now (a .vals)) hs cs (now (a .heads)) (now (a .kids)) (now (a .out)) (a .to) (a .r) (c .enum-told2 .given .1) x,
-      λ hs cs o x. answers-long (now (a .kinds)) (now (a .vals)) hs cs (now (a .heads)) (now (a .kids)) (now (a .out)) (a .to) (a .r) o (c .enum-told2 .given .1) x,
+      λ hs cs x. leaves-long (now (a .kinds)) (now (a .vals)) hs cs (now (a .heads)) (now (a .kids)) (a .r) (c .enum-told2 .given .1) x,
+      λ o x. answers-long (now (a .kinds)) (now (a .vals)) (now (a .heads)) (now (a .kids)) (now (a .out)) (a .to) (a .r) o x (c .enum-told2 .given .1),
     )
 
 same-length-5 : tie.Need-same-length-5
@@ -87,10 +91,10 @@ returns-4 c =
     let a = c .before .before .before .before .before .before .before .before .before .before .before .before .before .before .before .before .before .before .before .before .before .before .before .args in
     let l = begun-long _ _ (a .to) _ _ (c .before .before .before .before .before .before .before .before .before .before .before .before .before .begin .ensures) in
     let m = begun-room _ _ (a .to) _ _ (c .before .before .before .before .before .before .before .before .before .before .before .before .before .begin .ensures) (omega (arith, l, c .before .before .before .before .before .before .before .before .before .before .if1 .left)) in (
-      λ hs cs x. c .before .before .before .before .before .before .write-normalised .ensures .0 ∙ leaves-done (now (a .kinds)) (now (a .vals)) hs cs (now (a .heads)) (now (a .kids)) (now (a .out)) (a .to) (a .r) _ (c .before .before .before .before .before .before .before .before .before .before .before .before .before .before .before .before .r .given .1) x .1,
-      λ hs cs o x.
-          let y = answers-done (now (a .kinds)) (now (a .vals)) hs cs (now (a .heads)) (now (a .kids)) (now (a .out)) (a .to) (a .r) o _ (c .before .before .before .before .before .before .before .before .before .before .before .before .before .before .before .before .r .given .1) x in
-          let z = c .before .before .before .before .before .before .write-normalised .ensures .1 (o .term) (y .3) (omega (arith, m, y .1)) in
+      λ hs cs x. c .before .before .before .before .before .before .write-normalised .ensures .0 ∙ leaves-done (now (a .kinds)) (now (a .vals)) hs cs (now (a .heads)) (now (a .kids)) (a .r) _ (c .before .before .before .before .before .before .before .before .before .before .before .before .before .before .before .before .r .given .1) x .1,
+      λ o x.
+          let y = answers-done (now (a .kinds)) (now (a .vals)) (now (a .heads)) (now (a .kids)) (now (a .out)) (a .to) (a .r) o x _ (c .before .before .before .before .before .before .before .before .before .before .before .before .before .before .before .before .r .given .1) in
+          let z = c .before .before .before .before .before .before .write-normalised .ensures .1 (o .term) (y .2) (omega (arith, m, y .1)) in
           frame-as _ _ (settled-term o (y .0)) _ _ _ _ (value-in (bytes (o .term)) _ (y .1) (now (a .out)) (a .to) _ _ (c .before .before .before .before .before .before .before .before .before .before .before .before .before .begin .ensures) (omega (arith, l, c .before .before .before .before .before .before .before .before .before .before .if1 .left)) _ _ (z .0) (z .1)),
     )
 

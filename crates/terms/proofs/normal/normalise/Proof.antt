@@ -19,7 +19,7 @@ run-requires c κs =
         within = omega arith;
         small = omega arith;
       },
-      ((start .pre .1 .0, omega arith, omega arith), ((start .pre .0 .heads-zero, start .pre .0 .kids-zero), start .pre .1 .1)),
+      ((start .pre .1 .0, omega arith, omega arith), ((start .pre .0 .heads-zero, start .pre .0 .kids-zero), start .pre .1 .1 .0)),
     )
 
 same-length : tie.Need-same-length

@@ -85,7 +85,8 @@ returns-2 c =
             (start .args .kids)) _ _ (clear-tokens′ .last .0) (clear-tokens′ .last .1 .0) (now (start .args .rules)) _ _ _ _ _ (walk′ .ensures .0) (c .before .before .before .before .before .before .before .if2 .taken)
             _ (source2′ .ensures .0) (source2′ .ensures .1) t look _ h k
             (normalise-walked (start .args .levels) (start .args .visits) (lookBy look) t (sym (c .before .before .before .before .before .before .before .before .before .before .before .before .before .before .before .before .before .has-projection .ensures
-            t h) ∙ not-false _ (c .before .before .before .before .before .before .before .before .before .before .before .before .before .before .before .before .if1 .left))),
+            t h) ∙ not-false _ (c .before .before .before .before .before .before .before .before .before .before .before .before .before .before .before .before .if1 .left)))
+            (now (start .args .out)) (start .args .at),
       ),
     )
 

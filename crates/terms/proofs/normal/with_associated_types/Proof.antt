@@ -26,7 +26,7 @@ run-requires c κs =
         within = omega arith;
         small = omega arith;
       },
-      ((omega arith, omega arith, omega arith), ((start .pre .0 .heads-zero, start .pre .0 .kids-zero), start .pre .1)),
+      ((omega arith, omega arith, omega arith), ((start .pre .0 .heads-zero, start .pre .0 .kids-zero), start .pre .1 .0)),
     )
 
 same-length : tie.Need-same-length
