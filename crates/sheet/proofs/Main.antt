@@ -5,7 +5,7 @@ use mathlib.Core.Bool.{true, false}
 use mathlib.Core.List.{List, [], _∷_, _++_}
 use mathlib.Core.Logic.{_⊎_}
 use mathlib.Core.Option.{none}
-use Prim.Native.Nat.{ℕ, _+_, _≤_, _<_}
+use Prim.Native.Nat.{ℕ, _+_, _-_, _≤_, _<_}
 use native.Mathlib.Omega.{arith}
 use lib.ListN.{length, getD, take, drop, replicate}
 use Rattle.terms.specs.Result.{got}
@@ -31,6 +31,7 @@ use Rattle.sheet.specs.Demand3.{Pure, PurePairs, Premises, historyOf, se
 use Rattle.sheet.specs.Commands.{command}
 use Rattle.sheet.specs.RustBytes.{frames, AsTheRust, AllSolved}
 use Rattle.sheet.specs.RobinsonBytes.{FirstOrder, PlainOrder, AnsweredSo, DecidesOrders}
+use Rattle.sheet.specs.Stopping.{behind, Stopped}
 use Rattle.sheet.specs.Ending.{finished, suits, finishOf}
 use Rattle.sheet.proofs.MarkedTable.{MarkedLines, marked}
 use Rattle.sheet.proofs.Demand3Bytes.{demand-3-bytes}
@@ -63,13 +64,15 @@ module _ (sheet out a b c d : List ℕ) (reason orders bytes : ℕ) (out′ a′
       → (a′ ≡ replicate (length a) 0) × (b′ ≡ replicate (length b) 0) × (c′ ≡ replicate (length c) 0) × (d′ ≡ replicate (length d) 0)
   demand-1-areas = call.zeroed box 16384 sheet out a b c d reason orders bytes out′ a′ b′ c′ d′ contract
 
-  -- "12 is tested first", "nothing written, orders 0, bytes 0"; the areas are as they were. Else the reason is 0, 10 or 11.
+  -- "12 is tested first", "nothing written, orders 0, bytes 0"; the areas are as they were.
   pub demand-1-run-12 : suits 16384 (length sheet) (length out) (length a) (length b) (length c) (length d) ≡ false
       → finished reason orders bytes out′ a′ b′ c′ d′ ≡ finished 12 0 0 out a b c d
   demand-1-run-12 = call.unfit box 16384 sheet out a b c d reason orders bytes out′ a′ b′ c′ d′ contract
 
-  pub demand-1-reasons : suits 16384 (length sheet) (length out) (length a) (length b) (length c) (length d) ≡ true → (reason ≡ 0) ⊎ ((reason ≡ 10) ⊎ (reason ≡ 11))
-  demand-1-reasons = call.ended box 16384 sheet out a b c d reason orders bytes out′ a′ b′ c′ d′ contract
+  -- Else "run 0", "10" or "11": the sheet is used up, or the next length is faulty or beyond it, or the next answer does not fit whole.
+  pub demand-1-reasons : suits 16384 (length sheet) (length out) (length a) (length b) (length c) (length d) ≡ true
+      → Stopped box sheet (behind sheet orders 0) (sessionAfter box fresh served) (length out - bytes) reason
+  demand-1-reasons = call.stopped box 16384 sheet out a b c d reason orders bytes out′ a′ b′ c′ d′ contract
 
   -- where the answer to each of these orders stands: behind the answers to those before it
   pub answer-at : (bs cs : List (List ℕ)) (o : List ℕ) → served ≡ bs ++ (o ∷ cs)
