@@ -3,24 +3,31 @@
 use mathlib.Core.Path.{_≡_, refl, sym, ap, ap₂, _∙_, subst}
 use mathlib.Core.Bool.{Bool, true, false}
 use mathlib.Core.List.{List, [], _∷_, _++_, append-assoc}
-use mathlib.Core.Logic.{_⊎_, inl, inr}
+use mathlib.Core.Logic.{inl, inr}
 use mathlib.Core.Option.{Option, none, some}
-use Prim.Native.Nat.{ℕ, zero, suc, _-_, _<_}
+use Prim.Native.Nat.{ℕ, zero, suc, _+_, _-_, _<_}
+use native.Mathlib.Omega.{arith}
+use borrow.Author.Tests.{leb-true, leb-false, ltb-true}
 use lib.Dec.{ltb, leb}
-use lib.ListN.{length, getD, take, drop, replicate}
+use lib.ListN.{length, length-append, getD, take, drop, replicate}
 use lib.Seq.{take-append-seam, drop-append-seam}
 use Rattle.terms.specs.Result.{Result, got, refused, pick}
+use Rattle.terms.specs.Number.{number}
+use Rattle.terms.specs.Shape as shape
+use Rattle.terms.specs.Shape.{ceiling}
 use Rattle.solver.specs.Shapes.{loose}
 use Rattle.solver.specs.Session.{Limits, Session, issued, fresh}
 use Rattle.solver.specs.Orders.{Command, order}
 use Rattle.solver.proofs.RustLaws.{refused-stays}
 use Rattle.sheet.specs.Fields.{readOrder}
 use Rattle.sheet.specs.Operations.{refusal}
-use Rattle.sheet.specs.Sheet.{Step, Run, orderOf, framed, ends, answering, nextOrder, answered, runFrom, runOf}
-use Rattle.sheet.specs.Demand3.{ByteString, accepted, sessionAfter, ordersFrom, answersTo}
+use Rattle.sheet.specs.Sheet.{Step, Run, orderOf, framed, ends, answering, part, nextOrder, answered, runFrom, runOf}
+use Rattle.sheet.specs.Demand3.{ByteString, accepted, sessionAfter, partThen, ordersFrom, answersTo}
 use Rattle.sheet.specs.Commands.{command}
 use Rattle.sheet.specs.RustBytes.{AllSolved, solvedOne, solvedTo}
+use Rattle.sheet.specs.Stopping.{behindPart, behind, Stopped}
 use Rattle.sheet.specs.Ending.{Finish, finished, suits, leaving, finishOf}
+use Rattle.sheet.proofs.SplittingLaws.{next-ahead}
 use Rattle.sheet.proofs.EndingLaws.{finish-unfit, finish-run}
 use Rattle.sheet.proofs.Demand3Bytes.{accepted-of}
 use Rattle.sheet.proofs.Demand3Run.{run-follows}
@@ -70,27 +77,58 @@ module _ (lim : Limits) where
 
   -- ---- the run
 
-  abbrev Reason : ℕ → Type 0
-  Reason r = (r ≡ 0) ⊎ ((r ≡ 10) ⊎ (r ≡ 11))
-
-  run-reason : (s : List ℕ) (fuel : ℕ) (z : Session) (at space : ℕ) → Reason (runFrom lim s fuel z at space .reason)
-  unfolding runFrom
-  run-reason s zero z at space = inl refl
-  run-reason s (suc fuel) z at space = go (λ y k m. run-reason s fuel y k m) (leb (length s) at)
+  refused-10 : (s : List ℕ) (at c : ℕ) → nextOrder s at ≡ refused c → nextOrder s at ≡ refused 10
+  refused-10 s at c = go (number (ceiling shape.ordinary) s at)
     where
-      fits : ((y : Session) (k m : ℕ) → Reason (runFrom lim s fuel y k m .reason)) → (b : List ℕ) (next : ℕ) (over : Bool)
-          → Reason (pick over (ends 11 z) (answering (framed (orderOf lim z b .answer)) (runFrom lim s fuel (orderOf lim z b .session) next (space - length (framed (orderOf lim z b .answer))))) .reason)
-      fits more b next true = inr (inr refl)
-      fits more b next false = more (orderOf lim z b .session) next (space - length (framed (orderOf lim z b .answer)))
+      fits : (n from : ℕ) (b : Bool) → pick {A = Result (List ℕ)} b (refused 10) (got (take n (drop from s)) (from + n)) ≡ refused c
+          → pick {A = Result (List ℕ)} b (refused 10) (got (take n (drop from s)) (from + n)) ≡ refused 10
+      fits n from true e = refl
+      fits n from false e = let z : _≡_ {A = ℕ} 0 1 = cc in absurd (omega arith)
 
-      comes : ((y : Session) (k m : ℕ) → Reason (runFrom lim s fuel y k m .reason)) → (x : Result (List ℕ)) → Reason (answered lim s (runFrom lim s fuel) z space x .reason)
-      comes more (got b next) = fits more b next (ltb space (length (framed (orderOf lim z b .answer))))
-      comes more (refused c) = inr (inl refl)
+      go : (x : Result ℕ) → part s x ≡ refused c → part s x ≡ refused 10
+      go (got n from) e = fits n from (ltb (length s - from) n) e
+      go (refused k) e = refl
 
-      go : ((y : Session) (k m : ℕ) → Reason (runFrom lim s fuel y k m .reason)) → (b : Bool)
-          → Reason (pick b (ends 0 z) (answered lim s (runFrom lim s fuel) z space (nextOrder s at)) .reason)
-      go more true = inl refl
-      go more false = comes more (nextOrder s at)
+  -- a run from a position on, in a session
+  abbrev StopsAt : List ℕ → Session → ℕ → ℕ → Run → Type 0
+  StopsAt s z at space r = Stopped lim s (behind s (r .orders) at) (sessionAfter lim z (ordersFrom s (r .orders) at)) (space - length (r .answers)) (r .reason)
+
+  -- and with so much fuel, from everywhere
+  abbrev Again : List ℕ → ℕ → Type 0
+  Again s fuel = (y : Session) (k m : ℕ) → length s < fuel + k → StopsAt s y k m (runFrom lim s fuel y k m)
+
+  stops : (s : List ℕ) (fuel : ℕ) (z : Session) (at space : ℕ) → length s < fuel + at → StopsAt s z at space (runFrom lim s fuel z at space)
+  unfolding runFrom behind sessionAfter ordersFrom
+  stops s zero z at space l = inl (refl, omega arith)
+  stops s (suc fuel) z at space l = go (λ y k m q. stops s fuel y k m q) (leb (length s) at) refl
+    where
+      later : (b : List ℕ) (next : ℕ) → nextOrder s at ≡ got b next → (r : Run) → StopsAt s (orderOf lim z b .session) next (space - length (framed (orderOf lim z b .answer))) r
+          → StopsAt s z at space (answering (framed (orderOf lim z b .answer)) r)
+      later b next e r f =
+          let a = framed (orderOf lim z b .answer) in
+          let p : behind s (suc (r .orders)) at ≡ behind s (r .orders) next = ap (behindPart (behind s (r .orders)) at) e in
+          let q : ordersFrom s (suc (r .orders)) at ≡ b ∷ ordersFrom s (r .orders) next = ap (partThen (ordersFrom s (r .orders))) e in
+          let m : space - length (a ++ r .answers) ≡ space - length a - length (r .answers) = let x = length-append a (r .answers) in omega arith in
+          subst (λ (k : ℕ). Stopped lim s (behind s (suc (r .orders)) at) (sessionAfter lim z (ordersFrom s (suc (r .orders)) at)) k (r .reason)) (sym m)
+          (subst (λ (bs : List (List ℕ)). Stopped lim s (behind s (suc (r .orders)) at) (sessionAfter lim z bs) (space - length a - length (r .answers)) (r .reason)) (sym q)
+          (subst (λ (k : ℕ). Stopped lim s k (sessionAfter lim z (b ∷ ordersFrom s (r .orders) next)) (space - length a - length (r .answers)) (r .reason)) (sym p) f))
+
+      fits : Again s fuel → at < length s → (b : List ℕ) (next : ℕ) → nextOrder s at ≡ got b next → (over : Bool) → ltb space (length (framed (orderOf lim z b .answer))) ≡ over
+          → StopsAt s z at space
+          (pick over (ends 11 z) (answering (framed (orderOf lim z b .answer)) (runFrom lim s fuel (orderOf lim z b .session) next (space - length (framed (orderOf lim z b .answer))))))
+      fits more h b next e true o = inr (inr (refl, h, record { order = b; next = next; comes = e; long = omega (arith, ltb-true space (length (framed (orderOf lim z b .answer))) o) }))
+      fits more h b next e false o =
+          let a = next-ahead s at b next (sym e) .after in
+          let left = space - length (framed (orderOf lim z b .answer)) in
+          later b next e (runFrom lim s fuel (orderOf lim z b .session) next left) (more (orderOf lim z b .session) next left (omega arith))
+
+      comes : Again s fuel → at < length s → (x : Result (List ℕ)) → nextOrder s at ≡ x → StopsAt s z at space (answered lim s (runFrom lim s fuel) z space x)
+      comes more h (got b next) e = fits more h b next e (ltb space (length (framed (orderOf lim z b .answer)))) refl
+      comes more h (refused c) e = inr (inl (refl, h, refused-10 s at c e))
+
+      go : Again s fuel → (b : Bool) → leb (length s) at ≡ b → StopsAt s z at space (pick b (ends 0 z) (answered lim s (runFrom lim s fuel) z space (nextOrder s at)))
+      go more true e = inl (refl, leb-true (length s) at e)
+      go more false e = comes more (leb-false (length s) at e) (nextOrder s at) refl
 
 -- ---- a call
 
@@ -113,10 +151,6 @@ module _ (lim : Limits) (words : ℕ) (sheet out a b c d : List ℕ) (reason ord
   zeroed e =
       let f = fit e in
       (ap (λ (x : Finish). x .a) f, ap (λ (x : Finish). x .b) f, ap (λ (x : Finish). x .c) f, ap (λ (x : Finish). x .d) f)
-
-  pub ended : taken ≡ true → (reason ≡ 0) ⊎ ((reason ≡ 10) ⊎ (reason ≡ 11))
-  unfolding leaving
-  ended e = subst (λ (r : ℕ). (r ≡ 0) ⊎ ((r ≡ 10) ⊎ (r ≡ 11))) (ap (λ (x : Finish). x .reason) (sym (fit e))) (run-reason lim sheet (suc (length sheet)) fresh 0 (length out))
 
   abbrev served : List (List ℕ)
   served = ordersFrom sheet orders 0
@@ -144,3 +178,15 @@ module _ (lim : Limits) (words : ℕ) (sheet out a b c d : List ℕ) (reason ord
             ap (λ (k : ℕ). take k out′) m ∙ ap (λ (k : ℕ). answersTo lim fresh (ordersFrom sheet k 0)) (sym n),
             ap (drop bytes) (ap (λ (x : Finish). x .out) f),
           )
+
+  pub stopped : taken ≡ true → Stopped lim sheet (behind sheet orders 0) (sessionAfter lim fresh served) (length out - bytes) reason
+  unfolding leaving
+  stopped e =
+      let f = fit e in
+      let n : ran .orders ≡ orders = sym (ap (λ (x : Finish). x .orders) f) in
+      let m : length (ran .answers) ≡ bytes = sym (ap (λ (x : Finish). x .bytes) f) in
+      let r : ran .reason ≡ reason = sym (ap (λ (x : Finish). x .reason) f) in
+      subst (λ (k : ℕ). Stopped lim sheet (behind sheet k 0) (sessionAfter lim fresh (ordersFrom sheet k 0)) (length out - bytes) reason) n
+      (subst (λ (k : ℕ). Stopped lim sheet (behind sheet (ran .orders) 0) (sessionAfter lim fresh (ordersFrom sheet (ran .orders) 0)) (length out - k) reason) m
+      (subst (λ (k : ℕ). Stopped lim sheet (behind sheet (ran .orders) 0) (sessionAfter lim fresh (ordersFrom sheet (ran .orders) 0)) (length out - length (ran .answers)) k) r
+      (stops lim sheet (suc (length sheet)) fresh 0 (length out) (omega arith))))

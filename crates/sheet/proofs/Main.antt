@@ -5,7 +5,7 @@ use mathlib.Core.Bool.{true, false}
 use mathlib.Core.List.{List, [], _∷_, _++_}
 use mathlib.Core.Logic.{_⊎_}
 use mathlib.Core.Option.{none}
-use Prim.Native.Nat.{ℕ, _+_, _≤_, _<_}
+use Prim.Native.Nat.{ℕ, _+_, _-_, _≤_, _<_}
 use native.Mathlib.Omega.{arith}
 use lib.ListN.{length, getD, take, drop, replicate}
 use Rattle.terms.specs.Result.{got}
@@ -13,6 +13,18 @@ use Rattle.terms.specs.Number.{number, shortest}
 use Rattle.terms.specs.Term.{Term, var, depth, AllVars, bytes}
 use Rattle.terms.specs.Formed.{Formed}
 use Rattle.terms.specs.Reading as reading
+use Rattle.terms.specs.Tree.{Nominal}
+use Rattle.terms.specs.Questions.{Parameter, is-concrete, is-resolved-in, contains-projection}
+use Rattle.terms.specs.Views.{conflicts-with, satisfies, satisfies-for}
+use Rattle.terms.specs.Recovery.{recover-from}
+use Rattle.terms.specs.Substitution.{Entry, orElse, get, instantiate}
+use Rattle.terms.specs.Normal.{Out, Rule, levels, visits, byRules, normalize}
+use Rattle.terms.proofs.QuestionLaws.{concrete-resolved}
+use Rattle.terms.proofs.ConflictLaws.{conflicts-swap}
+use Rattle.terms.proofs.RecoverLaws.{recover-self}
+use Rattle.terms.proofs.BoundLaws.{satisfies-trans, satisfies-more}
+use Rattle.terms.proofs.SubstitutionLaws.{nothing, get-append, instantiate-nothing}
+use Rattle.terms.proofs.NormalLaws.{normalise-plain}
 use Rattle.terms.proofs.Shortest as numbers
 use Rattle.terms.proofs.Shortest.{octets}
 use Rattle.terms.proofs.RoundTrip as terms
@@ -31,6 +43,7 @@ use Rattle.sheet.specs.Demand3.{Pure, PurePairs, Premises, historyOf, se
 use Rattle.sheet.specs.Commands.{command}
 use Rattle.sheet.specs.RustBytes.{frames, AsTheRust, AllSolved}
 use Rattle.sheet.specs.RobinsonBytes.{FirstOrder, PlainOrder, AnsweredSo, DecidesOrders}
+use Rattle.sheet.specs.Stopping.{behind, Stopped}
 use Rattle.sheet.specs.Ending.{finished, suits, finishOf}
 use Rattle.sheet.proofs.MarkedTable.{MarkedLines, marked}
 use Rattle.sheet.proofs.Demand3Bytes.{demand-3-bytes}
@@ -63,13 +76,15 @@ module _ (sheet out a b c d : List ℕ) (reason orders bytes : ℕ) (out′ a′
       → (a′ ≡ replicate (length a) 0) × (b′ ≡ replicate (length b) 0) × (c′ ≡ replicate (length c) 0) × (d′ ≡ replicate (length d) 0)
   demand-1-areas = call.zeroed box 16384 sheet out a b c d reason orders bytes out′ a′ b′ c′ d′ contract
 
-  -- "12 is tested first", "nothing written, orders 0, bytes 0"; the areas are as they were. Else the reason is 0, 10 or 11.
+  -- "12 is tested first", "nothing written, orders 0, bytes 0"; the areas are as they were.
   pub demand-1-run-12 : suits 16384 (length sheet) (length out) (length a) (length b) (length c) (length d) ≡ false
       → finished reason orders bytes out′ a′ b′ c′ d′ ≡ finished 12 0 0 out a b c d
   demand-1-run-12 = call.unfit box 16384 sheet out a b c d reason orders bytes out′ a′ b′ c′ d′ contract
 
-  pub demand-1-reasons : suits 16384 (length sheet) (length out) (length a) (length b) (length c) (length d) ≡ true → (reason ≡ 0) ⊎ ((reason ≡ 10) ⊎ (reason ≡ 11))
-  demand-1-reasons = call.ended box 16384 sheet out a b c d reason orders bytes out′ a′ b′ c′ d′ contract
+  -- Else "run 0", "10" or "11": the sheet is used up, or the next length is faulty or beyond it, or the next answer does not fit whole.
+  pub demand-1-reasons : suits 16384 (length sheet) (length out) (length a) (length b) (length c) (length d) ≡ true
+      → Stopped box sheet (behind sheet orders 0) (sessionAfter box fresh served) (length out - bytes) reason
+  demand-1-reasons = call.stopped box 16384 sheet out a b c d reason orders bytes out′ a′ b′ c′ d′ contract
 
   -- where the answer to each of these orders stands: behind the answers to those before it
   pub answer-at : (bs cs : List (List ℕ)) (o : List ℕ) → served ≡ bs ++ (o ∷ cs)
@@ -162,3 +177,33 @@ terms-read = terms.round-trip
 pub terms-only : (s : List ℕ) (octet : (i : ℕ) → getD s i 0 < 256) (many levels at : ℕ) (t : Term) (n : ℕ) → reading.term s many levels at ≡ got t n
     → FoundTerm s (octets s octet) many levels at t n
 terms-only s octet = found s (octets s octet)
+
+-- ---- THE OPERATIONS on terms, each the Rust's function of its name on trees (crates/terms/specs)
+
+-- `is_concrete` is `is_resolved_in` of no parameters; `conflicts_with` goes either way; `recover_from` of a term from itself leaves it
+pub concrete : (t : Term) → is-concrete t ≡ is-resolved-in [] t
+concrete = concrete-resolved
+
+pub conflicts : (t u : Term) → conflicts-with t u ≡ conflicts-with u t
+conflicts = conflicts-swap
+
+pub recovers : (t : Term) → recover-from t t ≡ t
+recovers = recover-self
+
+-- `satisfies` goes from bound to bound, and what it admits `satisfies_for` admits
+pub satisfies-through : (x y z : Nominal) → satisfies x y ≡ true → satisfies y z ≡ true → satisfies x z ≡ true
+satisfies-through = satisfies-trans
+
+pub satisfies-for-more : (x y : Nominal) (t : Term) → satisfies x y ≡ true → satisfies-for x y t ≡ true
+satisfies-for-more = satisfies-more
+
+-- "a later entry replaces an earlier one, also across `extend`"; with nothing to substitute a term stays
+pub later-entries : (es later : List Entry) (p : Parameter) → get (es ++ later) p ≡ orElse (get later p) (get es p)
+later-entries = get-append
+
+pub instantiates-nothing : (t : Term) → instantiate nothing t ≡ t
+instantiates-nothing = instantiate-nothing
+
+-- "A term with no projection comes back unchanged."
+pub normalises-plain : (rules : List Rule) (t : Term) → contains-projection t ≡ false → normalize rules t .term ≡ t
+normalises-plain rules t e = ap (λ (o : Out). o .term) (normalise-plain levels visits (byRules rules) t e)

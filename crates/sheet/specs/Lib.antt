@@ -14,6 +14,7 @@
 --   Ending       the session as a run begins it and as an order finds it; what a run hands back and leaves
 --   Doing        orders 0 to 8 on what the solver is lent
 --   Taken        an order taken into the areas, and served there
+--   Stopping     where a run stops, and why
 -- What is claimed of lists of orders, each given as its bytes:
 --   Demand3        demand 3
 --   Commands       what such a list says to the solver
@@ -32,6 +33,7 @@ pub mod Given
 pub mod Written
 pub mod Answering
 pub mod Ending
+pub mod Stopping
 pub mod Doing
 pub mod Taken
 pub mod Demand3
