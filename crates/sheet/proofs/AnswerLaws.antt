@@ -10,9 +10,6 @@ use borrow.Author.Tests.{lt-ltb, le-ltb, eq-eqb, ne-eqb, eqb-false}
 use lib.ListN.{length, length-append, set}
 use lib.Seq.{sets}
 use Rattle.terms.specs.declared.Binders.{Binders}
-use Rattle.terms.specs.declared.Ready.{Ready}
-use Rattle.terms.specs.declared.Normalised.{Normalised}
-use Rattle.terms.specs.declared.Normalised.the-variants.{Refused, Long, Done}
 use Rattle.terms.specs.Result.{got}
 use Rattle.terms.specs.Parameters.{parameters}
 use Rattle.terms.proofs.HeldLaws.{items-some}
@@ -26,6 +23,10 @@ use Rattle.terms.specs.Rewriting.{Rewrites, Writes}
 use Rattle.terms.specs.Normal.{Out, levels, most}
 use Rattle.terms.specs.Normalising.{numberOf, numberFor, Answers, Leaves, Stands}
 use Rattle.terms.proofs.NormalLaws.{refused-number, few-number, long-number}
+use Rattle.solver.specs.declared.Ready.{Ready}
+use Rattle.solver.specs.declared.Normalised.{Normalised}
+use Rattle.solver.specs.declared.Normalised.the-variants.{Refused, Long, Done}
+use Rattle.solver.specs.Handing.{readyOf, normalisedOf}
 use Rattle.sheet.specs.Operations.{Answer, refusal, outcome, bit, bits, seven, perhaps, settled}
 use Rattle.sheet.specs.Written.{Framed, opening, Begun}
 use Rattle.sheet.specs.Answering.{Two}
@@ -147,42 +148,46 @@ pub value-long : (v out : List ℕ) (to : ℕ) → length out < to + length v �
 value-long v out to h =
     frame-over (outcome v) (opening (length v) ++ v) (value-frame v) out to out (length out + 1) (omega (arith, length-append (opening (length v)) v)) refl refl
 
+-- document 01's number of an answer
+abbrev saidBy : Normalised → ℕ
+saidBy r = numberOf (normalisedOf r)
+
 -- the areas
 module _ (ks vs hs cs hs₁ cs₁ : List ℕ) (r : Normalised) where
-  leaves-same : (numberOf r ≡ 0 → ⊥) → Leaves ks vs hs cs hs₁ cs₁ most r → area hs₁ cs₁ ≡ area hs cs
+  leaves-same : (saidBy r ≡ 0 → ⊥) → Leaves ks vs hs cs hs₁ cs₁ most (normalisedOf r) → area hs₁ cs₁ ≡ area hs cs
   leaves-same n x = let y = x .same n in rw (y .0, y .1)
 
-  pub leaves-refused : r ≡ Refused → Leaves ks vs hs cs hs₁ cs₁ most r → area hs₁ cs₁ ≡ area hs cs
-  leaves-refused e = leaves-same (λ z. eqb-false 9 0 refl (sym (ap numberOf e) ∙ z))
+  pub leaves-refused : r ≡ Refused → Leaves ks vs hs cs hs₁ cs₁ most (normalisedOf r) → area hs₁ cs₁ ≡ area hs cs
+  leaves-refused e = leaves-same (λ z. eqb-false 9 0 refl (sym (ap saidBy e) ∙ z))
 
-  pub leaves-long : r ≡ Long → Leaves ks vs hs cs hs₁ cs₁ most r → area hs₁ cs₁ ≡ area hs cs
-  leaves-long e = leaves-same (λ z. eqb-false 11 0 refl (sym (ap numberOf e) ∙ z))
+  pub leaves-long : r ≡ Long → Leaves ks vs hs cs hs₁ cs₁ most (normalisedOf r) → area hs₁ cs₁ ≡ area hs cs
+  leaves-long e = leaves-same (λ z. eqb-false 11 0 refl (sym (ap saidBy e) ∙ z))
 
-  pub leaves-done : (w : Ready) → r ≡ Done w → Leaves ks vs hs cs hs₁ cs₁ most r → (w .next ≤ most) × (blank (area hs₁ cs₁) 0 (w .next) ≡ area hs cs) × Sight ks vs (w .given)
+  pub leaves-done : (w : Ready) → r ≡ Done w → Leaves ks vs hs cs hs₁ cs₁ most (normalisedOf r) → (w .next ≤ most) × (blank (area hs₁ cs₁) 0 (w .next) ≡ area hs cs) × Sight ks vs (readyOf w .given)
   leaves-done w e x = rw e at (x .records)
 
 -- the answers
-module _ (ks vs hs cs out₀ : List ℕ) (to : ℕ) (r : Normalised) (o : Out) (x : Answers ks vs hs cs out₀ to levels most o r) where
-  number-is : (n : ℕ) → numberOf r ≡ n → n ≡ numberFor most (length out₀) to o
+module _ (ks vs hs cs out₀ : List ℕ) (to : ℕ) (r : Normalised) (o : Out) (x : Answers ks vs hs cs out₀ to levels most o (normalisedOf r)) where
+  number-is : (n : ℕ) → saidBy r ≡ n → n ≡ numberFor most (length out₀) to o
   number-is n e = sym e ∙ x .number
 
-  few-as : (n : ℕ) → numberOf r ≡ n → (9 ≡ n → ⊥) → o .count ≤ most
+  few-as : (n : ℕ) → saidBy r ≡ n → (9 ≡ n → ⊥) → o .count ≤ most
   few-as n e f = few-number most (length out₀) to o (λ z. f (z ∙ sym (number-is n e)))
 
   pub answers-refused : r ≡ Refused → refusal 9 ≡ settled o
-  answers-refused e = settled-refused o (refused-number most (length out₀) to o (number-is 9 (ap numberOf e)))
+  answers-refused e = settled-refused o (refused-number most (length out₀) to o (number-is 9 (ap saidBy e)))
 
   pub answers-long : r ≡ Long → Framed (settled o) out₀ to out₀ (length out₀ + 1)
   answers-long e =
-      let l = long-number most (length out₀) to o (number-is 11 (ap numberOf e)) in
-      frame-as (outcome (bytes (o .term))) (settled o) (settled-term o (few-as 11 (ap numberOf e) (eqb-false 9 11 refl))) out₀ to out₀ (length out₀ + 1) (value-long (bytes (o .term)) out₀ to l)
+      let l = long-number most (length out₀) to o (number-is 11 (ap saidBy e)) in
+      frame-as (outcome (bytes (o .term))) (settled o) (settled-term o (few-as 11 (ap saidBy e) (eqb-false 9 11 refl))) out₀ to out₀ (length out₀ + 1) (value-long (bytes (o .term)) out₀ to l)
 
-  pub answers-done : (w : Ready) → r ≡ Done w → (o .count ≤ most) × (w .size ≡ length (bytes (o .term))) × Stands ks vs hs cs w levels (o .term)
+  pub answers-done : (w : Ready) → r ≡ Done w → (o .count ≤ most) × (w .size ≡ length (bytes (o .term))) × Stands ks vs hs cs (readyOf w) levels (o .term)
   answers-done w e =
-      let y : (w .size ≡ length (bytes (o .term))) × Stands ks vs hs cs w levels (o .term) = rw e at (x .values) in
-      (few-as 0 (ap numberOf e) (eqb-false 9 0 refl), y .0, y .1)
+      let y : (w .size ≡ length (bytes (o .term))) × Stands ks vs hs cs (readyOf w) levels (o .term) = rw e at (x .values) in
+      (few-as 0 (ap saidBy e) (eqb-false 9 0 refl), y .0, y .1)
 
 -- what is looked for is found in the same output
-pub answers-from : (ks vs hs cs out₀ out₁ : List ℕ) (to : ℕ) (o : Out) (r : Normalised) → out₁ ≡ out₀ → Answers ks vs hs cs out₀ to levels most o r
-    → Answers ks vs hs cs out₁ to levels most o r
+pub answers-from : (ks vs hs cs out₀ out₁ : List ℕ) (to : ℕ) (o : Out) (r : Normalised) → out₁ ≡ out₀ → Answers ks vs hs cs out₀ to levels most o (normalisedOf r)
+    → Answers ks vs hs cs out₁ to levels most o (normalisedOf r)
 answers-from ks vs hs cs out₀ out₁ to o r e x = rw (sym e) at x

@@ -45,7 +45,7 @@ from-some (got x n) h = tt
 from-some (refused c) h = h c refl
 
 module _ (s : List ℕ) where
-  number-coded : (most at : ℕ) → Coded (number s most at)
+  pub number-coded : (most at : ℕ) → Coded (number s most at)
   unfolding reading.rising
   number-coded most at = from-some (number s most at) (λ c e. rising-some s most 0 at c (rw (← e)))
 
@@ -129,7 +129,7 @@ module _ (s : List ℕ) where
 
   -- ---- parameters
 
-  parameters-coded : (k at : ℕ) → Coded (order.parameters s k at)
+  pub parameters-coded : (k at : ℕ) → Coded (order.parameters s k at)
   unfolding order.parameters order.parameter
   parameters-coded zero at = tt
   parameters-coded (suc k) at =

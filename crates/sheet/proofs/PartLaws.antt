@@ -11,7 +11,7 @@ use lib.Dec.{eqb}
 use lib.ListN.{length, getD}
 use Rattle.terms.specs.declared.Place.{Place}
 use Rattle.terms.specs.declared.Step.{Step}
-use Rattle.terms.specs.declared.Step.the-variants.{Next}
+use Rattle.terms.specs.declared.Step.the-variants.{Next, Stopped}
 use Rattle.terms.specs.Parser.{Result, Parser, got, refused, bind, pick, _>>=_, return, number}
 use Rattle.terms.specs.Tokens.{Area}
 use Rattle.terms.specs.Term.{Term, Parts, node, items, partItems, size, sizes}
@@ -19,7 +19,7 @@ use Rattle.terms.specs.Tree.{row}
 use Rattle.terms.specs.Shape as shape
 use Rattle.terms.specs.Shape.{ceiling}
 use Rattle.terms.specs.Reading as reading
-use Rattle.terms.specs.Lent.{place}
+use Rattle.terms.specs.Lent.{place, stepOf}
 use Rattle.terms.specs.Done.{Room, RoomAfter, answer, kept, contents}
 use Rattle.terms.specs.Wanting.{part, nodesOf}
 use Rattle.terms.specs.Questions.{Parameter}
@@ -29,13 +29,14 @@ use Rattle.terms.specs.Rows as rows
 use Rattle.terms.specs.Rows.{entryRow, receiverRow, argumentRow, answerOf, keptOf}
 use Rattle.terms.proofs.Bounds.{number-bounds}
 use Rattle.terms.proofs.FieldLaws.{code-end, code-listed, code-unlisted}
+use Rattle.solver.specs.Handing.{NumberSaid, PassedSaid, StepSaid, PartRead, ListRead}
 use Rattle.sheet.specs.declared.Spot.{Spot}
 use Rattle.sheet.specs.Fields as fields
 use Rattle.sheet.specs.Fields.{Field, value, tree, bare, entered, received, named, listed, levels, nodes}
 use Rattle.sheet.specs.Laid.{plainOf, partOf, fieldItems, Free, Ample, PartDone, FieldDone, ReadOnly, valueField, listField, FieldRead, Spotted, Unread}
 use Rattle.sheet.specs.Lent.{fieldOf, ReadAt}
 use Rattle.sheet.proofs.StoredLaws.{stored-none, stored-kept}
-use Rattle.sheet.proofs.CodeLaws.{Coded, not-zero}
+use Rattle.sheet.proofs.CodeLaws.{Coded, not-zero, number-coded, value-coded, named-coded, parameters-coded, part-coded}
 use Rattle.sheet.proofs.FieldLaws.{parts-of, same-value, parameters-found}
 
 -- the place with another position
@@ -101,7 +102,7 @@ module _ (s ws : List ℕ) (issued : ℕ) (p : Place) (d e : Area) (f : Free (p 
       go (refused c) er ee = rw er (refl, ee ∙ f _)
 
   -- a term or a nominal, told by the flag
-  pub either-part : (k : ℕ) → 3 < k → k < 6 → r ≡ answer p (part (eqb k 5) s issued levels (p .at)) (nodesOf (eqb k 5)) → e ≡ kept s p (part (eqb k 5) s issued levels (p .at)) (nodesOf (eqb k 5)) d
+  either-part : (k : ℕ) → 3 < k → k < 6 → r ≡ answer p (part (eqb k 5) s issued levels (p .at)) (nodesOf (eqb k 5)) → e ≡ kept s p (part (eqb k 5) s issued levels (p .at)) (nodesOf (eqb k 5)) d
       → PartDone s ws n (partOf s issued k n (p .at)) p d e r
   unfolding partOf
   either-part k a b er ee = go (decLt k 5)
@@ -110,7 +111,7 @@ module _ (s ws : List ℕ) (issued : ℕ) (p : Place) (d e : Area) (f : Free (p 
       go (yes l) = let z : k ≡ 4 = omega arith in rw z (term-part (rw z at er) (rw z at ee))
       go (no l) = let z : k ≡ 5 = omega arith in rw z (nominal-part (rw z at er) (rw z at ee))
 
-  pub entries-part : r ≡ answerOf entryRow p (rows.entries s (reading.term s issued levels) n (p .at)) → e ≡ keptOf entryRow s p (rows.entries s (reading.term s issued levels) n (p .at)) d
+  entries-part : r ≡ answerOf entryRow p (rows.entries s (reading.term s issued levels) n (p .at)) → e ≡ keptOf entryRow s p (rows.entries s (reading.term s issued levels) n (p .at)) d
       → PartDone s ws n (partOf s issued 6 n (p .at)) p d e r
   unfolding partOf fieldItems nodes
   entries-part er ee = go (rows.entries s (reading.term s issued levels) n (p .at)) (entries-many s (reading.term s issued levels) n (p .at)) er ee
@@ -122,7 +123,7 @@ module _ (s ws : List ℕ) (issued : ℕ) (p : Place) (d e : Area) (f : Free (p 
           rw er (entered es, refl, stored-kept p _ d f e (partItems (entryRow es)) (sizes (entryRow es)) refl refl refl ee, q .inside, (sym (c es m refl), refl, refl))
       go (refused c) h er ee = rw er (refl, ee ∙ f _)
 
-  pub receivers-part : r ≡ answerOf receiverRow p (rows.receivers s (reading.term s issued levels) n (p .at)) → e ≡ keptOf receiverRow s p (rows.receivers s (reading.term s issued levels) n (p .at)) d
+  receivers-part : r ≡ answerOf receiverRow p (rows.receivers s (reading.term s issued levels) n (p .at)) → e ≡ keptOf receiverRow s p (rows.receivers s (reading.term s issued levels) n (p .at)) d
       → PartDone s ws n (bind (rows.receivers s (reading.term s issued levels) n (p .at)) (λ rs m. got (received rs) m)) p d e r
   unfolding fieldItems nodes
   receivers-part er ee = go (rows.receivers s (reading.term s issued levels) n (p .at)) (receivers-many s (reading.term s issued levels) n (p .at)) er ee
@@ -134,7 +135,7 @@ module _ (s ws : List ℕ) (issued : ℕ) (p : Place) (d e : Area) (f : Free (p 
           rw er (received rs, refl, stored-kept p _ d f e (partItems (receiverRow rs)) (sizes (receiverRow rs)) refl refl refl ee, q .inside, (sym (c rs m refl), refl, refl))
       go (refused c) h er ee = rw er (refl, ee ∙ f _)
 
-  pub arguments-part : r ≡ answerOf argumentRow p (rows.arguments s (reading.term s issued levels) n (p .at)) → e ≡ keptOf argumentRow s p (rows.arguments s (reading.term s issued levels) n (p .at)) d
+  arguments-part : r ≡ answerOf argumentRow p (rows.arguments s (reading.term s issued levels) n (p .at)) → e ≡ keptOf argumentRow s p (rows.arguments s (reading.term s issued levels) n (p .at)) d
       → PartDone s ws n (partOf s issued 9 n (p .at)) p d e r
   unfolding partOf fieldItems nodes
   arguments-part er ee = go (rows.arguments s (reading.term s issued levels) n (p .at)) (arguments-many s (reading.term s issued levels) n (p .at)) er ee
@@ -153,7 +154,7 @@ outside : (k a b : ℕ) → (k < a) ⊎ (b ≤ k) → (j : ℕ) → a ≤ j → 
 outside k a b (inl l) j x y e = omega arith
 outside k a b (inr l) j x y e = omega arith
 
-pub part-else : (s : List ℕ) (issued k n : ℕ) → (k < 4) ⊎ (6 ≤ k) → (k ≡ 6 → ⊥) → (k ≡ 9 → ⊥)
+part-else : (s : List ℕ) (issued k n : ℕ) → (k < 4) ⊎ (6 ≤ k) → (k ≡ 6 → ⊥) → (k ≡ 9 → ⊥)
     → (at : ℕ) → partOf s issued k n at ≡ bind (rows.receivers s (reading.term s issued levels) n at) (λ rs m. got (received rs) m)
 unfolding partOf
 part-else s issued k n h c d at = rw (ne-eqb k 4 (outside k 4 6 h 4 (omega arith) (omega arith)), ne-eqb k 5 (outside k 4 6 h 5 (omega arith) (omega arith)), ne-eqb k 6 c, ne-eqb k 9 d)
@@ -174,11 +175,56 @@ pub unreads : (c v a m at top nodes limit : ℕ) → (c ≡ 0 → ⊥) → field
 unreads zero v a m at top nodes limit h = absurd (h refl)
 unreads (suc c) v a m at top nodes limit h = refl
 
--- a term or a nominal, or a list whose count is known
-pub part-field : (s ws : List ℕ) (n : ℕ) (found : Result Field) (p : Place) (d e : Area) (q : Place) → PartDone s ws n found p d e (Next q)
-    → FieldDone s ws found p d e (fieldOf 0 n (p .top) (q .top) (q .at) (q .top) (q .nodes) (p .limit))
-part-field s ws n found p d e q (f, is, y, inside, laid) =
-    (f, is, record { whole = y .whole; only = y .only; free = y .free; limit = refl; tokens = y .tokens; counts = y .counts }, inside, laid)
+-- a term or a nominal, or a list whose count is known: the step in numbers, and its spot
+module _ (s ws : List ℕ) (n : ℕ) (found : Result Field) (p : Place) (d e : Area) (code at top nodes : ℕ) where
+  pub part-step : (x : Step) → Coded found → StepSaid x (p .at) (p .top) (p .nodes) code at top nodes → PartDone s ws n found p d e x
+      → PartDone s ws n found p d e (stepOf code at top nodes (p .limit))
+  part-step (Next q) k (e0, e1, e2, e3) (f, is, y, inside, laid) =
+      rw (e0, e1, e2, e3) (f, is, record { whole = y .whole; only = y .only; free = y .free; limit = refl; tokens = y .tokens; counts = y .counts }, inside, laid)
+  part-step (Stopped c) k (e0, e1, e2, e3) x = go code (rw (← e0) at x)
+    where
+      go : (b : ℕ) → (found ≡ refused b) × (e ≡ d) → PartDone s ws n found p d e (stepOf b at top nodes (p .limit))
+      go zero x = absurd (omega (arith, not-zero found 0 k (x .0)))
+      go (suc b) x = x
+
+  pub part-field : code ≡ 0 → PartDone s ws n found p d e (stepOf code at top nodes (p .limit)) → FieldDone s ws found p d e (fieldOf 0 n (p .top) top at top nodes (p .limit))
+  part-field z x = rw z at x
+
+  pub part-none : (code ≡ 0 → ⊥) → PartDone s ws n found p d e (stepOf code at top nodes (p .limit))
+      → (v a m : ℕ) → FieldDone s ws found p d e (fieldOf code v a m at top nodes (p .limit))
+  part-none z x v a m = go code z x
+    where
+      go : (c : ℕ) → (c ≡ 0 → ⊥) → PartDone s ws n found p d e (stepOf c at top nodes (p .limit)) → FieldDone s ws found p d e (fieldOf c v a m at top nodes (p .limit))
+      go zero z x = absurd (z refl)
+      go (suc c) z x = x
+
+-- what the readers say
+module _ (s ws : List ℕ) (issued : ℕ) (p : Place) (d e : Area) (f : Free (p .top) d) (n code at top nodes : ℕ) where
+  abbrev Told : ℕ → Type 0
+  Told k = PartDone s ws n (partOf s issued k n (p .at)) p d e (stepOf code at top nodes (p .limit))
+
+  told : (k : ℕ) (x : Step) → StepSaid x (p .at) (p .top) (p .nodes) code at top nodes → PartDone s ws n (partOf s issued k n (p .at)) p d e x → Told k
+  told k x = part-step s ws n (partOf s issued k n (p .at)) p d e code at top nodes x (part-coded s issued k n (p .at))
+
+  pub either-told : (k : ℕ) → 3 < k → k < 6 → PartRead (eqb k 5) s issued levels p d e code at top nodes → Told k
+  either-told k a b x =
+      let r = answer p (part (eqb k 5) s issued levels (p .at)) (nodesOf (eqb k 5)) in
+      told k r (x .says) (either-part s ws issued p d e f n r (x .room) k a b refl (x .areas))
+
+  pub entries-told : ListRead 2 s issued levels n p d e code at top nodes → Told 6
+  entries-told x =
+      let r = answerOf entryRow p (rows.entries s (reading.term s issued levels) n (p .at)) in
+      told 6 r (x .says) (entries-part s ws issued p d e f n r (x .room) refl (x .areas))
+
+  pub arguments-told : ListRead 0 s issued levels n p d e code at top nodes → Told 9
+  arguments-told x =
+      let r = answerOf argumentRow p (rows.arguments s (reading.term s issued levels) n (p .at)) in
+      told 9 r (x .says) (arguments-part s ws issued p d e f n r (x .room) refl (x .areas))
+
+  pub receivers-told : (k : ℕ) → (k < 4) ⊎ (6 ≤ k) → (k ≡ 6 → ⊥) → (k ≡ 9 → ⊥) → ListRead 1 s issued levels n p d e code at top nodes → Told k
+  receivers-told k h a b x =
+      let r = answerOf receiverRow p (rows.receivers s (reading.term s issued levels) n (p .at)) in
+      told k r (x .says) (rw (part-else s issued k n h a b (p .at)) (receivers-part s ws issued p d e f n r (x .room) refl (x .areas)))
 
 -- a list behind its count
 pub list-field : (s ws : List ℕ) (at : ℕ) (found whole : Result Field) (p : Place) (d e : Area) (r : FieldRead) → whole ≡ found → FieldDone s ws found (moved p at) d e r
@@ -242,6 +288,57 @@ module _ (s : List ℕ) (p : Place) (inside : p .at ≤ length s) where
               (ev ∙ sym (found .0), (k, there)),
             )
         go (refused b) w h = absurd (let z : _≡_ {A = ℕ} 0 1 = cc in omega arith)
+
+-- ---- numbers and parameters, as they are told
+
+suc-some : (c : ℕ) → suc c ≡ 0 → ⊥
+suc-some c e = omega (arith, e)
+
+module _ (x : Result ℕ) (at₀ v₀ code at v : ℕ) where
+  pub number-told : Coded x → NumberSaid x at₀ v₀ code at v → code ≡ 0 → got v at ≡ x
+  number-told k y z = go x k y
+    where
+      go : (x : Result ℕ) → Coded x → NumberSaid x at₀ v₀ code at v → got v at ≡ x
+      go (got w n) k (e0, e1, e2) = rw (e1, e2)
+      go (refused c) k (e0, e1, e2) = absurd (omega (arith, k, e0, z))
+
+  pub number-refused : NumberSaid x at₀ v₀ code at v → (code ≡ 0 → ⊥) → refused code ≡ x
+  number-refused y z = go x y
+    where
+      go : (x : Result ℕ) → NumberSaid x at₀ v₀ code at v → refused code ≡ x
+      go (got w n) (e0, e1, e2) = absurd (z e0)
+      go (refused c) (e0, e1, e2) = ap refused e0
+
+module _ (n at₀ code at : ℕ) where
+  past-told : (x : Result (List Parameter)) → Coded x → PassedSaid x at₀ code at → code ≡ 0 → got n at ≡ past n x
+  past-told (got ps m) k (e0, e1) z = rw e1
+  past-told (refused c) k (e0, e1) z = absurd (omega (arith, k, e0, z))
+
+  past-refused : (x : Result (List Parameter)) → PassedSaid x at₀ code at → (code ≡ 0 → ⊥) → refused code ≡ past n x
+  past-refused (got ps m) (e0, e1) z = absurd (z e0)
+  past-refused (refused c) (e0, e1) z = ap refused e0
+
+pub value-said : (s : List ℕ) (most at₀ v₀ code at v : ℕ) → at₀ ≤ length s → NumberSaid (number s most at₀) at₀ v₀ code at v → (start : ℕ) → ReadAt s (valueField s most at₀) at₀ code v start at
+value-said s most at₀ v₀ zero at v inside x start end top nodes limit =
+    value-yes s (place at₀ top nodes limit) inside most v at (record { value = v; place = start; end = end }) (number-told (number s most at₀) at₀ v₀ 0 at v (number-coded s most at₀) x refl) refl
+value-said s most at₀ v₀ (suc c) at v inside x start end top nodes limit =
+    unread-at s (valueField s most at₀) at₀ (value-coded s most at₀) (suc c) v start at
+    (λ top nodes limit. value-no s (place at₀ top nodes limit) inside most (suc c) (number-refused (number s most at₀) at₀ v₀ (suc c) at v x (suc-some c))) end top nodes limit
+
+-- a count that was read, and then what `skip_parameters` says
+pub parameters-said : (s : List ℕ) (at₀ n m code at : ℕ) → at₀ ≤ length s → got n m ≡ number s (ceiling shape.ordinary) at₀ → PassedSaid (parameters s n m) m code at
+    → ReadAt s (fields.field s 0 fields.parameters at₀) at₀ code n m at
+parameters-said s at₀ n m zero at inside e x end top nodes limit =
+    parameters-yes s (place at₀ top nodes limit) inside n m e n at (record { value = n; place = m; end = end }) (past-told n m 0 at (parameters s n m) (parameters-coded s n m) x refl) refl refl
+parameters-said s at₀ n m (suc c) at inside e x end top nodes limit =
+    unread-at s (fields.field s 0 fields.parameters at₀) at₀ (named-coded s 0 at₀) (suc c) n m at
+    (λ top nodes limit. parameters-no s (place at₀ top nodes limit) inside n m e (suc c) (past-refused n m (suc c) at (parameters s n m) x (suc-some c))) end top nodes limit
+
+pub parameters-uncounted : (s : List ℕ) (at₀ v₀ code at v start : ℕ) → at₀ ≤ length s → NumberSaid (number s (ceiling shape.ordinary) at₀) at₀ v₀ code at v → (code ≡ 0 → ⊥)
+    → ReadAt s (fields.field s 0 fields.parameters at₀) at₀ code v start at
+parameters-uncounted s at₀ v₀ code at v start inside x z =
+    unread-at s (fields.field s 0 fields.parameters at₀) at₀ (named-coded s 0 at₀) code v start at
+    (λ top nodes limit. parameters-count s (place at₀ top nodes limit) inside code (number-refused (number s (ceiling shape.ordinary) at₀) at₀ v₀ code at v x z))
 
 -- ---- lists behind their counts
 

@@ -4,7 +4,7 @@ use mathlib.Core.Bool.{Bool, true, false}
 use mathlib.Core.List.{List, [], _∷_, _++_, append-assoc}
 use Prim.Native.Nat.{ℕ, zero, suc, _+_, _-_, _*_, _≤_, _<_}
 use native.Mathlib.Omega.{arith}
-use borrow.Author.Tests.{le-leb, lt-leb}
+use borrow.Author.Tests.{le-leb}
 use lib.Dec.{leb}
 use lib.ListN.{length, length-append, length-set, getD, set}
 use lib.Seq.{sets, length-sets, getD-set-same, getD-set-other}
@@ -19,7 +19,7 @@ use Rattle.terms.specs.Shape.{ceiling}
 use Rattle.terms.specs.Reading as reading
 use Rattle.terms.specs.Rows as rows
 use Rattle.terms.specs.Rows.{argumentRow}
-use Rattle.terms.specs.Lookup.{Pattern, ruleAt}
+use Rattle.terms.specs.Lookup.{Pattern, ruleAt, putRule}
 use Rattle.terms.proofs.HeldLaws.{items-some}
 use Rattle.terms.proofs.Shortest.{Octets}
 use Rattle.sheet.specs.declared.Order.{Order}
@@ -27,7 +27,7 @@ use Rattle.sheet.specs.Fields as fields
 use Rattle.sheet.specs.Fields.{Field, value, tree, bare, listed, levels, nodes, allNodes, ruleNodes}
 use Rattle.sheet.specs.Operations.{nth}
 use Rattle.sheet.specs.Formed.{FormedFields}
-use Rattle.sheet.specs.Laid.{ruleSorts, ruleFields, ruleItems, fieldItems, allItems, Free, Stored, Ample, ruleWords, RulesAt, putRule, spotAt, startAt, Spots, RuleDone, RulesDone, ruleFrom, WordsFit}
+use Rattle.sheet.specs.Laid.{ruleSorts, ruleFields, ruleItems, fieldItems, allItems, Free, Stored, Ample, ruleWords, RulesAt, spotAt, startAt, Spots, RuleDone, RulesDone, ruleFrom, WordsFit}
 use Rattle.sheet.proofs.StoredLaws.{stored-none, stored-then, stored-as, stored-undo, ample-after}
 use Rattle.sheet.proofs.ThroughLaws.{FieldsHere}
 use Rattle.sheet.proofs.FieldLaws.{never, parts-of, same-value, same-next, fields-found}
@@ -312,19 +312,3 @@ module _ (s : List ℕ) (octets : Octets s) (issued n : ℕ) (p : Place) (d e : 
       nil : (k : List Pattern) → k ++ [] ≡ k
       nil [] = refl
       nil (y ∷ k) = ap (λ (m : List Pattern). y ∷ m) (nil k)
-
--- ---- as the code stores them
-
-module _ (ws : List ℕ) (r : ℕ) (x : Rule) where
-  pub put-none : length ws < 6 * r + 6 → ws ≡ putRule ws r x
-  put-none h = rw (lt-leb (6 * r + 6) (length ws) h)
-
-  pub put-all : 6 * r + 6 ≤ length ws
-      → set (set (set (set (set (set ws (6 * r) (x .interface)) (6 * r + 1) (x .receiver)) (6 * r + 2) (x .member)) (6 * r + 3) (x .arguments)) (6 * r + 4) (x .count)) (6 * r + 5) (x .value) ≡ putRule ws r x
-  put-all h =
-      let e1 : 6 * r + 1 ≡ suc (6 * r) = omega arith in
-      let e2 : 6 * r + 2 ≡ suc (suc (6 * r)) = omega arith in
-      let e3 : 6 * r + 3 ≡ suc (suc (suc (6 * r))) = omega arith in
-      let e4 : 6 * r + 4 ≡ suc (suc (suc (suc (6 * r)))) = omega arith in
-      let e5 : 6 * r + 5 ≡ suc (suc (suc (suc (suc (6 * r))))) = omega arith in
-      rw (le-leb (6 * r + 6) (length ws) h, e1, e2, e3, e4, e5)

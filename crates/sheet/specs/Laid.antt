@@ -2,9 +2,8 @@
 use mathlib.Core.List.{List, [], _∷_, _++_}
 use mathlib.Core.Path.{_≡_}
 use Prim.Native.Nat.{ℕ, zero, suc, _+_, _-_, _*_, _^_, _≤_, _<_}
-use lib.Dec.{eqb, leb}
+use lib.Dec.{eqb}
 use lib.ListN.{length, getD}
-use lib.Seq.{sets}
 use Rattle.terms.specs.declared.Place.{Place}
 use Rattle.terms.specs.declared.Rule.{Rule}
 use Rattle.terms.specs.declared.Step.{Step}
@@ -17,7 +16,7 @@ use Rattle.terms.specs.Shape as shape
 use Rattle.terms.specs.Shape.{ceiling}
 use Rattle.terms.specs.Rows.{entryRow, receiverRow, argumentRow}
 use Rattle.terms.specs.Parameters.{parameters}
-use Rattle.terms.specs.Lookup.{Pattern, ruleAt}
+use Rattle.terms.specs.Lookup.{Pattern, ruleAt, putRule}
 use Rattle.terms.specs.Done.{Only}
 use Rattle.sheet.specs.declared.Spot.{Spot}
 use Rattle.sheet.specs.declared.Order.{Order}
@@ -199,11 +198,6 @@ pub record WordsFit (o : Order) : Type 0 where
 unfoldable pub RulesAt : (ws : List ℕ) → ℕ → ℕ → List Pattern → Type 0
 RulesAt ws r a [] = Unit {0}
 RulesAt ws r a (p ∷ rs) = (ruleAt ws r ≡ ruleWords a p) × RulesAt ws (suc r) (a + length (ruleItems (p ∷ []))) rs
-
--- the r-th rule stored, where it fits whole
-abbrev pub putRule : List ℕ → ℕ → Rule → List ℕ
-putRule ws r x =
-    pick (leb (6 * r + 6) (length ws)) (sets ws (6 * r) (x .interface ∷ x .receiver ∷ x .member ∷ x .arguments ∷ x .count ∷ x .value ∷ [])) ws
 
 -- the spot of a field whose tokens begin at a; ws are the words of rules
 abbrev pub Laid : (s ws : List ℕ) → ℕ → Spot → Field → Type 0

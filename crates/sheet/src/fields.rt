@@ -1,42 +1,21 @@
 // The fields of an order, rules aside: each is read and its tokens kept. A reading function is lent the numbers of the place, and where the numbers of the
 // field's spot go, and answers 0 where it has read, else the refusal.
-use solver::NumberRead;
-use solver::Place;
-use solver::Step;
-use solver::keep_entries;
-use solver::keep_receivers;
-use solver::keep_terms;
-use solver::part_at;
-use solver::read_number;
+use solver::number_at;
+use solver::read_list;
+use solver::read_part;
 use solver::skip_parameters;
 ghost use mathlib.Core.List.{List};
 ghost use Prim.Native.Nat.{ℕ, _≤_};
 ghost use lib.ListN.{length};
 ghost use Rattle.terms.specs.Tokens.{area};
-ghost use Rattle.terms.specs.Lent.{place};
+ghost use Rattle.terms.specs.Lent.{place, stepOf};
 ghost use Rattle.sheet.specs.Fields.{field, code, parameters};
-ghost use Rattle.sheet.specs.Laid.{plainOf, partOf, Free, Ample, PartDone, PlainDone, valueField, listField};
+ghost use Rattle.sheet.specs.Laid.{plainOf, partOf, Free, Ample, PartDone, PlainDone, listField};
 ghost use Rattle.sheet.specs.Lent.{fieldOf, ReadAt};
 
 pub const ORDINARY: u64 = 4294967295;
 
 const LEVELS: u32 = 200;
-
-// A number of at most `most`.
-fn value_field(s: &[u8], at: &mut usize, value: &mut u64, most: u64) -> u8
-    requires { ⌜ now at ≤ length (now s) ⌝ }
-    ensures { λ r. ⌜ ((start : ℕ) → ReadAt (now (s .entry)) (valueField (now (s .entry)) most (now (at .entry))) (now (at .entry)) r (now (value .exit)) start (now (at .exit))) ⌝ }
-{
-    let r = read_number(s, *at, most);
-    match r {
-        NumberRead::Value(v, next) => {
-            *value = v;
-            *at = next;
-            0
-        }
-        NumberRead::Refused(c) => c,
-    }
-}
 
 // A builtin's code.
 fn code_field(s: &[u8], at: &mut usize, value: &mut u64) -> u8
@@ -61,22 +40,12 @@ fn parameters_field(s: &[u8], at: &mut usize, value: &mut u64, start: &mut usize
     requires { ⌜ now at ≤ length (now s) ⌝ }
     ensures { λ r. ⌜ ReadAt (now (s .entry)) (field (now (s .entry)) 0 parameters (now (at .entry))) (now (at .entry)) r (now (value .exit)) (now (start .exit)) (now (at .exit)) ⌝ }
 {
-    let a = read_number(s, *at, ORDINARY);
-    match a {
-        NumberRead::Value(n, i) => {
-            let b = skip_parameters(s, i, n);
-            match b {
-                NumberRead::Value(_, next) => {
-                    *value = n;
-                    *start = i;
-                    *at = next;
-                    0
-                }
-                NumberRead::Refused(c) => c,
-            }
-        }
-        NumberRead::Refused(c) => c,
+    let a = number_at(s, at, value, ORDINARY);
+    if a != 0 {
+        return a;
     }
+    *start = *at;
+    skip_parameters(s, at, *value)
 }
 
 // The tokens of a term, of a nominal, or of `count` entries, receivers or arguments.
@@ -84,20 +53,62 @@ fn keep_part(
     s: &[u8],
     kinds: &mut [u32],
     vals: &mut [u32],
-    p: Place,
+    at: &mut usize,
+    top: &mut usize,
+    nodes: &mut usize,
+    limit: usize,
     sort: u8,
     issued: u64,
     count: u64,
-) -> Step
-    requires { ⌜ Ample (now s) p ⌝ }
-    requires { ⌜ Free (p .top) (area (now kinds) (now vals)) ⌝ }
-    ensures { λ r. ⌜ ((ws : List ℕ) → PartDone (now (s .entry)) ws count (partOf (now (s .entry)) issued sort count (p .at)) p (area (now (kinds .entry)) (now (vals .entry))) (area (now (kinds .exit)) (now (vals .exit))) r) ⌝ }
+) -> u8
+    requires { ⌜ Ample (now s) (place (now at) (now top) (now nodes) limit) ⌝ }
+    requires { ⌜ Free (now top) (area (now kinds) (now vals)) ⌝ }
+    ensures { λ r. ⌜ ((ws : List ℕ) → PartDone (now (s .entry)) ws count (partOf (now (s .entry)) issued sort count (now (at .entry))) (place (now (at .entry)) (now (top .entry)) (now (nodes .entry)) limit) (area (now (kinds .entry)) (now (vals .entry))) (area (now (kinds .exit)) (now (vals .exit))) (stepOf r (now (at .exit)) (now (top .exit)) (now (nodes .exit)) limit)) ⌝ }
 {
     match sort {
-        4 | 5 => part_at(s, kinds, vals, p, sort == 5, LEVELS, issued),
-        6 => keep_entries(s, kinds, vals, p, LEVELS, issued, count),
-        9 => keep_terms(s, kinds, vals, p, LEVELS, issued, count),
-        _ => keep_receivers(s, kinds, vals, p, LEVELS, issued, count),
+        4 | 5 => {
+            let bare = sort == 5;
+            read_part(s, kinds, vals, at, top, nodes, limit, bare, LEVELS, issued)
+        }
+        6 => read_list(
+            s,
+            kinds,
+            vals,
+            at,
+            top,
+            nodes,
+            limit,
+            2,
+            LEVELS,
+            issued,
+            count,
+        ),
+        9 => read_list(
+            s,
+            kinds,
+            vals,
+            at,
+            top,
+            nodes,
+            limit,
+            0,
+            LEVELS,
+            issued,
+            count,
+        ),
+        _ => read_list(
+            s,
+            kinds,
+            vals,
+            at,
+            top,
+            nodes,
+            limit,
+            1,
+            LEVELS,
+            issued,
+            count,
+        ),
     }
 }
 
@@ -121,25 +132,15 @@ fn tree_field(
     requires { ⌜ Free (now top) (area (now kinds) (now vals)) ⌝ }
     ensures { λ r. ⌜ PlainDone (now (s .entry)) (partOf (now (s .entry)) issued sort count (now (at .entry))) (place (now (at .entry)) (now (top .entry)) (now (nodes .entry)) limit) (area (now (kinds .entry)) (now (vals .entry))) (area (now (kinds .exit)) (now (vals .exit))) (fieldOf r (now (value .exit)) (now (start .exit)) (now (end .exit)) (now (at .exit)) (now (top .exit)) (now (nodes .exit)) limit) ⌝ }
 {
-    let p = Place {
-        at: *at,
-        top: *top,
-        nodes: *nodes,
-        limit,
-    };
-    let r = keep_part(s, kinds, vals, p, sort, issued, count);
-    match r {
-        Step::Next(q) => {
-            *value = count;
-            *start = *top;
-            *end = q.top;
-            *at = q.at;
-            *top = q.top;
-            *nodes = q.nodes;
-            0
-        }
-        Step::Stopped(c) => c,
+    let first = *top;
+    let r = keep_part(s, kinds, vals, at, top, nodes, limit, sort, issued, count);
+    if r != 0 {
+        return r;
     }
+    *value = count;
+    *start = first;
+    *end = *top;
+    0
 }
 
 // A count and so many entries, receivers or arguments.
@@ -161,28 +162,26 @@ fn list_field(
     requires { ⌜ Free (now top) (area (now kinds) (now vals)) ⌝ }
     ensures { λ r. ⌜ PlainDone (now (s .entry)) (listField (now (s .entry)) issued sort (now (at .entry))) (place (now (at .entry)) (now (top .entry)) (now (nodes .entry)) limit) (area (now (kinds .entry)) (now (vals .entry))) (area (now (kinds .exit)) (now (vals .exit))) (fieldOf r (now (value .exit)) (now (start .exit)) (now (end .exit)) (now (at .exit)) (now (top .exit)) (now (nodes .exit)) limit) ⌝ }
 {
-    let a = read_number(s, *at, ORDINARY);
-    match a {
-        NumberRead::Value(n, next) => {
-            *at = next;
-            tree_field(
-                s,
-                kinds,
-                vals,
-                at,
-                top,
-                nodes,
-                limit,
-                value,
-                start,
-                end,
-                sort,
-                issued,
-                n,
-            )
-        }
-        NumberRead::Refused(c) => c,
+    let a = number_at(s, at, value, ORDINARY);
+    if a != 0 {
+        return a;
     }
+    let n = *value;
+    tree_field(
+        s,
+        kinds,
+        vals,
+        at,
+        top,
+        nodes,
+        limit,
+        value,
+        start,
+        end,
+        sort,
+        issued,
+        n,
+    )
 }
 
 // A field of a sort other than rules.
@@ -205,7 +204,7 @@ pub fn read_plain(
     ensures { λ r. ⌜ PlainDone (now (s .entry)) (field (now (s .entry)) issued (plainOf sort) (now (at .entry))) (place (now (at .entry)) (now (top .entry)) (now (nodes .entry)) limit) (area (now (kinds .entry)) (now (vals .entry))) (area (now (kinds .exit)) (now (vals .exit))) (fieldOf r (now (value .exit)) (now (start .exit)) (now (end .exit)) (now (at .exit)) (now (top .exit)) (now (nodes .exit)) limit) ⌝ }
 {
     match sort {
-        1 => value_field(s, at, value, ORDINARY),
+        1 => number_at(s, at, value, ORDINARY),
         2 | 4 | 5 => tree_field(
             s,
             kinds,

@@ -39,6 +39,7 @@ ghost use Rattle.terms.specs.Rewriting.{Ready, Rewrites};
 ghost use Rattle.terms.specs.Lookup.{Pattern};
 ghost use Rattle.terms.specs.Normal.{Out, normalize, with-associated-types, levels, most};
 ghost use Rattle.terms.specs.Normalising.{Answers, Leaves, Lends, RuledAt, OwnedAt};
+ghost use Rattle.solver.specs.Handing.{bindersOf, normalisedOf};
 ghost use Rattle.sheet.specs.Operations.{bit, seven, perhaps, settled, ruleOf, outcome};
 ghost use Rattle.sheet.specs.Written.{Room, Framed};
 ghost use Rattle.sheet.specs.Answering.{Tokens, Asks, Replies, Two, Applies, Associates, Normalises};
@@ -79,10 +80,10 @@ fn rewritten(
     to: usize,
 ) -> usize
     requires areas { ⌜ Tokens (now kinds) (now vals) ⌝ }
-    requires ready { ⌜ Ready (now kinds) (now vals) b ⌝ }
+    requires ready { ⌜ Ready (now kinds) (now vals) (bindersOf b) ⌝ }
     requires place { ⌜ from < length (now kinds) ⌝ }
     requires room { ⌜ Room (now out) to ⌝ }
-    ensures { λ r. ⌜ Rewrites (now (kinds .entry)) (now (vals .entry)) (now (s .entry)) b from (λ x. Framed (outcome x) (now (out .entry)) to (now (out .exit)) r) ⌝ }
+    ensures { λ r. ⌜ Rewrites (now (kinds .entry)) (now (vals .entry)) (now (s .entry)) (bindersOf b) from (λ x. Framed (outcome x) (now (out .entry)) to (now (out .exit)) r) ⌝ }
 {
     let size = write_term(kinds, vals, s, b, from, out, 0, false);
     let at = begin(out, to, size);
@@ -104,10 +105,10 @@ fn applied(
     to: usize,
 ) -> usize
     requires areas { ⌜ Tokens (now kinds) (now vals) ⌝ }
-    requires ready { ⌜ Ready (now kinds) (now vals) b ⌝ }
+    requires ready { ⌜ Ready (now kinds) (now vals) (bindersOf b) ⌝ }
     requires place { ⌜ from < length (now kinds) ⌝ }
     requires room { ⌜ Room (now out) to ⌝ }
-    ensures { λ r. ⌜ ((t : Term) (es : List Entry) (rs : List Receiver) (ps : List Parameter) (ts : List Term) → Applies (now (kinds .entry)) (now (vals .entry)) (now (s .entry)) b given from t es rs ps ts → Framed (outcome (perhaps (apply ps t (record { parameters = es; receivers = rs }) ts))) (now (out .entry)) to (now (out .exit)) r) ⌝ }
+    ensures { λ r. ⌜ ((t : Term) (es : List Entry) (rs : List Receiver) (ps : List Parameter) (ts : List Term) → Applies (now (kinds .entry)) (now (vals .entry)) (now (s .entry)) (bindersOf b) given from t es rs ps ts → Framed (outcome (perhaps (apply ps t (record { parameters = es; receivers = rs }) ts))) (now (out .entry)) to (now (out .exit)) r) ⌝ }
 {
     if b.count != given {
         return told(out, to, 0);
@@ -162,10 +163,10 @@ fn settled(
     to: usize,
 ) -> usize
     requires room { ⌜ Room (now out) to ⌝ }
-    requires leaves { ⌜ ((hs : List ℕ) × (cs : List ℕ) × Leaves (now kinds) (now vals) hs cs (now heads) (now kids) most r) ⌝ }
-    requires answers { ⌜ ((o : Out) × Answers (now kinds) (now vals) (now heads) (now kids) (now out) to levels most o r) ⌝ }
-    ensures clear { λ _. ⌜ ((hs cs : List ℕ) → Leaves (now (kinds .entry)) (now (vals .entry)) hs cs (now (heads .entry)) (now (kids .entry)) most r → area (now (heads .exit)) (now (kids .exit)) ≡ area hs cs) ⌝ }
-    ensures says { λ q. ⌜ ((o : Out) → Answers (now (kinds .entry)) (now (vals .entry)) (now (heads .entry)) (now (kids .entry)) (now (out .entry)) to levels most o r → Framed (settled o) (now (out .entry)) to (now (out .exit)) q) ⌝ }
+    requires leaves { ⌜ ((hs : List ℕ) × (cs : List ℕ) × Leaves (now kinds) (now vals) hs cs (now heads) (now kids) most (normalisedOf r)) ⌝ }
+    requires answers { ⌜ ((o : Out) × Answers (now kinds) (now vals) (now heads) (now kids) (now out) to levels most o (normalisedOf r)) ⌝ }
+    ensures clear { λ _. ⌜ ((hs cs : List ℕ) → Leaves (now (kinds .entry)) (now (vals .entry)) hs cs (now (heads .entry)) (now (kids .entry)) most (normalisedOf r) → area (now (heads .exit)) (now (kids .exit)) ≡ area hs cs) ⌝ }
+    ensures says { λ q. ⌜ ((o : Out) → Answers (now (kinds .entry)) (now (vals .entry)) (now (heads .entry)) (now (kids .entry)) (now (out .entry)) to levels most o (normalisedOf r) → Framed (settled o) (now (out .entry)) to (now (out .exit)) q) ⌝ }
 {
     match r {
         Normalised::Refused => refused(out, to, 9),

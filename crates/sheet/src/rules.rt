@@ -4,48 +4,35 @@ use super::Order;
 use super::fields::read_plain;
 use super::tables::no_fields;
 use super::tables::put_spot;
-use solver::Rule;
 use solver::clear_tokens;
+use solver::put_rule;
 ghost use mathlib.Core.Path.{_≡_};
 ghost use Prim.Native.Nat.{_<_};
 ghost use Rattle.terms.specs.Tokens.{area};
 ghost use Rattle.terms.specs.Lent.{place, stepOf};
+ghost use Rattle.terms.specs.Lookup.{putRule};
 ghost use Rattle.sheet.specs.Fields.{rule, ruleList};
-ghost use Rattle.sheet.specs.Laid.{Free, Ample, putRule, ruleFrom, WordsFit, RuleDone, RulesDone};
+ghost use Rattle.sheet.specs.Laid.{Free, Ample, ruleFrom, WordsFit, RuleDone, RulesDone};
 
 // A nominal, a term, a number that names a member, arguments and a term, as `sorts_of` tells a layout.
 const RULE: u64 = 409010405;
 
-// The words of a rule from its spots.
-fn rule_of(o: Order) -> Rule
+// Stores the words of the r-th rule, from its spots.
+fn keep_rule(rules: &mut [u32], r: u64, o: Order)
     requires { ⌜ WordsFit o ⌝ }
-    ensures { λ r. ⌜ r ≡ ruleFrom o ⌝ }
-{
-    Rule {
-        interface: o.first.place as u32,
-        receiver: o.second.place as u32,
-        member: o.third.value as u32,
-        arguments: o.fourth.place as u32,
-        count: o.fourth.value as u32,
-        value: o.fifth.place as u32,
-    }
-}
-
-// Stores the words of the r-th rule, where all of them fit.
-fn put_rule(rules: &mut [u32], r: u64, x: Rule)
     requires { ⌜ r < 4294967296 ⌝ }
-    ensures { λ _. ⌜ now (rules .exit) ≡ putRule (now (rules .entry)) r x ⌝ }
+    ensures { λ _. ⌜ now (rules .exit) ≡ putRule (now (rules .entry)) r (ruleFrom o) ⌝ }
 {
-    let i = 6 * r as usize;
-    if rules.len() < i + 6 {
-        return;
-    }
-    rules[i] = x.interface;
-    rules[i + 1] = x.receiver;
-    rules[i + 2] = x.member;
-    rules[i + 3] = x.arguments;
-    rules[i + 4] = x.count;
-    rules[i + 5] = x.value;
+    put_rule(
+        rules,
+        r,
+        o.first.place as u32,
+        o.second.place as u32,
+        o.third.value as u32,
+        o.fourth.place as u32,
+        o.fourth.value as u32,
+        o.fifth.place as u32,
+    );
 }
 
 // The r-th rule; on a refusal nothing of it remains in the areas.
@@ -97,7 +84,7 @@ fn read_rule(
         i = i + 1;
         rest = rest / 100;
     }
-    put_rule(rules, r, rule_of(o));
+    keep_rule(rules, r, o);
     0
 }
 

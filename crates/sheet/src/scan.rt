@@ -9,9 +9,8 @@ use super::tables::known_of;
 use super::tables::no_fields;
 use super::tables::put_spot;
 use super::tables::sorts_of;
-use solver::NumberRead;
 use solver::clear_tokens;
-use solver::read_number;
+use solver::number_at;
 ghost use mathlib.Core.Path.{_≡_};
 ghost use Prim.Native.Nat.{_-_, _<_, _≤_};
 ghost use lib.ListN.{length, getD};
@@ -41,18 +40,15 @@ fn rules_field(
     requires { ⌜ Free (now top) (area (now kinds) (now vals)) ⌝ }
     ensures { λ r. ⌜ FieldDone (now (s .entry)) (now (rules .exit)) (field (now (s .entry)) issued (sortOf 10) (now (at .entry))) (place (now (at .entry)) (now (top .entry)) (now (nodes .entry)) limit) (area (now (kinds .entry)) (now (vals .entry))) (area (now (kinds .exit)) (now (vals .exit))) (fieldOf r (now (value .exit)) (now (start .exit)) (now (end .exit)) (now (at .exit)) (now (top .exit)) (now (nodes .exit)) limit) ⌝ }
 {
-    let a = read_number(s, *at, ORDINARY);
-    match a {
-        NumberRead::Value(n, next) => {
-            *at = next;
-            *value = n;
-            *start = *top;
-            let r = read_rules(s, kinds, vals, rules, at, top, nodes, limit, n, issued);
-            *end = *top;
-            r
-        }
-        NumberRead::Refused(c) => c,
+    let a = number_at(s, at, value, ORDINARY);
+    if a != 0 {
+        return a;
     }
+    let n = *value;
+    *start = *top;
+    let r = read_rules(s, kinds, vals, rules, at, top, nodes, limit, n, issued);
+    *end = *top;
+    r
 }
 
 // A field of any sort.

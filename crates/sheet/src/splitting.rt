@@ -1,7 +1,6 @@
 // Framing: the next order as a part of the sheet.
 use super::Frame;
-use solver::NumberRead;
-use solver::read_number;
+use solver::number_at;
 ghost use mathlib.Core.Path.{_≡_};
 ghost use Prim.Native.Nat.{_+_, _≤_};
 ghost use lib.ListN.{length, take, drop};
@@ -12,16 +11,16 @@ ghost use Rattle.sheet.specs.Ending.{partOf};
 pub fn next_order(s: &[u8], at: usize) -> Frame
     ensures { λ r. ⌜ partOf (now (s .entry)) r ≡ nextOrder (now (s .entry)) at ⌝ }
 {
-    let r = read_number(s, at, 4294967295);
-    match r {
-        NumberRead::Value(size, from) => {
-            if ((s.len() - from) as u64) < size {
-                return Frame::Faulty;
-            }
-            Frame::Lies(from, size as usize)
-        }
-        NumberRead::Refused(_) => Frame::Faulty,
+    let mut from = at;
+    let mut size: u64 = 0;
+    let r = number_at(s, &mut from, &mut size, 4294967295);
+    if r != 0 {
+        return Frame::Faulty;
     }
+    if ((s.len() - from) as u64) < size {
+        return Frame::Faulty;
+    }
+    Frame::Lies(from, size as usize)
 }
 
 // The order that lies there: that part of the sheet.

@@ -46,6 +46,8 @@
 --   TurningLaws      what a check leaves, each way it can end
 --   LoopLaws         the loop of `constrain`: what it carries from check to check
 --   CheckLaws        what `assign`, `take_apart` and `turn` ask of the words, and what their answers leave
+--   HandingLaws      the words of a rule, stored; what the readers say
+--   Terms            the laws of the terms, handed on
 pub mod Examples
 pub mod View
 pub mod FamilyLaws
@@ -102,3 +104,5 @@ pub mod PushLaws
 pub mod TurningLaws
 pub mod LoopLaws
 pub mod CheckLaws
+pub mod HandingLaws
+pub mod Terms

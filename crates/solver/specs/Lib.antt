@@ -20,6 +20,8 @@
 --   Links      classes of token places
 --   Methods    what the methods say of the counters and the table
 --   Turning    one check of `constrain` on what is lent
+--   Handing    the terms' functions as the sheet calls them
+--   Terms, TermTypes, Theory    what the sheet's definitions name of the crates below, handed on
 pub mod Families
 pub mod Shapes
 pub mod Solving
@@ -40,3 +42,7 @@ pub mod Lent
 pub mod Links
 pub mod Methods
 pub mod Turning
+pub mod Handing
+pub mod Terms
+pub mod TermTypes
+pub mod Theory

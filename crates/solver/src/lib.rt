@@ -4,49 +4,45 @@ mod constrain;
 mod defaults;
 mod equality;
 mod families;
+mod handing;
+mod normal;
 mod pending;
 mod reach;
 mod resolving;
+mod substitution;
 mod top;
 mod variables;
 
+pub use handing::number_at;
+pub use handing::put_rule;
+pub use handing::read_list;
+pub use handing::read_part;
+pub use handing::skip_parameters;
+pub use normal::normalise;
+pub use normal::with_associated_types;
+pub use normal::write_normalised;
 pub use resolving::clear_words;
 pub use resolving::resolved_len;
 pub use resolving::write_resolved;
+pub use substitution::context;
+pub use substitution::family;
+pub use substitution::instantiation;
+pub use substitution::self_only;
+pub use substitution::write_term;
 pub use top::top_at;
 pub use variables::find_place;
 
-// The terms, handed on to the sheet, which names this crate alone.
-pub use terms::Binders;
-pub use terms::Normalised;
-pub use terms::NumberRead;
-pub use terms::Place;
-pub use terms::Rule;
-pub use terms::Step;
+// Functions of the terms that are handed on to the sheet, which names this crate alone.
 pub use terms::ask;
 pub use terms::can_weaken_to;
 pub use terms::clear_tokens;
 pub use terms::conflicts_with;
-pub use terms::context;
-pub use terms::family;
-pub use terms::instantiation;
-pub use terms::keep_entries;
-pub use terms::keep_receivers;
-pub use terms::keep_terms;
-pub use terms::normalise;
 pub use terms::number_len;
-pub use terms::part_at;
-pub use terms::read_number;
 pub use terms::recovered_len;
 pub use terms::satisfies;
 pub use terms::satisfies_for;
-pub use terms::self_only;
-pub use terms::skip_parameters;
-pub use terms::with_associated_types;
-pub use terms::write_normalised;
 pub use terms::write_number;
 pub use terms::write_recovered;
-pub use terms::write_term;
 
 // A run of tokens: len of them, from at on.
 pub struct Run {
@@ -126,4 +122,36 @@ pub enum Named {
 pub struct Issue {
     pub solver: Solver,
     pub answer: Named,
+}
+
+// What takes the place of binders, as the terms have it: a substitution's entries and receivers in the areas, parameters in the order's bytes with their arguments
+// in the areas; in a `context` the parameters have no arguments.
+pub struct Binders {
+    pub context: bool,
+    pub entries: usize,
+    pub receivers: usize,
+    pub finish: usize,
+    pub parameters: usize,
+    pub count: u64,
+    pub arguments: usize,
+}
+
+// A normalised term, as the terms have it: its content, the records used, its bytes, and what it was looked up by.
+pub struct Ready {
+    pub head: u32,
+    pub kids: u32,
+    pub next: usize,
+    pub size: usize,
+    pub owner: u32,
+    pub span: u32,
+    pub interface: u32,
+    pub row: u32,
+    pub length: u32,
+}
+
+// What normalising answers: refusal 9; that the term's bytes are more than there is room for; or the term, whose records stay until it is written.
+pub enum Normalised {
+    Refused,
+    Long,
+    Done(Ready),
 }

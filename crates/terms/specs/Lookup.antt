@@ -5,8 +5,9 @@ use mathlib.Core.Bool.{Bool, true, false, _&&_}
 use mathlib.Core.List.{List, [], _∷_}
 use mathlib.Core.Option.{Option, none, some}
 use Prim.Native.Nat.{ℕ, zero, suc, _+_, _*_, _/_, _≤_, _<_}
-use lib.Dec.{eqb}
+use lib.Dec.{eqb, leb}
 use lib.ListN.{length, getD, getElem?}
+use lib.Seq.{sets}
 use Rattle.terms.specs.declared.Origin.{Origin}
 use Rattle.terms.specs.declared.Rule.{Rule}
 use Rattle.terms.specs.Result.{pick}
@@ -94,6 +95,11 @@ ruleAt ws r = record {
   count = getD ws (6 * r + 4) 0;
   value = getD ws (6 * r + 5) 0;
 }
+
+-- the r-th rule stored, where it fits whole
+abbrev pub putRule : List ℕ → ℕ → Rule → List ℕ
+putRule ws r x =
+    pick (leb (6 * r + 6) (length ws)) (sets ws (6 * r) (x .interface ∷ x .receiver ∷ x .member ∷ x .arguments ∷ x .count ∷ x .value ∷ [])) ws
 
 abbrev pub ruleCount : List ℕ → ℕ
 ruleCount ws = length ws / 6

@@ -19,7 +19,7 @@ ghost use lib.Seq.{sets};
 ghost use Rattle.terms.specs.Result.{pick};
 ghost use Rattle.terms.specs.Writing.{spelt};
 ghost use Rattle.terms.specs.Search.{argumentFor};
-ghost use Rattle.terms.specs.Rewriting.{by, index, generic, inContext, self, chosen, piece, pace, rewritten, written, Ready, Space, Inside, Writes, Rewrites, forInstance, forContext, forFamily};
+ghost use Rattle.terms.specs.Rewriting.{by, index, generic, inContext, self, chosen, piece, pace, rewritten, written, Ready, Space, Inside, Writes, Rewrites};
 
 // What was found, or the term itself.
 fn taken(found: Lookup) -> Choice
@@ -244,63 +244,4 @@ pub fn write_term(
 {
     let n = stride(kinds, vals, from, kinds.len() - from);
     rewrite_run(kinds, vals, s, b, from, n, out, at, on)
-}
-
-// What takes the place of binders in `instantiate`.
-pub fn instantiation(entries: usize, receivers: usize, finish: usize) -> Binders
-    ensures { λ r. ⌜ r ≡ forInstance entries receivers finish ⌝ }
-{
-    Binders {
-        context: false,
-        entries,
-        receivers,
-        finish,
-        parameters: 0,
-        count: 0,
-        arguments: 0,
-    }
-}
-
-// The same in `argument_context`.
-pub fn context(entries: usize, receivers: usize, parameters: usize, count: u64) -> Binders
-    ensures { λ r. ⌜ r ≡ forContext entries receivers parameters count ⌝ }
-{
-    Binders {
-        context: true,
-        entries,
-        receivers,
-        finish: receivers,
-        parameters,
-        count,
-        arguments: 0,
-    }
-}
-
-// The same in `with_self`: the owner and the replacement are the one receiver.
-pub fn self_only(receivers: usize, finish: usize) -> Binders
-    ensures { λ r. ⌜ r ≡ forInstance receivers receivers finish ⌝ }
-{
-    instantiation(receivers, receivers, finish)
-}
-
-// The same in `apply`.
-pub fn family(
-    entries: usize,
-    receivers: usize,
-    finish: usize,
-    parameters: usize,
-    count: u64,
-    arguments: usize,
-) -> Binders
-    ensures { λ r. ⌜ r ≡ forFamily entries receivers finish parameters count arguments ⌝ }
-{
-    Binders {
-        context: false,
-        entries,
-        receivers,
-        finish,
-        parameters,
-        count,
-        arguments,
-    }
 }

@@ -7,13 +7,13 @@ use native.Mathlib.Omega.{arith}
 use Rattle.terms.specs.Tokens.{area}
 use Rattle.sheet.specs.Fields.{field}
 use Rattle.sheet.specs.Laid.{plainOf}
-use Rattle.sheet.proofs.PartLaws.{plain-tree, plain-list}
+use Rattle.sheet.proofs.PartLaws.{value-said, plain-tree, plain-list}
 use borrow.Author.Needs.{needs}
 use Rattle.sheet.proofs.fields.read_plain.Statement.{statement}
 use Rattle.sheet.proofs.fields.read_plain.Tie as tie
 
-value-field-requires : tie.Need-value-field-requires
-value-field-requires c κs = c .before .before .before .before .before .before .pre .0 .inside
+number-at-requires : tie.Need-number-at-requires
+number-at-requires c κs = search needs
 
 code-field-requires : tie.Need-code-field-requires
 code-field-requires c κs = c .before .before .before .before .before .before .pre .0 .inside
@@ -32,7 +32,7 @@ unfolding plainOf field
 returns c =
     let a = c .before .before .before .before .before .before .before .args in
     let d = area (a .kinds .now) (a .vals .now) in
-    λ ws. rw (c .before .before .before .match .keys1) (c .value-field .ensures (now (a .start)) (now (a .end)) (now (a .top)) (now (a .nodes)) (a .limit) ws d (c .before .before .before .before .before .before .before .pre .1))
+    λ ws. rw (c .before .before .before .match .keys1) (value-said (now (a .s)) 4294967295 (now (a .at)) (now (a .value)) (c .number-at .result) (c .number-at .last .1 .0) (c .number-at .last .1 .1 .0) (c .before .before .before .before .before .before .before .pre .0 .inside) (c .number-at .ensures) (now (a .start)) (now (a .end)) (now (a .top)) (now (a .nodes)) (a .limit) ws d (c .before .before .before .before .before .before .before .pre .1))
 
 returns-2 : tie.Need-returns-2
 unfolding plainOf field
@@ -76,7 +76,7 @@ pub read-plain-spec : {M : Type 1} → statement M
 read-plain-spec =
     tie.close
     (tie.spec
-    value-field-requires
+    number-at-requires
     code-field-requires
     parameters-field-requires
     list-field-requires

@@ -7,6 +7,7 @@ use Rattle.terms.specs.Term.{bytes}
 use Rattle.sheet.specs.Operations.{outcome}
 use Rattle.terms.proofs.Bools.{never-true}
 use Rattle.terms.proofs.RewriteLaws.{counted-term}
+use Rattle.solver.specs.Handing.{bindersOf}
 use Rattle.sheet.proofs.AnswerLaws.{frame-as, apply-none, apply-some, perhaps-some, one-over, one-in}
 use Rattle.sheet.proofs.FramingLaws.{begun-long, begun-room}
 use borrow.Author.Needs.{needs}
@@ -28,14 +29,14 @@ write-term-requires : tie.Need-write-term-requires
 write-term-requires c κs =
     let p = c .before .before .before .before .before .before .before .pre in
     let a = c .before .before .before .before .before .before .before .args in
-    let n = counted-term (now (a .kinds)) (now (a .vals)) (λ i. omega (arith, c .before .before .before .before .shared-slice-known3 .given i)) (now (a .s)) (a .b) (p .1 .0) (a .from) (p .1 .1 .0) (omega (arith, p .0 .short)) in
+    let n = counted-term (now (a .kinds)) (now (a .vals)) (λ i. omega (arith, c .before .before .before .before .shared-slice-known3 .given i)) (now (a .s)) (bindersOf (a .b)) (p .1 .0) (a .from) (p .1 .1 .0) (omega (arith, p .0 .short)) in
     (p .1 .0, (p .1 .1 .0, record { counts = omega (arith, n); fits = λ h. never-true h }))
 
 add-begin : tie.Need-add-begin
 add-begin c =
     let p = c .before .before .before .before .before .before .before .before .before .before .before .pre in
     let a = c .before .before .before .before .before .before .before .before .before .before .before .args in
-    let n = counted-term (now (a .kinds)) (now (a .vals)) (λ i. omega (arith, c .before .before .before .before .before .before .before .before .shared-slice-known3 .given i)) (now (a .s)) (a .b) (p .1 .0) (a .from) (p .1 .1 .0) (omega (arith, p .0 .short)) in
+    let n = counted-term (now (a .kinds)) (now (a .vals)) (λ i. omega (arith, c .before .before .before .before .before .before .before .before .shared-slice-known3 .given i)) (now (a .s)) (bindersOf (a .b)) (p .1 .0) (a .from) (p .1 .1 .0) (omega (arith, p .0 .short)) in
     omega (arith, n, c .before .before .before .write-term .ensures .0 .next)
 
 begin-requires : tie.Need-begin-requires

@@ -35,7 +35,7 @@ settled-requires c κs =
         (_, _, e .1 .0),
         (
           normalise levels visits (through (x .row) (x .owner)) (x .term),
-          answers-from _ _ _ _ (now (a .out)) _ (a .to) _ _ (e .0) (e .1 .1 (x .term) (x .row) (x .owner) (x .held) (x .interface) (x .owns)),
+          answers-from _ _ _ _ (now (a .out)) _ (a .to) _ (c .before .before .before .before .before .before .before .before .before .with-associated-types .result) (e .0) (e .1 .1 (x .term) (x .row) (x .owner) (x .held) (x .interface) (x .owns)),
         ),
       ),
     )

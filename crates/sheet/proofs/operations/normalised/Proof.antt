@@ -31,7 +31,7 @@ settled-requires c κs =
         (_, _, e .1 .0),
         (
           normalise levels visits (byPatterns (x .patterns)) (x .term),
-          answers-from _ _ _ _ (now (a .out)) _ (a .to) _ _ (e .0) (e .1 .1 (x .term) (x .patterns) (x .held) (x .ruled)),
+          answers-from _ _ _ _ (now (a .out)) _ (a .to) _ (c .before .before .before .before .before .before .before .before .before .normalise .result) (e .0) (e .1 .1 (x .term) (x .patterns) (x .held) (x .ruled)),
         ),
       ),
     )

@@ -5,6 +5,7 @@ use denote.Ref.{now}
 use lib.ListN.{length}
 use Rattle.terms.proofs.Bools.{never-true}
 use Rattle.terms.proofs.RewriteLaws.{counted-term}
+use Rattle.solver.specs.Handing.{bindersOf}
 use Rattle.sheet.proofs.AnswerLaws.{rewrites-one, rewrites-two, counted-over, counted-in}
 use Rattle.sheet.proofs.FramingLaws.{begun-long, begun-room}
 use borrow.Author.Needs.{needs}
@@ -15,7 +16,7 @@ write-term-requires : tie.Need-write-term-requires
 write-term-requires c κs =
     let p = c .before .before .before .before .before .pre in
     let a = c .before .before .before .before .before .args in
-    let n = counted-term (now (a .kinds)) (now (a .vals)) (λ i. omega (arith, c .before .before .shared-slice-known3 .given i)) (now (a .s)) (a .b) (p .1 .0) (a .from) (p .1 .1 .0) (omega (arith, p .0 .short)) in
+    let n = counted-term (now (a .kinds)) (now (a .vals)) (λ i. omega (arith, c .before .before .shared-slice-known3 .given i)) (now (a .s)) (bindersOf (a .b)) (p .1 .0) (a .from) (p .1 .1 .0) (omega (arith, p .0 .short)) in
     (p .1 .0, (p .1 .1 .0, record { counts = omega (arith, n); fits = λ h. never-true h }))
 
 begin-requires : tie.Need-begin-requires
@@ -28,7 +29,7 @@ returns : tie.Need-returns
 returns c =
     let a = c .before .before .before .before .before .before .before .before .before .before .before .before .before .args in
     let l = begun-long _ _ (a .to) _ _ (c .before .before .before .begin .ensures) in
-    rewrites-one (now (a .kinds)) (now (a .vals)) (now (a .s)) (a .b) (a .from) _ _ (λ x w. counted-over (now (a .out)) _ _ (a .to) _ _ x w (c .before .before .before .begin .ensures) (omega (arith, l))) (c .before .before .before .before .before .before .before .write-term .ensures .1)
+    rewrites-one (now (a .kinds)) (now (a .vals)) (now (a .s)) (bindersOf (a .b)) (a .from) _ _ (λ x w. counted-over (now (a .out)) _ _ (a .to) _ _ x w (c .before .before .before .begin .ensures) (omega (arith, l))) (c .before .before .before .before .before .before .before .write-term .ensures .1)
 
 write-term-requires-2 : tie.Need-write-term-requires-2
 write-term-requires-2 c κs =
@@ -46,7 +47,7 @@ returns-2 : tie.Need-returns-2
 returns-2 c =
     let a = c .before .before .before .before .before .before .before .before .before .before .before .before .before .before .before .before .before .args in
     let l = begun-long _ _ (a .to) _ _ (c .before .before .before .before .before .before .before .begin .ensures) in
-    rewrites-two (now (a .kinds)) (now (a .vals)) (now (a .s)) (a .b) (a .from) _ _ _ (λ x u w. counted-in (now (a .out)) _ _ (a .to) _ _ x u (c .before .before .before .before .before .before .before .begin .ensures) (omega (arith, l, c .before .before .before .before .if1 .left)) _ _ w) (c .before .before .before .before .before .before .before .before .before .before .before .write-term .ensures .1) (c .before .before .write-term2 .ensures .1)
+    rewrites-two (now (a .kinds)) (now (a .vals)) (now (a .s)) (bindersOf (a .b)) (a .from) _ _ _ (λ x u w. counted-in (now (a .out)) _ _ (a .to) _ _ x u (c .before .before .before .before .before .before .before .begin .ensures) (omega (arith, l, c .before .before .before .before .if1 .left)) _ _ w) (c .before .before .before .before .before .before .before .before .before .before .before .write-term .ensures .1) (c .before .before .write-term2 .ensures .1)
 
 pub rewritten-spec : {M : Type 1} → statement M
 rewritten-spec =

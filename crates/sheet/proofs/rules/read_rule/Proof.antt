@@ -9,7 +9,8 @@ use Rattle.terms.specs.Lent.{place}
 use Rattle.terms.specs.declared.Rule.{Rule}
 use Rattle.terms.proofs.Shortest.{octets}
 use Rattle.terms.proofs.LentLaws.{stops}
-use Rattle.sheet.specs.Laid.{ruleSorts, Plains, putRule}
+use Rattle.terms.specs.Lookup.{putRule}
+use Rattle.sheet.specs.Laid.{ruleSorts, Plains}
 use Rattle.sheet.proofs.StoredLaws.{stored-kinds, stored-vals}
 use Rattle.sheet.proofs.ThroughLaws.{Through, rule-start, through-index, plain-more, plain-stop, through-all, through-undo}
 use Rattle.sheet.proofs.PartLaws.{unreads}
@@ -119,8 +120,8 @@ loop-again c =
     let g = area (m .last .1 .0) (m .last .1 .1 .0) in
     rw (c .put-spot .ensures) (plain-more s oct [] [] (a .issued) ruleSorts p d e (l .rest) (l .i) (l .o) q (l .inv .0) (c .before .before .before .before .before .before .before .before .before .before .before .before .before .before .before .before .loop-test .taken) (l .inv .1) refl _ _ g (rw (c .before .if1 .left) at (m .ensures [])))
 
-rule-of-requires : tie.Need-rule-of-requires Inv-loop μ-loop
-rule-of-requires c κs =
+keep-rule-requires : tie.Need-keep-rule-requires Inv-loop μ-loop
+keep-rule-requires c κs =
     let a = c .before .before .before .before .before .before .before .before .before .args in
     let s = now (a .s) in
     let p = place (now (a .at)) (now (a .top)) (now (a .nodes)) (a .limit) in
@@ -129,29 +130,26 @@ rule-of-requires c κs =
     let l = c .before .before .loop in
     let q = place (l .at) (l .top) (l .nodes) (a .limit) in
     let e = area (l .kinds) (l .vals) in
-    rule-here s [] oct (a .issued) p d e (c .before .before .before .before .before .before .before .before .before .pre .0) (l .o) q (through-all s [] (a .issued) ruleSorts p d e (l .rest) (l .i) (l .o) q (l .inv .0) (c .before .loop-test .left)) .fits
-
-put-rule-requires : tie.Need-put-rule-requires Inv-loop μ-loop
-put-rule-requires c κs = c .before .before .before .before .before .before .before .before .before .before .pre .1 .1
+    (rule-here s [] oct (a .issued) p d e (c .before .before .before .before .before .before .before .before .before .pre .0) (l .o) q (through-all s [] (a .issued) ruleSorts p d e (l .rest) (l .i) (l .o) q (l .inv .0) (c .before .loop-test .left)) .fits, c .before .before .before .before .before .before .before .before .before .pre .1 .1)
 
 same-length-3 : tie.Need-same-length-3 Inv-loop μ-loop
 same-length-3 c =
-    let a = c .before .before .before .before .before .before .before .before .before .before .before .before .before .args in
+    let a = c .before .before .before .before .before .before .before .before .before .before .before .before .args in
     let s = now (a .s) in
     let p = place (now (a .at)) (now (a .top)) (now (a .nodes)) (a .limit) in
     let d = area (a .kinds .now) (a .vals .now) in
-    let l = c .before .before .before .before .before .before .loop in
+    let l = c .before .before .before .before .before .loop in
     let q = place (l .at) (l .top) (l .nodes) (a .limit) in
     let e = area (l .kinds) (l .vals) in
     stored-kinds p q d e _ _ (l .inv .0 .stored)
 
 same-length-4 : tie.Need-same-length-4 Inv-loop μ-loop
 same-length-4 c =
-    let a = c .before .before .before .before .before .before .before .before .before .before .before .before .before .args in
+    let a = c .before .before .before .before .before .before .before .before .before .before .before .before .args in
     let s = now (a .s) in
     let p = place (now (a .at)) (now (a .top)) (now (a .nodes)) (a .limit) in
     let d = area (a .kinds .now) (a .vals .now) in
-    let l = c .before .before .before .before .before .before .loop in
+    let l = c .before .before .before .before .before .loop in
     let q = place (l .at) (l .top) (l .nodes) (a .limit) in
     let e = area (l .kinds) (l .vals) in
     stored-vals p q d e _ _ (l .inv .0 .stored)
@@ -161,16 +159,16 @@ same-length-5 c = search needs
 
 returns-2 : tie.Need-returns-2 Inv-loop μ-loop
 returns-2 c =
-    let a = c .before .before .before .before .before .before .before .before .before .before .before .before .before .args in
+    let a = c .before .before .before .before .before .before .before .before .before .before .before .before .args in
     let s = now (a .s) in
     let p = place (now (a .at)) (now (a .top)) (now (a .nodes)) (a .limit) in
     let d = area (a .kinds .now) (a .vals .now) in
-    let oct = octets s (λ i. omega (arith, c .before .before .before .before .before .before .before .before .before .before .before .before .shared-slice-known .given i)) in
-    let l = c .before .before .before .before .before .before .loop in
+    let oct = octets s (λ i. omega (arith, c .before .before .before .before .before .before .before .before .before .before .before .shared-slice-known .given i)) in
+    let l = c .before .before .before .before .before .loop in
     let q = place (l .at) (l .top) (l .nodes) (a .limit) in
     let e = area (l .kinds) (l .vals) in
-    let x = rule-here s [] oct (a .issued) p d e (c .before .before .before .before .before .before .before .before .before .before .before .before .before .pre .0) (l .o) q (through-all s [] (a .issued) ruleSorts p d e (l .rest) (l .i) (l .o) q (l .inv .0) (c .before .before .before .before .before .loop-test .left)) in
-    (x .rule, x .found, x .stored, x .inside, c .before .before .put-rule .ensures ∙ ap (λ (z : Rule). putRule (a .rules .now) (a .r) z) (c .before .before .before .rule-of .ensures ∙ x .words))
+    let x = rule-here s [] oct (a .issued) p d e (c .before .before .before .before .before .before .before .before .before .before .before .before .pre .0) (l .o) q (through-all s [] (a .issued) ruleSorts p d e (l .rest) (l .i) (l .o) q (l .inv .0) (c .before .before .before .before .loop-test .left)) in
+    (x .rule, x .found, x .stored, x .inside, c .before .before .keep-rule .ensures ∙ ap (λ (z : Rule). putRule (a .rules .now) (a .r) z) (x .words))
 
 pub read-rule-spec : {M : Type 1} → statement M
 read-rule-spec =
@@ -191,8 +189,7 @@ read-rule-spec =
     add-i
     loop-less
     loop-again
-    rule-of-requires
-    put-rule-requires
+    keep-rule-requires
     same-length-3
     same-length-4
     same-length-5

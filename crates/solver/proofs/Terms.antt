@@ -1,0 +1,19 @@
+-- The laws of the terms, handed on to the sheet, which names this crate alone. Assumes nothing.
+pub use Rattle.terms.proofs.Steps
+pub use Rattle.terms.proofs.Bounds
+pub use Rattle.terms.proofs.Shortest
+pub use Rattle.terms.proofs.KindLaws
+pub use Rattle.terms.proofs.FieldLaws
+pub use Rattle.terms.proofs.StoreLaws
+pub use Rattle.terms.proofs.LentLaws
+pub use Rattle.terms.proofs.Weights
+pub use Rattle.terms.proofs.Sound
+pub use Rattle.terms.proofs.RoundTrip
+pub use Rattle.terms.proofs.WriteLaws
+pub use Rattle.terms.proofs.Bools
+pub use Rattle.terms.proofs.HeldLaws
+pub use Rattle.terms.proofs.Answers
+pub use Rattle.terms.proofs.RewriteLaws
+pub use Rattle.terms.proofs.ViewLaws
+pub use Rattle.terms.proofs.NormalLaws
+pub use Rattle.terms.proofs.NormalizeLaws
