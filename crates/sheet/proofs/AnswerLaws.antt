@@ -9,20 +9,20 @@ use native.Mathlib.Numerals.{add-one}
 use borrow.Author.Tests.{lt-ltb, le-ltb, eq-eqb, ne-eqb, eqb-false}
 use lib.ListN.{length, length-append, set}
 use lib.Seq.{sets}
-use Rattle.terms.specs.declared.Binders.{Binders}
-use Rattle.terms.specs.Result.{got}
-use Rattle.terms.specs.Parameters.{parameters}
-use Rattle.terms.proofs.HeldLaws.{items-some}
-use Rattle.terms.specs.Term.{Term, bytes, Held}
-use Rattle.terms.specs.Placed.{FormedAt}
-use Rattle.terms.specs.Tokens.{area, blank}
-use Rattle.terms.specs.View.{Sight}
-use Rattle.terms.specs.Questions.{Parameter, asked, answered}
-use Rattle.terms.specs.Substitution.{Entry, Receiver, apply, instantiate, extend, zipped}
-use Rattle.terms.specs.Rewriting.{Rewrites, Writes}
-use Rattle.terms.specs.Normal.{Out, levels, most}
-use Rattle.terms.specs.Normalising.{numberOf, numberFor, Answers, Leaves, Stands}
-use Rattle.terms.proofs.NormalLaws.{refused-number, few-number, long-number}
+use Rattle.solver.specs.TermTypes.{Binders}
+use Rattle.solver.specs.Terms.Result.{got}
+use Rattle.solver.specs.Terms.Parameters.{parameters}
+use Rattle.solver.proofs.Terms.HeldLaws.{items-some}
+use Rattle.solver.specs.Terms.Term.{Term, bytes, Held}
+use Rattle.solver.specs.Terms.Placed.{FormedAt}
+use Rattle.solver.specs.Terms.Tokens.{area, blank}
+use Rattle.solver.specs.Terms.View.{Sight}
+use Rattle.solver.specs.Terms.Questions.{Parameter, asked, answered}
+use Rattle.solver.specs.Terms.Substitution.{Entry, Receiver, apply, instantiate, extend, zipped}
+use Rattle.solver.specs.Terms.Rewriting.{Rewrites, Writes}
+use Rattle.solver.specs.Terms.Normal.{Out, levels, most}
+use Rattle.solver.specs.Terms.Normalising.{numberOf, numberFor, Answers, Leaves, Stands}
+use Rattle.solver.proofs.Terms.NormalLaws.{refused-number, few-number, long-number}
 use Rattle.solver.specs.declared.Ready.{Ready}
 use Rattle.solver.specs.declared.Normalised.{Normalised}
 use Rattle.solver.specs.declared.Normalised.the-variants.{Refused, Long, Done}

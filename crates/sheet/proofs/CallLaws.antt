@@ -11,10 +11,10 @@ use borrow.Author.Tests.{leb-true, leb-false, ltb-true}
 use lib.Dec.{ltb, leb}
 use lib.ListN.{length, length-append, getD, take, drop, replicate}
 use lib.Seq.{take-append-seam, drop-append-seam}
-use Rattle.terms.specs.Result.{Result, got, refused, pick}
-use Rattle.terms.specs.Number.{number}
-use Rattle.terms.specs.Shape as shape
-use Rattle.terms.specs.Shape.{ceiling}
+use Rattle.solver.specs.Terms.Result.{Result, got, refused, pick}
+use Rattle.solver.specs.Terms.Number.{number}
+use Rattle.solver.specs.Terms.Shape as shape
+use Rattle.solver.specs.Terms.Shape.{ceiling}
 use Rattle.solver.specs.Shapes.{loose}
 use Rattle.solver.specs.Session.{Limits, Session, issued, fresh}
 use Rattle.solver.specs.Orders.{Command, order}

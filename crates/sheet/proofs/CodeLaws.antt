@@ -6,14 +6,14 @@ use Prim.Native.Nat.{ℕ, zero, suc, _+_, _<_}
 use native.Mathlib.Omega.{arith}
 use lib.Dec.{ltb, eqb}
 use lib.ListN.{length, getD}
-use Rattle.terms.specs.Parser.{Result, Parser, got, refused, bind, pick, _>>=_, return, refuse, byte, number}
-use Rattle.terms.specs.Term.{Term, var}
-use Rattle.terms.specs.Shape as shape
-use Rattle.terms.specs.Shape.{ceiling}
-use Rattle.terms.specs.Reading as reading
-use Rattle.terms.specs.Rows as rows
-use Rattle.terms.specs.Parameters as order
-use Rattle.terms.proofs.LentLaws.{rising-some, code-some}
+use Rattle.solver.specs.Terms.Parser.{Result, Parser, got, refused, bind, pick, _>>=_, return, refuse, byte, number}
+use Rattle.solver.specs.Terms.Term.{Term, var}
+use Rattle.solver.specs.Terms.Shape as shape
+use Rattle.solver.specs.Terms.Shape.{ceiling}
+use Rattle.solver.specs.Terms.Reading as reading
+use Rattle.solver.specs.Terms.Rows as rows
+use Rattle.solver.specs.Terms.Parameters as order
+use Rattle.solver.proofs.Terms.LentLaws.{rising-some, code-some}
 use Rattle.sheet.specs.Fields as fields
 use Rattle.sheet.specs.Fields.{entered, received, listed}
 use Rattle.sheet.specs.Laid.{partOf, listField, valueField}

@@ -4,10 +4,10 @@ use mathlib.Core.Bool.{Bool, true, false, _&&_, _||_}
 use mathlib.Core.List.{List, [], _∷_}
 use mathlib.Core.Option.{Option, none, some}
 use Prim.Native.Nat.{ℕ, _+_}
-use Rattle.terms.specs.Result.{Result, got, refused, pick}
-use Rattle.terms.specs.Term.{Term, size}
-use Rattle.terms.specs.Formed.{Formed}
-use Rattle.terms.proofs.Bools.{or-none}
+use Rattle.solver.specs.Terms.Result.{Result, got, refused, pick}
+use Rattle.solver.specs.Terms.Term.{Term, size}
+use Rattle.solver.specs.Terms.Formed.{Formed}
+use Rattle.solver.proofs.Terms.Bools.{or-none}
 use Rattle.solver.specs.Families.{Request, requested}
 use Rattle.solver.specs.Shapes.{loose}
 use Rattle.solver.specs.Solving.{Pair, Solver, resolved, constrain}

@@ -5,10 +5,10 @@ use mathlib.Core.List.{List, [], _∷_, _++_}
 use Prim.Native.Nat.{ℕ, zero, suc, _+_, _-_}
 use lib.Dec.{ltb, leb}
 use lib.ListN.{length, take, drop}
-use Rattle.terms.specs.Result.{Result, got, refused, pick}
-use Rattle.terms.specs.Number.{number}
-use Rattle.terms.specs.Shape as shape
-use Rattle.terms.specs.Shape.{ceiling}
+use Rattle.solver.specs.Terms.Result.{Result, got, refused, pick}
+use Rattle.solver.specs.Terms.Number.{number}
+use Rattle.solver.specs.Terms.Shape as shape
+use Rattle.solver.specs.Terms.Shape.{ceiling}
 use Rattle.solver.specs.Session.{Limits, Session, fresh}
 use Rattle.solver.specs.Demand3.{beginning}
 use Rattle.sheet.specs.Sheet.{Run, orderOf, framed, ends, answering, part, nextOrder, answered, runFrom, runOf}

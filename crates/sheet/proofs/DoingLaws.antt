@@ -5,31 +5,25 @@ use mathlib.Core.List.{List, [], _∷_, _++_}
 use mathlib.Core.Option.{Option, none, some}
 use Prim.Native.Nat.{ℕ, zero, suc, _+_, _-_, _≤_, _<_}
 use native.Mathlib.Omega.{arith}
-use native.Mathlib.Numerals.{add-one}
-use borrow.Author.Tests.{leb-true, leb-false, eq-eqb, ne-eqb}
-use lib.Dec.{eqb, leb}
-use lib.ListN.{length, getD, set, take, length-append}
-use lib.Seq.{sets, getD-take}
-use Rattle.terms.specs.Number.{shortest}
-use Rattle.terms.specs.Term.{Term, var, bytes, Held}
+use borrow.Author.Tests.{leb-true, eq-eqb, ne-eqb}
+use lib.Dec.{eqb}
+use lib.ListN.{length, length-append}
+use Rattle.solver.specs.Terms.Number.{shortest}
+use Rattle.solver.specs.Terms.Term.{var, bytes}
 use Rattle.solver.specs.declared.Solver.{Solver}
+use Rattle.solver.specs.declared.Named.{Named}
+use Rattle.solver.specs.declared.Named.the-variants.{Variable, Full}
 use Rattle.solver.specs.Families.{Request, requested}
 use Rattle.solver.specs.Shapes.{loose}
-use Rattle.solver.specs.Solving as solving
-use Rattle.solver.specs.Solving.{resolve, resolved}
+use Rattle.solver.specs.Solving.{resolved}
 use Rattle.solver.specs.Session.{Limits, Session, Place, at, gap, issued, find}
 use Rattle.solver.specs.Orders as orders
 use Rattle.solver.specs.Orders.{order, variableAt, numberAt, holeAt, full, refused, _gives_}
-use Rattle.solver.specs.InOrder.{Fits}
-use Rattle.solver.specs.Bindings.{HeldBinding}
-use Rattle.solver.specs.Work.{Zero}
-use Rattle.solver.specs.Frames.{Apart, Cleared}
 use Rattle.solver.specs.Lent.{Arises, Lent, limitsOf}
-use Rattle.solver.specs.Methods.{Beside, found}
-use Rattle.solver.proofs.InOrderLaws.{find-issued}
+use Rattle.solver.specs.Methods.{Beside, found, placed, namedOf}
 use Rattle.solver.proofs.OrderedLaws.{ordered-revision}
 use Rattle.solver.proofs.DefaultLaws.{arises-ordered}
-use Rattle.solver.proofs.MethodLaws.{beside-same}
+use Rattle.solver.proofs.MethodLaws.{beside-same, named-next, named-none}
 use Rattle.sheet.specs.Operations.{Answer, refusal, outcome, bit}
 use Rattle.sheet.specs.Sheet.{Step, solve, answerOf, framed}
 use Rattle.sheet.specs.Written.{Framed, opening}
@@ -135,16 +129,6 @@ module _ {x : Solver} {ks vs ts : List ℕ} {z : Session} (L : Lent x ks vs ts z
 abbrev pub nextOf : Session → Place → ℕ
 nextOf z p = found (issued z) (find p (z .places))
 
-module _ (lim : Limits) (z : Session) (p : Place) (fits : Fits lim z) where
-  -- none where that is past the limit
-  unfound : (o : Option ℕ) (f : Bool) → find p (z .places) ≡ o → full lim z ≡ f → lim .variables ≤ found (issued z) o → (o ≡ none) × (f ≡ true)
-  unfound (some v) f e g h = absurd (omega (arith, find-issued p (z .places) v e, fits .variables))
-  unfound none true e g h = (refl, refl)
-  unfound none false e g h = absurd (omega (arith, leb-false (lim .variables) (issued z) g))
-
-  pub unplaced : lim .variables ≤ nextOf z p → (find p (z .places) ≡ none) × (full lim z ≡ true)
-  unplaced h = unfound (find p (z .places)) (full lim z) refl refl h
-
 -- order 0
 module _ (lim : Limits) (z : Session) (site slot : ℕ) where
   variable-go : (o : Option ℕ) (f : Bool) → full lim z ≡ f → found (issued z) o < lim .variables
@@ -158,9 +142,9 @@ module _ (lim : Limits) (z : Session) (site slot : ℕ) where
   unfolding order
   variable-answer h = variable-go (find (at site slot) (z .places)) (full lim z) refl h
 
-  pub variable-full : Fits lim z → lim .variables ≤ nextOf z (at site slot) → order lim loose z (orders.variable site slot) ≡ (z gives refused 8)
+  pub variable-full : find (at site slot) (z .places) ≡ none → full lim z ≡ true → order lim loose z (orders.variable site slot) ≡ (z gives refused 8)
   unfolding order variableAt
-  variable-full fits h = let u = unplaced lim z (at site slot) fits h in rw (u .0, u .1) refl
+  variable-full u f = rw (u, f) refl
 
 -- order 1
 module _ (lim : Limits) (z : Session) (site : ℕ) (r : Request) where
@@ -176,9 +160,9 @@ module _ (lim : Limits) (z : Session) (site : ℕ) (r : Request) where
   unfolding order
   number-answer h = number-go (find (at site 1) (z .places)) (full lim z) refl h
 
-  pub number-full : Fits lim z → lim .variables ≤ nextOf z (at site 1) → order lim loose z (orders.number site r) ≡ (z gives refused 8)
+  pub number-full : find (at site 1) (z .places) ≡ none → full lim z ≡ true → order lim loose z (orders.number site r) ≡ (z gives refused 8)
   unfolding order numberAt
-  number-full fits h = let u = unplaced lim z (at site 1) fits h in rw (u .0, u .1) refl
+  number-full u f = rw (u, f) refl
 
 -- order 2
 module _ (lim : Limits) (z : Session) (site : ℕ) where
@@ -193,9 +177,9 @@ module _ (lim : Limits) (z : Session) (site : ℕ) where
   unfolding order
   hole-answer h = hole-go (find (gap site) (z .places)) (full lim z) refl h
 
-  pub hole-full : Fits lim z → lim .variables ≤ nextOf z (gap site) → order lim loose z (orders.hole site) ≡ (z gives refused 8)
+  pub hole-full : find (gap site) (z .places) ≡ none → full lim z ≡ true → order lim loose z (orders.hole site) ≡ (z gives refused 8)
   unfolding order holeAt
-  hole-full fits h = let u = unplaced lim z (gap site) fits h in rw (u .0, u .1) refl
+  hole-full u f = rw (u, f) refl
 
 -- refusal 8, whatever the order
 pub full-does : (x : Solver) (ks vs ts : List ℕ) (z : Session) → Lent x ks vs ts z → (c : orders.Command) → order (limitsOf x) loose z c ≡ (z gives refused 8)
@@ -205,77 +189,12 @@ full-does x ks vs ts z L c e out₀ to out r f =
     does-same L (solve (limitsOf x) z c) out₀ to out r (ap (λ (s : orders.Step). s .session) e)
     (subst (λ a. Framed a out₀ to out r) (sym (ap (λ (s : orders.Step). answerOf (s .reply)) e)) f)
 
--- ---- what a variable resolves to
-
-pub resolved-none : (n : ℕ) (b : ℕ → Option Term) (v : ℕ) → n ≡ 0 → resolve n b (var v) ≡ var v
-unfolding resolve
-resolved-none zero b v e = refl
-resolved-none (suc n) b v e = absurd (omega arith)
-
-pub resolved-free : (n : ℕ) (b : ℕ → Option Term) (v : ℕ) → b v ≡ none → resolve n b (var v) ≡ var v
-unfolding resolve solving.replace solving.followed
-resolved-free zero b v e = refl
-resolved-free (suc n) b v e = rw e refl
-
-pub resolved-bound : (n : ℕ) (b : ℕ → Option Term) (v : ℕ) (t : Term) → (n ≡ 0 → ⊥) → b v ≡ some t → resolve n b (var v) ≡ resolve (n - 1) b t
-unfolding resolve solving.replace solving.followed
-resolved-bound zero b v t h e = absurd (h refl)
-resolved-bound (suc n) b v t h e =
-    let p : n ≡ suc n - 1 = omega arith in
-    rw e (ap (λ (k : ℕ). resolve k b t) p)
-
-module _ (x : Solver) (ks vs ts : List ℕ) (z : Session) (L : Lent x ks vs ts z) (v : ℕ) (below : v < x .variables) where
-  word-of : HeldBinding ks vs (z .solver .bindings v) (getD ts v 0)
-  word-of = subst (λ (w : ℕ). HeldBinding ks vs (z .solver .bindings v) w) (getD-take (x .variables) ts v 0 below) (L .bindings v)
-
-  pub variable-none : x .revision ≡ 0 → resolved (z .solver) (var v) ≡ var v
-  variable-none e = resolved-none (z .solver .revision) (z .solver .bindings) v (sym (L .revision) ∙ e)
-
-  pub variable-free : (w : ℕ) → w ≡ getD ts v 0 → w ≡ 0 → resolved (z .solver) (var v) ≡ var v
-  variable-free w p e = resolved-free (z .solver .revision) (z .solver .bindings) v (go (z .solver .bindings v) word-of)
-    where
-      go : (o : Option Term) → HeldBinding ks vs o (getD ts v 0) → o ≡ none
-      go none h = refl
-      go (some t) h = absurd (omega (arith, h .1))
-
-  pub variable-bound : (w : ℕ) → w ≡ getD ts v 0 → (w ≡ 0 → ⊥) → (x .revision ≡ 0 → ⊥)
-      → (t : Term) × Held ks vs (w - 1) t × (resolved (z .solver) (var v) ≡ resolve (x .revision - 1) (z .solver .bindings) t)
-  variable-bound w p e f = go (z .solver .bindings v) refl word-of
-    where
-      go : (o : Option Term) → z .solver .bindings v ≡ o → HeldBinding ks vs o (getD ts v 0)
-          → (t : Term) × Held ks vs (w - 1) t × (resolved (z .solver) (var v) ≡ resolve (x .revision - 1) (z .solver .bindings) t)
-      go none q h = absurd (e (p ∙ h))
-      go (some t) q h =
-          let a : h .0 ≡ w - 1 = omega (arith, h .1) in
-          (t, subst (λ (i : ℕ). Held ks vs i t) a (h .2), ap (λ (n : ℕ). resolve n (z .solver .bindings) (var v)) (sym (L .revision)) ∙ resolved-bound (x .revision) (z .solver .bindings) v t f q)
-
 -- ---- answers that are terms
-
-pub framed-as : (t u : Term) → t ≡ u → (out₀ : List ℕ) (to : ℕ) (out : List ℕ) (r : ℕ) → Framed (outcome (bytes t)) out₀ to out r → Framed (outcome (bytes u)) out₀ to out r
-framed-as t u e out₀ to out r f = subst (λ (x : Term). Framed (outcome (bytes x)) out₀ to out r) e f
 
 -- a value longer than the output does not fit
 pub long-over : (v out₀ : List ℕ) (to : ℕ) → length out₀ < length v → Framed (outcome v) out₀ to out₀ (length out₀ + 1)
 long-over v out₀ to h =
     frame-over (outcome v) (opening (length v) ++ v) (value-frame v) out₀ to out₀ (length out₀ + 1) (omega (arith, length-append (opening (length v)) v)) refl refl
-
--- a variable: a byte and its number
-pub var-size : (n v : ℕ) → n ≡ length (shortest v) → n + 1 ≡ length (bytes (var v))
-unfolding bytes
-var-size n v e = omega (arith, e)
-
-pub var-stored : (o : List ℕ) (i v : ℕ) (out : List ℕ) → out ≡ sets (set o i 1) (i + 1) (shortest v) → out ≡ sets o i (bytes (var v))
-unfolding bytes
-var-stored o i v out e = e ∙ ap (λ (k : ℕ). sets (set o i 1) k (shortest v)) (add-one i)
-
--- ---- frames
-
-pub zero-after : (n : ℕ) (st₀ st₁ st : List ℕ) → Zero st₀ → Apart n st₀ st₁ → Cleared (n + n) st₁ st → Zero st
-zero-after n st₀ st₁ st z a c j = go (leb (n + n) j) refl
-  where
-    go : (b : Bool) → leb (n + n) j ≡ b → getD st j 0 ≡ 0
-    go true e = let l = leb-true (n + n) j e in c .others j l ∙ a j l ∙ z j
-    go false e = c .zeros j (leb-false (n + n) j e)
 
 -- ---- bytes of the revision
 
@@ -285,27 +204,29 @@ changed-same old new e = rw (eq-eqb new old e) refl
 pub changed-other : (old new : ℕ) → (new ≡ old → ⊥) → 1 ≡ bit (not (eqb new old))
 changed-other old new e = rw (ne-eqb new old e) refl
 
--- ---- orders 0 to 2: id is the variable of the place, or the next one
+-- ---- orders 0 to 2: by the variable that the place has or would be given
 
 module _ (x : Solver) (ks vs ts : List ℕ) (z : Session) (L : Lent x ks vs ts z) (c : orders.Command) (p : Place) (w : ℕ → List ℕ)
     (answers : nextOf z p < x .variables → solve (limitsOf x) z c .answer ≡ outcome (w (nextOf z p)))
-    (fullness : Fits (limitsOf x) z → x .variables ≤ nextOf z p → order (limitsOf x) loose z c ≡ (z gives refused 8))
-    (id : ℕ) (e : id ≡ found (x .issued) (find p (z .places))) (out₀ : List ℕ) (to : ℕ) (out : List ℕ) (r : ℕ) where
-  is-next : id ≡ nextOf z p
-  is-next = e ∙ ap (λ (n : ℕ). found n (find p (z .places))) (L .issued)
+    (fullness : find p (z .places) ≡ none → full (limitsOf x) z ≡ true → order (limitsOf x) loose z c ≡ (z gives refused 8))
+    (a : Named) (e : a ≡ namedOf (placed (limitsOf x) z p .variable)) (out₀ : List ℕ) (to : ℕ) (out : List ℕ) (r : ℕ) where
+  pub place-refused : a ≡ Full → Framed (refusal 8) out₀ to out r → Does x x ks vs ts ts z (solve (limitsOf x) z c) out₀ to out r
+  place-refused f g =
+      let n = named-none (limitsOf x) z p (L .fits) (sym f ∙ e) in
+      full-does x ks vs ts z L c (fullness (n .0) (n .1)) out₀ to out r g
 
-  pub place-refused : x .variables ≤ id → Framed (refusal 8) out₀ to out r → Does x x ks vs ts ts z (solve (limitsOf x) z c) out₀ to out r
-  place-refused h f = full-does x ks vs ts z L c (fullness (L .fits) (omega (arith, is-next))) out₀ to out r f
+  module _ (v : ℕ) (f : a ≡ Variable v) (g : Framed (outcome (w v)) out₀ to out r) where
+    says : Framed (solve (limitsOf x) z c .answer) out₀ to out r
+    says =
+        let n = named-next (limitsOf x) z p (L .fits) v (sym f ∙ e) in
+        subst (λ (b : Answer). Framed b out₀ to out r) (ap (λ (i : ℕ). outcome (w i)) (n .0) ∙ sym (answers (omega (arith, n .0, n .1)))) g
 
-  says : id < x .variables → Framed (outcome (w id)) out₀ to out r → Framed (solve (limitsOf x) z c .answer) out₀ to out r
-  says h f = subst (λ (a : Answer). Framed a out₀ to out r) (ap (λ (n : ℕ). outcome (w n)) is-next ∙ sym (answers (omega (arith, is-next)))) f
+    pub place-over : length out₀ < r → Does x x ks vs ts ts z (solve (limitsOf x) z c) out₀ to out r
+    place-over l = does-over L (solve (limitsOf x) z c) out₀ to out r says l
 
-  pub place-over : id < x .variables → Framed (outcome (w id)) out₀ to out r → length out₀ < r → Does x x ks vs ts ts z (solve (limitsOf x) z c) out₀ to out r
-  place-over h f l = does-over L (solve (limitsOf x) z c) out₀ to out r (says h f) l
-
-  pub place-done : id < x .variables → Framed (outcome (w id)) out₀ to out r → r ≤ length out₀ → (y : Solver) (us : List ℕ)
-      → Lent y ks vs us (order (limitsOf x) loose z c .session) → Beside x y ts us → Does x y ks vs ts us z (solve (limitsOf x) z c) out₀ to out r
-  place-done h f l y us M B = does-whole L (solve (limitsOf x) z c) out₀ to y us out r (says h f) l M B
+    pub place-done : r ≤ length out₀ → (y : Solver) (us : List ℕ) → Lent y ks vs us (order (limitsOf x) loose z c .session) → Beside x y ts us
+        → Does x y ks vs ts us z (solve (limitsOf x) z c) out₀ to out r
+    place-done l y us M B = does-whole L (solve (limitsOf x) z c) out₀ to y us out r says l M B
 
 -- ---- the command of a kind
 

@@ -1,24 +1,24 @@
 -- The end of a run, and when there is one. Assumes nothing.
-use mathlib.Core.Path.{_≡_, refl, sym, ap, subst, _∙_}
+use mathlib.Core.Path.{_≡_, refl, sym, ap, _∙_}
 use mathlib.Core.Bool.{Bool, true, false, _&&_}
 use mathlib.Core.List.{List, _++_}
-use Prim.Native.Nat.{ℕ, _+_, _-_, _*_, _≤_, _<_}
+use Prim.Native.Nat.{ℕ, _+_, _-_, _≤_, _<_}
 use native.Mathlib.Decide.{decLt}
 use native.Mathlib.Omega.{arith}
 use borrow.Author.Tests.{leb-true}
 use borrow.Rule.Slice.PartMut.{putMid, same-len-mid, take-put}
-use lib.ListN.{length, getD, take, drop, replicate, length-take, length-append, length-replicate}
+use lib.ListN.{length, getD, take, drop, replicate, length-append, length-replicate}
 use lib.Seq.{getD-take, getD-drop, length-front, length-take-le, take-at}
-use Rattle.terms.specs.Result.{pick}
+use Rattle.solver.specs.Terms.Result.{pick}
 use Rattle.solver.specs.declared.Solver.{Solver}
 use Rattle.solver.specs.Session.{Limits}
 use Rattle.solver.specs.Work.{Zero}
-use Rattle.solver.specs.Frames.{Cleared}
+use Rattle.solver.specs.Whole.{counters}
+use Rattle.solver.proofs.WholeLaws.{all-zero, zero-cleared}
 use Rattle.sheet.specs.Sheet.{runOf}
 use Rattle.sheet.specs.Lays.{Roomy}
-use Rattle.sheet.specs.Ending.{counters, Ended, Used, Finish, finished, suits, leaving, finishOf}
-use Rattle.sheet.proofs.LaysLaws.{tail-all, tail-back}
-use Rattle.sheet.proofs.StartingLaws.{all-zero, zero-cleared}
+use Rattle.sheet.specs.Ending.{Ended, Finish, finished, suits, leaving, finishOf}
+use Rattle.sheet.proofs.LaysLaws.{tail-back}
 
 -- ---- sizes
 
@@ -89,7 +89,7 @@ suited words sheet out a b c d e =
       d-size = leb-true words d (p₁ .1);
     }
 
--- ---- words in use, and cleared
+-- ---- the areas cleared
 
 -- the words from a position on
 at-from : (l : List ℕ) (n j : ℕ) → n ≤ j → getD l j 0 ≡ getD (drop n l) (j - n) 0
@@ -97,104 +97,51 @@ at-from l n j h =
     let e : j ≡ n + (j - n) = omega arith in
     ap (λ (i : ℕ). getD l i 0) e ∙ sym (getD-drop n l (j - n) 0)
 
--- `count` words from `from` on cleared, and put back
-module _ (l : List ℕ) (from count words : ℕ) (U : Used l from count words) (u : List ℕ) (sized : length u ≡ length (take (length l - from) (drop from l)))
-    (C : Cleared count (take (length l - from) (drop from l)) u) where
-  abbrev put : List ℕ
-  put = putMid from (length l - from) l u
-
-  -- the first `words` words are 0
-  used-zero : (j : ℕ) → j < words → getD put j 0 ≡ 0
-  used-zero j h = go (decLt j from) (decLt (j - from) count)
-    where
-      inside : from ≤ length l
-      inside = omega (arith, U .within, U .inside)
-
-      behind : from ≤ j → getD put j 0 ≡ getD u (j - from) 0
-      behind q = at-from put from j q ∙ ap (λ (k : List ℕ). getD k (j - from) 0) (tail-back from l u inside)
-
-      go : Dec (j < from) → Dec (j - from < count) → getD put j 0 ≡ 0
-      go (yes p) q =
-          sym (getD-take from put j 0 p) ∙ ap (λ (k : List ℕ). getD k j 0) (take-put from (length l - from) l u inside) ∙ getD-take from l j 0 p ∙ U .before j p
-      go (no p) (yes q) = behind (omega arith) ∙ C .zeros (j - from) q
-      go (no p) (no q) =
-          behind (omega arith) ∙ C .others (j - from) (omega arith) ∙ ap (λ (k : List ℕ). getD k (j - from) 0) (tail-all from l)
-          ∙ sym (at-from l from j (omega arith)) ∙ U .after j (omega arith) h
-
-  -- and with those from `words` on cleared, all are
-  pub used-cleared : (v : List ℕ) → v ≡ replicate (length (take (length put - words) (drop words put))) 0
-      → putMid words (length put - words) put v ≡ replicate (length l) 0
-  used-cleared v z =
-      all-zero whole (length l) (same-len-mid words (length put - words) put v (ap length z ∙ length-replicate (length (take (length put - words) (drop words put))) 0) ∙ same)
-      (λ j h. go j (decLt j words))
-    where
-      whole : List ℕ
-      whole = putMid words (length put - words) put v
-
-      same : length put ≡ length l
-      same = same-len-mid from (length l - from) l u sized
-
-      inside : words ≤ length put
-      inside = omega (arith, U .inside, same)
-
-      go : (j : ℕ) → Dec (j < words) → getD whole j 0 ≡ 0
-      go j (yes p) =
-          sym (getD-take words whole j 0 p) ∙ ap (λ (k : List ℕ). getD k j 0) (take-put words (length put - words) put v inside) ∙ getD-take words put j 0 p
-          ∙ used-zero j p
-      go j (no p) =
-          at-from whole words j (omega arith) ∙ ap (λ (k : List ℕ). getD k (j - words) 0) (tail-back words put v inside)
-          ∙ zero-cleared v (length (take (length put - words) (drop words put))) z (j - words)
-
--- an area of which a front part was lent and came back with `count` words from `from` on in use
-front-used : (area part : List ℕ) (from count words : ℕ) → words ≤ length area → length part ≡ length (take words area) → from + count ≤ words
-    → Zero (take from part) → Zero (drop count (drop from part)) → Used (part ++ drop words area) from count words
-front-used area part from count words h e w y z =
-    record {
-      within = w;
-      inside = omega (arith, length-front area part words e);
-      before = λ j p. in-part j (omega arith) ∙ sym (getD-take from part j 0 p) ∙ y j;
-      after = λ j p q. in-part j q ∙ at-from part from j (omega arith) ∙ at-from (drop from part) count (j - from) (omega arith) ∙ z (j - from - count);
-    }
+-- a list of which the first n words are 0, and the others were cleared
+tail-cleared : (n : ℕ) (l v : List ℕ) → n ≤ length l → ((j : ℕ) → j < n → getD l j 0 ≡ 0) → v ≡ replicate (length (take (length l - n) (drop n l))) 0
+    → putMid n (length l - n) l v ≡ replicate (length l) 0
+tail-cleared n l v inside z e =
+    all-zero whole (length l) (same-len-mid n (length l - n) l v (ap length e ∙ length-replicate (length (take (length l - n) (drop n l))) 0)) (λ j h. go j (decLt j n))
   where
-    in-part : (j : ℕ) → j < words → getD (part ++ drop words area) j 0 ≡ getD part j 0
-    in-part j q =
-        sym (getD-take words (part ++ drop words area) j 0 q)
-        ∙ ap (λ (k : List ℕ). getD k j 0) (take-at part (drop words area) words (e ∙ length-take-le words area h))
+    whole : List ℕ
+    whole = putMid n (length l - n) l v
 
--- what a run left in the front parts of the areas
-module _ {lim : Limits} {half : ℕ} {s out₀ : List ℕ} {r n m top : ℕ} {out a b c d : List ℕ} (E : Ended lim half s out₀ r n m top out a b c d)
-    (words : ℕ) (area : List ℕ) (h : words ≤ length area) where
-  -- in a and b the tokens, in c the table, in d nothing
-  pub kinds-used : length a ≡ length (take words area) → Used (a ++ drop words area) 0 top words
-  kinds-used e =
-      front-used area a 0 top words h e (omega (arith, E .ends, E .lays .lent .top, length-take (E .solver .top) a, e, length-take-le words area h)) (λ i. refl)
-      (subst (λ (k : ℕ). Zero (drop k a)) (sym (E .ends)) (E .lays .kinds))
+    go : (j : ℕ) → Dec (j < n) → getD whole j 0 ≡ 0
+    go j (yes p) =
+        sym (getD-take n whole j 0 p) ∙ ap (λ (k : List ℕ). getD k j 0) (take-put n (length l - n) l v inside) ∙ getD-take n l j 0 p ∙ z j p
+    go j (no p) =
+        at-from whole n j (omega arith) ∙ ap (λ (k : List ℕ). getD k (j - n) 0) (tail-back n l v inside)
+        ∙ zero-cleared v (length (take (length l - n) (drop n l))) e (j - n)
 
-  pub vals-used : length b ≡ length (take words area) → Used (b ++ drop words area) 0 top words
-  vals-used e =
-      front-used area b 0 top words h e (omega (arith, E .ends, E .lays .lent .top, E .lays .lent .vals, length-take (E .solver .top) b, e, length-take-le words area h)) (λ i. refl)
-      (subst (λ (k : ℕ). Zero (drop k b)) (sym (E .ends)) (E .lays .vals))
+-- a front that is 0, and the rest cleared: all 0
+pub front-zero : (n : ℕ) (l v : List ℕ) → n ≤ length l → Zero (take n l) → v ≡ replicate (length (take (length l - n) (drop n l))) 0
+    → Zero (putMid n (length l - n) l v)
+front-zero n l v h z e = zero-cleared (putMid n (length l - n) l v) (length l) (tail-cleared n l v h (λ j p. sym (getD-take n l j 0 p) ∙ z j) e)
 
-  pub table-used : length c ≡ length (take words area) → half + 7 * lim .variables ≤ words → Used (c ++ drop words area) half (7 * lim .variables) words
-  table-used e w =
-      front-used area c half (7 * lim .variables) words h e w (E .lays .front)
-      (subst (λ (k : Limits). Zero (drop (7 * k .variables) (drop half c))) (E .limits) (E .lays .blank))
+-- a front part that was lent and came back is as long as it was
+pub part-inside : (n : ℕ) (area part : List ℕ) → n ≤ length area → length part ≡ length (take n area) → n ≤ length (part ++ drop n area)
+part-inside n area part h e = omega (arith, length-front area part n e)
 
-  pub work-used : length d ≡ length (take words area) → Used (d ++ drop words area) 0 0 words
-  work-used e = front-used area d 0 0 words h e (omega arith) (λ i. refl) (E .lays .work)
+-- an area of which a front part was lent and came back all 0, and whose rest was cleared then
+pub area-cleared : (n : ℕ) (area part v : List ℕ) → n ≤ length area → length part ≡ length (take n area) → Zero part
+    → v ≡ replicate (length (take (length (part ++ drop n area) - n) (drop n (part ++ drop n area)))) 0
+    → putMid n (length (part ++ drop n area) - n) (part ++ drop n area) v ≡ replicate (length area) 0
+area-cleared n area part v h e z c =
+    let l = length-front area part n e in
+    tail-cleared n (part ++ drop n area) v (omega arith)
+    (λ j q.
+    sym (getD-take n (part ++ drop n area) j 0 q)
+    ∙ ap (λ (k : List ℕ). getD k j 0) (take-at part (drop n area) n (e ∙ length-take-le n area h)) ∙ z j)
+    c
+    ∙ ap (λ (k : ℕ). replicate k 0) l
 
 -- ---- the end
 
--- an area of which a front part was lent and came back, and which was cleared then
-pub front-cleared : (a part l : List ℕ) (n : ℕ) → length part ≡ length (take n a) → l ≡ replicate (length (part ++ drop n a)) 0 → l ≡ replicate (length a) 0
-front-cleared a part l n h e = e ∙ ap (λ (k : ℕ). replicate k 0) (length-front a part n h)
-
-pub ended-leaving : (lim : Limits) (half : ℕ) (s out₀ : List ℕ) (r n m top : ℕ) (out a b c d a₀ b₀ c₀ d₀ a₁ b₁ c₁ d₁ : List ℕ)
-    → Ended lim half s out₀ r n m top out a₁ b₁ c₁ d₁
+pub ended-leaving : (lim : Limits) (s out₀ : List ℕ) (r n m : ℕ) (out a b c d a₀ b₀ c₀ d₀ : List ℕ) → Ended lim s out₀ r n m out
     → a ≡ replicate (length a₀) 0 → b ≡ replicate (length b₀) 0 → c ≡ replicate (length c₀) 0 → d ≡ replicate (length d₀) 0
     → finished r n m out a b c d ≡ leaving (runOf lim s (length out₀)) out₀ a₀ b₀ c₀ d₀
 unfolding leaving
-ended-leaving lim half s out₀ r n m top out a b c d a₀ b₀ c₀ d₀ a₁ b₁ c₁ d₁ E ea eb ec ed =
+ended-leaving lim s out₀ r n m out a b c d a₀ b₀ c₀ d₀ E ea eb ec ed =
     let er = E .reason in
     let en = E .orders in
     let em = E .bytes in

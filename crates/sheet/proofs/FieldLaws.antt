@@ -9,24 +9,24 @@ use native.Mathlib.Omega.{arith}
 use borrow.Author.Tests.{ltb-true}
 use lib.Dec.{ltb}
 use lib.ListN.{length, length-append, length-drop, drop, getD, getElem?}
-use Rattle.terms.specs.Number.{digits, shortest}
-use Rattle.terms.specs.Parser.{Result, Parser, got, refused, bind, pick, return, refuse, byte, number}
-use Rattle.terms.specs.Term.{Term, Parts, var, node, end, num, sub, items, partItems, size, sizes, bytes, partBytes}
-use Rattle.terms.specs.Shape as shape
-use Rattle.terms.specs.Shape.{ceiling}
-use Rattle.terms.specs.Formed.{Fit, TakesTerm}
-use Rattle.terms.specs.Reading as reading
-use Rattle.terms.specs.Tree.{row}
-use Rattle.terms.specs.Questions.{Parameter}
-use Rattle.terms.specs.Substitution.{Entry, Receiver}
-use Rattle.terms.specs.Rows.{entries, receivers, arguments, entryRow, receiverRow, argumentRow}
-use Rattle.terms.specs.Parameters.{parameter, parameters}
-use Rattle.terms.specs.Lookup.{Pattern}
-use Rattle.terms.proofs.Bounds.{bounds, number-bounds}
-use Rattle.terms.proofs.Shortest.{Octets}
-use Rattle.terms.proofs.Sound.{Took, found, bare-found}
-use Rattle.terms.proofs.Weights.{bare-bound, weights-one, one}
-use Rattle.terms.proofs.Answers.{tokens-fit}
+use Rattle.solver.specs.Terms.Number.{digits, shortest}
+use Rattle.solver.specs.Terms.Parser.{Result, Parser, got, refused, bind, pick, return, refuse, byte, number}
+use Rattle.solver.specs.Terms.Term.{Term, Parts, var, node, end, num, sub, items, partItems, size, sizes, bytes, partBytes}
+use Rattle.solver.specs.Terms.Shape as shape
+use Rattle.solver.specs.Terms.Shape.{ceiling}
+use Rattle.solver.specs.Terms.Formed.{Fit, TakesTerm}
+use Rattle.solver.specs.Terms.Reading as reading
+use Rattle.solver.specs.Terms.Tree.{row}
+use Rattle.solver.specs.Terms.Questions.{Parameter}
+use Rattle.solver.specs.Terms.Substitution.{Entry, Receiver}
+use Rattle.solver.specs.Terms.Rows.{entries, receivers, arguments, entryRow, receiverRow, argumentRow}
+use Rattle.solver.specs.Terms.Parameters.{parameter, parameters}
+use Rattle.solver.specs.Terms.Lookup.{Pattern}
+use Rattle.solver.proofs.Terms.Bounds.{bounds, number-bounds}
+use Rattle.solver.proofs.Terms.Shortest.{Octets}
+use Rattle.solver.proofs.Terms.Sound.{Took, found, bare-found}
+use Rattle.solver.proofs.Terms.Weights.{bare-bound, weights-one, one}
+use Rattle.solver.proofs.Terms.Answers.{tokens-fit}
 use Rattle.sheet.specs.Fields as fields
 use Rattle.sheet.specs.Fields.{Sort, Kind, Field, Read, value, bare, levels, layout, known, kinds, nodes, allNodes, ruleNodes}
 use Rattle.sheet.specs.Formed.{FormedTree, FormedBare, FormedEntries, FormedReceivers, FormedTrees, FormedRules, FormedField, FormedFields}

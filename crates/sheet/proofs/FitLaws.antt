@@ -3,13 +3,13 @@ use mathlib.Core.Path.{_≡_, refl, sym}
 use mathlib.Core.List.{List, [], _∷_}
 use Prim.Native.Nat.{ℕ}
 use native.Mathlib.Omega.{arith}
-use Rattle.terms.specs.Parser.{Parser, Result, got, refused, bind, number}
-use Rattle.terms.specs.Shape as shape
-use Rattle.terms.specs.Shape.{ceiling}
-use Rattle.terms.specs.Reading as reading
-use Rattle.terms.specs.Substitution.{Receiver}
-use Rattle.terms.specs.Rows as rows
-use Rattle.terms.specs.Parameters as order
+use Rattle.solver.specs.Terms.Parser.{Parser, Result, got, refused, bind, number}
+use Rattle.solver.specs.Terms.Shape as shape
+use Rattle.solver.specs.Terms.Shape.{ceiling}
+use Rattle.solver.specs.Terms.Reading as reading
+use Rattle.solver.specs.Terms.Substitution.{Receiver}
+use Rattle.solver.specs.Terms.Rows as rows
+use Rattle.solver.specs.Terms.Parameters as order
 use Rattle.sheet.specs.Fields as fields
 use Rattle.sheet.specs.Fields.{Sort, Field, field, termField, nominalField, ruleList}
 use Rattle.sheet.specs.Given.{OfSort, Fits}

@@ -8,17 +8,17 @@ use native.Mathlib.Omega.{arith}
 use borrow.Author.Tests.{ltb-true}
 use lib.Dec.{ltb}
 use lib.ListN.{length, getElem?}
-use Rattle.terms.specs.Parser.{Result, Parser, got, refused, bind, pick, return, refuse, byte, number}
-use Rattle.terms.specs.Term.{Term}
-use Rattle.terms.specs.Tree.{unknown}
-use Rattle.terms.specs.Shape as shape
-use Rattle.terms.specs.Shape.{ceiling, kindOf}
-use Rattle.terms.specs.Formed.{Formed}
-use Rattle.terms.specs.Reading as reading
-use Rattle.terms.specs.Rows as rows
-use Rattle.terms.specs.Parameters.{parameters}
-use Rattle.terms.proofs.Shortest.{Octets}
-use Rattle.terms.proofs.Sound.{found}
+use Rattle.solver.specs.Terms.Parser.{Result, Parser, got, refused, bind, pick, return, refuse, byte, number}
+use Rattle.solver.specs.Terms.Term.{Term}
+use Rattle.solver.specs.Terms.Tree.{unknown}
+use Rattle.solver.specs.Terms.Shape as shape
+use Rattle.solver.specs.Terms.Shape.{ceiling, kindOf}
+use Rattle.solver.specs.Terms.Formed.{Formed}
+use Rattle.solver.specs.Terms.Reading as reading
+use Rattle.solver.specs.Terms.Rows as rows
+use Rattle.solver.specs.Terms.Parameters.{parameters}
+use Rattle.solver.proofs.Terms.Shortest.{Octets}
+use Rattle.solver.proofs.Terms.Sound.{found}
 use Rattle.sheet.specs.Fields as fields
 use Rattle.sheet.specs.Fields.{Sort, Kind, Field, Read, levels, layout, known, kinds, last, kindedOrder, readOrder}
 use Rattle.sheet.specs.Operations.{nth, numberOf, termOf, termAt}

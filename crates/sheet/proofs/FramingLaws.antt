@@ -9,8 +9,8 @@ use lib.Dec.{leb}
 use native.Mathlib.Numerals.{unary-clauses}
 use lib.ListN.{length, length-append, set}
 use lib.Seq.{sets, append-snoc, length-sets}
-use Rattle.terms.specs.Number.{shortest, digits}
-use Rattle.terms.proofs.WriteLaws.{sets-append}
+use Rattle.solver.specs.Terms.Number.{shortest, digits}
+use Rattle.solver.proofs.Terms.WriteLaws.{sets-append}
 use Rattle.sheet.specs.Operations.{Answer, refusal, outcome}
 use Rattle.sheet.specs.Sheet.{framed}
 use Rattle.sheet.specs.Written.{Framed, opening, Begun}

@@ -5,24 +5,24 @@ use mathlib.Core.Option.{some}
 use Prim.Native.Nat.{ℕ, _+_, _*_, _≤_, _<_}
 use native.Mathlib.Omega.{arith}
 use lib.ListN.{length, take, getElem?}
-use Rattle.terms.specs.declared.Binders.{Binders}
-use Rattle.terms.specs.Result.{got}
-use Rattle.terms.specs.Tokens.{spell}
-use Rattle.terms.specs.Term.{Term, Parts, node, end, partItems, Held, bytes}
-use Rattle.terms.specs.Held.{HeldParts}
-use Rattle.terms.specs.Shape as shape
-use Rattle.terms.specs.Formed.{Formed, Fit, Each}
-use Rattle.terms.specs.Tree.{nominalOf}
-use Rattle.terms.specs.Questions.{Parameter, is-resolved-in}
-use Rattle.terms.specs.Views.{conflicts-with, can-weaken-to, satisfies, satisfies-for}
-use Rattle.terms.specs.Recovery.{recover-from}
-use Rattle.terms.specs.Parameters.{parameters}
-use Rattle.terms.specs.Substitution as substitution
-use Rattle.terms.specs.Substitution.{Entry, Receiver, apply, contextual}
-use Rattle.terms.specs.Rows.{entryRow, receiverRow}
-use Rattle.terms.specs.Rewriting.{Ready, HeldBinders, forInstance, forContext, forFamily}
-use Rattle.terms.specs.Lookup.{Pattern, FormedPatterns}
-use Rattle.terms.specs.Normal.{normalize, with-associated-types}
+use Rattle.solver.specs.TermTypes.{Binders}
+use Rattle.solver.specs.Terms.Result.{got}
+use Rattle.solver.specs.Terms.Tokens.{spell}
+use Rattle.solver.specs.Terms.Term.{Term, Parts, node, end, partItems, Held, bytes}
+use Rattle.solver.specs.Terms.Held.{HeldParts}
+use Rattle.solver.specs.Terms.Shape as shape
+use Rattle.solver.specs.Terms.Formed.{Formed, Fit, Each}
+use Rattle.solver.specs.Terms.Tree.{nominalOf}
+use Rattle.solver.specs.Terms.Questions.{Parameter, is-resolved-in}
+use Rattle.solver.specs.Terms.Views.{conflicts-with, can-weaken-to, satisfies, satisfies-for}
+use Rattle.solver.specs.Terms.Recovery.{recover-from}
+use Rattle.solver.specs.Terms.Parameters.{parameters}
+use Rattle.solver.specs.Terms.Substitution as substitution
+use Rattle.solver.specs.Terms.Substitution.{Entry, Receiver, apply, contextual}
+use Rattle.solver.specs.Terms.Rows.{entryRow, receiverRow}
+use Rattle.solver.specs.Terms.Rewriting.{Ready, HeldBinders, forInstance, forContext, forFamily}
+use Rattle.solver.specs.Terms.Lookup.{Pattern, FormedPatterns}
+use Rattle.solver.specs.Terms.Normal.{normalize, with-associated-types}
 use Rattle.sheet.specs.declared.Order.{Order}
 use Rattle.sheet.specs.Fields as fields
 use Rattle.sheet.specs.Fields.{Kind, Field, kinds, layout, tree, bare, entered, received, named, listed, ruled}

@@ -1,5 +1,5 @@
 -- A session in the four areas: what the solver is lent of them, and an order answered there. Assumes nothing.
-use mathlib.Core.Path.{_≡_, refl, sym, ap, subst, _∙_}
+use mathlib.Core.Path.{_≡_, sym, ap, subst, _∙_}
 use mathlib.Core.Bool.{Bool, true, false, _&&_}
 use mathlib.Core.Option.{Option, none, some}
 use mathlib.Core.List.{List, _++_, append-nil}
@@ -8,7 +8,7 @@ use native.Mathlib.Omega.{arith}
 use lib.ListN.{length, take, drop, length-drop}
 use lib.Seq.{length-take-le, take-length, drop-length, drop-at}
 use borrow.Rule.Slice.PartMut.{postOf, putMid, post-is, take-put}
-use Rattle.terms.specs.Term.{Term, var, node, size}
+use Rattle.solver.specs.Terms.Term.{Term, var, node, size}
 use Rattle.solver.specs.declared.Solver.{Solver}
 use Rattle.solver.specs.Shapes.{loose}
 use Rattle.solver.specs.Families.{Request}
@@ -17,13 +17,14 @@ use Rattle.solver.specs.Session.{Limits, Session, Place, at, gap, find, deferri
 use Rattle.solver.specs.Orders as orders
 use Rattle.solver.specs.Orders.{order, variableAt, numberAt, holeAt, unless, known, crowded, full, posing, _gives_}
 use Rattle.solver.specs.Work.{Zero}
-use Rattle.solver.specs.Turning.{Scratch}
-use Rattle.solver.specs.Lent.{Arises, Lent, limitsOf}
+use Rattle.solver.specs.Turning.{Scratch, pendingFrom}
+use Rattle.solver.specs.Lent.{Lent}
 use Rattle.solver.specs.Methods.{Beside}
-use Rattle.sheet.specs.Sheet.{Step, solve, framed}
-use Rattle.sheet.specs.Lays.{Lays, Roomy, Answers}
+use Rattle.sheet.specs.Sheet.{Step, solve}
+use Rattle.sheet.specs.Lays.{Lays, Answers}
 use Rattle.sheet.specs.Ending.{Ready}
-use Rattle.sheet.specs.Doing.{Does, Poses, PosesPair, DoesPair}
+use Rattle.solver.specs.Behind.{Poses, PosesPair, Frames}
+use Rattle.sheet.specs.Doing.{Does, DoesPair}
 use Rattle.sheet.proofs.DoingLaws.{lent-revision}
 
 -- ---- room
@@ -32,8 +33,9 @@ module _ (x : Solver) (half : ℕ) (a b c d : List ℕ) (R : Ready x half a b c 
   pub ready-half : half ≤ length c
   ready-half = omega (arith, R .roomy .c-size, R .roomy .table)
 
-  pub ready-frames : x .revision + x .revision ≤ length d
-  ready-frames = omega (arith, R .roomy .d-size, R .roomy .marks, lent-revision _ _ _ _ _ (R .arises) (R .lays .lent))
+  pub ready-frames : Frames x d
+  ready-frames =
+      record { room = omega (arith, R .roomy .d-size, R .roomy .marks, lent-revision _ _ _ _ _ (R .arises) (R .lays .lent)); clear = R .lays .work }
 
 -- ---- what is kept stays kept
 
@@ -116,7 +118,7 @@ module _ {x : Solver} {half : ℕ} {a b c d : List ℕ} {z : Session} (Z : Lays 
 module _ {x : Solver} {half : ℕ} {a₀ b₀ c d : List ℕ} {z : Session} (Z : Lays x half a₀ b₀ c d z) (a b : List ℕ) (top : ℕ)
     (long-a : top ≤ length a) (rest-a : Zero (drop top a)) (rest-b : Zero (drop top b)) where
   pub lays-pair : (y : Solver) (c′ d′ : List ℕ) (s : Session) → top ≤ 64 + 6 * s .kept → Lent y (take top a) (take top b) (drop half c′) s → y .variables ≡ x .variables
-      → Zero (drop (7 * x .variables) (drop half c′)) → Zero (take half c′) → Zero d′ → Lays y half a b c′ d′ s
+      → Zero (drop (pendingFrom x) (drop half c′)) → Zero (take half c′) → Zero d′ → Lays y half a b c′ d′ s
   lays-pair y c′ d′ s m L v k f w =
       let e : top ≡ y .top = sym (L .top ∙ length-take-le top a long-a) in
       record {
@@ -183,12 +185,12 @@ module _ (half : ℕ) (c : List ℕ) where
   pub lent-tail : (x : Solver) (ks vs : List ℕ) (z : Session) → Lent x ks vs (drop half c) z → Lent x ks vs (take (length c - half) (drop half c)) z
   lent-tail x ks vs z L = subst (λ (l : List ℕ). Lent x ks vs l z) (sym tail-all) L
 
-  pub poses-tail : (x : Solver) (ks vs : List ℕ) (z : Session) (t : Term) → Poses x ks vs (drop half c) z t → Poses x ks vs (take (length c - half) (drop half c)) z t
-  poses-tail x ks vs z t P = subst (λ (l : List ℕ). Poses x ks vs l z t) (sym tail-all) P
+  pub poses-tail : (x : Solver) (ks vs : List ℕ) (z : Session) (t : Term) → Poses loose x ks vs (drop half c) z t → Poses loose x ks vs (take (length c - half) (drop half c)) z t
+  poses-tail x ks vs z t P = subst (λ (l : List ℕ). Poses loose x ks vs l z t) (sym tail-all) P
 
-  pub pair-tail : (x : Solver) (ks vs : List ℕ) (z : Session) (q : ℕ) (t u : Term) → PosesPair x ks vs (drop half c) z q t u
-      → PosesPair x ks vs (take (length c - half) (drop half c)) z q t u
-  pair-tail x ks vs z q t u P = subst (λ (l : List ℕ). PosesPair x ks vs l z q t u) (sym tail-all) P
+  pub pair-tail : (x : Solver) (ks vs : List ℕ) (z : Session) (q : ℕ) (t u : Term) → PosesPair loose x ks vs (drop half c) z q t u
+      → PosesPair loose x ks vs (take (length c - half) (drop half c)) z q t u
+  pair-tail x ks vs z q t u P = subst (λ (l : List ℕ). PosesPair loose x ks vs l z q t u) (sym tail-all) P
 
   pub scratch-tail : (x : Solver) (ks work : List ℕ) → Scratch x ks (drop half c) work → Scratch x ks (take (length c - half) (drop half c)) work
   scratch-tail x ks work S = subst (λ (l : List ℕ). Scratch x ks l work) (sym tail-all) S

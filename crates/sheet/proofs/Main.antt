@@ -8,27 +8,27 @@ use mathlib.Core.Option.{none}
 use Prim.Native.Nat.{ℕ, _+_, _-_, _≤_, _<_}
 use native.Mathlib.Omega.{arith}
 use lib.ListN.{length, getD, take, drop, replicate}
-use Rattle.terms.specs.Result.{got}
-use Rattle.terms.specs.Number.{number, shortest}
-use Rattle.terms.specs.Term.{Term, var, depth, AllVars, bytes}
-use Rattle.terms.specs.Formed.{Formed}
-use Rattle.terms.specs.Reading as reading
-use Rattle.terms.specs.Tree.{Nominal}
-use Rattle.terms.specs.Questions.{Parameter, is-concrete, is-resolved-in, contains-projection}
-use Rattle.terms.specs.Views.{conflicts-with, satisfies, satisfies-for}
-use Rattle.terms.specs.Recovery.{recover-from}
-use Rattle.terms.specs.Substitution.{Entry, orElse, get, instantiate}
-use Rattle.terms.specs.Normal.{Out, Rule, levels, visits, byRules, normalize}
-use Rattle.terms.proofs.QuestionLaws.{concrete-resolved}
-use Rattle.terms.proofs.ConflictLaws.{conflicts-swap}
-use Rattle.terms.proofs.RecoverLaws.{recover-self}
-use Rattle.terms.proofs.BoundLaws.{satisfies-trans, satisfies-more}
-use Rattle.terms.proofs.SubstitutionLaws.{nothing, get-append, instantiate-nothing}
-use Rattle.terms.proofs.NormalLaws.{normalise-plain}
-use Rattle.terms.proofs.Shortest as numbers
-use Rattle.terms.proofs.Shortest.{octets}
-use Rattle.terms.proofs.RoundTrip as terms
-use Rattle.terms.proofs.Sound.{FoundTerm, found}
+use Rattle.solver.specs.Terms.Result.{got}
+use Rattle.solver.specs.Terms.Number.{number, shortest}
+use Rattle.solver.specs.Terms.Term.{Term, var, depth, AllVars, bytes}
+use Rattle.solver.specs.Terms.Formed.{Formed}
+use Rattle.solver.specs.Terms.Reading as reading
+use Rattle.solver.specs.Terms.Tree.{Nominal}
+use Rattle.solver.specs.Terms.Questions.{Parameter, is-concrete, is-resolved-in, contains-projection}
+use Rattle.solver.specs.Terms.Views.{conflicts-with, satisfies, satisfies-for}
+use Rattle.solver.specs.Terms.Recovery.{recover-from}
+use Rattle.solver.specs.Terms.Substitution.{Entry, orElse, get, instantiate}
+use Rattle.solver.specs.Terms.Normal.{Out, Rule, levels, visits, byRules, normalize}
+use Rattle.solver.proofs.Terms.QuestionLaws.{concrete-resolved}
+use Rattle.solver.proofs.Terms.ConflictLaws.{conflicts-swap}
+use Rattle.solver.proofs.Terms.RecoverLaws.{recover-self}
+use Rattle.solver.proofs.Terms.BoundLaws.{satisfies-trans, satisfies-more}
+use Rattle.solver.proofs.Terms.SubstitutionLaws.{nothing, get-append, instantiate-nothing}
+use Rattle.solver.proofs.Terms.NormalLaws.{normalise-plain}
+use Rattle.solver.proofs.Terms.Shortest as numbers
+use Rattle.solver.proofs.Terms.Shortest.{octets}
+use Rattle.solver.proofs.Terms.RoundTrip as terms
+use Rattle.solver.proofs.Terms.Sound.{FoundTerm, found}
 use Rattle.solver.specs.Shapes.{loose}
 use Rattle.solver.specs.Solving.{resolved}
 use Rattle.solver.specs.Session.{Session, box, issued, fresh}

@@ -5,16 +5,16 @@ use mathlib.Core.Option.{Option, none, some}
 use mathlib.Core.Path.{_≡_, refl}
 use Prim.Native.Nat.{ℕ, zero, suc}
 use native.Mathlib.Decide.{ℕ-discrete}
-use Rattle.terms.specs.Result.{got, refused}
-use Rattle.terms.specs.Number.{number, groups, digits, shortest}
-use Rattle.terms.specs.Reading as reading
-use Rattle.terms.specs.Shape.{kindOf}
-use Rattle.terms.specs.Term.{Term, node, end, num, sub, size, bytes}
-use Rattle.terms.specs.Tree.{nums, subs, fill, children, withKids, row, tag, nominalSlot, projectionSlot, class, slotBy, same, lookUp, interfaceOf, receiverOf, memberOf, argumentsOf}
-use Rattle.terms.specs.Questions.{among, meets, first, second, countedBy, enteredBy, answered}
-use Rattle.terms.specs.Normal.{visitKids, memberFrom, traitMember, ownMember, replacement, walkBy, byRules}
-use Rattle.terms.specs.Views.{conflicts-with, collection-access, read-only-view, can-weaken-to}
-use Rattle.unify.specs.Solver.{put}
+use Rattle.solver.specs.Terms.Result.{got, refused}
+use Rattle.solver.specs.Terms.Number.{number, groups, digits, shortest}
+use Rattle.solver.specs.Terms.Reading as reading
+use Rattle.solver.specs.Terms.Shape.{kindOf}
+use Rattle.solver.specs.Terms.Term.{Term, node, end, num, sub, size, bytes}
+use Rattle.solver.specs.Terms.Tree.{nums, subs, fill, children, withKids, row, tag, nominalSlot, projectionSlot, class, slotBy, same, lookUp, interfaceOf, receiverOf, memberOf, argumentsOf}
+use Rattle.solver.specs.Terms.Questions.{among, meets, first, second, countedBy, enteredBy, answered}
+use Rattle.solver.specs.Terms.Normal.{visitKids, memberFrom, traitMember, ownMember, replacement, walkBy, byRules}
+use Rattle.solver.specs.Terms.Views.{conflicts-with, collection-access, read-only-view, can-weaken-to}
+use Rattle.solver.specs.Theory.Solver.{put}
 use Rattle.solver.specs.Families as families
 use Rattle.solver.specs.Shapes as shapes
 use Rattle.solver.specs.Solving as solving

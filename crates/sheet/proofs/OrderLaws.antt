@@ -7,23 +7,23 @@ use native.Mathlib.Decide.{decLt}
 use native.Mathlib.Omega.{arith}
 use borrow.Author.Tests.{lt-ltb, le-ltb, ne-eqb}
 use lib.ListN.{length, getD, drop}
-use Rattle.terms.specs.declared.Place.{Place}
-use Rattle.terms.specs.Parser.{Result, got, refused, bind, number}
-use Rattle.terms.specs.Shape as shape
-use Rattle.terms.specs.Shape.{ceiling}
-use Rattle.terms.specs.Reading as reading
-use Rattle.terms.specs.Lookup.{Pattern}
-use Rattle.terms.specs.Tokens.{Area, toks}
-use Rattle.terms.proofs.Answers.{stored-at}
-use Rattle.terms.proofs.Bounds.{number-bounds}
-use Rattle.terms.proofs.Steps.{one-group, at-byte, at-end}
-use Rattle.terms.proofs.Shortest.{Octets}
+use Rattle.solver.specs.TermTypes.{Place}
+use Rattle.solver.specs.Terms.Parser.{Result, got, refused, bind, number}
+use Rattle.solver.specs.Terms.Shape as shape
+use Rattle.solver.specs.Terms.Shape.{ceiling}
+use Rattle.solver.specs.Terms.Reading as reading
+use Rattle.solver.specs.Terms.Lookup.{Pattern}
+use Rattle.solver.specs.Terms.Tokens.{Area, toks}
+use Rattle.solver.proofs.Terms.Answers.{stored-at}
+use Rattle.solver.proofs.Terms.Bounds.{number-bounds}
+use Rattle.solver.proofs.Terms.Steps.{one-group, at-byte, at-end}
+use Rattle.solver.proofs.Terms.Shortest.{Octets}
 use Rattle.sheet.specs.declared.Order.{Order}
 use Rattle.sheet.specs.Fields as fields
 use Rattle.sheet.specs.Fields.{Field, Sort, ruled, kinds, nodes, allNodes, last, kindedOrder, readOrder}
 use Rattle.sheet.specs.Operations.{nth}
 use Rattle.sheet.specs.Laid.{sortOf, plainOf, packed, Plain, Plains, kindAt, sortsAt, knownAt, fieldItems, allItems, Free, Ample, noFields, Spots, finished, FieldDone, RulesDone}
-use Rattle.terms.specs.Lent.{stepOf}
+use Rattle.solver.specs.Terms.Lent.{stepOf}
 use Rattle.sheet.specs.Lent.{fieldOf}
 use Rattle.sheet.specs.Ordered.{OrderRoom, WholeOrder}
 use Rattle.sheet.proofs.StoredLaws.{stored-kinds, stored-before, stored-undo}

@@ -9,26 +9,24 @@ use native.Mathlib.Omega.{arith}
 use borrow.Author.Tests.{ne-eqb}
 use lib.Dec.{eqb}
 use lib.ListN.{length, getD}
-use Rattle.terms.specs.declared.Place.{Place}
-use Rattle.terms.specs.declared.Step.{Step}
-use Rattle.terms.specs.declared.Step.the-variants.{Next, Stopped}
-use Rattle.terms.specs.Parser.{Result, Parser, got, refused, bind, pick, _>>=_, return, number}
-use Rattle.terms.specs.Tokens.{Area}
-use Rattle.terms.specs.Term.{Term, Parts, node, items, partItems, size, sizes}
-use Rattle.terms.specs.Tree.{row}
-use Rattle.terms.specs.Shape as shape
-use Rattle.terms.specs.Shape.{ceiling}
-use Rattle.terms.specs.Reading as reading
-use Rattle.terms.specs.Lent.{place, stepOf}
-use Rattle.terms.specs.Done.{Room, RoomAfter, answer, kept, contents}
-use Rattle.terms.specs.Wanting.{part, nodesOf}
-use Rattle.terms.specs.Questions.{Parameter}
-use Rattle.terms.specs.Substitution.{Entry, Receiver}
-use Rattle.terms.specs.Parameters.{parameters, past}
-use Rattle.terms.specs.Rows as rows
-use Rattle.terms.specs.Rows.{entryRow, receiverRow, argumentRow, answerOf, keptOf}
-use Rattle.terms.proofs.Bounds.{number-bounds}
-use Rattle.terms.proofs.FieldLaws.{code-end, code-listed, code-unlisted}
+use Rattle.solver.specs.TermTypes.{Place, Step, Next, Stopped}
+use Rattle.solver.specs.Terms.Parser.{Result, Parser, got, refused, bind, pick, _>>=_, return, number}
+use Rattle.solver.specs.Terms.Tokens.{Area}
+use Rattle.solver.specs.Terms.Term.{Term, Parts, node, items, partItems, size, sizes}
+use Rattle.solver.specs.Terms.Tree.{row}
+use Rattle.solver.specs.Terms.Shape as shape
+use Rattle.solver.specs.Terms.Shape.{ceiling}
+use Rattle.solver.specs.Terms.Reading as reading
+use Rattle.solver.specs.Terms.Lent.{place, stepOf}
+use Rattle.solver.specs.Terms.Done.{Room, RoomAfter, answer, kept, contents}
+use Rattle.solver.specs.Terms.Wanting.{part, nodesOf}
+use Rattle.solver.specs.Terms.Questions.{Parameter}
+use Rattle.solver.specs.Terms.Substitution.{Entry, Receiver}
+use Rattle.solver.specs.Terms.Parameters.{parameters, past}
+use Rattle.solver.specs.Terms.Rows as rows
+use Rattle.solver.specs.Terms.Rows.{entryRow, receiverRow, argumentRow, answerOf, keptOf}
+use Rattle.solver.proofs.Terms.Bounds.{number-bounds}
+use Rattle.solver.proofs.Terms.FieldLaws.{code-end, code-listed, code-unlisted}
 use Rattle.solver.specs.Handing.{NumberSaid, PassedSaid, StepSaid, PartRead, ListRead}
 use Rattle.sheet.specs.declared.Spot.{Spot}
 use Rattle.sheet.specs.Fields as fields

@@ -6,9 +6,9 @@ use mathlib.Core.Logic.{_⊎_, inl, inr, _↔_}
 use mathlib.Core.Option.{Option, none, some}
 use Prim.Native.Nat.{ℕ, _+_, _≤_}
 use native.Mathlib.Omega.{arith}
-use Rattle.terms.specs.Term.{Term, size}
-use Rattle.terms.proofs.Bools.{never-true}
-use Rattle.unify.specs.Solver.{Out, cancelled, done}
+use Rattle.solver.specs.Terms.Term.{Term, size}
+use Rattle.solver.proofs.Terms.Bools.{never-true}
+use Rattle.solver.specs.Theory.Solver.{Out, cancelled, done}
 use Rattle.solver.specs.Shapes.{loose}
 use Rattle.solver.specs.Solving.{Solver, Pair, resolved, constrain}
 use Rattle.solver.specs.Session.{Limits, Session, issued, fresh}

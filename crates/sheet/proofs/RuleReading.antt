@@ -8,20 +8,18 @@ use borrow.Author.Tests.{le-leb}
 use lib.Dec.{leb}
 use lib.ListN.{length, length-append, length-set, getD, set}
 use lib.Seq.{sets, length-sets, getD-set-same, getD-set-other}
-use Rattle.terms.specs.declared.Place.{Place}
-use Rattle.terms.specs.declared.Rule.{Rule}
-use Rattle.terms.specs.declared.Step.the-variants.{Next, Stopped}
-use Rattle.terms.specs.Parser.{Result, Parser, got, refused, bind, pick, number}
-use Rattle.terms.specs.Tokens.{Item, Area, blank}
-use Rattle.terms.specs.Term.{Term, Parts, node, items, partItems}
-use Rattle.terms.specs.Shape as shape
-use Rattle.terms.specs.Shape.{ceiling}
-use Rattle.terms.specs.Reading as reading
-use Rattle.terms.specs.Rows as rows
-use Rattle.terms.specs.Rows.{argumentRow}
-use Rattle.terms.specs.Lookup.{Pattern, ruleAt, putRule}
-use Rattle.terms.proofs.HeldLaws.{items-some}
-use Rattle.terms.proofs.Shortest.{Octets}
+use Rattle.solver.specs.TermTypes.{Place, Rule, Next, Stopped}
+use Rattle.solver.specs.Terms.Parser.{Result, Parser, got, refused, bind, pick, number}
+use Rattle.solver.specs.Terms.Tokens.{Item, Area, blank}
+use Rattle.solver.specs.Terms.Term.{Term, Parts, node, items, partItems}
+use Rattle.solver.specs.Terms.Shape as shape
+use Rattle.solver.specs.Terms.Shape.{ceiling}
+use Rattle.solver.specs.Terms.Reading as reading
+use Rattle.solver.specs.Terms.Rows as rows
+use Rattle.solver.specs.Terms.Rows.{argumentRow}
+use Rattle.solver.specs.Terms.Lookup.{Pattern, ruleAt, putRule}
+use Rattle.solver.proofs.Terms.HeldLaws.{items-some}
+use Rattle.solver.proofs.Terms.Shortest.{Octets}
 use Rattle.sheet.specs.declared.Order.{Order}
 use Rattle.sheet.specs.Fields as fields
 use Rattle.sheet.specs.Fields.{Field, value, tree, bare, listed, levels, nodes, allNodes, ruleNodes}

@@ -1,7 +1,7 @@
 -- Short runs, by computation. Assumes nothing.
 use mathlib.Core.List.{[], _∷_}
 use mathlib.Core.Path.{_≡_, refl}
-use Rattle.terms.specs.Number.{groups}
+use Rattle.solver.specs.Terms.Number.{groups}
 use Rattle.solver.specs.Session.{box, fresh}
 use Rattle.sheet.specs.Fields.{kindedOrder, readOrder}
 use Rattle.sheet.specs.Sheet.{framed, ends, runFrom, runOf}

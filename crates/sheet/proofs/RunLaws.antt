@@ -8,7 +8,7 @@ use native.Mathlib.Omega.{arith}
 use borrow.Author.Tests.{le-leb, lt-leb, lt-ltb, le-ltb}
 use lib.ListN.{length, take, drop, length-append}
 use lib.Seq.{sets, sets-eq, length-sets, take-at, drop-append-add, drop-drop}
-use Rattle.terms.specs.Result.{Result, got, refused, pick}
+use Rattle.solver.specs.Terms.Result.{Result, got, refused, pick}
 use Rattle.solver.specs.declared.Solver.{Solver}
 use Rattle.solver.specs.Shapes.{loose}
 use Rattle.solver.specs.Session.{Limits, Session, issued, fresh}
@@ -19,7 +19,7 @@ use Rattle.sheet.specs.Fields as kind
 use Rattle.sheet.specs.Fields.{Kind, Field, Read, readOrder}
 use Rattle.sheet.specs.Sheet.{Run, step, stepRead, orderOf, framed, ends, answering, nextOrder, answered, runFrom, runOf}
 use Rattle.sheet.specs.Lays.{Lays, Roomy, Served}
-use Rattle.sheet.specs.Ending.{Ready, Ended}
+use Rattle.sheet.specs.Ending.{Ready, Ended, Left}
 use Rattle.sheet.proofs.EndingLaws.{roomy-same}
 use Rattle.sheet.proofs.SplittingLaws.{Ahead, next-ahead}
 
@@ -181,20 +181,16 @@ going-ready lim half s out₀ x out a b c d at to n g =
 
 -- ---- how it ends
 
-module _ (lim : Limits) (half : ℕ) (s out₀ : List ℕ) (x y : Solver) (out a b c d : List ℕ) (at to n : ℕ) (g : Going lim half s out₀ x out a b c d at to n) where
-  ending : (r : ℕ) (out′ a′ b′ c′ d′ : List ℕ) → limitsOf y ≡ limitsOf x → runFrom (limitsOf x) s (g .fuel) (g .session) at (length out₀ - to) ≡ ends r (g .session)
-      → out′ ≡ out → Lays y half a′ b′ c′ d′ (g .session) → Ended lim half s out₀ r n to (y .top) out′ a′ b′ c′ d′
-  ending r out′ a′ b′ c′ d′ v e o L =
-      subst (λ (l : Limits). Ended l half s out₀ r n to (y .top) out′ a′ b′ c′ d′) (g .limits)
+module _ (lim : Limits) (half : ℕ) (s out₀ : List ℕ) (x : Solver) (out a b c d : List ℕ) (at to n : ℕ) (g : Going lim half s out₀ x out a b c d at to n) where
+  ending : (r : ℕ) (out′ : List ℕ) → runFrom (limitsOf x) s (g .fuel) (g .session) at (length out₀ - to) ≡ ends r (g .session)
+      → out′ ≡ out → Ended lim s out₀ r n to out′
+  ending r out′ e o =
+      subst (λ (l : Limits). Ended l s out₀ r n to out′) (g .limits)
       (record {
         reason = sym (ap (λ (q : Run). q .reason) total);
         orders = sym (ap (λ (q : Run). q .orders) total ∙ none);
         bytes = sym (ap length answers ∙ g .sized);
         output = o ∙ g .output ∙ ap (λ (k : ℕ). g .written ++ drop k out₀) (sym (g .sized)) ∙ ap (λ (l : List ℕ). l ++ drop (length l) out₀) (sym answers);
-        solver = y;
-        limits = v;
-        ends = refl;
-        lays = subst (λ (z : Session). Lays y half a′ b′ c′ d′ z) (sym (ap (λ (q : Run). q .session) total)) L;
       })
     where
       total : runOf (limitsOf x) s (length out₀) ≡ after n (g .written) (ends r (g .session))
@@ -208,14 +204,18 @@ module _ (lim : Limits) (half : ℕ) (s out₀ : List ℕ) (x y : Solver) (out a
 
 module _ (lim : Limits) (half : ℕ) (s out₀ : List ℕ) (x : Solver) (out a b c d : List ℕ) (at to n : ℕ) (g : Going lim half s out₀ x out a b c d at to n) where
   -- the sheet is used up
-  pub ends-used : length s ≤ at → Ended lim half s out₀ 0 n to (x .top) out a b c d
-  ends-used h =
-      ending lim half s out₀ x x out a b c d at to n g 0 out a b c d refl (run-over (limitsOf x) s (g .fuel) (g .session) at (length out₀ - to) h) refl (g .lays)
+  pub ends-used : length s ≤ at → Ended lim s out₀ 0 n to out × Left x half a b c d
+  ends-used h = (
+    ending lim half s out₀ x out a b c d at to n g 0 out (run-over (limitsOf x) s (g .fuel) (g .session) at (length out₀ - to) h) refl,
+    record { session = g .session; lays = g .lays },
+  )
 
   -- a length is faulty
-  pub ends-faulty : at < length s → refused 10 ≡ nextOrder s at → Ended lim half s out₀ 10 n to (x .top) out a b c d
-  ends-faulty h e =
-      ending lim half s out₀ x x out a b c d at to n g 10 out a b c d refl (run-faulty (limitsOf x) s (g .fuel) (g .session) at (length out₀ - to) h (g .enough) e) refl (g .lays)
+  pub ends-faulty : at < length s → refused 10 ≡ nextOrder s at → Ended lim s out₀ 10 n to out × Left x half a b c d
+  ends-faulty h e = (
+    ending lim half s out₀ x out a b c d at to n g 10 out (run-faulty (limitsOf x) s (g .fuel) (g .session) at (length out₀ - to) h (g .enough) e) refl,
+    record { session = g .session; lays = g .lays },
+  )
 
   -- what came of the order in the session that there is
   module _ (y : Solver) (out′ a′ b′ c′ d′ b₀ : List ℕ) (r next : ℕ)
@@ -247,14 +247,16 @@ module _ (lim : Limits) (half : ℕ) (s out₀ : List ℕ) (x : Solver) (out a b
     same-limits = ap₂ {C = Limits} (λ v k. record { variables = v; nodes = k }) (served .variables) (served .nodes)
 
     -- an answer does not fit
-    pub ends-long : at < length s → got b₀ next ≡ nextOrder s at → length out < r → Ended lim half s out₀ 11 n to (y .top) out′ a′ b′ c′ d′
+    pub ends-long : at < length s → got b₀ next ≡ nextOrder s at → length out < r → Ended lim s out₀ 11 n to out′ × Left y half a′ b′ c′ d′
     unfolding a₀
     ends-long h e l =
         let t : length out < to + length (framed (orderOf (limitsOf x) (g .session) b₀ .answer)) = over l in
-        let q = served .long t in
-        ending lim half s out₀ x y out a b c d at to n g 11 out′ a′ b′ c′ d′ same-limits
-        (run-long (limitsOf x) s (g .fuel) (g .session) at (length out₀ - to) b₀ next h (g .enough) e (omega (arith, g .long, g .room)))
-        (q .1) (q .2)
+        let q = served .long t in (
+          ending lim half s out₀ x out a b c d at to n g 11 out′
+              (run-long (limitsOf x) s (g .fuel) (g .session) at (length out₀ - to) b₀ next h (g .enough) e (omega (arith, g .long, g .room)))
+              (q .1),
+          record { session = g .session; lays = q .2 },
+        )
 
     -- an order more
     pub going-on : at < length s → got b₀ next ≡ nextOrder s at → r ≤ length out

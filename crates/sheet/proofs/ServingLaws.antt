@@ -1,9 +1,9 @@
 -- An order answered in the areas: from the session and what was read to what each function asks, and back to the areas. Assumes nothing.
 use mathlib.Core.Path.{_≡_, refl, sym, ap, subst, _∙_}
-use mathlib.Core.Bool.{Bool, true, false, _&&_}
+use mathlib.Core.Bool.{Bool, true, false}
 use mathlib.Core.List.{List, [], _∷_, _++_, append-nil}
 use mathlib.Core.Logic.{inl, inr, ⊎-elim}
-use mathlib.Core.Option.{Option, none, some}
+use mathlib.Core.Option.{none, some}
 use Prim.Native.Nat.{ℕ, zero, suc, _+_, _-_, _*_, _^_, _≤_, _<_}
 use native.Mathlib.Decide.{decLt}
 use native.Mathlib.Omega.{arith}
@@ -11,49 +11,51 @@ use borrow.Author.Tests.{lt-ltb, le-ltb}
 use lib.Dec.{eqb, ltb}
 use lib.ListN.{length, length-append, length-drop, getD, getElem?, take, drop, take-append-drop, List·getD-eq-default}
 use lib.Seq.{length-take-le, getD-take, take-take}
-use Rattle.terms.specs.Result.{Result, got, refused}
-use Rattle.terms.specs.Tokens.{Item, Area, area, puts, blank, toks}
-use Rattle.terms.specs.Term.{Term, items, size, Held, AllVars, sub, end}
-use Rattle.terms.specs.Held.{HeldParts}
-use Rattle.terms.specs.Reading as reading
-use Rattle.terms.specs.Normal.{most}
-use Rattle.terms.specs.Normalising.{Lends}
-use Rattle.terms.proofs.HeldLaws.{held-sub}
-use Rattle.terms.proofs.ViewLaws.{toks-same}
+use Rattle.solver.specs.Terms.Result.{Result, got, refused}
+use Rattle.solver.specs.Terms.Tokens.{Item, Area, area, puts, blank, toks}
+use Rattle.solver.specs.Terms.Term.{Term, items, size, Held, AllVars, sub, end}
+use Rattle.solver.specs.Terms.Held.{HeldParts}
+use Rattle.solver.specs.Terms.Reading as reading
+use Rattle.solver.specs.Terms.Normal.{most}
+use Rattle.solver.specs.Terms.Normalising.{Lends}
+use Rattle.solver.proofs.Terms.HeldLaws.{held-sub}
+use Rattle.solver.proofs.Terms.ViewLaws.{toks-same}
 use Rattle.solver.specs.declared.Solver.{Solver}
 use Rattle.solver.specs.Shapes.{loose}
 use Rattle.solver.specs.Session.{Limits, Session, issued}
 use Rattle.solver.specs.Orders as orders
 use Rattle.solver.specs.Orders.{order, known}
 use Rattle.solver.specs.Work.{Zero}
-use Rattle.solver.specs.Turning.{Scratch}
-use Rattle.solver.specs.Lent.{Arises, Lent, limitsOf}
+use Rattle.solver.specs.Turning.{Scratch, pendingFrom}
+use Rattle.solver.specs.Lent.{Arises, limitsOf}
 use Rattle.solver.proofs.OrderedLaws.{within-known}
 use Rattle.sheet.specs.declared.Order.{Order}
 use Rattle.sheet.specs.Fields as fields
 use Rattle.sheet.specs.Fields.{Kind, Sort, Field, Read, value, tree, kinds, layout, allNodes, nodes, readOrder}
 use Rattle.sheet.specs.Operations.{Answer, refusal, operation, nth, termOf, numberOf}
-use Rattle.sheet.specs.Sheet.{Step, answerOf, solve, step, operate, stepRead, orderOf}
+use Rattle.sheet.specs.Sheet.{Step, answerOf, solve, step, stepRead, orderOf}
 use Rattle.sheet.specs.declared.Spot.{Spot}
 use Rattle.sheet.specs.Held.{HeldField}
 use Rattle.sheet.specs.Formed.{FormedField, FormedFields}
 use Rattle.sheet.specs.Given.{OfSort, Fits}
-use Rattle.sheet.specs.Laid.{Laid, fieldItems, allItems, spare, spares, Spots, spotAt, startAt}
+use Rattle.sheet.specs.Laid.{Laid, fieldItems, allItems, spare, spares, spotAt, startAt}
 use Rattle.sheet.specs.Ordered.{RulesRoom, OrderRoom, WholeOrder}
 use Rattle.sheet.specs.Written.{Framed}
 use Rattle.sheet.specs.Answering.{Asks, Replies}
-use Rattle.sheet.specs.Lays.{Lays, Roomy, Answers}
+use Rattle.sheet.specs.Lays.{Lays, Answers}
 use Rattle.sheet.specs.Ending.{Ready}
-use Rattle.sheet.specs.Doing.{Does, plainCommand, Behind, Poses, PosesPair, DoesPair}
+use Rattle.solver.specs.Behind.{Behind, Poses, PosesPair}
+use Rattle.sheet.specs.Doing.{Does, plainCommand, DoesPair}
 use Rattle.sheet.specs.Taken.{Taken, Serves}
 use Rattle.sheet.proofs.StoredLaws.{zero-free, free-kinds, free-vals}
 use Rattle.sheet.proofs.FieldLaws.{parts-of, same-value, code-after}
-use Rattle.sheet.proofs.TableLaws.{kind-listed, kind-unlisted}
+use Rattle.sheet.proofs.TableLaws.{kind-unlisted}
 use Rattle.sheet.proofs.UseLaws as use-laws
 use Rattle.sheet.proofs.UseLaws.{order-long, nth-formed}
+use Rattle.sheet.proofs.DoingLaws.{loose-codes}
 use Rattle.sheet.proofs.PosingLaws as posing
 use Rattle.sheet.proofs.StepLaws.{operation-step}
-use Rattle.sheet.proofs.LaysLaws.{solve-kept, answers-does, answers-pair, unanswered-pair}
+use Rattle.sheet.proofs.LaysLaws.{answers-does, answers-pair, unanswered-pair}
 
 -- ---- room to read
 
@@ -490,9 +492,10 @@ module _ (x : Solver) (half : ℕ) (s a₀ b₀ a b c d ws : List ℕ) (o : Orde
   long-b : length (take (o .top) b) ≡ o .top
   long-b = length-take-le (o .top) b taken-b
 
-  behind : (z : Session) → Arises (limitsOf x) loose z → Lays x half a₀ b₀ c d z → Behind x (take (o .top) a) (take (o .top) b) (drop half c) z
+  behind : (z : Session) → Arises (limitsOf x) loose z → Lays x half a₀ b₀ c d z → Behind loose x (take (o .top) a) (take (o .top) b) (drop half c) z
   behind z A Z =
       record {
+        codes = loose-codes;
         arises = A;
         lent = rw (cut-a, cut-b) (Z .lent);
         inside = omega (arith, long-a, taken-after);
@@ -521,7 +524,7 @@ module _ (x : Solver) (half : ℕ) (s a₀ b₀ a b c d ws : List ℕ) (o : Orde
         let g = subst (λ (l : List Field). FormedFields (fields.known (T .whole .read .kind) (x .issued)) l) is (T .whole .formed) in
         subst (λ (n : ℕ). AllVars (λ v. v < n) t) all (g .0 .below)
 
-    pub poses : (z : Session) → Arises (limitsOf x) loose z → Lays x half a₀ b₀ c d z → Poses x (take (o .top) a) (take (o .top) b) (drop half c) z t
+    pub poses : (z : Session) → Arises (limitsOf x) loose z → Lays x half a₀ b₀ c d z → Poses loose x (take (o .top) a) (take (o .top) b) (drop half c) z t
     poses z A Z =
         let n : length (allItems fs) ≡ length (items t) = ap length one-items in
         record {
@@ -607,7 +610,7 @@ module _ (x : Solver) (half : ℕ) (s a₀ b₀ a b c d ws : List ℕ) (o : Orde
       pair-row = use-laws.pair-row s (x .issued) (x .top) (x .kept) (x .nodes) (area a₀ b₀) (area a b) ws o (T .whole) (T .within) n t u is
 
       pub poses-pair : (z : Session) → Arises (limitsOf x) loose z → Lays x half a₀ b₀ c d z
-          → PosesPair x (take (o .top) a) (take (o .top) b) (drop half c) z (o .third .place) t u
+          → PosesPair loose x (take (o .top) a) (take (o .top) b) (drop half c) z (o .third .place) t u
       unfolding FormedFields
       poses-pair z A Z =
           let l = held-sub a b (x .top) (o .top) t (sub u end) pair-row in
@@ -647,7 +650,7 @@ module _ (x : Solver) (half : ℕ) (s a₀ b₀ a b c d ws : List ℕ) (o : Orde
             clear = T .ready .lays .work;
           }
 
-      pub pair-blank : Zero (drop (7 * x .variables) (drop half c))
+      pub pair-blank : Zero (drop (pendingFrom x) (drop half c))
       pair-blank = T .ready .lays .blank
 
       pair-kept : (z : Session) → Arises (limitsOf x) loose z → Lays x half a₀ b₀ c d z → o .top ≤ 64 + 6 * solve (limitsOf x) z (orders.pair n t u) .session .kept
@@ -658,7 +661,7 @@ module _ (x : Solver) (half : ℕ) (s a₀ b₀ a b c d ws : List ℕ) (o : Orde
           omega (arith, pair-few, pair-nodes z Z)
 
       module _ (y : Solver) (c′ d′ out₀ : List ℕ) (to : ℕ) (out : List ℕ) (r : ℕ) (front : take half c′ ≡ take half c) (clear : Zero d′) (k : ℕ) (ek : k ≡ n)
-          (E : (z : Session) → PosesPair x (take (o .top) a) (take (o .top) b) (drop half c) z (o .third .place) t u → o .nodes ≡ z .kept + (size t + size u)
+          (E : (z : Session) → PosesPair loose x (take (o .top) a) (take (o .top) b) (drop half c) z (o .third .place) t u → o .nodes ≡ z .kept + (size t + size u)
           → DoesPair x y (take (o .top) a) (take (o .top) b) (drop half c) (drop half c′) z (solve (limitsOf x) z (orders.pair k t u)) out₀ to out r) where
         does : (z : Session) → Arises (limitsOf x) loose z → Lays x half a₀ b₀ c d z
             → DoesPair x y (take (o .top) a) (take (o .top) b) (drop half c) (drop half c′) z (solve (limitsOf x) z (orders.pair n t u)) out₀ to out r

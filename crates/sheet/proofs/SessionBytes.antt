@@ -9,15 +9,15 @@ use native.Mathlib.Omega.{arith}
 use borrow.Author.Tests.{lt-leb, lt-ltb, le-ltb}
 use lib.Dec.{ltb, leb}
 use lib.ListN.{length, getElem?}
-use Rattle.terms.specs.Result.{Result, got, refused, pick}
-use Rattle.terms.specs.Parser.{bind, byte}
-use Rattle.terms.specs.Term.{Term, var, size, depth, AllVars, bytes}
-use Rattle.terms.specs.Shape as shape
-use Rattle.terms.specs.Shape.{ceiling}
-use Rattle.terms.specs.Formed.{Formed}
-use Rattle.terms.specs.Reading as reading
-use Rattle.terms.specs.Questions.{meets}
-use Rattle.terms.proofs.RoundTrip.{round-trip}
+use Rattle.solver.specs.Terms.Result.{Result, got, refused, pick}
+use Rattle.solver.specs.Terms.Parser.{bind, byte}
+use Rattle.solver.specs.Terms.Term.{Term, var, size, depth, AllVars, bytes}
+use Rattle.solver.specs.Terms.Shape as shape
+use Rattle.solver.specs.Terms.Shape.{ceiling}
+use Rattle.solver.specs.Terms.Formed.{Formed}
+use Rattle.solver.specs.Terms.Reading as reading
+use Rattle.solver.specs.Terms.Questions.{meets}
+use Rattle.solver.proofs.Terms.RoundTrip.{round-trip}
 use Rattle.solver.specs.Shapes.{loose}
 use Rattle.solver.specs.Solving.{resolved}
 use Rattle.solver.specs.Session.{Limits, Session, issued, fresh}

@@ -8,11 +8,11 @@ use native.Mathlib.Omega.{arith}
 use borrow.Author.Tests.{lt-ltb, le-ltb, ltb-false}
 use lib.Dec.{ltb}
 use lib.ListN.{length, take, drop, drop-of-length-le}
-use Rattle.terms.specs.Result.{Result, got, refused, pick}
-use Rattle.terms.specs.Number.{number, groups}
-use Rattle.terms.specs.Shape as shape
-use Rattle.terms.specs.Shape.{ceiling}
-use Rattle.terms.proofs.Bounds.{Bounded, number-bounds}
+use Rattle.solver.specs.Terms.Result.{Result, got, refused, pick}
+use Rattle.solver.specs.Terms.Number.{number, groups}
+use Rattle.solver.specs.Terms.Shape as shape
+use Rattle.solver.specs.Terms.Shape.{ceiling}
+use Rattle.solver.proofs.Terms.Bounds.{Bounded, number-bounds}
 use Rattle.sheet.specs.Sheet.{part, nextOrder}
 
 -- nothing is read past the end

@@ -7,12 +7,12 @@ use native.Mathlib.Omega.{arith}
 use borrow.Author.Tests.{ne-eqb}
 use lib.ListN.{length, length-append, getD, take}
 use lib.Seq.{getD-take, length-take-le}
-use Rattle.terms.specs.Tokens.{Item, item, spell, toks}
-use Rattle.terms.specs.Term.{Term, var, node, end, sub, items, partItems, size}
-use Rattle.terms.specs.Tree.{putTerms}
-use Rattle.terms.specs.Rows.{argumentRow}
-use Rattle.terms.specs.Substitution.{Receiver}
-use Rattle.terms.specs.Lookup.{Pattern, ruleAt, HeldRule, Ruled}
+use Rattle.solver.specs.Terms.Tokens.{Item, item, spell, toks}
+use Rattle.solver.specs.Terms.Term.{Term, var, node, end, sub, items, partItems, size}
+use Rattle.solver.specs.Terms.Tree.{putTerms}
+use Rattle.solver.specs.Terms.Rows.{argumentRow}
+use Rattle.solver.specs.Terms.Substitution.{Receiver}
+use Rattle.solver.specs.Terms.Lookup.{Pattern, ruleAt, HeldRule, Ruled}
 use Rattle.sheet.specs.declared.Spot.{Spot}
 use Rattle.sheet.specs.declared.Order.{Order}
 use Rattle.sheet.specs.Fields as fields

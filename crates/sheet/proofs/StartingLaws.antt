@@ -1,90 +1,46 @@
--- The areas cleared, the builtins stored, and a fresh session there. Assumes nothing.
-use mathlib.Core.Path.{_≡_, refl, sym, subst, _∙_}
+-- A fresh session laid in the four areas, and the session that a run leaves there. Assumes nothing.
+use mathlib.Core.Path.{_≡_, sym, ap, subst, _∙_}
 use mathlib.Core.List.{List, _++_}
-use Prim.Native.Nat.{ℕ, zero, suc, _+_, _*_, _^_, _≤_, _<_}
-use native.Mathlib.Numerals.{add-one}
+use Prim.Native.Nat.{ℕ, _-_, _≤_}
 use native.Mathlib.Omega.{arith}
-use lib.ListN.{length, getD, set, take, drop, replicate, length-drop, length-set, length-replicate, getD-replicate}
-use lib.Seq.{ext-getD, length-take-le, take-at, drop-at}
-use Rattle.terms.specs.Tokens.{spell, toks}
-use Rattle.terms.specs.Term.{node, end, num, Held}
-use Rattle.solver.specs.Session.{fresh}
-use Rattle.solver.specs.Lent.{builtinTokens, Lent}
+use lib.ListN.{length, take, drop, replicate, length-replicate}
+use lib.Seq.{length-front, length-take-le, take-at, drop-at}
+use borrow.Rule.Slice.PartMut.{putMid, take-put}
+use Rattle.solver.specs.declared.Solver.{Solver}
+use Rattle.solver.specs.Session.{Session, fresh}
+use Rattle.solver.specs.Whole.{Holds, counters}
 use Rattle.solver.specs.Work.{Zero}
-use Rattle.solver.proofs.WorkLaws.{zero-take, zero-drop}
-use Rattle.solver.proofs.LentLaws.{builtins-more, builtins-put, builtins-held, lent-fresh}
+use Rattle.solver.proofs.WholeLaws.{zero-cleared}
 use Rattle.sheet.specs.Lays.{Lays}
-use Rattle.sheet.specs.Ending.{counters}
+use Rattle.sheet.proofs.LaysLaws.{tail-all, tail-back}
 
--- ---- words all 0
+-- the front of c was cleared
+module _ (half : ℕ) (c f : List ℕ) (inside : half ≤ length c) (cleared : f ≡ replicate (length (take half c)) 0) where
+  front-size : length f ≡ length (take half c)
+  front-size = ap length cleared ∙ length-replicate (length (take half c)) 0
 
-pub all-zero : (l : List ℕ) (n : ℕ) → length l ≡ n → ((j : ℕ) → j < n → getD l j 0 ≡ 0) → l ≡ replicate n 0
-all-zero l n e z =
-    ext-getD 0 l (replicate n 0) (e ∙ sym (length-replicate n 0)) (λ i h. z i (omega arith) ∙ sym (getD-replicate n i 0 0 (omega arith)))
+  pub front-inside : half ≤ length (f ++ drop half c)
+  front-inside = omega (arith, length-front c f half front-size)
 
-pub zero-all : (n : ℕ) → Zero (replicate n 0)
-zero-all zero i = refl
-zero-all (suc n) zero = refl
-zero-all (suc n) (suc i) = zero-all n i
+  pub front-rest : drop half (f ++ drop half c) ≡ drop half c
+  front-rest = drop-at f (drop half c) half (front-size ∙ length-take-le half c inside)
 
-pub zero-cleared : (l : List ℕ) (n : ℕ) → l ≡ replicate n 0 → Zero l
-zero-cleared l n e = subst Zero (sym e) (zero-all n)
+  -- and the solver has a fresh session in a, b and the rest of c
+  pub lays-fresh : (variables nodes : ℕ) (x : Solver) (a b ts d : List ℕ) → x ≡ counters variables nodes → Zero d → Holds (counters variables nodes) a b ts fresh
+      → Lays x half a b (putMid half (length (f ++ drop half c) - half) (f ++ drop half c) ts) d fresh
+  lays-fresh variables nodes x a b ts d e w H =
+      rw e
+      (record {
+        lent = rw (tail-back half (f ++ drop half c) ts front-inside) (H .lent);
+        kinds = H .kinds;
+        vals = H .vals;
+        front = rw (take-put half (length (f ++ drop half c) - half) (f ++ drop half c) ts front-inside, take-at f (drop half c) half (front-size ∙ length-take-le half c inside)) (zero-cleared f (length (take half c)) cleared);
+        blank = rw (tail-back half (f ++ drop half c) ts front-inside) (H .blank);
+        work = w;
+        few = omega arith;
+      })
 
--- the front of a list that is as long as another
-pub front-long : (k : ℕ) (l l₀ : List ℕ) → length l ≡ length l₀ → k ≤ length l₀ → length (take k l) ≡ k
-front-long k l l₀ e h = length-take-le k l (omega arith)
-
--- ---- the builtins
-
--- the first n builtins are stored in two areas of 64 words
-pub record Stored (a b : List ℕ) (n : ℕ) : Type 0 where
-  pub a-long : length a ≡ 64
-  pub b-long : length b ≡ 64
-  pub few : n ≤ 32
-  pub tokens : toks a b 0 (n + n) ≡ builtinTokens n
-
-pub stored-none : (a b : List ℕ) → length a ≡ 64 → length b ≡ 64 → Stored a b 0
-unfolding spell builtinTokens
-stored-none a b p q = record { a-long = p; b-long = q; few = omega arith; tokens = refl }
-
-pub stored-more : (a b : List ℕ) (n : ℕ) → Stored a b n → n < 32
-    → Stored (set (set a (n + n) 6) (n + n + 1) 0) (set (set b (n + n) 2) (n + n + 1) n) (n + 1)
-stored-more a b n s h =
-    record {
-      a-long = length-set (set a (n + n) 6) (n + n + 1) 0 ∙ length-set a (n + n) 6 ∙ s .a-long;
-      b-long = length-set (set b (n + n) 2) (n + n + 1) n ∙ length-set b (n + n) 2 ∙ s .b-long;
-      few = omega arith;
-      tokens =
-          subst (λ (k : ℕ). toks (set (set a (n + n) 6) (n + n + 1) 0) (set (set b (n + n) 2) (n + n + 1) n) 0 (k + k) ≡ builtinTokens k) (sym (add-one n))
-          (builtins-put a b n (omega (arith, s .a-long)) (s .b-long ∙ sym (s .a-long)) (s .tokens));
-    }
-
-pub stored-all : (a b : List ℕ) (n : ℕ) → Stored a b n → 32 ≤ n → (c : ℕ) → c < 32 → Held a b (c + c) (node 4 (num c end))
-stored-all a b n s h c l = builtins-held a b n (omega (arith, s .a-long, s .few)) (s .tokens) c (omega arith)
-
-tokens-held : (ks vs : List ℕ) (n : ℕ) → ((c : ℕ) → c < n → Held ks vs (c + c) (node 4 (num c end))) → toks ks vs 0 (n + n) ≡ builtinTokens n
-unfolding spell builtinTokens
-tokens-held ks vs zero h = refl
-tokens-held ks vs (suc n) h = builtins-more ks vs n (tokens-held ks vs n (λ c l. h c (omega arith))) (h n (omega arith))
-
--- ---- a fresh session
-
-pub lays-fresh : (variables nodes half : ℕ) (ks vs a b c d : List ℕ) → length ks ≡ 64 → length vs ≡ 64
-    → ((i : ℕ) → i < 32 → Held ks vs (i + i) (node 4 (num i end))) → Zero a → Zero b → Zero c → Zero d
-    → variables < 2 ^ 32 → half + 7 * variables ≤ length c
-    → Lays (counters variables nodes) half (ks ++ drop 64 a) (vs ++ drop 64 b) c d fresh
-lays-fresh variables nodes half ks vs a b c d lk lv h za zb zc zd narrow room =
-    record {
-      lent = rw (take-at ks (drop 64 a) 64 lk, take-at vs (drop 64 b) 64 lv) held;
-      kinds = rw (drop-at ks (drop 64 a) 64 lk) (zero-drop 64 a za);
-      vals = rw (drop-at vs (drop 64 b) 64 lv) (zero-drop 64 b zb);
-      front = zero-take half c zc;
-      blank = zero-drop (7 * variables) (drop half c) (zero-drop half c zc);
-      work = zd;
-      few = omega arith;
-    }
-  where
-    held : Lent (counters variables nodes) ks vs (drop half c) fresh
-    held =
-        lent-fresh (counters variables nodes) ks vs (drop half c) refl refl refl refl lk lv narrow (omega (arith, length-drop half c)) (tokens-held ks vs 32 h)
-        (zero-drop half c zc)
+-- a session in the four areas, as the solver finds it
+pub lays-holds : (x : Solver) (half : ℕ) (a b c d : List ℕ) (z : Session) → Lays x half a b c d z → Holds x a b (take (length c - half) (drop half c)) z
+lays-holds x half a b c d z L =
+    subst (λ (l : List ℕ). Holds x a b l z) (sym (tail-all half c)) (record { lent = L .lent; kinds = L .kinds; vals = L .vals; blank = L .blank })

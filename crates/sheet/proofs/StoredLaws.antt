@@ -9,11 +9,11 @@ use borrow.Author.Tests.{le-leb}
 use lib.Dec.{leb}
 use lib.ListN.{length, length-append, getD, set, drop}
 use lib.Seq.{set-comm, set-getD, getD-drop, getD-set-same}
-use Rattle.terms.specs.declared.Place.{Place}
-use Rattle.terms.specs.Result.{pick}
-use Rattle.terms.specs.Tokens.{Item, item, Area, area, put, puts, zeros, blank, before}
-use Rattle.terms.specs.Done.{Only}
-use Rattle.terms.proofs.StoreLaws.{puts-append, cover, only-wider, only-kinds, only-vals, only-before}
+use Rattle.solver.specs.TermTypes.{Place}
+use Rattle.solver.specs.Terms.Result.{pick}
+use Rattle.solver.specs.Terms.Tokens.{Item, item, Area, area, put, puts, zeros, blank, before}
+use Rattle.solver.specs.Terms.Done.{Only}
+use Rattle.solver.proofs.Terms.StoreLaws.{puts-append, cover, only-wider, only-kinds, only-vals, only-before}
 use Rattle.solver.specs.Work.{Zero}
 use Rattle.sheet.specs.Laid.{Free, Stored, Ample}
 

@@ -4,10 +4,10 @@ use mathlib.Core.List.{List, [], _∷_, _++_, append-assoc}
 use Prim.Native.Nat.{ℕ, _+_, _-_, _%_, _/_, _≤_, _<_}
 use native.Mathlib.Omega.{arith}
 use lib.ListN.{length, length-append}
-use Rattle.terms.specs.declared.Place.{Place}
-use Rattle.terms.specs.Parser.{Result, got, refused, bind}
-use Rattle.terms.specs.Tokens.{Area, blank}
-use Rattle.terms.proofs.Shortest.{Octets}
+use Rattle.solver.specs.TermTypes.{Place}
+use Rattle.solver.specs.Terms.Parser.{Result, got, refused, bind}
+use Rattle.solver.specs.Terms.Tokens.{Area, blank}
+use Rattle.solver.proofs.Terms.Shortest.{Octets}
 use Rattle.sheet.specs.declared.Spot.{Spot}
 use Rattle.sheet.specs.declared.Order.{Order}
 use Rattle.sheet.specs.Fields.{Sort, Field, field, fields, allNodes, nodes}

@@ -8,10 +8,10 @@ use native.Mathlib.Omega.{arith}
 use borrow.Author.Tests.{ne-eqb}
 use lib.Dec.{eqb}
 use lib.ListN.{length}
-use Rattle.terms.specs.Tokens.{Item, item, Area, zeros}
-use Rattle.terms.specs.Term.{Term, Parts, var, node, end, num, sub, items, partItems, size, sizes}
-use Rattle.terms.specs.Held.{HeldParts}
-use Rattle.terms.proofs.StoreLaws.{length-kinds, length-vals}
+use Rattle.solver.specs.Terms.Tokens.{Item, item, Area, zeros}
+use Rattle.solver.specs.Terms.Term.{Term, Parts, var, node, end, num, sub, items, partItems, size, sizes}
+use Rattle.solver.specs.Terms.Held.{HeldParts}
+use Rattle.solver.proofs.Terms.StoreLaws.{length-kinds, length-vals}
 use Rattle.solver.specs.Lent.{begins}
 use Rattle.sheet.specs.declared.Order.{Order}
 use Rattle.sheet.specs.Fields.{Field, value, tree, nodes}

@@ -5,17 +5,17 @@ use mathlib.Core.List.{List}
 use mathlib.Core.Option.{some}
 use Prim.Native.Nat.{ℕ, _≤_, _<_}
 use lib.ListN.{length, getElem?}
-use Rattle.terms.specs.declared.Binders.{Binders}
-use Rattle.terms.specs.Term.{Term, Parts, node, Held}
-use Rattle.terms.specs.Held.{HeldParts}
-use Rattle.terms.specs.Shape as shape
-use Rattle.terms.specs.Formed.{Formed, Fit}
-use Rattle.terms.specs.Questions.{Parameter}
-use Rattle.terms.specs.Parameters.{parameters}
-use Rattle.terms.specs.Substitution.{Entry, Receiver}
-use Rattle.terms.specs.Rows.{argumentRow}
-use Rattle.terms.specs.Rewriting.{HeldBinders}
-use Rattle.terms.specs.Lookup.{Pattern, FormedPatterns, Ruled}
+use Rattle.solver.specs.TermTypes.{Binders}
+use Rattle.solver.specs.Terms.Term.{Term, Parts, node, Held}
+use Rattle.solver.specs.Terms.Held.{HeldParts}
+use Rattle.solver.specs.Terms.Shape as shape
+use Rattle.solver.specs.Terms.Formed.{Formed, Fit}
+use Rattle.solver.specs.Terms.Questions.{Parameter}
+use Rattle.solver.specs.Terms.Parameters.{parameters}
+use Rattle.solver.specs.Terms.Substitution.{Entry, Receiver}
+use Rattle.solver.specs.Terms.Rows.{argumentRow}
+use Rattle.solver.specs.Terms.Rewriting.{HeldBinders}
+use Rattle.solver.specs.Terms.Lookup.{Pattern, FormedPatterns, Ruled}
 use Rattle.sheet.specs.declared.Order.{Order}
 use Rattle.sheet.specs.Fields.{Kind, Field, kinds}
 use Rattle.sheet.specs.Operations.{Answer, operation}

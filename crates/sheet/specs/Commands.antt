@@ -2,7 +2,7 @@
 use mathlib.Core.List.{List, [], _∷_}
 use mathlib.Core.Option.{Option, none, some}
 use Prim.Native.Nat.{ℕ}
-use Rattle.terms.specs.Result.{Result, got, refused}
+use Rattle.solver.specs.Terms.Result.{Result, got, refused}
 use Rattle.solver.specs.Families.{requested}
 use Rattle.solver.specs.Session.{Limits, Session, issued}
 use Rattle.solver.specs.Orders as solver

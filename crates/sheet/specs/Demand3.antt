@@ -6,10 +6,10 @@ use mathlib.Core.List.{List, [], _∷_, _++_}
 use mathlib.Core.Option.{Option, none, some}
 use Prim.Native.Nat.{ℕ, zero, suc, _<_}
 use lib.Dec.{eqb}
-use Rattle.terms.specs.Result.{Result, got, refused, pick}
-use Rattle.terms.specs.Term.{Term}
-use Rattle.terms.specs.Questions.{meets}
-use Rattle.unify.specs.Solver.{put}
+use Rattle.solver.specs.Terms.Result.{Result, got, refused, pick}
+use Rattle.solver.specs.Terms.Term.{Term}
+use Rattle.solver.specs.Terms.Questions.{meets}
+use Rattle.solver.specs.Theory.Solver.{put}
 use Rattle.solver.specs.Families.{Request, requested}
 use Rattle.solver.specs.Shapes.{loose}
 use Rattle.solver.specs.Solving.{Pair, always}

@@ -1,15 +1,14 @@
 -- Orders 0 to 8 on the counters, the tokens and the table that the solver is lent. Assumes nothing.
 use mathlib.Core.List.{List}
 use mathlib.Core.Path.{_≡_}
-use Prim.Native.Nat.{ℕ, zero, suc, _+_, _*_, _^_, _≤_, _<_}
-use lib.ListN.{length, take, drop}
-use Rattle.terms.specs.Term.{Term, items, size, AllVars, Held}
+use Prim.Native.Nat.{ℕ, zero, suc, _+_, _≤_, _<_}
+use lib.ListN.{length, drop}
 use Rattle.solver.specs.declared.Solver.{Solver}
 use Rattle.solver.specs.Families.{requested}
-use Rattle.solver.specs.Shapes.{loose}
-use Rattle.solver.specs.Session.{Session, issued}
+use Rattle.solver.specs.Session.{Session}
 use Rattle.solver.specs.Orders.{Command, variable, number, hole, numbers, nevers, revision}
-use Rattle.solver.specs.Lent.{Arises, Lent, limitsOf}
+use Rattle.solver.specs.Lent.{Lent}
+use Rattle.solver.specs.Turning.{pendingFrom}
 use Rattle.solver.specs.Work.{Zero}
 use Rattle.solver.specs.Methods.{Beside}
 use Rattle.sheet.specs.Sheet.{Step, framed}
@@ -35,39 +34,11 @@ plainCommand (suc (suc (suc (suc (suc (suc zero)))))) a b = numbers
 plainCommand (suc (suc (suc (suc (suc (suc (suc zero))))))) a b = nevers
 plainCommand (suc (suc (suc (suc (suc (suc (suc (suc k)))))))) a b = revision
 
--- ---- orders with terms, which stand behind the tokens of the session
-
--- the session z is held by the first tokens of ks and vs
-pub record Behind (x : Solver) (ks vs ts : List ℕ) (z : Session) : Type 0 where
-  pub arises : Arises (limitsOf x) loose z
-  pub lent : Lent x (take (x .top) ks) (take (x .top) vs) ts z
-  pub inside : x .top ≤ length ks
-  pub pairs : length vs ≡ length ks
-  pub short : length ks < 2 ^ 32
-
--- orders 3 and 5: the term t follows, its variables issued, and its nodes may be kept
-pub record Poses (x : Solver) (ks vs ts : List ℕ) (z : Session) (t : Term) : Type 0 where
-  pub behind : Behind x ks vs ts z
-  pub held : Held ks vs (x .top) t
-  pub within : AllVars (λ v. v < issued z) t
-  pub few : z .kept + size t ≤ x .nodes
-
--- order 4: two terms follow and are all that follows, the second at q
-pub record PosesPair (x : Solver) (ks vs ts : List ℕ) (z : Session) (q : ℕ) (t u : Term) : Type 0 where
-  pub behind : Behind x ks vs ts z
-  pub left : Held ks vs (x .top) t
-  pub right : Held ks vs (x .top + length (items t)) u
-  pub all : length ks ≡ x .top + length (items t) + length (items u)
-  pub place : q ≡ x .top + length (items t)
-  pub within-left : AllVars (λ v. v < issued z) t
-  pub within-right : AllVars (λ v. v < issued z) u
-  pub few : z .kept + (size t + size u) ≤ x .nodes
-
 -- order 4 done: where its answer fits, the session after it is held by all of the tokens; else all is as it was
 pub record DoesPair (x y : Solver) (ks vs ts us : List ℕ) (z : Session) (st : Step) (out₀ : List ℕ) (to : ℕ) (out : List ℕ) (r : ℕ) : Type 0 where
   pub answer : Framed (st .answer) out₀ to out r
   pub whole : to + length (framed (st .answer)) ≤ length out₀ → Lent y ks vs us (st .session)
   pub long : length out₀ < to + length (framed (st .answer)) → (y ≡ x) × (us ≡ ts)
-  pub blank : Zero (drop (7 * x .variables) us)
+  pub blank : Zero (drop (pendingFrom x) us)
   pub variables : y .variables ≡ x .variables
   pub nodes : y .nodes ≡ x .nodes

@@ -2,10 +2,10 @@
 use mathlib.Core.Bool.{Bool, _&&_}
 use mathlib.Core.List.{List, _++_}
 use mathlib.Core.Path.{_≡_}
-use Prim.Native.Nat.{ℕ, _+_, _≤_, _<_}
+use Prim.Native.Nat.{ℕ, _+_}
 use lib.Dec.{leb}
-use lib.ListN.{length, getD, take, drop, replicate}
-use Rattle.terms.specs.Result.{Result, got, refused, pick}
+use lib.ListN.{length, take, drop, replicate}
+use Rattle.solver.specs.Terms.Result.{Result, got, refused, pick}
 use Rattle.solver.specs.declared.Solver.{Solver}
 use Rattle.solver.specs.Shapes.{loose}
 use Rattle.solver.specs.Session.{Limits, Session}
@@ -20,10 +20,6 @@ abbrev pub partOf : List ℕ → Frame → Result (List ℕ)
 partOf s (Lies from size) = got (take size (drop from s)) (from + size)
 partOf s Faulty = refused 10
 
--- the counters of a fresh session: the 32 builtins take 64 tokens
-abbrev pub counters : ℕ → ℕ → Solver
-counters variables nodes = record { variables = variables; nodes = nodes; issued = 0; revision = 0; kept = 0; top = 64 }
-
 -- As an order finds the areas: they are large enough, and hold a session that some list of orders leaves.
 pub record Ready (x : Solver) (half : ℕ) (a b c d : List ℕ) : Type 0 where
   pub roomy : Roomy x half (length a) a b c d
@@ -33,24 +29,17 @@ pub record Ready (x : Solver) (half : ℕ) (a b c d : List ℕ) : Type 0 where
 
 -- ---- the run
 
--- A run of the sheet s ended: reason, orders and bytes are those of the definition, the output is its answers and then the old bytes, and the
--- areas hold its session, whose tokens end before `top`.
-pub record Ended (lim : Limits) (half : ℕ) (s out₀ : List ℕ) (r n m top : ℕ) (out a b c d : List ℕ) : Type 0 where
+-- A run of the sheet s ended: reason, orders and bytes are those of the definition, and the output is its answers and then the old bytes.
+pub record Ended (lim : Limits) (s out₀ : List ℕ) (r n m : ℕ) (out : List ℕ) : Type 0 where
   pub reason : r ≡ runOf lim s (length out₀) .reason
   pub orders : n ≡ runOf lim s (length out₀) .orders
   pub bytes : m ≡ length (runOf lim s (length out₀) .answers)
   pub output : out ≡ runOf lim s (length out₀) .answers ++ drop (length (runOf lim s (length out₀) .answers)) out₀
-  pub solver : Solver
-  pub limits : limitsOf solver ≡ lim
-  pub ends : top ≡ solver .top
-  pub lays : Lays solver half a b c d (runOf lim s (length out₀) .session)
 
--- of the first `words` words of an area only `count` from `from` on can be other than 0
-pub record Used (area : List ℕ) (from count words : ℕ) : Type 0 where
-  pub within : from + count ≤ words
-  pub inside : words ≤ length area
-  pub before : (j : ℕ) → j < from → getD area j 0 ≡ 0
-  pub after : (j : ℕ) → from + count ≤ j → j < words → getD area j 0 ≡ 0
+-- the areas that it leaves hold a session
+pub record Left (x : Solver) (half : ℕ) (a b c d : List ℕ) : Type 0 where
+  pub session : Session
+  pub lays : Lays x half a b c d session
 
 -- what a run hands back, and the end state of all that it was lent
 pub record Finish : Type 0 where

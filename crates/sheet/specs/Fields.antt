@@ -4,19 +4,19 @@ use mathlib.Core.Option.{Option, none, some}
 use Prim.Native.Nat.{ℕ, zero, suc, _+_}
 use lib.Dec.{ltb}
 use lib.ListN.{length, getElem?}
-use Rattle.terms.specs.Parser.{Parser, Result, got, refused, pick, _>>=_, return, refuse, byte, number}
-use Rattle.terms.specs.Shape as shape
-use Rattle.terms.specs.Shape.{ceiling}
-use Rattle.terms.specs.Term.{Term, Parts, node, size, sizes}
-use Rattle.terms.specs.Tree.{row}
-use Rattle.terms.specs.Reading as reading
-use Rattle.terms.specs.Done.{contents}
-use Rattle.terms.specs.Questions.{Parameter}
-use Rattle.terms.specs.Substitution.{Entry, Receiver}
-use Rattle.terms.specs.Rows as rows
-use Rattle.terms.specs.Rows.{entryRow, receiverRow, argumentRow}
-use Rattle.terms.specs.Parameters as order
-use Rattle.terms.specs.Lookup.{Pattern}
+use Rattle.solver.specs.Terms.Parser.{Parser, Result, got, refused, pick, _>>=_, return, refuse, byte, number}
+use Rattle.solver.specs.Terms.Shape as shape
+use Rattle.solver.specs.Terms.Shape.{ceiling}
+use Rattle.solver.specs.Terms.Term.{Term, Parts, node, size, sizes}
+use Rattle.solver.specs.Terms.Tree.{row}
+use Rattle.solver.specs.Terms.Reading as reading
+use Rattle.solver.specs.Terms.Done.{contents}
+use Rattle.solver.specs.Terms.Questions.{Parameter}
+use Rattle.solver.specs.Terms.Substitution.{Entry, Receiver}
+use Rattle.solver.specs.Terms.Rows as rows
+use Rattle.solver.specs.Terms.Rows.{entryRow, receiverRow, argumentRow}
+use Rattle.solver.specs.Terms.Parameters as order
+use Rattle.solver.specs.Terms.Lookup.{Pattern}
 
 -- what a field is
 pub data Sort : Type 0 where

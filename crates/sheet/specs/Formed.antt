@@ -1,12 +1,12 @@
 -- Fields whose terms keep to their tags' layouts, and whose variables are below a number: so are those that the bytes of an order say. Assumes nothing.
 use mathlib.Core.List.{List, [], _∷_}
 use Prim.Native.Nat.{ℕ, _≤_, _<_}
-use Rattle.terms.specs.Term.{Term, Parts, AllVars, AllVarsParts}
-use Rattle.terms.specs.Shape as shape
-use Rattle.terms.specs.Shape.{ceiling}
-use Rattle.terms.specs.Formed.{Formed, Fit}
-use Rattle.terms.specs.Substitution.{Entry, Receiver}
-use Rattle.terms.specs.Lookup.{Pattern}
+use Rattle.solver.specs.Terms.Term.{Term, Parts, AllVars, AllVarsParts}
+use Rattle.solver.specs.Terms.Shape as shape
+use Rattle.solver.specs.Terms.Shape.{ceiling}
+use Rattle.solver.specs.Terms.Formed.{Formed, Fit}
+use Rattle.solver.specs.Terms.Substitution.{Entry, Receiver}
+use Rattle.solver.specs.Terms.Lookup.{Pattern}
 use Rattle.sheet.specs.Fields.{Field, value, tree, bare, entered, received, named, listed, ruled}
 
 -- a term whose variables are below `known`, and the row of a bare nominal

@@ -2,10 +2,10 @@
 use mathlib.Core.Path.{_≡_}
 use mathlib.Core.List.{List, [], _∷_}
 use Prim.Native.Nat.{ℕ}
-use Rattle.terms.specs.Term.{Term, Parts}
-use Rattle.terms.specs.Questions.{Parameter}
-use Rattle.terms.specs.Substitution.{Entry, Receiver}
-use Rattle.terms.specs.Lookup.{Pattern}
+use Rattle.solver.specs.Terms.Term.{Term, Parts}
+use Rattle.solver.specs.Terms.Questions.{Parameter}
+use Rattle.solver.specs.Terms.Substitution.{Entry, Receiver}
+use Rattle.solver.specs.Terms.Lookup.{Pattern}
 use Rattle.sheet.specs.declared.Order.{Order}
 use Rattle.sheet.specs.Fields as fields
 use Rattle.sheet.specs.Fields.{Sort, Kind, Field, layout, value, tree, bare, entered, received, named, listed, ruled}

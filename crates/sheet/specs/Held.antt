@@ -3,12 +3,12 @@ use mathlib.Core.List.{List}
 use mathlib.Core.Path.{_≡_}
 use Prim.Native.Nat.{ℕ, _*_, _≤_}
 use lib.ListN.{length, take}
-use Rattle.terms.specs.Result.{got}
-use Rattle.terms.specs.Term.{node, Held}
-use Rattle.terms.specs.Held.{HeldParts}
-use Rattle.terms.specs.Rows.{entryRow, receiverRow, argumentRow}
-use Rattle.terms.specs.Parameters.{parameters}
-use Rattle.terms.specs.Lookup.{Ruled}
+use Rattle.solver.specs.Terms.Result.{got}
+use Rattle.solver.specs.Terms.Term.{node, Held}
+use Rattle.solver.specs.Terms.Held.{HeldParts}
+use Rattle.solver.specs.Terms.Rows.{entryRow, receiverRow, argumentRow}
+use Rattle.solver.specs.Terms.Parameters.{parameters}
+use Rattle.solver.specs.Terms.Lookup.{Ruled}
 use Rattle.sheet.specs.declared.Spot.{Spot}
 use Rattle.sheet.specs.declared.Order.{Order}
 use Rattle.sheet.specs.Fields.{Field, value, tree, bare, entered, received, named, listed, ruled}

@@ -4,20 +4,17 @@ use mathlib.Core.Path.{_≡_}
 use Prim.Native.Nat.{ℕ, zero, suc, _+_, _-_, _*_, _^_, _≤_, _<_}
 use lib.Dec.{eqb}
 use lib.ListN.{length, getD}
-use Rattle.terms.specs.declared.Place.{Place}
-use Rattle.terms.specs.declared.Rule.{Rule}
-use Rattle.terms.specs.declared.Step.{Step}
-use Rattle.terms.specs.declared.Step.the-variants.{Next, Stopped}
-use Rattle.terms.specs.Parser.{Parser, Result, got, refused, pick, _>>=_, return, number}
-use Rattle.terms.specs.Tokens.{Item, Area, puts, blank}
-use Rattle.terms.specs.Term.{node, items, partItems}
-use Rattle.terms.specs.Rows as rows
-use Rattle.terms.specs.Shape as shape
-use Rattle.terms.specs.Shape.{ceiling}
-use Rattle.terms.specs.Rows.{entryRow, receiverRow, argumentRow}
-use Rattle.terms.specs.Parameters.{parameters}
-use Rattle.terms.specs.Lookup.{Pattern, ruleAt, putRule}
-use Rattle.terms.specs.Done.{Only}
+use Rattle.solver.specs.TermTypes.{Place, Rule, Step, Next, Stopped}
+use Rattle.solver.specs.Terms.Parser.{Parser, Result, got, refused, pick, _>>=_, return, number}
+use Rattle.solver.specs.Terms.Tokens.{Item, Area, puts, blank}
+use Rattle.solver.specs.Terms.Term.{node, items, partItems}
+use Rattle.solver.specs.Terms.Rows as rows
+use Rattle.solver.specs.Terms.Shape as shape
+use Rattle.solver.specs.Terms.Shape.{ceiling}
+use Rattle.solver.specs.Terms.Rows.{entryRow, receiverRow, argumentRow}
+use Rattle.solver.specs.Terms.Parameters.{parameters}
+use Rattle.solver.specs.Terms.Lookup.{Pattern, ruleAt, putRule}
+use Rattle.solver.specs.Terms.Done.{Only}
 use Rattle.sheet.specs.declared.Spot.{Spot}
 use Rattle.sheet.specs.declared.Order.{Order}
 use Rattle.sheet.specs.Fields as fields

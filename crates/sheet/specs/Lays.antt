@@ -8,6 +8,8 @@ use Rattle.solver.specs.declared.Solver.{Solver}
 use Rattle.solver.specs.Session.{Session}
 use Rattle.solver.specs.Lent.{Lent, limitsOf}
 use Rattle.solver.specs.Work.{Zero}
+use Rattle.solver.specs.Turning.{pendingFrom}
+use Rattle.solver.specs.Whole.{tableWords}
 use Rattle.sheet.specs.Sheet.{Step, orderOf, framed}
 
 -- The counters x and the areas hold the session s, and every other word is 0: the tokens stand at the start of a and b, the table in c from
@@ -17,7 +19,7 @@ pub record Lays (x : Solver) (half : ℕ) (a b c d : List ℕ) (s : Session) : T
   pub kinds : Zero (drop (x .top) a)
   pub vals : Zero (drop (x .top) b)
   pub front : Zero (take half c)
-  pub blank : Zero (drop (7 * x .variables) (drop half c))
+  pub blank : Zero (drop (pendingFrom x) (drop half c))
   pub work : Zero d
   -- the builtins have 64 tokens, and a node has at most six
   pub few : x .top ≤ 64 + 6 * x .kept
@@ -33,7 +35,7 @@ pub record Roomy (x : Solver) (half words : ℕ) (a b c d : List ℕ) : Type 0 w
   pub tokens : 64 + 6 * x .nodes + 16 ≤ words
   pub few : words ≤ 32768
   pub records : 8192 ≤ half
-  pub table : half + 7 * x .variables + 2 * (32 + x .nodes) ≤ words
+  pub table : half + tableWords x ≤ words
   pub links : 64 + 6 * x .nodes + 16 + (32 + x .nodes) ≤ words
   pub marks : x .variables + x .variables ≤ words
   pub rules : x .nodes ≤ 2048

@@ -2,8 +2,8 @@
 -- the numbers are its spot and the place after it; any other code is the refusal, and the numbers are of no use. Assumes nothing.
 use mathlib.Core.List.{List}
 use Prim.Native.Nat.{ℕ, zero, suc}
-use Rattle.terms.specs.Lent.{place}
-use Rattle.terms.specs.Result.{Result}
+use Rattle.solver.specs.Terms.Lent.{place}
+use Rattle.solver.specs.Terms.Result.{Result}
 use Rattle.sheet.specs.Fields.{Field}
 use Rattle.sheet.specs.Laid.{FieldRead, Spotted, Unread, ReadOnly}
 

@@ -3,17 +3,17 @@ use mathlib.Core.Bool.{Bool, true, false}
 use mathlib.Core.List.{List, [], _∷_, map}
 use mathlib.Core.Option.{Option, none, some}
 use Prim.Native.Nat.{ℕ, zero, suc}
-use Rattle.terms.specs.Result.{pick}
-use Rattle.terms.specs.Term.{Term, Parts, end, bytes}
-use Rattle.terms.specs.Tree.{unknown, Nominal, nominalOf}
-use Rattle.terms.specs.Questions.{Parameter, answered, is-resolved-in}
-use Rattle.terms.specs.Views.{conflicts-with, can-weaken-to, satisfies, satisfies-for}
-use Rattle.terms.specs.Recovery.{recover-from}
-use Rattle.terms.specs.Substitution as substitution
-use Rattle.terms.specs.Substitution.{Entry, Receiver, TypeSubstitution, apply}
-use Rattle.terms.specs.Lookup.{Pattern}
-use Rattle.terms.specs.Normal as normal
-use Rattle.terms.specs.Normal.{Rule, Out, normalize}
+use Rattle.solver.specs.Terms.Result.{pick}
+use Rattle.solver.specs.Terms.Term.{Term, Parts, end, bytes}
+use Rattle.solver.specs.Terms.Tree.{unknown, Nominal, nominalOf}
+use Rattle.solver.specs.Terms.Questions.{Parameter, answered, is-resolved-in}
+use Rattle.solver.specs.Terms.Views.{conflicts-with, can-weaken-to, satisfies, satisfies-for}
+use Rattle.solver.specs.Terms.Recovery.{recover-from}
+use Rattle.solver.specs.Terms.Substitution as substitution
+use Rattle.solver.specs.Terms.Substitution.{Entry, Receiver, TypeSubstitution, apply}
+use Rattle.solver.specs.Terms.Lookup.{Pattern}
+use Rattle.solver.specs.Terms.Normal as normal
+use Rattle.solver.specs.Terms.Normal.{Rule, Out, normalize}
 use Rattle.sheet.specs.Fields as fields
 use Rattle.sheet.specs.Fields.{Kind, Field, value, tree, bare, entered, received, named, listed, ruled}
 

@@ -5,8 +5,8 @@ use mathlib.Core.Option.{some}
 use mathlib.Core.Path.{_≡_}
 use Prim.Native.Nat.{ℕ, _+_, _-_, _*_, _^_, _≤_, _<_}
 use lib.ListN.{length, getD, getElem?}
-use Rattle.terms.specs.Result.{got, refused}
-use Rattle.terms.specs.Tokens.{Area, area, puts, blank, before, toks}
+use Rattle.solver.specs.Terms.Result.{got, refused}
+use Rattle.solver.specs.Terms.Tokens.{Area, area, puts, blank, before, toks}
 use Rattle.sheet.specs.declared.Order.{Order}
 use Rattle.sheet.specs.declared.Reading.{Reading}
 use Rattle.sheet.specs.declared.Reading.the-variants.{Whole, Refused}

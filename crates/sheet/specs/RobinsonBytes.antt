@@ -6,9 +6,9 @@ use mathlib.Core.List.{List, [], _∷_}
 use mathlib.Core.Logic.{_⊎_}
 use mathlib.Core.Option.{none, some}
 use Prim.Native.Nat.{ℕ, _≤_, _<_}
-use Rattle.terms.specs.Term.{Term, var, bytes}
-use Rattle.terms.specs.Shape as shape
-use Rattle.terms.specs.Shape.{ceiling}
+use Rattle.solver.specs.Terms.Term.{Term, var, bytes}
+use Rattle.solver.specs.Terms.Shape as shape
+use Rattle.solver.specs.Terms.Shape.{ceiling}
 use Rattle.solver.specs.Shapes.{loose}
 use Rattle.solver.specs.Solving.{resolved}
 use Rattle.solver.specs.Session.{Limits, Session, issued}

@@ -4,12 +4,12 @@ use mathlib.Core.List.{List, [], _∷_, _++_}
 use Prim.Native.Nat.{ℕ, zero, suc, _+_, _-_}
 use lib.Dec.{ltb, leb}
 use lib.ListN.{length, take, drop}
-use Rattle.terms.specs.Result.{Result, got, refused, pick}
-use Rattle.terms.specs.Number.{number, shortest}
-use Rattle.terms.specs.Shape as shape
-use Rattle.terms.specs.Shape.{ceiling}
-use Rattle.terms.specs.Term.{bytes}
-use Rattle.terms.specs.Views.{conflicts-with, can-weaken-to}
+use Rattle.solver.specs.Terms.Result.{Result, got, refused, pick}
+use Rattle.solver.specs.Terms.Number.{number, shortest}
+use Rattle.solver.specs.Terms.Shape as shape
+use Rattle.solver.specs.Terms.Shape.{ceiling}
+use Rattle.solver.specs.Terms.Term.{bytes}
+use Rattle.solver.specs.Terms.Views.{conflicts-with, can-weaken-to}
 use Rattle.solver.specs.Families.{requested}
 use Rattle.solver.specs.Shapes.{loose}
 use Rattle.solver.specs.Session.{Limits, Session, issued, fresh}

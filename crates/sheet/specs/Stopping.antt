@@ -4,7 +4,7 @@ use mathlib.Core.List.{List}
 use mathlib.Core.Logic.{_⊎_}
 use Prim.Native.Nat.{ℕ, zero, suc, _≤_, _<_}
 use lib.ListN.{length}
-use Rattle.terms.specs.Result.{Result, got, refused}
+use Rattle.solver.specs.Terms.Result.{Result, got, refused}
 use Rattle.solver.specs.Session.{Limits, Session}
 use Rattle.sheet.specs.Sheet.{orderOf, framed, nextOrder}
 

@@ -1,7 +1,7 @@
 -- An order taken into the areas behind a session, and an order served there. Assumes nothing.
 use mathlib.Core.List.{List}
 use Prim.Native.Nat.{ℕ, _≤_}
-use Rattle.terms.specs.Tokens.{area}
+use Rattle.solver.specs.Terms.Tokens.{area}
 use Rattle.solver.specs.declared.Solver.{Solver}
 use Rattle.solver.specs.Shapes.{loose}
 use Rattle.solver.specs.Session.{Session}

@@ -4,7 +4,7 @@ use mathlib.Core.List.{List, [], _∷_, _++_}
 use Prim.Native.Nat.{ℕ, suc, _+_, _≤_, _<_}
 use lib.ListN.{length}
 use lib.Seq.{sets}
-use Rattle.terms.specs.Number.{shortest}
+use Rattle.solver.specs.Terms.Number.{shortest}
 use Rattle.sheet.specs.Operations.{Answer}
 use Rattle.sheet.specs.Sheet.{framed}
 

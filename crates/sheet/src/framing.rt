@@ -4,7 +4,7 @@ use solver::number_len;
 use solver::write_number;
 ghost use lib.ListN.{length};
 ghost use mathlib.Core.List.{[], _∷_};
-ghost use Rattle.terms.specs.Number.{shortest};
+ghost use Rattle.solver.specs.Terms.Number.{shortest};
 ghost use Rattle.sheet.specs.Operations.{refusal, outcome};
 ghost use Rattle.sheet.specs.Written.{Room, Framed, Begun};
 

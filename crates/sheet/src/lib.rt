@@ -62,8 +62,8 @@ pub struct Report {
     pub bytes: usize,
 }
 
-// A run that ended: what it returns, and the token after the last one that it left.
+// A run that ended: what it returns, and the solver that it left.
 pub struct Closed {
     pub report: Report,
-    pub top: usize,
+    pub solver: Solver,
 }

@@ -2,28 +2,24 @@
 use super::Reached;
 use super::framing::nothing;
 use super::framing::told;
-use super::solving::resolve_at;
+use super::solving::resolved;
 use solver::Solver;
+use solver::Subject;
 use solver::Verdict;
-use solver::top_at;
 ghost use mathlib.Core.Path.{_≡_};
-ghost use Prim.Native.Nat.{ℕ, _+_, _*_, _≤_};
-ghost use lib.ListN.{length, take, drop};
-ghost use Rattle.terms.specs.Term.{Term, size};
+ghost use Prim.Native.Nat.{_+_};
+ghost use lib.ListN.{take, drop};
+ghost use Rattle.solver.specs.Terms.Term.{Term, size};
+ghost use Rattle.solver.specs.Shapes.{loose};
 ghost use Rattle.solver.specs.Session.{Session};
 ghost use Rattle.solver.specs.Orders as orders;
 ghost use Rattle.solver.specs.Work.{Zero};
-ghost use Rattle.solver.specs.Turning.{Scratch};
+ghost use Rattle.solver.specs.Turning.{Scratch, pendingFrom};
 ghost use Rattle.solver.specs.Lent.{limitsOf, verdictNumber};
 ghost use Rattle.sheet.specs.Sheet.{solve};
 ghost use Rattle.sheet.specs.Written.{Room};
-ghost use Rattle.sheet.specs.Doing.{Does, Poses, PosesPair, DoesPair};
-
-fn wide(x: u32) -> usize
-    ensures { λ r. ⌜ r ≡ x ⌝ }
-{
-    x as usize
-}
+ghost use Rattle.solver.specs.Behind.{Poses, PosesPair, Frames};
+ghost use Rattle.sheet.specs.Doing.{Does, DoesPair};
 
 // Order 3: the variable that the term behind the session's tokens stands for, if it stands for one, is deferred.
 pub fn defer_term(
@@ -34,25 +30,16 @@ pub fn defer_term(
     out: &mut [u8],
     to: usize,
 ) -> Reached
-    requires held { ⌜ ((z : Session) × (t : Term) × Poses x (now kinds) (now vals) (now tables) z t) ⌝ }
+    requires held { ⌜ ((z : Session) × (t : Term) × Poses loose x (now kinds) (now vals) (now tables) z t) ⌝ }
     requires room { ⌜ Room (now out) to ⌝ }
-    ensures { λ r. ⌜ ((z : Session) (t : Term) → Poses x (now (kinds .entry)) (now (vals .entry)) (now (tables .entry)) z t → Does x (r .solver) (take (x .top) (now (kinds .entry))) (take (x .top) (now (vals .entry))) (now (tables .entry)) (now (tables .exit)) z (solve (limitsOf x) z (orders.defer t)) (now (out .entry)) to (now (out .exit)) (r .next)) ⌝ }
+    ensures { λ r. ⌜ ((z : Session) (t : Term) → Poses loose x (now (kinds .entry)) (now (vals .entry)) (now (tables .entry)) z t → Does x (r .solver) (take (x .top) (now (kinds .entry))) (take (x .top) (now (vals .entry))) (now (tables .entry)) (now (tables .exit)) z (solve (limitsOf x) z (orders.defer t)) (now (out .entry)) to (now (out .exit)) (r .next)) ⌝ }
 {
     let next = nothing(out, to);
     if out.len() < next {
         return Reached { solver: x, next };
     }
-    let m = x.variables;
-    let q = top_at(kinds, vals, &tables[..m], x.revision, x.top);
-    if kinds[q] != 1 {
-        return Reached { solver: x, next };
-    }
-    let v = wide(vals[q]);
-    if m <= v {
-        return Reached { solver: x, next };
-    }
-    tables[5 * m + v] = 1;
-    Reached { solver: x, next }
+    let y = x.defer_never(kinds, vals, tables);
+    Reached { solver: y, next }
 }
 
 // Order 5: the term behind the session's tokens.
@@ -65,23 +52,13 @@ pub fn resolve_term(
     out: &mut [u8],
     to: usize,
 ) -> Reached
-    requires held { ⌜ ((z : Session) × (t : Term) × Poses x (now kinds) (now vals) (now tables) z t) ⌝ }
-    requires areas { ⌜ (x .revision + x .revision ≤ length (now frames)) × Zero (now frames) ⌝ }
+    requires held { ⌜ ((z : Session) × (t : Term) × Poses loose x (now kinds) (now vals) (now tables) z t) ⌝ }
+    requires areas { ⌜ Frames x (now frames) ⌝ }
     requires room { ⌜ Room (now out) to ⌝ }
     ensures clear { λ _. ⌜ Zero (now (frames .exit)) ⌝ }
-    ensures does { λ r. ⌜ ((z : Session) (t : Term) → Poses x (now (kinds .entry)) (now (vals .entry)) (now (tables .entry)) z t → Does x (r .solver) (take (x .top) (now (kinds .entry))) (take (x .top) (now (vals .entry))) (now (tables .entry)) (now (tables .entry)) z (solve (limitsOf x) z (orders.resolving t)) (now (out .entry)) to (now (out .exit)) (r .next)) ⌝ }
+    ensures does { λ r. ⌜ ((z : Session) (t : Term) → Poses loose x (now (kinds .entry)) (now (vals .entry)) (now (tables .entry)) z t → Does x (r .solver) (take (x .top) (now (kinds .entry))) (take (x .top) (now (vals .entry))) (now (tables .entry)) (now (tables .entry)) z (solve (limitsOf x) z (orders.resolving t)) (now (out .entry)) to (now (out .exit)) (r .next)) ⌝ }
 {
-    let m = x.variables;
-    let next = resolve_at(
-        kinds,
-        vals,
-        &tables[..m],
-        x.revision,
-        frames,
-        x.top,
-        out,
-        to,
-    );
+    let next = resolved(x, kinds, vals, tables, frames, Subject::Follows, out, to);
     Reached { solver: x, next }
 }
 
@@ -109,26 +86,17 @@ pub fn pose_pair(
     out: &mut [u8],
     to: usize,
 ) -> Reached
-    requires held { ⌜ ((z : Session) × (t u : Term) × PosesPair x (now kinds) (now vals) (now tables) z q t u × (nodes ≡ z .kept + (size t + size u))) ⌝ }
-    requires areas { ⌜ Scratch x (now kinds) (now tables) (now work) × Zero (drop (7 * x .variables) (now tables)) ⌝ }
+    requires held { ⌜ ((z : Session) × (t u : Term) × PosesPair loose x (now kinds) (now vals) (now tables) z q t u × (nodes ≡ z .kept + (size t + size u))) ⌝ }
+    requires areas { ⌜ Scratch x (now kinds) (now tables) (now work) × Zero (drop (pendingFrom x) (now tables)) ⌝ }
     requires room { ⌜ Room (now out) to ⌝ }
     ensures clear { λ _. ⌜ Zero (now (work .exit)) ⌝ }
-    ensures does { λ r. ⌜ ((z : Session) (t u : Term) → PosesPair x (now (kinds .entry)) (now (vals .entry)) (now (tables .entry)) z q t u → nodes ≡ z .kept + (size t + size u) → DoesPair x (r .solver) (now (kinds .entry)) (now (vals .entry)) (now (tables .entry)) (now (tables .exit)) z (solve (limitsOf x) z (orders.pair k t u)) (now (out .entry)) to (now (out .exit)) (r .next)) ⌝ }
+    ensures does { λ r. ⌜ ((z : Session) (t u : Term) → PosesPair loose x (now (kinds .entry)) (now (vals .entry)) (now (tables .entry)) z q t u → nodes ≡ z .kept + (size t + size u) → DoesPair x (r .solver) (now (kinds .entry)) (now (vals .entry)) (now (tables .entry)) (now (tables .exit)) z (solve (limitsOf x) z (orders.pair k t u)) (now (out .entry)) to (now (out .exit)) (r .next)) ⌝ }
 {
     if out.len() - to < 3 {
         let next = out.len() + 1;
         return Reached { solver: x, next };
     }
-    let p = x.top;
-    let y = Solver {
-        variables: x.variables,
-        nodes: x.nodes,
-        issued: x.issued,
-        revision: x.revision,
-        kept: nodes,
-        top: kinds.len(),
-    };
-    let r = y.constrain(kinds, vals, tables, work, p, q, k, false);
+    let r = x.constrain(kinds, vals, tables, work, q, k, nodes, false);
     let solver = r.solver;
     let v = r.verdict;
     let a = verdict_number(v);

@@ -8,9 +8,9 @@ use solver::clear_tokens;
 use solver::put_rule;
 ghost use mathlib.Core.Path.{_≡_};
 ghost use Prim.Native.Nat.{_<_};
-ghost use Rattle.terms.specs.Tokens.{area};
-ghost use Rattle.terms.specs.Lent.{place, stepOf};
-ghost use Rattle.terms.specs.Lookup.{putRule};
+ghost use Rattle.solver.specs.Terms.Tokens.{area};
+ghost use Rattle.solver.specs.Terms.Lent.{place, stepOf};
+ghost use Rattle.solver.specs.Terms.Lookup.{putRule};
 ghost use Rattle.sheet.specs.Fields.{rule, ruleList};
 ghost use Rattle.sheet.specs.Laid.{Free, Ample, ruleFrom, WordsFit, RuleDone, RulesDone};
 

@@ -5,22 +5,23 @@ use super::Report;
 use super::serving::serve_order;
 use super::splitting::next_order;
 use super::splitting::order_at;
-use super::starting::clear;
 use super::starting::lay_fresh;
 use solver::Solver;
-use solver::clear_words;
+use solver::clear;
 ghost use mathlib.Core.Path.{_≡_};
 ghost use Prim.Native.Nat.{_≤_};
-ghost use lib.ListN.{length, replicate, take};
+ghost use lib.ListN.{length, take};
 ghost use Rattle.solver.specs.Session.{box, fresh};
 ghost use Rattle.solver.specs.Lent.{limitsOf};
 ghost use Rattle.sheet.specs.Sheet.{runOf};
 ghost use Rattle.sheet.specs.Lays.{Lays, Roomy};
-ghost use Rattle.sheet.specs.Ending.{Ended, Used, counters, suits, finished, finishOf, leaving};
+ghost use Rattle.solver.specs.Whole.{counters};
+ghost use Rattle.solver.specs.Work.{Zero};
+ghost use Rattle.sheet.specs.Ending.{Ended, Left, suits, finished, finishOf, leaving};
 
-// What a run returns, and where its tokens end.
-fn closed(reason: u32, orders: u64, bytes: usize, top: usize) -> Closed
-    ensures { λ r. ⌜ (r .report .reason ≡ reason) × (r .report .orders ≡ orders) × (r .report .bytes ≡ bytes) × (r .top ≡ top) ⌝ }
+// What a run returns, and the solver that it leaves.
+fn closed(reason: u32, orders: u64, bytes: usize, solver: Solver) -> Closed
+    ensures { λ r. ⌜ (r .report .reason ≡ reason) × (r .report .orders ≡ orders) × (r .report .bytes ≡ bytes) × (r .solver ≡ solver) ⌝ }
 {
     Closed {
         report: Report {
@@ -28,7 +29,7 @@ fn closed(reason: u32, orders: u64, bytes: usize, top: usize) -> Closed
             orders,
             bytes,
         },
-        top,
+        solver,
     }
 }
 
@@ -45,7 +46,8 @@ fn answer_orders(
 ) -> Closed
     requires held { ⌜ Lays first half (now a) (now b) (now c) (now d) fresh × Roomy first half (length (now a)) (now a) (now b) (now c) (now d) ⌝ }
     requires room { ⌜ (length (now s) ≤ 16777216) × (length (now out) ≤ 16777216) ⌝ }
-    ensures { λ r. ⌜ Ended (limitsOf first) half (now (s .entry)) (now (out .entry)) (r .report .reason) (r .report .orders) (r .report .bytes) (r .top) (now (out .exit)) (now (a .exit)) (now (b .exit)) (now (c .exit)) (now (d .exit)) ⌝ }
+    ensures run { λ r. ⌜ Ended (limitsOf first) (now (s .entry)) (now (out .entry)) (r .report .reason) (r .report .orders) (r .report .bytes) (now (out .exit)) ⌝ }
+    ensures left { λ r. ⌜ Left (r .solver) half (now (a .exit)) (now (b .exit)) (now (c .exit)) (now (d .exit)) ⌝ }
 {
     let mut x = first;
     let mut at = 0;
@@ -53,22 +55,22 @@ fn answer_orders(
     let mut orders: u64 = 0;
     while at < s.len() {
         let Frame::Lies(from, size) = next_order(s, at) else {
-            return closed(10, orders, to, x.top);
+            return closed(10, orders, to, x);
         };
         let bytes = order_at(s, from, size);
         let r = serve_order(x, half, bytes, a, b, c, d, out, to);
         if out.len() < r.next {
-            return closed(11, orders, to, r.solver.top);
+            return closed(11, orders, to, r.solver);
         }
         x = r.solver;
         to = r.next;
         orders += 1;
         at = from + size;
     }
-    closed(0, orders, to, x.top)
+    closed(0, orders, to, x)
 }
 
-// The run in areas of just the words that a session has, within limits.
+// The run in areas of just the words that a session has, within limits; their words are all 0 at the end.
 fn run_in(
     variables: usize,
     nodes: usize,
@@ -79,22 +81,17 @@ fn run_in(
     b: &mut [u32],
     c: &mut [u32],
     d: &mut [u32],
-) -> Closed
+) -> Report
     requires areas { ⌜ Roomy (counters variables nodes) half (length (now a)) (now a) (now b) (now c) (now d) ⌝ }
     requires room { ⌜ (length (now s) ≤ 16777216) × (length (now out) ≤ 16777216) ⌝ }
-    ensures { λ r. ⌜ Ended (limitsOf (counters variables nodes)) half (now (s .entry)) (now (out .entry)) (r .report .reason) (r .report .orders) (r .report .bytes) (r .top) (now (out .exit)) (now (a .exit)) (now (b .exit)) (now (c .exit)) (now (d .exit)) ⌝ }
+    ensures run { λ r. ⌜ Ended (limitsOf (counters variables nodes)) (now (s .entry)) (now (out .entry)) (r .reason) (r .orders) (r .bytes) (now (out .exit)) ⌝ }
+    ensures clear { λ _. ⌜ Zero (now (a .exit)) × Zero (now (b .exit)) × Zero (now (c .exit)) × Zero (now (d .exit)) ⌝ }
 {
     let x = lay_fresh(variables, nodes, half, a, b, c, d);
-    answer_orders(x, half, s, out, a, b, c, d)
-}
-
-// Clears an area of whose first `words` words only `count` from `from` on can be other than 0.
-fn clear_used(area: &mut [u32], from: usize, count: usize, words: usize)
-    requires { ⌜ Used (now area) from count words ⌝ }
-    ensures { λ _. ⌜ now (area .exit) ≡ replicate (length (now (area .entry))) 0 ⌝ }
-{
-    clear_words(&mut area[from..], count);
-    clear(&mut area[words..]);
+    let r = answer_orders(x, half, s, out, a, b, c, d);
+    let y = r.solver;
+    y.clear_session(a, b, &mut c[half..]);
+    r.report
 }
 
 // The run in the first `words` words of longer areas, all of whose words are 0 at the end.
@@ -125,11 +122,11 @@ fn run_within(
         &mut c[..words],
         &mut d[..words],
     );
-    clear_used(a, 0, r.top, words);
-    clear_used(b, 0, r.top, words);
-    clear_used(c, half, 7 * variables, words);
-    clear_used(d, 0, 0, words);
-    r.report
+    clear(&mut a[words..]);
+    clear(&mut b[words..]);
+    clear(&mut c[words..]);
+    clear(&mut d[words..]);
+    r
 }
 
 // Whether a sheet, an output and areas of so many bytes and words are taken.

@@ -46,7 +46,8 @@ fn operate_order(
     ensures { λ r. ⌜ ((a₀ b₀ : List ℕ) → Taken x half (now (s .entry)) a₀ b₀ (now (a .entry)) (now (b .entry)) (now (c .entry)) (now (d .entry)) (now (rules .entry)) o → Serves x (r .solver) half (now (s .entry)) a₀ b₀ (now (c .entry)) (now (d .entry)) (now (a .exit)) (now (b .exit)) (now (c .exit)) (now (d .exit)) (now (out .entry)) to (now (out .exit)) (r .next)) ⌝ }
 {
     let next = operate(s, a, b, &mut c[..half], d, rules, o, out, to);
-    clear_order(a, b, x.top, o);
+    let n = x.standing();
+    clear_order(a, b, n.top, o);
     Reached { solver: x, next }
 }
 
@@ -67,7 +68,8 @@ fn defer_order(
     ensures { λ r. ⌜ ((s a₀ b₀ d ws : List ℕ) → Taken x half s a₀ b₀ (now (a .entry)) (now (b .entry)) (now (c .entry)) d ws o → Serves x (r .solver) half s a₀ b₀ (now (c .entry)) d (now (a .exit)) (now (b .exit)) (now (c .exit)) d (now (out .entry)) to (now (out .exit)) (r .next)) ⌝ }
 {
     let r = lend_defer(x, half, o.top, a, b, c, out, to);
-    clear_order(a, b, x.top, o);
+    let n = x.standing();
+    clear_order(a, b, n.top, o);
     r
 }
 
@@ -89,7 +91,8 @@ fn resolve_order(
     ensures { λ r. ⌜ ((s a₀ b₀ ws : List ℕ) → Taken x half s a₀ b₀ (now (a .entry)) (now (b .entry)) (now (c .entry)) (now (d .entry)) ws o → Serves x (r .solver) half s a₀ b₀ (now (c .entry)) (now (d .entry)) (now (a .exit)) (now (b .exit)) (now (c .entry)) (now (d .exit)) (now (out .entry)) to (now (out .exit)) (r .next)) ⌝ }
 {
     let r = lend_resolve(x, half, o.top, a, b, c, d, out, to);
-    clear_order(a, b, x.top, o);
+    let n = x.standing();
+    clear_order(a, b, n.top, o);
     r
 }
 
@@ -116,7 +119,8 @@ fn pair_order(
     if r.next <= out.len() {
         return r;
     }
-    clear_order(a, b, x.top, o);
+    let n = x.standing();
+    clear_order(a, b, n.top, o);
     r
 }
 
@@ -195,11 +199,12 @@ fn serve_with(
     requires room { ⌜ (length (now s) ≤ 16777216) × (to ≤ length (now out)) × (length (now out) ≤ 16777216) ⌝ }
     ensures { λ r. ⌜ Serves x (r .solver) half (now (s .entry)) (now (a .entry)) (now (b .entry)) (now (c .entry)) (now (d .entry)) (now (a .exit)) (now (b .exit)) (now (c .exit)) (now (d .exit)) (now (out .entry)) to (now (out .exit)) (r .next) ⌝ }
 {
-    let r = read_order(s, a, b, rules, x.issued as u64, x.top, x.kept, x.nodes);
+    let n = x.standing();
+    let r = read_order(s, a, b, rules, n.issued as u64, n.top, n.kept, n.nodes);
     match r {
         Reading::Whole(o) => {
-            if x.nodes < o.nodes {
-                clear_order(a, b, x.top, o);
+            if n.nodes < o.nodes {
+                clear_order(a, b, n.top, o);
                 let next = refused(out, to, 7);
                 return Reached { solver: x, next };
             }

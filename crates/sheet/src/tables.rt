@@ -3,7 +3,7 @@ use super::Order;
 use super::Spot;
 ghost use mathlib.Core.Path.{_≡_};
 ghost use Prim.Native.Nat.{_<_};
-ghost use Rattle.terms.specs.Result.{pick};
+ghost use Rattle.solver.specs.Terms.Result.{pick};
 ghost use Rattle.sheet.specs.Laid.{packed, sortsAt, knownAt, putSpot, noSpot, noFields};
 
 // The sorts of the fields of a kind, two digits a field, those of the first field last: 1 a number, 2 an owner and a term, 3 a code, 4 a term, 5 a nominal,

@@ -19,7 +19,6 @@ use Rattle.solver.specs.Shapes.{Notion}
 use Rattle.solver.specs.Solving as solving
 use Rattle.solver.specs.Solving.{replaceRow, followed, resolve, follow, resolved, top}
 use Rattle.solver.specs.Session.{Session, issued, withSolver, deferring, settleAt, numericAt, neverAt, numericDefaults, neverDefaults}
-use Rattle.solver.specs.Orders.{known}
 use Rattle.solver.specs.Bindings.{HeldBinding, HeldBindings}
 use Rattle.solver.specs.Reach.{Steady, Topped}
 use Rattle.solver.specs.Walk.{runLen, Named}
@@ -29,7 +28,7 @@ use Rattle.solver.specs.Turning.{Within}
 use Rattle.solver.proofs.FrameLaws.{run-none}
 use Rattle.solver.proofs.ResolvedLaws.{run-held}
 use Rattle.solver.proofs.TopLaws.{follow-none}
-use Rattle.solver.proofs.OrderedLaws.{known-within, var-within, ordered-within, ordered-steady, ordered-topped, top-low}
+use Rattle.solver.proofs.OrderedLaws.{var-within, ordered-within, ordered-steady, ordered-topped, top-low}
 use Rattle.solver.proofs.DefaultLaws.{arises-ordered}
 use Rattle.solver.proofs.ColumnLaws.{column-read}
 use Rattle.solver.proofs.MethodLaws.{beside-same, beside-then, lent-defer, lent-bound}
@@ -295,7 +294,7 @@ module _ (n : ℕ) (b : ℕ → Option Term) (S : Steady n b) (T : Topped n b) (
       let x = node-stays n k ps in
       (x .0, sym (T .tops t) ∙ ap (resolve n b) e ∙ x .1)
 
-module _ (x : Solver) (ks vs ts : List ℕ) (s : Session) (n : Notion) (codes : n 4 ≡ false) (A : Arises (limitsOf x) n s) (L : Lent x ks vs ts s) where
+module _ (x : Solver) (ks₀ vs₀ ts : List ℕ) (s : Session) (n : Notion) (codes : n 4 ≡ false) (A : Arises (limitsOf x) n s) (L : Lent x ks₀ vs₀ ts s) where
   -- every binding that is a variable is one of the table
   pub arises-low : Low (x .variables) (s .solver .bindings)
   arises-low v t e = go t (ordered-within n codes (issued s) (s .solver) (arises-ordered n codes (limitsOf x) s A) v t e)
@@ -304,7 +303,8 @@ module _ (x : Solver) (ks vs ts : List ℕ) (s : Session) (n : Notion) (codes : 
       go (var w) h = let f = L .fits .variables in omega (arith, var-within (issued s) w h)
       go (node k ps) h = tt
 
-  module _ (t : Term) (q : ℕ) (h : Held ks vs q (follow (x .revision) (s .solver .bindings) t)) where
+  -- the term t, whose top is at q of areas that may be longer
+  module _ (ks vs : List ℕ) (t : Term) (q : ℕ) (h : Held ks vs q (follow (x .revision) (s .solver .bindings) t)) where
     atop : Held ks vs q (top (s .solver) t)
     atop = subst (λ (m : ℕ). Held ks vs q (follow m (s .solver .bindings) t)) (L .revision) h
 
@@ -315,11 +315,11 @@ module _ (x : Solver) (ks vs ts : List ℕ) (s : Session) (n : Notion) (codes : 
     T = ordered-topped n codes (issued s) (s .solver) (arises-ordered n codes (limitsOf x) s A)
 
     -- no variable at the top
-    pub deferred-none : (getD ks q 0 ≡ 1 → ⊥) → Lent x ks vs ts (deferring s (resolved (s .solver) t))
+    pub deferred-none : (getD ks q 0 ≡ 1 → ⊥) → Lent x ks₀ vs₀ ts (deferring s (resolved (s .solver) t))
     unfolding headKind deferring
     deferred-none e = go (top (s .solver) t) refl
       where
-        go : (u : Term) → top (s .solver) t ≡ u → Lent x ks vs ts (deferring s (resolved (s .solver) t))
+        go : (u : Term) → top (s .solver) t ≡ u → Lent x ks₀ vs₀ ts (deferring s (resolved (s .solver) t))
         go (var w) f = absurd (e (held-first ks vs q (var w) (subst (λ (y : Term). Held ks vs q y) f atop) .0))
         go (node k ps) f = rw (resolves-node (s .solver .revision) (s .solver .bindings) S T t k ps f .1) L
 
@@ -332,11 +332,11 @@ module _ (x : Solver) (ks vs ts : List ℕ) (s : Session) (n : Notion) (codes : 
         go (var w) f = f ∙ ap var (sym (held-first ks vs q (var w) (subst (λ (y : Term). Held ks vs q y) f atop) .1))
         go (node k ps) f = absurd (omega (arith, held-first ks vs q (node k ps) (subst (λ (y : Term). Held ks vs q y) f atop) .0))
 
-    pub deferred-some : (v : ℕ) → v ≡ getD vs q 0 → getD ks q 0 ≡ 1 → v < x .variables → Lent x ks vs (set ts (5 * x .variables + v) 1) (deferring s (resolved (s .solver) t))
+    pub deferred-some : (v : ℕ) → v ≡ getD vs q 0 → getD ks q 0 ≡ 1 → v < x .variables → Lent x ks₀ vs₀ (set ts (5 * x .variables + v) 1) (deferring s (resolved (s .solver) t))
     deferred-some v g e l =
-        rw (resolves-variable (s .solver .revision) (s .solver .bindings) S T t v (top-variable e ∙ ap var (sym g))) (lent-defer x ks vs ts s L v l)
+        rw (resolves-variable (s .solver .revision) (s .solver .bindings) S T t v (top-variable e ∙ ap var (sym g))) (lent-defer x ks₀ vs₀ ts s L v l)
 
-    pub deferred-far : known s t ≡ true → getD ks q 0 ≡ 1 → getD vs q 0 < x .variables
+    pub deferred-far : Within (issued s) t → getD ks q 0 ≡ 1 → getD vs q 0 < x .variables
     deferred-far k e =
         let f = L .fits .variables in
-        omega (arith, top-low n codes (issued s) (s .solver) (arises-ordered n codes (limitsOf x) s A) t (getD vs q 0) (known-within s t k) (top-variable e))
+        omega (arith, top-low n codes (issued s) (s .solver) (arises-ordered n codes (limitsOf x) s A) t (getD vs q 0) k (top-variable e))

@@ -133,7 +133,9 @@ module _ {ks₀ vs₀ ks vs : List ℕ} (G : Longer ks₀ vs₀ ks vs) where
         bindings = bindings-longer (bindingWords (x .variables) ts) (s .solver .bindings) (L .bindings);
         requests = L .requests;
         places = L .places;
+        unplaced = L .unplaced;
         deferred = L .deferred;
+        free = L .free;
         builtins = λ c h. held-longer (c + c) _ (L .builtins c h);
         begun = omega (arith, b, L .begun);
       }
@@ -156,7 +158,9 @@ lent-scratch x ks vs ts ts′ s L e r =
       bindings = subst (λ (l : List ℕ). HeldBindings ks vs l (s .solver .bindings)) (same 0 (omega arith)) (L .bindings);
       requests = λ v. subst (λ (l : List ℕ). HeldRequest (s .solver .requests v) (getD l v 0)) (same m (omega arith)) (L .requests v);
       places = rw (← (same (2 * m) (omega arith)), ← (same (3 * m) (omega arith)), ← (same (4 * m) (omega arith))) (L .places);
+      unplaced = rw (← (same (2 * m) (omega arith)), ← (same (3 * m) (omega arith)), ← (same (4 * m) (omega arith))) (L .unplaced);
       deferred = λ v. ap (λ (l : List ℕ). getD l v 0) (sym (same (5 * m) (omega arith))) ∙ L .deferred v;
+      free = λ v. ap (λ (l : List ℕ). getD l v 0) (sym (same (6 * m) (omega arith))) ∙ L .free v;
       builtins = L .builtins;
       begun = L .begun;
     }
@@ -291,7 +295,9 @@ lent-fresh x ks vs ts i r k t lk lv narrow room e z =
       bindings = λ v. column-zero (x .variables) 0 ts z v;
       requests = λ v. column-zero (x .variables) (x .variables) ts z v;
       places = tt;
+      unplaced = λ v _. (column-zero (x .variables) (2 * x .variables) ts z v, column-zero (x .variables) (3 * x .variables) ts z v, column-zero (x .variables) (4 * x .variables) ts z v);
       deferred = λ v. column-zero (x .variables) (5 * x .variables) ts z v;
+      free = λ v. column-zero (x .variables) (6 * x .variables) ts z v;
       builtins = builtins-held ks vs 32 (omega arith) e;
       begun = begins-builtins ks vs 32 lk e;
     }

@@ -17,6 +17,8 @@
 --   Demand3Examples  demand 3 used on two sessions
 --   TopLaws          what a term stands for, by its tokens
 --   MethodLaws       the counters and the table after a method, by what has changed; places and orders 0 to 2
+--   BehindLaws       terms behind the tokens of a session; where resolving begins
+--   WholeLaws        a session alone in its areas: fresh, and cleared
 --   ChainLaws        the end of a chain of bindings; deferrals and defaults
 --   AdmitLaws        what a number variable may be bound to, by tokens and words; a binding made
 --   Pigeon           different numbers are few, and so are tokens that begin a term
@@ -83,6 +85,8 @@ pub mod WorkLaws
 pub mod AskLaws
 pub mod ReachLaws
 pub mod MethodLaws
+pub mod BehindLaws
+pub mod WholeLaws
 pub mod ChainLaws
 pub mod AdmitLaws
 pub mod TopLaws

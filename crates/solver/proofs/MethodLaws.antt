@@ -6,25 +6,27 @@ use mathlib.Core.Option.{Option, none, some}
 use Prim.Native.Nat.{ℕ, zero, suc, _+_, _*_, _-_, _^_, _≤_, _<_}
 use native.Mathlib.Omega.{arith}
 use native.Mathlib.Decide.{ℕ-discrete}
-use borrow.Author.Tests.{le-leb, lt-leb, eq-eqb, ne-eqb}
-use lib.Dec.{eqb}
-use lib.ListN.{length, getD, take, drop, set, length-set, length-drop, List·getD-eq-default}
-use lib.Seq.{length-take-le, take-set-le, take-set-lt, drop-set-lt, drop-set-add, getD-take, getD-drop, getD-set-same, getD-set-other}
+use borrow.Author.Tests.{le-leb, lt-leb, leb-true, leb-false, lt-ltb, le-ltb, ltb-true, eq-eqb, ne-eqb}
+use lib.Dec.{eqb, ltb}
+use lib.ListN.{length, getD, drop, set, length-set}
+use lib.Seq.{length-take-le, take-set-le, take-set-lt, drop-set-lt, getD-set-same, getD-set-other}
 use Rattle.terms.specs.Result.{pick}
-use Rattle.terms.specs.Term.{Term, var, node, Held, bytes}
+use Rattle.terms.specs.Term.{Term, var, node, Held}
 use Rattle.unify.specs.Solver.{put, put-same, put-other}
 use Rattle.unify.specs.Term.{clash}
 use Rattle.solver.specs.declared.Solver.{Solver}
 use Rattle.solver.specs.declared.Named.{Named}
+use Rattle.solver.specs.declared.Site.{Site}
 use Rattle.solver.specs.declared.Named.the-variants.{Variable, Full}
 use Rattle.solver.specs.Families.{Request, requested, familyOf}
-use Rattle.solver.specs.Solving.{resolve, resolved}
 use Rattle.solver.specs.Session.{Limits, Place, at, gap, samePlace, Session, issued, find, withSolver, issueAt, request, deferring}
 use Rattle.solver.specs.Orders.{full, variableAt, numberAt, holeAt}
-use Rattle.solver.specs.Frames.{Answered}
+use Rattle.solver.specs.InOrder.{Fits}
 use Rattle.solver.specs.Bindings.{HeldBindings}
-use Rattle.solver.specs.Lent.{limitsOf, bindingWords, requestWords, placeWords, siteWords, slotWords, deferralWords, HeldRequest, HeldPlace, HeldPlaces, flag, Lent}
-use Rattle.solver.specs.Methods.{Shaped, Beside, matches, lastMatch, found, placing, placed, Issued, Replied, replyOf, resolvedReply, Handed, neverWord}
+use Rattle.solver.specs.Work.{Zero}
+use Rattle.solver.specs.Lent.{limitsOf, bindingWords, requestWords, placeWords, siteWords, slotWords, deferralWords, HeldRequest, HeldPlace, HeldPlaces, Unplaced, flag, freeWords, Lent}
+use Rattle.solver.specs.Methods.{Shaped, Beside, matches, lastMatch, found, placing, placed, namedOf, namedBelow, Issued, Replied, replyOf, resolvedReply, Handed, neverWord}
+use Rattle.solver.specs.Behind.{placeOf}
 use Rattle.solver.proofs.InOrderLaws.{find-issued}
 use Rattle.solver.proofs.BindingLaws.{bind-held}
 use Rattle.solver.proofs.ColumnLaws.{column-read, column-past, column-length, column-write, column-before, column-behind}
@@ -71,7 +73,9 @@ module _ (x y : Solver) (ks vs ts us : List ℕ) (s : Session) (L : Lent x ks vs
     pub bindings : HeldBindings ks vs (bindingWords (x .variables) us) (s′ .solver .bindings)
     pub requests : (v : ℕ) → HeldRequest (s′ .solver .requests v) (getD (requestWords (x .variables) us) v 0)
     pub places : HeldPlaces (placeWords (x .variables) us) (siteWords (x .variables) us) (slotWords (x .variables) us) (s′ .places)
+    pub unplaced : Unplaced (length (s′ .places)) (placeWords (x .variables) us) (siteWords (x .variables) us) (slotWords (x .variables) us)
     pub deferred : (v : ℕ) → getD (deferralWords (x .variables) us) v 0 ≡ flag (s′ .deferred v)
+    pub free : freeWords (x .variables) us ≡ freeWords (x .variables) ts
 
   pub lent-changed : (s′ : Session) → Changed s′ → Lent y ks vs us s′
   lent-changed s′ C =
@@ -89,7 +93,9 @@ module _ (x y : Solver) (ks vs ts us : List ℕ) (s : Session) (L : Lent x ks vs
         bindings = subst (λ (m : ℕ). HeldBindings ks vs (bindingWords m us) (s′ .solver .bindings)) e (C .bindings);
         requests = subst (λ (m : ℕ). (v : ℕ) → HeldRequest (s′ .solver .requests v) (getD (requestWords m us) v 0)) e (C .requests);
         places = subst (λ (m : ℕ). HeldPlaces (placeWords m us) (siteWords m us) (slotWords m us) (s′ .places)) e (C .places);
+        unplaced = subst (λ (m : ℕ). Unplaced (length (s′ .places)) (placeWords m us) (siteWords m us) (slotWords m us)) e (C .unplaced);
         deferred = subst (λ (m : ℕ). (v : ℕ) → getD (deferralWords m us) v 0 ≡ flag (s′ .deferred v)) e (C .deferred);
+        free = subst (λ (m : ℕ). Zero (freeWords m us)) e (subst Zero (sym (C .free)) (L .free));
         builtins = L .builtins;
         begun = omega (arith, L .begun, C .sum);
       }
@@ -221,6 +227,16 @@ places-new ks ss is p a b c ps h l m n g = (
   places-other ks ss is (length ps) a b c ps (omega arith) g,
 )
 
+-- and from the next one on none is issued
+pub unplaced-new : (ks ss is : List ℕ) (a b c n : ℕ) → Unplaced n ks ss is → Unplaced (suc n) (set ks n a) (set ss n b) (set is n c)
+unplaced-new ks ss is a b c n u v l =
+    let e : v ≡ n → ⊥ = λ q. omega arith in
+    let w = u v (omega arith) in (
+      getD-set-other ks n v a 0 e ∙ w .0,
+      getD-set-other ss n v b 0 e ∙ w .1,
+      getD-set-other is n v c 0 e ∙ w .2,
+    )
+
 -- ---- the laws of the changes
 
 module _ (x : Solver) (ks vs ts : List ℕ) (s : Session) (L : Lent x ks vs ts s) where
@@ -239,6 +255,10 @@ module _ (x : Solver) (ks vs ts : List ℕ) (s : Session) (L : Lent x ks vs ts s
   fixed-places : (us : List ℕ) → placeWords m us ≡ placeWords m ts → siteWords m us ≡ siteWords m ts → slotWords m us ≡ slotWords m ts
       → HeldPlaces (placeWords m us) (siteWords m us) (slotWords m us) (s .places)
   fixed-places us e f g = rw (e, f, g) (L .places)
+
+  fixed-unplaced : (us : List ℕ) → placeWords m us ≡ placeWords m ts → siteWords m us ≡ siteWords m ts → slotWords m us ≡ slotWords m ts
+      → Unplaced (length (s .places)) (placeWords m us) (siteWords m us) (slotWords m us)
+  fixed-unplaced us e f g = rw (e, f, g) (L .unplaced)
 
   -- a new variable at the place p
   module _ (p : Place) (kind site slot : ℕ) (h : HeldPlace p kind site slot) (below : x .issued < m) where
@@ -283,7 +303,9 @@ module _ (x : Solver) (ks vs ts : List ℕ) (s : Session) (L : Lent x ks vs ts s
               (places-new (placeWords m ts) (siteWords m ts) (slotWords m ts) p kind site slot (s .places) h
               (omega (arith, column-length m (2 * m) ts (omega arith))) (omega (arith, column-length m (3 * m) ts (omega arith))) (omega (arith, column-length m (4 * m) ts (omega arith)))
               (L .places));
+          unplaced = rw (places, sites, slots) (unplaced-new (placeWords m ts) (siteWords m ts) (slotWords m ts) kind site slot (length (s .places)) (L .unplaced));
           deferred = fixed-deferred written deferrals;
+          free = column-before m (6 * m) b (4 * m + x .issued) slot (omega arith) ∙ column-before m (6 * m) a (3 * m + x .issued) site (omega arith) ∙ column-before m (6 * m) ts (2 * m + x .issued) kind (omega arith);
         })
 
   -- v is a number variable
@@ -305,7 +327,9 @@ module _ (x : Solver) (ks vs ts : List ℕ) (s : Session) (L : Lent x ks vs ts s
           bindings = fixed-bindings requestAt (take-set-le m ts (m + v) w (omega arith));
           requests = λ u. rw (column-write m m ts _ v w refl below) (put-held (s .solver .requests) (requestWords m ts) v r (L .requests) (omega (arith, column-length m m ts (omega arith))) kind low u);
           places = fixed-places requestAt (column-before m (2 * m) ts (m + v) w (omega arith)) (column-before m (3 * m) ts (m + v) w (omega arith)) (column-before m (4 * m) ts (m + v) w (omega arith));
+          unplaced = fixed-unplaced requestAt (column-before m (2 * m) ts (m + v) w (omega arith)) (column-before m (3 * m) ts (m + v) w (omega arith)) (column-before m (4 * m) ts (m + v) w (omega arith));
           deferred = fixed-deferred requestAt (column-before m (5 * m) ts (m + v) w (omega arith));
+          free = column-before m (6 * m) ts (m + v) w (omega arith);
         })
 
   -- v is deferred
@@ -333,7 +357,9 @@ module _ (x : Solver) (ks vs ts : List ℕ) (s : Session) (L : Lent x ks vs ts s
           bindings = fixed-bindings us (take-set-le m ts (5 * m + v) 1 (omega arith));
           requests = fixed-requests us (column-behind m m ts (5 * m + v) 1 (omega arith));
           places = fixed-places us (column-behind m (2 * m) ts (5 * m + v) 1 (omega arith)) (column-behind m (3 * m) ts (5 * m + v) 1 (omega arith)) (column-behind m (4 * m) ts (5 * m + v) 1 (omega arith));
+          unplaced = fixed-unplaced us (column-behind m (2 * m) ts (5 * m + v) 1 (omega arith)) (column-behind m (3 * m) ts (5 * m + v) 1 (omega arith)) (column-behind m (4 * m) ts (5 * m + v) 1 (omega arith));
           deferred = λ u. ap (λ (l : List ℕ). getD l u 0) (column-write m (5 * m) ts _ v 1 refl below) ∙ deferred-held u (ℕ-discrete u v);
+          free = column-before m (6 * m) ts (5 * m + v) 1 (omega arith);
         })
 
   -- v is bound to the term at q
@@ -357,7 +383,9 @@ module _ (x : Solver) (ks vs ts : List ℕ) (s : Session) (L : Lent x ks vs ts s
           bindings = rw (take-set-lt m ts v (q + 1) below) (bind-held ks vs (bindingWords m ts) (s .solver .bindings) v q t (L .bindings) (omega (arith, length-take-le m ts (omega arith))) held);
           requests = fixed-requests bindingAt (column-before m m ts v (q + 1) (omega arith));
           places = fixed-places bindingAt (column-before m (2 * m) ts v (q + 1) (omega arith)) (column-before m (3 * m) ts v (q + 1) (omega arith)) (column-before m (4 * m) ts v (q + 1) (omega arith));
+          unplaced = fixed-unplaced bindingAt (column-before m (2 * m) ts v (q + 1) (omega arith)) (column-before m (3 * m) ts v (q + 1) (omega arith)) (column-before m (4 * m) ts v (q + 1) (omega arith));
           deferred = fixed-deferred bindingAt (column-before m (5 * m) ts v (q + 1) (omega arith));
+          free = column-before m (6 * m) ts v (q + 1) (omega arith);
         })
 
 -- ---- the variable of a place
@@ -376,6 +404,20 @@ module _ (x : Solver) (ks vs ts : List ℕ) (s : Session) (L : Lent x ks vs ts s
       go : (o : Option ℕ) → find p (s .places) ≡ o → v ≡ found (x .issued) o → o ≡ some v
       go none q f = absurd (omega arith)
       go (some w) q f = ap some (sym f)
+
+  -- without issuing it: none where that is past the limit
+  pub placed-below : namedBelow v (x .variables) ≡ namedOf (placed (limitsOf x) s p .variable)
+  unfolding placing namedBelow
+  placed-below = go (find p (s .places)) refl e (full (limitsOf x) s) refl
+    where
+      go : (o : Option ℕ) → find p (s .places) ≡ o → v ≡ found (x .issued) o → (b : Bool) → full (limitsOf x) s ≡ b
+          → pick (ltb v (x .variables)) (Variable v) Full ≡ namedOf (placing s p o b .variable)
+      go (some w) q f b g = rw (lt-ltb v (x .variables) (omega (arith, find-issued p (s .places) w q, L .issued, L .fits .variables))) (ap Variable f)
+      go none q f true g = rw (le-ltb v (x .variables) (omega (arith, leb-true (x .variables) (length (s .places)) g, L .issued))) refl
+      go none q f false g = rw (lt-ltb v (x .variables) (omega (arith, leb-false (x .variables) (length (s .places)) g, L .issued))) (ap Variable (f ∙ L .issued))
+
+  pub site-below : (site : Site) → placeOf site ≡ p → namedBelow v (x .variables) ≡ namedOf (placed (limitsOf x) s (placeOf site) .variable)
+  site-below site f = subst (λ (q : Place). namedBelow v (x .variables) ≡ namedOf (placed (limitsOf x) s q .variable)) (sym f) placed-below
 
   pub issued-found : v < x .issued → Issued x ks vs ts p (placed (limitsOf x) s p) (Variable v)
   unfolding placing
@@ -403,6 +445,41 @@ module _ (x : Solver) (ks vs ts : List ℕ) (s : Session) (L : Lent x ks vs ts s
         answer = ap Variable (L .issued);
         located = (rw (same-self p, L .issued), omega (arith, L .issued));
       })
+
+pub named-low : (v m : ℕ) (r : Named) → r ≡ namedBelow v m → (w : ℕ) → r ≡ Variable w → w < m
+unfolding namedBelow
+named-low v m r e w f = go (ltb v m) refl (sym f ∙ e)
+  where
+    go : (b : Bool) → ltb v m ≡ b → Variable w ≡ pick b (Variable v) Full → w < m
+    go true g h =
+        let i : w ≡ v = cc in
+        omega (arith, ltb-true v m g)
+    go false g h = clash cc
+
+-- the variable that a place has or would be given, told by its name
+module _ (lim : Limits) (s : Session) (p : Place) (fits : Fits lim s) where
+  pub named-next : (v : ℕ) → Variable v ≡ namedOf (placed lim s p .variable) → (v ≡ found (issued s) (find p (s .places))) × (v < lim .variables)
+  unfolding placing
+  named-next v = go (find p (s .places)) refl (full lim s) refl
+    where
+      go : (o : Option ℕ) → find p (s .places) ≡ o → (b : Bool) → full lim s ≡ b → Variable v ≡ namedOf (placing s p o b .variable)
+          → (v ≡ found (issued s) o) × (v < lim .variables)
+      go (some w) q b f e =
+          let i : v ≡ w = cc in
+          (i, omega (arith, find-issued p (s .places) w q, fits .variables))
+      go none q true f e = clash cc
+      go none q false f e =
+          let i : v ≡ issued s = cc in
+          (i, omega (arith, leb-false (lim .variables) (issued s) f))
+
+  pub named-none : Full ≡ namedOf (placed lim s p .variable) → (find p (s .places) ≡ none) × (full lim s ≡ true)
+  unfolding placing
+  named-none = go (find p (s .places)) (full lim s)
+    where
+      go : (o : Option ℕ) (b : Bool) → Full ≡ namedOf (placing s p o b .variable) → (o ≡ none) × (b ≡ true)
+      go (some w) b e = clash cc
+      go none true e = (refl, refl)
+      go none false e = clash cc
 
 -- ---- orders 0 to 2
 
@@ -507,9 +584,3 @@ pub never-some : (n : ℕ) → (n ≡ 0 → ⊥) → 11 ≡ neverWord n
 unfolding neverWord
 never-some zero e = absurd (e refl)
 never-some (suc n) e = refl
-
--- ---- order 5
-
-pub answered-resolved : (x : Solver) (ks vs ts : List ℕ) (s : Session) → Lent x ks vs ts s → (t : Term) (to : ℕ) (out₀ out : List ℕ) (r : ℕ)
-    → Answered (bytes (resolve (x .revision) (s .solver .bindings) t)) to out₀ out r → Answered (bytes (resolved (s .solver) t)) to out₀ out r
-answered-resolved x ks vs ts s L t to out₀ out r = subst (λ (n : ℕ). Answered (bytes (resolve n (s .solver .bindings) t)) to out₀ out r) (L .revision)

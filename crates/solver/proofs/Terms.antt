@@ -17,3 +17,8 @@ pub use Rattle.terms.proofs.RewriteLaws
 pub use Rattle.terms.proofs.ViewLaws
 pub use Rattle.terms.proofs.NormalLaws
 pub use Rattle.terms.proofs.NormalizeLaws
+pub use Rattle.terms.proofs.RecoverLaws
+pub use Rattle.terms.proofs.ConflictLaws
+pub use Rattle.terms.proofs.QuestionLaws
+pub use Rattle.terms.proofs.BoundLaws
+pub use Rattle.terms.proofs.SubstitutionLaws

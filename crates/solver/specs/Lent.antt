@@ -3,11 +3,11 @@
 --   0 binding    0 for none, p + 1 for the term at p
 --   1 request    0 for none, c + 1 for the fallback code c
 --   2 place      0 for a variable that is not issued, 1 for a site and slot, 2 for a hole
---   3 site
---   4 slot
+--   3 site       0 for a variable that is not issued
+--   4 slot       0 for a hole, and for a variable that is not issued
 --   5 deferral   0 or 1
---   6            free
--- The rest of the table is scratch. Assumes nothing.
+--   6            free: 0
+-- So every word of the columns is fixed. The rest of the table is scratch. Assumes nothing.
 use mathlib.Core.Bool.{Bool, true, false}
 use mathlib.Core.List.{List, [], _∷_, _++_}
 use mathlib.Core.Option.{Option, none, some}
@@ -17,7 +17,7 @@ use lib.Dec.{eqb}
 use lib.ListN.{length, getD, take, drop}
 use Rattle.terms.specs.Result.{pick}
 use Rattle.terms.specs.Tokens.{Item}
-use Rattle.terms.specs.Term.{Term, node, num, end, items, Held}
+use Rattle.terms.specs.Term.{node, num, end, items, Held}
 use Rattle.solver.specs.declared.Solver.{Solver}
 use Rattle.solver.specs.declared.Verdict.{Verdict}
 use Rattle.solver.specs.declared.Verdict.the-variants.{Incompatible, Compatible, Cancelled}
@@ -69,6 +69,9 @@ slotWords m ts = take m (drop (4 * m) ts)
 abbrev pub deferralWords : ℕ → List ℕ → List ℕ
 deferralWords m ts = take m (drop (5 * m) ts)
 
+abbrev pub freeWords : ℕ → List ℕ → List ℕ
+freeWords m ts = take m (drop (6 * m) ts)
+
 -- ---- what the words of a variable say
 
 -- a family is that of the fallback, as order 1 requests it; a join leaves it so. The fallback is the code of a builtin.
@@ -78,12 +81,16 @@ HeldRequest (some r) word = (word ≡ r .fallback + 1) × (r .family ≡ familyO
 
 abbrev pub HeldPlace : Place → ℕ → ℕ → ℕ → Type 0
 HeldPlace (at s i) k site slot = (k ≡ 1) × (site ≡ s) × (slot ≡ i)
-HeldPlace (gap s) k site slot = (k ≡ 2) × (site ≡ s)
+HeldPlace (gap s) k site slot = (k ≡ 2) × (site ≡ s) × (slot ≡ 0)
 
 -- the places, the last first
 abbrev pub HeldPlaces : List ℕ → List ℕ → List ℕ → List Place → Type 0
 HeldPlaces ks ss is [] = Unit {0}
 HeldPlaces ks ss is (p ∷ ps) = HeldPlace p (getD ks (length ps) 0) (getD ss (length ps) 0) (getD is (length ps) 0) × HeldPlaces ks ss is ps
+
+-- from the variable n on none is issued
+abbrev pub Unplaced : ℕ → List ℕ → List ℕ → List ℕ → Type 0
+Unplaced n ks ss is = (v : ℕ) → n ≤ v → (getD ks v 0 ≡ 0) × (getD ss v 0 ≡ 0) × (getD is v 0 ≡ 0)
 
 abbrev pub flag : Bool → ℕ
 flag false = 0
@@ -113,7 +120,9 @@ pub record Lent (x : Solver) (ks vs ts : List ℕ) (s : Session) : Type 0 where
   pub bindings : HeldBindings ks vs (bindingWords (x .variables) ts) (s .solver .bindings)
   pub requests : (v : ℕ) → HeldRequest (s .solver .requests v) (getD (requestWords (x .variables) ts) v 0)
   pub places : HeldPlaces (placeWords (x .variables) ts) (siteWords (x .variables) ts) (slotWords (x .variables) ts) (s .places)
+  pub unplaced : Unplaced (length (s .places)) (placeWords (x .variables) ts) (siteWords (x .variables) ts) (slotWords (x .variables) ts)
   pub deferred : (v : ℕ) → getD (deferralWords (x .variables) ts) v 0 ≡ flag (s .deferred v)
+  pub free : Zero (freeWords (x .variables) ts)
   -- the 32 builtins stand at the start of the areas, where a default finds them; the other terms are the kept ones
   pub builtins : (c : ℕ) → c < 32 → Held ks vs (c + c) (node 4 (num c end))
   pub begun : begins ks ≡ 32 + s .kept

@@ -20,6 +20,8 @@
 --   Links      classes of token places
 --   Methods    what the methods say of the counters and the table
 --   Turning    one check of `constrain` on what is lent
+--   Behind     terms that follow the tokens of a session; what is resolved
+--   Whole      a session alone in its areas
 --   Handing    the terms' functions as the sheet calls them
 --   Terms, TermTypes, Theory    what the sheet's definitions name of the crates below, handed on
 pub mod Families
@@ -42,6 +44,8 @@ pub mod Lent
 pub mod Links
 pub mod Methods
 pub mod Turning
+pub mod Behind
+pub mod Whole
 pub mod Handing
 pub mod Terms
 pub mod TermTypes

@@ -4,7 +4,7 @@ use mathlib.Core.List.{List}
 use mathlib.Core.Option.{Option, none, some}
 use mathlib.Core.Path.{_≡_}
 use Prim.Native.Nat.{ℕ, zero, suc, _+_, _*_, _^_, _≤_, _<_}
-use lib.Dec.{eqb}
+use lib.Dec.{eqb, ltb}
 use lib.ListN.{length, getD, set, drop}
 use Rattle.terms.specs.Result.{pick}
 use Rattle.terms.specs.Term.{Term, var, node, num, end}
@@ -65,6 +65,10 @@ placed lim s p = placing s p (find p (s .places)) (full lim s)
 abbrev pub namedOf : Option ℕ → Named
 namedOf none = Full
 namedOf (some v) = Variable v
+
+-- a variable below m; no other may be issued
+unfoldable pub namedBelow : ℕ → ℕ → Named
+namedBelow v m = pick (ltb v m) (Variable v) Full
 
 -- where the variable of an answer stands
 abbrev pub Located : Place → Session → Named → Type 0

@@ -20,13 +20,14 @@ ghost use mathlib.Core.List.{List};
 ghost use Prim.Native.Nat.{ℕ, _+_, _*_, _≤_, _<_};
 ghost use lib.Dec.{eqb};
 ghost use lib.ListN.{length, drop};
-ghost use Rattle.terms.specs.Term.{Term};
+ghost use Rattle.terms.specs.Term.{Term, size};
 ghost use Rattle.solver.specs.Shapes.{Notion, sameShape};
 ghost use Rattle.solver.specs.Solving as solving;
 ghost use Rattle.solver.specs.Solving.{Pair, recovery, projects, part};
-ghost use Rattle.solver.specs.Session.{Limits, Session};
+ghost use Rattle.solver.specs.Session.{Limits, Session, keep};
 ghost use Rattle.solver.specs.Work.{Zero};
 ghost use Rattle.solver.specs.Lent.{notion, Arises, Lent};
+ghost use Rattle.solver.specs.Behind.{PosesPair};
 ghost use Rattle.solver.specs.Turning.{Waiting, Known, Scratch, Facing, Nodes, Due, After, Constrained, pendingFrom};
 
 // Whether a token is the head of an Unknown or Error, or another is.
@@ -174,8 +175,8 @@ impl Solver {
         self.take_apart(kinds, vals, tables, a, b, strict, count)
     }
 
-    // Constrains the terms at p and q to be equal, with k checks.
-    pub fn constrain(
+    // The loop: the terms at p and q are constrained to be equal, with k checks.
+    pub fn solve_pair(
         mut self,
         kinds: &[u32],
         vals: &[u32],
@@ -226,5 +227,28 @@ impl Solver {
             solver: self,
             verdict: Verdict::Incompatible,
         }
+    }
+    // Order 4: the two terms behind the session's tokens, the second at q, are constrained to be equal, with k checks; `nodes` are kept with
+    // theirs, and their tokens are the session's from now on.
+    pub fn constrain(
+        mut self,
+        kinds: &[u32],
+        vals: &[u32],
+        tables: &mut [u32],
+        work: &mut [u32],
+        q: usize,
+        k: u32,
+        nodes: usize,
+        strict: bool,
+    ) -> Solved
+        requires held { ⌜ ((s : Session) × (t u : Term) × PosesPair (notion strict) self (now kinds) (now vals) (now tables) s q t u × (nodes ≡ s .kept + (size t + size u))) ⌝ }
+        requires room { ⌜ Scratch self (now kinds) (now tables) (now work) × Zero (drop (pendingFrom self) (now tables)) ⌝ }
+        ensures solved { λ r. ⌜ ((s : Session) (t u : Term) → PosesPair (notion strict) self (now (kinds .entry)) (now (vals .entry)) (now (tables .entry)) s q t u → nodes ≡ s .kept + (size t + size u) → Constrained self (now (kinds .entry)) (now (vals .entry)) (now (tables .exit)) (keep s (s .solver) (size t + size u)) (solving.constrain (notion strict) k (s .solver) t u) r) ⌝ }
+        ensures clear { λ _. ⌜ Zero (now (work .exit)) ⌝ }
+    {
+        let p = self.top;
+        self.kept = nodes;
+        self.top = kinds.len();
+        self.solve_pair(kinds, vals, tables, work, p, q, k, strict)
     }
 }

@@ -3,17 +3,17 @@ use super::Solver;
 use super::resolving::named_run;
 use super::top::top_at;
 ghost use mathlib.Core.Path.{_≡_};
-ghost use mathlib.Core.Bool.{true, false};
 ghost use mathlib.Core.Option.{Option};
 ghost use Prim.Native.Nat.{ℕ, _+_, _^_, _≤_, _<_};
-ghost use lib.ListN.{length};
-ghost use Rattle.terms.specs.Term.{Term, var, Held};
+ghost use lib.ListN.{length, take};
+ghost use Rattle.terms.specs.Term.{Term, var};
 ghost use Rattle.solver.specs.Shapes.{Notion};
 ghost use Rattle.solver.specs.Solving.{follow, resolved};
 ghost use Rattle.solver.specs.Session.{Session, withSolver, deferring};
 ghost use Rattle.solver.specs.Orders as orders;
 ghost use Rattle.solver.specs.Bindings.{HeldBindings};
-ghost use Rattle.solver.specs.Lent.{limitsOf, Arises, Lent};
+ghost use Rattle.solver.specs.Lent.{limitsOf, Lent};
+ghost use Rattle.solver.specs.Behind.{Poses};
 ghost use Rattle.solver.specs.Methods.{Shaped, Beside, Low, EndsAt, settleWord, neverWord};
 
 fn wide(x: u32) -> usize
@@ -58,16 +58,15 @@ pub fn never_word(deferral: u32) -> usize
 }
 
 impl Solver {
-    // Order 3: the variable that the term at p stands for, if it stands for one, is deferred.
-    pub fn defer_never(self, kinds: &[u32], vals: &[u32], tables: &mut [u32], p: usize) -> Solver
-        requires shape { ⌜ Shaped self (length (now tables)) ⌝ }
-        requires areas { ⌜ (p < length (now kinds)) × (length (now vals) ≡ length (now kinds)) ⌝ }
-        ensures held { λ r. ⌜ ((s : Session) (n : Notion) (t : Term) → n 4 ≡ false → Arises (limitsOf self) n s → Lent self (now (kinds .entry)) (now (vals .entry)) (now (tables .entry)) s → Held (now (kinds .entry)) (now (vals .entry)) p t → orders.known s t ≡ true → Lent r (now (kinds .entry)) (now (vals .entry)) (now (tables .exit)) (deferring s (resolved (s .solver) t))) ⌝ }
+    // Order 3: the variable that the term behind the session's tokens stands for, if it stands for one, is deferred.
+    pub fn defer_never(self, kinds: &[u32], vals: &[u32], tables: &mut [u32]) -> Solver
+        requires { ⌜ ((n : Notion) × (s : Session) × (t : Term) × Poses n self (now kinds) (now vals) (now tables) s t) ⌝ }
+        ensures held { λ r. ⌜ ((n : Notion) (s : Session) (t : Term) → Poses n self (now (kinds .entry)) (now (vals .entry)) (now (tables .entry)) s t → Lent r (take (self .top) (now (kinds .entry))) (take (self .top) (now (vals .entry))) (now (tables .exit)) (deferring s (resolved (s .solver) t))) ⌝ }
         ensures beside { λ r. ⌜ Beside self r (now (tables .entry)) (now (tables .exit)) ⌝ }
     {
         let m = self.variables;
         let most = self.revision;
-        let q = top_at(kinds, vals, &tables[..m], most, p);
+        let q = top_at(kinds, vals, &tables[..m], most, self.top);
         if kinds[q] == 1 {
             let v = wide(vals[q]);
             if v < m {

@@ -9,10 +9,13 @@ mod normal;
 mod pending;
 mod reach;
 mod resolving;
+mod sessions;
 mod substitution;
 mod top;
 mod variables;
 
+pub use answers::variable_len;
+pub use answers::write_variable;
 pub use handing::number_at;
 pub use handing::put_rule;
 pub use handing::read_list;
@@ -21,16 +24,12 @@ pub use handing::skip_parameters;
 pub use normal::normalise;
 pub use normal::with_associated_types;
 pub use normal::write_normalised;
-pub use resolving::clear_words;
-pub use resolving::resolved_len;
-pub use resolving::write_resolved;
+pub use sessions::clear;
 pub use substitution::context;
 pub use substitution::family;
 pub use substitution::instantiation;
 pub use substitution::self_only;
 pub use substitution::write_term;
-pub use top::top_at;
-pub use variables::find_place;
 
 // Functions of the terms that are handed on to the sheet, which names this crate alone.
 pub use terms::ask;
@@ -90,6 +89,32 @@ pub struct Solver {
     pub revision: usize,
     pub kept: usize,
     pub top: usize,
+}
+
+// The counters that an order is read by: the variables issued, the nodes kept, the tokens in use, and the limit of the nodes.
+pub struct Standing {
+    pub issued: usize,
+    pub kept: usize,
+    pub top: usize,
+    pub nodes: usize,
+}
+
+// The place of a variable: a slot of a site, or a hole.
+pub enum Site {
+    Slot(u32, u32),
+    Hole(u32),
+}
+
+// What is resolved: the term that follows the session's tokens, or a variable.
+pub enum Subject {
+    Follows,
+    Id(u32),
+}
+
+// Where resolving begins: at the term of a place, with so many bindings left to follow; or at a variable that stands for itself.
+pub enum Start {
+    Begins(usize, usize),
+    Free(u32),
 }
 
 // What `constrain` answers.

@@ -12,7 +12,7 @@ ghost use lib.Seq.{sets};
 ghost use Rattle.terms.specs.Term.{Term, Held, bytes};
 ghost use Rattle.solver.specs.Solving.{resolve};
 ghost use Rattle.solver.specs.Walk.{Named, Entered, walked, flatBytes, resolvedBytes};
-ghost use Rattle.solver.specs.Frames.{Sound, Settled, Apart, Cleared, Answered};
+ghost use Rattle.solver.specs.Frames.{Sound, Settled, Apart, Cleared};
 ghost use Rattle.solver.specs.Bindings.{HeldBindings};
 ghost use Rattle.solver.specs.Work.{Zero};
 
@@ -251,33 +251,4 @@ pub fn clear_words(words: &mut [u32], count: usize)
         words[i] = 0;
         i += 1;
     }
-}
-
-// Writes the term at p at a position of out, bound variables replaced, and returns the position after it; where it does not fit, out
-// stays as it was and the position is past its end. The words of the frames are 0 in either case.
-pub fn resolve_into(
-    kinds: &[u32],
-    vals: &[u32],
-    bound: &[u32],
-    most: usize,
-    frames: &mut [u32],
-    p: usize,
-    out: &mut [u8],
-    to: usize,
-) -> usize
-    requires areas { ⌜ (length (now vals) ≡ length (now kinds)) × (length (now kinds) < 2 ^ 32) × (most + most ≤ length (now frames)) ⌝ }
-    requires room { ⌜ (p < 2 ^ 32) × (to ≤ length (now out)) × (length (now out) < 2 ^ 32) ⌝ }
-    ensures answer { λ r. ⌜ Answered (resolvedBytes (now (kinds .entry)) (now (vals .entry)) (now (bound .entry)) most p) to (now (out .entry)) (now (out .exit)) r ⌝ }
-    ensures term { λ r. ⌜ ((t : Term) (b : ℕ → Option Term) → Held (now (kinds .entry)) (now (vals .entry)) p t → HeldBindings (now (kinds .entry)) (now (vals .entry)) (now (bound .entry)) b → Answered (bytes (resolve most b t)) to (now (out .entry)) (now (out .exit)) r) ⌝ }
-    ensures clear { λ _. ⌜ Cleared (most + most) (now (frames .entry)) (now (frames .exit)) ⌝ }
-{
-    let room = out.len() - to;
-    let n = resolved_len(kinds, vals, bound, most, frames, p, room);
-    if room < n {
-        clear_words(frames, most + most);
-        return out.len() + 1;
-    }
-    let i = write_resolved(kinds, vals, bound, most, frames, p, out, to);
-    clear_words(frames, most + most);
-    i
 }

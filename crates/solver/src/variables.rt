@@ -2,11 +2,12 @@
 // the site of a hole.
 use super::Issue;
 use super::Named;
+use super::Site;
 use super::Solver;
 ghost use mathlib.Core.Path.{_≡_};
 ghost use mathlib.Core.Bool.{true, false};
 ghost use mathlib.Core.List.{List};
-ghost use Prim.Native.Nat.{ℕ, _+_, _*_, _≤_, _<_};
+ghost use Prim.Native.Nat.{ℕ, _+_, _*_, _^_, _≤_, _<_};
 ghost use lib.ListN.{length, getD};
 ghost use Rattle.solver.specs.declared.Named.the-variants.{Variable};
 ghost use Rattle.solver.specs.Families.{requested};
@@ -14,7 +15,8 @@ ghost use Rattle.solver.specs.Shapes.{Notion};
 ghost use Rattle.solver.specs.Session.{Place, at, gap, Session, find};
 ghost use Rattle.solver.specs.Orders as orders;
 ghost use Rattle.solver.specs.Lent.{limitsOf, placeWords, siteWords, slotWords, HeldPlace, HeldPlaces, Lent};
-ghost use Rattle.solver.specs.Methods.{matches, lastMatch, found, Shaped, Beside, placed, Issued, Replied, replyOf, resolvedReply};
+ghost use Rattle.solver.specs.Methods.{matches, lastMatch, found, Shaped, Beside, placed, namedOf, namedBelow, Issued, Replied, replyOf, resolvedReply};
+ghost use Rattle.solver.specs.Behind.{placeOf};
 
 fn wide(x: u32) -> usize
     ensures { λ r. ⌜ r ≡ x ⌝ }
@@ -77,7 +79,32 @@ pub fn find_place(tables: &[u32], m: usize, issued: usize, kind: u32, site: u32,
     issued
 }
 
+// A variable below m by its name; no other may be issued.
+fn named_below(v: usize, m: usize) -> Named
+    requires { ⌜ m < 2 ^ 32 ⌝ }
+    ensures { λ r. ⌜ r ≡ namedBelow v m ⌝ }
+{
+    if v < m {
+        return Named::Variable(v as u32);
+    }
+    Named::Full
+}
+
 impl Solver {
+    // The variable that a place has or would be given, without issuing it.
+    pub fn id_of(self, tables: &[u32], site: Site) -> Named
+        requires { ⌜ ((ks vs : List ℕ) × (s : Session) × Lent self ks vs (now tables) s) ⌝ }
+        ensures { λ r. ⌜ ((ks vs : List ℕ) (s : Session) → Lent self ks vs (now (tables .entry)) s → r ≡ namedOf (placed (limitsOf self) s (placeOf site) .variable)) ⌝ }
+        ensures low { λ r. ⌜ ((v : ℕ) → r ≡ Variable v → v < self .variables) ⌝ }
+    {
+        let m = self.variables;
+        let n = self.issued;
+        match site {
+            Site::Slot(s, i) => named_below(find_place(tables, m, n, 1, s, i), m),
+            Site::Hole(s) => named_below(find_place(tables, m, n, 2, s, 0), m),
+        }
+    }
+
     // The variable of a place: the one that it has, or a new one.
     pub fn issue(mut self, tables: &mut [u32], kind: u32, site: u32, slot: u32) -> Issue
         requires { ⌜ Shaped self (length (now tables)) ⌝ }

@@ -1,7 +1,7 @@
 -- `code_field`: a byte below 32, or a refusal. Assumes nothing.
 use denote.Ref.{now}
 use mathlib.Core.Path.{refl}
-use Rattle.terms.specs.Lent.{place}
+use Rattle.solver.specs.Terms.Lent.{place}
 use Rattle.sheet.proofs.PartLaws.{code-none, code-no, code-yes}
 use borrow.Author.Needs.{needs}
 use Rattle.sheet.proofs.fields.code_field.Statement.{statement}

@@ -1,8 +1,8 @@
 -- `keep_part`: by the sort. Assumes nothing.
 use denote.Ref.{now}
 use mathlib.Core.Logic.{inl, inr, ⊎-elim}
-use Rattle.terms.specs.Tokens.{area}
-use Rattle.terms.specs.Lent.{place}
+use Rattle.solver.specs.Terms.Tokens.{area}
+use Rattle.solver.specs.Terms.Lent.{place}
 use Rattle.sheet.proofs.PartLaws.{room-of, space-of, either-told, entries-told, receivers-told, arguments-told}
 use borrow.Author.Needs.{needs}
 use Rattle.sheet.proofs.fields.keep_part.Statement.{statement}

@@ -1,8 +1,8 @@
 -- `list_field`: a count, and what is kept behind it. Assumes nothing.
 use denote.Ref.{now}
 use mathlib.Core.Path.{refl}
-use Rattle.terms.specs.Lent.{place}
-use Rattle.terms.specs.Tokens.{area}
+use Rattle.solver.specs.Terms.Lent.{place}
+use Rattle.solver.specs.Terms.Tokens.{area}
 use Rattle.sheet.specs.Lent.{fieldOf}
 use Rattle.sheet.proofs.CodeLaws.{list-coded, number-coded}
 use Rattle.sheet.proofs.PartLaws.{number-told, number-refused, list-field, list-counted, list-refused, ample-moved, unread}

@@ -4,7 +4,7 @@ use mathlib.Core.Logic.{_⊎_, inl, inr, ⊎-elim}
 use mathlib.Core.Path.{_≡_}
 use Prim.Native.Nat.{_≤_, _<_}
 use native.Mathlib.Omega.{arith}
-use Rattle.terms.specs.Tokens.{area}
+use Rattle.solver.specs.Terms.Tokens.{area}
 use Rattle.sheet.specs.Fields.{field}
 use Rattle.sheet.specs.Laid.{plainOf}
 use Rattle.sheet.proofs.PartLaws.{value-said, plain-tree, plain-list}

@@ -1,7 +1,7 @@
 -- `tree_field`: the spot of what is kept. Assumes nothing.
 use denote.Ref.{now}
-use Rattle.terms.specs.Lent.{place}
-use Rattle.terms.specs.Tokens.{area}
+use Rattle.solver.specs.Terms.Lent.{place}
+use Rattle.solver.specs.Terms.Tokens.{area}
 use Rattle.sheet.specs.Laid.{partOf}
 use Rattle.sheet.proofs.PartLaws.{part-field, part-none}
 use borrow.Author.Needs.{needs}

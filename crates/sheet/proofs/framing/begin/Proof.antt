@@ -5,8 +5,8 @@ use denote.Ref.{now}
 use Prim.Native.Nat.{ℕ, _+_}
 use lib.ListN.{length}
 use native.Mathlib.Numerals.{add-one}
-use Rattle.terms.specs.Number.{shortest}
-use Rattle.terms.proofs.WriteLaws.{short-word}
+use Rattle.solver.specs.Terms.Number.{shortest}
+use Rattle.solver.proofs.Terms.WriteLaws.{short-word}
 use Rattle.sheet.proofs.FramingLaws.{begun, unbegun}
 use borrow.Author.Needs.{needs}
 use Rattle.sheet.proofs.framing.begin.Statement.{statement}

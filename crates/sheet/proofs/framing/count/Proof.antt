@@ -1,7 +1,7 @@
 -- `count`: the number behind its opening. Assumes nothing.
 use native.Mathlib.Omega.{arith}
 use denote.Ref.{now}
-use Rattle.terms.specs.Number.{shortest}
+use Rattle.solver.specs.Terms.Number.{shortest}
 use Rattle.sheet.proofs.FramingLaws.{value-in, value-over, begun-long, begun-room}
 use borrow.Author.Needs.{needs}
 use Rattle.sheet.proofs.framing.count.Statement.{statement}

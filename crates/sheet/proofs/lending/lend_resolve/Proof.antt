@@ -31,7 +31,7 @@ resolve-term-requires : tie.Need-resolve-term-requires
 resolve-term-requires c κs =
     let a = c .before .before .before .before .before .before .before .before .before .before .args in
     let p = c .before .before .before .before .before .before .before .before .before .before .pre in
-    ((p .0 .0, p .0 .1, poses-tail (a .half) (now (a .c)) _ _ _ _ _ (p .0 .2)), ((p .1 .0 .3, p .1 .0 .4), p .1 .1))
+    ((p .0 .0, p .0 .1, poses-tail (a .half) (now (a .c)) _ _ _ _ _ (p .0 .2)), (p .1 .0 .3, p .1 .1))
 
 same-length : tie.Need-same-length
 same-length c = search needs

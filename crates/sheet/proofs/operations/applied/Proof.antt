@@ -3,10 +3,10 @@ use mathlib.Core.Path.{sym, ap, _∙_}
 use native.Mathlib.Omega.{arith}
 use denote.Ref.{now}
 use lib.ListN.{length, length-set}
-use Rattle.terms.specs.Term.{bytes}
+use Rattle.solver.specs.Terms.Term.{bytes}
 use Rattle.sheet.specs.Operations.{outcome}
-use Rattle.terms.proofs.Bools.{never-true}
-use Rattle.terms.proofs.RewriteLaws.{counted-term}
+use Rattle.solver.proofs.Terms.Bools.{never-true}
+use Rattle.solver.proofs.Terms.RewriteLaws.{counted-term}
 use Rattle.solver.specs.Handing.{bindersOf}
 use Rattle.sheet.proofs.AnswerLaws.{frame-as, apply-none, apply-some, perhaps-some, one-over, one-in}
 use Rattle.sheet.proofs.FramingLaws.{begun-long, begun-room}

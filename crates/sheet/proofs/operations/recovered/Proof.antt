@@ -1,8 +1,8 @@
 -- `recovered`: sized first, then written. Assumes nothing.
 use native.Mathlib.Omega.{arith}
 use denote.Ref.{now}
-use Rattle.terms.specs.Term.{bytes}
-use Rattle.terms.specs.Recovery.{recover-from}
+use Rattle.solver.specs.Terms.Term.{bytes}
+use Rattle.solver.specs.Terms.Recovery.{recover-from}
 use Rattle.sheet.proofs.AnswerLaws.{held-in, formed-both}
 use Rattle.sheet.proofs.FramingLaws.{value-in, value-over, begun-long, begun-room}
 use borrow.Author.Needs.{needs}

@@ -3,8 +3,8 @@ use mathlib.Core.Path.{ap}
 use native.Mathlib.Omega.{arith}
 use denote.Ref.{now}
 use lib.ListN.{length}
-use Rattle.terms.proofs.Bools.{never-true}
-use Rattle.terms.proofs.RewriteLaws.{counted-term}
+use Rattle.solver.proofs.Terms.Bools.{never-true}
+use Rattle.solver.proofs.Terms.RewriteLaws.{counted-term}
 use Rattle.solver.specs.Handing.{bindersOf}
 use Rattle.sheet.proofs.AnswerLaws.{rewrites-one, rewrites-two, counted-over, counted-in}
 use Rattle.sheet.proofs.FramingLaws.{begun-long, begun-room}

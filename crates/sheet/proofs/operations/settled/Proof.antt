@@ -2,7 +2,7 @@
 use mathlib.Core.Path.{_∙_}
 use native.Mathlib.Omega.{arith}
 use denote.Ref.{now}
-use Rattle.terms.specs.Term.{bytes}
+use Rattle.solver.specs.Terms.Term.{bytes}
 use Rattle.sheet.proofs.AnswerLaws.{frame-as, leaves-refused, leaves-long, leaves-done, answers-refused, answers-long, answers-done, settled-term}
 use Rattle.sheet.proofs.FramingLaws.{begun-long, begun-room, value-in, value-over}
 use borrow.Author.Needs.{needs}

@@ -1,7 +1,7 @@
 -- `substitute`: by the kind, each with its binders. Assumes nothing.
 use mathlib.Core.Path.{ap}
 use denote.Ref.{now}
-use Rattle.terms.specs.declared.Binders.{Binders}
+use Rattle.solver.specs.TermTypes.{Binders}
 use Rattle.sheet.proofs.AnswerLaws.{held-in}
 use Rattle.sheet.proofs.GivenLaws.{third, binders-ready, ready-as, held-as, instance-asks, instance-replies, context-asks, context-replies, self-asks, self-replies}
 use borrow.Author.Needs.{needs}

@@ -1,12 +1,7 @@
 -- `pose_pair`: three bytes, or nothing is done. Assumes nothing.
-use mathlib.Core.Path.{refl}
 use denote.Ref.{now}
 use native.Mathlib.Omega.{arith}
-use Prim.Native.Nat.{_+_}
-use Rattle.terms.specs.Term.{size}
-use Rattle.solver.specs.Session.{keep}
-use Rattle.solver.specs.Lent.{limitsOf}
-use Rattle.sheet.proofs.PosingLaws.{pair-lent, pair-arises, pair-left, pair-right, pair-scratch, pair-not, pair-done}
+use Rattle.sheet.proofs.PosingLaws.{pair-not, pair-done}
 use borrow.Author.Needs.{needs}
 use Rattle.sheet.proofs.posing.pose_pair.Statement.{statement}
 use Rattle.sheet.proofs.posing.pose_pair.Tie as tie
@@ -24,14 +19,7 @@ returns c =
     (p .1 .0 .0 .clear, λ z t u P e. pair-not (a .x) _ _ _ z (a .q) t u P (a .k) (now (a .out)) (a .to) (p .1 .1 .inside) (omega (arith, c .if1 .taken)) (p .1 .0 .1))
 
 constrain-requires : tie.Need-constrain-requires
-constrain-requires c κs =
-    let a = c .before .before .before .before .before .before .before .before .args in
-    let p = c .before .before .before .before .before .before .before .before .pre in
-    let z = p .0 .0 in
-    let t = p .0 .1 in
-    let u = p .0 .2 in
-    let P = p .0 .3 in
-    ((keep z (z .solver) (size t + size u), limitsOf (a .x), t, u, pair-arises (a .x) _ _ _ z (a .q) t u P, pair-lent (a .x) _ _ _ z (a .q) t u P (a .nodes) (p .0 .4), pair-left (a .x) _ _ _ z (a .q) t u P, pair-right (a .x) _ _ _ z (a .q) t u P), (pair-scratch (a .x) _ _ _ z (a .q) t u P _ (a .nodes) (p .1 .0 .0), p .1 .0 .1))
+constrain-requires c κs = let p = c .before .before .before .before .before .before .before .before .pre in (p .0, p .1 .0)
 
 verdict-number-requires : tie.Need-verdict-number-requires
 verdict-number-requires c κs = search needs
@@ -51,9 +39,8 @@ same-length-3 c = search needs
 returns-2 : tie.Need-returns-2
 returns-2 c =
     let a = c .before .before .before .before .before .before .before .before .before .before .before .before .before .before .before .before .before .before .before .args in
-    let p = c .before .before .before .before .before .before .before .before .before .before .before .before .before .before .before .before .before .before .before .pre in
     let s = c .before .before .before .before .before .before .before .before .before .before .constrain .ensures in
-    (s .1, λ z t u P e. pair-done (a .x) _ _ _ z (a .q) t u P (a .k) (now (a .out)) (a .to) (p .1 .1 .inside) _ refl refl _ _ (s .0 (keep z (z .solver) (size t + size u)) (limitsOf (a .x)) t u (pair-arises (a .x) _ _ _ z (a .q) t u P) (pair-lent (a .x) _ _ _ z (a .q) t u P (a .nodes) e) (pair-left (a .x) _ _ _ z (a .q) t u P) (pair-right (a .x) _ _ _ z (a .q) t u P)) _ _ _ (omega (arith, c .before .before .before .before .before .before .before .before .before .before .before .before .before .if1 .left)) (c .before .before .before .before .verdict-number .ensures) (c .before .before .told .ensures))
+    (s .1, λ z t u P e. pair-done (a .x) _ _ _ z (a .q) t u P (a .k) (now (a .out)) (a .to) (c .before .before .before .before .before .before .before .before .before .before .before .before .before .before .before .before .before .before .before .pre .1 .1 .inside) _ _ (s .0 z t u P e) _ _ _ (omega (arith, c .before .before .before .before .before .before .before .before .before .before .before .before .before .if1 .left)) (c .before .before .before .before .verdict-number .ensures) (c .before .before .told .ensures))
 
 pub pose-pair-spec : {M : Type 1} → statement M
 pose-pair-spec =

@@ -4,12 +4,12 @@ use mathlib.Core.Path.{_≡_, refl, ap, _∙_}
 use mathlib.Core.List.{[]}
 use native.Mathlib.Omega.{arith}
 use lib.ListN.{length}
-use Rattle.terms.specs.Tokens.{Area, area}
-use Rattle.terms.specs.Lent.{place}
-use Rattle.terms.specs.declared.Rule.{Rule}
-use Rattle.terms.proofs.Shortest.{octets}
-use Rattle.terms.proofs.LentLaws.{stops}
-use Rattle.terms.specs.Lookup.{putRule}
+use Rattle.solver.specs.Terms.Tokens.{Area, area}
+use Rattle.solver.specs.Terms.Lent.{place}
+use Rattle.solver.specs.TermTypes.{Rule}
+use Rattle.solver.proofs.Terms.Shortest.{octets}
+use Rattle.solver.proofs.Terms.LentLaws.{stops}
+use Rattle.solver.specs.Terms.Lookup.{putRule}
 use Rattle.sheet.specs.Laid.{ruleSorts, Plains}
 use Rattle.sheet.proofs.StoredLaws.{stored-kinds, stored-vals}
 use Rattle.sheet.proofs.ThroughLaws.{Through, rule-start, through-index, plain-more, plain-stop, through-all, through-undo}

@@ -4,10 +4,10 @@ use mathlib.Core.Path.{_≡_, refl, ap}
 use Prim.Native.Nat.{_-_}
 use native.Mathlib.Omega.{arith}
 use lib.ListN.{length}
-use Rattle.terms.specs.Tokens.{Area, area}
-use Rattle.terms.specs.Lent.{place}
-use Rattle.terms.proofs.Shortest.{octets}
-use Rattle.terms.proofs.LentLaws.{stops}
+use Rattle.solver.specs.Terms.Tokens.{Area, area}
+use Rattle.solver.specs.Terms.Lent.{place}
+use Rattle.solver.proofs.Terms.Shortest.{octets}
+use Rattle.solver.proofs.Terms.LentLaws.{stops}
 use Rattle.sheet.proofs.StoredLaws.{stored-kinds, stored-vals}
 use Rattle.sheet.proofs.RuleReading.{RulesThrough, rules-start, rules-more, rules-stop, rules-undo, rules-end}
 use borrow.Author.Needs.{needs}

@@ -4,7 +4,7 @@ use mathlib.Core.Path.{_≡_, refl, _∙_}
 use Prim.Native.Nat.{_+_, _-_}
 use denote.Ref.{now}
 use lib.ListN.{length, take, drop, length-take, length-drop}
-use Rattle.terms.specs.Result.{got}
+use Rattle.solver.specs.Terms.Result.{got}
 use Rattle.solver.specs.Lent.{limitsOf}
 use Rattle.sheet.specs.Sheet.{nextOrder}
 use Rattle.sheet.proofs.SplittingLaws.{Ahead, next-ahead}

@@ -4,9 +4,9 @@ use mathlib.Core.Path.{_≡_, refl, sym, ap, _∙_}
 use Prim.Native.Nat.{ℕ}
 use native.Mathlib.Omega.{arith}
 use lib.ListN.{length}
-use Rattle.terms.specs.Tokens.{Area, area}
-use Rattle.terms.specs.Lent.{place}
-use Rattle.terms.proofs.Shortest.{octets}
+use Rattle.solver.specs.Terms.Tokens.{Area, area}
+use Rattle.solver.specs.Terms.Lent.{place}
+use Rattle.solver.proofs.Terms.Shortest.{octets}
 use Rattle.sheet.specs.Fields.{fields}
 use Rattle.sheet.specs.Laid.{sortsAt, knownAt}
 use Rattle.sheet.proofs.StoredLaws.{stored-kinds, stored-vals}

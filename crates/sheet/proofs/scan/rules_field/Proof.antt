@@ -1,8 +1,8 @@
 -- `rules_field`: the spot of the rules behind their count. Assumes nothing.
 use denote.Ref.{now}
 use mathlib.Core.Path.{refl}
-use Rattle.terms.specs.Tokens.{area}
-use Rattle.terms.specs.Lent.{place}
+use Rattle.solver.specs.Terms.Tokens.{area}
+use Rattle.solver.specs.Terms.Lent.{place}
 use Rattle.sheet.specs.Laid.{sortOf}
 use Rattle.sheet.proofs.CodeLaws.{ruled-coded, number-coded}
 use Rattle.sheet.proofs.PartLaws.{number-told, number-refused, ample-moved, unread}

@@ -20,11 +20,14 @@ lend-defer-requires c κs =
     let R = T .ready in
     ((R .session, t .0, poses (a .x) (a .half) _ _ _ (now (a .a)) (now (a .b)) (now (a .c)) _ _ (a .o) T (t .0) (t .1) (defer-known (a .x) (a .half) _ _ _ (now (a .a)) (now (a .b)) (now (a .c)) _ _ (a .o) T h) (R .session) (R .arises) (R .lays)), ((taken-a (a .x) (a .half) _ _ _ (now (a .a)) (now (a .b)) (now (a .c)) _ _ (a .o) T, taken-b (a .x) (a .half) _ _ _ (now (a .a)) (now (a .b)) (now (a .c)) _ _ (a .o) T, taken-half (a .x) (a .half) _ _ _ (now (a .a)) (now (a .b)) (now (a .c)) _ _ (a .o) T), p .1 .1))
 
+standing-requires : tie.Need-standing-requires
+standing-requires c κs = search needs
+
 clear-order-requires : tie.Need-clear-order-requires
 clear-order-requires c κs =
-    let a = c .before .before .before .before .before .before .before .before .before .before .before .before .before .before .before .args in
-    let p = c .before .before .before .before .before .before .before .before .before .before .before .before .before .before .before .pre in
-    taken-after (a .x) (a .half) _ _ _ (now (a .a)) (now (a .b)) (now (a .c)) _ _ (a .o) (p .0 .5)
+    let a = c .before .before .before .before .before .before .before .before .before .before .before .before .before .before .before .before .args in
+    let p = c .before .before .before .before .before .before .before .before .before .before .before .before .before .before .before .before .pre in
+    rw (c .before .before .standing .ensures) (taken-after (a .x) (a .half) _ _ _ (now (a .a)) (now (a .b)) (now (a .c)) _ _ (a .o) (p .0 .5))
 
 same-length : tie.Need-same-length
 same-length c = search needs
@@ -40,11 +43,11 @@ same-length-4 c = search needs
 
 returns : tie.Need-returns
 returns c =
-    let a = c .before .before .before .before .before .before .before .before .before .before .before .before .before .before .before .before .before .before .before .before .args in
-    let p = c .before .before .before .before .before .before .before .before .before .before .before .before .before .before .before .before .before .before .before .before .pre in
+    let a = c .before .before .before .before .before .before .before .before .before .before .before .before .before .before .before .before .before .before .before .before .before .args in
+    let p = c .before .before .before .before .before .before .before .before .before .before .before .before .before .before .before .before .before .before .before .before .before .pre in
     let h = p .1 .0 in
-    let e = c .before .before .before .before .before .before .before .before .before .before .before .lend-defer .ensures in
-    let g = c .before .before .before .before .clear-order .ensures in
+    let e = c .before .before .before .before .before .before .before .before .before .before .before .before .lend-defer .ensures in
+    let g = rw (c .before .before .before .before .before .before .before .standing .ensures) at (c .before .before .before .before .clear-order .ensures) in
     λ s a₀ b₀ d ws T z A Z.
     let t = defer-term (a .x) (a .half) s a₀ b₀ (now (a .a)) (now (a .b)) (now (a .c)) d ws (a .o) T h in
     posed (a .x) (a .half) s a₀ b₀ (now (a .a)) (now (a .b)) (now (a .c)) d ws (a .o) T (t .0) (t .1) (defer-known (a .x) (a .half) s a₀ b₀ (now (a .a)) (now (a .b)) (now (a .c)) d ws (a .o) T h)
@@ -57,6 +60,7 @@ defer-order-spec =
     tie.close
     (tie.spec
     lend-defer-requires
+    standing-requires
     clear-order-requires
     same-length
     same-length-2

@@ -22,11 +22,14 @@ operate-requires c κs =
     let p = c .before .before .before .before .before .before .before .before .before .before .before .before .pre in
     (taken-lends (a .x) (a .half) (now (a .s)) _ _ (now (a .a)) (now (a .b)) (now (a .c)) (now (a .d)) (now (a .rules)) (a .o) (p .0 .2), (taken-asks (a .x) (a .half) (now (a .s)) _ _ (now (a .a)) (now (a .b)) (now (a .c)) (now (a .d)) (now (a .rules)) (a .o) (p .0 .2) (p .1 .0), (p .1 .1 .0, p .1 .1 .1)))
 
+standing-requires : tie.Need-standing-requires
+standing-requires c κs = search needs
+
 clear-order-requires : tie.Need-clear-order-requires
 clear-order-requires c κs =
-    let a = c .before .before .before .before .before .before .before .before .before .before .before .before .before .before .before .before .before .before .before .before .before .args in
-    let p = c .before .before .before .before .before .before .before .before .before .before .before .before .before .before .before .before .before .before .before .before .before .pre in
-    taken-after (a .x) (a .half) (now (a .s)) _ _ (now (a .a)) (now (a .b)) (now (a .c)) (now (a .d)) (now (a .rules)) (a .o) (p .0 .2)
+    let a = c .before .before .before .before .before .before .before .before .before .before .before .before .before .before .before .before .before .before .before .before .before .before .args in
+    let p = c .before .before .before .before .before .before .before .before .before .before .before .before .before .before .before .before .before .before .before .before .before .before .pre in
+    rw (c .before .before .standing .ensures) (taken-after (a .x) (a .half) (now (a .s)) _ _ (now (a .a)) (now (a .b)) (now (a .c)) (now (a .d)) (now (a .rules)) (a .o) (p .0 .2))
 
 same-length : tie.Need-same-length
 same-length c = search needs
@@ -45,10 +48,10 @@ same-length-5 c = search needs
 
 returns : tie.Need-returns
 returns c =
-    let a = c .before .before .before .before .before .before .before .before .before .before .before .before .before .before .before .before .before .before .before .before .before .before .before .before .before .before .args in
-    let p = c .before .before .before .before .before .before .before .before .before .before .before .before .before .before .before .before .before .before .before .before .before .before .before .before .before .before .pre in
-    let e = c .before .before .before .before .before .before .before .before .before .before .before .before .before .operate .ensures in
-    let g = c .before .before .before .before .clear-order .ensures in
+    let a = c .before .before .before .before .before .before .before .before .before .before .before .before .before .before .before .before .before .before .before .before .before .before .before .before .before .before .before .args in
+    let p = c .before .before .before .before .before .before .before .before .before .before .before .before .before .before .before .before .before .before .before .before .before .before .before .before .before .before .before .pre in
+    let e = c .before .before .before .before .before .before .before .before .before .before .before .before .before .before .operate .ensures in
+    let g = rw (c .before .before .before .before .before .before .before .standing .ensures) at (c .before .before .before .before .clear-order .ensures) in
     λ a₀ b₀ T. operated (a .x) (a .half) (now (a .s)) a₀ b₀ (now (a .a)) (now (a .b)) (now (a .c)) (now (a .d)) (now (a .rules)) (a .o) T (p .1 .0) (now (a .out)) (a .to) _ _ (e .1) _ _ (e .0) _ _ g
 
 pub operate-order-spec : {M : Type 1} → statement M
@@ -58,6 +61,7 @@ operate-order-spec =
     slice-relend-prefix-operate
     slice-aggregate-operate
     operate-requires
+    standing-requires
     clear-order-requires
     same-length
     same-length-2

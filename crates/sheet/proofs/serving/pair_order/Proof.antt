@@ -52,11 +52,14 @@ returns c =
     let k = pair-k (a .x) (a .half) s a₀ b₀ (now (a .a)) (now (a .b)) (now (a .c)) (now (a .d)) ws (a .o) T h (q .0) (q .1) (q .2) (q .3) in
     pair-stays (a .x) (a .half) s a₀ b₀ (now (a .a)) (now (a .b)) (now (a .c)) (now (a .d)) ws (a .o) T h (q .0) (q .1) (q .2) (q .3) _ _ _ (now (a .out)) (a .to) _ _ (e .1 .0) (e .0) (a .o .first .value) (k .0) (λ z. e .1 .1 z (q .1) (q .2)) (omega (arith, c .if1 .taken))
 
+standing-requires : tie.Need-standing-requires
+standing-requires c κs = search needs
+
 clear-order-requires : tie.Need-clear-order-requires
 clear-order-requires c κs =
-    let a = c .before .before .before .before .before .before .before .before .before .before .before .before .before .before .before .before .before .before .before .before .before .before .args in
-    let p = c .before .before .before .before .before .before .before .before .before .before .before .before .before .before .before .before .before .before .before .before .before .before .pre in
-    taken-after (a .x) (a .half) _ _ _ (now (a .a)) (now (a .b)) (now (a .c)) (now (a .d)) _ (a .o) (p .0 .4)
+    let a = c .before .before .before .before .before .before .before .before .before .before .before .before .before .before .before .before .before .before .before .before .before .before .before .args in
+    let p = c .before .before .before .before .before .before .before .before .before .before .before .before .before .before .before .before .before .before .before .before .before .before .before .pre in
+    rw (c .before .before .standing .ensures) (taken-after (a .x) (a .half) _ _ _ (now (a .a)) (now (a .b)) (now (a .c)) (now (a .d)) _ (a .o) (p .0 .4))
 
 same-length-6 : tie.Need-same-length-6
 same-length-6 c = search needs
@@ -75,15 +78,15 @@ same-length-10 c = search needs
 
 returns-2 : tie.Need-returns-2
 returns-2 c =
-    let a = c .before .before .before .before .before .before .before .before .before .before .before .before .before .before .before .before .before .before .before .before .before .before .before .before .before .before .before .args in
-    let p = c .before .before .before .before .before .before .before .before .before .before .before .before .before .before .before .before .before .before .before .before .before .before .before .before .before .before .before .pre in
+    let a = c .before .before .before .before .before .before .before .before .before .before .before .before .before .before .before .before .before .before .before .before .before .before .before .before .before .before .before .before .args in
+    let p = c .before .before .before .before .before .before .before .before .before .before .before .before .before .before .before .before .before .before .before .before .before .before .before .before .before .before .before .before .pre in
     let h = p .1 .0 in
-    let e = c .before .before .before .before .before .before .before .before .before .before .before .before .before .before .before .lend-pair .ensures in
-    let g = c .before .before .before .before .clear-order .ensures in
+    let e = c .before .before .before .before .before .before .before .before .before .before .before .before .before .before .before .before .lend-pair .ensures in
+    let g = rw (c .before .before .before .before .before .before .before .standing .ensures) at (c .before .before .before .before .clear-order .ensures) in
     λ s a₀ b₀ ws T.
     let q = pair-terms (a .x) (a .half) s a₀ b₀ (now (a .a)) (now (a .b)) (now (a .c)) (now (a .d)) ws (a .o) T h in
     let k = pair-k (a .x) (a .half) s a₀ b₀ (now (a .a)) (now (a .b)) (now (a .c)) (now (a .d)) ws (a .o) T h (q .0) (q .1) (q .2) (q .3) in
-    pair-undone (a .x) (a .half) s a₀ b₀ (now (a .a)) (now (a .b)) (now (a .c)) (now (a .d)) ws (a .o) T h (q .0) (q .1) (q .2) (q .3) _ _ _ (now (a .out)) (a .to) _ _ (e .1 .0) (e .0) (a .o .first .value) (k .0) (λ z. e .1 .1 z (q .1) (q .2)) (omega (arith, c .before .before .before .before .before .before .before .if1 .left)) _ _ g
+    pair-undone (a .x) (a .half) s a₀ b₀ (now (a .a)) (now (a .b)) (now (a .c)) (now (a .d)) ws (a .o) T h (q .0) (q .1) (q .2) (q .3) _ _ _ (now (a .out)) (a .to) _ _ (e .1 .0) (e .0) (a .o .first .value) (k .0) (λ z. e .1 .1 z (q .1) (q .2)) (omega (arith, c .before .before .before .before .before .before .before .before .if1 .left)) _ _ g
 
 pub pair-order-spec : {M : Type 1} → statement M
 pair-order-spec =
@@ -97,6 +100,7 @@ pair-order-spec =
     same-length-4
     same-length-5
     returns
+    standing-requires
     clear-order-requires
     same-length-6
     same-length-7

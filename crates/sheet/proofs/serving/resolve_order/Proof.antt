@@ -14,13 +14,16 @@ lend-resolve-requires c κs =
     let h = p .1 .0 in
     let t = resolve-term (a .x) (a .half) _ _ _ (now (a .a)) (now (a .b)) (now (a .c)) (now (a .d)) _ (a .o) T h in
     let R = T .ready in
-    ((R .session, t .0, poses (a .x) (a .half) _ _ _ (now (a .a)) (now (a .b)) (now (a .c)) (now (a .d)) _ (a .o) T (t .0) (t .1) (resolve-known (a .x) (a .half) _ _ _ (now (a .a)) (now (a .b)) (now (a .c)) (now (a .d)) _ (a .o) T h) (R .session) (R .arises) (R .lays)), ((taken-a (a .x) (a .half) _ _ _ (now (a .a)) (now (a .b)) (now (a .c)) (now (a .d)) _ (a .o) T, taken-b (a .x) (a .half) _ _ _ (now (a .a)) (now (a .b)) (now (a .c)) (now (a .d)) _ (a .o) T, taken-half (a .x) (a .half) _ _ _ (now (a .a)) (now (a .b)) (now (a .c)) (now (a .d)) _ (a .o) T, ready-frames _ _ _ _ _ _ R, R .lays .work), p .1 .1))
+    ((R .session, t .0, poses (a .x) (a .half) _ _ _ (now (a .a)) (now (a .b)) (now (a .c)) (now (a .d)) _ (a .o) T (t .0) (t .1) (resolve-known (a .x) (a .half) _ _ _ (now (a .a)) (now (a .b)) (now (a .c)) (now (a .d)) _ (a .o) T h) (R .session) (R .arises) (R .lays)), ((taken-a (a .x) (a .half) _ _ _ (now (a .a)) (now (a .b)) (now (a .c)) (now (a .d)) _ (a .o) T, taken-b (a .x) (a .half) _ _ _ (now (a .a)) (now (a .b)) (now (a .c)) (now (a .d)) _ (a .o) T, taken-half (a .x) (a .half) _ _ _ (now (a .a)) (now (a .b)) (now (a .c)) (now (a .d)) _ (a .o) T, ready-frames _ _ _ _ _ _ R), p .1 .1))
+
+standing-requires : tie.Need-standing-requires
+standing-requires c κs = search needs
 
 clear-order-requires : tie.Need-clear-order-requires
 clear-order-requires c κs =
-    let a = c .before .before .before .before .before .before .before .before .before .before .before .before .before .before .before .before .args in
-    let p = c .before .before .before .before .before .before .before .before .before .before .before .before .before .before .before .before .pre in
-    taken-after (a .x) (a .half) _ _ _ (now (a .a)) (now (a .b)) (now (a .c)) (now (a .d)) _ (a .o) (p .0 .4)
+    let a = c .before .before .before .before .before .before .before .before .before .before .before .before .before .before .before .before .before .args in
+    let p = c .before .before .before .before .before .before .before .before .before .before .before .before .before .before .before .before .before .pre in
+    rw (c .before .before .standing .ensures) (taken-after (a .x) (a .half) _ _ _ (now (a .a)) (now (a .b)) (now (a .c)) (now (a .d)) _ (a .o) (p .0 .4))
 
 same-length : tie.Need-same-length
 same-length c = search needs
@@ -36,11 +39,11 @@ same-length-4 c = search needs
 
 returns : tie.Need-returns
 returns c =
-    let a = c .before .before .before .before .before .before .before .before .before .before .before .before .before .before .before .before .before .before .before .before .before .args in
-    let p = c .before .before .before .before .before .before .before .before .before .before .before .before .before .before .before .before .before .before .before .before .before .pre in
+    let a = c .before .before .before .before .before .before .before .before .before .before .before .before .before .before .before .before .before .before .before .before .before .before .args in
+    let p = c .before .before .before .before .before .before .before .before .before .before .before .before .before .before .before .before .before .before .before .before .before .before .pre in
     let h = p .1 .0 in
-    let e = c .before .before .before .before .before .before .before .before .before .before .before .lend-resolve .ensures in
-    let g = c .before .before .before .before .clear-order .ensures in
+    let e = c .before .before .before .before .before .before .before .before .before .before .before .before .lend-resolve .ensures in
+    let g = rw (c .before .before .before .before .before .before .before .standing .ensures) at (c .before .before .before .before .clear-order .ensures) in
     λ s a₀ b₀ ws T z A Z.
     let t = resolve-term (a .x) (a .half) s a₀ b₀ (now (a .a)) (now (a .b)) (now (a .c)) (now (a .d)) ws (a .o) T h in
     let k = resolve-known (a .x) (a .half) s a₀ b₀ (now (a .a)) (now (a .b)) (now (a .c)) (now (a .d)) ws (a .o) T h in
@@ -54,6 +57,7 @@ resolve-order-spec =
     tie.close
     (tie.spec
     lend-resolve-requires
+    standing-requires
     clear-order-requires
     same-length
     same-length-2

@@ -1,17 +1,21 @@
 -- `serve_with`: read, and answered or refused. Assumes nothing.
-use mathlib.Core.Path.{_∙_}
+use mathlib.Core.Path.{ap, _∙_}
 use native.Mathlib.Omega.{arith}
 use denote.Ref.{now}
+use Rattle.solver.specs.declared.Standing.{Standing}
 use Rattle.sheet.proofs.ServingLaws.{ready-room, serves-refused, serves-crowded}
 use borrow.Author.Needs.{needs}
 use Rattle.sheet.proofs.serving.serve_with.Statement.{statement}
 use Rattle.sheet.proofs.serving.serve_with.Tie as tie
 
+standing-requires : tie.Need-standing-requires
+standing-requires c κs = search needs
+
 read-order-requires : tie.Need-read-order-requires
 read-order-requires c κs =
-    let a = c .before .before .before .before .before .before .before .before .before .before .args in
-    let p = c .before .before .before .before .before .before .before .before .before .before .pre in
-    ready-room (a .x) (a .half) (now (a .s)) (now (a .a)) (now (a .b)) (now (a .c)) (now (a .d)) (now (a .rules)) (p .0) (p .1 .1 .0) (p .1 .0 .0)
+    let a = c .before .before .before .before .before .before .before .before .before .before .before .args in
+    let p = c .before .before .before .before .before .before .before .before .before .before .before .pre in
+    rw (c .before .before .before .standing .ensures) (ready-room (a .x) (a .half) (now (a .s)) (now (a .a)) (now (a .b)) (now (a .c)) (now (a .d)) (now (a .rules)) (p .0) (p .1 .1 .0) (p .1 .0 .0))
 
 enum-known-r : tie.Need-enum-known-r
 enum-known-r c = search needs
@@ -24,8 +28,8 @@ clear-order-requires c κs =
 
 refused-requires : tie.Need-refused-requires
 refused-requires c κs =
-    let a = c .before .before .before .before .before .before .before .before .before .before .before .before .before .before .before .before .before .before .before .before .before .before .before .before .before .before .before .before .before .before .before .args in
-    let p = c .before .before .before .before .before .before .before .before .before .before .before .before .before .before .before .before .before .before .before .before .before .before .before .before .before .before .before .before .before .before .before .pre in
+    let a = c .before .before .before .before .before .before .before .before .before .before .before .before .before .before .before .before .before .before .before .before .before .before .before .before .before .before .before .before .before .before .before .before .args in
+    let p = c .before .before .before .before .before .before .before .before .before .before .before .before .before .before .before .before .before .before .before .before .before .before .before .before .before .before .before .before .before .before .before .before .pre in
     record { inside = p .1 .1 .1; short = p .1 .1 .2 }
 
 same-length : tie.Need-same-length
@@ -43,27 +47,31 @@ same-length-4 c = search needs
 
 returns : tie.Need-returns
 returns c =
-    let a = c .before .before .before .before .before .before .before .before .before .before .before .before .before .before .before .before .before .before .before .before .before .before .before .before .before .before .before .before .before .before .before .before .before .before .args in
-    let p = c .before .before .before .before .before .before .before .before .before .before .before .before .before .before .before .before .before .before .before .before .before .before .before .before .before .before .before .before .before .before .before .before .before .before .pre in
+    let a = c .before .before .before .before .before .before .before .before .before .before .before .before .before .before .before .before .before .before .before .before .before .before .before .before .before .before .before .before .before .before .before .before .before .before .before .args in
+    let p = c .before .before .before .before .before .before .before .before .before .before .before .before .before .before .before .before .before .before .before .before .before .before .before .before .before .before .before .before .before .before .before .before .before .before .before .pre in
     let m = c .before .before .before .before .before .before .before .before .before .before .before .before .before .before .before .before .before .before .before .before .before .before .before .read-order in
-    let W = rw (c .before .before .before .before .before .before .before .before .before .before .before .before .before .before .before .r .given .1) at (m .ensures) in
-    serves-crowded (a .x) (a .half) (now (a .s)) (now (a .a)) (now (a .b)) (m .last .1 .0) (m .last .1 .1 .0) (now (a .c)) (now (a .d)) _ _ W (omega (arith, c .before .before .before .before .before .before .before .before .before .before .before .if1 .taken)) _ _ (c .before .before .before .before .before .before .before .before .clear-order .ensures) (now (a .out)) (a .to) _ _ (c .before .before .refused .ensures)
+    let S = c .before .before .before .before .before .before .before .before .before .before .before .before .before .before .before .before .before .before .before .before .before .before .before .before .before .before .before .standing .ensures in
+    let W = rw (S, c .before .before .before .before .before .before .before .before .before .before .before .before .before .before .before .r .given .1) at (m .ensures) in
+    let n = ap (λ (x : Standing). x .nodes) S in
+    serves-crowded (a .x) (a .half) (now (a .s)) (now (a .a)) (now (a .b)) (m .last .1 .0) (m .last .1 .1 .0) (now (a .c)) (now (a .d)) _ _ W (omega (arith, n, c .before .before .before .before .before .before .before .before .before .before .before .if1 .taken)) _ _ (rw S at (c .before .before .before .before .before .before .before .before .clear-order .ensures)) (now (a .out)) (a .to) _ _ (c .before .before .refused .ensures)
 
 answer-order-requires : tie.Need-answer-order-requires
 answer-order-requires c κs =
-    let a = c .before .before .before .before .before .before .before .before .before .before .before .before .before .before .before .before .before .before .before .before .before .before .before .before .before .before .before .before .before .args in
-    let p = c .before .before .before .before .before .before .before .before .before .before .before .before .before .before .before .before .before .before .before .before .before .before .before .before .before .before .before .before .before .pre in
+    let a = c .before .before .before .before .before .before .before .before .before .before .before .before .before .before .before .before .before .before .before .before .before .before .before .before .before .before .before .before .before .before .args in
+    let p = c .before .before .before .before .before .before .before .before .before .before .before .before .before .before .before .before .before .before .before .before .before .before .before .before .before .before .before .before .before .before .pre in
     let m = c .before .before .before .before .before .before .before .before .before .before .before .before .before .before .before .before .before .before .read-order in
-    let W = rw (c .before .before .before .before .before .before .before .before .before .before .r .given .1) at (m .ensures) in
-    ((now (a .a), now (a .b), record { ready = p .0; whole = W; within = omega (arith, c .before .before .before .before .before .before .if1 .left) }), (omega (arith, m .kept .1 .1 .1 .0, p .1 .0 .1), record { inside = p .1 .1 .1; short = p .1 .1 .2 }))
+    let S = c .before .before .before .before .before .before .before .before .before .before .before .before .before .before .before .before .before .before .before .before .before .before .standing .ensures in
+    let W = rw (S, c .before .before .before .before .before .before .before .before .before .before .r .given .1) at (m .ensures) in
+    let n = ap (λ (x : Standing). x .nodes) S in
+    ((now (a .a), now (a .b), record { ready = p .0; whole = W; within = omega (arith, n, c .before .before .before .before .before .before .if1 .left) }), (omega (arith, m .kept .1 .1 .1 .0, p .1 .0 .1), record { inside = p .1 .1 .1; short = p .1 .1 .2 }))
 
 enum-known-r-2 : tie.Need-enum-known-r-2
 enum-known-r-2 c = search needs
 
 refused-requires-2 : tie.Need-refused-requires-2
 refused-requires-2 c κs =
-    let a = c .before .before .before .before .before .before .before .before .before .before .before .before .before .before .before .before .before .before .before .before .before .args in
-    let p = c .before .before .before .before .before .before .before .before .before .before .before .before .before .before .before .before .before .before .before .before .before .pre in
+    let a = c .before .before .before .before .before .before .before .before .before .before .before .before .before .before .before .before .before .before .before .before .before .before .args in
+    let p = c .before .before .before .before .before .before .before .before .before .before .before .before .before .before .before .before .before .before .before .before .before .before .pre in
     record { inside = p .1 .1 .1; short = p .1 .1 .2 }
 
 same-length-5 : tie.Need-same-length-5
@@ -89,11 +97,13 @@ same-length-10 c = search needs
 
 returns-2 : tie.Need-returns-2
 returns-2 c =
-    let a = c .before .before .before .before .before .before .before .before .before .before .before .before .before .before .before .before .before .before .before .before .before .before .before .before .before .before .before .before .before .before .before .before .before .before .before .before .before .before .before .before .args in
-    let p = c .before .before .before .before .before .before .before .before .before .before .before .before .before .before .before .before .before .before .before .before .before .before .before .before .before .before .before .before .before .before .before .before .before .before .before .before .before .before .before .before .pre in
+    let a = c .before .before .before .before .before .before .before .before .before .before .before .before .before .before .before .before .before .before .before .before .before .before .before .before .before .before .before .before .before .before .before .before .before .before .before .before .before .before .before .before .before .args in
+    let p = c .before .before .before .before .before .before .before .before .before .before .before .before .before .before .before .before .before .before .before .before .before .before .before .before .before .before .before .before .before .before .before .before .before .before .before .before .before .before .before .before .before .pre in
     let m = c .before .before .before .before .before .before .before .before .before .before .before .before .before .before .before .before .before .before .before .before .before .before .before .before .before .before .before .before .before .read-order in
-    let W = rw (c .before .before .before .before .before .before .before .before .before .before .before .before .before .before .before .before .before .before .before .before .before .r .given .1) at (m .ensures) in
-    c .before .before .before .before .before .before .before .before .before .before .answer-order .ensures (now (a .a)) (now (a .b)) (record { ready = p .0; whole = W; within = omega (arith, c .before .before .before .before .before .before .before .before .before .before .before .before .before .before .before .before .before .if1 .left) })
+    let S = c .before .before .before .before .before .before .before .before .before .before .before .before .before .before .before .before .before .before .before .before .before .before .before .before .before .before .before .before .before .before .before .before .before .standing .ensures in
+    let W = rw (S, c .before .before .before .before .before .before .before .before .before .before .before .before .before .before .before .before .before .before .before .before .before .r .given .1) at (m .ensures) in
+    let n = ap (λ (x : Standing). x .nodes) S in
+    c .before .before .before .before .before .before .before .before .before .before .answer-order .ensures (now (a .a)) (now (a .b)) (record { ready = p .0; whole = W; within = omega (arith, n, c .before .before .before .before .before .before .before .before .before .before .before .before .before .before .before .before .before .if1 .left) })
 
 same-length-11 : tie.Need-same-length-11
 same-length-11 c = search needs
@@ -109,16 +119,17 @@ same-length-14 c = search needs
 
 returns-3 : tie.Need-returns-3
 returns-3 c =
-    let a = c .before .before .before .before .before .before .before .before .before .before .before .before .before .before .before .before .before .before .before .before .before .before .before .before .args in
-    let p = c .before .before .before .before .before .before .before .before .before .before .before .before .before .before .before .before .before .before .before .before .before .before .before .before .pre in
+    let a = c .before .before .before .before .before .before .before .before .before .before .before .before .before .before .before .before .before .before .before .before .before .before .before .before .before .args in
+    let p = c .before .before .before .before .before .before .before .before .before .before .before .before .before .before .before .before .before .before .before .before .before .before .before .before .before .pre in
     let m = c .before .before .before .before .before .before .before .before .before .before .before .before .before .read-order in
-    let W = rw (c .before .before .before .before .before .r2 .given .1) at (m .ensures) in
+    let W = rw (c .before .before .before .before .before .before .before .before .before .before .before .before .before .before .before .before .before .standing .ensures, c .before .before .before .before .before .r2 .given .1) at (m .ensures) in
     serves-refused (a .x) (a .half) (now (a .s)) (now (a .a)) (now (a .b)) (m .last .1 .0) (m .last .1 .1 .0) (now (a .c)) (now (a .d)) _ (W .0) (W .1) (now (a .out)) (a .to) _ _ (c .before .before .refused2 .ensures)
 
 pub serve-with-spec : {M : Type 1} → statement M
 serve-with-spec =
     tie.close
     (tie.spec
+    standing-requires
     read-order-requires
     enum-known-r
     clear-order-requires

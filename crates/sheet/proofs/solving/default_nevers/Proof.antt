@@ -23,10 +23,16 @@ returns c =
     let a = c .before .before .before .before .before .args in
     λ z A L. defaults-not L (solve (limitsOf (a .x)) z orders.nevers) (nevers-tell (limitsOf (a .x)) z) (now (a .out)) (a .to) (c .before .before .before .before .before .pre .1 .inside) (omega (arith, c .if1 .taken))
 
+revision-requires : tie.Need-revision-requires
+revision-requires c κs = search needs
+
 apply-never-defaults-requires : tie.Need-apply-never-defaults-requires
 apply-never-defaults-requires c κs =
-    let p = c .before .before .before .before .before .before .pre .0 in
+    let p = c .before .before .before .before .before .before .before .pre .0 in
     (lent-shaped _ _ _ _ _ (p .2), (omega (arith, lent-revision _ _ _ _ _ (p .1) (p .2), p .2 .narrow), p .2 .vals))
+
+revision-requires-2 : tie.Need-revision-requires-2
+revision-requires-2 c κs = search needs
 
 changed-requires : tie.Need-changed-requires
 changed-requires c κs = search needs
@@ -42,9 +48,9 @@ same-length-2 c = search needs
 
 returns-2 : tie.Need-returns-2
 returns-2 c =
-    let a = c .before .before .before .before .before .before .before .before .before .before .before .before .before .before .args in
-    let e = c .before .before .before .before .before .before .before .apply-never-defaults .ensures in
-    λ z A L. defaults-done L (solve (limitsOf (a .x)) z orders.nevers) (nevers-tell (limitsOf (a .x)) z) (now (a .out)) (a .to) (c .before .before .before .before .before .before .before .before .before .before .before .before .before .before .pre .1 .inside) _ _ _ _ _ (omega (arith, c .before .before .before .before .before .before .before .before .before .if1 .left)) (e .0 z loose L (arises-low (a .x) _ _ _ z loose loose-codes A L)) (e .1) (c .before .before .before .before .changed .ensures) (c .before .before .told .ensures)
+    let a = c .before .before .before .before .before .before .before .before .before .before .before .before .before .before .before .before .args in
+    let e = c .before .before .before .before .before .before .before .before .apply-never-defaults .ensures in
+    λ z A L. defaults-done L (solve (limitsOf (a .x)) z orders.nevers) (nevers-tell (limitsOf (a .x)) z) (now (a .out)) (a .to) (c .before .before .before .before .before .before .before .before .before .before .before .before .before .before .before .before .pre .1 .inside) _ _ _ _ _ (omega (arith, c .before .before .before .before .before .before .before .before .before .before .before .if1 .left)) (e .0 z loose L (arises-low (a .x) _ _ _ z loose loose-codes A L)) (e .1) (rw (c .before .before .before .before .before .before .before .before .before .before .revision .ensures .0, c .before .before .before .before .before .revision2 .ensures .0) at (c .before .before .before .before .changed .ensures)) (c .before .before .told .ensures)
 
 pub default-nevers-spec : {M : Type 1} → statement M
 default-nevers-spec =
@@ -53,7 +59,9 @@ default-nevers-spec =
     sub-if1
     add-next
     returns
+    revision-requires
     apply-never-defaults-requires
+    revision-requires-2
     changed-requires
     told-requires
     same-length

@@ -1,25 +1,17 @@
--- `named`: a byte and the number behind their opening. Assumes nothing.
+-- `named`: a variable behind its opening. Assumes nothing.
 use denote.Ref.{now}
 use native.Mathlib.Omega.{arith}
-use lib.ListN.{length-set}
-use Rattle.terms.specs.Term.{var, bytes}
-use Rattle.terms.proofs.WriteLaws.{short-word}
+use Rattle.solver.specs.Terms.Term.{var, bytes}
 use Rattle.sheet.proofs.FramingLaws.{begun-long, begun-room, value-in, value-over}
-use Rattle.sheet.proofs.DoingLaws.{var-size, var-stored}
 use borrow.Author.Needs.{needs}
 use Rattle.sheet.proofs.solving.named.Statement.{statement}
 use Rattle.sheet.proofs.solving.named.Tie as tie
 
-number-len-requires : tie.Need-number-len-requires
-number-len-requires c κs = search needs
-
-add-size : tie.Need-add-size
-add-size c =
-    omega (arith, c .number-len .ensures, short-word (c .before .before .args .v) (c .before .before .pre .1))
+variable-len-requires : tie.Need-variable-len-requires
+variable-len-requires c κs = search needs
 
 begin-requires : tie.Need-begin-requires
-begin-requires c κs =
-    c .before .before .before .pre .0
+begin-requires c κs = c .before .before .before .pre
 
 same-length : tie.Need-same-length
 same-length c = search needs
@@ -28,47 +20,33 @@ returns : tie.Need-returns
 returns c =
     let a = c .before .before .before .before .before .before .before .args in
     let l = begun-long _ (now (a .out)) (a .to) _ _ (c .before .before .before .begin .ensures) in
-    value-over (bytes (var (a .v))) _ (var-size _ (a .v) (c .before .before .before .before .before .number-len .ensures)) (now (a .out)) (a .to) _ _ (c .before .before .before .begin .ensures) (omega (arith, l, c .if1 .taken))
+    value-over (bytes (var (a .v))) _ (c .before .before .before .before .before .variable-len .ensures .0) (now (a .out)) (a .to) _ _ (c .before .before .before .begin .ensures) (omega (arith, l, c .if1 .taken))
 
-slice-write-out : tie.Need-slice-write-out
-slice-write-out c =
-    let a = c .before .before .before .before .before .before .before .args in
-    let l = begun-long _ (now (a .out)) (a .to) _ _ (c .before .before .before .begin .ensures) in
-    let m = begun-room _ (now (a .out)) (a .to) _ _ (c .before .before .before .begin .ensures) (omega (arith, l, c .if1 .left)) in
-    omega (arith, m)
-
-add-write-number : tie.Need-add-write-number
-add-write-number c = search needs
-
-write-number-requires : tie.Need-write-number-requires
-write-number-requires c κs =
+write-variable-requires : tie.Need-write-variable-requires
+write-variable-requires c κs =
     let a = c .before .before .before .before .before .before .before .before .args in
     let l = begun-long _ (now (a .out)) (a .to) _ _ (c .before .before .before .before .begin .ensures) in
     let m = begun-room _ (now (a .out)) (a .to) _ _ (c .before .before .before .before .begin .ensures) (omega (arith, l, c .before .if1 .left)) in
-    simp length-set (omega (arith, m, c .before .before .before .before .before .before .number-len .ensures))
+    omega (arith, m, c .before .before .before .before .before .before .variable-len .ensures .0)
 
 same-length-2 : tie.Need-same-length-2
-same-length-2 c =
-    omega (arith, simp length-set at (c .before .before .write-number .kept .0), c .before .before .before .before .before .before .before .begin .kept .0)
+same-length-2 c = search needs
 
 returns-2 : tie.Need-returns-2
 returns-2 c =
     let a = c .before .before .before .before .before .before .before .before .before .before .before .args in
     let l = begun-long _ (now (a .out)) (a .to) _ _ (c .before .before .before .before .before .before .before .begin .ensures) in
-    let s = var-size _ (a .v) (c .before .before .before .before .before .before .before .before .before .number-len .ensures) in
-    value-in (bytes (var (a .v))) _ s (now (a .out)) (a .to) _ _ (c .before .before .before .before .before .before .before .begin .ensures) (omega (arith, l, c .before .before .before .before .if1 .left)) _ _ (omega (arith, s, c .before .before .before .before .before .before .before .before .before .number-len .ensures, c .before .before .write-number .ensures .0)) (var-stored _ _ (a .v) _ (c .before .before .write-number .ensures .1))
+    let w = c .before .before .write-variable .ensures in
+    value-in (bytes (var (a .v))) _ (c .before .before .before .before .before .before .before .before .before .variable-len .ensures .0) (now (a .out)) (a .to) _ _ (c .before .before .before .before .before .before .before .begin .ensures) (omega (arith, l, c .before .before .before .before .if1 .left)) _ _ (w .0) (w .1)
 
 pub named-spec : {M : Type 1} → statement M
 named-spec =
     tie.close
     (tie.spec
-    number-len-requires
-    add-size
+    variable-len-requires
     begin-requires
     same-length
     returns
-    slice-write-out
-    add-write-number
-    write-number-requires
+    write-variable-requires
     same-length-2
     returns-2)

@@ -18,11 +18,11 @@ same-length-2 c = search needs
 returns : tie.Need-returns
 returns c =
     let a = c .before .before .before .before .before .before .before .before .before .before .before .before .before .args in
-    (c .before .before .before .before .before .before .before .before .before .before .before .before .before .pre .1 .0 .2, λ z A L. does-as (a .x) _ _ _ _ _ z _ _ (plain-variable (a .kind) (a .first) (a .second) (c .before .before .before .before .before .before .before .if1 .taken)) (now (a .out)) (a .to) _ _ (c .before .before .before .before .variable-of .ensures _ _ z L))
+    (c .before .before .before .before .before .before .before .before .before .before .before .before .before .pre .1 .0 .1 .clear, λ z A L. does-as (a .x) _ _ _ _ _ z _ _ (plain-variable (a .kind) (a .first) (a .second) (c .before .before .before .before .before .before .before .if1 .taken)) (now (a .out)) (a .to) _ _ (c .before .before .before .before .variable-of .ensures _ _ z L))
 
 number-of-requires : tie.Need-number-of-requires
 number-of-requires c κs =
-    let p = c .before .before .before .before .before .before .before .before .before .before .pre in ((p .0 .0, p .0 .2), ((p .1 .0 .0 (c .before .before .before .if2 .taken), p .1 .0 .1, p .1 .0 .2), p .1 .1))
+    let p = c .before .before .before .before .before .before .before .before .before .before .pre in ((p .0 .0, p .0 .2), ((p .1 .0 .0 (c .before .before .before .if2 .taken), p .1 .0 .1), p .1 .1))
 
 same-length-3 : tie.Need-same-length-3
 same-length-3 c = search needs
@@ -41,7 +41,7 @@ returns-2 c =
 
 hole-of-requires : tie.Need-hole-of-requires
 hole-of-requires c κs =
-    let p = c .before .before .before .before .before .before .before .before .before .before .before .pre in ((p .0 .0, p .0 .2), ((p .1 .0 .1, p .1 .0 .2), p .1 .1))
+    let p = c .before .before .before .before .before .before .before .before .before .before .before .pre in ((p .0 .0, p .0 .2), (p .1 .0 .1, p .1 .1))
 
 same-length-6 : tie.Need-same-length-6
 same-length-6 c = search needs
@@ -71,7 +71,7 @@ same-length-10 c = search needs
 returns-4 : tie.Need-returns-4
 returns-4 c =
     let a = c .before .before .before .before .before .before .before .before .before .before .before .before .before .before .before .before .args in
-    (c .before .before .before .before .before .before .before .before .before .before .before .before .before .before .before .before .pre .1 .0 .2, λ z A L. does-as (a .x) _ _ _ _ _ z _ _ (plain-numbers (a .kind) (a .first) (a .second) (c .before .before .before .before .before .before .before .if4 .taken)) (now (a .out)) (a .to) _ _ (c .before .before .before .before .default-numbers .ensures z A L))
+    (c .before .before .before .before .before .before .before .before .before .before .before .before .before .before .before .before .pre .1 .0 .1 .clear, λ z A L. does-as (a .x) _ _ _ _ _ z _ _ (plain-numbers (a .kind) (a .first) (a .second) (c .before .before .before .before .before .before .before .if4 .taken)) (now (a .out)) (a .to) _ _ (c .before .before .before .before .default-numbers .ensures z A L))
 
 default-nevers-requires : tie.Need-default-nevers-requires
 default-nevers-requires c κs =
@@ -86,7 +86,7 @@ same-length-12 c = search needs
 returns-5 : tie.Need-returns-5
 returns-5 c =
     let a = c .before .before .before .before .before .before .before .before .before .before .before .before .before .before .before .before .before .args in
-    (c .before .before .before .before .before .before .before .before .before .before .before .before .before .before .before .before .before .pre .1 .0 .2, λ z A L. does-as (a .x) _ _ _ _ _ z _ _ (plain-nevers (a .kind) (a .first) (a .second) (c .before .before .before .before .before .before .before .if5 .taken)) (now (a .out)) (a .to) _ _ (c .before .before .before .before .default-nevers .ensures z A L))
+    (c .before .before .before .before .before .before .before .before .before .before .before .before .before .before .before .before .before .pre .1 .0 .1 .clear, λ z A L. does-as (a .x) _ _ _ _ _ z _ _ (plain-nevers (a .kind) (a .first) (a .second) (c .before .before .before .before .before .before .before .if5 .taken)) (now (a .out)) (a .to) _ _ (c .before .before .before .before .default-nevers .ensures z A L))
 
 tell-revision-requires : tie.Need-tell-revision-requires
 tell-revision-requires c κs = search needs
@@ -97,7 +97,7 @@ same-length-13 c = search needs
 returns-6 : tie.Need-returns-6
 returns-6 c =
     let a = c .before .before .before .before .before .before .before .before .before .before .before .before .before .before .args in
-    (c .before .before .before .before .before .before .before .before .before .before .before .before .before .before .pre .1 .0 .2, λ z A L. does-as (a .x) _ _ _ _ _ z _ _ (plain-revision (a .kind) (a .first) (a .second) (c .before .before .before .before .before .before .before .before .if1 .left) (c .before .before .before .before .before .before .before .if2 .left) (c .before .before .before .before .before .before .if3 .left) (c .before .before .before .before .before .if4 .left) (c .before .before .before .before .if5 .left)) (now (a .out)) (a .to) _ _ (c .before .before .tell-revision .ensures _ _ _ z L))
+    (c .before .before .before .before .before .before .before .before .before .before .before .before .before .before .pre .1 .0 .1 .clear, λ z A L. does-as (a .x) _ _ _ _ _ z _ _ (plain-revision (a .kind) (a .first) (a .second) (c .before .before .before .before .before .before .before .before .if1 .left) (c .before .before .before .before .before .before .before .if2 .left) (c .before .before .before .before .before .before .if3 .left) (c .before .before .before .before .before .if4 .left) (c .before .before .before .before .if5 .left)) (now (a .out)) (a .to) _ _ (c .before .before .tell-revision .ensures _ _ _ z L))
 
 pub solve-plain-spec : {M : Type 1} → statement M
 solve-plain-spec =

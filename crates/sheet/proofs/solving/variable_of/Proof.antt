@@ -1,19 +1,24 @@
 -- `variable_of`: refused, answered and then issued, or not answered. Assumes nothing.
-use mathlib.Core.Path.{refl, sym}
 use denote.Ref.{now}
 use native.Mathlib.Omega.{arith}
-use Rattle.terms.specs.Term.{var, bytes}
+use Rattle.solver.specs.Terms.Term.{var, bytes}
 use Rattle.solver.specs.Shapes.{loose}
-use Rattle.solver.specs.Session.{at, gap}
 use Rattle.solver.specs.Orders as orders
 use Rattle.solver.specs.Lent.{limitsOf}
+use Rattle.solver.specs.Session.{at}
 use Rattle.sheet.proofs.DoingLaws.{variable-answer, variable-full, place-refused, place-over, place-done}
 use borrow.Author.Needs.{needs}
 use Rattle.sheet.proofs.solving.variable_of.Statement.{statement}
 use Rattle.sheet.proofs.solving.variable_of.Tie as tie
 
-find-place-requires : tie.Need-find-place-requires
-find-place-requires c κs = search needs
+id-of-requires : tie.Need-id-of-requires
+id-of-requires c κs = c .before .before .before .pre .0
+
+enum-known-v : tie.Need-enum-known-v
+enum-known-v c = search needs
+
+enum-told : tie.Need-enum-told
+enum-told c = search needs
 
 refused-requires : tie.Need-refused-requires
 refused-requires c κs = search needs
@@ -26,12 +31,11 @@ same-length-2 c = search needs
 
 returns : tie.Need-returns
 returns c =
-    let a = c .before .before .before .before .before .before .before .before .before .args in
-    λ ks vs z L. place-refused (a .x) ks vs (now (a .tables)) z L (orders.variable (a .site) (a .slot)) (at (a .site) (a .slot)) (λ v. bytes (var v)) (variable-answer (limitsOf (a .x)) z (a .site) (a .slot)) (variable-full (limitsOf (a .x)) z (a .site) (a .slot)) _ (c .before .before .before .before .before .find-place .ensures .1 (at (a .site) (a .slot)) (z .places) (refl, refl, refl) (sym (L .issued)) (L .places)) (now (a .out)) (a .to) _ _ (c .before .before .before .before .if1 .taken) (c .before .before .refused .ensures)
+    let a = c .before .before .before .before .before .before .before .before .before .before .args in
+    λ ks vs z L. place-refused (a .x) ks vs (now (a .tables)) z L (orders.variable (a .site) (a .slot)) (at (a .site) (a .slot)) (λ v. bytes (var v)) (variable-answer (limitsOf (a .x)) z (a .site) (a .slot)) (variable-full (limitsOf (a .x)) z (a .site) (a .slot)) _ (c .before .before .before .before .before .before .id-of .ensures .0 ks vs z L) (now (a .out)) (a .to) _ _ (c .before .before .before .before .enum-told .given .1) (c .before .before .refused .ensures)
 
 named-requires : tie.Need-named-requires
-named-requires c κs =
-    (c .before .before .before .before .before .before .pre .1, omega (arith, c .before .if1 .left, c .before .before .before .before .before .before .pre .0 .3 .narrow))
+named-requires c κs = c .before .before .before .before .before .before .before .before .pre .1
 
 same-length-3 : tie.Need-same-length-3
 same-length-3 c = search needs
@@ -41,8 +45,8 @@ same-length-4 c = search needs
 
 returns-2 : tie.Need-returns-2
 returns-2 c =
-    let a = c .before .before .before .before .before .before .before .before .before .before .args in
-    λ ks vs z L. place-over (a .x) ks vs (now (a .tables)) z L (orders.variable (a .site) (a .slot)) (at (a .site) (a .slot)) (λ v. bytes (var v)) (variable-answer (limitsOf (a .x)) z (a .site) (a .slot)) (variable-full (limitsOf (a .x)) z (a .site) (a .slot)) _ (c .before .before .before .before .before .before .find-place .ensures .1 (at (a .site) (a .slot)) (z .places) (refl, refl, refl) (sym (L .issued)) (L .places)) (now (a .out)) (a .to) _ _ (omega (arith, c .before .before .before .before .before .if1 .left)) (c .before .before .before .named .ensures) (omega (arith, c .if2 .taken, c .before .before .before .named .kept .0))
+    let a = c .before .before .before .before .before .before .before .before .before .before .before .before .args in
+    λ ks vs z L. place-over (a .x) ks vs (now (a .tables)) z L (orders.variable (a .site) (a .slot)) (at (a .site) (a .slot)) (λ v. bytes (var v)) (variable-answer (limitsOf (a .x)) z (a .site) (a .slot)) (variable-full (limitsOf (a .x)) z (a .site) (a .slot)) _ (c .before .before .before .before .before .before .before .before .id-of .ensures .0 ks vs z L) (now (a .out)) (a .to) _ _ _ (c .before .before .before .before .before .before .v .given .1) (c .before .before .before .named .ensures) (omega (arith, c .if1 .taken, c .before .before .before .named .kept .0))
 
 variable-requires : tie.Need-variable-requires
 variable-requires c κs = search needs
@@ -55,15 +59,17 @@ same-length-6 c = search needs
 
 returns-3 : tie.Need-returns-3
 returns-3 c =
-    let a = c .before .before .before .before .before .before .before .before .before .before .before .before .before .before .before .args in
+    let a = c .before .before .before .before .before .before .before .before .before .before .before .before .before .before .before .before .before .args in
     let w = c .before .before .before .variable .ensures in
-    λ ks vs z L. place-done (a .x) ks vs (now (a .tables)) z L (orders.variable (a .site) (a .slot)) (at (a .site) (a .slot)) (λ v. bytes (var v)) (variable-answer (limitsOf (a .x)) z (a .site) (a .slot)) (variable-full (limitsOf (a .x)) z (a .site) (a .slot)) _ (c .before .before .before .before .before .before .before .before .before .before .before .find-place .ensures .1 (at (a .site) (a .slot)) (z .places) (refl, refl, refl) (sym (L .issued)) (L .places)) (now (a .out)) (a .to) _ _ (omega (arith, c .before .before .before .before .before .before .before .before .before .before .if1 .left)) (c .before .before .before .before .before .before .before .before .named .ensures) (omega (arith, c .before .before .before .before .before .if2 .left, c .before .before .before .before .before .before .before .before .named .kept .0)) _ _ (w .0 ks vs z loose L .lent) (w .1)
+    λ ks vs z L. place-done (a .x) ks vs (now (a .tables)) z L (orders.variable (a .site) (a .slot)) (at (a .site) (a .slot)) (λ v. bytes (var v)) (variable-answer (limitsOf (a .x)) z (a .site) (a .slot)) (variable-full (limitsOf (a .x)) z (a .site) (a .slot)) _ (c .before .before .before .before .before .before .before .before .before .before .before .before .before .id-of .ensures .0 ks vs z L) (now (a .out)) (a .to) _ _ _ (c .before .before .before .before .before .before .before .before .before .before .before .v .given .1) (c .before .before .before .before .before .before .before .before .named .ensures) (omega (arith, c .before .before .before .before .before .if1 .left, c .before .before .before .before .before .before .before .before .named .kept .0)) _ _ (w .0 ks vs z loose L .lent) (w .1)
 
 pub variable-of-spec : {M : Type 1} → statement M
 variable-of-spec =
     tie.close
     (tie.spec
-    find-place-requires
+    id-of-requires
+    enum-known-v
+    enum-told
     refused-requires
     same-length
     same-length-2

@@ -2,8 +2,8 @@
 use native.Mathlib.Omega.{arith}
 use mathlib.Core.Path.{_≡_}
 use denote.Ref.{now}
-use Rattle.terms.specs.Result.{got}
-use Rattle.terms.specs.Number.{number}
+use Rattle.solver.specs.Terms.Result.{got}
+use Rattle.solver.specs.Terms.Number.{number}
 use Rattle.sheet.proofs.CodeLaws.{number-coded}
 use Rattle.sheet.proofs.PartLaws.{number-told, number-refused}
 use Rattle.sheet.proofs.SplittingLaws.{number-inside, frame-short, frame-whole, frame-none}

@@ -1,12 +1,23 @@
 -- `lay_fresh`: a fresh session. Assumes nothing.
-use native.Mathlib.Omega.{arith}
 use denote.Ref.{now}
-use mathlib.Core.Path.{refl, _∙_}
-use lib.ListN.{length, length-take}
-use Rattle.sheet.proofs.StartingLaws.{zero-cleared, front-long, lays-fresh}
+use native.Mathlib.Omega.{arith}
+use mathlib.Core.Path.{sym}
+use mathlib.Core.List.{_++_}
+use lib.ListN.{length, drop}
+use lib.Seq.{length-take-le}
+use Rattle.solver.proofs.WholeLaws.{zero-cleared}
+use Rattle.sheet.proofs.LaysLaws.{tail-all}
+use Rattle.sheet.proofs.StartingLaws.{front-inside, front-rest, lays-fresh}
 use borrow.Author.Needs.{needs}
 use Rattle.sheet.proofs.starting.lay_fresh.Statement.{statement}
 use Rattle.sheet.proofs.starting.lay_fresh.Tie as tie
+
+slice-relend-prefix-clear : tie.Need-slice-relend-prefix-clear
+slice-relend-prefix-clear c = search needs
+
+slice-aggregate-clear : tie.Need-slice-aggregate-clear
+slice-aggregate-clear c =
+    let a = c .before .before .before .before .before .args in sym (length-take-le (a .half) (now (a .c)) (c .before .before .before .before .before .pre .0))
 
 clear-requires : tie.Need-clear-requires
 clear-requires c κs = search needs
@@ -14,26 +25,25 @@ clear-requires c κs = search needs
 clear-requires-2 : tie.Need-clear-requires-2
 clear-requires-2 c κs = search needs
 
-clear-requires-3 : tie.Need-clear-requires-3
-clear-requires-3 c κs = search needs
+mul-fresh : tie.Need-mul-fresh
+mul-fresh c = search needs
 
-clear-requires-4 : tie.Need-clear-requires-4
-clear-requires-4 c κs = search needs
+sub-fresh : tie.Need-sub-fresh
+sub-fresh c =
+    let a = c .before .before .before .before .before .before .before .before .before .before .before .before .before .before .args in omega (arith, front-inside (a .half) (now (a .c)) (c .before .before .before .before .before .before .before .before .clear .last .0) (c .before .before .before .before .before .before .before .before .before .before .before .before .before .before .pre .0) (c .before .before .before .before .before .before .before .before .clear .ensures))
 
-slice-relend-prefix-store-builtins : tie.Need-slice-relend-prefix-store-builtins
-slice-relend-prefix-store-builtins c = search needs
+part-fresh-start : tie.Need-part-fresh-start
+part-fresh-start c =
+    let a = c .before .before .before .before .before .before .before .before .before .before .before .before .before .before .args in omega (arith, front-inside (a .half) (now (a .c)) (c .before .before .before .before .before .before .before .before .clear .last .0) (c .before .before .before .before .before .before .before .before .before .before .before .before .before .before .pre .0) (c .before .before .before .before .before .before .before .before .clear .ensures))
 
-slice-aggregate-store-builtins : tie.Need-slice-aggregate-store-builtins
-slice-aggregate-store-builtins c = simp length-take (omega (arith, c .before .before .before .before .before .before .before .before .before .before .before .before .before .before .before .clear .kept .0, c .before .before .before .before .before .before .before .before .before .before .before .before .before .before .before .before .before .before .before .before .before .pre .0))
+part-fresh-end : tie.Need-part-fresh-end
+part-fresh-end c = search needs
 
-slice-relend-prefix-store-builtins-2 : tie.Need-slice-relend-prefix-store-builtins-2
-slice-relend-prefix-store-builtins-2 c = search needs
-
-slice-aggregate-store-builtins-2 : tie.Need-slice-aggregate-store-builtins-2
-slice-aggregate-store-builtins-2 c = simp length-take (omega (arith, c .before .before .before .before .before .before .before .before .before .before .before .before .clear2 .kept .0, c .before .before .before .before .before .before .before .before .before .before .before .before .before .before .before .before .before .before .before .before .before .before .pre .1))
-
-store-builtins-requires : tie.Need-store-builtins-requires
-store-builtins-requires c κs = (front-long 64 (c .before .before .before .before .before .before .before .before .before .before .before .before .before .before .before .before .clear .last .0) (now (c .before .before .before .before .before .before .before .before .before .before .before .before .before .before .before .before .before .before .before .before .before .before .args .a)) (c .before .before .before .before .before .before .before .before .before .before .before .before .before .before .before .before .clear .kept .0) (c .before .before .before .before .before .before .before .before .before .before .before .before .before .before .before .before .before .before .before .before .before .before .pre .0), front-long 64 (c .before .before .before .before .before .before .before .before .before .before .before .before .clear2 .last .0) (now (c .before .before .before .before .before .before .before .before .before .before .before .before .before .before .before .before .before .before .before .before .before .before .args .b)) (c .before .before .before .before .before .before .before .before .before .before .before .before .clear2 .kept .0) (c .before .before .before .before .before .before .before .before .before .before .before .before .before .before .before .before .before .before .before .before .before .before .pre .1))
+fresh-requires : tie.Need-fresh-requires
+fresh-requires c κs =
+    let a = c .before .before .before .before .before .before .before .before .before .before .before .before .before .before .before .args in
+    let f = c .before .before .before .before .before .before .before .before .before .clear in
+    rw (tail-all (a .half) (f .last .0 ++ drop (a .half) (now (a .c))), front-rest (a .half) (now (a .c)) (f .last .0) (c .before .before .before .before .before .before .before .before .before .before .before .before .before .before .before .pre .0) (f .ensures)) (c .before .before .before .before .before .before .before .before .before .before .before .before .before .before .before .pre .1)
 
 same-length : tie.Need-same-length
 same-length c = search needs
@@ -49,32 +59,24 @@ same-length-4 c = search needs
 
 returns : tie.Need-returns
 returns c =
-    let p = c .before .before .before .before .before .before .before .before .before .before .before .before .before .before .before .before .before .before .before .before .before .before .before .before .before .before .before .pre in
-    let k = c .before .before .before .before .store-builtins .kept in
-    let la = k .0 ∙ front-long 64 (c .before .before .before .before .before .before .before .before .before .before .before .before .before .before .before .before .before .before .before .before .before .clear .last .0) (now (c .before .before .before .before .before .before .before .before .before .before .before .before .before .before .before .before .before .before .before .before .before .before .before .before .before .before .before .args .a)) (c .before .before .before .before .before .before .before .before .before .before .before .before .before .before .before .before .before .before .before .before .before .clear .kept .0) (p .0) in
-    let lb = k .1 .0 ∙ front-long 64 (c .before .before .before .before .before .before .before .before .before .before .before .before .before .before .before .before .before .clear2 .last .0) (now (c .before .before .before .before .before .before .before .before .before .before .before .before .before .before .before .before .before .before .before .before .before .before .before .before .before .before .before .args .b)) (c .before .before .before .before .before .before .before .before .before .before .before .before .before .before .before .before .before .clear2 .kept .0) (p .1) in (
-      refl,
-      lays-fresh _ _ _ _ _ (c .before .before .before .before .before .before .before .before .before .before .before .before .before .before .before .before .before .before .before .before .before .clear .last .0) (c .before .before .before .before .before .before .before .before .before .before .before .before .before .before .before .before .before .clear2 .last .0) _ _ la lb (c .before .before .before .before .store-builtins .ensures)
-          (zero-cleared (c .before .before .before .before .before .before .before .before .before .before .before .before .before .before .before .before .before .before .before .before .before .clear .last .0) (length (now (c .before .before .before .before .before .before .before .before .before .before .before .before .before .before .before .before .before .before .before .before .before .before .before .before .before .before .before .args .a))) (c .before .before .before .before .before .before .before .before .before .before .before .before .before .before .before .before .before .before .before .before .before .clear .ensures))
-          (zero-cleared (c .before .before .before .before .before .before .before .before .before .before .before .before .before .before .before .before .before .clear2 .last .0) (length (now (c .before .before .before .before .before .before .before .before .before .before .before .before .before .before .before .before .before .before .before .before .before .before .before .before .before .before .before .args .b))) (c .before .before .before .before .before .before .before .before .before .before .before .before .before .before .before .before .before .clear2 .ensures))
-          (zero-cleared (c .before .before .before .before .before .before .before .before .before .before .before .before .before .clear3 .last .0) (length (now (c .before .before .before .before .before .before .before .before .before .before .before .before .before .before .before .before .before .before .before .before .before .before .before .before .before .before .before .args .c))) (c .before .before .before .before .before .before .before .before .before .before .before .before .before .clear3 .ensures))
-          (zero-cleared (c .before .before .before .before .before .before .before .before .before .clear4 .last .0) (length (now (c .before .before .before .before .before .before .before .before .before .before .before .before .before .before .before .before .before .before .before .before .before .before .before .before .before .before .before .args .d))) (c .before .before .before .before .before .before .before .before .before .clear4 .ensures))
-          (p .2) (omega (arith, c .before .before .before .before .before .before .before .before .before .before .before .before .before .clear3 .kept .0, p .3)),
-    )
+    let a = c .before .before .before .before .before .before .before .before .before .before .before .before .before .before .before .before .before .before .before .before .before .before .args in
+    let f = c .before .before .before .before .before .before .before .before .before .before .before .before .before .before .before .before .clear in
+    let e = c .before .before .before .before .before .before .fresh .ensures in
+    (e .0, lays-fresh (a .half) (now (a .c)) (f .last .0) (c .before .before .before .before .before .before .before .before .before .before .before .before .before .before .before .before .before .before .before .before .before .before .pre .0) (f .ensures) _ _ _ _ _ _ _ (e .0) (zero-cleared (c .before .before .before .before .before .before .before .before .before .before .before .before .clear2 .last .0) (length (now (a .d))) (c .before .before .before .before .before .before .before .before .before .before .before .before .clear2 .ensures)) (e .1))
 
 pub lay-fresh-spec : {M : Type 1} → statement M
 lay-fresh-spec =
     tie.close
     (tie.spec
+    slice-relend-prefix-clear
+    slice-aggregate-clear
     clear-requires
     clear-requires-2
-    clear-requires-3
-    clear-requires-4
-    slice-relend-prefix-store-builtins
-    slice-aggregate-store-builtins
-    slice-relend-prefix-store-builtins-2
-    slice-aggregate-store-builtins-2
-    store-builtins-requires
+    mul-fresh
+    sub-fresh
+    part-fresh-start
+    part-fresh-end
+    fresh-requires
     same-length
     same-length-2
     same-length-3

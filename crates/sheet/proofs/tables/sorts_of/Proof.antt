@@ -2,7 +2,7 @@
 use mathlib.Core.Path.{_≡_}
 use native.Mathlib.Omega.{arith}
 use Prim.Native.Nat.{ℕ, _≤_, _<_, zero-le}
-use Rattle.terms.proofs.KindLaws.{past}
+use Rattle.solver.proofs.Terms.KindLaws.{past}
 use Rattle.sheet.specs.Fields.{layout}
 use Rattle.sheet.specs.Laid.{packed, sortNumber}
 use Rattle.sheet.proofs.tables.sorts_of.Statement.{statement}

@@ -6,6 +6,7 @@ use native.Mathlib.Omega.{arith}
 use lib.Seq.{length-take-le}
 use Rattle.solver.proofs.MethodLaws.{beside-same, beside-set}
 use Rattle.solver.proofs.ChainLaws.{deferred-none, deferred-some, deferred-far}
+use Rattle.solver.proofs.BehindLaws.{poses-inside, behind-bindings}
 use borrow.Author.Needs.{needs}
 use Rattle.solver.proofs.Solver.defer_never.Statement.{statement}
 use Rattle.solver.proofs.Solver.defer_never.Tie as tie
@@ -16,10 +17,12 @@ slice-reshare-prefix-top-at c = search needs
 slice-aggregate-top-at : tie.Need-slice-aggregate-top-at
 slice-aggregate-top-at c =
     let p = c .before .before .before .before .pre in
-    sym (length-take-le _ _ (omega (arith, p .0 .room)))
+    sym (length-take-le _ _ (omega (arith, p .3 .behind .lent .room)))
 
 top-at-requires : tie.Need-top-at-requires
-top-at-requires c κs = search needs
+top-at-requires c κs =
+    let p = c .before .before .before .before .pre in
+    (poses-inside _ _ _ _ _ _ _ (p .3), p .3 .behind .pairs)
 
 mul-if1 : tie.Need-mul-if1
 mul-if1 c = search needs
@@ -57,7 +60,7 @@ returns c =
     let p = c .before .before .before .before .before .before .before .before .before .before .pre in
     let t = c .before .before .before .before .before .top-at in
     let l = c .if2 .taken in (
-      λ s n u e A L h k. deferred-some (a .self) (now (a .kinds)) (now (a .vals)) (now (a .tables)) s n e A L u (t .result) (t .ensures .1 u (s .solver .bindings) h (L .bindings)) _ (c .before .wide .ensures) (c .before .before .before .if1 .taken) l,
+      λ n s u P. deferred-some (a .self) _ _ (now (a .tables)) s n (P .behind .codes) (P .behind .arises) (P .behind .lent) (now (a .kinds)) (now (a .vals)) u (t .result) (t .ensures .1 u (s .solver .bindings) (P .held) (behind-bindings _ _ _ _ _ _ (P .behind))) _ (c .before .wide .ensures) (c .before .before .before .if1 .taken) l,
       beside-set (a .self) (a .self) (now (a .tables)) (now (a .tables)) (5 * a .self .variables + c .before .wide .result) 1 (beside-same (a .self) (now (a .tables))) (omega arith),
     )
 
@@ -68,7 +71,7 @@ returns-2 : tie.Need-returns-2
 returns-2 c =
     let a = c .before .before .before .before .before .before .before .before .before .before .args in
     let t = c .before .before .before .before .before .top-at in (
-      λ s n u e A L h k. absurd (omega (arith, deferred-far (a .self) (now (a .kinds)) (now (a .vals)) (now (a .tables)) s n e A L u (t .result) (t .ensures .1 u (s .solver .bindings) h (L .bindings)) k (c .before .before .before .if1 .taken), c .before .wide .ensures, c .if2 .left)),
+      λ n s u P. absurd (omega (arith, deferred-far (a .self) _ _ (now (a .tables)) s n (P .behind .codes) (P .behind .arises) (P .behind .lent) (now (a .kinds)) (now (a .vals)) u (t .result) (t .ensures .1 u (s .solver .bindings) (P .held) (behind-bindings _ _ _ _ _ _ (P .behind))) (P .within) (c .before .before .before .if1 .taken), c .before .wide .ensures, c .if2 .left)),
       beside-same (a .self) (now (a .tables)),
     )
 
@@ -79,7 +82,7 @@ returns-3 : tie.Need-returns-3
 returns-3 c =
     let a = c .before .before .before .before .before .before .before .args in
     let t = c .before .before .top-at in (
-      λ s n u e A L h k. deferred-none (a .self) (now (a .kinds)) (now (a .vals)) (now (a .tables)) s n e A L u (t .result) (t .ensures .1 u (s .solver .bindings) h (L .bindings)) (c .if1 .left),
+      λ n s u P. deferred-none (a .self) _ _ (now (a .tables)) s n (P .behind .codes) (P .behind .arises) (P .behind .lent) (now (a .kinds)) (now (a .vals)) u (t .result) (t .ensures .1 u (s .solver .bindings) (P .held) (behind-bindings _ _ _ _ _ _ (P .behind))) (c .if1 .left),
       beside-same (a .self) (now (a .tables)),
     )
 

@@ -1,17 +1,45 @@
--- `Solver::resolve`. Assumes nothing.
+-- `Solver::resolve`. By where resolving begins. Assumes nothing.
 use denote.Ref.{now}
-use mathlib.Core.Path.{sym}
+use native.Mathlib.Omega.{arith}
+use mathlib.Core.Path.{sym, ap, _∙_}
+use lib.ListN.{length, take}
 use lib.Seq.{length-take-le}
-use Rattle.solver.proofs.MethodLaws.{answered-resolved}
+use Rattle.terms.specs.Term.{bytes}
+use Rattle.solver.proofs.ResolvedLaws.{resolved-bytes}
+use Rattle.solver.proofs.BehindLaws.{asked-areas, begins-at, stands-free, wrote-as}
 use borrow.Author.Needs.{needs}
 use Rattle.solver.proofs.Solver.resolve.Statement.{statement}
 use Rattle.solver.proofs.Solver.resolve.Tie as tie
 
-slice-aggregate-resolve-into : tie.Need-slice-aggregate-resolve-into
-slice-aggregate-resolve-into c = sym (length-take-le _ _ (c .before .before .before .before .before .before .pre .0 .2))
+start-requires : tie.Need-start-requires
+start-requires c κs = let p = c .before .before .before .before .before .pre .0 in (p .0, _, _, p .1, p .2, p .3)
 
-resolve-into-requires : tie.Need-resolve-into-requires
-resolve-into-requires c κs = search needs
+enum-known-begun : tie.Need-enum-known-begun
+enum-known-begun c = search needs
+
+slice-aggregate-write-resolved : tie.Need-slice-aggregate-write-resolved
+slice-aggregate-write-resolved c =
+    let a = c .before .before .before .before .before .before .before .before .before .before .args in
+    let p = c .before .before .before .before .before .before .before .before .before .before .pre .0 in
+    sym (length-take-le _ _ (omega (arith, asked-areas (p .0) (a .self) _ _ _ (p .1) (p .2) (a .what) (p .3) .room)))
+
+write-resolved-requires : tie.Need-write-resolved-requires
+write-resolved-requires c κs =
+    let a = c .before .before .before .before .before .before .before .before .before .before .before .before .args in
+    let p = c .before .before .before .before .before .before .before .before .before .before .before .before .pre .0 in
+    let F = asked-areas (p .0) (a .self) _ _ _ (p .1) (p .2) (a .what) (p .3) in
+    let B = begins-at (a .self) _ _ (p .1) (p .2) _ (c .before .before .before .before .before .before .start .ensures (p .0) _ _ (p .1) (p .2) (p .3)) _ _ (c .before .before .before .before .begun .given .1) in
+    let l = resolved-bytes (now (a .kinds)) (now (a .vals)) (take (a .self .variables) (now (a .tables))) (p .1 .solver .bindings) (F .bindings) (c .before .before .before .before .begun .given .0 .1 .0) (c .before .before .before .before .begun .given .0 .0) (B .0) (B .1) ∙ ap bytes (sym (B .2)) in
+    ((F .pairs, F .short, omega (arith, B .3, c .before .before .before .before .before .before .before .before .before .before .before .before .pre .1 .room)), (B .4, omega (arith, p .4, ap length l)))
+
+enum-known-begun-2 : tie.Need-enum-known-begun-2
+enum-known-begun-2 c = search needs
+
+write-variable-requires : tie.Need-write-variable-requires
+write-variable-requires c κs =
+    let a = c .before .before .before .before .before .before .before .before .before .before .args in
+    let p = c .before .before .before .before .before .before .before .before .before .before .pre .0 in
+    omega (arith, p .4, ap length (stands-free (a .self) _ _ (p .1) (p .2) _ (c .before .before .before .before .start .ensures (p .0) _ _ (p .1) (p .2) (p .3)) _ (c .before .before .begun2 .given .1)))
 
 same-length : tie.Need-same-length
 same-length c = search needs
@@ -21,11 +49,35 @@ same-length-2 c = search needs
 
 returns : tie.Need-returns
 returns c =
+    let a = c .before .before .before .before .before .before .before .before .before .before .before .before .before .before .before .before .before .args in
+    let e = c .before .before .before .before .write-resolved .ensures in (
+      λ n z t A.
+          let B = begins-at (a .self) _ _ z t _ (c .before .before .before .before .before .before .before .before .before .before .before .start .ensures n _ _ z t A) _ _ (c .before .before .before .before .before .before .before .before .before .begun .given .1) in
+          wrote-as _ _ (a .to) (now (a .out)) _ _ (ap bytes (sym (B .2))) (e .1 .1 .0 (B .0) (z .solver .bindings) (B .1) (asked-areas n (a .self) _ _ _ z t (a .what) A .bindings)),
+      e .1 .1 .1 .1 (c .before .before .before .before .before .before .before .before .before .before .before .before .before .before .before .before .before .pre .1 .clear),
+    )
+
+same-length-3 : tie.Need-same-length-3
+same-length-3 c = search needs
+
+returns-2 : tie.Need-returns-2
+returns-2 c =
     let a = c .before .before .before .before .before .before .before .before .before .before .before .before .before .args in
-    let e = c .before .before .before .before .resolve-into .ensures in
-    (λ s t L h. answered-resolved (a .self) _ _ _ s L t (a .to) (now (a .out)) _ _ (e .1 .0 t (s .solver .bindings) h (L .bindings)), e .1 .1)
+    let e = c .before .before .write-variable .ensures in
+    (λ n z t A. wrote-as _ _ (a .to) (now (a .out)) _ _ (stands-free (a .self) _ _ z t _ (c .before .before .before .before .before .before .before .start .ensures n _ _ z t A) _ (c .before .before .before .before .before .begun2 .given .1)) e, c .before .before .before .before .before .before .before .before .before .before .before .before .before .pre .1 .clear)
 
 pub resolve-spec : {M : Type 1} → statement M
 resolve-spec =
     tie.close
-    (tie.spec slice-aggregate-resolve-into resolve-into-requires same-length same-length-2 returns)
+    (tie.spec
+    start-requires
+    enum-known-begun
+    slice-aggregate-write-resolved
+    write-resolved-requires
+    enum-known-begun-2
+    write-variable-requires
+    same-length
+    same-length-2
+    returns
+    same-length-3
+    returns-2)

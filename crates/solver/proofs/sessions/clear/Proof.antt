@@ -1,8 +1,8 @@
 -- `clear`: every word is 0. Assumes nothing.
-use Rattle.sheet.proofs.StartingLaws.{all-zero}
+use Rattle.solver.proofs.WholeLaws.{all-zero}
 use borrow.Author.Needs.{needs}
-use Rattle.sheet.proofs.starting.clear.Statement.{statement}
-use Rattle.sheet.proofs.starting.clear.Tie as tie
+use Rattle.solver.proofs.sessions.clear.Statement.{statement}
+use Rattle.solver.proofs.sessions.clear.Tie as tie
 
 clear-words-requires : tie.Need-clear-words-requires
 clear-words-requires c κs = search needs

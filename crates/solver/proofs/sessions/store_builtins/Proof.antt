@@ -3,10 +3,10 @@ use native.Mathlib.Omega.{arith}
 use mathlib.Core.Path.{_∙_, sym}
 use Prim.Native.Nat.{_-_}
 use lib.ListN.{length-set}
-use Rattle.sheet.proofs.StartingLaws.{Stored, stored-none, stored-more, stored-all}
+use Rattle.solver.proofs.WholeLaws.{Stored, stored-none, stored-more, stored-all}
 use borrow.Author.Needs.{needs}
-use Rattle.sheet.proofs.starting.store_builtins.Statement.{statement}
-use Rattle.sheet.proofs.starting.store_builtins.Tie as tie
+use Rattle.solver.proofs.sessions.store_builtins.Statement.{statement}
+use Rattle.solver.proofs.sessions.store_builtins.Tie as tie
 
 abbrev Inv-loop : tie.InvT-loop
 Inv-loop a₀ b₀ n₀ a b n = Stored a b n
