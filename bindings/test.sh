@@ -57,7 +57,7 @@ step() {
 as_c() { cc -std=c99 -pedantic -Wall -Wextra -Werror -O1 -pthread "bindings/c/$1.c" "$lib/libsheet.a" -o "$work/$1" && "$work/$1"; }
 as_cpp() { c++ -x c++ -Wall -Wextra -Werror -O1 -pthread "bindings/c/$1.c" -x none "$lib/libsheet.a" -o "$work/$1-cpp" && "$work/$1-cpp"; }
 same_as_bar() { "$@" | diff - bindings/bar.expected; }
-no_state() { nm "$lib/libsheet.a" >"$work/symbols" && ! grep -E ' [bBcCdDgGsS] ' "$work/symbols"; }
+no_state() { nm "$lib/libsheet.a" >"$work/symbols" && grep -q ' T sheet_run$' "$work/symbols" && ! grep -E ' [bBcCdDgGsS] ' "$work/symbols"; }
 in_rust() { (cd bindings/rust && "$@"); }
 crate_example() { in_rust cargo run -q --offline --locked --example bar; }
 
