@@ -26,7 +26,7 @@ Edits are tried in a copy of the crates by rt dev, over an incremental folder. T
 is put back after each edit, so that each starts from the one of the crate as it is. The libraries of the crates below come from --cache too;
 with --wait they are waited for, so that this can run beside rt ci, which removes target first.
 
-The last line is 'N passed, 0 failed'.
+Seconds are processor time. The last line is 'N passed, 0 failed'.
 """
 
 import argparse
@@ -60,7 +60,7 @@ UNPROVED = re.compile(r"^fn \S+: no proof: expected `[^`]+` in (\S+\.antt); `sea
 
 Change = collections.namedtuple("Change", "file old new")
 Fact = collections.namedtuple("Fact", "place name words shows")
-Checked = collections.namedtuple("Checked", "status text seconds")
+Checked = collections.namedtuple("Checked", "status text seconds megabytes")
 
 
 class Bad(Exception):
@@ -326,14 +326,16 @@ class Copy:
                 os.link(os.path.join(self.directory, "kept", crate, file), self.at("inc", crate, file))
 
     def dev(self, crate):
-        """rt dev of a crate."""
-        began = time.time()
+        """rt dev of a crate: its status, what it says, its processor time, its memory."""
         process = subprocess.Popen(["rt", "dev", crate], cwd=self.directory, stdout=subprocess.PIPE, stderr=subprocess.STDOUT,
                                    stdin=subprocess.DEVNULL, start_new_session=True)
         RUNNING.add(process)
-        text = process.communicate()[0].decode(errors="replace")
+        with process.stdout as output:
+            text = output.read().decode(errors="replace")
+        _, status, used = os.wait4(process.pid, 0)
         RUNNING.discard(process)
-        return Checked(process.returncode, text, time.time() - began)
+        process.returncode = os.waitstatus_to_exitcode(status)
+        return Checked(process.returncode, text, used.ru_utime + used.ru_stime, used.ru_maxrss // 1024)
 
     def tried(self, edit):
         """What the check says of the crate with the edit."""
@@ -357,7 +359,7 @@ class Run:
     def __init__(self, options, directory):
         self.options = options
         self.copies = [Copy(os.path.join(directory, str(at))) for at in range(options.jobs)]
-        self.passed = self.failed = 0
+        self.passed = self.failed = self.seconds = self.megabytes = 0
 
     def ready(self, crate, below):
         """Whether the crate as it is is proved, with its cache in every copy."""
@@ -368,6 +370,7 @@ class Run:
             first.take_library(each, self.options.cache)
         first.take_cache(crate, self.options.cache)
         checked = first.dev(crate)
+        self.megabytes = max(self.megabytes, checked.megabytes)
         modules = re.findall("^crate %s: modules loaded=([0-9]+) checked=([0-9]+)" % crate, checked.text, re.M)
         if checked.status != 0 or not re.search("^logic=proved", checked.text, re.M):
             print("%s: as it is it is not proved (status %d)\n%s" % (crate, checked.status, "\n".join(checked.text.splitlines()[-12:])))
@@ -405,13 +408,15 @@ class Run:
             if self.options.logs:
                 os.makedirs(os.path.join(self.options.logs, edit.crate), exist_ok=True)
                 write_text(os.path.join(self.options.logs, edit.crate, edit.name + ".log"), checked.text)
-            self.tell(edit, fault, checked.seconds)
+            self.tell(edit, fault, checked)
 
-    def tell(self, edit, fault, seconds):
+    def tell(self, edit, fault, checked):
         self.passed += fault is None
         self.failed += fault is not None
+        self.seconds += checked.seconds
+        self.megabytes = max(self.megabytes, checked.megabytes)
         at = ", ".join("%s %s" % fact[:2] for fact in edit.facts)
-        print("%s/%s: %s (%d s)" % (edit.crate, edit.name, fault or "refused at " + at, seconds), flush=True)
+        print("%s/%s: %s (%d s)" % (edit.crate, edit.name, fault or "refused at " + at, checked.seconds), flush=True)
 
 
 # The page
@@ -470,6 +475,7 @@ def tried(options, crates, edits):
             own = [edit for edit in edits if edit.crate == crate]
             if own:
                 run.crate(crate, below, own)
+    print("%d edits in %d s of processor time, at most %d MB" % (len(edits), run.seconds, run.megabytes))
     return run.passed, run.failed
 
 
