@@ -45,6 +45,8 @@ import time
 
 ROOT = os.path.dirname(os.path.dirname(os.path.abspath(__file__)))
 PAGE = os.path.join(ROOT, "docs", "MUST-FAIL.md")
+NAMING = (PAGE, os.path.join(ROOT, "README.md"))
+COLUMNS = ("Edit", "Edits of the code", "Of a definition")      # of tables that name edits
 KINDS = {"code": ("src/",), "definition": ("specs/",), "statement": ("src/", "specs/")}
 CONTRACT = ("requires", "ensures", "⌜", "ghost")       # no code
 FAILS = (
@@ -439,6 +441,30 @@ def page_of(text, edits):
     return re.sub(r"(<!-- ([a-z_ ]+) -->\n)(?:\|.*\n)*", replaced, text)
 
 
+def names_in(text):
+    """What the tables of a page have in the columns that name edits."""
+    columns = None
+    for line in text.splitlines():
+        cells = [cell.strip() for cell in line.split("|")] if line.startswith("|") else []
+        if not cells:
+            columns = None
+        elif columns is None:
+            columns = [at for at, cell in enumerate(cells) if cell in COLUMNS]
+        else:
+            for at in columns:
+                yield from re.findall("`([a-z0-9_]+)`", cells[at])
+
+
+def page_faults(edits, crates):
+    """What is wrong with the pages that name edits."""
+    if read_text(PAGE) != page_of(read_text(PAGE), edits):
+        yield PAGE, "its tables are not those of the edits: --tables writes them"
+    for page in NAMING:
+        lost = [name for name in names_in(read_text(page)) if name not in edits and name not in crates]
+        if lost:
+            yield page, "there is no edit " + ", ".join(lost)
+
+
 def main():
     parser = argparse.ArgumentParser(description=__doc__, formatter_class=argparse.RawDescriptionHelpFormatter)
     parser.add_argument("names", nargs="*", metavar="NAME")
@@ -457,10 +483,13 @@ def main():
         return 0
     mine = [edit for edit in chosen(options.names, edits, crates) if "%s/%s" % (edit.crate, edit.name) not in wrong]
     wrong = {name: fault for name, fault in wrong.items() if not options.names or set(name.split("/")) & set(options.names)}
-    if not options.names and read_text(PAGE) != page_of(read_text(PAGE), edits):
-        wrong["docs/MUST-FAIL.md"] = "its tables are not those of the edits: --tables writes them"
     for name, fault in wrong.items():
         print("%s: BAD EDIT: %s" % (name, fault))
+    if not options.names:
+        pages = dict(page_faults(edits, crates))
+        for name, fault in pages.items():
+            print("%s: %s" % (os.path.relpath(name, ROOT), fault))
+        wrong.update(pages)
     passed, failed = (len(mine), 0) if options.list else tried(options, crates, mine)
     print("%d passed, %d failed" % (passed, failed + len(wrong)))
     return 1 if failed or wrong else 0
