@@ -20,7 +20,8 @@ crate. Its lines:
 An old text must be in its file exactly once. PLACE is a file under proofs, or specs/FILE, without Proof, a folder +..+ and the ending; NAME is
 the declaration in it. The edit counts as refused if the check ends with logic=not-proved and has, at each fact, an error that says that
 something does not hold (FAILS below). An error of form (a name that is missing, a case too many, something that was not admitted) does not count,
-and an edit of the code is to leave the needs of each proof, and so the code's shape, as they are.
+and an edit of the code is to leave the needs of each proof, and so the code's shape, as they are. The edits tool_.. test this command itself:
+each has a line 'wanted: TEXT' with the fault that it must be told for, and no page names them.
 
 Edits are tried in a copy of the crates by rt dev, over an incremental folder. The folder is that of --cache (target), or is filled first. It
 is put back after each edit, so that each starts from the one of the crate as it is. The libraries of the crates below come from --cache too;
@@ -76,7 +77,7 @@ class Edit:
 
     def __init__(self, crate, path):
         self.crate, self.path, self.name = crate, path, os.path.basename(path)[:-len(".edit")]
-        self.kind = self.program = self.promise = None
+        self.kind = self.program = self.promise = self.wanted = None
         self.facts, self.changes = [], []
         self.read()
 
@@ -85,7 +86,7 @@ class Edit:
         with open(self.path, encoding="utf-8") as lines:
             for line in lines.read().splitlines():
                 word, _, text = line.partition(": ") if line != "new:" else ("new", "", "")
-                if word in ("kind", "program", "promise"):
+                if word in ("kind", "program", "promise", "wanted"):
                     setattr(self, word, text)
                 elif word == "fact":
                     self.facts.append(fact_of(text))
@@ -223,6 +224,14 @@ def own_errors(errors):
 
 def fault_of(edit, checked):
     """Why the check's answer to an edit is not the wanted one, or None."""
+    fault = refusal_fault(edit, checked)
+    if edit.wanted:
+        return None if (fault or "").startswith(edit.wanted) else "NOT TOLD for %s: %s" % (edit.wanted, fault)
+    return fault
+
+
+def refusal_fault(edit, checked):
+    """Why an edit does not count as refused at its facts, or None."""
     if re.search("^logic=proved", checked.text, re.M):
         return "NOT REFUSED: the crate is still proved with this edit"
     if checked.status != 1 or not re.search("^logic=not-proved", checked.text, re.M):
@@ -417,8 +426,8 @@ class Run:
         self.failed += fault is not None
         self.seconds += checked.seconds
         self.megabytes = max(self.megabytes, checked.megabytes)
-        at = ", ".join("%s %s" % fact[:2] for fact in edit.facts)
-        print("%s/%s: %s (%d s)" % (edit.crate, edit.name, fault or "refused at " + at, checked.seconds), flush=True)
+        good = "told as %s" % edit.wanted if edit.wanted else "refused at " + ", ".join("%s %s" % fact[:2] for fact in edit.facts)
+        print("%s/%s: %s (%d s)" % (edit.crate, edit.name, fault or good, checked.seconds), flush=True)
 
 
 # The page
@@ -429,7 +438,8 @@ def row(edit):
 
 
 def table(crate, kinds, edits):
-    rows = sorted((edit for edit in edits.values() if edit.crate == crate and edit.kind in kinds), key=lambda edit: edit.name)
+    own = [edit for edit in edits.values() if edit.crate == crate and edit.kind in kinds and not edit.wanted]
+    rows = sorted(own, key=lambda edit: edit.name)
     return "\n".join(["| Edit | The wrong program | Promise | Fact that refuses it |", "|---|---|---|---|"] + list(map(row, rows)))
 
 
