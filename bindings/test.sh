@@ -1,14 +1,28 @@
 #!/usr/bin/env bash
 # Builds and tests the C header and the Rust crate on target/staticlib/libsheet.a, or on the one in the directory SHEET_LIB_DIR. Everything is
-# written under target/bindings. The last line is 'N passed, 0 failed'. What needs a compiler that is not at hand is left out, and said.
+# written under target/bindings. The last line is 'N passed, 0 failed'. What needs a compiler that is not at hand is left out, which is said, and is a
+# failure unless WITHOUT_BINDINGS=1 says that it is meant. `test.sh --ready` tells that alone.
 set -euo pipefail
 cd "$(dirname "$0")/.."
+left=0
+left_out() {
+    echo "LEFT OUT: bindings: $1"
+    left=$((left + 1))
+}
 if [ "$(uname -sm)" != "Linux x86_64" ]; then
-    echo "bindings: skipped, libsheet.a is for x86-64 Linux"
-    exit 0
+    left_out "everything, libsheet.a is for x86-64 Linux"
+elif ! command -v cc >/dev/null; then
+    left_out "everything, there is no cc"
+else
+    command -v c++ >/dev/null || left_out "C++, there is no c++"
+    command -v nm >/dev/null || left_out "whether the library has writable data, there is no nm"
+    command -v cargo >/dev/null || left_out "Rust, there is no cargo"
 fi
-if ! command -v cc >/dev/null; then
-    echo "bindings: skipped, no cc"
+if [ "$left" -gt 0 ] && [ "${WITHOUT_BINDINGS:-}" != 1 ]; then
+    echo "WITHOUT_BINDINGS=1 says that this is meant"
+    exit 1
+fi
+if [ "${1:-}" = --ready ] || [ "$(uname -sm)" != "Linux x86_64" ] || ! command -v cc >/dev/null; then
     exit 0
 fi
 work=$PWD/target/bindings
@@ -43,7 +57,7 @@ step() {
 as_c() { cc -std=c99 -pedantic -Wall -Wextra -Werror -O1 -pthread "bindings/c/$1.c" "$lib/libsheet.a" -o "$work/$1" && "$work/$1"; }
 as_cpp() { c++ -x c++ -Wall -Wextra -Werror -O1 -pthread "bindings/c/$1.c" -x none "$lib/libsheet.a" -o "$work/$1-cpp" && "$work/$1-cpp"; }
 same_as_bar() { "$@" | diff - bindings/bar.expected; }
-no_state() { nm "$lib/libsheet.a" >"$work/symbols" && ! grep -E ' [bBcCdDgGsS] ' "$work/symbols"; }
+no_state() { nm "$lib/libsheet.a" >"$work/symbols" && grep -q ' T sheet_run$' "$work/symbols" && ! grep -E ' [bBcCdDgGsS] ' "$work/symbols"; }
 in_rust() { (cd bindings/rust && "$@"); }
 crate_example() { in_rust cargo run -q --offline --locked --example bar; }
 
@@ -54,8 +68,6 @@ tail -n 1 "$work/log"
 if command -v c++ >/dev/null; then
     step "C++: tests" as_cpp test
     step "C++: example" same_as_bar as_cpp example
-else
-    echo "C++: skipped, no c++"
 fi
 if command -v nm >/dev/null; then
     step "library: no writable data" no_state
@@ -70,8 +82,6 @@ if command -v cargo >/dev/null; then
     if cargo clippy --version >/dev/null 2>&1; then
         step "Rust: clippy" in_rust cargo clippy -q --offline --locked --all-targets -- -D warnings
     fi
-else
-    echo "Rust: skipped, no cargo"
 fi
 echo "$passed passed, $failed failed"
 [ "$failed" -eq 0 ]

@@ -31,7 +31,8 @@ answer. An entry that can occur but is too rare is a failure in a run of
 20,000 sheets or more.
 
 Without rustc or without Kagari's sources nothing is compared: that is said,
-and the exit status is 0.
+and the exit status is 1, or 0 where WITHOUT_KAGARI=1 says that this is meant.
+--ready tells that alone.
 """
 
 import argparse
@@ -277,6 +278,7 @@ def main():
     parser.add_argument("--slip", choices=["all"] + list(judge_slips.SLIPS), metavar="NAME")
     parser.add_argument("--program", metavar="COMMAND")
     parser.add_argument("--checker", metavar="COMMAND")
+    parser.add_argument("--ready", action="store_true")
     parser.add_argument("--library", default=LIBRARY, metavar="FILE")
     parser.add_argument("--source", default=oracle.SOURCE, metavar="DIR", help="Kagari's sources")
     parser.add_argument("--out", default=OUT, metavar="DIR")
@@ -284,7 +286,8 @@ def main():
     try:
         oracle.taken(options.source)
     except oracle.Absent as fault:
-        print("judge: skipped, nothing was compared: %s" % fault)
+        return oracle.left_out("judge", fault)
+    if options.ready:
         return 0
     if options.program or options.checker:
         return check_program(options)

@@ -920,7 +920,7 @@ def slips():
                        if reference.answer(body, how) != stated(outcome, body)), None)
         missed += finder is None
         print("%-44s %s" % (name, finder or "NOT FOUND"))
-    print("%d failed" % missed)
+    print("%d passed, %d failed" % (len(SLIPS) - len(RUN_SLIPS) - missed, missed))
     return missed != 0
 
 

@@ -4,6 +4,7 @@
   python3 tests/sheet_cases.py write DIR     write DIR/stdin and DIR/stdout, one sheet with all parts
   python3 tests/sheet_cases.py sheets DIR    write every sheet as DIR/NAME.in, and its answers as DIR/NAME.out
   python3 tests/sheet_cases.py frames DIR    write DIR/stdin and DIR/stdout for the program `sheets`: all runs, areas filled before
+  python3 tests/sheet_cases.py check DIR     whether they are what `frames` would write
   python3 tests/sheet_cases.py list          print every order with its answer
   python3 tests/sheet_cases.py slips         show for each slip the first sheet that finds it
 
@@ -26,6 +27,7 @@ from orders_cases import (
     F32, F64, I8, I32, I64, MUT, NEVER, NONE, RO, RW, SHARED, E, U, arr, builtin, enum, fun, gen, host, inf, iter_, map_, native,
     nom, num, params, proj, range_, ref, self_, seq, set_, struct, subst, trait, tup)
 from sheet_reference import Run, Sheet
+from terms_cases import check_stored
 from terms_reference import Reader, framed
 
 MOST = 4294967295
@@ -908,7 +910,7 @@ def frame(room, sheet, words, fill, run):
             pack("<BIIB", run.reason, run.orders, len(run.output), 1) + run.output)
 
 
-def write_frames(directory):
+def all_frames():
     """All runs that the program `sheets` can hold, with areas of the least size and larger ones, all of them filled before."""
     frames = []
     for name, room, sheet, run in SHEETS:
@@ -919,9 +921,14 @@ def write_frames(directory):
             frames.append(frame(room, sheet, words if words < Sheet.LEAST_WORDS else 20000, 0xa5a5a5a5, run))
     sheet = orders_cases.case_input()[0]
     frames.append(frame(ROOM, sheet, 16385, 1, reference.run(sheet)))
-    put(os.path.join(directory, "stdin"), b"".join(frame[0] for frame in frames))
-    put(os.path.join(directory, "stdout"), b"".join(frame[1] for frame in frames))
-    print("%d runs, %d bytes in, %d bytes out" % (len(frames), sum(len(f[0]) for f in frames), sum(len(f[1]) for f in frames)))
+    return b"".join(frame[0] for frame in frames), b"".join(frame[1] for frame in frames), len(frames)
+
+
+def write_frames(directory):
+    data, stated, count = all_frames()
+    put(os.path.join(directory, "stdin"), data)
+    put(os.path.join(directory, "stdout"), stated)
+    print("%d runs, %d bytes in, %d bytes out" % (count, len(data), len(stated)))
 
 
 def shortened(text):
@@ -967,6 +974,8 @@ def main(words):
         return (write if words[0] == "write" else write_sheets)(words[1])
     if len(words) == 2 and words[0] == "frames":
         return write_frames(words[1])
+    if len(words) == 2 and words[0] == "check":
+        return check_stored(words[1], *all_frames())
     if words == ["list"]:
         return listing()
     if words == ["slips"]:

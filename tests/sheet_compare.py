@@ -306,11 +306,13 @@ def check(programs, options, how):
     tables, passed, left = Tables(), 0, 0
     try:
         for group, sheets in groups(options):
-            count = 0
+            count = compared = 0
             for chunk in in_chunks(sheets):
                 wanted = [reference.run(sheet, room, how) for _, room, sheet in chunk]
+                some = set()
                 for name, program in programs.items():
                     taken = [at for at in range(len(chunk)) if program.takes(*chunk[at][1:])]
+                    some.update(taken)
                     try:
                         found = program.runs([chunk[at][1:] for at in taken])
                     except Differs as difference:
@@ -331,8 +333,9 @@ def check(programs, options, how):
                     for (family, _, sheet), run in zip(chunk, wanted):
                         tables.add(family, sheet, run)
                 count += len(chunk)
-            print("%-14s%9d" % (group, count))
-            passed += count
+                compared += len(some)
+            print("%-14s%9d, and %d that no program takes" % (group, compared, count - compared))
+            passed += compared
     except Failed:
         print("%d passed, 1 failed" % passed)
         return 1
@@ -371,6 +374,9 @@ def programs_of(options):
     if options.oracle:
         try:
             programs["oracle"] = Batch([oracle.build(options.source), "sheets"])
+        except oracle.Absent as fault:
+            if oracle.left_out("the oracle", fault):
+                sys.exit(1)
         except oracle.extract.NotFound as fault:
             sys.exit("oracle: %s" % fault)
     for name, text, kind in (("program", options.program, Program), ("batch", options.batch, Batch), ("frames", options.frames, Frames)):

@@ -1,9 +1,10 @@
 #!/usr/bin/env python3
 """Compares a program with the reference on all small sessions of some shapes.
 
-  python3 tests/sheet_small.py --program PROGRAM [--group NAME]
-  python3 tests/sheet_small.py --oracle [--source DIR] [--group NAME]
-  python3 tests/sheet_small.py --self [--group NAME]
+  python3 tests/sheet_small.py --program PROGRAM [--group NAME] [--every N]
+  python3 tests/sheet_small.py --frames COMMAND [--group NAME] [--every N]
+  python3 tests/sheet_small.py --oracle [--source DIR] [--group NAME] [--every N]
+  python3 tests/sheet_small.py --self [--group NAME] [--every N]
 
 A small session has a few variables, some of them requested or deferred, and
 a few pairs. Many of them stand in one sheet, each with variables of its own,
@@ -19,7 +20,7 @@ The groups:
   joins    3 variables with every request, every sequence of up to three links or values
   defers   3 variables, every choice of deferrals and requests, up to two links or values
 
-The options are those of sheet_compare.py.
+--every takes one session of N. The other options are those of sheet_compare.py.
 """
 
 import argparse
@@ -172,10 +173,10 @@ def sheet_of(sessions, defaults):
     return bytes(out)
 
 
-def sheets(name):
+def sheets(name, every):
     """Pairs: how many sessions, the sheet."""
     packed, nodes, turn = [], 0, 0
-    for session in GROUPS[name]():
+    for session in itertools.islice(GROUPS[name](), 0, None, every):
         more = sum(nodes_of(left) + nodes_of(right) for _, left, right in session[2])
         if len(packed) == AT_ONCE or nodes + more > 2040:
             yield len(packed), sheet_of(packed, ((6, 7), (7, 6))[turn % 2])
@@ -185,11 +186,11 @@ def sheets(name):
     yield len(packed), sheet_of(packed, (6, 7))
 
 
-def check(programs, names):
+def check(programs, names, every):
     passed = left = 0
     for name in names:
         sessions = count = 0
-        for chunk in in_chunks(sheets(name)):
+        for chunk in in_chunks(sheets(name, every)):
             wanted = [reference.run(sheet) for _, sheet in chunk]
             if any(run.reason != 0 for run in wanted):
                 sys.exit("a sheet of group %s does not run to its end" % name)
@@ -218,15 +219,17 @@ def main():
     parser = argparse.ArgumentParser(description=__doc__, formatter_class=argparse.RawDescriptionHelpFormatter)
     parser.add_argument("--program", help="the program, with its arguments if it takes any")
     parser.add_argument("--batch", metavar="COMMAND")
+    parser.add_argument("--frames", metavar="COMMAND")
     parser.add_argument("--oracle", action="store_true")
     parser.add_argument("--source", default=oracle.SOURCE, metavar="DIR", help="Kagari's sources, for --oracle")
     parser.add_argument("--self", action="store_true")
     parser.add_argument("--group", choices=list(GROUPS))
+    parser.add_argument("--every", type=int, default=1, metavar="N")
     options = parser.parse_args()
     programs = programs_of(options)
     if not programs:
-        parser.error("give --program, --oracle, --batch or --self")
-    return check(programs, [options.group] if options.group else list(GROUPS))
+        parser.error("give --program, --oracle, --batch, --frames or --self")
+    return check(programs, [options.group] if options.group else list(GROUPS), options.every)
 
 
 if __name__ == "__main__":

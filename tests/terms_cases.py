@@ -2,6 +2,7 @@
 """Fixed cases for the program that reads terms and writes them back.
 
   python3 tests/terms_cases.py write CRATEDIR   write CRATEDIR/stdin and CRATEDIR/stdout
+  python3 tests/terms_cases.py check CRATEDIR   whether they are what would be written
   python3 tests/terms_cases.py list             print every case with its answer
   python3 tests/terms_cases.py slips            show for each slip the first case that finds it
 
@@ -636,6 +637,19 @@ def write(directory):
     print("%d cases, %d bytes in, %d bytes out" % (len(CASES), len(data), len(stated)))
 
 
+def check_stored(directory, data, stated, count):
+    """Whether a crate's stdin and stdout are these; gives the exit status."""
+    wrong = []
+    for name, content in (("stdin", data), ("stdout", stated)):
+        with open(os.path.join(directory, name), "rb") as file:
+            if file.read() != content:
+                wrong.append(os.path.join(directory, name))
+    for name in wrong:
+        print("%s is not what the cases state" % name)
+    print("%d passed, %d failed" % (0 if wrong else count, len(wrong)))
+    return 1 if wrong else 0
+
+
 def listing():
     case_input()
     for comment, body, outcome in CASES:
@@ -669,6 +683,8 @@ def slips():
 def main(words):
     if len(words) == 2 and words[0] == "write":
         return write(words[1])
+    if len(words) == 2 and words[0] == "check":
+        return check_stored(words[1], *case_input(), len(CASES))
     if words == ["list"]:
         return listing()
     if words == ["slips"]:

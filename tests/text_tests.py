@@ -8,8 +8,9 @@ transcript is a text whose stated answers are the answers. Sheets and answers
 come from sheet_generate.py, sheet_cases.py and sheet_reference.py, and from
 damaged and random bytes. Then faults of texts with their line and column,
 the command, the examples with their transcripts, and the lines of
-docs/TEXT.md. The examples are run by the reference and by the program if it
-is there. --write writes the transcripts anew, with the reference's answers.
+docs/TEXT.md. The examples are run by the reference and by the program, or by
+the reference alone with --program ''. --write writes the transcripts anew,
+with the reference's answers.
 """
 
 import argparse
@@ -124,6 +125,9 @@ class Tests:
             script = self.no_fault(file.read(), "bar.sheet")
         self.equal(script.sheet(), BAR, "the bar's orders")
         self.equal(reference.program(BAR), BAR_ANSWERS, "the bar's answers")
+        for name, wanted in (("stdin", BAR), ("stdout", BAR_ANSWERS)):
+            with open(os.path.join(ROOT, "crates", "checker", name), "rb") as file:
+                self.equal(file.read(), wanted, "crates/checker/" + name)
         shown = [answer_text(order[0], answer) for order, answer in zip(split(BAR)[0], split(BAR_ANSWERS)[0])]
         self.equal(shown, ["?0", "?1", "compatible", "incompatible", "(?1, i32)", "1"], "the bar's answers in words")
 
@@ -242,8 +246,10 @@ class Tests:
 
     def program(self):
         program = self.options.program
+        if not program:
+            return
         if not os.path.exists(program):
-            print("skipped: the examples with the program, since there is no %s" % os.path.relpath(program))
+            self.check(False, "there is no program %s" % program)
             return
         for path in self.examples():
             with open(path[:-len("sheet")] + "out", "rb") as file:

@@ -3,7 +3,7 @@
 
   python3 tests/vectors.py write [--source DIR] [--out DIR]   make crates/replay/stdin and stdout; rustc and Kagari's sources are needed
   python3 tests/vectors.py show                               what the file has, by kind, outcome and answer
-  python3 tests/vectors.py reference                          compare the file with the reference in Python
+  python3 tests/vectors.py reference                          compare the file with the reference in Python, and stdout with their number
 
 How it is made: the sheets of tests/judge_sheets.py, fixed and random (seed
 SEED), and the short orders SHORT below are given to the oracle, which
@@ -169,6 +169,10 @@ def reference(options):
             print("vector %d differs from the reference\n%d passed, 1 failed" % (passed, passed))
             return 1
         passed += 1
+    with open(os.path.join(DIRECTORY, "stdout"), "rb") as file:
+        if file.read() != summary(passed):
+            print("crates/replay/stdout does not say that all of %d vectors agree\n%d passed, 1 failed" % (passed, passed))
+            return 1
     print("%d passed, 0 failed" % passed)
     return 0
 

@@ -15,9 +15,9 @@ each one come out: the reason, a byte; orders answered, bytes of answers, four
 bytes each; the answers. Reason 255 stands for a sheet that the Rust could
 not go on with, as its terms grew too large; the answers before stand.
 
-DIR of --source holds Kagari's sources (../shared/docs/src beside the
-repository). What is built goes to DIR of --out (target/oracle). rustc alone
-is needed.
+DIR of --source holds Kagari's sources (KAGARI_SOURCE of the environment, or
+../shared/docs/src beside the repository). What is built goes to DIR of --out
+(target/oracle). rustc alone is needed.
 
 Taken from the sources, as text, when the oracle is built; nothing of it is
 kept in this repository:
@@ -64,7 +64,7 @@ sys.path.insert(0, HERE)
 
 import extract
 
-SOURCE = os.path.join(ROOT, "..", "shared", "docs", "src")
+SOURCE = os.environ.get("KAGARI_SOURCE") or os.path.join(ROOT, "..", "shared", "docs", "src")
 OUT = os.path.join(ROOT, "target", "oracle")
 TYPES_FILE = "src--crates--kagari-hir--src--types.rs.txt"
 ASSOCIATED_FILE = "src--crates--kagari-hir--src--typeck--associated.rs.txt"
@@ -98,6 +98,15 @@ METHODS = (
 
 class Absent(extract.NotFound):
     """There is no compiler, or there are no sources."""
+
+
+def left_out(name, fault):
+    """Says that nothing was compared; gives the exit status, which is 0 only where WITHOUT_KAGARI=1 says that this is meant."""
+    print("LEFT OUT: %s compares nothing: %s" % (name, fault))
+    if os.environ.get("WITHOUT_KAGARI") == "1":
+        return 0
+    print("WITHOUT_KAGARI=1 says that this is meant")
+    return 1
 
 
 def read(source, name):
