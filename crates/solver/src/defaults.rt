@@ -116,7 +116,7 @@ impl Solver {
         tables: &mut [u32],
     ) -> Solver
         requires shape { ⌜ Shaped self (length (now tables)) ⌝ }
-        requires areas { ⌜ (self .revision < 2 ^ 32) × (length (now vals) ≡ length (now kinds)) ⌝ }
+        requires areas { ⌜ (self .revision < 2 ^ 32) × (length (now vals) ≡ length (now kinds)) × ((s : Session) × Lent self (now kinds) (now vals) (now tables) s × Low (self .variables) (s .solver .bindings)) ⌝ }
         ensures held { λ r. ⌜ ((s : Session) (n : Notion) → Lent self (now (kinds .entry)) (now (vals .entry)) (now (tables .entry)) s → Low (self .variables) (s .solver .bindings) → Lent r (now (kinds .entry)) (now (vals .entry)) (now (tables .exit)) (orders.order (limitsOf self) n s orders.numbers .session)) ⌝ }
         ensures beside { λ r. ⌜ Beside self r (now (tables .entry)) (now (tables .exit)) ⌝ }
     {
@@ -134,7 +134,7 @@ impl Solver {
     // Order 7: each variable that is deferred, by rising id, takes Never.
     pub fn apply_never_defaults(mut self, kinds: &[u32], vals: &[u32], tables: &mut [u32]) -> Solver
         requires shape { ⌜ Shaped self (length (now tables)) ⌝ }
-        requires areas { ⌜ (self .revision < 2 ^ 32) × (length (now vals) ≡ length (now kinds)) ⌝ }
+        requires areas { ⌜ (self .revision < 2 ^ 32) × (length (now vals) ≡ length (now kinds)) × ((s : Session) × Lent self (now kinds) (now vals) (now tables) s × Low (self .variables) (s .solver .bindings)) ⌝ }
         ensures held { λ r. ⌜ ((s : Session) (n : Notion) → Lent self (now (kinds .entry)) (now (vals .entry)) (now (tables .entry)) s → Low (self .variables) (s .solver .bindings) → Lent r (now (kinds .entry)) (now (vals .entry)) (now (tables .exit)) (orders.order (limitsOf self) n s orders.nevers .session)) ⌝ }
         ensures beside { λ r. ⌜ Beside self r (now (tables .entry)) (now (tables .exit)) ⌝ }
     {

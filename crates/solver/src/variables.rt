@@ -139,7 +139,7 @@ impl Solver {
 
     // Order 0: the variable of a slot of a site.
     pub fn variable(mut self, tables: &mut [u32], site: u32, slot: u32) -> Issue
-        requires { ⌜ Shaped self (length (now tables)) ⌝ }
+        requires { ⌜ Shaped self (length (now tables)) × ((ks vs : List ℕ) × (s : Session) × Lent self ks vs (now tables) s) ⌝ }
         ensures held { λ r. ⌜ ((ks vs : List ℕ) (s : Session) (n : Notion) → Lent self ks vs (now (tables .entry)) s → Replied (r .solver) ks vs (now (tables .exit)) (at site slot) (orders.order (limitsOf self) n s (orders.variable site slot)) replyOf (r .answer)) ⌝ }
         ensures beside { λ r. ⌜ Beside self (r .solver) (now (tables .entry)) (now (tables .exit)) ⌝ }
     {
@@ -148,7 +148,7 @@ impl Solver {
 
     // Order 1: the number variable of a site, with its fallback from now on.
     pub fn numeric_variable(mut self, tables: &mut [u32], site: u32, fallback: u32) -> Issue
-        requires { ⌜ Shaped self (length (now tables)) × (fallback < 32) ⌝ }
+        requires { ⌜ Shaped self (length (now tables)) × (fallback < 32) × ((ks vs : List ℕ) × (s : Session) × Lent self ks vs (now tables) s) ⌝ }
         ensures held { λ r. ⌜ ((ks vs : List ℕ) (s : Session) (n : Notion) → Lent self ks vs (now (tables .entry)) s → Replied (r .solver) ks vs (now (tables .exit)) (at site 1) (orders.order (limitsOf self) n s (orders.number site (requested fallback))) (resolvedReply (orders.order (limitsOf self) n s (orders.number site (requested fallback)) .session .solver)) (r .answer)) ⌝ }
         ensures beside { λ r. ⌜ Beside self (r .solver) (now (tables .entry)) (now (tables .exit)) ⌝ }
     {
@@ -174,7 +174,7 @@ impl Solver {
 
     // Order 2: the variable of a hole.
     pub fn annotation_hole(mut self, tables: &mut [u32], site: u32) -> Issue
-        requires { ⌜ Shaped self (length (now tables)) ⌝ }
+        requires { ⌜ Shaped self (length (now tables)) × ((ks vs : List ℕ) × (s : Session) × Lent self ks vs (now tables) s) ⌝ }
         ensures held { λ r. ⌜ ((ks vs : List ℕ) (s : Session) (n : Notion) → Lent self ks vs (now (tables .entry)) s → Replied (r .solver) ks vs (now (tables .exit)) (gap site) (orders.order (limitsOf self) n s (orders.hole site)) (resolvedReply (orders.order (limitsOf self) n s (orders.hole site) .session .solver)) (r .answer)) ⌝ }
         ensures beside { λ r. ⌜ Beside self (r .solver) (now (tables .entry)) (now (tables .exit)) ⌝ }
     {

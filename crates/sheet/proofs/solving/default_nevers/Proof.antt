@@ -29,7 +29,7 @@ revision-requires c κs = search needs
 apply-never-defaults-requires : tie.Need-apply-never-defaults-requires
 apply-never-defaults-requires c κs =
     let p = c .before .before .before .before .before .before .before .pre .0 in
-    (lent-shaped _ _ _ _ _ (p .2), (omega (arith, lent-revision _ _ _ _ _ (p .1) (p .2), p .2 .narrow), p .2 .vals))
+    (lent-shaped _ _ _ _ _ (p .2), (omega (arith, lent-revision _ _ _ _ _ (p .1) (p .2), p .2 .narrow), p .2 .vals, (p .0, p .2, arises-low _ _ _ _ (p .0) loose loose-codes (p .1) (p .2))))
 
 revision-requires-2 : tie.Need-revision-requires-2
 revision-requires-2 c κs = search needs

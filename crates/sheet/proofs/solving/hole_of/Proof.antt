@@ -8,6 +8,7 @@ use Rattle.solver.specs.Orders as orders
 use Rattle.solver.specs.Lent.{limitsOf}
 use Rattle.solver.specs.Solving.{resolved}
 use Rattle.solver.specs.Session.{gap}
+use Rattle.solver.proofs.MethodLaws.{lent-shaped}
 use Rattle.sheet.proofs.DoingLaws.{hole-answer, hole-full, place-refused, place-over, place-done}
 use borrow.Author.Needs.{needs}
 use Rattle.sheet.proofs.solving.hole_of.Statement.{statement}
@@ -57,7 +58,8 @@ returns-2 c =
     (e .0, λ z L. place-over (a .x) (now (a .kinds)) (now (a .vals)) (now (a .tables)) z L (orders.hole (a .site)) (gap (a .site)) (λ v. bytes (resolved (z .solver) (var v))) (hole-answer (limitsOf (a .x)) z (a .site)) (hole-full (limitsOf (a .x)) z (a .site)) _ (c .before .before .before .before .before .before .before .before .before .before .before .before .id-of .ensures .0 _ _ z L) (now (a .out)) (a .to) _ _ _ (c .before .before .before .before .before .before .before .before .before .before .v .given .1) (e .1 loose z (var (c .before .before .before .before .before .before .before .before .before .before .v .given .0 .0)) (L, refl, c .before .before .before .before .before .before .before .before .before .before .before .before .id-of .ensures .1 _ (c .before .before .before .before .before .before .before .before .before .before .v .given .1))) (omega (arith, c .if1 .taken, c .before .before .before .before .before .resolved .kept .1 .1 .1 .1 .1 .1 .0)))
 
 annotation-hole-requires : tie.Need-annotation-hole-requires
-annotation-hole-requires c κs = search needs
+annotation-hole-requires c κs =
+    let p = c .before .before .before .before .before .before .before .before .before .before .before .before .before .before .before .before .before .before .before .before .pre in (lent-shaped _ _ _ _ _ (p .0 .1), (_, _, p .0 .0, p .0 .1))
 
 same-length-6 : tie.Need-same-length-6
 same-length-6 c = search needs

@@ -6,6 +6,7 @@ use Rattle.solver.specs.Shapes.{loose}
 use Rattle.solver.specs.Orders as orders
 use Rattle.solver.specs.Lent.{limitsOf}
 use Rattle.solver.specs.Session.{at}
+use Rattle.solver.proofs.MethodLaws.{lent-shaped}
 use Rattle.sheet.proofs.DoingLaws.{variable-answer, variable-full, place-refused, place-over, place-done}
 use borrow.Author.Needs.{needs}
 use Rattle.sheet.proofs.solving.variable_of.Statement.{statement}
@@ -49,7 +50,8 @@ returns-2 c =
     λ ks vs z L. place-over (a .x) ks vs (now (a .tables)) z L (orders.variable (a .site) (a .slot)) (at (a .site) (a .slot)) (λ v. bytes (var v)) (variable-answer (limitsOf (a .x)) z (a .site) (a .slot)) (variable-full (limitsOf (a .x)) z (a .site) (a .slot)) _ (c .before .before .before .before .before .before .before .before .id-of .ensures .0 ks vs z L) (now (a .out)) (a .to) _ _ _ (c .before .before .before .before .before .before .v .given .1) (c .before .before .before .named .ensures) (omega (arith, c .if1 .taken, c .before .before .before .named .kept .0))
 
 variable-requires : tie.Need-variable-requires
-variable-requires c κs = search needs
+variable-requires c κs =
+    let p = c .before .before .before .before .before .before .before .before .before .before .before .before .before .pre .0 in (lent-shaped _ _ _ _ _ (p .3), p)
 
 same-length-5 : tie.Need-same-length-5
 same-length-5 c = search needs
