@@ -4,7 +4,7 @@ use mathlib.Core.List.{List}
 use mathlib.Core.Bool.{Bool, true, false}
 use mathlib.Core.Logic.{_⊎_, inl, inr}
 use Prim.Native.Nat.{ℕ, zero, suc, _+_, _-_, _^_, _≤_, _<_}
-use native.Mathlib.Decide.{decLt}
+use native.Mathlib.Decide.{decLt, ℕ-discrete}
 use native.Mathlib.Omega.{arith}
 use borrow.Author.Tests.{ne-eqb}
 use lib.Dec.{eqb}
@@ -31,7 +31,7 @@ use Rattle.solver.specs.Handing.{NumberSaid, PassedSaid, StepSaid, PartRead, Li
 use Rattle.sheet.specs.declared.Spot.{Spot}
 use Rattle.sheet.specs.Fields as fields
 use Rattle.sheet.specs.Fields.{Field, value, tree, bare, entered, received, named, listed, levels, nodes}
-use Rattle.sheet.specs.Laid.{plainOf, partOf, fieldItems, Free, Ample, PartDone, FieldDone, ReadOnly, valueField, listField, FieldRead, Spotted, Unread}
+use Rattle.sheet.specs.Laid.{plainOf, partOf, keysOf, fieldItems, Free, Ample, PartDone, FieldDone, ReadOnly, valueField, listField, FieldRead, Spotted, Unread}
 use Rattle.sheet.specs.Lent.{fieldOf, ReadAt}
 use Rattle.sheet.proofs.StoredLaws.{stored-none, stored-kept}
 use Rattle.sheet.proofs.CodeLaws.{Coded, not-zero, number-coded, value-coded, named-coded, parameters-coded, part-coded}
@@ -209,20 +209,28 @@ module _ (s ws : List ℕ) (issued : ℕ) (p : Place) (d e : Area) (f : Free (p 
       let r = answer p (part (eqb k 5) s issued levels (p .at)) (nodesOf (eqb k 5)) in
       told k r (x .says) (either-part s ws issued p d e f n r (x .room) k a b refl (x .areas))
 
-  pub entries-told : ListRead 2 s issued levels n p d e code at top nodes → Told 6
+  entries-told : ListRead 2 s issued levels n p d e code at top nodes → Told 6
   entries-told x =
       let r = answerOf entryRow p (rows.entries s (reading.term s issued levels) n (p .at)) in
       told 6 r (x .says) (entries-part s ws issued p d e f n r (x .room) refl (x .areas))
 
-  pub arguments-told : ListRead 0 s issued levels n p d e code at top nodes → Told 9
+  arguments-told : ListRead 0 s issued levels n p d e code at top nodes → Told 9
   arguments-told x =
       let r = answerOf argumentRow p (rows.arguments s (reading.term s issued levels) n (p .at)) in
       told 9 r (x .says) (arguments-part s ws issued p d e f n r (x .room) refl (x .areas))
 
-  pub receivers-told : (k : ℕ) → (k < 4) ⊎ (6 ≤ k) → (k ≡ 6 → ⊥) → (k ≡ 9 → ⊥) → ListRead 1 s issued levels n p d e code at top nodes → Told k
+  receivers-told : (k : ℕ) → (k < 4) ⊎ (6 ≤ k) → (k ≡ 6 → ⊥) → (k ≡ 9 → ⊥) → ListRead 1 s issued levels n p d e code at top nodes → Told k
   receivers-told k h a b x =
       let r = answerOf receiverRow p (rows.receivers s (reading.term s issued levels) n (p .at)) in
       told k r (x .says) (rw (part-else s issued k n h a b (p .at)) (receivers-part s ws issued p d e f n r (x .room) refl (x .areas)))
+
+  pub list-told : (k keys : ℕ) → (k < 4) ⊎ (6 ≤ k) → keys ≡ keysOf k → ListRead keys s issued levels n p d e code at top nodes → Told k
+  list-told k keys h z x = go (ℕ-discrete k 6) (ℕ-discrete k 9)
+    where
+      go : Dec (k ≡ 6) → Dec (k ≡ 9) → Told k
+      go (yes a) b = rw a (entries-told (rw (z, a) at x))
+      go (no a) (yes b) = rw b (arguments-told (rw (z, b) at x))
+      go (no a) (no b) = receivers-told k h a b (rw (z, ne-eqb k 6 a, ne-eqb k 9 b) at x)
 
 -- a list behind its count
 pub list-field : (s ws : List ℕ) (at : ℕ) (found whole : Result Field) (p : Place) (d e : Area) (r : FieldRead) → whole ≡ found → FieldDone s ws found (moved p at) d e r

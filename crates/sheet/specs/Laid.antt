@@ -89,6 +89,10 @@ ruleSorts = fields.nominal ∷ fields.term ∷ fields.ordinary ∷ fields.argume
 abbrev pub ruleFields : Pattern → List Field
 ruleFields p = bare (p .interface) ∷ tree (p .receiver) ∷ value (p .member) ∷ listed (p .arguments) ∷ tree (p .value) ∷ []
 
+-- how many numbers stand before each term of a list
+abbrev pub keysOf : ℕ → ℕ
+keysOf k = pick (eqb k 6) 2 (pick (eqb k 9) 0 1)
+
 -- the fields whose tokens are stored, by the number of their sort: of a list so many; a receiver is a list of one
 module _ (s : List ℕ) (issued : ℕ) where
   unfoldable pub partOf : ℕ → ℕ → Parser Field

@@ -4,13 +4,14 @@ use solver::number_at;
 use solver::read_list;
 use solver::read_part;
 use solver::skip_parameters;
+ghost use mathlib.Core.Path.{_≡_};
 ghost use mathlib.Core.List.{List};
 ghost use Prim.Native.Nat.{ℕ, _≤_};
 ghost use lib.ListN.{length};
 ghost use Rattle.solver.specs.Terms.Tokens.{area};
 ghost use Rattle.solver.specs.Terms.Lent.{place, stepOf};
 ghost use Rattle.sheet.specs.Fields.{field, code, parameters};
-ghost use Rattle.sheet.specs.Laid.{plainOf, partOf, Free, Ample, PartDone, PlainDone, listField};
+ghost use Rattle.sheet.specs.Laid.{plainOf, partOf, keysOf, Free, Ample, PartDone, PlainDone, listField};
 ghost use Rattle.sheet.specs.Lent.{fieldOf, ReadAt};
 
 pub const ORDINARY: u64 = 4294967295;
@@ -48,6 +49,17 @@ fn parameters_field(s: &[u8], at: &mut usize, value: &mut u64, start: &mut usize
     skip_parameters(s, at, *value)
 }
 
+// How many numbers stand before each term of entries, receivers or arguments.
+fn keys_of(sort: u8) -> u8
+    ensures { λ r. ⌜ r ≡ keysOf sort ⌝ }
+{
+    match sort {
+        6 => 2,
+        9 => 0,
+        _ => 1,
+    }
+}
+
 // The tokens of a term, of a nominal, or of `count` entries, receivers or arguments.
 fn keep_part(
     s: &[u8],
@@ -70,32 +82,6 @@ fn keep_part(
             let bare = sort == 5;
             read_part(s, kinds, vals, at, top, nodes, limit, bare, LEVELS, issued)
         }
-        6 => read_list(
-            s,
-            kinds,
-            vals,
-            at,
-            top,
-            nodes,
-            limit,
-            2,
-            LEVELS,
-            issued,
-            count,
-        ),
-        9 => read_list(
-            s,
-            kinds,
-            vals,
-            at,
-            top,
-            nodes,
-            limit,
-            0,
-            LEVELS,
-            issued,
-            count,
-        ),
         _ => read_list(
             s,
             kinds,
@@ -104,7 +90,7 @@ fn keep_part(
             top,
             nodes,
             limit,
-            1,
+            keys_of(sort),
             LEVELS,
             issued,
             count,
