@@ -27,6 +27,10 @@ Edits are tried in a copy of the crates by rt dev, over an incremental folder. T
 is put back after each edit, so that each starts from the one of the crate as it is. The libraries of the crates below come from --cache too;
 with --wait they are waited for, so that this can run beside rt ci, which removes target first.
 
+With --together N up to N edits of the code are tried in one check, where no two of them name facts of one place. The proof of a function sees its
+own code and the contracts of others, so an error in it comes from the edit of that function. An edit that does not count as refused in
+company is tried alone, and that is what counts.
+
 Seconds are processor time. The last line is 'N passed, 0 failed'.
 """
 
@@ -115,9 +119,9 @@ class Edit:
             if self.kind == "code" and any(word in change.old for word in CONTRACT):
                 raise Bad("it changes a contract, so it is no edit of the code")
 
-    def applied(self, directory):
-        """The files of the crate in that directory with the edit in them: {path: text}."""
-        texts = {}
+    def applied(self, directory, others=()):
+        """The files of the crate in that directory with the edit in them, over what others have made of them: {path: text}."""
+        texts = dict(others)
         for file, old, new in self.changes:
             path = os.path.join(directory, "crates", self.crate, file)
             if not os.path.isfile(path):
@@ -127,6 +131,28 @@ class Edit:
                 raise Bad("its old text is in %s %d times, and must be there once: %s" % (file, text.count(old), old.strip()))
             texts[path] = text.replace(old, new)
         return texts
+
+
+def apart(one, other):
+    """Whether two edits can be tried in one check: both of the code, with facts in proofs of other functions, and no text of one in a text of the other."""
+    if (one.kind, other.kind) != ("code", "code") or one.wanted or other.wanted:
+        return False
+    if {fact.place for fact in one.facts} & {fact.place for fact in other.facts}:
+        return False
+    return not any(a.file == b.file and (a.old in b.old + "\n" + b.new or b.old in a.old + "\n" + a.new)
+                   for a in one.changes for b in other.changes)
+
+
+def grouped(edits, most):
+    """The edits in groups of at most so many that can be tried together."""
+    groups = []
+    for edit in edits:
+        group = next((group for group in groups if len(group) < most and all(apart(edit, each) for each in group)), None)
+        if group is None:
+            groups.append([edit])
+        else:
+            group.append(edit)
+    return groups
 
 
 def fact_of(text):
@@ -348,18 +374,20 @@ class Copy:
         process.returncode = os.waitstatus_to_exitcode(status)
         return Checked(process.returncode, text, used.ru_utime + used.ru_stime, used.ru_maxrss // 1024)
 
-    def tried(self, edit):
-        """What the check says of the crate with the edit."""
-        texts = edit.applied(self.directory)
+    def tried(self, group):
+        """What the check says of the crate with these edits."""
+        texts = {}
+        for edit in group:
+            texts = edit.applied(self.directory, texts)
         before = {path: read_text(path) for path in texts}
         for path, text in texts.items():
             write_text(path, text)
         try:
-            return self.dev(edit.crate)
+            return self.dev(group[0].crate)
         finally:
             for path, text in before.items():
                 write_text(path, text)
-            self.put_back(edit.crate)
+            self.put_back(group[0].crate)
 
 
 # Running
@@ -400,8 +428,8 @@ class Run:
             self.failed += len(edits)
             return
         waiting = queue.SimpleQueue()
-        for edit in edits:
-            waiting.put(edit)
+        for group in grouped(edits, self.options.together):
+            waiting.put(group)
         with concurrent.futures.ThreadPoolExecutor(len(self.copies)) as pool:
             told = [pool.submit(self.work, copy, waiting) for copy in self.copies]
         for each in told:
@@ -411,23 +439,39 @@ class Run:
         """Tries edits until none is left."""
         while not STOPPED.is_set():
             try:
-                edit = waiting.get_nowait()
+                group = waiting.get_nowait()
             except queue.Empty:
                 return
-            checked = copy.tried(edit)
+            left = self.told(group, self.tried(copy, group))
+            for edit in left:
+                self.told([edit], self.tried(copy, [edit]))
+
+    def tried(self, copy, group):
+        checked = copy.tried(group)
+        self.seconds += checked.seconds
+        self.megabytes = max(self.megabytes, checked.megabytes)
+        return checked
+
+    def told(self, group, checked):
+        """Tells what came of each edit; gives those that are to be tried alone."""
+        left = []
+        for edit in group:
             fault = fault_of(edit, checked)
+            if fault and len(group) > 1:
+                left.append(edit)
+                continue
             if self.options.logs:
                 os.makedirs(os.path.join(self.options.logs, edit.crate), exist_ok=True)
                 write_text(os.path.join(self.options.logs, edit.crate, edit.name + ".log"), checked.text)
-            self.tell(edit, fault, checked)
+            self.tell(edit, fault, checked, len(group) - 1)
+        return left
 
-    def tell(self, edit, fault, checked):
+    def tell(self, edit, fault, checked, others):
         self.passed += fault is None
         self.failed += fault is not None
-        self.seconds += checked.seconds
-        self.megabytes = max(self.megabytes, checked.megabytes)
         good = "told as %s" % edit.wanted if edit.wanted else "refused at " + ", ".join("%s %s" % fact[:2] for fact in edit.facts)
-        print("%s/%s: %s (%d s)" % (edit.crate, edit.name, fault or good, checked.seconds), flush=True)
+        with_others = ", with %d others" % others if others else ""
+        print("%s/%s: %s (%d s%s)" % (edit.crate, edit.name, fault or good, checked.seconds, with_others), flush=True)
 
 
 # The page
@@ -481,6 +525,7 @@ def main():
     parser.add_argument("--list", action="store_true")
     parser.add_argument("--tables", action="store_true")
     parser.add_argument("--jobs", type=int, default=1, choices=(1, 2), help="how many are tried at a time (1)")
+    parser.add_argument("--together", type=int, default=1, metavar="N", help="how many edits of the code may share a check (1)")
     parser.add_argument("--cache", default=os.path.join(ROOT, "target"), metavar="DIR", help="a target with inc, rlib and stamp")
     parser.add_argument("--wait", action="store_true", help="wait for the libraries in --cache")
     parser.add_argument("--work", metavar="DIR", help="where the copies are made, for the time of the run (the system's)")

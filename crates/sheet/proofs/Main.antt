@@ -99,7 +99,7 @@ module _ (sheet out a b c d : List ℕ) (reason orders bytes : ℕ) (out′ a′
       → (orderOf box (sessionAfter box fresh bs) o .answer ≡ outcome (2 ∷ [])) ⊎ AnsweredSo box (sessionAfter box fresh bs) o t u
   demand-2-robinson-each bs cs o k t u e p = robinson-orders box bs t u .fewer k o p
 
-  -- The sheet is lent as a slice of bytes.
+  -- `octet` is the other line of the contract (`octets`): the elements of a slice of bytes are below 256. So this too holds for every call.
   module _ (octet : (i : ℕ) → getD sheet i 0 < 256) where
     -- DEMAND 2, THE RUST. "Everywhere in 01's domain answers equal the Rust's, byte by byte in 01's format": `Solver` of solver.rs answers those orders that are of
     -- kinds 0 to 8 and not refused with the same bytes. Where all are such, its answers are all that the call wrote.
