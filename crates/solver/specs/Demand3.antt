@@ -51,36 +51,49 @@ unfoldable pub placed : Option ℕ → ℕ → ℕ
 placed none n = n
 placed (some v) n = v
 
--- "Only orders answered with outcome 0 issue, request and pose"; "a posed pair is the two terms of such an order 4"
-unfoldable pub requestedBy : Session → (ℕ → Option Request) → Command → Bool → ℕ → Option Request
-requestedBy s f (variable site slot) b = f
-requestedBy s f (number site r) b = pick b (put f (placed (find (at site 1) (s .places)) (issued s)) (some r)) f
-requestedBy s f (hole site) b = f
-requestedBy s f (defer t) b = f
-requestedBy s f (pair k t u) b = f
-requestedBy s f (resolving t) b = f
-requestedBy s f numbers b = f
-requestedBy s f nevers b = f
-requestedBy s f revision b = f
-requestedBy s f (unread r) b = f
+-- ---- what an order is to the demand
 
-unfoldable pub posedBy : List Pair → Command → Bool → List Pair
-posedBy ps (variable site slot) b = ps
-posedBy ps (number site r) b = ps
-posedBy ps (hole site) b = ps
-posedBy ps (defer t) b = ps
-posedBy ps (pair k t u) b = pick b ((t, u) ∷ ps) ps
-posedBy ps (resolving t) b = ps
-posedBy ps numbers b = ps
-posedBy ps nevers b = ps
-posedBy ps revision b = ps
-posedBy ps (unread r) b = ps
+pub data Role : Type 0 where
+  -- order 1: a site, and what its fallback requests
+  requesting : ℕ → Request → Role
+  -- order 4: its two terms
+  posing : Term → Term → Role
+  -- orders 6 and 7
+  defaulting : Role
+  -- any other, and one that reading refuses
+  neither : Role
+
+abbrev pub role : Command → Role
+role (variable site slot) = neither
+role (number site r) = requesting site r
+role (hole site) = neither
+role (defer t) = neither
+role (pair k t u) = posing t u
+role (resolving t) = neither
+role numbers = defaulting
+role nevers = defaulting
+role revision = neither
+role (unread r) = neither
+
+-- "Only orders answered with outcome 0 issue, request and pose": an order 1 requests of the variable of its place, or of the next one,
+unfoldable pub requestedBy : Session → (ℕ → Option Request) → Role → Bool → ℕ → Option Request
+requestedBy s f (requesting site r) b = pick b (put f (placed (find (at site 1) (s .places)) (issued s)) (some r)) f
+requestedBy s f (posing t u) b = f
+requestedBy s f defaulting b = f
+requestedBy s f neither b = f
+
+-- and "a posed pair is the two terms of such an order 4"
+unfoldable pub posedBy : List Pair → Role → Bool → List Pair
+posedBy ps (requesting site r) b = ps
+posedBy ps (posing t u) b = pick b ((t, u) ∷ ps) ps
+posedBy ps defaulting b = ps
+posedBy ps neither b = ps
 
 abbrev pub noted : History → Command → Step → History
 noted h c x = record {
   session = x .session;
-  requests = requestedBy (h .session) (h .requests) c (accepted (x .reply));
-  posed = posedBy (h .posed) c (accepted (x .reply));
+  requests = requestedBy (h .session) (h .requests) (role c) (accepted (x .reply));
+  posed = posedBy (h .posed) (role c) (accepted (x .reply));
   incompatible = h .incompatible || says 0 (x .reply);
   cancelled = h .cancelled || says 2 (x .reply);
 }
@@ -159,19 +172,17 @@ module _ (lim : Limits) (n : Notion) where
   history h [] = h
   history h (c ∷ cs) = history (after h c) cs
 
-  -- of an order where it stands: "each number place requested once and not issued earlier" (an order 1 refused with 8 has such a place too), and
-  -- "no default that bound a variable": "A default bound a variable where order 6 or 7 leaves another revision than it found"
+  -- Of an order where it stands, in the session s, that leaves the session y: "each number place requested once and not issued earlier" (an order 1
+  -- refused with 8 has such a place too), and "no default that bound a variable": "A default bound a variable where order 6 or 7 leaves another revision
+  -- than it found"
+  abbrev pub AllowedBy : Session → Role → Session → Type 0
+  AllowedBy s (requesting site r) y = find (at site 1) (s .places) ≡ none
+  AllowedBy s (posing t u) y = Unit {0}
+  AllowedBy s defaulting y = y .solver .revision ≡ s .solver .revision
+  AllowedBy s neither y = Unit {0}
+
   abbrev pub Allowed : Session → Command → Type 0
-  Allowed s (variable site slot) = Unit {0}
-  Allowed s (number site r) = find (at site 1) (s .places) ≡ none
-  Allowed s (hole site) = Unit {0}
-  Allowed s (defer t) = Unit {0}
-  Allowed s (pair k t u) = Unit {0}
-  Allowed s (resolving t) = Unit {0}
-  Allowed s numbers = order lim n s numbers .session .solver .revision ≡ s .solver .revision
-  Allowed s nevers = order lim n s nevers .session .solver .revision ≡ s .solver .revision
-  Allowed s revision = Unit {0}
-  Allowed s (unread r) = Unit {0}
+  Allowed s c = AllowedBy s (role c) (order lim n s c .session)
 
   abbrev pub AllAllowed : Session → List Command → Type 0
   AllAllowed s [] = Unit {0}
