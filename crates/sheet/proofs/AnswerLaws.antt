@@ -27,7 +27,8 @@ use Rattle.solver.specs.declared.Ready.{Ready}
 use Rattle.solver.specs.declared.Normalised.{Normalised}
 use Rattle.solver.specs.declared.Normalised.the-variants.{Refused, Long, Done}
 use Rattle.solver.specs.Handing.{readyOf, normalisedOf}
-use Rattle.sheet.specs.Operations.{Answer, refusal, outcome, bit, bits, seven, perhaps, settled}
+use Rattle.sheet.specs.Orders.{Answer, refusal, outcome}
+use Rattle.sheet.specs.Operations.{bit, bits, seven, perhaps, settled}
 use Rattle.sheet.specs.Written.{Framed, opening, Begun}
 use Rattle.sheet.specs.Answering.{Two}
 use Rattle.sheet.proofs.FramingLaws.{value-frame, frame-over, value-in, value-over}

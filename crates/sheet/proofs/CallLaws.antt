@@ -16,22 +16,21 @@ use Rattle.solver.specs.Terms.Number.{number}
 use Rattle.solver.specs.Terms.Shape as shape
 use Rattle.solver.specs.Terms.Shape.{ceiling}
 use Rattle.solver.specs.Shapes.{loose}
-use Rattle.solver.specs.Session.{Limits, Session, issued, fresh}
+use Rattle.solver.specs.Session.{Limits, Session, fresh}
 use Rattle.solver.specs.Orders.{Command, order}
 use Rattle.solver.proofs.RustLaws.{refused-stays}
-use Rattle.sheet.specs.Fields.{readOrder}
-use Rattle.sheet.specs.Operations.{refusal}
+use Rattle.sheet.specs.Orders.{refusal}
 use Rattle.sheet.specs.Sheet.{Step, Run, orderOf, framed, ends, answering, part, nextOrder, answered, runFrom, runOf}
-use Rattle.sheet.specs.Demand3.{ByteString, accepted, sessionAfter, partThen, ordersFrom, answersTo}
+use Rattle.sheet.specs.InTurn.{accepted, sessionAfter, partThen, ordersFrom, answersTo}
 use Rattle.sheet.specs.Commands.{command}
+use Rattle.sheet.specs.Demand3.{ByteString}
 use Rattle.sheet.specs.RustBytes.{AllSolved, solvedOne, solvedTo}
 use Rattle.sheet.specs.Stopping.{behindPart, behind, Stopped}
 use Rattle.sheet.specs.Ending.{Finish, finished, suits, leaving, finishOf}
 use Rattle.sheet.proofs.SplittingLaws.{next-ahead}
 use Rattle.sheet.proofs.EndingLaws.{finish-unfit, finish-run}
-use Rattle.sheet.proofs.Demand3Bytes.{accepted-of}
+use Rattle.sheet.proofs.CommandLaws.{accepted-of, Does, does-order}
 use Rattle.sheet.proofs.Demand3Run.{run-follows}
-use Rattle.sheet.proofs.RustBytesLaws.{Does, does-read}
 
 -- the list of a slice of bytes
 pub slice-bytes : (s : List ℕ) → ((i : ℕ) → getD s i 0 < 256) → ByteString s
@@ -44,7 +43,7 @@ slice-bytes (b ∷ s) h = (h 0, slice-bytes s (λ i. h (suc i)))
 module _ (lim : Limits) where
   pub refused-unchanged : (s : Session) (b : List ℕ) (c : ℕ) → orderOf lim s b .answer ≡ refusal c → orderOf lim s b .session ≡ s
   unfolding accepted
-  refused-unchanged s b c = go (command s b) (orderOf lim s b) (does-read lim s (readOrder b (issued s)))
+  refused-unchanged s b c = go (command s b) (orderOf lim s b) (does-order lim s b)
     where
       go : (o : Option Command) (x : Step) → Does lim s o x → x .answer ≡ refusal c → x .session ≡ s
       go none x d e = d
@@ -54,7 +53,7 @@ module _ (lim : Limits) where
 
   -- one that says nothing to the solver
   pub others-leave : (s : Session) (b : List ℕ) → command s b ≡ none → orderOf lim s b .session ≡ s
-  others-leave s b e = subst (λ (o : Option Command). Does lim s o (orderOf lim s b)) e (does-read lim s (readOrder b (issued s)))
+  others-leave s b e = subst (λ (o : Option Command). Does lim s o (orderOf lim s b)) e (does-order lim s b)
 
   -- ---- lists of orders
 
@@ -66,7 +65,7 @@ module _ (lim : Limits) where
       ap (λ (l : List ℕ). framed (x .answer) ++ l) (answers-append (x .session) bs cs)
       ∙ sym (append-assoc (framed (x .answer)) (answersTo lim (x .session) bs) (answersTo lim (sessionAfter lim (x .session) bs) cs))
 
-  -- all of them of kinds 0 to 8, and none refused: all answers are compared with the Rust's
+  -- all of them orders of the session, and none refused: all answers are compared with the Rust's
   pub all-solved : (s : Session) (bs : List (List ℕ)) → AllSolved lim s bs → solvedTo lim s bs ≡ answersTo lim s bs
   unfolding solvedTo answersTo AllSolved
   all-solved s [] a = refl

@@ -20,11 +20,15 @@ use Rattle.solver.specs.Solving as solving
 use Rattle.solver.specs.Session as session
 use Rattle.solver.specs.Session.{box, issued}
 use Rattle.solver.specs.Orders as orders
+use Rattle.solver.specs.Demand3 as theirs
 use Rattle.solver.specs.Demand3.{placed, outside, beginning, Demand3, Assigns, True, Equal, Agrees}
-use Rattle.sheet.specs.Fields.{layout, field, fields, known, kindedOrder, readOrder, nodes, allNodes}
-use Rattle.sheet.specs.Operations.{nth, numberOf, termOf}
-use Rattle.sheet.specs.Sheet.{step, framed, answerOf, runFrom, runOf}
-use Rattle.sheet.specs.Demand3.{ByteString, ByteStrings, roleOf, accepted, tells, requestedBy, posedBy, pairTold, historyOf, AllAllowed, Premises, ordersFrom, answeredOrders}
+use Rattle.sheet.specs.Fields.{field, fields, nodes, allNodes, nth, numberOf, termOf}
+use Rattle.sheet.specs.Orders.{sessionOrders, rowIn, layout, known, commandOf, kindedOrder, readBy}
+use Rattle.sheet.specs.Operations.{operations}
+use Rattle.sheet.specs.Sheet.{table, readOrder, step, framed, answerOf, runFrom, runOf}
+use Rattle.sheet.specs.InTurn.{ordersFrom, answeredOrders}
+use Rattle.sheet.specs.Commands.{commands}
+use Rattle.sheet.specs.Demand3.{ByteString, ByteStrings, historyOf, Premises}
 use Rattle.sheet.proofs.Demand3Bytes.{demand-3-bytes}
 use Rattle.sheet.proofs.Demand3Run.{demand-3-run}
 
@@ -48,13 +52,13 @@ answered-all : answeredOrders box sheet 32768
     ≡ (0 ∷ 7 ∷ 0 ∷ []) ∷ (0 ∷ 8 ∷ 0 ∷ []) ∷ (4 ∷ 9 ∷ 9 ∷ 1 ∷ 0 ∷ 9 ∷ 5 ∷ 2 ∷ 1 ∷ 1 ∷ 4 ∷ 2 ∷ []) ∷ (4 ∷ 9 ∷ 1 ∷ 1 ∷ 9 ∷ 1 ∷ 0 ∷ []) ∷ (5 ∷ 1 ∷ 0 ∷ []) ∷ (8 ∷ []) ∷ []
 unfolding groups digits shortest reading.code reading.rising reading.variable reading.many reading.row reading.kinded reading.term kindOf size bytes nums subs children row tag class same among meets first conflicts-with ℕ-discrete put families.code families.codes families.familyOf families.admits families.belongs families.belongsRow shapes.loose shapes.blank shapes.blankRow shapes.unmarked shapes.read shapes.sameShape shapes.turned
     solving.replace solving.followed solving.resolve solving.follow solving.recovery solving.is solving.projects solving.joined solving.join solving.allow solving.admit solving.bind₁ solving.bind₀ solving.bind solving.zipOn solving.part solving.differ solving.match solving.turn solving.settles session.samePlace session.find session.settleAt session.numericAt session.numericDefaults
-    orders.verdictOf orders.solverOf orders.beyond orders.variableAt orders.numberAt orders.order placed outside layout field fields known kindedOrder readOrder nodes allNodes nth numberOf termOf step framed answerOf runFrom roleOf accepted tells requestedBy posedBy pairTold historyOf AllAllowed ordersFrom
+    orders.verdictOf orders.solverOf orders.beyond orders.variableAt orders.numberAt orders.order placed outside layout field fields known kindedOrder readBy readOrder rowIn table sessionOrders operations nodes allNodes nth numberOf termOf step framed answerOf runFrom commandOf commands theirs.accepted theirs.says theirs.requestedBy theirs.posedBy theirs.history ordersFrom
 answered-all = refl
 
 sheet-premises : Premises box (answeredOrders box sheet 32768)
 unfolding groups digits shortest reading.code reading.rising reading.variable reading.many reading.row reading.kinded reading.term kindOf size bytes nums subs children row tag class same among meets first conflicts-with ℕ-discrete put families.code families.codes families.familyOf families.admits families.belongs families.belongsRow shapes.loose shapes.blank shapes.blankRow shapes.unmarked shapes.read shapes.sameShape shapes.turned
     solving.replace solving.followed solving.resolve solving.follow solving.recovery solving.is solving.projects solving.joined solving.join solving.allow solving.admit solving.bind₁ solving.bind₀ solving.bind solving.zipOn solving.part solving.differ solving.match solving.turn solving.settles session.samePlace session.find session.settleAt session.numericAt session.numericDefaults
-    orders.verdictOf orders.solverOf orders.beyond orders.variableAt orders.numberAt orders.order placed outside layout field fields known kindedOrder readOrder nodes allNodes nth numberOf termOf step framed answerOf runFrom roleOf accepted tells requestedBy posedBy pairTold historyOf AllAllowed ordersFrom
+    orders.verdictOf orders.solverOf orders.beyond orders.variableAt orders.numberAt orders.order placed outside layout field fields known kindedOrder readBy readOrder rowIn table sessionOrders operations nodes allNodes nth numberOf termOf step framed answerOf runFrom commandOf commands theirs.accepted theirs.says theirs.requestedBy theirs.posedBy theirs.history ordersFrom
 sheet-premises = record { allowed = (tt, (tt, (tt, (tt, (tt, (tt, tt)))))); pairs = (refl, refl, (refl, refl, tt)); uncut = refl }
 
 -- the revision before and after the default
@@ -64,8 +68,8 @@ two = refl
 level-premises : Premises box level
 unfolding groups digits shortest reading.code reading.rising reading.variable reading.many reading.row reading.kinded reading.term kindOf size bytes nums subs children row tag class same among meets first conflicts-with ℕ-discrete put families.code families.codes families.familyOf families.admits families.belongs families.belongsRow shapes.loose shapes.blank shapes.blankRow shapes.unmarked shapes.read shapes.sameShape shapes.turned
     solving.replace solving.followed solving.resolve solving.follow solving.recovery solving.is solving.projects solving.joined solving.join solving.allow solving.admit solving.bind₁ solving.bind₀ solving.bind solving.zipOn solving.part solving.differ solving.match solving.turn solving.settles session.samePlace session.find session.settleAt session.numericAt session.numericDefaults
-    orders.verdictOf orders.solverOf orders.beyond orders.variableAt orders.numberAt orders.order placed outside layout field fields known kindedOrder readOrder nodes allNodes nth numberOf termOf step framed answerOf runFrom roleOf accepted tells requestedBy posedBy pairTold historyOf AllAllowed ordersFrom
-level-premises = record { allowed = ((λ e. refl), (tt, (tt, (tt, (tt, (two, tt)))))); pairs = (refl, refl, tt); uncut = refl }
+    orders.verdictOf orders.solverOf orders.beyond orders.variableAt orders.numberAt orders.order placed outside layout field fields known kindedOrder readBy readOrder rowIn table sessionOrders operations nodes allNodes nth numberOf termOf step framed answerOf runFrom commandOf commands theirs.accepted theirs.says theirs.requestedBy theirs.posedBy theirs.history ordersFrom
+level-premises = record { allowed = (refl, (tt, (tt, (two, tt)))); pairs = (refl, refl, tt); uncut = refl }
 
 sheet-bytes : ByteString sheet
 unfolding ByteString
@@ -80,12 +84,12 @@ no-assignment : (θ : ℕ → Term) → Assigns 2 θ → True θ (historyOf box 
     → ¬ Equal loose θ (historyOf box beginning (answeredOrders box sheet 32768) .posed)
 unfolding groups digits shortest reading.code reading.rising reading.variable reading.many reading.row reading.kinded reading.term kindOf size bytes nums subs children row tag class same among meets first conflicts-with ℕ-discrete put families.code families.codes families.familyOf families.admits families.belongs families.belongsRow shapes.loose shapes.blank shapes.blankRow shapes.unmarked shapes.read shapes.sameShape shapes.turned
     solving.replace solving.followed solving.resolve solving.follow solving.recovery solving.is solving.projects solving.joined solving.join solving.allow solving.admit solving.bind₁ solving.bind₀ solving.bind solving.zipOn solving.part solving.differ solving.match solving.turn solving.settles session.samePlace session.find session.settleAt session.numericAt session.numericDefaults
-    orders.verdictOf orders.solverOf orders.beyond orders.variableAt orders.numberAt orders.order placed outside layout field fields known kindedOrder readOrder nodes allNodes nth numberOf termOf step framed answerOf runFrom roleOf accepted tells requestedBy posedBy pairTold historyOf AllAllowed ordersFrom
+    orders.verdictOf orders.solverOf orders.beyond orders.variableAt orders.numberAt orders.order placed outside layout field fields known kindedOrder readBy readOrder rowIn table sessionOrders operations nodes allNodes nth numberOf termOf step framed answerOf runFrom commandOf commands theirs.accepted theirs.says theirs.requestedBy theirs.posedBy theirs.history ordersFrom
 no-assignment = demand-3-run box sheet sheet-bytes 32768 sheet-premises .0 .first .0 refl
 
 -- none was, so that the assignments that make the pair equal are those that agree with what ?0 and ?1 resolve to
 agreeing : (θ : ℕ → Term) → Assigns 2 θ → True θ (historyOf box beginning level .requests) → Agrees loose θ (historyOf box beginning level .session) → Equal loose θ (historyOf box beginning level .posed)
 unfolding groups digits shortest reading.code reading.rising reading.variable reading.many reading.row reading.kinded reading.term kindOf size bytes nums subs children row tag class same among meets first conflicts-with ℕ-discrete put families.code families.codes families.familyOf families.admits families.belongs families.belongsRow shapes.loose shapes.blank shapes.blankRow shapes.unmarked shapes.read shapes.sameShape shapes.turned
     solving.replace solving.followed solving.resolve solving.follow solving.recovery solving.is solving.projects solving.joined solving.join solving.allow solving.admit solving.bind₁ solving.bind₀ solving.bind solving.zipOn solving.part solving.differ solving.match solving.turn solving.settles session.samePlace session.find session.settleAt session.numericAt session.numericDefaults
-    orders.verdictOf orders.solverOf orders.beyond orders.variableAt orders.numberAt orders.order placed outside layout field fields known kindedOrder readOrder nodes allNodes nth numberOf termOf step framed answerOf runFrom roleOf accepted tells requestedBy posedBy pairTold historyOf AllAllowed ordersFrom
+    orders.verdictOf orders.solverOf orders.beyond orders.variableAt orders.numberAt orders.order placed outside layout field fields known kindedOrder readBy readOrder rowIn table sessionOrders operations nodes allNodes nth numberOf termOf step framed answerOf runFrom commandOf commands theirs.accepted theirs.says theirs.requestedBy theirs.posedBy theirs.history ordersFrom
 agreeing θ a t g = demand-3-bytes box level level-bytes level-premises .second refl θ a .1 (t, g) .1

@@ -12,7 +12,8 @@ use Rattle.solver.specs.Terms.Shape.{ceiling}
 use Rattle.solver.specs.Session.{Limits, Session, fresh}
 use Rattle.solver.specs.Demand3.{beginning}
 use Rattle.sheet.specs.Sheet.{Run, orderOf, framed, ends, answering, part, nextOrder, answered, runFrom, runOf}
-use Rattle.sheet.specs.Demand3.{ByteString, ByteStrings, sessionAfter, historyOf, Premises, Demanded, partThen, ordersFrom, answeredOrders, answersTo}
+use Rattle.sheet.specs.InTurn.{sessionAfter, partThen, ordersFrom, answeredOrders, answersTo}
+use Rattle.sheet.specs.Demand3.{ByteString, ByteStrings, historyOf, Premises, Demanded}
 use Rattle.sheet.proofs.Demand3Bytes.{history-session, demand-3-bytes}
 
 -- ---- the parts of a sheet are bytes

@@ -24,10 +24,14 @@ use Rattle.solver.specs.Methods.{Beside, found, placed, namedOf}
 use Rattle.solver.proofs.OrderedLaws.{ordered-revision}
 use Rattle.solver.proofs.DefaultLaws.{arises-ordered}
 use Rattle.solver.proofs.MethodLaws.{beside-same, named-next, named-none}
-use Rattle.sheet.specs.Operations.{Answer, refusal, outcome, bit}
+use Rattle.sheet.specs.Fields.{nth, numberOf}
+use Rattle.sheet.specs.Orders.{Answer, refusal, outcome, sessionOrders, rowIn, commandOf}
+use Rattle.sheet.specs.Operations.{bit}
 use Rattle.sheet.specs.Sheet.{Step, solve, answerOf, framed}
 use Rattle.sheet.specs.Written.{Framed, opening}
+use Rattle.sheet.specs.Answering.{Among}
 use Rattle.sheet.specs.Doing.{Does, plainCommand}
+use Rattle.sheet.proofs.TableLaws.{among-past, third}
 use Rattle.sheet.proofs.FramingLaws.{one-frame, frame-over, value-frame}
 
 -- ---- done, or not
@@ -87,12 +91,12 @@ arises-revision lim z A = ordered-revision loose loose-codes (issued z) (z .solv
 pub lent-revision : (x : Solver) (ks vs ts : List ℕ) (z : Session) → Arises (limitsOf x) loose z → Lent x ks vs ts z → x .revision ≤ x .variables
 lent-revision x ks vs ts z A L = omega (arith, arises-revision (limitsOf x) z A, L .revision, L .fits .variables)
 
-pub revision-does : (x : Solver) (ks vs ts : List ℕ) (z : Session) → Lent x ks vs ts z → (out₀ : List ℕ) (to : ℕ) (out : List ℕ) (r : ℕ)
-    → Framed (outcome (shortest (x .revision))) out₀ to out r → Does x x ks vs ts ts z (solve (limitsOf x) z orders.revision) out₀ to out r
+pub revision-does : (x : Solver) (ks vs ts : List ℕ) (z : Session) → Lent x ks vs ts z → (n : ℕ) → n ≡ x .revision → (out₀ : List ℕ) (to : ℕ) (out : List ℕ) (r : ℕ)
+    → Framed (outcome (shortest n)) out₀ to out r → Does x x ks vs ts ts z (solve (limitsOf x) z orders.revision) out₀ to out r
 unfolding order answerOf
-revision-does x ks vs ts z L out₀ to out r f =
+revision-does x ks vs ts z L n e out₀ to out r f =
     does-same L (solve (limitsOf x) z orders.revision) out₀ to out r refl
-    (subst (λ (n : ℕ). Framed (outcome (shortest n)) out₀ to out r) (L .revision) f)
+    (subst (λ (n : ℕ). Framed (outcome (shortest n)) out₀ to out r) (e ∙ L .revision) f)
 
 -- ---- defaults
 
@@ -228,40 +232,35 @@ module _ (x : Solver) (ks vs ts : List ℕ) (z : Session) (L : Lent x ks vs ts z
         → Does x y ks vs ts us z (solve (limitsOf x) z c) out₀ to out r
     place-done l y us M B = does-whole L (solve (limitsOf x) z c) out₀ to y us out r says l M B
 
--- ---- the command of a kind
+-- ---- the command of an order with numbers alone
 
 module _ (k a b : ℕ) where
   pub plain-variable : k ≡ 0 → orders.variable a b ≡ plainCommand k a b
-  unfolding plainCommand
+  unfolding plainCommand rowIn sessionOrders commandOf nth numberOf
   plain-variable e = rw e refl
 
   pub plain-number : k ≡ 1 → orders.number a (requested b) ≡ plainCommand k a b
-  unfolding plainCommand
+  unfolding plainCommand rowIn sessionOrders commandOf nth numberOf
   plain-number e = rw e refl
 
   pub plain-hole : k ≡ 2 → orders.hole a ≡ plainCommand k a b
-  unfolding plainCommand
+  unfolding plainCommand rowIn sessionOrders commandOf nth numberOf
   plain-hole e = rw e refl
 
   pub plain-numbers : k ≡ 6 → orders.numbers ≡ plainCommand k a b
-  unfolding plainCommand
+  unfolding plainCommand rowIn sessionOrders commandOf
   plain-numbers e = rw e refl
 
   pub plain-nevers : k ≡ 7 → orders.nevers ≡ plainCommand k a b
-  unfolding plainCommand
+  unfolding plainCommand rowIn sessionOrders commandOf
   plain-nevers e = rw e refl
 
-pub plain-revision : (k a b : ℕ) → (k ≡ 0 → ⊥) → (k ≡ 1 → ⊥) → (k ≡ 2 → ⊥) → (k ≡ 6 → ⊥) → (k ≡ 7 → ⊥) → orders.revision ≡ plainCommand k a b
-unfolding plainCommand
-plain-revision zero a b p q r s t = absurd (p refl)
-plain-revision (suc zero) a b p q r s t = absurd (q refl)
-plain-revision (suc (suc zero)) a b p q r s t = absurd (r refl)
-plain-revision (suc (suc (suc zero))) a b p q r s t = refl
-plain-revision (suc (suc (suc (suc zero)))) a b p q r s t = refl
-plain-revision (suc (suc (suc (suc (suc zero))))) a b p q r s t = refl
-plain-revision (suc (suc (suc (suc (suc (suc zero)))))) a b p q r s t = absurd (s refl)
-plain-revision (suc (suc (suc (suc (suc (suc (suc zero))))))) a b p q r s t = absurd (t refl)
-plain-revision (suc (suc (suc (suc (suc (suc (suc (suc k)))))))) a b p q r s t = refl
+  -- the last of them
+  pub plain-revision : Among (0 ∷ 1 ∷ 2 ∷ 6 ∷ 7 ∷ 8 ∷ []) k → (k ≡ 0 → ⊥) → (k ≡ 1 → ⊥) → (k ≡ 2 → ⊥) → (k ≡ 6 → ⊥) → (k ≡ 7 → ⊥) → orders.revision ≡ plainCommand k a b
+  unfolding plainCommand rowIn sessionOrders commandOf
+  plain-revision h n₀ n₁ n₂ n₆ n₇ =
+      let x = among-past 2 k (6 ∷ 7 ∷ 8 ∷ []) n₂ (among-past 1 k (2 ∷ 6 ∷ 7 ∷ 8 ∷ []) n₁ (among-past 0 k (1 ∷ 2 ∷ 6 ∷ 7 ∷ 8 ∷ []) n₀ h)) in
+      rw (third 6 7 8 k x n₆ n₇) refl
 
 -- a command under another name
 pub does-as : (x y : Solver) (ks vs ts us : List ℕ) (z : Session) (c d : orders.Command) → c ≡ d → (out₀ : List ℕ) (to : ℕ) (out : List ℕ) (r : ℕ)

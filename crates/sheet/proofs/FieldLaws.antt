@@ -3,12 +3,11 @@
 use mathlib.Core.Path.{_≡_, refl, sym, ap, _∙_}
 use mathlib.Core.Bool.{Bool, true, false}
 use mathlib.Core.List.{List, [], _∷_, _++_}
-use mathlib.Core.Option.{some}
 use Prim.Native.Nat.{ℕ, zero, suc, _+_, _*_, _%_, _/_, _≤_, _<_}
 use native.Mathlib.Omega.{arith}
 use borrow.Author.Tests.{ltb-true}
 use lib.Dec.{ltb}
-use lib.ListN.{length, length-append, length-drop, drop, getD, getElem?}
+use lib.ListN.{length, length-append, length-drop, drop, getD}
 use Rattle.solver.specs.Terms.Number.{digits, shortest}
 use Rattle.solver.specs.Terms.Parser.{Result, Parser, got, refused, bind, pick, return, refuse, byte, number}
 use Rattle.solver.specs.Terms.Term.{Term, Parts, var, node, end, num, sub, items, partItems, size, sizes, bytes, partBytes}
@@ -28,7 +27,7 @@ use Rattle.solver.proofs.Terms.Sound.{Took, found, bare-found}
 use Rattle.solver.proofs.Terms.Weights.{bare-bound, weights-one, one}
 use Rattle.solver.proofs.Terms.Answers.{tokens-fit}
 use Rattle.sheet.specs.Fields as fields
-use Rattle.sheet.specs.Fields.{Sort, Kind, Field, Read, value, bare, levels, layout, known, kinds, nodes, allNodes, ruleNodes}
+use Rattle.sheet.specs.Fields.{Sort, Field, value, bare, levels, nodes, allNodes, ruleNodes}
 use Rattle.sheet.specs.Formed.{FormedTree, FormedBare, FormedEntries, FormedReceivers, FormedTrees, FormedRules, FormedField, FormedFields}
 use Rattle.sheet.specs.Laid.{ruleItems, fieldItems, allItems, spare, spares}
 
@@ -432,38 +431,3 @@ module _ (s : List ℕ) (o : Octets s) (issued : ℕ) where
         room = omega (arith, len, f .room, g .room);
         many = ap suc (g .many);
       })
-
--- ---- an order
-
-pub spares-few : (k : Kind) → spares (layout k) ≤ 8
-unfolding spares spare layout
-spares-few fields.variable = omega arith
-spares-few fields.number-variable = omega arith
-spares-few fields.annotation-hole = omega arith
-spares-few fields.defer-never = omega arith
-spares-few fields.constrain = omega arith
-spares-few fields.resolve = omega arith
-spares-few fields.numeric-defaults = omega arith
-spares-few fields.never-defaults = omega arith
-spares-few fields.revision = omega arith
-spares-few fields.conflicts = omega arith
-spares-few fields.weakens = omega arith
-spares-few fields.recover = omega arith
-spares-few fields.instantiate = omega arith
-spares-few fields.argument-context = omega arith
-spares-few fields.with-self = omega arith
-spares-few fields.questions = omega arith
-spares-few fields.resolved-in = omega arith
-spares-few fields.satisfied = omega arith
-spares-few fields.family = omega arith
-spares-few fields.with-associated-types = omega arith
-spares-few fields.normalise = omega arith
-
-module _ (s : List ℕ) (o : Octets s) (issued : ℕ) where
-  -- what an order says: its fields, which stand behind its kind, and nothing behind them
-  pub record OrderFound (r : Read) (n : ℕ) : Type 0 where
-    pub kind : getElem? kinds (getD s 0 0) ≡ some (r .kind)
-    pub read : fields.fields s (known (r .kind) issued) (layout (r .kind)) 1 ≡ got (r .fields) n
-    pub found : FieldsFound s o (known (r .kind) issued) (layout (r .kind)) 1 (r .fields) n
-    pub formed : FormedFields (known (r .kind) issued) (r .fields)
-    pub room : length (allItems (r .fields)) ≤ 6 * allNodes (r .fields) + 8

@@ -11,7 +11,7 @@ use lib.ListN.{length, length-append, set}
 use lib.Seq.{sets, append-snoc, length-sets}
 use Rattle.solver.specs.Terms.Number.{shortest, digits}
 use Rattle.solver.proofs.Terms.WriteLaws.{sets-append}
-use Rattle.sheet.specs.Operations.{Answer, refusal, outcome}
+use Rattle.sheet.specs.Orders.{Answer, refusal, outcome}
 use Rattle.sheet.specs.Sheet.{framed}
 use Rattle.sheet.specs.Written.{Framed, opening, Begun}
 

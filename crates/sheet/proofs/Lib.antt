@@ -2,7 +2,7 @@
 -- An order read:
 --   StoredLaws      tokens stored one run behind the other, and cleared
 --   FieldLaws       what is read is formed, and how many tokens it has
---   TableLaws       the table of orders in numbers
+--   TableLaws       the table of orders: tests computed over it
 --   FitLaws         what is read is of the sorts of its kind
 --   SpotLaws        where the fields stand, and that they are held there
 --   ThroughLaws     the loop over a layout
@@ -15,6 +15,7 @@
 --   FramingLaws     answers in the output
 --   AnswerLaws      what crate terms tells, as answers
 --   GivenLaws       the fields of each kind of order
+--   SessionRowLaws  what an order of the session tells is made of its fields
 --   StepLaws        the operations on a session
 --   DoingLaws       orders 0 to 8 on what is lent
 --   PosingLaws      orders 3, 4 and 5: terms behind the tokens of the session
@@ -29,8 +30,9 @@
 --   RunExamples     short runs
 --   MarkedTable     document 01's marked lines
 -- Demand 3 and demand 2 over order bytes:
---   FormedReading         the terms that an order's bytes say are formed
+--   CommandLaws           an order does what its bytes tell the session
 --   Demand3Bytes          demand 3 for lists of orders, each given as its bytes
+--   AnsweredLaws          which pairs of such a list were answered so, as bytes
 --   Demand3Run            demand 3 for the orders that a run answered
 --   SessionBytes          the session after any list of orders, and after a run; order 5 for a variable
 --   Demand3BytesExamples  demand 3 used on two lists
@@ -54,6 +56,7 @@ pub mod UseLaws
 pub mod FramingLaws
 pub mod AnswerLaws
 pub mod GivenLaws
+pub mod SessionRowLaws
 pub mod StepLaws
 pub mod DoingLaws
 pub mod PosingLaws
@@ -66,8 +69,9 @@ pub mod RunLaws
 pub mod Examples
 pub mod RunExamples
 pub mod MarkedTable
-pub mod FormedReading
+pub mod CommandLaws
 pub mod Demand3Bytes
+pub mod AnsweredLaws
 pub mod Demand3Run
 pub mod SessionBytes
 pub mod Demand3BytesExamples

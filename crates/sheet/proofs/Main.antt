@@ -3,7 +3,7 @@
 use mathlib.Core.Path.{_≡_, sym, ap, _∙_}
 use mathlib.Core.Bool.{true, false}
 use mathlib.Core.List.{List, [], _∷_, _++_}
-use mathlib.Core.Logic.{_⊎_}
+use mathlib.Core.Logic.{_⊎_, _↔_}
 use mathlib.Core.Option.{none}
 use Prim.Native.Nat.{ℕ, _+_, _-_, _≤_, _<_}
 use native.Mathlib.Omega.{arith}
@@ -37,16 +37,19 @@ use Rattle.solver.specs.Demand3.{beginning, Demand3}
 use Rattle.solver.specs.InOrder.{InOrder, Fits, SettledBy}
 use Rattle.solver.specs.Robinson.{Unmarked, UnmarkedPairs, Decides}
 use Rattle.solver.specs.RobinsonPair.{FirstOrderIn}
-use Rattle.sheet.specs.Operations.{refusal, outcome}
+use Rattle.sheet.specs.Orders.{refusal, outcome}
 use Rattle.sheet.specs.Sheet.{orderOf, framed}
-use Rattle.sheet.specs.Demand3.{Pure, PurePairs, Premises, historyOf, sessionAfter, ordersFrom, answersTo}
+use Rattle.sheet.specs.InTurn.{sessionAfter, ordersFrom, answersTo}
 use Rattle.sheet.specs.Commands.{command}
+use Rattle.sheet.specs.Demand3.{Pure, PurePairs, Premises, historyOf}
+use Rattle.sheet.specs.PairsAnswered.{SomePairAnswered}
 use Rattle.sheet.specs.RustBytes.{frames, AsTheRust, AllSolved}
 use Rattle.sheet.specs.RobinsonBytes.{FirstOrder, PlainOrder, AnsweredSo, DecidesOrders}
 use Rattle.sheet.specs.Stopping.{behind, Stopped}
 use Rattle.sheet.specs.Ending.{finished, suits, finishOf}
 use Rattle.sheet.proofs.MarkedTable.{MarkedLines, marked}
 use Rattle.sheet.proofs.Demand3Bytes.{demand-3-bytes}
+use Rattle.sheet.proofs.AnsweredLaws.{incompatible-answered, cancelled-answered}
 use Rattle.sheet.proofs.Demand3Run.{orders-bytes}
 use Rattle.sheet.proofs.SessionBytes as session
 use Rattle.sheet.proofs.RustBytesLaws.{rust-bytes}
@@ -116,6 +119,7 @@ module _ (sheet out a b c d : List ℕ) (reason orders bytes : ℕ) (out′ a′
     -- DEMAND 3. "Some pair was answered incompatible exactly if no assignment of variable-free terms of any size, true to the number families requested, makes every
     -- posed pair equal up to Set and Map access. If none was, the assignments that do so are exactly those true to the families that agree, up to that access,
     -- with what each variable resolves to, and every variable left in those terms resolves to itself.": the fields `first`, `second` and `left`.
+    -- That some pair "was answered incompatible" is said of the solver's replies; `incompatible` says that these are the answers in bytes.
     pub demand-3 : Premises box served → Demand3 loose (historyOf box beginning served)
     demand-3 = demand-3-bytes box served (orders-bytes sheet (call.slice-bytes sheet octet) orders 0)
 
@@ -125,9 +129,16 @@ module _ (sheet out a b c d : List ℕ) (reason orders bytes : ℕ) (out′ a′
 pub demand-1-refused : (s : Session) (b : List ℕ) (c : ℕ) → orderOf box s b .answer ≡ refusal c → orderOf box s b .session ≡ s
 demand-1-refused = call.refused-unchanged box
 
--- "Orders 9 to 20 leave the session as it was": each order that is none of the solver's
+-- "Orders 9 to 20 leave the session as it was": each order that tells it nothing
 pub orders-9-to-20 : (s : Session) (b : List ℕ) → command s b ≡ none → orderOf box s b .session ≡ s
 orders-9-to-20 = call.others-leave box
+
+-- "Some pair was answered incompatible", "no cancelled pair": exactly where some order 4 of the list was answered with the byte 0, or 2
+pub incompatible : (bs : List (List ℕ)) → (historyOf box beginning bs .incompatible ≡ true) ↔ SomePairAnswered box 0 fresh bs
+incompatible = incompatible-answered box
+
+pub cancelled : (bs : List (List ℕ)) → (historyOf box beginning bs .cancelled ≡ true) ↔ SomePairAnswered box 2 fresh bs
+cancelled = cancelled-answered box
 
 -- "What a variable resolves to is the term order 5 would answer for it after the list, given space for order and answer."
 pub order-5 : (bs : List (List ℕ)) (v : ℕ)

@@ -21,10 +21,11 @@ use Rattle.solver.specs.Solving as solving
 use Rattle.solver.specs.Session as session
 use Rattle.solver.specs.Session.{box, fresh, at}
 use Rattle.solver.specs.Orders as orders
-use Rattle.sheet.specs.Fields.{layout, field, fields, known, kindedOrder, readOrder, ruleList, ruleNodes, nodes, allNodes}
-use Rattle.sheet.specs.Operations.{refusal, outcome, nth, numberOf, termOf, rulesOf, bits, settled}
-use Rattle.sheet.specs.Sheet.{step, framed, answerOf, orderOf, ends, runFrom, runOf}
-use Rattle.sheet.specs.Demand3.{sessionAfter, answersTo}
+use Rattle.sheet.specs.Fields.{field, fields, ruleList, ruleNodes, nodes, allNodes, nth, numberOf, termOf, rulesOf}
+use Rattle.sheet.specs.Orders.{refusal, outcome, sessionOrders, rowIn, layout, known, kindedOrder, readBy}
+use Rattle.sheet.specs.Operations.{bits, settled, operations}
+use Rattle.sheet.specs.Sheet.{table, readOrder, step, framed, answerOf, orderOf, ends, runFrom, runOf}
+use Rattle.sheet.specs.InTurn.{sessionAfter, answersTo}
 
 -- the bytes of a Set of I32 with an access, before others: 0 ReadOnly, 1 Mutable
 abbrev set : ℕ → List ℕ → List ℕ
@@ -47,7 +48,7 @@ pub record NumberLines : Type 0 where
   pub site-too-large : orderOf box fresh (0x00 ∷ 0x80 ∷ 0x80 ∷ 0x80 ∷ 0x80 ∷ 0x10 ∷ 0x00 ∷ []) .answer ≡ refusal 3
 
 numbers : NumberLines
-unfolding groups digits shortest bytes session.samePlace session.find orders.variableAt orders.order layout field fields known kindedOrder readOrder nth numberOf step answerOf
+unfolding groups digits shortest bytes session.samePlace session.find orders.variableAt orders.order layout field fields known kindedOrder readBy readOrder rowIn table sessionOrders operations nth numberOf step answerOf
 numbers = record {
   seven-bits = refl;
   eight-bits = refl;
@@ -77,7 +78,7 @@ terms : TermLines
 unfolding groups digits shortest reading.code reading.rising reading.variable reading.many reading.pairs reading.row reading.kinded reading.term kindOf size bytes nums subs children row tag class same among meets first second countedBy enteredBy
     conflicts-with collection-access read-only-view can-weaken-to ℕ-discrete put families.familyOf families.admits families.belongs families.belongsRow shapes.loose shapes.blank shapes.blankRow shapes.unmarked shapes.read
     shapes.sameShape shapes.turned solving.replace solving.followed solving.resolve solving.follow solving.recovery solving.is solving.projects solving.admit solving.bind₁ solving.bind₀ solving.bind solving.zipOn
-    solving.part solving.differ solving.match solving.turn solving.settles orders.verdictOf orders.solverOf orders.beyond orders.order layout field fields known kindedOrder readOrder nodes allNodes nth numberOf termOf bits answered step answerOf
+    solving.part solving.differ solving.match solving.turn solving.settles orders.verdictOf orders.solverOf orders.beyond orders.order layout field fields known kindedOrder readBy readOrder rowIn table sessionOrders operations nodes allNodes nth numberOf termOf bits answered step answerOf
 terms = record { conflict = refl; compatible = refl; weakens = refl; not-back = refl; projection = refl }
 
 -- ---- cancelled
@@ -104,7 +105,7 @@ cancelled : CheckLines
 unfolding answersTo sessionAfter groups digits shortest reading.code reading.rising reading.variable reading.many reading.row reading.kinded reading.term kindOf size bytes nums subs children row tag class same among meets
     ℕ-discrete put families.familyOf families.admits families.belongs families.belongsRow shapes.loose shapes.blank shapes.blankRow shapes.unmarked shapes.read shapes.sameShape shapes.turned solving.replace solving.followed
     solving.resolve solving.follow solving.recovery solving.is solving.projects solving.admit solving.bind₁ solving.bind₀ solving.bind solving.zipOn solving.part solving.differ solving.match solving.turn solving.settles
-    session.samePlace session.find orders.verdictOf orders.solverOf orders.beyond orders.variableAt orders.order layout field fields known kindedOrder readOrder nth numberOf termOf step framed answerOf
+    session.samePlace session.find orders.verdictOf orders.solverOf orders.beyond orders.variableAt orders.order layout field fields known kindedOrder readBy readOrder rowIn table sessionOrders operations nth numberOf termOf step framed answerOf
 cancelled = record { one-check = refl; unbound = refl; two-checks = refl }
 
 -- THE MARKED LINES, together
@@ -142,5 +143,5 @@ pub record RunOnlyLines : Type 0 where
 pub run-only : RunOnlyLines
 unfolding groups digits shortest reading.code reading.rising reading.variable reading.many reading.pairs reading.row reading.kinded reading.term kindOf size bytes nums subs fill children withKids row tag nominalSlot projectionSlot
     class slotBy same lookUp interfaceOf receiverOf memberOf argumentsOf among meets first second countedBy enteredBy answered visitKids memberFrom traitMember ownMember replacement walkBy byRules layout field fields known kindedOrder
-    readOrder ruleList ruleNodes nodes allNodes nth numberOf termOf rulesOf bits settled step framed answerOf runFrom
+    readBy readOrder rowIn table sessionOrders operations ruleList ruleNodes nodes allNodes nth numberOf termOf rulesOf bits settled step framed answerOf runFrom
 run-only = record { empty-sheet = refl; empty-order = (refl, refl, refl); level-200 = refl; level-201 = refl; under-63 = refl; under-64 = refl }

@@ -1,9 +1,10 @@
 -- An order: its kind, its fields and nothing behind them; and what its reading leaves. Assumes nothing.
-use mathlib.Core.Path.{_≡_, refl, sym, ap, _∙_}
+use mathlib.Core.Path.{_≡_, refl, sym, ap, ap₂, _∙_}
 use mathlib.Core.List.{List, [], _∷_}
 use mathlib.Core.Logic.{⊎-elim}
+use mathlib.Core.Option.{Option, none, some}
 use Prim.Native.Nat.{ℕ, zero, suc, _+_, _-_, _*_, _≤_, _<_}
-use native.Mathlib.Decide.{decLt}
+use native.Mathlib.Decide.{decLt, ℕ-discrete}
 use native.Mathlib.Omega.{arith}
 use borrow.Author.Tests.{lt-ltb, le-ltb, ne-eqb}
 use lib.ListN.{length, getD, drop}
@@ -19,17 +20,20 @@ use Rattle.solver.proofs.Terms.Bounds.{number-bounds}
 use Rattle.solver.proofs.Terms.Steps.{one-group, at-byte, at-end}
 use Rattle.solver.proofs.Terms.Shortest.{Octets}
 use Rattle.sheet.specs.declared.Order.{Order}
+use Rattle.sheet.specs.declared.OrderRow.the-variants.{Unlisted}
+use Rattle.sheet.specs.declared.Class.{Class}
 use Rattle.sheet.specs.Fields as fields
-use Rattle.sheet.specs.Fields.{Field, Sort, ruled, kinds, nodes, allNodes, last, kindedOrder, readOrder}
-use Rattle.sheet.specs.Operations.{nth}
-use Rattle.sheet.specs.Laid.{sortOf, plainOf, packed, Plain, Plains, kindAt, sortsAt, knownAt, fieldItems, allItems, Free, Ample, noFields, Spots, finished, FieldDone, RulesDone}
+use Rattle.sheet.specs.Fields.{Field, Sort, ruled, nodes, allNodes, last, nth}
+use Rattle.sheet.specs.Orders.{Row, rowIn, layout, known, kindedOrder, readBy}
+use Rattle.sheet.specs.Sheet.{table, readOrder}
+use Rattle.sheet.specs.Laid.{rowWords, RowIs, layoutIn, sortsAt, knownFor, sortOf, plainOf, packed, Plain, Plains, fieldItems, allItems, Free, Ample, noFields, Spots, finished, FieldDone, RulesDone}
 use Rattle.solver.specs.Terms.Lent.{stepOf}
 use Rattle.sheet.specs.Lent.{fieldOf}
 use Rattle.sheet.specs.Ordered.{OrderRoom, WholeOrder}
 use Rattle.sheet.proofs.StoredLaws.{stored-kinds, stored-before, stored-undo}
-use Rattle.sheet.proofs.FieldLaws.{parts-of, same-value, rules-found, fields-found, spares-few}
+use Rattle.sheet.proofs.FieldLaws.{parts-of, same-value, rules-found, fields-found}
 use Rattle.sheet.proofs.PartLaws.{moved}
-use Rattle.sheet.proofs.TableLaws.{kind-listed, kind-unlisted, layout-short, layout-leading, plains-below, sorts-ruled}
+use Rattle.sheet.proofs.TableLaws.{row-of, known-class, layout-short, layout-leading, layout-plain, layout-ruled, spares-few}
 use Rattle.sheet.proofs.SpotLaws.{RulesFit, plain-fit, rules-room, fields-followed, spots-held, spot-kept}
 use Rattle.sheet.proofs.FitLaws.{fields-fit}
 use Rattle.sheet.proofs.ThroughLaws.{Through, FieldsHere, through-start}
@@ -96,39 +100,61 @@ not-plain k e h = absurd (rw e at h)
 
 -- ---- the fields of a kind
 
-pub order-start : (s ws : List ℕ) (issued k : ℕ) (p : Place) (d : Area) (rest : ℕ) → rest ≡ packed (sortsAt k) → Free (p .top) d → Ample s p → (o : Order) → o ≡ noFields
+pub order-start : (s ws : List ℕ) (issued k : ℕ) (c : Class) (rest : ℕ) → RowIs k c rest → (p : Place) (d : Area) → Free (p .top) d → Ample s p → (o : Order) → o ≡ noFields
     → Through s ws issued (sortsAt k) p d d rest 0 o p
-order-start s ws issued k p d rest e f a o eo = rw eo (through-start s ws issued (sortsAt k) p d rest e (layout-short (kindAt k)) (layout-leading (kindAt k)) f a)
+order-start s ws issued k c rest h p d f a o eo =
+    let x = row-of k c rest h in
+    let l : sortsAt k ≡ layout (x .0) = ap layoutIn (x .1) in
+    rw (eo, l) (through-start s ws issued (layout (x .0)) p d rest (x .3) (layout-short k (x .0) (x .1)) (layout-leading k (x .0) (x .1)) f a)
 
 -- ---- the whole order
 
 module _ (s : List ℕ) (issued : ℕ) where
   pub order-empty : length s ≡ 0 → readOrder s issued ≡ refused 1
-  unfolding readOrder
+  unfolding readOrder readBy
   order-empty h = rw (le-ltb 0 (length s) (omega arith))
 
   module _ (some-bytes : 0 < length s) where
-    pub order-unlisted : 21 ≤ getD s 0 0 → readOrder s issued ≡ refused 2
-    unfolding readOrder kindedOrder
-    order-unlisted h = rw (lt-ltb 0 (length s) some-bytes, kind-unlisted (getD s 0 0) h)
+    order-row : (o : Option Row) → rowIn table (getD s 0 0) ≡ o → readOrder s issued ≡ kindedOrder s issued o 1
+    unfolding readOrder readBy
+    order-row o h = rw (lt-ltb 0 (length s) some-bytes, h)
 
-    order-is : (k : ℕ) → k ≡ getD s 0 0 → k < 21 → readOrder s issued ≡ bind (fields.fields s (knownAt k issued) (sortsAt k) 1) (λ fs. last s (record { kind = kindAt k; fields = fs }))
-    unfolding readOrder kindedOrder
-    order-is k e h = rw (lt-ltb 0 (length s) some-bytes, ← e, kind-listed k h)
+    pub order-unlisted : rowWords (rowIn table (getD s 0 0)) ≡ Unlisted → readOrder s issued ≡ refused 2
+    unfolding kindedOrder
+    order-unlisted h = go (rowIn table (getD s 0 0)) refl h
+      where
+        go : (o : Option Row) → rowIn table (getD s 0 0) ≡ o → rowWords o ≡ Unlisted → readOrder s issued ≡ refused 2
+        go none e h = order-row none e
+        go (some r) e h = let z : _≡_ {A = ℕ} 0 1 = cc in absurd (omega arith)
 
-    module _ (k : ℕ) (e : k ≡ getD s 0 0) (listed : k < 21) where
-      pub order-refused : (c : ℕ) → fields.fields s (knownAt k issued) (sortsAt k) 1 ≡ refused c → readOrder s issued ≡ refused c
-      order-refused c h =
-          order-is k e listed ∙ ap (λ (x : Result (List Field)). bind x (λ fs. last s (record { kind = kindAt k; fields = fs }))) h
+    module _ (k : ℕ) (e : k ≡ getD s 0 0) (c : Class) (n : ℕ) (is : RowIs k c n) where
+      abbrev r : Row
+      r = row-of k c n is .0
 
-      after : (fs : List Field) (n : ℕ) → fields.fields s (knownAt k issued) (sortsAt k) 1 ≡ got fs n → readOrder s issued ≡ last s (record { kind = kindAt k; fields = fs }) n
-      after fs n h = order-is k e listed ∙ ap (λ (x : Result (List Field)). bind x (λ fs. last s (record { kind = kindAt k; fields = fs }))) h
+      listed : rowIn table k ≡ some r
+      listed = row-of k c n is .1
 
-      pub order-longer : (fs : List Field) (n : ℕ) → fields.fields s (knownAt k issued) (sortsAt k) 1 ≡ got fs n → n < length s → readOrder s issued ≡ refused 1
-      order-longer fs n h l = after fs n h ∙ rw (lt-ltb n (length s) l)
+      -- the fields of the kind
+      fields-are : fields.fields s (knownFor c issued) (sortsAt k) 1 ≡ fields.fields s (known r issued) (layout r) 1
+      fields-are =
+          ap₂ (λ (m : ℕ) (l : List Sort). fields.fields s m l 1) (ap (λ (d : Class). knownFor d issued) (row-of k c n is .2) ∙ sym (known-class r issued)) (ap layoutIn listed)
 
-      order-whole : (fs : List Field) (n : ℕ) → fields.fields s (knownAt k issued) (sortsAt k) 1 ≡ got fs n → length s ≤ n → readOrder s issued ≡ got (record { kind = kindAt k; fields = fs }) n
-      order-whole fs n h l = after fs n h ∙ rw (le-ltb n (length s) l)
+      order-is : readOrder s issued ≡ bind (fields.fields s (knownFor c issued) (sortsAt k) 1) (λ fs. last s (record { kind = r; fields = fs }))
+      unfolding kindedOrder
+      order-is = order-row (some r) (rw (← e) listed) ∙ ap (λ (x : Result (List Field)). bind x (λ fs. last s (record { kind = r; fields = fs }))) (sym fields-are)
+
+      pub order-refused : (a : ℕ) → fields.fields s (knownFor c issued) (sortsAt k) 1 ≡ refused a → readOrder s issued ≡ refused a
+      order-refused a h =
+          order-is ∙ ap (λ (x : Result (List Field)). bind x (λ fs. last s (record { kind = r; fields = fs }))) h
+
+      after : (fs : List Field) (m : ℕ) → fields.fields s (knownFor c issued) (sortsAt k) 1 ≡ got fs m → readOrder s issued ≡ last s (record { kind = r; fields = fs }) m
+      after fs m h = order-is ∙ ap (λ (x : Result (List Field)). bind x (λ fs. last s (record { kind = r; fields = fs }))) h
+
+      pub order-longer : (fs : List Field) (m : ℕ) → fields.fields s (knownFor c issued) (sortsAt k) 1 ≡ got fs m → m < length s → readOrder s issued ≡ refused 1
+      order-longer fs m h l = after fs m h ∙ rw (lt-ltb m (length s) l)
+
+      order-whole : (fs : List Field) (m : ℕ) → fields.fields s (knownFor c issued) (sortsAt k) 1 ≡ got fs m → length s ≤ m → readOrder s issued ≡ got (record { kind = r; fields = fs }) m
+      order-whole fs m h l = after fs m h ∙ rw (le-ltb m (length s) l)
 
       -- an order that is whole
       module _ (octets : Octets s) (us ws : List ℕ) (top kept limit : ℕ) (d e′ : Area) (room : OrderRoom s (d .kinds) (d .vals) us top kept limit) (long : length ws ≡ length us) (o : Order) (q : Place) where
@@ -136,43 +162,43 @@ module _ (s : List ℕ) (issued : ℕ) where
         start = record { at = 1; top = top; nodes = kept; limit = limit }
 
         -- only order 20 has rules, and for those there is room
-        rules-held : (fs : List Field) (n : ℕ) → fields.fields s (knownAt k issued) (sortsAt k) 1 ≡ got fs n → kept + allNodes fs ≤ limit → (i : ℕ) → RulesFit ws (nth i fs)
+        rules-held : (fs : List Field) (m : ℕ) → fields.fields s (known r issued) (layout r) 1 ≡ got fs m → kept + allNodes fs ≤ limit → (i : ℕ) → RulesFit ws (nth i fs)
         unfolding Plains Plain
-        rules-held fs n found h = go (decLt k 20)
+        rules-held fs m found h = go (ℕ-discrete k 20)
           where
-            go : Dec (k < 20) → (i : ℕ) → RulesFit ws (nth i fs)
-            go (yes l) = plain-fit ws (sortsAt k) fs (plains-below k l) (fields-fit s (knownAt k issued) (sortsAt k) 1 fs n found)
-            go (no l) =
-                let told = rw (sorts-ruled k (omega arith)) at found in
-                ⊎-elim (λ w. rules-room ws fs (omega arith)) (λ w. rules-few s octets (knownAt k issued) ws (fields.term ∷ []) (tt, tt) 1 fs n told (w .0) (omega arith)) (room .words (omega arith))
+            go : Dec (k ≡ 20) → (i : ℕ) → RulesFit ws (nth i fs)
+            go (no l) = plain-fit ws (layout r) fs (layout-plain k r listed l) (fields-fit s (known r issued) (layout r) 1 fs m found)
+            go (yes l) =
+                let told = rw (layout-ruled k r listed l) at found in
+                ⊎-elim (λ w. rules-room ws fs (omega arith)) (λ w. rules-few s octets (known r issued) ws (fields.term ∷ []) (tt, tt) 1 fs m told (w .0) (omega arith)) (room .words (sym e ∙ l))
 
-        pub order-done : FieldsHere s ws (fields.fields s (knownAt k issued) (sortsAt k) 1) start d e′ o q → length s ≤ q .at
+        pub order-done : FieldsHere s ws (fields.fields s (knownFor c issued) (sortsAt k) 1) start d e′ o q → length s ≤ q .at
             → WholeOrder s issued top kept limit d e′ ws (finished o k (q .top) (q .nodes))
         order-done x l =
             let fs = x .read in
-            let found = x .is in
+            let found = sym fields-are ∙ x .is in
             let stored = x .stored in
             let u = finished o k (q .top) (q .nodes) in
             let spots : Spots s ws top u fs = λ i h. rw (spot-kept i o u refl refl refl refl refl) (x .spots i h) in
-            let good = fields-found s octets (knownAt k issued) (sortsAt k) 1 fs (q .at) found in
+            let good = fields-found s octets (known r issued) (layout r) 1 fs (q .at) found in
             let items = good .room in
-            let fit = fields-fit s (knownAt k issued) (sortsAt k) 1 fs (q .at) found in
-            let few = spares-few (kindAt k) in
+            let fit = fields-fit s (known r issued) (layout r) 1 fs (q .at) found in
+            let few = spares-few k r listed in
             let fits : u .nodes ≤ limit → top + length (allItems fs) ≤ length (d .kinds) = λ h. omega (arith, stored .counts, room .tokens, room .within) in
             let run : u .nodes ≤ limit → toks (e′ .kinds) (e′ .vals) top (length (allItems fs)) ≡ allItems fs = λ h.
             rw (stored .whole (omega arith)) (stored-at (allItems fs) d top (fits h) (omega (arith, fits h, room .paired)))
             in
             let kindsLong = stored-kinds start q d e′ (allItems fs) (allNodes fs) stored in
             record {
-              read = record { kind = kindAt k; fields = fs };
+              read = record { kind = r; fields = fs };
               next = q .at;
-              is = order-whole fs (q .at) found l;
-              kind = kind-listed k listed;
+              is = order-whole fs (q .at) (x .is) l;
+              kind = listed;
               formed = good .formed;
               counts = omega (arith, stored .counts);
               tokens = omega (arith, stored .tokens);
               small = omega (arith, stored .tokens, good .tokens, room .bytes, room .tokens, room .short);
-              held = λ h. spots-held (e′ .kinds) (e′ .vals) s ws top u fs spots (rules-held fs (q .at) found (omega (arith, stored .counts, room .within))) (fields-followed (kindAt k) fs fit) (run h) (omega (arith, fits h));
+              held = λ h. spots-held (e′ .kinds) (e′ .vals) s ws top u fs spots (rules-held fs (q .at) found (omega (arith, stored .counts, room .within))) (fields-followed k r listed fs fit) (run h) (omega (arith, fits h));
               fitting = fit;
               found = found;
               spots = spots;

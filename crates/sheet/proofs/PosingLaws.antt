@@ -22,7 +22,7 @@ use Rattle.solver.specs.Methods.{Beside}
 use Rattle.solver.specs.Turning.{Constrained, pendingFrom}
 use Rattle.solver.specs.Behind.{Poses, PosesPair, resolvedTo}
 use Rattle.solver.proofs.OrderedLaws.{within-known}
-use Rattle.sheet.specs.Operations.{Answer, outcome}
+use Rattle.sheet.specs.Orders.{Answer, outcome}
 use Rattle.sheet.specs.Sheet.{Step, solve, answerOf, framed}
 use Rattle.sheet.specs.Written.{Framed}
 use Rattle.sheet.specs.Doing.{Does, DoesPair}

@@ -22,11 +22,11 @@ use Rattle.solver.specs.Session.{box, fresh}
 use Rattle.solver.specs.Orders as orders
 use Rattle.solver.specs.Demand3.{outside}
 use Rattle.solver.proofs.RobinsonPairLaws.{free-in, closed-in}
-use Rattle.sheet.specs.Fields.{layout, field, fields, known, kindedOrder, readOrder}
-use Rattle.sheet.specs.Operations.{outcome, nth, numberOf, termOf}
-use Rattle.sheet.specs.Sheet.{step, framed, answerOf, orderOf}
-use Rattle.sheet.specs.Demand3.{accepted, sessionAfter, answersTo}
-use Rattle.sheet.specs.Commands.{commandOf}
+use Rattle.sheet.specs.Fields.{field, fields, nth, numberOf, termOf}
+use Rattle.sheet.specs.Orders.{outcome, sessionOrders, rowIn, layout, known, commandOf, kindedOrder, readBy}
+use Rattle.sheet.specs.Operations.{operations}
+use Rattle.sheet.specs.Sheet.{table, readOrder, step, framed, answerOf, orderOf}
+use Rattle.sheet.specs.InTurn.{accepted, sessionAfter, answersTo}
 use Rattle.sheet.specs.RobinsonBytes.{PlainOrder, AnsweredSo}
 use Rattle.sheet.proofs.RobinsonBytesLaws.{robinson-orders}
 
@@ -71,7 +71,7 @@ unfolding answersTo sessionAfter commandOf accepted groups digits shortest readi
     among meets ℕ-discrete put families.code families.codes families.familyOf families.admits families.belongs families.belongsRow shapes.loose shapes.blank shapes.blankRow shapes.unmarked shapes.read shapes.readAll
     shapes.sameShape shapes.turned solving.replace solving.followed solving.resolve solving.follow solving.recovery solving.is solving.projects solving.admit solving.bind₁ solving.bind₀ solving.bind solving.zipOn
     solving.part solving.differ solving.match solving.turn solving.settles session.samePlace session.find orders.verdictOf orders.solverOf orders.beyond orders.variableAt orders.numberAt orders.order outside layout field
-    fields known kindedOrder readOrder nth numberOf termOf step framed answerOf
+    fields known kindedOrder readBy readOrder rowIn table sessionOrders operations nth numberOf termOf step framed answerOf
 pairs = record {
   before₁ = refl;
   before₂ = refl;

@@ -11,41 +11,32 @@ use Rattle.solver.proofs.Terms.Bools.{never-true}
 use Rattle.solver.specs.Theory.Solver.{Out, cancelled, done}
 use Rattle.solver.specs.Shapes.{loose}
 use Rattle.solver.specs.Solving.{Solver, Pair, resolved, constrain}
-use Rattle.solver.specs.Session.{Limits, Session, issued, fresh}
+use Rattle.solver.specs.Session.{Limits, Session, fresh}
 use Rattle.solver.specs.Orders as solver
 use Rattle.solver.specs.Orders.{Command, verdict, verdictOf, known, crowded, unless, posing, order}
 use Rattle.solver.specs.Demand3 as theirs
-use Rattle.solver.specs.Demand3.{History, beginning, history}
+use Rattle.solver.specs.Demand3.{beginning}
 use Rattle.solver.specs.InOrder.{Settled, SettledBy}
-use Rattle.solver.specs.Robinson as paper
 use Rattle.solver.specs.Robinson.{Unmarked, UnmarkedPairs, Decides}
 use Rattle.solver.specs.RobinsonPair.{FirstOrderIn, PlainPair, Decided, DecidedBy, RobinsonDecides, AllPure}
 use Rattle.solver.proofs.InOrderLaws.{settled}
 use Rattle.solver.proofs.RobinsonLaws.{robinson}
 use Rattle.solver.proofs.RobinsonPairLaws.{robinson-each}
 use Rattle.solver.proofs.PlainListLaws.{posed-plain, unrequested}
-use Rattle.sheet.specs.Fields.{readOrder}
-use Rattle.sheet.specs.Operations.{outcome}
+use Rattle.sheet.specs.Orders.{outcome}
 use Rattle.sheet.specs.Sheet.{Step, answerOf, solve, orderOf, runOf}
-use Rattle.sheet.specs.Demand3.{ByteString, ByteStrings, accepted, Pure, PurePairs, sessionAfter, historyOf, answeredOrders}
+use Rattle.sheet.specs.InTurn.{accepted, sessionAfter, answeredOrders}
 use Rattle.sheet.specs.Commands.{command, commands}
+use Rattle.sheet.specs.Demand3.{ByteString, ByteStrings, Pure, PurePairs, historyOf}
 use Rattle.sheet.specs.RobinsonBytes.{FirstOrder, PlainOrder, AnsweredSo, DecidesOrders}
-use Rattle.sheet.proofs.Demand3Bytes.{accepted-of, history-commands, premises-of}
+use Rattle.sheet.proofs.CommandLaws.{accepted-of, Does, does-order, session-commands}
+use Rattle.sheet.proofs.Demand3Bytes.{premises-of}
 use Rattle.sheet.proofs.Demand3Run.{orders-bytes}
-use Rattle.sheet.proofs.SessionBytes.{session-commands, order-5}
-use Rattle.sheet.proofs.RustBytesLaws.{Does, does-read}
+use Rattle.sheet.proofs.SessionBytes.{order-5}
 
 -- ROBINSON: of plain first-order pairs, given as order bytes with whatever orders between.
 pub robinson-bytes : (lim : Limits) (bs : List (List ℕ)) → ByteStrings bs → FirstOrder lim bs → Decides (historyOf lim beginning bs)
-robinson-bytes lim bs o f =
-    let e : historyOf lim beginning bs ≡ history lim loose beginning (commands lim fresh bs) = history-commands lim beginning bs in
-    let g : paper.FirstOrder lim loose (commands lim fresh bs) =
-    record {
-      premises = premises-of lim bs o (f .premises);
-      unmarked = subst (λ (h : History). UnmarkedPairs loose (h .posed)) e (f .unmarked);
-      numberless = subst (λ (h : History). (v : ℕ) → h .requests v ≡ none) e (f .numberless);
-    } in
-    subst (λ (h : History). Decides h) (sym e) (robinson lim (commands lim fresh bs) g)
+robinson-bytes lim bs o f = robinson lim (commands lim fresh bs) (record { premises = premises-of lim bs o (f .premises); unmarked = f .unmarked; numberless = f .numberless })
 
 -- and of a run
 pub robinson-run : (lim : Limits) (s : List ℕ) → ByteString s → (space : ℕ) → FirstOrder lim (answeredOrders lim s space) → Decides (historyOf lim beginning (answeredOrders lim s space))
@@ -65,7 +56,7 @@ recast s y t u f g d = record {
 module _ (lim : Limits) (s : Session) (t u : Term) where
   -- an order that is read as c does what c does, and answers so
   solves : (b : List ℕ) (c : Command) → command s b ≡ some c → orderOf lim s b ≡ solve lim s c
-  solves b c e = subst (λ (o : Option Command). Does lim s o (orderOf lim s b)) e (does-read lim s (readOrder b (issued s)))
+  solves b c e = subst (λ (o : Option Command). Does lim s o (orderOf lim s b)) e (does-order lim s b)
 
   -- an order 4 answered with outcome 0: its variables are issued, and its nodes have space
   taken-pair : (k : ℕ) → theirs.accepted (order lim loose s (solver.pair k t u) .reply) ≡ true → (known s t ≡ true) × (known s u ≡ true) × (crowded lim s (size t + size u) ≡ false)
@@ -175,7 +166,6 @@ all-pure (x ∷ ps) p m = ((p .0, m .0), (p .1, m .1), all-pure ps (p .2) (m .2)
 pub posed-plain-bytes : (lim : Limits) (bs : List (List ℕ)) → PurePairs (historyOf lim beginning bs .posed) → UnmarkedPairs loose (historyOf lim beginning bs .posed)
     → ((v : ℕ) → historyOf lim beginning bs .requests v ≡ none) → (t : Term) → Pure t → Unmarked loose t → FirstOrderIn loose (sessionAfter lim fresh bs) t
 posed-plain-bytes lim bs p m r t q u =
-    let e : historyOf lim beginning bs ≡ history lim loose beginning (commands lim fresh bs) = history-commands lim beginning bs in
-    let a = subst (λ (h : History). AllPure loose (h .posed)) e (all-pure (historyOf lim beginning bs .posed) p m) in
-    let f = unrequested lim (commands lim fresh bs) (subst (λ (h : History). (v : ℕ) → h .requests v ≡ none) e r) in
-    subst (λ (s : Session). FirstOrderIn loose s t) (sym (session-commands lim fresh bs)) (posed-plain lim (commands lim fresh bs) a t (q, u) (λ v o. f v))
+    let f = unrequested lim (commands lim fresh bs) r in
+    subst (λ (s : Session). FirstOrderIn loose s t) (sym (session-commands lim fresh bs))
+    (posed-plain lim (commands lim fresh bs) (all-pure (historyOf lim beginning bs .posed) p m) t (q, u) (λ v o. f v))

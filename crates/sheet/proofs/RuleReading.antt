@@ -22,8 +22,7 @@ use Rattle.solver.proofs.Terms.HeldLaws.{items-some}
 use Rattle.solver.proofs.Terms.Shortest.{Octets}
 use Rattle.sheet.specs.declared.Order.{Order}
 use Rattle.sheet.specs.Fields as fields
-use Rattle.sheet.specs.Fields.{Field, value, tree, bare, listed, levels, nodes, allNodes, ruleNodes}
-use Rattle.sheet.specs.Operations.{nth}
+use Rattle.sheet.specs.Fields.{Field, value, tree, bare, listed, levels, nodes, allNodes, ruleNodes, nth}
 use Rattle.sheet.specs.Formed.{FormedFields}
 use Rattle.sheet.specs.Laid.{ruleSorts, ruleFields, ruleItems, fieldItems, allItems, Free, Stored, Ample, ruleWords, RulesAt, spotAt, startAt, Spots, RuleDone, RulesDone, ruleFrom, WordsFit}
 use Rattle.sheet.proofs.StoredLaws.{stored-none, stored-then, stored-as, stored-undo, ample-after}

@@ -15,9 +15,9 @@ use Rattle.solver.specs.Session.{Limits, Session, issued, fresh}
 use Rattle.solver.specs.Orders as solver
 use Rattle.solver.specs.Orders.{Command, order, run}
 use Rattle.solver.specs.Lent.{Arises, limitsOf}
-use Rattle.sheet.specs.Fields as kind
-use Rattle.sheet.specs.Fields.{Kind, Field, Read, readOrder}
-use Rattle.sheet.specs.Sheet.{Run, step, stepRead, orderOf, framed, ends, answering, nextOrder, answered, runFrom, runOf}
+use Rattle.sheet.specs.Fields.{Field}
+use Rattle.sheet.specs.Orders.{Act, tells, answers, Read}
+use Rattle.sheet.specs.Sheet.{readOrder, Run, perform, step, stepRead, orderOf, framed, ends, answering, nextOrder, answered, runFrom, runOf}
 use Rattle.sheet.specs.Lays.{Lays, Roomy, Served}
 use Rattle.sheet.specs.Ending.{Ready, Ended, Left}
 use Rattle.sheet.proofs.EndingLaws.{roomy-same}
@@ -49,36 +49,17 @@ module _ (lim : Limits) where
         reached = run-more fresh (p .commands) c ∙ ap (λ (s : Session). order lim loose s c .session) (p .reached);
       }
 
-  past-step : (z : Session) → Past lim z → (k : Kind) (fs : List Field) → Past lim (step lim z k fs .session)
-  unfolding step
-  past-step z p kind.variable fs = past-solve z p _
-  past-step z p kind.number-variable fs = past-solve z p _
-  past-step z p kind.annotation-hole fs = past-solve z p _
-  past-step z p kind.defer-never fs = past-solve z p _
-  past-step z p kind.constrain fs = past-solve z p _
-  past-step z p kind.resolve fs = past-solve z p _
-  past-step z p kind.numeric-defaults fs = past-solve z p _
-  past-step z p kind.never-defaults fs = past-solve z p _
-  past-step z p kind.revision fs = past-solve z p _
-  past-step z p kind.conflicts fs = p
-  past-step z p kind.weakens fs = p
-  past-step z p kind.recover fs = p
-  past-step z p kind.instantiate fs = p
-  past-step z p kind.argument-context fs = p
-  past-step z p kind.with-self fs = p
-  past-step z p kind.questions fs = p
-  past-step z p kind.resolved-in fs = p
-  past-step z p kind.satisfied fs = p
-  past-step z p kind.family fs = p
-  past-step z p kind.with-associated-types fs = p
-  past-step z p kind.normalise fs = p
+  past-act : (z : Session) → Past lim z → (fs : List Field) (a : Act) → Past lim (perform lim z fs a .session)
+  past-act z p fs (tells f) = past-solve z p (f fs)
+  past-act z p fs (answers f) = p
 
   -- "Each later one gets the session that the one before returned or left"
   pub past-order : (z : Session) → Past lim z → (b : List ℕ) → Past lim (orderOf lim z b .session)
+  unfolding step
   past-order z p b = go (readOrder b (issued z))
     where
       go : (r : Result Read) → Past lim (stepRead lim z r .session)
-      go (got r n) = past-step z p (r .kind) (r .fields)
+      go (got r n) = past-act z p (r .fields) (r .kind .act)
       go (refused c) = p
 
 -- ---- the run from a position on

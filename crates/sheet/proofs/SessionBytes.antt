@@ -3,12 +3,11 @@
 use mathlib.Core.Path.{_≡_, refl, sym, ap, _∙_, subst}
 use mathlib.Core.Bool.{Bool, true, false, not}
 use mathlib.Core.List.{List, [], _∷_, _++_, append-nil}
-use mathlib.Core.Option.{Option, none, some}
 use Prim.Native.Nat.{ℕ, suc, _+_, _≤_, _<_}
 use native.Mathlib.Omega.{arith}
 use borrow.Author.Tests.{lt-leb, lt-ltb, le-ltb}
 use lib.Dec.{ltb, leb}
-use lib.ListN.{length, getElem?}
+use lib.ListN.{length}
 use Rattle.solver.specs.Terms.Result.{Result, got, refused, pick}
 use Rattle.solver.specs.Terms.Parser.{bind, byte}
 use Rattle.solver.specs.Terms.Term.{Term, var, size, depth, AllVars, bytes}
@@ -22,43 +21,26 @@ use Rattle.solver.specs.Shapes.{loose}
 use Rattle.solver.specs.Solving.{resolved}
 use Rattle.solver.specs.Session.{Limits, Session, issued, fresh}
 use Rattle.solver.specs.Orders as solver
-use Rattle.solver.specs.Orders.{Command, order, beyond, run, _gives_}
-use Rattle.solver.specs.Demand3.{History}
+use Rattle.solver.specs.Orders.{order, beyond, _gives_}
 use Rattle.solver.specs.InOrder.{InOrder, Fits}
 use Rattle.solver.proofs.InOrderLaws.{in-order, fits}
-use Rattle.sheet.specs.Fields.{Read, resolve, tree, levels, kinds, layout, field, fields, known, last, kindedOrder, readOrder}
-use Rattle.sheet.specs.Operations.{outcome, nth, termOf}
-use Rattle.sheet.specs.Sheet.{answerOf, step, stepRead, orderOf, runOf}
-use Rattle.sheet.specs.Demand3.{sessionAfter, answeredOrders}
-use Rattle.sheet.specs.Commands.{commandRead, command, prefixed, commands}
-use Rattle.sheet.proofs.Demand3Bytes.{by, by-read}
+use Rattle.sheet.specs.Fields.{tree, levels, field, fields, last, nth, termOf}
+use Rattle.sheet.specs.Orders.{outcome, resolve, sessionOrders, rowIn, layout, known, Read, kindedOrder, readBy}
+use Rattle.sheet.specs.Operations.{operations}
+use Rattle.sheet.specs.Sheet.{table, readOrder, answerOf, step, stepRead, orderOf, runOf}
+use Rattle.sheet.specs.InTurn.{sessionAfter, answeredOrders}
+use Rattle.sheet.specs.Commands.{commands}
+use Rattle.sheet.proofs.CommandLaws.{session-commands}
 use Rattle.sheet.proofs.Demand3Run.{run-follows}
 
 module _ (lim : Limits) where
-  -- an order's session is that of what it says to the solver
-  by-session : (s : Session) (x : Result Read) → stepRead lim s x .session ≡ by lim (record { session = s; requests = λ v. none; posed = []; incompatible = false; cancelled = false }) (commandRead x) .session
-  by-session s x =
-      ap (λ (h : History). h .session) (by-read lim (record { session = s; requests = λ v. none; posed = []; incompatible = false; cancelled = false }) x)
-
-  pub session-commands : (s : Session) (bs : List (List ℕ)) → sessionAfter lim s bs ≡ run lim loose s (commands lim s bs)
-  unfolding sessionAfter commands run
-  session-commands s [] = refl
-  session-commands s (b ∷ bs) =
-      let cs = commands lim (orderOf lim s b .session) bs in
-      session-commands (orderOf lim s b .session) bs ∙ ap (λ (z : Session). run lim loose z cs) (by-session s (readOrder b (issued s))) ∙ go (command s b) cs
-    where
-      go : (c : Option Command) (cs : List Command)
-          → run lim loose (by lim (record { session = s; requests = λ v. none; posed = []; incompatible = false; cancelled = false }) c .session) cs ≡ run lim loose s (prefixed c cs)
-      go none cs = refl
-      go (some c) cs = refl
-
   -- AFTER EVERY LIST OF ORDERS the session is in order (the revision "is the number of bound variables", no variable leads to itself) and within its limits.
   pub in-order-bytes : (bs : List (List ℕ)) → InOrder (sessionAfter lim fresh bs)
   unfolding loose
-  in-order-bytes bs = subst (λ (s : Session). InOrder s) (sym (session-commands fresh bs)) (in-order lim loose refl (commands lim fresh bs))
+  in-order-bytes bs = subst (λ (s : Session). InOrder s) (sym (session-commands lim fresh bs)) (in-order lim loose refl (commands lim fresh bs))
 
   pub fits-bytes : (bs : List (List ℕ)) → Fits lim (sessionAfter lim fresh bs)
-  fits-bytes bs = subst (λ (s : Session). Fits lim s) (sym (session-commands fresh bs)) (fits lim loose (commands lim fresh bs))
+  fits-bytes bs = subst (λ (s : Session). Fits lim s) (sym (session-commands lim fresh bs)) (fits lim loose (commands lim fresh bs))
 
   -- and so after a run
   pub in-order-run : (s : List ℕ) (space : ℕ) → InOrder (runOf lim s space .session)
@@ -74,12 +56,12 @@ byte-first b bs = ap (λ (c : Bool). pick c (got b 1) (refused 1)) (lt-ltb 0 (le
 
 -- its bytes say so
 read-5 : (n v : ℕ) → v < n → v ≤ ceiling shape.ordinary → readOrder (5 ∷ bytes (var v)) n ≡ got (record { kind = resolve; fields = tree (var v) ∷ [] }) (1 + length (bytes (var v)))
-unfolding readOrder kindedOrder fields field layout known Formed depth AllVars
+unfolding readBy readOrder rowIn table sessionOrders operations kindedOrder fields field layout known Formed depth AllVars
 read-5 n v l m =
     let b : List ℕ = 5 ∷ bytes (var v) in
     let e : reading.term b n levels 1 ≡ got (var v) (1 + length (bytes (var v))) =
     round-trip b n levels (var v) m (omega arith) l 1 [] (sym (append-nil (bytes (var v)))) in
-    ap (λ (x : Result ℕ). bind x (λ k. kindedOrder b n (getElem? kinds k))) (byte-first 5 (bytes (var v)))
+    ap (λ (x : Result ℕ). bind x (λ k. kindedOrder b n (rowIn table k))) (byte-first 5 (bytes (var v)))
     ∙ ap (λ (x : Result Term). bind (bind (bind x (λ t i. got (tree t) i)) (λ f i. bind (got [] i) (λ fs j. got (f ∷ fs) j))) (λ fs i. last b (record { kind = resolve; fields = fs }) i)) e
     ∙ ap (λ (c : Bool). pick c (refused 1) (got (record { kind = resolve; fields = tree (var v) ∷ [] }) (1 + length (bytes (var v)))))
     (le-ltb (1 + length (bytes (var v))) (length b) (omega arith))

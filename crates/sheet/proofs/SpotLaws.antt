@@ -1,10 +1,13 @@
 -- Spots: where the fields that were read stand, and that the areas hold them there. Assumes nothing.
 use mathlib.Core.Path.{_≡_, refl, sym, ap, _∙_}
+use mathlib.Core.Bool.{Bool, true, not, _&&_, _||_}
 use mathlib.Core.List.{List, [], _∷_, _++_, append-assoc}
+use mathlib.Core.Option.{some}
 use Prim.Native.Nat.{ℕ, zero, suc, _+_, _*_, _≤_, _<_}
 use native.Mathlib.Decide.{decLt}
 use native.Mathlib.Omega.{arith}
 use borrow.Author.Tests.{ne-eqb}
+use lib.Dec.{eqb}
 use lib.ListN.{length, length-append, getD, take}
 use lib.Seq.{getD-take, length-take-le}
 use Rattle.solver.specs.Terms.Tokens.{Item, item, spell, toks}
@@ -13,14 +16,19 @@ use Rattle.solver.specs.Terms.Tree.{putTerms}
 use Rattle.solver.specs.Terms.Rows.{argumentRow}
 use Rattle.solver.specs.Terms.Substitution.{Receiver}
 use Rattle.solver.specs.Terms.Lookup.{Pattern, ruleAt, HeldRule, Ruled}
+use Rattle.solver.proofs.Terms.Bools.{never-true}
+use Rattle.solver.proofs.Terms.TableLaws.{both-true}
 use Rattle.sheet.specs.declared.Spot.{Spot}
 use Rattle.sheet.specs.declared.Order.{Order}
 use Rattle.sheet.specs.Fields as fields
-use Rattle.sheet.specs.Fields.{Sort, Kind, layout, Field, value, tree, bare, entered, received, named, listed, ruled, nodes, allNodes, ruleNodes}
-use Rattle.sheet.specs.Operations.{nth}
+use Rattle.sheet.specs.Fields.{Sort, Field, value, tree, bare, entered, received, named, listed, ruled, nodes, allNodes, ruleNodes, nth}
+use Rattle.sheet.specs.Orders.{Row, sessionOrders, rowIn, layout}
+use Rattle.sheet.specs.Operations.{operations}
+use Rattle.sheet.specs.Sheet.{table}
 use Rattle.sheet.specs.Held.{HeldField, HeldFields, Follows}
 use Rattle.sheet.specs.Given.{OfSort, Fits}
-use Rattle.sheet.specs.Laid.{Plain, Plains, ruleItems, fieldItems, allItems, ruleWords, RulesAt, Laid, spotAt, putSpot, noFields, startAt, Spots}
+use Rattle.sheet.specs.Laid.{sortNumber, Plain, Plains, ruleItems, fieldItems, allItems, ruleWords, RulesAt, Laid, spotAt, putSpot, noFields, startAt, Spots}
+use Rattle.sheet.proofs.TableLaws.{all, every-row}
 
 -- ---- one field more
 
@@ -289,29 +297,49 @@ unfoldable Joined : List Sort → Type 0
 Joined [] = Unit {0}
 Joined (a ∷ l) = After a l × Joined l
 
-layout-joined : (k : Kind) → Joined (layout k)
-unfolding layout Joined
-layout-joined fields.variable = (tt, (tt, tt))
-layout-joined fields.number-variable = (tt, (tt, tt))
-layout-joined fields.annotation-hole = (tt, tt)
-layout-joined fields.defer-never = (tt, tt)
-layout-joined fields.constrain = (tt, (tt, (tt, tt)))
-layout-joined fields.resolve = (tt, tt)
-layout-joined fields.numeric-defaults = tt
-layout-joined fields.never-defaults = tt
-layout-joined fields.revision = tt
-layout-joined fields.conflicts = (tt, (tt, tt))
-layout-joined fields.weakens = (tt, (tt, tt))
-layout-joined fields.recover = (tt, (tt, tt))
-layout-joined fields.instantiate = (refl, (tt, (tt, tt)))
-layout-joined fields.argument-context = (refl, (tt, (tt, (tt, tt))))
-layout-joined fields.with-self = (tt, (tt, tt))
-layout-joined fields.questions = (tt, tt)
-layout-joined fields.resolved-in = (tt, (tt, tt))
-layout-joined fields.satisfied = (tt, (tt, (tt, tt)))
-layout-joined fields.family = (tt, (tt, (refl, (tt, (tt, tt)))))
-layout-joined fields.with-associated-types = (tt, (tt, (tt, tt)))
-layout-joined fields.normalise = (tt, (tt, tt))
+unfoldable after : Sort → List Sort → Bool
+after a [] = not (eqb (sortNumber a) 6)
+after a (b ∷ l) = not (eqb (sortNumber a) 6) || eqb (sortNumber b) 7
+
+unfoldable joined : List Sort → Bool
+joined [] = true
+joined (a ∷ l) = after a l && joined l
+
+is-receivers : (a : Sort) → eqb (sortNumber a) 7 ≡ true → a ≡ fields.receivers
+unfolding sortNumber
+is-receivers fields.ordinary h = never-true h
+is-receivers fields.code h = never-true h
+is-receivers fields.term h = never-true h
+is-receivers fields.nominal h = never-true h
+is-receivers fields.receiver h = never-true h
+is-receivers fields.entries h = never-true h
+is-receivers fields.receivers h = refl
+is-receivers fields.parameters h = never-true h
+is-receivers fields.arguments h = never-true h
+is-receivers fields.rules h = never-true h
+
+after-of : (a : Sort) (l : List Sort) → after a l ≡ true → After a l
+unfolding after sortNumber
+after-of fields.entries [] h = never-true h
+after-of fields.entries (a ∷ l) h = is-receivers a h
+after-of fields.ordinary l h = tt
+after-of fields.code l h = tt
+after-of fields.term l h = tt
+after-of fields.nominal l h = tt
+after-of fields.receiver l h = tt
+after-of fields.receivers l h = tt
+after-of fields.parameters l h = tt
+after-of fields.arguments l h = tt
+after-of fields.rules l h = tt
+
+joined-of : (l : List Sort) → joined l ≡ true → Joined l
+unfolding joined Joined
+joined-of [] h = tt
+joined-of (a ∷ l) h = let t = both-true (after a l) (joined l) h in (after-of a l (t .0), joined-of l (t .1))
+
+layout-joined : (k : ℕ) (r : Row) → rowIn table k ≡ some r → Joined (layout r)
+unfolding table sessionOrders operations all layout joined after sortNumber
+layout-joined k r e = joined-of (layout r) (every-row (λ (r : Row). joined (layout r)) refl k r e)
 
 followed : (a : Sort) (l : List Sort) (f : Field) (fs : List Field) → After a l → OfSort a f → Fits l fs → FollowedBy f (nth 0 fs)
 unfolding Fits nth
@@ -336,8 +364,8 @@ each-followed (a ∷ l) [] j h i = absurd h
 each-followed (a ∷ l) (f ∷ fs) j h zero = followed a l f fs (j .0) (h .0) (h .1)
 each-followed (a ∷ l) (f ∷ fs) j h (suc i) = each-followed l fs (j .1) (h .1) i
 
-pub fields-followed : (k : Kind) (fs : List Field) → Fits (layout k) fs → (i : ℕ) → FollowedBy (nth i fs) (nth (suc i) fs)
-fields-followed k fs h i = each-followed (layout k) fs (layout-joined k) h i
+pub fields-followed : (k : ℕ) (r : Row) → rowIn table k ≡ some r → (fs : List Field) → Fits (layout r) fs → (i : ℕ) → FollowedBy (nth i fs) (nth (suc i) fs)
+fields-followed k r e fs h i = each-followed (layout r) fs (layout-joined k r e) h i
 
 start-next : (fs : List Field) (a i : ℕ) → startAt a (suc i) fs ≡ startAt a i fs + length (fieldItems (nth i fs))
 unfolding startAt nth fieldItems

@@ -14,8 +14,7 @@ use Rattle.solver.specs.Terms.Held.{HeldParts}
 use Rattle.solver.proofs.Terms.StoreLaws.{length-kinds, length-vals}
 use Rattle.solver.specs.Lent.{begins}
 use Rattle.sheet.specs.declared.Order.{Order}
-use Rattle.sheet.specs.Fields.{Field, value, tree, nodes}
-use Rattle.sheet.specs.Operations.{nth}
+use Rattle.sheet.specs.Fields.{Field, value, tree, nodes, nth}
 use Rattle.sheet.specs.Formed.{FormedField, FormedFields}
 use Rattle.sheet.specs.Laid.{fieldItems, allItems}
 use Rattle.sheet.specs.Ordered.{WholeOrder}

@@ -1,10 +1,11 @@
 -- What the functions that answer orders 9 to 20 ask and promise. Assumes nothing.
 use mathlib.Core.Path.{_≡_}
 use mathlib.Core.Bool.{false}
-use mathlib.Core.List.{List}
+use mathlib.Core.List.{List, [], _∷_}
+use mathlib.Core.Logic.{_⊎_}
 use mathlib.Core.Option.{some}
-use Prim.Native.Nat.{ℕ, _≤_, _<_}
-use lib.ListN.{length, getElem?}
+use Prim.Native.Nat.{ℕ, _≤_}
+use lib.ListN.{length}
 use Rattle.solver.specs.TermTypes.{Binders}
 use Rattle.solver.specs.Terms.Term.{Term, Parts, node, Held}
 use Rattle.solver.specs.Terms.Held.{HeldParts}
@@ -17,8 +18,10 @@ use Rattle.solver.specs.Terms.Rows.{argumentRow}
 use Rattle.solver.specs.Terms.Rewriting.{HeldBinders}
 use Rattle.solver.specs.Terms.Lookup.{Pattern, FormedPatterns, Ruled}
 use Rattle.sheet.specs.declared.Order.{Order}
-use Rattle.sheet.specs.Fields.{Kind, Field, kinds}
-use Rattle.sheet.specs.Operations.{Answer, operation}
+use Rattle.sheet.specs.Fields.{Field}
+use Rattle.sheet.specs.Orders.{Answer, Row, rowIn}
+use Rattle.sheet.specs.Operations.{operation}
+use Rattle.sheet.specs.Sheet.{table}
 use Rattle.sheet.specs.Given.{Given}
 
 -- the areas of tokens
@@ -28,19 +31,27 @@ pub record Tokens (ks vs : List ℕ) : Type 0 where
 
 -- ---- an order
 
--- an order is given, of a kind from `least` on and before `bound`
-pub record Asks (ks vs s ws : List ℕ) (least bound : ℕ) (o : Order) : Type 0 where
+-- one of some numbers
+abbrev pub Among : List ℕ → ℕ → Type 0
+Among [] k = ⊥
+Among (n ∷ ns) k = (k ≡ n) ⊎ Among ns k
+
+abbrev pub numbersOf : List Row → List ℕ
+numbersOf [] = []
+numbersOf (r ∷ rs) = r .number ∷ numbersOf rs
+
+-- an order is given, of one of the kinds ns
+pub record Asks (ks vs s ws ns : List ℕ) (o : Order) : Type 0 where
   pub known : ℕ
-  pub kind : Kind
+  pub kind : Row
   pub fields : List Field
-  pub numbered : getElem? kinds (o .kind) ≡ some kind
+  pub numbered : rowIn table (o .kind) ≡ some kind
   pub given : Given ks vs s ws known kind o fields
-  pub from : least ≤ o .kind
-  pub below : o .kind < bound
+  pub among : Among ns (o .kind)
 
 -- whatever it is given as, W holds of its answer
 pub record Replies (ks vs s ws : List ℕ) (o : Order) (W : Answer → Type 0) : Type 0 where
-  pub says : (known : ℕ) (k : Kind) (fs : List Field) → getElem? kinds (o .kind) ≡ some k → Given ks vs s ws known k o fs → W (operation k fs)
+  pub says : (known : ℕ) (k : Row) (fs : List Field) → rowIn table (o .kind) ≡ some k → Given ks vs s ws known k o fs → W (operation k fs)
 
 -- ---- terms at places
 

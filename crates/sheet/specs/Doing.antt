@@ -1,16 +1,18 @@
 -- Orders 0 to 8 on the counters, the tokens and the table that the solver is lent. Assumes nothing.
-use mathlib.Core.List.{List}
+use mathlib.Core.List.{List, [], _∷_}
+use mathlib.Core.Option.{Option, none, some}
 use mathlib.Core.Path.{_≡_}
-use Prim.Native.Nat.{ℕ, zero, suc, _+_, _≤_, _<_}
+use Prim.Native.Nat.{ℕ, _+_, _≤_, _<_}
 use lib.ListN.{length, drop}
 use Rattle.solver.specs.declared.Solver.{Solver}
-use Rattle.solver.specs.Families.{requested}
 use Rattle.solver.specs.Session.{Session}
-use Rattle.solver.specs.Orders.{Command, variable, number, hole, numbers, nevers, revision}
+use Rattle.solver.specs.Orders.{Command, revision}
 use Rattle.solver.specs.Lent.{Lent}
 use Rattle.solver.specs.Turning.{pendingFrom}
 use Rattle.solver.specs.Work.{Zero}
 use Rattle.solver.specs.Methods.{Beside}
+use Rattle.sheet.specs.Fields.{Field, value}
+use Rattle.sheet.specs.Orders.{Row, sessionOrders, rowIn, commandOf}
 use Rattle.sheet.specs.Sheet.{Step, framed}
 use Rattle.sheet.specs.Written.{Framed}
 
@@ -22,17 +24,17 @@ pub record Does (x y : Solver) (ks vs ts us : List ℕ) (z : Session) (st : Step
   pub long : length out₀ < to + length (framed (st .answer)) → Lent y ks vs us z
   pub beside : Beside x y ts us
 
--- the command of an order without terms, by its kind and its two numbers
+-- the command of an order of the session whose fields are two numbers at most, by its number
+abbrev pub toldElse : Option Command → Command
+toldElse none = revision
+toldElse (some c) = c
+
+abbrev pub toldBy : Option Row → List Field → Command
+toldBy none fs = revision
+toldBy (some r) fs = toldElse (commandOf r fs)
+
 unfoldable pub plainCommand : ℕ → ℕ → ℕ → Command
-plainCommand zero a b = variable a b
-plainCommand (suc zero) a b = number a (requested b)
-plainCommand (suc (suc zero)) a b = hole a
-plainCommand (suc (suc (suc zero))) a b = revision
-plainCommand (suc (suc (suc (suc zero)))) a b = revision
-plainCommand (suc (suc (suc (suc (suc zero))))) a b = revision
-plainCommand (suc (suc (suc (suc (suc (suc zero)))))) a b = numbers
-plainCommand (suc (suc (suc (suc (suc (suc (suc zero))))))) a b = nevers
-plainCommand (suc (suc (suc (suc (suc (suc (suc (suc k)))))))) a b = revision
+plainCommand k a b = toldBy (rowIn sessionOrders k) (value a ∷ value b ∷ [])
 
 -- order 4 done: where its answer fits, the session after it is held by all of the tokens; else all is as it was
 pub record DoesPair (x y : Solver) (ks vs ts us : List ℕ) (z : Session) (st : Step) (out₀ : List ℕ) (to : ℕ) (out : List ℕ) (r : ℕ) : Type 0 where

@@ -1,16 +1,14 @@
--- The orders of a sheet and their fields: the table of document 01, "Sheet", and what the bytes of an order say. Assumes nothing.
+-- The fields of an order, and what its bytes say of them: document 01, "Sheet". Assumes nothing.
 use mathlib.Core.List.{List, [], _∷_}
-use mathlib.Core.Option.{Option, none, some}
 use Prim.Native.Nat.{ℕ, zero, suc, _+_}
 use lib.Dec.{ltb}
-use lib.ListN.{length, getElem?}
-use Rattle.solver.specs.Terms.Parser.{Parser, Result, got, refused, pick, _>>=_, return, refuse, byte, number}
+use lib.ListN.{length}
+use Rattle.solver.specs.Terms.Parser.{Parser, got, refused, pick, _>>=_, return, number}
 use Rattle.solver.specs.Terms.Shape as shape
 use Rattle.solver.specs.Terms.Shape.{ceiling}
-use Rattle.solver.specs.Terms.Term.{Term, Parts, node, size, sizes}
-use Rattle.solver.specs.Terms.Tree.{row}
+use Rattle.solver.specs.Terms.Term.{Term, Parts, end, size, sizes}
+use Rattle.solver.specs.Terms.Tree.{unknown, row}
 use Rattle.solver.specs.Terms.Reading as reading
-use Rattle.solver.specs.Terms.Done.{contents}
 use Rattle.solver.specs.Terms.Questions.{Parameter}
 use Rattle.solver.specs.Terms.Substitution.{Entry, Receiver}
 use Rattle.solver.specs.Terms.Rows as rows
@@ -27,60 +25,6 @@ pub data Sort : Type 0 where
   receiver : Sort
   -- a count, and so many: entries and receivers of a substitution, parameters, arguments, rules
   entries receivers parameters arguments rules : Sort
-
-pub data Kind : Type 0 where
-  variable number-variable annotation-hole defer-never constrain resolve numeric-defaults never-defaults revision : Kind
-  conflicts weakens recover instantiate argument-context with-self questions resolved-in satisfied family with-associated-types normalise : Kind
-
--- by number
-abbrev pub kinds : List Kind
-kinds =
-    variable  -- 0
-    ∷ number-variable
-    ∷ annotation-hole
-    ∷ defer-never
-    ∷ constrain
-    ∷ resolve  -- 5
-    ∷ numeric-defaults
-    ∷ never-defaults
-    ∷ revision
-    ∷ conflicts
-    ∷ weakens  -- 10
-    ∷ recover
-    ∷ instantiate
-    ∷ argument-context
-    ∷ with-self
-    ∷ questions  -- 15
-    ∷ resolved-in
-    ∷ satisfied
-    ∷ family
-    ∷ with-associated-types
-    ∷ normalise  -- 20
-    ∷ []
-
--- the fields of each
-unfoldable pub layout : Kind → List Sort
-layout variable = ordinary ∷ ordinary ∷ []
-layout number-variable = ordinary ∷ code ∷ []
-layout annotation-hole = ordinary ∷ []
-layout defer-never = term ∷ []
-layout constrain = ordinary ∷ term ∷ term ∷ []
-layout resolve = term ∷ []
-layout numeric-defaults = []
-layout never-defaults = []
-layout revision = []
-layout conflicts = term ∷ term ∷ []
-layout weakens = term ∷ term ∷ []
-layout recover = term ∷ term ∷ []
-layout instantiate = entries ∷ receivers ∷ term ∷ []
-layout argument-context = entries ∷ receivers ∷ parameters ∷ term ∷ []
-layout with-self = receiver ∷ term ∷ []
-layout questions = term ∷ []
-layout resolved-in = parameters ∷ term ∷ []
-layout satisfied = nominal ∷ nominal ∷ term ∷ []
-layout family = parameters ∷ term ∷ entries ∷ receivers ∷ arguments ∷ []
-layout with-associated-types = term ∷ nominal ∷ term ∷ []
-layout normalise = rules ∷ term ∷ []
 
 -- a field, read
 pub data Field : Type 0 where
@@ -112,6 +56,101 @@ nodes (ruled rs) = ruleNodes rs
 unfoldable pub allNodes : List Field → ℕ
 allNodes [] = 0
 allNodes (f ∷ fs) = nodes f + allNodes fs
+
+-- ---- the fields of an order, by their places
+
+-- the i-th
+unfoldable pub nth : ℕ → List Field → Field
+nth i [] = value 0
+nth zero (f ∷ fs) = f
+nth (suc i) (f ∷ fs) = nth i fs
+
+-- as a number, a term, the row of a nominal, ..; a field of another sort is 0, Unknown, empty
+unfoldable pub numberOf : Field → ℕ
+numberOf (value n) = n
+numberOf (tree t) = 0
+numberOf (bare ps) = 0
+numberOf (entered es) = 0
+numberOf (received rs) = 0
+numberOf (named ps) = 0
+numberOf (listed ts) = 0
+numberOf (ruled rs) = 0
+
+unfoldable pub termOf : Field → Term
+termOf (tree t) = t
+termOf (value n) = unknown
+termOf (bare ps) = unknown
+termOf (entered es) = unknown
+termOf (received rs) = unknown
+termOf (named ps) = unknown
+termOf (listed ts) = unknown
+termOf (ruled rs) = unknown
+
+unfoldable pub rowOf : Field → Parts
+rowOf (bare ps) = ps
+rowOf (value n) = end
+rowOf (tree t) = end
+rowOf (entered es) = end
+rowOf (received rs) = end
+rowOf (named ps) = end
+rowOf (listed ts) = end
+rowOf (ruled rs) = end
+
+unfoldable pub entriesOf : Field → List Entry
+entriesOf (entered es) = es
+entriesOf (value n) = []
+entriesOf (tree t) = []
+entriesOf (bare ps) = []
+entriesOf (received rs) = []
+entriesOf (named ps) = []
+entriesOf (listed ts) = []
+entriesOf (ruled rs) = []
+
+unfoldable pub receiversOf : Field → List Receiver
+receiversOf (received rs) = rs
+receiversOf (value n) = []
+receiversOf (tree t) = []
+receiversOf (bare ps) = []
+receiversOf (entered es) = []
+receiversOf (named ps) = []
+receiversOf (listed ts) = []
+receiversOf (ruled rs) = []
+
+unfoldable pub parametersOf : Field → List Parameter
+parametersOf (named ps) = ps
+parametersOf (value n) = []
+parametersOf (tree t) = []
+parametersOf (bare ps) = []
+parametersOf (entered es) = []
+parametersOf (received rs) = []
+parametersOf (listed ts) = []
+parametersOf (ruled rs) = []
+
+unfoldable pub argumentsOf : Field → List Term
+argumentsOf (listed ts) = ts
+argumentsOf (value n) = []
+argumentsOf (tree t) = []
+argumentsOf (bare ps) = []
+argumentsOf (entered es) = []
+argumentsOf (received rs) = []
+argumentsOf (named ps) = []
+argumentsOf (ruled rs) = []
+
+unfoldable pub rulesOf : Field → List Pattern
+rulesOf (ruled rs) = rs
+rulesOf (value n) = []
+rulesOf (tree t) = []
+rulesOf (bare ps) = []
+rulesOf (entered es) = []
+rulesOf (received rs) = []
+rulesOf (named ps) = []
+rulesOf (listed ts) = []
+
+abbrev pub numberAt : ℕ → List Field → ℕ
+numberAt i fs = numberOf (nth i fs)
+
+abbrev pub termAt : ℕ → List Field → Term
+termAt i fs = termOf (nth i fs)
 
 -- "at most 200 levels"
 abbrev pub levels : ℕ
@@ -194,42 +233,3 @@ module _ (s : List ℕ) (issued : ℕ) where
 -- "or has bytes after its last field": refusal 1
 abbrev pub last : {A : Type 0} → List ℕ → A → Parser A
 last s a at = pick (ltb at (length s)) (refused 1) (got a at)
-
--- an order, read
-pub record Read : Type 0 where
-  pub kind : Kind
-  pub fields : List Field
-
--- "orders 3 to 5: Inference id not issued"; orders 9 to 20 take any id
-unfoldable pub known : Kind → ℕ → ℕ
-known variable n = n
-known number-variable n = n
-known annotation-hole n = n
-known defer-never n = n
-known constrain n = n
-known resolve n = n
-known numeric-defaults n = n
-known never-defaults n = n
-known revision n = n
-known conflicts n = ceiling shape.ordinary + 1
-known weakens n = ceiling shape.ordinary + 1
-known recover n = ceiling shape.ordinary + 1
-known instantiate n = ceiling shape.ordinary + 1
-known argument-context n = ceiling shape.ordinary + 1
-known with-self n = ceiling shape.ordinary + 1
-known questions n = ceiling shape.ordinary + 1
-known resolved-in n = ceiling shape.ordinary + 1
-known satisfied n = ceiling shape.ordinary + 1
-known family n = ceiling shape.ordinary + 1
-known with-associated-types n = ceiling shape.ordinary + 1
-known normalise n = ceiling shape.ordinary + 1
-
-unfoldable pub kindedOrder : List ℕ → ℕ → Option Kind → Parser Read
-kindedOrder s issued none = refuse 2
-kindedOrder s issued (some k) = do
-  fs ← fields s (known k issued) (layout k)
-  last s (record { kind = k; fields = fs })
-
--- the whole order: the first fault met, or what it says
-unfoldable pub readOrder : List ℕ → ℕ → Result Read
-readOrder s issued = (byte s >>= λ k. kindedOrder s issued (getElem? kinds k)) 0

@@ -1,21 +1,22 @@
 -- An order that was read: its fields are of the sorts that its kind asks, their terms are formed, and all of them are held. Assumes nothing.
 use mathlib.Core.Path.{_≡_}
 use mathlib.Core.List.{List, [], _∷_}
-use Prim.Native.Nat.{ℕ}
+use Prim.Native.Nat.{ℕ, _<_}
 use Rattle.solver.specs.Terms.Term.{Term, Parts}
 use Rattle.solver.specs.Terms.Questions.{Parameter}
 use Rattle.solver.specs.Terms.Substitution.{Entry, Receiver}
 use Rattle.solver.specs.Terms.Lookup.{Pattern}
 use Rattle.sheet.specs.declared.Order.{Order}
 use Rattle.sheet.specs.Fields as fields
-use Rattle.sheet.specs.Fields.{Sort, Kind, Field, layout, value, tree, bare, entered, received, named, listed, ruled}
+use Rattle.sheet.specs.Fields.{Sort, Field, value, tree, bare, entered, received, named, listed, ruled}
+use Rattle.sheet.specs.Orders.{Row, layout}
 use Rattle.sheet.specs.Formed.{FormedFields}
 use Rattle.sheet.specs.Held.{HeldFields}
 
--- a field is of a sort
+-- a field is of a sort; a code is a builtin's
 abbrev pub OfSort : Sort → Field → Type 0
 OfSort fields.ordinary f = (n : ℕ) × (f ≡ value n)
-OfSort fields.code f = (n : ℕ) × (f ≡ value n)
+OfSort fields.code f = (n : ℕ) × (f ≡ value n) × (n < 32)
 OfSort fields.term f = (t : Term) × (f ≡ tree t)
 OfSort fields.nominal f = (ps : Parts) × (f ≡ bare ps)
 OfSort fields.receiver f = (r : Receiver) × (f ≡ received (r ∷ []))
@@ -33,7 +34,7 @@ Fits (a ∷ l) [] = ⊥
 Fits (a ∷ l) (f ∷ fs) = OfSort a f × Fits l fs
 
 -- an order of a kind, whose variables are below `known`
-pub record Given (ks vs s ws : List ℕ) (known : ℕ) (k : Kind) (o : Order) (fs : List Field) : Type 0 where
+pub record Given (ks vs s ws : List ℕ) (known : ℕ) (k : Row) (o : Order) (fs : List Field) : Type 0 where
   pub held : HeldFields ks vs s ws o fs
   pub formed : FormedFields known fs
   pub fits : Fits (layout k) fs

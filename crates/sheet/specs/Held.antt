@@ -11,8 +11,7 @@ use Rattle.solver.specs.Terms.Parameters.{parameters}
 use Rattle.solver.specs.Terms.Lookup.{Ruled}
 use Rattle.sheet.specs.declared.Spot.{Spot}
 use Rattle.sheet.specs.declared.Order.{Order}
-use Rattle.sheet.specs.Fields.{Field, value, tree, bare, entered, received, named, listed, ruled}
-use Rattle.sheet.specs.Operations.{nth}
+use Rattle.sheet.specs.Fields.{Field, value, tree, bare, entered, received, named, listed, ruled, nth}
 
 -- s is the order's bytes, ws the words of its rules, six a rule
 abbrev pub HeldField : (ks vs s ws : List ℕ) → Spot → Field → Type 0

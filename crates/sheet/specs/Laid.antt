@@ -1,5 +1,7 @@
 -- How the fields of an order are laid out: their sorts as numbers, their tokens, and the spots that tell where they stand. Assumes nothing.
+use mathlib.Core.Bool.{Bool, true, false, _&&_, _||_}
 use mathlib.Core.List.{List, [], _∷_, _++_}
+use mathlib.Core.Option.{Option, none, some}
 use mathlib.Core.Path.{_≡_}
 use Prim.Native.Nat.{ℕ, zero, suc, _+_, _-_, _*_, _^_, _≤_, _<_}
 use lib.Dec.{eqb}
@@ -17,9 +19,14 @@ use Rattle.solver.specs.Terms.Lookup.{Pattern, ruleAt, putRule}
 use Rattle.solver.specs.Terms.Done.{Only}
 use Rattle.sheet.specs.declared.Spot.{Spot}
 use Rattle.sheet.specs.declared.Order.{Order}
+use Rattle.sheet.specs.declared.OrderRow.{OrderRow}
+use Rattle.sheet.specs.declared.Class.{Class}
+use Rattle.sheet.specs.declared.OrderRow.the-variants.{Listed, Unlisted}
+use Rattle.sheet.specs.declared.Class.the-variants.{Session, Operation}
+use Rattle.sheet.specs.Orders.{Act, tells, answers, Row, rowIn, layout}
+use Rattle.sheet.specs.Sheet.{table}
 use Rattle.sheet.specs.Fields as fields
-use Rattle.sheet.specs.Fields.{Sort, Kind, Field, value, tree, bare, entered, received, named, listed, ruled, kinds, layout, known, nodes, allNodes, ruleNodes}
-use Rattle.sheet.specs.Operations.{nth}
+use Rattle.sheet.specs.Fields.{Sort, Field, value, tree, bare, entered, received, named, listed, ruled, nodes, allNodes, ruleNodes, nth}
 
 -- ---- the table in numbers
 
@@ -55,15 +62,49 @@ unfoldable pub packed : List Sort → ℕ
 packed [] = 0
 packed (a ∷ l) = sortNumber a + 100 * packed l
 
--- the kind with a number, its layout, and below what its variables are
-abbrev pub kindAt : ℕ → Kind
-kindAt k = getD kinds k fields.variable
+-- the sorts without tokens, parameters aside; a layout of those alone
+unfoldable pub isNumber : Sort → Bool
+isNumber a = eqb (sortNumber a) 1 || eqb (sortNumber a) 3
+
+unfoldable pub numeric : List Sort → Bool
+numeric [] = true
+numeric (a ∷ l) = isNumber a && numeric l
+
+-- what an order does, as the code has it
+abbrev pub classBy : Act → Class
+classBy (tells f) = Session
+classBy (answers f) = Operation
+
+-- a row of the table as the code has it
+abbrev pub rowWords : Option Row → OrderRow
+rowWords none = Unlisted
+rowWords (some r) = Listed (classBy (r .act)) (packed (layout r))
+
+-- the order with a number is listed, of a class and with these sorts
+abbrev pub RowIs : ℕ → Class → ℕ → Type 0
+RowIs k c sorts = rowWords (rowIn table k) ≡ Listed c sorts
+
+-- it is listed, and leaves the session as it was
+abbrev pub answersBy : Act → Bool
+answersBy (tells f) = false
+answersBy (answers f) = true
+
+abbrev pub isOperation : Option Row → Bool
+isOperation none = false
+isOperation (some r) = answersBy (r .act)
+
+-- its layout; of a number that is not listed, none
+abbrev pub layoutIn : Option Row → List Sort
+layoutIn none = []
+layoutIn (some r) = layout r
 
 abbrev pub sortsAt : ℕ → List Sort
-sortsAt k = layout (kindAt k)
+sortsAt k = layoutIn (rowIn table k)
 
-abbrev pub knownAt : ℕ → ℕ → ℕ
-knownAt k issued = known (kindAt k) issued
+-- below what the variables of an order of a class are
+abbrev pub knownFor : Class → ℕ → ℕ
+knownFor Session n = n
+knownFor Operation n = ceiling shape.ordinary + 1
 
 -- a sort other than rules; rules stand first where they stand
 unfoldable pub Plain : Sort → Type 0

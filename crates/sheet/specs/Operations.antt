@@ -1,110 +1,22 @@
--- What orders 9 to 20 answer. Assumes nothing.
+-- The rows of orders 9 to 20, which answer and leave the session as it was. Assumes nothing.
 use mathlib.Core.Bool.{Bool, true, false}
 use mathlib.Core.List.{List, [], _∷_, map}
 use mathlib.Core.Option.{Option, none, some}
-use Prim.Native.Nat.{ℕ, zero, suc}
+use Prim.Native.Nat.{ℕ, suc}
 use Rattle.solver.specs.Terms.Result.{pick}
-use Rattle.solver.specs.Terms.Term.{Term, Parts, end, bytes}
-use Rattle.solver.specs.Terms.Tree.{unknown, Nominal, nominalOf}
-use Rattle.solver.specs.Terms.Questions.{Parameter, answered, is-resolved-in}
+use Rattle.solver.specs.Terms.Term.{Term, bytes}
+use Rattle.solver.specs.Terms.Tree.{Nominal, nominalOf}
+use Rattle.solver.specs.Terms.Questions.{answered, is-resolved-in}
 use Rattle.solver.specs.Terms.Views.{conflicts-with, can-weaken-to, satisfies, satisfies-for}
 use Rattle.solver.specs.Terms.Recovery.{recover-from}
 use Rattle.solver.specs.Terms.Substitution as substitution
-use Rattle.solver.specs.Terms.Substitution.{Entry, Receiver, TypeSubstitution, apply}
+use Rattle.solver.specs.Terms.Substitution.{Receiver, TypeSubstitution, apply}
 use Rattle.solver.specs.Terms.Lookup.{Pattern}
 use Rattle.solver.specs.Terms.Normal as normal
 use Rattle.solver.specs.Terms.Normal.{Rule, Out, normalize}
-use Rattle.sheet.specs.Fields as fields
-use Rattle.sheet.specs.Fields.{Kind, Field, value, tree, bare, entered, received, named, listed, ruled}
-
--- the i-th field, as what it is
-unfoldable pub nth : ℕ → List Field → Field
-nth i [] = value 0
-nth zero (f ∷ fs) = f
-nth (suc i) (f ∷ fs) = nth i fs
-
-unfoldable pub numberOf : Field → ℕ
-numberOf (value n) = n
-numberOf (tree t) = 0
-numberOf (bare ps) = 0
-numberOf (entered es) = 0
-numberOf (received rs) = 0
-numberOf (named ps) = 0
-numberOf (listed ts) = 0
-numberOf (ruled rs) = 0
-
-unfoldable pub termOf : Field → Term
-termOf (tree t) = t
-termOf (value n) = unknown
-termOf (bare ps) = unknown
-termOf (entered es) = unknown
-termOf (received rs) = unknown
-termOf (named ps) = unknown
-termOf (listed ts) = unknown
-termOf (ruled rs) = unknown
-
-unfoldable pub rowOf : Field → Parts
-rowOf (bare ps) = ps
-rowOf (value n) = end
-rowOf (tree t) = end
-rowOf (entered es) = end
-rowOf (received rs) = end
-rowOf (named ps) = end
-rowOf (listed ts) = end
-rowOf (ruled rs) = end
-
-unfoldable pub entriesOf : Field → List Entry
-entriesOf (entered es) = es
-entriesOf (value n) = []
-entriesOf (tree t) = []
-entriesOf (bare ps) = []
-entriesOf (received rs) = []
-entriesOf (named ps) = []
-entriesOf (listed ts) = []
-entriesOf (ruled rs) = []
-
-unfoldable pub receiversOf : Field → List Receiver
-receiversOf (received rs) = rs
-receiversOf (value n) = []
-receiversOf (tree t) = []
-receiversOf (bare ps) = []
-receiversOf (entered es) = []
-receiversOf (named ps) = []
-receiversOf (listed ts) = []
-receiversOf (ruled rs) = []
-
-unfoldable pub parametersOf : Field → List Parameter
-parametersOf (named ps) = ps
-parametersOf (value n) = []
-parametersOf (tree t) = []
-parametersOf (bare ps) = []
-parametersOf (entered es) = []
-parametersOf (received rs) = []
-parametersOf (listed ts) = []
-parametersOf (ruled rs) = []
-
-unfoldable pub argumentsOf : Field → List Term
-argumentsOf (listed ts) = ts
-argumentsOf (value n) = []
-argumentsOf (tree t) = []
-argumentsOf (bare ps) = []
-argumentsOf (entered es) = []
-argumentsOf (received rs) = []
-argumentsOf (named ps) = []
-argumentsOf (ruled rs) = []
-
-unfoldable pub rulesOf : Field → List Pattern
-rulesOf (ruled rs) = rs
-rulesOf (value n) = []
-rulesOf (tree t) = []
-rulesOf (bare ps) = []
-rulesOf (entered es) = []
-rulesOf (received rs) = []
-rulesOf (named ps) = []
-rulesOf (listed ts) = []
-
-abbrev pub termAt : ℕ → List Field → Term
-termAt i fs = termOf (nth i fs)
+use Rattle.sheet.specs.Fields.{Field, nth, rowOf, entriesOf, receiversOf, parametersOf, argumentsOf, rulesOf, termAt}
+use Rattle.sheet.specs.Fields.{term, nominal, receiver, entries, receivers, parameters, arguments, rules}
+use Rattle.sheet.specs.Orders.{Answer, refusal, outcome, Act, tells, answers, Row}
 
 abbrev pub nominalAt : ℕ → List Field → Nominal
 nominalAt i fs = nominalOf (rowOf (nth i fs))
@@ -116,11 +28,6 @@ substitutionAt i fs = record { parameters = entriesOf (nth i fs); receivers = re
 -- a rule, its interface as a nominal
 abbrev pub ruleOf : Pattern → Rule
 ruleOf p = record { interface = nominalOf (p .interface); receiver = p .receiver; member = p .member; arguments = p .arguments; value = p .value }
-
--- "An answer is [..] an outcome byte (0 or a refusal), and on 0 the value"
-pub data Answer : Type 0 where
-  refusal : ℕ → Answer
-  outcome : List ℕ → Answer
 
 abbrev pub bit : Bool → ℕ
 bit false = 0
@@ -183,26 +90,63 @@ associated fs = settled (normal.with-associated-types (termAt 0 fs) (nominalAt 1
 abbrev pub normalised : List Field → Answer
 normalised fs = settled (normalize (map ruleOf (rulesOf (nth 0 fs))) (termAt 1 fs))
 
--- by kind; orders 0 to 8 are the solver's, and have no answer here
-unfoldable pub operation : Kind → List Field → Answer
-operation fields.variable fs = outcome []
-operation fields.number-variable fs = outcome []
-operation fields.annotation-hole fs = outcome []
-operation fields.defer-never fs = outcome []
-operation fields.constrain fs = outcome []
-operation fields.resolve fs = outcome []
-operation fields.numeric-defaults fs = outcome []
-operation fields.never-defaults fs = outcome []
-operation fields.revision fs = outcome []
-operation fields.conflicts fs = compared conflicts-with fs
-operation fields.weakens fs = compared can-weaken-to fs
-operation fields.recover fs = recovered fs
-operation fields.instantiate fs = instantiated fs
-operation fields.argument-context fs = inContext fs
-operation fields.with-self fs = withSelf fs
-operation fields.questions fs = questioned fs
-operation fields.resolved-in fs = resolvedIn fs
-operation fields.satisfied fs = satisfying fs
-operation fields.family fs = applied fs
-operation fields.with-associated-types fs = associated fs
-operation fields.normalise fs = normalised fs
+-- ---- the rows
+
+-- "9 conflicts, 10 weakens: two terms, 0 or 1."
+abbrev pub conflicts : Row
+conflicts = record { number = 9; layout = term ∷ term ∷ []; act = answers (λ fs. compared conflicts-with fs) }
+
+abbrev pub weakens : Row
+weakens = record { number = 10; layout = term ∷ term ∷ []; act = answers (λ fs. compared can-weaken-to fs) }
+
+-- "11 recover: left, right."
+abbrev pub recover : Row
+recover = record { number = 11; layout = term ∷ term ∷ []; act = answers (λ fs. recovered fs) }
+
+-- "12 instantiate: substitution (count of owner, position, term; count of owner, term), term."
+abbrev pub instantiate : Row
+instantiate = record { number = 12; layout = entries ∷ receivers ∷ term ∷ []; act = answers (λ fs. instantiated fs) }
+
+-- "13 argument context: substitution, parameters (count of owner, position), term."
+abbrev pub argument-context : Row
+argument-context = record { number = 13; layout = entries ∷ receivers ∷ parameters ∷ term ∷ []; act = answers (λ fs. inContext fs) }
+
+-- "14 `with_self`: owner, replacement, term."
+abbrev pub with-self : Row
+with-self = record { number = 14; layout = receiver ∷ term ∷ []; act = answers (λ fs. withSelf fs) }
+
+-- "15: term"
+abbrev pub questions : Row
+questions = record { number = 15; layout = term ∷ []; act = answers (λ fs. questioned fs) }
+
+-- "16 resolved in: parameters, term."
+abbrev pub resolved-in : Row
+resolved-in = record { number = 16; layout = parameters ∷ term ∷ []; act = answers (λ fs. resolvedIn fs) }
+
+-- "17: nominal, required nominal, receiver; two bytes"
+abbrev pub satisfied : Row
+satisfied = record { number = 17; layout = nominal ∷ nominal ∷ term ∷ []; act = answers (λ fs. satisfying fs) }
+
+-- "18 family: parameters, value, substitution, count, arguments"
+abbrev pub family : Row
+family = record { number = 18; layout = parameters ∷ term ∷ entries ∷ receivers ∷ arguments ∷ []; act = answers (λ fs. applied fs) }
+
+-- "19 `with_associated_types`: term, interface, owner term."
+abbrev pub with-associated-types : Row
+with-associated-types = record { number = 19; layout = term ∷ nominal ∷ term ∷ []; act = answers (λ fs. associated fs) }
+
+-- "20 normalise: count, rules, term."
+abbrev pub normalise : Row
+normalise = record { number = 20; layout = rules ∷ term ∷ []; act = answers (λ fs. normalised fs) }
+
+unfoldable pub operations : List Row
+operations =
+    conflicts ∷ weakens ∷ recover ∷ instantiate ∷ argument-context ∷ with-self ∷ questions ∷ resolved-in ∷ satisfied ∷ family ∷ with-associated-types ∷ normalise ∷ []
+
+-- what such an order answers; an order of the session has its answer from there
+abbrev pub answerBy : Act → List Field → Answer
+answerBy (tells f) fs = outcome []
+answerBy (answers f) fs = f fs
+
+unfoldable pub operation : Row → List Field → Answer
+operation r fs = answerBy (r .act) fs

@@ -4,13 +4,15 @@ use mathlib.Core.Logic.{_⊎_}
 use mathlib.Core.Option.{some}
 use mathlib.Core.Path.{_≡_}
 use Prim.Native.Nat.{ℕ, _+_, _-_, _*_, _^_, _≤_, _<_}
-use lib.ListN.{length, getD, getElem?}
+use lib.ListN.{length, getD}
 use Rattle.solver.specs.Terms.Result.{got, refused}
 use Rattle.solver.specs.Terms.Tokens.{Area, area, puts, blank, before, toks}
 use Rattle.sheet.specs.declared.Order.{Order}
 use Rattle.sheet.specs.declared.Reading.{Reading}
 use Rattle.sheet.specs.declared.Reading.the-variants.{Whole, Refused}
-use Rattle.sheet.specs.Fields.{Read, fields, kinds, layout, known, allNodes, readOrder}
+use Rattle.sheet.specs.Fields.{fields, allNodes}
+use Rattle.sheet.specs.Orders.{Read, rowIn, layout, known}
+use Rattle.sheet.specs.Sheet.{table, readOrder}
 use Rattle.sheet.specs.Formed.{FormedFields}
 use Rattle.sheet.specs.Held.{HeldFields}
 use Rattle.sheet.specs.Given.{Fits}
@@ -39,7 +41,7 @@ pub record WholeOrder (s : List ℕ) (issued top kept limit : ℕ) (d e : Area) 
   pub read : Read
   pub next : ℕ
   pub is : readOrder s issued ≡ got read next
-  pub kind : getElem? kinds (o .kind) ≡ some (read .kind)
+  pub kind : rowIn table (o .kind) ≡ some (read .kind)
   pub formed : FormedFields (known (read .kind) issued) (read .fields)
   pub fitting : Fits (layout (read .kind)) (read .fields)
   pub found : fields s (known (read .kind) issued) (layout (read .kind)) 1 ≡ got (read .fields) next

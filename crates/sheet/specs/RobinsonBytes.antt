@@ -16,10 +16,11 @@ use Rattle.solver.specs.Orders as solver
 use Rattle.solver.specs.Demand3.{beginning}
 use Rattle.solver.specs.Robinson.{UnmarkedPairs}
 use Rattle.solver.specs.RobinsonPair.{FirstOrderIn, Decided}
-use Rattle.sheet.specs.Operations.{outcome}
+use Rattle.sheet.specs.Orders.{outcome}
 use Rattle.sheet.specs.Sheet.{orderOf}
-use Rattle.sheet.specs.Demand3.{accepted, historyOf, Premises}
+use Rattle.sheet.specs.InTurn.{accepted}
 use Rattle.sheet.specs.Commands.{command}
+use Rattle.sheet.specs.Demand3.{historyOf, Premises}
 
 -- ---- all pairs of a list together
 

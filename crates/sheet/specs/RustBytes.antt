@@ -9,9 +9,9 @@ use Rattle.solver.specs.Shapes.{loose}
 use Rattle.solver.specs.Session.{Limits, Session, fresh}
 use Rattle.solver.specs.Orders.{Command, Reply}
 use Rattle.solver.specs.Rust.{answers, default, given}
-use Rattle.sheet.specs.Operations.{Answer}
+use Rattle.sheet.specs.Orders.{Answer}
 use Rattle.sheet.specs.Sheet.{answerOf, orderOf, framed}
-use Rattle.sheet.specs.Demand3.{accepted}
+use Rattle.sheet.specs.InTurn.{accepted}
 use Rattle.sheet.specs.Commands.{command, commands}
 
 -- what the Rust answers, in the sheet's format

@@ -9,15 +9,20 @@ use Rattle.solver.specs.Terms.Number.{number, shortest}
 use Rattle.solver.specs.Terms.Shape as shape
 use Rattle.solver.specs.Terms.Shape.{ceiling}
 use Rattle.solver.specs.Terms.Term.{bytes}
-use Rattle.solver.specs.Terms.Views.{conflicts-with, can-weaken-to}
-use Rattle.solver.specs.Families.{requested}
 use Rattle.solver.specs.Shapes.{loose}
 use Rattle.solver.specs.Session.{Limits, Session, issued, fresh}
 use Rattle.solver.specs.Orders as solver
 use Rattle.solver.specs.Orders.{Command, Reply, order}
-use Rattle.sheet.specs.Fields.{Kind, Field, Read, variable, number-variable, annotation-hole, defer-never, constrain, resolve, numeric-defaults, never-defaults, revision}
-use Rattle.sheet.specs.Fields.{conflicts, weakens, recover, instantiate, argument-context, with-self, questions, resolved-in, satisfied, family, with-associated-types, normalise, allNodes, readOrder}
-use Rattle.sheet.specs.Operations.{Answer, refusal, outcome, bit, nth, numberOf, termAt, compared, recovered, instantiated, inContext, withSelf, questioned, resolvedIn, satisfying, applied, associated, normalised}
+use Rattle.sheet.specs.Fields.{Field, allNodes}
+use Rattle.sheet.specs.Orders.{Answer, refusal, outcome, Act, tells, answers, Row, sessionOrders, Read, readBy}
+use Rattle.sheet.specs.Operations.{bit, operations}
+
+-- THE TABLE OF ORDERS, whole
+unfoldable pub table : List Row
+table = sessionOrders ++ operations
+
+unfoldable pub readOrder : List ℕ → ℕ → Result Read
+readOrder s issued = readBy table s issued
 
 -- ---- one order
 
@@ -42,28 +47,12 @@ module _ (lim : Limits) where
   abbrev pub operate : Session → List Field → Answer → Step
   operate s fs a = record { session = s; answer = pick (ltb (lim .nodes) (s .kept + allNodes fs)) (refusal 7) a }
 
-  unfoldable pub step : Session → Kind → List Field → Step
-  step s variable fs = solve s (solver.variable (numberOf (nth 0 fs)) (numberOf (nth 1 fs)))
-  step s number-variable fs = solve s (solver.number (numberOf (nth 0 fs)) (requested (numberOf (nth 1 fs))))
-  step s annotation-hole fs = solve s (solver.hole (numberOf (nth 0 fs)))
-  step s defer-never fs = solve s (solver.defer (termAt 0 fs))
-  step s constrain fs = solve s (solver.pair (numberOf (nth 0 fs)) (termAt 1 fs) (termAt 2 fs))
-  step s resolve fs = solve s (solver.resolving (termAt 0 fs))
-  step s numeric-defaults fs = solve s solver.numbers
-  step s never-defaults fs = solve s solver.nevers
-  step s revision fs = solve s solver.revision
-  step s conflicts fs = operate s fs (compared conflicts-with fs)
-  step s weakens fs = operate s fs (compared can-weaken-to fs)
-  step s recover fs = operate s fs (recovered fs)
-  step s instantiate fs = operate s fs (instantiated fs)
-  step s argument-context fs = operate s fs (inContext fs)
-  step s with-self fs = operate s fs (withSelf fs)
-  step s questions fs = operate s fs (questioned fs)
-  step s resolved-in fs = operate s fs (resolvedIn fs)
-  step s satisfied fs = operate s fs (satisfying fs)
-  step s family fs = operate s fs (applied fs)
-  step s with-associated-types fs = operate s fs (associated fs)
-  step s normalise fs = operate s fs (normalised fs)
+  abbrev pub perform : Session → List Field → Act → Step
+  perform s fs (tells f) = solve s (f fs)
+  perform s fs (answers f) = operate s fs (f fs)
+
+  unfoldable pub step : Session → Row → List Field → Step
+  step s r fs = perform s fs (r .act)
 
   abbrev pub stepRead : Session → Result Read → Step
   stepRead s (got r n) = step s (r .kind) (r .fields)

@@ -5,7 +5,7 @@ use Prim.Native.Nat.{ℕ, suc, _+_, _≤_, _<_}
 use lib.ListN.{length}
 use lib.Seq.{sets}
 use Rattle.solver.specs.Terms.Number.{shortest}
-use Rattle.sheet.specs.Operations.{Answer}
+use Rattle.sheet.specs.Orders.{Answer}
 use Rattle.sheet.specs.Sheet.{framed}
 
 -- there is an output, and a position in it or at its end

@@ -5,7 +5,7 @@ use solver::write_number;
 ghost use lib.ListN.{length};
 ghost use mathlib.Core.List.{[], _∷_};
 ghost use Rattle.solver.specs.Terms.Number.{shortest};
-ghost use Rattle.sheet.specs.Operations.{refusal, outcome};
+ghost use Rattle.sheet.specs.Orders.{refusal, outcome};
 ghost use Rattle.sheet.specs.Written.{Room, Framed, Begun};
 
 // A refusal.

@@ -6,6 +6,7 @@ use super::posing::resolve_term;
 use super::solving::solve_plain;
 use solver::Solver;
 ghost use mathlib.Core.Path.{_≡_};
+ghost use mathlib.Core.List.{[], _∷_};
 ghost use Prim.Native.Nat.{_+_, _≤_, _<_};
 ghost use lib.ListN.{length, take, drop};
 ghost use Rattle.solver.specs.Terms.Term.{Term, size};
@@ -16,6 +17,7 @@ ghost use Rattle.solver.specs.Work.{Zero};
 ghost use Rattle.solver.specs.Turning.{Scratch, pendingFrom};
 ghost use Rattle.solver.specs.Lent.{Arises, limitsOf};
 ghost use Rattle.sheet.specs.Sheet.{solve};
+ghost use Rattle.sheet.specs.Answering.{Among};
 ghost use Rattle.sheet.specs.Written.{Room};
 ghost use Rattle.sheet.specs.Lays.{Lays, Answers};
 ghost use Rattle.sheet.specs.Ending.{Ready};
@@ -37,7 +39,7 @@ pub fn lend_plain(
     to: usize,
 ) -> Reached
     requires ready { ⌜ Ready x half (now a) (now b) (now c) (now d) ⌝ }
-    requires small { ⌜ ((kind ≡ 1) → (second < 32)) ⌝ }
+    requires kind { ⌜ ((kind ≡ 1) → (second < 32)) × Among (0 ∷ 1 ∷ 2 ∷ 6 ∷ 7 ∷ 8 ∷ []) kind ⌝ }
     requires room { ⌜ Room (now out) to ⌝ }
     ensures { λ r. ⌜ ((z : Session) → Arises (limitsOf x) loose z → Lays x half (now (a .entry)) (now (b .entry)) (now (c .entry)) (now (d .entry)) z → Answers (r .solver) half (now (a .entry)) (now (b .entry)) (now (c .exit)) (now (d .exit)) (now (out .exit)) z (solve (limitsOf x) z (plainCommand kind first second)) (now (out .entry)) to (r .next) x) ⌝ }
 {

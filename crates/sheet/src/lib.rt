@@ -17,6 +17,18 @@ pub use running::run_sheet;
 pub use running::sheet_run;
 use solver::Solver;
 
+// What an order does: it is told to the session, or it leaves the session as it was.
+pub enum Class {
+    Session,
+    Operation,
+}
+
+// A row of the table of orders, its class and the sorts of its fields in digits; or that no order has the number.
+pub enum OrderRow {
+    Listed(Class, u64),
+    Unlisted,
+}
+
 // A field of an order: a number or count, the place of its first token (of parameters: their position in the bytes), and the token after
 // its last.
 pub struct Spot {

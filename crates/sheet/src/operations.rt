@@ -24,7 +24,7 @@ use solver::write_normalised;
 use solver::write_recovered;
 use solver::write_term;
 ghost use mathlib.Core.Path.{_≡_};
-ghost use mathlib.Core.List.{List, map};
+ghost use mathlib.Core.List.{List, [], _∷_, map};
 ghost use Prim.Native.Nat.{ℕ, _+_, _*_, _<_};
 ghost use lib.ListN.{length};
 ghost use Rattle.solver.specs.Terms.Term.{Term, Parts, bytes, Held};
@@ -40,9 +40,10 @@ ghost use Rattle.solver.specs.Terms.Lookup.{Pattern};
 ghost use Rattle.solver.specs.Terms.Normal.{Out, normalize, with-associated-types, levels, most};
 ghost use Rattle.solver.specs.Terms.Normalising.{Answers, Leaves, Lends, RuledAt, OwnedAt};
 ghost use Rattle.solver.specs.Handing.{bindersOf, normalisedOf};
-ghost use Rattle.sheet.specs.Operations.{bit, seven, perhaps, settled, ruleOf, outcome};
+ghost use Rattle.sheet.specs.Orders.{outcome};
+ghost use Rattle.sheet.specs.Operations.{bit, seven, perhaps, settled, ruleOf, operations};
 ghost use Rattle.sheet.specs.Written.{Room, Framed};
-ghost use Rattle.sheet.specs.Answering.{Tokens, Asks, Replies, Two, Applies, Associates, Normalises};
+ghost use Rattle.sheet.specs.Answering.{Tokens, numbersOf, Asks, Replies, Two, Applies, Associates, Normalises};
 
 // The byte of a truth value.
 fn bit(b: bool) -> u8
@@ -242,7 +243,7 @@ fn normalised(
 // Orders 9, 10 and 11: two terms.
 fn compare(kinds: &[u32], vals: &[u32], o: Order, out: &mut [u8], to: usize) -> usize
     requires areas { ⌜ Tokens (now kinds) (now vals) ⌝ }
-    requires asks { ⌜ ((s : List ℕ) × (ws : List ℕ) × Asks (now kinds) (now vals) s ws 9 12 o) ⌝ }
+    requires asks { ⌜ ((s : List ℕ) × (ws : List ℕ) × Asks (now kinds) (now vals) s ws (9 ∷ 10 ∷ 11 ∷ []) o) ⌝ }
     requires room { ⌜ Room (now out) to ⌝ }
     ensures { λ r. ⌜ ((s ws : List ℕ) → Replies (now (kinds .entry)) (now (vals .entry)) s ws o (λ x. Framed x (now (out .entry)) to (now (out .exit)) r)) ⌝ }
 {
@@ -262,7 +263,7 @@ fn compare(kinds: &[u32], vals: &[u32], o: Order, out: &mut [u8], to: usize) -> 
 // Orders 12, 13 and 14: a term and what takes the place of its binders.
 fn substitute(s: &[u8], kinds: &[u32], vals: &[u32], o: Order, out: &mut [u8], to: usize) -> usize
     requires areas { ⌜ Tokens (now kinds) (now vals) ⌝ }
-    requires asks { ⌜ ((ws : List ℕ) × Asks (now kinds) (now vals) (now s) ws 12 15 o) ⌝ }
+    requires asks { ⌜ ((ws : List ℕ) × Asks (now kinds) (now vals) (now s) ws (12 ∷ 13 ∷ 14 ∷ []) o) ⌝ }
     requires room { ⌜ Room (now out) to ⌝ }
     ensures { λ r. ⌜ ((ws : List ℕ) → Replies (now (kinds .entry)) (now (vals .entry)) (now (s .entry)) ws o (λ x. Framed x (now (out .entry)) to (now (out .exit)) r)) ⌝ }
 {
@@ -285,7 +286,7 @@ fn substitute(s: &[u8], kinds: &[u32], vals: &[u32], o: Order, out: &mut [u8], t
 // Orders 15, 16 and 17: questions.
 fn inquire(s: &[u8], kinds: &[u32], vals: &[u32], o: Order, out: &mut [u8], to: usize) -> usize
     requires areas { ⌜ Tokens (now kinds) (now vals) ⌝ }
-    requires asks { ⌜ ((ws : List ℕ) × Asks (now kinds) (now vals) (now s) ws 15 18 o) ⌝ }
+    requires asks { ⌜ ((ws : List ℕ) × Asks (now kinds) (now vals) (now s) ws (15 ∷ 16 ∷ 17 ∷ []) o) ⌝ }
     requires room { ⌜ Room (now out) to ⌝ }
     ensures { λ r. ⌜ ((ws : List ℕ) → Replies (now (kinds .entry)) (now (vals .entry)) (now (s .entry)) ws o (λ x. Framed x (now (out .entry)) to (now (out .exit)) r)) ⌝ }
 {
@@ -307,7 +308,7 @@ fn inquire(s: &[u8], kinds: &[u32], vals: &[u32], o: Order, out: &mut [u8], to: 
 // Order 18: a family's value, for a substitution and arguments.
 fn apply_family(s: &[u8], kinds: &[u32], vals: &[u32], o: Order, out: &mut [u8], to: usize) -> usize
     requires areas { ⌜ Tokens (now kinds) (now vals) ⌝ }
-    requires asks { ⌜ ((ws : List ℕ) × Asks (now kinds) (now vals) (now s) ws 18 19 o) ⌝ }
+    requires asks { ⌜ ((ws : List ℕ) × Asks (now kinds) (now vals) (now s) ws (18 ∷ []) o) ⌝ }
     requires room { ⌜ Room (now out) to ⌝ }
     ensures { λ r. ⌜ ((ws : List ℕ) → Replies (now (kinds .entry)) (now (vals .entry)) (now (s .entry)) ws o (λ x. Framed x (now (out .entry)) to (now (out .exit)) r)) ⌝ }
 {
@@ -332,7 +333,7 @@ fn reduce(
     to: usize,
 ) -> usize
     requires lends { ⌜ Lends (now kinds) (now vals) (now heads) (now kids) most ⌝ }
-    requires asks { ⌜ ((s : List ℕ) × Asks (now kinds) (now vals) s (now rules) 19 21 o) ⌝ }
+    requires asks { ⌜ ((s : List ℕ) × Asks (now kinds) (now vals) s (now rules) (19 ∷ 20 ∷ []) o) ⌝ }
     requires few { ⌜ length (now rules) < 4294967296 ⌝ }
     requires room { ⌜ Room (now out) to ⌝ }
     ensures clear { λ _. ⌜ area (now (heads .exit)) (now (kids .exit)) ≡ area (now (heads .entry)) (now (kids .entry)) ⌝ }
@@ -348,7 +349,7 @@ fn reduce(
     normalised(kinds, vals, heads, kids, &rules[..n], b.place, out, to)
 }
 
-// THE ANSWER of an order of the kinds 9 to 20, whose fields are held.
+// THE ANSWER of an order that leaves the session, whose fields are held.
 pub fn operate(
     s: &[u8],
     kinds: &[u32],
@@ -361,7 +362,7 @@ pub fn operate(
     to: usize,
 ) -> usize
     requires lends { ⌜ Lends (now kinds) (now vals) (now heads) (now kids) most ⌝ }
-    requires asks { ⌜ Asks (now kinds) (now vals) (now s) (now rules) 9 21 o ⌝ }
+    requires asks { ⌜ Asks (now kinds) (now vals) (now s) (now rules) (numbersOf operations) o ⌝ }
     requires few { ⌜ length (now rules) < 4294967296 ⌝ }
     requires room { ⌜ Room (now out) to ⌝ }
     ensures clear { λ _. ⌜ area (now (heads .exit)) (now (kids .exit)) ≡ area (now (heads .entry)) (now (kids .entry)) ⌝ }
@@ -377,7 +378,7 @@ pub fn operate(
     if k < 18 {
         return inquire(s, kinds, vals, o, out, to);
     }
-    if k < 19 {
+    if k == 18 {
         return apply_family(s, kinds, vals, o, out, to);
     }
     reduce(kinds, vals, heads, kids, rules, o, out, to)

@@ -1,6 +1,8 @@
 // An order read: its kind, and its fields by the layout of the kind. The functions that read a field are lent the numbers of the place, and where the numbers
 // of the field's spot go, and answer 0 where they have read, else the refusal.
+use super::Class;
 use super::Order;
+use super::OrderRow;
 use super::Reading;
 use super::fields::ORDINARY;
 use super::fields::read_plain;
@@ -8,7 +10,7 @@ use super::rules::read_rules;
 use super::tables::known_of;
 use super::tables::no_fields;
 use super::tables::put_spot;
-use super::tables::sorts_of;
+use super::tables::row_of;
 use solver::clear_tokens;
 use solver::number_at;
 ghost use mathlib.Core.Path.{_≡_};
@@ -17,7 +19,7 @@ ghost use lib.ListN.{length, getD};
 ghost use Rattle.solver.specs.Terms.Tokens.{area, blank};
 ghost use Rattle.solver.specs.Terms.Lent.{place};
 ghost use Rattle.sheet.specs.Fields.{field};
-ghost use Rattle.sheet.specs.Laid.{sortOf, Plain, Free, Ample, FieldDone, finished};
+ghost use Rattle.sheet.specs.Laid.{RowIs, sortOf, Plain, Free, Ample, FieldDone, finished};
 ghost use Rattle.sheet.specs.Lent.{fieldOf};
 ghost use Rattle.sheet.specs.Ordered.{OrderRoom, OrderDone};
 
@@ -131,6 +133,8 @@ fn read_fields(
     vals: &mut [u32],
     rules: &mut [u32],
     kind: u8,
+    class: Class,
+    sorts: u64,
     issued: u64,
     first: usize,
     kept: usize,
@@ -139,14 +143,14 @@ fn read_fields(
     requires { ⌜ OrderRoom (now s) (now kinds) (now vals) (now rules) first kept limit ⌝ }
     requires { ⌜ 0 < length (now s) ⌝ }
     requires { ⌜ kind ≡ getD (now s) 0 0 ⌝ }
-    requires { ⌜ kind < 21 ⌝ }
+    requires { ⌜ RowIs kind class sorts ⌝ }
     ensures { λ r. ⌜ OrderDone (now (s .entry)) issued first kept limit (area (now (kinds .entry)) (now (vals .entry))) (area (now (kinds .exit)) (now (vals .exit))) (now (rules .exit)) r ⌝ }
 {
-    let known = known_of(kind, issued);
+    let known = known_of(class, issued);
     let mut at: usize = 1;
     let mut top = first;
     let mut nodes = kept;
-    let mut rest = sorts_of(kind);
+    let mut rest = sorts;
     let mut i: u32 = 0;
     let mut o = no_fields();
     while 0 < rest {
@@ -201,10 +205,22 @@ pub fn read_order(
         return Reading::Refused(1);
     }
     let kind = s[0];
-    if 20 < kind {
+    let OrderRow::Listed(class, sorts) = row_of(kind) else {
         return Reading::Refused(2);
-    }
-    read_fields(s, kinds, vals, rules, kind, issued, top, kept, limit)
+    };
+    read_fields(
+        s,
+        kinds,
+        vals,
+        rules,
+        kind,
+        class,
+        sorts,
+        issued,
+        top,
+        kept,
+        limit,
+    )
 }
 
 // Clears the tokens of an order that was read from `top` on.

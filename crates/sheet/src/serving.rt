@@ -10,8 +10,10 @@ use super::lending::lend_resolve;
 use super::operations::operate;
 use super::scan::clear_order;
 use super::scan::read_order;
+use super::tables::is_operation;
 use solver::Solver;
 ghost use mathlib.Core.Path.{_≡_};
+ghost use mathlib.Core.Bool.{true, false};
 ghost use mathlib.Core.List.{List};
 ghost use Prim.Native.Nat.{ℕ, _*_, _≤_, _<_};
 ghost use lib.Dec.{eqb, ltb};
@@ -19,6 +21,9 @@ ghost use lib.ListN.{length, getD};
 ghost use Rattle.solver.specs.Shapes.{loose};
 ghost use Rattle.solver.specs.Session.{Session};
 ghost use Rattle.solver.specs.Lent.{Arises, limitsOf};
+ghost use Rattle.sheet.specs.Orders.{rowIn};
+ghost use Rattle.sheet.specs.Sheet.{table};
+ghost use Rattle.sheet.specs.Laid.{isOperation};
 ghost use Rattle.sheet.specs.Lays.{Lays, Served};
 ghost use Rattle.sheet.specs.Ending.{Ready};
 ghost use Rattle.sheet.specs.Written.{Room};
@@ -40,7 +45,7 @@ fn operate_order(
     to: usize,
 ) -> Reached
     requires taken { ⌜ ((a₀ b₀ : List ℕ) × Taken x half (now s) a₀ b₀ (now a) (now b) (now c) (now d) (now rules) o) ⌝ }
-    requires kind { ⌜ 9 ≤ o .kind ⌝ }
+    requires kind { ⌜ true ≡ isOperation (rowIn table (o .kind)) ⌝ }
     requires words { ⌜ length (now rules) < 4294967296 ⌝ }
     requires room { ⌜ Room (now out) to ⌝ }
     ensures { λ r. ⌜ ((a₀ b₀ : List ℕ) → Taken x half (now (s .entry)) a₀ b₀ (now (a .entry)) (now (b .entry)) (now (c .entry)) (now (d .entry)) (now (rules .entry)) o → Serves x (r .solver) half (now (s .entry)) a₀ b₀ (now (c .entry)) (now (d .entry)) (now (a .exit)) (now (b .exit)) (now (c .exit)) (now (d .exit)) (now (out .entry)) to (now (out .exit)) (r .next)) ⌝ }
@@ -137,7 +142,7 @@ fn plain_order(
     to: usize,
 ) -> Reached
     requires taken { ⌜ ((s a₀ b₀ ws : List ℕ) × Taken x half s a₀ b₀ (now a) (now b) (now c) (now d) ws o) ⌝ }
-    requires kind { ⌜ (o .kind < 9) × ((o .kind ≡ 3) → ⊥) × ((o .kind ≡ 4) → ⊥) × ((o .kind ≡ 5) → ⊥) ⌝ }
+    requires kind { ⌜ (false ≡ isOperation (rowIn table (o .kind))) × ((o .kind ≡ 3) → ⊥) × ((o .kind ≡ 4) → ⊥) × ((o .kind ≡ 5) → ⊥) ⌝ }
     requires room { ⌜ Room (now out) to ⌝ }
     ensures { λ r. ⌜ ((s a₀ b₀ ws : List ℕ) → Taken x half s a₀ b₀ (now (a .entry)) (now (b .entry)) (now (c .entry)) (now (d .entry)) ws o → Serves x (r .solver) half s a₀ b₀ (now (c .entry)) (now (d .entry)) (now (a .entry)) (now (b .entry)) (now (c .exit)) (now (d .exit)) (now (out .entry)) to (now (out .exit)) (r .next)) ⌝ }
 {
@@ -146,7 +151,7 @@ fn plain_order(
     lend_plain(x, half, o.kind, first, second, a, b, c, d, out, to)
 }
 
-// An order that was read, by its kind.
+// An order that was read, by its class.
 fn answer_order(
     x: Solver,
     half: usize,
@@ -166,7 +171,7 @@ fn answer_order(
     ensures { λ r. ⌜ ((a₀ b₀ : List ℕ) → Taken x half (now (s .entry)) a₀ b₀ (now (a .entry)) (now (b .entry)) (now (c .entry)) (now (d .entry)) (now (rules .entry)) o → Serves x (r .solver) half (now (s .entry)) a₀ b₀ (now (c .entry)) (now (d .entry)) (now (a .exit)) (now (b .exit)) (now (c .exit)) (now (d .exit)) (now (out .entry)) to (now (out .exit)) (r .next)) ⌝ }
 {
     let k = o.kind;
-    if 9 <= k {
+    if is_operation(k) {
         return operate_order(x, half, s, a, b, c, d, rules, o, out, to);
     }
     if k == 3 {

@@ -12,7 +12,7 @@ use solver::variable_len;
 use solver::write_variable;
 ghost use mathlib.Core.Path.{_≡_};
 ghost use mathlib.Core.Bool.{not};
-ghost use mathlib.Core.List.{List};
+ghost use mathlib.Core.List.{List, [], _∷_};
 ghost use Prim.Native.Nat.{ℕ, _<_};
 ghost use lib.Dec.{eqb};
 ghost use Rattle.solver.specs.Terms.Term.{Term, var, bytes};
@@ -23,8 +23,10 @@ ghost use Rattle.solver.specs.Orders as orders;
 ghost use Rattle.solver.specs.Work.{Zero};
 ghost use Rattle.solver.specs.Lent.{Arises, Lent, limitsOf};
 ghost use Rattle.solver.specs.Behind.{Asked, Frames, resolvedTo};
-ghost use Rattle.sheet.specs.Operations.{bit, outcome};
+ghost use Rattle.sheet.specs.Orders.{outcome};
+ghost use Rattle.sheet.specs.Operations.{bit};
 ghost use Rattle.sheet.specs.Sheet.{solve};
+ghost use Rattle.sheet.specs.Answering.{Among};
 ghost use Rattle.sheet.specs.Written.{Room, Framed};
 ghost use Rattle.sheet.specs.Doing.{Does, plainCommand};
 
@@ -239,7 +241,7 @@ pub fn solve_plain(
     to: usize,
 ) -> Reached
     requires held { ⌜ ((z : Session) × Arises (limitsOf x) loose z × Lent x (now kinds) (now vals) (now tables) z) ⌝ }
-    requires areas { ⌜ ((kind ≡ 1) → (second < 32)) × Frames x (now frames) ⌝ }
+    requires areas { ⌜ ((kind ≡ 1) → (second < 32)) × Frames x (now frames) × Among (0 ∷ 1 ∷ 2 ∷ 6 ∷ 7 ∷ 8 ∷ []) kind ⌝ }
     requires room { ⌜ Room (now out) to ⌝ }
     ensures clear { λ _. ⌜ Zero (now (frames .exit)) ⌝ }
     ensures does { λ r. ⌜ ((z : Session) → Arises (limitsOf x) loose z → Lent x (now (kinds .entry)) (now (vals .entry)) (now (tables .entry)) z → Does x (r .solver) (now (kinds .entry)) (now (vals .entry)) (now (tables .entry)) (now (tables .exit)) z (solve (limitsOf x) z (plainCommand kind first second)) (now (out .entry)) to (now (out .exit)) (r .next)) ⌝ }

@@ -1,51 +1,66 @@
-// The table of orders: the sorts of each kind's fields, and the variables that it may name.
+// The table of orders as the code has it, and an order made of its fields.
+use super::Class;
 use super::Order;
+use super::OrderRow;
 use super::Spot;
 ghost use mathlib.Core.Path.{_≡_};
-ghost use Prim.Native.Nat.{_<_};
 ghost use Rattle.solver.specs.Terms.Result.{pick};
-ghost use Rattle.sheet.specs.Laid.{packed, sortsAt, knownAt, putSpot, noSpot, noFields};
+ghost use Rattle.sheet.specs.Orders.{rowIn};
+ghost use Rattle.sheet.specs.Sheet.{table};
+ghost use Rattle.sheet.specs.Laid.{rowWords, knownFor, isOperation, putSpot, noSpot, noFields};
 
-// The sorts of the fields of a kind, two digits a field, those of the first field last: 1 a number, 2 an owner and a term, 3 a code, 4 a term, 5 a nominal,
-// 6 entries, 7 receivers, 8 parameters, 9 arguments, 10 rules.
-pub fn sorts_of(kind: u8) -> u64
-    requires { ⌜ kind < 21 ⌝ }
-    ensures { λ r. ⌜ r ≡ packed (sortsAt kind) ⌝ }
+// THE TABLE OF ORDERS: a class and the sorts of the fields, two digits a field, those of the first field last: 1 a number, 2 an owner and a term, 3 a
+// code, 4 a term, 5 a nominal, 6 entries, 7 receivers, 8 parameters, 9 arguments, 10 rules.
+pub fn row_of(kind: u8) -> OrderRow
+    ensures { λ r. ⌜ r ≡ rowWords (rowIn table kind) ⌝ }
 {
     match kind {
-        0 => 101,
-        1 => 301,
-        2 => 1,
-        3 => 4,
-        4 => 40401,
-        5 => 4,
-        6 => 0,
-        7 => 0,
-        8 => 0,
-        9 => 404,
-        10 => 404,
-        11 => 404,
-        12 => 40706,
-        13 => 4080706,
-        14 => 402,
-        15 => 4,
-        16 => 408,
-        17 => 40505,
-        18 => 907060408,
-        19 => 40504,
-        20..=255 => 410,
+        0 => OrderRow::Listed(Class::Session, 101),
+        1 => OrderRow::Listed(Class::Session, 301),
+        2 => OrderRow::Listed(Class::Session, 1),
+        3 => OrderRow::Listed(Class::Session, 4),
+        4 => OrderRow::Listed(Class::Session, 40401),
+        5 => OrderRow::Listed(Class::Session, 4),
+        6 => OrderRow::Listed(Class::Session, 0),
+        7 => OrderRow::Listed(Class::Session, 0),
+        8 => OrderRow::Listed(Class::Session, 0),
+        9 => OrderRow::Listed(Class::Operation, 404),
+        10 => OrderRow::Listed(Class::Operation, 404),
+        11 => OrderRow::Listed(Class::Operation, 404),
+        12 => OrderRow::Listed(Class::Operation, 40706),
+        13 => OrderRow::Listed(Class::Operation, 4080706),
+        14 => OrderRow::Listed(Class::Operation, 402),
+        15 => OrderRow::Listed(Class::Operation, 4),
+        16 => OrderRow::Listed(Class::Operation, 408),
+        17 => OrderRow::Listed(Class::Operation, 40505),
+        18 => OrderRow::Listed(Class::Operation, 907060408),
+        19 => OrderRow::Listed(Class::Operation, 40504),
+        20 => OrderRow::Listed(Class::Operation, 410),
+        21..=255 => OrderRow::Unlisted,
     }
 }
 
-// Orders 0 to 8 name variables that are issued, orders 9 to 20 any.
-pub fn known_of(kind: u8, issued: u64) -> u64
-    requires { ⌜ kind < 21 ⌝ }
-    ensures { λ r. ⌜ r ≡ knownAt kind issued ⌝ }
+// Orders of the session name variables that are issued, the others any.
+pub fn known_of(class: Class, issued: u64) -> u64
+    ensures { λ r. ⌜ r ≡ knownFor class issued ⌝ }
 {
-    if kind < 9 {
-        return issued;
+    match class {
+        Class::Session => issued,
+        Class::Operation => 4294967296,
     }
-    4294967296
+}
+
+// Whether an order leaves the session as it was.
+pub fn is_operation(kind: u8) -> bool
+    ensures { λ r. ⌜ r ≡ isOperation (rowIn table kind) ⌝ }
+{
+    let OrderRow::Listed(class, _sorts) = row_of(kind) else {
+        return false;
+    };
+    match class {
+        Class::Session => false,
+        Class::Operation => true,
+    }
 }
 
 fn no_spot() -> Spot

@@ -3,6 +3,7 @@ pub use Rattle.terms.proofs.Steps
 pub use Rattle.terms.proofs.Bounds
 pub use Rattle.terms.proofs.Shortest
 pub use Rattle.terms.proofs.KindLaws
+pub use Rattle.terms.proofs.TableLaws
 pub use Rattle.terms.proofs.FieldLaws
 pub use Rattle.terms.proofs.StoreLaws
 pub use Rattle.terms.proofs.LentLaws

@@ -3,7 +3,7 @@ use mathlib.Core.Path.{refl}
 use native.Mathlib.Omega.{arith}
 use denote.Ref.{now}
 use lib.ListN.{length-set}
-use Rattle.sheet.specs.Operations.{refusal}
+use Rattle.sheet.specs.Orders.{refusal}
 use Rattle.sheet.proofs.FramingLaws.{frame-over, frame-fits, two-stores, refusal-frame}
 use borrow.Author.Needs.{needs}
 use Rattle.sheet.proofs.framing.refused.Statement.{statement}

@@ -34,7 +34,7 @@ solve-plain-requires c κs =
     let a = c .before .before .before .before .before .before .before .before .before .before .before .args in
     let p = c .before .before .before .before .before .before .before .before .before .before .before .pre in
     let R = p .0 in
-    rw (c .before .before .before .before .before .standing .ensures) ((R .session, R .arises, lent-tail (a .half) (now (a .c)) _ _ _ _ (R .lays .lent)), ((p .1 .0, ready-frames _ _ _ _ _ _ R), p .1 .1))
+    rw (c .before .before .before .before .before .standing .ensures) ((R .session, R .arises, lent-tail (a .half) (now (a .c)) _ _ _ _ (R .lays .lent)), ((p .1 .0 .0, ready-frames _ _ _ _ _ _ R, p .1 .0 .1), p .1 .1))
 
 same-length : tie.Need-same-length
 same-length c = search needs

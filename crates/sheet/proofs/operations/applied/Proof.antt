@@ -4,7 +4,7 @@ use native.Mathlib.Omega.{arith}
 use denote.Ref.{now}
 use lib.ListN.{length, length-set}
 use Rattle.solver.specs.Terms.Term.{bytes}
-use Rattle.sheet.specs.Operations.{outcome}
+use Rattle.sheet.specs.Orders.{outcome}
 use Rattle.solver.proofs.Terms.Bools.{never-true}
 use Rattle.solver.proofs.Terms.RewriteLaws.{counted-term}
 use Rattle.solver.specs.Handing.{bindersOf}

@@ -1,8 +1,7 @@
 -- `apply_family`. Assumes nothing.
-use native.Mathlib.Omega.{arith}
 use denote.Ref.{now}
-use mathlib.Core.Path.{_≡_}
 use Rattle.sheet.proofs.AnswerLaws.{held-in}
+use Rattle.sheet.proofs.TableLaws.{among-only}
 use Rattle.sheet.proofs.GivenLaws.{binders-ready, ready-as, applies-as, family-asks, family-replies}
 use borrow.Author.Needs.{needs}
 use Rattle.sheet.proofs.operations.apply_family.Statement.{statement}
@@ -16,8 +15,8 @@ applied-requires c κs =
     let p = c .before .before .before .before .before .before .before .before .before .before .before .pre in
     let a = c .before .before .before .before .before .before .before .before .before .before .before .args in
     let y = p .1 .0 .1 in
-    let k : a .o .kind ≡ 18 = omega (arith, y .from, y .below) in
-    let x = family-asks _ _ _ _ (a .o) 18 19 k y .5 in
+    let k = among-only 18 (a .o .kind) (y .among) in
+    let x = family-asks _ _ _ _ (a .o) _ k y .5 in
     (p .0, (ready-as _ _ (now (a .s)) _ _ (c .before .family .ensures) (binders-ready _ _ _ _ _ _ _ (x .binders) (p .0 .pairs)), (held-in _ _ _ _ (x .held), p .1 .1)))
 
 same-length : tie.Need-same-length
@@ -29,7 +28,7 @@ returns c =
     let p = c .before .before .before .before .before .before .before .before .before .before .before .before .before .before .pre in
     let a = c .before .before .before .before .before .before .before .before .before .before .before .before .before .before .args in
     let y = p .1 .0 .1 in
-    let k : a .o .kind ≡ 18 = omega (arith, y .from, y .below) in
+    let k = among-only 18 (a .o .kind) (y .among) in
     family-replies (now (a .kinds)) (now (a .vals)) (now (a .s)) ws (a .o) k _ (λ ps t es rs ts x. c .before .before .applied .ensures t es rs ps ts (applies-as _ _ _ _ _ (c .before .before .before .before .family .ensures) _ _ t es rs ps ts x))
 
 pub apply-family-spec : {M : Type 1} → statement M

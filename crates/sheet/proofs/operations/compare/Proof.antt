@@ -3,7 +3,8 @@ use mathlib.Core.Path.{ap, _∙_}
 use denote.Ref.{now}
 use Rattle.sheet.specs.Operations.{bit}
 use Rattle.sheet.proofs.AnswerLaws.{held-in, formed-both, frame-as, one-byte}
-use Rattle.sheet.proofs.GivenLaws.{third, conflicts-asks, conflicts-replies, weakens-asks, weakens-replies, recover-asks, recover-replies}
+use Rattle.sheet.proofs.TableLaws.{third}
+use Rattle.sheet.proofs.GivenLaws.{conflicts-asks, conflicts-replies, weakens-asks, weakens-replies, recover-asks, recover-replies}
 use borrow.Author.Needs.{needs}
 use Rattle.sheet.proofs.operations.compare.Statement.{statement}
 use Rattle.sheet.proofs.operations.compare.Tie as tie
@@ -12,7 +13,7 @@ conflicts-with-requires : tie.Need-conflicts-with-requires
 conflicts-with-requires c κs =
     let p = c .before .before .before .before .before .before .before .pre in
     let a = c .before .before .before .before .before .before .before .args in
-    let x = conflicts-asks _ _ _ _ (a .o) 9 12 (c .if1 .taken) (p .1 .0 .2) in
+    let x = conflicts-asks _ _ _ _ (a .o) _ (c .if1 .taken) (p .1 .0 .2) in
     ((held-in _ _ _ _ (x .2 .left), held-in _ _ _ _ (x .2 .right), p .0 .pairs), formed-both _ _ _ _ _ _ (x .2))
 
 bit-requires : tie.Need-bit-requires
@@ -34,7 +35,7 @@ can-weaken-to-requires : tie.Need-can-weaken-to-requires
 can-weaken-to-requires c κs =
     let p = c .before .before .before .before .before .before .before .before .before .pre in
     let a = c .before .before .before .before .before .before .before .before .before .args in
-    let x = weakens-asks _ _ _ _ (a .o) 9 12 (c .if2 .taken) (p .1 .0 .2) in
+    let x = weakens-asks _ _ _ _ (a .o) _ (c .if2 .taken) (p .1 .0 .2) in
     ((held-in _ _ _ _ (x .2 .left), held-in _ _ _ _ (x .2 .right), p .0 .pairs), formed-both _ _ _ _ _ _ (x .2))
 
 bit-requires-2 : tie.Need-bit-requires-2
@@ -57,8 +58,8 @@ recovered-requires c κs =
     let p = c .before .before .before .before .before .before .before .before .before .before .pre in
     let a = c .before .before .before .before .before .before .before .before .before .before .args in
     let y = p .1 .0 .2 in
-    let k = third 9 (a .o .kind) (y .from) (y .below) (c .before .before .before .if1 .left) (c .before .if2 .left) in
-    (p .0, (recover-asks _ _ _ _ (a .o) 9 12 k y, p .1 .1))
+    let k = third 9 10 11 (a .o .kind) (y .among) (c .before .before .before .if1 .left) (c .before .if2 .left) in
+    (p .0, (recover-asks _ _ _ _ (a .o) _ k y, p .1 .1))
 
 same-length-3 : tie.Need-same-length-3
 same-length-3 c = search needs
@@ -69,7 +70,7 @@ returns-3 c =
     let p = c .before .before .before .before .before .before .before .before .before .before .before .before .before .pre in
     let a = c .before .before .before .before .before .before .before .before .before .before .before .before .before .args in
     let y = p .1 .0 .2 in
-    let k = third 9 (a .o .kind) (y .from) (y .below) (c .before .before .before .before .before .before .if1 .left) (c .before .before .before .before .if2 .left) in
+    let k = third 9 10 11 (a .o .kind) (y .among) (c .before .before .before .before .before .before .if1 .left) (c .before .before .before .before .if2 .left) in
     recover-replies (now (a .kinds)) (now (a .vals)) s ws (a .o) k _ (λ t u x. c .before .before .recovered .ensures t u x)
 
 pub compare-spec : {M : Type 1} → statement M

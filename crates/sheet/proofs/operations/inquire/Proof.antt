@@ -4,7 +4,8 @@ use mathlib.Core.Bool.{Bool, not}
 use denote.Ref.{now}
 use Rattle.sheet.specs.Operations.{bit}
 use Rattle.sheet.proofs.AnswerLaws.{held-in, frame-as, one-byte, two-bytes}
-use Rattle.sheet.proofs.GivenLaws.{third, questions-asks, questions-replies, resolved-asks, resolved-replies, satisfied-asks, satisfied-replies}
+use Rattle.sheet.proofs.TableLaws.{third}
+use Rattle.sheet.proofs.GivenLaws.{questions-asks, questions-replies, resolved-asks, resolved-replies, satisfied-asks, satisfied-replies}
 use borrow.Author.Needs.{needs}
 use Rattle.sheet.proofs.operations.inquire.Statement.{statement}
 use Rattle.sheet.proofs.operations.inquire.Tie as tie
@@ -14,7 +15,7 @@ asked-requires c κs =
     let p = c .before .before .before .before .before .before .before .before .before .before .pre in
     let a = c .before .before .before .before .before .before .before .before .before .before .args in
     let y = p .1 .0 .1 in
-    let x = questions-asks _ _ _ _ (a .o) 15 18 (c .before .if1 .taken) y in
+    let x = questions-asks _ _ _ _ (a .o) _ (c .before .if1 .taken) y in
     ((held-in _ _ _ _ (x .1), p .0 .pairs), (record { term = x .0; held = x .1; formed = x .2 }, p .1 .1))
 
 same-length : tie.Need-same-length
@@ -31,7 +32,7 @@ ask-requires c κs =
     let p = c .before .before .before .before .before .before .before .before .before .before .before .pre in
     let a = c .before .before .before .before .before .before .before .before .before .before .before .args in
     let y = p .1 .0 .1 in
-    let x = resolved-asks _ _ _ _ (a .o) 15 18 (c .if2 .taken) y in
+    let x = resolved-asks _ _ _ _ (a .o) _ (c .if2 .taken) y in
     ((held-in _ _ _ _ (x .3), p .0 .pairs), (record { term = x .1; held = x .3; formed = x .4 }, record { list = x .0; next = x .2 .0; read = x .2 .1 }))
 
 bit-requires : tie.Need-bit-requires
@@ -54,8 +55,8 @@ satisfies-requires c κs =
     let p = c .before .before .before .before .before .before .before .before .before .before .before .pre in
     let a = c .before .before .before .before .before .before .before .before .before .before .before .args in
     let y = p .1 .0 .1 in
-    let k = third 15 (a .o .kind) (y .from) (y .below) (c .before .before .if1 .left) (c .if2 .left) in
-    let x = satisfied-asks _ _ _ _ (a .o) 15 18 k y in
+    let k = third 15 16 17 (a .o .kind) (y .among) (c .before .before .if1 .left) (c .if2 .left) in
+    let x = satisfied-asks _ _ _ _ (a .o) _ k y in
     ((held-in _ _ _ _ (x .3), held-in _ _ _ _ (x .4), p .0 .pairs), (record { row = x .0; held = x .3; fit = x .6 }, record { row = x .1; held = x .4; fit = x .7 }))
 
 satisfies-for-requires : tie.Need-satisfies-for-requires
@@ -63,8 +64,8 @@ satisfies-for-requires c κs =
     let p = c .before .before .before .before .before .before .before .before .before .before .before .before .pre in
     let a = c .before .before .before .before .before .before .before .before .before .before .before .before .args in
     let y = p .1 .0 .1 in
-    let k = third 15 (a .o .kind) (y .from) (y .below) (c .before .before .before .if1 .left) (c .before .if2 .left) in
-    let x = satisfied-asks _ _ _ _ (a .o) 15 18 k y in (
+    let k = third 15 16 17 (a .o .kind) (y .among) (c .before .before .before .if1 .left) (c .before .if2 .left) in
+    let x = satisfied-asks _ _ _ _ (a .o) _ k y in (
       (held-in _ _ _ _ (x .3), held-in _ _ _ _ (x .4), held-in _ _ _ _ (x .5), p .0 .pairs),
       ((record { row = x .0; held = x .3; fit = x .6 }, record { row = x .1; held = x .4; fit = x .7 }), (x .2, x .5)),
     )
@@ -87,7 +88,7 @@ returns-3 c =
     let p = c .before .before .before .before .before .before .before .before .before .before .before .before .before .before .before .before .before .before .before .pre in
     let a = c .before .before .before .before .before .before .before .before .before .before .before .before .before .before .before .before .before .before .before .args in
     let y = p .1 .0 .1 in
-    let k = third 15 (a .o .kind) (y .from) (y .below) (c .before .before .before .before .before .before .before .before .before .before .if1 .left) (c .before .before .before .before .before .before .before .before .if2 .left) in
+    let k = third 15 16 17 (a .o .kind) (y .among) (c .before .before .before .before .before .before .before .before .before .before .if1 .left) (c .before .before .before .before .before .before .before .before .if2 .left) in
     satisfied-replies (now (a .kinds)) (now (a .vals)) (now (a .s)) ws (a .o) k _ (λ ps qs t h i j f g.
     frame-as _ _ (two-bytes _ _ _ _ (c .before .before .before .before .bit2 .ensures ∙ ap bit (c .before .before .before .before .before .before .before .satisfies .ensures ps qs h i f g)) (c .before .before .before .bit3 .ensures ∙ ap bit (c .before .before .before .before .before .before .satisfies-for .ensures ps qs t h i j f g))) _ _ _ _ (c .before .before .told-twice .ensures))
 

@@ -5,7 +5,8 @@ use denote.Ref.{now}
 use lib.ListN.{length-take}
 use lib.Seq.{length-take-le}
 use Rattle.sheet.proofs.AnswerLaws.{held-in}
-use Rattle.sheet.proofs.GivenLaws.{other, associated-asks, associated-replies, rules-asks, rules-replies}
+use Rattle.sheet.proofs.TableLaws.{other}
+use Rattle.sheet.proofs.GivenLaws.{associated-asks, associated-replies, rules-asks, rules-replies}
 use borrow.Author.Needs.{needs}
 use Rattle.sheet.proofs.operations.reduce.Statement.{statement}
 use Rattle.sheet.proofs.operations.reduce.Tie as tie
@@ -15,7 +16,7 @@ associated-requires c κs =
     let p = c .before .before .before .before .before .before .before .before .before .before .before .before .before .before .pre in
     let a = c .before .before .before .before .before .before .before .before .before .before .before .before .before .before .args in
     let y = p .1 .0 .1 in
-    let f = associated-asks _ _ _ _ (a .o) 19 21 (c .before .before .before .if1 .taken) y in
+    let f = associated-asks _ _ _ _ (a .o) _ (c .before .before .before .if1 .taken) y in
     let x = f .3 in (
       p .0,
       (
@@ -44,24 +45,24 @@ mul-n c =
     let p = c .before .before .before .before .before .before .before .before .before .before .before .pre in
     let a = c .before .before .before .before .before .before .before .before .before .before .before .args in
     let y = p .1 .0 .1 in
-    let k = other 19 (a .o .kind) (y .from) (y .below) (c .if1 .left) in
-    omega (arith, rules-asks _ _ _ _ (a .o) 19 21 k y .3, p .1 .1 .0)
+    let k = other 19 20 (a .o .kind) (y .among) (c .if1 .left) in
+    omega (arith, rules-asks _ _ _ _ (a .o) _ k y .3, p .1 .1 .0)
 
 slice-aggregate-normalised : tie.Need-slice-aggregate-normalised
 slice-aggregate-normalised c =
     let p = c .before .before .before .before .before .before .before .before .before .before .before .before .before .before .pre in
     let a = c .before .before .before .before .before .before .before .before .before .before .before .before .before .before .args in
     let y = p .1 .0 .1 in
-    let k = other 19 (a .o .kind) (y .from) (y .below) (c .before .before .before .if1 .left) in
-    sym (length-take-le _ _ (rules-asks _ _ _ _ (a .o) 19 21 k y .3))
+    let k = other 19 20 (a .o .kind) (y .among) (c .before .before .before .if1 .left) in
+    sym (length-take-le _ _ (rules-asks _ _ _ _ (a .o) _ k y .3))
 
 normalised-requires : tie.Need-normalised-requires
 normalised-requires c κs =
     let p = c .before .before .before .before .before .before .before .before .before .before .before .before .before .before .before .pre in
     let a = c .before .before .before .before .before .before .before .before .before .before .before .before .before .before .before .args in
     let y = p .1 .0 .1 in
-    let k = other 19 (a .o .kind) (y .from) (y .below) (c .before .before .before .before .if1 .left) in
-    let f = rules-asks _ _ _ _ (a .o) 19 21 k y in
+    let k = other 19 20 (a .o .kind) (y .among) (c .before .before .before .before .if1 .left) in
+    let f = rules-asks _ _ _ _ (a .o) _ k y in
     let x = f .2 in
     (p .0, (held-in _ _ _ _ (x .term), (simp length-take (omega (arith, p .1 .1 .0)), (p .1 .1 .1, record { term = f .1; patterns = f .0; held = x .term; ruled = x .rules }))))
 
@@ -79,7 +80,7 @@ returns-2 c =
     let p = c .before .before .before .before .before .before .before .before .before .before .before .before .before .before .before .before .before .before .before .before .before .before .pre in
     let a = c .before .before .before .before .before .before .before .before .before .before .before .before .before .before .before .before .before .before .before .before .before .before .args in
     let y = p .1 .0 .1 in
-    let k = other 19 (a .o .kind) (y .from) (y .below) (c .before .before .before .before .before .before .before .before .before .before .before .if1 .left) in
+    let k = other 19 20 (a .o .kind) (y .among) (c .before .before .before .before .before .before .before .before .before .before .before .if1 .left) in
     let d = c .before .before .before .before .before .before .normalised .ensures in
     (d .0, λ s. rules-replies (now (a .kinds)) (now (a .vals)) s (now (a .rules)) (a .o) k _ (λ rs t x l. d .1 t rs x))
 

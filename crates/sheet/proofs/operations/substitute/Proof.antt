@@ -3,7 +3,8 @@ use mathlib.Core.Path.{ap}
 use denote.Ref.{now}
 use Rattle.solver.specs.TermTypes.{Binders}
 use Rattle.sheet.proofs.AnswerLaws.{held-in}
-use Rattle.sheet.proofs.GivenLaws.{third, binders-ready, ready-as, held-as, instance-asks, instance-replies, context-asks, context-replies, self-asks, self-replies}
+use Rattle.sheet.proofs.TableLaws.{third}
+use Rattle.sheet.proofs.GivenLaws.{binders-ready, ready-as, held-as, instance-asks, instance-replies, context-asks, context-replies, self-asks, self-replies}
 use borrow.Author.Needs.{needs}
 use Rattle.sheet.proofs.operations.substitute.Statement.{statement}
 use Rattle.sheet.proofs.operations.substitute.Tie as tie
@@ -17,7 +18,7 @@ rewritten-requires c κs =
     let a = c .before .before .before .before .before .before .before .before .before .before .before .args in
     let y = p .1 .0 .1 in
     let k = c .before .before .if1 .taken in
-    let x = instance-asks _ _ _ _ (a .o) 12 15 k y in
+    let x = instance-asks _ _ _ _ (a .o) _ k y in
     (p .0, (ready-as _ _ (now (a .s)) _ _ (c .before .instantiation .ensures) (binders-ready _ _ _ _ _ _ _ (x .3) (p .0 .pairs)), (held-in _ _ _ _ (x .4), p .1 .1)))
 
 same-length : tie.Need-same-length
@@ -42,7 +43,7 @@ rewritten-requires-2 c κs =
     let a = c .before .before .before .before .before .before .before .before .before .before .before .before .before .before .args in
     let y = p .1 .0 .1 in
     let k = c .before .before .before .if2 .taken in
-    let x = context-asks _ _ _ _ (a .o) 12 15 k y in
+    let x = context-asks _ _ _ _ (a .o) _ k y in
     (p .0, (ready-as _ _ (now (a .s)) _ _ (c .before .context .ensures) (binders-ready _ _ _ _ _ _ _ (x .3) (p .0 .pairs)), (held-in _ _ _ _ (x .4), p .1 .1)))
 
 same-length-2 : tie.Need-same-length-2
@@ -66,8 +67,8 @@ rewritten-requires-3 c κs =
     let p = c .before .before .before .before .before .before .before .before .before .before .before .before .before .pre in
     let a = c .before .before .before .before .before .before .before .before .before .before .before .before .before .args in
     let y = p .1 .0 .1 in
-    let k = third 12 (a .o .kind) (y .from) (y .below) (c .before .before .before .before .if1 .left) (c .before .before .if2 .left) in
-    let x = self-asks _ _ _ _ (a .o) 12 15 k y in
+    let k = third 12 13 14 (a .o .kind) (y .among) (c .before .before .before .before .if1 .left) (c .before .before .if2 .left) in
+    let x = self-asks _ _ _ _ (a .o) _ k y in
     (p .0, (ready-as _ _ (now (a .s)) _ _ (c .before .self-only .ensures) (binders-ready _ _ _ _ _ _ _ (x .2) (p .0 .pairs)), (held-in _ _ _ _ (x .3), p .1 .1)))
 
 same-length-3 : tie.Need-same-length-3
@@ -79,7 +80,7 @@ returns-3 c =
     let p = c .before .before .before .before .before .before .before .before .before .before .before .before .before .before .before .before .pre in
     let a = c .before .before .before .before .before .before .before .before .before .before .before .before .before .before .before .before .args in
     let y = p .1 .0 .1 in
-    let k = third 12 (a .o .kind) (y .from) (y .below) (c .before .before .before .before .before .before .before .if1 .left) (c .before .before .before .before .before .if2 .left) in
+    let k = third 12 13 14 (a .o .kind) (y .among) (c .before .before .before .before .before .before .before .if1 .left) (c .before .before .before .before .before .if2 .left) in
     let e = c .before .before .before .before .self-only .ensures in
     self-replies (now (a .kinds)) (now (a .vals)) (now (a .s)) ws (a .o) k _ (λ r t g h f. c .before .before .rewritten3 .ensures .with-self t (r .owner) (r .term) f h (held-as _ _ _ _ _ e _ _ _ g) (ap (λ (b : Binders). b .context) e))
 

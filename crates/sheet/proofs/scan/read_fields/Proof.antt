@@ -8,7 +8,7 @@ use Rattle.solver.specs.Terms.Tokens.{Area, area}
 use Rattle.solver.specs.Terms.Lent.{place}
 use Rattle.solver.proofs.Terms.Shortest.{octets}
 use Rattle.sheet.specs.Fields.{fields}
-use Rattle.sheet.specs.Laid.{sortsAt, knownAt}
+use Rattle.sheet.specs.Laid.{sortsAt, knownFor}
 use Rattle.sheet.proofs.StoredLaws.{stored-kinds, stored-vals}
 use Rattle.sheet.proofs.ThroughLaws.{Through, through-index, through-more, through-stop, through-all, through-undo}
 use Rattle.sheet.proofs.PartLaws.{unreads}
@@ -18,29 +18,26 @@ use Rattle.sheet.proofs.scan.read_fields.Statement.{statement}
 use Rattle.sheet.proofs.scan.read_fields.Tie as tie
 
 abbrev Inv-loop : tie.InvT-loop
-Inv-loop s kinds₀ vals₀ rules₀ kind issued first kept limit known at₀ top₀ nodes₀ rest₀ i₀ o₀ kinds vals rules at top nodes rest i o =
+Inv-loop s kinds₀ vals₀ rules₀ kind sorts issued first kept limit known at₀ top₀ nodes₀ rest₀ i₀ o₀ kinds vals rules at top nodes rest i o =
     Through s rules known (sortsAt kind) (place 1 first kept limit) (area kinds₀ vals₀) (area kinds vals) rest i o (place at top nodes limit) × (length rules ≡ length rules₀)
 
 abbrev μ-loop : tie.MeasureT-loop
-μ-loop s kinds₀ vals₀ rules₀ kind issued first kept limit known at₀ top₀ nodes₀ rest₀ i₀ o₀ kinds vals rules at top nodes rest i o = rest
+μ-loop s kinds₀ vals₀ rules₀ kind sorts issued first kept limit known at₀ top₀ nodes₀ rest₀ i₀ o₀ kinds vals rules at top nodes rest i o = rest
 
 known-of-requires : tie.Need-known-of-requires Inv-loop μ-loop
-known-of-requires c κs = c .before .before .before .before .pre .1 .1 .1
-
-sorts-of-requires : tie.Need-sorts-of-requires Inv-loop μ-loop
-sorts-of-requires c κs = c .before .before .before .before .before .pre .1 .1 .1
+known-of-requires c κs = search needs
 
 no-fields-requires : tie.Need-no-fields-requires Inv-loop μ-loop
 no-fields-requires c κs = search needs
 
 loop-holds : tie.Need-loop-holds Inv-loop μ-loop
 loop-holds c =
-    let a = c .before .before .before .before .before .before .before .args in
+    let a = c .before .before .before .before .before .before .args in
     let s = now (a .s) in
     let p = place 1 (a .first) (a .kept) (a .limit) in
     let d = area (a .kinds .now) (a .vals .now) in
-    let room = c .before .before .before .before .before .before .before .pre .0 in
-    (order-start s (a .rules .now) (c .before .before .known-of .result) (a .kind) p d _ (c .before .sorts-of .ensures) (room .free) (ample-start s (a .kinds .now) (a .vals .now) (a .rules .now) (a .first) (a .kept) (a .limit) room (c .before .before .before .before .before .before .before .pre .1 .0)) (c .no-fields .result) (c .no-fields .ensures), refl)
+    let room = c .before .before .before .before .before .before .pre .0 in
+    (order-start s (a .rules .now) (c .before .known-of .result) (a .kind) (a .class) (a .sorts) (c .before .before .before .before .before .before .pre .1 .1 .1) p d (room .free) (ample-start s (a .kinds .now) (a .vals .now) (a .rules .now) (a .first) (a .kept) (a .limit) room (c .before .before .before .before .before .before .pre .1 .0)) (c .no-fields .result) (c .no-fields .ensures), refl)
 
 cast-read-field : tie.Need-cast-read-field Inv-loop μ-loop
 cast-read-field c = omega arith
@@ -53,20 +50,20 @@ read-field-requires c κs =
 undone-requires : tie.Need-undone-requires Inv-loop μ-loop
 undone-requires c κs = omega (arith, c .before .before .before .before .before .before .before .before .before .before .before .before .before .before .before .before .before .before .before .before .loop .inv .0 .stored .tokens)
 
-cleared : (c : tie.After-slice-known8 Inv-loop μ-loop) → area (c .before .before .before .before .undone .last .0) (c .before .before .before .before .undone .last .1 .0) ≡ area (c .before .before .before .before .before .before .before .before .before .before .before .before .before .before .before .before .before .before .before .before .before .before .before .before .before .before .before .before .before .before .before .before .before .args .kinds .now) (c .before .before .before .before .before .before .before .before .before .before .before .before .before .before .before .before .before .before .before .before .before .before .before .before .before .before .before .before .before .before .before .before .before .args .vals .now)
+cleared : (c : tie.After-slice-known8 Inv-loop μ-loop) → area (c .before .before .before .before .undone .last .0) (c .before .before .before .before .undone .last .1 .0) ≡ area (c .before .before .before .before .before .before .before .before .before .before .before .before .before .before .before .before .before .before .before .before .before .before .before .before .before .before .before .before .before .before .before .before .args .kinds .now) (c .before .before .before .before .before .before .before .before .before .before .before .before .before .before .before .before .before .before .before .before .before .before .before .before .before .before .before .before .before .before .before .before .args .vals .now)
 cleared c =
-    let a = c .before .before .before .before .before .before .before .before .before .before .before .before .before .before .before .before .before .before .before .before .before .before .before .before .before .before .before .before .before .before .before .before .before .args in
+    let a = c .before .before .before .before .before .before .before .before .before .before .before .before .before .before .before .before .before .before .before .before .before .before .before .before .before .before .before .before .before .before .before .before .args in
     let s = now (a .s) in
     let p = place 1 (a .first) (a .kept) (a .limit) in
     let d = area (a .kinds .now) (a .vals .now) in
-    let n = c .before .before .before .before .before .before .before .before .before .before .before .before .before .before .before .before .before .before .before .before .before .before .before .before .before .before .before .before .known-of .result in
+    let n = c .before .before .before .before .before .before .before .before .before .before .before .before .before .before .before .before .before .before .before .before .before .before .before .before .before .before .before .known-of .result in
     let l = c .before .before .before .before .before .before .before .before .before .before .before .before .before .before .before .before .before .before .before .before .before .before .before .before .before .loop in
     let q = place (l .at) (l .top) (l .nodes) (a .limit) in
     let e = area (l .kinds) (l .vals) in
     let m = c .before .before .before .before .before .before .before .before .before .before .before .before .before .before .read-field in
     let g = area (m .last .1 .0) (m .last .1 .1 .0) in
     let y = rw (unreads (m .result) (m .last .1 .1 .1 .1 .1 .1 .1 .1 .0) (m .last .1 .1 .1 .1 .1 .1 .1 .1 .1 .0) (m .last .1 .1 .1 .1 .1 .1 .1 .1 .1 .1 .0) (m .last .1 .1 .1 .1 .0) (m .last .1 .1 .1 .1 .1 .0) (m .last .1 .1 .1 .1 .1 .1 .0) (a .limit) (c .before .before .before .before .before .before .before .if1 .taken)) at (m .ensures .0) in
-    through-undo s (l .rules) n (sortsAt (a .kind)) p d e (l .rest) (l .i) (l .o) q (l .inv .0) g _ _ (c .before .before .before .before .before .before .before .before .before .before .before .before .before .before .before .before .before .before .before .before .before .before .before .before .before .before .before .before .before .before .before .before .before .pre .0 .free) (y .1) refl (c .before .before .before .before .undone .ensures .1)
+    through-undo s (l .rules) n (sortsAt (a .kind)) p d e (l .rest) (l .i) (l .o) q (l .inv .0) g _ _ (c .before .before .before .before .before .before .before .before .before .before .before .before .before .before .before .before .before .before .before .before .before .before .before .before .before .before .before .before .before .before .before .before .pre .0 .free) (y .1) refl (c .before .before .before .before .undone .ensures .1)
 
 same-length : tie.Need-same-length Inv-loop μ-loop
 same-length c = ap (λ (z : Area). length (z .kinds)) (cleared c)
@@ -79,12 +76,12 @@ same-length-3 c = omega (arith, c .before .before .before .before .before .befor
 
 returns : tie.Need-returns Inv-loop μ-loop
 returns c =
-    let a = c .before .before .before .before .before .before .before .before .before .before .before .before .before .before .before .before .before .before .before .before .before .before .before .before .before .before .before .before .before .before .before .before .before .args in
+    let a = c .before .before .before .before .before .before .before .before .before .before .before .before .before .before .before .before .before .before .before .before .before .before .before .before .before .before .before .before .before .before .before .before .args in
     let s = now (a .s) in
     let p = place 1 (a .first) (a .kept) (a .limit) in
     let d = area (a .kinds .now) (a .vals .now) in
-    let oct = octets s (λ i. omega (arith, c .before .before .before .before .before .before .before .before .before .before .before .before .before .before .before .before .before .before .before .before .before .before .before .before .before .before .before .before .before .before .before .before .shared-slice-known .given i)) in
-    let n = c .before .before .before .before .before .before .before .before .before .before .before .before .before .before .before .before .before .before .before .before .before .before .before .before .before .before .before .before .known-of .result in
+    let oct = octets s (λ i. omega (arith, c .before .before .before .before .before .before .before .before .before .before .before .before .before .before .before .before .before .before .before .before .before .before .before .before .before .before .before .before .before .before .before .shared-slice-known .given i)) in
+    let n = c .before .before .before .before .before .before .before .before .before .before .before .before .before .before .before .before .before .before .before .before .before .before .before .before .before .before .before .known-of .result in
     let l = c .before .before .before .before .before .before .before .before .before .before .before .before .before .before .before .before .before .before .before .before .before .before .before .before .before .loop in
     let q = place (l .at) (l .top) (l .nodes) (a .limit) in
     let e = area (l .kinds) (l .vals) in
@@ -92,19 +89,19 @@ returns c =
     let g = area (m .last .1 .0) (m .last .1 .1 .0) in
     let y = rw (unreads (m .result) (m .last .1 .1 .1 .1 .1 .1 .1 .1 .0) (m .last .1 .1 .1 .1 .1 .1 .1 .1 .1 .0) (m .last .1 .1 .1 .1 .1 .1 .1 .1 .1 .1 .0) (m .last .1 .1 .1 .1 .0) (m .last .1 .1 .1 .1 .1 .0) (m .last .1 .1 .1 .1 .1 .1 .0) (a .limit) (c .before .before .before .before .before .before .before .if1 .taken)) at (m .ensures .0) in
     let no = through-stop s oct (l .rules) (m .last .1 .1 .1 .0) n (sortsAt (a .kind)) p d e (l .rest) (l .i) (l .o) q (l .inv .0) (c .before .before .before .before .before .before .before .before .before .before .before .before .before .before .before .before .before .before .before .before .before .before .before .before .loop-test .taken) _ g y in
-    rw (c .before .before .before .before .undone .ensures .0) (order-refused s (a .issued) (c .before .before .before .before .before .before .before .before .before .before .before .before .before .before .before .before .before .before .before .before .before .before .before .before .before .before .before .before .before .before .before .before .before .pre .1 .0) (a .kind) (c .before .before .before .before .before .before .before .before .before .before .before .before .before .before .before .before .before .before .before .before .before .before .before .before .before .before .before .before .before .before .before .before .before .pre .1 .1 .0) (c .before .before .before .before .before .before .before .before .before .before .before .before .before .before .before .before .before .before .before .before .before .before .before .before .before .before .before .before .before .before .before .before .before .pre .1 .1 .1) _ (ap (λ (k : ℕ). fields s k (sortsAt (a .kind)) 1) (sym (c .before .before .before .before .before .before .before .before .before .before .before .before .before .before .before .before .before .before .before .before .before .before .before .before .before .before .before .before .known-of .ensures)) ∙ no), cleared c)
+    rw (c .before .before .before .before .undone .ensures .0) (order-refused s (a .issued) (c .before .before .before .before .before .before .before .before .before .before .before .before .before .before .before .before .before .before .before .before .before .before .before .before .before .before .before .before .before .before .before .before .pre .1 .0) (a .kind) (c .before .before .before .before .before .before .before .before .before .before .before .before .before .before .before .before .before .before .before .before .before .before .before .before .before .before .before .before .before .before .before .before .pre .1 .1 .0) (a .class) (a .sorts) (c .before .before .before .before .before .before .before .before .before .before .before .before .before .before .before .before .before .before .before .before .before .before .before .before .before .before .before .before .before .before .before .before .pre .1 .1 .1) _ (ap (λ (k : ℕ). fields s k (sortsAt (a .kind)) 1) (sym (c .before .before .before .before .before .before .before .before .before .before .before .before .before .before .before .before .before .before .before .before .before .before .before .before .before .before .before .known-of .ensures)) ∙ no), cleared c)
 
 put-spot-requires : tie.Need-put-spot-requires Inv-loop μ-loop
 put-spot-requires c κs = search needs
 
 add-i : tie.Need-add-i Inv-loop μ-loop
 add-i c =
-    let a = c .before .before .before .before .before .before .before .before .before .before .before .before .before .before .before .before .before .before .before .before .before .before .before .before .before .before .before .args in
+    let a = c .before .before .before .before .before .before .before .before .before .before .before .before .before .before .before .before .before .before .before .before .before .before .before .before .before .before .args in
     let s = now (a .s) in
     let p = place 1 (a .first) (a .kept) (a .limit) in
     let d = area (a .kinds .now) (a .vals .now) in
-    let oct = octets s (λ i. omega (arith, c .before .before .before .before .before .before .before .before .before .before .before .before .before .before .before .before .before .before .before .before .before .before .before .before .before .before .shared-slice-known .given i)) in
-    let n = c .before .before .before .before .before .before .before .before .before .before .before .before .before .before .before .before .before .before .before .before .before .before .known-of .result in
+    let oct = octets s (λ i. omega (arith, c .before .before .before .before .before .before .before .before .before .before .before .before .before .before .before .before .before .before .before .before .before .before .before .before .before .shared-slice-known .given i)) in
+    let n = c .before .before .before .before .before .before .before .before .before .before .before .before .before .before .before .before .before .before .before .before .before .known-of .result in
     let l = c .before .before .before .before .before .before .before .before .before .before .before .before .before .before .before .before .before .before .before .loop in
     let q = place (l .at) (l .top) (l .nodes) (a .limit) in
     let e = area (l .kinds) (l .vals) in
@@ -115,12 +112,12 @@ loop-less c = omega (arith, c .before .before .before .before .before .before .b
 
 loop-again : tie.Need-loop-again Inv-loop μ-loop
 loop-again c =
-    let a = c .before .before .before .before .before .before .before .before .before .before .before .before .before .before .before .before .before .before .before .before .before .before .before .before .before .before .before .args in
+    let a = c .before .before .before .before .before .before .before .before .before .before .before .before .before .before .before .before .before .before .before .before .before .before .before .before .before .before .args in
     let s = now (a .s) in
     let p = place 1 (a .first) (a .kept) (a .limit) in
     let d = area (a .kinds .now) (a .vals .now) in
-    let oct = octets s (λ i. omega (arith, c .before .before .before .before .before .before .before .before .before .before .before .before .before .before .before .before .before .before .before .before .before .before .before .before .before .before .shared-slice-known .given i)) in
-    let n = c .before .before .before .before .before .before .before .before .before .before .before .before .before .before .before .before .before .before .before .before .before .before .known-of .result in
+    let oct = octets s (λ i. omega (arith, c .before .before .before .before .before .before .before .before .before .before .before .before .before .before .before .before .before .before .before .before .before .before .before .before .before .shared-slice-known .given i)) in
+    let n = c .before .before .before .before .before .before .before .before .before .before .before .before .before .before .before .before .before .before .before .before .before .known-of .result in
     let l = c .before .before .before .before .before .before .before .before .before .before .before .before .before .before .before .before .before .before .before .loop in
     let q = place (l .at) (l .top) (l .nodes) (a .limit) in
     let e = area (l .kinds) (l .vals) in
@@ -131,17 +128,17 @@ loop-again c =
 undone-requires-2 : tie.Need-undone-requires-2 Inv-loop μ-loop
 undone-requires-2 c κs = omega (arith, c .before .before .before .before .loop .inv .0 .stored .tokens)
 
-cleared-2 : (c : tie.After-slice-known10 Inv-loop μ-loop) → area (c .before .before .before .before .undone2 .last .0) (c .before .before .before .before .undone2 .last .1 .0) ≡ area (c .before .before .before .before .before .before .before .before .before .before .before .before .before .before .before .before .before .args .kinds .now) (c .before .before .before .before .before .before .before .before .before .before .before .before .before .before .before .before .before .args .vals .now)
+cleared-2 : (c : tie.After-slice-known10 Inv-loop μ-loop) → area (c .before .before .before .before .undone2 .last .0) (c .before .before .before .before .undone2 .last .1 .0) ≡ area (c .before .before .before .before .before .before .before .before .before .before .before .before .before .before .before .before .args .kinds .now) (c .before .before .before .before .before .before .before .before .before .before .before .before .before .before .before .before .args .vals .now)
 cleared-2 c =
-    let a = c .before .before .before .before .before .before .before .before .before .before .before .before .before .before .before .before .before .args in
+    let a = c .before .before .before .before .before .before .before .before .before .before .before .before .before .before .before .before .args in
     let s = now (a .s) in
     let p = place 1 (a .first) (a .kept) (a .limit) in
     let d = area (a .kinds .now) (a .vals .now) in
-    let n = c .before .before .before .before .before .before .before .before .before .before .before .before .known-of .result in
+    let n = c .before .before .before .before .before .before .before .before .before .before .before .known-of .result in
     let l = c .before .before .before .before .before .before .before .before .before .loop in
     let q = place (l .at) (l .top) (l .nodes) (a .limit) in
     let e = area (l .kinds) (l .vals) in
-    through-undo s (l .rules) n (sortsAt (a .kind)) p d e (l .rest) (l .i) (l .o) q (l .inv .0) e _ _ (c .before .before .before .before .before .before .before .before .before .before .before .before .before .before .before .before .before .pre .0 .free) refl refl (c .before .before .before .before .undone2 .ensures .1)
+    through-undo s (l .rules) n (sortsAt (a .kind)) p d e (l .rest) (l .i) (l .o) q (l .inv .0) e _ _ (c .before .before .before .before .before .before .before .before .before .before .before .before .before .before .before .before .pre .0 .free) refl refl (c .before .before .before .before .undone2 .ensures .1)
 
 same-length-4 : tie.Need-same-length-4 Inv-loop μ-loop
 same-length-4 c = ap (λ (z : Area). length (z .kinds)) (cleared-2 c)
@@ -154,27 +151,27 @@ same-length-6 c = c .before .before .before .before .before .before .before .bef
 
 returns-2 : tie.Need-returns-2 Inv-loop μ-loop
 returns-2 c =
-    let a = c .before .before .before .before .before .before .before .before .before .before .before .before .before .before .before .before .before .args in
+    let a = c .before .before .before .before .before .before .before .before .before .before .before .before .before .before .before .before .args in
     let s = now (a .s) in
     let p = place 1 (a .first) (a .kept) (a .limit) in
     let d = area (a .kinds .now) (a .vals .now) in
-    let n = c .before .before .before .before .before .before .before .before .before .before .before .before .known-of .result in
+    let n = c .before .before .before .before .before .before .before .before .before .before .before .known-of .result in
     let l = c .before .before .before .before .before .before .before .before .before .loop in
     let q = place (l .at) (l .top) (l .nodes) (a .limit) in
     let e = area (l .kinds) (l .vals) in
-    let h = here-as s (l .rules) n (knownAt (a .kind) (a .issued)) (sortsAt (a .kind)) 1 p d e (l .o) q (c .before .before .before .before .before .before .before .before .before .before .before .before .known-of .ensures) (through-all s (l .rules) n (sortsAt (a .kind)) p d e (l .rest) (l .i) (l .o) q (l .inv .0) (c .before .before .before .before .before .before .before .before .loop-test .left)) in
-    rw (c .before .before .before .before .undone2 .ensures .0) (order-longer s (a .issued) (c .before .before .before .before .before .before .before .before .before .before .before .before .before .before .before .before .before .pre .1 .0) (a .kind) (c .before .before .before .before .before .before .before .before .before .before .before .before .before .before .before .before .before .pre .1 .1 .0) (c .before .before .before .before .before .before .before .before .before .before .before .before .before .before .before .before .before .pre .1 .1 .1) (h .read) (l .at) (h .is) (c .before .before .before .before .before .before .before .if2 .taken), cleared-2 c)
+    let h = here-as s (l .rules) n (knownFor (a .class) (a .issued)) (sortsAt (a .kind)) 1 p d e (l .o) q (c .before .before .before .before .before .before .before .before .before .before .before .known-of .ensures) (through-all s (l .rules) n (sortsAt (a .kind)) p d e (l .rest) (l .i) (l .o) q (l .inv .0) (c .before .before .before .before .before .before .before .before .loop-test .left)) in
+    rw (c .before .before .before .before .undone2 .ensures .0) (order-longer s (a .issued) (c .before .before .before .before .before .before .before .before .before .before .before .before .before .before .before .before .pre .1 .0) (a .kind) (c .before .before .before .before .before .before .before .before .before .before .before .before .before .before .before .before .pre .1 .1 .0) (a .class) (a .sorts) (c .before .before .before .before .before .before .before .before .before .before .before .before .before .before .before .before .pre .1 .1 .1) (h .read) (l .at) (h .is) (c .before .before .before .before .before .before .before .if2 .taken), cleared-2 c)
 
 finished-requires : tie.Need-finished-requires Inv-loop μ-loop
 finished-requires c κs = search needs
 
 same-length-7 : tie.Need-same-length-7 Inv-loop μ-loop
 same-length-7 c =
-    let a = c .before .before .before .before .before .before .before .before .before .before .before .args in
+    let a = c .before .before .before .before .before .before .before .before .before .before .args in
     let s = now (a .s) in
     let p = place 1 (a .first) (a .kept) (a .limit) in
     let d = area (a .kinds .now) (a .vals .now) in
-    let n = c .before .before .before .before .before .before .known-of .result in
+    let n = c .before .before .before .before .before .known-of .result in
     let l = c .before .before .before .loop in
     let q = place (l .at) (l .top) (l .nodes) (a .limit) in
     let e = area (l .kinds) (l .vals) in
@@ -182,11 +179,11 @@ same-length-7 c =
 
 same-length-8 : tie.Need-same-length-8 Inv-loop μ-loop
 same-length-8 c =
-    let a = c .before .before .before .before .before .before .before .before .before .before .before .args in
+    let a = c .before .before .before .before .before .before .before .before .before .before .args in
     let s = now (a .s) in
     let p = place 1 (a .first) (a .kept) (a .limit) in
     let d = area (a .kinds .now) (a .vals .now) in
-    let n = c .before .before .before .before .before .before .known-of .result in
+    let n = c .before .before .before .before .before .known-of .result in
     let l = c .before .before .before .loop in
     let q = place (l .at) (l .top) (l .nodes) (a .limit) in
     let e = area (l .kinds) (l .vals) in
@@ -197,17 +194,17 @@ same-length-9 c = c .before .before .before .loop .inv .1
 
 returns-3 : tie.Need-returns-3 Inv-loop μ-loop
 returns-3 c =
-    let a = c .before .before .before .before .before .before .before .before .before .before .before .args in
+    let a = c .before .before .before .before .before .before .before .before .before .before .args in
     let s = now (a .s) in
     let p = place 1 (a .first) (a .kept) (a .limit) in
     let d = area (a .kinds .now) (a .vals .now) in
-    let oct = octets s (λ i. omega (arith, c .before .before .before .before .before .before .before .before .before .before .shared-slice-known .given i)) in
-    let n = c .before .before .before .before .before .before .known-of .result in
+    let oct = octets s (λ i. omega (arith, c .before .before .before .before .before .before .before .before .before .shared-slice-known .given i)) in
+    let n = c .before .before .before .before .before .known-of .result in
     let l = c .before .before .before .loop in
     let q = place (l .at) (l .top) (l .nodes) (a .limit) in
     let e = area (l .kinds) (l .vals) in
-    let h = here-as s (l .rules) n (knownAt (a .kind) (a .issued)) (sortsAt (a .kind)) 1 p d e (l .o) q (c .before .before .before .before .before .before .known-of .ensures) (through-all s (l .rules) n (sortsAt (a .kind)) p d e (l .rest) (l .i) (l .o) q (l .inv .0) (c .before .before .loop-test .left)) in
-    rw (c .finished .ensures) (order-done s (a .issued) (c .before .before .before .before .before .before .before .before .before .before .before .pre .1 .0) (a .kind) (c .before .before .before .before .before .before .before .before .before .before .before .pre .1 .1 .0) (c .before .before .before .before .before .before .before .before .before .before .before .pre .1 .1 .1) oct (a .rules .now) (l .rules) (a .first) (a .kept) (a .limit) d e (c .before .before .before .before .before .before .before .before .before .before .before .pre .0) (l .inv .1) (l .o) q h (c .before .if2 .left))
+    let h = here-as s (l .rules) n (knownFor (a .class) (a .issued)) (sortsAt (a .kind)) 1 p d e (l .o) q (c .before .before .before .before .before .known-of .ensures) (through-all s (l .rules) n (sortsAt (a .kind)) p d e (l .rest) (l .i) (l .o) q (l .inv .0) (c .before .before .loop-test .left)) in
+    rw (c .finished .ensures) (order-done s (a .issued) (c .before .before .before .before .before .before .before .before .before .before .pre .1 .0) (a .kind) (c .before .before .before .before .before .before .before .before .before .before .pre .1 .1 .0) (a .class) (a .sorts) (c .before .before .before .before .before .before .before .before .before .before .pre .1 .1 .1) oct (a .rules .now) (l .rules) (a .first) (a .kept) (a .limit) d e (c .before .before .before .before .before .before .before .before .before .before .pre .0) (l .inv .1) (l .o) q h (c .before .if2 .left))
 
 pub read-fields-spec : {M : Type 1} → statement M
 read-fields-spec =
@@ -216,7 +213,6 @@ read-fields-spec =
     Inv-loop
     μ-loop
     known-of-requires
-    sorts-of-requires
     no-fields-requires
     loop-holds
     cast-read-field

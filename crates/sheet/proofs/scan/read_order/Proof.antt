@@ -1,6 +1,6 @@
--- `read_order`: by the kind. Assumes nothing.
+-- `read_order`: by the row of its kind. Assumes nothing.
 use denote.Ref.{now}
-use mathlib.Core.Path.{refl}
+use mathlib.Core.Path.{refl, sym}
 use native.Mathlib.Omega.{arith}
 use Rattle.sheet.proofs.OrderLaws.{order-empty, order-unlisted}
 use borrow.Author.Needs.{needs}
@@ -15,13 +15,23 @@ returns c =
 shared-slice-read-kind : tie.Need-shared-slice-read-kind
 shared-slice-read-kind c = search needs
 
+row-of-requires : tie.Need-row-of-requires
+row-of-requires c κs = search needs
+
+enum-known-class : tie.Need-enum-known-class
+enum-known-class c = search needs
+
+enum-told : tie.Need-enum-told
+enum-told c = search needs
+
 returns-2 : tie.Need-returns-2
 returns-2 c =
-    let a = c .before .before .before .before .before .before .before .args in
-    (order-unlisted (now (a .s)) (a .issued) (omega (arith, c .before .before .if1 .left)) (omega (arith, c .if2 .taken)), refl)
+    let a = c .before .before .before .before .before .before .before .before .before .args in
+    (order-unlisted (now (a .s)) (a .issued) (omega (arith, c .before .before .before .before .if1 .left)) (sym (rw (c .enum-told .given .1) at (c .before .before .row-of .ensures))), refl)
 
 read-fields-requires : tie.Need-read-fields-requires
-read-fields-requires c κs = (c .before .before .before .before .before .before .before .before .before .before .pre, (omega (arith, c .before .before .before .before .before .if1 .left), (refl, omega (arith, c .before .before .before .if2 .left))))
+read-fields-requires c κs =
+    (c .before .before .before .before .before .before .before .before .before .before .before .before .before .pre, (omega (arith, c .before .before .before .before .before .before .before .before .if1 .left), (refl, sym (rw (c .before .before .before .before .class .given .1) at (c .before .before .before .before .before .before .row-of .ensures)))))
 
 same-length : tie.Need-same-length
 same-length c = search needs
@@ -33,7 +43,7 @@ same-length-3 : tie.Need-same-length-3
 same-length-3 c = search needs
 
 returns-3 : tie.Need-returns-3
-returns-3 c = c .before .before .before .before .before .before .read-fields .ensures
+returns-3 c = search needs
 
 pub read-order-spec : {M : Type 1} → statement M
 read-order-spec =
@@ -41,6 +51,9 @@ read-order-spec =
     (tie.spec
     returns
     shared-slice-read-kind
+    row-of-requires
+    enum-known-class
+    enum-told
     returns-2
     read-fields-requires
     same-length

@@ -1,15 +1,18 @@
 -- `answer_order`: by the kind. Assumes nothing.
-use native.Mathlib.Omega.{arith}
+use mathlib.Core.Path.{sym, _∙_}
 use denote.Ref.{now}
 use borrow.Author.Needs.{needs}
 use Rattle.sheet.proofs.serving.answer_order.Statement.{statement}
 use Rattle.sheet.proofs.serving.answer_order.Tie as tie
 
+is-operation-requires : tie.Need-is-operation-requires
+is-operation-requires c κs = search needs
+
 operate-order-requires : tie.Need-operate-order-requires
 operate-order-requires c κs =
-    let a = c .before .before .before .before .before .before .before .before .before .before .before .before .before .args in
-    let p = c .before .before .before .before .before .before .before .before .before .before .before .before .before .pre in
-    (p .0, (c .before .before .before .before .before .if1 .taken, (p .1 .0, p .1 .1)))
+    let a = c .before .before .before .before .before .before .before .before .before .before .before .before .before .before .args in
+    let p = c .before .before .before .before .before .before .before .before .before .before .before .before .before .before .pre in
+    (p .0, (sym (c .before .before .before .before .before .if1 .taken) ∙ c .before .before .before .before .before .before .is-operation .ensures, (p .1 .0, p .1 .1)))
 
 same-length : tie.Need-same-length
 same-length c = search needs
@@ -32,8 +35,8 @@ returns c =
 
 defer-order-requires : tie.Need-defer-order-requires
 defer-order-requires c κs =
-    let a = c .before .before .before .before .before .before .before .before .before .before .before .before .before .args in
-    let p = c .before .before .before .before .before .before .before .before .before .before .before .before .before .pre in
+    let a = c .before .before .before .before .before .before .before .before .before .before .before .before .before .before .args in
+    let p = c .before .before .before .before .before .before .before .before .before .before .before .before .before .before .pre in
     ((now (a .s), p .0 .0, p .0 .1, now (a .d), now (a .rules), p .0 .2), (c .before .before .before .before .if2 .taken, p .1 .1))
 
 same-length-6 : tie.Need-same-length-6
@@ -50,14 +53,14 @@ same-length-9 c = search needs
 
 returns-2 : tie.Need-returns-2
 returns-2 c =
-    let a = c .before .before .before .before .before .before .before .before .before .before .before .before .before .before .before .before .before .before .before .before .before .before .args in
-    let p = c .before .before .before .before .before .before .before .before .before .before .before .before .before .before .before .before .before .before .before .before .before .before .pre in
+    let a = c .before .before .before .before .before .before .before .before .before .before .before .before .before .before .before .before .before .before .before .before .before .before .before .args in
+    let p = c .before .before .before .before .before .before .before .before .before .before .before .before .before .before .before .before .before .before .before .before .before .before .before .pre in
     λ a₀ b₀ T. c .before .before .before .before .before .before .before .before .defer-order .ensures (now (a .s)) a₀ b₀ (now (a .d)) (now (a .rules)) T
 
 pair-order-requires : tie.Need-pair-order-requires
 pair-order-requires c κs =
-    let a = c .before .before .before .before .before .before .before .before .before .before .before .before .before .before .before .args in
-    let p = c .before .before .before .before .before .before .before .before .before .before .before .before .before .before .before .pre in
+    let a = c .before .before .before .before .before .before .before .before .before .before .before .before .before .before .before .before .args in
+    let p = c .before .before .before .before .before .before .before .before .before .before .before .before .before .before .before .before .pre in
     ((now (a .s), p .0 .0, p .0 .1, now (a .rules), p .0 .2), (c .before .before .before .before .before .if3 .taken, p .1 .1))
 
 same-length-10 : tie.Need-same-length-10
@@ -77,14 +80,14 @@ same-length-14 c = search needs
 
 returns-3 : tie.Need-returns-3
 returns-3 c =
-    let a = c .before .before .before .before .before .before .before .before .before .before .before .before .before .before .before .before .before .before .before .before .before .before .before .before .before .before .args in
-    let p = c .before .before .before .before .before .before .before .before .before .before .before .before .before .before .before .before .before .before .before .before .before .before .before .before .before .before .pre in
+    let a = c .before .before .before .before .before .before .before .before .before .before .before .before .before .before .before .before .before .before .before .before .before .before .before .before .before .before .before .args in
+    let p = c .before .before .before .before .before .before .before .before .before .before .before .before .before .before .before .before .before .before .before .before .before .before .before .before .before .before .before .pre in
     λ a₀ b₀ T. c .before .before .before .before .before .before .before .before .before .before .pair-order .ensures (now (a .s)) a₀ b₀ (now (a .rules)) T
 
 resolve-order-requires : tie.Need-resolve-order-requires
 resolve-order-requires c κs =
-    let a = c .before .before .before .before .before .before .before .before .before .before .before .before .before .before .before .before .args in
-    let p = c .before .before .before .before .before .before .before .before .before .before .before .before .before .before .before .before .pre in
+    let a = c .before .before .before .before .before .before .before .before .before .before .before .before .before .before .before .before .before .args in
+    let p = c .before .before .before .before .before .before .before .before .before .before .before .before .before .before .before .before .before .pre in
     ((now (a .s), p .0 .0, p .0 .1, now (a .rules), p .0 .2), (c .before .before .before .before .before .if4 .taken, p .1 .1))
 
 same-length-15 : tie.Need-same-length-15
@@ -104,15 +107,15 @@ same-length-19 c = search needs
 
 returns-4 : tie.Need-returns-4
 returns-4 c =
-    let a = c .before .before .before .before .before .before .before .before .before .before .before .before .before .before .before .before .before .before .before .before .before .before .before .before .before .args in
-    let p = c .before .before .before .before .before .before .before .before .before .before .before .before .before .before .before .before .before .before .before .before .before .before .before .before .before .pre in
+    let a = c .before .before .before .before .before .before .before .before .before .before .before .before .before .before .before .before .before .before .before .before .before .before .before .before .before .before .args in
+    let p = c .before .before .before .before .before .before .before .before .before .before .before .before .before .before .before .before .before .before .before .before .before .before .before .before .before .before .pre in
     λ a₀ b₀ T. c .before .before .before .before .before .before .before .before .resolve-order .ensures (now (a .s)) a₀ b₀ (now (a .rules)) T
 
 plain-order-requires : tie.Need-plain-order-requires
 plain-order-requires c κs =
-    let a = c .before .before .before .before .before .before .before .before .before .before .before .before .before .before .before .before .args in
-    let p = c .before .before .before .before .before .before .before .before .before .before .before .before .before .before .before .before .pre in
-    ((now (a .s), p .0 .0, p .0 .1, now (a .rules), p .0 .2), ((omega (arith, c .before .before .before .before .before .before .before .before .if1 .left), c .before .before .before .before .before .before .before .if2 .left, c .before .before .before .before .before .before .if3 .left, c .before .before .before .before .before .if4 .left), p .1 .1))
+    let a = c .before .before .before .before .before .before .before .before .before .before .before .before .before .before .before .before .before .args in
+    let p = c .before .before .before .before .before .before .before .before .before .before .before .before .before .before .before .before .before .pre in
+    ((now (a .s), p .0 .0, p .0 .1, now (a .rules), p .0 .2), ((sym (c .before .before .before .before .before .before .before .before .if1 .left) ∙ c .before .before .before .before .before .before .before .before .before .is-operation .ensures, c .before .before .before .before .before .before .before .if2 .left, c .before .before .before .before .before .before .if3 .left, c .before .before .before .before .before .if4 .left), p .1 .1))
 
 same-length-20 : tie.Need-same-length-20
 same-length-20 c = search needs
@@ -131,14 +134,15 @@ same-length-24 c = search needs
 
 returns-5 : tie.Need-returns-5
 returns-5 c =
-    let a = c .before .before .before .before .before .before .before .before .before .before .before .before .before .before .before .before .before .before .before .before .before .before .before .args in
-    let p = c .before .before .before .before .before .before .before .before .before .before .before .before .before .before .before .before .before .before .before .before .before .before .before .pre in
+    let a = c .before .before .before .before .before .before .before .before .before .before .before .before .before .before .before .before .before .before .before .before .before .before .before .before .args in
+    let p = c .before .before .before .before .before .before .before .before .before .before .before .before .before .before .before .before .before .before .before .before .before .before .before .before .pre in
     λ a₀ b₀ T. c .before .before .before .before .before .before .plain-order .ensures (now (a .s)) a₀ b₀ (now (a .rules)) T
 
 pub answer-order-spec : {M : Type 1} → statement M
 answer-order-spec =
     tie.close
     (tie.spec
+    is-operation-requires
     operate-order-requires
     same-length
     same-length-2

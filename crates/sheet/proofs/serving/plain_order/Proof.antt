@@ -2,7 +2,7 @@
 use native.Mathlib.Omega.{arith}
 use mathlib.Core.Path.{refl}
 use denote.Ref.{now}
-use Rattle.sheet.proofs.ServingLaws.{plain-first, plain-second, plain-code, plain-ready, plain-served}
+use Rattle.sheet.proofs.ServingLaws.{plain-first, plain-second, plain-code, plain-kind, plain-ready, plain-served}
 use borrow.Author.Needs.{needs}
 use Rattle.sheet.proofs.serving.plain_order.Statement.{statement}
 use Rattle.sheet.proofs.serving.plain_order.Tie as tie
@@ -23,7 +23,7 @@ lend-plain-requires : tie.Need-lend-plain-requires
 lend-plain-requires c κs =
     let a = c .before .before .before .before .before .before .before .before .before .before .args in
     let p = c .before .before .before .before .before .before .before .before .before .before .pre in
-    (plain-ready (a .x) (a .half) _ _ _ (now (a .a)) (now (a .b)) (now (a .c)) (now (a .d)) _ (a .o) (p .0 .4) (p .1 .0), (plain-code (a .x) (a .half) _ _ _ (now (a .a)) (now (a .b)) (now (a .c)) (now (a .d)) _ (a .o) (p .0 .4) (p .1 .0), p .1 .1))
+    (plain-ready (a .x) (a .half) _ _ _ (now (a .a)) (now (a .b)) (now (a .c)) (now (a .d)) _ (a .o) (p .0 .4) (p .1 .0), ((plain-code (a .x) (a .half) _ _ _ (now (a .a)) (now (a .b)) (now (a .c)) (now (a .d)) _ (a .o) (p .0 .4) (p .1 .0), plain-kind (a .x) (a .half) _ _ _ (now (a .a)) (now (a .b)) (now (a .c)) (now (a .d)) _ (a .o) (p .0 .4) (p .1 .0)), p .1 .1))
 
 same-length : tie.Need-same-length
 same-length c = search needs

@@ -97,7 +97,7 @@ same-length-13 c = search needs
 returns-6 : tie.Need-returns-6
 returns-6 c =
     let a = c .before .before .before .before .before .before .before .before .before .before .before .before .before .before .args in
-    (c .before .before .before .before .before .before .before .before .before .before .before .before .before .before .pre .1 .0 .1 .clear, λ z A L. does-as (a .x) _ _ _ _ _ z _ _ (plain-revision (a .kind) (a .first) (a .second) (c .before .before .before .before .before .before .before .before .if1 .left) (c .before .before .before .before .before .before .before .if2 .left) (c .before .before .before .before .before .before .if3 .left) (c .before .before .before .before .before .if4 .left) (c .before .before .before .before .if5 .left)) (now (a .out)) (a .to) _ _ (c .before .before .tell-revision .ensures _ _ _ z L))
+    (c .before .before .before .before .before .before .before .before .before .before .before .before .before .before .pre .1 .0 .1 .clear, λ z A L. does-as (a .x) _ _ _ _ _ z _ _ (plain-revision (a .kind) (a .first) (a .second) (c .before .before .before .before .before .before .before .before .before .before .before .before .before .before .pre .1 .0 .2) (c .before .before .before .before .before .before .before .before .if1 .left) (c .before .before .before .before .before .before .before .if2 .left) (c .before .before .before .before .before .before .if3 .left) (c .before .before .before .before .before .if4 .left) (c .before .before .before .before .if5 .left)) (now (a .out)) (a .to) _ _ (c .before .before .tell-revision .ensures _ _ _ z L))
 
 pub solve-plain-spec : {M : Type 1} → statement M
 solve-plain-spec =

@@ -17,7 +17,7 @@ same-length c = search needs
 returns : tie.Need-returns
 returns c =
     let a = c .before .before .before .before .before .before .args in
-    λ ks vs ts z L. revision-does (a .x) ks vs ts z L (now (a .out)) (a .to) _ _ (rw (c .before .before .before .before .revision .ensures .0) at (c .before .before .count .ensures))
+    λ ks vs ts z L. revision-does (a .x) ks vs ts z L (c .before .before .before .before .revision .result) (c .before .before .before .before .revision .ensures .0) (now (a .out)) (a .to) _ _ (c .before .before .count .ensures)
 
 pub tell-revision-spec : {M : Type 1} → statement M
 tell-revision-spec =
