@@ -26,11 +26,11 @@ import sys
 
 HERE = os.path.dirname(os.path.abspath(__file__))
 ROOT = os.path.dirname(HERE)
-sys.path[:0] = [HERE, os.path.join(ROOT, "tests", "oracle")]
+sys.path[:0] = [HERE, os.path.join(ROOT, "tests")]
 
-import build as oracle  # noqa: E402
 import picture  # noqa: E402
 import sheet_classes as made  # noqa: E402
+from oracle import build as oracle  # noqa: E402
 
 OUT = os.path.join(ROOT, "target", "bench")
 LIBRARY = os.path.join(ROOT, "target", "staticlib", "libsheet.a")

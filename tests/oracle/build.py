@@ -180,10 +180,19 @@ def build(source=SOURCE, out=OUT):
     return compiled(os.path.join(HERE, "main.rs"), out, "oracle")
 
 
+def source_argument(parser):
+    parser.add_argument("--source", default=SOURCE, metavar="DIR", help="Kagari's sources")
+
+
+def arguments(parser, out=OUT):
+    """Where the sources are, and where what is built goes."""
+    source_argument(parser)
+    parser.add_argument("--out", default=out, metavar="DIR", help="where what is built goes")
+
+
 def main():
     parser = argparse.ArgumentParser(description=__doc__, formatter_class=argparse.RawDescriptionHelpFormatter)
-    parser.add_argument("--source", default=SOURCE, metavar="DIR")
-    parser.add_argument("--out", default=OUT, metavar="DIR")
+    arguments(parser)
     options = parser.parse_args()
     try:
         print(build(options.source, options.out))
