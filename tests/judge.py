@@ -8,7 +8,7 @@
   python3 tests/judge.py --program target/bin/sheets    the program `sheets` in the place of the library
   python3 tests/judge.py --checker target/bin/checker   the sheet program, a process for each sheet
 
-The library is target/staticlib/libsheet.a, which `rt staticlib sheet` writes,
+The library is target/staticlib/libentry.a, which `rt staticlib entry` writes,
 or --library FILE. tests/oracle/build.py says what is taken from the Rust and
 what stands around it. Library and oracle are linked into one program
 (tests/oracle/judge.rs), which is built first, in target/judge or --out DIR,
@@ -53,7 +53,8 @@ from comparing import Differs, OutcomeTable, shown, verdict
 from oracle import build as oracle
 from sheet_compare import LEFT, Batch, Frames, Program, in_chunks
 
-LIBRARY = os.path.join(oracle.ROOT, "target", "staticlib", "libsheet.a")
+LIBRARY = os.path.join(oracle.ROOT, "target", "staticlib", "libentry.a")
+DECLARED = os.path.join(oracle.ROOT, "bindings", "rust", "src")         # where ffi.rs declares the entry, for all Rust
 OUT = os.path.join(oracle.ROOT, "target", "judge")
 DEFAULT_SHEETS = 20000
 PORTION = 50000             # sheets in a run of the judge
@@ -75,15 +76,16 @@ REASONS = (0, 10, 11, 12)
 def built(options, slip=None):
     """The judge's path."""
     if not os.path.isfile(options.library):
-        sys.exit("there is no library %s: rt staticlib sheet writes it" % options.library)
+        sys.exit("there is no library %s: rt staticlib entry writes it" % options.library)
     texts = oracle.taken(options.source)
     for name in sorted(os.listdir(oracle.HERE)):
         if name.endswith(".rs"):
             texts[name] = oracle.read(oracle.HERE, name)
+    texts["ffi.rs"] = oracle.read(DECLARED, "ffi.rs")
     out = options.out if slip is None else os.path.join(options.out, slip)
     oracle.write(texts if slip is None else judge_slips.put_in(slip, texts), out)
     level = ("-C", "opt-level=2") if slip is None else ("-C", "opt-level=0", "-A", "warnings")
-    link = ("-L", "native=" + os.path.dirname(os.path.abspath(options.library)), "-l", "static=sheet")
+    link = ("-L", "native=" + os.path.dirname(os.path.abspath(options.library)), "-l", "static=entry")
     return oracle.compiled(os.path.join(out, "judge.rs"), out, "judge", level + link)
 
 

@@ -47,6 +47,7 @@ Written here, as stand-ins or around it:
 and for tests/judge.py, which links the static library beside all this:
   judge.rs       frames in, both sides compared, the first difference told
   lent.rs        what is lent to the library, between guards
+  ffi.rs         the library's declaration, out of bindings/rust/src
   tables.rs      counts by kind, outcome and answer
 
 The build stops where the sources lack an item.

@@ -1,4 +1,4 @@
-// The sheet: orders read, answered and framed; the run, and the exported entry.
+// The sheet: orders read, answered and framed; the run.
 mod fields;
 mod framing;
 mod lending;
@@ -14,7 +14,6 @@ mod starting;
 mod tables;
 
 pub use running::run_sheet;
-pub use running::sheet_run;
 use solver::Solver;
 
 // A field of an order: a number or count, the place of its first token (of parameters: their position in the bytes), and the token after

@@ -1,8 +1,8 @@
 -- `sheet_run`: what `run_sheet` promises, and that each element of a slice of bytes is a byte. Assumes nothing.
 use native.Mathlib.Omega.{arith}
 use borrow.Author.Needs.{needs}
-use Rattle.sheet.proofs.running.sheet_run.Statement.{statement}
-use Rattle.sheet.proofs.running.sheet_run.Tie as tie
+use Rattle.entry.proofs.sheet_run.Statement.{statement}
+use Rattle.entry.proofs.sheet_run.Tie as tie
 
 run-sheet-requires : tie.Need-run-sheet-requires
 run-sheet-requires c κs = search needs
