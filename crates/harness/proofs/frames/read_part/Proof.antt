@@ -1,10 +1,10 @@
--- `read_sheet`: the part that is read is as long as the sheet. Assumes nothing.
+-- `read_part`: the part that is read is as long as asked. Assumes nothing.
 use mathlib.Core.Path.{sym}
 use native.Mathlib.Omega.{arith}
 use lib.Seq.{length-take-le}
 use borrow.Author.Needs.{needs}
-use Rattle.sheets.proofs.read_sheet.Statement.{statement}
-use Rattle.sheets.proofs.read_sheet.Tie as tie
+use Rattle.harness.proofs.frames.read_part.Statement.{statement}
+use Rattle.harness.proofs.frames.read_part.Tie as tie
 
 slice-relend-prefix-read-full : tie.Need-slice-relend-prefix-read-full
 slice-relend-prefix-read-full c = search needs
@@ -21,8 +21,8 @@ same-length c = search needs
 returns : tie.Need-returns
 returns c = search needs
 
-pub read-sheet-spec : {M : Type 1} → statement M
-read-sheet-spec =
+pub read-part-spec : {M : Type 1} → statement M
+read-part-spec =
     tie.close
     (tie.spec
     slice-relend-prefix-read-full

@@ -1,11 +1,11 @@
--- `fill_bytes`: the index stays within the slice, which stays as long as it was. Assumes nothing.
+-- `fill_words`: the index stays within the slice, which stays as long as it was. Assumes nothing.
 use mathlib.Core.Path.{_≡_}
 use Prim.Native.Nat.{_≤_, _-_}
 use native.Mathlib.Omega.{arith}
 use lib.ListN.{length, length-set}
 use borrow.Author.Needs.{needs}
-use Rattle.replay.proofs.fill_bytes.Statement.{statement}
-use Rattle.replay.proofs.fill_bytes.Tie as tie
+use Rattle.harness.proofs.areas.fill_words.Statement.{statement}
+use Rattle.harness.proofs.areas.fill_words.Tie as tie
 
 abbrev Inv-loop : tie.InvT-loop
 Inv-loop w₀ x i₀ w i = (i ≤ length w) × (length w ≡ length w₀)
@@ -15,6 +15,9 @@ abbrev μ-loop : tie.MeasureT-loop
 
 loop-holds : tie.Need-loop-holds Inv-loop μ-loop
 loop-holds c = search needs
+
+mul-w : tie.Need-mul-w Inv-loop μ-loop
+mul-w c = search needs
 
 slice-write-w : tie.Need-slice-write-w Inv-loop μ-loop
 slice-write-w c = search needs
@@ -34,13 +37,14 @@ same-length c = search needs
 returns : tie.Need-returns Inv-loop μ-loop
 returns c = search needs
 
-pub fill-bytes-spec : {M : Type 1} → statement M
-fill-bytes-spec =
+pub fill-words-spec : {M : Type 1} → statement M
+fill-words-spec =
     tie.close
     (tie.spec
     Inv-loop
     μ-loop
     loop-holds
+    mul-w
     slice-write-w
     add-i
     loop-less

@@ -2,8 +2,8 @@
 use Prim.Native.Nat.{_≤_, _-_}
 use lib.ListN.{length}
 use borrow.Author.Needs.{needs}
-use Rattle.replay.proofs.all_bytes.Statement.{statement}
-use Rattle.replay.proofs.all_bytes.Tie as tie
+use Rattle.harness.proofs.areas.all_bytes.Statement.{statement}
+use Rattle.harness.proofs.areas.all_bytes.Tie as tie
 
 abbrev Inv-loop : tie.InvT-loop
 Inv-loop w from x i₀ i = from ≤ i

@@ -2,8 +2,8 @@
 use Prim.Native.Nat.{_≤_, _-_}
 use lib.ListN.{length}
 use borrow.Author.Needs.{needs}
-use Rattle.sheets.proofs.all_words.Statement.{statement}
-use Rattle.sheets.proofs.all_words.Tie as tie
+use Rattle.harness.proofs.areas.all_words.Statement.{statement}
+use Rattle.harness.proofs.areas.all_words.Tie as tie
 
 abbrev Inv-loop : tie.InvT-loop
 Inv-loop w x i₀ i = i ≤ length w
