@@ -5,7 +5,7 @@
   python3 bench/sheets.py classes hazards       these parts alone: classes, hazards, solver, growth
   python3 bench/sheets.py classes --only deep   the rows whose name has this text
   python3 bench/sheets.py --quick               fewer and shorter rounds
-  --library FILE     the library (target/staticlib/libsheet.a, which `rt staticlib sheet` proves and writes)
+  --library FILE     the library (target/staticlib/libentry.a, which `rt staticlib entry` proves and writes)
   --picture FILE     where the picture goes
 
 What is timed. A Rust program (bench/driver, rustc with opt-level 3) links the library and takes Kagari's Solver and
@@ -26,14 +26,14 @@ import sys
 
 HERE = os.path.dirname(os.path.abspath(__file__))
 ROOT = os.path.dirname(HERE)
-sys.path[:0] = [HERE, os.path.join(ROOT, "tests", "oracle")]
+sys.path[:0] = [HERE, os.path.join(ROOT, "tests")]
 
-import build as oracle  # noqa: E402
 import picture  # noqa: E402
 import sheet_classes as made  # noqa: E402
+from oracle import build as oracle  # noqa: E402
 
 OUT = os.path.join(ROOT, "target", "bench")
-LIBRARY = os.path.join(ROOT, "target", "staticlib", "libsheet.a")
+LIBRARY = os.path.join(ROOT, "target", "staticlib", "libentry.a")
 PICTURE = os.path.join(ROOT, "docs", "benchmarks.svg")
 PARTS = ("classes", "hazards", "solver", "growth")
 
@@ -41,7 +41,7 @@ PARTS = ("classes", "hazards", "solver", "growth")
 def built(library, source):
     """Builds the driver and gives its path."""
     if not os.path.isfile(library):
-        sys.exit("there is no library %s: rt staticlib sheet" % library)
+        sys.exit("there is no library %s: rt staticlib entry" % library)
     os.environ["KAGARI_UNCOUNTED"] = "1"
     words = ("-C", "opt-level=3", "-C", "codegen-units=1", "-C", "link-arg=" + os.path.abspath(library))
     try:

@@ -1,5 +1,5 @@
 #!/usr/bin/env bash
-# Builds and tests the C header and the Rust crate on target/staticlib/libsheet.a, or on the one in the directory SHEET_LIB_DIR. Everything is
+# Builds and tests the C header and the Rust crate on target/staticlib/libentry.a, or on the one in the directory SHEET_LIB_DIR. Everything is
 # written under target/bindings. The last line is 'N passed, 0 failed'. What needs a compiler that is not at hand is left out, which is said, and is a
 # failure unless WITHOUT_BINDINGS=1 says that it is meant. `test.sh --ready` tells that alone.
 set -euo pipefail
@@ -10,7 +10,7 @@ left_out() {
     left=$((left + 1))
 }
 if [ "$(uname -sm)" != "Linux x86_64" ]; then
-    left_out "everything, libsheet.a is for x86-64 Linux"
+    left_out "everything, libentry.a is for x86-64 Linux"
 elif ! command -v cc >/dev/null; then
     left_out "everything, there is no cc"
 else
@@ -28,12 +28,12 @@ fi
 work=$PWD/target/bindings
 lib=${SHEET_LIB_DIR:-target/staticlib}
 mkdir -p "$work/tmp"
-if [ -z "${SHEET_LIB_DIR:-}" ] && [ ! -e "$lib/libsheet.a" ]; then
+if [ -z "${SHEET_LIB_DIR:-}" ] && [ ! -e "$lib/libentry.a" ]; then
     if ! command -v rt >/dev/null; then
-        echo "bindings: no $lib/libsheet.a, and no rt to make it"
+        echo "bindings: no $lib/libentry.a, and no rt to make it"
         exit 1
     fi
-    rt staticlib sheet
+    rt staticlib entry
 fi
 lib=$(cd "$lib" && pwd)
 export SHEET_LIB_DIR=$lib TMPDIR=$work/tmp CARGO_TARGET_DIR=$work/cargo
@@ -54,13 +54,14 @@ step() {
     fi
 }
 
-as_c() { cc -std=c99 -pedantic -Wall -Wextra -Werror -O1 -pthread "bindings/c/$1.c" "$lib/libsheet.a" -o "$work/$1" && "$work/$1"; }
-as_cpp() { c++ -x c++ -Wall -Wextra -Werror -O1 -pthread "bindings/c/$1.c" -x none "$lib/libsheet.a" -o "$work/$1-cpp" && "$work/$1-cpp"; }
+as_c() { cc -std=c99 -pedantic -Wall -Wextra -Werror -O1 -pthread "bindings/c/$1.c" "$lib/libentry.a" -o "$work/$1" && "$work/$1"; }
+as_cpp() { c++ -x c++ -Wall -Wextra -Werror -O1 -pthread "bindings/c/$1.c" -x none "$lib/libentry.a" -o "$work/$1-cpp" && "$work/$1-cpp"; }
 same_as_bar() { "$@" | diff - bindings/bar.expected; }
-no_state() { nm "$lib/libsheet.a" >"$work/symbols" && grep -q ' T sheet_run$' "$work/symbols" && ! grep -E ' [bBcCdDgGsS] ' "$work/symbols"; }
+no_state() { nm "$lib/libentry.a" >"$work/symbols" && grep -q ' T sheet_run$' "$work/symbols" && ! grep -E ' [bBcCdDgGsS] ' "$work/symbols"; }
 in_rust() { (cd bindings/rust && "$@"); }
 crate_example() { in_rust cargo run -q --offline --locked --example bar; }
 
+step "declarations: those of crates/entry" python3 bindings/declared.py
 step "C: tests" as_c test
 step "C: example" same_as_bar as_c example
 step "C: stack" as_c stack

@@ -8,7 +8,7 @@
   python3 tests/judge.py --program target/bin/sheets    the program `sheets` in the place of the library
   python3 tests/judge.py --checker target/bin/checker   the sheet program, a process for each sheet
 
-The library is target/staticlib/libsheet.a, which `rt staticlib sheet` writes,
+The library is target/staticlib/libentry.a, which `rt staticlib entry` writes,
 or --library FILE. tests/oracle/build.py says what is taken from the Rust and
 what stands around it. Library and oracle are linked into one program
 (tests/oracle/judge.rs), which is built first, in target/judge or --out DIR,
@@ -49,17 +49,19 @@ import judge_sheets
 import judge_slips
 import orders_compare
 import sheet_compare
-from sheet_compare import LEFT, Batch, Differs, Frames, Program, in_chunks, oracle, shown
+from comparing import Differs, OutcomeTable, shown, verdict
+from oracle import build as oracle
+from sheet_compare import LEFT, Batch, Frames, Program, in_chunks
 
-LIBRARY = os.path.join(oracle.ROOT, "target", "staticlib", "libsheet.a")
+LIBRARY = os.path.join(oracle.ROOT, "target", "staticlib", "libentry.a")
+DECLARED = os.path.join(oracle.ROOT, "bindings", "rust", "src")         # where ffi.rs declares the entry, for all Rust
 OUT = os.path.join(oracle.ROOT, "target", "judge")
 DEFAULT_SHEETS = 20000
 PORTION = 50000             # sheets in a run of the judge
 LEAST_SHARE = 0.0003
-ROWS = [str(kind) for kind in range(21)] + ["other", "empty"]
-OUTCOMES = [outcome for outcome in range(10)]
-CAN_OCCUR = {str(kind): sheet_compare.CAN_OCCUR[kind] for kind in range(9)}
-CAN_OCCUR.update({str(kind): orders_compare.CAN_OCCUR[kind] for kind in range(9, 21)}, other=(2,), empty=(1,))
+# By the judge's words for the rows.
+CAN_OCCUR = {**{kind: sheet_compare.CAN_OCCUR[kind] for kind in range(9)}, **{kind: orders_compare.CAN_OCCUR[kind] for kind in range(9, 21)},
+             "other": (2,), "empty": (1,)}
 YES_NO, CHANGES = ("no", "yes"), ("same", "changed")
 ANSWERS = {
     1: ("itself", "bound"), 2: ("itself", "bound"), 4: ("incompatible", "compatible", "cancelled"), 5: CHANGES, 6: YES_NO, 7: YES_NO,
@@ -74,15 +76,16 @@ REASONS = (0, 10, 11, 12)
 def built(options, slip=None):
     """The judge's path."""
     if not os.path.isfile(options.library):
-        sys.exit("there is no library %s: rt staticlib sheet writes it" % options.library)
+        sys.exit("there is no library %s: rt staticlib entry writes it" % options.library)
     texts = oracle.taken(options.source)
     for name in sorted(os.listdir(oracle.HERE)):
         if name.endswith(".rs"):
             texts[name] = oracle.read(oracle.HERE, name)
+    texts["ffi.rs"] = oracle.read(DECLARED, "ffi.rs")
     out = options.out if slip is None else os.path.join(options.out, slip)
     oracle.write(texts if slip is None else judge_slips.put_in(slip, texts), out)
     level = ("-C", "opt-level=2") if slip is None else ("-C", "opt-level=0", "-A", "warnings")
-    link = ("-L", "native=" + os.path.dirname(os.path.abspath(options.library)), "-l", "static=sheet")
+    link = ("-L", "native=" + os.path.dirname(os.path.abspath(options.library)), "-l", "static=entry")
     return oracle.compiled(os.path.join(out, "judge.rs"), out, "judge", level + link)
 
 
@@ -138,7 +141,15 @@ class Counts(dict):
 
     def show(self):
         """Prints the tables; gives the entries that are too rare."""
-        poor = self.show_outcomes() + self.show_answers()
+        def least(total):
+            return max(5, LEAST_SHARE * total)
+        table = OutcomeTable(CAN_OCCUR, range(10), ANSWERS, least, least, complete=True)
+        for row in CAN_OCCUR:
+            for outcome in range(10):
+                table.add(row, outcome, count=self.of("outcome", row, outcome))
+        for row, names in ANSWERS.items():
+            table.answers[row] = {name: self.of("answer", row, name) for name in names}
+        poor = table.show("Outcomes of the orders")
         print("\nReasons     " + ", ".join("%d: %d" % (reason, self.of("reason", reason)) for reason in REASONS))
         return poor + ["reason %d" % reason for reason in REASONS if self.of("reason", reason) < 5]
 
@@ -147,30 +158,6 @@ class Counts(dict):
         for title, word in (("families", "family"), ("left", "left")):
             found = ["%s %d" % (name, self.of(word, at)) for at, name in enumerate(judge_sheets.NAMES) if self.of(word, at)]
             print("  %-12s%s" % (title, ", ".join(found) or "none"))
-
-    def show_outcomes(self):
-        poor = []
-        print("\nOutcomes of the orders\n%-7s%10s" % ("", "orders") + "".join("%9d" % outcome for outcome in OUTCOMES))
-        for row in ROWS:
-            total = self.total("outcome", row)
-            found = [self.of("outcome", row, outcome) for outcome in OUTCOMES]
-            print("%-7s%10d" % (row, total)
-                  + "".join("%9s" % (count if count or o in CAN_OCCUR[row] else "-") for o, count in enumerate(found)))
-            poor += ["order %s, outcome %d: %d of %d" % (row, o, found[o], total) for o in CAN_OCCUR[row]
-                     if found[o] < max(5, LEAST_SHARE * total)]
-            poor += ["order %s, outcome %d cannot be" % (row, o) for o, count in enumerate(found) if count and o not in CAN_OCCUR[row]]
-        print("%-7s%10d" % ("all", self.total("outcome")))
-        return poor
-
-    def show_answers(self):
-        poor = []
-        print("\nWhat the unrefused ones answer")
-        for kind, names in ANSWERS.items():
-            total = self.of("outcome", kind, 0)
-            print("%-7s%10d   " % (kind, total) + ", ".join("%s %d" % (name, self.of("answer", kind, name)) for name in names))
-            poor += ["order %d, %s: %d of %d" % (kind, name, self.of("answer", kind, name), total) for name in names
-                     if self.of("answer", kind, name) < max(5, LEAST_SHARE * total)]
-        return poor
 
 
 # Running
@@ -207,11 +194,7 @@ def check(options):
         passed += counts.total("family")
         if name == "random sheets":
             poor = counts.show()
-    poor = poor if options.sheets >= DEFAULT_SHEETS else []
-    for line in poor:
-        print("too few: " + line)
-    print("%d passed, %d failed" % (passed, len(poor)))
-    return 1 if poor else 0
+    return verdict(passed, poor if options.sheets >= DEFAULT_SHEETS else [])
 
 
 def check_slip(options, name, path):
@@ -280,8 +263,7 @@ def main():
     parser.add_argument("--checker", metavar="COMMAND")
     parser.add_argument("--ready", action="store_true")
     parser.add_argument("--library", default=LIBRARY, metavar="FILE")
-    parser.add_argument("--source", default=oracle.SOURCE, metavar="DIR", help="Kagari's sources")
-    parser.add_argument("--out", default=OUT, metavar="DIR")
+    oracle.arguments(parser, OUT)
     options = parser.parse_args()
     try:
         oracle.taken(options.source)

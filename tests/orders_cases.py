@@ -16,10 +16,10 @@ cases that would make that input too long; tests/orders_compare.py runs both.
 Bytes are hexadecimal. The functions below write terms in bytes.
 """
 
-import os
 import sys
 
 import orders_reference as reference
+from cases import check_plain, check_slips, run_cases, shortened, store
 from orders_reference import framed, number_bytes
 
 CASES = []  # (comment, order, outcome)
@@ -890,49 +890,26 @@ def case_input():
 
 def write(directory):
     data, replies = case_input()
-    for name, content in (("stdin", data), ("stdout", replies)):
-        with open(os.path.join(directory, name), "wb") as file:
-            file.write(content)
+    store(directory, data, replies)
     print("%d cases, %d bytes in, %d bytes out; %d more cases" % (len(CASES), len(data), len(replies), len(MORE)))
 
 
 def listing():
     case_input()
     for comment, body, outcome in CASES + MORE:
-        shown, reply = body.hex(" "), reference.answer(body).hex(" ")
-        print("%s\n    %s\n    %s" % (comment, shown if len(shown) < 90 else shown[:84] + " ...",
-                                      reply if len(reply) < 90 else reply[:84] + " ..."))
+        print("%s\n    %s\n    %s" % (comment, shortened(body.hex(" ")), shortened(reference.answer(body).hex(" "))))
     print("%d cases" % len(CASES + MORE))
 
 
 def slips():
     from orders_slips import PLAIN, RUN_SLIPS, SLIPS
     check_stated()
-    missed = 0
-    for how in PLAIN:
-        for comment, body, outcome in CASES + MORE:
-            if reference.answer(body, how) != stated(outcome, body):
-                sys.exit("%s has no fault, but differs: %s" % (how.__name__, comment))
-    for name, how in SLIPS.items():
-        if name in RUN_SLIPS:
-            continue
-        finder = next((comment for comment, body, outcome in CASES + MORE
-                       if reference.answer(body, how) != stated(outcome, body)), None)
-        missed += finder is None
-        print("%-44s %s" % (name, finder or "NOT FOUND"))
-    print("%d passed, %d failed" % (len(SLIPS) - len(RUN_SLIPS) - missed, missed))
-    return missed != 0
 
-
-def main(words):
-    if len(words) == 2 and words[0] == "write":
-        return write(words[1])
-    if words == ["list"]:
-        return listing()
-    if words == ["slips"]:
-        return slips()
-    sys.exit(__doc__)
+    def finder(how):
+        return next((comment for comment, body, outcome in CASES + MORE if reference.answer(body, how) != stated(outcome, body)), None)
+    check_plain(PLAIN, finder)
+    return check_slips({name: how for name, how in SLIPS.items() if name not in RUN_SLIPS}, finder)
 
 
 if __name__ == "__main__":
-    sys.exit(main(sys.argv[1:]))
+    sys.exit(run_cases(__doc__, {"list": listing, "slips": slips}, {"write": write}))

@@ -28,7 +28,6 @@ of --source; without them the comparison stops with status 1.
 """
 
 import argparse
-import os
 import random
 import shlex
 import shutil
@@ -36,21 +35,16 @@ import sys
 
 import orders_cases
 import orders_reference as reference
-from orders_reference import (
-    ARRAY, BUILTIN, ENUM, ERROR, FUNCTION, GENERIC, HOST, INFERENCE, ITER, MAP, NATIVE_OBJECT, NOMINALS, PROJECTION, RANGE,
-    REFERENCE, SELF_TYPE, SET, STRUCT, THE_ERROR, THE_UNKNOWN, TRAIT, TUPLE, UNKNOWN, Orders, children, framed,
-    nominal_written, number_bytes, with_children, written)
+from comparing import Differs, OutcomeTable, compare, program_output, slips_verdict, verdict
+from oracle import build as oracle
+from orders_generate import KINDS, MarkedFields, random_orders
+from orders_reference import ERROR, Orders, children, framed, number_bytes, written
 from orders_slips import RUN_SLIPS, SLIPS
-from terms_compare import ENDS, Differs, damaged_bytes, not_shortest, program_output, shown, too_large
-
-sys.path.insert(0, os.path.join(os.path.dirname(os.path.abspath(__file__)), "oracle"))
-
-import build as oracle
+from terms_generate import ENDS
+from terms_reference import split
 
 DEFAULT_ORDERS = 20000
 LEAST_SHARE = 0.003
-KINDS = tuple(range(9, 21))
-ROWS = KINDS + ("other kind", "empty")
 OUTCOMES = (0, 1, 2, 3, 4, 5, 7, 9)
 CAN_OCCUR = {kind: OUTCOMES if kind >= 19 else OUTCOMES[:-1] for kind in KINDS}
 CAN_OCCUR.update({"other kind": (2,), "empty": (1,)})
@@ -62,646 +56,6 @@ ANSWERS = {
     16: ("no", "yes"), 17: ("00", "01", "11"), 18: ("none", "same", "changed"), 19: ("same", "changed", "new Error"),
     20: ("same", "changed", "new Error"),
 }
-I8, NEVER = (BUILTIN, 0), (BUILTIN, 10)
-# A term that add_inside puts into an order.
-NEW = (HOST, 0)
-HOLES = (THE_UNKNOWN, THE_ERROR, (INFERENCE, 0))
-
-
-class Fields(Orders):
-    """Reads an order and does nothing; also marks the places of its fields."""
-
-    def __init__(self, data):
-        super().__init__(data)
-        self.marks = []
-        self.deepest = None, 0
-
-    def mark(self, what, start, detail=None):
-        self.marks.append((what, start, self.at, detail))
-
-    def number(self):
-        start = self.at
-        value = super().number()
-        self.mark("number", start, value)
-        return value
-
-    def listed(self, how_many):
-        value = super().listed(how_many)
-        self.mark("code", self.at - 1, how_many)
-        return value
-
-    def term(self, level):
-        self.marks.append(("tag", self.at, self.at + 1, None))
-        if level > self.deepest[1]:
-            self.deepest = self.at, level
-        return super().term(level)
-
-    def members(self, level):
-        last = None
-        found = []
-        for _ in range(self.number()):
-            start = self.at
-            member = self.number()
-            if last is not None:
-                self.marks[-1] = ("member", start, self.at, last)
-            last = member
-            found.append((member, self.term(level)))
-        return [tuple(found)]
-
-    def read(self):
-        return self.row(self.ORDERS[self.byte()][0], 1)
-
-
-class Bare:
-    """A nominal as a field of an order."""
-
-    def __init__(self, nominal):
-        self.nominal = nominal
-
-
-def height(term):
-    return 1 + max(map(height, children(term)), default=0)
-
-
-class Maker:
-    """Makes one formed order.
-
-    pieces are its fields: numbers, terms and nominals.
-    """
-
-    def __init__(self, rng, kind):
-        self.rng = rng
-        self.kind = kind
-        self.pieces = []
-        self.big_numbers = rng.random() < 0.2
-        # What a leaf may be, and the projections that take part in an order.
-        self.leaves = [UNKNOWN, ERROR, INFERENCE, BUILTIN, BUILTIN, BUILTIN, TUPLE, STRUCT, TRAIT, HOST, GENERIC, GENERIC,
-                       SELF_TYPE]
-        self.pool = []
-        self.pool_share = 0.4
-
-    def chance(self, share):
-        return self.rng.random() < share
-
-    # Numbers
-
-    def number(self):
-        rng = self.rng
-        if not self.big_numbers or self.chance(0.7):
-            return rng.randrange(3)
-        if self.chance(0.6):
-            return rng.randrange(300)
-        edge = 128 ** rng.randrange(1, 5)
-        return max(0, min(Orders.MOST, edge + rng.randrange(-2, 3), Orders.MOST - rng.choice((0, 1))))
-
-    # Terms
-
-    def leaf(self):
-        rng = self.rng
-        if self.pool and self.chance(self.pool_share):
-            return rng.choice(self.pool)
-        tag = rng.choice(self.leaves)
-        if tag in (INFERENCE, HOST, SELF_TYPE):
-            return (tag, self.number())
-        if tag == GENERIC:
-            return (tag, self.number(), rng.randrange(3))
-        if tag == BUILTIN:
-            return (tag, rng.choice((0, 1, 2, 2, 7, 8, 9, 10, 11, rng.randrange(32))))
-        if tag == TUPLE:
-            return (tag, ())
-        if tag in NOMINALS:
-            return (tag, (self.number(), (), ()))
-        return (tag,)
-
-    def nominal(self, terms):
-        split = self.rng.randint(0, len(terms))
-        return (self.number(), tuple(terms[:split]), self.members(terms[split:]))
-
-    def members(self, terms):
-        names = sorted(self.rng.sample(range(len(terms) + 3), len(terms)))
-        if self.big_numbers and terms and self.chance(0.2):
-            names[-1] = Orders.MOST
-        return tuple(zip(names, terms))
-
-    def around(self, parts):
-        """A term with these children."""
-        rng = self.rng
-        parts = list(parts)
-        if len(parts) == 1 and self.chance(0.6):
-            tag = rng.choice((REFERENCE, ITER, RANGE, ARRAY, SET, SET))
-            if tag in (ITER, ARRAY):
-                return (tag, parts[0])
-            return (tag, rng.randrange(4 if tag == RANGE else 2), parts[0])
-        if len(parts) == 2 and self.chance(0.3):
-            return (MAP, rng.randrange(2), parts[0], parts[1])
-        tag = rng.choice((TUPLE, FUNCTION, PROJECTION, NATIVE_OBJECT, STRUCT, ENUM, TRAIT))
-        if tag == PROJECTION and self.chance(0.4):
-            tag = TUPLE
-        if tag == TUPLE:
-            return (tag, tuple(parts))
-        if tag == FUNCTION:
-            return (tag, tuple(parts[:-1]), parts[-1])
-        if tag == PROJECTION:
-            split = rng.randint(1, len(parts))
-            return (tag, parts[0], self.nominal(parts[1:split]), self.number(), tuple(parts[split:]))
-        return (tag, self.nominal(parts))
-
-    def term(self, size=None):
-        """A term of about so many nodes."""
-        rng = self.rng
-        if size is None:
-            size = rng.choice((1, 2, 3, 4, 5, 6, 8, 12))
-        if size <= 1:
-            return self.leaf()
-        how_many = min(size - 1, rng.choice((1, 1, 2, 2, 3, 4)))
-        cuts = sorted(rng.sample(range(1, size - 1), how_many - 1)) if how_many > 1 else []
-        sizes = [b - a for a, b in zip([0] + cuts, cuts + [size - 1])]
-        return self.around([self.term(part) for part in sizes])
-
-    def without(self, *tags):
-        self.leaves = [tag for tag in self.leaves if tag not in tags]
-
-    # Copies with a change
-
-    def somewhere(self, term, change, stop=0.25):
-        parts = list(children(term))
-        if not parts or self.chance(stop):
-            return change(term)
-        at = self.rng.randrange(len(parts))
-        parts[at] = self.somewhere(parts[at], change, stop)
-        return with_children(term, parts)
-
-    def hole(self, term):
-        return self.rng.choice(HOLES)
-
-    def other(self, term):
-        """The term with its head changed in one place."""
-        rng = self.rng
-        tag = term[0]
-        if tag in (REFERENCE, SET, MAP):
-            return (tag, 1 - term[1]) + term[2:] if self.chance(0.8) else (MAP, term[1], term[-1], term[-1])
-        if tag == RANGE:
-            return (tag, (term[1] + rng.randrange(1, 4)) % 4, term[2])
-        if tag == TUPLE:
-            return (tag, term[1] + (I8,)) if self.chance(0.5) or not term[1] else (tag, term[1][:-1])
-        if tag == FUNCTION:
-            return (tag, term[1] + (I8,), term[2]) if self.chance(0.5) or not term[1] else (tag, term[1][1:], term[2])
-        if tag in NOMINALS:
-            if self.chance(0.2):
-                return (rng.choice([t for t in NOMINALS if t != tag]), term[1])
-            return (tag, self.other_nominal(term[1]))
-        if tag == PROJECTION:
-            _, receiver, interface, member, arguments = term
-            pick = rng.randrange(5)
-            if pick == 0:
-                return (tag, self.other(receiver), interface, member, arguments)
-            if pick == 1:
-                return (tag, receiver, self.other_nominal(interface), member, arguments)
-            if pick == 2:
-                return (tag, receiver, interface, (member + 1) % 5, arguments)
-            if pick == 3 and arguments:
-                return (tag, receiver, interface, member, arguments[:-1] + (self.other(arguments[-1]),))
-            return (tag, receiver, interface, member, arguments + (I8,) if self.chance(0.5) or not arguments else arguments[:-1])
-        if tag == GENERIC:
-            return (tag, term[1], (term[2] + 1) % 3) if self.chance(0.5) else (tag, (term[1] + 1) % 3, term[2])
-        if tag == BUILTIN:
-            return (tag, (term[1] + rng.randrange(1, 32)) % 32)
-        if tag in (HOST, SELF_TYPE, INFERENCE):
-            return (tag, (term[1] + 1) % 3)
-        return rng.choice((I8, (TUPLE, ()), NEVER))
-
-    def other_nominal(self, nominal):
-        declaration, arguments, members = nominal
-        pick = self.rng.randrange(6)
-        if pick == 0:
-            return ((declaration + 1) % 3, arguments, members)
-        if pick == 1 and arguments:
-            return (declaration, arguments[:-1] + (self.other(arguments[-1]),), members)
-        if pick == 2:
-            return (declaration, arguments + (I8,) if self.chance(0.5) or not arguments else arguments[1:], members)
-        if pick == 3 and members:
-            at = self.rng.randrange(len(members))
-            new = self.other(members[at][1])
-            return (declaration, arguments, members[:at] + ((members[at][0], new),) + members[at + 1:])
-        if pick == 4 and members and members[-1][0] < 100:
-            return (declaration, arguments, members[:-1] + ((members[-1][0] + 1, members[-1][1]),))
-        if members and self.chance(0.5):
-            return (declaration, arguments, members[:-1])
-        if members and members[-1][0] > 100:
-            return ((declaration + 1) % 3, arguments, members)
-        return (declaration, arguments, members + ((members[-1][0] + 1 if members else 0, I8),))
-
-    def with_holes(self, term):
-        for _ in range(self.rng.choice((0, 1, 1, 2, 3))):
-            term = self.somewhere(term, self.hole, 0.1)
-        return term
-
-    def two_copies(self, term):
-        """A copy with a hole, and one with changes on the way to that hole."""
-        parts = children(term)
-        if not parts or self.chance(0.15):
-            return self.hole(term), term
-        at = self.rng.randrange(len(parts))
-        left, right = self.two_copies(parts[at])
-        left = with_children(term, parts[:at] + (left,) + parts[at + 1:])
-        right = with_children(term, parts[:at] + (right,) + parts[at + 1:])
-        return left, self.other(right) if self.chance(0.35) else right
-
-    # Orders
-
-    def order(self):
-        getattr(self, "order_%d" % self.kind)()
-        return self
-
-    def put(self, *pieces):
-        self.pieces += pieces
-
-    def order_9(self):
-        left = self.term()
-        right = self.with_holes(left)
-        left = self.with_holes(left)
-        if self.chance(0.5):
-            right = self.somewhere(right, self.other, self.rng.choice((0.2, 0.5)))
-        self.put(left, right)
-
-    def order_10(self):
-        tag = self.rng.choice((REFERENCE, SET, SET, MAP))
-        parts = (self.term(), self.term(2))[:2 if tag == MAP else 1]
-        left = (tag, 1) + parts
-        right = (tag, 0) + tuple(map(self.with_holes, parts))
-        pick = self.rng.randrange(10)
-        if pick == 0:
-            left, right = right, left
-        elif pick == 1:
-            right = (tag, self.rng.randrange(2)) + right[2:]
-        elif pick == 2:
-            left = (tag, 0) + left[2:]
-        elif pick in (3, 4):
-            right = self.somewhere(right, self.other)
-        elif pick == 5:
-            left, right = self.around([left]), self.around([right])
-        elif pick == 7:
-            # A Set inside, whose access may weaken too.
-            left = (tag, 1) + ((SET, 1, left[2]),) + left[3:]
-            right = (tag, 0) + ((SET, self.rng.randrange(2), right[2]),) + right[3:]
-        elif pick == 6:
-            right = self.rng.choice((self.hole(right), (MAP, 0) + (right[2],) * 2, (SET, 0, right[2]), (REFERENCE, 0, right[2])))
-        self.put(left, right)
-
-    def order_11(self):
-        self.without(UNKNOWN, ERROR)
-        left, right = self.two_copies(self.term())
-        if self.chance(0.4):
-            left = self.somewhere(left, self.hole, 0.1)
-        if self.chance(0.3):
-            right = self.with_holes(right)
-        self.put(left, right)
-
-    def generic_leaves(self):
-        self.leaves += [GENERIC] * 8 + [SELF_TYPE] * 5
-
-    def substitution(self):
-        rng = self.rng
-        entries = [(self.number(), rng.randrange(3), self.term(rng.choice((1, 1, 2, 3)))) for _ in range(rng.randrange(6))]
-        receivers = [(self.number(), self.term(rng.choice((1, 1, 2)))) for _ in range(rng.randrange(4))]
-        self.put(len(entries))
-        for entry in entries:
-            self.put(*entry)
-        self.put(len(receivers))
-        for receiver in receivers:
-            self.put(*receiver)
-
-    def parameters(self, how_many=None):
-        pairs = [(self.number(), self.rng.randrange(3)) for _ in range(self.rng.randrange(5) if how_many is None else how_many)]
-        self.put(len(pairs))
-        for pair in pairs:
-            self.put(*pair)
-        return pairs
-
-    def order_12(self):
-        self.generic_leaves()
-        self.substitution()
-        self.put(self.term())
-
-    def order_13(self):
-        self.generic_leaves()
-        self.substitution()
-        self.parameters()
-        self.put(self.term())
-
-    def order_14(self):
-        self.generic_leaves()
-        self.put(self.number(), self.term(self.rng.choice((1, 2, 4))), self.term())
-
-    def order_15(self):
-        pick = self.rng.randrange(6)
-        if pick == 0:
-            self.put((BUILTIN, self.rng.choice((10, 10, 11, 0, 7, 7, 8, 8, self.rng.randrange(8), self.rng.randrange(32)))))
-            return
-        if pick <= 3:
-            self.without(UNKNOWN, ERROR, INFERENCE, GENERIC, SELF_TYPE)
-        term = self.term()
-        if pick == 2:
-            term = self.somewhere(term, lambda part: self.rng.choice(HOLES + ((SELF_TYPE, 0), (GENERIC, 0, 0))), 0)
-        self.put(term)
-
-    def order_16(self):
-        pairs = self.parameters()
-        self.without(UNKNOWN, ERROR, INFERENCE, GENERIC, SELF_TYPE)
-        self.pool = [(GENERIC,) + pair for pair in pairs]
-        term = self.term()
-        if self.chance(0.25):
-            term = self.somewhere(term, lambda part: self.rng.choice(HOLES + ((SELF_TYPE, 0), (GENERIC, 0, 0))), 0)
-        elif self.chance(0.2):
-            term = self.somewhere(term, self.other)
-        self.put(term)
-
-    def order_17(self):
-        rng = self.rng
-        receiver = self.term(rng.choice((1, 1, 2, 3)))
-        nominal = self.nominal([self.term(rng.choice((1, 1, 2, 3))) for _ in range(rng.randrange(5))])
-        declaration, arguments, members = nominal
-        asked = {member: term for member, term in members if self.chance(0.6)}
-        for _ in range(rng.choice((0, 0, 1, 1, 2))):
-            member = rng.randrange(6)
-            interface = (declaration, arguments, tuple(pair for pair in members if self.chance(0.5)))
-            if self.chance(0.15) and member < 5:
-                # The interface asks for a reflexive projection in its turn.
-                inner = (PROJECTION, receiver, (declaration, arguments, ()), 5, ())
-                interface = interface[:2] + (tuple(pair for pair in interface[2] if pair[0] < 5) + ((5, inner),),)
-            asked[member] = (PROJECTION, receiver, interface, member, ())
-            if self.chance(0.35):
-                asked[member] = self.other(asked[member])
-        required = (declaration, arguments, tuple(sorted(asked.items())))
-        if self.chance(0.15):
-            required = self.other_nominal(required)
-        self.put(Bare(nominal), Bare(required), receiver)
-
-    def order_18(self):
-        self.generic_leaves()
-        how_many = self.rng.randrange(4)
-        self.parameters(how_many)
-        self.put(self.term())
-        self.substitution()
-        if self.chance(0.15):
-            how_many = self.rng.randrange(5)
-        self.put(how_many)
-        for _ in range(how_many):
-            self.put(self.term(self.rng.choice((1, 2, 3))))
-
-    def projection(self, receivers):
-        """A projection without one inside, mostly."""
-        rng = self.rng
-        interface = (rng.randrange(3), tuple(self.term(1) for _ in range(rng.choice((0, 0, 1)))),
-                     tuple((member, self.term(1)) for member in range(3) if self.chance(0.15)))
-        return (PROJECTION, rng.choice(receivers), interface, rng.randrange(3),
-                tuple(self.term(1) for _ in range(rng.choice((0, 0, 0, 1, 2)))))
-
-    def receivers(self):
-        return [I8, self.term(1), self.term(2), (TRAIT, (self.number(), (), ((self.rng.randrange(3), self.term(1)),)))]
-
-    def deep(self, term):
-        """The term below so many others that the depth of 64 matters."""
-        for _ in range(self.rng.randint(58, 67)):
-            term = self.rng.choice(((ARRAY, term), (ITER, term), (TUPLE, (term,)), (TUPLE, (I8, term)), (SET, 1, term)))
-        return term
-
-    def wide(self, one):
-        """A term that uses about all visits and children, and the value that stands for its projection one.
-
-        The term is a Tuple of a projection with an own member and a tail. The
-        receiver of that projection has copies of one.
-        """
-        rng = self.rng
-        copies = rng.randint(12, 60)
-        width = max(1, (8187 - rng.randint(0, 12)) // copies - 3 - rng.randint(0, 3))
-        big = (PROJECTION, (TUPLE, (one,) * copies), (9, (), ((0, I8),)), 0, ())
-        # The visits that are left for the tail.
-        left = 8187 - copies * (3 + width)
-        pick = rng.random()
-        if pick < 0.4:
-            # Children close to 8,192.
-            tail = [THE_UNKNOWN] * (8192 - 3 - copies * (2 + width) + rng.choice((-1, 0, 1, 1, 2)))
-        else:
-            # The visits end inside a term with several kinds of children.
-            tail = [THE_UNKNOWN] * (left - rng.randrange(7))
-            tail.append(rng.choice((
-                (rng.choice(NOMINALS), (0, (I8, I8), ((0, I8), (1, I8)))),
-                (PROJECTION, I8, (7, (I8, I8), ((4, I8), (5, I8))), 0, (I8,) * rng.randrange(3)),
-                (PROJECTION, I8, (7, (I8,), ((0, (TUPLE, (I8, I8))), (5, I8))), 0, ()),
-                (FUNCTION, (I8, I8), I8), (MAP, 1, I8, I8), (TUPLE, (THE_UNKNOWN,) * rng.randrange(2 * copies)), self.term(4))))
-            tail += [self.term(rng.choice((1, 1, 2))) for _ in range(rng.randrange(4))]
-        return (TUPLE, (big,) + tuple(tail[:1000])), (TUPLE, (THE_UNKNOWN,) * width)
-
-    def order_19(self):
-        rng = self.rng
-        self.without(GENERIC)
-        receivers = self.receivers()
-        owner = receivers[0]
-        interface = (rng.randrange(3), tuple(self.term(1) for _ in range(rng.choice((0, 0, 1)))),
-                     tuple((member, self.term(rng.choice((1, 1, 2)))) for member in range(3) if self.chance(0.5)))
-        self.pool = [self.projection([owner, owner, owner] + receivers) for _ in range(3)]
-        self.pool = [p if self.chance(0.3) else (PROJECTION, p[1], (interface[0],) + p[2][1:]) + p[3:] for p in self.pool]
-        self.pool += [(PROJECTION, owner, interface, rng.randrange(3), ()), (PROJECTION, owner, (interface[0], (), ()), 0, ())]
-        if self.chance(0.3) and interface[2]:
-            # Outputs with projections inside, among them the projection itself.
-            at = rng.randrange(len(interface[2]))
-            inner = rng.choice(self.pool + [(PROJECTION, owner, (interface[0], (), ()), interface[2][at][0], ())])
-            new = inner if self.chance(0.4) else (TUPLE, (inner, I8))
-            interface = interface[:2] + (interface[2][:at] + ((interface[2][at][0], new),) + interface[2][at + 1:],)
-        term = self.with_pool()
-        if self.chance(0.08):
-            term = self.deep(term if self.chance(0.8) else I8)
-        elif self.chance(0.09):
-            owner = I8
-            term, value = self.wide((PROJECTION, I8, (1, (), ()), 0, ()))
-            interface = (1, (), ((0, value),))
-        self.put(term, Bare(interface), owner)
-
-    def with_pool(self):
-        self.pool_share = 0.5
-        term = self.term()
-        if self.chance(0.6):
-            term = (TUPLE, (term, self.rng.choice(self.pool)))
-        return term
-
-    def order_20(self):
-        rng = self.rng
-        self.without(GENERIC)
-        receivers = self.receivers()
-        self.pool = [self.projection(receivers) for _ in range(4)]
-        rules = []
-        for _ in range(rng.randrange(6)):
-            projection = rng.choice(self.pool)
-            value = projection if self.chance(0.06) else self.term(rng.choice((1, 1, 2, 3)))
-            if self.chance(0.35):
-                projection = self.other(projection)
-            rules.append((projection, value))
-        term = self.with_pool()
-        if self.chance(0.15):
-            term = self.somewhere(term, self.other)
-        if self.chance(0.08):
-            term = self.deep(term if self.chance(0.8) else I8)
-        elif self.chance(0.09):
-            one = (PROJECTION, I8, (1, (), ()), 0, ())
-            term, value = self.wide(one)
-            rules.insert(0, (one, value))
-        self.put(len(rules))
-        for (_, receiver, interface, member, arguments), value in rules:
-            self.put(Bare(interface), receiver, member, len(arguments), *arguments, value)
-        self.put(term)
-
-    # Bytes
-
-    def data(self):
-        out = bytearray([self.kind])
-        for piece in self.pieces:
-            if isinstance(piece, int):
-                out += number_bytes(piece)
-            elif isinstance(piece, Bare):
-                out += nominal_written(piece.nominal)
-            else:
-                out += written(piece)
-        return bytes(out)
-
-    def terms_at(self):
-        return [at for at, piece in enumerate(self.pieces) if isinstance(piece, tuple)]
-
-    def nominals_at(self):
-        return [at for at, piece in enumerate(self.pieces) if isinstance(piece, Bare)]
-
-    def add_inside(self, change):
-        """One of the terms of the order changed, or one more argument in a nominal."""
-        nominals = self.nominals_at()
-        if nominals and self.chance(0.4):
-            at = self.rng.choice(nominals)
-            declaration, arguments, members = self.pieces[at].nominal
-            if members and self.chance(0.5):
-                members = members[:-1] + ((members[-1][0], change(members[-1][1])),)
-            else:
-                arguments += (change(NEW),)
-            self.pieces[at] = Bare((declaration, arguments, members))
-        else:
-            at = self.rng.choice(self.terms_at())
-            self.pieces[at] = change(self.pieces[at])
-
-    def make_levels(self, levels):
-        """A term of the order gets exactly so many levels."""
-        def change(term):
-            for _ in range(levels - height(term)):
-                parts = [term] if self.chance(0.8) else self.rng.choice(([term, I8], [I8, term]))
-                term = self.around(parts)
-            return term
-        self.add_inside(change)
-
-    def make_nodes(self, nodes):
-        """The order gets exactly so many nodes."""
-        before = Fields(self.data())
-        before.read()
-        more = nodes - before.nodes_read
-
-        def change(term):
-            # A new argument of a nominal is one node more.
-            pads = more - 1 - (term is NEW)
-            return (TUPLE, (term,) + (THE_UNKNOWN,) * pads)
-        if more >= 3:
-            self.add_inside(change)
-
-
-# Damage
-
-def faulty_field(mark, rng):
-    what, start, end, detail = mark
-    if what == "tag":
-        return bytes([rng.choice((20, 21, 255, rng.randrange(20, 256)))])
-    if what == "code":
-        return bytes([rng.choice((detail, detail, detail + 1, 128, 255))])
-    if what == "member" and rng.random() < 0.8:
-        return number_bytes(rng.choice((detail, detail, max(0, detail - 1), rng.randint(0, detail))))
-    if rng.random() < 0.3:
-        return number_bytes(min(Orders.MOST, max(0, detail + rng.choice((1, -1, 2, 127)))))
-    return not_shortest(rng) if rng.random() < 0.5 else too_large(rng)
-
-
-def damaged_fields(data, rng):
-    fields = Fields(data)
-    try:
-        fields.read()
-    except reference.Refused:
-        pass
-    marks = [mark for mark in fields.marks if mark[2] <= len(data)]
-    if not marks:
-        return data + b"\x00"
-    rare = [mark for mark in marks if mark[0] in ("member", "code")]
-    chosen = [rng.choice(rare if rare and rng.random() < 0.5 else marks) for _ in range(rng.choice((1, 1, 1, 2)))]
-    data = bytearray(data)
-    for mark in sorted(set(chosen), key=lambda mark: mark[1], reverse=True):
-        data[mark[1]:mark[2]] = faulty_field(mark, rng)
-    return bytes(data)
-
-
-def with_falling_members(maker):
-    """A nominal somewhere gets members that do not rise."""
-    rng = maker.rng
-    last = rng.choice((0, 1, 5, 127, 128, Orders.MOST - 1))
-    nominal = (rng.randrange(3), (), ((last, maker.leaf()), (rng.choice((last, last, max(0, last - 1), 0)), maker.leaf())))
-    nominals = maker.nominals_at()
-    if nominals and rng.random() < 0.5:
-        maker.pieces[rng.choice(nominals)] = Bare(nominal)
-    elif rng.random() < 0.5:
-        maker.add_inside(lambda term: (TUPLE, (term, (rng.choice(NOMINALS), nominal))))
-    else:
-        maker.add_inside(lambda term: (PROJECTION, term, nominal, 0, ()))
-
-
-def random_order(rng):
-    pick = rng.random()
-    if pick < 0.005:
-        return b""
-    if pick < 0.02:
-        return bytes([rng.choice((21, 22, 29, 127, 128, 137, 255, rng.randrange(21, 256)))]) + rng.randbytes(rng.randrange(6))
-    kind = rng.choice(KINDS + (19, 20))
-    if pick < 0.03:
-        # Small bytes at random: most of them are tags, codes and counts.
-        return bytes([kind]) + bytes(rng.randrange(21) for _ in range(rng.randrange(12)))
-    maker = Maker(rng, kind).order()
-    pick = rng.random()
-    if pick < 0.035:
-        maker.make_levels(rng.choice((199, 200, 200, 201, 201, 202)))
-        data = maker.data()
-        if rng.random() < 0.2:
-            # The deepest term is missing or has an unlisted tag.
-            fields = Fields(data)
-            fields.LEVELS = 1000
-            fields.read()
-            return data[:fields.deepest[0]] + rng.choice((b"", b"\x14", b"\xff\x02"))
-        return data
-    if pick < 0.06:
-        maker.make_nodes(rng.choice((2047, 2048, 2048, 2049, 2049, 2049, 2050)))
-        data = maker.data()
-        return data if rng.random() < 0.8 else rng.choice((data + b"\x02", data[:-1]))
-    if pick < 0.08:
-        with_falling_members(maker)
-        return maker.data()
-    data = maker.data()
-    if pick < 0.65:
-        return data
-    if pick < 0.87:
-        data = damaged_fields(data, rng)
-    if pick > 0.83:
-        kind_byte = data[:1]
-        for _ in range(rng.choice((1, 1, 1, 2))):
-            data = damaged_bytes(data, rng)
-        if data and data[0] not in ROWS and data[0] < 21:
-            # Kinds 0 to 8 belong to the session.
-            data = kind_byte + data[1:]
-    return data
-
-
-def random_orders(how_many, seed):
-    rng = random.Random(seed)
-    for _ in range(how_many):
-        yield random_order(rng)
 
 
 # Inputs
@@ -789,19 +143,6 @@ def output_of(command, data, room):
     return reference.run(data, room=room) if command is None else program_output(command, data)
 
 
-def compare(pairs, output):
-    """Compares the answers to one input with what the program wrote."""
-    if b"".join(reply for _, reply in pairs) == output:
-        return
-    at = 0
-    for index, (order, reply) in enumerate(pairs):
-        if output[at:at + len(reply)] != reply:
-            raise Differs("order     %s\nreference %s\nprogram   %s ..."
-                          % (shown(order), shown(reply), shown(output[at:at + len(reply) + 8])), index)
-        at += len(reply)
-    raise Differs("the program answers more than %d orders: %s ..." % (len(pairs), shown(output[at:at + 40])), len(pairs))
-
-
 def slipped(pairs, how):
     return [(order, framed(reference.answer(order, how))) for order, _ in pairs]
 
@@ -810,14 +151,6 @@ def slipped(pairs, how):
 
 def row_of(order):
     return "empty" if not order else order[0] if order[0] in KINDS else "other kind"
-
-
-def value_of(reply):
-    """The answer without its length."""
-    at = 0
-    while reply[at] >= 128:
-        at += 1
-    return reply[at + 1:]
 
 
 def errors_in(term):
@@ -835,45 +168,24 @@ def answers_of(order, value):
         return [value.hex()[1::2]]
     if kind == 18 and value == b"\x00":
         return ["none"]
-    fields = Fields(order).read()
+    fields = MarkedFields(order).read()
     source = fields[{11: 0, 12: 1, 13: 2, 14: 2, 18: 1, 19: 0, 20: 1}[kind]]
     value = value[1:] if kind == 18 else value
     found = ["same" if written(source) == value else "changed"]
-    if kind >= 19 and errors_in(Fields(value).term(-1000)) > errors_in(source):
+    if kind >= 19 and errors_in(MarkedFields(value).term(-1000)) > errors_in(source):
         found.append("new Error")
     return found
 
 
-class Tables:
-    def __init__(self):
-        self.outcomes = {row: dict.fromkeys(range(10), 0) for row in ROWS}
-        self.answers = {kind: dict.fromkeys(names, 0) for kind, names in ANSWERS.items()}
+def table_of():
+    def least(total):
+        return max(1, LEAST_SHARE * total)
+    return OutcomeTable(CAN_OCCUR, OUTCOMES, ANSWERS, least, least)
 
-    def add(self, order, reply):
-        row, value = row_of(order), value_of(reply)
-        self.outcomes[row][value[0]] += 1
-        if value[0] == 0:
-            for name in answers_of(order, value[1:]):
-                self.answers[row][name] += 1
 
-    def show(self):
-        """Prints both tables; gives the shares that are too small."""
-        poor = []
-        print("\nOutcomes of the random orders\n%-12s%8s" % ("", "orders") + "".join("%7d" % outcome for outcome in OUTCOMES))
-        for row in ROWS:
-            counts = self.outcomes[row]
-            total = sum(counts.values())
-            print("%-12s%8d" % (row, total)
-                  + "".join("%7s" % (counts[o] if o in CAN_OCCUR[row] or counts[o] else "-") for o in OUTCOMES))
-            poor += ["%s, outcome %d: %d of %d" % (row, o, counts[o], total) for o in CAN_OCCUR[row]
-                     if counts[o] < max(1, LEAST_SHARE * total)]
-        print("\nWhat the unrefused ones answer")
-        for kind, counts in self.answers.items():
-            total = self.outcomes[kind][0]
-            print("%-12s%8d   " % (kind, total) + ", ".join("%s %d" % pair for pair in counts.items()))
-            poor += ["%s, %s: %d of %d" % (kind, name, count, total) for name, count in counts.items()
-                     if count < max(1, LEAST_SHARE * total)]
-        return poor
+def add(table, order, reply):
+    value = split(reply)[0][0]
+    table.add(row_of(order), value[0], answers_of(order, value[1:]) if value[0] == 0 else ())
 
 
 # Running
@@ -890,13 +202,13 @@ def groups(options):
 
 def check(command, options, how):
     orders_cases.check_stated()
-    tables, passed = Tables(), 0
+    table, passed = table_of(), 0
     for group, inputs in groups(options):
         count = 0
         for data, pairs in inputs:
             try:
                 output = output_of(command, data, options.output)
-                compare(pairs if how is Orders else slipped(pairs, how), output)
+                compare("order", pairs if how is Orders else slipped(pairs, how), output)
             except Differs as difference:
                 text, agreed = difference.args
                 print("%s, after %d that agree:\n%s" % (group, count + agreed, text))
@@ -905,16 +217,11 @@ def check(command, options, how):
             count += len(pairs)
             if group == "random orders":
                 for pair in pairs:
-                    tables.add(*pair)
+                    add(table, *pair)
         print("%-14s%9d" % (group, count))
         passed += count
-    poor = tables.show()
-    if options.orders < DEFAULT_ORDERS:
-        poor = []
-    for line in poor:
-        print("too few: " + line)
-    print("%d passed, %d failed" % (passed, len(poor)))
-    return 1 if poor else 0
+    poor = table.show("Outcomes of the random orders")
+    return verdict(passed, poor if options.orders >= DEFAULT_ORDERS else [])
 
 
 def check_slips(command, options):
@@ -931,7 +238,7 @@ def check_slips(command, options):
                 break
             try:
                 output = output_of(command, data, options.output)
-                compare(pairs, output)
+                compare("order", pairs, output)
             except Differs as difference:
                 print("the reference without a slip differs too:\n%s" % difference.args[0])
                 print("0 passed, 1 failed")
@@ -947,14 +254,21 @@ def check_slips(command, options):
                     del here[name]
             count += len(pairs)
     left.update(runs)
-    for name in left:
-        print("%-44s NOT FOUND" % name)
-    print("%d passed, %d failed" % (len(SLIPS) - len(left), len(left)))
-    return 1 if left else 0
+    return slips_verdict(SLIPS, left)
 
 
-def command_of(options):
+def program_arguments(parser):
+    """What is compared with the reference."""
+    parser.add_argument("--program", help="the program, with its arguments if it takes any")
+    parser.add_argument("--oracle", action="store_true")
+    oracle.source_argument(parser)
+    parser.add_argument("--self", action="store_true")
+
+
+def command_of(parser, options):
     """The command that answers, or None for the plain reference."""
+    if bool(options.program) + options.oracle + options.self != 1:
+        parser.error("give one of --program, --oracle and --self")
     if options.oracle:
         try:
             return [oracle.build(options.source), str(options.output)]
@@ -968,18 +282,13 @@ def command_of(options):
 
 def main():
     parser = argparse.ArgumentParser(description=__doc__, formatter_class=argparse.RawDescriptionHelpFormatter)
-    parser.add_argument("--program", help="the program, with its arguments if it takes any")
-    parser.add_argument("--oracle", action="store_true")
-    parser.add_argument("--source", default=oracle.SOURCE, metavar="DIR", help="Kagari's sources, for --oracle")
-    parser.add_argument("--self", action="store_true")
+    program_arguments(parser)
     parser.add_argument("--orders", type=int, default=DEFAULT_ORDERS, metavar="N")
     parser.add_argument("--seed", type=int, default=1, metavar="S")
     parser.add_argument("--output", type=int, default=Orders.OUTPUT, metavar="BYTES")
     parser.add_argument("--slip", choices=["all"] + list(SLIPS), metavar="NAME")
     options = parser.parse_args()
-    if bool(options.program) + options.oracle + options.self != 1:
-        parser.error("give one of --program, --oracle and --self")
-    command = command_of(options)
+    command = command_of(parser, options)
     if options.slip == "all":
         return check_slips(command, options)
     return check(command, options, SLIPS[options.slip] if options.slip else Orders)

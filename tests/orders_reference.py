@@ -15,12 +15,14 @@ is a tuple of pairs (member, term).
 Only the kinds 9 to 20 are listed here. An order of another kind gives
 refusal 2.
 
-The operations are methods, so that orders_slips.py can replace one.
+The operations are methods, so that orders_slips.py can replace one. The
+bytes are read by terms_reference.py, which says what the references do not
+share.
 """
 
 import sys
 
-from terms_reference import NOMINAL, Reader, Refused, framed, number_bytes
+from terms_reference import NOMINAL, Reader, Refused, answered, framed, number_bytes, split
 
 # A level takes up to six Python calls. A term that is read has at most 200
 # levels, and one that is answered at most 400.
@@ -483,33 +485,10 @@ def answer(order, how=Orders):
         return bytes(refusal.args)
 
 
-def orders_of(data, how=Orders):
-    """The orders of an input, up to the first length that is faulty or beyond it."""
-    lengths = how(data[:how.INPUT])
-    orders = []
-    while lengths.at < len(lengths.data):
-        try:
-            length = lengths.number()
-        except Refused:
-            break
-        if length > len(lengths.data) - lengths.at:
-            break
-        orders.append(lengths.data[lengths.at:lengths.at + length])
-        lengths.at += length
-    return orders
-
-
 def answers(data, how=Orders, room=None):
     """The answered orders of an input: pairs (order, answer with its length)."""
     room = how.OUTPUT if room is None else room
-    pairs = []
-    for order in orders_of(data, how):
-        reply = framed(answer(order, how))
-        room -= len(reply)
-        if room < 0:
-            break
-        pairs.append((order, reply))
-    return pairs
+    return answered(split(data[:how.INPUT], how)[0], lambda order: framed(answer(order, how)), room)
 
 
 def run(data, how=Orders, room=None):

@@ -1,27 +1,16 @@
-"""Orders carried out with one deliberate fault each.
-
-A comparison that does not tell such an operation from a sound one tests too
-little. SLIPS gives them by name.
-"""
+"""Orders carried out with one deliberate fault each; SLIPS gives them by name. slips.py says what for."""
 
 from orders_reference import (
     ERROR, GENERIC, NOMINALS, OPEN, ORDERS, PROJECTION, RECOVERY, SELF_TYPE, SET, MAP, REFERENCE, RANGE, STRUCT, THE_ERROR,
     THE_UNKNOWN, TRAIT, TUPLE, FUNCTION, UNKNOWN, INFERENCE, BUILTIN, WEAK, Orders, children, collection_access, member_names,
     member_of, nominal_children, with_children)
+from slips import Registry
 from terms_reference import NOMINAL, Refused
 
-SLIPS = {}
+SLIPS = Registry(Orders)
+slip, constant = SLIPS.slip, SLIPS.constant
 # These show only in whole inputs, not in single orders.
 RUN_SLIPS = ("input_unbounded", "input_32767", "output_unbounded", "output_32767")
-
-
-def slip(how):
-    SLIPS[how.__name__] = how
-    return how
-
-
-def constant(name, **values):
-    SLIPS[name] = type(name, (Orders,), values)
 
 
 # Limits and tables

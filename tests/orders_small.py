@@ -3,6 +3,7 @@
 
   python3 tests/orders_small.py --program PROGRAM [--kind K]
   python3 tests/orders_small.py --oracle [--source DIR] [--kind K]
+  python3 tests/orders_small.py --self [--kind K]
 
 Random orders seldom have two terms that differ in one place only. Here every
 pair of a list of terms is tried, and for the other orders every choice of
@@ -17,11 +18,11 @@ import itertools
 import random
 import sys
 
-from orders_compare import Gathered, command_of, compare, oracle, output_of
+from comparing import Differs, compare
+from orders_compare import Gathered, command_of, output_of, program_arguments
 from orders_reference import (
     ARRAY, BUILTIN, FUNCTION, GENERIC, HOST, INFERENCE, ITER, MAP, NOMINALS, PROJECTION, RANGE, REFERENCE, SELF_TYPE, SET,
     THE_ERROR, THE_UNKNOWN, TRAIT, TUPLE, Orders, nominal_written, number_bytes, terms_written, written)
-from terms_compare import Differs
 
 I8, G, S = (BUILTIN, 0), (GENERIC, 0, 0), (SELF_TYPE, 0)
 LEAVES = [THE_UNKNOWN, THE_ERROR, (INFERENCE, 0), (INFERENCE, 1), I8, (BUILTIN, 1), (BUILTIN, 8), (BUILTIN, 10), (HOST, 0),
@@ -170,7 +171,7 @@ def check(command, kinds):
         orders = (bytes([kind]) + fields for fields in fields_of(kind))
         for data, pairs in gathered.inputs(orders, random.Random(kind)):
             try:
-                compare(pairs, output_of(command, data, Orders.OUTPUT))
+                compare("order", pairs, output_of(command, data, Orders.OUTPUT))
             except Differs as difference:
                 print("order %d, after %d that agree:\n%s" % (kind, count + difference.args[1], difference.args[0]))
                 print("%d passed, 1 failed" % (passed + count + difference.args[1]))
@@ -184,15 +185,11 @@ def check(command, kinds):
 
 def main():
     parser = argparse.ArgumentParser(description=__doc__, formatter_class=argparse.RawDescriptionHelpFormatter)
-    parser.add_argument("--program", help="the program, with its arguments if it takes any")
-    parser.add_argument("--oracle", action="store_true")
-    parser.add_argument("--source", default=oracle.SOURCE, metavar="DIR", help="Kagari's sources, for --oracle")
+    program_arguments(parser)
     parser.add_argument("--kind", type=int, choices=range(9, 21), metavar="K")
     parser.set_defaults(output=Orders.OUTPUT)
     options = parser.parse_args()
-    if bool(options.program) == options.oracle:
-        parser.error("give --program or --oracle")
-    return check(command_of(options), [options.kind] if options.kind else range(9, 21))
+    return check(command_of(parser, options), [options.kind] if options.kind else range(9, 21))
 
 
 if __name__ == "__main__":

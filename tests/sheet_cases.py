@@ -23,11 +23,11 @@ from struct import pack
 
 import orders_cases
 import sheet_reference as reference
+from cases import check_plain, check_slips, check_stored, put, run_cases, shortened, store
 from orders_cases import (
     F32, F64, I8, I32, I64, MUT, NEVER, NONE, RO, RW, SHARED, E, U, arr, builtin, enum, fun, gen, host, inf, iter_, map_, native,
     nom, num, params, proj, range_, ref, self_, seq, set_, struct, subst, trait, tup)
 from sheet_reference import Run, Sheet
-from terms_cases import check_stored
 from terms_reference import Reader, framed
 
 MOST = 4294967295
@@ -880,15 +880,9 @@ make()
 
 # ---------------------------------------------------------------- Running
 
-def put(path, content):
-    with open(path, "wb") as file:
-        file.write(content)
-
-
 def write(directory):
     sheet, run = next((sheet, run) for name, _, sheet, run in SHEETS if name == "together")
-    put(os.path.join(directory, "stdin"), sheet)
-    put(os.path.join(directory, "stdout"), run.output)
+    store(directory, sheet, run.output)
     print("%d orders, %d bytes in, %d bytes out" % (run.orders, len(sheet), len(run.output)))
 
 
@@ -926,13 +920,12 @@ def all_frames():
 
 def write_frames(directory):
     data, stated, count = all_frames()
-    put(os.path.join(directory, "stdin"), data)
-    put(os.path.join(directory, "stdout"), stated)
+    store(directory, data, stated)
     print("%d runs, %d bytes in, %d bytes out" % (count, len(data), len(stated)))
 
 
-def shortened(text):
-    return text if len(text) < 90 else text[:84] + " ..."
+def check(directory):
+    return check_stored(directory, *all_frames())
 
 
 def listing():
@@ -954,34 +947,15 @@ def listing():
 def slips():
     """Sheets with large shared terms are left out: some slips walk them as trees."""
     from sheet_slips import PLAIN, SLIPS
-    missed = 0
     sheets = [each for each in SHEETS if each[0] not in LARGE and "2^40" not in each[0] and len(each[2]) <= Sheet.INPUT
               and each[3].reason != 12]
-    for how in PLAIN:
-        for name, room, sheet, run in sheets:
-            if reference.run(sheet, room, how) != run:
-                sys.exit("%s has no fault, but differs: %s" % (how.__name__, name))
-    for slip, how in SLIPS.items():
-        finder = next((name for name, room, sheet, run in sheets if reference.run(sheet, room, how) != run), None)
-        missed += finder is None
-        print("%-44s %s" % (slip, finder or "NOT FOUND"))
-    print("%d passed, %d failed" % (len(SLIPS) - missed, missed))
-    return missed != 0
 
-
-def main(words):
-    if len(words) == 2 and words[0] in ("write", "sheets"):
-        return (write if words[0] == "write" else write_sheets)(words[1])
-    if len(words) == 2 and words[0] == "frames":
-        return write_frames(words[1])
-    if len(words) == 2 and words[0] == "check":
-        return check_stored(words[1], *all_frames())
-    if words == ["list"]:
-        return listing()
-    if words == ["slips"]:
-        return slips()
-    sys.exit(__doc__)
+    def finder(how):
+        return next((name for name, room, sheet, run in sheets if reference.run(sheet, room, how) != run), None)
+    check_plain(PLAIN, finder)
+    return check_slips(SLIPS, finder)
 
 
 if __name__ == "__main__":
-    sys.exit(main(sys.argv[1:]))
+    sys.exit(run_cases(__doc__, {"list": listing, "slips": slips},
+                       {"write": write, "sheets": write_sheets, "frames": write_frames, "check": check}))

@@ -34,7 +34,6 @@ in a run of 20,000 sheets or more.
 """
 
 import argparse
-import os
 import shlex
 import shutil
 import struct
@@ -44,25 +43,21 @@ import sys
 import sheet_cases
 import sheet_generate
 import sheet_reference as reference
+from comparing import Differs, OutcomeTable, program_output, shown, slips_verdict, verdict
+from oracle import build as oracle
 from sheet_reference import Run, Sheet
 from sheet_slips import SLIPS
-from terms_compare import Differs, program_output, shown
-from terms_reference import Reader, framed
-
-sys.path.insert(0, os.path.join(os.path.dirname(os.path.abspath(__file__)), "oracle"))
-
-import build as oracle
+from terms_reference import framed, split
 
 DEFAULT_SHEETS = 20000
 LEAST_SHARE = 0.001
 AT_ONCE = 400
 LEFT = 255
 KINDS = tuple(range(21))
-ROWS = KINDS + ("other kind", "empty")
 OUTCOMES = tuple(range(10))
+# Of orders 9 to 20 these are asked for here; orders_compare.py has all that can occur.
 CAN_OCCUR = {0: (0, 1, 3, 8), 1: (0, 1, 2, 3, 8), 2: (0, 1, 3, 8), 3: range(8), 4: range(8), 5: range(8), 6: (0, 1), 7: (0, 1),
-             8: (0, 1), "other kind": (2,), "empty": (1,)}
-CAN_OCCUR.update({kind: (0, 1, 7) for kind in range(9, 21)})
+             8: (0, 1), **{kind: (0, 1, 7) for kind in range(9, 21)}, "other kind": (2,), "empty": (1,)}
 ANSWERS = {1: ("itself", "bound"), 2: ("itself", "bound"), 4: ("incompatible", "compatible", "cancelled"),
            5: ("same", "changed"), 6: ("no", "yes"), 7: ("no", "yes"), 8: ("0", "1", "more")}
 
@@ -162,22 +157,6 @@ def agrees(wanted, found):
 
 # Differences
 
-def orders_of(sheet):
-    """The orders of a sheet, and what stands behind them."""
-    lengths, orders = Reader(sheet), []
-    while lengths.at < len(sheet):
-        start = lengths.at
-        try:
-            length = lengths.number()
-        except reference.Refused:
-            return orders, sheet[start:]
-        if length > len(sheet) - lengths.at:
-            return orders, sheet[start:]
-        orders.append(sheet[lengths.at:lengths.at + length])
-        lengths.at += length
-    return orders, b""
-
-
 def smallest(program, room, sheet, how):
     """The sheet with orders taken out as long as the program differs."""
     def differs(orders, rest):
@@ -186,7 +165,7 @@ def smallest(program, room, sheet, how):
             return not agrees(wanted_of(program, room, data, how), program.runs([(room, data)])[0])
         except Differs:
             return True
-    orders, rest = orders_of(sheet)
+    orders, rest = split(sheet)
     if rest and differs(orders, b""):
         rest = b""
     size = len(orders)
@@ -209,7 +188,7 @@ def described(program, room, sheet, how=Sheet):
         found = program.runs([(room, sheet)])[0]
     except Differs as difference:
         return difference.args[0]
-    orders, rest = orders_of(sheet)
+    orders, rest = split(sheet)
     lines = ["  " + shown(each) for each in orders] + (["  then " + shown(rest)] if rest else [])
     return "room %d, orders:\n%s\nreference %s, %s orders: %s\nprogram   %s, %s orders: %s" % (
         room, "\n".join(lines), wanted.reason, wanted.orders, shown(wanted.output), found.reason, found.orders, shown(found.output))
@@ -219,14 +198,6 @@ def described(program, room, sheet, how=Sheet):
 
 def row_of(order):
     return "empty" if not order else order[0] if order[0] in KINDS else "other kind"
-
-
-def answers_in(output):
-    fields = Reader(output)
-    while fields.at < len(output):
-        length = fields.number()
-        yield output[fields.at:fields.at + length]
-        fields.at += length
 
 
 def answer_name(order, value):
@@ -241,42 +212,28 @@ def answer_name(order, value):
 
 
 class Tables:
+    """The outcomes, the reasons, and how many sheets each family has."""
+
     def __init__(self):
-        self.outcomes = {row: dict.fromkeys(OUTCOMES, 0) for row in ROWS}
-        self.answers = {kind: dict.fromkeys(names, 0) for kind, names in ANSWERS.items()}
+        self.table = OutcomeTable(CAN_OCCUR, OUTCOMES, ANSWERS, lambda total: max(5, LEAST_SHARE * total / 4),
+                                  lambda total: max(5, LEAST_SHARE * total))
         self.reasons = {0: 0, 10: 0, 11: 0}
         self.families = {}
 
     def add(self, family, sheet, run):
         self.families[family] = self.families.get(family, 0) + 1
         self.reasons[run.reason] += 1
-        for order, answer in zip(orders_of(sheet)[0], answers_in(run.output)):
+        for order, answer in zip(split(sheet)[0], split(run.output)[0]):
             row = row_of(order)
-            self.outcomes[row][answer[0]] += 1
-            if answer[0] == 0 and row in ANSWERS:
-                self.answers[row][answer_name(order, answer[1:])] += 1
+            named = answer[0] == 0 and row in ANSWERS
+            self.table.add(row, answer[0], [answer_name(order, answer[1:])] if named else ())
 
     def show(self):
         """Prints the tables; gives the entries that are too rare."""
-        poor = []
-        print("\nOutcomes of the orders\n%-12s%8s" % ("", "orders") + "".join("%7d" % outcome for outcome in OUTCOMES))
-        for row in ROWS:
-            counts = self.outcomes[row]
-            total = sum(counts.values())
-            print("%-12s%8d" % (row, total)
-                  + "".join("%7s" % (counts[o] if o in CAN_OCCUR[row] or counts[o] else "-") for o in OUTCOMES))
-            poor += ["%s, outcome %d: %d of %d" % (row, o, counts[o], total) for o in CAN_OCCUR[row]
-                     if counts[o] < max(5, LEAST_SHARE * total / 4)]
-        print("\nWhat the unrefused ones answer")
-        for kind, counts in self.answers.items():
-            total = self.outcomes[kind][0]
-            print("%-12s%8d   " % (kind, total) + ", ".join("%s %d" % pair for pair in counts.items()))
-            poor += ["%s, %s: %d of %d" % (kind, name, count, total) for name, count in counts.items()
-                     if count < max(5, LEAST_SHARE * total)]
+        poor = self.table.show("Outcomes of the orders")
         print("\nReasons      " + ", ".join("%d: %d" % pair for pair in self.reasons.items()))
-        poor += ["reason %d: %d" % pair for pair in self.reasons.items() if pair[1] < 5]
         print("Families     " + ", ".join("%s %d" % pair for pair in sorted(self.families.items())))
-        return poor
+        return poor + ["reason %d: %d" % pair for pair in self.reasons.items() if pair[1] < 5]
 
 
 # Running
@@ -342,12 +299,7 @@ def check(programs, options, how):
     poor = tables.show()
     if left:
         print("%d sheets left by the oracle before their end" % left)
-    if options.sheets < DEFAULT_SHEETS:
-        poor = []
-    for line in poor:
-        print("too few: " + line)
-    print("%d passed, %d failed" % (passed, len(poor)))
-    return 1 if poor else 0
+    return verdict(passed, poor if options.sheets >= DEFAULT_SHEETS else [])
 
 
 def check_slips(options):
@@ -363,13 +315,21 @@ def check_slips(options):
             if reference.run(sheet, room, how) != wanted:
                 print("%-44s sheet %d, %s" % (name, count, family))
                 del left[name]
-    for name in left:
-        print("%-44s NOT FOUND" % name)
-    print("%d passed, %d failed" % (len(SLIPS) - len(left), len(left)))
-    return 1 if left else 0
+    return slips_verdict(SLIPS, left)
 
 
-def programs_of(options):
+def program_arguments(parser):
+    """What is compared with the reference."""
+    parser.add_argument("--program", help="the program, with its arguments if it takes any")
+    parser.add_argument("--batch", metavar="COMMAND")
+    parser.add_argument("--frames", metavar="COMMAND")
+    parser.add_argument("--oracle", action="store_true")
+    oracle.source_argument(parser)
+    parser.add_argument("--self", action="store_true")
+
+
+def programs_of(parser, options):
+    """The programs by name; there is at least one."""
     programs = {}
     if options.oracle:
         try:
@@ -387,27 +347,21 @@ def programs_of(options):
             programs[name] = kind(command)
     if options.self:
         programs["reference"] = Plain()
+    if not programs:
+        parser.error("give --program, --oracle, --batch, --frames or --self")
     return programs
 
 
 def main():
     parser = argparse.ArgumentParser(description=__doc__, formatter_class=argparse.RawDescriptionHelpFormatter)
-    parser.add_argument("--program", help="the program, with its arguments if it takes any")
-    parser.add_argument("--batch", metavar="COMMAND")
-    parser.add_argument("--frames", metavar="COMMAND")
-    parser.add_argument("--oracle", action="store_true")
-    parser.add_argument("--source", default=oracle.SOURCE, metavar="DIR", help="Kagari's sources, for --oracle")
-    parser.add_argument("--self", action="store_true")
+    program_arguments(parser)
     parser.add_argument("--sheets", type=int, default=DEFAULT_SHEETS, metavar="N")
     parser.add_argument("--seed", type=int, default=1, metavar="S")
     parser.add_argument("--slip", choices=["all"] + list(SLIPS), metavar="NAME")
     options = parser.parse_args()
     if options.slip == "all":
         return check_slips(options)
-    programs = programs_of(options)
-    if not programs:
-        parser.error("give --program, --oracle, --batch, --frames or --self")
-    return check(programs, options, SLIPS[options.slip] if options.slip else Sheet)
+    return check(programs_of(parser, options), options, SLIPS[options.slip] if options.slip else Sheet)
 
 
 if __name__ == "__main__":

@@ -29,12 +29,12 @@ import random
 import sys
 
 import sheet_reference as reference
-from orders_compare import Fields, Maker, faulty_field, random_order
+from orders_generate import Maker, MarkedFields, faulty_field, random_order
 from orders_reference import (
     ARRAY, BUILTIN, ENUM, FUNCTION, GENERIC, HOST, INFERENCE, ITER, MAP, NATIVE_OBJECT, ORDERS, PROJECTION, RANGE, REFERENCE,
     SELF_TYPE, SET, STRUCT, THE_ERROR, THE_UNKNOWN, TRAIT, TUPLE, children, with_children, written)
 from sheet_reference import Sheet
-from terms_compare import damaged_bytes, not_shortest, too_large
+from terms_generate import damaged_bytes, not_shortest, too_large
 from terms_reference import Refused, framed, number_bytes
 
 MOST = 4294967295
@@ -615,7 +615,7 @@ def deep(rng):
     yield ROOM, script.sheet()
 
 
-class Marked(Fields):
+class Marked(MarkedFields):
     """Marks the fields of the solver's orders too."""
 
     ORDERS = {**ORDERS, **{kind: row[:1] for kind, row in reference.ORDERS.items()}}

@@ -16,7 +16,9 @@ what a pair took that bound nothing. With these, chains of doubled terms take
 polynomial time. Orders 9 to 20 work on trees: an order 12 with an answer of
 some million nodes takes seconds here.
 
-The operations are methods, so that sheet_slips.py can replace one.
+The operations are methods, so that sheet_slips.py can replace one. The
+bytes are read by terms_reference.py, which says what the references do not
+share.
 """
 
 import sys

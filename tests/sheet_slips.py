@@ -1,8 +1,5 @@
 #!/usr/bin/env python3
-"""Sheets carried out with one deliberate fault each.
-
-A comparison that does not tell such a solver from a sound one tests too
-little. SLIPS gives them by name.
+"""Sheets carried out with one deliberate fault each; SLIPS gives them by name. slips.py says what for.
 
   python3 tests/sheet_slips.py [--sheets N] [--seed S]
 
@@ -26,18 +23,11 @@ from orders_reference import BUILTIN, ENUM, ERROR, FUNCTION, HOST, INFERENCE, MA
 from orders_reference import STRUCT, TUPLE, UNKNOWN, Orders
 from sheet_reference import (
     CANCELLED, COMPATIBLE, ENTERED, F32, F64, FLOATS, INCOMPATIBLE, INTEGERS, NEVER, Fields, Node, Run, Sheet)
+from slips import Registry
 from terms_reference import Reader, Refused, number_bytes
 
-SLIPS = {}
-
-
-def slip(how):
-    SLIPS[how.__name__] = how
-    return how
-
-
-def constant(name, **values):
-    SLIPS[name] = type(name, (Sheet,), values)
+SLIPS = Registry(Sheet)
+slip, constant = SLIPS.slip, SLIPS.constant
 
 
 # What the buyer sends back

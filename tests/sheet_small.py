@@ -32,7 +32,8 @@ import sheet_reference as reference
 from orders_reference import (
     ARRAY, BUILTIN, FUNCTION, GENERIC, HOST, INFERENCE, ITER, MAP, NOMINALS, PROJECTION, RANGE, REFERENCE, SELF_TYPE, SET,
     STRUCT, THE_ERROR, THE_UNKNOWN, TUPLE, children, with_children, written)
-from sheet_compare import LEFT, Differs, Program, Run, agrees, described, in_chunks, oracle, programs_of
+from comparing import Differs
+from sheet_compare import LEFT, Program, Run, agrees, described, in_chunks, program_arguments, programs_of
 from terms_reference import framed, number_bytes
 
 X, Y, Z = (INFERENCE, 0), (INFERENCE, 1), (INFERENCE, 2)
@@ -217,19 +218,11 @@ def check(programs, names, every):
 
 def main():
     parser = argparse.ArgumentParser(description=__doc__, formatter_class=argparse.RawDescriptionHelpFormatter)
-    parser.add_argument("--program", help="the program, with its arguments if it takes any")
-    parser.add_argument("--batch", metavar="COMMAND")
-    parser.add_argument("--frames", metavar="COMMAND")
-    parser.add_argument("--oracle", action="store_true")
-    parser.add_argument("--source", default=oracle.SOURCE, metavar="DIR", help="Kagari's sources, for --oracle")
-    parser.add_argument("--self", action="store_true")
+    program_arguments(parser)
     parser.add_argument("--group", choices=list(GROUPS))
     parser.add_argument("--every", type=int, default=1, metavar="N")
     options = parser.parse_args()
-    programs = programs_of(options)
-    if not programs:
-        parser.error("give --program, --oracle, --batch, --frames or --self")
-    return check(programs, [options.group] if options.group else list(GROUPS), options.every)
+    return check(programs_of(parser, options), [options.group] if options.group else list(GROUPS), options.every)
 
 
 if __name__ == "__main__":

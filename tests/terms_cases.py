@@ -19,10 +19,10 @@ Bytes are hexadecimal. Tags: 00 Reference, 01 Inference, 02 Unknown, 03 Error,
 12 Projection, 13 SelfType.
 """
 
-import os
 import sys
 
 import terms_reference as reference
+from cases import check_slips, check_stored, run_cases, shortened, store
 from terms_slips import SLIPS
 
 MOST = 4294967295
@@ -631,66 +631,31 @@ def case_input():
 
 def write(directory):
     data, stated = case_input()
-    for name, content in (("stdin", data), ("stdout", stated)):
-        with open(os.path.join(directory, name), "wb") as file:
-            file.write(content)
+    store(directory, data, stated)
     print("%d cases, %d bytes in, %d bytes out" % (len(CASES), len(data), len(stated)))
 
 
-def check_stored(directory, data, stated, count):
-    """Whether a crate's stdin and stdout are these; gives the exit status."""
-    wrong = []
-    for name, content in (("stdin", data), ("stdout", stated)):
-        with open(os.path.join(directory, name), "rb") as file:
-            if file.read() != content:
-                wrong.append(os.path.join(directory, name))
-    for name in wrong:
-        print("%s is not what the cases state" % name)
-    print("%d passed, %d failed" % (0 if wrong else count, len(wrong)))
-    return 1 if wrong else 0
+def check(directory):
+    return check_stored(directory, *case_input(), len(CASES))
 
 
 def listing():
     case_input()
     for comment, body, outcome in CASES:
-        shown = body.hex(" ")
-        reply = reference.answer(body).hex(" ")
-        print("%s\n    %s\n    %s" % (comment, shown if len(shown) < 90 else shown[:84] + " ...",
-                                      reply if len(reply) < 90 else reply[:84] + " ..."))
+        print("%s\n    %s\n    %s" % (comment, shortened(body.hex(" ")), shortened(reference.answer(body).hex(" "))))
     print("%d cases" % len(CASES))
 
 
 def slips():
-    data, stated = case_input()
-    missed = 0
-    for name, reader in SLIPS.items():
-        finder = None
-        for comment, body, outcome in CASES:
-            if reference.answer(body, reader) != value_stated(body, outcome):
-                finder = comment
-                break
-        else:
-            for comment, content in [("the input with all cases", data)] + INPUTS:
-                if reference.run(content, reader) != reference.run(content):
-                    finder = "input: " + comment
-                    break
-        missed += finder is None
-        print("%-40s %s" % (name, finder or "NOT FOUND"))
-    print("%d passed, %d failed" % (len(SLIPS) - missed, missed))
-    return missed != 0
+    data, _ = case_input()
 
-
-def main(words):
-    if len(words) == 2 and words[0] == "write":
-        return write(words[1])
-    if len(words) == 2 and words[0] == "check":
-        return check_stored(words[1], *case_input(), len(CASES))
-    if words == ["list"]:
-        return listing()
-    if words == ["slips"]:
-        return slips()
-    sys.exit(__doc__)
+    def finder(reader):
+        found = next((comment for comment, body, outcome in CASES
+                      if reference.answer(body, reader) != value_stated(body, outcome)), None)
+        return found or next(("input: " + comment for comment, content in [("the input with all cases", data)] + INPUTS
+                              if reference.run(content, reader) != reference.run(content)), None)
+    return check_slips(SLIPS, finder)
 
 
 if __name__ == "__main__":
-    sys.exit(main(sys.argv[1:]))
+    sys.exit(run_cases(__doc__, {"list": listing, "slips": slips}, {"write": write, "check": check}))

@@ -9,6 +9,11 @@ run(data) is the answers to an input, which is a run of frames.
 A read term is a pair (tag, parts). The parts are the numbers and the terms
 that follow the tag, in the order of the byte form. A bare nominal has the
 tag None.
+
+This is the lowest of the three references; orders_reference.py and
+sheet_reference.py read by its Reader. None of them shares a line with the
+programs, with tools or with tests/oracle: what they agree on was written
+twice, and that is what the comparisons rest on.
 """
 
 import sys
@@ -233,33 +238,37 @@ def framed(frame):
     return number_bytes(len(frame)) + frame
 
 
-def frames_of(data, reader=Reader):
-    """The frames of an input, up to the first length that is faulty or beyond it."""
-    lengths = reader(data[:reader.INPUT])
-    frames = []
-    while lengths.at < len(lengths.data):
+def split(data, reader=Reader):
+    """The frames of a run of them, up to the first length that is faulty or beyond the end, and what stands from there on."""
+    lengths, frames = reader(data), []
+    while lengths.at < len(data):
+        start = lengths.at
         try:
             length = lengths.number()
         except Refused:
-            break
-        if length > len(lengths.data) - lengths.at:
-            break
-        frames.append(lengths.data[lengths.at:lengths.at + length])
+            return frames, data[start:]
+        if length > len(data) - lengths.at:
+            return frames, data[start:]
+        frames.append(data[lengths.at:lengths.at + length])
         lengths.at += length
-    return frames
+    return frames, b""
 
 
-def answers(data, reader=Reader):
-    """The answered frames of an input: pairs (frame, answer)."""
+def answered(frames, reply_to, room):
+    """Pairs of a frame and its reply, up to the first reply that does not fit whole."""
     pairs = []
-    room = reader.OUTPUT
-    for frame in frames_of(data, reader):
-        reply = answer(frame, reader)
+    for frame in frames:
+        reply = reply_to(frame)
         room -= len(reply)
         if room < 0:
             break
         pairs.append((frame, reply))
     return pairs
+
+
+def answers(data, reader=Reader):
+    """The answered frames of an input: pairs (frame, answer)."""
+    return answered(split(data[:reader.INPUT], reader)[0], lambda frame: answer(frame, reader), reader.OUTPUT)
 
 
 def run(data, reader=Reader):

@@ -1,21 +1,10 @@
-"""Readers with one deliberate fault each.
+"""Readers with one deliberate fault each; SLIPS gives them by name. slips.py says what for."""
 
-A comparison that does not tell such a reader from a sound one tests too
-little. SLIPS gives them by name.
-"""
-
+from slips import Registry
 from terms_reference import FIELDS, Reader, Refused
 
-SLIPS = {}
-
-
-def slip(reader):
-    SLIPS[reader.__name__] = reader
-    return reader
-
-
-def constant(name, **values):
-    SLIPS[name] = type(name, (Reader,), values)
+SLIPS = Registry(Reader)
+slip, constant = SLIPS.slip, SLIPS.constant
 
 
 # Limits and tables

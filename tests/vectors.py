@@ -31,8 +31,9 @@ import judge_sheets
 import orders_compare
 import sheet_compare
 import sheet_reference
-from sheet_compare import LEFT, Batch, Run, answers_in, in_chunks, oracle, orders_of
-from terms_reference import Refused, framed
+from oracle import build as oracle
+from sheet_compare import LEFT, Batch, Run, in_chunks
+from terms_reference import Refused, framed, split
 
 DIRECTORY = os.path.join(oracle.ROOT, "crates", "replay")
 SEED = 7
@@ -60,7 +61,7 @@ def answer_names(order, value):
 def entries(sheet, run):
     """The entries of the table that a run adds to."""
     yield "reason %d" % run.reason
-    for order, answer in zip(orders_of(sheet)[0], answers_in(run.output)):
+    for order, answer in zip(split(sheet)[0], split(run.output)[0]):
         row = sheet_compare.row_of(order)
         yield "%s outcome %d" % (row, answer[0])
         if answer[0] == 0:
@@ -180,8 +181,7 @@ def reference(options):
 def main():
     parser = argparse.ArgumentParser(description=__doc__, formatter_class=argparse.RawDescriptionHelpFormatter)
     parser.add_argument("what", choices=("write", "show", "reference"))
-    parser.add_argument("--source", default=oracle.SOURCE, metavar="DIR", help="Kagari's sources")
-    parser.add_argument("--out", default=oracle.OUT, metavar="DIR", help="where the oracle is built")
+    oracle.arguments(parser)
     options = parser.parse_args()
     return {"write": write, "show": show, "reference": reference}[options.what](options)
 

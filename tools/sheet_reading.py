@@ -3,6 +3,9 @@
 order_text(order) is the line of an order, answer_text(kind, answer) what
 stands behind `=>`. Both take any bytes. What cannot be read is shown as
 bytes.
+
+The references of tests read the same bytes. Nothing is shared with them:
+tests/text_tests.py compares the two.
 """
 
 from sheet_words import ANSWERS, BUILTINS, CODES, LEVELS, MOST, ORDERS, OWNERS, REFUSALS, Names

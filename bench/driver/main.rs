@@ -10,6 +10,8 @@
 //! and for the Rust.
 
 mod clock;
+#[path = "../../bindings/rust/src/ffi.rs"]
+mod ffi;
 #[path = "../../tests/oracle/format.rs"]
 #[allow(dead_code)]
 mod format;

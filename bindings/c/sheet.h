@@ -1,5 +1,5 @@
 /*
- * The run of a sheet: the C declaration of the static library libsheet.a.
+ * The run of a sheet: the C declaration of the static library libentry.a.
  *
  * A sheet is a run of orders, each a length and that many bytes. The run answers them one after another in a fresh session; an
  * answer is a length, an outcome byte (0, or a refusal from 1 to 9) and on 0 the value. Lengths are numbers in base 128, the low

@@ -1,4 +1,4 @@
-//! Finds libsheet.a: in the directory that SHEET_LIB_DIR names, else where `rt staticlib sheet` writes it.
+//! Finds libentry.a: in the directory that SHEET_LIB_DIR names, else where `rt staticlib entry` writes it.
 
 use std::env;
 use std::fs;
@@ -10,7 +10,7 @@ fn main() {
     let target = env::var("TARGET").unwrap_or_default();
     if !target.starts_with("x86_64-") || !target.contains("-linux-") {
         stop(&format!(
-            "libsheet.a is for x86-64 Linux, and this build is for {target}"
+            "libentry.a is for x86-64 Linux, and this build is for {target}"
         ));
     }
     let (dir, from) = match env::var_os("SHEET_LIB_DIR") {
@@ -20,16 +20,16 @@ fn main() {
             "relative to the crate; SHEET_LIB_DIR is not set",
         ),
     };
-    let Ok(archive) = fs::canonicalize(dir.join("libsheet.a")) else {
+    let Ok(archive) = fs::canonicalize(dir.join("libentry.a")) else {
         stop(&format!(
-            "no libsheet.a in {} ({from}). Make it with `rt staticlib sheet` at the top of the repository, or set SHEET_LIB_DIR to the directory that has it",
+            "no libentry.a in {} ({from}). Make it with `rt staticlib entry` at the top of the repository, or set SHEET_LIB_DIR to the directory that has it",
             dir.display()
         ));
     };
     let dir = archive.parent().expect("a file has a directory");
     println!("cargo:rerun-if-changed={}", archive.display());
     println!("cargo:rustc-link-search=native={}", dir.display());
-    println!("cargo:rustc-link-lib=static=sheet");
+    println!("cargo:rustc-link-lib=static=entry");
 }
 
 fn stop(message: &str) -> ! {

@@ -47,6 +47,7 @@ Written here, as stand-ins or around it:
 and for tests/judge.py, which links the static library beside all this:
   judge.rs       frames in, both sides compared, the first difference told
   lent.rs        what is lent to the library, between guards
+  ffi.rs         the library's declaration, out of bindings/rust/src
   tables.rs      counts by kind, outcome and answer
 
 The build stops where the sources lack an item.
@@ -180,10 +181,19 @@ def build(source=SOURCE, out=OUT):
     return compiled(os.path.join(HERE, "main.rs"), out, "oracle")
 
 
+def source_argument(parser):
+    parser.add_argument("--source", default=SOURCE, metavar="DIR", help="Kagari's sources")
+
+
+def arguments(parser, out=OUT):
+    """Where the sources are, and where what is built goes."""
+    source_argument(parser)
+    parser.add_argument("--out", default=out, metavar="DIR", help="where what is built goes")
+
+
 def main():
     parser = argparse.ArgumentParser(description=__doc__, formatter_class=argparse.RawDescriptionHelpFormatter)
-    parser.add_argument("--source", default=SOURCE, metavar="DIR")
-    parser.add_argument("--out", default=OUT, metavar="DIR")
+    arguments(parser)
     options = parser.parse_args()
     try:
         print(build(options.source, options.out))

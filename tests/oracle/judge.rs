@@ -6,6 +6,7 @@
 //! as long as the two differ, the rest is printed in hexadecimal, and the exit status is 1. Else the counts are
 //! printed, a line for each.
 
+mod ffi; // bindings/rust/src/ffi.rs, which tests/judge.py puts beside this file
 mod format;
 #[allow(dead_code)]
 mod kagari;

@@ -1,30 +1,13 @@
 //! What is lent to the static library, between guards, and the call of its entry.
 
+use crate::ffi;
+
 /// Items before and behind each slice that the library is not to touch.
 const GUARD: usize = 64;
 const GUARD_WORD: u32 = 0xc3a5_5a3c;
 const LEAST_WORDS: usize = 16384;
 /// What the two counts, and those around them, hold before a run.
 const UNSET: u64 = 0x7777_7777_7777_7777;
-
-unsafe extern "C" {
-    fn sheet_run(
-        sheet: *const u8,
-        sheet_len: usize,
-        out: *mut u8,
-        out_len: usize,
-        a: *mut u32,
-        a_len: usize,
-        b: *mut u32,
-        b_len: usize,
-        c: *mut u32,
-        c_len: usize,
-        d: *mut u32,
-        d_len: usize,
-        orders: *mut u64,
-        bytes: *mut u64,
-    ) -> u32;
-}
 
 /// A slice between two guards.
 struct Lent<T> {
@@ -134,26 +117,8 @@ impl Library {
         self.counts = [UNSET; 6];
         let [_, orders, _, _, bytes, _] = &mut self.counts;
         let (sheet, out) = (self.sheet.items(), self.out.items_mut());
-        let [a, b, c, d] = self.areas.each_mut().map(Lent::items_mut);
-        // SAFETY: pointers and lengths are those of slices that are borrowed here, each apart from the others.
-        unsafe {
-            sheet_run(
-                sheet.as_ptr(),
-                sheet.len(),
-                out.as_mut_ptr(),
-                out.len(),
-                a.as_mut_ptr(),
-                a.len(),
-                b.as_mut_ptr(),
-                b.len(),
-                c.as_mut_ptr(),
-                c.len(),
-                d.as_mut_ptr(),
-                d.len(),
-                orders,
-                bytes,
-            )
-        }
+        let areas = self.areas.each_mut().map(Lent::items_mut);
+        ffi::run(sheet, out, areas, orders, bytes)
     }
 
     /// Output past the answers is as it was; areas are 0, or under 12 as they were; nothing else changed.

@@ -1,4 +1,4 @@
-//! A safe wrapper of the proved sheet library, `libsheet.a`.
+//! A safe wrapper of the proved sheet library, `libentry.a`.
 //!
 //! A *sheet* is a run of *orders*, each a length and that many bytes. A run answers them one after another in a fresh session. An
 //! answer is a length, an outcome byte and, where the order was not refused, the bytes of its value. What the orders are and what
@@ -39,6 +39,7 @@
 
 mod answers;
 mod building;
+mod ffi;
 mod running;
 
 pub use answers::{Answer, Answers, Outcome, Refusal};

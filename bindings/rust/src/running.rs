@@ -1,26 +1,7 @@
 //! Runs: the one call of the library, and the areas that it is lent.
 
-use crate::{Answers, AREA_WORDS, MAX_BYTES};
+use crate::{ffi, Answers, AREA_WORDS, MAX_BYTES};
 use std::fmt;
-
-extern "C" {
-    fn sheet_run(
-        sheet: *const u8,
-        sheet_len: usize,
-        out: *mut u8,
-        out_len: usize,
-        a: *mut u32,
-        a_len: usize,
-        b: *mut u32,
-        b_len: usize,
-        c: *mut u32,
-        c_len: usize,
-        d: *mut u32,
-        d_len: usize,
-        orders: *mut u64,
-        bytes: *mut u64,
-    ) -> u32;
-}
 
 /// Why a run ended.
 #[derive(Clone, Copy, Debug, PartialEq, Eq, Hash)]
@@ -49,7 +30,7 @@ impl Reason {
             11 => Reason::OutputFull,
             12 => Reason::BadSizes,
             _ => {
-                unreachable!("reason {code}: libsheet.a is not the library that this crate is for")
+                unreachable!("reason {code}: libentry.a is not the library that this crate is for")
             }
         }
     }
@@ -95,29 +76,8 @@ pub struct Report {
 /// assert!(areas.iter().all(|&word| word == 0));
 /// ```
 pub fn run_in(sheet: &[u8], out: &mut [u8], areas: [&mut [u32]; 4]) -> Report {
-    let [a, b, c, d] = areas;
     let (mut orders, mut bytes) = (0, 0);
-    // SAFETY: each pointer and length is that of a slice that is borrowed until the call returns; the last two pointers are those
-    // of locals. So all are valid, aligned and not null, and those that are written overlap nothing. The library takes slices of
-    // every length and content.
-    let code = unsafe {
-        sheet_run(
-            sheet.as_ptr(),
-            sheet.len(),
-            out.as_mut_ptr(),
-            out.len(),
-            a.as_mut_ptr(),
-            a.len(),
-            b.as_mut_ptr(),
-            b.len(),
-            c.as_mut_ptr(),
-            c.len(),
-            d.as_mut_ptr(),
-            d.len(),
-            &mut orders,
-            &mut bytes,
-        )
-    };
+    let code = ffi::run(sheet, out, areas, &mut orders, &mut bytes);
     Report {
         reason: Reason::from_code(code),
         orders,

@@ -3,8 +3,14 @@
 // run, and the wanted reason, orders and bytes of answers; then the sheet and the wanted answers. Each sheet is run, and everything is compared: what is
 // told, the answers, the output behind them, which is as it was, and the areas, which are all 0, or as they were under reason 12. The program
 // writes how many vectors there were, how many of them differ, and the index of the first that does, which is the number of vectors where none does.
+use harness::fill_all;
+use harness::number_at;
+use harness::number_within;
+use harness::read_part;
+use harness::untouched;
+use sheet::run_sheet;
 ghost use mathlib.Core.Path.{_≡_};
-ghost use Prim.Native.Nat.{_+_, _≤_, _<_};
+ghost use Prim.Native.Nat.{_≤_};
 ghost use lib.ListN.{length};
 
 const ROOM: usize = 32768;
@@ -25,118 +31,6 @@ struct Tally {
     vectors: u32,
     differ: u32,
     first: u32,
-}
-
-fn wide(b: u8) -> u32
-    ensures { λ r. ⌜ r < 256 ⌝ }
-{
-    b as u32
-}
-
-// The number of four bytes at i.
-fn number_at(s: &[u8], i: usize) -> u32
-    requires { ⌜ i + 4 ≤ length (now s) ⌝ }
-{
-    wide(s[i]) + wide(s[i + 1]) * 256 + wide(s[i + 2]) * 65536 + wide(s[i + 3]) * 16777216
-}
-
-fn fill_words(w: &mut [u32], x: u32) {
-    let mut i = 0;
-    while i < w.len() {
-        w[i] = x;
-        i += 1;
-    }
-}
-
-fn fill_bytes(w: &mut [u8], x: u8) {
-    let mut i = 0;
-    while i < w.len() {
-        w[i] = x;
-        i += 1;
-    }
-}
-
-// Whether every word is x.
-fn all_words(w: &[u32], x: u32) -> bool {
-    let mut i = 0;
-    while i < w.len() {
-        if w[i] != x {
-            return false;
-        }
-        i += 1;
-    }
-    true
-}
-
-// Whether every byte from a position on is x.
-fn all_bytes(w: &[u8], from: usize, x: u8) -> bool {
-    let mut i = from;
-    while i < w.len() {
-        if w[i] != x {
-            return false;
-        }
-        i += 1;
-    }
-    true
-}
-
-// Whether the areas are all x.
-fn all_areas(a: &[u32], b: &[u32], c: &[u32], d: &[u32], x: u32) -> bool {
-    if !all_words(a, x) {
-        return false;
-    }
-    if !all_words(b, x) {
-        return false;
-    }
-    if !all_words(c, x) {
-        return false;
-    }
-    all_words(d, x)
-}
-
-// What the areas hold after a run: what they were filled with where nothing was run, and else 0.
-fn left_in(reason: u32, fill: u32) -> u32 {
-    if reason == 12 {
-        return fill;
-    }
-    0
-}
-
-fn low_byte(x: u32) -> u8 {
-    (x % 256) as u8
-}
-
-fn fill_all(out: &mut [u8], a: &mut [u32], b: &mut [u32], c: &mut [u32], d: &mut [u32], fill: u32) {
-    fill_bytes(out, low_byte(fill));
-    fill_words(a, fill);
-    fill_words(b, fill);
-    fill_words(c, fill);
-    fill_words(d, fill);
-}
-
-fn least(a: usize, b: usize) -> usize
-    ensures { λ r. ⌜ (r ≤ a) × (r ≤ b) ⌝ }
-{
-    if a < b {
-        return a;
-    }
-    b
-}
-
-// The number of four bytes at i, or the most where it is greater.
-fn number_within(s: &[u8], i: usize, most: usize) -> usize
-    requires { ⌜ i + 4 ≤ length (now s) ⌝ }
-    ensures { λ r. ⌜ r ≤ most ⌝ }
-{
-    least(number_at(s, i) as usize, most)
-}
-
-// Reads so many bytes. Returns whether they are all there.
-fn read_part(part: &mut [u8], size: usize) -> bool
-    requires { ⌜ size ≤ length (now part) ⌝ }
-{
-    let got = io::read_full(0, &mut part[..size]);
-    size <= got
 }
 
 // Whether the output begins with the wanted answers.
@@ -167,7 +61,7 @@ fn tells(head: &[u8], reason: u32, orders: u64, bytes: usize) -> bool
     (number_at(head, 24) as usize) == bytes
 }
 
-// Runs a sheet in filled areas. Returns whether all is as wanted.
+// Runs a sheet in a filled output and filled areas. Returns whether all is as wanted.
 fn run_filled(
     head: &[u8],
     sheet: &[u8],
@@ -181,21 +75,17 @@ fn run_filled(
 ) -> bool
     requires { ⌜ 28 ≤ length (now head) ⌝ }
 {
-    let r = sheet::run_sheet(sheet, out, a, b, c, d);
-    let m = r.bytes;
-    if !tells(head, r.reason, r.orders, m) {
+    let r = run_sheet(sheet, out, a, b, c, d);
+    if !tells(head, r.reason, r.orders, r.bytes) {
         return false;
     }
     if !begins(out, wanted) {
         return false;
     }
-    if !all_bytes(out, m, low_byte(fill)) {
-        return false;
-    }
-    all_areas(a, b, c, d, left_in(r.reason, fill))
+    untouched(out, r.bytes, a, b, c, d, r.reason, fill)
 }
 
-// Fills the areas and runs a sheet.
+// Fills output and areas, and runs a sheet.
 fn run_one(
     head: &[u8],
     sheet: &[u8],
@@ -213,35 +103,8 @@ fn run_one(
     run_filled(head, sheet, wanted, out, a, b, c, d, fill)
 }
 
-// Runs a sheet in the first words of the areas.
-fn run_words(
-    head: &[u8],
-    sheet: &[u8],
-    wanted: &[u8],
-    out: &mut [u8],
-    a: &mut [u32],
-    b: &mut [u32],
-    c: &mut [u32],
-    d: &mut [u32],
-    words: usize,
-) -> bool
-    requires head { ⌜ 28 ≤ length (now head) ⌝ }
-    requires areas { ⌜ (words ≤ length (now a)) × (words ≤ length (now b)) × (words ≤ length (now c)) × (words ≤ length (now d)) ⌝ }
-{
-    run_one(
-        head,
-        sheet,
-        wanted,
-        out,
-        &mut a[..words],
-        &mut b[..words],
-        &mut c[..words],
-        &mut d[..words],
-    )
-}
-
-// Runs a sheet in an output of the room that the head says.
-fn run_room(
+// Runs a sheet in as much of the output and of the areas as the head says.
+fn run_within(
     head: &[u8],
     sheet: &[u8],
     wanted: &[u8],
@@ -257,7 +120,16 @@ fn run_room(
 {
     let room = number_within(head, 0, ROOM);
     let words = number_within(head, 8, WORDS);
-    run_words(head, sheet, wanted, &mut out[..room], a, b, c, d, words)
+    run_one(
+        head,
+        sheet,
+        wanted,
+        &mut out[..room],
+        &mut a[..words],
+        &mut b[..words],
+        &mut c[..words],
+        &mut d[..words],
+    )
 }
 
 // Reads a vector. Returns whether it is all there.
@@ -294,7 +166,7 @@ fn run_vector(
 {
     let size = number_within(head, 4, ROOM);
     let most = number_within(head, 24, ROOM);
-    run_room(head, &sheet[..size], &wanted[..most], out, a, b, c, d)
+    run_within(head, &sheet[..size], &wanted[..most], out, a, b, c, d)
 }
 
 // Replays a vector.

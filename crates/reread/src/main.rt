@@ -3,6 +3,7 @@
 // The answer to a frame is a length, an outcome (0 or the refusal) and, on 0, for terms the nodes and the tokens, and the bytes again. Bytes
 // left over (1) are refused before more than 2,048 nodes (7). After each frame both areas must be clear: else its answer is left out and the
 // run ends, as it does at a faulty length and where an answer does not fit.
+use harness::all_words;
 use terms::NumberRead;
 use terms::Place;
 use terms::Step;
@@ -205,18 +206,6 @@ fn answer(kinds: &mut [u32], vals: &mut [u32], f: Frame, out: &mut [u8], at: usi
     }
 }
 
-// Whether every word is 0.
-fn is_clear(words: &[u32]) -> bool {
-    let mut i = 0;
-    while i < words.len() {
-        if words[i] != 0 {
-            return false;
-        }
-        i += 1;
-    }
-    true
-}
-
 // Where the frame at a position lies: its first byte and the place after its last, or nowhere in `s`.
 fn part_at(s: &[u8], at: usize) -> Part
     requires { ⌜ (at ≤ length (now s)) × (length (now s) < 65536) ⌝ }
@@ -241,10 +230,10 @@ fn answer_frame(s: &[u8], kinds: &mut [u32], vals: &mut [u32], out: &mut [u8], t
 {
     let f = read_frame(s, kinds, vals);
     let next = answer(kinds, vals, f, out, to);
-    if !is_clear(kinds) {
+    if !all_words(kinds, 0) {
         return to;
     }
-    if !is_clear(vals) {
+    if !all_words(vals, 0) {
         return to;
     }
     next

@@ -57,7 +57,7 @@ use Rattle.sheet.proofs.RobinsonBytesLaws.{robinson-bytes, robinson-ord
 use Rattle.sheet.proofs.CallLaws as call
 
 -- ---- A CALL OF `sheet_run`. It was lent a sheet, an output and four areas, and handed back a reason and two counts; out′ to d′ is how the output and the areas
--- were left. `contract` is what its contract says (crates/sheet/src/running.rt), with no condition: so what follows holds for every call.
+-- were left. `contract` is what its contract says (crates/entry/src/lib.rt), with no condition: so what follows holds for every call.
 
 module _ (sheet out a b c d : List ℕ) (reason orders bytes : ℕ) (out′ a′ b′ c′ d′ : List ℕ)
     (contract : finished reason orders bytes out′ a′ b′ c′ d′ ≡ finishOf box 16384 sheet out a b c d) where

@@ -9,6 +9,8 @@ use Rattle.solver.specs.Terms.Result.{Result, got, refused, pick}
 use Rattle.solver.specs.declared.Solver.{Solver}
 use Rattle.solver.specs.Shapes.{loose}
 use Rattle.solver.specs.Session.{Limits, Session}
+-- the limits, handed on to the crates that name this one alone
+pub use Rattle.solver.specs.Session.{box}
 use Rattle.solver.specs.Lent.{Arises, limitsOf}
 use Rattle.sheet.specs.declared.Frame.{Frame}
 use Rattle.sheet.specs.declared.Frame.the-variants.{Lies, Faulty}

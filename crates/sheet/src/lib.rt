@@ -1,4 +1,4 @@
-// The sheet: orders read, answered and framed; the run, and the exported entry.
+// The sheet: orders read, answered and framed; the run.
 mod fields;
 mod framing;
 mod lending;
@@ -14,7 +14,6 @@ mod starting;
 mod tables;
 
 pub use running::run_sheet;
-pub use running::sheet_run;
 use solver::Solver;
 
 // What an order does: it is told to the session, or it leaves the session as it was.

@@ -9,8 +9,8 @@ use super::starting::lay_fresh;
 use solver::Solver;
 use solver::clear;
 ghost use mathlib.Core.Path.{_≡_};
-ghost use Prim.Native.Nat.{ℕ, _≤_, _<_};
-ghost use lib.ListN.{length, getD, take};
+ghost use Prim.Native.Nat.{_≤_};
+ghost use lib.ListN.{length, take};
 ghost use Rattle.solver.specs.Session.{box, fresh};
 ghost use Rattle.solver.specs.Lent.{limitsOf};
 ghost use Rattle.sheet.specs.Sheet.{runOf};
@@ -170,25 +170,4 @@ pub fn run_sheet(
         };
     }
     run_within(512, 2048, 8192, 16384, sheet, out, a, b, c, d)
-}
-
-// The exported entry: returns the reason. The last line says that a sheet is a list of bytes, as the theorems about a call want it.
-#[no_mangle]
-pub extern "C" fn sheet_run(
-    sheet: &[u8],
-    out: &mut [u8],
-    a: &mut [u32],
-    b: &mut [u32],
-    c: &mut [u32],
-    d: &mut [u32],
-    orders: &mut u64,
-    bytes: &mut u64,
-) -> u32
-    ensures run { λ r. ⌜ finished r (now (orders .exit)) (now (bytes .exit)) (now (out .exit)) (now (a .exit)) (now (b .exit)) (now (c .exit)) (now (d .exit)) ≡ finishOf box 16384 (now (sheet .entry)) (now (out .entry)) (now (a .entry)) (now (b .entry)) (now (c .entry)) (now (d .entry)) ⌝ }
-    ensures octets { λ _. ⌜ ((i : ℕ) → getD (now (sheet .entry)) i 0 < 256) ⌝ }
-{
-    let r = run_sheet(sheet, out, a, b, c, d);
-    *orders = r.orders;
-    *bytes = r.bytes as u64;
-    r.reason
 }

@@ -1,5 +1,6 @@
 // Reads or writes one term many times, for a measurement. Standard input is a mode (1 read, 2 write, 3 both), a repeat count of four bytes, low
 // byte first, and the bytes of a term. What is printed, the tokens read and the bytes written of all turns, shows that the work was done.
+use harness::number_at;
 use terms::Place;
 use terms::Step;
 use terms::clear_tokens;
@@ -79,12 +80,6 @@ fn writes(kinds: &[u32], vals: &[u32], tokens: usize, out: &mut [u8], count: u32
     sum
 }
 
-fn wide(b: u8) -> u32
-    ensures { λ r. ⌜ r < 256 ⌝ }
-{
-    b as u32
-}
-
 // The repeat count, or 0 where the mode leaves this half out.
 fn turns(s: &[u8], without: u8) -> u32
     requires { ⌜ 5 ≤ length (now s) ⌝ }
@@ -92,7 +87,7 @@ fn turns(s: &[u8], without: u8) -> u32
     if s[0] == without {
         return 0;
     }
-    wide(s[1]) + wide(s[2]) * 256 + wide(s[3]) * 65536 + wide(s[4]) * 16777216
+    number_at(s, 1)
 }
 
 // The measurement that the input asks for.

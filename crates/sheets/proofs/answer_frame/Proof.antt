@@ -18,8 +18,8 @@ returns c = search needs
 number-within-requires : tie.Need-number-within-requires
 number-within-requires c κs = search needs
 
-read-sheet-requires : tie.Need-read-sheet-requires
-read-sheet-requires c κs = search needs
+read-part-requires : tie.Need-read-part-requires
+read-part-requires c κs = search needs
 
 same-length-2 : tie.Need-same-length-2
 same-length-2 c = search needs
@@ -71,7 +71,7 @@ answer-frame-spec =
     same-length
     returns
     number-within-requires
-    read-sheet-requires
+    read-part-requires
     same-length-2
     same-length-3
     returns-2

@@ -1,4 +1,4 @@
--- `answer_sheet`: the part of the output that is lent is as long as asked. Assumes nothing.
+-- `answer_sheet`: the parts of output and areas that are lent are as long as asked. Assumes nothing.
 use mathlib.Core.Path.{sym}
 use native.Mathlib.Omega.{arith}
 use lib.Seq.{length-take-le}
@@ -20,6 +20,30 @@ slice-relend-prefix-answer-within c = search needs
 
 slice-aggregate-answer-within : tie.Need-slice-aggregate-answer-within
 slice-aggregate-answer-within c = sym (length-take-le _ _ (omega arith))
+
+slice-relend-prefix-answer-within-2 : tie.Need-slice-relend-prefix-answer-within-2
+slice-relend-prefix-answer-within-2 c = search needs
+
+slice-aggregate-answer-within-2 : tie.Need-slice-aggregate-answer-within-2
+slice-aggregate-answer-within-2 c = sym (length-take-le _ _ (omega arith))
+
+slice-relend-prefix-answer-within-3 : tie.Need-slice-relend-prefix-answer-within-3
+slice-relend-prefix-answer-within-3 c = search needs
+
+slice-aggregate-answer-within-3 : tie.Need-slice-aggregate-answer-within-3
+slice-aggregate-answer-within-3 c = sym (length-take-le _ _ (omega arith))
+
+slice-relend-prefix-answer-within-4 : tie.Need-slice-relend-prefix-answer-within-4
+slice-relend-prefix-answer-within-4 c = search needs
+
+slice-aggregate-answer-within-4 : tie.Need-slice-aggregate-answer-within-4
+slice-aggregate-answer-within-4 c = sym (length-take-le _ _ (omega arith))
+
+slice-relend-prefix-answer-within-5 : tie.Need-slice-relend-prefix-answer-within-5
+slice-relend-prefix-answer-within-5 c = search needs
+
+slice-aggregate-answer-within-5 : tie.Need-slice-aggregate-answer-within-5
+slice-aggregate-answer-within-5 c = sym (length-take-le _ _ (omega arith))
 
 answer-within-requires : tie.Need-answer-within-requires
 answer-within-requires c κs = search needs
@@ -54,6 +78,14 @@ answer-sheet-spec =
     number-at-requires
     slice-relend-prefix-answer-within
     slice-aggregate-answer-within
+    slice-relend-prefix-answer-within-2
+    slice-aggregate-answer-within-2
+    slice-relend-prefix-answer-within-3
+    slice-aggregate-answer-within-3
+    slice-relend-prefix-answer-within-4
+    slice-aggregate-answer-within-4
+    slice-relend-prefix-answer-within-5
+    slice-aggregate-answer-within-5
     answer-within-requires
     same-length
     same-length-2

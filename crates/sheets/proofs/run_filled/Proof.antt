@@ -13,23 +13,11 @@ inside c = bytes-inside _ _ _ _ _ _ _ _ _ _ _ _ _ _ _ _ (c .run-sheet .ensures)
 run-sheet-requires : tie.Need-run-sheet-requires
 run-sheet-requires c κs = search needs
 
-low-byte-requires : tie.Need-low-byte-requires
-low-byte-requires c κs = search needs
-
-all-bytes-requires : tie.Need-all-bytes-requires
-all-bytes-requires c κs = search needs
-
-left-in-requires : tie.Need-left-in-requires
-left-in-requires c κs = search needs
-
-all-areas-requires : tie.Need-all-areas-requires
-all-areas-requires c κs = search needs
-
-flag-requires : tie.Need-flag-requires
-flag-requires c κs = search needs
+untouched-requires : tie.Need-untouched-requires
+untouched-requires c κs = search needs
 
 tell-requires : tie.Need-tell-requires
-tell-requires c κs = c .before .before .before .before .before .before .before .before .before .before .before .before .before .before .before .before .before .before .before .before .before .before .before .before .before .before .before .before .before .before .before .before .before .before .pre
+tell-requires c κs = c .before .before .before .before .before .before .before .before .before .before .before .before .before .before .before .before .before .before .before .before .before .before .before .before .before .before .before .before .before .before .pre
 
 same-length : tie.Need-same-length
 same-length c = search needs
@@ -50,18 +38,14 @@ same-length-6 : tie.Need-same-length-6
 same-length-6 c = search needs
 
 returns : tie.Need-returns
-returns c = inside (c .before .before .before .before .before .before .before .before .before .before .before .before .before .before .before .before .before .before .before .before .before .before .before .before)
+returns c = inside (c .before .before .before .before .before .before .before .before .before .before .before .before .before .before .before .before .before .before .before .before)
 
 pub run-filled-spec : {M : Type 1} → statement M
 run-filled-spec =
     tie.close
     (tie.spec
     run-sheet-requires
-    low-byte-requires
-    all-bytes-requires
-    left-in-requires
-    all-areas-requires
-    flag-requires
+    untouched-requires
     tell-requires
     same-length
     same-length-2
