@@ -1,18 +1,18 @@
 -- Laws of bound runs, of `walk`, and of the stack of runs that wait while a bound variable's run is walked. Assumes nothing.
 use mathlib.Core.Path.{_≡_, refl, sym, ap, _∙_}
 use mathlib.Core.List.{List, [], _∷_, _++_, append-assoc, append-nil}
-use Prim.Native.Nat.{ℕ, zero, suc, pred, min, _+_, _-_, _≤_, _<_}
+use Prim.Native.Nat.{ℕ, zero, suc, pred, _+_, _-_, _≤_, _<_}
 use native.Mathlib.Numerals.{add-one}
 use native.Mathlib.Omega.{arith}
 use native.Mathlib.Decide.{ℕ-discrete}
 use borrow.Author.Tests.{le-leb, lt-leb}
 use lib.ListN.{length, getD, set, length-set}
-use lib.Seq.{sets, getD-set-same, getD-set-other}
+use lib.Seq.{getD-set-same, getD-set-other}
 use Rattle.terms.specs.Tokens.{Item, item, spell, one}
 use Rattle.terms.specs.Held.{span}
 use Rattle.terms.proofs.WriteLaws.{spell-step, spell-none}
 use Rattle.solver.specs.Walk.{runLen, inner, walk, Entered, walked}
-use Rattle.solver.specs.Frames.{pend, rest, left, Sound, Apart, Bare, Ready, Settled, Cleared, Answered}
+use Rattle.solver.specs.Frames.{pend, rest, left, Sound, Apart, Bare, Ready, Settled, Cleared}
 
 -- ---- what a cell names, and what takes a token's place
 
@@ -262,15 +262,3 @@ cleared-step i st₀ st h l = record {
     go : (j : ℕ) → j < i + 1 → Dec (j ≡ i) → getD (set st i 0) j 0 ≡ 0
     go j m (yes q) = rw q (getD-set-same st i 0 0 l)
     go j m (no q) = getD-set-other st i j 0 0 (omega (arith, q)) ∙ h .zeros j (omega (arith, q))
-
--- the frames cleared after a walk
-pub cleared-after : (n : ℕ) (st₀ st₁ st : List ℕ) → Apart n st₀ st₁ → Cleared (n + n) st₁ st → Cleared (n + n) st₀ st
-cleared-after n st₀ st₁ st a h = record { zeros = h .zeros; others = λ j m. h .others j m ∙ a j m }
-
--- bytes counted up to room + 1, where room is the space from `to` on: they do not fit, or they are written
-module _ (bytes : List ℕ) (to : ℕ) (out₀ : List ℕ) (n : ℕ) (h : n ≡ min (length out₀ - to + 1) (length bytes)) (w : to ≤ length out₀) where
-  pub answered-long : length out₀ - to < n → Answered bytes to out₀ out₀ (length out₀ + 1)
-  answered-long g = record { fits = λ f. absurd (omega arith); long = λ _. (refl, refl) }
-
-  pub answered-fits : n ≤ length out₀ - to → (out : List ℕ) (r : ℕ) → r ≡ to + length bytes → out ≡ sets out₀ to bytes → Answered bytes to out₀ out r
-  answered-fits g out r er eo = record { fits = λ _. (er, eo); long = λ f. absurd (omega arith) }

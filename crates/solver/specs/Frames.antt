@@ -3,7 +3,6 @@ use Prim.Native.Nat.{ℕ, zero, suc, _+_, _-_, _≤_, _<_}
 use mathlib.Core.Path.{_≡_}
 use mathlib.Core.List.{List, [], _∷_, _++_}
 use lib.ListN.{length, getD}
-use lib.Seq.{sets}
 use Rattle.terms.specs.Tokens.{Item, item, spell, one}
 use Rattle.solver.specs.Walk.{walk}
 
@@ -55,8 +54,3 @@ pub record Settled (ks vs bs : List ℕ) (n : ℕ) (st₀ : List ℕ) (p₀ e₀
 pub record Cleared (n : ℕ) (st₀ st : List ℕ) : Type 0 where
   pub zeros : (j : ℕ) → j < n → getD st j 0 ≡ 0
   pub others : (j : ℕ) → n ≤ j → getD st j 0 ≡ getD st₀ j 0
-
--- bytes written at `to` where they fit, and the position after them; else out is as it was, and the position is past its end
-pub record Answered (bytes : List ℕ) (to : ℕ) (out₀ out : List ℕ) (r : ℕ) : Type 0 where
-  pub fits : to + length bytes ≤ length out₀ → (r ≡ to + length bytes) × (out ≡ sets out₀ to bytes)
-  pub long : length out₀ < to + length bytes → (r ≡ length out₀ + 1) × (out ≡ out₀)

@@ -5,6 +5,7 @@ use super::Subject;
 use super::resolving::clear_words;
 use super::resolving::resolved_len;
 use super::resolving::write_resolved;
+use super::words::wide;
 use terms::number_len;
 use terms::write_number;
 ghost use mathlib.Core.Path.{_≡_};
@@ -19,12 +20,6 @@ ghost use Rattle.solver.specs.Orders as orders;
 ghost use Rattle.solver.specs.Work.{Zero};
 ghost use Rattle.solver.specs.Lent.{limitsOf, Lent};
 ghost use Rattle.solver.specs.Behind.{Asked, Starts, Frames, resolvedTo};
-
-fn wide(x: u32) -> usize
-    ensures { λ r. ⌜ (r ≡ x) × (r < 2 ^ 32) ⌝ }
-{
-    x as usize
-}
 
 // How many bytes a variable has.
 pub fn variable_len(v: u32) -> usize

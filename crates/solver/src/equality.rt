@@ -4,6 +4,7 @@
 // places that hang, in the order in which that happened.
 use super::Joint;
 use super::top::top_at;
+use super::words::wide;
 ghost use mathlib.Core.Bool.{true, false};
 ghost use mathlib.Core.List.{List};
 ghost use mathlib.Core.Option.{Option};
@@ -19,12 +20,6 @@ ghost use Rattle.solver.specs.Work.{Zero};
 ghost use Rattle.solver.specs.Reach.{Steady, Topped};
 ghost use Rattle.solver.specs.Lent.{begins};
 ghost use Rattle.solver.specs.Links.{linkWords, WiredIn, AdvancedIn, Clearing, Up, HeldSteady, standsFor, Standing, Coincide, CoincideRow, Pairwise, Linked, Fair, Outcome, Closed};
-
-fn wide(x: u32) -> usize
-    ensures { λ r. ⌜ r ≡ x ⌝ }
-{
-    x as usize
-}
 
 // How many tokens the term at i has, at least 1 and at most `room`.
 fn skip(kinds: &[u32], vals: &[u32], i: usize, room: usize) -> usize

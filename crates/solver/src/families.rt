@@ -1,23 +1,17 @@
 // What a number variable may be bound to, and a binding made.
 use super::Solver;
+use super::words::wide;
 ghost use mathlib.Core.Path.{_≡_};
-ghost use mathlib.Core.Bool.{Bool, false};
+ghost use mathlib.Core.Bool.{false};
 ghost use mathlib.Core.Option.{some};
-ghost use Prim.Native.Nat.{ℕ, suc, _+_, _*_, _^_, _≤_, _<_};
-ghost use lib.Dec.{eqb};
+ghost use Prim.Native.Nat.{ℕ, _+_, _*_, _^_, _≤_, _<_};
 ghost use lib.ListN.{length, getD};
-ghost use Rattle.terms.specs.Term.{Term, var, Held};
+ghost use Rattle.terms.specs.Term.{Term, Held};
 ghost use Rattle.solver.specs.Families.{familyOf, belongs};
 ghost use Rattle.solver.specs.Solving.{Requests, admit};
 ghost use Rattle.solver.specs.Session.{Session, withSolver};
 ghost use Rattle.solver.specs.Lent.{requestWords, HeldRequest, Lent};
 ghost use Rattle.solver.specs.Methods.{Shaped, Beside, is-some, boundTo, atMost, Handed};
-
-fn wide(x: u32) -> usize
-    ensures { λ r. ⌜ r ≡ x ⌝ }
-{
-    x as usize
-}
 
 // A variable's request: 0 for none, c + 1 for the fallback c.
 pub fn request_word(tables: &[u32], m: usize, v: u32) -> u32

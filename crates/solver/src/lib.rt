@@ -13,6 +13,7 @@ mod sessions;
 mod substitution;
 mod top;
 mod variables;
+mod words;
 
 pub use answers::variable_len;
 pub use answers::write_variable;

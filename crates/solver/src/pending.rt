@@ -2,11 +2,12 @@
 // base + 2j and base + 2j + 1 of a table.
 use super::Counted;
 use super::PairAt;
+use super::words::wide;
 ghost use mathlib.Core.Path.{_≡_};
 ghost use mathlib.Core.List.{[], _∷_};
 ghost use mathlib.Core.Bool.{not, _&&_, _||_};
 ghost use Prim.Native.Nat.{ℕ, _+_, _*_, _^_, _≤_, _<_};
-ghost use lib.Dec.{eqb, leb, ltb};
+ghost use lib.Dec.{eqb};
 ghost use lib.ListN.{length, getD};
 ghost use Rattle.terms.specs.Term.{Parts, node, Held};
 ghost use Rattle.terms.specs.Held.{HeldParts};
@@ -14,12 +15,6 @@ ghost use Rattle.terms.specs.Tree.{nums, children};
 ghost use Rattle.solver.specs.Shapes.{sameShape};
 ghost use Rattle.solver.specs.Lent.{notion};
 ghost use Rattle.solver.specs.Pending.{Laid, Taken, Wiped, places, PushedPairs, Twins, agree, here, window, PartEnd, NumberAt};
-
-fn wide(x: u32) -> usize
-    ensures { λ r. ⌜ r ≡ x ⌝ }
-{
-    x as usize
-}
 
 // Where the part at i ends, or end where it would go past it.
 pub fn part_end(kinds: &[u32], vals: &[u32], i: usize, end: usize) -> usize

@@ -5,6 +5,7 @@
 use super::Reached;
 use super::Run;
 use super::resolving::named_run;
+use super::words::wide;
 ghost use mathlib.Core.Path.{_≡_};
 ghost use mathlib.Core.Bool.{true, _||_};
 ghost use mathlib.Core.Option.{Option, none};
@@ -17,12 +18,6 @@ ghost use Rattle.solver.specs.Solving as solving;
 ghost use Rattle.solver.specs.Bindings.{HeldBindings};
 ghost use Rattle.solver.specs.Work.{Zero, Work, Grown};
 ghost use Rattle.solver.specs.Reach.{counts, has, runOf, Told, asked, Steady, Free};
-
-fn wide(x: u32) -> usize
-    ensures { λ r. ⌜ r ≡ x ⌝ }
-{
-    x as usize
-}
 
 // Whether a token is what is asked for, or one before it was.
 pub fn seen(kind: u32, val: u32, want: usize, before: bool) -> bool

@@ -2,6 +2,7 @@
 // unbound, and p + 1 where it is bound to the term at p.
 use super::Run;
 use super::Stand;
+use super::words::wide;
 use terms::run_len;
 use terms::write_run;
 ghost use mathlib.Core.Path.{_≡_};
@@ -15,12 +16,6 @@ ghost use Rattle.solver.specs.Walk.{Named, Entered, walked, flatBytes, r
 ghost use Rattle.solver.specs.Frames.{Sound, Settled, Apart, Cleared};
 ghost use Rattle.solver.specs.Bindings.{HeldBindings};
 ghost use Rattle.solver.specs.Work.{Zero};
-
-fn wide(x: u32) -> usize
-    ensures { λ r. ⌜ r ≡ x ⌝ }
-{
-    x as usize
-}
 
 // The run that a word of the table names, of len 0 where it names none.
 pub fn named_run(kinds: &[u32], vals: &[u32], word: usize) -> Run

@@ -4,6 +4,7 @@ use super::Issue;
 use super::Named;
 use super::Site;
 use super::Solver;
+use super::words::wide;
 ghost use mathlib.Core.Path.{_≡_};
 ghost use mathlib.Core.Bool.{true, false};
 ghost use mathlib.Core.List.{List};
@@ -17,12 +18,6 @@ ghost use Rattle.solver.specs.Orders as orders;
 ghost use Rattle.solver.specs.Lent.{limitsOf, placeWords, siteWords, slotWords, HeldPlace, HeldPlaces, Lent};
 ghost use Rattle.solver.specs.Methods.{matches, lastMatch, found, Shaped, Beside, placed, namedOf, namedBelow, Issued, Replied, replyOf, resolvedReply};
 ghost use Rattle.solver.specs.Behind.{placeOf};
-
-fn wide(x: u32) -> usize
-    ensures { λ r. ⌜ r ≡ x ⌝ }
-{
-    x as usize
-}
 
 // Whether a variable's words are those asked for: a hole has no slot.
 pub fn is_place(kind: u32, site: u32, slot: u32, k: u32, s: u32, i: u32) -> bool
