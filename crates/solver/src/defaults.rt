@@ -20,7 +20,10 @@ ghost use Rattle.solver.specs.Methods.{Shaped, Beside, Low, EndsAt, sett
 // The variable at the end of the chain of bindings from v on, or the length of the table where the chain ends at no variable of the table.
 pub fn end_of(kinds: &[u32], vals: &[u32], bound: &[u32], most: usize, v: usize) -> usize
     requires { ⌜ (v < length (now bound)) × (length (now vals) ≡ length (now kinds)) ⌝ }
-    ensures { λ r. ⌜ ((b : ℕ → Option Term) → HeldBindings (now (kinds .entry)) (now (vals .entry)) (now (bound .entry)) b → EndsAt (length (now (bound .entry))) (follow most b (var v)) r) ⌝ }
+    ensures { λ r. ⌜
+        ((b : ℕ → Option Term)
+        → HeldBindings (now (kinds .entry)) (now (vals .entry)) (now (bound .entry)) b
+        → EndsAt (length (now (bound .entry))) (follow most b (var v)) r) ⌝ }
 {
     if most == 0 {
         return v;
@@ -60,7 +63,11 @@ impl Solver {
     // Order 3: the variable that the term behind the session's tokens stands for, if it stands for one, is deferred.
     pub fn defer_never(self, kinds: &[u32], vals: &[u32], tables: &mut [u32]) -> Solver
         requires { ⌜ ((n : Notion) × (s : Session) × (t : Term) × Poses n self (now kinds) (now vals) (now tables) s t) ⌝ }
-        ensures held { λ r. ⌜ ((n : Notion) (s : Session) (t : Term) → Poses n self (now (kinds .entry)) (now (vals .entry)) (now (tables .entry)) s t → Lent r (take (self .top) (now (kinds .entry))) (take (self .top) (now (vals .entry))) (now (tables .exit)) (deferring s (resolved (s .solver) t))) ⌝ }
+        ensures held { λ r. ⌜
+            ((n : Notion) (s : Session) (t : Term)
+            → Poses n self (now (kinds .entry)) (now (vals .entry)) (now (tables .entry)) s t
+            → Lent r (take (self .top) (now (kinds .entry))) (take (self .top) (now (vals .entry))) (now (tables .exit)) (deferring s (resolved (s .solver) t)))
+            ⌝ }
         ensures beside { λ r. ⌜ Beside self r (now (tables .entry)) (now (tables .exit)) ⌝ }
     {
         let m = self.variables;
@@ -86,7 +93,12 @@ impl Solver {
     ) -> Solver
         requires shape { ⌜ Shaped self (length (now tables)) ⌝ }
         requires areas { ⌜ (v < self .variables) × (self .revision < 2 ^ 33) × (length (now vals) ≡ length (now kinds)) ⌝ }
-        ensures held { λ r. ⌜ ((s : Session) → word ≤ 32 → Lent self (now (kinds .entry)) (now (vals .entry)) (now (tables .entry)) s → Low (self .variables) (s .solver .bindings) → Lent r (now (kinds .entry)) (now (vals .entry)) (now (tables .exit)) (withSolver s (settleWord (s .solver) v word))) ⌝ }
+        ensures held { λ r. ⌜
+            ((s : Session)
+            → word ≤ 32
+            → Lent self (now (kinds .entry)) (now (vals .entry)) (now (tables .entry)) s
+            → Low (self .variables) (s .solver .bindings)
+            → Lent r (now (kinds .entry)) (now (vals .entry)) (now (tables .exit)) (withSolver s (settleWord (s .solver) v word))) ⌝ }
         ensures steps { λ r. ⌜ (r .revision ≤ self .revision + 1) × (r .issued ≡ self .issued) ⌝ }
         ensures beside { λ r. ⌜ Beside self r (now (tables .entry)) (now (tables .exit)) ⌝ }
     {
@@ -117,7 +129,11 @@ impl Solver {
     ) -> Solver
         requires shape { ⌜ Shaped self (length (now tables)) ⌝ }
         requires areas { ⌜ (self .revision < 2 ^ 32) × (length (now vals) ≡ length (now kinds)) ⌝ }
-        ensures held { λ r. ⌜ ((s : Session) → Lent self (now (kinds .entry)) (now (vals .entry)) (now (tables .entry)) s → Low (self .variables) (s .solver .bindings) → Lent r (now (kinds .entry)) (now (vals .entry)) (now (tables .exit)) (withSolver s (defaulted never (issued s) s))) ⌝ }
+        ensures held { λ r. ⌜
+            ((s : Session)
+            → Lent self (now (kinds .entry)) (now (vals .entry)) (now (tables .entry)) s
+            → Low (self .variables) (s .solver .bindings)
+            → Lent r (now (kinds .entry)) (now (vals .entry)) (now (tables .exit)) (withSolver s (defaulted never (issued s) s))) ⌝ }
         ensures beside { λ r. ⌜ Beside self r (now (tables .entry)) (now (tables .exit)) ⌝ }
     {
         let m = self.variables;
@@ -139,8 +155,14 @@ impl Solver {
         tables: &mut [u32],
     ) -> Solver
         requires shape { ⌜ Shaped self (length (now tables)) ⌝ }
-        requires areas { ⌜ (self .revision < 2 ^ 32) × (length (now vals) ≡ length (now kinds)) × ((s : Session) × Lent self (now kinds) (now vals) (now tables) s × Low (self .variables) (s .solver .bindings)) ⌝ }
-        ensures held { λ r. ⌜ ((s : Session) (n : Notion) → Lent self (now (kinds .entry)) (now (vals .entry)) (now (tables .entry)) s → Low (self .variables) (s .solver .bindings) → Lent r (now (kinds .entry)) (now (vals .entry)) (now (tables .exit)) (orders.order (limitsOf self) n s orders.numbers .session)) ⌝ }
+        requires areas { ⌜
+            (self .revision < 2 ^ 32) × (length (now vals) ≡ length (now kinds))
+            × ((s : Session) × Lent self (now kinds) (now vals) (now tables) s × Low (self .variables) (s .solver .bindings)) ⌝ }
+        ensures held { λ r. ⌜
+            ((s : Session) (n : Notion)
+            → Lent self (now (kinds .entry)) (now (vals .entry)) (now (tables .entry)) s
+            → Low (self .variables) (s .solver .bindings)
+            → Lent r (now (kinds .entry)) (now (vals .entry)) (now (tables .exit)) (orders.order (limitsOf self) n s orders.numbers .session)) ⌝ }
         ensures beside { λ r. ⌜ Beside self r (now (tables .entry)) (now (tables .exit)) ⌝ }
     {
         self = self.apply_defaults(kinds, vals, tables, false);
@@ -150,8 +172,14 @@ impl Solver {
     // Order 7: each variable that is deferred takes Never.
     pub fn apply_never_defaults(mut self, kinds: &[u32], vals: &[u32], tables: &mut [u32]) -> Solver
         requires shape { ⌜ Shaped self (length (now tables)) ⌝ }
-        requires areas { ⌜ (self .revision < 2 ^ 32) × (length (now vals) ≡ length (now kinds)) × ((s : Session) × Lent self (now kinds) (now vals) (now tables) s × Low (self .variables) (s .solver .bindings)) ⌝ }
-        ensures held { λ r. ⌜ ((s : Session) (n : Notion) → Lent self (now (kinds .entry)) (now (vals .entry)) (now (tables .entry)) s → Low (self .variables) (s .solver .bindings) → Lent r (now (kinds .entry)) (now (vals .entry)) (now (tables .exit)) (orders.order (limitsOf self) n s orders.nevers .session)) ⌝ }
+        requires areas { ⌜
+            (self .revision < 2 ^ 32) × (length (now vals) ≡ length (now kinds))
+            × ((s : Session) × Lent self (now kinds) (now vals) (now tables) s × Low (self .variables) (s .solver .bindings)) ⌝ }
+        ensures held { λ r. ⌜
+            ((s : Session) (n : Notion)
+            → Lent self (now (kinds .entry)) (now (vals .entry)) (now (tables .entry)) s
+            → Low (self .variables) (s .solver .bindings)
+            → Lent r (now (kinds .entry)) (now (vals .entry)) (now (tables .exit)) (orders.order (limitsOf self) n s orders.nevers .session)) ⌝ }
         ensures beside { λ r. ⌜ Beside self r (now (tables .entry)) (now (tables .exit)) ⌝ }
     {
         self = self.apply_defaults(kinds, vals, tables, true);
