@@ -13,7 +13,7 @@ ghost use lib.Seq.{sets};
 ghost use Rattle.terms.specs.Term.{Term, Held, bytes};
 ghost use Rattle.solver.specs.Solving.{resolve};
 ghost use Rattle.solver.specs.Walk.{Named, Entered, walked, flatBytes, resolvedBytes};
-ghost use Rattle.solver.specs.Frames.{Sound, Settled, Apart, Cleared};
+ghost use Rattle.solver.specs.Frames.{stand, Sound, Settled, Apart, Cleared};
 ghost use Rattle.solver.specs.Bindings.{HeldBindings};
 ghost use Rattle.solver.specs.Work.{Zero};
 
@@ -67,11 +67,8 @@ pub fn settle(
     frames: &mut [u32],
     from: Stand,
 ) -> Stand
-    requires { ⌜
-        (length (now vals) ≡ length (now kinds)) × (length (now kinds) < 2 ^ 32) × Sound (now kinds) most (now frames) (from .at) (from .end) (from .depth) ⌝ }
-    ensures { λ r. ⌜
-        Settled (now (kinds .entry)) (now (vals .entry)) (now (bound .entry)) most (now (frames .entry)) (from .at) (from .end) (from .depth)
-        (now (frames .exit)) (r .at) (r .end) (r .depth) ⌝ }
+    requires { ⌜ (length (now vals) ≡ length (now kinds)) × (length (now kinds) < 2 ^ 32) × Sound (now kinds) most (now frames) from ⌝ }
+    ensures { λ r. ⌜ Settled (now (kinds .entry)) (now (vals .entry)) (now (bound .entry)) most (now (frames .entry)) from (now (frames .exit)) r ⌝ }
 {
     let mut c = from;
     loop {
@@ -113,8 +110,8 @@ pub fn begin(
         (length (now vals) ≡ length (now kinds)) × (length (now kinds) < 2 ^ 32) × (run .at + run .len ≤ length (now kinds))
         × (most + most ≤ length (now frames)) ⌝ }
     ensures { λ r. ⌜
-        Settled (now (kinds .entry)) (now (vals .entry)) (now (bound .entry)) most (now (frames .entry)) (run .at) (run .at + run .len) 0 (now (frames .exit))
-        (r .at) (r .end) (r .depth) ⌝ }
+        Settled (now (kinds .entry)) (now (vals .entry)) (now (bound .entry)) most (now (frames .entry)) (stand (run .at) (run .at + run .len) 0)
+        (now (frames .exit)) r ⌝ }
 {
     let c = Stand {
         at: run.at,
@@ -134,11 +131,10 @@ pub fn next(
     from: Stand,
 ) -> Stand
     requires { ⌜
-        (length (now vals) ≡ length (now kinds)) × (length (now kinds) < 2 ^ 32) × (from .at < from .end)
-        × Sound (now kinds) most (now frames) (from .at) (from .end) (from .depth) ⌝ }
+        (length (now vals) ≡ length (now kinds)) × (length (now kinds) < 2 ^ 32) × (from .at < from .end) × Sound (now kinds) most (now frames) from ⌝ }
     ensures { λ r. ⌜
-        Settled (now (kinds .entry)) (now (vals .entry)) (now (bound .entry)) most (now (frames .entry)) (from .at + 1) (from .end) (from .depth)
-        (now (frames .exit)) (r .at) (r .end) (r .depth) ⌝ }
+        Settled (now (kinds .entry)) (now (vals .entry)) (now (bound .entry)) most (now (frames .entry)) (stand (from .at + 1) (from .end) (from .depth))
+        (now (frames .exit)) r ⌝ }
 {
     let c = Stand {
         at: from.at + 1,
