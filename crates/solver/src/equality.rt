@@ -19,8 +19,8 @@ ghost use Rattle.solver.specs.Bindings.{HeldBindings};
 ghost use Rattle.solver.specs.Work.{Zero};
 ghost use Rattle.solver.specs.Reach.{Steady, Topped};
 ghost use Rattle.solver.specs.Lent.{begins};
-ghost use Rattle.solver.specs.Links.{linkWords, WiredIn, AdvancedIn, Clearing, Up, HeldSteady, standsFor, Standing, Coincide, CoincideRow, Pairwise};
-ghost use Rattle.solver.specs.Links.{Linked, Fair, Outcome, Closed};
+ghost use Rattle.solver.specs.Links.{linkWords, WiredIn, AdvancedIn, Clearing, Up, HeldSteady, standsFor, Standing, Coincide, Linked, Fair, Outcome};
+ghost use Rattle.solver.specs.Links.{Closed, TermsJoined, RowsJoined};
 
 // How many tokens the term at i has, at least 1 and at most `room`.
 fn skip(kinds: &[u32], vals: &[u32], i: usize, room: usize) -> usize
@@ -115,11 +115,7 @@ fn join(
         → HeldSteady (now (kinds .entry)) (now (vals .entry)) (now (bound .entry)) most b
         → Held (now (kinds .entry)) (now (vals .entry)) i t
         → Held (now (kinds .entry)) (now (vals .entry)) j u
-        → Fair (now (kinds .entry)) (now (vals .entry)) (linkWords (now (kinds .entry)) (now (work .entry)))
-        → Outcome (now (kinds .entry)) (now (vals .entry)) (standsFor most b) (linkWords (now (kinds .entry)) (now (work .entry)))
-        (linkWords (now (kinds .entry)) (now (work .exit))) (r .equal)
-        (Linked (now (kinds .entry)) (now (vals .entry)) (follow most b) (linkWords (now (kinds .entry)) (now (work .exit))) t u)
-        (Coincide (standsFor most b) t u)) ⌝ }
+        → TermsJoined (now (kinds .entry)) (now (vals .entry)) most b (now (work .entry)) (now (work .exit)) (r .equal) t u) ⌝ }
 {
     let a = top_at(kinds, vals, bound, most, i);
     let b = top_at(kinds, vals, bound, most, j);
@@ -162,11 +158,7 @@ fn join_rows(
         → HeldSteady (now (kinds .entry)) (now (vals .entry)) (now (bound .entry)) most h
         → HeldParts (now (kinds .entry)) (now (vals .entry)) a ae ps
         → HeldParts (now (kinds .entry)) (now (vals .entry)) b be qs
-        → Fair (now (kinds .entry)) (now (vals .entry)) (linkWords (now (kinds .entry)) (now (work .entry)))
-        → Outcome (now (kinds .entry)) (now (vals .entry)) (standsFor most h) (linkWords (now (kinds .entry)) (now (work .entry)))
-        (linkWords (now (kinds .entry)) (now (work .exit))) (r .equal)
-        (Pairwise (Linked (now (kinds .entry)) (now (vals .entry)) (follow most h) (linkWords (now (kinds .entry)) (now (work .exit)))) ps qs)
-        (CoincideRow (standsFor most h) ps qs)) ⌝ }
+        → RowsJoined (now (kinds .entry)) (now (vals .entry)) most h (now (work .entry)) (now (work .exit)) (r .equal) ps qs) ⌝ }
 {
     let mut i = a;
     let mut j = b;
@@ -223,11 +215,7 @@ fn join_parts(
         → HeldSteady (now (kinds .entry)) (now (vals .entry)) (now (bound .entry)) most b
         → Held (now (kinds .entry)) (now (vals .entry)) x (node k ps)
         → Held (now (kinds .entry)) (now (vals .entry)) y (node l qs)
-        → Fair (now (kinds .entry)) (now (vals .entry)) (linkWords (now (kinds .entry)) (now (work .entry)))
-        → Outcome (now (kinds .entry)) (now (vals .entry)) (standsFor most b) (linkWords (now (kinds .entry)) (now (work .entry)))
-        (linkWords (now (kinds .entry)) (now (work .exit))) (r .equal)
-        (Pairwise (Linked (now (kinds .entry)) (now (vals .entry)) (follow most b) (linkWords (now (kinds .entry)) (now (work .exit)))) ps qs)
-        (CoincideRow (standsFor most b) ps qs)) ⌝ }
+        → RowsJoined (now (kinds .entry)) (now (vals .entry)) most b (now (work .entry)) (now (work .exit)) (r .equal) ps qs) ⌝ }
 {
     let n = skip(kinds, vals, x, kinds.len() - x);
     let m = skip(kinds, vals, y, kinds.len() - y);
