@@ -8,7 +8,6 @@ use mathlib.Core.Path.{_≡_}
 use Prim.Native.Nat.{ℕ, _+_, _≤_, _<_}
 use lib.ListN.{length, getD, take, drop}
 use Rattle.terms.specs.Term.{Term, Parts, var, node, end, num, sub, Held}
-use Rattle.terms.specs.Held.{HeldParts}
 use Rattle.solver.specs.Solving.{replace, replaceRow, resolve, follow}
 use Rattle.solver.specs.Bindings.{HeldBindings}
 use Rattle.solver.specs.Reach.{Steady, Topped}
