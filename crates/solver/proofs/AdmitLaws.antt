@@ -17,7 +17,7 @@ use Rattle.unify.specs.Term.{clash}
 use Rattle.solver.specs.declared.Solver.{Solver}
 use Rattle.solver.specs.Families.{Request, familyOf, belongs, meet}
 use Rattle.solver.specs.Solving.{Requests, joined, join, allow, admit}
-use Rattle.solver.specs.Session.{Session, withSolver, request}
+use Rattle.solver.specs.Session.{Session, withSolver}
 use Rattle.solver.specs.Lent.{requestWords, HeldRequest, Lent}
 use Rattle.solver.specs.Methods.{Beside, is-some, atMost, boundTo, Handed}
 use Rattle.solver.proofs.RequestLaws.{belongs-none, belongs-family, meet-tests, meet-first, held-none, held-word, held-low}

@@ -1,7 +1,7 @@
 -- What a run of tokens has, what a term has, and what a term has with variables replaced. Assumes nothing.
 use mathlib.Core.Bool.{Bool, true, false, _&&_, _||_}
 use mathlib.Core.List.{List, [], _∷_, _++_}
-use mathlib.Core.Logic.{_⊎_, inl, inr, ⊎-elim}
+use mathlib.Core.Logic.{⊎-elim}
 use mathlib.Core.Path.{_≡_, refl, sym, ap, ap₂, subst, _∙_}
 use Prim.Native.Nat.{ℕ, zero, suc, _+_, _-_}
 use native.Mathlib.Decide.{ℕ-discrete}
@@ -12,24 +12,18 @@ use lib.ListN.{length, getD}
 use Rattle.terms.specs.Tokens.{Item, item, spell, toks}
 use Rattle.terms.specs.Term.{Term, Parts, var, node, end, num, sub, items, partItems}
 use Rattle.terms.specs.Questions.{among, meets, meetsRow}
-use Rattle.terms.proofs.Bools.{never-true, never-false, or-right, or-assoc, or-none}
+use Rattle.terms.proofs.Bools.{never-true, never-false, or-true, or-right, or-assoc, or-none}
 use Rattle.terms.proofs.HeldLaws.{toks-add}
 use Rattle.solver.specs.Solving.{replace, replaceRow, recovery, is, always}
 use Rattle.solver.specs.Reach.{counts, has, wanted, asked}
+use Rattle.solver.proofs.View.{either}
 use Rattle.solver.proofs.ResolvedLaws.{replace-var}
 
 -- ---- flags
 
-pub or-split : (a b : Bool) → (a || b) ≡ true → (a ≡ true) ⊎ (b ≡ true)
-or-split true b e = inl refl
-or-split false b e = inr e
-
 or-no : (a b : Bool) → (a || b) ≡ false → (a ≡ false) × (b ≡ false)
 or-no true b e = never-false e
 or-no false b e = (refl, e)
-
-pub or-left : (a b : Bool) → a ≡ true → (a || b) ≡ true
-or-left a b e = rw e
 
 not-yes : (a : Bool) → (a ≡ true → ⊥) → a ≡ false
 not-yes true h = absurd (h refl)
@@ -58,7 +52,7 @@ has-start q ks vs a = refl
 
 -- ---- terms
 
-two-up : (k j : ℕ) → eqb (suc (suc k)) (suc (suc j)) ≡ eqb k j
+pub two-up : (k j : ℕ) → eqb (suc (suc k)) (suc (suc j)) ≡ eqb k j
 two-up k j = go (ℕ-discrete k j)
   where
     go : Dec (k ≡ j) → eqb (suc (suc k)) (suc (suc j)) ≡ eqb k j
@@ -128,9 +122,9 @@ module _ (q : ℕ) (f : ℕ → Term) where
       through-row (num n ps) e = through-row ps e
       through-row (sub t ps) e =
           ⊎-elim
-          (λ x. or-left (asked q (replace f t)) (meetsRow (wanted q) always (replaceRow f ps)) (through t x))
+          (λ x. or-true (asked q (replace f t)) (meetsRow (wanted q) always (replaceRow f ps)) (through t x))
           (λ x. or-right (asked q (replace f t)) (meetsRow (wanted q) always (replaceRow f ps)) (through-row ps x))
-          (or-split (asked (suc w) t) (meetsRow (wanted (suc w)) always ps) e)
+          (either (asked (suc w) t) (meetsRow (wanted (suc w)) always ps) e)
 
   -- nothing is met where neither the term nor what is put for its variables has it
   mutual
@@ -150,7 +144,7 @@ module _ (q : ℕ) (f : ℕ → Term) where
     quiet-row (sub t ps) e h =
         let d = or-no (asked q t) (meetsRow (wanted q) always ps) e in
         ap₂ _||_
-        (quiet t (d .0) (λ w x. h w (or-left (asked (suc w) t) (meetsRow (wanted (suc w)) always ps) x)))
+        (quiet t (d .0) (λ w x. h w (or-true (asked (suc w) t) (meetsRow (wanted (suc w)) always ps) x)))
         (quiet-row ps (d .1) (λ w x. h w (or-right (asked (suc w) t) (meetsRow (wanted (suc w)) always ps) x)))
 
 -- an Unknown or Error stays
@@ -166,18 +160,18 @@ module _ (f : ℕ → Term) where
     kept (var v) e = never-false (sym e ∙ var-plain v)
     kept (node k ps) e =
         ⊎-elim
-        (λ x. or-left (wanted 0 (node k (replaceRow f ps))) (meetsRow (wanted 0) always (replaceRow f ps)) (head-same 0 k (replaceRow f ps) ps ∙ x))
+        (λ x. or-true (wanted 0 (node k (replaceRow f ps))) (meetsRow (wanted 0) always (replaceRow f ps)) (head-same 0 k (replaceRow f ps) ps ∙ x))
         (λ x. or-right (wanted 0 (node k (replaceRow f ps))) (meetsRow (wanted 0) always (replaceRow f ps)) (kept-row ps x))
-        (or-split (wanted 0 (node k ps)) (meetsRow (wanted 0) always ps) e)
+        (either (wanted 0 (node k ps)) (meetsRow (wanted 0) always ps) e)
 
     kept-row : (ps : Parts) → meetsRow (wanted 0) always ps ≡ true → meetsRow (wanted 0) always (replaceRow f ps) ≡ true
     kept-row end e = never-true e
     kept-row (num n ps) e = kept-row ps e
     kept-row (sub t ps) e =
         ⊎-elim
-        (λ x. or-left (asked 0 (replace f t)) (meetsRow (wanted 0) always (replaceRow f ps)) (kept t x))
+        (λ x. or-true (asked 0 (replace f t)) (meetsRow (wanted 0) always (replaceRow f ps)) (kept t x))
         (λ x. or-right (asked 0 (replace f t)) (meetsRow (wanted 0) always (replaceRow f ps)) (kept-row ps x))
-        (or-split (asked 0 t) (meetsRow (wanted 0) always ps) e)
+        (either (asked 0 t) (meetsRow (wanted 0) always ps) e)
 
 -- a variable of a term that has not what is asked for is not asked for
 pub unasked : (q w : ℕ) (t : Term) → asked q t ≡ false → asked (suc w) t ≡ true → asked q (var w) ≡ false

@@ -1,7 +1,7 @@
 -- Bindings held: none at the start, and one more after a binding. Assumes nothing.
 use mathlib.Core.Path.{_≡_, sym, ap, _∙_, subst}
 use mathlib.Core.List.{List}
-use mathlib.Core.Option.{Option, none, some}
+use mathlib.Core.Option.{Option, some}
 use Prim.Native.Nat.{ℕ, _+_, _<_}
 use native.Mathlib.Decide.{ℕ-discrete}
 use lib.ListN.{length, getD, set}

@@ -23,7 +23,7 @@ use Rattle.solver.specs.Bindings.{HeldBinding, HeldBindings}
 use Rattle.solver.specs.Reach.{Steady, Topped}
 use Rattle.solver.specs.Walk.{runLen, Named}
 use Rattle.solver.specs.Lent.{limitsOf, Arises, HeldRequest, flag, Lent}
-use Rattle.solver.specs.Methods.{Beside, atMost, Low, EndsAt, settleWord, neverWord}
+use Rattle.solver.specs.Methods.{Beside, atMost, Low, EndsAt, settleWord, neverWord, defaultWord, defaulted}
 use Rattle.solver.specs.Turning.{Within}
 use Rattle.solver.proofs.FrameLaws.{run-none}
 use Rattle.solver.proofs.ResolvedLaws.{run-held}
@@ -166,8 +166,8 @@ module _ (x : Solver) (ks vs ts : List ℕ) (s : Session) (L : Lent x ks vs ts s
 -- ---- all of them, by rising id
 
 -- a default for every variable before n
-pub record Applied (F : ℕ → Session → solving.Solver) (x₀ : Solver) (ks vs ts₀ : List ℕ) (n : ℕ) (x : Solver) (ts : List ℕ) : Type 0 where
-  pub held : (s : Session) → Lent x₀ ks vs ts₀ s → Low (x₀ .variables) (s .solver .bindings) → Lent x ks vs ts (withSolver s (F n s))
+pub record Applied (never : Bool) (x₀ : Solver) (ks vs ts₀ : List ℕ) (n : ℕ) (x : Solver) (ts : List ℕ) : Type 0 where
+  pub held : (s : Session) → Lent x₀ ks vs ts₀ s → Low (x₀ .variables) (s .solver .bindings) → Lent x ks vs ts (withSolver s (defaulted never n s))
   pub beside : Beside x₀ x ts₀ ts
   pub issued : x .issued ≡ x₀ .issued
   pub steps : x .revision ≤ x₀ .revision + n
@@ -212,30 +212,55 @@ unfolding settleWord neverAt neverWord
 never-named z v false word e = rw e (omega arith, refl)
 never-named z v true word e = rw e (omega arith, refl)
 
-module _ (F : ℕ → Session → solving.Solver) (x₀ : Solver) (ks vs ts₀ : List ℕ) where
-  pub applied-start : ((s : Session) → F 0 s ≡ s .solver) → Applied F x₀ ks vs ts₀ 0 x₀ ts₀
-  applied-start z =
+module _ (never : Bool) (x₀ : Solver) (ks vs ts₀ : List ℕ) where
+  pub applied-start : Applied never x₀ ks vs ts₀ 0 x₀ ts₀
+  unfolding defaulted numericDefaults neverDefaults
+  applied-start =
       record {
-        held = λ s L low. subst (λ (y : solving.Solver). Lent x₀ ks vs ts₀ (withSolver s y)) (sym (z s)) L;
+        held = λ s L low. subst (λ (y : solving.Solver). Lent x₀ ks vs ts₀ (withSolver s y)) (sym (go never s)) L;
         beside = beside-same x₀ ts₀;
         issued = refl;
         steps = omega arith;
         most = omega arith;
       }
+    where
+      go : (b : Bool) (s : Session) → defaulted b 0 s ≡ s .solver
+      go false s = refl
+      go true s = refl
 
-  module _ (n : ℕ) (x y : Solver) (ts us : List ℕ) (word : ℕ) (A : Applied F x₀ ks vs ts₀ n x ts) where
-    pub applied-step : n < x₀ .issued
+  module _ (n : ℕ) (x y : Solver) (ts us : List ℕ) (word : ℕ) (A : Applied never x₀ ks vs ts₀ n x ts) (room : x₀ .issued ≤ x₀ .variables) where
+    low-before : (b : Bool) (s : Session) → Low (x₀ .variables) (s .solver .bindings) → Low (x₀ .variables) (defaulted b n s .bindings)
+    unfolding defaulted
+    low-before false s low = numeric-low (x₀ .variables) n 0 (s .solver) low
+    low-before true s low = never-low (x₀ .variables) (s .deferred) n 0 (s .solver) low
+
+    -- what the word of the next variable does
+    next : (b : Bool) → n < x .variables → word ≡ defaultWord b (x .variables) ts n → (s : Session) → Lent x ks vs ts (withSolver s (defaulted b n s))
+        → (word ≤ 32) × (settleWord (defaulted b n s) n word ≡ defaulted b (n + 1) s)
+    unfolding defaulted defaultWord
+    next false l e s L =
+        let z = numericDefaults n 0 (s .solver) in
+        let h : HeldRequest (z .requests n) word = subst (λ (w : ℕ). HeldRequest (z .requests n) w) (column-read (x .variables) (x .variables) ts _ n refl l ∙ sym e) (L .requests n) in
+        let k = request-named z n (z .requests n) word h in
+        (k .0, k .1 ∙ sym (rw (add-one, numeric-more n 0 (s .solver), zero-add)))
+    next true l e s L =
+        let z = neverDefaults (s .deferred) n 0 (s .solver) in
+        let d = getD ts (5 * x .variables + n) 0 in
+        let h : d ≡ flag (s .deferred n) = sym (column-read (x .variables) (5 * x .variables) ts _ n refl l) ∙ L .deferred n in
+        let k = never-named z n (s .deferred n) d h in
+        rw e (k .0, k .1 ∙ sym (rw (add-one, never-more (s .deferred) n 0 (s .solver), zero-add)))
+
+    pub applied-step : n < x₀ .issued → word ≡ defaultWord never (x₀ .variables) ts n
         → ((s : Session) → word ≤ 32 → Lent x ks vs ts s → Low (x .variables) (s .solver .bindings) → Lent y ks vs us (withSolver s (settleWord (s .solver) n word)))
-        → ((s : Session) → Low (x₀ .variables) (s .solver .bindings) → Low (x₀ .variables) (F n s .bindings))
-        → ((s : Session) → Lent x ks vs ts (withSolver s (F n s)) → (word ≤ 32) × (settleWord (F n s) n word ≡ F (n + 1) s))
-        → Beside x y ts us → y .issued ≡ x .issued → y .revision ≤ x .revision + 1 → Applied F x₀ ks vs ts₀ (n + 1) y us
-    applied-step l h f g B i r =
+        → Beside x y ts us → y .issued ≡ x .issued → y .revision ≤ x .revision + 1 → Applied never x₀ ks vs ts₀ (n + 1) y us
+    applied-step l e h B i r =
+        let v = A .beside .variables in
         record {
           held = λ s L low.
               let M = A .held s L low in
-              let k = g s M in
+              let k = next never (omega arith) (e ∙ ap (λ (m : ℕ). defaultWord never m ts n) (sym v)) s M in
               subst (λ (z : solving.Solver). Lent y ks vs us (withSolver s z)) (k .1)
-              (h (withSolver s (F n s)) (k .0) M (subst (λ (m : ℕ). Low m (F n s .bindings)) (sym (A .beside .variables)) (f s low)));
+              (h (withSolver s (defaulted never n s)) (k .0) M (subst (λ (m : ℕ). Low m (defaulted never n s .bindings)) (sym v) (low-before never s low)));
           beside = beside-then (A .beside) B;
           issued = i ∙ A .issued;
           steps = omega (arith, A .steps);
@@ -243,40 +268,9 @@ module _ (F : ℕ → Session → solving.Solver) (x₀ : Solver) (ks vs ts₀ :
         }
 
   -- every variable has its default
-  pub applied-end : (n : ℕ) (x : Solver) (ts : List ℕ) → Applied F x₀ ks vs ts₀ n x ts → n ≡ x₀ .issued → (s : Session) → Lent x₀ ks vs ts₀ s → Low (x₀ .variables) (s .solver .bindings)
-      → Lent x ks vs ts (withSolver s (F (issued s) s))
-  applied-end n x ts A e s L low = subst (λ (k : ℕ). Lent x ks vs ts (withSolver s (F k s))) (e ∙ L .issued) (A .held s L low)
-
-abbrev pub numbered : ℕ → Session → solving.Solver
-numbered n s = numericDefaults n 0 (s .solver)
-
-abbrev pub nevered : ℕ → Session → solving.Solver
-nevered n s = neverDefaults (s .deferred) n 0 (s .solver)
-
-pub numbered-zero : (s : Session) → numbered 0 s ≡ s .solver
-unfolding numericDefaults
-numbered-zero s = refl
-
-pub nevered-zero : (s : Session) → nevered 0 s ≡ s .solver
-unfolding neverDefaults
-nevered-zero s = refl
-
-module _ (x : Solver) (ks vs ts : List ℕ) (n : ℕ) (below : n < x .variables) (s : Session) where
-  pub numbered-word : (word : ℕ) → word ≡ getD ts (x .variables + n) 0 → Lent x ks vs ts (withSolver s (numbered n s))
-      → (word ≤ 32) × (settleWord (numbered n s) n word ≡ numbered (n + 1) s)
-  numbered-word word e L =
-      let z = numbered n s in
-      let h : HeldRequest (z .requests n) word = subst (λ (w : ℕ). HeldRequest (z .requests n) w) (column-read (x .variables) (x .variables) ts _ n refl below ∙ sym e) (L .requests n) in
-      let k = request-named z n (z .requests n) word h in
-      (k .0, k .1 ∙ sym (rw (add-one, numeric-more n 0 (s .solver), zero-add)))
-
-  pub nevered-word : (word : ℕ) → word ≡ getD ts (5 * x .variables + n) 0 → Lent x ks vs ts (withSolver s (nevered n s))
-      → (neverWord word ≤ 32) × (settleWord (nevered n s) n (neverWord word) ≡ nevered (n + 1) s)
-  nevered-word word e L =
-      let z = nevered n s in
-      let h : word ≡ flag (s .deferred n) = e ∙ sym (column-read (x .variables) (5 * x .variables) ts _ n refl below) ∙ L .deferred n in
-      let k = never-named z n (s .deferred n) word h in
-      (k .0, k .1 ∙ sym (rw (add-one, never-more (s .deferred) n 0 (s .solver), zero-add)))
+  pub applied-end : (n : ℕ) (x : Solver) (ts : List ℕ) → Applied never x₀ ks vs ts₀ n x ts → n ≡ x₀ .issued → (s : Session) → Lent x₀ ks vs ts₀ s → Low (x₀ .variables) (s .solver .bindings)
+      → Lent x ks vs ts (withSolver s (defaulted never (issued s) s))
+  applied-end n x ts A e s L low = subst (λ (k : ℕ). Lent x ks vs ts (withSolver s (defaulted never k s))) (e ∙ L .issued) (A .held s L low)
 
 -- ---- a term's top decides whether it resolves to a variable
 

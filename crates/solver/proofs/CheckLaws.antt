@@ -15,7 +15,7 @@ use Rattle.terms.specs.Questions.{among}
 use Rattle.terms.proofs.HeldLaws.{headKind, items-some, held-first}
 use Rattle.solver.specs.declared.Solver.{Solver}
 use Rattle.solver.specs.declared.Turn.{Turn}
-use Rattle.solver.specs.Shapes.{Notion, sameShape, pushed}
+use Rattle.solver.specs.Shapes.{Notion, sameShape}
 use Rattle.solver.specs.Solving as solving
 use Rattle.solver.specs.Solving.{Pair, Requests, follow, resolve, resolved, top, turn, recovery, recovers, occurs, projects, admit, bind, part}
 use Rattle.solver.specs.Session.{Session, issued, withSolver}

@@ -3,7 +3,6 @@
 use mathlib.Core.List.{List, [], _∷_}
 use mathlib.Core.Path.{_≡_, refl, sym, ap, _∙_}
 use Prim.Native.Nat.{ℕ, zero, suc, _+_, _-_, _<_, _≤_}
-use native.Mathlib.Decide.{decLt}
 use native.Mathlib.Omega.{arith}
 use lib.ListN.{length, getD, set, take, drop, length-drop}
 use lib.Seq.{getD-take, getD-drop, length-take-le, take-set-lt, take-set-le, drop-set-lt, drop-set-add, take-take, take-nil}
@@ -65,21 +64,7 @@ column-same m o k ts ts′ e h =
 
 -- ---- what stands from k on
 
-pub zero-set : (l : List ℕ) (i : ℕ) → Zero l → Zero (set l i 0)
-zero-set [] i z j = refl
-zero-set (x ∷ xs) zero z zero = refl
-zero-set (x ∷ xs) zero z (suc j) = z (suc j)
-zero-set (x ∷ xs) (suc i) z zero = z 0
-zero-set (x ∷ xs) (suc i) z (suc j) = zero-set xs i (λ k. z (suc k)) j
-
 module _ (k : ℕ) (ts : List ℕ) where
-  -- a word that is written before k leaves what stands from k on, one written from k on what stands before
-  pub rest-before : (i x : ℕ) → i < k → drop k (set ts i x) ≡ drop k ts
-  rest-before i x h = drop-set-lt k ts i x h
-
-  pub rest-write : (i j x : ℕ) → i ≡ k + j → drop k (set ts i x) ≡ set (drop k ts) j x
-  rest-write i j x e = ap (λ (n : ℕ). drop k (set ts n x)) e ∙ drop-set-add k ts j x
-
   -- all 0 from k on
   pub rest-read : Zero (drop k ts) → (i : ℕ) → k ≤ i → getD ts i 0 ≡ 0
   rest-read z i h =
@@ -88,14 +73,3 @@ module _ (k : ℕ) (ts : List ℕ) where
 
   pub rest-zero : ((i : ℕ) → k ≤ i → getD ts i 0 ≡ 0) → Zero (drop k ts)
   rest-zero f j = getD-drop k ts j 0 ∙ f (k + j) (omega arith)
-
--- it stays so, where a word before k is written, or a 0 anywhere, and from a later place on
-pub zero-before : (k : ℕ) (ts : List ℕ) (i x : ℕ) → i < k → Zero (drop k ts) → Zero (drop k (set ts i x))
-zero-before k ts i x h z j = ap (λ (l : List ℕ). getD l j 0) (rest-before k ts i x h) ∙ z j
-
-pub zero-after : (k : ℕ) (ts : List ℕ) (i : ℕ) → Zero (drop k ts) → Zero (drop k (set ts i 0))
-zero-after k ts i z = go (decLt i k)
-  where
-    go : Dec (i < k) → Zero (drop k (set ts i 0))
-    go (yes p) = zero-before k ts i 0 p z
-    go (no p) = λ j. ap (λ (l : List ℕ). getD l j 0) (rest-write k ts i (i - k) 0 (omega arith)) ∙ zero-set (drop k ts) (i - k) z j

@@ -16,7 +16,7 @@ use Rattle.solver.specs.Work.{Zero}
 use Rattle.solver.specs.Reach.{Steady, Topped}
 use Rattle.solver.specs.Lent.{begins}
 use Rattle.solver.specs.Links.{linkWords, queueWords, WiredIn, AdvancedIn, Clearing, Up, standsFor, Standing, Coincide, Linked, Fair, Outcome}
-use Rattle.solver.proofs.FuelLaws.{by-variable}
+use Rattle.solver.proofs.ReachLaws.{by-variable}
 use Rattle.solver.proofs.LinkLaws.{wired-start, up-node, top-less, advanced-link, clear-step, told-class, told-left, told-right}
 
 -- ---- one area

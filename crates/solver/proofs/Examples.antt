@@ -30,15 +30,15 @@ tuple₂ t u = node 5 (num 2 (sub t (sub u end)))
 abbrev pub setOf : ℕ → Term → Term
 setOf a t = node 11 (num a (sub t end))
 
-abbrev mapOf : ℕ → Term → Term → Term
+abbrev pub mapOf : ℕ → Term → Term → Term
 mapOf a k v = node 10 (num a (sub k (sub v end)))
 
 -- a Struct of declaration 1, with one argument and the member 4
-abbrev structOf : Term → Term → Term
+abbrev pub structOf : Term → Term → Term
 structOf a m = node 13 (num 1 (num 1 (sub a (num 1 (num 4 (sub m end))))))
 
 -- the member 5 of the interface 3 at a receiver, without arguments
-abbrev projected : Term → Term
+abbrev pub projected : Term → Term
 projected r = node 18 (sub r (num 3 (num 0 (num 0 (num 5 (num 0 end))))))
 
 answers : Notion → List Command → List Reply

@@ -1,18 +1,19 @@
 -- Laws of bound runs, of `walk`, and of the stack of runs that wait while a bound variable's run is walked. Assumes nothing.
 use mathlib.Core.Path.{_≡_, refl, sym, ap, _∙_}
 use mathlib.Core.List.{List, [], _∷_, _++_, append-assoc, append-nil}
-use Prim.Native.Nat.{ℕ, zero, suc, pred, min, _+_, _-_, _≤_, _<_}
+use Prim.Native.Nat.{ℕ, zero, suc, pred, _+_, _-_, _≤_, _<_}
 use native.Mathlib.Numerals.{add-one}
 use native.Mathlib.Omega.{arith}
 use native.Mathlib.Decide.{ℕ-discrete}
 use borrow.Author.Tests.{le-leb, lt-leb}
 use lib.ListN.{length, getD, set, length-set}
-use lib.Seq.{sets, getD-set-same, getD-set-other}
+use lib.Seq.{getD-set-same, getD-set-other}
 use Rattle.terms.specs.Tokens.{Item, item, spell, one}
 use Rattle.terms.specs.Held.{span}
 use Rattle.terms.proofs.WriteLaws.{spell-step, spell-none}
+use Rattle.solver.specs.declared.Stand.{Stand}
 use Rattle.solver.specs.Walk.{runLen, inner, walk, Entered, walked}
-use Rattle.solver.specs.Frames.{pend, rest, left, Sound, Apart, Bare, Ready, Settled, Cleared, Answered}
+use Rattle.solver.specs.Frames.{pend, rest, stand, left, Sound, Apart, Bare, Ready, Settled, Cleared}
 
 -- ---- what a cell names, and what takes a token's place
 
@@ -164,8 +165,8 @@ module _ (ks vs bs : List ℕ) (n : ℕ) where
   steps-into st p e d at len h i z r = omega (arith, ap length (rest-into tick enters ks vs bs n st p e d at len h i z r))
 
 -- the bounds, after a push and a pop
-pub sound-push : (ks : List ℕ) (n : ℕ) (st : List ℕ) (p e d at len : ℕ) → Sound ks n st p e d → p < e → d < n → at + len ≤ length ks
-    → Sound ks n (set (set st (d + d) (p + 1)) (d + d + 1) e) at (at + len) (d + 1)
+pub sound-push : (ks : List ℕ) (n : ℕ) (st : List ℕ) (p e d at len : ℕ) → Sound ks n st (stand p e d) → p < e → d < n → at + len ≤ length ks
+    → Sound ks n (set (set st (d + d) (p + 1)) (d + d + 1) e) (stand at (at + len) (d + 1))
 sound-push ks n st p e d at len s h r w =
     let s₁ = set st (d + d) (p + 1) in
     let l₁ = length-set st (d + d) (p + 1) in
@@ -198,8 +199,8 @@ sound-push ks n st p e d at len s h r w =
         )
         (s .frames j (omega (arith, q)))
 
-pub sound-pop : (ks : List ℕ) (n : ℕ) (st : List ℕ) (p e d : ℕ) → Sound ks n st p e d → 0 < d
-    → Sound ks n (popped st d) (getD st (d - 1 + (d - 1)) 0) (getD st (d - 1 + (d - 1) + 1) 0) (d - 1)
+pub sound-pop : (ks : List ℕ) (n : ℕ) (st : List ℕ) (p e d : ℕ) → Sound ks n st (stand p e d) → 0 < d
+    → Sound ks n (popped st d) (stand (getD st (d - 1 + (d - 1)) 0) (getD st (d - 1 + (d - 1) + 1) 0) (d - 1))
 sound-pop ks n st p e d s h =
     let i = d - 1 + (d - 1) in
     let f = s .frames (d - 1) (omega arith) in
@@ -217,22 +218,22 @@ sound-pop ks n st p e d s h =
           (s .frames j (omega arith));
     }
 
-pub sound-next : (ks : List ℕ) (n : ℕ) (st : List ℕ) (p e d : ℕ) → Sound ks n st p e d → p < e → Sound ks n st (p + 1) e d
-sound-next ks n st p e d s h = record { order = omega arith; within = s .within; depth = s .depth; room = s .room; frames = s .frames }
+pub sound-next : (ks : List ℕ) (n : ℕ) (st : List ℕ) (x : Stand) → Sound ks n st x → x .at < x .end → Sound ks n st (stand (x .at + 1) (x .end) (x .depth))
+sound-next ks n st x s h = record { order = omega arith; within = s .within; depth = s .depth; room = s .room; frames = s .frames }
 
 -- ---- for the loops over `settle`
 
 module _ (ks vs bs : List ℕ) (n : ℕ) where
-  pub left-start : (st : List ℕ) (a c : ℕ) (st′ : List ℕ) (p e d : ℕ) → Settled ks vs bs n st a (a + c) 0 st′ p e d
-      → left ks vs bs n st′ p e d ≡ walked ks vs bs n a c
-  left-start st a c st′ p e d s = s .same ∙ rest-start (walk one [] ks vs bs) n ks vs st a c
+  pub left-start : (st : List ℕ) (a c : ℕ) (st′ : List ℕ) (x : Stand) → Settled ks vs bs n st (stand a (a + c) 0) st′ x
+      → left ks vs bs n st′ x ≡ walked ks vs bs n a c
+  left-start st a c st′ x s = s .same ∙ rest-start (walk one [] ks vs bs) n ks vs st a c
 
-  -- one turn: the token at p, and then what is left at the next place
-  pub turn : (st : List ℕ) (p e d : ℕ) (st′ : List ℕ) (p′ e′ d′ : ℕ) → Ready ks vs bs n st p e d → p < e
-      → Settled ks vs bs n st (p + 1) e d st′ p′ e′ d′
-      → left ks vs bs n st p e d ≡ item (getD ks p 0) (getD vs p 0) ∷ left ks vs bs n st′ p′ e′ d′
-  turn st p e d st′ p′ e′ d′ r h s =
-      r .head h ∙ ap {B = List Item} (λ l. item (getD ks p 0) (getD vs p 0) ∷ l) (sym (s .same))
+  -- one turn: the token at the place, and then what is left at the next one
+  pub turn : (st : List ℕ) (x : Stand) (st′ : List ℕ) (x′ : Stand) → Ready ks vs bs n st x → x .at < x .end
+      → Settled ks vs bs n st (stand (x .at + 1) (x .end) (x .depth)) st′ x′
+      → left ks vs bs n st x ≡ item (getD ks (x .at) 0) (getD vs (x .at) 0) ∷ left ks vs bs n st′ x′
+  turn st x st′ x′ r h s =
+      r .head h ∙ ap {B = List Item} (λ l. item (getD ks (x .at) 0) (getD vs (x .at) 0) ∷ l) (sym (s .same))
 
 -- two words stored within the frames
 pub apart-push : (n : ℕ) (st₀ st : List ℕ) (d x y : ℕ) → Apart n st₀ st → d < n → Apart n st₀ (set (set st (d + d) x) (d + d + 1) y)
@@ -262,15 +263,3 @@ cleared-step i st₀ st h l = record {
     go : (j : ℕ) → j < i + 1 → Dec (j ≡ i) → getD (set st i 0) j 0 ≡ 0
     go j m (yes q) = rw q (getD-set-same st i 0 0 l)
     go j m (no q) = getD-set-other st i j 0 0 (omega (arith, q)) ∙ h .zeros j (omega (arith, q))
-
--- the frames cleared after a walk
-pub cleared-after : (n : ℕ) (st₀ st₁ st : List ℕ) → Apart n st₀ st₁ → Cleared (n + n) st₁ st → Cleared (n + n) st₀ st
-cleared-after n st₀ st₁ st a h = record { zeros = h .zeros; others = λ j m. h .others j m ∙ a j m }
-
--- bytes counted up to room + 1, where room is the space from `to` on: they do not fit, or they are written
-module _ (bytes : List ℕ) (to : ℕ) (out₀ : List ℕ) (n : ℕ) (h : n ≡ min (length out₀ - to + 1) (length bytes)) (w : to ≤ length out₀) where
-  pub answered-long : length out₀ - to < n → Answered bytes to out₀ out₀ (length out₀ + 1)
-  answered-long g = record { fits = λ f. absurd (omega arith); long = λ _. (refl, refl) }
-
-  pub answered-fits : n ≤ length out₀ - to → (out : List ℕ) (r : ℕ) → r ≡ to + length bytes → out ≡ sets out₀ to bytes → Answered bytes to out₀ out r
-  answered-fits g out r er eo = record { fits = λ _. (er, eo); long = λ f. absurd (omega arith) }

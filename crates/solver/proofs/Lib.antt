@@ -13,7 +13,6 @@
 --   TurnLaws         what a turn of `constrain` comes to; it leaves a solver in order
 --   DefaultLaws      so it is after every list of orders; what a default leaves
 --   RequestLaws      requests of order 1: what they admit, how two meet
---   HistoryLaws      a history is what was answered; pushed children in the order of `slot`
 --   Demand3Examples  demand 3 used on two sessions
 --   TopLaws          what a term stands for, by its tokens
 --   MethodLaws       the counters and the table after a method, by what has changed; places and orders 0 to 2
@@ -64,7 +63,6 @@ pub mod InOrderLaws
 pub mod TurnLaws
 pub mod DefaultLaws
 pub mod RequestLaws
-pub mod HistoryLaws
 pub mod Demand3Examples
 pub mod RobinsonView
 pub mod RobinsonLaws
@@ -78,7 +76,6 @@ pub mod RustExamples
 pub mod OverLaws
 pub mod FrameLaws
 pub mod ResolvedLaws
-pub mod FuelLaws
 pub mod ResolvedExamples
 pub mod BindingLaws
 pub mod WorkLaws

@@ -25,7 +25,7 @@ use Rattle.solver.specs.InOrder.{Fits}
 use Rattle.solver.specs.Bindings.{HeldBindings}
 use Rattle.solver.specs.Work.{Zero}
 use Rattle.solver.specs.Lent.{limitsOf, bindingWords, requestWords, placeWords, siteWords, slotWords, deferralWords, HeldRequest, HeldPlace, HeldPlaces, Unplaced, flag, freeWords, Lent}
-use Rattle.solver.specs.Methods.{Shaped, Beside, matches, lastMatch, found, placing, placed, namedOf, namedBelow, Issued, Replied, replyOf, resolvedReply, Handed, neverWord}
+use Rattle.solver.specs.Methods.{Shaped, Beside, matches, lastMatch, found, placing, placed, namedOf, namedBelow, Issued, Replied, replyOf, resolvedReply, Handed, neverWord, defaultWord}
 use Rattle.solver.specs.Behind.{placeOf}
 use Rattle.solver.proofs.InOrderLaws.{find-issued}
 use Rattle.solver.proofs.BindingLaws.{bind-held}
@@ -575,12 +575,19 @@ module _ (m v kind val : ℕ) (ts : List ℕ) where
 
 -- ---- words that name builtins
 
-pub never-none : (n : ℕ) → n ≡ 0 → 0 ≡ neverWord n
-unfolding neverWord
-never-none zero e = refl
-never-none (suc n) e = absurd (omega arith)
+module _ (never : Bool) (m : ℕ) (ts : List ℕ) (v : ℕ) where
+  pub default-none : never ≡ true → getD ts (5 * m + v) 0 ≡ 0 → 0 ≡ defaultWord never m ts v
+  unfolding defaultWord neverWord
+  default-none b e = rw (b, e)
 
-pub never-some : (n : ℕ) → (n ≡ 0 → ⊥) → 11 ≡ neverWord n
-unfolding neverWord
-never-some zero e = absurd (e refl)
-never-some (suc n) e = refl
+  pub default-never : never ≡ true → (getD ts (5 * m + v) 0 ≡ 0 → ⊥) → 11 ≡ defaultWord never m ts v
+  unfolding defaultWord neverWord
+  default-never b e = rw b (go (getD ts (5 * m + v) 0) e)
+    where
+      go : (d : ℕ) → (d ≡ 0 → ⊥) → 11 ≡ neverWord d
+      go zero n = absurd (n refl)
+      go (suc d) n = refl
+
+  pub default-request : never ≡ false → getD ts (m + v) 0 ≡ defaultWord never m ts v
+  unfolding defaultWord
+  default-request b = rw b

@@ -10,7 +10,7 @@ use native.Mathlib.Omega.{arith}
 use borrow.Author.Tests.{leb-false, lt-leb}
 use Rattle.terms.specs.Term.{Term, Parts, var, node, end, num, sub, AllVars, AllVarsParts}
 use Rattle.terms.specs.Questions.{meets, meetsRow}
-use Rattle.terms.proofs.Bools.{never-false, not-true}
+use Rattle.terms.proofs.Bools.{never-false}
 use Rattle.unify.specs.Term as tree
 use Rattle.unify.specs.Term.{In, clash, in-sub, sub-in}
 use Rattle.unify.specs.Orders.{Issued}
@@ -77,9 +77,6 @@ mutual
   within-low-row N (sub t ps) w = none-of (meets (beyond N) always t) (meetsRow (beyond N) always ps) (within-low N t (w .0)) (within-low-row N ps (w .1))
 
 -- as orders 3 to 5 test it
-pub known-within : (s : Session) (t : Term) → known s t ≡ true → Within (issued s) t
-known-within s t e = low-within (issued s) t (not-true (meets (beyond (issued s)) always t) e)
-
 pub within-known : (s : Session) (t : Term) → Within (issued s) t → known s t ≡ true
 within-known s t w = ap not (within-low (issued s) t w)
 
@@ -94,26 +91,9 @@ issued-within N t i = low-within N t (go (meets (beyond N) always t) refl)
     go true e = absurd (unknown-issued N t e i)
     go false e = refl
 
-pub within-var : (N v : ℕ) → v < N → Within N (var v)
-unfolding AllVars
-within-var N v l = l
-
 pub var-within : (N v : ℕ) → Within N (var v) → v < N
 unfolding AllVars
 var-within N v w = w
-
-mutual
-  unfolding AllVars
-
-  -- more variables
-  pub within-more : (N M : ℕ) → N ≤ M → (t : Term) → Within N t → Within M t
-  within-more N M l (var v) w = omega arith
-  within-more N M l (node k ps) w = within-more-row N M l ps w
-
-  within-more-row : (N M : ℕ) → N ≤ M → (ps : Parts) → WithinParts N ps → WithinParts M ps
-  within-more-row N M l end w = tt
-  within-more-row N M l (num n ps) w = within-more-row N M l ps w
-  within-more-row N M l (sub t ps) w = (within-more N M l t (w .0), within-more-row N M l ps (w .1))
 
 -- ---- how many are bound
 

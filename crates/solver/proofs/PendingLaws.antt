@@ -4,33 +4,23 @@
 use mathlib.Core.List.{List}
 use mathlib.Core.Logic.{_⊎_, inl, inr}
 use mathlib.Core.Option.{Option}
-use mathlib.Core.Path.{_≡_, refl, sym, ap, ap₂, _∙_}
+use mathlib.Core.Path.{_≡_, refl, sym, ap, _∙_}
 use Prim.Native.Nat.{ℕ, suc, _+_, _-_, _≤_, _<_}
 use native.Mathlib.Decide.{decLt}
 use native.Mathlib.Omega.{arith}
 use lib.ListN.{length, getD}
-use Rattle.terms.specs.Tokens.{toks}
-use Rattle.terms.specs.Term.{Term, Parts, node, items, Held}
-use Rattle.terms.specs.Held.{span}
-use Rattle.terms.specs.Tree.{tag, children}
-use Rattle.terms.proofs.HeldLaws.{kind-some, items-some, held-first, span-is, items-injective}
-use Rattle.unify.specs.Solver.{put}
+use Rattle.terms.specs.Term.{Term, Parts, node, Held}
+use Rattle.terms.specs.Tree.{tag}
+use Rattle.terms.proofs.HeldLaws.{kind-some, items-some, held-first}
 use Rattle.solver.specs.Solving.{follow}
 use Rattle.solver.specs.Reach.{Steady}
 use Rattle.solver.specs.Lent.{begins}
 use Rattle.solver.specs.Pending.{places}
 use Rattle.solver.proofs.Pigeon.{pigeon-begins}
+use Rattle.solver.proofs.Deep.{held-same}
 use Rattle.solver.proofs.Inside.{Below, below-trans, below-extends, below-never, below-top, Extends}
 use Rattle.solver.proofs.Nest.{Kid, one-owner, places-rise, kids}
 use Rattle.solver.proofs.TurnedLaws.{Drawn}
-
--- a place holds one term
-pub held-same : (ks vs : List ℕ) (p : ℕ) (t u : Term) → Held ks vs p t → Held ks vs p u → t ≡ u
-held-same ks vs p t u h g =
-    let a = held-first ks vs p t h in
-    let b = held-first ks vs p u g in
-    let l : length (items t) ≡ length (items u) = sym (span-is t) ∙ ap₂ span (sym (a .0) ∙ b .0) (sym (a .1) ∙ b .1) ∙ span-is u in
-    items-injective t u (sym (h .tokens) ∙ ap (toks ks vs p) l ∙ g .tokens)
 
 -- a term begins with a token that begins one
 pub term-begins : (ks vs : List ℕ) (p : ℕ) (t : Term) → Held ks vs p t → (p < length ks) × (1 ≤ getD ks p 0)

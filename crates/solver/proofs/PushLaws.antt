@@ -16,13 +16,13 @@ use Rattle.terms.specs.Term.{Term, Parts, node, end, num, sub, items, Held}
 use Rattle.terms.specs.Held.{HeldParts, span}
 use Rattle.terms.specs.Tree.{nums, row, tag, class, children}
 use Rattle.terms.proofs.SlotLaws.{class-projection, class-low, class-high, class-nominal}
-use Rattle.terms.proofs.HeldLaws.{headKind, items-some, held-first, held-node, held-num, held-sub, row-end, row-num, row-sub}
+use Rattle.terms.proofs.HeldLaws.{items-some, held-node, held-num, held-sub, row-end, row-num, row-sub}
 use Rattle.solver.specs.Shapes.{sameShape, turned}
 use Rattle.solver.specs.Pending.{Laid, Taken, Wiped, places, pushedPlaces, PushedPairs, Twins, here, window, PartEnd, NumberAt}
-use Rattle.solver.proofs.PendingLaws.{held-same}
+use Rattle.solver.proofs.Deep.{held-same}
 use Rattle.solver.proofs.TurnedLaws.{places-length}
 use Rattle.solver.proofs.StackLaws.{pushed-pairs}
-use Rattle.solver.proofs.StepLaws.{likeRows, shape-like, like-subs, like-second, like-more, like-over, like-kinds, like-rest, PartAt, row-part, part-end, node-row}
+use Rattle.solver.proofs.StepLaws.{likeRows, shape-like, like-subs, like-second, like-more, like-over, like-kinds, like-rest, PartAt, row-part, part-end, node-row, node-kind}
 
 -- ---- one run of pairs after another
 
@@ -453,10 +453,6 @@ pub children-places : (a k : ℕ) (ps : Parts) → length (children (node k ps))
 unfolding children
 children-places a k ps = sym (places-length (a + 1) ps)
 
-kind-is : (ks vs : List ℕ) (a k : ℕ) (ps : Parts) → Held ks vs a (node k ps) → getD ks a 0 ≡ suc (suc k)
-unfolding headKind
-kind-is ks vs a k ps h = held-first ks vs a (node k ps) h .0
-
 module _ {ks vs : List ℕ} {a b : ℕ} (w : Twins ks vs a b) where
   pub left-few : length (places (a + 1) (w .left)) ≤ length ks
   left-few = omega (arith, places-few ks vs (a + 1) _ (w .left) (held-node ks vs a (w .tag) (w .left) (w .heldLeft)), w .heldLeft .within)
@@ -507,7 +503,7 @@ module _ {ks vs : List ℕ} {a b : ℕ} (w : Twins ks vs a b) where
           → Laid (window 0 (length ks) 0 (places (a + 1) ps)) (window 0 (length ks) 0 (places (b + 1) qs)) base count ts₀ ts r
           → PushedPairs ks vs a b (node k ps) (node j qs) base count ts₀ ts r
       pushed-once h l =
-          let e = kind-is ks vs a k ps ha in
+          let e = node-kind ks vs a k ps ha in
           let o = class-plain k (λ g. let z = h (omega arith) in omega arith) in
           let oj : class j ≡ 1 → ⊥ = λ z. o (ap class (twins-like .0) ∙ z) in
           let x = window-all 0 (length ks) 0 (places (a + 1) ps) (omega arith) (omega (arith, few-left)) ∙ sym (pushed-plain a k ps o) in
@@ -520,7 +516,7 @@ module _ {ks vs : List ℕ} {a b : ℕ} (w : Twins ks vs a b) where
           → Laid (window 0 n 0 (places (a + 1) ps)) (window 0 n 0 (places (b + 1) qs)) base top ts₁ ts r
           → PushedPairs ks vs a b (node k ps) (node j qs) base count ts₀ ts r
       pushed-twice lo hi n en ts₁ top p q =
-          let e = kind-is ks vs a k ps ha in
+          let e = node-kind ks vs a k ps ha in
           let o : class k ≡ 1 = sym (class-nominal k (λ z. omega arith) (omega arith) (omega arith)) in
           let oj : class j ≡ 1 = ap class (sym (twins-like .0)) ∙ o in
           let m : n ≡ getD (nums qs) 1 0 = en ∙ like-second (w .notion k) ps qs (twins-like .1) in

@@ -2,9 +2,8 @@
 use mathlib.Core.Path.{_≡_, refl}
 use mathlib.Core.List.{List, [], _∷_}
 use mathlib.Core.Option.{Option, none, some}
-use Prim.Native.Nat.{ℕ, zero, suc, _+_}
+use Prim.Native.Nat.{ℕ, zero, suc}
 use native.Mathlib.Omega.{arith}
-use lib.ListN.{getD}
 use Rattle.terms.specs.Number.{shortest, digits}
 use Rattle.terms.specs.Tokens.{spell}
 use Rattle.terms.specs.Term.{Term, var, node, end, num, sub, items, bytes, Held}
@@ -12,7 +11,7 @@ use Rattle.terms.specs.Held.{span}
 use Rattle.terms.specs.Writing.{plain}
 use Rattle.solver.specs.Solving.{replace, followed, resolve}
 use Rattle.solver.specs.Walk.{runLen, inner, walk, over, resolvedBytes}
-use Rattle.solver.specs.Bindings.{HeldBinding, HeldBindings}
+use Rattle.solver.specs.Bindings.{HeldBindings}
 
 abbrev kinds : List ℕ
 kinds = 8 ∷ 1 ∷ 1 ∷ 6 ∷ 0 ∷ []

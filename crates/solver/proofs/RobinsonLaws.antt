@@ -7,8 +7,6 @@ use mathlib.Core.Logic.{_⊎_, inl, inr, _↔_}
 use Prim.Native.Nat.{ℕ}
 use lib.ListN.{length}
 use Rattle.terms.specs.Term.{Term, Parts, var, node, end, num, sub}
-use Rattle.terms.specs.Questions.{meets, meetsRow}
-use Rattle.terms.proofs.Bools.{never-true}
 use Rattle.unify.specs.Term as tree
 use Rattle.unify.specs.Term.{Sort, Tree, nil, _▸_, sub-ext, sub-sub, sub-fix}
 use Rattle.unify.specs.Solver.{State}
@@ -22,19 +20,19 @@ use Rattle.unify.specs.Whole.{sheet-means}
 use Rattle.unify.specs.Robinson.{Unifies as UnifiesTrees, NoNumbers, Robinson, Normal, NormalPairs, robinson-loose}
 use Rattle.unify.specs.Robinson1965 as paper
 use Rattle.unify.specs.Unification1965 as theorem
-use Rattle.solver.specs.Shapes.{Notion, read, readAll, readAllRow, loose, exact}
-use Rattle.solver.specs.Solving.{Pair, replace, replaceRow, always}
+use Rattle.solver.specs.Shapes.{Notion, read, loose}
+use Rattle.solver.specs.Solving.{Pair, replace, replaceRow}
 use Rattle.solver.specs.Session.{Limits, at, find, fresh, never}
 use Rattle.solver.specs.Orders.{Command, revision}
 use Rattle.solver.specs.Demand3.{History, beginning, history, AllAllowed, Premises}
 use Rattle.solver.specs.Robinson.{Substitution, value, Outcome, going, unifier, without, unification, lefts, rights, tuple}
-use Rattle.solver.specs.Robinson.{Unifies, Instance, MostGeneral, resolves, Unmarked, marked, UnmarkedPairs, FirstOrder, Decides}
+use Rattle.solver.specs.Robinson.{Unifies, Instance, MostGeneral, resolves, UnmarkedPairs, FirstOrder, Decides}
 use Rattle.solver.proofs.View.{T, view, view-injective}
 use Rattle.solver.proofs.Signature.{S, term?}
 use Rattle.solver.proofs.ViewLaws.{viewed, view-replace, view-resolve, view-read}
 use Rattle.solver.proofs.ConstrainView.{view-table, view-pairs, fallback}
 use Rattle.solver.proofs.Simulation.{TheSession, view-run, view-commands, history-view, all-allowed-view}
-use Rattle.solver.proofs.Demand3Laws.{respects, or-both, plain-pairs-view}
+use Rattle.solver.proofs.Demand3Laws.{respects, plain-pairs-view}
 use Rattle.solver.proofs.RobinsonView.{laid, laid-injective, laid-replace, laid-all, value-laid, inst-laid, laid-outcome, unification-laid}
 
 -- ---- the Unification Theorem
@@ -96,9 +94,6 @@ module _ (ps : List Pair) (t u : Term) (to : (θ : ℕ → Term) → Unifies θ 
       go : (wrong ≡ true) ⊎ (wrong ≡ false) → wrong ≡ false
       go (inl w) = absurd (f .none-left w θ q)
       go (inr w) = w
-
-  not-both : wrong ≡ true → wrong ≡ false → ⊥
-  not-both w x = never-true (sym x ∙ w)
 
   clashing-iff : (wrong ≡ true) ↔ ((θ : ℕ → Term) → ¬ Unifies θ ps)
   clashing-iff = (λ w. f .none-left w, λ g. go g (wrong? wrong))
@@ -179,22 +174,6 @@ decides-of h f =
     }
 
 -- ---- from the theory
-
--- a term without Map and Set is unmarked
-module _ (n : Notion) where
-  mutual
-    unfolding meets marked readAll
-
-    pub markless : (t : Term) → meets (marked n) always t ≡ false → Unmarked n t
-    markless (var v) e = refl
-    markless (node k ps) e =
-        let a = or-both (n k) (meetsRow (marked n) always ps) e in
-        rw (a .0) (ap (node k) (markless-row ps (a .1)))
-
-    markless-row : (ps : Parts) → meetsRow (marked n) always ps ≡ false → readAllRow n ps ≡ ps
-    markless-row end e = refl
-    markless-row (num m ps) e = ap (num m) (markless-row ps e)
-    markless-row (sub t ps) e = let a = or-both (meets (marked n) always t) (meetsRow (marked n) always ps) e in ap₂ sub (markless t (a .0)) (markless-row ps (a .1))
 
 -- a term that reading leaves as it is
 pub normal-map : (m : Term → Term) {s : Sort} (t : Tree Term s) → tree.map m t ≡ t → Normal S m t
@@ -284,8 +263,3 @@ module _ (n : Notion) (codes-count : n 4 ≡ false) where
 pub robinson : (lim : Limits) (cs : List Command) → FirstOrder lim loose cs → Decides (history lim loose beginning cs)
 unfolding loose
 robinson lim cs f = robinson-of loose refl lim cs f
-
--- and with access included
-pub strict-robinson : (lim : Limits) (cs : List Command) → FirstOrder lim exact cs → Decides (history lim exact beginning cs)
-unfolding exact
-strict-robinson lim cs f = robinson-of exact refl lim cs f

@@ -19,7 +19,7 @@ use Rattle.unify.specs.Table.{answer}
 use Rattle.unify.specs.RobinsonPair as theory
 use Rattle.unify.specs.RobinsonPair.{Simple, FirstOrder, UnifiedBy, Poses, table-pair}
 use Rattle.unify.specs.Robinson.{Normal}
-use Rattle.solver.specs.Shapes.{Notion, read, readAll, loose, exact}
+use Rattle.solver.specs.Shapes.{Notion, read, readAll, loose}
 use Rattle.solver.specs.Solving.{Solver, replace, resolved, always, occurs, is, recovery, projects, constrain}
 use Rattle.solver.specs.Session.{Limits, Session, issued, fresh}
 use Rattle.solver.specs.Orders.{Command, pair, Reply, verdict, Step, verdictOf, solverOf, posing, order, run}
@@ -233,8 +233,3 @@ not-cancelled lim n s t u d k uncut = elim (d .fewer k) [ inl e ↦ absurd (uncu
 pub robinson-each : (lim : Limits) (cs : List Command) (t u : Term) → PlainPair lim loose (run lim loose fresh cs) t u → RobinsonDecides lim loose (run lim loose fresh cs) t u
 unfolding loose
 robinson-each lim cs t u p = robinson-each-of lim loose refl cs t u p
-
--- and with access included
-pub strict-robinson-each : (lim : Limits) (cs : List Command) (t u : Term) → PlainPair lim exact (run lim exact fresh cs) t u → RobinsonDecides lim exact (run lim exact fresh cs) t u
-unfolding exact
-strict-robinson-each lim cs t u p = robinson-each-of lim exact refl cs t u p

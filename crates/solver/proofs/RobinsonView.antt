@@ -1,7 +1,7 @@
 -- Terms as trees of the theory, with their children in byte order; Robinson's algorithm on terms is that of the theory on these trees.
 -- Assumes nothing.
 use mathlib.Core.Path.{_≡_, refl, sym, ap, ap₂, _∙_}
-use mathlib.Core.Bool.{Bool, true, false, _||_}
+use mathlib.Core.Bool.{Bool, true, false}
 use mathlib.Core.List.{[], _∷_, _++_}
 use mathlib.Core.Logic.{_⊎_, inl, inr, ite}
 use mathlib.Core.Option.{Option, none, some}
@@ -25,7 +25,7 @@ use Rattle.solver.specs.Solving.{Pair, replace, replaceRow, always, occu
 use Rattle.solver.specs.Solving as solving
 use Rattle.solver.specs.Robinson.{Substitution, value, inst, has, images, others, compose, orElse, disagreement, disagreementRow, ordered}
 use Rattle.solver.specs.Robinson.{Outcome, going, unifier, without, replacing, step3, step2, again, rounds, unification}
-use Rattle.solver.proofs.View.{T}
+use Rattle.solver.proofs.View.{T, either}
 use Rattle.solver.proofs.Signature.{term?}
 use Rattle.solver.proofs.ViewLaws.{replace-blank}
 
@@ -87,10 +87,6 @@ module _ (f : ℕ → Term) where
     row-replace (sub t ps) = ap₂ _▸_ (laid-replace t) (row-replace ps)
 
 -- a variable occurs
-either : (a b : Bool) → (a || b) ≡ true → (a ≡ true) ⊎ (b ≡ true)
-either true b e = inl refl
-either false b e = inr e
-
 module _ (v : ℕ) where
   mutual
     unfolding laid meets solving.is
@@ -331,10 +327,6 @@ one-same : {A : Type 0} (a b : Dec A) → ite a 1 0 ≤ ite b 1 0
 one-same (yes a) (yes b) = omega arith
 one-same (yes a) (no b) = absurd (b a)
 one-same (no a) b = omega arith
-
-one-most : {A : Type 0} (a : Dec A) → ite a 1 0 ≤ 1
-one-most (yes a) = omega arith
-one-most (no a) = omega arith
 
 none-occur : (N : ℕ) {s : Sort} (t : Tree Term s) → ((v : ℕ) → v < N → ¬ In v t) → paper.occurring N t ≤ 0
 unfolding paper.occurring

@@ -3,9 +3,8 @@ use mathlib.Core.Path.{_≡_, refl}
 use mathlib.Core.List.{[], _∷_}
 use mathlib.Core.Bool.{true, false}
 use mathlib.Core.Option.{none, some}
-use Prim.Native.Nat.{ℕ}
 use native.Mathlib.Decide.{ℕ-discrete, decLe}
-use Rattle.terms.specs.Term.{Term, var, node, end, num, sub, size}
+use Rattle.terms.specs.Term.{var, node, end, num, sub, size}
 use Rattle.terms.specs.Tree.{unknown, nums, row, tag, class, children, subs, same, sameNumbers, nominalOf}
 use Rattle.terms.specs.Questions.{among, meets}
 use Rattle.terms.specs.Substitution.{substitute-once}
@@ -18,16 +17,7 @@ use Rattle.solver.specs.Orders.{term, verdict, changed, count, nothing, 
 use Rattle.solver.specs.Robinson.{value, has, images, others, orElse, disagreement, ordered, unifier, without, replacing, step3, step2, again, rounds, unification}
 use Rattle.solver.specs.Rust as rust
 use Rattle.solver.specs.Rust.{default, answers}
-use Rattle.solver.proofs.Examples.{builtin, I32, array, tuple₂, setOf}
-
-abbrev mapOf : ℕ → Term → Term → Term
-mapOf a k v = node 10 (num a (sub k (sub v end)))
-
-abbrev structOf : Term → Term → Term
-structOf a m = node 13 (num 1 (num 1 (sub a (num 1 (num 4 (sub m end))))))
-
-abbrev projected : Term → Term
-projected r = node 18 (sub r (num 3 (num 0 (num 0 (num 5 (num 0 end))))))
+use Rattle.solver.proofs.Examples.{builtin, I32, array, tuple₂, setOf, mapOf, structOf, projected}
 
 record Answers : Type 0 where
   bar : answers default (variable 7 0 ∷ variable 8 0 ∷ pair 9 (array (var 0)) (array (tuple₂ (var 1) I32)) ∷ pair 9 (var 1) (array (var 0)) ∷ resolving (var 0) ∷ revision ∷ [])

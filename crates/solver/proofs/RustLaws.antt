@@ -40,14 +40,16 @@ use Rattle.solver.specs.Session.{Limits, at, gap, samePlace, Session, is
 use Rattle.solver.specs.Orders.{Command, variable, number, hole, defer, pair, resolving, numbers, nevers, revision, unread}
 use Rattle.solver.specs.Orders.{Reply, term, verdict, changed, count, nothing, verdictOf, solverOf, known, full, crowded, unless, variableAt, numberAt, holeAt, posing, order, replies}
 use Rattle.solver.specs.Demand3.{accepted}
+use Rattle.solver.specs.Methods.{is-some}
 use Rattle.solver.specs.Rust.{and-then, Solver, default, with-numeric, resolve, variable-entry, hole-entry, returning, numeric-entry, diverge, defer-never, constrain}
-use Rattle.solver.specs.Rust.{default-root, numeric-defaults, never-defaults, with-verdict, with-change, with-term, answer, with-answer, answers, AsRead, AllRead, given, unrefused, NoneRefused}
+use Rattle.solver.specs.Rust.{default-root, numeric-defaults, never-defaults, with-verdict, with-change, with-term, answer, with-answer, answers, AsRead, AllRead, given, unrefused}
 use Rattle.solver.proofs.View.{T, view, view-injective}
 use Rattle.solver.proofs.Signature.{S}
 use Rattle.solver.proofs.ViewLaws.{viewed, all-viewed, view-resolve, view-follow}
 use Rattle.solver.proofs.ConstrainView.{view-table, view-out, settles-view, fallback, leaf-view, fill-view}
 use Rattle.solver.proofs.Simulation.{known-yes}
 use Rattle.solver.proofs.Demand3Laws.{respects}
+use Rattle.solver.proofs.DefaultLaws.{settle-requests}
 use Rattle.solver.proofs.InOrderLaws.{find-issued}
 use Rattle.solver.proofs.RustPasses.{codes-count, view-bindings, view-numeric, push-view, long-view, asked, look-view, formed-push, low-insert, Proper, Held, resolve-held, Kept, kept-trans, bound, bound-some, bound-held, formed-bound, asks-held, MeetsOut, while-goes}
 
@@ -151,11 +153,6 @@ fill-same N y z b c v lc l = go (top y (var v)) (view-follow (y .revision) (y .b
     go (node k ps) p (var w) q = let e = q ∙ sym above ∙ ap (λ (x : T). tree.sub (s .res) x) (sym p) in clash (cc)
     go (node k ps) p (node j qs) q = record { out = z; is = refl; both = b; kept = (refl, refl, refl) }
 
-settle-requests : (y : solving.Solver) (d t : Term) → settleAt y d t .requests ≡ y .requests
-unfolding settleAt
-settle-requests y d (var w) = refl
-settle-requests y d (node k ps) = refl
-
 numbers-same : (g : ℕ → Option ℕ) → ((v c : ℕ) → g v ≡ some c → c < 32) → (N m v : ℕ) (y : solving.Solver) (z : Solver) → v + m ≤ N → ((w : ℕ) → y .requests w ≡ asked (g w)) → Both N y z
     → Filled N (numericDefaults m v y) z (numeric-defaults (collect m v g) z)
 unfolding numericDefaults numericAt numeric-defaults collect with-some asked and-then
@@ -180,13 +177,9 @@ numbers-same g low N (suc m) v y z l e b =
           kept = kept-trans z (f .out) (r .out) (f .kept) (r .kept);
         }
 
-unfoldable pub is-some : {A : Type 0} → Option A → Bool
-is-some none = false
-is-some (some a) = true
-
 nevers-same : (d : ℕ → Bool) (g : ℕ → Option (Unit {0})) (N m v : ℕ) (y : solving.Solver) (z : Solver) → v + m ≤ N → ((w : ℕ) → is-some (g w) ≡ d w) → Both N y z
     → Filled N (neverDefaults d m v y) z (never-defaults (collect m v g) z)
-unfolding neverDefaults neverAt never-defaults collect with-some is-some and-then
+unfolding neverDefaults neverAt never-defaults collect with-some and-then
 nevers-same d g N zero v y z l e b = record { out = z; is = refl; both = b; kept = (refl, refl, refl) }
 nevers-same d g N (suc m) v y z l e b =
     subst (λ (o : Bool). Filled N (neverDefaults d m (suc v) (neverAt y v o)) z (never-defaults (with-some v (g v) (collect m (suc v) g)) z)) (e v)
@@ -223,7 +216,7 @@ pub record Answered (s : Session) (r : Reply) (o : Option (Solver × Reply)) : T
   pub same : Same s out
 
 same-begin : Same fresh default
-unfolding sane-begin look look-site find is-some viewed FormedOr
+unfolding sane-begin look look-site find viewed FormedOr
 same-begin = record {
   both = record { sane = sane-begin S fallback never (read loose) (respects loose codes-count); held = holds-begin S; proper = ((λ v. tt), λ v c e. clash (cc)) };
   sites = λ a i. refl;
@@ -318,7 +311,7 @@ module _ (s : Session) (z : Solver) (x : Same s z) where
 
   -- order 3
   defer-same : (u : Term) → ((v : ℕ) → u ≡ var v → v < N) → Same (deferring s u) (diverge z u)
-  unfolding deferring diverge is-some
+  unfolding deferring diverge
   defer-same (node k ps) b = x
   defer-same (var v) b = record {
     both = record { sane = x .both .sane; held = x .both .held; proper = x .both .proper };
@@ -596,14 +589,3 @@ module _ (lim : Limits) where
   -- refused, in turn, it gives their answers, and never comes to an `unreachable!` or an index out of range.
   pub rust-same : (cs : List Command) → AllRead cs → answers default (given lim loose fresh cs) ≡ some (unrefused (replies lim loose fresh cs))
   rust-same cs f = all-same fresh default same-begin cs f
-
-  -- where no order is refused, it is given all of them
-  given-all : (s : Session) (cs : List Command) → NoneRefused lim loose s cs → (given lim loose s cs ≡ cs) × (unrefused (replies lim loose s cs) ≡ replies lim loose s cs)
-  unfolding given replies unrefused
-  given-all s [] a = (refl, refl)
-  given-all s (c ∷ cs) a =
-      let i = given-all (order lim loose s c .session) cs (a .1) in
-      (rw (a .0) (ap (λ (l : List Command). c ∷ l) (i .0)), rw (a .0) (ap (λ (l : List Reply). order lim loose s c .reply ∷ l) (i .1)))
-
-  pub rust-same-all : (cs : List Command) → AllRead cs → NoneRefused lim loose fresh cs → answers default cs ≡ some (replies lim loose fresh cs)
-  rust-same-all cs f a = let g = given-all fresh cs a in ap (answers default) (sym (g .0)) ∙ rust-same cs f ∙ ap some (g .1)

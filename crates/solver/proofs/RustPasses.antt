@@ -123,10 +123,6 @@ unfolding binding FormedOr
 formed-inserted bs f (var v) = f v
 formed-inserted bs f (node k ps) = tt
 
-pick-none : (b : Bool) (t u : Term) → pick b none (some t) ≡ some u → t ≡ u
-pick-none true t u e = clash (cc)
-pick-none false t u e = cc
-
 formed-rounds : (bs : List (Option Term)) → FormedAll bs → (f : ℕ) (t : Term) → Formed t → (u : Term) → rounds bs f t ≡ some u → Formed u
 unfolding rounds and-then next
 formed-rounds bs a zero t g u e = clash (cc)

@@ -18,6 +18,7 @@ use Rattle.terms.proofs.HeldLaws.{headKind, span-one, span-is, items-some, held
 use Rattle.solver.specs.Shapes.{Notion, loose, exact, blankRow, blank, unmarked, read, sameShape}
 use Rattle.solver.specs.Lent.{notion}
 use Rattle.solver.specs.Pending.{places, agree, here, PartEnd}
+use Rattle.solver.proofs.AskLaws.{two-up}
 
 -- the shapes of two rows agree; where it is free, a number that begins the row does not count
 unfoldable pub likeRows : Bool → Parts → Parts → Bool
@@ -292,19 +293,12 @@ module _ (ks vs : List ℕ) (a ae b be : ℕ) (f₀ : Bool) where
 
 -- ---- the answer for the nodes
 
-eqb-two : (k n : ℕ) → eqb (suc (suc k)) (suc (suc n)) ≡ eqb k n
-eqb-two k n = go (ℕ-discrete k n)
-  where
-    go : Dec (k ≡ n) → eqb (suc (suc k)) (suc (suc n)) ≡ eqb k n
-    go (yes e) = eq-eqb (suc (suc k)) (suc (suc n)) (omega arith) ∙ sym (eq-eqb k n e)
-    go (no e) = ne-eqb (suc (suc k)) (suc (suc n)) (λ z. e (omega arith)) ∙ sym (ne-eqb k n e)
-
 free-is : (strict : Bool) (k kind : ℕ) → kind ≡ suc (suc k) → (not strict && (eqb kind 12 || eqb kind 13)) ≡ notion strict k
 unfolding loose exact
 free-is true k kind e = refl
-free-is false k kind e = rw e (ap₂ _||_ (eqb-two k 10) (eqb-two k 11))
+free-is false k kind e = rw e (ap₂ _||_ (two-up k 10) (two-up k 11))
 
-node-kind : (ks vs : List ℕ) (a k : ℕ) (ps : Parts) → Held ks vs a (node k ps) → getD ks a 0 ≡ suc (suc k)
+pub node-kind : (ks vs : List ℕ) (a k : ℕ) (ps : Parts) → Held ks vs a (node k ps) → getD ks a 0 ≡ suc (suc k)
 unfolding headKind
 node-kind ks vs a k ps h = held-first ks vs a (node k ps) h .0
 

@@ -74,12 +74,6 @@ module _ (ks vs : List ℕ) where
   HeldAll (p ∷ ps) [] = ⊥
   HeldAll (p ∷ ps) (t ∷ ts) = Held ks vs p t × HeldAll ps ts
 
-  pub all-length : (ps : List ℕ) (ts : List Term) → HeldAll ps ts → length ps ≡ length ts
-  all-length [] [] h = refl
-  all-length [] (t ∷ ts) h = absurd h
-  all-length (p ∷ ps) [] h = absurd h
-  all-length (p ∷ ps) (t ∷ ts) h = omega (arith, all-length ps ts (h .1))
-
   all-take : (n : ℕ) (ps : List ℕ) (ts : List Term) → HeldAll ps ts → HeldAll (take n ps) (take n ts)
   all-take zero ps ts h = tt
   all-take (suc n) [] [] h = tt

@@ -8,7 +8,6 @@ use native.Mathlib.Omega.{arith}
 use lib.ListN.{length, getD, take, drop}
 use lib.Seq.{getD-drop}
 use Rattle.terms.specs.Term.{Term}
-use Rattle.terms.specs.Tree.{children}
 use Rattle.solver.specs.declared.Solver.{Solver}
 use Rattle.solver.specs.declared.Turn.{Turn}
 use Rattle.solver.specs.Shapes.{Notion, pushed}

@@ -12,7 +12,7 @@ use lib.Seq.{take-append-seam, drop-append-seam, take-all}
 use Rattle.terms.specs.Term.{Term, Parts, var, node, end, num, sub}
 use Rattle.terms.specs.Tree.{error, nums, row, tag, class, children, subs, fill, withKids}
 use Rattle.terms.specs.Questions.{meets, meetsRow}
-use Rattle.terms.proofs.Bools.{never-true, or-assoc}
+use Rattle.terms.proofs.Bools.{never-true, or-true, or-right, or-assoc}
 use Rattle.unify.specs.Term as tree
 use Rattle.unify.specs.Term.{Sort, one, many, Tree, nil, _▸_, In}
 use Rattle.solver.specs.Shapes.{blankRow, turned, pushed}
@@ -243,16 +243,9 @@ module _ (c q : Term → Bool) (agree : (k : ℕ) (ps : Parts) → c (node k ps)
     meets-views (num n ps) = meets-views ps
     meets-views (sub t ps) = ap₂ _||_ (meets-view t) (meets-views ps)
 
-either : (a b : Bool) → (a || b) ≡ true → (a ≡ true) ⊎ (b ≡ true)
+pub either : (a b : Bool) → (a || b) ≡ true → (a ≡ true) ⊎ (b ≡ true)
 either true b e = inl refl
 either false b e = inr e
-
-or-left : (a b : Bool) → a ≡ true → (a || b) ≡ true
-or-left a b e = rw e
-
-or-right : (a b : Bool) → b ≡ true → (a || b) ≡ true
-or-right true b e = refl
-or-right false b e = e
 
 module _ {H : Type 0} where
   -- with no head that counts: some variable of the tree counts
@@ -261,7 +254,7 @@ module _ {H : Type 0} where
   some-in p (tree.var w) v i e = ap p (sym i) ∙ e
   some-in p (tree.node h ts) v i e = some-in p ts v i e
   some-in p nil v i e = absurd i
-  some-in p (t ▸ ts) v (inl i) e = or-left (some-of p (λ (h : H). false) t) (some-of p (λ (h : H). false) ts) (some-in p t v i e)
+  some-in p (t ▸ ts) v (inl i) e = or-true (some-of p (λ (h : H). false) t) (some-of p (λ (h : H). false) ts) (some-in p t v i e)
   some-in p (t ▸ ts) v (inr i) e = or-right (some-of p (λ (h : H). false) t) (some-of p (λ (h : H). false) ts) (some-in p ts v i e)
 
   pub in-some : (p : ℕ → Bool) {s : Sort} (t : Tree H s) → some-of p (λ (h : H). false) t ≡ true → (v : ℕ) × In v t × (p v ≡ true)

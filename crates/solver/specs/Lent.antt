@@ -126,11 +126,3 @@ pub record Lent (x : Solver) (ks vs ts : List ℕ) (s : Session) : Type 0 where
   -- the 32 builtins stand at the start of the areas, where a default finds them; the other terms are the kept ones
   pub builtins : (c : ℕ) → c < 32 → Held ks vs (c + c) (node 4 (num c end))
   pub begun : begins ks ≡ 32 + s .kept
-
--- room for order 4, all 0: pending pairs behind the columns; in the work area a word a token and one a node, and two a variable
-pub record Tidy (x : Solver) (ks ts work : List ℕ) : Type 0 where
-  pub pairs : 7 * x .variables + 2 * (32 + x .nodes) ≤ length ts
-  pub blank : Zero (drop (7 * x .variables) ts)
-  pub links : length ks + (32 + x .nodes) ≤ length work
-  pub marks : x .variables + x .variables ≤ length work
-  pub clear : Zero work

@@ -8,7 +8,7 @@ use mathlib.Core.Path.{_≡_}
 use Prim.Native.Nat.{ℕ, _+_, _≤_, _<_}
 use lib.ListN.{length, getD, take, drop}
 use Rattle.terms.specs.Term.{Term, Parts, var, node, end, num, sub, Held}
-use Rattle.solver.specs.Solving.{replace, replaceRow, resolve}
+use Rattle.solver.specs.Solving.{replace, replaceRow, resolve, follow}
 use Rattle.solver.specs.Bindings.{HeldBindings}
 use Rattle.solver.specs.Reach.{Steady, Topped}
 use Rattle.solver.specs.Lent.{begins}
@@ -126,6 +126,19 @@ pub record Outcome (ks vs : List ℕ) (σ : ℕ → Term) (par par′ : List ℕ
   pub fair : Fair ks vs par′
   pub yes : equal ≡ true → J
   pub honest : Honest ks vs σ par → E → (equal ≡ true) × Honest ks vs σ par′
+
+-- what a join tells where n steps follow the bindings b to the end, the links being in an area that was `work`: of two terms, and of two rows
+abbrev pub TermsJoined : (ks vs : List ℕ) (n : ℕ) (b : ℕ → Option Term) (work work′ : List ℕ) (equal : Bool) (t u : Term) → Type 0
+TermsJoined ks vs n b work work′ equal t u =
+    Fair ks vs (linkWords ks work)
+    → Outcome ks vs (standsFor n b) (linkWords ks work) (linkWords ks work′) equal (Linked ks vs (follow n b) (linkWords ks work′) t u)
+    (Coincide (standsFor n b) t u)
+
+abbrev pub RowsJoined : (ks vs : List ℕ) (n : ℕ) (b : ℕ → Option Term) (work work′ : List ℕ) (equal : Bool) (ps qs : Parts) → Type 0
+RowsJoined ks vs n b work work′ equal ps qs =
+    Fair ks vs (linkWords ks work)
+    → Outcome ks vs (standsFor n b) (linkWords ks work) (linkWords ks work′) equal (Pairwise (Linked ks vs (follow n b) (linkWords ks work′)) ps qs)
+    (CoincideRow (standsFor n b) ps qs)
 
 -- the parts of the nodes at x and y have been joined
 pub record Matched (ks vs : List ℕ) (τ : Term → Term) (par : List ℕ) (x y : ℕ) : Type 0 where

@@ -14,7 +14,7 @@ use Rattle.solver.specs.declared.Named.the-variants.{Variable, Full}
 use Rattle.solver.specs.Solving as solving
 use Rattle.unify.specs.Solver.{put}
 use Rattle.solver.specs.Solving.{resolved, top, Requests}
-use Rattle.solver.specs.Session.{Limits, Place, Session, issued, find, issueAt, settleAt}
+use Rattle.solver.specs.Session.{Limits, Place, Session, issued, find, issueAt, settleAt, numericDefaults, neverDefaults}
 use Rattle.solver.specs.Orders.{Reply, term, refused, Step, full}
 use Rattle.solver.specs.Lent.{Lent}
 
@@ -143,3 +143,13 @@ settleWord z v (suc c) = settleAt z (node 4 (num c end)) (top z (var v))
 unfoldable pub neverWord : ℕ → ℕ
 neverWord zero = 0
 neverWord (suc n) = 11
+
+-- the word that names the default of the variable v: by its deferral, or by its request
+unfoldable pub defaultWord : Bool → ℕ → List ℕ → ℕ → ℕ
+defaultWord true m ts v = neverWord (getD ts (5 * m + v) 0)
+defaultWord false m ts v = getD ts (m + v) 0
+
+-- the solver of a session after these defaults of the variables before n
+unfoldable pub defaulted : Bool → ℕ → Session → solving.Solver
+defaulted true n s = neverDefaults (s .deferred) n 0 (s .solver)
+defaulted false n s = numericDefaults n 0 (s .solver)

@@ -16,7 +16,7 @@ use Rattle.terms.specs.Tree.{same}
 use Rattle.solver.specs.Shapes.{Notion, blank, readAll}
 use Rattle.solver.specs.Solving.{Pair, replace, resolved, occurs}
 use Rattle.solver.specs.Session.{Limits, Session}
-use Rattle.solver.specs.Orders.{Command, number, pair}
+use Rattle.solver.specs.Orders.{Command}
 use Rattle.solver.specs.Demand3.{History, beginning, history, Premises}
 
 -- ---- substitutions
@@ -157,11 +157,6 @@ resolves s v = resolved (s .solver) (var v)
 -- "no access marks" that do not count: each is ReadOnly already. A term without Map and Set is such a term (`markless`).
 abbrev pub Unmarked : Notion → Term → Type 0
 Unmarked n t = readAll n t ≡ t
-
--- a term with an access that does not count
-unfoldable pub marked : Notion → Term → Bool
-marked n (var v) = false
-marked n (node k ps) = n k
 
 abbrev pub UnmarkedPairs : Notion → List Pair → Type 0
 UnmarkedPairs n [] = Unit {0}

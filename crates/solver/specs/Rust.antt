@@ -366,8 +366,3 @@ given lim n s (c ∷ cs) =
 unfoldable pub unrefused : List Reply → List Reply
 unrefused [] = []
 unrefused (r ∷ rs) = pick (accepted r) (r ∷ unrefused rs) (unrefused rs)
-
--- no order of a list is refused
-abbrev pub NoneRefused : Limits → Notion → Session → List Command → Type 0
-NoneRefused lim n s [] = Unit {0}
-NoneRefused lim n s (c ∷ cs) = (accepted (order lim n s c .reply) ≡ true) × NoneRefused lim n (order lim n s c .session) cs

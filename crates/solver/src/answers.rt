@@ -5,6 +5,7 @@ use super::Subject;
 use super::resolving::clear_words;
 use super::resolving::resolved_len;
 use super::resolving::write_resolved;
+use super::words::wide;
 use terms::number_len;
 use terms::write_number;
 ghost use mathlib.Core.Path.{_≡_};
@@ -19,12 +20,6 @@ ghost use Rattle.solver.specs.Orders as orders;
 ghost use Rattle.solver.specs.Work.{Zero};
 ghost use Rattle.solver.specs.Lent.{limitsOf, Lent};
 ghost use Rattle.solver.specs.Behind.{Asked, Starts, Frames, resolvedTo};
-
-fn wide(x: u32) -> usize
-    ensures { λ r. ⌜ (r ≡ x) × (r < 2 ^ 32) ⌝ }
-{
-    x as usize
-}
 
 // How many bytes a variable has.
 pub fn variable_len(v: u32) -> usize
@@ -47,7 +42,9 @@ impl Solver {
     // Order 8: how many bindings were made.
     pub fn revision(self) -> usize
         ensures count { λ r. ⌜ r ≡ self .revision ⌝ }
-        ensures held { λ r. ⌜ ((ks vs ts : List ℕ) (s : Session) (n : Notion) → Lent self ks vs ts s → orders.order (limitsOf self) n s orders.revision .reply ≡ orders.count r) ⌝ }
+        ensures held { λ r. ⌜
+            ((ks vs ts : List ℕ) (s : Session) (n : Notion) → Lent self ks vs ts s → orders.order (limitsOf self) n s orders.revision .reply ≡ orders.count r)
+            ⌝ }
     {
         self.revision
     }
@@ -55,7 +52,8 @@ impl Solver {
     // Where resolving begins.
     pub fn start(self, tables: &[u32], what: Subject) -> Start
         requires { ⌜ ((n : Notion) × (ks vs : List ℕ) × (s : Session) × (t : Term) × Asked n self ks vs (now tables) what s t) ⌝ }
-        ensures { λ r. ⌜ ((n : Notion) (ks vs : List ℕ) (s : Session) (t : Term) → Asked n self ks vs (now (tables .entry)) what s t → Starts self ks vs s t r) ⌝ }
+        ensures { λ r. ⌜
+            ((n : Notion) (ks vs : List ℕ) (s : Session) (t : Term) → Asked n self ks vs (now (tables .entry)) what s t → Starts self ks vs s t r) ⌝ }
     {
         match what {
             Subject::Follows => Start::Begins(self.top, self.revision),
@@ -86,7 +84,10 @@ impl Solver {
     ) -> usize
         requires held { ⌜ ((n : Notion) × (s : Session) × (t : Term) × Asked n self (now kinds) (now vals) (now tables) what s t) ⌝ }
         requires room { ⌜ Frames self (now work) × (limit < 2 ^ 32) ⌝ }
-        ensures len { λ r. ⌜ ((n : Notion) (s : Session) (t : Term) → Asked n self (now (kinds .entry)) (now (vals .entry)) (now (tables .entry)) what s t → r ≡ min (limit + 1) (length (resolvedTo s t))) ⌝ }
+        ensures len { λ r. ⌜
+            ((n : Notion) (s : Session) (t : Term)
+            → Asked n self (now (kinds .entry)) (now (vals .entry)) (now (tables .entry)) what s t
+            → r ≡ min (limit + 1) (length (resolvedTo s t))) ⌝ }
         ensures clear { λ _. ⌜ Zero (now (work .exit)) ⌝ }
     {
         let m = self.variables;
@@ -120,9 +121,14 @@ impl Solver {
         out: &mut [u8],
         to: usize,
     ) -> usize
-        requires held { ⌜ ((n : Notion) × (s : Session) × (t : Term) × Asked n self (now kinds) (now vals) (now tables) what s t × (to + length (resolvedTo s t) ≤ length (now out))) ⌝ }
+        requires held { ⌜
+            ((n : Notion) × (s : Session) × (t : Term) × Asked n self (now kinds) (now vals) (now tables) what s t
+            × (to + length (resolvedTo s t) ≤ length (now out))) ⌝ }
         requires room { ⌜ Frames self (now work) ⌝ }
-        ensures wrote { λ r. ⌜ ((n : Notion) (s : Session) (t : Term) → Asked n self (now (kinds .entry)) (now (vals .entry)) (now (tables .entry)) what s t → (r ≡ to + length (resolvedTo s t)) × (now (out .exit) ≡ sets (now (out .entry)) to (resolvedTo s t))) ⌝ }
+        ensures wrote { λ r. ⌜
+            ((n : Notion) (s : Session) (t : Term)
+            → Asked n self (now (kinds .entry)) (now (vals .entry)) (now (tables .entry)) what s t
+            → (r ≡ to + length (resolvedTo s t)) × (now (out .exit) ≡ sets (now (out .entry)) to (resolvedTo s t))) ⌝ }
         ensures clear { λ _. ⌜ Zero (now (work .exit)) ⌝ }
     {
         let m = self.variables;

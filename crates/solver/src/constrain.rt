@@ -15,13 +15,13 @@ use super::reach::occurs;
 use super::reach::recovers;
 use super::top::top_at;
 ghost use mathlib.Core.Path.{_≡_};
-ghost use mathlib.Core.Bool.{Bool, _||_};
+ghost use mathlib.Core.Bool.{_||_};
 ghost use mathlib.Core.List.{List};
-ghost use Prim.Native.Nat.{ℕ, _+_, _*_, _≤_, _<_};
+ghost use Prim.Native.Nat.{_+_, _*_, _≤_, _<_};
 ghost use lib.Dec.{eqb};
 ghost use lib.ListN.{length, drop};
 ghost use Rattle.terms.specs.Term.{Term, size};
-ghost use Rattle.solver.specs.Shapes.{Notion, sameShape};
+ghost use Rattle.solver.specs.Shapes.{sameShape};
 ghost use Rattle.solver.specs.Solving as solving;
 ghost use Rattle.solver.specs.Solving.{Pair, recovery, projects, part};
 ghost use Rattle.solver.specs.Session.{Limits, Session, keep};
@@ -60,7 +60,12 @@ impl Solver {
     ) -> Turn
         requires faces { ⌜ ((s : Session) × (t : Term) × Facing self (now kinds) (now vals) (now tables) s v q t) ⌝ }
         requires room { ⌜ Scratch self (now kinds) (now tables) (now work) ⌝ }
-        ensures after { λ r. ⌜ ((s : Session) (t a b : Term) (ps : List Pair) → Facing self (now (kinds .entry)) (now (vals .entry)) (now (tables .entry)) s v q t → Waiting self (now (kinds .entry)) (now (vals .entry)) (now (tables .entry)) count ps → After self (now (kinds .entry)) (now (vals .entry)) (now (tables .entry)) (now (tables .exit)) s a b count (solving.bind (s .solver) v t ps) r) ⌝ }
+        ensures after { λ r. ⌜
+            ((s : Session) (t a b : Term) (ps : List Pair)
+            → Facing self (now (kinds .entry)) (now (vals .entry)) (now (tables .entry)) s v q t
+            → Waiting self (now (kinds .entry)) (now (vals .entry)) (now (tables .entry)) count ps
+            → After self (now (kinds .entry)) (now (vals .entry)) (now (tables .entry)) (now (tables .exit)) s a b count (solving.bind (s .solver) v t ps) r)
+            ⌝ }
         ensures clear { λ _. ⌜ Zero (now (work .exit)) ⌝ }
     {
         let m = self.variables;
@@ -105,8 +110,16 @@ impl Solver {
         count: usize,
     ) -> Turn
         requires nodes { ⌜ ((t u : Term) × Nodes self (now kinds) (now vals) a b count t u) ⌝ }
-        requires room { ⌜ (pendingFrom self + 2 * (32 + self .nodes) ≤ length (now tables)) × (length (now kinds) < 4294967296) × (length (now vals) ≡ length (now kinds)) × (length (now tables) < 4294967296) ⌝ }
-        ensures after { λ r. ⌜ ((s : Session) (t u : Term) (ps : List Pair) → Lent self (now (kinds .entry)) (now (vals .entry)) (now (tables .entry)) s → Nodes self (now (kinds .entry)) (now (vals .entry)) a b count t u → Waiting self (now (kinds .entry)) (now (vals .entry)) (now (tables .entry)) count ps → After self (now (kinds .entry)) (now (vals .entry)) (now (tables .entry)) (now (tables .exit)) s t u count (part (s .solver) t u ps (recovery t || recovery u) (projects t) (sameShape (notion strict) t u)) r) ⌝ }
+        requires room { ⌜
+            (pendingFrom self + 2 * (32 + self .nodes) ≤ length (now tables)) × (length (now kinds) < 4294967296) × (length (now vals) ≡ length (now kinds))
+            × (length (now tables) < 4294967296) ⌝ }
+        ensures after { λ r. ⌜
+            ((s : Session) (t u : Term) (ps : List Pair)
+            → Lent self (now (kinds .entry)) (now (vals .entry)) (now (tables .entry)) s
+            → Nodes self (now (kinds .entry)) (now (vals .entry)) a b count t u
+            → Waiting self (now (kinds .entry)) (now (vals .entry)) (now (tables .entry)) count ps
+            → After self (now (kinds .entry)) (now (vals .entry)) (now (tables .entry)) (now (tables .exit)) s t u count
+            (part (s .solver) t u ps (recovery t || recovery u) (projects t) (sameShape (notion strict) t u)) r) ⌝ }
     {
         if either_recovers(kinds[a], kinds[b]) {
             return Turn {
@@ -152,7 +165,12 @@ impl Solver {
     ) -> Turn
         requires due { ⌜ ((s : Session) × (t u : Term) × Due (notion strict) self (now kinds) (now vals) (now tables) s i j count t u) ⌝ }
         requires room { ⌜ Scratch self (now kinds) (now tables) (now work) ⌝ }
-        ensures after { λ r. ⌜ ((s : Session) (t u : Term) (ps : List Pair) → Due (notion strict) self (now (kinds .entry)) (now (vals .entry)) (now (tables .entry)) s i j count t u → Waiting self (now (kinds .entry)) (now (vals .entry)) (now (tables .entry)) count ps → After self (now (kinds .entry)) (now (vals .entry)) (now (tables .entry)) (now (tables .exit)) s (solving.top (s .solver) t) (solving.top (s .solver) u) count (solving.turn (notion strict) (s .solver) t u ps) r) ⌝ }
+        ensures after { λ r. ⌜
+            ((s : Session) (t u : Term) (ps : List Pair)
+            → Due (notion strict) self (now (kinds .entry)) (now (vals .entry)) (now (tables .entry)) s i j count t u
+            → Waiting self (now (kinds .entry)) (now (vals .entry)) (now (tables .entry)) count ps
+            → After self (now (kinds .entry)) (now (vals .entry)) (now (tables .entry)) (now (tables .exit)) s (solving.top (s .solver) t)
+            (solving.top (s .solver) u) count (solving.turn (notion strict) (s .solver) t u ps) r) ⌝ }
         ensures clear { λ _. ⌜ Zero (now (work .exit)) ⌝ }
     {
         let m = self.variables;
@@ -187,9 +205,17 @@ impl Solver {
         k: u32,
         strict: bool,
     ) -> Solved
-        requires held { ⌜ ((s : Session) × (lim : Limits) × (t u : Term) × Arises lim (notion strict) s × Lent self (now kinds) (now vals) (now tables) s × Known (now kinds) (now vals) s p t × Known (now kinds) (now vals) s q u) ⌝ }
+        requires held { ⌜
+            ((s : Session) × (lim : Limits) × (t u : Term) × Arises lim (notion strict) s × Lent self (now kinds) (now vals) (now tables) s
+            × Known (now kinds) (now vals) s p t × Known (now kinds) (now vals) s q u) ⌝ }
         requires room { ⌜ Scratch self (now kinds) (now tables) (now work) × Zero (drop (pendingFrom self) (now tables)) ⌝ }
-        ensures solved { λ r. ⌜ ((s : Session) (lim : Limits) (t u : Term) → Arises lim (notion strict) s → Lent self (now (kinds .entry)) (now (vals .entry)) (now (tables .entry)) s → Known (now (kinds .entry)) (now (vals .entry)) s p t → Known (now (kinds .entry)) (now (vals .entry)) s q u → Constrained self (now (kinds .entry)) (now (vals .entry)) (now (tables .exit)) s (solving.constrain (notion strict) k (s .solver) t u) r) ⌝ }
+        ensures solved { λ r. ⌜
+            ((s : Session) (lim : Limits) (t u : Term)
+            → Arises lim (notion strict) s
+            → Lent self (now (kinds .entry)) (now (vals .entry)) (now (tables .entry)) s
+            → Known (now (kinds .entry)) (now (vals .entry)) s p t
+            → Known (now (kinds .entry)) (now (vals .entry)) s q u
+            → Constrained self (now (kinds .entry)) (now (vals .entry)) (now (tables .exit)) s (solving.constrain (notion strict) k (s .solver) t u) r) ⌝ }
         ensures clear { λ _. ⌜ Zero (now (work .exit)) ⌝ }
     {
         let base = 7 * self.variables;
@@ -241,9 +267,16 @@ impl Solver {
         nodes: usize,
         strict: bool,
     ) -> Solved
-        requires held { ⌜ ((s : Session) × (t u : Term) × PosesPair (notion strict) self (now kinds) (now vals) (now tables) s q t u × (nodes ≡ s .kept + (size t + size u))) ⌝ }
+        requires held { ⌜
+            ((s : Session) × (t u : Term) × PosesPair (notion strict) self (now kinds) (now vals) (now tables) s q t u × (nodes ≡ s .kept + (size t + size u)))
+            ⌝ }
         requires room { ⌜ Scratch self (now kinds) (now tables) (now work) × Zero (drop (pendingFrom self) (now tables)) ⌝ }
-        ensures solved { λ r. ⌜ ((s : Session) (t u : Term) → PosesPair (notion strict) self (now (kinds .entry)) (now (vals .entry)) (now (tables .entry)) s q t u → nodes ≡ s .kept + (size t + size u) → Constrained self (now (kinds .entry)) (now (vals .entry)) (now (tables .exit)) (keep s (s .solver) (size t + size u)) (solving.constrain (notion strict) k (s .solver) t u) r) ⌝ }
+        ensures solved { λ r. ⌜
+            ((s : Session) (t u : Term)
+            → PosesPair (notion strict) self (now (kinds .entry)) (now (vals .entry)) (now (tables .entry)) s q t u
+            → nodes ≡ s .kept + (size t + size u)
+            → Constrained self (now (kinds .entry)) (now (vals .entry)) (now (tables .exit)) (keep s (s .solver) (size t + size u))
+            (solving.constrain (notion strict) k (s .solver) t u) r) ⌝ }
         ensures clear { λ _. ⌜ Zero (now (work .exit)) ⌝ }
     {
         let p = self.top;

@@ -2,30 +2,28 @@
 use super::Solver;
 use super::resolving::named_run;
 use super::top::top_at;
+use super::words::wide;
 ghost use mathlib.Core.Path.{_≡_};
 ghost use mathlib.Core.Option.{Option};
-ghost use Prim.Native.Nat.{ℕ, _+_, _^_, _≤_, _<_};
+ghost use Prim.Native.Nat.{ℕ, _+_, _*_, _^_, _≤_, _<_};
 ghost use lib.ListN.{length, take};
 ghost use Rattle.terms.specs.Term.{Term, var};
 ghost use Rattle.solver.specs.Shapes.{Notion};
 ghost use Rattle.solver.specs.Solving.{follow, resolved};
-ghost use Rattle.solver.specs.Session.{Session, withSolver, deferring};
+ghost use Rattle.solver.specs.Session.{Session, issued, withSolver, deferring};
 ghost use Rattle.solver.specs.Orders as orders;
 ghost use Rattle.solver.specs.Bindings.{HeldBindings};
 ghost use Rattle.solver.specs.Lent.{limitsOf, Lent};
 ghost use Rattle.solver.specs.Behind.{Poses};
-ghost use Rattle.solver.specs.Methods.{Shaped, Beside, Low, EndsAt, settleWord, neverWord};
-
-fn wide(x: u32) -> usize
-    ensures { λ r. ⌜ r ≡ x ⌝ }
-{
-    x as usize
-}
+ghost use Rattle.solver.specs.Methods.{Shaped, Beside, Low, EndsAt, settleWord, defaultWord, defaulted};
 
 // The variable at the end of the chain of bindings from v on, or the length of the table where the chain ends at no variable of the table.
 pub fn end_of(kinds: &[u32], vals: &[u32], bound: &[u32], most: usize, v: usize) -> usize
     requires { ⌜ (v < length (now bound)) × (length (now vals) ≡ length (now kinds)) ⌝ }
-    ensures { λ r. ⌜ ((b : ℕ → Option Term) → HeldBindings (now (kinds .entry)) (now (vals .entry)) (now (bound .entry)) b → EndsAt (length (now (bound .entry))) (follow most b (var v)) r) ⌝ }
+    ensures { λ r. ⌜
+        ((b : ℕ → Option Term)
+        → HeldBindings (now (kinds .entry)) (now (vals .entry)) (now (bound .entry)) b
+        → EndsAt (length (now (bound .entry))) (follow most b (var v)) r) ⌝ }
 {
     if most == 0 {
         return v;
@@ -47,21 +45,29 @@ pub fn end_of(kinds: &[u32], vals: &[u32], bound: &[u32], most: usize, v: usize)
     w
 }
 
-// The word that names Never, where a variable is deferred.
-pub fn never_word(deferral: u32) -> usize
-    ensures { λ r. ⌜ r ≡ neverWord deferral ⌝ }
+// The word that names the default of the variable v: with `never` that of Never, if v is deferred, else that of its fallback, if it has one.
+pub fn default_word(tables: &[u32], m: usize, v: usize, never: bool) -> usize
+    requires { ⌜ (v < m) × (7 * m ≤ length (now tables)) × (m < 2 ^ 32) ⌝ }
+    ensures { λ r. ⌜ r ≡ defaultWord never m (now (tables .entry)) v ⌝ }
 {
-    if deferral == 0 {
-        return 0;
+    if never {
+        if tables[5 * m + v] == 0 {
+            return 0;
+        }
+        return 11;
     }
-    11
+    wide(tables[m + v])
 }
 
 impl Solver {
     // Order 3: the variable that the term behind the session's tokens stands for, if it stands for one, is deferred.
     pub fn defer_never(self, kinds: &[u32], vals: &[u32], tables: &mut [u32]) -> Solver
         requires { ⌜ ((n : Notion) × (s : Session) × (t : Term) × Poses n self (now kinds) (now vals) (now tables) s t) ⌝ }
-        ensures held { λ r. ⌜ ((n : Notion) (s : Session) (t : Term) → Poses n self (now (kinds .entry)) (now (vals .entry)) (now (tables .entry)) s t → Lent r (take (self .top) (now (kinds .entry))) (take (self .top) (now (vals .entry))) (now (tables .exit)) (deferring s (resolved (s .solver) t))) ⌝ }
+        ensures held { λ r. ⌜
+            ((n : Notion) (s : Session) (t : Term)
+            → Poses n self (now (kinds .entry)) (now (vals .entry)) (now (tables .entry)) s t
+            → Lent r (take (self .top) (now (kinds .entry))) (take (self .top) (now (vals .entry))) (now (tables .exit)) (deferring s (resolved (s .solver) t)))
+            ⌝ }
         ensures beside { λ r. ⌜ Beside self r (now (tables .entry)) (now (tables .exit)) ⌝ }
     {
         let m = self.variables;
@@ -87,7 +93,12 @@ impl Solver {
     ) -> Solver
         requires shape { ⌜ Shaped self (length (now tables)) ⌝ }
         requires areas { ⌜ (v < self .variables) × (self .revision < 2 ^ 33) × (length (now vals) ≡ length (now kinds)) ⌝ }
-        ensures held { λ r. ⌜ ((s : Session) → word ≤ 32 → Lent self (now (kinds .entry)) (now (vals .entry)) (now (tables .entry)) s → Low (self .variables) (s .solver .bindings) → Lent r (now (kinds .entry)) (now (vals .entry)) (now (tables .exit)) (withSolver s (settleWord (s .solver) v word))) ⌝ }
+        ensures held { λ r. ⌜
+            ((s : Session)
+            → word ≤ 32
+            → Lent self (now (kinds .entry)) (now (vals .entry)) (now (tables .entry)) s
+            → Low (self .variables) (s .solver .bindings)
+            → Lent r (now (kinds .entry)) (now (vals .entry)) (now (tables .exit)) (withSolver s (settleWord (s .solver) v word))) ⌝ }
         ensures steps { λ r. ⌜ (r .revision ≤ self .revision + 1) × (r .issued ≡ self .issued) ⌝ }
         ensures beside { λ r. ⌜ Beside self r (now (tables .entry)) (now (tables .exit)) ⌝ }
     {
@@ -108,7 +119,35 @@ impl Solver {
         self
     }
 
-    // Order 6: each number variable, by rising id, takes its fallback.
+    // Each issued variable, by rising id, takes its default: with `never` by its deferral, else by its request.
+    pub fn apply_defaults(
+        mut self,
+        kinds: &[u32],
+        vals: &[u32],
+        tables: &mut [u32],
+        never: bool,
+    ) -> Solver
+        requires shape { ⌜ Shaped self (length (now tables)) ⌝ }
+        requires areas { ⌜ (self .revision < 2 ^ 32) × (length (now vals) ≡ length (now kinds)) ⌝ }
+        ensures held { λ r. ⌜
+            ((s : Session)
+            → Lent self (now (kinds .entry)) (now (vals .entry)) (now (tables .entry)) s
+            → Low (self .variables) (s .solver .bindings)
+            → Lent r (now (kinds .entry)) (now (vals .entry)) (now (tables .exit)) (withSolver s (defaulted never (issued s) s))) ⌝ }
+        ensures beside { λ r. ⌜ Beside self r (now (tables .entry)) (now (tables .exit)) ⌝ }
+    {
+        let m = self.variables;
+        let n = self.issued;
+        let mut v = 0;
+        while v < n {
+            let word = default_word(tables, m, v, never);
+            self = self.settle_at(kinds, vals, tables, v, word);
+            v += 1;
+        }
+        self
+    }
+
+    // Order 6: each number variable takes its fallback.
     pub fn apply_numeric_defaults(
         mut self,
         kinds: &[u32],
@@ -116,36 +155,34 @@ impl Solver {
         tables: &mut [u32],
     ) -> Solver
         requires shape { ⌜ Shaped self (length (now tables)) ⌝ }
-        requires areas { ⌜ (self .revision < 2 ^ 32) × (length (now vals) ≡ length (now kinds)) × ((s : Session) × Lent self (now kinds) (now vals) (now tables) s × Low (self .variables) (s .solver .bindings)) ⌝ }
-        ensures held { λ r. ⌜ ((s : Session) (n : Notion) → Lent self (now (kinds .entry)) (now (vals .entry)) (now (tables .entry)) s → Low (self .variables) (s .solver .bindings) → Lent r (now (kinds .entry)) (now (vals .entry)) (now (tables .exit)) (orders.order (limitsOf self) n s orders.numbers .session)) ⌝ }
+        requires areas { ⌜
+            (self .revision < 2 ^ 32) × (length (now vals) ≡ length (now kinds))
+            × ((s : Session) × Lent self (now kinds) (now vals) (now tables) s × Low (self .variables) (s .solver .bindings)) ⌝ }
+        ensures held { λ r. ⌜
+            ((s : Session) (n : Notion)
+            → Lent self (now (kinds .entry)) (now (vals .entry)) (now (tables .entry)) s
+            → Low (self .variables) (s .solver .bindings)
+            → Lent r (now (kinds .entry)) (now (vals .entry)) (now (tables .exit)) (orders.order (limitsOf self) n s orders.numbers .session)) ⌝ }
         ensures beside { λ r. ⌜ Beside self r (now (tables .entry)) (now (tables .exit)) ⌝ }
     {
-        let m = self.variables;
-        let n = self.issued;
-        let mut v = 0;
-        while v < n {
-            let word = wide(tables[m + v]);
-            self = self.settle_at(kinds, vals, tables, v, word);
-            v += 1;
-        }
+        self = self.apply_defaults(kinds, vals, tables, false);
         self
     }
 
-    // Order 7: each variable that is deferred, by rising id, takes Never.
+    // Order 7: each variable that is deferred takes Never.
     pub fn apply_never_defaults(mut self, kinds: &[u32], vals: &[u32], tables: &mut [u32]) -> Solver
         requires shape { ⌜ Shaped self (length (now tables)) ⌝ }
-        requires areas { ⌜ (self .revision < 2 ^ 32) × (length (now vals) ≡ length (now kinds)) × ((s : Session) × Lent self (now kinds) (now vals) (now tables) s × Low (self .variables) (s .solver .bindings)) ⌝ }
-        ensures held { λ r. ⌜ ((s : Session) (n : Notion) → Lent self (now (kinds .entry)) (now (vals .entry)) (now (tables .entry)) s → Low (self .variables) (s .solver .bindings) → Lent r (now (kinds .entry)) (now (vals .entry)) (now (tables .exit)) (orders.order (limitsOf self) n s orders.nevers .session)) ⌝ }
+        requires areas { ⌜
+            (self .revision < 2 ^ 32) × (length (now vals) ≡ length (now kinds))
+            × ((s : Session) × Lent self (now kinds) (now vals) (now tables) s × Low (self .variables) (s .solver .bindings)) ⌝ }
+        ensures held { λ r. ⌜
+            ((s : Session) (n : Notion)
+            → Lent self (now (kinds .entry)) (now (vals .entry)) (now (tables .entry)) s
+            → Low (self .variables) (s .solver .bindings)
+            → Lent r (now (kinds .entry)) (now (vals .entry)) (now (tables .exit)) (orders.order (limitsOf self) n s orders.nevers .session)) ⌝ }
         ensures beside { λ r. ⌜ Beside self r (now (tables .entry)) (now (tables .exit)) ⌝ }
     {
-        let m = self.variables;
-        let n = self.issued;
-        let mut v = 0;
-        while v < n {
-            let word = never_word(tables[5 * m + v]);
-            self = self.settle_at(kinds, vals, tables, v, word);
-            v += 1;
-        }
+        self = self.apply_defaults(kinds, vals, tables, true);
         self
     }
 }

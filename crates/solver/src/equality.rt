@@ -4,6 +4,7 @@
 // places that hang, in the order in which that happened.
 use super::Joint;
 use super::top::top_at;
+use super::words::wide;
 ghost use mathlib.Core.Bool.{true, false};
 ghost use mathlib.Core.List.{List};
 ghost use mathlib.Core.Option.{Option};
@@ -18,18 +19,17 @@ ghost use Rattle.solver.specs.Bindings.{HeldBindings};
 ghost use Rattle.solver.specs.Work.{Zero};
 ghost use Rattle.solver.specs.Reach.{Steady, Topped};
 ghost use Rattle.solver.specs.Lent.{begins};
-ghost use Rattle.solver.specs.Links.{linkWords, WiredIn, AdvancedIn, Clearing, Up, HeldSteady, standsFor, Standing, Coincide, CoincideRow, Pairwise, Linked, Fair, Outcome, Closed};
-
-fn wide(x: u32) -> usize
-    ensures { λ r. ⌜ r ≡ x ⌝ }
-{
-    x as usize
-}
+ghost use Rattle.solver.specs.Links.{linkWords, WiredIn, AdvancedIn, Clearing, Up, HeldSteady, standsFor, Standing, Coincide, Linked, Fair, Outcome};
+ghost use Rattle.solver.specs.Links.{Closed, TermsJoined, RowsJoined};
 
 // How many tokens the term at i has, at least 1 and at most `room`.
 fn skip(kinds: &[u32], vals: &[u32], i: usize, room: usize) -> usize
     requires { ⌜ (i < length (now kinds)) × (length (now vals) ≡ length (now kinds)) × (1 ≤ room) ⌝ }
-    ensures { λ r. ⌜ (1 ≤ r) × (r ≤ room) × (1 ≤ span (getD (now (kinds .entry)) i 0) (getD (now (vals .entry)) i 0) → span (getD (now (kinds .entry)) i 0) (getD (now (vals .entry)) i 0) ≤ room → r ≡ span (getD (now (kinds .entry)) i 0) (getD (now (vals .entry)) i 0)) ⌝ }
+    ensures { λ r. ⌜
+        (1 ≤ r)
+        × (r ≤ room)
+        × (1 ≤ span (getD (now (kinds .entry)) i 0) (getD (now (vals .entry)) i 0) → span (getD (now (kinds .entry)) i 0) (getD (now (vals .entry)) i 0) ≤ room
+        → r ≡ span (getD (now (kinds .entry)) i 0) (getD (now (vals .entry)) i 0)) ⌝ }
 {
     if kinds[i] < 2 {
         return 1;
@@ -59,7 +59,8 @@ fn find(n: usize, work: &[u32], a: usize) -> usize
 // Hangs the place x below the lower place y, as the entry `top` of the queue.
 fn hang(n: usize, work: &mut [u32], top: usize, x: usize, y: usize)
     requires { ⌜ (x < n) × (y < x) × (n < 2 ^ 32) × (n + top < length (now work)) ⌝ }
-    ensures { λ _. ⌜ (take n (now (work .exit)) ≡ set (take n (now (work .entry))) x (y + 1)) × (drop n (now (work .exit)) ≡ set (drop n (now (work .entry))) top x) ⌝ }
+    ensures { λ _. ⌜
+        (take n (now (work .exit)) ≡ set (take n (now (work .entry))) x (y + 1)) × (drop n (now (work .exit)) ≡ set (drop n (now (work .entry))) top x) ⌝ }
 {
     work[x] = (y + 1) as u32;
     work[n + top] = x as u32;
@@ -67,10 +68,19 @@ fn hang(n: usize, work: &mut [u32], top: usize, x: usize, y: usize)
 
 // Puts the nodes at a and b, of one tag, into one class.
 fn unite(kinds: &[u32], a: usize, b: usize, work: &mut [u32], top: usize) -> usize
-    requires places { ⌜ (a < length (now kinds)) × (b < length (now kinds)) × (length (now kinds) < 2 ^ 32) × (2 ≤ getD (now kinds) a 0) × (getD (now kinds) a 0 ≡ getD (now kinds) b 0) ⌝ }
+    requires places { ⌜
+        (a < length (now kinds)) × (b < length (now kinds)) × (length (now kinds) < 2 ^ 32) × (2 ≤ getD (now kinds) a 0)
+        × (getD (now kinds) a 0 ≡ getD (now kinds) b 0) ⌝ }
     requires wired { ⌜ WiredIn (now kinds) (now work) top ⌝ }
     ensures advanced { λ r. ⌜ AdvancedIn (now (kinds .entry)) (now (work .entry)) top (now (work .exit)) r ⌝ }
-    ensures terms { λ _. ⌜ ((vs : List ℕ) (σ : ℕ → Term) (τ : Term → Term) (t u : Term) → Standing σ τ → Held (now (kinds .entry)) vs a (τ t) → Held (now (kinds .entry)) vs b (τ u) → Fair (now (kinds .entry)) vs (linkWords (now (kinds .entry)) (now (work .entry))) → Outcome (now (kinds .entry)) vs σ (linkWords (now (kinds .entry)) (now (work .entry))) (linkWords (now (kinds .entry)) (now (work .exit))) true (Linked (now (kinds .entry)) vs τ (linkWords (now (kinds .entry)) (now (work .exit))) t u) (Coincide σ t u)) ⌝ }
+    ensures terms { λ _. ⌜
+        ((vs : List ℕ) (σ : ℕ → Term) (τ : Term → Term) (t u : Term)
+        → Standing σ τ
+        → Held (now (kinds .entry)) vs a (τ t)
+        → Held (now (kinds .entry)) vs b (τ u)
+        → Fair (now (kinds .entry)) vs (linkWords (now (kinds .entry)) (now (work .entry)))
+        → Outcome (now (kinds .entry)) vs σ (linkWords (now (kinds .entry)) (now (work .entry))) (linkWords (now (kinds .entry)) (now (work .exit))) true
+        (Linked (now (kinds .entry)) vs τ (linkWords (now (kinds .entry)) (now (work .exit))) t u) (Coincide σ t u)) ⌝ }
 {
     let n = kinds.len();
     let x = find(n, work, a);
@@ -100,7 +110,12 @@ fn join(
     requires places { ⌜ (i < length (now kinds)) × (j < length (now kinds)) × (length (now vals) ≡ length (now kinds)) × (length (now kinds) < 2 ^ 32) ⌝ }
     requires wired { ⌜ WiredIn (now kinds) (now work) top ⌝ }
     ensures advanced { λ r. ⌜ AdvancedIn (now (kinds .entry)) (now (work .entry)) top (now (work .exit)) (r .top) ⌝ }
-    ensures terms { λ r. ⌜ ((b : ℕ → Option Term) (t u : Term) → HeldSteady (now (kinds .entry)) (now (vals .entry)) (now (bound .entry)) most b → Held (now (kinds .entry)) (now (vals .entry)) i t → Held (now (kinds .entry)) (now (vals .entry)) j u → Fair (now (kinds .entry)) (now (vals .entry)) (linkWords (now (kinds .entry)) (now (work .entry))) → Outcome (now (kinds .entry)) (now (vals .entry)) (standsFor most b) (linkWords (now (kinds .entry)) (now (work .entry))) (linkWords (now (kinds .entry)) (now (work .exit))) (r .equal) (Linked (now (kinds .entry)) (now (vals .entry)) (follow most b) (linkWords (now (kinds .entry)) (now (work .exit))) t u) (Coincide (standsFor most b) t u)) ⌝ }
+    ensures terms { λ r. ⌜
+        ((b : ℕ → Option Term) (t u : Term)
+        → HeldSteady (now (kinds .entry)) (now (vals .entry)) (now (bound .entry)) most b
+        → Held (now (kinds .entry)) (now (vals .entry)) i t
+        → Held (now (kinds .entry)) (now (vals .entry)) j u
+        → TermsJoined (now (kinds .entry)) (now (vals .entry)) most b (now (work .entry)) (now (work .exit)) (r .equal) t u) ⌝ }
 {
     let a = top_at(kinds, vals, bound, most, i);
     let b = top_at(kinds, vals, bound, most, j);
@@ -133,10 +148,17 @@ fn join_rows(
     work: &mut [u32],
     from: usize,
 ) -> Joint
-    requires places { ⌜ (a ≤ ae) × (ae ≤ length (now kinds)) × (b ≤ be) × (be ≤ length (now kinds)) × (length (now vals) ≡ length (now kinds)) × (length (now kinds) < 2 ^ 32) ⌝ }
+    requires places { ⌜
+        (a ≤ ae) × (ae ≤ length (now kinds)) × (b ≤ be) × (be ≤ length (now kinds)) × (length (now vals) ≡ length (now kinds)) × (length (now kinds) < 2 ^ 32)
+        ⌝ }
     requires wired { ⌜ WiredIn (now kinds) (now work) from ⌝ }
     ensures advanced { λ r. ⌜ AdvancedIn (now (kinds .entry)) (now (work .entry)) from (now (work .exit)) (r .top) ⌝ }
-    ensures terms { λ r. ⌜ ((h : ℕ → Option Term) (ps qs : Parts) → HeldSteady (now (kinds .entry)) (now (vals .entry)) (now (bound .entry)) most h → HeldParts (now (kinds .entry)) (now (vals .entry)) a ae ps → HeldParts (now (kinds .entry)) (now (vals .entry)) b be qs → Fair (now (kinds .entry)) (now (vals .entry)) (linkWords (now (kinds .entry)) (now (work .entry))) → Outcome (now (kinds .entry)) (now (vals .entry)) (standsFor most h) (linkWords (now (kinds .entry)) (now (work .entry))) (linkWords (now (kinds .entry)) (now (work .exit))) (r .equal) (Pairwise (Linked (now (kinds .entry)) (now (vals .entry)) (follow most h) (linkWords (now (kinds .entry)) (now (work .exit)))) ps qs) (CoincideRow (standsFor most h) ps qs)) ⌝ }
+    ensures terms { λ r. ⌜
+        ((h : ℕ → Option Term) (ps qs : Parts)
+        → HeldSteady (now (kinds .entry)) (now (vals .entry)) (now (bound .entry)) most h
+        → HeldParts (now (kinds .entry)) (now (vals .entry)) a ae ps
+        → HeldParts (now (kinds .entry)) (now (vals .entry)) b be qs
+        → RowsJoined (now (kinds .entry)) (now (vals .entry)) most h (now (work .entry)) (now (work .exit)) (r .equal) ps qs) ⌝ }
 {
     let mut i = a;
     let mut j = b;
@@ -188,7 +210,12 @@ fn join_parts(
     requires places { ⌜ (x < length (now kinds)) × (y < length (now kinds)) × (length (now vals) ≡ length (now kinds)) × (length (now kinds) < 2 ^ 32) ⌝ }
     requires wired { ⌜ WiredIn (now kinds) (now work) top ⌝ }
     ensures advanced { λ r. ⌜ AdvancedIn (now (kinds .entry)) (now (work .entry)) top (now (work .exit)) (r .top) ⌝ }
-    ensures terms { λ r. ⌜ ((b : ℕ → Option Term) (k l : ℕ) (ps qs : Parts) → HeldSteady (now (kinds .entry)) (now (vals .entry)) (now (bound .entry)) most b → Held (now (kinds .entry)) (now (vals .entry)) x (node k ps) → Held (now (kinds .entry)) (now (vals .entry)) y (node l qs) → Fair (now (kinds .entry)) (now (vals .entry)) (linkWords (now (kinds .entry)) (now (work .entry))) → Outcome (now (kinds .entry)) (now (vals .entry)) (standsFor most b) (linkWords (now (kinds .entry)) (now (work .entry))) (linkWords (now (kinds .entry)) (now (work .exit))) (r .equal) (Pairwise (Linked (now (kinds .entry)) (now (vals .entry)) (follow most b) (linkWords (now (kinds .entry)) (now (work .exit)))) ps qs) (CoincideRow (standsFor most b) ps qs)) ⌝ }
+    ensures terms { λ r. ⌜
+        ((b : ℕ → Option Term) (k l : ℕ) (ps qs : Parts)
+        → HeldSteady (now (kinds .entry)) (now (vals .entry)) (now (bound .entry)) most b
+        → Held (now (kinds .entry)) (now (vals .entry)) x (node k ps)
+        → Held (now (kinds .entry)) (now (vals .entry)) y (node l qs)
+        → RowsJoined (now (kinds .entry)) (now (vals .entry)) most b (now (work .entry)) (now (work .exit)) (r .equal) ps qs) ⌝ }
 {
     let n = skip(kinds, vals, x, kinds.len() - x);
     let m = skip(kinds, vals, y, kinds.len() - y);
@@ -218,7 +245,12 @@ fn close(
     requires areas { ⌜ (length (now vals) ≡ length (now kinds)) × (length (now kinds) < 2 ^ 32) ⌝ }
     requires wired { ⌜ WiredIn (now kinds) (now work) from ⌝ }
     ensures advanced { λ r. ⌜ AdvancedIn (now (kinds .entry)) (now (work .entry)) from (now (work .exit)) (r .top) ⌝ }
-    ensures terms { λ r. ⌜ ((b : ℕ → Option Term) → HeldSteady (now (kinds .entry)) (now (vals .entry)) (now (bound .entry)) most b → Fair (now (kinds .entry)) (now (vals .entry)) (linkWords (now (kinds .entry)) (now (work .entry))) → Closed (now (kinds .entry)) (now (vals .entry)) (standsFor most b) (follow most b) (linkWords (now (kinds .entry)) (now (work .entry))) (linkWords (now (kinds .entry)) (now (work .exit))) (r .equal)) ⌝ }
+    ensures terms { λ r. ⌜
+        ((b : ℕ → Option Term)
+        → HeldSteady (now (kinds .entry)) (now (vals .entry)) (now (bound .entry)) most b
+        → Fair (now (kinds .entry)) (now (vals .entry)) (linkWords (now (kinds .entry)) (now (work .entry)))
+        → Closed (now (kinds .entry)) (now (vals .entry)) (standsFor most b) (follow most b) (linkWords (now (kinds .entry)) (now (work .entry)))
+        (linkWords (now (kinds .entry)) (now (work .exit))) (r .equal)) ⌝ }
 {
     let n = kinds.len();
     let mut top = from;
@@ -250,7 +282,12 @@ fn decide(
     requires places { ⌜ (p < length (now kinds)) × (q < length (now kinds)) × (length (now vals) ≡ length (now kinds)) × (length (now kinds) < 2 ^ 32) ⌝ }
     requires room { ⌜ (length (now kinds) + begins (now kinds) ≤ length (now work)) × Zero (now work) ⌝ }
     ensures wired { λ r. ⌜ WiredIn (now (kinds .entry)) (now (work .exit)) (r .top) ⌝ }
-    ensures term { λ r. ⌜ ((t u : Term) (b : ℕ → Option Term) → Held (now (kinds .entry)) (now (vals .entry)) p t → Held (now (kinds .entry)) (now (vals .entry)) q u → HeldSteady (now (kinds .entry)) (now (vals .entry)) (now (bound .entry)) most b → r .equal ≡ same (resolve most b t) (resolve most b u)) ⌝ }
+    ensures term { λ r. ⌜
+        ((t u : Term) (b : ℕ → Option Term)
+        → Held (now (kinds .entry)) (now (vals .entry)) p t
+        → Held (now (kinds .entry)) (now (vals .entry)) q u
+        → HeldSteady (now (kinds .entry)) (now (vals .entry)) (now (bound .entry)) most b
+        → r .equal ≡ same (resolve most b t) (resolve most b u)) ⌝ }
 {
     let r = join(kinds, vals, bound, most, p, q, work, 0);
     let top = r.top;
@@ -288,7 +325,14 @@ pub fn same_terms(
     requires places { ⌜ (p < length (now kinds)) × (q < length (now kinds)) × (length (now vals) ≡ length (now kinds)) × (length (now kinds) < 2 ^ 32) ⌝ }
     requires room { ⌜ (length (now kinds) + begins (now kinds) ≤ length (now work)) × Zero (now work) ⌝ }
     ensures clear { λ _. ⌜ Zero (now (work .exit)) ⌝ }
-    ensures term { λ r. ⌜ ((t u : Term) (b : ℕ → Option Term) → Held (now (kinds .entry)) (now (vals .entry)) p t → Held (now (kinds .entry)) (now (vals .entry)) q u → HeldBindings (now (kinds .entry)) (now (vals .entry)) (now (bound .entry)) b → Steady most b → Topped most b → r ≡ same (resolve most b t) (resolve most b u)) ⌝ }
+    ensures term { λ r. ⌜
+        ((t u : Term) (b : ℕ → Option Term)
+        → Held (now (kinds .entry)) (now (vals .entry)) p t
+        → Held (now (kinds .entry)) (now (vals .entry)) q u
+        → HeldBindings (now (kinds .entry)) (now (vals .entry)) (now (bound .entry)) b
+        → Steady most b
+        → Topped most b
+        → r ≡ same (resolve most b t) (resolve most b u)) ⌝ }
 {
     let r = decide(kinds, vals, bound, most, p, q, work);
     clear(kinds.len(), work, r.top);

@@ -1,23 +1,17 @@
 // What a number variable may be bound to, and a binding made.
 use super::Solver;
+use super::words::wide;
 ghost use mathlib.Core.Path.{_≡_};
-ghost use mathlib.Core.Bool.{Bool, false};
+ghost use mathlib.Core.Bool.{false};
 ghost use mathlib.Core.Option.{some};
-ghost use Prim.Native.Nat.{ℕ, suc, _+_, _*_, _^_, _≤_, _<_};
-ghost use lib.Dec.{eqb};
+ghost use Prim.Native.Nat.{ℕ, _+_, _*_, _^_, _≤_, _<_};
 ghost use lib.ListN.{length, getD};
-ghost use Rattle.terms.specs.Term.{Term, var, Held};
+ghost use Rattle.terms.specs.Term.{Term, Held};
 ghost use Rattle.solver.specs.Families.{familyOf, belongs};
 ghost use Rattle.solver.specs.Solving.{Requests, admit};
 ghost use Rattle.solver.specs.Session.{Session, withSolver};
 ghost use Rattle.solver.specs.Lent.{requestWords, HeldRequest, Lent};
 ghost use Rattle.solver.specs.Methods.{Shaped, Beside, is-some, boundTo, atMost, Handed};
-
-fn wide(x: u32) -> usize
-    ensures { λ r. ⌜ r ≡ x ⌝ }
-{
-    x as usize
-}
 
 // A variable's request: 0 for none, c + 1 for the fallback c.
 pub fn request_word(tables: &[u32], m: usize, v: u32) -> u32
@@ -58,7 +52,11 @@ pub fn in_family(kinds: &[u32], vals: &[u32], q: usize, fallback: u32) -> bool
 // Whether the unbound variable v may be bound to the term at q, which is an unbound variable or a node.
 pub fn admissible(kinds: &[u32], vals: &[u32], tables: &[u32], m: usize, v: u32, q: usize) -> bool
     requires { ⌜ (7 * m ≤ length (now tables)) × (q < length (now kinds)) × (length (now vals) ≡ length (now kinds)) ⌝ }
-    ensures { λ r. ⌜ ((t : Term) (rs : Requests) → ((u : ℕ) → HeldRequest (rs u) (getD (requestWords m (now (tables .entry))) u 0)) → Held (now (kinds .entry)) (now (vals .entry)) q t → r ≡ is-some (admit rs (rs v) t)) ⌝ }
+    ensures { λ r. ⌜
+        ((t : Term) (rs : Requests)
+        → ((u : ℕ) → HeldRequest (rs u) (getD (requestWords m (now (tables .entry))) u 0))
+        → Held (now (kinds .entry)) (now (vals .entry)) q t
+        → r ≡ is-some (admit rs (rs v) t)) ⌝ }
 {
     let word = request_word(tables, m, v);
     if word == 0 {
@@ -107,8 +105,16 @@ impl Solver {
         q: usize,
     ) -> Solver
         requires shape { ⌜ Shaped self (length (now tables)) ⌝ }
-        requires areas { ⌜ (v < self .variables) × (q < length (now kinds)) × (length (now vals) ≡ length (now kinds)) × (length (now kinds) < 2 ^ 32) × (self .revision < 2 ^ 33) ⌝ }
-        ensures held { λ r. ⌜ ((s : Session) (t : Term) (rs : Requests) → Lent self (now (kinds .entry)) (now (vals .entry)) (now (tables .entry)) s → Held (now (kinds .entry)) (now (vals .entry)) q t → atMost (self .variables) t → admit (s .solver .requests) (s .solver .requests v) t ≡ some rs → Lent r (now (kinds .entry)) (now (vals .entry)) (now (tables .exit)) (withSolver s (boundTo (s .solver) v t rs))) ⌝ }
+        requires areas { ⌜
+            (v < self .variables) × (q < length (now kinds)) × (length (now vals) ≡ length (now kinds)) × (length (now kinds) < 2 ^ 32)
+            × (self .revision < 2 ^ 33) ⌝ }
+        ensures held { λ r. ⌜
+            ((s : Session) (t : Term) (rs : Requests)
+            → Lent self (now (kinds .entry)) (now (vals .entry)) (now (tables .entry)) s
+            → Held (now (kinds .entry)) (now (vals .entry)) q t
+            → atMost (self .variables) t
+            → admit (s .solver .requests) (s .solver .requests v) t ≡ some rs
+            → Lent r (now (kinds .entry)) (now (vals .entry)) (now (tables .exit)) (withSolver s (boundTo (s .solver) v t rs))) ⌝ }
         ensures counts { λ r. ⌜ (r .revision ≡ self .revision + 1) × (r .issued ≡ self .issued) × (r .kept ≡ self .kept) ⌝ }
         ensures beside { λ r. ⌜ Beside self r (now (tables .entry)) (now (tables .exit)) ⌝ }
     {

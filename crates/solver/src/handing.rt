@@ -1,4 +1,5 @@
-// The readers of the terms, as the sheet calls them: lent the numbers of a place, they answer 0 where they have read, else the refusal. And the words of a rule.
+// The readers of the terms, as the sheet calls them: lent the numbers of a place, they answer 0 where they have read, else the refusal.
+// And the words of a rule.
 use terms::NumberRead;
 use terms::Place;
 use terms::Step;
@@ -20,7 +21,8 @@ ghost use Rattle.solver.specs.Handing.{NumberSaid, PassedSaid, StepSaid,
 
 // A number of at most `most`.
 pub fn number_at(s: &[u8], at: &mut usize, value: &mut u64, most: u64) -> u8
-    ensures { λ r. ⌜ NumberSaid (number most (now (s .entry)) (now (at .entry))) (now (at .entry)) (now (value .entry)) r (now (at .exit)) (now (value .exit)) ⌝ }
+    ensures { λ r. ⌜
+        NumberSaid (number most (now (s .entry)) (now (at .entry))) (now (at .entry)) (now (value .entry)) r (now (at .exit)) (now (value .exit)) ⌝ }
 {
     let r = read_number(s, *at, most);
     match r {
@@ -77,7 +79,10 @@ pub fn read_part(
 ) -> u8
     requires room { ⌜ Room (now s) (place (now at) (now top) (now nodes) limit) ⌝ }
     requires space { ⌜ Space bare (now s) (place (now at) (now top) (now nodes) limit) ⌝ }
-    ensures { λ r. ⌜ PartRead bare (now (s .entry)) issued levels (place (now (at .entry)) (now (top .entry)) (now (nodes .entry)) limit) (area (now (kinds .entry)) (now (vals .entry))) (area (now (kinds .exit)) (now (vals .exit))) r (now (at .exit)) (now (top .exit)) (now (nodes .exit)) ⌝ }
+    ensures { λ r. ⌜
+        PartRead bare (now (s .entry)) issued levels (place (now (at .entry)) (now (top .entry)) (now (nodes .entry)) limit)
+        (area (now (kinds .entry)) (now (vals .entry))) (area (now (kinds .exit)) (now (vals .exit))) r (now (at .exit)) (now (top .exit)) (now (nodes .exit))
+        ⌝ }
 {
     let p = Place {
         at: *at,
@@ -101,7 +106,8 @@ fn keep_list(
     count: u64,
 ) -> Step
     requires { ⌜ Room (now s) p ⌝ }
-    ensures { λ r. ⌜ ListKept keys (now (s .entry)) issued levels count p (area (now (kinds .entry)) (now (vals .entry))) (area (now (kinds .exit)) (now (vals .exit))) r ⌝ }
+    ensures { λ r. ⌜
+        ListKept keys (now (s .entry)) issued levels count p (area (now (kinds .entry)) (now (vals .entry))) (area (now (kinds .exit)) (now (vals .exit))) r ⌝ }
 {
     match keys {
         0 => keep_terms(s, kinds, vals, p, levels, issued, count),
@@ -125,7 +131,10 @@ pub fn read_list(
     count: u64,
 ) -> u8
     requires { ⌜ Room (now s) (place (now at) (now top) (now nodes) limit) ⌝ }
-    ensures { λ r. ⌜ ListRead keys (now (s .entry)) issued levels count (place (now (at .entry)) (now (top .entry)) (now (nodes .entry)) limit) (area (now (kinds .entry)) (now (vals .entry))) (area (now (kinds .exit)) (now (vals .exit))) r (now (at .exit)) (now (top .exit)) (now (nodes .exit)) ⌝ }
+    ensures { λ r. ⌜
+        ListRead keys (now (s .entry)) issued levels count (place (now (at .entry)) (now (top .entry)) (now (nodes .entry)) limit)
+        (area (now (kinds .entry)) (now (vals .entry))) (area (now (kinds .exit)) (now (vals .exit))) r (now (at .exit)) (now (top .exit)) (now (nodes .exit))
+        ⌝ }
 {
     let p = Place {
         at: *at,
@@ -150,7 +159,10 @@ pub fn put_rule(
     value: u32,
 )
     requires { ⌜ r < 4294967296 ⌝ }
-    ensures { λ _. ⌜ now (rules .exit) ≡ putRule (now (rules .entry)) r (record { interface = interface; receiver = receiver; member = member; arguments = arguments; count = count; value = value }) ⌝ }
+    ensures { λ _. ⌜
+        now (rules .exit)
+        ≡ putRule (now (rules .entry)) r
+        (record { interface = interface; receiver = receiver; member = member; arguments = arguments; count = count; value = value }) ⌝ }
 {
     let i = 6 * r as usize;
     if rules.len() < i + 6 {

@@ -13,6 +13,7 @@ mod sessions;
 mod substitution;
 mod top;
 mod variables;
+mod words;
 
 pub use answers::variable_len;
 pub use answers::write_variable;
@@ -149,8 +150,8 @@ pub struct Issue {
     pub answer: Named,
 }
 
-// What takes the place of binders, as the terms have it: a substitution's entries and receivers in the areas, parameters in the order's bytes with their arguments
-// in the areas; in a `context` the parameters have no arguments.
+// What takes the place of binders, as the terms have it: a substitution's entries and receivers in the areas, parameters in the order's bytes
+// with their arguments in the areas; in a `context` the parameters have no arguments.
 pub struct Binders {
     pub context: bool,
     pub entries: usize,

@@ -51,8 +51,15 @@ pub fn normalise(
     requires place { ⌜ at ≤ length (now out) ⌝ }
     requires terms { ⌜ RuledAt (now kinds) (now vals) (now rules) p ⌝ }
     ensures out { λ _. ⌜ now (out .exit) ≡ now (out .entry) ⌝ }
-    ensures leaves { λ r. ⌜ Leaves (now (kinds .entry)) (now (vals .entry)) (now (heads .entry)) (now (kids .entry)) (now (heads .exit)) (now (kids .exit)) most (normalisedOf r) ⌝ }
-    ensures answers { λ r. ⌜ ((t : Term) (rs : List Pattern) → Held (now (kinds .entry)) (now (vals .entry)) p t → Ruled (now (kinds .entry)) (now (vals .entry)) (now (rules .entry)) 0 rs → Answers (now (kinds .entry)) (now (vals .entry)) (now (heads .exit)) (now (kids .exit)) (now (out .entry)) at levels most (normalise levels visits (byPatterns rs) t) (normalisedOf r)) ⌝ }
+    ensures leaves { λ r. ⌜
+        Leaves (now (kinds .entry)) (now (vals .entry)) (now (heads .entry)) (now (kids .entry)) (now (heads .exit)) (now (kids .exit)) most (normalisedOf r)
+        ⌝ }
+    ensures answers { λ r. ⌜
+        ((t : Term) (rs : List Pattern)
+        → Held (now (kinds .entry)) (now (vals .entry)) p t
+        → Ruled (now (kinds .entry)) (now (vals .entry)) (now (rules .entry)) 0 rs
+        → Answers (now (kinds .entry)) (now (vals .entry)) (now (heads .exit)) (now (kids .exit)) (now (out .entry)) at levels most
+        (normalise levels visits (byPatterns rs) t) (normalisedOf r)) ⌝ }
 {
     handed(terms::normalise(kinds, vals, rules, heads, kids, p, out, at))
 }
@@ -73,8 +80,16 @@ pub fn with_associated_types(
     requires place { ⌜ at ≤ length (now out) ⌝ }
     requires terms { ⌜ OwnedAt (now kinds) (now vals) p interface owner ⌝ }
     ensures out { λ _. ⌜ now (out .exit) ≡ now (out .entry) ⌝ }
-    ensures leaves { λ r. ⌜ Leaves (now (kinds .entry)) (now (vals .entry)) (now (heads .entry)) (now (kids .entry)) (now (heads .exit)) (now (kids .exit)) most (normalisedOf r) ⌝ }
-    ensures answers { λ r. ⌜ ((t : Term) (i : Parts) (o : Term) → Held (now (kinds .entry)) (now (vals .entry)) p t → Held (now (kinds .entry)) (now (vals .entry)) interface (node 20 i) → Held (now (kinds .entry)) (now (vals .entry)) owner o → Answers (now (kinds .entry)) (now (vals .entry)) (now (heads .exit)) (now (kids .exit)) (now (out .entry)) at levels most (normalise levels visits (through i o) t) (normalisedOf r)) ⌝ }
+    ensures leaves { λ r. ⌜
+        Leaves (now (kinds .entry)) (now (vals .entry)) (now (heads .entry)) (now (kids .entry)) (now (heads .exit)) (now (kids .exit)) most (normalisedOf r)
+        ⌝ }
+    ensures answers { λ r. ⌜
+        ((t : Term) (i : Parts) (o : Term)
+        → Held (now (kinds .entry)) (now (vals .entry)) p t
+        → Held (now (kinds .entry)) (now (vals .entry)) interface (node 20 i)
+        → Held (now (kinds .entry)) (now (vals .entry)) owner o
+        → Answers (now (kinds .entry)) (now (vals .entry)) (now (heads .exit)) (now (kids .exit)) (now (out .entry)) at levels most
+        (normalise levels visits (through i o) t) (normalisedOf r)) ⌝ }
 {
     handed(terms::with_associated_types(kinds, vals, heads, kids, p, interface, owner, out, at))
 }
@@ -93,7 +108,11 @@ pub fn write_normalised(
     requires place { ⌜ at ≤ length (now out) ⌝ }
     requires kept { ⌜ KeptAt (now kinds) (now vals) (now heads) (now kids) (readyOf w) levels (now out) at ⌝ }
     ensures areas { λ _. ⌜ area (now (heads .exit)) (now (kids .exit)) ≡ blank (area (now (heads .entry)) (now (kids .entry))) 0 (w .next) ⌝ }
-    ensures wrote { λ r. ⌜ ((u : Term) → Stands (now (kinds .entry)) (now (vals .entry)) (now (heads .entry)) (now (kids .entry)) (readyOf w) levels u → at + length (bytes u) ≤ length (now (out .entry)) → (r ≡ at + length (bytes u)) × (now (out .exit) ≡ sets (now (out .entry)) at (bytes u))) ⌝ }
+    ensures wrote { λ r. ⌜
+        ((u : Term)
+        → Stands (now (kinds .entry)) (now (vals .entry)) (now (heads .entry)) (now (kids .entry)) (readyOf w) levels u
+        → at + length (bytes u) ≤ length (now (out .entry))
+        → (r ≡ at + length (bytes u)) × (now (out .exit) ≡ sets (now (out .entry)) at (bytes u))) ⌝ }
 {
     let given = terms::Origin {
         owner: w.owner,

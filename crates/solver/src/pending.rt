@@ -2,11 +2,12 @@
 // base + 2j and base + 2j + 1 of a table.
 use super::Counted;
 use super::PairAt;
+use super::words::wide;
 ghost use mathlib.Core.Path.{_≡_};
 ghost use mathlib.Core.List.{[], _∷_};
 ghost use mathlib.Core.Bool.{not, _&&_, _||_};
 ghost use Prim.Native.Nat.{ℕ, _+_, _*_, _^_, _≤_, _<_};
-ghost use lib.Dec.{eqb, leb, ltb};
+ghost use lib.Dec.{eqb};
 ghost use lib.ListN.{length, getD};
 ghost use Rattle.terms.specs.Term.{Parts, node, Held};
 ghost use Rattle.terms.specs.Held.{HeldParts};
@@ -14,12 +15,6 @@ ghost use Rattle.terms.specs.Tree.{nums, children};
 ghost use Rattle.solver.specs.Shapes.{sameShape};
 ghost use Rattle.solver.specs.Lent.{notion};
 ghost use Rattle.solver.specs.Pending.{Laid, Taken, Wiped, places, PushedPairs, Twins, agree, here, window, PartEnd, NumberAt};
-
-fn wide(x: u32) -> usize
-    ensures { λ r. ⌜ r ≡ x ⌝ }
-{
-    x as usize
-}
 
 // Where the part at i ends, or end where it would go past it.
 pub fn part_end(kinds: &[u32], vals: &[u32], i: usize, end: usize) -> usize
@@ -42,7 +37,8 @@ pub fn part_end(kinds: &[u32], vals: &[u32], i: usize, end: usize) -> usize
 // Whether the parts at i and j agree, but for the terms that they are.
 pub fn parts_agree(kinds: &[u32], vals: &[u32], i: usize, j: usize, free: bool) -> bool
     requires { ⌜ (i < length (now kinds)) × (j < length (now kinds)) × (length (now vals) ≡ length (now kinds)) ⌝ }
-    ensures { λ r. ⌜ r ≡ agree free (getD (now (kinds .entry)) i 0) (getD (now (vals .entry)) i 0) (getD (now (kinds .entry)) j 0) (getD (now (vals .entry)) j 0) ⌝ }
+    ensures { λ r. ⌜
+        r ≡ agree free (getD (now (kinds .entry)) i 0) (getD (now (vals .entry)) i 0) (getD (now (kinds .entry)) j 0) (getD (now (vals .entry)) j 0) ⌝ }
 {
     if kinds[i] != 0 {
         return kinds[j] != 0;
@@ -72,7 +68,11 @@ pub fn access_free(kind: u32, strict: bool) -> bool
 // Whether the nodes at a and b have the same shape: heads of one kind, and rows of parts that agree.
 pub fn same_shape(kinds: &[u32], vals: &[u32], a: usize, b: usize, strict: bool) -> bool
     requires { ⌜ (a < length (now kinds)) × (b < length (now kinds)) × (length (now vals) ≡ length (now kinds)) × (length (now kinds) < 2 ^ 32) ⌝ }
-    ensures { λ r. ⌜ ((k j : ℕ) (ps qs : Parts) → Held (now (kinds .entry)) (now (vals .entry)) a (node k ps) → Held (now (kinds .entry)) (now (vals .entry)) b (node j qs) → r ≡ sameShape (notion strict) (node k ps) (node j qs)) ⌝ }
+    ensures { λ r. ⌜
+        ((k j : ℕ) (ps qs : Parts)
+        → Held (now (kinds .entry)) (now (vals .entry)) a (node k ps)
+        → Held (now (kinds .entry)) (now (vals .entry)) b (node j qs)
+        → r ≡ sameShape (notion strict) (node k ps) (node j qs)) ⌝ }
 {
     if kinds[a] != kinds[b] {
         return false;
@@ -100,7 +100,8 @@ pub fn same_shape(kinds: &[u32], vals: &[u32], a: usize, b: usize, strict: bool)
 pub fn number_from(kinds: &[u32], vals: &[u32], from: usize, end: usize) -> usize
     requires { ⌜ (from ≤ end) × (end ≤ length (now kinds)) × (length (now vals) ≡ length (now kinds)) ⌝ }
     ensures place { λ r. ⌜ r ≤ end ⌝ }
-    ensures number { λ r. ⌜ ((ps : Parts) → HeldParts (now (kinds .entry)) (now (vals .entry)) from end ps → NumberAt (now (kinds .entry)) (now (vals .entry)) r end ps) ⌝ }
+    ensures number { λ r. ⌜
+        ((ps : Parts) → HeldParts (now (kinds .entry)) (now (vals .entry)) from end ps → NumberAt (now (kinds .entry)) (now (vals .entry)) r end ps) ⌝ }
 {
     let mut i = from;
     while i < end {
@@ -181,7 +182,9 @@ pub fn push_part(
     requires room { ⌜ base + 2 * (from .top + length (window lo hi (from .child) (here kind i))) ≤ length (now tables) ⌝ }
     requires small { ⌜ (from .child < 2 ^ 32) × (i < 2 ^ 32) × (j < 2 ^ 32) ⌝ }
     ensures child { λ r. ⌜ r .child ≡ from .child + length (here kind i) ⌝ }
-    ensures laid { λ r. ⌜ Laid (window lo hi (from .child) (here kind i)) (window lo hi (from .child) (here kind j)) base (from .top) (now (tables .entry)) (now (tables .exit)) (r .top) ⌝ }
+    ensures laid { λ r. ⌜
+        Laid (window lo hi (from .child) (here kind i)) (window lo hi (from .child) (here kind j)) base (from .top) (now (tables .entry)) (now (tables .exit))
+        (r .top) ⌝ }
 {
     let child = from.child;
     let top = from.top;
@@ -220,8 +223,13 @@ pub fn push_range(
     count: usize,
 ) -> usize
     requires areas { ⌜ (a < length (now kinds)) × (b < length (now kinds)) × (length (now vals) ≡ length (now kinds)) × (length (now kinds) < 2 ^ 32) ⌝ }
-    requires room { ⌜ ((w : Twins (now kinds) (now vals) a b) × (base + 2 * (count + length (window lo hi 0 (places (a + 1) (w .left)))) ≤ length (now tables))) ⌝ }
-    ensures { λ r. ⌜ ((k j : ℕ) (ps qs : Parts) → Held (now (kinds .entry)) (now (vals .entry)) a (node k ps) → Held (now (kinds .entry)) (now (vals .entry)) b (node j qs) → Laid (window lo hi 0 (places (a + 1) ps)) (window lo hi 0 (places (b + 1) qs)) base count (now (tables .entry)) (now (tables .exit)) r) ⌝ }
+    requires room { ⌜
+        ((w : Twins (now kinds) (now vals) a b) × (base + 2 * (count + length (window lo hi 0 (places (a + 1) (w .left)))) ≤ length (now tables))) ⌝ }
+    ensures { λ r. ⌜
+        ((k j : ℕ) (ps qs : Parts)
+        → Held (now (kinds .entry)) (now (vals .entry)) a (node k ps)
+        → Held (now (kinds .entry)) (now (vals .entry)) b (node j qs)
+        → Laid (window lo hi 0 (places (a + 1) ps)) (window lo hi 0 (places (b + 1) qs)) base count (now (tables .entry)) (now (tables .exit)) r) ⌝ }
 {
     let ae = part_end(kinds, vals, a, kinds.len());
     let be = part_end(kinds, vals, b, kinds.len());
@@ -252,7 +260,11 @@ pub fn push_children(
 ) -> usize
     requires areas { ⌜ (a < length (now kinds)) × (b < length (now kinds)) × (length (now vals) ≡ length (now kinds)) × (length (now kinds) < 2 ^ 32) ⌝ }
     requires room { ⌜ ((w : Twins (now kinds) (now vals) a b) × (base + 2 * (count + length (children (node (w .tag) (w .left)))) ≤ length (now tables))) ⌝ }
-    ensures { λ r. ⌜ ((k j : ℕ) (ps qs : Parts) → Held (now (kinds .entry)) (now (vals .entry)) a (node k ps) → Held (now (kinds .entry)) (now (vals .entry)) b (node j qs) → PushedPairs (now (kinds .entry)) (now (vals .entry)) a b (node k ps) (node j qs) base count (now (tables .entry)) (now (tables .exit)) r) ⌝ }
+    ensures { λ r. ⌜
+        ((k j : ℕ) (ps qs : Parts)
+        → Held (now (kinds .entry)) (now (vals .entry)) a (node k ps)
+        → Held (now (kinds .entry)) (now (vals .entry)) b (node j qs)
+        → PushedPairs (now (kinds .entry)) (now (vals .entry)) a b (node k ps) (node j qs) base count (now (tables .entry)) (now (tables .exit)) r) ⌝ }
 {
     let all = kinds.len();
     if kinds[a] < 14 {

@@ -5,6 +5,7 @@
 use super::Reached;
 use super::Run;
 use super::resolving::named_run;
+use super::words::wide;
 ghost use mathlib.Core.Path.{_≡_};
 ghost use mathlib.Core.Bool.{true, _||_};
 ghost use mathlib.Core.Option.{Option, none};
@@ -17,12 +18,6 @@ ghost use Rattle.solver.specs.Solving as solving;
 ghost use Rattle.solver.specs.Bindings.{HeldBindings};
 ghost use Rattle.solver.specs.Work.{Zero, Work, Grown};
 ghost use Rattle.solver.specs.Reach.{counts, has, runOf, Told, asked, Steady, Free};
-
-fn wide(x: u32) -> usize
-    ensures { λ r. ⌜ r ≡ x ⌝ }
-{
-    x as usize
-}
 
 // Whether a token is what is asked for, or one before it was.
 pub fn seen(kind: u32, val: u32, want: usize, before: bool) -> bool
@@ -46,7 +41,9 @@ pub fn seen(kind: u32, val: u32, want: usize, before: bool) -> bool
 // Marks the variable of a token and puts it into the queue, if the token is one, the table has it, and it was not marked.
 pub fn push(work: &mut [u32], n: usize, top: usize, kind: u32, val: u32) -> usize
     requires { ⌜ Work (take n (now work)) (drop n (now work)) top × (n + n ≤ length (now work)) ⌝ }
-    ensures { λ r. ⌜ Grown (λ (u : ℕ). counts (suc u) kind val ≡ true) (take n (now (work .entry))) (drop n (now (work .entry))) top (take n (now (work .exit))) (drop n (now (work .exit))) r ⌝ }
+    ensures { λ r. ⌜
+        Grown (λ (u : ℕ). counts (suc u) kind val ≡ true) (take n (now (work .entry))) (drop n (now (work .entry))) top (take n (now (work .exit)))
+        (drop n (now (work .exit))) r ⌝ }
 {
     if kind != 1 {
         return top;
@@ -76,7 +73,9 @@ pub fn scan(
     requires areas { ⌜ (length (now vals) ≡ length (now kinds)) × (run .at + run .len ≤ length (now kinds)) ⌝ }
     requires work { ⌜ Work (take n (now work)) (drop n (now work)) from × (n + n ≤ length (now work)) ⌝ }
     ensures hit { λ r. ⌜ r .hit ≡ has want (toks (now (kinds .entry)) (now (vals .entry)) (run .at) (run .len)) ⌝ }
-    ensures grown { λ r. ⌜ Grown (λ (u : ℕ). has (suc u) (toks (now (kinds .entry)) (now (vals .entry)) (run .at) (run .len)) ≡ true) (take n (now (work .entry))) (drop n (now (work .entry))) from (take n (now (work .exit))) (drop n (now (work .exit))) (r .top) ⌝ }
+    ensures grown { λ r. ⌜
+        Grown (λ (u : ℕ). has (suc u) (toks (now (kinds .entry)) (now (vals .entry)) (run .at) (run .len)) ≡ true) (take n (now (work .entry)))
+        (drop n (now (work .entry))) from (take n (now (work .exit))) (drop n (now (work .exit))) (r .top) ⌝ }
 {
     let mut hit = false;
     let mut top = from;
@@ -102,7 +101,8 @@ pub fn reach(
 ) -> Reached
     requires areas { ⌜ (length (now vals) ≡ length (now kinds)) × (p < 2 ^ 32) ⌝ }
     requires scratch { ⌜ (length (now bound) + length (now bound) ≤ length (now work)) × Zero (now work) ⌝ }
-    ensures told { λ r. ⌜ Told (now (kinds .entry)) (now (vals .entry)) (now (bound .entry)) (runOf (now (kinds .entry)) (now (vals .entry)) (p + 1)) want (r .hit) ⌝ }
+    ensures told { λ r. ⌜
+        Told (now (kinds .entry)) (now (vals .entry)) (now (bound .entry)) (runOf (now (kinds .entry)) (now (vals .entry)) (p + 1)) want (r .hit) ⌝ }
     ensures work { λ r. ⌜ Work (take (length (now (bound .entry))) (now (work .exit))) (drop (length (now (bound .entry))) (now (work .exit))) (r .top) ⌝ }
 {
     let n = bound.len();
@@ -148,7 +148,13 @@ pub fn reaches(
     requires areas { ⌜ (length (now vals) ≡ length (now kinds)) × (p < 2 ^ 32) ⌝ }
     requires scratch { ⌜ (length (now bound) + length (now bound) ≤ length (now work)) × Zero (now work) ⌝ }
     ensures told { λ r. ⌜ Told (now (kinds .entry)) (now (vals .entry)) (now (bound .entry)) (runOf (now (kinds .entry)) (now (vals .entry)) (p + 1)) want r ⌝ }
-    ensures term { λ r. ⌜ ((t : Term) (b : ℕ → Option Term) (n : ℕ) → Held (now (kinds .entry)) (now (vals .entry)) p t → HeldBindings (now (kinds .entry)) (now (vals .entry)) (now (bound .entry)) b → Steady n b → Free want b → r ≡ asked want (resolve n b t)) ⌝ }
+    ensures term { λ r. ⌜
+        ((t : Term) (b : ℕ → Option Term) (n : ℕ)
+        → Held (now (kinds .entry)) (now (vals .entry)) p t
+        → HeldBindings (now (kinds .entry)) (now (vals .entry)) (now (bound .entry)) b
+        → Steady n b
+        → Free want b
+        → r ≡ asked want (resolve n b t)) ⌝ }
     ensures clear { λ _. ⌜ Zero (now (work .exit)) ⌝ }
 {
     let c = reach(kinds, vals, bound, p, want, work);
@@ -167,7 +173,13 @@ pub fn occurs(
 ) -> bool
     requires areas { ⌜ (length (now vals) ≡ length (now kinds)) × (p < 2 ^ 32) ⌝ }
     requires scratch { ⌜ (length (now bound) + length (now bound) ≤ length (now work)) × Zero (now work) ⌝ }
-    ensures term { λ r. ⌜ ((t : Term) (b : ℕ → Option Term) (n : ℕ) → Held (now (kinds .entry)) (now (vals .entry)) p t → HeldBindings (now (kinds .entry)) (now (vals .entry)) (now (bound .entry)) b → Steady n b → b v ≡ none → r ≡ solving.occurs v (resolve n b t)) ⌝ }
+    ensures term { λ r. ⌜
+        ((t : Term) (b : ℕ → Option Term) (n : ℕ)
+        → Held (now (kinds .entry)) (now (vals .entry)) p t
+        → HeldBindings (now (kinds .entry)) (now (vals .entry)) (now (bound .entry)) b
+        → Steady n b
+        → b v ≡ none
+        → r ≡ solving.occurs v (resolve n b t)) ⌝ }
     ensures clear { λ _. ⌜ Zero (now (work .exit)) ⌝ }
 {
     let want = wide(v) + 1;
@@ -178,7 +190,12 @@ pub fn occurs(
 pub fn recovers(kinds: &[u32], vals: &[u32], bound: &[u32], p: usize, work: &mut [u32]) -> bool
     requires areas { ⌜ (length (now vals) ≡ length (now kinds)) × (p < 2 ^ 32) ⌝ }
     requires scratch { ⌜ (length (now bound) + length (now bound) ≤ length (now work)) × Zero (now work) ⌝ }
-    ensures term { λ r. ⌜ ((t : Term) (b : ℕ → Option Term) (n : ℕ) → Held (now (kinds .entry)) (now (vals .entry)) p t → HeldBindings (now (kinds .entry)) (now (vals .entry)) (now (bound .entry)) b → Steady n b → r ≡ solving.recovers (resolve n b t)) ⌝ }
+    ensures term { λ r. ⌜
+        ((t : Term) (b : ℕ → Option Term) (n : ℕ)
+        → Held (now (kinds .entry)) (now (vals .entry)) p t
+        → HeldBindings (now (kinds .entry)) (now (vals .entry)) (now (bound .entry)) b
+        → Steady n b
+        → r ≡ solving.recovers (resolve n b t)) ⌝ }
     ensures clear { λ _. ⌜ Zero (now (work .exit)) ⌝ }
 {
     reaches(kinds, vals, bound, p, 0, work)

@@ -2,6 +2,7 @@
 // unbound, and p + 1 where it is bound to the term at p.
 use super::Run;
 use super::Stand;
+use super::words::wide;
 use terms::run_len;
 use terms::write_run;
 ghost use mathlib.Core.Path.{_≡_};
@@ -12,15 +13,9 @@ ghost use lib.Seq.{sets};
 ghost use Rattle.terms.specs.Term.{Term, Held, bytes};
 ghost use Rattle.solver.specs.Solving.{resolve};
 ghost use Rattle.solver.specs.Walk.{Named, Entered, walked, flatBytes, resolvedBytes};
-ghost use Rattle.solver.specs.Frames.{Sound, Settled, Apart, Cleared};
+ghost use Rattle.solver.specs.Frames.{stand, Sound, Settled, Apart, Cleared};
 ghost use Rattle.solver.specs.Bindings.{HeldBindings};
 ghost use Rattle.solver.specs.Work.{Zero};
-
-fn wide(x: u32) -> usize
-    ensures { λ r. ⌜ r ≡ x ⌝ }
-{
-    x as usize
-}
 
 // The run that a word of the table names, of len 0 where it names none.
 pub fn named_run(kinds: &[u32], vals: &[u32], word: usize) -> Run
@@ -72,8 +67,8 @@ pub fn settle(
     frames: &mut [u32],
     from: Stand,
 ) -> Stand
-    requires { ⌜ (length (now vals) ≡ length (now kinds)) × (length (now kinds) < 2 ^ 32) × Sound (now kinds) most (now frames) (from .at) (from .end) (from .depth) ⌝ }
-    ensures { λ r. ⌜ Settled (now (kinds .entry)) (now (vals .entry)) (now (bound .entry)) most (now (frames .entry)) (from .at) (from .end) (from .depth) (now (frames .exit)) (r .at) (r .end) (r .depth) ⌝ }
+    requires { ⌜ (length (now vals) ≡ length (now kinds)) × (length (now kinds) < 2 ^ 32) × Sound (now kinds) most (now frames) from ⌝ }
+    ensures { λ r. ⌜ Settled (now (kinds .entry)) (now (vals .entry)) (now (bound .entry)) most (now (frames .entry)) from (now (frames .exit)) r ⌝ }
 {
     let mut c = from;
     loop {
@@ -111,8 +106,12 @@ pub fn begin(
     frames: &mut [u32],
     run: Run,
 ) -> Stand
-    requires { ⌜ (length (now vals) ≡ length (now kinds)) × (length (now kinds) < 2 ^ 32) × (run .at + run .len ≤ length (now kinds)) × (most + most ≤ length (now frames)) ⌝ }
-    ensures { λ r. ⌜ Settled (now (kinds .entry)) (now (vals .entry)) (now (bound .entry)) most (now (frames .entry)) (run .at) (run .at + run .len) 0 (now (frames .exit)) (r .at) (r .end) (r .depth) ⌝ }
+    requires { ⌜
+        (length (now vals) ≡ length (now kinds)) × (length (now kinds) < 2 ^ 32) × (run .at + run .len ≤ length (now kinds))
+        × (most + most ≤ length (now frames)) ⌝ }
+    ensures { λ r. ⌜
+        Settled (now (kinds .entry)) (now (vals .entry)) (now (bound .entry)) most (now (frames .entry)) (stand (run .at) (run .at + run .len) 0)
+        (now (frames .exit)) r ⌝ }
 {
     let c = Stand {
         at: run.at,
@@ -131,8 +130,11 @@ pub fn next(
     frames: &mut [u32],
     from: Stand,
 ) -> Stand
-    requires { ⌜ (length (now vals) ≡ length (now kinds)) × (length (now kinds) < 2 ^ 32) × (from .at < from .end) × Sound (now kinds) most (now frames) (from .at) (from .end) (from .depth) ⌝ }
-    ensures { λ r. ⌜ Settled (now (kinds .entry)) (now (vals .entry)) (now (bound .entry)) most (now (frames .entry)) (from .at + 1) (from .end) (from .depth) (now (frames .exit)) (r .at) (r .end) (r .depth) ⌝ }
+    requires { ⌜
+        (length (now vals) ≡ length (now kinds)) × (length (now kinds) < 2 ^ 32) × (from .at < from .end) × Sound (now kinds) most (now frames) from ⌝ }
+    ensures { λ r. ⌜
+        Settled (now (kinds .entry)) (now (vals .entry)) (now (bound .entry)) most (now (frames .entry)) (stand (from .at + 1) (from .end) (from .depth))
+        (now (frames .exit)) r ⌝ }
 {
     let c = Stand {
         at: from.at + 1,
@@ -152,9 +154,12 @@ pub fn walked_len(
     run: Run,
     limit: usize,
 ) -> usize
-    requires areas { ⌜ (length (now vals) ≡ length (now kinds)) × (length (now kinds) < 2 ^ 32) × (run .at + run .len ≤ length (now kinds)) × (most + most ≤ length (now frames)) ⌝ }
+    requires areas { ⌜
+        (length (now vals) ≡ length (now kinds)) × (length (now kinds) < 2 ^ 32) × (run .at + run .len ≤ length (now kinds))
+        × (most + most ≤ length (now frames)) ⌝ }
     requires room { ⌜ limit < 2 ^ 32 ⌝ }
-    ensures len { λ r. ⌜ r ≡ min (limit + 1) (length (flatBytes (walked (now (kinds .entry)) (now (vals .entry)) (now (bound .entry)) most (run .at) (run .len)))) ⌝ }
+    ensures len { λ r. ⌜
+        r ≡ min (limit + 1) (length (flatBytes (walked (now (kinds .entry)) (now (vals .entry)) (now (bound .entry)) most (run .at) (run .len)))) ⌝ }
     ensures apart { λ _. ⌜ Apart most (now (frames .entry)) (now (frames .exit)) ⌝ }
     ensures bare { λ r. ⌜ (Zero (now (frames .entry)) → r ≤ limit → Zero (now (frames .exit))) ⌝ }
 {
@@ -181,10 +186,14 @@ pub fn write_walked(
     out: &mut [u8],
     to: usize,
 ) -> usize
-    requires areas { ⌜ (length (now vals) ≡ length (now kinds)) × (length (now kinds) < 2 ^ 32) × (run .at + run .len ≤ length (now kinds)) × (most + most ≤ length (now frames)) ⌝ }
+    requires areas { ⌜
+        (length (now vals) ≡ length (now kinds)) × (length (now kinds) < 2 ^ 32) × (run .at + run .len ≤ length (now kinds))
+        × (most + most ≤ length (now frames)) ⌝ }
     requires room { ⌜ to + length (flatBytes (walked (now kinds) (now vals) (now bound) most (run .at) (run .len))) ≤ length (now out) ⌝ }
     ensures next { λ r. ⌜ r ≡ to + length (flatBytes (walked (now (kinds .entry)) (now (vals .entry)) (now (bound .entry)) most (run .at) (run .len))) ⌝ }
-    ensures wrote { λ _. ⌜ now (out .exit) ≡ sets (now (out .entry)) to (flatBytes (walked (now (kinds .entry)) (now (vals .entry)) (now (bound .entry)) most (run .at) (run .len))) ⌝ }
+    ensures wrote { λ _. ⌜
+        now (out .exit)
+        ≡ sets (now (out .entry)) to (flatBytes (walked (now (kinds .entry)) (now (vals .entry)) (now (bound .entry)) most (run .at) (run .len))) ⌝ }
     ensures apart { λ _. ⌜ Apart most (now (frames .entry)) (now (frames .exit)) ⌝ }
     ensures bare { λ _. ⌜ (Zero (now (frames .entry)) → Zero (now (frames .exit))) ⌝ }
 {
@@ -210,7 +219,11 @@ pub fn resolved_len(
     requires areas { ⌜ (length (now vals) ≡ length (now kinds)) × (length (now kinds) < 2 ^ 32) × (most + most ≤ length (now frames)) ⌝ }
     requires room { ⌜ (p < 2 ^ 32) × (limit < 2 ^ 32) ⌝ }
     ensures len { λ r. ⌜ r ≡ min (limit + 1) (length (resolvedBytes (now (kinds .entry)) (now (vals .entry)) (now (bound .entry)) most p)) ⌝ }
-    ensures term { λ r. ⌜ ((t : Term) (b : ℕ → Option Term) → Held (now (kinds .entry)) (now (vals .entry)) p t → HeldBindings (now (kinds .entry)) (now (vals .entry)) (now (bound .entry)) b → r ≡ min (limit + 1) (length (bytes (resolve most b t)))) ⌝ }
+    ensures term { λ r. ⌜
+        ((t : Term) (b : ℕ → Option Term)
+        → Held (now (kinds .entry)) (now (vals .entry)) p t
+        → HeldBindings (now (kinds .entry)) (now (vals .entry)) (now (bound .entry)) b
+        → r ≡ min (limit + 1) (length (bytes (resolve most b t)))) ⌝ }
     ensures apart { λ _. ⌜ Apart most (now (frames .entry)) (now (frames .exit)) ⌝ }
     ensures bare { λ r. ⌜ (Zero (now (frames .entry)) → r ≤ limit → Zero (now (frames .exit))) ⌝ }
 {
@@ -233,7 +246,11 @@ pub fn write_resolved(
     requires room { ⌜ (p < 2 ^ 32) × (to + length (resolvedBytes (now kinds) (now vals) (now bound) most p) ≤ length (now out)) ⌝ }
     ensures next { λ r. ⌜ r ≡ to + length (resolvedBytes (now (kinds .entry)) (now (vals .entry)) (now (bound .entry)) most p) ⌝ }
     ensures wrote { λ _. ⌜ now (out .exit) ≡ sets (now (out .entry)) to (resolvedBytes (now (kinds .entry)) (now (vals .entry)) (now (bound .entry)) most p) ⌝ }
-    ensures term { λ r. ⌜ ((t : Term) (b : ℕ → Option Term) → Held (now (kinds .entry)) (now (vals .entry)) p t → HeldBindings (now (kinds .entry)) (now (vals .entry)) (now (bound .entry)) b → (r ≡ to + length (bytes (resolve most b t))) × (now (out .exit) ≡ sets (now (out .entry)) to (bytes (resolve most b t)))) ⌝ }
+    ensures term { λ r. ⌜
+        ((t : Term) (b : ℕ → Option Term)
+        → Held (now (kinds .entry)) (now (vals .entry)) p t
+        → HeldBindings (now (kinds .entry)) (now (vals .entry)) (now (bound .entry)) b
+        → (r ≡ to + length (bytes (resolve most b t))) × (now (out .exit) ≡ sets (now (out .entry)) to (bytes (resolve most b t)))) ⌝ }
     ensures apart { λ _. ⌜ Apart most (now (frames .entry)) (now (frames .exit)) ⌝ }
     ensures bare { λ _. ⌜ (Zero (now (frames .entry)) → Zero (now (frames .exit))) ⌝ }
 {

@@ -79,8 +79,10 @@ pub fn write_term(
     requires areas { ⌜ Ready (now kinds) (now vals) (bindersOf b) ⌝ }
     requires place { ⌜ from < length (now kinds) ⌝ }
     requires space { ⌜ Space on at (length (written (now kinds) (now vals) (now s) (bindersOf b) from)) (length (now out)) ⌝ }
-    ensures words { λ r. ⌜ Writes on (now (out .entry)) at r (now (out .exit)) (written (now (kinds .entry)) (now (vals .entry)) (now (s .entry)) (bindersOf b) from) ⌝ }
-    ensures trees { λ r. ⌜ Rewrites (now (kinds .entry)) (now (vals .entry)) (now (s .entry)) (bindersOf b) from (Writes on (now (out .entry)) at r (now (out .exit))) ⌝ }
+    ensures words { λ r. ⌜
+        Writes on (now (out .entry)) at r (now (out .exit)) (written (now (kinds .entry)) (now (vals .entry)) (now (s .entry)) (bindersOf b) from) ⌝ }
+    ensures trees { λ r. ⌜
+        Rewrites (now (kinds .entry)) (now (vals .entry)) (now (s .entry)) (bindersOf b) from (Writes on (now (out .entry)) at r (now (out .exit))) ⌝ }
 {
     let c = terms::Binders {
         context: b.context,

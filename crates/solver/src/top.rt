@@ -12,7 +12,11 @@ ghost use Rattle.solver.specs.Bindings.{HeldBindings};
 pub fn top_at(kinds: &[u32], vals: &[u32], bound: &[u32], most: usize, p: usize) -> usize
     requires { ⌜ (p < length (now kinds)) × (length (now vals) ≡ length (now kinds)) ⌝ }
     ensures place { λ r. ⌜ r < length (now (kinds .entry)) ⌝ }
-    ensures term { λ r. ⌜ ((t : Term) (b : ℕ → Option Term) → Held (now (kinds .entry)) (now (vals .entry)) p t → HeldBindings (now (kinds .entry)) (now (vals .entry)) (now (bound .entry)) b → Held (now (kinds .entry)) (now (vals .entry)) r (follow most b t)) ⌝ }
+    ensures term { λ r. ⌜
+        ((t : Term) (b : ℕ → Option Term)
+        → Held (now (kinds .entry)) (now (vals .entry)) p t
+        → HeldBindings (now (kinds .entry)) (now (vals .entry)) (now (bound .entry)) b
+        → Held (now (kinds .entry)) (now (vals .entry)) r (follow most b t)) ⌝ }
 {
     let mut q = p;
     let mut left = most;

@@ -4,6 +4,7 @@ use super::Issue;
 use super::Named;
 use super::Site;
 use super::Solver;
+use super::words::wide;
 ghost use mathlib.Core.Path.{_≡_};
 ghost use mathlib.Core.Bool.{true, false};
 ghost use mathlib.Core.List.{List};
@@ -17,12 +18,6 @@ ghost use Rattle.solver.specs.Orders as orders;
 ghost use Rattle.solver.specs.Lent.{limitsOf, placeWords, siteWords, slotWords, HeldPlace, HeldPlaces, Lent};
 ghost use Rattle.solver.specs.Methods.{matches, lastMatch, found, Shaped, Beside, placed, namedOf, namedBelow, Issued, Replied, replyOf, resolvedReply};
 ghost use Rattle.solver.specs.Behind.{placeOf};
-
-fn wide(x: u32) -> usize
-    ensures { λ r. ⌜ r ≡ x ⌝ }
-{
-    x as usize
-}
 
 // Whether a variable's words are those asked for: a hole has no slot.
 pub fn is_place(kind: u32, site: u32, slot: u32, k: u32, s: u32, i: u32) -> bool
@@ -60,8 +55,15 @@ fn has_word(words: &[u32], from: usize, count: usize, x: u32) -> bool
 // The last variable whose words are those asked for, or issued. Where no variable has the site there is none.
 pub fn find_place(tables: &[u32], m: usize, issued: usize, kind: u32, site: u32, slot: u32) -> usize
     requires { ⌜ (issued ≤ m) × (7 * m ≤ length (now tables)) ⌝ }
-    ensures word { λ r. ⌜ r ≡ lastMatch kind site slot (placeWords m (now (tables .entry))) (siteWords m (now (tables .entry))) (slotWords m (now (tables .entry))) issued issued ⌝ }
-    ensures place { λ r. ⌜ ((p : Place) (ps : List Place) → HeldPlace p kind site slot → length ps ≡ issued → HeldPlaces (placeWords m (now (tables .entry))) (siteWords m (now (tables .entry))) (slotWords m (now (tables .entry))) ps → r ≡ found issued (find p ps)) ⌝ }
+    ensures word { λ r. ⌜
+        r ≡ lastMatch kind site slot (placeWords m (now (tables .entry))) (siteWords m (now (tables .entry))) (slotWords m (now (tables .entry))) issued issued
+        ⌝ }
+    ensures place { λ r. ⌜
+        ((p : Place) (ps : List Place)
+        → HeldPlace p kind site slot
+        → length ps ≡ issued
+        → HeldPlaces (placeWords m (now (tables .entry))) (siteWords m (now (tables .entry))) (slotWords m (now (tables .entry))) ps
+        → r ≡ found issued (find p ps)) ⌝ }
 {
     if !has_word(tables, 3 * m, issued, site) {
         return issued;
@@ -94,7 +96,8 @@ impl Solver {
     // The variable that a place has or would be given, without issuing it.
     pub fn id_of(self, tables: &[u32], site: Site) -> Named
         requires { ⌜ ((ks vs : List ℕ) × (s : Session) × Lent self ks vs (now tables) s) ⌝ }
-        ensures { λ r. ⌜ ((ks vs : List ℕ) (s : Session) → Lent self ks vs (now (tables .entry)) s → r ≡ namedOf (placed (limitsOf self) s (placeOf site) .variable)) ⌝ }
+        ensures { λ r. ⌜
+            ((ks vs : List ℕ) (s : Session) → Lent self ks vs (now (tables .entry)) s → r ≡ namedOf (placed (limitsOf self) s (placeOf site) .variable)) ⌝ }
         ensures low { λ r. ⌜ ((v : ℕ) → r ≡ Variable v → v < self .variables) ⌝ }
     {
         let m = self.variables;
@@ -108,7 +111,11 @@ impl Solver {
     // The variable of a place: the one that it has, or a new one.
     pub fn issue(mut self, tables: &mut [u32], kind: u32, site: u32, slot: u32) -> Issue
         requires { ⌜ Shaped self (length (now tables)) ⌝ }
-        ensures held { λ r. ⌜ ((ks vs : List ℕ) (s : Session) (p : Place) → HeldPlace p kind site slot → Lent self ks vs (now (tables .entry)) s → Issued (r .solver) ks vs (now (tables .exit)) p (placed (limitsOf self) s p) (r .answer)) ⌝ }
+        ensures held { λ r. ⌜
+            ((ks vs : List ℕ) (s : Session) (p : Place)
+            → HeldPlace p kind site slot
+            → Lent self ks vs (now (tables .entry)) s
+            → Issued (r .solver) ks vs (now (tables .exit)) p (placed (limitsOf self) s p) (r .answer)) ⌝ }
         ensures low { λ r. ⌜ ((v : ℕ) → r .answer ≡ Variable v → v < self .variables) ⌝ }
         ensures beside { λ r. ⌜ Beside self (r .solver) (now (tables .entry)) (now (tables .exit)) ⌝ }
     {
@@ -140,7 +147,11 @@ impl Solver {
     // Order 0: the variable of a slot of a site.
     pub fn variable(mut self, tables: &mut [u32], site: u32, slot: u32) -> Issue
         requires { ⌜ Shaped self (length (now tables)) × ((ks vs : List ℕ) × (s : Session) × Lent self ks vs (now tables) s) ⌝ }
-        ensures held { λ r. ⌜ ((ks vs : List ℕ) (s : Session) (n : Notion) → Lent self ks vs (now (tables .entry)) s → Replied (r .solver) ks vs (now (tables .exit)) (at site slot) (orders.order (limitsOf self) n s (orders.variable site slot)) replyOf (r .answer)) ⌝ }
+        ensures held { λ r. ⌜
+            ((ks vs : List ℕ) (s : Session) (n : Notion)
+            → Lent self ks vs (now (tables .entry)) s
+            → Replied (r .solver) ks vs (now (tables .exit)) (at site slot) (orders.order (limitsOf self) n s (orders.variable site slot)) replyOf (r .answer))
+            ⌝ }
         ensures beside { λ r. ⌜ Beside self (r .solver) (now (tables .entry)) (now (tables .exit)) ⌝ }
     {
         self.issue(tables, 1, site, slot)
@@ -149,7 +160,11 @@ impl Solver {
     // Order 1: the number variable of a site, with its fallback from now on.
     pub fn numeric_variable(mut self, tables: &mut [u32], site: u32, fallback: u32) -> Issue
         requires { ⌜ Shaped self (length (now tables)) × (fallback < 32) × ((ks vs : List ℕ) × (s : Session) × Lent self ks vs (now tables) s) ⌝ }
-        ensures held { λ r. ⌜ ((ks vs : List ℕ) (s : Session) (n : Notion) → Lent self ks vs (now (tables .entry)) s → Replied (r .solver) ks vs (now (tables .exit)) (at site 1) (orders.order (limitsOf self) n s (orders.number site (requested fallback))) (resolvedReply (orders.order (limitsOf self) n s (orders.number site (requested fallback)) .session .solver)) (r .answer)) ⌝ }
+        ensures held { λ r. ⌜
+            ((ks vs : List ℕ) (s : Session) (n : Notion)
+            → Lent self ks vs (now (tables .entry)) s
+            → Replied (r .solver) ks vs (now (tables .exit)) (at site 1) (orders.order (limitsOf self) n s (orders.number site (requested fallback)))
+            (resolvedReply (orders.order (limitsOf self) n s (orders.number site (requested fallback)) .session .solver)) (r .answer)) ⌝ }
         ensures beside { λ r. ⌜ Beside self (r .solver) (now (tables .entry)) (now (tables .exit)) ⌝ }
     {
         let m = self.variables;
@@ -175,7 +190,11 @@ impl Solver {
     // Order 2: the variable of a hole.
     pub fn annotation_hole(mut self, tables: &mut [u32], site: u32) -> Issue
         requires { ⌜ Shaped self (length (now tables)) × ((ks vs : List ℕ) × (s : Session) × Lent self ks vs (now tables) s) ⌝ }
-        ensures held { λ r. ⌜ ((ks vs : List ℕ) (s : Session) (n : Notion) → Lent self ks vs (now (tables .entry)) s → Replied (r .solver) ks vs (now (tables .exit)) (gap site) (orders.order (limitsOf self) n s (orders.hole site)) (resolvedReply (orders.order (limitsOf self) n s (orders.hole site) .session .solver)) (r .answer)) ⌝ }
+        ensures held { λ r. ⌜
+            ((ks vs : List ℕ) (s : Session) (n : Notion)
+            → Lent self ks vs (now (tables .entry)) s
+            → Replied (r .solver) ks vs (now (tables .exit)) (gap site) (orders.order (limitsOf self) n s (orders.hole site))
+            (resolvedReply (orders.order (limitsOf self) n s (orders.hole site) .session .solver)) (r .answer)) ⌝ }
         ensures beside { λ r. ⌜ Beside self (r .solver) (now (tables .entry)) (now (tables .exit)) ⌝ }
     {
         self.issue(tables, 2, site, 0)

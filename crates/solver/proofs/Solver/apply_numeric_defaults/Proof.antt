@@ -1,89 +1,21 @@
--- `Solver::apply_numeric_defaults`. Invariant: the variables before v have their defaults. Assumes nothing.
-use denote.Ref.{now}
-use mathlib.Core.Path.{sym, ap, _∙_}
-use Prim.Native.Nat.{ℕ, _+_, _-_}
-use native.Mathlib.Omega.{arith}
-use lib.ListN.{getD}
+-- `Solver::apply_numeric_defaults`. Assumes nothing.
 use Rattle.solver.specs.Orders.{order}
-use Rattle.solver.proofs.ChainLaws.{numbered, numbered-zero, numeric-low, numbered-word, Applied, applied-start, applied-step, applied-end}
+use Rattle.solver.specs.Methods.{defaulted}
 use borrow.Author.Needs.{needs}
 use Rattle.solver.proofs.Solver.apply_numeric_defaults.Statement.{statement}
 use Rattle.solver.proofs.Solver.apply_numeric_defaults.Tie as tie
 
-abbrev Inv-loop : tie.InvT-loop
-Inv-loop self₀ kinds vals tables₀ m n v₀ self tables v = Applied numbered self₀ kinds vals tables₀ v self tables
+apply-defaults-requires : tie.Need-apply-defaults-requires
+apply-defaults-requires c κs = search needs
 
-abbrev μ-loop : tie.MeasureT-loop
-μ-loop self₀ kinds vals tables₀ m n v₀ self tables v = n - v
-
-loop-holds : tie.Need-loop-holds Inv-loop μ-loop
-loop-holds c = applied-start numbered _ _ _ _ numbered-zero
-
-add-wide : tie.Need-add-wide Inv-loop μ-loop
-add-wide c = search needs
-
-mul-wide : tie.Need-mul-wide Inv-loop μ-loop
-mul-wide c = search needs
-
-slice-read-wide : tie.Need-slice-read-wide Inv-loop μ-loop
-slice-read-wide c = search needs
-
-wide-requires : tie.Need-wide-requires Inv-loop μ-loop
-wide-requires c κs = search needs
-
-settle-at-requires : tie.Need-settle-at-requires Inv-loop μ-loop
-settle-at-requires c κs =
-    let p = c .before .before .before .before .before .before .before .before .pre in
-    let A = c .before .before .before .before .loop .inv in
-    let B = A .beside in
-    let t = c .before .before .before .loop-test .taken in (
-      record { issued = omega (arith, A .issued, B .variables, p .0 .issued); room = omega (arith, B .size, B .variables, p .0 .room); narrow = omega (arith, B .variables, p .0 .narrow) },
-      (omega (arith, B .variables, p .0 .issued), omega (arith, A .steps, p .1 .0, p .0 .issued, p .0 .narrow), p .1 .1),
-    )
-
-add-v : tie.Need-add-v Inv-loop μ-loop
-add-v c = search needs
-
-loop-less : tie.Need-loop-less Inv-loop μ-loop
-loop-less c = search needs
-
-loop-again : tie.Need-loop-again Inv-loop μ-loop
-loop-again c =
-    let a = c .before .before .before .before .before .before .before .before .before .before .before .args in
-    let p = c .before .before .before .before .before .before .before .before .before .before .before .pre in
-    let l = c .before .before .before .before .before .before .before .loop in
-    let A = l .inv in
-    let t = c .before .before .before .before .before .before .loop-test .taken in
-    let e = c .before .before .settle-at .ensures in
-    applied-step numbered (a .self) (now (a .kinds)) (now (a .vals)) (now (a .tables)) (l .v) (l .self) _ (l .tables) _ _ A t (e .0) (λ s low. numeric-low (a .self .variables) (l .v) 0 (s .solver) low)
-    (λ s L. numbered-word (l .self) (now (a .kinds)) (now (a .vals)) (l .tables) (l .v) (omega (arith, A .beside .variables, p .0 .issued)) s _ (c .before .before .before .before .wide .ensures ∙ ap (λ (m : ℕ). getD (l .tables) (m + l .v) 0) (sym (A .beside .variables))) L)
-    (e .1 .1) (e .1 .0 .1) (e .1 .0 .0)
-
-same-length : tie.Need-same-length Inv-loop μ-loop
+same-length : tie.Need-same-length
 same-length c = search needs
 
-returns : tie.Need-returns Inv-loop μ-loop
-unfolding order
+returns : tie.Need-returns
+unfolding order defaulted
 returns c =
-    let a = c .before .before .before .before .before .args in
-    let l = c .before .loop in
-    let A = l .inv in
-    (λ s n L low. applied-end numbered (a .self) (now (a .kinds)) (now (a .vals)) (now (a .tables)) (l .v) (l .self) (l .tables) A (omega (arith, A .most, c .loop-test .left)) s L low, A .beside)
+    let e = c .before .before .apply-defaults .ensures in
+    (λ s n L low. e .0 s L low, e .1)
 
 pub apply-numeric-defaults-spec : {M : Type 1} → statement M
-apply-numeric-defaults-spec =
-    tie.close
-    (tie.spec
-    Inv-loop
-    μ-loop
-    loop-holds
-    add-wide
-    mul-wide
-    slice-read-wide
-    wide-requires
-    settle-at-requires
-    add-v
-    loop-less
-    loop-again
-    same-length
-    returns)
+apply-numeric-defaults-spec = tie.close (tie.spec apply-defaults-requires same-length returns)

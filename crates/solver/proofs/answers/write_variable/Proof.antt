@@ -1,5 +1,4 @@
 -- `write_variable`: a byte and the number. Assumes nothing.
-use denote.Ref.{now}
 use native.Mathlib.Omega.{arith}
 use mathlib.Core.Path.{refl}
 use lib.ListN.{length-set}

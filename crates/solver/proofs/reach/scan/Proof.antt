@@ -1,5 +1,5 @@
 -- `scan`. Invariant: hit and the marks are what the first i tokens of the run give. Assumes nothing.
-use Rattle.terms.proofs.Bools.{or-right, never-true}
+use Rattle.terms.proofs.Bools.{or-true, or-right, never-true}
 use mathlib.Core.Path.{_≡_, refl, sym, ap, _∙_}
 use mathlib.Core.Bool.{Bool, true, _||_}
 use Prim.Native.Nat.{ℕ, suc, _+_, _-_, _≤_}
@@ -10,7 +10,8 @@ use Rattle.terms.specs.Tokens.{toks}
 use Rattle.solver.specs.Work.{Grown}
 use Rattle.solver.specs.Reach.{counts, has}
 use Rattle.solver.proofs.WorkLaws.{grown-none, grown-then, parts-long}
-use Rattle.solver.proofs.AskLaws.{has-snoc, has-start, or-split, or-left}
+use Rattle.solver.proofs.AskLaws.{has-snoc, has-start}
+use Rattle.solver.proofs.View.{either}
 use borrow.Author.Needs.{needs}
 use Rattle.solver.proofs.reach.scan.Statement.{statement}
 use Rattle.solver.proofs.reach.scan.Tie as tie
@@ -73,8 +74,8 @@ loop-again c =
       omega arith,
       c .before .before .before .before .seen .ensures ∙ ap (λ (b : Bool). b || counts (s .args .want) (getD ks (a + l .i) 0) (getD vs (a + l .i) 0)) (l .inv .1) ∙ sym (has-snoc (s .args .want) ks vs a (l .i)),
       grown-then _ _ _ (l .inv .2) (m .ensures) (parts-long n _ (omega (arith, e, s .pre .1 .1)) .0 ∙ sym (parts-long n (l .work) (omega (arith, l .inv .3, s .pre .1 .1)) .0))
-          (λ u r. or-split (has (suc u) (toks ks vs a (l .i))) (counts (suc u) (getD ks (a + l .i) 0) (getD vs (a + l .i) 0)) (sym (has-snoc (suc u) ks vs a (l .i)) ∙ r))
-          (λ u p. has-snoc (suc u) ks vs a (l .i) ∙ or-left (has (suc u) (toks ks vs a (l .i))) (counts (suc u) (getD ks (a + l .i) 0) (getD vs (a + l .i) 0)) p)
+          (λ u r. either (has (suc u) (toks ks vs a (l .i))) (counts (suc u) (getD ks (a + l .i) 0) (getD vs (a + l .i) 0)) (sym (has-snoc (suc u) ks vs a (l .i)) ∙ r))
+          (λ u p. has-snoc (suc u) ks vs a (l .i) ∙ or-true (has (suc u) (toks ks vs a (l .i))) (counts (suc u) (getD ks (a + l .i) 0) (getD vs (a + l .i) 0)) p)
           (λ u p. has-snoc (suc u) ks vs a (l .i) ∙ or-right (has (suc u) (toks ks vs a (l .i))) (counts (suc u) (getD ks (a + l .i) 0) (getD vs (a + l .i) 0)) p),
       e,
     )

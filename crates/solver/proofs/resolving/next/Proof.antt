@@ -10,7 +10,7 @@ add-t8 c = search needs
 settle-requires : tie.Need-settle-requires
 settle-requires c κs =
     let q = c .before .before .before .before .before .before .pre in
-    (q .0, q .1, sound-next _ _ _ _ _ _ (q .3) (q .2))
+    (q .0, q .1, sound-next _ _ _ _ (q .3) (q .2))
 
 same-length : tie.Need-same-length
 same-length c = search needs

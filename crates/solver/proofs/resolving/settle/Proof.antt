@@ -15,8 +15,8 @@ use Rattle.solver.proofs.resolving.settle.Tie as tie
 
 abbrev Inv-loop : tie.InvT-loop
 Inv-loop kinds vals bound most frames₀ c₀ frames c =
-    Sound kinds most frames (c .at) (c .end) (c .depth)
-    × (left kinds vals bound most frames (c .at) (c .end) (c .depth) ≡ left kinds vals bound most frames₀ (c₀ .at) (c₀ .end) (c₀ .depth))
+    Sound kinds most frames c
+    × (left kinds vals bound most frames c ≡ left kinds vals bound most frames₀ c₀)
     × (length frames ≡ length frames₀)
     × Apart most frames₀ frames
     × (Bare (c₀ .depth + c₀ .depth) frames₀ → Bare (c .depth + c .depth) frames)

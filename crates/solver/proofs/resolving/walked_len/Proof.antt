@@ -17,16 +17,16 @@ use Rattle.solver.proofs.resolving.walked_len.Tie as tie
 
 abbrev Inv-loop : tie.InvT-loop
 Inv-loop kinds vals bound most frames₀ limit c₀ n₀ frames c n =
-    Ready kinds vals bound most frames (c .at) (c .end) (c .depth)
+    Ready kinds vals bound most frames c
     × (n ≤ limit)
-    × (n + length (flatBytes (left kinds vals bound most frames (c .at) (c .end) (c .depth)))
-    ≡ length (flatBytes (left kinds vals bound most frames₀ (c₀ .at) (c₀ .end) (c₀ .depth))))
+    × (n + length (flatBytes (left kinds vals bound most frames c))
+    ≡ length (flatBytes (left kinds vals bound most frames₀ c₀)))
     × (length frames ≡ length frames₀)
     × Apart most frames₀ frames
     × (Bare (c₀ .depth + c₀ .depth) frames₀ → Bare (c .depth + c .depth) frames)
 
 abbrev μ-loop : tie.MeasureT-loop
-μ-loop kinds vals bound most frames₀ limit c₀ n₀ frames c n = length (left kinds vals bound most frames (c .at) (c .end) (c .depth))
+μ-loop kinds vals bound most frames₀ limit c₀ n₀ frames c n = length (left kinds vals bound most frames c)
 
 begin-requires : tie.Need-begin-requires Inv-loop μ-loop
 begin-requires c κs = c .before .before .before .before .before .pre .0
@@ -55,7 +55,7 @@ returns c =
     let l = c .before .before .before .before .loop in
     let b = c .before .before .before .before .before .before .before .begin in
     let e = over-length plain _ _ _ _ (l .inv .0 .head (omega arith)) in
-    let w = ap (λ (m : List Item). length (flatBytes m)) (left-start (now (a .kinds)) (now (a .vals)) (now (a .bound)) (a .most) (now (a .frames)) (a .run .at) (a .run .len) _ _ _ _ (b .ensures)) in (
+    let w = ap (λ (m : List Item). length (flatBytes m)) (left-start (now (a .kinds)) (now (a .vals)) (now (a .bound)) (a .most) (now (a .frames)) (a .run .at) (a .run .len) _ _ (b .ensures)) in (
       omega (arith, e, w, l .inv .2, l .inv .1, c .before .run-len .ensures, ap length (spelt-one (now (a .kinds)) (now (a .vals)) (l .c .at)), c .if2 .taken),
       ((λ j h. l .inv .4 j h ∙ b .ensures .apart j h), λ z h. absurd (omega arith)),
     )
@@ -70,7 +70,7 @@ loop-less c =
     let a = c .before .before .before .before .before .before .before .before .before .before .before .before .before .before .before .before .before .args in
     let l = c .before .before .before .before .before .before .before .before .loop in
     let s = c .before .before .next in
-    omega (arith, ap length (turn (now (a .kinds)) (now (a .vals)) (now (a .bound)) (a .most) (l .frames) (l .c .at) (l .c .end) (l .c .depth) _ _ _ _ (l .inv .0) (omega arith) (s .ensures)))
+    omega (arith, ap length (turn (now (a .kinds)) (now (a .vals)) (now (a .bound)) (a .most) (l .frames) (l .c) _ _ (l .inv .0) (omega arith) (s .ensures)))
 
 loop-again : tie.Need-loop-again Inv-loop μ-loop
 loop-again c =
@@ -79,7 +79,7 @@ loop-again c =
     let s = c .before .before .next in (
       s .ensures .ready,
       omega arith,
-      omega (arith, over-length plain _ _ _ _ (turn (now (a .kinds)) (now (a .vals)) (now (a .bound)) (a .most) (l .frames) (l .c .at) (l .c .end) (l .c .depth) _ _ _ _ (l .inv .0) (omega arith) (s .ensures)), l .inv .2, c .before .before .before .before .before .run-len .ensures, ap length (spelt-one (now (a .kinds)) (now (a .vals)) (l .c .at))),
+      omega (arith, over-length plain _ _ _ _ (turn (now (a .kinds)) (now (a .vals)) (now (a .bound)) (a .most) (l .frames) (l .c) _ _ (l .inv .0) (omega arith) (s .ensures)), l .inv .2, c .before .before .before .before .before .run-len .ensures, ap length (spelt-one (now (a .kinds)) (now (a .vals)) (l .c .at))),
       s .kept .1 .1 .1 .1 .0 ∙ l .inv .3,
       (λ j h. s .ensures .apart j h ∙ l .inv .4 j h),
       λ b. s .ensures .bare (l .inv .5 b),
@@ -93,7 +93,7 @@ returns-2 c =
     let a = c .before .before .before .before .before .before .before .before .before .before .before .args in
     let l = c .before .before .loop in
     let b = c .before .before .before .before .before .begin in
-    let w = ap (λ (m : List Item). length (flatBytes m)) (left-start (now (a .kinds)) (now (a .vals)) (now (a .bound)) (a .most) (now (a .frames)) (a .run .at) (a .run .len) _ _ _ _ (b .ensures)) in
+    let w = ap (λ (m : List Item). length (flatBytes m)) (left-start (now (a .kinds)) (now (a .vals)) (now (a .bound)) (a .most) (now (a .frames)) (a .run .at) (a .run .len) _ _ (b .ensures)) in
     (omega (arith, ap length (over-none plain _ (l .inv .0 .over (omega arith))), w, l .inv .2, l .inv .1), ((λ j h. l .inv .4 j h ∙ b .ensures .apart j h), λ z h j. l .inv .5 (b .ensures .bare (λ i m. z i)) j (omega (arith, l .inv .0 .alone (omega arith)))))
 
 pub walked-len-spec : {M : Type 1} → statement M
