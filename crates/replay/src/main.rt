@@ -3,19 +3,16 @@
 // run, and the wanted reason, orders and bytes of answers; then the sheet and the wanted answers. Each sheet is run, and everything is compared: what is
 // told, the answers, the output behind them, which is as it was, and the areas, which are all 0, or as they were under reason 12. The program
 // writes how many vectors there were, how many of them differ, and the index of the first that does, which is the number of vectors where none does.
-use harness::fill_all;
-use harness::number_at;
-use harness::number_within;
-use harness::read_part;
-use harness::untouched;
-use sheet::run_sheet;
+use frames::number_at;
+use frames::number_within;
+use frames::read_part;
+use harness::Outcome;
+use harness::run_case;
 ghost use mathlib.Core.Path.{_≡_};
 ghost use Prim.Native.Nat.{_≤_};
 ghost use lib.ListN.{length};
 
 const ROOM: usize = 32768;
-
-const WORDS: usize = 20000;
 
 const MOST: u32 = 4000000000;
 
@@ -49,62 +46,20 @@ fn begins(out: &[u8], wanted: &[u8]) -> bool {
 }
 
 // Whether a run tells what the head wants.
-fn tells(head: &[u8], reason: u32, orders: u64, bytes: usize) -> bool
+fn tells(head: &[u8], r: Outcome) -> bool
     requires { ⌜ 28 ≤ length (now head) ⌝ }
 {
-    if number_at(head, 16) != reason {
+    if number_at(head, 16) != r.reason {
         return false;
     }
-    if (number_at(head, 20) as u64) != orders {
+    if (number_at(head, 20) as u64) != r.orders {
         return false;
     }
-    (number_at(head, 24) as usize) == bytes
+    (number_at(head, 24) as usize) == r.bytes
 }
 
-// Runs a sheet in a filled output and filled areas. Returns whether all is as wanted.
-fn run_filled(
-    head: &[u8],
-    sheet: &[u8],
-    wanted: &[u8],
-    out: &mut [u8],
-    a: &mut [u32],
-    b: &mut [u32],
-    c: &mut [u32],
-    d: &mut [u32],
-    fill: u32,
-) -> bool
-    requires { ⌜ 28 ≤ length (now head) ⌝ }
-{
-    let r = run_sheet(sheet, out, a, b, c, d);
-    if !tells(head, r.reason, r.orders, r.bytes) {
-        return false;
-    }
-    if !begins(out, wanted) {
-        return false;
-    }
-    untouched(out, r.bytes, a, b, c, d, r.reason, fill)
-}
-
-// Fills output and areas, and runs a sheet.
-fn run_one(
-    head: &[u8],
-    sheet: &[u8],
-    wanted: &[u8],
-    out: &mut [u8],
-    a: &mut [u32],
-    b: &mut [u32],
-    c: &mut [u32],
-    d: &mut [u32],
-) -> bool
-    requires { ⌜ 28 ≤ length (now head) ⌝ }
-{
-    let fill = number_at(head, 12);
-    fill_all(out, a, b, c, d, fill);
-    run_filled(head, sheet, wanted, out, a, b, c, d, fill)
-}
-
-// Runs a sheet in as much of the output and of the areas as the head says.
-fn run_within(
+// Runs a sheet. Returns whether all is as wanted.
+fn run_wanted(
     head: &[u8],
     sheet: &[u8],
     wanted: &[u8],
@@ -118,18 +73,14 @@ fn run_within(
     requires room { ⌜ length (now out) ≡ 32768 ⌝ }
     requires areas { ⌜ (length (now a) ≡ 20000) × (length (now b) ≡ 20000) × (length (now c) ≡ 20000) × (length (now d) ≡ 20000) ⌝ }
 {
-    let room = number_within(head, 0, ROOM);
-    let words = number_within(head, 8, WORDS);
-    run_one(
-        head,
-        sheet,
-        wanted,
-        &mut out[..room],
-        &mut a[..words],
-        &mut b[..words],
-        &mut c[..words],
-        &mut d[..words],
-    )
+    let r = run_case(head, sheet, out, a, b, c, d);
+    if !tells(head, r) {
+        return false;
+    }
+    if !begins(out, wanted) {
+        return false;
+    }
+    r.good
 }
 
 // Reads a vector. Returns whether it is all there.
@@ -166,7 +117,7 @@ fn run_vector(
 {
     let size = number_within(head, 4, ROOM);
     let most = number_within(head, 24, ROOM);
-    run_within(head, &sheet[..size], &wanted[..most], out, a, b, c, d)
+    run_wanted(head, &sheet[..size], &wanted[..most], out, a, b, c, d)
 }
 
 // Replays a vector.

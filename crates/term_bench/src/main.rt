@@ -1,6 +1,6 @@
 // Reads or writes one term many times, for a measurement. Standard input is a mode (1 read, 2 write, 3 both), a repeat count of four bytes, low
 // byte first, and the bytes of a term. What is printed, the tokens read and the bytes written of all turns, shows that the work was done.
-use harness::number_at;
+use frames::number_at;
 use terms::Place;
 use terms::Step;
 use terms::clear_tokens;

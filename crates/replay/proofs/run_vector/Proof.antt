@@ -12,14 +12,14 @@ number-within-requires c κs = search needs
 number-within-requires-2 : tie.Need-number-within-requires-2
 number-within-requires-2 c κs = search needs
 
-slice-aggregate-run-within : tie.Need-slice-aggregate-run-within
-slice-aggregate-run-within c = sym (length-take-le _ _ (omega arith))
+slice-aggregate-run-wanted : tie.Need-slice-aggregate-run-wanted
+slice-aggregate-run-wanted c = sym (length-take-le _ _ (omega arith))
 
-slice-aggregate-run-within-2 : tie.Need-slice-aggregate-run-within-2
-slice-aggregate-run-within-2 c = sym (length-take-le _ _ (omega arith))
+slice-aggregate-run-wanted-2 : tie.Need-slice-aggregate-run-wanted-2
+slice-aggregate-run-wanted-2 c = sym (length-take-le _ _ (omega arith))
 
-run-within-requires : tie.Need-run-within-requires
-run-within-requires c κs = search needs
+run-wanted-requires : tie.Need-run-wanted-requires
+run-wanted-requires c κs = search needs
 
 same-length : tie.Need-same-length
 same-length c = search needs
@@ -45,9 +45,9 @@ run-vector-spec =
     (tie.spec
     number-within-requires
     number-within-requires-2
-    slice-aggregate-run-within
-    slice-aggregate-run-within-2
-    run-within-requires
+    slice-aggregate-run-wanted
+    slice-aggregate-run-wanted-2
+    run-wanted-requires
     same-length
     same-length-2
     same-length-3

@@ -3,8 +3,8 @@ use mathlib.Core.Path.{sym}
 use native.Mathlib.Omega.{arith}
 use lib.Seq.{length-take-le}
 use borrow.Author.Needs.{needs}
-use Rattle.harness.proofs.frames.read_part.Statement.{statement}
-use Rattle.harness.proofs.frames.read_part.Tie as tie
+use Rattle.frames.proofs.numbers.read_part.Statement.{statement}
+use Rattle.frames.proofs.numbers.read_part.Tie as tie
 
 slice-relend-prefix-read-full : tie.Need-slice-relend-prefix-read-full
 slice-relend-prefix-read-full c = search needs

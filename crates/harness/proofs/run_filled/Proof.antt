@@ -3,8 +3,8 @@ use Prim.Native.Nat.{_≤_}
 use lib.ListN.{length}
 use Rattle.sheet.proofs.EndingLaws.{bytes-inside}
 use borrow.Author.Needs.{needs}
-use Rattle.sheets.proofs.run_filled.Statement.{statement}
-use Rattle.sheets.proofs.run_filled.Tie as tie
+use Rattle.harness.proofs.run_filled.Statement.{statement}
+use Rattle.harness.proofs.run_filled.Tie as tie
 
 -- the answers lie within the output
 inside : (c : tie.After-run-sheet) → c .run-sheet .result .bytes ≤ length (c .run-sheet .last .1 .0)
@@ -15,9 +15,6 @@ run-sheet-requires c κs = search needs
 
 untouched-requires : tie.Need-untouched-requires
 untouched-requires c κs = search needs
-
-tell-requires : tie.Need-tell-requires
-tell-requires c κs = c .before .before .before .before .before .before .before .before .before .before .before .before .before .before .before .before .before .before .before .before .before .before .before .before .before .before .before .before .before .before .pre
 
 same-length : tie.Need-same-length
 same-length c = search needs
@@ -34,11 +31,8 @@ same-length-4 c = search needs
 same-length-5 : tie.Need-same-length-5
 same-length-5 c = search needs
 
-same-length-6 : tie.Need-same-length-6
-same-length-6 c = search needs
-
 returns : tie.Need-returns
-returns c = inside (c .before .before .before .before .before .before .before .before .before .before .before .before .before .before .before .before .before .before .before .before)
+returns c = inside (c .before .before .before .before .before .before .before .before .before .before .before .before .before .before .before .before)
 
 pub run-filled-spec : {M : Type 1} → statement M
 run-filled-spec =
@@ -46,11 +40,9 @@ run-filled-spec =
     (tie.spec
     run-sheet-requires
     untouched-requires
-    tell-requires
     same-length
     same-length-2
     same-length-3
     same-length-4
     same-length-5
-    same-length-6
     returns)

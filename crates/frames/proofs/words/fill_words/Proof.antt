@@ -4,8 +4,8 @@ use Prim.Native.Nat.{_≤_, _-_}
 use native.Mathlib.Omega.{arith}
 use lib.ListN.{length, length-set}
 use borrow.Author.Needs.{needs}
-use Rattle.harness.proofs.areas.fill_words.Statement.{statement}
-use Rattle.harness.proofs.areas.fill_words.Tie as tie
+use Rattle.frames.proofs.words.fill_words.Statement.{statement}
+use Rattle.frames.proofs.words.fill_words.Tie as tie
 
 abbrev Inv-loop : tie.InvT-loop
 Inv-loop w₀ x i₀ w i = (i ≤ length w) × (length w ≡ length w₀)

@@ -2,8 +2,8 @@
 use native.Mathlib.Omega.{arith}
 use lib.ListN.{length-set}
 use borrow.Author.Needs.{needs}
-use Rattle.harness.proofs.frames.put_number.Statement.{statement}
-use Rattle.harness.proofs.frames.put_number.Tie as tie
+use Rattle.frames.proofs.numbers.put_number.Statement.{statement}
+use Rattle.frames.proofs.numbers.put_number.Tie as tie
 
 cast-s : tie.Need-cast-s
 cast-s c = search needs
