@@ -46,7 +46,7 @@ pub fn end_of(kinds: &[u32], vals: &[u32], bound: &[u32], most: usize, v: usize)
 }
 
 // The word that names the default of the variable v: with `never` that of Never, if v is deferred, else that of its fallback, if it has one.
-pub fn default_word(tables: &[u32], m: usize, v: usize, never: bool) -> usize
+fn default_word(tables: &[u32], m: usize, v: usize, never: bool) -> usize
     requires { ⌜ (v < m) × (7 * m ≤ length (now tables)) × (m < 2 ^ 32) ⌝ }
     ensures { λ r. ⌜ r ≡ defaultWord never m (now (tables .entry)) v ⌝ }
 {
@@ -120,7 +120,7 @@ impl Solver {
     }
 
     // Each issued variable, by rising id, takes its default: with `never` by its deferral, else by its request.
-    pub fn apply_defaults(
+    fn apply_defaults(
         mut self,
         kinds: &[u32],
         vals: &[u32],
