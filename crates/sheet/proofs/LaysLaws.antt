@@ -7,7 +7,7 @@ use Prim.Native.Nat.{ℕ, _+_, _-_, _*_, _≤_, _<_}
 use native.Mathlib.Omega.{arith}
 use lib.ListN.{length, take, drop, length-drop}
 use lib.Seq.{length-take-le, take-length, drop-length, drop-at}
-use borrow.Rule.Slice.PartMut.{postOf, putMid, post-is, take-put}
+use borrow.Rule.Slice.PartMut.{postOf, putMid, post-is}
 use Rattle.solver.specs.Terms.Term.{Term, var, node, size}
 use Rattle.solver.specs.declared.Solver.{Solver}
 use Rattle.solver.specs.Shapes.{loose}
@@ -178,9 +178,6 @@ module _ (half : ℕ) (c : List ℕ) where
   tail-back us h =
       drop-at (take half c) (us ++ postOf half (length c - half) c) half (length-take-le half c h)
       ∙ ap (λ (l : List ℕ). us ++ l) (post-is half (length c) c h ∙ drop-length c) ∙ append-nil us
-
-  pub zero-front : (us : List ℕ) → half ≤ length c → Zero (take half c) → Zero (take half (putMid half (length c - half) c us))
-  zero-front us h z = subst (λ (l : List ℕ). Zero l) (sym (take-put half (length c - half) c us h)) z
 
   pub lent-tail : (x : Solver) (ks vs : List ℕ) (z : Session) → Lent x ks vs (drop half c) z → Lent x ks vs (take (length c - half) (drop half c)) z
   lent-tail x ks vs z L = subst (λ (l : List ℕ). Lent x ks vs l z) (sym tail-all) L

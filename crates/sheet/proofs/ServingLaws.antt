@@ -4,14 +4,15 @@ use mathlib.Core.Bool.{Bool, true, false}
 use mathlib.Core.List.{List, [], _∷_, _++_, append-nil}
 use mathlib.Core.Logic.{inl, inr, ⊎-elim}
 use mathlib.Core.Option.{Option, none, some}
-use Prim.Native.Nat.{ℕ, zero, suc, _+_, _-_, _*_, _^_, _≤_, _<_}
+use Prim.Native.Nat.{ℕ, _+_, _-_, _*_, _≤_, _<_}
+use native.Mathlib.Decide.{decLt}
 use native.Mathlib.Omega.{arith}
 use borrow.Author.Tests.{le-ltb}
 use lib.Dec.{eqb, ltb}
 use lib.ListN.{length, length-append, length-drop, getD, take, drop, take-append-drop, List·getD-eq-default}
 use lib.Seq.{length-take-le, getD-take, take-take}
-use Rattle.solver.specs.Terms.Result.{Result, got, refused}
-use Rattle.solver.specs.Terms.Tokens.{Item, Area, area, puts, blank, toks}
+use Rattle.solver.specs.Terms.Result.{Result, refused}
+use Rattle.solver.specs.Terms.Tokens.{Item, Area, area, blank, toks}
 use Rattle.solver.specs.Terms.Term.{Term, items, size, Held, AllVars, sub, end}
 use Rattle.solver.specs.Terms.Held.{HeldParts}
 use Rattle.solver.specs.Terms.Normal.{most}
@@ -25,14 +26,14 @@ use Rattle.solver.specs.Orders as orders
 use Rattle.solver.specs.Orders.{Command, order}
 use Rattle.solver.specs.Work.{Zero}
 use Rattle.solver.specs.Turning.{Scratch, pendingFrom}
-use Rattle.solver.specs.Lent.{Arises, limitsOf}
+use Rattle.solver.specs.Lent.{Arises, Lent, limitsOf}
 use Rattle.solver.proofs.OrderedLaws.{within-known}
 use Rattle.sheet.specs.declared.Order.{Order}
 use Rattle.sheet.specs.Fields.{Field, value, tree, allNodes, nodes, nth, termOf, numberOf, numberAt}
 use Rattle.sheet.specs.Orders as rows
 use Rattle.sheet.specs.Orders.{Answer, refusal, Act, Row, sessionOrders, rowIn, layout, commandBy, commandOf, Read}
 use Rattle.sheet.specs.Operations.{operations, operation}
-use Rattle.sheet.specs.Sheet.{table, readOrder, Step, solve, perform, step, stepRead, orderOf}
+use Rattle.sheet.specs.Sheet.{table, readOrder, Step, solve, perform, step, stepRead, orderOf, framed}
 use Rattle.sheet.specs.declared.Spot.{Spot}
 use Rattle.sheet.specs.Held.{HeldField}
 use Rattle.sheet.specs.Formed.{FormedField, FormedFields}
@@ -45,7 +46,7 @@ use Rattle.sheet.specs.Lays.{Lays, Answers}
 use Rattle.sheet.specs.Ending.{Ready}
 use Rattle.solver.specs.Behind.{Behind, Poses, PosesPair}
 use Rattle.sheet.specs.Doing.{Does, toldElse, toldBy, plainCommand, DoesPair}
-use Rattle.sheet.specs.Taken.{Taken, Serves}
+use Rattle.sheet.specs.Taken.{Taken, Serves, Answered}
 use Rattle.sheet.proofs.StoredLaws.{zero-free, free-kinds, free-vals}
 use Rattle.sheet.proofs.TableLaws.{Plainly, plain-act, plain-among, operations-among, session-row}
 use Rattle.sheet.proofs.SessionRowLaws.{Made, MadeBy, row-made, crowds, numbers-are, numbers-none, one-term, two-terms, second-code}
@@ -54,7 +55,7 @@ use Rattle.sheet.proofs.UseLaws.{order-long, nth-formed}
 use Rattle.sheet.proofs.DoingLaws.{loose-codes}
 use Rattle.sheet.proofs.PosingLaws as posing
 use Rattle.sheet.proofs.StepLaws.{operation-step}
-use Rattle.sheet.proofs.LaysLaws.{answers-does, answers-pair, unanswered-pair}
+use Rattle.sheet.proofs.LaysLaws.{ready-half, solve-kept, answers-does, answers-pair, unanswered-pair}
 
 -- ---- room to read
 
@@ -89,7 +90,7 @@ few-short s h = let z : getD s 1 0 ≡ 0 = List·getD-eq-default s 0 (omega arit
 -- ---- answers
 
 -- in areas that are the same
-pub answers-at : (y : Solver) (half : ℕ) (a₀ b₀ a b c d out : List ℕ) (z : Session) (st : Step) (out₀ : List ℕ) (to r : ℕ) (x : Solver)
+answers-at : (y : Solver) (half : ℕ) (a₀ b₀ a b c d out : List ℕ) (z : Session) (st : Step) (out₀ : List ℕ) (to r : ℕ) (x : Solver)
     → area a b ≡ area a₀ b₀ → Answers y half a₀ b₀ c d out z st out₀ to r x → Answers y half a b c d out z st out₀ to r x
 answers-at y half a₀ b₀ a b c d out z st out₀ to r x e A = subst (λ (w : Area). Answers y half (w .kinds) (w .vals) c d out z st out₀ to r x) (sym e) A
 
@@ -171,11 +172,8 @@ module _ (x : Solver) (half : ℕ) (s a₀ b₀ a b c d ws : List ℕ) (o : Orde
   pub taken-after : x .top ≤ o .top
   taken-after = omega (arith, T .whole .tokens)
 
-  pub taken-small : o .top < 2 ^ 32
-  taken-small = T .whole .small
-
   pub taken-half : half ≤ length c
-  taken-half = omega (arith, T .ready .roomy .c-size, T .ready .roomy .table)
+  taken-half = ready-half x half a₀ b₀ c d (T .ready)
 
   a-long : length a ≡ length a₀
   a-long = order-long s (x .issued) (x .top) (x .kept) (x .nodes) (area a₀ b₀) (area a b) ws o (T .whole) .0
@@ -192,6 +190,30 @@ module _ (x : Solver) (half : ℕ) (s a₀ b₀ a b c d ws : List ℕ) (o : Orde
   -- what the bytes say, on any session that the areas held
   step-is : (z : Session) → Lays x half a₀ b₀ c d z → orderOf (limitsOf x) z s ≡ step (limitsOf x) z (T .whole .read .kind) (T .whole .read .fields)
   step-is z Z = ap (λ (q : Result Read). stepRead (limitsOf x) z q) (ap (λ (n : ℕ). readOrder s n) (sym (Z .lent .issued)) ∙ T .whole .is)
+
+  -- served in the areas that there were: with the tokens of the order cleared they are those
+  answered : (y : Solver) → y .top ≡ x .top → (c′ d′ out₀ : List ℕ) (to : ℕ) (out : List ℕ) (r : ℕ) → Serves x y half s a₀ b₀ c d a₀ b₀ c′ d′ out₀ to out r
+      → Answered x y half s a₀ b₀ a b c d o c′ d′ out₀ to out r
+  answered y e c′ d′ out₀ to out r S =
+      record {
+        inside = omega (arith, taken-after);
+        serves = λ a′ b′ E z A Z.
+            answers-at y half a₀ b₀ a′ b′ c′ d′ out z (orderOf (limitsOf x) z s) out₀ to r x
+            (E ∙ ap (λ (n : ℕ). blank (area a b) n (o .top - n)) e ∙ T .whole .cleared) (S z A Z);
+      }
+
+  -- a command done on what is lent, other than order 4
+  told : (k : Command) → ((z : Session) → Lays x half a₀ b₀ c d z → orderOf (limitsOf x) z s ≡ solve (limitsOf x) z k)
+      → (y : Solver) (c′ d′ out₀ : List ℕ) (to : ℕ) (out : List ℕ) (r : ℕ) → take half c′ ≡ take half c → Zero d′
+      → ((z : Session) → Arises (limitsOf x) loose z → Lays x half a₀ b₀ c d z
+      → Does x y (take (x .top) a₀) (take (x .top) b₀) (drop half c) (drop half c′) z (solve (limitsOf x) z k) out₀ to out r)
+      → Answered x y half s a₀ b₀ a b c d o c′ d′ out₀ to out r
+  told k same y c′ d′ out₀ to out r front clear D =
+      let R = T .ready in
+      answered y (D (R .session) (R .arises) (R .lays) .beside .top) c′ d′ out₀ to out r
+      (λ z A Z.
+      step-as y half a₀ b₀ c′ d′ out z _ _ out₀ to r x (same z Z)
+      (answers-does Z y c′ d′ _ out₀ to out r (D z A Z) (solve-kept (limitsOf x) z k) (subst (λ (l : List ℕ). Zero l) (sym front) (Z .front)) clear))
 
   -- ---- orders 9 to 20
 
@@ -220,9 +242,10 @@ module _ (x : Solver) (half : ℕ) (s a₀ b₀ a b c d ws : List ℕ) (o : Orde
       }
 
   pub operated : true ≡ isOperation (rowIn table (o .kind)) → (out₀ : List ℕ) (to : ℕ) (out : List ℕ) (r : ℕ) → Replies a b s ws o (λ y. Framed y out₀ to out r)
-      → (hs cs : List ℕ) → area hs cs ≡ area (take half c) d → (a′ b′ : List ℕ) → area a′ b′ ≡ blank (area a b) (x .top) (o .top - x .top)
-      → Serves x x half s a₀ b₀ c d a′ b′ (hs ++ drop half c) cs out₀ to out r
-  operated h out₀ to out r R hs cs e a′ b′ E z A Z =
+      → (hs cs : List ℕ) → area hs cs ≡ area (take half c) d → Answered x x half s a₀ b₀ a b c d o (hs ++ drop half c) cs out₀ to out r
+  operated h out₀ to out r R hs cs e =
+      answered x refl (hs ++ drop half c) cs out₀ to out r
+      (λ z A Z.
       let k = T .whole .read .kind in
       let fs = T .whole .read .fields in
       let F = R .says (rows.known k (x .issued)) k fs (T .whole .kind) (record { held = T .whole .held (T .within); formed = T .whole .formed; fits = T .whole .fitting }) in
@@ -232,8 +255,7 @@ module _ (x : Solver) (half : ℕ) (s a₀ b₀ a b c d ws : List ℕ) (o : Orde
       in
       let hc : hs ++ drop half c ≡ c = ap (λ (w : Area). w .kinds ++ drop half c) e ∙ take-append-drop half c in
       let dc : cs ≡ d = ap (λ (w : Area). w .vals) e in
-      answers-at x half a₀ b₀ a′ b′ (hs ++ drop half c) cs out z (orderOf (limitsOf x) z s) out₀ to r x (E ∙ T .whole .cleared)
-      (step-as x half a₀ b₀ (hs ++ drop half c) cs out z _ _ out₀ to r x st (rw (hc, dc) (answers-same x half a₀ b₀ c d z Z (operation k fs) out₀ to out r F)))
+      step-as x half a₀ b₀ (hs ++ drop half c) cs out z _ _ out₀ to r x st (rw (hc, dc) (answers-same x half a₀ b₀ c d z Z (operation k fs) out₀ to out r F)))
 
   -- which order it is
   kind-as : (n : ℕ) (r : Row) → o .kind ≡ n → rowIn table n ≡ some r → T .whole .read .kind ≡ r
@@ -272,21 +294,28 @@ module _ (x : Solver) (half : ℕ) (s a₀ b₀ a b c d ws : List ℕ) (o : Orde
         omega (arith, plain-second .0)
 
     -- it has no tokens
-    plain-areas : area a b ≡ area a₀ b₀
-    unfolding puts
-    plain-areas =
-        T .whole .stored (T .within)
-        ∙ ap (λ (l : List Item). puts (area a₀ b₀) (x .top) l) (numbers-none (layout (T .whole .read .kind)) (T .whole .read .fields) plain-numbers (T .whole .fitting) .1)
+    no-items : allItems (T .whole .read .fields) ≡ []
+    no-items = numbers-none (layout (T .whole .read .kind)) (T .whole .read .fields) plain-numbers (T .whole .fitting) .1
 
-    pub plain-ready : Ready x half a b c d
-    plain-ready = subst (λ (w : Area). Ready x half (w .kinds) (w .vals) c d) (sym plain-areas) (T .ready)
+    plain-top : o .top ≡ x .top
+    plain-top = omega (arith, T .whole .tokens, ap length no-items)
 
-    pub plain-served : (i j : ℕ) → i ≡ o .first .value → j ≡ o .second .value → (y : Solver) (c′ d′ out₀ : List ℕ) (to : ℕ) (out : List ℕ) (r : ℕ)
-        → ((z : Session) → Arises (limitsOf x) loose z → Lays x half a b c d z → Answers y half a b c′ d′ out z (solve (limitsOf x) z (plainCommand (o .kind) i j)) out₀ to r x)
-        → Serves x y half s a₀ b₀ c d a b c′ d′ out₀ to out r
-    plain-served i j ei ej y c′ d′ out₀ to out r E z A Z =
-        let same : orderOf (limitsOf x) z s ≡ solve (limitsOf x) z (plainCommand (o .kind) i j) = plain-step z Z ∙ rw (ei, ej, plain-first .0, plain-second .0) refl in
-        step-as y half a b c′ d′ out z _ _ out₀ to r x same (E z A (subst (λ (w : Area). Lays x half (w .kinds) (w .vals) c d z) (sym plain-areas) Z))
+    plain-areas : area (take (o .top) a) (take (o .top) b) ≡ area (take (x .top) a₀) (take (x .top) b₀)
+    plain-areas = ap (λ (n : ℕ). area (take n a) (take n b)) plain-top ∙ T .whole .same
+
+    pub plain-lent : (z : Session) → Lays x half a₀ b₀ c d z → Lent x (take (o .top) a) (take (o .top) b) (drop half c) z
+    plain-lent z Z = subst (λ (w : Area). Lent x (w .kinds) (w .vals) (drop half c) z) (sym plain-areas) (Z .lent)
+
+    pub plain-answered : (i j : ℕ) → i ≡ o .first .value → j ≡ o .second .value
+        → (y : Solver) (c′ d′ out₀ : List ℕ) (to : ℕ) (out : List ℕ) (r : ℕ) → take half c′ ≡ take half c → Zero d′
+        → ((z : Session) → Arises (limitsOf x) loose z → Lent x (take (o .top) a) (take (o .top) b) (drop half c) z
+        → Does x y (take (o .top) a) (take (o .top) b) (drop half c) (drop half c′) z (solve (limitsOf x) z (plainCommand (o .kind) i j)) out₀ to out r)
+        → Answered x y half s a₀ b₀ a b c d o c′ d′ out₀ to out r
+    plain-answered i j ei ej y c′ d′ out₀ to out r front clear D =
+        told (plainCommand (o .kind) i j) (λ z Z. plain-step z Z ∙ rw (ei, ej, plain-first .0, plain-second .0) refl) y c′ d′ out₀ to out r front clear
+        (λ z A Z.
+        subst (λ (w : Area). Does x y (w .kinds) (w .vals) (drop half c) (drop half c′) z (solve (limitsOf x) z (plainCommand (o .kind) i j)) out₀ to out r) plain-areas
+        (D z A (plain-lent z Z)))
 
   -- ---- orders 3, 4 and 5
 
@@ -343,14 +372,13 @@ module _ (x : Solver) (half : ℕ) (s a₀ b₀ a b c d ws : List ℕ) (o : Orde
           few = omega (arith, T .whole .counts, T .within, Z .lent .kept, one-size);
         }
 
-    pub posed : (st : Step) (z : Session) → Lays x half a₀ b₀ c d z → orderOf (limitsOf x) z s ≡ st → z .kept ≤ st .session .kept
-        → (y : Solver) (c′ d′ out₀ : List ℕ) (to : ℕ) (out : List ℕ) (r : ℕ)
-        → Does x y (take (x .top) (take (o .top) a)) (take (x .top) (take (o .top) b)) (drop half c) (drop half c′) z st out₀ to out r
-        → Zero (take half c′) → Zero d′ → (a′ b′ : List ℕ) → area a′ b′ ≡ blank (area a b) (x .top) (o .top - x .top)
-        → Answers y half a′ b′ c′ d′ out z (orderOf (limitsOf x) z s) out₀ to r x
-    posed st z Z e k y c′ d′ out₀ to out r D f w a′ b′ E =
-        answers-at y half a₀ b₀ a′ b′ c′ d′ out z (orderOf (limitsOf x) z s) out₀ to r x (E ∙ T .whole .cleared)
-        (step-as y half a₀ b₀ c′ d′ out z _ _ out₀ to r x e (answers-does Z y c′ d′ st out₀ to out r (rw (cut-a, cut-b) at D) k f w))
+    pub posed : (k : Command) → ((z : Session) → Lays x half a₀ b₀ c d z → orderOf (limitsOf x) z s ≡ solve (limitsOf x) z k)
+        → (y : Solver) (c′ d′ out₀ : List ℕ) (to : ℕ) (out : List ℕ) (r : ℕ) → take half c′ ≡ take half c → Zero d′
+        → ((z : Session) → Poses loose x (take (o .top) a) (take (o .top) b) (drop half c) z t
+        → Does x y (take (x .top) (take (o .top) a)) (take (x .top) (take (o .top) b)) (drop half c) (drop half c′) z (solve (limitsOf x) z k) out₀ to out r)
+        → Answered x y half s a₀ b₀ a b c d o c′ d′ out₀ to out r
+    posed k same y c′ d′ out₀ to out r front clear D =
+        told k same y c′ d′ out₀ to out r front clear (λ z A Z. rw (cut-a, cut-b) at (D z (poses z A Z)))
 
   -- order 3
   pub defer-term : o .kind ≡ 3 → (t : Term) × (fs ≡ tree t ∷ [])
@@ -480,15 +508,37 @@ module _ (x : Solver) (half : ℕ) (s a₀ b₀ a b c d ws : List ℕ) (o : Orde
         zero-front : (z : Session) → Lays x half a₀ b₀ c d z → Zero (take half c′)
         zero-front z Z = subst (λ (l : List ℕ). Zero l) (sym front) (Z .front)
 
-        pub pair-stays : r ≤ length out₀ → Serves x y half s a₀ b₀ c d a b c′ d′ out₀ to out r
-        pair-stays h z A Z =
-            step-as y half a b c′ d′ out z _ _ out₀ to r x (pair-step z Z)
-            (answers-pair Z a b (o .top) taken-a (free-kinds (o .top) (area a b) (T .whole .free)) (free-vals (o .top) (area a b) (T .whole .free)) y c′ d′ _ out₀ to out r (does z A Z)
-            (pair-kept z A Z) h (zero-front z Z) clear)
+        abbrev past : Session → ℕ
+        past z = to + length (framed (solve (limitsOf x) z (orders.pair n t u) .answer))
 
-        pub pair-undone : length out₀ < r → (a′ b′ : List ℕ) → area a′ b′ ≡ blank (area a b) (x .top) (o .top - x .top) → Serves x y half s a₀ b₀ c d a′ b′ c′ d′ out₀ to out r
-        pair-undone h a′ b′ e z A Z =
-            answers-at y half a₀ b₀ a′ b′ c′ d′ out z (orderOf (limitsOf x) z s) out₀ to r x (e ∙ T .whole .cleared)
+        pair-inside : (z : Session) → DoesPair x y (take (o .top) a) (take (o .top) b) (drop half c) (drop half c′) z (solve (limitsOf x) z (orders.pair n t u)) out₀ to out r
+            → Dec (length out₀ < past z) → y .top ≤ o .top
+        pair-inside z D (yes l) = omega (arith, taken-after, ap (λ (v : Solver). v .top) (D .long l .0))
+        pair-inside z D (no l) = omega (arith, D .whole (omega arith) .top, long-a)
+
+        -- where it is answered all of its tokens are the session's; else none is, and they have been cleared
+        pair-serves : (z : Session) → Arises (limitsOf x) loose z → Lays x half a₀ b₀ c d z → (a′ b′ : List ℕ) → area a′ b′ ≡ blank (area a b) (y .top) (o .top - y .top)
+            → Dec (length out₀ < past z) → Answers y half a′ b′ c′ d′ out z (orderOf (limitsOf x) z s) out₀ to r x
+        pair-serves z A Z a′ b′ e (yes l) =
+            let D = does z A Z in
+            answers-at y half a₀ b₀ a′ b′ c′ d′ out z (orderOf (limitsOf x) z s) out₀ to r x
+            (e ∙ ap (λ (v : Solver). blank (area a b) (v .top) (o .top - v .top)) (D .long l .0) ∙ T .whole .cleared)
             (step-as y half a₀ b₀ c′ d′ out z _ _ out₀ to r x (pair-step z Z)
-            (unanswered-pair Z a b (o .top) taken-a (free-kinds (o .top) (area a b) (T .whole .free)) (free-vals (o .top) (area a b) (T .whole .free)) y c′ d′ _ out₀ to out r (does z A Z) h
-            (zero-front z Z) clear))
+            (unanswered-pair Z a b (o .top) taken-a (free-kinds (o .top) (area a b) (T .whole .free)) (free-vals (o .top) (area a b) (T .whole .free)) y c′ d′ _ out₀ to out r D
+            (omega (arith, D .answer .over l .0)) (zero-front z Z) clear))
+        pair-serves z A Z a′ b′ e (no l) =
+            let D = does z A Z in
+            let all : y .top ≡ o .top = D .whole (omega arith) .top ∙ long-a in
+            answers-at y half a b a′ b′ c′ d′ out z (orderOf (limitsOf x) z s) out₀ to r x
+            (e ∙ ap (λ (n : ℕ). blank (area a b) n (o .top - n)) all ∙ T .whole .free (o .top - o .top))
+            (step-as y half a b c′ d′ out z _ _ out₀ to r x (pair-step z Z)
+            (answers-pair Z a b (o .top) taken-a (free-kinds (o .top) (area a b) (T .whole .free)) (free-vals (o .top) (area a b) (T .whole .free)) y c′ d′ _ out₀ to out r D
+            (pair-kept z A Z) (omega (arith, D .answer .fits (omega arith) .0)) (zero-front z Z) clear))
+
+        pub pair-answered : Answered x y half s a₀ b₀ a b c d o c′ d′ out₀ to out r
+        pair-answered =
+            let R = T .ready in
+            record {
+              inside = pair-inside (R .session) (does (R .session) (R .arises) (R .lays)) (decLt (length out₀) (past (R .session)));
+              serves = λ a′ b′ e z A Z. pair-serves z A Z a′ b′ e (decLt (length out₀) (past z));
+            }

@@ -10,9 +10,8 @@ is-operation-requires c κs = search needs
 
 operate-order-requires : tie.Need-operate-order-requires
 operate-order-requires c κs =
-    let a = c .before .before .before .before .before .before .before .before .before .before .before .before .before .before .args in
-    let p = c .before .before .before .before .before .before .before .before .before .before .before .before .before .before .pre in
-    (p .0, (sym (c .before .before .before .before .before .if1 .taken) ∙ c .before .before .before .before .before .before .is-operation .ensures, (p .1 .0, p .1 .1)))
+    let p = c .before .before .before .before .before .before .before .before .before .before .before .before .pre in
+    (p .0, (sym (c .before .before .before .if1 .taken) ∙ c .before .before .before .before .is-operation .ensures, (p .1 .0, p .1 .1)))
 
 same-length : tie.Need-same-length
 same-length c = search needs
@@ -23,21 +22,25 @@ same-length-2 c = search needs
 same-length-3 : tie.Need-same-length-3
 same-length-3 c = search needs
 
+returns : tie.Need-returns
+returns c = search needs
+
+defer-order-requires : tie.Need-defer-order-requires
+defer-order-requires c κs = search needs
+
 same-length-4 : tie.Need-same-length-4
 same-length-4 c = search needs
 
 same-length-5 : tie.Need-same-length-5
 same-length-5 c = search needs
 
-returns : tie.Need-returns
-returns c =
-    c .before .before .before .before .before .before .before .before .before .before .operate-order .ensures
+returns-2 : tie.Need-returns-2
+returns-2 c =
+    let a = c .before .before .before .before .before .before .before .before .before .before .before .before .before .before .before .before .before .args in
+    λ a₀ b₀ T. c .before .before .before .before .defer-order .ensures (now (a .s)) a₀ b₀ (now (a .d)) (now (a .rules)) T
 
-defer-order-requires : tie.Need-defer-order-requires
-defer-order-requires c κs =
-    let a = c .before .before .before .before .before .before .before .before .before .before .before .before .before .before .args in
-    let p = c .before .before .before .before .before .before .before .before .before .before .before .before .before .before .pre in
-    ((now (a .s), p .0 .0, p .0 .1, now (a .d), now (a .rules), p .0 .2), (c .before .before .before .before .if2 .taken, p .1 .1))
+pair-order-requires : tie.Need-pair-order-requires
+pair-order-requires c κs = search needs
 
 same-length-6 : tie.Need-same-length-6
 same-length-6 c = search needs
@@ -48,26 +51,33 @@ same-length-7 c = search needs
 same-length-8 : tie.Need-same-length-8
 same-length-8 c = search needs
 
+returns-3 : tie.Need-returns-3
+returns-3 c =
+    let a = c .before .before .before .before .before .before .before .before .before .before .before .before .before .before .before .before .before .before .before .before .before .args in
+    λ a₀ b₀ T. c .before .before .before .before .before .before .pair-order .ensures (now (a .s)) a₀ b₀ (now (a .rules)) T
+
+resolve-order-requires : tie.Need-resolve-order-requires
+resolve-order-requires c κs = search needs
+
 same-length-9 : tie.Need-same-length-9
 same-length-9 c = search needs
-
-returns-2 : tie.Need-returns-2
-returns-2 c =
-    let a = c .before .before .before .before .before .before .before .before .before .before .before .before .before .before .before .before .before .before .before .before .before .before .before .args in
-    let p = c .before .before .before .before .before .before .before .before .before .before .before .before .before .before .before .before .before .before .before .before .before .before .before .pre in
-    λ a₀ b₀ T. c .before .before .before .before .before .before .before .before .defer-order .ensures (now (a .s)) a₀ b₀ (now (a .d)) (now (a .rules)) T
-
-pair-order-requires : tie.Need-pair-order-requires
-pair-order-requires c κs =
-    let a = c .before .before .before .before .before .before .before .before .before .before .before .before .before .before .before .before .args in
-    let p = c .before .before .before .before .before .before .before .before .before .before .before .before .before .before .before .before .pre in
-    ((now (a .s), p .0 .0, p .0 .1, now (a .rules), p .0 .2), (c .before .before .before .before .before .if3 .taken, p .1 .1))
 
 same-length-10 : tie.Need-same-length-10
 same-length-10 c = search needs
 
 same-length-11 : tie.Need-same-length-11
 same-length-11 c = search needs
+
+returns-4 : tie.Need-returns-4
+returns-4 c =
+    let a = c .before .before .before .before .before .before .before .before .before .before .before .before .before .before .before .before .before .before .before .before .args in
+    λ a₀ b₀ T. c .before .before .before .before .resolve-order .ensures (now (a .s)) a₀ b₀ (now (a .rules)) T
+
+plain-order-requires : tie.Need-plain-order-requires
+plain-order-requires c κs =
+    let a = c .before .before .before .before .before .before .before .before .before .before .before .before .before .before .before .args in
+    let p = c .before .before .before .before .before .before .before .before .before .before .before .before .before .before .before .pre in
+    ((now (a .s), p .0 .0, p .0 .1, now (a .rules), p .0 .2), ((sym (c .before .before .before .before .before .before .if1 .left) ∙ c .before .before .before .before .before .before .before .is-operation .ensures, c .before .before .before .before .before .if2 .left, c .before .before .before .before .if3 .left, c .before .before .before .if4 .left), p .1 .1))
 
 same-length-12 : tie.Need-same-length-12
 same-length-12 c = search needs
@@ -78,64 +88,9 @@ same-length-13 c = search needs
 same-length-14 : tie.Need-same-length-14
 same-length-14 c = search needs
 
-returns-3 : tie.Need-returns-3
-returns-3 c =
-    let a = c .before .before .before .before .before .before .before .before .before .before .before .before .before .before .before .before .before .before .before .before .before .before .before .before .before .before .before .args in
-    let p = c .before .before .before .before .before .before .before .before .before .before .before .before .before .before .before .before .before .before .before .before .before .before .before .before .before .before .before .pre in
-    λ a₀ b₀ T. c .before .before .before .before .before .before .before .before .before .before .pair-order .ensures (now (a .s)) a₀ b₀ (now (a .rules)) T
-
-resolve-order-requires : tie.Need-resolve-order-requires
-resolve-order-requires c κs =
-    let a = c .before .before .before .before .before .before .before .before .before .before .before .before .before .before .before .before .before .args in
-    let p = c .before .before .before .before .before .before .before .before .before .before .before .before .before .before .before .before .before .pre in
-    ((now (a .s), p .0 .0, p .0 .1, now (a .rules), p .0 .2), (c .before .before .before .before .before .if4 .taken, p .1 .1))
-
-same-length-15 : tie.Need-same-length-15
-same-length-15 c = search needs
-
-same-length-16 : tie.Need-same-length-16
-same-length-16 c = search needs
-
-same-length-17 : tie.Need-same-length-17
-same-length-17 c = search needs
-
-same-length-18 : tie.Need-same-length-18
-same-length-18 c = search needs
-
-same-length-19 : tie.Need-same-length-19
-same-length-19 c = search needs
-
-returns-4 : tie.Need-returns-4
-returns-4 c =
-    let a = c .before .before .before .before .before .before .before .before .before .before .before .before .before .before .before .before .before .before .before .before .before .before .before .before .before .before .args in
-    let p = c .before .before .before .before .before .before .before .before .before .before .before .before .before .before .before .before .before .before .before .before .before .before .before .before .before .before .pre in
-    λ a₀ b₀ T. c .before .before .before .before .before .before .before .before .resolve-order .ensures (now (a .s)) a₀ b₀ (now (a .rules)) T
-
-plain-order-requires : tie.Need-plain-order-requires
-plain-order-requires c κs =
-    let a = c .before .before .before .before .before .before .before .before .before .before .before .before .before .before .before .before .before .args in
-    let p = c .before .before .before .before .before .before .before .before .before .before .before .before .before .before .before .before .before .pre in
-    ((now (a .s), p .0 .0, p .0 .1, now (a .rules), p .0 .2), ((sym (c .before .before .before .before .before .before .before .before .if1 .left) ∙ c .before .before .before .before .before .before .before .before .before .is-operation .ensures, c .before .before .before .before .before .before .before .if2 .left, c .before .before .before .before .before .before .if3 .left, c .before .before .before .before .before .if4 .left), p .1 .1))
-
-same-length-20 : tie.Need-same-length-20
-same-length-20 c = search needs
-
-same-length-21 : tie.Need-same-length-21
-same-length-21 c = search needs
-
-same-length-22 : tie.Need-same-length-22
-same-length-22 c = search needs
-
-same-length-23 : tie.Need-same-length-23
-same-length-23 c = search needs
-
-same-length-24 : tie.Need-same-length-24
-same-length-24 c = search needs
-
 returns-5 : tie.Need-returns-5
 returns-5 c =
-    let a = c .before .before .before .before .before .before .before .before .before .before .before .before .before .before .before .before .before .before .before .before .before .before .before .before .args in
-    let p = c .before .before .before .before .before .before .before .before .before .before .before .before .before .before .before .before .before .before .before .before .before .before .before .before .pre in
+    let a = c .before .before .before .before .before .before .before .before .before .before .before .before .before .before .before .before .before .before .before .before .before .before .args in
     λ a₀ b₀ T. c .before .before .before .before .before .before .plain-order .ensures (now (a .s)) a₀ b₀ (now (a .rules)) T
 
 pub answer-order-spec : {M : Type 1} → statement M
@@ -147,33 +102,23 @@ answer-order-spec =
     same-length
     same-length-2
     same-length-3
-    same-length-4
-    same-length-5
     returns
     defer-order-requires
+    same-length-4
+    same-length-5
+    returns-2
+    pair-order-requires
     same-length-6
     same-length-7
     same-length-8
+    returns-3
+    resolve-order-requires
     same-length-9
-    returns-2
-    pair-order-requires
     same-length-10
     same-length-11
+    returns-4
+    plain-order-requires
     same-length-12
     same-length-13
     same-length-14
-    returns-3
-    resolve-order-requires
-    same-length-15
-    same-length-16
-    same-length-17
-    same-length-18
-    same-length-19
-    returns-4
-    plain-order-requires
-    same-length-20
-    same-length-21
-    same-length-22
-    same-length-23
-    same-length-24
     returns-5)

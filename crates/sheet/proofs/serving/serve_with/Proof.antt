@@ -65,22 +65,33 @@ answer-order-requires c κs =
     let n = ap (λ (x : Standing). x .nodes) S in
     ((now (a .a), now (a .b), record { ready = p .0; whole = W; within = omega (arith, n, c .before .before .before .before .before .before .if1 .left) }), (omega (arith, m .kept .1 .1 .1 .0, p .1 .0 .1), record { inside = p .1 .1 .1; short = p .1 .1 .2 }))
 
+standing-requires-2 : tie.Need-standing-requires-2
+standing-requires-2 c κs = search needs
+
+clear-order-requires-2 : tie.Need-clear-order-requires-2
+clear-order-requires-2 c κs =
+    let a = c .before .before .before .before .before .before .before .before .before .before .before .before .before .before .before .before .before .before .before .before .before .before .before .before .before .before .before .before .before .before .before .before .before .before .before .before .before .before .before .before .before .args in
+    let p = c .before .before .before .before .before .before .before .before .before .before .before .before .before .before .before .before .before .before .before .before .before .before .before .before .before .before .before .before .before .before .before .before .before .before .before .before .before .before .before .before .before .pre in
+    let m = c .before .before .before .before .before .before .before .before .before .before .before .before .before .before .before .before .before .before .before .before .before .before .before .before .before .before .before .before .before .read-order in
+    let S = c .before .before .before .before .before .before .before .before .before .before .before .before .before .before .before .before .before .before .before .before .before .before .before .before .before .before .before .before .before .before .before .before .before .standing .ensures in
+    let W = rw (S, c .before .before .before .before .before .before .before .before .before .before .before .before .before .before .before .before .before .before .before .before .before .r .given .1) at (m .ensures) in
+    let n = ap (λ (x : Standing). x .nodes) S in
+    let A = c .before .before .before .before .before .before .before .before .before .before .answer-order .ensures (now (a .a)) (now (a .b)) (record { ready = p .0; whole = W; within = omega (arith, n, c .before .before .before .before .before .before .before .before .before .before .before .before .before .before .before .before .before .if1 .left) }) in
+    rw (c .before .before .standing2 .ensures) (A .inside)
+
 enum-known-r-2 : tie.Need-enum-known-r-2
 enum-known-r-2 c = search needs
 
 refused-requires-2 : tie.Need-refused-requires-2
-refused-requires-2 c κs =
-    let a = c .before .before .before .before .before .before .before .before .before .before .before .before .before .before .before .before .before .before .before .before .before .before .args in
-    let p = c .before .before .before .before .before .before .before .before .before .before .before .before .before .before .before .before .before .before .before .before .before .before .pre in
-    record { inside = p .1 .1 .1; short = p .1 .1 .2 }
+refused-requires-2 c κs = search needs
 
 same-length-5 : tie.Need-same-length-5
 same-length-5 c =
-    c .before .before .before .before .before .before .before .before .before .before .answer-order .kept .1 .1 .1 .0 ∙ c .before .before .before .before .before .before .before .before .before .before .before .before .before .before .before .before .before .before .before .before .before .before .before .before .before .before .before .before .before .read-order .kept .1 .0
+    c .before .before .before .before .clear-order2 .kept .0 ∙ c .before .before .before .before .before .before .before .before .before .before .before .before .before .before .before .before .before .before .before .before .before .before .before .before .before .before .before .before .before .before .before .before .before .before .read-order .kept .1 .0
 
 same-length-6 : tie.Need-same-length-6
 same-length-6 c =
-    c .before .before .before .before .before .before .before .before .before .before .answer-order .kept .1 .1 .1 .1 .0 ∙ c .before .before .before .before .before .before .before .before .before .before .before .before .before .before .before .before .before .before .before .before .before .before .before .before .before .before .before .before .before .read-order .kept .1 .1 .0
+    c .before .before .before .before .clear-order2 .kept .1 .0 ∙ c .before .before .before .before .before .before .before .before .before .before .before .before .before .before .before .before .before .before .before .before .before .before .before .before .before .before .before .before .before .before .before .before .before .before .read-order .kept .1 .1 .0
 
 same-length-7 : tie.Need-same-length-7
 same-length-7 c = search needs
@@ -90,20 +101,21 @@ same-length-8 c = search needs
 
 same-length-9 : tie.Need-same-length-9
 same-length-9 c =
-    c .before .before .before .before .before .before .before .before .before .before .before .before .before .before .before .before .before .before .before .before .before .before .before .before .before .before .before .before .before .read-order .kept .1 .1 .1 .0
+    c .before .before .before .before .before .before .before .before .before .before .before .before .before .before .before .before .before .before .before .before .before .before .before .before .before .before .before .before .before .before .before .before .before .before .read-order .kept .1 .1 .1 .0
 
 same-length-10 : tie.Need-same-length-10
 same-length-10 c = search needs
 
 returns-2 : tie.Need-returns-2
 returns-2 c =
-    let a = c .before .before .before .before .before .before .before .before .before .before .before .before .before .before .before .before .before .before .before .before .before .before .before .before .before .before .before .before .before .before .before .before .before .before .before .before .before .before .before .before .before .args in
-    let p = c .before .before .before .before .before .before .before .before .before .before .before .before .before .before .before .before .before .before .before .before .before .before .before .before .before .before .before .before .before .before .before .before .before .before .before .before .before .before .before .before .before .pre in
-    let m = c .before .before .before .before .before .before .before .before .before .before .before .before .before .before .before .before .before .before .before .before .before .before .before .before .before .before .before .before .before .read-order in
-    let S = c .before .before .before .before .before .before .before .before .before .before .before .before .before .before .before .before .before .before .before .before .before .before .before .before .before .before .before .before .before .before .before .before .before .standing .ensures in
-    let W = rw (S, c .before .before .before .before .before .before .before .before .before .before .before .before .before .before .before .before .before .before .before .before .before .r .given .1) at (m .ensures) in
+    let a = c .before .before .before .before .before .before .before .before .before .before .before .before .before .before .before .before .before .before .before .before .before .before .before .before .before .before .before .before .before .before .before .before .before .before .before .before .before .before .before .before .before .before .before .before .before .before .args in
+    let p = c .before .before .before .before .before .before .before .before .before .before .before .before .before .before .before .before .before .before .before .before .before .before .before .before .before .before .before .before .before .before .before .before .before .before .before .before .before .before .before .before .before .before .before .before .before .before .pre in
+    let m = c .before .before .before .before .before .before .before .before .before .before .before .before .before .before .before .before .before .before .before .before .before .before .before .before .before .before .before .before .before .before .before .before .before .before .read-order in
+    let S = c .before .before .before .before .before .before .before .before .before .before .before .before .before .before .before .before .before .before .before .before .before .before .before .before .before .before .before .before .before .before .before .before .before .before .before .before .before .before .standing .ensures in
+    let W = rw (S, c .before .before .before .before .before .before .before .before .before .before .before .before .before .before .before .before .before .before .before .before .before .before .before .before .before .before .r .given .1) at (m .ensures) in
     let n = ap (λ (x : Standing). x .nodes) S in
-    c .before .before .before .before .before .before .before .before .before .before .answer-order .ensures (now (a .a)) (now (a .b)) (record { ready = p .0; whole = W; within = omega (arith, n, c .before .before .before .before .before .before .before .before .before .before .before .before .before .before .before .before .before .if1 .left) })
+    let A = c .before .before .before .before .before .before .before .before .before .before .before .before .before .before .before .answer-order .ensures (now (a .a)) (now (a .b)) (record { ready = p .0; whole = W; within = omega (arith, n, c .before .before .before .before .before .before .before .before .before .before .before .before .before .before .before .before .before .before .before .before .before .before .if1 .left) }) in
+    A .serves _ _ (rw (c .before .before .before .before .before .before .before .standing2 .ensures) at (c .before .before .before .before .clear-order2 .ensures))
 
 same-length-11 : tie.Need-same-length-11
 same-length-11 c = search needs
@@ -140,6 +152,8 @@ serve-with-spec =
     same-length-4
     returns
     answer-order-requires
+    standing-requires-2
+    clear-order-requires-2
     enum-known-r-2
     refused-requires-2
     same-length-5
