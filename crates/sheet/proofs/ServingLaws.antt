@@ -39,7 +39,7 @@ use Rattle.sheet.specs.Held.{HeldField}
 use Rattle.sheet.specs.Formed.{FormedField, FormedFields}
 use Rattle.sheet.specs.Given.{Fits}
 use Rattle.sheet.specs.Laid.{numeric, isOperation, Laid, fieldItems, allItems, spare, spares, spotAt, startAt}
-use Rattle.sheet.specs.Ordered.{RulesRoom, OrderRoom, WholeOrder}
+use Rattle.sheet.specs.Ordered.{RulesRoom, OrderRoom}
 use Rattle.sheet.specs.Written.{Framed}
 use Rattle.sheet.specs.Answering.{Among, numbersOf, Asks, Replies}
 use Rattle.sheet.specs.Lays.{Lays, Answers}
@@ -120,20 +120,6 @@ serves-refused x half s a₀ b₀ a b c d code e E out₀ to out r F z A Z =
     answers-at x half a₀ b₀ a b c d out z (orderOf (limitsOf x) z s) out₀ to r x E
     (step-as x half a₀ b₀ c d out z _ _ out₀ to r x st (answers-same x half a₀ b₀ c d z Z (refusal code) out₀ to out r F))
 
--- an order with too many nodes: its tokens are cleared again
-pub serves-crowded : (x : Solver) (half : ℕ) (s a₀ b₀ a b c d ws : List ℕ) (o : Order) → WholeOrder s (x .issued) (x .top) (x .kept) (x .nodes) (area a₀ b₀) (area a b) ws o
-    → x .nodes < o .nodes → (a′ b′ : List ℕ) → area a′ b′ ≡ blank (area a b) (x .top) (o .top - x .top)
-    → (out₀ : List ℕ) (to : ℕ) (out : List ℕ) (r : ℕ) → Framed (refusal 7) out₀ to out r → Serves x x half s a₀ b₀ c d a′ b′ c d out₀ to out r
-serves-crowded x half s a₀ b₀ a b c d ws o W h a′ b′ E out₀ to out r F z A Z =
-    let n : issued z ≡ x .issued = sym (Z .lent .issued) in
-    let st : orderOf (limitsOf x) z s ≡ step (limitsOf x) z (W .read .kind) (W .read .fields) =
-    ap (λ (q : Result Read). stepRead (limitsOf x) z q) (ap (λ (n : ℕ). readOrder s n) n ∙ W .is)
-    in
-    let formed = subst (λ (m : ℕ). FormedFields (rows.known (W .read .kind) m) (W .read .fields)) (Z .lent .issued) (W .formed) in
-    let seven = crowds (limitsOf x) z (o .kind) (W .read .kind) (W .kind) (Z .lent .fits .nodes) (W .read .fields) (W .fitting) formed (omega (arith, W .counts, Z .lent .kept)) in
-    answers-at x half a₀ b₀ a′ b′ c d out z (orderOf (limitsOf x) z s) out₀ to r x (E ∙ W .cleared)
-    (step-as x half a₀ b₀ c d out z _ _ out₀ to r x (st ∙ seven) (answers-same x half a₀ b₀ c d z Z (refusal 7) out₀ to out r F))
-
 -- ---- orders of numbers alone
 
 -- such an order tells the command that its number and its first two numbers name
@@ -181,12 +167,6 @@ module _ (x : Solver) (half : ℕ) (s a₀ b₀ a b c d ws : List ℕ) (o : Orde
   b-long : length b ≡ length a₀
   b-long = order-long s (x .issued) (x .top) (x .kept) (x .nodes) (area a₀ b₀) (area a b) ws o (T .whole) .1 ∙ T .ready .roomy .b-size
 
-  pub taken-a : o .top ≤ length a
-  taken-a = T .whole .fits (T .within)
-
-  pub taken-b : o .top ≤ length b
-  taken-b = omega (arith, taken-a, a-long, b-long)
-
   -- what the bytes say, on any session that the areas held
   step-is : (z : Session) → Lays x half a₀ b₀ c d z → orderOf (limitsOf x) z s ≡ step (limitsOf x) z (T .whole .read .kind) (T .whole .read .fields)
   step-is z Z = ap (λ (q : Result Read). stepRead (limitsOf x) z q) (ap (λ (n : ℕ). readOrder s n) (sym (Z .lent .issued)) ∙ T .whole .is)
@@ -202,6 +182,17 @@ module _ (x : Solver) (half : ℕ) (s a₀ b₀ a b c d ws : List ℕ) (o : Orde
             (E ∙ ap (λ (n : ℕ). blank (area a b) n (o .top - n)) e ∙ T .whole .cleared) (S z A Z);
       }
 
+  -- too many nodes
+  pub crowded : x .nodes < o .nodes → (out₀ : List ℕ) (to : ℕ) (out : List ℕ) (r : ℕ) → Framed (refusal 7) out₀ to out r → Answered x x half s a₀ b₀ a b c d o c d out₀ to out r
+  crowded h out₀ to out r F =
+      answered x refl c d out₀ to out r
+      (λ z A Z.
+      let k = T .whole .read .kind in
+      let fs = T .whole .read .fields in
+      let formed = subst (λ (m : ℕ). FormedFields (rows.known k m) fs) (Z .lent .issued) (T .whole .formed) in
+      let seven = crowds (limitsOf x) z (o .kind) k (T .whole .kind) (Z .lent .fits .nodes) fs (T .whole .fitting) formed (omega (arith, T .whole .counts, Z .lent .kept)) in
+      step-as x half a₀ b₀ c d out z _ _ out₀ to r x (step-is z Z ∙ seven) (answers-same x half a₀ b₀ c d z Z (refusal 7) out₀ to out r F))
+
   -- a command done on what is lent, other than order 4
   told : (k : Command) → ((z : Session) → Lays x half a₀ b₀ c d z → orderOf (limitsOf x) z s ≡ solve (limitsOf x) z k)
       → (y : Solver) (c′ d′ out₀ : List ℕ) (to : ℕ) (out : List ℕ) (r : ℕ) → take half c′ ≡ take half c → Zero d′
@@ -215,330 +206,337 @@ module _ (x : Solver) (half : ℕ) (s a₀ b₀ a b c d ws : List ℕ) (o : Orde
       step-as y half a₀ b₀ c′ d′ out z _ _ out₀ to r x (same z Z)
       (answers-does Z y c′ d′ _ out₀ to out r (D z A Z) (solve-kept (limitsOf x) z k) (subst (λ (l : List ℕ). Zero l) (sym front) (Z .front)) clear))
 
-  -- ---- orders 9 to 20
+  module _ (W : o .nodes ≤ x .nodes) where
+    pub taken-a : o .top ≤ length a
+    taken-a = T .whole .fits W
 
-  pub taken-lends : Lends a b (take half c) d most
-  taken-lends =
-      let R = T .ready .roomy in
-      let L = T .ready .lays in
-      record {
-        pairs = omega (arith, a-long, b-long);
-        short = omega (arith, a-long, R .few);
-        heads = omega (arith, length-take-le half c taken-half, R .records);
-        kids = omega (arith, R .d-size, R .records, R .table);
-        heads-zero = record { is = λ i h. L .front i };
-        kids-zero = record { is = λ i h. L .work i };
-      }
+    pub taken-b : o .top ≤ length b
+    taken-b = omega (arith, taken-a, a-long, b-long)
 
-  pub taken-asks : true ≡ isOperation (rowIn table (o .kind)) → Asks a b s ws (numbersOf operations) o
-  taken-asks h =
-      record {
-        known = rows.known (T .whole .read .kind) (x .issued);
-        kind = T .whole .read .kind;
-        fields = T .whole .read .fields;
-        numbered = T .whole .kind;
-        given = record { held = T .whole .held (T .within); formed = T .whole .formed; fits = T .whole .fitting };
-        among = operations-among (o .kind) (T .whole .read .kind) (T .whole .kind) h;
-      }
+    -- ---- orders 9 to 20
 
-  pub operated : true ≡ isOperation (rowIn table (o .kind)) → (out₀ : List ℕ) (to : ℕ) (out : List ℕ) (r : ℕ) → Replies a b s ws o (λ y. Framed y out₀ to out r)
-      → (hs cs : List ℕ) → area hs cs ≡ area (take half c) d → Answered x x half s a₀ b₀ a b c d o (hs ++ drop half c) cs out₀ to out r
-  operated h out₀ to out r R hs cs e =
-      answered x refl (hs ++ drop half c) cs out₀ to out r
-      (λ z A Z.
-      let k = T .whole .read .kind in
-      let fs = T .whole .read .fields in
-      let F = R .says (rows.known k (x .issued)) k fs (T .whole .kind) (record { held = T .whole .held (T .within); formed = T .whole .formed; fits = T .whole .fitting }) in
-      let few : z .kept + allNodes fs ≤ x .nodes = omega (arith, T .whole .counts, T .within, Z .lent .kept) in
-      let st : orderOf (limitsOf x) z s ≡ record { session = z; answer = operation k fs } =
-      step-is z Z ∙ operation-step (limitsOf x) z (o .kind) k fs (T .whole .kind) h ∙ rw (le-ltb (x .nodes) (z .kept + allNodes fs) few) refl
-      in
-      let hc : hs ++ drop half c ≡ c = ap (λ (w : Area). w .kinds ++ drop half c) e ∙ take-append-drop half c in
-      let dc : cs ≡ d = ap (λ (w : Area). w .vals) e in
-      step-as x half a₀ b₀ (hs ++ drop half c) cs out z _ _ out₀ to r x st (rw (hc, dc) (answers-same x half a₀ b₀ c d z Z (operation k fs) out₀ to out r F)))
-
-  -- which order it is
-  kind-as : (n : ℕ) (r : Row) → o .kind ≡ n → rowIn table n ≡ some r → T .whole .read .kind ≡ r
-  kind-as n r e h = let f : some (T .whole .read .kind) ≡ some r = sym (T .whole .kind) ∙ ap (λ (m : ℕ). rowIn table m) e ∙ h in cc
-
-  -- ---- orders of numbers alone
-
-  module _ (P : Plainly (o .kind)) where
-    plain-numbers : numeric (layout (T .whole .read .kind)) ≡ true
-    plain-numbers = plain-act (o .kind) (T .whole .read .kind) (T .whole .kind) P .2
-
-    pub plain-kind : Among (0 ∷ 1 ∷ 2 ∷ 6 ∷ 7 ∷ 8 ∷ []) (o .kind)
-    plain-kind = plain-among (o .kind) (T .whole .read .kind) (T .whole .kind) P
-
-    plain-step : (z : Session) → Lays x half a₀ b₀ c d z
-        → orderOf (limitsOf x) z s ≡ solve (limitsOf x) z (plainCommand (o .kind) (numberAt 0 (T .whole .read .fields)) (numberAt 1 (T .whole .read .fields)))
-    plain-step z Z = step-is z Z ∙ plainly (o .kind) (T .whole .read .kind) (T .whole .kind) P (limitsOf x) z (T .whole .read .fields)
-
-    pub plain-first : (o .first .value ≡ numberOf (nth 0 (T .whole .read .fields))) × (o .first .value ≤ 4294967295)
-    plain-first =
-        let e = numbers-are (layout (T .whole .read .kind)) (T .whole .read .fields) plain-numbers (T .whole .fitting) 0 in
-        number-spot a b s ws (o .first) (nth 0 (T .whole .read .fields)) (rows.known (T .whole .read .kind) (x .issued)) (e .0) (e .1) (T .whole .held (T .within) .first)
-        (nth-formed (rows.known (T .whole .read .kind) (x .issued)) (T .whole .read .fields) 0 (T .whole .formed))
-
-    pub plain-second : (o .second .value ≡ numberOf (nth 1 (T .whole .read .fields))) × (o .second .value ≤ 4294967295)
-    plain-second =
-        let e = numbers-are (layout (T .whole .read .kind)) (T .whole .read .fields) plain-numbers (T .whole .fitting) 1 in
-        number-spot a b s ws (o .second) (nth 1 (T .whole .read .fields)) (rows.known (T .whole .read .kind) (x .issued)) (e .0) (e .1) (T .whole .held (T .within) .second)
-        (nth-formed (rows.known (T .whole .read .kind) (x .issued)) (T .whole .read .fields) 1 (T .whole .formed))
-
-    pub plain-code : o .kind ≡ 1 → o .second .value < 32
-    unfolding layout rowIn table sessionOrders
-    plain-code h =
-        let k = kind-as 1 rows.number-variable h refl in
-        let g = second-code (T .whole .read .fields) (subst (λ (r : Row). Fits (layout r) (T .whole .read .fields)) k (T .whole .fitting)) in
-        omega (arith, plain-second .0)
-
-    -- it has no tokens
-    no-items : allItems (T .whole .read .fields) ≡ []
-    no-items = numbers-none (layout (T .whole .read .kind)) (T .whole .read .fields) plain-numbers (T .whole .fitting) .1
-
-    plain-top : o .top ≡ x .top
-    plain-top = omega (arith, T .whole .tokens, ap length no-items)
-
-    plain-areas : area (take (o .top) a) (take (o .top) b) ≡ area (take (x .top) a₀) (take (x .top) b₀)
-    plain-areas = ap (λ (n : ℕ). area (take n a) (take n b)) plain-top ∙ T .whole .same
-
-    pub plain-lent : (z : Session) → Lays x half a₀ b₀ c d z → Lent x (take (o .top) a) (take (o .top) b) (drop half c) z
-    plain-lent z Z = subst (λ (w : Area). Lent x (w .kinds) (w .vals) (drop half c) z) (sym plain-areas) (Z .lent)
-
-    pub plain-answered : (i j : ℕ) → i ≡ o .first .value → j ≡ o .second .value
-        → (y : Solver) (c′ d′ out₀ : List ℕ) (to : ℕ) (out : List ℕ) (r : ℕ) → take half c′ ≡ take half c → Zero d′
-        → ((z : Session) → Arises (limitsOf x) loose z → Lent x (take (o .top) a) (take (o .top) b) (drop half c) z
-        → Does x y (take (o .top) a) (take (o .top) b) (drop half c) (drop half c′) z (solve (limitsOf x) z (plainCommand (o .kind) i j)) out₀ to out r)
-        → Answered x y half s a₀ b₀ a b c d o c′ d′ out₀ to out r
-    plain-answered i j ei ej y c′ d′ out₀ to out r front clear D =
-        told (plainCommand (o .kind) i j) (λ z Z. plain-step z Z ∙ rw (ei, ej, plain-first .0, plain-second .0) refl) y c′ d′ out₀ to out r front clear
-        (λ z A Z.
-        subst (λ (w : Area). Does x y (w .kinds) (w .vals) (drop half c) (drop half c′) z (solve (limitsOf x) z (plainCommand (o .kind) i j)) out₀ to out r) plain-areas
-        (D z A (plain-lent z Z)))
-
-  -- ---- orders 3, 4 and 5
-
-  cut-a : take (x .top) (take (o .top) a) ≡ take (x .top) a₀
-  cut-a = take-take (x .top) (o .top) a taken-after ∙ ap (λ (w : Area). w .kinds) (T .whole .same)
-
-  cut-b : take (x .top) (take (o .top) b) ≡ take (x .top) b₀
-  cut-b = take-take (x .top) (o .top) b taken-after ∙ ap (λ (w : Area). w .vals) (T .whole .same)
-
-  long-a : length (take (o .top) a) ≡ o .top
-  long-a = length-take-le (o .top) a taken-a
-
-  long-b : length (take (o .top) b) ≡ o .top
-  long-b = length-take-le (o .top) b taken-b
-
-  behind : (z : Session) → Arises (limitsOf x) loose z → Lays x half a₀ b₀ c d z → Behind loose x (take (o .top) a) (take (o .top) b) (drop half c) z
-  behind z A Z =
-      record {
-        codes = loose-codes;
-        arises = A;
-        lent = rw (cut-a, cut-b) (Z .lent);
-        inside = omega (arith, long-a, taken-after);
-        pairs = long-b ∙ sym long-a;
-        short = omega (arith, long-a, T .whole .small);
-      }
-
-  abbrev fs : List Field
-  fs = T .whole .read .fields
-
-  module _ (t : Term) (is : fs ≡ tree t ∷ []) (all : rows.known (T .whole .read .kind) (x .issued) ≡ x .issued) where
-    one-items : allItems fs ≡ items t
-    unfolding allItems fieldItems
-    one-items = ap allItems is ∙ append-nil (items t)
-
-    one-size : allNodes fs ≡ size t
-    unfolding allNodes nodes
-    one-size = omega (arith, ap allNodes is)
-
-    one-below : AllVars (λ v. v < x .issued) t
-    unfolding FormedFields
-    one-below =
-        let g = subst (λ (l : List Field). FormedFields (rows.known (T .whole .read .kind) (x .issued)) l) is (T .whole .formed) in
-        subst (λ (n : ℕ). AllVars (λ v. v < n) t) all (g .0 .below)
-
-    pub poses : (z : Session) → Arises (limitsOf x) loose z → Lays x half a₀ b₀ c d z → Poses loose x (take (o .top) a) (take (o .top) b) (drop half c) z t
-    poses z A Z =
-        let n : length (allItems fs) ≡ length (items t) = ap length one-items in
+    pub taken-lends : Lends a b (take half c) d most
+    taken-lends =
+        let R = T .ready .roomy in
+        let L = T .ready .lays in
         record {
-          behind = behind z A Z;
-          held =
-              held-cut a b (o .top) (x .top) t taken-a (omega (arith, T .whole .tokens, n))
-              (record { tokens = subst (λ (l : List Item). toks a b (x .top) (length l) ≡ l) one-items (T .whole .run (T .within)); within = omega (arith, T .whole .tokens, n, taken-a) });
-          within = subst (λ (n : ℕ). AllVars (λ v. v < n) t) (Z .lent .issued) one-below;
-          few = omega (arith, T .whole .counts, T .within, Z .lent .kept, one-size);
+          pairs = omega (arith, a-long, b-long);
+          short = omega (arith, a-long, R .few);
+          heads = omega (arith, length-take-le half c taken-half, R .records);
+          kids = omega (arith, R .d-size, R .records, R .table);
+          heads-zero = record { is = λ i h. L .front i };
+          kids-zero = record { is = λ i h. L .work i };
         }
 
-    pub posed : (k : Command) → ((z : Session) → Lays x half a₀ b₀ c d z → orderOf (limitsOf x) z s ≡ solve (limitsOf x) z k)
-        → (y : Solver) (c′ d′ out₀ : List ℕ) (to : ℕ) (out : List ℕ) (r : ℕ) → take half c′ ≡ take half c → Zero d′
-        → ((z : Session) → Poses loose x (take (o .top) a) (take (o .top) b) (drop half c) z t
-        → Does x y (take (x .top) (take (o .top) a)) (take (x .top) (take (o .top) b)) (drop half c) (drop half c′) z (solve (limitsOf x) z k) out₀ to out r)
-        → Answered x y half s a₀ b₀ a b c d o c′ d′ out₀ to out r
-    posed k same y c′ d′ out₀ to out r front clear D =
-        told k same y c′ d′ out₀ to out r front clear (λ z A Z. rw (cut-a, cut-b) at (D z (poses z A Z)))
+    pub taken-asks : true ≡ isOperation (rowIn table (o .kind)) → Asks a b s ws (numbersOf operations) o
+    taken-asks h =
+        record {
+          known = rows.known (T .whole .read .kind) (x .issued);
+          kind = T .whole .read .kind;
+          fields = T .whole .read .fields;
+          numbered = T .whole .kind;
+          given = record { held = T .whole .held W; formed = T .whole .formed; fits = T .whole .fitting };
+          among = operations-among (o .kind) (T .whole .read .kind) (T .whole .kind) h;
+        }
 
-  -- order 3
-  pub defer-term : o .kind ≡ 3 → (t : Term) × (fs ≡ tree t ∷ [])
-  unfolding layout rowIn table sessionOrders
-  defer-term h = one-term fs (subst (λ (r : Row). Fits (layout r) fs) (kind-as 3 rows.defer-never h refl) (T .whole .fitting))
+    pub operated : true ≡ isOperation (rowIn table (o .kind)) → (out₀ : List ℕ) (to : ℕ) (out : List ℕ) (r : ℕ) → Replies a b s ws o (λ y. Framed y out₀ to out r)
+        → (hs cs : List ℕ) → area hs cs ≡ area (take half c) d → Answered x x half s a₀ b₀ a b c d o (hs ++ drop half c) cs out₀ to out r
+    operated h out₀ to out r R hs cs e =
+        answered x refl (hs ++ drop half c) cs out₀ to out r
+        (λ z A Z.
+        let k = T .whole .read .kind in
+        let fs = T .whole .read .fields in
+        let F = R .says (rows.known k (x .issued)) k fs (T .whole .kind) (record { held = T .whole .held W; formed = T .whole .formed; fits = T .whole .fitting }) in
+        let few : z .kept + allNodes fs ≤ x .nodes = omega (arith, T .whole .counts, W, Z .lent .kept) in
+        let st : orderOf (limitsOf x) z s ≡ record { session = z; answer = operation k fs } =
+        step-is z Z ∙ operation-step (limitsOf x) z (o .kind) k fs (T .whole .kind) h ∙ rw (le-ltb (x .nodes) (z .kept + allNodes fs) few) refl
+        in
+        let hc : hs ++ drop half c ≡ c = ap (λ (w : Area). w .kinds ++ drop half c) e ∙ take-append-drop half c in
+        let dc : cs ≡ d = ap (λ (w : Area). w .vals) e in
+        step-as x half a₀ b₀ (hs ++ drop half c) cs out z _ _ out₀ to r x st (rw (hc, dc) (answers-same x half a₀ b₀ c d z Z (operation k fs) out₀ to out r F)))
 
-  pub defer-known : o .kind ≡ 3 → rows.known (T .whole .read .kind) (x .issued) ≡ x .issued
-  unfolding rows.known rowIn table sessionOrders
-  defer-known h = rw (kind-as 3 rows.defer-never h refl) refl
+    -- which order it is
+    kind-as : (n : ℕ) (r : Row) → o .kind ≡ n → rowIn table n ≡ some r → T .whole .read .kind ≡ r
+    kind-as n r e h = let f : some (T .whole .read .kind) ≡ some r = sym (T .whole .kind) ∙ ap (λ (m : ℕ). rowIn table m) e ∙ h in cc
 
-  pub defer-step : (h : o .kind ≡ 3) (z : Session) → Lays x half a₀ b₀ c d z → (t : Term) → fs ≡ tree t ∷ [] → orderOf (limitsOf x) z s ≡ solve (limitsOf x) z (orders.defer t)
-  unfolding step nth termOf rowIn table sessionOrders
-  defer-step h z Z t e = step-is z Z ∙ rw (kind-as 3 rows.defer-never h refl, e) refl
+    -- ---- orders of numbers alone
 
-  -- order 5
-  pub resolve-term : o .kind ≡ 5 → (t : Term) × (fs ≡ tree t ∷ [])
-  unfolding layout rowIn table sessionOrders
-  resolve-term h = one-term fs (subst (λ (r : Row). Fits (layout r) fs) (kind-as 5 rows.resolve h refl) (T .whole .fitting))
+    module _ (P : Plainly (o .kind)) where
+      plain-numbers : numeric (layout (T .whole .read .kind)) ≡ true
+      plain-numbers = plain-act (o .kind) (T .whole .read .kind) (T .whole .kind) P .2
 
-  pub resolve-known : o .kind ≡ 5 → rows.known (T .whole .read .kind) (x .issued) ≡ x .issued
-  unfolding rows.known rowIn table sessionOrders
-  resolve-known h = rw (kind-as 5 rows.resolve h refl) refl
+      pub plain-kind : Among (0 ∷ 1 ∷ 2 ∷ 6 ∷ 7 ∷ 8 ∷ []) (o .kind)
+      plain-kind = plain-among (o .kind) (T .whole .read .kind) (T .whole .kind) P
 
-  pub resolve-step : (h : o .kind ≡ 5) (z : Session) → Lays x half a₀ b₀ c d z → (t : Term) → fs ≡ tree t ∷ [] → orderOf (limitsOf x) z s ≡ solve (limitsOf x) z (orders.resolving t)
-  unfolding step nth termOf rowIn table sessionOrders
-  resolve-step h z Z t e = step-is z Z ∙ rw (kind-as 5 rows.resolve h refl, e) refl
+      plain-step : (z : Session) → Lays x half a₀ b₀ c d z
+          → orderOf (limitsOf x) z s ≡ solve (limitsOf x) z (plainCommand (o .kind) (numberAt 0 (T .whole .read .fields)) (numberAt 1 (T .whole .read .fields)))
+      plain-step z Z = step-is z Z ∙ plainly (o .kind) (T .whole .read .kind) (T .whole .kind) P (limitsOf x) z (T .whole .read .fields)
 
-  -- order 4
-  module _ (h : o .kind ≡ 4) where
-    kind-pair : T .whole .read .kind ≡ rows.constrain
-    unfolding rowIn table sessionOrders
-    kind-pair = kind-as 4 rows.constrain h refl
+      pub plain-first : (o .first .value ≡ numberOf (nth 0 (T .whole .read .fields))) × (o .first .value ≤ 4294967295)
+      plain-first =
+          let e = numbers-are (layout (T .whole .read .kind)) (T .whole .read .fields) plain-numbers (T .whole .fitting) 0 in
+          number-spot a b s ws (o .first) (nth 0 (T .whole .read .fields)) (rows.known (T .whole .read .kind) (x .issued)) (e .0) (e .1) (T .whole .held W .first)
+          (nth-formed (rows.known (T .whole .read .kind) (x .issued)) (T .whole .read .fields) 0 (T .whole .formed))
 
-    pub pair-terms : (n : ℕ) × (t : Term) × (u : Term) × (fs ≡ value n ∷ tree t ∷ tree u ∷ [])
-    unfolding layout
-    pair-terms = two-terms fs (subst (λ (r : Row). Fits (layout r) fs) kind-pair (T .whole .fitting))
+      pub plain-second : (o .second .value ≡ numberOf (nth 1 (T .whole .read .fields))) × (o .second .value ≤ 4294967295)
+      plain-second =
+          let e = numbers-are (layout (T .whole .read .kind)) (T .whole .read .fields) plain-numbers (T .whole .fitting) 1 in
+          number-spot a b s ws (o .second) (nth 1 (T .whole .read .fields)) (rows.known (T .whole .read .kind) (x .issued)) (e .0) (e .1) (T .whole .held W .second)
+          (nth-formed (rows.known (T .whole .read .kind) (x .issued)) (T .whole .read .fields) 1 (T .whole .formed))
 
-    module _ (n : ℕ) (t u : Term) (is : fs ≡ value n ∷ tree t ∷ tree u ∷ []) where
-      pair-items : allItems fs ≡ items t ++ items u
+      pub plain-code : o .kind ≡ 1 → o .second .value < 32
+      unfolding layout rowIn table sessionOrders
+      plain-code h =
+          let k = kind-as 1 rows.number-variable h refl in
+          let g = second-code (T .whole .read .fields) (subst (λ (r : Row). Fits (layout r) (T .whole .read .fields)) k (T .whole .fitting)) in
+          omega (arith, plain-second .0)
+
+      -- it has no tokens
+      no-items : allItems (T .whole .read .fields) ≡ []
+      no-items = numbers-none (layout (T .whole .read .kind)) (T .whole .read .fields) plain-numbers (T .whole .fitting) .1
+
+      plain-top : o .top ≡ x .top
+      plain-top = omega (arith, T .whole .tokens, ap length no-items)
+
+      plain-areas : area (take (o .top) a) (take (o .top) b) ≡ area (take (x .top) a₀) (take (x .top) b₀)
+      plain-areas = ap (λ (n : ℕ). area (take n a) (take n b)) plain-top ∙ T .whole .same
+
+      pub plain-lent : (z : Session) → Lays x half a₀ b₀ c d z → Lent x (take (o .top) a) (take (o .top) b) (drop half c) z
+      plain-lent z Z = subst (λ (w : Area). Lent x (w .kinds) (w .vals) (drop half c) z) (sym plain-areas) (Z .lent)
+
+      pub plain-answered : (i j : ℕ) → i ≡ o .first .value → j ≡ o .second .value
+          → (y : Solver) (c′ d′ out₀ : List ℕ) (to : ℕ) (out : List ℕ) (r : ℕ) → take half c′ ≡ take half c → Zero d′
+          → ((z : Session) → Arises (limitsOf x) loose z → Lent x (take (o .top) a) (take (o .top) b) (drop half c) z
+          → Does x y (take (o .top) a) (take (o .top) b) (drop half c) (drop half c′) z (solve (limitsOf x) z (plainCommand (o .kind) i j)) out₀ to out r)
+          → Answered x y half s a₀ b₀ a b c d o c′ d′ out₀ to out r
+      plain-answered i j ei ej y c′ d′ out₀ to out r front clear D =
+          told (plainCommand (o .kind) i j) (λ z Z. plain-step z Z ∙ rw (ei, ej, plain-first .0, plain-second .0) refl) y c′ d′ out₀ to out r front clear
+          (λ z A Z.
+          subst (λ (w : Area). Does x y (w .kinds) (w .vals) (drop half c) (drop half c′) z (solve (limitsOf x) z (plainCommand (o .kind) i j)) out₀ to out r) plain-areas
+          (D z A (plain-lent z Z)))
+
+    -- ---- orders 3, 4 and 5
+
+    cut-a : take (x .top) (take (o .top) a) ≡ take (x .top) a₀
+    cut-a = take-take (x .top) (o .top) a taken-after ∙ ap (λ (w : Area). w .kinds) (T .whole .same)
+
+    cut-b : take (x .top) (take (o .top) b) ≡ take (x .top) b₀
+    cut-b = take-take (x .top) (o .top) b taken-after ∙ ap (λ (w : Area). w .vals) (T .whole .same)
+
+    long-a : length (take (o .top) a) ≡ o .top
+    long-a = length-take-le (o .top) a taken-a
+
+    long-b : length (take (o .top) b) ≡ o .top
+    long-b = length-take-le (o .top) b taken-b
+
+    behind : (z : Session) → Arises (limitsOf x) loose z → Lays x half a₀ b₀ c d z → Behind loose x (take (o .top) a) (take (o .top) b) (drop half c) z
+    behind z A Z =
+        record {
+          codes = loose-codes;
+          arises = A;
+          lent = rw (cut-a, cut-b) (Z .lent);
+          inside = omega (arith, long-a, taken-after);
+          pairs = long-b ∙ sym long-a;
+          short = omega (arith, long-a, T .whole .small);
+        }
+
+    abbrev fs : List Field
+    fs = T .whole .read .fields
+
+    module _ (t : Term) (is : fs ≡ tree t ∷ []) (all : rows.known (T .whole .read .kind) (x .issued) ≡ x .issued) where
+      one-items : allItems fs ≡ items t
       unfolding allItems fieldItems
-      pair-items = ap allItems is ∙ ap (λ (l : List Item). items t ++ l) (append-nil (items u))
+      one-items = ap allItems is ∙ append-nil (items t)
 
-      pair-size : allNodes fs ≡ size t + size u
+      one-size : allNodes fs ≡ size t
       unfolding allNodes nodes
-      pair-size = omega (arith, ap allNodes is)
+      one-size = omega (arith, ap allNodes is)
 
-      pair-formed : FormedFields (x .issued) (value n ∷ tree t ∷ tree u ∷ [])
-      unfolding rows.known
-      pair-formed =
-          subst (λ (l : List Field). FormedFields (x .issued) l) is
-          (subst (λ (r : Row). FormedFields (rows.known r (x .issued)) fs) kind-pair (T .whole .formed))
-
-      pub pair-k : (o .first .value ≡ n) × (n ≤ 4294967295)
-      unfolding spotAt nth FormedFields
-      pair-k = (subst (λ (l : List Field). Laid s ws (startAt (x .top) 0 l) (spotAt 0 o) (nth 0 l)) is (T .whole .spots 0 (omega arith)), pair-formed .0)
-
-      pair-place : o .third .place ≡ x .top + length (items t)
-      unfolding spotAt nth startAt fieldItems
-      pair-place = let p : o .third .place ≡ x .top + 0 + length (items t) = subst (λ (l : List Field). Laid s ws (startAt (x .top) 2 l) (spotAt 2 o) (nth 2 l)) is (T .whole .spots 2 (omega arith)) in omega arith
-
-      pair-top : o .top ≡ x .top + length (items t) + length (items u)
-      pair-top = omega (arith, T .whole .tokens, ap length pair-items, length-append (items t) (items u))
-
-      pair-row : HeldParts a b (x .top) (o .top) (sub t (sub u end))
-      pair-row = use-laws.pair-row s (x .issued) (x .top) (x .kept) (x .nodes) (area a₀ b₀) (area a b) ws o (T .whole) (T .within) n t u is
-
-      pub poses-pair : (z : Session) → Arises (limitsOf x) loose z → Lays x half a₀ b₀ c d z
-          → PosesPair loose x (take (o .top) a) (take (o .top) b) (drop half c) z (o .third .place) t u
+      one-below : AllVars (λ v. v < x .issued) t
       unfolding FormedFields
-      poses-pair z A Z =
-          let l = held-sub a b (x .top) (o .top) t (sub u end) pair-row in
-          let r = held-sub a b (x .top + length (items t)) (o .top) u end (l .1) in
+      one-below =
+          let g = subst (λ (l : List Field). FormedFields (rows.known (T .whole .read .kind) (x .issued)) l) is (T .whole .formed) in
+          subst (λ (n : ℕ). AllVars (λ v. v < n) t) all (g .0 .below)
+
+      pub poses : (z : Session) → Arises (limitsOf x) loose z → Lays x half a₀ b₀ c d z → Poses loose x (take (o .top) a) (take (o .top) b) (drop half c) z t
+      poses z A Z =
+          let n : length (allItems fs) ≡ length (items t) = ap length one-items in
           record {
             behind = behind z A Z;
-            left = held-cut a b (o .top) (x .top) t taken-a (omega (arith, pair-top)) (l .0);
-            right = held-cut a b (o .top) (x .top + length (items t)) u taken-a (omega (arith, pair-top)) (r .0);
-            all = long-a ∙ pair-top;
-            place = pair-place;
-            within-left = subst (λ (n : ℕ). AllVars (λ v. v < n) t) (Z .lent .issued) (pair-formed .1 .0 .below);
-            within-right = subst (λ (n : ℕ). AllVars (λ v. v < n) u) (Z .lent .issued) (pair-formed .1 .1 .0 .below);
-            few = omega (arith, T .whole .counts, T .within, Z .lent .kept, pair-size);
+            held =
+                held-cut a b (o .top) (x .top) t taken-a (omega (arith, T .whole .tokens, n))
+                (record { tokens = subst (λ (l : List Item). toks a b (x .top) (length l) ≡ l) one-items (T .whole .run W); within = omega (arith, T .whole .tokens, n, taken-a) });
+            within = subst (λ (n : ℕ). AllVars (λ v. v < n) t) (Z .lent .issued) one-below;
+            few = omega (arith, T .whole .counts, W, Z .lent .kept, one-size);
           }
 
-      pub pair-nodes : (z : Session) → Lays x half a₀ b₀ c d z → o .nodes ≡ z .kept + (size t + size u)
-      pair-nodes z Z = omega (arith, T .whole .counts, Z .lent .kept, pair-size)
+      pub posed : (k : Command) → ((z : Session) → Lays x half a₀ b₀ c d z → orderOf (limitsOf x) z s ≡ solve (limitsOf x) z k)
+          → (y : Solver) (c′ d′ out₀ : List ℕ) (to : ℕ) (out : List ℕ) (r : ℕ) → take half c′ ≡ take half c → Zero d′
+          → ((z : Session) → Poses loose x (take (o .top) a) (take (o .top) b) (drop half c) z t
+          → Does x y (take (x .top) (take (o .top) a)) (take (x .top) (take (o .top) b)) (drop half c) (drop half c′) z (solve (limitsOf x) z k) out₀ to out r)
+          → Answered x y half s a₀ b₀ a b c d o c′ d′ out₀ to out r
+      posed k same y c′ d′ out₀ to out r front clear D =
+          told k same y c′ d′ out₀ to out r front clear (λ z A Z. rw (cut-a, cut-b) at (D z (poses z A Z)))
 
-      pair-step : (z : Session) → Lays x half a₀ b₀ c d z → orderOf (limitsOf x) z s ≡ solve (limitsOf x) z (orders.pair n t u)
-      unfolding step nth termOf numberOf
-      pair-step z Z = step-is z Z ∙ rw (kind-pair, is) refl
+    -- order 3
+    pub defer-term : o .kind ≡ 3 → (t : Term) × (fs ≡ tree t ∷ [])
+    unfolding layout rowIn table sessionOrders
+    defer-term h = one-term fs (subst (λ (r : Row). Fits (layout r) fs) (kind-as 3 rows.defer-never h refl) (T .whole .fitting))
 
-      pair-few : o .top ≤ 64 + 6 * o .nodes
-      unfolding layout spares spare
-      pair-few =
-          let g : length (allItems fs) ≤ 6 * allNodes fs + 0 = subst (λ (r : Row). length (allItems fs) ≤ 6 * allNodes fs + spares (layout r)) kind-pair (T .whole .room) in
-          omega (arith, T .whole .tokens, T .whole .counts, T .ready .lays .few)
+    pub defer-known : o .kind ≡ 3 → rows.known (T .whole .read .kind) (x .issued) ≡ x .issued
+    unfolding rows.known rowIn table sessionOrders
+    defer-known h = rw (kind-as 3 rows.defer-never h refl) refl
 
-      pub pair-scratch : Scratch x (take (o .top) a) (drop half c) d
-      pair-scratch =
-          let R = T .ready .roomy in
-          record {
-            pairs = omega (arith, length-drop half c, R .table, R .c-size);
-            short = omega (arith, length-drop half c, R .few, R .c-size);
-            links = omega (arith, long-a, pair-few, T .within, R .links, R .d-size);
-            marks = omega (arith, R .marks, R .d-size);
-            clear = T .ready .lays .work;
-          }
+    pub defer-step : (h : o .kind ≡ 3) (z : Session) → Lays x half a₀ b₀ c d z → (t : Term) → fs ≡ tree t ∷ [] → orderOf (limitsOf x) z s ≡ solve (limitsOf x) z (orders.defer t)
+    unfolding step nth termOf rowIn table sessionOrders
+    defer-step h z Z t e = step-is z Z ∙ rw (kind-as 3 rows.defer-never h refl, e) refl
 
-      pub pair-blank : Zero (drop (pendingFrom x) (drop half c))
-      pair-blank = T .ready .lays .blank
+    -- order 5
+    pub resolve-term : o .kind ≡ 5 → (t : Term) × (fs ≡ tree t ∷ [])
+    unfolding layout rowIn table sessionOrders
+    resolve-term h = one-term fs (subst (λ (r : Row). Fits (layout r) fs) (kind-as 5 rows.resolve h refl) (T .whole .fitting))
 
-      pair-kept : (z : Session) → Arises (limitsOf x) loose z → Lays x half a₀ b₀ c d z → o .top ≤ 64 + 6 * solve (limitsOf x) z (orders.pair n t u) .session .kept
-      pair-kept z A Z =
-          let P = poses-pair z A Z in
-          let e = posing.pair-step (limitsOf x) z n t u (within-known z t (P .within-left)) (within-known z u (P .within-right)) (P .few) in
-          let k : solve (limitsOf x) z (orders.pair n t u) .session .kept ≡ z .kept + (size t + size u) = ap (λ (q : orders.Step). q .session .kept) e in
-          omega (arith, pair-few, pair-nodes z Z)
+    pub resolve-known : o .kind ≡ 5 → rows.known (T .whole .read .kind) (x .issued) ≡ x .issued
+    unfolding rows.known rowIn table sessionOrders
+    resolve-known h = rw (kind-as 5 rows.resolve h refl) refl
 
-      module _ (y : Solver) (c′ d′ out₀ : List ℕ) (to : ℕ) (out : List ℕ) (r : ℕ) (front : take half c′ ≡ take half c) (clear : Zero d′) (k : ℕ) (ek : k ≡ n)
-          (E : (z : Session) → PosesPair loose x (take (o .top) a) (take (o .top) b) (drop half c) z (o .third .place) t u → o .nodes ≡ z .kept + (size t + size u)
-          → DoesPair x y (take (o .top) a) (take (o .top) b) (drop half c) (drop half c′) z (solve (limitsOf x) z (orders.pair k t u)) out₀ to out r) where
-        does : (z : Session) → Arises (limitsOf x) loose z → Lays x half a₀ b₀ c d z
-            → DoesPair x y (take (o .top) a) (take (o .top) b) (drop half c) (drop half c′) z (solve (limitsOf x) z (orders.pair n t u)) out₀ to out r
-        does z A Z =
-            subst (λ (i : ℕ). DoesPair x y (take (o .top) a) (take (o .top) b) (drop half c) (drop half c′) z (solve (limitsOf x) z (orders.pair i t u)) out₀ to out r) ek
-            (E z (poses-pair z A Z) (pair-nodes z Z))
+    pub resolve-step : (h : o .kind ≡ 5) (z : Session) → Lays x half a₀ b₀ c d z → (t : Term) → fs ≡ tree t ∷ [] → orderOf (limitsOf x) z s ≡ solve (limitsOf x) z (orders.resolving t)
+    unfolding step nth termOf rowIn table sessionOrders
+    resolve-step h z Z t e = step-is z Z ∙ rw (kind-as 5 rows.resolve h refl, e) refl
 
-        zero-front : (z : Session) → Lays x half a₀ b₀ c d z → Zero (take half c′)
-        zero-front z Z = subst (λ (l : List ℕ). Zero l) (sym front) (Z .front)
+    -- order 4
+    module _ (h : o .kind ≡ 4) where
+      kind-pair : T .whole .read .kind ≡ rows.constrain
+      unfolding rowIn table sessionOrders
+      kind-pair = kind-as 4 rows.constrain h refl
 
-        abbrev past : Session → ℕ
-        past z = to + length (framed (solve (limitsOf x) z (orders.pair n t u) .answer))
+      pub pair-terms : (n : ℕ) × (t : Term) × (u : Term) × (fs ≡ value n ∷ tree t ∷ tree u ∷ [])
+      unfolding layout
+      pair-terms = two-terms fs (subst (λ (r : Row). Fits (layout r) fs) kind-pair (T .whole .fitting))
 
-        pair-inside : (z : Session) → DoesPair x y (take (o .top) a) (take (o .top) b) (drop half c) (drop half c′) z (solve (limitsOf x) z (orders.pair n t u)) out₀ to out r
-            → Dec (length out₀ < past z) → y .top ≤ o .top
-        pair-inside z D (yes l) = omega (arith, taken-after, ap (λ (v : Solver). v .top) (D .long l .0))
-        pair-inside z D (no l) = omega (arith, D .whole (omega arith) .top, long-a)
+      module _ (n : ℕ) (t u : Term) (is : fs ≡ value n ∷ tree t ∷ tree u ∷ []) where
+        pair-items : allItems fs ≡ items t ++ items u
+        unfolding allItems fieldItems
+        pair-items = ap allItems is ∙ ap (λ (l : List Item). items t ++ l) (append-nil (items u))
 
-        -- where it is answered all of its tokens are the session's; else none is, and they have been cleared
-        pair-serves : (z : Session) → Arises (limitsOf x) loose z → Lays x half a₀ b₀ c d z → (a′ b′ : List ℕ) → area a′ b′ ≡ blank (area a b) (y .top) (o .top - y .top)
-            → Dec (length out₀ < past z) → Answers y half a′ b′ c′ d′ out z (orderOf (limitsOf x) z s) out₀ to r x
-        pair-serves z A Z a′ b′ e (yes l) =
-            let D = does z A Z in
-            answers-at y half a₀ b₀ a′ b′ c′ d′ out z (orderOf (limitsOf x) z s) out₀ to r x
-            (e ∙ ap (λ (v : Solver). blank (area a b) (v .top) (o .top - v .top)) (D .long l .0) ∙ T .whole .cleared)
-            (step-as y half a₀ b₀ c′ d′ out z _ _ out₀ to r x (pair-step z Z)
-            (unanswered-pair Z a b (o .top) taken-a (free-kinds (o .top) (area a b) (T .whole .free)) (free-vals (o .top) (area a b) (T .whole .free)) y c′ d′ _ out₀ to out r D
-            (omega (arith, D .answer .over l .0)) (zero-front z Z) clear))
-        pair-serves z A Z a′ b′ e (no l) =
-            let D = does z A Z in
-            let all : y .top ≡ o .top = D .whole (omega arith) .top ∙ long-a in
-            answers-at y half a b a′ b′ c′ d′ out z (orderOf (limitsOf x) z s) out₀ to r x
-            (e ∙ ap (λ (n : ℕ). blank (area a b) n (o .top - n)) all ∙ T .whole .free (o .top - o .top))
-            (step-as y half a b c′ d′ out z _ _ out₀ to r x (pair-step z Z)
-            (answers-pair Z a b (o .top) taken-a (free-kinds (o .top) (area a b) (T .whole .free)) (free-vals (o .top) (area a b) (T .whole .free)) y c′ d′ _ out₀ to out r D
-            (pair-kept z A Z) (omega (arith, D .answer .fits (omega arith) .0)) (zero-front z Z) clear))
+        pair-size : allNodes fs ≡ size t + size u
+        unfolding allNodes nodes
+        pair-size = omega (arith, ap allNodes is)
 
-        pub pair-answered : Answered x y half s a₀ b₀ a b c d o c′ d′ out₀ to out r
-        pair-answered =
-            let R = T .ready in
+        pair-formed : FormedFields (x .issued) (value n ∷ tree t ∷ tree u ∷ [])
+        unfolding rows.known
+        pair-formed =
+            subst (λ (l : List Field). FormedFields (x .issued) l) is
+            (subst (λ (r : Row). FormedFields (rows.known r (x .issued)) fs) kind-pair (T .whole .formed))
+
+        pub pair-k : (o .first .value ≡ n) × (n ≤ 4294967295)
+        unfolding spotAt nth FormedFields
+        pair-k = (subst (λ (l : List Field). Laid s ws (startAt (x .top) 0 l) (spotAt 0 o) (nth 0 l)) is (T .whole .spots 0 (omega arith)), pair-formed .0)
+
+        pair-place : o .third .place ≡ x .top + length (items t)
+        unfolding spotAt nth startAt fieldItems
+        pair-place = let p : o .third .place ≡ x .top + 0 + length (items t) = subst (λ (l : List Field). Laid s ws (startAt (x .top) 2 l) (spotAt 2 o) (nth 2 l)) is (T .whole .spots 2 (omega arith)) in omega arith
+
+        pair-top : o .top ≡ x .top + length (items t) + length (items u)
+        pair-top = omega (arith, T .whole .tokens, ap length pair-items, length-append (items t) (items u))
+
+        pair-row : HeldParts a b (x .top) (o .top) (sub t (sub u end))
+        pair-row = use-laws.pair-row s (x .issued) (x .top) (x .kept) (x .nodes) (area a₀ b₀) (area a b) ws o (T .whole) W n t u is
+
+        pub poses-pair : (z : Session) → Arises (limitsOf x) loose z → Lays x half a₀ b₀ c d z
+            → PosesPair loose x (take (o .top) a) (take (o .top) b) (drop half c) z (o .third .place) t u
+        unfolding FormedFields
+        poses-pair z A Z =
+            let l = held-sub a b (x .top) (o .top) t (sub u end) pair-row in
+            let r = held-sub a b (x .top + length (items t)) (o .top) u end (l .1) in
             record {
-              inside = pair-inside (R .session) (does (R .session) (R .arises) (R .lays)) (decLt (length out₀) (past (R .session)));
-              serves = λ a′ b′ e z A Z. pair-serves z A Z a′ b′ e (decLt (length out₀) (past z));
+              behind = behind z A Z;
+              left = held-cut a b (o .top) (x .top) t taken-a (omega (arith, pair-top)) (l .0);
+              right = held-cut a b (o .top) (x .top + length (items t)) u taken-a (omega (arith, pair-top)) (r .0);
+              all = long-a ∙ pair-top;
+              place = pair-place;
+              within-left = subst (λ (n : ℕ). AllVars (λ v. v < n) t) (Z .lent .issued) (pair-formed .1 .0 .below);
+              within-right = subst (λ (n : ℕ). AllVars (λ v. v < n) u) (Z .lent .issued) (pair-formed .1 .1 .0 .below);
+              few = omega (arith, T .whole .counts, W, Z .lent .kept, pair-size);
             }
+
+        pub pair-nodes : (z : Session) → Lays x half a₀ b₀ c d z → o .nodes ≡ z .kept + (size t + size u)
+        pair-nodes z Z = omega (arith, T .whole .counts, Z .lent .kept, pair-size)
+
+        pair-step : (z : Session) → Lays x half a₀ b₀ c d z → orderOf (limitsOf x) z s ≡ solve (limitsOf x) z (orders.pair n t u)
+        unfolding step nth termOf numberOf
+        pair-step z Z = step-is z Z ∙ rw (kind-pair, is) refl
+
+        pair-few : o .top ≤ 64 + 6 * o .nodes
+        unfolding layout spares spare
+        pair-few =
+            let g : length (allItems fs) ≤ 6 * allNodes fs + 0 = subst (λ (r : Row). length (allItems fs) ≤ 6 * allNodes fs + spares (layout r)) kind-pair (T .whole .room) in
+            omega (arith, T .whole .tokens, T .whole .counts, T .ready .lays .few)
+
+        pub pair-scratch : Scratch x (take (o .top) a) (drop half c) d
+        pair-scratch =
+            let R = T .ready .roomy in
+            record {
+              pairs = omega (arith, length-drop half c, R .table, R .c-size);
+              short = omega (arith, length-drop half c, R .few, R .c-size);
+              links = omega (arith, long-a, pair-few, W, R .links, R .d-size);
+              marks = omega (arith, R .marks, R .d-size);
+              clear = T .ready .lays .work;
+            }
+
+        pub pair-blank : Zero (drop (pendingFrom x) (drop half c))
+        pair-blank = T .ready .lays .blank
+
+        pair-kept : (z : Session) → Arises (limitsOf x) loose z → Lays x half a₀ b₀ c d z → o .top ≤ 64 + 6 * solve (limitsOf x) z (orders.pair n t u) .session .kept
+        pair-kept z A Z =
+            let P = poses-pair z A Z in
+            let e = posing.pair-step (limitsOf x) z n t u (within-known z t (P .within-left)) (within-known z u (P .within-right)) (P .few) in
+            let k : solve (limitsOf x) z (orders.pair n t u) .session .kept ≡ z .kept + (size t + size u) = ap (λ (q : orders.Step). q .session .kept) e in
+            omega (arith, pair-few, pair-nodes z Z)
+
+        module _ (y : Solver) (c′ d′ out₀ : List ℕ) (to : ℕ) (out : List ℕ) (r : ℕ) (front : take half c′ ≡ take half c) (clear : Zero d′) (k : ℕ) (ek : k ≡ n)
+            (E : (z : Session) → PosesPair loose x (take (o .top) a) (take (o .top) b) (drop half c) z (o .third .place) t u → o .nodes ≡ z .kept + (size t + size u)
+            → DoesPair x y (take (o .top) a) (take (o .top) b) (drop half c) (drop half c′) z (solve (limitsOf x) z (orders.pair k t u)) out₀ to out r) where
+          does : (z : Session) → Arises (limitsOf x) loose z → Lays x half a₀ b₀ c d z
+              → DoesPair x y (take (o .top) a) (take (o .top) b) (drop half c) (drop half c′) z (solve (limitsOf x) z (orders.pair n t u)) out₀ to out r
+          does z A Z =
+              subst (λ (i : ℕ). DoesPair x y (take (o .top) a) (take (o .top) b) (drop half c) (drop half c′) z (solve (limitsOf x) z (orders.pair i t u)) out₀ to out r) ek
+              (E z (poses-pair z A Z) (pair-nodes z Z))
+
+          zero-front : (z : Session) → Lays x half a₀ b₀ c d z → Zero (take half c′)
+          zero-front z Z = subst (λ (l : List ℕ). Zero l) (sym front) (Z .front)
+
+          abbrev past : Session → ℕ
+          past z = to + length (framed (solve (limitsOf x) z (orders.pair n t u) .answer))
+
+          pair-inside : (z : Session) → DoesPair x y (take (o .top) a) (take (o .top) b) (drop half c) (drop half c′) z (solve (limitsOf x) z (orders.pair n t u)) out₀ to out r
+              → Dec (length out₀ < past z) → y .top ≤ o .top
+          pair-inside z D (yes l) = omega (arith, taken-after, ap (λ (v : Solver). v .top) (D .long l .0))
+          pair-inside z D (no l) = omega (arith, D .whole (omega arith) .top, long-a)
+
+          -- where it is answered all of its tokens are the session's; else none is, and they have been cleared
+          pair-serves : (z : Session) → Arises (limitsOf x) loose z → Lays x half a₀ b₀ c d z → (a′ b′ : List ℕ) → area a′ b′ ≡ blank (area a b) (y .top) (o .top - y .top)
+              → Dec (length out₀ < past z) → Answers y half a′ b′ c′ d′ out z (orderOf (limitsOf x) z s) out₀ to r x
+          pair-serves z A Z a′ b′ e (yes l) =
+              let D = does z A Z in
+              answers-at y half a₀ b₀ a′ b′ c′ d′ out z (orderOf (limitsOf x) z s) out₀ to r x
+              (e ∙ ap (λ (v : Solver). blank (area a b) (v .top) (o .top - v .top)) (D .long l .0) ∙ T .whole .cleared)
+              (step-as y half a₀ b₀ c′ d′ out z _ _ out₀ to r x (pair-step z Z)
+              (unanswered-pair Z a b (o .top) taken-a (free-kinds (o .top) (area a b) (T .whole .free)) (free-vals (o .top) (area a b) (T .whole .free)) y c′ d′ _ out₀ to out r D
+              (omega (arith, D .answer .over l .0)) (zero-front z Z) clear))
+          pair-serves z A Z a′ b′ e (no l) =
+              let D = does z A Z in
+              let all : y .top ≡ o .top = D .whole (omega arith) .top ∙ long-a in
+              answers-at y half a b a′ b′ c′ d′ out z (orderOf (limitsOf x) z s) out₀ to r x
+              (e ∙ ap (λ (n : ℕ). blank (area a b) n (o .top - n)) all ∙ T .whole .free (o .top - o .top))
+              (step-as y half a b c′ d′ out z _ _ out₀ to r x (pair-step z Z)
+              (answers-pair Z a b (o .top) taken-a (free-kinds (o .top) (area a b) (T .whole .free)) (free-vals (o .top) (area a b) (T .whole .free)) y c′ d′ _ out₀ to out r D
+              (pair-kept z A Z) (omega (arith, D .answer .fits (omega arith) .0)) (zero-front z Z) clear))
+
+          pub pair-answered : Answered x y half s a₀ b₀ a b c d o c′ d′ out₀ to out r
+          pair-answered =
+              let R = T .ready in
+              record {
+                inside = pair-inside (R .session) (does (R .session) (R .arises) (R .lays)) (decLt (length out₀) (past (R .session)));
+                serves = λ a′ b′ e z A Z. pair-serves z A Z a′ b′ e (decLt (length out₀) (past z));
+              }

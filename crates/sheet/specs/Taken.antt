@@ -12,11 +12,10 @@ use Rattle.sheet.specs.Lays.{Lays, Served}
 use Rattle.sheet.specs.Ending.{Ready}
 use Rattle.sheet.specs.Ordered.{WholeOrder}
 
--- The areas a₀ and b₀ held a session; a and b have the tokens of the order s behind it, and ws the words of its rules. Its nodes are within the limit.
+-- The areas a₀ and b₀ held a session; a and b have the tokens of the order s behind it, and ws the words of its rules.
 pub record Taken (x : Solver) (half : ℕ) (s a₀ b₀ a b c d ws : List ℕ) (o : Order) : Type 0 where
   pub ready : Ready x half a₀ b₀ c d
   pub whole : WholeOrder s (x .issued) (x .top) (x .kept) (x .nodes) (area a₀ b₀) (area a b) ws o
-  pub within : o .nodes ≤ x .nodes
 
 -- the order s is answered, whatever the session is that the areas a₀, b₀, c and d held
 abbrev pub Serves : (x y : Solver) (half : ℕ) (s a₀ b₀ c d a b c′ d′ out₀ : List ℕ) (to : ℕ) (out : List ℕ) (r : ℕ) → Type 0

@@ -45,6 +45,7 @@ fn operate_order(
     to: usize,
 ) -> Reached
     requires taken { ⌜ ((a₀ b₀ : List ℕ) × Taken x half (now s) a₀ b₀ (now a) (now b) (now c) (now d) (now rules) o) ⌝ }
+    requires within { ⌜ o .nodes ≤ x .nodes ⌝ }
     requires kind { ⌜ true ≡ isOperation (rowIn table (o .kind)) ⌝ }
     requires words { ⌜ length (now rules) < 4294967296 ⌝ }
     requires room { ⌜ Room (now out) to ⌝ }
@@ -66,6 +67,7 @@ fn defer_order(
     to: usize,
 ) -> Reached
     requires taken { ⌜ ((s a₀ b₀ d ws : List ℕ) × Taken x half s a₀ b₀ (now a) (now b) (now c) d ws o) ⌝ }
+    requires within { ⌜ o .nodes ≤ x .nodes ⌝ }
     requires kind { ⌜ o .kind ≡ 3 ⌝ }
     requires room { ⌜ Room (now out) to ⌝ }
     ensures { λ r. ⌜ ((s a₀ b₀ d ws : List ℕ) → Taken x half s a₀ b₀ (now (a .entry)) (now (b .entry)) (now (c .entry)) d ws o → Answered x (r .solver) half s a₀ b₀ (now (a .entry)) (now (b .entry)) (now (c .entry)) d o (now (c .exit)) d (now (out .entry)) to (now (out .exit)) (r .next)) ⌝ }
@@ -87,6 +89,7 @@ fn resolve_order(
     to: usize,
 ) -> Reached
     requires taken { ⌜ ((s a₀ b₀ ws : List ℕ) × Taken x half s a₀ b₀ (now a) (now b) (now c) (now d) ws o) ⌝ }
+    requires within { ⌜ o .nodes ≤ x .nodes ⌝ }
     requires kind { ⌜ o .kind ≡ 5 ⌝ }
     requires room { ⌜ Room (now out) to ⌝ }
     ensures { λ r. ⌜ ((s a₀ b₀ ws : List ℕ) → Taken x half s a₀ b₀ (now (a .entry)) (now (b .entry)) (now (c .entry)) (now (d .entry)) ws o → Answered x (r .solver) half s a₀ b₀ (now (a .entry)) (now (b .entry)) (now (c .entry)) (now (d .entry)) o (now (c .entry)) (now (d .exit)) (now (out .entry)) to (now (out .exit)) (r .next)) ⌝ }
@@ -108,6 +111,7 @@ fn pair_order(
     to: usize,
 ) -> Reached
     requires taken { ⌜ ((s a₀ b₀ ws : List ℕ) × Taken x half s a₀ b₀ (now a) (now b) (now c) (now d) ws o) ⌝ }
+    requires within { ⌜ o .nodes ≤ x .nodes ⌝ }
     requires kind { ⌜ o .kind ≡ 4 ⌝ }
     requires room { ⌜ Room (now out) to ⌝ }
     ensures { λ r. ⌜ ((s a₀ b₀ ws : List ℕ) → Taken x half s a₀ b₀ (now (a .entry)) (now (b .entry)) (now (c .entry)) (now (d .entry)) ws o → Answered x (r .solver) half s a₀ b₀ (now (a .entry)) (now (b .entry)) (now (c .entry)) (now (d .entry)) o (now (c .exit)) (now (d .exit)) (now (out .entry)) to (now (out .exit)) (r .next)) ⌝ }
@@ -142,6 +146,7 @@ fn plain_order(
     to: usize,
 ) -> Reached
     requires taken { ⌜ ((s a₀ b₀ ws : List ℕ) × Taken x half s a₀ b₀ (now a) (now b) (now c) (now d) ws o) ⌝ }
+    requires within { ⌜ o .nodes ≤ x .nodes ⌝ }
     requires kind { ⌜ (false ≡ isOperation (rowIn table (o .kind))) × ((o .kind ≡ 3) → ⊥) × ((o .kind ≡ 4) → ⊥) × ((o .kind ≡ 5) → ⊥) ⌝ }
     requires room { ⌜ Room (now out) to ⌝ }
     ensures { λ r. ⌜ ((s a₀ b₀ ws : List ℕ) → Taken x half s a₀ b₀ (now (a .entry)) (now (b .entry)) (now (c .entry)) (now (d .entry)) ws o → Answered x (r .solver) half s a₀ b₀ (now (a .entry)) (now (b .entry)) (now (c .entry)) (now (d .entry)) o (now (c .exit)) (now (d .exit)) (now (out .entry)) to (now (out .exit)) (r .next)) ⌝ }
@@ -163,7 +168,7 @@ fn plain_order(
     )
 }
 
-// An order that was read, by its class.
+// An order that was read, by its class; refusal 7 where it has too many nodes.
 fn answer_order(
     x: Solver,
     half: usize,
@@ -182,6 +187,11 @@ fn answer_order(
     requires room { ⌜ Room (now out) to ⌝ }
     ensures { λ r. ⌜ ((a₀ b₀ : List ℕ) → Taken x half (now (s .entry)) a₀ b₀ (now (a .entry)) (now (b .entry)) (now (c .entry)) (now (d .entry)) (now (rules .entry)) o → Answered x (r .solver) half (now (s .entry)) a₀ b₀ (now (a .entry)) (now (b .entry)) (now (c .entry)) (now (d .entry)) o (now (c .exit)) (now (d .exit)) (now (out .entry)) to (now (out .exit)) (r .next)) ⌝ }
 {
+    let n = x.standing();
+    if n.nodes < o.nodes {
+        let next = refused(out, to, 7);
+        return Reached { solver: x, next };
+    }
     let k = o.kind;
     if is_operation(k) {
         return operate_order(x, half, s, a, b, c, d, rules, o, out, to);
@@ -220,11 +230,6 @@ fn serve_with(
     let r = read_order(s, a, b, rules, n.issued as u64, n.top, n.kept, n.nodes);
     match r {
         Reading::Whole(o) => {
-            if n.nodes < o.nodes {
-                clear_order(a, b, n.top, o);
-                let next = refused(out, to, 7);
-                return Reached { solver: x, next };
-            }
             let w = answer_order(x, half, s, a, b, c, d, rules, o, out, to);
             let y = w.solver;
             let m = y.standing();

@@ -20,7 +20,7 @@ operate-requires : tie.Need-operate-requires
 operate-requires c κs =
     let a = c .before .before .before .before .before .before .before .before .before .before .args in
     let p = c .before .before .before .before .before .before .before .before .before .before .pre in
-    (taken-lends (a .x) (a .half) (now (a .s)) _ _ (now (a .a)) (now (a .b)) (now (a .c)) (now (a .d)) (now (a .rules)) (a .o) (p .0 .2), (taken-asks (a .x) (a .half) (now (a .s)) _ _ (now (a .a)) (now (a .b)) (now (a .c)) (now (a .d)) (now (a .rules)) (a .o) (p .0 .2) (p .1 .0), (p .1 .1 .0, p .1 .1 .1)))
+    (taken-lends (a .x) (a .half) (now (a .s)) _ _ (now (a .a)) (now (a .b)) (now (a .c)) (now (a .d)) (now (a .rules)) (a .o) (p .0 .2) (p .1 .0), (taken-asks (a .x) (a .half) (now (a .s)) _ _ (now (a .a)) (now (a .b)) (now (a .c)) (now (a .d)) (now (a .rules)) (a .o) (p .0 .2) (p .1 .0) (p .1 .1 .0), p .1 .1 .1))
 
 same-length : tie.Need-same-length
 same-length c = search needs
@@ -36,7 +36,7 @@ returns c =
     let a = c .before .before .before .before .before .before .before .before .before .before .before .before .before .before .before .before .before .args in
     let p = c .before .before .before .before .before .before .before .before .before .before .before .before .before .before .before .before .before .pre in
     let e = c .before .before .before .before .before .before .operate .ensures in
-    λ a₀ b₀ T. operated (a .x) (a .half) (now (a .s)) a₀ b₀ (now (a .a)) (now (a .b)) (now (a .c)) (now (a .d)) (now (a .rules)) (a .o) T (p .1 .0) (now (a .out)) (a .to) _ _ (e .1) _ _ (e .0)
+    λ a₀ b₀ T. operated (a .x) (a .half) (now (a .s)) a₀ b₀ (now (a .a)) (now (a .b)) (now (a .c)) (now (a .d)) (now (a .rules)) (a .o) T (p .1 .0) (p .1 .1 .0) (now (a .out)) (a .to) _ _ (e .1) _ _ (e .0)
 
 pub operate-order-spec : {M : Type 1} → statement M
 operate-order-spec =
