@@ -21,7 +21,7 @@ use Rattle.solver.specs.Turning.{Scratch, pendingFrom}
 use Rattle.solver.specs.Lent.{Lent}
 use Rattle.solver.specs.Methods.{Beside}
 use Rattle.sheet.specs.Sheet.{Step, solve}
-use Rattle.sheet.specs.Lays.{Lays, Answers}
+use Rattle.sheet.specs.Lays.{areas, outputAt, Lays, Answers}
 use Rattle.sheet.specs.Ending.{Ready}
 use Rattle.solver.specs.Behind.{Poses, PosesPair, Frames}
 use Rattle.sheet.specs.Doing.{Does, DoesPair}
@@ -29,7 +29,7 @@ use Rattle.sheet.proofs.DoingLaws.{lent-revision}
 
 -- ---- room
 
-module _ (x : Solver) (half : ℕ) (a b c d : List ℕ) (R : Ready x half a b c d) where
+module _ (x : Solver) (half : ℕ) (a b c d : List ℕ) (R : Ready x half (areas a b c d)) where
   pub ready-half : half ≤ length c
   ready-half = omega (arith, R .roomy .c-size, R .roomy .table)
 
@@ -86,9 +86,9 @@ solve-kept lim z (orders.unread r) = omega arith
 -- ---- a session laid out again
 
 -- the tokens are those that there were, and so is what stands behind the columns
-module _ {x : Solver} {half : ℕ} {a b c d : List ℕ} {z : Session} (Z : Lays x half a b c d z) where
+module _ {x : Solver} {half : ℕ} {a b c d : List ℕ} {z : Session} (Z : Lays x half (areas a b c d) z) where
   pub lays-again : (y : Solver) (c′ d′ : List ℕ) (s : Session) → z .kept ≤ s .kept → Lent y (take (x .top) a) (take (x .top) b) (drop half c′) s
-      → Beside x y (drop half c) (drop half c′) → Zero (take half c′) → Zero d′ → Lays y half a b c′ d′ s
+      → Beside x y (drop half c) (drop half c′) → Zero (take half c′) → Zero d′ → Lays y half (areas a b c′ d′) s
   lays-again y c′ d′ s m L B f w =
       record {
         lent = subst (λ (n : ℕ). Lent y (take n a) (take n b) (drop half c′) s) (sym (B .top)) L;
@@ -103,7 +103,7 @@ module _ {x : Solver} {half : ℕ} {a b c d : List ℕ} {z : Session} (Z : Lays 
   -- AN ORDER DONE ON WHAT IS LENT IS ANSWERED IN THE AREAS
   pub answers-does : (y : Solver) (c′ d′ : List ℕ) (st : Step) (out₀ : List ℕ) (to : ℕ) (out : List ℕ) (r : ℕ)
       → Does x y (take (x .top) a) (take (x .top) b) (drop half c) (drop half c′) z st out₀ to out r → z .kept ≤ st .session .kept → Zero (take half c′) → Zero d′
-      → Answers y half a b c′ d′ out z st out₀ to r x
+      → Answers y half (areas a b c′ d′) z st (outputAt out₀ to) (outputAt out r) x
   answers-does y c′ d′ st out₀ to out r D m f w =
       record {
         fits = λ k. (D .answer .fits k .0, D .answer .fits k .1, lays-again y c′ d′ (st .session) m (D .whole k) (D .beside) f w);
@@ -115,10 +115,10 @@ module _ {x : Solver} {half : ℕ} {a b c d : List ℕ} {z : Session} (Z : Lays 
 -- ---- order 4: its tokens stay where it is answered
 
 -- a and b are the areas with its tokens, which end before `top`; a₀ and b₀ those without
-module _ {x : Solver} {half : ℕ} {a₀ b₀ c d : List ℕ} {z : Session} (Z : Lays x half a₀ b₀ c d z) (a b : List ℕ) (top : ℕ)
+module _ {x : Solver} {half : ℕ} {a₀ b₀ c d : List ℕ} {z : Session} (Z : Lays x half (areas a₀ b₀ c d) z) (a b : List ℕ) (top : ℕ)
     (long-a : top ≤ length a) (rest-a : Zero (drop top a)) (rest-b : Zero (drop top b)) where
   pub lays-pair : (y : Solver) (c′ d′ : List ℕ) (s : Session) → top ≤ 64 + 6 * s .kept → Lent y (take top a) (take top b) (drop half c′) s → y .variables ≡ x .variables
-      → Zero (drop (pendingFrom x) (drop half c′)) → Zero (take half c′) → Zero d′ → Lays y half a b c′ d′ s
+      → Zero (drop (pendingFrom x) (drop half c′)) → Zero (take half c′) → Zero d′ → Lays y half (areas a b c′ d′) s
   lays-pair y c′ d′ s m L v k f w =
       let e : top ≡ y .top = sym (L .top ∙ length-take-le top a long-a) in
       record {
@@ -134,7 +134,7 @@ module _ {x : Solver} {half : ℕ} {a₀ b₀ c d : List ℕ} {z : Session} (Z :
   -- answered: the tokens stay
   pub answers-pair : (y : Solver) (c′ d′ : List ℕ) (st : Step) (out₀ : List ℕ) (to : ℕ) (out : List ℕ) (r : ℕ)
       → DoesPair x y (take top a) (take top b) (drop half c) (drop half c′) z st out₀ to out r → top ≤ 64 + 6 * st .session .kept → r ≤ length out₀ → Zero (take half c′) → Zero d′
-      → Answers y half a b c′ d′ out z st out₀ to r x
+      → Answers y half (areas a b c′ d′) z st (outputAt out₀ to) (outputAt out r) x
   answers-pair y c′ d′ st out₀ to out r D m h f w =
       record {
         fits = λ k. (D .answer .fits k .0, D .answer .fits k .1, lays-pair y c′ d′ (st .session) m (D .whole k) (D .variables) (D .blank) f w);
@@ -146,14 +146,14 @@ module _ {x : Solver} {half : ℕ} {a₀ b₀ c d : List ℕ} {z : Session} (Z :
   -- not answered: they have been cleared, and all is as it was
   pub unanswered-pair : (y : Solver) (c′ d′ : List ℕ) (st : Step) (out₀ : List ℕ) (to : ℕ) (out : List ℕ) (r : ℕ)
       → DoesPair x y (take top a) (take top b) (drop half c) (drop half c′) z st out₀ to out r → length out₀ < r → Zero (take half c′) → Zero d′
-      → Answers y half a₀ b₀ c′ d′ out z st out₀ to r x
+      → Answers y half (areas a₀ b₀ c′ d′) z st (outputAt out₀ to) (outputAt out r) x
   unanswered-pair y c′ d′ st out₀ to out r D h f w =
       record {
         fits = λ k. absurd (omega (arith, D .answer .fits k .0));
         long = λ k. (
           D .answer .over k .0,
           D .answer .over k .1,
-          subst (λ (v : Solver). Lays v half a₀ b₀ c′ d′ z) (sym (D .long k .0))
+          subst (λ (v : Solver). Lays v half (areas a₀ b₀ c′ d′) z) (sym (D .long k .0))
               (record {
                 lent = subst (λ (l : List ℕ). Lent x (take (x .top) a₀) (take (x .top) b₀) l z) (sym (D .long k .1)) (Z .lent);
                 kinds = Z .kinds;

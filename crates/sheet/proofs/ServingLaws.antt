@@ -42,7 +42,7 @@ use Rattle.sheet.specs.Laid.{numeric, isOperation, Laid, fieldItems, all
 use Rattle.sheet.specs.Ordered.{RulesRoom, OrderRoom}
 use Rattle.sheet.specs.Written.{Framed}
 use Rattle.sheet.specs.Answering.{Among, numbersOf, Asks, Replies}
-use Rattle.sheet.specs.Lays.{Lays, Answers}
+use Rattle.sheet.specs.Lays.{areas, outputAt, Lays, Answers}
 use Rattle.sheet.specs.Ending.{Ready}
 use Rattle.solver.specs.Behind.{Behind, Poses, PosesPair}
 use Rattle.sheet.specs.Doing.{Does, toldElse, toldBy, plainCommand, DoesPair}
@@ -59,7 +59,7 @@ use Rattle.sheet.proofs.LaysLaws.{ready-half, solve-kept, answers-does,
 
 -- ---- room to read
 
-pub ready-room : (x : Solver) (half : ℕ) (s a b c d ws : List ℕ) → Ready x half a b c d → length s ≤ 16777216 → (getD s 0 0 ≡ 20 → RulesRoom s ws 2048)
+pub ready-room : (x : Solver) (half : ℕ) (s a b c d ws : List ℕ) → Ready x half (areas a b c d) → length s ≤ 16777216 → (getD s 0 0 ≡ 20 → RulesRoom s ws 2048)
     → OrderRoom s a b ws (x .top) (x .kept) (x .nodes)
 ready-room x half s a b c d ws R h w =
     let Y = R .roomy in
@@ -91,12 +91,12 @@ few-short s h = let z : getD s 1 0 ≡ 0 = List·getD-eq-default s 0 (omega arit
 
 -- in areas that are the same
 answers-at : (y : Solver) (half : ℕ) (a₀ b₀ a b c d out : List ℕ) (z : Session) (st : Step) (out₀ : List ℕ) (to r : ℕ) (x : Solver)
-    → area a b ≡ area a₀ b₀ → Answers y half a₀ b₀ c d out z st out₀ to r x → Answers y half a b c d out z st out₀ to r x
-answers-at y half a₀ b₀ a b c d out z st out₀ to r x e A = subst (λ (w : Area). Answers y half (w .kinds) (w .vals) c d out z st out₀ to r x) (sym e) A
+    → area a b ≡ area a₀ b₀ → Answers y half (areas a₀ b₀ c d) z st (outputAt out₀ to) (outputAt out r) x → Answers y half (areas a b c d) z st (outputAt out₀ to) (outputAt out r) x
+answers-at y half a₀ b₀ a b c d out z st out₀ to r x e A = subst (λ (w : Area). Answers y half (areas (w .kinds) (w .vals) c d) z st (outputAt out₀ to) (outputAt out r) x) (sym e) A
 
 -- that leave the session as it was
-answers-same : (x : Solver) (half : ℕ) (a b c d : List ℕ) (z : Session) → Lays x half a b c d z → (answer : Answer) (out₀ : List ℕ) (to : ℕ) (out : List ℕ) (r : ℕ)
-    → Framed answer out₀ to out r → Answers x half a b c d out z (record { session = z; answer = answer }) out₀ to r x
+answers-same : (x : Solver) (half : ℕ) (a b c d : List ℕ) (z : Session) → Lays x half (areas a b c d) z → (answer : Answer) (out₀ : List ℕ) (to : ℕ) (out : List ℕ) (r : ℕ)
+    → Framed answer out₀ to out r → Answers x half (areas a b c d) z (record { session = z; answer = answer }) (outputAt out₀ to) (outputAt out r) x
 answers-same x half a b c d z Z answer out₀ to out r F =
     record {
       fits = λ k. (F .fits k .0, F .fits k .1, Z);
@@ -107,12 +107,12 @@ answers-same x half a b c d z Z answer out₀ to out r F =
 
 -- the step is another name for one that is answered
 step-as : (y : Solver) (half : ℕ) (a b c d out : List ℕ) (z : Session) (st st′ : Step) (out₀ : List ℕ) (to r : ℕ) (x : Solver) → st ≡ st′
-    → Answers y half a b c d out z st′ out₀ to r x → Answers y half a b c d out z st out₀ to r x
-step-as y half a b c d out z st st′ out₀ to r x e A = subst (λ (w : Step). Answers y half a b c d out z w out₀ to r x) (sym e) A
+    → Answers y half (areas a b c d) z st′ (outputAt out₀ to) (outputAt out r) x → Answers y half (areas a b c d) z st (outputAt out₀ to) (outputAt out r) x
+step-as y half a b c d out z st st′ out₀ to r x e A = subst (λ (w : Step). Answers y half (areas a b c d) z w (outputAt out₀ to) (outputAt out r) x) (sym e) A
 
 -- reading refused
 pub serves-refused : (x : Solver) (half : ℕ) (s a₀ b₀ a b c d : List ℕ) (code : ℕ) → readOrder s (x .issued) ≡ refused code → area a b ≡ area a₀ b₀
-    → (out₀ : List ℕ) (to : ℕ) (out : List ℕ) (r : ℕ) → Framed (refusal code) out₀ to out r → Serves x x half s a₀ b₀ c d a b c d out₀ to out r
+    → (out₀ : List ℕ) (to : ℕ) (out : List ℕ) (r : ℕ) → Framed (refusal code) out₀ to out r → Serves x x half s (areas a₀ b₀ c d) (areas a b c d) (outputAt out₀ to) (outputAt out r)
 serves-refused x half s a₀ b₀ a b c d code e E out₀ to out r F z A Z =
     let st : orderOf (limitsOf x) z s ≡ record { session = z; answer = refusal code } =
     ap (λ (q : Result Read). stepRead (limitsOf x) z q) (ap (λ (n : ℕ). readOrder s n) (sym (Z .lent .issued)) ∙ e)
@@ -154,7 +154,7 @@ held-cut ks vs n p t h k x =
       within = omega (arith, length-take-le n ks h);
     }
 
-module _ (x : Solver) (half : ℕ) (s a₀ b₀ a b c d ws : List ℕ) (o : Order) (T : Taken x half s a₀ b₀ a b c d ws o) where
+module _ (x : Solver) (half : ℕ) (s a₀ b₀ a b c d ws : List ℕ) (o : Order) (T : Taken x half s (areas a₀ b₀ c d) (area a b) ws o) where
   pub taken-after : x .top ≤ o .top
   taken-after = omega (arith, T .whole .tokens)
 
@@ -168,12 +168,12 @@ module _ (x : Solver) (half : ℕ) (s a₀ b₀ a b c d ws : List ℕ) (o : Orde
   b-long = order-long s (x .issued) (x .top) (x .kept) (x .nodes) (area a₀ b₀) (area a b) ws o (T .whole) .1 ∙ T .ready .roomy .b-size
 
   -- what the bytes say, on any session that the areas held
-  step-is : (z : Session) → Lays x half a₀ b₀ c d z → orderOf (limitsOf x) z s ≡ step (limitsOf x) z (T .whole .read .kind) (T .whole .read .fields)
+  step-is : (z : Session) → Lays x half (areas a₀ b₀ c d) z → orderOf (limitsOf x) z s ≡ step (limitsOf x) z (T .whole .read .kind) (T .whole .read .fields)
   step-is z Z = ap (λ (q : Result Read). stepRead (limitsOf x) z q) (ap (λ (n : ℕ). readOrder s n) (sym (Z .lent .issued)) ∙ T .whole .is)
 
   -- served in the areas that there were: with the tokens of the order cleared they are those
-  answered : (y : Solver) → y .top ≡ x .top → (c′ d′ out₀ : List ℕ) (to : ℕ) (out : List ℕ) (r : ℕ) → Serves x y half s a₀ b₀ c d a₀ b₀ c′ d′ out₀ to out r
-      → Answered x y half s a₀ b₀ a b c d o c′ d′ out₀ to out r
+  answered : (y : Solver) → y .top ≡ x .top → (c′ d′ out₀ : List ℕ) (to : ℕ) (out : List ℕ) (r : ℕ) → Serves x y half s (areas a₀ b₀ c d) (areas a₀ b₀ c′ d′) (outputAt out₀ to) (outputAt out r)
+      → Answered x y half s (areas a₀ b₀ c d) (area a b) o c′ d′ (outputAt out₀ to) (outputAt out r)
   answered y e c′ d′ out₀ to out r S =
       record {
         inside = omega (arith, taken-after);
@@ -183,7 +183,7 @@ module _ (x : Solver) (half : ℕ) (s a₀ b₀ a b c d ws : List ℕ) (o : Orde
       }
 
   -- too many nodes
-  pub crowded : x .nodes < o .nodes → (out₀ : List ℕ) (to : ℕ) (out : List ℕ) (r : ℕ) → Framed (refusal 7) out₀ to out r → Answered x x half s a₀ b₀ a b c d o c d out₀ to out r
+  pub crowded : x .nodes < o .nodes → (out₀ : List ℕ) (to : ℕ) (out : List ℕ) (r : ℕ) → Framed (refusal 7) out₀ to out r → Answered x x half s (areas a₀ b₀ c d) (area a b) o c d (outputAt out₀ to) (outputAt out r)
   crowded h out₀ to out r F =
       answered x refl c d out₀ to out r
       (λ z A Z.
@@ -194,11 +194,11 @@ module _ (x : Solver) (half : ℕ) (s a₀ b₀ a b c d ws : List ℕ) (o : Orde
       step-as x half a₀ b₀ c d out z _ _ out₀ to r x (step-is z Z ∙ seven) (answers-same x half a₀ b₀ c d z Z (refusal 7) out₀ to out r F))
 
   -- a command done on what is lent, other than order 4
-  told : (k : Command) → ((z : Session) → Lays x half a₀ b₀ c d z → orderOf (limitsOf x) z s ≡ solve (limitsOf x) z k)
+  told : (k : Command) → ((z : Session) → Lays x half (areas a₀ b₀ c d) z → orderOf (limitsOf x) z s ≡ solve (limitsOf x) z k)
       → (y : Solver) (c′ d′ out₀ : List ℕ) (to : ℕ) (out : List ℕ) (r : ℕ) → take half c′ ≡ take half c → Zero d′
-      → ((z : Session) → Arises (limitsOf x) loose z → Lays x half a₀ b₀ c d z
+      → ((z : Session) → Arises (limitsOf x) loose z → Lays x half (areas a₀ b₀ c d) z
       → Does x y (take (x .top) a₀) (take (x .top) b₀) (drop half c) (drop half c′) z (solve (limitsOf x) z k) out₀ to out r)
-      → Answered x y half s a₀ b₀ a b c d o c′ d′ out₀ to out r
+      → Answered x y half s (areas a₀ b₀ c d) (area a b) o c′ d′ (outputAt out₀ to) (outputAt out r)
   told k same y c′ d′ out₀ to out r front clear D =
       let R = T .ready in
       answered y (D (R .session) (R .arises) (R .lays) .beside .top) c′ d′ out₀ to out r
@@ -240,7 +240,7 @@ module _ (x : Solver) (half : ℕ) (s a₀ b₀ a b c d ws : List ℕ) (o : Orde
         }
 
     pub operated : true ≡ isOperation (rowIn table (o .kind)) → (out₀ : List ℕ) (to : ℕ) (out : List ℕ) (r : ℕ) → Replies a b s ws o (λ y. Framed y out₀ to out r)
-        → (hs cs : List ℕ) → area hs cs ≡ area (take half c) d → Answered x x half s a₀ b₀ a b c d o (hs ++ drop half c) cs out₀ to out r
+        → (hs cs : List ℕ) → area hs cs ≡ area (take half c) d → Answered x x half s (areas a₀ b₀ c d) (area a b) o (hs ++ drop half c) cs (outputAt out₀ to) (outputAt out r)
     operated h out₀ to out r R hs cs e =
         answered x refl (hs ++ drop half c) cs out₀ to out r
         (λ z A Z.
@@ -268,7 +268,7 @@ module _ (x : Solver) (half : ℕ) (s a₀ b₀ a b c d ws : List ℕ) (o : Orde
       pub plain-kind : Among (0 ∷ 1 ∷ 2 ∷ 6 ∷ 7 ∷ 8 ∷ []) (o .kind)
       plain-kind = plain-among (o .kind) (T .whole .read .kind) (T .whole .kind) P
 
-      plain-step : (z : Session) → Lays x half a₀ b₀ c d z
+      plain-step : (z : Session) → Lays x half (areas a₀ b₀ c d) z
           → orderOf (limitsOf x) z s ≡ solve (limitsOf x) z (plainCommand (o .kind) (numberAt 0 (T .whole .read .fields)) (numberAt 1 (T .whole .read .fields)))
       plain-step z Z = step-is z Z ∙ plainly (o .kind) (T .whole .read .kind) (T .whole .kind) P (limitsOf x) z (T .whole .read .fields)
 
@@ -301,14 +301,14 @@ module _ (x : Solver) (half : ℕ) (s a₀ b₀ a b c d ws : List ℕ) (o : Orde
       plain-areas : area (take (o .top) a) (take (o .top) b) ≡ area (take (x .top) a₀) (take (x .top) b₀)
       plain-areas = ap (λ (n : ℕ). area (take n a) (take n b)) plain-top ∙ T .whole .same
 
-      pub plain-lent : (z : Session) → Lays x half a₀ b₀ c d z → Lent x (take (o .top) a) (take (o .top) b) (drop half c) z
+      pub plain-lent : (z : Session) → Lays x half (areas a₀ b₀ c d) z → Lent x (take (o .top) a) (take (o .top) b) (drop half c) z
       plain-lent z Z = subst (λ (w : Area). Lent x (w .kinds) (w .vals) (drop half c) z) (sym plain-areas) (Z .lent)
 
       pub plain-answered : (i j : ℕ) → i ≡ o .first .value → j ≡ o .second .value
           → (y : Solver) (c′ d′ out₀ : List ℕ) (to : ℕ) (out : List ℕ) (r : ℕ) → take half c′ ≡ take half c → Zero d′
           → ((z : Session) → Arises (limitsOf x) loose z → Lent x (take (o .top) a) (take (o .top) b) (drop half c) z
           → Does x y (take (o .top) a) (take (o .top) b) (drop half c) (drop half c′) z (solve (limitsOf x) z (plainCommand (o .kind) i j)) out₀ to out r)
-          → Answered x y half s a₀ b₀ a b c d o c′ d′ out₀ to out r
+          → Answered x y half s (areas a₀ b₀ c d) (area a b) o c′ d′ (outputAt out₀ to) (outputAt out r)
       plain-answered i j ei ej y c′ d′ out₀ to out r front clear D =
           told (plainCommand (o .kind) i j) (λ z Z. plain-step z Z ∙ rw (ei, ej, plain-first .0, plain-second .0) refl) y c′ d′ out₀ to out r front clear
           (λ z A Z.
@@ -329,7 +329,7 @@ module _ (x : Solver) (half : ℕ) (s a₀ b₀ a b c d ws : List ℕ) (o : Orde
     long-b : length (take (o .top) b) ≡ o .top
     long-b = length-take-le (o .top) b taken-b
 
-    behind : (z : Session) → Arises (limitsOf x) loose z → Lays x half a₀ b₀ c d z → Behind loose x (take (o .top) a) (take (o .top) b) (drop half c) z
+    behind : (z : Session) → Arises (limitsOf x) loose z → Lays x half (areas a₀ b₀ c d) z → Behind loose x (take (o .top) a) (take (o .top) b) (drop half c) z
     behind z A Z =
         record {
           codes = loose-codes;
@@ -358,7 +358,7 @@ module _ (x : Solver) (half : ℕ) (s a₀ b₀ a b c d ws : List ℕ) (o : Orde
           let g = subst (λ (l : List Field). FormedFields (rows.known (T .whole .read .kind) (x .issued)) l) is (T .whole .formed) in
           subst (λ (n : ℕ). AllVars (λ v. v < n) t) all (g .0 .below)
 
-      pub poses : (z : Session) → Arises (limitsOf x) loose z → Lays x half a₀ b₀ c d z → Poses loose x (take (o .top) a) (take (o .top) b) (drop half c) z t
+      pub poses : (z : Session) → Arises (limitsOf x) loose z → Lays x half (areas a₀ b₀ c d) z → Poses loose x (take (o .top) a) (take (o .top) b) (drop half c) z t
       poses z A Z =
           let n : length (allItems fs) ≡ length (items t) = ap length one-items in
           record {
@@ -370,11 +370,11 @@ module _ (x : Solver) (half : ℕ) (s a₀ b₀ a b c d ws : List ℕ) (o : Orde
             few = omega (arith, T .whole .counts, W, Z .lent .kept, one-size);
           }
 
-      pub posed : (k : Command) → ((z : Session) → Lays x half a₀ b₀ c d z → orderOf (limitsOf x) z s ≡ solve (limitsOf x) z k)
+      pub posed : (k : Command) → ((z : Session) → Lays x half (areas a₀ b₀ c d) z → orderOf (limitsOf x) z s ≡ solve (limitsOf x) z k)
           → (y : Solver) (c′ d′ out₀ : List ℕ) (to : ℕ) (out : List ℕ) (r : ℕ) → take half c′ ≡ take half c → Zero d′
           → ((z : Session) → Poses loose x (take (o .top) a) (take (o .top) b) (drop half c) z t
           → Does x y (take (x .top) (take (o .top) a)) (take (x .top) (take (o .top) b)) (drop half c) (drop half c′) z (solve (limitsOf x) z k) out₀ to out r)
-          → Answered x y half s a₀ b₀ a b c d o c′ d′ out₀ to out r
+          → Answered x y half s (areas a₀ b₀ c d) (area a b) o c′ d′ (outputAt out₀ to) (outputAt out r)
       posed k same y c′ d′ out₀ to out r front clear D =
           told k same y c′ d′ out₀ to out r front clear (λ z A Z. rw (cut-a, cut-b) at (D z (poses z A Z)))
 
@@ -387,7 +387,7 @@ module _ (x : Solver) (half : ℕ) (s a₀ b₀ a b c d ws : List ℕ) (o : Orde
     unfolding rows.known rowIn table sessionOrders
     defer-known h = rw (kind-as 3 rows.defer-never h refl) refl
 
-    pub defer-step : (h : o .kind ≡ 3) (z : Session) → Lays x half a₀ b₀ c d z → (t : Term) → fs ≡ tree t ∷ [] → orderOf (limitsOf x) z s ≡ solve (limitsOf x) z (orders.defer t)
+    pub defer-step : (h : o .kind ≡ 3) (z : Session) → Lays x half (areas a₀ b₀ c d) z → (t : Term) → fs ≡ tree t ∷ [] → orderOf (limitsOf x) z s ≡ solve (limitsOf x) z (orders.defer t)
     unfolding step nth termOf rowIn table sessionOrders
     defer-step h z Z t e = step-is z Z ∙ rw (kind-as 3 rows.defer-never h refl, e) refl
 
@@ -400,7 +400,7 @@ module _ (x : Solver) (half : ℕ) (s a₀ b₀ a b c d ws : List ℕ) (o : Orde
     unfolding rows.known rowIn table sessionOrders
     resolve-known h = rw (kind-as 5 rows.resolve h refl) refl
 
-    pub resolve-step : (h : o .kind ≡ 5) (z : Session) → Lays x half a₀ b₀ c d z → (t : Term) → fs ≡ tree t ∷ [] → orderOf (limitsOf x) z s ≡ solve (limitsOf x) z (orders.resolving t)
+    pub resolve-step : (h : o .kind ≡ 5) (z : Session) → Lays x half (areas a₀ b₀ c d) z → (t : Term) → fs ≡ tree t ∷ [] → orderOf (limitsOf x) z s ≡ solve (limitsOf x) z (orders.resolving t)
     unfolding step nth termOf rowIn table sessionOrders
     resolve-step h z Z t e = step-is z Z ∙ rw (kind-as 5 rows.resolve h refl, e) refl
 
@@ -443,7 +443,7 @@ module _ (x : Solver) (half : ℕ) (s a₀ b₀ a b c d ws : List ℕ) (o : Orde
         pair-row : HeldParts a b (x .top) (o .top) (sub t (sub u end))
         pair-row = use-laws.pair-row s (x .issued) (x .top) (x .kept) (x .nodes) (area a₀ b₀) (area a b) ws o (T .whole) W n t u is
 
-        pub poses-pair : (z : Session) → Arises (limitsOf x) loose z → Lays x half a₀ b₀ c d z
+        pub poses-pair : (z : Session) → Arises (limitsOf x) loose z → Lays x half (areas a₀ b₀ c d) z
             → PosesPair loose x (take (o .top) a) (take (o .top) b) (drop half c) z (o .third .place) t u
         unfolding FormedFields
         poses-pair z A Z =
@@ -460,10 +460,10 @@ module _ (x : Solver) (half : ℕ) (s a₀ b₀ a b c d ws : List ℕ) (o : Orde
               few = omega (arith, T .whole .counts, W, Z .lent .kept, pair-size);
             }
 
-        pub pair-nodes : (z : Session) → Lays x half a₀ b₀ c d z → o .nodes ≡ z .kept + (size t + size u)
+        pub pair-nodes : (z : Session) → Lays x half (areas a₀ b₀ c d) z → o .nodes ≡ z .kept + (size t + size u)
         pair-nodes z Z = omega (arith, T .whole .counts, Z .lent .kept, pair-size)
 
-        pair-step : (z : Session) → Lays x half a₀ b₀ c d z → orderOf (limitsOf x) z s ≡ solve (limitsOf x) z (orders.pair n t u)
+        pair-step : (z : Session) → Lays x half (areas a₀ b₀ c d) z → orderOf (limitsOf x) z s ≡ solve (limitsOf x) z (orders.pair n t u)
         unfolding step nth termOf numberOf
         pair-step z Z = step-is z Z ∙ rw (kind-pair, is) refl
 
@@ -487,7 +487,7 @@ module _ (x : Solver) (half : ℕ) (s a₀ b₀ a b c d ws : List ℕ) (o : Orde
         pub pair-blank : Zero (drop (pendingFrom x) (drop half c))
         pair-blank = T .ready .lays .blank
 
-        pair-kept : (z : Session) → Arises (limitsOf x) loose z → Lays x half a₀ b₀ c d z → o .top ≤ 64 + 6 * solve (limitsOf x) z (orders.pair n t u) .session .kept
+        pair-kept : (z : Session) → Arises (limitsOf x) loose z → Lays x half (areas a₀ b₀ c d) z → o .top ≤ 64 + 6 * solve (limitsOf x) z (orders.pair n t u) .session .kept
         pair-kept z A Z =
             let P = poses-pair z A Z in
             let e = posing.pair-step (limitsOf x) z n t u (within-known z t (P .within-left)) (within-known z u (P .within-right)) (P .few) in
@@ -497,13 +497,13 @@ module _ (x : Solver) (half : ℕ) (s a₀ b₀ a b c d ws : List ℕ) (o : Orde
         module _ (y : Solver) (c′ d′ out₀ : List ℕ) (to : ℕ) (out : List ℕ) (r : ℕ) (front : take half c′ ≡ take half c) (clear : Zero d′) (k : ℕ) (ek : k ≡ n)
             (E : (z : Session) → PosesPair loose x (take (o .top) a) (take (o .top) b) (drop half c) z (o .third .place) t u → o .nodes ≡ z .kept + (size t + size u)
             → DoesPair x y (take (o .top) a) (take (o .top) b) (drop half c) (drop half c′) z (solve (limitsOf x) z (orders.pair k t u)) out₀ to out r) where
-          does : (z : Session) → Arises (limitsOf x) loose z → Lays x half a₀ b₀ c d z
+          does : (z : Session) → Arises (limitsOf x) loose z → Lays x half (areas a₀ b₀ c d) z
               → DoesPair x y (take (o .top) a) (take (o .top) b) (drop half c) (drop half c′) z (solve (limitsOf x) z (orders.pair n t u)) out₀ to out r
           does z A Z =
               subst (λ (i : ℕ). DoesPair x y (take (o .top) a) (take (o .top) b) (drop half c) (drop half c′) z (solve (limitsOf x) z (orders.pair i t u)) out₀ to out r) ek
               (E z (poses-pair z A Z) (pair-nodes z Z))
 
-          zero-front : (z : Session) → Lays x half a₀ b₀ c d z → Zero (take half c′)
+          zero-front : (z : Session) → Lays x half (areas a₀ b₀ c d) z → Zero (take half c′)
           zero-front z Z = subst (λ (l : List ℕ). Zero l) (sym front) (Z .front)
 
           abbrev past : Session → ℕ
@@ -515,8 +515,8 @@ module _ (x : Solver) (half : ℕ) (s a₀ b₀ a b c d ws : List ℕ) (o : Orde
           pair-inside z D (no l) = omega (arith, D .whole (omega arith) .top, long-a)
 
           -- where it is answered all of its tokens are the session's; else none is, and they have been cleared
-          pair-serves : (z : Session) → Arises (limitsOf x) loose z → Lays x half a₀ b₀ c d z → (a′ b′ : List ℕ) → area a′ b′ ≡ blank (area a b) (y .top) (o .top - y .top)
-              → Dec (length out₀ < past z) → Answers y half a′ b′ c′ d′ out z (orderOf (limitsOf x) z s) out₀ to r x
+          pair-serves : (z : Session) → Arises (limitsOf x) loose z → Lays x half (areas a₀ b₀ c d) z → (a′ b′ : List ℕ) → area a′ b′ ≡ blank (area a b) (y .top) (o .top - y .top)
+              → Dec (length out₀ < past z) → Answers y half (areas a′ b′ c′ d′) z (orderOf (limitsOf x) z s) (outputAt out₀ to) (outputAt out r) x
           pair-serves z A Z a′ b′ e (yes l) =
               let D = does z A Z in
               answers-at y half a₀ b₀ a′ b′ c′ d′ out z (orderOf (limitsOf x) z s) out₀ to r x
@@ -533,7 +533,7 @@ module _ (x : Solver) (half : ℕ) (s a₀ b₀ a b c d ws : List ℕ) (o : Orde
               (answers-pair Z a b (o .top) taken-a (free-kinds (o .top) (area a b) (T .whole .free)) (free-vals (o .top) (area a b) (T .whole .free)) y c′ d′ _ out₀ to out r D
               (pair-kept z A Z) (omega (arith, D .answer .fits (omega arith) .0)) (zero-front z Z) clear))
 
-          pub pair-answered : Answered x y half s a₀ b₀ a b c d o c′ d′ out₀ to out r
+          pub pair-answered : Answered x y half s (areas a₀ b₀ c d) (area a b) o c′ d′ (outputAt out₀ to) (outputAt out r)
           pair-answered =
               let R = T .ready in
               record {
