@@ -19,9 +19,8 @@ same-length c = search needs
 
 returns : tie.Need-returns
 returns c =
-    let a = c .before .before .before .before .before .before .before .before .before .before .before .before .before .before .before .args in
     let n = ap (λ (x : Standing). x .nodes) (c .before .before .before .before .before .before .before .standing .ensures) in
-    λ a₀ b₀ T. crowded (a .x) (a .half) (now (a .s)) a₀ b₀ (now (a .a)) (now (a .b)) (now (a .c)) (now (a .d)) (now (a .rules)) (a .o) T (omega (arith, n, c .before .before .before .before .if1 .taken)) (now (a .out)) (a .to) _ _ (c .before .before .refused .ensures)
+    λ a₀ b₀ T. crowded T (omega (arith, n, c .before .before .before .before .if1 .taken)) _ _ (c .before .before .refused .ensures)
 
 is-operation-requires : tie.Need-is-operation-requires
 is-operation-requires c κs = search needs

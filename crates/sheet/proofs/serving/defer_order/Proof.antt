@@ -14,13 +14,11 @@ use Rattle.sheet.proofs.serving.defer_order.Tie as tie
 
 slice-aggregate-defer-term : tie.Need-slice-aggregate-defer-term
 slice-aggregate-defer-term c =
-    let a = c .before .before .before .before .before .args in
-    sym (length-take-le _ _ (taken-a (a .x) (a .half) _ _ _ (now (a .a)) (now (a .b)) (now (a .c)) _ _ (a .o) (c .before .before .before .before .before .pre .0 .5) (c .before .before .before .before .before .pre .1 .0)))
+    sym (length-take-le _ _ (taken-a (c .before .before .before .before .before .pre .0 .5) (c .before .before .before .before .before .pre .1 .0)))
 
 slice-aggregate-defer-term-2 : tie.Need-slice-aggregate-defer-term-2
 slice-aggregate-defer-term-2 c =
-    let a = c .before .before .before .before .before .before .args in
-    sym (length-take-le _ _ (taken-b (a .x) (a .half) _ _ _ (now (a .a)) (now (a .b)) (now (a .c)) _ _ (a .o) (c .before .before .before .before .before .before .pre .0 .5) (c .before .before .before .before .before .before .pre .1 .0)))
+    sym (length-take-le _ _ (taken-b (c .before .before .before .before .before .before .pre .0 .5) (c .before .before .before .before .before .before .pre .1 .0)))
 
 mul-defer-term : tie.Need-mul-defer-term
 mul-defer-term c = search needs
@@ -41,9 +39,9 @@ defer-term-requires c κs =
     let T = p .0 .5 in
     let W = p .1 .0 in
     let h = p .1 .1 .0 in
-    let t = defer-term (a .x) (a .half) _ _ _ (now (a .a)) (now (a .b)) (now (a .c)) _ _ (a .o) T W h in
+    let t = defer-term T W h in
     let R = T .ready in
-    ((R .session, t .0, poses-tail (a .half) (now (a .c)) _ _ _ _ _ (poses (a .x) (a .half) _ _ _ (now (a .a)) (now (a .b)) (now (a .c)) _ _ (a .o) T W (t .0) (t .1) (defer-known (a .x) (a .half) _ _ _ (now (a .a)) (now (a .b)) (now (a .c)) _ _ (a .o) T W h) (R .session) (R .arises) (R .lays))), p .1 .1 .1)
+    ((R .session, t .0, poses-tail (a .half) (now (a .c)) _ _ _ _ _ (poses T W (t .0) (t .1) (defer-known T W h) (R .session) (R .arises) (R .lays))), p .1 .1 .1)
 
 same-length : tie.Need-same-length
 same-length c = search needs
@@ -60,10 +58,10 @@ returns c =
     let e = c .before .before .before .before .defer-term .ensures in
     let u = c .before .before .before .before .defer-term .last .1 .1 .1 .0 in
     λ s a₀ b₀ d ws T.
-    let i = taken-half (a .x) (a .half) s a₀ b₀ (now (a .a)) (now (a .b)) (now (a .c)) d ws (a .o) T in
-    let t = defer-term (a .x) (a .half) s a₀ b₀ (now (a .a)) (now (a .b)) (now (a .c)) d ws (a .o) T W h in
-    posed (a .x) (a .half) s a₀ b₀ (now (a .a)) (now (a .b)) (now (a .c)) d ws (a .o) T W (t .0) (t .1) (defer-known (a .x) (a .half) s a₀ b₀ (now (a .a)) (now (a .b)) (now (a .c)) d ws (a .o) T W h) (orders.defer (t .0))
-    (λ z Z. defer-step (a .x) (a .half) s a₀ b₀ (now (a .a)) (now (a .b)) (now (a .c)) d ws (a .o) T W h z Z (t .0) (t .1)) _ _ d (now (a .out)) (a .to) _ _ (take-put (a .half) (length (now (a .c)) - a .half) (now (a .c)) u i) (T .ready .lays .work)
+    let i = taken-half T in
+    let t = defer-term T W h in
+    posed T W (t .0) (t .1) (defer-known T W h) (orders.defer (t .0))
+    (λ z Z. defer-step T W h z Z (t .0) (t .1)) _ _ d _ _ (take-put (a .half) (length (now (a .c)) - a .half) (now (a .c)) u i) (T .ready .lays .work)
     (λ z P. does-tail (a .half) (now (a .c)) (a .x) _ _ _ z _ _ _ _ _ u i (e z (t .0) (poses-tail (a .half) (now (a .c)) _ _ _ _ _ P)))
 
 pub defer-order-spec : {M : Type 1} → statement M

@@ -14,13 +14,12 @@ slice-aggregate-operate : tie.Need-slice-aggregate-operate
 slice-aggregate-operate c =
     let a = c .before .before .before .before .before .before .before .before .args in
     let p = c .before .before .before .before .before .before .before .before .pre in
-    sym (length-take-le (a .half) (now (a .c)) (taken-half (a .x) (a .half) (now (a .s)) _ _ (now (a .a)) (now (a .b)) (now (a .c)) (now (a .d)) (now (a .rules)) (a .o) (p .0 .2)))
+    sym (length-take-le (a .half) (now (a .c)) (taken-half (p .0 .2)))
 
 operate-requires : tie.Need-operate-requires
 operate-requires c κs =
-    let a = c .before .before .before .before .before .before .before .before .before .before .args in
     let p = c .before .before .before .before .before .before .before .before .before .before .pre in
-    (taken-lends (a .x) (a .half) (now (a .s)) _ _ (now (a .a)) (now (a .b)) (now (a .c)) (now (a .d)) (now (a .rules)) (a .o) (p .0 .2) (p .1 .0), (taken-asks (a .x) (a .half) (now (a .s)) _ _ (now (a .a)) (now (a .b)) (now (a .c)) (now (a .d)) (now (a .rules)) (a .o) (p .0 .2) (p .1 .0) (p .1 .1 .0), p .1 .1 .1))
+    (taken-lends (p .0 .2) (p .1 .0), (taken-asks (p .0 .2) (p .1 .0) (p .1 .1 .0), p .1 .1 .1))
 
 same-length : tie.Need-same-length
 same-length c = search needs
@@ -33,10 +32,9 @@ same-length-3 c = search needs
 
 returns : tie.Need-returns
 returns c =
-    let a = c .before .before .before .before .before .before .before .before .before .before .before .before .before .before .before .before .before .args in
     let p = c .before .before .before .before .before .before .before .before .before .before .before .before .before .before .before .before .before .pre in
     let e = c .before .before .before .before .before .before .operate .ensures in
-    λ a₀ b₀ T. operated (a .x) (a .half) (now (a .s)) a₀ b₀ (now (a .a)) (now (a .b)) (now (a .c)) (now (a .d)) (now (a .rules)) (a .o) T (p .1 .0) (p .1 .1 .0) (now (a .out)) (a .to) _ _ (e .1) _ _ (e .0)
+    λ a₀ b₀ T. operated T (p .1 .0) (p .1 .1 .0) _ _ (e .1) _ _ (e .0)
 
 pub operate-order-spec : {M : Type 1} → statement M
 operate-order-spec =

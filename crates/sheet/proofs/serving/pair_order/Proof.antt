@@ -14,22 +14,19 @@ use Rattle.sheet.proofs.serving.pair_order.Tie as tie
 
 cast-k : tie.Need-cast-k
 cast-k c =
-    let a = c .before .before .before .before .before .before .args in
     let p = c .before .before .before .before .before .before .pre in
     let T = p .0 .4 in
-    let q = pair-terms (a .x) (a .half) _ _ _ (now (a .a)) (now (a .b)) (now (a .c)) (now (a .d)) _ (a .o) T (p .1 .0) (p .1 .1 .0) in
-    let k = pair-k (a .x) (a .half) _ _ _ (now (a .a)) (now (a .b)) (now (a .c)) (now (a .d)) _ (a .o) T (p .1 .0) (p .1 .1 .0) (q .0) (q .1) (q .2) (q .3) in
+    let q = pair-terms T (p .1 .0) (p .1 .1 .0) in
+    let k = pair-k T (p .1 .0) (p .1 .1 .0) (q .0) (q .1) (q .2) (q .3) in
     omega (arith, k .0, k .1)
 
 slice-aggregate-pose-pair : tie.Need-slice-aggregate-pose-pair
 slice-aggregate-pose-pair c =
-    let a = c .before .before .before .before .before .before .before .args in
-    sym (length-take-le _ _ (taken-a (a .x) (a .half) _ _ _ (now (a .a)) (now (a .b)) (now (a .c)) (now (a .d)) _ (a .o) (c .before .before .before .before .before .before .before .pre .0 .4) (c .before .before .before .before .before .before .before .pre .1 .0)))
+    sym (length-take-le _ _ (taken-a (c .before .before .before .before .before .before .before .pre .0 .4) (c .before .before .before .before .before .before .before .pre .1 .0)))
 
 slice-aggregate-pose-pair-2 : tie.Need-slice-aggregate-pose-pair-2
 slice-aggregate-pose-pair-2 c =
-    let a = c .before .before .before .before .before .before .before .before .args in
-    sym (length-take-le _ _ (taken-b (a .x) (a .half) _ _ _ (now (a .a)) (now (a .b)) (now (a .c)) (now (a .d)) _ (a .o) (c .before .before .before .before .before .before .before .before .pre .0 .4) (c .before .before .before .before .before .before .before .before .pre .1 .0)))
+    sym (length-take-le _ _ (taken-b (c .before .before .before .before .before .before .before .before .pre .0 .4) (c .before .before .before .before .before .before .before .before .pre .1 .0)))
 
 mul-pose-pair : tie.Need-mul-pose-pair
 mul-pose-pair c = search needs
@@ -50,10 +47,10 @@ pose-pair-requires c κs =
     let T = p .0 .4 in
     let W = p .1 .0 in
     let h = p .1 .1 .0 in
-    let q = pair-terms (a .x) (a .half) _ _ _ (now (a .a)) (now (a .b)) (now (a .c)) (now (a .d)) _ (a .o) T W h in
+    let q = pair-terms T W h in
     let R = T .ready in (
-      (R .session, q .1, q .2, pair-tail (a .half) (now (a .c)) _ _ _ _ _ _ _ (poses-pair (a .x) (a .half) _ _ _ (now (a .a)) (now (a .b)) (now (a .c)) (now (a .d)) _ (a .o) T W h (q .0) (q .1) (q .2) (q .3) (R .session) (R .arises) (R .lays)), pair-nodes (a .x) (a .half) _ _ _ (now (a .a)) (now (a .b)) (now (a .c)) (now (a .d)) _ (a .o) T W h (q .0) (q .1) (q .2) (q .3) (R .session) (R .lays)),
-      ((scratch-tail (a .half) (now (a .c)) _ _ _ (pair-scratch (a .x) (a .half) _ _ _ (now (a .a)) (now (a .b)) (now (a .c)) (now (a .d)) _ (a .o) T W h (q .0) (q .1) (q .2) (q .3)), blank-tail (a .half) (now (a .c)) (7 * a .x .variables) (pair-blank (a .x) (a .half) _ _ _ (now (a .a)) (now (a .b)) (now (a .c)) (now (a .d)) _ (a .o) T W h (q .0) (q .1) (q .2) (q .3))), p .1 .1 .1),
+      (R .session, q .1, q .2, pair-tail (a .half) (now (a .c)) _ _ _ _ _ _ _ (poses-pair T W h (q .0) (q .1) (q .2) (q .3) (R .session) (R .arises) (R .lays)), pair-nodes T W h (q .0) (q .1) (q .2) (q .3) (R .session) (R .lays)),
+      ((scratch-tail (a .half) (now (a .c)) _ _ _ (pair-scratch T W h (q .0) (q .1) (q .2) (q .3)), blank-tail (a .half) (now (a .c)) (7 * a .x .variables) (pair-blank T W h (q .0) (q .1) (q .2) (q .3))), p .1 .1 .1),
     )
 
 same-length : tie.Need-same-length
@@ -74,10 +71,10 @@ returns c =
     let e = c .before .before .before .before .before .before .pose-pair .ensures in
     let w = c .before .before .before .before .before .before .pose-pair .last .1 .1 .1 .0 in
     λ s a₀ b₀ ws T.
-    let i = taken-half (a .x) (a .half) s a₀ b₀ (now (a .a)) (now (a .b)) (now (a .c)) (now (a .d)) ws (a .o) T in
-    let q = pair-terms (a .x) (a .half) s a₀ b₀ (now (a .a)) (now (a .b)) (now (a .c)) (now (a .d)) ws (a .o) T W h in
-    let k = pair-k (a .x) (a .half) s a₀ b₀ (now (a .a)) (now (a .b)) (now (a .c)) (now (a .d)) ws (a .o) T W h (q .0) (q .1) (q .2) (q .3) in
-    pair-answered (a .x) (a .half) s a₀ b₀ (now (a .a)) (now (a .b)) (now (a .c)) (now (a .d)) ws (a .o) T W h (q .0) (q .1) (q .2) (q .3) _ _ _ (now (a .out)) (a .to) _ _ (take-put (a .half) (length (now (a .c)) - a .half) (now (a .c)) w i) (e .0) (a .o .first .value) (k .0)
+    let i = taken-half T in
+    let q = pair-terms T W h in
+    let k = pair-k T W h (q .0) (q .1) (q .2) (q .3) in
+    pair-answered T W h (q .0) (q .1) (q .2) (q .3) _ _ _ _ _ (take-put (a .half) (length (now (a .c)) - a .half) (now (a .c)) w i) (e .0) (a .o .first .value) (k .0)
     (λ z P n. pair-does-tail (a .half) (now (a .c)) (a .x) _ _ _ z _ _ _ _ _ w i (e .1 z (q .1) (q .2) (pair-tail (a .half) (now (a .c)) _ _ _ _ _ _ _ P) n))
 
 pub pair-order-spec : {M : Type 1} → statement M

@@ -14,25 +14,21 @@ use Rattle.sheet.proofs.serving.plain_order.Tie as tie
 
 cast-first : tie.Need-cast-first
 cast-first c =
-    let a = c .before .before .before .before .before .before .args in
     let p = c .before .before .before .before .before .before .pre in
-    omega (arith, plain-first (a .x) (a .half) _ _ _ (now (a .a)) (now (a .b)) (now (a .c)) (now (a .d)) _ (a .o) (p .0 .4) (p .1 .0) (p .1 .1 .0) .1)
+    omega (arith, plain-first (p .0 .4) (p .1 .0) (p .1 .1 .0) .1)
 
 cast-second : tie.Need-cast-second
 cast-second c =
-    let a = c .before .before .before .before .before .before .before .args in
     let p = c .before .before .before .before .before .before .before .pre in
-    omega (arith, plain-second (a .x) (a .half) _ _ _ (now (a .a)) (now (a .b)) (now (a .c)) (now (a .d)) _ (a .o) (p .0 .4) (p .1 .0) (p .1 .1 .0) .1)
+    omega (arith, plain-second (p .0 .4) (p .1 .0) (p .1 .1 .0) .1)
 
 slice-aggregate-solve-plain : tie.Need-slice-aggregate-solve-plain
 slice-aggregate-solve-plain c =
-    let a = c .before .before .before .before .before .before .before .before .args in
-    sym (length-take-le _ _ (taken-a (a .x) (a .half) _ _ _ (now (a .a)) (now (a .b)) (now (a .c)) (now (a .d)) _ (a .o) (c .before .before .before .before .before .before .before .before .pre .0 .4) (c .before .before .before .before .before .before .before .before .pre .1 .0)))
+    sym (length-take-le _ _ (taken-a (c .before .before .before .before .before .before .before .before .pre .0 .4) (c .before .before .before .before .before .before .before .before .pre .1 .0)))
 
 slice-aggregate-solve-plain-2 : tie.Need-slice-aggregate-solve-plain-2
 slice-aggregate-solve-plain-2 c =
-    let a = c .before .before .before .before .before .before .before .before .before .args in
-    sym (length-take-le _ _ (taken-b (a .x) (a .half) _ _ _ (now (a .a)) (now (a .b)) (now (a .c)) (now (a .d)) _ (a .o) (c .before .before .before .before .before .before .before .before .before .pre .0 .4) (c .before .before .before .before .before .before .before .before .before .pre .1 .0)))
+    sym (length-take-le _ _ (taken-b (c .before .before .before .before .before .before .before .before .before .pre .0 .4) (c .before .before .before .before .before .before .before .before .before .pre .1 .0)))
 
 mul-solve-plain : tie.Need-mul-solve-plain
 mul-solve-plain c =
@@ -41,13 +37,11 @@ mul-solve-plain c =
 
 sub-solve-plain : tie.Need-sub-solve-plain
 sub-solve-plain c =
-    let a = c .before .before .before .before .before .before .before .before .before .args in
-    taken-half (a .x) (a .half) _ _ _ (now (a .a)) (now (a .b)) (now (a .c)) (now (a .d)) _ (a .o) (c .before .before .before .before .before .before .before .before .before .pre .0 .4)
+    taken-half (c .before .before .before .before .before .before .before .before .before .pre .0 .4)
 
 part-solve-plain-start : tie.Need-part-solve-plain-start
 part-solve-plain-start c =
-    let a = c .before .before .before .before .before .before .before .before .before .args in
-    taken-half (a .x) (a .half) _ _ _ (now (a .a)) (now (a .b)) (now (a .c)) (now (a .d)) _ (a .o) (c .before .before .before .before .before .before .before .before .before .pre .0 .4)
+    taken-half (c .before .before .before .before .before .before .before .before .before .pre .0 .4)
 
 part-solve-plain-end : tie.Need-part-solve-plain-end
 part-solve-plain-end c = search needs
@@ -58,7 +52,7 @@ solve-plain-requires c κs =
     let p = c .before .before .before .before .before .before .before .before .before .before .before .before .pre in
     let T = p .0 .4 in
     let R = T .ready in
-    ((R .session, R .arises, lent-tail (a .half) (now (a .c)) _ _ _ _ (plain-lent (a .x) (a .half) _ _ _ (now (a .a)) (now (a .b)) (now (a .c)) (now (a .d)) _ (a .o) T (p .1 .0) (p .1 .1 .0) (R .session) (R .lays))), ((plain-code (a .x) (a .half) _ _ _ (now (a .a)) (now (a .b)) (now (a .c)) (now (a .d)) _ (a .o) T (p .1 .0) (p .1 .1 .0), ready-frames _ _ _ _ _ _ R, plain-kind (a .x) (a .half) _ _ _ (now (a .a)) (now (a .b)) (now (a .c)) (now (a .d)) _ (a .o) T (p .1 .0) (p .1 .1 .0)), p .1 .1 .1))
+    ((R .session, R .arises, lent-tail (a .half) (now (a .c)) _ _ _ _ (plain-lent T (p .1 .0) (p .1 .1 .0) (R .session) (R .lays))), ((plain-code T (p .1 .0) (p .1 .1 .0), ready-frames R, plain-kind T (p .1 .0) (p .1 .1 .0)), p .1 .1 .1))
 
 same-length : tie.Need-same-length
 same-length c = search needs
@@ -76,8 +70,8 @@ returns c =
     let e = c .before .before .before .before .before .before .solve-plain .ensures in
     let w = c .before .before .before .before .before .before .solve-plain .last .1 .1 .1 .1 .1 .1 .0 in
     λ s a₀ b₀ ws T.
-    let i = taken-half (a .x) (a .half) s a₀ b₀ (now (a .a)) (now (a .b)) (now (a .c)) (now (a .d)) ws (a .o) T in
-    plain-answered (a .x) (a .half) s a₀ b₀ (now (a .a)) (now (a .b)) (now (a .c)) (now (a .d)) ws (a .o) T (p .1 .0) (p .1 .1 .0) _ _ refl refl _ _ _ (now (a .out)) (a .to) _ _ (take-put (a .half) (length (now (a .c)) - a .half) (now (a .c)) w i) (e .0)
+    let i = taken-half T in
+    plain-answered T (p .1 .0) (p .1 .1 .0) _ _ refl refl _ _ _ _ _ (take-put (a .half) (length (now (a .c)) - a .half) (now (a .c)) w i) (e .0)
     (λ z A L. does-tail (a .half) (now (a .c)) (a .x) _ _ _ z _ _ _ _ _ w i (e .1 z A (lent-tail (a .half) (now (a .c)) _ _ _ _ L)))
 
 pub plain-order-spec : {M : Type 1} → statement M

@@ -11,13 +11,11 @@ use Rattle.sheet.proofs.serving.resolve_order.Tie as tie
 
 slice-aggregate-resolve-term : tie.Need-slice-aggregate-resolve-term
 slice-aggregate-resolve-term c =
-    let a = c .before .before .before .before .before .before .args in
-    sym (length-take-le _ _ (taken-a (a .x) (a .half) _ _ _ (now (a .a)) (now (a .b)) (now (a .c)) (now (a .d)) _ (a .o) (c .before .before .before .before .before .before .pre .0 .4) (c .before .before .before .before .before .before .pre .1 .0)))
+    sym (length-take-le _ _ (taken-a (c .before .before .before .before .before .before .pre .0 .4) (c .before .before .before .before .before .before .pre .1 .0)))
 
 slice-aggregate-resolve-term-2 : tie.Need-slice-aggregate-resolve-term-2
 slice-aggregate-resolve-term-2 c =
-    let a = c .before .before .before .before .before .before .before .args in
-    sym (length-take-le _ _ (taken-b (a .x) (a .half) _ _ _ (now (a .a)) (now (a .b)) (now (a .c)) (now (a .d)) _ (a .o) (c .before .before .before .before .before .before .before .pre .0 .4) (c .before .before .before .before .before .before .before .pre .1 .0)))
+    sym (length-take-le _ _ (taken-b (c .before .before .before .before .before .before .before .pre .0 .4) (c .before .before .before .before .before .before .before .pre .1 .0)))
 
 mul-resolve-term : tie.Need-mul-resolve-term
 mul-resolve-term c = search needs
@@ -38,9 +36,9 @@ resolve-term-requires c κs =
     let T = p .0 .4 in
     let W = p .1 .0 in
     let h = p .1 .1 .0 in
-    let t = resolve-term (a .x) (a .half) _ _ _ (now (a .a)) (now (a .b)) (now (a .c)) (now (a .d)) _ (a .o) T W h in
+    let t = resolve-term T W h in
     let R = T .ready in
-    ((R .session, t .0, poses-tail (a .half) (now (a .c)) _ _ _ _ _ (poses (a .x) (a .half) _ _ _ (now (a .a)) (now (a .b)) (now (a .c)) (now (a .d)) _ (a .o) T W (t .0) (t .1) (resolve-known (a .x) (a .half) _ _ _ (now (a .a)) (now (a .b)) (now (a .c)) (now (a .d)) _ (a .o) T W h) (R .session) (R .arises) (R .lays))), (ready-frames _ _ _ _ _ _ R, p .1 .1 .1))
+    ((R .session, t .0, poses-tail (a .half) (now (a .c)) _ _ _ _ _ (poses T W (t .0) (t .1) (resolve-known T W h) (R .session) (R .arises) (R .lays))), (ready-frames R, p .1 .1 .1))
 
 same-length : tie.Need-same-length
 same-length c = search needs
@@ -56,9 +54,9 @@ returns c =
     let h = p .1 .1 .0 in
     let e = c .before .before .before .before .resolve-term .ensures in
     λ s a₀ b₀ ws T.
-    let t = resolve-term (a .x) (a .half) s a₀ b₀ (now (a .a)) (now (a .b)) (now (a .c)) (now (a .d)) ws (a .o) T W h in
-    posed (a .x) (a .half) s a₀ b₀ (now (a .a)) (now (a .b)) (now (a .c)) (now (a .d)) ws (a .o) T W (t .0) (t .1) (resolve-known (a .x) (a .half) s a₀ b₀ (now (a .a)) (now (a .b)) (now (a .c)) (now (a .d)) ws (a .o) T W h) (orders.resolving (t .0))
-    (λ z Z. resolve-step (a .x) (a .half) s a₀ b₀ (now (a .a)) (now (a .b)) (now (a .c)) (now (a .d)) ws (a .o) T W h z Z (t .0) (t .1)) _ (now (a .c)) _ (now (a .out)) (a .to) _ _ refl (e .0)
+    let t = resolve-term T W h in
+    posed T W (t .0) (t .1) (resolve-known T W h) (orders.resolving (t .0))
+    (λ z Z. resolve-step T W h z Z (t .0) (t .1)) _ (now (a .c)) _ _ _ refl (e .0)
     (λ z P. does-part (a .half) (now (a .c)) (a .x) _ _ _ z _ _ _ _ _ (e .1 z (t .0) (poses-tail (a .half) (now (a .c)) _ _ _ _ _ P)))
 
 pub resolve-order-spec : {M : Type 1} → statement M

@@ -90,7 +90,7 @@ returns-2 c =
     let a = c .before .before .before .before .before .before .before .before .before .before .before .before .before .before .before .before .before .before .before .before .before .before .before .before .before .args in
     let m = c .before .before .before .before .before .before .before .before .before .before .before .before .before .read-order in
     let W = rw (c .before .before .before .before .before .before .before .before .before .before .before .before .before .before .before .before .before .standing .ensures, c .before .before .before .before .before .r2 .given .1) at (m .ensures) in
-    serves-refused (a .x) (a .half) (now (a .s)) (now (a .a)) (now (a .b)) (m .last .1 .0) (m .last .1 .1 .0) (now (a .c)) (now (a .d)) _ (W .0) (W .1) (now (a .out)) (a .to) _ _ (c .before .before .refused .ensures)
+    serves-refused (a .x) (a .half) (now (a .s)) _ (m .last .1 .0) (m .last .1 .1 .0) _ (W .0) (W .1) _ _ (c .before .before .refused .ensures)
 
 pub serve-with-spec : {M : Type 1} → statement M
 serve-with-spec =
