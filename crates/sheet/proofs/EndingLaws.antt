@@ -16,7 +16,7 @@ use Rattle.solver.specs.Work.{Zero}
 use Rattle.solver.specs.Whole.{counters}
 use Rattle.solver.proofs.WholeLaws.{all-zero, zero-cleared}
 use Rattle.sheet.specs.Sheet.{runOf}
-use Rattle.sheet.specs.Lays.{Roomy}
+use Rattle.sheet.specs.Lays.{areas, Roomy}
 use Rattle.sheet.specs.Ending.{Ended, Finish, finished, suits, leaving, finishOf}
 use Rattle.sheet.proofs.LaysLaws.{tail-back}
 
@@ -25,7 +25,7 @@ use Rattle.sheet.proofs.LaysLaws.{tail-back}
 -- areas of as many words do for the same limits
 pub roomy-same : (x y : Solver) (half : ℕ) (a b c d a′ b′ c′ d′ : List ℕ) → y .variables ≡ x .variables → y .nodes ≡ x .nodes
     → length a′ ≡ length a → length b′ ≡ length b → length c′ ≡ length c → length d′ ≡ length d
-    → Roomy x half (length a) a b c d → Roomy y half (length a′) a′ b′ c′ d′
+    → Roomy x half (length a) (areas a b c d) → Roomy y half (length a′) (areas a′ b′ c′ d′)
 roomy-same x y half a b c d a′ b′ c′ d′ v k la lb lc ld R =
     record {
       a-size = refl;
@@ -43,7 +43,7 @@ roomy-same x y half a b c d a′ b′ c′ d′ v k la lb lc ld R =
 
 -- 16,384 words do for 512 variables and 2,048 nodes
 pub roomy-box : (a b c d : List ℕ) → 16384 ≤ length a → 16384 ≤ length b → 16384 ≤ length c → 16384 ≤ length d
-    → Roomy (counters 512 2048) 8192 16384 (take 16384 a) (take 16384 b) (take 16384 c) (take 16384 d)
+    → Roomy (counters 512 2048) 8192 16384 (areas (take 16384 a) (take 16384 b) (take 16384 c) (take 16384 d))
 roomy-box a b c d ha hb hc hd =
     record {
       a-size = length-take-le 16384 a ha;

@@ -7,7 +7,7 @@ use Prim.Native.Nat.{ℕ, _+_, _-_, _*_, _≤_, _<_}
 use native.Mathlib.Omega.{arith}
 use lib.ListN.{length, take, drop, length-drop}
 use lib.Seq.{length-take-le, take-length, drop-length, drop-at}
-use borrow.Rule.Slice.PartMut.{postOf, putMid, post-is, take-put}
+use borrow.Rule.Slice.PartMut.{postOf, putMid, post-is}
 use Rattle.solver.specs.Terms.Term.{Term, var, node, size}
 use Rattle.solver.specs.declared.Solver.{Solver}
 use Rattle.solver.specs.Shapes.{loose}
@@ -21,7 +21,7 @@ use Rattle.solver.specs.Turning.{Scratch, pendingFrom}
 use Rattle.solver.specs.Lent.{Lent}
 use Rattle.solver.specs.Methods.{Beside}
 use Rattle.sheet.specs.Sheet.{Step, solve}
-use Rattle.sheet.specs.Lays.{Lays, Answers}
+use Rattle.sheet.specs.Lays.{Areas, areas, Output, Lays, Answers}
 use Rattle.sheet.specs.Ending.{Ready}
 use Rattle.solver.specs.Behind.{Poses, PosesPair, Frames}
 use Rattle.sheet.specs.Doing.{Does, DoesPair}
@@ -29,11 +29,11 @@ use Rattle.sheet.proofs.DoingLaws.{lent-revision}
 
 -- ---- room
 
-module _ (x : Solver) (half : ℕ) (a b c d : List ℕ) (R : Ready x half a b c d) where
-  pub ready-half : half ≤ length c
+module _ {x : Solver} {half : ℕ} {m : Areas} (R : Ready x half m) where
+  pub ready-half : half ≤ length (m .c)
   ready-half = omega (arith, R .roomy .c-size, R .roomy .table)
 
-  pub ready-frames : Frames x d
+  pub ready-frames : Frames x (m .d)
   ready-frames =
       record { room = omega (arith, R .roomy .d-size, R .roomy .marks, lent-revision _ _ _ _ _ (R .arises) (R .lays .lent)); clear = R .lays .work }
 
@@ -86,81 +86,81 @@ solve-kept lim z (orders.unread r) = omega arith
 -- ---- a session laid out again
 
 -- the tokens are those that there were, and so is what stands behind the columns
-module _ {x : Solver} {half : ℕ} {a b c d : List ℕ} {z : Session} (Z : Lays x half a b c d z) where
-  pub lays-again : (y : Solver) (c′ d′ : List ℕ) (s : Session) → z .kept ≤ s .kept → Lent y (take (x .top) a) (take (x .top) b) (drop half c′) s
-      → Beside x y (drop half c) (drop half c′) → Zero (take half c′) → Zero d′ → Lays y half a b c′ d′ s
-  lays-again y c′ d′ s m L B f w =
+module _ {x : Solver} {half : ℕ} {m : Areas} {z : Session} (Z : Lays x half m z) where
+  pub lays-again : (y : Solver) (c′ d′ : List ℕ) (s : Session) → z .kept ≤ s .kept → Lent y (take (x .top) (m .a)) (take (x .top) (m .b)) (drop half c′) s
+      → Beside x y (drop half (m .c)) (drop half c′) → Zero (take half c′) → Zero d′ → Lays y half (areas (m .a) (m .b) c′ d′) s
+  lays-again y c′ d′ s more L B f clear =
       record {
-        lent = subst (λ (n : ℕ). Lent y (take n a) (take n b) (drop half c′) s) (sym (B .top)) L;
-        kinds = subst (λ (n : ℕ). Zero (drop n a)) (sym (B .top)) (Z .kinds);
-        vals = subst (λ (n : ℕ). Zero (drop n b)) (sym (B .top)) (Z .vals);
+        lent = subst (λ (n : ℕ). Lent y (take n (m .a)) (take n (m .b)) (drop half c′) s) (sym (B .top)) L;
+        kinds = subst (λ (n : ℕ). Zero (drop n (m .a))) (sym (B .top)) (Z .kinds);
+        vals = subst (λ (n : ℕ). Zero (drop n (m .b))) (sym (B .top)) (Z .vals);
         front = f;
-        blank = subst (λ (m : ℕ). Zero (drop (7 * m) (drop half c′))) (sym (B .variables)) (subst (λ (l : List ℕ). Zero l) (sym (B .rest)) (Z .blank));
-        work = w;
+        blank = subst (λ (n : ℕ). Zero (drop (7 * n) (drop half c′))) (sym (B .variables)) (subst (λ (l : List ℕ). Zero l) (sym (B .rest)) (Z .blank));
+        work = clear;
         few = omega (arith, Z .few, Z .lent .kept, L .kept, B .top);
       }
 
   -- AN ORDER DONE ON WHAT IS LENT IS ANSWERED IN THE AREAS
-  pub answers-does : (y : Solver) (c′ d′ : List ℕ) (st : Step) (out₀ : List ℕ) (to : ℕ) (out : List ℕ) (r : ℕ)
-      → Does x y (take (x .top) a) (take (x .top) b) (drop half c) (drop half c′) z st out₀ to out r → z .kept ≤ st .session .kept → Zero (take half c′) → Zero d′
-      → Answers y half a b c′ d′ out z st out₀ to r x
-  answers-does y c′ d′ st out₀ to out r D m f w =
+  pub answers-does : (y : Solver) (c′ d′ : List ℕ) (st : Step) (w v : Output)
+      → Does x y (take (x .top) (m .a)) (take (x .top) (m .b)) (drop half (m .c)) (drop half c′) z st (w .bytes) (w .at) (v .bytes) (v .at) → z .kept ≤ st .session .kept → Zero (take half c′) → Zero d′
+      → Answers y half (areas (m .a) (m .b) c′ d′) z st w v x
+  answers-does y c′ d′ st w v D more f clear =
       record {
-        fits = λ k. (D .answer .fits k .0, D .answer .fits k .1, lays-again y c′ d′ (st .session) m (D .whole k) (D .beside) f w);
-        long = λ k. (D .answer .over k .0, D .answer .over k .1, lays-again y c′ d′ z (omega arith) (D .long k) (D .beside) f w);
+        fits = λ k. (D .answer .fits k .0, D .answer .fits k .1, lays-again y c′ d′ (st .session) more (D .whole k) (D .beside) f clear);
+        long = λ k. (D .answer .over k .0, D .answer .over k .1, lays-again y c′ d′ z (omega arith) (D .long k) (D .beside) f clear);
         variables = D .beside .variables;
         nodes = D .beside .nodes;
       }
 
 -- ---- order 4: its tokens stay where it is answered
 
--- a and b are the areas with its tokens, which end before `top`; a₀ and b₀ those without
-module _ {x : Solver} {half : ℕ} {a₀ b₀ c d : List ℕ} {z : Session} (Z : Lays x half a₀ b₀ c d z) (a b : List ℕ) (top : ℕ)
+-- a and b are the areas with its tokens, which end before `top`; those of m are without them
+module _ {x : Solver} {half : ℕ} {m : Areas} {z : Session} (Z : Lays x half m z) (a b : List ℕ) (top : ℕ)
     (long-a : top ≤ length a) (rest-a : Zero (drop top a)) (rest-b : Zero (drop top b)) where
   pub lays-pair : (y : Solver) (c′ d′ : List ℕ) (s : Session) → top ≤ 64 + 6 * s .kept → Lent y (take top a) (take top b) (drop half c′) s → y .variables ≡ x .variables
-      → Zero (drop (pendingFrom x) (drop half c′)) → Zero (take half c′) → Zero d′ → Lays y half a b c′ d′ s
-  lays-pair y c′ d′ s m L v k f w =
+      → Zero (drop (pendingFrom x) (drop half c′)) → Zero (take half c′) → Zero d′ → Lays y half (areas a b c′ d′) s
+  lays-pair y c′ d′ s more L v k f clear =
       let e : top ≡ y .top = sym (L .top ∙ length-take-le top a long-a) in
       record {
         lent = subst (λ (n : ℕ). Lent y (take n a) (take n b) (drop half c′) s) e L;
         kinds = subst (λ (n : ℕ). Zero (drop n a)) e rest-a;
         vals = subst (λ (n : ℕ). Zero (drop n b)) e rest-b;
         front = f;
-        blank = subst (λ (m : ℕ). Zero (drop (7 * m) (drop half c′))) (sym v) k;
-        work = w;
+        blank = subst (λ (n : ℕ). Zero (drop (7 * n) (drop half c′))) (sym v) k;
+        work = clear;
         few = omega (arith, L .kept);
       }
 
   -- answered: the tokens stay
-  pub answers-pair : (y : Solver) (c′ d′ : List ℕ) (st : Step) (out₀ : List ℕ) (to : ℕ) (out : List ℕ) (r : ℕ)
-      → DoesPair x y (take top a) (take top b) (drop half c) (drop half c′) z st out₀ to out r → top ≤ 64 + 6 * st .session .kept → r ≤ length out₀ → Zero (take half c′) → Zero d′
-      → Answers y half a b c′ d′ out z st out₀ to r x
-  answers-pair y c′ d′ st out₀ to out r D m h f w =
+  pub answers-pair : (y : Solver) (c′ d′ : List ℕ) (st : Step) (w v : Output)
+      → DoesPair x y (take top a) (take top b) (drop half (m .c)) (drop half c′) z st (w .bytes) (w .at) (v .bytes) (v .at) → top ≤ 64 + 6 * st .session .kept → v .at ≤ length (w .bytes) → Zero (take half c′) → Zero d′
+      → Answers y half (areas a b c′ d′) z st w v x
+  answers-pair y c′ d′ st w v D more h f clear =
       record {
-        fits = λ k. (D .answer .fits k .0, D .answer .fits k .1, lays-pair y c′ d′ (st .session) m (D .whole k) (D .variables) (D .blank) f w);
+        fits = λ k. (D .answer .fits k .0, D .answer .fits k .1, lays-pair y c′ d′ (st .session) more (D .whole k) (D .variables) (D .blank) f clear);
         long = λ k. absurd (omega (arith, D .answer .over k .0));
         variables = D .variables;
         nodes = D .nodes;
       }
 
   -- not answered: they have been cleared, and all is as it was
-  pub unanswered-pair : (y : Solver) (c′ d′ : List ℕ) (st : Step) (out₀ : List ℕ) (to : ℕ) (out : List ℕ) (r : ℕ)
-      → DoesPair x y (take top a) (take top b) (drop half c) (drop half c′) z st out₀ to out r → length out₀ < r → Zero (take half c′) → Zero d′
-      → Answers y half a₀ b₀ c′ d′ out z st out₀ to r x
-  unanswered-pair y c′ d′ st out₀ to out r D h f w =
+  pub unanswered-pair : (y : Solver) (c′ d′ : List ℕ) (st : Step) (w v : Output)
+      → DoesPair x y (take top a) (take top b) (drop half (m .c)) (drop half c′) z st (w .bytes) (w .at) (v .bytes) (v .at) → length (w .bytes) < v .at → Zero (take half c′) → Zero d′
+      → Answers y half (areas (m .a) (m .b) c′ d′) z st w v x
+  unanswered-pair y c′ d′ st w v D h f clear =
       record {
         fits = λ k. absurd (omega (arith, D .answer .fits k .0));
         long = λ k. (
           D .answer .over k .0,
           D .answer .over k .1,
-          subst (λ (v : Solver). Lays v half a₀ b₀ c′ d′ z) (sym (D .long k .0))
+          subst (λ (v : Solver). Lays v half (areas (m .a) (m .b) c′ d′) z) (sym (D .long k .0))
               (record {
-                lent = subst (λ (l : List ℕ). Lent x (take (x .top) a₀) (take (x .top) b₀) l z) (sym (D .long k .1)) (Z .lent);
+                lent = subst (λ (l : List ℕ). Lent x (take (x .top) (m .a)) (take (x .top) (m .b)) l z) (sym (D .long k .1)) (Z .lent);
                 kinds = Z .kinds;
                 vals = Z .vals;
                 front = f;
                 blank = D .blank;
-                work = w;
+                work = clear;
                 few = Z .few;
               }),
         );
@@ -178,9 +178,6 @@ module _ (half : ℕ) (c : List ℕ) where
   tail-back us h =
       drop-at (take half c) (us ++ postOf half (length c - half) c) half (length-take-le half c h)
       ∙ ap (λ (l : List ℕ). us ++ l) (post-is half (length c) c h ∙ drop-length c) ∙ append-nil us
-
-  pub zero-front : (us : List ℕ) → half ≤ length c → Zero (take half c) → Zero (take half (putMid half (length c - half) c us))
-  zero-front us h z = subst (λ (l : List ℕ). Zero l) (sym (take-put half (length c - half) c us h)) z
 
   pub lent-tail : (x : Solver) (ks vs : List ℕ) (z : Session) → Lent x ks vs (drop half c) z → Lent x ks vs (take (length c - half) (drop half c)) z
   lent-tail x ks vs z L = subst (λ (l : List ℕ). Lent x ks vs l z) (sym tail-all) L

@@ -18,7 +18,7 @@ use Rattle.solver.specs.Lent.{Arises, limitsOf}
 use Rattle.sheet.specs.Fields.{Field}
 use Rattle.sheet.specs.Orders.{Act, tells, answers, Read}
 use Rattle.sheet.specs.Sheet.{readOrder, Run, perform, step, stepRead, orderOf, framed, ends, answering, nextOrder, answered, runFrom, runOf}
-use Rattle.sheet.specs.Lays.{Lays, Roomy, Served}
+use Rattle.sheet.specs.Lays.{areas, outputAt, Lays, Roomy, Served}
 use Rattle.sheet.specs.Ending.{Ready, Ended, Left}
 use Rattle.sheet.proofs.EndingLaws.{roomy-same}
 use Rattle.sheet.proofs.SplittingLaws.{Ahead, next-ahead}
@@ -118,8 +118,8 @@ pub record Going (lim : Limits) (half : ℕ) (s out₀ : List ℕ) (x : Solver) 
   pub limits : limitsOf x ≡ lim
   pub session : Session
   pub past : Past (limitsOf x) session
-  pub lays : Lays x half a b c d session
-  pub roomy : Roomy x half (length a) a b c d
+  pub lays : Lays x half (areas a b c d) session
+  pub roomy : Roomy x half (length a) (areas a b c d)
   pub inside : at ≤ length s
   pub few : n ≤ at
   pub room : to ≤ length out₀
@@ -131,7 +131,7 @@ pub record Going (lim : Limits) (half : ℕ) (s out₀ : List ℕ) (x : Solver) 
   pub enough : length s < at + fuel
   pub whole : runOf (limitsOf x) s (length out₀) ≡ after n written (runFrom (limitsOf x) s fuel session at (length out₀ - to))
 
-pub going-start : (half : ℕ) (s out₀ : List ℕ) (x : Solver) (a b c d : List ℕ) → Lays x half a b c d fresh → Roomy x half (length a) a b c d
+pub going-start : (half : ℕ) (s out₀ : List ℕ) (x : Solver) (a b c d : List ℕ) → Lays x half (areas a b c d) fresh → Roomy x half (length a) (areas a b c d)
     → Going (limitsOf x) half s out₀ x out₀ a b c d 0 0 0
 going-start half s out₀ x a b c d L R =
     record {
@@ -156,7 +156,7 @@ going-start half s out₀ x a b c d L R =
 
 -- as the next order finds the areas
 pub going-ready : (lim : Limits) (half : ℕ) (s out₀ : List ℕ) (x : Solver) (out a b c d : List ℕ) (at to n : ℕ)
-    → Going lim half s out₀ x out a b c d at to n → Ready x half a b c d
+    → Going lim half s out₀ x out a b c d at to n → Ready x half (areas a b c d)
 going-ready lim half s out₀ x out a b c d at to n g =
     record { roomy = g .roomy; session = g .session; arises = past-arises (limitsOf x) (g .session) (g .past); lays = g .lays }
 
@@ -185,14 +185,14 @@ module _ (lim : Limits) (half : ℕ) (s out₀ : List ℕ) (x : Solver) (out a b
 
 module _ (lim : Limits) (half : ℕ) (s out₀ : List ℕ) (x : Solver) (out a b c d : List ℕ) (at to n : ℕ) (g : Going lim half s out₀ x out a b c d at to n) where
   -- the sheet is used up
-  pub ends-used : length s ≤ at → Ended lim s out₀ 0 n to out × Left x half a b c d
+  pub ends-used : length s ≤ at → Ended lim s out₀ 0 n to out × Left x half (areas a b c d)
   ends-used h = (
     ending lim half s out₀ x out a b c d at to n g 0 out (run-over (limitsOf x) s (g .fuel) (g .session) at (length out₀ - to) h) refl,
     record { session = g .session; lays = g .lays },
   )
 
   -- a length is faulty
-  pub ends-faulty : at < length s → refused 10 ≡ nextOrder s at → Ended lim s out₀ 10 n to out × Left x half a b c d
+  pub ends-faulty : at < length s → refused 10 ≡ nextOrder s at → Ended lim s out₀ 10 n to out × Left x half (areas a b c d)
   ends-faulty h e = (
     ending lim half s out₀ x out a b c d at to n g 10 out (run-faulty (limitsOf x) s (g .fuel) (g .session) at (length out₀ - to) h (g .enough) e) refl,
     record { session = g .session; lays = g .lays },
@@ -200,8 +200,8 @@ module _ (lim : Limits) (half : ℕ) (s out₀ : List ℕ) (x : Solver) (out a b
 
   -- what came of the order in the session that there is
   module _ (y : Solver) (out′ a′ b′ c′ d′ b₀ : List ℕ) (r next : ℕ)
-      (f : (z : Session) → Arises (limitsOf x) loose z → Lays x half a b c d z → Served y half a′ b′ c′ d′ out′ z b₀ out to r x) where
-    served : Served y half a′ b′ c′ d′ out′ (g .session) b₀ out to r x
+      (f : (z : Session) → Arises (limitsOf x) loose z → Lays x half (areas a b c d) z → Served y half (areas a′ b′ c′ d′) z b₀ (outputAt out to) (outputAt out′ r) x) where
+    served : Served y half (areas a′ b′ c′ d′) (g .session) b₀ (outputAt out to) (outputAt out′ r) x
     served = f (g .session) (past-arises (limitsOf x) (g .session) (g .past)) (g .lays)
 
     a₀ : List ℕ
@@ -228,7 +228,7 @@ module _ (lim : Limits) (half : ℕ) (s out₀ : List ℕ) (x : Solver) (out a b
     same-limits = ap₂ {C = Limits} (λ v k. record { variables = v; nodes = k }) (served .variables) (served .nodes)
 
     -- an answer does not fit
-    pub ends-long : at < length s → got b₀ next ≡ nextOrder s at → length out < r → Ended lim s out₀ 11 n to out′ × Left y half a′ b′ c′ d′
+    pub ends-long : at < length s → got b₀ next ≡ nextOrder s at → length out < r → Ended lim s out₀ 11 n to out′ × Left y half (areas a′ b′ c′ d′)
     unfolding a₀
     ends-long h e l =
         let t : length out < to + length (framed (orderOf (limitsOf x) (g .session) b₀ .answer)) = over l in
@@ -255,13 +255,13 @@ module _ (lim : Limits) (half : ℕ) (s out₀ : List ℕ) (x : Solver) (out a b
         z′ : Session
         z′ = orderOf (limitsOf x) (g .session) b₀ .session
 
-        q : (r ≡ to + length a₀) × (out′ ≡ sets out to a₀) × Lays y half a′ b′ c′ d′ z′
+        q : (r ≡ to + length a₀) × (out′ ≡ sets out to a₀) × Lays y half (areas a′ b′ c′ d′) z′
         q = served .fits t
 
         ahead : Ahead at next (length s)
         ahead = next-ahead s at b₀ next e
 
-        roomy : Roomy y half (length a′) a′ b′ c′ d′
+        roomy : Roomy y half (length a′) (areas a′ b′ c′ d′)
         roomy = roomy-same x y half a b c d a′ b′ c′ d′ (served .variables) (served .nodes) la lb lc ld (g .roomy)
 
         wide : length (w ++ a₀) ≡ r

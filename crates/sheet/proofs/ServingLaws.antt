@@ -4,14 +4,15 @@ use mathlib.Core.Bool.{Bool, true, false}
 use mathlib.Core.List.{List, [], _∷_, _++_, append-nil}
 use mathlib.Core.Logic.{inl, inr, ⊎-elim}
 use mathlib.Core.Option.{Option, none, some}
-use Prim.Native.Nat.{ℕ, zero, suc, _+_, _-_, _*_, _^_, _≤_, _<_}
+use Prim.Native.Nat.{ℕ, _+_, _-_, _*_, _≤_, _<_}
+use native.Mathlib.Decide.{decLt}
 use native.Mathlib.Omega.{arith}
 use borrow.Author.Tests.{le-ltb}
 use lib.Dec.{eqb, ltb}
 use lib.ListN.{length, length-append, length-drop, getD, take, drop, take-append-drop, List·getD-eq-default}
 use lib.Seq.{length-take-le, getD-take, take-take}
-use Rattle.solver.specs.Terms.Result.{Result, got, refused}
-use Rattle.solver.specs.Terms.Tokens.{Item, Area, area, puts, blank, toks}
+use Rattle.solver.specs.Terms.Result.{Result, refused}
+use Rattle.solver.specs.Terms.Tokens.{Item, Area, area, blank, toks}
 use Rattle.solver.specs.Terms.Term.{Term, items, size, Held, AllVars, sub, end}
 use Rattle.solver.specs.Terms.Held.{HeldParts}
 use Rattle.solver.specs.Terms.Normal.{most}
@@ -25,27 +26,27 @@ use Rattle.solver.specs.Orders as orders
 use Rattle.solver.specs.Orders.{Command, order}
 use Rattle.solver.specs.Work.{Zero}
 use Rattle.solver.specs.Turning.{Scratch, pendingFrom}
-use Rattle.solver.specs.Lent.{Arises, limitsOf}
+use Rattle.solver.specs.Lent.{Arises, Lent, limitsOf}
 use Rattle.solver.proofs.OrderedLaws.{within-known}
 use Rattle.sheet.specs.declared.Order.{Order}
 use Rattle.sheet.specs.Fields.{Field, value, tree, allNodes, nodes, nth, termOf, numberOf, numberAt}
 use Rattle.sheet.specs.Orders as rows
 use Rattle.sheet.specs.Orders.{Answer, refusal, Act, Row, sessionOrders, rowIn, layout, commandBy, commandOf, Read}
 use Rattle.sheet.specs.Operations.{operations, operation}
-use Rattle.sheet.specs.Sheet.{table, readOrder, Step, solve, perform, step, stepRead, orderOf}
+use Rattle.sheet.specs.Sheet.{table, readOrder, Step, solve, perform, step, stepRead, orderOf, framed}
 use Rattle.sheet.specs.declared.Spot.{Spot}
 use Rattle.sheet.specs.Held.{HeldField}
 use Rattle.sheet.specs.Formed.{FormedField, FormedFields}
 use Rattle.sheet.specs.Given.{Fits}
 use Rattle.sheet.specs.Laid.{numeric, isOperation, Laid, fieldItems, allItems, spare, spares, spotAt, startAt}
-use Rattle.sheet.specs.Ordered.{RulesRoom, OrderRoom, WholeOrder}
+use Rattle.sheet.specs.Ordered.{RulesRoom, OrderRoom}
 use Rattle.sheet.specs.Written.{Framed}
 use Rattle.sheet.specs.Answering.{Among, numbersOf, Asks, Replies}
-use Rattle.sheet.specs.Lays.{Lays, Answers}
+use Rattle.sheet.specs.Lays.{Areas, areas, Output, Lays, Answers}
 use Rattle.sheet.specs.Ending.{Ready}
 use Rattle.solver.specs.Behind.{Behind, Poses, PosesPair}
 use Rattle.sheet.specs.Doing.{Does, toldElse, toldBy, plainCommand, DoesPair}
-use Rattle.sheet.specs.Taken.{Taken, Serves}
+use Rattle.sheet.specs.Taken.{Taken, Serves, Answered}
 use Rattle.sheet.proofs.StoredLaws.{zero-free, free-kinds, free-vals}
 use Rattle.sheet.proofs.TableLaws.{Plainly, plain-act, plain-among, operations-among, session-row}
 use Rattle.sheet.proofs.SessionRowLaws.{Made, MadeBy, row-made, crowds, numbers-are, numbers-none, one-term, two-terms, second-code}
@@ -54,11 +55,11 @@ use Rattle.sheet.proofs.UseLaws.{order-long, nth-formed}
 use Rattle.sheet.proofs.DoingLaws.{loose-codes}
 use Rattle.sheet.proofs.PosingLaws as posing
 use Rattle.sheet.proofs.StepLaws.{operation-step}
-use Rattle.sheet.proofs.LaysLaws.{answers-does, answers-pair, unanswered-pair}
+use Rattle.sheet.proofs.LaysLaws.{ready-half, solve-kept, answers-does, answers-pair, unanswered-pair}
 
 -- ---- room to read
 
-pub ready-room : (x : Solver) (half : ℕ) (s a b c d ws : List ℕ) → Ready x half a b c d → length s ≤ 16777216 → (getD s 0 0 ≡ 20 → RulesRoom s ws 2048)
+pub ready-room : (x : Solver) (half : ℕ) (s a b c d ws : List ℕ) → Ready x half (areas a b c d) → length s ≤ 16777216 → (getD s 0 0 ≡ 20 → RulesRoom s ws 2048)
     → OrderRoom s a b ws (x .top) (x .kept) (x .nodes)
 ready-room x half s a b c d ws R h w =
     let Y = R .roomy in
@@ -89,14 +90,15 @@ few-short s h = let z : getD s 1 0 ≡ 0 = List·getD-eq-default s 0 (omega arit
 -- ---- answers
 
 -- in areas that are the same
-pub answers-at : (y : Solver) (half : ℕ) (a₀ b₀ a b c d out : List ℕ) (z : Session) (st : Step) (out₀ : List ℕ) (to r : ℕ) (x : Solver)
-    → area a b ≡ area a₀ b₀ → Answers y half a₀ b₀ c d out z st out₀ to r x → Answers y half a b c d out z st out₀ to r x
-answers-at y half a₀ b₀ a b c d out z st out₀ to r x e A = subst (λ (w : Area). Answers y half (w .kinds) (w .vals) c d out z st out₀ to r x) (sym e) A
+answers-at : {x y : Solver} {half : ℕ} {a b a₀ b₀ c d : List ℕ} {z : Session} {st : Step} {w v : Output} → area a b ≡ area a₀ b₀
+    → Answers y half (areas a₀ b₀ c d) z st w v x → Answers y half (areas a b c d) z st w v x
+answers-at {x = x} {y = y} {half = half} {c = c} {d = d} {z = z} {st = st} {w = w} {v = v} e A =
+    subst (λ (u : Area). Answers y half (areas (u .kinds) (u .vals) c d) z st w v x) (sym e) A
 
 -- that leave the session as it was
-answers-same : (x : Solver) (half : ℕ) (a b c d : List ℕ) (z : Session) → Lays x half a b c d z → (answer : Answer) (out₀ : List ℕ) (to : ℕ) (out : List ℕ) (r : ℕ)
-    → Framed answer out₀ to out r → Answers x half a b c d out z (record { session = z; answer = answer }) out₀ to r x
-answers-same x half a b c d z Z answer out₀ to out r F =
+answers-same : {x : Solver} {half : ℕ} {m : Areas} {z : Session} → Lays x half m z → (answer : Answer) (w v : Output) → Framed answer (w .bytes) (w .at) (v .bytes) (v .at)
+    → Answers x half m z (record { session = z; answer = answer }) w v x
+answers-same Z answer w v F =
     record {
       fits = λ k. (F .fits k .0, F .fits k .1, Z);
       long = λ k. (F .over k .0, F .over k .1, Z);
@@ -105,33 +107,17 @@ answers-same x half a b c d z Z answer out₀ to out r F =
     }
 
 -- the step is another name for one that is answered
-step-as : (y : Solver) (half : ℕ) (a b c d out : List ℕ) (z : Session) (st st′ : Step) (out₀ : List ℕ) (to r : ℕ) (x : Solver) → st ≡ st′
-    → Answers y half a b c d out z st′ out₀ to r x → Answers y half a b c d out z st out₀ to r x
-step-as y half a b c d out z st st′ out₀ to r x e A = subst (λ (w : Step). Answers y half a b c d out z w out₀ to r x) (sym e) A
+step-as : {x y : Solver} {half : ℕ} {m : Areas} {z : Session} {st st′ : Step} {w v : Output} → st ≡ st′ → Answers y half m z st′ w v x → Answers y half m z st w v x
+step-as {x = x} {y = y} {half = half} {m = m} {z = z} {w = w} {v = v} e A = subst (λ (u : Step). Answers y half m z u w v x) (sym e) A
 
 -- reading refused
-pub serves-refused : (x : Solver) (half : ℕ) (s a₀ b₀ a b c d : List ℕ) (code : ℕ) → readOrder s (x .issued) ≡ refused code → area a b ≡ area a₀ b₀
-    → (out₀ : List ℕ) (to : ℕ) (out : List ℕ) (r : ℕ) → Framed (refusal code) out₀ to out r → Serves x x half s a₀ b₀ c d a b c d out₀ to out r
-serves-refused x half s a₀ b₀ a b c d code e E out₀ to out r F z A Z =
+pub serves-refused : (x : Solver) (half : ℕ) (s : List ℕ) (m : Areas) (a b : List ℕ) (code : ℕ) → readOrder s (x .issued) ≡ refused code → area a b ≡ area (m .a) (m .b)
+    → (w v : Output) → Framed (refusal code) (w .bytes) (w .at) (v .bytes) (v .at) → Serves x x half s m (areas a b (m .c) (m .d)) w v
+serves-refused x half s m a b code e E w v F z A Z =
     let st : orderOf (limitsOf x) z s ≡ record { session = z; answer = refusal code } =
     ap (λ (q : Result Read). stepRead (limitsOf x) z q) (ap (λ (n : ℕ). readOrder s n) (sym (Z .lent .issued)) ∙ e)
     in
-    answers-at x half a₀ b₀ a b c d out z (orderOf (limitsOf x) z s) out₀ to r x E
-    (step-as x half a₀ b₀ c d out z _ _ out₀ to r x st (answers-same x half a₀ b₀ c d z Z (refusal code) out₀ to out r F))
-
--- an order with too many nodes: its tokens are cleared again
-pub serves-crowded : (x : Solver) (half : ℕ) (s a₀ b₀ a b c d ws : List ℕ) (o : Order) → WholeOrder s (x .issued) (x .top) (x .kept) (x .nodes) (area a₀ b₀) (area a b) ws o
-    → x .nodes < o .nodes → (a′ b′ : List ℕ) → area a′ b′ ≡ blank (area a b) (x .top) (o .top - x .top)
-    → (out₀ : List ℕ) (to : ℕ) (out : List ℕ) (r : ℕ) → Framed (refusal 7) out₀ to out r → Serves x x half s a₀ b₀ c d a′ b′ c d out₀ to out r
-serves-crowded x half s a₀ b₀ a b c d ws o W h a′ b′ E out₀ to out r F z A Z =
-    let n : issued z ≡ x .issued = sym (Z .lent .issued) in
-    let st : orderOf (limitsOf x) z s ≡ step (limitsOf x) z (W .read .kind) (W .read .fields) =
-    ap (λ (q : Result Read). stepRead (limitsOf x) z q) (ap (λ (n : ℕ). readOrder s n) n ∙ W .is)
-    in
-    let formed = subst (λ (m : ℕ). FormedFields (rows.known (W .read .kind) m) (W .read .fields)) (Z .lent .issued) (W .formed) in
-    let seven = crowds (limitsOf x) z (o .kind) (W .read .kind) (W .kind) (Z .lent .fits .nodes) (W .read .fields) (W .fitting) formed (omega (arith, W .counts, Z .lent .kept)) in
-    answers-at x half a₀ b₀ a′ b′ c d out z (orderOf (limitsOf x) z s) out₀ to r x (E ∙ W .cleared)
-    (step-as x half a₀ b₀ c d out z _ _ out₀ to r x (st ∙ seven) (answers-same x half a₀ b₀ c d z Z (refusal 7) out₀ to out r F))
+    answers-at E (step-as st (answers-same Z (refusal code) w v F))
 
 -- ---- orders of numbers alone
 
@@ -167,328 +153,384 @@ held-cut ks vs n p t h k x =
       within = omega (arith, length-take-le n ks h);
     }
 
-module _ (x : Solver) (half : ℕ) (s a₀ b₀ a b c d ws : List ℕ) (o : Order) (T : Taken x half s a₀ b₀ a b c d ws o) where
+module _ {x : Solver} {half : ℕ} {s : List ℕ} {m : Areas} {ts : Area} {ws : List ℕ} {o : Order} (T : Taken x half s m ts ws o) where
   pub taken-after : x .top ≤ o .top
   taken-after = omega (arith, T .whole .tokens)
 
-  pub taken-small : o .top < 2 ^ 32
-  taken-small = T .whole .small
+  pub taken-half : half ≤ length (m .c)
+  taken-half = ready-half (T .ready)
 
-  pub taken-half : half ≤ length c
-  taken-half = omega (arith, T .ready .roomy .c-size, T .ready .roomy .table)
+  a-long : length (ts .kinds) ≡ length (m .a)
+  a-long = order-long s (x .issued) (x .top) (x .kept) (x .nodes) (area (m .a) (m .b)) ts ws o (T .whole) .0
 
-  a-long : length a ≡ length a₀
-  a-long = order-long s (x .issued) (x .top) (x .kept) (x .nodes) (area a₀ b₀) (area a b) ws o (T .whole) .0
-
-  b-long : length b ≡ length a₀
-  b-long = order-long s (x .issued) (x .top) (x .kept) (x .nodes) (area a₀ b₀) (area a b) ws o (T .whole) .1 ∙ T .ready .roomy .b-size
-
-  pub taken-a : o .top ≤ length a
-  taken-a = T .whole .fits (T .within)
-
-  pub taken-b : o .top ≤ length b
-  taken-b = omega (arith, taken-a, a-long, b-long)
+  b-long : length (ts .vals) ≡ length (m .a)
+  b-long = order-long s (x .issued) (x .top) (x .kept) (x .nodes) (area (m .a) (m .b)) ts ws o (T .whole) .1 ∙ T .ready .roomy .b-size
 
   -- what the bytes say, on any session that the areas held
-  step-is : (z : Session) → Lays x half a₀ b₀ c d z → orderOf (limitsOf x) z s ≡ step (limitsOf x) z (T .whole .read .kind) (T .whole .read .fields)
+  step-is : (z : Session) → Lays x half m z → orderOf (limitsOf x) z s ≡ step (limitsOf x) z (T .whole .read .kind) (T .whole .read .fields)
   step-is z Z = ap (λ (q : Result Read). stepRead (limitsOf x) z q) (ap (λ (n : ℕ). readOrder s n) (sym (Z .lent .issued)) ∙ T .whole .is)
 
-  -- ---- orders 9 to 20
-
-  pub taken-lends : Lends a b (take half c) d most
-  taken-lends =
-      let R = T .ready .roomy in
-      let L = T .ready .lays in
+  -- served in the areas that there were: with the tokens of the order cleared they are those
+  answered : (y : Solver) → y .top ≡ x .top → (c′ d′ : List ℕ) (w v : Output) → Serves x y half s m (areas (m .a) (m .b) c′ d′) w v
+      → Answered x y half s m ts o c′ d′ w v
+  answered y e c′ d′ w v S =
       record {
-        pairs = omega (arith, a-long, b-long);
-        short = omega (arith, a-long, R .few);
-        heads = omega (arith, length-take-le half c taken-half, R .records);
-        kids = omega (arith, R .d-size, R .records, R .table);
-        heads-zero = record { is = λ i h. L .front i };
-        kids-zero = record { is = λ i h. L .work i };
+        inside = omega (arith, taken-after);
+        serves = λ a′ b′ E z A Z. answers-at (E ∙ ap (λ (n : ℕ). blank ts n (o .top - n)) e ∙ T .whole .cleared) (S z A Z);
       }
 
-  pub taken-asks : true ≡ isOperation (rowIn table (o .kind)) → Asks a b s ws (numbersOf operations) o
-  taken-asks h =
-      record {
-        known = rows.known (T .whole .read .kind) (x .issued);
-        kind = T .whole .read .kind;
-        fields = T .whole .read .fields;
-        numbered = T .whole .kind;
-        given = record { held = T .whole .held (T .within); formed = T .whole .formed; fits = T .whole .fitting };
-        among = operations-among (o .kind) (T .whole .read .kind) (T .whole .kind) h;
-      }
-
-  pub operated : true ≡ isOperation (rowIn table (o .kind)) → (out₀ : List ℕ) (to : ℕ) (out : List ℕ) (r : ℕ) → Replies a b s ws o (λ y. Framed y out₀ to out r)
-      → (hs cs : List ℕ) → area hs cs ≡ area (take half c) d → (a′ b′ : List ℕ) → area a′ b′ ≡ blank (area a b) (x .top) (o .top - x .top)
-      → Serves x x half s a₀ b₀ c d a′ b′ (hs ++ drop half c) cs out₀ to out r
-  operated h out₀ to out r R hs cs e a′ b′ E z A Z =
+  -- too many nodes
+  pub crowded : x .nodes < o .nodes → (w v : Output) → Framed (refusal 7) (w .bytes) (w .at) (v .bytes) (v .at) → Answered x x half s m ts o (m .c) (m .d) w v
+  crowded h w v F =
+      answered x refl (m .c) (m .d) w v
+      (λ z A Z.
       let k = T .whole .read .kind in
       let fs = T .whole .read .fields in
-      let F = R .says (rows.known k (x .issued)) k fs (T .whole .kind) (record { held = T .whole .held (T .within); formed = T .whole .formed; fits = T .whole .fitting }) in
-      let few : z .kept + allNodes fs ≤ x .nodes = omega (arith, T .whole .counts, T .within, Z .lent .kept) in
-      let st : orderOf (limitsOf x) z s ≡ record { session = z; answer = operation k fs } =
-      step-is z Z ∙ operation-step (limitsOf x) z (o .kind) k fs (T .whole .kind) h ∙ rw (le-ltb (x .nodes) (z .kept + allNodes fs) few) refl
-      in
-      let hc : hs ++ drop half c ≡ c = ap (λ (w : Area). w .kinds ++ drop half c) e ∙ take-append-drop half c in
-      let dc : cs ≡ d = ap (λ (w : Area). w .vals) e in
-      answers-at x half a₀ b₀ a′ b′ (hs ++ drop half c) cs out z (orderOf (limitsOf x) z s) out₀ to r x (E ∙ T .whole .cleared)
-      (step-as x half a₀ b₀ (hs ++ drop half c) cs out z _ _ out₀ to r x st (rw (hc, dc) (answers-same x half a₀ b₀ c d z Z (operation k fs) out₀ to out r F)))
+      let formed = subst (λ (n : ℕ). FormedFields (rows.known k n) fs) (Z .lent .issued) (T .whole .formed) in
+      let seven = crowds (limitsOf x) z (o .kind) k (T .whole .kind) (Z .lent .fits .nodes) fs (T .whole .fitting) formed (omega (arith, T .whole .counts, Z .lent .kept)) in
+      step-as (step-is z Z ∙ seven) (answers-same Z (refusal 7) w v F))
 
-  -- which order it is
-  kind-as : (n : ℕ) (r : Row) → o .kind ≡ n → rowIn table n ≡ some r → T .whole .read .kind ≡ r
-  kind-as n r e h = let f : some (T .whole .read .kind) ≡ some r = sym (T .whole .kind) ∙ ap (λ (m : ℕ). rowIn table m) e ∙ h in cc
+  -- a command done on what is lent, other than order 4
+  told : (k : Command) → ((z : Session) → Lays x half m z → orderOf (limitsOf x) z s ≡ solve (limitsOf x) z k)
+      → (y : Solver) (c′ d′ : List ℕ) (w v : Output) → take half c′ ≡ take half (m .c) → Zero d′
+      → ((z : Session) → Arises (limitsOf x) loose z → Lays x half m z
+      → Does x y (take (x .top) (m .a)) (take (x .top) (m .b)) (drop half (m .c)) (drop half c′) z (solve (limitsOf x) z k) (w .bytes) (w .at) (v .bytes) (v .at))
+      → Answered x y half s m ts o c′ d′ w v
+  told k same y c′ d′ w v front clear D =
+      let R = T .ready in
+      answered y (D (R .session) (R .arises) (R .lays) .beside .top) c′ d′ w v
+      (λ z A Z.
+      step-as (same z Z) (answers-does Z y c′ d′ _ w v (D z A Z) (solve-kept (limitsOf x) z k) (subst (λ (l : List ℕ). Zero l) (sym front) (Z .front)) clear))
 
-  -- ---- orders of numbers alone
+  module _ (W : o .nodes ≤ x .nodes) where
+    pub taken-a : o .top ≤ length (ts .kinds)
+    taken-a = T .whole .fits W
 
-  module _ (P : Plainly (o .kind)) where
-    plain-numbers : numeric (layout (T .whole .read .kind)) ≡ true
-    plain-numbers = plain-act (o .kind) (T .whole .read .kind) (T .whole .kind) P .2
+    pub taken-b : o .top ≤ length (ts .vals)
+    taken-b = omega (arith, taken-a, a-long, b-long)
 
-    pub plain-kind : Among (0 ∷ 1 ∷ 2 ∷ 6 ∷ 7 ∷ 8 ∷ []) (o .kind)
-    plain-kind = plain-among (o .kind) (T .whole .read .kind) (T .whole .kind) P
+    -- ---- orders 9 to 20
 
-    plain-step : (z : Session) → Lays x half a₀ b₀ c d z
-        → orderOf (limitsOf x) z s ≡ solve (limitsOf x) z (plainCommand (o .kind) (numberAt 0 (T .whole .read .fields)) (numberAt 1 (T .whole .read .fields)))
-    plain-step z Z = step-is z Z ∙ plainly (o .kind) (T .whole .read .kind) (T .whole .kind) P (limitsOf x) z (T .whole .read .fields)
-
-    pub plain-first : (o .first .value ≡ numberOf (nth 0 (T .whole .read .fields))) × (o .first .value ≤ 4294967295)
-    plain-first =
-        let e = numbers-are (layout (T .whole .read .kind)) (T .whole .read .fields) plain-numbers (T .whole .fitting) 0 in
-        number-spot a b s ws (o .first) (nth 0 (T .whole .read .fields)) (rows.known (T .whole .read .kind) (x .issued)) (e .0) (e .1) (T .whole .held (T .within) .first)
-        (nth-formed (rows.known (T .whole .read .kind) (x .issued)) (T .whole .read .fields) 0 (T .whole .formed))
-
-    pub plain-second : (o .second .value ≡ numberOf (nth 1 (T .whole .read .fields))) × (o .second .value ≤ 4294967295)
-    plain-second =
-        let e = numbers-are (layout (T .whole .read .kind)) (T .whole .read .fields) plain-numbers (T .whole .fitting) 1 in
-        number-spot a b s ws (o .second) (nth 1 (T .whole .read .fields)) (rows.known (T .whole .read .kind) (x .issued)) (e .0) (e .1) (T .whole .held (T .within) .second)
-        (nth-formed (rows.known (T .whole .read .kind) (x .issued)) (T .whole .read .fields) 1 (T .whole .formed))
-
-    pub plain-code : o .kind ≡ 1 → o .second .value < 32
-    unfolding layout rowIn table sessionOrders
-    plain-code h =
-        let k = kind-as 1 rows.number-variable h refl in
-        let g = second-code (T .whole .read .fields) (subst (λ (r : Row). Fits (layout r) (T .whole .read .fields)) k (T .whole .fitting)) in
-        omega (arith, plain-second .0)
-
-    -- it has no tokens
-    plain-areas : area a b ≡ area a₀ b₀
-    unfolding puts
-    plain-areas =
-        T .whole .stored (T .within)
-        ∙ ap (λ (l : List Item). puts (area a₀ b₀) (x .top) l) (numbers-none (layout (T .whole .read .kind)) (T .whole .read .fields) plain-numbers (T .whole .fitting) .1)
-
-    pub plain-ready : Ready x half a b c d
-    plain-ready = subst (λ (w : Area). Ready x half (w .kinds) (w .vals) c d) (sym plain-areas) (T .ready)
-
-    pub plain-served : (i j : ℕ) → i ≡ o .first .value → j ≡ o .second .value → (y : Solver) (c′ d′ out₀ : List ℕ) (to : ℕ) (out : List ℕ) (r : ℕ)
-        → ((z : Session) → Arises (limitsOf x) loose z → Lays x half a b c d z → Answers y half a b c′ d′ out z (solve (limitsOf x) z (plainCommand (o .kind) i j)) out₀ to r x)
-        → Serves x y half s a₀ b₀ c d a b c′ d′ out₀ to out r
-    plain-served i j ei ej y c′ d′ out₀ to out r E z A Z =
-        let same : orderOf (limitsOf x) z s ≡ solve (limitsOf x) z (plainCommand (o .kind) i j) = plain-step z Z ∙ rw (ei, ej, plain-first .0, plain-second .0) refl in
-        step-as y half a b c′ d′ out z _ _ out₀ to r x same (E z A (subst (λ (w : Area). Lays x half (w .kinds) (w .vals) c d z) (sym plain-areas) Z))
-
-  -- ---- orders 3, 4 and 5
-
-  cut-a : take (x .top) (take (o .top) a) ≡ take (x .top) a₀
-  cut-a = take-take (x .top) (o .top) a taken-after ∙ ap (λ (w : Area). w .kinds) (T .whole .same)
-
-  cut-b : take (x .top) (take (o .top) b) ≡ take (x .top) b₀
-  cut-b = take-take (x .top) (o .top) b taken-after ∙ ap (λ (w : Area). w .vals) (T .whole .same)
-
-  long-a : length (take (o .top) a) ≡ o .top
-  long-a = length-take-le (o .top) a taken-a
-
-  long-b : length (take (o .top) b) ≡ o .top
-  long-b = length-take-le (o .top) b taken-b
-
-  behind : (z : Session) → Arises (limitsOf x) loose z → Lays x half a₀ b₀ c d z → Behind loose x (take (o .top) a) (take (o .top) b) (drop half c) z
-  behind z A Z =
-      record {
-        codes = loose-codes;
-        arises = A;
-        lent = rw (cut-a, cut-b) (Z .lent);
-        inside = omega (arith, long-a, taken-after);
-        pairs = long-b ∙ sym long-a;
-        short = omega (arith, long-a, T .whole .small);
-      }
-
-  abbrev fs : List Field
-  fs = T .whole .read .fields
-
-  module _ (t : Term) (is : fs ≡ tree t ∷ []) (all : rows.known (T .whole .read .kind) (x .issued) ≡ x .issued) where
-    one-items : allItems fs ≡ items t
-    unfolding allItems fieldItems
-    one-items = ap allItems is ∙ append-nil (items t)
-
-    one-size : allNodes fs ≡ size t
-    unfolding allNodes nodes
-    one-size = omega (arith, ap allNodes is)
-
-    one-below : AllVars (λ v. v < x .issued) t
-    unfolding FormedFields
-    one-below =
-        let g = subst (λ (l : List Field). FormedFields (rows.known (T .whole .read .kind) (x .issued)) l) is (T .whole .formed) in
-        subst (λ (n : ℕ). AllVars (λ v. v < n) t) all (g .0 .below)
-
-    pub poses : (z : Session) → Arises (limitsOf x) loose z → Lays x half a₀ b₀ c d z → Poses loose x (take (o .top) a) (take (o .top) b) (drop half c) z t
-    poses z A Z =
-        let n : length (allItems fs) ≡ length (items t) = ap length one-items in
+    pub taken-lends : Lends (ts .kinds) (ts .vals) (take half (m .c)) (m .d) most
+    taken-lends =
+        let R = T .ready .roomy in
+        let L = T .ready .lays in
         record {
-          behind = behind z A Z;
-          held =
-              held-cut a b (o .top) (x .top) t taken-a (omega (arith, T .whole .tokens, n))
-              (record { tokens = subst (λ (l : List Item). toks a b (x .top) (length l) ≡ l) one-items (T .whole .run (T .within)); within = omega (arith, T .whole .tokens, n, taken-a) });
-          within = subst (λ (n : ℕ). AllVars (λ v. v < n) t) (Z .lent .issued) one-below;
-          few = omega (arith, T .whole .counts, T .within, Z .lent .kept, one-size);
+          pairs = omega (arith, a-long, b-long);
+          short = omega (arith, a-long, R .few);
+          heads = omega (arith, length-take-le half (m .c) taken-half, R .records);
+          kids = omega (arith, R .d-size, R .records, R .table);
+          heads-zero = record { is = λ i h. L .front i };
+          kids-zero = record { is = λ i h. L .work i };
         }
 
-    pub posed : (st : Step) (z : Session) → Lays x half a₀ b₀ c d z → orderOf (limitsOf x) z s ≡ st → z .kept ≤ st .session .kept
-        → (y : Solver) (c′ d′ out₀ : List ℕ) (to : ℕ) (out : List ℕ) (r : ℕ)
-        → Does x y (take (x .top) (take (o .top) a)) (take (x .top) (take (o .top) b)) (drop half c) (drop half c′) z st out₀ to out r
-        → Zero (take half c′) → Zero d′ → (a′ b′ : List ℕ) → area a′ b′ ≡ blank (area a b) (x .top) (o .top - x .top)
-        → Answers y half a′ b′ c′ d′ out z (orderOf (limitsOf x) z s) out₀ to r x
-    posed st z Z e k y c′ d′ out₀ to out r D f w a′ b′ E =
-        answers-at y half a₀ b₀ a′ b′ c′ d′ out z (orderOf (limitsOf x) z s) out₀ to r x (E ∙ T .whole .cleared)
-        (step-as y half a₀ b₀ c′ d′ out z _ _ out₀ to r x e (answers-does Z y c′ d′ st out₀ to out r (rw (cut-a, cut-b) at D) k f w))
+    pub taken-asks : true ≡ isOperation (rowIn table (o .kind)) → Asks (ts .kinds) (ts .vals) s ws (numbersOf operations) o
+    taken-asks h =
+        record {
+          known = rows.known (T .whole .read .kind) (x .issued);
+          kind = T .whole .read .kind;
+          fields = T .whole .read .fields;
+          numbered = T .whole .kind;
+          given = record { held = T .whole .held W; formed = T .whole .formed; fits = T .whole .fitting };
+          among = operations-among (o .kind) (T .whole .read .kind) (T .whole .kind) h;
+        }
 
-  -- order 3
-  pub defer-term : o .kind ≡ 3 → (t : Term) × (fs ≡ tree t ∷ [])
-  unfolding layout rowIn table sessionOrders
-  defer-term h = one-term fs (subst (λ (r : Row). Fits (layout r) fs) (kind-as 3 rows.defer-never h refl) (T .whole .fitting))
+    pub operated : true ≡ isOperation (rowIn table (o .kind)) → (w v : Output) → Replies (ts .kinds) (ts .vals) s ws o (λ y. Framed y (w .bytes) (w .at) (v .bytes) (v .at))
+        → (hs cs : List ℕ) → area hs cs ≡ area (take half (m .c)) (m .d) → Answered x x half s m ts o (hs ++ drop half (m .c)) cs w v
+    operated h w v R hs cs e =
+        answered x refl (hs ++ drop half (m .c)) cs w v
+        (λ z A Z.
+        let k = T .whole .read .kind in
+        let fs = T .whole .read .fields in
+        let F = R .says (rows.known k (x .issued)) k fs (T .whole .kind) (record { held = T .whole .held W; formed = T .whole .formed; fits = T .whole .fitting }) in
+        let few : z .kept + allNodes fs ≤ x .nodes = omega (arith, T .whole .counts, W, Z .lent .kept) in
+        let st : orderOf (limitsOf x) z s ≡ record { session = z; answer = operation k fs } =
+        step-is z Z ∙ operation-step (limitsOf x) z (o .kind) k fs (T .whole .kind) h ∙ rw (le-ltb (x .nodes) (z .kept + allNodes fs) few) refl
+        in
+        let hc : hs ++ drop half (m .c) ≡ (m .c) = ap (λ (u : Area). u .kinds ++ drop half (m .c)) e ∙ take-append-drop half (m .c) in
+        let dc : cs ≡ (m .d) = ap (λ (u : Area). u .vals) e in
+        step-as st (rw (hc, dc) (answers-same Z (operation k fs) w v F)))
 
-  pub defer-known : o .kind ≡ 3 → rows.known (T .whole .read .kind) (x .issued) ≡ x .issued
-  unfolding rows.known rowIn table sessionOrders
-  defer-known h = rw (kind-as 3 rows.defer-never h refl) refl
+    -- which order it is
+    kind-as : (n : ℕ) (r : Row) → o .kind ≡ n → rowIn table n ≡ some r → T .whole .read .kind ≡ r
+    kind-as n r e h = let f : some (T .whole .read .kind) ≡ some r = sym (T .whole .kind) ∙ ap (λ (i : ℕ). rowIn table i) e ∙ h in cc
 
-  pub defer-step : (h : o .kind ≡ 3) (z : Session) → Lays x half a₀ b₀ c d z → (t : Term) → fs ≡ tree t ∷ [] → orderOf (limitsOf x) z s ≡ solve (limitsOf x) z (orders.defer t)
-  unfolding step nth termOf rowIn table sessionOrders
-  defer-step h z Z t e = step-is z Z ∙ rw (kind-as 3 rows.defer-never h refl, e) refl
+    -- ---- orders of numbers alone
 
-  -- order 5
-  pub resolve-term : o .kind ≡ 5 → (t : Term) × (fs ≡ tree t ∷ [])
-  unfolding layout rowIn table sessionOrders
-  resolve-term h = one-term fs (subst (λ (r : Row). Fits (layout r) fs) (kind-as 5 rows.resolve h refl) (T .whole .fitting))
+    module _ (P : Plainly (o .kind)) where
+      plain-numbers : numeric (layout (T .whole .read .kind)) ≡ true
+      plain-numbers = plain-act (o .kind) (T .whole .read .kind) (T .whole .kind) P .2
 
-  pub resolve-known : o .kind ≡ 5 → rows.known (T .whole .read .kind) (x .issued) ≡ x .issued
-  unfolding rows.known rowIn table sessionOrders
-  resolve-known h = rw (kind-as 5 rows.resolve h refl) refl
+      pub plain-kind : Among (0 ∷ 1 ∷ 2 ∷ 6 ∷ 7 ∷ 8 ∷ []) (o .kind)
+      plain-kind = plain-among (o .kind) (T .whole .read .kind) (T .whole .kind) P
 
-  pub resolve-step : (h : o .kind ≡ 5) (z : Session) → Lays x half a₀ b₀ c d z → (t : Term) → fs ≡ tree t ∷ [] → orderOf (limitsOf x) z s ≡ solve (limitsOf x) z (orders.resolving t)
-  unfolding step nth termOf rowIn table sessionOrders
-  resolve-step h z Z t e = step-is z Z ∙ rw (kind-as 5 rows.resolve h refl, e) refl
+      plain-step : (z : Session) → Lays x half m z
+          → orderOf (limitsOf x) z s ≡ solve (limitsOf x) z (plainCommand (o .kind) (numberAt 0 (T .whole .read .fields)) (numberAt 1 (T .whole .read .fields)))
+      plain-step z Z = step-is z Z ∙ plainly (o .kind) (T .whole .read .kind) (T .whole .kind) P (limitsOf x) z (T .whole .read .fields)
 
-  -- order 4
-  module _ (h : o .kind ≡ 4) where
-    kind-pair : T .whole .read .kind ≡ rows.constrain
-    unfolding rowIn table sessionOrders
-    kind-pair = kind-as 4 rows.constrain h refl
+      pub plain-first : (o .first .value ≡ numberOf (nth 0 (T .whole .read .fields))) × (o .first .value ≤ 4294967295)
+      plain-first =
+          let e = numbers-are (layout (T .whole .read .kind)) (T .whole .read .fields) plain-numbers (T .whole .fitting) 0 in
+          number-spot (ts .kinds) (ts .vals) s ws (o .first) (nth 0 (T .whole .read .fields)) (rows.known (T .whole .read .kind) (x .issued)) (e .0) (e .1) (T .whole .held W .first)
+          (nth-formed (rows.known (T .whole .read .kind) (x .issued)) (T .whole .read .fields) 0 (T .whole .formed))
 
-    pub pair-terms : (n : ℕ) × (t : Term) × (u : Term) × (fs ≡ value n ∷ tree t ∷ tree u ∷ [])
-    unfolding layout
-    pair-terms = two-terms fs (subst (λ (r : Row). Fits (layout r) fs) kind-pair (T .whole .fitting))
+      pub plain-second : (o .second .value ≡ numberOf (nth 1 (T .whole .read .fields))) × (o .second .value ≤ 4294967295)
+      plain-second =
+          let e = numbers-are (layout (T .whole .read .kind)) (T .whole .read .fields) plain-numbers (T .whole .fitting) 1 in
+          number-spot (ts .kinds) (ts .vals) s ws (o .second) (nth 1 (T .whole .read .fields)) (rows.known (T .whole .read .kind) (x .issued)) (e .0) (e .1) (T .whole .held W .second)
+          (nth-formed (rows.known (T .whole .read .kind) (x .issued)) (T .whole .read .fields) 1 (T .whole .formed))
 
-    module _ (n : ℕ) (t u : Term) (is : fs ≡ value n ∷ tree t ∷ tree u ∷ []) where
-      pair-items : allItems fs ≡ items t ++ items u
+      pub plain-code : o .kind ≡ 1 → o .second .value < 32
+      unfolding layout rowIn table sessionOrders
+      plain-code h =
+          let k = kind-as 1 rows.number-variable h refl in
+          let g = second-code (T .whole .read .fields) (subst (λ (r : Row). Fits (layout r) (T .whole .read .fields)) k (T .whole .fitting)) in
+          omega (arith, plain-second .0)
+
+      -- it has no tokens
+      no-items : allItems (T .whole .read .fields) ≡ []
+      no-items = numbers-none (layout (T .whole .read .kind)) (T .whole .read .fields) plain-numbers (T .whole .fitting) .1
+
+      plain-top : o .top ≡ x .top
+      plain-top = omega (arith, T .whole .tokens, ap length no-items)
+
+      plain-areas : area (take (o .top) (ts .kinds)) (take (o .top) (ts .vals)) ≡ area (take (x .top) (m .a)) (take (x .top) (m .b))
+      plain-areas = ap (λ (n : ℕ). area (take n (ts .kinds)) (take n (ts .vals))) plain-top ∙ T .whole .same
+
+      pub plain-lent : (z : Session) → Lays x half m z → Lent x (take (o .top) (ts .kinds)) (take (o .top) (ts .vals)) (drop half (m .c)) z
+      plain-lent z Z = subst (λ (u : Area). Lent x (u .kinds) (u .vals) (drop half (m .c)) z) (sym plain-areas) (Z .lent)
+
+      pub plain-answered : (i j : ℕ) → i ≡ o .first .value → j ≡ o .second .value
+          → (y : Solver) (c′ d′ : List ℕ) (w v : Output) → take half c′ ≡ take half (m .c) → Zero d′
+          → ((z : Session) → Arises (limitsOf x) loose z → Lent x (take (o .top) (ts .kinds)) (take (o .top) (ts .vals)) (drop half (m .c)) z
+          → Does x y (take (o .top) (ts .kinds)) (take (o .top) (ts .vals)) (drop half (m .c)) (drop half c′) z (solve (limitsOf x) z (plainCommand (o .kind) i j)) (w .bytes) (w .at) (v .bytes) (v .at))
+          → Answered x y half s m ts o c′ d′ w v
+      plain-answered i j ei ej y c′ d′ w v front clear D =
+          told (plainCommand (o .kind) i j) (λ z Z. plain-step z Z ∙ rw (ei, ej, plain-first .0, plain-second .0) refl) y c′ d′ w v front clear
+          (λ z A Z.
+          subst (λ (u : Area). Does x y (u .kinds) (u .vals) (drop half (m .c)) (drop half c′) z (solve (limitsOf x) z (plainCommand (o .kind) i j)) (w .bytes) (w .at) (v .bytes) (v .at)) plain-areas
+          (D z A (plain-lent z Z)))
+
+    -- ---- orders 3, 4 and 5
+
+    cut-a : take (x .top) (take (o .top) (ts .kinds)) ≡ take (x .top) (m .a)
+    cut-a = take-take (x .top) (o .top) (ts .kinds) taken-after ∙ ap (λ (u : Area). u .kinds) (T .whole .same)
+
+    cut-b : take (x .top) (take (o .top) (ts .vals)) ≡ take (x .top) (m .b)
+    cut-b = take-take (x .top) (o .top) (ts .vals) taken-after ∙ ap (λ (u : Area). u .vals) (T .whole .same)
+
+    long-a : length (take (o .top) (ts .kinds)) ≡ o .top
+    long-a = length-take-le (o .top) (ts .kinds) taken-a
+
+    long-b : length (take (o .top) (ts .vals)) ≡ o .top
+    long-b = length-take-le (o .top) (ts .vals) taken-b
+
+    behind : (z : Session) → Arises (limitsOf x) loose z → Lays x half m z → Behind loose x (take (o .top) (ts .kinds)) (take (o .top) (ts .vals)) (drop half (m .c)) z
+    behind z A Z =
+        record {
+          codes = loose-codes;
+          arises = A;
+          lent = rw (cut-a, cut-b) (Z .lent);
+          inside = omega (arith, long-a, taken-after);
+          pairs = long-b ∙ sym long-a;
+          short = omega (arith, long-a, T .whole .small);
+        }
+
+    abbrev fs : List Field
+    fs = T .whole .read .fields
+
+    module _ (t : Term) (is : fs ≡ tree t ∷ []) (all : rows.known (T .whole .read .kind) (x .issued) ≡ x .issued) where
+      one-items : allItems fs ≡ items t
       unfolding allItems fieldItems
-      pair-items = ap allItems is ∙ ap (λ (l : List Item). items t ++ l) (append-nil (items u))
+      one-items = ap allItems is ∙ append-nil (items t)
 
-      pair-size : allNodes fs ≡ size t + size u
+      one-size : allNodes fs ≡ size t
       unfolding allNodes nodes
-      pair-size = omega (arith, ap allNodes is)
+      one-size = omega (arith, ap allNodes is)
 
-      pair-formed : FormedFields (x .issued) (value n ∷ tree t ∷ tree u ∷ [])
-      unfolding rows.known
-      pair-formed =
-          subst (λ (l : List Field). FormedFields (x .issued) l) is
-          (subst (λ (r : Row). FormedFields (rows.known r (x .issued)) fs) kind-pair (T .whole .formed))
-
-      pub pair-k : (o .first .value ≡ n) × (n ≤ 4294967295)
-      unfolding spotAt nth FormedFields
-      pair-k = (subst (λ (l : List Field). Laid s ws (startAt (x .top) 0 l) (spotAt 0 o) (nth 0 l)) is (T .whole .spots 0 (omega arith)), pair-formed .0)
-
-      pair-place : o .third .place ≡ x .top + length (items t)
-      unfolding spotAt nth startAt fieldItems
-      pair-place = let p : o .third .place ≡ x .top + 0 + length (items t) = subst (λ (l : List Field). Laid s ws (startAt (x .top) 2 l) (spotAt 2 o) (nth 2 l)) is (T .whole .spots 2 (omega arith)) in omega arith
-
-      pair-top : o .top ≡ x .top + length (items t) + length (items u)
-      pair-top = omega (arith, T .whole .tokens, ap length pair-items, length-append (items t) (items u))
-
-      pair-row : HeldParts a b (x .top) (o .top) (sub t (sub u end))
-      pair-row = use-laws.pair-row s (x .issued) (x .top) (x .kept) (x .nodes) (area a₀ b₀) (area a b) ws o (T .whole) (T .within) n t u is
-
-      pub poses-pair : (z : Session) → Arises (limitsOf x) loose z → Lays x half a₀ b₀ c d z
-          → PosesPair loose x (take (o .top) a) (take (o .top) b) (drop half c) z (o .third .place) t u
+      one-below : AllVars (λ v. v < x .issued) t
       unfolding FormedFields
-      poses-pair z A Z =
-          let l = held-sub a b (x .top) (o .top) t (sub u end) pair-row in
-          let r = held-sub a b (x .top + length (items t)) (o .top) u end (l .1) in
+      one-below =
+          let g = subst (λ (l : List Field). FormedFields (rows.known (T .whole .read .kind) (x .issued)) l) is (T .whole .formed) in
+          subst (λ (n : ℕ). AllVars (λ v. v < n) t) all (g .0 .below)
+
+      pub poses : (z : Session) → Arises (limitsOf x) loose z → Lays x half m z → Poses loose x (take (o .top) (ts .kinds)) (take (o .top) (ts .vals)) (drop half (m .c)) z t
+      poses z A Z =
+          let n : length (allItems fs) ≡ length (items t) = ap length one-items in
           record {
             behind = behind z A Z;
-            left = held-cut a b (o .top) (x .top) t taken-a (omega (arith, pair-top)) (l .0);
-            right = held-cut a b (o .top) (x .top + length (items t)) u taken-a (omega (arith, pair-top)) (r .0);
-            all = long-a ∙ pair-top;
-            place = pair-place;
-            within-left = subst (λ (n : ℕ). AllVars (λ v. v < n) t) (Z .lent .issued) (pair-formed .1 .0 .below);
-            within-right = subst (λ (n : ℕ). AllVars (λ v. v < n) u) (Z .lent .issued) (pair-formed .1 .1 .0 .below);
-            few = omega (arith, T .whole .counts, T .within, Z .lent .kept, pair-size);
+            held =
+                held-cut (ts .kinds) (ts .vals) (o .top) (x .top) t taken-a (omega (arith, T .whole .tokens, n))
+                (record { tokens = subst (λ (l : List Item). toks (ts .kinds) (ts .vals) (x .top) (length l) ≡ l) one-items (T .whole .run W); within = omega (arith, T .whole .tokens, n, taken-a) });
+            within = subst (λ (n : ℕ). AllVars (λ v. v < n) t) (Z .lent .issued) one-below;
+            few = omega (arith, T .whole .counts, W, Z .lent .kept, one-size);
           }
 
-      pub pair-nodes : (z : Session) → Lays x half a₀ b₀ c d z → o .nodes ≡ z .kept + (size t + size u)
-      pair-nodes z Z = omega (arith, T .whole .counts, Z .lent .kept, pair-size)
+      pub posed : (k : Command) → ((z : Session) → Lays x half m z → orderOf (limitsOf x) z s ≡ solve (limitsOf x) z k)
+          → (y : Solver) (c′ d′ : List ℕ) (w v : Output) → take half c′ ≡ take half (m .c) → Zero d′
+          → ((z : Session) → Poses loose x (take (o .top) (ts .kinds)) (take (o .top) (ts .vals)) (drop half (m .c)) z t
+          → Does x y (take (x .top) (take (o .top) (ts .kinds))) (take (x .top) (take (o .top) (ts .vals))) (drop half (m .c)) (drop half c′) z (solve (limitsOf x) z k) (w .bytes) (w .at) (v .bytes) (v .at))
+          → Answered x y half s m ts o c′ d′ w v
+      posed k same y c′ d′ w v front clear D =
+          told k same y c′ d′ w v front clear (λ z A Z. rw (cut-a, cut-b) at (D z (poses z A Z)))
 
-      pair-step : (z : Session) → Lays x half a₀ b₀ c d z → orderOf (limitsOf x) z s ≡ solve (limitsOf x) z (orders.pair n t u)
-      unfolding step nth termOf numberOf
-      pair-step z Z = step-is z Z ∙ rw (kind-pair, is) refl
+    -- order 3
+    pub defer-term : o .kind ≡ 3 → (t : Term) × (fs ≡ tree t ∷ [])
+    unfolding layout rowIn table sessionOrders
+    defer-term h = one-term fs (subst (λ (r : Row). Fits (layout r) fs) (kind-as 3 rows.defer-never h refl) (T .whole .fitting))
 
-      pair-few : o .top ≤ 64 + 6 * o .nodes
-      unfolding layout spares spare
-      pair-few =
-          let g : length (allItems fs) ≤ 6 * allNodes fs + 0 = subst (λ (r : Row). length (allItems fs) ≤ 6 * allNodes fs + spares (layout r)) kind-pair (T .whole .room) in
-          omega (arith, T .whole .tokens, T .whole .counts, T .ready .lays .few)
+    pub defer-known : o .kind ≡ 3 → rows.known (T .whole .read .kind) (x .issued) ≡ x .issued
+    unfolding rows.known rowIn table sessionOrders
+    defer-known h = rw (kind-as 3 rows.defer-never h refl) refl
 
-      pub pair-scratch : Scratch x (take (o .top) a) (drop half c) d
-      pair-scratch =
-          let R = T .ready .roomy in
-          record {
-            pairs = omega (arith, length-drop half c, R .table, R .c-size);
-            short = omega (arith, length-drop half c, R .few, R .c-size);
-            links = omega (arith, long-a, pair-few, T .within, R .links, R .d-size);
-            marks = omega (arith, R .marks, R .d-size);
-            clear = T .ready .lays .work;
-          }
+    pub defer-step : (h : o .kind ≡ 3) (z : Session) → Lays x half m z → (t : Term) → fs ≡ tree t ∷ [] → orderOf (limitsOf x) z s ≡ solve (limitsOf x) z (orders.defer t)
+    unfolding step nth termOf rowIn table sessionOrders
+    defer-step h z Z t e = step-is z Z ∙ rw (kind-as 3 rows.defer-never h refl, e) refl
 
-      pub pair-blank : Zero (drop (pendingFrom x) (drop half c))
-      pair-blank = T .ready .lays .blank
+    -- order 5
+    pub resolve-term : o .kind ≡ 5 → (t : Term) × (fs ≡ tree t ∷ [])
+    unfolding layout rowIn table sessionOrders
+    resolve-term h = one-term fs (subst (λ (r : Row). Fits (layout r) fs) (kind-as 5 rows.resolve h refl) (T .whole .fitting))
 
-      pair-kept : (z : Session) → Arises (limitsOf x) loose z → Lays x half a₀ b₀ c d z → o .top ≤ 64 + 6 * solve (limitsOf x) z (orders.pair n t u) .session .kept
-      pair-kept z A Z =
-          let P = poses-pair z A Z in
-          let e = posing.pair-step (limitsOf x) z n t u (within-known z t (P .within-left)) (within-known z u (P .within-right)) (P .few) in
-          let k : solve (limitsOf x) z (orders.pair n t u) .session .kept ≡ z .kept + (size t + size u) = ap (λ (q : orders.Step). q .session .kept) e in
-          omega (arith, pair-few, pair-nodes z Z)
+    pub resolve-known : o .kind ≡ 5 → rows.known (T .whole .read .kind) (x .issued) ≡ x .issued
+    unfolding rows.known rowIn table sessionOrders
+    resolve-known h = rw (kind-as 5 rows.resolve h refl) refl
 
-      module _ (y : Solver) (c′ d′ out₀ : List ℕ) (to : ℕ) (out : List ℕ) (r : ℕ) (front : take half c′ ≡ take half c) (clear : Zero d′) (k : ℕ) (ek : k ≡ n)
-          (E : (z : Session) → PosesPair loose x (take (o .top) a) (take (o .top) b) (drop half c) z (o .third .place) t u → o .nodes ≡ z .kept + (size t + size u)
-          → DoesPair x y (take (o .top) a) (take (o .top) b) (drop half c) (drop half c′) z (solve (limitsOf x) z (orders.pair k t u)) out₀ to out r) where
-        does : (z : Session) → Arises (limitsOf x) loose z → Lays x half a₀ b₀ c d z
-            → DoesPair x y (take (o .top) a) (take (o .top) b) (drop half c) (drop half c′) z (solve (limitsOf x) z (orders.pair n t u)) out₀ to out r
-        does z A Z =
-            subst (λ (i : ℕ). DoesPair x y (take (o .top) a) (take (o .top) b) (drop half c) (drop half c′) z (solve (limitsOf x) z (orders.pair i t u)) out₀ to out r) ek
-            (E z (poses-pair z A Z) (pair-nodes z Z))
+    pub resolve-step : (h : o .kind ≡ 5) (z : Session) → Lays x half m z → (t : Term) → fs ≡ tree t ∷ [] → orderOf (limitsOf x) z s ≡ solve (limitsOf x) z (orders.resolving t)
+    unfolding step nth termOf rowIn table sessionOrders
+    resolve-step h z Z t e = step-is z Z ∙ rw (kind-as 5 rows.resolve h refl, e) refl
 
-        zero-front : (z : Session) → Lays x half a₀ b₀ c d z → Zero (take half c′)
-        zero-front z Z = subst (λ (l : List ℕ). Zero l) (sym front) (Z .front)
+    -- order 4
+    module _ (h : o .kind ≡ 4) where
+      kind-pair : T .whole .read .kind ≡ rows.constrain
+      unfolding rowIn table sessionOrders
+      kind-pair = kind-as 4 rows.constrain h refl
 
-        pub pair-stays : r ≤ length out₀ → Serves x y half s a₀ b₀ c d a b c′ d′ out₀ to out r
-        pair-stays h z A Z =
-            step-as y half a b c′ d′ out z _ _ out₀ to r x (pair-step z Z)
-            (answers-pair Z a b (o .top) taken-a (free-kinds (o .top) (area a b) (T .whole .free)) (free-vals (o .top) (area a b) (T .whole .free)) y c′ d′ _ out₀ to out r (does z A Z)
-            (pair-kept z A Z) h (zero-front z Z) clear)
+      pub pair-terms : (n : ℕ) × (t : Term) × (u : Term) × (fs ≡ value n ∷ tree t ∷ tree u ∷ [])
+      unfolding layout
+      pair-terms = two-terms fs (subst (λ (r : Row). Fits (layout r) fs) kind-pair (T .whole .fitting))
 
-        pub pair-undone : length out₀ < r → (a′ b′ : List ℕ) → area a′ b′ ≡ blank (area a b) (x .top) (o .top - x .top) → Serves x y half s a₀ b₀ c d a′ b′ c′ d′ out₀ to out r
-        pair-undone h a′ b′ e z A Z =
-            answers-at y half a₀ b₀ a′ b′ c′ d′ out z (orderOf (limitsOf x) z s) out₀ to r x (e ∙ T .whole .cleared)
-            (step-as y half a₀ b₀ c′ d′ out z _ _ out₀ to r x (pair-step z Z)
-            (unanswered-pair Z a b (o .top) taken-a (free-kinds (o .top) (area a b) (T .whole .free)) (free-vals (o .top) (area a b) (T .whole .free)) y c′ d′ _ out₀ to out r (does z A Z) h
-            (zero-front z Z) clear))
+      module _ (n : ℕ) (t u : Term) (is : fs ≡ value n ∷ tree t ∷ tree u ∷ []) where
+        pair-items : allItems fs ≡ items t ++ items u
+        unfolding allItems fieldItems
+        pair-items = ap allItems is ∙ ap (λ (l : List Item). items t ++ l) (append-nil (items u))
+
+        pair-size : allNodes fs ≡ size t + size u
+        unfolding allNodes nodes
+        pair-size = omega (arith, ap allNodes is)
+
+        pair-formed : FormedFields (x .issued) (value n ∷ tree t ∷ tree u ∷ [])
+        unfolding rows.known
+        pair-formed =
+            subst (λ (l : List Field). FormedFields (x .issued) l) is
+            (subst (λ (r : Row). FormedFields (rows.known r (x .issued)) fs) kind-pair (T .whole .formed))
+
+        pub pair-k : (o .first .value ≡ n) × (n ≤ 4294967295)
+        unfolding spotAt nth FormedFields
+        pair-k = (subst (λ (l : List Field). Laid s ws (startAt (x .top) 0 l) (spotAt 0 o) (nth 0 l)) is (T .whole .spots 0 (omega arith)), pair-formed .0)
+
+        pair-place : o .third .place ≡ x .top + length (items t)
+        unfolding spotAt nth startAt fieldItems
+        pair-place = let p : o .third .place ≡ x .top + 0 + length (items t) = subst (λ (l : List Field). Laid s ws (startAt (x .top) 2 l) (spotAt 2 o) (nth 2 l)) is (T .whole .spots 2 (omega arith)) in omega arith
+
+        pair-top : o .top ≡ x .top + length (items t) + length (items u)
+        pair-top = omega (arith, T .whole .tokens, ap length pair-items, length-append (items t) (items u))
+
+        pair-row : HeldParts (ts .kinds) (ts .vals) (x .top) (o .top) (sub t (sub u end))
+        pair-row = use-laws.pair-row s (x .issued) (x .top) (x .kept) (x .nodes) (area (m .a) (m .b)) ts ws o (T .whole) W n t u is
+
+        pub poses-pair : (z : Session) → Arises (limitsOf x) loose z → Lays x half m z
+            → PosesPair loose x (take (o .top) (ts .kinds)) (take (o .top) (ts .vals)) (drop half (m .c)) z (o .third .place) t u
+        unfolding FormedFields
+        poses-pair z A Z =
+            let l = held-sub (ts .kinds) (ts .vals) (x .top) (o .top) t (sub u end) pair-row in
+            let r = held-sub (ts .kinds) (ts .vals) (x .top + length (items t)) (o .top) u end (l .1) in
+            record {
+              behind = behind z A Z;
+              left = held-cut (ts .kinds) (ts .vals) (o .top) (x .top) t taken-a (omega (arith, pair-top)) (l .0);
+              right = held-cut (ts .kinds) (ts .vals) (o .top) (x .top + length (items t)) u taken-a (omega (arith, pair-top)) (r .0);
+              all = long-a ∙ pair-top;
+              place = pair-place;
+              within-left = subst (λ (n : ℕ). AllVars (λ v. v < n) t) (Z .lent .issued) (pair-formed .1 .0 .below);
+              within-right = subst (λ (n : ℕ). AllVars (λ v. v < n) u) (Z .lent .issued) (pair-formed .1 .1 .0 .below);
+              few = omega (arith, T .whole .counts, W, Z .lent .kept, pair-size);
+            }
+
+        pub pair-nodes : (z : Session) → Lays x half m z → o .nodes ≡ z .kept + (size t + size u)
+        pair-nodes z Z = omega (arith, T .whole .counts, Z .lent .kept, pair-size)
+
+        pair-step : (z : Session) → Lays x half m z → orderOf (limitsOf x) z s ≡ solve (limitsOf x) z (orders.pair n t u)
+        unfolding step nth termOf numberOf
+        pair-step z Z = step-is z Z ∙ rw (kind-pair, is) refl
+
+        pair-few : o .top ≤ 64 + 6 * o .nodes
+        unfolding layout spares spare
+        pair-few =
+            let g : length (allItems fs) ≤ 6 * allNodes fs + 0 = subst (λ (r : Row). length (allItems fs) ≤ 6 * allNodes fs + spares (layout r)) kind-pair (T .whole .room) in
+            omega (arith, T .whole .tokens, T .whole .counts, T .ready .lays .few)
+
+        pub pair-scratch : Scratch x (take (o .top) (ts .kinds)) (drop half (m .c)) (m .d)
+        pair-scratch =
+            let R = T .ready .roomy in
+            record {
+              pairs = omega (arith, length-drop half (m .c), R .table, R .c-size);
+              short = omega (arith, length-drop half (m .c), R .few, R .c-size);
+              links = omega (arith, long-a, pair-few, W, R .links, R .d-size);
+              marks = omega (arith, R .marks, R .d-size);
+              clear = T .ready .lays .work;
+            }
+
+        pub pair-blank : Zero (drop (pendingFrom x) (drop half (m .c)))
+        pair-blank = T .ready .lays .blank
+
+        pair-kept : (z : Session) → Arises (limitsOf x) loose z → Lays x half m z → o .top ≤ 64 + 6 * solve (limitsOf x) z (orders.pair n t u) .session .kept
+        pair-kept z A Z =
+            let P = poses-pair z A Z in
+            let e = posing.pair-step (limitsOf x) z n t u (within-known z t (P .within-left)) (within-known z u (P .within-right)) (P .few) in
+            let k : solve (limitsOf x) z (orders.pair n t u) .session .kept ≡ z .kept + (size t + size u) = ap (λ (q : orders.Step). q .session .kept) e in
+            omega (arith, pair-few, pair-nodes z Z)
+
+        module _ (y : Solver) (c′ d′ : List ℕ) (w v : Output) (front : take half c′ ≡ take half (m .c)) (clear : Zero d′) (k : ℕ) (ek : k ≡ n)
+            (E : (z : Session) → PosesPair loose x (take (o .top) (ts .kinds)) (take (o .top) (ts .vals)) (drop half (m .c)) z (o .third .place) t u → o .nodes ≡ z .kept + (size t + size u)
+            → DoesPair x y (take (o .top) (ts .kinds)) (take (o .top) (ts .vals)) (drop half (m .c)) (drop half c′) z (solve (limitsOf x) z (orders.pair k t u)) (w .bytes) (w .at) (v .bytes) (v .at)) where
+          does : (z : Session) → Arises (limitsOf x) loose z → Lays x half m z
+              → DoesPair x y (take (o .top) (ts .kinds)) (take (o .top) (ts .vals)) (drop half (m .c)) (drop half c′) z (solve (limitsOf x) z (orders.pair n t u)) (w .bytes) (w .at) (v .bytes) (v .at)
+          does z A Z =
+              subst (λ (i : ℕ). DoesPair x y (take (o .top) (ts .kinds)) (take (o .top) (ts .vals)) (drop half (m .c)) (drop half c′) z (solve (limitsOf x) z (orders.pair i t u)) (w .bytes) (w .at) (v .bytes) (v .at)) ek
+              (E z (poses-pair z A Z) (pair-nodes z Z))
+
+          zero-front : (z : Session) → Lays x half m z → Zero (take half c′)
+          zero-front z Z = subst (λ (l : List ℕ). Zero l) (sym front) (Z .front)
+
+          abbrev past : Session → ℕ
+          past z = w .at + length (framed (solve (limitsOf x) z (orders.pair n t u) .answer))
+
+          pair-inside : (z : Session) → DoesPair x y (take (o .top) (ts .kinds)) (take (o .top) (ts .vals)) (drop half (m .c)) (drop half c′) z (solve (limitsOf x) z (orders.pair n t u)) (w .bytes) (w .at) (v .bytes) (v .at)
+              → Dec (length (w .bytes) < past z) → y .top ≤ o .top
+          pair-inside z D (yes l) = omega (arith, taken-after, ap (λ (v : Solver). v .top) (D .long l .0))
+          pair-inside z D (no l) = omega (arith, D .whole (omega arith) .top, long-a)
+
+          -- where it is answered all of its tokens are the session's; else none is, and they have been cleared
+          pair-serves : (z : Session) → Arises (limitsOf x) loose z → Lays x half m z → (a′ b′ : List ℕ) → area a′ b′ ≡ blank ts (y .top) (o .top - y .top)
+              → Dec (length (w .bytes) < past z) → Answers y half (areas a′ b′ c′ d′) z (orderOf (limitsOf x) z s) w v x
+          pair-serves z A Z a′ b′ e (yes l) =
+              let D = does z A Z in
+              answers-at (e ∙ ap (λ (v : Solver). blank ts (v .top) (o .top - v .top)) (D .long l .0) ∙ T .whole .cleared)
+              (step-as (pair-step z Z)
+              (unanswered-pair Z (ts .kinds) (ts .vals) (o .top) taken-a (free-kinds (o .top) ts (T .whole .free)) (free-vals (o .top) ts (T .whole .free)) y c′ d′ _ w v D
+              (omega (arith, D .answer .over l .0)) (zero-front z Z) clear))
+          pair-serves z A Z a′ b′ e (no l) =
+              let D = does z A Z in
+              let all : y .top ≡ o .top = D .whole (omega arith) .top ∙ long-a in
+              answers-at (e ∙ ap (λ (n : ℕ). blank ts n (o .top - n)) all ∙ T .whole .free (o .top - o .top))
+              (step-as (pair-step z Z)
+              (answers-pair Z (ts .kinds) (ts .vals) (o .top) taken-a (free-kinds (o .top) ts (T .whole .free)) (free-vals (o .top) ts (T .whole .free)) y c′ d′ _ w v D
+              (pair-kept z A Z) (omega (arith, D .answer .fits (omega arith) .0)) (zero-front z Z) clear))
+
+          pub pair-answered : Answered x y half s m ts o c′ d′ w v
+          pair-answered =
+              let R = T .ready in
+              record {
+                inside = pair-inside (R .session) (does (R .session) (R .arises) (R .lays)) (decLt (length (w .bytes)) (past (R .session)));
+                serves = λ a′ b′ e z A Z. pair-serves z A Z a′ b′ e (decLt (length (w .bytes)) (past z));
+              }

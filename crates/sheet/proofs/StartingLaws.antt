@@ -11,7 +11,7 @@ use Rattle.solver.specs.Session.{Session, fresh}
 use Rattle.solver.specs.Whole.{Holds, counters}
 use Rattle.solver.specs.Work.{Zero}
 use Rattle.solver.proofs.WholeLaws.{zero-cleared}
-use Rattle.sheet.specs.Lays.{Lays}
+use Rattle.sheet.specs.Lays.{areas, Lays}
 use Rattle.sheet.proofs.LaysLaws.{tail-all, tail-back}
 
 -- the front of c was cleared
@@ -27,7 +27,7 @@ module _ (half : ℕ) (c f : List ℕ) (inside : half ≤ length c) (cleared : f
 
   -- and the solver has a fresh session in a, b and the rest of c
   pub lays-fresh : (variables nodes : ℕ) (x : Solver) (a b ts d : List ℕ) → x ≡ counters variables nodes → Zero d → Holds (counters variables nodes) a b ts fresh
-      → Lays x half a b (putMid half (length (f ++ drop half c) - half) (f ++ drop half c) ts) d fresh
+      → Lays x half (areas a b (putMid half (length (f ++ drop half c) - half) (f ++ drop half c) ts) d) fresh
   lays-fresh variables nodes x a b ts d e w H =
       rw e
       (record {
@@ -41,6 +41,6 @@ module _ (half : ℕ) (c f : List ℕ) (inside : half ≤ length c) (cleared : f
       })
 
 -- a session in the four areas, as the solver finds it
-pub lays-holds : (x : Solver) (half : ℕ) (a b c d : List ℕ) (z : Session) → Lays x half a b c d z → Holds x a b (take (length c - half) (drop half c)) z
+pub lays-holds : (x : Solver) (half : ℕ) (a b c d : List ℕ) (z : Session) → Lays x half (areas a b c d) z → Holds x a b (take (length c - half) (drop half c)) z
 lays-holds x half a b c d z L =
     subst (λ (l : List ℕ). Holds x a b l z) (sym (tail-all half c)) (record { lent = L .lent; kinds = L .kinds; vals = L .vals; blank = L .blank })

@@ -15,7 +15,7 @@ use Rattle.solver.specs.Lent.{Arises, limitsOf}
 use Rattle.sheet.specs.declared.Frame.{Frame}
 use Rattle.sheet.specs.declared.Frame.the-variants.{Lies, Faulty}
 use Rattle.sheet.specs.Sheet.{Run, runOf}
-use Rattle.sheet.specs.Lays.{Lays, Roomy}
+use Rattle.sheet.specs.Lays.{Areas, Lays, Roomy}
 
 -- where framing says that the next order lies, as that part of the sheet and the position after it; 10 where a length is faulty
 abbrev pub partOf : List ℕ → Frame → Result (List ℕ)
@@ -23,11 +23,11 @@ partOf s (Lies from size) = got (take size (drop from s)) (from + size)
 partOf s Faulty = refused 10
 
 -- As an order finds the areas: they are large enough, and hold a session that some list of orders leaves.
-pub record Ready (x : Solver) (half : ℕ) (a b c d : List ℕ) : Type 0 where
-  pub roomy : Roomy x half (length a) a b c d
+pub record Ready (x : Solver) (half : ℕ) (m : Areas) : Type 0 where
+  pub roomy : Roomy x half (length (m .a)) m
   pub session : Session
   pub arises : Arises (limitsOf x) loose session
-  pub lays : Lays x half a b c d session
+  pub lays : Lays x half m session
 
 -- ---- the run
 
@@ -39,9 +39,9 @@ pub record Ended (lim : Limits) (s out₀ : List ℕ) (r n m : ℕ) (out : List 
   pub output : out ≡ runOf lim s (length out₀) .answers ++ drop (length (runOf lim s (length out₀) .answers)) out₀
 
 -- the areas that it leaves hold a session
-pub record Left (x : Solver) (half : ℕ) (a b c d : List ℕ) : Type 0 where
+pub record Left (x : Solver) (half : ℕ) (m : Areas) : Type 0 where
   pub session : Session
-  pub lays : Lays x half a b c d session
+  pub lays : Lays x half m session
 
 -- what a run hands back, and the end state of all that it was lent
 pub record Finish : Type 0 where

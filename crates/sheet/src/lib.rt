@@ -1,7 +1,6 @@
 // The sheet: orders read, answered and framed; the run.
 mod fields;
 mod framing;
-mod lending;
 mod operations;
 mod posing;
 mod rules;

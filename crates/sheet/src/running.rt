@@ -14,7 +14,7 @@ ghost use lib.ListN.{length, take};
 ghost use Rattle.solver.specs.Session.{box, fresh};
 ghost use Rattle.solver.specs.Lent.{limitsOf};
 ghost use Rattle.sheet.specs.Sheet.{runOf};
-ghost use Rattle.sheet.specs.Lays.{Lays, Roomy};
+ghost use Rattle.sheet.specs.Lays.{areas, Lays, Roomy};
 ghost use Rattle.solver.specs.Whole.{counters};
 ghost use Rattle.solver.specs.Work.{Zero};
 ghost use Rattle.sheet.specs.Ending.{Ended, Left, suits, finished, finishOf, leaving};
@@ -44,10 +44,10 @@ fn answer_orders(
     c: &mut [u32],
     d: &mut [u32],
 ) -> Closed
-    requires held { ⌜ Lays first half (now a) (now b) (now c) (now d) fresh × Roomy first half (length (now a)) (now a) (now b) (now c) (now d) ⌝ }
+    requires held { ⌜ Lays first half (areas (now a) (now b) (now c) (now d)) fresh × Roomy first half (length (now a)) (areas (now a) (now b) (now c) (now d)) ⌝ }
     requires room { ⌜ (length (now s) ≤ 16777216) × (length (now out) ≤ 16777216) ⌝ }
     ensures run { λ r. ⌜ Ended (limitsOf first) (now (s .entry)) (now (out .entry)) (r .report .reason) (r .report .orders) (r .report .bytes) (now (out .exit)) ⌝ }
-    ensures left { λ r. ⌜ Left (r .solver) half (now (a .exit)) (now (b .exit)) (now (c .exit)) (now (d .exit)) ⌝ }
+    ensures left { λ r. ⌜ Left (r .solver) half (areas (now (a .exit)) (now (b .exit)) (now (c .exit)) (now (d .exit))) ⌝ }
 {
     let mut x = first;
     let mut at = 0;
@@ -82,7 +82,7 @@ fn run_in(
     c: &mut [u32],
     d: &mut [u32],
 ) -> Report
-    requires areas { ⌜ Roomy (counters variables nodes) half (length (now a)) (now a) (now b) (now c) (now d) ⌝ }
+    requires areas { ⌜ Roomy (counters variables nodes) half (length (now a)) (areas (now a) (now b) (now c) (now d)) ⌝ }
     requires room { ⌜ (length (now s) ≤ 16777216) × (length (now out) ≤ 16777216) ⌝ }
     ensures run { λ r. ⌜ Ended (limitsOf (counters variables nodes)) (now (s .entry)) (now (out .entry)) (r .reason) (r .orders) (r .bytes) (now (out .exit)) ⌝ }
     ensures clear { λ _. ⌜ Zero (now (a .exit)) × Zero (now (b .exit)) × Zero (now (c .exit)) × Zero (now (d .exit)) ⌝ }
@@ -107,7 +107,7 @@ fn run_within(
     c: &mut [u32],
     d: &mut [u32],
 ) -> Report
-    requires areas { ⌜ (words ≤ length (now a)) × (words ≤ length (now b)) × (words ≤ length (now c)) × (words ≤ length (now d)) × Roomy (counters variables nodes) half words (take words (now a)) (take words (now b)) (take words (now c)) (take words (now d)) ⌝ }
+    requires areas { ⌜ (words ≤ length (now a)) × (words ≤ length (now b)) × (words ≤ length (now c)) × (words ≤ length (now d)) × Roomy (counters variables nodes) half words (areas (take words (now a)) (take words (now b)) (take words (now c)) (take words (now d))) ⌝ }
     requires room { ⌜ (length (now s) ≤ 16777216) × (length (now out) ≤ 16777216) ⌝ }
     ensures { λ r. ⌜ finished (r .reason) (r .orders) (r .bytes) (now (out .exit)) (now (a .exit)) (now (b .exit)) (now (c .exit)) (now (d .exit)) ≡ leaving (runOf (limitsOf (counters variables nodes)) (now (s .entry)) (length (now (out .entry)))) (now (out .entry)) (now (a .entry)) (now (b .entry)) (now (c .entry)) (now (d .entry)) ⌝ }
 {

@@ -3,19 +3,19 @@ use super::Order;
 use super::Reached;
 use super::Reading;
 use super::framing::refused;
-use super::lending::lend_defer;
-use super::lending::lend_pair;
-use super::lending::lend_plain;
-use super::lending::lend_resolve;
 use super::operations::operate;
+use super::posing::defer_term;
+use super::posing::pose_pair;
+use super::posing::resolve_term;
 use super::scan::clear_order;
 use super::scan::read_order;
+use super::solving::solve_plain;
 use super::tables::is_operation;
 use solver::Solver;
 ghost use mathlib.Core.Path.{_≡_};
 ghost use mathlib.Core.Bool.{true, false};
 ghost use mathlib.Core.List.{List};
-ghost use Prim.Native.Nat.{ℕ, _*_, _≤_, _<_};
+ghost use Prim.Native.Nat.{ℕ, _≤_, _<_};
 ghost use lib.Dec.{eqb, ltb};
 ghost use lib.ListN.{length, getD};
 ghost use Rattle.solver.specs.Shapes.{loose};
@@ -24,19 +24,20 @@ ghost use Rattle.solver.specs.Lent.{Arises, limitsOf};
 ghost use Rattle.sheet.specs.Orders.{rowIn};
 ghost use Rattle.sheet.specs.Sheet.{table};
 ghost use Rattle.sheet.specs.Laid.{isOperation};
-ghost use Rattle.sheet.specs.Lays.{Lays, Served};
+ghost use Rattle.solver.specs.Terms.Tokens.{area};
+ghost use Rattle.sheet.specs.Lays.{areas, outputAt, Lays, Served};
 ghost use Rattle.sheet.specs.Ending.{Ready};
 ghost use Rattle.sheet.specs.Written.{Room};
 ghost use Rattle.sheet.specs.Ordered.{RulesRoom};
-ghost use Rattle.sheet.specs.Taken.{Taken, Serves};
+ghost use Rattle.sheet.specs.Taken.{Taken, Serves, Answered};
 
 // Orders 9 to 20: the session stays as it was.
 fn operate_order(
     x: Solver,
     half: usize,
     s: &[u8],
-    a: &mut [u32],
-    b: &mut [u32],
+    a: &[u32],
+    b: &[u32],
     c: &mut [u32],
     d: &mut [u32],
     rules: &[u32],
@@ -44,15 +45,14 @@ fn operate_order(
     out: &mut [u8],
     to: usize,
 ) -> Reached
-    requires taken { ⌜ ((a₀ b₀ : List ℕ) × Taken x half (now s) a₀ b₀ (now a) (now b) (now c) (now d) (now rules) o) ⌝ }
+    requires taken { ⌜ ((a₀ b₀ : List ℕ) × Taken x half (now s) (areas a₀ b₀ (now c) (now d)) (area (now a) (now b)) (now rules) o) ⌝ }
+    requires within { ⌜ o .nodes ≤ x .nodes ⌝ }
     requires kind { ⌜ true ≡ isOperation (rowIn table (o .kind)) ⌝ }
     requires words { ⌜ length (now rules) < 4294967296 ⌝ }
     requires room { ⌜ Room (now out) to ⌝ }
-    ensures { λ r. ⌜ ((a₀ b₀ : List ℕ) → Taken x half (now (s .entry)) a₀ b₀ (now (a .entry)) (now (b .entry)) (now (c .entry)) (now (d .entry)) (now (rules .entry)) o → Serves x (r .solver) half (now (s .entry)) a₀ b₀ (now (c .entry)) (now (d .entry)) (now (a .exit)) (now (b .exit)) (now (c .exit)) (now (d .exit)) (now (out .entry)) to (now (out .exit)) (r .next)) ⌝ }
+    ensures { λ r. ⌜ ((a₀ b₀ : List ℕ) → Taken x half (now (s .entry)) (areas a₀ b₀ (now (c .entry)) (now (d .entry))) (area (now (a .entry)) (now (b .entry))) (now (rules .entry)) o → Answered x (r .solver) half (now (s .entry)) (areas a₀ b₀ (now (c .entry)) (now (d .entry))) (area (now (a .entry)) (now (b .entry))) o (now (c .exit)) (now (d .exit)) (outputAt (now (out .entry)) to) (outputAt (now (out .exit)) (r .next))) ⌝ }
 {
     let next = operate(s, a, b, &mut c[..half], d, rules, o, out, to);
-    let n = x.standing();
-    clear_order(a, b, n.top, o);
     Reached { solver: x, next }
 }
 
@@ -60,73 +60,78 @@ fn operate_order(
 fn defer_order(
     x: Solver,
     half: usize,
-    a: &mut [u32],
-    b: &mut [u32],
+    a: &[u32],
+    b: &[u32],
     c: &mut [u32],
     o: Order,
     out: &mut [u8],
     to: usize,
 ) -> Reached
-    requires taken { ⌜ ((s a₀ b₀ d ws : List ℕ) × Taken x half s a₀ b₀ (now a) (now b) (now c) d ws o) ⌝ }
+    requires taken { ⌜ ((s a₀ b₀ d ws : List ℕ) × Taken x half s (areas a₀ b₀ (now c) d) (area (now a) (now b)) ws o) ⌝ }
+    requires within { ⌜ o .nodes ≤ x .nodes ⌝ }
     requires kind { ⌜ o .kind ≡ 3 ⌝ }
     requires room { ⌜ Room (now out) to ⌝ }
-    ensures { λ r. ⌜ ((s a₀ b₀ d ws : List ℕ) → Taken x half s a₀ b₀ (now (a .entry)) (now (b .entry)) (now (c .entry)) d ws o → Serves x (r .solver) half s a₀ b₀ (now (c .entry)) d (now (a .exit)) (now (b .exit)) (now (c .exit)) d (now (out .entry)) to (now (out .exit)) (r .next)) ⌝ }
+    ensures { λ r. ⌜ ((s a₀ b₀ d ws : List ℕ) → Taken x half s (areas a₀ b₀ (now (c .entry)) d) (area (now (a .entry)) (now (b .entry))) ws o → Answered x (r .solver) half s (areas a₀ b₀ (now (c .entry)) d) (area (now (a .entry)) (now (b .entry))) o (now (c .exit)) d (outputAt (now (out .entry)) to) (outputAt (now (out .exit)) (r .next))) ⌝ }
 {
-    let r = lend_defer(x, half, o.top, a, b, c, out, to);
-    let n = x.standing();
-    clear_order(a, b, n.top, o);
-    r
+    let top = o.top;
+    defer_term(x, &a[..top], &b[..top], &mut c[half..], out, to)
 }
 
 // Order 5.
 fn resolve_order(
     x: Solver,
     half: usize,
-    a: &mut [u32],
-    b: &mut [u32],
+    a: &[u32],
+    b: &[u32],
     c: &[u32],
     d: &mut [u32],
     o: Order,
     out: &mut [u8],
     to: usize,
 ) -> Reached
-    requires taken { ⌜ ((s a₀ b₀ ws : List ℕ) × Taken x half s a₀ b₀ (now a) (now b) (now c) (now d) ws o) ⌝ }
+    requires taken { ⌜ ((s a₀ b₀ ws : List ℕ) × Taken x half s (areas a₀ b₀ (now c) (now d)) (area (now a) (now b)) ws o) ⌝ }
+    requires within { ⌜ o .nodes ≤ x .nodes ⌝ }
     requires kind { ⌜ o .kind ≡ 5 ⌝ }
     requires room { ⌜ Room (now out) to ⌝ }
-    ensures { λ r. ⌜ ((s a₀ b₀ ws : List ℕ) → Taken x half s a₀ b₀ (now (a .entry)) (now (b .entry)) (now (c .entry)) (now (d .entry)) ws o → Serves x (r .solver) half s a₀ b₀ (now (c .entry)) (now (d .entry)) (now (a .exit)) (now (b .exit)) (now (c .entry)) (now (d .exit)) (now (out .entry)) to (now (out .exit)) (r .next)) ⌝ }
+    ensures { λ r. ⌜ ((s a₀ b₀ ws : List ℕ) → Taken x half s (areas a₀ b₀ (now (c .entry)) (now (d .entry))) (area (now (a .entry)) (now (b .entry))) ws o → Answered x (r .solver) half s (areas a₀ b₀ (now (c .entry)) (now (d .entry))) (area (now (a .entry)) (now (b .entry))) o (now (c .entry)) (now (d .exit)) (outputAt (now (out .entry)) to) (outputAt (now (out .exit)) (r .next))) ⌝ }
 {
-    let r = lend_resolve(x, half, o.top, a, b, c, d, out, to);
-    let n = x.standing();
-    clear_order(a, b, n.top, o);
-    r
+    let top = o.top;
+    resolve_term(x, &a[..top], &b[..top], &c[half..], d, out, to)
 }
 
-// Order 4: where it is answered, its tokens stay.
+// Order 4: where it is answered, its tokens are those of the session.
 fn pair_order(
     x: Solver,
     half: usize,
-    a: &mut [u32],
-    b: &mut [u32],
+    a: &[u32],
+    b: &[u32],
     c: &mut [u32],
     d: &mut [u32],
     o: Order,
     out: &mut [u8],
     to: usize,
 ) -> Reached
-    requires taken { ⌜ ((s a₀ b₀ ws : List ℕ) × Taken x half s a₀ b₀ (now a) (now b) (now c) (now d) ws o) ⌝ }
+    requires taken { ⌜ ((s a₀ b₀ ws : List ℕ) × Taken x half s (areas a₀ b₀ (now c) (now d)) (area (now a) (now b)) ws o) ⌝ }
+    requires within { ⌜ o .nodes ≤ x .nodes ⌝ }
     requires kind { ⌜ o .kind ≡ 4 ⌝ }
     requires room { ⌜ Room (now out) to ⌝ }
-    ensures { λ r. ⌜ ((s a₀ b₀ ws : List ℕ) → Taken x half s a₀ b₀ (now (a .entry)) (now (b .entry)) (now (c .entry)) (now (d .entry)) ws o → Serves x (r .solver) half s a₀ b₀ (now (c .entry)) (now (d .entry)) (now (a .exit)) (now (b .exit)) (now (c .exit)) (now (d .exit)) (now (out .entry)) to (now (out .exit)) (r .next)) ⌝ }
+    ensures { λ r. ⌜ ((s a₀ b₀ ws : List ℕ) → Taken x half s (areas a₀ b₀ (now (c .entry)) (now (d .entry))) (area (now (a .entry)) (now (b .entry))) ws o → Answered x (r .solver) half s (areas a₀ b₀ (now (c .entry)) (now (d .entry))) (area (now (a .entry)) (now (b .entry))) o (now (c .exit)) (now (d .exit)) (outputAt (now (out .entry)) to) (outputAt (now (out .exit)) (r .next))) ⌝ }
 {
     let k = o.first.value as u32;
     let q = o.third.place;
-    let r = lend_pair(x, half, o.top, q, k, o.nodes, a, b, c, d, out, to);
-    if r.next <= out.len() {
-        return r;
-    }
-    let n = x.standing();
-    clear_order(a, b, n.top, o);
-    r
+    let top = o.top;
+    pose_pair(
+        x,
+        &a[..top],
+        &b[..top],
+        &mut c[half..],
+        d,
+        q,
+        k,
+        o.nodes,
+        out,
+        to,
+    )
 }
 
 // Orders 0, 1, 2, 6, 7 and 8, which have no tokens.
@@ -141,23 +146,36 @@ fn plain_order(
     out: &mut [u8],
     to: usize,
 ) -> Reached
-    requires taken { ⌜ ((s a₀ b₀ ws : List ℕ) × Taken x half s a₀ b₀ (now a) (now b) (now c) (now d) ws o) ⌝ }
+    requires taken { ⌜ ((s a₀ b₀ ws : List ℕ) × Taken x half s (areas a₀ b₀ (now c) (now d)) (area (now a) (now b)) ws o) ⌝ }
+    requires within { ⌜ o .nodes ≤ x .nodes ⌝ }
     requires kind { ⌜ (false ≡ isOperation (rowIn table (o .kind))) × ((o .kind ≡ 3) → ⊥) × ((o .kind ≡ 4) → ⊥) × ((o .kind ≡ 5) → ⊥) ⌝ }
     requires room { ⌜ Room (now out) to ⌝ }
-    ensures { λ r. ⌜ ((s a₀ b₀ ws : List ℕ) → Taken x half s a₀ b₀ (now (a .entry)) (now (b .entry)) (now (c .entry)) (now (d .entry)) ws o → Serves x (r .solver) half s a₀ b₀ (now (c .entry)) (now (d .entry)) (now (a .entry)) (now (b .entry)) (now (c .exit)) (now (d .exit)) (now (out .entry)) to (now (out .exit)) (r .next)) ⌝ }
+    ensures { λ r. ⌜ ((s a₀ b₀ ws : List ℕ) → Taken x half s (areas a₀ b₀ (now (c .entry)) (now (d .entry))) (area (now (a .entry)) (now (b .entry))) ws o → Answered x (r .solver) half s (areas a₀ b₀ (now (c .entry)) (now (d .entry))) (area (now (a .entry)) (now (b .entry))) o (now (c .exit)) (now (d .exit)) (outputAt (now (out .entry)) to) (outputAt (now (out .exit)) (r .next))) ⌝ }
 {
     let first = o.first.value as u32;
     let second = o.second.value as u32;
-    lend_plain(x, half, o.kind, first, second, a, b, c, d, out, to)
+    let top = o.top;
+    solve_plain(
+        x,
+        o.kind,
+        first,
+        second,
+        &a[..top],
+        &b[..top],
+        &mut c[half..],
+        d,
+        out,
+        to,
+    )
 }
 
-// An order that was read, by its class.
+// An order that was read, by its class; refusal 7 where it has too many nodes.
 fn answer_order(
     x: Solver,
     half: usize,
     s: &[u8],
-    a: &mut [u32],
-    b: &mut [u32],
+    a: &[u32],
+    b: &[u32],
     c: &mut [u32],
     d: &mut [u32],
     rules: &[u32],
@@ -165,11 +183,16 @@ fn answer_order(
     out: &mut [u8],
     to: usize,
 ) -> Reached
-    requires taken { ⌜ ((a₀ b₀ : List ℕ) × Taken x half (now s) a₀ b₀ (now a) (now b) (now c) (now d) (now rules) o) ⌝ }
+    requires taken { ⌜ ((a₀ b₀ : List ℕ) × Taken x half (now s) (areas a₀ b₀ (now c) (now d)) (area (now a) (now b)) (now rules) o) ⌝ }
     requires words { ⌜ length (now rules) < 4294967296 ⌝ }
     requires room { ⌜ Room (now out) to ⌝ }
-    ensures { λ r. ⌜ ((a₀ b₀ : List ℕ) → Taken x half (now (s .entry)) a₀ b₀ (now (a .entry)) (now (b .entry)) (now (c .entry)) (now (d .entry)) (now (rules .entry)) o → Serves x (r .solver) half (now (s .entry)) a₀ b₀ (now (c .entry)) (now (d .entry)) (now (a .exit)) (now (b .exit)) (now (c .exit)) (now (d .exit)) (now (out .entry)) to (now (out .exit)) (r .next)) ⌝ }
+    ensures { λ r. ⌜ ((a₀ b₀ : List ℕ) → Taken x half (now (s .entry)) (areas a₀ b₀ (now (c .entry)) (now (d .entry))) (area (now (a .entry)) (now (b .entry))) (now (rules .entry)) o → Answered x (r .solver) half (now (s .entry)) (areas a₀ b₀ (now (c .entry)) (now (d .entry))) (area (now (a .entry)) (now (b .entry))) o (now (c .exit)) (now (d .exit)) (outputAt (now (out .entry)) to) (outputAt (now (out .exit)) (r .next))) ⌝ }
 {
+    let n = x.standing();
+    if n.nodes < o.nodes {
+        let next = refused(out, to, 7);
+        return Reached { solver: x, next };
+    }
     let k = o.kind;
     if is_operation(k) {
         return operate_order(x, half, s, a, b, c, d, rules, o, out, to);
@@ -199,21 +222,20 @@ fn serve_with(
     out: &mut [u8],
     to: usize,
 ) -> Reached
-    requires held { ⌜ Ready x half (now a) (now b) (now c) (now d) ⌝ }
+    requires held { ⌜ Ready x half (areas (now a) (now b) (now c) (now d)) ⌝ }
     requires words { ⌜ (getD (now s) 0 0 ≡ 20 → RulesRoom (now s) (now rules) 2048) × (length (now rules) < 4294967296) ⌝ }
     requires room { ⌜ (length (now s) ≤ 16777216) × (to ≤ length (now out)) × (length (now out) ≤ 16777216) ⌝ }
-    ensures { λ r. ⌜ Serves x (r .solver) half (now (s .entry)) (now (a .entry)) (now (b .entry)) (now (c .entry)) (now (d .entry)) (now (a .exit)) (now (b .exit)) (now (c .exit)) (now (d .exit)) (now (out .entry)) to (now (out .exit)) (r .next) ⌝ }
+    ensures { λ r. ⌜ Serves x (r .solver) half (now (s .entry)) (areas (now (a .entry)) (now (b .entry)) (now (c .entry)) (now (d .entry))) (areas (now (a .exit)) (now (b .exit)) (now (c .exit)) (now (d .exit))) (outputAt (now (out .entry)) to) (outputAt (now (out .exit)) (r .next)) ⌝ }
 {
     let n = x.standing();
     let r = read_order(s, a, b, rules, n.issued as u64, n.top, n.kept, n.nodes);
     match r {
         Reading::Whole(o) => {
-            if n.nodes < o.nodes {
-                clear_order(a, b, n.top, o);
-                let next = refused(out, to, 7);
-                return Reached { solver: x, next };
-            }
-            answer_order(x, half, s, a, b, c, d, rules, o, out, to)
+            let w = answer_order(x, half, s, a, b, c, d, rules, o, out, to);
+            let y = w.solver;
+            let m = y.standing();
+            clear_order(a, b, m.top, o);
+            w
         }
         Reading::Refused(code) => {
             let next = refused(out, to, code);
@@ -254,9 +276,9 @@ fn serve_rules(
     out: &mut [u8],
     to: usize,
 ) -> Reached
-    requires held { ⌜ Ready x half (now a) (now b) (now c) (now d) ⌝ }
+    requires held { ⌜ Ready x half (areas (now a) (now b) (now c) (now d)) ⌝ }
     requires room { ⌜ (length (now s) ≤ 16777216) × (to ≤ length (now out)) × (length (now out) ≤ 16777216) ⌝ }
-    ensures { λ r. ⌜ Serves x (r .solver) half (now (s .entry)) (now (a .entry)) (now (b .entry)) (now (c .entry)) (now (d .entry)) (now (a .exit)) (now (b .exit)) (now (c .exit)) (now (d .exit)) (now (out .entry)) to (now (out .exit)) (r .next) ⌝ }
+    ensures { λ r. ⌜ Serves x (r .solver) half (now (s .entry)) (areas (now (a .entry)) (now (b .entry)) (now (c .entry)) (now (d .entry))) (areas (now (a .exit)) (now (b .exit)) (now (c .exit)) (now (d .exit))) (outputAt (now (out .entry)) to) (outputAt (now (out .exit)) (r .next)) ⌝ }
 {
     if few_rules(s) {
         let mut few = [0u32; 384];
@@ -278,9 +300,9 @@ pub fn serve_order(
     out: &mut [u8],
     to: usize,
 ) -> Reached
-    requires held { ⌜ Ready x half (now a) (now b) (now c) (now d) ⌝ }
+    requires held { ⌜ Ready x half (areas (now a) (now b) (now c) (now d)) ⌝ }
     requires room { ⌜ (length (now s) ≤ 16777216) × (to ≤ length (now out)) × (length (now out) ≤ 16777216) ⌝ }
-    ensures { λ r. ⌜ ((z : Session) → Arises (limitsOf x) loose z → Lays x half (now (a .entry)) (now (b .entry)) (now (c .entry)) (now (d .entry)) z → Served (r .solver) half (now (a .exit)) (now (b .exit)) (now (c .exit)) (now (d .exit)) (now (out .exit)) z (now (s .entry)) (now (out .entry)) to (r .next) x) ⌝ }
+    ensures { λ r. ⌜ ((z : Session) → Arises (limitsOf x) loose z → Lays x half (areas (now (a .entry)) (now (b .entry)) (now (c .entry)) (now (d .entry))) z → Served (r .solver) half (areas (now (a .exit)) (now (b .exit)) (now (c .exit)) (now (d .exit))) z (now (s .entry)) (outputAt (now (out .entry)) to) (outputAt (now (out .exit)) (r .next)) x) ⌝ }
 {
     if has_rules(s) {
         return serve_rules(x, half, s, a, b, c, d, out, to);

@@ -1,33 +1,47 @@
--- `defer_order`: the term behind the session, and its tokens cleared. Assumes nothing.
-use mathlib.Core.Path.{sym, subst}
-use mathlib.Core.List.{List}
-use Prim.Native.Nat.{ℕ}
+-- `defer_order`: the term behind the session; the table lent and put back. Assumes nothing.
+use mathlib.Core.Path.{sym}
+use Prim.Native.Nat.{_-_}
+use lib.ListN.{length}
 use denote.Ref.{now}
-use Rattle.sheet.proofs.ServingLaws.{taken-after, taken-small, taken-half, taken-a, taken-b, poses, posed, defer-term, defer-known, defer-step}
-use Rattle.solver.specs.Work.{Zero}
-use Rattle.sheet.proofs.LaysLaws.{solve-kept}
+use lib.Seq.{length-take-le}
+use borrow.Rule.Slice.PartMut.{take-put}
+use Rattle.solver.specs.Orders as orders
+use Rattle.sheet.proofs.LaysLaws.{poses-tail, does-tail}
+use Rattle.sheet.proofs.ServingLaws.{taken-half, taken-a, taken-b, poses, posed, defer-term, defer-known, defer-step}
 use borrow.Author.Needs.{needs}
 use Rattle.sheet.proofs.serving.defer_order.Statement.{statement}
 use Rattle.sheet.proofs.serving.defer_order.Tie as tie
 
-lend-defer-requires : tie.Need-lend-defer-requires
-lend-defer-requires c κs =
+slice-aggregate-defer-term : tie.Need-slice-aggregate-defer-term
+slice-aggregate-defer-term c =
+    sym (length-take-le _ _ (taken-a (c .before .before .before .before .before .pre .0 .5) (c .before .before .before .before .before .pre .1 .0)))
+
+slice-aggregate-defer-term-2 : tie.Need-slice-aggregate-defer-term-2
+slice-aggregate-defer-term-2 c =
+    sym (length-take-le _ _ (taken-b (c .before .before .before .before .before .before .pre .0 .5) (c .before .before .before .before .before .before .pre .1 .0)))
+
+mul-defer-term : tie.Need-mul-defer-term
+mul-defer-term c = search needs
+
+sub-defer-term : tie.Need-sub-defer-term
+sub-defer-term c = search needs
+
+part-defer-term-start : tie.Need-part-defer-term-start
+part-defer-term-start c = search needs
+
+part-defer-term-end : tie.Need-part-defer-term-end
+part-defer-term-end c = search needs
+
+defer-term-requires : tie.Need-defer-term-requires
+defer-term-requires c κs =
     let a = c .before .before .before .before .before .before .before .before .args in
     let p = c .before .before .before .before .before .before .before .before .pre in
     let T = p .0 .5 in
-    let h = p .1 .0 in
-    let t = defer-term (a .x) (a .half) _ _ _ (now (a .a)) (now (a .b)) (now (a .c)) _ _ (a .o) T h in
+    let W = p .1 .0 in
+    let h = p .1 .1 .0 in
+    let t = defer-term T W h in
     let R = T .ready in
-    ((R .session, t .0, poses (a .x) (a .half) _ _ _ (now (a .a)) (now (a .b)) (now (a .c)) _ _ (a .o) T (t .0) (t .1) (defer-known (a .x) (a .half) _ _ _ (now (a .a)) (now (a .b)) (now (a .c)) _ _ (a .o) T h) (R .session) (R .arises) (R .lays)), ((taken-a (a .x) (a .half) _ _ _ (now (a .a)) (now (a .b)) (now (a .c)) _ _ (a .o) T, taken-b (a .x) (a .half) _ _ _ (now (a .a)) (now (a .b)) (now (a .c)) _ _ (a .o) T, taken-half (a .x) (a .half) _ _ _ (now (a .a)) (now (a .b)) (now (a .c)) _ _ (a .o) T), p .1 .1))
-
-standing-requires : tie.Need-standing-requires
-standing-requires c κs = search needs
-
-clear-order-requires : tie.Need-clear-order-requires
-clear-order-requires c κs =
-    let a = c .before .before .before .before .before .before .before .before .before .before .before .before .before .before .before .before .args in
-    let p = c .before .before .before .before .before .before .before .before .before .before .before .before .before .before .before .before .pre in
-    rw (c .before .before .standing .ensures) (taken-after (a .x) (a .half) _ _ _ (now (a .a)) (now (a .b)) (now (a .c)) _ _ (a .o) (p .0 .5))
+    ((R .session, t .0, poses-tail (a .half) (now (a .c)) _ _ _ _ _ (poses T W (t .0) (t .1) (defer-known T W h) (R .session) (R .arises) (R .lays))), p .1 .1 .1)
 
 same-length : tie.Need-same-length
 same-length c = search needs
@@ -35,35 +49,32 @@ same-length c = search needs
 same-length-2 : tie.Need-same-length-2
 same-length-2 c = search needs
 
-same-length-3 : tie.Need-same-length-3
-same-length-3 c = search needs
-
-same-length-4 : tie.Need-same-length-4
-same-length-4 c = search needs
-
 returns : tie.Need-returns
 returns c =
-    let a = c .before .before .before .before .before .before .before .before .before .before .before .before .before .before .before .before .before .before .before .before .before .args in
-    let p = c .before .before .before .before .before .before .before .before .before .before .before .before .before .before .before .before .before .before .before .before .before .pre in
-    let h = p .1 .0 in
-    let e = c .before .before .before .before .before .before .before .before .before .before .before .before .lend-defer .ensures in
-    let g = rw (c .before .before .before .before .before .before .before .standing .ensures) at (c .before .before .before .before .clear-order .ensures) in
-    λ s a₀ b₀ d ws T z A Z.
-    let t = defer-term (a .x) (a .half) s a₀ b₀ (now (a .a)) (now (a .b)) (now (a .c)) d ws (a .o) T h in
-    posed (a .x) (a .half) s a₀ b₀ (now (a .a)) (now (a .b)) (now (a .c)) d ws (a .o) T (t .0) (t .1) (defer-known (a .x) (a .half) s a₀ b₀ (now (a .a)) (now (a .b)) (now (a .c)) d ws (a .o) T h)
-    _ z Z (defer-step (a .x) (a .half) s a₀ b₀ (now (a .a)) (now (a .b)) (now (a .c)) d ws (a .o) T h z Z (t .0) (t .1)) (solve-kept _ z _) _ _ d (now (a .out)) (a .to) _ _
-    (e .1 z (t .0) (poses (a .x) (a .half) s a₀ b₀ (now (a .a)) (now (a .b)) (now (a .c)) d ws (a .o) T (t .0) (t .1) (defer-known (a .x) (a .half) s a₀ b₀ (now (a .a)) (now (a .b)) (now (a .c)) d ws (a .o) T h) z A Z))
-    (subst (λ (l : List ℕ). Zero l) (sym (e .0)) (Z .front)) (Z .work) _ _ g
+    let a = c .before .before .before .before .before .before .before .before .before .before .before .before .before .args in
+    let p = c .before .before .before .before .before .before .before .before .before .before .before .before .before .pre in
+    let W = p .1 .0 in
+    let h = p .1 .1 .0 in
+    let e = c .before .before .before .before .defer-term .ensures in
+    let u = c .before .before .before .before .defer-term .last .1 .1 .1 .0 in
+    λ s a₀ b₀ d ws T.
+    let i = taken-half T in
+    let t = defer-term T W h in
+    posed T W (t .0) (t .1) (defer-known T W h) (orders.defer (t .0))
+    (λ z Z. defer-step T W h z Z (t .0) (t .1)) _ _ d _ _ (take-put (a .half) (length (now (a .c)) - a .half) (now (a .c)) u i) (T .ready .lays .work)
+    (λ z P. does-tail (a .half) (now (a .c)) (a .x) _ _ _ z _ _ _ _ _ u i (e z (t .0) (poses-tail (a .half) (now (a .c)) _ _ _ _ _ P)))
 
 pub defer-order-spec : {M : Type 1} → statement M
 defer-order-spec =
     tie.close
     (tie.spec
-    lend-defer-requires
-    standing-requires
-    clear-order-requires
+    slice-aggregate-defer-term
+    slice-aggregate-defer-term-2
+    mul-defer-term
+    sub-defer-term
+    part-defer-term-start
+    part-defer-term-end
+    defer-term-requires
     same-length
     same-length-2
-    same-length-3
-    same-length-4
     returns)

@@ -1,8 +1,8 @@
--- `operate_order`: the answer of the operation, and its tokens cleared. Assumes nothing.
+-- `operate_order`: the answer of the operation. Assumes nothing.
 use mathlib.Core.Path.{sym}
 use lib.Seq.{length-take-le}
 use denote.Ref.{now}
-use Rattle.sheet.proofs.ServingLaws.{taken-after, taken-half, taken-lends, taken-asks, operated}
+use Rattle.sheet.proofs.ServingLaws.{taken-half, taken-lends, taken-asks, operated}
 use borrow.Author.Needs.{needs}
 use Rattle.sheet.proofs.serving.operate_order.Statement.{statement}
 use Rattle.sheet.proofs.serving.operate_order.Tie as tie
@@ -12,24 +12,14 @@ slice-relend-prefix-operate c = search needs
 
 slice-aggregate-operate : tie.Need-slice-aggregate-operate
 slice-aggregate-operate c =
-    let a = c .before .before .before .before .before .before .before .before .before .before .args in
-    let p = c .before .before .before .before .before .before .before .before .before .before .pre in
-    sym (length-take-le (a .half) (now (a .c)) (taken-half (a .x) (a .half) (now (a .s)) _ _ (now (a .a)) (now (a .b)) (now (a .c)) (now (a .d)) (now (a .rules)) (a .o) (p .0 .2)))
+    let a = c .before .before .before .before .before .before .before .before .args in
+    let p = c .before .before .before .before .before .before .before .before .pre in
+    sym (length-take-le (a .half) (now (a .c)) (taken-half (p .0 .2)))
 
 operate-requires : tie.Need-operate-requires
 operate-requires c κs =
-    let a = c .before .before .before .before .before .before .before .before .before .before .before .before .args in
-    let p = c .before .before .before .before .before .before .before .before .before .before .before .before .pre in
-    (taken-lends (a .x) (a .half) (now (a .s)) _ _ (now (a .a)) (now (a .b)) (now (a .c)) (now (a .d)) (now (a .rules)) (a .o) (p .0 .2), (taken-asks (a .x) (a .half) (now (a .s)) _ _ (now (a .a)) (now (a .b)) (now (a .c)) (now (a .d)) (now (a .rules)) (a .o) (p .0 .2) (p .1 .0), (p .1 .1 .0, p .1 .1 .1)))
-
-standing-requires : tie.Need-standing-requires
-standing-requires c κs = search needs
-
-clear-order-requires : tie.Need-clear-order-requires
-clear-order-requires c κs =
-    let a = c .before .before .before .before .before .before .before .before .before .before .before .before .before .before .before .before .before .before .before .before .before .before .args in
-    let p = c .before .before .before .before .before .before .before .before .before .before .before .before .before .before .before .before .before .before .before .before .before .before .pre in
-    rw (c .before .before .standing .ensures) (taken-after (a .x) (a .half) (now (a .s)) _ _ (now (a .a)) (now (a .b)) (now (a .c)) (now (a .d)) (now (a .rules)) (a .o) (p .0 .2))
+    let p = c .before .before .before .before .before .before .before .before .before .before .pre in
+    (taken-lends (p .0 .2) (p .1 .0), (taken-asks (p .0 .2) (p .1 .0) (p .1 .1 .0), p .1 .1 .1))
 
 same-length : tie.Need-same-length
 same-length c = search needs
@@ -40,19 +30,11 @@ same-length-2 c = search needs
 same-length-3 : tie.Need-same-length-3
 same-length-3 c = search needs
 
-same-length-4 : tie.Need-same-length-4
-same-length-4 c = search needs
-
-same-length-5 : tie.Need-same-length-5
-same-length-5 c = search needs
-
 returns : tie.Need-returns
 returns c =
-    let a = c .before .before .before .before .before .before .before .before .before .before .before .before .before .before .before .before .before .before .before .before .before .before .before .before .before .before .before .args in
-    let p = c .before .before .before .before .before .before .before .before .before .before .before .before .before .before .before .before .before .before .before .before .before .before .before .before .before .before .before .pre in
-    let e = c .before .before .before .before .before .before .before .before .before .before .before .before .before .before .operate .ensures in
-    let g = rw (c .before .before .before .before .before .before .before .standing .ensures) at (c .before .before .before .before .clear-order .ensures) in
-    λ a₀ b₀ T. operated (a .x) (a .half) (now (a .s)) a₀ b₀ (now (a .a)) (now (a .b)) (now (a .c)) (now (a .d)) (now (a .rules)) (a .o) T (p .1 .0) (now (a .out)) (a .to) _ _ (e .1) _ _ (e .0) _ _ g
+    let p = c .before .before .before .before .before .before .before .before .before .before .before .before .before .before .before .before .before .pre in
+    let e = c .before .before .before .before .before .before .operate .ensures in
+    λ a₀ b₀ T. operated T (p .1 .0) (p .1 .1 .0) _ _ (e .1) _ _ (e .0)
 
 pub operate-order-spec : {M : Type 1} → statement M
 operate-order-spec =
@@ -61,11 +43,7 @@ operate-order-spec =
     slice-relend-prefix-operate
     slice-aggregate-operate
     operate-requires
-    standing-requires
-    clear-order-requires
     same-length
     same-length-2
     same-length-3
-    same-length-4
-    same-length-5
     returns)

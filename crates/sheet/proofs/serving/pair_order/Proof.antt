@@ -1,30 +1,57 @@
--- `pair_order`: two terms behind the session; their tokens stay, or are cleared. Assumes nothing.
+-- `pair_order`: two terms behind the session; the table lent and put back. Assumes nothing.
 use native.Mathlib.Omega.{arith}
-use borrow.Author.Tests.{not-false}
+use mathlib.Core.Path.{sym}
+use Prim.Native.Nat.{_*_, _-_}
+use lib.ListN.{length}
 use denote.Ref.{now}
-use Rattle.sheet.proofs.ServingLaws.{taken-after, taken-small, taken-half, taken-a, taken-b, pair-terms, pair-k, poses-pair, pair-nodes, pair-scratch, pair-blank, pair-stays, pair-undone}
+use lib.Seq.{length-take-le}
+use borrow.Rule.Slice.PartMut.{take-put}
+use Rattle.sheet.proofs.LaysLaws.{pair-tail, scratch-tail, blank-tail, pair-does-tail}
+use Rattle.sheet.proofs.ServingLaws.{taken-half, taken-a, taken-b, pair-terms, pair-k, poses-pair, pair-nodes, pair-scratch, pair-blank, pair-answered}
 use borrow.Author.Needs.{needs}
 use Rattle.sheet.proofs.serving.pair_order.Statement.{statement}
 use Rattle.sheet.proofs.serving.pair_order.Tie as tie
 
 cast-k : tie.Need-cast-k
 cast-k c =
-    let a = c .before .before .before .before .before .before .args in
     let p = c .before .before .before .before .before .before .pre in
     let T = p .0 .4 in
-    let q = pair-terms (a .x) (a .half) _ _ _ (now (a .a)) (now (a .b)) (now (a .c)) (now (a .d)) _ (a .o) T (p .1 .0) in
-    let k = pair-k (a .x) (a .half) _ _ _ (now (a .a)) (now (a .b)) (now (a .c)) (now (a .d)) _ (a .o) T (p .1 .0) (q .0) (q .1) (q .2) (q .3) in
+    let q = pair-terms T (p .1 .0) (p .1 .1 .0) in
+    let k = pair-k T (p .1 .0) (p .1 .1 .0) (q .0) (q .1) (q .2) (q .3) in
     omega (arith, k .0, k .1)
 
-lend-pair-requires : tie.Need-lend-pair-requires
-lend-pair-requires c κs =
+slice-aggregate-pose-pair : tie.Need-slice-aggregate-pose-pair
+slice-aggregate-pose-pair c =
+    sym (length-take-le _ _ (taken-a (c .before .before .before .before .before .before .before .pre .0 .4) (c .before .before .before .before .before .before .before .pre .1 .0)))
+
+slice-aggregate-pose-pair-2 : tie.Need-slice-aggregate-pose-pair-2
+slice-aggregate-pose-pair-2 c =
+    sym (length-take-le _ _ (taken-b (c .before .before .before .before .before .before .before .before .pre .0 .4) (c .before .before .before .before .before .before .before .before .pre .1 .0)))
+
+mul-pose-pair : tie.Need-mul-pose-pair
+mul-pose-pair c = search needs
+
+sub-pose-pair : tie.Need-sub-pose-pair
+sub-pose-pair c = search needs
+
+part-pose-pair-start : tie.Need-part-pose-pair-start
+part-pose-pair-start c = search needs
+
+part-pose-pair-end : tie.Need-part-pose-pair-end
+part-pose-pair-end c = search needs
+
+pose-pair-requires : tie.Need-pose-pair-requires
+pose-pair-requires c κs =
     let a = c .before .before .before .before .before .before .before .before .before .before .before .args in
     let p = c .before .before .before .before .before .before .before .before .before .before .before .pre in
     let T = p .0 .4 in
-    let h = p .1 .0 in
-    let q = pair-terms (a .x) (a .half) _ _ _ (now (a .a)) (now (a .b)) (now (a .c)) (now (a .d)) _ (a .o) T h in
-    let R = T .ready in
-    ((R .session, q .1, q .2, poses-pair (a .x) (a .half) _ _ _ (now (a .a)) (now (a .b)) (now (a .c)) (now (a .d)) _ (a .o) T h (q .0) (q .1) (q .2) (q .3) (R .session) (R .arises) (R .lays), pair-nodes (a .x) (a .half) _ _ _ (now (a .a)) (now (a .b)) (now (a .c)) (now (a .d)) _ (a .o) T h (q .0) (q .1) (q .2) (q .3) (R .session) (R .lays)), ((taken-a (a .x) (a .half) _ _ _ (now (a .a)) (now (a .b)) (now (a .c)) (now (a .d)) _ (a .o) T, taken-b (a .x) (a .half) _ _ _ (now (a .a)) (now (a .b)) (now (a .c)) (now (a .d)) _ (a .o) T, taken-half (a .x) (a .half) _ _ _ (now (a .a)) (now (a .b)) (now (a .c)) (now (a .d)) _ (a .o) T, pair-scratch (a .x) (a .half) _ _ _ (now (a .a)) (now (a .b)) (now (a .c)) (now (a .d)) _ (a .o) T h (q .0) (q .1) (q .2) (q .3), pair-blank (a .x) (a .half) _ _ _ (now (a .a)) (now (a .b)) (now (a .c)) (now (a .d)) _ (a .o) T h (q .0) (q .1) (q .2) (q .3)), p .1 .1))
+    let W = p .1 .0 in
+    let h = p .1 .1 .0 in
+    let q = pair-terms T W h in
+    let R = T .ready in (
+      (R .session, q .1, q .2, pair-tail (a .half) (now (a .c)) _ _ _ _ _ _ _ (poses-pair T W h (q .0) (q .1) (q .2) (q .3) (R .session) (R .arises) (R .lays)), pair-nodes T W h (q .0) (q .1) (q .2) (q .3) (R .session) (R .lays)),
+      ((scratch-tail (a .half) (now (a .c)) _ _ _ (pair-scratch T W h (q .0) (q .1) (q .2) (q .3)), blank-tail (a .half) (now (a .c)) (7 * a .x .variables) (pair-blank T W h (q .0) (q .1) (q .2) (q .3))), p .1 .1 .1),
+    )
 
 same-length : tie.Need-same-length
 same-length c = search needs
@@ -35,76 +62,34 @@ same-length-2 c = search needs
 same-length-3 : tie.Need-same-length-3
 same-length-3 c = search needs
 
-same-length-4 : tie.Need-same-length-4
-same-length-4 c = search needs
-
-same-length-5 : tie.Need-same-length-5
-same-length-5 c = search needs
-
 returns : tie.Need-returns
 returns c =
-    let a = c .before .before .before .before .before .before .before .before .before .before .before .before .before .before .before .before .before .before .before .before .args in
-    let p = c .before .before .before .before .before .before .before .before .before .before .before .before .before .before .before .before .before .before .before .before .pre in
-    let h = p .1 .0 in
-    let e = c .before .before .before .before .before .before .before .before .lend-pair .ensures in
+    let a = c .before .before .before .before .before .before .before .before .before .before .before .before .before .before .before .before .before .before .args in
+    let p = c .before .before .before .before .before .before .before .before .before .before .before .before .before .before .before .before .before .before .pre in
+    let W = p .1 .0 in
+    let h = p .1 .1 .0 in
+    let e = c .before .before .before .before .before .before .pose-pair .ensures in
+    let w = c .before .before .before .before .before .before .pose-pair .last .1 .1 .1 .0 in
     λ s a₀ b₀ ws T.
-    let q = pair-terms (a .x) (a .half) s a₀ b₀ (now (a .a)) (now (a .b)) (now (a .c)) (now (a .d)) ws (a .o) T h in
-    let k = pair-k (a .x) (a .half) s a₀ b₀ (now (a .a)) (now (a .b)) (now (a .c)) (now (a .d)) ws (a .o) T h (q .0) (q .1) (q .2) (q .3) in
-    pair-stays (a .x) (a .half) s a₀ b₀ (now (a .a)) (now (a .b)) (now (a .c)) (now (a .d)) ws (a .o) T h (q .0) (q .1) (q .2) (q .3) _ _ _ (now (a .out)) (a .to) _ _ (e .1 .0) (e .0) (a .o .first .value) (k .0) (λ z. e .1 .1 z (q .1) (q .2)) (omega (arith, c .if1 .taken))
-
-standing-requires : tie.Need-standing-requires
-standing-requires c κs = search needs
-
-clear-order-requires : tie.Need-clear-order-requires
-clear-order-requires c κs =
-    let a = c .before .before .before .before .before .before .before .before .before .before .before .before .before .before .before .before .before .before .before .before .before .before .before .args in
-    let p = c .before .before .before .before .before .before .before .before .before .before .before .before .before .before .before .before .before .before .before .before .before .before .before .pre in
-    rw (c .before .before .standing .ensures) (taken-after (a .x) (a .half) _ _ _ (now (a .a)) (now (a .b)) (now (a .c)) (now (a .d)) _ (a .o) (p .0 .4))
-
-same-length-6 : tie.Need-same-length-6
-same-length-6 c = search needs
-
-same-length-7 : tie.Need-same-length-7
-same-length-7 c = search needs
-
-same-length-8 : tie.Need-same-length-8
-same-length-8 c = search needs
-
-same-length-9 : tie.Need-same-length-9
-same-length-9 c = search needs
-
-same-length-10 : tie.Need-same-length-10
-same-length-10 c = search needs
-
-returns-2 : tie.Need-returns-2
-returns-2 c =
-    let a = c .before .before .before .before .before .before .before .before .before .before .before .before .before .before .before .before .before .before .before .before .before .before .before .before .before .before .before .before .args in
-    let p = c .before .before .before .before .before .before .before .before .before .before .before .before .before .before .before .before .before .before .before .before .before .before .before .before .before .before .before .before .pre in
-    let h = p .1 .0 in
-    let e = c .before .before .before .before .before .before .before .before .before .before .before .before .before .before .before .before .lend-pair .ensures in
-    let g = rw (c .before .before .before .before .before .before .before .standing .ensures) at (c .before .before .before .before .clear-order .ensures) in
-    λ s a₀ b₀ ws T.
-    let q = pair-terms (a .x) (a .half) s a₀ b₀ (now (a .a)) (now (a .b)) (now (a .c)) (now (a .d)) ws (a .o) T h in
-    let k = pair-k (a .x) (a .half) s a₀ b₀ (now (a .a)) (now (a .b)) (now (a .c)) (now (a .d)) ws (a .o) T h (q .0) (q .1) (q .2) (q .3) in
-    pair-undone (a .x) (a .half) s a₀ b₀ (now (a .a)) (now (a .b)) (now (a .c)) (now (a .d)) ws (a .o) T h (q .0) (q .1) (q .2) (q .3) _ _ _ (now (a .out)) (a .to) _ _ (e .1 .0) (e .0) (a .o .first .value) (k .0) (λ z. e .1 .1 z (q .1) (q .2)) (omega (arith, c .before .before .before .before .before .before .before .before .if1 .left)) _ _ g
+    let i = taken-half T in
+    let q = pair-terms T W h in
+    let k = pair-k T W h (q .0) (q .1) (q .2) (q .3) in
+    pair-answered T W h (q .0) (q .1) (q .2) (q .3) _ _ _ _ _ (take-put (a .half) (length (now (a .c)) - a .half) (now (a .c)) w i) (e .0) (a .o .first .value) (k .0)
+    (λ z P n. pair-does-tail (a .half) (now (a .c)) (a .x) _ _ _ z _ _ _ _ _ w i (e .1 z (q .1) (q .2) (pair-tail (a .half) (now (a .c)) _ _ _ _ _ _ _ P) n))
 
 pub pair-order-spec : {M : Type 1} → statement M
 pair-order-spec =
     tie.close
     (tie.spec
     cast-k
-    lend-pair-requires
+    slice-aggregate-pose-pair
+    slice-aggregate-pose-pair-2
+    mul-pose-pair
+    sub-pose-pair
+    part-pose-pair-start
+    part-pose-pair-end
+    pose-pair-requires
     same-length
     same-length-2
     same-length-3
-    same-length-4
-    same-length-5
-    returns
-    standing-requires
-    clear-order-requires
-    same-length-6
-    same-length-7
-    same-length-8
-    same-length-9
-    same-length-10
-    returns-2)
+    returns)

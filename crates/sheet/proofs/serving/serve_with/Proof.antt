@@ -1,9 +1,8 @@
--- `serve_with`: read, and answered or refused. Assumes nothing.
-use mathlib.Core.Path.{ap, _∙_}
+-- `serve_with`: read, and answered and cleared, or refused. Assumes nothing.
+use mathlib.Core.Path.{_∙_}
 use native.Mathlib.Omega.{arith}
 use denote.Ref.{now}
-use Rattle.solver.specs.declared.Standing.{Standing}
-use Rattle.sheet.proofs.ServingLaws.{ready-room, serves-refused, serves-crowded}
+use Rattle.sheet.proofs.ServingLaws.{ready-room, serves-refused}
 use borrow.Author.Needs.{needs}
 use Rattle.sheet.proofs.serving.serve_with.Statement.{statement}
 use Rattle.sheet.proofs.serving.serve_with.Tie as tie
@@ -20,24 +19,38 @@ read-order-requires c κs =
 enum-known-r : tie.Need-enum-known-r
 enum-known-r c = search needs
 
+answer-order-requires : tie.Need-answer-order-requires
+answer-order-requires c κs =
+    let a = c .before .before .before .before .before .before .before .before .before .before .before .before .before .before .before .before .before .before .before .before .before .before .before .before .before .before .before .args in
+    let p = c .before .before .before .before .before .before .before .before .before .before .before .before .before .before .before .before .before .before .before .before .before .before .before .before .before .before .before .pre in
+    let m = c .before .before .before .before .before .before .before .before .before .before .before .before .before .before .before .read-order in
+    let W = rw (c .before .before .before .before .before .before .before .before .before .before .before .before .before .before .before .before .before .before .before .standing .ensures, c .before .before .before .before .before .before .before .r .given .1) at (m .ensures) in
+    ((now (a .a), now (a .b), record { ready = p .0; whole = W }), (omega (arith, m .kept .1 .1 .1 .0, p .1 .0 .1), record { inside = p .1 .1 .1; short = p .1 .1 .2 }))
+
+standing-requires-2 : tie.Need-standing-requires-2
+standing-requires-2 c κs = search needs
+
 clear-order-requires : tie.Need-clear-order-requires
 clear-order-requires c κs =
-    let m = c .before .before .before .before .before .before .before .before .before .before .before .before .before .before .read-order in
-    let W = rw (c .before .before .before .before .before .before .r .given .1) at (m .ensures) in
-    omega (arith, W .tokens)
+    let a = c .before .before .before .before .before .before .before .before .before .before .before .before .before .before .before .before .before .before .before .before .before .before .before .before .before .before .before .before .before .before .before .before .before .before .before .before .before .before .args in
+    let p = c .before .before .before .before .before .before .before .before .before .before .before .before .before .before .before .before .before .before .before .before .before .before .before .before .before .before .before .before .before .before .before .before .before .before .before .before .before .before .pre in
+    let W = rw (c .before .before .before .before .before .before .before .before .before .before .before .before .before .before .before .before .before .before .before .before .before .before .before .before .before .before .before .before .before .before .standing .ensures, c .before .before .before .before .before .before .before .before .before .before .before .before .before .before .before .before .before .before .r .given .1) at (c .before .before .before .before .before .before .before .before .before .before .before .before .before .before .before .before .before .before .before .before .before .before .before .before .before .before .read-order .ensures) in
+    let A = c .before .before .before .before .before .before .before .before .before .before .answer-order .ensures (now (a .a)) (now (a .b)) (record { ready = p .0; whole = W }) in
+    rw (c .before .before .standing2 .ensures) (A .inside)
+
+enum-known-r-2 : tie.Need-enum-known-r-2
+enum-known-r-2 c = search needs
 
 refused-requires : tie.Need-refused-requires
-refused-requires c κs =
-    let a = c .before .before .before .before .before .before .before .before .before .before .before .before .before .before .before .before .before .before .before .before .before .before .before .before .before .before .before .before .before .before .before .before .args in
-    let p = c .before .before .before .before .before .before .before .before .before .before .before .before .before .before .before .before .before .before .before .before .before .before .before .before .before .before .before .before .before .before .before .before .pre in
-    record { inside = p .1 .1 .1; short = p .1 .1 .2 }
+refused-requires c κs = search needs
 
 same-length : tie.Need-same-length
 same-length c =
-    c .before .before .before .before .before .before .before .before .clear-order .kept .0 ∙ c .before .before .before .before .before .before .before .before .before .before .before .before .before .before .before .before .before .before .before .before .before .before .before .read-order .kept .1 .0
+    c .before .before .before .before .clear-order .kept .0 ∙ c .before .before .before .before .before .before .before .before .before .before .before .before .before .before .before .before .before .before .before .before .before .before .before .before .before .before .before .before .before .before .before .read-order .kept .1 .0
 
 same-length-2 : tie.Need-same-length-2
-same-length-2 c = search needs
+same-length-2 c =
+    c .before .before .before .before .clear-order .kept .1 .0 ∙ c .before .before .before .before .before .before .before .before .before .before .before .before .before .before .before .before .before .before .before .before .before .before .before .before .before .before .before .before .before .before .before .read-order .kept .1 .1 .0
 
 same-length-3 : tie.Need-same-length-3
 same-length-3 c = search needs
@@ -45,42 +58,20 @@ same-length-3 c = search needs
 same-length-4 : tie.Need-same-length-4
 same-length-4 c = search needs
 
-returns : tie.Need-returns
-returns c =
-    let a = c .before .before .before .before .before .before .before .before .before .before .before .before .before .before .before .before .before .before .before .before .before .before .before .before .before .before .before .before .before .before .before .before .before .before .before .args in
-    let p = c .before .before .before .before .before .before .before .before .before .before .before .before .before .before .before .before .before .before .before .before .before .before .before .before .before .before .before .before .before .before .before .before .before .before .before .pre in
-    let m = c .before .before .before .before .before .before .before .before .before .before .before .before .before .before .before .before .before .before .before .before .before .before .before .read-order in
-    let S = c .before .before .before .before .before .before .before .before .before .before .before .before .before .before .before .before .before .before .before .before .before .before .before .before .before .before .before .standing .ensures in
-    let W = rw (S, c .before .before .before .before .before .before .before .before .before .before .before .before .before .before .before .r .given .1) at (m .ensures) in
-    let n = ap (λ (x : Standing). x .nodes) S in
-    serves-crowded (a .x) (a .half) (now (a .s)) (now (a .a)) (now (a .b)) (m .last .1 .0) (m .last .1 .1 .0) (now (a .c)) (now (a .d)) _ _ W (omega (arith, n, c .before .before .before .before .before .before .before .before .before .before .before .if1 .taken)) _ _ (rw S at (c .before .before .before .before .before .before .before .before .clear-order .ensures)) (now (a .out)) (a .to) _ _ (c .before .before .refused .ensures)
-
-answer-order-requires : tie.Need-answer-order-requires
-answer-order-requires c κs =
-    let a = c .before .before .before .before .before .before .before .before .before .before .before .before .before .before .before .before .before .before .before .before .before .before .before .before .before .before .before .before .before .before .args in
-    let p = c .before .before .before .before .before .before .before .before .before .before .before .before .before .before .before .before .before .before .before .before .before .before .before .before .before .before .before .before .before .before .pre in
-    let m = c .before .before .before .before .before .before .before .before .before .before .before .before .before .before .before .before .before .before .read-order in
-    let S = c .before .before .before .before .before .before .before .before .before .before .before .before .before .before .before .before .before .before .before .before .before .before .standing .ensures in
-    let W = rw (S, c .before .before .before .before .before .before .before .before .before .before .r .given .1) at (m .ensures) in
-    let n = ap (λ (x : Standing). x .nodes) S in
-    ((now (a .a), now (a .b), record { ready = p .0; whole = W; within = omega (arith, n, c .before .before .before .before .before .before .if1 .left) }), (omega (arith, m .kept .1 .1 .1 .0, p .1 .0 .1), record { inside = p .1 .1 .1; short = p .1 .1 .2 }))
-
-enum-known-r-2 : tie.Need-enum-known-r-2
-enum-known-r-2 c = search needs
-
-refused-requires-2 : tie.Need-refused-requires-2
-refused-requires-2 c κs =
-    let a = c .before .before .before .before .before .before .before .before .before .before .before .before .before .before .before .before .before .before .before .before .before .before .args in
-    let p = c .before .before .before .before .before .before .before .before .before .before .before .before .before .before .before .before .before .before .before .before .before .before .pre in
-    record { inside = p .1 .1 .1; short = p .1 .1 .2 }
-
 same-length-5 : tie.Need-same-length-5
 same-length-5 c =
-    c .before .before .before .before .before .before .before .before .before .before .answer-order .kept .1 .1 .1 .0 ∙ c .before .before .before .before .before .before .before .before .before .before .before .before .before .before .before .before .before .before .before .before .before .before .before .before .before .before .before .before .before .read-order .kept .1 .0
+    c .before .before .before .before .before .before .before .before .before .before .before .before .before .before .before .before .before .before .before .before .before .before .before .before .before .before .before .before .before .before .before .read-order .kept .1 .1 .1 .0
 
 same-length-6 : tie.Need-same-length-6
-same-length-6 c =
-    c .before .before .before .before .before .before .before .before .before .before .answer-order .kept .1 .1 .1 .1 .0 ∙ c .before .before .before .before .before .before .before .before .before .before .before .before .before .before .before .before .before .before .before .before .before .before .before .before .before .before .before .before .before .read-order .kept .1 .1 .0
+same-length-6 c = search needs
+
+returns : tie.Need-returns
+returns c =
+    let a = c .before .before .before .before .before .before .before .before .before .before .before .before .before .before .before .before .before .before .before .before .before .before .before .before .before .before .before .before .before .before .before .before .before .before .before .before .before .before .before .before .before .before .before .args in
+    let p = c .before .before .before .before .before .before .before .before .before .before .before .before .before .before .before .before .before .before .before .before .before .before .before .before .before .before .before .before .before .before .before .before .before .before .before .before .before .before .before .before .before .before .before .pre in
+    let W = rw (c .before .before .before .before .before .before .before .before .before .before .before .before .before .before .before .before .before .before .before .before .before .before .before .before .before .before .before .before .before .before .before .before .before .before .before .standing .ensures, c .before .before .before .before .before .before .before .before .before .before .before .before .before .before .before .before .before .before .before .before .before .before .before .r .given .1) at (c .before .before .before .before .before .before .before .before .before .before .before .before .before .before .before .before .before .before .before .before .before .before .before .before .before .before .before .before .before .before .before .read-order .ensures) in
+    let A = c .before .before .before .before .before .before .before .before .before .before .before .before .before .before .before .answer-order .ensures (now (a .a)) (now (a .b)) (record { ready = p .0; whole = W }) in
+    A .serves _ _ (rw (c .before .before .before .before .before .before .before .standing2 .ensures) at (c .before .before .before .before .clear-order .ensures))
 
 same-length-7 : tie.Need-same-length-7
 same-length-7 c = search needs
@@ -89,41 +80,17 @@ same-length-8 : tie.Need-same-length-8
 same-length-8 c = search needs
 
 same-length-9 : tie.Need-same-length-9
-same-length-9 c =
-    c .before .before .before .before .before .before .before .before .before .before .before .before .before .before .before .before .before .before .before .before .before .before .before .before .before .before .before .before .before .read-order .kept .1 .1 .1 .0
+same-length-9 c = search needs
 
 same-length-10 : tie.Need-same-length-10
 same-length-10 c = search needs
 
 returns-2 : tie.Need-returns-2
 returns-2 c =
-    let a = c .before .before .before .before .before .before .before .before .before .before .before .before .before .before .before .before .before .before .before .before .before .before .before .before .before .before .before .before .before .before .before .before .before .before .before .before .before .before .before .before .before .args in
-    let p = c .before .before .before .before .before .before .before .before .before .before .before .before .before .before .before .before .before .before .before .before .before .before .before .before .before .before .before .before .before .before .before .before .before .before .before .before .before .before .before .before .before .pre in
-    let m = c .before .before .before .before .before .before .before .before .before .before .before .before .before .before .before .before .before .before .before .before .before .before .before .before .before .before .before .before .before .read-order in
-    let S = c .before .before .before .before .before .before .before .before .before .before .before .before .before .before .before .before .before .before .before .before .before .before .before .before .before .before .before .before .before .before .before .before .before .standing .ensures in
-    let W = rw (S, c .before .before .before .before .before .before .before .before .before .before .before .before .before .before .before .before .before .before .before .before .before .r .given .1) at (m .ensures) in
-    let n = ap (λ (x : Standing). x .nodes) S in
-    c .before .before .before .before .before .before .before .before .before .before .answer-order .ensures (now (a .a)) (now (a .b)) (record { ready = p .0; whole = W; within = omega (arith, n, c .before .before .before .before .before .before .before .before .before .before .before .before .before .before .before .before .before .if1 .left) })
-
-same-length-11 : tie.Need-same-length-11
-same-length-11 c = search needs
-
-same-length-12 : tie.Need-same-length-12
-same-length-12 c = search needs
-
-same-length-13 : tie.Need-same-length-13
-same-length-13 c = search needs
-
-same-length-14 : tie.Need-same-length-14
-same-length-14 c = search needs
-
-returns-3 : tie.Need-returns-3
-returns-3 c =
     let a = c .before .before .before .before .before .before .before .before .before .before .before .before .before .before .before .before .before .before .before .before .before .before .before .before .before .args in
-    let p = c .before .before .before .before .before .before .before .before .before .before .before .before .before .before .before .before .before .before .before .before .before .before .before .before .before .pre in
     let m = c .before .before .before .before .before .before .before .before .before .before .before .before .before .read-order in
     let W = rw (c .before .before .before .before .before .before .before .before .before .before .before .before .before .before .before .before .before .standing .ensures, c .before .before .before .before .before .r2 .given .1) at (m .ensures) in
-    serves-refused (a .x) (a .half) (now (a .s)) (now (a .a)) (now (a .b)) (m .last .1 .0) (m .last .1 .1 .0) (now (a .c)) (now (a .d)) _ (W .0) (W .1) (now (a .out)) (a .to) _ _ (c .before .before .refused2 .ensures)
+    serves-refused (a .x) (a .half) (now (a .s)) _ (m .last .1 .0) (m .last .1 .1 .0) _ (W .0) (W .1) _ _ (c .before .before .refused .ensures)
 
 pub serve-with-spec : {M : Type 1} → statement M
 serve-with-spec =
@@ -132,25 +99,20 @@ serve-with-spec =
     standing-requires
     read-order-requires
     enum-known-r
+    answer-order-requires
+    standing-requires-2
     clear-order-requires
+    enum-known-r-2
     refused-requires
     same-length
     same-length-2
     same-length-3
     same-length-4
-    returns
-    answer-order-requires
-    enum-known-r-2
-    refused-requires-2
     same-length-5
     same-length-6
+    returns
     same-length-7
     same-length-8
     same-length-9
     same-length-10
-    returns-2
-    same-length-11
-    same-length-12
-    same-length-13
-    same-length-14
-    returns-3)
+    returns-2)
