@@ -16,17 +16,17 @@ use Rattle.solver.specs.Work.{Zero}
 use Rattle.solver.specs.Whole.{counters}
 use Rattle.solver.proofs.WholeLaws.{all-zero, zero-cleared}
 use Rattle.sheet.specs.Sheet.{runOf}
-use Rattle.sheet.specs.Lays.{areas, Roomy}
+use Rattle.sheet.specs.Lays.{Areas, areas, Roomy}
 use Rattle.sheet.specs.Ending.{Ended, Finish, finished, suits, leaving, finishOf}
 use Rattle.sheet.proofs.LaysLaws.{tail-back}
 
 -- ---- sizes
 
 -- areas of as many words do for the same limits
-pub roomy-same : (x y : Solver) (half : ℕ) (a b c d a′ b′ c′ d′ : List ℕ) → y .variables ≡ x .variables → y .nodes ≡ x .nodes
-    → length a′ ≡ length a → length b′ ≡ length b → length c′ ≡ length c → length d′ ≡ length d
-    → Roomy x half (length a) (areas a b c d) → Roomy y half (length a′) (areas a′ b′ c′ d′)
-roomy-same x y half a b c d a′ b′ c′ d′ v k la lb lc ld R =
+pub roomy-same : {x y : Solver} {half : ℕ} {m n : Areas} → y .variables ≡ x .variables → y .nodes ≡ x .nodes
+    → length (n .a) ≡ length (m .a) → length (n .b) ≡ length (m .b) → length (n .c) ≡ length (m .c) → length (n .d) ≡ length (m .d)
+    → Roomy x half (length (m .a)) m → Roomy y half (length (n .a)) n
+roomy-same v k la lb lc ld R =
     record {
       a-size = refl;
       b-size = lb ∙ R .b-size ∙ sym la;

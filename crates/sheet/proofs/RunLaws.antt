@@ -18,8 +18,9 @@ use Rattle.solver.specs.Lent.{Arises, limitsOf}
 use Rattle.sheet.specs.Fields.{Field}
 use Rattle.sheet.specs.Orders.{Act, tells, answers, Read}
 use Rattle.sheet.specs.Sheet.{readOrder, Run, perform, step, stepRead, orderOf, framed, ends, answering, nextOrder, answered, runFrom, runOf}
-use Rattle.sheet.specs.Lays.{areas, outputAt, Lays, Roomy, Served}
+use Rattle.sheet.specs.Lays.{Areas, Output, outputAt, Lays, Roomy, Served}
 use Rattle.sheet.specs.Ending.{Ready, Ended, Left}
+use Rattle.sheet.specs.Taken.{Serves}
 use Rattle.sheet.proofs.EndingLaws.{roomy-same}
 use Rattle.sheet.proofs.SplittingLaws.{Ahead, next-ahead}
 
@@ -112,28 +113,28 @@ after-none r =
     let e : r .orders ≡ 0 + r .orders = omega arith in
     ap {B = Run} (λ k. record { reason = r .reason; orders = k; answers = r .answers; session = r .session }) e
 
--- With the counters x and the areas so, n orders answered from the sheet's first bytes, up to `at`, and the answers in the first `to` bytes of
--- the output.
-pub record Going (lim : Limits) (half : ℕ) (s out₀ : List ℕ) (x : Solver) (out a b c d : List ℕ) (at to n : ℕ) : Type 0 where
+-- With the counters x, the areas m and the output u so, n orders answered from the sheet's first bytes, up to `at`, and the answers in the output's
+-- first bytes.
+pub record Going (lim : Limits) (half : ℕ) (s out₀ : List ℕ) (x : Solver) (m : Areas) (u : Output) (at n : ℕ) : Type 0 where
   pub limits : limitsOf x ≡ lim
   pub session : Session
   pub past : Past (limitsOf x) session
-  pub lays : Lays x half (areas a b c d) session
-  pub roomy : Roomy x half (length a) (areas a b c d)
+  pub lays : Lays x half m session
+  pub roomy : Roomy x half (length (m .a)) m
   pub inside : at ≤ length s
   pub few : n ≤ at
-  pub room : to ≤ length out₀
-  pub long : length out ≡ length out₀
+  pub room : u .at ≤ length out₀
+  pub long : length (u .bytes) ≡ length out₀
   pub written : List ℕ
-  pub sized : length written ≡ to
-  pub output : out ≡ written ++ drop to out₀
+  pub sized : length written ≡ u .at
+  pub output : u .bytes ≡ written ++ drop (u .at) out₀
   pub fuel : ℕ
   pub enough : length s < at + fuel
-  pub whole : runOf (limitsOf x) s (length out₀) ≡ after n written (runFrom (limitsOf x) s fuel session at (length out₀ - to))
+  pub whole : runOf (limitsOf x) s (length out₀) ≡ after n written (runFrom (limitsOf x) s fuel session at (length out₀ - u .at))
 
-pub going-start : (half : ℕ) (s out₀ : List ℕ) (x : Solver) (a b c d : List ℕ) → Lays x half (areas a b c d) fresh → Roomy x half (length a) (areas a b c d)
-    → Going (limitsOf x) half s out₀ x out₀ a b c d 0 0 0
-going-start half s out₀ x a b c d L R =
+pub going-start : {half : ℕ} {s out₀ : List ℕ} {x : Solver} {m : Areas} → Lays x half m fresh → Roomy x half (length (m .a)) m
+    → Going (limitsOf x) half s out₀ x m (outputAt out₀ 0) 0 0
+going-start {s = s} {out₀ = out₀} {x = x} L R =
     record {
       limits = refl;
       session = fresh;
@@ -155,18 +156,17 @@ going-start half s out₀ x a b c d L R =
     }
 
 -- as the next order finds the areas
-pub going-ready : (lim : Limits) (half : ℕ) (s out₀ : List ℕ) (x : Solver) (out a b c d : List ℕ) (at to n : ℕ)
-    → Going lim half s out₀ x out a b c d at to n → Ready x half (areas a b c d)
-going-ready lim half s out₀ x out a b c d at to n g =
+pub going-ready : {lim : Limits} {half : ℕ} {s out₀ : List ℕ} {x : Solver} {m : Areas} {u : Output} {at n : ℕ} → Going lim half s out₀ x m u at n → Ready x half m
+going-ready {x = x} g =
     record { roomy = g .roomy; session = g .session; arises = past-arises (limitsOf x) (g .session) (g .past); lays = g .lays }
 
 -- ---- how it ends
 
-module _ (lim : Limits) (half : ℕ) (s out₀ : List ℕ) (x : Solver) (out a b c d : List ℕ) (at to n : ℕ) (g : Going lim half s out₀ x out a b c d at to n) where
-  ending : (r : ℕ) (out′ : List ℕ) → runFrom (limitsOf x) s (g .fuel) (g .session) at (length out₀ - to) ≡ ends r (g .session)
-      → out′ ≡ out → Ended lim s out₀ r n to out′
+module _ {lim : Limits} {half : ℕ} {s out₀ : List ℕ} {x : Solver} {m : Areas} {u : Output} {at n : ℕ} (g : Going lim half s out₀ x m u at n) where
+  ending : (r : ℕ) (out′ : List ℕ) → runFrom (limitsOf x) s (g .fuel) (g .session) at (length out₀ - u .at) ≡ ends r (g .session)
+      → out′ ≡ u .bytes → Ended lim s out₀ r n (u .at) out′
   ending r out′ e o =
-      subst (λ (l : Limits). Ended l s out₀ r n to out′) (g .limits)
+      subst (λ (l : Limits). Ended l s out₀ r n (u .at) out′) (g .limits)
       (record {
         reason = sym (ap (λ (q : Run). q .reason) total);
         orders = sym (ap (λ (q : Run). q .orders) total ∙ none);
@@ -183,43 +183,42 @@ module _ (lim : Limits) (half : ℕ) (s out₀ : List ℕ) (x : Solver) (out a b
       answers : runOf (limitsOf x) s (length out₀) .answers ≡ g .written
       answers = ap (λ (q : Run). q .answers) total ∙ append-nil (g .written)
 
-module _ (lim : Limits) (half : ℕ) (s out₀ : List ℕ) (x : Solver) (out a b c d : List ℕ) (at to n : ℕ) (g : Going lim half s out₀ x out a b c d at to n) where
+module _ {lim : Limits} {half : ℕ} {s out₀ : List ℕ} {x : Solver} {m : Areas} {u : Output} {at n : ℕ} (g : Going lim half s out₀ x m u at n) where
   -- the sheet is used up
-  pub ends-used : length s ≤ at → Ended lim s out₀ 0 n to out × Left x half (areas a b c d)
+  pub ends-used : length s ≤ at → Ended lim s out₀ 0 n (u .at) (u .bytes) × Left x half m
   ends-used h = (
-    ending lim half s out₀ x out a b c d at to n g 0 out (run-over (limitsOf x) s (g .fuel) (g .session) at (length out₀ - to) h) refl,
+    ending g 0 (u .bytes) (run-over (limitsOf x) s (g .fuel) (g .session) at (length out₀ - u .at) h) refl,
     record { session = g .session; lays = g .lays },
   )
 
   -- a length is faulty
-  pub ends-faulty : at < length s → refused 10 ≡ nextOrder s at → Ended lim s out₀ 10 n to out × Left x half (areas a b c d)
+  pub ends-faulty : at < length s → refused 10 ≡ nextOrder s at → Ended lim s out₀ 10 n (u .at) (u .bytes) × Left x half m
   ends-faulty h e = (
-    ending lim half s out₀ x out a b c d at to n g 10 out (run-faulty (limitsOf x) s (g .fuel) (g .session) at (length out₀ - to) h (g .enough) e) refl,
+    ending g 10 (u .bytes) (run-faulty (limitsOf x) s (g .fuel) (g .session) at (length out₀ - u .at) h (g .enough) e) refl,
     record { session = g .session; lays = g .lays },
   )
 
   -- what came of the order in the session that there is
-  module _ (y : Solver) (out′ a′ b′ c′ d′ b₀ : List ℕ) (r next : ℕ)
-      (f : (z : Session) → Arises (limitsOf x) loose z → Lays x half (areas a b c d) z → Served y half (areas a′ b′ c′ d′) z b₀ (outputAt out to) (outputAt out′ r) x) where
-    served : Served y half (areas a′ b′ c′ d′) (g .session) b₀ (outputAt out to) (outputAt out′ r) x
+  module _ (y : Solver) (m′ : Areas) (v : Output) (b₀ : List ℕ) (next : ℕ) (f : Serves x y half b₀ m m′ u v) where
+    served : Served y half m′ (g .session) b₀ u v x
     served = f (g .session) (past-arises (limitsOf x) (g .session) (g .past)) (g .lays)
 
     a₀ : List ℕ
     a₀ = framed (orderOf (limitsOf x) (g .session) b₀ .answer)
 
-    fits : r ≤ length out → to + length a₀ ≤ length out
+    fits : v .at ≤ length (u .bytes) → u .at + length a₀ ≤ length (u .bytes)
     unfolding a₀
-    fits h = go (decLe (to + length a₀) (length out))
+    fits h = go (decLe (u .at + length a₀) (length (u .bytes)))
       where
-        go : Dec (to + length a₀ ≤ length out) → to + length a₀ ≤ length out
+        go : Dec (u .at + length a₀ ≤ length (u .bytes)) → u .at + length a₀ ≤ length (u .bytes)
         go (yes l) = l
         go (no l) = let q = served .long (omega arith) in absurd (omega (arith, q .0))
 
-    over : length out < r → length out < to + length a₀
+    over : length (u .bytes) < v .at → length (u .bytes) < u .at + length a₀
     unfolding a₀
-    over h = go (decLe (to + length a₀) (length out))
+    over h = go (decLe (u .at + length a₀) (length (u .bytes)))
       where
-        go : Dec (to + length a₀ ≤ length out) → length out < to + length a₀
+        go : Dec (u .at + length a₀ ≤ length (u .bytes)) → length (u .bytes) < u .at + length a₀
         go (yes l) = let q = served .fits l in absurd (omega (arith, q .0))
         go (no l) = omega arith
 
@@ -228,66 +227,66 @@ module _ (lim : Limits) (half : ℕ) (s out₀ : List ℕ) (x : Solver) (out a b
     same-limits = ap₂ {C = Limits} (λ v k. record { variables = v; nodes = k }) (served .variables) (served .nodes)
 
     -- an answer does not fit
-    pub ends-long : at < length s → got b₀ next ≡ nextOrder s at → length out < r → Ended lim s out₀ 11 n to out′ × Left y half (areas a′ b′ c′ d′)
+    pub ends-long : at < length s → got b₀ next ≡ nextOrder s at → length (u .bytes) < v .at → Ended lim s out₀ 11 n (u .at) (v .bytes) × Left y half m′
     unfolding a₀
     ends-long h e l =
-        let t : length out < to + length (framed (orderOf (limitsOf x) (g .session) b₀ .answer)) = over l in
+        let t : length (u .bytes) < u .at + length (framed (orderOf (limitsOf x) (g .session) b₀ .answer)) = over l in
         let q = served .long t in (
-          ending lim half s out₀ x out a b c d at to n g 11 out′
-              (run-long (limitsOf x) s (g .fuel) (g .session) at (length out₀ - to) b₀ next h (g .enough) e (omega (arith, g .long, g .room)))
+          ending g 11 (v .bytes)
+              (run-long (limitsOf x) s (g .fuel) (g .session) at (length out₀ - u .at) b₀ next h (g .enough) e (omega (arith, g .long, g .room)))
               (q .1),
           record { session = g .session; lays = q .2 },
         )
 
     -- an order more
-    pub going-on : at < length s → got b₀ next ≡ nextOrder s at → r ≤ length out
-        → length a′ ≡ length a → length b′ ≡ length b → length c′ ≡ length c → length d′ ≡ length d
-        → Going lim half s out₀ y out′ a′ b′ c′ d′ next r (n + 1)
+    pub going-on : at < length s → got b₀ next ≡ nextOrder s at → v .at ≤ length (u .bytes)
+        → length (m′ .a) ≡ length (m .a) → length (m′ .b) ≡ length (m .b) → length (m′ .c) ≡ length (m .c) → length (m′ .d) ≡ length (m .d)
+        → Going lim half s out₀ y m′ v next (n + 1)
     unfolding a₀
     going-on h e l la lb lc ld = go (g .fuel) (g .enough) (g .whole)
       where
         w : List ℕ
         w = g .written
 
-        t : to + length (framed (orderOf (limitsOf x) (g .session) b₀ .answer)) ≤ length out
+        t : u .at + length (framed (orderOf (limitsOf x) (g .session) b₀ .answer)) ≤ length (u .bytes)
         t = fits l
 
         z′ : Session
         z′ = orderOf (limitsOf x) (g .session) b₀ .session
 
-        q : (r ≡ to + length a₀) × (out′ ≡ sets out to a₀) × Lays y half (areas a′ b′ c′ d′) z′
+        q : (v .at ≡ u .at + length a₀) × (v .bytes ≡ sets (u .bytes) (u .at) a₀) × Lays y half m′ z′
         q = served .fits t
 
         ahead : Ahead at next (length s)
         ahead = next-ahead s at b₀ next e
 
-        roomy : Roomy y half (length a′) (areas a′ b′ c′ d′)
-        roomy = roomy-same x y half a b c d a′ b′ c′ d′ (served .variables) (served .nodes) la lb lc ld (g .roomy)
+        roomy : Roomy y half (length (m′ .a)) m′
+        roomy = roomy-same (served .variables) (served .nodes) la lb lc ld (g .roomy)
 
-        wide : length (w ++ a₀) ≡ r
+        wide : length (w ++ a₀) ≡ v .at
         wide = length-append w a₀ ∙ ap (λ (k : ℕ). k + length a₀) (g .sized) ∙ sym (q .0)
 
-        rest : drop (to + length a₀) out ≡ drop r out₀
+        rest : drop (u .at + length a₀) (u .bytes) ≡ drop (v .at) out₀
         rest =
-            ap (λ (k : ℕ). drop (k + length a₀) out) (sym (g .sized)) ∙ ap (drop (length w + length a₀)) (g .output) ∙ drop-append-add w (drop to out₀) (length a₀)
-            ∙ drop-drop (length a₀) to out₀ ∙ ap (λ (k : ℕ). drop k out₀) (sym (q .0))
+            ap (λ (k : ℕ). drop (k + length a₀) (u .bytes)) (sym (g .sized)) ∙ ap (drop (length w + length a₀)) (g .output) ∙ drop-append-add w (drop (u .at) out₀) (length a₀)
+            ∙ drop-drop (length a₀) (u .at) out₀ ∙ ap (λ (k : ℕ). drop k out₀) (sym (q .0))
 
-        front : take to out ≡ w
-        front = ap (take to) (g .output) ∙ take-at w (drop to out₀) to (g .sized)
+        front : take (u .at) (u .bytes) ≡ w
+        front = ap (take (u .at)) (g .output) ∙ take-at w (drop (u .at) out₀) (u .at) (g .sized)
 
-        output : out′ ≡ (w ++ a₀) ++ drop r out₀
+        output : v .bytes ≡ (w ++ a₀) ++ drop (v .at) out₀
         output =
-            q .1 ∙ sets-eq a₀ out to t
+            q .1 ∙ sets-eq a₀ (u .bytes) (u .at) t
             ∙ ap₂ (λ (k l : List ℕ). k ++ a₀ ++ l) front rest
 
-        space : length out₀ - to - length a₀ ≡ length out₀ - r
+        space : length out₀ - u .at - length a₀ ≡ length out₀ - v .at
         space = omega (arith, q .0)
 
-        go : (fuel : ℕ) → length s < at + fuel → runOf (limitsOf x) s (length out₀) ≡ after n w (runFrom (limitsOf x) s fuel (g .session) at (length out₀ - to))
-            → Going lim half s out₀ y out′ a′ b′ c′ d′ next r (n + 1)
-        go zero m v = absurd (omega arith)
-        go (suc fuel) m v =
-            let turn = run-turn (limitsOf x) s fuel (g .session) at (length out₀ - to) b₀ next h e (omega (arith, g .long, g .room, t)) in
+        go : (fuel : ℕ) → length s < at + fuel → runOf (limitsOf x) s (length out₀) ≡ after n w (runFrom (limitsOf x) s fuel (g .session) at (length out₀ - u .at))
+            → Going lim half s out₀ y m′ v next (n + 1)
+        go zero k e′ = absurd (omega arith)
+        go (suc fuel) k e′ =
+            let turn = run-turn (limitsOf x) s fuel (g .session) at (length out₀ - u .at) b₀ next h e (omega (arith, g .long, g .room, t)) in
             record {
               limits = same-limits ∙ g .limits;
               session = z′;
@@ -297,14 +296,14 @@ module _ (lim : Limits) (half : ℕ) (s out₀ : List ℕ) (x : Solver) (out a b
               inside = ahead .inside;
               few = omega (arith, g .few, ahead .after);
               room = omega (arith, g .long);
-              long = ap length (q .1) ∙ length-sets out to a₀ ∙ g .long;
+              long = ap length (q .1) ∙ length-sets (u .bytes) (u .at) a₀ ∙ g .long;
               written = w ++ a₀;
               sized = wide;
               output = output;
               fuel = fuel;
               enough = omega (arith, ahead .after);
               whole =
-                  subst (λ (i : Limits). runOf i s (length out₀) ≡ after (n + 1) (w ++ a₀) (runFrom i s fuel z′ next (length out₀ - r))) (sym same-limits)
-                  (v ∙ ap (after n w) turn ∙ after-one n w a₀ _
+                  subst (λ (i : Limits). runOf i s (length out₀) ≡ after (n + 1) (w ++ a₀) (runFrom i s fuel z′ next (length out₀ - v .at))) (sym same-limits)
+                  (e′ ∙ ap (after n w) turn ∙ after-one n w a₀ _
                   ∙ ap (λ (k : ℕ). after (n + 1) (w ++ a₀) (runFrom (limitsOf x) s fuel z′ next k)) space);
             }

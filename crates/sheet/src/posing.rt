@@ -32,7 +32,9 @@ pub fn defer_term(
 ) -> Reached
     requires held { ⌜ ((z : Session) × (t : Term) × Poses loose x (now kinds) (now vals) (now tables) z t) ⌝ }
     requires room { ⌜ Room (now out) to ⌝ }
-    ensures { λ r. ⌜ ((z : Session) (t : Term) → Poses loose x (now (kinds .entry)) (now (vals .entry)) (now (tables .entry)) z t → Does x (r .solver) (take (x .top) (now (kinds .entry))) (take (x .top) (now (vals .entry))) (now (tables .entry)) (now (tables .exit)) z (solve (limitsOf x) z (orders.defer t)) (now (out .entry)) to (now (out .exit)) (r .next)) ⌝ }
+    ensures { λ r. ⌜ ((z : Session) (t : Term) → Poses loose x (now (kinds .entry)) (now (vals .entry)) (now (tables .entry)) z t
+        → Does x (r .solver) (take (x .top) (now (kinds .entry))) (take (x .top) (now (vals .entry))) (now (tables .entry)) (now (tables .exit)) z
+        (solve (limitsOf x) z (orders.defer t)) (now (out .entry)) to (now (out .exit)) (r .next)) ⌝ }
 {
     let next = nothing(out, to);
     if out.len() < next {
@@ -56,7 +58,9 @@ pub fn resolve_term(
     requires areas { ⌜ Frames x (now frames) ⌝ }
     requires room { ⌜ Room (now out) to ⌝ }
     ensures clear { λ _. ⌜ Zero (now (frames .exit)) ⌝ }
-    ensures does { λ r. ⌜ ((z : Session) (t : Term) → Poses loose x (now (kinds .entry)) (now (vals .entry)) (now (tables .entry)) z t → Does x (r .solver) (take (x .top) (now (kinds .entry))) (take (x .top) (now (vals .entry))) (now (tables .entry)) (now (tables .entry)) z (solve (limitsOf x) z (orders.resolving t)) (now (out .entry)) to (now (out .exit)) (r .next)) ⌝ }
+    ensures does { λ r. ⌜ ((z : Session) (t : Term) → Poses loose x (now (kinds .entry)) (now (vals .entry)) (now (tables .entry)) z t
+        → Does x (r .solver) (take (x .top) (now (kinds .entry))) (take (x .top) (now (vals .entry))) (now (tables .entry)) (now (tables .entry)) z
+        (solve (limitsOf x) z (orders.resolving t)) (now (out .entry)) to (now (out .exit)) (r .next)) ⌝ }
 {
     let next = resolved(x, kinds, vals, tables, frames, Subject::Follows, out, to);
     Reached { solver: x, next }
@@ -90,7 +94,10 @@ pub fn pose_pair(
     requires areas { ⌜ Scratch x (now kinds) (now tables) (now work) × Zero (drop (pendingFrom x) (now tables)) ⌝ }
     requires room { ⌜ Room (now out) to ⌝ }
     ensures clear { λ _. ⌜ Zero (now (work .exit)) ⌝ }
-    ensures does { λ r. ⌜ ((z : Session) (t u : Term) → PosesPair loose x (now (kinds .entry)) (now (vals .entry)) (now (tables .entry)) z q t u → nodes ≡ z .kept + (size t + size u) → DoesPair x (r .solver) (now (kinds .entry)) (now (vals .entry)) (now (tables .entry)) (now (tables .exit)) z (solve (limitsOf x) z (orders.pair k t u)) (now (out .entry)) to (now (out .exit)) (r .next)) ⌝ }
+    ensures does { λ r. ⌜ ((z : Session) (t u : Term) → PosesPair loose x (now (kinds .entry)) (now (vals .entry)) (now (tables .entry)) z q t u
+        → nodes ≡ z .kept + (size t + size u)
+        → DoesPair x (r .solver) (now (kinds .entry)) (now (vals .entry)) (now (tables .entry)) (now (tables .exit)) z
+        (solve (limitsOf x) z (orders.pair k t u)) (now (out .entry)) to (now (out .exit)) (r .next)) ⌝ }
 {
     if out.len() - to < 3 {
         let next = out.len() + 1;

@@ -50,7 +50,10 @@ fn operate_order(
     requires kind { ⌜ true ≡ isOperation (rowIn table (o .kind)) ⌝ }
     requires words { ⌜ length (now rules) < 4294967296 ⌝ }
     requires room { ⌜ Room (now out) to ⌝ }
-    ensures { λ r. ⌜ ((a₀ b₀ : List ℕ) → Taken x half (now (s .entry)) (areas a₀ b₀ (now (c .entry)) (now (d .entry))) (area (now (a .entry)) (now (b .entry))) (now (rules .entry)) o → Answered x (r .solver) half (now (s .entry)) (areas a₀ b₀ (now (c .entry)) (now (d .entry))) (area (now (a .entry)) (now (b .entry))) o (now (c .exit)) (now (d .exit)) (outputAt (now (out .entry)) to) (outputAt (now (out .exit)) (r .next))) ⌝ }
+    ensures { λ r. ⌜ ((a₀ b₀ : List ℕ)
+        → Taken x half (now (s .entry)) (areas a₀ b₀ (now (c .entry)) (now (d .entry))) (area (now (a .entry)) (now (b .entry))) (now (rules .entry)) o
+        → Answered x (r .solver) half (now (s .entry)) (areas a₀ b₀ (now (c .entry)) (now (d .entry))) (area (now (a .entry)) (now (b .entry))) o
+        (now (c .exit)) (now (d .exit)) (outputAt (now (out .entry)) to) (outputAt (now (out .exit)) (r .next))) ⌝ }
 {
     let next = operate(s, a, b, &mut c[..half], d, rules, o, out, to);
     Reached { solver: x, next }
@@ -71,7 +74,9 @@ fn defer_order(
     requires within { ⌜ o .nodes ≤ x .nodes ⌝ }
     requires kind { ⌜ o .kind ≡ 3 ⌝ }
     requires room { ⌜ Room (now out) to ⌝ }
-    ensures { λ r. ⌜ ((s a₀ b₀ d ws : List ℕ) → Taken x half s (areas a₀ b₀ (now (c .entry)) d) (area (now (a .entry)) (now (b .entry))) ws o → Answered x (r .solver) half s (areas a₀ b₀ (now (c .entry)) d) (area (now (a .entry)) (now (b .entry))) o (now (c .exit)) d (outputAt (now (out .entry)) to) (outputAt (now (out .exit)) (r .next))) ⌝ }
+    ensures { λ r. ⌜ ((s a₀ b₀ d ws : List ℕ) → Taken x half s (areas a₀ b₀ (now (c .entry)) d) (area (now (a .entry)) (now (b .entry))) ws o
+        → Answered x (r .solver) half s (areas a₀ b₀ (now (c .entry)) d) (area (now (a .entry)) (now (b .entry))) o (now (c .exit)) d
+        (outputAt (now (out .entry)) to) (outputAt (now (out .exit)) (r .next))) ⌝ }
 {
     let top = o.top;
     defer_term(x, &a[..top], &b[..top], &mut c[half..], out, to)
@@ -93,7 +98,9 @@ fn resolve_order(
     requires within { ⌜ o .nodes ≤ x .nodes ⌝ }
     requires kind { ⌜ o .kind ≡ 5 ⌝ }
     requires room { ⌜ Room (now out) to ⌝ }
-    ensures { λ r. ⌜ ((s a₀ b₀ ws : List ℕ) → Taken x half s (areas a₀ b₀ (now (c .entry)) (now (d .entry))) (area (now (a .entry)) (now (b .entry))) ws o → Answered x (r .solver) half s (areas a₀ b₀ (now (c .entry)) (now (d .entry))) (area (now (a .entry)) (now (b .entry))) o (now (c .entry)) (now (d .exit)) (outputAt (now (out .entry)) to) (outputAt (now (out .exit)) (r .next))) ⌝ }
+    ensures { λ r. ⌜ ((s a₀ b₀ ws : List ℕ) → Taken x half s (areas a₀ b₀ (now (c .entry)) (now (d .entry))) (area (now (a .entry)) (now (b .entry))) ws o
+        → Answered x (r .solver) half s (areas a₀ b₀ (now (c .entry)) (now (d .entry))) (area (now (a .entry)) (now (b .entry))) o (now (c .entry))
+        (now (d .exit)) (outputAt (now (out .entry)) to) (outputAt (now (out .exit)) (r .next))) ⌝ }
 {
     let top = o.top;
     resolve_term(x, &a[..top], &b[..top], &c[half..], d, out, to)
@@ -115,7 +122,9 @@ fn pair_order(
     requires within { ⌜ o .nodes ≤ x .nodes ⌝ }
     requires kind { ⌜ o .kind ≡ 4 ⌝ }
     requires room { ⌜ Room (now out) to ⌝ }
-    ensures { λ r. ⌜ ((s a₀ b₀ ws : List ℕ) → Taken x half s (areas a₀ b₀ (now (c .entry)) (now (d .entry))) (area (now (a .entry)) (now (b .entry))) ws o → Answered x (r .solver) half s (areas a₀ b₀ (now (c .entry)) (now (d .entry))) (area (now (a .entry)) (now (b .entry))) o (now (c .exit)) (now (d .exit)) (outputAt (now (out .entry)) to) (outputAt (now (out .exit)) (r .next))) ⌝ }
+    ensures { λ r. ⌜ ((s a₀ b₀ ws : List ℕ) → Taken x half s (areas a₀ b₀ (now (c .entry)) (now (d .entry))) (area (now (a .entry)) (now (b .entry))) ws o
+        → Answered x (r .solver) half s (areas a₀ b₀ (now (c .entry)) (now (d .entry))) (area (now (a .entry)) (now (b .entry))) o (now (c .exit))
+        (now (d .exit)) (outputAt (now (out .entry)) to) (outputAt (now (out .exit)) (r .next))) ⌝ }
 {
     let k = o.first.value as u32;
     let q = o.third.place;
@@ -150,7 +159,9 @@ fn plain_order(
     requires within { ⌜ o .nodes ≤ x .nodes ⌝ }
     requires kind { ⌜ (false ≡ isOperation (rowIn table (o .kind))) × ((o .kind ≡ 3) → ⊥) × ((o .kind ≡ 4) → ⊥) × ((o .kind ≡ 5) → ⊥) ⌝ }
     requires room { ⌜ Room (now out) to ⌝ }
-    ensures { λ r. ⌜ ((s a₀ b₀ ws : List ℕ) → Taken x half s (areas a₀ b₀ (now (c .entry)) (now (d .entry))) (area (now (a .entry)) (now (b .entry))) ws o → Answered x (r .solver) half s (areas a₀ b₀ (now (c .entry)) (now (d .entry))) (area (now (a .entry)) (now (b .entry))) o (now (c .exit)) (now (d .exit)) (outputAt (now (out .entry)) to) (outputAt (now (out .exit)) (r .next))) ⌝ }
+    ensures { λ r. ⌜ ((s a₀ b₀ ws : List ℕ) → Taken x half s (areas a₀ b₀ (now (c .entry)) (now (d .entry))) (area (now (a .entry)) (now (b .entry))) ws o
+        → Answered x (r .solver) half s (areas a₀ b₀ (now (c .entry)) (now (d .entry))) (area (now (a .entry)) (now (b .entry))) o (now (c .exit))
+        (now (d .exit)) (outputAt (now (out .entry)) to) (outputAt (now (out .exit)) (r .next))) ⌝ }
 {
     let first = o.first.value as u32;
     let second = o.second.value as u32;
@@ -186,7 +197,10 @@ fn answer_order(
     requires taken { ⌜ ((a₀ b₀ : List ℕ) × Taken x half (now s) (areas a₀ b₀ (now c) (now d)) (area (now a) (now b)) (now rules) o) ⌝ }
     requires words { ⌜ length (now rules) < 4294967296 ⌝ }
     requires room { ⌜ Room (now out) to ⌝ }
-    ensures { λ r. ⌜ ((a₀ b₀ : List ℕ) → Taken x half (now (s .entry)) (areas a₀ b₀ (now (c .entry)) (now (d .entry))) (area (now (a .entry)) (now (b .entry))) (now (rules .entry)) o → Answered x (r .solver) half (now (s .entry)) (areas a₀ b₀ (now (c .entry)) (now (d .entry))) (area (now (a .entry)) (now (b .entry))) o (now (c .exit)) (now (d .exit)) (outputAt (now (out .entry)) to) (outputAt (now (out .exit)) (r .next))) ⌝ }
+    ensures { λ r. ⌜ ((a₀ b₀ : List ℕ)
+        → Taken x half (now (s .entry)) (areas a₀ b₀ (now (c .entry)) (now (d .entry))) (area (now (a .entry)) (now (b .entry))) (now (rules .entry)) o
+        → Answered x (r .solver) half (now (s .entry)) (areas a₀ b₀ (now (c .entry)) (now (d .entry))) (area (now (a .entry)) (now (b .entry))) o
+        (now (c .exit)) (now (d .exit)) (outputAt (now (out .entry)) to) (outputAt (now (out .exit)) (r .next))) ⌝ }
 {
     let n = x.standing();
     if n.nodes < o.nodes {
@@ -225,7 +239,8 @@ fn serve_with(
     requires held { ⌜ Ready x half (areas (now a) (now b) (now c) (now d)) ⌝ }
     requires words { ⌜ (getD (now s) 0 0 ≡ 20 → RulesRoom (now s) (now rules) 2048) × (length (now rules) < 4294967296) ⌝ }
     requires room { ⌜ (length (now s) ≤ 16777216) × (to ≤ length (now out)) × (length (now out) ≤ 16777216) ⌝ }
-    ensures { λ r. ⌜ Serves x (r .solver) half (now (s .entry)) (areas (now (a .entry)) (now (b .entry)) (now (c .entry)) (now (d .entry))) (areas (now (a .exit)) (now (b .exit)) (now (c .exit)) (now (d .exit))) (outputAt (now (out .entry)) to) (outputAt (now (out .exit)) (r .next)) ⌝ }
+    ensures { λ r. ⌜ Serves x (r .solver) half (now (s .entry)) (areas (now (a .entry)) (now (b .entry)) (now (c .entry)) (now (d .entry)))
+        (areas (now (a .exit)) (now (b .exit)) (now (c .exit)) (now (d .exit))) (outputAt (now (out .entry)) to) (outputAt (now (out .exit)) (r .next)) ⌝ }
 {
     let n = x.standing();
     let r = read_order(s, a, b, rules, n.issued as u64, n.top, n.kept, n.nodes);
@@ -278,7 +293,8 @@ fn serve_rules(
 ) -> Reached
     requires held { ⌜ Ready x half (areas (now a) (now b) (now c) (now d)) ⌝ }
     requires room { ⌜ (length (now s) ≤ 16777216) × (to ≤ length (now out)) × (length (now out) ≤ 16777216) ⌝ }
-    ensures { λ r. ⌜ Serves x (r .solver) half (now (s .entry)) (areas (now (a .entry)) (now (b .entry)) (now (c .entry)) (now (d .entry))) (areas (now (a .exit)) (now (b .exit)) (now (c .exit)) (now (d .exit))) (outputAt (now (out .entry)) to) (outputAt (now (out .exit)) (r .next)) ⌝ }
+    ensures { λ r. ⌜ Serves x (r .solver) half (now (s .entry)) (areas (now (a .entry)) (now (b .entry)) (now (c .entry)) (now (d .entry)))
+        (areas (now (a .exit)) (now (b .exit)) (now (c .exit)) (now (d .exit))) (outputAt (now (out .entry)) to) (outputAt (now (out .exit)) (r .next)) ⌝ }
 {
     if few_rules(s) {
         let mut few = [0u32; 384];
@@ -302,7 +318,9 @@ pub fn serve_order(
 ) -> Reached
     requires held { ⌜ Ready x half (areas (now a) (now b) (now c) (now d)) ⌝ }
     requires room { ⌜ (length (now s) ≤ 16777216) × (to ≤ length (now out)) × (length (now out) ≤ 16777216) ⌝ }
-    ensures { λ r. ⌜ ((z : Session) → Arises (limitsOf x) loose z → Lays x half (areas (now (a .entry)) (now (b .entry)) (now (c .entry)) (now (d .entry))) z → Served (r .solver) half (areas (now (a .exit)) (now (b .exit)) (now (c .exit)) (now (d .exit))) z (now (s .entry)) (outputAt (now (out .entry)) to) (outputAt (now (out .exit)) (r .next)) x) ⌝ }
+    ensures { λ r. ⌜ ((z : Session) → Arises (limitsOf x) loose z → Lays x half (areas (now (a .entry)) (now (b .entry)) (now (c .entry)) (now (d .entry))) z
+        → Served (r .solver) half (areas (now (a .exit)) (now (b .exit)) (now (c .exit)) (now (d .exit))) z (now (s .entry)) (outputAt (now (out .entry)) to)
+        (outputAt (now (out .exit)) (r .next)) x) ⌝ }
 {
     if has_rules(s) {
         return serve_rules(x, half, s, a, b, c, d, out, to);

@@ -43,7 +43,8 @@ fn changed(old: usize, new: usize) -> u8
 // Order 8.
 fn tell_revision(x: Solver, out: &mut [u8], to: usize) -> Reached
     requires { ⌜ Room (now out) to ⌝ }
-    ensures { λ r. ⌜ ((ks vs ts : List ℕ) (z : Session) → Lent x ks vs ts z → Does x (r .solver) ks vs ts ts z (solve (limitsOf x) z orders.revision) (now (out .entry)) to (now (out .exit)) (r .next)) ⌝ }
+    ensures { λ r. ⌜ ((ks vs ts : List ℕ) (z : Session) → Lent x ks vs ts z
+        → Does x (r .solver) ks vs ts ts z (solve (limitsOf x) z orders.revision) (now (out .entry)) to (now (out .exit)) (r .next)) ⌝ }
 {
     let n = x.revision();
     let next = count(out, to, n as u64);
@@ -61,7 +62,9 @@ fn default_numbers(
 ) -> Reached
     requires held { ⌜ ((z : Session) × Arises (limitsOf x) loose z × Lent x (now kinds) (now vals) (now tables) z) ⌝ }
     requires room { ⌜ Room (now out) to ⌝ }
-    ensures { λ r. ⌜ ((z : Session) → Arises (limitsOf x) loose z → Lent x (now (kinds .entry)) (now (vals .entry)) (now (tables .entry)) z → Does x (r .solver) (now (kinds .entry)) (now (vals .entry)) (now (tables .entry)) (now (tables .exit)) z (solve (limitsOf x) z orders.numbers) (now (out .entry)) to (now (out .exit)) (r .next)) ⌝ }
+    ensures { λ r. ⌜ ((z : Session) → Arises (limitsOf x) loose z → Lent x (now (kinds .entry)) (now (vals .entry)) (now (tables .entry)) z
+        → Does x (r .solver) (now (kinds .entry)) (now (vals .entry)) (now (tables .entry)) (now (tables .exit)) z (solve (limitsOf x) z orders.numbers)
+        (now (out .entry)) to (now (out .exit)) (r .next)) ⌝ }
 {
     if out.len() - to < 3 {
         let next = out.len() + 1;
@@ -85,7 +88,9 @@ fn default_nevers(
 ) -> Reached
     requires held { ⌜ ((z : Session) × Arises (limitsOf x) loose z × Lent x (now kinds) (now vals) (now tables) z) ⌝ }
     requires room { ⌜ Room (now out) to ⌝ }
-    ensures { λ r. ⌜ ((z : Session) → Arises (limitsOf x) loose z → Lent x (now (kinds .entry)) (now (vals .entry)) (now (tables .entry)) z → Does x (r .solver) (now (kinds .entry)) (now (vals .entry)) (now (tables .entry)) (now (tables .exit)) z (solve (limitsOf x) z orders.nevers) (now (out .entry)) to (now (out .exit)) (r .next)) ⌝ }
+    ensures { λ r. ⌜ ((z : Session) → Arises (limitsOf x) loose z → Lent x (now (kinds .entry)) (now (vals .entry)) (now (tables .entry)) z
+        → Does x (r .solver) (now (kinds .entry)) (now (vals .entry)) (now (tables .entry)) (now (tables .exit)) z (solve (limitsOf x) z orders.nevers)
+        (now (out .entry)) to (now (out .exit)) (r .next)) ⌝ }
 {
     if out.len() - to < 3 {
         let next = out.len() + 1;
@@ -126,7 +131,8 @@ pub fn resolved(
     requires areas { ⌜ Frames x (now frames) ⌝ }
     requires room { ⌜ Room (now out) to ⌝ }
     ensures clear { λ _. ⌜ Zero (now (frames .exit)) ⌝ }
-    ensures term { λ r. ⌜ ((n : Notion) (z : Session) (t : Term) → Asked n x (now (kinds .entry)) (now (vals .entry)) (now (tables .entry)) what z t → Framed (outcome (resolvedTo z t)) (now (out .entry)) to (now (out .exit)) r) ⌝ }
+    ensures term { λ r. ⌜ ((n : Notion) (z : Session) (t : Term) → Asked n x (now (kinds .entry)) (now (vals .entry)) (now (tables .entry)) what z t
+        → Framed (outcome (resolvedTo z t)) (now (out .entry)) to (now (out .exit)) r) ⌝ }
 {
     let limit = out.len();
     let size = x.resolved_len(kinds, vals, tables, frames, what, limit);
@@ -151,7 +157,9 @@ fn variable_of(
 ) -> Reached
     requires held { ⌜ ((ks vs : List ℕ) × (z : Session) × Lent x ks vs (now tables) z) ⌝ }
     requires room { ⌜ Room (now out) to ⌝ }
-    ensures { λ r. ⌜ ((ks vs : List ℕ) (z : Session) → Lent x ks vs (now (tables .entry)) z → Does x (r .solver) ks vs (now (tables .entry)) (now (tables .exit)) z (solve (limitsOf x) z (orders.variable site slot)) (now (out .entry)) to (now (out .exit)) (r .next)) ⌝ }
+    ensures { λ r. ⌜ ((ks vs : List ℕ) (z : Session) → Lent x ks vs (now (tables .entry)) z
+        → Does x (r .solver) ks vs (now (tables .entry)) (now (tables .exit)) z (solve (limitsOf x) z (orders.variable site slot)) (now (out .entry)) to
+        (now (out .exit)) (r .next)) ⌝ }
 {
     let Named::Variable(v) = x.id_of(tables, Site::Slot(site, slot)) else {
         let next = refused(out, to, 8);
@@ -182,7 +190,9 @@ fn number_of(
     requires areas { ⌜ (fallback < 32) × Frames x (now frames) ⌝ }
     requires room { ⌜ Room (now out) to ⌝ }
     ensures clear { λ _. ⌜ Zero (now (frames .exit)) ⌝ }
-    ensures does { λ r. ⌜ ((z : Session) → Lent x (now (kinds .entry)) (now (vals .entry)) (now (tables .entry)) z → Does x (r .solver) (now (kinds .entry)) (now (vals .entry)) (now (tables .entry)) (now (tables .exit)) z (solve (limitsOf x) z (orders.number site (requested fallback))) (now (out .entry)) to (now (out .exit)) (r .next)) ⌝ }
+    ensures does { λ r. ⌜ ((z : Session) → Lent x (now (kinds .entry)) (now (vals .entry)) (now (tables .entry)) z
+        → Does x (r .solver) (now (kinds .entry)) (now (vals .entry)) (now (tables .entry)) (now (tables .exit)) z
+        (solve (limitsOf x) z (orders.number site (requested fallback))) (now (out .entry)) to (now (out .exit)) (r .next)) ⌝ }
 {
     let Named::Variable(v) = x.id_of(tables, Site::Slot(site, 1)) else {
         let next = refused(out, to, 8);
@@ -212,7 +222,9 @@ fn hole_of(
     requires areas { ⌜ Frames x (now frames) ⌝ }
     requires room { ⌜ Room (now out) to ⌝ }
     ensures clear { λ _. ⌜ Zero (now (frames .exit)) ⌝ }
-    ensures does { λ r. ⌜ ((z : Session) → Lent x (now (kinds .entry)) (now (vals .entry)) (now (tables .entry)) z → Does x (r .solver) (now (kinds .entry)) (now (vals .entry)) (now (tables .entry)) (now (tables .exit)) z (solve (limitsOf x) z (orders.hole site)) (now (out .entry)) to (now (out .exit)) (r .next)) ⌝ }
+    ensures does { λ r. ⌜ ((z : Session) → Lent x (now (kinds .entry)) (now (vals .entry)) (now (tables .entry)) z
+        → Does x (r .solver) (now (kinds .entry)) (now (vals .entry)) (now (tables .entry)) (now (tables .exit)) z (solve (limitsOf x) z (orders.hole site))
+        (now (out .entry)) to (now (out .exit)) (r .next)) ⌝ }
 {
     let Named::Variable(v) = x.id_of(tables, Site::Hole(site)) else {
         let next = refused(out, to, 8);
@@ -244,7 +256,9 @@ pub fn solve_plain(
     requires areas { ⌜ ((kind ≡ 1) → (second < 32)) × Frames x (now frames) × Among (0 ∷ 1 ∷ 2 ∷ 6 ∷ 7 ∷ 8 ∷ []) kind ⌝ }
     requires room { ⌜ Room (now out) to ⌝ }
     ensures clear { λ _. ⌜ Zero (now (frames .exit)) ⌝ }
-    ensures does { λ r. ⌜ ((z : Session) → Arises (limitsOf x) loose z → Lent x (now (kinds .entry)) (now (vals .entry)) (now (tables .entry)) z → Does x (r .solver) (now (kinds .entry)) (now (vals .entry)) (now (tables .entry)) (now (tables .exit)) z (solve (limitsOf x) z (plainCommand kind first second)) (now (out .entry)) to (now (out .exit)) (r .next)) ⌝ }
+    ensures does { λ r. ⌜ ((z : Session) → Arises (limitsOf x) loose z → Lent x (now (kinds .entry)) (now (vals .entry)) (now (tables .entry)) z
+        → Does x (r .solver) (now (kinds .entry)) (now (vals .entry)) (now (tables .entry)) (now (tables .exit)) z
+        (solve (limitsOf x) z (plainCommand kind first second)) (now (out .entry)) to (now (out .exit)) (r .next)) ⌝ }
 {
     if kind == 0 {
         return variable_of(x, tables, first, second, out, to);

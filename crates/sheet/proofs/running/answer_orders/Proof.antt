@@ -7,6 +7,7 @@ use lib.ListN.{length, take, drop, length-take, length-drop}
 use Rattle.solver.specs.Terms.Result.{got}
 use Rattle.solver.specs.Lent.{limitsOf}
 use Rattle.sheet.specs.Sheet.{nextOrder}
+use Rattle.sheet.specs.Lays.{areas, outputAt}
 use Rattle.sheet.proofs.SplittingLaws.{Ahead, next-ahead}
 use Rattle.sheet.proofs.RunLaws.{Going, going-start, going-ready, going-on, ends-used, ends-faulty, ends-long}
 use borrow.Author.Needs.{needs}
@@ -15,7 +16,7 @@ use Rattle.sheet.proofs.running.answer_orders.Tie as tie
 
 abbrev Inv-loop : tie.InvT-loop
 Inv-loop half s out₀ a₀ b₀ c₀ d₀ x₀ at₀ to₀ orders₀ out a b c d x at to orders =
-    Going (limitsOf x₀) half s out₀ x out a b c d at to orders × (length a ≡ length a₀) × (length b ≡ length b₀) × (length c ≡ length c₀) × (length d ≡ length d₀)
+    Going (limitsOf x₀) half s out₀ x (areas a b c d) (outputAt out to) at orders × (length a ≡ length a₀) × (length b ≡ length b₀) × (length c ≡ length c₀) × (length d ≡ length d₀)
 
 abbrev μ-loop : tie.MeasureT-loop
 μ-loop half s out₀ a₀ b₀ c₀ d₀ x₀ at₀ to₀ orders₀ out a b c d x at to orders = length s - at
@@ -32,7 +33,7 @@ told : (c : tie.After-order-at Inv-loop μ-loop) → got (now (c .order-at .resu
 told c = rw (c .order-at .ensures) (found (c .before .before))
 
 loop-holds : tie.Need-loop-holds Inv-loop μ-loop
-loop-holds c = (going-start _ _ _ _ _ _ _ _ (c .before .before .before .before .before .before .pre .0 .0) (c .before .before .before .before .before .before .pre .0 .1), refl, refl, refl, refl)
+loop-holds c = (going-start (c .before .before .before .before .before .before .pre .0 .0) (c .before .before .before .before .before .before .pre .0 .1), refl, refl, refl, refl)
 
 next-order-requires : tie.Need-next-order-requires Inv-loop μ-loop
 next-order-requires c κs = search needs
@@ -64,7 +65,7 @@ same-length-5 c = c .before .before .before .before .before .loop .inv .4
 returns : tie.Need-returns Inv-loop μ-loop
 returns c =
     let e = c .closed .ensures in
-    rw (e .0, e .1, e .2, e .3) (ends-faulty _ _ _ _ _ _ _ _ _ _ _ _ _ (c .before .before .before .before .before .loop .inv .0) (c .before .before .before .before .loop-test .taken) (rw (c .before .enum-told .given .1) at (c .before .before .before .next-order .ensures)))
+    rw (e .0, e .1, e .2, e .3) (ends-faulty (c .before .before .before .before .before .loop .inv .0) (c .before .before .before .before .loop-test .taken) (rw (c .before .enum-told .given .1) at (c .before .before .before .next-order .ensures)))
 
 order-at-requires : tie.Need-order-at-requires Inv-loop μ-loop
 order-at-requires c κs = ahead (c .before) .inside
@@ -73,7 +74,7 @@ serve-order-requires : tie.Need-serve-order-requires Inv-loop μ-loop
 serve-order-requires c κs =
     let i = c .before .before .before .before .before .before .before .before .before .before .before .loop .inv .0 in
     let p = c .before .before .before .before .before .before .before .before .before .before .before .before .before .before .before .before .before .before .pre .1 in
-    (going-ready _ _ _ _ _ _ _ _ _ _ _ _ _ i, (rw (c .before .before .before .before .before .order-at .ensures) (simp (length-take, length-drop) (omega (arith, p .0))), omega (arith, i .room, i .long), omega (arith, i .long, p .1)))
+    (going-ready i, (rw (c .before .before .before .before .before .order-at .ensures) (simp (length-take, length-drop) (omega (arith, p .0))), omega (arith, i .room, i .long), omega (arith, i .long, p .1)))
 
 closed-requires-2 : tie.Need-closed-requires-2 Inv-loop μ-loop
 closed-requires-2 c κs = search needs
@@ -97,7 +98,7 @@ returns-2 : tie.Need-returns-2 Inv-loop μ-loop
 returns-2 c =
     let e = c .closed2 .ensures in
     rw (e .0, e .1, e .2, e .3)
-    (ends-long _ _ _ _ _ _ _ _ _ _ _ _ _ (c .before .before .before .before .before .before .before .before .before .before .before .before .before .before .before .before .before .before .before .before .before .before .before .before .before .loop .inv .0) _ _ _ _ _ _ _ _ _ (c .before .before .before .before .before .before .before .before .before .before .before .before .before .serve-order .ensures) (c .before .before .before .before .before .before .before .before .before .before .before .before .before .before .before .before .before .before .before .before .before .before .before .before .loop-test .taken) (told (c .before .before .before .before .before .before .before .before .before .before .before .before .before .before .before .before .before .before .before))
+    (ends-long (c .before .before .before .before .before .before .before .before .before .before .before .before .before .before .before .before .before .before .before .before .before .before .before .before .before .loop .inv .0) _ _ _ _ _ (c .before .before .before .before .before .before .before .before .before .before .before .before .before .serve-order .ensures) (c .before .before .before .before .before .before .before .before .before .before .before .before .before .before .before .before .before .before .before .before .before .before .before .before .loop-test .taken) (told (c .before .before .before .before .before .before .before .before .before .before .before .before .before .before .before .before .before .before .before))
     (omega (arith, c .before .if1 .taken, c .before .before .before .before .before .before .before .before .before .before .before .before .before .serve-order .kept .1 .1 .1 .1 .1 .1 .1 .0)))
 
 add-orders : tie.Need-add-orders Inv-loop μ-loop
@@ -114,7 +115,7 @@ loop-again c =
     let i = c .before .before .before .before .before .before .before .before .before .before .before .before .before .before .before .before .before .before .before .before .before .before .before .before .before .loop .inv in
     let k = c .before .before .before .before .before .before .before .before .before .before .before .before .before .serve-order .kept .1 .1 .1 in
     let n = k .1 .1 .1 .1 .0 in
-    (going-on _ _ _ _ _ _ _ _ _ _ _ _ _ (i .0) _ _ _ _ _ _ _ _ _ (c .before .before .before .before .before .before .before .before .before .before .before .before .before .serve-order .ensures) (c .before .before .before .before .before .before .before .before .before .before .before .before .before .before .before .before .before .before .before .before .before .before .before .before .loop-test .taken) (told (c .before .before .before .before .before .before .before .before .before .before .before .before .before .before .before .before .before .before .before)) (omega (arith, c .before .if1 .left, n)) (k .0) (k .1 .0) (k .1 .1 .0) (k .1 .1 .1 .0), k .0 ∙ i .1, k .1 .0 ∙ i .2, k .1 .1 .0 ∙ i .3, k .1 .1 .1 .0 ∙ i .4)
+    (going-on (i .0) _ _ _ _ _ (c .before .before .before .before .before .before .before .before .before .before .before .before .before .serve-order .ensures) (c .before .before .before .before .before .before .before .before .before .before .before .before .before .before .before .before .before .before .before .before .before .before .before .before .loop-test .taken) (told (c .before .before .before .before .before .before .before .before .before .before .before .before .before .before .before .before .before .before .before)) (omega (arith, c .before .if1 .left, n)) (k .0) (k .1 .0) (k .1 .1 .0) (k .1 .1 .1 .0), k .0 ∙ i .1, k .1 .0 ∙ i .2, k .1 .1 .0 ∙ i .3, k .1 .1 .1 .0 ∙ i .4)
 
 closed-requires-3 : tie.Need-closed-requires-3 Inv-loop μ-loop
 closed-requires-3 c κs = search needs
@@ -137,7 +138,7 @@ same-length-15 c = c .before .before .loop .inv .4
 returns-3 : tie.Need-returns-3 Inv-loop μ-loop
 returns-3 c =
     let e = c .closed3 .ensures in
-    rw (e .0, e .1, e .2, e .3) (ends-used _ _ _ _ _ _ _ _ _ _ _ _ _ (c .before .before .loop .inv .0) (c .before .loop-test .left))
+    rw (e .0, e .1, e .2, e .3) (ends-used (c .before .before .loop .inv .0) (c .before .loop-test .left))
 
 pub answer-orders-spec : {M : Type 1} → statement M
 answer-orders-spec =

@@ -30,7 +30,7 @@ answer-orders-requires : tie.Need-answer-orders-requires
 answer-orders-requires c κs =
     let b = c .before .before .before .before .before .before .before .before .before .before .before .before .before .lay-fresh in
     let k = b .kept .1 .1 .1 in
-    ((b .ensures .1, roomy-same _ _ _ _ _ _ _ _ _ _ _ (ap (λ (x : Solver). x .variables) (b .ensures .0)) (ap (λ (x : Solver). x .nodes) (b .ensures .0)) (k .0) (k .1 .0) (k .1 .1 .0) (k .1 .1 .1 .0) (c .before .before .before .before .before .before .before .before .before .before .before .before .before .before .before .before .before .before .before .before .before .before .before .before .pre .0)), c .before .before .before .before .before .before .before .before .before .before .before .before .before .before .before .before .before .before .before .before .before .before .before .before .pre .1)
+    ((b .ensures .1, roomy-same (ap (λ (x : Solver). x .variables) (b .ensures .0)) (ap (λ (x : Solver). x .nodes) (b .ensures .0)) (k .0) (k .1 .0) (k .1 .1 .0) (k .1 .1 .1 .0) (c .before .before .before .before .before .before .before .before .before .before .before .before .before .before .before .before .before .before .before .before .before .before .before .before .pre .0)), c .before .before .before .before .before .before .before .before .before .before .before .before .before .before .before .before .before .before .before .before .before .before .before .before .pre .1)
 
 mul-clear-session : tie.Need-mul-clear-session
 mul-clear-session c =
