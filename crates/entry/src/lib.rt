@@ -4,7 +4,7 @@ use sheet::run_sheet;
 ghost use mathlib.Core.Path.{_≡_};
 ghost use Prim.Native.Nat.{ℕ, _<_};
 ghost use lib.ListN.{getD};
-ghost use Rattle.sheet.specs.Ending.{box, finished, finishOf};
+ghost use Rattle.sheet.specs.Entry.{documentLimits, finished, entryResult};
 
 // The run of a sheet: returns the reason, and in `orders` and `bytes` how many orders were answered and how many bytes written. The last line says
 // that a sheet is a list of bytes, as the theorems about a call want it (crates/sheet/proofs/Main.antt).
@@ -20,7 +20,7 @@ pub extern "C" fn sheet_run(
     bytes: &mut u64,
 ) -> u32
     ensures run { λ r. ⌜ finished r (now (orders .exit)) (now (bytes .exit)) (now (out .exit)) (now (a .exit)) (now (b .exit)) (now (c .exit)) (now (d .exit))
-        ≡ finishOf box 16384 (now (sheet .entry)) (now (out .entry)) (now (a .entry)) (now (b .entry)) (now (c .entry)) (now (d .entry)) ⌝ }
+        ≡ entryResult documentLimits 16384 (now (sheet .entry)) (now (out .entry)) (now (a .entry)) (now (b .entry)) (now (c .entry)) (now (d .entry)) ⌝ }
     ensures octets { λ _. ⌜ ((i : ℕ) → getD (now (sheet .entry)) i 0 < 256) ⌝ }
 {
     let r = run_sheet(sheet, out, a, b, c, d);

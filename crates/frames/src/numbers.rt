@@ -1,4 +1,4 @@
-// The numbers of a frame, four bytes each with the low byte first, and the bytes behind them.
+// The numbers of a frame, four bytes each with the low byte first, and the bytes after them.
 ghost use Prim.Native.Nat.{_+_, _≤_, _<_};
 ghost use lib.ListN.{length};
 

@@ -16,7 +16,7 @@ const ROOM: usize = 32768;
 
 const WORDS: usize = 20000;
 
-// What a run returns, and whether it has left the output behind its answers and the areas as it must.
+// What a run returns, and whether it has left the output after its answers and the areas as it must.
 pub struct Outcome {
     pub reason: u32,
     pub orders: u64,
@@ -55,7 +55,7 @@ fn left_in(reason: u32, fill: u32) -> u32 {
     0
 }
 
-// Whether a run that wrote so many bytes has left the output behind them as it was filled, and the areas all 0, or as they were filled under reason 12.
+// Whether a run that wrote so many bytes has left the output after them as it was filled, and the areas all 0, or as they were filled under reason 12.
 fn untouched(
     out: &[u8],
     bytes: usize,

@@ -1,7 +1,7 @@
 // Replays runs whose answers the oracle gave, for the executed cases. Standard input is a run of vectors. A vector is seven numbers of four bytes,
 // low byte first: the room of the output, the length of the sheet, the words of each area, what output and areas are filled with before the
 // run, and the wanted reason, orders and bytes of answers; then the sheet and the wanted answers. Each sheet is run, and everything is compared: what is
-// told, the answers, the output behind them, which is as it was, and the areas, which are all 0, or as they were under reason 12. The program
+// told, the answers, the output after them, which is as it was, and the areas, which are all 0, or as they were under reason 12. The program
 // writes how many vectors there were, how many of them differ, and the index of the first that does, which is the number of vectors where none does.
 use frames::number_at;
 use frames::number_within;

@@ -1,4 +1,4 @@
--- A number of 64 bits has at most ten bytes. Assumes nothing.
+-- A number of 64 bits has at most ten bytes.
 use mathlib.Core.Path.{ap}
 use Prim.Native.Nat.{ℕ, zero, suc, _/_, _^_, _≤_, _<_}
 use native.Mathlib.Decide.{decLt}
@@ -6,7 +6,7 @@ use native.Mathlib.Nat.{pow-suc}
 use native.Mathlib.Omega.{arith}
 use lib.ListN.{length}
 use Rattle.terms.specs.Number.{shortest}
-use Rattle.terms.proofs.Shortest.{shortest-last, shortest-more}
+use Rattle.terms.proofs.Laws.Numbers.Shortest.{shortest-last, shortest-more}
 
 groups-enough : (k v : ℕ) → v < 128 ^ suc k → length (shortest v) ≤ suc k
 groups-enough zero v h = omega (arith, pow-suc 128 0, ap length (shortest-last v (omega (arith, pow-suc 128 0))))

@@ -1,4 +1,4 @@
--- What the functions of the program hand on. Assumes nothing.
+-- What the functions of the program hand on.
 use Prim.Native.Nat.{ℕ, _≤_, _<_}
 use Rattle.reread.specs.declared.Frame.{Frame}
 use Rattle.reread.specs.declared.Frame.the-variants.{Refused, Number, Kept}
@@ -11,7 +11,7 @@ Sound m n (Refused c) = Unit {0}
 Sound m n (Number v) = Unit {0}
 Sound m n (Kept nodes tokens first) = (first ≤ tokens) × (tokens ≤ m) × (tokens ≤ n)
 
--- a frame lies behind its length and within n bytes
+-- a frame lies after its length and within n bytes
 abbrev pub Inside : ℕ → ℕ → Part → Type 0
 Inside at n (Lies from end) = (at < from) × (from ≤ end) × (end ≤ n)
 Inside at n Nowhere = Unit {0}

@@ -1,5 +1,5 @@
 -- THE PROMISES, on one page. Each statement is proved by a citation. Quoted are the request, with its demands 1, 2 and 3, and document 01. Lists of ℕ are
--- bytes or words; `box` are the limits of 512 variables and 2,048 nodes. Assumes nothing.
+-- bytes or words; `documentLimits` are the limits of 512 variables and 2,048 nodes.
 use mathlib.Core.Path.{_≡_, sym, ap, _∙_}
 use mathlib.Core.Bool.{true, false}
 use mathlib.Core.List.{List, [], _∷_, _++_}
@@ -15,7 +15,7 @@ use Rattle.solver.specs.Terms.Formed.{Formed}
 use Rattle.solver.specs.Terms.Reading as reading
 use Rattle.solver.specs.Terms.Tree.{Nominal}
 use Rattle.solver.specs.Terms.Questions.{Parameter, is-concrete, is-resolved-in, contains-projection}
-use Rattle.solver.specs.Terms.Views.{conflicts-with, satisfies, satisfies-for}
+use Rattle.solver.specs.Terms.Comparison.{conflicts-with, satisfies, satisfies-for}
 use Rattle.solver.specs.Terms.Recovery.{recover-from}
 use Rattle.solver.specs.Terms.Substitution.{Entry, orElse, get, instantiate}
 use Rattle.solver.specs.Terms.Normal.{Out, Rule, levels, visits, byRules, normalize}
@@ -30,142 +30,142 @@ use Rattle.solver.proofs.Terms.Shortest.{octets}
 use Rattle.solver.proofs.Terms.RoundTrip as terms
 use Rattle.solver.proofs.Terms.Sound.{FoundTerm, found}
 use Rattle.solver.specs.Shapes.{loose}
-use Rattle.solver.specs.Solving.{resolved}
-use Rattle.solver.specs.Session.{Session, box, issued, fresh}
+use Rattle.solver.specs.Constrain.{resolved}
+use Rattle.solver.specs.Session.{Session, documentLimits, issued, fresh}
 use Rattle.solver.specs.Orders as orders
 use Rattle.solver.specs.Demand3.{beginning, Demand3}
-use Rattle.solver.specs.InOrder.{InOrder, Fits, SettledBy}
+use Rattle.solver.specs.Invariant.{Invariant, WithinLimits, SettledBy}
 use Rattle.solver.specs.Robinson.{Unmarked, UnmarkedPairs, Decides}
 use Rattle.solver.specs.RobinsonPair.{FirstOrderIn}
-use Rattle.sheet.specs.Orders.{refusal, outcome}
+use Rattle.sheet.specs.OrderTable.{refusal, outcome}
 use Rattle.sheet.specs.Sheet.{orderOf, framed}
-use Rattle.sheet.specs.InTurn.{sessionAfter, ordersFrom, answersTo}
+use Rattle.sheet.specs.OrdersInTurn.{sessionAfter, ordersFrom, answersTo}
 use Rattle.sheet.specs.Commands.{command}
-use Rattle.sheet.specs.Demand3.{Pure, PurePairs, Premises, historyOf}
+use Rattle.sheet.specs.Demand3.{InFragment, PairsInFragment, Premises, historyOf}
 use Rattle.sheet.specs.PairsAnswered.{SomePairAnswered}
 use Rattle.sheet.specs.RustBytes.{frames, AsTheRust, AllSolved}
 use Rattle.sheet.specs.RobinsonBytes.{FirstOrder, PlainOrder, AnsweredSo, DecidesOrders}
 use Rattle.sheet.specs.Stopping.{behind, Stopped}
-use Rattle.sheet.specs.Ending.{finished, suits, finishOf}
-use Rattle.sheet.proofs.MarkedTable.{MarkedLines, marked}
-use Rattle.sheet.proofs.Demand3Bytes.{demand-3-bytes}
-use Rattle.sheet.proofs.AnsweredLaws.{incompatible-answered, cancelled-answered}
-use Rattle.sheet.proofs.Demand3Run.{orders-bytes}
-use Rattle.sheet.proofs.SessionBytes as session
-use Rattle.sheet.proofs.RustBytesLaws.{rust-bytes}
-use Rattle.sheet.proofs.RobinsonBytesLaws.{robinson-bytes, robinson-orders, settled-bytes, posed-plain-bytes}
-use Rattle.sheet.proofs.CallLaws as call
+use Rattle.sheet.specs.Entry.{finished, sizesAccepted, entryResult}
+use Rattle.sheet.proofs.Examples.MarkedTable.{MarkedLines, marked}
+use Rattle.sheet.proofs.Laws.Bytes.Demand3Bytes.{demand-3-bytes}
+use Rattle.sheet.proofs.Laws.Bytes.PairsAnsweredLaws.{incompatible-answered, cancelled-answered}
+use Rattle.sheet.proofs.Laws.Bytes.Demand3Run.{orders-bytes}
+use Rattle.sheet.proofs.Laws.Bytes.InvariantBytes as session
+use Rattle.sheet.proofs.Laws.Bytes.RustBytesLaws.{rust-bytes}
+use Rattle.sheet.proofs.Laws.Bytes.RobinsonBytesLaws.{robinson-bytes, robinson-orders, settled-bytes, posed-plain-bytes}
+use Rattle.sheet.proofs.Laws.Run.CallLaws as call
 
 -- ---- A CALL OF `sheet_run`. It was lent a sheet, an output and four areas, and handed back a reason and two counts; out′ to d′ is how the output and the areas
 -- were left. `contract` is what its contract says (crates/entry/src/lib.rt), with no condition: so what follows holds for every call.
 
 module _ (sheet out a b c d : List ℕ) (reason orders bytes : ℕ) (out′ a′ b′ c′ d′ : List ℕ)
-    (contract : finished reason orders bytes out′ a′ b′ c′ d′ ≡ finishOf box 16384 sheet out a b c d) where
+    (contract : finished reason orders bytes out′ a′ b′ c′ d′ ≡ entryResult documentLimits 16384 sheet out a b c d) where
   -- the orders that it answered: the first of the sheet, as many as it reports
   abbrev pub served : List (List ℕ)
   served = ordersFrom sheet orders 0
 
   -- DEMAND 1. "The port as a whole accepts every byte sheet and every lent area, finishes, and gives each order that no run reason stops either its result or
   -- the one refusal that document 01 fixes.": the first bytes of the output are the answers to these orders, given in turn to a fresh session.
-  pub demand-1-answers : (length served ≡ orders) × (take bytes out′ ≡ answersTo box fresh served)
-  demand-1-answers = let e = call.in-turn box 16384 sheet out a b c d reason orders bytes out′ a′ b′ c′ d′ contract in (e .0, e .1)
+  pub demand-1-answers : (length served ≡ orders) × (take bytes out′ ≡ answersTo documentLimits fresh served)
+  demand-1-answers = let e = call.in-turn documentLimits 16384 sheet out a b c d reason orders bytes out′ a′ b′ c′ d′ contract in (e .0, e .1)
 
   -- "Bytes past the reported answers stay untouched."
   pub demand-1-output : drop bytes out′ ≡ drop bytes out
-  demand-1-output = call.in-turn box 16384 sheet out a b c d reason orders bytes out′ a′ b′ c′ d′ contract .2
+  demand-1-output = call.in-turn documentLimits 16384 sheet out a b c d reason orders bytes out′ a′ b′ c′ d′ contract .2
 
   -- "Work areas end all zero, except under 12."
-  pub demand-1-areas : suits 16384 (length sheet) (length out) (length a) (length b) (length c) (length d) ≡ true
+  pub demand-1-areas : sizesAccepted 16384 (length sheet) (length out) (length a) (length b) (length c) (length d) ≡ true
       → (a′ ≡ replicate (length a) 0) × (b′ ≡ replicate (length b) 0) × (c′ ≡ replicate (length c) 0) × (d′ ≡ replicate (length d) 0)
-  demand-1-areas = call.zeroed box 16384 sheet out a b c d reason orders bytes out′ a′ b′ c′ d′ contract
+  demand-1-areas = call.zeroed documentLimits 16384 sheet out a b c d reason orders bytes out′ a′ b′ c′ d′ contract
 
   -- "12 is tested first", "nothing written, orders 0, bytes 0"; the areas are as they were.
-  pub demand-1-run-12 : suits 16384 (length sheet) (length out) (length a) (length b) (length c) (length d) ≡ false
+  pub demand-1-run-12 : sizesAccepted 16384 (length sheet) (length out) (length a) (length b) (length c) (length d) ≡ false
       → finished reason orders bytes out′ a′ b′ c′ d′ ≡ finished 12 0 0 out a b c d
-  demand-1-run-12 = call.unfit box 16384 sheet out a b c d reason orders bytes out′ a′ b′ c′ d′ contract
+  demand-1-run-12 = call.unfit documentLimits 16384 sheet out a b c d reason orders bytes out′ a′ b′ c′ d′ contract
 
   -- Else "run 0", "10" or "11": the sheet is used up, or the next length is faulty or beyond it, or the next answer does not fit whole.
-  pub demand-1-reasons : suits 16384 (length sheet) (length out) (length a) (length b) (length c) (length d) ≡ true
-      → Stopped box sheet (behind sheet orders 0) (sessionAfter box fresh served) (length out - bytes) reason
-  demand-1-reasons = call.stopped box 16384 sheet out a b c d reason orders bytes out′ a′ b′ c′ d′ contract
+  pub demand-1-reasons : sizesAccepted 16384 (length sheet) (length out) (length a) (length b) (length c) (length d) ≡ true
+      → Stopped documentLimits sheet (behind sheet orders 0) (sessionAfter documentLimits fresh served) (length out - bytes) reason
+  demand-1-reasons = call.stopped documentLimits 16384 sheet out a b c d reason orders bytes out′ a′ b′ c′ d′ contract
 
-  -- where the answer to each of these orders stands: behind the answers to those before it
+  -- where the answer to each of these orders stands: after the answers to those before it
   pub answer-at : (bs cs : List (List ℕ)) (o : List ℕ) → served ≡ bs ++ (o ∷ cs)
-      → (let x = orderOf box (sessionAfter box fresh bs) o in take bytes out′ ≡ answersTo box fresh bs ++ (framed (x .answer) ++ answersTo box (x .session) cs))
+      → (let x = orderOf documentLimits (sessionAfter documentLimits fresh bs) o in take bytes out′ ≡ answersTo documentLimits fresh bs ++ (framed (x .answer) ++ answersTo documentLimits (x .session) cs))
   unfolding answersTo
-  answer-at bs cs o e = demand-1-answers .1 ∙ ap (answersTo box fresh) e ∙ call.answers-append box fresh bs (o ∷ cs)
+  answer-at bs cs o e = demand-1-answers .1 ∙ ap (answersTo documentLimits fresh) e ∙ call.answers-append documentLimits fresh bs (o ∷ cs)
 
   -- DEMAND 2, PAIR BY PAIR. "on plain pairs they are proved against the 1965 definition"; "For plain first-order pairs (no recovery terms, projections, number
   -- variables or access marks) Robinson 1965 decides.": each order 4 that the call answered, whatever came before it, whose terms are plain as they
   -- resolve there, is answered as his algorithm decides, or cancelled (not with checks enough: `robinson-each`).
-  pub demand-2-robinson-each : (bs cs : List (List ℕ)) (o : List ℕ) (k : ℕ) (t u : Term) → served ≡ bs ++ (o ∷ cs) → PlainOrder box (sessionAfter box fresh bs) o k t u
-      → (orderOf box (sessionAfter box fresh bs) o .answer ≡ outcome (2 ∷ [])) ⊎ AnsweredSo box (sessionAfter box fresh bs) o t u
-  demand-2-robinson-each bs cs o k t u e p = robinson-orders box bs t u .fewer k o p
+  pub demand-2-robinson-each : (bs cs : List (List ℕ)) (o : List ℕ) (k : ℕ) (t u : Term) → served ≡ bs ++ (o ∷ cs) → PlainOrder documentLimits (sessionAfter documentLimits fresh bs) o k t u
+      → (orderOf documentLimits (sessionAfter documentLimits fresh bs) o .answer ≡ outcome (2 ∷ [])) ⊎ AnsweredSo documentLimits (sessionAfter documentLimits fresh bs) o t u
+  demand-2-robinson-each bs cs o k t u e p = robinson-orders documentLimits bs t u .fewer k o p
 
   -- `octet` is the other line of the contract (`octets`): the elements of a slice of bytes are below 256. So this too holds for every call.
   module _ (octet : (i : ℕ) → getD sheet i 0 < 256) where
     -- DEMAND 2, THE RUST. "Everywhere in 01's domain answers equal the Rust's, byte by byte in 01's format": `Solver` of solver.rs answers those orders that are of
     -- kinds 0 to 8 and not refused with the same bytes. Where all are such, its answers are all that the call wrote.
-    pub demand-2-rust : (r : AsTheRust box served) × (AllSolved box fresh served → take bytes out′ ≡ frames (r .replies))
+    pub demand-2-rust : (r : AsTheRust documentLimits served) × (AllSolved documentLimits fresh served → take bytes out′ ≡ frames (r .replies))
     demand-2-rust =
-        let r = rust-bytes box served (orders-bytes sheet (call.slice-bytes sheet octet) orders 0) in
-        (r, λ s. demand-1-answers .1 ∙ sym (call.all-solved box fresh served s) ∙ r .same-bytes)
+        let r = rust-bytes documentLimits served (orders-bytes sheet (call.slice-bytes sheet octet) orders 0) in
+        (r, λ s. demand-1-answers .1 ∙ sym (call.all-solved documentLimits fresh served s) ∙ r .same-bytes)
 
     -- DEMAND 2, ALL PAIRS TOGETHER: where all posed pairs are plain first-order ones, some pair was answered incompatible exactly where Robinson's algorithm ends
     -- without a common unifier of them; if none was, what the variables resolve to is one as general as his.
-    pub demand-2-robinson : FirstOrder box served → Decides (historyOf box beginning served)
-    demand-2-robinson = robinson-bytes box served (orders-bytes sheet (call.slice-bytes sheet octet) orders 0)
+    pub demand-2-robinson : FirstOrder documentLimits served → Decides (historyOf documentLimits beginning served)
+    demand-2-robinson = robinson-bytes documentLimits served (orders-bytes sheet (call.slice-bytes sheet octet) orders 0)
 
     -- DEMAND 3. "Some pair was answered incompatible exactly if no assignment of variable-free terms of any size, true to the number families requested, makes every
     -- posed pair equal up to Set and Map access. If none was, the assignments that do so are exactly those true to the families that agree, up to that access,
     -- with what each variable resolves to, and every variable left in those terms resolves to itself.": the fields `first`, `second` and `left`.
     -- That some pair "was answered incompatible" is said of the solver's replies; `incompatible` says that these are the answers in bytes.
-    pub demand-3 : Premises box served → Demand3 loose (historyOf box beginning served)
-    demand-3 = demand-3-bytes box served (orders-bytes sheet (call.slice-bytes sheet octet) orders 0)
+    pub demand-3 : Premises documentLimits served → Demand3 loose (historyOf documentLimits beginning served)
+    demand-3 = demand-3-bytes documentLimits served (orders-bytes sheet (call.slice-bytes sheet octet) orders 0)
 
 -- ---- AN ORDER, AND A LIST OF ORDERS, each given as its bytes to a session, whatever was answered
 
 -- "A refused order leaves the session unchanged."
-pub demand-1-refused : (s : Session) (b : List ℕ) (c : ℕ) → orderOf box s b .answer ≡ refusal c → orderOf box s b .session ≡ s
-demand-1-refused = call.refused-unchanged box
+pub demand-1-refused : (s : Session) (b : List ℕ) (c : ℕ) → orderOf documentLimits s b .answer ≡ refusal c → orderOf documentLimits s b .session ≡ s
+demand-1-refused = call.refused-unchanged documentLimits
 
 -- "Orders 9 to 20 leave the session as it was": each order that tells it nothing
-pub orders-9-to-20 : (s : Session) (b : List ℕ) → command s b ≡ none → orderOf box s b .session ≡ s
-orders-9-to-20 = call.others-leave box
+pub orders-9-to-20 : (s : Session) (b : List ℕ) → command s b ≡ none → orderOf documentLimits s b .session ≡ s
+orders-9-to-20 = call.others-leave documentLimits
 
 -- "Some pair was answered incompatible", "no cancelled pair": exactly where some order 4 of the list was answered with the byte 0, or 2
-pub incompatible : (bs : List (List ℕ)) → (historyOf box beginning bs .incompatible ≡ true) ↔ SomePairAnswered box 0 fresh bs
-incompatible = incompatible-answered box
+pub incompatible : (bs : List (List ℕ)) → (historyOf documentLimits beginning bs .incompatible ≡ true) ↔ SomePairAnswered documentLimits 0 fresh bs
+incompatible = incompatible-answered documentLimits
 
-pub cancelled : (bs : List (List ℕ)) → (historyOf box beginning bs .cancelled ≡ true) ↔ SomePairAnswered box 2 fresh bs
-cancelled = cancelled-answered box
+pub cancelled : (bs : List (List ℕ)) → (historyOf documentLimits beginning bs .cancelled ≡ true) ↔ SomePairAnswered documentLimits 2 fresh bs
+cancelled = cancelled-answered documentLimits
 
 -- "What a variable resolves to is the term order 5 would answer for it after the list, given space for order and answer."
 pub order-5 : (bs : List (List ℕ)) (v : ℕ)
-    → (let s = sessionAfter box fresh bs in v < issued s → s .kept < 2048 → orderOf box s (5 ∷ bytes (var v)) .answer ≡ outcome (bytes (resolved (s .solver) (var v))))
-order-5 bs v l k = let f = session.fits-bytes box bs .variables in session.order-5 box (sessionAfter box fresh bs) v l (omega arith) k
+    → (let s = sessionAfter documentLimits fresh bs in v < issued s → s .kept < 2048 → orderOf documentLimits s (5 ∷ bytes (var v)) .answer ≡ outcome (bytes (resolved (s .solver) (var v))))
+order-5 bs v l k = let f = session.fits-bytes documentLimits bs .variables in session.order-5 documentLimits (sessionAfter documentLimits fresh bs) v l (omega arith) k
 
 -- Robinson decides each plain pair: some number of checks is enough, and every order 4 that poses the pair with as many is answered as his algorithm ends.
-pub robinson-each : (bs : List (List ℕ)) (t u : Term) → DecidesOrders box (sessionAfter box fresh bs) t u
-robinson-each = robinson-orders box
+pub robinson-each : (bs : List (List ℕ)) (t u : Term) → DecidesOrders documentLimits (sessionAfter documentLimits fresh bs) t u
+robinson-each = robinson-orders documentLimits
 
 -- A pair is plain as it resolves, if neither it nor a pair posed before it has a recovery term, a projection or an access mark, and no number was requested.
-pub plain-by-terms : (bs : List (List ℕ)) → PurePairs (historyOf box beginning bs .posed) → UnmarkedPairs loose (historyOf box beginning bs .posed)
-    → ((v : ℕ) → historyOf box beginning bs .requests v ≡ none) → (t : Term) → Pure t → Unmarked loose t → FirstOrderIn loose (sessionAfter box fresh bs) t
-plain-by-terms = posed-plain-bytes box
+pub plain-by-terms : (bs : List (List ℕ)) → PairsInFragment (historyOf documentLimits beginning bs .posed) → UnmarkedPairs loose (historyOf documentLimits beginning bs .posed)
+    → ((v : ℕ) → historyOf documentLimits beginning bs .requests v ≡ none) → (t : Term) → InFragment t → Unmarked loose t → FirstOrderIn loose (sessionAfter documentLimits fresh bs) t
+plain-by-terms = posed-plain-bytes documentLimits
 
 -- "k checks pass, the next cancels": every pair is settled by some number of checks
 pub settles : (bs : List (List ℕ)) (t u : Term)
-    → (let s = sessionAfter box fresh bs in orders.known s t ≡ true → orders.known s u ≡ true → (K : ℕ) × SettledBy loose K (s .solver) t u)
-settles = settled-bytes box
+    → (let s = sessionAfter documentLimits fresh bs in orders.known s t ≡ true → orders.known s u ≡ true → (K : ℕ) × SettledBy loose K (s .solver) t u)
+settles = settled-bytes documentLimits
 
 -- the revision "is the number of bound variables", no variable leads to itself, and resolving comes to an end
-pub in-order : (bs : List (List ℕ)) → InOrder (sessionAfter box fresh bs)
-in-order = session.in-order-bytes box
+pub in-order : (bs : List (List ℕ)) → Invariant (sessionAfter documentLimits fresh bs)
+in-order = session.in-order-bytes documentLimits
 
 -- "at most 512 type variables and 2,048 kept term nodes"
-pub within-limits : (bs : List (List ℕ)) → Fits box (sessionAfter box fresh bs)
-within-limits = session.fits-bytes box
+pub within-limits : (bs : List (List ℕ)) → WithinLimits documentLimits (sessionAfter documentLimits fresh bs)
+within-limits = session.fits-bytes documentLimits
 
 -- "The marked lines are proved together against the definitions"
 pub marked-lines : MarkedLines

@@ -1,4 +1,4 @@
--- What a list of orders, each given as its bytes, tells the session: those that are read as orders of the session. Assumes nothing.
+-- What a list of orders, each given as its bytes, tells the session: those that are read as orders of the session.
 use mathlib.Core.List.{List, [], _∷_}
 use mathlib.Core.Option.{Option, none, some}
 use Prim.Native.Nat.{ℕ}
@@ -6,7 +6,7 @@ use Rattle.solver.specs.Terms.Result.{Result, got, refused}
 use Rattle.solver.specs.Shapes.{loose}
 use Rattle.solver.specs.Session.{Limits, Session, issued}
 use Rattle.solver.specs.Orders.{Command, order}
-use Rattle.sheet.specs.Orders.{sessionOrders, commandOf, Read, readBy}
+use Rattle.sheet.specs.OrderTable.{sessionOrders, commandOf, Read, readBy}
 
 abbrev pub commandRead : Result Read → Option Command
 commandRead (got r n) = commandOf (r .kind) (r .fields)

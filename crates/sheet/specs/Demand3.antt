@@ -1,5 +1,5 @@
 -- Demand 3 over lists of orders, each given as its bytes: the premises, and the two sentences (record Demand3 of crate solver), of what the list tells
--- the session. Quoted is document 01, "What demand 3 means", and the demand itself. Assumes nothing.
+-- the session. Quoted is document 01, "What demand 3 means", and the demand itself.
 use mathlib.Core.Path.{_≡_}
 use mathlib.Core.Bool.{false}
 use mathlib.Core.List.{List, [], _∷_}
@@ -7,7 +7,7 @@ use Prim.Native.Nat.{ℕ, _<_}
 use Rattle.solver.specs.Terms.Term.{Term}
 use Rattle.solver.specs.Terms.Questions.{meets}
 use Rattle.solver.specs.Shapes.{loose}
-use Rattle.solver.specs.Solving.{Pair, always}
+use Rattle.solver.specs.Constrain.{Pair, always}
 use Rattle.solver.specs.Session.{Limits, fresh}
 use Rattle.solver.specs.Demand3.{History, beginning, history, outside, AllAllowed, Demand3}
 use Rattle.sheet.specs.Commands.{commands}
@@ -32,20 +32,20 @@ historyOf lim h bs = history lim loose h (commands lim (h .session) bs)
 -- ---- the premises
 
 -- "pairs free of Unknown, Error and projections"
-abbrev pub Pure : Term → Type 0
-Pure t = meets outside always t ≡ false
+abbrev pub InFragment : Term → Type 0
+InFragment t = meets outside always t ≡ false
 
-abbrev pub PurePairs : List Pair → Type 0
-PurePairs [] = Unit {0}
-PurePairs (p ∷ ps) = Pure (p .0) × Pure (p .1) × PurePairs ps
+abbrev pub PairsInFragment : List Pair → Type 0
+PairsInFragment [] = Unit {0}
+PairsInFragment (p ∷ ps) = InFragment (p .0) × InFragment (p .1) × PairsInFragment ps
 
 -- of a list given to a fresh session (that fallbacks are integers or F64 is not needed: any other has the integers as its family)
 pub record Premises (lim : Limits) (bs : List (List ℕ)) : Type 0 where
   -- "each number place requested once and not issued earlier", "no default that bound a variable"
   pub allowed : AllAllowed lim loose fresh (commands lim fresh bs)
-  pub pairs : PurePairs (historyOf lim beginning bs .posed)
+  pub pairs : PairsInFragment (historyOf lim beginning bs .posed)
   -- "no cancelled pair"
-  pub uncut : historyOf lim beginning bs .cancelled ≡ false
+  pub noneCancelled : historyOf lim beginning bs .cancelled ≡ false
 
 -- ---- the two sentences
 
@@ -54,5 +54,5 @@ pub record Premises (lim : Limits) (bs : List (List ℕ)) : Type 0 where
 --           every posed pair equal up to Set and Map access."
 --   second  "If none was, the assignments that do so are exactly those true to the families that agree, up to that access, with what each variable resolves to,"
 --   left    "and every variable left in those terms resolves to itself."
-abbrev pub Demanded : Limits → List (List ℕ) → Type 0
-Demanded lim bs = Demand3 loose (historyOf lim beginning bs)
+abbrev pub Demand3OfBytes : Limits → List (List ℕ) → Type 0
+Demand3OfBytes lim bs = Demand3 loose (historyOf lim beginning bs)

@@ -1,4 +1,4 @@
--- The fields of an order, and what its bytes say of them: document 01, "Sheet". Assumes nothing.
+-- The fields of an order, and what its bytes say of them: document 01, "Sheet".
 use mathlib.Core.List.{List, [], _∷_}
 use Prim.Native.Nat.{ℕ, zero, suc, _+_}
 use lib.Dec.{ltb}
@@ -17,14 +17,14 @@ use Rattle.solver.specs.Terms.Parameters as order
 use Rattle.solver.specs.Terms.Lookup.{Pattern}
 
 -- what a field is
-pub data Sort : Type 0 where
+pub data FieldSort : Type 0 where
   -- a site, a slot, k; a builtin's code
-  ordinary code : Sort
-  term nominal : Sort
+  ordinary code : FieldSort
+  term nominal : FieldSort
   -- an owner and a term: the receiver of order 14
-  receiver : Sort
+  receiver : FieldSort
   -- a count, and so many: entries and receivers of a substitution, parameters, arguments, rules
-  entries receivers parameters arguments rules : Sort
+  entries receivers parameters arguments rules : FieldSort
 
 -- a field, read
 pub data Field : Type 0 where
@@ -186,7 +186,7 @@ module _ (s : List ℕ) (issued : ℕ) where
     rs ← ruleList n
     return (r ∷ rs)
 
-  unfoldable pub field : Sort → Parser Field
+  unfoldable pub field : FieldSort → Parser Field
   field ordinary = do
     n ← number s (ceiling shape.ordinary)
     return (value n)
@@ -223,7 +223,7 @@ module _ (s : List ℕ) (issued : ℕ) where
     rs ← ruleList n
     return (ruled rs)
 
-  unfoldable pub fields : List Sort → Parser (List Field)
+  unfoldable pub fields : List FieldSort → Parser (List Field)
   fields [] = return []
   fields (a ∷ l) = do
     f ← field a

@@ -1,4 +1,4 @@
--- The rows of orders 9 to 20, which answer and leave the session as it was. Assumes nothing.
+-- The rows of orders 9 to 20, which answer and leave the session as it was.
 use mathlib.Core.Bool.{Bool, true, false}
 use mathlib.Core.List.{List, [], _∷_, map}
 use mathlib.Core.Option.{Option, none, some}
@@ -7,7 +7,7 @@ use Rattle.solver.specs.Terms.Result.{pick}
 use Rattle.solver.specs.Terms.Term.{Term, bytes}
 use Rattle.solver.specs.Terms.Tree.{Nominal, nominalOf}
 use Rattle.solver.specs.Terms.Questions.{answered, is-resolved-in}
-use Rattle.solver.specs.Terms.Views.{conflicts-with, can-weaken-to, satisfies, satisfies-for}
+use Rattle.solver.specs.Terms.Comparison.{conflicts-with, can-weaken-to, satisfies, satisfies-for}
 use Rattle.solver.specs.Terms.Recovery.{recover-from}
 use Rattle.solver.specs.Terms.Substitution as substitution
 use Rattle.solver.specs.Terms.Substitution.{Receiver, TypeSubstitution, apply}
@@ -16,12 +16,12 @@ use Rattle.solver.specs.Terms.Normal as normal
 use Rattle.solver.specs.Terms.Normal.{Rule, Out, normalize}
 use Rattle.sheet.specs.Fields.{Field, nth, rowOf, entriesOf, receiversOf, parametersOf, argumentsOf, rulesOf, termAt}
 use Rattle.sheet.specs.Fields.{term, nominal, receiver, entries, receivers, parameters, arguments, rules}
-use Rattle.sheet.specs.Orders.{Answer, refusal, outcome, Act, tells, answers, Row}
+use Rattle.sheet.specs.OrderTable.{Answer, refusal, outcome, Act, tells, answers, Row}
 
 abbrev pub nominalAt : ℕ → List Field → Nominal
 nominalAt i fs = nominalOf (rowOf (nth i fs))
 
--- the entries and the receivers that stand at i and behind it
+-- the entries and the receivers that stand at i and after it
 abbrev pub substitutionAt : ℕ → List Field → TypeSubstitution
 substitutionAt i fs = record { parameters = entriesOf (nth i fs); receivers = receiversOf (nth (suc i) fs) }
 

@@ -1,4 +1,4 @@
--- The orders 4 of a list that were answered with a verdict, as bytes: what "Some pair was answered" says of the answers. Assumes nothing.
+-- The orders 4 of a list that were answered with a verdict, as bytes: what "Some pair was answered" says of the answers.
 use mathlib.Core.Path.{_≡_}
 use mathlib.Core.List.{List, [], _∷_}
 use mathlib.Core.Logic.{_⊎_}
@@ -7,7 +7,7 @@ use Prim.Native.Nat.{ℕ}
 use Rattle.solver.specs.Terms.Term.{Term}
 use Rattle.solver.specs.Session.{Limits, Session}
 use Rattle.solver.specs.Orders as solver
-use Rattle.sheet.specs.Orders.{outcome}
+use Rattle.sheet.specs.OrderTable.{outcome}
 use Rattle.sheet.specs.Sheet.{orderOf}
 use Rattle.sheet.specs.Commands.{command}
 

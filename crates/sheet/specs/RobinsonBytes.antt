@@ -1,5 +1,5 @@
 -- "on plain pairs they are proved against the 1965 definition": what this says of lists of orders, each given as its bytes; of all pairs of a list
--- together, and of each pair by itself. Assumes nothing.
+-- together, and of each pair by itself.
 use mathlib.Core.Path.{_≡_}
 use mathlib.Core.Bool.{true}
 use mathlib.Core.List.{List, [], _∷_}
@@ -10,15 +10,15 @@ use Rattle.solver.specs.Terms.Term.{Term, var, bytes}
 use Rattle.solver.specs.Terms.Shape as shape
 use Rattle.solver.specs.Terms.Shape.{ceiling}
 use Rattle.solver.specs.Shapes.{loose}
-use Rattle.solver.specs.Solving.{resolved}
+use Rattle.solver.specs.Constrain.{resolved}
 use Rattle.solver.specs.Session.{Limits, Session, issued}
 use Rattle.solver.specs.Orders as solver
 use Rattle.solver.specs.Demand3.{beginning}
 use Rattle.solver.specs.Robinson.{UnmarkedPairs}
 use Rattle.solver.specs.RobinsonPair.{FirstOrderIn, Decided}
-use Rattle.sheet.specs.Orders.{outcome}
+use Rattle.sheet.specs.OrderTable.{outcome}
 use Rattle.sheet.specs.Sheet.{orderOf}
-use Rattle.sheet.specs.InTurn.{accepted}
+use Rattle.sheet.specs.OrdersInTurn.{accepted}
 use Rattle.sheet.specs.Commands.{command}
 use Rattle.sheet.specs.Demand3.{historyOf, Premises}
 

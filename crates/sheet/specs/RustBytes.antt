@@ -1,4 +1,4 @@
--- The answers to orders 0 to 8 of a list, to be compared with the Rust's `Solver` byte by byte. Assumes nothing.
+-- The answers to orders 0 to 8 of a list, to be compared with the Rust's `Solver` byte by byte.
 use mathlib.Core.Path.{_≡_}
 use mathlib.Core.Bool.{true}
 use mathlib.Core.List.{List, [], _∷_, _++_}
@@ -9,9 +9,9 @@ use Rattle.solver.specs.Shapes.{loose}
 use Rattle.solver.specs.Session.{Limits, Session, fresh}
 use Rattle.solver.specs.Orders.{Command, Reply}
 use Rattle.solver.specs.Rust.{answers, default, given}
-use Rattle.sheet.specs.Orders.{Answer}
+use Rattle.sheet.specs.OrderTable.{Answer}
 use Rattle.sheet.specs.Sheet.{answerOf, orderOf, framed}
-use Rattle.sheet.specs.InTurn.{accepted}
+use Rattle.sheet.specs.OrdersInTurn.{accepted}
 use Rattle.sheet.specs.Commands.{command, commands}
 
 -- what the Rust answers, in the sheet's format
@@ -24,7 +24,7 @@ abbrev pub solvedOne : Option Command → Answer → List ℕ
 solvedOne none a = []
 solvedOne (some c) a = pick (accepted a) (framed a) []
 
--- those of a list, one behind the other
+-- those of a list, one after the other
 unfoldable pub solvedTo : Limits → Session → List (List ℕ) → List ℕ
 solvedTo lim s [] = []
 solvedTo lim s (b ∷ bs) = solvedOne (command s b) (orderOf lim s b .answer) ++ solvedTo lim (orderOf lim s b .session) bs

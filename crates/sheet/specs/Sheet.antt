@@ -1,4 +1,4 @@
--- An order on a session, and the run of a sheet: what the exported entry is to equal. Assumes nothing.
+-- An order on a session, and the run of a sheet: what the exported entry is to equal.
 use mathlib.Core.Bool.{Bool, true, false}
 use mathlib.Core.List.{List, [], _∷_, _++_}
 use Prim.Native.Nat.{ℕ, zero, suc, _+_, _-_}
@@ -14,7 +14,7 @@ use Rattle.solver.specs.Session.{Limits, Session, issued, fresh}
 use Rattle.solver.specs.Orders as solver
 use Rattle.solver.specs.Orders.{Command, Reply, order}
 use Rattle.sheet.specs.Fields.{Field, allNodes}
-use Rattle.sheet.specs.Orders.{Answer, refusal, outcome, Act, tells, answers, Row, sessionOrders, Read, readBy}
+use Rattle.sheet.specs.OrderTable.{Answer, refusal, outcome, Act, tells, answers, Row, sessionOrders, Read, readBy}
 use Rattle.sheet.specs.Operations.{bit, operations}
 
 -- THE TABLE OF ORDERS, whole

@@ -1,4 +1,4 @@
--- Where a run stops, and why: document 01's reasons 0, 10 and 11. Assumes nothing.
+-- Where a run stops, and why: document 01's reasons 0, 10 and 11.
 use mathlib.Core.Path.{_≡_}
 use mathlib.Core.List.{List}
 use mathlib.Core.Logic.{_⊎_}
@@ -8,7 +8,7 @@ use Rattle.solver.specs.Terms.Result.{Result, got, refused}
 use Rattle.solver.specs.Session.{Limits, Session}
 use Rattle.sheet.specs.Sheet.{orderOf, framed, nextOrder}
 
--- the position behind the next n orders of a sheet
+-- the position after the next n orders of a sheet
 abbrev pub behindPart : (ℕ → ℕ) → ℕ → Result (List ℕ) → ℕ
 behindPart go at (got b next) = go next
 behindPart go at (refused c) = at

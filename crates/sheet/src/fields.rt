@@ -9,10 +9,10 @@ ghost use mathlib.Core.List.{List};
 ghost use Prim.Native.Nat.{ℕ, _≤_};
 ghost use lib.ListN.{length};
 ghost use Rattle.solver.specs.Terms.Tokens.{area};
-ghost use Rattle.solver.specs.Terms.Lent.{place, stepOf};
+ghost use Rattle.solver.specs.Terms.StepCodes.{place, stepOf};
 ghost use Rattle.sheet.specs.Fields.{field, code, parameters};
-ghost use Rattle.sheet.specs.Laid.{plainOf, partOf, keysOf, Free, Ample, PartDone, PlainDone, listField};
-ghost use Rattle.sheet.specs.Lent.{fieldOf, ReadAt};
+ghost use Rattle.sheet.specs.Words.FieldLayout.{plainOf, partOf, keysOf, Free, Ample, PartDone, PlainDone, listField};
+ghost use Rattle.sheet.specs.Words.FieldsContract.{fieldOf, ReadAt};
 
 pub const ORDINARY: u64 = 4294967295;
 
@@ -21,7 +21,8 @@ const LEVELS: u32 = 200;
 // A builtin's code.
 fn code_field(s: &[u8], at: &mut usize, value: &mut u64) -> u8
     requires { ⌜ now at ≤ length (now s) ⌝ }
-    ensures { λ r. ⌜ ((start : ℕ) → ReadAt (now (s .entry)) (field (now (s .entry)) 0 code (now (at .entry))) (now (at .entry)) r (now (value .exit)) start (now (at .exit))) ⌝ }
+    ensures { λ r. ⌜ ((start : ℕ)
+        → ReadAt (now (s .entry)) (field (now (s .entry)) 0 code (now (at .entry))) (now (at .entry)) r (now (value .exit)) start (now (at .exit))) ⌝ }
 {
     let i = *at;
     if s.len() <= i {
@@ -39,7 +40,8 @@ fn code_field(s: &[u8], at: &mut usize, value: &mut u64) -> u8
 // A count and so many parameters: they stay in the bytes.
 fn parameters_field(s: &[u8], at: &mut usize, value: &mut u64, start: &mut usize) -> u8
     requires { ⌜ now at ≤ length (now s) ⌝ }
-    ensures { λ r. ⌜ ReadAt (now (s .entry)) (field (now (s .entry)) 0 parameters (now (at .entry))) (now (at .entry)) r (now (value .exit)) (now (start .exit)) (now (at .exit)) ⌝ }
+    ensures { λ r. ⌜ ReadAt (now (s .entry)) (field (now (s .entry)) 0 parameters (now (at .entry))) (now (at .entry)) r (now (value .exit))
+        (now (start .exit)) (now (at .exit)) ⌝ }
 {
     let a = number_at(s, at, value, ORDINARY);
     if a != 0 {
@@ -60,7 +62,7 @@ fn keys_of(sort: u8) -> u8
     }
 }
 
-// The tokens of a term, of a nominal, or of `count` entries, receivers or arguments.
+// The tokens of a term, of a nominal, or of `write_number_answer` entries, receivers or arguments.
 fn keep_part(
     s: &[u8],
     kinds: &mut [u32],
@@ -75,7 +77,10 @@ fn keep_part(
 ) -> u8
     requires { ⌜ Ample (now s) (place (now at) (now top) (now nodes) limit) ⌝ }
     requires { ⌜ Free (now top) (area (now kinds) (now vals)) ⌝ }
-    ensures { λ r. ⌜ ((ws : List ℕ) → PartDone (now (s .entry)) ws count (partOf (now (s .entry)) issued sort count (now (at .entry))) (place (now (at .entry)) (now (top .entry)) (now (nodes .entry)) limit) (area (now (kinds .entry)) (now (vals .entry))) (area (now (kinds .exit)) (now (vals .exit))) (stepOf r (now (at .exit)) (now (top .exit)) (now (nodes .exit)) limit)) ⌝ }
+    ensures { λ r. ⌜ ((ws : List ℕ)
+        → PartDone (now (s .entry)) ws count (partOf (now (s .entry)) issued sort count (now (at .entry)))
+        (place (now (at .entry)) (now (top .entry)) (now (nodes .entry)) limit) (area (now (kinds .entry)) (now (vals .entry)))
+        (area (now (kinds .exit)) (now (vals .exit))) (stepOf r (now (at .exit)) (now (top .exit)) (now (nodes .exit)) limit)) ⌝ }
 {
     match sort {
         4 | 5 => {
@@ -116,7 +121,10 @@ fn tree_field(
 ) -> u8
     requires { ⌜ Ample (now s) (place (now at) (now top) (now nodes) limit) ⌝ }
     requires { ⌜ Free (now top) (area (now kinds) (now vals)) ⌝ }
-    ensures { λ r. ⌜ PlainDone (now (s .entry)) (partOf (now (s .entry)) issued sort count (now (at .entry))) (place (now (at .entry)) (now (top .entry)) (now (nodes .entry)) limit) (area (now (kinds .entry)) (now (vals .entry))) (area (now (kinds .exit)) (now (vals .exit))) (fieldOf r (now (value .exit)) (now (start .exit)) (now (end .exit)) (now (at .exit)) (now (top .exit)) (now (nodes .exit)) limit) ⌝ }
+    ensures { λ r. ⌜ PlainDone (now (s .entry)) (partOf (now (s .entry)) issued sort count (now (at .entry)))
+        (place (now (at .entry)) (now (top .entry)) (now (nodes .entry)) limit) (area (now (kinds .entry)) (now (vals .entry)))
+        (area (now (kinds .exit)) (now (vals .exit)))
+        (fieldOf r (now (value .exit)) (now (start .exit)) (now (end .exit)) (now (at .exit)) (now (top .exit)) (now (nodes .exit)) limit) ⌝ }
 {
     let first = *top;
     let r = keep_part(s, kinds, vals, at, top, nodes, limit, sort, issued, count);
@@ -146,7 +154,10 @@ fn list_field(
 ) -> u8
     requires { ⌜ Ample (now s) (place (now at) (now top) (now nodes) limit) ⌝ }
     requires { ⌜ Free (now top) (area (now kinds) (now vals)) ⌝ }
-    ensures { λ r. ⌜ PlainDone (now (s .entry)) (listField (now (s .entry)) issued sort (now (at .entry))) (place (now (at .entry)) (now (top .entry)) (now (nodes .entry)) limit) (area (now (kinds .entry)) (now (vals .entry))) (area (now (kinds .exit)) (now (vals .exit))) (fieldOf r (now (value .exit)) (now (start .exit)) (now (end .exit)) (now (at .exit)) (now (top .exit)) (now (nodes .exit)) limit) ⌝ }
+    ensures { λ r. ⌜ PlainDone (now (s .entry)) (listField (now (s .entry)) issued sort (now (at .entry)))
+        (place (now (at .entry)) (now (top .entry)) (now (nodes .entry)) limit) (area (now (kinds .entry)) (now (vals .entry)))
+        (area (now (kinds .exit)) (now (vals .exit)))
+        (fieldOf r (now (value .exit)) (now (start .exit)) (now (end .exit)) (now (at .exit)) (now (top .exit)) (now (nodes .exit)) limit) ⌝ }
 {
     let a = number_at(s, at, value, ORDINARY);
     if a != 0 {
@@ -187,7 +198,10 @@ pub fn read_plain(
 ) -> u8
     requires { ⌜ Ample (now s) (place (now at) (now top) (now nodes) limit) ⌝ }
     requires { ⌜ Free (now top) (area (now kinds) (now vals)) ⌝ }
-    ensures { λ r. ⌜ PlainDone (now (s .entry)) (field (now (s .entry)) issued (plainOf sort) (now (at .entry))) (place (now (at .entry)) (now (top .entry)) (now (nodes .entry)) limit) (area (now (kinds .entry)) (now (vals .entry))) (area (now (kinds .exit)) (now (vals .exit))) (fieldOf r (now (value .exit)) (now (start .exit)) (now (end .exit)) (now (at .exit)) (now (top .exit)) (now (nodes .exit)) limit) ⌝ }
+    ensures { λ r. ⌜ PlainDone (now (s .entry)) (field (now (s .entry)) issued (plainOf sort) (now (at .entry)))
+        (place (now (at .entry)) (now (top .entry)) (now (nodes .entry)) limit) (area (now (kinds .entry)) (now (vals .entry)))
+        (area (now (kinds .exit)) (now (vals .exit)))
+        (fieldOf r (now (value .exit)) (now (start .exit)) (now (end .exit)) (now (at .exit)) (now (top .exit)) (now (nodes .exit)) limit) ⌝ }
 {
     match sort {
         1 => number_at(s, at, value, ORDINARY),

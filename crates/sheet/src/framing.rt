@@ -5,12 +5,12 @@ use solver::write_number;
 ghost use lib.ListN.{length};
 ghost use mathlib.Core.List.{[], _∷_};
 ghost use Rattle.solver.specs.Terms.Number.{shortest};
-ghost use Rattle.sheet.specs.Orders.{refusal, outcome};
-ghost use Rattle.sheet.specs.Written.{Room, Framed, Begun};
+ghost use Rattle.sheet.specs.OrderTable.{refusal, outcome};
+ghost use Rattle.sheet.specs.Words.FramingContract.{OutputRoom, Framed, Begun};
 
 // A refusal.
-pub fn refused(out: &mut [u8], to: usize, c: u8) -> usize
-    requires { ⌜ Room (now out) to ⌝ }
+pub fn write_refusal(out: &mut [u8], to: usize, c: u8) -> usize
+    requires { ⌜ OutputRoom (now out) to ⌝ }
     ensures { λ r. ⌜ Framed (refusal c) (now (out .entry)) to (now (out .exit)) r ⌝ }
 {
     if out.len() - to < 2 {
@@ -22,8 +22,8 @@ pub fn refused(out: &mut [u8], to: usize, c: u8) -> usize
 }
 
 // Outcome 0 and a value of one byte.
-pub fn told(out: &mut [u8], to: usize, a: u8) -> usize
-    requires { ⌜ Room (now out) to ⌝ }
+pub fn write_byte_answer(out: &mut [u8], to: usize, a: u8) -> usize
+    requires { ⌜ OutputRoom (now out) to ⌝ }
     ensures { λ r. ⌜ Framed (outcome (a ∷ [])) (now (out .entry)) to (now (out .exit)) r ⌝ }
 {
     if out.len() - to < 3 {
@@ -36,8 +36,8 @@ pub fn told(out: &mut [u8], to: usize, a: u8) -> usize
 }
 
 // A value of two bytes.
-pub fn told_twice(out: &mut [u8], to: usize, a: u8, b: u8) -> usize
-    requires { ⌜ Room (now out) to ⌝ }
+pub fn write_two_bytes_answer(out: &mut [u8], to: usize, a: u8, b: u8) -> usize
+    requires { ⌜ OutputRoom (now out) to ⌝ }
     ensures { λ r. ⌜ Framed (outcome (a ∷ b ∷ [])) (now (out .entry)) to (now (out .exit)) r ⌝ }
 {
     if out.len() - to < 4 {
@@ -51,7 +51,7 @@ pub fn told_twice(out: &mut [u8], to: usize, a: u8, b: u8) -> usize
 }
 
 // The seven bytes of order 15.
-pub fn told_seven(
+pub fn write_seven_bytes_answer(
     out: &mut [u8],
     to: usize,
     a: u8,
@@ -62,7 +62,7 @@ pub fn told_seven(
     f: u8,
     g: u8,
 ) -> usize
-    requires { ⌜ Room (now out) to ⌝ }
+    requires { ⌜ OutputRoom (now out) to ⌝ }
     ensures { λ r. ⌜ Framed (outcome (a ∷ b ∷ c ∷ d ∷ e ∷ f ∷ g ∷ [])) (now (out .entry)) to (now (out .exit)) r ⌝ }
 {
     if out.len() - to < 9 {
@@ -80,9 +80,9 @@ pub fn told_seven(
     to + 9
 }
 
-// The length and outcome 0, where a value of so many bytes fits behind them: the position of the value.
-pub fn begin(out: &mut [u8], to: usize, size: usize) -> usize
-    requires { ⌜ Room (now out) to ⌝ }
+// The length and outcome 0, where a value of so many bytes fits after them: the position of the value.
+pub fn begin_answer(out: &mut [u8], to: usize, size: usize) -> usize
+    requires { ⌜ OutputRoom (now out) to ⌝ }
     ensures { λ r. ⌜ Begun size (now (out .entry)) to (now (out .exit)) r ⌝ }
 {
     if out.len() - to < size {
@@ -98,20 +98,20 @@ pub fn begin(out: &mut [u8], to: usize, size: usize) -> usize
 }
 
 // Outcome 0 and no value.
-pub fn nothing(out: &mut [u8], to: usize) -> usize
-    requires { ⌜ Room (now out) to ⌝ }
+pub fn write_empty_answer(out: &mut [u8], to: usize) -> usize
+    requires { ⌜ OutputRoom (now out) to ⌝ }
     ensures { λ r. ⌜ Framed (outcome []) (now (out .entry)) to (now (out .exit)) r ⌝ }
 {
-    begin(out, to, 0)
+    begin_answer(out, to, 0)
 }
 
 // A number as the value.
-pub fn count(out: &mut [u8], to: usize, n: u64) -> usize
-    requires { ⌜ Room (now out) to ⌝ }
+pub fn write_number_answer(out: &mut [u8], to: usize, n: u64) -> usize
+    requires { ⌜ OutputRoom (now out) to ⌝ }
     ensures { λ r. ⌜ Framed (outcome (shortest n)) (now (out .entry)) to (now (out .exit)) r ⌝ }
 {
     let size = number_len(n);
-    let at = begin(out, to, size);
+    let at = begin_answer(out, to, size);
     if out.len() < at {
         return at;
     }

@@ -1,16 +1,16 @@
 // The sheet: orders read, answered and framed; the run.
+mod dispatch;
 mod fields;
 mod framing;
 mod operations;
-mod posing;
+mod order_reader;
+mod order_table;
+mod plain_orders;
 mod rules;
 mod running;
-mod scan;
-mod serving;
-mod solving;
 mod splitting;
 mod starting;
-mod tables;
+mod term_orders;
 
 pub use running::run_sheet;
 use solver::Solver;
@@ -29,7 +29,7 @@ pub enum OrderRow {
 
 // A field of an order: a number or count, the place of its first token (of parameters: their position in the bytes), and the token after
 // its last.
-pub struct Spot {
+pub struct FieldSpot {
     pub value: u64,
     pub place: usize,
     pub end: usize,
@@ -38,11 +38,11 @@ pub struct Spot {
 // An order that was read: its kind, at most five fields, the token after the last one, and the nodes kept with those of the order.
 pub struct Order {
     pub kind: u8,
-    pub first: Spot,
-    pub second: Spot,
-    pub third: Spot,
-    pub fourth: Spot,
-    pub fifth: Spot,
+    pub first: FieldSpot,
+    pub second: FieldSpot,
+    pub third: FieldSpot,
+    pub fourth: FieldSpot,
+    pub fifth: FieldSpot,
     pub top: usize,
     pub nodes: usize,
 }
@@ -54,7 +54,7 @@ pub enum Reading {
 }
 
 // The counters after an order, and the position after its answer: past the end of the output where it does not fit.
-pub struct Reached {
+pub struct AfterOrder {
     pub solver: Solver,
     pub next: usize,
 }

@@ -1,10 +1,10 @@
 // The answers of orders 9 to 20, from an order whose fields are held.
 use super::Order;
-use super::framing::begin;
-use super::framing::refused;
-use super::framing::told;
-use super::framing::told_seven;
-use super::framing::told_twice;
+use super::framing::begin_answer;
+use super::framing::write_byte_answer;
+use super::framing::write_refusal;
+use super::framing::write_seven_bytes_answer;
+use super::framing::write_two_bytes_answer;
 use solver::Binders;
 use solver::Normalised;
 use solver::ask;
@@ -30,20 +30,20 @@ ghost use lib.ListN.{length};
 ghost use Rattle.solver.specs.Terms.Term.{Term, Parts, bytes, Held};
 ghost use Rattle.solver.specs.Terms.Tokens.{area};
 ghost use Rattle.solver.specs.Terms.Formed.{Formed};
-ghost use Rattle.solver.specs.Terms.Placed.{FormedAt};
+ghost use Rattle.solver.specs.Terms.TermsAtPlaces.{FormedAt};
 ghost use Rattle.solver.specs.Terms.Tree.{nominalOf};
 ghost use Rattle.solver.specs.Terms.Questions.{Parameter, answered};
 ghost use Rattle.solver.specs.Terms.Recovery.{recover-from};
 ghost use Rattle.solver.specs.Terms.Substitution.{Entry, Receiver, apply};
-ghost use Rattle.solver.specs.Terms.Rewriting.{Ready, Rewrites};
+ghost use Rattle.solver.specs.Terms.RewriteContract.{Ready, Rewrites};
 ghost use Rattle.solver.specs.Terms.Lookup.{Pattern};
 ghost use Rattle.solver.specs.Terms.Normal.{Out, normalize, with-associated-types, levels, most};
-ghost use Rattle.solver.specs.Terms.Normalising.{Answers, Leaves, Lends, RuledAt, OwnedAt};
-ghost use Rattle.solver.specs.Handing.{bindersOf, normalisedOf};
-ghost use Rattle.sheet.specs.Orders.{outcome};
+ghost use Rattle.solver.specs.Terms.NormalContract.{Answers, Leaves, Lends, RuledAt, OwnedAt};
+ghost use Rattle.solver.specs.Words.HandingContract.{bindersOf, normalisedOf};
+ghost use Rattle.sheet.specs.OrderTable.{outcome};
 ghost use Rattle.sheet.specs.Operations.{bit, seven, perhaps, settled, ruleOf, operations};
-ghost use Rattle.sheet.specs.Written.{Room, Framed};
-ghost use Rattle.sheet.specs.Answering.{Tokens, numbersOf, Asks, Replies, Two, Applies, Associates, Normalises};
+ghost use Rattle.sheet.specs.Words.FramingContract.{OutputRoom, Framed};
+ghost use Rattle.sheet.specs.Words.OperationsContract.{Tokens, numbersOf, Asks, Replies, Two, Applies, Associates, Normalises};
 
 // The byte of a truth value.
 fn bit(b: bool) -> u8
@@ -59,11 +59,12 @@ fn bit(b: bool) -> u8
 fn recovered(kinds: &[u32], vals: &[u32], a: usize, b: usize, out: &mut [u8], to: usize) -> usize
     requires areas { ⌜ Tokens (now kinds) (now vals) ⌝ }
     requires terms { ⌜ ((t : Term) × (u : Term) × Two (now kinds) (now vals) a b t u) ⌝ }
-    requires room { ⌜ Room (now out) to ⌝ }
-    ensures { λ r. ⌜ ((t u : Term) → Two (now (kinds .entry)) (now (vals .entry)) a b t u → Framed (outcome (bytes (recover-from t u))) (now (out .entry)) to (now (out .exit)) r) ⌝ }
+    requires room { ⌜ OutputRoom (now out) to ⌝ }
+    ensures { λ r. ⌜ ((t u : Term) → Two (now (kinds .entry)) (now (vals .entry)) a b t u
+        → Framed (outcome (bytes (recover-from t u))) (now (out .entry)) to (now (out .exit)) r) ⌝ }
 {
     let size = recovered_len(kinds, vals, a, b);
-    let at = begin(out, to, size);
+    let at = begin_answer(out, to, size);
     if out.len() < at {
         return at;
     }
@@ -83,11 +84,12 @@ fn rewritten(
     requires areas { ⌜ Tokens (now kinds) (now vals) ⌝ }
     requires ready { ⌜ Ready (now kinds) (now vals) (bindersOf b) ⌝ }
     requires place { ⌜ from < length (now kinds) ⌝ }
-    requires room { ⌜ Room (now out) to ⌝ }
-    ensures { λ r. ⌜ Rewrites (now (kinds .entry)) (now (vals .entry)) (now (s .entry)) (bindersOf b) from (λ x. Framed (outcome x) (now (out .entry)) to (now (out .exit)) r) ⌝ }
+    requires room { ⌜ OutputRoom (now out) to ⌝ }
+    ensures { λ r. ⌜ Rewrites (now (kinds .entry)) (now (vals .entry)) (now (s .entry)) (bindersOf b) from
+        (λ x. Framed (outcome x) (now (out .entry)) to (now (out .exit)) r) ⌝ }
 {
     let size = write_term(kinds, vals, s, b, from, out, 0, false);
-    let at = begin(out, to, size);
+    let at = begin_answer(out, to, size);
     if out.len() < at {
         return at;
     }
@@ -108,14 +110,16 @@ fn applied(
     requires areas { ⌜ Tokens (now kinds) (now vals) ⌝ }
     requires ready { ⌜ Ready (now kinds) (now vals) (bindersOf b) ⌝ }
     requires place { ⌜ from < length (now kinds) ⌝ }
-    requires room { ⌜ Room (now out) to ⌝ }
-    ensures { λ r. ⌜ ((t : Term) (es : List Entry) (rs : List Receiver) (ps : List Parameter) (ts : List Term) → Applies (now (kinds .entry)) (now (vals .entry)) (now (s .entry)) (bindersOf b) given from t es rs ps ts → Framed (outcome (perhaps (apply ps t (record { parameters = es; receivers = rs }) ts))) (now (out .entry)) to (now (out .exit)) r) ⌝ }
+    requires room { ⌜ OutputRoom (now out) to ⌝ }
+    ensures { λ r. ⌜ ((t : Term) (es : List Entry) (rs : List Receiver) (ps : List Parameter) (ts : List Term)
+        → Applies (now (kinds .entry)) (now (vals .entry)) (now (s .entry)) (bindersOf b) given from t es rs ps ts
+        → Framed (outcome (perhaps (apply ps t (record { parameters = es; receivers = rs }) ts))) (now (out .entry)) to (now (out .exit)) r) ⌝ }
 {
     if b.count != given {
-        return told(out, to, 0);
+        return write_byte_answer(out, to, 0);
     }
     let size = write_term(kinds, vals, s, b, from, out, 0, false);
-    let at = begin(out, to, size + 1);
+    let at = begin_answer(out, to, size + 1);
     if out.len() < at {
         return at;
     }
@@ -140,8 +144,9 @@ fn question(s: &[u8], kinds: &[u32], vals: &[u32], p: usize, q: u32) -> u8
 fn asked(s: &[u8], kinds: &[u32], vals: &[u32], p: usize, out: &mut [u8], to: usize) -> usize
     requires place { ⌜ (p < length (now kinds)) × (length (now vals) ≡ length (now kinds)) ⌝ }
     requires term { ⌜ FormedAt (now kinds) (now vals) p ⌝ }
-    requires room { ⌜ Room (now out) to ⌝ }
-    ensures { λ r. ⌜ ((t : Term) → Held (now (kinds .entry)) (now (vals .entry)) p t → Formed t → Framed (outcome (seven t)) (now (out .entry)) to (now (out .exit)) r) ⌝ }
+    requires room { ⌜ OutputRoom (now out) to ⌝ }
+    ensures { λ r. ⌜ ((t : Term) → Held (now (kinds .entry)) (now (vals .entry)) p t → Formed t
+        → Framed (outcome (seven t)) (now (out .entry)) to (now (out .exit)) r) ⌝ }
 {
     let a = question(s, kinds, vals, p, 0);
     let b = question(s, kinds, vals, p, 1);
@@ -150,7 +155,7 @@ fn asked(s: &[u8], kinds: &[u32], vals: &[u32], p: usize, out: &mut [u8], to: us
     let e = question(s, kinds, vals, p, 4);
     let f = question(s, kinds, vals, p, 5);
     let g = question(s, kinds, vals, p, 6);
-    told_seven(out, to, a, b, c, d, e, f, g)
+    write_seven_bytes_answer(out, to, a, b, c, d, e, f, g)
 }
 
 // A normalised term, or refusal 9; what normalising has left in the areas is cleared.
@@ -163,18 +168,21 @@ fn settled(
     out: &mut [u8],
     to: usize,
 ) -> usize
-    requires room { ⌜ Room (now out) to ⌝ }
+    requires room { ⌜ OutputRoom (now out) to ⌝ }
     requires leaves { ⌜ ((hs : List ℕ) × (cs : List ℕ) × Leaves (now kinds) (now vals) hs cs (now heads) (now kids) most (normalisedOf r)) ⌝ }
     requires answers { ⌜ ((o : Out) × Answers (now kinds) (now vals) (now heads) (now kids) (now out) to levels most o (normalisedOf r)) ⌝ }
-    ensures clear { λ _. ⌜ ((hs cs : List ℕ) → Leaves (now (kinds .entry)) (now (vals .entry)) hs cs (now (heads .entry)) (now (kids .entry)) most (normalisedOf r) → area (now (heads .exit)) (now (kids .exit)) ≡ area hs cs) ⌝ }
-    ensures says { λ q. ⌜ ((o : Out) → Answers (now (kinds .entry)) (now (vals .entry)) (now (heads .entry)) (now (kids .entry)) (now (out .entry)) to levels most o (normalisedOf r) → Framed (settled o) (now (out .entry)) to (now (out .exit)) q) ⌝ }
+    ensures clear { λ _. ⌜ ((hs cs : List ℕ)
+        → Leaves (now (kinds .entry)) (now (vals .entry)) hs cs (now (heads .entry)) (now (kids .entry)) most (normalisedOf r)
+        → area (now (heads .exit)) (now (kids .exit)) ≡ area hs cs) ⌝ }
+    ensures says { λ q. ⌜ ((o : Out) → Answers (now (kinds .entry)) (now (vals .entry)) (now (heads .entry)) (now (kids .entry))
+        (now (out .entry)) to levels most o (normalisedOf r) → Framed (settled o) (now (out .entry)) to (now (out .exit)) q) ⌝ }
 {
     match r {
-        Normalised::Refused => refused(out, to, 9),
+        Normalised::Refused => write_refusal(out, to, 9),
         Normalised::Long => out.len() + 1,
         Normalised::Done(w) => {
             let size = w.size;
-            let at = begin(out, to, size);
+            let at = begin_answer(out, to, size);
             if out.len() < at {
                 clear_tokens(heads, kids, 0, w.next);
                 return at;
@@ -198,10 +206,11 @@ fn associated(
 ) -> usize
     requires lends { ⌜ Lends (now kinds) (now vals) (now heads) (now kids) most ⌝ }
     requires places { ⌜ (p < length (now kinds)) × (interface < length (now kinds)) × (owner < length (now kinds)) ⌝ }
-    requires room { ⌜ Room (now out) to ⌝ }
+    requires room { ⌜ OutputRoom (now out) to ⌝ }
     requires terms { ⌜ OwnedAt (now kinds) (now vals) p interface owner ⌝ }
     ensures clear { λ _. ⌜ area (now (heads .exit)) (now (kids .exit)) ≡ area (now (heads .entry)) (now (kids .entry)) ⌝ }
-    ensures says { λ r. ⌜ ((t : Term) (i : Parts) (o : Term) → Associates (now (kinds .entry)) (now (vals .entry)) p interface owner t i o → Framed (settled (with-associated-types t (nominalOf i) o)) (now (out .entry)) to (now (out .exit)) r) ⌝ }
+    ensures says { λ r. ⌜ ((t : Term) (i : Parts) (o : Term) → Associates (now (kinds .entry)) (now (vals .entry)) p interface owner t i o
+        → Framed (settled (with-associated-types t (nominalOf i) o)) (now (out .entry)) to (now (out .exit)) r) ⌝ }
 {
     let r = with_associated_types(
         kinds,
@@ -231,10 +240,11 @@ fn normalised(
     requires lends { ⌜ Lends (now kinds) (now vals) (now heads) (now kids) most ⌝ }
     requires place { ⌜ p < length (now kinds) ⌝ }
     requires few { ⌜ length (now rules) < 4294967296 ⌝ }
-    requires room { ⌜ Room (now out) to ⌝ }
+    requires room { ⌜ OutputRoom (now out) to ⌝ }
     requires terms { ⌜ RuledAt (now kinds) (now vals) (now rules) p ⌝ }
     ensures clear { λ _. ⌜ area (now (heads .exit)) (now (kids .exit)) ≡ area (now (heads .entry)) (now (kids .entry)) ⌝ }
-    ensures says { λ r. ⌜ ((t : Term) (rs : List Pattern) → Normalises (now (kinds .entry)) (now (vals .entry)) (now (rules .entry)) p rs t → Framed (settled (normalize (map ruleOf rs) t)) (now (out .entry)) to (now (out .exit)) r) ⌝ }
+    ensures says { λ r. ⌜ ((t : Term) (rs : List Pattern) → Normalises (now (kinds .entry)) (now (vals .entry)) (now (rules .entry)) p rs t
+        → Framed (settled (normalize (map ruleOf rs) t)) (now (out .entry)) to (now (out .exit)) r) ⌝ }
 {
     let r = normalise(kinds, vals, rules, heads, kids, p as u32, out, to);
     settled(kinds, vals, heads, kids, r, out, to)
@@ -244,18 +254,18 @@ fn normalised(
 fn compare(kinds: &[u32], vals: &[u32], o: Order, out: &mut [u8], to: usize) -> usize
     requires areas { ⌜ Tokens (now kinds) (now vals) ⌝ }
     requires asks { ⌜ ((s : List ℕ) × (ws : List ℕ) × Asks (now kinds) (now vals) s ws (9 ∷ 10 ∷ 11 ∷ []) o) ⌝ }
-    requires room { ⌜ Room (now out) to ⌝ }
+    requires room { ⌜ OutputRoom (now out) to ⌝ }
     ensures { λ r. ⌜ ((s ws : List ℕ) → Replies (now (kinds .entry)) (now (vals .entry)) s ws o (λ x. Framed x (now (out .entry)) to (now (out .exit)) r)) ⌝ }
 {
     let a = o.first;
     let b = o.second;
     if o.kind == 9 {
         let r = conflicts_with(kinds, vals, a.place, b.place);
-        return told(out, to, bit(r));
+        return write_byte_answer(out, to, bit(r));
     }
     if o.kind == 10 {
         let r = can_weaken_to(kinds, vals, a.place, b.place);
-        return told(out, to, bit(r));
+        return write_byte_answer(out, to, bit(r));
     }
     recovered(kinds, vals, a.place, b.place, out, to)
 }
@@ -264,8 +274,9 @@ fn compare(kinds: &[u32], vals: &[u32], o: Order, out: &mut [u8], to: usize) -> 
 fn substitute(s: &[u8], kinds: &[u32], vals: &[u32], o: Order, out: &mut [u8], to: usize) -> usize
     requires areas { ⌜ Tokens (now kinds) (now vals) ⌝ }
     requires asks { ⌜ ((ws : List ℕ) × Asks (now kinds) (now vals) (now s) ws (12 ∷ 13 ∷ 14 ∷ []) o) ⌝ }
-    requires room { ⌜ Room (now out) to ⌝ }
-    ensures { λ r. ⌜ ((ws : List ℕ) → Replies (now (kinds .entry)) (now (vals .entry)) (now (s .entry)) ws o (λ x. Framed x (now (out .entry)) to (now (out .exit)) r)) ⌝ }
+    requires room { ⌜ OutputRoom (now out) to ⌝ }
+    ensures { λ r. ⌜ ((ws : List ℕ)
+        → Replies (now (kinds .entry)) (now (vals .entry)) (now (s .entry)) ws o (λ x. Framed x (now (out .entry)) to (now (out .exit)) r)) ⌝ }
 {
     let e = o.first;
     let r = o.second;
@@ -287,8 +298,9 @@ fn substitute(s: &[u8], kinds: &[u32], vals: &[u32], o: Order, out: &mut [u8], t
 fn inquire(s: &[u8], kinds: &[u32], vals: &[u32], o: Order, out: &mut [u8], to: usize) -> usize
     requires areas { ⌜ Tokens (now kinds) (now vals) ⌝ }
     requires asks { ⌜ ((ws : List ℕ) × Asks (now kinds) (now vals) (now s) ws (15 ∷ 16 ∷ 17 ∷ []) o) ⌝ }
-    requires room { ⌜ Room (now out) to ⌝ }
-    ensures { λ r. ⌜ ((ws : List ℕ) → Replies (now (kinds .entry)) (now (vals .entry)) (now (s .entry)) ws o (λ x. Framed x (now (out .entry)) to (now (out .exit)) r)) ⌝ }
+    requires room { ⌜ OutputRoom (now out) to ⌝ }
+    ensures { λ r. ⌜ ((ws : List ℕ)
+        → Replies (now (kinds .entry)) (now (vals .entry)) (now (s .entry)) ws o (λ x. Framed x (now (out .entry)) to (now (out .exit)) r)) ⌝ }
 {
     let a = o.first;
     let b = o.second;
@@ -298,19 +310,20 @@ fn inquire(s: &[u8], kinds: &[u32], vals: &[u32], o: Order, out: &mut [u8], to: 
     }
     if o.kind == 16 {
         let r = ask(kinds, vals, b.place, 7, s, a.place, a.value);
-        return told(out, to, bit(!r));
+        return write_byte_answer(out, to, bit(!r));
     }
     let x = satisfies(kinds, vals, a.place, b.place);
     let y = satisfies_for(kinds, vals, a.place, b.place, t.place);
-    told_twice(out, to, bit(x), bit(y))
+    write_two_bytes_answer(out, to, bit(x), bit(y))
 }
 
 // Order 18: a family's value, for a substitution and arguments.
 fn apply_family(s: &[u8], kinds: &[u32], vals: &[u32], o: Order, out: &mut [u8], to: usize) -> usize
     requires areas { ⌜ Tokens (now kinds) (now vals) ⌝ }
     requires asks { ⌜ ((ws : List ℕ) × Asks (now kinds) (now vals) (now s) ws (18 ∷ []) o) ⌝ }
-    requires room { ⌜ Room (now out) to ⌝ }
-    ensures { λ r. ⌜ ((ws : List ℕ) → Replies (now (kinds .entry)) (now (vals .entry)) (now (s .entry)) ws o (λ x. Framed x (now (out .entry)) to (now (out .exit)) r)) ⌝ }
+    requires room { ⌜ OutputRoom (now out) to ⌝ }
+    ensures { λ r. ⌜ ((ws : List ℕ)
+        → Replies (now (kinds .entry)) (now (vals .entry)) (now (s .entry)) ws o (λ x. Framed x (now (out .entry)) to (now (out .exit)) r)) ⌝ }
 {
     let p = o.first;
     let t = o.second;
@@ -335,9 +348,10 @@ fn reduce(
     requires lends { ⌜ Lends (now kinds) (now vals) (now heads) (now kids) most ⌝ }
     requires asks { ⌜ ((s : List ℕ) × Asks (now kinds) (now vals) s (now rules) (19 ∷ 20 ∷ []) o) ⌝ }
     requires few { ⌜ length (now rules) < 4294967296 ⌝ }
-    requires room { ⌜ Room (now out) to ⌝ }
+    requires room { ⌜ OutputRoom (now out) to ⌝ }
     ensures clear { λ _. ⌜ area (now (heads .exit)) (now (kids .exit)) ≡ area (now (heads .entry)) (now (kids .entry)) ⌝ }
-    ensures says { λ r. ⌜ ((s : List ℕ) → Replies (now (kinds .entry)) (now (vals .entry)) s (now (rules .entry)) o (λ x. Framed x (now (out .entry)) to (now (out .exit)) r)) ⌝ }
+    ensures says { λ r. ⌜ ((s : List ℕ)
+        → Replies (now (kinds .entry)) (now (vals .entry)) s (now (rules .entry)) o (λ x. Framed x (now (out .entry)) to (now (out .exit)) r)) ⌝ }
 {
     let a = o.first;
     let b = o.second;
@@ -364,9 +378,10 @@ pub fn operate(
     requires lends { ⌜ Lends (now kinds) (now vals) (now heads) (now kids) most ⌝ }
     requires asks { ⌜ Asks (now kinds) (now vals) (now s) (now rules) (numbersOf operations) o ⌝ }
     requires few { ⌜ length (now rules) < 4294967296 ⌝ }
-    requires room { ⌜ Room (now out) to ⌝ }
+    requires room { ⌜ OutputRoom (now out) to ⌝ }
     ensures clear { λ _. ⌜ area (now (heads .exit)) (now (kids .exit)) ≡ area (now (heads .entry)) (now (kids .entry)) ⌝ }
-    ensures says { λ r. ⌜ Replies (now (kinds .entry)) (now (vals .entry)) (now (s .entry)) (now (rules .entry)) o (λ x. Framed x (now (out .entry)) to (now (out .exit)) r) ⌝ }
+    ensures says { λ r. ⌜ Replies (now (kinds .entry)) (now (vals .entry)) (now (s .entry)) (now (rules .entry)) o
+        (λ x. Framed x (now (out .entry)) to (now (out .exit)) r) ⌝ }
 {
     let k = o.kind;
     if k < 12 {

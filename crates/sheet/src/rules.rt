@@ -2,17 +2,17 @@
 // the place, and answer 0 where they have read, else the refusal.
 use super::Order;
 use super::fields::read_plain;
-use super::tables::no_fields;
-use super::tables::put_spot;
+use super::order_table::no_fields;
+use super::order_table::put_spot;
 use solver::clear_tokens;
 use solver::put_rule;
 ghost use mathlib.Core.Path.{_≡_};
 ghost use Prim.Native.Nat.{_<_};
 ghost use Rattle.solver.specs.Terms.Tokens.{area};
-ghost use Rattle.solver.specs.Terms.Lent.{place, stepOf};
+ghost use Rattle.solver.specs.Terms.StepCodes.{place, stepOf};
 ghost use Rattle.solver.specs.Terms.Lookup.{putRule};
 ghost use Rattle.sheet.specs.Fields.{rule, ruleList};
-ghost use Rattle.sheet.specs.Laid.{Free, Ample, ruleFrom, WordsFit, RuleDone, RulesDone};
+ghost use Rattle.sheet.specs.Words.FieldLayout.{Free, Ample, ruleFrom, WordsFit, RuleDone, RulesDone};
 
 // A nominal, a term, a number that names a member, arguments and a term, as `sorts_of` tells a layout.
 const RULE: u64 = 409010405;
@@ -51,7 +51,10 @@ fn read_rule(
     requires { ⌜ Ample (now s) (place (now at) (now top) (now nodes) limit) ⌝ }
     requires { ⌜ Free (now top) (area (now kinds) (now vals)) ⌝ }
     requires { ⌜ r < 4294967296 ⌝ }
-    ensures { λ x. ⌜ RuleDone (rule (now (s .entry)) issued (now (at .entry))) (now (s .entry)) (place (now (at .entry)) (now (top .entry)) (now (nodes .entry)) limit) (area (now (kinds .entry)) (now (vals .entry))) (area (now (kinds .exit)) (now (vals .exit))) r (now (rules .entry)) (now (rules .exit)) (stepOf x (now (at .exit)) (now (top .exit)) (now (nodes .exit)) limit) ⌝ }
+    ensures { λ x. ⌜ RuleDone (rule (now (s .entry)) issued (now (at .entry))) (now (s .entry))
+        (place (now (at .entry)) (now (top .entry)) (now (nodes .entry)) limit) (area (now (kinds .entry)) (now (vals .entry)))
+        (area (now (kinds .exit)) (now (vals .exit))) r (now (rules .entry)) (now (rules .exit))
+        (stepOf x (now (at .exit)) (now (top .exit)) (now (nodes .exit)) limit) ⌝ }
 {
     let first = *top;
     let mut rest = RULE;
@@ -88,7 +91,7 @@ fn read_rule(
     0
 }
 
-// `count` rules; on a refusal nothing of them remains in the areas.
+// `write_number_answer` rules; on a refusal nothing of them remains in the areas.
 pub fn read_rules(
     s: &[u8],
     kinds: &mut [u32],
@@ -104,7 +107,9 @@ pub fn read_rules(
     requires { ⌜ Ample (now s) (place (now at) (now top) (now nodes) limit) ⌝ }
     requires { ⌜ Free (now top) (area (now kinds) (now vals)) ⌝ }
     requires { ⌜ count < 4294967296 ⌝ }
-    ensures { λ x. ⌜ RulesDone (ruleList (now (s .entry)) issued count (now (at .entry))) (now (s .entry)) (place (now (at .entry)) (now (top .entry)) (now (nodes .entry)) limit) (area (now (kinds .entry)) (now (vals .entry))) (area (now (kinds .exit)) (now (vals .exit))) count (now (rules .exit)) (stepOf x (now (at .exit)) (now (top .exit)) (now (nodes .exit)) limit) ⌝ }
+    ensures { λ x. ⌜ RulesDone (ruleList (now (s .entry)) issued count (now (at .entry))) (now (s .entry))
+        (place (now (at .entry)) (now (top .entry)) (now (nodes .entry)) limit) (area (now (kinds .entry)) (now (vals .entry)))
+        (area (now (kinds .exit)) (now (vals .exit))) count (now (rules .exit)) (stepOf x (now (at .exit)) (now (top .exit)) (now (nodes .exit)) limit) ⌝ }
 {
     let first = *top;
     let mut r: u64 = 0;

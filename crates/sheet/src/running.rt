@@ -2,7 +2,7 @@
 use super::Closed;
 use super::Frame;
 use super::Report;
-use super::serving::serve_order;
+use super::dispatch::serve_order;
 use super::splitting::next_order;
 use super::splitting::order_at;
 use super::starting::lay_fresh;
@@ -11,13 +11,13 @@ use solver::clear;
 ghost use mathlib.Core.Path.{_≡_};
 ghost use Prim.Native.Nat.{_≤_};
 ghost use lib.ListN.{length, take};
-ghost use Rattle.solver.specs.Session.{box, fresh};
-ghost use Rattle.solver.specs.Lent.{limitsOf};
+ghost use Rattle.solver.specs.Session.{documentLimits, fresh};
+ghost use Rattle.solver.specs.Words.SessionRepresentation.{limitsOf};
 ghost use Rattle.sheet.specs.Sheet.{runOf};
-ghost use Rattle.sheet.specs.Lays.{areas, Lays, Roomy};
-ghost use Rattle.solver.specs.Whole.{counters};
-ghost use Rattle.solver.specs.Work.{Zero};
-ghost use Rattle.sheet.specs.Ending.{Ended, Left, suits, finished, finishOf, leaving};
+ghost use Rattle.sheet.specs.Words.SessionInAreas.{areas, RepresentsInAreas, AreasSuffice};
+ghost use Rattle.solver.specs.Words.SessionsContract.{counters};
+ghost use Rattle.solver.specs.Words.Worklist.{Zero};
+ghost use Rattle.sheet.specs.Entry.{Ended, Left, sizesAccepted, finished, entryResult, stateAfterRun};
 
 // What a run returns, and the solver that it leaves.
 fn closed(reason: u32, orders: u64, bytes: usize, solver: Solver) -> Closed
@@ -44,9 +44,11 @@ fn answer_orders(
     c: &mut [u32],
     d: &mut [u32],
 ) -> Closed
-    requires held { ⌜ Lays first half (areas (now a) (now b) (now c) (now d)) fresh × Roomy first half (length (now a)) (areas (now a) (now b) (now c) (now d)) ⌝ }
+    requires held { ⌜ RepresentsInAreas first half (areas (now a) (now b) (now c) (now d)) fresh
+        × AreasSuffice first half (length (now a)) (areas (now a) (now b) (now c) (now d)) ⌝ }
     requires room { ⌜ (length (now s) ≤ 16777216) × (length (now out) ≤ 16777216) ⌝ }
-    ensures run { λ r. ⌜ Ended (limitsOf first) (now (s .entry)) (now (out .entry)) (r .report .reason) (r .report .orders) (r .report .bytes) (now (out .exit)) ⌝ }
+    ensures run { λ r. ⌜ Ended (limitsOf first) (now (s .entry)) (now (out .entry)) (r .report .reason) (r .report .orders) (r .report .bytes)
+        (now (out .exit)) ⌝ }
     ensures left { λ r. ⌜ Left (r .solver) half (areas (now (a .exit)) (now (b .exit)) (now (c .exit)) (now (d .exit))) ⌝ }
 {
     let mut x = first;
@@ -82,9 +84,10 @@ fn run_in(
     c: &mut [u32],
     d: &mut [u32],
 ) -> Report
-    requires areas { ⌜ Roomy (counters variables nodes) half (length (now a)) (areas (now a) (now b) (now c) (now d)) ⌝ }
+    requires areas { ⌜ AreasSuffice (counters variables nodes) half (length (now a)) (areas (now a) (now b) (now c) (now d)) ⌝ }
     requires room { ⌜ (length (now s) ≤ 16777216) × (length (now out) ≤ 16777216) ⌝ }
-    ensures run { λ r. ⌜ Ended (limitsOf (counters variables nodes)) (now (s .entry)) (now (out .entry)) (r .reason) (r .orders) (r .bytes) (now (out .exit)) ⌝ }
+    ensures run { λ r. ⌜ Ended (limitsOf (counters variables nodes)) (now (s .entry)) (now (out .entry)) (r .reason) (r .orders) (r .bytes)
+        (now (out .exit)) ⌝ }
     ensures clear { λ _. ⌜ Zero (now (a .exit)) × Zero (now (b .exit)) × Zero (now (c .exit)) × Zero (now (d .exit)) ⌝ }
 {
     let x = lay_fresh(variables, nodes, half, a, b, c, d);
@@ -107,9 +110,12 @@ fn run_within(
     c: &mut [u32],
     d: &mut [u32],
 ) -> Report
-    requires areas { ⌜ (words ≤ length (now a)) × (words ≤ length (now b)) × (words ≤ length (now c)) × (words ≤ length (now d)) × Roomy (counters variables nodes) half words (areas (take words (now a)) (take words (now b)) (take words (now c)) (take words (now d))) ⌝ }
+    requires areas { ⌜ (words ≤ length (now a)) × (words ≤ length (now b)) × (words ≤ length (now c)) × (words ≤ length (now d))
+        × AreasSuffice (counters variables nodes) half words (areas (take words (now a)) (take words (now b)) (take words (now c)) (take words (now d))) ⌝ }
     requires room { ⌜ (length (now s) ≤ 16777216) × (length (now out) ≤ 16777216) ⌝ }
-    ensures { λ r. ⌜ finished (r .reason) (r .orders) (r .bytes) (now (out .exit)) (now (a .exit)) (now (b .exit)) (now (c .exit)) (now (d .exit)) ≡ leaving (runOf (limitsOf (counters variables nodes)) (now (s .entry)) (length (now (out .entry)))) (now (out .entry)) (now (a .entry)) (now (b .entry)) (now (c .entry)) (now (d .entry)) ⌝ }
+    ensures { λ r. ⌜ finished (r .reason) (r .orders) (r .bytes) (now (out .exit)) (now (a .exit)) (now (b .exit)) (now (c .exit))
+        (now (d .exit)) ≡ stateAfterRun (runOf (limitsOf (counters variables nodes)) (now (s .entry)) (length (now (out .entry)))) (now (out .entry))
+        (now (a .entry)) (now (b .entry)) (now (c .entry)) (now (d .entry)) ⌝ }
 {
     let r = run_in(
         variables,
@@ -131,7 +137,7 @@ fn run_within(
 
 // Whether a sheet, an output and areas of so many bytes and words are taken.
 fn within_bounds(sheet: usize, out: usize, a: usize, b: usize, c: usize, d: usize) -> bool
-    ensures { λ r. ⌜ r ≡ suits 16384 sheet out a b c d ⌝ }
+    ensures { λ r. ⌜ r ≡ sizesAccepted 16384 sheet out a b c d ⌝ }
 {
     if 16777216 < sheet {
         return false;
@@ -160,7 +166,9 @@ pub fn run_sheet(
     c: &mut [u32],
     d: &mut [u32],
 ) -> Report
-    ensures { λ r. ⌜ finished (r .reason) (r .orders) (r .bytes) (now (out .exit)) (now (a .exit)) (now (b .exit)) (now (c .exit)) (now (d .exit)) ≡ finishOf box 16384 (now (sheet .entry)) (now (out .entry)) (now (a .entry)) (now (b .entry)) (now (c .entry)) (now (d .entry)) ⌝ }
+    ensures { λ r. ⌜ finished (r .reason) (r .orders) (r .bytes) (now (out .exit)) (now (a .exit)) (now (b .exit)) (now (c .exit))
+        (now (d .exit)) ≡ entryResult documentLimits 16384 (now (sheet .entry)) (now (out .entry)) (now (a .entry)) (now (b .entry)) (now (c .entry))
+        (now (d .entry)) ⌝ }
 {
     if !within_bounds(sheet.len(), out.len(), a.len(), b.len(), c.len(), d.len()) {
         return Report {

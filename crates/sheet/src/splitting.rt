@@ -5,11 +5,11 @@ ghost use mathlib.Core.Path.{_≡_};
 ghost use Prim.Native.Nat.{_+_, _≤_};
 ghost use lib.ListN.{length, take, drop};
 ghost use Rattle.sheet.specs.Sheet.{nextOrder};
-ghost use Rattle.sheet.specs.Ending.{partOf};
+ghost use Rattle.sheet.specs.Entry.{framedPart};
 
 // Where the order whose length stands at a position lies.
 pub fn next_order(s: &[u8], at: usize) -> Frame
-    ensures { λ r. ⌜ partOf (now (s .entry)) r ≡ nextOrder (now (s .entry)) at ⌝ }
+    ensures { λ r. ⌜ framedPart (now (s .entry)) r ≡ nextOrder (now (s .entry)) at ⌝ }
 {
     let mut from = at;
     let mut size: u64 = 0;

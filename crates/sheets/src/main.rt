@@ -1,7 +1,7 @@
 // Runs many sheets, for the executed cases and the comparison. Standard input is a run of frames. A frame is four numbers of four bytes, low byte
 // first: the room of the output, the length of the sheet, the words of each area, and what output and areas are filled with before the run;
 // and then the sheet. For each frame the program writes the reason, a byte; the orders answered and the bytes of answers, four bytes each; a byte that
-// is 1 where the output behind the answers is as it was, and the areas are all 0, or as they were under reason 12; and the answers.
+// is 1 where the output after the answers is as it was, and the areas are all 0, or as they were under reason 12; and the answers.
 use frames::low_byte;
 use frames::number_within;
 use frames::put_number;

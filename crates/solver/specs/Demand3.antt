@@ -1,4 +1,4 @@
--- Demand 3 over lists of orders 0 to 8, on terms: its premises and its two sentences. Assumes nothing.
+-- Demand 3 over lists of orders 0 to 8, on terms: its premises and its two sentences.
 use mathlib.Core.Path.{_≡_}
 use mathlib.Core.Bool.{Bool, true, false, _||_}
 use mathlib.Core.List.{List, [], _∷_}
@@ -13,7 +13,7 @@ use Rattle.terms.specs.Formed.{Formed}
 use Rattle.unify.specs.Solver.{put}
 use Rattle.solver.specs.Families.{Request, belongs}
 use Rattle.solver.specs.Shapes.{Notion, readAll}
-use Rattle.solver.specs.Solving.{Pair, replace, resolved, always, occurs}
+use Rattle.solver.specs.Constrain.{Pair, replace, resolved, always, occurs}
 use Rattle.solver.specs.Session.{Limits, at, Session, issued, find, fresh}
 use Rattle.solver.specs.Orders.{Command, variable, number, hole, defer, pair, resolving, numbers, nevers, revision, unread}
 use Rattle.solver.specs.Orders.{Reply, term, verdict, changed, count, nothing, refused, Step, order}
@@ -116,34 +116,34 @@ abbrev pub Assigns : ℕ → (ℕ → Term) → Type 0
 Assigns N θ = (v : ℕ) → v < N → Formed (θ v) × VariableFree (θ v)
 
 -- "true to the families if each requested number variable gets a builtin of its family"
-abbrev pub True : (ℕ → Term) → (ℕ → Option Request) → Type 0
-True θ requests = (v : ℕ) (r : Request) → requests v ≡ some r → belongs (r .family) (θ v) ≡ true
+abbrev pub RespectsFamilies : (ℕ → Term) → (ℕ → Option Request) → Type 0
+RespectsFamilies θ requests = (v : ℕ) (r : Request) → requests v ≡ some r → belongs (r .family) (θ v) ≡ true
 
 module _ (n : Notion) where
   -- "the same once every Set and Map access at any depth is read as ReadOnly"
-  abbrev pub Alike : Term → Term → Type 0
-  Alike t u = readAll n t ≡ readAll n u
+  abbrev pub EqualUpToAccess : Term → Term → Type 0
+  EqualUpToAccess t u = readAll n t ≡ readAll n u
 
   -- "both terms, each Inference replaced by its variable's term"
-  abbrev pub Equal : (ℕ → Term) → List Pair → Type 0
-  Equal θ [] = Unit {0}
-  Equal θ (p ∷ ps) = Alike (replace θ (p .0)) (replace θ (p .1)) × Equal θ ps
+  abbrev pub MakesEqual : (ℕ → Term) → List Pair → Type 0
+  MakesEqual θ [] = Unit {0}
+  MakesEqual θ (p ∷ ps) = EqualUpToAccess (replace θ (p .0)) (replace θ (p .1)) × MakesEqual θ ps
 
   -- "An assignment agrees with it if it makes the variable and that term equal, up to access"; "What a variable resolves to is the term order 5
   -- would answer for it after the list"
   abbrev pub Agrees : (ℕ → Term) → Session → Type 0
-  Agrees θ s = (v : ℕ) → v < issued s → Alike (θ v) (replace θ (resolved (s .solver) (var v)))
+  Agrees θ s = (v : ℕ) → v < issued s → EqualUpToAccess (θ v) (replace θ (resolved (s .solver) (var v)))
 
   -- ---- the two sentences
 
   pub record Demand3 (h : History) : Type 0 where
     -- "Some pair was answered incompatible exactly if no assignment of variable-free terms of any size, true to the number families requested,
     -- makes every posed pair equal up to Set and Map access."
-    pub first : (h .incompatible ≡ true) ↔ ((θ : ℕ → Term) → Assigns (issued (h .session)) θ → True θ (h .requests) → ¬ Equal θ (h .posed))
+    pub first : (h .incompatible ≡ true) ↔ ((θ : ℕ → Term) → Assigns (issued (h .session)) θ → RespectsFamilies θ (h .requests) → ¬ MakesEqual θ (h .posed))
     -- "If none was, the assignments that do so are exactly those true to the families that agree, up to that access, with what each variable
     -- resolves to,"
     pub second : h .incompatible ≡ false → (θ : ℕ → Term) → Assigns (issued (h .session)) θ
-        → (True θ (h .requests) × Equal θ (h .posed)) ↔ (True θ (h .requests) × Agrees θ (h .session))
+        → (RespectsFamilies θ (h .requests) × MakesEqual θ (h .posed)) ↔ (RespectsFamilies θ (h .requests) × Agrees θ (h .session))
     -- "and every variable left in those terms resolves to itself."
     pub left : (v w : ℕ) → v < issued (h .session) → occurs w (resolved (h .session .solver) (var v)) ≡ true
         → (w < issued (h .session)) × (resolved (h .session .solver) (var w) ≡ var w)
@@ -193,4 +193,4 @@ module _ (lim : Limits) (n : Notion) where
     pub allowed : AllAllowed fresh cs
     pub pairs : PlainPairs (history beginning cs .posed)
     -- "no cancelled pair"
-    pub uncut : history beginning cs .cancelled ≡ false
+    pub noneCancelled : history beginning cs .cancelled ≡ false

@@ -1,4 +1,4 @@
--- Number variables: what order 1 requests of one, and what becomes of two requests when their variables meet. Assumes nothing.
+-- Number variables: what order 1 requests of one, and what becomes of two requests when their variables meet.
 use mathlib.Core.Bool.{Bool, false, _&&_}
 use mathlib.Core.List.{List, [], _∷_}
 use mathlib.Core.Option.{Option, none, some}

@@ -1,4 +1,4 @@
--- Orders 0 to 8 on a session: the session after an order, and its answer. Assumes nothing.
+-- Orders 0 to 8 on a session: the session after an order, and its answer.
 use mathlib.Core.Bool.{Bool, true, false, not, _&&_}
 use mathlib.Core.List.{List, [], _∷_}
 use mathlib.Core.Option.{Option, none, some}
@@ -9,8 +9,8 @@ use Rattle.terms.specs.Questions.{meets}
 use Rattle.unify.specs.Solver.{Out, cancelled, done}
 use Rattle.solver.specs.Families.{Request}
 use Rattle.solver.specs.Shapes.{Notion}
-use Rattle.solver.specs.Solving.{Solver, resolved, always, constrain}
-use Rattle.solver.specs.Session.{Limits, Place, at, gap, Session, issued, find, withSolver, issueAt, request, deferring, keep, numericDefaults, neverDefaults}
+use Rattle.solver.specs.Constrain.{Solver, resolved, always, constrain}
+use Rattle.solver.specs.Session.{Limits, VariablePlace, at, gap, Session, issued, find, withSolver, issueAt, request, deferring, keep, numericDefaults, neverDefaults}
 
 -- an order, read
 pub data Command : Type 0 where
@@ -88,7 +88,7 @@ module _ (lim : Limits) where
   unless s false c x = s gives refused 6
 
   -- `variable`: answers the variable itself
-  unfoldable pub variableAt : Session → Place → Option ℕ → Bool → Step
+  unfoldable pub variableAt : Session → VariablePlace → Option ℕ → Bool → Step
   variableAt s p (some v) f = s gives term (var v)
   variableAt s p none true = s gives refused 8
   variableAt s p none false = issueAt s p gives term (var (issued s))
@@ -97,13 +97,13 @@ module _ (lim : Limits) where
   abbrev pub asked : Session → ℕ → Request → Step
   asked s v r = request s v r gives term (resolved (s .solver) (var v))
 
-  unfoldable pub numberAt : Session → Place → Request → Option ℕ → Bool → Step
+  unfoldable pub numberAt : Session → VariablePlace → Request → Option ℕ → Bool → Step
   numberAt s p r (some v) f = asked s v r
   numberAt s p r none true = s gives refused 8
   numberAt s p r none false = asked (issueAt s p) (issued s) r
 
   -- `annotation_hole`
-  unfoldable pub holeAt : Session → Place → Option ℕ → Bool → Step
+  unfoldable pub holeAt : Session → VariablePlace → Option ℕ → Bool → Step
   holeAt s p (some v) f = s gives term (resolved (s .solver) (var v))
   holeAt s p none true = s gives refused 8
   holeAt s p none false = issueAt s p gives term (resolved (s .solver) (var (issued s)))

@@ -1,7 +1,7 @@
 -- J. A. Robinson, "A Machine-Oriented Logic Based on the Resolution Principle", Journal of the ACM 12 (1965), on terms: substitutions, the
 -- disagreement set, the Unification Algorithm by its steps, most general unifiers; and what demand 2 says of plain first-order pairs.
 -- An expression is a term. The symbol at a node is its tag with its numbers and the places of its children (`blank`), and symbols are taken
--- from left to right as in the byte form. Assumes nothing.
+-- from left to right as in the byte form.
 use mathlib.Core.Path.{_≡_}
 use mathlib.Core.Bool.{Bool, true, false, _||_}
 use mathlib.Core.List.{List, [], _∷_, _++_}
@@ -14,7 +14,7 @@ use Rattle.terms.specs.Result.{pick}
 use Rattle.terms.specs.Term.{Term, Parts, var, node, end, num, sub, size}
 use Rattle.terms.specs.Tree.{same}
 use Rattle.solver.specs.Shapes.{Notion, blank, readAll}
-use Rattle.solver.specs.Solving.{Pair, replace, resolved, occurs}
+use Rattle.solver.specs.Constrain.{Pair, replace, resolved, occurs}
 use Rattle.solver.specs.Session.{Limits, Session}
 use Rattle.solver.specs.Orders.{Command}
 use Rattle.solver.specs.Demand3.{History, beginning, history, Premises}

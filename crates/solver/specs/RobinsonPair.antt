@@ -1,5 +1,5 @@
 -- Robinson 1965, pair by pair, in every session: "For plain first-order pairs (no recovery terms, projections, number variables or access marks)
--- Robinson 1965 decides." A pair is judged by its two terms as they resolve just before it, whatever orders came earlier. Assumes nothing.
+-- Robinson 1965 decides." A pair is judged by its two terms as they resolve just before it, whatever orders came earlier.
 use mathlib.Core.Path.{_≡_}
 use mathlib.Core.Bool.{true, false}
 use mathlib.Core.List.{List, [], _∷_}
@@ -9,7 +9,7 @@ use Prim.Native.Nat.{ℕ, _+_, _≤_}
 use Rattle.terms.specs.Term.{Term, size}
 use Rattle.terms.specs.Questions.{meets}
 use Rattle.solver.specs.Shapes.{Notion}
-use Rattle.solver.specs.Solving.{Pair, replace, resolved, occurs, always}
+use Rattle.solver.specs.Constrain.{Pair, replace, resolved, occurs, always}
 use Rattle.solver.specs.Session.{Limits, Session}
 use Rattle.solver.specs.Orders.{pair, verdict, known, crowded, order}
 use Rattle.solver.specs.Demand3.{outside}

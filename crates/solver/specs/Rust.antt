@@ -7,7 +7,6 @@
 --   HashMap                  a list of keys with their values, each key once; a HashSet is a HashMap to the unit
 --   Vec                      a list; one that is used as a stack has its end, where it is popped, at the head of the list
 --   a panic                  none: an `unreachable!`, or an index out of range
--- Assumes nothing.
 use mathlib.Core.Path.{_≡_}
 use mathlib.Core.Bool.{Bool, true, false, not, _&&_, _||_}
 use mathlib.Core.List.{List, [], _∷_, _++_}
@@ -22,10 +21,10 @@ use Rattle.terms.specs.Questions.{among, meets}
 use Rattle.terms.specs.Substitution.{substitute-once}
 use Rattle.terms.specs.Formed.{Formed}
 use Rattle.unify.specs.Solver.{Out, cancelled, done}
-use Rattle.unify.specs.Rust.{look, insert, sorted, look-site}
+use Rattle.unify.specs.RustMaps.{look, insert, sorted, look-site}
 use Rattle.solver.specs.Families.{requested}
 use Rattle.solver.specs.Shapes.{Notion, pushed}
-use Rattle.solver.specs.Solving.{Pair, always, recovery, recovers, occurs, zipOn}
+use Rattle.solver.specs.Constrain.{Pair, always, recovery, recovers, occurs, zipOn}
 use Rattle.solver.specs.Orders.{Command, variable, number, hole, defer, pair, resolving, numbers, nevers, revision, unread}
 use Rattle.solver.specs.Orders.{Reply, term, verdict, changed, count, nothing, beyond, order}
 use Rattle.solver.specs.Session.{Limits, Session}
@@ -245,7 +244,7 @@ unfoldable pub if-shape : Solver → Bool → List Pair → Term → Term → Bo
 if-shape z compatible pending left right true = continue z compatible (zipOn (pushed left) (pushed right) pending)
 if-shape z compatible pending left right false = continue z false pending
 
--- match (&left, &right), behind its first arm
+-- match (&left, &right), after its first arm
 unfoldable pub arms : Solver → Bool → List Pair → Term → Term → Option Pass
 arms z compatible pending (var id) ty = inference z compatible pending id ty
 arms z compatible pending (node k ps) (var id) = inference z compatible pending id (node k ps)

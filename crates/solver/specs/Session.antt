@@ -1,4 +1,4 @@
--- A session: the solver with the places of its variables, the deferrals, and the nodes kept. Assumes nothing.
+-- A session: the solver with the places of its variables, the deferrals, and the nodes kept.
 use mathlib.Core.Bool.{Bool, true, false, _&&_}
 use mathlib.Core.List.{List, [], _∷_}
 use mathlib.Core.Option.{Option, none, some}
@@ -9,22 +9,22 @@ use Rattle.terms.specs.Result.{pick}
 use Rattle.terms.specs.Term.{Term, var, node, end, num}
 use Rattle.unify.specs.Solver.{put}
 use Rattle.solver.specs.Families.{Request, defaultOf}
-use Rattle.solver.specs.Solving.{Solver, top}
+use Rattle.solver.specs.Constrain.{Solver, top}
 
 -- "512 type variables and 2,048 kept term nodes"
 pub record Limits : Type 0 where
   pub variables : ℕ
   pub nodes : ℕ
 
-abbrev pub box : Limits
-box = record { variables = 512; nodes = 2048 }
+abbrev pub documentLimits : Limits
+documentLimits = record { variables = 512; nodes = 2048 }
 
 -- where a variable stands: the slot of a site, by orders 0 and 1, or a hole's site, by order 2
-pub data Place : Type 0 where
-  at : ℕ → ℕ → Place
-  gap : ℕ → Place
+pub data VariablePlace : Type 0 where
+  at : ℕ → ℕ → VariablePlace
+  gap : ℕ → VariablePlace
 
-unfoldable pub samePlace : Place → Place → Bool
+unfoldable pub samePlace : VariablePlace → VariablePlace → Bool
 samePlace (at s i) (at r j) = eqb s r && eqb i j
 samePlace (at s i) (gap r) = false
 samePlace (gap s) (at r j) = false
@@ -33,7 +33,7 @@ samePlace (gap s) (gap r) = eqb s r
 pub record Session : Type 0 where
   pub solver : Solver
   -- the places of the variables issued, the last first: a variable's id is the number of those issued before it
-  pub places : List Place
+  pub places : List VariablePlace
   pub deferred : ℕ → Bool
   pub kept : ℕ
 
@@ -41,7 +41,7 @@ abbrev pub issued : Session → ℕ
 issued s = length (s .places)
 
 -- `variables` and `holes`: the variable of a place
-unfoldable pub find : Place → List Place → Option ℕ
+unfoldable pub find : VariablePlace → List VariablePlace → Option ℕ
 find p [] = none
 find p (q ∷ qs) = pick (samePlace p q) (some (length qs)) (find p qs)
 
@@ -58,7 +58,7 @@ abbrev pub withSolver : Session → Solver → Session
 withSolver s z = record { solver = z; places = s .places; deferred = s .deferred; kept = s .kept }
 
 -- a new variable
-abbrev pub issueAt : Session → Place → Session
+abbrev pub issueAt : Session → VariablePlace → Session
 issueAt s p = record { solver = s .solver; places = p ∷ s .places; deferred = s .deferred; kept = s .kept }
 
 -- `self.numeric.insert(id, fallback)`: a repeated request overwrites

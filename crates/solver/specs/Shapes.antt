@@ -1,5 +1,4 @@
 -- The shape of a term: its tag, its numbers, and how many children stand where. What the solver compares before it takes two terms apart.
--- Assumes nothing.
 use mathlib.Core.Bool.{Bool, false, _||_}
 use mathlib.Core.List.{List, _++_}
 use Prim.Native.Nat.{ℕ, zero, suc}

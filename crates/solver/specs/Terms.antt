@@ -1,26 +1,26 @@
--- The definitions of the terms, handed on to the sheet, which names this crate alone. Assumes nothing.
+-- The definitions of the terms, handed on to the sheet, which names this crate alone.
 pub use Rattle.terms.specs.Result
 pub use Rattle.terms.specs.Number
 pub use Rattle.terms.specs.Parser
-pub use Rattle.terms.specs.Tokens
+pub use Rattle.terms.specs.Words.Tokens
 pub use Rattle.terms.specs.Term
-pub use Rattle.terms.specs.Held
+pub use Rattle.terms.specs.Words.Held
 pub use Rattle.terms.specs.Shape
 pub use Rattle.terms.specs.Formed
 pub use Rattle.terms.specs.Reading
-pub use Rattle.terms.specs.Done
-pub use Rattle.terms.specs.Lent
-pub use Rattle.terms.specs.Wanting
+pub use Rattle.terms.specs.Words.ReadContract
+pub use Rattle.terms.specs.Words.StepCodes
+pub use Rattle.terms.specs.Words.ReaderContract
 pub use Rattle.terms.specs.Tree
 pub use Rattle.terms.specs.Questions
-pub use Rattle.terms.specs.Views
+pub use Rattle.terms.specs.Comparison
 pub use Rattle.terms.specs.Substitution
 pub use Rattle.terms.specs.Recovery
 pub use Rattle.terms.specs.Parameters
-pub use Rattle.terms.specs.Placed
+pub use Rattle.terms.specs.Words.TermsAtPlaces
 pub use Rattle.terms.specs.Rows
-pub use Rattle.terms.specs.Rewriting
+pub use Rattle.terms.specs.Words.RewriteContract
 pub use Rattle.terms.specs.Normal
-pub use Rattle.terms.specs.View
+pub use Rattle.terms.specs.Words.VirtualTokens
 pub use Rattle.terms.specs.Lookup
-pub use Rattle.terms.specs.Normalising
+pub use Rattle.terms.specs.Words.NormalContract

@@ -17,9 +17,9 @@ ghost use Rattle.terms.specs.Term.{Term, var, bytes};
 ghost use Rattle.solver.specs.Shapes.{Notion};
 ghost use Rattle.solver.specs.Session.{Session};
 ghost use Rattle.solver.specs.Orders as orders;
-ghost use Rattle.solver.specs.Work.{Zero};
-ghost use Rattle.solver.specs.Lent.{limitsOf, Lent};
-ghost use Rattle.solver.specs.Behind.{Asked, Starts, Frames, resolvedTo};
+ghost use Rattle.solver.specs.Words.Worklist.{Zero};
+ghost use Rattle.solver.specs.Words.SessionRepresentation.{limitsOf, Represents};
+ghost use Rattle.solver.specs.Words.OrderTerms.{Asked, Starts, Frames, resolvedTo};
 
 // How many bytes a variable has.
 pub fn variable_len(v: u32) -> usize
@@ -43,8 +43,9 @@ impl Solver {
     pub fn revision(self) -> usize
         ensures count { λ r. ⌜ r ≡ self .revision ⌝ }
         ensures held { λ r. ⌜
-            ((ks vs ts : List ℕ) (s : Session) (n : Notion) → Lent self ks vs ts s → orders.order (limitsOf self) n s orders.revision .reply ≡ orders.count r)
-            ⌝ }
+            ((ks vs ts : List ℕ) (s : Session) (n : Notion)
+            → Represents self ks vs ts s
+            → orders.order (limitsOf self) n s orders.revision .reply ≡ orders.count r) ⌝ }
     {
         self.revision
     }

@@ -1,8 +1,8 @@
-// `constrain`: the Rust's loop over pending pairs, a check each. The pairs stand behind the columns of the table, two places a pair; the last
+// `constrain`: the Rust's loop over pending pairs, a check each. The pairs stand after the columns of the table, two places a pair; the last
 // is taken first.
+use super::Checked;
 use super::Solved;
 use super::Solver;
-use super::Turn;
 use super::Verdict;
 use super::equality::same_terms;
 use super::families::admissible;
@@ -13,7 +13,7 @@ use super::pending::same_shape;
 use super::pending::take_pair;
 use super::reach::occurs;
 use super::reach::recovers;
-use super::top::top_at;
+use super::top::shallow_resolve;
 ghost use mathlib.Core.Path.{_≡_};
 ghost use mathlib.Core.Bool.{_||_};
 ghost use mathlib.Core.List.{List};
@@ -22,13 +22,13 @@ ghost use lib.Dec.{eqb};
 ghost use lib.ListN.{length, drop};
 ghost use Rattle.terms.specs.Term.{Term, size};
 ghost use Rattle.solver.specs.Shapes.{sameShape};
-ghost use Rattle.solver.specs.Solving as solving;
-ghost use Rattle.solver.specs.Solving.{Pair, recovery, projects, part};
+ghost use Rattle.solver.specs.Constrain as solving;
+ghost use Rattle.solver.specs.Constrain.{Pair, recovery, projects, decompose};
 ghost use Rattle.solver.specs.Session.{Limits, Session, keep};
-ghost use Rattle.solver.specs.Work.{Zero};
-ghost use Rattle.solver.specs.Lent.{notion, Arises, Lent};
-ghost use Rattle.solver.specs.Behind.{PosesPair};
-ghost use Rattle.solver.specs.Turning.{Waiting, Known, Scratch, Facing, Nodes, Due, After, Constrained, pendingFrom};
+ghost use Rattle.solver.specs.Words.Worklist.{Zero};
+ghost use Rattle.solver.specs.Words.SessionRepresentation.{notion, Reachable, Represents};
+ghost use Rattle.solver.specs.Words.OrderTerms.{PosesPair};
+ghost use Rattle.solver.specs.Words.ConstrainContract.{Waiting, Known, Scratch, Facing, Nodes, Due, After, Constrained, pendingFrom};
 
 // Whether a token is the head of an Unknown or Error, or another is.
 pub fn either_recovers(left: u32, right: u32) -> bool
@@ -48,7 +48,7 @@ pub fn either_recovers(left: u32, right: u32) -> bool
 
 impl Solver {
     // The unbound variable v meets the term at q, which is a top: recovery, then the family, then whether the variable occurs.
-    pub fn assign(
+    pub fn unify_variable(
         self,
         kinds: &[u32],
         vals: &[u32],
@@ -57,7 +57,7 @@ impl Solver {
         v: u32,
         q: usize,
         count: usize,
-    ) -> Turn
+    ) -> Checked
         requires faces { ⌜ ((s : Session) × (t : Term) × Facing self (now kinds) (now vals) (now tables) s v q t) ⌝ }
         requires room { ⌜ Scratch self (now kinds) (now tables) (now work) ⌝ }
         ensures after { λ r. ⌜
@@ -70,28 +70,28 @@ impl Solver {
     {
         let m = self.variables;
         if recovers(kinds, vals, &tables[..m], q, work) {
-            return Turn {
+            return Checked {
                 solver: self,
                 good: true,
                 count,
             };
         }
         if !admissible(kinds, vals, tables, m, v, q) {
-            return Turn {
+            return Checked {
                 solver: self,
                 good: false,
                 count,
             };
         }
         if occurs(kinds, vals, &tables[..m], q, v, work) {
-            return Turn {
+            return Checked {
                 solver: self,
                 good: false,
                 count,
             };
         }
         let next = self.bind(kinds, vals, tables, v, q);
-        Turn {
+        Checked {
             solver: next,
             good: true,
             count,
@@ -99,7 +99,7 @@ impl Solver {
     }
 
     // The nodes at a and b: recovery, then projections, then the shapes.
-    pub fn take_apart(
+    pub fn decompose(
         self,
         kinds: &[u32],
         vals: &[u32],
@@ -108,35 +108,35 @@ impl Solver {
         b: usize,
         strict: bool,
         count: usize,
-    ) -> Turn
+    ) -> Checked
         requires nodes { ⌜ ((t u : Term) × Nodes self (now kinds) (now vals) a b count t u) ⌝ }
         requires room { ⌜
             (pendingFrom self + 2 * (32 + self .nodes) ≤ length (now tables)) × (length (now kinds) < 4294967296) × (length (now vals) ≡ length (now kinds))
             × (length (now tables) < 4294967296) ⌝ }
         ensures after { λ r. ⌜
             ((s : Session) (t u : Term) (ps : List Pair)
-            → Lent self (now (kinds .entry)) (now (vals .entry)) (now (tables .entry)) s
+            → Represents self (now (kinds .entry)) (now (vals .entry)) (now (tables .entry)) s
             → Nodes self (now (kinds .entry)) (now (vals .entry)) a b count t u
             → Waiting self (now (kinds .entry)) (now (vals .entry)) (now (tables .entry)) count ps
             → After self (now (kinds .entry)) (now (vals .entry)) (now (tables .entry)) (now (tables .exit)) s t u count
-            (part (s .solver) t u ps (recovery t || recovery u) (projects t) (sameShape (notion strict) t u)) r) ⌝ }
+            (decompose (s .solver) t u ps (recovery t || recovery u) (projects t) (sameShape (notion strict) t u)) r) ⌝ }
     {
         if either_recovers(kinds[a], kinds[b]) {
-            return Turn {
+            return Checked {
                 solver: self,
                 good: true,
                 count,
             };
         }
         if kinds[a] == 20 {
-            return Turn {
+            return Checked {
                 solver: self,
                 good: false,
                 count,
             };
         }
         if !same_shape(kinds, vals, a, b, strict) {
-            return Turn {
+            return Checked {
                 solver: self,
                 good: false,
                 count,
@@ -144,7 +144,7 @@ impl Solver {
         }
         let base = 7 * self.variables;
         let top = push_children(kinds, vals, a, b, tables, base, count);
-        Turn {
+        Checked {
             solver: self,
             good: true,
             count: top,
@@ -152,7 +152,7 @@ impl Solver {
     }
 
     // One check: the pair at i and j, with `count` pairs pending below it.
-    pub fn turn(
+    pub fn check_pair(
         self,
         kinds: &[u32],
         vals: &[u32],
@@ -162,7 +162,7 @@ impl Solver {
         j: usize,
         strict: bool,
         count: usize,
-    ) -> Turn
+    ) -> Checked
         requires due { ⌜ ((s : Session) × (t u : Term) × Due (notion strict) self (now kinds) (now vals) (now tables) s i j count t u) ⌝ }
         requires room { ⌜ Scratch self (now kinds) (now tables) (now work) ⌝ }
         ensures after { λ r. ⌜
@@ -170,27 +170,27 @@ impl Solver {
             → Due (notion strict) self (now (kinds .entry)) (now (vals .entry)) (now (tables .entry)) s i j count t u
             → Waiting self (now (kinds .entry)) (now (vals .entry)) (now (tables .entry)) count ps
             → After self (now (kinds .entry)) (now (vals .entry)) (now (tables .entry)) (now (tables .exit)) s (solving.top (s .solver) t)
-            (solving.top (s .solver) u) count (solving.turn (notion strict) (s .solver) t u ps) r) ⌝ }
+            (solving.top (s .solver) u) count (solving.checkPair (notion strict) (s .solver) t u ps) r) ⌝ }
         ensures clear { λ _. ⌜ Zero (now (work .exit)) ⌝ }
     {
         let m = self.variables;
         let most = self.revision;
         if same_terms(kinds, vals, &tables[..m], most, i, j, work) {
-            return Turn {
+            return Checked {
                 solver: self,
                 good: true,
                 count,
             };
         }
-        let a = top_at(kinds, vals, &tables[..m], most, i);
-        let b = top_at(kinds, vals, &tables[..m], most, j);
+        let a = shallow_resolve(kinds, vals, &tables[..m], most, i);
+        let b = shallow_resolve(kinds, vals, &tables[..m], most, j);
         if kinds[a] == 1 {
-            return self.assign(kinds, vals, tables, work, vals[a], b, count);
+            return self.unify_variable(kinds, vals, tables, work, vals[a], b, count);
         }
         if kinds[b] == 1 {
-            return self.assign(kinds, vals, tables, work, vals[b], a, count);
+            return self.unify_variable(kinds, vals, tables, work, vals[b], a, count);
         }
-        self.take_apart(kinds, vals, tables, a, b, strict, count)
+        self.decompose(kinds, vals, tables, a, b, strict, count)
     }
 
     // The loop: the terms at p and q are constrained to be equal, with k checks.
@@ -206,13 +206,13 @@ impl Solver {
         strict: bool,
     ) -> Solved
         requires held { ⌜
-            ((s : Session) × (lim : Limits) × (t u : Term) × Arises lim (notion strict) s × Lent self (now kinds) (now vals) (now tables) s
+            ((s : Session) × (lim : Limits) × (t u : Term) × Reachable lim (notion strict) s × Represents self (now kinds) (now vals) (now tables) s
             × Known (now kinds) (now vals) s p t × Known (now kinds) (now vals) s q u) ⌝ }
         requires room { ⌜ Scratch self (now kinds) (now tables) (now work) × Zero (drop (pendingFrom self) (now tables)) ⌝ }
         ensures solved { λ r. ⌜
             ((s : Session) (lim : Limits) (t u : Term)
-            → Arises lim (notion strict) s
-            → Lent self (now (kinds .entry)) (now (vals .entry)) (now (tables .entry)) s
+            → Reachable lim (notion strict) s
+            → Represents self (now (kinds .entry)) (now (vals .entry)) (now (tables .entry)) s
             → Known (now (kinds .entry)) (now (vals .entry)) s p t
             → Known (now (kinds .entry)) (now (vals .entry)) s q u
             → Constrained self (now (kinds .entry)) (now (vals .entry)) (now (tables .exit)) s (solving.constrain (notion strict) k (s .solver) t u) r) ⌝ }
@@ -235,7 +235,7 @@ impl Solver {
             let pair = take_pair(tables, base, count);
             let i = pair.left;
             let j = pair.right;
-            let r = self.turn(kinds, vals, tables, work, i, j, strict, count);
+            let r = self.check_pair(kinds, vals, tables, work, i, j, strict, count);
             self = r.solver;
             count = r.count;
             let good = r.good;
@@ -254,7 +254,7 @@ impl Solver {
             verdict: Verdict::Incompatible,
         }
     }
-    // Order 4: the two terms behind the session's tokens, the second at q, are constrained to be equal, with k checks; `nodes` are kept with
+    // Order 4: the two terms after the session's tokens, the second at q, are constrained to be equal, with k checks; `nodes` are kept with
     // theirs, and their tokens are the session's from now on.
     pub fn constrain(
         mut self,

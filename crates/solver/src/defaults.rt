@@ -1,7 +1,7 @@
 // Orders 3, 6 and 7: deferrals and defaults. The builtin with the code c stands at 2 * c of the areas.
 use super::Solver;
 use super::resolving::named_run;
-use super::top::top_at;
+use super::top::shallow_resolve;
 use super::words::wide;
 ghost use mathlib.Core.Path.{_≡_};
 ghost use mathlib.Core.Option.{Option};
@@ -9,16 +9,16 @@ ghost use Prim.Native.Nat.{ℕ, _+_, _*_, _^_, _≤_, _<_};
 ghost use lib.ListN.{length, take};
 ghost use Rattle.terms.specs.Term.{Term, var};
 ghost use Rattle.solver.specs.Shapes.{Notion};
-ghost use Rattle.solver.specs.Solving.{follow, resolved};
+ghost use Rattle.solver.specs.Constrain.{follow, resolved};
 ghost use Rattle.solver.specs.Session.{Session, issued, withSolver, deferring};
 ghost use Rattle.solver.specs.Orders as orders;
-ghost use Rattle.solver.specs.Bindings.{HeldBindings};
-ghost use Rattle.solver.specs.Lent.{limitsOf, Lent};
-ghost use Rattle.solver.specs.Behind.{Poses};
-ghost use Rattle.solver.specs.Methods.{Shaped, Beside, Low, EndsAt, settleWord, defaultWord, defaulted};
+ghost use Rattle.solver.specs.Words.Bindings.{HeldBindings};
+ghost use Rattle.solver.specs.Words.SessionRepresentation.{limitsOf, Represents};
+ghost use Rattle.solver.specs.Words.OrderTerms.{Poses};
+ghost use Rattle.solver.specs.Words.MethodContract.{Shaped, Beside, Low, EndsAt, settleWord, defaultWord, defaulted};
 
 // The variable at the end of the chain of bindings from v on, or the length of the table where the chain ends at no variable of the table.
-pub fn end_of(kinds: &[u32], vals: &[u32], bound: &[u32], most: usize, v: usize) -> usize
+pub fn root_of(kinds: &[u32], vals: &[u32], bound: &[u32], most: usize, v: usize) -> usize
     requires { ⌜ (v < length (now bound)) × (length (now vals) ≡ length (now kinds)) ⌝ }
     ensures { λ r. ⌜
         ((b : ℕ → Option Term)
@@ -34,7 +34,7 @@ pub fn end_of(kinds: &[u32], vals: &[u32], bound: &[u32], most: usize, v: usize)
     if len == 0 {
         return v;
     }
-    let q = top_at(kinds, vals, bound, most - 1, at);
+    let q = shallow_resolve(kinds, vals, bound, most - 1, at);
     if kinds[q] != 1 {
         return bound.len();
     }
@@ -60,19 +60,19 @@ fn default_word(tables: &[u32], m: usize, v: usize, never: bool) -> usize
 }
 
 impl Solver {
-    // Order 3: the variable that the term behind the session's tokens stands for, if it stands for one, is deferred.
+    // Order 3: the variable that the term after the session's tokens stands for, if it stands for one, is deferred.
     pub fn defer_never(self, kinds: &[u32], vals: &[u32], tables: &mut [u32]) -> Solver
         requires { ⌜ ((n : Notion) × (s : Session) × (t : Term) × Poses n self (now kinds) (now vals) (now tables) s t) ⌝ }
         ensures held { λ r. ⌜
             ((n : Notion) (s : Session) (t : Term)
             → Poses n self (now (kinds .entry)) (now (vals .entry)) (now (tables .entry)) s t
-            → Lent r (take (self .top) (now (kinds .entry))) (take (self .top) (now (vals .entry))) (now (tables .exit)) (deferring s (resolved (s .solver) t)))
-            ⌝ }
+            → Represents r (take (self .top) (now (kinds .entry))) (take (self .top) (now (vals .entry))) (now (tables .exit))
+            (deferring s (resolved (s .solver) t))) ⌝ }
         ensures beside { λ r. ⌜ Beside self r (now (tables .entry)) (now (tables .exit)) ⌝ }
     {
         let m = self.variables;
         let most = self.revision;
-        let q = top_at(kinds, vals, &tables[..m], most, self.top);
+        let q = shallow_resolve(kinds, vals, &tables[..m], most, self.top);
         if kinds[q] == 1 {
             let v = wide(vals[q]);
             if v < m {
@@ -83,7 +83,7 @@ impl Solver {
     }
 
     // Binds the variable that v leads to, if it leads to one, to the builtin that a word names: 0 names none, c + 1 the one with the code c.
-    pub fn settle_at(
+    pub fn bind_default(
         mut self,
         kinds: &[u32],
         vals: &[u32],
@@ -96,9 +96,9 @@ impl Solver {
         ensures held { λ r. ⌜
             ((s : Session)
             → word ≤ 32
-            → Lent self (now (kinds .entry)) (now (vals .entry)) (now (tables .entry)) s
+            → Represents self (now (kinds .entry)) (now (vals .entry)) (now (tables .entry)) s
             → Low (self .variables) (s .solver .bindings)
-            → Lent r (now (kinds .entry)) (now (vals .entry)) (now (tables .exit)) (withSolver s (settleWord (s .solver) v word))) ⌝ }
+            → Represents r (now (kinds .entry)) (now (vals .entry)) (now (tables .exit)) (withSolver s (settleWord (s .solver) v word))) ⌝ }
         ensures steps { λ r. ⌜ (r .revision ≤ self .revision + 1) × (r .issued ≡ self .issued) ⌝ }
         ensures beside { λ r. ⌜ Beside self r (now (tables .entry)) (now (tables .exit)) ⌝ }
     {
@@ -110,7 +110,7 @@ impl Solver {
         }
         let m = self.variables;
         let most = self.revision;
-        let w = end_of(kinds, vals, &tables[..m], most, v);
+        let w = root_of(kinds, vals, &tables[..m], most, v);
         if m <= w {
             return self;
         }
@@ -131,9 +131,9 @@ impl Solver {
         requires areas { ⌜ (self .revision < 2 ^ 32) × (length (now vals) ≡ length (now kinds)) ⌝ }
         ensures held { λ r. ⌜
             ((s : Session)
-            → Lent self (now (kinds .entry)) (now (vals .entry)) (now (tables .entry)) s
+            → Represents self (now (kinds .entry)) (now (vals .entry)) (now (tables .entry)) s
             → Low (self .variables) (s .solver .bindings)
-            → Lent r (now (kinds .entry)) (now (vals .entry)) (now (tables .exit)) (withSolver s (defaulted never (issued s) s))) ⌝ }
+            → Represents r (now (kinds .entry)) (now (vals .entry)) (now (tables .exit)) (withSolver s (defaulted never (issued s) s))) ⌝ }
         ensures beside { λ r. ⌜ Beside self r (now (tables .entry)) (now (tables .exit)) ⌝ }
     {
         let m = self.variables;
@@ -141,7 +141,7 @@ impl Solver {
         let mut v = 0;
         while v < n {
             let word = default_word(tables, m, v, never);
-            self = self.settle_at(kinds, vals, tables, v, word);
+            self = self.bind_default(kinds, vals, tables, v, word);
             v += 1;
         }
         self
@@ -157,12 +157,12 @@ impl Solver {
         requires shape { ⌜ Shaped self (length (now tables)) ⌝ }
         requires areas { ⌜
             (self .revision < 2 ^ 32) × (length (now vals) ≡ length (now kinds))
-            × ((s : Session) × Lent self (now kinds) (now vals) (now tables) s × Low (self .variables) (s .solver .bindings)) ⌝ }
+            × ((s : Session) × Represents self (now kinds) (now vals) (now tables) s × Low (self .variables) (s .solver .bindings)) ⌝ }
         ensures held { λ r. ⌜
             ((s : Session) (n : Notion)
-            → Lent self (now (kinds .entry)) (now (vals .entry)) (now (tables .entry)) s
+            → Represents self (now (kinds .entry)) (now (vals .entry)) (now (tables .entry)) s
             → Low (self .variables) (s .solver .bindings)
-            → Lent r (now (kinds .entry)) (now (vals .entry)) (now (tables .exit)) (orders.order (limitsOf self) n s orders.numbers .session)) ⌝ }
+            → Represents r (now (kinds .entry)) (now (vals .entry)) (now (tables .exit)) (orders.order (limitsOf self) n s orders.numbers .session)) ⌝ }
         ensures beside { λ r. ⌜ Beside self r (now (tables .entry)) (now (tables .exit)) ⌝ }
     {
         self = self.apply_defaults(kinds, vals, tables, false);
@@ -174,12 +174,12 @@ impl Solver {
         requires shape { ⌜ Shaped self (length (now tables)) ⌝ }
         requires areas { ⌜
             (self .revision < 2 ^ 32) × (length (now vals) ≡ length (now kinds))
-            × ((s : Session) × Lent self (now kinds) (now vals) (now tables) s × Low (self .variables) (s .solver .bindings)) ⌝ }
+            × ((s : Session) × Represents self (now kinds) (now vals) (now tables) s × Low (self .variables) (s .solver .bindings)) ⌝ }
         ensures held { λ r. ⌜
             ((s : Session) (n : Notion)
-            → Lent self (now (kinds .entry)) (now (vals .entry)) (now (tables .entry)) s
+            → Represents self (now (kinds .entry)) (now (vals .entry)) (now (tables .entry)) s
             → Low (self .variables) (s .solver .bindings)
-            → Lent r (now (kinds .entry)) (now (vals .entry)) (now (tables .exit)) (orders.order (limitsOf self) n s orders.nevers .session)) ⌝ }
+            → Represents r (now (kinds .entry)) (now (vals .entry)) (now (tables .exit)) (orders.order (limitsOf self) n s orders.nevers .session)) ⌝ }
         ensures beside { λ r. ⌜ Beside self r (now (tables .entry)) (now (tables .exit)) ⌝ }
     {
         self = self.apply_defaults(kinds, vals, tables, true);

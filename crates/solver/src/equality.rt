@@ -1,9 +1,9 @@
-// Equality of resolved terms in polynomial time, by classes of token places: union-find without path compression, where a place hangs below
-// a lower one. A place hangs once, and only nodes hang, so there are fewer hangs than nodes; the row of each place that hangs is walked once.
-// The area `work` has a word for each place first, 0 where it heads its class and else y + 1 for the place y that it hangs below; then the
-// places that hang, in the order in which that happened.
-use super::Joint;
-use super::top::top_at;
+// Equality of resolved terms in polynomial time, by classes of token places: union-find without path compression, where a place is linked below
+// a lower one. A place is linked once, and only nodes are linked, so there are fewer links than nodes; the row of each place that is linked is walked once.
+// The area `work` has a word for each place first, 0 where it heads its class and else y + 1 for the place y that it is linked to; then the
+// places that are linked, in the order in which that happened.
+use super::Closure;
+use super::top::shallow_resolve;
 use super::words::wide;
 ghost use mathlib.Core.Bool.{true, false};
 ghost use mathlib.Core.List.{List};
@@ -12,15 +12,16 @@ ghost use mathlib.Core.Path.{_≡_};
 ghost use Prim.Native.Nat.{ℕ, _+_, _^_, _≤_, _<_};
 ghost use lib.ListN.{length, getD, set, take, drop};
 ghost use Rattle.terms.specs.Term.{Term, Parts, node};
-ghost use Rattle.terms.specs.Held.{Held, HeldParts, span};
+ghost use Rattle.terms.specs.Words.Held.{Held, HeldParts, span};
 ghost use Rattle.terms.specs.Tree.{same};
-ghost use Rattle.solver.specs.Solving.{resolve, follow};
-ghost use Rattle.solver.specs.Bindings.{HeldBindings};
-ghost use Rattle.solver.specs.Work.{Zero};
-ghost use Rattle.solver.specs.Reach.{Steady, Topped};
-ghost use Rattle.solver.specs.Lent.{begins};
-ghost use Rattle.solver.specs.Links.{linkWords, WiredIn, AdvancedIn, Clearing, Up, HeldSteady, standsFor, Standing, Coincide, Linked, Fair, Outcome};
-ghost use Rattle.solver.specs.Links.{Closed, TermsJoined, RowsJoined};
+ghost use Rattle.solver.specs.Constrain.{resolve, follow};
+ghost use Rattle.solver.specs.Words.Bindings.{HeldBindings};
+ghost use Rattle.solver.specs.Words.Worklist.{Zero};
+ghost use Rattle.solver.specs.Words.ReachContract.{Steady, Topped};
+ghost use Rattle.solver.specs.Words.SessionRepresentation.{begins};
+ghost use Rattle.solver.specs.Words.CongruenceClasses.{linkWords, WiredIn, AdvancedIn, Clearing, Up, HeldSteady, standsFor, Standing, Coincide, Linked};
+ghost use Rattle.solver.specs.Words.CongruenceClasses.{Fair, Outcome};
+ghost use Rattle.solver.specs.Words.CongruenceClasses.{Closed, TermsJoined, RowsJoined};
 
 // How many tokens the term at i has, at least 1 and at most `room`.
 fn skip(kinds: &[u32], vals: &[u32], i: usize, room: usize) -> usize
@@ -56,8 +57,8 @@ fn find(n: usize, work: &[u32], a: usize) -> usize
     r
 }
 
-// Hangs the place x below the lower place y, as the entry `top` of the queue.
-fn hang(n: usize, work: &mut [u32], top: usize, x: usize, y: usize)
+// Links the place x below the lower place y, as the entry `top` of the queue.
+fn link(n: usize, work: &mut [u32], top: usize, x: usize, y: usize)
     requires { ⌜ (x < n) × (y < x) × (n < 2 ^ 32) × (n + top < length (now work)) ⌝ }
     ensures { λ _. ⌜
         (take n (now (work .exit)) ≡ set (take n (now (work .entry))) x (y + 1)) × (drop n (now (work .exit)) ≡ set (drop n (now (work .entry))) top x) ⌝ }
@@ -67,7 +68,7 @@ fn hang(n: usize, work: &mut [u32], top: usize, x: usize, y: usize)
 }
 
 // Puts the nodes at a and b, of one tag, into one class.
-fn unite(kinds: &[u32], a: usize, b: usize, work: &mut [u32], top: usize) -> usize
+fn union_classes(kinds: &[u32], a: usize, b: usize, work: &mut [u32], top: usize) -> usize
     requires places { ⌜
         (a < length (now kinds)) × (b < length (now kinds)) × (length (now kinds) < 2 ^ 32) × (2 ≤ getD (now kinds) a 0)
         × (getD (now kinds) a 0 ≡ getD (now kinds) b 0) ⌝ }
@@ -86,18 +87,18 @@ fn unite(kinds: &[u32], a: usize, b: usize, work: &mut [u32], top: usize) -> usi
     let x = find(n, work, a);
     let y = find(n, work, b);
     if x < y {
-        hang(n, work, top, y, x);
+        link(n, work, top, y, x);
         return top + 1;
     }
     if y < x {
-        hang(n, work, top, x, y);
+        link(n, work, top, x, y);
         return top + 1;
     }
     top
 }
 
 // Puts the terms at i and j into one class, unless their tops differ.
-fn join(
+fn union_terms(
     kinds: &[u32],
     vals: &[u32],
     bound: &[u32],
@@ -106,7 +107,7 @@ fn join(
     j: usize,
     work: &mut [u32],
     top: usize,
-) -> Joint
+) -> Closure
     requires places { ⌜ (i < length (now kinds)) × (j < length (now kinds)) × (length (now vals) ≡ length (now kinds)) × (length (now kinds) < 2 ^ 32) ⌝ }
     requires wired { ⌜ WiredIn (now kinds) (now work) top ⌝ }
     ensures advanced { λ r. ⌜ AdvancedIn (now (kinds .entry)) (now (work .entry)) top (now (work .exit)) (r .top) ⌝ }
@@ -117,26 +118,26 @@ fn join(
         → Held (now (kinds .entry)) (now (vals .entry)) j u
         → TermsJoined (now (kinds .entry)) (now (vals .entry)) most b (now (work .entry)) (now (work .exit)) (r .equal) t u) ⌝ }
 {
-    let a = top_at(kinds, vals, bound, most, i);
-    let b = top_at(kinds, vals, bound, most, j);
+    let a = shallow_resolve(kinds, vals, bound, most, i);
+    let b = shallow_resolve(kinds, vals, bound, most, j);
     if kinds[a] != kinds[b] {
-        return Joint { equal: false, top };
+        return Closure { equal: false, top };
     }
     if kinds[a] < 2 {
         if vals[a] != vals[b] {
-            return Joint { equal: false, top };
+            return Closure { equal: false, top };
         }
-        return Joint { equal: true, top };
+        return Closure { equal: true, top };
     }
-    let next = unite(kinds, a, b, work, top);
-    Joint {
+    let next = union_classes(kinds, a, b, work, top);
+    Closure {
         equal: true,
         top: next,
     }
 }
 
 // Joins the terms of two rows of parts, one after the other, unless the rows differ in a number or in where their terms stand.
-fn join_rows(
+fn union_rows(
     kinds: &[u32],
     vals: &[u32],
     bound: &[u32],
@@ -147,7 +148,7 @@ fn join_rows(
     be: usize,
     work: &mut [u32],
     from: usize,
-) -> Joint
+) -> Closure
     requires places { ⌜
         (a ≤ ae) × (ae ≤ length (now kinds)) × (b ≤ be) × (be ≤ length (now kinds)) × (length (now vals) ≡ length (now kinds)) × (length (now kinds) < 2 ^ 32)
         ⌝ }
@@ -165,39 +166,39 @@ fn join_rows(
     let mut top = from;
     while i < ae {
         if be <= j {
-            return Joint { equal: false, top };
+            return Closure { equal: false, top };
         }
         if kinds[i] == 0 {
             if kinds[j] != 0 {
-                return Joint { equal: false, top };
+                return Closure { equal: false, top };
             }
             if vals[i] != vals[j] {
-                return Joint { equal: false, top };
+                return Closure { equal: false, top };
             }
             i += 1;
             j += 1;
         } else {
             if kinds[j] == 0 {
-                return Joint { equal: false, top };
+                return Closure { equal: false, top };
             }
-            let r = join(kinds, vals, bound, most, i, j, work, top);
+            let r = union_terms(kinds, vals, bound, most, i, j, work, top);
             top = r.top;
             let equal = r.equal;
             if !equal {
-                return Joint { equal: false, top };
+                return Closure { equal: false, top };
             }
             i += skip(kinds, vals, i, ae - i);
             j += skip(kinds, vals, j, be - j);
         }
     }
     if j < be {
-        return Joint { equal: false, top };
+        return Closure { equal: false, top };
     }
-    Joint { equal: true, top }
+    Closure { equal: true, top }
 }
 
 // Joins the parts of the nodes at x and y.
-fn join_parts(
+fn union_parts(
     kinds: &[u32],
     vals: &[u32],
     bound: &[u32],
@@ -206,7 +207,7 @@ fn join_parts(
     y: usize,
     work: &mut [u32],
     top: usize,
-) -> Joint
+) -> Closure
     requires places { ⌜ (x < length (now kinds)) × (y < length (now kinds)) × (length (now vals) ≡ length (now kinds)) × (length (now kinds) < 2 ^ 32) ⌝ }
     requires wired { ⌜ WiredIn (now kinds) (now work) top ⌝ }
     ensures advanced { λ r. ⌜ AdvancedIn (now (kinds .entry)) (now (work .entry)) top (now (work .exit)) (r .top) ⌝ }
@@ -219,7 +220,7 @@ fn join_parts(
 {
     let n = skip(kinds, vals, x, kinds.len() - x);
     let m = skip(kinds, vals, y, kinds.len() - y);
-    join_rows(
+    union_rows(
         kinds,
         vals,
         bound,
@@ -233,15 +234,15 @@ fn join_parts(
     )
 }
 
-// Joins the parts of every place that hangs, those that come to hang on the way too, until a difference shows.
-fn close(
+// Joins the parts of every place that is linked, those that come to be linked on the way too, until a difference shows.
+fn close_congruence(
     kinds: &[u32],
     vals: &[u32],
     bound: &[u32],
     most: usize,
     work: &mut [u32],
     from: usize,
-) -> Joint
+) -> Closure
     requires areas { ⌜ (length (now vals) ≡ length (now kinds)) × (length (now kinds) < 2 ^ 32) ⌝ }
     requires wired { ⌜ WiredIn (now kinds) (now work) from ⌝ }
     ensures advanced { λ r. ⌜ AdvancedIn (now (kinds .entry)) (now (work .entry)) from (now (work .exit)) (r .top) ⌝ }
@@ -258,15 +259,15 @@ fn close(
     while done < top {
         let x = wide(work[n + done]);
         let y = wide(work[x]) - 1;
-        let r = join_parts(kinds, vals, bound, most, x, y, work, top);
+        let r = union_parts(kinds, vals, bound, most, x, y, work, top);
         top = r.top;
         let equal = r.equal;
         if !equal {
-            return Joint { equal: false, top };
+            return Closure { equal: false, top };
         }
         done += 1;
     }
-    Joint { equal: true, top }
+    Closure { equal: true, top }
 }
 
 // Joins the terms at p and q and all that follows from it.
@@ -278,7 +279,7 @@ fn decide(
     p: usize,
     q: usize,
     work: &mut [u32],
-) -> Joint
+) -> Closure
     requires places { ⌜ (p < length (now kinds)) × (q < length (now kinds)) × (length (now vals) ≡ length (now kinds)) × (length (now kinds) < 2 ^ 32) ⌝ }
     requires room { ⌜ (length (now kinds) + begins (now kinds) ≤ length (now work)) × Zero (now work) ⌝ }
     ensures wired { λ r. ⌜ WiredIn (now (kinds .entry)) (now (work .exit)) (r .top) ⌝ }
@@ -289,16 +290,16 @@ fn decide(
         → HeldSteady (now (kinds .entry)) (now (vals .entry)) (now (bound .entry)) most b
         → r .equal ≡ same (resolve most b t) (resolve most b u)) ⌝ }
 {
-    let r = join(kinds, vals, bound, most, p, q, work, 0);
+    let r = union_terms(kinds, vals, bound, most, p, q, work, 0);
     let top = r.top;
     let equal = r.equal;
     if !equal {
-        return Joint { equal: false, top };
+        return Closure { equal: false, top };
     }
-    close(kinds, vals, bound, most, work, top)
+    close_congruence(kinds, vals, bound, most, work, top)
 }
 
-// Sets the links of the places that hang, and the queue, back to 0.
+// Sets the links of the places that are linked, and the queue, back to 0.
 fn clear(n: usize, work: &mut [u32], top: usize)
     requires { ⌜ (n ≤ length (now work)) × Clearing (take n (now work)) (drop n (now work)) top ⌝ }
     ensures { λ _. ⌜ Zero (now (work .exit)) ⌝ }

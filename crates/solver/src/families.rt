@@ -8,10 +8,10 @@ ghost use Prim.Native.Nat.{ℕ, _+_, _*_, _^_, _≤_, _<_};
 ghost use lib.ListN.{length, getD};
 ghost use Rattle.terms.specs.Term.{Term, Held};
 ghost use Rattle.solver.specs.Families.{familyOf, belongs};
-ghost use Rattle.solver.specs.Solving.{Requests, admit};
+ghost use Rattle.solver.specs.Constrain.{Requests, admit};
 ghost use Rattle.solver.specs.Session.{Session, withSolver};
-ghost use Rattle.solver.specs.Lent.{requestWords, HeldRequest, Lent};
-ghost use Rattle.solver.specs.Methods.{Shaped, Beside, is-some, boundTo, atMost, Handed};
+ghost use Rattle.solver.specs.Words.SessionRepresentation.{requestWords, HeldRequest, Represents};
+ghost use Rattle.solver.specs.Words.MethodContract.{Shaped, Beside, is-some, boundTo, atMost, Handed};
 
 // A variable's request: 0 for none, c + 1 for the fallback c.
 pub fn request_word(tables: &[u32], m: usize, v: u32) -> u32
@@ -76,7 +76,7 @@ pub fn admissible(kinds: &[u32], vals: &[u32], tables: &[u32], m: usize, v: u32,
 }
 
 // The request of v goes on to the variable of a token, if v has one and the token is a variable of the table.
-pub fn hand_on(tables: &mut [u32], m: usize, v: usize, kind: u32, val: u32)
+pub fn propagate_request(tables: &mut [u32], m: usize, v: usize, kind: u32, val: u32)
     requires { ⌜ (v < m) × (7 * m ≤ length (now tables)) ⌝ }
     ensures { λ _. ⌜ Handed m v kind val (now (tables .entry)) (now (tables .exit)) ⌝ }
 {
@@ -110,17 +110,17 @@ impl Solver {
             × (self .revision < 2 ^ 33) ⌝ }
         ensures held { λ r. ⌜
             ((s : Session) (t : Term) (rs : Requests)
-            → Lent self (now (kinds .entry)) (now (vals .entry)) (now (tables .entry)) s
+            → Represents self (now (kinds .entry)) (now (vals .entry)) (now (tables .entry)) s
             → Held (now (kinds .entry)) (now (vals .entry)) q t
             → atMost (self .variables) t
             → admit (s .solver .requests) (s .solver .requests v) t ≡ some rs
-            → Lent r (now (kinds .entry)) (now (vals .entry)) (now (tables .exit)) (withSolver s (boundTo (s .solver) v t rs))) ⌝ }
+            → Represents r (now (kinds .entry)) (now (vals .entry)) (now (tables .exit)) (withSolver s (boundTo (s .solver) v t rs))) ⌝ }
         ensures counts { λ r. ⌜ (r .revision ≡ self .revision + 1) × (r .issued ≡ self .issued) × (r .kept ≡ self .kept) ⌝ }
         ensures beside { λ r. ⌜ Beside self r (now (tables .entry)) (now (tables .exit)) ⌝ }
     {
         let m = self.variables;
         let at = wide(v);
-        hand_on(tables, m, at, kinds[q], vals[q]);
+        propagate_request(tables, m, at, kinds[q], vals[q]);
         tables[at] = (q + 1) as u32;
         self.revision += 1;
         self

@@ -12,12 +12,12 @@ ghost use mathlib.Core.Path.{_≡_};
 ghost use Prim.Native.Nat.{_<_};
 ghost use Rattle.terms.specs.Number.{number};
 ghost use Rattle.terms.specs.Parameters.{parameters};
-ghost use Rattle.terms.specs.Tokens.{area};
-ghost use Rattle.terms.specs.Lent.{place};
-ghost use Rattle.terms.specs.Done.{Room};
-ghost use Rattle.terms.specs.Wanting.{Space};
+ghost use Rattle.terms.specs.Words.Tokens.{area};
+ghost use Rattle.terms.specs.Words.StepCodes.{place};
+ghost use Rattle.terms.specs.Words.ReadContract.{Room};
+ghost use Rattle.terms.specs.Words.ReaderContract.{Space};
 ghost use Rattle.terms.specs.Lookup.{putRule};
-ghost use Rattle.solver.specs.Handing.{NumberSaid, PassedSaid, StepSaid, PartRead, ListKept, ListRead};
+ghost use Rattle.solver.specs.Words.HandingContract.{NumberSaid, PassedSaid, StepSaid, PartRead, ListKept, ListRead};
 
 // A number of at most `most`.
 pub fn number_at(s: &[u8], at: &mut usize, value: &mut u64, most: u64) -> u8

@@ -63,8 +63,8 @@ pub struct Reached {
     pub top: usize,
 }
 
-// Whether no difference was seen, and how many places hang.
-pub struct Joint {
+// Whether no difference was seen, and how many places are linked.
+pub struct Closure {
     pub equal: bool,
     pub top: usize,
 }
@@ -132,7 +132,7 @@ pub struct Solved {
 }
 
 // The solver after a check, whether the pair is compatible so far, and how many pairs are pending.
-pub struct Turn {
+pub struct Checked {
     pub solver: Solver,
     pub good: bool,
     pub count: usize,

@@ -7,12 +7,12 @@ ghost use Prim.Native.Nat.{_+_, _≤_, _<_};
 ghost use lib.ListN.{length};
 ghost use lib.Seq.{sets};
 ghost use Rattle.terms.specs.Term.{Term, Parts, node, bytes, Held};
-ghost use Rattle.terms.specs.Tokens.{area, blank};
-ghost use Rattle.terms.specs.View.{Sight};
+ghost use Rattle.terms.specs.Words.Tokens.{area, blank};
+ghost use Rattle.terms.specs.Words.VirtualTokens.{Sight};
 ghost use Rattle.terms.specs.Lookup.{Pattern, Ruled, byPatterns, through};
 ghost use Rattle.terms.specs.Normal.{normalise, levels, visits, most};
-ghost use Rattle.terms.specs.Normalising.{Lends, Stands, Answers, Leaves, RuledAt, OwnedAt, KeptAt};
-ghost use Rattle.solver.specs.Handing.{readyOf, normalisedOf};
+ghost use Rattle.terms.specs.Words.NormalContract.{Lends, Stands, Answers, Leaves, RuledAt, OwnedAt, KeptAt};
+ghost use Rattle.solver.specs.Words.HandingContract.{readyOf, normalisedOf};
 
 // The terms' answer.
 fn handed(r: terms::Normalised) -> Normalised
@@ -94,7 +94,7 @@ pub fn with_associated_types(
     handed(terms::with_associated_types(kinds, vals, heads, kids, p, interface, owner, out, at))
 }
 
-// Writes what `normalise` or `with_associated_types` has kept at a position, clears its records, and returns the position behind it.
+// Writes what `normalise` or `with_associated_types` has kept at a position, clears its records, and returns the position after it.
 pub fn write_normalised(
     kinds: &[u32],
     vals: &[u32],

@@ -10,11 +10,11 @@ ghost use Prim.Native.Nat.{ℕ, _+_, _*_, _^_, _≤_, _<_};
 ghost use lib.Dec.{eqb};
 ghost use lib.ListN.{length, getD};
 ghost use Rattle.terms.specs.Term.{Parts, node, Held};
-ghost use Rattle.terms.specs.Held.{HeldParts};
+ghost use Rattle.terms.specs.Words.Held.{HeldParts};
 ghost use Rattle.terms.specs.Tree.{nums, children};
 ghost use Rattle.solver.specs.Shapes.{sameShape};
-ghost use Rattle.solver.specs.Lent.{notion};
-ghost use Rattle.solver.specs.Pending.{Laid, Taken, Wiped, places, PushedPairs, Twins, agree, here, window, PartEnd, NumberAt};
+ghost use Rattle.solver.specs.Words.SessionRepresentation.{notion};
+ghost use Rattle.solver.specs.Words.PendingContract.{Laid, Taken, Wiped, places, PushedPairs, Twins, agree, here, window, PartEnd, NumberAt};
 
 // Where the part at i ends, or end where it would go past it.
 pub fn part_end(kinds: &[u32], vals: &[u32], i: usize, end: usize) -> usize

@@ -11,13 +11,13 @@ ghost use mathlib.Core.Bool.{true, _||_};
 ghost use mathlib.Core.Option.{Option, none};
 ghost use Prim.Native.Nat.{ℕ, suc, _+_, _^_, _≤_, _<_};
 ghost use lib.ListN.{length, take, drop};
-ghost use Rattle.terms.specs.Tokens.{toks};
+ghost use Rattle.terms.specs.Words.Tokens.{toks};
 ghost use Rattle.terms.specs.Term.{Term, Held};
-ghost use Rattle.solver.specs.Solving.{resolve};
-ghost use Rattle.solver.specs.Solving as solving;
-ghost use Rattle.solver.specs.Bindings.{HeldBindings};
-ghost use Rattle.solver.specs.Work.{Zero, Work, Grown};
-ghost use Rattle.solver.specs.Reach.{counts, has, runOf, Told, asked, Steady, Free};
+ghost use Rattle.solver.specs.Constrain.{resolve};
+ghost use Rattle.solver.specs.Constrain as solving;
+ghost use Rattle.solver.specs.Words.Bindings.{HeldBindings};
+ghost use Rattle.solver.specs.Words.Worklist.{Zero, Work, Grown};
+ghost use Rattle.solver.specs.Words.ReachContract.{counts, has, runOf, Told, asked, Steady, Free};
 
 // Whether a token is what is asked for, or one before it was.
 pub fn seen(kind: u32, val: u32, want: usize, before: bool) -> bool

@@ -11,11 +11,11 @@ ghost use Prim.Native.Nat.{ℕ, min, _+_, _^_, _≤_, _<_};
 ghost use lib.ListN.{length};
 ghost use lib.Seq.{sets};
 ghost use Rattle.terms.specs.Term.{Term, Held, bytes};
-ghost use Rattle.solver.specs.Solving.{resolve};
-ghost use Rattle.solver.specs.Walk.{Named, Entered, walked, flatBytes, resolvedBytes};
-ghost use Rattle.solver.specs.Frames.{stand, Sound, Settled, Apart, Cleared};
-ghost use Rattle.solver.specs.Bindings.{HeldBindings};
-ghost use Rattle.solver.specs.Work.{Zero};
+ghost use Rattle.solver.specs.Constrain.{resolve};
+ghost use Rattle.solver.specs.Words.ResolveWalk.{Named, Entered, walked, flatBytes, resolvedBytes};
+ghost use Rattle.solver.specs.Words.ResolveFrames.{stand, Sound, Settled, Apart, Cleared};
+ghost use Rattle.solver.specs.Words.Bindings.{HeldBindings};
+ghost use Rattle.solver.specs.Words.Worklist.{Zero};
 
 // The run that a word of the table names, of len 0 where it names none.
 pub fn named_run(kinds: &[u32], vals: &[u32], word: usize) -> Run

@@ -7,7 +7,7 @@ ghost use Prim.Native.Nat.{ℕ, _+_, _<_};
 ghost use lib.ListN.{length, replicate};
 ghost use Rattle.terms.specs.Term.{node, num, end, Held};
 ghost use Rattle.solver.specs.Session.{Session, fresh};
-ghost use Rattle.solver.specs.Whole.{Holds, counters, FreshRoom};
+ghost use Rattle.solver.specs.Words.SessionsContract.{Holds, counters, FreshRoom};
 
 // Sets every word to 0.
 pub fn clear(words: &mut [u32])

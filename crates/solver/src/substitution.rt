@@ -3,8 +3,8 @@ use super::Binders;
 ghost use mathlib.Core.Path.{_≡_};
 ghost use Prim.Native.Nat.{_<_};
 ghost use lib.ListN.{length};
-ghost use Rattle.terms.specs.Rewriting.{written, Ready, Space, Writes, Rewrites, forInstance, forContext, forFamily};
-ghost use Rattle.solver.specs.Handing.{bindersOf};
+ghost use Rattle.terms.specs.Words.RewriteContract.{written, Ready, Space, Writes, Rewrites, forInstance, forContext, forFamily};
+ghost use Rattle.solver.specs.Words.HandingContract.{bindersOf};
 
 // What takes the place of binders in `instantiate`.
 pub fn instantiation(entries: usize, receivers: usize, finish: usize) -> Binders

@@ -5,11 +5,11 @@ ghost use mathlib.Core.Path.{_≡_};
 ghost use Prim.Native.Nat.{ℕ, _<_};
 ghost use lib.ListN.{length};
 ghost use Rattle.terms.specs.Term.{Term, Held};
-ghost use Rattle.solver.specs.Solving.{follow};
-ghost use Rattle.solver.specs.Bindings.{HeldBindings};
+ghost use Rattle.solver.specs.Constrain.{follow};
+ghost use Rattle.solver.specs.Words.Bindings.{HeldBindings};
 
 // The place of the term that the term at p stands for: where it is a bound variable, its term, and so on, at most `most` times.
-pub fn top_at(kinds: &[u32], vals: &[u32], bound: &[u32], most: usize, p: usize) -> usize
+pub fn shallow_resolve(kinds: &[u32], vals: &[u32], bound: &[u32], most: usize, p: usize) -> usize
     requires { ⌜ (p < length (now kinds)) × (length (now vals) ≡ length (now kinds)) ⌝ }
     ensures place { λ r. ⌜ r < length (now (kinds .entry)) ⌝ }
     ensures term { λ r. ⌜

@@ -13,11 +13,12 @@ ghost use lib.ListN.{length, getD};
 ghost use Rattle.solver.specs.declared.Named.the-variants.{Variable};
 ghost use Rattle.solver.specs.Families.{requested};
 ghost use Rattle.solver.specs.Shapes.{Notion};
-ghost use Rattle.solver.specs.Session.{Place, at, gap, Session, find};
+ghost use Rattle.solver.specs.Session.{VariablePlace, at, gap, Session, find};
 ghost use Rattle.solver.specs.Orders as orders;
-ghost use Rattle.solver.specs.Lent.{limitsOf, placeWords, siteWords, slotWords, HeldPlace, HeldPlaces, Lent};
-ghost use Rattle.solver.specs.Methods.{matches, lastMatch, found, Shaped, Beside, placed, namedOf, namedBelow, Issued, Replied, replyOf, resolvedReply};
-ghost use Rattle.solver.specs.Behind.{placeOf};
+ghost use Rattle.solver.specs.Words.SessionRepresentation.{limitsOf, placeWords, siteWords, slotWords, HeldPlace, HeldPlaces, Represents};
+ghost use Rattle.solver.specs.Words.MethodContract.{matches, lastMatch, found, Shaped, Beside, placed, namedOf, namedBelow, Issued, Replied, replyOf};
+ghost use Rattle.solver.specs.Words.MethodContract.{resolvedReply};
+ghost use Rattle.solver.specs.Words.OrderTerms.{placeOf};
 
 // Whether a variable's words are those asked for: a hole has no slot.
 pub fn is_place(kind: u32, site: u32, slot: u32, k: u32, s: u32, i: u32) -> bool
@@ -59,7 +60,7 @@ pub fn find_place(tables: &[u32], m: usize, issued: usize, kind: u32, site: u32,
         r ≡ lastMatch kind site slot (placeWords m (now (tables .entry))) (siteWords m (now (tables .entry))) (slotWords m (now (tables .entry))) issued issued
         ⌝ }
     ensures place { λ r. ⌜
-        ((p : Place) (ps : List Place)
+        ((p : VariablePlace) (ps : List VariablePlace)
         → HeldPlace p kind site slot
         → length ps ≡ issued
         → HeldPlaces (placeWords m (now (tables .entry))) (siteWords m (now (tables .entry))) (slotWords m (now (tables .entry))) ps
@@ -95,9 +96,10 @@ fn named_below(v: usize, m: usize) -> Named
 impl Solver {
     // The variable that a place has or would be given, without issuing it.
     pub fn id_of(self, tables: &[u32], site: Site) -> Named
-        requires { ⌜ ((ks vs : List ℕ) × (s : Session) × Lent self ks vs (now tables) s) ⌝ }
+        requires { ⌜ ((ks vs : List ℕ) × (s : Session) × Represents self ks vs (now tables) s) ⌝ }
         ensures { λ r. ⌜
-            ((ks vs : List ℕ) (s : Session) → Lent self ks vs (now (tables .entry)) s → r ≡ namedOf (placed (limitsOf self) s (placeOf site) .variable)) ⌝ }
+            ((ks vs : List ℕ) (s : Session) → Represents self ks vs (now (tables .entry)) s → r ≡ namedOf (placed (limitsOf self) s (placeOf site) .variable))
+            ⌝ }
         ensures low { λ r. ⌜ ((v : ℕ) → r ≡ Variable v → v < self .variables) ⌝ }
     {
         let m = self.variables;
@@ -112,9 +114,9 @@ impl Solver {
     pub fn issue(mut self, tables: &mut [u32], kind: u32, site: u32, slot: u32) -> Issue
         requires { ⌜ Shaped self (length (now tables)) ⌝ }
         ensures held { λ r. ⌜
-            ((ks vs : List ℕ) (s : Session) (p : Place)
+            ((ks vs : List ℕ) (s : Session) (p : VariablePlace)
             → HeldPlace p kind site slot
-            → Lent self ks vs (now (tables .entry)) s
+            → Represents self ks vs (now (tables .entry)) s
             → Issued (r .solver) ks vs (now (tables .exit)) p (placed (limitsOf self) s p) (r .answer)) ⌝ }
         ensures low { λ r. ⌜ ((v : ℕ) → r .answer ≡ Variable v → v < self .variables) ⌝ }
         ensures beside { λ r. ⌜ Beside self (r .solver) (now (tables .entry)) (now (tables .exit)) ⌝ }
@@ -146,10 +148,10 @@ impl Solver {
 
     // Order 0: the variable of a slot of a site.
     pub fn variable(mut self, tables: &mut [u32], site: u32, slot: u32) -> Issue
-        requires { ⌜ Shaped self (length (now tables)) × ((ks vs : List ℕ) × (s : Session) × Lent self ks vs (now tables) s) ⌝ }
+        requires { ⌜ Shaped self (length (now tables)) × ((ks vs : List ℕ) × (s : Session) × Represents self ks vs (now tables) s) ⌝ }
         ensures held { λ r. ⌜
             ((ks vs : List ℕ) (s : Session) (n : Notion)
-            → Lent self ks vs (now (tables .entry)) s
+            → Represents self ks vs (now (tables .entry)) s
             → Replied (r .solver) ks vs (now (tables .exit)) (at site slot) (orders.order (limitsOf self) n s (orders.variable site slot)) replyOf (r .answer))
             ⌝ }
         ensures beside { λ r. ⌜ Beside self (r .solver) (now (tables .entry)) (now (tables .exit)) ⌝ }
@@ -159,10 +161,10 @@ impl Solver {
 
     // Order 1: the number variable of a site, with its fallback from now on.
     pub fn numeric_variable(mut self, tables: &mut [u32], site: u32, fallback: u32) -> Issue
-        requires { ⌜ Shaped self (length (now tables)) × (fallback < 32) × ((ks vs : List ℕ) × (s : Session) × Lent self ks vs (now tables) s) ⌝ }
+        requires { ⌜ Shaped self (length (now tables)) × (fallback < 32) × ((ks vs : List ℕ) × (s : Session) × Represents self ks vs (now tables) s) ⌝ }
         ensures held { λ r. ⌜
             ((ks vs : List ℕ) (s : Session) (n : Notion)
-            → Lent self ks vs (now (tables .entry)) s
+            → Represents self ks vs (now (tables .entry)) s
             → Replied (r .solver) ks vs (now (tables .exit)) (at site 1) (orders.order (limitsOf self) n s (orders.number site (requested fallback)))
             (resolvedReply (orders.order (limitsOf self) n s (orders.number site (requested fallback)) .session .solver)) (r .answer)) ⌝ }
         ensures beside { λ r. ⌜ Beside self (r .solver) (now (tables .entry)) (now (tables .exit)) ⌝ }
@@ -189,10 +191,10 @@ impl Solver {
 
     // Order 2: the variable of a hole.
     pub fn annotation_hole(mut self, tables: &mut [u32], site: u32) -> Issue
-        requires { ⌜ Shaped self (length (now tables)) × ((ks vs : List ℕ) × (s : Session) × Lent self ks vs (now tables) s) ⌝ }
+        requires { ⌜ Shaped self (length (now tables)) × ((ks vs : List ℕ) × (s : Session) × Represents self ks vs (now tables) s) ⌝ }
         ensures held { λ r. ⌜
             ((ks vs : List ℕ) (s : Session) (n : Notion)
-            → Lent self ks vs (now (tables .entry)) s
+            → Represents self ks vs (now (tables .entry)) s
             → Replied (r .solver) ks vs (now (tables .exit)) (gap site) (orders.order (limitsOf self) n s (orders.hole site))
             (resolvedReply (orders.order (limitsOf self) n s (orders.hole site) .session .solver)) (r .answer)) ⌝ }
         ensures beside { λ r. ⌜ Beside self (r .solver) (now (tables .entry)) (now (tables .exit)) ⌝ }

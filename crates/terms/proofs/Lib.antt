@@ -1,66 +1,12 @@
-pub mod Steps
-pub mod Again
-pub mod Bounds
-pub mod Shortest
-pub mod MarkedNumbers
-pub mod KindLaws
-pub mod FieldLaws
-pub mod StoreLaws
-pub mod WroteLaws
-pub mod RowLaws
-pub mod ValueLaws
-pub mod LentLaws
-pub mod ReadLaws
-pub mod TableLaws
-pub mod ShapeLaws
-pub mod Weights
-pub mod Sound
-pub mod RoundTrip
-pub mod WriteLaws
-pub mod Bools
-pub mod HeldLaws
-pub mod SameLaws
-pub mod FlatLaws
-pub mod ConflictLaws
-pub mod WeakenLaws
-pub mod NominalLaws
-pub mod BoundLaws
-pub mod QuestionLaws
-pub mod RecoverLaws
-pub mod Answers
-pub mod Marked
-pub mod SubstitutionLaws
-pub mod ParameterLaws
-pub mod SearchLaws
-pub mod RewriteLaws
-pub mod InsertLaws
-pub mod UseLaws
-pub mod ListLaws
-pub mod ListingLaws
-pub mod KeptLaws
-pub mod WantingLaws
-pub mod FormedLists
+-- Proofs. Laws are grouped by what they are about; a folder named as a module of the code has the proofs of its
+-- functions, MODULE/FUNCTION/Proof.antt.
+--   Laws/General      flags, and a slice that is lent again
+--   Laws/Numbers      numbers in bytes: their steps, bounds and shortest form
+--   Laws/Format       a term read from its bytes and kept, and the bytes of a term
+--   Laws/Held         terms and rows in the areas; formed terms
+--   Laws/Asking       questions, comparison and bounds
+--   Laws/Replacing    recovery, and substitution
+--   Laws/Normalising  associated types: the tokens seen, rules, the walk, its result
+--   Examples          document 01's lines and worked sessions, by computation, and the theorems used
+pub mod Laws
 pub mod Examples
-pub mod BinderExamples
-pub mod NormalExamples
-pub mod ViewLaws
-pub mod ArenaLaws
-pub mod SourceLaws
-pub mod ScanLaws
-pub mod SlotLaws
-pub mod OpenLaws
-pub mod MemberLaws
-pub mod AlikeLaws
-pub mod RuleListLaws
-pub mod RuleLaws
-pub mod GivenLaws
-pub mod DepthLaws
-pub mod VisitLaws
-pub mod FixedLaws
-pub mod SumLaws
-pub mod WalkLaws
-pub mod ShowLaws
-pub mod NormalLaws
-pub mod RespectLaws
-pub mod FormedLaws
-pub mod NormalizeLaws

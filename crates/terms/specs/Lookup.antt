@@ -1,5 +1,5 @@
 -- What a projection is replaced by, looked up in rows as they stand: a rule's four parts in the order of a projection's row, and order 19's interface as
--- its row. Of terms that keep to their tags' layouts these find what `byRules` and `byInterface` find. Assumes nothing.
+-- its row. Of terms that keep to their tags' layouts these find what `byRules` and `byInterface` find.
 use mathlib.Core.Path.{_≡_}
 use mathlib.Core.Bool.{Bool, true, false, _&&_}
 use mathlib.Core.List.{List, [], _∷_}
@@ -12,11 +12,11 @@ use Rattle.terms.specs.declared.Origin.{Origin}
 use Rattle.terms.specs.declared.Rule.{Rule}
 use Rattle.terms.specs.Result.{pick}
 use Rattle.terms.specs.Term.{Term, Parts, var, node, end, num, sub, _+++_, items, partItems}
-use Rattle.terms.specs.Held.{Held, HeldParts}
+use Rattle.terms.specs.Words.Held.{Held, HeldParts}
 use Rattle.terms.specs.Shape.{nominal, done}
 use Rattle.terms.specs.Formed.{Formed, Fit, Each}
 use Rattle.terms.specs.Tree.{nums, subs, same, sameRows, memberOf, argumentsOf, putTerms}
-use Rattle.terms.specs.Views.{noTerms, sameOption}
+use Rattle.terms.specs.Comparison.{noTerms, sameOption}
 use Rattle.terms.specs.Substitution.{or}
 use Rattle.terms.specs.Normal.{onlyIf, memberFrom}
 
@@ -85,7 +85,7 @@ lookBy (interface i owner) ps = through i owner ps
 -- ---- in words
 
 -- A rule is six words: the places of its interface, which stands under a head with the tag 20, and of its receiver, its member, the place of its
--- arguments, which stand one behind the other, and how many they are, and the place of its value.
+-- arguments, which stand one after the other, and how many they are, and the place of its value.
 abbrev pub ruleAt : List ℕ → ℕ → Rule
 ruleAt ws r = record {
   interface = getD ws (6 * r) 0;

@@ -1,5 +1,5 @@
 -- `normalize` of associated.rs on trees: the bounded walk, with what it looks up as a parameter; orders 20 and 19 as two ways to look up.
--- The walk carries the visits left and the count of refusal 9: the children of all terms that a visit was spent on. Assumes nothing.
+-- The walk carries the visits left and the count of refusal 9: the children of all terms that a visit was spent on.
 use mathlib.Core.Bool.{Bool, true, false, _&&_}
 use mathlib.Core.List.{List, [], _∷_}
 use mathlib.Core.Option.{Option, none, some}
@@ -10,7 +10,7 @@ use Rattle.terms.specs.Result.{pick}
 use Rattle.terms.specs.Term.{Term, Parts, var, node, end, num, sub}
 use Rattle.terms.specs.Tree.{error, nums, subs, children, withKids, row, tag, slot, same, sameTerms, Nominal, sameNominal, lookUp, interfaceOf, receiverOf, memberOf, argumentsOf, projection}
 use Rattle.terms.specs.Questions.{contains-projection}
-use Rattle.terms.specs.Views.{noTerms}
+use Rattle.terms.specs.Comparison.{noTerms}
 use Rattle.terms.specs.Substitution.{orElse}
 
 -- what a visit gives: the term, the visits left, the count so far

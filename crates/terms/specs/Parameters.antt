@@ -1,5 +1,5 @@
 -- Parameters in the bytes of an order: each an owner and a position. They have no node and may be many, so they are not stored: they are looked
--- for where they stand. Assumes nothing.
+-- for where they stand.
 use mathlib.Core.Bool.{Bool, true, false}
 use mathlib.Core.List.{List, [], _∷_}
 use Prim.Native.Nat.{ℕ, zero, suc, _+_}

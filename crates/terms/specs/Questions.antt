@@ -1,5 +1,5 @@
 -- The questions of `TypeId` that look for a term of some kind: one walk, told by a question number which terms count and which it enters.
--- The numbers 0 to 6 are the places of the questions in order 15, 7 is `is_resolved_in`. Assumes nothing.
+-- The numbers 0 to 6 are the places of the questions in order 15, 7 is `is_resolved_in`.
 use mathlib.Core.Bool.{Bool, true, false, not, _&&_, _||_}
 use mathlib.Core.List.{List, [], _∷_}
 use Prim.Native.Nat.{ℕ, zero, suc}

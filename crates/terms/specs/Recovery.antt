@@ -1,4 +1,4 @@
--- `recover_from`: the holes of a term are filled from another. Assumes nothing.
+-- `recover_from`: the holes of a term are filled from another.
 use mathlib.Core.Bool.{Bool, true, false, _&&_}
 use mathlib.Core.List.{List, [], _∷_}
 use Prim.Native.Nat.{ℕ, zero, suc, _+_}
@@ -8,7 +8,7 @@ use Rattle.terms.specs.Result.{pick}
 use Rattle.terms.specs.Term.{Term, Parts, var, node, end, num, sub}
 use Rattle.terms.specs.Tree.{nums, row, tag, sameNumbers, nominalOf}
 use Rattle.terms.specs.Questions.{first, among}
-use Rattle.terms.specs.Views.{recovery}
+use Rattle.terms.specs.Comparison.{recovery}
 
 -- how many parts a row has
 unfoldable pub parts : Parts → ℕ
@@ -16,7 +16,7 @@ parts end = 0
 parts (num n ps) = suc (parts ps)
 parts (sub t ps) = suc (parts ps)
 
--- Of two nominals whose members differ only the arguments are recovered, which stand behind the declaration and their count.
+-- Of two nominals whose members differ only the arguments are recovered, which stand after the declaration and their count.
 unfoldable pub nominalReach : Parts → Parts → ℕ
 nominalReach ps qs =
     let a = nominalOf ps in

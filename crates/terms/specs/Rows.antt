@@ -1,5 +1,5 @@
 -- The lists that a substitution and a family have in an order's bytes: entries as owner, position, term; receivers as owner, term; arguments as terms.
--- In the areas each list is a row of parts, in byte order. Assumes nothing.
+-- In the areas each list is a row of parts, in byte order.
 use mathlib.Core.Bool.{Bool, false}
 use mathlib.Core.List.{List, [], _∷_}
 use Prim.Native.Nat.{ℕ, zero, suc, _+_, _-_}
@@ -10,10 +10,10 @@ use Rattle.terms.specs.declared.Place.{Place}
 use Rattle.terms.specs.declared.Step.{Step}
 use Rattle.terms.specs.declared.Step.the-variants.{Next, Stopped}
 use Rattle.terms.specs.Parser.{Parser, Result, got, refused, pick, _>>=_, return, number}
-use Rattle.terms.specs.Tokens.{Area, puts, blank}
+use Rattle.terms.specs.Words.Tokens.{Area, puts, blank}
 use Rattle.terms.specs.Term.{Term, Parts, end, num, sub, partItems, sizes}
 use Rattle.terms.specs.Reading.{_then_}
-use Rattle.terms.specs.Pieces.{fields}
+use Rattle.terms.specs.Words.RowPieces.{fields}
 use Rattle.terms.specs.Shape.{definition, ordinary, ceiling}
 use Rattle.terms.specs.Substitution.{Entry, Receiver}
 

@@ -1,4 +1,4 @@
--- Which numbers and terms follow each tag: the table of the twenty kinds. Assumes nothing.
+-- Which numbers and terms follow each tag: the table of the twenty kinds.
 use Prim.Native.Nat.{ℕ, zero, suc}
 use mathlib.Core.Bool.{Bool, true, false}
 use mathlib.Core.List.{List, [], _∷_}

@@ -1,4 +1,4 @@
--- `substitute_once` and its uses. Assumes nothing.
+-- `substitute_once` and its uses.
 use mathlib.Core.Bool.{Bool, true, false}
 use mathlib.Core.List.{List, [], _∷_, _++_}
 use mathlib.Core.Option.{Option, none, some}

@@ -1,10 +1,10 @@
--- Terms, their tokens, their nodes and their bytes. Assumes nothing.
+-- Terms, their tokens, their nodes and their bytes.
 use mathlib.Core.Path.{_≡_}
 use Prim.Native.Nat.{ℕ, suc, max, _+_, _%_, _≤_}
 use mathlib.Core.List.{List, [], _∷_, _++_}
 use lib.ListN.{length}
 use Rattle.terms.specs.Number.{shortest}
-use Rattle.terms.specs.Tokens.{Item, item, toks}
+use Rattle.terms.specs.Words.Tokens.{Item, item, toks}
 
 -- A term is a variable or a node with a tag. What follows a node's tag in the byte form is a row of numbers and terms, in the order
 -- of the byte form: counts, ids, members, codes and access marks are numbers (a code or mark is below 128, so its byte is its number form).

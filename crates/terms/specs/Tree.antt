@@ -2,7 +2,6 @@
 -- `TypeId` and `NominalType`), and the parts of a nominal and of a projection. A row of parts has its numbers and its terms apart, `nums` and `subs`, each in byte order:
 --   a nominal's row    numbers: declaration, n, m, m members;               terms: n arguments, m members' terms
 --   a projection's row numbers: declaration, n, m, m members, member, count; terms: receiver, n interface arguments, m members' terms, arguments
--- Assumes nothing.
 use mathlib.Core.Bool.{Bool, true, false, _&&_}
 use mathlib.Core.List.{List, [], _∷_, _++_}
 use mathlib.Core.Option.{Option, none, some}

@@ -9,16 +9,16 @@ use super::runs::same_term;
 use super::runs::span_of;
 use super::runs::wide;
 use super::runs::word;
-use super::view::step;
-use super::view::token_at;
+use super::virtual_tokens::step;
+use super::virtual_tokens::token_at;
 ghost use mathlib.Core.Path.{_≡_};
 ghost use mathlib.Core.Bool.{_&&_};
 ghost use Prim.Native.Nat.{_+_};
 ghost use lib.Dec.{eqb, leb};
 ghost use lib.ListN.{length, getD};
-ghost use Rattle.terms.specs.Held.{span};
-ghost use Rattle.terms.specs.View.{view, Sight};
-ghost use Rattle.terms.specs.Arena.{Cut, further, Alike, Begins, Starts};
+ghost use Rattle.terms.specs.Words.Held.{span};
+ghost use Rattle.terms.specs.Words.VirtualTokens.{view, Sight};
+ghost use Rattle.terms.specs.Words.Arena.{Cut, further, Alike, Begins, Starts};
 
 // The start of a content's row.
 pub fn cursor(kinds: &[u32], vals: &[u32], g: Origin, x: Content) -> Cursor
@@ -48,7 +48,10 @@ pub fn moved(x: Cursor, at: usize, child: usize) -> Cursor
 
 // Whether a content is as in the source and all its tokens are lent.
 fn is_lent(kinds: &[u32], vals: &[u32], x: Content) -> bool
-    ensures { λ r. ⌜ r ≡ (eqb (x .kids) 0 && leb (x .head + span (getD (now (kinds .entry)) (x .head) 0) (getD (now (vals .entry)) (x .head) 0)) (length (now (kinds .entry)))) ⌝ }
+    ensures { λ r. ⌜
+        r
+        ≡ (eqb (x .kids) 0 && leb (x .head + span (getD (now (kinds .entry)) (x .head) 0) (getD (now (vals .entry)) (x .head) 0)) (length (now (kinds .entry))))
+        ⌝ }
 {
     if x.kids != 0 {
         return false;

@@ -16,7 +16,7 @@ ghost use lib.ListN.{length};
 ghost use Rattle.terms.specs.Result.{pick};
 ghost use Rattle.terms.specs.Number.{resultOf};
 ghost use Rattle.terms.specs.Parameters.{parameter, parameters, parameterRead, passed, past, indexIn};
-ghost use Rattle.terms.specs.Search.{lastAt, entryAt, receiverAt, nthAt};
+ghost use Rattle.terms.specs.Words.FindContract.{lastAt, entryAt, receiverAt, nthAt};
 
 // Reads a parameter: an owner and a position.
 fn parameter_at(s: &[u8], at: usize) -> ParameterRead

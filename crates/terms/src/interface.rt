@@ -10,17 +10,17 @@ use super::rows::number_at;
 use super::rows::number_place;
 use super::rules::source;
 use super::runs::wide;
-use super::view::locate;
-use super::view::token_at;
+use super::virtual_tokens::locate;
+use super::virtual_tokens::token_at;
 ghost use mathlib.Core.Path.{_≡_};
 ghost use mathlib.Core.Bool.{Bool};
 ghost use Prim.Native.Nat.{ℕ, _+_, _≤_, _<_};
 ghost use lib.ListN.{getD};
-ghost use Rattle.terms.specs.View.{view, Sight, LentAt};
+ghost use Rattle.terms.specs.Words.VirtualTokens.{view, Sight, LentAt};
 ghost use Rattle.terms.specs.Term.{Term, Parts, depth};
 ghost use Rattle.terms.specs.Tree.{row, tag};
 ghost use Rattle.terms.specs.Lookup.{output, through, HeldGiven};
-ghost use Rattle.terms.specs.Arena.{Tree, Counts, Fetched};
+ghost use Rattle.terms.specs.Words.Arena.{Tree, Counts, Fetched};
 
 // The lent token whose value the number at p has.
 fn lent_place(kinds: &[u32], vals: &[u32], g: Origin, p: usize) -> usize
@@ -45,7 +45,12 @@ fn lent_place(kinds: &[u32], vals: &[u32], g: Origin, p: usize) -> usize
 // The interface's term for the member at p, or the projection made anew.
 fn output(kinds: &[u32], vals: &[u32], heads: &[u32], kids: &[u32], g: Origin, p: usize) -> Content
     requires { ⌜ Sight (now kinds) (now vals) g ⌝ }
-    ensures { λ r. ⌜ ((S : ℕ → Bool) (i : Parts) (owner : Term) → HeldGiven (now (kinds .entry)) (now (vals .entry)) g i owner → getD (view (now (kinds .entry)) (now (vals .entry)) g .kinds) p 0 ≡ 0 → Tree (view (now (kinds .entry)) (now (vals .entry)) g) (now (heads .entry)) (now (kids .entry)) S (r .head) (r .kids) (output owner i (getD (view (now (kinds .entry)) (now (vals .entry)) g .vals) p 0))) ⌝ }
+    ensures { λ r. ⌜
+        ((S : ℕ → Bool) (i : Parts) (owner : Term)
+        → HeldGiven (now (kinds .entry)) (now (vals .entry)) g i owner
+        → getD (view (now (kinds .entry)) (now (vals .entry)) g .kinds) p 0 ≡ 0
+        → Tree (view (now (kinds .entry)) (now (vals .entry)) g) (now (heads .entry)) (now (kids .entry)) S (r .head) (r .kids)
+        (output owner i (getD (view (now (kinds .entry)) (now (vals .entry)) g .vals) p 0))) ⌝ }
 {
     let x = token_at(kinds, vals, g, p);
     let a = number_at(kinds, vals, g, g.interface, 1);
@@ -84,7 +89,13 @@ pub fn by_interface(
     requires sight { ⌜ Sight (now kinds) (now vals) g ⌝ }
     requires counts { ⌜ Counts (view (now kinds) (now vals) g) (x .head) n m ⌝ }
     requires low { ⌜ fuel < 4294967296 ⌝ }
-    ensures { λ r. ⌜ ((S : ℕ → Bool) (t : Term) (i : Parts) (owner : Term) → Tree (view (now (kinds .entry)) (now (vals .entry)) g) (now (heads .entry)) (now (kids .entry)) S (x .head) (x .kids) t → tag t ≡ 18 → depth t ≤ fuel + 1 → HeldGiven (now (kinds .entry)) (now (vals .entry)) g i owner → Fetched (view (now (kinds .entry)) (now (vals .entry)) g) (now (heads .entry)) (now (kids .entry)) S (through i owner (row t)) r) ⌝ }
+    ensures { λ r. ⌜
+        ((S : ℕ → Bool) (t : Term) (i : Parts) (owner : Term)
+        → Tree (view (now (kinds .entry)) (now (vals .entry)) g) (now (heads .entry)) (now (kids .entry)) S (x .head) (x .kids) t
+        → tag t ≡ 18
+        → depth t ≤ fuel + 1
+        → HeldGiven (now (kinds .entry)) (now (vals .entry)) g i owner
+        → Fetched (view (now (kinds .entry)) (now (vals .entry)) g) (now (heads .entry)) (now (kids .entry)) S (through i owner (row t)) r) ⌝ }
 {
     let argument = child_at(kinds, vals, heads, kids, g, x, 1 + n + m);
     if let Found::At(_) = argument {

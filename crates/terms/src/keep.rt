@@ -7,11 +7,11 @@ use super::store::clear_tokens;
 ghost use mathlib.Core.Path.{_≡_};
 ghost use Prim.Native.Nat.{_+_, _-_, _^_, _<_};
 ghost use lib.ListN.{length};
-ghost use Rattle.terms.specs.Tokens.{area};
+ghost use Rattle.terms.specs.Words.Tokens.{area};
 ghost use Rattle.terms.specs.Term.{size};
 ghost use Rattle.terms.specs.Reading.{term, bare};
-ghost use Rattle.terms.specs.Done.{Room, RoomAfter, answer, kept, contents, Clearable, Cleared};
-ghost use Rattle.terms.specs.Lent.{stepOf};
+ghost use Rattle.terms.specs.Words.ReadContract.{Room, RoomAfter, answer, kept, contents, Clearable, Cleared};
+ghost use Rattle.terms.specs.Words.StepCodes.{stepOf};
 
 // Clears what a refusal has left from `p` on, and what was read past the limit.
 pub fn clear_rest(kinds: &mut [u32], vals: &mut [u32], p: Place, left: usize, r: Step) -> Step
@@ -59,7 +59,9 @@ pub fn keep_term(
 ) -> Step
     requires { ⌜ Room (now s) p ⌝ }
     ensures answer { λ r. ⌜ r ≡ answer p (term (now (s .entry)) issued levels (p .at)) size ⌝ }
-    ensures areas { λ _. ⌜ area (now (kinds .exit)) (now (vals .exit)) ≡ kept (now (s .entry)) p (term (now (s .entry)) issued levels (p .at)) size (area (now (kinds .entry)) (now (vals .entry))) ⌝ }
+    ensures areas { λ _. ⌜
+        area (now (kinds .exit)) (now (vals .exit))
+        ≡ kept (now (s .entry)) p (term (now (s .entry)) issued levels (p .at)) size (area (now (kinds .entry)) (now (vals .entry))) ⌝ }
     ensures room { λ r. ⌜ RoomAfter (now (s .entry)) r ⌝ }
 {
     let mut at = p.at;
@@ -97,7 +99,9 @@ pub fn keep_nominal(
     requires room { ⌜ Room (now s) p ⌝ }
     requires space { ⌜ p .top + 1 + (length (now s) - p .at) < 2 ^ 32 ⌝ }
     ensures answer { λ r. ⌜ r ≡ answer p (bare (now (s .entry)) issued levels (p .at)) contents ⌝ }
-    ensures areas { λ _. ⌜ area (now (kinds .exit)) (now (vals .exit)) ≡ kept (now (s .entry)) p (bare (now (s .entry)) issued levels (p .at)) contents (area (now (kinds .entry)) (now (vals .entry))) ⌝ }
+    ensures areas { λ _. ⌜
+        area (now (kinds .exit)) (now (vals .exit))
+        ≡ kept (now (s .entry)) p (bare (now (s .entry)) issued levels (p .at)) contents (area (now (kinds .entry)) (now (vals .entry))) ⌝ }
     ensures room { λ r. ⌜ RoomAfter (now (s .entry)) r ⌝ }
 {
     let mut at = p.at;

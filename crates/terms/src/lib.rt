@@ -1,5 +1,6 @@
 // Terms: numbers; terms read into two lent areas as runs of tokens, and written again; the operations on them.
 mod alike;
+mod compare;
 mod find;
 mod interface;
 mod keep;
@@ -23,11 +24,12 @@ mod showing;
 mod slots;
 mod store;
 mod values;
-mod view;
-mod views;
+mod virtual_tokens;
 mod walking;
 mod write;
 
+pub use compare::can_weaken_to;
+pub use compare::conflicts_with;
 pub use find::skip_parameters;
 pub use keep::keep_nominal;
 pub use keep::keep_term;
@@ -48,8 +50,6 @@ pub use rewrite::write_term;
 pub use satisfy::satisfies;
 pub use satisfy::satisfies_for;
 pub use store::clear_tokens;
-pub use views::can_weaken_to;
-pub use views::conflicts_with;
 pub use write::run_len;
 pub use write::write_run;
 
@@ -76,14 +76,14 @@ pub struct TermReader<'a> {
 }
 
 // What a term reader is asked for: a term, or where `bare` a bare nominal, with the levels left and the number that its variables are below.
-pub struct Wanted {
+pub struct ReadRequest {
     pub bare: bool,
     pub levels: u32,
     pub issued: u64,
 }
 
 // What a term reader is asked for in a list: an owner where `first` and a position where `second`, and then a term, as above.
-pub struct RecordWanted {
+pub struct RecordRequest {
     pub first: bool,
     pub second: bool,
     pub levels: u32,
@@ -137,8 +137,8 @@ pub enum Lookup {
     Nothing,
 }
 
-// What going through required members finds: the place behind them, or the place of one that is not given, and how many are left from it on.
-pub enum Given {
+// What going through required members finds: the place after them, or the place of one that is not given, and how many are left from it on.
+pub enum MembersFound {
     All(usize),
     Lacking(usize, usize),
 }
@@ -245,7 +245,7 @@ pub struct Cursor {
     pub kids: u32,
 }
 
-// Whether a row begins with another: the next token behind that and how many children were passed, or not.
+// Whether a row begins with another: the next token after that and how many children were passed, or not.
 pub enum Met {
     Behind(usize, usize),
     Apart,

@@ -1,7 +1,7 @@
 // The lists of an order that are stored: entries, receivers and arguments. A term reader goes from record to record; each list is kept whole, or nothing
 // of it remains.
 use super::Place;
-use super::RecordWanted;
+use super::RecordRequest;
 use super::Stand;
 use super::Step;
 use super::TermReader;
@@ -12,11 +12,11 @@ use super::values::DEFINITION;
 use super::values::ORDINARY;
 use super::values::read_id;
 ghost use mathlib.Core.Path.{_≡_};
-ghost use Rattle.terms.specs.Tokens.{area};
+ghost use Rattle.terms.specs.Words.Tokens.{area};
 ghost use Rattle.terms.specs.Reading.{term};
-ghost use Rattle.terms.specs.Done.{Room, RoomAfter, PartsDone};
-ghost use Rattle.terms.specs.Lent.{place, stepOf};
-ghost use Rattle.terms.specs.Listing.{MayRead, MayStart, RecordDone, MovedOn, RecordsDone};
+ghost use Rattle.terms.specs.Words.ReadContract.{Room, RoomAfter, PartsDone};
+ghost use Rattle.terms.specs.Words.StepCodes.{place, stepOf};
+ghost use Rattle.terms.specs.Words.ListsContract.{MayRead, MayStart, RecordDone, MovedOn, RecordsDone};
 ghost use Rattle.terms.specs.Rows.{entries, receivers, arguments, entryRow, receiverRow, argumentRow, keys, single, records, answerOf, keptOf};
 
 // Reads a record: an owner and a position, where they are wanted, and a term.
@@ -34,7 +34,10 @@ fn read_record(
     second: bool,
 ) -> u8
     requires { ⌜ Room (now s) (place (now at) (now top) (now nodes) limit) ⌝ }
-    ensures { λ r. ⌜ PartsDone (now (s .entry)) (single (now (s .entry)) (term (now (s .entry)) issued levels) (keys first second) (now (at .entry))) (place (now (at .entry)) (now (top .entry)) (now (nodes .entry)) limit) (area (now (kinds .entry)) (now (vals .entry))) (area (now (kinds .exit)) (now (vals .exit))) (stepOf r (now (at .exit)) (now (top .exit)) (now (nodes .exit)) limit) ⌝ }
+    ensures { λ r. ⌜
+        PartsDone (now (s .entry)) (single (now (s .entry)) (term (now (s .entry)) issued levels) (keys first second) (now (at .entry)))
+        (place (now (at .entry)) (now (top .entry)) (now (nodes .entry)) limit) (area (now (kinds .entry)) (now (vals .entry)))
+        (area (now (kinds .exit)) (now (vals .exit))) (stepOf r (now (at .exit)) (now (top .exit)) (now (nodes .exit)) limit) ⌝ }
 {
     let a = read_id(s, kinds, vals, at, top, *nodes, limit, DEFINITION, first);
     if a != 0 {
@@ -48,7 +51,7 @@ fn read_record(
 }
 
 // Reads a record at a place in the bytes; where the reader stands after it.
-fn record_at(s: &[u8], z: Stand, kinds: &mut [u32], vals: &mut [u32], w: RecordWanted) -> Stand
+fn record_at(s: &[u8], z: Stand, kinds: &mut [u32], vals: &mut [u32], w: RecordRequest) -> Stand
     requires { ⌜ MayRead (now s) z ⌝ }
     ensures { λ r. ⌜ RecordDone (now (s .entry)) z w (area (now (kinds .entry)) (now (vals .entry))) (area (now (kinds .exit)) (now (vals .exit))) r ⌝ }
 {
@@ -95,7 +98,7 @@ fn next_record<'a>(
     r: TermReader<'a>,
     kinds: &mut [u32],
     vals: &mut [u32],
-    w: RecordWanted,
+    w: RecordRequest,
 ) -> TermReader<'a>
     requires { ⌜ MayRead (now (r .bytes)) (r .stand) ⌝ }
     ensures { λ q. ⌜ MovedOn (r .entry) w (area (now (kinds .entry)) (now (vals .entry))) (area (now (kinds .exit)) (now (vals .exit))) q ⌝ }
@@ -107,7 +110,7 @@ fn next_record<'a>(
 }
 
 // Reads the records that are left, by one reader that goes from one to the next; where it stands then.
-fn records_at(s: &[u8], z: Stand, kinds: &mut [u32], vals: &mut [u32], w: RecordWanted) -> Stand
+fn records_at(s: &[u8], z: Stand, kinds: &mut [u32], vals: &mut [u32], w: RecordRequest) -> Stand
     requires { ⌜ MayStart (now s) z ⌝ }
     ensures { λ r. ⌜ RecordsDone (now (s .entry)) z w (area (now (kinds .entry)) (now (vals .entry))) (area (now (kinds .exit)) (now (vals .exit))) r ⌝ }
 {
@@ -132,7 +135,10 @@ fn keep_records(
 ) -> Step
     requires { ⌜ Room (now s) p ⌝ }
     ensures answer { λ r. ⌜ r ≡ answerOf (λ ps. ps) p (records (now (s .entry)) (term (now (s .entry)) issued levels) (keys first second) count (p .at)) ⌝ }
-    ensures areas { λ _. ⌜ area (now (kinds .exit)) (now (vals .exit)) ≡ keptOf (λ ps. ps) (now (s .entry)) p (records (now (s .entry)) (term (now (s .entry)) issued levels) (keys first second) count (p .at)) (area (now (kinds .entry)) (now (vals .entry))) ⌝ }
+    ensures areas { λ _. ⌜
+        area (now (kinds .exit)) (now (vals .exit))
+        ≡ keptOf (λ ps. ps) (now (s .entry)) p (records (now (s .entry)) (term (now (s .entry)) issued levels) (keys first second) count (p .at))
+        (area (now (kinds .entry)) (now (vals .entry))) ⌝ }
     ensures room { λ r. ⌜ RoomAfter (now (s .entry)) r ⌝ }
 {
     let z = records_at(
@@ -144,7 +150,7 @@ fn keep_records(
         },
         kinds,
         vals,
-        RecordWanted {
+        RecordRequest {
             first,
             second,
             levels,
@@ -178,7 +184,10 @@ pub fn keep_entries(
 ) -> Step
     requires { ⌜ Room (now s) p ⌝ }
     ensures answer { λ r. ⌜ r ≡ answerOf entryRow p (entries (now (s .entry)) (term (now (s .entry)) issued levels) count (p .at)) ⌝ }
-    ensures areas { λ _. ⌜ area (now (kinds .exit)) (now (vals .exit)) ≡ keptOf entryRow (now (s .entry)) p (entries (now (s .entry)) (term (now (s .entry)) issued levels) count (p .at)) (area (now (kinds .entry)) (now (vals .entry))) ⌝ }
+    ensures areas { λ _. ⌜
+        area (now (kinds .exit)) (now (vals .exit))
+        ≡ keptOf entryRow (now (s .entry)) p (entries (now (s .entry)) (term (now (s .entry)) issued levels) count (p .at))
+        (area (now (kinds .entry)) (now (vals .entry))) ⌝ }
     ensures room { λ r. ⌜ RoomAfter (now (s .entry)) r ⌝ }
 {
     keep_records(s, kinds, vals, p, levels, issued, true, true, count)
@@ -196,7 +205,10 @@ pub fn keep_receivers(
 ) -> Step
     requires { ⌜ Room (now s) p ⌝ }
     ensures answer { λ r. ⌜ r ≡ answerOf receiverRow p (receivers (now (s .entry)) (term (now (s .entry)) issued levels) count (p .at)) ⌝ }
-    ensures areas { λ _. ⌜ area (now (kinds .exit)) (now (vals .exit)) ≡ keptOf receiverRow (now (s .entry)) p (receivers (now (s .entry)) (term (now (s .entry)) issued levels) count (p .at)) (area (now (kinds .entry)) (now (vals .entry))) ⌝ }
+    ensures areas { λ _. ⌜
+        area (now (kinds .exit)) (now (vals .exit))
+        ≡ keptOf receiverRow (now (s .entry)) p (receivers (now (s .entry)) (term (now (s .entry)) issued levels) count (p .at))
+        (area (now (kinds .entry)) (now (vals .entry))) ⌝ }
     ensures room { λ r. ⌜ RoomAfter (now (s .entry)) r ⌝ }
 {
     keep_records(s, kinds, vals, p, levels, issued, true, false, count)
@@ -214,7 +226,10 @@ pub fn keep_terms(
 ) -> Step
     requires { ⌜ Room (now s) p ⌝ }
     ensures answer { λ r. ⌜ r ≡ answerOf argumentRow p (arguments (now (s .entry)) (term (now (s .entry)) issued levels) count (p .at)) ⌝ }
-    ensures areas { λ _. ⌜ area (now (kinds .exit)) (now (vals .exit)) ≡ keptOf argumentRow (now (s .entry)) p (arguments (now (s .entry)) (term (now (s .entry)) issued levels) count (p .at)) (area (now (kinds .entry)) (now (vals .entry))) ⌝ }
+    ensures areas { λ _. ⌜
+        area (now (kinds .exit)) (now (vals .exit))
+        ≡ keptOf argumentRow (now (s .entry)) p (arguments (now (s .entry)) (term (now (s .entry)) issued levels) count (p .at))
+        (area (now (kinds .entry)) (now (vals .entry))) ⌝ }
     ensures room { λ r. ⌜ RoomAfter (now (s .entry)) r ⌝ }
 {
     keep_records(s, kinds, vals, p, levels, issued, false, false, count)

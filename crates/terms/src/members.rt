@@ -9,11 +9,11 @@ use super::rows::key_at;
 use super::rows::number_at;
 ghost use mathlib.Core.Bool.{Bool};
 ghost use Prim.Native.Nat.{ℕ, _≤_};
-ghost use Rattle.terms.specs.View.{view, Sight};
+ghost use Rattle.terms.specs.Words.VirtualTokens.{view, Sight};
 ghost use Rattle.terms.specs.Term.{Term};
 ghost use Rattle.terms.specs.Tree.{row};
 ghost use Rattle.terms.specs.Normal.{memberFrom, ownMember};
-ghost use Rattle.terms.specs.Arena.{Tree, Counts, Fetched};
+ghost use Rattle.terms.specs.Words.Arena.{Tree, Counts, Fetched};
 
 // The member `key` of the nominal in a content's row with n arguments and m members, whose arguments begin after b terms.
 pub fn member_of(
@@ -31,7 +31,10 @@ pub fn member_of(
     requires sight { ⌜ Sight (now kinds) (now vals) g ⌝ }
     requires counts { ⌜ Counts (view (now kinds) (now vals) g) (x .head) n m ⌝ }
     requires start { ⌜ b ≤ 1 ⌝ }
-    ensures { λ r. ⌜ ((S : ℕ → Bool) (t : Term) → Tree (view (now (kinds .entry)) (now (vals .entry)) g) (now (heads .entry)) (now (kids .entry)) S (x .head) (x .kids) t → Fetched (view (now (kinds .entry)) (now (vals .entry)) g) (now (heads .entry)) (now (kids .entry)) S (memberFrom b key (row t)) r) ⌝ }
+    ensures { λ r. ⌜
+        ((S : ℕ → Bool) (t : Term)
+        → Tree (view (now (kinds .entry)) (now (vals .entry)) g) (now (heads .entry)) (now (kids .entry)) S (x .head) (x .kids) t
+        → Fetched (view (now (kinds .entry)) (now (vals .entry)) g) (now (heads .entry)) (now (kids .entry)) S (memberFrom b key (row t)) r) ⌝ }
 {
     let k = key_at(kinds, vals, g, x.head, key);
     let Key::KeyAt(i) = k else {
@@ -56,7 +59,10 @@ pub fn own_member(
 ) -> Found
     requires sight { ⌜ Sight (now kinds) (now vals) g ⌝ }
     requires counts { ⌜ Counts (view (now kinds) (now vals) g) (x .head) n m ⌝ }
-    ensures { λ r. ⌜ ((S : ℕ → Bool) (t : Term) → Tree (view (now (kinds .entry)) (now (vals .entry)) g) (now (heads .entry)) (now (kids .entry)) S (x .head) (x .kids) t → Fetched (view (now (kinds .entry)) (now (vals .entry)) g) (now (heads .entry)) (now (kids .entry)) S (ownMember (row t)) r) ⌝ }
+    ensures { λ r. ⌜
+        ((S : ℕ → Bool) (t : Term)
+        → Tree (view (now (kinds .entry)) (now (vals .entry)) g) (now (heads .entry)) (now (kids .entry)) S (x .head) (x .kids) t
+        → Fetched (view (now (kinds .entry)) (now (vals .entry)) g) (now (heads .entry)) (now (kids .entry)) S (ownMember (row t)) r) ⌝ }
 {
     let key = number_at(kinds, vals, g, x.head, 3 + m) as u32;
     let argument = child_at(kinds, vals, heads, kids, g, x, 1 + n + m);

@@ -10,21 +10,21 @@ use super::runs::word;
 use super::showing::show_tree;
 use super::slots::least;
 use super::store::clear_tokens;
-use super::view::step;
+use super::virtual_tokens::step;
 use super::walking::walk;
 ghost use mathlib.Core.Path.{_≡_};
 ghost use Prim.Native.Nat.{_+_, _≤_, _<_};
 ghost use mathlib.Core.List.{List};
 ghost use lib.ListN.{length};
 ghost use lib.Seq.{sets};
-ghost use Rattle.terms.specs.View.{Sight};
+ghost use Rattle.terms.specs.Words.VirtualTokens.{Sight};
 ghost use Rattle.terms.specs.Term.{Term, Parts, node, items, bytes, Held};
 ghost use Rattle.terms.specs.Questions.{contains-projection};
-ghost use Rattle.terms.specs.Tokens.{area, blank};
+ghost use Rattle.terms.specs.Words.Tokens.{area, blank};
 ghost use Rattle.terms.specs.Normal.{normalise, levels, visits, most};
 ghost use Rattle.terms.specs.Lookup.{Look, Pattern, lookBy, Looks, Ruled, HeldGiven, byPatterns, through};
-ghost use Rattle.terms.specs.Arena.{Room};
-ghost use Rattle.terms.specs.Normalising.{Zero, Lends, Stands, Sized, Fitted, Answers, Leaves, RuledAt, OwnedAt, KeptAt};
+ghost use Rattle.terms.specs.Words.Arena.{RecordRoom};
+ghost use Rattle.terms.specs.Words.NormalContract.{Zero, Lends, Stands, Sized, Fitted, Answers, Leaves, RuledAt, OwnedAt, KeptAt};
 
 // Whether the term at p has a projection.
 fn has_projection(kinds: &[u32], vals: &[u32], p: u32) -> bool
@@ -62,7 +62,9 @@ fn size_up(
     requires sight { ⌜ Sight (now kinds) (now vals) g ⌝ }
     requires place { ⌜ at ≤ length (now out) ⌝ }
     ensures out { λ _. ⌜ now (out .exit) ≡ now (out .entry) ⌝ }
-    ensures sized { λ r. ⌜ Sized (now (kinds .entry)) (now (vals .entry)) (now (heads .entry)) (now (kids .entry)) (now (heads .exit)) (now (kids .exit)) g x next fuel (now (out .entry)) at r ⌝ }
+    ensures sized { λ r. ⌜
+        Sized (now (kinds .entry)) (now (vals .entry)) (now (heads .entry)) (now (kids .entry)) (now (heads .exit)) (now (kids .exit)) g x next fuel
+        (now (out .entry)) at r ⌝ }
 {
     let e = show_tree(kinds, vals, heads, kids, g, x, fuel, out, at, false);
     if out.len() < e {
@@ -118,13 +120,19 @@ fn run(
     out: &mut [u8],
     at: usize,
 ) -> Normalised
-    requires room { ⌜ Room (now kinds) (now vals) (now heads) (now kids) g 0 most ⌝ }
+    requires room { ⌜ RecordRoom (now kinds) (now vals) (now heads) (now kids) g 0 most ⌝ }
     requires few { ⌜ (length (now rules) < 4294967296) × (levels < 4294967295) × (visits < 134217728) ⌝ }
     requires zero { ⌜ Zero (now heads) most × Zero (now kids) most ⌝ }
     requires place { ⌜ at ≤ length (now out) ⌝ }
     ensures out { λ _. ⌜ now (out .exit) ≡ now (out .entry) ⌝ }
-    ensures leaves { λ r. ⌜ Leaves (now (kinds .entry)) (now (vals .entry)) (now (heads .entry)) (now (kids .entry)) (now (heads .exit)) (now (kids .exit)) most r ⌝ }
-    ensures answers { λ r. ⌜ ((t : Term) (look : Look) → Held (now (kinds .entry)) (now (vals .entry)) p t → Looks (now (kinds .entry)) (now (vals .entry)) (now (rules .entry)) g look → Answers (now (kinds .entry)) (now (vals .entry)) (now (heads .exit)) (now (kids .exit)) (now (out .entry)) at levels most (normalise levels visits (lookBy look) t) r) ⌝ }
+    ensures leaves { λ r. ⌜
+        Leaves (now (kinds .entry)) (now (vals .entry)) (now (heads .entry)) (now (kids .entry)) (now (heads .exit)) (now (kids .exit)) most r ⌝ }
+    ensures answers { λ r. ⌜
+        ((t : Term) (look : Look)
+        → Held (now (kinds .entry)) (now (vals .entry)) p t
+        → Looks (now (kinds .entry)) (now (vals .entry)) (now (rules .entry)) g look
+        → Answers (now (kinds .entry)) (now (vals .entry)) (now (heads .exit)) (now (kids .exit)) (now (out .entry)) at levels most
+        (normalise levels visits (lookBy look) t) r) ⌝ }
 {
     if !has_projection(kinds, vals, p) {
         return size_up(kinds, vals, heads, kids, g, source(p), 0, 0, out, at);
@@ -177,7 +185,11 @@ fn span_at(kinds: &[u32], vals: &[u32], p: u32, len: usize) -> usize
 fn given(kinds: &[u32], vals: &[u32], interface: u32, owner: u32) -> Origin
     requires { ⌜ (length (now vals) ≡ length (now kinds)) × (length (now kinds) ≤ 32768) ⌝ }
     ensures sight { λ r. ⌜ Sight (now (kinds .entry)) (now (vals .entry)) r ⌝ }
-    ensures given { λ r. ⌜ ((i : Parts) (o : Term) → Held (now (kinds .entry)) (now (vals .entry)) owner o → Held (now (kinds .entry)) (now (vals .entry)) interface (node 20 i) → HeldGiven (now (kinds .entry)) (now (vals .entry)) r i o) ⌝ }
+    ensures given { λ r. ⌜
+        ((i : Parts) (o : Term)
+        → Held (now (kinds .entry)) (now (vals .entry)) owner o
+        → Held (now (kinds .entry)) (now (vals .entry)) interface (node 20 i)
+        → HeldGiven (now (kinds .entry)) (now (vals .entry)) r i o) ⌝ }
 {
     let len = kinds.len();
     let span = span_at(kinds, vals, owner, len);
@@ -217,8 +229,14 @@ pub fn normalise(
     requires place { ⌜ at ≤ length (now out) ⌝ }
     requires terms { ⌜ RuledAt (now kinds) (now vals) (now rules) p ⌝ }
     ensures out { λ _. ⌜ now (out .exit) ≡ now (out .entry) ⌝ }
-    ensures leaves { λ r. ⌜ Leaves (now (kinds .entry)) (now (vals .entry)) (now (heads .entry)) (now (kids .entry)) (now (heads .exit)) (now (kids .exit)) most r ⌝ }
-    ensures answers { λ r. ⌜ ((t : Term) (rs : List Pattern) → Held (now (kinds .entry)) (now (vals .entry)) p t → Ruled (now (kinds .entry)) (now (vals .entry)) (now (rules .entry)) 0 rs → Answers (now (kinds .entry)) (now (vals .entry)) (now (heads .exit)) (now (kids .exit)) (now (out .entry)) at levels most (normalise levels visits (byPatterns rs) t) r) ⌝ }
+    ensures leaves { λ r. ⌜
+        Leaves (now (kinds .entry)) (now (vals .entry)) (now (heads .entry)) (now (kids .entry)) (now (heads .exit)) (now (kids .exit)) most r ⌝ }
+    ensures answers { λ r. ⌜
+        ((t : Term) (rs : List Pattern)
+        → Held (now (kinds .entry)) (now (vals .entry)) p t
+        → Ruled (now (kinds .entry)) (now (vals .entry)) (now (rules .entry)) 0 rs
+        → Answers (now (kinds .entry)) (now (vals .entry)) (now (heads .exit)) (now (kids .exit)) (now (out .entry)) at levels most
+        (normalise levels visits (byPatterns rs) t) r) ⌝ }
 {
     let g = Origin {
         owner: 0,
@@ -259,8 +277,15 @@ pub fn with_associated_types(
     requires place { ⌜ at ≤ length (now out) ⌝ }
     requires terms { ⌜ OwnedAt (now kinds) (now vals) p interface owner ⌝ }
     ensures out { λ _. ⌜ now (out .exit) ≡ now (out .entry) ⌝ }
-    ensures leaves { λ r. ⌜ Leaves (now (kinds .entry)) (now (vals .entry)) (now (heads .entry)) (now (kids .entry)) (now (heads .exit)) (now (kids .exit)) most r ⌝ }
-    ensures answers { λ r. ⌜ ((t : Term) (i : Parts) (o : Term) → Held (now (kinds .entry)) (now (vals .entry)) p t → Held (now (kinds .entry)) (now (vals .entry)) interface (node 20 i) → Held (now (kinds .entry)) (now (vals .entry)) owner o → Answers (now (kinds .entry)) (now (vals .entry)) (now (heads .exit)) (now (kids .exit)) (now (out .entry)) at levels most (normalise levels visits (through i o) t) r) ⌝ }
+    ensures leaves { λ r. ⌜
+        Leaves (now (kinds .entry)) (now (vals .entry)) (now (heads .entry)) (now (kids .entry)) (now (heads .exit)) (now (kids .exit)) most r ⌝ }
+    ensures answers { λ r. ⌜
+        ((t : Term) (i : Parts) (o : Term)
+        → Held (now (kinds .entry)) (now (vals .entry)) p t
+        → Held (now (kinds .entry)) (now (vals .entry)) interface (node 20 i)
+        → Held (now (kinds .entry)) (now (vals .entry)) owner o
+        → Answers (now (kinds .entry)) (now (vals .entry)) (now (heads .exit)) (now (kids .exit)) (now (out .entry)) at levels most
+        (normalise levels visits (through i o) t) r) ⌝ }
 {
     let g = given(kinds, vals, interface, owner);
     run(
@@ -279,7 +304,7 @@ pub fn with_associated_types(
     )
 }
 
-// Writes what `normalise` or `with_associated_types` has kept at a position, clears its records, and returns the position behind it.
+// Writes what `normalise` or `with_associated_types` has kept at a position, clears its records, and returns the position after it.
 pub fn write_normalised(
     kinds: &[u32],
     vals: &[u32],
@@ -293,7 +318,11 @@ pub fn write_normalised(
     requires place { ⌜ at ≤ length (now out) ⌝ }
     requires kept { ⌜ KeptAt (now kinds) (now vals) (now heads) (now kids) w levels (now out) at ⌝ }
     ensures areas { λ _. ⌜ area (now (heads .exit)) (now (kids .exit)) ≡ blank (area (now (heads .entry)) (now (kids .entry))) 0 (w .next) ⌝ }
-    ensures wrote { λ r. ⌜ ((u : Term) → Stands (now (kinds .entry)) (now (vals .entry)) (now (heads .entry)) (now (kids .entry)) w levels u → at + length (bytes u) ≤ length (now (out .entry)) → (r ≡ at + length (bytes u)) × (now (out .exit) ≡ sets (now (out .entry)) at (bytes u))) ⌝ }
+    ensures wrote { λ r. ⌜
+        ((u : Term)
+        → Stands (now (kinds .entry)) (now (vals .entry)) (now (heads .entry)) (now (kids .entry)) w levels u
+        → at + length (bytes u) ≤ length (now (out .entry))
+        → (r ≡ at + length (bytes u)) × (now (out .exit) ≡ sets (now (out .entry)) at (bytes u))) ⌝ }
 {
     let g = w.given;
     let x = Content {

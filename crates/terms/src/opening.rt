@@ -7,14 +7,14 @@ use super::rows::child_here;
 use super::rows::number_at;
 use super::rows::row_of;
 use super::runs::wide;
-use super::view::step;
-use super::view::token_at;
+use super::virtual_tokens::step;
+use super::virtual_tokens::token_at;
 use super::write::token_len;
 ghost use mathlib.Core.Path.{_≡_};
 ghost use mathlib.Core.Bool.{false};
 ghost use Prim.Native.Nat.{_+_, _≤_, _<_};
-ghost use Rattle.terms.specs.View.{view, Sight};
-ghost use Rattle.terms.specs.Arena.{TagAt, OwnAt, Counts, Frames, Room, Opens, Ordered};
+ghost use Rattle.terms.specs.Words.VirtualTokens.{view, Sight};
+ghost use Rattle.terms.specs.Words.Arena.{TagAt, OwnAt, Counts, Frames, RecordRoom, Opens, Ordered};
 
 // The tag of the term whose first token stands at h; 1 of a variable.
 pub fn tag_at(kinds: &[u32], vals: &[u32], g: Origin, h: u32) -> u32
@@ -39,10 +39,12 @@ fn put_children(
     next: usize,
     most: usize,
 ) -> Count
-    requires { ⌜ Room (now kinds) (now vals) (now heads) (now kids) g next most ⌝ }
+    requires { ⌜ RecordRoom (now kinds) (now vals) (now heads) (now kids) g next most ⌝ }
     ensures bound { λ r. ⌜ next + r .n ≤ most ⌝ }
     ensures frames { λ r. ⌜ Frames (now (heads .entry)) (now (kids .entry)) (now (heads .exit)) (now (kids .exit)) next (next + r .n) ⌝ }
-    ensures opens { λ r. ⌜ Opens (view (now (kinds .entry)) (now (vals .entry)) g) (now (heads .entry)) (now (kids .entry)) (now (heads .exit)) (now (kids .exit)) (x .head) (x .kids) next (r .n) most (r .over) ⌝ }
+    ensures opens { λ r. ⌜
+        Opens (view (now (kinds .entry)) (now (vals .entry)) g) (now (heads .entry)) (now (kids .entry)) (now (heads .exit)) (now (kids .exit)) (x .head)
+        (x .kids) next (r .n) most (r .over) ⌝ }
 {
     let part = row_of(kinds, vals, g, x.head);
     let end = part.end;
@@ -77,10 +79,12 @@ pub fn begin(
     next: usize,
     most: usize,
 ) -> Begun
-    requires { ⌜ Room (now kinds) (now vals) (now heads) (now kids) g next most ⌝ }
+    requires { ⌜ RecordRoom (now kinds) (now vals) (now heads) (now kids) g next most ⌝ }
     ensures bound { λ r. ⌜ next + r .n ≤ most ⌝ }
     ensures frames { λ r. ⌜ Frames (now (heads .entry)) (now (kids .entry)) (now (heads .exit)) (now (kids .exit)) next (next + r .n) ⌝ }
-    ensures opens { λ r. ⌜ Opens (view (now (kinds .entry)) (now (vals .entry)) g) (now (heads .entry)) (now (kids .entry)) (now (heads .exit)) (now (kids .exit)) (x .head) (x .kids) next (r .n) most (r .over) ⌝ }
+    ensures opens { λ r. ⌜
+        Opens (view (now (kinds .entry)) (now (vals .entry)) g) (now (heads .entry)) (now (kids .entry)) (now (heads .exit)) (now (kids .exit)) (x .head)
+        (x .kids) next (r .n) most (r .over) ⌝ }
     ensures ordered { λ r. ⌜ Ordered (view (now (kinds .entry)) (now (vals .entry)) g) (x .head) (r .tag) (r .arguments) (r .members) ⌝ }
     ensures tagged { λ r. ⌜ TagAt (view (now (kinds .entry)) (now (vals .entry)) g) (x .head) (r .tag) ⌝ }
     ensures counted { λ r. ⌜ (12 ≤ r .tag → Counts (view (now (kinds .entry)) (now (vals .entry)) g) (x .head) (r .arguments) (r .members)) ⌝ }

@@ -12,12 +12,12 @@ ghost use Prim.Native.Nat.{ℕ, _≤_, _<_};
 ghost use lib.ListN.{length};
 ghost use Rattle.terms.specs.Parser.{got};
 ghost use Rattle.terms.specs.Term.{Term};
-ghost use Rattle.terms.specs.Held.{Held};
+ghost use Rattle.terms.specs.Words.Held.{Held};
 ghost use Rattle.terms.specs.Formed.{Formed};
 ghost use Rattle.terms.specs.Questions.{Parameter, countedBy, enteredBy, counted, entered, asked};
 ghost use Rattle.terms.specs.Parameters.{parameters};
-ghost use Rattle.terms.specs.Placed.{FormedAt, ParametersAt};
-ghost use Rattle.terms.specs.Asking.{tagOf, word, Asking};
+ghost use Rattle.terms.specs.Words.TermsAtPlaces.{FormedAt, ParametersAt};
+ghost use Rattle.terms.specs.Words.QuestionsContract.{tagOf, word, Asking};
 
 // The tag of the term whose first token has this kind.
 pub fn tag_of(k: u32) -> u32
@@ -117,7 +117,12 @@ fn ask_row(
     params: u64,
 ) -> bool
     requires { ⌜ (a ≤ e) × (e ≤ length (now kinds)) × (length (now vals) ≡ length (now kinds)) ⌝ }
-    ensures { λ r. ⌜ ((qs : List Parameter) (n : ℕ) → parameters (now (s .entry)) params at ≡ got qs n → (whole : Bool) → Asking (now (kinds .entry)) (now (vals .entry)) a e (counted qs question) (entered question) whole → r ≡ whole) ⌝ }
+    ensures { λ r. ⌜
+        ((qs : List Parameter) (n : ℕ)
+        → parameters (now (s .entry)) params at ≡ got qs n
+        → (whole : Bool)
+        → Asking (now (kinds .entry)) (now (vals .entry)) a e (counted qs question) (entered question) whole
+        → r ≡ whole) ⌝ }
 {
     let mut p = a;
     while p < e {
@@ -154,7 +159,13 @@ pub fn ask(
     requires place { ⌜ (p < length (now kinds)) × (length (now vals) ≡ length (now kinds)) ⌝ }
     requires term { ⌜ FormedAt (now kinds) (now vals) p ⌝ }
     requires parameters { ⌜ ParametersAt (now s) params at ⌝ }
-    ensures { λ r. ⌜ ((qs : List Parameter) (n : ℕ) → parameters (now (s .entry)) params at ≡ got qs n → (t : Term) → Held (now (kinds .entry)) (now (vals .entry)) p t → Formed t → r ≡ asked qs question t) ⌝ }
+    ensures { λ r. ⌜
+        ((qs : List Parameter) (n : ℕ)
+        → parameters (now (s .entry)) params at ≡ got qs n
+        → (t : Term)
+        → Held (now (kinds .entry)) (now (vals .entry)) p t
+        → Formed t
+        → r ≡ asked qs question t) ⌝ }
 {
     let n = skip(kinds, vals, p, kinds.len() - p);
     ask_row(kinds, vals, p, p + n, question, s, at, params)

@@ -12,22 +12,23 @@ ghost use Prim.Native.Nat.{ℕ, _+_, _-_, _*_, _^_, _≤_, _<_};
 ghost use lib.Dec.{eqb};
 ghost use lib.ListN.{length};
 ghost use Rattle.terms.specs.Result.{pick};
-ghost use Rattle.terms.specs.Asking.{word};
-ghost use Rattle.terms.specs.Views.{recovery};
+ghost use Rattle.terms.specs.Words.QuestionsContract.{word};
+ghost use Rattle.terms.specs.Comparison.{recovery};
 ghost use Rattle.terms.specs.Term.{Term, Parts, node, end, sub, bytes, partBytes, Subs};
-ghost use Rattle.terms.specs.Held.{Held, HeldParts};
+ghost use Rattle.terms.specs.Words.Held.{Held, HeldParts};
 ghost use Rattle.terms.specs.Shape.{Shape, manyTerms, nominal, done};
 ghost use Rattle.terms.specs.Formed.{Formed, Fit};
-ghost use Rattle.terms.specs.Placed.{FormedAt, RecoversAt};
+ghost use Rattle.terms.specs.Words.TermsAtPlaces.{FormedAt, RecoversAt};
 ghost use Rattle.terms.specs.Tree.{row};
 ghost use Rattle.terms.specs.Recovery.{recover-from, recover-row, reach, nominalReach};
-ghost use Rattle.terms.specs.Recovering.{Put, upto, alike, Paired, Parted};
+ghost use Rattle.terms.specs.Words.RecoverContract.{Put, upto, alike, Paired, Parted};
 
-// The place behind n terms from i on, at most e.
+// The place after n terms from i on, at most e.
 fn behind_terms(kinds: &[u32], vals: &[u32], i: usize, e: usize, n: u32) -> usize
     requires { ⌜ (i ≤ e) × (e ≤ length (now kinds)) × (length (now vals) ≡ length (now kinds)) ⌝ }
     ensures within { λ r. ⌜ (i ≤ r) × (r ≤ e) ⌝ }
-    ensures behind { λ r. ⌜ ((s : Shape) (ps : Parts) → HeldParts (now (kinds .entry)) (now (vals .entry)) i e ps → Fit (manyTerms n s) ps → r ≡ i + upto n ps) ⌝ }
+    ensures behind { λ r. ⌜
+        ((s : Shape) (ps : Parts) → HeldParts (now (kinds .entry)) (now (vals .entry)) i e ps → Fit (manyTerms n s) ps → r ≡ i + upto n ps) ⌝ }
 {
     let mut p = i;
     let mut left = n;
@@ -62,7 +63,11 @@ fn paired(kinds: &[u32], i: usize, ae: usize, j: usize, be: usize) -> bool
 // Whether two rows have the same numbers at the same places.
 fn alike_rows(kinds: &[u32], vals: &[u32], a: usize, ae: usize, b: usize, be: usize) -> bool
     requires { ⌜ (a ≤ ae) × (ae ≤ length (now kinds)) × (b ≤ be) × (be ≤ length (now kinds)) × (length (now vals) ≡ length (now kinds)) ⌝ }
-    ensures { λ r. ⌜ ((ps qs : Parts) → HeldParts (now (kinds .entry)) (now (vals .entry)) a ae ps → HeldParts (now (kinds .entry)) (now (vals .entry)) b be qs → r ≡ alike ps qs) ⌝ }
+    ensures { λ r. ⌜
+        ((ps qs : Parts)
+        → HeldParts (now (kinds .entry)) (now (vals .entry)) a ae ps
+        → HeldParts (now (kinds .entry)) (now (vals .entry)) b be qs
+        → r ≡ alike ps qs) ⌝ }
 {
     let mut i = a;
     let mut j = b;
@@ -88,7 +93,15 @@ fn alike_rows(kinds: &[u32], vals: &[u32], a: usize, ae: usize, b: usize, be: us
 fn nominal_reach(kinds: &[u32], vals: &[u32], p: usize, pe: usize, q: usize, qe: usize) -> usize
     requires { ⌜ (p < pe) × (pe ≤ length (now kinds)) × (q < qe) × (qe ≤ length (now kinds)) × (length (now vals) ≡ length (now kinds)) ⌝ }
     ensures within { λ r. ⌜ (p < r) × (r ≤ pe) ⌝ }
-    ensures reached { λ r. ⌜ ((k j : ℕ) (ps qs : Parts) → (k ≡ 1 → ⊥) → (j ≡ 1 → ⊥) → HeldParts (now (kinds .entry)) (now (vals .entry)) p pe (sub (node k ps) end) → HeldParts (now (kinds .entry)) (now (vals .entry)) q qe (sub (node j qs) end) → Fit (nominal done) ps → Fit (nominal done) qs → r ≡ p + 1 + upto (nominalReach ps qs) ps) ⌝ }
+    ensures reached { λ r. ⌜
+        ((k j : ℕ) (ps qs : Parts)
+        → (k ≡ 1 → ⊥)
+        → (j ≡ 1 → ⊥)
+        → HeldParts (now (kinds .entry)) (now (vals .entry)) p pe (sub (node k ps) end)
+        → HeldParts (now (kinds .entry)) (now (vals .entry)) q qe (sub (node j qs) end)
+        → Fit (nominal done) ps
+        → Fit (nominal done) qs
+        → r ≡ p + 1 + upto (nominalReach ps qs) ps) ⌝ }
 {
     if word_at(vals, p + 1, pe) != word_at(vals, q + 1, qe) {
         return p + 1;
@@ -115,7 +128,13 @@ fn nominal_reach(kinds: &[u32], vals: &[u32], p: usize, pe: usize, q: usize, qe:
 fn reach_end(kinds: &[u32], vals: &[u32], p: usize, pe: usize, q: usize, qe: usize) -> usize
     requires { ⌜ (p < pe) × (pe ≤ length (now kinds)) × (q < qe) × (qe ≤ length (now kinds)) × (length (now vals) ≡ length (now kinds)) ⌝ }
     ensures within { λ r. ⌜ (p < r) × (r ≤ pe) ⌝ }
-    ensures reached { λ r. ⌜ ((t u : Term) → HeldParts (now (kinds .entry)) (now (vals .entry)) p pe (sub t end) → HeldParts (now (kinds .entry)) (now (vals .entry)) q qe (sub u end) → Formed t → Formed u → r ≡ p + 1 + upto (reach t u) (row t)) ⌝ }
+    ensures reached { λ r. ⌜
+        ((t u : Term)
+        → HeldParts (now (kinds .entry)) (now (vals .entry)) p pe (sub t end)
+        → HeldParts (now (kinds .entry)) (now (vals .entry)) q qe (sub u end)
+        → Formed t
+        → Formed u
+        → r ≡ p + 1 + upto (reach t u) (row t)) ⌝ }
 {
     let k = tag_of(word(kinds, p));
     if k != tag_of(word(kinds, q)) {
@@ -180,7 +199,13 @@ fn recover_term(
     requires places { ⌜ (p < pe) × (pe ≤ length (now kinds)) × (q < qe) × (qe ≤ length (now kinds)) × (length (now vals) ≡ length (now kinds)) ⌝ }
     requires room { ⌜ at + 6 * (pe - p) + 6 * (qe - q) < 2 ^ 64 ⌝ }
     ensures bound { λ r. ⌜ (at ≤ r) × (r ≤ at + 6 * (pe - p) + 6 * (qe - q)) ⌝ }
-    ensures put { λ r. ⌜ ((t u : Term) → HeldParts (now (kinds .entry)) (now (vals .entry)) p pe (sub t end) → HeldParts (now (kinds .entry)) (now (vals .entry)) q qe (sub u end) → Formed t → Formed u → Put (now (out .entry)) (now (out .exit)) at r (bytes (recover-from t u))) ⌝ }
+    ensures put { λ r. ⌜
+        ((t u : Term)
+        → HeldParts (now (kinds .entry)) (now (vals .entry)) p pe (sub t end)
+        → HeldParts (now (kinds .entry)) (now (vals .entry)) q qe (sub u end)
+        → Formed t
+        → Formed u
+        → Put (now (out .entry)) (now (out .exit)) at r (bytes (recover-from t u))) ⌝ }
 {
     let k = tag_of(word(kinds, p));
     if stays(k, tag_of(word(kinds, q))) {
@@ -206,10 +231,18 @@ fn recover_row(
     out: &mut [u8],
     at: usize,
 ) -> usize
-    requires places { ⌜ (p ≤ stop) × (stop ≤ pe) × (pe ≤ length (now kinds)) × (q ≤ qe) × (qe ≤ length (now kinds)) × (length (now vals) ≡ length (now kinds)) ⌝ }
+    requires places { ⌜
+        (p ≤ stop) × (stop ≤ pe) × (pe ≤ length (now kinds)) × (q ≤ qe) × (qe ≤ length (now kinds)) × (length (now vals) ≡ length (now kinds)) ⌝ }
     requires room { ⌜ at + 6 * (pe - p) + 6 * (qe - q) < 2 ^ 64 ⌝ }
     ensures bound { λ r. ⌜ (at ≤ r) × (r ≤ at + 6 * (pe - p) + 6 * (qe - q)) ⌝ }
-    ensures put { λ r. ⌜ ((c : ℕ) (ps qs : Parts) → HeldParts (now (kinds .entry)) (now (vals .entry)) p pe ps → HeldParts (now (kinds .entry)) (now (vals .entry)) q qe qs → Subs Formed ps → Subs Formed qs → stop ≡ p + upto c ps → Put (now (out .entry)) (now (out .exit)) at r (partBytes (recover-row ps c qs))) ⌝ }
+    ensures put { λ r. ⌜
+        ((c : ℕ) (ps qs : Parts)
+        → HeldParts (now (kinds .entry)) (now (vals .entry)) p pe ps
+        → HeldParts (now (kinds .entry)) (now (vals .entry)) q qe qs
+        → Subs Formed ps
+        → Subs Formed qs
+        → stop ≡ p + upto c ps
+        → Put (now (out .entry)) (now (out .exit)) at r (partBytes (recover-row ps c qs))) ⌝ }
 {
     let mut i = p;
     let mut j = q;
@@ -235,7 +268,13 @@ pub fn recovered_len(kinds: &[u32], vals: &[u32], a: usize, b: usize) -> usize
     requires places { ⌜ (a < length (now kinds)) × (b < length (now kinds)) × (length (now vals) ≡ length (now kinds)) ⌝ }
     requires room { ⌜ 12 * length (now kinds) < 2 ^ 64 ⌝ }
     requires terms { ⌜ FormedAt (now kinds) (now vals) a × FormedAt (now kinds) (now vals) b ⌝ }
-    ensures { λ r. ⌜ ((t u : Term) → Held (now (kinds .entry)) (now (vals .entry)) a t → Held (now (kinds .entry)) (now (vals .entry)) b u → Formed t → Formed u → r ≡ length (bytes (recover-from t u))) ⌝ }
+    ensures { λ r. ⌜
+        ((t u : Term)
+        → Held (now (kinds .entry)) (now (vals .entry)) a t
+        → Held (now (kinds .entry)) (now (vals .entry)) b u
+        → Formed t
+        → Formed u
+        → r ≡ length (bytes (recover-from t u))) ⌝ }
 {
     let n = skip(kinds, vals, a, kinds.len() - a);
     let m = skip(kinds, vals, b, kinds.len() - b);
@@ -255,7 +294,13 @@ pub fn write_recovered(
     requires places { ⌜ (a < length (now kinds)) × (b < length (now kinds)) × (length (now vals) ≡ length (now kinds)) ⌝ }
     requires room { ⌜ at + 12 * length (now kinds) < 2 ^ 64 ⌝ }
     requires terms { ⌜ RecoversAt (now kinds) (now vals) a b (now out) at ⌝ }
-    ensures { λ r. ⌜ ((t u : Term) → Held (now (kinds .entry)) (now (vals .entry)) a t → Held (now (kinds .entry)) (now (vals .entry)) b u → Formed t → Formed u → Put (now (out .entry)) (now (out .exit)) at r (bytes (recover-from t u))) ⌝ }
+    ensures { λ r. ⌜
+        ((t u : Term)
+        → Held (now (kinds .entry)) (now (vals .entry)) a t
+        → Held (now (kinds .entry)) (now (vals .entry)) b u
+        → Formed t
+        → Formed u
+        → Put (now (out .entry)) (now (out .exit)) at r (bytes (recover-from t u))) ⌝ }
 {
     let n = skip(kinds, vals, a, kinds.len() - a);
     let m = skip(kinds, vals, b, kinds.len() - b);

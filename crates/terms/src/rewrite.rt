@@ -17,9 +17,10 @@ ghost use Prim.Native.Nat.{_+_, _-_, _≤_, _<_};
 ghost use lib.ListN.{length};
 ghost use lib.Seq.{sets};
 ghost use Rattle.terms.specs.Result.{pick};
-ghost use Rattle.terms.specs.Writing.{spelt};
-ghost use Rattle.terms.specs.Search.{argumentFor};
-ghost use Rattle.terms.specs.Rewriting.{by, index, generic, inContext, self, chosen, piece, pace, rewritten, written, Ready, Space, Inside, Writes, Rewrites};
+ghost use Rattle.terms.specs.Words.TokenBytes.{spelt};
+ghost use Rattle.terms.specs.Words.FindContract.{argumentFor};
+ghost use Rattle.terms.specs.Words.RewriteContract.{by, index, generic, inContext, self, chosen, piece, pace, rewritten, written, Ready, Space, Inside};
+ghost use Rattle.terms.specs.Words.RewriteContract.{Writes, Rewrites};
 
 // What was found, or the term itself.
 fn taken(found: Lookup) -> Choice
@@ -144,7 +145,8 @@ fn emit_run(
     requires run { ⌜ (from + count ≤ length (now kinds)) × (from + count ≤ length (now vals)) ⌝ }
     requires space { ⌜ Space on i (length (spelt (now kinds) (now vals) from count)) (length (now out)) ⌝ }
     ensures next { λ r. ⌜ r ≡ i + length (spelt (now (kinds .entry)) (now (vals .entry)) from count) ⌝ }
-    ensures wrote { λ _. ⌜ now (out .exit) ≡ pick on (sets (now (out .entry)) i (spelt (now (kinds .entry)) (now (vals .entry)) from count)) (now (out .entry)) ⌝ }
+    ensures wrote { λ _. ⌜
+        now (out .exit) ≡ pick on (sets (now (out .entry)) i (spelt (now (kinds .entry)) (now (vals .entry)) from count)) (now (out .entry)) ⌝ }
 {
     if on {
         return write_run(kinds, vals, from, count, out, i);
@@ -212,7 +214,9 @@ pub fn rewrite_run(
     requires run { ⌜ from + count ≤ length (now kinds) ⌝ }
     requires space { ⌜ Space on at (length (rewritten (now kinds) (now vals) (now s) b from count)) (length (now out)) ⌝ }
     ensures next { λ r. ⌜ r ≡ at + length (rewritten (now (kinds .entry)) (now (vals .entry)) (now (s .entry)) b from count) ⌝ }
-    ensures wrote { λ _. ⌜ now (out .exit) ≡ pick on (sets (now (out .entry)) at (rewritten (now (kinds .entry)) (now (vals .entry)) (now (s .entry)) b from count)) (now (out .entry)) ⌝ }
+    ensures wrote { λ _. ⌜
+        now (out .exit)
+        ≡ pick on (sets (now (out .entry)) at (rewritten (now (kinds .entry)) (now (vals .entry)) (now (s .entry)) b from count)) (now (out .entry)) ⌝ }
 {
     let end = from + count;
     let mut i = at;

@@ -6,16 +6,16 @@ use super::Origin;
 use super::Part;
 use super::runs::wide;
 use super::runs::word;
-use super::view::step;
-use super::view::token_at;
+use super::virtual_tokens::step;
+use super::virtual_tokens::token_at;
 ghost use mathlib.Core.Path.{_≡_};
 ghost use mathlib.Core.Bool.{Bool};
 ghost use Prim.Native.Nat.{ℕ, _<_};
 ghost use lib.ListN.{getD, getElem?};
-ghost use Rattle.terms.specs.View.{view, Sight};
+ghost use Rattle.terms.specs.Words.VirtualTokens.{view, Sight};
 ghost use Rattle.terms.specs.Term.{Term};
 ghost use Rattle.terms.specs.Tree.{children};
-ghost use Rattle.terms.specs.Arena.{headOf, kidsOf, Tree, RowAt, NumberAt, ValueAt, KeyOf, Fetched};
+ghost use Rattle.terms.specs.Words.Arena.{headOf, kidsOf, Tree, RowAt, NumberAt, ValueAt, KeyOf, Fetched};
 
 // A place past all tokens.
 const NOWHERE: usize = 4294967295;
@@ -127,7 +127,10 @@ pub fn child_at(
     i: usize,
 ) -> Found
     requires { ⌜ Sight (now kinds) (now vals) g ⌝ }
-    ensures { λ r. ⌜ ((S : ℕ → Bool) (t : Term) → Tree (view (now (kinds .entry)) (now (vals .entry)) g) (now (heads .entry)) (now (kids .entry)) S (x .head) (x .kids) t → Fetched (view (now (kinds .entry)) (now (vals .entry)) g) (now (heads .entry)) (now (kids .entry)) S (getElem? (children t) i) r) ⌝ }
+    ensures { λ r. ⌜
+        ((S : ℕ → Bool) (t : Term)
+        → Tree (view (now (kinds .entry)) (now (vals .entry)) g) (now (heads .entry)) (now (kids .entry)) S (x .head) (x .kids) t
+        → Fetched (view (now (kinds .entry)) (now (vals .entry)) g) (now (heads .entry)) (now (kids .entry)) S (getElem? (children t) i) r) ⌝ }
 {
     let part = row_of(kinds, vals, g, x.head);
     let end = part.end;

@@ -5,7 +5,7 @@ ghost use mathlib.Core.Path.{_≡_};
 ghost use Prim.Native.Nat.{_<_};
 ghost use lib.ListN.{length};
 ghost use Rattle.terms.specs.Lookup.{ruleAt};
-ghost use Rattle.terms.specs.RuleList.{hasMember, firstWith, rulesFrom, NextWith};
+ghost use Rattle.terms.specs.Words.RuleListContract.{hasMember, firstWith, rulesFrom, NextWith};
 
 // The r-th rule.
 pub fn rule_at(rules: &[u32], r: usize) -> Rule

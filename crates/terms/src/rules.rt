@@ -11,19 +11,19 @@ use super::alike::same_rows;
 use super::rule_list::next_rule;
 use super::rule_list::rule_at;
 use super::runs::wide;
-use super::view::step;
-use super::view::token_at;
+use super::virtual_tokens::step;
+use super::virtual_tokens::token_at;
 ghost use mathlib.Core.Path.{_≡_};
 ghost use mathlib.Core.Bool.{Bool, true, false};
 ghost use mathlib.Core.List.{List};
 ghost use Prim.Native.Nat.{ℕ, _+_, _*_, _≤_, _<_};
 ghost use lib.ListN.{length, getD};
-ghost use Rattle.terms.specs.View.{view, Sight};
+ghost use Rattle.terms.specs.Words.VirtualTokens.{view, Sight};
 ghost use Rattle.terms.specs.Term.{Term, depths};
 ghost use Rattle.terms.specs.Tree.{row};
 ghost use Rattle.terms.specs.Lookup.{Pattern, byPatterns, Ruled};
-ghost use Rattle.terms.specs.Arena.{Tree, Cut, Fetched};
-ghost use Rattle.terms.specs.RuleSearch.{TermStarts, Numbers, Fronted, MemberIn};
+ghost use Rattle.terms.specs.Words.Arena.{Tree, Cut, Fetched};
+ghost use Rattle.terms.specs.Words.RulesContract.{TermStarts, Numbers, Fronted, MemberIn};
 
 // A place past all tokens.
 const NOWHERE: usize = 4294967295;
@@ -61,8 +61,16 @@ fn term_cursor(kinds: &[u32], vals: &[u32], g: Origin, p: usize) -> Cursor
 // Whether the number m stands at a place of a row that ends at `end`.
 fn number_next(kinds: &[u32], vals: &[u32], g: Origin, at: usize, end: usize, m: u32) -> bool
     requires { ⌜ Sight (now kinds) (now vals) g ⌝ }
-    ensures yes { λ r. ⌜ (r ≡ true → (at < end) × (getD (view (now (kinds .entry)) (now (vals .entry)) g .kinds) at 0 ≡ 0) × (getD (view (now (kinds .entry)) (now (vals .entry)) g .vals) at 0 ≡ m)) ⌝ }
-    ensures no { λ r. ⌜ (r ≡ false → at < end → getD (view (now (kinds .entry)) (now (vals .entry)) g .kinds) at 0 ≡ 0 → getD (view (now (kinds .entry)) (now (vals .entry)) g .vals) at 0 ≡ m → ⊥) ⌝ }
+    ensures yes { λ r. ⌜
+        (r ≡ true
+        → (at < end) × (getD (view (now (kinds .entry)) (now (vals .entry)) g .kinds) at 0 ≡ 0)
+        × (getD (view (now (kinds .entry)) (now (vals .entry)) g .vals) at 0 ≡ m)) ⌝ }
+    ensures no { λ r. ⌜
+        (r ≡ false
+        → at < end
+        → getD (view (now (kinds .entry)) (now (vals .entry)) g .kinds) at 0 ≡ 0
+        → getD (view (now (kinds .entry)) (now (vals .entry)) g .vals) at 0 ≡ m
+        → ⊥) ⌝ }
 {
     if end <= at {
         return false;
@@ -74,7 +82,7 @@ fn number_next(kinds: &[u32], vals: &[u32], g: Origin, at: usize, end: usize, m:
     a.value == m
 }
 
-// Whether two numbers come next in a row, and the place behind them.
+// Whether two numbers come next in a row, and the place after them.
 fn two_numbers(kinds: &[u32], vals: &[u32], g: Origin, x: Cursor, m: u32, n: u32) -> Met
     requires sight { ⌜ Sight (now kinds) (now vals) g ⌝ }
     requires cut { ⌜ Cut x ⌝ }
@@ -90,7 +98,7 @@ fn two_numbers(kinds: &[u32], vals: &[u32], g: Origin, x: Cursor, m: u32, n: u32
     Met::Behind(at + 2, x.child)
 }
 
-// Whether a row begins with what a rule has before its arguments, and the place behind that.
+// Whether a row begins with what a rule has before its arguments, and the place after that.
 fn same_front(
     kinds: &[u32],
     vals: &[u32],
@@ -103,7 +111,9 @@ fn same_front(
 ) -> Met
     requires sight { ⌜ Sight (now kinds) (now vals) g ⌝ }
     requires cut { ⌜ Cut x ⌝ }
-    ensures { λ r. ⌜ Fronted (now (kinds .entry)) (now (vals .entry)) (view (now (kinds .entry)) (now (vals .entry)) g) (now (heads .entry)) (now (kids .entry)) x rule fuel r ⌝ }
+    ensures { λ r. ⌜
+        Fronted (now (kinds .entry)) (now (vals .entry)) (view (now (kinds .entry)) (now (vals .entry)) g) (now (heads .entry)) (now (kids .entry)) x rule fuel
+        r ⌝ }
 {
     let receiver = term_cursor(kinds, vals, g, wide(rule.receiver));
     let a = same_rows(kinds, vals, heads, kids, g, x, receiver, fuel);
@@ -154,7 +164,12 @@ pub fn find_rule(
 ) -> Found
     requires sight { ⌜ Sight (now kinds) (now vals) g ⌝ }
     requires few { ⌜ length (now rules) < 4294967296 ⌝ }
-    ensures { λ r. ⌜ ((S : ℕ → Bool) (t : Term) (rs : List Pattern) → Tree (view (now (kinds .entry)) (now (vals .entry)) g) (now (heads .entry)) (now (kids .entry)) S (x .head) (x .kids) t → depths (row t) ≤ fuel → Ruled (now (kinds .entry)) (now (vals .entry)) (now (rules .entry)) 0 rs → Fetched (view (now (kinds .entry)) (now (vals .entry)) g) (now (heads .entry)) (now (kids .entry)) S (byPatterns rs (row t)) r) ⌝ }
+    ensures { λ r. ⌜
+        ((S : ℕ → Bool) (t : Term) (rs : List Pattern)
+        → Tree (view (now (kinds .entry)) (now (vals .entry)) g) (now (heads .entry)) (now (kids .entry)) S (x .head) (x .kids) t
+        → depths (row t) ≤ fuel
+        → Ruled (now (kinds .entry)) (now (vals .entry)) (now (rules .entry)) 0 rs
+        → Fetched (view (now (kinds .entry)) (now (vals .entry)) g) (now (heads .entry)) (now (kids .entry)) S (byPatterns rs (row t)) r) ⌝ }
 {
     let s = cursor(kinds, vals, g, x);
     let member = member_in(kinds, vals, g, s);

@@ -3,12 +3,12 @@ ghost use mathlib.Core.Path.{_≡_};
 ghost use mathlib.Core.Bool.{true, false};
 ghost use Prim.Native.Nat.{_+_, _≤_, _<_};
 ghost use lib.ListN.{length, getD};
-ghost use Rattle.terms.specs.Tokens.{toks};
+ghost use Rattle.terms.specs.Words.Tokens.{toks};
 ghost use Rattle.terms.specs.Term.{Term};
-ghost use Rattle.terms.specs.Held.{Held, span};
+ghost use Rattle.terms.specs.Words.Held.{Held, span};
 ghost use Rattle.terms.specs.Tree.{same};
 ghost use Rattle.terms.specs.Questions.{among};
-ghost use Rattle.terms.specs.Search.{stride};
+ghost use Rattle.terms.specs.Words.FindContract.{stride};
 ghost use mathlib.Core.List.{[], _∷_};
 
 pub fn wide(x: u32) -> usize
@@ -81,7 +81,11 @@ pub fn stride(kinds: &[u32], vals: &[u32], i: usize, room: usize) -> usize
 // How many tokens the term at i has, at least 1 and at most `room`.
 pub fn skip(kinds: &[u32], vals: &[u32], i: usize, room: usize) -> usize
     requires { ⌜ (i < length (now kinds)) × (length (now vals) ≡ length (now kinds)) × (1 ≤ room) ⌝ }
-    ensures { λ r. ⌜ (1 ≤ r) × (r ≤ room) × (1 ≤ span (getD (now (kinds .entry)) i 0) (getD (now (vals .entry)) i 0) → span (getD (now (kinds .entry)) i 0) (getD (now (vals .entry)) i 0) ≤ room → r ≡ span (getD (now (kinds .entry)) i 0) (getD (now (vals .entry)) i 0)) ⌝ }
+    ensures { λ r. ⌜
+        (1 ≤ r)
+        × (r ≤ room)
+        × (1 ≤ span (getD (now (kinds .entry)) i 0) (getD (now (vals .entry)) i 0) → span (getD (now (kinds .entry)) i 0) (getD (now (vals .entry)) i 0) ≤ room
+        → r ≡ span (getD (now (kinds .entry)) i 0) (getD (now (vals .entry)) i 0)) ⌝ }
 {
     stride(kinds, vals, i, room)
 }

@@ -1,4 +1,4 @@
-// Tokens and contents are sized, or written where `on`. What is returned is the position behind them, or, where they do not fit, one past the end of `out`.
+// Tokens and contents are sized, or written where `on`. What is returned is the position after them, or, where they do not fit, one past the end of `out`.
 use super::Content;
 use super::Cursor;
 use super::Origin;
@@ -6,8 +6,8 @@ use super::Token;
 use super::alike::cursor;
 use super::rows::child_here;
 use super::runs::wide;
-use super::view::step;
-use super::view::token_at;
+use super::virtual_tokens::step;
+use super::virtual_tokens::token_at;
 use super::write::run_len;
 use super::write::token_len;
 use super::write::write_run;
@@ -16,11 +16,11 @@ ghost use mathlib.Core.Path.{_≡_};
 ghost use mathlib.Core.Bool.{Bool};
 ghost use Prim.Native.Nat.{ℕ, _+_, _≤_, _<_};
 ghost use lib.ListN.{length};
-ghost use Rattle.terms.specs.Writing.{plain, spelt};
-ghost use Rattle.terms.specs.View.{view, Sight};
+ghost use Rattle.terms.specs.Words.TokenBytes.{plain, spelt};
+ghost use Rattle.terms.specs.Words.VirtualTokens.{view, Sight};
 ghost use Rattle.terms.specs.Term.{Term, Parts, depth, depths, bytes, partBytes};
-ghost use Rattle.terms.specs.Arena.{Tree, From, Cut};
-ghost use Rattle.terms.specs.Show.{Shows, Kept};
+ghost use Rattle.terms.specs.Words.Arena.{Tree, From, Cut};
+ghost use Rattle.terms.specs.Words.ShowingContract.{Shows, Kept};
 
 // One token.
 fn show_token(out: &mut [u8], at: usize, x: Token, on: bool) -> usize
@@ -84,7 +84,9 @@ fn show_run(
     requires small { ⌜ (from < 4294967296) × (count < 4294967296) ⌝ }
     requires room { ⌜ at ≤ length (now out) ⌝ }
     ensures kept { λ r. ⌜ Kept on (now (out .entry)) (now (out .exit)) at r ⌝ }
-    ensures shows { λ r. ⌜ Shows on (now (out .entry)) (now (out .exit)) at (spelt (view (now (kinds .entry)) (now (vals .entry)) g .kinds) (view (now (kinds .entry)) (now (vals .entry)) g .vals) from count) r ⌝ }
+    ensures shows { λ r. ⌜
+        Shows on (now (out .entry)) (now (out .exit)) at
+        (spelt (view (now (kinds .entry)) (now (vals .entry)) g .kinds) (view (now (kinds .entry)) (now (vals .entry)) g .vals) from count) r ⌝ }
 {
     let end = from + count;
     if end <= kinds.len() {
@@ -119,7 +121,11 @@ fn show_row(
     requires cut { ⌜ Cut c ⌝ }
     requires room { ⌜ at ≤ length (now out) ⌝ }
     ensures kept { λ r. ⌜ Kept on (now (out .entry)) (now (out .exit)) at r ⌝ }
-    ensures shows { λ r. ⌜ ((S : ℕ → Bool) (ps : Parts) → From (view (now (kinds .entry)) (now (vals .entry)) g) (now (heads .entry)) (now (kids .entry)) S c ps → depths ps ≤ fuel → Shows on (now (out .entry)) (now (out .exit)) at (partBytes ps) r) ⌝ }
+    ensures shows { λ r. ⌜
+        ((S : ℕ → Bool) (ps : Parts)
+        → From (view (now (kinds .entry)) (now (vals .entry)) g) (now (heads .entry)) (now (kids .entry)) S c ps
+        → depths ps ≤ fuel
+        → Shows on (now (out .entry)) (now (out .exit)) at (partBytes ps) r) ⌝ }
 {
     let mut i = at;
     let mut q = c.at;
@@ -158,7 +164,11 @@ pub fn show_tree(
     requires sight { ⌜ Sight (now kinds) (now vals) g ⌝ }
     requires room { ⌜ at ≤ length (now out) ⌝ }
     ensures kept { λ r. ⌜ Kept on (now (out .entry)) (now (out .exit)) at r ⌝ }
-    ensures shows { λ r. ⌜ ((S : ℕ → Bool) (t : Term) → Tree (view (now (kinds .entry)) (now (vals .entry)) g) (now (heads .entry)) (now (kids .entry)) S (x .head) (x .kids) t → (0 < x .kids → depth t ≤ fuel) → Shows on (now (out .entry)) (now (out .exit)) at (bytes t) r) ⌝ }
+    ensures shows { λ r. ⌜
+        ((S : ℕ → Bool) (t : Term)
+        → Tree (view (now (kinds .entry)) (now (vals .entry)) g) (now (heads .entry)) (now (kids .entry)) S (x .head) (x .kids) t
+        → (0 < x .kids → depth t ≤ fuel)
+        → Shows on (now (out .entry)) (now (out .exit)) at (bytes t) r) ⌝ }
 {
     let h = token_at(kinds, vals, g, wide(x.head));
     if x.kids == 0 {

@@ -7,11 +7,11 @@ ghost use mathlib.Core.Path.{_≡_};
 ghost use Prim.Native.Nat.{_+_, _≤_, _<_, _^_};
 ghost use lib.ListN.{length};
 ghost use Rattle.terms.specs.Number.{resultOf};
-ghost use Rattle.terms.specs.Tokens.{area};
+ghost use Rattle.terms.specs.Words.Tokens.{area};
 ghost use Rattle.terms.specs.Reading.{code, rising, variable};
-ghost use Rattle.terms.specs.Pieces.{coded, numbered, fields};
-ghost use Rattle.terms.specs.Done.{Within, Room, ValueDone, TermDone, PartsDone};
-ghost use Rattle.terms.specs.Lent.{place, stepOf, valueOf};
+ghost use Rattle.terms.specs.Words.RowPieces.{coded, numbered, fields};
+ghost use Rattle.terms.specs.Words.ReadContract.{Within, Room, ValueDone, TermDone, PartsDone};
+ghost use Rattle.terms.specs.Words.StepCodes.{place, stepOf, valueOf};
 
 // The ceilings of the numbers that name definitions and of the others.
 pub const DEFINITION: u64 = 4294967295;
@@ -68,7 +68,10 @@ pub fn read_value(
 ) -> u8
     requires room { ⌜ Room (now s) (place (now at) (now top) nodes limit) ⌝ }
     requires narrow { ⌜ most < 2 ^ 32 ⌝ }
-    ensures { λ r. ⌜ ValueDone most (now (s .entry)) (rising (now (s .entry)) most least (now (at .entry))) (place (now (at .entry)) (now (top .entry)) nodes limit) (area (now (kinds .entry)) (now (vals .entry))) (area (now (kinds .exit)) (now (vals .exit))) (valueOf r (now (value .exit)) (now (at .exit)) (now (top .exit)) nodes limit) ⌝ }
+    ensures { λ r. ⌜
+        ValueDone most (now (s .entry)) (rising (now (s .entry)) most least (now (at .entry))) (place (now (at .entry)) (now (top .entry)) nodes limit)
+        (area (now (kinds .entry)) (now (vals .entry))) (area (now (kinds .exit)) (now (vals .exit)))
+        (valueOf r (now (value .exit)) (now (at .exit)) (now (top .exit)) nodes limit) ⌝ }
 {
     let r = number_at(s, *at, most, least);
     match r {
@@ -96,7 +99,10 @@ fn read_code(
     codes: u32,
 ) -> u8
     requires { ⌜ Room (now s) (place (now at) (now top) nodes limit) ⌝ }
-    ensures { λ r. ⌜ PartsDone (now (s .entry)) (coded (now (s .entry)) codes (now (at .entry))) (place (now (at .entry)) (now (top .entry)) nodes limit) (area (now (kinds .entry)) (now (vals .entry))) (area (now (kinds .exit)) (now (vals .exit))) (stepOf r (now (at .exit)) (now (top .exit)) nodes limit) ⌝ }
+    ensures { λ r. ⌜
+        PartsDone (now (s .entry)) (coded (now (s .entry)) codes (now (at .entry))) (place (now (at .entry)) (now (top .entry)) nodes limit)
+        (area (now (kinds .entry)) (now (vals .entry))) (area (now (kinds .exit)) (now (vals .exit))) (stepOf r (now (at .exit)) (now (top .exit)) nodes limit)
+        ⌝ }
 {
     if codes == 0 {
         return 0;
@@ -128,7 +134,10 @@ pub fn read_id(
 ) -> u8
     requires room { ⌜ Room (now s) (place (now at) (now top) nodes limit) ⌝ }
     requires narrow { ⌜ most < 2 ^ 32 ⌝ }
-    ensures { λ r. ⌜ PartsDone (now (s .entry)) (numbered (now (s .entry)) most wanted (now (at .entry))) (place (now (at .entry)) (now (top .entry)) nodes limit) (area (now (kinds .entry)) (now (vals .entry))) (area (now (kinds .exit)) (now (vals .exit))) (stepOf r (now (at .exit)) (now (top .exit)) nodes limit) ⌝ }
+    ensures { λ r. ⌜
+        PartsDone (now (s .entry)) (numbered (now (s .entry)) most wanted (now (at .entry))) (place (now (at .entry)) (now (top .entry)) nodes limit)
+        (area (now (kinds .entry)) (now (vals .entry))) (area (now (kinds .exit)) (now (vals .exit))) (stepOf r (now (at .exit)) (now (top .exit)) nodes limit)
+        ⌝ }
 {
     if wanted {
         let mut v: u64 = 0;
@@ -149,7 +158,10 @@ pub fn read_fields(
     f: Fields,
 ) -> u8
     requires { ⌜ Room (now s) (place (now at) (now top) nodes limit) ⌝ }
-    ensures { λ r. ⌜ PartsDone (now (s .entry)) (fields (now (s .entry)) f (now (at .entry))) (place (now (at .entry)) (now (top .entry)) nodes limit) (area (now (kinds .entry)) (now (vals .entry))) (area (now (kinds .exit)) (now (vals .exit))) (stepOf r (now (at .exit)) (now (top .exit)) nodes limit) ⌝ }
+    ensures { λ r. ⌜
+        PartsDone (now (s .entry)) (fields (now (s .entry)) f (now (at .entry))) (place (now (at .entry)) (now (top .entry)) nodes limit)
+        (area (now (kinds .entry)) (now (vals .entry))) (area (now (kinds .exit)) (now (vals .exit))) (stepOf r (now (at .exit)) (now (top .exit)) nodes limit)
+        ⌝ }
 {
     let a = read_code(s, kinds, vals, at, top, nodes, limit, f.codes);
     if a != 0 {
@@ -175,7 +187,10 @@ pub fn read_variable(
 ) -> u8
     requires room { ⌜ Room (now s) (place (now at) (now top) (now nodes) limit) ⌝ }
     requires tagged { ⌜ now at < length (now s) ⌝ }
-    ensures { λ r. ⌜ TermDone (now (s .entry)) (variable (now (s .entry)) issued ((now (at .entry)) + 1)) (place (now (at .entry)) (now (top .entry)) (now (nodes .entry)) limit) (area (now (kinds .entry)) (now (vals .entry))) (area (now (kinds .exit)) (now (vals .exit))) (stepOf r (now (at .exit)) (now (top .exit)) (now (nodes .exit)) limit) ⌝ }
+    ensures { λ r. ⌜
+        TermDone (now (s .entry)) (variable (now (s .entry)) issued ((now (at .entry)) + 1))
+        (place (now (at .entry)) (now (top .entry)) (now (nodes .entry)) limit) (area (now (kinds .entry)) (now (vals .entry)))
+        (area (now (kinds .exit)) (now (vals .exit))) (stepOf r (now (at .exit)) (now (top .exit)) (now (nodes .exit)) limit) ⌝ }
 {
     let r = number_at(s, *at + 1, ORDINARY, 0);
     match r {

@@ -15,19 +15,19 @@ use super::runs::wide;
 use super::runs::word;
 use super::slots::least;
 use super::slots::slot;
-use super::view::step;
+use super::virtual_tokens::step;
 use super::write::run_len;
 ghost use mathlib.Core.Path.{_≡_};
 ghost use mathlib.Core.Bool.{Bool, true, false};
 ghost use Prim.Native.Nat.{ℕ, _+_, _-_, _≤_, _<_};
 ghost use lib.ListN.{length, getD};
-ghost use Rattle.terms.specs.View.{view, Sight};
+ghost use Rattle.terms.specs.Words.VirtualTokens.{view, Sight};
 ghost use Rattle.terms.specs.Term.{Term, depth, bytes, Held};
 ghost use Rattle.terms.specs.Normal.{replacement};
 ghost use Rattle.terms.specs.Lookup.{Look, lookBy, Looks};
-ghost use Rattle.terms.specs.Arena.{Tree, TagAt, Counts, Fetched, Frames, Room};
-ghost use Rattle.terms.specs.Held.{span};
-ghost use Rattle.terms.specs.Walk.{nodeFirst, Fixed, Walks};
+ghost use Rattle.terms.specs.Words.Arena.{Tree, TagAt, Counts, Fetched, Frames, RecordRoom};
+ghost use Rattle.terms.specs.Words.Held.{span};
+ghost use Rattle.terms.specs.Words.WalkingContract.{nodeFirst, Fixed, Walks};
 
 // What a projection with the counts n and m is replaced by; its children have at most `fuel` levels.
 fn replace(
@@ -47,7 +47,12 @@ fn replace(
     requires counts { ⌜ Counts (view (now kinds) (now vals) g) (x .head) n m ⌝ }
     requires few { ⌜ length (now rules) < 4294967296 ⌝ }
     requires low { ⌜ fuel < 4294967296 ⌝ }
-    ensures { λ r. ⌜ ((S : ℕ → Bool) (t : Term) (look : Look) → Tree (view (now (kinds .entry)) (now (vals .entry)) g) (now (heads .entry)) (now (kids .entry)) S (x .head) (x .kids) t → depth t ≤ fuel + 1 → Looks (now (kinds .entry)) (now (vals .entry)) (now (rules .entry)) g look → Fetched (view (now (kinds .entry)) (now (vals .entry)) g) (now (heads .entry)) (now (kids .entry)) S (replacement (lookBy look) t) r) ⌝ }
+    ensures { λ r. ⌜
+        ((S : ℕ → Bool) (t : Term) (look : Look)
+        → Tree (view (now (kinds .entry)) (now (vals .entry)) g) (now (heads .entry)) (now (kids .entry)) S (x .head) (x .kids) t
+        → depth t ≤ fuel + 1
+        → Looks (now (kinds .entry)) (now (vals .entry)) (now (rules .entry)) g look
+        → Fetched (view (now (kinds .entry)) (now (vals .entry)) g) (now (heads .entry)) (now (kids .entry)) S (replacement (lookBy look) t) r) ⌝ }
 {
     let own = own_member(kinds, vals, heads, kids, g, x, n, m);
     if let Found::At(y) = own {
@@ -91,7 +96,9 @@ fn stopped(most: usize) -> Walked
 fn kept(x: Content, nodes: usize, size: usize, next: usize, visits: usize, most: usize) -> Walked
     requires some { ⌜ (0 < nodes) × (nodes ≤ visits) × (nodes < 4294967296) ⌝ }
     requires room { ⌜ next < 4294967296 ⌝ }
-    ensures fits { λ r. ⌜ (next + (nodes - 1) ≤ most → r ≡ record { head = x .head; kids = x .kids; next = next + (nodes - 1); visits = visits - nodes; over = false; size = size }) ⌝ }
+    ensures fits { λ r. ⌜
+        (next + (nodes - 1) ≤ most
+        → r ≡ record { head = x .head; kids = x .kids; next = next + (nodes - 1); visits = visits - nodes; over = false; size = size }) ⌝ }
     ensures stops { λ r. ⌜ (most < next + (nodes - 1) → (r .next ≡ most) × (r .visits ≡ 0) × (r .over ≡ true) × (r .size ≡ 0)) ⌝ }
 {
     let last = next + (nodes - 1);
@@ -154,7 +161,8 @@ fn fixed_nodes(kinds: &[u32], vals: &[u32], x: Content, most: usize) -> usize
 
 // How many bytes a content has that the walk leaves as it is.
 fn fixed_len(kinds: &[u32], vals: &[u32], x: Content) -> usize
-    requires { ⌜ (length (now vals) ≡ length (now kinds)) × (x .head + span (getD (now kinds) (x .head) 0) (getD (now vals) (x .head) 0) ≤ length (now kinds)) ⌝ }
+    requires { ⌜
+        (length (now vals) ≡ length (now kinds)) × (x .head + span (getD (now kinds) (x .head) 0) (getD (now vals) (x .head) 0) ≤ length (now kinds)) ⌝ }
     requires few { ⌜ length (now kinds) < 4294967296 ⌝ }
     ensures bound { λ r. ⌜ r < 68719476736 ⌝ }
     ensures bytes { λ r. ⌜ ((t : Term) → Held (now (kinds .entry)) (now (vals .entry)) (x .head) t → r ≡ length (bytes t)) ⌝ }
@@ -178,10 +186,12 @@ pub fn walk(
     visits: usize,
     most: usize,
 ) -> Walked
-    requires room { ⌜ Room (now kinds) (now vals) (now heads) (now kids) g next most ⌝ }
+    requires room { ⌜ RecordRoom (now kinds) (now vals) (now heads) (now kids) g next most ⌝ }
     requires few { ⌜ length (now rules) < 4294967296 ⌝ }
     requires low { ⌜ (levels < 4294967296) × (visits < 134217728) ⌝ }
-    ensures walks { λ r. ⌜ Walks (now (kinds .entry)) (now (vals .entry)) (now (rules .entry)) g (now (heads .entry)) (now (kids .entry)) (now (heads .exit)) (now (kids .exit)) x next levels visits most r ⌝ }
+    ensures walks { λ r. ⌜
+        Walks (now (kinds .entry)) (now (vals .entry)) (now (rules .entry)) g (now (heads .entry)) (now (kids .entry)) (now (heads .exit)) (now (kids .exit)) x
+        next levels visits most r ⌝ }
     ensures frames { λ r. ⌜ Frames (now (heads .entry)) (now (kids .entry)) (now (heads .exit)) (now (kids .exit)) next (r .next) ⌝ }
 {
     let error = Content {

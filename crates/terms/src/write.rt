@@ -5,8 +5,8 @@ ghost use mathlib.Core.Path.{_≡_};
 ghost use Prim.Native.Nat.{_+_, _*_, _^_, _≤_, _<_};
 ghost use lib.ListN.{length};
 ghost use lib.Seq.{sets};
-ghost use Rattle.terms.specs.Writing.{plain, spelt};
-ghost use Rattle.terms.specs.Recovering.{putIf};
+ghost use Rattle.terms.specs.Words.TokenBytes.{plain, spelt};
+ghost use Rattle.terms.specs.Words.RecoverContract.{putIf};
 
 // How many bytes a token has.
 pub fn token_len(k: u32, v: u32) -> usize

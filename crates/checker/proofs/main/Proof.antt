@@ -1,9 +1,9 @@
--- `main`: the answers lie within the output. Assumes nothing.
+-- `main`: the answers lie within the output.
 use mathlib.Core.Path.{sym}
 use Prim.Native.Nat.{_≤_}
 use lib.ListN.{length}
 use lib.Seq.{length-take-le}
-use Rattle.sheet.proofs.EndingLaws.{bytes-inside}
+use Rattle.sheet.proofs.Laws.Run.EntryLaws.{bytes-inside}
 use borrow.Author.Needs.{needs}
 use Rattle.checker.proofs.main.Statement.{statement}
 use Rattle.checker.proofs.main.Tie as tie

@@ -1,4 +1,4 @@
--- `sheet_run`: what `run_sheet` promises, and that each element of a slice of bytes is a byte. Assumes nothing.
+-- `sheet_run`: what `run_sheet` promises, and that each element of a slice of bytes is a byte.
 use native.Mathlib.Omega.{arith}
 use borrow.Author.Needs.{needs}
 use Rattle.entry.proofs.sheet_run.Statement.{statement}

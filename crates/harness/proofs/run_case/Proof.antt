@@ -1,4 +1,4 @@
--- `run_case`: the parts of output and areas that are lent are as long as asked, and the answers lie in the output's. Assumes nothing.
+-- `run_case`: the parts of output and areas that are lent are as long as asked, and the answers lie in the output's.
 use mathlib.Core.Path.{sym}
 use native.Mathlib.Omega.{arith}
 use lib.ListN.{length-append}

@@ -1,7 +1,7 @@
--- `run_filled`: the answers lie within the output. Assumes nothing.
+-- `run_filled`: the answers lie within the output.
 use Prim.Native.Nat.{_≤_}
 use lib.ListN.{length}
-use Rattle.sheet.proofs.EndingLaws.{bytes-inside}
+use Rattle.sheet.proofs.Laws.Run.EntryLaws.{bytes-inside}
 use borrow.Author.Needs.{needs}
 use Rattle.harness.proofs.run_filled.Statement.{statement}
 use Rattle.harness.proofs.run_filled.Tie as tie

@@ -1,4 +1,4 @@
--- `begins`: the index stays within the wanted answers, which are no longer than the output. Assumes nothing.
+-- `begins`: the index stays within the wanted answers, which are no longer than the output.
 use Prim.Native.Nat.{_≤_, _-_}
 use lib.ListN.{length}
 use borrow.Author.Needs.{needs}

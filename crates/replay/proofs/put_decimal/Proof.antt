@@ -1,4 +1,4 @@
--- `put_decimal`: a digit is below 10, and the index falls. Assumes nothing.
+-- `put_decimal`: a digit is below 10, and the index falls.
 use Prim.Native.Nat.{_≤_}
 use borrow.Author.Needs.{needs}
 use Rattle.replay.proofs.put_decimal.Statement.{statement}

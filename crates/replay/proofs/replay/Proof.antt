@@ -1,4 +1,4 @@
--- `replay`: a turn leaves everything as long as it was. Assumes nothing.
+-- `replay`: a turn leaves everything as long as it was.
 use mathlib.Core.Path.{_≡_}
 use lib.ListN.{length}
 use borrow.Author.Needs.{needs}

@@ -1,4 +1,4 @@
--- `run_vector`: sheet and answers lie within the bytes read. Assumes nothing.
+-- `run_vector`: sheet and answers lie within the bytes read.
 use mathlib.Core.Path.{sym}
 use native.Mathlib.Omega.{arith}
 use lib.Seq.{length-take-le}

@@ -1,4 +1,4 @@
--- `answer`: by what the frame holds. Assumes nothing.
+-- `answer`: by what the frame holds.
 use Rattle.reread.specs.Frame.{Sound}
 use Rattle.reread.specs.declared.Frame.the-variants.{Kept}
 use lib.ListN.{length}

@@ -1,4 +1,4 @@
--- `kept_answer`: sized first, then written. Assumes nothing.
+-- `kept_answer`: sized first, then written.
 use Prim.Native.Nat.{_+_}
 use native.Mathlib.Omega.{arith}
 use lib.ListN.{length-set}

@@ -1,4 +1,4 @@
--- `main`: what `run` says that it has written is within the output. Assumes nothing.
+-- `main`: what `run` says that it has written is within the output.
 use mathlib.Core.Path.{sym}
 use lib.Seq.{length-take-le}
 use borrow.Author.Needs.{needs}

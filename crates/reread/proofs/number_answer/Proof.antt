@@ -1,4 +1,4 @@
--- `number_answer`: a length, the outcome and the number, where there is space for them. Assumes nothing.
+-- `number_answer`: a length, the outcome and the number, where there is space for them.
 use mathlib.Core.Path.{_∙_}
 use native.Mathlib.Omega.{arith}
 use lib.ListN.{length-set}

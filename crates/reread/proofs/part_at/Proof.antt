@@ -1,9 +1,9 @@
--- `part_at`: what a length says, if the bytes are there. Assumes nothing.
+-- `part_at`: what a length says, if the bytes are there.
 use mathlib.Core.Path.{sym}
 use native.Mathlib.Omega.{arith}
 use lib.ListN.{length}
 use denote.Ref.{now}
-use Rattle.terms.proofs.Bounds.{Bounded, number-bounds}
+use Rattle.terms.proofs.Laws.Numbers.NumberBoundLaws.{Bounded, number-bounds}
 use borrow.Author.Needs.{needs}
 use Rattle.reread.proofs.part_at.Statement.{statement}
 use Rattle.reread.proofs.part_at.Tie as tie

@@ -1,8 +1,8 @@
--- `read_frame`: a kind, and what follows it. Assumes nothing.
+-- `read_frame`: a kind, and what follows it.
 use mathlib.Core.Path.{sym}
 use native.Mathlib.Omega.{arith}
 use denote.Ref.{now}
-use Rattle.terms.proofs.Bounds.{number-bounds}
+use Rattle.terms.proofs.Laws.Numbers.NumberBoundLaws.{number-bounds}
 use borrow.Author.Needs.{needs}
 use Rattle.reread.proofs.read_frame.Statement.{statement}
 use Rattle.reread.proofs.read_frame.Tie as tie

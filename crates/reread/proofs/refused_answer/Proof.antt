@@ -1,4 +1,4 @@
--- `refused_answer`: two bytes, where there is space for them. Assumes nothing.
+-- `refused_answer`: two bytes, where there is space for them.
 use native.Mathlib.Omega.{arith}
 use lib.ListN.{length-set}
 use borrow.Author.Needs.{needs}

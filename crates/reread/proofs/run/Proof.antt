@@ -1,4 +1,4 @@
--- `run`: the answers stay within the output, and each frame lies behind the one before. Assumes nothing.
+-- `run`: the answers stay within the output, and each frame lies after the one before.
 use mathlib.Core.Path.{_≡_, _∙_}
 use Prim.Native.Nat.{_≤_, _-_}
 use native.Mathlib.Omega.{arith}

@@ -1,4 +1,4 @@
--- `settle`: where nothing is wrong, the tokens lie within the areas. Assumes nothing.
+-- `settle`: where nothing is wrong, the tokens lie within the areas.
 use borrow.Author.Needs.{needs}
 use Rattle.reread.proofs.settle.Statement.{statement}
 use Rattle.reread.proofs.settle.Tie as tie

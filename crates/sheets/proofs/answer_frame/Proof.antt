@@ -1,4 +1,4 @@
--- `answer_frame`: the sheet lies within the bytes read. Assumes nothing.
+-- `answer_frame`: the sheet lies within the bytes read.
 use mathlib.Core.Path.{sym}
 use native.Mathlib.Omega.{arith}
 use lib.Seq.{length-take-le}

@@ -1,4 +1,4 @@
--- `answer_frames`: a turn leaves the areas as long as they were. Assumes nothing.
+-- `answer_frames`: a turn leaves the areas as long as they were.
 use mathlib.Core.Path.{_≡_}
 use lib.ListN.{length}
 use borrow.Author.Needs.{needs}

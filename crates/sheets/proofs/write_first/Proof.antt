@@ -1,4 +1,4 @@
--- `write_first`: the part lies within the bytes. Assumes nothing.
+-- `write_first`: the part lies within the bytes.
 use mathlib.Core.Path.{sym}
 use native.Mathlib.Omega.{arith}
 use lib.Seq.{length-take-le}

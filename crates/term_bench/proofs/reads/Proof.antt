@@ -1,4 +1,4 @@
--- `reads`: a turn leaves the areas as long as they were. Assumes nothing.
+-- `reads`: a turn leaves the areas as long as they were.
 use mathlib.Core.Path.{_≡_}
 use Prim.Native.Nat.{_≤_, _-_}
 use lib.ListN.{length}

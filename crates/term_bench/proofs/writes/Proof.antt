@@ -1,4 +1,4 @@
--- `writes`: a turn leaves the output as long as it was. Assumes nothing.
+-- `writes`: a turn leaves the output as long as it was.
 use mathlib.Core.Path.{_≡_}
 use Prim.Native.Nat.{_≤_, _-_}
 use lib.ListN.{length}

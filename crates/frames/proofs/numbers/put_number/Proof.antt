@@ -1,4 +1,4 @@
--- `put_number`: four bytes, where there is space for them. Assumes nothing.
+-- `put_number`: four bytes, where there is space for them.
 use native.Mathlib.Omega.{arith}
 use lib.ListN.{length-set}
 use borrow.Author.Needs.{needs}

@@ -1,4 +1,4 @@
--- `read_part`: the part that is read is as long as asked. Assumes nothing.
+-- `read_part`: the part that is read is as long as asked.
 use mathlib.Core.Path.{sym}
 use native.Mathlib.Omega.{arith}
 use lib.Seq.{length-take-le}

@@ -1,4 +1,4 @@
--- `all_bytes`: each turn goes one byte on. Assumes nothing.
+-- `all_bytes`: each turn goes one byte on.
 use Prim.Native.Nat.{_≤_, _-_}
 use lib.ListN.{length}
 use borrow.Author.Needs.{needs}

@@ -1,4 +1,4 @@
--- `all_words`: the index stays within the words. Assumes nothing.
+-- `all_words`: the index stays within the words.
 use Prim.Native.Nat.{_≤_, _-_}
 use lib.ListN.{length}
 use borrow.Author.Needs.{needs}

@@ -1,4 +1,4 @@
--- `fill_words`: the index stays within the slice, which stays as long as it was. Assumes nothing.
+-- `fill_words`: the index stays within the slice, which stays as long as it was.
 use mathlib.Core.Path.{_≡_}
 use Prim.Native.Nat.{_≤_, _-_}
 use native.Mathlib.Omega.{arith}

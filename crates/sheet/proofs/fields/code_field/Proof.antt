@@ -1,8 +1,8 @@
--- `code_field`: a byte below 32, or a refusal. Assumes nothing.
+-- `code_field`: a byte below 32, or a refusal.
 use denote.Ref.{now}
 use mathlib.Core.Path.{refl}
-use Rattle.solver.specs.Terms.Lent.{place}
-use Rattle.sheet.proofs.PartLaws.{code-none, code-no, code-yes}
+use Rattle.solver.specs.Terms.StepCodes.{place}
+use Rattle.sheet.proofs.Laws.Reading.PartLaws.{code-none, code-no, code-yes}
 use borrow.Author.Needs.{needs}
 use Rattle.sheet.proofs.fields.code_field.Statement.{statement}
 use Rattle.sheet.proofs.fields.code_field.Tie as tie

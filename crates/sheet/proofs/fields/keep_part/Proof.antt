@@ -1,9 +1,9 @@
--- `keep_part`: by the sort. Assumes nothing.
+-- `keep_part`: by the sort.
 use denote.Ref.{now}
 use mathlib.Core.Logic.{inl, inr, ⊎-elim}
 use Rattle.solver.specs.Terms.Tokens.{area}
-use Rattle.solver.specs.Terms.Lent.{place}
-use Rattle.sheet.proofs.PartLaws.{either-told, list-told}
+use Rattle.solver.specs.Terms.StepCodes.{place}
+use Rattle.sheet.proofs.Laws.Reading.PartLaws.{either-told, list-told}
 use borrow.Author.Needs.{needs}
 use Rattle.sheet.proofs.fields.keep_part.Statement.{statement}
 use Rattle.sheet.proofs.fields.keep_part.Tie as tie

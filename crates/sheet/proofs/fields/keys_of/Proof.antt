@@ -1,4 +1,4 @@
--- `keys_of`: by the sort. Assumes nothing.
+-- `keys_of`: by the sort.
 use borrow.Author.Tests.{ne-eqb}
 use Rattle.sheet.proofs.fields.keys_of.Statement.{statement}
 use Rattle.sheet.proofs.fields.keys_of.Tie as tie

@@ -1,11 +1,11 @@
--- `list_field`: a count, and what is kept behind it. Assumes nothing.
+-- `list_field`: a count, and what is kept after it.
 use denote.Ref.{now}
 use mathlib.Core.Path.{refl}
-use Rattle.solver.specs.Terms.Lent.{place}
+use Rattle.solver.specs.Terms.StepCodes.{place}
 use Rattle.solver.specs.Terms.Tokens.{area}
-use Rattle.sheet.specs.Lent.{fieldOf}
-use Rattle.sheet.proofs.CodeLaws.{list-coded, number-coded}
-use Rattle.sheet.proofs.PartLaws.{number-told, number-refused, list-field, list-counted, list-refused, ample-moved, unread}
+use Rattle.sheet.specs.Words.FieldsContract.{fieldOf}
+use Rattle.sheet.proofs.Laws.Reading.CodeLaws.{list-coded, number-coded}
+use Rattle.sheet.proofs.Laws.Reading.PartLaws.{number-told, number-refused, list-field, list-counted, list-refused, ample-moved, unread}
 use borrow.Author.Needs.{needs}
 use Rattle.sheet.proofs.fields.list_field.Statement.{statement}
 use Rattle.sheet.proofs.fields.list_field.Tie as tie

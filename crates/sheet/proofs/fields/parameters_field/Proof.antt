@@ -1,7 +1,7 @@
--- `parameters_field`: a count, and so many that are passed. Assumes nothing.
+-- `parameters_field`: a count, and so many that are passed.
 use denote.Ref.{now}
-use Rattle.sheet.proofs.CodeLaws.{number-coded}
-use Rattle.sheet.proofs.PartLaws.{number-told, parameters-said, parameters-uncounted}
+use Rattle.sheet.proofs.Laws.Reading.CodeLaws.{number-coded}
+use Rattle.sheet.proofs.Laws.Reading.PartLaws.{number-told, parameters-said, parameters-uncounted}
 use borrow.Author.Needs.{needs}
 use Rattle.sheet.proofs.fields.parameters_field.Statement.{statement}
 use Rattle.sheet.proofs.fields.parameters_field.Tie as tie

@@ -1,4 +1,4 @@
--- `read_plain`: by the sort. Assumes nothing.
+-- `read_plain`: by the sort.
 use denote.Ref.{now}
 use mathlib.Core.Logic.{_⊎_, inl, inr, ⊎-elim}
 use mathlib.Core.Path.{_≡_}
@@ -6,8 +6,8 @@ use Prim.Native.Nat.{_≤_, _<_}
 use native.Mathlib.Omega.{arith}
 use Rattle.solver.specs.Terms.Tokens.{area}
 use Rattle.sheet.specs.Fields.{field}
-use Rattle.sheet.specs.Laid.{plainOf}
-use Rattle.sheet.proofs.PartLaws.{value-said, plain-tree, plain-list}
+use Rattle.sheet.specs.Words.FieldLayout.{plainOf}
+use Rattle.sheet.proofs.Laws.Reading.PartLaws.{value-said, plain-tree, plain-list}
 use borrow.Author.Needs.{needs}
 use Rattle.sheet.proofs.fields.read_plain.Statement.{statement}
 use Rattle.sheet.proofs.fields.read_plain.Tie as tie

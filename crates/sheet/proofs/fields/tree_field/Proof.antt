@@ -1,9 +1,9 @@
--- `tree_field`: the spot of what is kept. Assumes nothing.
+-- `tree_field`: the spot of what is kept.
 use denote.Ref.{now}
-use Rattle.solver.specs.Terms.Lent.{place}
+use Rattle.solver.specs.Terms.StepCodes.{place}
 use Rattle.solver.specs.Terms.Tokens.{area}
-use Rattle.sheet.specs.Laid.{partOf}
-use Rattle.sheet.proofs.PartLaws.{part-field, part-none}
+use Rattle.sheet.specs.Words.FieldLayout.{partOf}
+use Rattle.sheet.proofs.Laws.Reading.PartLaws.{part-field, part-none}
 use borrow.Author.Needs.{needs}
 use Rattle.sheet.proofs.fields.tree_field.Statement.{statement}
 use Rattle.sheet.proofs.fields.tree_field.Tie as tie

@@ -1,8 +1,8 @@
--- `apply_family`. Assumes nothing.
+-- `apply_family`.
 use denote.Ref.{now}
-use Rattle.sheet.proofs.AnswerLaws.{held-in}
-use Rattle.sheet.proofs.TableLaws.{among-only}
-use Rattle.sheet.proofs.GivenLaws.{binders-ready, ready-as, applies-as, family-asks, family-replies}
+use Rattle.sheet.proofs.Laws.Answering.AnswerLaws.{held-in}
+use Rattle.sheet.proofs.Laws.Reading.OrderTableLaws.{among-only}
+use Rattle.sheet.proofs.Laws.Answering.OperationFieldLaws.{binders-ready, ready-as, applies-as, family-asks, family-replies}
 use borrow.Author.Needs.{needs}
 use Rattle.sheet.proofs.operations.apply_family.Statement.{statement}
 use Rattle.sheet.proofs.operations.apply_family.Tie as tie

@@ -1,5 +1,5 @@
--- `asked`: a question after the other. Assumes nothing.
-use Rattle.sheet.proofs.AnswerLaws.{frame-as, all-seven}
+-- `asked`: a question after the other.
+use Rattle.sheet.proofs.Laws.Answering.AnswerLaws.{frame-as, all-seven}
 use borrow.Author.Needs.{needs}
 use Rattle.sheet.proofs.operations.asked.Statement.{statement}
 use Rattle.sheet.proofs.operations.asked.Tie as tie
@@ -25,8 +25,8 @@ question-requires-6 c κs = search needs
 question-requires-7 : tie.Need-question-requires-7
 question-requires-7 c κs = search needs
 
-told-seven-requires : tie.Need-told-seven-requires
-told-seven-requires c κs = c .before .before .before .before .before .before .before .before .before .before .before .before .pre .1 .1
+write-seven-bytes-answer-requires : tie.Need-write-seven-bytes-answer-requires
+write-seven-bytes-answer-requires c κs = c .before .before .before .before .before .before .before .before .before .before .before .before .pre .1 .1
 
 same-length : tie.Need-same-length
 same-length c = search needs
@@ -34,7 +34,7 @@ same-length c = search needs
 returns : tie.Need-returns
 returns c =
     λ t h f.
-    frame-as _ _ (all-seven t _ _ _ _ _ _ _ (c .before .before .before .before .before .before .before .before .before .before .question .ensures t h f) (c .before .before .before .before .before .before .before .before .before .question2 .ensures t h f) (c .before .before .before .before .before .before .before .before .question3 .ensures t h f) (c .before .before .before .before .before .before .before .question4 .ensures t h f) (c .before .before .before .before .before .before .question5 .ensures t h f) (c .before .before .before .before .before .question6 .ensures t h f) (c .before .before .before .before .question7 .ensures t h f)) _ _ _ _ (c .before .before .told-seven .ensures)
+    frame-as _ _ (all-seven t _ _ _ _ _ _ _ (c .before .before .before .before .before .before .before .before .before .before .question .ensures t h f) (c .before .before .before .before .before .before .before .before .before .question2 .ensures t h f) (c .before .before .before .before .before .before .before .before .question3 .ensures t h f) (c .before .before .before .before .before .before .before .question4 .ensures t h f) (c .before .before .before .before .before .before .question5 .ensures t h f) (c .before .before .before .before .before .question6 .ensures t h f) (c .before .before .before .before .question7 .ensures t h f)) _ _ _ _ (c .before .before .write-seven-bytes-answer .ensures)
 
 pub asked-spec : {M : Type 1} → statement M
 asked-spec =
@@ -47,6 +47,6 @@ asked-spec =
     question-requires-5
     question-requires-6
     question-requires-7
-    told-seven-requires
+    write-seven-bytes-answer-requires
     same-length
     returns)

@@ -1,10 +1,10 @@
--- `compare`: by the kind. Assumes nothing.
+-- `compare`: by the kind.
 use mathlib.Core.Path.{ap, _∙_}
 use denote.Ref.{now}
 use Rattle.sheet.specs.Operations.{bit}
-use Rattle.sheet.proofs.AnswerLaws.{held-in, formed-both, frame-as, one-byte}
-use Rattle.sheet.proofs.TableLaws.{third}
-use Rattle.sheet.proofs.GivenLaws.{conflicts-asks, conflicts-replies, weakens-asks, weakens-replies, recover-asks, recover-replies}
+use Rattle.sheet.proofs.Laws.Answering.AnswerLaws.{held-in, formed-both, frame-as, one-byte}
+use Rattle.sheet.proofs.Laws.Reading.OrderTableLaws.{third}
+use Rattle.sheet.proofs.Laws.Answering.OperationFieldLaws.{conflicts-asks, conflicts-replies, weakens-asks, weakens-replies, recover-asks, recover-replies}
 use borrow.Author.Needs.{needs}
 use Rattle.sheet.proofs.operations.compare.Statement.{statement}
 use Rattle.sheet.proofs.operations.compare.Tie as tie
@@ -19,8 +19,8 @@ conflicts-with-requires c κs =
 bit-requires : tie.Need-bit-requires
 bit-requires c κs = search needs
 
-told-requires : tie.Need-told-requires
-told-requires c κs = search needs
+write-byte-answer-requires : tie.Need-write-byte-answer-requires
+write-byte-answer-requires c κs = search needs
 
 same-length : tie.Need-same-length
 same-length c = search needs
@@ -29,7 +29,7 @@ returns : tie.Need-returns
 returns c =
     λ s ws.
     let a = c .before .before .before .before .before .before .before .before .before .before .before .before .before .args in
-    conflicts-replies (now (a .kinds)) (now (a .vals)) s ws (a .o) (c .before .before .before .before .before .before .if1 .taken) _ (λ t u x. frame-as _ _ (one-byte _ _ (c .before .before .before .bit .ensures ∙ ap bit (c .before .before .before .before .before .conflicts-with .ensures t u (x .left) (x .right) (x .left-formed) (x .right-formed)))) _ _ _ _ (c .before .before .told .ensures))
+    conflicts-replies (now (a .kinds)) (now (a .vals)) s ws (a .o) (c .before .before .before .before .before .before .if1 .taken) _ (λ t u x. frame-as _ _ (one-byte _ _ (c .before .before .before .bit .ensures ∙ ap bit (c .before .before .before .before .before .conflicts-with .ensures t u (x .left) (x .right) (x .left-formed) (x .right-formed)))) _ _ _ _ (c .before .before .write-byte-answer .ensures))
 
 can-weaken-to-requires : tie.Need-can-weaken-to-requires
 can-weaken-to-requires c κs =
@@ -41,8 +41,8 @@ can-weaken-to-requires c κs =
 bit-requires-2 : tie.Need-bit-requires-2
 bit-requires-2 c κs = search needs
 
-told-requires-2 : tie.Need-told-requires-2
-told-requires-2 c κs = search needs
+write-byte-answer-requires-2 : tie.Need-write-byte-answer-requires-2
+write-byte-answer-requires-2 c κs = search needs
 
 same-length-2 : tie.Need-same-length-2
 same-length-2 c = search needs
@@ -51,7 +51,7 @@ returns-2 : tie.Need-returns-2
 returns-2 c =
     λ s ws.
     let a = c .before .before .before .before .before .before .before .before .before .before .before .before .before .before .before .args in
-    weakens-replies (now (a .kinds)) (now (a .vals)) s ws (a .o) (c .before .before .before .before .before .before .if2 .taken) _ (λ t u x. frame-as _ _ (one-byte _ _ (c .before .before .before .bit2 .ensures ∙ ap bit (c .before .before .before .before .before .can-weaken-to .ensures t u (x .left) (x .right) (x .left-formed) (x .right-formed)))) _ _ _ _ (c .before .before .told2 .ensures))
+    weakens-replies (now (a .kinds)) (now (a .vals)) s ws (a .o) (c .before .before .before .before .before .before .if2 .taken) _ (λ t u x. frame-as _ _ (one-byte _ _ (c .before .before .before .bit2 .ensures ∙ ap bit (c .before .before .before .before .before .can-weaken-to .ensures t u (x .left) (x .right) (x .left-formed) (x .right-formed)))) _ _ _ _ (c .before .before .write-byte-answer2 .ensures))
 
 recovered-requires : tie.Need-recovered-requires
 recovered-requires c κs =
@@ -79,12 +79,12 @@ compare-spec =
     (tie.spec
     conflicts-with-requires
     bit-requires
-    told-requires
+    write-byte-answer-requires
     same-length
     returns
     can-weaken-to-requires
     bit-requires-2
-    told-requires-2
+    write-byte-answer-requires-2
     same-length-2
     returns-2
     recovered-requires

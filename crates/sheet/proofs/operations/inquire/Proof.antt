@@ -1,11 +1,11 @@
--- `inquire`: by the kind. Assumes nothing.
+-- `inquire`: by the kind.
 use mathlib.Core.Path.{ap, _∙_}
 use mathlib.Core.Bool.{Bool, not}
 use denote.Ref.{now}
 use Rattle.sheet.specs.Operations.{bit}
-use Rattle.sheet.proofs.AnswerLaws.{held-in, frame-as, one-byte, two-bytes}
-use Rattle.sheet.proofs.TableLaws.{third}
-use Rattle.sheet.proofs.GivenLaws.{questions-asks, questions-replies, resolved-asks, resolved-replies, satisfied-asks, satisfied-replies}
+use Rattle.sheet.proofs.Laws.Answering.AnswerLaws.{held-in, frame-as, one-byte, two-bytes}
+use Rattle.sheet.proofs.Laws.Reading.OrderTableLaws.{third}
+use Rattle.sheet.proofs.Laws.Answering.OperationFieldLaws.{questions-asks, questions-replies, resolved-asks, resolved-replies, satisfied-asks, satisfied-replies}
 use borrow.Author.Needs.{needs}
 use Rattle.sheet.proofs.operations.inquire.Statement.{statement}
 use Rattle.sheet.proofs.operations.inquire.Tie as tie
@@ -38,8 +38,8 @@ ask-requires c κs =
 bit-requires : tie.Need-bit-requires
 bit-requires c κs = search needs
 
-told-requires : tie.Need-told-requires
-told-requires c κs = c .before .before .before .before .before .before .before .before .before .before .before .before .before .before .pre .1 .1
+write-byte-answer-requires : tie.Need-write-byte-answer-requires
+write-byte-answer-requires c κs = c .before .before .before .before .before .before .before .before .before .before .before .before .before .before .pre .1 .1
 
 same-length-2 : tie.Need-same-length-2
 same-length-2 c = search needs
@@ -48,7 +48,7 @@ returns-2 : tie.Need-returns-2
 returns-2 c =
     λ ws.
     let a = c .before .before .before .before .before .before .before .before .before .before .before .before .before .before .before .before .before .args in
-    resolved-replies (now (a .kinds)) (now (a .vals)) (now (a .s)) ws (a .o) (c .before .before .before .before .before .before .if2 .taken) _ (λ ps t q h f. frame-as _ _ (one-byte _ _ (c .before .before .before .bit .ensures ∙ ap (λ (b : Bool). bit (not b)) (c .before .before .before .before .before .ask .ensures ps (q .0) (q .1) t h f))) _ _ _ _ (c .before .before .told .ensures))
+    resolved-replies (now (a .kinds)) (now (a .vals)) (now (a .s)) ws (a .o) (c .before .before .before .before .before .before .if2 .taken) _ (λ ps t q h f. frame-as _ _ (one-byte _ _ (c .before .before .before .bit .ensures ∙ ap (λ (b : Bool). bit (not b)) (c .before .before .before .before .before .ask .ensures ps (q .0) (q .1) t h f))) _ _ _ _ (c .before .before .write-byte-answer .ensures))
 
 satisfies-requires : tie.Need-satisfies-requires
 satisfies-requires c κs =
@@ -76,8 +76,8 @@ bit-requires-2 c κs = search needs
 bit-requires-3 : tie.Need-bit-requires-3
 bit-requires-3 c κs = search needs
 
-told-twice-requires : tie.Need-told-twice-requires
-told-twice-requires c κs = c .before .before .before .before .before .before .before .before .before .before .before .before .before .before .before .before .pre .1 .1
+write-two-bytes-answer-requires : tie.Need-write-two-bytes-answer-requires
+write-two-bytes-answer-requires c κs = c .before .before .before .before .before .before .before .before .before .before .before .before .before .before .before .before .pre .1 .1
 
 same-length-3 : tie.Need-same-length-3
 same-length-3 c = search needs
@@ -90,7 +90,7 @@ returns-3 c =
     let y = p .1 .0 .1 in
     let k = third 15 16 17 (a .o .kind) (y .among) (c .before .before .before .before .before .before .before .before .before .before .if1 .left) (c .before .before .before .before .before .before .before .before .if2 .left) in
     satisfied-replies (now (a .kinds)) (now (a .vals)) (now (a .s)) ws (a .o) k _ (λ ps qs t h i j f g.
-    frame-as _ _ (two-bytes _ _ _ _ (c .before .before .before .before .bit2 .ensures ∙ ap bit (c .before .before .before .before .before .before .before .satisfies .ensures ps qs h i f g)) (c .before .before .before .bit3 .ensures ∙ ap bit (c .before .before .before .before .before .before .satisfies-for .ensures ps qs t h i j f g))) _ _ _ _ (c .before .before .told-twice .ensures))
+    frame-as _ _ (two-bytes _ _ _ _ (c .before .before .before .before .bit2 .ensures ∙ ap bit (c .before .before .before .before .before .before .before .satisfies .ensures ps qs h i f g)) (c .before .before .before .bit3 .ensures ∙ ap bit (c .before .before .before .before .before .before .satisfies-for .ensures ps qs t h i j f g))) _ _ _ _ (c .before .before .write-two-bytes-answer .ensures))
 
 pub inquire-spec : {M : Type 1} → statement M
 inquire-spec =
@@ -101,13 +101,13 @@ inquire-spec =
     returns
     ask-requires
     bit-requires
-    told-requires
+    write-byte-answer-requires
     same-length-2
     returns-2
     satisfies-requires
     satisfies-for-requires
     bit-requires-2
     bit-requires-3
-    told-twice-requires
+    write-two-bytes-answer-requires
     same-length-3
     returns-3)

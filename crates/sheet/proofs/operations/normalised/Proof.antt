@@ -1,4 +1,4 @@
--- `normalised`: normalised by the rules, then settled. Assumes nothing.
+-- `normalised`: normalised by the rules, then settled.
 use mathlib.Core.Path.{ap}
 use native.Mathlib.Omega.{arith}
 use denote.Ref.{now}
@@ -7,7 +7,7 @@ use Rattle.sheet.specs.Operations.{settled}
 use Rattle.solver.specs.Terms.Lookup.{byPatterns}
 use Rattle.solver.specs.Terms.Normal.{normalise, levels, visits}
 use Rattle.solver.proofs.Terms.NormalizeLaws.{rules-normalize}
-use Rattle.sheet.proofs.AnswerLaws.{frame-as, frame-from, answers-from}
+use Rattle.sheet.proofs.Laws.Answering.AnswerLaws.{frame-as, frame-from, answers-from}
 use borrow.Author.Needs.{needs}
 use Rattle.sheet.proofs.operations.normalised.Statement.{statement}
 use Rattle.sheet.proofs.operations.normalised.Tie as tie

@@ -1,9 +1,9 @@
--- `operate`: by the kind. Assumes nothing.
+-- `operate`: by the kind.
 use mathlib.Core.Logic.{inl}
 use mathlib.Core.Path.{refl}
 use native.Mathlib.Omega.{arith}
-use Rattle.sheet.proofs.TableLaws.{two, three, operations-within}
-use Rattle.sheet.proofs.GivenLaws.{asks-among}
+use Rattle.sheet.proofs.Laws.Reading.OrderTableLaws.{two, three, operations-within}
+use Rattle.sheet.proofs.Laws.Answering.OperationFieldLaws.{asks-among}
 use borrow.Author.Needs.{needs}
 use Rattle.sheet.proofs.operations.operate.Statement.{statement}
 use Rattle.sheet.proofs.operations.operate.Tie as tie

@@ -1,7 +1,7 @@
--- `question`: as it is asked, or its contrary. Assumes nothing.
+-- `question`: as it is asked, or its contrary.
 use mathlib.Core.Path.{_∙_}
 use mathlib.Core.List.{[]}
-use Rattle.sheet.proofs.AnswerLaws.{no-parameters, contrary, plainly}
+use Rattle.sheet.proofs.Laws.Answering.AnswerLaws.{no-parameters, contrary, plainly}
 use borrow.Author.Needs.{needs}
 use Rattle.sheet.proofs.operations.question.Statement.{statement}
 use Rattle.sheet.proofs.operations.question.Tie as tie

@@ -1,12 +1,12 @@
--- `reduce`: by the kind. Assumes nothing.
+-- `reduce`: by the kind.
 use mathlib.Core.Path.{sym}
 use native.Mathlib.Omega.{arith}
 use denote.Ref.{now}
 use lib.ListN.{length-take}
 use lib.Seq.{length-take-le}
-use Rattle.sheet.proofs.AnswerLaws.{held-in}
-use Rattle.sheet.proofs.TableLaws.{other}
-use Rattle.sheet.proofs.GivenLaws.{associated-asks, associated-replies, rules-asks, rules-replies}
+use Rattle.sheet.proofs.Laws.Answering.AnswerLaws.{held-in}
+use Rattle.sheet.proofs.Laws.Reading.OrderTableLaws.{other}
+use Rattle.sheet.proofs.Laws.Answering.OperationFieldLaws.{associated-asks, associated-replies, rules-asks, rules-replies}
 use borrow.Author.Needs.{needs}
 use Rattle.sheet.proofs.operations.reduce.Statement.{statement}
 use Rattle.sheet.proofs.operations.reduce.Tie as tie

@@ -1,10 +1,10 @@
--- `substitute`: by the kind, each with its binders. Assumes nothing.
+-- `substitute`: by the kind, each with its binders.
 use mathlib.Core.Path.{ap}
 use denote.Ref.{now}
 use Rattle.solver.specs.TermTypes.{Binders}
-use Rattle.sheet.proofs.AnswerLaws.{held-in}
-use Rattle.sheet.proofs.TableLaws.{third}
-use Rattle.sheet.proofs.GivenLaws.{binders-ready, ready-as, held-as, instance-asks, instance-replies, context-asks, context-replies, self-asks, self-replies}
+use Rattle.sheet.proofs.Laws.Answering.AnswerLaws.{held-in}
+use Rattle.sheet.proofs.Laws.Reading.OrderTableLaws.{third}
+use Rattle.sheet.proofs.Laws.Answering.OperationFieldLaws.{binders-ready, ready-as, held-as, instance-asks, instance-replies, context-asks, context-replies, self-asks, self-replies}
 use borrow.Author.Needs.{needs}
 use Rattle.sheet.proofs.operations.substitute.Statement.{statement}
 use Rattle.sheet.proofs.operations.substitute.Tie as tie

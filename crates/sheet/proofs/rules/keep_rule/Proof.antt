@@ -1,4 +1,4 @@
--- `keep_rule`: six words that fit. Assumes nothing.
+-- `keep_rule`: six words that fit.
 use native.Mathlib.Omega.{arith}
 use borrow.Author.Needs.{needs}
 use Rattle.sheet.proofs.rules.keep_rule.Statement.{statement}

@@ -1,20 +1,20 @@
--- `read_rule`: the parts of a rule, and its words. Invariant: what was read so far is stored, and the rest of the layout gives the rest (`Through`). Assumes nothing.
+-- `read_rule`: the parts of a rule, and its words. Invariant: what was read so far is stored, and the rest of the layout gives the rest (`Through`).
 use denote.Ref.{now}
 use mathlib.Core.Path.{_≡_, refl, ap, _∙_}
 use mathlib.Core.List.{[]}
 use native.Mathlib.Omega.{arith}
 use lib.ListN.{length}
 use Rattle.solver.specs.Terms.Tokens.{Area, area}
-use Rattle.solver.specs.Terms.Lent.{place}
+use Rattle.solver.specs.Terms.StepCodes.{place}
 use Rattle.solver.specs.TermTypes.{Rule}
 use Rattle.solver.proofs.Terms.Shortest.{octets}
-use Rattle.solver.proofs.Terms.LentLaws.{stops}
+use Rattle.solver.proofs.Terms.StepCodeLaws.{stops}
 use Rattle.solver.specs.Terms.Lookup.{putRule}
-use Rattle.sheet.specs.Laid.{ruleSorts, Plains}
-use Rattle.sheet.proofs.StoredLaws.{stored-kinds, stored-vals}
-use Rattle.sheet.proofs.ThroughLaws.{Through, rule-start, through-index, plain-more, plain-stop, through-all, through-undo}
-use Rattle.sheet.proofs.PartLaws.{unreads}
-use Rattle.sheet.proofs.RuleReading.{rule-here, rule-refused}
+use Rattle.sheet.specs.Words.FieldLayout.{ruleSorts, Plains}
+use Rattle.sheet.proofs.Laws.Reading.StoredLaws.{stored-kinds, stored-vals}
+use Rattle.sheet.proofs.Laws.Reading.FieldLoopLaws.{Through, rule-start, through-index, plain-more, plain-stop, through-all, through-undo}
+use Rattle.sheet.proofs.Laws.Reading.PartLaws.{unreads}
+use Rattle.sheet.proofs.Laws.Reading.RuleReading.{rule-here, rule-refused}
 use borrow.Author.Needs.{needs}
 use Rattle.sheet.proofs.rules.read_rule.Statement.{statement}
 use Rattle.sheet.proofs.rules.read_rule.Tie as tie

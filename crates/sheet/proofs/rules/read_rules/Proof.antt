@@ -1,15 +1,15 @@
--- `read_rules`. Invariant: what was read so far is stored, its words too, and so many more rules give the rest (`RulesThrough`). Assumes nothing.
+-- `read_rules`. Invariant: what was read so far is stored, its words too, and so many more rules give the rest (`RulesThrough`).
 use denote.Ref.{now}
 use mathlib.Core.Path.{_≡_, refl, ap}
 use Prim.Native.Nat.{_-_}
 use native.Mathlib.Omega.{arith}
 use lib.ListN.{length}
 use Rattle.solver.specs.Terms.Tokens.{Area, area}
-use Rattle.solver.specs.Terms.Lent.{place}
+use Rattle.solver.specs.Terms.StepCodes.{place}
 use Rattle.solver.proofs.Terms.Shortest.{octets}
-use Rattle.solver.proofs.Terms.LentLaws.{stops}
-use Rattle.sheet.proofs.StoredLaws.{stored-kinds, stored-vals}
-use Rattle.sheet.proofs.RuleReading.{RulesThrough, rules-start, rules-more, rules-stop, rules-undo, rules-end}
+use Rattle.solver.proofs.Terms.StepCodeLaws.{stops}
+use Rattle.sheet.proofs.Laws.Reading.StoredLaws.{stored-kinds, stored-vals}
+use Rattle.sheet.proofs.Laws.Reading.RuleReading.{RulesThrough, rules-start, rules-more, rules-stop, rules-undo, rules-end}
 use borrow.Author.Needs.{needs}
 use Rattle.sheet.proofs.rules.read_rules.Statement.{statement}
 use Rattle.sheet.proofs.rules.read_rules.Tie as tie

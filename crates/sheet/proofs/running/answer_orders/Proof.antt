@@ -1,15 +1,15 @@
--- `answer_orders`: what is left of the run makes the whole. Assumes nothing.
+-- `answer_orders`: what is left of the run makes the whole.
 use native.Mathlib.Omega.{arith}
 use mathlib.Core.Path.{_≡_, refl, _∙_}
 use Prim.Native.Nat.{_+_, _-_}
 use denote.Ref.{now}
 use lib.ListN.{length, take, drop, length-take, length-drop}
 use Rattle.solver.specs.Terms.Result.{got}
-use Rattle.solver.specs.Lent.{limitsOf}
+use Rattle.solver.specs.Words.SessionRepresentation.{limitsOf}
 use Rattle.sheet.specs.Sheet.{nextOrder}
-use Rattle.sheet.specs.Lays.{areas, outputAt}
-use Rattle.sheet.proofs.SplittingLaws.{Ahead, next-ahead}
-use Rattle.sheet.proofs.RunLaws.{Going, going-start, going-ready, going-on, ends-used, ends-faulty, ends-long}
+use Rattle.sheet.specs.Words.SessionInAreas.{areas, outputAt}
+use Rattle.sheet.proofs.Laws.Run.SplittingLaws.{Ahead, next-ahead}
+use Rattle.sheet.proofs.Laws.Run.RunLaws.{Going, going-start, going-ready, going-on, ends-used, ends-faulty, ends-long}
 use borrow.Author.Needs.{needs}
 use Rattle.sheet.proofs.running.answer_orders.Statement.{statement}
 use Rattle.sheet.proofs.running.answer_orders.Tie as tie

@@ -1,4 +1,4 @@
--- `run_in`: a fresh session, the orders answered in it, and the session cleared. Assumes nothing.
+-- `run_in`: a fresh session, the orders answered in it, and the session cleared.
 use denote.Ref.{now}
 use native.Mathlib.Omega.{arith}
 use mathlib.Core.Path.{ap}
@@ -6,9 +6,9 @@ use Prim.Native.Nat.{_-_}
 use lib.ListN.{length, length-drop}
 use borrow.Rule.Slice.PartMut.{same-len-mid}
 use Rattle.solver.specs.declared.Solver.{Solver}
-use Rattle.solver.proofs.WholeLaws.{zero-cleared}
-use Rattle.sheet.proofs.StartingLaws.{lays-holds}
-use Rattle.sheet.proofs.EndingLaws.{roomy-same, front-zero}
+use Rattle.solver.proofs.Laws.Table.SessionsLaws.{zero-cleared}
+use Rattle.sheet.proofs.Laws.Run.StartingLaws.{lays-holds}
+use Rattle.sheet.proofs.Laws.Run.EntryLaws.{roomy-same, front-zero}
 use borrow.Author.Needs.{needs}
 use Rattle.sheet.proofs.running.run_in.Statement.{statement}
 use Rattle.sheet.proofs.running.run_in.Tie as tie
@@ -50,7 +50,7 @@ part-clear-session-end c = search needs
 clear-session-requires : tie.Need-clear-session-requires
 clear-session-requires c κs =
     let L = c .before .before .before .before .before .before .before .before .before .before .before .before .before .before .answer-orders .ensures .1 in
-    (L .session, lays-holds _ (c .before .before .before .before .before .before .before .before .before .before .before .before .before .before .before .before .before .before .before .before .before .before .before .before .before .before .before .before .before .before .before .before .before .before .before .before .before .before .before .args .half) _ _ _ _ (L .session) (L .lays))
+    (L .session, lays-holds _ (c .before .before .before .before .before .before .before .before .before .before .before .before .before .before .before .before .before .before .before .before .before .before .before .before .before .before .before .before .before .before .before .before .before .before .before .before .before .before .before .args .half) _ _ _ _ (L .session) (L .inAreas))
 
 same-length : tie.Need-same-length
 same-length c = search needs
@@ -80,7 +80,7 @@ returns c =
     let e = c .before .before .before .before .before .before .before .clear-session .ensures in
     let k = c .before .before .before .before .before .before .before .clear-session .last in (
       rw (c .before .before .before .before .before .before .before .before .before .before .before .before .before .before .before .before .before .before .before .before .before .before .before .before .before .before .before .before .before .before .before .before .before .before .before .before .lay-fresh .ensures .0) at (r .ensures .0),
-      (zero-cleared (k .1 .0) (length (r .last .1 .1 .1 .1 .0)) (e .0), zero-cleared (k .1 .1 .0) (length (r .last .1 .1 .1 .1 .1 .0)) (e .1 .0), front-zero (a .half) _ _ (omega (arith, r .kept .1 .1 .1 .1 .1 .1 .0, c .before .before .before .before .before .before .before .before .before .before .before .before .before .before .before .before .before .before .before .before .before .before .before .before .before .before .before .before .before .before .before .before .before .before .before .before .lay-fresh .kept .1 .1 .1 .1 .1 .0, c .before .before .before .before .before .before .before .before .before .before .before .before .before .before .before .before .before .before .before .before .before .before .before .before .before .before .before .before .before .before .before .before .before .before .before .before .before .before .before .before .before .before .before .before .before .before .before .pre .0 .c-size, c .before .before .before .before .before .before .before .before .before .before .before .before .before .before .before .before .before .before .before .before .before .before .before .before .before .before .before .before .before .before .before .before .before .before .before .before .before .before .before .before .before .before .before .before .before .before .before .pre .0 .table)) (L .lays .front) (e .1 .1), L .lays .work),
+      (zero-cleared (k .1 .0) (length (r .last .1 .1 .1 .1 .0)) (e .0), zero-cleared (k .1 .1 .0) (length (r .last .1 .1 .1 .1 .1 .0)) (e .1 .0), front-zero (a .half) _ _ (omega (arith, r .kept .1 .1 .1 .1 .1 .1 .0, c .before .before .before .before .before .before .before .before .before .before .before .before .before .before .before .before .before .before .before .before .before .before .before .before .before .before .before .before .before .before .before .before .before .before .before .before .lay-fresh .kept .1 .1 .1 .1 .1 .0, c .before .before .before .before .before .before .before .before .before .before .before .before .before .before .before .before .before .before .before .before .before .before .before .before .before .before .before .before .before .before .before .before .before .before .before .before .before .before .before .before .before .before .before .before .before .before .before .pre .0 .c-size, c .before .before .before .before .before .before .before .before .before .before .before .before .before .before .before .before .before .before .before .before .before .before .before .before .before .before .before .before .before .before .before .before .before .before .before .before .before .before .before .before .before .before .before .before .before .before .before .pre .0 .table)) (L .inAreas .front) (e .1 .1), L .inAreas .work),
     )
 
 pub run-in-spec : {M : Type 1} → statement M

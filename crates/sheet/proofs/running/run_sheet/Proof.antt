@@ -1,9 +1,9 @@
--- `run_sheet`: 12 first, and else the run. Assumes nothing.
+-- `run_sheet`: 12 first, and else the run.
 use mathlib.Core.Path.{sym, _∙_}
 use borrow.Author.Tests.{not-true, not-false}
 use denote.Ref.{now}
 use lib.ListN.{length}
-use Rattle.sheet.proofs.EndingLaws.{suited, roomy-box, finish-unfit, finish-run}
+use Rattle.sheet.proofs.Laws.Run.EntryLaws.{suited, roomy-box, finish-unfit, finish-run}
 use borrow.Author.Needs.{needs}
 use Rattle.sheet.proofs.running.run_sheet.Statement.{statement}
 use Rattle.sheet.proofs.running.run_sheet.Tie as tie

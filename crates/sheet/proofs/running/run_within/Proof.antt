@@ -1,4 +1,4 @@
--- `run_within`: the run in the front of the areas, and the rest of them cleared. Assumes nothing.
+-- `run_within`: the run in the front of the areas, and the rest of them cleared.
 use denote.Ref.{now}
 use native.Mathlib.Omega.{arith}
 use mathlib.Core.List.{_++_}
@@ -6,7 +6,7 @@ use Prim.Native.Nat.{_-_}
 use lib.ListN.{length, drop}
 use lib.Seq.{length-front}
 use borrow.Rule.Slice.PartMut.{same-len-mid}
-use Rattle.sheet.proofs.EndingLaws.{part-inside, area-cleared, ended-leaving}
+use Rattle.sheet.proofs.Laws.Run.EntryLaws.{part-inside, area-cleared, ended-leaving}
 use borrow.Author.Needs.{needs}
 use Rattle.sheet.proofs.running.run_within.Statement.{statement}
 use Rattle.sheet.proofs.running.run_within.Tie as tie

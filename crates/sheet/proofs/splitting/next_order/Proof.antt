@@ -1,12 +1,12 @@
--- `next_order`: what a length says of the sheet. Assumes nothing.
+-- `next_order`: what a length says of the sheet.
 use native.Mathlib.Omega.{arith}
 use mathlib.Core.Path.{_≡_}
 use denote.Ref.{now}
 use Rattle.solver.specs.Terms.Result.{got}
 use Rattle.solver.specs.Terms.Number.{number}
-use Rattle.sheet.proofs.CodeLaws.{number-coded}
-use Rattle.sheet.proofs.PartLaws.{number-told, number-refused}
-use Rattle.sheet.proofs.SplittingLaws.{number-inside, frame-short, frame-whole, frame-none}
+use Rattle.sheet.proofs.Laws.Reading.CodeLaws.{number-coded}
+use Rattle.sheet.proofs.Laws.Reading.PartLaws.{number-told, number-refused}
+use Rattle.sheet.proofs.Laws.Run.SplittingLaws.{number-inside, frame-short, frame-whole, frame-none}
 use borrow.Author.Needs.{needs}
 use Rattle.sheet.proofs.splitting.next_order.Statement.{statement}
 use Rattle.sheet.proofs.splitting.next_order.Tie as tie

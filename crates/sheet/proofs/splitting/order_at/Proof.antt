@@ -1,4 +1,4 @@
--- `order_at`: the part of the sheet. Assumes nothing.
+-- `order_at`: the part of the sheet.
 use native.Mathlib.Omega.{arith}
 use mathlib.Core.Path.{_≡_}
 use Prim.Native.Nat.{_+_, _-_}

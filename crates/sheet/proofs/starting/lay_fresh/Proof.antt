@@ -1,13 +1,13 @@
--- `lay_fresh`: a fresh session. Assumes nothing.
+-- `lay_fresh`: a fresh session.
 use denote.Ref.{now}
 use native.Mathlib.Omega.{arith}
 use mathlib.Core.Path.{sym}
 use mathlib.Core.List.{_++_}
 use lib.ListN.{length, drop}
 use lib.Seq.{length-take-le}
-use Rattle.solver.proofs.WholeLaws.{zero-cleared}
-use Rattle.sheet.proofs.LaysLaws.{tail-all}
-use Rattle.sheet.proofs.StartingLaws.{front-inside, front-rest, lays-fresh}
+use Rattle.solver.proofs.Laws.Table.SessionsLaws.{zero-cleared}
+use Rattle.sheet.proofs.Laws.Answering.SessionInAreasLaws.{tail-all}
+use Rattle.sheet.proofs.Laws.Run.StartingLaws.{front-inside, front-rest, lays-fresh}
 use borrow.Author.Needs.{needs}
 use Rattle.sheet.proofs.starting.lay_fresh.Statement.{statement}
 use Rattle.sheet.proofs.starting.lay_fresh.Tie as tie

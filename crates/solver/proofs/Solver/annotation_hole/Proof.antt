@@ -1,9 +1,9 @@
--- `Solver::annotation_hole`. Assumes nothing.
+-- `Solver::annotation_hole`.
 use mathlib.Core.Path.{refl}
 use Rattle.solver.specs.Session.{gap}
 use Rattle.solver.specs.Orders.{order}
-use Rattle.solver.specs.Lent.{limitsOf}
-use Rattle.solver.proofs.MethodLaws.{hole-replied}
+use Rattle.solver.specs.Words.SessionRepresentation.{limitsOf}
+use Rattle.solver.proofs.Laws.Table.MethodLaws.{hole-replied}
 use borrow.Author.Needs.{needs}
 use Rattle.solver.proofs.Solver.annotation_hole.Statement.{statement}
 use Rattle.solver.proofs.Solver.annotation_hole.Tie as tie

@@ -1,8 +1,8 @@
--- `Solver::apply_defaults`. Invariant: the variables before v have their defaults. Assumes nothing.
+-- `Solver::apply_defaults`. Invariant: the variables before v have their defaults.
 use denote.Ref.{now}
 use Prim.Native.Nat.{_-_}
 use native.Mathlib.Omega.{arith}
-use Rattle.solver.proofs.ChainLaws.{Applied, applied-start, applied-step, applied-end}
+use Rattle.solver.proofs.Laws.Table.ChainLaws.{Applied, applied-start, applied-step, applied-end}
 use borrow.Author.Needs.{needs}
 use Rattle.solver.proofs.Solver.apply_defaults.Statement.{statement}
 use Rattle.solver.proofs.Solver.apply_defaults.Tie as tie
@@ -23,8 +23,8 @@ default-word-requires c κs =
     let t = c .before .loop-test .taken in
     (omega (arith, p .0 .issued), omega (arith, A .beside .size, p .0 .room), p .0 .narrow)
 
-settle-at-requires : tie.Need-settle-at-requires Inv-loop μ-loop
-settle-at-requires c κs =
+bind-default-requires : tie.Need-bind-default-requires Inv-loop μ-loop
+bind-default-requires c κs =
     let p = c .before .before .before .before .before .before .before .before .pre in
     let A = c .before .before .before .before .loop .inv in
     let B = A .beside in
@@ -44,7 +44,7 @@ loop-again c =
     let s = c .before .before .before .before .before .before .before .before .before .before .before in
     let a = s .args in
     let l = c .before .before .before .before .before .before .before .loop in
-    let e = c .before .before .settle-at .ensures in
+    let e = c .before .before .bind-default .ensures in
     applied-step (a .never) (a .self) (now (a .kinds)) (now (a .vals)) (now (a .tables)) (l .v) (l .self) _ (l .tables) _ _ (l .inv) (s .pre .0 .issued)
     (c .before .before .before .before .before .before .loop-test .taken) (c .before .before .before .before .default-word .ensures) (e .0) (e .1 .1) (e .1 .0 .1) (e .1 .0 .0)
 
@@ -66,7 +66,7 @@ apply-defaults-spec =
     μ-loop
     loop-holds
     default-word-requires
-    settle-at-requires
+    bind-default-requires
     add-v
     loop-less
     loop-again

@@ -1,6 +1,6 @@
--- `Solver::apply_never_defaults`. Assumes nothing.
+-- `Solver::apply_never_defaults`.
 use Rattle.solver.specs.Orders.{order}
-use Rattle.solver.specs.Methods.{defaulted}
+use Rattle.solver.specs.Words.MethodContract.{defaulted}
 use borrow.Author.Needs.{needs}
 use Rattle.solver.proofs.Solver.apply_never_defaults.Statement.{statement}
 use Rattle.solver.proofs.Solver.apply_never_defaults.Tie as tie

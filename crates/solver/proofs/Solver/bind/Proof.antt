@@ -1,7 +1,7 @@
--- `Solver::bind`. The request is handed on, and then the binding is written. Assumes nothing.
+-- `Solver::bind`. The request is handed on, and then the binding is written.
 use denote.Ref.{now}
 use mathlib.Core.Path.{refl}
-use Rattle.solver.proofs.AdmitLaws.{bound-beside, bound-held}
+use Rattle.solver.proofs.Laws.Table.AdmitLaws.{bound-beside, bound-held}
 use borrow.Author.Needs.{needs}
 use Rattle.solver.proofs.Solver.bind.Statement.{statement}
 use Rattle.solver.proofs.Solver.bind.Tie as tie
@@ -9,20 +9,20 @@ use Rattle.solver.proofs.Solver.bind.Tie as tie
 wide-requires : tie.Need-wide-requires
 wide-requires c κs = search needs
 
-mul-hand-on : tie.Need-mul-hand-on
-mul-hand-on c = search needs
+mul-propagate-request : tie.Need-mul-propagate-request
+mul-propagate-request c = search needs
 
-shared-slice-read-hand-on : tie.Need-shared-slice-read-hand-on
-shared-slice-read-hand-on c = search needs
+shared-slice-read-propagate-request : tie.Need-shared-slice-read-propagate-request
+shared-slice-read-propagate-request c = search needs
 
-mul-hand-on-2 : tie.Need-mul-hand-on-2
-mul-hand-on-2 c = search needs
+mul-propagate-request-2 : tie.Need-mul-propagate-request-2
+mul-propagate-request-2 c = search needs
 
-shared-slice-read-hand-on-2 : tie.Need-shared-slice-read-hand-on-2
-shared-slice-read-hand-on-2 c = search needs
+shared-slice-read-propagate-request-2 : tie.Need-shared-slice-read-propagate-request-2
+shared-slice-read-propagate-request-2 c = search needs
 
-hand-on-requires : tie.Need-hand-on-requires
-hand-on-requires c κs = search needs
+propagate-request-requires : tie.Need-propagate-request-requires
+propagate-request-requires c κs = search needs
 
 add-tables : tie.Need-add-tables
 add-tables c = search needs
@@ -47,7 +47,7 @@ returns c =
     let a = c .before .before .before .before .before .before .before .before .before .before .before .args in
     let p = c .before .before .before .before .before .before .before .before .before .before .before .pre in
     let e = c .before .before .before .before .before .before .before .wide .ensures in
-    let H = c .before .before .before .hand-on .ensures in (
+    let H = c .before .before .before .propagate-request .ensures in (
       bound-held (a .self) _ (now (a .kinds)) (now (a .vals)) (now (a .tables)) _ (a .v) _ (a .q) e (p .1 .0) H refl refl refl refl refl refl,
       ((refl, refl, refl), bound-beside (a .self) _ (now (a .kinds)) (now (a .vals)) (now (a .tables)) _ (a .v) _ (a .q) e (p .1 .0) H refl refl refl),
     )
@@ -57,11 +57,11 @@ bind-spec =
     tie.close
     (tie.spec
     wide-requires
-    mul-hand-on
-    shared-slice-read-hand-on
-    mul-hand-on-2
-    shared-slice-read-hand-on-2
-    hand-on-requires
+    mul-propagate-request
+    shared-slice-read-propagate-request
+    mul-propagate-request-2
+    shared-slice-read-propagate-request-2
+    propagate-request-requires
     add-tables
     cast-tables
     mul-tables

@@ -1,8 +1,8 @@
--- `Solver::clear_session`. What is not in use is 0 already. Assumes nothing.
+-- `Solver::clear_session`. What is not in use is 0 already.
 use denote.Ref.{now}
 use native.Mathlib.Omega.{arith}
 use lib.ListN.{length-take}
-use Rattle.solver.proofs.WholeLaws.{used-cleared}
+use Rattle.solver.proofs.Laws.Table.SessionsLaws.{used-cleared}
 use borrow.Author.Needs.{needs}
 use Rattle.solver.proofs.Solver.clear_session.Statement.{statement}
 use Rattle.solver.proofs.Solver.clear_session.Tie as tie
@@ -11,13 +11,13 @@ clear-words-requires : tie.Need-clear-words-requires
 clear-words-requires c κs =
     let a = c .before .before .before .before .args in
     let H = c .before .before .before .before .pre .1 in
-    omega (arith, H .lent .top, length-take (a .self .top) (now (a .a)))
+    omega (arith, H .represents .top, length-take (a .self .top) (now (a .a)))
 
 clear-words-requires-2 : tie.Need-clear-words-requires-2
 clear-words-requires-2 c κs =
     let a = c .before .before .before .before .before .before .before .before .args in
     let H = c .before .before .before .before .before .before .before .before .pre .1 in
-    omega (arith, H .lent .top, H .lent .vals, length-take (a .self .top) (now (a .b)))
+    omega (arith, H .represents .top, H .represents .vals, length-take (a .self .top) (now (a .b)))
 
 mul-clear-words : tie.Need-mul-clear-words
 mul-clear-words c = search needs

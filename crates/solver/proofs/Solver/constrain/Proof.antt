@@ -1,9 +1,9 @@
--- `Solver::constrain`. The tokens of the order are the session's, and its nodes kept. Assumes nothing.
+-- `Solver::constrain`. The tokens of the order are the session's, and its nodes kept.
 use Prim.Native.Nat.{_+_}
 use Rattle.terms.specs.Term.{size}
 use Rattle.solver.specs.Session.{keep}
-use Rattle.solver.specs.Lent.{limitsOf, notion}
-use Rattle.solver.proofs.BehindLaws.{pair-lent, pair-arises, pair-left, pair-right, pair-scratch}
+use Rattle.solver.specs.Words.SessionRepresentation.{limitsOf, notion}
+use Rattle.solver.proofs.Laws.Table.OrderTermLaws.{pair-lent, pair-arises, pair-left, pair-right, pair-scratch}
 use borrow.Author.Needs.{needs}
 use Rattle.solver.proofs.Solver.constrain.Statement.{statement}
 use Rattle.solver.proofs.Solver.constrain.Tie as tie
@@ -32,7 +32,7 @@ returns c =
     let e = c .before .before .before .before .solve-pair .ensures in (
       λ z t u P k.
           let C = e .0 (keep z (z .solver) (size t + size u)) (limitsOf (a .self)) t u (pair-arises n (a .self) _ _ _ z (a .q) t u P) (pair-lent n (a .self) _ _ _ z (a .q) t u P (a .nodes) k) (pair-left n (a .self) _ _ _ z (a .q) t u P) (pair-right n (a .self) _ _ _ z (a .q) t u P) in
-          record { lent = C .lent; verdict = C .verdict; blank = C .blank; variables = C .variables; nodes = C .nodes },
+          record { represents = C .represents; verdict = C .verdict; blank = C .blank; variables = C .variables; nodes = C .nodes },
       e .1,
     )
 

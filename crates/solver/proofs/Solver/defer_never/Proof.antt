@@ -1,26 +1,26 @@
--- `Solver::defer_never`. By the token at the top. Assumes nothing.
+-- `Solver::defer_never`. By the token at the top.
 use denote.Ref.{now}
 use mathlib.Core.Path.{sym}
 use Prim.Native.Nat.{_+_, _*_}
 use native.Mathlib.Omega.{arith}
 use lib.Seq.{length-take-le}
-use Rattle.solver.proofs.MethodLaws.{beside-same, beside-set}
-use Rattle.solver.proofs.ChainLaws.{deferred-none, deferred-some, deferred-far}
-use Rattle.solver.proofs.BehindLaws.{poses-inside, behind-bindings}
+use Rattle.solver.proofs.Laws.Table.MethodLaws.{beside-same, beside-set}
+use Rattle.solver.proofs.Laws.Table.ChainLaws.{deferred-none, deferred-some, deferred-far}
+use Rattle.solver.proofs.Laws.Table.OrderTermLaws.{poses-inside, behind-bindings}
 use borrow.Author.Needs.{needs}
 use Rattle.solver.proofs.Solver.defer_never.Statement.{statement}
 use Rattle.solver.proofs.Solver.defer_never.Tie as tie
 
-slice-reshare-prefix-top-at : tie.Need-slice-reshare-prefix-top-at
-slice-reshare-prefix-top-at c = search needs
+slice-reshare-prefix-shallow-resolve : tie.Need-slice-reshare-prefix-shallow-resolve
+slice-reshare-prefix-shallow-resolve c = search needs
 
-slice-aggregate-top-at : tie.Need-slice-aggregate-top-at
-slice-aggregate-top-at c =
+slice-aggregate-shallow-resolve : tie.Need-slice-aggregate-shallow-resolve
+slice-aggregate-shallow-resolve c =
     let p = c .before .before .before .before .pre in
-    sym (length-take-le _ _ (omega (arith, p .3 .behind .lent .room)))
+    sym (length-take-le _ _ (omega (arith, p .3 .behind .represents .room)))
 
-top-at-requires : tie.Need-top-at-requires
-top-at-requires c κs =
+shallow-resolve-requires : tie.Need-shallow-resolve-requires
+shallow-resolve-requires c κs =
     let p = c .before .before .before .before .pre in
     (poses-inside _ _ _ _ _ _ _ (p .3), p .3 .behind .pairs)
 
@@ -58,9 +58,9 @@ returns : tie.Need-returns
 returns c =
     let a = c .before .before .before .before .before .before .before .before .before .before .args in
     let p = c .before .before .before .before .before .before .before .before .before .before .pre in
-    let t = c .before .before .before .before .before .top-at in
+    let t = c .before .before .before .before .before .shallow-resolve in
     let l = c .if2 .taken in (
-      λ n s u P. deferred-some (a .self) _ _ (now (a .tables)) s n (P .behind .codes) (P .behind .arises) (P .behind .lent) (now (a .kinds)) (now (a .vals)) u (t .result) (t .ensures .1 u (s .solver .bindings) (P .held) (behind-bindings _ _ _ _ _ _ (P .behind))) _ (c .before .wide .ensures) (c .before .before .before .if1 .taken) l,
+      λ n s u P. deferred-some (a .self) _ _ (now (a .tables)) s n (P .behind .codes) (P .behind .reachable) (P .behind .represents) (now (a .kinds)) (now (a .vals)) u (t .result) (t .ensures .1 u (s .solver .bindings) (P .held) (behind-bindings _ _ _ _ _ _ (P .behind))) _ (c .before .wide .ensures) (c .before .before .before .if1 .taken) l,
       beside-set (a .self) (a .self) (now (a .tables)) (now (a .tables)) (5 * a .self .variables + c .before .wide .result) 1 (beside-same (a .self) (now (a .tables))) (omega arith),
     )
 
@@ -70,8 +70,8 @@ same-length-2 c = search needs
 returns-2 : tie.Need-returns-2
 returns-2 c =
     let a = c .before .before .before .before .before .before .before .before .before .before .args in
-    let t = c .before .before .before .before .before .top-at in (
-      λ n s u P. absurd (omega (arith, deferred-far (a .self) _ _ (now (a .tables)) s n (P .behind .codes) (P .behind .arises) (P .behind .lent) (now (a .kinds)) (now (a .vals)) u (t .result) (t .ensures .1 u (s .solver .bindings) (P .held) (behind-bindings _ _ _ _ _ _ (P .behind))) (P .within) (c .before .before .before .if1 .taken), c .before .wide .ensures, c .if2 .left)),
+    let t = c .before .before .before .before .before .shallow-resolve in (
+      λ n s u P. absurd (omega (arith, deferred-far (a .self) _ _ (now (a .tables)) s n (P .behind .codes) (P .behind .reachable) (P .behind .represents) (now (a .kinds)) (now (a .vals)) u (t .result) (t .ensures .1 u (s .solver .bindings) (P .held) (behind-bindings _ _ _ _ _ _ (P .behind))) (P .within) (c .before .before .before .if1 .taken), c .before .wide .ensures, c .if2 .left)),
       beside-same (a .self) (now (a .tables)),
     )
 
@@ -81,8 +81,8 @@ same-length-3 c = search needs
 returns-3 : tie.Need-returns-3
 returns-3 c =
     let a = c .before .before .before .before .before .before .before .args in
-    let t = c .before .before .top-at in (
-      λ n s u P. deferred-none (a .self) _ _ (now (a .tables)) s n (P .behind .codes) (P .behind .arises) (P .behind .lent) (now (a .kinds)) (now (a .vals)) u (t .result) (t .ensures .1 u (s .solver .bindings) (P .held) (behind-bindings _ _ _ _ _ _ (P .behind))) (c .if1 .left),
+    let t = c .before .before .shallow-resolve in (
+      λ n s u P. deferred-none (a .self) _ _ (now (a .tables)) s n (P .behind .codes) (P .behind .reachable) (P .behind .represents) (now (a .kinds)) (now (a .vals)) u (t .result) (t .ensures .1 u (s .solver .bindings) (P .held) (behind-bindings _ _ _ _ _ _ (P .behind))) (c .if1 .left),
       beside-same (a .self) (now (a .tables)),
     )
 
@@ -90,9 +90,9 @@ pub defer-never-spec : {M : Type 1} → statement M
 defer-never-spec =
     tie.close
     (tie.spec
-    slice-reshare-prefix-top-at
-    slice-aggregate-top-at
-    top-at-requires
+    slice-reshare-prefix-shallow-resolve
+    slice-aggregate-shallow-resolve
+    shallow-resolve-requires
     mul-if1
     shared-slice-read-if1
     mul-wide

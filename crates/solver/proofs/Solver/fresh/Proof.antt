@@ -1,9 +1,9 @@
--- `Solver::fresh`. Words cleared, and the builtins stored. Assumes nothing.
+-- `Solver::fresh`. Words cleared, and the builtins stored.
 use native.Mathlib.Omega.{arith}
 use denote.Ref.{now}
 use mathlib.Core.Path.{refl, _∙_}
 use lib.ListN.{length, length-take}
-use Rattle.solver.proofs.WholeLaws.{zero-cleared, front-long, holds-fresh}
+use Rattle.solver.proofs.Laws.Table.SessionsLaws.{zero-cleared, front-long, holds-fresh}
 use borrow.Author.Needs.{needs}
 use Rattle.solver.proofs.Solver.fresh.Statement.{statement}
 use Rattle.solver.proofs.Solver.fresh.Tie as tie

@@ -1,9 +1,9 @@
--- `Solver::id_of`. By the search. Assumes nothing.
+-- `Solver::id_of`. By the search.
 use denote.Ref.{now}
 use mathlib.Core.Path.{refl, sym, ap, _∙_}
 use Rattle.solver.specs.Session.{at, gap}
-use Rattle.solver.specs.Behind.{placeOf}
-use Rattle.solver.proofs.MethodLaws.{site-below, named-low}
+use Rattle.solver.specs.Words.OrderTerms.{placeOf}
+use Rattle.solver.proofs.Laws.Table.MethodLaws.{site-below, named-low}
 use borrow.Author.Needs.{needs}
 use Rattle.solver.proofs.Solver.id_of.Statement.{statement}
 use Rattle.solver.proofs.Solver.id_of.Tie as tie

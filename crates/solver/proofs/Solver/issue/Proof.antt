@@ -1,11 +1,11 @@
--- `Solver::issue`. By what the search found, and whether one more may be issued. Assumes nothing.
+-- `Solver::issue`. By what the search found, and whether one more may be issued.
 use denote.Ref.{now}
 use mathlib.Core.Path.{_≡_, refl, sym}
 use Prim.Native.Nat.{_+_, _*_}
 use native.Mathlib.Omega.{arith}
 use lib.ListN.{set, length-set}
 use Rattle.unify.specs.Term.{clash}
-use Rattle.solver.proofs.MethodLaws.{beside-same, beside-set, issued-found, issued-full, issued-new}
+use Rattle.solver.proofs.Laws.Table.MethodLaws.{beside-same, beside-set, issued-found, issued-full, issued-new}
 use borrow.Author.Needs.{needs}
 use Rattle.solver.proofs.Solver.issue.Statement.{statement}
 use Rattle.solver.proofs.Solver.issue.Tie as tie

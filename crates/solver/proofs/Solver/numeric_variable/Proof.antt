@@ -1,4 +1,4 @@
--- `Solver::numeric_variable`. The request is written where the place has its variable. Assumes nothing.
+-- `Solver::numeric_variable`. The request is written where the place has its variable.
 use denote.Ref.{now}
 use mathlib.Core.Path.{refl}
 use Prim.Native.Nat.{_+_}
@@ -6,8 +6,8 @@ use native.Mathlib.Omega.{arith}
 use Rattle.solver.specs.Families.{requested}
 use Rattle.solver.specs.Session.{at}
 use Rattle.solver.specs.Orders.{order}
-use Rattle.solver.specs.Lent.{limitsOf}
-use Rattle.solver.proofs.MethodLaws.{beside-set, number-written, number-none}
+use Rattle.solver.specs.Words.SessionRepresentation.{limitsOf}
+use Rattle.solver.proofs.Laws.Table.MethodLaws.{beside-set, number-written, number-none}
 use borrow.Author.Needs.{needs}
 use Rattle.solver.proofs.Solver.numeric_variable.Statement.{statement}
 use Rattle.solver.proofs.Solver.numeric_variable.Tie as tie

@@ -1,12 +1,12 @@
--- `Solver::resolve`. By where resolving begins. Assumes nothing.
+-- `Solver::resolve`. By where resolving begins.
 use denote.Ref.{now}
 use native.Mathlib.Omega.{arith}
 use mathlib.Core.Path.{sym, ap, _∙_}
 use lib.ListN.{length, take}
 use lib.Seq.{length-take-le}
 use Rattle.terms.specs.Term.{bytes}
-use Rattle.solver.proofs.ResolvedLaws.{resolved-bytes}
-use Rattle.solver.proofs.BehindLaws.{asked-areas, begins-at, stands-free, wrote-as}
+use Rattle.solver.proofs.Laws.Resolving.ResolvedLaws.{resolved-bytes}
+use Rattle.solver.proofs.Laws.Table.OrderTermLaws.{asked-areas, begins-at, stands-free, wrote-as}
 use borrow.Author.Needs.{needs}
 use Rattle.solver.proofs.Solver.resolve.Statement.{statement}
 use Rattle.solver.proofs.Solver.resolve.Tie as tie

@@ -1,4 +1,4 @@
--- `Solver::resolved_len`. By where resolving begins; frames of a walk that was left are cleared. Assumes nothing.
+-- `Solver::resolved_len`. By where resolving begins; frames of a walk that was left are cleared.
 use denote.Ref.{now}
 use native.Mathlib.Omega.{arith}
 use mathlib.Core.Path.{sym, ap, _∙_}
@@ -6,7 +6,7 @@ use Prim.Native.Nat.{min, _+_, _≤_}
 use lib.ListN.{length}
 use lib.Seq.{length-take-le}
 use Rattle.terms.specs.Term.{Term, bytes}
-use Rattle.solver.proofs.BehindLaws.{asked-areas, begins-at, stands-free, zero-walked}
+use Rattle.solver.proofs.Laws.Table.OrderTermLaws.{asked-areas, begins-at, stands-free, zero-walked}
 use borrow.Author.Needs.{needs}
 use Rattle.solver.proofs.Solver.resolved_len.Statement.{statement}
 use Rattle.solver.proofs.Solver.resolved_len.Tie as tie

@@ -1,4 +1,4 @@
--- `Solver::revision`. Assumes nothing.
+-- `Solver::revision`.
 use mathlib.Core.Path.{refl, sym, ap}
 use Rattle.solver.specs.Orders.{order, count}
 use Rattle.solver.proofs.Solver.revision.Statement.{statement}

@@ -1,13 +1,13 @@
--- `Solver::solve_pair`. Invariant: `Loop`. Assumes nothing.
+-- `Solver::solve_pair`. Invariant: `Loop`.
 use mathlib.Core.Bool.{true, false}
 use native.Mathlib.Omega.{arith}
 use denote.Ref.{now}
 use borrow.Author.Tests.{not-true, not-false}
-use Rattle.solver.specs.Lent.{notion}
-use Rattle.solver.specs.Solving.{constrain}
-use Rattle.solver.proofs.DefaultLaws.{notion-codes}
-use Rattle.solver.proofs.CheckLaws.{held-place}
-use Rattle.solver.proofs.LoopLaws.{Loop, going-start, loop-start, loop-room, loop-due, loop-scratch, loop-next, told-so, and-false, and-true, going-end, going-cancel}
+use Rattle.solver.specs.Words.SessionRepresentation.{notion}
+use Rattle.solver.specs.Constrain.{constrain}
+use Rattle.solver.proofs.Laws.Definition.DefaultLaws.{notion-codes}
+use Rattle.solver.proofs.Laws.Checks.CheckContractLaws.{held-place}
+use Rattle.solver.proofs.Laws.Checks.PairLoopLaws.{Loop, going-start, loop-start, loop-room, loop-due, loop-scratch, loop-next, told-so, and-false, and-true, going-end, going-cancel}
 use borrow.Author.Needs.{needs}
 use Rattle.solver.proofs.Solver.solve_pair.Statement.{statement}
 use Rattle.solver.proofs.Solver.solve_pair.Tie as tie
@@ -71,8 +71,8 @@ take-pair-requires c κs =
     let l = c .before .before .before .loop in
     omega (arith, loop-room (notion (a .strict)) (notion-codes (a .strict)) (a .self) (now (a .kinds)) (now (a .vals)) _ _ _ _ _ (l .self) (l .tables) (l .work) (l .left) (l .count) (l .ok) (l .inv))
 
-turn-requires : tie.Need-turn-requires Inv-loop μ-loop
-turn-requires c κs =
+check-pair-requires : tie.Need-check-pair-requires Inv-loop μ-loop
+check-pair-requires c κs =
     let h = c .before .before .before .before .before .before .before .before .before .before .before .before .before .before .before .before .before .before in
     let a = h .args in
     let l = c .before .before .before .before .before .before .before .before .loop in
@@ -86,7 +86,7 @@ loop-again c =
     let h = c .before .before .before .before .before .before .before .before .before .before .before .before .before .before .before .before .before .before .before .before .before .before .before .before .before in
     let a = h .args in
     let l = c .before .before .before .before .before .before .before .before .before .before .before .before .before .before .before .loop in
-    loop-next (notion (a .strict)) (notion-codes (a .strict)) (a .self) (now (a .kinds)) (now (a .vals)) _ _ _ _ _ (l .self) (l .tables) (l .work) (l .left) (l .count) (l .ok) (l .inv) _ _ _ (c .before .before .before .before .before .before .before .before .before .before .before .before .before .if1 .left) (c .before .before .before .before .before .before .before .before .before .before .before .before .before .before .loop-test .taken) (c .before .before .before .before .before .before .before .before .before .before .tables3 .given) (c .before .before .before .before .before .before .before .before .before .before .before .take-pair .ensures) _ _ _ (c .before .before .before .before .before .tables4 .given) (c .before .before .before .work .given) (c .before .before .before .before .before .before .turn .ensures .1) (c .before .before .before .before .before .before .turn .ensures .0) false (and-false (l .ok) _ (not-true _ (c .if2 .taken)))
+    loop-next (notion (a .strict)) (notion-codes (a .strict)) (a .self) (now (a .kinds)) (now (a .vals)) _ _ _ _ _ (l .self) (l .tables) (l .work) (l .left) (l .count) (l .ok) (l .inv) _ _ _ (c .before .before .before .before .before .before .before .before .before .before .before .before .before .if1 .left) (c .before .before .before .before .before .before .before .before .before .before .before .before .before .before .loop-test .taken) (c .before .before .before .before .before .before .before .before .before .before .tables3 .given) (c .before .before .before .before .before .before .before .before .before .before .before .take-pair .ensures) _ _ _ (c .before .before .before .before .before .tables4 .given) (c .before .before .before .work .given) (c .before .before .before .before .before .before .check-pair .ensures .1) (c .before .before .before .before .before .before .check-pair .ensures .0) false (and-false (l .ok) _ (not-true _ (c .if2 .taken)))
 
 loop-less-2 : tie.Need-loop-less-2 Inv-loop μ-loop
 loop-less-2 c = search needs
@@ -96,7 +96,7 @@ loop-again-2 c =
     let h = c .before .before .before .before .before .before .before .before .before .before .before .before .before .before .before .before .before .before .before .before .before .before .before .before .before in
     let a = h .args in
     let l = c .before .before .before .before .before .before .before .before .before .before .before .before .before .before .before .loop in
-    loop-next (notion (a .strict)) (notion-codes (a .strict)) (a .self) (now (a .kinds)) (now (a .vals)) _ _ _ _ _ (l .self) (l .tables) (l .work) (l .left) (l .count) (l .ok) (l .inv) _ _ _ (c .before .before .before .before .before .before .before .before .before .before .before .before .before .if1 .left) (c .before .before .before .before .before .before .before .before .before .before .before .before .before .before .loop-test .taken) (c .before .before .before .before .before .before .before .before .before .before .tables3 .given) (c .before .before .before .before .before .before .before .before .before .before .before .take-pair .ensures) _ _ _ (c .before .before .before .before .before .tables4 .given) (c .before .before .before .work .given) (c .before .before .before .before .before .before .turn .ensures .1) (c .before .before .before .before .before .before .turn .ensures .0) (l .ok) (and-true (l .ok) _ (not-false _ (c .if2 .left)))
+    loop-next (notion (a .strict)) (notion-codes (a .strict)) (a .self) (now (a .kinds)) (now (a .vals)) _ _ _ _ _ (l .self) (l .tables) (l .work) (l .left) (l .count) (l .ok) (l .inv) _ _ _ (c .before .before .before .before .before .before .before .before .before .before .before .before .before .if1 .left) (c .before .before .before .before .before .before .before .before .before .before .before .before .before .before .loop-test .taken) (c .before .before .before .before .before .before .before .before .before .before .tables3 .given) (c .before .before .before .before .before .before .before .before .before .before .before .take-pair .ensures) _ _ _ (c .before .before .before .before .before .tables4 .given) (c .before .before .before .work .given) (c .before .before .before .before .before .before .check-pair .ensures .1) (c .before .before .before .before .before .before .check-pair .ensures .0) (l .ok) (and-true (l .ok) _ (not-false _ (c .if2 .left)))
 
 same-length-3 : tie.Need-same-length-3 Inv-loop μ-loop
 same-length-3 c = search needs
@@ -140,7 +140,7 @@ solve-pair-spec =
     sub-left
     sub-count
     take-pair-requires
-    turn-requires
+    check-pair-requires
     loop-less
     loop-again
     loop-less-2

@@ -1,7 +1,7 @@
--- `Solver::start`. By what is asked for. Assumes nothing.
+-- `Solver::start`. By what is asked for.
 use denote.Ref.{now}
 use native.Mathlib.Omega.{arith}
-use Rattle.solver.proofs.BehindLaws.{asked-id, start-behind, start-none, start-free, start-bound}
+use Rattle.solver.proofs.Laws.Table.OrderTermLaws.{asked-id, start-behind, start-none, start-free, start-bound}
 use borrow.Author.Needs.{needs}
 use Rattle.solver.proofs.Solver.start.Statement.{statement}
 use Rattle.solver.proofs.Solver.start.Tie as tie

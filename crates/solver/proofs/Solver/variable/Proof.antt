@@ -1,9 +1,9 @@
--- `Solver::variable`. Assumes nothing.
+-- `Solver::variable`.
 use mathlib.Core.Path.{refl}
 use Rattle.solver.specs.Session.{at}
 use Rattle.solver.specs.Orders.{order}
-use Rattle.solver.specs.Lent.{limitsOf}
-use Rattle.solver.proofs.MethodLaws.{variable-replied}
+use Rattle.solver.specs.Words.SessionRepresentation.{limitsOf}
+use Rattle.solver.proofs.Laws.Table.MethodLaws.{variable-replied}
 use borrow.Author.Needs.{needs}
 use Rattle.solver.proofs.Solver.variable.Statement.{statement}
 use Rattle.solver.proofs.Solver.variable.Tie as tie

@@ -1,7 +1,7 @@
--- `variable_len`: a byte and the number. Assumes nothing.
+-- `variable_len`: a byte and the number.
 use native.Mathlib.Omega.{arith}
-use Rattle.terms.proofs.WriteLaws.{short-word}
-use Rattle.solver.proofs.BehindLaws.{var-size}
+use Rattle.terms.proofs.Laws.Format.WriteLaws.{short-word}
+use Rattle.solver.proofs.Laws.Table.OrderTermLaws.{var-size}
 use borrow.Author.Needs.{needs}
 use Rattle.solver.proofs.answers.variable_len.Statement.{statement}
 use Rattle.solver.proofs.answers.variable_len.Tie as tie

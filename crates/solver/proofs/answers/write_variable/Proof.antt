@@ -1,8 +1,8 @@
--- `write_variable`: a byte and the number. Assumes nothing.
+-- `write_variable`: a byte and the number.
 use native.Mathlib.Omega.{arith}
 use mathlib.Core.Path.{refl}
 use lib.ListN.{length-set}
-use Rattle.solver.proofs.BehindLaws.{var-size, var-stored}
+use Rattle.solver.proofs.Laws.Table.OrderTermLaws.{var-size, var-stored}
 use borrow.Author.Needs.{needs}
 use Rattle.solver.proofs.answers.write_variable.Statement.{statement}
 use Rattle.solver.proofs.answers.write_variable.Tie as tie

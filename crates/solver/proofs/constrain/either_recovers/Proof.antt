@@ -1,4 +1,4 @@
--- `either_recovers`. Assumes nothing.
+-- `either_recovers`.
 use borrow.Author.Tests.{eq-eqb, ne-eqb}
 use Rattle.solver.proofs.constrain.either_recovers.Statement.{statement}
 use Rattle.solver.proofs.constrain.either_recovers.Tie as tie

@@ -1,7 +1,7 @@
--- `default_word`. By the flag, and by the word of the deferral. Assumes nothing.
+-- `default_word`. By the flag, and by the word of the deferral.
 use denote.Ref.{now}
 use mathlib.Core.Path.{_∙_}
-use Rattle.solver.proofs.MethodLaws.{default-none, default-never, default-request}
+use Rattle.solver.proofs.Laws.Table.MethodLaws.{default-none, default-never, default-request}
 use borrow.Author.Needs.{needs}
 use Rattle.solver.proofs.defaults.default_word.Statement.{statement}
 use Rattle.solver.proofs.defaults.default_word.Tie as tie

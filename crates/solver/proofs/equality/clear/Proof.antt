@@ -1,11 +1,11 @@
--- `clear`. Invariant: `Clearing`, the places that still hang are listed before k. Measure: k. Assumes nothing.
+-- `clear`. Invariant: `Clearing`, the places that are still linked are listed before k. Measure: k.
 use lib.ListN.{length, take, drop, set, length-set}
 use mathlib.Core.Path.{_≡_, refl, _∙_}
 use native.Mathlib.Omega.{arith}
 use Prim.Native.Nat.{_+_, _-_}
-use Rattle.solver.specs.Links.{Clearing}
-use Rattle.solver.proofs.LinkLaws.{clear-end}
-use Rattle.solver.proofs.EqualLaws.{clear-place, clear-entry, clear-turn, zero-area}
+use Rattle.solver.specs.Words.CongruenceClasses.{Clearing}
+use Rattle.solver.proofs.Laws.Equality.LinkLaws.{clear-end}
+use Rattle.solver.proofs.Laws.Equality.EqualLaws.{clear-place, clear-entry, clear-turn, zero-area}
 use Rattle.solver.proofs.equality.clear.Statement.{statement}
 use Rattle.solver.proofs.equality.clear.Tie as tie
 

@@ -1,12 +1,12 @@
--- `find`. Invariant: r is reached from a by going up. Measure: r, which falls. Assumes nothing.
+-- `find`. Invariant: r is reached from a by going up. Measure: r, which falls.
 use denote.Ref.{now}
 use lib.ListN.{take}
 use lib.Seq.{getD-take}
 use mathlib.Core.Path.{_∙_}
 use native.Mathlib.Omega.{arith}
 use Prim.Native.Nat.{_-_, _<_}
-use Rattle.solver.specs.Links.{Up, here}
-use Rattle.solver.proofs.LinkLaws.{up-snoc}
+use Rattle.solver.specs.Words.CongruenceClasses.{Up, here}
+use Rattle.solver.proofs.Laws.Equality.LinkLaws.{up-snoc}
 use Rattle.solver.proofs.equality.find.Statement.{statement}
 use Rattle.solver.proofs.equality.find.Tie as tie
 

@@ -1,7 +1,7 @@
--- `same_terms`. What `decide` answers; then the words are cleared. Assumes nothing.
+-- `same_terms`. What `decide` answers; then the words are cleared.
 use denote.Ref.{now}
-use Rattle.solver.proofs.LinkLaws.{clear-start}
-use Rattle.solver.proofs.EqualLaws.{links-fit}
+use Rattle.solver.proofs.Laws.Equality.LinkLaws.{clear-start}
+use Rattle.solver.proofs.Laws.Equality.EqualLaws.{links-fit}
 use borrow.Author.Needs.{needs}
 use Rattle.solver.proofs.equality.same_terms.Statement.{statement}
 use Rattle.solver.proofs.equality.same_terms.Tie as tie

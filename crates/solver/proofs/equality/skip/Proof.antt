@@ -1,9 +1,9 @@
--- `skip`. By the tests on the span. Assumes nothing.
+-- `skip`. By the tests on the span.
 use denote.Ref.{now}
 use lib.ListN.{getD}
 use mathlib.Core.Path.{sym, _∙_}
 use native.Mathlib.Omega.{arith}
-use Rattle.terms.proofs.HeldLaws.{span-one, span-node}
+use Rattle.terms.proofs.Laws.Held.HeldLaws.{span-one, span-node}
 use borrow.Author.Needs.{needs}
 use Rattle.solver.proofs.equality.skip.Statement.{statement}
 use Rattle.solver.proofs.equality.skip.Tie as tie

@@ -1,11 +1,11 @@
--- `admissible`. By the two words and the token. Assumes nothing.
+-- `admissible`. By the two words and the token.
 use denote.Ref.{now}
 use mathlib.Core.Path.{sym, ap, _∙_}
 use Prim.Native.Nat.{ℕ, _-_}
 use borrow.Author.Tests.{eq-eqb, ne-eqb}
 use Rattle.solver.specs.Families.{familyOf, belongs}
-use Rattle.solver.specs.Lent.{requestWords}
-use Rattle.solver.proofs.AdmitLaws.{admit-free, admit-node, admit-other, admit-joins-if}
+use Rattle.solver.specs.Words.SessionRepresentation.{requestWords}
+use Rattle.solver.proofs.Laws.Table.AdmitLaws.{admit-free, admit-node, admit-other, admit-joins-if}
 use borrow.Author.Needs.{needs}
 use Rattle.solver.proofs.families.admissible.Statement.{statement}
 use Rattle.solver.proofs.families.admissible.Tie as tie

@@ -1,9 +1,9 @@
--- `in_family`. By the two tokens of a builtin, and by its code. Assumes nothing.
+-- `in_family`. By the two tokens of a builtin, and by its code.
 use denote.Ref.{now}
 use Prim.Native.Nat.{_+_}
 use native.Mathlib.Omega.{arith}
 use lib.ListN.{getD}
-use Rattle.solver.proofs.AdmitLaws.{no-builtin, is-builtin, float-high, float-low, integer}
+use Rattle.solver.proofs.Laws.Table.AdmitLaws.{no-builtin, is-builtin, float-high, float-low, integer}
 use borrow.Author.Needs.{needs}
 use Rattle.solver.proofs.families.in_family.Statement.{statement}
 use Rattle.solver.proofs.families.in_family.Tie as tie

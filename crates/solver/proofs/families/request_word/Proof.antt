@@ -1,10 +1,10 @@
--- `request_word`. Assumes nothing.
+-- `request_word`.
 use denote.Ref.{now}
 use mathlib.Core.Path.{ap, _∙_}
 use Prim.Native.Nat.{ℕ, _+_}
 use native.Mathlib.Omega.{arith}
 use lib.ListN.{getD}
-use Rattle.solver.proofs.MethodLaws.{request-far, request-near}
+use Rattle.solver.proofs.Laws.Table.MethodLaws.{request-far, request-near}
 use borrow.Author.Needs.{needs}
 use Rattle.solver.proofs.families.request_word.Statement.{statement}
 use Rattle.solver.proofs.families.request_word.Tie as tie

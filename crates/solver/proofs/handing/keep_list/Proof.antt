@@ -1,5 +1,5 @@
--- `keep_list`: by the numbers before a term. Assumes nothing.
-use Rattle.solver.proofs.HandingLaws.{entries-kept}
+-- `keep_list`: by the numbers before a term.
+use Rattle.solver.proofs.Laws.Table.HandingLaws.{entries-kept}
 use borrow.Author.Needs.{needs}
 use Rattle.solver.proofs.handing.keep_list.Statement.{statement}
 use Rattle.solver.proofs.handing.keep_list.Tie as tie

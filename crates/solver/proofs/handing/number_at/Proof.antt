@@ -1,5 +1,5 @@
--- `number_at`: a number, or its refusal. Assumes nothing.
-use Rattle.solver.proofs.HandingLaws.{number-yes, number-no}
+-- `number_at`: a number, or its refusal.
+use Rattle.solver.proofs.Laws.Table.HandingLaws.{number-yes, number-no}
 use borrow.Author.Needs.{needs}
 use Rattle.solver.proofs.handing.number_at.Statement.{statement}
 use Rattle.solver.proofs.handing.number_at.Tie as tie

@@ -1,8 +1,8 @@
--- `put_rule`: six stores, or none. Assumes nothing.
+-- `put_rule`: six stores, or none.
 use native.Mathlib.Omega.{arith}
 use Prim.Native.Nat.{_+_, _*_}
 use lib.ListN.{set, length-set}
-use Rattle.solver.proofs.HandingLaws.{put-none, put-all}
+use Rattle.solver.proofs.Laws.Table.HandingLaws.{put-none, put-all}
 use borrow.Author.Needs.{needs}
 use Rattle.solver.proofs.handing.put_rule.Statement.{statement}
 use Rattle.solver.proofs.handing.put_rule.Tie as tie

@@ -1,8 +1,8 @@
--- `read_list`: what `keep_list` says, in numbers. Assumes nothing.
+-- `read_list`: what `keep_list` says, in numbers.
 use denote.Ref.{now}
-use Rattle.terms.specs.Lent.{place}
-use Rattle.terms.specs.Tokens.{area}
-use Rattle.solver.proofs.HandingLaws.{list-read}
+use Rattle.terms.specs.Words.StepCodes.{place}
+use Rattle.terms.specs.Words.Tokens.{area}
+use Rattle.solver.proofs.Laws.Table.HandingLaws.{list-read}
 use borrow.Author.Needs.{needs}
 use Rattle.solver.proofs.handing.read_list.Statement.{statement}
 use Rattle.solver.proofs.handing.read_list.Tie as tie

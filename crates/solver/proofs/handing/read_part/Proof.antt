@@ -1,8 +1,8 @@
--- `read_part`: what `part_at` says, in numbers. Assumes nothing.
+-- `read_part`: what `part_at` says, in numbers.
 use denote.Ref.{now}
-use Rattle.terms.specs.Lent.{place}
-use Rattle.terms.specs.Tokens.{area}
-use Rattle.solver.proofs.HandingLaws.{part-read}
+use Rattle.terms.specs.Words.StepCodes.{place}
+use Rattle.terms.specs.Words.Tokens.{area}
+use Rattle.solver.proofs.Laws.Table.HandingLaws.{part-read}
 use borrow.Author.Needs.{needs}
 use Rattle.solver.proofs.handing.read_part.Statement.{statement}
 use Rattle.solver.proofs.handing.read_part.Tie as tie

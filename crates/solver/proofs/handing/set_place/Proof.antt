@@ -1,5 +1,5 @@
--- `set_place`: the place after a step, or as it was. Assumes nothing.
-use Rattle.solver.proofs.HandingLaws.{step-next, step-stop}
+-- `set_place`: the place after a step, or as it was.
+use Rattle.solver.proofs.Laws.Table.HandingLaws.{step-next, step-stop}
 use borrow.Author.Needs.{needs}
 use Rattle.solver.proofs.handing.set_place.Statement.{statement}
 use Rattle.solver.proofs.handing.set_place.Tie as tie

@@ -1,7 +1,7 @@
--- `skip_parameters`: the position after them, or the refusal. Assumes nothing.
+-- `skip_parameters`: the position after them, or the refusal.
 use denote.Ref.{now}
 use Rattle.terms.specs.Parameters.{parameters}
-use Rattle.solver.proofs.HandingLaws.{passed-yes, passed-no}
+use Rattle.solver.proofs.Laws.Table.HandingLaws.{passed-yes, passed-no}
 use borrow.Author.Needs.{needs}
 use Rattle.solver.proofs.handing.skip_parameters.Statement.{statement}
 use Rattle.solver.proofs.handing.skip_parameters.Tie as tie

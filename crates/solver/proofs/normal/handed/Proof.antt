@@ -1,4 +1,4 @@
--- `handed`: case by case. Assumes nothing.
+-- `handed`: case by case.
 use mathlib.Core.Path.{sym}
 use borrow.Author.Needs.{needs}
 use Rattle.solver.proofs.normal.handed.Statement.{statement}

@@ -1,4 +1,4 @@
--- `normalise`: the terms' answer, handed on. Assumes nothing.
+-- `normalise`: the terms' answer, handed on.
 use borrow.Author.Needs.{needs}
 use Rattle.solver.proofs.normal.normalise.Statement.{statement}
 use Rattle.solver.proofs.normal.normalise.Tie as tie

@@ -1,4 +1,4 @@
--- `with_associated_types`: the terms' answer, handed on. Assumes nothing.
+-- `with_associated_types`: the terms' answer, handed on.
 use borrow.Author.Needs.{needs}
 use Rattle.solver.proofs.normal.with_associated_types.Statement.{statement}
 use Rattle.solver.proofs.normal.with_associated_types.Tie as tie

@@ -1,4 +1,4 @@
--- `access_free`. By the flag and the kind. Assumes nothing.
+-- `access_free`. By the flag and the kind.
 use mathlib.Core.Path.{refl}
 use borrow.Author.Tests.{ne-eqb}
 use borrow.Author.Needs.{needs}

@@ -1,10 +1,10 @@
--- `clear_pairs`. Invariant: the first i words are wiped. Assumes nothing.
+-- `clear_pairs`. Invariant: the first i words are wiped.
 use mathlib.Core.Path.{_≡_, refl, _∙_}
 use Prim.Native.Nat.{_+_, _-_, _≤_}
 use native.Mathlib.Omega.{arith}
 use lib.ListN.{length, length-set}
 use denote.Ref.{now}
-use Rattle.solver.proofs.PushLaws.{Wiping, wiping-start, wiping-step, wiping-end}
+use Rattle.solver.proofs.Laws.Checks.PushLaws.{Wiping, wiping-start, wiping-step, wiping-end}
 use borrow.Author.Needs.{needs}
 use Rattle.solver.proofs.pending.clear_pairs.Statement.{statement}
 use Rattle.solver.proofs.pending.clear_pairs.Tie as tie

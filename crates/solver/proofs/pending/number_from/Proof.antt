@@ -1,10 +1,10 @@
--- `number_from`. Invariant: what is left of the row has its numbers. Measure: the tokens left. Assumes nothing.
+-- `number_from`. Invariant: what is left of the row has its numbers. Measure: the tokens left.
 use Prim.Native.Nat.{_-_, _≤_}
 use native.Mathlib.Omega.{arith}
 use denote.Ref.{now}
 use Rattle.terms.specs.Term.{Parts}
-use Rattle.terms.specs.Held.{HeldParts}
-use Rattle.solver.proofs.PushLaws.{Seeking, seeking-start, seeking-step, seeking-found, seeking-end}
+use Rattle.terms.specs.Words.Held.{HeldParts}
+use Rattle.solver.proofs.Laws.Checks.PushLaws.{Seeking, seeking-start, seeking-step, seeking-found, seeking-end}
 use borrow.Author.Needs.{needs}
 use Rattle.solver.proofs.pending.number_from.Statement.{statement}
 use Rattle.solver.proofs.pending.number_from.Tie as tie

@@ -1,11 +1,11 @@
--- `part_end`. By the kind of the part's first token. Assumes nothing.
+-- `part_end`. By the kind of the part's first token.
 use mathlib.Core.Path.{sym, ap, _∙_}
 use Prim.Native.Nat.{ℕ, _+_}
 use native.Mathlib.Omega.{arith}
 use lib.ListN.{getD}
 use denote.Ref.{now}
-use Rattle.terms.proofs.HeldLaws.{span-one, span-node}
-use Rattle.solver.proofs.StepLaws.{part-end-over, part-end-none, part-end-at}
+use Rattle.terms.proofs.Laws.Held.HeldLaws.{span-one, span-node}
+use Rattle.solver.proofs.Laws.Checks.RowsInStepLaws.{part-end-over, part-end-none, part-end-at}
 use borrow.Author.Needs.{needs}
 use Rattle.solver.proofs.pending.part_end.Statement.{statement}
 use Rattle.solver.proofs.pending.part_end.Tie as tie

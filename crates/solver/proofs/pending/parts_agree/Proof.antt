@@ -1,5 +1,5 @@
--- `parts_agree`. By the kinds of the two tokens. Assumes nothing.
-use Rattle.solver.proofs.StepLaws.{agree-term, agree-mixed, agree-free, agree-number}
+-- `parts_agree`. By the kinds of the two tokens.
+use Rattle.solver.proofs.Laws.Checks.RowsInStepLaws.{agree-term, agree-mixed, agree-free, agree-number}
 use borrow.Author.Needs.{needs}
 use Rattle.solver.proofs.pending.parts_agree.Statement.{statement}
 use Rattle.solver.proofs.pending.parts_agree.Tie as tie

@@ -1,8 +1,8 @@
--- `push_children`. Once, or for a nominal twice. Assumes nothing.
+-- `push_children`. Once, or for a nominal twice.
 use native.Mathlib.Omega.{arith}
 use lib.ListN.{length}
 use denote.Ref.{now}
-use Rattle.solver.proofs.PushLaws.{room-all, room-drop, room-take, pushed-once, pushed-twice}
+use Rattle.solver.proofs.Laws.Checks.PushLaws.{room-all, room-drop, room-take, pushed-once, pushed-twice}
 use borrow.Author.Needs.{needs}
 use Rattle.solver.proofs.pending.push_children.Statement.{statement}
 use Rattle.solver.proofs.pending.push_children.Tie as tie

@@ -1,8 +1,8 @@
--- `push_part`. By the kind and the index. Assumes nothing.
+-- `push_part`. By the kind and the index.
 use mathlib.Core.Path.{ap}
 use native.Mathlib.Omega.{arith}
 use lib.ListN.{length}
-use Rattle.solver.proofs.PushLaws.{here-number, here-term, window-number, window-before, window-behind, window-here, laid-nothing, laid-pair}
+use Rattle.solver.proofs.Laws.Checks.PushLaws.{here-number, here-term, window-number, window-before, window-behind, window-here, laid-nothing, laid-pair}
 use borrow.Author.Needs.{needs}
 use Rattle.solver.proofs.pending.push_part.Statement.{statement}
 use Rattle.solver.proofs.pending.push_part.Tie as tie

@@ -1,9 +1,9 @@
--- `push_range`. Invariant: the pairs done, and the rows that are left. Measure: the tokens left of the first row. Assumes nothing.
+-- `push_range`. Invariant: the pairs done, and the rows that are left. Measure: the tokens left of the first row.
 use mathlib.Core.Path.{_≡_, refl}
 use Prim.Native.Nat.{_-_, _≤_}
 use native.Mathlib.Omega.{arith}
 use lib.ListN.{length}
-use Rattle.solver.proofs.PushLaws.{Pushing, pushing-start, pushing-more, pushing-room, pushing-step, pushing-end}
+use Rattle.solver.proofs.Laws.Checks.PushLaws.{Pushing, pushing-start, pushing-more, pushing-room, pushing-step, pushing-end}
 use borrow.Author.Needs.{needs}
 use Rattle.solver.proofs.pending.push_range.Statement.{statement}
 use Rattle.solver.proofs.pending.push_range.Tie as tie

@@ -1,9 +1,9 @@
--- `put_pair`. Assumes nothing.
+-- `put_pair`.
 use Prim.Native.Nat.{_+_}
 use native.Mathlib.Omega.{arith}
 use lib.ListN.{length-set}
 use denote.Ref.{now}
-use Rattle.solver.proofs.PushLaws.{laid-one}
+use Rattle.solver.proofs.Laws.Checks.PushLaws.{laid-one}
 use borrow.Author.Needs.{needs}
 use Rattle.solver.proofs.pending.put_pair.Statement.{statement}
 use Rattle.solver.proofs.pending.put_pair.Tie as tie

@@ -1,11 +1,11 @@
--- `same_shape`. Invariant: what is left of the two rows decides. Measure: the tokens left of the first row. Assumes nothing.
+-- `same_shape`. Invariant: what is left of the two rows decides. Measure: the tokens left of the first row.
 use mathlib.Core.Path.{sym, _∙_}
 use Prim.Native.Nat.{_-_, _≤_}
 use native.Mathlib.Omega.{arith}
 use denote.Ref.{now}
 use mathlib.Core.Bool.{false}
 use borrow.Author.Tests.{not-true, not-false, le-leb, lt-leb}
-use Rattle.solver.proofs.StepLaws.{Walks, walks-start, walks-over, walks-short, walks-apart, walks-step, heads-differ, shape-told}
+use Rattle.solver.proofs.Laws.Checks.RowsInStepLaws.{Walks, walks-start, walks-over, walks-short, walks-apart, walks-step, heads-differ, shape-told}
 use borrow.Author.Needs.{needs}
 use Rattle.solver.proofs.pending.same_shape.Statement.{statement}
 use Rattle.solver.proofs.pending.same_shape.Tie as tie

@@ -1,8 +1,8 @@
--- `second_number`. By whether the row has a number, and another behind it. Assumes nothing.
+-- `second_number`. By whether the row has a number, and another after it.
 use mathlib.Core.Path.{_∙_}
 use native.Mathlib.Omega.{arith}
 use denote.Ref.{now}
-use Rattle.solver.proofs.PushLaws.{second-none, second-one, second-some}
+use Rattle.solver.proofs.Laws.Checks.PushLaws.{second-none, second-one, second-some}
 use borrow.Author.Needs.{needs}
 use Rattle.solver.proofs.pending.second_number.Statement.{statement}
 use Rattle.solver.proofs.pending.second_number.Tie as tie

@@ -1,9 +1,9 @@
--- `take_pair`. Assumes nothing.
+-- `take_pair`.
 use Prim.Native.Nat.{_+_}
 use native.Mathlib.Omega.{arith}
 use lib.ListN.{length-set}
 use denote.Ref.{now}
-use Rattle.solver.proofs.PushLaws.{taken-off}
+use Rattle.solver.proofs.Laws.Checks.PushLaws.{taken-off}
 use borrow.Author.Needs.{needs}
 use Rattle.solver.proofs.pending.take_pair.Statement.{statement}
 use Rattle.solver.proofs.pending.take_pair.Tie as tie

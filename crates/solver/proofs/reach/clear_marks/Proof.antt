@@ -1,11 +1,11 @@
--- `clear_marks`. Invariant: `Clearing`, the marks that are left are those of the first k words of the queue. Assumes nothing.
+-- `clear_marks`. Invariant: `Clearing`, the marks that are left are those of the first k words of the queue.
 use mathlib.Core.Path.{_≡_, refl, sym, _∙_}
 use Prim.Native.Nat.{_+_, _-_, _≤_, _<_}
 use native.Mathlib.Omega.{arith}
 use lib.ListN.{length, getD, set, take, drop, length-set}
 use lib.Seq.{getD-drop}
 use denote.Ref.{now}
-use Rattle.solver.proofs.WorkLaws.{top-le, Clearing, clearing-start, clearing-step, clearing-end, parts-long, zero-join, take-cleared, drop-cleared}
+use Rattle.solver.proofs.Laws.Resolving.WorklistLaws.{top-le, Clearing, clearing-start, clearing-step, clearing-end, parts-long, zero-join, take-cleared, drop-cleared}
 use borrow.Author.Needs.{needs}
 use Rattle.solver.proofs.reach.clear_marks.Statement.{statement}
 use Rattle.solver.proofs.reach.clear_marks.Tie as tie

@@ -1,8 +1,8 @@
--- `occurs`. Assumes nothing.
+-- `occurs`.
 use mathlib.Core.Path.{ap, _∙_}
 use Prim.Native.Nat.{ℕ, _+_}
-use Rattle.solver.specs.Solving.{resolve}
-use Rattle.solver.proofs.ReachLaws.{asks-variable, free-variable}
+use Rattle.solver.specs.Constrain.{resolve}
+use Rattle.solver.proofs.Laws.Resolving.ReachLaws.{asks-variable, free-variable}
 use borrow.Author.Needs.{needs}
 use Rattle.solver.proofs.reach.occurs.Statement.{statement}
 use Rattle.solver.proofs.reach.occurs.Tie as tie

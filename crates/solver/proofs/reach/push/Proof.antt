@@ -1,4 +1,4 @@
--- `push`. By the token's kind, the table and the mark. Assumes nothing.
+-- `push`. By the token's kind, the table and the mark.
 use mathlib.Core.Path.{_≡_, refl, sym, ap, _∙_}
 use mathlib.Core.Bool.{true}
 use Prim.Native.Nat.{ℕ, suc, _<_}
@@ -6,9 +6,9 @@ use native.Mathlib.Omega.{arith}
 use lib.ListN.{getD, take, length-set}
 use lib.Seq.{getD-take}
 use denote.Ref.{now}
-use Rattle.solver.specs.Reach.{counts}
-use Rattle.solver.proofs.WorkLaws.{room-left, grown-new, grown-none, marked, parts-long, take-marked, drop-marked}
-use Rattle.solver.proofs.AskLaws.{token-is, is-token}
+use Rattle.solver.specs.Words.ReachContract.{counts}
+use Rattle.solver.proofs.Laws.Resolving.WorklistLaws.{room-left, grown-new, grown-none, marked, parts-long, take-marked, drop-marked}
+use Rattle.solver.proofs.Laws.Resolving.AskLaws.{token-is, is-token}
 use borrow.Author.Needs.{needs}
 use Rattle.solver.proofs.reach.push.Statement.{statement}
 use Rattle.solver.proofs.reach.push.Tie as tie

@@ -1,13 +1,13 @@
--- `reach`. Invariant: `Going`, the runs of the first `done` variables of the queue have been scanned. Measure: the variables not yet taken. Assumes nothing.
+-- `reach`. Invariant: `Going`, the runs of the first `done` variables of the queue have been scanned. Measure: the variables not yet taken.
 use mathlib.Core.Path.{_≡_, refl, sym, ap, _∙_}
 use Prim.Native.Nat.{ℕ, _+_, _-_, _≤_, _<_}
 use native.Mathlib.Omega.{arith}
 use lib.ListN.{length, getD, take, drop}
 use lib.Seq.{getD-drop}
 use denote.Ref.{now}
-use Rattle.solver.specs.Reach.{runOf}
-use Rattle.solver.proofs.WorkLaws.{work-none, top-le, entry-in, zero-take, zero-drop, parts-long}
-use Rattle.solver.proofs.ReachLaws.{Going, going-start, going-step, going-hit, going-end, named-run-of}
+use Rattle.solver.specs.Words.ReachContract.{runOf}
+use Rattle.solver.proofs.Laws.Resolving.WorklistLaws.{work-none, top-le, entry-in, zero-take, zero-drop, parts-long}
+use Rattle.solver.proofs.Laws.Resolving.ReachLaws.{Going, going-start, going-step, going-hit, going-end, named-run-of}
 use borrow.Author.Needs.{needs}
 use Rattle.solver.proofs.reach.reach.Statement.{statement}
 use Rattle.solver.proofs.reach.reach.Tie as tie

@@ -1,7 +1,7 @@
--- `reaches`. Assumes nothing.
+-- `reaches`.
 use native.Mathlib.Omega.{arith}
 use denote.Ref.{now}
-use Rattle.solver.proofs.ReachLaws.{told-asked}
+use Rattle.solver.proofs.Laws.Resolving.ReachLaws.{told-asked}
 use borrow.Author.Needs.{needs}
 use Rattle.solver.proofs.reach.reaches.Statement.{statement}
 use Rattle.solver.proofs.reach.reaches.Tie as tie

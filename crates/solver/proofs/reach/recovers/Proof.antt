@@ -1,7 +1,7 @@
--- `recovers`. Assumes nothing.
+-- `recovers`.
 use mathlib.Core.Path.{_∙_}
-use Rattle.solver.specs.Solving.{resolve}
-use Rattle.solver.proofs.ReachLaws.{asks-recovery}
+use Rattle.solver.specs.Constrain.{resolve}
+use Rattle.solver.proofs.Laws.Resolving.ReachLaws.{asks-recovery}
 use borrow.Author.Needs.{needs}
 use Rattle.solver.proofs.reach.recovers.Statement.{statement}
 use Rattle.solver.proofs.reach.recovers.Tie as tie

@@ -1,17 +1,17 @@
--- `scan`. Invariant: hit and the marks are what the first i tokens of the run give. Assumes nothing.
-use Rattle.terms.proofs.Bools.{or-true, or-right, never-true}
+-- `scan`. Invariant: hit and the marks are what the first i tokens of the run give.
+use Rattle.terms.proofs.Laws.General.Bools.{or-true, or-right, never-true}
 use mathlib.Core.Path.{_≡_, refl, sym, ap, _∙_}
 use mathlib.Core.Bool.{Bool, true, _||_}
 use Prim.Native.Nat.{ℕ, suc, _+_, _-_, _≤_}
 use native.Mathlib.Omega.{arith}
 use lib.ListN.{length, getD, take, drop}
 use denote.Ref.{now}
-use Rattle.terms.specs.Tokens.{toks}
-use Rattle.solver.specs.Work.{Grown}
-use Rattle.solver.specs.Reach.{counts, has}
-use Rattle.solver.proofs.WorkLaws.{grown-none, grown-then, parts-long}
-use Rattle.solver.proofs.AskLaws.{has-snoc, has-start}
-use Rattle.solver.proofs.View.{either}
+use Rattle.terms.specs.Words.Tokens.{toks}
+use Rattle.solver.specs.Words.Worklist.{Grown}
+use Rattle.solver.specs.Words.ReachContract.{counts, has}
+use Rattle.solver.proofs.Laws.Resolving.WorklistLaws.{grown-none, grown-then, parts-long}
+use Rattle.solver.proofs.Laws.Resolving.AskLaws.{has-snoc, has-start}
+use Rattle.solver.proofs.Laws.Theory.TheoryView.{either}
 use borrow.Author.Needs.{needs}
 use Rattle.solver.proofs.reach.scan.Statement.{statement}
 use Rattle.solver.proofs.reach.scan.Tie as tie

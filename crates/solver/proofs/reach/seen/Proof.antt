@@ -1,9 +1,9 @@
--- `seen`. By the question and the token's kind. Assumes nothing.
+-- `seen`. By the question and the token's kind.
 use mathlib.Core.Path.{sym, ap, _∙_}
 use Prim.Native.Nat.{_-_}
 use lib.Dec.{eqb}
-use Rattle.terms.proofs.Bools.{or-false}
-use Rattle.solver.proofs.AskLaws.{counts-unknown, counts-error, counts-other, counts-same}
+use Rattle.terms.proofs.Laws.General.Bools.{or-false}
+use Rattle.solver.proofs.Laws.Resolving.AskLaws.{counts-unknown, counts-error, counts-other, counts-same}
 use borrow.Author.Needs.{needs}
 use Rattle.solver.proofs.reach.seen.Statement.{statement}
 use Rattle.solver.proofs.reach.seen.Tie as tie

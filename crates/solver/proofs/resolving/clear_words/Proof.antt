@@ -1,11 +1,11 @@
--- `clear_words`. Invariant: the words before i are 0, and no other has changed. Assumes nothing.
+-- `clear_words`. Invariant: the words before i are 0, and no other has changed.
 use denote.Ref.{now}
 use mathlib.Core.Path.{_≡_, refl, _∙_}
 use Prim.Native.Nat.{_-_, _≤_}
 use native.Mathlib.Omega.{arith}
 use lib.ListN.{length, length-set}
-use Rattle.solver.specs.Frames.{Cleared}
-use Rattle.solver.proofs.FrameLaws.{cleared-step}
+use Rattle.solver.specs.Words.ResolveFrames.{Cleared}
+use Rattle.solver.proofs.Laws.Resolving.FrameLaws.{cleared-step}
 use Rattle.solver.proofs.resolving.clear_words.Statement.{statement}
 use Rattle.solver.proofs.resolving.clear_words.Tie as tie
 

@@ -1,12 +1,12 @@
--- `enter`. By the token's kind and the variable's word. Assumes nothing.
+-- `enter`. By the token's kind and the variable's word.
 use denote.Ref.{now}
 use borrow.Author.Needs.{needs}
 use mathlib.Core.Path.{refl, sym, ap, _∙_}
 use Prim.Native.Nat.{ℕ, pred}
 use native.Mathlib.Omega.{arith}
 use lib.ListN.{getD, List·getD-eq-default}
-use Rattle.solver.specs.Walk.{runLen}
-use Rattle.solver.proofs.FrameLaws.{run-none, inner-var, inner-other}
+use Rattle.solver.specs.Words.ResolveWalk.{runLen}
+use Rattle.solver.proofs.Laws.Resolving.FrameLaws.{run-none, inner-var, inner-other}
 use Rattle.solver.proofs.resolving.enter.Statement.{statement}
 use Rattle.solver.proofs.resolving.enter.Tie as tie
 

@@ -1,4 +1,4 @@
--- `named_run`. The length read is the term's span (`len-is`), where the arms of the test meet. Assumes nothing.
+-- `named_run`. The length read is the term's span (`len-is`), where the arms of the test meet.
 use denote.Ref.{now}
 use borrow.Author.Needs.{needs}
 use mathlib.Core.Logic.{⊎-elim}
@@ -6,10 +6,10 @@ use mathlib.Core.Path.{_≡_, sym, ap, _∙_}
 use Prim.Native.Nat.{_-_}
 use native.Mathlib.Omega.{arith}
 use lib.ListN.{getD, List·getD-eq-default}
-use Rattle.terms.specs.Held.{span}
-use Rattle.terms.proofs.HeldLaws.{span-one, span-node}
-use Rattle.solver.specs.Walk.{runLen}
-use Rattle.solver.proofs.FrameLaws.{run-none, run-at, run-past}
+use Rattle.terms.specs.Words.Held.{span}
+use Rattle.terms.proofs.Laws.Held.HeldLaws.{span-one, span-node}
+use Rattle.solver.specs.Words.ResolveWalk.{runLen}
+use Rattle.solver.proofs.Laws.Resolving.FrameLaws.{run-none, run-at, run-past}
 use Rattle.solver.proofs.resolving.named_run.Statement.{statement}
 use Rattle.solver.proofs.resolving.named_run.Tie as tie
 

@@ -1,6 +1,6 @@
--- `next`. Assumes nothing.
+-- `next`.
 use borrow.Author.Needs.{needs}
-use Rattle.solver.proofs.FrameLaws.{sound-next}
+use Rattle.solver.proofs.Laws.Resolving.FrameLaws.{sound-next}
 use Rattle.solver.proofs.resolving.next.Statement.{statement}
 use Rattle.solver.proofs.resolving.next.Tie as tie
 

@@ -1,11 +1,11 @@
--- `resolved_len`. Assumes nothing.
+-- `resolved_len`.
 use denote.Ref.{now}
 use borrow.Author.Needs.{needs}
 use mathlib.Core.List.{List}
 use mathlib.Core.Path.{ap, _∙_}
 use Prim.Native.Nat.{ℕ, min, _+_}
 use lib.ListN.{length}
-use Rattle.solver.proofs.ResolvedLaws.{named-bytes, resolved-bytes}
+use Rattle.solver.proofs.Laws.Resolving.ResolvedLaws.{named-bytes, resolved-bytes}
 use Rattle.solver.proofs.resolving.resolved_len.Statement.{statement}
 use Rattle.solver.proofs.resolving.resolved_len.Tie as tie
 

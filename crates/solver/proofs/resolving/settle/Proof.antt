@@ -1,15 +1,15 @@
 -- `settle`. Invariant: the place is sound, what is left of the walk is what was left at the start, and the frames past those
--- of waiting runs are 0 where they were. Measure: `steps`. Assumes nothing.
+-- of waiting runs are 0 where they were. Measure: `steps`.
 use denote.Ref.{now}
 use mathlib.Core.List.{[]}
 use mathlib.Core.Path.{_≡_, refl, sym, _∙_}
 use Prim.Native.Nat.{_+_, _-_}
 use native.Mathlib.Omega.{arith}
 use lib.ListN.{length, length-set}
-use Rattle.terms.specs.Tokens.{one}
-use Rattle.solver.specs.Walk.{walk}
-use Rattle.solver.specs.Frames.{left, Sound, Apart, Bare}
-use Rattle.solver.proofs.FrameLaws.{entered-open, steps, steps-pop, steps-into, rest-pop, rest-over, rest-leaf, rest-into, sound-push, sound-pop, apart-push, bare-push, bare-pop}
+use Rattle.terms.specs.Words.Tokens.{one}
+use Rattle.solver.specs.Words.ResolveWalk.{walk}
+use Rattle.solver.specs.Words.ResolveFrames.{left, Sound, Apart, Bare}
+use Rattle.solver.proofs.Laws.Resolving.FrameLaws.{entered-open, steps, steps-pop, steps-into, rest-pop, rest-over, rest-leaf, rest-into, sound-push, sound-pop, apart-push, bare-push, bare-pop}
 use Rattle.solver.proofs.resolving.settle.Statement.{statement}
 use Rattle.solver.proofs.resolving.settle.Tie as tie
 

@@ -1,17 +1,17 @@
--- `walked_len`. Invariant: the bytes counted and those left are all. Measure: the tokens left. Assumes nothing.
+-- `walked_len`. Invariant: the bytes counted and those left are all. Measure: the tokens left.
 use denote.Ref.{now}
 use mathlib.Core.List.{List}
 use mathlib.Core.Path.{_≡_, refl, ap, _∙_}
 use Prim.Native.Nat.{_+_, _≤_}
 use native.Mathlib.Omega.{arith}
 use lib.ListN.{length}
-use Rattle.terms.specs.Tokens.{Item}
-use Rattle.terms.specs.Writing.{plain}
-use Rattle.terms.proofs.WriteLaws.{spelt-short}
-use Rattle.solver.specs.Walk.{flatBytes}
-use Rattle.solver.specs.Frames.{left, Ready, Apart, Bare}
-use Rattle.solver.proofs.OverLaws.{over-none, over-length, spelt-one}
-use Rattle.solver.proofs.FrameLaws.{left-start, turn}
+use Rattle.terms.specs.Words.Tokens.{Item}
+use Rattle.terms.specs.Words.TokenBytes.{plain}
+use Rattle.terms.proofs.Laws.Format.WriteLaws.{spelt-short}
+use Rattle.solver.specs.Words.ResolveWalk.{flatBytes}
+use Rattle.solver.specs.Words.ResolveFrames.{left, Ready, Apart, Bare}
+use Rattle.solver.proofs.Laws.Resolving.OverLaws.{over-none, over-length, spelt-one}
+use Rattle.solver.proofs.Laws.Resolving.FrameLaws.{left-start, turn}
 use Rattle.solver.proofs.resolving.walked_len.Statement.{statement}
 use Rattle.solver.proofs.resolving.walked_len.Tie as tie
 

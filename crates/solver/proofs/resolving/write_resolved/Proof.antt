@@ -1,4 +1,4 @@
--- `write_resolved`. Assumes nothing.
+-- `write_resolved`.
 use denote.Ref.{now}
 use borrow.Author.Needs.{needs}
 use mathlib.Core.List.{List}
@@ -7,7 +7,7 @@ use Prim.Native.Nat.{ℕ, _+_}
 use native.Mathlib.Omega.{arith}
 use lib.ListN.{length}
 use lib.Seq.{sets}
-use Rattle.solver.proofs.ResolvedLaws.{named-bytes, resolved-bytes}
+use Rattle.solver.proofs.Laws.Resolving.ResolvedLaws.{named-bytes, resolved-bytes}
 use Rattle.solver.proofs.resolving.write_resolved.Statement.{statement}
 use Rattle.solver.proofs.resolving.write_resolved.Tie as tie
 

@@ -1,17 +1,17 @@
--- `write_walked`. Invariant: writing what is left at i gives what was to be written. Measure: the tokens left. Assumes nothing.
+-- `write_walked`. Invariant: writing what is left at i gives what was to be written. Measure: the tokens left.
 use denote.Ref.{now}
 use mathlib.Core.List.{List}
 use mathlib.Core.Path.{_≡_, refl, ap, _∙_}
 use Prim.Native.Nat.{_+_}
 use native.Mathlib.Omega.{arith}
 use lib.ListN.{length}
-use Rattle.terms.specs.Tokens.{Item}
-use Rattle.terms.specs.Writing.{plain, spelt}
-use Rattle.terms.proofs.WriteLaws.{Left, start, advance, written}
-use Rattle.solver.specs.Walk.{flatBytes}
-use Rattle.solver.specs.Frames.{left, Ready, Apart, Bare}
-use Rattle.solver.proofs.OverLaws.{over-cons, over-none, over-length, spelt-one}
-use Rattle.solver.proofs.FrameLaws.{left-start, turn}
+use Rattle.terms.specs.Words.Tokens.{Item}
+use Rattle.terms.specs.Words.TokenBytes.{plain, spelt}
+use Rattle.terms.proofs.Laws.Format.WriteLaws.{Left, start, advance, written}
+use Rattle.solver.specs.Words.ResolveWalk.{flatBytes}
+use Rattle.solver.specs.Words.ResolveFrames.{left, Ready, Apart, Bare}
+use Rattle.solver.proofs.Laws.Resolving.OverLaws.{over-cons, over-none, over-length, spelt-one}
+use Rattle.solver.proofs.Laws.Resolving.FrameLaws.{left-start, turn}
 use Rattle.solver.proofs.resolving.write_walked.Statement.{statement}
 use Rattle.solver.proofs.resolving.write_walked.Tie as tie
 

@@ -1,5 +1,5 @@
--- `clear`: every word is 0. Assumes nothing.
-use Rattle.solver.proofs.WholeLaws.{all-zero}
+-- `clear`: every word is 0.
+use Rattle.solver.proofs.Laws.Table.SessionsLaws.{all-zero}
 use borrow.Author.Needs.{needs}
 use Rattle.solver.proofs.sessions.clear.Statement.{statement}
 use Rattle.solver.proofs.sessions.clear.Tie as tie

@@ -1,9 +1,9 @@
--- `store_builtins`: one builtin more each turn. Assumes nothing.
+-- `store_builtins`: one builtin more each turn.
 use native.Mathlib.Omega.{arith}
 use mathlib.Core.Path.{_∙_, sym}
 use Prim.Native.Nat.{_-_}
 use lib.ListN.{length-set}
-use Rattle.solver.proofs.WholeLaws.{Stored, stored-none, stored-more, stored-all}
+use Rattle.solver.proofs.Laws.Table.SessionsLaws.{Stored, stored-none, stored-more, stored-all}
 use borrow.Author.Needs.{needs}
 use Rattle.solver.proofs.sessions.store_builtins.Statement.{statement}
 use Rattle.solver.proofs.sessions.store_builtins.Tie as tie

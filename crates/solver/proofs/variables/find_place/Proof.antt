@@ -1,9 +1,9 @@
--- `find_place`: none where no variable has the site. Invariant: what is looked for is among the first v variables. Assumes nothing.
+-- `find_place`: none where no variable has the site. Invariant: what is looked for is among the first v variables.
 use denote.Ref.{now}
 use mathlib.Core.Path.{_≡_, refl, sym, _∙_}
 use Prim.Native.Nat.{_-_, _≤_}
 use native.Mathlib.Omega.{arith}
-use Rattle.solver.proofs.MethodLaws.{Last, search-hit, search-on, search-over, search-none, search-answer}
+use Rattle.solver.proofs.Laws.Table.MethodLaws.{Last, search-hit, search-on, search-over, search-none, search-answer}
 use borrow.Author.Needs.{needs}
 use borrow.Author.Tests.{not-true}
 use Rattle.solver.proofs.variables.find_place.Statement.{statement}

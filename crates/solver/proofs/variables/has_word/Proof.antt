@@ -1,4 +1,4 @@
--- `has_word`. Invariant: whether one of the first i words is x. Assumes nothing.
+-- `has_word`. Invariant: whether one of the first i words is x.
 use mathlib.Core.Bool.{true, false}
 use mathlib.Core.Logic.{⊎-elim}
 use mathlib.Core.Path.{_≡_, sym, _∙_}

@@ -1,5 +1,5 @@
--- `is_place`. By tests. Assumes nothing.
-use Rattle.solver.proofs.MethodLaws.{match-kind, match-site, match-hole, match-slot}
+-- `is_place`. By tests.
+use Rattle.solver.proofs.Laws.Table.MethodLaws.{match-kind, match-site, match-hole, match-slot}
 use Rattle.solver.proofs.variables.is_place.Statement.{statement}
 use Rattle.solver.proofs.variables.is_place.Tie as tie
 

@@ -1,8 +1,8 @@
--- `named_below`: by the test. Assumes nothing.
+-- `named_below`: by the test.
 use mathlib.Core.Path.{refl}
 use native.Mathlib.Omega.{arith}
 use borrow.Author.Tests.{lt-ltb, le-ltb}
-use Rattle.solver.specs.Methods.{namedBelow}
+use Rattle.solver.specs.Words.MethodContract.{namedBelow}
 use borrow.Author.Needs.{needs}
 use Rattle.solver.proofs.variables.named_below.Statement.{statement}
 use Rattle.solver.proofs.variables.named_below.Tie as tie

@@ -1,5 +1,5 @@
--- `cursor`. Assumes nothing.
-use Rattle.terms.proofs.AlikeLaws.{starts}
+-- `cursor`.
+use Rattle.terms.proofs.Laws.Normalising.AlikeLaws.{starts}
 use borrow.Author.Needs.{needs}
 use Rattle.terms.proofs.alike.cursor.Statement.{statement}
 use Rattle.terms.proofs.alike.cursor.Tie as tie

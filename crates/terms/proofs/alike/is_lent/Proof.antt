@@ -1,7 +1,7 @@
--- `is_lent`. By its test. Assumes nothing.
+-- `is_lent`. By its test.
 use native.Mathlib.Omega.{arith}
 use borrow.Author.Tests.{eq-eqb, ne-eqb}
-use Rattle.terms.proofs.SourceLaws.{span-small}
+use Rattle.terms.proofs.Laws.Normalising.SourceLaws.{span-small}
 use borrow.Author.Needs.{needs}
 use Rattle.terms.proofs.alike.is_lent.Statement.{statement}
 use Rattle.terms.proofs.alike.is_lent.Tie as tie

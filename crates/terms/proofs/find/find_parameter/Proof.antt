@@ -1,5 +1,5 @@
--- `find_parameter`: what was found on the way. Assumes nothing.
-use Rattle.terms.proofs.ParameterLaws.{through-index, faulty-index}
+-- `find_parameter`: what was found on the way.
+use Rattle.terms.proofs.Laws.Format.ParameterLaws.{through-index, faulty-index}
 use denote.Ref.{now}
 use Rattle.terms.specs.Parameters.{parameters}
 use borrow.Author.Needs.{needs}

@@ -1,13 +1,13 @@
--- `find_record`. Invariant: the records that are left, with what was found, give the answer. Assumes nothing.
-use Rattle.terms.proofs.SearchLaws.{clip-within, search-end, search-more}
+-- `find_record`. Invariant: the records that are left, with what was found, give the answer.
+use Rattle.terms.proofs.Laws.Replacing.FindLaws.{clip-within, search-end, search-more}
 use mathlib.Core.Path.{_≡_, refl, ap, _∙_}
 use Prim.Native.Nat.{ℕ, _+_, _-_, _≤_}
 use native.Mathlib.Omega.{arith}
 use denote.Ref.{now}
 use lib.ListN.{getD}
 use Rattle.terms.specs.declared.Lookup.the-variants.{Nothing}
-use Rattle.terms.specs.Held.{span}
-use Rattle.terms.specs.Search.{lastAt}
+use Rattle.terms.specs.Words.Held.{span}
+use Rattle.terms.specs.Words.FindContract.{lastAt}
 use borrow.Author.Needs.{needs}
 use Rattle.terms.proofs.find.find_record.Statement.{statement}
 use Rattle.terms.proofs.find.find_record.Tie as tie

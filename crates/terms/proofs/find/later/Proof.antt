@@ -1,5 +1,5 @@
--- `later`: by the two tests. Assumes nothing.
-use Rattle.terms.proofs.ParameterLaws.{later-same, later-owner, later-position}
+-- `later`: by the two tests.
+use Rattle.terms.proofs.Laws.Format.ParameterLaws.{later-same, later-owner, later-position}
 use Rattle.terms.proofs.find.later.Statement.{statement}
 use Rattle.terms.proofs.find.later.Tie as tie
 

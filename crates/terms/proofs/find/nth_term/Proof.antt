@@ -1,12 +1,12 @@
--- `nth_term`. Invariant: what is left to count from i on gives the answer. Assumes nothing.
-use Rattle.terms.proofs.SearchLaws.{clip-within, nth-here, nth-out, nth-more}
+-- `nth_term`. Invariant: what is left to count from i on gives the answer.
+use Rattle.terms.proofs.Laws.Replacing.FindLaws.{clip-within, nth-here, nth-out, nth-more}
 use mathlib.Core.Path.{_≡_, refl, ap, _∙_}
 use Prim.Native.Nat.{ℕ, _+_, _-_}
 use native.Mathlib.Omega.{arith}
 use denote.Ref.{now}
 use lib.ListN.{getD, length}
-use Rattle.terms.specs.Held.{span}
-use Rattle.terms.specs.Search.{nthAt}
+use Rattle.terms.specs.Words.Held.{span}
+use Rattle.terms.specs.Words.FindContract.{nthAt}
 use borrow.Author.Needs.{needs}
 use Rattle.terms.proofs.find.nth_term.Statement.{statement}
 use Rattle.terms.proofs.find.nth_term.Tie as tie

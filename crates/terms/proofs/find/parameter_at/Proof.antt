@@ -1,5 +1,5 @@
--- `parameter_at`: the owner, and then the position. Assumes nothing.
-use Rattle.terms.proofs.ParameterLaws.{parameter-no, parameter-half, parameter-yes}
+-- `parameter_at`: the owner, and then the position.
+use Rattle.terms.proofs.Laws.Format.ParameterLaws.{parameter-no, parameter-half, parameter-yes}
 use borrow.Author.Needs.{needs}
 use Rattle.terms.proofs.find.parameter_at.Statement.{statement}
 use Rattle.terms.proofs.find.parameter_at.Tie as tie

@@ -1,5 +1,5 @@
--- `skip_parameters`: the position after them. Assumes nothing.
-use Rattle.terms.proofs.ParameterLaws.{through-past, faulty-past}
+-- `skip_parameters`: the position after them.
+use Rattle.terms.proofs.Laws.Format.ParameterLaws.{through-past, faulty-past}
 use denote.Ref.{now}
 use Rattle.terms.specs.Parameters.{parameters}
 use borrow.Author.Needs.{needs}

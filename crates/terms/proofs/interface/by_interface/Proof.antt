@@ -1,4 +1,4 @@
--- `by_interface`. By its tests. Assumes nothing.
+-- `by_interface`. By its tests.
 use mathlib.Core.Path.{_≡_, refl, sym, ap, _∙_}
 use Prim.Native.Nat.{ℕ, _+_, _*_, _<_}
 use native.Mathlib.Omega.{arith}
@@ -8,8 +8,8 @@ use lib.ListN.{length, getD}
 use Rattle.terms.specs.Term.{Term, Parts}
 use Rattle.terms.specs.Tree.{nums}
 use Rattle.terms.specs.Lookup.{output}
-use Rattle.terms.proofs.MemberLaws.{own-args, own-plain, member-here}
-use Rattle.terms.proofs.GivenLaws.{row-node, interface-tree, owner-tree, receiver-low, through-argument, through-other, through-bare, through-stranger, through-same, through-found}
+use Rattle.terms.proofs.Laws.Normalising.MemberLaws.{own-args, own-plain, member-here}
+use Rattle.terms.proofs.Laws.Normalising.InterfaceLaws.{row-node, interface-tree, owner-tree, receiver-low, through-argument, through-other, through-bare, through-stranger, through-same, through-found}
 use borrow.Author.Needs.{needs}
 use Rattle.terms.proofs.interface.by_interface.Statement.{statement}
 use Rattle.terms.proofs.interface.by_interface.Tie as tie

@@ -1,6 +1,6 @@
--- `lent_place`. By the spot. Assumes nothing.
+-- `lent_place`. By the spot.
 use denote.Ref.{now}
-use Rattle.terms.proofs.GivenLaws.{lent-here, lent-past, lent-error, lent-head, lent-nowhere}
+use Rattle.terms.proofs.Laws.Normalising.InterfaceLaws.{lent-here, lent-past, lent-error, lent-head, lent-nowhere}
 use borrow.Author.Needs.{needs}
 use Rattle.terms.proofs.interface.lent_place.Statement.{statement}
 use Rattle.terms.proofs.interface.lent_place.Tie as tie

@@ -1,4 +1,4 @@
--- `output`. The member is known, or not. Assumes nothing.
+-- `output`. The member is known, or not.
 use mathlib.Core.Path.{_≡_, refl, sym, ap, _∙_}
 use Prim.Native.Nat.{ℕ, _+_, _*_, _<_}
 use native.Mathlib.Omega.{arith}
@@ -6,8 +6,8 @@ use denote.Ref.{now}
 use lib.ListN.{length, getD}
 use Rattle.terms.specs.Term.{Term, Parts}
 use Rattle.terms.specs.Normal.{memberFrom}
-use Rattle.terms.proofs.GivenLaws.{row-node, interface-tree, made-tree, made-fits, output-known, output-made}
-use Rattle.terms.proofs.OpenLaws.{counted}
+use Rattle.terms.proofs.Laws.Normalising.InterfaceLaws.{row-node, interface-tree, made-tree, made-fits, output-known, output-made}
+use Rattle.terms.proofs.Laws.Normalising.OpenLaws.{counted}
 use borrow.Author.Needs.{needs}
 use Rattle.terms.proofs.interface.output.Statement.{statement}
 use Rattle.terms.proofs.interface.output.Tie as tie

@@ -1,9 +1,9 @@
--- `clear_rest`: by the answer's two cases, and whether the limit was passed. Assumes nothing.
+-- `clear_rest`: by the answer's two cases, and whether the limit was passed.
 use mathlib.Core.Path.{_≡_, refl, sym}
 use native.Mathlib.Omega.{arith}
 use Rattle.terms.specs.declared.Step.the-variants.{Next, Stopped}
-use Rattle.terms.specs.Tokens.{area}
-use Rattle.terms.specs.Done.{Clearable}
+use Rattle.terms.specs.Words.Tokens.{area}
+use Rattle.terms.specs.Words.ReadContract.{Clearable}
 use borrow.Author.Tests.{le-leb, lt-leb}
 use borrow.Author.Needs.{needs}
 use Rattle.terms.proofs.keep.clear_rest.Statement.{statement}

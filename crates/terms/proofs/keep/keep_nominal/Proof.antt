@@ -1,10 +1,10 @@
--- `keep_nominal`: what was read, and then cleared where it is not kept. Assumes nothing.
+-- `keep_nominal`: what was read, and then cleared where it is not kept.
 use denote.Ref.{now}
 use borrow.Author.Needs.{needs}
-use Rattle.terms.specs.Tokens.{area}
-use Rattle.terms.specs.Lent.{stepOf}
+use Rattle.terms.specs.Words.Tokens.{area}
+use Rattle.terms.specs.Words.StepCodes.{stepOf}
 use mathlib.Core.Path.{_∙_}
-use Rattle.terms.proofs.Answers.{bare-clearable, bare-answer, bare-kept, bare-room}
+use Rattle.terms.proofs.Laws.Format.KeepTermLaws.{bare-clearable, bare-answer, bare-kept, bare-room}
 use Rattle.terms.proofs.keep.keep_nominal.Statement.{statement}
 use Rattle.terms.proofs.keep.keep_nominal.Tie as tie
 

@@ -1,11 +1,11 @@
--- `keep_term`: what was read, and then cleared where it is not kept. Assumes nothing.
+-- `keep_term`: what was read, and then cleared where it is not kept.
 use denote.Ref.{now}
 use borrow.Author.Needs.{needs}
-use Rattle.terms.specs.Tokens.{area}
-use Rattle.terms.specs.Lent.{stepOf}
+use Rattle.terms.specs.Words.Tokens.{area}
+use Rattle.terms.specs.Words.StepCodes.{stepOf}
 use mathlib.Core.Path.{_∙_}
 use Rattle.terms.specs.Term.{items, size}
-use Rattle.terms.proofs.Answers.{done-clearable, done-room, term-answer, term-kept}
+use Rattle.terms.proofs.Laws.Format.KeepTermLaws.{done-clearable, done-room, term-answer, term-kept}
 use Rattle.terms.proofs.keep.keep_term.Statement.{statement}
 use Rattle.terms.proofs.keep.keep_term.Tie as tie
 

@@ -1,6 +1,6 @@
--- `step_of`: by the code's two cases. Assumes nothing.
+-- `step_of`: by the code's two cases.
 use mathlib.Core.Path.{refl, sym}
-use Rattle.terms.proofs.LentLaws.{stops}
+use Rattle.terms.proofs.Laws.Format.StepCodeLaws.{stops}
 use Rattle.terms.proofs.keep.step_of.Statement.{statement}
 use Rattle.terms.proofs.keep.step_of.Tie as tie
 

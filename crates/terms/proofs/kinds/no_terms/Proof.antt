@@ -1,4 +1,4 @@
--- `no_terms`. Assumes nothing.
+-- `no_terms`.
 use borrow.Author.Needs.{needs}
 use Rattle.terms.proofs.kinds.no_terms.Statement.{statement}
 use Rattle.terms.proofs.kinds.no_terms.Tie as tie

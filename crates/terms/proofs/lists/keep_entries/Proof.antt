@@ -1,9 +1,9 @@
--- `keep_entries`: the records are the rows of the list. Assumes nothing.
+-- `keep_entries`: the records are the rows of the list.
 use denote.Ref.{now}
-use Rattle.terms.specs.Tokens.{area}
+use Rattle.terms.specs.Words.Tokens.{area}
 use Rattle.terms.specs.Reading.{term}
 use Rattle.terms.specs.Rows.{entries, entryRow}
-use Rattle.terms.proofs.ListLaws.{entries-read, list-answer, list-kept}
+use Rattle.terms.proofs.Laws.Format.ListLaws.{entries-read, list-answer, list-kept}
 use borrow.Author.Needs.{needs}
 use Rattle.terms.proofs.lists.keep_entries.Statement.{statement}
 use Rattle.terms.proofs.lists.keep_entries.Tie as tie

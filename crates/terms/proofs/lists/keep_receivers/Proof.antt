@@ -1,9 +1,9 @@
--- `keep_receivers`: the records are the rows of the list. Assumes nothing.
+-- `keep_receivers`: the records are the rows of the list.
 use denote.Ref.{now}
-use Rattle.terms.specs.Tokens.{area}
+use Rattle.terms.specs.Words.Tokens.{area}
 use Rattle.terms.specs.Reading.{term}
 use Rattle.terms.specs.Rows.{receivers, receiverRow}
-use Rattle.terms.proofs.ListLaws.{receivers-read, list-answer, list-kept}
+use Rattle.terms.proofs.Laws.Format.ListLaws.{receivers-read, list-answer, list-kept}
 use borrow.Author.Needs.{needs}
 use Rattle.terms.proofs.lists.keep_receivers.Statement.{statement}
 use Rattle.terms.proofs.lists.keep_receivers.Tie as tie

@@ -1,12 +1,12 @@
--- `keep_records`: what was read, and then cleared where it is not kept. Assumes nothing.
+-- `keep_records`: what was read, and then cleared where it is not kept.
 use denote.Ref.{now}
 use borrow.Author.Needs.{needs}
-use Rattle.terms.specs.Tokens.{area}
-use Rattle.terms.specs.Listing.{stepAt}
+use Rattle.terms.specs.Words.Tokens.{area}
+use Rattle.terms.specs.Words.ListsContract.{stepAt}
 use mathlib.Core.Path.{_∙_}
 use Rattle.terms.specs.Term.{partItems, sizes}
-use Rattle.terms.proofs.Answers.{done-clearable, done-room}
-use Rattle.terms.proofs.ListLaws.{row-answer, row-kept}
+use Rattle.terms.proofs.Laws.Format.KeepTermLaws.{done-clearable, done-room}
+use Rattle.terms.proofs.Laws.Format.ListLaws.{row-answer, row-kept}
 use Rattle.terms.proofs.lists.keep_records.Statement.{statement}
 use Rattle.terms.proofs.lists.keep_records.Tie as tie
 

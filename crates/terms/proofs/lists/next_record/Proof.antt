@@ -1,6 +1,5 @@
 -- `next_record`: a walk of its MIR, by hand. The struct is taken apart, `record_at` is called on the slice and where it stands, and the reader is handed back with the stand that it gave. All that the proof knows of `record_at` is that it meets its contract.
 -- The struct is Copy, and so is what is wanted: what each owns is had twice, and one copy is kept for the exit. The areas go to the callee at their own lifetimes, shares and ghost names: they are given up for good (`gave-slice`).
--- Assumes nothing.
 use mathlib.Core.Path.{_≡_, refl, ap}
 use Prim.Native.Nat.{ℕ}
 use mathlib.Core.List.{List, [], _∷_}
@@ -42,17 +41,17 @@ use denote.Triple.Table.{entered, cited}
 use denote.Triple.Walked.{says, needs, Stays, stay-none, gave-slice, walkOf, goes-none, goes-gave-slice, Walks, ends-at, walked, walk-meets}
 use denote.Exit.{yes}
 use denote.Triple.Clauses.{ensured, lasts}
-use Rattle.terms.specs.Tokens.{area}
-use Rattle.terms.specs.Listing.{MayRead, RecordDone}
+use Rattle.terms.specs.Words.Tokens.{area}
+use Rattle.terms.specs.Words.ListsContract.{MayRead, RecordDone}
 use Rattle.terms.specs.declared.Stand.{Stand}
 use Rattle.terms.specs.declared.TermReader.{TermReader}
-use Rattle.terms.specs.declared.RecordWanted.{RecordWanted}
+use Rattle.terms.specs.declared.RecordRequest.{RecordRequest}
 use Rattle.terms.proofs.Stand as Z
 use Rattle.terms.proofs.Stand.Laws as Z′
 use Rattle.terms.proofs.TermReader as T
 use Rattle.terms.proofs.TermReader.Laws as T′
-use Rattle.terms.proofs.RecordWanted as U
-use Rattle.terms.proofs.RecordWanted.Laws as U′
+use Rattle.terms.proofs.RecordRequest as U
+use Rattle.terms.proofs.RecordRequest.Laws as U′
 use Rattle.terms.proofs.lists.record_at as record-at
 use Rattle.terms.proofs.lists.record_at.Symbol as record-at-def
 use Rattle.terms.proofs.lists.record_at.Symbol.{name as the-callee}
@@ -74,7 +73,7 @@ module _ {M : Type 1} (𝓤 : URA M) (H : Heap 𝓤) (A : Atoms 𝓤) (mem : Mem
   abbrev RecordAt : Contract 𝓤
   RecordAt = tripleOf 𝓤 H A record-at.signature (record-at.spec 𝓤 H A mem run)
 
-module _ {M : Type 1} (𝓤 : URA M) (H : Heap 𝓤) (A : Atoms 𝓤) (W : Given 𝓤 H A) (mem : Memory → SProp 𝓤) (run : Routine → Fun 𝓤) (κ κ₁ κ₂ : Lft) (q q₁ q₂ : Share) (d : TermReader) (x y : RefT (List ℕ)) (w : RecordWanted) where
+module _ {M : Type 1} (𝓤 : URA M) (H : Heap 𝓤) (A : Atoms 𝓤) (W : Given 𝓤 H A) (mem : Memory → SProp 𝓤) (run : Routine → Fun 𝓤) (κ κ₁ κ₂ : Lft) (q q₁ q₂ : Share) (d : TermReader) (x y : RefT (List ℕ)) (w : RecordRequest) where
   abbrev κs : Lfts 3
   κs = (κ, (κ₁, (κ₂, tt)))
 
@@ -101,7 +100,7 @@ module _ {M : Type 1} (𝓤 : URA M) (H : Heap 𝓤) (A : Atoms 𝓤) (W : Given
   vw = U′.lowered w
 
   abbrev Arg : Type 0
-  Arg = TermReader × (RefT (List ℕ) × (RefT (List ℕ) × (RecordWanted × Unit {0})))
+  Arg = TermReader × (RefT (List ℕ) × (RefT (List ℕ) × (RecordRequest × Unit {0})))
 
   abbrev a : Arg
   a = (d, (x, (y, (w, tt))))
@@ -130,7 +129,7 @@ module _ {M : Type 1} (𝓤 : URA M) (H : Heap 𝓤) (A : Atoms 𝓤) (W : Given
 
   -- what the callee is passed
   abbrev Passed : Type 0
-  Passed = RefT (List ℕ) × (Stand × (RefT (List ℕ) × (RefT (List ℕ) × (RecordWanted × Unit {0}))))
+  Passed = RefT (List ℕ) × (Stand × (RefT (List ℕ) × (RefT (List ℕ) × (RecordRequest × Unit {0}))))
 
   abbrev args : Passed
   args = (d .bytes, (d .stand, (x, (y, (w, tt)))))

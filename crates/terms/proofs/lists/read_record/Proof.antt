@@ -1,15 +1,15 @@
--- `read_record`: the numbers, and then the term. Assumes nothing.
+-- `read_record`: the numbers, and then the term.
 use denote.Ref.{now}
 use borrow.Author.Needs.{needs}
 use native.Mathlib.Omega.{arith}
-use Rattle.terms.specs.Tokens.{area}
-use Rattle.terms.specs.Lent.{place, stepOf}
+use Rattle.terms.specs.Words.Tokens.{area}
+use Rattle.terms.specs.Words.StepCodes.{place, stepOf}
 use Rattle.terms.specs.declared.Step.the-variants.{Next, Stopped}
 use Rattle.terms.specs.Reading.{term}
 use Rattle.terms.specs.Rows.{keys}
-use Rattle.terms.proofs.LentLaws.{stops}
-use Rattle.terms.proofs.WroteLaws.{room-next}
-use Rattle.terms.proofs.ListLaws.{keys-no, keys-yes, single-no, single-yes}
+use Rattle.terms.proofs.Laws.Format.StepCodeLaws.{stops}
+use Rattle.terms.proofs.Laws.Format.ReadSequenceLaws.{room-next}
+use Rattle.terms.proofs.Laws.Format.ListLaws.{keys-no, keys-yes, single-no, single-yes}
 use Rattle.terms.proofs.lists.read_record.Statement.{statement}
 use Rattle.terms.proofs.lists.read_record.Tie as tie
 

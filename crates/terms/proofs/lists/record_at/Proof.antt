@@ -1,7 +1,7 @@
--- `record_at`: what `read_record` read, and how many are left. Assumes nothing.
+-- `record_at`: what `read_record` read, and how many are left.
 use borrow.Author.Needs.{needs}
 use mathlib.Core.Path.{refl}
-use Rattle.terms.proofs.ListingLaws.{none-left}
+use Rattle.terms.proofs.Laws.Format.ListReaderLaws.{none-left}
 use Rattle.terms.proofs.lists.record_at.Statement.{statement}
 use Rattle.terms.proofs.lists.record_at.Tie as tie
 

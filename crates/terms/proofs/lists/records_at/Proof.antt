@@ -1,6 +1,5 @@
 -- `records_at`: a walk of its MIR, by hand. The reader is made in a local of the slice and where it stands, and stays there across the turns of the loop: each turn passes it to `next_record` and stores what comes back.
--- The areas are lent again to each call, for lifetimes that are made for it, and come back (`Again.antt`). All that the proof knows of `next_record` is that it meets its contract; what holds where the reader stands is `Along` of `ListingLaws.antt`, and the measure is how many records are left.
--- Assumes nothing.
+-- The areas are lent again to each call, for lifetimes that are made for it, and come back (`Again.antt`). All that the proof knows of `next_record` is that it meets its contract; what holds where the reader stands is `Along` of `ListReaderLaws.antt`, and the measure is how many records are left.
 use mathlib.Core.Path.{_≡_, refl, sym, ap, _∙_}
 use mathlib.Core.Bool.{Bool}
 use mathlib.Core.WellFounded.{WellFounded, InvImage·wf}
@@ -47,15 +46,15 @@ use denote.Triple.Table.{entered, cited}
 use denote.Triple.Walked.{says, needs, Stays, stay-none-slice, stay-slice, stay-none, walkOf, goes-none-slice, goes-slice, goes-none, Walks, ends-at, walked, walk-meets}
 use denote.Exit.{yes as as-passed}
 use denote.Triple.Clauses.{ensured, lasts}
-use Rattle.terms.specs.Tokens.{area}
-use Rattle.terms.specs.Listing.{MayRead, MayStart, MovedOn, RecordsDone}
-use Rattle.terms.specs.declared.RecordWanted.{RecordWanted}
+use Rattle.terms.specs.Words.Tokens.{area}
+use Rattle.terms.specs.Words.ListsContract.{MayRead, MayStart, MovedOn, RecordsDone}
+use Rattle.terms.specs.declared.RecordRequest.{RecordRequest}
 use Rattle.terms.specs.declared.Stand.{Stand}
 use Rattle.terms.specs.declared.TermReader.{TermReader}
-use Rattle.terms.proofs.Again.{LentAgain, lends-again, comes-back}
-use Rattle.terms.proofs.ListingLaws.{Along, along-start, along-reads, along-next, along-fewer, along-end}
-use Rattle.terms.proofs.RecordWanted as U
-use Rattle.terms.proofs.RecordWanted.Laws as U′
+use Rattle.terms.proofs.Laws.General.Again.{LentAgain, lends-again, comes-back}
+use Rattle.terms.proofs.Laws.Format.ListReaderLaws.{Along, along-start, along-reads, along-next, along-fewer, along-end}
+use Rattle.terms.proofs.RecordRequest as U
+use Rattle.terms.proofs.RecordRequest.Laws as U′
 use Rattle.terms.proofs.Stand as Z
 use Rattle.terms.proofs.Stand.Laws as Z′
 use Rattle.terms.proofs.TermReader as T
@@ -78,7 +77,7 @@ module _ {M : Type 1} (𝓤 : URA M) (H : Heap 𝓤) (A : Atoms 𝓤) (mem : Mem
   Next = tripleOf 𝓤 H A next.signature (next.spec 𝓤 H A mem run)
 
 module _ {M : Type 1} (𝓤 : URA M) (H : Heap 𝓤) (A : Atoms 𝓤) (W : Given 𝓤 H A) (mem : Memory → SProp 𝓤) (run : Routine → Fun 𝓤) (κ κ₁ κ₂ : Lft) (q q₁ q₂ : Share) (s : RefT (List ℕ)) (z₀ : Stand)
-    (b o : ℕ) (γ : GName) (x₀ : List ℕ) (b₂ o₂ : ℕ) (γ₂ : GName) (y₀ : List ℕ) (w : RecordWanted) (rx : Room u32 (length x₀)) (ry : Room u32 (length y₀)) where
+    (b o : ℕ) (γ : GName) (x₀ : List ℕ) (b₂ o₂ : ℕ) (γ₂ : GName) (y₀ : List ℕ) (w : RecordRequest) (rx : Room u32 (length x₀)) (ry : Room u32 (length y₀)) where
   abbrev κs : Lfts 3
   κs = (κ, (κ₁, (κ₂, tt)))
 
@@ -112,7 +111,7 @@ module _ {M : Type 1} (𝓤 : URA M) (H : Heap 𝓤) (A : Atoms 𝓤) (W : Given
   vw = U′.lowered w
 
   abbrev Arg : Type 0
-  Arg = RefT (List ℕ) × (Stand × (RefT (List ℕ) × (RefT (List ℕ) × (RecordWanted × Unit {0}))))
+  Arg = RefT (List ℕ) × (Stand × (RefT (List ℕ) × (RefT (List ℕ) × (RecordRequest × Unit {0}))))
 
   abbrev arg : Arg
   arg = (s, (z₀, (x γ x₀, (y γ₂ y₀, (w, tt)))))
@@ -178,7 +177,7 @@ module _ {M : Type 1} (𝓤 : URA M) (H : Heap 𝓤) (A : Atoms 𝓤) (W : Given
 
   -- the call of `next_record` at z, with the areas lent for ν and ν₂ under the names δ and δ₂ at the lists f and g
   abbrev Passed : Type 0
-  Passed = TermReader × (RefT (List ℕ) × (RefT (List ℕ) × (RecordWanted × Unit {0})))
+  Passed = TermReader × (RefT (List ℕ) × (RefT (List ℕ) × (RecordRequest × Unit {0})))
 
   module _ (z : Stand) (f g : List ℕ) (ν ν₂ : ℕ) (δ δ₂ : GName) where
     abbrev νs : Lfts 3

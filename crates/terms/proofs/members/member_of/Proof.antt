@@ -1,4 +1,4 @@
--- `member_of`. By the place of the key. Assumes nothing.
+-- `member_of`. By the place of the key.
 use mathlib.Core.Path.{_≡_, ap, _∙_}
 use mathlib.Core.List.{List}
 use native.Mathlib.Omega.{arith}
@@ -6,8 +6,8 @@ use denote.Ref.{now}
 use Rattle.terms.specs.Term.{Term}
 use Rattle.terms.specs.Tree.{row}
 use lib.ListN.{getElem?}
-use Rattle.terms.proofs.ScanLaws.{children-row}
-use Rattle.terms.proofs.MemberLaws.{member-found, member-late, member-none}
+use Rattle.terms.proofs.Laws.Normalising.ScanLaws.{children-row}
+use Rattle.terms.proofs.Laws.Normalising.MemberLaws.{member-found, member-late, member-none}
 use borrow.Author.Needs.{needs}
 use Rattle.terms.proofs.members.member_of.Statement.{statement}
 use Rattle.terms.proofs.members.member_of.Tie as tie

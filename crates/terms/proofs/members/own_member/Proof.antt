@@ -1,10 +1,10 @@
--- `own_member`. By its tests. Assumes nothing.
+-- `own_member`. By its tests.
 use mathlib.Core.Path.{_≡_, ap, _∙_}
 use native.Mathlib.Omega.{arith}
 use denote.Ref.{now}
 use Rattle.terms.specs.Tree.{row}
-use Rattle.terms.proofs.MemberLaws.{own-args, own-stop, own-plain, own-found, own-empty, own-other, own-trait}
-use Rattle.terms.proofs.OpenLaws.{counted}
+use Rattle.terms.proofs.Laws.Normalising.MemberLaws.{own-args, own-stop, own-plain, own-found, own-empty, own-other, own-trait}
+use Rattle.terms.proofs.Laws.Normalising.OpenLaws.{counted}
 use borrow.Author.Needs.{needs}
 use Rattle.terms.proofs.members.own_member.Statement.{statement}
 use Rattle.terms.proofs.members.own_member.Tie as tie

@@ -1,9 +1,9 @@
--- `given`. Assumes nothing.
+-- `given`.
 use mathlib.Core.Path.{_≡_, refl, sym, ap, _∙_}
 use native.Mathlib.Omega.{arith}
 use denote.Ref.{now}
 use lib.ListN.{length}
-use Rattle.terms.proofs.NormalLaws.{given-sight, given-held, given-never}
+use Rattle.terms.proofs.Laws.Normalising.NormalLaws.{given-sight, given-held, given-never}
 use borrow.Author.Needs.{needs}
 use Rattle.terms.proofs.normal.given.Statement.{statement}
 use Rattle.terms.proofs.normal.given.Tie as tie

@@ -1,7 +1,7 @@
--- `has_projection`. Invariant: what is left decides. Assumes nothing.
+-- `has_projection`. Invariant: what is left decides.
 use Prim.Native.Nat.{_-_, _+_, _<_}
 use native.Mathlib.Omega.{arith}
-use Rattle.terms.proofs.NormalLaws.{Scanning, scanning-start, scanning-none, scanning-found, scanning-next}
+use Rattle.terms.proofs.Laws.Normalising.NormalLaws.{Scanning, scanning-start, scanning-none, scanning-found, scanning-next}
 use borrow.Author.Needs.{needs}
 use Rattle.terms.proofs.normal.has_projection.Statement.{statement}
 use Rattle.terms.proofs.normal.has_projection.Tie as tie

@@ -1,10 +1,10 @@
--- `normalise`. Assumes nothing.
+-- `normalise`.
 use mathlib.Core.Path.{_≡_, refl, sym, ap, _∙_}
 use native.Mathlib.Omega.{arith}
 use denote.Ref.{now}
 use lib.ListN.{length}
 use Rattle.terms.specs.Lookup.{rules}
-use Rattle.terms.proofs.NormalLaws.{given-sight}
+use Rattle.terms.proofs.Laws.Normalising.NormalLaws.{given-sight}
 use borrow.Author.Needs.{needs}
 use Rattle.terms.proofs.normal.normalise.Statement.{statement}
 use Rattle.terms.proofs.normal.normalise.Tie as tie

@@ -1,4 +1,4 @@
--- `run`. Not walked, refused, or walked. Assumes nothing.
+-- `run`. Not walked, refused, or walked.
 use Prim.Native.Nat.{ℕ}
 use mathlib.Core.Path.{_≡_, refl, sym, ap, _∙_}
 use native.Mathlib.Omega.{arith}
@@ -6,7 +6,7 @@ use borrow.Author.Tests.{not-true, not-false}
 use denote.Ref.{now}
 use Rattle.terms.specs.Normal.{Out, normalise}
 use Rattle.terms.specs.Lookup.{lookBy}
-use Rattle.terms.proofs.NormalLaws.{normalise-plain, normalise-walked, plain-leaves, plain-answers, walked-leaves, walked-answers, over-leaves, over-answers, blank-lengths}
+use Rattle.terms.proofs.Laws.Normalising.NormalLaws.{normalise-plain, normalise-walked, plain-leaves, plain-answers, walked-leaves, walked-answers, over-leaves, over-answers, blank-lengths}
 use borrow.Author.Needs.{needs}
 use Rattle.terms.proofs.normal.run.Statement.{statement}
 use Rattle.terms.proofs.normal.run.Tie as tie

@@ -1,7 +1,7 @@
--- `size_up`. Sized, and the records cleared where there is no room. Assumes nothing.
+-- `size_up`. Sized, and the records cleared where there is no room.
 use mathlib.Core.Path.{refl}
 use native.Mathlib.Omega.{arith}
-use Rattle.terms.proofs.NormalLaws.{blank-lengths}
+use Rattle.terms.proofs.Laws.Normalising.NormalLaws.{blank-lengths}
 use borrow.Author.Needs.{needs}
 use Rattle.terms.proofs.normal.size_up.Statement.{statement}
 use Rattle.terms.proofs.normal.size_up.Tie as tie

@@ -1,9 +1,9 @@
--- `span_at`. Assumes nothing.
+-- `span_at`.
 use mathlib.Core.Path.{_≡_, refl, sym, ap, _∙_}
 use native.Mathlib.Omega.{arith}
 use denote.Ref.{now}
 use lib.ListN.{length}
-use Rattle.terms.proofs.NormalLaws.{span-told}
+use Rattle.terms.proofs.Laws.Normalising.NormalLaws.{span-told}
 use borrow.Author.Needs.{needs}
 use Rattle.terms.proofs.normal.span_at.Statement.{statement}
 use Rattle.terms.proofs.normal.span_at.Tie as tie

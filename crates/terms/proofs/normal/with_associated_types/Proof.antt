@@ -1,4 +1,4 @@
--- `with_associated_types`. Assumes nothing.
+-- `with_associated_types`.
 use mathlib.Core.Path.{_≡_, refl, sym, ap, _∙_}
 use native.Mathlib.Omega.{arith}
 use denote.Ref.{now}

@@ -1,4 +1,4 @@
--- `write_normalised`. Assumes nothing.
+-- `write_normalised`.
 use native.Mathlib.Omega.{arith}
 use borrow.Author.Needs.{needs}
 use Rattle.terms.proofs.normal.write_normalised.Statement.{statement}

@@ -1,11 +1,11 @@
--- `number_len`. The loop's invariant: the groups passed and those left are the groups of the value. Assumes nothing.
+-- `number_len`. The loop's invariant: the groups passed and those left are the groups of the value.
 use borrow.Author.Needs.{needs}
 use native.Mathlib.Omega.{arith}
 use mathlib.Core.Path.{_≡_, ap}
 use Prim.Native.Nat.{_+_, _≤_, _<_}
 use lib.ListN.{length}
 use Rattle.terms.specs.Number.{shortest}
-use Rattle.terms.proofs.Shortest.{shortest-more, shortest-last}
+use Rattle.terms.proofs.Laws.Numbers.Shortest.{shortest-more, shortest-last}
 use Rattle.terms.proofs.numbers.number_len.Statement.{statement}
 use Rattle.terms.proofs.numbers.number_len.Tie as tie
 

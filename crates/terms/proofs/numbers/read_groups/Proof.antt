@@ -1,4 +1,4 @@
--- `read_groups`. The loop's invariant: the number from here on, at the value and the weight so far, is the number that is asked. Assumes nothing.
+-- `read_groups`. The loop's invariant: the number from here on, at the value and the weight so far, is the number that is asked.
 use borrow.Author.Needs.{needs}
 use native.Mathlib.Omega.{arith}
 use mathlib.Core.Path.{_≡_}
@@ -8,7 +8,7 @@ use mathlib.Core.Path.{sym, _∙_}
 use mathlib.Core.Logic.{⊎-elim}
 use lib.ListN.{length, drop}
 use Rattle.terms.specs.Number.{groups, number}
-use Rattle.terms.proofs.Steps.{over, within, parts, step-over, step-more, step-padded, step-zero, step-last, at-byte, at-end}
+use Rattle.terms.proofs.Laws.Numbers.NumberStepLaws.{over, within, parts, step-over, step-more, step-padded, step-zero, step-last, at-byte, at-end}
 use Rattle.terms.proofs.numbers.read_groups.Statement.{statement}
 use Rattle.terms.proofs.numbers.read_groups.Tie as tie
 

@@ -1,4 +1,4 @@
--- `read_number`: a number of one group, and any other by its groups. Assumes nothing.
+-- `read_number`: a number of one group, and any other by its groups.
 use borrow.Author.Needs.{needs}
 use native.Mathlib.Omega.{arith}
 use mathlib.Core.Path.{_≡_, sym, _∙_}
@@ -6,7 +6,7 @@ use mathlib.Core.List.{_∷_}
 use Prim.Native.Nat.{_+_, _<_}
 use lib.ListN.{drop}
 use Rattle.terms.specs.Number.{groups, number}
-use Rattle.terms.proofs.Steps.{step-over, one-group, at-byte, at-end}
+use Rattle.terms.proofs.Laws.Numbers.NumberStepLaws.{step-over, one-group, at-byte, at-end}
 use Rattle.terms.proofs.numbers.read_number.Statement.{statement}
 use Rattle.terms.proofs.numbers.read_number.Tie as tie
 

@@ -1,4 +1,4 @@
--- `write_number`. The loop's invariant: what is left, stored from here on, gives the whole form stored. Assumes nothing.
+-- `write_number`. The loop's invariant: what is left, stored from here on, gives the whole form stored.
 use borrow.Author.Needs.{needs}
 use native.Mathlib.Omega.{arith}
 use mathlib.Core.Path.{_≡_, ap}
@@ -7,7 +7,7 @@ use native.Mathlib.Numerals.{add-one}
 use lib.ListN.{length, length-set}
 use lib.Seq.{sets}
 use Rattle.terms.specs.Number.{shortest}
-use Rattle.terms.proofs.Shortest.{shortest-more, shortest-last}
+use Rattle.terms.proofs.Laws.Numbers.Shortest.{shortest-more, shortest-last}
 use Rattle.terms.proofs.numbers.write_number.Statement.{statement}
 use Rattle.terms.proofs.numbers.write_number.Tie as tie
 

@@ -1,5 +1,5 @@
--- `begin`. Assumes nothing.
-use Rattle.terms.proofs.OpenLaws.{counted, ordered, ordered-plain}
+-- `begin`.
+use Rattle.terms.proofs.Laws.Normalising.OpenLaws.{counted, ordered, ordered-plain}
 use native.Mathlib.Omega.{arith}
 use borrow.Author.Needs.{needs}
 use Rattle.terms.proofs.opening.begin.Statement.{statement}

@@ -1,12 +1,12 @@
--- `own_len`. Invariant: the bytes counted and those of the numbers that are left are the term's own. Assumes nothing.
+-- `own_len`. Invariant: the bytes counted and those of the numbers that are left are the term's own.
 use Prim.Native.Nat.{ℕ, _-_, _+_, _≤_, _<_}
 use native.Mathlib.Omega.{arith}
 use denote.Ref.{now}
 use mathlib.Core.Path.{_≡_, refl, ap, _∙_}
 use lib.ListN.{length, getD}
-use Rattle.terms.specs.View.{view}
-use Rattle.terms.specs.Writing.{plain}
-use Rattle.terms.proofs.SumLaws.{token-few, Owning, owning-start, owning-number, owning-child, owning-done}
+use Rattle.terms.specs.Words.VirtualTokens.{view}
+use Rattle.terms.specs.Words.TokenBytes.{plain}
+use Rattle.terms.proofs.Laws.Normalising.SumLaws.{token-few, Owning, owning-start, owning-number, owning-child, owning-done}
 use borrow.Author.Needs.{needs}
 use Rattle.terms.proofs.opening.own_len.Statement.{statement}
 use Rattle.terms.proofs.opening.own_len.Tie as tie

@@ -1,8 +1,8 @@
--- `put_children`. Invariant: n children stand in records. Assumes nothing.
+-- `put_children`. Invariant: n children stand in records.
 use Prim.Native.Nat.{_-_, _+_, _≤_, _<_}
 use native.Mathlib.Omega.{arith}
-use Rattle.terms.specs.View.{view}
-use Rattle.terms.proofs.OpenLaws.{Opening, opening-start, opening-number, opening-child, opening-stop, opening-done}
+use Rattle.terms.specs.Words.VirtualTokens.{view}
+use Rattle.terms.proofs.Laws.Normalising.OpenLaws.{Opening, opening-start, opening-number, opening-child, opening-stop, opening-done}
 use borrow.Author.Needs.{needs}
 use Rattle.terms.proofs.opening.put_children.Statement.{statement}
 use Rattle.terms.proofs.opening.put_children.Tie as tie

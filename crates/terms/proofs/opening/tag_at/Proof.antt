@@ -1,7 +1,7 @@
--- `tag_at`. By the kind. Assumes nothing.
+-- `tag_at`. By the kind.
 use denote.Ref.{now}
-use Rattle.terms.specs.View.{view}
-use Rattle.terms.proofs.OpenLaws.{tag-low, tag-high}
+use Rattle.terms.specs.Words.VirtualTokens.{view}
+use Rattle.terms.proofs.Laws.Normalising.OpenLaws.{tag-low, tag-high}
 use borrow.Author.Needs.{needs}
 use Rattle.terms.proofs.opening.tag_at.Statement.{statement}
 use Rattle.terms.proofs.opening.tag_at.Tie as tie

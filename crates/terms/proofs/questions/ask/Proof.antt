@@ -1,7 +1,7 @@
--- `ask`: a term as a row. Assumes nothing.
+-- `ask`: a term as a row.
 use Rattle.terms.specs.Questions.{counted, entered}
-use Rattle.terms.proofs.SameLaws.{told}
-use Rattle.terms.proofs.QuestionLaws.{ask-one}
+use Rattle.terms.proofs.Laws.Held.SameLaws.{told}
+use Rattle.terms.proofs.Laws.Asking.QuestionLaws.{ask-one}
 use borrow.Author.Needs.{needs}
 use Rattle.terms.proofs.questions.ask.Statement.{statement}
 use Rattle.terms.proofs.questions.ask.Tie as tie

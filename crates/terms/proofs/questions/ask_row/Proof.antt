@@ -1,4 +1,4 @@
--- `ask_row`. The loop's invariant: of what is left of the row the answer is that of the whole row. Assumes nothing.
+-- `ask_row`. The loop's invariant: of what is left of the row the answer is that of the whole row.
 use native.Mathlib.Omega.{arith}
 use mathlib.Core.Path.{_≡_, sym, ap, _∙_}
 use mathlib.Core.Bool.{Bool, true, false}
@@ -9,9 +9,9 @@ use Rattle.terms.specs.Parser.{got}
 use Rattle.terms.specs.Tree.{tag}
 use Rattle.terms.specs.Questions.{Parameter, counted, entered, enteredBy}
 use Rattle.terms.specs.Parameters.{parameters}
-use Rattle.terms.specs.Asking.{tagOf, Asking}
-use Rattle.terms.proofs.HeldLaws.{held-first}
-use Rattle.terms.proofs.QuestionLaws.{tag-kind, told-counts, ask-number, ask-end, ask-term, ask-counts, ask-enter, ask-pass}
+use Rattle.terms.specs.Words.QuestionsContract.{tagOf, Asking}
+use Rattle.terms.proofs.Laws.Held.HeldLaws.{held-first}
+use Rattle.terms.proofs.Laws.Asking.QuestionLaws.{tag-kind, told-counts, ask-number, ask-end, ask-term, ask-counts, ask-enter, ask-pass}
 use borrow.Author.Needs.{needs}
 use Rattle.terms.proofs.questions.ask_row.Statement.{statement}
 use Rattle.terms.proofs.questions.ask_row.Tie as tie

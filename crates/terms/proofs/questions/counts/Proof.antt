@@ -1,13 +1,13 @@
--- `counts`: question by question. Assumes nothing.
+-- `counts`: question by question.
 use mathlib.Core.Path.{_≡_, refl, sym, ap, _∙_}
 use mathlib.Core.Bool.{not}
 use borrow.Author.Tests.{eq-eqb, ne-eqb}
 use native.Mathlib.Omega.{arith}
 use Rattle.terms.specs.Questions.{countedBy}
-use Rattle.terms.proofs.KindLaws.{past}
+use Rattle.terms.proofs.Laws.Format.KindLaws.{past}
 use Prim.Native.Nat.{zero-le}
-use Rattle.terms.proofs.Bools.{or-true, or-false}
-use Rattle.terms.proofs.QuestionLaws.{counted-more, among-split, among-two}
+use Rattle.terms.proofs.Laws.General.Bools.{or-true, or-false}
+use Rattle.terms.proofs.Laws.Asking.QuestionLaws.{counted-more, among-split, among-two}
 use borrow.Author.Needs.{needs}
 use Rattle.terms.proofs.questions.counts.Statement.{statement}
 use Rattle.terms.proofs.questions.counts.Tie as tie

@@ -1,6 +1,6 @@
--- `enters`: the questions 0 and 1, 4, and the others. Assumes nothing.
+-- `enters`: the questions 0 and 1, 4, and the others.
 use native.Mathlib.Omega.{arith}
-use Rattle.terms.proofs.QuestionLaws.{entered-few, entered-four, entered-most}
+use Rattle.terms.proofs.Laws.Asking.QuestionLaws.{entered-few, entered-four, entered-most}
 use borrow.Author.Needs.{needs}
 use Rattle.terms.proofs.questions.enters.Statement.{statement}
 use Rattle.terms.proofs.questions.enters.Tie as tie

@@ -1,5 +1,5 @@
--- `tag_of`: by the kind. Assumes nothing.
-use Rattle.terms.proofs.QuestionLaws.{tag-few, tag-node}
+-- `tag_of`: by the kind.
+use Rattle.terms.proofs.Laws.Asking.QuestionLaws.{tag-few, tag-node}
 use borrow.Author.Needs.{needs}
 use Rattle.terms.proofs.questions.tag_of.Statement.{statement}
 use Rattle.terms.proofs.questions.tag_of.Tie as tie

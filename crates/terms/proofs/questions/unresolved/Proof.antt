@@ -1,7 +1,7 @@
--- `unresolved`: by the tag. Assumes nothing.
+-- `unresolved`: by the tag.
 use mathlib.Core.Path.{_≡_, refl, sym, ap, _∙_}
 use mathlib.Core.Bool.{not}
-use Rattle.terms.proofs.QuestionLaws.{failing, own-self, projected, binder, known, no-parameters, found-there, found-nowhere}
+use Rattle.terms.proofs.Laws.Asking.QuestionLaws.{failing, own-self, projected, binder, known, no-parameters, found-there, found-nowhere}
 use borrow.Author.Needs.{needs}
 use Rattle.terms.proofs.questions.unresolved.Statement.{statement}
 use Rattle.terms.proofs.questions.unresolved.Tie as tie

@@ -1,4 +1,4 @@
--- `word_at`: within the row or not. Assumes nothing.
+-- `word_at`: within the row or not.
 use borrow.Author.Tests.{lt-ltb, le-ltb}
 use borrow.Author.Needs.{needs}
 use Rattle.terms.proofs.questions.word_at.Statement.{statement}

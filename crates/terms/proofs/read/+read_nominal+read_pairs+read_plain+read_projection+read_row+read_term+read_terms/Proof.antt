@@ -1,4 +1,4 @@
--- The proof of the cycle of calls of the term reader and the nominal reader: a module for each member, and the measures. Assumes nothing.
+-- The proof of the cycle of calls of the term reader and the nominal reader: a module for each member, and the measures.
 mod Measures
 mod ReadNominal
 mod ReadPairs

@@ -1,11 +1,11 @@
--- `alike_rows`. The loop's invariant: what is left of the rows is alike as the whole rows are. Assumes nothing.
+-- `alike_rows`. The loop's invariant: what is left of the rows is alike as the whole rows are.
 use native.Mathlib.Omega.{arith}
 use mathlib.Core.Path.{refl, sym, _∙_}
 use Prim.Native.Nat.{_-_, _≤_}
 use Rattle.terms.specs.Term.{Parts}
-use Rattle.terms.specs.Held.{HeldParts}
-use Rattle.terms.specs.Recovering.{alike}
-use Rattle.terms.proofs.RecoverLaws.{Alike, alike-parted, alike-differ, alike-numbers, alike-terms, alike-last}
+use Rattle.terms.specs.Words.Held.{HeldParts}
+use Rattle.terms.specs.Words.RecoverContract.{alike}
+use Rattle.terms.proofs.Laws.Replacing.RecoverLaws.{Alike, alike-parted, alike-differ, alike-numbers, alike-terms, alike-last}
 use borrow.Author.Needs.{needs}
 use Rattle.terms.proofs.recover.alike_rows.Statement.{statement}
 use Rattle.terms.proofs.recover.alike_rows.Tie as tie

@@ -1,13 +1,13 @@
--- `behind_terms`. The loop's invariant: what is left of the terms ends where all of them do. Assumes nothing.
+-- `behind_terms`. The loop's invariant: what is left of the terms ends where all of them do.
 use native.Mathlib.Omega.{arith}
 use mathlib.Core.Path.{refl}
 use Prim.Native.Nat.{_+_, _≤_}
 use Rattle.terms.specs.Term.{Parts}
-use Rattle.terms.specs.Held.{HeldParts}
+use Rattle.terms.specs.Words.Held.{HeldParts}
 use Rattle.terms.specs.Shape.{Shape, manyTerms}
 use Rattle.terms.specs.Formed.{Fit}
-use Rattle.terms.specs.Recovering.{upto}
-use Rattle.terms.proofs.RecoverLaws.{Behind, behind-done, behind-over, behind-more}
+use Rattle.terms.specs.Words.RecoverContract.{upto}
+use Rattle.terms.proofs.Laws.Replacing.RecoverLaws.{Behind, behind-done, behind-over, behind-more}
 use borrow.Author.Needs.{needs}
 use Rattle.terms.proofs.recover.behind_terms.Statement.{statement}
 use Rattle.terms.proofs.recover.behind_terms.Tie as tie

@@ -1,4 +1,4 @@
--- `first_reach`: the first numbers agree or not. Assumes nothing.
+-- `first_reach`: the first numbers agree or not.
 use native.Mathlib.Omega.{arith}
 use mathlib.Core.Path.{sym, _∙_}
 use borrow.Author.Tests.{eq-eqb, ne-eqb}

@@ -1,15 +1,15 @@
--- `nominal_reach`: the declaration, the count of arguments, and the members. Assumes nothing.
+-- `nominal_reach`: the declaration, the count of arguments, and the members.
 use native.Mathlib.Omega.{arith}
 use mathlib.Core.Path.{_≡_, sym, ap, subst, _∙_}
 use Prim.Native.Nat.{ℕ, _+_}
 use lib.ListN.{getD}
 use denote.Ref.{now}
-use Rattle.terms.specs.Held.{HeldParts}
+use Rattle.terms.specs.Words.Held.{HeldParts}
 use Rattle.terms.specs.Shape as shape
 use Rattle.terms.specs.Shape.{manyTerms}
 use Rattle.terms.specs.Formed.{Fit}
-use Rattle.terms.specs.Recovering.{upto}
-use Rattle.terms.proofs.RecoverLaws.{nominal-at, reach-declaration, reach-count, reach-all, reach-arguments, members-alike, held-drop, dropParts}
+use Rattle.terms.specs.Words.RecoverContract.{upto}
+use Rattle.terms.proofs.Laws.Replacing.RecoverLaws.{nominal-at, reach-declaration, reach-count, reach-all, reach-arguments, members-alike, held-drop, dropParts}
 use borrow.Author.Needs.{needs}
 use Rattle.terms.proofs.recover.nominal_reach.Statement.{statement}
 use Rattle.terms.proofs.recover.nominal_reach.Tie as tie

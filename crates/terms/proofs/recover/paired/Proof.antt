@@ -1,9 +1,9 @@
--- `paired`: a row that ends, or what comes next in both. Assumes nothing.
+-- `paired`: a row that ends, or what comes next in both.
 use mathlib.Core.Path.{sym, _∙_}
 use borrow.Author.Needs.{needs}
 use borrow.Author.Tests.{eqb-true, eqb-false, not-true, not-false}
-use Rattle.terms.specs.Recovering.{noLeft, noRight, numberTerm, termNumber}
-use Rattle.terms.proofs.Bools.{never-true}
+use Rattle.terms.specs.Words.RecoverContract.{noLeft, noRight, numberTerm, termNumber}
+use Rattle.terms.proofs.Laws.General.Bools.{never-true}
 use Rattle.terms.proofs.recover.paired.Statement.{statement}
 use Rattle.terms.proofs.recover.paired.Tie as tie
 

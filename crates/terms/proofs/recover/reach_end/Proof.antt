@@ -1,11 +1,11 @@
--- `reach_end`: by the tag. Assumes nothing.
+-- `reach_end`: by the tag.
 use native.Mathlib.Omega.{arith}
 use mathlib.Core.Path.{_≡_, sym, ap, _∙_}
 use mathlib.Core.List.{[], _∷_}
 use Prim.Native.Nat.{ℕ}
 use Rattle.terms.specs.Tree.{tag}
 use Rattle.terms.specs.Questions.{among}
-use Rattle.terms.proofs.RecoverLaws.{tag-told, four-left, four-last, four-none, reach-differ, reach-whole, reach-first, reach-nominals, reach-none, place-none, place-whole, place-first, place-nominal, whole-node}
+use Rattle.terms.proofs.Laws.Replacing.RecoverLaws.{tag-told, four-left, four-last, four-none, reach-differ, reach-whole, reach-first, reach-nominals, reach-none, place-none, place-whole, place-first, place-nominal, whole-node}
 use borrow.Author.Needs.{needs}
 use Rattle.terms.proofs.recover.reach_end.Statement.{statement}
 use Rattle.terms.proofs.recover.reach_end.Tie as tie

@@ -1,7 +1,7 @@
--- `recovered_len`: where writing from 0 on ends. Assumes nothing.
+-- `recovered_len`: where writing from 0 on ends.
 use native.Mathlib.Omega.{arith}
-use Rattle.terms.proofs.SameLaws.{told}
-use Rattle.terms.proofs.FlatLaws.{held-one}
+use Rattle.terms.proofs.Laws.Held.SameLaws.{told}
+use Rattle.terms.proofs.Laws.Held.FlatLaws.{held-one}
 use borrow.Author.Needs.{needs}
 use Rattle.terms.proofs.recover.recovered_len.Statement.{statement}
 use Rattle.terms.proofs.recover.recovered_len.Tie as tie

@@ -1,9 +1,9 @@
--- `stays`: by the second tag, then by the first. Assumes nothing.
+-- `stays`: by the second tag, then by the first.
 use mathlib.Core.Path.{sym, _∙_}
 use lib.Dec.{eqb}
-use Rattle.terms.specs.Views.{recovery}
-use Rattle.terms.proofs.Bools.{or-true, or-false}
-use Rattle.terms.proofs.QuestionLaws.{among-two}
+use Rattle.terms.specs.Comparison.{recovery}
+use Rattle.terms.proofs.Laws.General.Bools.{or-true, or-false}
+use Rattle.terms.proofs.Laws.Asking.QuestionLaws.{among-two}
 use borrow.Author.Needs.{needs}
 use Rattle.terms.proofs.recover.stays.Statement.{statement}
 use Rattle.terms.proofs.recover.stays.Tie as tie

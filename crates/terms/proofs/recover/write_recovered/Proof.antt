@@ -1,6 +1,6 @@
--- `write_recovered`: the term at a is filled from the one at b. Assumes nothing.
-use Rattle.terms.proofs.SameLaws.{told}
-use Rattle.terms.proofs.FlatLaws.{held-one}
+-- `write_recovered`: the term at a is filled from the one at b.
+use Rattle.terms.proofs.Laws.Held.SameLaws.{told}
+use Rattle.terms.proofs.Laws.Held.FlatLaws.{held-one}
 use borrow.Author.Needs.{needs}
 use Rattle.terms.proofs.recover.write_recovered.Statement.{statement}
 use Rattle.terms.proofs.recover.write_recovered.Tie as tie

@@ -1,4 +1,4 @@
--- `argument_for`: the index, and then the argument of that index. Assumes nothing.
+-- `argument_for`: the index, and then the argument of that index.
 use mathlib.Core.Path.{_∙_}
 use borrow.Author.Needs.{needs}
 use Rattle.terms.proofs.rewrite.argument_for.Statement.{statement}

@@ -1,5 +1,5 @@
--- `context_at`: an entry, or a parameter. Assumes nothing.
-use Rattle.terms.proofs.RewriteLaws.{context-entry, context-parameter, context-none}
+-- `context_at`: an entry, or a parameter.
+use Rattle.terms.proofs.Laws.Replacing.RewriteLaws.{context-entry, context-parameter, context-none}
 use borrow.Author.Needs.{needs}
 use Rattle.terms.proofs.rewrite.context_at.Statement.{statement}
 use Rattle.terms.proofs.rewrite.context_at.Tie as tie

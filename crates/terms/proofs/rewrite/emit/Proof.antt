@@ -1,10 +1,10 @@
--- `emit`: the token, the term chosen, or Unknown. Assumes nothing.
+-- `emit`: the token, the term chosen, or Unknown.
 use mathlib.Core.Path.{refl}
 use mathlib.Core.List.{[], _∷_}
 use lib.Seq.{sets}
 use denote.Ref.{now}
 use native.Mathlib.Omega.{arith}
-use Rattle.terms.proofs.RewriteLaws.{pick-yes, pick-no, keep-piece, by-piece, unknown-piece, stride-in, inside-by, retold, respaced}
+use Rattle.terms.proofs.Laws.Replacing.RewriteLaws.{pick-yes, pick-no, keep-piece, by-piece, unknown-piece, stride-in, inside-by, retold, respaced}
 use borrow.Author.Needs.{needs}
 use Rattle.terms.proofs.rewrite.emit.Statement.{statement}
 use Rattle.terms.proofs.rewrite.emit.Tie as tie

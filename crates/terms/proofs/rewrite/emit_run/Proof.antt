@@ -1,8 +1,8 @@
--- `emit_run`: written, or counted. Assumes nothing.
+-- `emit_run`: written, or counted.
 use mathlib.Core.Path.{ap, _∙_}
 use Prim.Native.Nat.{ℕ, _+_}
 use native.Mathlib.Omega.{arith}
-use Rattle.terms.proofs.RewriteLaws.{pick-yes, pick-no}
+use Rattle.terms.proofs.Laws.Replacing.RewriteLaws.{pick-yes, pick-no}
 use borrow.Author.Needs.{needs}
 use Rattle.terms.proofs.rewrite.emit_run.Statement.{statement}
 use Rattle.terms.proofs.rewrite.emit_run.Tie as tie

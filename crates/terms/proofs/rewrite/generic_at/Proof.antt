@@ -1,5 +1,5 @@
--- `generic_at`: an argument, or an entry. Assumes nothing.
-use Rattle.terms.proofs.RewriteLaws.{generic-argument, generic-entry}
+-- `generic_at`: an argument, or an entry.
+use Rattle.terms.proofs.Laws.Replacing.RewriteLaws.{generic-argument, generic-entry}
 use borrow.Author.Needs.{needs}
 use Rattle.terms.proofs.rewrite.generic_at.Statement.{statement}
 use Rattle.terms.proofs.rewrite.generic_at.Tie as tie

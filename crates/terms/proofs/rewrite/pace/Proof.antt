@@ -1,5 +1,5 @@
--- `pace`: one token, or the whole term. Assumes nothing.
-use Rattle.terms.proofs.RewriteLaws.{keep-pace, by-pace, unknown-pace}
+-- `pace`: one token, or the whole term.
+use Rattle.terms.proofs.Laws.Replacing.RewriteLaws.{keep-pace, by-pace, unknown-pace}
 use borrow.Author.Needs.{needs}
 use Rattle.terms.proofs.rewrite.pace.Statement.{statement}
 use Rattle.terms.proofs.rewrite.pace.Tie as tie

@@ -1,5 +1,5 @@
--- `replaced_at`: by the kind. Assumes nothing.
-use Rattle.terms.proofs.RewriteLaws.{chosen-context, chosen-generic, chosen-self, chosen-keep}
+-- `replaced_at`: by the kind.
+use Rattle.terms.proofs.Laws.Replacing.RewriteLaws.{chosen-context, chosen-generic, chosen-self, chosen-keep}
 use borrow.Author.Needs.{needs}
 use Rattle.terms.proofs.rewrite.replaced_at.Statement.{statement}
 use Rattle.terms.proofs.rewrite.replaced_at.Tie as tie

@@ -1,10 +1,10 @@
--- `rewrite_run`. Invariant: with the pieces from p on done at i, all is done (`Going`). Assumes nothing.
+-- `rewrite_run`. Invariant: with the pieces from p on done at i, all is done (`Going`).
 use mathlib.Core.Path.{_≡_, refl}
 use Prim.Native.Nat.{_+_, _-_, _≤_}
 use denote.Ref.{now}
 use native.Mathlib.Omega.{arith}
-use Rattle.terms.specs.Rewriting.{chosen, pieces, rewritten}
-use Rattle.terms.proofs.RewriteLaws.{chosen-inside, pieces-end, pace-within, Going, going-start, going-end, step-space, step-on}
+use Rattle.terms.specs.Words.RewriteContract.{chosen, pieces, rewritten}
+use Rattle.terms.proofs.Laws.Replacing.RewriteLaws.{chosen-inside, pieces-end, pace-within, Going, going-start, going-end, step-space, step-on}
 use Rattle.terms.proofs.rewrite.rewrite_run.Statement.{statement}
 use Rattle.terms.proofs.rewrite.rewrite_run.Tie as tie
 

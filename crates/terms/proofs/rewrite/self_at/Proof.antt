@@ -1,5 +1,5 @@
--- `self_at`: by a receiver, but not in a context. Assumes nothing.
-use Rattle.terms.proofs.RewriteLaws.{self-context, self-receiver}
+-- `self_at`: by a receiver, but not in a context.
+use Rattle.terms.proofs.Laws.Replacing.RewriteLaws.{self-context, self-receiver}
 use borrow.Author.Needs.{needs}
 use Rattle.terms.proofs.rewrite.self_at.Statement.{statement}
 use Rattle.terms.proofs.rewrite.self_at.Tie as tie

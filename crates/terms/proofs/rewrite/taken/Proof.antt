@@ -1,4 +1,4 @@
--- `taken`: by the two cases. Assumes nothing.
+-- `taken`: by the two cases.
 use borrow.Author.Needs.{needs}
 use Rattle.terms.proofs.rewrite.taken.Statement.{statement}
 use Rattle.terms.proofs.rewrite.taken.Tie as tie

@@ -1,7 +1,7 @@
--- `write_term`: as many tokens as its span tells; what that says of trees is `rewrites`. Assumes nothing.
+-- `write_term`: as many tokens as its span tells; what that says of trees is `rewrites`.
 use denote.Ref.{now}
-use Rattle.terms.proofs.UseLaws.{rewrites}
-use Rattle.terms.proofs.RewriteLaws.{stride-in, whole-space, whole-writes}
+use Rattle.terms.proofs.Laws.Replacing.SubstitutionUseLaws.{rewrites}
+use Rattle.terms.proofs.Laws.Replacing.RewriteLaws.{stride-in, whole-space, whole-writes}
 use borrow.Author.Needs.{needs}
 use Rattle.terms.proofs.rewrite.write_term.Statement.{statement}
 use Rattle.terms.proofs.rewrite.write_term.Tie as tie

@@ -1,13 +1,13 @@
--- `child_at`. Invariant: n children have been passed. Assumes nothing.
+-- `child_at`. Invariant: n children have been passed.
 use Prim.Native.Nat.{_-_, _+_, _≤_, _<_}
 use native.Mathlib.Omega.{arith}
 use denote.Ref.{now}
 use mathlib.Core.Path.{_≡_, refl}
-use Rattle.terms.specs.View.{view}
-use Rattle.terms.proofs.ViewLaws.{few-kinds, few-vals}
+use Rattle.terms.specs.Words.VirtualTokens.{view}
+use Rattle.terms.proofs.Laws.Normalising.VirtualTokenLaws.{few-kinds, few-vals}
 use mathlib.Core.Path.{ap, sym, _∙_}
 use lib.ListN.{getElem?}
-use Rattle.terms.proofs.ScanLaws.{Scan, scan-start, Counted, counted-start, child-over, child-number, child-next, child-found}
+use Rattle.terms.proofs.Laws.Normalising.ScanLaws.{Scan, scan-start, Counted, counted-start, child-over, child-number, child-next, child-found}
 use borrow.Author.Needs.{needs}
 use Rattle.terms.proofs.rows.child_at.Statement.{statement}
 use Rattle.terms.proofs.rows.child_at.Tie as tie

@@ -1,8 +1,8 @@
--- `child_here`. By the child word. Assumes nothing.
+-- `child_here`. By the child word.
 use mathlib.Core.Path.{_≡_}
 use native.Mathlib.Omega.{arith}
 use denote.Ref.{now}
-use Rattle.terms.proofs.ScanLaws.{head-record, kids-record}
+use Rattle.terms.proofs.Laws.Normalising.ScanLaws.{head-record, kids-record}
 use borrow.Author.Needs.{needs}
 use Rattle.terms.proofs.rows.child_here.Statement.{statement}
 use Rattle.terms.proofs.rows.child_here.Tie as tie

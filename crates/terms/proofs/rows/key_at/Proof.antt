@@ -1,12 +1,12 @@
--- `key_at`. Invariant: none of the k numbers that were passed is the key. Assumes nothing.
+-- `key_at`. Invariant: none of the k numbers that were passed is the key.
 use Prim.Native.Nat.{_-_, _+_, _≤_, _<_}
 use native.Mathlib.Omega.{arith}
 use denote.Ref.{now}
 use mathlib.Core.Path.{_≡_, refl}
-use Rattle.terms.specs.View.{view}
-use Rattle.terms.proofs.ViewLaws.{few-kinds, few-vals}
+use Rattle.terms.specs.Words.VirtualTokens.{view}
+use Rattle.terms.proofs.Laws.Normalising.VirtualTokenLaws.{few-kinds, few-vals}
 use mathlib.Core.Logic.{⊎-elim}
-use Rattle.terms.proofs.ScanLaws.{Scan, scan-start, Passed, passed-start, key-over, key-here, key-next, key-pass}
+use Rattle.terms.proofs.Laws.Normalising.ScanLaws.{Scan, scan-start, Passed, passed-start, key-over, key-here, key-next, key-pass}
 use borrow.Author.Needs.{needs}
 use Rattle.terms.proofs.rows.key_at.Statement.{statement}
 use Rattle.terms.proofs.rows.key_at.Tie as tie

@@ -1,4 +1,4 @@
--- `number_at`. Assumes nothing.
+-- `number_at`.
 use native.Mathlib.Omega.{arith}
 use mathlib.Core.Path.{_∙_}
 use borrow.Author.Needs.{needs}

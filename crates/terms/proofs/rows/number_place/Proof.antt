@@ -1,11 +1,11 @@
--- `number_place`. Invariant: the wanted number is the left-th of what is left. Assumes nothing.
+-- `number_place`. Invariant: the wanted number is the left-th of what is left.
 use Prim.Native.Nat.{_-_, _+_, _≤_, _<_}
 use native.Mathlib.Omega.{arith}
 use denote.Ref.{now}
 use mathlib.Core.Path.{_≡_, refl}
-use Rattle.terms.specs.View.{view}
-use Rattle.terms.proofs.ViewLaws.{few-kinds, few-vals}
-use Rattle.terms.proofs.ScanLaws.{Scan, scan-start, Wanted, number-over, number-here, number-next, number-pass}
+use Rattle.terms.specs.Words.VirtualTokens.{view}
+use Rattle.terms.proofs.Laws.Normalising.VirtualTokenLaws.{few-kinds, few-vals}
+use Rattle.terms.proofs.Laws.Normalising.ScanLaws.{Scan, scan-start, Wanted, number-over, number-here, number-next, number-pass}
 use borrow.Author.Needs.{needs}
 use Rattle.terms.proofs.rows.number_place.Statement.{statement}
 use Rattle.terms.proofs.rows.number_place.Tie as tie

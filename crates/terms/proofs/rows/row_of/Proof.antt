@@ -1,9 +1,9 @@
--- `row_of`. A row is cut where no token can stand. Assumes nothing.
+-- `row_of`. A row is cut where no token can stand.
 use native.Mathlib.Omega.{arith}
 use denote.Ref.{now}
-use Rattle.terms.specs.View.{view}
-use Rattle.terms.proofs.ViewLaws.{few-kinds}
-use Rattle.terms.proofs.ScanLaws.{row-is, row-cut}
+use Rattle.terms.specs.Words.VirtualTokens.{view}
+use Rattle.terms.proofs.Laws.Normalising.VirtualTokenLaws.{few-kinds}
+use Rattle.terms.proofs.Laws.Normalising.ScanLaws.{row-is, row-cut}
 use borrow.Author.Needs.{needs}
 use Rattle.terms.proofs.rows.row_of.Statement.{statement}
 use Rattle.terms.proofs.rows.row_of.Tie as tie

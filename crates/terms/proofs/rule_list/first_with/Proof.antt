@@ -1,6 +1,5 @@
 -- `first_with` meets its contract: a walk of its MIR, by hand. A loop (after `logic/Denote/Examples/Count.antt`), in whose turn an element of the slice is copied out (after
 -- `logic/Denote/Examples/Slices/At.antt`) and a covered function is called (after `examples/reader/proofs/next`). All that the proof knows of `has_member` is that it meets its contract.
--- Assumes nothing.
 use mathlib.Core.Path.{_≡_, refl, sym, ap, _∙_}
 use mathlib.Core.Bool.{Bool, true, false, cond, not}
 use mathlib.Core.WellFounded.{WellFounded, InvImage·wf}
@@ -49,8 +48,8 @@ use denote.Triple.Spec.{Meets, tripleOf}
 use denote.Triple.Table.{entered, cited}
 use denote.Triple.Walked.{says, Stays, stay-none-slice, stay-none, walkOf, Walks, ends-at, walked, goes-none-slice, goes-none, walk-meets}
 use Rattle.terms.specs.declared.Rule.{Rule}
-use Rattle.terms.specs.RuleList.{hasMember, firstWith}
-use Rattle.terms.proofs.RuleListLaws.{noRule}
+use Rattle.terms.specs.Words.RuleListContract.{hasMember, firstWith}
+use Rattle.terms.proofs.Laws.Normalising.RuleListLaws.{noRule}
 use Rattle.terms.proofs.Rule as T
 use Rattle.terms.proofs.Rule.Laws as T′
 use Rattle.terms.proofs.rule_list.has_member as has-member

@@ -1,10 +1,10 @@
--- `next_rule`. Invariant: no rule passed has the member. Assumes nothing.
+-- `next_rule`. Invariant: no rule passed has the member.
 use Prim.Native.Nat.{_-_, _≤_}
 use mathlib.Core.Path.{_≡_, refl}
 use native.Mathlib.Omega.{arith}
 use denote.Ref.{now}
 use Rattle.terms.specs.Lookup.{ruleCount}
-use Rattle.terms.proofs.RuleListLaws.{NoneFrom, four-few, four-passed, four-has}
+use Rattle.terms.proofs.Laws.Normalising.RuleListLaws.{NoneFrom, four-few, four-passed, four-has}
 use Rattle.terms.proofs.rule_list.next_rule.Statement.{statement}
 use Rattle.terms.proofs.rule_list.next_rule.Tie as tie
 

@@ -1,7 +1,6 @@
 -- `passed_from` meets its contract: a walk of its MIR, by hand. The array that `rules_from` returns is stored in a local, taken apart into its elements (after
 -- `logic/Denote/Examples/Arrays/Forms.antt`), lent as a slice for a lifetime that is made here (after `logic/Denote/Examples/Slices/FirstCaller.antt`), and taken back after the scan.
 -- All that the proof knows of `rules_from` and of `first_with` is that each meets its contract.
--- Assumes nothing.
 use mathlib.Core.Path.{_≡_, refl}
 use Prim.Native.Nat.{ℕ, _<_, _^_}
 use mathlib.Core.List.{List, [], _∷_}
@@ -47,7 +46,7 @@ use denote.Triple.Spec.{Meets, tripleOf}
 use denote.Triple.Table.{entered, cited}
 use denote.Triple.Walked.{says, needs, Stays, stay-none-slice, stay-none, walkOf, Walks, ends-at, walked, goes-none-slice, goes-none, walk-meets}
 use Rattle.terms.specs.declared.Rule.{Rule}
-use Rattle.terms.specs.RuleList.{firstWith, rulesFrom}
+use Rattle.terms.specs.Words.RuleListContract.{firstWith, rulesFrom}
 use Rattle.terms.proofs.Rule as T
 use Rattle.terms.proofs.Rule.Laws as T′
 use Rattle.terms.proofs.rule_list.rules_from as the-list

@@ -1,4 +1,4 @@
--- `rule_at`. Word by word. Assumes nothing.
+-- `rule_at`. Word by word.
 use borrow.Author.Needs.{needs}
 use Rattle.terms.proofs.rule_list.rule_at.Statement.{statement}
 use Rattle.terms.proofs.rule_list.rule_at.Tie as tie

@@ -1,4 +1,4 @@
--- `find_rule`. The outer invariant: no rule passed is the row's. The inner: what is left of the row decides, with the arguments that are left. Assumes nothing.
+-- `find_rule`. The outer invariant: no rule passed is the row's. The inner: what is left of the row decides, with the arguments that are left.
 use Prim.Native.Nat.{_-_, _≤_, _<_}
 use mathlib.Core.Path.{_≡_, refl, ap, _∙_}
 use mathlib.Core.Logic.{⊎-elim}
@@ -7,7 +7,7 @@ use denote.Ref.{now}
 use Rattle.terms.specs.Tree.{row}
 use Rattle.terms.specs.declared.Rule.{Rule}
 use Rattle.terms.specs.Lookup.{ruleAt, ruleCount}
-use Rattle.terms.proofs.RuleLaws.{Arguing, Missed, Searching, arguing-start, argued-done, argued-more, argued-next, searching-start, searching-next, searching-none, searching-hit, searching-to, further-cut}
+use Rattle.terms.proofs.Laws.Normalising.RuleLaws.{Arguing, Missed, Searching, arguing-start, argued-done, argued-more, argued-next, searching-start, searching-next, searching-none, searching-hit, searching-to, further-cut}
 use borrow.Author.Needs.{needs}
 use Rattle.terms.proofs.rules.find_rule.Statement.{statement}
 use Rattle.terms.proofs.rules.find_rule.Tie as tie

@@ -1,8 +1,8 @@
--- `member_in`. Invariant: what is left of the row, behind the last two numbers, has the row's last number but one. Assumes nothing.
+-- `member_in`. Invariant: what is left of the row, after the last two numbers, has the row's last number but one.
 use Prim.Native.Nat.{_-_}
 use native.Mathlib.Omega.{arith}
-use Rattle.terms.specs.View.{view}
-use Rattle.terms.proofs.RuleLaws.{Calling, calling-start, calling-done, calling-number, calling-child}
+use Rattle.terms.specs.Words.VirtualTokens.{view}
+use Rattle.terms.proofs.Laws.Normalising.RuleLaws.{Calling, calling-start, calling-done, calling-number, calling-child}
 use borrow.Author.Needs.{needs}
 use Rattle.terms.proofs.rules.member_in.Statement.{statement}
 use Rattle.terms.proofs.rules.member_in.Tie as tie

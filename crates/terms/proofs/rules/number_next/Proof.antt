@@ -1,8 +1,8 @@
--- `number_next`: by its tests. Assumes nothing.
+-- `number_next`: by its tests.
 use mathlib.Core.Path.{sym, _∙_}
 use native.Mathlib.Omega.{arith}
 use borrow.Author.Tests.{eqb-true, eqb-false}
-use Rattle.terms.proofs.Bools.{never-true}
+use Rattle.terms.proofs.Laws.General.Bools.{never-true}
 use Rattle.terms.proofs.rules.number_next.Statement.{statement}
 use Rattle.terms.proofs.rules.number_next.Tie as tie
 

@@ -1,7 +1,7 @@
--- `same_front`. Receiver, interface, and two numbers. Assumes nothing.
+-- `same_front`. Receiver, interface, and two numbers.
 use native.Mathlib.Omega.{arith}
 use denote.Ref.{now}
-use Rattle.terms.proofs.RuleLaws.{front-receiver, front-interface, front-numbers, further-cut}
+use Rattle.terms.proofs.Laws.Normalising.RuleLaws.{front-receiver, front-interface, front-numbers, further-cut}
 use borrow.Author.Needs.{needs}
 use Rattle.terms.proofs.rules.same_front.Statement.{statement}
 use Rattle.terms.proofs.rules.same_front.Tie as tie

@@ -1,9 +1,9 @@
--- `term_cursor`. Assumes nothing.
+-- `term_cursor`.
 use native.Mathlib.Omega.{arith}
 use denote.Ref.{now}
-use Rattle.terms.specs.View.{view}
-use Rattle.terms.proofs.ViewLaws.{few-kinds}
-use Rattle.terms.proofs.RuleLaws.{term-starts, term-cut}
+use Rattle.terms.specs.Words.VirtualTokens.{view}
+use Rattle.terms.proofs.Laws.Normalising.VirtualTokenLaws.{few-kinds}
+use Rattle.terms.proofs.Laws.Normalising.RuleLaws.{term-starts, term-cut}
 use borrow.Author.Needs.{needs}
 use Rattle.terms.proofs.rules.term_cursor.Statement.{statement}
 use Rattle.terms.proofs.rules.term_cursor.Tie as tie

@@ -1,9 +1,9 @@
--- `two_numbers`. By its tests. Assumes nothing.
+-- `two_numbers`. By its tests.
 use native.Mathlib.Omega.{arith}
 use denote.Ref.{now}
-use Rattle.terms.specs.View.{view}
-use Rattle.terms.proofs.Bools.{not-true, not-false}
-use Rattle.terms.proofs.RuleLaws.{NumbersAre, numbers-apart, numbers-met}
+use Rattle.terms.specs.Words.VirtualTokens.{view}
+use Rattle.terms.proofs.Laws.General.Bools.{not-true, not-false}
+use Rattle.terms.proofs.Laws.Normalising.RuleLaws.{NumbersAre, numbers-apart, numbers-met}
 use borrow.Author.Needs.{needs}
 use Rattle.terms.proofs.rules.two_numbers.Statement.{statement}
 use Rattle.terms.proofs.rules.two_numbers.Tie as tie

@@ -1,5 +1,5 @@
--- `is_one`: a test on three numbers. Assumes nothing.
-use Rattle.terms.proofs.ConflictLaws.{among-first, among-second, among-last}
+-- `is_one`: a test on three numbers.
+use Rattle.terms.proofs.Laws.Asking.ConflictLaws.{among-first, among-second, among-last}
 use borrow.Author.Needs.{needs}
 use Rattle.terms.proofs.runs.is_one.Statement.{statement}
 use Rattle.terms.proofs.runs.is_one.Tie as tie

@@ -1,4 +1,4 @@
--- `long_at`. Assumes nothing.
+-- `long_at`.
 use mathlib.Core.Path.{_∙_}
 use borrow.Author.Needs.{needs}
 use Rattle.terms.proofs.runs.long_at.Statement.{statement}

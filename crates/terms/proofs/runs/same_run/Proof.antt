@@ -1,12 +1,12 @@
--- `same_run`. Invariant: the runs agree just where what is left of them agrees. Assumes nothing.
+-- `same_run`. Invariant: the runs agree just where what is left of them agrees.
 use native.Mathlib.Omega.{arith}
 use Prim.Native.Nat.{_+_, _-_, _≤_}
 use mathlib.Core.Path.{_≡_, sym, _∙_}
 use denote.Ref.{now}
-use Rattle.terms.specs.Tokens.{toks, one}
-use Rattle.terms.proofs.Bools.{never-true, never-false}
-use Rattle.terms.proofs.HeldLaws.{toks-join, toks-split}
-use Rattle.terms.proofs.WriteLaws.{spell-none}
+use Rattle.terms.specs.Words.Tokens.{toks, one}
+use Rattle.terms.proofs.Laws.General.Bools.{never-true, never-false}
+use Rattle.terms.proofs.Laws.Held.HeldLaws.{toks-join, toks-split}
+use Rattle.terms.proofs.Laws.Format.WriteLaws.{spell-none}
 use Rattle.terms.proofs.runs.same_run.Statement.{statement}
 use Rattle.terms.proofs.runs.same_run.Tie as tie
 

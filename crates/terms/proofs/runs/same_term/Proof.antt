@@ -1,5 +1,5 @@
--- `same_term`: the lengths, and then the tokens. Assumes nothing.
-use Rattle.terms.proofs.SameLaws.{differ-length, compared}
+-- `same_term`: the lengths, and then the tokens.
+use Rattle.terms.proofs.Laws.Held.SameLaws.{differ-length, compared}
 use borrow.Author.Needs.{needs}
 use Rattle.terms.proofs.runs.same_term.Statement.{statement}
 use Rattle.terms.proofs.runs.same_term.Tie as tie

@@ -1,11 +1,11 @@
--- `skip`: what `stride` gives. Assumes nothing.
+-- `skip`: what `stride` gives.
 use native.Mathlib.Omega.{arith}
 use mathlib.Core.Path.{sym, _∙_}
 use lib.ListN.{getD}
 use denote.Ref.{now}
 use borrow.Author.Needs.{needs}
-use Rattle.terms.specs.Held.{span}
-use Rattle.terms.proofs.SearchLaws.{clip-span, clip-within}
+use Rattle.terms.specs.Words.Held.{span}
+use Rattle.terms.proofs.Laws.Replacing.FindLaws.{clip-span, clip-within}
 use Rattle.terms.proofs.runs.skip.Statement.{statement}
 use Rattle.terms.proofs.runs.skip.Tie as tie
 

@@ -1,6 +1,6 @@
--- `span_of`: by the kind. Assumes nothing.
+-- `span_of`: by the kind.
 use mathlib.Core.Path.{sym, _∙_}
-use Rattle.terms.proofs.HeldLaws.{span-one, span-node}
+use Rattle.terms.proofs.Laws.Held.HeldLaws.{span-one, span-node}
 use borrow.Author.Needs.{needs}
 use Rattle.terms.proofs.runs.span_of.Statement.{statement}
 use Rattle.terms.proofs.runs.span_of.Tie as tie

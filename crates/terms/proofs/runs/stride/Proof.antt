@@ -1,5 +1,5 @@
--- `stride`: by the tests on the span. Assumes nothing.
-use Rattle.terms.proofs.SearchLaws.{clip-none, clip-room, clip-span}
+-- `stride`: by the tests on the span.
+use Rattle.terms.proofs.Laws.Replacing.FindLaws.{clip-none, clip-room, clip-span}
 use borrow.Author.Needs.{needs}
 use Rattle.terms.proofs.runs.stride.Statement.{statement}
 use Rattle.terms.proofs.runs.stride.Tie as tie

@@ -1,4 +1,4 @@
--- `word`. Assumes nothing.
+-- `word`.
 use mathlib.Core.Path.{sym}
 use lib.ListN.{List·getD-eq-default}
 use denote.Ref.{now}

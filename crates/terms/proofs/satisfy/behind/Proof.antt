@@ -1,8 +1,8 @@
--- `behind`: by the span of the term. Assumes nothing.
+-- `behind`: by the span of the term.
 use native.Mathlib.Omega.{arith}
 use mathlib.Core.Path.{ap}
 use Prim.Native.Nat.{ℕ, _+_}
-use Rattle.terms.proofs.SameLaws.{told}
+use Rattle.terms.proofs.Laws.Held.SameLaws.{told}
 use borrow.Author.Needs.{needs}
 use Rattle.terms.proofs.satisfy.behind.Statement.{statement}
 use Rattle.terms.proofs.satisfy.behind.Tie as tie

@@ -1,15 +1,15 @@
--- `covered`. The loop's invariant: what is left is covered as the whole is. Assumes nothing.
+-- `covered`. The loop's invariant: what is left is covered as the whole is.
 use native.Mathlib.Omega.{arith}
 use mathlib.Core.Path.{sym}
 use mathlib.Core.Bool.{Bool}
 use Prim.Native.Nat.{ℕ, _+_, _≤_}
 use lib.ListN.{length}
 use Rattle.terms.specs.Term.{Term, Parts}
-use Rattle.terms.specs.Held.{Held}
+use Rattle.terms.specs.Words.Held.{Held}
 use Rattle.terms.specs.Tree.{Nominal}
-use Rattle.terms.specs.Views.{every}
-use Rattle.terms.specs.Satisfying.{Laid, Listed, Pairs, covers}
-use Rattle.terms.proofs.BoundLaws.{every-over, passes-covers, covered-next, not-covered}
+use Rattle.terms.specs.Comparison.{every}
+use Rattle.terms.specs.Words.SatisfyContract.{Laid, Listed, Pairs, covers}
+use Rattle.terms.proofs.Laws.Asking.BoundLaws.{every-over, passes-covers, covered-next, not-covered}
 use borrow.Author.Needs.{needs}
 use Rattle.terms.proofs.satisfy.covered.Statement.{statement}
 use Rattle.terms.proofs.satisfy.covered.Tie as tie

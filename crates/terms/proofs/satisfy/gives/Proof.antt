@@ -1,10 +1,10 @@
--- `gives`: the member is looked up, and its term compared. Assumes nothing.
+-- `gives`: the member is looked up, and its term compared.
 use native.Mathlib.Omega.{arith}
 use mathlib.Core.Path.{sym, ap, _∙_}
 use mathlib.Core.Option.{Option}
 use Rattle.terms.specs.Term.{Term}
-use Rattle.terms.specs.Views.{sameOption}
-use Rattle.terms.proofs.BoundLaws.{listed-pairs}
+use Rattle.terms.specs.Comparison.{sameOption}
+use Rattle.terms.proofs.Laws.Asking.BoundLaws.{listed-pairs}
 use borrow.Author.Needs.{needs}
 use Rattle.terms.proofs.satisfy.gives.Statement.{statement}
 use Rattle.terms.proofs.satisfy.gives.Tie as tie

@@ -1,7 +1,7 @@
--- `heads`: the declarations, the counts, and then the arguments. Assumes nothing.
+-- `heads`: the declarations, the counts, and then the arguments.
 use mathlib.Core.Path.{sym, _∙_}
 use native.Mathlib.Omega.{arith}
-use Rattle.terms.proofs.BoundLaws.{laid-words, declarations-differ, counts-differ, headed-lists, headed}
+use Rattle.terms.proofs.Laws.Asking.BoundLaws.{laid-words, declarations-differ, counts-differ, headed-lists, headed}
 use borrow.Author.Needs.{needs}
 use Rattle.terms.proofs.satisfy.heads.Statement.{statement}
 use Rattle.terms.proofs.satisfy.heads.Tie as tie

@@ -1,9 +1,9 @@
--- `is_reflexive`: the tag, the receiver, the interface, and what follows it. Assumes nothing.
+-- `is_reflexive`: the tag, the receiver, the interface, and what follows it.
 use native.Mathlib.Omega.{arith}
 use mathlib.Core.Path.{sym, _∙_}
-use Rattle.terms.proofs.HeldLaws.{held-first, items-some}
-use Rattle.terms.proofs.NominalLaws.{called, projected, not-projected, receiver-held, interface-laid, called-words}
-use Rattle.terms.proofs.BoundLaws.{other-receiver, not-satisfied, other-member, by-arguments}
+use Rattle.terms.proofs.Laws.Held.HeldLaws.{held-first, items-some}
+use Rattle.terms.proofs.Laws.Held.NominalLaws.{called, projected, not-projected, receiver-held, interface-laid, called-words}
+use Rattle.terms.proofs.Laws.Asking.BoundLaws.{other-receiver, not-satisfied, other-member, by-arguments}
 use borrow.Author.Needs.{needs}
 use Rattle.terms.proofs.satisfy.is_reflexive.Statement.{statement}
 use Rattle.terms.proofs.satisfy.is_reflexive.Tie as tie

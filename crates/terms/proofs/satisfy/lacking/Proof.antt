@@ -1,13 +1,13 @@
--- `lacking`. The loop's invariant: what is left passes as the whole does, for every test that passes what is given. Assumes nothing.
+-- `lacking`. The loop's invariant: what is left passes as the whole does, for every test that passes what is given.
 use native.Mathlib.Omega.{arith}
 use mathlib.Core.Bool.{Bool}
 use mathlib.Core.List.{List}
 use Prim.Native.Nat.{ℕ, _+_, _≤_}
 use lib.ListN.{length}
 use Rattle.terms.specs.Term.{Term, Parts}
-use Rattle.terms.specs.Views.{every}
-use Rattle.terms.specs.Satisfying.{Listed, Passes, Pairs}
-use Rattle.terms.proofs.BoundLaws.{next-pair, pair-inside, given-next, not-given, every-over}
+use Rattle.terms.specs.Comparison.{every}
+use Rattle.terms.specs.Words.SatisfyContract.{Listed, Passes, Pairs}
+use Rattle.terms.proofs.Laws.Asking.BoundLaws.{next-pair, pair-inside, given-next, not-given, every-over}
 use borrow.Author.Needs.{needs}
 use Rattle.terms.proofs.satisfy.lacking.Statement.{statement}
 use Rattle.terms.proofs.satisfy.lacking.Tie as tie

@@ -1,12 +1,12 @@
--- `member_at`. The loop's invariant: in what is left of the pairs the member is found as in the whole. Assumes nothing.
+-- `member_at`. The loop's invariant: in what is left of the pairs the member is found as in the whole.
 use native.Mathlib.Omega.{arith}
 use mathlib.Core.Option.{Option}
 use Prim.Native.Nat.{ℕ, _+_, _≤_}
 use lib.ListN.{length}
 use Rattle.terms.specs.Term.{Term, Parts}
 use Rattle.terms.specs.Tree.{lookUp}
-use Rattle.terms.specs.Satisfying.{Pairs}
-use Rattle.terms.proofs.BoundLaws.{next-pair, pair-inside, look-found, look-next, look-none}
+use Rattle.terms.specs.Words.SatisfyContract.{Pairs}
+use Rattle.terms.proofs.Laws.Asking.BoundLaws.{next-pair, pair-inside, look-found, look-next, look-none}
 use borrow.Author.Needs.{needs}
 use Rattle.terms.proofs.satisfy.member_at.Statement.{statement}
 use Rattle.terms.proofs.satisfy.member_at.Tie as tie

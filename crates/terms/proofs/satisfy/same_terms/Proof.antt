@@ -1,11 +1,11 @@
--- `same_terms`. The loop's invariant: what is left of the lists is the same as the whole lists are. Assumes nothing.
+-- `same_terms`. The loop's invariant: what is left of the lists is the same as the whole lists are.
 use native.Mathlib.Omega.{arith}
 use mathlib.Core.Bool.{Bool}
 use Prim.Native.Nat.{ℕ, _≤_}
 use lib.ListN.{length}
 use Rattle.terms.specs.Term.{Parts}
-use Rattle.terms.specs.Satisfying.{Lists}
-use Rattle.terms.proofs.BoundLaws.{next-arguments, arguments-over, argument-left, argument-right, arguments-differ, arguments-next}
+use Rattle.terms.specs.Words.SatisfyContract.{Lists}
+use Rattle.terms.proofs.Laws.Asking.BoundLaws.{next-arguments, arguments-over, argument-left, argument-right, arguments-differ, arguments-next}
 use borrow.Author.Needs.{needs}
 use Rattle.terms.proofs.satisfy.same_terms.Statement.{statement}
 use Rattle.terms.proofs.satisfy.same_terms.Tie as tie

@@ -1,6 +1,6 @@
--- `satisfies`: the rows behind the heads. Assumes nothing.
+-- `satisfies`: the rows after the heads.
 use mathlib.Core.Path.{sym}
-use Rattle.terms.proofs.NominalLaws.{laid-bare}
+use Rattle.terms.proofs.Laws.Held.NominalLaws.{laid-bare}
 use borrow.Author.Needs.{needs}
 use Rattle.terms.proofs.satisfy.satisfies.Statement.{statement}
 use Rattle.terms.proofs.satisfy.satisfies.Tie as tie

@@ -1,10 +1,10 @@
--- `satisfies_for`: the declarations and the arguments, and then the members. Assumes nothing.
+-- `satisfies_for`: the declarations and the arguments, and then the members.
 use native.Mathlib.Omega.{arith}
 use mathlib.Core.Path.{sym, _∙_}
 use Rattle.terms.specs.Tree.{nominalOf}
-use Rattle.terms.specs.Satisfying.{covers}
-use Rattle.terms.proofs.NominalLaws.{laid-bare}
-use Rattle.terms.proofs.BoundLaws.{listed-pairs, bounded-apart, bounded-members}
+use Rattle.terms.specs.Words.SatisfyContract.{covers}
+use Rattle.terms.proofs.Laws.Held.NominalLaws.{laid-bare}
+use Rattle.terms.proofs.Laws.Asking.BoundLaws.{listed-pairs, bounded-apart, bounded-members}
 use borrow.Author.Needs.{needs}
 use Rattle.terms.proofs.satisfy.satisfies_for.Statement.{statement}
 use Rattle.terms.proofs.satisfy.satisfies_for.Tie as tie

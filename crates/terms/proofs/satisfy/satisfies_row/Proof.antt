@@ -1,8 +1,8 @@
--- `satisfies_row`: the declarations and the arguments, and then the members. Assumes nothing.
+-- `satisfies_row`: the declarations and the arguments, and then the members.
 use native.Mathlib.Omega.{arith}
 use mathlib.Core.Path.{_∙_}
-use Rattle.terms.specs.Views.{has}
-use Rattle.terms.proofs.BoundLaws.{listed-pairs, bounded-apart, passes-has, satisfied-all, satisfied-lacking}
+use Rattle.terms.specs.Comparison.{has}
+use Rattle.terms.proofs.Laws.Asking.BoundLaws.{listed-pairs, bounded-apart, passes-has, satisfied-all, satisfied-lacking}
 use borrow.Author.Needs.{needs}
 use Rattle.terms.proofs.satisfy.satisfies_row.Statement.{statement}
 use Rattle.terms.proofs.satisfy.satisfies_row.Tie as tie

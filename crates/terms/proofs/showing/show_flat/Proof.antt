@@ -1,9 +1,9 @@
--- `show_flat`. By its tests. Assumes nothing.
+-- `show_flat`. By its tests.
 use native.Mathlib.Omega.{arith}
 use denote.Ref.{now}
-use Rattle.terms.specs.Writing.{spelt}
-use Rattle.terms.proofs.ShowLaws.{bytes-full, bytes-written, bytes-sized}
-use Rattle.terms.proofs.WriteLaws.{spelt-short}
+use Rattle.terms.specs.Words.TokenBytes.{spelt}
+use Rattle.terms.proofs.Laws.Normalising.ShowLaws.{bytes-full, bytes-written, bytes-sized}
+use Rattle.terms.proofs.Laws.Format.WriteLaws.{spelt-short}
 use borrow.Author.Needs.{needs}
 use Rattle.terms.proofs.showing.show_flat.Statement.{statement}
 use Rattle.terms.proofs.showing.show_flat.Tie as tie

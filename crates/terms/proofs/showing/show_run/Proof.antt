@@ -1,11 +1,11 @@
--- `show_run`. Lent tokens by `show_flat`; for others, invariant: the tokens from q on are left. Assumes nothing.
+-- `show_run`. Lent tokens by `show_flat`; for others, invariant: the tokens from q on are left.
 use Prim.Native.Nat.{_-_}
 use mathlib.Core.Path.{_∙_}
 use native.Mathlib.Omega.{arith}
 use denote.Ref.{now}
-use Rattle.terms.specs.View.{view}
-use Rattle.terms.proofs.ShowLaws.{Running, running-start, running-next, running-full, running-done}
-use Rattle.terms.proofs.ViewLaws.{view-spelt}
+use Rattle.terms.specs.Words.VirtualTokens.{view}
+use Rattle.terms.proofs.Laws.Normalising.ShowLaws.{Running, running-start, running-next, running-full, running-done}
+use Rattle.terms.proofs.Laws.Normalising.VirtualTokenLaws.{view-spelt}
 use Rattle.terms.proofs.showing.show_run.Statement.{statement}
 use Rattle.terms.proofs.showing.show_run.Tie as tie
 

@@ -1,8 +1,8 @@
--- `show_token`. By its tests. Assumes nothing.
+-- `show_token`. By its tests.
 use native.Mathlib.Omega.{arith}
 use denote.Ref.{now}
-use Rattle.terms.specs.Writing.{plain}
-use Rattle.terms.proofs.ShowLaws.{bytes-full, bytes-written, bytes-sized}
+use Rattle.terms.specs.Words.TokenBytes.{plain}
+use Rattle.terms.proofs.Laws.Normalising.ShowLaws.{bytes-full, bytes-written, bytes-sized}
 use borrow.Author.Needs.{needs}
 use Rattle.terms.proofs.showing.show_token.Statement.{statement}
 use Rattle.terms.proofs.showing.show_token.Tie as tie

@@ -1,6 +1,6 @@
--- `class_of`. By the ranges of the tag. Assumes nothing.
+-- `class_of`. By the ranges of the tag.
 use native.Mathlib.Omega.{arith}
-use Rattle.terms.proofs.SlotLaws.{class-projection, class-low, class-high, class-nominal}
+use Rattle.terms.proofs.Laws.Normalising.SlotLaws.{class-projection, class-low, class-high, class-nominal}
 use Rattle.terms.proofs.slots.class_of.Statement.{statement}
 use Rattle.terms.proofs.slots.class_of.Tie as tie
 

@@ -1,7 +1,7 @@
--- `nominal_slot`. By cases. Assumes nothing.
+-- `nominal_slot`. By cases.
 use native.Mathlib.Omega.{arith}
 use borrow.Author.Needs.{needs}
-use Rattle.terms.proofs.SlotLaws.{nominal-member, nominal-argument}
+use Rattle.terms.proofs.Laws.Normalising.SlotLaws.{nominal-member, nominal-argument}
 use Rattle.terms.proofs.slots.nominal_slot.Statement.{statement}
 use Rattle.terms.proofs.slots.nominal_slot.Tie as tie
 

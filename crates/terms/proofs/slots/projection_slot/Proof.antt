@@ -1,7 +1,7 @@
--- `projection_slot`. By cases. Assumes nothing.
+-- `projection_slot`. By cases.
 use native.Mathlib.Omega.{arith}
 use borrow.Author.Needs.{needs}
-use Rattle.terms.proofs.SlotLaws.{projection-argument, projection-receiver, projection-member, projection-interface}
+use Rattle.terms.proofs.Laws.Normalising.SlotLaws.{projection-argument, projection-receiver, projection-member, projection-interface}
 use Rattle.terms.proofs.slots.projection_slot.Statement.{statement}
 use Rattle.terms.proofs.slots.projection_slot.Tie as tie
 

@@ -1,8 +1,8 @@
--- `slot`. By the class. Assumes nothing.
+-- `slot`. By the class.
 use mathlib.Core.Path.{sym, _∙_}
 use native.Mathlib.Omega.{arith}
 use borrow.Author.Needs.{needs}
-use Rattle.terms.proofs.SlotLaws.{slot-zero, slot-one, slot-two}
+use Rattle.terms.proofs.Laws.Normalising.SlotLaws.{slot-zero, slot-one, slot-two}
 use Rattle.terms.proofs.slots.slot.Statement.{statement}
 use Rattle.terms.proofs.slots.slot.Tie as tie
 

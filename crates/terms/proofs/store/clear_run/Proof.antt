@@ -1,8 +1,8 @@
--- `clear_run`. The loop's invariant: the words still to clear, cleared, give what is asked. Assumes nothing.
+-- `clear_run`. The loop's invariant: the words still to clear, cleared, give what is asked.
 use mathlib.Core.Logic.{⊎-elim, inl, inr}
 use Prim.Native.Nat.{_-_}
 use native.Mathlib.Omega.{arith}
-use Rattle.terms.proofs.StoreLaws.{Clearing, clearing-start, clearing-more, clearing-done}
+use Rattle.terms.proofs.Laws.Format.StoreLaws.{Clearing, clearing-start, clearing-more, clearing-done}
 use borrow.Author.Needs.{needs}
 use Rattle.terms.proofs.store.clear_run.Statement.{statement}
 use Rattle.terms.proofs.store.clear_run.Tie as tie

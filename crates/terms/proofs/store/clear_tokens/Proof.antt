@@ -1,5 +1,5 @@
--- `clear_tokens`: the words of both areas cleared. Assumes nothing.
-use Rattle.terms.proofs.StoreLaws.{blank-areas}
+-- `clear_tokens`: the words of both areas cleared.
+use Rattle.terms.proofs.Laws.Format.StoreLaws.{blank-areas}
 use borrow.Author.Needs.{needs}
 use Rattle.terms.proofs.store.clear_tokens.Statement.{statement}
 use Rattle.terms.proofs.store.clear_tokens.Tie as tie

@@ -1,10 +1,10 @@
--- `number_at`: by the cases of `rising`. Assumes nothing.
+-- `number_at`: by the cases of `rising`.
 use mathlib.Core.Path.{_≡_, sym}
 use native.Mathlib.Omega.{arith}
 use denote.Ref.{now}
 use Rattle.terms.specs.Parser.{got, number}
-use Rattle.terms.proofs.Bounds.{number-bounds}
-use Rattle.terms.proofs.FieldLaws.{rising-refused, rising-low, rising-got}
+use Rattle.terms.proofs.Laws.Numbers.NumberBoundLaws.{number-bounds}
+use Rattle.terms.proofs.Laws.Format.FieldLaws.{rising-refused, rising-low, rising-got}
 use borrow.Author.Needs.{needs}
 use Rattle.terms.proofs.values.number_at.Statement.{statement}
 use Rattle.terms.proofs.values.number_at.Tie as tie

@@ -1,13 +1,13 @@
--- `read_code`: a code, and a token for it. Assumes nothing.
+-- `read_code`: a code, and a token for it.
 use denote.Ref.{now}
 use borrow.Author.Needs.{needs}
 use native.Mathlib.Omega.{arith}
-use Rattle.terms.specs.Tokens.{area}
-use Rattle.terms.specs.Lent.{place}
+use Rattle.terms.specs.Words.Tokens.{area}
+use Rattle.terms.specs.Words.StepCodes.{place}
 use Rattle.terms.specs.declared.NumberRead.the-variants.{Value}
-use Rattle.terms.specs.Done.{Within}
-use Rattle.terms.proofs.LentLaws.{stops, code-some}
-use Rattle.terms.proofs.ValueLaws.{coded-none, coded-yes, coded-no}
+use Rattle.terms.specs.Words.ReadContract.{Within}
+use Rattle.terms.proofs.Laws.Format.StepCodeLaws.{stops, code-some}
+use Rattle.terms.proofs.Laws.Format.ValueLaws.{coded-none, coded-yes, coded-no}
 use Rattle.terms.proofs.values.read_code.Statement.{statement}
 use Rattle.terms.proofs.values.read_code.Tie as tie
 

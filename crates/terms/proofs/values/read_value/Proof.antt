@@ -1,14 +1,14 @@
--- `read_value`: a number, and a token for it. Assumes nothing.
+-- `read_value`: a number, and a token for it.
 use denote.Ref.{now}
 use borrow.Author.Needs.{needs}
 use native.Mathlib.Omega.{arith}
-use Rattle.terms.specs.Tokens.{area}
-use Rattle.terms.specs.Lent.{place}
+use Rattle.terms.specs.Words.Tokens.{area}
+use Rattle.terms.specs.Words.StepCodes.{place}
 use mathlib.Core.Path.{refl, sym}
 use Rattle.terms.specs.declared.NumberRead.the-variants.{Value}
-use Rattle.terms.specs.Done.{Within}
-use Rattle.terms.proofs.LentLaws.{unvalued, rising-some}
-use Rattle.terms.proofs.ValueLaws.{value-yes}
+use Rattle.terms.specs.Words.ReadContract.{Within}
+use Rattle.terms.proofs.Laws.Format.StepCodeLaws.{unvalued, rising-some}
+use Rattle.terms.proofs.Laws.Format.ValueLaws.{value-yes}
 use Rattle.terms.proofs.values.read_value.Statement.{statement}
 use Rattle.terms.proofs.values.read_value.Tie as tie
 

@@ -1,5 +1,5 @@
--- `first_of_node`. Assumes nothing.
-use Rattle.terms.proofs.FixedLaws.{node-number, node-other}
+-- `first_of_node`.
+use Rattle.terms.proofs.Laws.Normalising.FixedLaws.{node-number, node-other}
 use Rattle.terms.proofs.walking.first_of_node.Statement.{statement}
 use Rattle.terms.proofs.walking.first_of_node.Tie as tie
 

@@ -1,10 +1,10 @@
--- `fixed_len`. Assumes nothing.
+-- `fixed_len`.
 use Prim.Native.Nat.{_-_, _+_, _≤_, _<_}
 use native.Mathlib.Omega.{arith}
 use denote.Ref.{now}
 use mathlib.Core.Path.{_≡_, refl, sym, ap, _∙_}
 use lib.ListN.{length}
-use Rattle.terms.proofs.SumLaws.{lent-room, lent-few, lent-bytes}
+use Rattle.terms.proofs.Laws.Normalising.SumLaws.{lent-room, lent-few, lent-bytes}
 use borrow.Author.Needs.{needs}
 use Rattle.terms.proofs.walking.fixed_len.Statement.{statement}
 use Rattle.terms.proofs.walking.fixed_len.Tie as tie

@@ -1,10 +1,10 @@
--- `fixed_nodes`. Invariant: the nodes before q are counted, none of them a projection. Assumes nothing.
+-- `fixed_nodes`. Invariant: the nodes before q are counted, none of them a projection.
 use mathlib.Core.Path.{_≡_, refl, sym, _∙_}
 use Prim.Native.Nat.{_-_, _+_, _≤_, _<_}
 use native.Mathlib.Omega.{arith}
 use denote.Ref.{now}
 use borrow.Author.Needs.{needs}
-use Rattle.terms.proofs.FixedLaws.{Counting, counting-start, counting-done, counting-next, first-few, lent-span}
+use Rattle.terms.proofs.Laws.Normalising.FixedLaws.{Counting, counting-start, counting-done, counting-next, first-few, lent-span}
 use Rattle.terms.proofs.walking.fixed_nodes.Statement.{statement}
 use Rattle.terms.proofs.walking.fixed_nodes.Tie as tie
 

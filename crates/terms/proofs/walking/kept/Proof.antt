@@ -1,4 +1,4 @@
--- `kept`. Assumes nothing.
+-- `kept`.
 use mathlib.Core.Path.{_≡_, refl}
 use Prim.Native.Nat.{_+_, _-_, _≤_, _<_}
 use native.Mathlib.Omega.{arith}

@@ -1,15 +1,15 @@
--- `replace`. The own member, then what is looked up. Assumes nothing.
+-- `replace`. The own member, then what is looked up.
 use mathlib.Core.Path.{_≡_, sym}
 use mathlib.Core.Option.{Option}
 use native.Mathlib.Omega.{arith}
 use denote.Ref.{now}
 use Rattle.terms.specs.Term.{Term}
 use Rattle.terms.specs.Tree.{row}
-use Rattle.terms.specs.View.{view}
+use Rattle.terms.specs.Words.VirtualTokens.{view}
 use Rattle.terms.specs.Lookup.{lookBy}
-use Rattle.terms.specs.Arena.{Fetched}
-use Rattle.terms.proofs.AlikeLaws.{depth-row}
-use Rattle.terms.proofs.MemberLaws.{replace-own, replace-look, looked-rules, looked-through}
+use Rattle.terms.specs.Words.Arena.{Fetched}
+use Rattle.terms.proofs.Laws.Normalising.AlikeLaws.{depth-row}
+use Rattle.terms.proofs.Laws.Normalising.MemberLaws.{replace-own, replace-look, looked-rules, looked-through}
 use borrow.Author.Needs.{needs}
 use Rattle.terms.proofs.walking.replace.Statement.{statement}
 use Rattle.terms.proofs.walking.replace.Tie as tie

@@ -1,10 +1,10 @@
--- `put_run`: sized, and written where it fits; not sized where so many of the longest tokens would fit. Assumes nothing.
+-- `put_run`: sized, and written where it fits; not sized where so many of the longest tokens would fit.
 use native.Mathlib.Omega.{arith}
 use denote.Ref.{now}
-use Rattle.terms.specs.Writing.{spelt}
+use Rattle.terms.specs.Words.TokenBytes.{spelt}
 use mathlib.Core.Path.{refl, _∙_}
-use Rattle.terms.proofs.RecoverLaws.{put-fits, put-long}
-use Rattle.terms.proofs.WriteLaws.{spelt-short}
+use Rattle.terms.proofs.Laws.Replacing.RecoverLaws.{put-fits, put-long}
+use Rattle.terms.proofs.Laws.Format.WriteLaws.{spelt-short}
 use borrow.Author.Needs.{needs}
 use Rattle.terms.proofs.write.put_run.Statement.{statement}
 use Rattle.terms.proofs.write.put_run.Tie as tie

@@ -1,12 +1,12 @@
--- `run_len`. Invariant: the bytes counted and those of the tokens from p on are all. Assumes nothing.
+-- `run_len`. Invariant: the bytes counted and those of the tokens from p on are all.
 use denote.Ref.{now}
 use mathlib.Core.Path.{_≡_, refl, ap}
 use Prim.Native.Nat.{_+_, _-_, _≤_}
 use native.Mathlib.Omega.{arith}
 use lib.ListN.{length}
-use Rattle.terms.specs.Tokens.{spell}
-use Rattle.terms.specs.Writing.{plain}
-use Rattle.terms.proofs.WriteLaws.{spell-none, spell-whole, length-step, spelt-short}
+use Rattle.terms.specs.Words.Tokens.{spell}
+use Rattle.terms.specs.Words.TokenBytes.{plain}
+use Rattle.terms.proofs.Laws.Format.WriteLaws.{spell-none, spell-whole, length-step, spelt-short}
 use Rattle.terms.proofs.write.run_len.Statement.{statement}
 use Rattle.terms.proofs.write.run_len.Tie as tie
 

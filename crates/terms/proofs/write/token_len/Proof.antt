@@ -1,8 +1,8 @@
--- `token_len`. By the token's kind. Assumes nothing.
+-- `token_len`. By the token's kind.
 use native.Mathlib.Omega.{arith}
 use borrow.Author.Needs.{needs}
-use Rattle.terms.proofs.WriteLaws.{plain-number, plain-var, plain-head}
-use Rattle.terms.proofs.WriteLaws.{short-word}
+use Rattle.terms.proofs.Laws.Format.WriteLaws.{plain-number, plain-var, plain-head}
+use Rattle.terms.proofs.Laws.Format.WriteLaws.{short-word}
 use Rattle.terms.proofs.write.token_len.Statement.{statement}
 use Rattle.terms.proofs.write.token_len.Tie as tie
 

@@ -1,12 +1,12 @@
--- `write_run`. Invariant: writing what the tokens from p on write at i gives what was to be written (`Left`). Assumes nothing.
+-- `write_run`. Invariant: writing what the tokens from p on write at i gives what was to be written (`Left`).
 use lib.ListN.{getD}
 use native.Mathlib.Omega.{arith}
 use Prim.Native.Nat.{_+_, _-_, _≤_}
 use mathlib.Core.Path.{_≡_, refl}
 use denote.Ref.{now}
-use Rattle.terms.specs.Tokens.{spell}
-use Rattle.terms.specs.Writing.{plain}
-use Rattle.terms.proofs.WriteLaws.{Left, start, advance, written, spell-step, spell-none, spell-whole, length-step}
+use Rattle.terms.specs.Words.Tokens.{spell}
+use Rattle.terms.specs.Words.TokenBytes.{plain}
+use Rattle.terms.proofs.Laws.Format.WriteLaws.{Left, start, advance, written, spell-step, spell-none, spell-whole, length-step}
 use Rattle.terms.proofs.write.write_run.Statement.{statement}
 use Rattle.terms.proofs.write.write_run.Tie as tie
 

@@ -1,11 +1,11 @@
--- `write_token`. By the token's kind. Assumes nothing.
+-- `write_token`. By the token's kind.
 use lib.ListN.{length, length-set}
 use native.Mathlib.Omega.{arith}
 use native.Mathlib.Numerals.{add-one}
 use mathlib.Core.Path.{refl, ap, _∙_}
 use denote.Ref.{now}
 use borrow.Author.Needs.{needs}
-use Rattle.terms.proofs.WriteLaws.{plain-number, plain-var, plain-head, plain-some}
+use Rattle.terms.proofs.Laws.Format.WriteLaws.{plain-number, plain-var, plain-head, plain-some}
 use Rattle.terms.proofs.write.write_token.Statement.{statement}
 use Rattle.terms.proofs.write.write_token.Tie as tie
 

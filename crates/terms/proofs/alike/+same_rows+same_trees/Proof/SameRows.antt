@@ -1,9 +1,9 @@
--- `same_rows`. Invariant: the whole begins with the other where what is left does. Assumes nothing.
+-- `same_rows`. Invariant: the whole begins with the other where what is left does.
 use Prim.Native.Nat.{_-_, _+_, _≤_, _<_}
 use mathlib.Core.Path.{_≡_, refl}
 use borrow.Author.Tests.{not-true, not-false}
-use Rattle.terms.specs.View.{view}
-use Rattle.terms.proofs.AlikeLaws.{Meeting, meeting-start, meeting-done, meeting-short, meeting-child, meeting-apart, meeting-number, meeting-other, meeting-differ, meeting-same}
+use Rattle.terms.specs.Words.VirtualTokens.{view}
+use Rattle.terms.proofs.Laws.Normalising.AlikeLaws.{Meeting, meeting-start, meeting-done, meeting-short, meeting-child, meeting-apart, meeting-number, meeting-other, meeting-differ, meeting-same}
 use borrow.Author.Needs.{needs}
 use native.Mathlib.Omega.{arith}
 use Prim.Native.Nat.{ℕ}
@@ -12,8 +12,8 @@ use Rattle.terms.proofs.alike.same_rows.Kinds as kinds
 use Rattle.terms.proofs.alike.same_rows.Reads as same-rows
 use Rattle.terms.proofs.alike.same_trees.Reads as same-trees
 use Rattle.terms.proofs.rows.child_here.Reads as child-here-reads
-use Rattle.terms.proofs.view.step.Reads as step-reads
-use Rattle.terms.proofs.view.token_at.Reads as token-at-reads
+use Rattle.terms.proofs.virtual_tokens.step.Reads as step-reads
+use Rattle.terms.proofs.virtual_tokens.token_at.Reads as token-at-reads
 use Rattle.terms.proofs.alike.+same_rows+same_trees.Proof.Measures.{same-rows-at, same-trees-below}
 
 abbrev Inv-loop : lts.InvT-loop

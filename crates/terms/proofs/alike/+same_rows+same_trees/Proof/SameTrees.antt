@@ -1,9 +1,9 @@
--- `same_trees`. By the first tokens, and then all tokens, or the rows. Assumes nothing.
+-- `same_trees`. By the first tokens, and then all tokens, or the rows.
 use Prim.Native.Nat.{_-_, _+_, _≤_, _<_}
 use mathlib.Core.Path.{_≡_, refl}
 use denote.Ref.{now}
-use Rattle.terms.proofs.AlikeLaws.{alike-none, alike-kinds, alike-vars, lent-true, alike-lent, alike-rows, alike-ends}
-use Rattle.terms.proofs.SourceLaws.{lent-first}
+use Rattle.terms.proofs.Laws.Normalising.AlikeLaws.{alike-none, alike-kinds, alike-vars, lent-true, alike-lent, alike-rows, alike-ends}
+use Rattle.terms.proofs.Laws.Normalising.SourceLaws.{lent-first}
 use borrow.Author.Needs.{needs}
 use native.Mathlib.Omega.{arith}
 use Prim.Native.Nat.{ℕ}
@@ -15,7 +15,7 @@ use Rattle.terms.proofs.alike.cursor.Reads as cursor-reads
 use Rattle.terms.proofs.alike.is_lent.Reads as is-lent-reads
 use Rattle.terms.proofs.runs.same_term.Reads as same-term-reads
 use Rattle.terms.proofs.runs.wide.Reads as wide-reads
-use Rattle.terms.proofs.view.token_at.Reads as token-at-reads
+use Rattle.terms.proofs.virtual_tokens.token_at.Reads as token-at-reads
 use Rattle.terms.proofs.alike.+same_rows+same_trees.Proof.Measures.{same-trees-at, same-rows-below}
 
 module _ (t : ℕ) where

@@ -1,18 +1,18 @@
--- `read_nominal`: declaration, arguments and members, one after another. Assumes nothing.
+-- `read_nominal`: declaration, arguments and members, one after another.
 use denote.Ref.{now}
 use lib.ListN.{length}
 use borrow.Author.Needs.{needs}
 use native.Mathlib.Omega.{arith}
 use mathlib.Core.Path.{_≡_, refl}
 use mathlib.Core.Logic.{⊎-elim}
-use Rattle.terms.specs.Tokens.{area}
-use Rattle.terms.specs.Lent.{place, stepOf}
+use Rattle.terms.specs.Words.Tokens.{area}
+use Rattle.terms.specs.Words.StepCodes.{place, stepOf}
 use Rattle.terms.specs.Reading.{many, pairs, row, term}
 use Rattle.terms.specs.declared.Step.the-variants.{Next, Stopped}
 use Rattle.terms.specs.Shape as shape
-use Rattle.terms.proofs.LentLaws.{stops, unvalued}
-use Rattle.terms.proofs.ReadLaws.{SoFar, so-far-start, so-far-done, kinds-length, vals-length, terms-end, pairs-end, listed-no, listed-yes, number-no, number-yes, number-start, terms-no, terms-next, members-no, members-last}
-use Rattle.terms.proofs.WroteLaws.{room-next}
+use Rattle.terms.proofs.Laws.Format.StepCodeLaws.{stops, unvalued}
+use Rattle.terms.proofs.Laws.Format.ReadLaws.{SoFar, so-far-start, so-far-done, kinds-length, vals-length, terms-end, pairs-end, listed-no, listed-yes, number-no, number-yes, number-start, terms-no, terms-next, members-no, members-last}
+use Rattle.terms.proofs.Laws.Format.ReadSequenceLaws.{room-next}
 use Prim.Native.Nat.{ℕ}
 use Rattle.terms.proofs.read.+read_nominal+read_pairs+read_plain+read_projection+read_row+read_term+read_terms.Lts-read_nominal as lts
 use Rattle.terms.proofs.read.read_nominal.Reads as read-nominal

@@ -1,18 +1,18 @@
--- `read_plain`: fields, and where the row has terms the count, and all terms in one run. Assumes nothing.
+-- `read_plain`: fields, and where the row has terms the count, and all terms in one run.
 use denote.Ref.{now}
 use borrow.Author.Needs.{needs}
 use native.Mathlib.Omega.{arith}
 use mathlib.Core.Path.{_≡_, sym, _∙_}
 use mathlib.Core.Bool.{true}
 use mathlib.Core.Logic.{⊎-elim}
-use Rattle.terms.specs.Tokens.{area}
-use Rattle.terms.specs.Lent.{place, stepOf}
-use Rattle.terms.specs.Pieces.{termless}
+use Rattle.terms.specs.Words.Tokens.{area}
+use Rattle.terms.specs.Words.StepCodes.{place, stepOf}
+use Rattle.terms.specs.Words.RowPieces.{termless}
 use Rattle.terms.specs.Shape.{plain}
 use Rattle.terms.specs.Reading.{many, row, term}
-use Rattle.terms.proofs.LentLaws.{stops, unvalued}
-use Rattle.terms.proofs.ReadLaws.{SoFar, so-far-done, kinds-length, vals-length, plain-no, plain-uncounted, plain-stop, plain-counted, plain-fields}
-use Rattle.terms.proofs.WroteLaws.{room-next}
+use Rattle.terms.proofs.Laws.Format.StepCodeLaws.{stops, unvalued}
+use Rattle.terms.proofs.Laws.Format.ReadLaws.{SoFar, so-far-done, kinds-length, vals-length, plain-no, plain-uncounted, plain-stop, plain-counted, plain-fields}
+use Rattle.terms.proofs.Laws.Format.ReadSequenceLaws.{room-next}
 use Prim.Native.Nat.{ℕ, _+_, _≤_}
 use Rattle.terms.proofs.read.+read_nominal+read_pairs+read_plain+read_projection+read_row+read_term+read_terms.Lts-read_plain as lts
 use Rattle.terms.proofs.read.read_plain.Reads as read-plain

@@ -1,16 +1,16 @@
--- `read_projection`: receiver, interface, member and arguments, one after another. Assumes nothing.
+-- `read_projection`: receiver, interface, member and arguments, one after another.
 use denote.Ref.{now}
 use borrow.Author.Needs.{needs}
 use native.Mathlib.Omega.{arith}
 use mathlib.Core.Path.{refl}
-use Rattle.terms.specs.Tokens.{area}
-use Rattle.terms.specs.Lent.{place, stepOf}
+use Rattle.terms.specs.Words.Tokens.{area}
+use Rattle.terms.specs.Words.StepCodes.{place, stepOf}
 use Rattle.terms.specs.Reading.{term}
 use Rattle.terms.specs.declared.Step.the-variants.{Stopped}
 use Rattle.terms.specs.Shape as shape
-use Rattle.terms.proofs.LentLaws.{stops, unvalued}
-use Rattle.terms.proofs.ReadLaws.{term-no, term-yes, interface-no, interface-yes, number-no, number-yes, listed-no, listed-yes, terms-last}
-use Rattle.terms.proofs.WroteLaws.{room-next}
+use Rattle.terms.proofs.Laws.Format.StepCodeLaws.{stops, unvalued}
+use Rattle.terms.proofs.Laws.Format.ReadLaws.{term-no, term-yes, interface-no, interface-yes, number-no, number-yes, listed-no, listed-yes, terms-last}
+use Rattle.terms.proofs.Laws.Format.ReadSequenceLaws.{room-next}
 use Prim.Native.Nat.{ℕ}
 use Rattle.terms.proofs.read.+read_nominal+read_pairs+read_plain+read_projection+read_row+read_term+read_terms.Lts-read_projection as lts
 use Rattle.terms.proofs.read.read_nominal.Reads as read-nominal

@@ -1,4 +1,4 @@
--- `read_row`: by the kinds of row. Assumes nothing.
+-- `read_row`: by the kinds of row.
 use borrow.Author.Needs.{needs}
 use Prim.Native.Nat.{ℕ}
 use Rattle.terms.proofs.read.+read_nominal+read_pairs+read_plain+read_projection+read_row+read_term+read_terms.Lts-read_row as lts

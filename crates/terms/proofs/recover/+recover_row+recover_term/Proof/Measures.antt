@@ -1,4 +1,4 @@
--- The measures of the cycle: twice the tokens of a term, and one more for a row. Assumes nothing.
+-- The measures of the cycle: twice the tokens of a term, and one more for a row.
 use Prim.Native.Nat.{ℕ, _+_, _-_, _*_, _<_}
 use borrow.Fn.Kinds.{In}
 use borrow.Fn.PlainCycle.{Measures, is, falls, and}

@@ -1,15 +1,15 @@
--- `recover_row`. The loop's invariant is `Recovering`: what was written, and what the rest of the rows gives. Assumes nothing.
+-- `recover_row`. The loop's invariant is `RecoverContract`: what was written, and what the rest of the rows gives.
 use mathlib.Core.Path.{_≡_, refl, sym, _∙_}
 use Prim.Native.Nat.{_+_, _*_, _-_, _≤_}
 use mathlib.Core.List.{[]}
 use lib.ListN.{length}
 use Rattle.terms.specs.Term.{Parts, partBytes, Subs}
-use Rattle.terms.specs.Held.{HeldParts}
+use Rattle.terms.specs.Words.Held.{HeldParts}
 use Rattle.terms.specs.Formed.{Formed}
 use Rattle.terms.specs.Recovery.{recover-row}
-use Rattle.terms.specs.Recovering.{upto}
-use Rattle.terms.proofs.FlatLaws.{held-one}
-use Rattle.terms.proofs.RecoverLaws.{Recovering, put-none, recover-stays, stays-parted, recover-number, both-terms, recover-both, told-row}
+use Rattle.terms.specs.Words.RecoverContract.{upto}
+use Rattle.terms.proofs.Laws.Held.FlatLaws.{held-one}
+use Rattle.terms.proofs.Laws.Replacing.RecoverLaws.{Recovering, put-none, recover-stays, stays-parted, recover-number, both-terms, recover-both, told-row}
 use borrow.Author.Needs.{needs}
 use native.Mathlib.Omega.{arith}
 use Prim.Native.Nat.{ℕ}

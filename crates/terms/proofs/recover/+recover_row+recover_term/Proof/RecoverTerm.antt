@@ -1,17 +1,17 @@
--- `recover_term`: the holes of either term, or the head and the rows. Assumes nothing.
+-- `recover_term`: the holes of either term, or the head and the rows.
 use mathlib.Core.Path.{_≡_, sym, ap, _∙_}
 use mathlib.Core.Bool.{_||_}
 use mathlib.Core.List.{[], _∷_}
 use lib.Dec.{eqb}
 use denote.Ref.{now}
 use Rattle.terms.specs.Term.{bytes, partBytes}
-use Rattle.terms.specs.Writing.{spelt}
+use Rattle.terms.specs.Words.TokenBytes.{spelt}
 use Rattle.terms.specs.Tree.{tag, row}
 use Rattle.terms.specs.Questions.{among}
-use Rattle.terms.specs.Views.{recovery}
+use Rattle.terms.specs.Comparison.{recovery}
 use Rattle.terms.specs.Recovery.{recover-from, recover-row, reach}
-use Rattle.terms.proofs.QuestionLaws.{among-two}
-use Rattle.terms.proofs.RecoverLaws.{put-one, put-then, put-same, tag-told, whole-bytes, stays-first, stays-not, hole-left, entered-term, head-byte, row-any, row-formed}
+use Rattle.terms.proofs.Laws.Asking.QuestionLaws.{among-two}
+use Rattle.terms.proofs.Laws.Replacing.RecoverLaws.{put-one, put-then, put-same, tag-told, whole-bytes, stays-first, stays-not, hole-left, entered-term, head-byte, row-any, row-formed}
 use Prim.Native.Nat.{_-_, _%_}
 use borrow.Author.Needs.{needs}
 use native.Mathlib.Omega.{arith}

@@ -1,7 +1,7 @@
--- `show_row`. Invariant: the parts that are left, and the bytes shown so far. Assumes nothing.
+-- `show_row`. Invariant: the parts that are left, and the bytes shown so far.
 use denote.Ref.{now}
-use Rattle.terms.specs.View.{view}
-use Rattle.terms.proofs.ShowLaws.{RowShowing, row-start, row-full, row-done, row-number, row-child}
+use Rattle.terms.specs.Words.VirtualTokens.{view}
+use Rattle.terms.proofs.Laws.Normalising.ShowLaws.{RowShowing, row-start, row-full, row-done, row-number, row-child}
 use borrow.Author.Needs.{needs}
 use native.Mathlib.Omega.{arith}
 use Prim.Native.Nat.{ℕ, _-_}
@@ -10,8 +10,8 @@ use Rattle.terms.proofs.showing.show_row.Reads as show-row
 use Rattle.terms.proofs.showing.show_tree.Reads as show-tree
 use Rattle.terms.proofs.rows.child_here.Reads as child-here-reads
 use Rattle.terms.proofs.showing.show_token.Reads as show-token-reads
-use Rattle.terms.proofs.view.step.Reads as step-reads
-use Rattle.terms.proofs.view.token_at.Reads as token-at-reads
+use Rattle.terms.proofs.virtual_tokens.step.Reads as step-reads
+use Rattle.terms.proofs.virtual_tokens.token_at.Reads as token-at-reads
 use Rattle.terms.proofs.showing.+show_row+show_tree.Proof.Measures.{show-row-at, show-tree-below}
 
 abbrev Inv-loop : lts.InvT-loop

@@ -1,13 +1,13 @@
--- `show_tree`. As it stands in the source, or its first token and then its row. Assumes nothing.
+-- `show_tree`. As it stands in the source, or its first token and then its row.
 use mathlib.Core.Path.{sym, ap, _∙_}
 use denote.Ref.{now}
 use lib.ListN.{getD}
-use Rattle.terms.specs.Writing.{plain}
+use Rattle.terms.specs.Words.TokenBytes.{plain}
 use Rattle.terms.specs.Term.{bytes, partBytes}
 use Rattle.terms.specs.Tree.{row}
-use Rattle.terms.specs.View.{view}
-use Rattle.terms.proofs.AlikeLaws.{depth-some, depth-row}
-use Rattle.terms.proofs.ShowLaws.{tree-flat, tree-bytes, shows-first, shows-then, kept-at, kept-then}
+use Rattle.terms.specs.Words.VirtualTokens.{view}
+use Rattle.terms.proofs.Laws.Normalising.AlikeLaws.{depth-some, depth-row}
+use Rattle.terms.proofs.Laws.Normalising.ShowLaws.{tree-flat, tree-bytes, shows-first, shows-then, kept-at, kept-then}
 use borrow.Author.Needs.{needs}
 use native.Mathlib.Omega.{arith}
 use Prim.Native.Nat.{ℕ}
@@ -18,8 +18,8 @@ use Rattle.terms.proofs.alike.cursor.Reads as cursor-reads
 use Rattle.terms.proofs.runs.wide.Reads as wide-reads
 use Rattle.terms.proofs.showing.show_run.Reads as show-run-reads
 use Rattle.terms.proofs.showing.show_token.Reads as show-token-reads
-use Rattle.terms.proofs.view.step.Reads as step-reads
-use Rattle.terms.proofs.view.token_at.Reads as token-at-reads
+use Rattle.terms.proofs.virtual_tokens.step.Reads as step-reads
+use Rattle.terms.proofs.virtual_tokens.token_at.Reads as token-at-reads
 use Rattle.terms.proofs.showing.+show_row+show_tree.Proof.Measures.{show-tree-at, show-row-below}
 
 module _ (t : ℕ) where

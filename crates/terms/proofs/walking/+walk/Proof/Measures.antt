@@ -1,4 +1,4 @@
--- The measure: the levels left and the visits left, which both fall. Assumes nothing.
+-- The measure: the levels left and the visits left, which both fall.
 use Prim.Native.Nat.{ℕ, _+_, _*_, _<_}
 use borrow.Fn.Kinds.{In}
 use borrow.Fn.PlainCycle.{Measures, is, falls, and}

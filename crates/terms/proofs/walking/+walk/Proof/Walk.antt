@@ -1,14 +1,14 @@
--- `walk`. Invariant: j children have been visited, and the arena is filled up to `at`. Assumes nothing.
+-- `walk`. Invariant: j children have been visited, and the arena is filled up to `at`.
 use Prim.Native.Nat.{_-_, _+_, _≤_, _<_}
 use mathlib.Core.Path.{_≡_, refl, sym, ap, _∙_}
 use denote.Ref.{now}
 use lib.ListN.{length, length-set}
-use Rattle.terms.proofs.OpenLaws.{frames-same, frames-wider, frames-then}
-use Rattle.terms.proofs.VisitLaws.{walk-levels, walk-visits, over-start}
-use Rattle.terms.proofs.FixedLaws.{fixed-kept}
+use Rattle.terms.proofs.Laws.Normalising.OpenLaws.{frames-same, frames-wider, frames-then}
+use Rattle.terms.proofs.Laws.Normalising.VisitLaws.{walk-levels, walk-visits, over-start}
+use Rattle.terms.proofs.Laws.Normalising.FixedLaws.{fixed-kept}
 use Rattle.terms.specs.Lookup.{lookBy}
-use Rattle.terms.proofs.MemberLaws.{replace-other}
-use Rattle.terms.proofs.WalkLaws.{add-sizes, finds, Walking, order-of, walking-start, walking-next, walking-over, walks-kept, walks-itself, walks-followed, walks-failed, walks-stopped}
+use Rattle.terms.proofs.Laws.Normalising.MemberLaws.{replace-other}
+use Rattle.terms.proofs.Laws.Normalising.WalkLaws.{add-sizes, finds, Walking, order-of, walking-start, walking-next, walking-over, walks-kept, walks-itself, walks-followed, walks-failed, walks-stopped}
 use borrow.Author.Needs.{needs}
 use native.Mathlib.Omega.{arith}
 use Prim.Native.Nat.{ℕ}

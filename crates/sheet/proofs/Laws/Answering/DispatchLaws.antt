@@ -1,0 +1,536 @@
+-- An order answered in the areas: from the session and what was read to what each function asks, and back to the areas.
+use mathlib.Core.Path.{_≡_, refl, sym, ap, subst, _∙_}
+use mathlib.Core.Bool.{Bool, true, false}
+use mathlib.Core.List.{List, [], _∷_, _++_, append-nil}
+use mathlib.Core.Logic.{inl, inr, ⊎-elim}
+use mathlib.Core.Option.{Option, none, some}
+use Prim.Native.Nat.{ℕ, _+_, _-_, _*_, _≤_, _<_}
+use native.Mathlib.Decide.{decLt}
+use native.Mathlib.Omega.{arith}
+use borrow.Author.Tests.{le-ltb}
+use lib.Dec.{eqb, ltb}
+use lib.ListN.{length, length-append, length-drop, getD, take, drop, take-append-drop, List·getD-eq-default}
+use lib.Seq.{length-take-le, getD-take, take-take}
+use Rattle.solver.specs.Terms.Result.{Result, refused}
+use Rattle.solver.specs.Terms.Tokens.{Item, Area, area, blank, toks}
+use Rattle.solver.specs.Terms.Term.{Term, items, size, Held, AllVars, sub, end}
+use Rattle.solver.specs.Terms.Held.{HeldParts}
+use Rattle.solver.specs.Terms.Normal.{most}
+use Rattle.solver.specs.Terms.NormalContract.{Lends}
+use Rattle.solver.proofs.Terms.HeldLaws.{held-sub}
+use Rattle.solver.proofs.Terms.VirtualTokenLaws.{toks-same}
+use Rattle.solver.specs.declared.Solver.{Solver}
+use Rattle.solver.specs.Shapes.{loose}
+use Rattle.solver.specs.Session.{Limits, Session, issued}
+use Rattle.solver.specs.Orders as orders
+use Rattle.solver.specs.Orders.{Command, order}
+use Rattle.solver.specs.Words.Worklist.{Zero}
+use Rattle.solver.specs.Words.ConstrainContract.{Scratch, pendingFrom}
+use Rattle.solver.specs.Words.SessionRepresentation.{Reachable, Represents, limitsOf}
+use Rattle.solver.proofs.Laws.Definition.SolverInvariantLaws.{within-known}
+use Rattle.sheet.specs.declared.Order.{Order}
+use Rattle.sheet.specs.Fields.{Field, value, tree, allNodes, nodes, nth, termOf, numberOf, numberAt}
+use Rattle.sheet.specs.OrderTable as rows
+use Rattle.sheet.specs.OrderTable.{Answer, refusal, Act, Row, sessionOrders, rowIn, layout, commandBy, commandOf, Read}
+use Rattle.sheet.specs.Operations.{operations, operation}
+use Rattle.sheet.specs.Sheet.{table, readOrder, Step, solve, perform, step, stepRead, orderOf, framed}
+use Rattle.sheet.specs.declared.FieldSpot.{FieldSpot}
+use Rattle.sheet.specs.Words.FieldsHeld.{HeldField}
+use Rattle.sheet.specs.Words.FieldsFormed.{FormedField, FormedFields}
+use Rattle.sheet.specs.Words.OrderGiven.{FitsLayout}
+use Rattle.sheet.specs.Words.FieldLayout.{numeric, isOperation, SpotOf, fieldItems, allItems, spare, spares, spotAt, startAt}
+use Rattle.sheet.specs.Words.OrderReaderContract.{RulesRoom, OrderRoom}
+use Rattle.sheet.specs.Words.FramingContract.{Framed}
+use Rattle.sheet.specs.Words.OperationsContract.{Among, numbersOf, Asks, Replies}
+use Rattle.sheet.specs.Words.SessionInAreas.{Areas, areas, Output, RepresentsInAreas, Answers}
+use Rattle.sheet.specs.Entry.{AreasReady}
+use Rattle.solver.specs.Words.OrderTerms.{Behind, Poses, PosesPair}
+use Rattle.sheet.specs.Words.SessionOrdersContract.{Does, toldElse, toldBy, plainCommand, DoesPair}
+use Rattle.sheet.specs.Words.DispatchContract.{OrderTaken, Serves, Answered}
+use Rattle.sheet.proofs.Laws.Reading.StoredLaws.{zero-free, free-kinds, free-vals}
+use Rattle.sheet.proofs.Laws.Reading.OrderTableLaws.{Plainly, plain-act, plain-among, operations-among, session-row}
+use Rattle.sheet.proofs.Laws.Answering.SessionRowLaws.{Made, MadeBy, row-made, crowds, numbers-are, numbers-none, one-term, two-terms, second-code}
+use Rattle.sheet.proofs.Laws.Reading.ReadOrderUseLaws as use-laws
+use Rattle.sheet.proofs.Laws.Reading.ReadOrderUseLaws.{order-long, nth-formed}
+use Rattle.sheet.proofs.Laws.Answering.SessionOrderLaws.{loose-codes}
+use Rattle.sheet.proofs.Laws.Answering.TermOrderLaws as posing
+use Rattle.sheet.proofs.Laws.Answering.OperationStepLaws.{operation-step}
+use Rattle.sheet.proofs.Laws.Answering.SessionInAreasLaws.{ready-half, solve-kept, answers-does, answers-pair, unanswered-pair}
+
+-- ---- room to read
+
+pub ready-room : (x : Solver) (half : ℕ) (s a b c d ws : List ℕ) → AreasReady x half (areas a b c d) → length s ≤ 16777216 → (getD s 0 0 ≡ 20 → RulesRoom s ws 2048)
+    → OrderRoom s a b ws (x .top) (x .kept) (x .nodes)
+ready-room x half s a b c d ws R h w =
+    let Y = R .roomy in
+    let L = R .inAreas in
+    record {
+      bytes = h;
+      within = omega (arith, L .represents .fits .nodes, L .represents .kept);
+      tokens = omega (arith, Y .tokens, L .few, L .represents .fits .nodes, L .represents .kept);
+      paired = Y .b-size;
+      words = λ e. ⊎-elim (λ v. inl (omega (arith, Y .rules))) inr (w e);
+      short = omega (arith, Y .few);
+      few = omega (arith, Y .rules);
+      free = zero-free (x .top) (area a b) (L .kinds) (L .vals);
+    }
+
+-- an order may have rules where its first byte is 20
+pub no-rules : (s : List ℕ) → length s ≡ 0 → false ≡ eqb (getD s 0 0) 20
+no-rules [] h = refl
+no-rules (x ∷ s) h = absurd (omega arith)
+
+pub rules-never : {A : Type 0} (s : List ℕ) (r : Bool) → r ≡ eqb (getD s 0 0) 20 → r ≡ false → getD s 0 0 ≡ 20 → A
+rules-never s r e f h = let z : true ≡ false = sym (ap (λ (n : ℕ). eqb n 20) h) ∙ sym e ∙ f in let i : _≡_ {A = ℕ} 0 1 = cc in absurd (omega arith)
+
+-- few rules: the byte that begins their count, where there is one, is below 64
+pub few-short : (s : List ℕ) → length s < 2 → true ≡ ltb (getD s 1 0) 64
+few-short s h = let z : getD s 1 0 ≡ 0 = List·getD-eq-default s 0 (omega arith) in rw z
+
+-- ---- answers
+
+-- in areas that are the same
+answers-at : {x y : Solver} {half : ℕ} {a b a₀ b₀ c d : List ℕ} {z : Session} {st : Step} {w v : Output} → area a b ≡ area a₀ b₀
+    → Answers y half (areas a₀ b₀ c d) z st w v x → Answers y half (areas a b c d) z st w v x
+answers-at {x = x} {y = y} {half = half} {c = c} {d = d} {z = z} {st = st} {w = w} {v = v} e A =
+    subst (λ (u : Area). Answers y half (areas (u .kinds) (u .vals) c d) z st w v x) (sym e) A
+
+-- that leave the session as it was
+answers-same : {x : Solver} {half : ℕ} {m : Areas} {z : Session} → RepresentsInAreas x half m z → (answer : Answer) (w v : Output) → Framed answer (w .bytes) (w .at) (v .bytes) (v .at)
+    → Answers x half m z (record { session = z; answer = answer }) w v x
+answers-same Z answer w v F =
+    record {
+      fits = λ k. (F .fits k .0, F .fits k .1, Z);
+      long = λ k. (F .over k .0, F .over k .1, Z);
+      variables = refl;
+      nodes = refl;
+    }
+
+-- the step is another name for one that is answered
+step-as : {x y : Solver} {half : ℕ} {m : Areas} {z : Session} {st st′ : Step} {w v : Output} → st ≡ st′ → Answers y half m z st′ w v x → Answers y half m z st w v x
+step-as {x = x} {y = y} {half = half} {m = m} {z = z} {w = w} {v = v} e A = subst (λ (u : Step). Answers y half m z u w v x) (sym e) A
+
+-- reading refused
+pub serves-refused : (x : Solver) (half : ℕ) (s : List ℕ) (m : Areas) (a b : List ℕ) (code : ℕ) → readOrder s (x .issued) ≡ refused code → area a b ≡ area (m .a) (m .b)
+    → (w v : Output) → Framed (refusal code) (w .bytes) (w .at) (v .bytes) (v .at) → Serves x x half s m (areas a b (m .c) (m .d)) w v
+serves-refused x half s m a b code e E w v F z A Z =
+    let st : orderOf (limitsOf x) z s ≡ record { session = z; answer = refusal code } =
+    ap (λ (q : Result Read). stepRead (limitsOf x) z q) (ap (λ (n : ℕ). readOrder s n) (sym (Z .represents .issued)) ∙ e)
+    in
+    answers-at E (step-as st (answers-same Z (refusal code) w v F))
+
+-- ---- orders of numbers alone
+
+-- such an order tells the command that its number and its first two numbers name
+plainly : (k : ℕ) (r : Row) → rowIn table k ≡ some r → Plainly k → (lim : Limits) (z : Session) (fs : List Field) → step lim z r fs ≡ solve lim z (plainCommand k (numberAt 0 fs) (numberAt 1 fs))
+unfolding step plainCommand commandOf
+plainly k r e h lim z fs =
+    let t = plain-act k r e h in
+    let f = t .0 in
+    let m : Made (layout r) f = subst (λ (a : Act). MadeBy (layout r) a) (t .1) (row-made k r e) in
+    let two : List Field = value (numberAt 0 fs) ∷ value (numberAt 1 fs) ∷ [] in
+    let c : toldBy (rowIn sessionOrders k) two ≡ f two =
+    ap (λ (o : Option Row). toldBy o two) (session-row k r f e (t .1)) ∙ ap (λ (a : Act). toldElse (commandBy a two)) (t .1)
+    in
+    ap (λ (a : Act). perform lim z fs a) (t .1) ∙ ap (λ (c : Command). solve lim z c) (m .plain (t .2) fs ∙ sym c)
+
+-- the spot of a number
+number-spot : (ks vs s ws : List ℕ) (x : FieldSpot) (f : Field) (known n : ℕ) → f ≡ value n → HeldField ks vs s ws x f → FormedField known f → (x .value ≡ numberOf f) × (x .value ≤ 4294967295)
+unfolding numberOf
+number-spot ks vs s ws x f known n e h g =
+    let v : x .value ≡ n = rw e at h in
+    let m : n ≤ 4294967295 = rw e at g in
+    (rw e v, omega arith)
+
+-- ---- an order taken
+
+held-cut : (ks vs : List ℕ) (n p : ℕ) (t : Term) → n ≤ length ks → p + length (items t) ≤ n → Held ks vs p t → Held (take n ks) (take n vs) p t
+held-cut ks vs n p t h k x =
+    record {
+      tokens =
+          toks-same (take n ks) (take n vs) ks vs p p (length (items t)) (λ i l. getD-take n ks (p + i) 0 (omega arith)) (λ i l. getD-take n vs (p + i) 0 (omega arith))
+          ∙ x .tokens;
+      within = omega (arith, length-take-le n ks h);
+    }
+
+module _ {x : Solver} {half : ℕ} {s : List ℕ} {m : Areas} {ts : Area} {ws : List ℕ} {o : Order} (T : OrderTaken x half s m ts ws o) where
+  pub taken-after : x .top ≤ o .top
+  taken-after = omega (arith, T .whole .tokens)
+
+  pub taken-half : half ≤ length (m .c)
+  taken-half = ready-half (T .ready)
+
+  a-long : length (ts .kinds) ≡ length (m .a)
+  a-long = order-long s (x .issued) (x .top) (x .kept) (x .nodes) (area (m .a) (m .b)) ts ws o (T .whole) .0
+
+  b-long : length (ts .vals) ≡ length (m .a)
+  b-long = order-long s (x .issued) (x .top) (x .kept) (x .nodes) (area (m .a) (m .b)) ts ws o (T .whole) .1 ∙ T .ready .roomy .b-size
+
+  -- what the bytes say, on any session that the areas held
+  step-is : (z : Session) → RepresentsInAreas x half m z → orderOf (limitsOf x) z s ≡ step (limitsOf x) z (T .whole .read .kind) (T .whole .read .fields)
+  step-is z Z = ap (λ (q : Result Read). stepRead (limitsOf x) z q) (ap (λ (n : ℕ). readOrder s n) (sym (Z .represents .issued)) ∙ T .whole .is)
+
+  -- served in the areas that there were: with the tokens of the order cleared they are those
+  answered : (y : Solver) → y .top ≡ x .top → (c′ d′ : List ℕ) (w v : Output) → Serves x y half s m (areas (m .a) (m .b) c′ d′) w v
+      → Answered x y half s m ts o c′ d′ w v
+  answered y e c′ d′ w v S =
+      record {
+        inside = omega (arith, taken-after);
+        serves = λ a′ b′ E z A Z. answers-at (E ∙ ap (λ (n : ℕ). blank ts n (o .top - n)) e ∙ T .whole .cleared) (S z A Z);
+      }
+
+  -- too many nodes
+  pub crowded : x .nodes < o .nodes → (w v : Output) → Framed (refusal 7) (w .bytes) (w .at) (v .bytes) (v .at) → Answered x x half s m ts o (m .c) (m .d) w v
+  crowded h w v F =
+      answered x refl (m .c) (m .d) w v
+      (λ z A Z.
+      let k = T .whole .read .kind in
+      let fs = T .whole .read .fields in
+      let formed = subst (λ (n : ℕ). FormedFields (rows.known k n) fs) (Z .represents .issued) (T .whole .formed) in
+      let seven = crowds (limitsOf x) z (o .kind) k (T .whole .kind) (Z .represents .fits .nodes) fs (T .whole .fitting) formed (omega (arith, T .whole .counts, Z .represents .kept)) in
+      step-as (step-is z Z ∙ seven) (answers-same Z (refusal 7) w v F))
+
+  -- a command done on what is lent, other than order 4
+  told : (k : Command) → ((z : Session) → RepresentsInAreas x half m z → orderOf (limitsOf x) z s ≡ solve (limitsOf x) z k)
+      → (y : Solver) (c′ d′ : List ℕ) (w v : Output) → take half c′ ≡ take half (m .c) → Zero d′
+      → ((z : Session) → Reachable (limitsOf x) loose z → RepresentsInAreas x half m z
+      → Does x y (take (x .top) (m .a)) (take (x .top) (m .b)) (drop half (m .c)) (drop half c′) z (solve (limitsOf x) z k) (w .bytes) (w .at) (v .bytes) (v .at))
+      → Answered x y half s m ts o c′ d′ w v
+  told k same y c′ d′ w v front clear D =
+      let R = T .ready in
+      answered y (D (R .session) (R .reachable) (R .inAreas) .beside .top) c′ d′ w v
+      (λ z A Z.
+      step-as (same z Z) (answers-does Z y c′ d′ _ w v (D z A Z) (solve-kept (limitsOf x) z k) (subst (λ (l : List ℕ). Zero l) (sym front) (Z .front)) clear))
+
+  module _ (W : o .nodes ≤ x .nodes) where
+    pub taken-a : o .top ≤ length (ts .kinds)
+    taken-a = T .whole .fits W
+
+    pub taken-b : o .top ≤ length (ts .vals)
+    taken-b = omega (arith, taken-a, a-long, b-long)
+
+    -- ---- orders 9 to 20
+
+    pub taken-lends : Lends (ts .kinds) (ts .vals) (take half (m .c)) (m .d) most
+    taken-lends =
+        let R = T .ready .roomy in
+        let L = T .ready .inAreas in
+        record {
+          pairs = omega (arith, a-long, b-long);
+          short = omega (arith, a-long, R .few);
+          heads = omega (arith, length-take-le half (m .c) taken-half, R .records);
+          kids = omega (arith, R .d-size, R .records, R .table);
+          heads-zero = record { is = λ i h. L .front i };
+          kids-zero = record { is = λ i h. L .work i };
+        }
+
+    pub taken-asks : true ≡ isOperation (rowIn table (o .kind)) → Asks (ts .kinds) (ts .vals) s ws (numbersOf operations) o
+    taken-asks h =
+        record {
+          known = rows.known (T .whole .read .kind) (x .issued);
+          kind = T .whole .read .kind;
+          fields = T .whole .read .fields;
+          numbered = T .whole .kind;
+          given = record { held = T .whole .held W; formed = T .whole .formed; fits = T .whole .fitting };
+          among = operations-among (o .kind) (T .whole .read .kind) (T .whole .kind) h;
+        }
+
+    pub operated : true ≡ isOperation (rowIn table (o .kind)) → (w v : Output) → Replies (ts .kinds) (ts .vals) s ws o (λ y. Framed y (w .bytes) (w .at) (v .bytes) (v .at))
+        → (hs cs : List ℕ) → area hs cs ≡ area (take half (m .c)) (m .d) → Answered x x half s m ts o (hs ++ drop half (m .c)) cs w v
+    operated h w v R hs cs e =
+        answered x refl (hs ++ drop half (m .c)) cs w v
+        (λ z A Z.
+        let k = T .whole .read .kind in
+        let fs = T .whole .read .fields in
+        let F = R .says (rows.known k (x .issued)) k fs (T .whole .kind) (record { held = T .whole .held W; formed = T .whole .formed; fits = T .whole .fitting }) in
+        let few : z .kept + allNodes fs ≤ x .nodes = omega (arith, T .whole .counts, W, Z .represents .kept) in
+        let st : orderOf (limitsOf x) z s ≡ record { session = z; answer = operation k fs } =
+        step-is z Z ∙ operation-step (limitsOf x) z (o .kind) k fs (T .whole .kind) h ∙ rw (le-ltb (x .nodes) (z .kept + allNodes fs) few) refl
+        in
+        let hc : hs ++ drop half (m .c) ≡ (m .c) = ap (λ (u : Area). u .kinds ++ drop half (m .c)) e ∙ take-append-drop half (m .c) in
+        let dc : cs ≡ (m .d) = ap (λ (u : Area). u .vals) e in
+        step-as st (rw (hc, dc) (answers-same Z (operation k fs) w v F)))
+
+    -- which order it is
+    kind-as : (n : ℕ) (r : Row) → o .kind ≡ n → rowIn table n ≡ some r → T .whole .read .kind ≡ r
+    kind-as n r e h = let f : some (T .whole .read .kind) ≡ some r = sym (T .whole .kind) ∙ ap (λ (i : ℕ). rowIn table i) e ∙ h in cc
+
+    -- ---- orders of numbers alone
+
+    module _ (P : Plainly (o .kind)) where
+      plain-numbers : numeric (layout (T .whole .read .kind)) ≡ true
+      plain-numbers = plain-act (o .kind) (T .whole .read .kind) (T .whole .kind) P .2
+
+      pub plain-kind : Among (0 ∷ 1 ∷ 2 ∷ 6 ∷ 7 ∷ 8 ∷ []) (o .kind)
+      plain-kind = plain-among (o .kind) (T .whole .read .kind) (T .whole .kind) P
+
+      plain-step : (z : Session) → RepresentsInAreas x half m z
+          → orderOf (limitsOf x) z s ≡ solve (limitsOf x) z (plainCommand (o .kind) (numberAt 0 (T .whole .read .fields)) (numberAt 1 (T .whole .read .fields)))
+      plain-step z Z = step-is z Z ∙ plainly (o .kind) (T .whole .read .kind) (T .whole .kind) P (limitsOf x) z (T .whole .read .fields)
+
+      pub plain-first : (o .first .value ≡ numberOf (nth 0 (T .whole .read .fields))) × (o .first .value ≤ 4294967295)
+      plain-first =
+          let e = numbers-are (layout (T .whole .read .kind)) (T .whole .read .fields) plain-numbers (T .whole .fitting) 0 in
+          number-spot (ts .kinds) (ts .vals) s ws (o .first) (nth 0 (T .whole .read .fields)) (rows.known (T .whole .read .kind) (x .issued)) (e .0) (e .1) (T .whole .held W .first)
+          (nth-formed (rows.known (T .whole .read .kind) (x .issued)) (T .whole .read .fields) 0 (T .whole .formed))
+
+      pub plain-second : (o .second .value ≡ numberOf (nth 1 (T .whole .read .fields))) × (o .second .value ≤ 4294967295)
+      plain-second =
+          let e = numbers-are (layout (T .whole .read .kind)) (T .whole .read .fields) plain-numbers (T .whole .fitting) 1 in
+          number-spot (ts .kinds) (ts .vals) s ws (o .second) (nth 1 (T .whole .read .fields)) (rows.known (T .whole .read .kind) (x .issued)) (e .0) (e .1) (T .whole .held W .second)
+          (nth-formed (rows.known (T .whole .read .kind) (x .issued)) (T .whole .read .fields) 1 (T .whole .formed))
+
+      pub plain-code : o .kind ≡ 1 → o .second .value < 32
+      unfolding layout rowIn table sessionOrders
+      plain-code h =
+          let k = kind-as 1 rows.number-variable h refl in
+          let g = second-code (T .whole .read .fields) (subst (λ (r : Row). FitsLayout (layout r) (T .whole .read .fields)) k (T .whole .fitting)) in
+          omega (arith, plain-second .0)
+
+      -- it has no tokens
+      no-items : allItems (T .whole .read .fields) ≡ []
+      no-items = numbers-none (layout (T .whole .read .kind)) (T .whole .read .fields) plain-numbers (T .whole .fitting) .1
+
+      plain-top : o .top ≡ x .top
+      plain-top = omega (arith, T .whole .tokens, ap length no-items)
+
+      plain-areas : area (take (o .top) (ts .kinds)) (take (o .top) (ts .vals)) ≡ area (take (x .top) (m .a)) (take (x .top) (m .b))
+      plain-areas = ap (λ (n : ℕ). area (take n (ts .kinds)) (take n (ts .vals))) plain-top ∙ T .whole .same
+
+      pub plain-lent : (z : Session) → RepresentsInAreas x half m z → Represents x (take (o .top) (ts .kinds)) (take (o .top) (ts .vals)) (drop half (m .c)) z
+      plain-lent z Z = subst (λ (u : Area). Represents x (u .kinds) (u .vals) (drop half (m .c)) z) (sym plain-areas) (Z .represents)
+
+      pub plain-answered : (i j : ℕ) → i ≡ o .first .value → j ≡ o .second .value
+          → (y : Solver) (c′ d′ : List ℕ) (w v : Output) → take half c′ ≡ take half (m .c) → Zero d′
+          → ((z : Session) → Reachable (limitsOf x) loose z → Represents x (take (o .top) (ts .kinds)) (take (o .top) (ts .vals)) (drop half (m .c)) z
+          → Does x y (take (o .top) (ts .kinds)) (take (o .top) (ts .vals)) (drop half (m .c)) (drop half c′) z (solve (limitsOf x) z (plainCommand (o .kind) i j)) (w .bytes) (w .at) (v .bytes) (v .at))
+          → Answered x y half s m ts o c′ d′ w v
+      plain-answered i j ei ej y c′ d′ w v front clear D =
+          told (plainCommand (o .kind) i j) (λ z Z. plain-step z Z ∙ rw (ei, ej, plain-first .0, plain-second .0) refl) y c′ d′ w v front clear
+          (λ z A Z.
+          subst (λ (u : Area). Does x y (u .kinds) (u .vals) (drop half (m .c)) (drop half c′) z (solve (limitsOf x) z (plainCommand (o .kind) i j)) (w .bytes) (w .at) (v .bytes) (v .at)) plain-areas
+          (D z A (plain-lent z Z)))
+
+    -- ---- orders 3, 4 and 5
+
+    cut-a : take (x .top) (take (o .top) (ts .kinds)) ≡ take (x .top) (m .a)
+    cut-a = take-take (x .top) (o .top) (ts .kinds) taken-after ∙ ap (λ (u : Area). u .kinds) (T .whole .same)
+
+    cut-b : take (x .top) (take (o .top) (ts .vals)) ≡ take (x .top) (m .b)
+    cut-b = take-take (x .top) (o .top) (ts .vals) taken-after ∙ ap (λ (u : Area). u .vals) (T .whole .same)
+
+    long-a : length (take (o .top) (ts .kinds)) ≡ o .top
+    long-a = length-take-le (o .top) (ts .kinds) taken-a
+
+    long-b : length (take (o .top) (ts .vals)) ≡ o .top
+    long-b = length-take-le (o .top) (ts .vals) taken-b
+
+    behind : (z : Session) → Reachable (limitsOf x) loose z → RepresentsInAreas x half m z → Behind loose x (take (o .top) (ts .kinds)) (take (o .top) (ts .vals)) (drop half (m .c)) z
+    behind z A Z =
+        record {
+          codes = loose-codes;
+          reachable = A;
+          represents = rw (cut-a, cut-b) (Z .represents);
+          inside = omega (arith, long-a, taken-after);
+          pairs = long-b ∙ sym long-a;
+          short = omega (arith, long-a, T .whole .small);
+        }
+
+    abbrev fs : List Field
+    fs = T .whole .read .fields
+
+    module _ (t : Term) (is : fs ≡ tree t ∷ []) (all : rows.known (T .whole .read .kind) (x .issued) ≡ x .issued) where
+      one-items : allItems fs ≡ items t
+      unfolding allItems fieldItems
+      one-items = ap allItems is ∙ append-nil (items t)
+
+      one-size : allNodes fs ≡ size t
+      unfolding allNodes nodes
+      one-size = omega (arith, ap allNodes is)
+
+      one-below : AllVars (λ v. v < x .issued) t
+      unfolding FormedFields
+      one-below =
+          let g = subst (λ (l : List Field). FormedFields (rows.known (T .whole .read .kind) (x .issued)) l) is (T .whole .formed) in
+          subst (λ (n : ℕ). AllVars (λ v. v < n) t) all (g .0 .below)
+
+      pub poses : (z : Session) → Reachable (limitsOf x) loose z → RepresentsInAreas x half m z → Poses loose x (take (o .top) (ts .kinds)) (take (o .top) (ts .vals)) (drop half (m .c)) z t
+      poses z A Z =
+          let n : length (allItems fs) ≡ length (items t) = ap length one-items in
+          record {
+            behind = behind z A Z;
+            held =
+                held-cut (ts .kinds) (ts .vals) (o .top) (x .top) t taken-a (omega (arith, T .whole .tokens, n))
+                (record { tokens = subst (λ (l : List Item). toks (ts .kinds) (ts .vals) (x .top) (length l) ≡ l) one-items (T .whole .run W); within = omega (arith, T .whole .tokens, n, taken-a) });
+            within = subst (λ (n : ℕ). AllVars (λ v. v < n) t) (Z .represents .issued) one-below;
+            few = omega (arith, T .whole .counts, W, Z .represents .kept, one-size);
+          }
+
+      pub posed : (k : Command) → ((z : Session) → RepresentsInAreas x half m z → orderOf (limitsOf x) z s ≡ solve (limitsOf x) z k)
+          → (y : Solver) (c′ d′ : List ℕ) (w v : Output) → take half c′ ≡ take half (m .c) → Zero d′
+          → ((z : Session) → Poses loose x (take (o .top) (ts .kinds)) (take (o .top) (ts .vals)) (drop half (m .c)) z t
+          → Does x y (take (x .top) (take (o .top) (ts .kinds))) (take (x .top) (take (o .top) (ts .vals))) (drop half (m .c)) (drop half c′) z (solve (limitsOf x) z k) (w .bytes) (w .at) (v .bytes) (v .at))
+          → Answered x y half s m ts o c′ d′ w v
+      posed k same y c′ d′ w v front clear D =
+          told k same y c′ d′ w v front clear (λ z A Z. rw (cut-a, cut-b) at (D z (poses z A Z)))
+
+    -- order 3
+    pub defer-term : o .kind ≡ 3 → (t : Term) × (fs ≡ tree t ∷ [])
+    unfolding layout rowIn table sessionOrders
+    defer-term h = one-term fs (subst (λ (r : Row). FitsLayout (layout r) fs) (kind-as 3 rows.defer-never h refl) (T .whole .fitting))
+
+    pub defer-known : o .kind ≡ 3 → rows.known (T .whole .read .kind) (x .issued) ≡ x .issued
+    unfolding rows.known rowIn table sessionOrders
+    defer-known h = rw (kind-as 3 rows.defer-never h refl) refl
+
+    pub defer-step : (h : o .kind ≡ 3) (z : Session) → RepresentsInAreas x half m z → (t : Term) → fs ≡ tree t ∷ [] → orderOf (limitsOf x) z s ≡ solve (limitsOf x) z (orders.defer t)
+    unfolding step nth termOf rowIn table sessionOrders
+    defer-step h z Z t e = step-is z Z ∙ rw (kind-as 3 rows.defer-never h refl, e) refl
+
+    -- order 5
+    pub resolve-term : o .kind ≡ 5 → (t : Term) × (fs ≡ tree t ∷ [])
+    unfolding layout rowIn table sessionOrders
+    resolve-term h = one-term fs (subst (λ (r : Row). FitsLayout (layout r) fs) (kind-as 5 rows.resolve h refl) (T .whole .fitting))
+
+    pub resolve-known : o .kind ≡ 5 → rows.known (T .whole .read .kind) (x .issued) ≡ x .issued
+    unfolding rows.known rowIn table sessionOrders
+    resolve-known h = rw (kind-as 5 rows.resolve h refl) refl
+
+    pub resolve-step : (h : o .kind ≡ 5) (z : Session) → RepresentsInAreas x half m z → (t : Term) → fs ≡ tree t ∷ [] → orderOf (limitsOf x) z s ≡ solve (limitsOf x) z (orders.resolving t)
+    unfolding step nth termOf rowIn table sessionOrders
+    resolve-step h z Z t e = step-is z Z ∙ rw (kind-as 5 rows.resolve h refl, e) refl
+
+    -- order 4
+    module _ (h : o .kind ≡ 4) where
+      kind-pair : T .whole .read .kind ≡ rows.constrain
+      unfolding rowIn table sessionOrders
+      kind-pair = kind-as 4 rows.constrain h refl
+
+      pub pair-terms : (n : ℕ) × (t : Term) × (u : Term) × (fs ≡ value n ∷ tree t ∷ tree u ∷ [])
+      unfolding layout
+      pair-terms = two-terms fs (subst (λ (r : Row). FitsLayout (layout r) fs) kind-pair (T .whole .fitting))
+
+      module _ (n : ℕ) (t u : Term) (is : fs ≡ value n ∷ tree t ∷ tree u ∷ []) where
+        pair-items : allItems fs ≡ items t ++ items u
+        unfolding allItems fieldItems
+        pair-items = ap allItems is ∙ ap (λ (l : List Item). items t ++ l) (append-nil (items u))
+
+        pair-size : allNodes fs ≡ size t + size u
+        unfolding allNodes nodes
+        pair-size = omega (arith, ap allNodes is)
+
+        pair-formed : FormedFields (x .issued) (value n ∷ tree t ∷ tree u ∷ [])
+        unfolding rows.known
+        pair-formed =
+            subst (λ (l : List Field). FormedFields (x .issued) l) is
+            (subst (λ (r : Row). FormedFields (rows.known r (x .issued)) fs) kind-pair (T .whole .formed))
+
+        pub pair-k : (o .first .value ≡ n) × (n ≤ 4294967295)
+        unfolding spotAt nth FormedFields
+        pair-k = (subst (λ (l : List Field). SpotOf s ws (startAt (x .top) 0 l) (spotAt 0 o) (nth 0 l)) is (T .whole .spots 0 (omega arith)), pair-formed .0)
+
+        pair-place : o .third .place ≡ x .top + length (items t)
+        unfolding spotAt nth startAt fieldItems
+        pair-place = let p : o .third .place ≡ x .top + 0 + length (items t) = subst (λ (l : List Field). SpotOf s ws (startAt (x .top) 2 l) (spotAt 2 o) (nth 2 l)) is (T .whole .spots 2 (omega arith)) in omega arith
+
+        pair-top : o .top ≡ x .top + length (items t) + length (items u)
+        pair-top = omega (arith, T .whole .tokens, ap length pair-items, length-append (items t) (items u))
+
+        pair-row : HeldParts (ts .kinds) (ts .vals) (x .top) (o .top) (sub t (sub u end))
+        pair-row = use-laws.pair-row s (x .issued) (x .top) (x .kept) (x .nodes) (area (m .a) (m .b)) ts ws o (T .whole) W n t u is
+
+        pub poses-pair : (z : Session) → Reachable (limitsOf x) loose z → RepresentsInAreas x half m z
+            → PosesPair loose x (take (o .top) (ts .kinds)) (take (o .top) (ts .vals)) (drop half (m .c)) z (o .third .place) t u
+        unfolding FormedFields
+        poses-pair z A Z =
+            let l = held-sub (ts .kinds) (ts .vals) (x .top) (o .top) t (sub u end) pair-row in
+            let r = held-sub (ts .kinds) (ts .vals) (x .top + length (items t)) (o .top) u end (l .1) in
+            record {
+              behind = behind z A Z;
+              left = held-cut (ts .kinds) (ts .vals) (o .top) (x .top) t taken-a (omega (arith, pair-top)) (l .0);
+              right = held-cut (ts .kinds) (ts .vals) (o .top) (x .top + length (items t)) u taken-a (omega (arith, pair-top)) (r .0);
+              all = long-a ∙ pair-top;
+              place = pair-place;
+              within-left = subst (λ (n : ℕ). AllVars (λ v. v < n) t) (Z .represents .issued) (pair-formed .1 .0 .below);
+              within-right = subst (λ (n : ℕ). AllVars (λ v. v < n) u) (Z .represents .issued) (pair-formed .1 .1 .0 .below);
+              few = omega (arith, T .whole .counts, W, Z .represents .kept, pair-size);
+            }
+
+        pub pair-nodes : (z : Session) → RepresentsInAreas x half m z → o .nodes ≡ z .kept + (size t + size u)
+        pair-nodes z Z = omega (arith, T .whole .counts, Z .represents .kept, pair-size)
+
+        pair-step : (z : Session) → RepresentsInAreas x half m z → orderOf (limitsOf x) z s ≡ solve (limitsOf x) z (orders.pair n t u)
+        unfolding step nth termOf numberOf
+        pair-step z Z = step-is z Z ∙ rw (kind-pair, is) refl
+
+        pair-few : o .top ≤ 64 + 6 * o .nodes
+        unfolding layout spares spare
+        pair-few =
+            let g : length (allItems fs) ≤ 6 * allNodes fs + 0 = subst (λ (r : Row). length (allItems fs) ≤ 6 * allNodes fs + spares (layout r)) kind-pair (T .whole .room) in
+            omega (arith, T .whole .tokens, T .whole .counts, T .ready .inAreas .few)
+
+        pub pair-scratch : Scratch x (take (o .top) (ts .kinds)) (drop half (m .c)) (m .d)
+        pair-scratch =
+            let R = T .ready .roomy in
+            record {
+              pairs = omega (arith, length-drop half (m .c), R .table, R .c-size);
+              short = omega (arith, length-drop half (m .c), R .few, R .c-size);
+              links = omega (arith, long-a, pair-few, W, R .links, R .d-size);
+              marks = omega (arith, R .marks, R .d-size);
+              clear = T .ready .inAreas .work;
+            }
+
+        pub pair-blank : Zero (drop (pendingFrom x) (drop half (m .c)))
+        pair-blank = T .ready .inAreas .blank
+
+        pair-kept : (z : Session) → Reachable (limitsOf x) loose z → RepresentsInAreas x half m z → o .top ≤ 64 + 6 * solve (limitsOf x) z (orders.pair n t u) .session .kept
+        pair-kept z A Z =
+            let P = poses-pair z A Z in
+            let e = posing.pair-step (limitsOf x) z n t u (within-known z t (P .within-left)) (within-known z u (P .within-right)) (P .few) in
+            let k : solve (limitsOf x) z (orders.pair n t u) .session .kept ≡ z .kept + (size t + size u) = ap (λ (q : orders.Step). q .session .kept) e in
+            omega (arith, pair-few, pair-nodes z Z)
+
+        module _ (y : Solver) (c′ d′ : List ℕ) (w v : Output) (front : take half c′ ≡ take half (m .c)) (clear : Zero d′) (k : ℕ) (ek : k ≡ n)
+            (E : (z : Session) → PosesPair loose x (take (o .top) (ts .kinds)) (take (o .top) (ts .vals)) (drop half (m .c)) z (o .third .place) t u → o .nodes ≡ z .kept + (size t + size u)
+            → DoesPair x y (take (o .top) (ts .kinds)) (take (o .top) (ts .vals)) (drop half (m .c)) (drop half c′) z (solve (limitsOf x) z (orders.pair k t u)) (w .bytes) (w .at) (v .bytes) (v .at)) where
+          does : (z : Session) → Reachable (limitsOf x) loose z → RepresentsInAreas x half m z
+              → DoesPair x y (take (o .top) (ts .kinds)) (take (o .top) (ts .vals)) (drop half (m .c)) (drop half c′) z (solve (limitsOf x) z (orders.pair n t u)) (w .bytes) (w .at) (v .bytes) (v .at)
+          does z A Z =
+              subst (λ (i : ℕ). DoesPair x y (take (o .top) (ts .kinds)) (take (o .top) (ts .vals)) (drop half (m .c)) (drop half c′) z (solve (limitsOf x) z (orders.pair i t u)) (w .bytes) (w .at) (v .bytes) (v .at)) ek
+              (E z (poses-pair z A Z) (pair-nodes z Z))
+
+          zero-front : (z : Session) → RepresentsInAreas x half m z → Zero (take half c′)
+          zero-front z Z = subst (λ (l : List ℕ). Zero l) (sym front) (Z .front)
+
+          abbrev past : Session → ℕ
+          past z = w .at + length (framed (solve (limitsOf x) z (orders.pair n t u) .answer))
+
+          pair-inside : (z : Session) → DoesPair x y (take (o .top) (ts .kinds)) (take (o .top) (ts .vals)) (drop half (m .c)) (drop half c′) z (solve (limitsOf x) z (orders.pair n t u)) (w .bytes) (w .at) (v .bytes) (v .at)
+              → Dec (length (w .bytes) < past z) → y .top ≤ o .top
+          pair-inside z D (yes l) = omega (arith, taken-after, ap (λ (v : Solver). v .top) (D .long l .0))
+          pair-inside z D (no l) = omega (arith, D .whole (omega arith) .top, long-a)
+
+          -- where it is answered all of its tokens are the session's; else none is, and they have been cleared
+          pair-serves : (z : Session) → Reachable (limitsOf x) loose z → RepresentsInAreas x half m z → (a′ b′ : List ℕ) → area a′ b′ ≡ blank ts (y .top) (o .top - y .top)
+              → Dec (length (w .bytes) < past z) → Answers y half (areas a′ b′ c′ d′) z (orderOf (limitsOf x) z s) w v x
+          pair-serves z A Z a′ b′ e (yes l) =
+              let D = does z A Z in
+              answers-at (e ∙ ap (λ (v : Solver). blank ts (v .top) (o .top - v .top)) (D .long l .0) ∙ T .whole .cleared)
+              (step-as (pair-step z Z)
+              (unanswered-pair Z (ts .kinds) (ts .vals) (o .top) taken-a (free-kinds (o .top) ts (T .whole .free)) (free-vals (o .top) ts (T .whole .free)) y c′ d′ _ w v D
+              (omega (arith, D .answer .over l .0)) (zero-front z Z) clear))
+          pair-serves z A Z a′ b′ e (no l) =
+              let D = does z A Z in
+              let all : y .top ≡ o .top = D .whole (omega arith) .top ∙ long-a in
+              answers-at (e ∙ ap (λ (n : ℕ). blank ts n (o .top - n)) all ∙ T .whole .free (o .top - o .top))
+              (step-as (pair-step z Z)
+              (answers-pair Z (ts .kinds) (ts .vals) (o .top) taken-a (free-kinds (o .top) ts (T .whole .free)) (free-vals (o .top) ts (T .whole .free)) y c′ d′ _ w v D
+              (pair-kept z A Z) (omega (arith, D .answer .fits (omega arith) .0)) (zero-front z Z) clear))
+
+          pub pair-answered : Answered x y half s m ts o c′ d′ w v
+          pair-answered =
+              let R = T .ready in
+              record {
+                inside = pair-inside (R .session) (does (R .session) (R .reachable) (R .inAreas)) (decLt (length (w .bytes)) (past (R .session)));
+                serves = λ a′ b′ e z A Z. pair-serves z A Z a′ b′ e (decLt (length (w .bytes)) (past z));
+              }

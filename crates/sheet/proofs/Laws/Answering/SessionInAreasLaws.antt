@@ -1,0 +1,213 @@
+-- A session in the four areas: what the solver is lent of them, and an order answered there.
+use mathlib.Core.Path.{_≡_, sym, ap, subst, _∙_}
+use mathlib.Core.Bool.{Bool, true, false, _&&_}
+use mathlib.Core.Option.{Option, none, some}
+use mathlib.Core.List.{List, _++_, append-nil}
+use Prim.Native.Nat.{ℕ, _+_, _-_, _*_, _≤_, _<_}
+use native.Mathlib.Omega.{arith}
+use lib.ListN.{length, take, drop, length-drop}
+use lib.Seq.{length-take-le, take-length, drop-length, drop-at}
+use borrow.Rule.Slice.PartMut.{postOf, putMid, post-is}
+use Rattle.solver.specs.Terms.Term.{Term, var, node, size}
+use Rattle.solver.specs.declared.Solver.{Solver}
+use Rattle.solver.specs.Shapes.{loose}
+use Rattle.solver.specs.Families.{Request}
+use Rattle.solver.specs.Constrain.{resolved, constrain}
+use Rattle.solver.specs.Session.{Limits, Session, VariablePlace, at, gap, find, deferring}
+use Rattle.solver.specs.Orders as orders
+use Rattle.solver.specs.Orders.{order, variableAt, numberAt, holeAt, unless, known, crowded, full, posing, _gives_}
+use Rattle.solver.specs.Words.Worklist.{Zero}
+use Rattle.solver.specs.Words.ConstrainContract.{Scratch, pendingFrom}
+use Rattle.solver.specs.Words.SessionRepresentation.{Represents}
+use Rattle.solver.specs.Words.MethodContract.{Beside}
+use Rattle.sheet.specs.Sheet.{Step, solve}
+use Rattle.sheet.specs.Words.SessionInAreas.{Areas, areas, Output, RepresentsInAreas, Answers}
+use Rattle.sheet.specs.Entry.{AreasReady}
+use Rattle.solver.specs.Words.OrderTerms.{Poses, PosesPair, Frames}
+use Rattle.sheet.specs.Words.SessionOrdersContract.{Does, DoesPair}
+use Rattle.sheet.proofs.Laws.Answering.SessionOrderLaws.{lent-revision}
+
+-- ---- room
+
+module _ {x : Solver} {half : ℕ} {m : Areas} (R : AreasReady x half m) where
+  pub ready-half : half ≤ length (m .c)
+  ready-half = omega (arith, R .roomy .c-size, R .roomy .table)
+
+  pub ready-frames : Frames x (m .d)
+  ready-frames =
+      record { room = omega (arith, R .roomy .d-size, R .roomy .marks, lent-revision _ _ _ _ _ (R .reachable) (R .inAreas .represents)); clear = R .inAreas .work }
+
+-- ---- what is kept stays kept
+
+variable-kept : (lim : Limits) (z : Session) (p : VariablePlace) (o : Option ℕ) (f : Bool) → z .kept ≤ variableAt lim z p o f .session .kept
+unfolding variableAt
+variable-kept lim z p (some v) f = omega arith
+variable-kept lim z p none true = omega arith
+variable-kept lim z p none false = omega arith
+
+number-kept : (lim : Limits) (z : Session) (p : VariablePlace) (r : Request) (o : Option ℕ) (f : Bool) → z .kept ≤ numberAt lim z p r o f .session .kept
+unfolding numberAt
+number-kept lim z p r (some v) f = omega arith
+number-kept lim z p r none true = omega arith
+number-kept lim z p r none false = omega arith
+
+hole-kept : (lim : Limits) (z : Session) (p : VariablePlace) (o : Option ℕ) (f : Bool) → z .kept ≤ holeAt lim z p o f .session .kept
+unfolding holeAt
+hole-kept lim z p (some v) f = omega arith
+hole-kept lim z p none true = omega arith
+hole-kept lim z p none false = omega arith
+
+unless-kept : (lim : Limits) (z : Session) (a b : Bool) (x : orders.Step) → z .kept ≤ x .session .kept → z .kept ≤ unless lim z a b x .session .kept
+unless-kept lim z true true x h = omega arith
+unless-kept lim z true false x h = h
+unless-kept lim z false b x h = omega arith
+
+defer-kept : (z : Session) (t : Term) → z .kept ≤ deferring z t .kept
+unfolding deferring
+defer-kept z (var v) = omega arith
+defer-kept z (node k ps) = omega arith
+
+pub solve-kept : (lim : Limits) (z : Session) (c : orders.Command) → z .kept ≤ solve lim z c .session .kept
+unfolding order
+solve-kept lim z (orders.variable site slot) = variable-kept lim z (at site slot) (find (at site slot) (z .places)) (full lim z)
+solve-kept lim z (orders.number site r) = number-kept lim z (at site 1) r (find (at site 1) (z .places)) (full lim z)
+solve-kept lim z (orders.hole site) = hole-kept lim z (gap site) (find (gap site) (z .places)) (full lim z)
+solve-kept lim z (orders.defer t) =
+    unless-kept lim z (known z t) (crowded lim z (size t)) (deferring z (resolved (z .solver) t) gives orders.nothing) (defer-kept z (resolved (z .solver) t))
+solve-kept lim z (orders.pair k t u) =
+    unless-kept lim z (known z t && known z u) (crowded lim z (size t + size u)) (posing lim loose z (size t + size u) (constrain loose k (z .solver) t u)) (omega arith)
+solve-kept lim z (orders.resolving t) =
+    unless-kept lim z (known z t) (crowded lim z (size t)) (z gives orders.term (resolved (z .solver) t)) (omega arith)
+solve-kept lim z orders.numbers = omega arith
+solve-kept lim z orders.nevers = omega arith
+solve-kept lim z orders.revision = omega arith
+solve-kept lim z (orders.unread r) = omega arith
+
+-- ---- a session laid out again
+
+-- the tokens are those that there were, and so is what stands after the columns
+module _ {x : Solver} {half : ℕ} {m : Areas} {z : Session} (Z : RepresentsInAreas x half m z) where
+  pub lays-again : (y : Solver) (c′ d′ : List ℕ) (s : Session) → z .kept ≤ s .kept → Represents y (take (x .top) (m .a)) (take (x .top) (m .b)) (drop half c′) s
+      → Beside x y (drop half (m .c)) (drop half c′) → Zero (take half c′) → Zero d′ → RepresentsInAreas y half (areas (m .a) (m .b) c′ d′) s
+  lays-again y c′ d′ s more L B f clear =
+      record {
+        represents = subst (λ (n : ℕ). Represents y (take n (m .a)) (take n (m .b)) (drop half c′) s) (sym (B .top)) L;
+        kinds = subst (λ (n : ℕ). Zero (drop n (m .a))) (sym (B .top)) (Z .kinds);
+        vals = subst (λ (n : ℕ). Zero (drop n (m .b))) (sym (B .top)) (Z .vals);
+        front = f;
+        blank = subst (λ (n : ℕ). Zero (drop (7 * n) (drop half c′))) (sym (B .variables)) (subst (λ (l : List ℕ). Zero l) (sym (B .rest)) (Z .blank));
+        work = clear;
+        few = omega (arith, Z .few, Z .represents .kept, L .kept, B .top);
+      }
+
+  -- AN ORDER DONE ON WHAT IS LENT IS ANSWERED IN THE AREAS
+  pub answers-does : (y : Solver) (c′ d′ : List ℕ) (st : Step) (w v : Output)
+      → Does x y (take (x .top) (m .a)) (take (x .top) (m .b)) (drop half (m .c)) (drop half c′) z st (w .bytes) (w .at) (v .bytes) (v .at) → z .kept ≤ st .session .kept → Zero (take half c′) → Zero d′
+      → Answers y half (areas (m .a) (m .b) c′ d′) z st w v x
+  answers-does y c′ d′ st w v D more f clear =
+      record {
+        fits = λ k. (D .answer .fits k .0, D .answer .fits k .1, lays-again y c′ d′ (st .session) more (D .whole k) (D .beside) f clear);
+        long = λ k. (D .answer .over k .0, D .answer .over k .1, lays-again y c′ d′ z (omega arith) (D .long k) (D .beside) f clear);
+        variables = D .beside .variables;
+        nodes = D .beside .nodes;
+      }
+
+-- ---- order 4: its tokens stay where it is answered
+
+-- a and b are the areas with its tokens, which end before `top`; those of m are without them
+module _ {x : Solver} {half : ℕ} {m : Areas} {z : Session} (Z : RepresentsInAreas x half m z) (a b : List ℕ) (top : ℕ)
+    (long-a : top ≤ length a) (rest-a : Zero (drop top a)) (rest-b : Zero (drop top b)) where
+  pub lays-pair : (y : Solver) (c′ d′ : List ℕ) (s : Session) → top ≤ 64 + 6 * s .kept → Represents y (take top a) (take top b) (drop half c′) s → y .variables ≡ x .variables
+      → Zero (drop (pendingFrom x) (drop half c′)) → Zero (take half c′) → Zero d′ → RepresentsInAreas y half (areas a b c′ d′) s
+  lays-pair y c′ d′ s more L v k f clear =
+      let e : top ≡ y .top = sym (L .top ∙ length-take-le top a long-a) in
+      record {
+        represents = subst (λ (n : ℕ). Represents y (take n a) (take n b) (drop half c′) s) e L;
+        kinds = subst (λ (n : ℕ). Zero (drop n a)) e rest-a;
+        vals = subst (λ (n : ℕ). Zero (drop n b)) e rest-b;
+        front = f;
+        blank = subst (λ (n : ℕ). Zero (drop (7 * n) (drop half c′))) (sym v) k;
+        work = clear;
+        few = omega (arith, L .kept);
+      }
+
+  -- answered: the tokens stay
+  pub answers-pair : (y : Solver) (c′ d′ : List ℕ) (st : Step) (w v : Output)
+      → DoesPair x y (take top a) (take top b) (drop half (m .c)) (drop half c′) z st (w .bytes) (w .at) (v .bytes) (v .at) → top ≤ 64 + 6 * st .session .kept → v .at ≤ length (w .bytes) → Zero (take half c′) → Zero d′
+      → Answers y half (areas a b c′ d′) z st w v x
+  answers-pair y c′ d′ st w v D more h f clear =
+      record {
+        fits = λ k. (D .answer .fits k .0, D .answer .fits k .1, lays-pair y c′ d′ (st .session) more (D .whole k) (D .variables) (D .blank) f clear);
+        long = λ k. absurd (omega (arith, D .answer .over k .0));
+        variables = D .variables;
+        nodes = D .nodes;
+      }
+
+  -- not answered: they have been cleared, and all is as it was
+  pub unanswered-pair : (y : Solver) (c′ d′ : List ℕ) (st : Step) (w v : Output)
+      → DoesPair x y (take top a) (take top b) (drop half (m .c)) (drop half c′) z st (w .bytes) (w .at) (v .bytes) (v .at) → length (w .bytes) < v .at → Zero (take half c′) → Zero d′
+      → Answers y half (areas (m .a) (m .b) c′ d′) z st w v x
+  unanswered-pair y c′ d′ st w v D h f clear =
+      record {
+        fits = λ k. absurd (omega (arith, D .answer .fits k .0));
+        long = λ k. (
+          D .answer .over k .0,
+          D .answer .over k .1,
+          subst (λ (v : Solver). RepresentsInAreas v half (areas (m .a) (m .b) c′ d′) z) (sym (D .long k .0))
+              (record {
+                represents = subst (λ (l : List ℕ). Represents x (take (x .top) (m .a)) (take (x .top) (m .b)) l z) (sym (D .long k .1)) (Z .represents);
+                kinds = Z .kinds;
+                vals = Z .vals;
+                front = f;
+                blank = D .blank;
+                work = clear;
+                few = Z .few;
+              }),
+        );
+        variables = D .variables;
+        nodes = D .nodes;
+      }
+
+-- ---- the table is the part of c from `half` on, lent and put back
+
+module _ (half : ℕ) (c : List ℕ) where
+  pub tail-all : take (length c - half) (drop half c) ≡ drop half c
+  tail-all = ap (λ (n : ℕ). take n (drop half c)) (sym (length-drop half c)) ∙ take-length (drop half c)
+
+  pub tail-back : (us : List ℕ) → half ≤ length c → drop half (putMid half (length c - half) c us) ≡ us
+  tail-back us h =
+      drop-at (take half c) (us ++ postOf half (length c - half) c) half (length-take-le half c h)
+      ∙ ap (λ (l : List ℕ). us ++ l) (post-is half (length c) c h ∙ drop-length c) ∙ append-nil us
+
+  pub lent-tail : (x : Solver) (ks vs : List ℕ) (z : Session) → Represents x ks vs (drop half c) z → Represents x ks vs (take (length c - half) (drop half c)) z
+  lent-tail x ks vs z L = subst (λ (l : List ℕ). Represents x ks vs l z) (sym tail-all) L
+
+  pub poses-tail : (x : Solver) (ks vs : List ℕ) (z : Session) (t : Term) → Poses loose x ks vs (drop half c) z t → Poses loose x ks vs (take (length c - half) (drop half c)) z t
+  poses-tail x ks vs z t P = subst (λ (l : List ℕ). Poses loose x ks vs l z t) (sym tail-all) P
+
+  pub pair-tail : (x : Solver) (ks vs : List ℕ) (z : Session) (q : ℕ) (t u : Term) → PosesPair loose x ks vs (drop half c) z q t u
+      → PosesPair loose x ks vs (take (length c - half) (drop half c)) z q t u
+  pair-tail x ks vs z q t u P = subst (λ (l : List ℕ). PosesPair loose x ks vs l z q t u) (sym tail-all) P
+
+  pub scratch-tail : (x : Solver) (ks work : List ℕ) → Scratch x ks (drop half c) work → Scratch x ks (take (length c - half) (drop half c)) work
+  scratch-tail x ks work S = subst (λ (l : List ℕ). Scratch x ks l work) (sym tail-all) S
+
+  pub blank-tail : (m : ℕ) → Zero (drop m (drop half c)) → Zero (drop m (take (length c - half) (drop half c)))
+  blank-tail m z = subst (λ (l : List ℕ). Zero (drop m l)) (sym tail-all) z
+
+  module _ (x y : Solver) (ks vs : List ℕ) (z : Session) (st : Step) (out₀ : List ℕ) (to : ℕ) (out : List ℕ) (r : ℕ) where
+    -- read only
+    pub does-part : Does x y ks vs (take (length c - half) (drop half c)) (take (length c - half) (drop half c)) z st out₀ to out r
+        → Does x y ks vs (drop half c) (drop half c) z st out₀ to out r
+    does-part D = subst (λ (l : List ℕ). Does x y ks vs l l z st out₀ to out r) tail-all D
+
+    -- written
+    pub does-tail : (us : List ℕ) → half ≤ length c → Does x y ks vs (take (length c - half) (drop half c)) us z st out₀ to out r
+        → Does x y ks vs (drop half c) (drop half (putMid half (length c - half) c us)) z st out₀ to out r
+    does-tail us h D =
+        subst (λ (l : List ℕ). Does x y ks vs (drop half c) l z st out₀ to out r) (sym (tail-back us h)) (subst (λ (l : List ℕ). Does x y ks vs l us z st out₀ to out r) tail-all D)
+
+    pub pair-does-tail : (us : List ℕ) → half ≤ length c → DoesPair x y ks vs (take (length c - half) (drop half c)) us z st out₀ to out r
+        → DoesPair x y ks vs (drop half c) (drop half (putMid half (length c - half) c us)) z st out₀ to out r
+    pair-does-tail us h D =
+        subst (λ (l : List ℕ). DoesPair x y ks vs (drop half c) l z st out₀ to out r) (sym (tail-back us h)) (subst (λ (l : List ℕ). DoesPair x y ks vs l us z st out₀ to out r) tail-all D)

@@ -1,0 +1,268 @@
+-- Steps of orders 0 to 8 done on what is lent: what each answers, and that it is done or not.
+use mathlib.Core.Path.{_≡_, refl, sym, ap, subst, _∙_}
+use mathlib.Core.Bool.{Bool, true, false, not}
+use mathlib.Core.List.{List, [], _∷_, _++_}
+use mathlib.Core.Option.{Option, none, some}
+use Prim.Native.Nat.{ℕ, zero, suc, _+_, _-_, _≤_, _<_}
+use native.Mathlib.Omega.{arith}
+use borrow.Author.Tests.{leb-true, eq-eqb, ne-eqb}
+use lib.Dec.{eqb}
+use lib.ListN.{length, length-append}
+use Rattle.solver.specs.Terms.Number.{shortest}
+use Rattle.solver.specs.Terms.Term.{var, bytes}
+use Rattle.solver.specs.declared.Solver.{Solver}
+use Rattle.solver.specs.declared.Named.{Named}
+use Rattle.solver.specs.declared.Named.the-variants.{Variable, Full}
+use Rattle.solver.specs.Families.{Request, requested}
+use Rattle.solver.specs.Shapes.{loose}
+use Rattle.solver.specs.Constrain.{resolved}
+use Rattle.solver.specs.Session.{Limits, Session, VariablePlace, at, gap, issued, find}
+use Rattle.solver.specs.Orders as orders
+use Rattle.solver.specs.Orders.{order, variableAt, numberAt, holeAt, full, refused, _gives_}
+use Rattle.solver.specs.Words.SessionRepresentation.{Reachable, Represents, limitsOf}
+use Rattle.solver.specs.Words.MethodContract.{Beside, found, placed, namedOf}
+use Rattle.solver.proofs.Laws.Definition.SolverInvariantLaws.{ordered-revision}
+use Rattle.solver.proofs.Laws.Definition.DefaultLaws.{arises-ordered}
+use Rattle.solver.proofs.Laws.Table.MethodLaws.{beside-same, named-next, named-none}
+use Rattle.sheet.specs.Fields.{nth, numberOf}
+use Rattle.sheet.specs.OrderTable.{Answer, refusal, outcome, sessionOrders, rowIn, commandOf}
+use Rattle.sheet.specs.Operations.{bit}
+use Rattle.sheet.specs.Sheet.{Step, solve, answerOf, framed}
+use Rattle.sheet.specs.Words.FramingContract.{Framed, opening}
+use Rattle.sheet.specs.Words.OperationsContract.{Among}
+use Rattle.sheet.specs.Words.SessionOrdersContract.{Does, plainCommand}
+use Rattle.sheet.proofs.Laws.Reading.OrderTableLaws.{among-past, third}
+use Rattle.sheet.proofs.Laws.Answering.FramingLaws.{one-frame, frame-over, value-frame}
+
+-- ---- done, or not
+
+module _ {x : Solver} {ks vs ts : List ℕ} {z : Session} (L : Represents x ks vs ts z) (st : Step) (out₀ : List ℕ) (to : ℕ) where
+  -- the answer does not fit
+  pub does-not : length out₀ < to + length (framed (st .answer)) → Does x x ks vs ts ts z st out₀ to out₀ (length out₀ + 1)
+  does-not h =
+      record {
+        answer = record { fits = λ k. absurd (omega arith); over = λ k. (refl, refl) };
+        whole = λ k. absurd (omega arith);
+        long = λ k. L;
+        beside = beside-same x ts;
+      }
+
+  -- and so a position past the end tells
+  pub does-over : (out : List ℕ) (r : ℕ) → Framed (st .answer) out₀ to out r → length out₀ < r → Does x x ks vs ts ts z st out₀ to out r
+  does-over out r f h =
+      record {
+        answer = f;
+        whole = λ k. absurd (omega (arith, f .fits k .0));
+        long = λ k. L;
+        beside = beside-same x ts;
+      }
+
+  -- the session stays as it is
+  pub does-same : (out : List ℕ) (r : ℕ) → st .session ≡ z → Framed (st .answer) out₀ to out r → Does x x ks vs ts ts z st out₀ to out r
+  does-same out r e f =
+      record {
+        answer = f;
+        whole = λ k. subst (λ (s : Session). Represents x ks vs ts s) (sym e) L;
+        long = λ k. L;
+        beside = beside-same x ts;
+      }
+
+  -- the answer fits
+  pub does-whole : (y : Solver) (us out : List ℕ) (r : ℕ) → Framed (st .answer) out₀ to out r → r ≤ length out₀
+      → Represents y ks vs us (st .session) → Beside x y ts us → Does x y ks vs ts us z st out₀ to out r
+  does-whole y us out r f h M B =
+      record {
+        answer = f;
+        whole = λ k. M;
+        long = λ k. absurd (omega (arith, f .over k .0));
+        beside = B;
+      }
+
+-- ---- the revision
+
+-- it is at most the count of variables
+pub loose-codes : loose 4 ≡ false
+unfolding loose
+loose-codes = refl
+
+pub arises-revision : (lim : Limits) (z : Session) → Reachable lim loose z → z .solver .revision ≤ issued z
+arises-revision lim z A = ordered-revision loose loose-codes (issued z) (z .solver) (arises-ordered loose loose-codes lim z A)
+
+pub lent-revision : (x : Solver) (ks vs ts : List ℕ) (z : Session) → Reachable (limitsOf x) loose z → Represents x ks vs ts z → x .revision ≤ x .variables
+lent-revision x ks vs ts z A L = omega (arith, arises-revision (limitsOf x) z A, L .revision, L .fits .variables)
+
+pub revision-does : (x : Solver) (ks vs ts : List ℕ) (z : Session) → Represents x ks vs ts z → (n : ℕ) → n ≡ x .revision → (out₀ : List ℕ) (to : ℕ) (out : List ℕ) (r : ℕ)
+    → Framed (outcome (shortest n)) out₀ to out r → Does x x ks vs ts ts z (solve (limitsOf x) z orders.revision) out₀ to out r
+unfolding order answerOf
+revision-does x ks vs ts z L n e out₀ to out r f =
+    does-same L (solve (limitsOf x) z orders.revision) out₀ to out r refl
+    (subst (λ (n : ℕ). Framed (outcome (shortest n)) out₀ to out r) (e ∙ L .revision) f)
+
+-- ---- defaults
+
+-- a step that answers whether the revision is another
+abbrev pub Tells : Session → Step → Type 0
+Tells z st = st .answer ≡ outcome (bit (not (eqb (st .session .solver .revision) (z .solver .revision))) ∷ [])
+
+pub numbers-tell : (lim : Limits) (z : Session) → Tells z (solve lim z orders.numbers)
+unfolding order answerOf
+numbers-tell lim z = refl
+
+pub nevers-tell : (lim : Limits) (z : Session) → Tells z (solve lim z orders.nevers)
+unfolding order answerOf
+nevers-tell lim z = refl
+
+module _ {x : Solver} {ks vs ts : List ℕ} {z : Session} (L : Represents x ks vs ts z) (st : Step) (e : Tells z st) (out₀ : List ℕ) (to : ℕ) (inside : to ≤ length out₀) where
+  size : length (framed (st .answer)) ≡ 3
+  size = ap (λ a. length (framed a)) e ∙ ap length (one-frame (bit (not (eqb (st .session .solver .revision) (z .solver .revision)))))
+
+  pub defaults-not : length out₀ - to < 3 → Does x x ks vs ts ts z st out₀ to out₀ (length out₀ + 1)
+  defaults-not h = does-not L st out₀ to (omega (arith, size))
+
+  pub defaults-done : (y : Solver) (us out : List ℕ) (r a : ℕ) → 3 ≤ length out₀ - to → Represents y ks vs us (st .session) → Beside x y ts us
+      → a ≡ bit (not (eqb (y .revision) (x .revision))) → Framed (outcome (a ∷ [])) out₀ to out r → Does x y ks vs ts us z st out₀ to out r
+  defaults-done y us out r a h M B p f =
+      let q : a ≡ bit (not (eqb (st .session .solver .revision) (z .solver .revision))) = p ∙ rw (M .revision, L .revision) refl in
+      let g : Framed (st .answer) out₀ to out r
+      = subst (λ b. Framed b out₀ to out r) (ap (λ (n : ℕ). outcome (n ∷ [])) q ∙ sym e) f in
+      does-whole L st out₀ to y us out r g (omega (arith, g .fits (omega (arith, size)) .0, size)) M B
+
+-- ---- the variable of a place
+
+-- it is the one that there is or the next one
+abbrev pub nextOf : Session → VariablePlace → ℕ
+nextOf z p = found (issued z) (find p (z .places))
+
+-- order 0
+module _ (lim : Limits) (z : Session) (site slot : ℕ) where
+  variable-go : (o : Option ℕ) (f : Bool) → full lim z ≡ f → found (issued z) o < lim .variables
+      → answerOf (variableAt lim z (at site slot) o f .reply) ≡ outcome (bytes (var (found (issued z) o)))
+  unfolding answerOf variableAt
+  variable-go (some v) f g h = refl
+  variable-go none true g h = absurd (omega (arith, leb-true (lim .variables) (issued z) g))
+  variable-go none false g h = refl
+
+  pub variable-answer : nextOf z (at site slot) < lim .variables → solve lim z (orders.variable site slot) .answer ≡ outcome (bytes (var (nextOf z (at site slot))))
+  unfolding order
+  variable-answer h = variable-go (find (at site slot) (z .places)) (full lim z) refl h
+
+  pub variable-full : find (at site slot) (z .places) ≡ none → full lim z ≡ true → order lim loose z (orders.variable site slot) ≡ (z gives refused 8)
+  unfolding order variableAt
+  variable-full u f = rw (u, f) refl
+
+-- order 1
+module _ (lim : Limits) (z : Session) (site : ℕ) (r : Request) where
+  number-go : (o : Option ℕ) (f : Bool) → full lim z ≡ f → found (issued z) o < lim .variables
+      → answerOf (numberAt lim z (at site 1) r o f .reply) ≡ outcome (bytes (resolved (z .solver) (var (found (issued z) o))))
+  unfolding answerOf numberAt
+  number-go (some v) f g h = refl
+  number-go none true g h = absurd (omega (arith, leb-true (lim .variables) (issued z) g))
+  number-go none false g h = refl
+
+  pub number-answer : nextOf z (at site 1) < lim .variables
+      → solve lim z (orders.number site r) .answer ≡ outcome (bytes (resolved (z .solver) (var (nextOf z (at site 1)))))
+  unfolding order
+  number-answer h = number-go (find (at site 1) (z .places)) (full lim z) refl h
+
+  pub number-full : find (at site 1) (z .places) ≡ none → full lim z ≡ true → order lim loose z (orders.number site r) ≡ (z gives refused 8)
+  unfolding order numberAt
+  number-full u f = rw (u, f) refl
+
+-- order 2
+module _ (lim : Limits) (z : Session) (site : ℕ) where
+  hole-go : (o : Option ℕ) (f : Bool) → full lim z ≡ f → found (issued z) o < lim .variables
+      → answerOf (holeAt lim z (gap site) o f .reply) ≡ outcome (bytes (resolved (z .solver) (var (found (issued z) o))))
+  unfolding answerOf holeAt
+  hole-go (some v) f g h = refl
+  hole-go none true g h = absurd (omega (arith, leb-true (lim .variables) (issued z) g))
+  hole-go none false g h = refl
+
+  pub hole-answer : nextOf z (gap site) < lim .variables → solve lim z (orders.hole site) .answer ≡ outcome (bytes (resolved (z .solver) (var (nextOf z (gap site)))))
+  unfolding order
+  hole-answer h = hole-go (find (gap site) (z .places)) (full lim z) refl h
+
+  pub hole-full : find (gap site) (z .places) ≡ none → full lim z ≡ true → order lim loose z (orders.hole site) ≡ (z gives refused 8)
+  unfolding order holeAt
+  hole-full u f = rw (u, f) refl
+
+-- refusal 8, whatever the order
+pub full-does : (x : Solver) (ks vs ts : List ℕ) (z : Session) → Represents x ks vs ts z → (c : orders.Command) → order (limitsOf x) loose z c ≡ (z gives refused 8)
+    → (out₀ : List ℕ) (to : ℕ) (out : List ℕ) (r : ℕ) → Framed (refusal 8) out₀ to out r → Does x x ks vs ts ts z (solve (limitsOf x) z c) out₀ to out r
+unfolding answerOf
+full-does x ks vs ts z L c e out₀ to out r f =
+    does-same L (solve (limitsOf x) z c) out₀ to out r (ap (λ (s : orders.Step). s .session) e)
+    (subst (λ a. Framed a out₀ to out r) (sym (ap (λ (s : orders.Step). answerOf (s .reply)) e)) f)
+
+-- ---- answers that are terms
+
+-- a value longer than the output does not fit
+pub long-over : (v out₀ : List ℕ) (to : ℕ) → length out₀ < length v → Framed (outcome v) out₀ to out₀ (length out₀ + 1)
+long-over v out₀ to h =
+    frame-over (outcome v) (opening (length v) ++ v) (value-frame v) out₀ to out₀ (length out₀ + 1) (omega (arith, length-append (opening (length v)) v)) refl refl
+
+-- ---- bytes of the revision
+
+pub changed-same : (old new : ℕ) → new ≡ old → 0 ≡ bit (not (eqb new old))
+changed-same old new e = rw (eq-eqb new old e) refl
+
+pub changed-other : (old new : ℕ) → (new ≡ old → ⊥) → 1 ≡ bit (not (eqb new old))
+changed-other old new e = rw (ne-eqb new old e) refl
+
+-- ---- orders 0 to 2: by the variable that the place has or would be given
+
+module _ (x : Solver) (ks vs ts : List ℕ) (z : Session) (L : Represents x ks vs ts z) (c : orders.Command) (p : VariablePlace) (w : ℕ → List ℕ)
+    (answers : nextOf z p < x .variables → solve (limitsOf x) z c .answer ≡ outcome (w (nextOf z p)))
+    (fullness : find p (z .places) ≡ none → full (limitsOf x) z ≡ true → order (limitsOf x) loose z c ≡ (z gives refused 8))
+    (a : Named) (e : a ≡ namedOf (placed (limitsOf x) z p .variable)) (out₀ : List ℕ) (to : ℕ) (out : List ℕ) (r : ℕ) where
+  pub place-refused : a ≡ Full → Framed (refusal 8) out₀ to out r → Does x x ks vs ts ts z (solve (limitsOf x) z c) out₀ to out r
+  place-refused f g =
+      let n = named-none (limitsOf x) z p (L .fits) (sym f ∙ e) in
+      full-does x ks vs ts z L c (fullness (n .0) (n .1)) out₀ to out r g
+
+  module _ (v : ℕ) (f : a ≡ Variable v) (g : Framed (outcome (w v)) out₀ to out r) where
+    says : Framed (solve (limitsOf x) z c .answer) out₀ to out r
+    says =
+        let n = named-next (limitsOf x) z p (L .fits) v (sym f ∙ e) in
+        subst (λ (b : Answer). Framed b out₀ to out r) (ap (λ (i : ℕ). outcome (w i)) (n .0) ∙ sym (answers (omega (arith, n .0, n .1)))) g
+
+    pub place-over : length out₀ < r → Does x x ks vs ts ts z (solve (limitsOf x) z c) out₀ to out r
+    place-over l = does-over L (solve (limitsOf x) z c) out₀ to out r says l
+
+    pub place-done : r ≤ length out₀ → (y : Solver) (us : List ℕ) → Represents y ks vs us (order (limitsOf x) loose z c .session) → Beside x y ts us
+        → Does x y ks vs ts us z (solve (limitsOf x) z c) out₀ to out r
+    place-done l y us M B = does-whole L (solve (limitsOf x) z c) out₀ to y us out r says l M B
+
+-- ---- the command of an order with numbers alone
+
+module _ (k a b : ℕ) where
+  pub plain-variable : k ≡ 0 → orders.variable a b ≡ plainCommand k a b
+  unfolding plainCommand rowIn sessionOrders commandOf nth numberOf
+  plain-variable e = rw e refl
+
+  pub plain-number : k ≡ 1 → orders.number a (requested b) ≡ plainCommand k a b
+  unfolding plainCommand rowIn sessionOrders commandOf nth numberOf
+  plain-number e = rw e refl
+
+  pub plain-hole : k ≡ 2 → orders.hole a ≡ plainCommand k a b
+  unfolding plainCommand rowIn sessionOrders commandOf nth numberOf
+  plain-hole e = rw e refl
+
+  pub plain-numbers : k ≡ 6 → orders.numbers ≡ plainCommand k a b
+  unfolding plainCommand rowIn sessionOrders commandOf
+  plain-numbers e = rw e refl
+
+  pub plain-nevers : k ≡ 7 → orders.nevers ≡ plainCommand k a b
+  unfolding plainCommand rowIn sessionOrders commandOf
+  plain-nevers e = rw e refl
+
+  -- the last of them
+  pub plain-revision : Among (0 ∷ 1 ∷ 2 ∷ 6 ∷ 7 ∷ 8 ∷ []) k → (k ≡ 0 → ⊥) → (k ≡ 1 → ⊥) → (k ≡ 2 → ⊥) → (k ≡ 6 → ⊥) → (k ≡ 7 → ⊥) → orders.revision ≡ plainCommand k a b
+  unfolding plainCommand rowIn sessionOrders commandOf
+  plain-revision h n₀ n₁ n₂ n₆ n₇ =
+      let x = among-past 2 k (6 ∷ 7 ∷ 8 ∷ []) n₂ (among-past 1 k (2 ∷ 6 ∷ 7 ∷ 8 ∷ []) n₁ (among-past 0 k (1 ∷ 2 ∷ 6 ∷ 7 ∷ 8 ∷ []) n₀ h)) in
+      rw (third 6 7 8 k x n₆ n₇) refl
+
+-- a command under another name
+pub does-as : (x y : Solver) (ks vs ts us : List ℕ) (z : Session) (c d : orders.Command) → c ≡ d → (out₀ : List ℕ) (to : ℕ) (out : List ℕ) (r : ℕ)
+    → Does x y ks vs ts us z (solve (limitsOf x) z c) out₀ to out r → Does x y ks vs ts us z (solve (limitsOf x) z d) out₀ to out r
+does-as x y ks vs ts us z c d e out₀ to out r h = subst (λ (k : orders.Command). Does x y ks vs ts us z (solve (limitsOf x) z k) out₀ to out r) e h

@@ -1,0 +1,202 @@
+-- What an order of the session tells is made of its fields: of two numbers at most, or of its terms, which are formed, issued and all of its nodes.
+use mathlib.Core.Path.{_≡_, refl, sym, ap, subst, _∙_}
+use mathlib.Core.Bool.{Bool, true, false}
+use mathlib.Core.List.{List, [], _∷_}
+use mathlib.Core.Option.{Option, none, some}
+use Prim.Native.Nat.{ℕ, zero, suc, _+_, _≤_, _<_}
+use native.Mathlib.Omega.{arith}
+use borrow.Author.Tests.{lt-ltb}
+use lib.Dec.{eqb}
+use Rattle.solver.specs.Terms.Result.{pick}
+use Rattle.solver.specs.Terms.Term.{Term, size}
+use Rattle.solver.proofs.Terms.Bools.{never-true}
+use Rattle.solver.proofs.Terms.KindTableLaws.{both-true}
+use Rattle.solver.specs.Families.{requested}
+use Rattle.solver.specs.Session.{Limits, Session, issued}
+use Rattle.solver.specs.Orders as orders
+use Rattle.solver.specs.Orders.{Command, order, known}
+use Rattle.solver.specs.Rust.{AsRead}
+use Rattle.solver.proofs.Laws.Definition.SolverInvariantLaws.{within-known}
+use Rattle.sheet.specs.Fields as fields
+use Rattle.sheet.specs.Fields.{FieldSort, Field, value, tree, nodes, allNodes, nth, numberOf, numberAt, termOf}
+use Rattle.sheet.specs.OrderTable as rows
+use Rattle.sheet.specs.OrderTable.{refusal, Act, tells, answers, Row, sessionOrders, rowIn, layout, knownBy}
+use Rattle.sheet.specs.Sheet.{Step, table, answerOf, solve, perform, step}
+use Rattle.sheet.specs.Words.FieldsFormed.{FormedFields}
+use Rattle.sheet.specs.Words.OrderGiven.{OfSort, FitsLayout}
+use Rattle.sheet.specs.Words.FieldLayout.{sortNumber, isNumber, numeric, fieldItems, allItems}
+use Rattle.sheet.proofs.Laws.Reading.OrderTableLaws.{session-row}
+
+-- ---- fields that are numbers
+
+number-is : (a : FieldSort) (f : Field) → isNumber a ≡ true → OfSort a f → (n : ℕ) × (f ≡ value n)
+unfolding isNumber sortNumber
+number-is fields.ordinary f n h = h
+number-is fields.code f n h = (h .0, h .1)
+number-is fields.term f n h = never-true n
+number-is fields.nominal f n h = never-true n
+number-is fields.receiver f n h = never-true n
+number-is fields.entries f n h = never-true n
+number-is fields.receivers f n h = never-true n
+number-is fields.parameters f n h = never-true n
+number-is fields.arguments f n h = never-true n
+number-is fields.rules f n h = never-true n
+
+pub numbers-are : (l : List FieldSort) (fs : List Field) → numeric l ≡ true → FitsLayout l fs → (i : ℕ) → (n : ℕ) × (nth i fs ≡ value n)
+unfolding numeric FitsLayout nth
+numbers-are [] [] n h i = (0, refl)
+numbers-are [] (f ∷ fs) n h i = absurd h
+numbers-are (a ∷ l) [] n h i = absurd h
+numbers-are (a ∷ l) (f ∷ fs) n h zero = number-is a f (both-true (isNumber a) (numeric l) n .0) (h .0)
+numbers-are (a ∷ l) (f ∷ fs) n h (suc i) = numbers-are l fs (both-true (isNumber a) (numeric l) n .1) (h .1) i
+
+pub numbers-none : (l : List FieldSort) (fs : List Field) → numeric l ≡ true → FitsLayout l fs → (allNodes fs ≡ 0) × (allItems fs ≡ [])
+unfolding numeric FitsLayout allNodes allItems nodes fieldItems
+numbers-none [] [] n h = (refl, refl)
+numbers-none [] (f ∷ fs) n h = absurd h
+numbers-none (a ∷ l) [] n h = absurd h
+numbers-none (a ∷ l) (f ∷ fs) n h =
+    let t = both-true (isNumber a) (numeric l) n in
+    let x = number-is a f (t .0) (h .0) in
+    let y = numbers-none l fs (t .1) (h .1) in
+    rw (x .1) (omega (arith, y .0), y .1)
+
+-- ---- terms
+
+pub one-term : (fs : List Field) → FitsLayout (fields.term ∷ []) fs → (t : Term) × (fs ≡ tree t ∷ [])
+unfolding FitsLayout
+one-term [] h = absurd h
+one-term (f ∷ []) h = (h .0 .0, ap (λ (g : Field). g ∷ []) (h .0 .1))
+one-term (f ∷ (g ∷ fs)) h = absurd (h .1)
+
+pub two-terms : (fs : List Field) → FitsLayout (fields.ordinary ∷ fields.term ∷ fields.term ∷ []) fs → (n : ℕ) × (t : Term) × (u : Term) × (fs ≡ value n ∷ tree t ∷ tree u ∷ [])
+unfolding FitsLayout
+two-terms [] h = absurd h
+two-terms (f ∷ []) h = absurd (h .1)
+two-terms (f ∷ (g ∷ [])) h = absurd (h .1 .1)
+two-terms (f ∷ (g ∷ (i ∷ []))) h = (h .0 .0, h .1 .0 .0, h .1 .1 .0 .0, rw (h .0 .1, h .1 .0 .1, h .1 .1 .0 .1) refl)
+two-terms (f ∷ (g ∷ (i ∷ (j ∷ fs)))) h = absurd (h .1 .1 .1)
+
+pub second-code : (fs : List Field) → FitsLayout (fields.ordinary ∷ fields.code ∷ []) fs → numberAt 1 fs < 32
+unfolding FitsLayout nth numberOf
+second-code [] h = absurd h
+second-code (f ∷ []) h = absurd (h .1)
+second-code (f ∷ (g ∷ fs)) h = rw (h .1 .0 .1) (h .1 .0 .2)
+
+-- ---- an order of the session
+
+-- f makes the command of fields of the layout l
+pub record Made (l : List FieldSort) (f : List Field → Command) : Type 0 where
+  -- of numbers alone: of the first two
+  pub plain : numeric l ≡ true → (fs : List Field) → f fs ≡ f (value (numberAt 0 fs) ∷ value (numberAt 1 fs) ∷ [])
+  -- as the Rust is given it
+  pub read : (n : ℕ) (fs : List Field) → FitsLayout l fs → FormedFields n fs → AsRead (f fs)
+  -- with more nodes than the limit it is refused
+  pub crowded : (lim : Limits) (z : Session) (fs : List Field) → FitsLayout l fs → FormedFields (issued z) fs → z .kept ≤ lim .nodes → lim .nodes < z .kept + allNodes fs
+      → solve lim z (f fs) ≡ record { session = z; answer = refusal 7 }
+
+-- one of numbers has no node
+uncrowded : {A : Type 0} (l : List FieldSort) → numeric l ≡ true → (lim : Limits) (z : Session) (fs : List Field) → FitsLayout l fs → z .kept ≤ lim .nodes → lim .nodes < z .kept + allNodes fs → A
+uncrowded l n lim z fs fit g h = absurd (omega (arith, numbers-none l fs n fit .0))
+
+variable-made : Made (layout rows.variable) (λ fs. orders.variable (numberAt 0 fs) (numberAt 1 fs))
+unfolding layout numeric isNumber sortNumber nth numberOf
+variable-made = record { plain = λ e fs. refl; read = λ n fs fit formed. tt; crowded = λ lim z fs fit formed g h. uncrowded (layout rows.variable) refl lim z fs fit g h }
+
+number-made : Made (layout rows.number-variable) (λ fs. orders.number (numberAt 0 fs) (requested (numberAt 1 fs)))
+unfolding layout numeric isNumber sortNumber nth numberOf
+number-made = record {
+  plain = λ e fs. refl;
+  read = λ n fs fit formed. (refl, second-code fs fit);
+  crowded = λ lim z fs fit formed g h. uncrowded (layout rows.number-variable) refl lim z fs fit g h;
+}
+
+hole-made : Made (layout rows.annotation-hole) (λ fs. orders.hole (numberAt 0 fs))
+unfolding layout numeric isNumber sortNumber nth numberOf
+hole-made = record { plain = λ e fs. refl; read = λ n fs fit formed. tt; crowded = λ lim z fs fit formed g h. uncrowded (layout rows.annotation-hole) refl lim z fs fit g h }
+
+-- without fields
+bare-made : (c : Command) → AsRead c → Made [] (λ fs. c)
+unfolding numeric
+bare-made c r = record { plain = λ e fs. refl; read = λ n fs fit formed. r; crowded = λ lim z fs fit formed g h. uncrowded [] refl lim z fs fit g h }
+
+defer-made : Made (layout rows.defer-never) (λ fs. orders.defer (fields.termAt 0 fs))
+unfolding layout numeric isNumber sortNumber nth termOf FormedFields allNodes nodes order answerOf
+defer-made = record {
+  plain = λ e fs. never-true e;
+  read = λ n fs fit formed. let t = one-term fs fit in let g = rw (t .1) at formed in rw (t .1) (g .0 .formed);
+  crowded = λ lim z fs fit formed k h.
+      let t = one-term fs fit in
+      let g = rw (t .1) at formed in
+      let i : lim .nodes < z .kept + size (t .0) = omega (arith, rw (t .1) at h) in
+      rw (t .1, within-known z (t .0) (g .0 .below), lt-ltb (lim .nodes) (z .kept + size (t .0)) i) refl;
+}
+
+resolve-made : Made (layout rows.resolve) (λ fs. orders.resolving (fields.termAt 0 fs))
+unfolding layout numeric isNumber sortNumber nth termOf FormedFields allNodes nodes order answerOf
+resolve-made = record {
+  plain = λ e fs. never-true e;
+  read = λ n fs fit formed. let t = one-term fs fit in let g = rw (t .1) at formed in rw (t .1) (g .0 .formed);
+  crowded = λ lim z fs fit formed k h.
+      let t = one-term fs fit in
+      let g = rw (t .1) at formed in
+      let i : lim .nodes < z .kept + size (t .0) = omega (arith, rw (t .1) at h) in
+      rw (t .1, within-known z (t .0) (g .0 .below), lt-ltb (lim .nodes) (z .kept + size (t .0)) i) refl;
+}
+
+pair-made : Made (layout rows.constrain) (λ fs. orders.pair (numberAt 0 fs) (fields.termAt 1 fs) (fields.termAt 2 fs))
+unfolding layout numeric isNumber sortNumber nth termOf numberOf FormedFields allNodes nodes order answerOf
+pair-made = record {
+  plain = λ e fs. never-true e;
+  read = λ n fs fit formed. let t = two-terms fs fit in let g = rw (t .3) at formed in rw (t .3) (g .1 .0 .formed, g .1 .1 .0 .formed);
+  crowded = λ lim z fs fit formed k h.
+      let t = two-terms fs fit in
+      let g = rw (t .3) at formed in
+      let i : lim .nodes < z .kept + (size (t .1) + size (t .2)) = omega (arith, rw (t .3) at h) in
+      rw (t .3, within-known z (t .1) (g .1 .0 .below), within-known z (t .2) (g .1 .1 .0 .below), lt-ltb (lim .nodes) (z .kept + (size (t .1) + size (t .2))) i) refl;
+}
+
+-- ---- every order
+
+abbrev pub MadeBy : List FieldSort → Act → Type 0
+MadeBy l (tells f) = Made l f
+MadeBy l (answers f) = Unit {0}
+
+abbrev All : List Row → Type 0
+All [] = Unit {0}
+All (r ∷ rs) = MadeBy (layout r) (r .act) × All rs
+
+all-made : All sessionOrders
+unfolding sessionOrders layout
+all-made =
+    (variable-made, (number-made, (hole-made, (defer-made, (pair-made, (resolve-made, (bare-made orders.numbers tt, (bare-made orders.nevers tt, (bare-made orders.revision tt, tt)))))))))
+
+found : (rs : List Row) → All rs → (k : ℕ) (r : Row) → rowIn rs k ≡ some r → MadeBy (layout r) (r .act)
+unfolding rowIn
+found [] x k r e = let z : _≡_ {A = ℕ} 0 1 = cc in absurd (omega arith)
+found (a ∷ rs) x k r e = go (eqb k (a .number)) (found rs (x .1) k r) e
+  where
+    go : (b : Bool) → (rowIn rs k ≡ some r → MadeBy (layout r) (r .act)) → pick b (some a) (rowIn rs k) ≡ some r → MadeBy (layout r) (r .act)
+    go true more e = let f : a ≡ r = cc in subst (λ (q : Row). MadeBy (layout q) (q .act)) f (x .0)
+    go false more e = more e
+
+pub session-made : (k : ℕ) (r : Row) → rowIn sessionOrders k ≡ some r → MadeBy (layout r) (r .act)
+session-made = found sessionOrders all-made
+
+pub row-made : (k : ℕ) (r : Row) → rowIn table k ≡ some r → MadeBy (layout r) (r .act)
+row-made k r e = go (r .act) refl
+  where
+    go : (a : Act) → r .act ≡ a → MadeBy (layout r) (r .act)
+    go (tells f) h = session-made k r (session-row k r f e h)
+    go (answers f) h = rw h tt
+
+-- ---- refusal 7
+
+pub crowds : (lim : Limits) (z : Session) (k : ℕ) (r : Row) → rowIn table k ≡ some r → z .kept ≤ lim .nodes → (fs : List Field) → FitsLayout (layout r) fs → FormedFields (rows.known r (issued z)) fs
+    → lim .nodes < z .kept + allNodes fs → step lim z r fs ≡ record { session = z; answer = refusal 7 }
+unfolding step rows.known
+crowds lim z k r e g fs fit formed h = go (r .act) (row-made k r e) formed
+  where
+    go : (a : Act) → MadeBy (layout r) a → FormedFields (knownBy a (issued z)) fs → perform lim z fs a ≡ record { session = z; answer = refusal 7 }
+    go (tells f) m w = m .crowded lim z fs fit w g h
+    go (answers f) m w = rw (lt-ltb (lim .nodes) (z .kept + allNodes fs) h) refl

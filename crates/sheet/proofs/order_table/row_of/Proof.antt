@@ -1,0 +1,128 @@
+-- `row_of`: each row by computation on the table.
+use Prim.Native.Nat.{zero-le}
+use Rattle.solver.proofs.Terms.KindLaws.{past}
+use mathlib.Core.Path.{refl, sym, ap}
+use Rattle.sheet.specs.OrderTable.{sessionOrders, rowIn, layout}
+use Rattle.sheet.specs.Operations.{operations}
+use Rattle.sheet.specs.Sheet.{table}
+use Rattle.sheet.specs.Words.FieldLayout.{rowWords, packed, sortNumber}
+use Rattle.sheet.proofs.Laws.Reading.OrderTableLaws.{unlisted}
+use Rattle.sheet.proofs.order_table.row_of.Statement.{statement}
+use Rattle.sheet.proofs.order_table.row_of.Tie as tie
+
+returns : tie.Need-returns
+unfolding table sessionOrders operations rowIn layout packed sortNumber
+returns c = rw (c .match .keys1) refl
+
+returns-2 : tie.Need-returns-2
+unfolding table sessionOrders operations rowIn layout packed sortNumber
+returns-2 c = rw (c .match .keys2) refl
+
+returns-3 : tie.Need-returns-3
+unfolding table sessionOrders operations rowIn layout packed sortNumber
+returns-3 c = rw (c .match .keys3) refl
+
+returns-4 : tie.Need-returns-4
+unfolding table sessionOrders operations rowIn layout packed sortNumber
+returns-4 c = rw (c .match .keys4) refl
+
+returns-5 : tie.Need-returns-5
+unfolding table sessionOrders operations rowIn layout packed sortNumber
+returns-5 c = rw (c .match .keys5) refl
+
+returns-6 : tie.Need-returns-6
+unfolding table sessionOrders operations rowIn layout packed sortNumber
+returns-6 c = rw (c .match .keys6) refl
+
+returns-7 : tie.Need-returns-7
+unfolding table sessionOrders operations rowIn layout packed sortNumber
+returns-7 c = rw (c .match .keys7) refl
+
+returns-8 : tie.Need-returns-8
+unfolding table sessionOrders operations rowIn layout packed sortNumber
+returns-8 c = rw (c .match .keys8) refl
+
+returns-9 : tie.Need-returns-9
+unfolding table sessionOrders operations rowIn layout packed sortNumber
+returns-9 c = rw (c .match .keys9) refl
+
+returns-10 : tie.Need-returns-10
+unfolding table sessionOrders operations rowIn layout packed sortNumber
+returns-10 c = rw (c .match .keys10) refl
+
+returns-11 : tie.Need-returns-11
+unfolding table sessionOrders operations rowIn layout packed sortNumber
+returns-11 c = rw (c .match .keys11) refl
+
+returns-12 : tie.Need-returns-12
+unfolding table sessionOrders operations rowIn layout packed sortNumber
+returns-12 c = rw (c .match .keys12) refl
+
+returns-13 : tie.Need-returns-13
+unfolding table sessionOrders operations rowIn layout packed sortNumber
+returns-13 c = rw (c .match .keys13) refl
+
+returns-14 : tie.Need-returns-14
+unfolding table sessionOrders operations rowIn layout packed sortNumber
+returns-14 c = rw (c .match .keys14) refl
+
+returns-15 : tie.Need-returns-15
+unfolding table sessionOrders operations rowIn layout packed sortNumber
+returns-15 c = rw (c .match .keys15) refl
+
+returns-16 : tie.Need-returns-16
+unfolding table sessionOrders operations rowIn layout packed sortNumber
+returns-16 c = rw (c .match .keys16) refl
+
+returns-17 : tie.Need-returns-17
+unfolding table sessionOrders operations rowIn layout packed sortNumber
+returns-17 c = rw (c .match .keys17) refl
+
+returns-18 : tie.Need-returns-18
+unfolding table sessionOrders operations rowIn layout packed sortNumber
+returns-18 c = rw (c .match .keys18) refl
+
+returns-19 : tie.Need-returns-19
+unfolding table sessionOrders operations rowIn layout packed sortNumber
+returns-19 c = rw (c .match .keys19) refl
+
+returns-20 : tie.Need-returns-20
+unfolding table sessionOrders operations rowIn layout packed sortNumber
+returns-20 c = rw (c .match .keys20) refl
+
+returns-21 : tie.Need-returns-21
+unfolding table sessionOrders operations rowIn layout packed sortNumber
+returns-21 c = rw (c .match .keys21) refl
+
+returns-22 : tie.Need-returns-22
+returns-22 c =
+    let n = c .match .rest in
+    let least = past 20 _ (past 19 _ (past 18 _ (past 17 _ (past 16 _ (past 15 _ (past 14 _ (past 13 _ (past 12 _ (past 11 _ (past 10 _ (past 9 _ (past 8 _ (past 7 _ (past 6 _ (past 5 _ (past 4 _ (past 3 _ (past 2 _ (past 1 _ (past 0 _ zero-le (n .0 .0 .0 .0 .0 .0 .0 .0 .0 .0 .0 .0 .0 .0 .0 .0 .0 .0 .0 .0 .1)) (n .0 .0 .0 .0 .0 .0 .0 .0 .0 .0 .0 .0 .0 .0 .0 .0 .0 .0 .0 .1)) (n .0 .0 .0 .0 .0 .0 .0 .0 .0 .0 .0 .0 .0 .0 .0 .0 .0 .0 .1)) (n .0 .0 .0 .0 .0 .0 .0 .0 .0 .0 .0 .0 .0 .0 .0 .0 .0 .1)) (n .0 .0 .0 .0 .0 .0 .0 .0 .0 .0 .0 .0 .0 .0 .0 .0 .1)) (n .0 .0 .0 .0 .0 .0 .0 .0 .0 .0 .0 .0 .0 .0 .0 .1)) (n .0 .0 .0 .0 .0 .0 .0 .0 .0 .0 .0 .0 .0 .0 .1)) (n .0 .0 .0 .0 .0 .0 .0 .0 .0 .0 .0 .0 .0 .1)) (n .0 .0 .0 .0 .0 .0 .0 .0 .0 .0 .0 .0 .1)) (n .0 .0 .0 .0 .0 .0 .0 .0 .0 .0 .0 .1)) (n .0 .0 .0 .0 .0 .0 .0 .0 .0 .0 .1)) (n .0 .0 .0 .0 .0 .0 .0 .0 .0 .1)) (n .0 .0 .0 .0 .0 .0 .0 .0 .1)) (n .0 .0 .0 .0 .0 .0 .0 .1)) (n .0 .0 .0 .0 .0 .0 .1)) (n .0 .0 .0 .0 .0 .1)) (n .0 .0 .0 .0 .1)) (n .0 .0 .0 .1)) (n .0 .0 .1)) (n .0 .1)) (n .1) in
+    sym (ap rowWords (unlisted _ least))
+
+pub row-of-spec : {M : Type 1} → statement M
+row-of-spec =
+    tie.close
+    (tie.spec
+    returns
+    returns-2
+    returns-3
+    returns-4
+    returns-5
+    returns-6
+    returns-7
+    returns-8
+    returns-9
+    returns-10
+    returns-11
+    returns-12
+    returns-13
+    returns-14
+    returns-15
+    returns-16
+    returns-17
+    returns-18
+    returns-19
+    returns-20
+    returns-21
+    returns-22)

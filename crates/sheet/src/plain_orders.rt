@@ -1,0 +1,279 @@
+// Orders 0, 1, 2, 6, 7 and 8 on what the solver is lent: the tokens, the table, and the work area, all 0.
+use super::AfterOrder;
+use super::framing::begin_answer;
+use super::framing::write_byte_answer;
+use super::framing::write_number_answer;
+use super::framing::write_refusal;
+use solver::Named;
+use solver::Site;
+use solver::Solver;
+use solver::Subject;
+use solver::variable_len;
+use solver::write_variable;
+ghost use mathlib.Core.Path.{_≡_};
+ghost use mathlib.Core.Bool.{not};
+ghost use mathlib.Core.List.{List, [], _∷_};
+ghost use Prim.Native.Nat.{ℕ, _<_};
+ghost use lib.Dec.{eqb};
+ghost use Rattle.solver.specs.Terms.Term.{Term, var, bytes};
+ghost use Rattle.solver.specs.Families.{requested};
+ghost use Rattle.solver.specs.Shapes.{Notion, loose};
+ghost use Rattle.solver.specs.Session.{Session};
+ghost use Rattle.solver.specs.Orders as orders;
+ghost use Rattle.solver.specs.Words.Worklist.{Zero};
+ghost use Rattle.solver.specs.Words.SessionRepresentation.{Reachable, Represents, limitsOf};
+ghost use Rattle.solver.specs.Words.OrderTerms.{Asked, Frames, resolvedTo};
+ghost use Rattle.sheet.specs.OrderTable.{outcome};
+ghost use Rattle.sheet.specs.Operations.{bit};
+ghost use Rattle.sheet.specs.Sheet.{solve};
+ghost use Rattle.sheet.specs.Words.OperationsContract.{Among};
+ghost use Rattle.sheet.specs.Words.FramingContract.{OutputRoom, Framed};
+ghost use Rattle.sheet.specs.Words.SessionOrdersContract.{Does, plainCommand};
+
+// Whether the revision is another, as a byte.
+fn changed_byte(old: usize, new: usize) -> u8
+    ensures { λ r. ⌜ r ≡ bit (not (eqb new old)) ⌝ }
+{
+    if new == old {
+        return 0;
+    }
+    1
+}
+
+// Order 8.
+fn revision_order(x: Solver, out: &mut [u8], to: usize) -> AfterOrder
+    requires { ⌜ OutputRoom (now out) to ⌝ }
+    ensures { λ r. ⌜ ((ks vs ts : List ℕ) (z : Session) → Represents x ks vs ts z
+        → Does x (r .solver) ks vs ts ts z (solve (limitsOf x) z orders.revision) (now (out .entry)) to (now (out .exit)) (r .next)) ⌝ }
+{
+    let n = x.revision();
+    let next = write_number_answer(out, to, n as u64);
+    AfterOrder { solver: x, next }
+}
+
+// Order 6.
+fn default_numbers(
+    x: Solver,
+    kinds: &[u32],
+    vals: &[u32],
+    tables: &mut [u32],
+    out: &mut [u8],
+    to: usize,
+) -> AfterOrder
+    requires held { ⌜ ((z : Session) × Reachable (limitsOf x) loose z × Represents x (now kinds) (now vals) (now tables) z) ⌝ }
+    requires room { ⌜ OutputRoom (now out) to ⌝ }
+    ensures { λ r. ⌜ ((z : Session) → Reachable (limitsOf x) loose z → Represents x (now (kinds .entry)) (now (vals .entry)) (now (tables .entry)) z
+        → Does x (r .solver) (now (kinds .entry)) (now (vals .entry)) (now (tables .entry)) (now (tables .exit)) z (solve (limitsOf x) z orders.numbers)
+        (now (out .entry)) to (now (out .exit)) (r .next)) ⌝ }
+{
+    if out.len() - to < 3 {
+        let next = out.len() + 1;
+        return AfterOrder { solver: x, next };
+    }
+    let old = x.revision();
+    let y = x.apply_numeric_defaults(kinds, vals, tables);
+    let a = changed_byte(old, y.revision());
+    let next = write_byte_answer(out, to, a);
+    AfterOrder { solver: y, next }
+}
+
+// Order 7.
+fn default_nevers(
+    x: Solver,
+    kinds: &[u32],
+    vals: &[u32],
+    tables: &mut [u32],
+    out: &mut [u8],
+    to: usize,
+) -> AfterOrder
+    requires held { ⌜ ((z : Session) × Reachable (limitsOf x) loose z × Represents x (now kinds) (now vals) (now tables) z) ⌝ }
+    requires room { ⌜ OutputRoom (now out) to ⌝ }
+    ensures { λ r. ⌜ ((z : Session) → Reachable (limitsOf x) loose z → Represents x (now (kinds .entry)) (now (vals .entry)) (now (tables .entry)) z
+        → Does x (r .solver) (now (kinds .entry)) (now (vals .entry)) (now (tables .entry)) (now (tables .exit)) z (solve (limitsOf x) z orders.nevers)
+        (now (out .entry)) to (now (out .exit)) (r .next)) ⌝ }
+{
+    if out.len() - to < 3 {
+        let next = out.len() + 1;
+        return AfterOrder { solver: x, next };
+    }
+    let old = x.revision();
+    let y = x.apply_never_defaults(kinds, vals, tables);
+    let a = changed_byte(old, y.revision());
+    let next = write_byte_answer(out, to, a);
+    AfterOrder { solver: y, next }
+}
+
+// A variable as the answer.
+fn write_variable_answer(out: &mut [u8], to: usize, v: u32) -> usize
+    requires { ⌜ OutputRoom (now out) to ⌝ }
+    ensures { λ r. ⌜ Framed (outcome (bytes (var v))) (now (out .entry)) to (now (out .exit)) r ⌝ }
+{
+    let size = variable_len(v);
+    let at = begin_answer(out, to, size);
+    if out.len() < at {
+        return at;
+    }
+    write_variable(out, at, v)
+}
+
+// What a term or a variable resolves to, as the answer.
+pub fn resolved(
+    x: Solver,
+    kinds: &[u32],
+    vals: &[u32],
+    tables: &[u32],
+    frames: &mut [u32],
+    what: Subject,
+    out: &mut [u8],
+    to: usize,
+) -> usize
+    requires held { ⌜ ((n : Notion) × (z : Session) × (t : Term) × Asked n x (now kinds) (now vals) (now tables) what z t) ⌝ }
+    requires areas { ⌜ Frames x (now frames) ⌝ }
+    requires room { ⌜ OutputRoom (now out) to ⌝ }
+    ensures clear { λ _. ⌜ Zero (now (frames .exit)) ⌝ }
+    ensures term { λ r. ⌜ ((n : Notion) (z : Session) (t : Term) → Asked n x (now (kinds .entry)) (now (vals .entry)) (now (tables .entry)) what z t
+        → Framed (outcome (resolvedTo z t)) (now (out .entry)) to (now (out .exit)) r) ⌝ }
+{
+    let limit = out.len();
+    let size = x.resolved_len(kinds, vals, tables, frames, what, limit);
+    if limit < size {
+        return limit + 1;
+    }
+    let at = begin_answer(out, to, size);
+    if limit < at {
+        return at;
+    }
+    x.resolve(kinds, vals, tables, frames, what, out, at)
+}
+
+// Order 0.
+fn variable_of(
+    x: Solver,
+    tables: &mut [u32],
+    site: u32,
+    slot: u32,
+    out: &mut [u8],
+    to: usize,
+) -> AfterOrder
+    requires held { ⌜ ((ks vs : List ℕ) × (z : Session) × Represents x ks vs (now tables) z) ⌝ }
+    requires room { ⌜ OutputRoom (now out) to ⌝ }
+    ensures { λ r. ⌜ ((ks vs : List ℕ) (z : Session) → Represents x ks vs (now (tables .entry)) z
+        → Does x (r .solver) ks vs (now (tables .entry)) (now (tables .exit)) z (solve (limitsOf x) z (orders.variable site slot)) (now (out .entry)) to
+        (now (out .exit)) (r .next)) ⌝ }
+{
+    let Named::Variable(v) = x.id_of(tables, Site::Slot(site, slot)) else {
+        let next = write_refusal(out, to, 8);
+        return AfterOrder { solver: x, next };
+    };
+    let next = write_variable_answer(out, to, v);
+    if out.len() < next {
+        return AfterOrder { solver: x, next };
+    }
+    let y = x.variable(tables, site, slot);
+    let solver = y.solver;
+    AfterOrder { solver, next }
+}
+
+// Order 1.
+fn number_of(
+    x: Solver,
+    kinds: &[u32],
+    vals: &[u32],
+    tables: &mut [u32],
+    frames: &mut [u32],
+    site: u32,
+    fallback: u32,
+    out: &mut [u8],
+    to: usize,
+) -> AfterOrder
+    requires held { ⌜ ((z : Session) × Represents x (now kinds) (now vals) (now tables) z) ⌝ }
+    requires areas { ⌜ (fallback < 32) × Frames x (now frames) ⌝ }
+    requires room { ⌜ OutputRoom (now out) to ⌝ }
+    ensures clear { λ _. ⌜ Zero (now (frames .exit)) ⌝ }
+    ensures does { λ r. ⌜ ((z : Session) → Represents x (now (kinds .entry)) (now (vals .entry)) (now (tables .entry)) z
+        → Does x (r .solver) (now (kinds .entry)) (now (vals .entry)) (now (tables .entry)) (now (tables .exit)) z
+        (solve (limitsOf x) z (orders.number site (requested fallback))) (now (out .entry)) to (now (out .exit)) (r .next)) ⌝ }
+{
+    let Named::Variable(v) = x.id_of(tables, Site::Slot(site, 1)) else {
+        let next = write_refusal(out, to, 8);
+        return AfterOrder { solver: x, next };
+    };
+    let next = resolved(x, kinds, vals, tables, frames, Subject::Id(v), out, to);
+    if out.len() < next {
+        return AfterOrder { solver: x, next };
+    }
+    let y = x.numeric_variable(tables, site, fallback);
+    let solver = y.solver;
+    AfterOrder { solver, next }
+}
+
+// Order 2.
+fn hole_of(
+    x: Solver,
+    kinds: &[u32],
+    vals: &[u32],
+    tables: &mut [u32],
+    frames: &mut [u32],
+    site: u32,
+    out: &mut [u8],
+    to: usize,
+) -> AfterOrder
+    requires held { ⌜ ((z : Session) × Represents x (now kinds) (now vals) (now tables) z) ⌝ }
+    requires areas { ⌜ Frames x (now frames) ⌝ }
+    requires room { ⌜ OutputRoom (now out) to ⌝ }
+    ensures clear { λ _. ⌜ Zero (now (frames .exit)) ⌝ }
+    ensures does { λ r. ⌜ ((z : Session) → Represents x (now (kinds .entry)) (now (vals .entry)) (now (tables .entry)) z
+        → Does x (r .solver) (now (kinds .entry)) (now (vals .entry)) (now (tables .entry)) (now (tables .exit)) z (solve (limitsOf x) z (orders.hole site))
+        (now (out .entry)) to (now (out .exit)) (r .next)) ⌝ }
+{
+    let Named::Variable(v) = x.id_of(tables, Site::Hole(site)) else {
+        let next = write_refusal(out, to, 8);
+        return AfterOrder { solver: x, next };
+    };
+    let next = resolved(x, kinds, vals, tables, frames, Subject::Id(v), out, to);
+    if out.len() < next {
+        return AfterOrder { solver: x, next };
+    }
+    let y = x.annotation_hole(tables, site);
+    let solver = y.solver;
+    AfterOrder { solver, next }
+}
+
+// Orders 0, 1, 2, 6, 7 and 8, by their kind and two numbers.
+pub fn termless_order(
+    x: Solver,
+    kind: u8,
+    first: u32,
+    second: u32,
+    kinds: &[u32],
+    vals: &[u32],
+    tables: &mut [u32],
+    frames: &mut [u32],
+    out: &mut [u8],
+    to: usize,
+) -> AfterOrder
+    requires held { ⌜ ((z : Session) × Reachable (limitsOf x) loose z × Represents x (now kinds) (now vals) (now tables) z) ⌝ }
+    requires areas { ⌜ ((kind ≡ 1) → (second < 32)) × Frames x (now frames) × Among (0 ∷ 1 ∷ 2 ∷ 6 ∷ 7 ∷ 8 ∷ []) kind ⌝ }
+    requires room { ⌜ OutputRoom (now out) to ⌝ }
+    ensures clear { λ _. ⌜ Zero (now (frames .exit)) ⌝ }
+    ensures does { λ r. ⌜ ((z : Session) → Reachable (limitsOf x) loose z → Represents x (now (kinds .entry)) (now (vals .entry)) (now (tables .entry)) z
+        → Does x (r .solver) (now (kinds .entry)) (now (vals .entry)) (now (tables .entry)) (now (tables .exit)) z
+        (solve (limitsOf x) z (plainCommand kind first second)) (now (out .entry)) to (now (out .exit)) (r .next)) ⌝ }
+{
+    if kind == 0 {
+        return variable_of(x, tables, first, second, out, to);
+    }
+    if kind == 1 {
+        return number_of(x, kinds, vals, tables, frames, first, second, out, to);
+    }
+    if kind == 2 {
+        return hole_of(x, kinds, vals, tables, frames, first, out, to);
+    }
+    if kind == 6 {
+        return default_numbers(x, kinds, vals, tables, out, to);
+    }
+    if kind == 7 {
+        return default_nevers(x, kinds, vals, tables, out, to);
+    }
+    revision_order(x, out, to)
+}

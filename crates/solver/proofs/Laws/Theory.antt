@@ -1,0 +1,13 @@
+-- Laws: terms as trees of the theory; demand 3, carried over from it.
+--   TheoryView        terms as trees of the theory, and the way back
+--   Signature         the heads and families of the theory; which trees are views
+--   TheoryViewLaws    the view keeps substitution, resolving, questions and shapes
+--   ConstrainView     `constrain` and the defaults, viewed
+--   TheorySimulation  each order and each answer, viewed
+--   Demand3Laws       demand 3
+pub mod TheoryView
+pub mod Signature
+pub mod TheoryViewLaws
+pub mod ConstrainView
+pub mod TheorySimulation
+pub mod Demand3Laws

@@ -1,0 +1,310 @@
+-- Demand 3 for every list of orders 0 to 8, on terms: carried over from the theory along the view.
+use mathlib.Core.Path.{_≡_, refl, sym, ap, _∙_, subst}
+use mathlib.Core.Bool.{Bool, true, false, _&&_, _||_}
+use mathlib.Core.List.{List, [], _∷_, map}
+use mathlib.Core.Option.{Option, none, some}
+use Prim.Native.Nat.{ℕ, suc, _<_}
+use native.Mathlib.Omega.{arith}
+use borrow.Author.Tests.{eqb-true}
+use lib.Dec.{eqb}
+use Rattle.terms.specs.Result.{pick}
+use Rattle.terms.specs.Term.{Term, Parts, var, node, end, num, sub}
+use Rattle.terms.specs.Questions.{among, meets}
+use Rattle.terms.specs.Formed.{Formed}
+use Rattle.terms.proofs.Laws.General.Bools.{never-true, never-false}
+use Rattle.unify.specs.Term as tree
+use Rattle.unify.specs.Term.{Sort, Tree, nil, _▸_, In, Closed, Sim, sub-ext}
+use Rattle.unify.specs.Solver.{Out, cancelled, done}
+use Rattle.unify.specs.Meaning as meaning
+use Rattle.unify.specs.Orders as theirs
+use Rattle.unify.specs.Orders.{Run, Issued}
+use Rattle.unify.proofs.Demand as demand
+use Rattle.unify.specs.Table.{answer, table-poses}
+use Rattle.unify.specs.Session as session
+use Rattle.unify.proofs.Whole.{whole-demand-3}
+use Rattle.solver.specs.Families.{Family, Request, belongs, belongsRow}
+use Rattle.solver.specs.Shapes.{Notion, loose, exact, unmarked, readRow, read, blankRow}
+use Rattle.solver.specs.Constrain.{Pair, replace, resolved, always, occurs, recovery, projects}
+use Rattle.solver.specs.Session.{Limits, Session, issued, find, fresh, never}
+use Rattle.solver.specs.Orders.{Command}
+use Rattle.solver.specs.Demand3.{History, beginning, history, isVariable, VariableFree, Assigns, RespectsFamilies, MakesEqual, Agrees, Demand3, outside, Plain, PlainPairs, Premises}
+use Rattle.solver.proofs.Laws.Theory.TheoryView.{T, view, view-injective, back, back-view, meets-view, some-of, some-in, in-some}
+use Rattle.solver.proofs.Laws.Theory.Signature.{S, view-back, formed-back, formed-view}
+use Rattle.solver.proofs.Laws.Definition.FamilyLaws.{belongs-code}
+use Rattle.solver.proofs.Laws.Theory.TheoryViewLaws.{viewed, view-replace, view-resolve, occurs-in, alike-sim, sim-alike}
+use Rattle.solver.proofs.Laws.Theory.ConstrainView.{view-table, view-pairs, leaf-view, fallback}
+use Rattle.solver.proofs.Laws.Theory.TheorySimulation.{TheSession, view-run, view-commands, history-view, all-allowed-view}
+
+-- ---- variable-free terms
+
+free-some : (t : Term) → meets isVariable always t ≡ some-of (λ v. true) (λ (h : Term). false) (view t)
+unfolding isVariable
+free-some t = meets-view isVariable (λ h. false) (λ k ps. refl) t
+
+free-closed : (t : Term) → VariableFree t → Closed (view t)
+free-closed t e v i = never-true (sym e ∙ free-some t ∙ some-in (λ v. true) (view t) v i refl)
+
+closed-free : (t : Term) → Closed (view t) → VariableFree t
+closed-free t c = go (meets isVariable always t) refl
+  where
+    go : (b : Bool) → meets isVariable always t ≡ b → b ≡ false
+    go true e = let r = in-some (λ v. true) (view t) (sym (free-some t) ∙ e) in absurd (c (r .0) (r .1))
+    go false e = refl
+
+-- ---- plain terms
+
+unfoldable pub odd : Term → Bool
+odd h = recovery h || projects h
+
+pub or-both : (a b : Bool) → (a || b) ≡ false → (a ≡ false) × (b ≡ false)
+or-both true b e = never-false e
+or-both false b e = (refl, e)
+
+plain-tree : {s : Sort} (t : Tree Term s) → meaning.Formed S t → some-of (λ v. false) odd t ≡ false → meaning.Plain S t
+unfolding some-of odd
+plain-tree (tree.var v) f e = tt
+plain-tree (tree.node h ts) f e =
+    let a = or-both (recovery h || projects h) (some-of (λ v. false) odd ts) e in
+    let b = or-both (recovery h) (projects h) (a .0) in
+    (b .0, b .1, f .0, plain-tree ts (f .1) (a .1))
+plain-tree nil f e = tt
+plain-tree (t ▸ ts) f e =
+    let a = or-both (some-of (λ v. false) odd t) (some-of (λ v. false) odd ts) e in
+    (plain-tree t (f .0) (a .0), plain-tree ts (f .1) (a .1))
+
+pub outside-odd : (k : ℕ) (ps : Parts) → outside (node k ps) ≡ odd (node k (blankRow ps))
+unfolding outside odd recovery projects among
+outside-odd k ps = go (eqb k 2) (eqb k 3) (eqb k 18)
+  where
+    go : (a b c : Bool) → (a || (b || (c || false))) ≡ ((a || (b || false)) || c)
+    go true b c = refl
+    go false true c = refl
+    go false false true = refl
+    go false false false = refl
+
+plain-view : (t : Term) → Plain t → meaning.Plain S (view t)
+unfolding outside
+plain-view t p = plain-tree (view t) (formed-view t (p .0)) (sym (meets-view outside odd outside-odd t) ∙ p .1)
+
+pub plain-pairs-view : (ps : List Pair) → PlainPairs ps → meaning.PlainPairs S (view-pairs ps)
+plain-pairs-view [] p = tt
+plain-pairs-view (x ∷ ps) p = (plain-view (x .0) (p .0), plain-view (x .1) (p .1), plain-pairs-view ps (p .2))
+
+-- ---- families
+
+-- a family does not see access, where a builtin's code is not one
+module _ (n : Notion) (codes-count : n 4 ≡ false) where
+  read-belongs : (f : Family) (t : Term) → belongs f (read n t) ≡ belongs f t
+  unfolding belongs read
+  read-belongs f (var v) = refl
+  read-belongs f (node k ps) = go (eqb k 4) refl
+    where
+      go : (b : Bool) → eqb k 4 ≡ b → (b && belongsRow f (readRow n k ps)) ≡ (b && belongsRow f ps)
+      go true e =
+          let p : n k ≡ false = ap n (eqb-true k 4 e) ∙ codes-count in
+          ap (λ (b : Bool). belongsRow f (pick b (unmarked ps) ps)) p
+      go false e = refl
+
+  pub respects : (r : Request) (h k : Term) → read n h ≡ read n k → belongs (r .family) h ≡ belongs (r .family) k
+  respects r h k e = sym (read-belongs (r .family) h) ∙ ap (belongs (r .family)) e ∙ read-belongs (r .family) k
+
+abbrev viewing : (ℕ → Term) → ℕ → T
+viewing θ v = view (θ v)
+
+belongs-member : (r : Request) (t : Term) → belongs (r .family) t ≡ true → meaning.Member S r (view t)
+belongs-member r t e =
+    let x = belongs-code (r .family) t e in
+    (node 4 (num (x .0) end), ap view (x .1) ∙ leaf-view (x .0), ap (belongs (r .family)) (sym (x .1)) ∙ e)
+
+-- a tree of a family is the view of a builtin
+member-belongs : (r : Request) (t : T) → meaning.Member S r t → (u : Term) × (t ≡ view u) × (belongs (r .family) u ≡ true)
+member-belongs r t m =
+    let x = belongs-code (r .family) (m .0) (m .2) in
+    (m .0, m .1 ∙ ap (λ (h : Term). tree.node h nil) (x .1) ∙ sym (leaf-view (x .0)) ∙ ap view (sym (x .1)), m .2)
+
+true-view : (θ : ℕ → Term) (f : ℕ → Option Request) → RespectsFamilies θ f → meaning.True S (viewing θ) f
+true-view θ f p v r e = belongs-member r (θ v) (p v r e)
+
+view-true : (θ : ℕ → Term) (f : ℕ → Option Request) → meaning.True S (viewing θ) f → RespectsFamilies θ f
+view-true θ f p v r e =
+    let x = member-belongs r (view (θ v)) (p v r e) in
+    ap (belongs (r .family)) (view-injective (θ v) (x .0) (x .1)) ∙ x .2
+
+-- ---- assignments
+
+assigns-view : (N : ℕ) (θ : ℕ → Term) → Assigns N θ → theirs.Assigns S N (viewing θ)
+assigns-view N θ a v l = (free-closed (θ v) (a v l .1), formed-view (θ v) (a v l .0))
+
+sim-eq : (n : Notion) (a b c d : T) → a ≡ b → c ≡ d → Sim (read n) a c → Sim (read n) b d
+sim-eq n a b c d p q s = record { eq = ap (tree.map (read n)) (sym p) ∙ s .eq ∙ ap (tree.map (read n)) q }
+
+module _ (n : Notion) (θ : ℕ → Term) where
+  equal-all : (ps : List Pair) → MakesEqual n θ ps → meaning.All S (read n) (viewing θ) (view-pairs ps)
+  equal-all [] e = tt
+  equal-all (p ∷ ps) e = (
+    sim-eq n (view (replace θ (p .0))) (tree.sub (viewing θ) (view (p .0))) (view (replace θ (p .1))) (tree.sub (viewing θ) (view (p .1)))
+        (view-replace θ (p .0)) (view-replace θ (p .1)) (alike-sim n (replace θ (p .0)) (replace θ (p .1)) (e .0)),
+    equal-all ps (e .1),
+  )
+
+  all-equal : (ps : List Pair) → meaning.All S (read n) (viewing θ) (view-pairs ps) → MakesEqual n θ ps
+  all-equal [] e = tt
+  all-equal (p ∷ ps) e = (
+    sim-alike n (replace θ (p .0)) (replace θ (p .1))
+        (sim-eq n (tree.sub (viewing θ) (view (p .0))) (view (replace θ (p .0))) (tree.sub (viewing θ) (view (p .1))) (view (replace θ (p .1)))
+        (sym (view-replace θ (p .0))) (sym (view-replace θ (p .1))) (e .0)),
+    all-equal ps (e .1),
+  )
+
+  -- what the theory's table answers for a variable, under the assignment
+  answer-under : (s : Session) (v : ℕ) → tree.sub (viewing θ) (answer S (view-table (s .solver)) (tree.var v)) ≡ view (replace θ (resolved (s .solver) (var v)))
+  unfolding view
+  answer-under s v =
+      ap (λ (t : T). tree.sub (viewing θ) t) (sym (view-resolve (s .solver .revision) (s .solver .bindings) (var v)))
+      ∙ sym (view-replace θ (resolved (s .solver) (var v)))
+
+  abbrev Their : Session → Type 0
+  Their s = (v : ℕ) → v < issued s → Sim (read n) (viewing θ v) (tree.sub (viewing θ) (answer S (view-table (s .solver)) (tree.var v)))
+
+  agrees-view : (s : Session) → Agrees n θ s → Their s
+  agrees-view s a v l =
+      sim-eq n (view (θ v)) (view (θ v)) (view (replace θ (resolved (s .solver) (var v)))) (tree.sub (viewing θ) (answer S (view-table (s .solver)) (tree.var v)))
+      refl (sym (answer-under s v)) (alike-sim n (θ v) (replace θ (resolved (s .solver) (var v))) (a v l))
+
+  view-agrees : (s : Session) → Their s → Agrees n θ s
+  view-agrees s a v l =
+      sim-alike n (θ v) (replace θ (resolved (s .solver) (var v)))
+      (sim-eq n (view (θ v)) (view (θ v)) (tree.sub (viewing θ) (answer S (view-table (s .solver)) (tree.var v))) (view (replace θ (resolved (s .solver) (var v))))
+      refl (answer-under s v) (a v l))
+
+-- ---- posed pairs have issued variables only
+
+abbrev Within : ℕ → List (T × T) → Type 0
+Within N [] = Unit {0}
+Within N (p ∷ ps) = Issued N (p .0) × Issued N (p .1) × Within N ps
+
+within-more : (N : ℕ) (ps : List (T × T)) → Within N ps → Within (suc N) ps
+within-more N [] w = tt
+within-more N (p ∷ ps) w = ((λ v i. let l = w .0 v i in omega arith), (λ v i. let l = w .1 v i in omega arith), within-more N ps (w .2))
+
+module _ (m : Term → Term) where
+  obey-within : (x : Run S TheSession) → Within (x .count) (x .posed) → (c : session.Command S)
+      → Within (session.obey S fallback never m x c .count) (session.obey S fallback never m x c .posed)
+  unfolding session.obey session.serve-variable session.serve-number session.serve-hole session.serve-defer session.serve-pair theirs.settle session.lift
+  obey-within x w (session.variable s i) = go (x .state .sites s i)
+    where
+      go : (o : Option ℕ) → Within (session.serve-variable S fallback never x s i o .count) (session.serve-variable S fallback never x s i o .posed)
+      go none = within-more (x .count) (x .posed) w
+      go (some v) = w
+  obey-within x w (session.number s f) = go (x .state .sites s 1)
+    where
+      go : (o : Option ℕ) → Within (session.serve-number S fallback never x s f o .count) (session.serve-number S fallback never x s f o .posed)
+      go none = within-more (x .count) (x .posed) w
+      go (some v) = w
+  obey-within x w (session.hole s) = go (x .state .holes s)
+    where
+      go : (o : Option ℕ) → Within (session.serve-hole S fallback never x s o .count) (session.serve-hole S fallback never x s o .posed)
+      go none = within-more (x .count) (x .posed) w
+      go (some v) = w
+  obey-within x w (session.defer t) = go (theirs.issued? (x .count) t)
+    where
+      go : (d : Dec (Issued (x .count) t)) → Within (session.serve-defer S fallback never x t d .count) (session.serve-defer S fallback never x t d .posed)
+      go (yes a) = w
+      go (no a) = w
+  obey-within x w (session.pair k l r) = go (theirs.issued? (x .count) l) (theirs.issued? (x .count) r)
+    where
+      ends : Issued (x .count) l → Issued (x .count) r → (o : Out TheSession) → Within (theirs.settle S x l r o .count) (theirs.settle S x l r o .posed)
+      ends a b (cancelled z) = (a, b, w)
+      ends a b (done z c) = (a, b, w)
+
+      go : (a : Dec (Issued (x .count) l)) (b : Dec (Issued (x .count) r)) → Within (session.serve-pair S fallback never m x k l r a b .count) (session.serve-pair S fallback never m x k l r a b .posed)
+      go (yes a) (yes b) = ends a b (session.lift S fallback never (x .state) (table-poses S m k (x .state .table) l r))
+      go (yes a) (no b) = w
+      go (no a) d = w
+  obey-within x w (session.resolving t) = w
+  obey-within x w session.numbers = w
+  obey-within x w session.nevers = w
+  obey-within x w session.revision = w
+  obey-within x w session.refused = w
+
+  all-within : (x : Run S TheSession) → Within (x .count) (x .posed) → (cs : List (session.Command S))
+      → Within (session.obey-all S fallback never m x cs .count) (session.obey-all S fallback never m x cs .posed)
+  unfolding session.obey-all
+  all-within x w [] = w
+  all-within x w (c ∷ cs) = all-within (session.obey S fallback never m x c) (obey-within x w c) cs
+
+-- two assignments that are the same at the issued variables
+all-same : (n : Notion) (N : ℕ) (θ σ : ℕ → T) → ((v : ℕ) → v < N → θ v ≡ σ v) → (ps : List (T × T)) → Within N ps → meaning.All S (read n) θ ps → meaning.All S (read n) σ ps
+all-same n N θ σ e [] w a = tt
+all-same n N θ σ e (p ∷ ps) w a = (
+  sim-eq n (tree.sub θ (p .0)) (tree.sub σ (p .0)) (tree.sub θ (p .1)) (tree.sub σ (p .1))
+      (sub-ext (p .0) (λ v i. e v (w .0 v i))) (sub-ext (p .1) (λ v i. e v (w .1 v i))) (a .0),
+  all-same n N θ σ e ps (w .2) (a .1),
+)
+
+-- ---- from the theory
+
+module _ (n : Notion) (h : History) where
+  abbrev N : ℕ
+  N = issued (h .session)
+
+  abbrev res : ℕ → T
+  res v = answer S (view-table (h .session .solver)) (tree.var v)
+
+  module _ (w : Within N (view-pairs (h .posed))) where
+    -- an assignment of trees is one of terms
+    none-there : ((θ : ℕ → Term) → Assigns N θ → RespectsFamilies θ (h .requests) → ¬ MakesEqual n θ (h .posed))
+        → (σ : ℕ → T) → theirs.Assigns S N σ → meaning.True S σ (h .requests) → ¬ meaning.All S (read n) σ (view-pairs (h .posed))
+    none-there f σ a t e =
+        let θ : ℕ → Term = λ v. back (σ v) in
+        let same : (v : ℕ) → v < N → view (back (σ v)) ≡ σ v = λ v l. view-back (σ v) (a v l .1) in
+        f θ
+        (λ v l. (formed-back (σ v) (a v l .1) (a v l .0), closed-free (back (σ v)) (subst (λ (t : T). Closed t) (sym (same v l)) (a v l .0))))
+        (λ v r p. let x = member-belongs r (σ v) (t v r p) in ap (belongs (r .family)) (ap back (x .1) ∙ back-view (x .0)) ∙ x .2)
+        (all-equal n θ (h .posed) (all-same n N σ (viewing θ) (λ v l. sym (same v l)) (view-pairs (h .posed)) w e))
+
+    demand-view : theirs.Demand3 S (read n) (view-run h) res → Demand3 n h
+    unfolding view
+    demand-view d = record {
+      first = (
+        (λ e θ a t q. d .incompatible .0 e (viewing θ) (assigns-view N θ a) (true-view θ (h .requests) t) (equal-all n θ (h .posed) q)),
+        (λ f. d .incompatible .1 (none-there f)),
+      );
+      second = λ e θ a. (
+        (λ p. let q = d .assignments e (viewing θ) (assigns-view N θ a) .0 (true-view θ (h .requests) (p .0), equal-all n θ (h .posed) (p .1)) in (p .0, view-agrees n θ (h .session) (q .1))),
+        (λ p. let q = d .assignments e (viewing θ) (assigns-view N θ a) .1 (true-view θ (h .requests) (p .0), agrees-view n θ (h .session) (p .1)) in (p .0, all-equal n θ (h .posed) (q .1))),
+      );
+      left = λ v u l o. themselves v u l o;
+    }
+      where
+        at : (v : ℕ) → view (resolved (h .session .solver) (var v)) ≡ res v
+        at v = view-resolve (h .session .solver .revision) (h .session .solver .bindings) (var v)
+
+        themselves : (v u : ℕ) → v < N → occurs u (resolved (h .session .solver) (var v)) ≡ true → (u < N) × (resolved (h .session .solver) (var u) ≡ var u)
+        themselves v u l o =
+            let q = d .themselves v u l (subst (λ (t : T). In u t) (at v) (occurs-in u (resolved (h .session .solver) (var v)) o)) in
+            (q .0, view-injective (resolved (h .session .solver) (var u)) (var u) (at u ∙ q .1))
+
+module _ (lim : Limits) (n : Notion) (codes-count : n 4 ≡ false) where
+  -- DEMAND 3: for every list of orders 0 to 8, refused ones included, given in turn to a fresh session; for every notion of equal shape in which
+  -- the code of a builtin counts, and for all limits.
+  pub demand-3-of : (cs : List Command) → Premises lim n cs → Demand3 n (history lim n beginning cs)
+  unfolding viewed find
+  demand-3-of cs p =
+      let h = history lim n beginning cs in
+      let ds = view-commands lim n fresh cs in
+      let e : session.sheet S fallback never (read n) ds ≡ view-run h = history-view lim n beginning cs in
+      let w = subst (λ (x : Run S TheSession). Within (x .count) (x .posed)) e (all-within (read n) (view-run beginning) tt ds) in
+      let d = subst (λ (x : Run S TheSession). demand.Premises S (read n) (respects n codes-count) x → theirs.Demand3 S (read n) x (λ v. answer S (x .state .table) (tree.var v))) e
+      (whole-demand-3 S fallback never (read n) (respects n codes-count) ds (all-allowed-view lim n beginning cs (p .allowed))) in
+      demand-view n h w (d (p .noneCancelled, plain-pairs-view (h .posed) (p .pairs)))
+
+-- order 4: up to Set and Map access
+pub demand-3 : (lim : Limits) (cs : List Command) → Premises lim loose cs → Demand3 loose (history lim loose beginning cs)
+unfolding loose
+demand-3 lim cs p = demand-3-of lim loose refl cs p
+
+-- and with access included
+pub strict-demand-3 : (lim : Limits) (cs : List Command) → Premises lim exact cs → Demand3 exact (history lim exact beginning cs)
+unfolding exact
+strict-demand-3 lim cs p = demand-3-of lim exact refl cs p
