@@ -62,7 +62,7 @@ fn keys_of(sort: u8) -> u8
     }
 }
 
-// The tokens of a term, of a nominal, or of `write_number_answer` entries, receivers or arguments.
+// The tokens of a term, of a nominal, or of `count` entries, receivers or arguments.
 fn keep_part(
     s: &[u8],
     kinds: &mut [u32],

@@ -91,7 +91,7 @@ fn read_rule(
     0
 }
 
-// `write_number_answer` rules; on a refusal nothing of them remains in the areas.
+// `count` rules; on a refusal nothing of them remains in the areas.
 pub fn read_rules(
     s: &[u8],
     kinds: &mut [u32],
