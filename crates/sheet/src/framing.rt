@@ -35,51 +35,6 @@ pub fn write_byte_answer(out: &mut [u8], to: usize, a: u8) -> usize
     to + 3
 }
 
-// A value of two bytes.
-pub fn write_two_bytes_answer(out: &mut [u8], to: usize, a: u8, b: u8) -> usize
-    requires { ⌜ OutputRoom (now out) to ⌝ }
-    ensures { λ r. ⌜ Framed (outcome (a ∷ b ∷ [])) (now (out .entry)) to (now (out .exit)) r ⌝ }
-{
-    if out.len() - to < 4 {
-        return out.len() + 1;
-    }
-    out[to] = 3;
-    out[to + 1] = 0;
-    out[to + 2] = a;
-    out[to + 3] = b;
-    to + 4
-}
-
-// The seven bytes of order 15.
-pub fn write_seven_bytes_answer(
-    out: &mut [u8],
-    to: usize,
-    a: u8,
-    b: u8,
-    c: u8,
-    d: u8,
-    e: u8,
-    f: u8,
-    g: u8,
-) -> usize
-    requires { ⌜ OutputRoom (now out) to ⌝ }
-    ensures { λ r. ⌜ Framed (outcome (a ∷ b ∷ c ∷ d ∷ e ∷ f ∷ g ∷ [])) (now (out .entry)) to (now (out .exit)) r ⌝ }
-{
-    if out.len() - to < 9 {
-        return out.len() + 1;
-    }
-    out[to] = 8;
-    out[to + 1] = 0;
-    out[to + 2] = a;
-    out[to + 3] = b;
-    out[to + 4] = c;
-    out[to + 5] = d;
-    out[to + 6] = e;
-    out[to + 7] = f;
-    out[to + 8] = g;
-    to + 9
-}
-
 // The length and outcome 0, where a value of so many bytes fits after them: the position of the value.
 pub fn begin_answer(out: &mut [u8], to: usize, size: usize) -> usize
     requires { ⌜ OutputRoom (now out) to ⌝ }
@@ -116,4 +71,22 @@ pub fn write_number_answer(out: &mut [u8], to: usize, n: u64) -> usize
         return at;
     }
     write_number(out, at, n)
+}
+
+// Outcome 0 and a value of some bytes.
+pub fn write_bytes_answer(out: &mut [u8], to: usize, v: &[u8]) -> usize
+    requires { ⌜ OutputRoom (now out) to ⌝ }
+    ensures { λ r. ⌜ Framed (outcome (now (v .entry))) (now (out .entry)) to (now (out .exit)) r ⌝ }
+{
+    let n = v.len();
+    let at = begin_answer(out, to, n);
+    if out.len() < at {
+        return at;
+    }
+    let mut i = 0;
+    while i < n {
+        out[at + i] = v[i];
+        i += 1;
+    }
+    at + n
 }

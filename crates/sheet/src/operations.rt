@@ -2,9 +2,8 @@
 use super::Order;
 use super::framing::begin_answer;
 use super::framing::write_byte_answer;
+use super::framing::write_bytes_answer;
 use super::framing::write_refusal;
-use super::framing::write_seven_bytes_answer;
-use super::framing::write_two_bytes_answer;
 use solver::Binders;
 use solver::Normalised;
 use solver::ask;
@@ -155,7 +154,8 @@ fn asked(s: &[u8], kinds: &[u32], vals: &[u32], p: usize, out: &mut [u8], to: us
     let e = question(s, kinds, vals, p, 4);
     let f = question(s, kinds, vals, p, 5);
     let g = question(s, kinds, vals, p, 6);
-    write_seven_bytes_answer(out, to, a, b, c, d, e, f, g)
+    let v = [a, b, c, d, e, f, g];
+    write_bytes_answer(out, to, &v)
 }
 
 // A normalised term, or refusal 9; what normalising has left in the areas is cleared.
@@ -314,7 +314,8 @@ fn inquire(s: &[u8], kinds: &[u32], vals: &[u32], o: Order, out: &mut [u8], to: 
     }
     let x = satisfies(kinds, vals, a.place, b.place);
     let y = satisfies_for(kinds, vals, a.place, b.place, t.place);
-    write_two_bytes_answer(out, to, bit(x), bit(y))
+    let v = [bit(x), bit(y)];
+    write_bytes_answer(out, to, &v)
 }
 
 // Order 18: a family's value, for a substitution and arguments.

@@ -16,19 +16,19 @@ ghost use mathlib.Core.List.{List, [], _∷_};
 ghost use Prim.Native.Nat.{ℕ, _<_};
 ghost use lib.Dec.{eqb};
 ghost use Rattle.solver.specs.Terms.Term.{Term, var, bytes};
-ghost use Rattle.solver.specs.Families.{requested};
 ghost use Rattle.solver.specs.Shapes.{Notion, loose};
 ghost use Rattle.solver.specs.Session.{Session};
 ghost use Rattle.solver.specs.Orders as orders;
 ghost use Rattle.solver.specs.Words.Worklist.{Zero};
 ghost use Rattle.solver.specs.Words.SessionRepresentation.{Reachable, Represents, limitsOf};
+ghost use Rattle.solver.specs.Words.MethodContract.{Beside};
 ghost use Rattle.solver.specs.Words.OrderTerms.{Asked, Frames, resolvedTo};
 ghost use Rattle.sheet.specs.OrderTable.{outcome};
 ghost use Rattle.sheet.specs.Operations.{bit};
 ghost use Rattle.sheet.specs.Sheet.{solve};
 ghost use Rattle.sheet.specs.Words.OperationsContract.{Among};
 ghost use Rattle.sheet.specs.Words.FramingContract.{OutputRoom, Framed};
-ghost use Rattle.sheet.specs.Words.SessionOrdersContract.{Does, plainCommand};
+ghost use Rattle.sheet.specs.Words.SessionOrdersContract.{Does, plainCommand, defaultsBy, SlotOneOrHole, numberOrHole};
 
 // Whether the revision is another, as a byte.
 fn changed_byte(old: usize, new: usize) -> u8
@@ -51,35 +51,23 @@ fn revision_order(x: Solver, out: &mut [u8], to: usize) -> AfterOrder
     AfterOrder { solver: x, next }
 }
 
-// Order 6.
-fn default_numbers(
-    x: Solver,
-    kinds: &[u32],
-    vals: &[u32],
-    tables: &mut [u32],
-    out: &mut [u8],
-    to: usize,
-) -> AfterOrder
-    requires held { ⌜ ((z : Session) × Reachable (limitsOf x) loose z × Represents x (now kinds) (now vals) (now tables) z) ⌝ }
-    requires room { ⌜ OutputRoom (now out) to ⌝ }
-    ensures { λ r. ⌜ ((z : Session) → Reachable (limitsOf x) loose z → Represents x (now (kinds .entry)) (now (vals .entry)) (now (tables .entry)) z
-        → Does x (r .solver) (now (kinds .entry)) (now (vals .entry)) (now (tables .entry)) (now (tables .exit)) z (solve (limitsOf x) z orders.numbers)
-        (now (out .entry)) to (now (out .exit)) (r .next)) ⌝ }
+// The numeric defaults, or with `never` those of the variables that are deferred.
+fn with_defaults(x: Solver, never: bool, kinds: &[u32], vals: &[u32], tables: &mut [u32]) -> Solver
+    requires { ⌜ ((z : Session) × Reachable (limitsOf x) loose z × Represents x (now kinds) (now vals) (now tables) z) ⌝ }
+    ensures held { λ r. ⌜ ((z : Session) → Reachable (limitsOf x) loose z → Represents x (now (kinds .entry)) (now (vals .entry)) (now (tables .entry)) z
+        → Represents r (now (kinds .entry)) (now (vals .entry)) (now (tables .exit)) (solve (limitsOf x) z (defaultsBy never) .session)) ⌝ }
+    ensures beside { λ r. ⌜ Beside x r (now (tables .entry)) (now (tables .exit)) ⌝ }
 {
-    if out.len() - to < 3 {
-        let next = out.len() + 1;
-        return AfterOrder { solver: x, next };
+    if never {
+        return x.apply_never_defaults(kinds, vals, tables);
     }
-    let old = x.revision();
-    let y = x.apply_numeric_defaults(kinds, vals, tables);
-    let a = changed_byte(old, y.revision());
-    let next = write_byte_answer(out, to, a);
-    AfterOrder { solver: y, next }
+    x.apply_numeric_defaults(kinds, vals, tables)
 }
 
-// Order 7.
-fn default_nevers(
+// Orders 6 and 7.
+fn default_order(
     x: Solver,
+    never: bool,
     kinds: &[u32],
     vals: &[u32],
     tables: &mut [u32],
@@ -89,15 +77,15 @@ fn default_nevers(
     requires held { ⌜ ((z : Session) × Reachable (limitsOf x) loose z × Represents x (now kinds) (now vals) (now tables) z) ⌝ }
     requires room { ⌜ OutputRoom (now out) to ⌝ }
     ensures { λ r. ⌜ ((z : Session) → Reachable (limitsOf x) loose z → Represents x (now (kinds .entry)) (now (vals .entry)) (now (tables .entry)) z
-        → Does x (r .solver) (now (kinds .entry)) (now (vals .entry)) (now (tables .entry)) (now (tables .exit)) z (solve (limitsOf x) z orders.nevers)
-        (now (out .entry)) to (now (out .exit)) (r .next)) ⌝ }
+        → Does x (r .solver) (now (kinds .entry)) (now (vals .entry)) (now (tables .entry)) (now (tables .exit)) z
+        (solve (limitsOf x) z (defaultsBy never)) (now (out .entry)) to (now (out .exit)) (r .next)) ⌝ }
 {
     if out.len() - to < 3 {
         let next = out.len() + 1;
         return AfterOrder { solver: x, next };
     }
     let old = x.revision();
-    let y = x.apply_never_defaults(kinds, vals, tables);
+    let y = with_defaults(x, never, kinds, vals, tables);
     let a = changed_byte(old, y.revision());
     let next = write_byte_answer(out, to, a);
     AfterOrder { solver: y, next }
@@ -174,27 +162,47 @@ fn variable_of(
     AfterOrder { solver, next }
 }
 
-// Order 1.
-fn number_of(
+// The variable of orders 1 and 2 is issued, where the place has none; a number variable is requested.
+fn issue_number_or_hole(x: Solver, tables: &mut [u32], place: Site, fallback: u32) -> Solver
+    requires held { ⌜ ((ks vs : List ℕ) × (z : Session) × Represents x ks vs (now tables) z) ⌝ }
+    requires asked { ⌜ SlotOneOrHole place fallback ⌝ }
+    ensures held { λ r. ⌜ ((ks vs : List ℕ) (z : Session) → Represents x ks vs (now (tables .entry)) z
+        → Represents r ks vs (now (tables .exit)) (solve (limitsOf x) z (numberOrHole place fallback) .session)) ⌝ }
+    ensures beside { λ r. ⌜ Beside x r (now (tables .entry)) (now (tables .exit)) ⌝ }
+{
+    match place {
+        Site::Slot(site, _) => {
+            let y = x.numeric_variable(tables, site, fallback);
+            y.solver
+        }
+        Site::Hole(site) => {
+            let y = x.annotation_hole(tables, site);
+            y.solver
+        }
+    }
+}
+
+// Orders 1 and 2: a number variable or a hole, by its place.
+fn resolved_variable_of(
     x: Solver,
     kinds: &[u32],
     vals: &[u32],
     tables: &mut [u32],
     frames: &mut [u32],
-    site: u32,
+    place: Site,
     fallback: u32,
     out: &mut [u8],
     to: usize,
 ) -> AfterOrder
     requires held { ⌜ ((z : Session) × Represents x (now kinds) (now vals) (now tables) z) ⌝ }
-    requires areas { ⌜ (fallback < 32) × Frames x (now frames) ⌝ }
+    requires areas { ⌜ SlotOneOrHole place fallback × Frames x (now frames) ⌝ }
     requires room { ⌜ OutputRoom (now out) to ⌝ }
     ensures clear { λ _. ⌜ Zero (now (frames .exit)) ⌝ }
     ensures does { λ r. ⌜ ((z : Session) → Represents x (now (kinds .entry)) (now (vals .entry)) (now (tables .entry)) z
         → Does x (r .solver) (now (kinds .entry)) (now (vals .entry)) (now (tables .entry)) (now (tables .exit)) z
-        (solve (limitsOf x) z (orders.number site (requested fallback))) (now (out .entry)) to (now (out .exit)) (r .next)) ⌝ }
+        (solve (limitsOf x) z (numberOrHole place fallback)) (now (out .entry)) to (now (out .exit)) (r .next)) ⌝ }
 {
-    let Named::Variable(v) = x.id_of(tables, Site::Slot(site, 1)) else {
+    let Named::Variable(v) = x.id_of(tables, place) else {
         let next = write_refusal(out, to, 8);
         return AfterOrder { solver: x, next };
     };
@@ -202,41 +210,8 @@ fn number_of(
     if out.len() < next {
         return AfterOrder { solver: x, next };
     }
-    let y = x.numeric_variable(tables, site, fallback);
-    let solver = y.solver;
-    AfterOrder { solver, next }
-}
-
-// Order 2.
-fn hole_of(
-    x: Solver,
-    kinds: &[u32],
-    vals: &[u32],
-    tables: &mut [u32],
-    frames: &mut [u32],
-    site: u32,
-    out: &mut [u8],
-    to: usize,
-) -> AfterOrder
-    requires held { ⌜ ((z : Session) × Represents x (now kinds) (now vals) (now tables) z) ⌝ }
-    requires areas { ⌜ Frames x (now frames) ⌝ }
-    requires room { ⌜ OutputRoom (now out) to ⌝ }
-    ensures clear { λ _. ⌜ Zero (now (frames .exit)) ⌝ }
-    ensures does { λ r. ⌜ ((z : Session) → Represents x (now (kinds .entry)) (now (vals .entry)) (now (tables .entry)) z
-        → Does x (r .solver) (now (kinds .entry)) (now (vals .entry)) (now (tables .entry)) (now (tables .exit)) z (solve (limitsOf x) z (orders.hole site))
-        (now (out .entry)) to (now (out .exit)) (r .next)) ⌝ }
-{
-    let Named::Variable(v) = x.id_of(tables, Site::Hole(site)) else {
-        let next = write_refusal(out, to, 8);
-        return AfterOrder { solver: x, next };
-    };
-    let next = resolved(x, kinds, vals, tables, frames, Subject::Id(v), out, to);
-    if out.len() < next {
-        return AfterOrder { solver: x, next };
-    }
-    let y = x.annotation_hole(tables, site);
-    let solver = y.solver;
-    AfterOrder { solver, next }
+    let y = issue_number_or_hole(x, tables, place, fallback);
+    AfterOrder { solver: y, next }
 }
 
 // Orders 0, 1, 2, 6, 7 and 8, by their kind and two numbers.
@@ -264,16 +239,18 @@ pub fn termless_order(
         return variable_of(x, tables, first, second, out, to);
     }
     if kind == 1 {
-        return number_of(x, kinds, vals, tables, frames, first, second, out, to);
+        let place = Site::Slot(first, 1);
+        return resolved_variable_of(x, kinds, vals, tables, frames, place, second, out, to);
     }
     if kind == 2 {
-        return hole_of(x, kinds, vals, tables, frames, first, out, to);
+        let place = Site::Hole(first);
+        return resolved_variable_of(x, kinds, vals, tables, frames, place, second, out, to);
     }
     if kind == 6 {
-        return default_numbers(x, kinds, vals, tables, out, to);
+        return default_order(x, false, kinds, vals, tables, out, to);
     }
     if kind == 7 {
-        return default_nevers(x, kinds, vals, tables, out, to);
+        return default_order(x, true, kinds, vals, tables, out, to);
     }
     revision_order(x, out, to)
 }

@@ -6,9 +6,9 @@ use Prim.Native.Nat.{ℕ, suc, _+_, _≤_, _<_}
 use native.Mathlib.Omega.{arith}
 use borrow.Author.Tests.{leb-true, leb-false}
 use lib.Dec.{leb}
-use native.Mathlib.Numerals.{unary-clauses}
-use lib.ListN.{length, length-append, set}
-use lib.Seq.{sets, append-snoc, length-sets}
+use native.Mathlib.Numerals.{unary-clauses, add-one}
+use lib.ListN.{length, length-append, set, getD, take}
+use lib.Seq.{sets, append-snoc, length-sets, length-take-le, take-suc, take-all}
 use Rattle.solver.specs.Terms.Number.{shortest, digits}
 use Rattle.solver.proofs.Terms.WriteLaws.{sets-append}
 use Rattle.sheet.specs.OrderTable.{Answer, refusal, outcome}
@@ -25,14 +25,6 @@ pub one-frame : (a : ℕ) → framed (outcome (a ∷ [])) ≡ 2 ∷ 0 ∷ a ∷ 
 unfolding framed shortest digits
 one-frame a = refl
 
-pub two-frame : (a b : ℕ) → framed (outcome (a ∷ b ∷ [])) ≡ 3 ∷ 0 ∷ a ∷ b ∷ []
-unfolding framed shortest digits
-two-frame a b = refl
-
-pub seven-frame : (a b c d e f g : ℕ) → framed (outcome (a ∷ b ∷ c ∷ d ∷ e ∷ f ∷ g ∷ [])) ≡ 8 ∷ 0 ∷ a ∷ b ∷ c ∷ d ∷ e ∷ f ∷ g ∷ []
-unfolding framed shortest digits
-seven-frame a b c d e f g = refl
-
 pub value-frame : (v : List ℕ) → framed (outcome v) ≡ opening (length v) ++ v
 unfolding framed
 value-frame v = sym (append-snoc (shortest (suc (length v))) 0 v)
@@ -45,13 +37,35 @@ two-stores l i a b = simp unary-clauses refl
 pub three-stores : (l : List ℕ) (i a b c : ℕ) → set (set (set l i a) (i + 1) b) (i + 2) c ≡ sets l i (a ∷ b ∷ c ∷ [])
 three-stores l i a b c = simp unary-clauses refl
 
-pub four-stores : (l : List ℕ) (i a b c d : ℕ) → set (set (set (set l i a) (i + 1) b) (i + 2) c) (i + 3) d ≡ sets l i (a ∷ b ∷ c ∷ d ∷ [])
-four-stores l i a b c d = simp unary-clauses refl
+-- ---- a value copied byte by byte
 
-pub nine-stores : (l : List ℕ) (i a b c d e f g h j : ℕ)
-    → set (set (set (set (set (set (set (set (set l i a) (i + 1) b) (i + 2) c) (i + 3) d) (i + 4) e) (i + 5) f) (i + 6) g) (i + 7) h) (i + 8) j
-    ≡ sets l i (a ∷ b ∷ c ∷ d ∷ e ∷ f ∷ g ∷ h ∷ j ∷ [])
-nine-stores l i a b c d e f g h j = simp unary-clauses refl
+-- so many of its bytes stand from `at` on
+pub record Copied (v out₀ : List ℕ) (at : ℕ) (out : List ℕ) (i : ℕ) : Type 0 where
+  pub within : i ≤ length v
+  pub same : out ≡ sets out₀ at (take i v)
+
+module _ (v out₀ : List ℕ) (at : ℕ) where
+  pub copied-none : Copied v out₀ at out₀ 0
+  copied-none = record { within = omega arith; same = refl }
+
+  module _ (out : List ℕ) (i : ℕ) (x : Copied v out₀ at out i) where
+    pub copied-more : i < length v → Copied v out₀ at (set out (at + i) (getD v i 0)) (i + 1)
+    copied-more h =
+        record {
+          within = omega arith;
+          same =
+              ap (λ (o : List ℕ). set o (at + i) (getD v i 0)) (x .same)
+              ∙ ap (λ (k : ℕ). set (sets out₀ at (take i v)) (at + k) (getD v i 0)) (sym (length-take-le i v (x .within)))
+              ∙ sym (sets-append (take i v) (getD v i 0 ∷ []) out₀ at)
+              ∙ ap (λ (w : List ℕ). sets out₀ at w) (sym (take-suc v i 0 h))
+              ∙ ap (λ (k : ℕ). sets out₀ at (take k v)) (sym (add-one i));
+        }
+
+    pub copied-all : length v ≤ i → out ≡ sets out₀ at v
+    copied-all h = x .same ∙ ap (λ (w : List ℕ). sets out₀ at w) (take-all i v h)
+
+    pub copied-long : length out ≡ length out₀
+    copied-long = ap length (x .same) ∙ length-sets out₀ at (take i v)
 
 -- ---- what was written, under the frame
 

@@ -13,6 +13,8 @@ use Rattle.solver.specs.Terms.Term.{var, bytes}
 use Rattle.solver.specs.declared.Solver.{Solver}
 use Rattle.solver.specs.declared.Named.{Named}
 use Rattle.solver.specs.declared.Named.the-variants.{Variable, Full}
+use Rattle.solver.specs.declared.Site.{Site}
+use Rattle.solver.specs.declared.Site.the-variants.{Slot, Hole}
 use Rattle.solver.specs.Families.{Request, requested}
 use Rattle.solver.specs.Shapes.{loose}
 use Rattle.solver.specs.Constrain.{resolved}
@@ -21,6 +23,7 @@ use Rattle.solver.specs.Orders as orders
 use Rattle.solver.specs.Orders.{order, variableAt, numberAt, holeAt, full, refused, _gives_}
 use Rattle.solver.specs.Words.SessionRepresentation.{Reachable, Represents, limitsOf}
 use Rattle.solver.specs.Words.MethodContract.{Beside, found, placed, namedOf}
+use Rattle.solver.specs.Words.OrderTerms.{placeOf}
 use Rattle.solver.proofs.Laws.Definition.SolverInvariantLaws.{ordered-revision}
 use Rattle.solver.proofs.Laws.Definition.DefaultLaws.{arises-ordered}
 use Rattle.solver.proofs.Laws.Table.MethodLaws.{beside-same, named-next, named-none}
@@ -30,7 +33,7 @@ use Rattle.sheet.specs.Operations.{bit}
 use Rattle.sheet.specs.Sheet.{Step, solve, answerOf, framed}
 use Rattle.sheet.specs.Words.FramingContract.{Framed, opening}
 use Rattle.sheet.specs.Words.OperationsContract.{Among}
-use Rattle.sheet.specs.Words.SessionOrdersContract.{Does, plainCommand}
+use Rattle.sheet.specs.Words.SessionOrdersContract.{Does, plainCommand, SlotOneOrHole, numberOrHole, defaultsBy}
 use Rattle.sheet.proofs.Laws.Reading.OrderTableLaws.{among-past, third}
 use Rattle.sheet.proofs.Laws.Answering.FramingLaws.{one-frame, frame-over, value-frame}
 
@@ -104,13 +107,10 @@ revision-does x ks vs ts z L n e out₀ to out r f =
 abbrev pub Tells : Session → Step → Type 0
 Tells z st = st .answer ≡ outcome (bit (not (eqb (st .session .solver .revision) (z .solver .revision))) ∷ [])
 
-pub numbers-tell : (lim : Limits) (z : Session) → Tells z (solve lim z orders.numbers)
+pub defaults-tell : (never : Bool) (lim : Limits) (z : Session) → Tells z (solve lim z (defaultsBy never))
 unfolding order answerOf
-numbers-tell lim z = refl
-
-pub nevers-tell : (lim : Limits) (z : Session) → Tells z (solve lim z orders.nevers)
-unfolding order answerOf
-nevers-tell lim z = refl
+defaults-tell false lim z = refl
+defaults-tell true lim z = refl
 
 module _ {x : Solver} {ks vs ts : List ℕ} {z : Session} (L : Represents x ks vs ts z) (st : Step) (e : Tells z st) (out₀ : List ℕ) (to : ℕ) (inside : to ≤ length out₀) where
   size : length (framed (st .answer)) ≡ 3
@@ -184,6 +184,26 @@ module _ (lim : Limits) (z : Session) (site : ℕ) where
   pub hole-full : find (gap site) (z .places) ≡ none → full lim z ≡ true → order lim loose z (orders.hole site) ≡ (z gives refused 8)
   unfolding order holeAt
   hole-full u f = rw (u, f) refl
+
+-- both by their place
+module _ (lim : Limits) (z : Session) where
+  pub number-or-hole-answer : (p : Site) (f : ℕ) → SlotOneOrHole p f → nextOf z (placeOf p) < lim .variables
+      → solve lim z (numberOrHole p f) .answer ≡ outcome (bytes (resolved (z .solver) (var (nextOf z (placeOf p)))))
+  number-or-hole-answer (Slot s i) f h =
+      subst
+      (λ (j : ℕ). nextOf z (at s j) < lim .variables → solve lim z (orders.number s (requested f)) .answer ≡ outcome (bytes (resolved (z .solver) (var (nextOf z (at s j))))))
+      (sym (h .0))
+      (number-answer lim z s (requested f))
+  number-or-hole-answer (Hole s) f h = hole-answer lim z s
+
+  pub number-or-hole-full : (p : Site) (f : ℕ) → SlotOneOrHole p f → find (placeOf p) (z .places) ≡ none → full lim z ≡ true
+      → order lim loose z (numberOrHole p f) ≡ (z gives refused 8)
+  number-or-hole-full (Slot s i) f h =
+      subst
+      (λ (j : ℕ). find (at s j) (z .places) ≡ none → full lim z ≡ true → order lim loose z (orders.number s (requested f)) ≡ (z gives refused 8))
+      (sym (h .0))
+      (number-full lim z s (requested f))
+  number-or-hole-full (Hole s) f h = hole-full lim z s
 
 -- refusal 8, whatever the order
 pub full-does : (x : Solver) (ks vs ts : List ℕ) (z : Session) → Represents x ks vs ts z → (c : orders.Command) → order (limitsOf x) loose z c ≡ (z gives refused 8)

@@ -25,8 +25,11 @@ question-requires-6 c κs = search needs
 question-requires-7 : tie.Need-question-requires-7
 question-requires-7 c κs = search needs
 
-write-seven-bytes-answer-requires : tie.Need-write-seven-bytes-answer-requires
-write-seven-bytes-answer-requires c κs = c .before .before .before .before .before .before .before .before .before .before .before .before .pre .1 .1
+slice-aggregate-write-bytes-answer : tie.Need-slice-aggregate-write-bytes-answer
+slice-aggregate-write-bytes-answer c = search needs
+
+write-bytes-answer-requires : tie.Need-write-bytes-answer-requires
+write-bytes-answer-requires c κs = c .before .before .before .before .before .before .before .before .before .before .before .before .before .pre .1 .1
 
 same-length : tie.Need-same-length
 same-length c = search needs
@@ -34,7 +37,7 @@ same-length c = search needs
 returns : tie.Need-returns
 returns c =
     λ t h f.
-    frame-as _ _ (all-seven t _ _ _ _ _ _ _ (c .before .before .before .before .before .before .before .before .before .before .question .ensures t h f) (c .before .before .before .before .before .before .before .before .before .question2 .ensures t h f) (c .before .before .before .before .before .before .before .before .question3 .ensures t h f) (c .before .before .before .before .before .before .before .question4 .ensures t h f) (c .before .before .before .before .before .before .question5 .ensures t h f) (c .before .before .before .before .before .question6 .ensures t h f) (c .before .before .before .before .question7 .ensures t h f)) _ _ _ _ (c .before .before .write-seven-bytes-answer .ensures)
+    frame-as _ _ (all-seven t _ _ _ _ _ _ _ (c .before .before .before .before .before .before .before .before .before .before .before .question .ensures t h f) (c .before .before .before .before .before .before .before .before .before .before .question2 .ensures t h f) (c .before .before .before .before .before .before .before .before .before .question3 .ensures t h f) (c .before .before .before .before .before .before .before .before .question4 .ensures t h f) (c .before .before .before .before .before .before .before .question5 .ensures t h f) (c .before .before .before .before .before .before .question6 .ensures t h f) (c .before .before .before .before .before .question7 .ensures t h f)) _ _ _ _ (c .before .before .write-bytes-answer .ensures)
 
 pub asked-spec : {M : Type 1} → statement M
 asked-spec =
@@ -47,6 +50,7 @@ asked-spec =
     question-requires-5
     question-requires-6
     question-requires-7
-    write-seven-bytes-answer-requires
+    slice-aggregate-write-bytes-answer
+    write-bytes-answer-requires
     same-length
     returns)

@@ -76,8 +76,11 @@ bit-requires-2 c κs = search needs
 bit-requires-3 : tie.Need-bit-requires-3
 bit-requires-3 c κs = search needs
 
-write-two-bytes-answer-requires : tie.Need-write-two-bytes-answer-requires
-write-two-bytes-answer-requires c κs = c .before .before .before .before .before .before .before .before .before .before .before .before .before .before .before .before .pre .1 .1
+slice-aggregate-write-bytes-answer : tie.Need-slice-aggregate-write-bytes-answer
+slice-aggregate-write-bytes-answer c = search needs
+
+write-bytes-answer-requires : tie.Need-write-bytes-answer-requires
+write-bytes-answer-requires c κs = c .before .before .before .before .before .before .before .before .before .before .before .before .before .before .before .before .before .pre .1 .1
 
 same-length-3 : tie.Need-same-length-3
 same-length-3 c = search needs
@@ -85,12 +88,12 @@ same-length-3 c = search needs
 returns-3 : tie.Need-returns-3
 returns-3 c =
     λ ws.
-    let p = c .before .before .before .before .before .before .before .before .before .before .before .before .before .before .before .before .before .before .before .pre in
-    let a = c .before .before .before .before .before .before .before .before .before .before .before .before .before .before .before .before .before .before .before .args in
+    let p = c .before .before .before .before .before .before .before .before .before .before .before .before .before .before .before .before .before .before .before .before .pre in
+    let a = c .before .before .before .before .before .before .before .before .before .before .before .before .before .before .before .before .before .before .before .before .args in
     let y = p .1 .0 .1 in
-    let k = third 15 16 17 (a .o .kind) (y .among) (c .before .before .before .before .before .before .before .before .before .before .if1 .left) (c .before .before .before .before .before .before .before .before .if2 .left) in
+    let k = third 15 16 17 (a .o .kind) (y .among) (c .before .before .before .before .before .before .before .before .before .before .before .if1 .left) (c .before .before .before .before .before .before .before .before .before .if2 .left) in
     satisfied-replies (now (a .kinds)) (now (a .vals)) (now (a .s)) ws (a .o) k _ (λ ps qs t h i j f g.
-    frame-as _ _ (two-bytes _ _ _ _ (c .before .before .before .before .bit2 .ensures ∙ ap bit (c .before .before .before .before .before .before .before .satisfies .ensures ps qs h i f g)) (c .before .before .before .bit3 .ensures ∙ ap bit (c .before .before .before .before .before .before .satisfies-for .ensures ps qs t h i j f g))) _ _ _ _ (c .before .before .write-two-bytes-answer .ensures))
+    frame-as _ _ (two-bytes _ _ _ _ (c .before .before .before .before .before .before .bit2 .ensures ∙ ap bit (c .before .before .before .before .before .before .before .before .satisfies .ensures ps qs h i f g)) (c .before .before .before .before .before .bit3 .ensures ∙ ap bit (c .before .before .before .before .before .before .before .satisfies-for .ensures ps qs t h i j f g))) _ _ _ _ (c .before .before .write-bytes-answer .ensures))
 
 pub inquire-spec : {M : Type 1} → statement M
 inquire-spec =
@@ -108,6 +111,7 @@ inquire-spec =
     satisfies-for-requires
     bit-requires-2
     bit-requires-3
-    write-two-bytes-answer-requires
+    slice-aggregate-write-bytes-answer
+    write-bytes-answer-requires
     same-length-3
     returns-3)

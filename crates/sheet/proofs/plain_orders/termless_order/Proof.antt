@@ -1,5 +1,6 @@
 -- `termless_order`: by the kind.
 use denote.Ref.{now}
+use mathlib.Core.Path.{refl}
 use Rattle.sheet.proofs.Laws.Answering.SessionOrderLaws.{plain-variable, plain-number, plain-hole, plain-numbers, plain-nevers, plain-revision, does-as}
 use borrow.Author.Needs.{needs}
 use Rattle.sheet.proofs.plain_orders.termless_order.Statement.{statement}
@@ -20,9 +21,9 @@ returns c =
     let a = c .before .before .before .before .before .before .before .before .before .before .before .before .before .args in
     (c .before .before .before .before .before .before .before .before .before .before .before .before .before .pre .1 .0 .1 .clear, λ z A L. does-as (a .x) _ _ _ _ _ z _ _ (plain-variable (a .kind) (a .first) (a .second) (c .before .before .before .before .before .before .before .if1 .taken)) (now (a .out)) (a .to) _ _ (c .before .before .before .before .variable-of .ensures _ _ z L))
 
-number-of-requires : tie.Need-number-of-requires
-number-of-requires c κs =
-    let p = c .before .before .before .before .before .before .before .before .before .before .pre in ((p .0 .0, p .0 .2), ((p .1 .0 .0 (c .before .before .before .if2 .taken), p .1 .0 .1), p .1 .1))
+resolved-variable-of-requires : tie.Need-resolved-variable-of-requires
+resolved-variable-of-requires c κs =
+    let p = c .before .before .before .before .before .before .before .before .before .before .pre in ((p .0 .0, p .0 .2), (((refl, p .1 .0 .0 (c .before .before .before .if2 .taken)), p .1 .0 .1), p .1 .1))
 
 same-length-3 : tie.Need-same-length-3
 same-length-3 c = search needs
@@ -36,12 +37,12 @@ same-length-5 c = search needs
 returns-2 : tie.Need-returns-2
 returns-2 c =
     let a = c .before .before .before .before .before .before .before .before .before .before .before .before .before .before .before .before .before .args in
-    let e = c .before .before .before .before .before .before .number-of .ensures in
+    let e = c .before .before .before .before .before .before .resolved-variable-of .ensures in
     (e .0, λ z A L. does-as (a .x) _ _ _ _ _ z _ _ (plain-number (a .kind) (a .first) (a .second) (c .before .before .before .before .before .before .before .before .before .before .if2 .taken)) (now (a .out)) (a .to) _ _ (e .1 z L))
 
-hole-of-requires : tie.Need-hole-of-requires
-hole-of-requires c κs =
-    let p = c .before .before .before .before .before .before .before .before .before .before .before .pre in ((p .0 .0, p .0 .2), (p .1 .0 .1, p .1 .1))
+resolved-variable-of-requires-2 : tie.Need-resolved-variable-of-requires-2
+resolved-variable-of-requires-2 c κs =
+    let p = c .before .before .before .before .before .before .before .before .before .before .before .pre in ((p .0 .0, p .0 .2), ((tt, p .1 .0 .1), p .1 .1))
 
 same-length-6 : tie.Need-same-length-6
 same-length-6 c = search needs
@@ -55,11 +56,11 @@ same-length-8 c = search needs
 returns-3 : tie.Need-returns-3
 returns-3 c =
     let a = c .before .before .before .before .before .before .before .before .before .before .before .before .before .before .before .before .before .before .args in
-    let e = c .before .before .before .before .before .before .hole-of .ensures in
+    let e = c .before .before .before .before .before .before .resolved-variable-of2 .ensures in
     (e .0, λ z A L. does-as (a .x) _ _ _ _ _ z _ _ (plain-hole (a .kind) (a .first) (a .second) (c .before .before .before .before .before .before .before .before .before .before .if3 .taken)) (now (a .out)) (a .to) _ _ (e .1 z L))
 
-default-numbers-requires : tie.Need-default-numbers-requires
-default-numbers-requires c κs =
+default-order-requires : tie.Need-default-order-requires
+default-order-requires c κs =
     let p = c .before .before .before .before .before .before .before .before .before .before .before .pre in (p .0, p .1 .1)
 
 same-length-9 : tie.Need-same-length-9
@@ -71,10 +72,10 @@ same-length-10 c = search needs
 returns-4 : tie.Need-returns-4
 returns-4 c =
     let a = c .before .before .before .before .before .before .before .before .before .before .before .before .before .before .before .before .args in
-    (c .before .before .before .before .before .before .before .before .before .before .before .before .before .before .before .before .pre .1 .0 .1 .clear, λ z A L. does-as (a .x) _ _ _ _ _ z _ _ (plain-numbers (a .kind) (a .first) (a .second) (c .before .before .before .before .before .before .before .if4 .taken)) (now (a .out)) (a .to) _ _ (c .before .before .before .before .default-numbers .ensures z A L))
+    (c .before .before .before .before .before .before .before .before .before .before .before .before .before .before .before .before .pre .1 .0 .1 .clear, λ z A L. does-as (a .x) _ _ _ _ _ z _ _ (plain-numbers (a .kind) (a .first) (a .second) (c .before .before .before .before .before .before .before .if4 .taken)) (now (a .out)) (a .to) _ _ (c .before .before .before .before .default-order .ensures z A L))
 
-default-nevers-requires : tie.Need-default-nevers-requires
-default-nevers-requires c κs =
+default-order-requires-2 : tie.Need-default-order-requires-2
+default-order-requires-2 c κs =
     let p = c .before .before .before .before .before .before .before .before .before .before .before .before .pre in (p .0, p .1 .1)
 
 same-length-11 : tie.Need-same-length-11
@@ -86,7 +87,7 @@ same-length-12 c = search needs
 returns-5 : tie.Need-returns-5
 returns-5 c =
     let a = c .before .before .before .before .before .before .before .before .before .before .before .before .before .before .before .before .before .args in
-    (c .before .before .before .before .before .before .before .before .before .before .before .before .before .before .before .before .before .pre .1 .0 .1 .clear, λ z A L. does-as (a .x) _ _ _ _ _ z _ _ (plain-nevers (a .kind) (a .first) (a .second) (c .before .before .before .before .before .before .before .if5 .taken)) (now (a .out)) (a .to) _ _ (c .before .before .before .before .default-nevers .ensures z A L))
+    (c .before .before .before .before .before .before .before .before .before .before .before .before .before .before .before .before .before .pre .1 .0 .1 .clear, λ z A L. does-as (a .x) _ _ _ _ _ z _ _ (plain-nevers (a .kind) (a .first) (a .second) (c .before .before .before .before .before .before .before .if5 .taken)) (now (a .out)) (a .to) _ _ (c .before .before .before .before .default-order2 .ensures z A L))
 
 revision-order-requires : tie.Need-revision-order-requires
 revision-order-requires c κs = search needs
@@ -107,21 +108,21 @@ termless-order-spec =
     same-length
     same-length-2
     returns
-    number-of-requires
+    resolved-variable-of-requires
     same-length-3
     same-length-4
     same-length-5
     returns-2
-    hole-of-requires
+    resolved-variable-of-requires-2
     same-length-6
     same-length-7
     same-length-8
     returns-3
-    default-numbers-requires
+    default-order-requires
     same-length-9
     same-length-10
     returns-4
-    default-nevers-requires
+    default-order-requires-2
     same-length-11
     same-length-12
     returns-5
