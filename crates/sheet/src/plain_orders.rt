@@ -26,7 +26,7 @@ ghost use Rattle.solver.specs.Words.OrderTerms.{Asked, Frames, resolvedTo};
 ghost use Rattle.sheet.specs.OrderTable.{outcome};
 ghost use Rattle.sheet.specs.Operations.{bit};
 ghost use Rattle.sheet.specs.Sheet.{solve};
-ghost use Rattle.sheet.specs.Words.OperationsContract.{Among};
+ghost use Rattle.sheet.specs.Words.OperationsContract.{Among, plainOrders};
 ghost use Rattle.sheet.specs.Words.FramingContract.{OutputRoom, Framed};
 ghost use Rattle.sheet.specs.Words.SessionOrdersContract.{Does, plainCommand, defaultsBy, SlotOneOrHole, numberOrHole};
 
@@ -228,7 +228,7 @@ pub fn termless_order(
     to: usize,
 ) -> AfterOrder
     requires held { ⌜ ((z : Session) × Reachable (limitsOf x) loose z × Represents x (now kinds) (now vals) (now tables) z) ⌝ }
-    requires areas { ⌜ ((kind ≡ 1) → (second < 32)) × Frames x (now frames) × Among (0 ∷ 1 ∷ 2 ∷ 6 ∷ 7 ∷ 8 ∷ []) kind ⌝ }
+    requires areas { ⌜ ((kind ≡ 1) → (second < 32)) × Frames x (now frames) × Among plainOrders kind ⌝ }
     requires room { ⌜ OutputRoom (now out) to ⌝ }
     ensures clear { λ _. ⌜ Zero (now (frames .exit)) ⌝ }
     ensures does { λ r. ⌜ ((z : Session) → Reachable (limitsOf x) loose z → Represents x (now (kinds .entry)) (now (vals .entry)) (now (tables .entry)) z

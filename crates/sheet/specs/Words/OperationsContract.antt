@@ -36,6 +36,10 @@ abbrev pub Among : List ℕ → ℕ → Type 0
 Among [] k = ⊥
 Among (n ∷ ns) k = (k ≡ n) ⊎ Among ns k
 
+-- the orders of the session that have numbers alone
+abbrev pub plainOrders : List ℕ
+plainOrders = 0 ∷ 1 ∷ 2 ∷ 6 ∷ 7 ∷ 8 ∷ []
+
 abbrev pub numbersOf : List Row → List ℕ
 numbersOf [] = []
 numbersOf (r ∷ rs) = r .number ∷ numbersOf rs

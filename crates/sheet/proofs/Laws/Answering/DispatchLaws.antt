@@ -41,7 +41,7 @@ use Rattle.sheet.specs.Words.OrderGiven.{FitsLayout}
 use Rattle.sheet.specs.Words.FieldLayout.{numeric, isOperation, SpotOf, fieldItems, allItems, spare, spares, spotAt, startAt}
 use Rattle.sheet.specs.Words.OrderReaderContract.{RulesRoom, OrderRoom}
 use Rattle.sheet.specs.Words.FramingContract.{Framed}
-use Rattle.sheet.specs.Words.OperationsContract.{Among, numbersOf, Asks, Replies}
+use Rattle.sheet.specs.Words.OperationsContract.{Among, numbersOf, Asks, Replies, plainOrders}
 use Rattle.sheet.specs.Words.SessionInAreas.{Areas, areas, Output, RepresentsInAreas, Answers}
 use Rattle.sheet.specs.Entry.{AreasReady}
 use Rattle.solver.specs.Words.OrderTerms.{Behind, Poses, PosesPair}
@@ -261,7 +261,7 @@ module _ {x : Solver} {half : ℕ} {s : List ℕ} {m : Areas} {ts : Area} {ws : 
       plain-numbers : numeric (layout (T .whole .read .kind)) ≡ true
       plain-numbers = plain-act (o .kind) (T .whole .read .kind) (T .whole .kind) P .2
 
-      pub plain-kind : Among (0 ∷ 1 ∷ 2 ∷ 6 ∷ 7 ∷ 8 ∷ []) (o .kind)
+      pub plain-kind : Among plainOrders (o .kind)
       plain-kind = plain-among (o .kind) (T .whole .read .kind) (T .whole .kind) P
 
       plain-step : (z : Session) → RepresentsInAreas x half m z

@@ -32,7 +32,7 @@ use Rattle.sheet.specs.OrderTable.{Answer, refusal, outcome, sessionOrde
 use Rattle.sheet.specs.Operations.{bit}
 use Rattle.sheet.specs.Sheet.{Step, solve, answerOf, framed}
 use Rattle.sheet.specs.Words.FramingContract.{Framed, opening}
-use Rattle.sheet.specs.Words.OperationsContract.{Among}
+use Rattle.sheet.specs.Words.OperationsContract.{Among, plainOrders}
 use Rattle.sheet.specs.Words.SessionOrdersContract.{Does, plainCommand, SlotOneOrHole, numberOrHole, defaultsBy}
 use Rattle.sheet.proofs.Laws.Reading.OrderTableLaws.{among-past, third}
 use Rattle.sheet.proofs.Laws.Answering.FramingLaws.{one-frame, frame-over, value-frame}
@@ -276,7 +276,7 @@ module _ (k a b : ℕ) where
   plain-nevers e = rw e refl
 
   -- the last of them
-  pub plain-revision : Among (0 ∷ 1 ∷ 2 ∷ 6 ∷ 7 ∷ 8 ∷ []) k → (k ≡ 0 → ⊥) → (k ≡ 1 → ⊥) → (k ≡ 2 → ⊥) → (k ≡ 6 → ⊥) → (k ≡ 7 → ⊥) → orders.revision ≡ plainCommand k a b
+  pub plain-revision : Among plainOrders k → (k ≡ 0 → ⊥) → (k ≡ 1 → ⊥) → (k ≡ 2 → ⊥) → (k ≡ 6 → ⊥) → (k ≡ 7 → ⊥) → orders.revision ≡ plainCommand k a b
   unfolding plainCommand rowIn sessionOrders commandOf
   plain-revision h n₀ n₁ n₂ n₆ n₇ =
       let x = among-past 2 k (6 ∷ 7 ∷ 8 ∷ []) n₂ (among-past 1 k (2 ∷ 6 ∷ 7 ∷ 8 ∷ []) n₁ (among-past 0 k (1 ∷ 2 ∷ 6 ∷ 7 ∷ 8 ∷ []) n₀ h)) in

@@ -23,7 +23,7 @@ use Rattle.sheet.specs.OrderTable.{Answer, Act, tells, answers, Row, ses
 use Rattle.sheet.specs.Operations.{operations}
 use Rattle.sheet.specs.Sheet.{table}
 use Rattle.sheet.specs.Words.FieldLayout.{sortNumber, plainOf, sortOf, packed, isNumber, numeric, classBy, rowWords, RowIs, answersBy, isOperation, knownFor, Plain, Plains, spares, spare}
-use Rattle.sheet.specs.Words.OperationsContract.{Among, numbersOf}
+use Rattle.sheet.specs.Words.OperationsContract.{Among, numbersOf, plainOrders}
 
 -- ---- sorts
 
@@ -344,13 +344,13 @@ operations-among k r e h =
     let t = every-row (λ (r : Row). not (answersBy (r .act)) || elem (r .number) (numbersOf operations)) refl k r e in
     rw (row-number table k r e) (elem-among (r .number) (numbersOf operations) (rw (operation-row k r true e h) at t))
 
-pub plain-among : (k : ℕ) (r : Row) → rowIn table k ≡ some r → Plainly k → Among (0 ∷ 1 ∷ 2 ∷ 6 ∷ 7 ∷ 8 ∷ []) k
+pub plain-among : (k : ℕ) (r : Row) → rowIn table k ≡ some r → Plainly k → Among plainOrders k
 unfolding table sessionOrders operations all elem
 plain-among k r e h =
-    let t = every-row (λ (r : Row). answersBy (r .act) || elem (r .number) (3 ∷ 4 ∷ 5 ∷ 0 ∷ 1 ∷ 2 ∷ 6 ∷ 7 ∷ 8 ∷ [])) refl k r e in
-    let x : Among (3 ∷ 4 ∷ 5 ∷ 0 ∷ 1 ∷ 2 ∷ 6 ∷ 7 ∷ 8 ∷ []) k = rw (row-number table k r e) (elem-among (r .number) (3 ∷ 4 ∷ 5 ∷ 0 ∷ 1 ∷ 2 ∷ 6 ∷ 7 ∷ 8 ∷ []) (rw (operation-row k r false e (h .0)) at t)) in
-    among-past 5 k (0 ∷ 1 ∷ 2 ∷ 6 ∷ 7 ∷ 8 ∷ []) (h .3)
-    (among-past 4 k (5 ∷ 0 ∷ 1 ∷ 2 ∷ 6 ∷ 7 ∷ 8 ∷ []) (h .2) (among-past 3 k (4 ∷ 5 ∷ 0 ∷ 1 ∷ 2 ∷ 6 ∷ 7 ∷ 8 ∷ []) (h .1) x))
+    let t = every-row (λ (r : Row). answersBy (r .act) || elem (r .number) (3 ∷ 4 ∷ 5 ∷ plainOrders)) refl k r e in
+    let x : Among (3 ∷ 4 ∷ 5 ∷ plainOrders) k = rw (row-number table k r e) (elem-among (r .number) (3 ∷ 4 ∷ 5 ∷ plainOrders) (rw (operation-row k r false e (h .0)) at t)) in
+    among-past 5 k plainOrders (h .3)
+    (among-past 4 k (5 ∷ plainOrders) (h .2) (among-past 3 k (4 ∷ 5 ∷ plainOrders) (h .1) x))
 
 -- they have numbers alone
 pub plain-act : (k : ℕ) (r : Row) → rowIn table k ≡ some r → Plainly k → (f : List Field → Command) × (r .act ≡ tells f) × (numeric (layout r) ≡ true)
