@@ -163,22 +163,14 @@ fn list_field(
     if a != 0 {
         return a;
     }
-    let n = *value;
-    tree_field(
-        s,
-        kinds,
-        vals,
-        at,
-        top,
-        nodes,
-        limit,
-        value,
-        start,
-        end,
-        sort,
-        issued,
-        n,
-    )
+    let first = *top;
+    let r = keep_part(s, kinds, vals, at, top, nodes, limit, sort, issued, *value);
+    if r != 0 {
+        return r;
+    }
+    *start = first;
+    *end = *top;
+    0
 }
 
 // A field of a sort other than rules.
