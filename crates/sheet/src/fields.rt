@@ -103,7 +103,7 @@ fn keep_part(
     }
 }
 
-// A term, a nominal, or as many entries, receivers or arguments as are told.
+// What `keep_part` keeps, with its spot.
 fn tree_field(
     s: &[u8],
     kinds: &mut [u32],
@@ -137,7 +137,7 @@ fn tree_field(
     0
 }
 
-// A count and so many entries, receivers or arguments.
+// A count and so many entries, receivers or arguments. The steps of `tree_field` stand here again, so that `keep_part` has two callers (docs/DECISIONS.md).
 fn list_field(
     s: &[u8],
     kinds: &mut [u32],
