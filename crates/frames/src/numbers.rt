@@ -1,9 +1,11 @@
 // The numbers of a frame, four bytes each with the low byte first, and the bytes after them.
+ghost use mathlib.Core.Path.{_≡_};
 ghost use Prim.Native.Nat.{_+_, _≤_, _<_};
 ghost use lib.ListN.{length};
+ghost use Rattle.frames.specs.Numbers.{numberAt, putNumber};
 
 fn wide(b: u8) -> u32
-    ensures { λ r. ⌜ r < 256 ⌝ }
+    ensures { λ r. ⌜ (r ≡ b) × (r < 256) ⌝ }
 {
     b as u32
 }
@@ -11,6 +13,7 @@ fn wide(b: u8) -> u32
 // The number of four bytes at i.
 pub fn number_at(s: &[u8], i: usize) -> u32
     requires { ⌜ i + 4 ≤ length (now s) ⌝ }
+    ensures { λ r. ⌜ r ≡ numberAt (now (s .entry)) i ⌝ }
 {
     wide(s[i]) + wide(s[i + 1]) * 256 + wide(s[i + 2]) * 65536 + wide(s[i + 3]) * 16777216
 }
@@ -35,6 +38,7 @@ pub fn number_within(s: &[u8], i: usize, most: usize) -> usize
 // Puts a number of four bytes at i; of a larger one the low part.
 pub fn put_number(s: &mut [u8], i: usize, v: u64)
     requires { ⌜ i + 4 ≤ length (now s) ⌝ }
+    ensures { λ _. ⌜ now (s .exit) ≡ putNumber (now (s .entry)) i v ⌝ }
 {
     s[i] = (v % 256) as u8;
     s[i + 1] = (v / 256 % 256) as u8;

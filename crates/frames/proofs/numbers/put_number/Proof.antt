@@ -1,4 +1,5 @@
 -- `put_number`: four bytes, where there is space for them.
+use mathlib.Core.Path.{refl}
 use native.Mathlib.Omega.{arith}
 use lib.ListN.{length-set}
 use borrow.Author.Needs.{needs}
@@ -42,7 +43,7 @@ same-length : tie.Need-same-length
 same-length c = simp length-set
 
 returns : tie.Need-returns
-returns c = search needs
+returns c = refl
 
 pub put-number-spec : {M : Type 1} → statement M
 put-number-spec =

@@ -1,20 +1,21 @@
--- `fill_words`: the index stays within the slice, which stays as long as it was.
-use mathlib.Core.Path.{_≡_}
-use Prim.Native.Nat.{_≤_, _-_}
+-- `fill_words`. Invariant: the values before i are x.
+use mathlib.Core.Path.{_≡_, refl, _∙_}
+use Prim.Native.Nat.{ℕ, _≤_, _<_, _-_}
 use native.Mathlib.Omega.{arith}
-use lib.ListN.{length, length-set}
+use lib.ListN.{length, getD, length-set}
+use Rattle.frames.proofs.WordsLaws.{fill-step, filled}
 use borrow.Author.Needs.{needs}
 use Rattle.frames.proofs.words.fill_words.Statement.{statement}
 use Rattle.frames.proofs.words.fill_words.Tie as tie
 
 abbrev Inv-loop : tie.InvT-loop
-Inv-loop w₀ x i₀ w i = (i ≤ length w) × (length w ≡ length w₀)
+Inv-loop w₀ x i₀ w i = (i ≤ length w) × (length w ≡ length w₀) × ((j : ℕ) → j < i → getD w j 0 ≡ x)
 
 abbrev μ-loop : tie.MeasureT-loop
 μ-loop w₀ x i₀ w i = length w - i
 
 loop-holds : tie.Need-loop-holds Inv-loop μ-loop
-loop-holds c = search needs
+loop-holds c = (omega arith, refl, λ j h. absurd (omega arith))
 
 mul-w : tie.Need-mul-w Inv-loop μ-loop
 mul-w c = search needs
@@ -29,13 +30,17 @@ loop-less : tie.Need-loop-less Inv-loop μ-loop
 loop-less c = simp length-set (omega arith)
 
 loop-again : tie.Need-loop-again Inv-loop μ-loop
-loop-again c = (simp length-set (omega arith), simp length-set (omega arith))
+loop-again c =
+    let l = c .before .loop in
+    (simp length-set (omega arith), simp length-set (omega arith), fill-step _ (l .i) (l .w) (l .inv .2) (omega arith))
 
 same-length : tie.Need-same-length Inv-loop μ-loop
 same-length c = search needs
 
 returns : tie.Need-returns Inv-loop μ-loop
-returns c = search needs
+returns c =
+    let l = c .before .loop in
+    filled _ _ (l .w) (l .inv .1) (λ j h. l .inv .2 j (omega (arith, l .inv .1)))
 
 pub fill-words-spec : {M : Type 1} → statement M
 fill-words-spec =
