@@ -25,9 +25,9 @@ ghost use Rattle.sheet.specs.OrderTable.{rowIn};
 ghost use Rattle.sheet.specs.Sheet.{table};
 ghost use Rattle.sheet.specs.Words.FieldLayout.{isOperation};
 ghost use Rattle.solver.specs.Terms.Tokens.{area};
-ghost use Rattle.sheet.specs.Words.SessionInAreas.{areas, outputAt, RepresentsInAreas, Served};
+ghost use Rattle.sheet.specs.Words.SessionInAreas.{areas, RepresentsInAreas, Served};
 ghost use Rattle.sheet.specs.Entry.{AreasReady};
-ghost use Rattle.sheet.specs.Words.FramingContract.{OutputRoom};
+ghost use Rattle.sheet.specs.Words.FramingContract.{OutputRoom, outputAt};
 ghost use Rattle.sheet.specs.Words.OrderReaderContract.{RulesRoom};
 ghost use Rattle.sheet.specs.Words.DispatchContract.{OrderTaken, Serves, Answered};
 

@@ -47,6 +47,13 @@ pub struct Order {
     pub nodes: usize,
 }
 
+// An order for a variable: that of a site and a slot (order 0), a number variable of a site with its fallback (1), a hole of a site (2).
+pub enum VariableOrder {
+    Slot(u32, u32),
+    Number(u32, u32),
+    Hole(u32),
+}
+
 // What reading an order finds, or the refusal.
 pub enum Reading {
     Whole(Order),

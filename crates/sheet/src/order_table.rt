@@ -36,7 +36,7 @@ pub fn row_of(kind: u8) -> OrderRow
         18 => OrderRow::Listed(Class::Operation, 907060408),
         19 => OrderRow::Listed(Class::Operation, 40504),
         20 => OrderRow::Listed(Class::Operation, 410),
-        21..=255 => OrderRow::Unlisted,
+        _ => OrderRow::Unlisted,
     }
 }
 

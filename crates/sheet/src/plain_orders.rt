@@ -1,5 +1,6 @@
 // Orders 0, 1, 2, 6, 7 and 8 on what the solver is lent: the tokens, the table, and the work area, all 0.
 use super::AfterOrder;
+use super::VariableOrder;
 use super::framing::begin_answer;
 use super::framing::write_byte_answer;
 use super::framing::write_number_answer;
@@ -12,7 +13,7 @@ use solver::variable_len;
 use solver::write_variable;
 ghost use mathlib.Core.Path.{_≡_};
 ghost use mathlib.Core.Bool.{not};
-ghost use mathlib.Core.List.{List, [], _∷_};
+ghost use mathlib.Core.List.{List};
 ghost use Prim.Native.Nat.{ℕ, _<_};
 ghost use lib.Dec.{eqb};
 ghost use Rattle.solver.specs.Terms.Term.{Term, var, bytes};
@@ -27,8 +28,9 @@ ghost use Rattle.sheet.specs.OrderTable.{outcome};
 ghost use Rattle.sheet.specs.Operations.{bit};
 ghost use Rattle.sheet.specs.Sheet.{solve};
 ghost use Rattle.sheet.specs.Words.OperationsContract.{Among, plainOrders};
-ghost use Rattle.sheet.specs.Words.FramingContract.{OutputRoom, Framed};
-ghost use Rattle.sheet.specs.Words.SessionOrdersContract.{Does, plainCommand, defaultsBy, SlotOneOrHole, numberOrHole};
+ghost use Rattle.sheet.specs.Words.FramingContract.{OutputRoom, outputAt, Framed};
+ghost use Rattle.sheet.specs.Words.SessionOrdersContract.{lent, Does, plainCommand, defaultsBy, variableCommand, siteOf, FallbackListed};
+ghost use Rattle.sheet.specs.Words.SessionOrdersContract.{variableAnswer};
 
 // Whether the revision is another, as a byte.
 fn changed_byte(old: usize, new: usize) -> u8
@@ -44,7 +46,8 @@ fn changed_byte(old: usize, new: usize) -> u8
 fn revision_order(x: Solver, out: &mut [u8], to: usize) -> AfterOrder
     requires { ⌜ OutputRoom (now out) to ⌝ }
     ensures { λ r. ⌜ ((ks vs ts : List ℕ) (z : Session) → Represents x ks vs ts z
-        → Does x (r .solver) ks vs ts ts z (solve (limitsOf x) z orders.revision) (now (out .entry)) to (now (out .exit)) (r .next)) ⌝ }
+        → Does (lent x ks vs ts) (r .solver) ts z (solve (limitsOf x) z orders.revision) (outputAt (now (out .entry)) to)
+        (outputAt (now (out .exit)) (r .next))) ⌝ }
 {
     let n = x.revision();
     let next = write_number_answer(out, to, n as u64);
@@ -77,8 +80,8 @@ fn default_order(
     requires held { ⌜ ((z : Session) × Reachable (limitsOf x) loose z × Represents x (now kinds) (now vals) (now tables) z) ⌝ }
     requires room { ⌜ OutputRoom (now out) to ⌝ }
     ensures { λ r. ⌜ ((z : Session) → Reachable (limitsOf x) loose z → Represents x (now (kinds .entry)) (now (vals .entry)) (now (tables .entry)) z
-        → Does x (r .solver) (now (kinds .entry)) (now (vals .entry)) (now (tables .entry)) (now (tables .exit)) z
-        (solve (limitsOf x) z (defaultsBy never)) (now (out .entry)) to (now (out .exit)) (r .next)) ⌝ }
+        → Does (lent x (now (kinds .entry)) (now (vals .entry)) (now (tables .entry))) (r .solver) (now (tables .exit)) z
+        (solve (limitsOf x) z (defaultsBy never)) (outputAt (now (out .entry)) to) (outputAt (now (out .exit)) (r .next))) ⌝ }
 {
     if out.len() - to < 3 {
         let next = out.len() + 1;
@@ -134,83 +137,104 @@ pub fn resolved(
     x.resolve(kinds, vals, tables, frames, what, out, at)
 }
 
-// Order 0.
-fn variable_of(
-    x: Solver,
-    tables: &mut [u32],
-    site: u32,
-    slot: u32,
-    out: &mut [u8],
-    to: usize,
-) -> AfterOrder
-    requires held { ⌜ ((ks vs : List ℕ) × (z : Session) × Represents x ks vs (now tables) z) ⌝ }
-    requires room { ⌜ OutputRoom (now out) to ⌝ }
-    ensures { λ r. ⌜ ((ks vs : List ℕ) (z : Session) → Represents x ks vs (now (tables .entry)) z
-        → Does x (r .solver) ks vs (now (tables .entry)) (now (tables .exit)) z (solve (limitsOf x) z (orders.variable site slot)) (now (out .entry)) to
-        (now (out .exit)) (r .next)) ⌝ }
+// The place of an order's variable.
+fn site_of(wanted: VariableOrder) -> Site
+    ensures { λ r. ⌜ r ≡ siteOf wanted ⌝ }
 {
-    let Named::Variable(v) = x.id_of(tables, Site::Slot(site, slot)) else {
-        let next = write_refusal(out, to, 8);
-        return AfterOrder { solver: x, next };
-    };
-    let next = write_variable_answer(out, to, v);
-    if out.len() < next {
-        return AfterOrder { solver: x, next };
+    match wanted {
+        VariableOrder::Slot(site, slot) => Site::Slot(site, slot),
+        VariableOrder::Number(site, _) => Site::Slot(site, 1),
+        VariableOrder::Hole(site) => Site::Hole(site),
     }
-    let y = x.variable(tables, site, slot);
-    let solver = y.solver;
-    AfterOrder { solver, next }
 }
 
-// The variable of orders 1 and 2 is issued, where the place has none; a number variable is requested.
-fn issue_number_or_hole(x: Solver, tables: &mut [u32], place: Site, fallback: u32) -> Solver
+// The answer for the variable v: order 0 answers the variable itself, orders 1 and 2 what it resolves to.
+fn answer_variable(
+    x: Solver,
+    kinds: &[u32],
+    vals: &[u32],
+    tables: &[u32],
+    frames: &mut [u32],
+    wanted: VariableOrder,
+    v: u32,
+    out: &mut [u8],
+    to: usize,
+) -> usize
+    requires held { ⌜ ((z : Session) × Represents x (now kinds) (now vals) (now tables) z) ⌝ }
+    requires areas { ⌜ (v < x .variables) × Frames x (now frames) ⌝ }
+    requires room { ⌜ OutputRoom (now out) to ⌝ }
+    ensures clear { λ _. ⌜ Zero (now (frames .exit)) ⌝ }
+    ensures term { λ r. ⌜ ((z : Session) → Represents x (now (kinds .entry)) (now (vals .entry)) (now (tables .entry)) z
+        → Framed (outcome (bytes (variableAnswer z wanted v))) (now (out .entry)) to (now (out .exit)) r) ⌝ }
+{
+    match wanted {
+        VariableOrder::Slot(_, _) => write_variable_answer(out, to, v),
+        VariableOrder::Number(_, _) => resolved(
+            x,
+            kinds,
+            vals,
+            tables,
+            frames,
+            Subject::Id(v),
+            out,
+            to,
+        ),
+        VariableOrder::Hole(_) => resolved(x, kinds, vals, tables, frames, Subject::Id(v), out, to),
+    }
+}
+
+// The variable is issued, where the place has none; a number variable is requested.
+fn issue_variable(x: Solver, tables: &mut [u32], wanted: VariableOrder) -> Solver
     requires held { ⌜ ((ks vs : List ℕ) × (z : Session) × Represents x ks vs (now tables) z) ⌝ }
-    requires asked { ⌜ SlotOneOrHole place fallback ⌝ }
+    requires fallback { ⌜ FallbackListed wanted ⌝ }
     ensures held { λ r. ⌜ ((ks vs : List ℕ) (z : Session) → Represents x ks vs (now (tables .entry)) z
-        → Represents r ks vs (now (tables .exit)) (solve (limitsOf x) z (numberOrHole place fallback) .session)) ⌝ }
+        → Represents r ks vs (now (tables .exit)) (solve (limitsOf x) z (variableCommand wanted) .session)) ⌝ }
     ensures beside { λ r. ⌜ Beside x r (now (tables .entry)) (now (tables .exit)) ⌝ }
 {
-    match place {
-        Site::Slot(site, _) => {
+    match wanted {
+        VariableOrder::Slot(site, slot) => {
+            let y = x.variable(tables, site, slot);
+            y.solver
+        }
+        VariableOrder::Number(site, fallback) => {
             let y = x.numeric_variable(tables, site, fallback);
             y.solver
         }
-        Site::Hole(site) => {
+        VariableOrder::Hole(site) => {
             let y = x.annotation_hole(tables, site);
             y.solver
         }
     }
 }
 
-// Orders 1 and 2: a number variable or a hole, by its place.
-fn resolved_variable_of(
+// Orders 0, 1 and 2.
+fn variable_order(
     x: Solver,
     kinds: &[u32],
     vals: &[u32],
     tables: &mut [u32],
     frames: &mut [u32],
-    place: Site,
-    fallback: u32,
+    wanted: VariableOrder,
     out: &mut [u8],
     to: usize,
 ) -> AfterOrder
     requires held { ⌜ ((z : Session) × Represents x (now kinds) (now vals) (now tables) z) ⌝ }
-    requires areas { ⌜ SlotOneOrHole place fallback × Frames x (now frames) ⌝ }
+    requires areas { ⌜ FallbackListed wanted × Frames x (now frames) ⌝ }
     requires room { ⌜ OutputRoom (now out) to ⌝ }
     ensures clear { λ _. ⌜ Zero (now (frames .exit)) ⌝ }
     ensures does { λ r. ⌜ ((z : Session) → Represents x (now (kinds .entry)) (now (vals .entry)) (now (tables .entry)) z
-        → Does x (r .solver) (now (kinds .entry)) (now (vals .entry)) (now (tables .entry)) (now (tables .exit)) z
-        (solve (limitsOf x) z (numberOrHole place fallback)) (now (out .entry)) to (now (out .exit)) (r .next)) ⌝ }
+        → Does (lent x (now (kinds .entry)) (now (vals .entry)) (now (tables .entry))) (r .solver) (now (tables .exit)) z
+        (solve (limitsOf x) z (variableCommand wanted)) (outputAt (now (out .entry)) to) (outputAt (now (out .exit)) (r .next))) ⌝ }
 {
-    let Named::Variable(v) = x.id_of(tables, place) else {
+    let Named::Variable(v) = x.id_of(tables, site_of(wanted)) else {
         let next = write_refusal(out, to, 8);
         return AfterOrder { solver: x, next };
     };
-    let next = resolved(x, kinds, vals, tables, frames, Subject::Id(v), out, to);
+    let next = answer_variable(x, kinds, vals, tables, frames, wanted, v, out, to);
     if out.len() < next {
         return AfterOrder { solver: x, next };
     }
-    let y = issue_number_or_hole(x, tables, place, fallback);
+    let y = issue_variable(x, tables, wanted);
     AfterOrder { solver: y, next }
 }
 
@@ -232,19 +256,20 @@ pub fn termless_order(
     requires room { ⌜ OutputRoom (now out) to ⌝ }
     ensures clear { λ _. ⌜ Zero (now (frames .exit)) ⌝ }
     ensures does { λ r. ⌜ ((z : Session) → Reachable (limitsOf x) loose z → Represents x (now (kinds .entry)) (now (vals .entry)) (now (tables .entry)) z
-        → Does x (r .solver) (now (kinds .entry)) (now (vals .entry)) (now (tables .entry)) (now (tables .exit)) z
-        (solve (limitsOf x) z (plainCommand kind first second)) (now (out .entry)) to (now (out .exit)) (r .next)) ⌝ }
+        → Does (lent x (now (kinds .entry)) (now (vals .entry)) (now (tables .entry))) (r .solver) (now (tables .exit)) z
+        (solve (limitsOf x) z (plainCommand kind first second)) (outputAt (now (out .entry)) to) (outputAt (now (out .exit)) (r .next))) ⌝ }
 {
     if kind == 0 {
-        return variable_of(x, tables, first, second, out, to);
+        let wanted = VariableOrder::Slot(first, second);
+        return variable_order(x, kinds, vals, tables, frames, wanted, out, to);
     }
     if kind == 1 {
-        let place = Site::Slot(first, 1);
-        return resolved_variable_of(x, kinds, vals, tables, frames, place, second, out, to);
+        let wanted = VariableOrder::Number(first, second);
+        return variable_order(x, kinds, vals, tables, frames, wanted, out, to);
     }
     if kind == 2 {
-        let place = Site::Hole(first);
-        return resolved_variable_of(x, kinds, vals, tables, frames, place, second, out, to);
+        let wanted = VariableOrder::Hole(first);
+        return variable_order(x, kinds, vals, tables, frames, wanted, out, to);
     }
     if kind == 6 {
         return default_order(x, false, kinds, vals, tables, out, to);

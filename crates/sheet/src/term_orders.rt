@@ -17,9 +17,9 @@ ghost use Rattle.solver.specs.Words.Worklist.{Zero};
 ghost use Rattle.solver.specs.Words.ConstrainContract.{Scratch, pendingFrom};
 ghost use Rattle.solver.specs.Words.SessionRepresentation.{limitsOf, verdictNumber};
 ghost use Rattle.sheet.specs.Sheet.{solve};
-ghost use Rattle.sheet.specs.Words.FramingContract.{OutputRoom};
+ghost use Rattle.sheet.specs.Words.FramingContract.{OutputRoom, outputAt};
 ghost use Rattle.solver.specs.Words.OrderTerms.{Poses, PosesPair, Frames};
-ghost use Rattle.sheet.specs.Words.SessionOrdersContract.{Does, DoesPair};
+ghost use Rattle.sheet.specs.Words.SessionOrdersContract.{lent, Does, DoesPair};
 
 // Order 3: the variable that the term after the session's tokens stands for, if it stands for one, is deferred.
 pub fn defer_term(
@@ -33,8 +33,8 @@ pub fn defer_term(
     requires held { ⌜ ((z : Session) × (t : Term) × Poses loose x (now kinds) (now vals) (now tables) z t) ⌝ }
     requires room { ⌜ OutputRoom (now out) to ⌝ }
     ensures { λ r. ⌜ ((z : Session) (t : Term) → Poses loose x (now (kinds .entry)) (now (vals .entry)) (now (tables .entry)) z t
-        → Does x (r .solver) (take (x .top) (now (kinds .entry))) (take (x .top) (now (vals .entry))) (now (tables .entry)) (now (tables .exit)) z
-        (solve (limitsOf x) z (orders.defer t)) (now (out .entry)) to (now (out .exit)) (r .next)) ⌝ }
+        → Does (lent x (take (x .top) (now (kinds .entry))) (take (x .top) (now (vals .entry))) (now (tables .entry))) (r .solver) (now (tables .exit)) z
+        (solve (limitsOf x) z (orders.defer t)) (outputAt (now (out .entry)) to) (outputAt (now (out .exit)) (r .next))) ⌝ }
 {
     let next = write_empty_answer(out, to);
     if out.len() < next {
@@ -59,8 +59,8 @@ pub fn resolve_term(
     requires room { ⌜ OutputRoom (now out) to ⌝ }
     ensures clear { λ _. ⌜ Zero (now (frames .exit)) ⌝ }
     ensures does { λ r. ⌜ ((z : Session) (t : Term) → Poses loose x (now (kinds .entry)) (now (vals .entry)) (now (tables .entry)) z t
-        → Does x (r .solver) (take (x .top) (now (kinds .entry))) (take (x .top) (now (vals .entry))) (now (tables .entry)) (now (tables .entry)) z
-        (solve (limitsOf x) z (orders.resolving t)) (now (out .entry)) to (now (out .exit)) (r .next)) ⌝ }
+        → Does (lent x (take (x .top) (now (kinds .entry))) (take (x .top) (now (vals .entry))) (now (tables .entry))) (r .solver) (now (tables .entry)) z
+        (solve (limitsOf x) z (orders.resolving t)) (outputAt (now (out .entry)) to) (outputAt (now (out .exit)) (r .next))) ⌝ }
 {
     let next = resolved(x, kinds, vals, tables, frames, Subject::Follows, out, to);
     AfterOrder { solver: x, next }
@@ -96,8 +96,8 @@ pub fn constrain_order(
     ensures clear { λ _. ⌜ Zero (now (work .exit)) ⌝ }
     ensures does { λ r. ⌜ ((z : Session) (t u : Term) → PosesPair loose x (now (kinds .entry)) (now (vals .entry)) (now (tables .entry)) z q t u
         → nodes ≡ z .kept + (size t + size u)
-        → DoesPair x (r .solver) (now (kinds .entry)) (now (vals .entry)) (now (tables .entry)) (now (tables .exit)) z
-        (solve (limitsOf x) z (orders.pair k t u)) (now (out .entry)) to (now (out .exit)) (r .next)) ⌝ }
+        → DoesPair (lent x (now (kinds .entry)) (now (vals .entry)) (now (tables .entry))) (r .solver) (now (tables .exit)) z
+        (solve (limitsOf x) z (orders.pair k t u)) (outputAt (now (out .entry)) to) (outputAt (now (out .exit)) (r .next))) ⌝ }
 {
     if out.len() - to < 3 {
         let next = out.len() + 1;

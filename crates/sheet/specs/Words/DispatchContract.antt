@@ -8,7 +8,8 @@ use Rattle.solver.specs.Shapes.{loose}
 use Rattle.solver.specs.Session.{Session}
 use Rattle.solver.specs.Words.SessionRepresentation.{Reachable, limitsOf}
 use Rattle.sheet.specs.declared.Order.{Order}
-use Rattle.sheet.specs.Words.SessionInAreas.{Areas, areas, Output, RepresentsInAreas, Served}
+use Rattle.sheet.specs.Words.SessionInAreas.{Areas, areas, RepresentsInAreas, Served}
+use Rattle.sheet.specs.Words.FramingContract.{Output}
 use Rattle.sheet.specs.Entry.{AreasReady}
 use Rattle.sheet.specs.Words.OrderReaderContract.{WholeOrder}
 

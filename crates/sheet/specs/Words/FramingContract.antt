@@ -8,6 +8,14 @@ use Rattle.solver.specs.Terms.Number.{shortest}
 use Rattle.sheet.specs.OrderTable.{Answer}
 use Rattle.sheet.specs.Sheet.{framed}
 
+-- the bytes of the output, and the position that it is written up to
+pub record Output : Type 0 where
+  pub bytes : List ℕ
+  pub at : ℕ
+
+abbrev pub outputAt : List ℕ → ℕ → Output
+outputAt bytes at = record { bytes = bytes; at = at }
+
 -- there is an output, and a position in it or at its end
 pub record OutputRoom (out : List ℕ) (to : ℕ) : Type 0 where
   pub inside : to ≤ length out

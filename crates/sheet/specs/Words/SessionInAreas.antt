@@ -11,6 +11,7 @@ use Rattle.solver.specs.Words.Worklist.{Zero}
 use Rattle.solver.specs.Words.ConstrainContract.{pendingFrom}
 use Rattle.solver.specs.Words.SessionsContract.{tableWords}
 use Rattle.sheet.specs.Sheet.{Step, orderOf, framed}
+use Rattle.sheet.specs.Words.FramingContract.{Output}
 
 -- the words of the four areas
 pub record Areas : Type 0 where
@@ -21,14 +22,6 @@ pub record Areas : Type 0 where
 
 abbrev pub areas : (a b c d : List ℕ) → Areas
 areas a b c d = record { a = a; b = b; c = c; d = d }
-
--- the bytes of the output, and the position that it is written up to
-pub record Output : Type 0 where
-  pub bytes : List ℕ
-  pub at : ℕ
-
-abbrev pub outputAt : List ℕ → ℕ → Output
-outputAt bytes at = record { bytes = bytes; at = at }
 
 -- The counters x and the areas hold the session s, and every other word is 0: the tokens stand at the start of a and b, the table in c from
 -- `half` on; the rest is scratch.

@@ -7,10 +7,14 @@ use Prim.Native.Nat.{ℕ, _+_, _≤_, _<_}
 use lib.ListN.{length, drop}
 use Rattle.solver.specs.declared.Solver.{Solver}
 use Rattle.solver.specs.declared.Site.{Site}
-use Rattle.solver.specs.declared.Site.the-variants.{Slot, Hole}
+use Rattle.solver.specs.declared.Site.the-variants as place
+use Rattle.sheet.specs.declared.VariableOrder.{VariableOrder}
+use Rattle.sheet.specs.declared.VariableOrder.the-variants.{Slot, Number, Hole}
+use Rattle.solver.specs.Terms.Term.{Term, var}
+use Rattle.solver.specs.Constrain.{resolved}
 use Rattle.solver.specs.Families.{requested}
 use Rattle.solver.specs.Session.{Session}
-use Rattle.solver.specs.Orders.{Command, number, hole, numbers, nevers, revision}
+use Rattle.solver.specs.Orders.{Command, variable, number, hole, numbers, nevers, revision}
 use Rattle.solver.specs.Words.SessionRepresentation.{Represents}
 use Rattle.solver.specs.Words.ConstrainContract.{pendingFrom}
 use Rattle.solver.specs.Words.Worklist.{Zero}
@@ -18,15 +22,25 @@ use Rattle.solver.specs.Words.MethodContract.{Beside}
 use Rattle.sheet.specs.Fields.{Field, value}
 use Rattle.sheet.specs.OrderTable.{Row, sessionOrders, rowIn, commandOf}
 use Rattle.sheet.specs.Sheet.{Step, framed}
-use Rattle.sheet.specs.Words.FramingContract.{Framed}
+use Rattle.sheet.specs.Words.FramingContract.{Output, Framed}
 
--- A step of the definition done on what is lent: its answer is written and the session after it is held, or the answer does not fit and the
--- session is held that was. x and ts are the counters and the table before it, y and us after it; ks and vs are the tokens.
-pub record Does (x y : Solver) (ks vs ts us : List ℕ) (z : Session) (st : Step) (out₀ : List ℕ) (to : ℕ) (out : List ℕ) (r : ℕ) : Type 0 where
-  pub answer : Framed (st .answer) out₀ to out r
-  pub whole : to + length (framed (st .answer)) ≤ length out₀ → Represents y ks vs us (st .session)
-  pub long : length out₀ < to + length (framed (st .answer)) → Represents y ks vs us z
-  pub beside : Beside x y ts us
+-- what the solver is lent: its counters, the tokens and the table
+pub record Lent : Type 0 where
+  pub counters : Solver
+  pub kinds : List ℕ
+  pub vals : List ℕ
+  pub table : List ℕ
+
+abbrev pub lent : Solver → (ks vs ts : List ℕ) → Lent
+lent x ks vs ts = record { counters = x; kinds = ks; vals = vs; table = ts }
+
+-- A step of the definition done on what is lent, with the output w before it and v after it: its answer is written and the session after it is
+-- held, or the answer does not fit and the session is held that was. y and us are the counters and the table after it.
+pub record Does (m : Lent) (y : Solver) (us : List ℕ) (z : Session) (st : Step) (w v : Output) : Type 0 where
+  pub answer : Framed (st .answer) (w .bytes) (w .at) (v .bytes) (v .at)
+  pub whole : w .at + length (framed (st .answer)) ≤ length (w .bytes) → Represents y (m .kinds) (m .vals) us (st .session)
+  pub long : length (w .bytes) < w .at + length (framed (st .answer)) → Represents y (m .kinds) (m .vals) us z
+  pub beside : Beside (m .counters) y (m .table) us
 
 -- the command of an order of the session whose fields are two numbers at most, by its number
 abbrev pub toldElse : Option Command → Command
@@ -40,14 +54,29 @@ toldBy (some r) fs = toldElse (commandOf r fs)
 unfoldable pub plainCommand : ℕ → ℕ → ℕ → Command
 plainCommand k a b = toldBy (rowIn sessionOrders k) (value a ∷ value b ∷ [])
 
--- orders 1 and 2 by the place of their variable: a number variable's is slot 1 of its site, and it has a fallback
-abbrev pub SlotOneOrHole : Site → ℕ → Type 0
-SlotOneOrHole (Slot s i) f = (i ≡ 1) × (f < 32)
-SlotOneOrHole (Hole s) f = Unit {0}
+-- orders 0, 1 and 2: their commands
+abbrev pub variableCommand : VariableOrder → Command
+variableCommand (Slot s i) = variable s i
+variableCommand (Number s f) = number s (requested f)
+variableCommand (Hole s) = hole s
 
-abbrev pub numberOrHole : Site → ℕ → Command
-numberOrHole (Slot s i) f = number s (requested f)
-numberOrHole (Hole s) f = hole s
+-- the place of the variable: that of a number variable is slot 1 of its site
+abbrev pub siteOf : VariableOrder → Site
+siteOf (Slot s i) = place.Slot s i
+siteOf (Number s f) = place.Slot s 1
+siteOf (Hole s) = place.Hole s
+
+-- a fallback is the code of a builtin
+abbrev pub FallbackListed : VariableOrder → Type 0
+FallbackListed (Slot s i) = Unit {0}
+FallbackListed (Number s f) = f < 32
+FallbackListed (Hole s) = Unit {0}
+
+-- what is answered for the variable v: itself, or what it resolves to
+abbrev pub variableAnswer : Session → VariableOrder → ℕ → Term
+variableAnswer z (Slot s i) v = var v
+variableAnswer z (Number s f) v = resolved (z .solver) (var v)
+variableAnswer z (Hole s) v = resolved (z .solver) (var v)
 
 -- orders 6 and 7, by whether Never is the default
 abbrev pub defaultsBy : Bool → Command
@@ -55,10 +84,10 @@ defaultsBy false = numbers
 defaultsBy true = nevers
 
 -- order 4 done: where its answer fits, the session after it is held by all of the tokens; else all is as it was
-pub record DoesPair (x y : Solver) (ks vs ts us : List ℕ) (z : Session) (st : Step) (out₀ : List ℕ) (to : ℕ) (out : List ℕ) (r : ℕ) : Type 0 where
-  pub answer : Framed (st .answer) out₀ to out r
-  pub whole : to + length (framed (st .answer)) ≤ length out₀ → Represents y ks vs us (st .session)
-  pub long : length out₀ < to + length (framed (st .answer)) → (y ≡ x) × (us ≡ ts)
-  pub blank : Zero (drop (pendingFrom x) us)
-  pub variables : y .variables ≡ x .variables
-  pub nodes : y .nodes ≡ x .nodes
+pub record DoesPair (m : Lent) (y : Solver) (us : List ℕ) (z : Session) (st : Step) (w v : Output) : Type 0 where
+  pub answer : Framed (st .answer) (w .bytes) (w .at) (v .bytes) (v .at)
+  pub whole : w .at + length (framed (st .answer)) ≤ length (w .bytes) → Represents y (m .kinds) (m .vals) us (st .session)
+  pub long : length (w .bytes) < w .at + length (framed (st .answer)) → (y ≡ m .counters) × (us ≡ m .table)
+  pub blank : Zero (drop (pendingFrom (m .counters)) us)
+  pub variables : y .variables ≡ m .counters .variables
+  pub nodes : y .nodes ≡ m .counters .nodes

@@ -40,12 +40,12 @@ use Rattle.sheet.specs.Words.FieldsFormed.{FormedField, FormedFields}
 use Rattle.sheet.specs.Words.OrderGiven.{FitsLayout}
 use Rattle.sheet.specs.Words.FieldLayout.{numeric, isOperation, SpotOf, fieldItems, allItems, spare, spares, spotAt, startAt}
 use Rattle.sheet.specs.Words.OrderReaderContract.{RulesRoom, OrderRoom}
-use Rattle.sheet.specs.Words.FramingContract.{Framed}
+use Rattle.sheet.specs.Words.FramingContract.{Output, Framed}
 use Rattle.sheet.specs.Words.OperationsContract.{Among, numbersOf, Asks, Replies, plainOrders}
-use Rattle.sheet.specs.Words.SessionInAreas.{Areas, areas, Output, RepresentsInAreas, Answers}
+use Rattle.sheet.specs.Words.SessionInAreas.{Areas, areas, RepresentsInAreas, Answers}
 use Rattle.sheet.specs.Entry.{AreasReady}
 use Rattle.solver.specs.Words.OrderTerms.{Behind, Poses, PosesPair}
-use Rattle.sheet.specs.Words.SessionOrdersContract.{Does, toldElse, toldBy, plainCommand, DoesPair}
+use Rattle.sheet.specs.Words.SessionOrdersContract.{lent, Does, toldElse, toldBy, plainCommand, DoesPair}
 use Rattle.sheet.specs.Words.DispatchContract.{OrderTaken, Serves, Answered}
 use Rattle.sheet.proofs.Laws.Reading.StoredLaws.{zero-free, free-kinds, free-vals}
 use Rattle.sheet.proofs.Laws.Reading.OrderTableLaws.{Plainly, plain-act, plain-among, operations-among, session-row}
@@ -194,7 +194,7 @@ module _ {x : Solver} {half : ℕ} {s : List ℕ} {m : Areas} {ts : Area} {ws : 
   told : (k : Command) → ((z : Session) → RepresentsInAreas x half m z → orderOf (limitsOf x) z s ≡ solve (limitsOf x) z k)
       → (y : Solver) (c′ d′ : List ℕ) (w v : Output) → take half c′ ≡ take half (m .c) → Zero d′
       → ((z : Session) → Reachable (limitsOf x) loose z → RepresentsInAreas x half m z
-      → Does x y (take (x .top) (m .a)) (take (x .top) (m .b)) (drop half (m .c)) (drop half c′) z (solve (limitsOf x) z k) (w .bytes) (w .at) (v .bytes) (v .at))
+      → Does (lent x (take (x .top) (m .a)) (take (x .top) (m .b)) (drop half (m .c))) y (drop half c′) z (solve (limitsOf x) z k) w v)
       → Answered x y half s m ts o c′ d′ w v
   told k same y c′ d′ w v front clear D =
       let R = T .ready in
@@ -303,12 +303,12 @@ module _ {x : Solver} {half : ℕ} {s : List ℕ} {m : Areas} {ts : Area} {ws : 
       pub plain-answered : (i j : ℕ) → i ≡ o .first .value → j ≡ o .second .value
           → (y : Solver) (c′ d′ : List ℕ) (w v : Output) → take half c′ ≡ take half (m .c) → Zero d′
           → ((z : Session) → Reachable (limitsOf x) loose z → Represents x (take (o .top) (ts .kinds)) (take (o .top) (ts .vals)) (drop half (m .c)) z
-          → Does x y (take (o .top) (ts .kinds)) (take (o .top) (ts .vals)) (drop half (m .c)) (drop half c′) z (solve (limitsOf x) z (plainCommand (o .kind) i j)) (w .bytes) (w .at) (v .bytes) (v .at))
+          → Does (lent x (take (o .top) (ts .kinds)) (take (o .top) (ts .vals)) (drop half (m .c))) y (drop half c′) z (solve (limitsOf x) z (plainCommand (o .kind) i j)) w v)
           → Answered x y half s m ts o c′ d′ w v
       plain-answered i j ei ej y c′ d′ w v front clear D =
           told (plainCommand (o .kind) i j) (λ z Z. plain-step z Z ∙ rw (ei, ej, plain-first .0, plain-second .0) refl) y c′ d′ w v front clear
           (λ z A Z.
-          subst (λ (u : Area). Does x y (u .kinds) (u .vals) (drop half (m .c)) (drop half c′) z (solve (limitsOf x) z (plainCommand (o .kind) i j)) (w .bytes) (w .at) (v .bytes) (v .at)) plain-areas
+          subst (λ (u : Area). Does (lent x (u .kinds) (u .vals) (drop half (m .c))) y (drop half c′) z (solve (limitsOf x) z (plainCommand (o .kind) i j)) w v) plain-areas
           (D z A (plain-lent z Z)))
 
     -- ---- orders 3, 4 and 5
@@ -369,7 +369,7 @@ module _ {x : Solver} {half : ℕ} {s : List ℕ} {m : Areas} {ts : Area} {ws : 
       pub posed : (k : Command) → ((z : Session) → RepresentsInAreas x half m z → orderOf (limitsOf x) z s ≡ solve (limitsOf x) z k)
           → (y : Solver) (c′ d′ : List ℕ) (w v : Output) → take half c′ ≡ take half (m .c) → Zero d′
           → ((z : Session) → Poses loose x (take (o .top) (ts .kinds)) (take (o .top) (ts .vals)) (drop half (m .c)) z t
-          → Does x y (take (x .top) (take (o .top) (ts .kinds))) (take (x .top) (take (o .top) (ts .vals))) (drop half (m .c)) (drop half c′) z (solve (limitsOf x) z k) (w .bytes) (w .at) (v .bytes) (v .at))
+          → Does (lent x (take (x .top) (take (o .top) (ts .kinds))) (take (x .top) (take (o .top) (ts .vals))) (drop half (m .c))) y (drop half c′) z (solve (limitsOf x) z k) w v)
           → Answered x y half s m ts o c′ d′ w v
       posed k same y c′ d′ w v front clear D =
           told k same y c′ d′ w v front clear (λ z A Z. rw (cut-a, cut-b) at (D z (poses z A Z)))
@@ -492,11 +492,11 @@ module _ {x : Solver} {half : ℕ} {s : List ℕ} {m : Areas} {ts : Area} {ws : 
 
         module _ (y : Solver) (c′ d′ : List ℕ) (w v : Output) (front : take half c′ ≡ take half (m .c)) (clear : Zero d′) (k : ℕ) (ek : k ≡ n)
             (E : (z : Session) → PosesPair loose x (take (o .top) (ts .kinds)) (take (o .top) (ts .vals)) (drop half (m .c)) z (o .third .place) t u → o .nodes ≡ z .kept + (size t + size u)
-            → DoesPair x y (take (o .top) (ts .kinds)) (take (o .top) (ts .vals)) (drop half (m .c)) (drop half c′) z (solve (limitsOf x) z (orders.pair k t u)) (w .bytes) (w .at) (v .bytes) (v .at)) where
+            → DoesPair (lent x (take (o .top) (ts .kinds)) (take (o .top) (ts .vals)) (drop half (m .c))) y (drop half c′) z (solve (limitsOf x) z (orders.pair k t u)) w v) where
           does : (z : Session) → Reachable (limitsOf x) loose z → RepresentsInAreas x half m z
-              → DoesPair x y (take (o .top) (ts .kinds)) (take (o .top) (ts .vals)) (drop half (m .c)) (drop half c′) z (solve (limitsOf x) z (orders.pair n t u)) (w .bytes) (w .at) (v .bytes) (v .at)
+              → DoesPair (lent x (take (o .top) (ts .kinds)) (take (o .top) (ts .vals)) (drop half (m .c))) y (drop half c′) z (solve (limitsOf x) z (orders.pair n t u)) w v
           does z A Z =
-              subst (λ (i : ℕ). DoesPair x y (take (o .top) (ts .kinds)) (take (o .top) (ts .vals)) (drop half (m .c)) (drop half c′) z (solve (limitsOf x) z (orders.pair i t u)) (w .bytes) (w .at) (v .bytes) (v .at)) ek
+              subst (λ (i : ℕ). DoesPair (lent x (take (o .top) (ts .kinds)) (take (o .top) (ts .vals)) (drop half (m .c))) y (drop half c′) z (solve (limitsOf x) z (orders.pair i t u)) w v) ek
               (E z (poses-pair z A Z) (pair-nodes z Z))
 
           zero-front : (z : Session) → RepresentsInAreas x half m z → Zero (take half c′)
@@ -505,7 +505,7 @@ module _ {x : Solver} {half : ℕ} {s : List ℕ} {m : Areas} {ts : Area} {ws : 
           abbrev past : Session → ℕ
           past z = w .at + length (framed (solve (limitsOf x) z (orders.pair n t u) .answer))
 
-          pair-inside : (z : Session) → DoesPair x y (take (o .top) (ts .kinds)) (take (o .top) (ts .vals)) (drop half (m .c)) (drop half c′) z (solve (limitsOf x) z (orders.pair n t u)) (w .bytes) (w .at) (v .bytes) (v .at)
+          pair-inside : (z : Session) → DoesPair (lent x (take (o .top) (ts .kinds)) (take (o .top) (ts .vals)) (drop half (m .c))) y (drop half c′) z (solve (limitsOf x) z (orders.pair n t u)) w v
               → Dec (length (w .bytes) < past z) → y .top ≤ o .top
           pair-inside z D (yes l) = omega (arith, taken-after, ap (λ (v : Solver). v .top) (D .long l .0))
           pair-inside z D (no l) = omega (arith, D .whole (omega arith) .top, long-a)

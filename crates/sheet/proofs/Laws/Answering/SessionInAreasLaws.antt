@@ -21,10 +21,11 @@ use Rattle.solver.specs.Words.ConstrainContract.{Scratch, pendingFrom}
 use Rattle.solver.specs.Words.SessionRepresentation.{Represents}
 use Rattle.solver.specs.Words.MethodContract.{Beside}
 use Rattle.sheet.specs.Sheet.{Step, solve}
-use Rattle.sheet.specs.Words.SessionInAreas.{Areas, areas, Output, RepresentsInAreas, Answers}
+use Rattle.sheet.specs.Words.SessionInAreas.{Areas, areas, RepresentsInAreas, Answers}
 use Rattle.sheet.specs.Entry.{AreasReady}
 use Rattle.solver.specs.Words.OrderTerms.{Poses, PosesPair, Frames}
-use Rattle.sheet.specs.Words.SessionOrdersContract.{Does, DoesPair}
+use Rattle.sheet.specs.Words.SessionOrdersContract.{lent, Does, DoesPair}
+use Rattle.sheet.specs.Words.FramingContract.{Output, outputAt}
 use Rattle.sheet.proofs.Laws.Answering.SessionOrderLaws.{lent-revision}
 
 -- ---- room
@@ -102,7 +103,7 @@ module _ {x : Solver} {half : ℕ} {m : Areas} {z : Session} (Z : RepresentsInAr
 
   -- AN ORDER DONE ON WHAT IS LENT IS ANSWERED IN THE AREAS
   pub answers-does : (y : Solver) (c′ d′ : List ℕ) (st : Step) (w v : Output)
-      → Does x y (take (x .top) (m .a)) (take (x .top) (m .b)) (drop half (m .c)) (drop half c′) z st (w .bytes) (w .at) (v .bytes) (v .at) → z .kept ≤ st .session .kept → Zero (take half c′) → Zero d′
+      → Does (lent x (take (x .top) (m .a)) (take (x .top) (m .b)) (drop half (m .c))) y (drop half c′) z st w v → z .kept ≤ st .session .kept → Zero (take half c′) → Zero d′
       → Answers y half (areas (m .a) (m .b) c′ d′) z st w v x
   answers-does y c′ d′ st w v D more f clear =
       record {
@@ -133,7 +134,7 @@ module _ {x : Solver} {half : ℕ} {m : Areas} {z : Session} (Z : RepresentsInAr
 
   -- answered: the tokens stay
   pub answers-pair : (y : Solver) (c′ d′ : List ℕ) (st : Step) (w v : Output)
-      → DoesPair x y (take top a) (take top b) (drop half (m .c)) (drop half c′) z st (w .bytes) (w .at) (v .bytes) (v .at) → top ≤ 64 + 6 * st .session .kept → v .at ≤ length (w .bytes) → Zero (take half c′) → Zero d′
+      → DoesPair (lent x (take top a) (take top b) (drop half (m .c))) y (drop half c′) z st w v → top ≤ 64 + 6 * st .session .kept → v .at ≤ length (w .bytes) → Zero (take half c′) → Zero d′
       → Answers y half (areas a b c′ d′) z st w v x
   answers-pair y c′ d′ st w v D more h f clear =
       record {
@@ -145,7 +146,7 @@ module _ {x : Solver} {half : ℕ} {m : Areas} {z : Session} (Z : RepresentsInAr
 
   -- not answered: they have been cleared, and all is as it was
   pub unanswered-pair : (y : Solver) (c′ d′ : List ℕ) (st : Step) (w v : Output)
-      → DoesPair x y (take top a) (take top b) (drop half (m .c)) (drop half c′) z st (w .bytes) (w .at) (v .bytes) (v .at) → length (w .bytes) < v .at → Zero (take half c′) → Zero d′
+      → DoesPair (lent x (take top a) (take top b) (drop half (m .c))) y (drop half c′) z st w v → length (w .bytes) < v .at → Zero (take half c′) → Zero d′
       → Answers y half (areas (m .a) (m .b) c′ d′) z st w v x
   unanswered-pair y c′ d′ st w v D h f clear =
       record {
@@ -197,17 +198,17 @@ module _ (half : ℕ) (c : List ℕ) where
 
   module _ (x y : Solver) (ks vs : List ℕ) (z : Session) (st : Step) (out₀ : List ℕ) (to : ℕ) (out : List ℕ) (r : ℕ) where
     -- read only
-    pub does-part : Does x y ks vs (take (length c - half) (drop half c)) (take (length c - half) (drop half c)) z st out₀ to out r
-        → Does x y ks vs (drop half c) (drop half c) z st out₀ to out r
-    does-part D = subst (λ (l : List ℕ). Does x y ks vs l l z st out₀ to out r) tail-all D
+    pub does-part : Does (lent x ks vs (take (length c - half) (drop half c))) y (take (length c - half) (drop half c)) z st (outputAt out₀ to) (outputAt out r)
+        → Does (lent x ks vs (drop half c)) y (drop half c) z st (outputAt out₀ to) (outputAt out r)
+    does-part D = subst (λ (l : List ℕ). Does (lent x ks vs l) y l z st (outputAt out₀ to) (outputAt out r)) tail-all D
 
     -- written
-    pub does-tail : (us : List ℕ) → half ≤ length c → Does x y ks vs (take (length c - half) (drop half c)) us z st out₀ to out r
-        → Does x y ks vs (drop half c) (drop half (putMid half (length c - half) c us)) z st out₀ to out r
+    pub does-tail : (us : List ℕ) → half ≤ length c → Does (lent x ks vs (take (length c - half) (drop half c))) y us z st (outputAt out₀ to) (outputAt out r)
+        → Does (lent x ks vs (drop half c)) y (drop half (putMid half (length c - half) c us)) z st (outputAt out₀ to) (outputAt out r)
     does-tail us h D =
-        subst (λ (l : List ℕ). Does x y ks vs (drop half c) l z st out₀ to out r) (sym (tail-back us h)) (subst (λ (l : List ℕ). Does x y ks vs l us z st out₀ to out r) tail-all D)
+        subst (λ (l : List ℕ). Does (lent x ks vs (drop half c)) y l z st (outputAt out₀ to) (outputAt out r)) (sym (tail-back us h)) (subst (λ (l : List ℕ). Does (lent x ks vs l) y us z st (outputAt out₀ to) (outputAt out r)) tail-all D)
 
-    pub pair-does-tail : (us : List ℕ) → half ≤ length c → DoesPair x y ks vs (take (length c - half) (drop half c)) us z st out₀ to out r
-        → DoesPair x y ks vs (drop half c) (drop half (putMid half (length c - half) c us)) z st out₀ to out r
+    pub pair-does-tail : (us : List ℕ) → half ≤ length c → DoesPair (lent x ks vs (take (length c - half) (drop half c))) y us z st (outputAt out₀ to) (outputAt out r)
+        → DoesPair (lent x ks vs (drop half c)) y (drop half (putMid half (length c - half) c us)) z st (outputAt out₀ to) (outputAt out r)
     pair-does-tail us h D =
-        subst (λ (l : List ℕ). DoesPair x y ks vs (drop half c) l z st out₀ to out r) (sym (tail-back us h)) (subst (λ (l : List ℕ). DoesPair x y ks vs l us z st out₀ to out r) tail-all D)
+        subst (λ (l : List ℕ). DoesPair (lent x ks vs (drop half c)) y l z st (outputAt out₀ to) (outputAt out r)) (sym (tail-back us h)) (subst (λ (l : List ℕ). DoesPair (lent x ks vs l) y us z st (outputAt out₀ to) (outputAt out r)) tail-all D)

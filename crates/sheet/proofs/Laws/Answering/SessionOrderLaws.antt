@@ -13,8 +13,8 @@ use Rattle.solver.specs.Terms.Term.{var, bytes}
 use Rattle.solver.specs.declared.Solver.{Solver}
 use Rattle.solver.specs.declared.Named.{Named}
 use Rattle.solver.specs.declared.Named.the-variants.{Variable, Full}
-use Rattle.solver.specs.declared.Site.{Site}
-use Rattle.solver.specs.declared.Site.the-variants.{Slot, Hole}
+use Rattle.sheet.specs.declared.VariableOrder.{VariableOrder}
+use Rattle.sheet.specs.declared.VariableOrder.the-variants.{Slot, Number, Hole}
 use Rattle.solver.specs.Families.{Request, requested}
 use Rattle.solver.specs.Shapes.{loose}
 use Rattle.solver.specs.Constrain.{resolved}
@@ -31,9 +31,9 @@ use Rattle.sheet.specs.Fields.{nth, numberOf}
 use Rattle.sheet.specs.OrderTable.{Answer, refusal, outcome, sessionOrders, rowIn, commandOf}
 use Rattle.sheet.specs.Operations.{bit}
 use Rattle.sheet.specs.Sheet.{Step, solve, answerOf, framed}
-use Rattle.sheet.specs.Words.FramingContract.{Framed, opening}
+use Rattle.sheet.specs.Words.FramingContract.{outputAt, Framed, opening}
 use Rattle.sheet.specs.Words.OperationsContract.{Among, plainOrders}
-use Rattle.sheet.specs.Words.SessionOrdersContract.{Does, plainCommand, SlotOneOrHole, numberOrHole, defaultsBy}
+use Rattle.sheet.specs.Words.SessionOrdersContract.{lent, Does, plainCommand, variableCommand, siteOf, variableAnswer, defaultsBy}
 use Rattle.sheet.proofs.Laws.Reading.OrderTableLaws.{among-past, third}
 use Rattle.sheet.proofs.Laws.Answering.FramingLaws.{one-frame, frame-over, value-frame}
 
@@ -41,7 +41,7 @@ use Rattle.sheet.proofs.Laws.Answering.FramingLaws.{one-frame, frame-ov
 
 module _ {x : Solver} {ks vs ts : List ℕ} {z : Session} (L : Represents x ks vs ts z) (st : Step) (out₀ : List ℕ) (to : ℕ) where
   -- the answer does not fit
-  pub does-not : length out₀ < to + length (framed (st .answer)) → Does x x ks vs ts ts z st out₀ to out₀ (length out₀ + 1)
+  pub does-not : length out₀ < to + length (framed (st .answer)) → Does (lent x ks vs ts) x ts z st (outputAt out₀ to) (outputAt out₀ (length out₀ + 1))
   does-not h =
       record {
         answer = record { fits = λ k. absurd (omega arith); over = λ k. (refl, refl) };
@@ -51,7 +51,7 @@ module _ {x : Solver} {ks vs ts : List ℕ} {z : Session} (L : Represents x ks v
       }
 
   -- and so a position past the end tells
-  pub does-over : (out : List ℕ) (r : ℕ) → Framed (st .answer) out₀ to out r → length out₀ < r → Does x x ks vs ts ts z st out₀ to out r
+  pub does-over : (out : List ℕ) (r : ℕ) → Framed (st .answer) out₀ to out r → length out₀ < r → Does (lent x ks vs ts) x ts z st (outputAt out₀ to) (outputAt out r)
   does-over out r f h =
       record {
         answer = f;
@@ -61,7 +61,7 @@ module _ {x : Solver} {ks vs ts : List ℕ} {z : Session} (L : Represents x ks v
       }
 
   -- the session stays as it is
-  pub does-same : (out : List ℕ) (r : ℕ) → st .session ≡ z → Framed (st .answer) out₀ to out r → Does x x ks vs ts ts z st out₀ to out r
+  pub does-same : (out : List ℕ) (r : ℕ) → st .session ≡ z → Framed (st .answer) out₀ to out r → Does (lent x ks vs ts) x ts z st (outputAt out₀ to) (outputAt out r)
   does-same out r e f =
       record {
         answer = f;
@@ -72,7 +72,7 @@ module _ {x : Solver} {ks vs ts : List ℕ} {z : Session} (L : Represents x ks v
 
   -- the answer fits
   pub does-whole : (y : Solver) (us out : List ℕ) (r : ℕ) → Framed (st .answer) out₀ to out r → r ≤ length out₀
-      → Represents y ks vs us (st .session) → Beside x y ts us → Does x y ks vs ts us z st out₀ to out r
+      → Represents y ks vs us (st .session) → Beside x y ts us → Does (lent x ks vs ts) y us z st (outputAt out₀ to) (outputAt out r)
   does-whole y us out r f h M B =
       record {
         answer = f;
@@ -95,7 +95,7 @@ pub lent-revision : (x : Solver) (ks vs ts : List ℕ) (z : Session) → Reachab
 lent-revision x ks vs ts z A L = omega (arith, arises-revision (limitsOf x) z A, L .revision, L .fits .variables)
 
 pub revision-does : (x : Solver) (ks vs ts : List ℕ) (z : Session) → Represents x ks vs ts z → (n : ℕ) → n ≡ x .revision → (out₀ : List ℕ) (to : ℕ) (out : List ℕ) (r : ℕ)
-    → Framed (outcome (shortest n)) out₀ to out r → Does x x ks vs ts ts z (solve (limitsOf x) z orders.revision) out₀ to out r
+    → Framed (outcome (shortest n)) out₀ to out r → Does (lent x ks vs ts) x ts z (solve (limitsOf x) z orders.revision) (outputAt out₀ to) (outputAt out r)
 unfolding order answerOf
 revision-does x ks vs ts z L n e out₀ to out r f =
     does-same L (solve (limitsOf x) z orders.revision) out₀ to out r refl
@@ -116,11 +116,11 @@ module _ {x : Solver} {ks vs ts : List ℕ} {z : Session} (L : Represents x ks v
   size : length (framed (st .answer)) ≡ 3
   size = ap (λ a. length (framed a)) e ∙ ap length (one-frame (bit (not (eqb (st .session .solver .revision) (z .solver .revision)))))
 
-  pub defaults-not : length out₀ - to < 3 → Does x x ks vs ts ts z st out₀ to out₀ (length out₀ + 1)
+  pub defaults-not : length out₀ - to < 3 → Does (lent x ks vs ts) x ts z st (outputAt out₀ to) (outputAt out₀ (length out₀ + 1))
   defaults-not h = does-not L st out₀ to (omega (arith, size))
 
   pub defaults-done : (y : Solver) (us out : List ℕ) (r a : ℕ) → 3 ≤ length out₀ - to → Represents y ks vs us (st .session) → Beside x y ts us
-      → a ≡ bit (not (eqb (y .revision) (x .revision))) → Framed (outcome (a ∷ [])) out₀ to out r → Does x y ks vs ts us z st out₀ to out r
+      → a ≡ bit (not (eqb (y .revision) (x .revision))) → Framed (outcome (a ∷ [])) out₀ to out r → Does (lent x ks vs ts) y us z st (outputAt out₀ to) (outputAt out r)
   defaults-done y us out r a h M B p f =
       let q : a ≡ bit (not (eqb (st .session .solver .revision) (z .solver .revision))) = p ∙ rw (M .revision, L .revision) refl in
       let g : Framed (st .answer) out₀ to out r
@@ -142,11 +142,11 @@ module _ (lim : Limits) (z : Session) (site slot : ℕ) where
   variable-go none true g h = absurd (omega (arith, leb-true (lim .variables) (issued z) g))
   variable-go none false g h = refl
 
-  pub variable-answer : nextOf z (at site slot) < lim .variables → solve lim z (orders.variable site slot) .answer ≡ outcome (bytes (var (nextOf z (at site slot))))
+  variable-answer : nextOf z (at site slot) < lim .variables → solve lim z (orders.variable site slot) .answer ≡ outcome (bytes (var (nextOf z (at site slot))))
   unfolding order
   variable-answer h = variable-go (find (at site slot) (z .places)) (full lim z) refl h
 
-  pub variable-full : find (at site slot) (z .places) ≡ none → full lim z ≡ true → order lim loose z (orders.variable site slot) ≡ (z gives refused 8)
+  variable-full : find (at site slot) (z .places) ≡ none → full lim z ≡ true → order lim loose z (orders.variable site slot) ≡ (z gives refused 8)
   unfolding order variableAt
   variable-full u f = rw (u, f) refl
 
@@ -159,12 +159,12 @@ module _ (lim : Limits) (z : Session) (site : ℕ) (r : Request) where
   number-go none true g h = absurd (omega (arith, leb-true (lim .variables) (issued z) g))
   number-go none false g h = refl
 
-  pub number-answer : nextOf z (at site 1) < lim .variables
+  number-answer : nextOf z (at site 1) < lim .variables
       → solve lim z (orders.number site r) .answer ≡ outcome (bytes (resolved (z .solver) (var (nextOf z (at site 1)))))
   unfolding order
   number-answer h = number-go (find (at site 1) (z .places)) (full lim z) refl h
 
-  pub number-full : find (at site 1) (z .places) ≡ none → full lim z ≡ true → order lim loose z (orders.number site r) ≡ (z gives refused 8)
+  number-full : find (at site 1) (z .places) ≡ none → full lim z ≡ true → order lim loose z (orders.number site r) ≡ (z gives refused 8)
   unfolding order numberAt
   number-full u f = rw (u, f) refl
 
@@ -177,37 +177,30 @@ module _ (lim : Limits) (z : Session) (site : ℕ) where
   hole-go none true g h = absurd (omega (arith, leb-true (lim .variables) (issued z) g))
   hole-go none false g h = refl
 
-  pub hole-answer : nextOf z (gap site) < lim .variables → solve lim z (orders.hole site) .answer ≡ outcome (bytes (resolved (z .solver) (var (nextOf z (gap site)))))
+  hole-answer : nextOf z (gap site) < lim .variables → solve lim z (orders.hole site) .answer ≡ outcome (bytes (resolved (z .solver) (var (nextOf z (gap site)))))
   unfolding order
   hole-answer h = hole-go (find (gap site) (z .places)) (full lim z) refl h
 
-  pub hole-full : find (gap site) (z .places) ≡ none → full lim z ≡ true → order lim loose z (orders.hole site) ≡ (z gives refused 8)
+  hole-full : find (gap site) (z .places) ≡ none → full lim z ≡ true → order lim loose z (orders.hole site) ≡ (z gives refused 8)
   unfolding order holeAt
   hole-full u f = rw (u, f) refl
 
--- both by their place
+-- all three
 module _ (lim : Limits) (z : Session) where
-  pub number-or-hole-answer : (p : Site) (f : ℕ) → SlotOneOrHole p f → nextOf z (placeOf p) < lim .variables
-      → solve lim z (numberOrHole p f) .answer ≡ outcome (bytes (resolved (z .solver) (var (nextOf z (placeOf p)))))
-  number-or-hole-answer (Slot s i) f h =
-      subst
-      (λ (j : ℕ). nextOf z (at s j) < lim .variables → solve lim z (orders.number s (requested f)) .answer ≡ outcome (bytes (resolved (z .solver) (var (nextOf z (at s j))))))
-      (sym (h .0))
-      (number-answer lim z s (requested f))
-  number-or-hole-answer (Hole s) f h = hole-answer lim z s
+  pub variable-order-answer : (o : VariableOrder) → nextOf z (placeOf (siteOf o)) < lim .variables
+      → solve lim z (variableCommand o) .answer ≡ outcome (bytes (variableAnswer z o (nextOf z (placeOf (siteOf o)))))
+  variable-order-answer (Slot s i) = variable-answer lim z s i
+  variable-order-answer (Number s f) = number-answer lim z s (requested f)
+  variable-order-answer (Hole s) = hole-answer lim z s
 
-  pub number-or-hole-full : (p : Site) (f : ℕ) → SlotOneOrHole p f → find (placeOf p) (z .places) ≡ none → full lim z ≡ true
-      → order lim loose z (numberOrHole p f) ≡ (z gives refused 8)
-  number-or-hole-full (Slot s i) f h =
-      subst
-      (λ (j : ℕ). find (at s j) (z .places) ≡ none → full lim z ≡ true → order lim loose z (orders.number s (requested f)) ≡ (z gives refused 8))
-      (sym (h .0))
-      (number-full lim z s (requested f))
-  number-or-hole-full (Hole s) f h = hole-full lim z s
+  pub variable-order-full : (o : VariableOrder) → find (placeOf (siteOf o)) (z .places) ≡ none → full lim z ≡ true → order lim loose z (variableCommand o) ≡ (z gives refused 8)
+  variable-order-full (Slot s i) = variable-full lim z s i
+  variable-order-full (Number s f) = number-full lim z s (requested f)
+  variable-order-full (Hole s) = hole-full lim z s
 
 -- refusal 8, whatever the order
 pub full-does : (x : Solver) (ks vs ts : List ℕ) (z : Session) → Represents x ks vs ts z → (c : orders.Command) → order (limitsOf x) loose z c ≡ (z gives refused 8)
-    → (out₀ : List ℕ) (to : ℕ) (out : List ℕ) (r : ℕ) → Framed (refusal 8) out₀ to out r → Does x x ks vs ts ts z (solve (limitsOf x) z c) out₀ to out r
+    → (out₀ : List ℕ) (to : ℕ) (out : List ℕ) (r : ℕ) → Framed (refusal 8) out₀ to out r → Does (lent x ks vs ts) x ts z (solve (limitsOf x) z c) (outputAt out₀ to) (outputAt out r)
 unfolding answerOf
 full-does x ks vs ts z L c e out₀ to out r f =
     does-same L (solve (limitsOf x) z c) out₀ to out r (ap (λ (s : orders.Step). s .session) e)
@@ -234,7 +227,7 @@ module _ (x : Solver) (ks vs ts : List ℕ) (z : Session) (L : Represents x ks v
     (answers : nextOf z p < x .variables → solve (limitsOf x) z c .answer ≡ outcome (w (nextOf z p)))
     (fullness : find p (z .places) ≡ none → full (limitsOf x) z ≡ true → order (limitsOf x) loose z c ≡ (z gives refused 8))
     (a : Named) (e : a ≡ namedOf (placed (limitsOf x) z p .variable)) (out₀ : List ℕ) (to : ℕ) (out : List ℕ) (r : ℕ) where
-  pub place-refused : a ≡ Full → Framed (refusal 8) out₀ to out r → Does x x ks vs ts ts z (solve (limitsOf x) z c) out₀ to out r
+  pub place-refused : a ≡ Full → Framed (refusal 8) out₀ to out r → Does (lent x ks vs ts) x ts z (solve (limitsOf x) z c) (outputAt out₀ to) (outputAt out r)
   place-refused f g =
       let n = named-none (limitsOf x) z p (L .fits) (sym f ∙ e) in
       full-does x ks vs ts z L c (fullness (n .0) (n .1)) out₀ to out r g
@@ -245,11 +238,11 @@ module _ (x : Solver) (ks vs ts : List ℕ) (z : Session) (L : Represents x ks v
         let n = named-next (limitsOf x) z p (L .fits) v (sym f ∙ e) in
         subst (λ (b : Answer). Framed b out₀ to out r) (ap (λ (i : ℕ). outcome (w i)) (n .0) ∙ sym (answers (omega (arith, n .0, n .1)))) g
 
-    pub place-over : length out₀ < r → Does x x ks vs ts ts z (solve (limitsOf x) z c) out₀ to out r
+    pub place-over : length out₀ < r → Does (lent x ks vs ts) x ts z (solve (limitsOf x) z c) (outputAt out₀ to) (outputAt out r)
     place-over l = does-over L (solve (limitsOf x) z c) out₀ to out r says l
 
     pub place-done : r ≤ length out₀ → (y : Solver) (us : List ℕ) → Represents y ks vs us (order (limitsOf x) loose z c .session) → Beside x y ts us
-        → Does x y ks vs ts us z (solve (limitsOf x) z c) out₀ to out r
+        → Does (lent x ks vs ts) y us z (solve (limitsOf x) z c) (outputAt out₀ to) (outputAt out r)
     place-done l y us M B = does-whole L (solve (limitsOf x) z c) out₀ to y us out r says l M B
 
 -- ---- the command of an order with numbers alone
@@ -284,5 +277,5 @@ module _ (k a b : ℕ) where
 
 -- a command under another name
 pub does-as : (x y : Solver) (ks vs ts us : List ℕ) (z : Session) (c d : orders.Command) → c ≡ d → (out₀ : List ℕ) (to : ℕ) (out : List ℕ) (r : ℕ)
-    → Does x y ks vs ts us z (solve (limitsOf x) z c) out₀ to out r → Does x y ks vs ts us z (solve (limitsOf x) z d) out₀ to out r
-does-as x y ks vs ts us z c d e out₀ to out r h = subst (λ (k : orders.Command). Does x y ks vs ts us z (solve (limitsOf x) z k) out₀ to out r) e h
+    → Does (lent x ks vs ts) y us z (solve (limitsOf x) z c) (outputAt out₀ to) (outputAt out r) → Does (lent x ks vs ts) y us z (solve (limitsOf x) z d) (outputAt out₀ to) (outputAt out r)
+does-as x y ks vs ts us z c d e out₀ to out r h = subst (λ (k : orders.Command). Does (lent x ks vs ts) y us z (solve (limitsOf x) z k) (outputAt out₀ to) (outputAt out r)) e h

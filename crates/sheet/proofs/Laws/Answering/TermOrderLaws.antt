@@ -24,8 +24,8 @@ use Rattle.solver.specs.Words.OrderTerms.{Poses, PosesPair, resolvedTo}
 use Rattle.solver.proofs.Laws.Definition.SolverInvariantLaws.{within-known}
 use Rattle.sheet.specs.OrderTable.{Answer, outcome}
 use Rattle.sheet.specs.Sheet.{Step, solve, answerOf, framed}
-use Rattle.sheet.specs.Words.FramingContract.{Framed}
-use Rattle.sheet.specs.Words.SessionOrdersContract.{Does, DoesPair}
+use Rattle.sheet.specs.Words.FramingContract.{outputAt, Framed}
+use Rattle.sheet.specs.Words.SessionOrdersContract.{lent, Does, DoesPair}
 use Rattle.sheet.proofs.Laws.Answering.FramingLaws.{one-frame}
 use Rattle.sheet.proofs.Laws.Answering.SessionOrderLaws.{does-over, does-same, does-whole}
 
@@ -84,19 +84,19 @@ module _ (x : Solver) (ks vs ts : List ℕ) (z : Session) (t : Term) (P : Poses 
 
   -- it does not fit
   pub defer-over : (out : List ℕ) (r : ℕ) → Framed (outcome []) out₀ to out r → length out₀ < r
-      → Does x x (take (x .top) ks) (take (x .top) vs) ts ts z (solve (limitsOf x) z (orders.defer t)) out₀ to out r
+      → Does (lent x (take (x .top) ks) (take (x .top) vs) ts) x ts z (solve (limitsOf x) z (orders.defer t)) (outputAt out₀ to) (outputAt out r)
   defer-over out r f h = does-over L deferred out₀ to out r (subst (λ (a : Answer). Framed a out₀ to out r) defer-answer f) h
 
   pub defer-done : (y : Solver) (us out : List ℕ) (r : ℕ) → Framed (outcome []) out₀ to out r → r ≤ length out₀
       → Represents y (take (x .top) ks) (take (x .top) vs) us (deferring z (resolved (z .solver) t)) → Beside x y ts us
-      → Does x y (take (x .top) ks) (take (x .top) vs) ts us z (solve (limitsOf x) z (orders.defer t)) out₀ to out r
+      → Does (lent x (take (x .top) ks) (take (x .top) vs) ts) y us z (solve (limitsOf x) z (orders.defer t)) (outputAt out₀ to) (outputAt out r)
   defer-done y us out r f h M B =
       does-whole L deferred out₀ to y us out r (subst (λ (a : Answer). Framed a out₀ to out r) defer-answer f) h
       (subst (λ (s : Session). Represents y (take (x .top) ks) (take (x .top) vs) us s) (sym defer-session) M) B
 
   -- order 5
   pub resolving-does : (out : List ℕ) (r : ℕ) → Framed (outcome (resolvedTo z t)) out₀ to out r
-      → Does x x (take (x .top) ks) (take (x .top) vs) ts ts z (solve (limitsOf x) z (orders.resolving t)) out₀ to out r
+      → Does (lent x (take (x .top) ks) (take (x .top) vs) ts) x ts z (solve (limitsOf x) z (orders.resolving t)) (outputAt out₀ to) (outputAt out r)
   unfolding answerOf
   resolving-does out r f =
       let e = resolving-step lim z t knows (P .few) in
@@ -117,7 +117,7 @@ module _ (x : Solver) (ks vs ts : List ℕ) (z : Session) (q : ℕ) (t u : Term)
     pair-size = ap (λ (a : Answer). length (framed a)) pair-answer ∙ ap length (one-frame (verdictOf (solving.constrain loose k (z .solver) t u)))
 
     pub pair-not : length out₀ - to < 3 → Zero (drop (pendingFrom x) ts)
-        → DoesPair x x ks vs ts ts z (solve (limitsOf x) z (orders.pair k t u)) out₀ to out₀ (length out₀ + 1)
+        → DoesPair (lent x ks vs ts) x ts z (solve (limitsOf x) z (orders.pair k t u)) (outputAt out₀ to) (outputAt out₀ (length out₀ + 1))
     pair-not h b =
         record {
           answer = record { fits = λ i. absurd (omega (arith, pair-size)); over = λ i. (refl, refl) };
@@ -130,7 +130,7 @@ module _ (x : Solver) (ks vs ts : List ℕ) (z : Session) (q : ℕ) (t u : Term)
 
     pub pair-done : (us : List ℕ) (s : Solved) → Constrained x ks vs us (keep z (z .solver) (size t + size u)) (solving.constrain loose k (z .solver) t u) s
         → (out : List ℕ) (r a : ℕ) → 3 ≤ length out₀ - to → a ≡ verdictNumber (s .verdict) → Framed (outcome (a ∷ [])) out₀ to out r
-        → DoesPair x (s .solver) ks vs ts us z (solve (limitsOf x) z (orders.pair k t u)) out₀ to out r
+        → DoesPair (lent x ks vs ts) (s .solver) us z (solve (limitsOf x) z (orders.pair k t u)) (outputAt out₀ to) (outputAt out r)
     pair-done us s C out r a h e f =
         let g : Framed (solve (limitsOf x) z (orders.pair k t u) .answer) out₀ to out r
         = subst (λ (b : Answer). Framed b out₀ to out r) (ap (λ (i : ℕ). outcome (i ∷ [])) (e ∙ C .verdict) ∙ sym pair-answer) f in

@@ -74,15 +74,15 @@ accepted-of solver.nothing = refl
 accepted-of (solver.refused c) = refl
 
 module _ (lim : Limits) where
-  abbrev pub Does : Session → Option Command → Step → Type 0
-  Does s none x = x .session ≡ s
-  Does s (some c) x = x ≡ solve lim s c
+  abbrev pub StepBy : Session → Option Command → Step → Type 0
+  StepBy s none x = x .session ≡ s
+  StepBy s (some c) x = x ≡ solve lim s c
 
-  does-act : (s : Session) (fs : List Field) (a : Act) → Does s (commandBy a fs) (perform lim s fs a)
+  does-act : (s : Session) (fs : List Field) (a : Act) → StepBy s (commandBy a fs) (perform lim s fs a)
   does-act s fs (tells f) = refl
   does-act s fs (answers f) = refl
 
-  does-read : (s : Session) (x : Result Read) → Does s (commandRead x) (stepRead lim s x)
+  does-read : (s : Session) (x : Result Read) → StepBy s (commandRead x) (stepRead lim s x)
   unfolding commandOf step
   does-read s (got r n) = does-act s (r .fields) (r .kind .act)
   does-read s (refused c) = refl
@@ -99,22 +99,22 @@ module _ (lim : Limits) where
           ap (λ (a : Act). perform lim s (r .fields) a .session) (a .1)
       go (refused c) e = refl
 
-  pub does-order : (s : Session) (b : List ℕ) → Does s (command s b) (orderOf lim s b)
+  pub does-order : (s : Session) (b : List ℕ) → StepBy s (command s b) (orderOf lim s b)
   unfolding readOrder readBy kindedOrder
   does-order s b = go (byte b 0)
     where
-      row : (k at : ℕ) (o : Option Row) → rowIn sessionOrders k ≡ o → Does s (commandRead (kindedOrder b (issued s) o at)) (stepRead lim s (kindedOrder b (issued s) (rowIn table k) at))
+      row : (k at : ℕ) (o : Option Row) → rowIn sessionOrders k ≡ o → StepBy s (commandRead (kindedOrder b (issued s) o at)) (stepRead lim s (kindedOrder b (issued s) (rowIn table k) at))
       row k at none e = other-leaves s b at (rowIn table k) (λ r h. session-other k r e h)
       row k at (some r) e =
-          subst (λ (o : Option Row). Does s (commandRead (kindedOrder b (issued s) (some r) at)) (stepRead lim s (kindedOrder b (issued s) o at))) (sym (session-listed k r e))
+          subst (λ (o : Option Row). StepBy s (commandRead (kindedOrder b (issued s) (some r) at)) (stepRead lim s (kindedOrder b (issued s) o at))) (sym (session-listed k r e))
           (does-read s (kindedOrder b (issued s) (some r) at))
 
-      go : (x : Result ℕ) → Does s (commandRead (bind x (λ k. kindedOrder b (issued s) (rowIn sessionOrders k)))) (stepRead lim s (bind x (λ k. kindedOrder b (issued s) (rowIn table k))))
+      go : (x : Result ℕ) → StepBy s (commandRead (bind x (λ k. kindedOrder b (issued s) (rowIn sessionOrders k)))) (stepRead lim s (bind x (λ k. kindedOrder b (issued s) (rowIn table k))))
       go (got k at) = row k at (rowIn sessionOrders k) refl
       go (refused c) = refl
 
   -- the session that it leaves
-  does-leaves : (s : Session) (o : Option Command) (x : Step) → Does s o x → x .session ≡ leaves lim s o
+  does-leaves : (s : Session) (o : Option Command) (x : Step) → StepBy s o x → x .session ≡ leaves lim s o
   does-leaves s none x d = d
   does-leaves s (some c) x d = ap (λ (y : Step). y .session) d
 

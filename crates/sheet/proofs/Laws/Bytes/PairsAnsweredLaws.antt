@@ -23,7 +23,7 @@ use Rattle.sheet.specs.Sheet.{Step, answerOf, orderOf}
 use Rattle.sheet.specs.Commands.{command, leaves, prefixed, commands}
 use Rattle.sheet.specs.PairsAnswered.{PairAnswered, SomePairAnswered}
 use Rattle.sheet.specs.Demand3.{historyOf}
-use Rattle.sheet.proofs.Laws.Bytes.CommandLaws.{Does, does-order, leaves-order}
+use Rattle.sheet.proofs.Laws.Bytes.CommandLaws.{StepBy, does-order, leaves-order}
 
 none-some : {A B : Type 0} {a : A} → _≡_ {A = Option A} none (some a) → B
 none-some e = let z : _≡_ {A = ℕ} 0 1 = cc in absurd (omega arith)
@@ -87,7 +87,7 @@ module _ (lim : Limits) (n : ℕ) where
 
   -- an order that tells a command is answered as the solver replies
   replied : (s : Session) (b : List ℕ) (c : Command) → command s b ≡ some c → orderOf lim s b .answer ≡ answerOf (order lim loose s c .reply)
-  replied s b c e = ap (λ (x : Step). x .answer) (subst (λ (o : Option Command). Does lim s o (orderOf lim s b)) e (does-order lim s b))
+  replied s b c e = ap (λ (x : Step). x .answer) (subst (λ (o : Option Command). StepBy lim s o (orderOf lim s b)) e (does-order lim s b))
 
   verdict-says : (s y : Session) (a b : Bool) (v : ℕ) → answerOf (unless lim s a b (y gives solver.verdict v) .reply) ≡ outcome (n ∷ []) → says n (unless lim s a b (y gives solver.verdict v) .reply) ≡ true
   unfolding says answerOf

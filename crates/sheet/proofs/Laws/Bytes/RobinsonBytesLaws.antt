@@ -29,7 +29,7 @@ use Rattle.sheet.specs.OrdersInTurn.{accepted, sessionAfter, answeredOrd
 use Rattle.sheet.specs.Commands.{command, commands}
 use Rattle.sheet.specs.Demand3.{ByteString, ByteStrings, InFragment, PairsInFragment, historyOf}
 use Rattle.sheet.specs.RobinsonBytes.{FirstOrder, PlainOrder, AnsweredSo, DecidesOrders}
-use Rattle.sheet.proofs.Laws.Bytes.CommandLaws.{accepted-of, Does, does-order, session-commands}
+use Rattle.sheet.proofs.Laws.Bytes.CommandLaws.{accepted-of, StepBy, does-order, session-commands}
 use Rattle.sheet.proofs.Laws.Bytes.Demand3Bytes.{premises-of}
 use Rattle.sheet.proofs.Laws.Bytes.Demand3Run.{orders-bytes}
 use Rattle.sheet.proofs.Laws.Bytes.InvariantBytes.{order-5}
@@ -56,7 +56,7 @@ recast s y t u f g d = record {
 module _ (lim : Limits) (s : Session) (t u : Term) where
   -- an order that is read as c does what c does, and answers so
   solves : (b : List ℕ) (c : Command) → command s b ≡ some c → orderOf lim s b ≡ solve lim s c
-  solves b c e = subst (λ (o : Option Command). Does lim s o (orderOf lim s b)) e (does-order lim s b)
+  solves b c e = subst (λ (o : Option Command). StepBy lim s o (orderOf lim s b)) e (does-order lim s b)
 
   -- an order 4 answered with outcome 0: its variables are issued, and its nodes have space
   taken-pair : (k : ℕ) → theirs.accepted (order lim loose s (solver.pair k t u) .reply) ≡ true → (known s t ≡ true) × (known s u ≡ true) × (crowded lim s (size t + size u) ≡ false)

@@ -16,7 +16,7 @@ use Rattle.sheet.specs.OrdersInTurn.{answeredOrders}
 use Rattle.sheet.specs.Commands.{command, leaves, prefixed, commands}
 use Rattle.sheet.specs.Demand3.{ByteString, ByteStrings}
 use Rattle.sheet.specs.RustBytes.{frames, solvedOne, solvedTo, AsTheRust}
-use Rattle.sheet.proofs.Laws.Bytes.CommandLaws.{accepted-of, Does, does-order, leaves-order, all-read}
+use Rattle.sheet.proofs.Laws.Bytes.CommandLaws.{accepted-of, StepBy, does-order, leaves-order, all-read}
 use Rattle.sheet.proofs.Laws.Bytes.Demand3Run.{orders-bytes}
 
 module _ (lim : Limits) where
@@ -37,7 +37,7 @@ module _ (lim : Limits) where
       in
       go (command s b) (orderOf lim s b) (does-order lim s b) (commands lim y bs) (solvedTo lim (orderOf lim s b .session) bs) e
     where
-      go : (c : Option Command) (x : Step) → Does lim s c x → (cs : List Command) (rest : List ℕ) → rest ≡ frames (unrefused (replies lim loose (leaves lim s c) cs))
+      go : (c : Option Command) (x : Step) → StepBy lim s c x → (cs : List Command) (rest : List ℕ) → rest ≡ frames (unrefused (replies lim loose (leaves lim s c) cs))
           → solvedOne c (x .answer) ++ rest ≡ frames (unrefused (replies lim loose s (prefixed c cs)))
       go none x d cs rest e = e
       go (some c) x d cs rest e =

@@ -4,11 +4,11 @@ use mathlib.Core.Bool.{Bool, true, false, not, _&&_, _||_}
 use mathlib.Core.List.{List, [], _∷_, _++_}
 use mathlib.Core.Logic.{_⊎_, inl, inr}
 use mathlib.Core.Option.{Option, none, some}
-use Prim.Native.Nat.{ℕ, zero, suc, _+_, _%_, _/_, _≤_, _<_}
+use Prim.Native.Nat.{ℕ, _+_, _%_, _/_, _≤_, _<_}
 use native.Mathlib.Decide.{ℕ-discrete}
 use native.Mathlib.Omega.{arith}
-use borrow.Author.Tests.{eqb-true, eq-eqb, ne-eqb, leb-true, ltb-true}
-use lib.Dec.{eqb, leb, ltb}
+use borrow.Author.Tests.{eqb-true, ne-eqb, leb-true}
+use lib.Dec.{eqb, leb}
 use lib.ListN.{length}
 use Rattle.solver.specs.Terms.Result.{pick}
 use Rattle.solver.proofs.Terms.Bools.{never-true, never-false}
@@ -110,14 +110,22 @@ row-number (x ∷ rs) k r e = go (eqb k (x .number)) refl (row-number rs k r) e
     go true h more e = let g : x ≡ r = some-same e in eqb-true k (x .number) h ∙ ap (λ (y : Row). y .number) g
     go false h more e = more e
 
--- a number that no row has
-pub row-none : (rs : List Row) (n k : ℕ) → all (λ r. ltb (r .number) n) rs ≡ true → n ≤ k → rowIn rs k ≡ none
-unfolding all rowIn
-row-none [] n k h l = refl
-row-none (x ∷ rs) n k h l =
-    let t = both-true (ltb (x .number) n) (all (λ r. ltb (r .number) n) rs) h in
-    ap (λ (b : Bool). pick b (some x) (rowIn rs k)) (ne-eqb k (x .number) (λ e. absurd (omega (arith, ltb-true (x .number) n (t .0)))))
-    ∙ row-none rs n k (t .1) l
+-- a number that is none of some, each asked after the one before it: A is what was known before
+abbrev pub NoneOf : Type 0 → List ℕ → ℕ → Type 0
+NoneOf A [] k = A
+NoneOf A (n ∷ ns) k = NoneOf (A × (k ≡ n → ⊥)) ns k
+
+none-before : (A : Type 0) (ns : List ℕ) (k : ℕ) → NoneOf A ns k → A
+none-before A [] k h = h
+none-before A (n ∷ ns) k h = none-before (A × (k ≡ n → ⊥)) ns k h .0
+
+-- no row has it
+row-none : (A : Type 0) (rs : List Row) (k : ℕ) → NoneOf A (numbersOf rs) k → rowIn rs k ≡ none
+unfolding rowIn
+row-none A [] k h = refl
+row-none A (x ∷ rs) k h =
+    ap (λ (b : Bool). pick b (some x) (rowIn rs k)) (ne-eqb k (x .number) (none-before (A × (k ≡ x .number → ⊥)) (numbersOf rs) k h .1))
+    ∙ row-none (A × (k ≡ x .number → ⊥)) rs k h
 
 -- rows after others
 pub rows-before : (rs ss : List Row) (k : ℕ) (r : Row) → rowIn rs k ≡ some r → rowIn (rs ++ ss) k ≡ some r
@@ -142,9 +150,9 @@ rows-behind (x ∷ rs) ss k e = go (eqb k (x .number)) (rows-behind rs ss k) e
 pub every-row : (f : Row → Bool) → all f table ≡ true → (k : ℕ) (r : Row) → rowIn table k ≡ some r → f r ≡ true
 every-row f h k r e = row-passes f table h k r e
 
-pub unlisted : (k : ℕ) → 21 ≤ k → rowIn table k ≡ none
-unfolding table sessionOrders operations all
-unlisted k h = row-none table 21 k refl h
+-- a number that the table has not
+pub unlisted : (k : ℕ) → NoneOf (Unit {0}) (numbersOf table) k → rowIn table k ≡ none
+unlisted k h = row-none (Unit {0}) table k h
 
 -- ---- layouts
 

@@ -29,7 +29,7 @@ use Rattle.sheet.specs.Stopping.{behindPart, behind, Stopped}
 use Rattle.sheet.specs.Entry.{Finish, finished, sizesAccepted, stateAfterRun, entryResult}
 use Rattle.sheet.proofs.Laws.Run.SplittingLaws.{next-ahead}
 use Rattle.sheet.proofs.Laws.Run.EntryLaws.{finish-unfit, finish-run}
-use Rattle.sheet.proofs.Laws.Bytes.CommandLaws.{accepted-of, Does, does-order}
+use Rattle.sheet.proofs.Laws.Bytes.CommandLaws.{accepted-of, StepBy, does-order}
 use Rattle.sheet.proofs.Laws.Bytes.Demand3Run.{run-follows}
 
 -- the list of a slice of bytes
@@ -45,7 +45,7 @@ module _ (lim : Limits) where
   unfolding accepted
   refused-unchanged s b c = go (command s b) (orderOf lim s b) (does-order lim s b)
     where
-      go : (o : Option Command) (x : Step) → Does lim s o x → x .answer ≡ refusal c → x .session ≡ s
+      go : (o : Option Command) (x : Step) → StepBy lim s o x → x .answer ≡ refusal c → x .session ≡ s
       go none x d e = d
       go (some k) x d e =
           ap (λ (y : Step). y .session) d
@@ -53,7 +53,7 @@ module _ (lim : Limits) where
 
   -- one that says nothing to the solver
   pub others-leave : (s : Session) (b : List ℕ) → command s b ≡ none → orderOf lim s b .session ≡ s
-  others-leave s b e = subst (λ (o : Option Command). Does lim s o (orderOf lim s b)) e (does-order lim s b)
+  others-leave s b e = subst (λ (o : Option Command). StepBy lim s o (orderOf lim s b)) e (does-order lim s b)
 
   -- ---- lists of orders
 

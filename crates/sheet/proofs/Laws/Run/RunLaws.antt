@@ -18,7 +18,8 @@ use Rattle.solver.specs.Words.SessionRepresentation.{Reachable, limitsOf}
 use Rattle.sheet.specs.Fields.{Field}
 use Rattle.sheet.specs.OrderTable.{Act, tells, answers, Read}
 use Rattle.sheet.specs.Sheet.{readOrder, Run, perform, step, stepRead, orderOf, framed, ends, answering, nextOrder, answered, runFrom, runOf}
-use Rattle.sheet.specs.Words.SessionInAreas.{Areas, Output, outputAt, RepresentsInAreas, AreasSuffice, Served}
+use Rattle.sheet.specs.Words.SessionInAreas.{Areas, RepresentsInAreas, AreasSuffice, Served}
+use Rattle.sheet.specs.Words.FramingContract.{Output, outputAt}
 use Rattle.sheet.specs.Entry.{AreasReady, Ended, Left}
 use Rattle.sheet.specs.Words.DispatchContract.{Serves}
 use Rattle.sheet.proofs.Laws.Run.EntryLaws.{roomy-same}

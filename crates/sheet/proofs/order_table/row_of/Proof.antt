@@ -1,6 +1,4 @@
 -- `row_of`: each row by computation on the table.
-use Prim.Native.Nat.{zero-le}
-use Rattle.solver.proofs.Terms.KindLaws.{past}
 use mathlib.Core.Path.{refl, sym, ap}
 use Rattle.sheet.specs.OrderTable.{sessionOrders, rowIn, layout}
 use Rattle.sheet.specs.Operations.{operations}
@@ -95,10 +93,8 @@ unfolding table sessionOrders operations rowIn layout packed sortNumber
 returns-21 c = rw (c .match .keys21) refl
 
 returns-22 : tie.Need-returns-22
-returns-22 c =
-    let n = c .match .rest in
-    let least = past 20 _ (past 19 _ (past 18 _ (past 17 _ (past 16 _ (past 15 _ (past 14 _ (past 13 _ (past 12 _ (past 11 _ (past 10 _ (past 9 _ (past 8 _ (past 7 _ (past 6 _ (past 5 _ (past 4 _ (past 3 _ (past 2 _ (past 1 _ (past 0 _ zero-le (n .0 .0 .0 .0 .0 .0 .0 .0 .0 .0 .0 .0 .0 .0 .0 .0 .0 .0 .0 .0 .1)) (n .0 .0 .0 .0 .0 .0 .0 .0 .0 .0 .0 .0 .0 .0 .0 .0 .0 .0 .0 .1)) (n .0 .0 .0 .0 .0 .0 .0 .0 .0 .0 .0 .0 .0 .0 .0 .0 .0 .0 .1)) (n .0 .0 .0 .0 .0 .0 .0 .0 .0 .0 .0 .0 .0 .0 .0 .0 .0 .1)) (n .0 .0 .0 .0 .0 .0 .0 .0 .0 .0 .0 .0 .0 .0 .0 .0 .1)) (n .0 .0 .0 .0 .0 .0 .0 .0 .0 .0 .0 .0 .0 .0 .0 .1)) (n .0 .0 .0 .0 .0 .0 .0 .0 .0 .0 .0 .0 .0 .0 .1)) (n .0 .0 .0 .0 .0 .0 .0 .0 .0 .0 .0 .0 .0 .1)) (n .0 .0 .0 .0 .0 .0 .0 .0 .0 .0 .0 .0 .1)) (n .0 .0 .0 .0 .0 .0 .0 .0 .0 .0 .0 .1)) (n .0 .0 .0 .0 .0 .0 .0 .0 .0 .0 .1)) (n .0 .0 .0 .0 .0 .0 .0 .0 .0 .1)) (n .0 .0 .0 .0 .0 .0 .0 .0 .1)) (n .0 .0 .0 .0 .0 .0 .0 .1)) (n .0 .0 .0 .0 .0 .0 .1)) (n .0 .0 .0 .0 .0 .1)) (n .0 .0 .0 .0 .1)) (n .0 .0 .0 .1)) (n .0 .0 .1)) (n .0 .1)) (n .1) in
-    sym (ap rowWords (unlisted _ least))
+unfolding table sessionOrders operations
+returns-22 c = sym (ap rowWords (unlisted _ (c .match .rest)))
 
 pub row-of-spec : {M : Type 1} → statement M
 row-of-spec =

@@ -7,7 +7,8 @@ use lib.ListN.{length, take, drop, length-take, length-drop}
 use Rattle.solver.specs.Terms.Result.{got}
 use Rattle.solver.specs.Words.SessionRepresentation.{limitsOf}
 use Rattle.sheet.specs.Sheet.{nextOrder}
-use Rattle.sheet.specs.Words.SessionInAreas.{areas, outputAt}
+use Rattle.sheet.specs.Words.SessionInAreas.{areas}
+use Rattle.sheet.specs.Words.FramingContract.{outputAt}
 use Rattle.sheet.proofs.Laws.Run.SplittingLaws.{Ahead, next-ahead}
 use Rattle.sheet.proofs.Laws.Run.RunLaws.{Going, going-start, going-ready, going-on, ends-used, ends-faulty, ends-long}
 use borrow.Author.Needs.{needs}
