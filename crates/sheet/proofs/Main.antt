@@ -14,12 +14,13 @@ use Rattle.solver.specs.Terms.Term.{Term, var, depth, AllVars, bytes}
 use Rattle.solver.specs.Terms.Formed.{Formed}
 use Rattle.solver.specs.Terms.Reading as reading
 use Rattle.solver.specs.Terms.Tree.{Nominal}
-use Rattle.solver.specs.Terms.Questions.{Parameter, is-concrete, is-resolved-in, contains-projection}
+use Rattle.solver.specs.Terms.Questions.{Parameter, counted, entered, OneCounts, asked, answered, is-concrete, is-resolved-in, contains-projection}
 use Rattle.solver.specs.Terms.Comparison.{conflicts-with, satisfies, satisfies-for}
 use Rattle.solver.specs.Terms.Recovery.{recover-from}
 use Rattle.solver.specs.Terms.Substitution.{Entry, orElse, get, instantiate}
 use Rattle.solver.specs.Terms.Normal.{Out, Rule, levels, visits, byRules, normalize}
 use Rattle.solver.proofs.Terms.QuestionLaws.{concrete-resolved}
+use Rattle.solver.proofs.Terms.FoundLaws.{finds, answers}
 use Rattle.solver.proofs.Terms.ConflictLaws.{conflicts-swap}
 use Rattle.solver.proofs.Terms.RecoverLaws.{recover-self}
 use Rattle.solver.proofs.Terms.BoundLaws.{satisfies-trans, satisfies-more}
@@ -190,6 +191,15 @@ pub terms-only : (s : List ℕ) (octet : (i : ℕ) → getD s i 0 < 256) (many l
 terms-only s octet = found s (octets s octet)
 
 -- ---- THE OPERATIONS on terms, each the Rust's function of its name on trees (crates/terms/specs)
+
+-- The questions of orders 15 and 16 are one walk. Document 02: "it finds a term exactly if one that counts is among those it enters", over the question number.
+pub questions : (ps : List Parameter) (q : ℕ) (t : Term) → (asked ps q t ≡ true) ↔ OneCounts (counted ps q) (entered q) t
+questions = finds
+
+-- "each question's promise rests on that": the seven answers of order 15; `is_concrete`, the third, is that none is found
+pub seven-questions : (q : ℕ) (t : Term) → ((q ≡ 2 → ⊥) → (answered q t ≡ true) ↔ OneCounts (counted [] q) (entered q) t)
+    × (q ≡ 2 → (answered q t ≡ true) ↔ (OneCounts (counted [] q) (entered q) t → ⊥))
+seven-questions = answers
 
 -- `is_concrete` is `is_resolved_in` of no parameters; `conflicts_with` goes either way; `recover_from` of a term from itself leaves it
 pub concrete : (t : Term) → is-concrete t ≡ is-resolved-in [] t

@@ -21,5 +21,6 @@ pub use Rattle.terms.proofs.Laws.Normalising.NormalizeLaws
 pub use Rattle.terms.proofs.Laws.Replacing.RecoverLaws
 pub use Rattle.terms.proofs.Laws.Asking.ConflictLaws
 pub use Rattle.terms.proofs.Laws.Asking.QuestionLaws
+pub use Rattle.terms.proofs.Laws.Asking.FoundLaws
 pub use Rattle.terms.proofs.Laws.Asking.BoundLaws
 pub use Rattle.terms.proofs.Laws.Replacing.SubstitutionLaws

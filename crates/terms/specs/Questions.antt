@@ -1,5 +1,7 @@
 -- The questions of `TypeId` that look for a term of some kind: one walk, told by a question number which terms count and which it enters.
 -- The numbers 0 to 6 are the places of the questions in order 15, 7 is `is_resolved_in`.
+use mathlib.Core.Path.{_≡_}
+use mathlib.Core.Logic.{_⊎_}
 use mathlib.Core.Bool.{Bool, true, false, not, _&&_, _||_}
 use mathlib.Core.List.{List, [], _∷_}
 use Prim.Native.Nat.{ℕ, zero, suc}
@@ -21,6 +23,22 @@ module _ (counts enters : Term → Bool) where
     meetsRow end = false
     meetsRow (num n ps) = meetsRow ps
     meetsRow (sub t ps) = meets t || meetsRow ps
+
+-- "It finds a term exactly if one that counts is among those it enters" (document 02), whatever the question: `finds` of
+-- proofs/Laws/Asking/FoundLaws.antt. Among those that are entered from t on are t itself and, where `enters` admits t, those from its children on.
+unfoldable mutual
+  pub AmongEntered : (enters : Term → Bool) (u t : Term) → Type 0
+  AmongEntered enters u (var v) = u ≡ var v
+  AmongEntered enters u (node k ps) = (u ≡ node k ps) ⊎ ((enters (node k ps) ≡ true) × AmongEnteredRow enters u ps)
+
+  pub AmongEnteredRow : (enters : Term → Bool) (u : Term) (ps : Parts) → Type 0
+  AmongEnteredRow enters u end = ⊥
+  AmongEnteredRow enters u (num n ps) = AmongEnteredRow enters u ps
+  AmongEnteredRow enters u (sub t ps) = AmongEntered enters u t ⊎ AmongEnteredRow enters u ps
+
+-- one that counts is among them
+abbrev pub OneCounts : (counts enters : Term → Bool) (t : Term) → Type 0
+OneCounts counts enters t = (u : Term) × AmongEntered enters u t × (counts u ≡ true)
 
 -- ---- which terms count
 
@@ -126,3 +144,18 @@ answered q t = pickNot (eqb q 2) (asked [] q t)
     pickNot : Bool → Bool → Bool
     pickNot true b = not b
     pickNot false b = b
+
+-- ---- the questions in words, as the laws have them
+
+-- u is t or stands anywhere in it
+abbrev pub Inside : (u t : Term) → Type 0
+Inside u t = AmongEntered (λ v. true) u t
+
+-- the same, with no projection around u
+abbrev pub UnderNoProjection : (u t : Term) → Type 0
+UnderNoProjection u t = AmongEntered (λ v. not (eqb (tag v) 18)) u t
+
+-- what `is_resolved_in` asks of each term: it is no Inference, Unknown, Error or SelfType; a Generic is one of the parameters; where it is a
+-- projection there are parameters
+abbrev pub KnownIn : List Parameter → Term → Type 0
+KnownIn ps u = (among (tag u) (1 ∷ 2 ∷ 3 ∷ 19 ∷ []) ≡ false) × (tag u ≡ 17 → contains ps (parameterOf u) ≡ true) × (tag u ≡ 18 → isEmpty ps ≡ false)

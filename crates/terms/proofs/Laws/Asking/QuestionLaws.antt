@@ -192,7 +192,7 @@ pub word-in : (vs : List ℕ) (i e : ℕ) → i < e → word vs i e ≡ getD vs 
 word-in vs i e h = rw (lt-ltb i e h)
 
 -- the row of a Builtin is its code, that of a Generic its owner and its position
-builtin-row : (ps : Parts) → Fit (layout 4) ps → (c : ℕ) × (ps ≡ num c end)
+pub builtin-row : (ps : Parts) → Fit (layout 4) ps → (c : ℕ) × (ps ≡ num c end)
 unfolding Fit TakesTerm TakesNumber afterNumber More
 builtin-row end f = absurd (some-done (shape.code 32 shape.done) tt f)
 builtin-row (num c end) f = (c, refl)
