@@ -9,6 +9,7 @@
 --   Unification1965  the algorithm ends, the Unification Theorem, and the solver answers as the algorithm does
 --   RobinsonPair     the algorithm decides each plain pair, in every session
 --   PlainLists       plain pairs by the posed terms alone
+--   Again            a compatible pair posed again binds nothing and is not incompatible
 --   RustMapLaws      laws of the Rust's maps and vectors; a map sorted by its keys
 --   RustRounds       the rounds of the Rust's `resolve` are enough
 --   Examples         Kagari's heads and families as an instance, and worked sessions and pairs
@@ -22,6 +23,7 @@ pub mod Robinson
 pub mod Unification1965
 pub mod RobinsonPair
 pub mod PlainLists
+pub mod Again
 pub mod RustMapLaws
 pub mod RustRounds
 pub mod Examples
