@@ -5,6 +5,7 @@
 --   InvariantLaws        sessions in order and within limits after every list; every pair is settled with enough checks
 --   CheckStepLaws        what a check of `constrain` comes to; it leaves a solver in order
 --   DefaultLaws          so it is after every list of orders; what a default leaves
+--   RecoveryLaws         no binding holds Unknown or Error
 --   RequestLaws          requests of order 1: what they admit, how two meet
 pub mod FamilyLaws
 pub mod FormedTest
@@ -12,4 +13,5 @@ pub mod SolverInvariantLaws
 pub mod InvariantLaws
 pub mod CheckStepLaws
 pub mod DefaultLaws
+pub mod RecoveryLaws
 pub mod RequestLaws

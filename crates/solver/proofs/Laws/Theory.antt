@@ -5,9 +5,11 @@
 --   ConstrainView     `constrain` and the defaults, viewed
 --   TheorySimulation  each order and each answer, viewed
 --   Demand3Laws       demand 3
+--   AgainLaws         a compatible pair posed again binds nothing and is not incompatible
 pub mod TheoryView
 pub mod Signature
 pub mod TheoryViewLaws
 pub mod ConstrainView
 pub mod TheorySimulation
 pub mod Demand3Laws
+pub mod AgainLaws
