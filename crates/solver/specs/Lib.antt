@@ -12,6 +12,7 @@
 --   Robinson      Robinson 1965 on terms: the Unification Algorithm, most general unifiers, and what demand 2 says of
 --                 plain pairs
 --   RobinsonPair  what it says of each plain pair, in every session
+--   Again         a compatible pair posed again
 --   Rust          the Rust's `Solver`, line by line, on terms
 --   Terms         the definitions of crate terms, handed on to the sheet
 --   TermTypes     types of crate terms, handed on
@@ -27,6 +28,7 @@ pub mod Demand3
 pub mod Invariant
 pub mod Robinson
 pub mod RobinsonPair
+pub mod Again
 pub mod Rust
 pub mod Terms
 pub mod TermTypes

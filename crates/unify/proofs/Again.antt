@@ -1,6 +1,6 @@
 -- Pairs posed again. An order 4 that makes no binding leaves the table as it was. A pair whose two terms, as they resolve where it is posed, hold no recovery
--- term, and that is compatible: posed again, with whatever checks, it binds nothing and is not incompatible; with as many checks as it took, or more, it is
--- compatible.
+-- term, and that is compatible: posed again, at once or after other orders, with whatever checks, it binds nothing and is not incompatible; with as many checks
+-- as it took, or more, it is compatible.
 use mathlib.Core.Path.{_≡_, refl, ap, ap₂, sym, _∙_, subst}
 use mathlib.Core.Logic.{_⊎_, inl, inr}
 use mathlib.Core.Bool.{Bool, true, false, _&&_, _||_}
@@ -16,6 +16,7 @@ use Rattle.unify.specs.Meaning.{Fine, Below}
 use Rattle.unify.proofs.Sound.{step-right, Grows, After, constrain-right}
 use Rattle.unify.proofs.Lazy.{resolve-right}
 use Rattle.unify.proofs.Robinson.{eq-of-sim}
+use Rattle.unify.specs.Expansion.{expand, resolve}
 use Rattle.unify.specs.Table.{Table, answer, top, tie₁, tie₀, tie, part₁, part, differ, match, turn, settles, table-poses}
 use Rattle.unify.proofs.Refine.{Stands, Counted, Ends, settles-follows}
 
@@ -360,7 +361,7 @@ module _ (S : Sig) where
       unfolding step
       step-keeps ps l r p q = compare-keeps s ps (sub (s .res) l) (sub (s .res) r) p q (fixed l) (fixed r) (same? (S .head?) (sub (s .res) l) (sub (s .res) r))
 
-      module _ (s′ : State S) (f′ : Fine S N s′) (agree : (v : ℕ) → s′ .res v ≡ sub (s′ .res) (s .res v)) (ps qs : List (Pair S)) (covers : Covers (s′ .res) ps qs) where
+      module _ (N′ : ℕ) (s′ : State S) (f′ : Fine S N′ s′) (agree : (v : ℕ) → s′ .res v ≡ sub (s′ .res) (s .res v)) (ps qs : List (Pair S)) (covers : Covers (s′ .res) ps qs) where
         absorbs : (t : T S) → sub (s′ .res) t ≡ sub (s′ .res) (sub (s .res) t)
         absorbs t = sub-ext t (λ v i. agree v) ∙ sym (sub-sub (s′ .res) (s .res) t)
 
@@ -386,17 +387,22 @@ module _ (S : Sig) where
       agree-back : (s s′ : State S) → Grows S n respects s s′ → (θ : ℕ → T S) → ((v : ℕ) → θ v ≡ sub θ (s′ .res v)) → (v : ℕ) → θ v ≡ sub θ (s .res v)
       agree-back s s′ g θ a v = eq-of-sim (g .back (λ h. h) θ (λ u. sim-of-eq (a u)) v)
 
-      -- the pairs, and any of them, posed to the session in which they ended compatible
+      -- what every variable resolves to by ρ is resolved further by θ, and nothing else is
+      abbrev Absorbs : (ℕ → T S) → (ℕ → T S) → Type 0
+      Absorbs θ ρ = (v : ℕ) → θ v ≡ sub θ (ρ v)
+
+      -- the pairs, and any of them, posed to a session that came after the one in which they ended compatible
       abbrev Echoes : ℕ → State S → Bool → List (Pair S) → Out (State S) → Type 0
       Echoes k s ok ps (cancelled s′) = Unit {0}
-      Echoes k s ok ps (done s′ b) = HardPairs (s .res) ps → b ≡ true → (ok ≡ true) × ((qs : List (Pair S)) → Covers (s′ .res) ps qs → Calm k s′ qs)
+      Echoes k s ok ps (done s′ b) = HardPairs (s .res) ps → b ≡ true
+          → (ok ≡ true) × ((N : ℕ) (y : State S) → Fine S N y → Absorbs (y .res) (s′ .res) → (qs : List (Pair S)) → Covers (y .res) ps qs → Calm k y qs)
 
       echoes-nothing : (k : ℕ) (s : State S) (ok : Bool) → Echoes k s ok [] (done s ok)
-      echoes-nothing k s ok c e = (e, go)
+      echoes-nothing k s ok c e = (e, λ N y f a. go y)
         where
-          go : (qs : List (Pair S)) → Covers (s .res) [] qs → Calm k s qs
-          go [] c = calm-nothing k s
-          go (q ∷ qs) c = absurd c
+          go : (y : State S) (qs : List (Pair S)) → Covers (y .res) [] qs → Calm k y qs
+          go y [] c = calm-nothing k y
+          go y (q ∷ qs) c = absurd c
 
       echoes-step : (k N : ℕ) (s : State S) (ok : Bool) (p : Pair S) (ps : List (Pair S)) → Fine S N s → Grows S n respects s (step S n s (p .0) (p .1) ps .state)
           → (o : Out (State S)) → Echoes k (step S n s (p .0) (p .1) ps .state) (ok && step S n s (p .0) (p .1) ps .good) (step S n s (p .0) (p .1) ps .todo) o
@@ -406,22 +412,26 @@ module _ (S : Sig) where
       echoes-step k N s ok p ps f g (cancelled s′) u a = tt
       echoes-step k N s ok p ps f g (done s′ b) u a = λ c e. (goods c e .0, go c e)
         where
-          mid : (v : ℕ) → s′ .res v ≡ sub (s′ .res) (step S n s (p .0) (p .1) ps .state .res v)
-          mid = agree-back (step S n s (p .0) (p .1) ps .state) s′ (a .1) (s′ .res) (λ v. sym (sub-fix (s′ .res) (s′ .res v) (λ w i. a .0 .idem v w i)))
-
-          later : HardPairs (s .res) (p ∷ ps) → b ≡ true → ((ok && step S n s (p .0) (p .1) ps .good) ≡ true) × ((qs : List (Pair S)) → Covers (s′ .res) (step S n s (p .0) (p .1) ps .todo) qs → Calm k s′ qs)
+          later : HardPairs (s .res) (p ∷ ps) → b ≡ true → ((ok && step S n s (p .0) (p .1) ps .good) ≡ true)
+              × ((N : ℕ) (y : State S) → Fine S N y → Absorbs (y .res) (s′ .res) → (qs : List (Pair S)) → Covers (y .res) (step S n s (p .0) (p .1) ps .todo) qs → Calm k y qs)
           later c e = u (step-keeps N s f ps (p .0) (p .1) (c .0) (c .1) (c .2) .0) e
 
           goods : HardPairs (s .res) (p ∷ ps) → b ≡ true → (ok ≡ true) × (step S n s (p .0) (p .1) ps .good ≡ true)
           goods c e = and-both ok (step S n s (p .0) (p .1) ps .good) (later c e .0)
 
-          go : HardPairs (s .res) (p ∷ ps) → b ≡ true → (qs : List (Pair S)) → Covers (s′ .res) (p ∷ ps) qs → Calm (suc k) s′ qs
-          go c e [] w = tt
-          go c e (q ∷ qs) (inl w) =
-              let y = step-echo N s f s′ (a .0) (agree-back s (step S n s (p .0) (p .1) ps .state) g (s′ .res) mid) ps qs (w .2) p q (c .0) (c .1) (w .0) (w .1) (goods c e .1) mid in
-              (y .0, y .1, later c e .1 (step S n s′ (q .0) (q .1) qs .todo) (y .2))
-          go c e (q ∷ qs) (inr w) =
-              calm-more k s′ (q ∷ qs) (later c e .1 (q ∷ qs) (step-extends N s f s′ (a .0) (agree-back s (step S n s (p .0) (p .1) ps .state) g (s′ .res) mid) ps (q ∷ qs) w p))
+          -- who absorbs the session at the end absorbs the one after the check, and the one before it
+          mid : (y : State S) → Absorbs (y .res) (s′ .res) → Absorbs (y .res) (step S n s (p .0) (p .1) ps .state .res)
+          mid y h = agree-back (step S n s (p .0) (p .1) ps .state) s′ (a .1) (y .res) h
+
+          early : (y : State S) → Absorbs (y .res) (s′ .res) → Absorbs (y .res) (s .res)
+          early y h = agree-back s (step S n s (p .0) (p .1) ps .state) g (y .res) (mid y h)
+
+          go : HardPairs (s .res) (p ∷ ps) → b ≡ true → (M : ℕ) (y : State S) → Fine S M y → Absorbs (y .res) (s′ .res) → (qs : List (Pair S)) → Covers (y .res) (p ∷ ps) qs → Calm (suc k) y qs
+          go c e M y fy h [] w = tt
+          go c e M y fy h (q ∷ qs) (inl w) =
+              let x = step-echo N s f M y fy (early y h) ps qs (w .2) p q (c .0) (c .1) (w .0) (w .1) (goods c e .1) (mid y h) in
+              (x .0, x .1, later c e .1 M y fy h (step S n y (q .0) (q .1) qs .todo) (x .2))
+          go c e M y fy h (q ∷ qs) (inr w) = calm-more k y (q ∷ qs) (later c e .1 M y fy h (q ∷ qs) (step-extends N s f M y fy (early y h) ps (q ∷ qs) w p))
 
       echoes : (k N : ℕ) (s : State S) (ok : Bool) (ps : List (Pair S)) → Fine S N s → Below S N ps → Echoes k s ok ps (constrain S n k s ok ps)
       unfolding constrain
@@ -437,49 +447,63 @@ module _ (S : Sig) where
 
       -- ---- over a table
 
+      -- a substitution under which each bound variable is its term absorbs what terms resolve to
+      resolve-absorbed : (f : ℕ) (b : ℕ → Option (T S)) (θ : ℕ → T S) → ((v : ℕ) (w : T S) → b v ≡ some w → θ v ≡ sub θ w) → (t : T S) → sub θ (resolve f b t) ≡ sub θ t
+      unfolding resolve expand sub
+      resolve-absorbed zero b θ h t = refl
+      resolve-absorbed (suc f) b θ h t = sub-sub θ (λ v. expand v (b v) (λ u. resolve f b u)) t ∙ sub-ext t (λ v i. go (λ u. resolve-absorbed f b θ h u) v (b v) refl)
+        where
+          go : ((u : T S) → sub θ (resolve f b u) ≡ sub θ u) → (v : ℕ) (o : Option (T S)) → b v ≡ o → sub θ (expand v o (λ u. resolve f b u)) ≡ θ v
+          go more v none e = refl
+          go more v (some u) e = more u ∙ sym (h v u e)
+
+      absorbs-bound : (x : Table S) (s : State S) → Stands S x s → (y : State S) → ((v : ℕ) (w : T S) → x .bound v ≡ some w → y .res v ≡ sub (y .res) w) → Absorbs (y .res) (s .res)
+      unfolding sub
+      absorbs-bound x s st y h v =
+          sym (ap (sub (y .res)) (sym (resolve-right (x .bound) (x .rev) (s .res) (st .rep) (var v))) ∙ resolve-absorbed (x .rev) (x .bound) (y .res) h (var v))
+
       -- how a pair posed to z with m checks ends that takes k at most: z stays, and it is compatible, or cancelled where there are fewer
       abbrev pub Satisfied : ℕ → ℕ → Table S → Out (Table S) → Type 0
       Satisfied k m z o = ((o ≡ cancelled z) × (m < k)) ⊎ (o ≡ done z true)
 
-      -- POSED AGAIN to the table that a compatible pose with k checks left, with m checks: nothing is bound, and it is not incompatible.
+      -- POSED AGAIN to a table y, with m checks, that has all bindings of the table x that a compatible pose with k checks left: nothing is bound, and it is not
+      -- incompatible.
       pub table-again : (k N : ℕ) (z : Table S) (s : State S) → Stands S z s → Counted S N z → Fine S N s → (t u : T S)
           → ((v : ℕ) → In v t → v < N) → ((v : ℕ) → In v u → v < N) → Hard (answer S z t) → Hard (answer S z u)
-          → (y : Table S) → table-poses S n k z t u ≡ done y true → (m : ℕ) → Satisfied k m y (table-poses S n m y t u)
-      table-again k N z s st ct f t u bt bu ht hu y e m =
+          → (x : Table S) → table-poses S n k z t u ≡ done x true
+          → (M : ℕ) (y : Table S) (s′ : State S) → Stands S y s′ → Counted S M y → Fine S M s′ → ((v : ℕ) → In v t → v < M) → ((v : ℕ) → In v u → v < M)
+          → ((v : ℕ) (w : T S) → x .bound v ≡ some w → y .bound v ≡ some w) → (m : ℕ) → Satisfied k m y (table-poses S n m y t u)
+      table-again k N z s st ct f t u bt bu ht hu x e M y s′ sy cy fy dt du has m =
           first (table-poses S n k z t u) (poses S n k s t u) e
           (settles-follows S n respects k N z s true true ((t, u) ∷ []) ((t, u) ∷ []) st ct refl f (bt, bu, tt) (refl, refl, tt))
           (echoes k N s true ((t, u) ∷ []) f (bt, bu, tt))
         where
-          resolves : (w : T S) → answer S z w ≡ sub (s .res) w
-          resolves w = resolve-right (z .bound) (z .rev) (s .res) (st .rep) w
-
           hard : (w : T S) → Hard (answer S z w) → Hard (sub (s .res) w)
-          hard w p = ap (λ (x : T S). any-soft S x) (sym (resolves w)) ∙ p
+          hard w p = ap (λ (x : T S). any-soft S x) (sym (resolve-right (z .bound) (z .rev) (s .res) (st .rep) w)) ∙ p
 
-          second : (y′ : State S) → Stands S y y′ → (o : Out (Table S)) (o′ : Out (State S)) → Ends S n respects N o o′ → Quiet y (outcome o) → Ended y′ k m o′ → Satisfied k m y o
-          second y′ sy (cancelled a) (cancelled b) h q (inl g) =
+          second : (o : Out (Table S)) (o′ : Out (State S)) → Ends S n respects M o o′ → Quiet y (outcome o) → Ended s′ k m o′ → Satisfied k m y o
+          second (cancelled a) (cancelled b) h q (inl g) =
               let g₀ = g .0 in
-              let r : b .rev ≡ y′ .rev = cc in
+              let r : b .rev ≡ s′ .rev = cc in
               inl (ap cancelled (q .1 (h .0 .revs ∙ r ∙ sym (sy .revs))), g .1)
-          second y′ sy (cancelled a) (cancelled b) h q (inr g) = clash (cc)
-          second y′ sy (cancelled a) (done b c) h q g = absurd h
-          second y′ sy (done a d) (cancelled b) h q g = absurd h
-          second y′ sy (done a d) (done b c) h q (inl g) = clash (cc (g .0))
-          second y′ sy (done a d) (done b c) h q (inr g) =
-              let r : b .rev ≡ y′ .rev = cc in
+          second (cancelled a) (cancelled b) h q (inr g) = clash (cc)
+          second (cancelled a) (done b c) h q g = absurd h
+          second (done a d) (cancelled b) h q g = absurd h
+          second (done a d) (done b c) h q (inl g) = clash (cc (g .0))
+          second (done a d) (done b c) h q (inr g) =
+              let r : b .rev ≡ s′ .rev = cc in
               let w : c ≡ true = cc in
               inr (ap₂ done (q .1 (h .0 .revs ∙ r ∙ sym (sy .revs))) (h .3 ∙ w))
 
-          first : (o : Out (Table S)) (o′ : Out (State S)) → o ≡ done y true → Ends S n respects N o o′ → Echoes k s true ((t, u) ∷ []) o′ → Satisfied k m y (table-poses S n m y t u)
-          first (cancelled a) o′ g h x = clash (cc)
-          first (done a d) (cancelled b) g h x = absurd h
-          first (done a d) (done b c) g h x =
-              let ea : a ≡ y = cc in
+          first : (o : Out (Table S)) (o′ : Out (State S)) → o ≡ done x true → Ends S n respects N o o′ → Echoes k s true ((t, u) ∷ []) o′ → Satisfied k m y (table-poses S n m y t u)
+          first (cancelled a) o′ g h l = clash (cc)
+          first (done a d) (cancelled b) g h l = absurd h
+          first (done a d) (done b c) g h l =
+              let ea : x ≡ a = cc in
               let ed : d ≡ true = cc in
-              let l = x (hard t ht, hard u hu, tt) (sym (h .3) ∙ ed) in
-              let sy : Stands S y b = subst (λ (v : Table S). Stands S v b) ea (h .0) in
-              let cy : Counted S N y = subst (λ (v : Table S). Counted S N v) ea (h .1) in
-              second b sy (table-poses S n m y t u) (poses S n m b t u)
-              (settles-follows S n respects m N y b true true ((t, u) ∷ []) ((t, u) ∷ []) sy cy refl (h .2) (bt, bu, tt) (refl, refl, tt))
+              let after = l (hard t ht, hard u hu, tt) (sym (h .3) ∙ ed) .1 in
+              let more : Absorbs (s′ .res) (b .res) = absorbs-bound a b (h .0) s′ (λ v w q. sy .rep .bound v w (has v w (ap (λ (i : Table S). i .bound v) ea ∙ q))) in
+              second (table-poses S n m y t u) (poses S n m s′ t u)
+              (settles-follows S n respects m M y s′ true true ((t, u) ∷ []) ((t, u) ∷ []) sy cy refl fy (dt, du, tt) (refl, refl, tt))
               (settles-quiet n m y true ((t, u) ∷ []))
-              (calm-ends k m b ((t, u) ∷ []) (l .1 ((t, u) ∷ []) (covers-all (b .res) ((t, u) ∷ []))))
+              (calm-ends k m s′ ((t, u) ∷ []) (after M s′ fy more ((t, u) ∷ []) (covers-all (s′ .res) ((t, u) ∷ []))))

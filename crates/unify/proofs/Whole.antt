@@ -85,7 +85,7 @@ module _ (S : Sig) (default : S .Fam → S .Head) (never : S .Head)
         fine = bind-fine S n respects N s (x .fine) w (node h nil) (s .fam) (x .stands .rep .unbound w e) l (λ u i. absurd i) (λ u i. absurd i) (λ i. i) (λ u f p. inl p);
       }
 
-  sane-fill : (N : ℕ) (z : Table S) (h : S .Head) (v : ℕ) → v < N → Sane N z → Sane N (fill S default never z h (top S z (var v)))
+  pub sane-fill : (N : ℕ) (z : Table S) (h : S .Head) (v : ℕ) → v < N → Sane N z → Sane N (fill S default never z h (top S z (var v)))
   unfolding fill
   sane-fill N z h v l x = go (top S z (var v)) (reach S n respects N z (x .means) (x .stands) (x .fine) (var v) (var v) refl (λ w e. omega arith))
     where

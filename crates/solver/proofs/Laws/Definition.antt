@@ -6,6 +6,7 @@
 --   CheckStepLaws        what a check of `constrain` comes to; it leaves a solver in order
 --   DefaultLaws          so it is after every list of orders; what a default leaves
 --   RecoveryLaws         no binding holds Unknown or Error
+--   LaterLaws            what is bound and issued stays so
 --   RequestLaws          requests of order 1: what they admit, how two meet
 pub mod FamilyLaws
 pub mod FormedTest
@@ -14,4 +15,5 @@ pub mod InvariantLaws
 pub mod CheckStepLaws
 pub mod DefaultLaws
 pub mod RecoveryLaws
+pub mod LaterLaws
 pub mod RequestLaws

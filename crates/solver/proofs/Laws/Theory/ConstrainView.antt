@@ -231,7 +231,7 @@ fill-view z c (var w) =
     (ap (λ (t : T). put (all-viewed (z .bindings)) w (some t)) (sym (leaf-view c)) ∙ put-viewed (z .bindings) w (node 4 (num c end)))
 fill-view z c (node k ps) = refl
 
-at-view : (z : Solver) (c v : ℕ)
+pub at-view : (z : Solver) (c v : ℕ)
     → session.fill S fallback never (view-table z) (node 4 (num c end)) (table.top S (view-table z) (tree.var v)) ≡ view-table (settleAt z (node 4 (num c end)) (top z (var v)))
 unfolding view
 at-view z c v =
