@@ -1,9 +1,11 @@
 -- Worked examples, by computation.
+--   Again          pairs posed again, and one with a recovery term that binds again
 --   Demand3        demand 3 used on two sessions
 --   Resolved       a pair of two variables, the first bound to a builtin
 --   RobinsonPairs  the theorem used on pairs after orders that the one on whole lists leaves out
 --   RustSessions   sessions run on the Rust's solver, and pairs given to Robinson's algorithm
 --   Sessions       document 01's session, marked lines and slips, by computation
+pub mod Again
 pub mod Demand3
 pub mod Resolved
 pub mod RobinsonPairs

@@ -1,5 +1,5 @@
 -- What is bound stays bound, to the same term, and what is issued stays issued: so it is of a session and one that later orders lead to.
-use mathlib.Core.Path.{_≡_, refl, sym, ap, _∙_, subst}
+use mathlib.Core.Path.{_≡_, refl, ap, _∙_, subst}
 use mathlib.Core.Bool.{Bool, true, false, _&&_}
 use mathlib.Core.List.{List, [], _∷_, _++_}
 use mathlib.Core.Option.{Option, none, some}
@@ -7,7 +7,7 @@ use Prim.Native.Nat.{ℕ, zero, suc, _+_, _≤_, _<_}
 use native.Mathlib.Omega.{arith}
 use Rattle.terms.specs.Term.{Term, var, node, end, num, size}
 use Rattle.unify.specs.Term.{clash}
-use Rattle.unify.specs.Solver.{put, put-other}
+use Rattle.unify.specs.Solver.{put-other}
 use Rattle.unify.specs.Table.{Table}
 use Rattle.unify.proofs.Whole.{Sane, sane-fill}
 use Rattle.solver.specs.Families.{Request}
@@ -15,7 +15,7 @@ use Rattle.solver.specs.Shapes.{Notion, read}
 use Rattle.solver.specs.Constrain.{Solver, resolved, top, Pair, checkPair, settles, constrain}
 use Rattle.solver.specs.Session.{Limits, Session, at, gap, issued, find, fresh, deferring, never, settleAt, numericAt, neverAt, numericDefaults, neverDefaults}
 use Rattle.solver.specs.Orders.{Command, variable, number, hole, defer, pair, resolving, numbers, nevers, revision, unread}
-use Rattle.solver.specs.Orders.{Step, term, nothing, _gives_, known, full, crowded, unless, variableAt, numberAt, holeAt, solverOf, posing, order, run}
+use Rattle.solver.specs.Orders.{term, nothing, _gives_, known, full, crowded, unless, variableAt, numberAt, holeAt, solverOf, posing, order, run}
 use Rattle.solver.specs.Words.ConstrainContract.{Within, AllWithin}
 use Rattle.solver.proofs.Laws.Theory.Signature.{S}
 use Rattle.solver.proofs.Laws.Theory.ConstrainView.{view-table, fallback, at-view}

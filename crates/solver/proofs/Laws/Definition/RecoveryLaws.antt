@@ -1,6 +1,6 @@
 -- No binding holds Unknown or Error, after every list of orders: a pair of a variable and a term that resolves to one that holds them is passed over. So a term
 -- without them resolves to one without them.
-use mathlib.Core.Path.{_≡_, refl, sym, ap, _∙_, subst}
+use mathlib.Core.Path.{_≡_, refl, sym, ap, _∙_}
 use mathlib.Core.Bool.{Bool, true, false, _&&_, _||_}
 use mathlib.Core.List.{List, [], _∷_}
 use mathlib.Core.Logic.{_⊎_, inl, inr, _≢_}
@@ -11,13 +11,13 @@ use Rattle.terms.specs.Tree.{same}
 use Rattle.terms.specs.Questions.{among, meets, meetsRow}
 use Rattle.terms.proofs.Laws.General.Bools.{never-false}
 use Rattle.unify.specs.Term.{clash}
-use Rattle.unify.specs.Solver.{Out, cancelled, done, put}
+use Rattle.unify.specs.Solver.{put}
 use Rattle.unify.proofs.Sound.{put-cases}
-use Rattle.solver.specs.Families.{Request, defaultOf}
-use Rattle.solver.specs.Shapes.{Notion, sameShape, pushed}
+use Rattle.solver.specs.Families.{Request}
+use Rattle.solver.specs.Shapes.{Notion, sameShape}
 use Rattle.solver.specs.Constrain.{Solver, replace, replaceRow, followed, resolve, resolved, top, always, recovery, recovers, occurs, projects, Requests, Pair, admit}
-use Rattle.solver.specs.Constrain.{Check, bind₁, bind₀, bind, zipOn, decompose, differ, match, checkPair, settles, constrain}
-use Rattle.solver.specs.Session.{Limits, Session, at, gap, VariablePlace, issued, find, fresh, deferring, never, settleAt, numericAt, neverAt, numericDefaults, neverDefaults}
+use Rattle.solver.specs.Constrain.{bind₁, bind₀, bind, decompose, differ, match, checkPair, settles, constrain}
+use Rattle.solver.specs.Session.{Limits, Session, at, gap, issued, find, fresh, deferring, settleAt, numericAt, neverAt, numericDefaults, neverDefaults}
 use Rattle.solver.specs.Orders.{Command, variable, number, hole, defer, pair, resolving, numbers, nevers, revision, unread}
 use Rattle.solver.specs.Orders.{term, nothing, _gives_, known, full, crowded, unless, variableAt, numberAt, holeAt, solverOf, posing, order, run}
 
