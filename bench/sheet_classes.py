@@ -240,6 +240,14 @@ def joins(count):
     return orders + defaults() + [resolve(inf(n)) for n in range(count)]
 
 
+def satisfied(times):
+    """A lattice: a contour's type is met once, which binds its variables, and then for every cell."""
+    contour = map_(RO, struct(201), arr(tup(inf(1), inf(2), arr(inf(3)))))
+    cell = pair(arr(inf(0)), arr(contour), 1000)
+    bound = [pair(inf(1), struct(202, [inf(2)]), 1000), pair(inf(2), F64, 1000), pair(inf(3), tup(inf(2), inf(2)), 1000)]
+    return variables(4) + [cell] + bound + [cell] * times + [resolve(inf(0)), revision()]
+
+
 # Orders 9 to 20
 
 def twins(rng, nodes, left, right):
@@ -299,7 +307,7 @@ NAMES = {9: "conflicts", 10: "weakens", 11: "recover", 12: "instantiate", 13: "a
 def classes():
     found = [Class("typical script", typical()), Class("small: the bar's session", bars_session()), Class("resolve-heavy", resolve_heavy()),
              Class("wide, 2,000 children", wide_sheets()), Class("deep, 200 levels", deep_sheets()),
-             Class("many joins, 512 variables", [sheet(joins(512))])]
+             Class("many joins, 512 variables", [sheet(joins(512))]), Class("a satisfied pair 2,000 times", [sheet(satisfied(2000))])]
     for kind, name in NAMES.items():
         for how_many, nodes in ((200, 24), (10, 1000)):
             found.append(Class("%d %s, %s nodes" % (kind, name, format(nodes, ",")), orders_of(kind, how_many, nodes), 1 << 20))

@@ -1,8 +1,8 @@
 """Sheets for tests/judge.py, as rows: family, room, words of the four areas, fill, sheet.
 
-  fixed()              the sheets and runs of sheet_cases.py, the orders of orders_cases.py, and the limits of a run: sheets and
-                       outputs of 16,777,216 bytes, one less and one more, filled to the last byte; areas one word short, each
-                       in turn
+  fixed()              the sheets and runs of sheet_cases.py, the orders of orders_cases.py, a lattice of 100,000 cells, and the
+                       limits of a run: sheets and outputs of 16,777,216 bytes, one less and one more, filled to the last byte;
+                       areas one word short, each in turn
   short()              every sheet of up to two bytes; every order of up to three bytes, in a fresh session and in one with
                        variables; every order of four and five bytes below 21
   at_random(N, S)      the families JUDGED of sheet_generate.py, with areas and fills at random; behind each short sheet copies of it
@@ -79,6 +79,19 @@ def limits():
     yield 0, AREAS, bytes(MOST_BYTES)
 
 
+CELLS = 100000
+
+
+def lattices():
+    """The first cell's pair binds ?0. Each other cell has a pair that binds nothing: the same one, one that clashes, one that is cancelled."""
+    site, other, first, clashing, cancelled, revision = (framed(bytes.fromhex(text)) for text in (
+        "00 07 00", "00 08 00", "04 09 09 01 00 09 05 02 01 01 04 02", "04 09 01 01 09 01 00", "04 01 09 01 00 09 05 02 01 01 04 03", "08"))
+    # The answers have three bytes for each cell, and those of the variables and the revision: with this room, and one byte less.
+    exact = 3 * CELLS + 4 + 4 + 3
+    for room, pair in ((MOST_BYTES, first), (MOST_BYTES, clashing), (MOST_BYTES, cancelled), (exact, first), (exact - 1, first)):
+        yield room, site + other + first + pair * (CELLS - 1) + revision
+
+
 def fixed():
     for at, (_, room, sheet, _) in enumerate(sheet_cases.SHEETS):
         yield "fixed", room, AREAS, (0xffffffff, 0, 0xa5a5a5a5)[at % 3], sheet
@@ -89,6 +102,8 @@ def fixed():
     for words in areas():
         for sheet in (b"", bytes.fromhex(sheet_cases.TWO), b"\x80\x00"):
             yield "fixed", 100, words, 0xdeadbeef, sheet
+    for room, sheet in lattices():
+        yield "fixed", room, AREAS, 0xfefefefe, sheet
     for room, words, sheet in limits():
         yield "fixed", room, words, 0x5e5e5e5e, sheet
 

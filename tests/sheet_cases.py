@@ -90,8 +90,9 @@ class Script:
         return inf(self.count - 1)
 
     def pose(self, comment, left, right, answer=YES, bound=0, k=1000):
+        """A pair that binds so many variables. It keeps its nodes where it binds one."""
         self.order(comment, "04" + num(k) + left + right, answer)
-        self.kept += nodes(left) + nodes(right)
+        self.kept += nodes(left) + nodes(right) if bound else 0
         self.bound += bound
 
     def shows(self, comment, term, value):
@@ -229,22 +230,31 @@ def fill_variables(s):
 @part(alone=True)
 def nodes_2048(s):
     """2,048 kept nodes, and no more."""
-    x = s.var()
+    x, *free = s.vars(5)
     s.order("2,048 nodes in one order", "05" + tup(*[U] * 2047), tup(*[U] * 2047))
     s.order("2,049 nodes in one order", "05" + tup(*[U] * 2048), 7)
     s.order("an order 5 keeps none", "05" + tup(*[U] * 2047), tup(*[U] * 2047))
     s.order("an order 3 keeps none", "03" + tup(*[U] * 2047), "")
-    fill_nodes(s, x)
+    fill_nodes(s, x, free)
 
 
-def fill_nodes(s, x):
-    s.pose("a compatible pair keeps its nodes", tup(*[U] * 99), U)
-    s.pose("an incompatible one too", tup(*[I32] * 99), arr(I32), NO)
-    s.pose("a cancelled one too", tup(*[U] * 99), U, CANCELLED, 0, 0)
-    s.order("a refused one none", "04 09" + tup(*[U] * 99) + inf(600), 6)
+def fill_nodes(s, x, free):
+    """Pairs that bind keep all their nodes, however they end; those that bind nothing keep none."""
+    wide = tup(*[U] * 93)
+    s.pose("a compatible pair that binds keeps its nodes", tup(free[0], wide), tup(I32, U), YES, 1)
+    s.pose("an incompatible one too", tup(free[1], I32, wide), tup(I32, I64, U), NO, 1)
+    s.pose("a cancelled one too", tup(wide, I32, free[2]), tup(U, I32, I32), CANCELLED, 1, 2)
+    s.pose("a compatible pair that binds nothing keeps none", tup(*[U] * 399), U)
+    s.pose("nor does an incompatible one", tup(*[I32] * 399), arr(I32), NO)
+    s.pose("nor a cancelled one", tup(*[U] * 399), U, CANCELLED, 0, 0)
+    s.order("nor a refused one", "04 09" + tup(free[3], *[U] * 99) + inf(600), 6)
     left = 2048 - s.kept
-    s.order("one node too many", "04 09" + tup(*[U] * (left - 1)) + U, 7)
-    s.pose("up to one less than 2,048", tup(*[U] * (left - 3)), U)
+    s.order("one node too many, which would bind nothing", "04 09" + tup(*[U] * (left - 1)) + U, 7)
+    s.order("one node too many, which would bind a variable", "04 09" + tup(free[3], tup(*[U] * (left - 5))) + tup(I32, U), 7)
+    s.free(free[3])
+    s.pose("the space left, which binds nothing", tup(*[U] * (left - 2)), U)
+    s.pose("the same once more", tup(*[U] * (left - 2)), U)
+    fill(s, free[3], 1)
     s.shows("one node fits", x, x)
     s.order("two do not", "05" + arr(x), 7)
     s.order("nor in a pair", "04 09" + x + U, 7)
@@ -257,6 +267,124 @@ def fill_nodes(s, x):
     s.order("defaults count no node", "06", "01" if s.has_number else "00")
     s.shows("one node fits as before", U, U)
     s.order("a level before 7", "05" + arr(x, 200), 4)
+
+
+def fill(s, variable, left):
+    """A pair that binds a variable and leaves space for so many nodes."""
+    s.pose("all nodes but %d are kept" % left, tup(variable, tup(*[U] * (2048 - s.kept - left - 6))), tup(I32, U), YES, 1)
+
+
+def space_left(s, comment):
+    """Shows how many nodes are kept: a pair of the others is answered, and one node more is refused."""
+    left = 2048 - s.kept
+    s.pose(comment + ": the space left", tup(*[U] * (left - 2)), U)
+    s.order(comment + ": one node more", "04 09" + tup(*[U] * (left - 1)) + U, 7)
+
+
+# ---------------------------------------------------------------- Document 02: pairs that bind nothing keep no nodes
+
+@part(alone=True)
+def lattice(s):
+    """One satisfied pair for each cell of a lattice: 2,000 times six nodes."""
+    x, y = s.vars(2)
+    s.pose("the first cell", arr(x), arr(tup(y, I32)), YES, 1)
+    for cell in range(2, 2001):
+        s.pose("cell %d" % cell, arr(x), arr(tup(y, I32)), YES)
+    s.revision()
+    space_left(s, "the first cell's nodes are kept")
+
+
+@part(alone=True)
+def pairs_that_bind_nothing(s):
+    """Each pair of 58 nodes, 40 times: satisfied ones, and such as clash and are cancelled, at once and after some checks."""
+    x, y = s.vars(2)
+    s.pose("a contour", x, arr(tup(y, I32)), YES, 1)
+    left = tup(*[arr(x)] * 8)
+    for name, last, answer, k in (("satisfied", I32, YES, 1), ("incompatible", I64, NO, 1000), ("cancelled at once", I32, CANCELLED, 0),
+                                  ("cancelled after a clash", I64, CANCELLED, 30)):
+        for _ in range(40):
+            s.pose(name, left, tup(*[arr(arr(tup(y, last)))] * 8), answer, 0, k)
+        s.free(y)
+    s.pose("recovery", y, tup(*[U] * 2000))
+    s.pose("a circle", y, tup(*[y] * 2000), NO)
+    s.pose("a family", s.number(2), tup(*[I32] * 2000), NO)
+    s.revision()
+    space_left(s, "the contour's nodes are kept")
+
+
+@part(alone=True)
+def pairs_that_bind(s):
+    """They keep all their nodes, also those beside what was bound; posed again they bind nothing and keep none."""
+    wide = tup(*[U] * 500)
+    for name, left, right, answer, k in (("compatible", [wide], [U], YES, 1000), ("incompatible", [wide, I32], [U, I64], NO, 1000),
+                                         ("cancelled", [wide], [U], CANCELLED, 2)):
+        x = s.var()
+        s.pose(name, tup(*left, x), tup(*right, I32), answer, 1, k)
+        for _ in range(3):
+            s.pose(name + " again", tup(*left, x), tup(*right, I32), answer, 0, k)
+        s.shows("what it bound", x, I32)
+        space_left(s, name)
+    s.revision()
+
+
+@part()
+def recovery_repeated(s):
+    """A compatible pair with Unknown may bind when it is posed again: the part that it passed over is met then."""
+    x, _, y, z = s.vars(4)
+    for turn, bound in (("first", 1), ("second", 1), ("third", 0)):
+        s.pose("the %s time" % turn, tup(x, x), tup(tup(y, z), tup(U, I32)), YES, bound)
+        s.revision()
+    s.shows("the first time bound ?0, the second ?3", tup(x, y, z), tup(tup(y, I32), y, I32))
+
+
+@part(alone=True)
+def recovery_repeated_keeps(s):
+    """The same: nodes are kept the first and the second time."""
+    recovery_repeated(s)
+    space_left(s, "kept twice")
+
+
+@part(alone=True)
+def ten_nodes_left(s):
+    """Pairs of ten nodes and eleven, where there is space for ten."""
+    x, y = s.vars(2)
+    fill(s, x, 10)
+    for _ in range(3):
+        s.pose("ten nodes, satisfied", tup(x, I32, x, I32), tup(I32, x, I32, x))
+        s.pose("ten nodes, incompatible", tup(x, I32, x, I32), tup(I32, x, I64, x), NO)
+        s.pose("ten nodes, cancelled", tup(x, I32, x, I32), tup(I32, x, I32, x), CANCELLED, 0, 0)
+        s.pose("ten nodes, cancelled after a clash", tup(x, I32, x, I32), tup(I32, x, I64, x), CANCELLED, 0, 3)
+        s.order("eleven nodes, which would be satisfied", "04 09" + tup(x, I32, x, arr(I32)) + tup(I32, x, I32, U), 7)
+        s.order("eleven nodes, which would clash", "04 09" + tup(x, I32, x, arr(I32)) + tup(I32, x, I64, U), 7)
+        s.order("eleven nodes, which would be cancelled", "04 00" + tup(x, I32, x, arr(I32)) + tup(I32, x, I32, U), 7)
+        s.order("eleven nodes, which would bind", "04 09" + tup(y, I32, x, arr(I32)) + tup(I32, x, I32, U), 7)
+        s.free(y)
+    s.order("ten nodes in order 16", "10 00" + tup(*[I32] * 9), "01")
+    s.order("eleven nodes in order 16", "10 00" + tup(*[I32] * 10), 7)
+    s.pose("ten nodes that bind", tup(x, I32, x, y), tup(I32, x, I32, x), YES, 1)
+    s.order("2,048 are kept: two nodes, satisfied before", "04 09" + x + I32, 7)
+    s.order("two nodes, which would be cancelled", "04 00" + x + I32, 7)
+    s.order("one node", "05" + x, 7)
+    s.order("one node in order 15", "0f" + U, 7)
+    s.order("defaults have no nodes", "06", "00")
+    s.revision()
+
+
+@part(alone=True)
+def four_nodes_left(s):
+    """Pairs of two nodes, by which the space goes down to none."""
+    x, y, z = s.vars(3)
+    fill(s, x, 4)
+    s.pose("four nodes", arr(x), arr(I32))
+    for name, variable in (("four", None), ("two", y), ("none", z)):
+        if variable:
+            s.pose("a pair that binds leaves %s" % name, variable, x, YES, 1)
+        for _ in range(3):
+            if name == "none":
+                s.order("a satisfied pair does not fit", "04 09" + x + I32, 7)
+            else:
+                s.pose("a satisfied pair fits", x, I32)
+    s.revision()
 
 
 # ---------------------------------------------------------------- Unification, from outside
@@ -804,6 +932,8 @@ run_case("a faulty first length, no room", "80 00", 10, 0, "", room=0)
 run_case("an order that does not fit before a faulty length", TWO + "80 00", 11, 1, "03 00 01 00", room=6)
 run_case("the order that does not fit has no effect and ends the run", "03 00 07 00 03 00 08 00 00", 11, 1, "03 00 01 00", room=6)
 run_case("a refused order counts as answered", "00" + TWO, 0, 3, "01 01" + TWO_OUT)
+run_case("2,048 nodes after a pair of 1,002 that binds nothing", "ee 07 04 09 05 e8 07" + "02" * 1001 + "83 10 0f 05 ff 0f" + "02" * 2047,
+         0, 2, "02 00 01 08 00 00 00 00 01 01 00 00")
 for kind, first, last in (("resolve", "00 00 00", "05 01 00"), ("a hole", "02 00", "02 00"), ("a number place", "00 00 01", "01 00 02")):
     run_case("an answer that would have 2^40 bytes, to " + kind, b"".join(
         [framed(bytes.fromhex(first))] + [framed(bytes.fromhex("00" + num(n) + "00")) for n in range(1, 41)]
@@ -852,10 +982,10 @@ def scripts():
         yield name, script
         if not alone:
             function(together)
-    x = together.var()
+    x, *free = together.vars(5)
     fill_variables(together)
     together.has_number = True
-    fill_nodes(together, x)
+    fill_nodes(together, x, free)
     yield "together", together
 
 

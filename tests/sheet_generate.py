@@ -12,6 +12,7 @@ The families:
   checks     one session with every k up to what its last pair needs
   chain      chains of variables, joins of families, both defaults
   limits     512 variables, 2,048 nodes, 200 levels, one less and one more
+  repeats    pairs posed again and again where few nodes are left, satisfied, clashing and cancelled ones
   room       an output that ends at an answer, one byte before or after
   full       the same at 32,768 bytes
   doubled    terms whose parts are shared again and again; deep terms
@@ -93,6 +94,13 @@ class Script:
         site, slot = self.site(), self.rng.choice((0, 0, 1, 1, 2))
         self.placed((site, slot))
         self.add(0, site, slot)
+
+    def fresh(self):
+        """A variable of a site that no other has."""
+        number = self.count()
+        self.placed((1000 + number, 0))
+        self.add(0, 1000 + number, 0)
+        return var(number)
 
     def hole(self):
         site = self.site()
@@ -182,6 +190,14 @@ class Script:
         for _ in range(self.rng.choice((1, 1, 2))):
             right = self.maker.somewhere(right, self.recovery, self.rng.choice((0, 0.2)))
         return left, right
+
+    def passed_over(self):
+        """A new variable meets a Tuple with Unknown or Error first, and then one without: posed again, the rest of the first is met."""
+        new, other = self.fresh(), self.fresh()
+        parts = [(self.recovery(), self.variable()), (self.term(2), other)]
+        self.rng.shuffle(parts)
+        passed, bound = zip(*parts)
+        return (TUPLE, (new, new)), (TUPLE, ((TUPLE, bound), (TUPLE, passed)))
 
     def projecting(self):
         one = self.projection()
@@ -398,19 +414,39 @@ def pads(nodes):
     return THE_UNKNOWN if nodes == 1 else (TUPLE, (THE_UNKNOWN,) * (nodes - 1))
 
 
+def quiet_pair(rng, nodes):
+    """An order 4 with so many nodes, two or more, that binds nothing."""
+    first = rng.randint(1, nodes - 1)
+    pair = pads(first), pads(nodes - first)
+    if rng.random() < 0.2 and nodes > 2:
+        pair = var(0), pads(nodes - 1)
+    return order(4, rng.choice((0, 1, 9, 9)), *pair)
+
+
+def binding_pair(script, nodes):
+    """A new variable, and an order 4 with so many nodes, two or more, that binds it: compatible, incompatible or cancelled."""
+    rng, new = script.rng, script.fresh()
+    if nodes < 6 or rng.random() < 0.3:
+        pair, checks = (new, I8 if nodes == 2 else (TUPLE, (I8,) * (nodes - 2))), rng.choice((1, 9))
+    else:
+        # The last parts are met first, and then two others, which clash where they have parts and not as many.
+        first = rng.randint(1, nodes - 5)
+        pair = (TUPLE, (pads(first), new)), (TUPLE, (pads(nodes - 4 - first), I8))
+        checks = rng.choice((2, 3, 9, 9))
+    script.add(4, checks, *(pair if rng.random() < 0.5 else pair[::-1]))
+
+
 def fill_nodes(script, left):
-    """Pairs with so many nodes in all."""
+    """Pairs that bind, with so many nodes in all; between them some that bind nothing."""
     rng = script.rng
     while left > 0:
         nodes = max(2, min(left, rng.choice((2, 3, 10, 400, 1000, 1024, 2000, 2046))))
         if left - nodes == 1:
             nodes += 1
-        first = rng.randint(1, nodes - 1)
-        pair = pads(first), pads(nodes - first)
-        if rng.random() < 0.2 and nodes > 2:
-            pair = var(0), pads(nodes - 1)
-        script.add(4, rng.choice((0, 1, 9, 9)), *pair)
+        binding_pair(script, nodes)
         left -= nodes
+        if rng.random() < 0.3:
+            script.orders.append(quiet_pair(rng, rng.choice((2, 3, 10, 400, max(2, left)))))
 
 
 # Orders 9 to 20 with one node, two and three.
@@ -418,14 +454,26 @@ FEW_NODES = [bytes.fromhex(text) for text in (
     "0f 02", "0f 09 02", "0f 09 09 02", "10 00 02", "09 02 02", "0a 02 02", "0b 02 02", "0c 00 00 02", "0d 00 00 00 02",
     "0e 00 02 02", "11 00 00 00 00 00 00 02", "12 00 02 00 00 00", "13 02 00 00 00 02", "14 00 02")]
 
+NOT_ISSUED = var(600)
+# Orders 9 to 20 around a term: the bytes before it, the bytes behind it, and how many nodes these have.
+AROUND = [(bytes.fromhex(before), bytes.fromhex(behind), nodes) for before, behind, nodes in (
+    ("09", "02", 1), ("0a", "02", 1), ("0b", "02", 1), ("0c 00 00", "", 0), ("0d 00 00 00", "", 0), ("0e 00 02", "", 1), ("0f", "", 0),
+    ("10 00", "", 0), ("11 00 00 00 00 00 00", "", 0), ("12 00", "00 00 00", 0), ("13", "00 00 00 02", 1), ("14 00", "", 0))]
+
+
+def with_nodes(rng, nodes):
+    """One of the orders 9 to 20 with so many nodes, or with two where these are fewer."""
+    before, behind, more = rng.choice(AROUND)
+    return before + written(pads(max(2, nodes) - more)) + behind
+
 
 def at_the_edge(rng):
     """An order with a few nodes, now and then with a fault behind them."""
     pick = rng.random()
     if pick < 0.3:
-        data = order(rng.choice((3, 5)), rng.choice((THE_UNKNOWN, var(0), pads(2), pads(3), var(2))))
+        data = order(rng.choice((3, 5)), rng.choice((THE_UNKNOWN, var(0), pads(2), pads(3), NOT_ISSUED)))
     elif pick < 0.5:
-        data = order(4, 9, THE_UNKNOWN, rng.choice((var(0), I8, pads(2), var(2))))
+        data = order(4, 9, THE_UNKNOWN, rng.choice((var(0), I8, pads(2), NOT_ISSUED)))
     elif pick < 0.8:
         data = rng.choice(FEW_NODES)
     else:
@@ -455,8 +503,8 @@ def limits(rng):
             script.add(8)
         script.add(5, var(rng.choice((0, 509, 511, 512))))
     elif pick < 0.75:
-        script.add(0, 0, 0)
-        script.add(1, 1, rng.choice((2, 9)))
+        script.fresh()
+        script.request(1)
         fill_nodes(script, 2048 + rng.choice((-3, -2, -1, 0, 0, 0, 1)))
         for _ in range(rng.randint(2, 8)):
             script.orders.append(at_the_edge(rng))
@@ -465,7 +513,7 @@ def limits(rng):
         for _ in range(rng.randint(1, 4)):
             levels = rng.choice((199, 200, 200, 201, 201, 202))
             term = tall(levels, rng.choice((THE_UNKNOWN, var(0), var(0), var(1), I8)), rng)
-            kind = rng.choice((3, 4, 4, 5, 5, 15))
+            kind = rng.choice((3, 3, 3, 4, 4, 5, 5, 15))
             fields = {3: (term,), 4: (9, term, I8), 5: (term,), 15: (term,)}[kind]
             if kind == 4 and rng.random() < 0.5:
                 fields = 300, var(0), term
@@ -487,6 +535,44 @@ def limits(rng):
                 data = rng.choice((data[:-1], data + b"\x02", data[:-1] + b"\x14"))
             script.orders.append(data)
         script.add(8)
+    yield ROOM, script.sheet()
+
+
+def repeats(rng):
+    """Pairs of a small session, then nodes until few are left; then the pairs again, also with another k, and orders that just fit or do not."""
+    script, session, done = started(rng, 4), Sheet(), 0
+
+    def space_left():
+        nonlocal done
+        for each in script.orders[done:]:
+            session.step(each, ROOM)
+        done = len(script.orders)
+        return Sheet.NODES - session.kept
+    posed = [script.passed_over() if rng.random() < 0.3 else script.pair() for _ in range(rng.randint(1, 5))]
+    posed = [(script.checks(),) + pair for pair in posed]
+    for pair in posed + rng.choices(posed, k=rng.randrange(4)):
+        script.add(4, *pair)
+    fill_nodes(script, space_left() - rng.choice((0, 2, 3, 6, 10, 20, 40)))
+    for _ in range(rng.randint(4, 16)):
+        space, pick = space_left() + rng.choice((-1, 0, 0, 1)), rng.random()
+        if pick < 0.5:
+            script.add(4, *rng.choice(posed))
+        elif pick < 0.6:
+            script.add(4, script.checks(), *rng.choice(posed)[1:])
+        elif pick < 0.7:
+            script.orders.append(quiet_pair(rng, max(2, space)))
+        elif pick < 0.75:
+            binding_pair(script, max(2, space))
+        elif pick < 0.85:
+            posed.append((script.checks(),) + script.pair())
+            script.add(4, *posed[-1])
+        elif pick < 0.95:
+            script.orders.append(with_nodes(rng, space))
+        else:
+            script.orders.append(at_the_edge(rng))
+    shown = min(script.count(), max(0, space_left() - 1))
+    script.add(5, (TUPLE, tuple(var(number) for number in range(shown))))
+    script.add(8)
     yield ROOM, script.sheet()
 
 
@@ -744,9 +830,9 @@ def every_room(rng):
             yield room_left, sheet
 
 
-FAMILIES = ((session, 0.42), (checks, 0.05), (chain, 0.10), (limits, 0.06), (room, 0.05), (full, 0.004), (doubled, 0.03),
+FAMILIES = ((session, 0.41), (checks, 0.05), (chain, 0.09), (limits, 0.06), (repeats, 0.02), (room, 0.05), (full, 0.004), (doubled, 0.03),
             (large_doubled, 0.002), (deep, 0.006), (damaged, 0.25), (mixed, 0.004))
-JUDGED = ((session, 0.31), (checks, 0.02), (chain, 0.08), (limits, 0.06), (room, 0.03), (full, 0.001), (doubled, 0.02),
+JUDGED = ((session, 0.30), (checks, 0.02), (chain, 0.07), (limits, 0.06), (repeats, 0.02), (room, 0.03), (full, 0.001), (doubled, 0.02),
           (large_doubled, 0.0005), (deep, 0.004), (damaged, 0.18), (mixed, 0.001), (operations, 0.25), (edges, 0.03),
           (shadowed, 0.05), (every_room, 0.004))
 

@@ -1,5 +1,5 @@
 #!/usr/bin/env python3
-"""Whole sheets, written from document 01 and the Rust's Solver.
+"""Whole sheets, written from documents 01 and 02 and the Rust's Solver.
 
 run(sheet) is what a run gives: the reason, the number of orders answered and
 the answers. program(data) is what the sheet program writes.
@@ -393,13 +393,14 @@ class Sheet:
         fields.used_up()
         if self.kept + fields.nodes_read > self.NODES:
             raise Refused(7)
+        before = self.revision
         value = getattr(self, operation)(*parts)
-        self.keep(order[0], fields.nodes_read, value)
+        self.keep(order[0], fields.nodes_read, value, self.revision != before)
         return value
 
-    def keep(self, kind, nodes, value):
-        """Order 4 keeps its nodes whatever it answers."""
-        if kind == 4:
+    def keep(self, kind, nodes, value, bound):
+        """Order 4 keeps all its nodes where it bound a variable, and none where it bound nothing, whatever it answers."""
+        if kind == 4 and bound:
             self.kept += nodes
 
     def plain_value(self, order):

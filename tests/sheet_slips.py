@@ -683,15 +683,130 @@ constant("variables_513", VARIABLES=513)
 constant("levels_199", FIELDS=type("levels_199", (Fields,), {"LEVELS": 199}))
 constant("levels_201", FIELDS=type("levels_201", (Fields,), {"LEVELS": 201}))
 constant("kind_20_unlisted", KINDS=tuple(range(20)))
-constant("compatible_pairs_keep_no_nodes", keep=lambda self, kind, nodes, value:
-         None if value == b"\x01" else Sheet.keep(self, kind, nodes, value))
-constant("incompatible_pairs_keep_no_nodes", keep=lambda self, kind, nodes, value:
-         None if value == b"\x00" else Sheet.keep(self, kind, nodes, value))
-constant("cancelled_pairs_keep_no_nodes", keep=lambda self, kind, nodes, value:
-         None if value == b"\x02" else Sheet.keep(self, kind, nodes, value))
-constant("order_5_keeps_nodes", keep=lambda self, kind, nodes, value: Sheet.keep(self, 4 if kind == 5 else kind, nodes, value))
-constant("order_3_keeps_nodes", keep=lambda self, kind, nodes, value: Sheet.keep(self, 4 if kind == 3 else kind, nodes, value))
+
+
+def keeping(name, rule):
+    """A slip of what order 4 keeps; rule(verdict, bound) says whether it keeps its nodes."""
+    def keep(self, kind, nodes, value, bound):
+        if kind == 4 and rule(value[0], bound):
+            self.kept += nodes
+    constant(name, keep=keep)
+
+
+keeping("pairs_keep_no_nodes", lambda verdict, bound: False)
+keeping("pairs_keep_in_any_case", lambda verdict, bound: True)
+keeping("pairs_keep_where_they_bind_nothing", lambda verdict, bound: not bound)
+keeping("pairs_keep_where_compatible", lambda verdict, bound: verdict == COMPATIBLE)
+keeping("compatible_pairs_keep_no_nodes", lambda verdict, bound: bound and verdict != COMPATIBLE)
+keeping("incompatible_pairs_keep_no_nodes", lambda verdict, bound: bound and verdict != INCOMPATIBLE)
+keeping("cancelled_pairs_keep_no_nodes", lambda verdict, bound: bound and verdict != CANCELLED)
+keeping("compatible_pairs_keep_in_any_case", lambda verdict, bound: bound or verdict == COMPATIBLE)
+keeping("incompatible_pairs_keep_in_any_case", lambda verdict, bound: bound or verdict == INCOMPATIBLE)
+keeping("cancelled_pairs_keep_in_any_case", lambda verdict, bound: bound or verdict == CANCELLED)
+constant("order_5_keeps_nodes", keep=lambda self, kind, nodes, value, bound: Sheet.keep(self, 4, nodes, value, bound or kind == 5))
+constant("order_3_keeps_nodes", keep=lambda self, kind, nodes, value, bound: Sheet.keep(self, 4, nodes, value, bound or kind == 3))
 constant("kept_nodes_not_counted_in_orders_9_to_20", plain_value=lambda self, order: self.PLAIN(order).order())
+
+
+@slip
+class a_pair_that_binds_nothing_gives_back_all(Sheet):
+    def keep(self, kind, nodes, value, bound):
+        super().keep(kind, nodes, value, bound)
+        if kind == 4 and not bound:
+            self.kept = 0
+
+
+@slip
+class a_pair_keeps_a_node_for_each_binding(Sheet):
+    def constrain_order(self, checks, left, right):
+        before = self.revision
+        answer = super().constrain_order(checks, left, right)
+        self.kept += self.revision - before
+        return answer
+
+    def keep(self, kind, nodes, value, bound):
+        pass
+
+
+@slip
+class a_pair_keeps_only_what_it_bound(Sheet):
+    """The nodes of the terms that became bindings, and not those beside them."""
+
+    def constrain_order(self, checks, left, right):
+        before = self.bindings[:]
+        answer = super().constrain_order(checks, left, right)
+        self.kept += sum(self.count(term) for old, term in zip(before, self.bindings) if old is not term)
+        return answer
+
+    def count(self, term):
+        return 1 + sum(map(self.count, term.below))
+
+    def keep(self, kind, nodes, value, bound):
+        pass
+
+
+@slip
+class a_pair_posed_again_keeps_no_nodes(Sheet):
+    """Whether or not it binds then."""
+
+    def solver_value(self, order):
+        posed = self.__dict__.setdefault("posed", set())
+        kept = self.kept
+        value = super().solver_value(order)
+        if order in posed:
+            self.kept = kept
+        posed.add(order)
+        return value
+
+
+class SevenLater(Sheet):
+    """Tests 7 after order 4 was carried out; where refused(bound) says so the pair is refused."""
+
+    def refused(self, bound):
+        return True
+
+    def constrain_order(self, checks, left, right):
+        before = self.bindings[:], dict(self.numeric), self.revision, self.bound
+        answer = super().constrain_order(checks, left, right)
+        if self.kept + self.posed > 2048 and self.refused(self.revision != before[2]):
+            self.taken_back(before)
+            raise Refused(7)
+        return answer
+
+    def taken_back(self, before):
+        self.bindings, self.numeric, self.revision, self.bound = before
+        self.resolved = {}
+
+    def solver_value(self, order):
+        if order[0] != 4:
+            return super().solver_value(order)
+        names, _ = reference.ORDERS[4]
+        fields = self.FIELDS(order[1:], self.issued())
+        fields.row(names, 1)
+        fields.used_up()
+        self.posed, self.NODES = fields.nodes_read, 1 << 32
+        try:
+            return super().solver_value(order)
+        finally:
+            del self.NODES
+
+
+@slip
+class refused_pair_binds(SevenLater):
+    def taken_back(self, before):
+        pass
+
+
+@slip
+class pairs_that_bind_nothing_not_refused(SevenLater):
+    def refused(self, bound):
+        return bound
+
+
+@slip
+class pairs_that_bind_not_refused(SevenLater):
+    def refused(self, bound):
+        return not bound
 
 
 @slip
@@ -929,7 +1044,7 @@ class the_order_that_does_not_fit_counts(OtherRun):
 
 
 # Bases of slips, without a fault of their own: nothing may tell them from Sheet.
-PLAIN = (Rollback, OtherShape, OtherRun)
+PLAIN = (Rollback, OtherShape, SevenLater, OtherRun)
 
 
 if __name__ == "__main__":

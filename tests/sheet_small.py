@@ -10,7 +10,8 @@ A small session has a few variables, some of them requested or deferred, and
 a few pairs. Many of them stand in one sheet, each with variables of its own,
 so that they have nothing to do with each other. Behind its pairs stands what
 its variables resolve to; at the end of the sheet both defaults and the same
-again.
+again. Then the kept nodes are shown: an order 16 with the nodes that are left,
+by the reference, and one with a node more.
 
 The groups:
   one      every pair of a list with each kind of term and its parts, 2 variables
@@ -19,6 +20,7 @@ The groups:
   checks   every pair of a list of larger terms, with every k up to 8
   joins    3 variables with every request, every sequence of up to three links or values
   defers   3 variables, every choice of deferrals and requests, up to two links or values
+  again    every pair of a list of terms with recovery terms, posed three times, with every k up to 6, 3 variables
 
 --every takes one session of N. The other options are those of sheet_compare.py.
 """
@@ -75,6 +77,9 @@ LARGER = [(TUPLE, (X, Y, X)), (TUPLE, (I8, I32, X)), (TUPLE, (Y, (ARRAY, I32), Y
           (STRUCT, (0, (Y, I32), ((0, Y), (1, Y)))), (FUNCTION, (X, Y), X), (FUNCTION, (I8, I32), Y),
           (FUNCTION, (Y, X), (ARRAY, X)), (MAP, 0, (ARRAY, X), (TUPLE, (Y,))), (MAP, 1, (ARRAY, Y), (TUPLE, (I8,))), (MAP, 1, Y, X),
           X, (ARRAY, (ARRAY, (ARRAY, Y))), (ARRAY, (ARRAY, (ARRAY, I8)))]
+RECOVERING = [X, (TUPLE, (X, X)), (TUPLE, (X, Y)), (TUPLE, ((TUPLE, (Y, Z)), (TUPLE, (THE_UNKNOWN, I32)))), (TUPLE, (Y, THE_ERROR)),
+              (TUPLE, ((TUPLE, (THE_UNKNOWN, Z)), (TUPLE, (I8, Y)))), (TUPLE, ((TUPLE, (Z, I8)), (TUPLE, (I32, THE_UNKNOWN)))),
+              (TUPLE, ((ARRAY, Y), (ARRAY, THE_UNKNOWN))), (TUPLE, (I8, I32)), (TUPLE, ((SET, 0, X), (SET, 1, Y))), (ARRAY, Z), Z, I8]
 LINKS = [(a, b) for a in (X, Y, Z) for b in (X, Y, Z) if a != b]
 VALUES = [(a, value) for a in (X, Y, Z) for value in (I8, F32)]
 
@@ -127,8 +132,15 @@ def group_defers():
                 yield requests, tuple(at for at in range(3) if deferred[at]), row
 
 
+def group_again():
+    for requests in ((None, None, None), (None, 2, None), (2, None, 9)):
+        for checks in (0, 1, 2, 3, 4, 5, 6, 50):
+            for left, right in itertools.product(RECOVERING, repeat=2):
+                yield requests, (), ((checks, left, right),) * 3
+
+
 GROUPS = {"one": group_one, "two": group_two, "three": group_three, "checks": group_checks, "joins": group_joins,
-          "defers": group_defers}
+          "defers": group_defers, "again": group_again}
 
 
 # Sheets
@@ -187,12 +199,24 @@ def sheets(name, every):
     yield len(packed), sheet_of(packed, (6, 7))
 
 
+def kept_shown(sheet):
+    """The sheet with two orders 16 behind it that show how many nodes are kept, and its run."""
+    session = reference.Sheet()
+    run = session.run(sheet, ROOM)
+    space = reference.Sheet.NODES - session.kept
+    more = b"".join(framed(b"\x10\x00" + written((TUPLE, (THE_UNKNOWN,) * (nodes - 1)))) for nodes in (space, space + 1))
+    last = session.run(more, ROOM - len(run.output))
+    return sheet + more, Run(max(run.reason, last.reason), run.orders + last.orders, run.output + last.output)
+
+
 def check(programs, names, every):
     passed = left = 0
     for name in names:
         sessions = count = 0
         for chunk in in_chunks(sheets(name, every)):
-            wanted = [reference.run(sheet) for _, sheet in chunk]
+            shown = [kept_shown(sheet) for _, sheet in chunk]
+            chunk = [(many, sheet) for (many, _), (sheet, _) in zip(chunk, shown)]
+            wanted = [run for _, run in shown]
             if any(run.reason != 0 for run in wanted):
                 sys.exit("a sheet of group %s does not run to its end" % name)
             for who, program in programs.items():

@@ -55,7 +55,7 @@ REFUSALS = {
     4: "a term of more than 200 levels",
     5: "members that do not strictly rise",
     6: "a variable that is not issued",
-    7: "more than 2,048 nodes, those kept and those of this order",
+    7: "more than 2,048 nodes, those of this order and those kept by pairs that bound a variable",
     8: "a new variable while 512 exist",
     9: "more than 8,192 children met in normalising",
 }

@@ -111,9 +111,13 @@ impl Session {
         let checks = fields.number()?;
         let (left, right) = (fields.term(1)?, fields.term(1)?);
         fields.end()?;
-        self.kept = fields.nodes();
-        let token = CancellationToken(Cell::new(checks));
-        Ok(match self.solver.constrain(&left, &right, &token) {
+        let (before, token) = (self.solver.revision, CancellationToken(Cell::new(checks)));
+        let answer = self.solver.constrain(&left, &right, &token);
+        // The nodes of a pair that bound nothing are not kept.
+        if self.solver.revision != before {
+            self.kept = fields.nodes();
+        }
+        Ok(match answer {
             Ok(compatible) => compatible.into(),
             Err(_) => 2,
         })

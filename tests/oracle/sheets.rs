@@ -92,9 +92,13 @@ impl Session {
                 let checks = fields.number()?;
                 let (left, right) = (fields.term(1)?, fields.term(1)?);
                 fields.end()?;
-                self.kept = fields.nodes();
-                let token = CancellationToken(Cell::new(checks));
-                Ok(within_nodes(MET, || solver.constrain(&left, &right, &token)).map(|answer| match answer {
+                let (before, token) = (solver.revision, CancellationToken(Cell::new(checks)));
+                let answer = within_nodes(MET, || solver.constrain(&left, &right, &token));
+                // The nodes of a pair that bound nothing are not kept.
+                if solver.revision != before {
+                    self.kept = fields.nodes();
+                }
+                Ok(answer.map(|answer| match answer {
                     Ok(compatible) => vec![compatible.into()],
                     Err(_) => vec![2],
                 }))

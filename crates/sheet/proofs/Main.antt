@@ -4,13 +4,13 @@ use mathlib.Core.Path.{_≡_, sym, ap, _∙_}
 use mathlib.Core.Bool.{true, false}
 use mathlib.Core.List.{List, [], _∷_, _++_}
 use mathlib.Core.Logic.{_⊎_, _↔_}
-use mathlib.Core.Option.{none}
+use mathlib.Core.Option.{none, some}
 use Prim.Native.Nat.{ℕ, _+_, _-_, _≤_, _<_}
 use native.Mathlib.Omega.{arith}
 use lib.ListN.{length, getD, take, drop, replicate}
 use Rattle.solver.specs.Terms.Result.{got}
 use Rattle.solver.specs.Terms.Number.{number, shortest}
-use Rattle.solver.specs.Terms.Term.{Term, var, depth, AllVars, bytes}
+use Rattle.solver.specs.Terms.Term.{Term, var, depth, size, AllVars, bytes}
 use Rattle.solver.specs.Terms.Formed.{Formed}
 use Rattle.solver.specs.Terms.Reading as reading
 use Rattle.solver.specs.Terms.Tree.{Nominal}
@@ -44,6 +44,7 @@ use Rattle.sheet.specs.OrdersInTurn.{sessionAfter, ordersFrom, answersTo
 use Rattle.sheet.specs.Commands.{command}
 use Rattle.sheet.specs.Demand3.{InFragment, PairsInFragment, Premises, historyOf}
 use Rattle.sheet.specs.PairsAnswered.{SomePairAnswered}
+use Rattle.sheet.specs.RepeatedPairs.{repeated, PosedAgain}
 use Rattle.sheet.specs.RustBytes.{frames, AsTheRust, AllSolved}
 use Rattle.sheet.specs.RobinsonBytes.{FirstOrder, PlainOrder, AnsweredSo, DecidesOrders}
 use Rattle.sheet.specs.Stopping.{behind, Stopped}
@@ -53,6 +54,7 @@ use Rattle.sheet.proofs.Laws.Bytes.Demand3Bytes.{demand-3-bytes}
 use Rattle.sheet.proofs.Laws.Bytes.PairsAnsweredLaws.{incompatible-answered, cancelled-answered}
 use Rattle.sheet.proofs.Laws.Bytes.Demand3Run.{orders-bytes}
 use Rattle.sheet.proofs.Laws.Bytes.InvariantBytes as session
+use Rattle.sheet.proofs.Laws.Bytes.RepeatedPairLaws as pairs
 use Rattle.sheet.proofs.Laws.Bytes.RustBytesLaws.{rust-bytes}
 use Rattle.sheet.proofs.Laws.Bytes.RobinsonBytesLaws.{robinson-bytes, robinson-orders, settled-bytes, posed-plain-bytes}
 use Rattle.sheet.proofs.Laws.Run.CallLaws as call
@@ -159,6 +161,28 @@ plain-by-terms = posed-plain-bytes documentLimits
 pub settles : (bs : List (List ℕ)) (t u : Term)
     → (let s = sessionAfter documentLimits fresh bs in orders.known s t ≡ true → orders.known s u ≡ true → (K : ℕ) × SettledBy loose K (s .solver) t u)
 settles = settled-bytes documentLimits
+
+-- PAIRS THAT BIND NOTHING. Document 02: "An order 4 that makes no binding, whether compatible, incompatible or cancelled, shall keep no nodes.": it leaves the
+-- session as it was. "of earlier pairs 7 counts only those that bound something": one that does keeps the nodes of both its terms.
+pub no-binding : (s : Session) (b : List ℕ) (k : ℕ) (t u : Term) → command s b ≡ some (orders.pair k t u)
+    → orderOf documentLimits s b .session .solver .revision ≡ s .solver .revision → orderOf documentLimits s b .session ≡ s
+no-binding = pairs.quiet-order documentLimits
+
+pub binding-keeps : (s : Session) (b : List ℕ) (k : ℕ) (t u : Term) → command s b ≡ some (orders.pair k t u)
+    → (orderOf documentLimits s b .session .solver .revision ≡ s .solver .revision → ⊥) → orderOf documentLimits s b .session .kept ≡ s .kept + (size t + size u)
+binding-keeps = pairs.bound-order documentLimits
+
+-- "A script that repeats satisfied pairs must then run through while answers fit and each pair has space beside the kept nodes.": any order that leaves the session
+-- is answered alike however often it is given; and so is, with "compatible", a pair without Unknown and Error that was answered compatible before, whatever orders
+-- came between, with as many checks.
+pub repeats : (s : Session) (b : List ℕ) → orderOf documentLimits s b .session ≡ s → (j : ℕ)
+    → (answersTo documentLimits s (replicate j b) ≡ repeated j (framed (orderOf documentLimits s b .answer))) × (sessionAfter documentLimits s (replicate j b) ≡ s)
+repeats = pairs.repeats documentLimits
+
+pub satisfied-repeats : (bs : List (List ℕ)) (b : List ℕ) (cs : List (List ℕ)) (c : List ℕ)
+    → (let s = sessionAfter documentLimits fresh bs in let y = sessionAfter documentLimits (orderOf documentLimits s b .session) cs in
+    PosedAgain documentLimits s y b c → (j : ℕ) → (answersTo documentLimits y (replicate j c) ≡ repeated j (2 ∷ 0 ∷ 1 ∷ [])) × (sessionAfter documentLimits y (replicate j c) ≡ y))
+satisfied-repeats = pairs.satisfied-repeats documentLimits
 
 -- the revision "is the number of bound variables", no variable leads to itself, and resolving comes to an end
 pub in-order : (bs : List (List ℕ)) → Invariant (sessionAfter documentLimits fresh bs)

@@ -106,7 +106,7 @@ fn resolve_order(
     resolve_term(x, &a[..top], &b[..top], &c[half..], d, out, to)
 }
 
-// Order 4: where it is answered, its tokens are those of the session.
+// Order 4: where it bound a variable, its tokens are those of the session.
 fn pair_order(
     x: Solver,
     half: usize,
@@ -129,6 +129,7 @@ fn pair_order(
     let k = o.first.value as u32;
     let q = o.third.place;
     let top = o.top;
+    let strict = false;
     constrain_order(
         x,
         &a[..top],
@@ -138,6 +139,7 @@ fn pair_order(
         q,
         k,
         o.nodes,
+        strict,
         out,
         to,
     )

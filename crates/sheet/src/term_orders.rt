@@ -15,8 +15,8 @@ ghost use Rattle.solver.specs.Session.{Session};
 ghost use Rattle.solver.specs.Orders as orders;
 ghost use Rattle.solver.specs.Words.Worklist.{Zero};
 ghost use Rattle.solver.specs.Words.ConstrainContract.{Scratch, pendingFrom};
-ghost use Rattle.solver.specs.Words.SessionRepresentation.{limitsOf, verdictNumber};
-ghost use Rattle.sheet.specs.Sheet.{solve};
+ghost use Rattle.solver.specs.Words.SessionRepresentation.{limitsOf, notion, verdictNumber};
+ghost use Rattle.sheet.specs.Sheet.{solve, solveBy};
 ghost use Rattle.sheet.specs.Words.FramingContract.{OutputRoom, outputAt};
 ghost use Rattle.solver.specs.Words.OrderTerms.{Poses, PosesPair, Frames};
 ghost use Rattle.sheet.specs.Words.SessionOrdersContract.{lent, Does, DoesPair};
@@ -77,7 +77,7 @@ fn verdict_number(v: Verdict) -> u8
     }
 }
 
-// Order 4: the two terms after the session's tokens, with k checks; `nodes` are kept with theirs.
+// Order 4: the two terms after the session's tokens, with k checks; `nodes` counts the kept nodes and theirs. With `strict` the access of Set and Map counts.
 pub fn constrain_order(
     x: Solver,
     kinds: &[u32],
@@ -87,23 +87,25 @@ pub fn constrain_order(
     q: usize,
     k: u32,
     nodes: usize,
+    strict: bool,
     out: &mut [u8],
     to: usize,
 ) -> AfterOrder
-    requires held { ⌜ ((z : Session) × (t u : Term) × PosesPair loose x (now kinds) (now vals) (now tables) z q t u × (nodes ≡ z .kept + (size t + size u))) ⌝ }
+    requires held { ⌜
+        ((z : Session) × (t u : Term) × PosesPair (notion strict) x (now kinds) (now vals) (now tables) z q t u × (nodes ≡ z .kept + (size t + size u))) ⌝ }
     requires areas { ⌜ Scratch x (now kinds) (now tables) (now work) × Zero (drop (pendingFrom x) (now tables)) ⌝ }
     requires room { ⌜ OutputRoom (now out) to ⌝ }
     ensures clear { λ _. ⌜ Zero (now (work .exit)) ⌝ }
-    ensures does { λ r. ⌜ ((z : Session) (t u : Term) → PosesPair loose x (now (kinds .entry)) (now (vals .entry)) (now (tables .entry)) z q t u
+    ensures does { λ r. ⌜ ((z : Session) (t u : Term) → PosesPair (notion strict) x (now (kinds .entry)) (now (vals .entry)) (now (tables .entry)) z q t u
         → nodes ≡ z .kept + (size t + size u)
         → DoesPair (lent x (now (kinds .entry)) (now (vals .entry)) (now (tables .entry))) (r .solver) (now (tables .exit)) z
-        (solve (limitsOf x) z (orders.pair k t u)) (outputAt (now (out .entry)) to) (outputAt (now (out .exit)) (r .next))) ⌝ }
+        (solveBy (limitsOf x) (notion strict) z (orders.pair k t u)) (outputAt (now (out .entry)) to) (outputAt (now (out .exit)) (r .next))) ⌝ }
 {
     if out.len() - to < 3 {
         let next = out.len() + 1;
         return AfterOrder { solver: x, next };
     }
-    let r = x.constrain(kinds, vals, tables, work, q, k, nodes, false);
+    let r = x.constrain(kinds, vals, tables, work, q, k, nodes, strict);
     let solver = r.solver;
     let v = r.verdict;
     let a = verdict_number(v);

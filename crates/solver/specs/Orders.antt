@@ -72,6 +72,11 @@ known s t = not (meets (beyond (issued s)) always t)
 abbrev pub moved : Solver → Solver → Bool
 moved z y = not (eqb (y .revision) (z .revision))
 
+-- the nodes that an order 4 of m nodes keeps: all of them where it made a binding, else none
+abbrev pub keeps : Bool → ℕ → ℕ
+keeps true m = m
+keeps false m = 0
+
 module _ (lim : Limits) where
   -- 8: "a new variable while 512 exist"
   abbrev pub full : Session → Bool
@@ -113,7 +118,7 @@ module _ (lim : Limits) where
 
   module _ (n : Notion) where
     abbrev pub posing : Session → ℕ → Out Solver → Step
-    posing s m o = keep s (solverOf o) m gives verdict (verdictOf o)
+    posing s m o = keep s (solverOf o) (keeps (moved (s .solver) (solverOf o)) m) gives verdict (verdictOf o)
 
     unfoldable pub order : Session → Command → Step
     order s (variable site slot) = variableAt s (at site slot) (find (at site slot) (s .places)) (full s)

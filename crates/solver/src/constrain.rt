@@ -24,11 +24,11 @@ ghost use Rattle.terms.specs.Term.{Term, size};
 ghost use Rattle.solver.specs.Shapes.{sameShape};
 ghost use Rattle.solver.specs.Constrain as solving;
 ghost use Rattle.solver.specs.Constrain.{Pair, recovery, projects, decompose};
-ghost use Rattle.solver.specs.Session.{Limits, Session, keep};
+ghost use Rattle.solver.specs.Session.{Limits, Session};
 ghost use Rattle.solver.specs.Words.Worklist.{Zero};
 ghost use Rattle.solver.specs.Words.SessionRepresentation.{notion, Reachable, Represents};
 ghost use Rattle.solver.specs.Words.OrderTerms.{PosesPair};
-ghost use Rattle.solver.specs.Words.ConstrainContract.{Waiting, Known, Scratch, Facing, Nodes, Due, After, Constrained, pendingFrom};
+ghost use Rattle.solver.specs.Words.ConstrainContract.{Waiting, Known, Scratch, Facing, Nodes, Due, After, Constrained, Posed, pendingFrom};
 
 // Whether a token is the head of an Unknown or Error, or another is.
 pub fn either_recovers(left: u32, right: u32) -> bool
@@ -215,7 +215,8 @@ impl Solver {
             → Represents self (now (kinds .entry)) (now (vals .entry)) (now (tables .entry)) s
             → Known (now (kinds .entry)) (now (vals .entry)) s p t
             → Known (now (kinds .entry)) (now (vals .entry)) s q u
-            → Constrained self (now (kinds .entry)) (now (vals .entry)) (now (tables .exit)) s (solving.constrain (notion strict) k (s .solver) t u) r) ⌝ }
+            → Constrained self (now (kinds .entry)) (now (vals .entry)) (now (tables .entry)) (now (tables .exit)) s
+            (solving.constrain (notion strict) k (s .solver) t u) r) ⌝ }
         ensures clear { λ _. ⌜ Zero (now (work .exit)) ⌝ }
     {
         let base = 7 * self.variables;
@@ -254,8 +255,8 @@ impl Solver {
             verdict: Verdict::Incompatible,
         }
     }
-    // Order 4: the two terms after the session's tokens, the second at q, are constrained to be equal, with k checks; `nodes` are kept with
-    // theirs, and their tokens are the session's from now on.
+    // Order 4: the two terms after the session's tokens, the second at q, are constrained to be equal, with k checks; `nodes` counts the kept
+    // nodes and theirs. Where a variable was bound their tokens are the session's from now on; else they are given back, and no node is kept.
     pub fn constrain(
         mut self,
         kinds: &[u32],
@@ -275,13 +276,25 @@ impl Solver {
             ((s : Session) (t u : Term)
             → PosesPair (notion strict) self (now (kinds .entry)) (now (vals .entry)) (now (tables .entry)) s q t u
             → nodes ≡ s .kept + (size t + size u)
-            → Constrained self (now (kinds .entry)) (now (vals .entry)) (now (tables .exit)) (keep s (s .solver) (size t + size u))
+            → Posed (notion strict) self (now (kinds .entry)) (now (vals .entry)) (now (tables .entry)) (now (tables .exit)) s (size t + size u)
             (solving.constrain (notion strict) k (s .solver) t u) r) ⌝ }
         ensures clear { λ _. ⌜ Zero (now (work .exit)) ⌝ }
     {
         let p = self.top;
+        let kept = self.kept;
+        let revision = self.revision;
         self.kept = nodes;
         self.top = kinds.len();
-        self.solve_pair(kinds, vals, tables, work, p, q, k, strict)
+        let r = self.solve_pair(kinds, vals, tables, work, p, q, k, strict);
+        let verdict = r.verdict;
+        self = r.solver;
+        if self.revision == revision {
+            self.kept = kept;
+            self.top = p;
+        }
+        Solved {
+            solver: self,
+            verdict,
+        }
     }
 }

@@ -83,11 +83,14 @@ abbrev pub defaultsBy : Bool → Command
 defaultsBy false = numbers
 defaultsBy true = nevers
 
--- order 4 done: where its answer fits, the session after it is held by all of the tokens; else all is as it was
+-- Order 4 done. Where a variable was bound, the session after it is held by all of the tokens. Else the counters and the table are as they were: nothing was
+-- bound, and the session is the same, or the answer does not fit.
 pub record DoesPair (m : Lent) (y : Solver) (us : List ℕ) (z : Session) (st : Step) (w v : Output) : Type 0 where
   pub answer : Framed (st .answer) (w .bytes) (w .at) (v .bytes) (v .at)
-  pub whole : w .at + length (framed (st .answer)) ≤ length (w .bytes) → Represents y (m .kinds) (m .vals) us (st .session)
-  pub long : length (w .bytes) < w .at + length (framed (st .answer)) → (y ≡ m .counters) × (us ≡ m .table)
+  pub bound : (y .revision ≡ m .counters .revision → ⊥) → Represents y (m .kinds) (m .vals) us (st .session)
+  pub quiet : y .revision ≡ m .counters .revision → (y ≡ m .counters) × (us ≡ m .table)
+  pub same : y .revision ≡ m .counters .revision → w .at + length (framed (st .answer)) ≤ length (w .bytes) → st .session ≡ z
+  pub long : length (w .bytes) < w .at + length (framed (st .answer)) → y .revision ≡ m .counters .revision
   pub blank : Zero (drop (pendingFrom (m .counters)) us)
   pub variables : y .variables ≡ m .counters .variables
   pub nodes : y .nodes ≡ m .counters .nodes

@@ -74,9 +74,13 @@ record Examples : Type 0 where
   -- holes and deferrals; "never defaults may bind a number variable"; a variable not issued is refused
   nevermore : answers loose (hole 7 ∷ number 7 (requested 2) ∷ hole 7 ∷ defer (var 1) ∷ nevers ∷ nevers ∷ resolving (var 1) ∷ resolving (var 2) ∷ variable 7 1 ∷ number 7 (requested 9) ∷ [])
       ≡ term (var 0) ∷ term (var 1) ∷ term (var 0) ∷ nothing ∷ changed true ∷ changed false ∷ term (builtin 10) ∷ refused 6 ∷ term (var 1) ∷ term (builtin 10) ∷ []
-  -- refusals 8 and 7, with room for one variable and five nodes; 6 comes before 7, and a pair keeps its nodes whatever its answer
-  limits : replies (record { variables = 1; nodes = 5 }) loose fresh (variable 7 0 ∷ hole 7 ∷ variable 7 0 ∷ pair 0 (var 0) I32 ∷ resolving (array (array I32)) ∷ resolving (tuple₂ (var 0) I32) ∷ pair 9 (array (var 0)) (array (var 1)) ∷ pair 9 (array (var 0)) (array I32) ∷ revision ∷ [])
-      ≡ term (var 0) ∷ refused 8 ∷ term (var 0) ∷ verdict 2 ∷ term (array (array I32)) ∷ term (tuple₂ (var 0) I32) ∷ refused 6 ∷ refused 7 ∷ count 0 ∷ []
+  -- refusals 8 and 7, with room for one variable and five nodes; 6 comes before 7. A pair that binds nothing keeps no nodes, and one that
+  -- binds keeps all of its own
+  limits : replies (record { variables = 1; nodes = 5 }) loose fresh (variable 7 0 ∷ hole 7 ∷ variable 7 0 ∷ pair 0 (var 0) I32 ∷ resolving (array (array I32)) ∷ resolving (tuple₂ (var 0) I32) ∷ pair 9 (array (var 0)) (array (var 1)) ∷ pair 9 (array (var 0)) (array I32) ∷ revision ∷ pair 9 (var 0) I32 ∷ [])
+      ≡ term (var 0) ∷ refused 8 ∷ term (var 0) ∷ verdict 2 ∷ term (array (array I32)) ∷ term (tuple₂ (var 0) I32) ∷ refused 6 ∷ verdict 1 ∷ count 1 ∷ refused 7 ∷ []
+  -- pairs that bind nothing, repeated: compatible, incompatible and cancelled, each with room for its own nodes
+  repeats : replies (record { variables = 1; nodes = 4 }) loose fresh (pair 9 (array I32) (array I32) ∷ pair 9 (array I32) (array I32) ∷ pair 9 (array I32) (array (builtin 3)) ∷ pair 1 (array I32) (array (builtin 3)) ∷ pair 9 (array I32) (array I32) ∷ pair 9 (array (array I32)) (array I32) ∷ [])
+      ≡ verdict 1 ∷ verdict 1 ∷ verdict 0 ∷ verdict 2 ∷ verdict 1 ∷ refused 7 ∷ []
 
 examples : Examples
 unfolding answers loose exact ℕ-discrete put size nums row tag class children subs same among meets
@@ -97,4 +101,5 @@ examples = record {
   parts = refl;
   nevermore = refl;
   limits = refl;
+  repeats = refl;
 }

@@ -10,6 +10,7 @@
 --   CheckContractLaws  what `unify_variable`, `decompose` and `check_pair` ask of the words, and what their answers
 --                      leave
 --   PairLoopLaws       the loop of `constrain`: what it carries from check to check
+--   PosedLaws          order 4 as a whole: the session after it
 pub mod StrictSubterm
 pub mod TokenNesting
 pub mod RotateLaws
@@ -20,3 +21,4 @@ pub mod PushLaws
 pub mod CheckStepWords
 pub mod CheckContractLaws
 pub mod PairLoopLaws
+pub mod PosedLaws

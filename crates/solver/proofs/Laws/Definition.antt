@@ -8,6 +8,7 @@
 --   RecoveryLaws         no binding holds Unknown or Error
 --   LaterLaws            what is bound and issued stays so
 --   RequestLaws          requests of order 1: what they admit, how two meet
+--   QuietLaws            an order 4 that makes no binding leaves the session as it was
 pub mod FamilyLaws
 pub mod FormedTest
 pub mod SolverInvariantLaws
@@ -17,3 +18,4 @@ pub mod DefaultLaws
 pub mod RecoveryLaws
 pub mod LaterLaws
 pub mod RequestLaws
+pub mod QuietLaws

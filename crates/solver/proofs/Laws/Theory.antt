@@ -6,6 +6,7 @@
 --   TheorySimulation  each order and each answer, viewed
 --   Demand3Laws       demand 3
 --   AgainLaws         a compatible pair posed again binds nothing and is not incompatible
+--   RepeatLaws        so a script that repeats it runs through
 pub mod TheoryView
 pub mod Signature
 pub mod TheoryViewLaws
@@ -13,3 +14,4 @@ pub mod ConstrainView
 pub mod TheorySimulation
 pub mod Demand3Laws
 pub mod AgainLaws
+pub mod RepeatLaws

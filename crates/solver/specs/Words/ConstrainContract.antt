@@ -4,7 +4,7 @@ use mathlib.Core.Logic.{_⊎_}
 use mathlib.Core.Option.{none}
 use mathlib.Core.Path.{_≡_}
 use Prim.Native.Nat.{ℕ, _+_, _*_, _≤_, _<_}
-use lib.ListN.{length, getD, drop}
+use lib.ListN.{length, getD, take, drop}
 use Rattle.terms.specs.Term.{Term, Parts, node, AllVars, Held}
 use Rattle.terms.specs.Tree.{subs}
 use Rattle.solver.specs.declared.Solver.{Solver}
@@ -16,8 +16,8 @@ use Rattle.solver.specs.Constrain as solving
 use Rattle.solver.specs.Constrain.{Pair, checkPair, top}
 use Rattle.solver.specs.Session.{Limits, Session, issued, withSolver}
 use Rattle.solver.specs.Words.ReachContract.{Steady}
-use Rattle.solver.specs.Orders.{solverOf, verdictOf}
-use Rattle.solver.specs.Words.SessionRepresentation.{Reachable, Represents, verdictNumber}
+use Rattle.solver.specs.Orders.{solverOf, verdictOf, posing}
+use Rattle.solver.specs.Words.SessionRepresentation.{Reachable, Represents, limitsOf, verdictNumber}
 use Rattle.solver.specs.Words.PendingContract.{HeldPairs, PushedPairs}
 use Rattle.solver.specs.Words.Worklist.{Zero}
 
@@ -95,6 +95,11 @@ pub record Pushes (x : Solver) (ks vs : List ℕ) (t u : Term) (ts₀ ts : List 
   pub nodes : Nodes x ks vs left right count t u
   pub pushed : PushedPairs ks vs left right t u (pendingFrom x) count ts₀ ts r
 
+-- Every change of the columns is counted: the revision does not fall, and where it is the same the columns have the words that they had.
+pub record ChangesCounted (x y : Solver) (ts₀ ts : List ℕ) : Type 0 where
+  pub rises : x .revision ≤ y .revision
+  pub quiet : y .revision ≡ x .revision → take (pendingFrom x) ts ≡ take (pendingFrom x) ts₀
+
 -- What a check leaves, where the definition leaves w: the solver, whether the pair is compatible so far, the pending pairs. t and u are the
 -- nodes whose children were pushed, if any were.
 pub record After (x : Solver) (ks vs ts₀ ts : List ℕ) (s : Session) (t u : Term) (count : ℕ) (w : solving.Check) (r : Checked) : Type 0 where
@@ -105,11 +110,26 @@ pub record After (x : Solver) (ks vs ts₀ ts : List ℕ) (s : Session) (t u : T
   pub variables : r .solver .variables ≡ x .variables
   pub nodes : r .solver .nodes ≡ x .nodes
   pub size : length ts ≡ length ts₀
+  pub counted : ChangesCounted x (r .solver) ts₀ ts
 
--- What `constrain` leaves, where the definition ends with `goal`: the session with the definition's solver, its verdict, and no pair pending.
-pub record Constrained (x : Solver) (ks vs ts : List ℕ) (s : Session) (goal : Out solving.Solver) (r : Solved) : Type 0 where
+-- What `solve_pair` leaves, where the definition ends with `goal`: the session with the definition's solver, its verdict, and no pair pending.
+pub record Constrained (x : Solver) (ks vs ts₀ ts : List ℕ) (s : Session) (goal : Out solving.Solver) (r : Solved) : Type 0 where
   pub represents : Represents (r .solver) ks vs ts (withSolver s (solverOf goal))
   pub verdict : verdictNumber (r .verdict) ≡ verdictOf goal
   pub blank : Zero (drop (pendingFrom x) ts)
   pub variables : r .solver .variables ≡ x .variables
   pub nodes : r .solver .nodes ≡ x .nodes
+  pub counted : ChangesCounted x (r .solver) ts₀ ts
+
+-- What `constrain` leaves of an order 4 with m nodes, where the definition ends with `goal`: the session after the order, held by the first
+-- tokens. Where nothing was bound, the counters, with the number of tokens, and every word of the table are those of before; else the session
+-- has all tokens.
+pub record Posed (n : Notion) (x : Solver) (ks vs ts₀ ts : List ℕ) (s : Session) (m : ℕ) (goal : Out solving.Solver) (r : Solved) : Type 0 where
+  pub represents : Represents (r .solver) (take (r .solver .top) ks) (take (r .solver .top) vs) ts (posing (limitsOf x) n s m goal .session)
+  pub verdict : verdictNumber (r .verdict) ≡ verdictOf goal
+  pub blank : Zero (drop (pendingFrom x) ts)
+  pub variables : r .solver .variables ≡ x .variables
+  pub nodes : r .solver .nodes ≡ x .nodes
+  pub counters : r .solver .revision ≡ x .revision → r .solver ≡ x
+  pub words : r .solver .revision ≡ x .revision → ts ≡ ts₀
+  pub tokens : (r .solver .revision ≡ x .revision → ⊥) → r .solver .top ≡ length ks

@@ -1,13 +1,13 @@
 -- An order answered in the areas: from the session and what was read to what each function asks, and back to the areas.
 use mathlib.Core.Path.{_≡_, refl, sym, ap, subst, _∙_}
-use mathlib.Core.Bool.{Bool, true, false}
+use mathlib.Core.Bool.{Bool, true, false, not}
 use mathlib.Core.List.{List, [], _∷_, _++_, append-nil}
 use mathlib.Core.Logic.{inl, inr, ⊎-elim}
 use mathlib.Core.Option.{Option, none, some}
 use Prim.Native.Nat.{ℕ, _+_, _-_, _*_, _≤_, _<_}
-use native.Mathlib.Decide.{decLt}
+use native.Mathlib.Decide.{ℕ-discrete}
 use native.Mathlib.Omega.{arith}
-use borrow.Author.Tests.{le-ltb}
+use borrow.Author.Tests.{ne-eqb, le-ltb}
 use lib.Dec.{eqb, ltb}
 use lib.ListN.{length, length-append, length-drop, getD, take, drop, take-append-drop, List·getD-eq-default}
 use lib.Seq.{length-take-le, getD-take, take-take}
@@ -23,7 +23,8 @@ use Rattle.solver.specs.declared.Solver.{Solver}
 use Rattle.solver.specs.Shapes.{loose}
 use Rattle.solver.specs.Session.{Limits, Session, issued}
 use Rattle.solver.specs.Orders as orders
-use Rattle.solver.specs.Orders.{Command, order}
+use Rattle.solver.specs.Constrain.{constrain}
+use Rattle.solver.specs.Orders.{Command, solverOf, keeps, order}
 use Rattle.solver.specs.Words.Worklist.{Zero}
 use Rattle.solver.specs.Words.ConstrainContract.{Scratch, pendingFrom}
 use Rattle.solver.specs.Words.SessionRepresentation.{Reachable, Represents, limitsOf}
@@ -33,7 +34,7 @@ use Rattle.sheet.specs.Fields.{Field, value, tree, allNodes, nodes, nth,
 use Rattle.sheet.specs.OrderTable as rows
 use Rattle.sheet.specs.OrderTable.{Answer, refusal, Act, Row, sessionOrders, rowIn, layout, commandBy, commandOf, Read}
 use Rattle.sheet.specs.Operations.{operations, operation}
-use Rattle.sheet.specs.Sheet.{table, readOrder, Step, solve, perform, step, stepRead, orderOf, framed}
+use Rattle.sheet.specs.Sheet.{table, readOrder, Step, solve, perform, step, stepRead, orderOf}
 use Rattle.sheet.specs.declared.FieldSpot.{FieldSpot}
 use Rattle.sheet.specs.Words.FieldsHeld.{HeldField}
 use Rattle.sheet.specs.Words.FieldsFormed.{FormedField, FormedFields}
@@ -55,7 +56,7 @@ use Rattle.sheet.proofs.Laws.Reading.ReadOrderUseLaws.{order-long, nth-
 use Rattle.sheet.proofs.Laws.Answering.SessionOrderLaws.{loose-codes}
 use Rattle.sheet.proofs.Laws.Answering.TermOrderLaws as posing
 use Rattle.sheet.proofs.Laws.Answering.OperationStepLaws.{operation-step}
-use Rattle.sheet.proofs.Laws.Answering.SessionInAreasLaws.{ready-half, solve-kept, answers-does, answers-pair, unanswered-pair}
+use Rattle.sheet.proofs.Laws.Answering.SessionInAreasLaws.{ready-half, solve-kept, answers-does, answers-bound, answers-quiet}
 
 -- ---- room to read
 
@@ -483,11 +484,17 @@ module _ {x : Solver} {half : ℕ} {s : List ℕ} {m : Areas} {ts : Area} {ws : 
         pub pair-blank : Zero (drop (pendingFrom x) (drop half (m .c)))
         pair-blank = T .ready .inAreas .blank
 
-        pair-kept : (z : Session) → Reachable (limitsOf x) loose z → RepresentsInAreas x half m z → o .top ≤ 64 + 6 * solve (limitsOf x) z (orders.pair n t u) .session .kept
-        pair-kept z A Z =
+        -- where a variable was bound all of its nodes are kept
+        pair-kept : (z : Session) → Reachable (limitsOf x) loose z → RepresentsInAreas x half m z
+            → (solve (limitsOf x) z (orders.pair n t u) .session .solver .revision ≡ z .solver .revision → ⊥) → o .top ≤ 64 + 6 * solve (limitsOf x) z (orders.pair n t u) .session .kept
+        pair-kept z A Z h =
             let P = poses-pair z A Z in
-            let e = posing.pair-step (limitsOf x) z n t u (within-known z t (P .within-left)) (within-known z u (P .within-right)) (P .few) in
-            let k : solve (limitsOf x) z (orders.pair n t u) .session .kept ≡ z .kept + (size t + size u) = ap (λ (q : orders.Step). q .session .kept) e in
+            let e = posing.pair-step (limitsOf x) loose z n t u (within-known z t (P .within-left)) (within-known z u (P .within-right)) (P .few) in
+            let g = constrain loose n (z .solver) t u in
+            let d : (solverOf g .revision ≡ z .solver .revision → ⊥) = λ i. h (ap (λ (q : orders.Step). q .session .solver .revision) e ∙ i) in
+            let k : solve (limitsOf x) z (orders.pair n t u) .session .kept ≡ z .kept + (size t + size u)
+            = ap (λ (q : orders.Step). q .session .kept) e
+            ∙ ap (λ (b : Bool). z .kept + keeps (not b) (size t + size u)) (ne-eqb (solverOf g .revision) (z .solver .revision) d) in
             omega (arith, pair-few, pair-nodes z Z)
 
         module _ (y : Solver) (c′ d′ : List ℕ) (w v : Output) (front : take half c′ ≡ take half (m .c)) (clear : Zero d′) (k : ℕ) (ek : k ≡ n)
@@ -502,35 +509,32 @@ module _ {x : Solver} {half : ℕ} {s : List ℕ} {m : Areas} {ts : Area} {ws : 
           zero-front : (z : Session) → RepresentsInAreas x half m z → Zero (take half c′)
           zero-front z Z = subst (λ (l : List ℕ). Zero l) (sym front) (Z .front)
 
-          abbrev past : Session → ℕ
-          past z = w .at + length (framed (solve (limitsOf x) z (orders.pair n t u) .answer))
-
           pair-inside : (z : Session) → DoesPair (lent x (take (o .top) (ts .kinds)) (take (o .top) (ts .vals)) (drop half (m .c))) y (drop half c′) z (solve (limitsOf x) z (orders.pair n t u)) w v
-              → Dec (length (w .bytes) < past z) → y .top ≤ o .top
-          pair-inside z D (yes l) = omega (arith, taken-after, ap (λ (v : Solver). v .top) (D .long l .0))
-          pair-inside z D (no l) = omega (arith, D .whole (omega arith) .top, long-a)
+              → Dec (y .revision ≡ x .revision) → y .top ≤ o .top
+          pair-inside z D (yes e) = omega (arith, taken-after, ap (λ (v : Solver). v .top) (D .quiet e .0))
+          pair-inside z D (no e) = omega (arith, D .bound e .top, long-a)
 
-          -- where it is answered all of its tokens are the session's; else none is, and they have been cleared
+          -- where a variable was bound all of its tokens are the session's; else none is, and they have been cleared
           pair-serves : (z : Session) → Reachable (limitsOf x) loose z → RepresentsInAreas x half m z → (a′ b′ : List ℕ) → area a′ b′ ≡ blank ts (y .top) (o .top - y .top)
-              → Dec (length (w .bytes) < past z) → Answers y half (areas a′ b′ c′ d′) z (orderOf (limitsOf x) z s) w v x
+              → Dec (y .revision ≡ x .revision) → Answers y half (areas a′ b′ c′ d′) z (orderOf (limitsOf x) z s) w v x
           pair-serves z A Z a′ b′ e (yes l) =
               let D = does z A Z in
-              answers-at (e ∙ ap (λ (v : Solver). blank ts (v .top) (o .top - v .top)) (D .long l .0) ∙ T .whole .cleared)
+              answers-at (e ∙ ap (λ (v : Solver). blank ts (v .top) (o .top - v .top)) (D .quiet l .0) ∙ T .whole .cleared)
               (step-as (pair-step z Z)
-              (unanswered-pair Z (ts .kinds) (ts .vals) (o .top) taken-a (free-kinds (o .top) ts (T .whole .free)) (free-vals (o .top) ts (T .whole .free)) y c′ d′ _ w v D
-              (omega (arith, D .answer .over l .0)) (zero-front z Z) clear))
+              (answers-quiet Z (ts .kinds) (ts .vals) (o .top) taken-a (free-kinds (o .top) ts (T .whole .free)) (free-vals (o .top) ts (T .whole .free)) y c′ d′ _ w v D
+              (zero-front z Z) clear l))
           pair-serves z A Z a′ b′ e (no l) =
               let D = does z A Z in
-              let all : y .top ≡ o .top = D .whole (omega arith) .top ∙ long-a in
+              let all : y .top ≡ o .top = D .bound l .top ∙ long-a in
               answers-at (e ∙ ap (λ (n : ℕ). blank ts n (o .top - n)) all ∙ T .whole .free (o .top - o .top))
               (step-as (pair-step z Z)
-              (answers-pair Z (ts .kinds) (ts .vals) (o .top) taken-a (free-kinds (o .top) ts (T .whole .free)) (free-vals (o .top) ts (T .whole .free)) y c′ d′ _ w v D
-              (pair-kept z A Z) (omega (arith, D .answer .fits (omega arith) .0)) (zero-front z Z) clear))
+              (answers-bound Z (ts .kinds) (ts .vals) (o .top) taken-a (free-kinds (o .top) ts (T .whole .free)) (free-vals (o .top) ts (T .whole .free)) y c′ d′ _ w v D
+              (zero-front z Z) clear l (pair-kept z A Z (λ i. l (D .bound l .revision ∙ i ∙ sym (Z .represents .revision))))))
 
           pub pair-answered : Answered x y half s m ts o c′ d′ w v
           pair-answered =
               let R = T .ready in
               record {
-                inside = pair-inside (R .session) (does (R .session) (R .reachable) (R .inAreas)) (decLt (length (w .bytes)) (past (R .session)));
-                serves = λ a′ b′ e z A Z. pair-serves z A Z a′ b′ e (decLt (length (w .bytes)) (past z));
+                inside = pair-inside (R .session) (does (R .session) (R .reachable) (R .inAreas)) (ℕ-discrete (y .revision) (x .revision));
+                serves = λ a′ b′ e z A Z. pair-serves z A Z a′ b′ e (ℕ-discrete (y .revision) (x .revision));
               }

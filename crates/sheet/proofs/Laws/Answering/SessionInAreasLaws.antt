@@ -113,12 +113,12 @@ module _ {x : Solver} {half : ℕ} {m : Areas} {z : Session} (Z : RepresentsInAr
         nodes = D .beside .nodes;
       }
 
--- ---- order 4: its tokens stay where it is answered
+-- ---- order 4: its tokens stay where a variable was bound
 
 -- a and b are the areas with its tokens, which end before `top`; those of m are without them
 module _ {x : Solver} {half : ℕ} {m : Areas} {z : Session} (Z : RepresentsInAreas x half m z) (a b : List ℕ) (top : ℕ)
     (long-a : top ≤ length a) (rest-a : Zero (drop top a)) (rest-b : Zero (drop top b)) where
-  pub lays-pair : (y : Solver) (c′ d′ : List ℕ) (s : Session) → top ≤ 64 + 6 * s .kept → Represents y (take top a) (take top b) (drop half c′) s → y .variables ≡ x .variables
+  lays-pair : (y : Solver) (c′ d′ : List ℕ) (s : Session) → top ≤ 64 + 6 * s .kept → Represents y (take top a) (take top b) (drop half c′) s → y .variables ≡ x .variables
       → Zero (drop (pendingFrom x) (drop half c′)) → Zero (take half c′) → Zero d′ → RepresentsInAreas y half (areas a b c′ d′) s
   lays-pair y c′ d′ s more L v k f clear =
       let e : top ≡ y .top = sym (L .top ∙ length-take-le top a long-a) in
@@ -132,42 +132,42 @@ module _ {x : Solver} {half : ℕ} {m : Areas} {z : Session} (Z : RepresentsInAr
         few = omega (arith, L .kept);
       }
 
-  -- answered: the tokens stay
-  pub answers-pair : (y : Solver) (c′ d′ : List ℕ) (st : Step) (w v : Output)
-      → DoesPair (lent x (take top a) (take top b) (drop half (m .c))) y (drop half c′) z st w v → top ≤ 64 + 6 * st .session .kept → v .at ≤ length (w .bytes) → Zero (take half c′) → Zero d′
-      → Answers y half (areas a b c′ d′) z st w v x
-  answers-pair y c′ d′ st w v D more h f clear =
-      record {
-        fits = λ k. (D .answer .fits k .0, D .answer .fits k .1, lays-pair y c′ d′ (st .session) more (D .whole k) (D .variables) (D .blank) f clear);
-        long = λ k. absurd (omega (arith, D .answer .over k .0));
-        variables = D .variables;
-        nodes = D .nodes;
-      }
+  module _ (y : Solver) (c′ d′ : List ℕ) (st : Step) (w v : Output) (D : DoesPair (lent x (take top a) (take top b) (drop half (m .c))) y (drop half c′) z st w v)
+      (front : Zero (take half c′)) (clear : Zero d′) where
+    -- a variable was bound: the tokens stay
+    pub answers-bound : (y .revision ≡ x .revision → ⊥) → top ≤ 64 + 6 * st .session .kept → Answers y half (areas a b c′ d′) z st w v x
+    answers-bound e more =
+        record {
+          fits = λ k. (D .answer .fits k .0, D .answer .fits k .1, lays-pair y c′ d′ (st .session) more (D .bound e) (D .variables) (D .blank) front clear);
+          long = λ k. absurd (e (D .long k));
+          variables = D .variables;
+          nodes = D .nodes;
+        }
 
-  -- not answered: they have been cleared, and all is as it was
-  pub unanswered-pair : (y : Solver) (c′ d′ : List ℕ) (st : Step) (w v : Output)
-      → DoesPair (lent x (take top a) (take top b) (drop half (m .c))) y (drop half c′) z st w v → length (w .bytes) < v .at → Zero (take half c′) → Zero d′
-      → Answers y half (areas (m .a) (m .b) c′ d′) z st w v x
-  unanswered-pair y c′ d′ st w v D h f clear =
-      record {
-        fits = λ k. absurd (omega (arith, D .answer .fits k .0));
-        long = λ k. (
-          D .answer .over k .0,
-          D .answer .over k .1,
-          subst (λ (v : Solver). RepresentsInAreas v half (areas (m .a) (m .b) c′ d′) z) (sym (D .long k .0))
-              (record {
-                represents = subst (λ (l : List ℕ). Represents x (take (x .top) (m .a)) (take (x .top) (m .b)) l z) (sym (D .long k .1)) (Z .represents);
-                kinds = Z .kinds;
-                vals = Z .vals;
-                front = f;
-                blank = D .blank;
-                work = clear;
-                few = Z .few;
-              }),
-        );
-        variables = D .variables;
-        nodes = D .nodes;
-      }
+    -- none was, or the answer does not fit: they have been cleared, and all is as it was
+    pub answers-quiet : y .revision ≡ x .revision → Answers y half (areas (m .a) (m .b) c′ d′) z st w v x
+    answers-quiet e =
+        let again : RepresentsInAreas y half (areas (m .a) (m .b) c′ d′) z
+        = subst (λ (v : Solver). RepresentsInAreas v half (areas (m .a) (m .b) c′ d′) z) (sym (D .quiet e .0))
+        (record {
+          represents = subst (λ (l : List ℕ). Represents x (take (x .top) (m .a)) (take (x .top) (m .b)) l z) (sym (D .quiet e .1)) (Z .represents);
+          kinds = Z .kinds;
+          vals = Z .vals;
+          front = front;
+          blank = D .blank;
+          work = clear;
+          few = Z .few;
+        }) in
+        record {
+          fits = λ k. (
+            D .answer .fits k .0,
+            D .answer .fits k .1,
+            subst (λ (s : Session). RepresentsInAreas y half (areas (m .a) (m .b) c′ d′) s) (sym (D .same e k)) again,
+          );
+          long = λ k. (D .answer .over k .0, D .answer .over k .1, again);
+          variables = D .variables;
+          nodes = D .nodes;
+        }
 
 -- ---- the table is the part of c from `half` on, lent and put back
 

@@ -30,7 +30,7 @@ none-some e = let z : _≡_ {A = ℕ} 0 1 = cc in absurd (omega arith)
 
 module _ (lim : Limits) (n : ℕ) where
   -- a reply that says so is a verdict
-  said : (r : Reply) → says n r ≡ true → r ≡ solver.verdict n
+  pub said : (r : Reply) → says n r ≡ true → r ≡ solver.verdict n
   unfolding says
   said (solver.term t) h = never-true h
   said (solver.verdict m) h = ap solver.verdict (sym (eqb-true n m h))
@@ -95,7 +95,7 @@ module _ (lim : Limits) (n : ℕ) where
   verdict-says s y true false v e = let m : n ≡ v = cc in eq-eqb n v m
   verdict-says s y false b v e = let z : _≡_ {A = ℕ} 0 1 = cc in absurd (omega arith)
 
-  from-bytes : (s : Session) (b : List ℕ) (c : Command) → command s b ≡ some c → PairAnswered lim n s b → says n (order lim loose s c .reply) ≡ true
+  pub from-bytes : (s : Session) (b : List ℕ) (c : Command) → command s b ≡ some c → PairAnswered lim n s b → says n (order lim loose s c .reply) ≡ true
   unfolding order
   from-bytes s b c e p =
       let k = p .checks in

@@ -16,7 +16,7 @@ returns : tie.Need-returns
 returns c =
     let a = c .before .before .before .before .before .before .args in
     let p = c .before .before .before .before .before .before .pre in
-    (p .1 .0 .0 .clear, λ z t u P e. pair-not (a .x) _ _ _ z (a .q) t u P (a .k) (now (a .out)) (a .to) (p .1 .1 .inside) (omega (arith, c .if1 .taken)) (p .1 .0 .1))
+    (p .1 .0 .0 .clear, λ z t u P e. pair-not (a .x) _ _ _ _ z (a .q) t u P (a .k) (now (a .out)) (a .to) (p .1 .1 .inside) (omega (arith, c .if1 .taken)) (p .1 .0 .1))
 
 constrain-requires : tie.Need-constrain-requires
 constrain-requires c κs = let p = c .before .before .before .before .before .before .before .before .pre in (p .0, p .1 .0)
@@ -40,7 +40,7 @@ returns-2 : tie.Need-returns-2
 returns-2 c =
     let a = c .before .before .before .before .before .before .before .before .before .before .before .before .before .before .before .before .before .before .before .args in
     let s = c .before .before .before .before .before .before .before .before .before .before .constrain .ensures in
-    (s .1, λ z t u P e. pair-done (a .x) _ _ _ z (a .q) t u P (a .k) (now (a .out)) (a .to) (c .before .before .before .before .before .before .before .before .before .before .before .before .before .before .before .before .before .before .before .pre .1 .1 .inside) _ _ (s .0 z t u P e) _ _ _ (omega (arith, c .before .before .before .before .before .before .before .before .before .before .before .before .before .if1 .left)) (c .before .before .before .before .verdict-number .ensures) (c .before .before .write-byte-answer .ensures))
+    (s .1, λ z t u P e. pair-done (a .x) _ _ _ _ z (a .q) t u P (a .k) (now (a .out)) (a .to) (c .before .before .before .before .before .before .before .before .before .before .before .before .before .before .before .before .before .before .before .pre .1 .1 .inside) _ _ (s .0 z t u P e) _ _ _ (omega (arith, c .before .before .before .before .before .before .before .before .before .before .before .before .before .if1 .left)) (c .before .before .before .before .verdict-number .ensures) (c .before .before .write-byte-answer .ensures))
 
 pub constrain-order-spec : {M : Type 1} → statement M
 constrain-order-spec =

@@ -103,7 +103,7 @@ module _ (x : Solver) (ks vs ts : List ℕ) (s : Session) (v q : ℕ) (t : Term)
   assign-bound e f g y us l d =
       let r = some-of (admit (s .solver .requests) (s .solver .requests v) t) f in
       let low = within-most (issued s) (x .variables) (F .represents .fits .variables) t (F .known .within) in
-      after-bound x ks vs ts s count ps (F .represents) W a b (boundTo (s .solver) v t (r .0)) (bind-bound (s .solver) v t ps (r .0) e (r .1) g) y us (l (r .0) low (r .1))
+      after-bound x ks vs ts s count ps (F .represents) W a b (boundTo (s .solver) v t (r .0)) (bind-bound (s .solver) v t ps (r .0) e (r .1) g) refl y us (l (r .0) low (r .1))
       (d .variables) (d .nodes) (d .size) (d .rest)
 
 -- ---- two nodes

@@ -56,6 +56,7 @@ module _ (x : Solver) (ks vs ts : List ℕ) (s : Session) (count : ℕ) (ps : Li
     variables = refl;
     nodes = refl;
     size = refl;
+    counted = record { rises = omega arith; quiet = λ e. refl };
   }
 
   pub after-passed : {w : solving.Check} → w ≡ passed (s .solver) ps → After x ks vs ts ts s t u count w (record { solver = x; good = true; count = count })
@@ -65,10 +66,10 @@ module _ (x : Solver) (ks vs ts : List ℕ) (s : Session) (count : ℕ) (ps : Li
   after-failed {w} e = stay w false (ap (λ (v : solving.Check). v .state) e) (sym (ap (λ (v : solving.Check). v .good) e)) (ap (λ (v : solving.Check). v .todo) e)
 
   -- a variable was bound: the columns changed, and what waits did not
-  pub after-bound : {w : solving.Check} (z : solving.Solver) → w ≡ passed z ps → (y : Solver) (us : List ℕ) → Represents y ks vs us (withSolver s z)
+  pub after-bound : {w : solving.Check} (z : solving.Solver) → w ≡ passed z ps → z .revision ≡ suc (s .solver .revision) → (y : Solver) (us : List ℕ) → Represents y ks vs us (withSolver s z)
       → y .variables ≡ x .variables → y .nodes ≡ x .nodes → length us ≡ length ts → drop (pendingFrom x) us ≡ drop (pendingFrom x) ts
       → After x ks vs ts us s t u count w (record { solver = y; good = true; count = count })
-  after-bound {w} z e y us l a b c d = record {
+  after-bound {w} z e more y us l a b c d = record {
     represents = subst (λ (q : solving.Solver). Represents y ks vs us (withSolver s q)) (sym (ap (λ (v : solving.Check). v .state) e)) l;
     good = sym (ap (λ (v : solving.Check). v .good) e);
     waiting = subst (λ (r : List Pair). Waiting x ks vs us count r) (sym (ap (λ (v : solving.Check). v .todo) e)) (record {
@@ -79,6 +80,7 @@ module _ (x : Solver) (ks vs ts : List ℕ) (s : Session) (count : ℕ) (ps : Li
     variables = a;
     nodes = b;
     size = c;
+    counted = record { rises = omega (arith, l .revision, lent .revision); quiet = λ q. absurd (omega (arith, l .revision, lent .revision)) };
   }
 
   -- the children of two nodes were pushed
@@ -86,7 +88,7 @@ module _ (x : Solver) (ks vs ts : List ℕ) (s : Session) (count : ℕ) (ps : Li
       → PushedPairs ks vs a b t u (pendingFrom x) count ts us r → After x ks vs ts us s t u count w (record { solver = x; good = true; count = r })
   after-pushed {w} e a b n us r c p = record {
     represents = subst (λ (q : solving.Solver). Represents x ks vs us (withSolver s q)) (sym (ap (λ (v : solving.Check). v .state) e))
-        (lent-scratch x ks vs ts us s lent (same-start (pendingFrom x) ts us (sym c) (λ i h. sym (p .laid .below i (omega arith)))) (omega (arith, lent .room)));
+        (lent-scratch x ks vs ts us s lent (sym same) (omega (arith, lent .room)));
     good = sym (ap (λ (v : solving.Check). v .good) e);
     waiting = subst (λ (q : List Pair). Waiting x ks vs us r q) (sym (ap (λ (v : solving.Check). v .todo) e)) (record {
       pairs = p .pairs ps (waits .pairs);
@@ -96,4 +98,8 @@ module _ (x : Solver) (ks vs ts : List ℕ) (s : Session) (count : ℕ) (ps : Li
     variables = refl;
     nodes = refl;
     size = c;
+    counted = record { rises = omega arith; quiet = λ _. same };
   }
+    where
+      same : take (pendingFrom x) us ≡ take (pendingFrom x) ts
+      same = same-start (pendingFrom x) us ts c (λ i h. p .laid .below i (omega arith))

@@ -24,7 +24,7 @@ use Rattle.solver.specs.Words.Bindings.{HeldBinding, HeldBindings}
 use Rattle.solver.specs.Words.Worklist.{Zero}
 use Rattle.solver.specs.Words.SessionRepresentation.{Reachable, Represents, bindingWords, verdictNumber}
 use Rattle.solver.specs.Words.PendingContract.{HeldPairs, PushedPairs, Laid, Taken, Wiped}
-use Rattle.solver.specs.Words.ConstrainContract.{AllWithin, Between, begun, checked, pendingFrom, Waiting, Known, Scratch, Due, Stays, Pushes, After, Constrained}
+use Rattle.solver.specs.Words.ConstrainContract.{AllWithin, Between, begun, checked, pendingFrom, Waiting, Known, Scratch, Due, Stays, Pushes, ChangesCounted, After, Constrained}
 use Rattle.solver.proofs.Laws.Definition.SolverInvariantLaws.{ordered-steady}
 use Rattle.solver.proofs.Laws.Definition.CheckStepLaws.{turn-within, turn-extends}
 use Rattle.solver.proofs.Laws.Table.RepresentationLaws.{lent-scratch}
@@ -215,21 +215,22 @@ abbrev pub told : Bool → Verdict
 told true = Compatible
 told false = Incompatible
 
-module _ (n : Notion) (x₀ : Solver) (ks vs : List ℕ) (s : Session) (goal : Out solving.Solver) (x : Solver) (ts : List ℕ) (left count : ℕ) (ok : Bool)
-    (G : Going n x₀ ks vs s goal x ts left count ok) where
+module _ (n : Notion) (x₀ : Solver) (ks vs ts₀ : List ℕ) (s : Session) (goal : Out solving.Solver) (x : Solver) (ts : List ℕ) (left count : ℕ) (ok : Bool)
+    (G : Going n x₀ ks vs s goal x ts left count ok) (C : ChangesCounted x₀ x ts₀ ts) where
   settled-none : (k : ℕ) (ps : List Pair) → ps ≡ [] → settles n k (G .solver) ok ps ≡ done (G .solver) ok
   unfolding settles
   settled-none zero [] e = refl
   settled-none (suc k) [] e = refl
   settled-none k (p ∷ ps) e = absurd (Rattle.unify.specs.Term.clash (cc))
 
-  ended : (o : Out solving.Solver) (v : Verdict) → o ≡ goal → solverOf o ≡ G .solver → verdictNumber v ≡ verdictOf o → Zero (drop (pendingFrom x₀) ts) → Constrained x₀ ks vs ts s goal (record { solver = x; verdict = v })
+  ended : (o : Out solving.Solver) (v : Verdict) → o ≡ goal → solverOf o ≡ G .solver → verdictNumber v ≡ verdictOf o → Zero (drop (pendingFrom x₀) ts) → Constrained x₀ ks vs ts₀ ts s goal (record { solver = x; verdict = v })
   ended o v e f g h = record {
     represents = subst (λ (z : solving.Solver). Represents x ks vs ts (withSolver s z)) (sym f ∙ ap solverOf e) (G .represents);
     verdict = g ∙ ap verdictOf e;
     blank = h;
     variables = G .variables;
     nodes = G .nodes;
+    counted = C;
   }
 
   number-told : (b : Bool) → verdictNumber (told b) ≡ verdictOf (done (G .solver) b)
@@ -237,7 +238,7 @@ module _ (n : Notion) (x₀ : Solver) (ks vs : List ℕ) (s : Session) (goal : O
   number-told true = refl
   number-told false = refl
 
-  pub going-end : count ≡ 0 → Constrained x₀ ks vs ts s goal (record { solver = x; verdict = told ok })
+  pub going-end : count ≡ 0 → Constrained x₀ ks vs ts₀ ts s goal (record { solver = x; verdict = told ok })
   unfolding solverOf
   going-end e =
       let S = subst (λ (c : ℕ). Stack ks vs (G .solver .bindings) (drop (pendingFrom x₀) ts) c (G .pairs)) e (G .stack) in
@@ -259,7 +260,7 @@ module _ (n : Notion) (x₀ : Solver) (ks vs : List ℕ) (s : Session) (goal : O
       go (no l) = w .above i (omega arith) ∙ G .blank i (omega arith)
 
   pub going-cancel : left ≡ 0 → 0 < count → (us : List ℕ) → length us ≡ length ts → Wiped (pendingFrom x₀) count ts us
-      → Constrained x₀ ks vs us s goal (record { solver = x; verdict = Cancelled })
+      → Constrained x₀ ks vs ts₀ us s goal (record { solver = x; verdict = Cancelled })
   unfolding solverOf verdictOf
   going-cancel e l us a w =
       let b : take (pendingFrom x₀) us ≡ take (pendingFrom x₀) ts = same-start (pendingFrom x₀) us ts a (λ i h. w .below i h) in
@@ -273,6 +274,7 @@ module _ (n : Notion) (x₀ : Solver) (ks vs : List ℕ) (s : Session) (goal : O
         blank = h;
         variables = G .variables;
         nodes = G .nodes;
+        counted = record { rises = C .rises; quiet = λ i. b ∙ C .quiet i };
       }
 
 -- ---- the loop as a whole
@@ -284,6 +286,7 @@ pub record Loop (n : Notion) (x₀ : Solver) (ks vs ts₀ work₀ : List ℕ) (l
   pub room : Scratch x₀ ks ts work
   pub size : length ts ≡ length ts₀
   pub long : length work ≡ length work₀
+  pub counted : ChangesCounted x₀ x ts₀ ts
 
 pub loop-start : (n : Notion) (x₀ : Solver) (ks vs ts₁ ts work : List ℕ) (left count : ℕ) (ok : Bool) (s : Session) (goal : Out solving.Solver)
     → Going n x₀ ks vs s goal x₀ ts left count ok → Scratch x₀ ks ts₁ work → length ts ≡ length ts₁ → Loop n x₀ ks vs ts work left count ok x₀ ts work left count ok
@@ -293,6 +296,7 @@ loop-start n x₀ ks vs ts₁ ts work left count ok s goal g S e = record {
   room = record { pairs = omega (arith, S .pairs); short = omega (arith, S .short); links = S .links; marks = S .marks; clear = S .clear };
   size = refl;
   long = refl;
+  counted = record { rises = omega arith; quiet = λ e. refl };
 }
 
 module _ (n : Notion) (codes-count : n 4 ≡ false) (x₀ : Solver) (ks vs ts₀ work₀ : List ℕ) (left₀ count₀ : ℕ) (ok₀ : Bool) (x : Solver) (ts work : List ℕ) (left count : ℕ) (ok : Bool)
@@ -326,6 +330,19 @@ module _ (n : Notion) (codes-count : n 4 ≡ false) (x₀ : Solver) (ks vs ts₀
         let d = G .nodes in
         record { pairs = omega arith; short = omega arith; links = omega arith; marks = omega arith; clear = S .clear }
 
+    -- what the check changed is counted with what was changed before
+    loop-counted : (ws : List ℕ) (y : Solver) → ChangesCounted x y us ws → ChangesCounted x₀ y ts₀ ws
+    loop-counted ws y A =
+        let C = L .counted in
+        let v = present .variables in
+        let b : take (pendingFrom x₀) us ≡ take (pendingFrom x₀) ts = same-start (pendingFrom x₀) us ts size (λ m h. off .below m (omega arith)) in
+        record {
+          rises = omega (arith, C .rises, A .rises);
+          quiet = λ e.
+              ap (λ (m : ℕ). take (7 * m) ws) (sym v) ∙ A .quiet (omega (arith, C .rises, A .rises)) ∙ ap (λ (m : ℕ). take (7 * m) us) v
+              ∙ b ∙ C .quiet (omega (arith, C .rises, A .rises));
+        }
+
     -- and checked
     pub loop-next : (ws after : List ℕ) (r : Checked) → length ws ≡ length us → length after ≡ length work → Zero after
         → ((s : Session) (t u : Term) (ps : List Pair) → Due n x ks vs us s i j (count - 1) t u → Waiting x ks vs us (count - 1) ps
@@ -342,7 +359,17 @@ module _ (n : Notion) (codes-count : n 4 ≡ false) (x₀ : Solver) (ks vs ts₀
           room = record { pairs = omega arith; short = omega arith; links = omega arith; marks = omega arith; clear = z };
           size = e ∙ size ∙ L .size;
           long = f ∙ L .long;
+          counted =
+              let T = pick (L .some .0) (L .some .1) (L .some .2) in
+              loop-counted ws (r .solver) (A (withSolver (L .some .0) (T .solver)) (T .pair .0) (T .pair .1) (T .rest) (T .due) (T .waits) .counted);
         }
+
+-- the pair was put after the columns
+pub counted-start : (x y : Solver) (ls rs ts₀ us ts : List ℕ) (count : ℕ) → length us ≡ length ts₀ → Laid ls rs (pendingFrom x) 0 ts₀ us count → ChangesCounted x y us ts → ChangesCounted x y ts₀ ts
+counted-start x y ls rs ts₀ us ts count size laid C = record {
+  rises = C .rises;
+  quiet = λ e. C .quiet e ∙ same-start (pendingFrom x) us ts₀ size (λ i h. laid .below i (omega arith));
+}
 
 pub and-false : (a b : Bool) → b ≡ false → false ≡ (a && b)
 and-false true b e = sym e

@@ -21,7 +21,7 @@ use Rattle.solver.specs.Shapes.{Notion, read}
 use Rattle.solver.specs.Constrain.{Solver, resolved, constrain}
 use Rattle.solver.specs.Session.{Limits, VariablePlace, at, gap, samePlace, Session, issued, find, fresh, issueAt, deferring, never}
 use Rattle.solver.specs.Orders.{Command, variable, number, hole, defer, pair, resolving, numbers, nevers, revision, unread}
-use Rattle.solver.specs.Orders.{term, nothing, _gives_, known, full, crowded, unless, variableAt, numberAt, holeAt, posing, order, run}
+use Rattle.solver.specs.Orders.{term, nothing, _gives_, known, full, crowded, unless, variableAt, numberAt, holeAt, solverOf, moved, keeps, posing, order, run}
 use Rattle.solver.specs.Demand3.{History, beginning, after, history}
 use Rattle.solver.specs.Invariant.{Invariant, WithinLimits, Settled, SettledBy}
 use Rattle.solver.proofs.Laws.Theory.TheoryView.{view}
@@ -99,6 +99,11 @@ find-issued p (q ∷ ps) v e = go (samePlace p q) e (find-issued p ps v)
 
 -- ---- limits
 
+-- no more nodes are kept than there are
+keeps-few : (b : Bool) (m : ℕ) → keeps b m ≤ m
+keeps-few true m = omega arith
+keeps-few false m = omega arith
+
 module _ (lim : Limits) (n : Notion) where
   full-fits : (s : Session) → leb (lim .variables) (issued s) ≡ false → suc (issued s) ≤ lim .variables
   full-fits s e = leb-false (lim .variables) (issued s) e
@@ -140,7 +145,10 @@ module _ (lim : Limits) (n : Notion) where
     where
       go : (b c : Bool) → crowded lim s (size t + size u) ≡ c → WithinLimits lim (unless lim s b c (posing lim n s (size t + size u) (constrain n k (s .solver) t u)) .session)
       go true true e = f
-      go true false e = record { variables = f .variables; nodes = ltb-false (lim .nodes) (s .kept + (size t + size u)) e }
+      go true false e = record {
+        variables = f .variables;
+        nodes = omega (arith, ltb-false (lim .nodes) (s .kept + (size t + size u)) e, keeps-few (moved (s .solver) (solverOf (constrain n k (s .solver) t u))) (size t + size u));
+      }
       go false c e = f
   order-fits s (resolving t) f = go (known s t) (crowded lim s (size t))
     where

@@ -38,7 +38,7 @@ use Rattle.solver.specs.Constrain as solving
 use Rattle.solver.specs.Constrain.{resolved, top}
 use Rattle.solver.specs.Session.{Limits, at, gap, samePlace, Session, issued, find, fresh, issueAt, request, deferring, keep, never, settleAt, numericAt, neverAt, numericDefaults, neverDefaults}
 use Rattle.solver.specs.Orders.{Command, variable, number, hole, defer, pair, resolving, numbers, nevers, revision, unread}
-use Rattle.solver.specs.Orders.{Reply, term, verdict, changed, count, nothing, verdictOf, solverOf, known, full, crowded, unless, variableAt, numberAt, holeAt, posing, order, replies}
+use Rattle.solver.specs.Orders.{Reply, term, verdict, changed, count, nothing, verdictOf, solverOf, known, full, crowded, unless, variableAt, numberAt, holeAt, moved, keeps, posing, order, replies}
 use Rattle.solver.specs.Demand3.{accepted}
 use Rattle.solver.specs.Words.MethodContract.{is-some}
 use Rattle.solver.specs.Rust.{and-then, Solver, default, with-numeric, resolve, variable-entry, hole-entry, returning, numeric-entry, diverge, defer-never, constrain}
@@ -341,20 +341,20 @@ module _ (s : Session) (z : Solver) (x : Same s z) where
       (subst (λ (o : Out (Table S)). Ends S (read loose) (respects loose codes-count) N o (theory.constrain S (read loose) k (x .both .sane .means) true ((view t, view u) ∷ []))) (settles-view loose k (s .solver) true ((t, u) ∷ [])) e)
       (w .meets))
     where
-      keeps : (y : solving.Solver) (z′ : Solver) (p : State S) (a : Ends S (read loose) (respects loose codes-count) N (cancelled (view-table y)) (cancelled p)) → Held N z′ p × Kept z z′ × Proper z′ → Same (keep s y m) z′
-      keeps y z′ p a b = same-solver s z z′ y x (b .1) (record { sane = record { means = p; stands = a .0; counted = a .1; fine = a .2 }; held = b .0; proper = b .2 }) (s .kept + m)
+      ended : (y : solving.Solver) (z′ : Solver) (p : State S) (a : Ends S (read loose) (respects loose codes-count) N (cancelled (view-table y)) (cancelled p)) → Held N z′ p × Kept z z′ × Proper z′ → Same (keep s y m) z′
+      ended y z′ p a b = same-solver s z z′ y x (b .1) (record { sane = record { means = p; stands = a .0; counted = a .1; fine = a .2 }; held = b .0; proper = b .2 }) (s .kept + m)
 
       go : (o : Out solving.Solver) (p : Out (State S)) (q : Out Solver) → Ends S (read loose) (respects loose codes-count) N (view-out o) p → MeetsOut N z q p
           → Answered (keep s (solverOf o) m) (verdict (verdictOf o)) (some (with-verdict q))
-      go (cancelled y) (cancelled p) (cancelled z′) a b = record { out = z′; is = refl; same = keeps y z′ p a b }
+      go (cancelled y) (cancelled p) (cancelled z′) a b = record { out = z′; is = refl; same = ended y z′ p a b }
       go (cancelled y) (cancelled p) (done z′ c) a b = absurd b
       go (cancelled y) (done p c) q a b = absurd a
       go (done y c) (cancelled p) q a b = absurd a
       go (done y c) (done p d) (cancelled z′) a b = absurd b
-      go (done y true) (done p d) (done z′ true) a b = record { out = z′; is = refl; same = keeps y z′ p (a .0, a .1, a .2) (b .0, b .1, b .2) }
+      go (done y true) (done p d) (done z′ true) a b = record { out = z′; is = refl; same = ended y z′ p (a .0, a .1, a .2) (b .0, b .1, b .2) }
       go (done y true) (done p d) (done z′ false) a b = clash (cc (a .3, b .3))
       go (done y false) (done p d) (done z′ true) a b = clash (cc (a .3, b .3))
-      go (done y false) (done p d) (done z′ false) a b = record { out = z′; is = refl; same = keeps y z′ p (a .0, a .1, a .2) (b .0, b .1, b .2) }
+      go (done y false) (done p d) (done z′ false) a b = record { out = z′; is = refl; same = ended y z′ p (a .0, a .1, a .2) (b .0, b .1, b .2) }
 
   -- orders 6 and 7
   change-same : (y : solving.Solver) (z′ : Solver) → Both N y z′ → with-change z z′ ≡ (z′, changed (not (eqb (y .revision) (s .solver .revision))))
@@ -545,7 +545,7 @@ module _ (lim : Limits) where
       go true q true e = never-true e
       go true q false e =
           let a = both (known s t) (known s u) q in
-          pair-same s z x k t u (known-yes s t (a .0)) (known-yes s u (a .1)) (f .0) (f .1) (size t + size u)
+          pair-same s z x k t u (known-yes s t (a .0)) (known-yes s u (a .1)) (f .0) (f .1) (keeps (moved (s .solver) (solverOf (solving.constrain loose k (s .solver) t u))) (size t + size u))
       go false q b e = never-true e
   order-same s z x (resolving t) f = go (known s t) refl (crowded lim s (size t))
     where

@@ -7,7 +7,7 @@ use Rattle.solver.specs.Words.SessionRepresentation.{notion}
 use Rattle.solver.specs.Constrain.{constrain}
 use Rattle.solver.proofs.Laws.Definition.DefaultLaws.{notion-codes}
 use Rattle.solver.proofs.Laws.Checks.CheckContractLaws.{held-place}
-use Rattle.solver.proofs.Laws.Checks.PairLoopLaws.{Loop, going-start, loop-start, loop-room, loop-due, loop-scratch, loop-next, told-so, and-false, and-true, going-end, going-cancel}
+use Rattle.solver.proofs.Laws.Checks.PairLoopLaws.{Loop, going-start, loop-start, loop-room, loop-due, loop-scratch, loop-next, told-so, and-false, and-true, counted-start, going-end, going-cancel}
 use borrow.Author.Needs.{needs}
 use Rattle.solver.proofs.Solver.solve_pair.Statement.{statement}
 use Rattle.solver.proofs.Solver.solve_pair.Tie as tie
@@ -56,7 +56,7 @@ returns c =
     let h = c .before .before .before .before .before .before .before .before .before .before .before .before .before .before .before .before in
     let a = h .args in
     let l = c .before .before .before .before .before .before .loop in
-    ((λ s lim t u ar L kp kq. going-cancel (notion (a .strict)) (a .self) (now (a .kinds)) (now (a .vals)) s _ (l .self) (l .tables) (l .left) (l .count) (l .ok) (l .inv .carries s (constrain (notion (a .strict)) (a .k) (s .solver) t u) (going-start (notion (a .strict)) (a .self) (now (a .kinds)) (now (a .vals)) (now (a .tables)) s lim ar L (h .pre .1 .1) (a .p) (a .q) t u kp kq _ (c .before .before .before .before .before .before .before .before .tables .given) _ (c .before .before .before .before .before .before .before .before .before .put-pair .ensures) (a .k))) (c .before .before .before .before .if1 .taken) (c .before .before .before .before .before .loop-test .taken) _ (c .before .tables2 .given) (c .before .before .clear-pairs .ensures)), l .inv .room .clear)
+    ((λ s lim t u ar L kp kq. going-cancel (notion (a .strict)) (a .self) (now (a .kinds)) (now (a .vals)) (now (a .tables)) s _ (l .self) (l .tables) (l .left) (l .count) (l .ok) (l .inv .carries s (constrain (notion (a .strict)) (a .k) (s .solver) t u) (going-start (notion (a .strict)) (a .self) (now (a .kinds)) (now (a .vals)) (now (a .tables)) s lim ar L (h .pre .1 .1) (a .p) (a .q) t u kp kq _ (c .before .before .before .before .before .before .before .before .tables .given) _ (c .before .before .before .before .before .before .before .before .before .put-pair .ensures) (a .k))) (counted-start (a .self) (l .self) _ _ (now (a .tables)) _ (l .tables) _ (c .before .before .before .before .before .before .before .before .tables .given) (c .before .before .before .before .before .before .before .before .before .put-pair .ensures) (l .inv .counted)) (c .before .before .before .before .if1 .taken) (c .before .before .before .before .before .loop-test .taken) _ (c .before .tables2 .given) (c .before .before .clear-pairs .ensures)), l .inv .room .clear)
 
 sub-left : tie.Need-sub-left Inv-loop μ-loop
 sub-left c = search needs
@@ -109,7 +109,7 @@ returns-2 c =
     let h = c .before .before .before .before .before .before .before .before .before .before .before .before in
     let a = h .args in
     let l = c .before .before .loop in
-    ((λ s lim t u ar L kp kq. going-end (notion (a .strict)) (a .self) (now (a .kinds)) (now (a .vals)) s _ (l .self) (l .tables) (l .left) (l .count) true (told-so (l .inv .carries s (constrain (notion (a .strict)) (a .k) (s .solver) t u) (going-start (notion (a .strict)) (a .self) (now (a .kinds)) (now (a .vals)) (now (a .tables)) s lim ar L (h .pre .1 .1) (a .p) (a .q) t u kp kq _ (c .before .before .before .before .tables .given) _ (c .before .before .before .before .before .put-pair .ensures) (a .k))) (c .if3 .taken)) (omega (arith, c .before .loop-test .left))), l .inv .room .clear)
+    ((λ s lim t u ar L kp kq. going-end (notion (a .strict)) (a .self) (now (a .kinds)) (now (a .vals)) (now (a .tables)) s _ (l .self) (l .tables) (l .left) (l .count) true (told-so (l .inv .carries s (constrain (notion (a .strict)) (a .k) (s .solver) t u) (going-start (notion (a .strict)) (a .self) (now (a .kinds)) (now (a .vals)) (now (a .tables)) s lim ar L (h .pre .1 .1) (a .p) (a .q) t u kp kq _ (c .before .before .before .before .tables .given) _ (c .before .before .before .before .before .put-pair .ensures) (a .k))) (c .if3 .taken)) (counted-start (a .self) (l .self) _ _ (now (a .tables)) _ (l .tables) _ (c .before .before .before .before .tables .given) (c .before .before .before .before .before .put-pair .ensures) (l .inv .counted)) (omega (arith, c .before .loop-test .left))), l .inv .room .clear)
 
 same-length-5 : tie.Need-same-length-5 Inv-loop μ-loop
 same-length-5 c = search needs
@@ -122,7 +122,7 @@ returns-3 c =
     let h = c .before .before .before .before .before .before .before .before .before .before .before .before in
     let a = h .args in
     let l = c .before .before .loop in
-    ((λ s lim t u ar L kp kq. going-end (notion (a .strict)) (a .self) (now (a .kinds)) (now (a .vals)) s _ (l .self) (l .tables) (l .left) (l .count) false (told-so (l .inv .carries s (constrain (notion (a .strict)) (a .k) (s .solver) t u) (going-start (notion (a .strict)) (a .self) (now (a .kinds)) (now (a .vals)) (now (a .tables)) s lim ar L (h .pre .1 .1) (a .p) (a .q) t u kp kq _ (c .before .before .before .before .tables .given) _ (c .before .before .before .before .before .put-pair .ensures) (a .k))) (c .if3 .left)) (omega (arith, c .before .loop-test .left))), l .inv .room .clear)
+    ((λ s lim t u ar L kp kq. going-end (notion (a .strict)) (a .self) (now (a .kinds)) (now (a .vals)) (now (a .tables)) s _ (l .self) (l .tables) (l .left) (l .count) false (told-so (l .inv .carries s (constrain (notion (a .strict)) (a .k) (s .solver) t u) (going-start (notion (a .strict)) (a .self) (now (a .kinds)) (now (a .vals)) (now (a .tables)) s lim ar L (h .pre .1 .1) (a .p) (a .q) t u kp kq _ (c .before .before .before .before .tables .given) _ (c .before .before .before .before .before .put-pair .ensures) (a .k))) (c .if3 .left)) (counted-start (a .self) (l .self) _ _ (now (a .tables)) _ (l .tables) _ (c .before .before .before .before .tables .given) (c .before .before .before .before .before .put-pair .ensures) (l .inv .counted)) (omega (arith, c .before .loop-test .left))), l .inv .room .clear)
 
 pub solve-pair-spec : {M : Type 1} → statement M
 solve-pair-spec =
