@@ -1,10 +1,10 @@
 -- A pair that was answered compatible and is posed again, as order bytes. Quoted is document 02: "A lattice script poses the same satisfied pair for every cell".
 use mathlib.Core.Path.{_≡_}
 use mathlib.Core.Bool.{false}
-use mathlib.Core.List.{List, [], _∷_, _++_}
+use mathlib.Core.List.{List, [], _++_}
 use mathlib.Core.Option.{some}
 use Prim.Native.Nat.{ℕ, zero, suc, _+_, _≤_}
-use Rattle.solver.specs.Terms.Term.{Term, size}
+use Rattle.solver.specs.Terms.Term.{size}
 use Rattle.solver.specs.Constrain.{recovers}
 use Rattle.solver.specs.Session.{Limits, Session}
 use Rattle.solver.specs.Orders as solver

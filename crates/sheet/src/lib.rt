@@ -54,6 +54,13 @@ pub enum VariableOrder {
     Hole(u32),
 }
 
+// An order without terms: for a variable (orders 0, 1 and 2), the defaults of numbers (6) or with true of deferred variables (7), the revision (8).
+pub enum TermlessOrder {
+    Variable(VariableOrder),
+    Defaults(bool),
+    Revision,
+}
+
 // What reading an order finds, or the refusal.
 pub enum Reading {
     Whole(Order),

@@ -1,5 +1,6 @@
 // Orders 0, 1, 2, 6, 7 and 8 on what the solver is lent: the tokens, the table, and the work area, all 0.
 use super::AfterOrder;
+use super::TermlessOrder;
 use super::VariableOrder;
 use super::framing::begin_answer;
 use super::framing::write_byte_answer;
@@ -30,7 +31,7 @@ ghost use Rattle.sheet.specs.Sheet.{solve};
 ghost use Rattle.sheet.specs.Words.OperationsContract.{Among, plainOrders};
 ghost use Rattle.sheet.specs.Words.FramingContract.{OutputRoom, outputAt, Framed};
 ghost use Rattle.sheet.specs.Words.SessionOrdersContract.{lent, Does, plainCommand, defaultsBy, variableCommand, siteOf, FallbackListed};
-ghost use Rattle.sheet.specs.Words.SessionOrdersContract.{variableAnswer};
+ghost use Rattle.sheet.specs.Words.SessionOrdersContract.{variableAnswer, termlessCommand, TermlessListed};
 
 // Whether the revision is another, as a byte.
 fn changed_byte(old: usize, new: usize) -> u8
@@ -238,6 +239,30 @@ fn variable_order(
     AfterOrder { solver: y, next }
 }
 
+// The order of a kind, of its two numbers.
+fn termless_of(kind: u8, first: u32, second: u32) -> TermlessOrder
+    requires { ⌜ ((kind ≡ 1) → (second < 32)) × Among plainOrders kind ⌝ }
+    ensures command { λ r. ⌜ termlessCommand r ≡ plainCommand kind first second ⌝ }
+    ensures listed { λ r. ⌜ TermlessListed r ⌝ }
+{
+    if kind == 0 {
+        return TermlessOrder::Variable(VariableOrder::Slot(first, second));
+    }
+    if kind == 1 {
+        return TermlessOrder::Variable(VariableOrder::Number(first, second));
+    }
+    if kind == 2 {
+        return TermlessOrder::Variable(VariableOrder::Hole(first));
+    }
+    if kind == 6 {
+        return TermlessOrder::Defaults(false);
+    }
+    if kind == 7 {
+        return TermlessOrder::Defaults(true);
+    }
+    TermlessOrder::Revision
+}
+
 // Orders 0, 1, 2, 6, 7 and 8, by their kind and two numbers.
 pub fn termless_order(
     x: Solver,
@@ -259,23 +284,11 @@ pub fn termless_order(
         → Does (lent x (now (kinds .entry)) (now (vals .entry)) (now (tables .entry))) (r .solver) (now (tables .exit)) z
         (solve (limitsOf x) z (plainCommand kind first second)) (outputAt (now (out .entry)) to) (outputAt (now (out .exit)) (r .next))) ⌝ }
 {
-    if kind == 0 {
-        let wanted = VariableOrder::Slot(first, second);
-        return variable_order(x, kinds, vals, tables, frames, wanted, out, to);
+    match termless_of(kind, first, second) {
+        TermlessOrder::Variable(wanted) => {
+            variable_order(x, kinds, vals, tables, frames, wanted, out, to)
+        }
+        TermlessOrder::Defaults(never) => default_order(x, never, kinds, vals, tables, out, to),
+        TermlessOrder::Revision => revision_order(x, out, to),
     }
-    if kind == 1 {
-        let wanted = VariableOrder::Number(first, second);
-        return variable_order(x, kinds, vals, tables, frames, wanted, out, to);
-    }
-    if kind == 2 {
-        let wanted = VariableOrder::Hole(first);
-        return variable_order(x, kinds, vals, tables, frames, wanted, out, to);
-    }
-    if kind == 6 {
-        return default_order(x, false, kinds, vals, tables, out, to);
-    }
-    if kind == 7 {
-        return default_order(x, true, kinds, vals, tables, out, to);
-    }
-    revision_order(x, out, to)
 }

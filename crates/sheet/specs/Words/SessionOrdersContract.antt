@@ -10,6 +10,8 @@ use Rattle.solver.specs.declared.Site.{Site}
 use Rattle.solver.specs.declared.Site.the-variants as place
 use Rattle.sheet.specs.declared.VariableOrder.{VariableOrder}
 use Rattle.sheet.specs.declared.VariableOrder.the-variants.{Slot, Number, Hole}
+use Rattle.sheet.specs.declared.TermlessOrder.{TermlessOrder}
+use Rattle.sheet.specs.declared.TermlessOrder.the-variants.{Variable, Defaults, Revision}
 use Rattle.solver.specs.Terms.Term.{Term, var}
 use Rattle.solver.specs.Constrain.{resolved}
 use Rattle.solver.specs.Families.{requested}
@@ -82,6 +84,17 @@ variableAnswer z (Hole s) v = resolved (z .solver) (var v)
 abbrev pub defaultsBy : Bool → Command
 defaultsBy false = numbers
 defaultsBy true = nevers
+
+-- orders 0, 1, 2, 6, 7 and 8
+abbrev pub termlessCommand : TermlessOrder → Command
+termlessCommand (Variable o) = variableCommand o
+termlessCommand (Defaults b) = defaultsBy b
+termlessCommand Revision = revision
+
+abbrev pub TermlessListed : TermlessOrder → Type 0
+TermlessListed (Variable o) = FallbackListed o
+TermlessListed (Defaults b) = Unit {0}
+TermlessListed Revision = Unit {0}
 
 -- Order 4 done. Where a variable was bound, the session after it is held by all of the tokens. Else the counters and the table are as they were: nothing was
 -- bound, and the session is the same, or the answer does not fit.

@@ -1,10 +1,9 @@
 -- Pairs that bind nothing, over order bytes: they leave the session as it was, so that repeats run through.
-use mathlib.Core.Path.{_≡_, refl, sym, ap, ap₂, subst, _∙_}
+use mathlib.Core.Path.{_≡_, refl, sym, ap, subst, _∙_}
 use mathlib.Core.Bool.{Bool, true, false, not, _&&_}
 use mathlib.Core.List.{List, [], _∷_, _++_}
 use mathlib.Core.Option.{Option, some}
-use Prim.Native.Nat.{ℕ, zero, suc, _+_, _≤_}
-use native.Mathlib.Omega.{arith}
+use Prim.Native.Nat.{ℕ, zero, suc, _+_}
 use borrow.Author.Tests.{ne-eqb}
 use lib.ListN.{replicate}
 use Rattle.solver.specs.Terms.Term.{Term, size}
@@ -16,7 +15,7 @@ use Rattle.solver.specs.Orders as solver
 use Rattle.solver.specs.Orders.{Command, order, run, replies, known, crowded, unless, posing, keeps, solverOf}
 use Rattle.solver.proofs.Laws.Definition.QuietLaws.{quiet-pair}
 use Rattle.solver.proofs.Laws.Theory.RepeatLaws.{runs-through}
-use Rattle.sheet.specs.OrderTable.{Answer, outcome}
+use Rattle.sheet.specs.OrderTable.{outcome}
 use Rattle.sheet.specs.Sheet.{Step, answerOf, solve, orderOf, framed}
 use Rattle.sheet.specs.OrdersInTurn.{sessionAfter, answersTo}
 use Rattle.sheet.specs.Commands.{command, commands}
