@@ -9,6 +9,9 @@
 --   Unification1965  the algorithm ends, the Unification Theorem, and the solver answers as the algorithm does
 --   RobinsonPair     the algorithm decides each plain pair, in every session
 --   PlainLists       plain pairs by the posed terms alone
+--   InOrder          a session in order names no equality, and every order keeps it
+--   Mixed            a pair posed by one of several equalities, over substitutions
+--   MixLaws          sessions of such pairs: the half of demand 3, each pair, Robinson 1965, sessions of one equality
 --   Again            a compatible pair posed again binds nothing and is not incompatible
 --   RustMapLaws      laws of the Rust's maps and vectors; a map sorted by its keys
 --   RustRounds       the rounds of the Rust's `resolve` are enough
@@ -23,6 +26,9 @@ pub mod Robinson
 pub mod Unification1965
 pub mod RobinsonPair
 pub mod PlainLists
+pub mod InOrder
+pub mod Mixed
+pub mod MixLaws
 pub mod Again
 pub mod RustMapLaws
 pub mod RustRounds

@@ -134,7 +134,7 @@ module _ (S : Sig) (default : S .Fam → S .Head) (never : S .Head)
           let r = h s′ i′ v (ap (λ (g : ℕ → Option ℕ). g i′) (sym q) ∙ e) in
           omega arith
 
-  obey-sane : (x : R S default never) → SaneRun x → (c : Command S) → SaneRun (obey S default never n x c)
+  pub obey-sane : (x : R S default never) → SaneRun x → (c : Command S) → SaneRun (obey S default never n x c)
   unfolding obey serve-variable serve-number serve-hole serve-defer serve-pair deferring lift settle
   obey-sane x y (variable s i) = go (x .state .sites s i)
     where
@@ -213,7 +213,7 @@ module _ (S : Sig) (default : S .Fam → S .Head) (never : S .Head)
   fill-mono z h (var w) = (omega arith, λ e. absurd (omega arith))
   fill-mono z h (node k ts) = (omega arith, λ e. refl)
 
-  numbers-mono : (m v : ℕ) (z : Table S) → Mono z (fill-numbers S default never m v z)
+  pub numbers-mono : (m v : ℕ) (z : Table S) → Mono z (fill-numbers S default never m v z)
   unfolding fill-numbers number-one
   numbers-mono zero v z = (omega arith, λ e. refl)
   numbers-mono (suc m) v z = mono-trans z (number-one S default never z v (z .fam v)) (fill-numbers S default never (suc m) v z) (go (z .fam v)) (numbers-mono m (suc v) (number-one S default never z v (z .fam v)))
@@ -222,7 +222,7 @@ module _ (S : Sig) (default : S .Fam → S .Head) (never : S .Head)
       go none = (omega arith, λ e. refl)
       go (some f) = fill-mono z (default f) (top S z (var v))
 
-  nevers-mono : (d : ℕ → Bool) (m v : ℕ) (z : Table S) → Mono z (fill-nevers S default never d m v z)
+  pub nevers-mono : (d : ℕ → Bool) (m v : ℕ) (z : Table S) → Mono z (fill-nevers S default never d m v z)
   unfolding fill-nevers never-one
   nevers-mono d zero v z = (omega arith, λ e. refl)
   nevers-mono d (suc m) v z = mono-trans z (never-one S default never z v (d v)) (fill-nevers S default never d (suc m) v z) (go (d v)) (nevers-mono d m (suc v) (never-one S default never z v (d v)))
