@@ -1,4 +1,4 @@
-"""The sheets that bench/sheets.py times: classes, hazards and growing shapes.
+"""The sheets that bench/sheets.py times: classes, pairs by order 4 and by order 22, hazards and growing shapes.
 
 A sheet is bytes; a class is a list of sheets. They are the same in every run.
 """
@@ -15,7 +15,8 @@ import chains  # noqa: E402
 from orders import LIMITS, inserted, leaves, unmatched  # noqa: E402
 from orders_cases import (F64, I32, I64, RO, RW, U, arr, enum, fun, gen, host, inf, iter_, map_, nom, num, params, proj,  # noqa: E402
                           range_, ref, rule, self_, seq, set_, struct, subst, tup)
-from orders_reference import framed  # noqa: E402
+from sheet_reference import run  # noqa: E402
+from terms_reference import framed, split  # noqa: E402
 from chains import order, pair, variables  # noqa: E402
 
 ROOM = 32768
@@ -24,6 +25,8 @@ MOST_ROOM = 16777216
 # A class has sheets; rust says whether the Rust is asked too. A growing shape makes a sheet of a size; the Rust is asked up to `rust`.
 Class = collections.namedtuple("Class", "name sheets room rust", defaults=[ROOM, True])
 Growth = collections.namedtuple("Growth", "name unit sizes make rust room", defaults=[None, ROOM])
+# The same pairs by order 4 and by order 22.
+Pairs = collections.namedtuple("Pairs", "name loose strict")
 
 
 def resolve(term):
@@ -248,6 +251,33 @@ def satisfied(times):
     return variables(4) + [cell] + bound + [cell] * times + [resolve(inf(0)), revision()]
 
 
+def collected(levels):
+    """Sets and Maps of both accesses in each other, with a variable inside, and 40 pairs of them that are satisfied."""
+    one, other = inf(0), I32
+    for level in range(levels):
+        layer = (lambda t: set_(RO, t), lambda t: map_(RW, I64, t), lambda t: set_(RW, t), lambda t: map_(RO, t, I64))[level % 4]
+        one, other = layer(one), layer(other)
+    return variables(2) + [pair(one, other, 1000), pair(inf(1), one, 1000)] + [pair(arr(inf(1)), arr(other), 1000)] * 40 + [resolve(inf(1)), revision()]
+
+
+def strictly(one):
+    """The sheet with every order 4 as an order 22."""
+    return b"".join(framed(b"\x16" + order[1:] if order[:1] == b"\x04" else order) for order in split(one)[0])
+
+
+def strict_pairs():
+    """Rows of pairs that both orders answer with the same bytes, as no two Sets or Maps of different access meet."""
+    rows = [("small: the bar's session", bars_session()), ("resolve-heavy", resolve_heavy()), ("wide, 2,000 children", wide_sheets()),
+            ("deep, 200 levels", deep_sheets()), ("many joins, 512 variables", [sheet(joins(512))]),
+            ("a satisfied pair 2,000 times", [sheet(satisfied(2000))]), ("Sets and Maps, 40 levels", [sheet(collected(40))]),
+            ("typical script", typical())]
+    for name, sheets in rows:
+        strict = [strictly(one) for one in sheets]
+        if [run(one, MOST_ROOM) for one in sheets] != [run(one, MOST_ROOM) for one in strict]:
+            sys.exit("%s: order 22 does not answer as order 4 does" % name)
+        yield Pairs(name, sheets, strict)
+
+
 # Orders 9 to 20
 
 def twins(rng, nodes, left, right):
@@ -368,6 +398,9 @@ def hazards():
     add("doubling chains, equal, 500 variables", chains.equal(500), rust=False)
     for checks in (1000, 100000):
         add("doubling chains, unequal at the leaf, 500 variables, k = %s" % format(checks, ","), unequal(500, checks), rust=False)
+    for checks in (1000, 100000):
+        add("doubling chains, Sets that differ in access at the leaf, order 22, 500 variables, k = %s" % format(checks, ","),
+            strict_unequal(500, checks), rust=False)
     add("a doubling chain that ends in itself, 500 variables", chains.cyclic(499), rust=False)
     add("a doubling chain bound whole, 500 variables", chains.free(499), rust=False)
     add("aliases, 500 variables", chains.alias(500))
@@ -393,6 +426,12 @@ def unequal(count, checks):
     orders = chains.unequal(count)
     half = count // 2
     return orders[:-1] + [pair(inf(0), inf(half), checks)]
+
+
+def strict_unequal(count, checks):
+    """As unequal, by access alone: order 22 checks every path."""
+    orders = chains.twins(count, set_(RO, I32), set_(RW, I32))
+    return orders[:-1] + [order("16" + num(checks) + inf(0) + inf(count // 2))]
 
 
 def solver_shapes():

@@ -2,7 +2,7 @@
 """Times the proved library and Kagari's own functions on the same sheets, and prints Markdown tables.
 
   python3 bench/sheets.py                       everything; the picture goes to docs/benchmarks.svg
-  python3 bench/sheets.py classes hazards       these parts alone: classes, hazards, solver, growth
+  python3 bench/sheets.py classes hazards       these parts alone: classes, strict, hazards, solver, growth
   python3 bench/sheets.py classes --only deep   the rows whose name has this text
   python3 bench/sheets.py --quick               fewer and shorter rounds
   --library FILE     the library (target/staticlib/libentry.a, which `rt staticlib entry` proves and writes)
@@ -16,6 +16,9 @@ milliseconds, and the least processor time of all turns counts. Our side calls s
 output that are lent once and used again; clearing the areas is in the time, as it is a part of the run. The Rust reads each
 order into its trees with tests/oracle/format.rs, has a new Solver for each sheet, and writes into a buffer that is used
 again. Its answers to orders 9 to 20 are put together in small vectors by tests/oracle/orders.rs, which is in its time.
+
+The part `strict` times order 22 beside order 4, both of the library, on pairs that both answer with the same bytes. The Rust
+has no order 22.
 """
 
 import argparse
@@ -35,7 +38,8 @@ from oracle import build as oracle  # noqa: E402
 OUT = os.path.join(ROOT, "target", "bench")
 LIBRARY = os.path.join(ROOT, "target", "staticlib", "libentry.a")
 PICTURE = os.path.join(ROOT, "docs", "benchmarks.svg")
-PARTS = ("classes", "hazards", "solver", "growth")
+PARTS = ("classes", "strict", "hazards", "solver", "growth")
+TURNS = 4           # of the two sides of the part `strict`
 
 
 def built(library, source):
@@ -119,6 +123,18 @@ def classes_table(driver, only):
             row(one.name, timed.sheets, format(timed.orders, ","), format(timed.bytes, ","), *rates(timed), figure(timed.ratio))
 
 
+def strict_table(driver, only):
+    """Order 22 beside order 4, which take turns: the least time of each counts."""
+    row("pairs", "sheets", "orders", "bytes", "order 4, orders/s", "order 22, orders/s", "order 22 / order 4")
+    row("---", *["---:"] * 6)
+    for one in made.strict_pairs():
+        if only in one.name:
+            turns = [[driver.times(sheets, made.ROOM, False) for sheets in (one.loose, one.strict)] for _ in range(TURNS)]
+            loose, strict = (min(side, key=lambda timed: timed.ours) for side in zip(*turns))
+            row(one.name, loose.sheets, format(loose.orders, ","), format(loose.bytes, ","), figure(loose.orders / loose.ours),
+                figure(strict.orders / strict.ours), figure(loose.ours / strict.ours))
+
+
 def hazards_table(driver, only):
     row("hazard", "orders", "bytes", "ours", "Rust", "ours / Rust")
     row("---", *["---:"] * 5)
@@ -175,6 +191,9 @@ def main():
     parts = options.parts or PARTS
     if "classes" in parts:
         classes_table(driver, options.only)
+        print()
+    if "strict" in parts:
+        strict_table(driver, options.only)
         print()
     if "hazards" in parts:
         hazards_table(driver, options.only)

@@ -23,8 +23,9 @@ the first difference orders are taken out as long as the sides differ; the
 rest is printed in hexadecimal, and the exit status is 1.
 
 The oracle leaves a sheet at an order that makes the Rust meet more than
-400,000 nodes. What was answered before is compared; the last table says how
-many sheets were left.
+400,000 nodes, and at an order 22 that is not refused, which Kagari does not
+have. What was answered before is compared; the last table says how many
+sheets were left.
 
 The tables show the outcomes of the random orders and what the unrefused ones
 answer. An entry that can occur but is too rare is a failure in a run of
@@ -51,7 +52,7 @@ import orders_compare
 import sheet_compare
 from comparing import Differs, OutcomeTable, shown, verdict
 from oracle import build as oracle
-from sheet_compare import LEFT, Batch, Frames, Program, in_chunks
+from sheet_compare import LEFT, NOT_IN_RUST, Batch, Frames, Left, Program, in_chunks
 
 LIBRARY = os.path.join(oracle.ROOT, "target", "staticlib", "libentry.a")
 DECLARED = os.path.join(oracle.ROOT, "bindings", "rust", "src")         # where ffi.rs declares the entry, for all Rust
@@ -61,7 +62,7 @@ PORTION = 50000             # sheets in a run of the judge
 LEAST_SHARE = 0.0003
 # By the judge's words for the rows.
 CAN_OCCUR = {**{kind: sheet_compare.CAN_OCCUR[kind] for kind in range(9)}, **{kind: orders_compare.CAN_OCCUR[kind] for kind in range(9, 21)},
-             "other": (2,), "empty": (1,)}
+             22: range(1, 8), "other": (2,), "empty": (1,)}
 YES_NO, CHANGES = ("no", "yes"), ("same", "changed")
 ANSWERS = {
     1: ("itself", "bound"), 2: ("itself", "bound"), 4: ("incompatible", "compatible", "cancelled"), 5: CHANGES, 6: YES_NO, 7: YES_NO,
@@ -154,8 +155,8 @@ class Counts(dict):
         return poor + ["reason %d" % reason for reason in REASONS if self.of("reason", reason) < 5]
 
     def show_sheets(self):
-        """How many sheets of each family there were, and how many the oracle left."""
-        for title, word in (("families", "family"), ("left", "left")):
+        """How many sheets of each family there were, and how many the oracle left, the latter at an order 22."""
+        for title, word in (("families", "family"), ("left", "left"), ("left at 22", "strict")):
             found = ["%s %d" % (name, self.of(word, at)) for at, name in enumerate(judge_sheets.NAMES) if self.of(word, at)]
             print("  %-12s%s" % (title, ", ".join(found) or "none"))
 
@@ -224,7 +225,7 @@ def check_slips(options):
 
 def same(found, wanted):
     """Whether a program's run is the oracle's, as far as the oracle went on; the sheet program tells the answers alone."""
-    if wanted.reason == LEFT:
+    if wanted.reason in (LEFT, NOT_IN_RUST):
         return found.output.startswith(wanted.output)
     return found.output == wanted.output and found[:2] in ((None, None), wanted[:2])
 
@@ -233,7 +234,7 @@ def check_program(options):
     """The proved program against the oracle, sheet by sheet."""
     judge = Batch([oracle.build(options.source, options.out), "sheets"])
     program = Frames(shlex.split(options.program)) if options.program else Program(shlex.split(options.checker))
-    passed = 0
+    passed, left = 0, Left()
     sheets = (each for source in (judge_sheets.fixed(), judge_sheets.at_random(options.sheets, options.seed)) for each in source
               if len(each[4]) <= judge_sheets.LENGTH and program.takes(each[1], each[4]) and min(each[2]) >= judge_sheets.LEAST)
     for chunk in in_chunks(sheets):
@@ -248,7 +249,9 @@ def check_program(options):
                 print("%s, room %d: %s\noracle  %s %s: %s\nprogram %s %s: %s\n%d passed, 1 failed" % (
                     family, room, shown(sheet), *wanted[:2], shown(wanted.output), *found[:2], shown(found.output), passed))
                 return 1
+            left.add(wanted)
             passed += 1
+    left.show()
     print("%d passed, 0 failed" % passed)
     return 0
 

@@ -73,7 +73,7 @@ def limits():
         yield MOST_BYTES + more, AREAS, filled_output(MOST_BYTES)
         yield MOST_BYTES, AREAS, filled_output(MOST_BYTES + more)
     # Orders of no listed kind, 120 bytes each, and the revision.
-    refused = framed(b"\x16" + bytes(118)) * (MOST_BYTES // 120)
+    refused = framed(b"\x15" + bytes(118)) * (MOST_BYTES // 120)
     yield MOST_BYTES, (20000,) * 4, refused + framed(b"\x08") * ((MOST_BYTES - len(refused)) // 2)
     yield MOST_BYTES + 1, (LEAST - 1,) * 4, bytes(MOST_BYTES + 1)
     yield 0, AREAS, bytes(MOST_BYTES)
@@ -163,7 +163,7 @@ def copy(rng, sheet):
 def at_random(how_many, seed):
     rng = random.Random(seed)
     made = 0
-    for family, room, sheet in sheet_generate.sheets(how_many, seed, sheet_generate.JUDGED):
+    for family, room, sheet in sheet_generate.sheets(how_many, seed, sheet_generate.JUDGED, (0,)):
         copies = COPIES if 0 < len(sheet) <= COPIED else 0
         for name, data in [(family, sheet)] + [("copies", copy(rng, sheet)) for _ in range(copies)]:
             if made == how_many:

@@ -73,6 +73,12 @@ ROWS = (
      "if solver.revision != before && !matches!(answer, Some(Err(_))) {"),
     ("cancelled_pairs_keep_in_any_case", "sheets.rs", r"if solver\.revision != before \{",
      "if solver.revision != before || matches!(answer, Some(Err(_))) {"),
+    # Order 22, of which the oracle has the refusals alone. The first poses it as order 4.
+    ("order_22_is_order_4", "sheets.rs", r"if kind == STRICT \{", FALSE),
+    ("order_22_unlisted", "sheets.rs", r"\*kind <= 8 \|\| \*kind == STRICT", "*kind <= 8"),
+    ("order_22_takes_any_id", "sheets.rs", r"with_issued\(self\.solver\.issued\(\)\)", "with_issued(if kind == STRICT { 1 << 32 } else { self.solver.issued() })"),
+    ("kind_21_is_order_22", "sheets.rs", r"\|\| \*kind == STRICT => outcome\(self\.value\(\*kind,",
+     "|| matches!(*kind, 21 | STRICT) => outcome(self.value(if *kind == 21 { STRICT } else { *kind },"),
     ("run_11_a_byte_early", "sheets.rs", r"framed\.len\(\) > room", "framed.len() >= room"),
     # What is lent.
     ("area_left", "lent.rs", CALL, r"\g<0> if reason != 12 { self.areas[2].all[GUARD + 9] = 1; }"),

@@ -13,6 +13,8 @@ from terms_generate import damaged_bytes, not_shortest, too_large
 from terms_reference import Refused
 
 KINDS = tuple(range(9, 21))
+# The kinds of orders that are told to the session.
+SESSION = tuple(range(9)) + (22,)
 I8, NEVER = (BUILTIN, 0), (BUILTIN, 10)
 # A term that add_inside puts into an order.
 NEW = (HOST, 0)
@@ -610,7 +612,8 @@ def random_order(rng):
     if pick < 0.005:
         return b""
     if pick < 0.02:
-        return bytes([rng.choice((21, 22, 29, 127, 128, 137, 255, rng.randrange(21, 256)))]) + rng.randbytes(rng.randrange(6))
+        kind = rng.choice((21, 23, 29, 127, 128, 137, 255, rng.randrange(21, 256)))
+        return bytes([kind if kind not in SESSION else 21]) + rng.randbytes(rng.randrange(6))
     kind = rng.choice(KINDS + (19, 20))
     if pick < 0.03:
         # Small bytes at random: most of them are tags, codes and counts.
@@ -643,8 +646,7 @@ def random_order(rng):
         kind_byte = data[:1]
         for _ in range(rng.choice((1, 1, 1, 2))):
             data = damaged_bytes(data, rng)
-        if data and data[0] not in KINDS and data[0] < 21:
-            # Kinds 0 to 8 belong to the session.
+        if data and data[0] in SESSION:
             data = kind_byte + data[1:]
     return data
 

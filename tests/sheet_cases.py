@@ -1,7 +1,7 @@
 #!/usr/bin/env python3
 """Fixed sheets, with the outcome of every order stated by hand.
 
-  python3 tests/sheet_cases.py write DIR     write DIR/stdin and DIR/stdout, one sheet with all parts
+  python3 tests/sheet_cases.py write DIR     write DIR/stdin and DIR/stdout, one sheet with all parts without order 22
   python3 tests/sheet_cases.py sheets DIR    write every sheet as DIR/NAME.in, and its answers as DIR/NAME.out
   python3 tests/sheet_cases.py frames DIR    write DIR/stdin and DIR/stdout for the program `sheets`: all runs, areas filled before
   python3 tests/sheet_cases.py check DIR     whether they are what `frames` would write
@@ -9,8 +9,9 @@
   python3 tests/sheet_cases.py slips         show for each slip the first sheet that finds it
 
 Each part is a function that poses orders and states their answers. It makes
-a sheet of its own, and all parts but those that fill the session make one
-sheet together: every part takes variables and sites of its own. The script
+a sheet of its own, and all parts but those that fill the session make two
+sheets together, one of the parts without order 22 and one of those with it:
+every part takes variables and sites of its own. The script
 stops where the reference answers anything else. tests/sheet_compare.py runs
 all of them, and with --oracle compares them with the Rust.
 
@@ -89,11 +90,19 @@ class Script:
         self.order("a hole", "02" + num(self.new_site()), inf(self.count - 1))
         return inf(self.count - 1)
 
-    def pose(self, comment, left, right, answer=YES, bound=0, k=1000):
+    def pose(self, comment, left, right, answer=YES, bound=0, k=1000, kind="04"):
         """A pair that binds so many variables. It keeps its nodes where it binds one."""
-        self.order(comment, "04" + num(k) + left + right, answer)
+        self.order(comment, kind + num(k) + left + right, answer)
         self.kept += nodes(left) + nodes(right) if bound else 0
         self.bound += bound
+
+    def strictly(self, comment, left, right, answer=YES, bound=0, k=1000):
+        self.pose(comment, left, right, answer, bound, k, "16")
+
+    def both(self, comment, left, right, answer=YES, k=1000):
+        """A pair that binds nothing, posed by either order with the same answer."""
+        self.pose(comment, left, right, answer, 0, k)
+        self.strictly(comment + ", strictly", left, right, answer, 0, k)
 
     def shows(self, comment, term, value):
         self.order(comment, "05" + term, value)
@@ -867,7 +876,7 @@ def refusals(s):
             ("5: ends early", "05 09", 1), ("5: leftover", "05 02 00", 1), ("5: not issued", "05" + arr(more), 6),
             ("5: a tag is a byte", "05 82 00", 2), ("5: a count larger than the bytes", "05 05 ff ff ff ff 0f 02", 1),
             ("6: leftover", "06 00", 1), ("7: leftover", "07 00", 1), ("8: leftover", "08 00", 1),
-            ("kind 21", "15", 2), ("kind 27", "1b 00", 2), ("a kind is a byte", "80 00", 2), ("kind 255", "ff", 2),
+            ("kind 21", "15", 2), ("kind 23", "17", 2), ("kind 27", "1b 00", 2), ("a kind is a byte", "80 00", 2), ("kind 255", "ff", 2),
             ("empty", "", 1)):
         s.order(name, text, refusal)
     s.order("orders 9 to 20 take any id", "0b" + more + U, more)
@@ -898,6 +907,334 @@ def between(s):
     s.order("normalise", "14" + seq(nom(0) + x + num(1) + seq() + I8) + proj(x, nom(0), 1), I8)
     s.shows("x", x, I64)
     s.revision()
+
+
+# ---------------------------------------------------------------- Document 02: pairs in which access counts
+
+# What stands around a part; the other parts are equal.
+FRAMES = (
+    ("Reference", lambda t: ref(MUT, t)), ("Tuple, first", lambda t: tup(t, I8)), ("Tuple, last", lambda t: tup(I8, t)),
+    ("parameter", lambda t: fun([t], I8)), ("result", lambda t: fun([I8], t)), ("Iter", iter_), ("Range", lambda t: range_(2, t)),
+    ("Array", arr), ("key", lambda t: map_(RO, t, I8)), ("value", lambda t: map_(RW, I8, t)), ("ReadOnly Set", lambda t: set_(RO, t)),
+    ("Mutable Set", lambda t: set_(RW, t)), ("argument of a NativeObject", lambda t: native(1, [t])),
+    ("member of a Struct", lambda t: struct(1, [I8], [(4, t)])), ("argument of an Enum", lambda t: enum(1, [t, I8])),
+    ("member of a Trait", lambda t: trait(1, [], [(1, I8), (2, t)])))
+
+
+@part()
+def strict_clash(s):
+    """A clash of access does not meet the parts."""
+    x = s.var()
+    s.strictly("a ReadOnly Set of x and a Mutable one of I32", set_(RO, x), set_(RW, I32), NO, 0, 9)
+    s.free(x)
+    s.strictly("the other way", set_(RW, I32), set_(RO, x), NO)
+    s.strictly("Maps", map_(RO, x, I8), map_(RW, I32, I8), NO)
+    s.strictly("Maps, the value", map_(RW, I8, x), map_(RO, I8, I32), NO)
+    s.free(x)
+    s.revision()
+    s.strictly("what stands beside them is met", tup(x, set_(RO, I8)), tup(I32, set_(RW, I8)), NO, 1)
+    s.shows("it was bound", x, I32)
+    y, z = s.vars(2)
+    s.strictly("before and behind", tup(y, map_(RO, I8, I8), z), tup(I8, map_(RW, I8, I8), I64), NO, 2)
+    s.shows("both were bound", tup(y, z), tup(I8, I64))
+    s.revision()
+
+
+@part()
+def strict_depths(s):
+    """Set and Map access counts at every depth, and what it stands in does not matter."""
+    for outer, around in FRAMES:
+        for name, one, other in (("Sets", set_(RO, I32), set_(RW, I32)), ("Maps", map_(RO, I32, I8), map_(RW, I32, I8))):
+            s.pose("%s: %s" % (outer, name), around(one), around(other), YES)
+            s.strictly("%s: %s, strictly" % (outer, name), around(one), around(other), NO)
+            s.strictly("%s: %s, strictly and the other way" % (outer, name), around(other), around(one), NO)
+            s.strictly("%s: the same %s" % (outer, name), around(other), around(other), YES, 0, 1)
+    for inner in (RO, RW):
+        x = s.var()
+        s.strictly("equal access, x inside", set_(RO, map_(RW, I8, set_(inner, x))), set_(RO, map_(RW, I8, set_(inner, I32))), YES, 1)
+        s.shows("x", x, I32)
+        s.strictly("one access differs", set_(RO, map_(RW, I8, set_(inner, x))), set_(RO, map_(RO, I8, set_(inner, I32))), NO)
+    deep = set_(RO, I32), set_(RW, I32)
+    for level in range(60):
+        deep = tuple((arr, lambda t: set_(RW, t), lambda t: map_(RO, I8, t))[level % 3](term) for term in deep)
+    s.pose("under 60 levels", *deep)
+    s.strictly("under 60 levels, strictly", *deep, NO)
+    s.revision()
+
+
+@part()
+def strict_shapes(s):
+    """But for Set and Map, order 22 looks at what order 4 looks at."""
+    x = s.var()
+    for name, left, right in (
+            ("Reference", ref(SHARED, I32), ref(MUT, I32)), ("Range", range_(0, I32), range_(1, I32)),
+            ("Tuple", tup(I32), tup(I32, I32)), ("Function", fun([I32], I32), fun([], I32)), ("Builtin", I32, I64),
+            ("declaration", struct(1), struct(2)), ("members", struct(1, [], [(1, I32)]), struct(1, [], [(2, I32)])),
+            ("Struct and Enum", struct(1), enum(1)), ("Host", host(1), host(2)), ("Generic", gen(0, 0), gen(0, 1)),
+            ("SelfType", self_(0), self_(1)), ("Array and Iter", arr(I32), iter_(I32)), ("Set and Map", set_(RO, I32), map_(RO, I32, I32)),
+            ("projections, receiver", proj(I32, nom(0), 0), proj(I64, nom(0), 0)),
+            ("projections are not entered", proj(x, nom(0), 0), proj(I32, nom(0), 0)), ("a projection and a type", proj(I32, nom(0), 0), I32)):
+        s.both("%s: two that differ" % name, left, right, NO)
+        s.both("%s: the same" % name, left, left)
+    s.free(x)
+    for outer, around in FRAMES:
+        v = s.var()
+        s.strictly("%s: a variable inside" % outer, around(v), around(I32), YES, 1)
+        s.shows("%s: what it got" % outer, v, I32)
+        s.both("%s: another type inside" % outer, around(v), around(I64), NO)
+        w = s.var()
+        s.both("%s: a circle" % outer, w, around(w), NO)
+        s.both("%s: Unknown inside" % outer, w, around(U))
+        s.both("%s: Error inside, with the variable itself" % outer, tup(w, E), w)
+        s.free(w)
+    x, y, z = s.vars(3)
+    s.strictly("a circle of two", tup(x, y), tup(set_(RO, y), set_(RO, x)), NO, 1)
+    s.shows("the last part was met first", y, set_(RO, x))
+    s.strictly("of two variables the left is bound", z, x, YES, 1)
+    s.shows("z", z, x)
+    s.revision()
+
+
+@part()
+def strict_resolved(s):
+    """Order 22 looks at the access that terms have once they are resolved. A binding keeps that of the term that it was bound to."""
+    x, y, z, w = s.vars(4)
+    s.pose("x gets a ReadOnly Set", x, set_(RO, y), YES, 1)
+    s.pose("and meets a Mutable one, loosely", x, set_(RW, I32), YES, 1)
+    s.strictly("strictly it is ReadOnly", x, set_(RO, I32), YES, 0, 1)
+    s.strictly("and not Mutable", x, set_(RW, I32), NO)
+    s.strictly("nor inside", arr(x), arr(set_(RW, y)), NO)
+    s.strictly("z gets a Mutable Map", z, map_(RW, I8, x), YES, 1)
+    s.strictly("which is not ReadOnly", z, map_(RO, I8, x), NO)
+    s.pose("loosely it meets a ReadOnly one, though it was bound strictly", z, map_(RO, I8, set_(RW, I32)), YES)
+    s.shows("and stays Mutable, with a ReadOnly Set", z, map_(RW, I8, set_(RO, I32)))
+    s.strictly("a variable meets what stands for another", w, z, YES, 1)
+    s.strictly("with its access", w, map_(RW, I8, set_(RO, I32)), YES, 0, 1)
+    s.strictly("two variables that stand for Sets", tup(x, x), tup(set_(RO, I32), set_(RW, I32)), NO)
+    a, b = s.vars(2)
+    s.pose("a is Mutable", a, set_(RW, I32), YES, 1)
+    s.strictly("a and x, strictly", a, x, NO)
+    s.pose("a and x, loosely", a, x, YES)
+    s.strictly("a and x, strictly again", a, x, NO)
+    s.strictly("b gets what a stands for", b, a, YES, 1)
+    s.shows("all", tup(a, b, x), tup(set_(RW, I32), set_(RW, I32), set_(RO, I32)))
+    one, other = s.vars(2)
+    s.strictly("bound in one pair, and met there again", tup(set_(RW, other), one, one), tup(one, set_(RO, I8), set_(RO, other)), NO, 2)
+    s.shows("the last two parts agree, the first does not", tup(one, other), tup(set_(RO, I8), I8))
+    s.revision()
+
+
+@part()
+def strict_turns(s):
+    """Orders 4 and 22 in turn on the same terms: neither is remembered."""
+    left, right = tup(set_(RO, I32), map_(RO, I8, I8)), tup(set_(RW, I32), map_(RW, I8, I8))
+    for _ in range(3):
+        s.pose("loosely", left, right, YES)
+        s.strictly("strictly", left, right, NO)
+        s.strictly("strictly, the same access", left, left, YES)
+        s.pose("loosely, after a strict pair that is compatible", right, left, YES)
+        s.strictly("cancelled at once", left, right, CANCELLED, 0, 0)
+        s.pose("loosely, after a strict pair that was cancelled", left, right, YES)
+        s.order("a refused order 22", "16 09" + left + right + "00", 1)
+        s.pose("loosely, after a strict pair that was refused", left, right, YES)
+        s.order("a refused order 4", "04 09" + left, 1)
+        s.strictly("strictly, after a pair that was refused", left, right, NO)
+    s.revision()
+
+
+@part()
+def strict_families(s):
+    """Families, recovery and projections in strict pairs."""
+    a, b, x = s.number(2), s.number(9), s.var()
+    s.both("two families do not meet", a, b, NO)
+    s.both("an integer takes no F64", a, F64, NO)
+    s.both("nor a Set", set_(RO, I32), a, NO)
+    s.strictly("an integer joins a free variable", a, x, YES, 1)
+    s.both("which is a number variable then", x, F32, NO)
+    s.strictly("a Set of it", set_(RW, x), set_(RW, I8), YES, 1)
+    s.strictly("a Map of the other", map_(RO, b, x), map_(RO, F32, I8), YES, 1)
+    s.shows("all", tup(a, b, x), tup(I8, F32, I8))
+    n, y = s.number(2), s.var()
+    for name, term in (("Unknown", U), ("Error", E)):
+        s.both("%s and a variable" % name, term, y)
+        s.both("%s and a Set" % name, set_(RO, I32), term)
+        s.both("recovery before family: %s in a Set" % name, n, set_(RW, term))
+        s.both("recovery before the circle: %s" % name, y, map_(RW, y, term))
+        s.strictly("%s in a Set, access differs" % name, set_(RO, term), set_(RW, I32), NO)
+        s.strictly("%s in a Map, the same access" % name, map_(RW, term, I8), map_(RW, I32, term), YES)
+        s.strictly("%s beside a clash" % name, tup(term, set_(RO, I8)), tup(set_(RW, I8), set_(RW, I8)), NO)
+    s.free(n, y)
+    for name, around in (
+            ("receiver", lambda t: proj(t, nom(0), 0)), ("argument", lambda t: proj(I8, nom(0), 0, t)),
+            ("interface argument", lambda t: proj(I8, nom(0, [t]), 0)),
+            ("interface member", lambda t: proj(I8, nom(0, [], [(3, t)]), 0))):
+        v, w = s.vars(2)
+        s.both("%s: access counts in a projection by either order" % name, around(set_(RO, I32)), around(set_(RW, I32)), NO)
+        s.both("%s: equal projections" % name, around(set_(RO, I32)), around(set_(RO, I32)), YES, 1)
+        s.strictly("%s: a variable gets the projection" % name, v, around(set_(RO, w)), YES, 1)
+        s.both("%s: not entered" % name, v, around(set_(RO, I32)), NO)
+        s.strictly("%s: the variable inside" % name, w, I32, YES, 1)
+        s.both("%s: equal after resolving" % name, v, around(set_(RO, I32)), YES, 1)
+        s.both("%s: another access inside" % name, v, around(set_(RW, I32)), NO)
+        s.both("%s: a circle" % name, s.var(), around(inf(s.count - 1)), NO)
+    s.revision()
+
+
+@part()
+def strict_checks(s):
+    """k counts as in order 4. A clash of access takes the one check of its pair."""
+    x, y = s.vars(2)
+    s.strictly("k = 0", set_(RO, I32), set_(RO, I32), CANCELLED, 0, 0)
+    s.strictly("k = 0, a clash", set_(RO, I32), set_(RW, I32), CANCELLED, 0, 0)
+    s.strictly("k = 1, equal Sets", set_(RO, I32), set_(RO, I32), YES, 0, 1)
+    s.strictly("k = 1, a clash of access", set_(RO, I32), set_(RW, I32), NO, 0, 1)
+    s.pose("loosely these take a check more", set_(RO, I32), set_(RW, I32), CANCELLED, 0, 1)
+    s.strictly("k = 1, Sets of different terms", set_(RO, x), set_(RO, I32), CANCELLED, 0, 1)
+    s.free(x)
+    s.strictly("k = 2", set_(RO, x), set_(RO, I32), YES, 1, 2)
+    s.strictly("cancelled outranks the clash of access before", tup(y, set_(RO, I32)), tup(I8, set_(RW, I32)), CANCELLED, 0, 2)
+    s.free(y)
+    s.strictly("one check more", tup(y, set_(RO, I32)), tup(I8, set_(RW, I32)), NO, 1, 3)
+    s.strictly("the largest k", set_(RO, I32), set_(RW, I32), NO, 0, MOST)
+    z = s.var()
+    s.strictly("cancelled after a binding, which stays", tup(set_(RO, I8), z), tup(set_(RW, I8), I64), CANCELLED, 1, 2)
+    s.shows("z", z, I64)
+    a, b = set_(RO, I32), set_(RW, I32)
+    for step in range(4):
+        # A pair of Sets with different access takes one check here, and each Tuple of two such pairs one more than twice that.
+        need = 2 ** (step + 1) - 1
+        s.strictly("checks of doubled Sets, one too few", a, b, CANCELLED, 0, need - 1)
+        s.strictly("checks of doubled Sets", a, b, NO, 0, need)
+        a, b = tup(a, a), tup(b, b)
+    s.revision()
+
+
+@part()
+def strict_order_of_parts(s):
+    """Parts are met last to first, as in order 4."""
+    for name, left, right, value in (
+            ("Tuple", lambda x: tup(x, x), tup(set_(RO, I32), set_(RW, I32)), set_(RW, I32)),
+            ("Function", lambda x: fun([x], x), fun([set_(RO, I32)], set_(RW, I32)), set_(RW, I32)),
+            ("Map", lambda x: map_(RO, x, x), map_(RO, set_(RO, I32), set_(RW, I32)), set_(RW, I32)),
+            ("Struct", lambda x: struct(1, [x], [(1, x)]), struct(1, [set_(RO, I8)], [(1, set_(RW, I8))]), set_(RO, I8)),
+            ("arguments", lambda x: struct(1, [x, x]), struct(1, [map_(RO, I8, I8), map_(RW, I8, I8)]), map_(RW, I8, I8)),
+            ("members", lambda x: trait(1, [], [(1, x), (2, x)]), trait(1, [], [(1, set_(RO, I8)), (2, set_(RW, I8))]), set_(RW, I8))):
+        x, y = s.vars(2)
+        s.strictly(name, left(x), right, NO, 1)
+        s.shows("the access met first", x, value)
+        s.pose(name + ", loosely", left(y), right, YES, 1)
+        s.shows("the same one", y, value)
+    s.revision()
+
+
+@part()
+def strict_refusals(s):
+    x = s.var()
+    more = inf(600)
+    for name, text, refusal in (
+            ("ends before k", "16", 1), ("ends after k", "16 09", 1), ("one term", "16 09 02", 1), ("three terms", "16 09 02 02 02", 1),
+            ("a Set that ends early", "16 09 02 0b 00", 1), ("a Map without its value", "16 09" + x + "0a 01 02", 1),
+            ("leftover bytes", "16 09 02 02 00", 1), ("a kind is a byte", "96 00 09 02 02", 2), ("a number for the kind", "16 96 00", 3),
+            ("an unlisted tag on the right", "16 09 02 14", 2), ("an unlisted access of a Set", "16 09" + x + "0b 02 02", 2),
+            ("an unlisted access of a Map", "16 09 0a 02 02 02 02", 2), ("an access is a byte", "16 09 0b 80 00 02 02", 2),
+            ("an unlisted access of a Reference", "16 09 00 02 02 02", 2), ("an unlisted range kind", "16 09" + x + "08 04 02", 2),
+            ("an unlisted code", "16 09 04 20" + x, 2),
+            ("k not shortest", "16 89 00 02 02", 3), ("k too large", "16 80 80 80 80 10 02 02", 3), ("a faulty id", "16 09 01 80 00 02", 3),
+            ("201 levels on the left", "16 09" + arr(x, 200) + I32, 4), ("201 levels on the right", "16 09" + I32 + arr(x, 200), 4),
+            ("201 levels of Sets", "16 09" + "0b 01" * 200 + x + I32, 4), ("the level before an unlisted tag", "16 09" + "0b 01" * 200 + "14", 4),
+            ("members fall", "16 09" + struct(0, [], [(2, U), (1, U)]) + U, 5),
+            ("members repeat, before their term", "16 09 02 0d 00 00 02 01 02 01 14", 5),
+            ("not issued on the left, before the fault on the right", "16 09" + more + "14", 6),
+            ("the fault on the left, before the id", "16 09 14" + more, 2), ("not issued, in a Set", "16 09 02" + set_(RO, more), 6),
+            ("not issued, in a projection", "16 09 02" + proj(U, nom(0, [], [(1, more)]), 0), 6), ("not issued, k = 0", "16 00" + more + I32, 6),
+            ("not issued, before leftover bytes", "16 09" + more + "02 02", 6), ("the largest id", "16 09 02" + inf(MOST), 6),
+            ("kind 21", "15 09 02 02", 2), ("kind 21 with the fields of order 1", "15 09 02", 2), ("kind 23", "17 09 02 02", 2),
+            ("kind 23 alone", "17", 2), ("kind 24", "18", 2), ("kind 28", "1c 09 02 02", 2), ("kind 22 + 128", "96 09 02 02", 2)):
+        s.order(name, text, refusal)
+    s.strictly("200 levels", "0b 00" * 199 + x, "0b 00" * 199 + I32, YES, 1)
+    s.strictly("200 levels, the innermost access differs", "0b 00" * 198 + "0b 01" + x, "0b 00" * 199 + I32, NO)
+    s.revision("no refused order had an effect")
+
+
+@part(alone=True)
+def strict_nodes(s):
+    """Order 22 keeps nodes as order 4: all of them where it binds, none where it binds nothing."""
+    x, *free = s.vars(6)
+    wide = tup(*[U] * 93)
+    s.strictly("2,048 nodes", tup(*[U] * 2046), U)
+    s.strictly("which are not kept", tup(*[U] * 2046), U)
+    for name, text, refusal in (("", x, 7), (", leftover bytes before 7", x + "00", 1), (", an id that is not issued before 7", inf(600), 6)):
+        s.order("2,049 nodes" + name, "16 00" + tup(*[U] * 2047) + text, refusal)
+    s.strictly("a compatible pair that binds keeps its nodes", tup(free[0], wide), tup(I32, U), YES, 1)
+    s.strictly("an incompatible one too", tup(free[1], set_(RO, I32), wide), tup(I32, set_(RW, I32), U), NO, 1)
+    s.strictly("a cancelled one too", tup(wide, set_(RO, I32), free[2]), tup(U, set_(RW, I32), I32), CANCELLED, 1, 2)
+    s.strictly("a compatible pair that binds nothing keeps none", tup(*[U] * 399), U)
+    s.strictly("nor does a clash of access", set_(RO, tup(*[free[3]] * 399)), set_(RW, tup(*[I32] * 399)), NO)
+    s.strictly("nor a clash of access beside Unknown", tup(set_(RO, I8), *[U] * 399), tup(set_(RW, I8), *[I8] * 399), NO)
+    s.strictly("nor a cancelled one", tup(*[set_(RO, I8)] * 199), tup(*[set_(RW, I8)] * 199), CANCELLED, 0, 100)
+    s.order("nor a refused one", "16 09" + tup(free[3], *[U] * 99) + inf(600), 6)
+    s.free(free[3])
+    space_left(s, "what was kept")
+    left = 2048 - s.kept
+    s.order("one node too many, a clash of access", "16 09" + set_(RO, tup(*[U] * (left - 3))) + set_(RW, U), 7)
+    s.order("one node too many, which would bind a variable", "16 09" + tup(free[3], tup(*[U] * (left - 5))) + tup(I32, U), 7)
+    s.free(free[3])
+    s.strictly("the space left, a clash of access", set_(RO, tup(*[U] * (left - 4))), set_(RW, U), NO)
+    s.strictly("the space left, which binds", tup(free[3], tup(*[U] * (left - 6))), tup(I32, U), YES, 1)
+    s.order("no node is left for order 22", "16 09" + x + U, 7)
+    s.order("nor for order 5", "05" + x, 7)
+    s.order("leftover bytes before 7", "16 09" + x + U + "00", 1)
+    s.order("defaults have no nodes", "06", "00")
+    s.revision()
+
+
+@part(alone=True)
+def strict_512(s):
+    """Order 22 issues no variable, so that it is never refused with 8."""
+    row = s.vars(512)
+    s.order("a 513th variable", "00" + num(s.new_site()) + "00", 8)
+    s.strictly("the last variable", row[511], set_(RW, row[0]), YES, 1)
+    s.strictly("another access", row[511], set_(RO, row[0]), NO)
+    s.order("variable 512", "16 09" + inf(512) + I32, 6)
+    s.revision()
+
+
+@part(alone=True)
+def strict_lattice(s):
+    """One satisfied strict pair for each cell, 1,000 times eight nodes; then pairs that are never satisfied strictly."""
+    x, y = s.vars(2)
+    s.strictly("the first cell", set_(RO, x), set_(RO, tup(y, map_(RW, I8, I8))), YES, 1)
+    for cell in range(2, 1001):
+        s.strictly("cell %d" % cell, set_(RO, x), set_(RO, tup(y, map_(RW, I8, I8))), YES)
+    for _ in range(120):
+        s.strictly("another access", set_(RW, x), set_(RO, tup(y, map_(RW, I8, I8))), NO)
+        s.strictly("another access inside", set_(RO, x), set_(RO, tup(y, map_(RO, I8, I8))), NO)
+        s.pose("loosely", set_(RW, x), set_(RO, tup(y, map_(RO, I8, I8))), YES)
+    s.free(y)
+    s.revision()
+    space_left(s, "the first cell's nodes are kept")
+
+
+@part(alone=True)
+def strict_repeated(s):
+    """A compatible pair posed again, by either order: strictly compatible ones are loosely so, and not the other way round."""
+    x, y, z = s.vars(3)
+    s.strictly("strictly", tup(x, set_(RO, y)), tup(set_(RW, I8), set_(RO, I32)), YES, 2)
+    for _ in range(3):
+        s.both("again", tup(x, set_(RO, y)), tup(set_(RW, I8), set_(RO, I32)))
+    s.pose("loosely", z, map_(RO, I8, set_(RO, I8)), YES, 1)
+    s.pose("another access", z, map_(RW, I8, set_(RW, I8)), YES)
+    for _ in range(3):
+        s.pose("again loosely", z, map_(RW, I8, set_(RW, I8)), YES)
+        s.strictly("again strictly", z, map_(RW, I8, set_(RW, I8)), NO)
+    s.shows("all", tup(x, y, z), tup(set_(RW, I8), I32, map_(RO, I8, set_(RO, I8))))
+    a, _, b, c = s.vars(4)
+    for turn, bound in (("first", 1), ("second", 1), ("third", 0)):
+        s.strictly("a pair with Unknown, the %s time" % turn, tup(a, a), tup(set_(RO, tup(b, c)), set_(RO, tup(U, I32))), YES, bound)
+    s.strictly("with another access its parts are not met", tup(a, a), tup(set_(RO, tup(b, c)), set_(RW, tup(U, I64))), NO)
+    s.shows("a, b and c", tup(a, b, c), tup(set_(RO, tup(b, I32)), b, I32))
+    s.revision()
+    space_left(s, "three pairs that bound, one of them twice")
 
 
 # ---------------------------------------------------------------- Runs
@@ -934,6 +1271,20 @@ run_case("the order that does not fit has no effect and ends the run", "03 00 07
 run_case("a refused order counts as answered", "00" + TWO, 0, 3, "01 01" + TWO_OUT)
 run_case("2,048 nodes after a pair of 1,002 that binds nothing", "ee 07 04 09 05 e8 07" + "02" * 1001 + "83 10 0f 05 ff 0f" + "02" * 2047,
          0, 2, "02 00 01 08 00 00 00 00 01 01 00 00")
+run_case("2,048 nodes after an order 22 of 1,002 that binds nothing", "ee 07 16 09 05 e8 07" + "02" * 1001 + "83 10 0f 05 ff 0f" + "02" * 2047,
+         0, 2, "02 00 01 08 00 00 00 00 01 01 00 00")
+CLASH = "03 00 00 00 0a 16 09 0b 00 01 00 0b 01 04 02"      # a variable, a strict pair whose parts are not met
+CLASH_OUT = "03 00 01 00 02 00 00"
+run_case("a strict clash, and the variable after it", CLASH + "03 05 01 00", 0, 3, CLASH_OUT + "03 00 01 00")
+run_case("the same pair loosely", CLASH.replace("16", "04") + "03 05 01 00", 0, 3, "03 00 01 00 02 00 01 03 00 04 02")
+run_case("room for an order 22", CLASH, 0, 2, CLASH_OUT, room=7)
+run_case("a byte too few for an order 22", CLASH, 11, 1, "03 00 01 00", room=6)
+run_case("room for a refused order 22", "01 16", 0, 1, "01 01", room=2)
+run_case("a byte too few for a refused order 22", "01 16", 11, 0, "", room=1)
+run_case("an order 22 that does not fit binds nothing and ends the run", "03 00 00 00 06 16 09 01 00 04 02 01 08", 11, 1, "03 00 01 00", room=6)
+run_case("a length beyond the sheet before an order 22", CLASH + "07 16 09 01 00 04 02", 10, 2, CLASH_OUT)
+run_case("an order 22 cut by its length", "03 00 00 00 04 16 09 01 00 01 08", 0, 3, "03 00 01 00 01 01 02 00 00")
+run_case("a faulty length behind an order 22, in a full output", CLASH + "80 00", 10, 2, CLASH_OUT, room=7)
 for kind, first, last in (("resolve", "00 00 00", "05 01 00"), ("a hole", "02 00", "02 00"), ("a number place", "00 00 01", "01 00 02")):
     run_case("an answer that would have 2^40 bytes, to " + kind, b"".join(
         [framed(bytes.fromhex(first))] + [framed(bytes.fromhex("00" + num(n) + "00")) for n in range(1, 41)]
@@ -974,19 +1325,20 @@ run_case("a sheet of 16,777,216 bytes", b"\x80" + bytes(16777215), 10, 0, "")
 # ---------------------------------------------------------------- Making
 
 def scripts():
-    """Pairs (name, script): each part alone, and all of them but the lone ones together."""
-    together = Script()
+    """Pairs (name, script): each part alone, and all of them but the lone ones together: those without order 22, which the Rust is asked too, and the others."""
+    together, strict = Script(), Script()
     for name, function, alone in PARTS:
         script = Script()
         function(script)
         yield name, script
         if not alone:
-            function(together)
-    x, *free = together.vars(5)
-    fill_variables(together)
-    together.has_number = True
-    fill_nodes(together, x, free)
-    yield "together", together
+            function(strict if any(order[:1] == b"\x16" for _, order, _ in script.steps) else together)
+    for name, parts in (("together", together), ("together_strict", strict)):
+        x, *free = parts.vars(5)
+        fill_variables(parts)
+        parts.has_number = True
+        fill_nodes(parts, x, free)
+        yield name, parts
 
 
 def make():
@@ -1003,6 +1355,7 @@ def make():
             sys.exit("%s: the reference gives %s" % (name, reference.run(sheet, room, words=words)))
         if words == Sheet.LEAST_WORDS:
             SHEETS.append((name, room, sheet, wanted))
+
 
 
 make()
@@ -1061,7 +1414,7 @@ def check(directory):
 def listing():
     count = 0
     for name, script in scripts():
-        if name == "together":
+        if name.startswith("together"):
             break
         print(name)
         session = Sheet()

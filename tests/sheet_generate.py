@@ -2,7 +2,8 @@
 """Random sheets.
 
 sheets(how_many, seed) gives triples: the family, room for the answers, the
-sheet. They are the same for the same seed.
+sheet. They are the same for the same seed. In half of the sheets pairs are
+posed by order 22, some or all of them; strict=(0,) makes none.
 
   python3 tests/sheet_generate.py [--sheets N] [--seed S]     counts and sizes by family
 
@@ -23,6 +24,8 @@ and in JUDGED, for tests/judge.py, too:
   edges      orders 9 to 20 with 200 levels or 2,048 nodes, one less and one more
   shadowed   substitutions with an entry twice, values that hold what is substituted, parameters of a family that are entries too
   every_room one sheet with outputs of every length from 0 to one byte more than its answers
+  strictly   orders 22 that are answered; the other families of JUDGED have none
+  refused_strictly  orders 22 that are refused
 """
 
 import argparse
@@ -36,7 +39,7 @@ from orders_reference import (
     SELF_TYPE, SET, STRUCT, THE_ERROR, THE_UNKNOWN, TRAIT, TUPLE, children, with_children, written)
 from sheet_reference import Sheet
 from terms_generate import damaged_bytes, not_shortest, too_large
-from terms_reference import Refused, framed, number_bytes
+from terms_reference import Refused, framed, number_bytes, split
 
 MOST = 4294967295
 ROOM = Sheet.OUTPUT
@@ -58,6 +61,16 @@ def joined(orders):
     return b"".join(map(framed, orders))
 
 
+class Source(random.Random):
+    """Random choices; strict is the share of pairs that are posed by order 22."""
+
+    strict = 0
+
+
+def pair_kind(rng):
+    return 22 if rng.strict and rng.random() < rng.strict else 4
+
+
 class Script:
     """Makes the orders of one sheet."""
 
@@ -69,12 +82,16 @@ class Script:
         self.clean = [BUILTIN, BUILTIN, BUILTIN, TUPLE, STRUCT, TRAIT, HOST, GENERIC, SELF_TYPE]
         self.maker.leaves = self.clean
         self.maker.pool_share = 0.35
+        self.collections = []       # pairs of a variable and a Set or Map that it met
 
     def chance(self, share):
         return self.rng.random() < share
 
     def add(self, kind, *fields):
         self.orders.append(order(kind, *fields))
+
+    def pose(self, *fields):
+        self.add(pair_kind(self.rng), *fields)
 
     def sheet(self):
         return joined(self.orders)
@@ -156,7 +173,7 @@ class Script:
     # Pairs
 
     def pair(self):
-        names, shares = zip(*PAIRS)
+        names, shares = zip(*(STRICT_PAIRS if self.rng.strict else PAIRS))
         left, right = getattr(self, self.rng.choices(names, shares)[0])()
         return (right, left) if self.chance(0.5) else (left, right)
 
@@ -227,6 +244,14 @@ class Script:
             left, right = (TUPLE, (self.variable(), left)), (TUPLE, (left, right))
         return left, right
 
+    def accessed_again(self):
+        """A variable meets a Set or Map that it met before, or a new one; now and then with another access."""
+        if not self.collections or self.chance(0.4):
+            term = self.with_variables(self.term(self.rng.choice((1, 2))))
+            self.collections.append((self.variable(), (SET, 0, term) if self.chance(0.6) else (MAP, 1, self.term(1), term)))
+        variable, term = self.rng.choice(self.collections)
+        return variable, self.flipped(term, 0.3)
+
     def same(self):
         """The parts meet in an order that shows: several variables, each more than once."""
         rng = self.rng
@@ -252,7 +277,7 @@ class Script:
 
     def constrain(self, checks=None):
         left, right = self.pair()
-        self.add(4, self.checks() if checks is None else checks, left, right)
+        self.pose(self.checks() if checks is None else checks, left, right)
 
     # Others
 
@@ -286,6 +311,7 @@ class Script:
 
 PAIRS = (("unifying", 22), ("clashing", 12), ("unlike", 3), ("circle", 9), ("link", 12), ("valued", 10), ("composed", 9),
          ("recovering", 8), ("projecting", 8), ("accessed", 8), ("same", 14))
+STRICT_PAIRS = PAIRS + (("accessed", 30), ("accessed_again", 20))
 STEPS = (("constrain", 52), ("resolve", 12), ("issue", 6), ("hole", 4), ("request", 9), ("defer", 6), ("numeric_defaults", 3),
          ("never_defaults", 3), ("revision", 5), ("plain", 1.2))
 MIXED = (("constrain", 20), ("resolve", 12), ("issue", 6), ("hole", 4), ("request", 6), ("defer", 5), ("numeric_defaults", 1),
@@ -317,7 +343,7 @@ def session(rng):
 
 
 def needed(orders):
-    """The checks that the last order 4 needs, given all orders before it."""
+    """The checks that the last order, a pair, needs, given all orders before it."""
     low, high = 0, 1
     body = orders[-1]
 
@@ -332,7 +358,7 @@ def needed(orders):
 
 
 def with_checks(body, checks):
-    """An order 4 whose k is a single byte, with another k."""
+    """A pair whose k is a single byte, with another k."""
     return body[:1] + number_bytes(checks) + body[2:]
 
 
@@ -377,13 +403,13 @@ def chain(rng):
             pair = (var(left), var(right)) if rng.random() < 0.6 else (var(right), var(left))
             if rng.random() < 0.15:
                 pair = (ARRAY, pair[0]), (ARRAY, pair[1])
-            script.add(4, 9, *pair)
+            script.pose(9, *pair)
         if rng.random() < 0.1:
             script.request(rng.randrange(how_many))
         if rng.random() < 0.1:
             script.defer()
     if rng.random() < 0.4:
-        script.add(4, 5, *script.valued())
+        script.pose(5, *script.valued())
     for kind in rng.choice(((6, 7), (7, 6), (6,), (7,), (6, 8, 6), (7, 8, 7))):
         if rng.random() < 0.5:
             script.add(3, script.variable())
@@ -415,16 +441,16 @@ def pads(nodes):
 
 
 def quiet_pair(rng, nodes):
-    """An order 4 with so many nodes, two or more, that binds nothing."""
+    """A pair with so many nodes, two or more, that binds nothing."""
     first = rng.randint(1, nodes - 1)
     pair = pads(first), pads(nodes - first)
     if rng.random() < 0.2 and nodes > 2:
         pair = var(0), pads(nodes - 1)
-    return order(4, rng.choice((0, 1, 9, 9)), *pair)
+    return order(pair_kind(rng), rng.choice((0, 1, 9, 9)), *pair)
 
 
 def binding_pair(script, nodes):
-    """A new variable, and an order 4 with so many nodes, two or more, that binds it: compatible, incompatible or cancelled."""
+    """A new variable, and a pair with so many nodes, two or more, that binds it: compatible, incompatible or cancelled."""
     rng, new = script.rng, script.fresh()
     if nodes < 6 or rng.random() < 0.3:
         pair, checks = (new, I8 if nodes == 2 else (TUPLE, (I8,) * (nodes - 2))), rng.choice((1, 9))
@@ -433,7 +459,7 @@ def binding_pair(script, nodes):
         first = rng.randint(1, nodes - 5)
         pair = (TUPLE, (pads(first), new)), (TUPLE, (pads(nodes - 4 - first), I8))
         checks = rng.choice((2, 3, 9, 9))
-    script.add(4, checks, *(pair if rng.random() < 0.5 else pair[::-1]))
+    script.pose(checks, *(pair if rng.random() < 0.5 else pair[::-1]))
 
 
 def fill_nodes(script, left):
@@ -473,7 +499,7 @@ def at_the_edge(rng):
     if pick < 0.3:
         data = order(rng.choice((3, 5)), rng.choice((THE_UNKNOWN, var(0), pads(2), pads(3), NOT_ISSUED)))
     elif pick < 0.5:
-        data = order(4, 9, THE_UNKNOWN, rng.choice((var(0), I8, pads(2), NOT_ISSUED)))
+        data = order(pair_kind(rng), 9, THE_UNKNOWN, rng.choice((var(0), I8, pads(2), NOT_ISSUED)))
     elif pick < 0.8:
         data = rng.choice(FEW_NODES)
     else:
@@ -497,7 +523,7 @@ def limits(rng):
                 site = rng.choice((rng.randrange(512), 600 + rng.randrange(3)))
                 script.add(kind, site, *((0,), (2,), ())[kind])
             else:
-                script.add(4, 9, var(rng.choice((0, 510, 511, 511, 512))), var(rng.choice((1, 511, 512))))
+                script.pose(9, var(rng.choice((0, 510, 511, 511, 512))), var(rng.choice((1, 511, 512))))
         if rng.random() < 0.7:
             script.add(rng.choice((6, 7, 8)))
             script.add(8)
@@ -513,11 +539,11 @@ def limits(rng):
         for _ in range(rng.randint(1, 4)):
             levels = rng.choice((199, 200, 200, 201, 201, 202))
             term = tall(levels, rng.choice((THE_UNKNOWN, var(0), var(0), var(1), I8)), rng)
-            kind = rng.choice((3, 3, 3, 4, 4, 5, 5, 15))
+            kind = rng.choice((3, 3, 3, 4, 4, 4, 5, 5, 15))
             fields = {3: (term,), 4: (9, term, I8), 5: (term,), 15: (term,)}[kind]
             if kind == 4 and rng.random() < 0.5:
                 fields = 300, var(0), term
-            data = order(kind, *fields)
+            data = order(pair_kind(rng) if kind == 4 else kind, *fields)
             if rng.random() < 0.15:
                 # The deepest term is missing or has an unlisted tag.
                 data = data[:-1] + rng.choice((b"", b"\x14", b"\xff"))
@@ -530,7 +556,7 @@ def limits(rng):
             first = rng.randint(1, nodes - 1)
             pair = pads(first), pads(nodes - first)
             fields = {3: (pads(nodes),), 4: (9,) + pair, 5: (pads(nodes),), 15: (pads(nodes),), 9: pair}[kind]
-            data = order(kind, *fields)
+            data = order(pair_kind(rng) if kind == 4 else kind, *fields)
             if rng.random() < 0.3:
                 data = rng.choice((data[:-1], data + b"\x02", data[:-1] + b"\x14"))
             script.orders.append(data)
@@ -551,21 +577,21 @@ def repeats(rng):
     posed = [script.passed_over() if rng.random() < 0.3 else script.pair() for _ in range(rng.randint(1, 5))]
     posed = [(script.checks(),) + pair for pair in posed]
     for pair in posed + rng.choices(posed, k=rng.randrange(4)):
-        script.add(4, *pair)
+        script.pose(*pair)
     fill_nodes(script, space_left() - rng.choice((0, 2, 3, 6, 10, 20, 40)))
     for _ in range(rng.randint(4, 16)):
         space, pick = space_left() + rng.choice((-1, 0, 0, 1)), rng.random()
         if pick < 0.5:
-            script.add(4, *rng.choice(posed))
+            script.pose(*rng.choice(posed))
         elif pick < 0.6:
-            script.add(4, script.checks(), *rng.choice(posed)[1:])
+            script.pose(script.checks(), *rng.choice(posed)[1:])
         elif pick < 0.7:
             script.orders.append(quiet_pair(rng, max(2, space)))
         elif pick < 0.75:
             binding_pair(script, max(2, space))
         elif pick < 0.85:
             posed.append((script.checks(),) + script.pair())
-            script.add(4, *posed[-1])
+            script.pose(*posed[-1])
         elif pick < 0.95:
             script.orders.append(with_nodes(rng, space))
         else:
@@ -606,7 +632,7 @@ def full(rng):
     """Answers close to 32,768 bytes; some are the last of the sheet, and some are followed by others."""
     script = Script(rng)
     script.add(0, 0, 0)
-    script.add(4, 9, var(0), (TUPLE, (I8,) * 500))
+    script.pose(9, var(0), (TUPLE, (I8,) * 500))
     # Each variable in an order 5 gives 1,003 bytes.
     wide = order(5, (TUPLE, (var(0),) * 10))
     script.orders += [wide] * 3
@@ -614,7 +640,7 @@ def full(rng):
     if rng.random() < 0.5:
         script.orders += [each for each in small.orders if each[0] not in (0, 1, 2, 6, 7)][:8]
     used = len(reference.run(script.sheet(), 1 << 20).output)
-    last = rng.choice((order(8), order(5, var(0)), order(15, THE_UNKNOWN), order(0, 0, 0), b"", b"\x16", order(1, 5, 2)))
+    last = rng.choice((order(8), order(5, var(0)), order(15, THE_UNKNOWN), order(0, 0, 0), b"", b"\x15", order(1, 5, 2)))
     taken = len(reference.run(script.sheet() + framed(last), 1 << 20).output) - used
     fill = 32768 - used - rng.choice((0, taken)) + rng.choice((-1, 0, 0, 1))
     script.orders += filler(fill)
@@ -659,20 +685,20 @@ def doubled(rng, most=7, checks=MOST):
     for row in rows:
         for base, flip in ((0, 0), (offset, rng.choice((0, 0, 1)))):
             term = frame(var(base + row + 1), var(base + row + 1))
-            script.add(4, 9, var(base + row), script.flipped(term, flip))
+            script.pose(9, var(base + row), script.flipped(term, flip))
     leaf = rng.random()
     if leaf < 0.5:
-        script.add(4, 9, var(how_many), rng.choice((I8, I32, THE_UNKNOWN, var(2 * how_many + 1))))
-        script.add(4, 9, var(2 * how_many + 1), rng.choice((I8, (TUPLE, ()))))
+        script.pose(9, var(how_many), rng.choice((I8, I32, THE_UNKNOWN, var(2 * how_many + 1))))
+        script.pose(9, var(2 * how_many + 1), rng.choice((I8, (TUPLE, ()))))
     elif leaf < 0.6:
-        script.add(4, 9, var(how_many), var(offset))
+        script.pose(9, var(how_many), var(offset))
     elif leaf < 0.7:
-        script.add(4, 9, var(how_many), (ARRAY, var(0)))
+        script.pose(9, var(how_many), (ARRAY, var(0)))
     first = rng.choice((MOST, 1000, 3 * 2 ** how_many - 1, 3 * 2 ** how_many - 2, rng.randrange(40)))
-    script.add(4, min(checks, first), var(0), var(offset))
+    script.pose(min(checks, first), var(0), var(offset))
     script.add(8)
     script.add(5, var(rng.randrange(how_many + 1)))
-    script.add(4, checks, var(0), var(offset))
+    script.pose(checks, var(0), var(offset))
     script.orders.append(again)
     yield ROOM, script.sheet()
 
@@ -692,10 +718,10 @@ def deep(rng):
         script.add(0, site, 0)
     for site in range(pieces):
         if 2048 > (levels + 2) * (site + 1):
-            script.add(4, 5, var(site), tall(levels, var(site + 1), rng))
+            script.pose(5, var(site), tall(levels, var(site + 1), rng))
     script.add(5, var(0))
-    script.add(4, MOST, var(pieces), rng.choice((I8, var(0), THE_ERROR, var(1))))
-    script.add(4, 100, var(0), var(0))
+    script.pose(MOST, var(pieces), rng.choice((I8, var(0), THE_ERROR, var(1))))
+    script.pose(100, var(0), var(0))
     script.add(5, var(0))
     script.add(8)
     yield ROOM, script.sheet()
@@ -729,7 +755,7 @@ def damaged(rng):
         falling = (STRUCT, (0, (), ((3, I8), (rng.choice((3, 2)), I8))))
         at = rng.randrange(len(orders) + 1)
         orders.insert(at, order(rng.choice((3, 5)), script.around(falling, 1)) if rng.random() < 0.5
-                      else order(4, 9, script.variable(), falling))
+                      else order(pair_kind(rng), 9, script.variable(), falling))
     pick = rng.random()
     if pick < 0.55:
         for _ in range(rng.choice((1, 1, 2, 3))):
@@ -744,7 +770,8 @@ def damaged(rng):
         yield ROOM, joined(orders[:at]) + length + orders[at] + joined(orders[at + 1:])
     elif pick < 0.8:
         at = rng.randrange(len(orders) + 1)
-        more = rng.choice((b"", bytes([rng.choice((21, 22, 27, 127, 128, 255))]), bytes([rng.randrange(21, 256)]) + b"\x00"))
+        more = rng.choice((b"", bytes([rng.choice((21, 22, 27, 127, 128, 255))]), bytes([rng.randrange(21, 256)]) + b"\x00",
+                           bytes([rng.choice((21, 23))]) + order(4, 9, script.variable(), I8)[1:]))
         yield ROOM, joined(orders[:at] + [more] + orders[at:])
     elif pick < 0.84:
         yield ROOM, rng.randbytes(rng.randrange(20))
@@ -830,19 +857,54 @@ def every_room(rng):
             yield room_left, sheet
 
 
+def strictly(rng):
+    """Orders 22 between others: the Rust is left at the first that is answered."""
+    rng.strict = rng.choice((0.2, 0.5, 1))
+    yield from rng.choice((session, session, chain, repeats, damaged))(rng)
+
+
+def with_damaged_pairs(rng):
+    """A session with some orders 4 that have a faulty field, members that do not rise, or too many levels."""
+    script = session_script(rng)
+    for _ in range(rng.randint(2, 8)):
+        left, right = script.pair()
+        pick = rng.random()
+        if pick < 0.2:
+            right = (STRUCT, (0, (), ((3, right), (rng.choice((3, 2)), I8))))
+        elif pick < 0.25:
+            right = tall(rng.choice((200, 201, 202)), right, rng)
+        data = order(4, script.checks(), left, right)
+        script.orders.insert(rng.randrange(len(script.orders) + 1), data if 0.2 <= pick < 0.25 or rng.random() < 0.2 else damaged_order(data, rng))
+    yield ROOM, script.sheet()
+
+
+def refused_strictly(rng):
+    """Sheets in which orders 4 are refused; some of these are orders 22, which are refused in the same way."""
+    room_left, sheet = next(rng.choice((with_damaged_pairs, with_damaged_pairs, with_damaged_pairs, limits, limits, repeats))(rng))
+    orders, rest = split(sheet)
+    answers = split(reference.run(sheet, room_left).output)[0]
+    for at, answer in enumerate(answers):
+        if orders[at][:1] == b"\x04" and answer[0] and rng.random() < 0.8:
+            orders[at] = b"\x16" + orders[at][1:]
+    yield room_left, joined(orders) + rest
+
+
+# The shares of order 22 among the pairs of a sheet, of which each sheet has one.
+STRICT = (0, 0, 0.5, 1)
 FAMILIES = ((session, 0.41), (checks, 0.05), (chain, 0.09), (limits, 0.06), (repeats, 0.02), (room, 0.05), (full, 0.004), (doubled, 0.03),
             (large_doubled, 0.002), (deep, 0.006), (damaged, 0.25), (mixed, 0.004))
 JUDGED = ((session, 0.30), (checks, 0.02), (chain, 0.07), (limits, 0.06), (repeats, 0.02), (room, 0.03), (full, 0.001), (doubled, 0.02),
           (large_doubled, 0.0005), (deep, 0.004), (damaged, 0.18), (mixed, 0.001), (operations, 0.25), (edges, 0.03),
-          (shadowed, 0.05), (every_room, 0.004))
+          (shadowed, 0.05), (every_room, 0.004), (strictly, 0.01), (refused_strictly, 0.04))
 
 
-def sheets(how_many, seed, families=FAMILIES):
-    rng = random.Random(seed)
+def sheets(how_many, seed, families=FAMILIES, strict=STRICT):
+    rng = Source(seed)
     made = 0
     makers, shares = zip(*families)
     while made < how_many:
         family = rng.choices(makers, shares)[0]
+        rng.strict = rng.choice(strict)
         for room_left, sheet in family(rng):
             if made < how_many and len(sheet) <= LENGTH:
                 made += 1
@@ -855,7 +917,7 @@ def main():
     parser.add_argument("--seed", type=int, default=1, metavar="S")
     options = parser.parse_args()
     counts = {}
-    for family, _, sheet in sheets(options.sheets, options.seed, JUDGED):
+    for family, _, sheet in sheets(options.sheets, options.seed, JUDGED, (0,)):
         count, size = counts.get(family, (0, 0))
         counts[family] = count + 1, size + len(sheet)
     for family, (count, size) in sorted(counts.items()):

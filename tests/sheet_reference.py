@@ -49,7 +49,10 @@ ORDERS = {
     6: ((), "numeric_default_order"),
     7: ((), "never_default_order"),
     8: ((), "revision_order"),
+    22: (("one_number", "one_term", "one_term"), "strict_order"),
 }
+# The orders that pose a pair.
+PAIRS = (4, 22)
 
 
 class Node:
@@ -120,7 +123,7 @@ class Sheet:
     INPUT = OUTPUT = 32768
     FIELDS = Fields
     PLAIN = orders_reference.Orders
-    KINDS = tuple(range(21))
+    KINDS = tuple(range(21)) + (22,)
 
     def __init__(self):
         self.nodes = {}
@@ -130,6 +133,8 @@ class Sheet:
         self.diverging = set()
         self.revision = 0
         self.kept = 0
+        # Whether Set and Map access counts in the pair at hand.
+        self.strict = False
         # The bound variables as bits, and the Nodes resolved since the last binding.
         self.bound = 0
         self.resolved = {}
@@ -280,7 +285,7 @@ class Sheet:
         if left.tag not in ENTERED:
             return False
         first, second = left.shape(), right.shape()
-        if left.tag in (SET, MAP):
+        if left.tag in (SET, MAP) and not self.strict:
             # Access is not looked at.
             first, second = first[:1] + first[2:], second[:1] + second[2:]
         return first == second
@@ -345,6 +350,13 @@ class Sheet:
         self.diverging.add(variable)
 
     def constrain_order(self, checks, left, right):
+        return self.pair_order(False, checks, left, right)
+
+    def strict_order(self, checks, left, right):
+        return self.pair_order(True, checks, left, right)
+
+    def pair_order(self, strict, checks, left, right):
+        self.strict = strict
         return bytes([self.constrain(checks, self.shared(left), self.shared(right))])
 
     def resolve_order(self, term):
@@ -399,8 +411,8 @@ class Sheet:
         return value
 
     def keep(self, kind, nodes, value, bound):
-        """Order 4 keeps all its nodes where it bound a variable, and none where it bound nothing, whatever it answers."""
-        if kind == 4 and bound:
+        """A pair keeps all its nodes where it bound a variable, and none where it bound nothing, whatever it answers."""
+        if kind in PAIRS and bound:
             self.kept += nodes
 
     def plain_value(self, order):

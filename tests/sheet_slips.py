@@ -22,7 +22,7 @@ import sheet_reference as reference
 from orders_reference import BUILTIN, ENUM, ERROR, FUNCTION, HOST, INFERENCE, MAP, NOMINALS, PROJECTION, RANGE, REFERENCE, SET
 from orders_reference import STRUCT, TUPLE, UNKNOWN, Orders
 from sheet_reference import (
-    CANCELLED, COMPATIBLE, ENTERED, F32, F64, FLOATS, INCOMPATIBLE, INTEGERS, NEVER, Fields, Node, Run, Sheet)
+    CANCELLED, COMPATIBLE, ENTERED, F32, F64, FLOATS, INCOMPATIBLE, INTEGERS, NEVER, PAIRS, Fields, Node, Run, Sheet)
 from slips import Registry
 from terms_reference import Reader, Refused, number_bytes
 
@@ -369,7 +369,7 @@ class OtherShape(Sheet):
         if left.tag not in ENTERED or right.tag not in ENTERED:
             return False
         first, second = self.changed(left.tag, left.shape()), self.changed(right.tag, right.shape())
-        if left.tag in (SET, MAP) and left.tag == right.tag:
+        if left.tag in (SET, MAP) and left.tag == right.tag and not self.strict:
             first, second = first[:1] + first[2:], second[:1] + second[2:]
         return first == second and len(left.below) == len(right.below)
 
@@ -479,6 +479,184 @@ class builtins_meet(Sheet):
 class hosts_meet(Sheet):
     def met(self, left, right):
         return () if left.tag == right.tag == HOST else super().met(left, right)
+
+
+# Order 22
+
+class LooselyHere(Sheet):
+    """Order 22, loosely where loose(left, right) says so of two resolved terms."""
+
+    def loose(self, left, right):
+        return False
+
+    def same_shape(self, left, right):
+        before = self.strict
+        self.strict = before and not self.loose(left, right)
+        same = super().same_shape(left, right)
+        self.strict = before
+        return same
+
+
+def loosely(name, rule):
+    """A slip of where order 22 looks at access; rule(left, right) says where it does not."""
+    SLIPS[name] = type(name, (LooselyHere,), {"loose": lambda self, left, right: rule(left, right)})
+
+
+loosely("order_22_is_order_4", lambda left, right: True)
+loosely("order_22_looks_at_sets_only", lambda left, right: left.tag == MAP)
+loosely("order_22_looks_at_maps_only", lambda left, right: left.tag == SET)
+loosely("mutable_weakens_in_order_22", lambda left, right: left.tag in (SET, MAP) and left.parts[0] == 1)
+loosely("read_only_strengthens_in_order_22", lambda left, right: left.tag in (SET, MAP) and left.parts[0] == 0)
+loosely("order_22_looks_at_variable_free_terms_only", lambda left, right: left.variables or right.variables)
+
+
+@slip
+class order_22_looks_at_the_whole_terms_only(Sheet):
+    def met(self, left, right):
+        parts = super().met(left, right)
+        self.strict = False
+        return parts
+
+
+@slip
+class order_22_looks_behind_no_variable(Sheet):
+    """A Set or Map that a variable stands for meets loosely."""
+
+    def pair_order(self, strict, checks, left, right):
+        return super().pair_order(strict and INFERENCE not in (left[0], right[0]), checks, left, right)
+
+
+@slip
+class parts_met_after_a_clash_of_access(Sheet):
+    clash = False
+
+    def constrain(self, checks, left, right):
+        self.clash = False
+        answer = super().constrain(checks, left, right)
+        return INCOMPATIBLE if answer == COMPATIBLE and self.clash else answer
+
+    def same_shape(self, left, right):
+        if super().same_shape(left, right):
+            return True
+        before, self.strict = self.strict, False
+        same = super().same_shape(left, right)
+        self.strict = before
+        self.clash = self.clash or same
+        return same
+
+
+@slip
+class strictness_remembered(Sheet):
+    def constrain_order(self, checks, left, right):
+        return self.pair_order(self.strict, checks, left, right)
+
+
+@slip
+class looseness_remembered(Sheet):
+    posed = False
+
+    def constrain_order(self, checks, left, right):
+        self.posed = True
+        return super().constrain_order(checks, left, right)
+
+    def strict_order(self, checks, left, right):
+        return self.pair_order(not self.posed, checks, left, right)
+
+
+@slip
+class a_binding_of_order_22_meets_strictly(Sheet):
+    """Whichever order it is posed by."""
+
+    def __init__(self):
+        super().__init__()
+        self.bound_strictly = set()
+
+    def bind(self, variable, term):
+        if self.strict and term.tag in (SET, MAP):
+            self.bound_strictly.add(term)
+        super().bind(variable, term)
+
+    def same_shape(self, left, right):
+        before = self.strict
+        self.strict = before or not self.bound_strictly.isdisjoint((left, right))
+        same = super().same_shape(left, right)
+        self.strict = before
+        return same
+
+
+@slip
+class equality_ignores_access_in_order_22(equality_ignores_access):
+    def met(self, left, right):
+        return super().met(left, right) if self.strict else Sheet.met(self, left, right)
+
+
+@slip
+class reference_access_ignored_in_order_22(reference_access_ignored):
+    def changed(self, tag, shape):
+        return super().changed(tag, shape) if self.strict else shape
+
+
+@slip
+class projections_entered_in_order_22(Sheet):
+    def same_shape(self, left, right):
+        return left.shape() == right.shape() if self.strict and left.tag == PROJECTION else super().same_shape(left, right)
+
+
+@slip
+class recovery_is_incompatible_in_order_22(recovery_is_incompatible):
+    def variable_met(self, variable, term):
+        return super().variable_met(variable, term) if self.strict else Sheet.variable_met(self, variable, term)
+
+
+@slip
+class no_families_in_order_22(Sheet):
+    def admits(self, variable, term):
+        return self.strict and term.tag == BUILTIN or super().admits(variable, term)
+
+
+@slip
+class no_occurs_check_in_order_22(no_occurs_check):
+    def variable_met(self, variable, term):
+        return super().variable_met(variable, term) if self.strict else Sheet.variable_met(self, variable, term)
+
+
+@slip
+class order_22_never_cancels(Sheet):
+    def constrain(self, checks, left, right):
+        return super().constrain(1 << 64 if self.strict else checks, left, right)
+
+
+@slip
+class order_22_binds_nothing(Sheet):
+    def bind(self, variable, term):
+        if not self.strict:
+            super().bind(variable, term)
+
+    def never_default_order(self):
+        self.strict = False
+        return super().never_default_order()
+
+    def numeric_default_order(self):
+        self.strict = False
+        return super().numeric_default_order()
+
+
+@slip
+class kind_21_is_order_22(Sheet):
+    def value(self, order):
+        return super().value(b"\x16" + order[1:] if order[:1] == b"\x15" else order)
+
+
+@slip
+class kind_21_is_order_4(Sheet):
+    def value(self, order):
+        return super().value(b"\x04" + order[1:] if order[:1] == b"\x15" else order)
+
+
+@slip
+class kind_23_is_order_22(Sheet):
+    def value(self, order):
+        return super().value(b"\x16" + order[1:] if order[:1] == b"\x17" else order)
 
 
 # Families
@@ -682,13 +860,14 @@ constant("variables_511", VARIABLES=511)
 constant("variables_513", VARIABLES=513)
 constant("levels_199", FIELDS=type("levels_199", (Fields,), {"LEVELS": 199}))
 constant("levels_201", FIELDS=type("levels_201", (Fields,), {"LEVELS": 201}))
-constant("kind_20_unlisted", KINDS=tuple(range(20)))
+constant("kind_20_unlisted", KINDS=tuple(range(20)) + (22,))
+constant("kind_22_unlisted", KINDS=tuple(range(21)))
 
 
 def keeping(name, rule):
-    """A slip of what order 4 keeps; rule(verdict, bound) says whether it keeps its nodes."""
+    """A slip of what a pair keeps; rule(verdict, bound) says whether it keeps its nodes."""
     def keep(self, kind, nodes, value, bound):
-        if kind == 4 and rule(value[0], bound):
+        if kind in PAIRS and rule(value[0], bound):
             self.kept += nodes
     constant(name, keep=keep)
 
@@ -705,6 +884,8 @@ keeping("incompatible_pairs_keep_in_any_case", lambda verdict, bound: bound or v
 keeping("cancelled_pairs_keep_in_any_case", lambda verdict, bound: bound or verdict == CANCELLED)
 constant("order_5_keeps_nodes", keep=lambda self, kind, nodes, value, bound: Sheet.keep(self, 4, nodes, value, bound or kind == 5))
 constant("order_3_keeps_nodes", keep=lambda self, kind, nodes, value, bound: Sheet.keep(self, 4, nodes, value, bound or kind == 3))
+constant("order_22_keeps_in_any_case", keep=lambda self, kind, nodes, value, bound: Sheet.keep(self, kind, nodes, value, bound or kind == 22))
+constant("order_22_keeps_no_nodes", keep=lambda self, kind, nodes, value, bound: Sheet.keep(self, kind, nodes, value, bound and kind != 22))
 constant("kept_nodes_not_counted_in_orders_9_to_20", plain_value=lambda self, order: self.PLAIN(order).order())
 
 
@@ -712,15 +893,15 @@ constant("kept_nodes_not_counted_in_orders_9_to_20", plain_value=lambda self, or
 class a_pair_that_binds_nothing_gives_back_all(Sheet):
     def keep(self, kind, nodes, value, bound):
         super().keep(kind, nodes, value, bound)
-        if kind == 4 and not bound:
+        if kind in PAIRS and not bound:
             self.kept = 0
 
 
 @slip
 class a_pair_keeps_a_node_for_each_binding(Sheet):
-    def constrain_order(self, checks, left, right):
+    def pair_order(self, strict, checks, left, right):
         before = self.revision
-        answer = super().constrain_order(checks, left, right)
+        answer = super().pair_order(strict, checks, left, right)
         self.kept += self.revision - before
         return answer
 
@@ -732,9 +913,9 @@ class a_pair_keeps_a_node_for_each_binding(Sheet):
 class a_pair_keeps_only_what_it_bound(Sheet):
     """The nodes of the terms that became bindings, and not those beside them."""
 
-    def constrain_order(self, checks, left, right):
+    def pair_order(self, strict, checks, left, right):
         before = self.bindings[:]
-        answer = super().constrain_order(checks, left, right)
+        answer = super().pair_order(strict, checks, left, right)
         self.kept += sum(self.count(term) for old, term in zip(before, self.bindings) if old is not term)
         return answer
 
@@ -760,14 +941,14 @@ class a_pair_posed_again_keeps_no_nodes(Sheet):
 
 
 class SevenLater(Sheet):
-    """Tests 7 after order 4 was carried out; where refused(bound) says so the pair is refused."""
+    """Tests 7 after a pair was met; where refused(bound) says so it is refused."""
 
     def refused(self, bound):
         return True
 
-    def constrain_order(self, checks, left, right):
+    def pair_order(self, strict, checks, left, right):
         before = self.bindings[:], dict(self.numeric), self.revision, self.bound
-        answer = super().constrain_order(checks, left, right)
+        answer = super().pair_order(strict, checks, left, right)
         if self.kept + self.posed > 2048 and self.refused(self.revision != before[2]):
             self.taken_back(before)
             raise Refused(7)
@@ -778,9 +959,9 @@ class SevenLater(Sheet):
         self.resolved = {}
 
     def solver_value(self, order):
-        if order[0] != 4:
+        if order[0] not in PAIRS:
             return super().solver_value(order)
-        names, _ = reference.ORDERS[4]
+        names, _ = reference.ORDERS[order[0]]
         fields = self.FIELDS(order[1:], self.issued())
         fields.row(names, 1)
         fields.used_up()
@@ -810,12 +991,24 @@ class pairs_that_bind_not_refused(SevenLater):
 
 
 @slip
+class order_22_not_refused_7(Sheet):
+    def solver_value(self, order):
+        if order[0] != 22:
+            return super().solver_value(order)
+        self.NODES = 1 << 32
+        try:
+            return super().solver_value(order)
+        finally:
+            del self.NODES
+
+
+@slip
 class refused_pairs_keep_nodes(Sheet):
     def solver_value(self, order):
         try:
             return super().solver_value(order)
         except Refused:
-            if order[0] == 4:
+            if order[0] in PAIRS:
                 self.kept += 2
             raise
 
@@ -1044,7 +1237,7 @@ class the_order_that_does_not_fit_counts(OtherRun):
 
 
 # Bases of slips, without a fault of their own: nothing may tell them from Sheet.
-PLAIN = (Rollback, OtherShape, SevenLater, OtherRun)
+PLAIN = (Rollback, OtherShape, LooselyHere, SevenLater, OtherRun)
 
 
 if __name__ == "__main__":

@@ -21,6 +21,11 @@ The groups:
   joins    3 variables with every request, every sequence of up to three links or values
   defers   3 variables, every choice of deferrals and requests, up to two links or values
   again    every pair of a list of terms with recovery terms, posed three times, with every k up to 6, 3 variables
+  strict   the pairs of group one, posed by order 22
+  turns    every sequence of two pairs of a short list with Sets and Maps, posed by orders 22 and 4, 4 and 22, or 22 twice
+
+In the last two the oracle is left at the first order 22; how many sheets that
+are is told. strict_small.py tries such pairs with every assignment.
 
 --every takes one session of N. The other options are those of sheet_compare.py.
 """
@@ -35,7 +40,7 @@ from orders_reference import (
     ARRAY, BUILTIN, FUNCTION, GENERIC, HOST, INFERENCE, ITER, MAP, NOMINALS, PROJECTION, RANGE, REFERENCE, SELF_TYPE, SET,
     STRUCT, THE_ERROR, THE_UNKNOWN, TUPLE, children, with_children, written)
 from comparing import Differs
-from sheet_compare import LEFT, Program, Run, agrees, described, in_chunks, program_arguments, programs_of
+from sheet_compare import Left, Program, Run, agrees, described, in_chunks, program_arguments, programs_of
 from terms_reference import framed, number_bytes
 
 X, Y, Z = (INFERENCE, 0), (INFERENCE, 1), (INFERENCE, 2)
@@ -80,11 +85,13 @@ LARGER = [(TUPLE, (X, Y, X)), (TUPLE, (I8, I32, X)), (TUPLE, (Y, (ARRAY, I32), Y
 RECOVERING = [X, (TUPLE, (X, X)), (TUPLE, (X, Y)), (TUPLE, ((TUPLE, (Y, Z)), (TUPLE, (THE_UNKNOWN, I32)))), (TUPLE, (Y, THE_ERROR)),
               (TUPLE, ((TUPLE, (THE_UNKNOWN, Z)), (TUPLE, (I8, Y)))), (TUPLE, ((TUPLE, (Z, I8)), (TUPLE, (I32, THE_UNKNOWN)))),
               (TUPLE, ((ARRAY, Y), (ARRAY, THE_UNKNOWN))), (TUPLE, (I8, I32)), (TUPLE, ((SET, 0, X), (SET, 1, Y))), (ARRAY, Z), Z, I8]
+ACCESSED = [X, Y, I32, (SET, 0, X), (SET, 1, X), (SET, 1, Y), (MAP, 0, X, Y), (MAP, 1, X, Y), (SET, 0, (SET, 1, Y)), (TUPLE, (X, (SET, 0, Y))),
+            (TUPLE, ((SET, 1, Y), (SET, 1, I32))), (SET, 1, THE_UNKNOWN)]
 LINKS = [(a, b) for a in (X, Y, Z) for b in (X, Y, Z) if a != b]
 VALUES = [(a, value) for a in (X, Y, Z) for value in (I8, F32)]
 
 
-# Sessions: requests, deferrals before the pairs, pairs (k, left, right)
+# Sessions: requests, deferrals before the pairs, pairs (k, left, right), or (k, left, right, 22)
 
 def pairs(terms):
     return [(50, left, right) for left in terms for right in terms]
@@ -139,8 +146,21 @@ def group_again():
                 yield requests, (), ((checks, left, right),) * 3
 
 
+def group_strict():
+    for requests in ((None, None), (2, None)):
+        for pair in pairs(ONE):
+            yield requests, (), (pair + (22,),)
+
+
+def group_turns():
+    for requests in ((None, None), (2, None)):
+        for kinds in ((22, 4), (4, 22), (22, 22)):
+            for row in itertools.product(pairs(ACCESSED), repeat=2):
+                yield requests, (), tuple(pair + (kind,) for pair, kind in zip(row, kinds))
+
+
 GROUPS = {"one": group_one, "two": group_two, "three": group_three, "checks": group_checks, "joins": group_joins,
-          "defers": group_defers, "again": group_again}
+          "defers": group_defers, "again": group_again, "strict": group_strict, "turns": group_turns}
 
 
 # Sheets
@@ -175,8 +195,8 @@ def sheet_of(sessions, defaults):
             out += framed(b"\x00" + site + b"\x00" if fallback is None else b"\x01" + site + bytes([fallback]))
         for at in deferred:
             out += framed(b"\x03" + text(X, base + at))
-        for checks, left, right in row:
-            out += framed(b"\x04" + number_bytes(checks) + text(left, base) + text(right, base))
+        for checks, left, right, *kind in row:
+            out += framed(bytes(kind or (4,)) + number_bytes(checks) + text(left, base) + text(right, base))
         shows.append(shown_at(base, len(requests)))
         out += shows[-1]
         base += len(requests)
@@ -190,7 +210,7 @@ def sheets(name, every):
     """Pairs: how many sessions, the sheet."""
     packed, nodes, turn = [], 0, 0
     for session in itertools.islice(GROUPS[name](), 0, None, every):
-        more = sum(nodes_of(left) + nodes_of(right) for _, left, right in session[2])
+        more = sum(nodes_of(pair[1]) + nodes_of(pair[2]) for pair in session[2])
         if len(packed) == AT_ONCE or nodes + more > 2040:
             yield len(packed), sheet_of(packed, ((6, 7), (7, 6))[turn % 2])
             packed, nodes, turn = [], 0, turn + 1
@@ -210,7 +230,7 @@ def kept_shown(sheet):
 
 
 def check(programs, names, every):
-    passed = left = 0
+    passed, left = 0, Left()
     for name in names:
         sessions = count = 0
         for chunk in in_chunks(sheets(name, every)):
@@ -225,7 +245,7 @@ def check(programs, names, every):
                 except Differs as difference:
                     sys.exit("%s: %s" % (who, difference.args[0]))
                 for (_, sheet), run, given in zip(chunk, wanted, found):
-                    left += given.reason == LEFT
+                    left.add(given)
                     if not agrees(Run(None, None, run.output) if isinstance(program, Program) else run, given):
                         print("%s, group %s:\n%s" % (who, name, described(program, ROOM, sheet)))
                         print("%d passed, 1 failed" % passed)
@@ -234,8 +254,7 @@ def check(programs, names, every):
             count += len(chunk)
         print("%-10s%9d sessions in %d sheets" % (name, sessions, count), flush=True)
         passed += sessions
-    if left:
-        print("%d sheets left by the oracle before their end" % left)
+    left.show()
     print("%d passed, 0 failed" % passed)
     return 0
 

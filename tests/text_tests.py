@@ -109,10 +109,10 @@ class Tests:
         rng = random.Random(5)
         for _ in range(3000):
             tail = bytes(rng.choice((rng.randrange(256), rng.randrange(24))) for _ in range(rng.randrange(40)))
-            order = bytes([rng.randrange(22)]) + bytes(rng.choice((0, 1, 1, rng.randrange(20))) for _ in range(rng.randrange(12)))
+            order = bytes([rng.randrange(24)]) + bytes(rng.choice((0, 1, 1, rng.randrange(20))) for _ in range(rng.randrange(12)))
             script = self.round_trip(rng.choice((b"", framed(order))) + tail, "random bytes")
             sheet_text.transcript(script, tail[::-1])
-            answer_text(rng.randrange(21), tail)
+            answer_text(rng.choice(list(ORDERS)), tail)
         deep = b"\x09" * 40000
         self.equal(answer_text(5, b"\x00" + deep + b"\x02").count("Array<"), 40000, "a deep answer")
         self.round_trip(framed(b"\x05" + deep), "a deep order")
@@ -272,7 +272,7 @@ class Tests:
             self.equal(sheet_text.transcript(script, reference.program(script.sheet()))[1], 0, "answers in docs/TEXT.md: " + block)
             kinds.update(order[0] for order in script.orders() if order)
             tags.update(order[1] for order in script.orders() if order and order[0] == 5)
-        self.check(kinds >= set(range(len(ORDERS))), "orders that docs/TEXT.md lacks: %s" % (set(range(len(ORDERS))) - kinds))
+        self.check(kinds >= set(ORDERS), "orders that docs/TEXT.md lacks: %s" % (set(ORDERS) - kinds))
         self.check(tags >= set(range(20)), "terms that docs/TEXT.md lacks: %s" % (set(range(20)) - tags))
 
 
@@ -284,6 +284,8 @@ BYTES = [
     ("defer never ?2", "03 01 02"),
     ("constrain checks 9: ?1 = i8", "04 09 01 01 04 00"),
     ("constrain ?1 = i8", "04 ff ff ff ff 0f 01 01 04 00"),
+    ("constrain strictly checks 9: ?1 = Set<i8>", "16 09 01 01 0b 00 04 00"),
+    ("constrain strictly MutableSet<?0> = MutableMap<i8, ?1>", "16 ff ff ff ff 0f 0b 01 01 00 0a 01 04 00 01 01"),
     ("resolve &i16", "05 00 00 04 01"),
     ("resolve &mut i32", "05 00 01 04 02"),
     ("resolve (unknown, error, ())", "05 05 03 02 03 05 00"),
@@ -317,6 +319,8 @@ BYTES = [
 # Answers to orders of a kind, and their bytes.
 ANSWERS = [
     (0, "?5", "00 01 05"), (3, "done", "00"), (4, "incompatible", "00 00"), (4, "compatible", "00 01"), (4, "cancelled", "00 02"),
+    (22, "incompatible", "00 00"), (22, "compatible", "00 01"), (22, "cancelled", "00 02"), (22, "bytes 00 03", "00 03"),
+    (22, "refused 6 (a variable that is not issued)", "06"),
     (6, "unchanged", "00 00"), (7, "changed", "00 01"), (8, "300", "00 ac 02"), (9, "no", "00 00"), (10, "yes", "00 01"),
     (15, "is_never, is_concrete", "00 01 00 01 00 00 00 00"), (15, "none", "00 00 00 00 00 00 00 00"),
     (15, "is_integer, is_unresolved, contains_unknown, contains_self_type, contains_projection", "00 00 01 00 01 01 01 01"),
@@ -375,6 +379,13 @@ FAULTS = [
     ("tail", 1, 5, "expected bytes that do not start with a whole order, found " + END),
     ("tail 01 08", 1, 6, "expected bytes that do not start with a whole order, found '01'"),
     ("tail 80\nrevision", 2, 1, "expected the end of the text, since nothing is read after 'tail', found 'revision'"),
+    ("constrain strictly", 1, 19, "expected a term, found " + END),
+    ("constrain strictly checks 9 i8 = i8", 1, 29, "expected ':', found 'i8'"),
+    ("constrain checks 9: strictly i8 = i8", 1, 21, "expected a term, found 'strictly'"),
+    ("constrain strictly i8 to i8", 1, 23, "expected '=', found 'to'"),
+    ("name struct strictly = 1", 1, 13, "expected a name, found 'strictly', which is a word of the text form"),
+    ("constrain strictly i8 = i8 => yes", 1, 31, "expected 'incompatible' or 'compatible' or 'cancelled', found 'yes'"),
+    ("bytes 16 => yes", 1, 13, "expected 'incompatible' or 'compatible' or 'cancelled', found 'yes'"),
     ("constrain i8 = i8 => maybe", 1, 22, "expected 'incompatible' or 'compatible' or 'cancelled', found 'maybe'"),
     ("revision => refused 256", 1, 21, "expected a refusal up to 255, found '256'"),
 ]

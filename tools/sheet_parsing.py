@@ -16,8 +16,8 @@ sys.setrecursionlimit(20000)
 # The levels of a stated answer: more than an answer of the program has, since a session keeps 2,048 nodes.
 ANSWER_LEVELS = 2400
 LEAVES = {"unknown": b"\x02", "error": b"\x03"}
-PATTERNS = [pattern.split() for pattern in ORDERS]
-FIRST_WORDS = sorted({pattern[0] for pattern in PATTERNS}) + ["bytes", "tail", "name"]
+PATTERNS = {kind: pattern.split() for kind, pattern in ORDERS.items()}
+FIRST_WORDS = sorted({pattern[0] for pattern in PATTERNS.values()}) + ["bytes", "tail", "name"]
 
 
 def counted(items):
@@ -233,15 +233,11 @@ class Line(Tokens):
         if self.taken("bytes"):
             return self.raw()
         first = self.peek()
-        kinds = [kind for kind, pattern in enumerate(PATTERNS) if pattern[0] == first]
+        kinds = [kind for kind, pattern in PATTERNS.items() if pattern[0] == first]
         if not kinds:
             self.fail("an order", near(first, FIRST_WORDS))
         self.take()
-        if len(kinds) > 1:
-            kind = kinds[self.one_of([PATTERNS[kind][1] for kind in kinds])]
-            rest = PATTERNS[kind][2:]
-        else:
-            kind, rest = kinds[0], PATTERNS[kinds[0]][1:]
+        kind, rest = self.told_apart(kinds)
         out = bytes([kind])
         for piece in rest:
             if piece.startswith("{"):
@@ -249,6 +245,16 @@ class Line(Tokens):
             else:
                 self.expect(piece)
         return out
+
+    def told_apart(self, kinds):
+        """Of kinds with the same first word the one that goes on as the line does, and what is left of its pattern. One of them may go on with a field."""
+        words = {PATTERNS[kind][1]: kind for kind in kinds if len(PATTERNS[kind]) > 1 and not PATTERNS[kind][1].startswith("{")}
+        others = [kind for kind in kinds if kind not in words.values()]
+        if len(kinds) == 1 or others and self.peek() not in words:
+            kind = (others or kinds)[0]
+            return kind, PATTERNS[kind][1:]
+        kind = list(words.values())[self.one_of(list(words))]
+        return kind, PATTERNS[kind][2:]
 
     def name(self):
         """What follows the word `name`: a sort, a name, and the numbers it stands for. Gives these three.

@@ -225,8 +225,10 @@ class Bytes:
         return "<%s as %s>::%s = %s" % (receiver, interface, projected, self.term())
 
     def order(self):
-        pieces = []
-        for piece in ORDERS[self.listed(len(ORDERS))].split():
+        pieces, kind = [], self.byte()
+        if kind not in ORDERS:
+            raise Unreadable(2)
+        for piece in ORDERS[kind].split():
             pieces.append(getattr(self, piece[1:-1])() if piece.startswith("{") else piece)
         self.used_up()
         return " ".join(piece for piece in pieces if piece)
@@ -295,5 +297,5 @@ def split(data):
 
 def kind_of(order):
     """The kind of an order; None where it has none that is listed."""
-    return order[0] if order and order[0] < len(ORDERS) else None
+    return order[0] if order and order[0] in ORDERS else None
 

@@ -2,7 +2,7 @@
 
 The reader of bytes (sheet_reading.py) and the reader of text
 (sheet_parsing.py) both go by these tables. An order is a line of ORDERS, so
-that a new order is a new line there and in ANSWERS.
+that a new order is a new line there and in ANSWERS. Numbers may be left out.
 """
 
 import re
@@ -13,7 +13,7 @@ CODES = 32
 ROOM = 32768        # what the sheet program reads and writes at most
 
 # By kind: the words of an order, and its fields in the order of the byte form.
-ORDERS = (
+ORDERS = dict(enumerate((
     "variable site {number} slot {number}",
     "number site {number} fallback {builtin}",
     "hole site {number}",
@@ -35,7 +35,8 @@ ORDERS = (
     "family {parameters} value {term} outer {substitution} arguments {terms}",
     "associated {term} interface {nominal} owner {term}",
     "normalise {rules} in {term}",
-)
+)))
+ORDERS[22] = "constrain strictly {checks} {term} = {term}"
 
 TRUTH = ("no", "yes")
 CHANGE = ("unchanged", "changed")
@@ -44,9 +45,10 @@ QUESTIONS = ("is_never", "is_integer", "is_concrete", "is_unresolved", "contains
 BOUNDS = ("satisfies", "satisfies_for")
 
 # By kind: the form of the value. A tuple of words has one byte, which says the word's place. "flags" has a byte for each word.
-ANSWERS = (
+ANSWERS = dict(enumerate((
     "term", "term", "term", "nothing", VERDICT, "term", CHANGE, CHANGE, "number", TRUTH, TRUTH, "term", "term", "term", "term",
-    ("flags", QUESTIONS), TRUTH, ("flags", BOUNDS), "maybe", "term", "term")
+    ("flags", QUESTIONS), TRUTH, ("flags", BOUNDS), "maybe", "term", "term")))
+ANSWERS[22] = VERDICT
 
 REFUSALS = {
     1: "the order ends early, or has bytes after its last field",
@@ -70,7 +72,7 @@ OWNERS = ("owner",) + tuple(NOMINALS) + ("host",)
 SORTS = OWNERS + ("member", "generic", "variable")
 
 # A name cannot be one of these words.
-RESERVED = {word for pattern in ORDERS for word in pattern.split() if word.isalpha()}
+RESERVED = {word for pattern in ORDERS.values() for word in pattern.split() if word.isalpha()}
 RESERVED.update(BUILTINS, NOMINALS, COLLECTIONS, TERM_WORDS, SORTS, TRUTH, CHANGE, VERDICT, QUESTIONS, BOUNDS)
 RESERVED.update(("bytes", "tail", "name", "checks", "none", "done", "refused"))
 

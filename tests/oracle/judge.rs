@@ -50,7 +50,7 @@ impl Wanted {
     /// Whether a run is the wanted one, as far as the oracle went on.
     fn agrees(&self, found: &Found) -> bool {
         let (orders, bytes) = (u64::from(self.orders), &self.answers);
-        let same = if self.reason == sheets::LEFT {
+        let same = if matches!(self.reason, sheets::LEFT | sheets::NOT_IN_RUST) {
             found.orders >= orders && found.answers.starts_with(bytes)
         } else {
             (found.reason, found.orders) == (u32::from(self.reason), orders) && found.answers == *bytes

@@ -1,4 +1,5 @@
-//! Whole sheets: orders 0 to 8 by Kagari's Solver, the others by orders.rs.
+//! Whole sheets: orders 0 to 8 by Kagari's Solver, the others by orders.rs. Kagari has no order 22: it is read and refused as
+//! order 4 is, and where it would be answered the sheet is left.
 //!
 //! Standard input is a run of sheets: room for answers, length, each four bytes with the low byte first, and the sheet.
 //! For each one come out: the reason, a byte; orders answered, bytes of answers, four bytes each; the answers.
@@ -16,8 +17,11 @@ const VARIABLES: usize = 512;
 const MOST_BYTES: usize = 16_777_216;
 /// Nodes that the Rust may meet in one order. Beyond them it is not asked.
 const MET: usize = 400_000;
-/// The reason for a sheet that was left.
+/// The reason for a sheet that was left as it would meet too many.
 pub const LEFT: u8 = 255;
+/// The reason for a sheet that was left at an order 22.
+pub const NOT_IN_RUST: u8 = 253;
+const STRICT: u8 = 22;
 
 #[derive(PartialEq, Eq, Hash)]
 enum Place {
@@ -32,7 +36,7 @@ struct Session {
     kept: usize,
 }
 
-/// An order's answer without its length, or None where the Rust would have to meet too many nodes.
+/// An order's answer without its length, or None where the Rust would have to meet too many nodes, or to pose a strict pair.
 type Answer = Option<Vec<u8>>;
 
 fn outcome(value: Parsed<Answer>) -> Answer {
@@ -45,7 +49,7 @@ fn outcome(value: Parsed<Answer>) -> Answer {
 impl Session {
     fn answer(&mut self, order: &[u8]) -> Answer {
         match order.first() {
-            Some(kind) if *kind <= 8 => outcome(self.value(*kind, &order[1..])),
+            Some(kind) if *kind <= 8 || *kind == STRICT => outcome(self.value(*kind, &order[1..])),
             _ => Some(orders::answer(order, self.kept)),
         }
     }
@@ -88,10 +92,13 @@ impl Session {
                 fields.end()?;
                 Ok(within_nodes(MET, || solver.defer_never(&term)).map(|()| vec![]))
             }
-            4 => {
+            4 | STRICT => {
                 let checks = fields.number()?;
                 let (left, right) = (fields.term(1)?, fields.term(1)?);
                 fields.end()?;
+                if kind == STRICT {
+                    return Ok(None);
+                }
                 let (before, token) = (solver.revision, CancellationToken(Cell::new(checks)));
                 let answer = within_nodes(MET, || solver.constrain(&left, &right, &token));
                 // The nodes of a pair that bound nothing are not kept.
@@ -142,7 +149,7 @@ pub fn run(data: &[u8], room: usize) -> (u8, u32, Vec<u8>) {
             return (10, answered, out);
         };
         let Some(answer) = session.answer(order) else {
-            return (LEFT, answered, out);
+            return (if order.first() == Some(&STRICT) { NOT_IN_RUST } else { LEFT }, answered, out);
         };
         let mut framed = Vec::new();
         put_number(&mut framed, answer.len());

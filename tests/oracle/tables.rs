@@ -3,7 +3,7 @@
 use crate::format::{Read, Reader};
 use crate::kagari::TypeId;
 use crate::orders;
-use crate::sheets::LEFT;
+use crate::sheets::{LEFT, NOT_IN_RUST};
 use std::collections::BTreeMap;
 
 const QUESTIONS: [&str; 7] = ["never", "integer", "concrete", "unresolved", "unknown", "self type", "projection"];
@@ -30,10 +30,10 @@ pub fn orders_of(sheet: &[u8]) -> (Vec<&[u8]>, &[u8]) {
 impl Tables {
     pub fn add(&mut self, family: u32, sheet: &[u8], reason: u8, answers: &[u8]) {
         self.count(format!("family {family}"));
-        if reason == LEFT {
-            self.count(format!("left {family}"));
-        } else {
-            self.count(format!("reason {reason}"));
+        match reason {
+            LEFT => self.count(format!("left {family}")),
+            NOT_IN_RUST => self.count(format!("strict {family}")),
+            _ => self.count(format!("reason {reason}")),
         }
         for (order, answer) in orders_of(sheet).0.iter().zip(orders_of(answers).0) {
             self.add_order(order, answer);
@@ -47,7 +47,7 @@ impl Tables {
     fn add_order(&mut self, order: &[u8], answer: &[u8]) {
         let row = match order.first() {
             None => "empty".to_string(),
-            Some(kind) if *kind > 20 => "other".to_string(),
+            Some(kind) if *kind > 20 && *kind != 22 => "other".to_string(),
             Some(kind) => kind.to_string(),
         };
         self.count(format!("outcome {row} {}", answer[0]));

@@ -5,8 +5,10 @@
 --   RobinsonPairs  Robinson's theorem for each plain pair, used on order bytes that the theorem on whole lists leaves
 --                  out
 --   Runs           short runs
+--   StrictPairs    order 22 as bytes
 pub mod BarSession
 pub mod Demand3
 pub mod MarkedTable
 pub mod RobinsonPairs
 pub mod Runs
+pub mod StrictPairs

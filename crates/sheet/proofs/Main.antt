@@ -1,7 +1,7 @@
 -- THE PROMISES, on one page. Each statement is proved by a citation. Quoted are the request, with its demands 1, 2 and 3, and document 01. Lists of ℕ are
 -- bytes or words; `documentLimits` are the limits of 512 variables and 2,048 nodes.
-use mathlib.Core.Path.{_≡_, sym, ap, _∙_}
-use mathlib.Core.Bool.{true, false}
+use mathlib.Core.Path.{_≡_, sym, ap, subst, _∙_}
+use mathlib.Core.Bool.{Bool, true, false}
 use mathlib.Core.List.{List, [], _∷_, _++_}
 use mathlib.Core.Logic.{_⊎_, _↔_}
 use mathlib.Core.Option.{none, some}
@@ -30,11 +30,11 @@ use Rattle.solver.proofs.Terms.Shortest as numbers
 use Rattle.solver.proofs.Terms.Shortest.{octets}
 use Rattle.solver.proofs.Terms.RoundTrip as terms
 use Rattle.solver.proofs.Terms.Sound.{FoundTerm, found}
-use Rattle.solver.specs.Shapes.{loose}
+use Rattle.solver.specs.Shapes.{notion, loose, exact}
 use Rattle.solver.specs.Constrain.{resolved}
 use Rattle.solver.specs.Session.{Session, documentLimits, issued, fresh}
 use Rattle.solver.specs.Orders as orders
-use Rattle.solver.specs.Demand3.{beginning, Demand3}
+use Rattle.solver.specs.Demand3.{beginning, Demand3, KeepsHalf, Unequal}
 use Rattle.solver.specs.Invariant.{Invariant, WithinLimits, SettledBy}
 use Rattle.solver.specs.Robinson.{Unmarked, UnmarkedPairs, Decides}
 use Rattle.solver.specs.RobinsonPair.{FirstOrderIn}
@@ -42,7 +42,7 @@ use Rattle.sheet.specs.OrderTable.{refusal, outcome}
 use Rattle.sheet.specs.Sheet.{orderOf, framed}
 use Rattle.sheet.specs.OrdersInTurn.{sessionAfter, ordersFrom, answersTo}
 use Rattle.sheet.specs.Commands.{command}
-use Rattle.sheet.specs.Demand3.{InFragment, PairsInFragment, Premises, historyOf}
+use Rattle.sheet.specs.Demand3.{ByteStrings, InFragment, PairsInFragment, Premises, historyOf, OnlyPosedBy, PosedInMix}
 use Rattle.sheet.specs.PairsAnswered.{SomePairAnswered}
 use Rattle.sheet.specs.RepeatedPairs.{repeated, PosedAgain}
 use Rattle.sheet.specs.RustBytes.{frames, AsTheRust, AllSolved}
@@ -50,7 +50,7 @@ use Rattle.sheet.specs.RobinsonBytes.{FirstOrder, PlainOrder, AnsweredSo
 use Rattle.sheet.specs.Stopping.{behind, Stopped}
 use Rattle.sheet.specs.Entry.{finished, sizesAccepted, entryResult}
 use Rattle.sheet.proofs.Examples.MarkedTable.{MarkedLines, marked}
-use Rattle.sheet.proofs.Laws.Bytes.Demand3Bytes.{demand-3-bytes}
+use Rattle.sheet.proofs.Laws.Bytes.Demand3Bytes.{demand-3-bytes, mixed-half-bytes, mixed-pair-bytes, bytes-parts}
 use Rattle.sheet.proofs.Laws.Bytes.PairsAnsweredLaws.{incompatible-answered, cancelled-answered}
 use Rattle.sheet.proofs.Laws.Bytes.Demand3Run.{orders-bytes}
 use Rattle.sheet.proofs.Laws.Bytes.InvariantBytes as session
@@ -99,32 +99,52 @@ module _ (sheet out a b c d : List ℕ) (reason orders bytes : ℕ) (out′ a′
   answer-at bs cs o e = demand-1-answers .1 ∙ ap (answersTo documentLimits fresh) e ∙ call.answers-append documentLimits fresh bs (o ∷ cs)
 
   -- DEMAND 2, PAIR BY PAIR. "on plain pairs they are proved against the 1965 definition"; "For plain first-order pairs (no recovery terms, projections, number
-  -- variables or access marks) Robinson 1965 decides.": each order 4 that the call answered, whatever came before it, whose terms are plain as they
+  -- variables or access marks) Robinson 1965 decides.": each order 4, or strictly 22, that the call answered, whatever came before it, whose terms are plain as they
   -- resolve there, is answered as his algorithm decides, or cancelled (not with checks enough: `robinson-each`).
-  pub demand-2-robinson-each : (bs cs : List (List ℕ)) (o : List ℕ) (k : ℕ) (t u : Term) → served ≡ bs ++ (o ∷ cs) → PlainOrder documentLimits (sessionAfter documentLimits fresh bs) o k t u
+  pub demand-2-robinson-each : (strict : Bool) (bs cs : List (List ℕ)) (o : List ℕ) (k : ℕ) (t u : Term) → served ≡ bs ++ (o ∷ cs) → PlainOrder documentLimits strict (sessionAfter documentLimits fresh bs) o k t u
       → (orderOf documentLimits (sessionAfter documentLimits fresh bs) o .answer ≡ outcome (2 ∷ [])) ⊎ AnsweredSo documentLimits (sessionAfter documentLimits fresh bs) o t u
-  demand-2-robinson-each bs cs o k t u e p = robinson-orders documentLimits bs t u .fewer k o p
+  demand-2-robinson-each strict bs cs o k t u e p = robinson-orders documentLimits strict bs t u .fewer k o p
 
   -- `octet` is the other line of the contract (`octets`): the elements of a slice of bytes are below 256. So this too holds for every call.
   module _ (octet : (i : ℕ) → getD sheet i 0 < 256) where
     -- DEMAND 2, THE RUST. "Everywhere in 01's domain answers equal the Rust's, byte by byte in 01's format": `Solver` of solver.rs answers those orders that are of
-    -- kinds 0 to 8 and not refused with the same bytes. Where all are such, its answers are all that the call wrote.
-    pub demand-2-rust : (r : AsTheRust documentLimits served) × (AllSolved documentLimits fresh served → take bytes out′ ≡ frames (r .replies))
-    demand-2-rust =
-        let r = rust-bytes documentLimits served (orders-bytes sheet (call.slice-bytes sheet octet) orders 0) in
+    -- kinds 0 to 8 and not refused with the same bytes. Where all are such, its answers are all that the call wrote. "The Rust is compared on order 4 alone"
+    -- (document 02): no pair was posed by order 22.
+    pub demand-2-rust : OnlyPosedBy documentLimits false served
+        → (r : AsTheRust documentLimits served) × (AllSolved documentLimits fresh served → take bytes out′ ≡ frames (r .replies))
+    demand-2-rust y =
+        let r = rust-bytes documentLimits served (orders-bytes sheet (call.slice-bytes sheet octet) orders 0) y in
         (r, λ s. demand-1-answers .1 ∙ sym (call.all-solved documentLimits fresh served s) ∙ r .same-bytes)
 
     -- DEMAND 2, ALL PAIRS TOGETHER: where all posed pairs are plain first-order ones, some pair was answered incompatible exactly where Robinson's algorithm ends
     -- without a common unifier of them; if none was, what the variables resolve to is one as general as his.
-    pub demand-2-robinson : FirstOrder documentLimits served → Decides (historyOf documentLimits beginning served)
-    demand-2-robinson = robinson-bytes documentLimits served (orders-bytes sheet (call.slice-bytes sheet octet) orders 0)
+    pub demand-2-robinson : (strict : Bool) → FirstOrder documentLimits strict served → Decides (historyOf documentLimits beginning served)
+    demand-2-robinson strict = robinson-bytes documentLimits strict served (orders-bytes sheet (call.slice-bytes sheet octet) orders 0)
 
     -- DEMAND 3. "Some pair was answered incompatible exactly if no assignment of variable-free terms of any size, true to the number families requested, makes every
     -- posed pair equal up to Set and Map access. If none was, the assignments that do so are exactly those true to the families that agree, up to that access,
     -- with what each variable resolves to, and every variable left in those terms resolves to itself.": the fields `first`, `second` and `left`.
     -- That some pair "was answered incompatible" is said of the solver's replies; `incompatible` says that these are the answers in bytes.
-    pub demand-3 : Premises documentLimits served → Demand3 loose (historyOf documentLimits beginning served)
-    demand-3 = demand-3-bytes documentLimits served (orders-bytes sheet (call.slice-bytes sheet octet) orders 0)
+    pub demand-3 : OnlyPosedBy documentLimits false served → Premises documentLimits served → Demand3 loose (historyOf documentLimits beginning served)
+    demand-3 = demand-3-bytes documentLimits false served (orders-bytes sheet (call.slice-bytes sheet octet) orders 0)
+
+    -- ACCESS THAT COUNTS (document 02). "For a session that poses only strict pairs, both sentences of demand 3 mean equality with access included, in agreeing too".
+    pub demand-3-strict : OnlyPosedBy documentLimits true served → Premises documentLimits served → Demand3 exact (historyOf documentLimits beginning served)
+    demand-3-strict = demand-3-bytes documentLimits true served (orders-bytes sheet (call.slice-bytes sheet octet) orders 0)
+
+    -- "one that mixes them keeps one half: with no pair incompatible, each assignment true to the families that agrees exactly with what the variables resolve to
+    -- makes every pair equal by the order that posed it."
+    pub mix-keeps-half : Premises documentLimits served → KeepsHalf (historyOf documentLimits beginning served)
+    mix-keeps-half = mixed-half-bytes documentLimits served (orders-bytes sheet (call.slice-bytes sheet octet) orders 0)
+
+    -- "In a mix, too, a pair is answered incompatible exactly if no assignment true to the families that agrees exactly with what the variables resolved to just
+    -- before it makes that pair equal by its own order.": of each order that the call answered, also after incompatible ones.
+    pub mix-each-pair : (bs cs : List (List ℕ)) (b : List ℕ) → served ≡ bs ++ (b ∷ cs) → Premises documentLimits bs → (strict : Bool) (k : ℕ) (t u : Term)
+        → PosedInMix documentLimits bs b strict k t u
+        → (orderOf documentLimits (sessionAfter documentLimits fresh bs) b .answer ≡ outcome (0 ∷ [])) ↔ Unequal (historyOf documentLimits beginning bs) strict t u
+    mix-each-pair bs cs b e p =
+        let o = bytes-parts bs b cs (subst ByteStrings e (orders-bytes sheet (call.slice-bytes sheet octet) orders 0)) in
+        mixed-pair-bytes documentLimits bs (o .0) p b (o .1)
 
 -- ---- AN ORDER, AND A LIST OF ORDERS, each given as its bytes to a session, whatever was answered
 
@@ -149,26 +169,27 @@ pub order-5 : (bs : List (List ℕ)) (v : ℕ)
 order-5 bs v l k = let f = session.fits-bytes documentLimits bs .variables in session.order-5 documentLimits (sessionAfter documentLimits fresh bs) v l (omega arith) k
 
 -- Robinson decides each plain pair: some number of checks is enough, and every order 4 that poses the pair with as many is answered as his algorithm ends.
-pub robinson-each : (bs : List (List ℕ)) (t u : Term) → DecidesOrders documentLimits (sessionAfter documentLimits fresh bs) t u
+pub robinson-each : (strict : Bool) (bs : List (List ℕ)) (t u : Term) → DecidesOrders documentLimits strict (sessionAfter documentLimits fresh bs) t u
 robinson-each = robinson-orders documentLimits
 
 -- A pair is plain as it resolves, if neither it nor a pair posed before it has a recovery term, a projection or an access mark, and no number was requested.
-pub plain-by-terms : (bs : List (List ℕ)) → PairsInFragment (historyOf documentLimits beginning bs .posed) → UnmarkedPairs loose (historyOf documentLimits beginning bs .posed)
-    → ((v : ℕ) → historyOf documentLimits beginning bs .requests v ≡ none) → (t : Term) → InFragment t → Unmarked loose t → FirstOrderIn loose (sessionAfter documentLimits fresh bs) t
+pub plain-by-terms : (strict : Bool) (bs : List (List ℕ)) → PairsInFragment (historyOf documentLimits beginning bs .posed)
+    → UnmarkedPairs (notion strict) (historyOf documentLimits beginning bs .posed)
+    → ((v : ℕ) → historyOf documentLimits beginning bs .requests v ≡ none) → (t : Term) → InFragment t → Unmarked (notion strict) t → FirstOrderIn (notion strict) (sessionAfter documentLimits fresh bs) t
 plain-by-terms = posed-plain-bytes documentLimits
 
 -- "k checks pass, the next cancels": every pair is settled by some number of checks
-pub settles : (bs : List (List ℕ)) (t u : Term)
-    → (let s = sessionAfter documentLimits fresh bs in orders.known s t ≡ true → orders.known s u ≡ true → (K : ℕ) × SettledBy loose K (s .solver) t u)
+pub settles : (strict : Bool) (bs : List (List ℕ)) (t u : Term)
+    → (let s = sessionAfter documentLimits fresh bs in orders.known s t ≡ true → orders.known s u ≡ true → (K : ℕ) × SettledBy (notion strict) K (s .solver) t u)
 settles = settled-bytes documentLimits
 
 -- PAIRS THAT BIND NOTHING. Document 02: "An order 4 that makes no binding, whether compatible, incompatible or cancelled, shall keep no nodes.": it leaves the
 -- session as it was. "of earlier pairs 7 counts only those that bound something": one that does keeps the nodes of both its terms.
-pub no-binding : (s : Session) (b : List ℕ) (k : ℕ) (t u : Term) → command s b ≡ some (orders.pair k t u)
+pub no-binding : (s : Session) (b : List ℕ) (strict : Bool) (k : ℕ) (t u : Term) → command s b ≡ some (orders.pair strict k t u)
     → orderOf documentLimits s b .session .solver .revision ≡ s .solver .revision → orderOf documentLimits s b .session ≡ s
 no-binding = pairs.quiet-order documentLimits
 
-pub binding-keeps : (s : Session) (b : List ℕ) (k : ℕ) (t u : Term) → command s b ≡ some (orders.pair k t u)
+pub binding-keeps : (s : Session) (b : List ℕ) (strict : Bool) (k : ℕ) (t u : Term) → command s b ≡ some (orders.pair strict k t u)
     → (orderOf documentLimits s b .session .solver .revision ≡ s .solver .revision → ⊥) → orderOf documentLimits s b .session .kept ≡ s .kept + (size t + size u)
 binding-keeps = pairs.bound-order documentLimits
 

@@ -3,7 +3,6 @@ use mathlib.Core.List.{List, [], _∷_}
 use mathlib.Core.Option.{Option, none, some}
 use Prim.Native.Nat.{ℕ}
 use Rattle.solver.specs.Terms.Result.{Result, got, refused}
-use Rattle.solver.specs.Shapes.{loose}
 use Rattle.solver.specs.Session.{Limits, Session, issued}
 use Rattle.solver.specs.Orders.{Command, order}
 use Rattle.sheet.specs.OrderTable.{sessionOrders, commandOf, Read, readBy}
@@ -19,7 +18,7 @@ command s b = commandRead (readBy sessionOrders b (issued s))
 -- the session that it leaves
 abbrev pub leaves : Limits → Session → Option Command → Session
 leaves lim s none = s
-leaves lim s (some c) = order lim loose s c .session
+leaves lim s (some c) = order lim s c .session
 
 abbrev pub prefixed : Option Command → List Command → List Command
 prefixed none cs = cs

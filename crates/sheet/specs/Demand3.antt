@@ -1,16 +1,21 @@
 -- Demand 3 over lists of orders, each given as its bytes: the premises, and the two sentences (record Demand3 of crate solver), of what the list tells
 -- the session. Quoted is document 01, "What demand 3 means", and the demand itself.
 use mathlib.Core.Path.{_≡_}
-use mathlib.Core.Bool.{false}
+use mathlib.Core.Bool.{Bool, true, false}
 use mathlib.Core.List.{List, [], _∷_}
+use mathlib.Core.Option.{some}
 use Prim.Native.Nat.{ℕ, _<_}
 use Rattle.solver.specs.Terms.Term.{Term}
 use Rattle.solver.specs.Terms.Questions.{meets}
-use Rattle.solver.specs.Shapes.{loose}
+use Rattle.solver.specs.Shapes.{notion}
 use Rattle.solver.specs.Constrain.{Pair, always}
 use Rattle.solver.specs.Session.{Limits, fresh}
-use Rattle.solver.specs.Demand3.{History, beginning, history, outside, AllAllowed, Demand3}
-use Rattle.sheet.specs.Commands.{commands}
+use Rattle.solver.specs.Demand3.{History, beginning, history, outside, AllAllowed, Demand3, OnlyBy}
+use Rattle.solver.specs.Orders as solver
+use Rattle.sheet.specs.OrderTable.{outcome}
+use Rattle.sheet.specs.Sheet.{orderOf}
+use Rattle.sheet.specs.OrdersInTurn.{accepted, sessionAfter}
+use Rattle.sheet.specs.Commands.{command, commands}
 
 -- ---- bytes
 
@@ -27,7 +32,7 @@ ByteStrings (b ∷ bs) = ByteString b × ByteStrings bs
 
 -- "It is one claim about the whole list of orders"; "Orders 9 to 20 leave the session as it was and may stand between"; refused orders do nothing
 abbrev pub historyOf : Limits → History → List (List ℕ) → History
-historyOf lim h bs = history lim loose h (commands lim (h .session) bs)
+historyOf lim h bs = history lim h (commands lim (h .session) bs)
 
 -- ---- the premises
 
@@ -42,7 +47,7 @@ PairsInFragment (p ∷ ps) = InFragment (p .0) × InFragment (p .1) × PairsInFr
 -- of a list given to a fresh session (that fallbacks are integers or F64 is not needed: any other has the integers as its family)
 pub record Premises (lim : Limits) (bs : List (List ℕ)) : Type 0 where
   -- "each number place requested once and not issued earlier", "no default that bound a variable"
-  pub allowed : AllAllowed lim loose fresh (commands lim fresh bs)
+  pub allowed : AllAllowed lim fresh (commands lim fresh bs)
   pub pairs : PairsInFragment (historyOf lim beginning bs .posed)
   -- "no cancelled pair"
   pub noneCancelled : historyOf lim beginning bs .cancelled ≡ false
@@ -54,5 +59,20 @@ pub record Premises (lim : Limits) (bs : List (List ℕ)) : Type 0 where
 --           every posed pair equal up to Set and Map access."
 --   second  "If none was, the assignments that do so are exactly those true to the families that agree, up to that access, with what each variable resolves to,"
 --   left    "and every variable left in those terms resolves to itself."
-abbrev pub Demand3OfBytes : Limits → List (List ℕ) → Type 0
-Demand3OfBytes lim bs = Demand3 loose (historyOf lim beginning bs)
+-- With `strict` the pairs are those of order 22, and both sentences "mean equality with access included, in agreeing too" (document 02).
+abbrev pub Demand3OfBytes : Limits → Bool → List (List ℕ) → Type 0
+Demand3OfBytes lim strict bs = Demand3 (notion strict) (historyOf lim beginning bs)
+
+-- the list "poses only strict pairs", or only by order 4; refused orders aside
+abbrev pub OnlyPosedBy : Limits → Bool → List (List ℕ) → Type 0
+OnlyPosedBy lim strict bs = OnlyBy strict (historyOf lim beginning bs .by)
+
+-- ---- a pair of a mix
+
+-- after the list bs, the bytes b are an order 4, or strictly 22, with k checks and the terms t and u, which is answered with outcome 0 and not cancelled
+pub record PosedInMix (lim : Limits) (bs : List (List ℕ)) (b : List ℕ) (strict : Bool) (k : ℕ) (t u : Term) : Type 0 where
+  pub says : command (sessionAfter lim fresh bs) b ≡ some (solver.pair strict k t u)
+  pub left : InFragment t
+  pub right : InFragment u
+  pub taken : accepted (orderOf lim (sessionAfter lim fresh bs) b .answer) ≡ true
+  pub settled : ¬ (orderOf lim (sessionAfter lim fresh bs) b .answer ≡ outcome (2 ∷ []))

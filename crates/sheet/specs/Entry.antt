@@ -7,11 +7,11 @@ use lib.Dec.{leb}
 use lib.ListN.{length, take, drop, replicate}
 use Rattle.solver.specs.Terms.Result.{Result, got, refused, pick}
 use Rattle.solver.specs.declared.Solver.{Solver}
-use Rattle.solver.specs.Shapes.{loose}
-use Rattle.solver.specs.Session.{Limits, Session}
+use Rattle.solver.specs.Session.{Limits, Session, issued}
+use Rattle.solver.specs.Invariant.{InOrder}
 -- the limits, handed on to the crates that name this one alone
 pub use Rattle.solver.specs.Session.{documentLimits}
-use Rattle.solver.specs.Words.SessionRepresentation.{Reachable, limitsOf}
+use Rattle.solver.specs.Words.SessionRepresentation.{limitsOf}
 use Rattle.sheet.specs.declared.Frame.{Frame}
 use Rattle.sheet.specs.declared.Frame.the-variants.{Lies, Faulty}
 use Rattle.sheet.specs.Sheet.{Run, runOf}
@@ -26,7 +26,7 @@ framedPart s Faulty = refused 10
 pub record AreasReady (x : Solver) (half : ℕ) (m : Areas) : Type 0 where
   pub roomy : AreasSuffice x half (length (m .a)) m
   pub session : Session
-  pub reachable : Reachable (limitsOf x) loose session
+  pub ordered : InOrder (issued session) (session .solver)
   pub inAreas : RepresentsInAreas x half m session
 
 -- ---- the run

@@ -1,5 +1,6 @@
 -- The table of orders: a row for each, with its number, its fields and what it does; the rows of the orders that are told to the session; and reading
 -- an order by a table. Quoted is document 01, "Sheet".
+use mathlib.Core.Bool.{true, false}
 use mathlib.Core.List.{List, [], _∷_}
 use mathlib.Core.Option.{Option, none, some}
 use Prim.Native.Nat.{ℕ, _+_}
@@ -48,7 +49,7 @@ defer-never = record { number = 3; layout = term ∷ []; act = tells (λ fs. sol
 
 -- "4 constrain: k, two terms"
 abbrev pub constrain : Row
-constrain = record { number = 4; layout = ordinary ∷ term ∷ term ∷ []; act = tells (λ fs. solver.pair (numberAt 0 fs) (termAt 1 fs) (termAt 2 fs)) }
+constrain = record { number = 4; layout = ordinary ∷ term ∷ term ∷ []; act = tells (λ fs. solver.pair false (numberAt 0 fs) (termAt 1 fs) (termAt 2 fs)) }
 
 -- "5 resolve: term."
 abbrev pub resolve : Row
@@ -64,8 +65,17 @@ never-defaults = record { number = 7; layout = []; act = tells (λ fs. solver.ne
 abbrev pub revision : Row
 revision = record { number = 8; layout = []; act = tells (λ fs. solver.revision) }
 
+-- document 02: "Order 22 is order 4 with Set and Map access as part of the shape."
+abbrev pub constrain-strictly : Row
+constrain-strictly = record {
+  number = 22;
+  layout = ordinary ∷ term ∷ term ∷ [];
+  act = tells (λ fs. solver.pair true (numberAt 0 fs) (termAt 1 fs) (termAt 2 fs));
+}
+
 unfoldable pub sessionOrders : List Row
-sessionOrders = variable ∷ number-variable ∷ annotation-hole ∷ defer-never ∷ constrain ∷ resolve ∷ numeric-defaults ∷ never-defaults ∷ revision ∷ []
+sessionOrders =
+    variable ∷ number-variable ∷ annotation-hole ∷ defer-never ∷ constrain ∷ resolve ∷ numeric-defaults ∷ never-defaults ∷ revision ∷ constrain-strictly ∷ []
 
 -- ---- a row, by its number
 

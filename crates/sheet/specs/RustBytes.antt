@@ -5,7 +5,6 @@ use mathlib.Core.List.{List, [], _∷_, _++_}
 use mathlib.Core.Option.{Option, none, some}
 use Prim.Native.Nat.{ℕ}
 use Rattle.solver.specs.Terms.Result.{pick}
-use Rattle.solver.specs.Shapes.{loose}
 use Rattle.solver.specs.Session.{Limits, Session, fresh}
 use Rattle.solver.specs.Orders.{Command, Reply}
 use Rattle.solver.specs.Rust.{answers, default, given}
@@ -33,7 +32,7 @@ solvedTo lim s (b ∷ bs) = solvedOne (command s b) (orderOf lim s b .answer) ++
 -- its answers, in the sheet's format, are the sheet's answers to them.
 pub record AsTheRust (lim : Limits) (bs : List (List ℕ)) : Type 0 where
   pub replies : List Reply
-  pub no-panic : answers default (given lim loose fresh (commands lim fresh bs)) ≡ some replies
+  pub no-panic : answers default (given lim fresh (commands lim fresh bs)) ≡ some replies
   pub same-bytes : solvedTo lim fresh bs ≡ frames replies
 
 -- every order of a list is of kinds 0 to 8, and none is refused: then all answers are compared

@@ -9,7 +9,6 @@ use Rattle.solver.specs.Terms.Number.{number, shortest}
 use Rattle.solver.specs.Terms.Shape as shape
 use Rattle.solver.specs.Terms.Shape.{ceiling}
 use Rattle.solver.specs.Terms.Term.{bytes}
-use Rattle.solver.specs.Shapes.{Notion, loose}
 use Rattle.solver.specs.Session.{Limits, Session, issued, fresh}
 use Rattle.solver.specs.Orders as solver
 use Rattle.solver.specs.Orders.{Command, Reply, order}
@@ -40,13 +39,8 @@ answerOf solver.nothing = outcome []
 answerOf (solver.refused c) = refusal c
 
 module _ (lim : Limits) where
-  -- a command told to the session, pairs by a notion of equal shape
-  abbrev pub solveBy : Notion → Session → Command → Step
-  solveBy n s c = record { session = order lim n s c .session; answer = answerOf (order lim n s c .reply) }
-
-  -- "equal up to Set and Map access"
   abbrev pub solve : Session → Command → Step
-  solve = solveBy loose
+  solve s c = record { session = order lim s c .session; answer = answerOf (order lim s c .reply) }
 
   -- "Orders 9 to 20 leave the session as it was"; 7 before the answer
   abbrev pub operate : Session → List Field → Answer → Step

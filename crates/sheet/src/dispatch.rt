@@ -13,14 +13,14 @@ use super::term_orders::defer_term;
 use super::term_orders::resolve_term;
 use solver::Solver;
 ghost use mathlib.Core.Path.{_≡_};
-ghost use mathlib.Core.Bool.{true, false};
+ghost use mathlib.Core.Bool.{true, false, _||_};
 ghost use mathlib.Core.List.{List};
 ghost use Prim.Native.Nat.{ℕ, _≤_, _<_};
 ghost use lib.Dec.{eqb, ltb};
 ghost use lib.ListN.{length, getD};
-ghost use Rattle.solver.specs.Shapes.{loose};
-ghost use Rattle.solver.specs.Session.{Session};
-ghost use Rattle.solver.specs.Words.SessionRepresentation.{Reachable, limitsOf};
+ghost use Rattle.solver.specs.Session.{Session, issued};
+ghost use Rattle.solver.specs.Invariant.{InOrder};
+ghost use Rattle.solver.specs.Words.SessionRepresentation.{limitsOf};
 ghost use Rattle.sheet.specs.OrderTable.{rowIn};
 ghost use Rattle.sheet.specs.Sheet.{table};
 ghost use Rattle.sheet.specs.Words.FieldLayout.{isOperation};
@@ -28,6 +28,7 @@ ghost use Rattle.solver.specs.Terms.Tokens.{area};
 ghost use Rattle.sheet.specs.Words.SessionInAreas.{areas, RepresentsInAreas, Served};
 ghost use Rattle.sheet.specs.Entry.{AreasReady};
 ghost use Rattle.sheet.specs.Words.FramingContract.{OutputRoom, outputAt};
+ghost use Rattle.sheet.specs.Words.SessionOrdersContract.{pairNumber};
 ghost use Rattle.sheet.specs.Words.OrderReaderContract.{RulesRoom};
 ghost use Rattle.sheet.specs.Words.DispatchContract.{OrderTaken, Serves, Answered};
 
@@ -106,7 +107,17 @@ fn resolve_order(
     resolve_term(x, &a[..top], &b[..top], &c[half..], d, out, to)
 }
 
-// Order 4: where it bound a variable, its tokens are those of the session.
+// Whether an order poses a pair: 4, or 22 strictly.
+fn poses_pair(kind: u8) -> bool
+    ensures { λ r. ⌜ r ≡ (eqb kind 4 || eqb kind 22) ⌝ }
+{
+    if kind == 4 {
+        return true;
+    }
+    kind == 22
+}
+
+// Orders 4 and, strict, 22: where it bound a variable, its tokens are those of the session.
 fn pair_order(
     x: Solver,
     half: usize,
@@ -115,12 +126,13 @@ fn pair_order(
     c: &mut [u32],
     d: &mut [u32],
     o: Order,
+    strict: bool,
     out: &mut [u8],
     to: usize,
 ) -> AfterOrder
     requires taken { ⌜ ((s a₀ b₀ ws : List ℕ) × OrderTaken x half s (areas a₀ b₀ (now c) (now d)) (area (now a) (now b)) ws o) ⌝ }
     requires within { ⌜ o .nodes ≤ x .nodes ⌝ }
-    requires kind { ⌜ o .kind ≡ 4 ⌝ }
+    requires kind { ⌜ o .kind ≡ pairNumber strict ⌝ }
     requires room { ⌜ OutputRoom (now out) to ⌝ }
     ensures { λ r. ⌜ ((s a₀ b₀ ws : List ℕ) → OrderTaken x half s (areas a₀ b₀ (now (c .entry)) (now (d .entry))) (area (now (a .entry)) (now (b .entry))) ws o
         → Answered x (r .solver) half s (areas a₀ b₀ (now (c .entry)) (now (d .entry))) (area (now (a .entry)) (now (b .entry))) o (now (c .exit))
@@ -129,7 +141,6 @@ fn pair_order(
     let k = o.first.value as u32;
     let q = o.third.place;
     let top = o.top;
-    let strict = false;
     constrain_order(
         x,
         &a[..top],
@@ -159,7 +170,8 @@ fn plain_order(
 ) -> AfterOrder
     requires taken { ⌜ ((s a₀ b₀ ws : List ℕ) × OrderTaken x half s (areas a₀ b₀ (now c) (now d)) (area (now a) (now b)) ws o) ⌝ }
     requires within { ⌜ o .nodes ≤ x .nodes ⌝ }
-    requires kind { ⌜ (false ≡ isOperation (rowIn table (o .kind))) × ((o .kind ≡ 3) → ⊥) × ((o .kind ≡ 4) → ⊥) × ((o .kind ≡ 5) → ⊥) ⌝ }
+    requires kind { ⌜ (false ≡ isOperation (rowIn table (o .kind))) × ((o .kind ≡ 3) → ⊥) × ((eqb (o .kind) 4 || eqb (o .kind) 22) ≡ false)
+        × ((o .kind ≡ 5) → ⊥) ⌝ }
     requires room { ⌜ OutputRoom (now out) to ⌝ }
     ensures { λ r. ⌜ ((s a₀ b₀ ws : List ℕ) → OrderTaken x half s (areas a₀ b₀ (now (c .entry)) (now (d .entry))) (area (now (a .entry)) (now (b .entry))) ws o
         → Answered x (r .solver) half s (areas a₀ b₀ (now (c .entry)) (now (d .entry))) (area (now (a .entry)) (now (b .entry))) o (now (c .exit))
@@ -216,8 +228,9 @@ fn answer_order(
     if k == 3 {
         return defer_order(x, half, a, b, c, o, out, to);
     }
-    if k == 4 {
-        return pair_order(x, half, a, b, c, d, o, out, to);
+    if poses_pair(k) {
+        let strict = k == 22;
+        return pair_order(x, half, a, b, c, d, o, strict, out, to);
     }
     if k == 5 {
         return resolve_order(x, half, a, b, c, d, o, out, to);
@@ -321,7 +334,7 @@ pub fn serve_order(
     requires held { ⌜ AreasReady x half (areas (now a) (now b) (now c) (now d)) ⌝ }
     requires room { ⌜ (length (now s) ≤ 16777216) × (to ≤ length (now out)) × (length (now out) ≤ 16777216) ⌝ }
     ensures { λ r. ⌜
-        ((z : Session) → Reachable (limitsOf x) loose z → RepresentsInAreas x half (areas (now (a .entry)) (now (b .entry)) (now (c .entry)) (now (d .entry))) z
+        ((z : Session) → InOrder (issued z) (z .solver) → RepresentsInAreas x half (areas (now (a .entry)) (now (b .entry)) (now (c .entry)) (now (d .entry))) z
         → Served (r .solver) half (areas (now (a .exit)) (now (b .exit)) (now (c .exit)) (now (d .exit))) z (now (s .entry)) (outputAt (now (out .entry)) to)
         (outputAt (now (out .exit)) (r .next)) x) ⌝ }
 {

@@ -18,11 +18,11 @@ ghost use mathlib.Core.List.{List};
 ghost use Prim.Native.Nat.{ℕ, _<_};
 ghost use lib.Dec.{eqb};
 ghost use Rattle.solver.specs.Terms.Term.{Term, var, bytes};
-ghost use Rattle.solver.specs.Shapes.{Notion, loose};
-ghost use Rattle.solver.specs.Session.{Session};
+ghost use Rattle.solver.specs.Session.{Session, issued};
+ghost use Rattle.solver.specs.Invariant.{InOrder};
 ghost use Rattle.solver.specs.Orders as orders;
 ghost use Rattle.solver.specs.Words.Worklist.{Zero};
-ghost use Rattle.solver.specs.Words.SessionRepresentation.{Reachable, Represents, limitsOf};
+ghost use Rattle.solver.specs.Words.SessionRepresentation.{Represents, limitsOf};
 ghost use Rattle.solver.specs.Words.MethodContract.{Beside};
 ghost use Rattle.solver.specs.Words.OrderTerms.{Asked, Frames, resolvedTo};
 ghost use Rattle.sheet.specs.OrderTable.{outcome};
@@ -57,8 +57,8 @@ fn revision_order(x: Solver, out: &mut [u8], to: usize) -> AfterOrder
 
 // The numeric defaults, or with `never` those of the variables that are deferred.
 fn with_defaults(x: Solver, never: bool, kinds: &[u32], vals: &[u32], tables: &mut [u32]) -> Solver
-    requires { ⌜ ((z : Session) × Reachable (limitsOf x) loose z × Represents x (now kinds) (now vals) (now tables) z) ⌝ }
-    ensures held { λ r. ⌜ ((z : Session) → Reachable (limitsOf x) loose z → Represents x (now (kinds .entry)) (now (vals .entry)) (now (tables .entry)) z
+    requires { ⌜ ((z : Session) × InOrder (issued z) (z .solver) × Represents x (now kinds) (now vals) (now tables) z) ⌝ }
+    ensures held { λ r. ⌜ ((z : Session) → InOrder (issued z) (z .solver) → Represents x (now (kinds .entry)) (now (vals .entry)) (now (tables .entry)) z
         → Represents r (now (kinds .entry)) (now (vals .entry)) (now (tables .exit)) (solve (limitsOf x) z (defaultsBy never) .session)) ⌝ }
     ensures beside { λ r. ⌜ Beside x r (now (tables .entry)) (now (tables .exit)) ⌝ }
 {
@@ -78,9 +78,9 @@ fn default_order(
     out: &mut [u8],
     to: usize,
 ) -> AfterOrder
-    requires held { ⌜ ((z : Session) × Reachable (limitsOf x) loose z × Represents x (now kinds) (now vals) (now tables) z) ⌝ }
+    requires held { ⌜ ((z : Session) × InOrder (issued z) (z .solver) × Represents x (now kinds) (now vals) (now tables) z) ⌝ }
     requires room { ⌜ OutputRoom (now out) to ⌝ }
-    ensures { λ r. ⌜ ((z : Session) → Reachable (limitsOf x) loose z → Represents x (now (kinds .entry)) (now (vals .entry)) (now (tables .entry)) z
+    ensures { λ r. ⌜ ((z : Session) → InOrder (issued z) (z .solver) → Represents x (now (kinds .entry)) (now (vals .entry)) (now (tables .entry)) z
         → Does (lent x (now (kinds .entry)) (now (vals .entry)) (now (tables .entry))) (r .solver) (now (tables .exit)) z
         (solve (limitsOf x) z (defaultsBy never)) (outputAt (now (out .entry)) to) (outputAt (now (out .exit)) (r .next))) ⌝ }
 {
@@ -119,11 +119,11 @@ pub fn resolved(
     out: &mut [u8],
     to: usize,
 ) -> usize
-    requires held { ⌜ ((n : Notion) × (z : Session) × (t : Term) × Asked n x (now kinds) (now vals) (now tables) what z t) ⌝ }
+    requires held { ⌜ ((z : Session) × (t : Term) × Asked x (now kinds) (now vals) (now tables) what z t) ⌝ }
     requires areas { ⌜ Frames x (now frames) ⌝ }
     requires room { ⌜ OutputRoom (now out) to ⌝ }
     ensures clear { λ _. ⌜ Zero (now (frames .exit)) ⌝ }
-    ensures term { λ r. ⌜ ((n : Notion) (z : Session) (t : Term) → Asked n x (now (kinds .entry)) (now (vals .entry)) (now (tables .entry)) what z t
+    ensures term { λ r. ⌜ ((z : Session) (t : Term) → Asked x (now (kinds .entry)) (now (vals .entry)) (now (tables .entry)) what z t
         → Framed (outcome (resolvedTo z t)) (now (out .entry)) to (now (out .exit)) r) ⌝ }
 {
     let limit = out.len();
@@ -276,11 +276,11 @@ pub fn termless_order(
     out: &mut [u8],
     to: usize,
 ) -> AfterOrder
-    requires held { ⌜ ((z : Session) × Reachable (limitsOf x) loose z × Represents x (now kinds) (now vals) (now tables) z) ⌝ }
+    requires held { ⌜ ((z : Session) × InOrder (issued z) (z .solver) × Represents x (now kinds) (now vals) (now tables) z) ⌝ }
     requires areas { ⌜ ((kind ≡ 1) → (second < 32)) × Frames x (now frames) × Among plainOrders kind ⌝ }
     requires room { ⌜ OutputRoom (now out) to ⌝ }
     ensures clear { λ _. ⌜ Zero (now (frames .exit)) ⌝ }
-    ensures does { λ r. ⌜ ((z : Session) → Reachable (limitsOf x) loose z → Represents x (now (kinds .entry)) (now (vals .entry)) (now (tables .entry)) z
+    ensures does { λ r. ⌜ ((z : Session) → InOrder (issued z) (z .solver) → Represents x (now (kinds .entry)) (now (vals .entry)) (now (tables .entry)) z
         → Does (lent x (now (kinds .entry)) (now (vals .entry)) (now (tables .entry))) (r .solver) (now (tables .exit)) z
         (solve (limitsOf x) z (plainCommand kind first second)) (outputAt (now (out .entry)) to) (outputAt (now (out .exit)) (r .next))) ⌝ }
 {

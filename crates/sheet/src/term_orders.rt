@@ -10,13 +10,12 @@ ghost use mathlib.Core.Path.{_≡_};
 ghost use Prim.Native.Nat.{_+_};
 ghost use lib.ListN.{take, drop};
 ghost use Rattle.solver.specs.Terms.Term.{Term, size};
-ghost use Rattle.solver.specs.Shapes.{loose};
 ghost use Rattle.solver.specs.Session.{Session};
 ghost use Rattle.solver.specs.Orders as orders;
 ghost use Rattle.solver.specs.Words.Worklist.{Zero};
 ghost use Rattle.solver.specs.Words.ConstrainContract.{Scratch, pendingFrom};
-ghost use Rattle.solver.specs.Words.SessionRepresentation.{limitsOf, notion, verdictNumber};
-ghost use Rattle.sheet.specs.Sheet.{solve, solveBy};
+ghost use Rattle.solver.specs.Words.SessionRepresentation.{limitsOf, verdictNumber};
+ghost use Rattle.sheet.specs.Sheet.{solve};
 ghost use Rattle.sheet.specs.Words.FramingContract.{OutputRoom, outputAt};
 ghost use Rattle.solver.specs.Words.OrderTerms.{Poses, PosesPair, Frames};
 ghost use Rattle.sheet.specs.Words.SessionOrdersContract.{lent, Does, DoesPair};
@@ -30,9 +29,9 @@ pub fn defer_term(
     out: &mut [u8],
     to: usize,
 ) -> AfterOrder
-    requires held { ⌜ ((z : Session) × (t : Term) × Poses loose x (now kinds) (now vals) (now tables) z t) ⌝ }
+    requires held { ⌜ ((z : Session) × (t : Term) × Poses x (now kinds) (now vals) (now tables) z t) ⌝ }
     requires room { ⌜ OutputRoom (now out) to ⌝ }
-    ensures { λ r. ⌜ ((z : Session) (t : Term) → Poses loose x (now (kinds .entry)) (now (vals .entry)) (now (tables .entry)) z t
+    ensures { λ r. ⌜ ((z : Session) (t : Term) → Poses x (now (kinds .entry)) (now (vals .entry)) (now (tables .entry)) z t
         → Does (lent x (take (x .top) (now (kinds .entry))) (take (x .top) (now (vals .entry))) (now (tables .entry))) (r .solver) (now (tables .exit)) z
         (solve (limitsOf x) z (orders.defer t)) (outputAt (now (out .entry)) to) (outputAt (now (out .exit)) (r .next))) ⌝ }
 {
@@ -54,11 +53,11 @@ pub fn resolve_term(
     out: &mut [u8],
     to: usize,
 ) -> AfterOrder
-    requires held { ⌜ ((z : Session) × (t : Term) × Poses loose x (now kinds) (now vals) (now tables) z t) ⌝ }
+    requires held { ⌜ ((z : Session) × (t : Term) × Poses x (now kinds) (now vals) (now tables) z t) ⌝ }
     requires areas { ⌜ Frames x (now frames) ⌝ }
     requires room { ⌜ OutputRoom (now out) to ⌝ }
     ensures clear { λ _. ⌜ Zero (now (frames .exit)) ⌝ }
-    ensures does { λ r. ⌜ ((z : Session) (t : Term) → Poses loose x (now (kinds .entry)) (now (vals .entry)) (now (tables .entry)) z t
+    ensures does { λ r. ⌜ ((z : Session) (t : Term) → Poses x (now (kinds .entry)) (now (vals .entry)) (now (tables .entry)) z t
         → Does (lent x (take (x .top) (now (kinds .entry))) (take (x .top) (now (vals .entry))) (now (tables .entry))) (r .solver) (now (tables .entry)) z
         (solve (limitsOf x) z (orders.resolving t)) (outputAt (now (out .entry)) to) (outputAt (now (out .exit)) (r .next))) ⌝ }
 {
@@ -77,7 +76,7 @@ fn verdict_number(v: Verdict) -> u8
     }
 }
 
-// Order 4: the two terms after the session's tokens, with k checks; `nodes` counts the kept nodes and theirs. With `strict` the access of Set and Map counts.
+// Orders 4 and, strict, 22: the two terms after the session's tokens, with k checks; `nodes` counts the kept nodes and theirs.
 pub fn constrain_order(
     x: Solver,
     kinds: &[u32],
@@ -92,14 +91,14 @@ pub fn constrain_order(
     to: usize,
 ) -> AfterOrder
     requires held { ⌜
-        ((z : Session) × (t u : Term) × PosesPair (notion strict) x (now kinds) (now vals) (now tables) z q t u × (nodes ≡ z .kept + (size t + size u))) ⌝ }
+        ((z : Session) × (t u : Term) × PosesPair x (now kinds) (now vals) (now tables) z q t u × (nodes ≡ z .kept + (size t + size u))) ⌝ }
     requires areas { ⌜ Scratch x (now kinds) (now tables) (now work) × Zero (drop (pendingFrom x) (now tables)) ⌝ }
     requires room { ⌜ OutputRoom (now out) to ⌝ }
     ensures clear { λ _. ⌜ Zero (now (work .exit)) ⌝ }
-    ensures does { λ r. ⌜ ((z : Session) (t u : Term) → PosesPair (notion strict) x (now (kinds .entry)) (now (vals .entry)) (now (tables .entry)) z q t u
+    ensures does { λ r. ⌜ ((z : Session) (t u : Term) → PosesPair x (now (kinds .entry)) (now (vals .entry)) (now (tables .entry)) z q t u
         → nodes ≡ z .kept + (size t + size u)
         → DoesPair (lent x (now (kinds .entry)) (now (vals .entry)) (now (tables .entry))) (r .solver) (now (tables .exit)) z
-        (solveBy (limitsOf x) (notion strict) z (orders.pair k t u)) (outputAt (now (out .entry)) to) (outputAt (now (out .exit)) (r .next))) ⌝ }
+        (solve (limitsOf x) z (orders.pair strict k t u)) (outputAt (now (out .entry)) to) (outputAt (now (out .exit)) (r .next))) ⌝ }
 {
     if out.len() - to < 3 {
         let next = out.len() + 1;

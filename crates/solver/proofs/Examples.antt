@@ -5,9 +5,11 @@
 --   RobinsonPairs  the theorem used on pairs after orders that the one on whole lists leaves out
 --   RustSessions   sessions run on the Rust's solver, and pairs given to Robinson's algorithm
 --   Sessions       document 01's session, marked lines and slips, by computation
+--   Strict         strict pairs and lists that mix them with others; demand 3 and the two sentences on mixes, used
 pub mod Again
 pub mod Demand3
 pub mod Resolved
 pub mod RobinsonPairs
 pub mod RustSessions
 pub mod Sessions
+pub mod Strict

@@ -1,4 +1,4 @@
--- Demand 3 over lists of orders 0 to 8, on terms: its premises and its two sentences.
+-- Demand 3 over lists of orders 0 to 8 and 22, on terms: its premises, its two sentences, and what document 02 says of lists that mix orders 4 and 22.
 use mathlib.Core.Path.{_≡_}
 use mathlib.Core.Bool.{Bool, true, false, _||_}
 use mathlib.Core.List.{List, [], _∷_}
@@ -12,7 +12,7 @@ use Rattle.terms.specs.Questions.{among, meets}
 use Rattle.terms.specs.Formed.{Formed}
 use Rattle.unify.specs.Solver.{put}
 use Rattle.solver.specs.Families.{Request, belongs}
-use Rattle.solver.specs.Shapes.{Notion, readAll}
+use Rattle.solver.specs.Shapes.{Notion, notion, readAll}
 use Rattle.solver.specs.Constrain.{Pair, replace, resolved, always, occurs}
 use Rattle.solver.specs.Session.{Limits, at, Session, issued, find, fresh}
 use Rattle.solver.specs.Orders.{Command, variable, number, hole, defer, pair, resolving, numbers, nevers, revision, unread}
@@ -25,6 +25,8 @@ pub record History : Type 0 where
   -- what was requested of each variable
   pub requests : ℕ → Option Request
   pub posed : List Pair
+  -- by which order each of them was posed: true is 22, strictly
+  pub by : List Bool
   -- some pair was answered incompatible; some pair was cancelled
   pub incompatible : Bool
   pub cancelled : Bool
@@ -56,8 +58,8 @@ placed (some v) n = v
 pub data Role : Type 0 where
   -- order 1: a site, and what its fallback requests
   requesting : ℕ → Request → Role
-  -- order 4: its two terms
-  posing : Term → Term → Role
+  -- orders 4 and 22: whether it is strict, its two terms
+  posing : Bool → Term → Term → Role
   -- orders 6 and 7
   defaulting : Role
   -- any other, and one that reading refuses
@@ -68,7 +70,7 @@ role (variable site slot) = neither
 role (number site r) = requesting site r
 role (hole site) = neither
 role (defer t) = neither
-role (pair k t u) = posing t u
+role (pair b k t u) = posing b t u
 role (resolving t) = neither
 role numbers = defaulting
 role nevers = defaulting
@@ -78,28 +80,35 @@ role (unread r) = neither
 -- "Only orders answered with outcome 0 issue, request and pose": an order 1 requests of the variable of its place, or of the next one,
 unfoldable pub requestedBy : Session → (ℕ → Option Request) → Role → Bool → ℕ → Option Request
 requestedBy s f (requesting site r) b = pick b (put f (placed (find (at site 1) (s .places)) (issued s)) (some r)) f
-requestedBy s f (posing t u) b = f
+requestedBy s f (posing a t u) b = f
 requestedBy s f defaulting b = f
 requestedBy s f neither b = f
 
--- and "a posed pair is the two terms of such an order 4"
+-- and "a posed pair is the two terms of such an order 4", or 22
 unfoldable pub posedBy : List Pair → Role → Bool → List Pair
 posedBy ps (requesting site r) b = ps
-posedBy ps (posing t u) b = pick b ((t, u) ∷ ps) ps
+posedBy ps (posing a t u) b = pick b ((t, u) ∷ ps) ps
 posedBy ps defaulting b = ps
 posedBy ps neither b = ps
+
+unfoldable pub strictBy : List Bool → Role → Bool → List Bool
+strictBy bs (requesting site r) b = bs
+strictBy bs (posing a t u) b = pick b (a ∷ bs) bs
+strictBy bs defaulting b = bs
+strictBy bs neither b = bs
 
 abbrev pub noted : History → Command → Step → History
 noted h c x = record {
   session = x .session;
   requests = requestedBy (h .session) (h .requests) (role c) (accepted (x .reply));
   posed = posedBy (h .posed) (role c) (accepted (x .reply));
+  by = strictBy (h .by) (role c) (accepted (x .reply));
   incompatible = h .incompatible || says 0 (x .reply);
   cancelled = h .cancelled || says 2 (x .reply);
 }
 
 abbrev pub beginning : History
-beginning = record { session = fresh; requests = λ v. none; posed = []; incompatible = false; cancelled = false }
+beginning = record { session = fresh; requests = λ v. none; posed = []; by = []; incompatible = false; cancelled = false }
 
 -- ---- assignments
 
@@ -120,7 +129,7 @@ abbrev pub RespectsFamilies : (ℕ → Term) → (ℕ → Option Request) → Ty
 RespectsFamilies θ requests = (v : ℕ) (r : Request) → requests v ≡ some r → belongs (r .family) (θ v) ≡ true
 
 module _ (n : Notion) where
-  -- "the same once every Set and Map access at any depth is read as ReadOnly"
+  -- "the same once every Set and Map access at any depth is read as ReadOnly"; where every access counts (`exact`), the same term
   abbrev pub EqualUpToAccess : Term → Term → Type 0
   EqualUpToAccess t u = readAll n t ≡ readAll n u
 
@@ -148,6 +157,35 @@ module _ (n : Notion) where
     pub left : (v w : ℕ) → v < issued (h .session) → occurs w (resolved (h .session .solver) (var v)) ≡ true
         → (w < issued (h .session)) × (resolved (h .session .solver) (var w) ≡ var w)
 
+-- ---- strict pairs
+
+-- every pair was posed by the one order
+abbrev pub OnlyBy : Bool → List Bool → Type 0
+OnlyBy b [] = Unit {0}
+OnlyBy b (a ∷ bs) = (a ≡ b) × OnlyBy b bs
+
+-- an assignment "agrees exactly with what the variables resolve to"
+abbrev pub AgreesExactly : (ℕ → Term) → Session → Type 0
+AgreesExactly θ s = (v : ℕ) → v < issued s → θ v ≡ replace θ (resolved (s .solver) (var v))
+
+-- it "makes every pair equal by the order that posed it"
+abbrev pub EachBy : (ℕ → Term) → List Bool → List Pair → Type 0
+EachBy θ [] [] = Unit {0}
+EachBy θ [] (p ∷ ps) = ⊥
+EachBy θ (b ∷ bs) [] = ⊥
+EachBy θ (b ∷ bs) (p ∷ ps) = EqualUpToAccess (notion b) (replace θ (p .0)) (replace θ (p .1)) × EachBy θ bs ps
+
+-- "one that mixes them keeps one half: with no pair incompatible, each assignment true to the families that agrees exactly with what the variables
+-- resolve to makes every pair equal by the order that posed it." (It may also leave variables in its terms.)
+abbrev pub KeepsHalf : History → Type 0
+KeepsHalf h = h .incompatible ≡ false → (θ : ℕ → Term) → RespectsFamilies θ (h .requests) → AgreesExactly θ (h .session) → EachBy θ (h .by) (h .posed)
+
+-- "no assignment true to the families that agrees exactly with what the variables resolved to just before it makes that pair equal by its own order":
+-- of the pair t and u posed after the history h, strictly where b is true
+abbrev pub Unequal : History → Bool → Term → Term → Type 0
+Unequal h b t u = (θ : ℕ → Term) → Assigns (issued (h .session)) θ → RespectsFamilies θ (h .requests) → AgreesExactly θ (h .session)
+    → ¬ EqualUpToAccess (notion b) (replace θ t) (replace θ u)
+
 -- ---- the premises
 
 -- "pairs free of Unknown, Error and projections"
@@ -163,10 +201,10 @@ abbrev pub PlainPairs : List Pair → Type 0
 PlainPairs [] = Unit {0}
 PlainPairs (p ∷ ps) = Plain (p .0) × Plain (p .1) × PlainPairs ps
 
-module _ (lim : Limits) (n : Notion) where
+module _ (lim : Limits) where
   -- the history after an order, and after a list of orders given in turn
   abbrev pub after : History → Command → History
-  after h c = noted h c (order lim n (h .session) c)
+  after h c = noted h c (order lim (h .session) c)
 
   unfoldable pub history : History → List Command → History
   history h [] = h
@@ -177,16 +215,16 @@ module _ (lim : Limits) (n : Notion) where
   -- than it found"
   abbrev pub AllowedBy : Session → Role → Session → Type 0
   AllowedBy s (requesting site r) y = find (at site 1) (s .places) ≡ none
-  AllowedBy s (posing t u) y = Unit {0}
+  AllowedBy s (posing b t u) y = Unit {0}
   AllowedBy s defaulting y = y .solver .revision ≡ s .solver .revision
   AllowedBy s neither y = Unit {0}
 
   abbrev pub Allowed : Session → Command → Type 0
-  Allowed s c = AllowedBy s (role c) (order lim n s c .session)
+  Allowed s c = AllowedBy s (role c) (order lim s c .session)
 
   abbrev pub AllAllowed : Session → List Command → Type 0
   AllAllowed s [] = Unit {0}
-  AllAllowed s (c ∷ cs) = Allowed s c × AllAllowed (order lim n s c .session) cs
+  AllAllowed s (c ∷ cs) = Allowed s c × AllAllowed (order lim s c .session) cs
 
   -- (that fallbacks are integers or F64 is not needed: any other fallback has the integers as its family)
   pub record Premises (cs : List Command) : Type 0 where

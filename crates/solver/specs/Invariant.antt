@@ -1,9 +1,13 @@
--- What holds of a session after every list of orders, whatever they were.
+-- What holds of a session after every list of orders, whatever they were: its solver is in order, which every order keeps, and what follows from that.
 use mathlib.Core.Path.{_≡_}
 use mathlib.Core.Bool.{true}
+use mathlib.Core.List.{List, [], _∷_}
+use mathlib.Core.Logic.{_⊎_}
 use mathlib.Core.Option.{Option, none, some}
-use Prim.Native.Nat.{ℕ, zero, suc, _+_, _≤_}
+use Prim.Native.Nat.{ℕ, zero, suc, _+_, _≤_, _<_}
+use lib.ListN.{length}
 use Rattle.terms.specs.Term.{Term, var}
+use Rattle.terms.specs.Questions.{among}
 use Rattle.solver.specs.Constrain.{Solver, resolved, top, occurs, constrain}
 use Rattle.unify.specs.Solver.{Out, cancelled, done}
 use Rattle.solver.specs.Shapes.{Notion}
@@ -18,6 +22,33 @@ one (some t) = 1
 unfoldable pub boundBelow : ℕ → (ℕ → Option Term) → ℕ
 boundBelow zero b = 0
 boundBelow (suc n) b = one (b n) + boundBelow n b
+
+-- ---- in order
+
+-- each variable of the term is free, or one of the list
+abbrev pub LeadsTo : (ℕ → Option Term) → List ℕ → Term → Type 0
+LeadsTo b vs t = (w : ℕ) → occurs w t ≡ true → (b w ≡ none) ⊎ (among w vs ≡ true)
+
+-- the binding of each variable of the list leads to later ones of it alone
+abbrev pub Descends : (ℕ → Option Term) → List ℕ → Type 0
+Descends b [] = Unit {0}
+Descends b (v ∷ vs) = ((t : Term) → b v ≡ some t → LeadsTo b vs t) × Descends b vs
+
+-- A solver over N issued variables is in order. A fresh one is, and every order keeps it; nothing is said of which orders there were.
+pub record InOrder (N : ℕ) (z : Solver) : Type 0 where
+  -- "acyclic inference substitutions": the bound variables stand in a list in which each binding names only free ones and later ones
+  pub sequence : List ℕ
+  pub descends : Descends (z .bindings) sequence
+  pub listed : (v : ℕ) (t : Term) → z .bindings v ≡ some t → among v sequence ≡ true
+  -- the revision "is the number of bound variables"
+  pub many : length sequence ≡ z .revision
+  pub counted : boundBelow N (z .bindings) ≡ z .revision
+  -- only issued variables are bound, have a request, and stand in bindings
+  pub unbound : (v : ℕ) → N ≤ v → z .bindings v ≡ none
+  pub unrequested : (v : ℕ) → N ≤ v → z .requests v ≡ none
+  pub inside : (v : ℕ) (t : Term) → z .bindings v ≡ some t → (w : ℕ) → occurs w t ≡ true → w < N
+
+-- ---- what follows
 
 pub record Invariant (s : Session) : Type 0 where
   -- the revision "is the number of bound variables": only issued ones are bound, and to terms with issued variables

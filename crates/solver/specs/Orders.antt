@@ -1,4 +1,4 @@
--- Orders 0 to 8 on a session: the session after an order, and its answer.
+-- Orders 0 to 8 and 22 on a session: the session after an order, and its answer.
 use mathlib.Core.Bool.{Bool, true, false, not, _&&_}
 use mathlib.Core.List.{List, [], _∷_}
 use mathlib.Core.Option.{Option, none, some}
@@ -8,7 +8,7 @@ use Rattle.terms.specs.Term.{Term, var, node, size}
 use Rattle.terms.specs.Questions.{meets}
 use Rattle.unify.specs.Solver.{Out, cancelled, done}
 use Rattle.solver.specs.Families.{Request}
-use Rattle.solver.specs.Shapes.{Notion}
+use Rattle.solver.specs.Shapes.{notion}
 use Rattle.solver.specs.Constrain.{Solver, resolved, always, constrain}
 use Rattle.solver.specs.Session.{Limits, VariablePlace, at, gap, Session, issued, find, withSolver, issueAt, request, deferring, keep, numericDefaults, neverDefaults}
 
@@ -22,8 +22,8 @@ pub data Command : Type 0 where
   hole : ℕ → Command
   -- 3: term
   defer : Term → Command
-  -- 4: k, two terms
-  pair : ℕ → Term → Term → Command
+  -- 4 and 22: whether it is strict (22), k, two terms
+  pair : Bool → ℕ → Term → Term → Command
   -- 5: term
   resolving : Term → Command
   -- 6 numeric defaults, 7 never defaults, 8 revision
@@ -33,7 +33,7 @@ pub data Command : Type 0 where
 
 pub data Reply : Type 0 where
   term : Term → Reply
-  -- order 4
+  -- orders 4 and 22
   verdict : ℕ → Reply
   -- orders 6 and 7
   changed : Bool → Reply
@@ -72,7 +72,7 @@ known s t = not (meets (beyond (issued s)) always t)
 abbrev pub moved : Solver → Solver → Bool
 moved z y = not (eqb (y .revision) (z .revision))
 
--- the nodes that an order 4 of m nodes keeps: all of them where it made a binding, else none
+-- the nodes that a pair of m nodes keeps: all of them where it made a binding, else none
 abbrev pub keeps : Bool → ℕ → ℕ
 keeps true m = m
 keeps false m = 0
@@ -116,27 +116,27 @@ module _ (lim : Limits) where
   abbrev pub defaults : Session → Solver → Step
   defaults s z = withSolver s z gives changed (moved (s .solver) z)
 
-  module _ (n : Notion) where
-    abbrev pub posing : Session → ℕ → Out Solver → Step
-    posing s m o = keep s (solverOf o) (keeps (moved (s .solver) (solverOf o)) m) gives verdict (verdictOf o)
+  abbrev pub posing : Session → ℕ → Out Solver → Step
+  posing s m o = keep s (solverOf o) (keeps (moved (s .solver) (solverOf o)) m) gives verdict (verdictOf o)
 
-    unfoldable pub order : Session → Command → Step
-    order s (variable site slot) = variableAt s (at site slot) (find (at site slot) (s .places)) (full s)
-    order s (number site r) = numberAt s (at site 1) r (find (at site 1) (s .places)) (full s)
-    order s (hole site) = holeAt s (gap site) (find (gap site) (s .places)) (full s)
-    order s (defer t) = unless s (known s t) (crowded s (size t)) (deferring s (resolved (s .solver) t) gives nothing)
-    order s (pair k t u) = unless s (known s t && known s u) (crowded s (size t + size u)) (posing s (size t + size u) (constrain n k (s .solver) t u))
-    order s (resolving t) = unless s (known s t) (crowded s (size t)) (s gives term (resolved (s .solver) t))
-    order s numbers = defaults s (numericDefaults (issued s) 0 (s .solver))
-    order s nevers = defaults s (neverDefaults (s .deferred) (issued s) 0 (s .solver))
-    order s revision = s gives count (s .solver .revision)
-    order s (unread r) = s gives refused r
+  unfoldable pub order : Session → Command → Step
+  order s (variable site slot) = variableAt s (at site slot) (find (at site slot) (s .places)) (full s)
+  order s (number site r) = numberAt s (at site 1) r (find (at site 1) (s .places)) (full s)
+  order s (hole site) = holeAt s (gap site) (find (gap site) (s .places)) (full s)
+  order s (defer t) = unless s (known s t) (crowded s (size t)) (deferring s (resolved (s .solver) t) gives nothing)
+  order s (pair b k t u) =
+      unless s (known s t && known s u) (crowded s (size t + size u)) (posing s (size t + size u) (constrain (notion b) k (s .solver) t u))
+  order s (resolving t) = unless s (known s t) (crowded s (size t)) (s gives term (resolved (s .solver) t))
+  order s numbers = defaults s (numericDefaults (issued s) 0 (s .solver))
+  order s nevers = defaults s (neverDefaults (s .deferred) (issued s) 0 (s .solver))
+  order s revision = s gives count (s .solver .revision)
+  order s (unread r) = s gives refused r
 
-    -- "Each later one gets the session that the one before returned or left"
-    unfoldable pub run : Session → List Command → Session
-    run s [] = s
-    run s (c ∷ cs) = run (order s c .session) cs
+  -- "Each later one gets the session that the one before returned or left"
+  unfoldable pub run : Session → List Command → Session
+  run s [] = s
+  run s (c ∷ cs) = run (order s c .session) cs
 
-    unfoldable pub replies : Session → List Command → List Reply
-    replies s [] = []
-    replies s (c ∷ cs) = order s c .reply ∷ replies (order s c .session) cs
+  unfoldable pub replies : Session → List Command → List Reply
+  replies s [] = []
+  replies s (c ∷ cs) = order s c .reply ∷ replies (order s c .session) cs

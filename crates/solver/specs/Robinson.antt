@@ -13,11 +13,11 @@ use lib.ListN.{length}
 use Rattle.terms.specs.Result.{pick}
 use Rattle.terms.specs.Term.{Term, Parts, var, node, end, num, sub, size}
 use Rattle.terms.specs.Tree.{same}
-use Rattle.solver.specs.Shapes.{Notion, blank, readAll}
+use Rattle.solver.specs.Shapes.{Notion, notion, blank, readAll}
 use Rattle.solver.specs.Constrain.{Pair, replace, resolved, occurs}
 use Rattle.solver.specs.Session.{Limits, Session}
 use Rattle.solver.specs.Orders.{Command}
-use Rattle.solver.specs.Demand3.{History, beginning, history, Premises}
+use Rattle.solver.specs.Demand3.{History, beginning, history, OnlyBy, Premises}
 
 -- ---- substitutions
 
@@ -162,12 +162,13 @@ abbrev pub UnmarkedPairs : Notion → List Pair → Type 0
 UnmarkedPairs n [] = Unit {0}
 UnmarkedPairs n (p ∷ ps) = Unmarked n (p .0) × Unmarked n (p .1) × UnmarkedPairs n ps
 
-module _ (lim : Limits) (n : Notion) where
-  -- "plain first-order pairs (no recovery terms, projections, number variables or access marks)", none of them cancelled
+module _ (lim : Limits) (b : Bool) where
+  -- "plain first-order pairs (no recovery terms, projections, number variables or access marks)", none of them cancelled, all strict or none
   pub record FirstOrder (cs : List Command) : Type 0 where
-    pub premises : Premises lim n cs
-    pub unmarked : UnmarkedPairs n (history lim n beginning cs .posed)
-    pub numberless : (v : ℕ) → history lim n beginning cs .requests v ≡ none
+    pub only : OnlyBy b (history lim beginning cs .by)
+    pub premises : Premises lim cs
+    pub unmarked : UnmarkedPairs (notion b) (history lim beginning cs .posed)
+    pub numberless : (v : ℕ) → history lim beginning cs .requests v ≡ none
 
 -- the pairs posed one after the other, whatever other orders came between
 pub record Decides (h : History) : Type 0 where

@@ -1,14 +1,14 @@
 -- Robinson 1965, pair by pair, in every session: "For plain first-order pairs (no recovery terms, projections, number variables or access marks)
 -- Robinson 1965 decides." A pair is judged by its two terms as they resolve just before it, whatever orders came earlier.
 use mathlib.Core.Path.{_≡_}
-use mathlib.Core.Bool.{true, false}
+use mathlib.Core.Bool.{Bool, true, false}
 use mathlib.Core.List.{List, [], _∷_}
 use mathlib.Core.Logic.{_⊎_, _↔_}
 use mathlib.Core.Option.{none}
 use Prim.Native.Nat.{ℕ, _+_, _≤_}
 use Rattle.terms.specs.Term.{Term, size}
 use Rattle.terms.specs.Questions.{meets}
-use Rattle.solver.specs.Shapes.{Notion}
+use Rattle.solver.specs.Shapes.{Notion, notion}
 use Rattle.solver.specs.Constrain.{Pair, replace, resolved, occurs, always}
 use Rattle.solver.specs.Session.{Limits, Session}
 use Rattle.solver.specs.Orders.{pair, verdict, known, crowded, order}
@@ -46,27 +46,28 @@ pub record FirstOrderIn (n : Notion) (s : Session) (t : Term) : Type 0 where
   pub unmarked : Unmarked n (resolved (s .solver) t)
   pub numberless : (v : ℕ) → occurs v (resolved (s .solver) t) ≡ true → s .solver .requests v ≡ none
 
-module _ (lim : Limits) (n : Notion) where
+-- The pair is posed strictly (b is true) or not: which access marks count is its own.
+module _ (lim : Limits) (b : Bool) where
   -- both are, and the pair is not refused (6 or 7)
   pub record PlainPair (s : Session) (t u : Term) : Type 0 where
     pub known-left : known s t ≡ true
     pub known-right : known s u ≡ true
     pub room : crowded lim s (size t + size u) ≡ false
-    pub left : FirstOrderIn n s t
-    pub right : FirstOrderIn n s u
+    pub left : FirstOrderIn (notion b) s t
+    pub right : FirstOrderIn (notion b) s u
 
   -- ---- the claim
 
   -- of the pair posed in s with k checks
   abbrev pub DecidedBy : Session → ℕ → Term → Term → Type 0
-  DecidedBy s k t u = Decided s (order lim n s (pair k t u) .session) (resolved (s .solver) t) (resolved (s .solver) u)
-      (order lim n s (pair k t u) .reply ≡ verdict 1) (order lim n s (pair k t u) .reply ≡ verdict 0)
+  DecidedBy s k t u = Decided s (order lim s (pair b k t u) .session) (resolved (s .solver) t) (resolved (s .solver) u)
+      (order lim s (pair b k t u) .reply ≡ verdict 1) (order lim s (pair b k t u) .reply ≡ verdict 0)
 
   -- ROBINSON DECIDES the pair: with enough checks; and with fewer it is so, or cancelled (2)
   pub record RobinsonDecides (s : Session) (t u : Term) : Type 0 where
     pub checks : ℕ
     pub enough : (k : ℕ) → checks ≤ k → DecidedBy s k t u
-    pub fewer : (k : ℕ) → (order lim n s (pair k t u) .reply ≡ verdict 2) ⊎ DecidedBy s k t u
+    pub fewer : (k : ℕ) → (order lim s (pair b k t u) .reply ≡ verdict 2) ⊎ DecidedBy s k t u
 
 -- ---- such pairs by the terms as they were posed
 

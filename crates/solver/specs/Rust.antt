@@ -23,7 +23,7 @@ use Rattle.terms.specs.Formed.{Formed}
 use Rattle.unify.specs.Solver.{Out, cancelled, done}
 use Rattle.unify.specs.RustMaps.{look, insert, sorted, look-site}
 use Rattle.solver.specs.Families.{requested}
-use Rattle.solver.specs.Shapes.{Notion, pushed}
+use Rattle.solver.specs.Shapes.{pushed}
 use Rattle.solver.specs.Constrain.{Pair, always, recovery, recovers, occurs, zipOn}
 use Rattle.solver.specs.Orders.{Command, variable, number, hole, defer, pair, resolving, numbers, nevers, revision, unread}
 use Rattle.solver.specs.Orders.{Reply, term, verdict, changed, count, nothing, beyond, order}
@@ -312,13 +312,14 @@ with-change before z = (z, changed (not (eqb (z .revision) (before .revision))))
 unfoldable pub with-term : Solver × Term → Solver × Reply
 with-term x = (x .0, term (x .1))
 
--- one order; one that reading refused is none of the Rust's
+-- one order; a strict pair, and one that reading refused, are none of the Rust's
 unfoldable pub answer : Solver → Command → Option (Solver × Reply)
 answer z (variable site slot) = some (with-term (variable-of z site slot))
 answer z (number site r) = and-then (numeric-variable z site (r .fallback)) (λ x. some (with-term x))
 answer z (hole site) = and-then (annotation-hole z site) (λ x. some (with-term x))
 answer z (defer t) = and-then (defer-never z t) (λ z. some (z, nothing))
-answer z (pair k t u) = and-then (constrain k z t u) (λ o. some (with-verdict o))
+answer z (pair false k t u) = and-then (constrain k z t u) (λ o. some (with-verdict o))
+answer z (pair true k t u) = none
 answer z (resolving t) = and-then (resolve z t) (λ u. some (z, term u))
 answer z numbers = and-then (apply-numeric-defaults z) (λ y. some (with-change z y))
 answer z nevers = and-then (apply-never-defaults z) (λ y. some (with-change z y))
@@ -336,30 +337,31 @@ answers z (c ∷ cs) = and-then (answer z c) (λ x. with-answer (x .1) (answers 
 
 -- ---- what "the same answers" says
 
--- what reading gives: formed terms, and what is requested is what a fallback requests, which is a builtin's code
-abbrev pub AsRead : Command → Type 0
-AsRead (variable site slot) = Unit {0}
-AsRead (number site r) = (r ≡ requested (r .fallback)) × (r .fallback < 32)
-AsRead (hole site) = Unit {0}
-AsRead (defer t) = Formed t
-AsRead (pair k t u) = Formed t × Formed u
-AsRead (resolving t) = Formed t
-AsRead numbers = Unit {0}
-AsRead nevers = Unit {0}
-AsRead revision = Unit {0}
-AsRead (unread r) = Unit {0}
+-- What reading gives of the orders that the Rust has: formed terms, pairs that are not strict, and what is requested is what a fallback requests, which is a
+-- builtin's code.
+abbrev pub OfRust : Command → Type 0
+OfRust (variable site slot) = Unit {0}
+OfRust (number site r) = (r ≡ requested (r .fallback)) × (r .fallback < 32)
+OfRust (hole site) = Unit {0}
+OfRust (defer t) = Formed t
+OfRust (pair b k t u) = (b ≡ false) × Formed t × Formed u
+OfRust (resolving t) = Formed t
+OfRust numbers = Unit {0}
+OfRust nevers = Unit {0}
+OfRust revision = Unit {0}
+OfRust (unread r) = Unit {0}
 
-abbrev pub AllRead : List Command → Type 0
-AllRead [] = Unit {0}
-AllRead (c ∷ cs) = AsRead c × AllRead cs
+abbrev pub AllOfRust : List Command → Type 0
+AllOfRust [] = Unit {0}
+AllOfRust (c ∷ cs) = OfRust c × AllOfRust cs
 
 -- The Rust knows no refusals: it is given the orders of a list that are not refused (6 a variable that is not issued, 7 nodes, 8 variables, and
 -- what reading refuses).
-unfoldable pub given : Limits → Notion → Session → List Command → List Command
-given lim n s [] = []
-given lim n s (c ∷ cs) =
-    let x = order lim n s c in
-    pick (accepted (x .reply)) (c ∷ given lim n (x .session) cs) (given lim n (x .session) cs)
+unfoldable pub given : Limits → Session → List Command → List Command
+given lim s [] = []
+given lim s (c ∷ cs) =
+    let x = order lim s c in
+    pick (accepted (x .reply)) (c ∷ given lim (x .session) cs) (given lim (x .session) cs)
 
 -- the answers that are no refusals
 unfoldable pub unrefused : List Reply → List Reply

@@ -70,7 +70,7 @@ unfoldable pub deferring : Session → Term → Session
 deferring s (var v) = record { solver = s .solver; places = s .places; deferred = put (s .deferred) v true; kept = s .kept }
 deferring s (node k ps) = s
 
--- order 4: the solver after it, and n of its nodes kept
+-- a pair: the solver after it, and n of its nodes kept
 abbrev pub keep : Session → Solver → ℕ → Session
 keep s z n = record { solver = z; places = s .places; deferred = s .deferred; kept = s .kept + n }
 

@@ -1,5 +1,5 @@
 -- The shape of a term: its tag, its numbers, and how many children stand where. What the solver compares before it takes two terms apart.
-use mathlib.Core.Bool.{Bool, false, _||_}
+use mathlib.Core.Bool.{Bool, true, false, _||_}
 use mathlib.Core.List.{List, _++_}
 use Prim.Native.Nat.{ℕ, zero, suc}
 use lib.Dec.{eqb}
@@ -26,9 +26,14 @@ Notion = ℕ → Bool
 unfoldable pub loose : Notion
 loose k = eqb k 10 || eqb k 11
 
--- every access counts
+-- order 22: every access counts
 unfoldable pub exact : Notion
 exact k = false
+
+-- the notion by which a pair is posed: strict or not
+abbrev pub notion : Bool → Notion
+notion true = exact
+notion false = loose
 
 -- a row with its first number read as 0
 unfoldable pub unmarked : Parts → Parts

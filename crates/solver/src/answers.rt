@@ -14,7 +14,6 @@ ghost use Prim.Native.Nat.{ℕ, min, _+_, _^_, _≤_, _<_};
 ghost use lib.ListN.{length};
 ghost use lib.Seq.{sets};
 ghost use Rattle.terms.specs.Term.{Term, var, bytes};
-ghost use Rattle.solver.specs.Shapes.{Notion};
 ghost use Rattle.solver.specs.Session.{Session};
 ghost use Rattle.solver.specs.Orders as orders;
 ghost use Rattle.solver.specs.Words.Worklist.{Zero};
@@ -43,18 +42,18 @@ impl Solver {
     pub fn revision(self) -> usize
         ensures count { λ r. ⌜ r ≡ self .revision ⌝ }
         ensures held { λ r. ⌜
-            ((ks vs ts : List ℕ) (s : Session) (n : Notion)
+            ((ks vs ts : List ℕ) (s : Session)
             → Represents self ks vs ts s
-            → orders.order (limitsOf self) n s orders.revision .reply ≡ orders.count r) ⌝ }
+            → orders.order (limitsOf self) s orders.revision .reply ≡ orders.count r) ⌝ }
     {
         self.revision
     }
 
     // Where resolving begins.
     pub fn start(self, tables: &[u32], what: Subject) -> Start
-        requires { ⌜ ((n : Notion) × (ks vs : List ℕ) × (s : Session) × (t : Term) × Asked n self ks vs (now tables) what s t) ⌝ }
+        requires { ⌜ ((ks vs : List ℕ) × (s : Session) × (t : Term) × Asked self ks vs (now tables) what s t) ⌝ }
         ensures { λ r. ⌜
-            ((n : Notion) (ks vs : List ℕ) (s : Session) (t : Term) → Asked n self ks vs (now (tables .entry)) what s t → Starts self ks vs s t r) ⌝ }
+            ((ks vs : List ℕ) (s : Session) (t : Term) → Asked self ks vs (now (tables .entry)) what s t → Starts self ks vs s t r) ⌝ }
     {
         match what {
             Subject::Follows => Start::Begins(self.top, self.revision),
@@ -83,11 +82,11 @@ impl Solver {
         what: Subject,
         limit: usize,
     ) -> usize
-        requires held { ⌜ ((n : Notion) × (s : Session) × (t : Term) × Asked n self (now kinds) (now vals) (now tables) what s t) ⌝ }
+        requires held { ⌜ ((s : Session) × (t : Term) × Asked self (now kinds) (now vals) (now tables) what s t) ⌝ }
         requires room { ⌜ Frames self (now work) × (limit < 2 ^ 32) ⌝ }
         ensures len { λ r. ⌜
-            ((n : Notion) (s : Session) (t : Term)
-            → Asked n self (now (kinds .entry)) (now (vals .entry)) (now (tables .entry)) what s t
+            ((s : Session) (t : Term)
+            → Asked self (now (kinds .entry)) (now (vals .entry)) (now (tables .entry)) what s t
             → r ≡ min (limit + 1) (length (resolvedTo s t))) ⌝ }
         ensures clear { λ _. ⌜ Zero (now (work .exit)) ⌝ }
     {
@@ -123,12 +122,12 @@ impl Solver {
         to: usize,
     ) -> usize
         requires held { ⌜
-            ((n : Notion) × (s : Session) × (t : Term) × Asked n self (now kinds) (now vals) (now tables) what s t
+            ((s : Session) × (t : Term) × Asked self (now kinds) (now vals) (now tables) what s t
             × (to + length (resolvedTo s t) ≤ length (now out))) ⌝ }
         requires room { ⌜ Frames self (now work) ⌝ }
         ensures wrote { λ r. ⌜
-            ((n : Notion) (s : Session) (t : Term)
-            → Asked n self (now (kinds .entry)) (now (vals .entry)) (now (tables .entry)) what s t
+            ((s : Session) (t : Term)
+            → Asked self (now (kinds .entry)) (now (vals .entry)) (now (tables .entry)) what s t
             → (r ≡ to + length (resolvedTo s t)) × (now (out .exit) ≡ sets (now (out .entry)) to (resolvedTo s t))) ⌝ }
         ensures clear { λ _. ⌜ Zero (now (work .exit)) ⌝ }
     {

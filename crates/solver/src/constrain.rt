@@ -21,12 +21,13 @@ ghost use Prim.Native.Nat.{_+_, _*_, _≤_, _<_};
 ghost use lib.Dec.{eqb};
 ghost use lib.ListN.{length, drop};
 ghost use Rattle.terms.specs.Term.{Term, size};
-ghost use Rattle.solver.specs.Shapes.{sameShape};
+ghost use Rattle.solver.specs.Shapes.{notion, sameShape};
 ghost use Rattle.solver.specs.Constrain as solving;
 ghost use Rattle.solver.specs.Constrain.{Pair, recovery, projects, decompose};
-ghost use Rattle.solver.specs.Session.{Limits, Session};
+ghost use Rattle.solver.specs.Session.{Session, issued};
+ghost use Rattle.solver.specs.Invariant.{InOrder};
 ghost use Rattle.solver.specs.Words.Worklist.{Zero};
-ghost use Rattle.solver.specs.Words.SessionRepresentation.{notion, Reachable, Represents};
+ghost use Rattle.solver.specs.Words.SessionRepresentation.{Represents};
 ghost use Rattle.solver.specs.Words.OrderTerms.{PosesPair};
 ghost use Rattle.solver.specs.Words.ConstrainContract.{Waiting, Known, Scratch, Facing, Nodes, Due, After, Constrained, Posed, pendingFrom};
 
@@ -163,11 +164,11 @@ impl Solver {
         strict: bool,
         count: usize,
     ) -> Checked
-        requires due { ⌜ ((s : Session) × (t u : Term) × Due (notion strict) self (now kinds) (now vals) (now tables) s i j count t u) ⌝ }
+        requires due { ⌜ ((s : Session) × (t u : Term) × Due self (now kinds) (now vals) (now tables) s i j count t u) ⌝ }
         requires room { ⌜ Scratch self (now kinds) (now tables) (now work) ⌝ }
         ensures after { λ r. ⌜
             ((s : Session) (t u : Term) (ps : List Pair)
-            → Due (notion strict) self (now (kinds .entry)) (now (vals .entry)) (now (tables .entry)) s i j count t u
+            → Due self (now (kinds .entry)) (now (vals .entry)) (now (tables .entry)) s i j count t u
             → Waiting self (now (kinds .entry)) (now (vals .entry)) (now (tables .entry)) count ps
             → After self (now (kinds .entry)) (now (vals .entry)) (now (tables .entry)) (now (tables .exit)) s (solving.top (s .solver) t)
             (solving.top (s .solver) u) count (solving.checkPair (notion strict) (s .solver) t u ps) r) ⌝ }
@@ -206,12 +207,12 @@ impl Solver {
         strict: bool,
     ) -> Solved
         requires held { ⌜
-            ((s : Session) × (lim : Limits) × (t u : Term) × Reachable lim (notion strict) s × Represents self (now kinds) (now vals) (now tables) s
+            ((s : Session) × (t u : Term) × InOrder (issued s) (s .solver) × Represents self (now kinds) (now vals) (now tables) s
             × Known (now kinds) (now vals) s p t × Known (now kinds) (now vals) s q u) ⌝ }
         requires room { ⌜ Scratch self (now kinds) (now tables) (now work) × Zero (drop (pendingFrom self) (now tables)) ⌝ }
         ensures solved { λ r. ⌜
-            ((s : Session) (lim : Limits) (t u : Term)
-            → Reachable lim (notion strict) s
+            ((s : Session) (t u : Term)
+            → InOrder (issued s) (s .solver)
             → Represents self (now (kinds .entry)) (now (vals .entry)) (now (tables .entry)) s
             → Known (now (kinds .entry)) (now (vals .entry)) s p t
             → Known (now (kinds .entry)) (now (vals .entry)) s q u
@@ -255,7 +256,7 @@ impl Solver {
             verdict: Verdict::Incompatible,
         }
     }
-    // Order 4: the two terms after the session's tokens, the second at q, are constrained to be equal, with k checks; `nodes` counts the kept
+    // Orders 4 and 22 (strict): the two terms after the session's tokens, the second at q, are constrained to be equal, with k checks; `nodes` counts the kept
     // nodes and theirs. Where a variable was bound their tokens are the session's from now on; else they are given back, and no node is kept.
     pub fn constrain(
         mut self,
@@ -269,14 +270,14 @@ impl Solver {
         strict: bool,
     ) -> Solved
         requires held { ⌜
-            ((s : Session) × (t u : Term) × PosesPair (notion strict) self (now kinds) (now vals) (now tables) s q t u × (nodes ≡ s .kept + (size t + size u)))
+            ((s : Session) × (t u : Term) × PosesPair self (now kinds) (now vals) (now tables) s q t u × (nodes ≡ s .kept + (size t + size u)))
             ⌝ }
         requires room { ⌜ Scratch self (now kinds) (now tables) (now work) × Zero (drop (pendingFrom self) (now tables)) ⌝ }
         ensures solved { λ r. ⌜
             ((s : Session) (t u : Term)
-            → PosesPair (notion strict) self (now (kinds .entry)) (now (vals .entry)) (now (tables .entry)) s q t u
+            → PosesPair self (now (kinds .entry)) (now (vals .entry)) (now (tables .entry)) s q t u
             → nodes ≡ s .kept + (size t + size u)
-            → Posed (notion strict) self (now (kinds .entry)) (now (vals .entry)) (now (tables .entry)) (now (tables .exit)) s (size t + size u)
+            → Posed self (now (kinds .entry)) (now (vals .entry)) (now (tables .entry)) (now (tables .exit)) s (size t + size u)
             (solving.constrain (notion strict) k (s .solver) t u) r) ⌝ }
         ensures clear { λ _. ⌜ Zero (now (work .exit)) ⌝ }
     {

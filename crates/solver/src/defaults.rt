@@ -8,7 +8,6 @@ ghost use mathlib.Core.Option.{Option};
 ghost use Prim.Native.Nat.{ℕ, _+_, _*_, _^_, _≤_, _<_};
 ghost use lib.ListN.{length, take};
 ghost use Rattle.terms.specs.Term.{Term, var};
-ghost use Rattle.solver.specs.Shapes.{Notion};
 ghost use Rattle.solver.specs.Constrain.{follow, resolved};
 ghost use Rattle.solver.specs.Session.{Session, issued, withSolver, deferring};
 ghost use Rattle.solver.specs.Orders as orders;
@@ -62,10 +61,10 @@ fn default_word(tables: &[u32], m: usize, v: usize, never: bool) -> usize
 impl Solver {
     // Order 3: the variable that the term after the session's tokens stands for, if it stands for one, is deferred.
     pub fn defer_never(self, kinds: &[u32], vals: &[u32], tables: &mut [u32]) -> Solver
-        requires { ⌜ ((n : Notion) × (s : Session) × (t : Term) × Poses n self (now kinds) (now vals) (now tables) s t) ⌝ }
+        requires { ⌜ ((s : Session) × (t : Term) × Poses self (now kinds) (now vals) (now tables) s t) ⌝ }
         ensures held { λ r. ⌜
-            ((n : Notion) (s : Session) (t : Term)
-            → Poses n self (now (kinds .entry)) (now (vals .entry)) (now (tables .entry)) s t
+            ((s : Session) (t : Term)
+            → Poses self (now (kinds .entry)) (now (vals .entry)) (now (tables .entry)) s t
             → Represents r (take (self .top) (now (kinds .entry))) (take (self .top) (now (vals .entry))) (now (tables .exit))
             (deferring s (resolved (s .solver) t))) ⌝ }
         ensures beside { λ r. ⌜ Beside self r (now (tables .entry)) (now (tables .exit)) ⌝ }
@@ -159,10 +158,10 @@ impl Solver {
             (self .revision < 2 ^ 32) × (length (now vals) ≡ length (now kinds))
             × ((s : Session) × Represents self (now kinds) (now vals) (now tables) s × Low (self .variables) (s .solver .bindings)) ⌝ }
         ensures held { λ r. ⌜
-            ((s : Session) (n : Notion)
+            ((s : Session)
             → Represents self (now (kinds .entry)) (now (vals .entry)) (now (tables .entry)) s
             → Low (self .variables) (s .solver .bindings)
-            → Represents r (now (kinds .entry)) (now (vals .entry)) (now (tables .exit)) (orders.order (limitsOf self) n s orders.numbers .session)) ⌝ }
+            → Represents r (now (kinds .entry)) (now (vals .entry)) (now (tables .exit)) (orders.order (limitsOf self) s orders.numbers .session)) ⌝ }
         ensures beside { λ r. ⌜ Beside self r (now (tables .entry)) (now (tables .exit)) ⌝ }
     {
         self = self.apply_defaults(kinds, vals, tables, false);
@@ -176,10 +175,10 @@ impl Solver {
             (self .revision < 2 ^ 32) × (length (now vals) ≡ length (now kinds))
             × ((s : Session) × Represents self (now kinds) (now vals) (now tables) s × Low (self .variables) (s .solver .bindings)) ⌝ }
         ensures held { λ r. ⌜
-            ((s : Session) (n : Notion)
+            ((s : Session)
             → Represents self (now (kinds .entry)) (now (vals .entry)) (now (tables .entry)) s
             → Low (self .variables) (s .solver .bindings)
-            → Represents r (now (kinds .entry)) (now (vals .entry)) (now (tables .exit)) (orders.order (limitsOf self) n s orders.nevers .session)) ⌝ }
+            → Represents r (now (kinds .entry)) (now (vals .entry)) (now (tables .exit)) (orders.order (limitsOf self) s orders.nevers .session)) ⌝ }
         ensures beside { λ r. ⌜ Beside self r (now (tables .entry)) (now (tables .exit)) ⌝ }
     {
         self = self.apply_defaults(kinds, vals, tables, true);

@@ -12,8 +12,7 @@ ghost use lib.ListN.{length, getD};
 ghost use Rattle.terms.specs.Term.{Parts, node, Held};
 ghost use Rattle.terms.specs.Words.Held.{HeldParts};
 ghost use Rattle.terms.specs.Tree.{nums, children};
-ghost use Rattle.solver.specs.Shapes.{sameShape};
-ghost use Rattle.solver.specs.Words.SessionRepresentation.{notion};
+ghost use Rattle.solver.specs.Shapes.{notion, sameShape};
 ghost use Rattle.solver.specs.Words.PendingContract.{Laid, Taken, Wiped, places, PushedPairs, Twins, agree, here, window, PartEnd, NumberAt};
 
 // Where the part at i ends, or end where it would go past it.

@@ -12,7 +12,6 @@ ghost use Prim.Native.Nat.{ℕ, _+_, _*_, _^_, _≤_, _<_};
 ghost use lib.ListN.{length, getD};
 ghost use Rattle.solver.specs.declared.Named.the-variants.{Variable};
 ghost use Rattle.solver.specs.Families.{requested};
-ghost use Rattle.solver.specs.Shapes.{Notion};
 ghost use Rattle.solver.specs.Session.{VariablePlace, at, gap, Session, find};
 ghost use Rattle.solver.specs.Orders as orders;
 ghost use Rattle.solver.specs.Words.SessionRepresentation.{limitsOf, placeWords, siteWords, slotWords, HeldPlace, HeldPlaces, Represents};
@@ -150,9 +149,9 @@ impl Solver {
     pub fn variable(mut self, tables: &mut [u32], site: u32, slot: u32) -> Issue
         requires { ⌜ Shaped self (length (now tables)) × ((ks vs : List ℕ) × (s : Session) × Represents self ks vs (now tables) s) ⌝ }
         ensures held { λ r. ⌜
-            ((ks vs : List ℕ) (s : Session) (n : Notion)
+            ((ks vs : List ℕ) (s : Session)
             → Represents self ks vs (now (tables .entry)) s
-            → Replied (r .solver) ks vs (now (tables .exit)) (at site slot) (orders.order (limitsOf self) n s (orders.variable site slot)) replyOf (r .answer))
+            → Replied (r .solver) ks vs (now (tables .exit)) (at site slot) (orders.order (limitsOf self) s (orders.variable site slot)) replyOf (r .answer))
             ⌝ }
         ensures beside { λ r. ⌜ Beside self (r .solver) (now (tables .entry)) (now (tables .exit)) ⌝ }
     {
@@ -163,10 +162,10 @@ impl Solver {
     pub fn numeric_variable(mut self, tables: &mut [u32], site: u32, fallback: u32) -> Issue
         requires { ⌜ Shaped self (length (now tables)) × (fallback < 32) × ((ks vs : List ℕ) × (s : Session) × Represents self ks vs (now tables) s) ⌝ }
         ensures held { λ r. ⌜
-            ((ks vs : List ℕ) (s : Session) (n : Notion)
+            ((ks vs : List ℕ) (s : Session)
             → Represents self ks vs (now (tables .entry)) s
-            → Replied (r .solver) ks vs (now (tables .exit)) (at site 1) (orders.order (limitsOf self) n s (orders.number site (requested fallback)))
-            (resolvedReply (orders.order (limitsOf self) n s (orders.number site (requested fallback)) .session .solver)) (r .answer)) ⌝ }
+            → Replied (r .solver) ks vs (now (tables .exit)) (at site 1) (orders.order (limitsOf self) s (orders.number site (requested fallback)))
+            (resolvedReply (orders.order (limitsOf self) s (orders.number site (requested fallback)) .session .solver)) (r .answer)) ⌝ }
         ensures beside { λ r. ⌜ Beside self (r .solver) (now (tables .entry)) (now (tables .exit)) ⌝ }
     {
         let m = self.variables;
@@ -193,10 +192,10 @@ impl Solver {
     pub fn annotation_hole(mut self, tables: &mut [u32], site: u32) -> Issue
         requires { ⌜ Shaped self (length (now tables)) × ((ks vs : List ℕ) × (s : Session) × Represents self ks vs (now tables) s) ⌝ }
         ensures held { λ r. ⌜
-            ((ks vs : List ℕ) (s : Session) (n : Notion)
+            ((ks vs : List ℕ) (s : Session)
             → Represents self ks vs (now (tables .entry)) s
-            → Replied (r .solver) ks vs (now (tables .exit)) (gap site) (orders.order (limitsOf self) n s (orders.hole site))
-            (resolvedReply (orders.order (limitsOf self) n s (orders.hole site) .session .solver)) (r .answer)) ⌝ }
+            → Replied (r .solver) ks vs (now (tables .exit)) (gap site) (orders.order (limitsOf self) s (orders.hole site))
+            (resolvedReply (orders.order (limitsOf self) s (orders.hole site) .session .solver)) (r .answer)) ⌝ }
         ensures beside { λ r. ⌜ Beside self (r .solver) (now (tables .entry)) (now (tables .exit)) ⌝ }
     {
         self.issue(tables, 2, site, 0)

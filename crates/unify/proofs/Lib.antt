@@ -10,6 +10,7 @@
 --   RobinsonPair     the algorithm decides each plain pair, in every session
 --   PlainLists       plain pairs by the posed terms alone
 --   InOrder          a session in order names no equality, and every order keeps it
+--   Acyclic          bindings without a circle are enough for that
 --   Mixed            a pair posed by one of several equalities, over substitutions
 --   MixLaws          sessions of such pairs: the half of demand 3, each pair, Robinson 1965, sessions of one equality
 --   Again            a compatible pair posed again binds nothing and is not incompatible
@@ -27,6 +28,7 @@ pub mod Unification1965
 pub mod RobinsonPair
 pub mod PlainLists
 pub mod InOrder
+pub mod Acyclic
 pub mod Mixed
 pub mod MixLaws
 pub mod Again

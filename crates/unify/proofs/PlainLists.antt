@@ -99,48 +99,48 @@ module _ (S : Sig) (n : S .Head → S .Head) where
         soft false =
             subst (λ (o : Option (S .Fam)). Asked (tie₁ S z v t (answer S z t) ps (admit S (z .fam) o t) (in? v (answer S z t)) .state .fam)) (sym (a v)) (go (in? v (answer S z t)))
 
-    part-kept : (h k : S .Head) (ts us : Forest (S .Head)) (b c : Bool) (d : Dec (n h ≡ n k)) → Simple S n ts → Simple S n us → SimpleBound (z .bound) → SimplePairs ps
-        → Kept (part S n z h k ts us ps b c d)
+    part-kept : (m : S .Head → S .Head) (h k : S .Head) (ts us : Forest (S .Head)) (b c : Bool) (d : Dec (m h ≡ m k)) → Simple S n ts → Simple S n us → SimpleBound (z .bound) → SimplePairs ps
+        → Kept (part S m z h k ts us ps b c d)
     unfolding part part₁
-    part-kept h k ts us true c d p q g r = (g, r)
-    part-kept h k ts us false true d p q g r = (g, r)
-    part-kept h k ts us false false (no e) p q g r = (g, r)
-    part-kept h k ts us false false (yes e) p q g r = go (zipOn S ts us ps) (zips ts us ps p q r)
+    part-kept m h k ts us true c d p q g r = (g, r)
+    part-kept m h k ts us false true d p q g r = (g, r)
+    part-kept m h k ts us false false (no e) p q g r = (g, r)
+    part-kept m h k ts us false false (yes e) p q g r = go (zipOn S ts us ps) (zips ts us ps p q r)
       where
         go : (o : Option (List (Pair S))) → Zips o → Kept (part₁ S z ps o)
         go none x = (g, r)
         go (some qs) x = (g, x)
 
-    part-asked : (h k : S .Head) (ts us : Forest (S .Head)) (b c : Bool) (d : Dec (n h ≡ n k)) → Asked (z .fam) → Asked (part S n z h k ts us ps b c d .state .fam)
+    part-asked : (m : S .Head → S .Head) (h k : S .Head) (ts us : Forest (S .Head)) (b c : Bool) (d : Dec (m h ≡ m k)) → Asked (z .fam) → Asked (part S m z h k ts us ps b c d .state .fam)
     unfolding part part₁
-    part-asked h k ts us true c d a = a
-    part-asked h k ts us false true d a = a
-    part-asked h k ts us false false (no e) a = a
-    part-asked h k ts us false false (yes e) a = go (zipOn S ts us ps)
+    part-asked m h k ts us true c d a = a
+    part-asked m h k ts us false true d a = a
+    part-asked m h k ts us false false (no e) a = a
+    part-asked m h k ts us false false (yes e) a = go (zipOn S ts us ps)
       where
         go : (o : Option (List (Pair S))) → Asked (part₁ S z ps o .state .fam)
         go none = a
         go (some qs) = a
 
-    turn-kept : (l r : T S) → Simple S n l → Simple S n r → SimpleBound (z .bound) → SimplePairs ps → Kept (turn S n z l r ps)
+    turn-kept : (m : S .Head → S .Head) (l r : T S) → Simple S n l → Simple S n r → SimpleBound (z .bound) → SimplePairs ps → Kept (turn S m z l r ps)
     unfolding turn match differ
-    turn-kept l r p q h w = go (same? (S .head?) (answer S z l) (answer S z r)) (top S z l) (top S z r) (walk-simple (z .rev) (z .bound) h l p) (walk-simple (z .rev) (z .bound) h r q)
+    turn-kept m l r p q h w = go (same? (S .head?) (answer S z l) (answer S z r)) (top S z l) (top S z r) (walk-simple (z .rev) (z .bound) h l p) (walk-simple (z .rev) (z .bound) h r q)
       where
-        go : (d : Dec (answer S z l ≡ answer S z r)) (t u : T S) → Simple S n t → Simple S n u → Kept (match S n z t u (answer S z l) (answer S z r) ps d)
+        go : (d : Dec (answer S z l ≡ answer S z r)) (t u : T S) → Simple S n t → Simple S n u → Kept (match S m z t u (answer S z l) (answer S z r) ps d)
         go (yes e) t u x y = (h, w)
         go (no e) (var v) u x y = tie-kept v u y h w
         go (no e) (node k ts) (var v) x y = tie-kept v (node k ts) x h w
-        go (no e) (node k ts) (node j us) x y = part-kept k j ts us (S .soft k || S .soft j) (S .rigid k) (S .head? (n k) (n j)) (x .3) (y .3) h w
+        go (no e) (node k ts) (node j us) x y = part-kept m k j ts us (S .soft k || S .soft j) (S .rigid k) (S .head? (m k) (m j)) (x .3) (y .3) h w
 
-    turn-asked : (l r : T S) → Asked (z .fam) → Asked (turn S n z l r ps .state .fam)
+    turn-asked : (m : S .Head → S .Head) (l r : T S) → Asked (z .fam) → Asked (turn S m z l r ps .state .fam)
     unfolding turn match differ
-    turn-asked l r a = go (same? (S .head?) (answer S z l) (answer S z r)) (top S z l) (top S z r)
+    turn-asked m l r a = go (same? (S .head?) (answer S z l) (answer S z r)) (top S z l) (top S z r)
       where
-        go : (d : Dec (answer S z l ≡ answer S z r)) (t u : T S) → Asked (match S n z t u (answer S z l) (answer S z r) ps d .state .fam)
+        go : (d : Dec (answer S z l ≡ answer S z r)) (t u : T S) → Asked (match S m z t u (answer S z l) (answer S z r) ps d .state .fam)
         go (yes e) t u = a
         go (no e) (var v) u = tie-asked v u a
         go (no e) (node k ts) (var v) = tie-asked v (node k ts) a
-        go (no e) (node k ts) (node j us) = part-asked k j ts us (S .soft k || S .soft j) (S .rigid k) (S .head? (n k) (n j)) a
+        go (no e) (node k ts) (node j us) = part-asked m k j ts us (S .soft k || S .soft j) (S .rigid k) (S .head? (m k) (m j)) a
 
   abbrev SimpleOut : Out (Table S) → Type 0
   SimpleOut (cancelled z) = SimpleBound (z .bound)
@@ -150,24 +150,24 @@ module _ (S : Sig) (n : S .Head → S .Head) where
   AskedOut (cancelled z) = Asked (z .fam)
   AskedOut (done z b) = Asked (z .fam)
 
-  settles-simple : (k : ℕ) (z : Table S) (ok : Bool) (ps : List (Pair S)) → SimpleBound (z .bound) → SimplePairs ps → SimpleOut (settles S n k z ok ps)
+  settles-simple : (m : S .Head → S .Head) (k : ℕ) (z : Table S) (ok : Bool) (ps : List (Pair S)) → SimpleBound (z .bound) → SimplePairs ps → SimpleOut (settles S m k z ok ps)
   unfolding settles
-  settles-simple zero z ok [] h p = h
-  settles-simple zero z ok (q ∷ ps) h p = h
-  settles-simple (suc k) z ok [] h p = h
-  settles-simple (suc k) z ok (q ∷ ps) h p =
-      let x = turn S n z (q .0) (q .1) ps in
-      let y = turn-kept z ps (q .0) (q .1) (p .0) (p .1) h (p .2) in
-      settles-simple k (x .state) (ok && x .good) (x .todo) (y .0) (y .1)
+  settles-simple m zero z ok [] h p = h
+  settles-simple m zero z ok (q ∷ ps) h p = h
+  settles-simple m (suc k) z ok [] h p = h
+  settles-simple m (suc k) z ok (q ∷ ps) h p =
+      let x = turn S m z (q .0) (q .1) ps in
+      let y = turn-kept z ps m (q .0) (q .1) (p .0) (p .1) h (p .2) in
+      settles-simple m k (x .state) (ok && x .good) (x .todo) (y .0) (y .1)
 
-  settles-asked : (k : ℕ) (z : Table S) (ok : Bool) (ps : List (Pair S)) → Asked (z .fam) → AskedOut (settles S n k z ok ps)
+  settles-asked : (m : S .Head → S .Head) (k : ℕ) (z : Table S) (ok : Bool) (ps : List (Pair S)) → Asked (z .fam) → AskedOut (settles S m k z ok ps)
   unfolding settles
-  settles-asked zero z ok [] a = a
-  settles-asked zero z ok (q ∷ ps) a = a
-  settles-asked (suc k) z ok [] a = a
-  settles-asked (suc k) z ok (q ∷ ps) a =
-      let x = turn S n z (q .0) (q .1) ps in
-      settles-asked k (x .state) (ok && x .good) (x .todo) (turn-asked z ps (q .0) (q .1) a)
+  settles-asked m zero z ok [] a = a
+  settles-asked m zero z ok (q ∷ ps) a = a
+  settles-asked m (suc k) z ok [] a = a
+  settles-asked m (suc k) z ok (q ∷ ps) a =
+      let x = turn S m z (q .0) (q .1) ps in
+      settles-asked m k (x .state) (ok && x .good) (x .todo) (turn-asked z ps m (q .0) (q .1) a)
 
   -- ---- lists of orders
 
@@ -217,24 +217,25 @@ module _ (S : Sig) (n : S .Head → S .Head) where
     never-put : (fam : ℕ → Option (S .Fam)) (v : ℕ) (f : S .Fam) → ¬ Asked (put fam v (some f))
     never-put fam v f a = clash (cc (a v, put-same fam v (some f)))
 
-    obey-plain : (x : R S default never) → PlainRun x → (c : Command S) → PlainRun (obey S default never n x c)
+    -- every order keeps it, a pair posed by any equality
+    pub obey-plain : (m : S .Head → S .Head) (x : R S default never) → PlainRun x → (c : Command S) → PlainRun (obey S default never m x c)
     unfolding obey serve-variable serve-number serve-hole serve-defer serve-pair deferring lift settle
-    obey-plain x y (variable s i) = go (x .state .sites s i)
+    obey-plain m x y (variable s i) = go (x .state .sites s i)
       where
         go : (o : Option ℕ) → PlainRun (serve-variable S default never x s i o)
         go (some v) = y
         go none = record { simple = y .simple; unasked = y .unasked }
-    obey-plain x y (number s f) = go (x .state .sites s 1)
+    obey-plain m x y (number s f) = go (x .state .sites s 1)
       where
         go : (o : Option ℕ) → PlainRun (serve-number S default never x s f o)
         go (some v) = record { simple = y .simple; unasked = λ a. absurd (never-put (x .asked) v f a) }
         go none = record { simple = y .simple; unasked = λ a. absurd (never-put (x .asked) (x .count) f a) }
-    obey-plain x y (hole s) = go (x .state .holes s)
+    obey-plain m x y (hole s) = go (x .state .holes s)
       where
         go : (o : Option ℕ) → PlainRun (serve-hole S default never x s o)
         go (some v) = y
         go none = record { simple = y .simple; unasked = y .unasked }
-    obey-plain x y (defer t) = go (issued? (x .count) t)
+    obey-plain m x y (defer t) = go (issued? (x .count) t)
       where
         go₂ : (u : T S) → PlainRun (move S default never x (deferring S default never (x .state) u))
         go₂ (var v) = record { simple = y .simple; unasked = y .unasked }
@@ -243,35 +244,42 @@ module _ (S : Sig) (n : S .Head → S .Head) where
         go : (d : Dec (Issued (x .count) t)) → PlainRun (serve-defer S default never x t d)
         go (yes a) = go₂ (answer S (x .state .table) t)
         go (no a) = y
-    obey-plain x y (pair k l r) = go (issued? (x .count) l) (issued? (x .count) r)
+    obey-plain m x y (pair k l r) = go (issued? (x .count) l) (issued? (x .count) r)
       where
         ends : (o : Out (Table S)) → (SimplePairs ((l, r) ∷ x .posed) → SimpleOut o) → (Asked (x .asked) → AskedOut o) → PlainRun (settle S x l r (lift S default never (x .state) o))
         ends (cancelled z) p q = record { simple = p; unasked = q }
         ends (done z b) p q = record { simple = p; unasked = q }
 
-        go : (a : Dec (Issued (x .count) l)) (b : Dec (Issued (x .count) r)) → PlainRun (serve-pair S default never n x k l r a b)
-        go (yes a) (yes b) = ends (table-poses S n k (x .state .table) l r)
-            (λ p. settles-simple k (x .state .table) true ((l, r) ∷ []) (y .simple (p .2)) (p .0, p .1, tt))
-            (λ q. settles-asked k (x .state .table) true ((l, r) ∷ []) (y .unasked q))
+        go : (a : Dec (Issued (x .count) l)) (b : Dec (Issued (x .count) r)) → PlainRun (serve-pair S default never m x k l r a b)
+        go (yes a) (yes b) = ends (table-poses S m k (x .state .table) l r)
+            (λ p. settles-simple m k (x .state .table) true ((l, r) ∷ []) (y .simple (p .2)) (p .0, p .1, tt))
+            (λ q. settles-asked m k (x .state .table) true ((l, r) ∷ []) (y .unasked q))
         go (yes a) (no b) = y
         go (no a) d = y
-    obey-plain x y (resolving t) = y
-    obey-plain x y numbers =
+    obey-plain m x y (resolving t) = y
+    obey-plain m x y numbers =
         let e = numbers-kept (x .count) 0 (x .state .table) in
         record { simple = λ p. e .0 (y .simple p); unasked = λ a v. ap (λ (g : ℕ → Option (S .Fam)). g v) (e .1) ∙ y .unasked a v }
-    obey-plain x y nevers =
+    obey-plain m x y nevers =
         let e = nevers-kept (x .state .diverging) (x .count) 0 (x .state .table) in
         record { simple = λ p. e .0 (y .simple p); unasked = λ a v. ap (λ (g : ℕ → Option (S .Fam)). g v) (e .1) ∙ y .unasked a v }
-    obey-plain x y revision = y
-    obey-plain x y refused = y
+    obey-plain m x y revision = y
+    obey-plain m x y refused = y
 
     all-plain : (x : R S default never) → PlainRun x → (cs : List (Command S)) → PlainRun (obey-all S default never n x cs)
     unfolding obey-all
     all-plain x y [] = y
-    all-plain x y (c ∷ cs) = all-plain (obey S default never n x c) (obey-plain x y c) cs
+    all-plain x y (c ∷ cs) = all-plain (obey S default never n x c) (obey-plain n x y c) cs
 
     pub sheet-plain : (cs : List (Command S)) → PlainRun (sheet S default never n cs)
     sheet-plain cs = all-plain (fresh S (session-begin S default never)) (record { simple = λ p v t e. clash (cc); unasked = λ a v. refl }) cs
+
+    pub plain-begin : PlainRun (fresh S (session-begin S default never))
+    plain-begin = record { simple = λ p v t e. clash (cc); unasked = λ a v. refl }
+
+    -- a term without them resolves to one without them, where all pairs were posed so
+    pub run-simple : (x : R S default never) → PlainRun x → SimplePairs (x .posed) → (t : T S) → Simple S n t → Simple S n (answer S (x .state .table) t)
+    run-simple x y p t q = resolve-simple (x .state .table .rev) (x .state .table .bound) (y .simple p) t q
 
     -- A TERM WITHOUT THEM RESOLVES TO ONE WITHOUT THEM, after every list of orders whose posed pairs are so, whatever they were answered.
     pub resolves-simple : (cs : List (Command S)) → SimplePairs (sheet S default never n cs .posed) → (t : T S) → Simple S n t → Simple S n (answer S (sheet S default never n cs .state .table) t)

@@ -1,5 +1,6 @@
 -- Robinson's theorem for each plain pair, used on order bytes that the theorem on whole lists leaves out: after an incompatible pair, beside a number
 -- variable, and after a cancelled pair.
+use mathlib.Core.Bool.{false}
 use mathlib.Core.Path.{_≡_, refl}
 use mathlib.Core.List.{List, [], _∷_}
 use mathlib.Core.Logic.{inl, inr}
@@ -58,9 +59,9 @@ record Pairs : Type 0 where
   before₂ : answersTo documentLimits fresh numbered ≡ 3 ∷ 0 ∷ 1 ∷ 0 ∷ 3 ∷ 0 ∷ 1 ∷ 1 ∷ []
   before₃ : answersTo documentLimits fresh cut ≡ 3 ∷ 0 ∷ 1 ∷ 0 ∷ 2 ∷ 0 ∷ 2 ∷ []
   -- plain pairs all the same
-  plain₁ : PlainOrder documentLimits (after clashed) (posed 0) 9 (var 0) I32
-  plain₂ : PlainOrder documentLimits (after numbered) (posed 1) 9 (var 1) I32
-  plain₃ : PlainOrder documentLimits (after cut) (posed 0) 9 (var 0) I32
+  plain₁ : PlainOrder documentLimits false (after clashed) (posed 0) 9 (var 0) I32
+  plain₂ : PlainOrder documentLimits false (after numbered) (posed 1) 9 (var 1) I32
+  plain₃ : PlainOrder documentLimits false (after cut) (posed 0) 9 (var 0) I32
   -- and their answers
   answer₁ : orderOf documentLimits (after clashed) (posed 0) .answer ≡ outcome (1 ∷ [])
   answer₂ : orderOf documentLimits (after numbered) (posed 1) .answer ≡ outcome (1 ∷ [])
@@ -85,8 +86,8 @@ pairs = record {
 }
 
 -- the theorem, used on them
-used : (bs : List (List ℕ)) (b : List ℕ) (t u : Term) → PlainOrder documentLimits (after bs) b 9 t u → orderOf documentLimits (after bs) b .answer ≡ outcome (1 ∷ []) → AnsweredSo documentLimits (after bs) b t u
-used bs b t u p e = elim (robinson-orders documentLimits bs t u .fewer 9 b p) [ inl q ↦ let x : _≡_ {A = ℕ} 1 2 = cc (e, q) in absurd (omega arith) | inr y ↦ y ]
+used : (bs : List (List ℕ)) (b : List ℕ) (t u : Term) → PlainOrder documentLimits false (after bs) b 9 t u → orderOf documentLimits (after bs) b .answer ≡ outcome (1 ∷ []) → AnsweredSo documentLimits (after bs) b t u
+used bs b t u p e = elim (robinson-orders documentLimits false bs t u .fewer 9 b p) [ inl q ↦ let x : _≡_ {A = ℕ} 1 2 = cc (e, q) in absurd (omega arith) | inr y ↦ y ]
 
 record Used : Type 0 where
   after-incompatible : AnsweredSo documentLimits (after clashed) (posed 0) (var 0) I32

@@ -4,9 +4,9 @@ use mathlib.Core.Path.{_≡_}
 use Prim.Native.Nat.{ℕ, _-_, _≤_}
 use Rattle.solver.specs.Terms.Tokens.{Area, area, blank}
 use Rattle.solver.specs.declared.Solver.{Solver}
-use Rattle.solver.specs.Shapes.{loose}
-use Rattle.solver.specs.Session.{Session}
-use Rattle.solver.specs.Words.SessionRepresentation.{Reachable, limitsOf}
+use Rattle.solver.specs.Session.{Session, issued}
+use Rattle.solver.specs.Invariant.{InOrder}
+use Rattle.solver.specs.Words.SessionRepresentation.{limitsOf}
 use Rattle.sheet.specs.declared.Order.{Order}
 use Rattle.sheet.specs.Words.SessionInAreas.{Areas, areas, RepresentsInAreas, Served}
 use Rattle.sheet.specs.Words.FramingContract.{Output}
@@ -20,7 +20,7 @@ pub record OrderTaken (x : Solver) (half : ℕ) (s : List ℕ) (m : Areas) (e : 
 
 -- the order s is answered in the areas n, whatever the session is that the areas m held
 abbrev pub Serves : (x y : Solver) (half : ℕ) (s : List ℕ) (m n : Areas) (w v : Output) → Type 0
-Serves x y half s m n w v = (z : Session) → Reachable (limitsOf x) loose z → RepresentsInAreas x half m z → Served y half n z s w v x
+Serves x y half s m n w v = (z : Session) → InOrder (issued z) (z .solver) → RepresentsInAreas x half m z → Served y half n z s w v x
 
 -- The order s is answered, once its tokens in e that are not the session's have been cleared: those from the top of the solver that comes back. c and d
 -- are as they are after it.

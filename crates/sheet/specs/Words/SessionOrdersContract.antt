@@ -96,7 +96,12 @@ TermlessListed (Variable o) = FallbackListed o
 TermlessListed (Defaults b) = Unit {0}
 TermlessListed Revision = Unit {0}
 
--- Order 4 done. Where a variable was bound, the session after it is held by all of the tokens. Else the counters and the table are as they were: nothing was
+-- the number of an order that poses a pair, strictly or not
+abbrev pub pairNumber : Bool → ℕ
+pairNumber false = 4
+pairNumber true = 22
+
+-- Such an order done. Where a variable was bound, the session after it is held by all of the tokens. Else the counters and the table are as they were: nothing was
 -- bound, and the session is the same, or the answer does not fit.
 pub record DoesPair (m : Lent) (y : Solver) (us : List ℕ) (z : Session) (st : Step) (w v : Output) : Type 0 where
   pub answer : Framed (st .answer) (w .bytes) (w .at) (v .bytes) (v .at)

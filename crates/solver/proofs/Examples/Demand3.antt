@@ -17,41 +17,41 @@ use Rattle.solver.specs.Shapes.{loose, blank, blankRow, unmarked, read, 
 use Rattle.solver.specs.Constrain.{replace, followed, resolve, follow, recovery, is, projects, joined, join, allow, admit, bind₁, bind₀, bind, zipOn, decompose, differ, match, checkPair, settles}
 use Rattle.solver.specs.Session.{documentLimits, samePlace, issued, find, settleAt, numericAt, numericDefaults}
 use Rattle.solver.specs.Orders.{Command, variable, number, pair, numbers, verdictOf, solverOf, beyond, variableAt, numberAt, order}
-use Rattle.solver.specs.Demand3.{accepted, says, placed, requestedBy, posedBy, beginning, history, outside, Premises, Assigns, RespectsFamilies, MakesEqual}
+use Rattle.solver.specs.Demand3.{accepted, says, placed, requestedBy, posedBy, strictBy, beginning, history, outside, OnlyBy, Premises, Assigns, RespectsFamilies, MakesEqual}
 use Rattle.solver.proofs.Examples.Sessions.{I32, builtin, array, tuple₂, setOf}
 use Rattle.solver.proofs.Laws.Theory.Demand3Laws.{demand-3}
 
-formed-array : (t : Term) → Formed t → Formed (array t)
+pub formed-array : (t : Term) → Formed t → Formed (array t)
 unfolding Formed kindOf TakesTerm afterTerm
 formed-array t f = (refl, (tt, f, refl))
 
-formed-tuple : (t u : Term) → Formed t → Formed u → Formed (tuple₂ t u)
+pub formed-tuple : (t u : Term) → Formed t → Formed u → Formed (tuple₂ t u)
 unfolding Formed kindOf TakesNumber afterNumber manyTerms TakesTerm afterTerm
 formed-tuple t u f g = (refl, (omega arith, (tt, f, (tt, g, refl))))
 
-formed-set : (a : ℕ) (t : Term) → a < 2 → Formed t → Formed (setOf a t)
+pub formed-set : (a : ℕ) (t : Term) → a < 2 → Formed t → Formed (setOf a t)
 unfolding Formed kindOf TakesNumber afterNumber TakesTerm afterTerm
 formed-set a t l f = (refl, (l, (tt, f, refl)))
 
-formed-builtin : (c : ℕ) → c < 32 → Formed (builtin c)
+pub formed-builtin : (c : ℕ) → c < 32 → Formed (builtin c)
 unfolding Formed kindOf TakesNumber afterNumber
 formed-builtin c l = (refl, (l, refl))
 
-formed-var : (v : ℕ) → v ≤ 4294967295 → Formed (var v)
+pub formed-var : (v : ℕ) → v ≤ 4294967295 → Formed (var v)
 unfolding Formed
 formed-var v l = l
 
 -- document 01's session, but for its orders 5 and 8
 bar : List Command
-bar = variable 7 0 ∷ variable 8 0 ∷ pair 9 (array (var 0)) (array (tuple₂ (var 1) I32)) ∷ pair 9 (var 1) (array (var 0)) ∷ []
+bar = variable 7 0 ∷ variable 8 0 ∷ pair false 9 (array (var 0)) (array (tuple₂ (var 1) I32)) ∷ pair false 9 (var 1) (array (var 0)) ∷ []
 
 -- a number variable, a variable in a Set of either access, and a default that finds nothing to bind
 level : List Command
-level = number 1 (requested 2) ∷ variable 2 0 ∷ pair 9 (tuple₂ (var 0) (setOf 0 (var 1))) (tuple₂ (builtin 4) (setOf 1 (array (var 0)))) ∷ numbers ∷ []
+level = number 1 (requested 2) ∷ variable 2 0 ∷ pair false 9 (tuple₂ (var 0) (setOf 0 (var 1))) (tuple₂ (builtin 4) (setOf 1 (array (var 0)))) ∷ numbers ∷ []
 
-bar-premises : Premises documentLimits loose bar
+bar-premises : Premises documentLimits bar
 unfolding bar level history order variableAt numberAt find samePlace settles checkPair match differ decompose bind bind₀ bind₁ zipOn admit allow join joined sameShape same read blank blankRow loose unmarked turned class nums
-    row tag children subs resolve follow followed replace recovery projects is meets among beyond size put ℕ-discrete verdictOf solverOf accepted says requestedBy posedBy placed outside
+    row tag children subs resolve follow followed replace recovery projects is meets among beyond size put ℕ-discrete verdictOf solverOf accepted says requestedBy posedBy strictBy placed outside
     familyOf admits belongs belongsRow code codes numericDefaults numericAt settleAt
 bar-premises = record {
   allowed = (tt, (tt, (tt, (tt, tt))));
@@ -67,9 +67,9 @@ bar-premises = record {
   noneCancelled = refl;
 }
 
-level-premises : Premises documentLimits loose level
+level-premises : Premises documentLimits level
 unfolding bar level history order variableAt numberAt find samePlace settles checkPair match differ decompose bind bind₀ bind₁ zipOn admit allow join joined sameShape same read blank blankRow loose unmarked turned class nums
-    row tag children subs resolve follow followed replace recovery projects is meets among beyond size put ℕ-discrete verdictOf solverOf accepted says requestedBy posedBy placed outside
+    row tag children subs resolve follow followed replace recovery projects is meets among beyond size put ℕ-discrete verdictOf solverOf accepted says requestedBy posedBy strictBy placed outside
     familyOf admits belongs belongsRow code codes numericDefaults numericAt settleAt
 level-premises = record {
   allowed = (refl, (tt, (tt, (refl, tt))));
@@ -83,26 +83,37 @@ level-premises = record {
 
 -- what is answered
 record Answered : Type 0 where
-  bar-no : history documentLimits loose beginning bar .incompatible ≡ true
-  level-yes : history documentLimits loose beginning level .incompatible ≡ false
+  bar-no : history documentLimits beginning bar .incompatible ≡ true
+  level-yes : history documentLimits beginning level .incompatible ≡ false
 
 answered : Answered
 unfolding bar level history order variableAt numberAt find samePlace settles checkPair match differ decompose bind bind₀ bind₁ zipOn admit allow join joined sameShape same read blank blankRow loose unmarked turned class nums
-    row tag children subs resolve follow followed replace recovery projects is meets among beyond size put ℕ-discrete verdictOf solverOf accepted says requestedBy posedBy placed outside
+    row tag children subs resolve follow followed replace recovery projects is meets among beyond size put ℕ-discrete verdictOf solverOf accepted says requestedBy posedBy strictBy placed outside
     familyOf admits belongs belongsRow code codes numericDefaults numericAt settleAt
 answered = record { bar-no = refl; level-yes = refl }
 
+-- by which order
+record PosedLoosely : Type 0 where
+  bars : OnlyBy false (history documentLimits beginning bar .by)
+  levels : OnlyBy false (history documentLimits beginning level .by)
+
+posed-loosely : PosedLoosely
+unfolding bar level history order variableAt numberAt find samePlace settles checkPair match differ decompose bind bind₀ bind₁ zipOn admit allow join joined sameShape same read blank blankRow loose unmarked turned class nums
+    row tag children subs resolve follow followed replace recovery projects is meets among beyond size put ℕ-discrete verdictOf solverOf accepted says requestedBy posedBy strictBy placed outside
+    familyOf admits belongs belongsRow code codes numericDefaults numericAt settleAt
+posed-loosely = record { bars = (refl, (refl, tt)); levels = (refl, tt) }
+
 abbrev None : List Command → Type 0
 None cs =
-    let h = history documentLimits loose beginning cs in
+    let h = history documentLimits beginning cs in
     (θ : ℕ → Term) → Assigns (issued (h .session)) θ → RespectsFamilies θ (h .requests) → ¬ MakesEqual loose θ (h .posed)
 
 -- so no assignment makes the pairs of the first equal, and for the second it is not so
 bar-none : None bar
-bar-none = demand-3 documentLimits bar bar-premises .first .0 (answered .bar-no)
+bar-none = demand-3 documentLimits false bar (posed-loosely .bars) bar-premises .first .0 (answered .bar-no)
 
 apart : (b : Bool) → b ≡ false → b ≡ true → ⊥
 apart b p q = never-false (sym q ∙ p)
 
 level-some : ¬ None level
-level-some f = apart (history documentLimits loose beginning level .incompatible) (answered .level-yes) (demand-3 documentLimits level level-premises .first .1 f)
+level-some f = apart (history documentLimits beginning level .incompatible) (answered .level-yes) (demand-3 documentLimits false level (posed-loosely .levels) level-premises .first .1 f)

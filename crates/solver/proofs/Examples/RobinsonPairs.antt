@@ -23,26 +23,26 @@ use Rattle.solver.proofs.Examples.Sessions.{I32, builtin, array, tuple�
 use Rattle.solver.proofs.Laws.Robinson.RobinsonPairLaws.{first-order-in, free-in, closed-in, robinson-each, not-cancelled}
 
 clashed : List Command
-clashed = variable 0 0 ∷ pair 9 I32 (builtin 3) ∷ []
+clashed = variable 0 0 ∷ pair false 9 I32 (builtin 3) ∷ []
 
 numbered : List Command
 numbered = number 5 (requested 2) ∷ variable 0 0 ∷ []
 
 cut : List Command
-cut = variable 0 0 ∷ pair 0 (var 0) I32 ∷ []
+cut = variable 0 0 ∷ pair false 0 (var 0) I32 ∷ []
 
 everything : List Command
-everything = variable 0 0 ∷ number 5 (requested 2) ∷ variable 1 0 ∷ pair 9 I32 (builtin 3) ∷ pair 9 (var 0) unknown ∷ pair 9 (var 2) (setOf 1 I32) ∷ numbers
-    ∷ pair 1 (array (var 0)) (array (builtin 3)) ∷ []
+everything = variable 0 0 ∷ number 5 (requested 2) ∷ variable 1 0 ∷ pair false 9 I32 (builtin 3) ∷ pair false 9 (var 0) unknown ∷ pair false 9 (var 2) (setOf 1 I32) ∷ numbers
+    ∷ pair false 1 (array (var 0)) (array (builtin 3)) ∷ []
 
 abbrev after : List Command → Session
-after cs = run documentLimits loose fresh cs
+after cs = run documentLimits fresh cs
 
 abbrev Plain : List Command → Term → Term → Type 0
-Plain cs t u = PlainPair documentLimits loose (after cs) t u
+Plain cs t u = PlainPair documentLimits false (after cs) t u
 
 abbrev told : List Command → Term → Term → Reply
-told cs t u = order documentLimits loose (after cs) (pair 9 t u) .reply
+told cs t u = order documentLimits (after cs) (pair false 9 t u) .reply
 
 or-no : (a : Bool) → (a || false) ≡ true → a ≡ true
 or-no true e = refl
@@ -50,10 +50,10 @@ or-no false e = e
 
 record Pairs : Type 0 where
   -- what came before
-  before₁ : replies documentLimits loose fresh clashed ≡ term (var 0) ∷ verdict 0 ∷ []
-  before₂ : replies documentLimits loose fresh numbered ≡ term (var 0) ∷ term (var 1) ∷ []
-  before₃ : replies documentLimits loose fresh cut ≡ term (var 0) ∷ verdict 2 ∷ []
-  before₄ : replies documentLimits loose fresh everything ≡ term (var 0) ∷ term (var 1) ∷ term (var 2) ∷ verdict 0 ∷ verdict 1 ∷ verdict 1 ∷ changed true ∷ verdict 2 ∷ []
+  before₁ : replies documentLimits fresh clashed ≡ term (var 0) ∷ verdict 0 ∷ []
+  before₂ : replies documentLimits fresh numbered ≡ term (var 0) ∷ term (var 1) ∷ []
+  before₃ : replies documentLimits fresh cut ≡ term (var 0) ∷ verdict 2 ∷ []
+  before₄ : replies documentLimits fresh everything ≡ term (var 0) ∷ term (var 1) ∷ term (var 2) ∷ verdict 0 ∷ verdict 1 ∷ verdict 1 ∷ changed true ∷ verdict 2 ∷ []
   -- plain pairs all the same
   plain₁ : Plain clashed (var 0) I32
   plain₂ : Plain numbered (var 1) I32
@@ -91,14 +91,14 @@ pairs = record {
 }
 
 -- the theorem, used on them
-used : (cs : List Command) (t u : Term) → Plain cs t u → told cs t u ≡ verdict 1 → DecidedBy documentLimits loose (after cs) 9 t u
-used cs t u p e = not-cancelled documentLimits loose (after cs) t u (robinson-each documentLimits cs t u p) 9 (λ q. let x : _≡_ {A = ℕ} 1 2 = cc (e, q) in absurd (omega arith))
+used : (cs : List Command) (t u : Term) → Plain cs t u → told cs t u ≡ verdict 1 → DecidedBy documentLimits false (after cs) 9 t u
+used cs t u p e = not-cancelled documentLimits false (after cs) t u (robinson-each documentLimits false cs t u p) 9 (λ q. let x : _≡_ {A = ℕ} 1 2 = cc (e, q) in absurd (omega arith))
 
 record Used : Type 0 where
-  after-incompatible : DecidedBy documentLimits loose (after clashed) 9 (var 0) I32
-  beside-a-number : DecidedBy documentLimits loose (after numbered) 9 (var 1) I32
-  after-cancelled : DecidedBy documentLimits loose (after cut) 9 (var 0) I32
-  after-everything : DecidedBy documentLimits loose (after everything) 9 (tuple₂ (var 0) I32) (tuple₂ (array (builtin 3)) (var 1))
+  after-incompatible : DecidedBy documentLimits false (after clashed) 9 (var 0) I32
+  beside-a-number : DecidedBy documentLimits false (after numbered) 9 (var 1) I32
+  after-cancelled : DecidedBy documentLimits false (after cut) 9 (var 0) I32
+  after-everything : DecidedBy documentLimits false (after everything) 9 (tuple₂ (var 0) I32) (tuple₂ (array (builtin 3)) (var 1))
 
 each-used : Used
 each-used = record {

@@ -9,7 +9,7 @@ use Rattle.terms.specs.Tree.{unknown, nums, row, tag, class, children, subs, sa
 use Rattle.terms.specs.Questions.{among, meets}
 use Rattle.unify.specs.Solver.{put}
 use Rattle.solver.specs.Families.{requested, code, codes, familyOf, admits, belongs, belongsRow, shared, gathered, withFallback, meet}
-use Rattle.solver.specs.Shapes.{Notion, loose, exact, blank, blankRow, unmarked, read, sameShape, turned}
+use Rattle.solver.specs.Shapes.{loose, exact, blank, blankRow, unmarked, read, sameShape, turned}
 use Rattle.solver.specs.Constrain.{replace, followed, resolve, follow, recovery, is, projects, joined, join, allow, admit, bind₁, bind₀, bind, zipOn, decompose, differ, match, checkPair, settles}
 use Rattle.solver.specs.Session.{documentLimits, samePlace, find, fresh, deferring, settleAt, numericAt, neverAt, numericDefaults, neverDefaults}
 use Rattle.solver.specs.Orders.{Command, variable, number, hole, defer, pair, resolving, numbers, nevers, revision}
@@ -41,45 +41,45 @@ structOf a m = node 13 (num 1 (num 1 (sub a (num 1 (num 4 (sub m end))))))
 abbrev pub projected : Term → Term
 projected r = node 18 (sub r (num 3 (num 0 (num 0 (num 5 (num 0 end))))))
 
-answers : Notion → List Command → List Reply
-answers n cs = replies documentLimits n fresh cs
+answers : List Command → List Reply
+answers cs = replies documentLimits fresh cs
 
 record Examples : Type 0 where
   -- "Two variables; Array(?0) meets Array(Tuple(?1, I32)); ?1 meets Array(?0), which contains it; ?0 resolved; revision 1."
-  bar : answers loose (variable 7 0 ∷ variable 8 0 ∷ pair 9 (array (var 0)) (array (tuple₂ (var 1) I32)) ∷ pair 9 (var 1) (array (var 0)) ∷ resolving (var 0) ∷ revision ∷ [])
+  bar : answers (variable 7 0 ∷ variable 8 0 ∷ pair false 9 (array (var 0)) (array (tuple₂ (var 1) I32)) ∷ pair false 9 (var 1) (array (var 0)) ∷ resolving (var 0) ∷ revision ∷ [])
       ≡ term (var 0) ∷ term (var 1) ∷ verdict 1 ∷ verdict 0 ∷ term (tuple₂ (var 1) I32) ∷ count 1 ∷ []
   -- "the session's first pair with k = 1 is cancelled unbound, with k = 2 it binds"
-  checks : answers loose (variable 7 0 ∷ variable 8 0 ∷ pair 1 (array (var 0)) (array (tuple₂ (var 1) I32)) ∷ revision ∷ pair 2 (array (var 0)) (array (tuple₂ (var 1) I32)) ∷ revision ∷ [])
+  checks : answers (variable 7 0 ∷ variable 8 0 ∷ pair false 1 (array (var 0)) (array (tuple₂ (var 1) I32)) ∷ revision ∷ pair false 2 (array (var 0)) (array (tuple₂ (var 1) I32)) ∷ revision ∷ [])
       ≡ term (var 0) ∷ term (var 1) ∷ verdict 2 ∷ count 0 ∷ verdict 1 ∷ count 1 ∷ []
   -- "ReadOnly and Mutable Set of I32 conflict yet constrain compatibly", and not where access counts
-  loosely : answers loose (pair 9 (setOf 0 I32) (setOf 1 I32) ∷ []) ≡ verdict 1 ∷ []
-  strictly : answers exact (pair 9 (setOf 0 I32) (setOf 1 I32) ∷ []) ≡ verdict 0 ∷ []
-  maps : answers loose (pair 9 (mapOf 0 I32 I32) (mapOf 1 I32 I32) ∷ []) ≡ verdict 1 ∷ []
+  loosely : answers (pair false 9 (setOf 0 I32) (setOf 1 I32) ∷ []) ≡ verdict 1 ∷ []
+  strictly : answers (pair true 9 (setOf 0 I32) (setOf 1 I32) ∷ []) ≡ verdict 0 ∷ []
+  maps : answers (pair false 9 (mapOf 0 I32 I32) (mapOf 1 I32 I32) ∷ []) ≡ verdict 1 ∷ []
   -- "Reference access counts"
-  references : answers loose (pair 9 (node 0 (num 0 (sub I32 end))) (node 0 (num 1 (sub I32 end))) ∷ []) ≡ verdict 0 ∷ []
+  references : answers (pair false 9 (node 0 (num 0 (sub I32 end))) (node 0 (num 1 (sub I32 end))) ∷ []) ≡ verdict 0 ∷ []
   -- "entering projections in constrain": equal ones pass, others do not meet and bind nothing
-  projections : answers loose (variable 7 0 ∷ pair 9 (projected (var 0)) (projected I32) ∷ pair 9 (projected (var 0)) (projected (var 0)) ∷ revision ∷ [])
+  projections : answers (variable 7 0 ∷ pair false 9 (projected (var 0)) (projected I32) ∷ pair false 9 (projected (var 0)) (projected (var 0)) ∷ revision ∷ [])
       ≡ term (var 0) ∷ verdict 0 ∷ verdict 1 ∷ count 0 ∷ []
   -- "letting a number variable bind to a Tuple"
-  tuples : answers loose (number 7 (requested 2) ∷ pair 9 (var 0) (tuple₂ I32 I32) ∷ resolving (var 0) ∷ []) ≡ term (var 0) ∷ verdict 0 ∷ term (var 0) ∷ []
+  tuples : answers (number 7 (requested 2) ∷ pair false 9 (var 0) (tuple₂ I32 I32) ∷ resolving (var 0) ∷ []) ≡ term (var 0) ∷ verdict 0 ∷ term (var 0) ∷ []
   -- "freezing Unknown inside a binding": passed over, and the variable stays free
-  unknowns : answers loose (variable 7 0 ∷ pair 9 (var 0) (array unknown) ∷ pair 9 (array unknown) (array I32) ∷ resolving (var 0) ∷ pair 9 (var 0) I32 ∷ resolving (var 0) ∷ [])
+  unknowns : answers (variable 7 0 ∷ pair false 9 (var 0) (array unknown) ∷ pair false 9 (array unknown) (array I32) ∷ resolving (var 0) ∷ pair false 9 (var 0) I32 ∷ resolving (var 0) ∷ [])
       ≡ term (var 0) ∷ verdict 1 ∷ verdict 1 ∷ term (var 0) ∷ verdict 1 ∷ term I32 ∷ []
   -- "F32 counts as integer"; families meet or do not; the left variable is bound and its fallback goes on; defaults follow bindings
-  families : answers loose (number 1 (requested 8) ∷ number 2 (requested 9) ∷ pair 9 (var 0) (var 1) ∷ pair 9 (var 0) (builtin 8) ∷ number 3 (requested 4) ∷ pair 9 (var 0) (var 2) ∷ pair 9 (var 1) (builtin 10) ∷ numbers ∷ resolving (tuple₂ (var 0) (var 1)) ∷ revision ∷ [])
+  families : answers (number 1 (requested 8) ∷ number 2 (requested 9) ∷ pair false 9 (var 0) (var 1) ∷ pair false 9 (var 0) (builtin 8) ∷ number 3 (requested 4) ∷ pair false 9 (var 0) (var 2) ∷ pair false 9 (var 1) (builtin 10) ∷ numbers ∷ resolving (tuple₂ (var 0) (var 1)) ∷ revision ∷ [])
       ≡ term (var 0) ∷ term (var 1) ∷ verdict 0 ∷ verdict 0 ∷ term (var 2) ∷ verdict 1 ∷ verdict 0 ∷ changed true ∷ term (tuple₂ (builtin 8) (builtin 9)) ∷ count 3 ∷ []
   -- the last argument comes first, and every member after every argument: with two checks the argument is bound and the member is not
-  parts : answers loose (variable 1 0 ∷ variable 2 0 ∷ pair 2 (structOf (var 0) (var 1)) (structOf I32 I32) ∷ resolving (tuple₂ (var 0) (var 1)) ∷ [])
+  parts : answers (variable 1 0 ∷ variable 2 0 ∷ pair false 2 (structOf (var 0) (var 1)) (structOf I32 I32) ∷ resolving (tuple₂ (var 0) (var 1)) ∷ [])
       ≡ term (var 0) ∷ term (var 1) ∷ verdict 2 ∷ term (tuple₂ I32 (var 1)) ∷ []
   -- holes and deferrals; "never defaults may bind a number variable"; a variable not issued is refused
-  nevermore : answers loose (hole 7 ∷ number 7 (requested 2) ∷ hole 7 ∷ defer (var 1) ∷ nevers ∷ nevers ∷ resolving (var 1) ∷ resolving (var 2) ∷ variable 7 1 ∷ number 7 (requested 9) ∷ [])
+  nevermore : answers (hole 7 ∷ number 7 (requested 2) ∷ hole 7 ∷ defer (var 1) ∷ nevers ∷ nevers ∷ resolving (var 1) ∷ resolving (var 2) ∷ variable 7 1 ∷ number 7 (requested 9) ∷ [])
       ≡ term (var 0) ∷ term (var 1) ∷ term (var 0) ∷ nothing ∷ changed true ∷ changed false ∷ term (builtin 10) ∷ refused 6 ∷ term (var 1) ∷ term (builtin 10) ∷ []
   -- refusals 8 and 7, with room for one variable and five nodes; 6 comes before 7. A pair that binds nothing keeps no nodes, and one that
   -- binds keeps all of its own
-  limits : replies (record { variables = 1; nodes = 5 }) loose fresh (variable 7 0 ∷ hole 7 ∷ variable 7 0 ∷ pair 0 (var 0) I32 ∷ resolving (array (array I32)) ∷ resolving (tuple₂ (var 0) I32) ∷ pair 9 (array (var 0)) (array (var 1)) ∷ pair 9 (array (var 0)) (array I32) ∷ revision ∷ pair 9 (var 0) I32 ∷ [])
+  limits : replies (record { variables = 1; nodes = 5 }) fresh (variable 7 0 ∷ hole 7 ∷ variable 7 0 ∷ pair false 0 (var 0) I32 ∷ resolving (array (array I32)) ∷ resolving (tuple₂ (var 0) I32) ∷ pair false 9 (array (var 0)) (array (var 1)) ∷ pair false 9 (array (var 0)) (array I32) ∷ revision ∷ pair false 9 (var 0) I32 ∷ [])
       ≡ term (var 0) ∷ refused 8 ∷ term (var 0) ∷ verdict 2 ∷ term (array (array I32)) ∷ term (tuple₂ (var 0) I32) ∷ refused 6 ∷ verdict 1 ∷ count 1 ∷ refused 7 ∷ []
   -- pairs that bind nothing, repeated: compatible, incompatible and cancelled, each with room for its own nodes
-  repeats : replies (record { variables = 1; nodes = 4 }) loose fresh (pair 9 (array I32) (array I32) ∷ pair 9 (array I32) (array I32) ∷ pair 9 (array I32) (array (builtin 3)) ∷ pair 1 (array I32) (array (builtin 3)) ∷ pair 9 (array I32) (array I32) ∷ pair 9 (array (array I32)) (array I32) ∷ [])
+  repeats : replies (record { variables = 1; nodes = 4 }) fresh (pair false 9 (array I32) (array I32) ∷ pair false 9 (array I32) (array I32) ∷ pair false 9 (array I32) (array (builtin 3)) ∷ pair false 1 (array I32) (array (builtin 3)) ∷ pair false 9 (array I32) (array I32) ∷ pair false 9 (array (array I32)) (array I32) ∷ [])
       ≡ verdict 1 ∷ verdict 1 ∷ verdict 0 ∷ verdict 2 ∷ verdict 1 ∷ refused 7 ∷ []
 
 examples : Examples

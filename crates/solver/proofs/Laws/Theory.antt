@@ -4,7 +4,8 @@
 --   TheoryViewLaws    the view keeps substitution, resolving, questions and shapes
 --   ConstrainView     `constrain` and the defaults, viewed
 --   TheorySimulation  each order and each answer, viewed
---   Demand3Laws       demand 3
+--   MixView           lists of orders, with the notion of each pair
+--   Demand3Laws       demand 3; what a list that mixes strict pairs with others keeps of it
 --   AgainLaws         a compatible pair posed again binds nothing and is not incompatible
 --   RepeatLaws        so a script that repeats it runs through
 pub mod TheoryView
@@ -12,6 +13,7 @@ pub mod Signature
 pub mod TheoryViewLaws
 pub mod ConstrainView
 pub mod TheorySimulation
+pub mod MixView
 pub mod Demand3Laws
 pub mod AgainLaws
 pub mod RepeatLaws

@@ -11,13 +11,13 @@ use Rattle.solver.specs.declared.Solver.{Solver}
 use Rattle.solver.specs.declared.Checked.{Checked}
 use Rattle.solver.specs.declared.Solved.{Solved}
 use Rattle.unify.specs.Solver.{Out}
-use Rattle.solver.specs.Shapes.{Notion}
 use Rattle.solver.specs.Constrain as solving
-use Rattle.solver.specs.Constrain.{Pair, checkPair, top}
-use Rattle.solver.specs.Session.{Limits, Session, issued, withSolver}
+use Rattle.solver.specs.Constrain.{Pair, top}
+use Rattle.solver.specs.Session.{Session, issued, withSolver}
 use Rattle.solver.specs.Words.ReachContract.{Steady}
 use Rattle.solver.specs.Orders.{solverOf, verdictOf, posing}
-use Rattle.solver.specs.Words.SessionRepresentation.{Reachable, Represents, limitsOf, verdictNumber}
+use Rattle.solver.specs.Invariant.{InOrder}
+use Rattle.solver.specs.Words.SessionRepresentation.{Represents, limitsOf, verdictNumber}
 use Rattle.solver.specs.Words.PendingContract.{HeldPairs, PushedPairs}
 use Rattle.solver.specs.Words.Worklist.{Zero}
 
@@ -28,11 +28,6 @@ Within N t = AllVars (λ v. v < N) t
 abbrev pub AllWithin : ℕ → List Pair → Type 0
 AllWithin N [] = Unit {0}
 AllWithin N (p ∷ ps) = Within N (p .0) × Within N (p .1) × AllWithin N ps
-
--- the solvers that there are between the checks of a pair: that of a session that orders led to, and the one after any check
-pub data Between (n : Notion) (N : ℕ) : solving.Solver → Type 0 where
-  begun : (lim : Limits) (s : Session) → Reachable lim n s → issued s ≡ N → Between n N (s .solver)
-  checked : (z : solving.Solver) (t u : Term) (ps : List Pair) → Between n N z → Within N t → Within N u → AllWithin N ps → Between n N (checkPair n z t u ps .state)
 
 -- the first word of the pending pairs
 abbrev pub pendingFrom : Solver → ℕ
@@ -48,7 +43,7 @@ pub record Known (ks vs : List ℕ) (s : Session) (i : ℕ) (t : Term) : Type 0 
   pub held : Held ks vs i t
   pub within : Within (issued s) t
 
--- room for order 4: pending pairs after the columns; in the work area, all 0, a word a token and one a node, and two a variable
+-- room for a pair: pending pairs after the columns; in the work area, all 0, a word a token and one a node, and two a variable
 pub record Scratch (x : Solver) (ks ts work : List ℕ) : Type 0 where
   pub pairs : pendingFrom x + 2 * (32 + x .nodes) ≤ length ts
   pub short : length ts < 4294967296
@@ -78,9 +73,9 @@ pub record Nodes (x : Solver) (ks vs : List ℕ) (a b count : ℕ) (t u : Term) 
   pub room : count + length (subs row) ≤ 32 + x .nodes
 
 -- the pair of t at i and u at j is next, with `count` pairs pending below it
-pub record Due (n : Notion) (x : Solver) (ks vs ts : List ℕ) (s : Session) (i j count : ℕ) (t u : Term) : Type 0 where
+pub record Due (x : Solver) (ks vs ts : List ℕ) (s : Session) (i j count : ℕ) (t u : Term) : Type 0 where
   pub represents : Represents x ks vs ts s
-  pub between : Between n (issued s) (s .solver)
+  pub ordered : InOrder (issued s) (s .solver)
   pub left : Known ks vs s i t
   pub right : Known ks vs s j u
   pub room : (k : ℕ) (row : Parts) → top (s .solver) t ≡ node k row → count + length (subs row) ≤ 32 + x .nodes
@@ -121,11 +116,11 @@ pub record Constrained (x : Solver) (ks vs ts₀ ts : List ℕ) (s : Session) (g
   pub nodes : r .solver .nodes ≡ x .nodes
   pub counted : ChangesCounted x (r .solver) ts₀ ts
 
--- What `constrain` leaves of an order 4 with m nodes, where the definition ends with `goal`: the session after the order, held by the first
+-- What `constrain` leaves of a pair with m nodes, where the definition ends with `goal`: the session after the order, held by the first
 -- tokens. Where nothing was bound, the counters, with the number of tokens, and every word of the table are those of before; else the session
 -- has all tokens.
-pub record Posed (n : Notion) (x : Solver) (ks vs ts₀ ts : List ℕ) (s : Session) (m : ℕ) (goal : Out solving.Solver) (r : Solved) : Type 0 where
-  pub represents : Represents (r .solver) (take (r .solver .top) ks) (take (r .solver .top) vs) ts (posing (limitsOf x) n s m goal .session)
+pub record Posed (x : Solver) (ks vs ts₀ ts : List ℕ) (s : Session) (m : ℕ) (goal : Out solving.Solver) (r : Solved) : Type 0 where
+  pub represents : Represents (r .solver) (take (r .solver .top) ks) (take (r .solver .top) vs) ts (posing (limitsOf x) s m goal .session)
   pub verdict : verdictNumber (r .verdict) ≡ verdictOf goal
   pub blank : Zero (drop (pendingFrom x) ts)
   pub variables : r .solver .variables ≡ x .variables

@@ -12,33 +12,32 @@ use Rattle.solver.specs.declared.Subject.{Subject}
 use Rattle.solver.specs.declared.Subject.the-variants.{Follows, Id}
 use Rattle.solver.specs.declared.Start.{Start}
 use Rattle.solver.specs.declared.Start.the-variants.{Begins, Free}
-use Rattle.solver.specs.Shapes.{Notion}
 use Rattle.solver.specs.Constrain.{resolve, resolved}
 use Rattle.solver.specs.Session.{Session, VariablePlace, at, gap, issued}
-use Rattle.solver.specs.Words.SessionRepresentation.{Reachable, Represents, limitsOf}
+use Rattle.solver.specs.Invariant.{InOrder}
+use Rattle.solver.specs.Words.SessionRepresentation.{Represents}
 use Rattle.solver.specs.Words.Worklist.{Zero}
 
--- ---- orders 3 to 5: terms that follow
+-- ---- orders 3 to 5 and 22: terms that follow
 
 -- the session z is held by the first tokens of ks and vs
-pub record Behind (n : Notion) (x : Solver) (ks vs ts : List ℕ) (z : Session) : Type 0 where
-  pub codes : n 4 ≡ false
-  pub reachable : Reachable (limitsOf x) n z
+pub record Behind (x : Solver) (ks vs ts : List ℕ) (z : Session) : Type 0 where
+  pub ordered : InOrder (issued z) (z .solver)
   pub represents : Represents x (take (x .top) ks) (take (x .top) vs) ts z
   pub inside : x .top ≤ length ks
   pub pairs : length vs ≡ length ks
   pub short : length ks < 2 ^ 32
 
 -- orders 3 and 5: the term t follows, its variables issued, and its nodes may be kept
-pub record Poses (n : Notion) (x : Solver) (ks vs ts : List ℕ) (z : Session) (t : Term) : Type 0 where
-  pub behind : Behind n x ks vs ts z
+pub record Poses (x : Solver) (ks vs ts : List ℕ) (z : Session) (t : Term) : Type 0 where
+  pub behind : Behind x ks vs ts z
   pub held : Held ks vs (x .top) t
   pub within : AllVars (λ v. v < issued z) t
   pub few : z .kept + size t ≤ x .nodes
 
--- order 4: two terms follow and are all that follows, the second at q
-pub record PosesPair (n : Notion) (x : Solver) (ks vs ts : List ℕ) (z : Session) (q : ℕ) (t u : Term) : Type 0 where
-  pub behind : Behind n x ks vs ts z
+-- orders 4 and 22: two terms follow and are all that follows, the second at q
+pub record PosesPair (x : Solver) (ks vs ts : List ℕ) (z : Session) (q : ℕ) (t u : Term) : Type 0 where
+  pub behind : Behind x ks vs ts z
   pub left : Held ks vs (x .top) t
   pub right : Held ks vs (x .top + length (items t)) u
   pub all : length ks ≡ x .top + length (items t) + length (items u)
@@ -56,9 +55,9 @@ placeOf (Hole s) = gap s
 -- ---- what is resolved
 
 -- order 5: the term that follows; orders 1 and 2: a variable
-abbrev pub Asked : (n : Notion) (x : Solver) (ks vs ts : List ℕ) → Subject → Session → Term → Type 0
-Asked n x ks vs ts Follows z t = Poses n x ks vs ts z t
-Asked n x ks vs ts (Id v) z t = Represents x ks vs ts z × (t ≡ var v) × (v < x .variables)
+abbrev pub Asked : (x : Solver) (ks vs ts : List ℕ) → Subject → Session → Term → Type 0
+Asked x ks vs ts Follows z t = Poses x ks vs ts z t
+Asked x ks vs ts (Id v) z t = Represents x ks vs ts z × (t ≡ var v) × (v < x .variables)
 
 -- the bytes of what it resolves to
 abbrev pub resolvedTo : Session → Term → List ℕ

@@ -22,9 +22,7 @@ use Rattle.solver.specs.declared.Solver.{Solver}
 use Rattle.solver.specs.declared.Verdict.{Verdict}
 use Rattle.solver.specs.declared.Verdict.the-variants.{Incompatible, Compatible, Cancelled}
 use Rattle.solver.specs.Families.{Request, familyOf}
-use Rattle.solver.specs.Shapes.{Notion, loose, exact}
-use Rattle.solver.specs.Session.{Limits, VariablePlace, at, gap, Session, issued, fresh}
-use Rattle.solver.specs.Orders.{Command, run}
+use Rattle.solver.specs.Session.{Limits, VariablePlace, at, gap, Session, issued}
 use Rattle.solver.specs.Invariant.{WithinLimits}
 use Rattle.solver.specs.Words.Bindings.{HeldBindings}
 use Rattle.solver.specs.Words.Worklist.{Zero}
@@ -35,19 +33,8 @@ verdictNumber Incompatible = 0
 verdictNumber Compatible = 1
 verdictNumber Cancelled = 2
 
--- the notion of equal shape that a flag tells: whether the access of Set and Map counts
-abbrev pub notion : Bool → Notion
-notion true = exact
-notion false = loose
-
 abbrev pub limitsOf : Solver → Limits
 limitsOf x = record { variables = x .variables; nodes = x .nodes }
-
--- The solver and the variables of a session are those after some list of orders: so they are whenever an order comes.
-pub record Reachable (lim : Limits) (n : Notion) (s : Session) : Type 0 where
-  pub orders : List Command
-  pub solver : run lim n fresh orders .solver ≡ s .solver
-  pub count : issued (run lim n fresh orders) ≡ issued s
 
 -- ---- the columns
 

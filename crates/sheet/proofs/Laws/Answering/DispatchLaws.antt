@@ -20,17 +20,19 @@ use Rattle.solver.specs.Terms.NormalContract.{Lends}
 use Rattle.solver.proofs.Terms.HeldLaws.{held-sub}
 use Rattle.solver.proofs.Terms.VirtualTokenLaws.{toks-same}
 use Rattle.solver.specs.declared.Solver.{Solver}
-use Rattle.solver.specs.Shapes.{loose}
 use Rattle.solver.specs.Session.{Limits, Session, issued}
 use Rattle.solver.specs.Orders as orders
+use Rattle.solver.specs.Shapes.{notion}
 use Rattle.solver.specs.Constrain.{constrain}
 use Rattle.solver.specs.Orders.{Command, solverOf, keeps, order}
 use Rattle.solver.specs.Words.Worklist.{Zero}
 use Rattle.solver.specs.Words.ConstrainContract.{Scratch, pendingFrom}
-use Rattle.solver.specs.Words.SessionRepresentation.{Reachable, Represents, limitsOf}
+use Rattle.solver.specs.Invariant.{InOrder}
+use Rattle.solver.specs.Words.SessionRepresentation.{Represents, limitsOf}
 use Rattle.solver.proofs.Laws.Definition.SolverInvariantLaws.{within-known}
 use Rattle.sheet.specs.declared.Order.{Order}
-use Rattle.sheet.specs.Fields.{Field, value, tree, allNodes, nodes, nth, termOf, numberOf, numberAt}
+use Rattle.sheet.specs.Fields as fields
+use Rattle.sheet.specs.Fields.{FieldSort, Field, value, tree, allNodes, nodes, nth, termOf, numberOf, numberAt}
 use Rattle.sheet.specs.OrderTable as rows
 use Rattle.sheet.specs.OrderTable.{Answer, refusal, Act, Row, sessionOrders, rowIn, layout, commandBy, commandOf, Read}
 use Rattle.sheet.specs.Operations.{operations, operation}
@@ -46,17 +48,37 @@ use Rattle.sheet.specs.Words.OperationsContract.{Among, numbersOf, Asks,
 use Rattle.sheet.specs.Words.SessionInAreas.{Areas, areas, RepresentsInAreas, Answers}
 use Rattle.sheet.specs.Entry.{AreasReady}
 use Rattle.solver.specs.Words.OrderTerms.{Behind, Poses, PosesPair}
-use Rattle.sheet.specs.Words.SessionOrdersContract.{lent, Does, toldElse, toldBy, plainCommand, DoesPair}
+use Rattle.sheet.specs.Words.SessionOrdersContract.{lent, Does, toldElse, toldBy, plainCommand, pairNumber, DoesPair}
 use Rattle.sheet.specs.Words.DispatchContract.{OrderTaken, Serves, Answered}
 use Rattle.sheet.proofs.Laws.Reading.StoredLaws.{zero-free, free-kinds, free-vals}
 use Rattle.sheet.proofs.Laws.Reading.OrderTableLaws.{Plainly, plain-act, plain-among, operations-among, session-row}
 use Rattle.sheet.proofs.Laws.Answering.SessionRowLaws.{Made, MadeBy, row-made, crowds, numbers-are, numbers-none, one-term, two-terms, second-code}
 use Rattle.sheet.proofs.Laws.Reading.ReadOrderUseLaws as use-laws
 use Rattle.sheet.proofs.Laws.Reading.ReadOrderUseLaws.{order-long, nth-formed}
-use Rattle.sheet.proofs.Laws.Answering.SessionOrderLaws.{loose-codes}
 use Rattle.sheet.proofs.Laws.Answering.TermOrderLaws as posing
 use Rattle.sheet.proofs.Laws.Answering.OperationStepLaws.{operation-step}
 use Rattle.sheet.proofs.Laws.Answering.SessionInAreasLaws.{ready-half, solve-kept, answers-does, answers-bound, answers-quiet}
+
+-- ---- the rows that pose a pair
+
+abbrev pairRow : Bool → Row
+pairRow false = rows.constrain
+pairRow true = rows.constrain-strictly
+
+pair-layout : (d : Bool) → layout (pairRow d) ≡ fields.ordinary ∷ fields.term ∷ fields.term ∷ []
+unfolding layout
+pair-layout false = refl
+pair-layout true = refl
+
+pair-known : (d : Bool) (n : ℕ) → rows.known (pairRow d) n ≡ n
+unfolding rows.known
+pair-known false n = refl
+pair-known true n = refl
+
+pair-steps : (d : Bool) (lim : Limits) (z : Session) (n : ℕ) (t u : Term) → step lim z (pairRow d) (value n ∷ tree t ∷ tree u ∷ []) ≡ solve lim z (orders.pair d n t u)
+unfolding step nth termOf numberOf
+pair-steps false lim z n t u = refl
+pair-steps true lim z n t u = refl
 
 -- ---- room to read
 
@@ -194,12 +216,12 @@ module _ {x : Solver} {half : ℕ} {s : List ℕ} {m : Areas} {ts : Area} {ws : 
   -- a command done on what is lent, other than order 4
   told : (k : Command) → ((z : Session) → RepresentsInAreas x half m z → orderOf (limitsOf x) z s ≡ solve (limitsOf x) z k)
       → (y : Solver) (c′ d′ : List ℕ) (w v : Output) → take half c′ ≡ take half (m .c) → Zero d′
-      → ((z : Session) → Reachable (limitsOf x) loose z → RepresentsInAreas x half m z
+      → ((z : Session) → InOrder (issued z) (z .solver) → RepresentsInAreas x half m z
       → Does (lent x (take (x .top) (m .a)) (take (x .top) (m .b)) (drop half (m .c))) y (drop half c′) z (solve (limitsOf x) z k) w v)
       → Answered x y half s m ts o c′ d′ w v
   told k same y c′ d′ w v front clear D =
       let R = T .ready in
-      answered y (D (R .session) (R .reachable) (R .inAreas) .beside .top) c′ d′ w v
+      answered y (D (R .session) (R .ordered) (R .inAreas) .beside .top) c′ d′ w v
       (λ z A Z.
       step-as (same z Z) (answers-does Z y c′ d′ _ w v (D z A Z) (solve-kept (limitsOf x) z k) (subst (λ (l : List ℕ). Zero l) (sym front) (Z .front)) clear))
 
@@ -303,7 +325,7 @@ module _ {x : Solver} {half : ℕ} {s : List ℕ} {m : Areas} {ts : Area} {ws : 
 
       pub plain-answered : (i j : ℕ) → i ≡ o .first .value → j ≡ o .second .value
           → (y : Solver) (c′ d′ : List ℕ) (w v : Output) → take half c′ ≡ take half (m .c) → Zero d′
-          → ((z : Session) → Reachable (limitsOf x) loose z → Represents x (take (o .top) (ts .kinds)) (take (o .top) (ts .vals)) (drop half (m .c)) z
+          → ((z : Session) → InOrder (issued z) (z .solver) → Represents x (take (o .top) (ts .kinds)) (take (o .top) (ts .vals)) (drop half (m .c)) z
           → Does (lent x (take (o .top) (ts .kinds)) (take (o .top) (ts .vals)) (drop half (m .c))) y (drop half c′) z (solve (limitsOf x) z (plainCommand (o .kind) i j)) w v)
           → Answered x y half s m ts o c′ d′ w v
       plain-answered i j ei ej y c′ d′ w v front clear D =
@@ -326,11 +348,10 @@ module _ {x : Solver} {half : ℕ} {s : List ℕ} {m : Areas} {ts : Area} {ws : 
     long-b : length (take (o .top) (ts .vals)) ≡ o .top
     long-b = length-take-le (o .top) (ts .vals) taken-b
 
-    behind : (z : Session) → Reachable (limitsOf x) loose z → RepresentsInAreas x half m z → Behind loose x (take (o .top) (ts .kinds)) (take (o .top) (ts .vals)) (drop half (m .c)) z
+    behind : (z : Session) → InOrder (issued z) (z .solver) → RepresentsInAreas x half m z → Behind x (take (o .top) (ts .kinds)) (take (o .top) (ts .vals)) (drop half (m .c)) z
     behind z A Z =
         record {
-          codes = loose-codes;
-          reachable = A;
+          ordered = A;
           represents = rw (cut-a, cut-b) (Z .represents);
           inside = omega (arith, long-a, taken-after);
           pairs = long-b ∙ sym long-a;
@@ -355,7 +376,7 @@ module _ {x : Solver} {half : ℕ} {s : List ℕ} {m : Areas} {ts : Area} {ws : 
           let g = subst (λ (l : List Field). FormedFields (rows.known (T .whole .read .kind) (x .issued)) l) is (T .whole .formed) in
           subst (λ (n : ℕ). AllVars (λ v. v < n) t) all (g .0 .below)
 
-      pub poses : (z : Session) → Reachable (limitsOf x) loose z → RepresentsInAreas x half m z → Poses loose x (take (o .top) (ts .kinds)) (take (o .top) (ts .vals)) (drop half (m .c)) z t
+      pub poses : (z : Session) → InOrder (issued z) (z .solver) → RepresentsInAreas x half m z → Poses x (take (o .top) (ts .kinds)) (take (o .top) (ts .vals)) (drop half (m .c)) z t
       poses z A Z =
           let n : length (allItems fs) ≡ length (items t) = ap length one-items in
           record {
@@ -369,7 +390,7 @@ module _ {x : Solver} {half : ℕ} {s : List ℕ} {m : Areas} {ts : Area} {ws : 
 
       pub posed : (k : Command) → ((z : Session) → RepresentsInAreas x half m z → orderOf (limitsOf x) z s ≡ solve (limitsOf x) z k)
           → (y : Solver) (c′ d′ : List ℕ) (w v : Output) → take half c′ ≡ take half (m .c) → Zero d′
-          → ((z : Session) → Poses loose x (take (o .top) (ts .kinds)) (take (o .top) (ts .vals)) (drop half (m .c)) z t
+          → ((z : Session) → Poses x (take (o .top) (ts .kinds)) (take (o .top) (ts .vals)) (drop half (m .c)) z t
           → Does (lent x (take (x .top) (take (o .top) (ts .kinds))) (take (x .top) (take (o .top) (ts .vals))) (drop half (m .c))) y (drop half c′) z (solve (limitsOf x) z k) w v)
           → Answered x y half s m ts o c′ d′ w v
       posed k same y c′ d′ w v front clear D =
@@ -401,15 +422,18 @@ module _ {x : Solver} {half : ℕ} {s : List ℕ} {m : Areas} {ts : Area} {ws : 
     unfolding step nth termOf rowIn table sessionOrders
     resolve-step h z Z t e = step-is z Z ∙ rw (kind-as 5 rows.resolve h refl, e) refl
 
-    -- order 4
-    module _ (h : o .kind ≡ 4) where
-      kind-pair : T .whole .read .kind ≡ rows.constrain
+    -- orders 4 and, strict, 22
+    module _ (d : Bool) (h : o .kind ≡ pairNumber d) where
+      kind-pair : T .whole .read .kind ≡ pairRow d
       unfolding rowIn table sessionOrders
-      kind-pair = kind-as 4 rows.constrain h refl
+      kind-pair = go d h
+        where
+          go : (d : Bool) → o .kind ≡ pairNumber d → T .whole .read .kind ≡ pairRow d
+          go false h = kind-as 4 rows.constrain h refl
+          go true h = kind-as 22 rows.constrain-strictly h refl
 
       pub pair-terms : (n : ℕ) × (t : Term) × (u : Term) × (fs ≡ value n ∷ tree t ∷ tree u ∷ [])
-      unfolding layout
-      pair-terms = two-terms fs (subst (λ (r : Row). FitsLayout (layout r) fs) kind-pair (T .whole .fitting))
+      pair-terms = two-terms fs (subst (λ (l : List FieldSort). FitsLayout l fs) (ap layout kind-pair ∙ pair-layout d) (T .whole .fitting))
 
       module _ (n : ℕ) (t u : Term) (is : fs ≡ value n ∷ tree t ∷ tree u ∷ []) where
         pair-items : allItems fs ≡ items t ++ items u
@@ -421,10 +445,9 @@ module _ {x : Solver} {half : ℕ} {s : List ℕ} {m : Areas} {ts : Area} {ws : 
         pair-size = omega (arith, ap allNodes is)
 
         pair-formed : FormedFields (x .issued) (value n ∷ tree t ∷ tree u ∷ [])
-        unfolding rows.known
         pair-formed =
             subst (λ (l : List Field). FormedFields (x .issued) l) is
-            (subst (λ (r : Row). FormedFields (rows.known r (x .issued)) fs) kind-pair (T .whole .formed))
+            (subst (λ (i : ℕ). FormedFields i fs) (ap (λ (r : Row). rows.known r (x .issued)) kind-pair ∙ pair-known d (x .issued)) (T .whole .formed))
 
         pub pair-k : (o .first .value ≡ n) × (n ≤ 4294967295)
         unfolding spotAt nth FormedFields
@@ -440,8 +463,8 @@ module _ {x : Solver} {half : ℕ} {s : List ℕ} {m : Areas} {ts : Area} {ws : 
         pair-row : HeldParts (ts .kinds) (ts .vals) (x .top) (o .top) (sub t (sub u end))
         pair-row = use-laws.pair-row s (x .issued) (x .top) (x .kept) (x .nodes) (area (m .a) (m .b)) ts ws o (T .whole) W n t u is
 
-        pub poses-pair : (z : Session) → Reachable (limitsOf x) loose z → RepresentsInAreas x half m z
-            → PosesPair loose x (take (o .top) (ts .kinds)) (take (o .top) (ts .vals)) (drop half (m .c)) z (o .third .place) t u
+        pub poses-pair : (z : Session) → InOrder (issued z) (z .solver) → RepresentsInAreas x half m z
+            → PosesPair x (take (o .top) (ts .kinds)) (take (o .top) (ts .vals)) (drop half (m .c)) z (o .third .place) t u
         unfolding FormedFields
         poses-pair z A Z =
             let l = held-sub (ts .kinds) (ts .vals) (x .top) (o .top) t (sub u end) pair-row in
@@ -460,14 +483,16 @@ module _ {x : Solver} {half : ℕ} {s : List ℕ} {m : Areas} {ts : Area} {ws : 
         pub pair-nodes : (z : Session) → RepresentsInAreas x half m z → o .nodes ≡ z .kept + (size t + size u)
         pair-nodes z Z = omega (arith, T .whole .counts, Z .represents .kept, pair-size)
 
-        pair-step : (z : Session) → RepresentsInAreas x half m z → orderOf (limitsOf x) z s ≡ solve (limitsOf x) z (orders.pair n t u)
-        unfolding step nth termOf numberOf
-        pair-step z Z = step-is z Z ∙ rw (kind-pair, is) refl
+        pair-step : (z : Session) → RepresentsInAreas x half m z → orderOf (limitsOf x) z s ≡ solve (limitsOf x) z (orders.pair d n t u)
+        pair-step z Z =
+            step-is z Z ∙ ap (λ (r : Row). step (limitsOf x) z r fs) kind-pair ∙ ap (λ (l : List Field). step (limitsOf x) z (pairRow d) l) is
+            ∙ pair-steps d (limitsOf x) z n t u
 
         pair-few : o .top ≤ 64 + 6 * o .nodes
-        unfolding layout spares spare
+        unfolding spares spare
         pair-few =
-            let g : length (allItems fs) ≤ 6 * allNodes fs + 0 = subst (λ (r : Row). length (allItems fs) ≤ 6 * allNodes fs + spares (layout r)) kind-pair (T .whole .room) in
+            let g : length (allItems fs) ≤ 6 * allNodes fs + 0
+            = subst (λ (l : List FieldSort). length (allItems fs) ≤ 6 * allNodes fs + spares l) (ap layout kind-pair ∙ pair-layout d) (T .whole .room) in
             omega (arith, T .whole .tokens, T .whole .counts, T .ready .inAreas .few)
 
         pub pair-scratch : Scratch x (take (o .top) (ts .kinds)) (drop half (m .c)) (m .d)
@@ -485,37 +510,37 @@ module _ {x : Solver} {half : ℕ} {s : List ℕ} {m : Areas} {ts : Area} {ws : 
         pair-blank = T .ready .inAreas .blank
 
         -- where a variable was bound all of its nodes are kept
-        pair-kept : (z : Session) → Reachable (limitsOf x) loose z → RepresentsInAreas x half m z
-            → (solve (limitsOf x) z (orders.pair n t u) .session .solver .revision ≡ z .solver .revision → ⊥) → o .top ≤ 64 + 6 * solve (limitsOf x) z (orders.pair n t u) .session .kept
+        pair-kept : (z : Session) → InOrder (issued z) (z .solver) → RepresentsInAreas x half m z
+            → (solve (limitsOf x) z (orders.pair d n t u) .session .solver .revision ≡ z .solver .revision → ⊥) → o .top ≤ 64 + 6 * solve (limitsOf x) z (orders.pair d n t u) .session .kept
         pair-kept z A Z h =
             let P = poses-pair z A Z in
-            let e = posing.pair-step (limitsOf x) loose z n t u (within-known z t (P .within-left)) (within-known z u (P .within-right)) (P .few) in
-            let g = constrain loose n (z .solver) t u in
-            let d : (solverOf g .revision ≡ z .solver .revision → ⊥) = λ i. h (ap (λ (q : orders.Step). q .session .solver .revision) e ∙ i) in
-            let k : solve (limitsOf x) z (orders.pair n t u) .session .kept ≡ z .kept + (size t + size u)
+            let e = posing.pair-step (limitsOf x) d z n t u (within-known z t (P .within-left)) (within-known z u (P .within-right)) (P .few) in
+            let g = constrain (notion d) n (z .solver) t u in
+            let other : (solverOf g .revision ≡ z .solver .revision → ⊥) = λ i. h (ap (λ (q : orders.Step). q .session .solver .revision) e ∙ i) in
+            let k : solve (limitsOf x) z (orders.pair d n t u) .session .kept ≡ z .kept + (size t + size u)
             = ap (λ (q : orders.Step). q .session .kept) e
-            ∙ ap (λ (b : Bool). z .kept + keeps (not b) (size t + size u)) (ne-eqb (solverOf g .revision) (z .solver .revision) d) in
+            ∙ ap (λ (b : Bool). z .kept + keeps (not b) (size t + size u)) (ne-eqb (solverOf g .revision) (z .solver .revision) other) in
             omega (arith, pair-few, pair-nodes z Z)
 
         module _ (y : Solver) (c′ d′ : List ℕ) (w v : Output) (front : take half c′ ≡ take half (m .c)) (clear : Zero d′) (k : ℕ) (ek : k ≡ n)
-            (E : (z : Session) → PosesPair loose x (take (o .top) (ts .kinds)) (take (o .top) (ts .vals)) (drop half (m .c)) z (o .third .place) t u → o .nodes ≡ z .kept + (size t + size u)
-            → DoesPair (lent x (take (o .top) (ts .kinds)) (take (o .top) (ts .vals)) (drop half (m .c))) y (drop half c′) z (solve (limitsOf x) z (orders.pair k t u)) w v) where
-          does : (z : Session) → Reachable (limitsOf x) loose z → RepresentsInAreas x half m z
-              → DoesPair (lent x (take (o .top) (ts .kinds)) (take (o .top) (ts .vals)) (drop half (m .c))) y (drop half c′) z (solve (limitsOf x) z (orders.pair n t u)) w v
+            (E : (z : Session) → PosesPair x (take (o .top) (ts .kinds)) (take (o .top) (ts .vals)) (drop half (m .c)) z (o .third .place) t u → o .nodes ≡ z .kept + (size t + size u)
+            → DoesPair (lent x (take (o .top) (ts .kinds)) (take (o .top) (ts .vals)) (drop half (m .c))) y (drop half c′) z (solve (limitsOf x) z (orders.pair d k t u)) w v) where
+          does : (z : Session) → InOrder (issued z) (z .solver) → RepresentsInAreas x half m z
+              → DoesPair (lent x (take (o .top) (ts .kinds)) (take (o .top) (ts .vals)) (drop half (m .c))) y (drop half c′) z (solve (limitsOf x) z (orders.pair d n t u)) w v
           does z A Z =
-              subst (λ (i : ℕ). DoesPair (lent x (take (o .top) (ts .kinds)) (take (o .top) (ts .vals)) (drop half (m .c))) y (drop half c′) z (solve (limitsOf x) z (orders.pair i t u)) w v) ek
+              subst (λ (i : ℕ). DoesPair (lent x (take (o .top) (ts .kinds)) (take (o .top) (ts .vals)) (drop half (m .c))) y (drop half c′) z (solve (limitsOf x) z (orders.pair d i t u)) w v) ek
               (E z (poses-pair z A Z) (pair-nodes z Z))
 
           zero-front : (z : Session) → RepresentsInAreas x half m z → Zero (take half c′)
           zero-front z Z = subst (λ (l : List ℕ). Zero l) (sym front) (Z .front)
 
-          pair-inside : (z : Session) → DoesPair (lent x (take (o .top) (ts .kinds)) (take (o .top) (ts .vals)) (drop half (m .c))) y (drop half c′) z (solve (limitsOf x) z (orders.pair n t u)) w v
+          pair-inside : (z : Session) → DoesPair (lent x (take (o .top) (ts .kinds)) (take (o .top) (ts .vals)) (drop half (m .c))) y (drop half c′) z (solve (limitsOf x) z (orders.pair d n t u)) w v
               → Dec (y .revision ≡ x .revision) → y .top ≤ o .top
           pair-inside z D (yes e) = omega (arith, taken-after, ap (λ (v : Solver). v .top) (D .quiet e .0))
           pair-inside z D (no e) = omega (arith, D .bound e .top, long-a)
 
           -- where a variable was bound all of its tokens are the session's; else none is, and they have been cleared
-          pair-serves : (z : Session) → Reachable (limitsOf x) loose z → RepresentsInAreas x half m z → (a′ b′ : List ℕ) → area a′ b′ ≡ blank ts (y .top) (o .top - y .top)
+          pair-serves : (z : Session) → InOrder (issued z) (z .solver) → RepresentsInAreas x half m z → (a′ b′ : List ℕ) → area a′ b′ ≡ blank ts (y .top) (o .top - y .top)
               → Dec (y .revision ≡ x .revision) → Answers y half (areas a′ b′ c′ d′) z (orderOf (limitsOf x) z s) w v x
           pair-serves z A Z a′ b′ e (yes l) =
               let D = does z A Z in
@@ -535,6 +560,6 @@ module _ {x : Solver} {half : ℕ} {s : List ℕ} {m : Areas} {ts : Area} {ws : 
           pair-answered =
               let R = T .ready in
               record {
-                inside = pair-inside (R .session) (does (R .session) (R .reachable) (R .inAreas)) (ℕ-discrete (y .revision) (x .revision));
+                inside = pair-inside (R .session) (does (R .session) (R .ordered) (R .inAreas)) (ℕ-discrete (y .revision) (x .revision));
                 serves = λ a′ b′ e z A Z. pair-serves z A Z a′ b′ e (ℕ-discrete (y .revision) (x .revision));
               }

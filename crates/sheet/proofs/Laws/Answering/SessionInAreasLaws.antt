@@ -10,8 +10,8 @@ use lib.Seq.{length-take-le, take-length, drop-length, drop-at}
 use borrow.Rule.Slice.PartMut.{postOf, putMid, post-is}
 use Rattle.solver.specs.Terms.Term.{Term, var, node, size}
 use Rattle.solver.specs.declared.Solver.{Solver}
-use Rattle.solver.specs.Shapes.{loose}
 use Rattle.solver.specs.Families.{Request}
+use Rattle.solver.specs.Shapes.{notion}
 use Rattle.solver.specs.Constrain.{resolved, constrain}
 use Rattle.solver.specs.Session.{Limits, Session, VariablePlace, at, gap, find, deferring}
 use Rattle.solver.specs.Orders as orders
@@ -36,7 +36,7 @@ module _ {x : Solver} {half : ℕ} {m : Areas} (R : AreasReady x half m) where
 
   pub ready-frames : Frames x (m .d)
   ready-frames =
-      record { room = omega (arith, R .roomy .d-size, R .roomy .marks, lent-revision _ _ _ _ _ (R .reachable) (R .inAreas .represents)); clear = R .inAreas .work }
+      record { room = omega (arith, R .roomy .d-size, R .roomy .marks, lent-revision _ _ _ _ _ (R .ordered) (R .inAreas .represents)); clear = R .inAreas .work }
 
 -- ---- what is kept stays kept
 
@@ -75,8 +75,8 @@ solve-kept lim z (orders.number site r) = number-kept lim z (at site 1) r (find 
 solve-kept lim z (orders.hole site) = hole-kept lim z (gap site) (find (gap site) (z .places)) (full lim z)
 solve-kept lim z (orders.defer t) =
     unless-kept lim z (known z t) (crowded lim z (size t)) (deferring z (resolved (z .solver) t) gives orders.nothing) (defer-kept z (resolved (z .solver) t))
-solve-kept lim z (orders.pair k t u) =
-    unless-kept lim z (known z t && known z u) (crowded lim z (size t + size u)) (posing lim loose z (size t + size u) (constrain loose k (z .solver) t u)) (omega arith)
+solve-kept lim z (orders.pair d k t u) =
+    unless-kept lim z (known z t && known z u) (crowded lim z (size t + size u)) (posing lim z (size t + size u) (constrain (notion d) k (z .solver) t u)) (omega arith)
 solve-kept lim z (orders.resolving t) =
     unless-kept lim z (known z t) (crowded lim z (size t)) (z gives orders.term (resolved (z .solver) t)) (omega arith)
 solve-kept lim z orders.numbers = omega arith
@@ -183,12 +183,12 @@ module _ (half : ℕ) (c : List ℕ) where
   pub lent-tail : (x : Solver) (ks vs : List ℕ) (z : Session) → Represents x ks vs (drop half c) z → Represents x ks vs (take (length c - half) (drop half c)) z
   lent-tail x ks vs z L = subst (λ (l : List ℕ). Represents x ks vs l z) (sym tail-all) L
 
-  pub poses-tail : (x : Solver) (ks vs : List ℕ) (z : Session) (t : Term) → Poses loose x ks vs (drop half c) z t → Poses loose x ks vs (take (length c - half) (drop half c)) z t
-  poses-tail x ks vs z t P = subst (λ (l : List ℕ). Poses loose x ks vs l z t) (sym tail-all) P
+  pub poses-tail : (x : Solver) (ks vs : List ℕ) (z : Session) (t : Term) → Poses x ks vs (drop half c) z t → Poses x ks vs (take (length c - half) (drop half c)) z t
+  poses-tail x ks vs z t P = subst (λ (l : List ℕ). Poses x ks vs l z t) (sym tail-all) P
 
-  pub pair-tail : (x : Solver) (ks vs : List ℕ) (z : Session) (q : ℕ) (t u : Term) → PosesPair loose x ks vs (drop half c) z q t u
-      → PosesPair loose x ks vs (take (length c - half) (drop half c)) z q t u
-  pair-tail x ks vs z q t u P = subst (λ (l : List ℕ). PosesPair loose x ks vs l z q t u) (sym tail-all) P
+  pub pair-tail : (x : Solver) (ks vs : List ℕ) (z : Session) (q : ℕ) (t u : Term) → PosesPair x ks vs (drop half c) z q t u
+      → PosesPair x ks vs (take (length c - half) (drop half c)) z q t u
+  pair-tail x ks vs z q t u P = subst (λ (l : List ℕ). PosesPair x ks vs l z q t u) (sym tail-all) P
 
   pub scratch-tail : (x : Solver) (ks work : List ℕ) → Scratch x ks (drop half c) work → Scratch x ks (take (length c - half) (drop half c)) work
   scratch-tail x ks work S = subst (λ (l : List ℕ). Scratch x ks l work) (sym tail-all) S

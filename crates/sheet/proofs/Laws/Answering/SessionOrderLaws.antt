@@ -1,31 +1,32 @@
 -- Steps of orders 0 to 8 done on what is lent: what each answers, and that it is done or not.
 use mathlib.Core.Path.{_≡_, refl, sym, ap, subst, _∙_}
-use mathlib.Core.Bool.{Bool, true, false, not}
+use mathlib.Core.Bool.{Bool, true, false, not, _||_}
 use mathlib.Core.List.{List, [], _∷_, _++_}
 use mathlib.Core.Option.{Option, none, some}
 use Prim.Native.Nat.{ℕ, _+_, _-_, _≤_, _<_}
 use native.Mathlib.Omega.{arith}
-use borrow.Author.Tests.{leb-true, eq-eqb, ne-eqb}
+use borrow.Author.Tests.{leb-true, eqb-true, eq-eqb, ne-eqb}
 use lib.Dec.{eqb}
 use lib.ListN.{length, length-append}
 use Rattle.solver.specs.Terms.Number.{shortest}
 use Rattle.solver.specs.Terms.Term.{var, bytes}
+use Rattle.solver.proofs.Terms.Bools.{never-true}
 use Rattle.solver.specs.declared.Solver.{Solver}
 use Rattle.solver.specs.declared.Named.{Named}
 use Rattle.solver.specs.declared.Named.the-variants.{Variable, Full}
 use Rattle.sheet.specs.declared.VariableOrder.{VariableOrder}
 use Rattle.sheet.specs.declared.VariableOrder.the-variants.{Slot, Number, Hole}
 use Rattle.solver.specs.Families.{Request, requested}
-use Rattle.solver.specs.Shapes.{loose}
 use Rattle.solver.specs.Constrain.{resolved}
 use Rattle.solver.specs.Session.{Limits, Session, VariablePlace, at, gap, issued, find}
 use Rattle.solver.specs.Orders as orders
 use Rattle.solver.specs.Orders.{order, variableAt, numberAt, holeAt, full, refused, _gives_}
-use Rattle.solver.specs.Words.SessionRepresentation.{Reachable, Represents, limitsOf}
+use Rattle.solver.specs.Invariant.{InOrder}
+use Rattle.solver.specs.Words.SessionRepresentation.{Represents, limitsOf}
 use Rattle.solver.specs.Words.MethodContract.{Beside, found, placed, namedOf}
 use Rattle.solver.specs.Words.OrderTerms.{placeOf}
 use Rattle.solver.proofs.Laws.Definition.SolverInvariantLaws.{ordered-revision}
-use Rattle.solver.proofs.Laws.Definition.DefaultLaws.{arises-ordered}
+use Rattle.solver.proofs.Laws.Definition.InOrderLaws.{in-order-ordered}
 use Rattle.solver.proofs.Laws.Table.MethodLaws.{beside-same, named-next, named-none}
 use Rattle.sheet.specs.Fields.{nth, numberOf}
 use Rattle.sheet.specs.OrderTable.{Answer, refusal, outcome, sessionOrders, rowIn, commandOf}
@@ -33,7 +34,7 @@ use Rattle.sheet.specs.Operations.{bit}
 use Rattle.sheet.specs.Sheet.{Step, solve, answerOf, framed}
 use Rattle.sheet.specs.Words.FramingContract.{outputAt, Framed, opening}
 use Rattle.sheet.specs.Words.OperationsContract.{Among, plainOrders}
-use Rattle.sheet.specs.Words.SessionOrdersContract.{lent, Does, plainCommand, variableCommand, siteOf, variableAnswer, defaultsBy}
+use Rattle.sheet.specs.Words.SessionOrdersContract.{lent, pairNumber, Does, plainCommand, variableCommand, siteOf, variableAnswer, defaultsBy}
 use Rattle.sheet.proofs.Laws.Reading.OrderTableLaws.{among-past, third}
 use Rattle.sheet.proofs.Laws.Answering.FramingLaws.{one-frame, frame-over, value-frame}
 
@@ -84,15 +85,11 @@ module _ {x : Solver} {ks vs ts : List ℕ} {z : Session} (L : Represents x ks v
 -- ---- the revision
 
 -- it is at most the count of variables
-pub loose-codes : loose 4 ≡ false
-unfolding loose
-loose-codes = refl
+pub in-order-revision : (z : Session) → InOrder (issued z) (z .solver) → z .solver .revision ≤ issued z
+in-order-revision z A = ordered-revision (issued z) (z .solver) (in-order-ordered (issued z) (z .solver) A)
 
-pub arises-revision : (lim : Limits) (z : Session) → Reachable lim loose z → z .solver .revision ≤ issued z
-arises-revision lim z A = ordered-revision loose loose-codes (issued z) (z .solver) (arises-ordered loose loose-codes lim z A)
-
-pub lent-revision : (x : Solver) (ks vs ts : List ℕ) (z : Session) → Reachable (limitsOf x) loose z → Represents x ks vs ts z → x .revision ≤ x .variables
-lent-revision x ks vs ts z A L = omega (arith, arises-revision (limitsOf x) z A, L .revision, L .fits .variables)
+pub lent-revision : (x : Solver) (ks vs ts : List ℕ) (z : Session) → InOrder (issued z) (z .solver) → Represents x ks vs ts z → x .revision ≤ x .variables
+lent-revision x ks vs ts z A L = omega (arith, in-order-revision z A, L .revision, L .fits .variables)
 
 pub revision-does : (x : Solver) (ks vs ts : List ℕ) (z : Session) → Represents x ks vs ts z → (n : ℕ) → n ≡ x .revision → (out₀ : List ℕ) (to : ℕ) (out : List ℕ) (r : ℕ)
     → Framed (outcome (shortest n)) out₀ to out r → Does (lent x ks vs ts) x ts z (solve (limitsOf x) z orders.revision) (outputAt out₀ to) (outputAt out r)
@@ -146,7 +143,7 @@ module _ (lim : Limits) (z : Session) (site slot : ℕ) where
   unfolding order
   variable-answer h = variable-go (find (at site slot) (z .places)) (full lim z) refl h
 
-  variable-full : find (at site slot) (z .places) ≡ none → full lim z ≡ true → order lim loose z (orders.variable site slot) ≡ (z gives refused 8)
+  variable-full : find (at site slot) (z .places) ≡ none → full lim z ≡ true → order lim z (orders.variable site slot) ≡ (z gives refused 8)
   unfolding order variableAt
   variable-full u f = rw (u, f) refl
 
@@ -164,7 +161,7 @@ module _ (lim : Limits) (z : Session) (site : ℕ) (r : Request) where
   unfolding order
   number-answer h = number-go (find (at site 1) (z .places)) (full lim z) refl h
 
-  number-full : find (at site 1) (z .places) ≡ none → full lim z ≡ true → order lim loose z (orders.number site r) ≡ (z gives refused 8)
+  number-full : find (at site 1) (z .places) ≡ none → full lim z ≡ true → order lim z (orders.number site r) ≡ (z gives refused 8)
   unfolding order numberAt
   number-full u f = rw (u, f) refl
 
@@ -181,7 +178,7 @@ module _ (lim : Limits) (z : Session) (site : ℕ) where
   unfolding order
   hole-answer h = hole-go (find (gap site) (z .places)) (full lim z) refl h
 
-  hole-full : find (gap site) (z .places) ≡ none → full lim z ≡ true → order lim loose z (orders.hole site) ≡ (z gives refused 8)
+  hole-full : find (gap site) (z .places) ≡ none → full lim z ≡ true → order lim z (orders.hole site) ≡ (z gives refused 8)
   unfolding order holeAt
   hole-full u f = rw (u, f) refl
 
@@ -193,13 +190,13 @@ module _ (lim : Limits) (z : Session) where
   variable-order-answer (Number s f) = number-answer lim z s (requested f)
   variable-order-answer (Hole s) = hole-answer lim z s
 
-  pub variable-order-full : (o : VariableOrder) → find (placeOf (siteOf o)) (z .places) ≡ none → full lim z ≡ true → order lim loose z (variableCommand o) ≡ (z gives refused 8)
+  pub variable-order-full : (o : VariableOrder) → find (placeOf (siteOf o)) (z .places) ≡ none → full lim z ≡ true → order lim z (variableCommand o) ≡ (z gives refused 8)
   variable-order-full (Slot s i) = variable-full lim z s i
   variable-order-full (Number s f) = number-full lim z s (requested f)
   variable-order-full (Hole s) = hole-full lim z s
 
 -- refusal 8, whatever the order
-pub full-does : (x : Solver) (ks vs ts : List ℕ) (z : Session) → Represents x ks vs ts z → (c : orders.Command) → order (limitsOf x) loose z c ≡ (z gives refused 8)
+pub full-does : (x : Solver) (ks vs ts : List ℕ) (z : Session) → Represents x ks vs ts z → (c : orders.Command) → order (limitsOf x) z c ≡ (z gives refused 8)
     → (out₀ : List ℕ) (to : ℕ) (out : List ℕ) (r : ℕ) → Framed (refusal 8) out₀ to out r → Does (lent x ks vs ts) x ts z (solve (limitsOf x) z c) (outputAt out₀ to) (outputAt out r)
 unfolding answerOf
 full-does x ks vs ts z L c e out₀ to out r f =
@@ -225,7 +222,7 @@ changed-other old new e = rw (ne-eqb new old e) refl
 
 module _ (x : Solver) (ks vs ts : List ℕ) (z : Session) (L : Represents x ks vs ts z) (c : orders.Command) (p : VariablePlace) (w : ℕ → List ℕ)
     (answers : nextOf z p < x .variables → solve (limitsOf x) z c .answer ≡ outcome (w (nextOf z p)))
-    (fullness : find p (z .places) ≡ none → full (limitsOf x) z ≡ true → order (limitsOf x) loose z c ≡ (z gives refused 8))
+    (fullness : find p (z .places) ≡ none → full (limitsOf x) z ≡ true → order (limitsOf x) z c ≡ (z gives refused 8))
     (a : Named) (e : a ≡ namedOf (placed (limitsOf x) z p .variable)) (out₀ : List ℕ) (to : ℕ) (out : List ℕ) (r : ℕ) where
   pub place-refused : a ≡ Full → Framed (refusal 8) out₀ to out r → Does (lent x ks vs ts) x ts z (solve (limitsOf x) z c) (outputAt out₀ to) (outputAt out r)
   place-refused f g =
@@ -241,7 +238,7 @@ module _ (x : Solver) (ks vs ts : List ℕ) (z : Session) (L : Represents x ks v
     pub place-over : length out₀ < r → Does (lent x ks vs ts) x ts z (solve (limitsOf x) z c) (outputAt out₀ to) (outputAt out r)
     place-over l = does-over L (solve (limitsOf x) z c) out₀ to out r says l
 
-    pub place-done : r ≤ length out₀ → (y : Solver) (us : List ℕ) → Represents y ks vs us (order (limitsOf x) loose z c .session) → Beside x y ts us
+    pub place-done : r ≤ length out₀ → (y : Solver) (us : List ℕ) → Represents y ks vs us (order (limitsOf x) z c .session) → Beside x y ts us
         → Does (lent x ks vs ts) y us z (solve (limitsOf x) z c) (outputAt out₀ to) (outputAt out r)
     place-done l y us M B = does-whole L (solve (limitsOf x) z c) out₀ to y us out r says l M B
 
@@ -279,3 +276,13 @@ module _ (k a b : ℕ) where
 pub does-as : (x y : Solver) (ks vs ts us : List ℕ) (z : Session) (c d : orders.Command) → c ≡ d → (out₀ : List ℕ) (to : ℕ) (out : List ℕ) (r : ℕ)
     → Does (lent x ks vs ts) y us z (solve (limitsOf x) z c) (outputAt out₀ to) (outputAt out r) → Does (lent x ks vs ts) y us z (solve (limitsOf x) z d) (outputAt out₀ to) (outputAt out r)
 does-as x y ks vs ts us z c d e out₀ to out r h = subst (λ (k : orders.Command). Does (lent x ks vs ts) y us z (solve (limitsOf x) z k) (outputAt out₀ to) (outputAt out r)) e h
+
+-- ---- orders 4 and 22
+
+pub pair-kind : (k : ℕ) → (eqb k 4 || eqb k 22) ≡ true → k ≡ pairNumber (eqb k 22)
+pair-kind k h = go (eqb k 4) refl (eqb k 22) refl h
+  where
+    go : (a : Bool) → eqb k 4 ≡ a → (b : Bool) → eqb k 22 ≡ b → (a || b) ≡ true → k ≡ pairNumber b
+    go a e true f h = eqb-true k 22 f
+    go true e false f h = eqb-true k 4 e
+    go false e false f h = never-true h

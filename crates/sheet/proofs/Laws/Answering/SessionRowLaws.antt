@@ -9,13 +9,13 @@ use borrow.Author.Tests.{lt-ltb}
 use lib.Dec.{eqb}
 use Rattle.solver.specs.Terms.Result.{pick}
 use Rattle.solver.specs.Terms.Term.{Term, size}
+use Rattle.solver.specs.Terms.Formed.{Formed}
 use Rattle.solver.proofs.Terms.Bools.{never-true}
 use Rattle.solver.proofs.Terms.KindTableLaws.{both-true}
 use Rattle.solver.specs.Families.{requested}
 use Rattle.solver.specs.Session.{Limits, Session, issued}
 use Rattle.solver.specs.Orders as orders
 use Rattle.solver.specs.Orders.{Command, order, known}
-use Rattle.solver.specs.Rust.{AsRead}
 use Rattle.solver.proofs.Laws.Definition.SolverInvariantLaws.{within-known}
 use Rattle.sheet.specs.Fields as fields
 use Rattle.sheet.specs.Fields.{FieldSort, Field, value, tree, nodes, allNodes, nth, numberOf, numberAt, termOf}
@@ -85,12 +85,25 @@ second-code (f ∷ (g ∷ fs)) h = rw (h .1 .0 .1) (h .1 .0 .2)
 
 -- ---- an order of the session
 
+-- what reading gives: formed terms, and what is requested is what a fallback requests, which is a builtin's code
+abbrev pub FormedCommand : Command → Type 0
+FormedCommand (orders.variable site slot) = Unit {0}
+FormedCommand (orders.number site r) = (r ≡ requested (r .fallback)) × (r .fallback < 32)
+FormedCommand (orders.hole site) = Unit {0}
+FormedCommand (orders.defer t) = Formed t
+FormedCommand (orders.pair d k t u) = Formed t × Formed u
+FormedCommand (orders.resolving t) = Formed t
+FormedCommand orders.numbers = Unit {0}
+FormedCommand orders.nevers = Unit {0}
+FormedCommand orders.revision = Unit {0}
+FormedCommand (orders.unread r) = Unit {0}
+
 -- f makes the command of fields of the layout l
 pub record Made (l : List FieldSort) (f : List Field → Command) : Type 0 where
   -- of numbers alone: of the first two
   pub plain : numeric l ≡ true → (fs : List Field) → f fs ≡ f (value (numberAt 0 fs) ∷ value (numberAt 1 fs) ∷ [])
-  -- as the Rust is given it
-  pub read : (n : ℕ) (fs : List Field) → FitsLayout l fs → FormedFields n fs → AsRead (f fs)
+  -- its terms are formed, and what it requests is what a fallback requests
+  pub read : (n : ℕ) (fs : List Field) → FitsLayout l fs → FormedFields n fs → FormedCommand (f fs)
   -- with more nodes than the limit it is refused
   pub crowded : (lim : Limits) (z : Session) (fs : List Field) → FitsLayout l fs → FormedFields (issued z) fs → z .kept ≤ lim .nodes → lim .nodes < z .kept + allNodes fs
       → solve lim z (f fs) ≡ record { session = z; answer = refusal 7 }
@@ -116,7 +129,7 @@ unfolding layout numeric isNumber sortNumber nth numberOf
 hole-made = record { plain = λ e fs. refl; read = λ n fs fit formed. tt; crowded = λ lim z fs fit formed g h. uncrowded (layout rows.annotation-hole) refl lim z fs fit g h }
 
 -- without fields
-bare-made : (c : Command) → AsRead c → Made [] (λ fs. c)
+bare-made : (c : Command) → FormedCommand c → Made [] (λ fs. c)
 unfolding numeric
 bare-made c r = record { plain = λ e fs. refl; read = λ n fs fit formed. r; crowded = λ lim z fs fit formed g h. uncrowded [] refl lim z fs fit g h }
 
@@ -144,9 +157,9 @@ resolve-made = record {
       rw (t .1, within-known z (t .0) (g .0 .below), lt-ltb (lim .nodes) (z .kept + size (t .0)) i) refl;
 }
 
-pair-made : Made (layout rows.constrain) (λ fs. orders.pair (numberAt 0 fs) (fields.termAt 1 fs) (fields.termAt 2 fs))
+pair-made : (d : Bool) → Made (fields.ordinary ∷ fields.term ∷ fields.term ∷ []) (λ fs. orders.pair d (numberAt 0 fs) (fields.termAt 1 fs) (fields.termAt 2 fs))
 unfolding layout numeric isNumber sortNumber nth termOf numberOf FormedFields allNodes nodes order answerOf
-pair-made = record {
+pair-made d = record {
   plain = λ e fs. never-true e;
   read = λ n fs fit formed. let t = two-terms fs fit in let g = rw (t .3) at formed in rw (t .3) (g .1 .0 .formed, g .1 .1 .0 .formed);
   crowded = λ lim z fs fit formed k h.
@@ -169,7 +182,7 @@ All (r ∷ rs) = MadeBy (layout r) (r .act) × All rs
 all-made : All sessionOrders
 unfolding sessionOrders layout
 all-made =
-    (variable-made, (number-made, (hole-made, (defer-made, (pair-made, (resolve-made, (bare-made orders.numbers tt, (bare-made orders.nevers tt, (bare-made orders.revision tt, tt)))))))))
+    (variable-made, (number-made, (hole-made, (defer-made, (pair-made false, (resolve-made, (bare-made orders.numbers tt, (bare-made orders.nevers tt, (bare-made orders.revision tt, (pair-made true, tt))))))))))
 
 found : (rs : List Row) → All rs → (k : ℕ) (r : Row) → rowIn rs k ≡ some r → MadeBy (layout r) (r .act)
 unfolding rowIn

@@ -11,7 +11,7 @@ use lib.Seq.{take-length}
 use Rattle.solver.specs.Terms.Term.{Term, size}
 use Rattle.solver.specs.declared.Solver.{Solver}
 use Rattle.solver.specs.declared.Solved.{Solved}
-use Rattle.solver.specs.Shapes.{Notion, loose}
+use Rattle.solver.specs.Shapes.{notion}
 use Rattle.solver.specs.Constrain as solving
 use Rattle.solver.specs.Constrain.{resolved}
 use Rattle.solver.specs.Session.{Limits, Session, deferring}
@@ -25,7 +25,7 @@ use Rattle.solver.specs.Words.OrderTerms.{Poses, PosesPair, resolvedTo}
 use Rattle.solver.proofs.Laws.Definition.SolverInvariantLaws.{within-known}
 use Rattle.solver.proofs.Laws.Definition.QuietLaws.{quiet-pair}
 use Rattle.sheet.specs.OrderTable.{Answer, outcome}
-use Rattle.sheet.specs.Sheet.{Step, solve, solveBy, answerOf, framed}
+use Rattle.sheet.specs.Sheet.{Step, solve, answerOf, framed}
 use Rattle.sheet.specs.Words.FramingContract.{outputAt, Framed}
 use Rattle.sheet.specs.Words.SessionOrdersContract.{lent, Does, DoesPair}
 use Rattle.sheet.proofs.Laws.Answering.FramingLaws.{one-frame}
@@ -41,30 +41,30 @@ uncrowded lim z n h = go (ltb (lim .nodes) (z .kept + n)) refl
     go false e = refl
 
 pub defer-step : (lim : Limits) (z : Session) (t : Term) → known z t ≡ true → z .kept + size t ≤ lim .nodes
-    → order lim loose z (orders.defer t) ≡ (deferring z (resolved (z .solver) t) gives orders.nothing)
+    → order lim z (orders.defer t) ≡ (deferring z (resolved (z .solver) t) gives orders.nothing)
 unfolding order
 defer-step lim z t k h = rw (k, uncrowded lim z (size t) h) refl
 
 pub resolving-step : (lim : Limits) (z : Session) (t : Term) → known z t ≡ true → z .kept + size t ≤ lim .nodes
-    → order lim loose z (orders.resolving t) ≡ (z gives orders.term (resolved (z .solver) t))
+    → order lim z (orders.resolving t) ≡ (z gives orders.term (resolved (z .solver) t))
 unfolding order
 resolving-step lim z t k h = rw (k, uncrowded lim z (size t) h) refl
 
-pub pair-step : (lim : Limits) (n : Notion) (z : Session) (k : ℕ) (t u : Term) → known z t ≡ true → known z u ≡ true → z .kept + (size t + size u) ≤ lim .nodes
-    → order lim n z (orders.pair k t u) ≡ posing lim n z (size t + size u) (solving.constrain n k (z .solver) t u)
+pub pair-step : (lim : Limits) (d : Bool) (z : Session) (k : ℕ) (t u : Term) → known z t ≡ true → known z u ≡ true → z .kept + (size t + size u) ≤ lim .nodes
+    → order lim z (orders.pair d k t u) ≡ posing lim z (size t + size u) (solving.constrain (notion d) k (z .solver) t u)
 unfolding order
-pair-step lim n z k t u a b h = rw (a, b, uncrowded lim z (size t + size u) h) refl
+pair-step lim d z k t u a b h = rw (a, b, uncrowded lim z (size t + size u) h) refl
 
 -- a step of the solver as a step of the sheet
-answer-of : (lim : Limits) (n : Notion) (z : Session) (c : orders.Command) (s : orders.Step) → order lim n z c ≡ s → solveBy lim n z c .answer ≡ answerOf (s .reply)
-answer-of lim n z c s e = ap (λ (y : orders.Step). answerOf (y .reply)) e
+answer-of : (lim : Limits) (z : Session) (c : orders.Command) (s : orders.Step) → order lim z c ≡ s → solve lim z c .answer ≡ answerOf (s .reply)
+answer-of lim z c s e = ap (λ (y : orders.Step). answerOf (y .reply)) e
 
-session-of : (lim : Limits) (n : Notion) (z : Session) (c : orders.Command) (s : orders.Step) → order lim n z c ≡ s → solveBy lim n z c .session ≡ s .session
-session-of lim n z c s e = ap (λ (y : orders.Step). y .session) e
+session-of : (lim : Limits) (z : Session) (c : orders.Command) (s : orders.Step) → order lim z c ≡ s → solve lim z c .session ≡ s .session
+session-of lim z c s e = ap (λ (y : orders.Step). y .session) e
 
 -- ---- orders 3 and 5
 
-module _ (x : Solver) (ks vs ts : List ℕ) (z : Session) (t : Term) (P : Poses loose x ks vs ts z t) (out₀ : List ℕ) (to : ℕ) where
+module _ (x : Solver) (ks vs ts : List ℕ) (z : Session) (t : Term) (P : Poses x ks vs ts z t) (out₀ : List ℕ) (to : ℕ) where
   abbrev L : Represents x (take (x .top) ks) (take (x .top) vs) ts z
   L = P .behind .represents
 
@@ -79,10 +79,10 @@ module _ (x : Solver) (ks vs ts : List ℕ) (z : Session) (t : Term) (P : Poses 
 
   defer-answer : outcome [] ≡ deferred .answer
   unfolding answerOf
-  defer-answer = sym (answer-of lim loose z (orders.defer t) _ (defer-step lim z t knows (P .few)))
+  defer-answer = sym (answer-of lim z (orders.defer t) _ (defer-step lim z t knows (P .few)))
 
   defer-session : deferred .session ≡ deferring z (resolved (z .solver) t)
-  defer-session = session-of lim loose z (orders.defer t) _ (defer-step lim z t knows (P .few))
+  defer-session = session-of lim z (orders.defer t) _ (defer-step lim z t knows (P .few))
 
   -- it does not fit
   pub defer-over : (out : List ℕ) (r : ℕ) → Framed (outcome []) out₀ to out r → length out₀ < r
@@ -102,24 +102,24 @@ module _ (x : Solver) (ks vs ts : List ℕ) (z : Session) (t : Term) (P : Poses 
   unfolding answerOf
   resolving-does out r f =
       let e = resolving-step lim z t knows (P .few) in
-      does-same L (solve lim z (orders.resolving t)) out₀ to out r (session-of lim loose z (orders.resolving t) _ e) (subst (λ (b : Answer). Framed b out₀ to out r) (sym (answer-of lim loose z (orders.resolving t) _ e)) f)
+      does-same L (solve lim z (orders.resolving t)) out₀ to out r (session-of lim z (orders.resolving t) _ e) (subst (λ (b : Answer). Framed b out₀ to out r) (sym (answer-of lim z (orders.resolving t) _ e)) f)
 
--- ---- order 4
+-- ---- orders 4 and 22
 
-module _ (x : Solver) (ks vs ts : List ℕ) (n : Notion) (z : Session) (q : ℕ) (t u : Term) (P : PosesPair n x ks vs ts z q t u) where
+module _ (x : Solver) (ks vs ts : List ℕ) (d : Bool) (z : Session) (q : ℕ) (t u : Term) (P : PosesPair x ks vs ts z q t u) where
   module _ (k : ℕ) (out₀ : List ℕ) (to : ℕ) (inside : to ≤ length out₀) where
     abbrev done : Step
-    done = solveBy (limitsOf x) n z (orders.pair k t u)
+    done = solve (limitsOf x) z (orders.pair d k t u)
 
-    posed : order (limitsOf x) n z (orders.pair k t u) ≡ posing (limitsOf x) n z (size t + size u) (solving.constrain n k (z .solver) t u)
-    posed = pair-step (limitsOf x) n z k t u (within-known z t (P .within-left)) (within-known z u (P .within-right)) (P .few)
+    posed : order (limitsOf x) z (orders.pair d k t u) ≡ posing (limitsOf x) z (size t + size u) (solving.constrain (notion d) k (z .solver) t u)
+    posed = pair-step (limitsOf x) d z k t u (within-known z t (P .within-left)) (within-known z u (P .within-right)) (P .few)
 
-    pair-answer : done .answer ≡ outcome (verdictOf (solving.constrain n k (z .solver) t u) ∷ [])
+    pair-answer : done .answer ≡ outcome (verdictOf (solving.constrain (notion d) k (z .solver) t u) ∷ [])
     unfolding answerOf
-    pair-answer = answer-of (limitsOf x) n z (orders.pair k t u) _ posed
+    pair-answer = answer-of (limitsOf x) z (orders.pair d k t u) _ posed
 
     pair-size : length (framed (done .answer)) ≡ 3
-    pair-size = ap (λ (a : Answer). length (framed a)) pair-answer ∙ ap length (one-frame (verdictOf (solving.constrain n k (z .solver) t u)))
+    pair-size = ap (λ (a : Answer). length (framed a)) pair-answer ∙ ap length (one-frame (verdictOf (solving.constrain (notion d) k (z .solver) t u)))
 
     pub pair-not : length out₀ - to < 3 → Zero (drop (pendingFrom x) ts) → DoesPair (lent x ks vs ts) x ts z done (outputAt out₀ to) (outputAt out₀ (length out₀ + 1))
     pair-not h b =
@@ -134,11 +134,11 @@ module _ (x : Solver) (ks vs ts : List ℕ) (n : Notion) (z : Session) (q : ℕ)
           nodes = refl;
         }
 
-    pub pair-done : (us : List ℕ) (s : Solved) → Posed n x ks vs ts us z (size t + size u) (solving.constrain n k (z .solver) t u) s
+    pub pair-done : (us : List ℕ) (s : Solved) → Posed x ks vs ts us z (size t + size u) (solving.constrain (notion d) k (z .solver) t u) s
         → (out : List ℕ) (r a : ℕ) → 3 ≤ length out₀ - to → a ≡ verdictNumber (s .verdict) → Framed (outcome (a ∷ [])) out₀ to out r
         → DoesPair (lent x ks vs ts) (s .solver) us z done (outputAt out₀ to) (outputAt out r)
     pair-done us s C out r a h e f =
-        let after = session-of (limitsOf x) n z (orders.pair k t u) _ posed in
+        let after = session-of (limitsOf x) z (orders.pair d k t u) _ posed in
         let held : Represents (s .solver) (take (s .solver .top) ks) (take (s .solver .top) vs) us (done .session)
         = subst (λ (j : Session). Represents (s .solver) (take (s .solver .top) ks) (take (s .solver .top) vs) us j) (sym after) (C .represents) in
         record {
@@ -148,7 +148,7 @@ module _ (x : Solver) (ks vs ts : List ℕ) (n : Notion) (z : Session) (q : ℕ)
               (subst (λ (l : List ℕ). Represents (s .solver) (take (s .solver .top) ks) l us (done .session))
               (ap (λ (j : ℕ). take j vs) (C .tokens i ∙ sym (P .behind .pairs)) ∙ take-length vs) held);
           quiet = λ i. (C .counters i, C .words i);
-          same = λ i j. quiet-pair (limitsOf x) n z k t u (sym (held .revision) ∙ i ∙ P .behind .represents .revision);
+          same = λ i j. quiet-pair (limitsOf x) z d k t u (sym (held .revision) ∙ i ∙ P .behind .represents .revision);
           long = λ i. absurd (omega (arith, pair-size));
           blank = C .blank;
           variables = C .variables;

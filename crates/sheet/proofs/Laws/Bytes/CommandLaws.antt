@@ -1,4 +1,4 @@
--- An order given as its bytes does what it tells the session, or leaves it; and what it tells is as the Rust is given it.
+-- An order given as its bytes does what it tells the session, or leaves it; and the terms of what it tells are formed.
 use mathlib.Core.Path.{_≡_, refl, sym, ap, subst, _∙_}
 use mathlib.Core.Bool.{Bool, true, false}
 use mathlib.Core.List.{List, [], _∷_}
@@ -9,12 +9,10 @@ use lib.Dec.{ltb}
 use lib.ListN.{length}
 use Rattle.solver.specs.Terms.Parser.{Result, got, refused, bind, pick, byte}
 use Rattle.solver.proofs.Terms.Shortest.{Octets}
-use Rattle.solver.specs.Shapes.{loose}
 use Rattle.solver.specs.Session.{Limits, Session, issued}
 use Rattle.solver.specs.Orders as solver
 use Rattle.solver.specs.Orders.{Command, Reply, order, run}
 use Rattle.solver.specs.Demand3 as theirs
-use Rattle.solver.specs.Rust.{AsRead, AllRead}
 use Rattle.sheet.specs.Fields as fields
 use Rattle.sheet.specs.Fields.{Field, last}
 use Rattle.sheet.specs.OrderTable.{Answer, Act, tells, answers, Row, sessionOrders, rowIn, layout, knownBy, known, commandBy, commandOf, Read, kindedOrder, readBy}
@@ -27,7 +25,7 @@ use Rattle.sheet.specs.Words.OrderGiven.{FitsLayout}
 use Rattle.sheet.proofs.Laws.Reading.FieldLaws.{never, parts-of, same-value, fields-found}
 use Rattle.sheet.proofs.Laws.Reading.FitLaws.{fields-fit}
 use Rattle.sheet.proofs.Laws.Reading.OrderTableLaws.{session-listed, session-other}
-use Rattle.sheet.proofs.Laws.Answering.SessionRowLaws.{MadeBy, session-made}
+use Rattle.sheet.proofs.Laws.Answering.SessionRowLaws.{FormedCommand, MadeBy, session-made}
 
 pub octets-of : (s : List ℕ) → ByteString s → Octets s
 unfolding ByteString Octets
@@ -122,22 +120,22 @@ module _ (lim : Limits) where
   leaves-order s b = does-leaves s (command s b) (orderOf lim s b) (does-order s b)
 
   -- THE SESSION AFTER A LIST OF ORDERS IS THE ONE AFTER WHAT THEY TELL IT.
-  pub session-commands : (s : Session) (bs : List (List ℕ)) → sessionAfter lim s bs ≡ run lim loose s (commands lim s bs)
+  pub session-commands : (s : Session) (bs : List (List ℕ)) → sessionAfter lim s bs ≡ run lim s (commands lim s bs)
   unfolding sessionAfter commands run
   session-commands s [] = refl
   session-commands s (b ∷ bs) =
       let y = leaves lim s (command s b) in
       ap (λ (z : Session). sessionAfter lim z bs) (leaves-order s b) ∙ session-commands y bs ∙ go (command s b) (commands lim y bs)
     where
-      go : (c : Option Command) (cs : List Command) → run lim loose (leaves lim s c) cs ≡ run lim loose s (prefixed c cs)
+      go : (c : Option Command) (cs : List Command) → run lim (leaves lim s c) cs ≡ run lim s (prefixed c cs)
       go none cs = refl
       go (some c) cs = refl
 
--- ---- what it tells is as the Rust is given it
+-- ---- the terms of what it tells are formed
 
 abbrev Fine : Option Command → Type 0
 Fine none = Unit {0}
-Fine (some c) = AsRead c
+Fine (some c) = FormedCommand c
 
 fine : (s : Session) (b : List ℕ) → ByteString b → Fine (command s b)
 unfolding commandOf known
@@ -156,13 +154,20 @@ fine s b o = go (readBy sessionOrders b (issued s)) refl
         (fields-found b (octets-of b o) (known k (issued s)) (layout k) (x .1 .at) (r .fields) (x .1 .next) f .formed)
     go (refused c) e = tt
 
-pub all-read : (lim : Limits) (s : Session) (bs : List (List ℕ)) → ByteStrings bs → AllRead (commands lim s bs)
+pub command-formed : (s : Session) (b : List ℕ) → ByteString b → (c : Command) → command s b ≡ some c → FormedCommand c
+command-formed s b o c e = subst (λ (x : Option Command). Fine x) e (fine s b o)
+
+abbrev pub AllFormed : List Command → Type 0
+AllFormed [] = Unit {0}
+AllFormed (c ∷ cs) = FormedCommand c × AllFormed cs
+
+pub all-formed : (lim : Limits) (s : Session) (bs : List (List ℕ)) → ByteStrings bs → AllFormed (commands lim s bs)
 unfolding commands ByteStrings
-all-read lim s [] o = tt
-all-read lim s (b ∷ bs) o =
+all-formed lim s [] o = tt
+all-formed lim s (b ∷ bs) o =
     let y = leaves lim s (command s b) in
-    go (command s b) (commands lim y bs) (fine s b (o .0)) (all-read lim y bs (o .1))
+    go (command s b) (commands lim y bs) (fine s b (o .0)) (all-formed lim y bs (o .1))
   where
-    go : (c : Option Command) (cs : List Command) → Fine c → AllRead cs → AllRead (prefixed c cs)
+    go : (c : Option Command) (cs : List Command) → Fine c → AllFormed cs → AllFormed (prefixed c cs)
     go none cs f a = a
     go (some c) cs f a = (f, a)

@@ -13,7 +13,7 @@ use Rattle.solver.specs.Session.{Limits, Session, fresh}
 use Rattle.solver.specs.Demand3.{beginning}
 use Rattle.sheet.specs.Sheet.{Run, orderOf, framed, ends, answering, part, nextOrder, answered, runFrom, runOf}
 use Rattle.sheet.specs.OrdersInTurn.{sessionAfter, partThen, ordersFrom, answeredOrders, answersTo}
-use Rattle.sheet.specs.Demand3.{ByteString, ByteStrings, historyOf, Premises, Demand3OfBytes}
+use Rattle.sheet.specs.Demand3.{ByteString, ByteStrings, historyOf, Premises, Demand3OfBytes, OnlyPosedBy}
 use Rattle.sheet.proofs.Laws.Bytes.Demand3Bytes.{history-session, demand-3-bytes}
 
 -- ---- the parts of a sheet are bytes
@@ -94,10 +94,10 @@ pub run-follows : (lim : Limits) (s : List ℕ) (space : ℕ)
 run-follows lim s space = let f = follows lim s (suc (length s)) fresh 0 space in (f .session, f .answers, f .many)
 
 -- DEMAND 3 of a run: of the orders that it answered, and of the session that it left.
-pub demand-3-run : (lim : Limits) (s : List ℕ) → ByteString s → (space : ℕ) → Premises lim (answeredOrders lim s space)
-    → Demand3OfBytes lim (answeredOrders lim s space)
+pub demand-3-run : (lim : Limits) (strict : Bool) (s : List ℕ) → ByteString s → (space : ℕ) → OnlyPosedBy lim strict (answeredOrders lim s space) → Premises lim (answeredOrders lim s space)
+    → Demand3OfBytes lim strict (answeredOrders lim s space)
     × (historyOf lim beginning (answeredOrders lim s space) .session ≡ runOf lim s space .session)
-demand-3-run lim s o space p = (
-  demand-3-bytes lim (answeredOrders lim s space) (orders-bytes s o (runOf lim s space .orders) 0) p,
+demand-3-run lim strict s o space y p = (
+  demand-3-bytes lim strict (answeredOrders lim s space) (orders-bytes s o (runOf lim s space .orders) 0) y p,
   history-session lim beginning (answeredOrders lim s space) ∙ sym (run-follows lim s space .0),
 )

@@ -17,7 +17,6 @@ use Rattle.solver.specs.Terms.Formed.{Formed}
 use Rattle.solver.specs.Terms.Reading as reading
 use Rattle.solver.specs.Terms.Questions.{meets}
 use Rattle.solver.proofs.Terms.RoundTrip.{round-trip}
-use Rattle.solver.specs.Shapes.{loose}
 use Rattle.solver.specs.Constrain.{resolved}
 use Rattle.solver.specs.Session.{Limits, Session, issued, fresh}
 use Rattle.solver.specs.Orders as solver
@@ -36,11 +35,10 @@ use Rattle.sheet.proofs.Laws.Bytes.Demand3Run.{run-follows}
 module _ (lim : Limits) where
   -- AFTER EVERY LIST OF ORDERS the session is in order (the revision "is the number of bound variables", no variable leads to itself) and within its limits.
   pub in-order-bytes : (bs : List (List ℕ)) → Invariant (sessionAfter lim fresh bs)
-  unfolding loose
-  in-order-bytes bs = subst (λ (s : Session). Invariant s) (sym (session-commands lim fresh bs)) (in-order lim loose refl (commands lim fresh bs))
+  in-order-bytes bs = subst (λ (s : Session). Invariant s) (sym (session-commands lim fresh bs)) (in-order lim (commands lim fresh bs))
 
   pub fits-bytes : (bs : List (List ℕ)) → WithinLimits lim (sessionAfter lim fresh bs)
-  fits-bytes bs = subst (λ (s : Session). WithinLimits lim s) (sym (session-commands lim fresh bs)) (fits lim loose (commands lim fresh bs))
+  fits-bytes bs = subst (λ (s : Session). WithinLimits lim s) (sym (session-commands lim fresh bs)) (fits lim (commands lim fresh bs))
 
   -- and so after a run
   pub in-order-run : (s : List ℕ) (space : ℕ) → Invariant (runOf lim s space .session)

@@ -11,9 +11,9 @@ use lib.Dec.{eqb}
 use Rattle.solver.specs.Terms.Term.{Term, size}
 use Rattle.solver.proofs.Terms.Bools.{never-true, or-true, or-right}
 use Rattle.solver.specs.Families.{Request}
-use Rattle.solver.specs.Shapes.{loose}
 use Rattle.solver.specs.Session.{Limits, VariablePlace, Session, at, gap, find, fresh}
 use Rattle.solver.specs.Orders as solver
+use Rattle.solver.specs.Shapes.{notion}
 use Rattle.solver.specs.Constrain.{constrain}
 use Rattle.solver.specs.Orders.{Command, Reply, order, unless, posing, verdictOf, variableAt, numberAt, holeAt, full, _gives_}
 use Rattle.solver.specs.Demand3 as theirs
@@ -65,18 +65,19 @@ module _ (lim : Limits) (n : ℕ) where
   unless-mute s false b x e = refl
 
   record IsPair (c : Command) : Type 0 where
+    strict : Bool
     checks : ℕ
     left : Term
     right : Term
-    is : c ≡ solver.pair checks left right
+    is : c ≡ solver.pair strict checks left right
 
-  says-pair : (s : Session) (c : Command) → says n (order lim loose s c .reply) ≡ true → IsPair c
+  says-pair : (s : Session) (c : Command) → says n (order lim s c .reply) ≡ true → IsPair c
   unfolding order says
   says-pair s (solver.variable i j) h = never-true (sym (variable-mute s (at i j) (find (at i j) (s .places)) (full lim s)) ∙ h)
   says-pair s (solver.number i r) h = never-true (sym (number-mute s (at i 1) r (find (at i 1) (s .places)) (full lim s)) ∙ h)
   says-pair s (solver.hole i) h = never-true (sym (hole-mute s (gap i) (find (gap i) (s .places)) (full lim s)) ∙ h)
   says-pair s (solver.defer t) h = never-true (sym (unless-mute s (solver.known s t) (solver.crowded lim s (size t)) _ refl) ∙ h)
-  says-pair s (solver.pair k t u) h = record { checks = k; left = t; right = u; is = refl }
+  says-pair s (solver.pair d k t u) h = record { strict = d; checks = k; left = t; right = u; is = refl }
   says-pair s (solver.resolving t) h = never-true (sym (unless-mute s (solver.known s t) (solver.crowded lim s (size t)) _ refl) ∙ h)
   says-pair s solver.numbers h = never-true h
   says-pair s solver.nevers h = never-true h
@@ -86,7 +87,7 @@ module _ (lim : Limits) (n : ℕ) where
   -- ---- one order
 
   -- an order that tells a command is answered as the solver replies
-  replied : (s : Session) (b : List ℕ) (c : Command) → command s b ≡ some c → orderOf lim s b .answer ≡ answerOf (order lim loose s c .reply)
+  replied : (s : Session) (b : List ℕ) (c : Command) → command s b ≡ some c → orderOf lim s b .answer ≡ answerOf (order lim s c .reply)
   replied s b c e = ap (λ (x : Step). x .answer) (subst (λ (o : Option Command). StepBy lim s o (orderOf lim s b)) e (does-order lim s b))
 
   verdict-says : (s y : Session) (a b : Bool) (v : ℕ) → answerOf (unless lim s a b (y gives solver.verdict v) .reply) ≡ outcome (n ∷ []) → says n (unless lim s a b (y gives solver.verdict v) .reply) ≡ true
@@ -95,33 +96,34 @@ module _ (lim : Limits) (n : ℕ) where
   verdict-says s y true false v e = let m : n ≡ v = cc in eq-eqb n v m
   verdict-says s y false b v e = let z : _≡_ {A = ℕ} 0 1 = cc in absurd (omega arith)
 
-  pub from-bytes : (s : Session) (b : List ℕ) (c : Command) → command s b ≡ some c → PairAnswered lim n s b → says n (order lim loose s c .reply) ≡ true
+  pub from-bytes : (s : Session) (b : List ℕ) (c : Command) → command s b ≡ some c → PairAnswered lim n s b → says n (order lim s c .reply) ≡ true
   unfolding order
   from-bytes s b c e p =
+      let d = p .strict in
       let k = p .checks in
       let t = p .left in
       let u = p .right in
-      let q : solver.pair k t u ≡ c = let f : some (solver.pair k t u) ≡ some c = sym (p .says) ∙ e in cc in
-      let x = posing lim loose s (size t + size u) (constrain loose k (s .solver) t u) in
+      let q : solver.pair d k t u ≡ c = let f : some (solver.pair d k t u) ≡ some c = sym (p .says) ∙ e in cc in
+      let x = posing lim s (size t + size u) (constrain (notion d) k (s .solver) t u) in
       rw (← q)
-      (verdict-says s (x .session) (solver.known s t && solver.known s u) (solver.crowded lim s (size t + size u)) (verdictOf (constrain loose k (s .solver) t u))
-      (sym (replied s b (solver.pair k t u) (p .says)) ∙ p .answer))
+      (verdict-says s (x .session) (solver.known s t && solver.known s u) (solver.crowded lim s (size t + size u)) (verdictOf (constrain (notion d) k (s .solver) t u))
+      (sym (replied s b (solver.pair d k t u) (p .says)) ∙ p .answer))
 
-  to-bytes : (s : Session) (b : List ℕ) (c : Command) → command s b ≡ some c → says n (order lim loose s c .reply) ≡ true → PairAnswered lim n s b
+  to-bytes : (s : Session) (b : List ℕ) (c : Command) → command s b ≡ some c → says n (order lim s c .reply) ≡ true → PairAnswered lim n s b
   unfolding answerOf
   to-bytes s b c e h =
       let p = says-pair s c h in
-      record { checks = p .checks; left = p .left; right = p .right; says = e ∙ ap some (p .is); answer = replied s b c e ∙ ap answerOf (said (order lim loose s c .reply) h) }
+      record { strict = p .strict; checks = p .checks; left = p .left; right = p .right; says = e ∙ ap some (p .is); answer = replied s b c e ∙ ap answerOf (said (order lim s c .reply) h) }
 
   -- ---- a list of orders
 
   -- a flag of a history that such replies raise
-  module _ (flag : History → Bool) (raised : (h : History) (c : Command) → flag (theirs.after lim loose h c) ≡ (flag h || says n (order lim loose (h .session) c .reply))) where
+  module _ (flag : History → Bool) (raised : (h : History) (c : Command) → flag (theirs.after lim h c) ≡ (flag h || says n (order lim (h .session) c .reply))) where
     abbrev Either : History → List (List ℕ) → Type 0
     Either h bs = (flag h ≡ true) ⊎ SomePairAnswered lim n (h .session) bs
 
     abbrev Same : History → List (List ℕ) → Type 0
-    Same h bs = (flag (history lim loose h (commands lim (h .session) bs)) ≡ true) ↔ Either h bs
+    Same h bs = (flag (history lim h (commands lim (h .session) bs)) ≡ true) ↔ Either h bs
 
     -- after an order that tells nothing, and after one that tells c
     mute : (h : History) (b : List ℕ) (bs : List (List ℕ)) → command (h .session) b ≡ none → Either h (b ∷ bs) ↔ Either h bs
@@ -131,18 +133,18 @@ module _ (lim : Limits) (n : ℕ) where
           λ x. elim x [
             | inl f ↦ inl f
             | inr y ↦ elim y [
-              | inl p ↦ let z : none ≡ some (solver.pair (p .checks) (p .left) (p .right)) = sym e ∙ p .says in none-some z
+              | inl p ↦ let z : none ≡ some (solver.pair (p .strict) (p .checks) (p .left) (p .right)) = sym e ∙ p .says in none-some z
               | inr r ↦ inr (subst (λ (w : Session). SomePairAnswered lim n w bs) s r)
             ]
           ],
           λ x. elim x [ inl f ↦ inl f | inr r ↦ inr (inr (subst (λ (w : Session). SomePairAnswered lim n w bs) (sym s) r)) ],
         )
 
-    told : (h : History) (b : List ℕ) (bs : List (List ℕ)) (c : Command) → command (h .session) b ≡ some c → Either h (b ∷ bs) ↔ Either (theirs.after lim loose h c) bs
+    told : (h : History) (b : List ℕ) (bs : List (List ℕ)) (c : Command) → command (h .session) b ≡ some c → Either h (b ∷ bs) ↔ Either (theirs.after lim h c) bs
     unfolding SomePairAnswered
     told h b bs c e =
-        let r = order lim loose (h .session) c .reply in
-        let s : orderOf lim (h .session) b .session ≡ order lim loose (h .session) c .session = leaves-order lim (h .session) b ∙ ap (leaves lim (h .session)) e in (
+        let r = order lim (h .session) c .reply in
+        let s : orderOf lim (h .session) b .session ≡ order lim (h .session) c .session = leaves-order lim (h .session) b ∙ ap (leaves lim (h .session)) e in (
           λ x. elim x [
             | inl f ↦ inl (raised h c ∙ or-true (flag h) (says n r) f)
             | inr y ↦ elim y [
@@ -164,10 +166,10 @@ module _ (lim : Limits) (n : ℕ) where
     pub flagged : (h : History) (bs : List (List ℕ)) → Same h bs
     unfolding history commands SomePairAnswered
     flagged h [] = (λ f. inl f, λ x. elim x [ inl f ↦ f | inr r ↦ absurd r ])
-    flagged h (b ∷ bs) = go (command (h .session) b) refl (flagged h bs) (λ c. flagged (theirs.after lim loose h c) bs)
+    flagged h (b ∷ bs) = go (command (h .session) b) refl (flagged h bs) (λ c. flagged (theirs.after lim h c) bs)
       where
-        go : (o : Option Command) → command (h .session) b ≡ o → Same h bs → ((c : Command) → Same (theirs.after lim loose h c) bs)
-            → (flag (history lim loose h (prefixed o (commands lim (leaves lim (h .session) o) bs))) ≡ true) ↔ Either h (b ∷ bs)
+        go : (o : Option Command) → command (h .session) b ≡ o → Same h bs → ((c : Command) → Same (theirs.after lim h c) bs)
+            → (flag (history lim h (prefixed o (commands lim (leaves lim (h .session) o) bs))) ≡ true) ↔ Either h (b ∷ bs)
         go none e x y = let m = mute h b bs e in (λ f. m .1 (x .0 f), λ z. x .1 (m .0 z))
         go (some c) e x y = let m = told h b bs c e in (λ f. m .1 (y c .0 f), λ z. y c .1 (m .0 z))
 

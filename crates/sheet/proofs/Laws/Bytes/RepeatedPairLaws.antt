@@ -7,7 +7,7 @@ use Prim.Native.Nat.{ℕ, zero, suc, _+_}
 use borrow.Author.Tests.{ne-eqb}
 use lib.ListN.{replicate}
 use Rattle.solver.specs.Terms.Term.{Term, size}
-use Rattle.solver.specs.Shapes.{loose}
+use Rattle.solver.specs.Shapes.{notion}
 use Rattle.solver.specs.Constrain as solving
 use Rattle.solver.specs.Theory.Solver.{Out}
 use Rattle.solver.specs.Session.{Limits, Session, fresh}
@@ -28,15 +28,15 @@ use Rattle.sheet.proofs.Laws.Bytes.PairsAnsweredLaws.{said, from-bytes}
 module _ (lim : Limits) where
   -- ---- an order 4
 
-  module _ (s : Session) (b : List ℕ) (k : ℕ) (t u : Term) (e : command s b ≡ some (solver.pair k t u)) where
-    solved : orderOf lim s b ≡ solve lim s (solver.pair k t u)
+  module _ (s : Session) (b : List ℕ) (d : Bool) (k : ℕ) (t u : Term) (e : command s b ≡ some (solver.pair d k t u)) where
+    solved : orderOf lim s b ≡ solve lim s (solver.pair d k t u)
     solved = subst (λ (o : Option Command). StepBy lim s o (orderOf lim s b)) e (does-order lim s b)
 
     -- where it makes no binding, however it ends, it leaves the session as it was
     pub quiet-order : orderOf lim s b .session .solver .revision ≡ s .solver .revision → orderOf lim s b .session ≡ s
     quiet-order h =
         ap (λ (x : Step). x .session) solved
-        ∙ quiet-pair lim loose s k t u (sym (ap (λ (x : Step). x .session .solver .revision) solved) ∙ h)
+        ∙ quiet-pair lim s d k t u (sym (ap (λ (x : Step). x .session .solver .revision) solved) ∙ h)
 
     -- where it makes one it keeps the nodes of both terms
     pub bound-order : (orderOf lim s b .session .solver .revision ≡ s .solver .revision → ⊥) → orderOf lim s b .session .kept ≡ s .kept + (size t + size u)
@@ -46,10 +46,10 @@ module _ (lim : Limits) where
         ∙ go (known s t && known s u) (crowded lim s (size t + size u)) (λ i. h (ap (λ (x : Step). x .session .solver .revision) solved ∙ i))
       where
         g : Out solving.Solver
-        g = solving.constrain loose k (s .solver) t u
+        g = solving.constrain (notion d) k (s .solver) t u
 
-        go : (a c : Bool) → (unless lim s a c (posing lim loose s (size t + size u) g) .session .solver .revision ≡ s .solver .revision → ⊥)
-            → unless lim s a c (posing lim loose s (size t + size u) g) .session .kept ≡ s .kept + (size t + size u)
+        go : (a c : Bool) → (unless lim s a c (posing lim s (size t + size u) g) .session .solver .revision ≡ s .solver .revision → ⊥)
+            → unless lim s a c (posing lim s (size t + size u) g) .session .kept ≡ s .kept + (size t + size u)
         go true true n = absurd (n refl)
         go true false n = ap (λ (b : Bool). s .kept + keeps (not b) (size t + size u)) (ne-eqb (solverOf g .revision) (s .solver .revision) n)
         go false c n = absurd (n refl)
@@ -83,17 +83,17 @@ module _ (lim : Limits) where
       u = p .first .right
 
       abbrev told : Command
-      told = solver.pair (p .first .checks) t u
+      told = solver.pair (p .first .strict) (p .first .checks) t u
 
       -- the same sessions by what the orders told
       abbrev start : Session
-      start = run lim loose fresh (commands lim fresh bs)
+      start = run lim fresh (commands lim fresh bs)
 
       abbrev between : List Command
       between = commands lim (orderOf lim before b .session) cs
 
       abbrev end : Session
-      end = run lim loose (order lim loose start told .session) between
+      end = run lim (order lim start told .session) between
 
       start-is : before ≡ start
       start-is = session-commands lim fresh bs
@@ -101,30 +101,30 @@ module _ (lim : Limits) where
       end-is : later ≡ end
       end-is =
           session-commands lim (orderOf lim before b .session) cs
-          ∙ ap (λ (z : Session). run lim loose z between)
-          (ap (λ (x : Step). x .session) (solved before b (p .first .checks) t u (p .first .says)) ∙ ap (λ (z : Session). order lim loose z told .session) start-is)
+          ∙ ap (λ (z : Session). run lim z between)
+          (ap (λ (x : Step). x .session) (solved before b (p .first .strict) (p .first .checks) t u (p .first .says)) ∙ ap (λ (z : Session). order lim z told .session) start-is)
 
-      compatible : order lim loose start told .reply ≡ solver.verdict 1
+      compatible : order lim start told .reply ≡ solver.verdict 1
       compatible =
-          subst (λ (z : Session). order lim loose z told .reply ≡ solver.verdict 1) start-is
-          (said lim 1 (order lim loose before told .reply) (from-bytes lim 1 before b told (p .first .says) (p .first)))
+          subst (λ (z : Session). order lim z told .reply ≡ solver.verdict 1) start-is
+          (said lim 1 (order lim before told .reply) (from-bytes lim 1 before b told (p .first .says) (p .first)))
 
       room : crowded lim end (size t + size u) ≡ false
       room = subst (λ (z : Session). crowded lim z (size t + size u) ≡ false) end-is (uncrowded lim later (size t + size u) (p .space))
 
-      once : (replies lim loose end (solver.pair (p .checks) t u ∷ []) ≡ solver.verdict 1 ∷ []) × (run lim loose end (solver.pair (p .checks) t u ∷ []) ≡ end)
-      once = runs-through lim (commands lim fresh bs) t u (p .left) (p .right) (p .first .checks) compatible between (p .checks) (p .enough) room 1
+      once : (replies lim end (solver.pair (p .first .strict) (p .checks) t u ∷ []) ≡ solver.verdict 1 ∷ []) × (run lim end (solver.pair (p .first .strict) (p .checks) t u ∷ []) ≡ end)
+      once = runs-through lim (p .first .strict) (commands lim fresh bs) t u (p .left) (p .right) (p .first .checks) compatible between (p .checks) (p .enough) room 1
 
-      stays : order lim loose later (solver.pair (p .checks) t u) .session ≡ later
+      stays : order lim later (solver.pair (p .first .strict) (p .checks) t u) .session ≡ later
       unfolding run
-      stays = subst (λ (z : Session). order lim loose z (solver.pair (p .checks) t u) .session ≡ z) (sym end-is) (once .1)
+      stays = subst (λ (z : Session). order lim z (solver.pair (p .first .strict) (p .checks) t u) .session ≡ z) (sym end-is) (once .1)
 
-      replied : order lim loose later (solver.pair (p .checks) t u) .reply ≡ solver.verdict 1
+      replied : order lim later (solver.pair (p .first .strict) (p .checks) t u) .reply ≡ solver.verdict 1
       unfolding replies
-      replied = subst (λ (z : Session). order lim loose z (solver.pair (p .checks) t u) .reply ≡ solver.verdict 1) (sym end-is) (let e = once .0 in cc)
+      replied = subst (λ (z : Session). order lim z (solver.pair (p .first .strict) (p .checks) t u) .reply ≡ solver.verdict 1) (sym end-is) (let e = once .0 in cc)
 
-      again : orderOf lim later c ≡ solve lim later (solver.pair (p .checks) t u)
-      again = solved later c (p .checks) t u (p .says)
+      again : orderOf lim later c ≡ solve lim later (solver.pair (p .first .strict) (p .checks) t u)
+      again = solved later c (p .first .strict) (p .checks) t u (p .says)
 
       says-so : orderOf lim later c .answer ≡ outcome (1 ∷ [])
       unfolding answerOf

@@ -7,7 +7,7 @@ use mathlib.Core.Option.{Option, none, some}
 use Prim.Native.Nat.{ℕ, _+_, _%_, _/_, _≤_, _<_}
 use native.Mathlib.Decide.{ℕ-discrete}
 use native.Mathlib.Omega.{arith}
-use borrow.Author.Tests.{eqb-true, ne-eqb, leb-true}
+use borrow.Author.Tests.{eqb-true, eq-eqb, ne-eqb, leb-true}
 use lib.Dec.{eqb, leb}
 use lib.ListN.{length}
 use Rattle.solver.specs.Terms.Result.{pick}
@@ -274,9 +274,9 @@ operation-row k r b e h = sym (h ∙ ap isOperation e)
 pub operation-act : (k : ℕ) (r : Row) → rowIn table k ≡ some r → true ≡ isOperation (rowIn table k) → (f : List Field → Answer) × (r .act ≡ answers f)
 operation-act k r e h = act-answers (r .act) (operation-row k r true e h)
 
--- the orders of the session but 3, 4 and 5
+-- the orders of the session but 3, 4, 5 and 22
 abbrev pub Plainly : ℕ → Type 0
-Plainly k = (false ≡ isOperation (rowIn table k)) × ((k ≡ 3) → ⊥) × ((k ≡ 4) → ⊥) × ((k ≡ 5) → ⊥)
+Plainly k = (false ≡ isOperation (rowIn table k)) × ((k ≡ 3) → ⊥) × ((eqb k 4 || eqb k 22) ≡ false) × ((k ≡ 5) → ⊥)
 
 -- ---- which orders there are
 
@@ -352,28 +352,38 @@ operations-among k r e h =
     let t = every-row (λ (r : Row). not (answersBy (r .act)) || elem (r .number) (numbersOf operations)) refl k r e in
     rw (row-number table k r e) (elem-among (r .number) (numbersOf operations) (rw (operation-row k r true e h) at t))
 
+-- an order that poses no pair
+posesNone : (k : ℕ) → (eqb k 4 || eqb k 22) ≡ false → ((k ≡ 4) → ⊥) × ((k ≡ 22) → ⊥)
+posesNone k h = (λ e. never-true (sym h ∙ ap (λ (b : Bool). b || eqb k 22) (eq-eqb k 4 e)), λ e. never-true (sym h ∙ ap (λ (b : Bool). eqb k 4 || b) (eq-eqb k 22 e) ∙ or-yes (eqb k 4)))
+  where
+    or-yes : (b : Bool) → (b || true) ≡ true
+    or-yes true = refl
+    or-yes false = refl
+
 pub plain-among : (k : ℕ) (r : Row) → rowIn table k ≡ some r → Plainly k → Among plainOrders k
 unfolding table sessionOrders operations all elem
 plain-among k r e h =
-    let t = every-row (λ (r : Row). answersBy (r .act) || elem (r .number) (3 ∷ 4 ∷ 5 ∷ plainOrders)) refl k r e in
-    let x : Among (3 ∷ 4 ∷ 5 ∷ plainOrders) k = rw (row-number table k r e) (elem-among (r .number) (3 ∷ 4 ∷ 5 ∷ plainOrders) (rw (operation-row k r false e (h .0)) at t)) in
-    among-past 5 k plainOrders (h .3)
-    (among-past 4 k (5 ∷ plainOrders) (h .2) (among-past 3 k (4 ∷ 5 ∷ plainOrders) (h .1) x))
+    let t = every-row (λ (r : Row). answersBy (r .act) || elem (r .number) (3 ∷ 4 ∷ 5 ∷ 22 ∷ plainOrders)) refl k r e in
+    let n = posesNone k (h .2) in
+    let x : Among (3 ∷ 4 ∷ 5 ∷ 22 ∷ plainOrders) k = rw (row-number table k r e) (elem-among (r .number) (3 ∷ 4 ∷ 5 ∷ 22 ∷ plainOrders) (rw (operation-row k r false e (h .0)) at t)) in
+    among-past 22 k plainOrders (n .1)
+    (among-past 5 k (22 ∷ plainOrders) (h .3) (among-past 4 k (5 ∷ 22 ∷ plainOrders) (n .0) (among-past 3 k (4 ∷ 5 ∷ 22 ∷ plainOrders) (h .1) x)))
 
 -- they have numbers alone
 pub plain-act : (k : ℕ) (r : Row) → rowIn table k ≡ some r → Plainly k → (f : List Field → Command) × (r .act ≡ tells f) × (numeric (layout r) ≡ true)
 unfolding table sessionOrders operations all elem layout numeric isNumber sortNumber
 plain-act k r e h =
     let a = act-tells (r .act) (operation-row k r false e (h .0)) in
-    let t = every-row (λ (r : Row). answersBy (r .act) || (elem (r .number) (3 ∷ 4 ∷ 5 ∷ []) || numeric (layout r))) refl k r e in
+    let t = every-row (λ (r : Row). answersBy (r .act) || (elem (r .number) (3 ∷ 4 ∷ 5 ∷ 22 ∷ []) || numeric (layout r))) refl k r e in
     let u = rw (operation-row k r false e (h .0)) at t in
-    (a .0, a .1, go (elem (r .number) (3 ∷ 4 ∷ 5 ∷ [])) refl u)
+    (a .0, a .1, go (elem (r .number) (3 ∷ 4 ∷ 5 ∷ 22 ∷ [])) refl u)
   where
-    go : (b : Bool) → elem (r .number) (3 ∷ 4 ∷ 5 ∷ []) ≡ b → (b || numeric (layout r)) ≡ true → numeric (layout r) ≡ true
+    go : (b : Bool) → elem (r .number) (3 ∷ 4 ∷ 5 ∷ 22 ∷ []) ≡ b → (b || numeric (layout r)) ≡ true → numeric (layout r) ≡ true
     go false n u = u
     go true n u =
-        let x : Among (3 ∷ 4 ∷ 5 ∷ []) k = rw (row-number table k r e) (elem-among (r .number) (3 ∷ 4 ∷ 5 ∷ []) n) in
-        absurd (h .3 (third 3 4 5 k x (h .1) (h .2)))
+        let x : Among (3 ∷ 4 ∷ 5 ∷ 22 ∷ []) k = rw (row-number table k r e) (elem-among (r .number) (3 ∷ 4 ∷ 5 ∷ 22 ∷ []) n) in
+        let p = posesNone k (h .2) in
+        absurd (p .1 (third 4 5 22 k (among-past 3 k (4 ∷ 5 ∷ 22 ∷ []) (h .1) x) (p .0) (h .3)))
 
 -- ---- the orders of the session
 

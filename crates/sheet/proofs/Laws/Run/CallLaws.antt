@@ -15,7 +15,6 @@ use Rattle.solver.specs.Terms.Result.{Result, got, refused, pick}
 use Rattle.solver.specs.Terms.Number.{number}
 use Rattle.solver.specs.Terms.Shape as shape
 use Rattle.solver.specs.Terms.Shape.{ceiling}
-use Rattle.solver.specs.Shapes.{loose}
 use Rattle.solver.specs.Session.{Limits, Session, fresh}
 use Rattle.solver.specs.Orders.{Command, order}
 use Rattle.solver.proofs.Laws.Rust.RustLaws.{refused-stays}
@@ -49,7 +48,7 @@ module _ (lim : Limits) where
       go none x d e = d
       go (some k) x d e =
           ap (λ (y : Step). y .session) d
-          ∙ refused-stays lim s k (sym (accepted-of (order lim loose s k .reply)) ∙ ap (λ (y : Step). accepted (y .answer)) (sym d) ∙ ap accepted e)
+          ∙ refused-stays lim s k (sym (accepted-of (order lim s k .reply)) ∙ ap (λ (y : Step). accepted (y .answer)) (sym d) ∙ ap accepted e)
 
   -- one that says nothing to the solver
   pub others-leave : (s : Session) (b : List ℕ) → command s b ≡ none → orderOf lim s b .session ≡ s

@@ -10,11 +10,12 @@ use lib.ListN.{length, take, drop, length-append}
 use lib.Seq.{sets, sets-eq, length-sets, take-at, drop-append-add, drop-drop}
 use Rattle.solver.specs.Terms.Result.{Result, got, refused, pick}
 use Rattle.solver.specs.declared.Solver.{Solver}
-use Rattle.solver.specs.Shapes.{loose}
 use Rattle.solver.specs.Session.{Limits, Session, issued, fresh}
 use Rattle.solver.specs.Orders as solver
 use Rattle.solver.specs.Orders.{Command, order, run}
-use Rattle.solver.specs.Words.SessionRepresentation.{Reachable, limitsOf}
+use Rattle.solver.specs.Invariant.{InOrder}
+use Rattle.solver.proofs.Laws.Definition.InOrderLaws.{fresh-in-order, run-in-order}
+use Rattle.solver.specs.Words.SessionRepresentation.{limitsOf}
 use Rattle.sheet.specs.Fields.{Field}
 use Rattle.sheet.specs.OrderTable.{Act, tells, answers, Read}
 use Rattle.sheet.specs.Sheet.{readOrder, Run, perform, step, stepRead, orderOf, framed, ends, answering, nextOrder, answered, runFrom, runOf}
@@ -29,26 +30,26 @@ use Rattle.sheet.proofs.Laws.Run.SplittingLaws.{Ahead, next-ahead}
 
 pub record Past (lim : Limits) (z : Session) : Type 0 where
   pub commands : List Command
-  pub reached : run lim loose fresh commands ≡ z
+  pub reached : run lim fresh commands ≡ z
 
 module _ (lim : Limits) where
   pub past-fresh : Past lim fresh
   unfolding run
   past-fresh = record { commands = []; reached = refl }
 
-  pub past-arises : (z : Session) → Past lim z → Reachable lim loose z
-  past-arises z p = record { orders = p .commands; solver = ap (λ (s : Session). s .solver) (p .reached); count = ap issued (p .reached) }
+  pub past-in-order : (z : Session) → Past lim z → InOrder (issued z) (z .solver)
+  past-in-order z p = subst (λ (s : Session). InOrder (issued s) (s .solver)) (p .reached) (run-in-order lim fresh (p .commands) fresh-in-order)
 
-  run-more : (z : Session) (cs : List Command) (c : Command) → run lim loose z (cs ++ c ∷ []) ≡ order lim loose (run lim loose z cs) c .session
+  run-more : (z : Session) (cs : List Command) (c : Command) → run lim z (cs ++ c ∷ []) ≡ order lim (run lim z cs) c .session
   unfolding run
   run-more z [] c = refl
-  run-more z (x ∷ cs) c = run-more (order lim loose z x .session) cs c
+  run-more z (x ∷ cs) c = run-more (order lim z x .session) cs c
 
-  past-solve : (z : Session) → Past lim z → (c : Command) → Past lim (order lim loose z c .session)
+  past-solve : (z : Session) → Past lim z → (c : Command) → Past lim (order lim z c .session)
   past-solve z p c =
       record {
         commands = p .commands ++ c ∷ [];
-        reached = run-more fresh (p .commands) c ∙ ap (λ (s : Session). order lim loose s c .session) (p .reached);
+        reached = run-more fresh (p .commands) c ∙ ap (λ (s : Session). order lim s c .session) (p .reached);
       }
 
   past-act : (z : Session) → Past lim z → (fs : List Field) (a : Act) → Past lim (perform lim z fs a .session)
@@ -159,7 +160,7 @@ going-start {s = s} {out₀ = out₀} {x = x} L R =
 -- as the next order finds the areas
 pub going-ready : {lim : Limits} {half : ℕ} {s out₀ : List ℕ} {x : Solver} {m : Areas} {u : Output} {at n : ℕ} → Going lim half s out₀ x m u at n → AreasReady x half m
 going-ready {x = x} g =
-    record { roomy = g .roomy; session = g .session; reachable = past-arises (limitsOf x) (g .session) (g .past); inAreas = g .inAreas }
+    record { roomy = g .roomy; session = g .session; ordered = past-in-order (limitsOf x) (g .session) (g .past); inAreas = g .inAreas }
 
 -- ---- how it ends
 
@@ -202,7 +203,7 @@ module _ {lim : Limits} {half : ℕ} {s out₀ : List ℕ} {x : Solver} {m : Are
   -- what came of the order in the session that there is
   module _ (y : Solver) (m′ : Areas) (v : Output) (b₀ : List ℕ) (next : ℕ) (f : Serves x y half b₀ m m′ u v) where
     served : Served y half m′ (g .session) b₀ u v x
-    served = f (g .session) (past-arises (limitsOf x) (g .session) (g .past)) (g .inAreas)
+    served = f (g .session) (past-in-order (limitsOf x) (g .session) (g .past)) (g .inAreas)
 
     a₀ : List ℕ
     a₀ = framed (orderOf (limitsOf x) (g .session) b₀ .answer)

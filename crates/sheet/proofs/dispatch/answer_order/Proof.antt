@@ -4,6 +4,7 @@ use native.Mathlib.Omega.{arith}
 use denote.Ref.{now}
 use Rattle.solver.specs.declared.Standing.{Standing}
 use Rattle.sheet.proofs.Laws.Answering.DispatchLaws.{crowded}
+use Rattle.sheet.proofs.Laws.Answering.SessionOrderLaws.{pair-kind}
 use borrow.Author.Needs.{needs}
 use Rattle.sheet.proofs.dispatch.answer_order.Statement.{statement}
 use Rattle.sheet.proofs.dispatch.answer_order.Tie as tie
@@ -61,12 +62,15 @@ returns-3 c =
     let a = c .before .before .before .before .before .before .before .before .before .before .before .before .before .before .before .before .before .before .before .before .before .args in
     λ a₀ b₀ T. c .before .before .before .before .defer-order .ensures (now (a .s)) a₀ b₀ (now (a .d)) (now (a .rules)) T
 
+poses-pair-requires : tie.Need-poses-pair-requires
+poses-pair-requires c κs = search needs
+
 pair-order-requires : tie.Need-pair-order-requires
 pair-order-requires c κs =
-    let a = c .before .before .before .before .before .before .before .before .before .before .before .before .before .before .before .before .before .before .args in
-    let p = c .before .before .before .before .before .before .before .before .before .before .before .before .before .before .before .before .before .before .pre in
-    let n = ap (λ (x : Standing). x .nodes) (c .before .before .before .before .before .before .before .before .before .before .standing .ensures) in
-    ((now (a .s), p .0 .0, p .0 .1, now (a .rules), p .0 .2), (omega (arith, n, c .before .before .before .before .before .before .before .if1 .left), (c .before .before .before .if4 .taken, p .1 .1)))
+    let a = c .before .before .before .before .before .before .before .before .before .before .before .before .before .before .before .before .before .before .before .args in
+    let p = c .before .before .before .before .before .before .before .before .before .before .before .before .before .before .before .before .before .before .before .pre in
+    let n = ap (λ (x : Standing). x .nodes) (c .before .before .before .before .before .before .before .before .before .before .before .standing .ensures) in
+    ((now (a .s), p .0 .0, p .0 .1, now (a .rules), p .0 .2), (omega (arith, n, c .before .before .before .before .before .before .before .before .if1 .left), (pair-kind _ (sym (c .before .before .before .before .poses-pair .ensures) ∙ c .before .before .before .if4 .taken), p .1 .1)))
 
 same-length-7 : tie.Need-same-length-7
 same-length-7 c = search needs
@@ -79,15 +83,15 @@ same-length-9 c = search needs
 
 returns-4 : tie.Need-returns-4
 returns-4 c =
-    let a = c .before .before .before .before .before .before .before .before .before .before .before .before .before .before .before .before .before .before .before .before .before .before .before .before .before .args in
+    let a = c .before .before .before .before .before .before .before .before .before .before .before .before .before .before .before .before .before .before .before .before .before .before .before .before .before .before .args in
     λ a₀ b₀ T. c .before .before .before .before .before .before .pair-order .ensures (now (a .s)) a₀ b₀ (now (a .rules)) T
 
 resolve-order-requires : tie.Need-resolve-order-requires
 resolve-order-requires c κs =
-    let a = c .before .before .before .before .before .before .before .before .before .before .before .before .before .before .before .before .before .before .before .args in
-    let p = c .before .before .before .before .before .before .before .before .before .before .before .before .before .before .before .before .before .before .before .pre in
-    let n = ap (λ (x : Standing). x .nodes) (c .before .before .before .before .before .before .before .before .before .before .before .standing .ensures) in
-    ((now (a .s), p .0 .0, p .0 .1, now (a .rules), p .0 .2), (omega (arith, n, c .before .before .before .before .before .before .before .before .if1 .left), (c .before .before .before .if5 .taken, p .1 .1)))
+    let a = c .before .before .before .before .before .before .before .before .before .before .before .before .before .before .before .before .before .before .before .before .args in
+    let p = c .before .before .before .before .before .before .before .before .before .before .before .before .before .before .before .before .before .before .before .before .pre in
+    let n = ap (λ (x : Standing). x .nodes) (c .before .before .before .before .before .before .before .before .before .before .before .before .standing .ensures) in
+    ((now (a .s), p .0 .0, p .0 .1, now (a .rules), p .0 .2), (omega (arith, n, c .before .before .before .before .before .before .before .before .before .if1 .left), (c .before .before .before .if5 .taken, p .1 .1)))
 
 same-length-10 : tie.Need-same-length-10
 same-length-10 c = search needs
@@ -100,15 +104,15 @@ same-length-12 c = search needs
 
 returns-5 : tie.Need-returns-5
 returns-5 c =
-    let a = c .before .before .before .before .before .before .before .before .before .before .before .before .before .before .before .before .before .before .before .before .before .before .before .before .args in
+    let a = c .before .before .before .before .before .before .before .before .before .before .before .before .before .before .before .before .before .before .before .before .before .before .before .before .before .args in
     λ a₀ b₀ T. c .before .before .before .before .resolve-order .ensures (now (a .s)) a₀ b₀ (now (a .rules)) T
 
 plain-order-requires : tie.Need-plain-order-requires
 plain-order-requires c κs =
-    let a = c .before .before .before .before .before .before .before .before .before .before .before .before .before .before .before .before .before .before .before .args in
-    let p = c .before .before .before .before .before .before .before .before .before .before .before .before .before .before .before .before .before .before .before .pre in
-    let n = ap (λ (x : Standing). x .nodes) (c .before .before .before .before .before .before .before .before .before .before .before .standing .ensures) in
-    ((now (a .s), p .0 .0, p .0 .1, now (a .rules), p .0 .2), (omega (arith, n, c .before .before .before .before .before .before .before .before .if1 .left), ((sym (c .before .before .before .before .before .before .if2 .left) ∙ c .before .before .before .before .before .before .before .is-operation .ensures, c .before .before .before .before .before .if3 .left, c .before .before .before .before .if4 .left, c .before .before .before .if5 .left), p .1 .1)))
+    let a = c .before .before .before .before .before .before .before .before .before .before .before .before .before .before .before .before .before .before .before .before .args in
+    let p = c .before .before .before .before .before .before .before .before .before .before .before .before .before .before .before .before .before .before .before .before .pre in
+    let n = ap (λ (x : Standing). x .nodes) (c .before .before .before .before .before .before .before .before .before .before .before .before .standing .ensures) in
+    ((now (a .s), p .0 .0, p .0 .1, now (a .rules), p .0 .2), (omega (arith, n, c .before .before .before .before .before .before .before .before .before .if1 .left), ((sym (c .before .before .before .before .before .before .before .if2 .left) ∙ c .before .before .before .before .before .before .before .before .is-operation .ensures, c .before .before .before .before .before .before .if3 .left, (sym (c .before .before .before .before .before .poses-pair .ensures) ∙ c .before .before .before .before .if4 .left), c .before .before .before .if5 .left), p .1 .1)))
 
 same-length-13 : tie.Need-same-length-13
 same-length-13 c = search needs
@@ -121,7 +125,7 @@ same-length-15 c = search needs
 
 returns-6 : tie.Need-returns-6
 returns-6 c =
-    let a = c .before .before .before .before .before .before .before .before .before .before .before .before .before .before .before .before .before .before .before .before .before .before .before .before .before .before .args in
+    let a = c .before .before .before .before .before .before .before .before .before .before .before .before .before .before .before .before .before .before .before .before .before .before .before .before .before .before .before .args in
     λ a₀ b₀ T. c .before .before .before .before .before .before .plain-order .ensures (now (a .s)) a₀ b₀ (now (a .rules)) T
 
 pub answer-order-spec : {M : Type 1} → statement M
@@ -142,6 +146,7 @@ answer-order-spec =
     same-length-5
     same-length-6
     returns-3
+    poses-pair-requires
     pair-order-requires
     same-length-7
     same-length-8

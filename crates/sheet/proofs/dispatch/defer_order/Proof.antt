@@ -41,7 +41,7 @@ defer-term-requires c κs =
     let h = p .1 .1 .0 in
     let t = defer-term T W h in
     let R = T .ready in
-    ((R .session, t .0, poses-tail (a .half) (now (a .c)) _ _ _ _ _ (poses T W (t .0) (t .1) (defer-known T W h) (R .session) (R .reachable) (R .inAreas))), p .1 .1 .1)
+    ((R .session, t .0, poses-tail (a .half) (now (a .c)) _ _ _ _ _ (poses T W (t .0) (t .1) (defer-known T W h) (R .session) (R .ordered) (R .inAreas))), p .1 .1 .1)
 
 same-length : tie.Need-same-length
 same-length c = search needs

@@ -14,10 +14,11 @@ use Rattle.sheet.proofs.dispatch.pair_order.Tie as tie
 
 cast-k : tie.Need-cast-k
 cast-k c =
+    let a = c .before .before .before .before .before .before .args in
     let p = c .before .before .before .before .before .before .pre in
     let T = p .0 .4 in
-    let q = pair-terms T (p .1 .0) (p .1 .1 .0) in
-    let k = pair-k T (p .1 .0) (p .1 .1 .0) (q .0) (q .1) (q .2) (q .3) in
+    let q = pair-terms T (p .1 .0) (a .strict) (p .1 .1 .0) in
+    let k = pair-k T (p .1 .0) (a .strict) (p .1 .1 .0) (q .0) (q .1) (q .2) (q .3) in
     omega (arith, k .0, k .1)
 
 slice-aggregate-constrain-order : tie.Need-slice-aggregate-constrain-order
@@ -47,10 +48,10 @@ constrain-order-requires c κs =
     let T = p .0 .4 in
     let W = p .1 .0 in
     let h = p .1 .1 .0 in
-    let q = pair-terms T W h in
+    let q = pair-terms T W (a .strict) h in
     let R = T .ready in (
-      (R .session, q .1, q .2, pair-tail (a .half) (now (a .c)) _ _ _ _ _ _ _ (poses-pair T W h (q .0) (q .1) (q .2) (q .3) (R .session) (R .reachable) (R .inAreas)), pair-nodes T W h (q .0) (q .1) (q .2) (q .3) (R .session) (R .inAreas)),
-      ((scratch-tail (a .half) (now (a .c)) _ _ _ (pair-scratch T W h (q .0) (q .1) (q .2) (q .3)), blank-tail (a .half) (now (a .c)) (7 * a .x .variables) (pair-blank T W h (q .0) (q .1) (q .2) (q .3))), p .1 .1 .1),
+      (R .session, q .1, q .2, pair-tail (a .half) (now (a .c)) _ _ _ _ _ _ _ (poses-pair T W (a .strict) h (q .0) (q .1) (q .2) (q .3) (R .session) (R .ordered) (R .inAreas)), pair-nodes T W (a .strict) h (q .0) (q .1) (q .2) (q .3) (R .session) (R .inAreas)),
+      ((scratch-tail (a .half) (now (a .c)) _ _ _ (pair-scratch T W (a .strict) h (q .0) (q .1) (q .2) (q .3)), blank-tail (a .half) (now (a .c)) (7 * a .x .variables) (pair-blank T W (a .strict) h (q .0) (q .1) (q .2) (q .3))), p .1 .1 .1),
     )
 
 same-length : tie.Need-same-length
@@ -72,9 +73,9 @@ returns c =
     let w = c .before .before .before .before .before .before .constrain-order .last .1 .1 .1 .0 in
     λ s a₀ b₀ ws T.
     let i = taken-half T in
-    let q = pair-terms T W h in
-    let k = pair-k T W h (q .0) (q .1) (q .2) (q .3) in
-    pair-answered T W h (q .0) (q .1) (q .2) (q .3) _ _ _ _ _ (take-put (a .half) (length (now (a .c)) - a .half) (now (a .c)) w i) (e .0) (a .o .first .value) (k .0)
+    let q = pair-terms T W (a .strict) h in
+    let k = pair-k T W (a .strict) h (q .0) (q .1) (q .2) (q .3) in
+    pair-answered T W (a .strict) h (q .0) (q .1) (q .2) (q .3) _ _ _ _ _ (take-put (a .half) (length (now (a .c)) - a .half) (now (a .c)) w i) (e .0) (a .o .first .value) (k .0)
     (λ z P n. pair-does-tail (a .half) (now (a .c)) (a .x) _ _ _ z _ _ _ _ _ w i (e .1 z (q .1) (q .2) (pair-tail (a .half) (now (a .c)) _ _ _ _ _ _ _ P) n))
 
 pub pair-order-spec : {M : Type 1} → statement M

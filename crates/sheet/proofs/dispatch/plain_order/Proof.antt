@@ -52,7 +52,7 @@ termless-order-requires c κs =
     let p = c .before .before .before .before .before .before .before .before .before .before .before .before .pre in
     let T = p .0 .4 in
     let R = T .ready in
-    ((R .session, R .reachable, lent-tail (a .half) (now (a .c)) _ _ _ _ (plain-lent T (p .1 .0) (p .1 .1 .0) (R .session) (R .inAreas))), ((plain-code T (p .1 .0) (p .1 .1 .0), ready-frames R, plain-kind T (p .1 .0) (p .1 .1 .0)), p .1 .1 .1))
+    ((R .session, R .ordered, lent-tail (a .half) (now (a .c)) _ _ _ _ (plain-lent T (p .1 .0) (p .1 .1 .0) (R .session) (R .inAreas))), ((plain-code T (p .1 .0) (p .1 .1 .0), ready-frames R, plain-kind T (p .1 .0) (p .1 .1 .0)), p .1 .1 .1))
 
 same-length : tie.Need-same-length
 same-length c = search needs

@@ -38,7 +38,7 @@ resolve-term-requires c κs =
     let h = p .1 .1 .0 in
     let t = resolve-term T W h in
     let R = T .ready in
-    ((R .session, t .0, poses-tail (a .half) (now (a .c)) _ _ _ _ _ (poses T W (t .0) (t .1) (resolve-known T W h) (R .session) (R .reachable) (R .inAreas))), (ready-frames R, p .1 .1 .1))
+    ((R .session, t .0, poses-tail (a .half) (now (a .c)) _ _ _ _ _ (poses T W (t .0) (t .1) (resolve-known T W h) (R .session) (R .ordered) (R .inAreas))), (ready-frames R, p .1 .1 .1))
 
 same-length : tie.Need-same-length
 same-length c = search needs

@@ -93,8 +93,12 @@ unfolding table sessionOrders operations rowIn layout packed sortNumber
 returns-21 c = rw (c .match .keys21) refl
 
 returns-22 : tie.Need-returns-22
+unfolding table sessionOrders operations rowIn layout packed sortNumber
+returns-22 c = rw (c .match .keys22) refl
+
+returns-23 : tie.Need-returns-23
 unfolding table sessionOrders operations
-returns-22 c = sym (ap rowWords (unlisted _ (c .match .rest)))
+returns-23 c = sym (ap rowWords (unlisted _ (c .match .rest)))
 
 pub row-of-spec : {M : Type 1} → statement M
 row-of-spec =
@@ -121,4 +125,5 @@ row-of-spec =
     returns-19
     returns-20
     returns-21
-    returns-22)
+    returns-22
+    returns-23)

@@ -1,7 +1,6 @@
 -- `answer_variable`: by the order.
 use mathlib.Core.Path.{refl}
 use Rattle.solver.specs.Terms.Term.{var}
-use Rattle.solver.specs.Shapes.{loose}
 use borrow.Author.Needs.{needs}
 use Rattle.sheet.proofs.plain_orders.answer_variable.Statement.{statement}
 use Rattle.sheet.proofs.plain_orders.answer_variable.Tie as tie
@@ -19,7 +18,7 @@ resolved-requires : tie.Need-resolved-requires
 resolved-requires c κs =
     let a = c .before .before .before .before .before .before .before .before .before .args in
     let p = c .before .before .before .before .before .before .before .before .before .pre in
-    ((loose, p .0 .0, var (a .v), (p .0 .1, refl, p .1 .0 .0)), (p .1 .0 .1, p .1 .1))
+    ((p .0 .0, var (a .v), (p .0 .1, refl, p .1 .0 .0)), (p .1 .0 .1, p .1 .1))
 
 enum-told-3 : tie.Need-enum-told-3
 enum-told-3 c = search needs
@@ -28,7 +27,7 @@ resolved-requires-2 : tie.Need-resolved-requires-2
 resolved-requires-2 c κs =
     let a = c .before .before .before .before .before .before .before .before .before .args in
     let p = c .before .before .before .before .before .before .before .before .before .pre in
-    ((loose, p .0 .0, var (a .v), (p .0 .1, refl, p .1 .0 .0)), (p .1 .0 .1, p .1 .1))
+    ((p .0 .0, var (a .v), (p .0 .1, refl, p .1 .0 .0)), (p .1 .0 .1, p .1 .1))
 
 same-length : tie.Need-same-length
 same-length c = search needs
@@ -48,7 +47,7 @@ returns-2 c =
     let a = c .before .before .before .before .before .before .before .before .before .before .before .before .before .before .args in
     let p = c .before .before .before .before .before .before .before .before .before .before .before .before .before .before .pre in
     let e = c .before .before .before .before .resolved .ensures in
-    rw (c .before .before .before .before .before .before .before .enum-told2 .given .1) (e .0, λ z L. e .1 loose z (var (a .v)) (L, refl, p .1 .0 .0))
+    rw (c .before .before .before .before .before .before .before .enum-told2 .given .1) (e .0, λ z L. e .1 z (var (a .v)) (L, refl, p .1 .0 .0))
 
 same-length-4 : tie.Need-same-length-4
 same-length-4 c = search needs
@@ -61,7 +60,7 @@ returns-3 c =
     let a = c .before .before .before .before .before .before .before .before .before .before .before .before .before .before .args in
     let p = c .before .before .before .before .before .before .before .before .before .before .before .before .before .before .pre in
     let e = c .before .before .before .before .resolved2 .ensures in
-    rw (c .before .before .before .before .before .before .before .enum-told3 .given .1) (e .0, λ z L. e .1 loose z (var (a .v)) (L, refl, p .1 .0 .0))
+    rw (c .before .before .before .before .before .before .before .enum-told3 .given .1) (e .0, λ z L. e .1 z (var (a .v)) (L, refl, p .1 .0 .0))
 
 pub answer-variable-spec : {M : Type 1} → statement M
 answer-variable-spec =

@@ -1,6 +1,5 @@
 -- `issue_variable`: by the order.
 use mathlib.Core.Path.{subst}
-use Rattle.solver.specs.Shapes.{loose}
 use Rattle.solver.proofs.Laws.Table.MethodLaws.{lent-shaped}
 use Rattle.sheet.specs.declared.VariableOrder.{VariableOrder}
 use Rattle.sheet.specs.Words.SessionOrdersContract.{FallbackListed}
@@ -37,7 +36,7 @@ same-length c = search needs
 returns : tie.Need-returns
 returns c =
     let e = c .before .before .before .variable .ensures in
-    rw (c .before .before .before .before .before .before .wanted .given .1) (λ ks vs z L. e .0 ks vs z loose L .represents, e .1)
+    rw (c .before .before .before .before .before .before .wanted .given .1) (λ ks vs z L. e .0 ks vs z L .represents, e .1)
 
 same-length-2 : tie.Need-same-length-2
 same-length-2 c = search needs
@@ -45,7 +44,7 @@ same-length-2 c = search needs
 returns-2 : tie.Need-returns-2
 returns-2 c =
     let e = c .before .before .before .numeric-variable .ensures in
-    rw (c .before .before .before .before .before .before .wanted2 .given .1) (λ ks vs z L. e .0 ks vs z loose L .represents, e .1)
+    rw (c .before .before .before .before .before .before .wanted2 .given .1) (λ ks vs z L. e .0 ks vs z L .represents, e .1)
 
 same-length-3 : tie.Need-same-length-3
 same-length-3 c = search needs
@@ -53,7 +52,7 @@ same-length-3 c = search needs
 returns-3 : tie.Need-returns-3
 returns-3 c =
     let e = c .before .before .before .annotation-hole .ensures in
-    rw (c .before .before .before .before .before .before .wanted3 .given .1) (λ ks vs z L. e .0 ks vs z loose L .represents, e .1)
+    rw (c .before .before .before .before .before .before .wanted3 .given .1) (λ ks vs z L. e .0 ks vs z L .represents, e .1)
 
 pub issue-variable-spec : {M : Type 1} → statement M
 issue-variable-spec =

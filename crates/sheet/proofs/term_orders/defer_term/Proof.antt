@@ -1,7 +1,6 @@
 -- `defer_term`: answered and then deferred, or not answered.
 use denote.Ref.{now}
 use native.Mathlib.Omega.{arith}
-use Rattle.solver.specs.Shapes.{loose}
 use Rattle.sheet.proofs.Laws.Answering.TermOrderLaws.{defer-over, defer-done}
 use borrow.Author.Needs.{needs}
 use Rattle.sheet.proofs.term_orders.defer_term.Statement.{statement}
@@ -20,7 +19,7 @@ returns c =
 
 defer-never-requires : tie.Need-defer-never-requires
 defer-never-requires c κs =
-    let p = c .before .before .before .before .before .before .before .before .before .before .pre .0 in (loose, p .0, p .1, p .2)
+    let p = c .before .before .before .before .before .before .before .before .before .before .pre .0 in (p .0, p .1, p .2)
 
 same-length-2 : tie.Need-same-length-2
 same-length-2 c = search needs
@@ -32,7 +31,7 @@ returns-2 : tie.Need-returns-2
 returns-2 c =
     let a = c .before .before .before .before .before .before .before .before .before .before .before .before .before .args in
     let e = c .before .before .defer-never .ensures in
-    λ z t P. defer-done (a .x) _ _ _ z t P (now (a .out)) (a .to) _ _ _ _ (c .before .before .before .before .before .before .before .write-empty-answer .ensures) (omega (arith, c .before .before .before .before .if1 .left, c .before .before .before .before .before .before .before .write-empty-answer .kept .0)) (e .0 loose z t P) (e .1)
+    λ z t P. defer-done (a .x) _ _ _ z t P (now (a .out)) (a .to) _ _ _ _ (c .before .before .before .before .before .before .before .write-empty-answer .ensures) (omega (arith, c .before .before .before .before .if1 .left, c .before .before .before .before .before .before .before .write-empty-answer .kept .0)) (e .0 z t P) (e .1)
 
 pub defer-term-spec : {M : Type 1} → statement M
 defer-term-spec =

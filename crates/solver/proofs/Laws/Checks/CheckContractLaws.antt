@@ -26,10 +26,11 @@ use Rattle.solver.specs.Words.SessionRepresentation.{begins, bindingWord
 use Rattle.solver.specs.Words.MethodContract.{Shaped, Beside, is-some, boundTo, atMost}
 use Rattle.solver.specs.Words.PendingContract.{PushedPairs, Twins}
 use Rattle.solver.specs.Words.ConstrainContract.{Within, pendingFrom, Waiting, Scratch, Facing, Nodes, Due, After}
+use Rattle.solver.proofs.Laws.Definition.InOrderLaws.{in-order-ordered}
 use Rattle.solver.proofs.Laws.Definition.SolverInvariantLaws.{Ordered, ordered-steady, ordered-topped, ordered-revision, top-within, top-low, top-free}
 use Rattle.solver.proofs.Laws.Definition.CheckStepLaws.{turn-same, turn-left, turn-right, turn-nodes, bind-recovers, bind-refused, bind-occurs, bind-bound, part-recovers, part-projects, part-pushes, part-unlike}
 use Rattle.solver.proofs.Laws.Equality.LinkLaws.{as-var}
-use Rattle.solver.proofs.Laws.Checks.CheckStepWords.{between-ordered, after-passed, after-failed, after-bound, after-pushed}
+use Rattle.solver.proofs.Laws.Checks.CheckStepWords.{after-passed, after-failed, after-bound, after-pushed}
 
 -- ---- places
 
@@ -218,16 +219,16 @@ module _ (n : Notion) (x : Solver) (ks vs : List ℕ) (i j count : ℕ) (t u : T
 
 -- ---- a pair is due
 
-module _ (n : Notion) (codes-count : n 4 ≡ false) (x : Solver) (ks vs ts : List ℕ) (s : Session) (i j count : ℕ) (t u : Term) (D : Due n x ks vs ts s i j count t u) where
+module _ (n : Notion) (x : Solver) (ks vs ts : List ℕ) (s : Session) (i j count : ℕ) (t u : Term) (D : Due x ks vs ts s i j count t u) where
   abbrev z : solving.Solver
   z = s .solver
 
-  order : Ordered n codes-count (issued s) z
-  order = between-ordered n codes-count (issued s) (D .between)
+  order : Ordered (issued s) z
+  order = in-order-ordered (issued s) z (D .ordered)
 
   -- the counter is the revision
   due-steady : Steady (z .revision) (z .bindings)
-  due-steady = ordered-steady n codes-count (issued s) z order
+  due-steady = ordered-steady (issued s) z order
 
   pub due-places : (i < length ks) × (j < length ks)
   due-places = (held-place ks vs i t (D .left .held), held-place ks vs j u (D .right .held))
@@ -239,7 +240,7 @@ module _ (n : Notion) (codes-count : n 4 ≡ false) (x : Solver) (ks vs ts : Lis
   due-same r f =
       let e = D .represents .revision in
       sym (f t u (z .bindings) (D .left .held) (D .right .held) (D .represents .bindings) (subst (λ (k : ℕ). Steady k (z .bindings)) (sym e) due-steady)
-      (subst (λ (k : ℕ). Topped k (z .bindings)) (sym e) (ordered-topped n codes-count (issued s) z order))
+      (subst (λ (k : ℕ). Topped k (z .bindings)) (sym e) (ordered-topped (issued s) z order))
       ∙ ap (λ (k : ℕ). same (resolve k (z .bindings) t) (resolve k (z .bindings) u)) e)
 
   -- what `shallow_resolve` finds
@@ -262,10 +263,10 @@ module _ (n : Notion) (codes-count : n 4 ≡ false) (x : Solver) (ks vs ts : Lis
         record {
           represents = D .represents;
           steady = due-steady;
-          counted = ordered-revision n codes-count (issued s) z order;
-          free = top-free n codes-count (issued s) z order t (getD vs a 0) p;
-          low = top-low n codes-count (issued s) z order t (getD vs a 0) (D .left .within) p;
-          known = record { held = at-b; within = top-within n codes-count (issued s) z order u (D .right .within) };
+          counted = ordered-revision (issued s) z order;
+          free = top-free (issued s) z order t (getD vs a 0) p;
+          low = top-low (issued s) z order t (getD vs a 0) (D .left .within) p;
+          known = record { held = at-b; within = top-within (issued s) z order u (D .right .within) };
         }
 
     pub due-right : getD ks b 0 ≡ 1 → Facing x ks vs ts s (getD vs b 0) a (top z t)
@@ -274,10 +275,10 @@ module _ (n : Notion) (codes-count : n 4 ≡ false) (x : Solver) (ks vs ts : Lis
         record {
           represents = D .represents;
           steady = due-steady;
-          counted = ordered-revision n codes-count (issued s) z order;
-          free = top-free n codes-count (issued s) z order u (getD vs b 0) p;
-          low = top-low n codes-count (issued s) z order u (getD vs b 0) (D .right .within) p;
-          known = record { held = at-a; within = top-within n codes-count (issued s) z order t (D .left .within) };
+          counted = ordered-revision (issued s) z order;
+          free = top-free (issued s) z order u (getD vs b 0) p;
+          low = top-low (issued s) z order u (getD vs b 0) (D .right .within) p;
+          known = record { held = at-a; within = top-within (issued s) z order t (D .left .within) };
         }
 
     -- a head that is no variable is a node's

@@ -10,23 +10,14 @@ use lib.Seq.{getD-drop}
 use Rattle.terms.specs.Term.{Term}
 use Rattle.solver.specs.declared.Solver.{Solver}
 use Rattle.solver.specs.declared.Checked.{Checked}
-use Rattle.solver.specs.Shapes.{Notion, pushed}
+use Rattle.solver.specs.Shapes.{pushed}
 use Rattle.solver.specs.Constrain as solving
 use Rattle.solver.specs.Constrain.{Pair, passed, failed, zipOn}
 use Rattle.solver.specs.Session.{Session, withSolver}
 use Rattle.solver.specs.Words.SessionRepresentation.{Represents}
 use Rattle.solver.specs.Words.PendingContract.{HeldPairs, PushedPairs}
-use Rattle.solver.specs.Words.ConstrainContract.{Between, begun, checked, pendingFrom, Waiting, Nodes, After}
-use Rattle.solver.proofs.Laws.Definition.SolverInvariantLaws.{Ordered}
-use Rattle.solver.proofs.Laws.Definition.CheckStepLaws.{turn-ordered}
-use Rattle.solver.proofs.Laws.Definition.DefaultLaws.{arises-ordered}
+use Rattle.solver.specs.Words.ConstrainContract.{pendingFrom, Waiting, Nodes, After}
 use Rattle.solver.proofs.Laws.Table.RepresentationLaws.{lent-scratch}
-
--- ---- the solver between two checks is in order
-
-pub between-ordered : (n : Notion) (codes-count : n 4 ≡ false) (N : ℕ) {z : solving.Solver} → Between n N z → Ordered n codes-count N z
-between-ordered n c N (begun lim s a e) = subst (λ (M : ℕ). Ordered n c M (s .solver)) e (arises-ordered n c lim s a)
-between-ordered n c N (checked z t u ps b wt wu wps) = turn-ordered n c N z (between-ordered n c N b) t u ps wt wu wps
 
 -- ---- lists
 

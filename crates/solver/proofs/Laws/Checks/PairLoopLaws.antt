@@ -18,20 +18,22 @@ use Rattle.solver.specs.declared.Verdict.the-variants.{Incompatible, Com
 use Rattle.solver.specs.Shapes.{Notion, pushed}
 use Rattle.solver.specs.Constrain as solving
 use Rattle.solver.specs.Constrain.{Pair, checkPair, top, follow, followed, settles, constrain}
-use Rattle.solver.specs.Session.{Limits, Session, issued, withSolver}
+use Rattle.solver.specs.Session.{Session, issued, withSolver}
+use Rattle.solver.specs.Invariant.{InOrder}
 use Rattle.solver.specs.Orders.{solverOf, verdictOf}
 use Rattle.solver.specs.Words.Bindings.{HeldBinding, HeldBindings}
 use Rattle.solver.specs.Words.Worklist.{Zero}
-use Rattle.solver.specs.Words.SessionRepresentation.{Reachable, Represents, bindingWords, verdictNumber}
+use Rattle.solver.specs.Words.SessionRepresentation.{Represents, bindingWords, verdictNumber}
 use Rattle.solver.specs.Words.PendingContract.{HeldPairs, PushedPairs, Laid, Taken, Wiped}
-use Rattle.solver.specs.Words.ConstrainContract.{AllWithin, Between, begun, checked, pendingFrom, Waiting, Known, Scratch, Due, Stays, Pushes, ChangesCounted, After, Constrained}
+use Rattle.solver.specs.Words.ConstrainContract.{AllWithin, pendingFrom, Waiting, Known, Scratch, Due, Stays, Pushes, ChangesCounted, After, Constrained}
+use Rattle.solver.proofs.Laws.Definition.InOrderLaws.{in-order-ordered, ordered-in-order}
 use Rattle.solver.proofs.Laws.Definition.SolverInvariantLaws.{ordered-steady}
-use Rattle.solver.proofs.Laws.Definition.CheckStepLaws.{turn-within, turn-extends}
+use Rattle.solver.proofs.Laws.Definition.CheckStepLaws.{turn-ordered, turn-within, turn-extends}
 use Rattle.solver.proofs.Laws.Table.RepresentationLaws.{lent-scratch}
 use Rattle.solver.proofs.Laws.Table.ColumnLaws.{rest-zero, rest-read}
 use Rattle.solver.proofs.Laws.Checks.PendingLaws.{Stacked}
 use Rattle.solver.proofs.Laws.Checks.StackLaws.{Stack, stack-start, stack-empty, stack-some, stack-agree, stack-extends, stack-pop, stack-room, stack-push, stack-bound}
-use Rattle.solver.proofs.Laws.Checks.CheckStepWords.{between-ordered, same-start}
+use Rattle.solver.proofs.Laws.Checks.CheckStepWords.{same-start}
 
 -- the top of a held term is held somewhere
 pub follow-held : (ks vs bs : List ℕ) (b : ℕ → Option Term) → HeldBindings ks vs bs b → (n i : ℕ) (t : Term) → Held ks vs i t → (a : ℕ) × Held ks vs a (follow n b t)
@@ -50,7 +52,7 @@ pub record Going (n : Notion) (x₀ : Solver) (ks vs : List ℕ) (s : Session) (
   pub solver : solving.Solver
   pub pairs : List Pair
   pub represents : Represents x ks vs ts (withSolver s solver)
-  pub between : Between n (issued s) solver
+  pub ordered : InOrder (issued s) solver
   pub within : AllWithin (issued s) pairs
   pub stack : Stack ks vs (solver .bindings) (drop (pendingFrom x₀) ts) count pairs
   pub blank : (i : ℕ) → pendingFrom x₀ + (count + count) ≤ i → getD ts i 0 ≡ 0
@@ -60,7 +62,7 @@ pub record Going (n : Notion) (x₀ : Solver) (ks vs : List ℕ) (s : Session) (
 
 -- ---- the start
 
-module _ (n : Notion) (x : Solver) (ks vs ts : List ℕ) (s : Session) (lim : Limits) (arises : Reachable lim n s) (lent : Represents x ks vs ts s) (zero-rest : Zero (drop (pendingFrom x) ts))
+module _ (n : Notion) (x : Solver) (ks vs ts : List ℕ) (s : Session) (ordered : InOrder (issued s) (s .solver)) (lent : Represents x ks vs ts s) (zero-rest : Zero (drop (pendingFrom x) ts))
     (p q : ℕ) (t u : Term) (left : Known ks vs s p t) (right : Known ks vs s q u) (us : List ℕ) (size : length us ≡ length ts) (count : ℕ) (laid : Laid (p ∷ []) (q ∷ []) (pendingFrom x) 0 ts us count) where
   -- the pair that `constrain` was given is the only one
   pub going-start : (k : ℕ) → Going n x ks vs s (constrain n k (s .solver) t u) x us k count true
@@ -68,7 +70,7 @@ module _ (n : Notion) (x : Solver) (ks vs ts : List ℕ) (s : Session) (lim : Li
     solver = s .solver;
     pairs = (t, u) ∷ [];
     represents = lent-scratch x ks vs ts us s lent (same-start base ts us (sym size) (λ i h. sym (laid .below i (omega arith)))) (omega (arith, lent .room));
-    between = begun lim s arises refl;
+    ordered = ordered;
     within = (left .within, right .within, tt);
     stack = subst (λ (c : ℕ). Stack ks vs (s .solver .bindings) (drop base us) c ((t, u) ∷ [])) (sym (laid .size))
         (stack-start ks vs (s .solver .bindings) (drop base us) t u
@@ -90,7 +92,7 @@ pub record Picked (n : Notion) (x₀ : Solver) (ks vs : List ℕ) (s : Session) 
   pub solver : solving.Solver
   pub pair : Pair
   pub rest : List Pair
-  pub due : Due n x ks vs us (withSolver s solver) i j count (pair .0) (pair .1)
+  pub due : Due x ks vs us (withSolver s solver) i j count (pair .0) (pair .1)
   pub waits : Waiting x ks vs us count rest
   pub within : AllWithin (issued s) (pair ∷ rest)
   pub stack : Stack ks vs (solver .bindings) (drop (pendingFrom x₀) ts) (suc count) (pair ∷ rest)
@@ -99,7 +101,7 @@ pub record Picked (n : Notion) (x₀ : Solver) (ks vs : List ℕ) (s : Session) 
   pub variables : x .variables ≡ x₀ .variables
   pub nodes : x .nodes ≡ x₀ .nodes
 
-module _ (n : Notion) (codes-count : n 4 ≡ false) (x₀ : Solver) (ks vs : List ℕ) (s : Session) (goal : Out solving.Solver) (x : Solver) (ts us : List ℕ) (left count : ℕ) (ok : Bool) (i j : ℕ)
+module _ (n : Notion) (x₀ : Solver) (ks vs : List ℕ) (s : Session) (goal : Out solving.Solver) (x : Solver) (ts us : List ℕ) (left count : ℕ) (ok : Bool) (i j : ℕ)
     (G : Going n x₀ ks vs s goal x ts (suc left) (suc count) ok) (size : length us ≡ length ts) (off : Taken (pendingFrom x₀) count ts us i j) where
   abbrev base : ℕ
   base = pendingFrom x₀
@@ -113,7 +115,7 @@ module _ (n : Notion) (codes-count : n 4 ≡ false) (x₀ : Solver) (ks vs : Lis
   taken-room p rest S k row e =
       let h = follow-held ks vs (bindingWords (x .variables) ts) (z .bindings) (G .represents .bindings) (z .revision) (getD (drop base ts) (count + count) 0) (p .0) (S .held .0) in
       let g : Held ks vs (h .0) (node k row) = subst (λ (t : Term). Held ks vs (h .0) t) e (h .1) in
-      let r = stack-room ks vs S (z .revision) (h .0) k row e g (z .revision) (ordered-steady n codes-count (issued s) z (between-ordered n codes-count (issued s) (G .between))) in
+      let r = stack-room ks vs S (z .revision) (h .0) k row e g (z .revision) (ordered-steady (issued s) z (in-order-ordered (issued s) z (G .ordered))) in
       omega (arith, G .represents .begun, G .represents .fits .nodes)
 
   taken-agrees : (m : ℕ) → m < count + count → getD (drop base us) m 0 ≡ getD (drop base ts) m 0
@@ -141,7 +143,7 @@ module _ (n : Notion) (codes-count : n 4 ≡ false) (x₀ : Solver) (ks vs : Lis
           represents = lent-scratch x ks vs ts us (withSolver s z) (G .represents)
               (ap (λ (m : ℕ). take (7 * m) ts) (G .variables) ∙ same-start base ts us (sym size) (λ m h. sym (off .below m (omega arith))) ∙ ap (λ (m : ℕ). take (7 * m) us) (sym (G .variables)))
               (omega (arith, G .represents .room));
-          between = G .between;
+          ordered = G .ordered;
           left = record { held = subst (λ (m : ℕ). Held ks vs m (p .0)) (sym (off .left)) (S .held .0); within = w .0 };
           right = record { held = subst (λ (m : ℕ). Held ks vs m (p .1)) (sym (off .right)) (S .held .1); within = w .1 };
           room = λ k row q. taken-room p rest S k row q;
@@ -191,13 +193,13 @@ module _ (n : Notion) (codes-count : n 4 ≡ false) (x₀ : Solver) (ks vs : Lis
   pub going-next : Going n x₀ ks vs s goal (r .solver) ws left (r .count) (ok && r .good)
   unfolding settles
   going-next =
-      let o = between-ordered n codes-count (issued s) (T .due .between) in
+      let o = in-order-ordered (issued s) (T .solver) (T .due .ordered) in
       let w = T .within in
       record {
         solver = came .state;
         pairs = came .todo;
         represents = A .represents;
-        between = checked (T .solver) (T .pair .0) (T .pair .1) (T .rest) (T .due .between) (w .0) (w .1) (w .2);
+        ordered = ordered-in-order (issued s) (came .state) (turn-ordered n codes-count (issued s) (T .solver) o (T .pair .0) (T .pair .1) (T .rest) (w .0) (w .1) (w .2));
         within = turn-within n codes-count (issued s) (T .solver) o (T .pair .0) (T .pair .1) (T .rest) (w .0) (w .1) (w .2);
         stack = stack-extends ks vs (λ v t e. turn-extends n codes-count (issued s) (T .solver) o (T .pair .0) (T .pair .1) (T .rest) v t e) (record {
           held = subst (λ (m : ℕ). HeldPairs ks vs (drop (7 * m) ws) (r .count) (came .todo)) (T .variables) (A .waiting .pairs);
@@ -308,18 +310,18 @@ module _ (n : Notion) (codes-count : n 4 ≡ false) (x₀ : Solver) (ks vs ts₀
   pub loop-room : pendingFrom x₀ + 2 * count ≤ length ts
   loop-room =
       let G = present in
-      let b = stack-bound ks vs (G .solver .revision) (ordered-steady n codes-count (issued (L .some .0)) (G .solver) (between-ordered n codes-count (issued (L .some .0)) (G .between))) (G .stack) in
+      let b = stack-bound ks vs (G .solver .revision) (ordered-steady (issued (L .some .0)) (G .solver) (in-order-ordered (issued (L .some .0)) (G .solver) (G .ordered))) (G .stack) in
       omega (arith, G .represents .begun, G .represents .fits .nodes, G .nodes, L .room .pairs)
 
   -- a pair is taken off
   module _ (us : List ℕ) (i j : ℕ) (more : left ≡ 0 → ⊥) (pending : 0 < count) (size : length us ≡ length ts) (off : Taken (pendingFrom x₀) (count - 1) ts us i j) where
     pick : (s : Session) (goal : Out solving.Solver) → Going n x₀ ks vs s goal x₀ ts₀ left₀ count₀ ok₀ → Picked n x₀ ks vs s goal x ts us (left - 1) (count - 1) ok i j
     pick s goal g =
-        going-picked n codes-count x₀ ks vs s goal x ts us (left - 1) (count - 1) ok i j
+        going-picked n x₀ ks vs s goal x ts us (left - 1) (count - 1) ok i j
         (subst (λ (c : ℕ). Going n x₀ ks vs s goal x ts (suc (left - 1)) c ok) (omega arith)
         (subst (λ (l : ℕ). Going n x₀ ks vs s goal x ts l count ok) (omega arith) (L .carries s goal g))) size off
 
-    pub loop-due : (s : Session) × (t u : Term) × Due n x ks vs us s i j (count - 1) t u
+    pub loop-due : (s : Session) × (t u : Term) × Due x ks vs us s i j (count - 1) t u
     loop-due = let T = pick (L .some .0) (L .some .1) (L .some .2) in (withSolver (L .some .0) (T .solver), T .pair .0, T .pair .1, T .due)
 
     pub loop-scratch : Scratch x ks us work
@@ -345,7 +347,7 @@ module _ (n : Notion) (codes-count : n 4 ≡ false) (x₀ : Solver) (ks vs ts₀
 
     -- and checked
     pub loop-next : (ws after : List ℕ) (r : Checked) → length ws ≡ length us → length after ≡ length work → Zero after
-        → ((s : Session) (t u : Term) (ps : List Pair) → Due n x ks vs us s i j (count - 1) t u → Waiting x ks vs us (count - 1) ps
+        → ((s : Session) (t u : Term) (ps : List Pair) → Due x ks vs us s i j (count - 1) t u → Waiting x ks vs us (count - 1) ps
         → After x ks vs us ws s (top (s .solver) t) (top (s .solver) u) (count - 1) (checkPair n (s .solver) t u ps) r)
         → (next : Bool) → next ≡ (ok && r .good) → Loop n x₀ ks vs ts₀ work₀ left₀ count₀ ok₀ (r .solver) ws after (left - 1) (r .count) next
     loop-next ws after r e f z A next q =

@@ -1,4 +1,4 @@
--- Order 4 as a whole: the session after it, with the tokens of its terms where a variable was bound, and as it was where none was.
+-- A pair as a whole, posed by order 4 or 22: the session after it, with the tokens of its terms where a variable was bound, and as it was where none was.
 use mathlib.Core.Path.{_≡_, refl, sym, ap, ap₂, _∙_, subst}
 use mathlib.Core.Bool.{Bool, false, not}
 use mathlib.Core.List.{List, []}
@@ -27,14 +27,14 @@ use Rattle.solver.proofs.Laws.Table.ColumnLaws.{rest-read}
 abbrev widened : Solver → ℕ → ℕ → Solver
 widened x nodes top = record { variables = x .variables; nodes = x .nodes; issued = x .issued; revision = x .revision; kept = nodes; top = top }
 
-module _ (n : Notion) (x : Solver) (ks vs ts₀ ts : List ℕ) (s : Session) (q : ℕ) (t u : Term) (P : PosesPair n x ks vs ts₀ s q t u) (zero-rest : Zero (drop (pendingFrom x) ts₀)) (long : length ts ≡ length ts₀)
+module _ (n : Notion) (x : Solver) (ks vs ts₀ ts : List ℕ) (s : Session) (q : ℕ) (t u : Term) (P : PosesPair x ks vs ts₀ s q t u) (zero-rest : Zero (drop (pendingFrom x) ts₀)) (long : length ts ≡ length ts₀)
     (k nodes : ℕ) (y : Solver) (v : Verdict)
     (C : Constrained (widened x nodes (length ks)) ks vs ts₀ ts (keep s (s .solver) (size t + size u)) (solving.constrain n k (s .solver) t u) (record { solver = y; verdict = v })) where
   abbrev goal : Out solving.Solver
   goal = solving.constrain n k (s .solver) t u
 
   abbrev after : Session
-  after = posing (limitsOf x) n s (size t + size u) goal .session
+  after = posing (limitsOf x) s (size t + size u) goal .session
 
   -- ---- a variable was bound
 
@@ -44,7 +44,7 @@ module _ (n : Notion) (x : Solver) (ks vs ts₀ ts : List ℕ) (s : Session) (q 
       = ne-eqb (solverOf goal .revision) (s .solver .revision) (λ i. e (C .represents .revision ∙ i ∙ sym (P .behind .represents .revision))) in
       subst (λ (b : Bool). Represents y ks vs ts (keep s (solverOf goal) (keeps (not b) (size t + size u)))) (sym d) (C .represents)
 
-  pub posed-bound : (y .revision ≡ x .revision → ⊥) → Posed n x ks vs ts₀ ts s (size t + size u) goal (record { solver = y; verdict = v })
+  pub posed-bound : (y .revision ≡ x .revision → ⊥) → Posed x ks vs ts₀ ts s (size t + size u) goal (record { solver = y; verdict = v })
   posed-bound e =
       let a : ks ≡ take (y .top) ks = sym (ap (λ (i : ℕ). take i ks) (C .represents .top) ∙ take-length ks) in
       let b : vs ≡ take (y .top) vs = sym (ap (λ (i : ℕ). take i vs) (C .represents .top ∙ sym (C .represents .vals)) ∙ take-length vs) in
@@ -80,10 +80,10 @@ module _ (n : Notion) (x : Solver) (ks vs ts₀ ts : List ℕ) (s : Session) (q 
 
     after-same : after ≡ s
     after-same =
-        posing-quiet (limitsOf x) n s (size t + size u) goal (settles-quiet n k (s .solver) _ _)
+        posing-quiet (limitsOf x) s (size t + size u) goal (settles-quiet n k (s .solver) _ _)
         (sym (C .represents .revision) ∙ e ∙ P .behind .represents .revision)
 
-    pub posed-still : Posed n x ks vs ts₀ ts s (size t + size u) goal (record { solver = back; verdict = v })
+    pub posed-still : Posed x ks vs ts₀ ts s (size t + size u) goal (record { solver = back; verdict = v })
     posed-still = record {
       represents = subst (λ (w : Solver). Represents w (take (x .top) ks) (take (x .top) vs) ts after) (sym back-same)
           (subst (λ (l : List ℕ). Represents x (take (x .top) ks) (take (x .top) vs) l after) (sym words-same)

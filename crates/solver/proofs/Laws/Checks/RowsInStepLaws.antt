@@ -16,7 +16,7 @@ use Rattle.terms.specs.Tree.{nums, subs, same, sameRows}
 use Rattle.terms.proofs.Laws.General.Bools.{never-true, never-false}
 use Rattle.terms.proofs.Laws.Held.HeldLaws.{headKind, span-one, span-is, items-some, held-first, held-node, row-end, row-num, row-sub, end-ends}
 use Rattle.solver.specs.Shapes.{Notion, loose, exact, blankRow, blank, unmarked, read, sameShape}
-use Rattle.solver.specs.Words.SessionRepresentation.{notion}
+use Rattle.solver.specs.Shapes.{notion}
 use Rattle.solver.specs.Words.PendingContract.{places, agree, here, PartEnd}
 use Rattle.solver.proofs.Laws.Resolving.AskLaws.{two-up}
 

@@ -17,14 +17,13 @@ use Rattle.unify.specs.Table as table
 use Rattle.unify.specs.Table.{Table}
 use Rattle.unify.proofs.Refine as refine
 use Rattle.unify.proofs.Refine.{Alike}
-use Rattle.unify.proofs.Whole.{Sane}
+use Rattle.unify.proofs.InOrder.{InOrder}
 use Rattle.solver.specs.Shapes.{Notion, read, sameShape, turned, pushed}
 use Rattle.solver.specs.Constrain.{Solver, resolved, top, recovery, recovers, occurs, projects, Requests, Pair, admit, Check, passed, failed, bound, bind₁, bind₀, bind, zipOn, decompose, differ, match, checkPair}
-use Rattle.solver.specs.Session.{never}
 use Rattle.solver.specs.Words.ConstrainContract.{Within, AllWithin}
 use Rattle.solver.proofs.Laws.Theory.TheoryView.{T, view}
 use Rattle.solver.proofs.Laws.Theory.Signature.{S}
-use Rattle.solver.proofs.Laws.Theory.ConstrainView.{view-table, view-pairs, turn-view, fallback}
+use Rattle.solver.proofs.Laws.Theory.ConstrainView.{view-table, view-pairs, turn-view}
 use Rattle.solver.proofs.Laws.Theory.Demand3Laws.{respects}
 use Rattle.solver.proofs.Laws.Definition.SolverInvariantLaws.{within-issued, Ordered, top-within, top-free}
 
@@ -217,14 +216,11 @@ alike-refl ρ (p ∷ ps) = (refl, refl, alike-refl ρ ps)
 
 -- ---- a turn leaves the solver in order
 
-module _ (n : Notion) (codes-count : n 4 ≡ false) (N : ℕ) (z : Solver) (ordered : Ordered n codes-count N z) where
+module _ (n : Notion) (codes-count : n 4 ≡ false) (N : ℕ) (z : Solver) (ordered : Ordered N z) where
   abbrev Z : Table S
   Z = view-table z
 
-  abbrev TheSane : Table S → Type 0
-  TheSane x = Sane S fallback never (read n) (respects n codes-count) N x
-
-  table-ordered : (t u : T) (ps : List (theory.Pair S)) → Below S N ((t, u) ∷ ps) → TheSane (table.turn S (read n) Z t u ps .state)
+  table-ordered : (t u : T) (ps : List (theory.Pair S)) → Below S N ((t, u) ∷ ps) → InOrder S N (table.turn S (read n) Z t u ps .state)
   table-ordered t u ps b =
       let s = ordered .means in
       let r = respects n codes-count in
@@ -240,9 +236,9 @@ module _ (n : Notion) (codes-count : n 4 ≡ false) (N : ℕ) (z : Solver) (orde
       }
 
   -- AFTER A TURN the solver is in order, and the pairs pending are within N.
-  pub turn-ordered : (t u : Term) (ps : List Pair) → Within N t → Within N u → AllWithin N ps → Ordered n codes-count N (checkPair n z t u ps .state)
+  pub turn-ordered : (t u : Term) (ps : List Pair) → Within N t → Within N u → AllWithin N ps → Ordered N (checkPair n z t u ps .state)
   turn-ordered t u ps a b w =
-      subst (λ (x : table.Turn S). TheSane (x .state)) (turn-view n z t u ps)
+      subst (λ (x : table.Turn S). InOrder S N (x .state)) (turn-view n z t u ps)
       (table-ordered (view t) (view u) (view-pairs ps) (within-below N ((t, u) ∷ ps) (a, b, w)))
 
   pub turn-within : (t u : Term) (ps : List Pair) → Within N t → Within N u → AllWithin N ps → AllWithin N (checkPair n z t u ps .todo)
@@ -252,8 +248,8 @@ module _ (n : Notion) (codes-count : n 4 ≡ false) (N : ℕ) (z : Solver) (orde
       go (inl e) = subst (AllWithin N) (sym e) w
       go (inr e) = subst (AllWithin N) (sym e)
           (zip-within N (pushed (top z t)) (pushed (top z u)) ps
-          (pushed-within N (top z t) (top-within n codes-count N z ordered t a))
-          (pushed-within N (top z u) (top-within n codes-count N z ordered u b)) w)
+          (pushed-within N (top z t) (top-within N z ordered t a))
+          (pushed-within N (top z u) (top-within N z ordered u b)) w)
 
   -- what is bound stays bound
   kept-other : (x v : ℕ) (w t : Term) → z .bindings x ≡ none → z .bindings v ≡ some t → put (z .bindings) x (some w) v ≡ some t
@@ -263,8 +259,8 @@ module _ (n : Notion) (codes-count : n 4 ≡ false) (N : ℕ) (z : Solver) (orde
   turn-extends t u ps v s e = go (turn-came n z t u ps)
     where
       free : (x : ℕ) (w : Term) → Beside (top z t) (top z u) x w → z .bindings x ≡ none
-      free x w (inl p) = top-free n codes-count N z ordered t x (p .0)
-      free x w (inr p) = top-free n codes-count N z ordered u x (p .0)
+      free x w (inl p) = top-free N z ordered t x (p .0)
+      free x w (inr p) = top-free N z ordered u x (p .0)
 
       go : Came z (top z t) (top z u) ps (checkPair n z t u ps) → checkPair n z t u ps .state .bindings v ≡ some s
       go (inl p) = ap (λ (y : Solver). y .bindings v) (p .0) ∙ e

@@ -1,4 +1,4 @@
--- A check that binds nothing hands the solver on as it was, so an order 4 that makes no binding leaves the session as it was.
+-- A check that binds nothing hands the solver on as it was, so a pair, strict or not, that makes no binding leaves the session as it was.
 use mathlib.Core.Path.{_≡_, refl, ap, ap₂, _∙_}
 use mathlib.Core.Bool.{Bool, true, false, not, _&&_, _||_}
 use mathlib.Core.List.{List, [], _∷_}
@@ -10,7 +10,7 @@ use borrow.Author.Tests.{eq-eqb}
 use Rattle.terms.specs.Term.{Term, var, node, size}
 use Rattle.terms.specs.Tree.{same}
 use Rattle.unify.specs.Solver.{Out, cancelled, done}
-use Rattle.solver.specs.Shapes.{Notion, sameShape}
+use Rattle.solver.specs.Shapes.{Notion, notion, sameShape}
 use Rattle.solver.specs.Constrain.{Solver, Pair, Requests, resolved, top, recovery, recovers, occurs, projects, admit, bind₁, bind₀, bind, decompose, differ, match, checkPair, settles, constrain}
 use Rattle.solver.specs.Session.{Limits, Session, keep}
 use Rattle.solver.specs.Orders.{pair, known, crowded, moved, keeps, unless, solverOf, posing, order}
@@ -79,25 +79,25 @@ settles-quiet n (suc k) z ok (p ∷ ps) =
     quiet-trans z (x .state) (solverOf (settles n k (x .state) (ok && x .good) (x .todo)))
     (check-quiet z ps n (p .0) (p .1)) (settles-quiet n k (x .state) (ok && x .good) (x .todo))
 
--- ---- order 4
+-- ---- orders 4 and 22
 
-module _ (lim : Limits) (n : Notion) where
+module _ (lim : Limits) where
   -- with the solver as it was no node is kept
-  pub posing-quiet : (s : Session) (m : ℕ) (o : Out Solver) → Quiet (s .solver) (solverOf o) → solverOf o .revision ≡ s .solver .revision → posing lim n s m o .session ≡ s
+  pub posing-quiet : (s : Session) (m : ℕ) (o : Out Solver) → Quiet (s .solver) (solverOf o) → solverOf o .revision ≡ s .solver .revision → posing lim s m o .session ≡ s
   posing-quiet s m o q e =
       ap₂ (λ (z : Solver) (b : Bool). keep s z (keeps (not b) m)) (q .1 e) (eq-eqb (solverOf o .revision) (s .solver .revision) e)
       ∙ ap (λ (k : ℕ). record { solver = s .solver; places = s .places; deferred = s .deferred; kept = k }) (add-zero (s .kept))
 
-  -- AN ORDER 4 THAT MAKES NO BINDING, however it ends, LEAVES THE SESSION AS IT WAS.
-  pub quiet-pair : (s : Session) (k : ℕ) (t u : Term) → order lim n s (pair k t u) .session .solver .revision ≡ s .solver .revision → order lim n s (pair k t u) .session ≡ s
+  -- A PAIR THAT MAKES NO BINDING, however it ends, LEAVES THE SESSION AS IT WAS.
+  pub quiet-pair : (s : Session) (b : Bool) (k : ℕ) (t u : Term) → order lim s (pair b k t u) .session .solver .revision ≡ s .solver .revision → order lim s (pair b k t u) .session ≡ s
   unfolding order
-  quiet-pair s k t u = go (known s t && known s u) (crowded lim s (size t + size u))
+  quiet-pair s b k t u = go (known s t && known s u) (crowded lim s (size t + size u))
     where
       o : Out Solver
-      o = constrain n k (s .solver) t u
+      o = constrain (notion b) k (s .solver) t u
 
-      go : (a b : Bool) → unless lim s a b (posing lim n s (size t + size u) o) .session .solver .revision ≡ s .solver .revision
-          → unless lim s a b (posing lim n s (size t + size u) o) .session ≡ s
+      go : (a c : Bool) → unless lim s a c (posing lim s (size t + size u) o) .session .solver .revision ≡ s .solver .revision
+          → unless lim s a c (posing lim s (size t + size u) o) .session ≡ s
       go true true e = refl
-      go true false e = posing-quiet s (size t + size u) o (settles-quiet n k (s .solver) true ((t, u) ∷ [])) e
-      go false b e = refl
+      go true false e = posing-quiet s (size t + size u) o (settles-quiet (notion b) k (s .solver) true ((t, u) ∷ [])) e
+      go false c e = refl

@@ -14,7 +14,7 @@ use Rattle.unify.specs.Term.{clash}
 use Rattle.unify.specs.Solver.{put}
 use Rattle.unify.proofs.Sound.{put-cases}
 use Rattle.solver.specs.Families.{Request}
-use Rattle.solver.specs.Shapes.{Notion, sameShape}
+use Rattle.solver.specs.Shapes.{Notion, notion, sameShape}
 use Rattle.solver.specs.Constrain.{Solver, replace, replaceRow, followed, resolve, resolved, top, always, recovery, recovers, occurs, projects, Requests, Pair, admit}
 use Rattle.solver.specs.Constrain.{bind₁, bind₀, bind, decompose, differ, match, checkPair, settles, constrain}
 use Rattle.solver.specs.Session.{Limits, Session, at, gap, issued, find, fresh, deferring, settleAt, numericAt, neverAt, numericDefaults, neverDefaults}
@@ -174,8 +174,8 @@ never-none d (suc m) v z h = never-none d m (suc v) (neverAt z v (d v)) (go (d v
 
 -- ---- orders
 
-module _ (lim : Limits) (n : Notion) where
-  order-none : (s : Session) (c : Command) → NoneBound (s .solver) → NoneBound (order lim n s c .session .solver)
+module _ (lim : Limits) where
+  order-none : (s : Session) (c : Command) → NoneBound (s .solver) → NoneBound (order lim s c .session .solver)
   unfolding order variableAt numberAt holeAt deferring
   order-none s (variable site slot) h = go (find (at site slot) (s .places)) (full lim s)
     where
@@ -202,11 +202,11 @@ module _ (lim : Limits) (n : Notion) where
       go true false (var v) = h
       go true false (node k ps) = h
       go false c u = h
-  order-none s (pair k t u) h = go (known s t && known s u) (crowded lim s (size t + size u))
+  order-none s (pair d k t u) h = go (known s t && known s u) (crowded lim s (size t + size u))
     where
-      go : (b c : Bool) → NoneBound (unless lim s b c (posing lim n s (size t + size u) (constrain n k (s .solver) t u)) .session .solver)
+      go : (b c : Bool) → NoneBound (unless lim s b c (posing lim s (size t + size u) (constrain (notion d) k (s .solver) t u)) .session .solver)
       go true true = h
-      go true false = settles-none n k (s .solver) true ((t, u) ∷ []) h
+      go true false = settles-none (notion d) k (s .solver) true ((t, u) ∷ []) h
       go false c = h
   order-none s (resolving t) h = go (known s t) (crowded lim s (size t))
     where
@@ -219,11 +219,11 @@ module _ (lim : Limits) (n : Notion) where
   order-none s revision h = h
   order-none s (unread r) h = h
 
-  run-none : (s : Session) (cs : List Command) → NoneBound (s .solver) → NoneBound (run lim n s cs .solver)
+  run-none : (s : Session) (cs : List Command) → NoneBound (s .solver) → NoneBound (run lim s cs .solver)
   unfolding run
   run-none s [] h = h
-  run-none s (c ∷ cs) h = run-none (order lim n s c .session) cs (order-none s c h)
+  run-none s (c ∷ cs) h = run-none (order lim s c .session) cs (order-none s c h)
 
   -- AFTER EVERY LIST OF ORDERS no binding holds Unknown or Error.
-  pub none-bound : (cs : List Command) → NoneBound (run lim n fresh cs .solver)
+  pub none-bound : (cs : List Command) → NoneBound (run lim fresh cs .solver)
   none-bound cs = run-none fresh cs (λ v t e. clash (cc))

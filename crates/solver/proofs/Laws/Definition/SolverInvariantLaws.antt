@@ -18,6 +18,7 @@ use Rattle.unify.specs.Table as table
 use Rattle.unify.specs.Table.{Table, taken, tally}
 use Rattle.unify.proofs.Refine as refine
 use Rattle.unify.proofs.Whole.{Sane}
+use Rattle.unify.proofs.InOrder as theory
 use Rattle.solver.specs.Shapes.{Notion, read}
 use Rattle.solver.specs.Constrain.{Solver, followed, follow, resolved, top, occurs, always}
 use Rattle.solver.specs.Session.{Session, issued, never}
@@ -123,10 +124,18 @@ bound-most (suc n) b = let p = one-most (b n) in let q = bound-most n b in omega
 -- ---- in order
 
 -- the solver over N variables is in order
-abbrev pub Ordered : (n : Notion) → n 4 ≡ false → ℕ → Solver → Type 0
-Ordered n codes-count N z = Sane S fallback never (read n) (respects n codes-count) N (view-table z)
+abbrev pub Ordered : ℕ → Solver → Type 0
+Ordered N z = theory.InOrder S N (view-table z)
 
-module _ (n : Notion) (codes-count : n 4 ≡ false) (N : ℕ) (z : Solver) (ordered : Ordered n codes-count N z) where
+-- by any notion of equal shape
+module _ (n : Notion) (codes-count : n 4 ≡ false) (N : ℕ) (z : Solver) where
+  pub ordered-sane : Ordered N z → Sane S fallback never (read n) (respects n codes-count) N (view-table z)
+  ordered-sane = theory.sane S fallback never (read n) (respects n codes-count) N (view-table z)
+
+  pub sane-ordered : Sane S fallback never (read n) (respects n codes-count) N (view-table z) → Ordered N z
+  sane-ordered = theory.in-order S fallback never (read n) (respects n codes-count) N (view-table z)
+
+module _ (N : ℕ) (z : Solver) (ordered : Ordered N z) where
   abbrev Z : Table S
   Z = view-table z
 
@@ -138,7 +147,7 @@ module _ (n : Notion) (codes-count : n 4 ≡ false) (N : ℕ) (z : Solver) (orde
   right t = view-resolve (z .revision) (z .bindings) t ∙ resolve-right (Z .bound) (Z .rev) ρ (ordered .stands .rep) (view t)
 
   idem : (t : T) → tree.sub ρ (tree.sub ρ t) ≡ tree.sub ρ t
-  idem = refine.idem-sub S (read n) (respects n codes-count) N (ordered .means) (ordered .fine)
+  idem = refine.idem-sub S (λ h. h) (λ f h k p. ap (S .admits f) p) N (ordered .means) (ordered .fine)
 
   tops-view : (t : T) → tree.sub ρ (table.top S Z t) ≡ tree.sub ρ t
   tops-view = refine.tops S Z (ordered .means) (ordered .stands) idem [] [] tt

@@ -10,22 +10,22 @@ use Rattle.terms.specs.Questions.{among}
 use Rattle.unify.specs.Term as tree
 use Rattle.unify.specs.Term.{Sort, Tree, nil, _▸_}
 use Rattle.unify.specs.Orders.{Run}
-use Rattle.unify.specs.Table.{answer}
 use Rattle.unify.proofs.RobinsonPair.{Simple}
-use Rattle.unify.proofs.PlainLists.{SimplePairs, sheet-plain, resolves-simple}
-use Rattle.solver.specs.Shapes.{Notion, read, readAll, loose}
+use Rattle.unify.proofs.PlainLists.{SimplePairs, PlainRun, obey-plain, plain-begin, run-simple}
+use Rattle.solver.specs.Shapes.{Notion, notion, read, readAll}
 use Rattle.solver.specs.Constrain.{Pair, resolved, occurs, recovery, projects}
 use Rattle.solver.specs.Session.{Limits, Session, find, fresh, never}
 use Rattle.solver.specs.Orders.{Command, run}
-use Rattle.solver.specs.Demand3.{History, beginning, history, outside}
+use Rattle.solver.specs.Demand3.{History, beginning, after, history, outside}
 use Rattle.solver.specs.RobinsonPair.{FirstOrderIn, Pure, AllPure}
 use Rattle.solver.proofs.Laws.Theory.TheoryView.{T, view, view-injective, meets-view, some-of}
 use Rattle.solver.proofs.Laws.Theory.Signature.{S}
 use Rattle.solver.proofs.Laws.Theory.TheoryViewLaws.{viewed, view-read}
 use Rattle.solver.proofs.Laws.Theory.ConstrainView.{view-pairs, fallback}
-use Rattle.solver.proofs.Laws.Theory.TheorySimulation.{TheSession, view-run, view-commands, history-view}
+use Rattle.solver.proofs.Laws.Theory.TheorySimulation.{TheSession, view-run, view-command, strict, order-view}
 use Rattle.solver.proofs.Laws.Theory.Demand3Laws.{odd, outside-odd}
 use Rattle.solver.proofs.Laws.Definition.InvariantLaws.{history-run}
+use Rattle.solver.proofs.Laws.Definition.NotionLaws.{notion-codes}
 use Rattle.solver.proofs.Laws.Robinson.RobinsonPairLaws.{simple-view, seen}
 
 -- ---- from trees to terms
@@ -59,7 +59,7 @@ pairs-view : (n : Notion) (ps : List Pair) → AllPure n ps → SimplePairs S (r
 pairs-view n [] p = tt
 pairs-view n (x ∷ ps) p = (simple-view n (x .0) (p .0 .0) (p .0 .1), simple-view n (x .1) (p .1 .0) (p .1 .1), pairs-view n ps (p .2))
 
--- ---- after a list of orders
+-- ---- after a list of orders, whose pairs may be posed strictly or not
 
 module _ (lim : Limits) (n : Notion) (codes-count : n 4 ≡ false) where
   -- what defaults take is plain
@@ -68,42 +68,42 @@ module _ (lim : Limits) (n : Notion) (codes-count : n 4 ≡ false) where
   simple-builtin c = (refl, refl, rw codes-count refl, tt)
 
   abbrev Keeps : Run S TheSession → Type 0
-  Keeps x = SimplePairs S (read n) (x .posed) → (t : T) → Simple S (read n) t → Simple S (read n) (answer S (x .state .table) t)
+  Keeps x = PlainRun S (read n) fallback never (λ r. simple-builtin (r .fallback)) (simple-builtin 10) x
+
+  all-kept : (h : History) → Keeps (view-run h) → (cs : List Command) → Keeps (view-run (history lim h cs))
+  unfolding history
+  all-kept h y [] = y
+  all-kept h y (c ∷ cs) = all-kept (after lim h c) (subst (λ (x : Run S TheSession). Keeps x) (order-view lim h c)
+      (obey-plain S (read n) fallback never (λ r. simple-builtin (r .fallback)) (simple-builtin 10) (read (notion (strict c))) (view-run h) y (view-command lim (h .session) c))) cs
 
   abbrev h : List Command → History
-  h cs = history lim n beginning cs
+  h cs = history lim beginning cs
+
+  kept : (cs : List Command) → Keeps (view-run (h cs))
+  unfolding viewed find
+  kept cs = all-kept beginning (plain-begin S (read n) fallback never (λ r. simple-builtin (r .fallback)) (simple-builtin 10)) cs
 
   resolved-pure : (cs : List Command) → AllPure n (h cs .posed) → (t : Term) → Pure n t → Pure n (resolved (h cs .session .solver) t)
-  unfolding viewed find
   resolved-pure cs p t q =
-      let k : Keeps (view-run (h cs)) = subst (λ (x : Run S TheSession). Keeps x) (history-view lim n beginning cs)
-      (resolves-simple S (read n) fallback never (λ r. simple-builtin (r .fallback)) (simple-builtin 10) (view-commands lim n fresh cs)) in
       view-pure n (resolved (h cs .session .solver) t)
-      (subst (λ (x : T). Simple S (read n) x) (sym (seen (h cs .session) t)) (k (pairs-view n (h cs .posed) p) (view t) (simple-view n t (q .0) (q .1))))
+      (subst (λ (x : T). Simple S (read n) x) (sym (seen (h cs .session) t))
+      (run-simple S (read n) fallback never (λ r. simple-builtin (r .fallback)) (simple-builtin 10) (view-run (h cs)) (kept cs) (pairs-view n (h cs .posed) p) (view t) (simple-view n t (q .0) (q .1))))
 
   -- A TERM POSED PLAIN RESOLVES TO A PLAIN ONE, after every list of orders whose posed pairs are so, whatever they were answered.
-  pub posed-plain-of : (cs : List Command) → AllPure n (h cs .posed) → (t : Term) → Pure n t
-      → ((v : ℕ) → occurs v (resolved (run lim n fresh cs .solver) t) ≡ true → run lim n fresh cs .solver .requests v ≡ none) → FirstOrderIn n (run lim n fresh cs) t
+  posed-plain-of : (cs : List Command) → AllPure n (h cs .posed) → (t : Term) → Pure n t
+      → ((v : ℕ) → occurs v (resolved (run lim fresh cs .solver) t) ≡ true → run lim fresh cs .solver .requests v ≡ none) → FirstOrderIn n (run lim fresh cs) t
   posed-plain-of cs p t q = subst (λ (s : Session). ((v : ℕ) → occurs v (resolved (s .solver) t) ≡ true → s .solver .requests v ≡ none) → FirstOrderIn n s t)
-      (history-run lim n beginning cs)
+      (history-run lim beginning cs)
       (λ a. let r = resolved-pure cs p t q in record { plain = r .0; unmarked = r .1; numberless = a })
 
-  abbrev Unasked : Run S TheSession → Type 0
-  Unasked x = ((v : ℕ) → x .asked v ≡ none) → (v : ℕ) → x .state .table .fam v ≡ none
-
   -- and where no number was requested, no variable has a request
-  pub unrequested-of : (cs : List Command) → ((v : ℕ) → h cs .requests v ≡ none) → (v : ℕ) → run lim n fresh cs .solver .requests v ≡ none
-  unfolding viewed find
-  unrequested-of cs a = subst (λ (s : Session). (v : ℕ) → s .solver .requests v ≡ none) (history-run lim n beginning cs)
-      (subst (λ (x : Run S TheSession). Unasked x) (history-view lim n beginning cs)
-      (sheet-plain S (read n) fallback never (λ r. simple-builtin (r .fallback)) (simple-builtin 10) (view-commands lim n fresh cs) .unasked) a)
+  unrequested-of : (cs : List Command) → ((v : ℕ) → h cs .requests v ≡ none) → (v : ℕ) → run lim fresh cs .solver .requests v ≡ none
+  unrequested-of cs a = subst (λ (s : Session). (v : ℕ) → s .solver .requests v ≡ none) (history-run lim beginning cs) (kept cs .unasked a)
 
--- order 4
-pub posed-plain : (lim : Limits) (cs : List Command) → AllPure loose (history lim loose beginning cs .posed) → (t : Term) → Pure loose t
-    → ((v : ℕ) → occurs v (resolved (run lim loose fresh cs .solver) t) ≡ true → run lim loose fresh cs .solver .requests v ≡ none) → FirstOrderIn loose (run lim loose fresh cs) t
-unfolding loose
-posed-plain lim cs = posed-plain-of lim loose refl cs
+-- by the order that poses the term's pair
+pub posed-plain : (lim : Limits) (b : Bool) (cs : List Command) → AllPure (notion b) (history lim beginning cs .posed) → (t : Term) → Pure (notion b) t
+    → ((v : ℕ) → occurs v (resolved (run lim fresh cs .solver) t) ≡ true → run lim fresh cs .solver .requests v ≡ none) → FirstOrderIn (notion b) (run lim fresh cs) t
+posed-plain lim b cs = posed-plain-of lim (notion b) (notion-codes b) cs
 
-pub unrequested : (lim : Limits) (cs : List Command) → ((v : ℕ) → history lim loose beginning cs .requests v ≡ none) → (v : ℕ) → run lim loose fresh cs .solver .requests v ≡ none
-unfolding loose
-unrequested lim cs = unrequested-of lim loose refl cs
+pub unrequested : (lim : Limits) (cs : List Command) → ((v : ℕ) → history lim beginning cs .requests v ≡ none) → (v : ℕ) → run lim fresh cs .solver .requests v ≡ none
+unrequested lim cs = unrequested-of lim (notion false) (notion-codes false) cs

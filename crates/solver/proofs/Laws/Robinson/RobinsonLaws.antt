@@ -17,22 +17,26 @@ use Rattle.unify.specs.Table.{Table, answer}
 use Rattle.unify.proofs.Refine.{over, table-end, table-means}
 use Rattle.unify.specs.Session as session
 use Rattle.unify.proofs.Whole.{sheet-means}
+use Rattle.unify.specs.Mixes as mixes
+use Rattle.unify.proofs.MixLaws as mix-laws
 use Rattle.unify.proofs.Robinson.{Unifies as UnifiesTrees, NoNumbers, Robinson, Normal, NormalPairs, robinson-loose}
 use Rattle.unify.specs.Robinson1965 as paper
 use Rattle.unify.proofs.Unification1965 as theorem
-use Rattle.solver.specs.Shapes.{Notion, read, loose}
+use Rattle.solver.specs.Shapes.{Notion, notion, read}
 use Rattle.solver.specs.Constrain.{Pair, replace, replaceRow}
-use Rattle.solver.specs.Session.{Limits, at, find, fresh, never}
-use Rattle.solver.specs.Orders.{Command, revision}
-use Rattle.solver.specs.Demand3.{History, beginning, history, AllAllowed, Premises}
+use Rattle.solver.specs.Session.{Limits, fresh, never}
+use Rattle.solver.specs.Orders.{Command}
+use Rattle.solver.specs.Demand3.{History, beginning, history}
 use Rattle.solver.specs.Robinson.{Substitution, value, Outcome, going, unifier, without, unification, lefts, rights, tuple}
 use Rattle.solver.specs.Robinson.{Unifies, Instance, MostGeneral, resolves, UnmarkedPairs, FirstOrder, Decides}
 use Rattle.solver.proofs.Laws.Theory.TheoryView.{T, view, view-injective}
 use Rattle.solver.proofs.Laws.Theory.Signature.{S, term?}
-use Rattle.solver.proofs.Laws.Theory.TheoryViewLaws.{viewed, view-replace, view-resolve, view-read}
+use Rattle.solver.proofs.Laws.Theory.TheoryViewLaws.{view-replace, view-resolve, view-read}
 use Rattle.solver.proofs.Laws.Theory.ConstrainView.{view-table, view-pairs, fallback}
-use Rattle.solver.proofs.Laws.Theory.TheorySimulation.{TheSession, view-run, view-commands, history-view, all-allowed-view}
-use Rattle.solver.proofs.Laws.Theory.Demand3Laws.{respects, plain-pairs-view}
+use Rattle.solver.proofs.Laws.Theory.TheorySimulation.{TheSession, view-run}
+use Rattle.solver.proofs.Laws.Theory.MixView.{norm, Mix, view-all, mix-only}
+use Rattle.solver.proofs.Laws.Theory.Demand3Laws.{respects, respects-by, plain-pairs-view, led, all-allowed}
+use Rattle.solver.proofs.Laws.Definition.NotionLaws.{notion-codes}
 use Rattle.solver.proofs.Laws.Robinson.RobinsonView.{laid, laid-injective, laid-replace, laid-all, value-laid, inst-laid, laid-outcome, unification-laid}
 
 -- ---- the Unification Theorem
@@ -240,26 +244,25 @@ module _ (n : Notion) (codes-count : n 4 ≡ false) where
       let e = sheet-means S fallback never (read n) (respects n codes-count) ds a in
       subst (λ (y : Run S (Table S)). AsRobinson y (λ v. answer S (y .state) (tree.var v))) (sym (e .1)) (over-table (e .0))
 
-  module _ (lim : Limits) where
-    found : (cs : List Command) → FirstOrder lim n cs
-        → Found (history lim n beginning cs .incompatible) (resolves (history lim n beginning cs .session)) (history lim n beginning cs .posed)
-    unfolding viewed find view
-    found cs f =
-        let h = history lim n beginning cs in
-        let p = f .premises in
-        let e : session.sheet S fallback never (read n) (view-commands lim n fresh cs) ≡ view-run h = history-view lim n beginning cs in
-        let r = subst (λ (x : Run S TheSession). AsRobinson x (λ v. answer S (x .state .table) (tree.var v))) e
-        (over-sheet (view-commands lim n fresh cs) (all-allowed-view lim n beginning cs (p .allowed))) in
-        found-view (h .incompatible) (resolves (h .session)) (λ v. answer S (view-table (h .session .solver)) (tree.var v)) (h .posed)
-        (λ v. view-resolve (h .session .solver .revision) (h .session .solver .bindings) (var v))
-        (r (normal-pairs n (h .posed) (f .unmarked)) (p .noneCancelled, plain-pairs-view (h .posed) (p .pairs)) (f .numberless))
+module _ (lim : Limits) (b : Bool) where
+  found : (cs : List Command) → FirstOrder lim b cs
+      → Found (history lim beginning cs .incompatible) (resolves (history lim beginning cs .session)) (history lim beginning cs .posed)
+  unfolding view
+  found cs f =
+      let h = history lim beginning cs in
+      let p = f .premises in
+      let start = mixes.mix-begin S fallback never Bool norm in
+      let all = view-all lim fresh cs in
+      let only = mix-only lim b beginning cs (f .only) in
+      let e : session.sheet S fallback never (norm b) (mixes.commands S Bool all) ≡ view-run h
+      = sym (mix-laws.pure S fallback never Bool norm respects-by b start all only) ∙ ap (λ (x : Mix). x .run) (led lim cs) in
+      let r = subst (λ (x : Run S TheSession). AsRobinson (notion b) (notion-codes b) x (λ v. answer S (x .state .table) (tree.var v))) e
+      (over-sheet (notion b) (notion-codes b) (mixes.commands S Bool all) (mix-laws.pure-allowed S fallback never Bool norm respects-by b start all only (all-allowed lim cs p))) in
+      found-view (h .incompatible) (resolves (h .session)) (λ v. answer S (view-table (h .session .solver)) (tree.var v)) (h .posed)
+      (λ v. view-resolve (h .session .solver .revision) (h .session .solver .bindings) (var v))
+      (r (normal-pairs (notion b) (h .posed) (f .unmarked)) (p .noneCancelled, plain-pairs-view (h .posed) (p .pairs)) (f .numberless))
 
-    -- ROBINSON 1965 DECIDES: for every list of orders 0 to 8 given in turn to a fresh session, whose pairs are plain first-order ones; for every
-    -- notion of equal shape in which the code of a builtin counts.
-    pub robinson-of : (cs : List Command) → FirstOrder lim n cs → Decides (history lim n beginning cs)
-    robinson-of cs f = decides-of (history lim n beginning cs) (found cs f)
-
--- order 4: up to Set and Map access
-pub robinson : (lim : Limits) (cs : List Command) → FirstOrder lim loose cs → Decides (history lim loose beginning cs)
-unfolding loose
-robinson lim cs f = robinson-of loose refl lim cs f
+  -- ROBINSON 1965 DECIDES: for every list of orders 0 to 8 and 22 given in turn to a fresh session, whose pairs are plain first-order ones, all posed by order 4
+  -- (up to Set and Map access) or all strictly
+  pub robinson : (cs : List Command) → FirstOrder lim b cs → Decides (history lim beginning cs)
+  robinson cs f = decides-of (history lim beginning cs) (found cs f)

@@ -19,12 +19,12 @@ use Rattle.unify.specs.Table.{answer}
 use Rattle.unify.proofs.RobinsonPair as theory
 use Rattle.unify.proofs.RobinsonPair.{Simple, FirstOrder, UnifiedBy, Poses, table-pair}
 use Rattle.unify.proofs.Robinson.{Normal}
-use Rattle.solver.specs.Shapes.{Notion, read, readAll, loose}
+use Rattle.solver.specs.Shapes.{Notion, notion, read, readAll}
 use Rattle.solver.specs.Constrain.{Solver, replace, resolved, always, occurs, is, recovery, projects, constrain}
 use Rattle.solver.specs.Session.{Limits, Session, issued, fresh}
 use Rattle.solver.specs.Orders.{Command, pair, Reply, verdict, Step, verdictOf, solverOf, posing, order, run}
 use Rattle.solver.specs.Demand3.{outside}
-use Rattle.solver.specs.Invariant.{Settled}
+use Rattle.solver.specs.Invariant.{InOrder, Settled}
 use Rattle.solver.specs.Robinson.{Substitution, value, unifier, without, unification, resolves, Unmarked}
 use Rattle.solver.specs.RobinsonPair.{FirstOrderIn, PlainPair, Decided, DecidedBy, RobinsonDecides}
 use Rattle.solver.proofs.Laws.Theory.TheoryView.{T, view, view-injective, meets-view, some-of}
@@ -34,7 +34,9 @@ use Rattle.solver.proofs.Laws.Theory.ConstrainView.{view-table, view-ou
 use Rattle.solver.proofs.Laws.Theory.TheorySimulation.{known-yes}
 use Rattle.solver.proofs.Laws.Theory.Demand3Laws.{respects, odd, or-both, outside-odd}
 use Rattle.solver.proofs.Laws.Definition.SolverInvariantLaws.{Ordered}
-use Rattle.solver.proofs.Laws.Definition.InvariantLaws.{settled-of, all-sane}
+use Rattle.solver.proofs.Laws.Definition.InvariantLaws.{settled-of, all-ordered}
+use Rattle.solver.proofs.Laws.Definition.InOrderLaws.{in-order-ordered}
+use Rattle.solver.proofs.Laws.Definition.NotionLaws.{notion-codes}
 use Rattle.solver.proofs.Laws.Robinson.RobinsonLaws.{with-unifier, without-unifier, either, normal-map}
 
 -- a term without Unknown, Error and projections, and unmarked
@@ -62,7 +64,13 @@ newly s y v = pick (same (resolves s v) (var v)) (resolves y v) (var v)
 pub seen : (x : Session) (w : Term) → view (resolved (x .solver) w) ≡ answer S (view-table (x .solver)) (view w)
 seen x w = view-resolve (x .solver .revision) (x .solver .bindings) w
 
-module _ (lim : Limits) (n : Notion) (codes-count : n 4 ≡ false) where
+module _ (lim : Limits) (b : Bool) where
+  abbrev n : Notion
+  n = notion b
+
+  codes-count : n 4 ≡ false
+  codes-count = notion-codes b
+
   module _ (s y : Session) where
     abbrev before : T → T
     before w = answer S (view-table (s .solver)) w
@@ -160,9 +168,9 @@ module _ (lim : Limits) (n : Notion) (codes-count : n 4 ≡ false) where
     λ v i. f .numberless v (in-occurs v (resolved (s .solver) t) i),
   )
 
-  module _ (s : Session) (sane : Ordered n codes-count (issued s) (s .solver)) (t u : Term) (p : PlainPair lim n s t u) where
-    -- an order 4 that is not refused
-    poses : (k : ℕ) → order lim n s (pair k t u) ≡ posing lim n s (size t + size u) (constrain n k (s .solver) t u)
+  module _ (s : Session) (sane : Ordered (issued s) (s .solver)) (t u : Term) (p : PlainPair lim b s t u) where
+    -- a pair that is not refused
+    poses : (k : ℕ) → order lim s (pair b k t u) ≡ posing lim s (size t + size u) (constrain n k (s .solver) t u)
     unfolding order
     poses k = rw (p .known-left, p .known-right, p .room)
 
@@ -170,26 +178,26 @@ module _ (lim : Limits) (n : Notion) (codes-count : n 4 ≡ false) where
     So x = Decided s (x .session) (resolved (s .solver) t) (resolved (s .solver) u) (x .reply ≡ verdict 1) (x .reply ≡ verdict 0)
 
     final : (o : Out Solver) → Poses S (read n) (respects n codes-count) (view-table (s .solver)) (view t) (view u) (view-out o) → Settled o
-        → So (posing lim n s (size t + size u) o)
+        → So (posing lim s (size t + size u) o)
     unfolding view-out verdictOf solverOf
     final (cancelled z) q f = absurd f
-    final (done z true) q f = decided-yes s (posing lim n s (size t + size u) (done z true) .session) t u q (verdict 1) refl
-    final (done z false) q f = decided-no s (posing lim n s (size t + size u) (done z false) .session) t u q (verdict 0) refl
+    final (done z true) q f = decided-yes s (posing lim s (size t + size u) (done z true) .session) t u q (verdict 1) refl
+    final (done z false) q f = decided-no s (posing lim s (size t + size u) (done z false) .session) t u q (verdict 0) refl
 
-    shown : (k : ℕ) → Settled (constrain n k (s .solver) t u) → DecidedBy lim n s k t u
+    shown : (k : ℕ) → Settled (constrain n k (s .solver) t u) → DecidedBy lim b s k t u
     shown k f = subst (λ (x : Step). So x) (sym (poses k)) (final (constrain n k (s .solver) t u)
         (subst (Poses S (read n) (respects n codes-count) (view-table (s .solver)) (view t) (view u)) (settles-view n k (s .solver) true ((t, u) ∷ []))
         (table-pair S (read n) (respects n codes-count) k (issued s) (view-table (s .solver)) (sane .means) (sane .stands) (sane .counted) (sane .fine) (view t) (view u)
         (known-yes s t (p .known-left)) (known-yes s u (p .known-right)) (first s t (p .left)) (first s u (p .right)))) f)
 
-    ends-or-cut : (o : Out Solver) → Settled o ⊎ (posing lim n s (size t + size u) o .reply ≡ verdict 2)
+    ends-or-cut : (o : Out Solver) → Settled o ⊎ (posing lim s (size t + size u) o .reply ≡ verdict 2)
     unfolding verdictOf
     ends-or-cut (cancelled z) = inr refl
     ends-or-cut (done z b) = inl tt
 
-    pub decides-in : RobinsonDecides lim n s t u
+    pub decides-in : RobinsonDecides lim b s t u
     decides-in =
-        let K = settled-of n codes-count s sane t u (p .known-left) (p .known-right) in
+        let K = settled-of s sane n codes-count t u (p .known-left) (p .known-right) in
         record {
           checks = K .0;
           enough = λ k l. shown k (K .1 k l);
@@ -198,10 +206,6 @@ module _ (lim : Limits) (n : Notion) (codes-count : n 4 ≡ false) where
             | inr e ↦ inl (ap (λ (x : Step). x .reply) (poses k) ∙ e)
           ];
         }
-
-  -- after every list of orders
-  pub robinson-each-of : (cs : List Command) (t u : Term) → PlainPair lim n (run lim n fresh cs) t u → RobinsonDecides lim n (run lim n fresh cs) t u
-  robinson-each-of cs t u p = decides-in (run lim n fresh cs) (all-sane lim n codes-count cs) t u p
 
 -- ---- the premise, by what a term resolves to
 
@@ -226,10 +230,13 @@ module _ (n : Notion) (s : Session) where
 -- ---- the theorem
 
 -- a pair that was not cancelled
-pub not-cancelled : (lim : Limits) (n : Notion) (s : Session) (t u : Term) → RobinsonDecides lim n s t u → (k : ℕ) → ¬ (order lim n s (pair k t u) .reply ≡ verdict 2) → DecidedBy lim n s k t u
-not-cancelled lim n s t u d k uncut = elim (d .fewer k) [ inl e ↦ absurd (uncut e) | inr y ↦ y ]
+pub not-cancelled : (lim : Limits) (b : Bool) (s : Session) (t u : Term) → RobinsonDecides lim b s t u → (k : ℕ) → ¬ (order lim s (pair b k t u) .reply ≡ verdict 2) → DecidedBy lim b s k t u
+not-cancelled lim b s t u d k uncut = elim (d .fewer k) [ inl e ↦ absurd (uncut e) | inr y ↦ y ]
 
--- ROBINSON 1965 DECIDES EACH PLAIN FIRST-ORDER PAIR, after every list of orders 0 to 8. Order 4: up to Set and Map access
-pub robinson-each : (lim : Limits) (cs : List Command) (t u : Term) → PlainPair lim loose (run lim loose fresh cs) t u → RobinsonDecides lim loose (run lim loose fresh cs) t u
-unfolding loose
-robinson-each lim cs t u p = robinson-each-of lim loose refl cs t u p
+-- ROBINSON 1965 DECIDES EACH PLAIN FIRST-ORDER PAIR, by its own order (4: up to Set and Map access; 22: with access), in every session in order
+pub robinson-in : (lim : Limits) (b : Bool) (s : Session) → InOrder (issued s) (s .solver) → (t u : Term) → PlainPair lim b s t u → RobinsonDecides lim b s t u
+robinson-in lim b s x t u p = decides-in lim b s (in-order-ordered (issued s) (s .solver) x) t u p
+
+-- and so after every list of orders
+pub robinson-each : (lim : Limits) (b : Bool) (cs : List Command) (t u : Term) → PlainPair lim b (run lim fresh cs) t u → RobinsonDecides lim b (run lim fresh cs) t u
+robinson-each lim b cs t u p = decides-in lim b (run lim fresh cs) (all-ordered lim cs) t u p

@@ -33,7 +33,7 @@ use Rattle.unify.specs.RustMaps.{look, sorted, look-site}
 use Rattle.unify.proofs.RustMapLaws.{look-insert, Once, once-insert, with-some, collect, sorted-collect}
 use Rattle.unify.proofs.RustRounds.{Holds, holds-begin, holds-push, within}
 use Rattle.solver.specs.Families.{Request, requested}
-use Rattle.solver.specs.Shapes.{loose, read}
+use Rattle.solver.specs.Shapes.{loose, notion, read}
 use Rattle.solver.specs.Constrain as solving
 use Rattle.solver.specs.Constrain.{resolved, top}
 use Rattle.solver.specs.Session.{Limits, at, gap, samePlace, Session, issued, find, fresh, issueAt, request, deferring, keep, never, settleAt, numericAt, neverAt, numericDefaults, neverDefaults}
@@ -42,7 +42,7 @@ use Rattle.solver.specs.Orders.{Reply, term, verdict, changed, count, no
 use Rattle.solver.specs.Demand3.{accepted}
 use Rattle.solver.specs.Words.MethodContract.{is-some}
 use Rattle.solver.specs.Rust.{and-then, Solver, default, with-numeric, resolve, variable-entry, hole-entry, returning, numeric-entry, diverge, defer-never, constrain}
-use Rattle.solver.specs.Rust.{default-root, numeric-defaults, never-defaults, with-verdict, with-change, with-term, answer, with-answer, answers, AsRead, AllRead, given, unrefused}
+use Rattle.solver.specs.Rust.{default-root, numeric-defaults, never-defaults, with-verdict, with-change, with-term, answer, with-answer, answers, OfRust, AllOfRust, given, unrefused}
 use Rattle.solver.proofs.Laws.Theory.TheoryView.{T, view, view-injective}
 use Rattle.solver.proofs.Laws.Theory.Signature.{S}
 use Rattle.solver.proofs.Laws.Theory.TheoryViewLaws.{viewed, all-viewed, view-resolve, view-follow}
@@ -50,7 +50,7 @@ use Rattle.solver.proofs.Laws.Theory.ConstrainView.{view-table, view-ou
 use Rattle.solver.proofs.Laws.Theory.TheorySimulation.{known-yes}
 use Rattle.solver.proofs.Laws.Theory.Demand3Laws.{respects}
 use Rattle.solver.proofs.Laws.Definition.DefaultLaws.{settle-requests}
-use Rattle.solver.proofs.Laws.Definition.InvariantLaws.{find-issued}
+use Rattle.solver.proofs.Laws.Definition.InOrderLaws.{find-issued}
 use Rattle.solver.proofs.Laws.Rust.RustPasses.{codes-count, view-bindings, view-numeric, push-view, long-view, asked, look-view, formed-push, low-insert, Proper, Held, resolve-held, Kept, kept-trans, bound, bound-some, bound-held, formed-bound, asks-held, MeetsOut, while-goes}
 
 -- ---- a table and a solver of the Rust that stand for one session over N variables
@@ -413,7 +413,7 @@ request-answered s z x v c l m =
 
 module _ (lim : Limits) where
   -- a refused order leaves the session
-  pub refused-stays : (s : Session) (c : Command) → accepted (order lim loose s c .reply) ≡ false → order lim loose s c .session ≡ s
+  pub refused-stays : (s : Session) (c : Command) → accepted (order lim s c .reply) ≡ false → order lim s c .session ≡ s
   unfolding order variableAt numberAt holeAt accepted
   refused-stays s (variable site slot) = go (find (at site slot) (s .places)) (full lim s)
     where
@@ -440,10 +440,10 @@ module _ (lim : Limits) where
       go true true e = refl
       go true false e = never-false e
       go false b e = refl
-  refused-stays s (pair k t u) = go (known s t && known s u) (crowded lim s (size t + size u))
+  refused-stays s (pair d k t u) = go (known s t && known s u) (crowded lim s (size t + size u))
     where
-      go : (a b : Bool) → accepted (unless lim s a b (posing lim loose s (size t + size u) (solving.constrain loose k (s .solver) t u)) .reply) ≡ false
-          → unless lim s a b (posing lim loose s (size t + size u) (solving.constrain loose k (s .solver) t u)) .session ≡ s
+      go : (a b : Bool) → accepted (unless lim s a b (posing lim s (size t + size u) (solving.constrain (notion d) k (s .solver) t u)) .reply) ≡ false
+          → unless lim s a b (posing lim s (size t + size u) (solving.constrain (notion d) k (s .solver) t u)) .session ≡ s
       go true true e = refl
       go true false e = never-false e
       go false b e = refl
@@ -460,8 +460,8 @@ module _ (lim : Limits) where
   refused-stays s (unread r) = λ e. refl
 
   -- AN ORDER THAT IS NOT REFUSED: the same answer, no panic, and the two agree after it.
-  order-same : (s : Session) (z : Solver) → Same s z → (c : Command) → AsRead c → accepted (order lim loose s c .reply) ≡ true
-      → Answered (order lim loose s c .session) (order lim loose s c .reply) (answer z c)
+  order-same : (s : Session) (z : Solver) → Same s z → (c : Command) → OfRust c → accepted (order lim s c .reply) ≡ true
+      → Answered (order lim s c .session) (order lim s c .reply) (answer z c)
   unfolding order answer variableAt numberAt holeAt accepted variable-entry hole-entry with-term and-then returning
   order-same s z x (variable site slot) f =
       subst (λ (o : Option ℕ). accepted (variableAt lim s (at site slot) (find (at site slot) (s .places)) (full lim s) .reply) ≡ true
@@ -537,15 +537,16 @@ module _ (lim : Limits) where
             same = defer-same s z x (resolved (s .solver) t) (λ v p. resolved-issued (issued s) (s .solver) z (x .both) t i v (subst (λ (u : Term). In v (view u)) (sym p) (var-in v)));
           }
       go false q b e = never-true e
-  order-same s z x (pair k t u) f = go (known s t && known s u) refl (crowded lim s (size t + size u))
+  order-same s z x (pair true k t u) f = never-false (f .0)
+  order-same s z x (pair false k t u) f = go (known s t && known s u) refl (crowded lim s (size t + size u))
     where
-      go : (a : Bool) → (known s t && known s u) ≡ a → (b : Bool) → accepted (unless lim s a b (posing lim loose s (size t + size u) (solving.constrain loose k (s .solver) t u)) .reply) ≡ true
-          → Answered (unless lim s a b (posing lim loose s (size t + size u) (solving.constrain loose k (s .solver) t u)) .session) (unless lim s a b (posing lim loose s (size t + size u) (solving.constrain loose k (s .solver) t u)) .reply)
+      go : (a : Bool) → (known s t && known s u) ≡ a → (b : Bool) → accepted (unless lim s a b (posing lim s (size t + size u) (solving.constrain loose k (s .solver) t u)) .reply) ≡ true
+          → Answered (unless lim s a b (posing lim s (size t + size u) (solving.constrain loose k (s .solver) t u)) .session) (unless lim s a b (posing lim s (size t + size u) (solving.constrain loose k (s .solver) t u)) .reply)
           (and-then (constrain k z t u) (λ o. some (with-verdict o)))
       go true q true e = never-true e
       go true q false e =
           let a = both (known s t) (known s u) q in
-          pair-same s z x k t u (known-yes s t (a .0)) (known-yes s u (a .1)) (f .0) (f .1) (keeps (moved (s .solver) (solverOf (solving.constrain loose k (s .solver) t u))) (size t + size u))
+          pair-same s z x k t u (known-yes s t (a .0)) (known-yes s u (a .1)) (f .1) (f .2) (keeps (moved (s .solver) (solverOf (solving.constrain loose k (s .solver) t u))) (size t + size u))
       go false q b e = never-true e
   order-same s z x (resolving t) f = go (known s t) refl (crowded lim s (size t))
     where
@@ -564,28 +565,40 @@ module _ (lim : Limits) where
   order-same s z x revision f = λ e. record { out = z; is = ap (λ (i : ℕ). some (z, count i)) (both-revision (issued s) (s .solver) z (x .both)); same = x }
   order-same s z x (unread r) f = λ e. never-true e
 
-  all-same : (s : Session) (z : Solver) → Same s z → (cs : List Command) → AllRead cs → answers z (given lim loose s cs) ≡ some (unrefused (replies lim loose s cs))
+  all-same : (s : Session) (z : Solver) → Same s z → (cs : List Command) → AllOfRust (given lim s cs) → answers z (given lim s cs) ≡ some (unrefused (replies lim s cs))
   unfolding answers given replies unrefused and-then with-answer
   all-same s z x [] f = refl
   all-same s z x (c ∷ cs) f =
-      go (accepted (order lim loose s c .reply)) refl
-      (λ z′ y. all-same (order lim loose s c .session) z′ y cs (f .1))
+      go (accepted (order lim s c .reply)) refl
+      (λ z′ y g. all-same (order lim s c .session) z′ y cs g) f
     where
       s′ : Session
-      s′ = order lim loose s c .session
+      s′ = order lim s c .session
 
       r : Reply
-      r = order lim loose s c .reply
+      r = order lim s c .reply
 
-      go : (b : Bool) → accepted (order lim loose s c .reply) ≡ b → ((z′ : Solver) → Same s′ z′ → answers z′ (given lim loose s′ cs) ≡ some (unrefused (replies lim loose s′ cs)))
-          → answers z (pick b (c ∷ given lim loose s′ cs) (given lim loose s′ cs)) ≡ some (pick b (r ∷ unrefused (replies lim loose s′ cs)) (unrefused (replies lim loose s′ cs)))
-      go true e i =
+      go : (b : Bool) → accepted (order lim s c .reply) ≡ b
+          → ((z′ : Solver) → Same s′ z′ → AllOfRust (given lim s′ cs) → answers z′ (given lim s′ cs) ≡ some (unrefused (replies lim s′ cs)))
+          → AllOfRust (pick b (c ∷ given lim s′ cs) (given lim s′ cs))
+          → answers z (pick b (c ∷ given lim s′ cs) (given lim s′ cs)) ≡ some (pick b (r ∷ unrefused (replies lim s′ cs)) (unrefused (replies lim s′ cs)))
+      go true e i f =
           let a = order-same s z x c (f .0) e in
-          ap (λ (o : Option (Solver × Reply)). and-then o (λ x. with-answer (x .1) (answers (x .0) (given lim loose s′ cs)))) (a .is)
-          ∙ ap (with-answer r) (i (a .out) (a .same))
-      go false e i = i z (subst (λ (q : Session). Same q z) (sym (refused-stays s c e)) x)
+          ap (λ (o : Option (Solver × Reply)). and-then o (λ x. with-answer (x .1) (answers (x .0) (given lim s′ cs)))) (a .is)
+          ∙ ap (with-answer r) (i (a .out) (a .same) (f .1))
+      go false e i f = i z (subst (λ (q : Session). Same q z) (sym (refused-stays s c e)) x) f
 
-  -- THE RUST'S SOLVER ANSWERS AS THE DEFINITION DOES, for every list of orders as they are read, for all limits: given the orders that are not
-  -- refused, in turn, it gives their answers, and never comes to an `unreachable!` or an index out of range.
-  pub rust-same : (cs : List Command) → AllRead cs → answers default (given lim loose fresh cs) ≡ some (unrefused (replies lim loose fresh cs))
+  -- where all orders are such as the Rust has, those that are not refused are
+  pub given-of-rust : (s : Session) (cs : List Command) → AllOfRust cs → AllOfRust (given lim s cs)
+  unfolding given
+  given-of-rust s [] f = tt
+  given-of-rust s (c ∷ cs) f = go (accepted (order lim s c .reply)) (given-of-rust (order lim s c .session) cs (f .1))
+    where
+      go : (b : Bool) → AllOfRust (given lim (order lim s c .session) cs) → AllOfRust (pick b (c ∷ given lim (order lim s c .session) cs) (given lim (order lim s c .session) cs))
+      go true g = (f .0, g)
+      go false g = g
+
+  -- THE RUST'S SOLVER ANSWERS AS THE DEFINITION DOES, for every list of orders of which those that are not refused are such as the Rust has, as they are read, for
+  -- all limits: given these, in turn, it gives their answers, and never comes to an `unreachable!` or an index out of range.
+  pub rust-same : (cs : List Command) → AllOfRust (given lim fresh cs) → answers default (given lim fresh cs) ≡ some (unrefused (replies lim fresh cs))
   rust-same cs f = all-same fresh default same-begin cs f

@@ -15,21 +15,21 @@ use Rattle.terms.proofs.Laws.Held.HeldLaws.{headKind, headValue, held-first, it
 use Rattle.unify.specs.Solver.{put, put-same, put-other}
 use Rattle.solver.specs.declared.Solver.{Solver}
 use Rattle.solver.specs.Families.{Request}
-use Rattle.solver.specs.Shapes.{Notion}
 use Rattle.solver.specs.Constrain as solving
 use Rattle.solver.specs.Constrain.{replaceRow, followed, resolve, follow, resolved, top}
 use Rattle.solver.specs.Session.{Session, issued, withSolver, deferring, settleAt, numericAt, neverAt, numericDefaults, neverDefaults}
+use Rattle.solver.specs.Invariant.{InOrder}
 use Rattle.solver.specs.Words.Bindings.{HeldBinding, HeldBindings}
 use Rattle.solver.specs.Words.ReachContract.{Steady, Topped}
 use Rattle.solver.specs.Words.ResolveWalk.{runLen, Named}
-use Rattle.solver.specs.Words.SessionRepresentation.{limitsOf, Reachable, HeldRequest, flag, Represents}
+use Rattle.solver.specs.Words.SessionRepresentation.{HeldRequest, flag, Represents}
 use Rattle.solver.specs.Words.MethodContract.{Beside, atMost, Low, EndsAt, settleWord, neverWord, defaultWord, defaulted}
 use Rattle.solver.specs.Words.ConstrainContract.{Within}
 use Rattle.solver.proofs.Laws.Resolving.FrameLaws.{run-none}
 use Rattle.solver.proofs.Laws.Resolving.ResolvedLaws.{run-held}
 use Rattle.solver.proofs.Laws.Resolving.TopLaws.{follow-none}
 use Rattle.solver.proofs.Laws.Definition.SolverInvariantLaws.{var-within, ordered-within, ordered-steady, ordered-topped, top-low}
-use Rattle.solver.proofs.Laws.Definition.DefaultLaws.{arises-ordered}
+use Rattle.solver.proofs.Laws.Definition.InOrderLaws.{in-order-ordered}
 use Rattle.solver.proofs.Laws.Table.ColumnLaws.{column-read}
 use Rattle.solver.proofs.Laws.Table.MethodLaws.{beside-same, beside-then, lent-defer, lent-bound}
 
@@ -288,10 +288,10 @@ module _ (n : ℕ) (b : ℕ → Option Term) (S : Steady n b) (T : Topped n b) (
       let x = node-stays n k ps in
       (x .0, sym (T .tops t) ∙ ap (resolve n b) e ∙ x .1)
 
-module _ (x : Solver) (ks₀ vs₀ ts : List ℕ) (s : Session) (n : Notion) (codes : n 4 ≡ false) (A : Reachable (limitsOf x) n s) (L : Represents x ks₀ vs₀ ts s) where
+module _ (x : Solver) (ks₀ vs₀ ts : List ℕ) (s : Session) (A : InOrder (issued s) (s .solver)) (L : Represents x ks₀ vs₀ ts s) where
   -- every binding that is a variable is one of the table
-  pub arises-low : Low (x .variables) (s .solver .bindings)
-  arises-low v t e = go t (ordered-within n codes (issued s) (s .solver) (arises-ordered n codes (limitsOf x) s A) v t e)
+  pub in-order-low : Low (x .variables) (s .solver .bindings)
+  in-order-low v t e = go t (ordered-within (issued s) (s .solver) (in-order-ordered (issued s) (s .solver) A) v t e)
     where
       go : (u : Term) → Within (issued s) u → atMost (x .variables) u
       go (var w) h = let f = L .fits .variables in omega (arith, var-within (issued s) w h)
@@ -303,10 +303,10 @@ module _ (x : Solver) (ks₀ vs₀ ts : List ℕ) (s : Session) (n : Notion) (co
     atop = subst (λ (m : ℕ). Held ks vs q (follow m (s .solver .bindings) t)) (L .revision) h
 
     S : Steady (s .solver .revision) (s .solver .bindings)
-    S = ordered-steady n codes (issued s) (s .solver) (arises-ordered n codes (limitsOf x) s A)
+    S = ordered-steady (issued s) (s .solver) (in-order-ordered (issued s) (s .solver) A)
 
     T : Topped (s .solver .revision) (s .solver .bindings)
-    T = ordered-topped n codes (issued s) (s .solver) (arises-ordered n codes (limitsOf x) s A)
+    T = ordered-topped (issued s) (s .solver) (in-order-ordered (issued s) (s .solver) A)
 
     -- no variable at the top
     pub deferred-none : (getD ks q 0 ≡ 1 → ⊥) → Represents x ks₀ vs₀ ts (deferring s (resolved (s .solver) t))
@@ -333,4 +333,4 @@ module _ (x : Solver) (ks₀ vs₀ ts : List ℕ) (s : Session) (n : Notion) (co
     pub deferred-far : Within (issued s) t → getD ks q 0 ≡ 1 → getD vs q 0 < x .variables
     deferred-far k e =
         let f = L .fits .variables in
-        omega (arith, top-low n codes (issued s) (s .solver) (arises-ordered n codes (limitsOf x) s A) t (getD vs q 0) k (top-variable e))
+        omega (arith, top-low (issued s) (s .solver) (in-order-ordered (issued s) (s .solver) A) t (getD vs q 0) k (top-variable e))

@@ -27,7 +27,7 @@ use Rattle.solver.specs.Words.Worklist.{Zero}
 use Rattle.solver.specs.Words.SessionRepresentation.{limitsOf, bindingWords, requestWords, placeWords, siteWords, slotWords, deferralWords, HeldRequest, HeldPlace, HeldPlaces, Unplaced, flag, freeWords, Represents}
 use Rattle.solver.specs.Words.MethodContract.{Shaped, Beside, matches, lastMatch, found, placing, placed, namedOf, namedBelow, Issued, Replied, replyOf, resolvedReply, Handed, neverWord, defaultWord}
 use Rattle.solver.specs.Words.OrderTerms.{placeOf}
-use Rattle.solver.proofs.Laws.Definition.InvariantLaws.{find-issued}
+use Rattle.solver.proofs.Laws.Definition.InOrderLaws.{find-issued}
 use Rattle.solver.proofs.Laws.Resolving.BindingLaws.{bind-held}
 use Rattle.solver.proofs.Laws.Table.ColumnLaws.{column-read, column-past, column-length, column-write, column-before, column-behind}
 use Rattle.solver.proofs.Laws.Definition.RequestLaws.{put-held}

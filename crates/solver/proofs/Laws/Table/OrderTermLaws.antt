@@ -18,14 +18,14 @@ use Rattle.solver.specs.declared.Start.{Start}
 use Rattle.solver.specs.declared.Start.the-variants.{Begins, Free}
 use Rattle.solver.specs.declared.Subject.{Subject}
 use Rattle.solver.specs.declared.Subject.the-variants.{Follows, Id}
-use Rattle.solver.specs.Shapes.{Notion}
 use Rattle.solver.specs.Constrain as solving
 use Rattle.solver.specs.Constrain.{resolve, resolved}
-use Rattle.solver.specs.Session.{Session, keep}
+use Rattle.solver.specs.Session.{Session, issued, keep}
+use Rattle.solver.specs.Invariant.{InOrder}
 use Rattle.solver.specs.Words.Bindings.{HeldBinding, HeldBindings}
 use Rattle.solver.specs.Words.ResolveFrames.{Apart, Cleared}
 use Rattle.solver.specs.Words.Worklist.{Zero}
-use Rattle.solver.specs.Words.SessionRepresentation.{Reachable, Represents, limitsOf, bindingWords}
+use Rattle.solver.specs.Words.SessionRepresentation.{Represents, bindingWords}
 use Rattle.solver.specs.Words.ConstrainContract.{Known, Scratch}
 use Rattle.solver.specs.Words.OrderTerms.{Behind, Poses, PosesPair, Asked, Starts, resolvedTo}
 use Rattle.solver.proofs.Laws.Table.RepresentationLaws.{Longer, longer-take, bindings-longer, begins-pair, lent-more}
@@ -39,7 +39,7 @@ pub record Fitted (x : Solver) (ks vs ts : List ℕ) (z : Session) : Type 0 wher
 
 -- ---- the bindings hold over all of the tokens
 
-module _ (n : Notion) (x : Solver) (ks vs ts : List ℕ) (z : Session) (B : Behind n x ks vs ts z) where
+module _ (x : Solver) (ks vs ts : List ℕ) (z : Session) (B : Behind x ks vs ts z) where
   pub behind-longer : Longer (take (x .top) ks) (take (x .top) vs) ks vs
   behind-longer = longer-take ks vs (x .top) (B .inside)
 
@@ -47,8 +47,8 @@ module _ (n : Notion) (x : Solver) (ks vs ts : List ℕ) (z : Session) (B : Behi
   behind-bindings = bindings-longer behind-longer (bindingWords (x .variables) ts) (z .solver .bindings) (B .represents .bindings)
 
 -- the term has a token
-pub poses-inside : (n : Notion) (x : Solver) (ks vs ts : List ℕ) (z : Session) (t : Term) → Poses n x ks vs ts z t → x .top < length ks
-poses-inside n x ks vs ts z t P = omega (arith, P .held .within, items-some t)
+pub poses-inside : (x : Solver) (ks vs ts : List ℕ) (z : Session) (t : Term) → Poses x ks vs ts z t → x .top < length ks
+poses-inside x ks vs ts z t P = omega (arith, P .held .within, items-some t)
 
 -- ---- what a variable resolves to
 
@@ -72,8 +72,8 @@ resolved-bound (suc n) b v t h e =
 -- ---- where resolving begins
 
 -- at a term that follows
-pub starts-behind : (n : Notion) (x : Solver) (ks vs ts : List ℕ) (z : Session) (t : Term) → Poses n x ks vs ts z t → Starts x ks vs z t (Begins (x .top) (x .revision))
-starts-behind n x ks vs ts z t P = (
+pub starts-behind : (x : Solver) (ks vs ts : List ℕ) (z : Session) (t : Term) → Poses x ks vs ts z t → Starts x ks vs z t (Begins (x .top) (x .revision))
+starts-behind x ks vs ts z t P = (
   t,
   P .held,
   ap (λ (m : ℕ). resolve m (z .solver .bindings) t) (sym (P .behind .represents .revision)),
@@ -114,20 +114,20 @@ module _ (x : Solver) (ks vs ts : List ℕ) (z : Session) (L : Represents x ks v
 
 -- by what is asked for
 module _ (x : Solver) (ts : List ℕ) (what : Subject) where
-  pub asked-id : (v : ℕ) → what ≡ Id v → (n : Notion) (ks vs : List ℕ) (z : Session) (t : Term) → Asked n x ks vs ts what z t
+  pub asked-id : (v : ℕ) → what ≡ Id v → (ks vs : List ℕ) (z : Session) (t : Term) → Asked x ks vs ts what z t
       → Represents x ks vs ts z × (t ≡ var v) × (v < x .variables)
-  asked-id v e n ks vs z t a = subst (λ (w : Subject). Asked n x ks vs ts w z t) e a
+  asked-id v e ks vs z t a = subst (λ (w : Subject). Asked x ks vs ts w z t) e a
 
-  asked-behind : what ≡ Follows → (n : Notion) (ks vs : List ℕ) (z : Session) (t : Term) → Asked n x ks vs ts what z t → Poses n x ks vs ts z t
-  asked-behind e n ks vs z t a = subst (λ (w : Subject). Asked n x ks vs ts w z t) e a
+  asked-behind : what ≡ Follows → (ks vs : List ℕ) (z : Session) (t : Term) → Asked x ks vs ts what z t → Poses x ks vs ts z t
+  asked-behind e ks vs z t a = subst (λ (w : Subject). Asked x ks vs ts w z t) e a
 
-  pub start-behind : what ≡ Follows → (n : Notion) (ks vs : List ℕ) (z : Session) (t : Term) → Asked n x ks vs ts what z t
+  pub start-behind : what ≡ Follows → (ks vs : List ℕ) (z : Session) (t : Term) → Asked x ks vs ts what z t
       → Starts x ks vs z t (Begins (x .top) (x .revision))
-  start-behind e n ks vs z t a = starts-behind n x ks vs ts z t (asked-behind e n ks vs z t a)
+  start-behind e ks vs z t a = starts-behind x ks vs ts z t (asked-behind e ks vs z t a)
 
-  module _ (v : ℕ) (e : what ≡ Id v) (n : Notion) (ks vs : List ℕ) (z : Session) (t : Term) (a : Asked n x ks vs ts what z t) where
+  module _ (v : ℕ) (e : what ≡ Id v) (ks vs : List ℕ) (z : Session) (t : Term) (a : Asked x ks vs ts what z t) where
     known : Represents x ks vs ts z × (t ≡ var v) × (v < x .variables)
-    known = asked-id v e n ks vs z t a
+    known = asked-id v e ks vs z t a
 
     pub start-none : x .revision ≡ 0 → Starts x ks vs z t (Free v)
     start-none f = subst (λ (u : Term). Starts x ks vs z u (Free v)) (sym (known .1)) (starts-none x ks vs ts z (known .0) v (known .2) f)
@@ -143,10 +143,10 @@ module _ (x : Solver) (ts : List ℕ) (what : Subject) where
         (starts-bound x ks vs ts z (known .0) v (known .2) w (g ∙ ap (λ (j : ℕ). getD ts j 0) f) h k l)
 
 -- what the areas hold, and how much room there is, in either case
-module _ (n : Notion) (x : Solver) (ks vs ts : List ℕ) (z : Session) (t : Term) where
-  pub asked-areas : (what : Subject) → Asked n x ks vs ts what z t → Fitted x ks vs ts z
+module _ (x : Solver) (ks vs ts : List ℕ) (z : Session) (t : Term) where
+  pub asked-areas : (what : Subject) → Asked x ks vs ts what z t → Fitted x ks vs ts z
   asked-areas Follows P =
-      record { pairs = P .behind .pairs; short = P .behind .short; room = P .behind .represents .room; bindings = behind-bindings n x ks vs ts z (P .behind) }
+      record { pairs = P .behind .pairs; short = P .behind .short; room = P .behind .represents .room; bindings = behind-bindings x ks vs ts z (P .behind) }
   asked-areas (Id v) a = record { pairs = a .0 .vals; short = a .0 .short; room = a .0 .room; bindings = a .0 .bindings }
 
 -- ---- what is resolved from where it begins
@@ -181,9 +181,9 @@ pub var-stored : (o : List ℕ) (i v : ℕ) (out : List ℕ) → out ≡ sets (s
 unfolding bytes
 var-stored o i v out e = e ∙ ap (λ (k : ℕ). sets (set o i 1) k (shortest v)) (add-one i)
 
--- ---- order 4: the counters with its nodes and tokens
+-- ---- orders 4 and 22: the counters with its nodes and tokens
 
-module _ (n : Notion) (x : Solver) (ks vs ts : List ℕ) (z : Session) (q : ℕ) (t u : Term) (P : PosesPair n x ks vs ts z q t u) where
+module _ (x : Solver) (ks vs ts : List ℕ) (z : Session) (q : ℕ) (t u : Term) (P : PosesPair x ks vs ts z q t u) where
   front : length (take (x .top) ks) ≡ x .top
   front = sym (P .behind .represents .top)
 
@@ -191,14 +191,14 @@ module _ (n : Notion) (x : Solver) (ks vs ts : List ℕ) (z : Session) (q : ℕ)
   pub pair-lent : (nodes : ℕ) → nodes ≡ z .kept + (size t + size u)
       → Represents (record { variables = x .variables; nodes = x .nodes; issued = x .issued; revision = x .revision; kept = nodes; top = length ks }) ks vs ts (keep z (z .solver) (size t + size u))
   pair-lent nodes e =
-      let G = behind-longer n x ks vs ts z (P .behind) in
+      let G = behind-longer x ks vs ts z (P .behind) in
       let b = begins-pair G t u (subst (λ (i : ℕ). Held ks vs i t) (sym front) (P .left)) (subst (λ (i : ℕ). Held ks vs (i + length (items t)) u) (sym front) (P .right)) (P .all ∙ ap (λ (i : ℕ). i + length (items t) + length (items u)) (sym front)) in
       let l = lent-more G (P .behind .represents) (size t + size u) (P .behind .pairs) (P .behind .short) b (P .few) in
       let k : x .kept + (size t + size u) ≡ nodes = omega (arith, P .behind .represents .kept, e) in
       subst (λ (i : ℕ). Represents (record { variables = x .variables; nodes = x .nodes; issued = x .issued; revision = x .revision; kept = i; top = length ks }) ks vs ts (keep z (z .solver) (size t + size u))) k l
 
-  pub pair-arises : Reachable (limitsOf x) n (keep z (z .solver) (size t + size u))
-  pair-arises = record { orders = P .behind .reachable .orders; solver = P .behind .reachable .solver; count = P .behind .reachable .count }
+  pub pair-ordered : InOrder (issued z) (z .solver)
+  pair-ordered = P .behind .ordered
 
   pub pair-left : Known ks vs (keep z (z .solver) (size t + size u)) (x .top) t
   pair-left = record { held = P .left; within = P .within-left }

@@ -1,14 +1,15 @@
--- Demand 3 for every list of orders 0 to 8, on terms: carried over from the theory along the view.
+-- Demand 3 for every list of orders 0 to 8 and 22, on terms, and what a list that mixes 4 and 22 keeps: carried over from the theory along the view.
 use mathlib.Core.Path.{_≡_, refl, sym, ap, _∙_, subst}
 use mathlib.Core.Bool.{Bool, true, false, _&&_, _||_}
 use mathlib.Core.List.{List, [], _∷_, map}
+use mathlib.Core.Logic.{_↔_}
 use mathlib.Core.Option.{Option, none, some}
-use Prim.Native.Nat.{ℕ, suc, _<_}
+use Prim.Native.Nat.{ℕ, suc, _+_, _<_}
 use native.Mathlib.Omega.{arith}
 use borrow.Author.Tests.{eqb-true}
 use lib.Dec.{eqb}
 use Rattle.terms.specs.Result.{pick}
-use Rattle.terms.specs.Term.{Term, Parts, var, node, end, num, sub}
+use Rattle.terms.specs.Term.{Term, Parts, var, node, end, num, sub, size}
 use Rattle.terms.specs.Questions.{among, meets}
 use Rattle.terms.specs.Formed.{Formed}
 use Rattle.terms.proofs.Laws.General.Bools.{never-true, never-false}
@@ -18,22 +19,27 @@ use Rattle.unify.specs.Solver.{Out, cancelled, done}
 use Rattle.unify.specs.Meaning as meaning
 use Rattle.unify.specs.Orders as theirs
 use Rattle.unify.specs.Orders.{Run, Issued}
-use Rattle.unify.proofs.Demand as demand
-use Rattle.unify.specs.Table.{answer, table-poses}
+use Rattle.unify.specs.Table.{Table, answer, table-poses}
+use Rattle.unify.proofs.Lazy.{resolve-right}
+use Rattle.unify.proofs.InOrder.{InOrderRun}
 use Rattle.unify.specs.Session as session
-use Rattle.unify.proofs.Whole.{whole-demand-3}
+use Rattle.unify.specs.Mixes as mixes
+use Rattle.unify.proofs.MixLaws as mix-laws
 use Rattle.solver.specs.Families.{Family, Request, belongs, belongsRow}
-use Rattle.solver.specs.Shapes.{Notion, loose, exact, unmarked, readRow, read, blankRow}
-use Rattle.solver.specs.Constrain.{Pair, replace, resolved, always, occurs, recovery, projects}
+use Rattle.solver.specs.Shapes.{Notion, loose, notion, unmarked, readRow, read, blankRow}
+use Rattle.solver.specs.Constrain.{Solver, Pair, constrain, replace, resolved, always, occurs, recovery, projects}
 use Rattle.solver.specs.Session.{Limits, Session, issued, find, fresh, never}
-use Rattle.solver.specs.Orders.{Command}
-use Rattle.solver.specs.Demand3.{History, beginning, history, isVariable, VariableFree, Assigns, RespectsFamilies, MakesEqual, Agrees, Demand3, outside, Plain, PlainPairs, Premises}
+use Rattle.solver.specs.Orders.{Command, pair, verdict, verdictOf, known, crowded, unless, posing, order}
+use Rattle.solver.specs.Demand3.{History, beginning, accepted, says, history, isVariable, VariableFree, Assigns, RespectsFamilies, EqualUpToAccess, MakesEqual, Agrees, Demand3, outside, Plain, PlainPairs, Premises}
+use Rattle.solver.specs.Demand3.{OnlyBy, AgreesExactly, EachBy, KeepsHalf, Unequal}
 use Rattle.solver.proofs.Laws.Theory.TheoryView.{T, view, view-injective, back, back-view, meets-view, some-of, some-in, in-some}
 use Rattle.solver.proofs.Laws.Theory.Signature.{S, view-back, formed-back, formed-view}
 use Rattle.solver.proofs.Laws.Definition.FamilyLaws.{belongs-code}
 use Rattle.solver.proofs.Laws.Theory.TheoryViewLaws.{viewed, view-replace, view-resolve, occurs-in, alike-sim, sim-alike}
-use Rattle.solver.proofs.Laws.Theory.ConstrainView.{view-table, view-pairs, leaf-view, fallback}
-use Rattle.solver.proofs.Laws.Theory.TheorySimulation.{TheSession, view-run, view-commands, history-view, all-allowed-view}
+use Rattle.solver.proofs.Laws.Theory.ConstrainView.{view-table, view-pairs, view-out, settles-view, leaf-view, fallback}
+use Rattle.solver.proofs.Laws.Theory.TheorySimulation.{TheSession, view-run, known-yes}
+use Rattle.solver.proofs.Laws.Theory.MixView.{norm, Mix, view-mix, By, view-all, mix-history, mix-allowed, mix-only}
+use Rattle.solver.proofs.Laws.Definition.NotionLaws.{notion-codes}
 
 -- ---- variable-free terms
 
@@ -227,11 +233,11 @@ module _ (m : Term → Term) where
   obey-within x w session.revision = w
   obey-within x w session.refused = w
 
-  all-within : (x : Run S TheSession) → Within (x .count) (x .posed) → (cs : List (session.Command S))
-      → Within (session.obey-all S fallback never m x cs .count) (session.obey-all S fallback never m x cs .posed)
-  unfolding session.obey-all
-  all-within x w [] = w
-  all-within x w (c ∷ cs) = all-within (session.obey S fallback never m x c) (obey-within x w c) cs
+mix-within : (x : Mix) → Within (x .run .count) (x .run .posed) → (cs : List By)
+    → Within (mixes.mix S fallback never Bool norm x cs .run .count) (mixes.mix S fallback never Bool norm x cs .run .posed)
+unfolding mixes.mix
+mix-within x w [] = w
+mix-within x w (c ∷ cs) = mix-within (mixes.obey-by S fallback never Bool norm x c) (obey-within (norm (c .0)) (x .run) w (c .1)) cs
 
 -- two assignments that are the same at the issued variables
 all-same : (n : Notion) (N : ℕ) (θ σ : ℕ → T) → ((v : ℕ) → v < N → θ v ≡ σ v) → (ps : List (T × T)) → Within N ps → meaning.All S (read n) θ ps → meaning.All S (read n) σ ps
@@ -244,6 +250,16 @@ all-same n N θ σ e (p ∷ ps) w a = (
 
 -- ---- from the theory
 
+-- an assignment of trees is one of terms
+back-assigns : (N : ℕ) (σ : ℕ → T) → theirs.Assigns S N σ → Assigns N (λ v. back (σ v))
+back-assigns N σ a v l = (
+  formed-back (σ v) (a v l .1) (a v l .0),
+  closed-free (back (σ v)) (subst (λ (t : T). Closed t) (sym (view-back (σ v) (a v l .1))) (a v l .0)),
+)
+
+back-respects : (σ : ℕ → T) (f : ℕ → Option Request) → meaning.True S σ f → RespectsFamilies (λ v. back (σ v)) f
+back-respects σ f t v r p = let x = member-belongs r (σ v) (t v r p) in ap (belongs (r .family)) (ap back (x .1) ∙ back-view (x .0)) ∙ x .2
+
 module _ (n : Notion) (h : History) where
   abbrev N : ℕ
   N = issued (h .session)
@@ -252,15 +268,12 @@ module _ (n : Notion) (h : History) where
   res v = answer S (view-table (h .session .solver)) (tree.var v)
 
   module _ (w : Within N (view-pairs (h .posed))) where
-    -- an assignment of trees is one of terms
     none-there : ((θ : ℕ → Term) → Assigns N θ → RespectsFamilies θ (h .requests) → ¬ MakesEqual n θ (h .posed))
         → (σ : ℕ → T) → theirs.Assigns S N σ → meaning.True S σ (h .requests) → ¬ meaning.All S (read n) σ (view-pairs (h .posed))
     none-there f σ a t e =
         let θ : ℕ → Term = λ v. back (σ v) in
         let same : (v : ℕ) → v < N → view (back (σ v)) ≡ σ v = λ v l. view-back (σ v) (a v l .1) in
-        f θ
-        (λ v l. (formed-back (σ v) (a v l .1) (a v l .0), closed-free (back (σ v)) (subst (λ (t : T). Closed t) (sym (same v l)) (a v l .0))))
-        (λ v r p. let x = member-belongs r (σ v) (t v r p) in ap (belongs (r .family)) (ap back (x .1) ∙ back-view (x .0)) ∙ x .2)
+        f θ (back-assigns N σ a) (back-respects σ (h .requests) t)
         (all-equal n θ (h .posed) (all-same n N σ (viewing θ) (λ v l. sym (same v l)) (view-pairs (h .posed)) w e))
 
     demand-view : theirs.Demand3 S (read n) (view-run h) res → Demand3 n h
@@ -285,26 +298,128 @@ module _ (n : Notion) (h : History) where
             let q = d .themselves v u l (subst (λ (t : T). In u t) (at v) (occurs-in u (resolved (h .session .solver) (var v)) o)) in
             (q .0, view-injective (resolved (h .session .solver) (var u)) (var u) (at u ∙ q .1))
 
-module _ (lim : Limits) (n : Notion) (codes-count : n 4 ≡ false) where
-  -- DEMAND 3: for every list of orders 0 to 8, refused ones included, given in turn to a fresh session; for every notion of equal shape in which
-  -- the code of a builtin counts, and for all limits.
-  pub demand-3-of : (cs : List Command) → Premises lim n cs → Demand3 n (history lim n beginning cs)
+-- ---- exact agreement
+
+module _ (θ : ℕ → Term) where
+  exactly-view : (s : Session) → AgreesExactly θ s → mixes.AgreesExactly S (issued s) (viewing θ) (view-table (s .solver))
+  exactly-view s a v l = ap view (a v l) ∙ sym (answer-under loose θ s v)
+
+  view-exactly : (s : Session) → mixes.AgreesExactly S (issued s) (viewing θ) (view-table (s .solver)) → AgreesExactly θ s
+  view-exactly s a v l = view-injective (θ v) (replace θ (resolved (s .solver) (var v))) (a v l ∙ answer-under loose θ s v)
+
+  equal-view : (n : Notion) (t u : Term) → EqualUpToAccess n (replace θ t) (replace θ u) → Sim (read n) (tree.sub (viewing θ) (view t)) (tree.sub (viewing θ) (view u))
+  equal-view n t u e = equal-all n θ ((t, u) ∷ []) (e, tt) .0
+
+  view-equal : (n : Notion) (t u : Term) → Sim (read n) (tree.sub (viewing θ) (view t)) (tree.sub (viewing θ) (view u)) → EqualUpToAccess n (replace θ t) (replace θ u)
+  view-equal n t u e = all-equal n θ ((t, u) ∷ []) (e, tt) .0
+
+  view-each : (bs : List Bool) (ps : List Pair) → mixes.EachBy S Bool norm (viewing θ) bs (view-pairs ps) → EachBy θ bs ps
+  view-each [] [] e = tt
+  view-each [] (p ∷ ps) e = e
+  view-each (b ∷ bs) [] e = e
+  view-each (b ∷ bs) (p ∷ ps) e = (view-equal (notion b) (p .0) (p .1) (e .0), view-each bs ps (e .1))
+
+-- two assignments that are the same at the variables of a term
+same-sim : (n : Notion) (N : ℕ) (θ σ : ℕ → T) → ((v : ℕ) → v < N → θ v ≡ σ v) → (t u : T) → Issued N t → Issued N u
+    → Sim (read n) (tree.sub θ t) (tree.sub θ u) → Sim (read n) (tree.sub σ t) (tree.sub σ u)
+same-sim n N θ σ e t u it iu a = all-same n N θ σ e ((t, u) ∷ []) (it, iu, tt) (a, tt) .0
+
+-- ---- THE THEOREMS
+
+pub respects-by : (b : Bool) (r : Request) (h k : Term) → norm b h ≡ norm b k → belongs (r .family) h ≡ belongs (r .family) k
+respects-by b = respects (notion b) (notion-codes b)
+
+module _ (lim : Limits) where
+  -- what a list leads to, in the theory
+  pub led : (cs : List Command) → mixes.mix S fallback never Bool norm (mixes.mix-begin S fallback never Bool norm) (view-all lim fresh cs) ≡ view-mix (history lim beginning cs)
   unfolding viewed find
-  demand-3-of cs p =
-      let h = history lim n beginning cs in
-      let ds = view-commands lim n fresh cs in
-      let e : session.sheet S fallback never (read n) ds ≡ view-run h = history-view lim n beginning cs in
-      let w = subst (λ (x : Run S TheSession). Within (x .count) (x .posed)) e (all-within (read n) (view-run beginning) tt ds) in
-      let d = subst (λ (x : Run S TheSession). demand.Premises S (read n) (respects n codes-count) x → theirs.Demand3 S (read n) x (λ v. answer S (x .state .table) (tree.var v))) e
-      (whole-demand-3 S fallback never (read n) (respects n codes-count) ds (all-allowed-view lim n beginning cs (p .allowed))) in
-      demand-view n h w (d (p .noneCancelled, plain-pairs-view (h .posed) (p .pairs)))
+  led cs = mix-history lim beginning cs
 
--- order 4: up to Set and Map access
-pub demand-3 : (lim : Limits) (cs : List Command) → Premises lim loose cs → Demand3 loose (history lim loose beginning cs)
-unfolding loose
-demand-3 lim cs p = demand-3-of lim loose refl cs p
+  pub all-allowed : (cs : List Command) → Premises lim cs → mixes.AllAllowedBy S fallback never Bool norm (mixes.mix-begin S fallback never Bool norm) (view-all lim fresh cs)
+  unfolding viewed find
+  all-allowed cs p = mix-allowed lim beginning cs (p .allowed)
 
--- and with access included
-pub strict-demand-3 : (lim : Limits) (cs : List Command) → Premises lim exact cs → Demand3 exact (history lim exact beginning cs)
-unfolding exact
-strict-demand-3 lim cs p = demand-3-of lim exact refl cs p
+  posed-within : (cs : List Command) → Within (issued (history lim beginning cs .session)) (view-pairs (history lim beginning cs .posed))
+  posed-within cs = subst (λ (x : Mix). Within (x .run .count) (x .run .posed)) (led cs) (mix-within (mixes.mix-begin S fallback never Bool norm) tt (view-all lim fresh cs))
+
+  mix-premises : (cs : List Command) → Premises lim cs → mixes.MixPremises S fallback never Bool norm (view-mix (history lim beginning cs))
+  mix-premises cs p = (p .noneCancelled, plain-pairs-view (history lim beginning cs .posed) (p .pairs))
+
+  -- what is left in what a variable resolves to is issued
+  left-issued : (cs : List Command) (v w : ℕ) → v < issued (history lim beginning cs .session)
+      → In w (answer S (view-table (history lim beginning cs .session .solver)) (tree.var v)) → w < issued (history lim beginning cs .session)
+  unfolding tree.sub
+  left-issued cs v w l i =
+      let z = view-table (history lim beginning cs .session .solver) in
+      let x = subst (λ (x : Mix). InOrderRun S fallback never (x .run)) (led cs) (mix-laws.mix-in-order S fallback never Bool norm respects-by (view-all lim fresh cs)) .table in
+      x .fine .within v w l (subst (λ (t : T). In w t) (resolve-right (z .bound) (z .rev) (x .means .res) (x .stands .rep) (tree.var v)) i)
+
+  -- DEMAND 3: for every list of orders 0 to 8 and 22, refused ones included, given in turn to a fresh session, that poses only pairs by order 4 (b is false: up
+  -- to Set and Map access), or only strict ones (b is true: with access included, in agreeing too); and for all limits.
+  pub demand-3 : (b : Bool) (cs : List Command) → OnlyBy b (history lim beginning cs .by) → Premises lim cs → Demand3 (notion b) (history lim beginning cs)
+  demand-3 b cs o p =
+      let h = history lim beginning cs in
+      let d = subst (λ (x : Mix). mixes.MixPremises S fallback never Bool norm x → theirs.Demand3 S (norm b) (x .run) (λ v. answer S (x .run .state .table) (tree.var v))) (led cs)
+      (mix-laws.pure-demand-3 S fallback never Bool norm respects-by b (view-all lim fresh cs) (mix-only lim b beginning cs o) (all-allowed cs p)) in
+      demand-view (notion b) h (posed-within cs) (d (mix-premises cs p))
+
+  -- THE HALF THAT A MIX KEEPS: for every list that mixes them.
+  pub mixed-half : (cs : List Command) → Premises lim cs → KeepsHalf (history lim beginning cs)
+  mixed-half cs p e θ t a =
+      let h = history lim beginning cs in
+      let d = subst (λ (x : Mix). mixes.MixPremises S fallback never Bool norm x → mixes.Half S fallback never Bool norm x) (led cs)
+      (mix-laws.mixed-half S fallback never Bool norm respects-by (view-all lim fresh cs) (all-allowed cs p)) in
+      view-each θ (h .by) (h .posed) (d (mix-premises cs p) e (viewing θ) (true-view θ (h .requests) t) (exactly-view θ (h .session) a))
+
+  -- EACH PAIR OF A MIX, posed after the list cs, whatever earlier pairs were answered: it is answered incompatible exactly if no assignment true to the
+  -- families that agrees exactly with what the variables resolved to just before it makes it equal by its own order.
+  pub mixed-pair : (cs : List Command) → Premises lim cs → (b : Bool) (k : ℕ) (t u : Term) → Plain t → Plain u
+      → accepted (order lim (history lim beginning cs .session) (pair b k t u) .reply) ≡ true → says 2 (order lim (history lim beginning cs .session) (pair b k t u) .reply) ≡ false
+      → (says 0 (order lim (history lim beginning cs .session) (pair b k t u) .reply) ≡ true) ↔ Unequal (history lim beginning cs) b t u
+  unfolding order accepted says verdictOf view-out
+  mixed-pair cs p b k t u pt pu = go (known s t) (known s u) (crowded lim s (size t + size u)) refl refl
+    where
+      h : History
+      h = history lim beginning cs
+
+      s : Session
+      s = h .session
+
+      o : Out Solver
+      o = constrain (notion b) k (s .solver) t u
+
+      Theirs : Out (Table S) → Type 0
+      Theirs x = mixes.Exact S Bool norm (issued s) (view-table (s .solver)) (h .requests) b (view t) (view u) x
+
+      exact-answer : known s t ≡ true → known s u ≡ true → Theirs (view-out o)
+      exact-answer kt ku = subst Theirs (settles-view (notion b) k (s .solver) true ((t, u) ∷ []))
+          (subst (λ (x : Mix). mixes.MixPremises S fallback never Bool norm x → Issued (x .run .count) (view t) → Issued (x .run .count) (view u)
+          → mixes.Exact S Bool norm (x .run .count) (x .run .state .table) (x .run .asked) b (view t) (view u) (table-poses S (norm b) k (x .run .state .table) (view t) (view u))) (led cs)
+          (λ q i j. mix-laws.mixed-pair S fallback never Bool norm respects-by (view-all lim fresh cs) (all-allowed cs p) q b k (view t) (view u) i j (plain-view t pt) (plain-view u pu))
+          (mix-premises cs p) (known-yes s t kt) (known-yes s u ku))
+
+      -- an assignment of trees is one of terms
+      to-theirs : known s t ≡ true → known s u ≡ true → Unequal h b t u → mixes.Unequal S Bool norm (issued s) (view-table (s .solver)) (h .requests) b (view t) (view u)
+      to-theirs kt ku f σ a r g e =
+          let θ : ℕ → Term = λ v. back (σ v) in
+          let same : (v : ℕ) → v < issued s → view (back (σ v)) ≡ σ v = λ v l. view-back (σ v) (a v l .1) in
+          f θ (back-assigns (issued s) σ a) (back-respects σ (h .requests) r)
+          (view-exactly θ s (λ v l. same v l ∙ g v l ∙ sub-ext (answer S (view-table (s .solver)) (tree.var v)) (λ w i. sym (same w (left-issued cs v w l i)))))
+          (view-equal θ (notion b) t u
+          (same-sim (notion b) (issued s) σ (viewing θ) (λ v l. sym (same v l)) (view t) (view u) (known-yes s t kt) (known-yes s u ku) e))
+
+      to-ours : mixes.Unequal S Bool norm (issued s) (view-table (s .solver)) (h .requests) b (view t) (view u) → Unequal h b t u
+      to-ours f θ a r g e = f (viewing θ) (assigns-view (issued s) θ a) (true-view θ (h .requests) r) (exactly-view θ s g) (equal-view θ (notion b) t u e)
+
+      ends : known s t ≡ true → known s u ≡ true → (x : Out Solver) → Theirs (view-out x) → says 2 (verdict (verdictOf x)) ≡ false → (says 0 (verdict (verdictOf x)) ≡ true) ↔ Unequal h b t u
+      ends kt ku (cancelled z) e f = never-false f
+      ends kt ku (done z true) e f = ((λ q. never-true q), λ q. never-false (e .1 (to-theirs kt ku q)))
+      ends kt ku (done z false) e f = ((λ q. to-ours (e .0 refl)), λ q. refl)
+
+      go : (a c d : Bool) → known s t ≡ a → known s u ≡ c
+          → accepted (unless lim s (a && c) d (posing lim s (size t + size u) o) .reply) ≡ true → says 2 (unless lim s (a && c) d (posing lim s (size t + size u) o) .reply) ≡ false
+          → (says 0 (unless lim s (a && c) d (posing lim s (size t + size u) o) .reply) ≡ true) ↔ Unequal h b t u
+      go true true true kt ku e f = never-true e
+      go true true false kt ku e f = ends kt ku o (exact-answer kt ku) f
+      go true false d kt ku e f = never-true e
+      go false c d kt ku e f = never-true e

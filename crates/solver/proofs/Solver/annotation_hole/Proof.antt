@@ -19,7 +19,7 @@ unfolding order
 returns c =
     let a = c .before .before .before .before .before .args in
     let i = c .before .before .issue .ensures in
-    (λ ks vs s n L. hole-replied _ ks vs _ (limitsOf (a .self)) s (gap (a .site)) _ (i .0 ks vs s (gap (a .site)) (refl, refl, refl) L), i .1 .1)
+    (λ ks vs s L. hole-replied _ ks vs _ (limitsOf (a .self)) s (gap (a .site)) _ (i .0 ks vs s (gap (a .site)) (refl, refl, refl) L), i .1 .1)
 
 pub annotation-hole-spec : {M : Type 1} → statement M
 annotation-hole-spec = tie.close (tie.spec issue-requires same-length returns)

@@ -4,8 +4,8 @@ use Prim.Native.Nat.{_+_}
 use denote.Ref.{now}
 use Rattle.terms.specs.Term.{size}
 use Rattle.solver.specs.Session.{keep}
-use Rattle.solver.specs.Words.SessionRepresentation.{limitsOf, notion}
-use Rattle.solver.proofs.Laws.Table.OrderTermLaws.{pair-lent, pair-arises, pair-left, pair-right, pair-scratch}
+use Rattle.solver.specs.Shapes.{notion}
+use Rattle.solver.proofs.Laws.Table.OrderTermLaws.{pair-lent, pair-ordered, pair-left, pair-right, pair-scratch}
 use Rattle.solver.proofs.Laws.Checks.PosedLaws.{posed-still, posed-bound}
 use borrow.Author.Needs.{needs}
 use Rattle.solver.proofs.Solver.constrain.Statement.{statement}
@@ -20,8 +20,7 @@ solve-pair-requires c κs =
     let t = p .0 .1 in
     let u = p .0 .2 in
     let P = p .0 .3 in
-    let n = notion (a .strict) in
-    ((keep z (z .solver) (size t + size u), limitsOf (a .self), t, u, pair-arises n (a .self) _ _ _ z (a .q) t u P, pair-lent n (a .self) _ _ _ z (a .q) t u P (a .nodes) (p .0 .4), pair-left n (a .self) _ _ _ z (a .q) t u P, pair-right n (a .self) _ _ _ z (a .q) t u P), (pair-scratch n (a .self) _ _ _ z (a .q) t u P _ (a .nodes) (p .1 .0), p .1 .1))
+    ((keep z (z .solver) (size t + size u), t, u, pair-ordered (a .self) _ _ _ z (a .q) t u P, pair-lent (a .self) _ _ _ z (a .q) t u P (a .nodes) (p .0 .4), pair-left (a .self) _ _ _ z (a .q) t u P, pair-right (a .self) _ _ _ z (a .q) t u P), (pair-scratch (a .self) _ _ _ z (a .q) t u P _ (a .nodes) (p .1 .0), p .1 .1))
 
 same-length : tie.Need-same-length
 same-length c = search needs
@@ -37,7 +36,7 @@ returns c =
     let e = c .before .before .before .before .before .before .before .solve-pair .ensures in (
       λ z t u P k.
           posed-still n (a .self) (now (a .kinds)) (now (a .vals)) (now (a .tables)) _ z (a .q) t u P (h .pre .1 .1) (c .before .before .before .before .before .before .tables .given) (a .k) (a .nodes) _ _
-          (e .0 (keep z (z .solver) (size t + size u)) (limitsOf (a .self)) t u (pair-arises n (a .self) _ _ _ z (a .q) t u P) (pair-lent n (a .self) _ _ _ z (a .q) t u P (a .nodes) k) (pair-left n (a .self) _ _ _ z (a .q) t u P) (pair-right n (a .self) _ _ _ z (a .q) t u P)) (c .if1 .taken),
+          (e .0 (keep z (z .solver) (size t + size u)) t u (pair-ordered (a .self) _ _ _ z (a .q) t u P) (pair-lent (a .self) _ _ _ z (a .q) t u P (a .nodes) k) (pair-left (a .self) _ _ _ z (a .q) t u P) (pair-right (a .self) _ _ _ z (a .q) t u P)) (c .if1 .taken),
       e .1,
     )
 
@@ -55,7 +54,7 @@ returns-2 c =
     let e = c .before .before .before .before .before .before .before .solve-pair .ensures in (
       λ z t u P k.
           posed-bound n (a .self) (now (a .kinds)) (now (a .vals)) (now (a .tables)) _ z (a .q) t u P (h .pre .1 .1) (c .before .before .before .before .before .before .tables .given) (a .k) (a .nodes) _ _
-          (e .0 (keep z (z .solver) (size t + size u)) (limitsOf (a .self)) t u (pair-arises n (a .self) _ _ _ z (a .q) t u P) (pair-lent n (a .self) _ _ _ z (a .q) t u P (a .nodes) k) (pair-left n (a .self) _ _ _ z (a .q) t u P) (pair-right n (a .self) _ _ _ z (a .q) t u P)) (c .if1 .left),
+          (e .0 (keep z (z .solver) (size t + size u)) t u (pair-ordered (a .self) _ _ _ z (a .q) t u P) (pair-lent (a .self) _ _ _ z (a .q) t u P (a .nodes) k) (pair-left (a .self) _ _ _ z (a .q) t u P) (pair-right (a .self) _ _ _ z (a .q) t u P)) (c .if1 .left),
       e .1,
     )
 

@@ -2,7 +2,7 @@
 use mathlib.Core.Path.{sym, _∙_}
 use denote.Ref.{now}
 use borrow.Author.Tests.{not-true, not-false, eq-eqb, ne-eqb}
-use Rattle.solver.specs.Words.SessionRepresentation.{notion}
+use Rattle.solver.specs.Shapes.{notion}
 use Rattle.solver.proofs.Laws.Checks.CheckContractLaws.{nodes-places, nodes-twins, apart-recovers, apart-projects, apart-unlike, apart-pushes}
 use borrow.Author.Needs.{needs}
 use Rattle.solver.proofs.Solver.decompose.Statement.{statement}

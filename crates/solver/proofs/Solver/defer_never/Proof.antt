@@ -17,12 +17,12 @@ slice-reshare-prefix-shallow-resolve c = search needs
 slice-aggregate-shallow-resolve : tie.Need-slice-aggregate-shallow-resolve
 slice-aggregate-shallow-resolve c =
     let p = c .before .before .before .before .pre in
-    sym (length-take-le _ _ (omega (arith, p .3 .behind .represents .room)))
+    sym (length-take-le _ _ (omega (arith, p .2 .behind .represents .room)))
 
 shallow-resolve-requires : tie.Need-shallow-resolve-requires
 shallow-resolve-requires c κs =
     let p = c .before .before .before .before .pre in
-    (poses-inside _ _ _ _ _ _ _ (p .3), p .3 .behind .pairs)
+    (poses-inside _ _ _ _ _ _ (p .2), p .2 .behind .pairs)
 
 mul-if1 : tie.Need-mul-if1
 mul-if1 c = search needs
@@ -60,7 +60,7 @@ returns c =
     let p = c .before .before .before .before .before .before .before .before .before .before .pre in
     let t = c .before .before .before .before .before .shallow-resolve in
     let l = c .if2 .taken in (
-      λ n s u P. deferred-some (a .self) _ _ (now (a .tables)) s n (P .behind .codes) (P .behind .reachable) (P .behind .represents) (now (a .kinds)) (now (a .vals)) u (t .result) (t .ensures .1 u (s .solver .bindings) (P .held) (behind-bindings _ _ _ _ _ _ (P .behind))) _ (c .before .wide .ensures) (c .before .before .before .if1 .taken) l,
+      λ s u P. deferred-some (a .self) _ _ (now (a .tables)) s (P .behind .ordered) (P .behind .represents) (now (a .kinds)) (now (a .vals)) u (t .result) (t .ensures .1 u (s .solver .bindings) (P .held) (behind-bindings _ _ _ _ _ (P .behind))) _ (c .before .wide .ensures) (c .before .before .before .if1 .taken) l,
       beside-set (a .self) (a .self) (now (a .tables)) (now (a .tables)) (5 * a .self .variables + c .before .wide .result) 1 (beside-same (a .self) (now (a .tables))) (omega arith),
     )
 
@@ -71,7 +71,7 @@ returns-2 : tie.Need-returns-2
 returns-2 c =
     let a = c .before .before .before .before .before .before .before .before .before .before .args in
     let t = c .before .before .before .before .before .shallow-resolve in (
-      λ n s u P. absurd (omega (arith, deferred-far (a .self) _ _ (now (a .tables)) s n (P .behind .codes) (P .behind .reachable) (P .behind .represents) (now (a .kinds)) (now (a .vals)) u (t .result) (t .ensures .1 u (s .solver .bindings) (P .held) (behind-bindings _ _ _ _ _ _ (P .behind))) (P .within) (c .before .before .before .if1 .taken), c .before .wide .ensures, c .if2 .left)),
+      λ s u P. absurd (omega (arith, deferred-far (a .self) _ _ (now (a .tables)) s (P .behind .ordered) (P .behind .represents) (now (a .kinds)) (now (a .vals)) u (t .result) (t .ensures .1 u (s .solver .bindings) (P .held) (behind-bindings _ _ _ _ _ (P .behind))) (P .within) (c .before .before .before .if1 .taken), c .before .wide .ensures, c .if2 .left)),
       beside-same (a .self) (now (a .tables)),
     )
 
@@ -82,7 +82,7 @@ returns-3 : tie.Need-returns-3
 returns-3 c =
     let a = c .before .before .before .before .before .before .before .args in
     let t = c .before .before .shallow-resolve in (
-      λ n s u P. deferred-none (a .self) _ _ (now (a .tables)) s n (P .behind .codes) (P .behind .reachable) (P .behind .represents) (now (a .kinds)) (now (a .vals)) u (t .result) (t .ensures .1 u (s .solver .bindings) (P .held) (behind-bindings _ _ _ _ _ _ (P .behind))) (c .if1 .left),
+      λ s u P. deferred-none (a .self) _ _ (now (a .tables)) s (P .behind .ordered) (P .behind .represents) (now (a .kinds)) (now (a .vals)) u (t .result) (t .ensures .1 u (s .solver .bindings) (P .held) (behind-bindings _ _ _ _ _ (P .behind))) (c .if1 .left),
       beside-same (a .self) (now (a .tables)),
     )
 

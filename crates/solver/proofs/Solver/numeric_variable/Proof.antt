@@ -50,7 +50,7 @@ returns c =
     let l = i .1 .0 _ g in
     let e = c .wide .ensures in
     let q = c .before .before .before .before .before .before .before .before .before .before .pre .1 in (
-      λ ks vs s n L. number-written _ ks vs _ (limitsOf (a .self)) s (at (a .site) 1) _ _ (a .fallback) _ g (i .0 ks vs s (at (a .site) 1) (refl, refl, refl) L) (omega (arith, i .1 .1 .variables)) q (omega (arith, i .1 .1 .variables)),
+      λ ks vs s L. number-written _ ks vs _ (limitsOf (a .self)) s (at (a .site) 1) _ _ (a .fallback) _ g (i .0 ks vs s (at (a .site) 1) (refl, refl, refl) L) (omega (arith, i .1 .1 .variables)) q (omega (arith, i .1 .1 .variables)),
       beside-set (a .self) _ (now (a .tables)) _ _ (a .fallback + 1) (i .1 .1) (omega arith),
     )
 
@@ -62,7 +62,7 @@ unfolding order
 returns-2 c =
     let a = c .before .before .before .before .before .before .before .before .args in
     let i = c .before .before .before .before .before .issue .ensures in
-    (λ ks vs s n L. number-none _ ks vs _ (limitsOf (a .self)) s (at (a .site) 1) _ (requested (a .fallback)) (c .enum-told .given .1) (i .0 ks vs s (at (a .site) 1) (refl, refl, refl) L), i .1 .1)
+    (λ ks vs s L. number-none _ ks vs _ (limitsOf (a .self)) s (at (a .site) 1) _ (requested (a .fallback)) (c .enum-told .given .1) (i .0 ks vs s (at (a .site) 1) (refl, refl, refl) L), i .1 .1)
 
 pub numeric-variable-spec : {M : Type 1} → statement M
 numeric-variable-spec =

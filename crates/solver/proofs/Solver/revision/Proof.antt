@@ -6,7 +6,7 @@ use Rattle.solver.proofs.Solver.revision.Tie as tie
 
 returns : tie.Need-returns
 unfolding order
-returns c = (refl, λ ks vs ts s n L. ap count (sym (L .revision)))
+returns c = (refl, λ ks vs ts s L. ap count (sym (L .revision)))
 
 pub revision-spec : {M : Type 1} → statement M
 revision-spec = tie.close (tie.spec returns)

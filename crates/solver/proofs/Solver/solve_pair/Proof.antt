@@ -3,9 +3,9 @@ use mathlib.Core.Bool.{true, false}
 use native.Mathlib.Omega.{arith}
 use denote.Ref.{now}
 use borrow.Author.Tests.{not-true, not-false}
-use Rattle.solver.specs.Words.SessionRepresentation.{notion}
+use Rattle.solver.specs.Shapes.{notion}
 use Rattle.solver.specs.Constrain.{constrain}
-use Rattle.solver.proofs.Laws.Definition.DefaultLaws.{notion-codes}
+use Rattle.solver.proofs.Laws.Definition.NotionLaws.{notion-codes}
 use Rattle.solver.proofs.Laws.Checks.CheckContractLaws.{held-place}
 use Rattle.solver.proofs.Laws.Checks.PairLoopLaws.{Loop, going-start, loop-start, loop-room, loop-due, loop-scratch, loop-next, told-so, and-false, and-true, counted-start, going-end, going-cancel}
 use borrow.Author.Needs.{needs}
@@ -27,16 +27,16 @@ put-pair-requires c κs =
     let h = c .before .before .before .before .before .before in
     let a = h .args in
     let S = h .pre .1 .0 in
-    let L = h .pre .0 .5 in
-    let p = held-place _ _ _ _ (h .pre .0 .6 .held) in
-    let q = held-place _ _ _ _ (h .pre .0 .7 .held) in
+    let L = h .pre .0 .4 in
+    let p = held-place _ _ _ _ (h .pre .0 .5 .held) in
+    let q = held-place _ _ _ _ (h .pre .0 .6 .held) in
     (omega (arith, S .pairs), (omega (arith, L .short), omega (arith, L .short)))
 
 loop-holds : tie.Need-loop-holds Inv-loop μ-loop
 loop-holds c =
     let h = c .before .before .before .before .before .before .before .before .before in
     let a = h .args in
-    loop-start (notion (a .strict)) (a .self) (now (a .kinds)) (now (a .vals)) (now (a .tables)) _ (now (a .work)) (a .k) _ true (h .pre .0 .0) (constrain (notion (a .strict)) (a .k) (h .pre .0 .0 .solver) (h .pre .0 .2) (h .pre .0 .3)) (going-start (notion (a .strict)) (a .self) (now (a .kinds)) (now (a .vals)) (now (a .tables)) (h .pre .0 .0) (h .pre .0 .1) (h .pre .0 .4) (h .pre .0 .5) (h .pre .1 .1) (a .p) (a .q) (h .pre .0 .2) (h .pre .0 .3) (h .pre .0 .6) (h .pre .0 .7) _ (c .before .tables .given) _ (c .before .before .put-pair .ensures) (a .k)) (h .pre .1 .0) (c .before .tables .given)
+    loop-start (notion (a .strict)) (a .self) (now (a .kinds)) (now (a .vals)) (now (a .tables)) _ (now (a .work)) (a .k) _ true (h .pre .0 .0) (constrain (notion (a .strict)) (a .k) (h .pre .0 .0 .solver) (h .pre .0 .1) (h .pre .0 .2)) (going-start (notion (a .strict)) (a .self) (now (a .kinds)) (now (a .vals)) (now (a .tables)) (h .pre .0 .0) (h .pre .0 .3) (h .pre .0 .4) (h .pre .1 .1) (a .p) (a .q) (h .pre .0 .1) (h .pre .0 .2) (h .pre .0 .5) (h .pre .0 .6) _ (c .before .tables .given) _ (c .before .before .put-pair .ensures) (a .k)) (h .pre .1 .0) (c .before .tables .given)
 
 clear-pairs-requires : tie.Need-clear-pairs-requires Inv-loop μ-loop
 clear-pairs-requires c κs =
@@ -56,7 +56,7 @@ returns c =
     let h = c .before .before .before .before .before .before .before .before .before .before .before .before .before .before .before .before in
     let a = h .args in
     let l = c .before .before .before .before .before .before .loop in
-    ((λ s lim t u ar L kp kq. going-cancel (notion (a .strict)) (a .self) (now (a .kinds)) (now (a .vals)) (now (a .tables)) s _ (l .self) (l .tables) (l .left) (l .count) (l .ok) (l .inv .carries s (constrain (notion (a .strict)) (a .k) (s .solver) t u) (going-start (notion (a .strict)) (a .self) (now (a .kinds)) (now (a .vals)) (now (a .tables)) s lim ar L (h .pre .1 .1) (a .p) (a .q) t u kp kq _ (c .before .before .before .before .before .before .before .before .tables .given) _ (c .before .before .before .before .before .before .before .before .before .put-pair .ensures) (a .k))) (counted-start (a .self) (l .self) _ _ (now (a .tables)) _ (l .tables) _ (c .before .before .before .before .before .before .before .before .tables .given) (c .before .before .before .before .before .before .before .before .before .put-pair .ensures) (l .inv .counted)) (c .before .before .before .before .if1 .taken) (c .before .before .before .before .before .loop-test .taken) _ (c .before .tables2 .given) (c .before .before .clear-pairs .ensures)), l .inv .room .clear)
+    ((λ s t u o L kp kq. going-cancel (notion (a .strict)) (a .self) (now (a .kinds)) (now (a .vals)) (now (a .tables)) s _ (l .self) (l .tables) (l .left) (l .count) (l .ok) (l .inv .carries s (constrain (notion (a .strict)) (a .k) (s .solver) t u) (going-start (notion (a .strict)) (a .self) (now (a .kinds)) (now (a .vals)) (now (a .tables)) s o L (h .pre .1 .1) (a .p) (a .q) t u kp kq _ (c .before .before .before .before .before .before .before .before .tables .given) _ (c .before .before .before .before .before .before .before .before .before .put-pair .ensures) (a .k))) (counted-start (a .self) (l .self) _ _ (now (a .tables)) _ (l .tables) _ (c .before .before .before .before .before .before .before .before .tables .given) (c .before .before .before .before .before .before .before .before .before .put-pair .ensures) (l .inv .counted)) (c .before .before .before .before .if1 .taken) (c .before .before .before .before .before .loop-test .taken) _ (c .before .tables2 .given) (c .before .before .clear-pairs .ensures)), l .inv .room .clear)
 
 sub-left : tie.Need-sub-left Inv-loop μ-loop
 sub-left c = search needs
@@ -109,7 +109,7 @@ returns-2 c =
     let h = c .before .before .before .before .before .before .before .before .before .before .before .before in
     let a = h .args in
     let l = c .before .before .loop in
-    ((λ s lim t u ar L kp kq. going-end (notion (a .strict)) (a .self) (now (a .kinds)) (now (a .vals)) (now (a .tables)) s _ (l .self) (l .tables) (l .left) (l .count) true (told-so (l .inv .carries s (constrain (notion (a .strict)) (a .k) (s .solver) t u) (going-start (notion (a .strict)) (a .self) (now (a .kinds)) (now (a .vals)) (now (a .tables)) s lim ar L (h .pre .1 .1) (a .p) (a .q) t u kp kq _ (c .before .before .before .before .tables .given) _ (c .before .before .before .before .before .put-pair .ensures) (a .k))) (c .if3 .taken)) (counted-start (a .self) (l .self) _ _ (now (a .tables)) _ (l .tables) _ (c .before .before .before .before .tables .given) (c .before .before .before .before .before .put-pair .ensures) (l .inv .counted)) (omega (arith, c .before .loop-test .left))), l .inv .room .clear)
+    ((λ s t u o L kp kq. going-end (notion (a .strict)) (a .self) (now (a .kinds)) (now (a .vals)) (now (a .tables)) s _ (l .self) (l .tables) (l .left) (l .count) true (told-so (l .inv .carries s (constrain (notion (a .strict)) (a .k) (s .solver) t u) (going-start (notion (a .strict)) (a .self) (now (a .kinds)) (now (a .vals)) (now (a .tables)) s o L (h .pre .1 .1) (a .p) (a .q) t u kp kq _ (c .before .before .before .before .tables .given) _ (c .before .before .before .before .before .put-pair .ensures) (a .k))) (c .if3 .taken)) (counted-start (a .self) (l .self) _ _ (now (a .tables)) _ (l .tables) _ (c .before .before .before .before .tables .given) (c .before .before .before .before .before .put-pair .ensures) (l .inv .counted)) (omega (arith, c .before .loop-test .left))), l .inv .room .clear)
 
 same-length-5 : tie.Need-same-length-5 Inv-loop μ-loop
 same-length-5 c = search needs
@@ -122,7 +122,7 @@ returns-3 c =
     let h = c .before .before .before .before .before .before .before .before .before .before .before .before in
     let a = h .args in
     let l = c .before .before .loop in
-    ((λ s lim t u ar L kp kq. going-end (notion (a .strict)) (a .self) (now (a .kinds)) (now (a .vals)) (now (a .tables)) s _ (l .self) (l .tables) (l .left) (l .count) false (told-so (l .inv .carries s (constrain (notion (a .strict)) (a .k) (s .solver) t u) (going-start (notion (a .strict)) (a .self) (now (a .kinds)) (now (a .vals)) (now (a .tables)) s lim ar L (h .pre .1 .1) (a .p) (a .q) t u kp kq _ (c .before .before .before .before .tables .given) _ (c .before .before .before .before .before .put-pair .ensures) (a .k))) (c .if3 .left)) (counted-start (a .self) (l .self) _ _ (now (a .tables)) _ (l .tables) _ (c .before .before .before .before .tables .given) (c .before .before .before .before .before .put-pair .ensures) (l .inv .counted)) (omega (arith, c .before .loop-test .left))), l .inv .room .clear)
+    ((λ s t u o L kp kq. going-end (notion (a .strict)) (a .self) (now (a .kinds)) (now (a .vals)) (now (a .tables)) s _ (l .self) (l .tables) (l .left) (l .count) false (told-so (l .inv .carries s (constrain (notion (a .strict)) (a .k) (s .solver) t u) (going-start (notion (a .strict)) (a .self) (now (a .kinds)) (now (a .vals)) (now (a .tables)) s o L (h .pre .1 .1) (a .p) (a .q) t u kp kq _ (c .before .before .before .before .tables .given) _ (c .before .before .before .before .before .put-pair .ensures) (a .k))) (c .if3 .left)) (counted-start (a .self) (l .self) _ _ (now (a .tables)) _ (l .tables) _ (c .before .before .before .before .tables .given) (c .before .before .before .before .before .put-pair .ensures) (l .inv .counted)) (omega (arith, c .before .loop-test .left))), l .inv .room .clear)
 
 pub solve-pair-spec : {M : Type 1} → statement M
 solve-pair-spec =

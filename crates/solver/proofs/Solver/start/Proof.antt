@@ -15,7 +15,7 @@ enum-known-what c = search needs
 returns : tie.Need-returns
 returns c =
     let a = c .before .before .before .before .before .args in
-    λ n ks vs z t A. start-none (a .self) (now (a .tables)) (a .what) _ (c .before .before .what .given .1) n ks vs z t A (c .if1 .taken)
+    λ ks vs z t A. start-none (a .self) (now (a .tables)) (a .what) _ (c .before .before .what .given .1) ks vs z t A (c .if1 .taken)
 
 wide-requires : tie.Need-wide-requires
 wide-requires c κs = search needs
@@ -27,7 +27,7 @@ shared-slice-read-wide : tie.Need-shared-slice-read-wide
 shared-slice-read-wide c =
     let a = c .before .before .before .before .before .before .before .args in
     let p = c .before .before .before .before .before .before .before .pre in
-    let k = asked-id (a .self) (now (a .tables)) (a .what) _ (c .before .before .before .before .what .given .1) (p .0) (p .1) (p .2) (p .3) (p .4) (p .5) in
+    let k = asked-id (a .self) (now (a .tables)) (a .what) _ (c .before .before .before .before .what .given .1) (p .0) (p .1) (p .2) (p .3) (p .4) in
     omega (arith, c .before .wide .ensures, k .2, k .0 .room)
 
 wide-requires-2 : tie.Need-wide-requires-2
@@ -36,7 +36,7 @@ wide-requires-2 c κs = search needs
 returns-2 : tie.Need-returns-2
 returns-2 c =
     let a = c .before .before .before .before .before .before .before .before .before .args in
-    λ n ks vs z t A. start-free (a .self) (now (a .tables)) (a .what) _ (c .before .before .before .before .before .before .what .given .1) n ks vs z t A _ _ (c .before .before .before .wide .ensures) (c .before .wide2 .ensures) (c .if2 .taken)
+    λ ks vs z t A. start-free (a .self) (now (a .tables)) (a .what) _ (c .before .before .before .before .before .before .what .given .1) ks vs z t A _ _ (c .before .before .before .wide .ensures) (c .before .wide2 .ensures) (c .if2 .taken)
 
 sub-t10 : tie.Need-sub-t10
 sub-t10 c = search needs
@@ -52,7 +52,7 @@ returns-3 c =
 returns-4 : tie.Need-returns-4
 returns-4 c =
     let a = c .before .before .before .before .before .before .before .before .before .args in
-    λ n ks vs z t A. start-bound (a .self) (now (a .tables)) (a .what) _ (c .before .before .before .before .before .before .what .given .1) n ks vs z t A _ _ (c .before .before .before .wide .ensures) (c .before .wide2 .ensures) (c .if2 .left) (c .before .before .before .before .if1 .left) (omega (arith, c .before .wide2 .ensures, c .before .before .shared-slice-known2 .given (c .before .before .before .wide .result)))
+    λ ks vs z t A. start-bound (a .self) (now (a .tables)) (a .what) _ (c .before .before .before .before .before .before .what .given .1) ks vs z t A _ _ (c .before .before .before .wide .ensures) (c .before .wide2 .ensures) (c .if2 .left) (c .before .before .before .before .if1 .left) (omega (arith, c .before .wide2 .ensures, c .before .before .shared-slice-known2 .given (c .before .before .before .wide .result)))
 
 pub start-spec : {M : Type 1} → statement M
 start-spec =

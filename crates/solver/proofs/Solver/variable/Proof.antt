@@ -19,7 +19,7 @@ unfolding order
 returns c =
     let a = c .before .before .before .before .before .args in
     let i = c .before .before .issue .ensures in
-    (λ ks vs s n L. variable-replied _ ks vs _ (limitsOf (a .self)) s (at (a .site) (a .slot)) _ (i .0 ks vs s (at (a .site) (a .slot)) (refl, refl, refl) L), i .1 .1)
+    (λ ks vs s L. variable-replied _ ks vs _ (limitsOf (a .self)) s (at (a .site) (a .slot)) _ (i .0 ks vs s (at (a .site) (a .slot)) (refl, refl, refl) L), i .1 .1)
 
 pub variable-spec : {M : Type 1} → statement M
 variable-spec = tie.close (tie.spec issue-requires same-length returns)
