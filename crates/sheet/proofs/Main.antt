@@ -42,7 +42,8 @@ use Rattle.sheet.specs.OrderTable.{refusal, outcome}
 use Rattle.sheet.specs.Sheet.{orderOf, framed}
 use Rattle.sheet.specs.OrdersInTurn.{sessionAfter, ordersFrom, answersTo}
 use Rattle.sheet.specs.Commands.{command}
-use Rattle.sheet.specs.Demand3.{ByteStrings, InFragment, PairsInFragment, Premises, historyOf, OnlyPosedBy, PosedInMix}
+use Rattle.sheet.specs.Demand3.{ByteStrings, InFragment, PairsInFragment, Premises, historyOf, OnlyPosedBy}
+use Rattle.sheet.specs.MixedPairs.{PosedInMix}
 use Rattle.sheet.specs.PairsAnswered.{SomePairAnswered}
 use Rattle.sheet.specs.RepeatedPairs.{repeated, PosedAgain}
 use Rattle.sheet.specs.RustBytes.{frames, AsTheRust, AllSolved}
@@ -156,7 +157,7 @@ demand-1-refused = call.refused-unchanged documentLimits
 pub orders-9-to-20 : (s : Session) (b : List ℕ) → command s b ≡ none → orderOf documentLimits s b .session ≡ s
 orders-9-to-20 = call.others-leave documentLimits
 
--- "Some pair was answered incompatible", "no cancelled pair": exactly where some order 4 of the list was answered with the byte 0, or 2
+-- "Some pair was answered incompatible", "no cancelled pair": exactly where some order 4 or 22 of the list was answered with the byte 0, or 2
 pub incompatible : (bs : List (List ℕ)) → (historyOf documentLimits beginning bs .incompatible ≡ true) ↔ SomePairAnswered documentLimits 0 fresh bs
 incompatible = incompatible-answered documentLimits
 
@@ -168,7 +169,7 @@ pub order-5 : (bs : List (List ℕ)) (v : ℕ)
     → (let s = sessionAfter documentLimits fresh bs in v < issued s → s .kept < 2048 → orderOf documentLimits s (5 ∷ bytes (var v)) .answer ≡ outcome (bytes (resolved (s .solver) (var v))))
 order-5 bs v l k = let f = session.fits-bytes documentLimits bs .variables in session.order-5 documentLimits (sessionAfter documentLimits fresh bs) v l (omega arith) k
 
--- Robinson decides each plain pair: some number of checks is enough, and every order 4 that poses the pair with as many is answered as his algorithm ends.
+-- Robinson decides each plain pair: some number of checks is enough, and every order 4, or strictly 22, that poses the pair with as many is answered as his algorithm ends.
 pub robinson-each : (strict : Bool) (bs : List (List ℕ)) (t u : Term) → DecidesOrders documentLimits strict (sessionAfter documentLimits fresh bs) t u
 robinson-each = robinson-orders documentLimits
 

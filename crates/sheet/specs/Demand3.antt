@@ -1,9 +1,8 @@
 -- Demand 3 over lists of orders, each given as its bytes: the premises, and the two sentences (record Demand3 of crate solver), of what the list tells
 -- the session. Quoted is document 01, "What demand 3 means", and the demand itself.
 use mathlib.Core.Path.{_≡_}
-use mathlib.Core.Bool.{Bool, true, false}
+use mathlib.Core.Bool.{Bool, false}
 use mathlib.Core.List.{List, [], _∷_}
-use mathlib.Core.Option.{some}
 use Prim.Native.Nat.{ℕ, _<_}
 use Rattle.solver.specs.Terms.Term.{Term}
 use Rattle.solver.specs.Terms.Questions.{meets}
@@ -11,11 +10,7 @@ use Rattle.solver.specs.Shapes.{notion}
 use Rattle.solver.specs.Constrain.{Pair, always}
 use Rattle.solver.specs.Session.{Limits, fresh}
 use Rattle.solver.specs.Demand3.{History, beginning, history, outside, AllAllowed, Demand3, OnlyBy}
-use Rattle.solver.specs.Orders as solver
-use Rattle.sheet.specs.OrderTable.{outcome}
-use Rattle.sheet.specs.Sheet.{orderOf}
-use Rattle.sheet.specs.OrdersInTurn.{accepted, sessionAfter}
-use Rattle.sheet.specs.Commands.{command, commands}
+use Rattle.sheet.specs.Commands.{commands}
 
 -- ---- bytes
 
@@ -66,13 +61,3 @@ Demand3OfBytes lim strict bs = Demand3 (notion strict) (historyOf lim beginning 
 -- the list "poses only strict pairs", or only by order 4; refused orders aside
 abbrev pub OnlyPosedBy : Limits → Bool → List (List ℕ) → Type 0
 OnlyPosedBy lim strict bs = OnlyBy strict (historyOf lim beginning bs .by)
-
--- ---- a pair of a mix
-
--- after the list bs, the bytes b are an order 4, or strictly 22, with k checks and the terms t and u, which is answered with outcome 0 and not cancelled
-pub record PosedInMix (lim : Limits) (bs : List (List ℕ)) (b : List ℕ) (strict : Bool) (k : ℕ) (t u : Term) : Type 0 where
-  pub says : command (sessionAfter lim fresh bs) b ≡ some (solver.pair strict k t u)
-  pub left : InFragment t
-  pub right : InFragment u
-  pub taken : accepted (orderOf lim (sessionAfter lim fresh bs) b .answer) ≡ true
-  pub settled : ¬ (orderOf lim (sessionAfter lim fresh bs) b .answer ≡ outcome (2 ∷ []))

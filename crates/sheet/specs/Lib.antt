@@ -11,6 +11,7 @@
 --   Demand3        demand 3
 --   Commands       what such a list tells the session
 --   PairsAnswered  its orders 4 that were answered so, as bytes
+--   MixedPairs     a pair of a list that mixes orders 4 and 22
 --   RepeatedPairs  a pair that was compatible, posed again
 --   RobinsonBytes  plain first-order pairs: all of a list, and each by itself
 --   RustBytes      the answers that are compared with the Rust's
@@ -26,6 +27,7 @@ pub mod Stopping
 pub mod Demand3
 pub mod Commands
 pub mod PairsAnswered
+pub mod MixedPairs
 pub mod RepeatedPairs
 pub mod RobinsonBytes
 pub mod RustBytes

@@ -1,11 +1,10 @@
 -- Demand 3 for lists of orders, each given as its bytes: carried over from crate solver by what they tell the session.
 use mathlib.Core.Path.{_≡_, refl, sym, ap, subst, _∙_}
-use mathlib.Core.Bool.{Bool, true, false, _||_}
+use mathlib.Core.Bool.{Bool, true, false}
 use mathlib.Core.List.{List, [], _∷_, _++_}
-use mathlib.Core.Logic.{_⊎_, inl, inr, _↔_}
-use mathlib.Core.Option.{Option, none, some}
+use mathlib.Core.Logic.{_↔_}
+use mathlib.Core.Option.{Option}
 use Prim.Native.Nat.{ℕ}
-use lib.Dec.{eqb}
 use Rattle.solver.specs.Terms.Term.{Term}
 use Rattle.solver.specs.Terms.Formed.{Formed}
 use Rattle.solver.specs.Constrain.{Pair}
@@ -16,7 +15,8 @@ use Rattle.solver.specs.Demand3 as theirs
 use Rattle.solver.specs.Demand3.{History, Role, requesting, posing, defaulting, neither, role, posedBy, beginning, history, PlainPairs, KeepsHalf, Unequal}
 use Rattle.solver.proofs.Laws.Theory.Demand3Laws.{demand-3, mixed-half, mixed-pair}
 use Rattle.sheet.specs.Commands.{commands}
-use Rattle.sheet.specs.Demand3.{ByteString, ByteStrings, historyOf, PairsInFragment, Premises, Demand3OfBytes, OnlyPosedBy, PosedInMix}
+use Rattle.sheet.specs.Demand3.{ByteString, ByteStrings, historyOf, PairsInFragment, Premises, Demand3OfBytes, OnlyPosedBy}
+use Rattle.sheet.specs.MixedPairs.{PosedInMix}
 use Rattle.sheet.specs.OrdersInTurn.{accepted, sessionAfter}
 use Rattle.sheet.specs.OrderTable.{outcome}
 use Rattle.sheet.specs.Sheet.{Step, answerOf, orderOf}
