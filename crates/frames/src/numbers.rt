@@ -1,7 +1,7 @@
 // The numbers of a frame, four bytes each with the low byte first, and the bytes after them.
 ghost use mathlib.Core.Path.{_≡_};
 ghost use Prim.Native.Nat.{_+_, _≤_, _<_};
-ghost use lib.ListN.{length};
+ghost use lib.ListN.{length, drop};
 ghost use Rattle.frames.specs.Numbers.{numberAt, putNumber};
 
 fn wide(b: u8) -> u32
@@ -46,9 +46,11 @@ pub fn put_number(s: &mut [u8], i: usize, v: u64)
     s[i + 3] = (v / 16777216 % 256) as u8;
 }
 
-// Reads so many bytes of the input. Returns whether they are all there.
+// Reads so many bytes of the input to the start of the part. Returns whether they are all there. Which bytes these are is the input's choice; the bytes behind
+// them stay.
 pub fn read_part(part: &mut [u8], size: usize) -> bool
     requires { ⌜ size ≤ length (now part) ⌝ }
+    ensures { λ _. ⌜ drop size (now (part .exit)) ≡ drop size (now (part .entry)) ⌝ }
 {
     let got = io::read_full(0, &mut part[..size]);
     size <= got

@@ -1,7 +1,9 @@
--- `read_part`: the part that is read is as long as asked.
-use mathlib.Core.Path.{sym}
+-- `read_part`: the part that is read is as long as asked, and the bytes behind it stay.
+use denote.Ref.{now}
+use mathlib.Core.Path.{sym, _∙_}
+use lib.ListN.{drop}
 use native.Mathlib.Omega.{arith}
-use lib.Seq.{length-take-le}
+use lib.Seq.{length-take-le, drop-at}
 use borrow.Author.Needs.{needs}
 use Rattle.frames.proofs.numbers.read_part.Statement.{statement}
 use Rattle.frames.proofs.numbers.read_part.Tie as tie
@@ -19,7 +21,11 @@ same-length : tie.Need-same-length
 same-length c = search needs
 
 returns : tie.Need-returns
-returns c = search needs
+returns c =
+    let a = c .before .before .before .before .before .args in
+    let r = c .before .before .read-full in
+    drop-at (r .last .1 .0) (drop (a .size) (now (a .part))) (a .size)
+    (r .kept .1 .0 ∙ length-take-le (a .size) (now (a .part)) (c .before .before .before .before .before .pre))
 
 pub read-part-spec : {M : Type 1} → statement M
 read-part-spec =
