@@ -1,7 +1,7 @@
 -- A session that is in order names no equality of shapes: what `Whole` says of it by one equality it says by every other. So that each order keeps
 -- it, whichever equality it is posed by.
 use mathlib.Core.Path.{_≡_, ap}
-use mathlib.Core.Option.{some}
+use mathlib.Core.Option.{Option, some}
 use Prim.Native.Nat.{ℕ, _<_}
 use Rattle.unify.specs.Term.{clash}
 use Rattle.unify.specs.Solver.{Sig, State}
@@ -19,7 +19,7 @@ pub record InOrder (S : Sig) (N : ℕ) (z : Table S) : Type 0 where
   pub counted : Counted S N z
   pub fine : Fine S N means
 
-module _ (S : Sig) (default : S .Fam → S .Head) (never : S .Head) where
+module _ (S : Sig) (default : S .Fam → Option (S .Fam) → S .Head) (never : S .Head) where
   -- the whole session
   pub record InOrderRun (x : R S default never) : Type 0 where
     pub table : InOrder S (x .count) (x .state .table)

@@ -13,6 +13,8 @@
 --   Acyclic          bindings without a circle are enough for that
 --   Mixed            a pair posed by one of several equalities, over substitutions
 --   MixLaws          sessions of such pairs: the half of demand 3, each pair, Robinson 1965, sessions of one equality
+--   FilledLaws       numeric defaults after compatible pairs satisfy every pair, within every request
+--   RangedLaws       requests with ranges: meetings, and what a default takes
 --   Again            a compatible pair posed again binds nothing and is not incompatible
 --   RustMapLaws      laws of the Rust's maps and vectors; a map sorted by its keys
 --   RustRounds       the rounds of the Rust's `resolve` are enough
@@ -31,6 +33,8 @@ pub mod InOrder
 pub mod Acyclic
 pub mod Mixed
 pub mod MixLaws
+pub mod FilledLaws
+pub mod RangedLaws
 pub mod Again
 pub mod RustMapLaws
 pub mod RustRounds

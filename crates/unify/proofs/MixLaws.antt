@@ -2,7 +2,7 @@
 -- keeps one half of demand 3; each of its pairs is answered incompatible exactly if nothing that agrees with what was resolved before makes it
 -- equal; and after every list the session is in order.
 use mathlib.Core.Path.{_≡_, refl, ap, sym, _∙_, subst}
-use mathlib.Core.Logic.{_↔_}
+use mathlib.Core.Logic.{_⊎_, inl, inr, _↔_, _≢_}
 use mathlib.Core.Bool.{Bool, true, false, not, _||_}
 use mathlib.Core.Option.{Option, none, some}
 use mathlib.Core.List.{List, [], _∷_}
@@ -10,14 +10,14 @@ use Prim.Native.Nat.{ℕ, suc, _≤_, _<_}
 use native.Mathlib.Decide.{decLt}
 use native.Mathlib.Omega.{arith}
 use Rattle.unify.specs.Term.{var, node, sub, clash}
-use Rattle.unify.specs.Solver.{Sig, T, Pair, State, Out, cancelled, done, put, put-other, poses, asks, begin}
-use Rattle.unify.specs.Meaning.{Member, True, Fine, Plain, PlainPairs}
+use Rattle.unify.specs.Solver.{Sig, T, Pair, State, Out, cancelled, done, put, put-same, put-other, poses, asks, begin}
+use Rattle.unify.specs.Meaning.{Member, Under, True, Fine, Plain, PlainPairs}
 use Rattle.unify.specs.Orders.{Issued, issued?, fresh, settle, Demand3}
 use Rattle.unify.specs.Table.{Table, answer, taken, table-poses, table-asks}
 use Rattle.unify.specs.Session.{Command, variable, number, hole, defer, pair, resolving, numbers, nevers, revision, refused, Reply, verdict, with-table}
 use Rattle.unify.specs.Session.{deferring, R, move, serve-variable, serve-hole, serve-number, serve-defer, lift, serve-pair, obey, obey-all, Allowed, AllAllowed, reply, if-issued, verdict-of}
 use Rattle.unify.specs.Mixes.{AgreesExactly, By, PairBy, OnlyBy, commands, EachBy, Unequal, Exact, Mixing, also, noted, obey-by, reply-by, mix, mix-begin, AllAllowedBy, MixPremises, Half}
-use Rattle.unify.proofs.Sound.{After, constrain-right}
+use Rattle.unify.proofs.Sound.{put-cases, After, Grows, constrain-right}
 use Rattle.unify.proofs.Demand.{Premises, fine-issue, fine-ask, tidy-ask, true-put}
 use Rattle.unify.proofs.Lazy.{rep-fresh, resolve-right}
 use Rattle.unify.proofs.Refine.{Stands, Counted, Ends, settles-follows, counted-more}
@@ -26,7 +26,7 @@ use Rattle.unify.proofs.InOrder.{InOrderRun, in-order-begin, obey-in-or
 use Rattle.unify.proofs.RobinsonPair.{PlainPair, RobinsonDecides, decides-in}
 use Rattle.unify.proofs.Mixed.{Exactly, Mixable, Posed, Answers, mixed-pose}
 
-module _ (S : Sig) (default : S .Fam → S .Head) (never : S .Head)
+module _ (S : Sig) (default : S .Fam → Option (S .Fam) → S .Head) (never : S .Head)
     (I : Type 0) (norm : I → S .Head → S .Head)
     (respects : (i : I) (f : S .Fam) (h k : S .Head) → norm i h ≡ norm i k → S .admits f h ≡ S .admits f k) where
   abbrev M : Type 0
@@ -47,6 +47,8 @@ module _ (S : Sig) (default : S .Fam → S .Head) (never : S .Head)
     pub counted : Counted S N z
     pub fine : Fine S N means
     pub new : (v : ℕ) → N ≤ v → asked v ≡ none
+    -- what was asked of a variable is asked of it still, or less is left
+    pub narrowed : (v : ℕ) (f : S .Fam) → asked v ≡ some f → (g : S .Fam) × (means .fam v ≡ some g) × Under S g f
     pub mixable : cut ≡ false → PlainPairs S posed → Mixable S N asked means
     pub each : cut ≡ false → PlainPairs S posed → wrong ≡ false → (θ : ℕ → T S) → True S θ asked → Exactly S θ means → EachBy S I norm θ by posed
 
@@ -64,6 +66,7 @@ module _ (S : Sig) (default : S .Fam → S .Head) (never : S .Head)
     counted = record { far = λ v l. refl; number = refl };
     fine = fined;
     new = λ v l. refl;
+    narrowed = λ v f p. clash (cc);
     mixable = λ c p. record { fine = fined; tidy = ((λ v. tt), (λ v f p. clash (cc))); kinds = λ θ k e v f p. clash (cc); asks = λ θ k v f p. clash (cc) };
     each = λ c p w θ k e. tt;
   }
@@ -79,6 +82,7 @@ module _ (S : Sig) (default : S .Fam → S .Head) (never : S .Head)
       counted = counted-more S (λ h. h) same-head N z (x .counted);
       fine = fine-issue S (λ h. h) same-head N (x .means) (x .fine);
       new = λ v l. x .new v (omega arith);
+      narrowed = x .narrowed;
       mixable = λ c p. let m = x .mixable c p in record { fine = fine-issue S (λ h. h) same-head N (x .means) (m .fine); tidy = m .tidy; kinds = m .kinds; asks = m .asks };
       each = x .each;
     }
@@ -90,6 +94,7 @@ module _ (S : Sig) (default : S .Fam → S .Head) (never : S .Head)
       counted = record { far = λ v l. x .counted .far v (omega arith); number = counted-more S (λ h. h) same-head N z (x .counted) .number };
       fine = fined;
       new = λ v l. put-other asked N (some f) v (λ e. omega arith) ∙ x .new v (omega arith);
+      narrowed = λ v g p. narrowed v g (put-cases asked N f v g p);
       mixable = λ c p. let m = x .mixable c p in record {
         fine = fined;
         tidy = tidy-ask S (λ h. h) same-head N s f (x .fine) (m .tidy);
@@ -111,6 +116,10 @@ module _ (S : Sig) (default : S .Fam → S .Head) (never : S .Head)
         more₂ : (θ : ℕ → T S) → True S θ (put (s .fam) N (some f)) ↔ (True S θ (s .fam) × Member S f (θ N))
         more₂ θ = true-put S θ (s .fam) N f (x .fine .fresh N (omega arith) .1)
 
+        narrowed : (v : ℕ) (g : S .Fam) → ((v ≡ N) × (f ≡ g)) ⊎ ((v ≢ N) × (asked v ≡ some g)) → (g′ : S .Fam) × (put (s .fam) N (some f) v ≡ some g′) × Under S g′ g
+        narrowed v g (inl q) = (f, ap (put (s .fam) N (some f)) (q .0) ∙ put-same (s .fam) N (some f), subst (λ (y : S .Fam). Under S f y) (q .1) (λ h a. a))
+        narrowed v g (inr q) = let y = x .narrowed v g (q .1) in (y .0, put-other (s .fam) N (some f) v (q .0) ∙ y .1, y .2)
+
     -- a pair
     abbrev CoreOut : I → T S → T S → Out (Table S) → Type 0
     CoreOut i l r (cancelled z′) = Core N z′ asked ((l, r) ∷ posed) (i ∷ by) wrong true
@@ -128,6 +137,9 @@ module _ (S : Sig) (default : S .Fam → S .Head) (never : S .Head)
         (constrain-right S (norm i) (respects i) k N (x .means) true ((l, r) ∷ []) (x .fine) (a, b, tt))
         (λ m pl pr. mixed-pose S (norm i) (respects i) k N asked (x .means) l r m a b pl pr)
       where
+        kept : (s′ : State S) → Grows S (norm i) (respects i) (x .means) s′ → (v : ℕ) (f : S .Fam) → asked v ≡ some f → (g : S .Fam) × (s′ .fam v ≡ some g) × Under S g f
+        kept s′ g v f p = let y = x .narrowed v f p in let e = g .steady v (y .0) (y .1) in (e .0, e .1, λ h a. y .2 h (e .2 h a))
+
         go : (o : Out (Table S)) (o′ : Out (State S)) → Ends S (norm i) (respects i) N o o′ → After S (norm i) (respects i) N (x .means) true ((l, r) ∷ []) o′
             → (Mixable S N asked (x .means) → Plain S l → Plain S r → Answers S (norm i) (respects i) N asked (x .means) l r o′) → CoreOut i l r o
         go (cancelled z′) (cancelled s′) e f h = record {
@@ -136,6 +148,7 @@ module _ (S : Sig) (default : S .Fam → S .Head) (never : S .Head)
           counted = e .1;
           fine = e .2;
           new = x .new;
+          narrowed = kept s′ (f .1);
           mixable = λ c p. clash (cc);
           each = λ c p. clash (cc);
         }
@@ -147,6 +160,7 @@ module _ (S : Sig) (default : S .Fam → S .Head) (never : S .Head)
           counted = e .1;
           fine = e .2;
           new = x .new;
+          narrowed = kept s′ (f .1);
           mixable = λ q p. (said q p) .mixable;
           each = λ q p w θ t y. let u = or-both wrong d w in ((said q p) .equal (sym (e .3) ∙ u .1) θ t y, x .each q (p .2) (u .0) θ t ((said q p) .back θ y));
         }

@@ -171,14 +171,14 @@ module _ (S : Sig) (n : S .Head → S .Head) where
 
   -- ---- lists of orders
 
-  module _ (default : S .Fam → S .Head) (never : S .Head)
-      (simple-default : (f : S .Fam) → Simple S n (node (default f) nil)) (simple-never : Simple S n (node never nil)) where
-    fill-simple : (z : Table S) (g : S .Head) → Simple S n (node g nil) → (t : T S) → SimpleBound (z .bound) → SimpleBound (fill S default never z g t .bound)
+  module _ (default : S .Fam → Option (S .Fam) → S .Head) (never : S .Head)
+      (simple-default : (f : S .Fam) (o : Option (S .Fam)) → Simple S n (node (default f o) nil)) (simple-never : Simple S n (node never nil)) where
+    fill-simple : (z : Table S) (g : ℕ → S .Head) → ((w : ℕ) → Simple S n (node (g w) nil)) → (t : T S) → SimpleBound (z .bound) → SimpleBound (fill S default never z g t .bound)
     unfolding fill
-    fill-simple z g p (var w) h = put-simple (z .bound) w (node g nil) h p
+    fill-simple z g p (var w) h = put-simple (z .bound) w (node (g w) nil) h (p w)
     fill-simple z g p (node k ts) h = h
 
-    fill-asked : (z : Table S) (g : S .Head) (t : T S) → fill S default never z g t .fam ≡ z .fam
+    fill-asked : (z : Table S) (g : ℕ → S .Head) (t : T S) → fill S default never z g t .fam ≡ z .fam
     unfolding fill
     fill-asked z g (var w) = refl
     fill-asked z g (node k ts) = refl
@@ -193,7 +193,7 @@ module _ (S : Sig) (n : S .Head → S .Head) where
       where
         go : (o : Option (S .Fam)) → (SimpleBound (z .bound) → SimpleBound (number-one S default never z v o .bound)) × (number-one S default never z v o .fam ≡ z .fam)
         go none = ((λ h. h), refl)
-        go (some f) = (fill-simple z (default f) (simple-default f) (top S z (var v)), fill-asked z (default f) (top S z (var v)))
+        go (some f) = (fill-simple z (λ w. default f (z .fam w)) (λ w. simple-default f (z .fam w)) (top S z (var v)), fill-asked z (λ w. default f (z .fam w)) (top S z (var v)))
 
     nevers-kept : (d : ℕ → Bool) (m v : ℕ) (z : Table S)
         → (SimpleBound (z .bound) → SimpleBound (fill-nevers S default never d m v z .bound)) × (fill-nevers S default never d m v z .fam ≡ z .fam)
@@ -206,7 +206,7 @@ module _ (S : Sig) (n : S .Head → S .Head) where
       where
         go : (b : Bool) → (SimpleBound (z .bound) → SimpleBound (never-one S default never z v b .bound)) × (never-one S default never z v b .fam ≡ z .fam)
         go false = ((λ h. h), refl)
-        go true = (fill-simple z never simple-never (top S z (var v)), fill-asked z never (top S z (var v)))
+        go true = (fill-simple z (λ w. never) (λ w. simple-never) (top S z (var v)), fill-asked z (λ w. never) (top S z (var v)))
 
     pub record PlainRun (x : R S default never) : Type 0 where
       -- all pairs posed so far are plain: so is all that is bound

@@ -560,7 +560,7 @@ module _ (S : Sig) (n : S .Head → S .Head) where
             resolved-so = λ σ q. clash (cc (q, f));
           }
 
-    module _ (default : S .Fam → S .Head) (never : S .Head) where
+    module _ (default : S .Fam → Option (S .Fam) → S .Head) (never : S .Head) where
       abbrev resolved : R S default never → T S → T S
       resolved x w = answer S (x .state .table) w
 

@@ -590,7 +590,7 @@ module _ (S : Sig) where
         subst (λ (ρ : ℕ → T S). AsRobinson (table-end S n respects os) ρ) (a .2) b
 
     -- in a session of orders 0 to 8
-    pub algorithm-sheet : (default : S .Fam → S .Head) (never : S .Head) (cs : List (Command S)) → AllAllowed S default never n (fresh S (session-begin S default never)) cs
+    pub algorithm-sheet : (default : S .Fam → Option (S .Fam) → S .Head) (never : S .Head) (cs : List (Command S)) → AllAllowed S default never n (fresh S (session-begin S default never)) cs
         → AsRobinson (sheet S default never n cs) (λ v. answer S (sheet S default never n cs .state .table) (var v))
     algorithm-sheet default never cs a =
         let e = sheet-means S default never n respects cs a in

@@ -21,7 +21,7 @@ use Rattle.unify.specs.Session.{Command, variable, number, hole, defer, 
 use Rattle.unify.specs.Session.{fill, number-one, never-one, fill-numbers, fill-nevers, deferring, R, move, grow, serve-variable, serve-hole, asking, serve-number, serve-defer, lift, serve-pair, obey, obey-all, sheet, Allowed, AllAllowed}
 use Rattle.unify.specs.Session.{Reply, term, verdict, changed, nothing, refusal, reply, replies, if-issued, verdict-of}
 
-module _ (S : Sig) (default : S .Fam → S .Head) (never : S .Head)
+module _ (S : Sig) (default : S .Fam → Option (S .Fam) → S .Head) (never : S .Head)
     (n : S .Head → S .Head) (respects : (f : S .Fam) (h k : S .Head) → n h ≡ n k → S .admits f h ≡ S .admits f k) where
   -- a table over N variables is in order, after whatever orders
   pub record Sane (N : ℕ) (z : Table S) : Type 0 where
@@ -85,13 +85,13 @@ module _ (S : Sig) (default : S .Fam → S .Head) (never : S .Head)
         fine = bind-fine S n respects N s (x .fine) w (node h nil) (s .fam) (x .stands .rep .unbound w e) l (λ u i. absurd i) (λ u i. absurd i) (λ i. i) (λ u f p. inl p);
       }
 
-  pub sane-fill : (N : ℕ) (z : Table S) (h : S .Head) (v : ℕ) → v < N → Sane N z → Sane N (fill S default never z h (top S z (var v)))
+  pub sane-fill : (N : ℕ) (z : Table S) (g : ℕ → S .Head) (v : ℕ) → v < N → Sane N z → Sane N (fill S default never z g (top S z (var v)))
   unfolding fill
-  sane-fill N z h v l x = go (top S z (var v)) (reach S n respects N z (x .means) (x .stands) (x .fine) (var v) (var v) refl (λ w e. omega arith))
+  sane-fill N z g v l x = go (top S z (var v)) (reach S n respects N z (x .means) (x .stands) (x .fine) (var v) (var v) refl (λ w e. omega arith))
     where
-      go : (t : T S) → ((w : ℕ) → t ≡ var w → (w < N) × (z .bound w ≡ none)) → Sane N (fill S default never z h t)
+      go : (t : T S) → ((w : ℕ) → t ≡ var w → (w < N) × (z .bound w ≡ none)) → Sane N (fill S default never z g t)
       go (node k ts) a = x
-      go (var w) a = sane-bind N z h w (a w refl .0) (a w refl .1) x
+      go (var w) a = sane-bind N z (g w) w (a w refl .0) (a w refl .1) x
 
   sane-numbers : (N m v : ℕ) (z : Table S) → v + m ≤ N → Sane N z → Sane N (fill-numbers S default never m v z)
   unfolding fill-numbers number-one
@@ -100,7 +100,7 @@ module _ (S : Sig) (default : S .Fam → S .Head) (never : S .Head)
     where
       go : (o : Option (S .Fam)) → Sane N (number-one S default never z v o)
       go none = x
-      go (some f) = sane-fill N z (default f) v (omega arith) x
+      go (some f) = sane-fill N z (λ w. default f (z .fam w)) v (omega arith) x
 
   sane-nevers : (d : ℕ → Bool) (N m v : ℕ) (z : Table S) → v + m ≤ N → Sane N z → Sane N (fill-nevers S default never d m v z)
   unfolding fill-nevers never-one
@@ -109,7 +109,7 @@ module _ (S : Sig) (default : S .Fam → S .Head) (never : S .Head)
     where
       go : (b : Bool) → Sane N (never-one S default never z v b)
       go false = x
-      go true = sane-fill N z never v (omega arith) x
+      go true = sane-fill N z (λ w. never) v (omega arith) x
 
   -- the whole session: the table, and places that name issued variables
   pub record SaneRun (x : R S default never) : Type 0 where
@@ -208,10 +208,10 @@ module _ (S : Sig) (default : S .Fam → S .Head) (never : S .Head)
       let q = b .0 in
       (omega arith, λ e. b .1 (omega arith) ∙ a .1 (omega arith))
 
-  fill-mono : (z : Table S) (h : S .Head) (t : T S) → Mono z (fill S default never z h t)
+  fill-mono : (z : Table S) (g : ℕ → S .Head) (t : T S) → Mono z (fill S default never z g t)
   unfolding fill
-  fill-mono z h (var w) = (omega arith, λ e. absurd (omega arith))
-  fill-mono z h (node k ts) = (omega arith, λ e. refl)
+  fill-mono z g (var w) = (omega arith, λ e. absurd (omega arith))
+  fill-mono z g (node k ts) = (omega arith, λ e. refl)
 
   pub numbers-mono : (m v : ℕ) (z : Table S) → Mono z (fill-numbers S default never m v z)
   unfolding fill-numbers number-one
@@ -220,7 +220,7 @@ module _ (S : Sig) (default : S .Fam → S .Head) (never : S .Head)
     where
       go : (o : Option (S .Fam)) → Mono z (number-one S default never z v o)
       go none = (omega arith, λ e. refl)
-      go (some f) = fill-mono z (default f) (top S z (var v))
+      go (some f) = fill-mono z (λ w. default f (z .fam w)) (top S z (var v))
 
   pub nevers-mono : (d : ℕ → Bool) (m v : ℕ) (z : Table S) → Mono z (fill-nevers S default never d m v z)
   unfolding fill-nevers never-one
@@ -229,7 +229,7 @@ module _ (S : Sig) (default : S .Fam → S .Head) (never : S .Head)
     where
       go : (b : Bool) → Mono z (never-one S default never z v b)
       go false = (omega arith, λ e. refl)
-      go true = fill-mono z never (top S z (var v))
+      go true = fill-mono z (λ w. never) (top S z (var v))
 
   -- Under the premises a list of orders is, for variables, families and bindings, a list of the orders of `Orders`.
   abbrev pub project : R S default never → Run S (Table S)

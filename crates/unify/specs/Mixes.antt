@@ -60,7 +60,7 @@ module _ (S : Sig) (I : Type 0) (norm : I → S .Head → S .Head) where
   Exact N z asked i l r (cancelled z′) = Unit {0}
   Exact N z asked i l r (done z′ b) = (b ≡ false) ↔ Unequal N z asked i l r
 
-module _ (S : Sig) (default : S .Fam → S .Head) (never : S .Head) (I : Type 0) (norm : I → S .Head → S .Head) where
+module _ (S : Sig) (default : S .Fam → Option (S .Fam) → S .Head) (never : S .Head) (I : Type 0) (norm : I → S .Head → S .Head) where
   -- a run, and the equality of each posed pair, the last one first
   pub record Mixing : Type 0 where
     pub run : R S default never

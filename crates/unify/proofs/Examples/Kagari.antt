@@ -205,8 +205,8 @@ pub loose-respects : (f : ℕ) (h k : Head) → loose h ≡ loose k → kagari-a
 loose-respects f h k p = sym (loose-admits f h) ∙ ap (kagari-admits f) p ∙ loose-admits f k
 
 -- DEMAND 3 FOR KAGARI'S TERMS, up to Set and Map access. A numeric default takes its fallback, and Never is the builtin 10.
-abbrev pub fallback : ℕ → Head
-fallback f = head 4 f []
+abbrev pub fallback : ℕ → Option ℕ → Head
+fallback f o = head 4 f []
 
 abbrev pub neverHead : Head
 neverHead = head 4 10 []

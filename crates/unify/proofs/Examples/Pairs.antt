@@ -41,7 +41,7 @@ pub kagari-plain-lists : (cs : List (Command kagari)) (t u : Term Head)
     → SimplePairs kagari loose (kagari-sheet cs .posed) → Simple kagari loose t → Simple kagari loose u → Issued (kagari-sheet cs .count) t → Issued (kagari-sheet cs .count) u
     → ((v : ℕ) → In v (answer kagari (kagari-sheet cs .state .table) t) ⊎ In v (answer kagari (kagari-sheet cs .state .table) u) → kagari-sheet cs .state .table .fam v ≡ none)
     → RobinsonDecides kagari loose loose-respects fallback neverHead (kagari-sheet cs) t u
-kagari-plain-lists = plain-lists kagari loose fallback neverHead simple-builtin (simple-builtin 10) loose-respects
+kagari-plain-lists = plain-lists kagari loose fallback neverHead (λ f o. simple-builtin f) (simple-builtin 10) loose-respects
 
 -- ---- worked
 

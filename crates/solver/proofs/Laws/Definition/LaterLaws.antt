@@ -65,7 +65,7 @@ module _ (N : ℕ) where
       let e = notion-codes false in
       sane-ordered loose e N (settleAt z (node 4 (num c end)) (top z (var v)))
       (subst (λ (x : Table S). Sane S fallback never (read loose) (respects loose e) N x) (at-view z c v)
-      (sane-fill S fallback never (read loose) (respects loose e) N (view-table z) (node 4 (num c end)) v l (ordered-sane loose e N z h)))
+      (sane-fill S fallback never (read loose) (respects loose e) N (view-table z) (λ w. node 4 (num c end)) v l (ordered-sane loose e N z h)))
 
   settle-extends : (z : Solver) (d t : Term) → ((w : ℕ) → t ≡ var w → z .bindings w ≡ none) → Extends z (settleAt z d t)
   unfolding settleAt

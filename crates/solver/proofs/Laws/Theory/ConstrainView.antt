@@ -217,14 +217,15 @@ module _ (n : Notion) where
 
 -- ---- defaults
 
-abbrev pub fallback : Request → Term
-fallback r = defaultOf r
+-- by the request of the variable whose turn it is, whatever the end of its chain has
+abbrev pub fallback : Request → Option Request → Term
+fallback r o = defaultOf r
 
 pub leaf-view : (c : ℕ) → view (node 4 (num c end)) ≡ tree.node (node 4 (num c end)) nil
 unfolding view blankRow turned class forest nums
 leaf-view c = refl
 
-pub fill-view : (z : Solver) (c : ℕ) (t : Term) → session.fill S fallback never (view-table z) (node 4 (num c end)) (view t) ≡ view-table (settleAt z (node 4 (num c end)) t)
+pub fill-view : (z : Solver) (c : ℕ) (t : Term) → session.fill S fallback never (view-table z) (λ w. node 4 (num c end)) (view t) ≡ view-table (settleAt z (node 4 (num c end)) t)
 unfolding session.fill settleAt view
 fill-view z c (var w) =
     ap (λ (f : ℕ → Option T). record { bound = f; fam = z .requests; rev = suc (z .revision) })
@@ -232,10 +233,10 @@ fill-view z c (var w) =
 fill-view z c (node k ps) = refl
 
 pub at-view : (z : Solver) (c v : ℕ)
-    → session.fill S fallback never (view-table z) (node 4 (num c end)) (table.top S (view-table z) (tree.var v)) ≡ view-table (settleAt z (node 4 (num c end)) (top z (var v)))
+    → session.fill S fallback never (view-table z) (λ w. node 4 (num c end)) (table.top S (view-table z) (tree.var v)) ≡ view-table (settleAt z (node 4 (num c end)) (top z (var v)))
 unfolding view
 at-view z c v =
-    ap (session.fill S fallback never (view-table z) (node 4 (num c end))) (sym (view-follow (z .revision) (z .bindings) (var v)))
+    ap (session.fill S fallback never (view-table z) (λ w. node 4 (num c end))) (sym (view-follow (z .revision) (z .bindings) (var v)))
     ∙ fill-view z c (top z (var v))
 
 numeric-view : (z : Solver) (v : ℕ) (o : Option Request) → session.number-one S fallback never (view-table z) v o ≡ view-table (numericAt z v o)
