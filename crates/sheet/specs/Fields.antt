@@ -1,9 +1,9 @@
 -- The fields of an order, and what its bytes say of them: document 01, "Sheet".
 use mathlib.Core.List.{List, [], _∷_}
-use Prim.Native.Nat.{ℕ, zero, suc, _+_}
+use Prim.Native.Nat.{ℕ, zero, suc, _+_, _*_}
 use lib.Dec.{ltb}
 use lib.ListN.{length}
-use Rattle.solver.specs.Terms.Parser.{Parser, got, refused, pick, _>>=_, return, number}
+use Rattle.solver.specs.Terms.Parser.{Parser, got, refused, pick, _>>=_, return, byte, number}
 use Rattle.solver.specs.Terms.Shape as shape
 use Rattle.solver.specs.Terms.Shape.{ceiling}
 use Rattle.solver.specs.Terms.Term.{Term, Parts, end, size, sizes}
@@ -20,6 +20,8 @@ use Rattle.solver.specs.Terms.Lookup.{Pattern}
 pub data FieldSort : Type 0 where
   -- a site, a slot, k; a builtin's code
   ordinary code : FieldSort
+  -- a bound of a range: a sign byte, and a size as two numbers, the high half first
+  bound : FieldSort
   term nominal : FieldSort
   -- an owner and a term: the receiver of order 14
   receiver : FieldSort
@@ -29,6 +31,7 @@ pub data FieldSort : Type 0 where
 -- a field, read
 pub data Field : Type 0 where
   value : ℕ → Field
+  bounded : ℕ → ℕ → Field
   tree : Term → Field
   -- a bare nominal's row
   bare : Parts → Field
@@ -45,6 +48,7 @@ ruleNodes (r ∷ rs) = sizes (r .interface) + (size (r .receiver) + (sizes (argu
 
 unfoldable pub nodes : Field → ℕ
 nodes (value n) = 0
+nodes (bounded b n) = 0
 nodes (tree t) = size t
 nodes (bare ps) = sizes ps
 nodes (entered es) = sizes (entryRow es)
@@ -68,6 +72,7 @@ nth (suc i) (f ∷ fs) = nth i fs
 -- as a number, a term, the row of a nominal, ..; a field of another sort is 0, Unknown, empty
 unfoldable pub numberOf : Field → ℕ
 numberOf (value n) = n
+numberOf (bounded b n) = 0
 numberOf (tree t) = 0
 numberOf (bare ps) = 0
 numberOf (entered es) = 0
@@ -79,6 +84,7 @@ numberOf (ruled rs) = 0
 unfoldable pub termOf : Field → Term
 termOf (tree t) = t
 termOf (value n) = unknown
+termOf (bounded b n) = unknown
 termOf (bare ps) = unknown
 termOf (entered es) = unknown
 termOf (received rs) = unknown
@@ -89,6 +95,7 @@ termOf (ruled rs) = unknown
 unfoldable pub rowOf : Field → Parts
 rowOf (bare ps) = ps
 rowOf (value n) = end
+rowOf (bounded b n) = end
 rowOf (tree t) = end
 rowOf (entered es) = end
 rowOf (received rs) = end
@@ -99,6 +106,7 @@ rowOf (ruled rs) = end
 unfoldable pub entriesOf : Field → List Entry
 entriesOf (entered es) = es
 entriesOf (value n) = []
+entriesOf (bounded b n) = []
 entriesOf (tree t) = []
 entriesOf (bare ps) = []
 entriesOf (received rs) = []
@@ -109,6 +117,7 @@ entriesOf (ruled rs) = []
 unfoldable pub receiversOf : Field → List Receiver
 receiversOf (received rs) = rs
 receiversOf (value n) = []
+receiversOf (bounded b n) = []
 receiversOf (tree t) = []
 receiversOf (bare ps) = []
 receiversOf (entered es) = []
@@ -119,6 +128,7 @@ receiversOf (ruled rs) = []
 unfoldable pub parametersOf : Field → List Parameter
 parametersOf (named ps) = ps
 parametersOf (value n) = []
+parametersOf (bounded b n) = []
 parametersOf (tree t) = []
 parametersOf (bare ps) = []
 parametersOf (entered es) = []
@@ -129,6 +139,7 @@ parametersOf (ruled rs) = []
 unfoldable pub argumentsOf : Field → List Term
 argumentsOf (listed ts) = ts
 argumentsOf (value n) = []
+argumentsOf (bounded b n) = []
 argumentsOf (tree t) = []
 argumentsOf (bare ps) = []
 argumentsOf (entered es) = []
@@ -139,6 +150,7 @@ argumentsOf (ruled rs) = []
 unfoldable pub rulesOf : Field → List Pattern
 rulesOf (ruled rs) = rs
 rulesOf (value n) = []
+rulesOf (bounded b n) = []
 rulesOf (tree t) = []
 rulesOf (bare ps) = []
 rulesOf (entered es) = []
@@ -193,6 +205,12 @@ module _ (s : List ℕ) (issued : ℕ) where
   field code = do
     c ← reading.code s 32
     return (value c)
+  -- "each bound a sign byte (0 or 1 for minus) and two numbers, high half first"
+  field bound = do
+    b ← byte s
+    h ← number s (ceiling shape.ordinary)
+    l ← number s (ceiling shape.ordinary)
+    return (bounded b (h * 4294967296 + l))
   field term = do
     t ← termField
     return (tree t)

@@ -7,6 +7,7 @@ use super::operations::operate;
 use super::order_reader::clear_order;
 use super::order_reader::read_order;
 use super::order_table::is_operation;
+use super::plain_orders::termless_of;
 use super::plain_orders::termless_order;
 use super::term_orders::constrain_order;
 use super::term_orders::defer_term;
@@ -177,21 +178,9 @@ fn plain_order(
         → Answered x (r .solver) half s (areas a₀ b₀ (now (c .entry)) (now (d .entry))) (area (now (a .entry)) (now (b .entry))) o (now (c .exit))
         (now (d .exit)) (outputAt (now (out .entry)) to) (outputAt (now (out .exit)) (r .next))) ⌝ }
 {
-    let first = o.first.value as u32;
-    let second = o.second.value as u32;
+    let what = termless_of(o);
     let top = o.top;
-    termless_order(
-        x,
-        o.kind,
-        first,
-        second,
-        &a[..top],
-        &b[..top],
-        &mut c[half..],
-        d,
-        out,
-        to,
-    )
+    termless_order(x, what, &a[..top], &b[..top], &mut c[half..], d, out, to)
 }
 
 // An order that was read, by its class; refusal 7 where it has too many nodes.

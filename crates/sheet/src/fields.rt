@@ -10,8 +10,8 @@ ghost use Prim.Native.Nat.{ℕ, _≤_};
 ghost use lib.ListN.{length};
 ghost use Rattle.solver.specs.Terms.Tokens.{area};
 ghost use Rattle.solver.specs.Terms.StepCodes.{place, stepOf};
-ghost use Rattle.sheet.specs.Fields.{field, code, parameters};
-ghost use Rattle.sheet.specs.Words.FieldLayout.{plainOf, partOf, keysOf, Free, Ample, PartDone, PlainDone, listField};
+ghost use Rattle.sheet.specs.Fields.{field, code, bound, parameters};
+ghost use Rattle.sheet.specs.Words.FieldLayout.{plainOf, partOf, keysOf, signPlace, Free, Ample, PartDone, PlainDone, listField};
 ghost use Rattle.sheet.specs.Words.FieldsContract.{fieldOf, ReadAt};
 
 pub const ORDINARY: u64 = 4294967295;
@@ -34,6 +34,44 @@ fn code_field(s: &[u8], at: &mut usize, value: &mut u64) -> u8
     }
     *value = c as u64;
     *at = i + 1;
+    0
+}
+
+// A sign byte as the place of a bound's spot: 0 for plus, 1 for minus, 2 for any other.
+fn sign_place(b: u8) -> usize
+    ensures { λ r. ⌜ r ≡ signPlace b ⌝ }
+{
+    if b == 0 {
+        return 0;
+    }
+    if b == 1 {
+        return 1;
+    }
+    2
+}
+
+// A bound of a range: its sign, which may be any byte, and its size.
+fn bound_field(s: &[u8], at: &mut usize, value: &mut u64, start: &mut usize) -> u8
+    requires { ⌜ now at ≤ length (now s) ⌝ }
+    ensures { λ r. ⌜ ReadAt (now (s .entry)) (field (now (s .entry)) 0 bound (now (at .entry))) (now (at .entry)) r (now (value .exit))
+        (now (start .exit)) (now (at .exit)) ⌝ }
+{
+    let i = *at;
+    if s.len() <= i {
+        return 1;
+    }
+    *start = sign_place(s[i]);
+    *at = i + 1;
+    let a = number_at(s, at, value, ORDINARY);
+    if a != 0 {
+        return a;
+    }
+    let high = *value;
+    let b = number_at(s, at, value, ORDINARY);
+    if b != 0 {
+        return b;
+    }
+    *value = high * 4294967296 + *value;
     0
 }
 
@@ -214,6 +252,7 @@ pub fn read_plain(
         ),
         3 => code_field(s, at, value),
         8 => parameters_field(s, at, value, start),
+        11 => bound_field(s, at, value, start),
         _ => list_field(
             s,
             kinds,

@@ -10,7 +10,7 @@ ghost use Rattle.sheet.specs.Sheet.{table};
 ghost use Rattle.sheet.specs.Words.FieldLayout.{rowWords, knownFor, isOperation, putSpot, noSpot, noFields};
 
 // THE TABLE OF ORDERS: a class and the sorts of the fields, two digits a field, those of the first field last: 1 a number, 2 an owner and a term, 3 a
-// code, 4 a term, 5 a nominal, 6 entries, 7 receivers, 8 parameters, 9 arguments, 10 rules.
+// code, 4 a term, 5 a nominal, 6 entries, 7 receivers, 8 parameters, 9 arguments, 10 rules, 11 a bound.
 pub fn row_of(kind: u8) -> OrderRow
     ensures { λ r. ⌜ r ≡ rowWords (rowIn table kind) ⌝ }
 {

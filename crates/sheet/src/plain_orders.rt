@@ -1,5 +1,6 @@
 // Orders 0, 1, 2, 6, 7 and 8 on what the solver is lent: the tokens, the table, and the work area, all 0.
 use super::AfterOrder;
+use super::Order;
 use super::TermlessOrder;
 use super::VariableOrder;
 use super::framing::begin_answer;
@@ -28,9 +29,9 @@ ghost use Rattle.solver.specs.Words.OrderTerms.{Asked, Frames, resolvedTo};
 ghost use Rattle.sheet.specs.OrderTable.{outcome};
 ghost use Rattle.sheet.specs.Operations.{bit};
 ghost use Rattle.sheet.specs.Sheet.{solve};
-ghost use Rattle.sheet.specs.Words.OperationsContract.{Among, plainOrders};
+ghost use Rattle.sheet.specs.Words.OperationsContract.{plainOrders, Asks};
 ghost use Rattle.sheet.specs.Words.FramingContract.{OutputRoom, outputAt, Framed};
-ghost use Rattle.sheet.specs.Words.SessionOrdersContract.{lent, Does, plainCommand, defaultsBy, variableCommand, siteOf, FallbackListed};
+ghost use Rattle.sheet.specs.Words.SessionOrdersContract.{lent, Does, Says, defaultsBy, variableCommand, siteOf, FallbackListed};
 ghost use Rattle.sheet.specs.Words.SessionOrdersContract.{variableAnswer, termlessCommand, TermlessListed};
 
 // Whether the revision is another, as a byte.
@@ -239,12 +240,15 @@ fn variable_order(
     AfterOrder { solver: y, next }
 }
 
-// The order of a kind, of its two numbers.
-fn termless_of(kind: u8, first: u32, second: u32) -> TermlessOrder
-    requires { ⌜ ((kind ≡ 1) → (second < 32)) × Among plainOrders kind ⌝ }
-    ensures command { λ r. ⌜ termlessCommand r ≡ plainCommand kind first second ⌝ }
+// What an order without terms says.
+pub fn termless_of(o: Order) -> TermlessOrder
+    requires { ⌜ ((ks vs s ws : List ℕ) × Asks ks vs s ws plainOrders o) ⌝ }
+    ensures command { λ r. ⌜ ((ks vs s ws : List ℕ) → Says ks vs s ws o (termlessCommand r)) ⌝ }
     ensures listed { λ r. ⌜ TermlessListed r ⌝ }
 {
+    let kind = o.kind;
+    let first = o.first.value as u32;
+    let second = o.second.value as u32;
     if kind == 0 {
         return TermlessOrder::Variable(VariableOrder::Slot(first, second));
     }
@@ -263,12 +267,10 @@ fn termless_of(kind: u8, first: u32, second: u32) -> TermlessOrder
     TermlessOrder::Revision
 }
 
-// Orders 0, 1, 2, 6, 7 and 8, by their kind and two numbers.
+// Orders 0, 1, 2, 6, 7 and 8.
 pub fn termless_order(
     x: Solver,
-    kind: u8,
-    first: u32,
-    second: u32,
+    what: TermlessOrder,
     kinds: &[u32],
     vals: &[u32],
     tables: &mut [u32],
@@ -277,14 +279,14 @@ pub fn termless_order(
     to: usize,
 ) -> AfterOrder
     requires held { ⌜ ((z : Session) × InOrder (issued z) (z .solver) × Represents x (now kinds) (now vals) (now tables) z) ⌝ }
-    requires areas { ⌜ ((kind ≡ 1) → (second < 32)) × Frames x (now frames) × Among plainOrders kind ⌝ }
+    requires areas { ⌜ TermlessListed what × Frames x (now frames) ⌝ }
     requires room { ⌜ OutputRoom (now out) to ⌝ }
     ensures clear { λ _. ⌜ Zero (now (frames .exit)) ⌝ }
     ensures does { λ r. ⌜ ((z : Session) → InOrder (issued z) (z .solver) → Represents x (now (kinds .entry)) (now (vals .entry)) (now (tables .entry)) z
         → Does (lent x (now (kinds .entry)) (now (vals .entry)) (now (tables .entry))) (r .solver) (now (tables .exit)) z
-        (solve (limitsOf x) z (plainCommand kind first second)) (outputAt (now (out .entry)) to) (outputAt (now (out .exit)) (r .next))) ⌝ }
+        (solve (limitsOf x) z (termlessCommand what)) (outputAt (now (out .entry)) to) (outputAt (now (out .exit)) (r .next))) ⌝ }
 {
-    match termless_of(kind, first, second) {
+    match what {
         TermlessOrder::Variable(wanted) => {
             variable_order(x, kinds, vals, tables, frames, wanted, out, to)
         }

@@ -4,7 +4,7 @@ use mathlib.Core.List.{List, [], _∷_, _++_}
 use mathlib.Core.Option.{Option, none, some}
 use mathlib.Core.Path.{_≡_}
 use Prim.Native.Nat.{ℕ, zero, suc, _+_, _-_, _*_, _^_, _≤_, _<_}
-use lib.Dec.{eqb}
+use lib.Dec.{eqb, leb}
 use lib.ListN.{length, getD}
 use Rattle.solver.specs.TermTypes.{Place, Rule, Step, Next, Stopped}
 use Rattle.solver.specs.Terms.Parser.{Parser, Result, got, refused, pick, _>>=_, return, number}
@@ -26,7 +26,7 @@ use Rattle.sheet.specs.declared.Class.the-variants.{Session, Operation}
 use Rattle.sheet.specs.OrderTable.{Act, tells, answers, Row, rowIn, layout}
 use Rattle.sheet.specs.Sheet.{table}
 use Rattle.sheet.specs.Fields as fields
-use Rattle.sheet.specs.Fields.{FieldSort, Field, value, tree, bare, entered, received, named, listed, ruled, nodes, allNodes, ruleNodes, nth}
+use Rattle.sheet.specs.Fields.{FieldSort, Field, value, bounded, tree, bare, entered, received, named, listed, ruled, nodes, allNodes, ruleNodes, nth}
 
 -- ---- the table in numbers
 
@@ -41,6 +41,7 @@ sortNumber fields.receivers = 7
 sortNumber fields.parameters = 8
 sortNumber fields.arguments = 9
 sortNumber fields.rules = 10
+sortNumber fields.bound = 11
 
 -- the sort with a number, rules aside
 unfoldable pub plainOf : ℕ → FieldSort
@@ -52,7 +53,8 @@ plainOf n =
     (pick (eqb n 5) fields.nominal
     (pick (eqb n 6) fields.entries
     (pick (eqb n 8) fields.parameters
-    (pick (eqb n 9) fields.arguments fields.receivers)))))))
+    (pick (eqb n 9) fields.arguments
+    (pick (eqb n 11) fields.bound fields.receivers))))))))
 
 unfoldable pub sortOf : ℕ → FieldSort
 sortOf n = pick (eqb n 10) fields.rules (plainOf n)
@@ -62,13 +64,22 @@ unfoldable pub packed : List FieldSort → ℕ
 packed [] = 0
 packed (a ∷ l) = sortNumber a + 100 * packed l
 
--- the sorts without tokens, parameters aside; a layout of those alone
+-- numbers and codes; those alone among the first n fields
 unfoldable pub isNumber : FieldSort → Bool
 isNumber a = eqb (sortNumber a) 1 || eqb (sortNumber a) 3
 
-unfoldable pub numeric : List FieldSort → Bool
-numeric [] = true
-numeric (a ∷ l) = isNumber a && numeric l
+unfoldable pub numeric : ℕ → List FieldSort → Bool
+numeric zero l = true
+numeric (suc n) [] = true
+numeric (suc n) (a ∷ l) = isNumber a && numeric n l
+
+-- numbers, codes and bounds: the sorts without tokens, parameters aside; a layout of those alone
+unfoldable pub isTokenless : FieldSort → Bool
+isTokenless a = isNumber a || eqb (sortNumber a) 11
+
+unfoldable pub tokenless : List FieldSort → Bool
+tokenless [] = true
+tokenless (a ∷ l) = isTokenless a && tokenless l
 
 -- what an order does, as the code has it
 abbrev pub classBy : Act → Class
@@ -111,6 +122,7 @@ unfoldable pub Plain : FieldSort → Type 0
 Plain fields.ordinary = Unit {0}
 Plain fields.receiver = Unit {0}
 Plain fields.code = Unit {0}
+Plain fields.bound = Unit {0}
 Plain fields.term = Unit {0}
 Plain fields.nominal = Unit {0}
 Plain fields.entries = Unit {0}
@@ -153,6 +165,7 @@ ruleItems (p ∷ rs) =
 
 unfoldable pub fieldItems : Field → List Item
 fieldItems (value n) = []
+fieldItems (bounded b n) = []
 fieldItems (tree t) = items t
 fieldItems (bare ps) = items (node 20 ps)
 fieldItems (entered es) = partItems (entryRow es)
@@ -170,6 +183,7 @@ unfoldable pub spare : FieldSort → ℕ
 spare fields.ordinary = 0
 spare fields.receiver = 0
 spare fields.code = 0
+spare fields.bound = 0
 spare fields.term = 0
 spare fields.nominal = 4
 spare fields.entries = 0
@@ -241,9 +255,14 @@ unfoldable pub RulesAt : (ws : List ℕ) → ℕ → ℕ → List Pattern → Ty
 RulesAt ws r a [] = Unit {0}
 RulesAt ws r a (p ∷ rs) = (ruleAt ws r ≡ ruleWords a p) × RulesAt ws (suc r) (a + length (ruleItems (p ∷ []))) rs
 
+-- a sign byte as a place: 2 for all that are over 1
+unfoldable pub signPlace : ℕ → ℕ
+signPlace b = pick (leb b 1) b 2
+
 -- the spot of a field whose tokens begin at a; ws are the words of rules
 abbrev pub SpotOf : (s ws : List ℕ) → ℕ → FieldSpot → Field → Type 0
 SpotOf s ws a x (value n) = x .value ≡ n
+SpotOf s ws a x (bounded b n) = (x .value ≡ n) × (x .place ≡ signPlace b)
 SpotOf s ws a x (tree t) = x .place ≡ a
 SpotOf s ws a x (bare ps) = x .place ≡ a
 SpotOf s ws a x (entered es) = (x .value ≡ length es) × (x .place ≡ a) × (x .end ≡ a + length (partItems (entryRow es)))

@@ -7,7 +7,7 @@ use Rattle.solver.specs.Terms.Shape.{ceiling}
 use Rattle.solver.specs.Terms.Formed.{Formed, Fit}
 use Rattle.solver.specs.Terms.Substitution.{Entry, Receiver}
 use Rattle.solver.specs.Terms.Lookup.{Pattern}
-use Rattle.sheet.specs.Fields.{Field, value, tree, bare, entered, received, named, listed, ruled}
+use Rattle.sheet.specs.Fields.{Field, value, bounded, tree, bare, entered, received, named, listed, ruled}
 
 -- a term whose variables are below `known`, and the row of a bare nominal
 pub record FormedTree (known : ℕ) (t : Term) : Type 0 where
@@ -44,6 +44,7 @@ module _ (known : ℕ) where
 
   abbrev pub FormedField : Field → Type 0
   FormedField (value n) = n ≤ ceiling shape.ordinary
+  FormedField (bounded b n) = Unit {0}
   FormedField (tree t) = FormedTree known t
   FormedField (bare ps) = FormedBare known ps
   FormedField (entered es) = FormedEntries es

@@ -8,7 +8,7 @@ use Rattle.solver.specs.Terms.Substitution.{Entry, Receiver}
 use Rattle.solver.specs.Terms.Lookup.{Pattern}
 use Rattle.sheet.specs.declared.Order.{Order}
 use Rattle.sheet.specs.Fields as fields
-use Rattle.sheet.specs.Fields.{FieldSort, Field, value, tree, bare, entered, received, named, listed, ruled}
+use Rattle.sheet.specs.Fields.{FieldSort, Field, value, bounded, tree, bare, entered, received, named, listed, ruled}
 use Rattle.sheet.specs.OrderTable.{Row, layout}
 use Rattle.sheet.specs.Words.FieldsFormed.{FormedFields}
 use Rattle.sheet.specs.Words.FieldsHeld.{HeldFields}
@@ -17,6 +17,7 @@ use Rattle.sheet.specs.Words.FieldsHeld.{HeldFields}
 abbrev pub OfSort : FieldSort → Field → Type 0
 OfSort fields.ordinary f = (n : ℕ) × (f ≡ value n)
 OfSort fields.code f = (n : ℕ) × (f ≡ value n) × (n < 32)
+OfSort fields.bound f = (b : ℕ) × (n : ℕ) × (f ≡ bounded b n)
 OfSort fields.term f = (t : Term) × (f ≡ tree t)
 OfSort fields.nominal f = (ps : Parts) × (f ≡ bare ps)
 OfSort fields.receiver f = (r : Receiver) × (f ≡ received (r ∷ []))

@@ -21,10 +21,12 @@ use Rattle.solver.specs.Words.SessionRepresentation.{Represents}
 use Rattle.solver.specs.Words.ConstrainContract.{pendingFrom}
 use Rattle.solver.specs.Words.Worklist.{Zero}
 use Rattle.solver.specs.Words.MethodContract.{Beside}
-use Rattle.sheet.specs.Fields.{Field, value}
-use Rattle.sheet.specs.OrderTable.{Row, sessionOrders, rowIn, commandOf}
-use Rattle.sheet.specs.Sheet.{Step, framed}
+use Rattle.sheet.specs.declared.Order.{Order}
+use Rattle.sheet.specs.Fields.{Field}
+use Rattle.sheet.specs.OrderTable.{Row, rowIn, commandOf}
+use Rattle.sheet.specs.Sheet.{Step, table, framed}
 use Rattle.sheet.specs.Words.FramingContract.{Output, Framed}
+use Rattle.sheet.specs.Words.OrderGiven.{Given}
 
 -- what the solver is lent: its counters, the tokens and the table
 pub record Lent : Type 0 where
@@ -44,17 +46,9 @@ pub record Does (m : Lent) (y : Solver) (us : List ℕ) (z : Session) (st : Step
   pub long : length (w .bytes) < w .at + length (framed (st .answer)) → Represents y (m .kinds) (m .vals) us z
   pub beside : Beside (m .counters) y (m .table) us
 
--- the command of an order of the session whose fields are two numbers at most, by its number
-abbrev pub toldElse : Option Command → Command
-toldElse none = revision
-toldElse (some c) = c
-
-abbrev pub toldBy : Option Row → List Field → Command
-toldBy none fs = revision
-toldBy (some r) fs = toldElse (commandOf r fs)
-
-unfoldable pub plainCommand : ℕ → ℕ → ℕ → Command
-plainCommand k a b = toldBy (rowIn sessionOrders k) (value a ∷ value b ∷ [])
+-- whatever an order is given as, it tells the session the command c
+pub record Says (ks vs s ws : List ℕ) (o : Order) (c : Command) : Type 0 where
+  pub says : (known : ℕ) (k : Row) (fs : List Field) → rowIn table (o .kind) ≡ some k → Given ks vs s ws known k o fs → commandOf k fs ≡ some c
 
 -- orders 0, 1 and 2: their commands
 abbrev pub variableCommand : VariableOrder → Command

@@ -40,21 +40,21 @@ use Rattle.sheet.specs.Sheet.{table, readOrder, Step, solve, perform, st
 use Rattle.sheet.specs.declared.FieldSpot.{FieldSpot}
 use Rattle.sheet.specs.Words.FieldsHeld.{HeldField}
 use Rattle.sheet.specs.Words.FieldsFormed.{FormedField, FormedFields}
-use Rattle.sheet.specs.Words.OrderGiven.{FitsLayout}
-use Rattle.sheet.specs.Words.FieldLayout.{numeric, isOperation, SpotOf, fieldItems, allItems, spare, spares, spotAt, startAt}
+use Rattle.sheet.specs.Words.OrderGiven.{FitsLayout, Given}
+use Rattle.sheet.specs.Words.FieldLayout.{isOperation, SpotOf, fieldItems, allItems, spare, spares, spotAt, startAt}
 use Rattle.sheet.specs.Words.OrderReaderContract.{RulesRoom, OrderRoom}
 use Rattle.sheet.specs.Words.FramingContract.{Output, Framed}
-use Rattle.sheet.specs.Words.OperationsContract.{Among, numbersOf, Asks, Replies, plainOrders}
+use Rattle.sheet.specs.Words.OperationsContract.{numbersOf, Asks, Replies, plainOrders}
 use Rattle.sheet.specs.Words.SessionInAreas.{Areas, areas, RepresentsInAreas, Answers}
 use Rattle.sheet.specs.Entry.{AreasReady}
 use Rattle.solver.specs.Words.OrderTerms.{Behind, Poses, PosesPair}
-use Rattle.sheet.specs.Words.SessionOrdersContract.{lent, Does, toldElse, toldBy, plainCommand, pairNumber, DoesPair}
+use Rattle.sheet.specs.Words.SessionOrdersContract.{lent, Does, Says, pairNumber, DoesPair}
 use Rattle.sheet.specs.Words.DispatchContract.{OrderTaken, Serves, Answered}
 use Rattle.sheet.proofs.Laws.Reading.StoredLaws.{zero-free, free-kinds, free-vals}
-use Rattle.sheet.proofs.Laws.Reading.OrderTableLaws.{Plainly, plain-act, plain-among, operations-among, session-row}
-use Rattle.sheet.proofs.Laws.Answering.SessionRowLaws.{Made, MadeBy, row-made, crowds, numbers-are, numbers-none, one-term, two-terms, second-code}
+use Rattle.sheet.proofs.Laws.Reading.OrderTableLaws.{Plainly, plain-act, plain-among, operations-among}
+use Rattle.sheet.proofs.Laws.Answering.SessionRowLaws.{crowds, tokenless-none, one-term, two-terms}
 use Rattle.sheet.proofs.Laws.Reading.ReadOrderUseLaws as use-laws
-use Rattle.sheet.proofs.Laws.Reading.ReadOrderUseLaws.{order-long, nth-formed}
+use Rattle.sheet.proofs.Laws.Reading.ReadOrderUseLaws.{order-long}
 use Rattle.sheet.proofs.Laws.Answering.TermOrderLaws as posing
 use Rattle.sheet.proofs.Laws.Answering.OperationStepLaws.{operation-step}
 use Rattle.sheet.proofs.Laws.Answering.SessionInAreasLaws.{ready-half, solve-kept, answers-does, answers-bound, answers-quiet}
@@ -142,29 +142,6 @@ serves-refused x half s m a b code e E w v F z A Z =
     in
     answers-at E (step-as st (answers-same Z (refusal code) w v F))
 
--- ---- orders of numbers alone
-
--- such an order tells the command that its number and its first two numbers name
-plainly : (k : ℕ) (r : Row) → rowIn table k ≡ some r → Plainly k → (lim : Limits) (z : Session) (fs : List Field) → step lim z r fs ≡ solve lim z (plainCommand k (numberAt 0 fs) (numberAt 1 fs))
-unfolding step plainCommand commandOf
-plainly k r e h lim z fs =
-    let t = plain-act k r e h in
-    let f = t .0 in
-    let m : Made (layout r) f = subst (λ (a : Act). MadeBy (layout r) a) (t .1) (row-made k r e) in
-    let two : List Field = value (numberAt 0 fs) ∷ value (numberAt 1 fs) ∷ [] in
-    let c : toldBy (rowIn sessionOrders k) two ≡ f two =
-    ap (λ (o : Option Row). toldBy o two) (session-row k r f e (t .1)) ∙ ap (λ (a : Act). toldElse (commandBy a two)) (t .1)
-    in
-    ap (λ (a : Act). perform lim z fs a) (t .1) ∙ ap (λ (c : Command). solve lim z c) (m .plain (t .2) fs ∙ sym c)
-
--- the spot of a number
-number-spot : (ks vs s ws : List ℕ) (x : FieldSpot) (f : Field) (known n : ℕ) → f ≡ value n → HeldField ks vs s ws x f → FormedField known f → (x .value ≡ numberOf f) × (x .value ≤ 4294967295)
-unfolding numberOf
-number-spot ks vs s ws x f known n e h g =
-    let v : x .value ≡ n = rw e at h in
-    let m : n ≤ 4294967295 = rw e at g in
-    (rw e v, omega arith)
-
 -- ---- an order taken
 
 held-cut : (ks vs : List ℕ) (n p : ℕ) (t : Term) → n ≤ length ks → p + length (items t) ≤ n → Held ks vs p t → Held (take n ks) (take n vs) p t
@@ -232,6 +209,10 @@ module _ {x : Solver} {half : ℕ} {s : List ℕ} {m : Areas} {ts : Area} {ws : 
     pub taken-b : o .top ≤ length (ts .vals)
     taken-b = omega (arith, taken-a, a-long, b-long)
 
+    -- what was read, as it is given to the function that answers it
+    given : Given (ts .kinds) (ts .vals) s ws (rows.known (T .whole .read .kind) (x .issued)) (T .whole .read .kind) o (T .whole .read .fields)
+    given = record { held = T .whole .held W; formed = T .whole .formed; fits = T .whole .fitting }
+
     -- ---- orders 9 to 20
 
     pub taken-lends : Lends (ts .kinds) (ts .vals) (take half (m .c)) (m .d) most
@@ -254,7 +235,7 @@ module _ {x : Solver} {half : ℕ} {s : List ℕ} {m : Areas} {ts : Area} {ws : 
           kind = T .whole .read .kind;
           fields = T .whole .read .fields;
           numbered = T .whole .kind;
-          given = record { held = T .whole .held W; formed = T .whole .formed; fits = T .whole .fitting };
+          given = given;
           among = operations-among (o .kind) (T .whole .read .kind) (T .whole .kind) h;
         }
 
@@ -265,7 +246,7 @@ module _ {x : Solver} {half : ℕ} {s : List ℕ} {m : Areas} {ts : Area} {ws : 
         (λ z A Z.
         let k = T .whole .read .kind in
         let fs = T .whole .read .fields in
-        let F = R .says (rows.known k (x .issued)) k fs (T .whole .kind) (record { held = T .whole .held W; formed = T .whole .formed; fits = T .whole .fitting }) in
+        let F = R .says (rows.known k (x .issued)) k fs (T .whole .kind) given in
         let few : z .kept + allNodes fs ≤ x .nodes = omega (arith, T .whole .counts, W, Z .represents .kept) in
         let st : orderOf (limitsOf x) z s ≡ record { session = z; answer = operation k fs } =
         step-is z Z ∙ operation-step (limitsOf x) z (o .kind) k fs (T .whole .kind) h ∙ rw (le-ltb (x .nodes) (z .kept + allNodes fs) few) refl
@@ -278,41 +259,34 @@ module _ {x : Solver} {half : ℕ} {s : List ℕ} {m : Areas} {ts : Area} {ws : 
     kind-as : (n : ℕ) (r : Row) → o .kind ≡ n → rowIn table n ≡ some r → T .whole .read .kind ≡ r
     kind-as n r e h = let f : some (T .whole .read .kind) ≡ some r = sym (T .whole .kind) ∙ ap (λ (i : ℕ). rowIn table i) e ∙ h in cc
 
-    -- ---- orders of numbers alone
+    -- ---- orders without terms
 
     module _ (P : Plainly (o .kind)) where
-      plain-numbers : numeric (layout (T .whole .read .kind)) ≡ true
-      plain-numbers = plain-act (o .kind) (T .whole .read .kind) (T .whole .kind) P .2
+      pub plain-asks : Asks (ts .kinds) (ts .vals) s ws plainOrders o
+      plain-asks =
+          record {
+            known = rows.known (T .whole .read .kind) (x .issued);
+            kind = T .whole .read .kind;
+            fields = T .whole .read .fields;
+            numbered = T .whole .kind;
+            given = given;
+            among = plain-among (o .kind) (T .whole .read .kind) (T .whole .kind) P;
+          }
 
-      pub plain-kind : Among plainOrders (o .kind)
-      plain-kind = plain-among (o .kind) (T .whole .read .kind) (T .whole .kind) P
-
-      plain-step : (z : Session) → RepresentsInAreas x half m z
-          → orderOf (limitsOf x) z s ≡ solve (limitsOf x) z (plainCommand (o .kind) (numberAt 0 (T .whole .read .fields)) (numberAt 1 (T .whole .read .fields)))
-      plain-step z Z = step-is z Z ∙ plainly (o .kind) (T .whole .read .kind) (T .whole .kind) P (limitsOf x) z (T .whole .read .fields)
-
-      pub plain-first : (o .first .value ≡ numberOf (nth 0 (T .whole .read .fields))) × (o .first .value ≤ 4294967295)
-      plain-first =
-          let e = numbers-are (layout (T .whole .read .kind)) (T .whole .read .fields) plain-numbers (T .whole .fitting) 0 in
-          number-spot (ts .kinds) (ts .vals) s ws (o .first) (nth 0 (T .whole .read .fields)) (rows.known (T .whole .read .kind) (x .issued)) (e .0) (e .1) (T .whole .held W .first)
-          (nth-formed (rows.known (T .whole .read .kind) (x .issued)) (T .whole .read .fields) 0 (T .whole .formed))
-
-      pub plain-second : (o .second .value ≡ numberOf (nth 1 (T .whole .read .fields))) × (o .second .value ≤ 4294967295)
-      plain-second =
-          let e = numbers-are (layout (T .whole .read .kind)) (T .whole .read .fields) plain-numbers (T .whole .fitting) 1 in
-          number-spot (ts .kinds) (ts .vals) s ws (o .second) (nth 1 (T .whole .read .fields)) (rows.known (T .whole .read .kind) (x .issued)) (e .0) (e .1) (T .whole .held W .second)
-          (nth-formed (rows.known (T .whole .read .kind) (x .issued)) (T .whole .read .fields) 1 (T .whole .formed))
-
-      pub plain-code : o .kind ≡ 1 → o .second .value < 32
-      unfolding layout rowIn table sessionOrders
-      plain-code h =
-          let k = kind-as 1 rows.number-variable h refl in
-          let g = second-code (T .whole .read .fields) (subst (λ (r : Row). FitsLayout (layout r) (T .whole .read .fields)) k (T .whole .fitting)) in
-          omega (arith, plain-second .0)
+      plain-step : (c : Command) → Says (ts .kinds) (ts .vals) s ws o c → (z : Session) → RepresentsInAreas x half m z → orderOf (limitsOf x) z s ≡ solve (limitsOf x) z c
+      unfolding step commandOf
+      plain-step c S z Z =
+          let k = T .whole .read .kind in
+          let fs = T .whole .read .fields in
+          let t = plain-act (o .kind) k (T .whole .kind) P in
+          let f = t .0 in
+          let told : some (f fs) ≡ some c = ap (λ (a : Act). commandBy a fs) (sym (t .1)) ∙ S .says (rows.known k (x .issued)) k fs (T .whole .kind) given in
+          let same : f fs ≡ c = cc in
+          step-is z Z ∙ ap (λ (a : Act). perform (limitsOf x) z fs a) (t .1) ∙ ap (λ (d : Command). solve (limitsOf x) z d) same
 
       -- it has no tokens
       no-items : allItems (T .whole .read .fields) ≡ []
-      no-items = numbers-none (layout (T .whole .read .kind)) (T .whole .read .fields) plain-numbers (T .whole .fitting) .1
+      no-items = tokenless-none (layout (T .whole .read .kind)) (T .whole .read .fields) (plain-act (o .kind) (T .whole .read .kind) (T .whole .kind) P .2) (T .whole .fitting) .1
 
       plain-top : o .top ≡ x .top
       plain-top = omega (arith, T .whole .tokens, ap length no-items)
@@ -323,16 +297,14 @@ module _ {x : Solver} {half : ℕ} {s : List ℕ} {m : Areas} {ts : Area} {ws : 
       pub plain-lent : (z : Session) → RepresentsInAreas x half m z → Represents x (take (o .top) (ts .kinds)) (take (o .top) (ts .vals)) (drop half (m .c)) z
       plain-lent z Z = subst (λ (u : Area). Represents x (u .kinds) (u .vals) (drop half (m .c)) z) (sym plain-areas) (Z .represents)
 
-      pub plain-answered : (i j : ℕ) → i ≡ o .first .value → j ≡ o .second .value
+      pub plain-answered : (c : Command) → Says (ts .kinds) (ts .vals) s ws o c
           → (y : Solver) (c′ d′ : List ℕ) (w v : Output) → take half c′ ≡ take half (m .c) → Zero d′
           → ((z : Session) → InOrder (issued z) (z .solver) → Represents x (take (o .top) (ts .kinds)) (take (o .top) (ts .vals)) (drop half (m .c)) z
-          → Does (lent x (take (o .top) (ts .kinds)) (take (o .top) (ts .vals)) (drop half (m .c))) y (drop half c′) z (solve (limitsOf x) z (plainCommand (o .kind) i j)) w v)
+          → Does (lent x (take (o .top) (ts .kinds)) (take (o .top) (ts .vals)) (drop half (m .c))) y (drop half c′) z (solve (limitsOf x) z c) w v)
           → Answered x y half s m ts o c′ d′ w v
-      plain-answered i j ei ej y c′ d′ w v front clear D =
-          told (plainCommand (o .kind) i j) (λ z Z. plain-step z Z ∙ rw (ei, ej, plain-first .0, plain-second .0) refl) y c′ d′ w v front clear
-          (λ z A Z.
-          subst (λ (u : Area). Does (lent x (u .kinds) (u .vals) (drop half (m .c))) y (drop half c′) z (solve (limitsOf x) z (plainCommand (o .kind) i j)) w v) plain-areas
-          (D z A (plain-lent z Z)))
+      plain-answered c S y c′ d′ w v front clear D =
+          told c (plain-step c S) y c′ d′ w v front clear
+          (λ z A Z. subst (λ (u : Area). Does (lent x (u .kinds) (u .vals) (drop half (m .c))) y (drop half c′) z (solve (limitsOf x) z c) w v) plain-areas (D z A (plain-lent z Z)))
 
     -- ---- orders 3, 4 and 5
 

@@ -16,6 +16,7 @@ use Rattle.solver.specs.declared.Named.{Named}
 use Rattle.solver.specs.declared.Named.the-variants.{Variable, Full}
 use Rattle.sheet.specs.declared.VariableOrder.{VariableOrder}
 use Rattle.sheet.specs.declared.VariableOrder.the-variants.{Slot, Number, Hole}
+use Rattle.sheet.specs.declared.TermlessOrder.{TermlessOrder}
 use Rattle.solver.specs.Families.{Request, requested}
 use Rattle.solver.specs.Constrain.{resolved}
 use Rattle.solver.specs.Session.{Limits, Session, VariablePlace, at, gap, issued, find}
@@ -28,14 +29,11 @@ use Rattle.solver.specs.Words.OrderTerms.{placeOf}
 use Rattle.solver.proofs.Laws.Definition.SolverInvariantLaws.{ordered-revision}
 use Rattle.solver.proofs.Laws.Definition.InOrderLaws.{in-order-ordered}
 use Rattle.solver.proofs.Laws.Table.MethodLaws.{beside-same, named-next, named-none}
-use Rattle.sheet.specs.Fields.{nth, numberOf}
-use Rattle.sheet.specs.OrderTable.{Answer, refusal, outcome, sessionOrders, rowIn, commandOf}
+use Rattle.sheet.specs.OrderTable.{Answer, refusal, outcome}
 use Rattle.sheet.specs.Operations.{bit}
 use Rattle.sheet.specs.Sheet.{Step, solve, answerOf, framed}
 use Rattle.sheet.specs.Words.FramingContract.{outputAt, Framed, opening}
-use Rattle.sheet.specs.Words.OperationsContract.{Among, plainOrders}
-use Rattle.sheet.specs.Words.SessionOrdersContract.{lent, pairNumber, Does, plainCommand, variableCommand, siteOf, variableAnswer, defaultsBy}
-use Rattle.sheet.proofs.Laws.Reading.OrderTableLaws.{among-past, third}
+use Rattle.sheet.specs.Words.SessionOrdersContract.{lent, pairNumber, Does, variableCommand, siteOf, variableAnswer, defaultsBy, termlessCommand}
 use Rattle.sheet.proofs.Laws.Answering.FramingLaws.{one-frame, frame-over, value-frame}
 
 -- ---- done, or not
@@ -242,40 +240,13 @@ module _ (x : Solver) (ks vs ts : List ℕ) (z : Session) (L : Represents x ks v
         → Does (lent x ks vs ts) y us z (solve (limitsOf x) z c) (outputAt out₀ to) (outputAt out r)
     place-done l y us M B = does-whole L (solve (limitsOf x) z c) out₀ to y us out r says l M B
 
--- ---- the command of an order with numbers alone
+-- ---- orders without terms, by their commands
 
-module _ (k a b : ℕ) where
-  pub plain-variable : k ≡ 0 → orders.variable a b ≡ plainCommand k a b
-  unfolding plainCommand rowIn sessionOrders commandOf nth numberOf
-  plain-variable e = rw e refl
-
-  pub plain-number : k ≡ 1 → orders.number a (requested b) ≡ plainCommand k a b
-  unfolding plainCommand rowIn sessionOrders commandOf nth numberOf
-  plain-number e = rw e refl
-
-  pub plain-hole : k ≡ 2 → orders.hole a ≡ plainCommand k a b
-  unfolding plainCommand rowIn sessionOrders commandOf nth numberOf
-  plain-hole e = rw e refl
-
-  pub plain-numbers : k ≡ 6 → orders.numbers ≡ plainCommand k a b
-  unfolding plainCommand rowIn sessionOrders commandOf
-  plain-numbers e = rw e refl
-
-  pub plain-nevers : k ≡ 7 → orders.nevers ≡ plainCommand k a b
-  unfolding plainCommand rowIn sessionOrders commandOf
-  plain-nevers e = rw e refl
-
-  -- the last of them
-  pub plain-revision : Among plainOrders k → (k ≡ 0 → ⊥) → (k ≡ 1 → ⊥) → (k ≡ 2 → ⊥) → (k ≡ 6 → ⊥) → (k ≡ 7 → ⊥) → orders.revision ≡ plainCommand k a b
-  unfolding plainCommand rowIn sessionOrders commandOf
-  plain-revision h n₀ n₁ n₂ n₆ n₇ =
-      let x = among-past 2 k (6 ∷ 7 ∷ 8 ∷ []) n₂ (among-past 1 k (2 ∷ 6 ∷ 7 ∷ 8 ∷ []) n₁ (among-past 0 k (1 ∷ 2 ∷ 6 ∷ 7 ∷ 8 ∷ []) n₀ h)) in
-      rw (third 6 7 8 k x n₆ n₇) refl
-
--- a command under another name
-pub does-as : (x y : Solver) (ks vs ts us : List ℕ) (z : Session) (c d : orders.Command) → c ≡ d → (out₀ : List ℕ) (to : ℕ) (out : List ℕ) (r : ℕ)
-    → Does (lent x ks vs ts) y us z (solve (limitsOf x) z c) (outputAt out₀ to) (outputAt out r) → Does (lent x ks vs ts) y us z (solve (limitsOf x) z d) (outputAt out₀ to) (outputAt out r)
-does-as x y ks vs ts us z c d e out₀ to out r h = subst (λ (k : orders.Command). Does (lent x ks vs ts) y us z (solve (limitsOf x) z k) (outputAt out₀ to) (outputAt out r)) e h
+pub does-termless : (x y : Solver) (ks vs ts us : List ℕ) (z : Session) (c d : TermlessOrder) → c ≡ d → (out₀ : List ℕ) (to : ℕ) (out : List ℕ) (r : ℕ)
+    → Does (lent x ks vs ts) y us z (solve (limitsOf x) z (termlessCommand c)) (outputAt out₀ to) (outputAt out r)
+    → Does (lent x ks vs ts) y us z (solve (limitsOf x) z (termlessCommand d)) (outputAt out₀ to) (outputAt out r)
+does-termless x y ks vs ts us z c d e out₀ to out r h =
+    subst (λ (o : TermlessOrder). Does (lent x ks vs ts) y us z (solve (limitsOf x) z (termlessCommand o)) (outputAt out₀ to) (outputAt out r)) e h
 
 -- ---- orders 4 and 22
 

@@ -1,6 +1,6 @@
--- What an order of the session tells is made of its fields: of two numbers at most, or of its terms, which are formed, issued and all of its nodes.
+-- What an order of the session tells is made of its fields: of numbers and bounds, or of its terms, which are formed, issued and all of its nodes.
 use mathlib.Core.Path.{_≡_, refl, sym, ap, subst, _∙_}
-use mathlib.Core.Bool.{Bool, true, false}
+use mathlib.Core.Bool.{Bool, true, false, _||_}
 use mathlib.Core.List.{List, [], _∷_}
 use mathlib.Core.Option.{Option, none, some}
 use Prim.Native.Nat.{ℕ, zero, suc, _+_, _≤_, _<_}
@@ -24,7 +24,7 @@ use Rattle.sheet.specs.OrderTable.{refusal, Act, tells, answers, Row, se
 use Rattle.sheet.specs.Sheet.{Step, table, answerOf, solve, perform, step}
 use Rattle.sheet.specs.Words.FieldsFormed.{FormedFields}
 use Rattle.sheet.specs.Words.OrderGiven.{OfSort, FitsLayout}
-use Rattle.sheet.specs.Words.FieldLayout.{sortNumber, isNumber, numeric, fieldItems, allItems}
+use Rattle.sheet.specs.Words.FieldLayout.{sortNumber, isNumber, numeric, isTokenless, tokenless, fieldItems, allItems}
 use Rattle.sheet.proofs.Laws.Reading.OrderTableLaws.{session-row}
 
 -- ---- fields that are numbers
@@ -33,6 +33,7 @@ number-is : (a : FieldSort) (f : Field) → isNumber a ≡ true → OfSort a f �
 unfolding isNumber sortNumber
 number-is fields.ordinary f n h = h
 number-is fields.code f n h = (h .0, h .1)
+number-is fields.bound f n h = never-true n
 number-is fields.term f n h = never-true n
 number-is fields.nominal f n h = never-true n
 number-is fields.receiver f n h = never-true n
@@ -42,24 +43,51 @@ number-is fields.parameters f n h = never-true n
 number-is fields.arguments f n h = never-true n
 number-is fields.rules f n h = never-true n
 
-pub numbers-are : (l : List FieldSort) (fs : List Field) → numeric l ≡ true → FitsLayout l fs → (i : ℕ) → (n : ℕ) × (nth i fs ≡ value n)
+-- those among the first m fields
+pub numbers-are : (m : ℕ) (l : List FieldSort) (fs : List Field) → numeric m l ≡ true → FitsLayout l fs → (i : ℕ) → i < m → (n : ℕ) × (nth i fs ≡ value n)
 unfolding numeric FitsLayout nth
-numbers-are [] [] n h i = (0, refl)
-numbers-are [] (f ∷ fs) n h i = absurd h
-numbers-are (a ∷ l) [] n h i = absurd h
-numbers-are (a ∷ l) (f ∷ fs) n h zero = number-is a f (both-true (isNumber a) (numeric l) n .0) (h .0)
-numbers-are (a ∷ l) (f ∷ fs) n h (suc i) = numbers-are l fs (both-true (isNumber a) (numeric l) n .1) (h .1) i
+numbers-are m [] [] n h i j = (0, refl)
+numbers-are m [] (f ∷ fs) n h i j = absurd h
+numbers-are m (a ∷ l) [] n h i j = absurd h
+numbers-are zero (a ∷ l) (f ∷ fs) n h i j = absurd (omega arith)
+numbers-are (suc m) (a ∷ l) (f ∷ fs) n h zero j = number-is a f (both-true (isNumber a) (numeric m l) n .0) (h .0)
+numbers-are (suc m) (a ∷ l) (f ∷ fs) n h (suc i) j = numbers-are m l fs (both-true (isNumber a) (numeric m l) n .1) (h .1) i (omega arith)
 
-pub numbers-none : (l : List FieldSort) (fs : List Field) → numeric l ≡ true → FitsLayout l fs → (allNodes fs ≡ 0) × (allItems fs ≡ [])
-unfolding numeric FitsLayout allNodes allItems nodes fieldItems
-numbers-none [] [] n h = (refl, refl)
-numbers-none [] (f ∷ fs) n h = absurd h
-numbers-none (a ∷ l) [] n h = absurd h
-numbers-none (a ∷ l) (f ∷ fs) n h =
-    let t = both-true (isNumber a) (numeric l) n in
-    let x = number-is a f (t .0) (h .0) in
-    let y = numbers-none l fs (t .1) (h .1) in
-    rw (x .1) (omega (arith, y .0), y .1)
+-- ---- fields without tokens
+
+is-bound : (a : FieldSort) → eqb (sortNumber a) 11 ≡ true → a ≡ fields.bound
+unfolding sortNumber
+is-bound fields.ordinary n = never-true n
+is-bound fields.code n = never-true n
+is-bound fields.bound n = refl
+is-bound fields.term n = never-true n
+is-bound fields.nominal n = never-true n
+is-bound fields.receiver n = never-true n
+is-bound fields.entries n = never-true n
+is-bound fields.receivers n = never-true n
+is-bound fields.parameters n = never-true n
+is-bound fields.arguments n = never-true n
+is-bound fields.rules n = never-true n
+
+field-none : (a : FieldSort) (f : Field) → isTokenless a ≡ true → OfSort a f → (nodes f ≡ 0) × (fieldItems f ≡ [])
+unfolding isTokenless nodes fieldItems
+field-none a f n h = go (isNumber a) refl (eqb (sortNumber a) 11) refl n
+  where
+    go : (b : Bool) → isNumber a ≡ b → (c : Bool) → eqb (sortNumber a) 11 ≡ c → (b || c) ≡ true → (nodes f ≡ 0) × (fieldItems f ≡ [])
+    go true p c q m = let x = number-is a f p h in rw (x .1) (refl, refl)
+    go false p true q m = let x = rw (is-bound a q) at h in rw (x .2) (refl, refl)
+    go false p false q m = never-true m
+
+pub tokenless-none : (l : List FieldSort) (fs : List Field) → tokenless l ≡ true → FitsLayout l fs → (allNodes fs ≡ 0) × (allItems fs ≡ [])
+unfolding tokenless FitsLayout allNodes allItems
+tokenless-none [] [] n h = (refl, refl)
+tokenless-none [] (f ∷ fs) n h = absurd h
+tokenless-none (a ∷ l) [] n h = absurd h
+tokenless-none (a ∷ l) (f ∷ fs) n h =
+    let t = both-true (isTokenless a) (tokenless l) n in
+    let x = field-none a f (t .0) (h .0) in
+    let y = tokenless-none l fs (t .1) (h .1) in
+    (omega (arith, x .0, y .0), rw (x .1) (y .1))
 
 -- ---- terms
 
@@ -100,43 +128,39 @@ FormedCommand (orders.unread r) = Unit {0}
 
 -- f makes the command of fields of the layout l
 pub record Made (l : List FieldSort) (f : List Field → Command) : Type 0 where
-  -- of numbers alone: of the first two
-  pub plain : numeric l ≡ true → (fs : List Field) → f fs ≡ f (value (numberAt 0 fs) ∷ value (numberAt 1 fs) ∷ [])
   -- its terms are formed, and what it requests is what a fallback requests
   pub read : (n : ℕ) (fs : List Field) → FitsLayout l fs → FormedFields n fs → FormedCommand (f fs)
   -- with more nodes than the limit it is refused
   pub crowded : (lim : Limits) (z : Session) (fs : List Field) → FitsLayout l fs → FormedFields (issued z) fs → z .kept ≤ lim .nodes → lim .nodes < z .kept + allNodes fs
       → solve lim z (f fs) ≡ record { session = z; answer = refusal 7 }
 
--- one of numbers has no node
-uncrowded : {A : Type 0} (l : List FieldSort) → numeric l ≡ true → (lim : Limits) (z : Session) (fs : List Field) → FitsLayout l fs → z .kept ≤ lim .nodes → lim .nodes < z .kept + allNodes fs → A
-uncrowded l n lim z fs fit g h = absurd (omega (arith, numbers-none l fs n fit .0))
+-- one without tokens has no node
+uncrowded : {A : Type 0} (l : List FieldSort) → tokenless l ≡ true → (lim : Limits) (z : Session) (fs : List Field) → FitsLayout l fs → z .kept ≤ lim .nodes → lim .nodes < z .kept + allNodes fs → A
+uncrowded l n lim z fs fit g h = absurd (omega (arith, tokenless-none l fs n fit .0))
 
 variable-made : Made (layout rows.variable) (λ fs. orders.variable (numberAt 0 fs) (numberAt 1 fs))
-unfolding layout numeric isNumber sortNumber nth numberOf
-variable-made = record { plain = λ e fs. refl; read = λ n fs fit formed. tt; crowded = λ lim z fs fit formed g h. uncrowded (layout rows.variable) refl lim z fs fit g h }
+unfolding layout tokenless isTokenless isNumber sortNumber nth numberOf
+variable-made = record { read = λ n fs fit formed. tt; crowded = λ lim z fs fit formed g h. uncrowded (layout rows.variable) refl lim z fs fit g h }
 
 number-made : Made (layout rows.number-variable) (λ fs. orders.number (numberAt 0 fs) (requested (numberAt 1 fs)))
-unfolding layout numeric isNumber sortNumber nth numberOf
+unfolding layout tokenless isTokenless isNumber sortNumber nth numberOf
 number-made = record {
-  plain = λ e fs. refl;
   read = λ n fs fit formed. (refl, second-code fs fit);
   crowded = λ lim z fs fit formed g h. uncrowded (layout rows.number-variable) refl lim z fs fit g h;
 }
 
 hole-made : Made (layout rows.annotation-hole) (λ fs. orders.hole (numberAt 0 fs))
-unfolding layout numeric isNumber sortNumber nth numberOf
-hole-made = record { plain = λ e fs. refl; read = λ n fs fit formed. tt; crowded = λ lim z fs fit formed g h. uncrowded (layout rows.annotation-hole) refl lim z fs fit g h }
+unfolding layout tokenless isTokenless isNumber sortNumber nth numberOf
+hole-made = record { read = λ n fs fit formed. tt; crowded = λ lim z fs fit formed g h. uncrowded (layout rows.annotation-hole) refl lim z fs fit g h }
 
 -- without fields
 bare-made : (c : Command) → FormedCommand c → Made [] (λ fs. c)
-unfolding numeric
-bare-made c r = record { plain = λ e fs. refl; read = λ n fs fit formed. r; crowded = λ lim z fs fit formed g h. uncrowded [] refl lim z fs fit g h }
+unfolding tokenless
+bare-made c r = record { read = λ n fs fit formed. r; crowded = λ lim z fs fit formed g h. uncrowded [] refl lim z fs fit g h }
 
 defer-made : Made (layout rows.defer-never) (λ fs. orders.defer (fields.termAt 0 fs))
-unfolding layout numeric isNumber sortNumber nth termOf FormedFields allNodes nodes order answerOf
+unfolding layout tokenless isTokenless isNumber sortNumber nth termOf FormedFields allNodes nodes order answerOf
 defer-made = record {
-  plain = λ e fs. never-true e;
   read = λ n fs fit formed. let t = one-term fs fit in let g = rw (t .1) at formed in rw (t .1) (g .0 .formed);
   crowded = λ lim z fs fit formed k h.
       let t = one-term fs fit in
@@ -146,9 +170,8 @@ defer-made = record {
 }
 
 resolve-made : Made (layout rows.resolve) (λ fs. orders.resolving (fields.termAt 0 fs))
-unfolding layout numeric isNumber sortNumber nth termOf FormedFields allNodes nodes order answerOf
+unfolding layout tokenless isTokenless isNumber sortNumber nth termOf FormedFields allNodes nodes order answerOf
 resolve-made = record {
-  plain = λ e fs. never-true e;
   read = λ n fs fit formed. let t = one-term fs fit in let g = rw (t .1) at formed in rw (t .1) (g .0 .formed);
   crowded = λ lim z fs fit formed k h.
       let t = one-term fs fit in
@@ -158,9 +181,8 @@ resolve-made = record {
 }
 
 pair-made : (d : Bool) → Made (fields.ordinary ∷ fields.term ∷ fields.term ∷ []) (λ fs. orders.pair d (numberAt 0 fs) (fields.termAt 1 fs) (fields.termAt 2 fs))
-unfolding layout numeric isNumber sortNumber nth termOf numberOf FormedFields allNodes nodes order answerOf
+unfolding layout tokenless isTokenless isNumber sortNumber nth termOf numberOf FormedFields allNodes nodes order answerOf
 pair-made d = record {
-  plain = λ e fs. never-true e;
   read = λ n fs fit formed. let t = two-terms fs fit in let g = rw (t .3) at formed in rw (t .3) (g .1 .0 .formed, g .1 .1 .0 .formed);
   crowded = λ lim z fs fit formed k h.
       let t = two-terms fs fit in

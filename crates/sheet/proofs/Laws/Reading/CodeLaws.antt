@@ -141,6 +141,12 @@ module _ (s : List ℕ) where
   pub value-coded : (most at : ℕ) → Coded (valueField s most at)
   value-coded most at = bound (number s most at) _ (number-coded most at) (λ v n. tt)
 
+  pub bounded-coded : (issued at : ℕ) → Coded (fields.field s issued fields.bound at)
+  unfolding fields.field
+  bounded-coded issued at =
+      bound (byte s at) _ (byte-coded at)
+      (λ b n. bound (number s (ceiling shape.ordinary) n) _ (number-coded _ n) (λ h m. bound (number s (ceiling shape.ordinary) m) _ (number-coded _ m) (λ l j. tt)))
+
   pub named-coded : (issued at : ℕ) → Coded (fields.field s issued fields.parameters at)
   unfolding fields.field
   named-coded issued at = bound (number s (ceiling shape.ordinary) at) _ (number-coded _ at) (λ k n. bound (order.parameters s k n) _ (parameters-coded k n) (λ ps m. tt))

@@ -355,6 +355,15 @@ module _ (s : List ℕ) (o : Octets s) (issued : ℕ) where
       let v = parts-of (reading.code s 32 at) _ f n e in
       let b = code-after s at (v .0) (v .1) (v .2) in
       value-found 32 at (v .0) (v .1) f n (omega (arith, b .0)) (b .1) (v .3)
+  field-found fields.bound at f n e =
+      let x = parts-of (byte s at) _ f n e in
+      let y = parts-of (number s (ceiling shape.ordinary) (x .1)) _ f n (x .3) in
+      let z = parts-of (number s (ceiling shape.ordinary) (y .1)) _ f n (y .3) in
+      let a = byte-after s at (x .0) (x .1) (x .2) in
+      let b = number-after s (ceiling shape.ordinary) (x .1) (y .0) (y .1) (y .2) in
+      let c = number-after s (ceiling shape.ordinary) (y .1) (z .0) (z .1) (z .2) in
+      let next : z .1 ≡ n = same-next (z .3) in
+      rw (← (same-value (z .3))) (record { formed = tt; tokens = omega (arith, a .0, b .1, c .1); counts = omega (arith, a .0, b .1, c .1); room = omega arith })
   field-found fields.term at f n e =
       let t = parts-of (reading.term s issued levels at) _ f n e in
       let x = tree-found s o issued at (t .0) (t .1) (t .2) in

@@ -3,7 +3,7 @@ use mathlib.Core.Path.{_≡_, sym}
 use mathlib.Core.List.{List, [], _∷_}
 use Prim.Native.Nat.{ℕ}
 use native.Mathlib.Omega.{arith}
-use Rattle.solver.specs.Terms.Parser.{got, number}
+use Rattle.solver.specs.Terms.Parser.{got, byte, number}
 use Rattle.solver.specs.Terms.Shape as shape
 use Rattle.solver.specs.Terms.Shape.{ceiling}
 use Rattle.solver.specs.Terms.Reading as reading
@@ -28,6 +28,11 @@ module _ (s : List ℕ) (issued : ℕ) where
   unfolding field
   field-fits fields.ordinary at f n e = let x = parts-of (number s (ceiling shape.ordinary) at) _ f n e in (x .0, sym (same-value (x .3)))
   field-fits fields.code at f n e = let x = parts-of (reading.code s 32 at) _ f n e in (x .0, sym (same-value (x .3)), code-after s at (x .0) (x .1) (x .2) .0)
+  field-fits fields.bound at f n e =
+      let x = parts-of (byte s at) _ f n e in
+      let y = parts-of (number s (ceiling shape.ordinary) (x .1)) _ f n (x .3) in
+      let z = parts-of (number s (ceiling shape.ordinary) (y .1)) _ f n (y .3) in
+      (x .0, _, sym (same-value (z .3)))
   field-fits fields.term at f n e = let x = parts-of (termField s issued at) _ f n e in (x .0, sym (same-value (x .3)))
   field-fits fields.nominal at f n e = let x = parts-of (nominalField s issued at) _ f n e in (x .0, sym (same-value (x .3)))
   field-fits fields.receiver at f n e =

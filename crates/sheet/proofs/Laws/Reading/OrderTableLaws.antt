@@ -22,7 +22,7 @@ use Rattle.solver.specs.Orders.{Command}
 use Rattle.sheet.specs.OrderTable.{Answer, Act, tells, answers, Row, sessionOrders, rowIn, layout, knownBy, known}
 use Rattle.sheet.specs.Operations.{operations}
 use Rattle.sheet.specs.Sheet.{table}
-use Rattle.sheet.specs.Words.FieldLayout.{sortNumber, plainOf, sortOf, packed, isNumber, numeric, classBy, rowWords, RowIs, answersBy, isOperation, knownFor, Plain, Plains, spares, spare}
+use Rattle.sheet.specs.Words.FieldLayout.{sortNumber, plainOf, sortOf, packed, isNumber, numeric, isTokenless, tokenless, classBy, rowWords, RowIs, answersBy, isOperation, knownFor, Plain, Plains, spares, spare}
 use Rattle.sheet.specs.Words.OperationsContract.{Among, numbersOf, plainOrders}
 
 -- ---- sorts
@@ -32,6 +32,7 @@ unfolding sortOf plainOf sortNumber
 sort-number fields.ordinary = refl
 sort-number fields.receiver = refl
 sort-number fields.code = refl
+sort-number fields.bound = refl
 sort-number fields.term = refl
 sort-number fields.nominal = refl
 sort-number fields.entries = refl
@@ -45,6 +46,7 @@ unfolding plainOf sortNumber Plain
 plain-number fields.ordinary h = refl
 plain-number fields.receiver h = refl
 plain-number fields.code h = refl
+plain-number fields.bound h = refl
 plain-number fields.term h = refl
 plain-number fields.nominal h = refl
 plain-number fields.entries h = refl
@@ -53,11 +55,12 @@ plain-number fields.parameters h = refl
 plain-number fields.arguments h = refl
 plain-number fields.rules h = absurd h
 
-sort-some : (a : FieldSort) → (1 ≤ sortNumber a) × (sortNumber a ≤ 10)
+sort-some : (a : FieldSort) → (1 ≤ sortNumber a) × (sortNumber a ≤ 11)
 unfolding sortNumber
 sort-some fields.ordinary = (omega arith, omega arith)
 sort-some fields.receiver = (omega arith, omega arith)
 sort-some fields.code = (omega arith, omega arith)
+sort-some fields.bound = (omega arith, omega arith)
 sort-some fields.term = (omega arith, omega arith)
 sort-some fields.nominal = (omega arith, omega arith)
 sort-some fields.entries = (omega arith, omega arith)
@@ -173,6 +176,7 @@ unfolding plainSort sortNumber Plain
 plain-sort fields.ordinary h = tt
 plain-sort fields.receiver h = tt
 plain-sort fields.code h = tt
+plain-sort fields.bound h = tt
 plain-sort fields.term h = tt
 plain-sort fields.nominal h = tt
 plain-sort fields.entries h = tt
@@ -369,21 +373,38 @@ plain-among k r e h =
     among-past 22 k plainOrders (n .1)
     (among-past 5 k (22 ∷ plainOrders) (h .3) (among-past 4 k (5 ∷ 22 ∷ plainOrders) (n .0) (among-past 3 k (4 ∷ 5 ∷ 22 ∷ plainOrders) (h .1) x)))
 
--- they have numbers alone
-pub plain-act : (k : ℕ) (r : Row) → rowIn table k ≡ some r → Plainly k → (f : List Field → Command) × (r .act ≡ tells f) × (numeric (layout r) ≡ true)
-unfolding table sessionOrders operations all elem layout numeric isNumber sortNumber
+-- they have no tokens
+pub plain-act : (k : ℕ) (r : Row) → rowIn table k ≡ some r → Plainly k → (f : List Field → Command) × (r .act ≡ tells f) × (tokenless (layout r) ≡ true)
+unfolding table sessionOrders operations all elem layout tokenless isTokenless isNumber sortNumber
 plain-act k r e h =
     let a = act-tells (r .act) (operation-row k r false e (h .0)) in
-    let t = every-row (λ (r : Row). answersBy (r .act) || (elem (r .number) (3 ∷ 4 ∷ 5 ∷ 22 ∷ []) || numeric (layout r))) refl k r e in
+    let t = every-row (λ (r : Row). answersBy (r .act) || (elem (r .number) (3 ∷ 4 ∷ 5 ∷ 22 ∷ []) || tokenless (layout r))) refl k r e in
     let u = rw (operation-row k r false e (h .0)) at t in
     (a .0, a .1, go (elem (r .number) (3 ∷ 4 ∷ 5 ∷ 22 ∷ [])) refl u)
   where
-    go : (b : Bool) → elem (r .number) (3 ∷ 4 ∷ 5 ∷ 22 ∷ []) ≡ b → (b || numeric (layout r)) ≡ true → numeric (layout r) ≡ true
+    go : (b : Bool) → elem (r .number) (3 ∷ 4 ∷ 5 ∷ 22 ∷ []) ≡ b → (b || tokenless (layout r)) ≡ true → tokenless (layout r) ≡ true
     go false n u = u
     go true n u =
         let x : Among (3 ∷ 4 ∷ 5 ∷ 22 ∷ []) k = rw (row-number table k r e) (elem-among (r .number) (3 ∷ 4 ∷ 5 ∷ 22 ∷ []) n) in
         let p = posesNone k (h .2) in
         absurd (p .1 (third 4 5 22 k (among-past 3 k (4 ∷ 5 ∷ 22 ∷ []) (h .1) x) (p .0) (h .3)))
+
+among-elem : (k : ℕ) (ns : List ℕ) → Among ns k → elem k ns ≡ true
+unfolding elem
+among-elem k [] x = absurd x
+among-elem k (n ∷ ns) (inl e) = rw (eq-eqb k n e) refl
+among-elem k (n ∷ ns) (inr x) = or-yes (eqb k n) (among-elem k ns x)
+  where
+    or-yes : (b : Bool) {c : Bool} → c ≡ true → (b || c) ≡ true
+    or-yes true e = refl
+    or-yes false e = e
+
+-- their first two fields are numbers
+pub plain-numeric : (k : ℕ) (r : Row) → rowIn table k ≡ some r → Among plainOrders k → numeric 2 (layout r) ≡ true
+unfolding table sessionOrders operations all elem layout numeric isNumber sortNumber
+plain-numeric k r e x =
+    let t = every-row (λ (r : Row). not (elem (r .number) plainOrders) || numeric 2 (layout r)) refl k r e in
+    rw (← (row-number table k r e), among-elem k plainOrders x) at t
 
 -- ---- the orders of the session
 

@@ -3,10 +3,10 @@ use mathlib.Core.Path.{_≡_, refl, sym, ap, _∙_}
 use mathlib.Core.List.{List}
 use mathlib.Core.Bool.{Bool, true, false}
 use mathlib.Core.Logic.{_⊎_, inl, inr}
-use Prim.Native.Nat.{ℕ, zero, suc, _+_, _-_, _^_, _≤_, _<_}
+use Prim.Native.Nat.{ℕ, zero, suc, _+_, _-_, _*_, _^_, _≤_, _<_}
 use native.Mathlib.Decide.{decLt, ℕ-discrete}
 use native.Mathlib.Omega.{arith}
-use borrow.Author.Tests.{ne-eqb}
+use borrow.Author.Tests.{ne-eqb, lt-ltb, le-ltb, lt-leb}
 use lib.Dec.{eqb}
 use lib.ListN.{length, getD}
 use Rattle.solver.specs.TermTypes.{Place, Step, Next, Stopped}
@@ -30,11 +30,11 @@ use Rattle.solver.proofs.Terms.FieldLaws.{code-end, code-listed, code-unlisted}
 use Rattle.solver.specs.Words.HandingContract.{NumberSaid, PassedSaid, StepSaid, PartRead, ListRead}
 use Rattle.sheet.specs.declared.FieldSpot.{FieldSpot}
 use Rattle.sheet.specs.Fields as fields
-use Rattle.sheet.specs.Fields.{Field, value, tree, bare, entered, received, named, listed, levels, nodes}
-use Rattle.sheet.specs.Words.FieldLayout.{plainOf, partOf, keysOf, fieldItems, Free, Ample, PartDone, FieldDone, ReadOnly, valueField, listField, FieldRead, Spotted, Unread}
+use Rattle.sheet.specs.Fields.{Field, value, bounded, tree, bare, entered, received, named, listed, levels, nodes}
+use Rattle.sheet.specs.Words.FieldLayout.{signPlace, plainOf, partOf, keysOf, fieldItems, Free, Ample, PartDone, FieldDone, ReadOnly, valueField, listField, FieldRead, Spotted, Unread}
 use Rattle.sheet.specs.Words.FieldsContract.{fieldOf, ReadAt}
 use Rattle.sheet.proofs.Laws.Reading.StoredLaws.{stored-none, stored-kept}
-use Rattle.sheet.proofs.Laws.Reading.CodeLaws.{Coded, not-zero, number-coded, value-coded, named-coded, parameters-coded, part-coded}
+use Rattle.sheet.proofs.Laws.Reading.CodeLaws.{Coded, not-zero, number-coded, value-coded, bounded-coded, named-coded, parameters-coded, part-coded}
 use Rattle.sheet.proofs.Laws.Reading.FieldLaws.{parts-of, same-value, parameters-found}
 
 -- the place with another position
@@ -241,6 +241,18 @@ list-field s ws at found whole p d e (Unread c) h x = (h ∙ x .0, x .1)
 
 -- ---- fields without tokens
 
+pub sign-plus : (b : ℕ) → b ≡ 0 → 0 ≡ signPlace b
+unfolding signPlace
+sign-plus b e = rw e refl
+
+pub sign-minus : (b : ℕ) → b ≡ 1 → 1 ≡ signPlace b
+unfolding signPlace
+sign-minus b e = rw e refl
+
+pub sign-other : (b : ℕ) → (b ≡ 0 → ⊥) → (b ≡ 1 → ⊥) → 2 ≡ signPlace b
+unfolding signPlace
+sign-other b e f = rw (lt-leb b 1 (omega arith)) refl
+
 module _ (s : List ℕ) (p : Place) (inside : p .at ≤ length s) where
   pub value-yes : (most v n : ℕ) (x : FieldSpot) → got v n ≡ number s most (p .at) → x .value ≡ v → ReadOnly s (valueField s most (p .at)) p (Spotted x (moved p n))
   unfolding fieldItems nodes
@@ -262,6 +274,33 @@ module _ (s : List ℕ) (p : Place) (inside : p .at ≤ length s) where
   unfolding fields.field fieldItems nodes
   code-yes h k x e ws d f =
       (value (getD s (p .at) 0), rw (← (code-listed s (p .at) 32 h k)), stored-none p (moved p (p .at + 1)) d f refl refl refl, omega arith, e)
+
+  pub bound-none : length s ≤ p .at → ReadOnly s (fields.field s 0 fields.bound (p .at)) p (Unread 1)
+  unfolding fields.field
+  bound-none h ws d f = (rw (le-ltb (p .at) (length s) h), refl)
+
+  -- a sign, and then two numbers
+  module _ (h : p .at < length s) where
+    pub bound-high : (c : ℕ) → refused c ≡ number s (ceiling shape.ordinary) (p .at + 1) → ReadOnly s (fields.field s 0 fields.bound (p .at)) p (Unread c)
+    unfolding fields.field
+    bound-high c e ws d f = (rw (lt-ltb (p .at) (length s) h, ← e), refl)
+
+    module _ (v m : ℕ) (e : got v m ≡ number s (ceiling shape.ordinary) (p .at + 1)) where
+      pub bound-low : (c : ℕ) → refused c ≡ number s (ceiling shape.ordinary) m → ReadOnly s (fields.field s 0 fields.bound (p .at)) p (Unread c)
+      unfolding fields.field
+      bound-low c i ws d f = (rw (lt-ltb (p .at) (length s) h, ← e, ← i), refl)
+
+      pub bound-yes : (w n : ℕ) (x : FieldSpot) → got w n ≡ number s (ceiling shape.ordinary) m → x .value ≡ v * 4294967296 + w → x .place ≡ signPlace (getD s (p .at) 0)
+          → ReadOnly s (fields.field s 0 fields.bound (p .at)) p (Spotted x (moved p n))
+      unfolding fields.field fieldItems nodes
+      bound-yes w n x i ev ep ws d f =
+          let b = number-bounds (ceiling shape.ordinary) s (p .at + 1) v m (omega arith) (sym e) in (
+            bounded (getD s (p .at) 0) (v * 4294967296 + w),
+            rw (lt-ltb (p .at) (length s) h, ← e, ← i),
+            stored-none p (moved p n) d f refl refl refl,
+            number-bounds (ceiling shape.ordinary) s m w n (b .inside) (sym i) .inside,
+            (ev, ep),
+          )
 
   pub parameters-count : (c : ℕ) → refused c ≡ number s (ceiling shape.ordinary) (p .at) → ReadOnly s (fields.field s 0 fields.parameters (p .at)) p (Unread c)
   unfolding fields.field
@@ -346,6 +385,40 @@ parameters-uncounted s at₀ v₀ code at v start inside x z =
     unread-at s (fields.field s 0 fields.parameters at₀) at₀ (named-coded s 0 at₀) code v start at
     (λ top nodes limit. parameters-count s (place at₀ top nodes limit) inside code (number-refused (number s (ceiling shape.ordinary) at₀) at₀ v₀ code at v x z))
 
+-- a bound: its sign, and then what `number_at` says twice
+module _ (s : List ℕ) (at₀ : ℕ) (inside : at₀ ≤ length s) where
+  pub bound-ended : length s ≤ at₀ → (v start next : ℕ) → ReadAt s (fields.field s 0 fields.bound at₀) at₀ 1 v start next
+  bound-ended h v start next end top nodes limit = bound-none s (place at₀ top nodes limit) inside h
+
+  module _ (h : at₀ < length s) (v₀ code at v : ℕ) (x : NumberSaid (number s (ceiling shape.ordinary) (at₀ + 1)) (at₀ + 1) v₀ code at v) where
+    pub bound-unread : (code ≡ 0 → ⊥) → (start : ℕ) → ReadAt s (fields.field s 0 fields.bound at₀) at₀ code v start at
+    bound-unread z start =
+        unread-at s (fields.field s 0 fields.bound at₀) at₀ (bounded-coded s 0 at₀) code v start at
+        (λ top nodes limit. bound-high s (place at₀ top nodes limit) inside h code (number-refused (number s (ceiling shape.ordinary) (at₀ + 1)) (at₀ + 1) v₀ code at v x z))
+
+    module _ (z : code ≡ 0) where
+      got-high : got v at ≡ number s (ceiling shape.ordinary) (at₀ + 1)
+      got-high = number-told (number s (ceiling shape.ordinary) (at₀ + 1)) (at₀ + 1) v₀ code at v (number-coded s (ceiling shape.ordinary) (at₀ + 1)) x z
+
+      pub bound-after : (v ≤ 4294967295) × (at ≤ length s)
+      bound-after = let b = number-bounds (ceiling shape.ordinary) s (at₀ + 1) v at (omega arith) (sym got-high) in (b .small, b .inside)
+
+      module _ (next-code next w : ℕ) (y : NumberSaid (number s (ceiling shape.ordinary) at) at v next-code next w) where
+        pub bound-unread-low : (next-code ≡ 0 → ⊥) → (start : ℕ) → ReadAt s (fields.field s 0 fields.bound at₀) at₀ next-code w start next
+        bound-unread-low n start =
+            unread-at s (fields.field s 0 fields.bound at₀) at₀ (bounded-coded s 0 at₀) next-code w start next
+            (λ top nodes limit. bound-low s (place at₀ top nodes limit) inside h v at got-high next-code (number-refused (number s (ceiling shape.ordinary) at) at v next-code next w y n))
+
+        got-low : next-code ≡ 0 → got w next ≡ number s (ceiling shape.ordinary) at
+        got-low n = number-told (number s (ceiling shape.ordinary) at) at v next-code next w (number-coded s (ceiling shape.ordinary) at) y n
+
+        pub bound-small : next-code ≡ 0 → w ≤ 4294967295
+        bound-small n = number-bounds (ceiling shape.ordinary) s at w next (bound-after .1) (sym (got-low n)) .small
+
+        pub bound-said : next-code ≡ 0 → (size start : ℕ) → size ≡ v * 4294967296 + w → start ≡ signPlace (getD s at₀ 0) → ReadAt s (fields.field s 0 fields.bound at₀) at₀ 0 size start next
+        bound-said n size start ev ep end top nodes limit =
+            bound-yes s (place at₀ top nodes limit) inside h v at got-high w next (record { value = size; place = start; end = end }) (got-low n) ev ep
+
 -- ---- lists after their counts
 
 pub ample-moved : (s : List ℕ) (p : Place) (n at : ℕ) → Ample s p → got n at ≡ number s (ceiling shape.ordinary) (p .at) → Ample s (moved p at)
@@ -373,10 +446,10 @@ module _ (s : List ℕ) (issued k at : ℕ) where
       go (no l) = let e : k ≡ 5 = omega (arith, h .1) in rw e
 
   -- lists
-  pub plain-list : (k < 1) ⊎ (6 ≤ k) → (k ≡ 8 → ⊥) → fields.field s issued (plainOf k) at ≡ listField s issued k at
+  pub plain-list : (k < 1) ⊎ (6 ≤ k) → (k ≡ 8 → ⊥) → (k ≡ 11 → ⊥) → fields.field s issued (plainOf k) at ≡ listField s issued k at
   unfolding plainOf partOf fields.field
-  plain-list h d =
-      rw (ne-eqb k 1 (outside k 1 6 h 1 (omega arith) (omega arith)), ne-eqb k 2 (outside k 1 6 h 2 (omega arith) (omega arith)), ne-eqb k 3 (outside k 1 6 h 3 (omega arith) (omega arith)), ne-eqb k 4 (outside k 1 6 h 4 (omega arith) (omega arith)), ne-eqb k 5 (outside k 1 6 h 5 (omega arith) (omega arith)), ne-eqb k 8 d) (by (eqb k 6) (eqb k 9))
+  plain-list h d g =
+      rw (ne-eqb k 1 (outside k 1 6 h 1 (omega arith) (omega arith)), ne-eqb k 2 (outside k 1 6 h 2 (omega arith) (omega arith)), ne-eqb k 3 (outside k 1 6 h 3 (omega arith) (omega arith)), ne-eqb k 4 (outside k 1 6 h 4 (omega arith) (omega arith)), ne-eqb k 5 (outside k 1 6 h 5 (omega arith) (omega arith)), ne-eqb k 8 d, ne-eqb k 11 g) (by (eqb k 6) (eqb k 9))
     where
       by : (x y : Bool)
           → fields.field s issued (pick x fields.entries (pick y fields.arguments fields.receivers)) at

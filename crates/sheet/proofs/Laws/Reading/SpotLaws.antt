@@ -21,7 +21,7 @@ use Rattle.solver.proofs.Terms.KindTableLaws.{both-true}
 use Rattle.sheet.specs.declared.FieldSpot.{FieldSpot}
 use Rattle.sheet.specs.declared.Order.{Order}
 use Rattle.sheet.specs.Fields as fields
-use Rattle.sheet.specs.Fields.{FieldSort, Field, value, tree, bare, entered, received, named, listed, ruled, nodes, allNodes, ruleNodes, nth}
+use Rattle.sheet.specs.Fields.{FieldSort, Field, value, bounded, tree, bare, entered, received, named, listed, ruled, nodes, allNodes, ruleNodes, nth}
 use Rattle.sheet.specs.OrderTable.{Row, sessionOrders, rowIn, layout}
 use Rattle.sheet.specs.Operations.{operations}
 use Rattle.sheet.specs.Sheet.{table}
@@ -220,6 +220,7 @@ module _ (ks vs ws : List ℕ) (n : ℕ) (long : 6 * n ≤ length ws) where
 -- the words have room for the rules
 abbrev pub RulesFit : List ℕ → Field → Type 0
 RulesFit ws (value n) = Unit {0}
+RulesFit ws (bounded b n) = Unit {0}
 RulesFit ws (tree t) = Unit {0}
 RulesFit ws (bare ps) = Unit {0}
 RulesFit ws (entered es) = Unit {0}
@@ -231,6 +232,7 @@ RulesFit ws (ruled rs) = 6 * length rs ≤ length ws
 rules-fit : (ws : List ℕ) (f : Field) → 3 * nodes f ≤ length ws → RulesFit ws f
 unfolding nodes
 rules-fit ws (value n) h = tt
+rules-fit ws (bounded b n) h = tt
 rules-fit ws (tree t) h = tt
 rules-fit ws (bare ps) h = tt
 rules-fit ws (entered es) h = tt
@@ -243,6 +245,7 @@ field-held : (ks vs s ws : List ℕ) (a : ℕ) (x : FieldSpot) (f : Field) → S
     → HeldField ks vs s ws x f
 unfolding fieldItems
 field-held ks vs s ws a x (value n) l r t w = l
+field-held ks vs s ws a x (bounded b n) l r t w = l
 field-held ks vs s ws a x (tree u) l r t w = rw l (record { tokens = t; within = w })
 field-held ks vs s ws a x (bare ps) l r t w = rw l (record { tokens = t; within = w })
 field-held ks vs s ws a x (entered es) l r t w = (l .0, rw (l .1, l .2) (record { tokens = t; ends = refl; within = w }))
@@ -273,6 +276,7 @@ nth-nodes (f ∷ fs) (suc i) = omega (arith, nth-nodes fs i)
 abbrev pub FollowedBy : Field → Field → Type 0
 FollowedBy (entered es) g = (rs : List Receiver) × (g ≡ received rs)
 FollowedBy (value n) g = Unit {0}
+FollowedBy (bounded b n) g = Unit {0}
 FollowedBy (tree t) g = Unit {0}
 FollowedBy (bare ps) g = Unit {0}
 FollowedBy (received rs) g = Unit {0}
@@ -285,6 +289,7 @@ After fields.entries (a ∷ l) = a ≡ fields.receivers
 After fields.entries [] = ⊥
 After fields.ordinary l = Unit {0}
 After fields.code l = Unit {0}
+After fields.bound l = Unit {0}
 After fields.term l = Unit {0}
 After fields.nominal l = Unit {0}
 After fields.receiver l = Unit {0}
@@ -309,6 +314,7 @@ is-receivers : (a : FieldSort) → eqb (sortNumber a) 7 ≡ true → a ≡ field
 unfolding sortNumber
 is-receivers fields.ordinary h = never-true h
 is-receivers fields.code h = never-true h
+is-receivers fields.bound h = never-true h
 is-receivers fields.term h = never-true h
 is-receivers fields.nominal h = never-true h
 is-receivers fields.receiver h = never-true h
@@ -324,6 +330,7 @@ after-of fields.entries [] h = never-true h
 after-of fields.entries (a ∷ l) h = is-receivers a h
 after-of fields.ordinary l h = tt
 after-of fields.code l h = tt
+after-of fields.bound l h = tt
 after-of fields.term l h = tt
 after-of fields.nominal l h = tt
 after-of fields.receiver l h = tt
@@ -345,6 +352,7 @@ followed : (a : FieldSort) (l : List FieldSort) (f : Field) (fs : List Field) �
 unfolding FitsLayout nth
 followed fields.ordinary l f fs h x y = rw (x .1) tt
 followed fields.code l f fs h x y = rw (x .1) tt
+followed fields.bound l f fs h x y = rw (x .2) tt
 followed fields.term l f fs h x y = rw (x .1) tt
 followed fields.nominal l f fs h x y = rw (x .1) tt
 followed fields.receiver l f fs h x y = rw (x .1) tt
@@ -377,6 +385,7 @@ start-next (f ∷ fs) a (suc i) = start-next fs (a + length (fieldItems f)) i
 laid-follows : (s ws : List ℕ) (a : ℕ) (x y : FieldSpot) (f g : Field) → FollowedBy f g → SpotOf s ws a x f → SpotOf s ws (a + length (fieldItems f)) y g → Follows f x y
 unfolding fieldItems
 laid-follows s ws a x y (value n) g h l m = tt
+laid-follows s ws a x y (bounded b n) g h l m = tt
 laid-follows s ws a x y (tree t) g h l m = tt
 laid-follows s ws a x y (bare ps) g h l m = tt
 laid-follows s ws a x y (entered es) g h l m = l .2 ∙ sym ((rw (h .1) at m) .1)
@@ -390,6 +399,7 @@ rules-none : (ws : List ℕ) (a : FieldSort) (f : Field) → Plain a → OfSort 
 unfolding Plain
 rules-none ws fields.ordinary f h x = rw (x .1) tt
 rules-none ws fields.code f h x = rw (x .1) tt
+rules-none ws fields.bound f h x = rw (x .2) tt
 rules-none ws fields.term f h x = rw (x .1) tt
 rules-none ws fields.nominal f h x = rw (x .1) tt
 rules-none ws fields.receiver f h x = rw (x .1) tt

@@ -21,6 +21,9 @@ code-field-requires c κs = c .before .before .before .before .before .before .p
 parameters-field-requires : tie.Need-parameters-field-requires
 parameters-field-requires c κs = c .before .before .before .before .before .before .before .pre .0 .inside
 
+bound-field-requires : tie.Need-bound-field-requires
+bound-field-requires c κs = c .before .before .before .before .before .before .before .pre .0 .inside
+
 list-field-requires : tie.Need-list-field-requires
 list-field-requires c κs = search needs
 
@@ -48,17 +51,25 @@ returns-3 c =
     let d = area (a .kinds .now) (a .vals .now) in
     λ ws. rw (c .before .before .before .before .match .keys4) (c .parameters-field .ensures (now (a .end)) (now (a .top)) (now (a .nodes)) (a .limit) ws d (c .before .before .before .before .before .before .before .before .pre .1))
 
+returns-4 : tie.Need-returns-4
+unfolding plainOf field
+returns-4 c =
+    let a = c .before .before .before .before .before .before .before .before .args in
+    let d = area (a .kinds .now) (a .vals .now) in
+    λ ws. rw (c .before .before .before .before .match .keys5) (c .bound-field .ensures (now (a .end)) (now (a .top)) (now (a .nodes)) (a .limit) ws d (c .before .before .before .before .before .before .before .before .pre .1))
+
 same-length : tie.Need-same-length
 same-length c = search needs
 
 same-length-2 : tie.Need-same-length-2
 same-length-2 c = search needs
 
-returns-4 : tie.Need-returns-4
-returns-4 c =
+returns-5 : tie.Need-returns-5
+returns-5 c =
     let a = c .before .before .before .before .before .before .before .before .before .before .before .before .before .before .before .before .before .before .args in
     let h : (a .sort < 1) ⊎ (6 ≤ a .sort) = ⊎-elim (λ v. inl (v .taken)) (λ v. inr (v .1 .left)) (c .before .before .before .before .before .before .before .before .before .before .before .before .before .if1 .came) in
-    λ ws. rw (plain-list (now (a .s)) (a .issued) (a .sort) (now (a .at)) h (c .before .before .before .before .before .before .before .before .before .before .before .before .before .before .match .rest .1)) (c .before .before .before .before .list-field .ensures ws)
+    let r = c .before .before .before .before .before .before .before .before .before .before .before .before .before .before .match .rest in
+    λ ws. rw (plain-list (now (a .s)) (a .issued) (a .sort) (now (a .at)) h (r .0 .1) (r .1)) (c .before .before .before .before .list-field .ensures ws)
 
 same-length-3 : tie.Need-same-length-3
 same-length-3 c = search needs
@@ -66,10 +77,10 @@ same-length-3 c = search needs
 same-length-4 : tie.Need-same-length-4
 same-length-4 c = search needs
 
-returns-5 : tie.Need-returns-5
-returns-5 c =
+returns-6 : tie.Need-returns-6
+returns-6 c =
     let a = c .before .before .before .before .before .before .before .before .before .before .before .before .before .before .before .before .before .args in
-    let h : (a .sort ≡ 2) ⊎ ((3 < a .sort) × (a .sort < 6)) = ⊎-elim (λ v. inl (v .keys2)) (λ v. inr (omega (arith, v .1 .left, v .0 .rest .0 .0 .0 .1, v .0 .rest .0 .0 .1, v .0 .rest .0 .1), v .2 .taken)) (c .before .before .before .before .before .before .before .before .before .before .before .before .before .match .came) in
+    let h : (a .sort ≡ 2) ⊎ ((3 < a .sort) × (a .sort < 6)) = ⊎-elim (λ v. inl (v .keys2)) (λ v. inr (omega (arith, v .1 .left, v .0 .rest .0 .0 .0 .0 .1, v .0 .rest .0 .0 .0 .1, v .0 .rest .0 .0 .1), v .2 .taken)) (c .before .before .before .before .before .before .before .before .before .before .before .before .before .match .came) in
     λ ws. rw (plain-tree (now (a .s)) (a .issued) (a .sort) (now (a .at)) h) (c .before .before .before .before .tree-field .ensures ws)
 
 pub read-plain-spec : {M : Type 1} → statement M
@@ -79,14 +90,16 @@ read-plain-spec =
     number-at-requires
     code-field-requires
     parameters-field-requires
+    bound-field-requires
     list-field-requires
     tree-field-requires
     returns
     returns-2
     returns-3
+    returns-4
     same-length
     same-length-2
-    returns-4
+    returns-5
     same-length-3
     same-length-4
-    returns-5)
+    returns-6)
