@@ -1,4 +1,4 @@
-"""The sheets that bench/sheets.py times: classes, pairs by order 4 and by order 22, hazards and growing shapes.
+"""The sheets that bench/sheets.py times: classes, pairs by order 4 and by order 22, requests by order 1 and by order 21, hazards and growing shapes.
 
 A sheet is bytes; a class is a list of sheets. They are the same in every run.
 """
@@ -25,8 +25,8 @@ MOST_ROOM = 16777216
 # A class has sheets; rust says whether the Rust is asked too. A growing shape makes a sheet of a size; the Rust is asked up to `rust`.
 Class = collections.namedtuple("Class", "name sheets room rust", defaults=[ROOM, True])
 Growth = collections.namedtuple("Growth", "name unit sizes make rust room", defaults=[None, ROOM])
-# The same pairs by order 4 and by order 22.
-Pairs = collections.namedtuple("Pairs", "name loose strict")
+# Sheets with the same answers: with order 4 and with order 22, or with order 1 and with order 21.
+Beside = collections.namedtuple("Beside", "name first second")
 
 
 def resolve(term):
@@ -235,12 +235,28 @@ def deep_sheets():
     return [sheet(orders) for orders in (deep_pair(200), variables(1) + [pair(one, other, 5000), resolve(one)])]
 
 
-def joins(count):
+def plain_numbers(count, fallback):
+    return [order("01" + num(n) + fallback) for n in range(count)]
+
+
+def range_numbers(count, fallback, bounds):
+    """Orders 21, whose bounds take turns."""
+    return [order("15" + num(n) + fallback + bounds[n % len(bounds)]) for n in range(count)]
+
+
+def joined(requests):
     """Number variables, each joined to another; then the defaults, and what each of them resolves to."""
-    rng = random.Random(7)
-    orders = [order("01" + num(n) + "02") for n in range(count)]
-    orders += [pair(inf(n), inf(rng.randrange(n)), 100) for n in range(1, count)]
-    return orders + defaults() + [resolve(inf(n)) for n in range(count)]
+    rng, count = random.Random(7), len(requests)
+    links = [pair(inf(n), inf(rng.randrange(n)), 100) for n in range(1, count)]
+    return requests + links + defaulted(count)
+
+
+def defaulted(count):
+    return defaults() + [resolve(inf(n)) for n in range(count)]
+
+
+def joins(count):
+    return joined(plain_numbers(count, "02"))
 
 
 def satisfied(times):
@@ -265,17 +281,35 @@ def strictly(one):
     return b"".join(framed(b"\x16" + order[1:] if order[:1] == b"\x04" else order) for order in split(one)[0])
 
 
+def beside(name, first, second):
+    """Two lists of sheets that are answered with the same bytes."""
+    if [run(one, MOST_ROOM) for one in first] != [run(one, MOST_ROOM) for one in second]:
+        sys.exit("%s: the answers are not the same" % name)
+    return Beside(name, first, second)
+
+
 def strict_pairs():
     """Rows of pairs that both orders answer with the same bytes, as no two Sets or Maps of different access meet."""
     rows = [("small: the bar's session", bars_session()), ("resolve-heavy", resolve_heavy()), ("wide, 2,000 children", wide_sheets()),
             ("deep, 200 levels", deep_sheets()), ("many joins, 512 variables", [sheet(joins(512))]),
             ("a satisfied pair 2,000 times", [sheet(satisfied(2000))]), ("Sets and Maps, 40 levels", [sheet(collected(40))]),
             ("typical script", typical())]
-    for name, sheets in rows:
-        strict = [strictly(one) for one in sheets]
-        if [run(one, MOST_ROOM) for one in sheets] != [run(one, MOST_ROOM) for one in strict]:
-            sys.exit("%s: order 22 does not answer as order 4 does" % name)
-        yield Pairs(name, sheets, strict)
+    return [beside(name, sheets, [strictly(one) for one in sheets]) for name, sheets in rows]
+
+
+# Bounds of order 21: 0 to 200, -1 to 100, 0 to 70,000, and 2^63.
+UP_TO_200, SIGNED, UP_TO_70000, LARGE = "000000 0000c801", "010001 000064", "000000 0000f0a204", "00808080800800 00808080800800"
+
+
+def ranges(count):
+    """Rows of number variables that are answered with the same bytes: by order 1 with the type that order 21 takes at last."""
+    plain, large = plain_numbers(count, "02"), plain_numbers(count, "07")
+    rows = [("many joins, one range", joined(plain), joined(range_numbers(count, "02", [UP_TO_200]))),
+            ("many joins, three ranges", joined(plain), joined(range_numbers(count, "00", [UP_TO_200, SIGNED, UP_TO_70000]))),
+            ("defaults, the fallback is admitted", plain + defaulted(count), range_numbers(count, "02", [UP_TO_200]) + defaulted(count)),
+            ("defaults, the first of the list is", plain + defaulted(count), range_numbers(count, "00", [UP_TO_200]) + defaulted(count)),
+            ("defaults, the fourth of the list is", large + defaulted(count), range_numbers(count, "09", [LARGE]) + defaulted(count))]
+    return [beside("%s, %d variables" % (name, count), [sheet(first)], [sheet(second)]) for name, first, second in rows]
 
 
 # Orders 9 to 20

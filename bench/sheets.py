@@ -2,7 +2,7 @@
 """Times the proved library and Kagari's own functions on the same sheets, and prints Markdown tables.
 
   python3 bench/sheets.py                       everything; the picture goes to docs/benchmarks.svg
-  python3 bench/sheets.py classes hazards       these parts alone: classes, strict, hazards, solver, growth
+  python3 bench/sheets.py classes hazards       these parts alone: classes, strict, ranges, hazards, solver, growth
   python3 bench/sheets.py classes --only deep   the rows whose name has this text
   python3 bench/sheets.py --quick               fewer and shorter rounds
   --library FILE     the library (target/staticlib/libentry.a, which `rt staticlib entry` proves and writes)
@@ -17,8 +17,8 @@ output that are lent once and used again; clearing the areas is in the time, as 
 order into its trees with tests/oracle/format.rs, has a new Solver for each sheet, and writes into a buffer that is used
 again. Its answers to orders 9 to 20 are put together in small vectors by tests/oracle/orders.rs, which is in its time.
 
-The part `strict` times order 22 beside order 4, both of the library, on pairs that both answer with the same bytes. The Rust
-has no order 22.
+The part `strict` times order 22 beside order 4, both of the library, on pairs that both answer with the same bytes; the part
+`ranges` order 21 beside order 1, on sheets that are answered with the same bytes. The Rust has no orders 21 and 22.
 """
 
 import argparse
@@ -38,8 +38,8 @@ from oracle import build as oracle  # noqa: E402
 OUT = os.path.join(ROOT, "target", "bench")
 LIBRARY = os.path.join(ROOT, "target", "staticlib", "libentry.a")
 PICTURE = os.path.join(ROOT, "docs", "benchmarks.svg")
-PARTS = ("classes", "strict", "hazards", "solver", "growth")
-TURNS = 4           # of the two sides of the part `strict`
+PARTS = ("classes", "strict", "ranges", "hazards", "solver", "growth")
+TURNS = 4           # of the two sides of the parts `strict` and `ranges`
 
 
 def built(library, source):
@@ -123,16 +123,17 @@ def classes_table(driver, only):
             row(one.name, timed.sheets, format(timed.orders, ","), format(timed.bytes, ","), *rates(timed), figure(timed.ratio))
 
 
-def strict_table(driver, only):
-    """Order 22 beside order 4, which take turns: the least time of each counts."""
-    row("pairs", "sheets", "orders", "bytes", "order 4, orders/s", "order 22, orders/s", "order 22 / order 4")
+def beside_table(driver, only, title, first, second, rows):
+    """The second order beside the first, which take turns: the least time of each counts."""
+    row(title, "sheets", "orders", "bytes", "order %d, orders/s" % first, "order %d, orders/s" % second, "order %d / order %d" % (second, first))
     row("---", *["---:"] * 6)
-    for one in made.strict_pairs():
+    for one in rows:
         if only in one.name:
-            turns = [[driver.times(sheets, made.ROOM, False) for sheets in (one.loose, one.strict)] for _ in range(TURNS)]
-            loose, strict = (min(side, key=lambda timed: timed.ours) for side in zip(*turns))
-            row(one.name, loose.sheets, format(loose.orders, ","), format(loose.bytes, ","), figure(loose.orders / loose.ours),
-                figure(strict.orders / strict.ours), figure(loose.ours / strict.ours))
+            turns = [[driver.times(sheets, made.ROOM, False) for sheets in (one.first, one.second)] for _ in range(TURNS)]
+            left, right = (min(side, key=lambda timed: timed.ours) for side in zip(*turns))
+            sizes = " and ".join(format(size, ",") for size in sorted({left.bytes, right.bytes}))
+            row(one.name, left.sheets, format(left.orders, ","), sizes, figure(left.orders / left.ours), figure(right.orders / right.ours),
+                figure(left.ours / right.ours))
 
 
 def hazards_table(driver, only):
@@ -193,7 +194,10 @@ def main():
         classes_table(driver, options.only)
         print()
     if "strict" in parts:
-        strict_table(driver, options.only)
+        beside_table(driver, options.only, "pairs", 4, 22, made.strict_pairs())
+        print()
+    if "ranges" in parts:
+        beside_table(driver, options.only, "number variables", 1, 21, made.ranges(512))
         print()
     if "hazards" in parts:
         hazards_table(driver, options.only)

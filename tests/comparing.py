@@ -46,7 +46,7 @@ class OutcomeTable:
     def __init__(self, can_occur, outcomes, answers, least_outcome, least_answer, complete=False):
         self.can_occur, self.shown, self.complete = can_occur, outcomes, complete
         self.least_outcome, self.least_answer = least_outcome, least_answer
-        self.outcomes = {row: dict.fromkeys(range(10), 0) for row in can_occur}
+        self.outcomes = {row: dict.fromkeys(range(14), 0) for row in can_occur}
         self.answers = {row: dict.fromkeys(names, 0) for row, names in answers.items()}
 
     def add(self, row, outcome, names=(), count=1):

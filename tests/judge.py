@@ -23,8 +23,10 @@ the first difference orders are taken out as long as the sides differ; the
 rest is printed in hexadecimal, and the exit status is 1.
 
 The oracle leaves a sheet at an order that makes the Rust meet more than
-400,000 nodes, and at an order 22 that is not refused, which Kagari does not
-have. What was answered before is compared; the last table says how many
+400,000 nodes, and at an order 21 or 22 that is not refused, which Kagari does
+not have. What was answered before is compared with it, and then the whole run
+with the reference in Python (sheet_reference.py), so that the order at which
+it was left and what follows are judged too. The last table says how many
 sheets were left.
 
 The tables show the outcomes of the random orders and what the unrefused ones
@@ -50,9 +52,11 @@ import judge_sheets
 import judge_slips
 import orders_compare
 import sheet_compare
+import sheet_reference as reference
 from comparing import Differs, OutcomeTable, shown, verdict
 from oracle import build as oracle
-from sheet_compare import LEFT, NOT_IN_RUST, Batch, Frames, Left, Program, in_chunks
+from sheet_compare import ALL_LEFT, OUTCOMES, Batch, Frames, Left, Program, in_chunks
+from sheet_reference import Run
 
 LIBRARY = os.path.join(oracle.ROOT, "target", "staticlib", "libentry.a")
 DECLARED = os.path.join(oracle.ROOT, "bindings", "rust", "src")         # where ffi.rs declares the entry, for all Rust
@@ -62,7 +66,7 @@ PORTION = 50000             # sheets in a run of the judge
 LEAST_SHARE = 0.0003
 # By the judge's words for the rows.
 CAN_OCCUR = {**{kind: sheet_compare.CAN_OCCUR[kind] for kind in range(9)}, **{kind: orders_compare.CAN_OCCUR[kind] for kind in range(9, 21)},
-             22: range(1, 8), "other": (2,), "empty": (1,)}
+             21: (1, 2, 3, 8, 13), 22: range(1, 8), "other": (2,), "empty": (1,)}
 YES_NO, CHANGES = ("no", "yes"), ("same", "changed")
 ANSWERS = {
     1: ("itself", "bound"), 2: ("itself", "bound"), 4: ("incompatible", "compatible", "cancelled"), 5: CHANGES, 6: YES_NO, 7: YES_NO,
@@ -124,6 +128,37 @@ def judged(program, sheets):
     return process.returncode, lines
 
 
+# Sheets that the oracle left
+
+def run_of(line):
+    """A line of the judge about a run of the library: family, room, sheet, run."""
+    _, family, room, reason, orders, sheet, answers = line.split()
+    return judge_sheets.NAMES[int(family)], int(room), bytes.fromhex(sheet[1:]), Run(int(reason), int(orders), bytes.fromhex(answers[1:]))
+
+
+class Library:
+    """The library alone, by the judge's program."""
+
+    def __init__(self, program):
+        self.program = program
+
+    def runs(self, sheets):
+        data = b"".join(frame("fixed", room, judge_sheets.AREAS, 0, sheet) for room, sheet in sheets)
+        done = subprocess.run([self.program, "runs"], input=data, stdout=subprocess.PIPE)
+        return [run_of(line)[3] for line in done.stdout.decode().splitlines()]
+
+
+def compare_left(program, lines):
+    """The runs among the lines, compared with the reference. Gives the other lines, and what is to be told of the first run that differs."""
+    runs = [line for line in lines if line.startswith("run ")]
+    rest = [line for line in lines if not line.startswith("run ")]
+    for line in runs:
+        family, room, sheet, found = run_of(line)
+        if found != reference.run(sheet, room):
+            return rest, ["a sheet that the oracle left (%s):" % family] + sheet_compare.described(Library(program), room, sheet).splitlines()
+    return rest, []
+
+
 # Tables
 
 class Counts(dict):
@@ -144,9 +179,9 @@ class Counts(dict):
         """Prints the tables; gives the entries that are too rare."""
         def least(total):
             return max(5, LEAST_SHARE * total)
-        table = OutcomeTable(CAN_OCCUR, range(10), ANSWERS, least, least, complete=True)
+        table = OutcomeTable(CAN_OCCUR, OUTCOMES, ANSWERS, least, least, complete=True)
         for row in CAN_OCCUR:
-            for outcome in range(10):
+            for outcome in OUTCOMES:
                 table.add(row, outcome, count=self.of("outcome", row, outcome))
         for row, names in ANSWERS.items():
             table.answers[row] = {name: self.of("answer", row, name) for name in names}
@@ -155,8 +190,8 @@ class Counts(dict):
         return poor + ["reason %d" % reason for reason in REASONS if self.of("reason", reason) < 5]
 
     def show_sheets(self):
-        """How many sheets of each family there were, and how many the oracle left, the latter at an order 22."""
-        for title, word in (("families", "family"), ("left", "left"), ("left at 22", "strict")):
+        """How many sheets of each family there were, and how many the oracle left, which were compared with the reference, the latter two at orders 21 and 22."""
+        for title, word in (("families", "family"), ("left", "left"), ("left at 21", "ranged"), ("left at 22", "strict")):
             found = ["%s %d" % (name, self.of(word, at)) for at, name in enumerate(judge_sheets.NAMES) if self.of(word, at)]
             print("  %-12s%s" % (title, ", ".join(found) or "none"))
 
@@ -175,8 +210,11 @@ def counted(program, name, sheets):
     for part in portions(sheets):
         status, lines = judged(program, part)
         if status != 0:
-            lines = told(lines) if lines and lines[0].startswith("differs") else ["the judge ends with status %d" % status] + lines
-            print("%s, after %d that agree, %s" % (name, counts.total("family"), "\n".join(lines)))
+            differs = told(lines) if lines and lines[0].startswith("differs") else ["the judge ends with status %d" % status] + lines
+        else:
+            lines, differs = compare_left(program, lines)
+        if differs:
+            print("%s, after %d that agree, %s" % (name, counts.total("family"), "\n".join(differs)))
             return None
         counts.add(lines)
         done = counts.total("family"), counts.total("outcome"), time.time() - start
@@ -204,10 +242,15 @@ def check_slip(options, name, path):
     with open(path, "rb") as file:
         done = subprocess.run([program], stdin=file, stdout=subprocess.PIPE)
     lines = done.stdout.decode().splitlines()
-    if done.returncode != 1 or not lines or not lines[0].startswith("differs"):
+    if done.returncode == 0:
+        lines = compare_left(program, lines)[1]
+    elif lines and lines[0].startswith("differs"):
+        lines = told(lines)
+    else:
+        lines = []
+    if not lines:
         print("%-32s NOT FOUND" % name, flush=True)
         return False
-    lines = told(lines)
     print("%-32s %s\n    %s" % (name, lines[0], "\n    ".join(lines[1:])), flush=True)
     return True
 
@@ -224,10 +267,17 @@ def check_slips(options):
 
 
 def same(found, wanted):
-    """Whether a program's run is the oracle's, as far as the oracle went on; the sheet program tells the answers alone."""
-    if wanted.reason in (LEFT, NOT_IN_RUST):
+    """Whether a program's run is the wanted one, as far as the oracle went on; the sheet program tells the answers alone."""
+    if wanted.reason in ALL_LEFT:
         return found.output.startswith(wanted.output)
     return found.output == wanted.output and found[:2] in ((None, None), wanted[:2])
+
+
+def judges(room, sheet, wanted):
+    """The runs that are asked for: the oracle's, and the reference's where the oracle left the sheet."""
+    yield "oracle", wanted
+    if wanted.reason in ALL_LEFT:
+        yield "reference", reference.run(sheet, room)
 
 
 def check_program(options):
@@ -245,10 +295,11 @@ def check_program(options):
             print("%s\n%d passed, 1 failed" % (difference.args[0], passed))
             return 1
         for (family, room, _, _, sheet), found, wanted in runs:
-            if not same(found, wanted):
-                print("%s, room %d: %s\noracle  %s %s: %s\nprogram %s %s: %s\n%d passed, 1 failed" % (
-                    family, room, shown(sheet), *wanted[:2], shown(wanted.output), *found[:2], shown(found.output), passed))
-                return 1
+            for name, run in judges(room, sheet, wanted):
+                if not same(found, run):
+                    print("%s, room %d: %s\n%-9s %s %s: %s\nprogram   %s %s: %s\n%d passed, 1 failed" % (
+                        family, room, shown(sheet), name, *run[:2], shown(run.output), *found[:2], shown(found.output), passed))
+                    return 1
             left.add(wanted)
             passed += 1
     left.show()

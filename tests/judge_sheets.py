@@ -163,7 +163,7 @@ def copy(rng, sheet):
 def at_random(how_many, seed):
     rng = random.Random(seed)
     made = 0
-    for family, room, sheet in sheet_generate.sheets(how_many, seed, sheet_generate.JUDGED, (0,)):
+    for family, room, sheet in sheet_generate.sheets(how_many, seed, sheet_generate.JUDGED, (0,), (0,)):
         copies = COPIES if 0 < len(sheet) <= COPIED else 0
         for name, data in [(family, sheet)] + [("copies", copy(rng, sheet)) for _ in range(copies)]:
             if made == how_many:

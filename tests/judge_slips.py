@@ -3,8 +3,9 @@
 Only proved code is built, so the fault stands on the other side: in what is
 taken from the Rust (taken_*.rs) or in the files of tests/oracle around it. A
 library that touches what it should not is played by lent.rs, which does so
-after the call. A slip is a file, a pattern that must be found there exactly
-once, and what is put in its place.
+after the call; one that answers otherwise where the oracle has left the sheet,
+by judge.rs, which tells its run. A slip is a file, a pattern that must be
+found there exactly once, and what is put in its place.
 """
 
 import re
@@ -75,10 +76,26 @@ ROWS = (
      "if solver.revision != before || matches!(answer, Some(Err(_))) {"),
     # Order 22, of which the oracle has the refusals alone. The first poses it as order 4.
     ("order_22_is_order_4", "sheets.rs", r"if kind == STRICT \{", FALSE),
-    ("order_22_unlisted", "sheets.rs", r"\*kind <= 8 \|\| \*kind == STRICT", "*kind <= 8"),
+    ("order_22_unlisted", "sheets.rs", r"\*kind == RANGED \|\| \*kind == STRICT", "*kind == RANGED"),
     ("order_22_takes_any_id", "sheets.rs", r"with_issued\(self\.solver\.issued\(\)\)", "with_issued(if kind == STRICT { 1 << 32 } else { self.solver.issued() })"),
-    ("kind_21_is_order_22", "sheets.rs", r"\|\| \*kind == STRICT => outcome\(self\.value\(\*kind,",
-     "|| matches!(*kind, 21 | STRICT) => outcome(self.value(if *kind == 21 { STRICT } else { *kind },"),
+    ("kind_21_is_order_22", "sheets.rs", r"=> outcome\(self\.value\(\*kind,", "=> outcome(self.value(if *kind == RANGED { STRICT } else { *kind },"),
+    # Order 21, of which the oracle has the refusals alone. Where a slip has none, the oracle leaves the sheet, and that is not told from an order 21 that is answered.
+    ("order_21_unlisted", "sheets.rs", r"\*kind == RANGED \|\| \*kind == STRICT", "*kind == STRICT"),
+    ("refusal_13_before_leftover_bytes", "sheets.rs", r"fields\.end\(\)\?;\n( *)refuse_bounds\(&low, &high\)\?;", r"refuse_bounds(&low, &high)?;\n\1fields.end()?;"),
+    ("refusal_13_after_8", "sheets.rs", r"refuse_bounds\(&low, &high\)\?;\n( *)self\.place\(Place::Expression\(site, 1\)\)\?;",
+     r"self.place(Place::Expression(site, 1))?;\n\1refuse_bounds(&low, &high)?;"),
+    ("sign_over_1_is_2", "sheets.rs", r"\(sign, high, low\) = \(fields\.byte\(\)\?,",
+     "(sign, high, low) = (match fields.byte()? { 2.. => return Err(Refused(2)), sign => sign },"),
+    ("refusal_13_is_2", "sheets.rs", r"Refused\(13\)", "Refused(2)"),
+    ("equal_bounds_refused", "sheets.rs", r"least > most", "least >= most"),
+    ("bounds_of_32_bits", "sheets.rs", r"u64::from\(high\) << 32 \| ", ""),
+    # A library that answers otherwise where the oracle has left the sheet: the reference finds it.
+    ("answers_end_where_the_oracle_leaves", "judge.rs", r"left\.push\(frame\.told\(&found\)\)",
+     "left.push(frame.told(&Found { reason: found.reason, orders: found.orders, answers: wanted.answers.clone(), touched: vec![] }))"),
+    ("last_byte_where_the_oracle_has_left", "judge.rs", r"hexadecimal\(&run\.answers\)\)",
+     "{ let mut all = run.answers.clone(); if let Some(last) = all.last_mut() { *last ^= 1; } hexadecimal(&all) })"),
+    ("an_order_more_where_the_oracle_has_left", "judge.rs", r"run\.reason, run\.orders\)", "run.reason, run.orders + 1)"),
+    ("another_reason_where_the_oracle_has_left", "judge.rs", r"run\.reason, run\.orders\)", "if run.reason == 0 { 10 } else { run.reason }, run.orders)"),
     ("run_11_a_byte_early", "sheets.rs", r"framed\.len\(\) > room", "framed.len() >= room"),
     # What is lent.
     ("area_left", "lent.rs", CALL, r"\g<0> if reason != 12 { self.areas[2].all[GUARD + 9] = 1; }"),

@@ -14,7 +14,7 @@ from terms_reference import Refused
 
 KINDS = tuple(range(9, 21))
 # The kinds of orders that are told to the session.
-SESSION = tuple(range(9)) + (22,)
+SESSION = tuple(range(9)) + (21, 22)
 I8, NEVER = (BUILTIN, 0), (BUILTIN, 10)
 # A term that add_inside puts into an order.
 NEW = (HOST, 0)
@@ -567,6 +567,8 @@ def faulty_field(mark, rng):
     what, start, end, detail = mark
     if what == "tag":
         return bytes([rng.choice((20, 21, 255, rng.randrange(20, 256)))])
+    if what == "sign":
+        return bytes([rng.choice((2, 2, 3, 127, 128, 255))])
     if what == "code":
         return bytes([rng.choice((detail, detail, detail + 1, 128, 255))])
     if what == "member" and rng.random() < 0.8:
@@ -613,7 +615,7 @@ def random_order(rng):
         return b""
     if pick < 0.02:
         kind = rng.choice((21, 23, 29, 127, 128, 137, 255, rng.randrange(21, 256)))
-        return bytes([kind if kind not in SESSION else 21]) + rng.randbytes(rng.randrange(6))
+        return bytes([kind if kind not in SESSION else 23]) + rng.randbytes(rng.randrange(6))
     kind = rng.choice(KINDS + (19, 20))
     if pick < 0.03:
         # Small bytes at random: most of them are tags, codes and counts.

@@ -1,7 +1,7 @@
 #!/usr/bin/env python3
 """Fixed sheets, with the outcome of every order stated by hand.
 
-  python3 tests/sheet_cases.py write DIR     write DIR/stdin and DIR/stdout, one sheet with all parts without order 22
+  python3 tests/sheet_cases.py write DIR     write DIR/stdin and DIR/stdout, one sheet with all parts without orders 21 and 22
   python3 tests/sheet_cases.py sheets DIR    write every sheet as DIR/NAME.in, and its answers as DIR/NAME.out
   python3 tests/sheet_cases.py frames DIR    write DIR/stdin and DIR/stdout for the program `sheets`: all runs, areas filled before
   python3 tests/sheet_cases.py check DIR     whether they are what `frames` would write
@@ -9,9 +9,9 @@
   python3 tests/sheet_cases.py slips         show for each slip the first sheet that finds it
 
 Each part is a function that poses orders and states their answers. It makes
-a sheet of its own, and all parts but those that fill the session make two
-sheets together, one of the parts without order 22 and one of those with it:
-every part takes variables and sites of its own. The script
+a sheet of its own, and all parts but those that fill the session make three
+sheets together, one of the parts with order 21, one of the others with order
+22 and one of the rest: every part takes variables and sites of its own. The script
 stops where the reference answers anything else. tests/sheet_compare.py runs
 all of them, and with --oracle compares them with the Rust.
 
@@ -85,6 +85,21 @@ class Script:
         self.order("a number variable", "01" + num(self.new_site()) + "%02x" % fallback, inf(self.count - 1))
         return inf(self.count - 1)
 
+    def range(self, fallback, low, high):
+        """A new number variable between two bounds."""
+        self.count += 1
+        self.order("a number variable from %d to %d" % (low, high), ranged(self.new_site(), fallback, low, high), inf(self.count - 1))
+        return inf(self.count - 1)
+
+    def again(self, comment, behind, fallback, low, high, outcome):
+        """An order 21 for the site of the number variable that was requested so many requests ago."""
+        self.order(comment, ranged(self.site - behind, fallback, low, high), outcome)
+
+    def defaults(self, bound):
+        """Numeric defaults that bind so many variables."""
+        self.order("defaults", "06", YES if bound else NO)
+        self.bound += bound
+
     def hole(self):
         self.count += 1
         self.order("a hole", "02" + num(self.new_site()), inf(self.count - 1))
@@ -131,6 +146,15 @@ class Script:
                          % (comment, order.hex(" ")[:300], wanted.hex(" ")[:300], found.hex(" ")[:300]))
             out += found
         return out
+
+
+def bound(value):
+    return ("01" if value < 0 else "00") + num(abs(value) >> 32) + num(abs(value) & MOST)
+
+
+def ranged(site, fallback, low, high):
+    """An order 21."""
+    return "15" + num(site) + "%02x" % fallback + bound(low) + bound(high)
 
 
 def outcome_of(answer):
@@ -876,7 +900,7 @@ def refusals(s):
             ("5: ends early", "05 09", 1), ("5: leftover", "05 02 00", 1), ("5: not issued", "05" + arr(more), 6),
             ("5: a tag is a byte", "05 82 00", 2), ("5: a count larger than the bytes", "05 05 ff ff ff ff 0f 02", 1),
             ("6: leftover", "06 00", 1), ("7: leftover", "07 00", 1), ("8: leftover", "08 00", 1),
-            ("kind 21", "15", 2), ("kind 23", "17", 2), ("kind 27", "1b 00", 2), ("a kind is a byte", "80 00", 2), ("kind 255", "ff", 2),
+            ("kind 21 alone", "15", 1), ("kind 23", "17", 2), ("kind 27", "1b 00", 2), ("a kind is a byte", "80 00", 2), ("kind 255", "ff", 2),
             ("empty", "", 1)):
         s.order(name, text, refusal)
     s.order("orders 9 to 20 take any id", "0b" + more + U, more)
@@ -1148,7 +1172,7 @@ def strict_refusals(s):
             ("the fault on the left, before the id", "16 09 14" + more, 2), ("not issued, in a Set", "16 09 02" + set_(RO, more), 6),
             ("not issued, in a projection", "16 09 02" + proj(U, nom(0, [], [(1, more)]), 0), 6), ("not issued, k = 0", "16 00" + more + I32, 6),
             ("not issued, before leftover bytes", "16 09" + more + "02 02", 6), ("the largest id", "16 09 02" + inf(MOST), 6),
-            ("kind 21", "15 09 02 02", 2), ("kind 21 with the fields of order 1", "15 09 02", 2), ("kind 23", "17 09 02 02", 2),
+            ("kind 21 with these fields", "15 09 02 02", 1), ("kind 21 with the fields of order 1", "15 09 02", 1), ("kind 23", "17 09 02 02", 2),
             ("kind 23 alone", "17", 2), ("kind 24", "18", 2), ("kind 28", "1c 09 02 02", 2), ("kind 22 + 128", "96 09 02 02", 2)):
         s.order(name, text, refusal)
     s.strictly("200 levels", "0b 00" * 199 + x, "0b 00" * 199 + I32, YES, 1)
@@ -1237,6 +1261,560 @@ def strict_repeated(s):
     space_left(s, "three pairs that bound, one of them twice")
 
 
+# ---------------------------------------------------------------- Document 02: literals known as a range
+
+# Values at the ends of the types and one beyond, the codes of the types that hold it, and of those that hold -1 as well. 0 to 3 are I8 to I64, 4 to 7 are
+# U8 to U64. Where no type holds a value, a range with it is refused. One beyond U64 is no bound, and -1 is one beyond all four unsigned types.
+ENDS = (
+    (-2 ** 64 + 1, "", ""), (-2 ** 63 - 1, "", ""), (-2 ** 63, "3", "3"), (-2 ** 63 + 1, "3", "3"), (-2 ** 32, "3", "3"), (-2 ** 31 - 1, "3", "3"),
+    (-2 ** 31, "23", "23"), (-32769, "23", "23"), (-32768, "123", "123"), (-129, "123", "123"), (-128, "0123", "0123"), (-1, "0123", "0123"),
+    (0, "01234567", "0123"), (127, "01234567", "0123"), (128, "1234567", "123"), (255, "1234567", "123"), (256, "123567", "123"),
+    (32767, "123567", "123"), (32768, "23567", "23"), (65535, "23567", "23"), (65536, "2367", "23"), (2 ** 31 - 1, "2367", "23"), (2 ** 31, "367", "3"),
+    (2 ** 32 - 1, "367", "3"), (2 ** 32, "37", "3"), (2 ** 63 - 1, "37", "3"), (2 ** 63, "7", ""), (2 ** 64 - 1, "7", ""))
+# Ranges with ends of two types.
+RANGES = (
+    (-128, 127, "0123"), (-129, 127, "123"), (-128, 128, "123"), (-32768, 32767, "123"), (-32769, 32767, "23"), (-32768, 32768, "23"),
+    (-2 ** 31, 2 ** 31 - 1, "23"), (-2 ** 31 - 1, 2 ** 31 - 1, "3"), (-2 ** 31, 2 ** 31, "3"), (-2 ** 63, 2 ** 63 - 1, "3"), (-2 ** 63 - 1, 2 ** 63 - 1, ""),
+    (-2 ** 63, 2 ** 63, ""), (127, 128, "1234567"), (255, 256, "123567"), (2 ** 63 - 1, 2 ** 63, "7"), (2 ** 63, 2 ** 64 - 1, "7"),
+    (-2 ** 64 + 1, 2 ** 64 - 1, ""))
+FALLING = ((1, 0), (0, -1), (-4, -5), (5, 4), (1, -1), (128, 127), (-128, -129), (2 ** 32, 1), (2 ** 32, 2 ** 32 - 1), (-2 ** 32 + 1, -2 ** 32), (2 ** 63, 2 ** 63 - 1),
+           (2 ** 64 - 1, 2 ** 64 - 2), (2 ** 64 - 1, 2 ** 63), (-2 ** 63, -2 ** 63 - 1), (2 ** 64 - 1, -2 ** 64 + 1))
+FALLBACKS = (2, 9, 8, 10, 31, 4)
+
+
+def admits_just(s, fallback, low, high, held):
+    """The range takes just these types and no term; where there are none it is refused."""
+    name, held = "%d .. %d" % (low, high), set(map(int, held))
+    if not held:
+        s.order("no type for %s" % name, ranged(s.new_site(), fallback, low, high), 13)
+        return
+    n = s.range(fallback, low, high)
+    for code in range(12):
+        if code not in held:
+            s.pose("%s does not take code %d" % (name, code), *(n, builtin(code))[::(-1) ** s.count], NO)
+    s.pose("%s takes no Tuple" % name, n, tup(), NO)
+    s.free(n)
+    for code in sorted(held):
+        s.pose("%s takes code %d" % (name, code), s.range(fallback, low, high), builtin(code), YES, 1)
+
+
+@part(alone=True)
+def range_ends(s):
+    """Each end of a type as both bounds, and as low or high beside zero."""
+    for at, (value, held, _) in enumerate(ENDS):
+        admits_just(s, FALLBACKS[at % 6], value, value, held)
+        admits_just(s, FALLBACKS[(at + 1) % 6], min(value, 0), max(value, 0), held)
+    s.revision()
+
+
+@part(alone=True)
+def range_signed_ends(s):
+    """Each end of a type as low or high beside -1, and with an end of another type."""
+    for at, (value, _, held) in enumerate(ENDS):
+        admits_just(s, FALLBACKS[at % 6], min(value, -1), max(value, -1), held)
+    for at, (low, high, held) in enumerate(RANGES):
+        admits_just(s, FALLBACKS[at % 6], low, high, held)
+    s.revision()
+
+
+@part()
+def range_bounds(s):
+    """Refusal 13, and minus zero."""
+    site = num(s.new_site())
+    for low, high in FALLING:
+        s.order("%d above %d" % (low, high), ranged(s.site, 2, low, high), 13)
+    for sign in (2, 3, 127, 128, 129, 255):
+        s.order("sign %d below" % sign, "15" + site + "02 %02x 00 00 00 00 00" % sign, 13)
+        s.order("sign %d above" % sign, "15" + site + "02 00 00 00 %02x 00 00" % sign, 13)
+    s.order("both signs over 1", "15" + site + "02 ff 00 01 02 00 00", 13)
+    s.order("a sign over 1 and low above high", "15" + site + "02 02 00 05 00 00 01", 13)
+    n = inf(s.count)
+    s.order("none of them issued the variable", "05" + n, 6)
+    s.count += 1
+    s.order("minus zero below", "15" + site + "02 01 00 00 00 00 05", n)
+    s.pose("it takes U8", n, builtin(4), YES, 1)
+    for name, text in (("minus zero above", "00 00 00 01 00 00"), ("minus zero twice", "01 00 00 01 00 00"), ("minus zero below, zero above", "01 00 00 00 00 00")):
+        n = inf(s.count)
+        s.count += 1
+        s.order(name, "15" + num(s.new_site()) + "02" + text, n)
+        s.pose("it takes U64", n, builtin(7), YES, 1)
+    s.order("a negative number below minus zero", "15" + num(s.site) + "02 01 00 01 01 00 00", builtin(7))
+    s.order("1 above minus zero", "15" + num(s.site) + "02 00 00 01 01 00 00", 13)
+    s.order("minus zero above -1", "15" + num(s.site) + "02 01 00 00 01 00 01", 13)
+    s.order("minus zero above minus the largest", "15" + num(s.site) + "02 01 00 00 01 ff ff ff ff 0f ff ff ff ff 0f", 13)
+    s.order("the high half counts", "15" + num(s.site) + "02 00 01 00 00 00 ff ff ff ff 0f", 13)
+    s.order("and is the first", "15" + num(s.site) + "02 00 00 01 00 01 00", builtin(7))
+    for name, text, held in (("-1 to minus zero", "01 00 01 01 00 00", "0123"), ("minus zero to 255", "01 00 00 00 00 ff 01", "1234567"),
+                             ("minus zero to the largest", "01 00 00 00 ff ff ff ff 0f ff ff ff ff 0f", "7"),
+                             ("-2^63 to minus zero", "01 80 80 80 80 08 00 01 00 00", "3")):
+        n = inf(s.count)
+        s.count += 1
+        s.order(name, "15" + num(s.new_site()) + "02" + text, n)
+        for code in sorted(set(range(10)) - set(map(int, held))):
+            s.pose("%s: not code %d" % (name, code), n, builtin(code), NO)
+        s.pose("%s: code %s" % (name, held[0]), n, builtin(int(held[0])), YES, 1)
+    s.revision()
+
+
+@part()
+def range_refusals(s):
+    """The fields are read first; 13 comes behind leftover bytes."""
+    for name, text, refusal in (
+            ("ends before the site", "15", 1), ("ends before the fallback", "15 09", 1), ("ends before the sign", "15 09 02", 1),
+            ("ends behind the sign", "15 09 02 00", 1), ("ends behind a half", "15 09 02 00 00", 1), ("ends behind a bound", "15 09 02 00 00 00", 1),
+            ("ends behind the second sign", "15 09 02 00 00 00 00", 1), ("ends before the last half", "15 09 02 00 00 00 00 00", 1),
+            ("ends in the last half", "15 09 02 00 00 00 00 00 80", 1), ("leftover bytes", "15 09 02 00 00 00 00 00 05 00", 1),
+            ("leftover bytes before a sign over 1", "15 00 02 02 00 00 00 00 01 00", 1), ("leftover bytes before low above high", "15 00 02 00 00 02 00 00 01 00", 1),
+            ("leftover bytes before no type", "15 00 02 01 00 01 00 80 80 80 80 08 00 00", 1), ("ends early behind a sign over 1", "15 00 02 02 00 00 00 00", 1),
+            ("an unlisted fallback", "15 09 20 00 00 00 00 00 05", 2), ("a fallback is a byte", "15 09 82 00 00 00 00 00 00 05", 2),
+            ("an unlisted fallback before a sign over 1", "15 09 ff 02 00 00 00 00 05", 2), ("an unlisted fallback, and nothing behind", "15 09 20", 2),
+            ("a site not shortest", "15 89 00 02 00 00 00 00 00 05", 3), ("a site too large", "15 80 80 80 80 10 02 00 00 00 00 00 05", 3),
+            ("a half not shortest", "15 09 02 00 80 00 00 00 00 05", 3), ("the second", "15 09 02 00 00 80 00 00 00 05", 3),
+            ("the third", "15 09 02 00 00 00 00 80 00 05", 3), ("the last", "15 09 02 00 00 00 00 00 85 00", 3),
+            ("a half too large", "15 09 02 00 00 00 00 80 80 80 80 10 00", 3), ("the last too large", "15 09 02 00 00 00 00 00 80 80 80 80 10", 3),
+            ("a faulty half behind a sign over 1", "15 00 02 02 80 00 00 00 01", 3), ("a faulty half behind low above high", "15 00 02 00 00 05 00 00 80 00", 3),
+            ("a sign is a byte", "15 09 02 80 00 00 00 00 05", 13), ("so is the second", "15 09 02 00 00 00 80 00 05", 13),
+            ("a sign of two bytes", "15 09 02 81 00 00 00 00 00 05", 1), ("kind 21 + 128", "95 09 02 00 00 00 00 00 05", 2),
+            ("a number for the kind", "15 95 00", 3)):
+        s.order(name, text, refusal)
+    n = s.range(4, 0, 5)
+    for name, text, refusal in (("low above high", ranged(s.site, 2, 5, 4), 13), ("a fault", ranged(s.site, 2, -7, 9) + "00", 1), ("no type", ranged(s.site, 2, -1, 2 ** 63), 13)):
+        s.order(name + ", for an issued place", text, refusal)
+    s.order("the largest site", "15 ff ff ff ff 0f 1f 00 ff ff ff ff 0f ff ff ff ff 0f 00 ff ff ff ff 0f ff ff ff ff 0f", inf(s.count))
+    s.count += 1
+    s.pose("which takes U64 alone", inf(s.count - 1), builtin(3), NO)
+    s.pose("U64", inf(s.count - 1), builtin(7), YES, 1)
+    s.pose("the refused requests had no effect", n, builtin(4), YES, 1)
+    s.revision()
+
+
+@part()
+def range_places(s):
+    """The place of order 21 is that of order 1; it answers what the variable resolves to."""
+    n = s.range(2, 0, 200)
+    site = num(s.site)
+    s.order("order 0 at slot 1", "00" + site + "01", n)
+    s.order("order 1", "01" + site + "02", n)
+    s.order("order 21", ranged(s.site, 2, 0, 200), n)
+    x, hole = s.variable_at(s.site, 0), inf(s.count)
+    s.count += 1
+    s.order("a hole of this site is another", "02" + site, hole)
+    s.pose("they do not meet", tup(x, hole), tup(tup(), arr(U)), YES, 1)
+    s.pose("n joins a free variable", n, s.var(), YES, 1)
+    end = inf(s.count - 1)
+    s.order("a request answers the end", ranged(s.site - 1, 2, 0, 200), end)
+    s.pose("U8 for the end", end, builtin(4), YES, 1)
+    s.order("a request answers the value", ranged(s.site - 1, 2, 0, 100), builtin(4))
+    s.order("also with a range that does not admit it", ranged(s.site - 1, 2, -1, 100), builtin(4))
+    s.order("order 0 answers the variable", "00" + site + "01", n)
+    m = s.variable_at(s.new_site(), 1)
+    s.pose("a place of slot 1 bound to a term", m, arr(I32), YES, 1)
+    s.again("its request", 0, 2, 0, 5, arr(I32))
+    s.shows("stays", m, arr(I32))
+    m = s.variable_at(s.new_site(), 1)
+    s.again("a place of slot 1 that is free", 0, 2, 0, 200, m)
+    s.pose("has the range", m, I8, NO)
+    s.pose("and takes U8", m, builtin(4), YES, 1)
+    m, x = s.variable_at(s.new_site(), 1), s.var()
+    s.pose("a free variable ends at a place of slot 1", x, m, YES, 1)
+    s.again("which is requested then", 1, 2, -1, 0, m)
+    s.pose("the range is that of both", x, builtin(4), NO)
+    s.pose("I64", x, I64, YES, 1)
+    s.revision()
+
+
+@part()
+def range_joins(s):
+    """Joining leaves the types that both admit, at the variable left free."""
+    for name, one, other, held in (
+            ("signed and up to 200", (-1, 100), (0, 200), "123"), ("the same", (0, 200), (0, 200), "1234567"), ("one inside the other", (0, 10), (-5, 300), "123"),
+            ("I64 alone", (-1, 0), (2 ** 31, 2 ** 31), "3"), ("U64 alone", (0, 0), (2 ** 63, 2 ** 63), "7")):
+        held = set(map(int, held))
+        for turn in (1, -1):
+            a, b = s.range(2, *one), s.range(3, *other)
+            s.pose(name, *(a, b)[::turn], YES, 1)
+            for variable in (a, b):
+                for code in sorted(set(range(10)) - held):
+                    s.pose("%s: not code %d" % (name, code), variable, builtin(code), NO)
+            s.pose("%s: the last of them" % name, b, builtin(max(held)), YES, 1)
+    minus, large, plain, real = s.range(2, -1, 0), s.range(2, 2 ** 63, 2 ** 63), s.number(2), s.number(9)
+    for left, right in ((minus, large), (large, minus), (minus, real), (real, minus)):
+        s.pose("nothing is admitted by both", left, right, NO)
+    s.free(minus, large, plain, real)
+    s.pose("a plain integer joins a range", plain, minus, YES, 1)
+    s.pose("which keeps its types", plain, builtin(4), NO)
+    s.pose("and does not meet the other range", large, plain, NO)
+    s.pose("nor a float", real, plain, NO)
+    s.pose("I16 is left", plain, builtin(1), YES, 1)
+    a, b, c, x = s.range(2, 0, 200), s.number(8), s.range(2, -1, 0), s.var()
+    s.pose("a range joins a plain one", a, b, YES, 1)
+    s.pose("the plain one is narrowed", b, I8, NO)
+    s.pose("a third", b, c, YES, 1)
+    for code in (0, 4, 5, 6, 7):
+        s.pose("what all three admit", a, builtin(code), NO)
+    s.pose("a free variable takes it over", c, x, YES, 1)
+    s.pose("not U8", x, builtin(4), NO)
+    s.pose("nor F64", x, F64, NO)
+    s.pose("nor an Array", x, arr(a), NO)
+    s.pose("I16", x, builtin(1), YES, 1)
+    s.shows("all", tup(a, b, c, x), tup(*[builtin(1)] * 4))
+    y, d = s.var(), s.range(2, 0, 200)
+    s.pose("a free variable joins a range", y, d, YES, 1)
+    s.pose("not I8", y, I8, NO)
+    s.pose("U8", y, builtin(4), YES, 1)
+    e, f = s.range(2, 0, 200), s.range(2, -1, 0)
+    s.pose("parts that are met later are held to it", tup(e, e), tup(builtin(4), f), NO, 1)
+    s.shows("the last part was met first", tup(e, f), tup(f, f))
+    s.revision()
+
+
+# Two ranges, and the types that both admit. A range that admits I8, I16 or I32 admits I64 too, and one that admits U8, U16 or U32 admits I64 and U64: so of
+# the eight types only I64 and U64 can be left alone, and U64 only where it was alone before.
+LEFT_BY_JOINS = (
+    ((-1, 0), (0, 127), "0123"), ((-1, 0), (0, 128), "123"), ((-1, 0), (0, 32768), "23"), ((-1, 0), (0, 2 ** 31), "3"), ((-1, 0), (2 ** 63 - 1, 2 ** 63 - 1), "3"),
+    ((0, 127), (0, 127), "01234567"), ((0, 127), (0, 128), "1234567"), ((0, 255), (0, 256), "123567"), ((0, 32767), (0, 32768), "23567"),
+    ((0, 65535), (0, 65536), "2367"), ((0, 2 ** 31 - 1), (0, 2 ** 31), "367"), ((0, 2 ** 32 - 1), (0, 2 ** 32), "37"), ((0, 2 ** 32), (2 ** 63, 2 ** 63), "7"),
+    ((-2 ** 63, 0), (0, 2 ** 63 - 1), "3"), ((-2 ** 31, 0), (0, 65535), "23"), ((2 ** 63, 2 ** 63), (2 ** 64 - 1, 2 ** 64 - 1), "7"))
+
+
+@part(alone=True)
+def range_joins_left(s):
+    """Joins that leave just these types, by either order, from either side."""
+    for at, (one, other, held) in enumerate(LEFT_BY_JOINS):
+        held = sorted(map(int, held))
+        for turn in (1, -1):
+            a, b = s.range(2, *one), s.range(9, *other)
+            s.pose("%s and %s" % (one, other), *(a, b)[::turn], YES, 1, kind=("04", "16")[at % 2])
+            for code in sorted(set(range(10)) - set(held)):
+                s.pose("not code %d" % code, *(a, builtin(code))[::turn], NO)
+            s.pose("code %d" % held[min(turn, 0)], (a, b)[at % 2], builtin(held[min(turn, 0)]), YES, 1)
+    s.revision()
+
+
+@part()
+def range_joins_empty(s):
+    """Joins that leave nothing change nothing, by either order, from either side."""
+    minus, least, large, largest, few, real, plain = (
+        s.range(2, -1, 0), s.range(2, -2 ** 63, -2 ** 63), s.range(2, 2 ** 63, 2 ** 63), s.range(2, 2 ** 64 - 1, 2 ** 64 - 1), s.range(9, 0, 200), s.number(9), s.number(8))
+    for name, left, right in (("signed and 2^63", minus, large), ("-2^63 and the largest", least, largest), ("signed and a float", minus, real),
+                              ("2^63 and a float", large, real), ("up to 200 and a float", few, real), ("plain and a float", plain, real)):
+        s.both(name, left, right, NO)
+        s.both(name + ", turned", right, left, NO)
+        s.both(name + ", in a Tuple", tup(left), tup(right), NO)
+    s.free(minus, least, large, largest, few, real, plain)
+    x, y = s.vars(2)
+    s.pose("behind free variables", tup(x, y), tup(minus, large), YES, 2)
+    s.both("2^63 and signed", y, x, NO)
+    s.pose("plain and signed", plain, x, YES, 1)
+    s.both("the plain one admits no more than signed types", plain, large, NO)
+    s.both("nor a float, from the other side", real, plain, NO)
+    s.pose("the range is as before", few, builtin(4), YES, 1)
+    s.pose("so are signed types", minus, I8, YES, 1)
+    s.pose("and 2^63", large, builtin(7), YES, 1)
+    s.pose("and the float", real, F32, YES, 1)
+    s.shows("all", tup(x, y, plain, few, real), tup(I8, builtin(7), I8, builtin(4), F32))
+    s.revision()
+
+
+@part(alone=True)
+def range_defaults(s):
+    """A default where a range took part: the fallback if admitted, else the first admitted one.
+
+    Ranges without I32 admit I64, or U64 alone: the other five of the list are taken as fallbacks only."""
+    for low, high, fallback, code in (
+            (0, 200, 4, 4), (0, 200, 0, 2), (0, 200, 1, 1), (0, 200, 9, 2), (0, 200, 8, 2), (0, 200, 10, 2), (0, 200, 31, 2), (-1, 200, 4, 2), (-1, 200, 7, 2),
+            (0, 2 ** 31, 2, 3), (0, 2 ** 31, 6, 6), (0, 2 ** 31, 7, 7), (0, 2 ** 32, 6, 3), (0, 2 ** 32, 2, 3), (0, 2 ** 63, 3, 7), (0, 2 ** 63, 9, 7),
+            (-2 ** 63, 0, 7, 3), (-128, 127, 0, 0), (-129, 127, 0, 2), (0, 255, 4, 4), (0, 256, 4, 2), (0, 65535, 5, 5), (0, 65536, 5, 2), (-1, 0, 5, 2),
+            (-32768, 0, 1, 1), (-32769, 0, 1, 2)) + tuple((0, 100, code, code) for code in range(8)):
+        n = s.range(fallback, low, high)
+        s.defaults(1)
+        s.shows("%d .. %d with fallback %d" % (low, high, fallback), n, builtin(code))
+    s.order("no range: the fallback", "06", NO)
+    plain = [s.number(code) for code in (0, 8, 10, 31)]
+    s.defaults(4)
+    s.shows("plain ones take any fallback", tup(*plain), tup(I8, F32, NEVER, builtin(31)))
+    s.revision()
+
+
+@part(alone=True)
+def range_defaults_of_chains(s):
+    """The variable whose turn it is gives the fallback; what is admitted is read at the end of its chain."""
+    def joined(comment, left, right, wanted):
+        s.pose(comment, left, right, YES, 1)
+        s.defaults(1)
+        s.shows(comment, tup(left, right), tup(builtin(wanted), builtin(wanted)))
+    joined("plain U8, and signed", s.number(4), s.range(2, -1, 0), 2)
+    joined("plain I8, and up to 200", s.number(0), s.range(2, 0, 200), 2)
+    joined("plain I16, and up to 200: its own fallback", s.number(1), s.range(2, 0, 200), 1)
+    joined("up to 200 with U16, and plain U8", s.range(5, 0, 200), s.number(4), 5)
+    joined("up to 200 with I8, and plain U8: not the end's fallback", s.range(0, 0, 200), s.number(4), 2)
+    joined("plain F32, and a range", s.number(8), s.range(2, 0, 200), 2)
+    joined("plain Never, and a range", s.number(10), s.range(4, 0, 200), 2)
+    joined("a range, and a free variable", s.range(0, 0, 200), s.var(), 2)
+    joined("a free variable, and a range", s.var(), s.range(0, 0, 200), 2)
+    joined("two ranges: what both admit", s.range(4, 0, 200), s.range(5, -1, 0), 2)
+    joined("two ranges: the fallback of the first", s.range(1, 0, 200), s.range(3, -1, 0), 1)
+    joined("two ranges: U64", s.range(2, 0, 0), s.range(2, 2 ** 63, 2 ** 63), 7)
+    a, b = s.range(5, 0, 10), s.range(4, 0, 10)
+    joined("the larger id is bound: its fallback goes over to the smaller", b, a, 4)
+    a, b, c = s.number(0), s.range(5, 0, 10), s.range(4, 0, 200)
+    s.pose("three: the last is left free", a, b, YES, 1)
+    s.pose("by a chain", b, c, YES, 1)
+    s.defaults(1)
+    s.shows("I8 does not hold 200", tup(a, b, c), tup(I32, I32, I32))
+    a, b, c = s.number(4), s.var(), s.range(0, -1, 0)
+    s.pose("the plain one ends at a free one", a, b, YES, 1)
+    s.pose("which is joined to a range afterwards", b, c, YES, 1)
+    s.defaults(1)
+    s.shows("U8 is not admitted", tup(a, b, c), tup(I32, I32, I32))
+    n, m = s.range(2, 0, 200), s.range(4, 0, 200)
+    s.pose("one of them is U8", n, builtin(4), YES, 1)
+    s.defaults(1)
+    s.shows("the other takes its own", tup(n, m), tup(builtin(4), builtin(4)))
+    s.defaults(0)
+    s.revision()
+
+
+@part(alone=True)
+def range_repeats(s):
+    """A repeated request overwrites fallback and types of that variable alone."""
+    n = s.range(2, 0, 200)
+    s.order("order 1 makes it plain", "01" + num(s.site) + "02", n)
+    s.pose("it takes I8", n, I8, YES, 1)
+    n = s.number(2)
+    s.again("order 21 over order 1", 0, 0, 0, 200, n)
+    s.pose("I8 is not admitted", n, I8, NO)
+    s.defaults(1)
+    s.shows("the default", n, I32)
+    n = s.number(9)
+    s.again("a range over a float", 0, 9, 0, 200, n)
+    s.pose("F64 is not admitted", n, F64, NO)
+    s.defaults(1)
+    s.shows("the default", n, I32)
+    n = s.range(4, 0, 200)
+    s.order("a float over a range", "01" + num(s.site) + "09", n)
+    s.pose("U8 is not admitted", n, builtin(4), NO)
+    s.defaults(1)
+    s.shows("the default", n, F64)
+    n = s.range(4, 0, 200)
+    s.again("a range over a range: wider", 0, 0, 0, 5, n)
+    s.pose("it takes I8", n, I8, YES, 1)
+    n = s.range(4, 0, 5)
+    s.again("narrower, with another fallback", 0, 4, -1, 5, n)
+    s.pose("U8 is not admitted", n, builtin(4), NO)
+    s.defaults(1)
+    s.shows("the default", n, I32)
+    a, b = s.range(0, 0, 200), s.number(2)
+    s.pose("a range joins a plain one", a, b, YES, 1)
+    s.order("the plain one is requested again", "01" + num(s.site) + "02", b)
+    s.pose("the end is plain again", a, I8, YES, 1)
+    a, b = s.range(0, 0, 200), s.range(4, -1, 200)
+    s.pose("two ranges", a, b, YES, 1)
+    s.again("the end is requested again", 0, 4, 0, 5, b)
+    s.pose("nothing is joined anew", a, builtin(4), YES, 1)
+    a, b = s.number(2), s.number(2)
+    s.pose("two plain ones", a, b, YES, 1)
+    s.again("a range for the one that is bound", 1, 0, 0, 200, b)
+    s.pose("the end does not learn of it", b, I8, YES, 1)
+    for fallback, wanted in ((0, I8), (9, I32), (4, builtin(4))):
+        a, b = s.number(2), s.number(2)
+        s.pose("two plain ones", a, b, YES, 1)
+        s.again("a range for the one that is bound", 1, fallback, 0, 200, b)
+        s.defaults(1)
+        s.shows("the end admits all integers", tup(a, b), tup(wanted, wanted))
+    a, b = s.variable_at(s.new_site(), 1), s.var()
+    s.pose("neither is requested", a, b, YES, 1)
+    s.again("a range for the one that is bound", 1, 0, 0, 200, b)
+    s.defaults(1)
+    s.shows("its own types, as the end has none", tup(a, b), tup(I32, I32))
+    a, b = s.number(9), s.number(9)
+    s.pose("two floats", a, b, YES, 1)
+    s.again("a range for the one that is bound", 1, 4, 0, 200, b)
+    s.defaults(1)
+    s.shows("nothing of the list is admitted: the fallback", tup(a, b), tup(builtin(4), builtin(4)))
+    a, b = s.range(4, 0, 200), s.var()
+    s.pose("a range and a free variable", a, b, YES, 1)
+    s.order("the bound one is plain again", "01" + num(s.site - 1) + "00", b)
+    s.defaults(1)
+    s.shows("a range took part at the end", tup(a, b), tup(I32, I32))
+    s.revision()
+
+
+@part(alone=True)
+def range_repeats_bound(s):
+    """Requests for variables that are bound, to a type or to another variable."""
+    n = s.range(2, 0, 200)
+    s.pose("n is U8", n, builtin(4), YES, 1)
+    for name, text in (("order 21 over order 21", ranged(s.site, 1, -1, 0)), ("order 1 over order 21", "01" + num(s.site) + "09"),
+                       ("order 21 over order 1", ranged(s.site, 0, 2 ** 63, 2 ** 63)), ("order 21 over order 21 again", ranged(s.site, 0, 0, 1))):
+        s.order(name, text, builtin(4))
+        s.pose("it is U8 as before", n, builtin(4))
+        s.pose("and not I16", n, builtin(1), NO)
+    s.defaults(0)
+    # The end has I16 to I64 and U8 to U64. By the own request: fallback, and whether it is a range.
+    for name, fallback, again, wanted in (
+            ("I16, signed", 1, (-1, 0), 1), ("I8, up to 5", 0, (0, 5), 2), ("U64, 2^63", 7, (2 ** 63, 2 ** 63), 7), ("F64, signed", 9, (-1, 0), 2),
+            ("U8, plain", 4, None, 4), ("I8, plain", 0, None, 2), ("F64, plain", 9, None, 2), ("Never, plain", 10, None, 2)):
+        a, b = s.range(2, 0, 200), s.range(3, 0, 200)
+        s.pose("a range joins a range", a, b, YES, 1)
+        s.order(name, ranged(s.site - 1, fallback, *again) if again else "01" + num(s.site - 1) + "%02x" % fallback, b)
+        s.pose("the end is not narrowed: not I8", a, I8, NO)
+        s.defaults(1)
+        s.shows("the default of " + name, tup(a, b), tup(builtin(wanted), builtin(wanted)))
+    a, b = s.range(2, 0, 200), s.range(3, 0, 200)
+    s.pose("a range joins a range", a, b, YES, 1)
+    s.order("the end is plain, with a float", "01" + num(s.site) + "09", b)
+    s.pose("the bound one is a float with it", a, builtin(4), NO)
+    s.defaults(1)
+    s.shows("a range took part, and nothing of the list is admitted: the fallback", tup(a, b), tup(I32, I32))
+    a, b = s.range(9, 0, 200), s.range(3, 0, 200)
+    s.pose("a range joins a range", a, b, YES, 1)
+    s.order("the end is plain, with a float", "01" + num(s.site) + "09", b)
+    s.defaults(1)
+    s.shows("F64 is admitted there", tup(a, b), tup(F64, F64))
+    n = s.range(2, 0, 200)
+    for name, text in (("plain", "01" + num(s.site) + "02"), ("2^63", ranged(s.site, 2, 2 ** 63, 2 ** 63)), ("plain with a float", "01" + num(s.site) + "09"),
+                       ("signed", ranged(s.site, 9, -1, 0))):
+        s.order("free: " + name, text, n)
+    s.pose("the last one counts: not U8", n, builtin(4), NO)
+    s.pose("nor F64", n, F64, NO)
+    s.defaults(1)
+    s.shows("I32", n, I32)
+    s.revision()
+
+
+@part()
+def range_terms(s):
+    """A range beside builtins, nodes, recovery and Sets, from either side, by either order."""
+    n, x = s.range(9, 0, 200), s.var()
+    for code in range(8, 32):
+        s.both("not code %d" % code, *(n, builtin(code))[::(-1) ** code], NO)
+    for name, term in (
+            ("Reference", ref(SHARED, I32)), ("Tuple", tup()), ("Function", fun([], I32)), ("Iter", iter_(I32)), ("Range", range_(0, I32)), ("Array", arr(I32)),
+            ("Map", map_(RO, I32, I32)), ("Set", set_(RO, I32)), ("NativeObject", native(1)), ("Struct", struct(1)), ("Enum", enum(1)), ("Trait", trait(1)),
+            ("Host", host(1)), ("Generic", gen(0, 0)), ("SelfType", self_(0)), ("projection", proj(I32, nom(0), 0)), ("a Tuple of a variable", tup(x)),
+            ("an Array of itself", arr(n)), ("a projection of itself", proj(n, nom(0), 0))):
+        s.both("no %s" % name, n, term, NO)
+        s.both("no %s, turned" % name, term, n, NO)
+    for name, term in (("Unknown", U), ("Error", E), ("Unknown in a Tuple", tup(U)), ("Error in an Array", arr(E)), ("itself beside Unknown", tup(n, U)),
+                       ("Unknown in a projection", proj(U, nom(0), 0)), ("itself", n)):
+        s.both("%s binds nothing" % name, n, term)
+        s.both("%s binds nothing, turned" % name, term, n)
+    s.free(n, x)
+    s.strictly("Sets of different access: the parts do not meet", set_(RO, n), set_(RW, builtin(4)), NO)
+    s.strictly("nor here", map_(RW, n, x), map_(RO, builtin(4), n), NO)
+    s.free(n, x)
+    s.pose("by order 4 they meet", set_(RO, n), set_(RW, I8), NO)
+    s.strictly("by order 22 with the same access", set_(RO, n), set_(RO, I8), NO)
+    s.strictly("a Map of ranges", map_(RW, n, n), map_(RW, x, builtin(4)), YES, 2)
+    s.shows("both", tup(n, x), tup(builtin(4), builtin(4)))
+    a, b, c = s.range(2, 0, 200), s.range(2, -1, 0), s.range(2, 2 ** 63, 2 ** 63)
+    s.strictly("ranges in Sets", set_(RW, a), set_(RW, b), YES, 1)
+    s.both("nothing is left", set_(RW, a), set_(RW, c), NO)
+    s.both("what both admit", b, builtin(4), NO)
+    s.strictly("I16", b, builtin(1), YES, 1)
+    s.revision()
+
+
+@part(alone=True)
+def range_deferred(s):
+    """Deferrals, order 7 and order 6."""
+    def never(bound):
+        s.order("never defaults", "07", YES if bound else NO)
+        s.bound += bound
+    n = s.range(2, 0, 200)
+    s.order("a range is deferred", "03" + n, "")
+    s.again("and requested again", 0, 4, -1, 0, n)
+    never(1)
+    s.shows("Never, though it admits integers alone", n, NEVER)
+    s.again("a request for it", 0, 4, -1, 0, NEVER)
+    s.defaults(0)
+    n = s.range(0, 0, 200)
+    s.order("another", "03" + n, "")
+    s.defaults(1)
+    never(0)
+    s.shows("order 6 came first", n, I32)
+    a, b = s.range(0, 0, 200), s.range(4, -1, 0)
+    s.order("a is deferred", "03" + a, "")
+    s.pose("and joined to b", a, b, YES, 1)
+    never(1)
+    s.shows("the end of its chain", tup(a, b), tup(NEVER, NEVER))
+    s.defaults(0)
+    a, b, x = s.range(0, 0, 200), s.range(4, -1, 0), s.var()
+    s.pose("a is joined to b", a, b, YES, 1)
+    s.order("a is deferred: b is", "03" + a, "")
+    s.pose("b is joined to a free variable", b, x, YES, 1)
+    s.defaults(1)
+    s.shows("what both admit", tup(a, b, x), tup(I32, I32, I32))
+    never(0)
+    n = s.range(2, 0, 200)
+    s.order("a Tuple of a range is not deferred", "03" + tup(n), "")
+    never(0)
+    s.free(n)
+    m = s.range(2, 2 ** 63, 2 ** 63)
+    s.order("one of two is deferred", "03" + m, "")
+    never(1)
+    s.pose("Never is no type of the other", n, m, NO)
+    s.defaults(1)
+    s.shows("each by itself", tup(n, m), tup(I32, NEVER))
+    s.revision()
+
+
+@part(alone=True)
+def range_beside(s):
+    """Deferrals, recovery, circles, strict pairs, checks, and a session that is full."""
+    n, m, o, x = s.range(2, 0, 200), s.range(0, 0, 5), s.range(0, 0, 200), s.var()
+    s.order("a range is deferred", "03" + n, "")
+    s.order("never defaults", "07", YES)
+    s.bound += 1
+    s.shows("n", n, NEVER)
+    s.pose("Unknown binds nothing", m, U)
+    s.pose("nor a Tuple with Error", m, tup(E))
+    s.pose("a circle", m, arr(m), NO)
+    s.pose("itself", m, m)
+    s.strictly("order 22 holds to the types", o, I8, NO)
+    s.strictly("and joins", m, o, YES, 1)
+    s.strictly("both admit", m, I8, NO)
+    s.pose("no check", o, builtin(4), CANCELLED, 0, 0)
+    s.pose("one check", tup(o, o), tup(builtin(4), I8), CANCELLED, 0, 1)
+    s.pose("a Set of a range", set_(RO, o), set_(RW, x), YES, 1)
+    s.pose("x is one", x, I8, NO)
+    s.defaults(1)
+    s.shows("all", tup(m, o, x), tup(I32, I32, I32))
+    y, z = s.vars(2)
+    fill(s, y, 0)
+    s.order("no node is left", "05" + z, 7)
+    n = s.range(0, 0, 200)
+    s.order("a sign over 1", "15" + num(s.site) + "02 02 00 00 00 00 00", 13)
+    s.order("leftover bytes", ranged(s.site, 2, 0, 5) + "00", 1)
+    s.defaults(1)
+    s.again("what it resolves to", 0, 2, 0, 5, I32)
+    s.revision()
+
+
+@part(alone=True)
+def range_512(s):
+    """13 before 8, and 8 for new places alone."""
+    n = s.range(0, 0, 200)
+    first = s.site
+    while s.count < 511:
+        s.var()
+    last = s.range(5, -1, 200)
+    new = s.new_site()
+    s.order("a 513th variable", ranged(new, 2, 0, 5), 8)
+    for name, low, high in (("low above high", 1, 0), ("no type", -1, 2 ** 63)):
+        s.order(name + " before 8", ranged(new, 2, low, high), 13)
+    s.order("a sign over 1 before 8", "15" + num(new) + "02 02 00 00 00 00 00", 13)
+    s.order("leftover bytes before 8", ranged(new, 2, 0, 5) + "00", 1)
+    s.order("a place that is there", ranged(first, 0, 0, 200), n)
+    s.order("13 for a place that is there", ranged(first, 0, 1, 0), 13)
+    s.order("order 0 at such a place", "00" + num(first) + "01", n)
+    s.pose("the last one", last, builtin(4), NO)
+    s.defaults(2)
+    s.shows("both", tup(n, last), tup(I32, I32))
+    s.revision()
+
+
 # ---------------------------------------------------------------- Runs
 
 def run_case(name, sheet, reason, orders, output, room=ROOM, words=Sheet.LEAST_WORDS):
@@ -1273,6 +1851,35 @@ run_case("2,048 nodes after a pair of 1,002 that binds nothing", "ee 07 04 09 05
          0, 2, "02 00 01 08 00 00 00 00 01 01 00 00")
 run_case("2,048 nodes after an order 22 of 1,002 that binds nothing", "ee 07 16 09 05 e8 07" + "02" * 1001 + "83 10 0f 05 ff 0f" + "02" * 2047,
          0, 2, "02 00 01 08 00 00 00 00 01 01 00 00")
+# Document 02's open points, as docs/DECISIONS.md has them.
+run_case("a default looks at the end of the chain", "03 01 00 04 09 15 01 02 01 00 01 00 00 00 06 04 09 01 00 01 01 01 06 03 05 01 01",
+         0, 5, "03 00 01 00 03 00 01 01 02 00 01 02 00 01 03 00 04 02")
+run_case("a default takes the fallback of the variable whose turn it is",
+         "09 15 00 05 00 00 00 00 00 0a 03 00 01 00 09 15 02 04 00 00 00 00 00 0a 06 04 09 01 00 01 01 06 04 09 01 02 01 01 01 06 03 05 01 01",
+         0, 7, "03 00 01 00 03 00 01 01 03 00 01 02 02 00 01 02 00 01 02 00 01 03 00 04 05")
+run_case("a range for a variable bound to a plain one, whose fallback that one admits",
+         "03 01 00 02 03 01 01 02 06 04 09 01 00 01 01 0a 15 00 00 00 00 00 00 00 c8 01 01 06 03 05 01 01",
+         0, 6, "03 00 01 00 03 00 01 01 02 00 01 03 00 01 01 02 00 01 03 00 04 00")
+run_case("the same with fallback F64", "03 01 00 02 03 01 01 02 06 04 09 01 00 01 01 0a 15 00 09 00 00 00 00 00 c8 01 01 06 03 05 01 01",
+         0, 6, "03 00 01 00 03 00 01 01 02 00 01 03 00 01 01 02 00 01 03 00 04 02")
+run_case("a range for a variable bound to one without a request", "03 00 00 01 03 00 01 00 06 04 09 01 00 01 01 0a 15 00 00 00 00 00 00 00 c8 01 01 06 03 05 01 01",
+         0, 6, "03 00 01 00 03 00 01 01 02 00 01 03 00 01 01 02 00 01 03 00 04 02")
+run_case("13 behind a faulty number", "09 15 00 02 02 80 00 00 00 01", 0, 1, "01 03")
+run_case("13 behind leftover bytes", "0a 15 00 02 02 00 00 00 00 01 00", 0, 1, "01 01")
+run_case("the sign is a byte", "09 15 00 02 80 00 00 00 00 01", 0, 1, "01 0d")
+run_case("order 1 after order 21", "0a 15 00 02 00 00 00 00 00 c8 01 03 01 00 02 06 04 09 01 00 04 00", 0, 3, "03 00 01 00 03 00 01 00 02 00 01")
+# docs/DIFFERENCES.md: a default that is no type of its family, and a range with the same fallback.
+run_case("a plain default takes F32", "03 01 00 08 01 06 03 05 01 00", 0, 3, "03 00 01 00 02 00 01 03 00 04 08")
+run_case("a range with fallback F32 does not", "0a 15 00 08 00 00 00 00 00 c8 01 01 06 03 05 01 00", 0, 3, "03 00 01 00 02 00 01 03 00 04 02")
+run_case("a range that joins a plain one", "09 15 00 04 01 00 01 00 00 00 03 01 01 02 06 04 09 01 00 01 01", 0, 3, "03 00 01 00 03 00 01 01 02 00 01")
+RANGED = "0a 15 00 00 00 00 00 00 00 c8 01"
+run_case("room for an order 21", RANGED + "01 08", 0, 2, "03 00 01 00 02 00 00", room=7)
+run_case("a byte too few for an order 21", RANGED, 11, 0, "", room=3)
+run_case("room for a 13", "09 15 00 02 02 00 00 00 00 01", 0, 1, "01 0d", room=2)
+run_case("a byte too few for a 13", "09 15 00 02 02 00 00 00 00 01", 11, 0, "", room=1)
+run_case("an order 21 cut by its length", "09 15 00 00 00 00 00 00 00 c8 01 08", 0, 2, "01 01 02 00 00")
+run_case("a length beyond the sheet before an order 21", RANGED + "0b 15 00 00 00 00 00 00 00 c8 01", 10, 1, "03 00 01 00")
+run_case("an order 21 that does not fit issues nothing and ends the run", "03 01 01 02" + RANGED + "01 06", 11, 1, "03 00 01 00", room=7)
 CLASH = "03 00 00 00 0a 16 09 0b 00 01 00 0b 01 04 02"      # a variable, a strict pair whose parts are not met
 CLASH_OUT = "03 00 01 00 02 00 00"
 run_case("a strict clash, and the variable after it", CLASH + "03 05 01 00", 0, 3, CLASH_OUT + "03 00 01 00")
@@ -1325,15 +1932,16 @@ run_case("a sheet of 16,777,216 bytes", b"\x80" + bytes(16777215), 10, 0, "")
 # ---------------------------------------------------------------- Making
 
 def scripts():
-    """Pairs (name, script): each part alone, and all of them but the lone ones together: those without order 22, which the Rust is asked too, and the others."""
-    together, strict = Script(), Script()
+    """Pairs (name, script): each part alone, and all of them but the lone ones together: those without orders 21 and 22, which the Rust is asked too, and the others."""
+    together, strict, ranges = Script(), Script(), Script()
     for name, function, alone in PARTS:
         script = Script()
         function(script)
         yield name, script
         if not alone:
-            function(strict if any(order[:1] == b"\x16" for _, order, _ in script.steps) else together)
-    for name, parts in (("together", together), ("together_strict", strict)):
+            kinds = {order[:1] for _, order, _ in script.steps}
+            function(ranges if function.__name__.startswith("range_") and b"\x15" in kinds else strict if b"\x16" in kinds else together)
+    for name, parts in (("together", together), ("together_strict", strict), ("together_ranges", ranges)):
         x, *free = parts.vars(5)
         fill_variables(parts)
         parts.has_number = True

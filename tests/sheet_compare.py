@@ -25,9 +25,9 @@ Every byte is compared, and with --oracle and --batch the reason and the
 number of orders. Orders are taken out of the first sheet that differs as long
 as it differs; it is printed in hexadecimal, and the exit status is 1.
 
-The oracle leaves a sheet where its terms grow too large, and at an order 22
-that is not refused, which Kagari does not have. What it answered before is
-compared; the last lines say how many sheets it left.
+The oracle leaves a sheet where its terms grow too large, and at an order 21
+or 22 that is not refused, which Kagari does not have. What it answered before
+is compared; the last lines say how many sheets it left.
 
 The tables show the outcomes of the random orders, what the unrefused ones
 answer, and the reasons. An entry that can occur but is too rare is a failure
@@ -53,16 +53,17 @@ from terms_reference import framed, split
 DEFAULT_SHEETS = 20000
 LEAST_SHARE = 0.001
 AT_ONCE = 400
-# The oracle's reasons for sheets that it left: the terms too large, an order 22.
-LEFT, NOT_IN_RUST = 255, 253
+# The oracle's reasons for sheets that it left: the terms too large, an order 22, an order 21.
+LEFT, NOT_IN_RUST, RANGE_NOT_IN_RUST = 255, 253, 252
+ALL_LEFT = {LEFT: "as their terms grew too large", NOT_IN_RUST: "at an order 22", RANGE_NOT_IN_RUST: "at an order 21"}
 KINDS = Sheet.KINDS
-OUTCOMES = tuple(range(10))
+OUTCOMES = tuple(range(10)) + (13,)
 # Of orders 9 to 20 these are asked for here; orders_compare.py has all that can occur.
 CAN_OCCUR = {0: (0, 1, 3, 8), 1: (0, 1, 2, 3, 8), 2: (0, 1, 3, 8), 3: range(8), 4: range(8), 5: range(8), 6: (0, 1), 7: (0, 1),
-             8: (0, 1), **{kind: (0, 1, 7) for kind in range(9, 21)}, 22: range(8), "other kind": (2,), "empty": (1,)}
+             8: (0, 1), **{kind: (0, 1, 7) for kind in range(9, 21)}, 21: (0, 1, 2, 3, 8, 13), 22: range(8), "other kind": (2,), "empty": (1,)}
 VERDICTS = ("incompatible", "compatible", "cancelled")
 ANSWERS = {1: ("itself", "bound"), 2: ("itself", "bound"), 4: VERDICTS, 5: ("same", "changed"), 6: ("no", "yes"), 7: ("no", "yes"),
-           8: ("0", "1", "more"), 22: VERDICTS}
+           8: ("0", "1", "more"), 21: ("itself", "bound"), 22: VERDICTS}
 
 
 # Programs
@@ -153,7 +154,7 @@ def wanted_of(program, room, sheet, how=Sheet):
 
 def agrees(wanted, found):
     """Whether a run is the wanted one, as far as the oracle went on."""
-    if found.reason in (LEFT, NOT_IN_RUST):
+    if found.reason in ALL_LEFT:
         return wanted.output.startswith(found.output)
     return wanted == found
 
@@ -162,14 +163,14 @@ class Left:
     """How many sheets the oracle left before their end."""
 
     def __init__(self):
-        self.counts = {LEFT: 0, NOT_IN_RUST: 0}
+        self.counts = dict.fromkeys(ALL_LEFT, 0)
 
     def add(self, run):
         if run.reason in self.counts:
             self.counts[run.reason] += 1
 
     def show(self):
-        for reason, why in ((LEFT, "as their terms grew too large"), (NOT_IN_RUST, "at an order 22")):
+        for reason, why in ALL_LEFT.items():
             if self.counts[reason]:
                 print("%d sheets left by the oracle before their end, %s" % (self.counts[reason], why))
 
@@ -221,7 +222,7 @@ def row_of(order):
 
 def answer_name(order, value):
     kind = order[0]
-    if kind in (1, 2):
+    if kind in (1, 2, 21):
         return "itself" if value[0] == 1 else "bound"
     if kind in (4, 6, 7, 22):
         return ANSWERS[kind][value[0]]

@@ -3,7 +3,8 @@
 
 sheets(how_many, seed) gives triples: the family, room for the answers, the
 sheet. They are the same for the same seed. In half of the sheets pairs are
-posed by order 22, some or all of them; strict=(0,) makes none.
+posed by order 22, some or all of them, and in half of them numbers are
+requested by order 21, some or most; strict=(0,) and ranged=(0,) make none.
 
   python3 tests/sheet_generate.py [--sheets N] [--seed S]     counts and sizes by family
 
@@ -19,6 +20,7 @@ The families:
   doubled    terms whose parts are shared again and again; deep terms
   damaged    bytes, fields and lengths changed, sheets cut
   mixed      long sheets of all orders
+  numbers    number variables with fallbacks of every code, joined, requested again, deferred and given defaults
 and in JUDGED, for tests/judge.py, too:
   operations orders 9 to 20 of all sorts between those of a session, damaged ones among them
   edges      orders 9 to 20 with 200 levels or 2,048 nodes, one less and one more
@@ -26,6 +28,8 @@ and in JUDGED, for tests/judge.py, too:
   every_room one sheet with outputs of every length from 0 to one byte more than its answers
   strictly   orders 22 that are answered; the other families of JUDGED have none
   refused_strictly  orders 22 that are refused
+  ranges     orders 21 that are answered, some of them beside orders 22; the other families of JUDGED have none
+  refused_ranges    orders 21 that are refused
 """
 
 import argparse
@@ -62,13 +66,56 @@ def joined(orders):
 
 
 class Source(random.Random):
-    """Random choices; strict is the share of pairs that are posed by order 22."""
+    """Random choices; strict is the share of pairs that are posed by order 22, ranged that of number requests by order 21."""
 
-    strict = 0
+    strict = ranged = 0
 
 
 def pair_kind(rng):
     return 22 if rng.strict and rng.random() < rng.strict else 4
+
+
+# Bounds at the ends of the types, and beyond.
+EDGES = sorted({sign * 2 ** bits + more for bits in (7, 8, 15, 16, 31, 32, 63) for sign in (1, -1) for more in (-1, 0, 1)}
+               | {-2 ** 64 + 1, -5, -1, 0, 1, 5, 100, 200, 2 ** 64 - 1})
+USUAL = (-200, -129, -128, -100, -1, 0, 0, 1, 5, 100, 127, 128, 200, 255, 256, 40000, 70000, 2 ** 31, 2 ** 32, 2 ** 63)
+
+
+def bound(rng, value):
+    minus = value < 0 or value == 0 and rng.random() < 0.2
+    return bytes([minus]) + number_bytes(abs(value) >> 32) + number_bytes(abs(value) & MOST)
+
+
+def bounds(rng):
+    """Low and high; now and then they fall, or no type holds both."""
+    pick = rng.random()
+    low, high = sorted(rng.choices(USUAL if pick < 0.6 else EDGES, k=2))
+    if pick > 0.9:
+        low = high
+    return (high, low) if rng.random() < 0.03 else (low, high)
+
+
+def faulty_bounds(rng):
+    """Bounds that are refused with 13, as bytes."""
+    low, high = rng.choice(((1, 0), (0, -1), (5, 4), (-1, 2 ** 63), (-2 ** 63 - 1, 0), (2 ** 32, 1), (-4, -5), (-1, 2 ** 64 - 1), (0, 0), (-1, 7)))
+    data = bytearray(bound(rng, low) + bound(rng, high))
+    if low <= high < 2 ** 63 and low >= -2 ** 63:
+        data[rng.choice((0, len(bound(rng, low))))] = rng.choice((2, 3, 127, 128, 129, 255))
+    return bytes(data)
+
+
+def range_request(rng, site, fallback):
+    given = faulty_bounds(rng) if rng.random() < 0.02 else b"".join(bound(rng, value) for value in bounds(rng))
+    return order(21, site, fallback) + given
+
+
+def number_request(rng, site, fallback, answered=False):
+    """An order 1, or an order 21; answered is for one that is not refused with 13."""
+    if not rng.ranged or rng.random() >= rng.ranged:
+        return order(1, site, fallback)
+    if answered:
+        return order(21, site, fallback) + bound(rng, rng.choice((-200, -1, 0, 5))) + bound(rng, rng.choice((5, 100, 200, 2 ** 31)))
+    return range_request(rng, site, fallback)
 
 
 class Script:
@@ -126,8 +173,11 @@ class Script:
 
     def request(self, site=None):
         site = self.site() if site is None else site
-        self.placed((site, 1))
-        self.add(1, site, self.rng.choice(CODES) if self.chance(0.95) else self.rng.randrange(32))
+        request = number_request(self.rng, site, self.rng.choice(CODES) if self.chance(0.95) else self.rng.randrange(32))
+        # A range may be refused, and then issues nothing.
+        if request[0] == 1 or not reference.run(framed(request)).output[1]:
+            self.placed((site, 1))
+        self.orders.append(request)
 
     def variable(self):
         """A variable; now and then one that is not issued."""
@@ -173,7 +223,7 @@ class Script:
     # Pairs
 
     def pair(self):
-        names, shares = zip(*(STRICT_PAIRS if self.rng.strict else PAIRS))
+        names, shares = zip(*((STRICT_PAIRS if self.rng.strict else PAIRS) + (RANGED_PAIRS if self.rng.ranged else ())))
         left, right = getattr(self, self.rng.choices(names, shares)[0])()
         return (right, left) if self.chance(0.5) else (left, right)
 
@@ -252,6 +302,17 @@ class Script:
         variable, term = self.rng.choice(self.collections)
         return variable, self.flipped(term, 0.3)
 
+    def edged(self):
+        """A new number variable with a bound at an end of a type, or one beyond it, and that type."""
+        code, number = self.rng.randrange(8), self.count()
+        bits = 8 << code % 4
+        least, most = (-2 ** (bits - 1), 2 ** (bits - 1) - 1) if code < 4 else (0, 2 ** bits - 1)
+        low, high = self.rng.choice(((least, least), (least, 0), (0, most), (most, most), (least - 1, 0), (0, most + 1), (least, most)))
+        low, high = max(low, -2 ** 63), min(high, 2 ** 64 - 1)
+        self.placed((2000 + number, 1))
+        self.orders.append(order(21, 2000 + number, self.rng.choice(CODES)) + bound(self.rng, low) + bound(self.rng, high))
+        return var(number), (BUILTIN, code)
+
     def same(self):
         """The parts meet in an order that shows: several variables, each more than once."""
         rng = self.rng
@@ -311,6 +372,7 @@ class Script:
 
 PAIRS = (("unifying", 22), ("clashing", 12), ("unlike", 3), ("circle", 9), ("link", 12), ("valued", 10), ("composed", 9),
          ("recovering", 8), ("projecting", 8), ("accessed", 8), ("same", 14))
+RANGED_PAIRS = (("edged", 12),)
 STRICT_PAIRS = PAIRS + (("accessed", 30), ("accessed_again", 20))
 STEPS = (("constrain", 52), ("resolve", 12), ("issue", 6), ("hole", 4), ("request", 9), ("defer", 6), ("numeric_defaults", 3),
          ("never_defaults", 3), ("revision", 5), ("plain", 1.2))
@@ -404,7 +466,7 @@ def chain(rng):
             if rng.random() < 0.15:
                 pair = (ARRAY, pair[0]), (ARRAY, pair[1])
             script.pose(9, *pair)
-        if rng.random() < 0.1:
+        if rng.random() < (0.3 if rng.ranged else 0.1):
             script.request(rng.randrange(how_many))
         if rng.random() < 0.1:
             script.defer()
@@ -502,6 +564,8 @@ def at_the_edge(rng):
         data = order(pair_kind(rng), 9, THE_UNKNOWN, rng.choice((var(0), I8, pads(2), NOT_ISSUED)))
     elif pick < 0.8:
         data = rng.choice(FEW_NODES)
+    elif rng.ranged and pick < 0.95:
+        return number_request(rng, 1, 2)
     else:
         return order(rng.choice((6, 6, 7, 8)))
     return data if rng.random() < 0.75 else rng.choice((data + b"\x00", data[:-1], data[:-1] + b"\x14"))
@@ -515,13 +579,21 @@ def limits(rng):
             kind = rng.choice((0, 0, 1, 2))
             site = script.count()
             script.placed((kind, site))
-            script.add(kind, site, *((0,), (rng.choice((2, 9)),), ())[kind])
+            if kind == 1:
+                script.orders.append(number_request(rng, site, rng.choice((2, 9)), True))
+            else:
+                script.add(kind, site, *((0,), None, ())[kind])
         for _ in range(rng.randint(2, 6)):
             kind = rng.choice((0, 1, 2))
             if rng.random() < 0.5:
                 # A place that is there, or a new one.
                 site = rng.choice((rng.randrange(512), 600 + rng.randrange(3)))
-                script.add(kind, site, *((0,), (2,), ())[kind])
+                if kind == 1 and rng.random() < rng.ranged / 2:
+                    script.orders.append(order(21, site, 2) + faulty_bounds(rng))
+                elif kind == 1:
+                    script.orders.append(number_request(rng, site, 2))
+                else:
+                    script.add(kind, site, *((0,), None, ())[kind])
             else:
                 script.pose(9, var(rng.choice((0, 510, 511, 511, 512))), var(rng.choice((1, 511, 512))))
         if rng.random() < 0.7:
@@ -640,7 +712,7 @@ def full(rng):
     if rng.random() < 0.5:
         script.orders += [each for each in small.orders if each[0] not in (0, 1, 2, 6, 7)][:8]
     used = len(reference.run(script.sheet(), 1 << 20).output)
-    last = rng.choice((order(8), order(5, var(0)), order(15, THE_UNKNOWN), order(0, 0, 0), b"", b"\x15", order(1, 5, 2)))
+    last = rng.choice((order(8), order(5, var(0)), order(15, THE_UNKNOWN), order(0, 0, 0), b"", b"\x17", order(1, 5, 2), number_request(rng, 5, 2)))
     taken = len(reference.run(script.sheet() + framed(last), 1 << 20).output) - used
     fill = 32768 - used - rng.choice((0, taken)) + rng.choice((-1, 0, 0, 1))
     script.orders += filler(fill)
@@ -732,6 +804,12 @@ class Marked(MarkedFields):
 
     ORDERS = {**ORDERS, **{kind: row[:1] for kind, row in reference.ORDERS.items()}}
 
+    def bound(self, level):
+        start = self.at
+        sign = self.byte()
+        self.mark("sign", start)
+        return [sign, self.number(), self.number()]
+
 
 def damaged_order(data, rng):
     """An order with one field changed."""
@@ -743,7 +821,7 @@ def damaged_order(data, rng):
     marks = [mark for mark in fields.marks if mark[2] <= len(data)]
     if not marks or rng.random() < 0.25:
         return rng.choice((data + b"\x00", data[:-1], data + data[:1], b""))
-    rare = [mark for mark in marks if mark[0] in ("member", "code")]
+    rare = [mark for mark in marks if mark[0] in ("member", "code", "sign")]
     mark = rng.choice(rare if rare and rng.random() < 0.6 else marks)
     return data[:mark[1]] + faulty_field(mark, rng) + data[mark[2]:]
 
@@ -770,7 +848,7 @@ def damaged(rng):
         yield ROOM, joined(orders[:at]) + length + orders[at] + joined(orders[at + 1:])
     elif pick < 0.8:
         at = rng.randrange(len(orders) + 1)
-        more = rng.choice((b"", bytes([rng.choice((21, 22, 27, 127, 128, 255))]), bytes([rng.randrange(21, 256)]) + b"\x00",
+        more = rng.choice((b"", bytes([rng.choice((21, 22, 27, 127, 128, 255))]), bytes([rng.randrange(23, 256)]) + b"\x00",
                            bytes([rng.choice((21, 23))]) + order(4, 9, script.variable(), I8)[1:]))
         yield ROOM, joined(orders[:at] + [more] + orders[at:])
     elif pick < 0.84:
@@ -857,6 +935,45 @@ def every_room(rng):
             yield room_left, sheet
 
 
+NUMBER_BOUNDS = ((0, 0), (0, 100), (0, 200), (-1, 0), (-200, 5), (0, 70000), (-5, 2 ** 31), (0, 2 ** 32), (2 ** 63, 2 ** 63))
+
+
+def number_fallback(rng):
+    return rng.randrange(8) if rng.random() < 0.7 else rng.choice(CODES)
+
+
+def requested(rng, site):
+    """A number request with any fallback; a range is answered."""
+    if rng.random() < rng.ranged:
+        return order(21, site, number_fallback(rng)) + b"".join(bound(rng, value) for value in rng.choice(NUMBER_BOUNDS))
+    return order(1, site, number_fallback(rng))
+
+
+def numbers(rng):
+    """Number variables that are joined, requested again, deferred and given defaults between; then what all of them resolve to.
+
+    In some sheets all are floats at first."""
+    script, count, floats = Script(rng), rng.randint(2, 7), rng.random() < 0.2
+    for site in range(count):
+        script.orders.append(order(1, site, 9) if floats else order(0, site, 1) if rng.random() < 0.15 else requested(rng, site))
+        script.placed((site, 1))
+    for _ in range(rng.randint(1, 2 * count)):
+        one, other, pick = rng.randrange(count), rng.randrange(count), rng.random()
+        if pick < 0.6:
+            script.pose(9, var(one), var(other))
+        elif pick < 0.7:
+            script.pose(9, *rng.sample((var(one), (BUILTIN, rng.randrange(10))), 2))
+        elif pick < 0.85:
+            script.orders.append(requested(rng, one))
+        else:
+            script.orders.append(rng.choice((order(3, var(one)), order(5, var(one)), order(6), order(7))))
+    for kind in rng.choice(((6,), (6,), (6, 7), (7, 6))):
+        script.add(kind)
+    script.add(5, (TUPLE, tuple(map(var, range(count)))))
+    script.add(8)
+    yield ROOM, script.sheet()
+
+
 def strictly(rng):
     """Orders 22 between others: the Rust is left at the first that is answered."""
     rng.strict = rng.choice((0.2, 0.5, 1))
@@ -889,22 +1006,52 @@ def refused_strictly(rng):
     yield room_left, joined(orders) + rest
 
 
-# The shares of order 22 among the pairs of a sheet, of which each sheet has one.
+def ranges(rng):
+    """Orders 21 between others, in some sheets beside orders 22: the Rust is left at the first that is answered."""
+    rng.ranged, rng.strict = rng.choice((0.2, 0.5, 0.9)), rng.choice((0, 0, 0.3))
+    yield from rng.choice((session, chain, numbers, numbers, numbers, limits, damaged))(rng)
+
+
+def refused_ranges(rng):
+    """Orders 21 that are refused between others, also where 512 variables exist."""
+    if rng.random() < 0.2:
+        script, most = Script(rng), rng.choice((511, 512))
+        script.orders = [order(0, site, 0) for site in range(most)]
+        script.orders += [range_request(rng, rng.choice((0, 600)), 2) if most == 512 else order(21, 600, 2) + faulty_bounds(rng) for _ in range(rng.randint(1, 4))]
+        yield ROOM, joined(script.orders + [order(6), order(8)])
+        return
+    script = session_script(rng)
+    for _ in range(rng.randint(2, 8)):
+        data, pick = order(21, script.site(), rng.choice(CODES)), rng.random()
+        if pick < 0.4:
+            data += faulty_bounds(rng) + rng.choice((b"", b"", b"", b"\x00"))
+        else:
+            data += rng.choice((faulty_bounds(rng), bound(rng, -1) + bound(rng, 2 ** 63)))
+            data = damaged_order(data, rng)
+            if not reference.run(framed(data)).output[1]:
+                continue
+        script.orders.insert(rng.randrange(len(script.orders) + 1), data)
+    yield ROOM, script.sheet()
+
+
+# The shares of order 22 among the pairs of a sheet, and of order 21 among its number requests, of which each sheet has one.
 STRICT = (0, 0, 0.5, 1)
+RANGED = (0, 0, 0.5, 0.9)
 FAMILIES = ((session, 0.41), (checks, 0.05), (chain, 0.09), (limits, 0.06), (repeats, 0.02), (room, 0.05), (full, 0.004), (doubled, 0.03),
-            (large_doubled, 0.002), (deep, 0.006), (damaged, 0.25), (mixed, 0.004))
+            (large_doubled, 0.002), (deep, 0.006), (damaged, 0.25), (mixed, 0.004), (numbers, 0.05))
 JUDGED = ((session, 0.30), (checks, 0.02), (chain, 0.07), (limits, 0.06), (repeats, 0.02), (room, 0.03), (full, 0.001), (doubled, 0.02),
           (large_doubled, 0.0005), (deep, 0.004), (damaged, 0.18), (mixed, 0.001), (operations, 0.25), (edges, 0.03),
-          (shadowed, 0.05), (every_room, 0.004), (strictly, 0.01), (refused_strictly, 0.04))
+          (shadowed, 0.05), (every_room, 0.004), (numbers, 0.01), (strictly, 0.03), (refused_strictly, 0.04),
+          (ranges, 0.05), (refused_ranges, 0.04))
 
 
-def sheets(how_many, seed, families=FAMILIES, strict=STRICT):
+def sheets(how_many, seed, families=FAMILIES, strict=STRICT, ranged=RANGED):
     rng = Source(seed)
     made = 0
     makers, shares = zip(*families)
     while made < how_many:
         family = rng.choices(makers, shares)[0]
-        rng.strict = rng.choice(strict)
+        rng.strict, rng.ranged = rng.choice(strict), rng.choice(ranged)
         for room_left, sheet in family(rng):
             if made < how_many and len(sheet) <= LENGTH:
                 made += 1
@@ -917,7 +1064,7 @@ def main():
     parser.add_argument("--seed", type=int, default=1, metavar="S")
     options = parser.parse_args()
     counts = {}
-    for family, _, sheet in sheets(options.sheets, options.seed, JUDGED, (0,)):
+    for family, _, sheet in sheets(options.sheets, options.seed, JUDGED, (0,), (0,)):
         count, size = counts.get(family, (0, 0))
         counts[family] = count + 1, size + len(sheet)
     for family, (count, size) in sorted(counts.items()):

@@ -32,6 +32,11 @@ from terms_reference import Reader, Refused, number_bytes
 F32, F64, NEVER = 8, 9, 10
 INTEGERS = frozenset(range(8))
 FLOATS = frozenset((F32, F64))
+# The least and the largest value of each integer type, by code.
+HELD = {code: (-2 ** (bits - 1), 2 ** (bits - 1) - 1) if code < 4 else (0, 2 ** bits - 1)
+        for code, bits in zip(range(8), (8, 16, 32, 64) * 2)}
+# Where a range took part, a default takes the first of these that is admitted, if the fallback is not.
+PREFERENCE = (2, 3, 6, 7, 0, 4, 1, 5)
 INCOMPATIBLE, COMPATIBLE, CANCELLED = 0, 1, 2
 # The kinds of terms that constrain enters.
 ENTERED = (REFERENCE, TUPLE, FUNCTION, ITER, RANGE, ARRAY, MAP, SET) + NOMINALS
@@ -49,6 +54,7 @@ ORDERS = {
     6: ((), "numeric_default_order"),
     7: ((), "never_default_order"),
     8: ((), "revision_order"),
+    21: (("one_number", "code", "bound", "bound"), "range_order"),
     22: (("one_number", "one_term", "one_term"), "strict_order"),
 }
 # The orders that pose a pair.
@@ -107,6 +113,10 @@ class Fields(Reader):
         self.issued = issued
         self.nodes_read = 0
 
+    def bound(self, level):
+        """Any byte for the sign, and the halves of the size, the high one first."""
+        return [self.byte(), self.number(), self.number()]
+
     def term(self, level):
         tree = super().term(level)
         self.nodes_read += 1
@@ -123,13 +133,17 @@ class Sheet:
     INPUT = OUTPUT = 32768
     FIELDS = Fields
     PLAIN = orders_reference.Orders
-    KINDS = tuple(range(21)) + (22,)
+    KINDS = tuple(range(23))
+    HELD = HELD
+    PREFERENCE = PREFERENCE
 
     def __init__(self):
         self.nodes = {}
         self.places = {}
         self.bindings = []
+        # The fallbacks of the number variables, and the types that they admit where a range took part.
         self.numeric = {}
+        self.ranges = {}
         self.diverging = set()
         self.revision = 0
         self.kept = 0
@@ -313,16 +327,24 @@ class Sheet:
     def family(self, fallback):
         return FLOATS if fallback == F64 else INTEGERS
 
+    def types(self, variable):
+        """The types that a number variable admits."""
+        return self.ranges[variable] if variable in self.ranges else self.family(self.numeric[variable])
+
     def admits(self, variable, term):
-        family = self.family(self.numeric[variable])
         if term.tag == INFERENCE:
             other = term.parts[0]
-            return other not in self.numeric or self.family(self.numeric[other]) == family
-        return term.tag == BUILTIN and term.parts[0] in family
+            return other not in self.numeric or bool(self.types(variable) & self.types(other))
+        return term.tag == BUILTIN and term.parts[0] in self.types(variable)
 
     def join(self, variable, other):
-        """The fallback of the variable that is bound goes over to the other."""
+        """The fallback of the variable that is bound goes over to the other. Where one of them has a range, the types that both admit are left."""
+        self.join_ranges(variable, other)
         self.numeric[other] = self.numeric[variable]
+
+    def join_ranges(self, variable, other):
+        if variable in self.ranges or other in self.ranges:
+            self.ranges[other] = self.types(variable) & (self.types(other) if other in self.numeric else self.types(variable))
 
     # The solver's orders. Each gives a Node or bytes.
 
@@ -336,6 +358,30 @@ class Sheet:
 
     def request(self, variable, fallback):
         self.numeric[variable] = fallback
+        self.ranges.pop(variable, None)
+
+    def range_order(self, site, fallback, *bounds):
+        variable = self.placed(self.number_place(site))
+        self.request_range(variable, fallback, self.held(*bounds))
+        return self.resolve(self.inference(variable))
+
+    def request_range(self, variable, fallback, types):
+        self.numeric[variable] = fallback
+        self.ranges[variable] = types
+
+    def size(self, high, low):
+        return high * 4294967296 + low
+
+    def value_of(self, sign, high, low):
+        return -self.size(high, low) if sign else self.size(high, low)
+
+    def held(self, *bounds):
+        """The integer types that hold both bounds."""
+        low, high = self.value_of(*bounds[:3]), self.value_of(*bounds[3:])
+        return frozenset(code for code, (least, most) in self.HELD.items() if least <= low and high <= most)
+
+    def faulty_bounds(self, *bounds):
+        return max(bounds[0], bounds[3]) > 1 or self.value_of(*bounds[:3]) > self.value_of(*bounds[3:]) or not self.held(*bounds)
 
     def hole_order(self, site):
         return self.resolve(self.inference(self.placed(self.hole_place(site))))
@@ -367,8 +413,19 @@ class Sheet:
         for variable, fallback in self.defaults_in_turn():
             end = self.free_end(variable)
             if end is not None:
-                self.bind(end, self.builtin(fallback))
+                self.bind(end, self.builtin(self.taken(variable, fallback, end)))
         return bytes([self.revision != before])
+
+    def taken(self, variable, fallback, end):
+        """The code of a default. Where a range took part, in the own request or in that of the end, it looks at what is admitted."""
+        if variable not in self.ranges and end not in self.ranges:
+            return fallback
+        admitted = self.admitted(variable, end)
+        return next((code for code in (fallback,) + self.PREFERENCE if code in admitted), fallback)
+
+    def admitted(self, variable, end):
+        """What the end's request admits, and the own one where the end has none."""
+        return self.types(end if end in self.numeric else variable)
 
     def defaults_in_turn(self):
         return sorted(self.numeric.items())
@@ -403,12 +460,17 @@ class Sheet:
         fields = self.FIELDS(order[1:], self.issued())
         parts = fields.row(names, 1)
         fields.used_up()
+        self.refuse_bounds(order[0], parts)
         if self.kept + fields.nodes_read > self.NODES:
             raise Refused(7)
         before = self.revision
         value = getattr(self, operation)(*parts)
         self.keep(order[0], fields.nodes_read, value, self.revision != before)
         return value
+
+    def refuse_bounds(self, kind, parts):
+        if kind == 21 and self.faulty_bounds(*parts[2:]):
+            raise Refused(13)
 
     def keep(self, kind, nodes, value, bound):
         """A pair keeps all its nodes where it bound a variable, and none where it bound nothing, whatever it answers."""

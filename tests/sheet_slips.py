@@ -11,8 +11,10 @@ if they came to an end: a solver without an occurs check says compatible and
 does not bind.
 
 No slip: occurrence before family (a number variable and a term around it
-are incompatible either way), and deferring a variable in the place of its
-end (the chain leads there later too).
+are incompatible either way), deferring a variable in the place of its end
+(the chain leads there later too), and another order of U32, U64 and the small
+types where a default looks for an admitted one: what ranges and their joins
+admit has I32, I64 or nothing but U64.
 """
 
 import sys
@@ -339,10 +341,10 @@ class Rollback(Sheet):
     WHEN = ()
 
     def constrain(self, checks, left, right):
-        before = list(self.bindings), dict(self.numeric), self.revision, self.bound
+        before = list(self.bindings), dict(self.numeric), dict(self.ranges), self.revision, self.bound
         answer = super().constrain(checks, left, right)
         if answer in self.WHEN:
-            self.bindings, self.numeric, self.revision, self.bound = before
+            self.bindings, self.numeric, self.ranges, self.revision, self.bound = before
             self.resolved = {}
         return answer
 
@@ -659,6 +661,525 @@ class kind_23_is_order_22(Sheet):
         return super().value(b"\x16" + order[1:] if order[:1] == b"\x17" else order)
 
 
+@slip
+class kind_23_is_order_21(Sheet):
+    def value(self, order):
+        return super().value(b"\x15" + order[1:] if order[:1] == b"\x17" else order)
+
+
+# Ranges
+
+def held_slip(name, rule):
+    """A slip of which types a range admits: rule(how, low, high) has the bounds as integers and says which codes."""
+    def held(self, *bounds):
+        return frozenset(rule(self, self.value_of(*bounds[:3]), self.value_of(*bounds[3:])))
+    SLIPS[name] = type(name, (Sheet,), {"held": held})
+
+
+def holding(self, *values):
+    return {code for code, (least, most) in self.HELD.items() if all(least <= value <= most for value in values)}
+
+
+held_slip("range_holds_the_low_bound_only", lambda self, low, high: holding(self, low))
+held_slip("range_holds_the_high_bound_only", lambda self, low, high: holding(self, high))
+held_slip("range_holds_one_of_the_bounds", lambda self, low, high: holding(self, low) | holding(self, high))
+held_slip("range_admits_f64", lambda self, low, high: holding(self, low, high) | {F64} if holding(self, low, high) else ())
+held_slip("range_admits_f32", lambda self, low, high: holding(self, low, high) | {F32} if holding(self, low, high) else ())
+held_slip("range_admits_every_integer", lambda self, low, high: INTEGERS if holding(self, low, high) else ())
+held_slip("range_takes_signs_only", lambda self, low, high: (range(4) if low < 0 else range(8)) if holding(self, low, high) else ())
+held_slip("range_of_signed_types_only_if_negative", lambda self, low, high: holding(self, low, high) & set(range(4) if low < 0 else range(4, 8)))
+held_slip("range_admits_the_smallest_type_only", lambda self, low, high: [code for code in (4, 0, 5, 1, 6, 2, 7, 3) if code in holding(self, low, high)][:1])
+for code, (least, most) in reference.HELD.items():
+    # One value less and one more at the top and at the bottom. One beyond U64 is no bound.
+    constant("range_of_code_%d_ends_early" % code, HELD={**reference.HELD, code: (least, most - 1)})
+    constant("range_of_code_%d_begins_late" % code, HELD={**reference.HELD, code: (least + 1, most)})
+    constant("range_of_code_%d_begins_early" % code, HELD={**reference.HELD, code: (least - 1, most)})
+    if code != 7:
+        constant("range_of_code_%d_ends_late" % code, HELD={**reference.HELD, code: (least, most + 1)})
+constant("i64_holds_all_64_bits", HELD={**reference.HELD, 3: (-2 ** 63, 2 ** 64 - 1)})
+constant("i64_holds_any_minus", HELD={**reference.HELD, 3: (-2 ** 64 + 1, 2 ** 63 - 1)})
+constant("u64_ends_as_i64", HELD={**reference.HELD, 7: (0, 2 ** 63 - 1)})
+constant("low_half_first", size=lambda self, high, low: low * 4294967296 + high)
+constant("bounds_of_32_bits", size=lambda self, high, low: low)
+constant("high_half_of_31_bits", size=lambda self, high, low: high * 2147483648 + low)
+constant("bounds_without_a_sign", value_of=lambda self, sign, high, low: self.size(high, low))
+constant("sign_1_for_plus", value_of=lambda self, sign, high, low: self.size(high, low) * (1 if sign else -1))
+constant("sign_of_two_complements", value_of=lambda self, sign, high, low: ~self.size(high, low) if sign else self.size(high, low))
+
+
+def bounds_slip(name, rule):
+    """A slip of refusal 13: rule(how, signs, low, high, types) says whether bounds are refused."""
+    def faulty_bounds(self, *bounds):
+        low, high = self.value_of(*bounds[:3]), self.value_of(*bounds[3:])
+        return rule(self, (bounds[0], bounds[3]), low, high, self.held(*bounds))
+    SLIPS[name] = type(name, (Sheet,), {"faulty_bounds": faulty_bounds})
+
+
+bounds_slip("sign_over_1_is_minus", lambda self, signs, low, high, types: low > high or not types)
+bounds_slip("first_sign_over_1_allowed", lambda self, signs, low, high, types: signs[1] > 1 or low > high or not types)
+bounds_slip("second_sign_over_1_allowed", lambda self, signs, low, high, types: signs[0] > 1 or low > high or not types)
+bounds_slip("sign_of_7_bits", lambda self, signs, low, high, types: any(sign % 128 > 1 for sign in signs) or low > high or not types)
+bounds_slip("low_above_high_allowed", lambda self, signs, low, high, types: max(signs) > 1 or not types)
+bounds_slip("no_type_allowed", lambda self, signs, low, high, types: max(signs) > 1 or low > high)
+bounds_slip("equal_bounds_refused", lambda self, signs, low, high, types: max(signs) > 1 or low >= high or not types)
+bounds_slip("low_one_above_high_allowed", lambda self, signs, low, high, types: max(signs) > 1 or low > high + 1 or not types)
+bounds_slip("bounds_compared_by_size", lambda self, signs, low, high, types: max(signs) > 1 or abs(low) > abs(high) or not types)
+bounds_slip("bounds_of_one_sign_compared_by_size",
+            lambda self, signs, low, high, types: max(signs) > 1 or (abs(low) > abs(high) if signs[0] == signs[1] else low > high) or not types)
+bounds_slip("high_below_zero_allowed", lambda self, signs, low, high, types: max(signs) > 1 or low > high and high >= 0 or not types)
+bounds_slip("only_one_type_refused", lambda self, signs, low, high, types: max(signs) > 1 or low > high or len(types) < 2)
+
+
+@slip
+class minus_zero_refused(Sheet):
+    def faulty_bounds(self, *bounds):
+        return super().faulty_bounds(*bounds) or bounds[:3] == (1, 0, 0) or bounds[3:] == (1, 0, 0)
+
+
+@slip
+class minus_zero_is_below_zero(Sheet):
+    """It is held by signed types alone."""
+
+    def held(self, *bounds):
+        minus = bounds[:3] == (1, 0, 0) or bounds[3:] == (1, 0, 0)
+        return super().held(*bounds) & (frozenset(range(4)) if minus else INTEGERS)
+
+
+@slip
+class zero_is_above_minus_zero(Sheet):
+    def faulty_bounds(self, *bounds):
+        return super().faulty_bounds(*bounds) or bounds == (0, 0, 0, 1, 0, 0)
+
+
+@slip
+class bounds_turned_round(Sheet):
+    """Low above high is read as high and low."""
+
+    def bounds(self, bounds):
+        return bounds[3:] + bounds[:3] if self.value_of(*bounds[:3]) > self.value_of(*bounds[3:]) else bounds
+
+    def held(self, *bounds):
+        return super().held(*self.bounds(bounds))
+
+    def faulty_bounds(self, *bounds):
+        return super().faulty_bounds(*self.bounds(bounds))
+
+
+@slip
+class sign_over_1_is_2(Sheet):
+    class FIELDS(Fields):
+        def bound(self, level):
+            return [self.listed(2), self.number(), self.number()]
+
+
+@slip
+class sign_over_1_is_3(Sheet):
+    class FIELDS(Fields):
+        def bound(self, level):
+            parts = super().bound(level)
+            if parts[0] > 1:
+                raise Refused(3)
+            return parts
+
+
+@slip
+class sign_is_a_number(Sheet):
+    class FIELDS(Fields):
+        def bound(self, level):
+            return [self.number(), self.number(), self.number()]
+
+
+@slip
+class sign_over_1_refused_at_once(Sheet):
+    class FIELDS(Fields):
+        def bound(self, level):
+            if self.at < len(self.data) and self.data[self.at] > 1:
+                raise Refused(13)
+            return super().bound(level)
+
+
+@slip
+class refusal_13_before_leftover_bytes(Sheet):
+    def solver_value(self, order):
+        if order[0] == 21:
+            fields = self.FIELDS(order[1:], self.issued())
+            self.refuse_bounds(21, fields.row(reference.ORDERS[21][0], 1))
+        return super().solver_value(order)
+
+
+@slip
+class refusal_13_after_8(Sheet):
+    def refuse_bounds(self, kind, parts):
+        if kind == 21 and self.issued() >= self.VARIABLES and self.number_place(parts[0]) not in self.places:
+            raise Refused(8)
+        super().refuse_bounds(kind, parts)
+
+
+@slip
+class refusal_7_before_13(Sheet):
+    """And a range counted as a node."""
+
+    def refuse_bounds(self, kind, parts):
+        if kind == 21 and self.kept >= self.NODES:
+            raise Refused(7)
+        super().refuse_bounds(kind, parts)
+
+
+@slip
+class refused_range_issues_its_variable(Sheet):
+    def refuse_bounds(self, kind, parts):
+        if kind == 21:
+            self.placed(self.number_place(parts[0]))
+        super().refuse_bounds(kind, parts)
+
+
+@slip
+class refused_range_is_requested(Sheet):
+    """A plain request, where the place is there."""
+
+    def refuse_bounds(self, kind, parts):
+        place = kind == 21 and self.number_place(parts[0])
+        if place in self.places:
+            self.request(self.places[place], parts[1])
+        super().refuse_bounds(kind, parts)
+
+
+@slip
+class no_refusal_13_for_an_issued_place(Sheet):
+    def refuse_bounds(self, kind, parts):
+        if kind != 21 or self.number_place(parts[0]) not in self.places:
+            super().refuse_bounds(kind, parts)
+
+    def request_range(self, variable, fallback, types):
+        if types:
+            super().request_range(variable, fallback, types)
+
+
+@slip
+class refusal_13_is_2(Sheet):
+    def refuse_bounds(self, kind, parts):
+        if kind == 21 and self.faulty_bounds(*parts[2:]):
+            raise Refused(2)
+
+
+@slip
+class fallback_must_be_admitted(Sheet):
+    def refuse_bounds(self, kind, parts):
+        super().refuse_bounds(kind, parts)
+        if kind == 21 and parts[1] not in self.held(*parts[2:]):
+            raise Refused(13)
+
+
+@slip
+class range_at_slot_0(Sheet):
+    def range_order(self, site, fallback, *bounds):
+        self.number_place = lambda site: self.expression_place(site, 0)
+        try:
+            return super().range_order(site, fallback, *bounds)
+        finally:
+            del self.number_place
+
+
+@slip
+class range_order_answers_the_variable(Sheet):
+    def range_order(self, site, fallback, *bounds):
+        super().range_order(site, fallback, *bounds)
+        return self.inference(self.places[self.number_place(site)])
+
+
+@slip
+class order_21_is_order_1(Sheet):
+    def request_range(self, variable, fallback, types):
+        self.request(variable, fallback)
+
+
+@slip
+class range_of_a_float_fallback_is_plain(Sheet):
+    def request_range(self, variable, fallback, types):
+        if fallback == F64:
+            self.request(variable, fallback)
+        else:
+            super().request_range(variable, fallback, types)
+
+
+@slip
+class range_holds_its_fallback(Sheet):
+    """The fallback's family is joined with the range, where they have a type in common."""
+
+    def request_range(self, variable, fallback, types):
+        super().request_range(variable, fallback, frozenset((fallback,)) if fallback in types else types)
+
+
+@slip
+class order_1_after_21_keeps_the_range(Sheet):
+    def request(self, variable, fallback):
+        self.numeric[variable] = fallback
+
+
+@slip
+class order_21_after_1_stays_plain(Sheet):
+    def request_range(self, variable, fallback, types):
+        if variable in self.numeric and variable not in self.ranges:
+            self.request(variable, fallback)
+        else:
+            super().request_range(variable, fallback, types)
+
+
+@slip
+class first_range_stays(Sheet):
+    def request_range(self, variable, fallback, types):
+        super().request_range(variable, fallback, self.ranges.get(variable, types))
+
+
+@slip
+class first_range_and_fallback_stay(Sheet):
+    def request_range(self, variable, fallback, types):
+        if variable not in self.ranges:
+            super().request_range(variable, fallback, types)
+
+
+@slip
+class repeated_ranges_narrow(Sheet):
+    def request_range(self, variable, fallback, types):
+        super().request_range(variable, fallback, self.ranges.get(variable, types) & types or types)
+
+
+@slip
+class a_range_reaches_the_end_of_the_chain(Sheet):
+    """A request for a bound variable is one for its end."""
+
+    def request_range(self, variable, fallback, types):
+        super().request_range(variable, fallback, types)
+        end = self.free_end(variable)
+        if end is not None:
+            super().request_range(end, fallback, types)
+
+
+@slip
+class a_plain_request_reaches_the_end_of_the_chain(Sheet):
+    """Where the end has a range, it is plain again."""
+
+    def request(self, variable, fallback):
+        super().request(variable, fallback)
+        end = self.free_end(variable)
+        if end is not None and end in self.ranges:
+            super().request(end, fallback)
+
+
+@slip
+class request_of_a_bound_one_joins_its_end(Sheet):
+    """The end is narrowed by what is requested, where something is left."""
+
+    def request_range(self, variable, fallback, types):
+        super().request_range(variable, fallback, types)
+        end = self.free_end(variable)
+        if end is not None and end in self.numeric and self.types(end) & types:
+            self.ranges[end] = frozenset(self.types(end) & types)
+
+
+@slip
+class deferred_ranges_take_their_default(Sheet):
+    """Order 7 takes an admitted type in place of Never."""
+
+    def never_default_order(self):
+        before = self.revision
+        for variable in self.deferred_in_turn():
+            end = self.free_end(variable)
+            if end is not None:
+                self.bind(end, self.builtin(self.taken(end, self.numeric[end], end) if end in self.ranges else NEVER))
+        return bytes([self.revision != before])
+
+
+@slip
+class bound_variables_get_no_range(Sheet):
+    def request_range(self, variable, fallback, types):
+        if self.is_bound(variable):
+            self.request(variable, fallback)
+        else:
+            super().request_range(variable, fallback, types)
+
+
+constant("range_forgotten_at_a_join", join_ranges=lambda self, variable, other: self.ranges.pop(other, None) and None)
+constant("range_of_the_free_one_stays", join_ranges=lambda self, variable, other: None)
+
+
+@slip
+class range_of_the_bound_one_is_copied(Sheet):
+    """As the fallback is."""
+
+    def join_ranges(self, variable, other):
+        if variable in self.ranges:
+            self.ranges[other] = self.ranges[variable]
+        else:
+            self.ranges.pop(other, None)
+
+
+@slip
+class join_with_a_plain_one_is_plain(Sheet):
+    def join_ranges(self, variable, other):
+        if other not in self.numeric or variable in self.ranges and other in self.ranges:
+            super().join_ranges(variable, other)
+        else:
+            self.ranges.pop(other, None)
+
+
+@slip
+class join_with_a_free_one_is_plain(Sheet):
+    def join_ranges(self, variable, other):
+        if other in self.numeric:
+            super().join_ranges(variable, other)
+
+
+@slip
+class join_leaves_what_one_admits(Sheet):
+    def join_ranges(self, variable, other):
+        if other in self.numeric and (variable in self.ranges or other in self.ranges):
+            self.ranges[other] = self.types(variable) | self.types(other)
+        else:
+            super().join_ranges(variable, other)
+
+
+@slip
+class join_narrows_both(Sheet):
+    """Also the request of the variable that is bound: its own default looks there first."""
+
+    def join_ranges(self, variable, other):
+        super().join_ranges(variable, other)
+        if other in self.ranges:
+            self.ranges[variable] = self.ranges[other]
+
+    def admitted(self, variable, end):
+        return self.types(variable)
+
+
+@slip
+class empty_joins_allowed(Sheet):
+    """Of two ranges; a range and a float are incompatible."""
+
+    def admits(self, variable, term):
+        if term.tag == INFERENCE and variable in self.ranges and term.parts[0] in self.ranges:
+            return True
+        return super().admits(variable, term)
+
+
+@slip
+class ranges_must_be_equal_to_join(Sheet):
+    def admits(self, variable, term):
+        if term.tag == INFERENCE and term.parts[0] in self.numeric:
+            return self.types(variable) == self.types(term.parts[0])
+        return super().admits(variable, term)
+
+
+@slip
+class ranges_join_inwards_only(Sheet):
+    """A variable is bound to one that admits no more than it does."""
+
+    def admits(self, variable, term):
+        if term.tag == INFERENCE and variable in self.ranges and term.parts[0] in self.ranges:
+            return self.types(variable) >= self.types(term.parts[0])
+        return super().admits(variable, term)
+
+
+@slip
+class range_joins_a_float(Sheet):
+    def admits(self, variable, term):
+        if term.tag == INFERENCE and (variable in self.ranges) != (term.parts[0] in self.ranges):
+            return True
+        return super().admits(variable, term)
+
+
+@slip
+class default_by_its_own_request_alone(Sheet):
+    def taken(self, variable, fallback, end):
+        return super().taken(variable, fallback, variable)
+
+
+@slip
+class default_by_the_end_request_alone(Sheet):
+    """What is admitted and whether a range took part."""
+
+    def taken(self, variable, fallback, end):
+        return super().taken(end, fallback, end) if end in self.numeric else fallback
+
+
+@slip
+class default_by_the_fallback_of_the_end(Sheet):
+    def taken(self, variable, fallback, end):
+        return super().taken(variable, self.numeric.get(end, fallback), end)
+
+
+@slip
+class default_by_what_both_requests_admit(Sheet):
+    def admitted(self, variable, end):
+        return self.types(variable) & super().admitted(variable, end)
+
+
+@slip
+class default_keeps_its_fallback(Sheet):
+    def taken(self, variable, fallback, end):
+        return fallback
+
+
+@slip
+class default_never_takes_its_fallback(Sheet):
+    """Of a range."""
+
+    def taken(self, variable, fallback, end):
+        return super().taken(variable, None, end) if variable in self.ranges and self.admitted(variable, end) & INTEGERS else super().taken(variable, fallback, end)
+
+
+@slip
+class plain_defaults_look_at_what_is_admitted(Sheet):
+    """A plain fallback such as Never or F32 goes over to I32."""
+
+    def taken(self, variable, fallback, end):
+        admitted = self.admitted(variable, end)
+        return next((code for code in (fallback,) + self.PREFERENCE if code in admitted), fallback)
+
+
+@slip
+class default_where_nothing_is_admitted_is_i32(Sheet):
+    def taken(self, variable, fallback, end):
+        code = super().taken(variable, fallback, end)
+        ranged = variable in self.ranges or end in self.ranges
+        return 2 if ranged and code not in self.admitted(variable, end) else code
+
+
+@slip
+class default_where_nothing_is_admitted_is_none(Sheet):
+    """The end stays free."""
+
+    def free_end(self, variable):
+        end = super().free_end(variable)
+        if end is not None and variable in self.ranges and not self.admitted(variable, end) & INTEGERS:
+            return None
+        return end
+
+
+for name, order in (("i64_before_i32", (3, 2, 6, 7, 0, 4, 1, 5)), ("u32_before_i64", (2, 6, 3, 7, 0, 4, 1, 5)), ("u64_before_i64", (2, 7, 3, 6, 0, 4, 1, 5)),
+                    ("small_types_first", (0, 4, 1, 5, 2, 6, 3, 7)), ("i8_before_i32", (0, 2, 3, 6, 7, 4, 1, 5)), ("i16_before_i32", (1, 2, 3, 6, 7, 0, 4, 5)),
+                    ("u8_before_i32", (4, 2, 3, 6, 7, 0, 1, 5)), ("u16_before_i32", (5, 2, 3, 6, 7, 0, 4, 1)), ("by_code", tuple(range(8)))):
+    constant("default_" + name, PREFERENCE=order)
+constant("default_without_u64", PREFERENCE=(2, 3, 6))
+constant("default_i32_only", PREFERENCE=(2,))
+
+
+@slip
+class never_default_passes_over_ranges(Sheet):
+    def deferred_in_turn(self):
+        return [variable for variable in sorted(self.diverging) if self.free_end(variable) not in self.ranges]
+
+
+@slip
+class ranges_not_held_to_in_order_22(Sheet):
+    def types(self, variable):
+        return INTEGERS if self.strict and variable in self.ranges else super().types(variable)
+
+    def numeric_default_order(self):
+        self.strict = False
+        return super().numeric_default_order()
+
+
 # Families
 
 constant("family_lost_in_a_join", join=lambda self, variable, other: None)
@@ -860,8 +1381,9 @@ constant("variables_511", VARIABLES=511)
 constant("variables_513", VARIABLES=513)
 constant("levels_199", FIELDS=type("levels_199", (Fields,), {"LEVELS": 199}))
 constant("levels_201", FIELDS=type("levels_201", (Fields,), {"LEVELS": 201}))
-constant("kind_20_unlisted", KINDS=tuple(range(20)) + (22,))
-constant("kind_22_unlisted", KINDS=tuple(range(21)))
+constant("kind_20_unlisted", KINDS=tuple(range(20)) + (21, 22))
+constant("kind_21_unlisted", KINDS=tuple(range(21)) + (22,))
+constant("kind_22_unlisted", KINDS=tuple(range(22)))
 
 
 def keeping(name, rule):
@@ -947,7 +1469,7 @@ class SevenLater(Sheet):
         return True
 
     def pair_order(self, strict, checks, left, right):
-        before = self.bindings[:], dict(self.numeric), self.revision, self.bound
+        before = self.bindings[:], dict(self.numeric), self.revision, self.bound, dict(self.ranges)
         answer = super().pair_order(strict, checks, left, right)
         if self.kept + self.posed > 2048 and self.refused(self.revision != before[2]):
             self.taken_back(before)
@@ -955,7 +1477,7 @@ class SevenLater(Sheet):
         return answer
 
     def taken_back(self, before):
-        self.bindings, self.numeric, self.revision, self.bound = before
+        self.bindings, self.numeric, self.revision, self.bound, self.ranges = before
         self.resolved = {}
 
     def solver_value(self, order):

@@ -22,10 +22,12 @@ The groups:
   defers   3 variables, every choice of deferrals and requests, up to two links or values
   again    every pair of a list of terms with recovery terms, posed three times, with every k up to 6, 3 variables
   strict   the pairs of group one, posed by order 22
+  ranges   3 variables, every choice of ranges and plain requests, up to two links or values, and a second request of one of them
   turns    every sequence of two pairs of a short list with Sets and Maps, posed by orders 22 and 4, 4 and 22, or 22 twice
 
-In the last two the oracle is left at the first order 22; how many sheets that
-are is told. strict_small.py tries such pairs with every assignment.
+In the last three the oracle is left at the first order 21 or 22; how many
+sheets that are is told. strict_small.py and range_small.py try such pairs with
+every assignment.
 
 --every takes one session of N. The other options are those of sheet_compare.py.
 """
@@ -87,11 +89,15 @@ RECOVERING = [X, (TUPLE, (X, X)), (TUPLE, (X, Y)), (TUPLE, ((TUPLE, (Y, Z)), (TU
               (TUPLE, ((ARRAY, Y), (ARRAY, THE_UNKNOWN))), (TUPLE, (I8, I32)), (TUPLE, ((SET, 0, X), (SET, 1, Y))), (ARRAY, Z), Z, I8]
 ACCESSED = [X, Y, I32, (SET, 0, X), (SET, 1, X), (SET, 1, Y), (MAP, 0, X, Y), (MAP, 1, X, Y), (SET, 0, (SET, 1, Y)), (TUPLE, (X, (SET, 0, Y))),
             (TUPLE, ((SET, 1, Y), (SET, 1, I32))), (SET, 1, THE_UNKNOWN)]
+# Not requested, plain, and from 0 to 200 with a fallback that is not admitted, from -1 to 100, from 2^63 on.
+RANGES = (None, 2, 9, bytes.fromhex("00 00 00 00 00 00 c8 01"), bytes.fromhex("04 01 00 01 00 00 64"),
+          bytes.fromhex("02 00 80 80 80 80 08 00 00 80 80 80 80 08 00"))
 LINKS = [(a, b) for a in (X, Y, Z) for b in (X, Y, Z) if a != b]
 VALUES = [(a, value) for a in (X, Y, Z) for value in (I8, F32)]
 
 
-# Sessions: requests, deferrals before the pairs, pairs (k, left, right), or (k, left, right, 22)
+# Sessions: requests, deferrals before the pairs, pairs (k, left, right), or (k, left, right, 22). A request is a fallback, or the bytes of an
+# order 21 behind its site. A pair may be a request of one of the variables: (variable, request).
 
 def pairs(terms):
     return [(50, left, right) for left in terms for right in terms]
@@ -152,6 +158,17 @@ def group_strict():
             yield requests, (), (pair + (22,),)
 
 
+def group_ranges():
+    links = [(9,) + pair for pair in LINKS + VALUES]
+    for requests in itertools.product(RANGES, repeat=3):
+        for row in sequences(links, 2):
+            yield requests, (), row
+    for requests in itertools.product(RANGES[1:], repeat=2):
+        for first, last in itertools.product(links[:2] + links[6:10], repeat=2):
+            for variable, again in itertools.product((0, 1), RANGES[1:]):
+                yield requests + (2,), (), (first, (variable, again), last)
+
+
 def group_turns():
     for requests in ((None, None), (2, None)):
         for kinds in ((22, 4), (4, 22), (22, 22)):
@@ -160,7 +177,7 @@ def group_turns():
 
 
 GROUPS = {"one": group_one, "two": group_two, "three": group_three, "checks": group_checks, "joins": group_joins,
-          "defers": group_defers, "again": group_again, "strict": group_strict, "turns": group_turns}
+          "defers": group_defers, "again": group_again, "strict": group_strict, "ranges": group_ranges, "turns": group_turns}
 
 
 # Sheets
@@ -187,15 +204,25 @@ def nodes_in(term):
 nodes_of = functools.lru_cache(maxsize=10000)(nodes_in)
 
 
+def requested(site, request):
+    """A variable, or one of a number place."""
+    if request is None:
+        return framed(b"\x00" + site + b"\x00")
+    return framed(b"\x15" + site + request if isinstance(request, bytes) else b"\x01" + site + bytes([request]))
+
+
 def sheet_of(sessions, defaults):
     out, base, shows = bytearray(), 0, []
     for requests, deferred, row in sessions:
         for at, fallback in enumerate(requests):
-            site = number_bytes(base + at)
-            out += framed(b"\x00" + site + b"\x00" if fallback is None else b"\x01" + site + bytes([fallback]))
+            out += requested(number_bytes(base + at), fallback)
         for at in deferred:
             out += framed(b"\x03" + text(X, base + at))
-        for checks, left, right, *kind in row:
+        for each in row:
+            if len(each) == 2:
+                out += requested(number_bytes(base + each[0]), each[1])
+                continue
+            checks, left, right, *kind = each
             out += framed(bytes(kind or (4,)) + number_bytes(checks) + text(left, base) + text(right, base))
         shows.append(shown_at(base, len(requests)))
         out += shows[-1]
@@ -210,7 +237,7 @@ def sheets(name, every):
     """Pairs: how many sessions, the sheet."""
     packed, nodes, turn = [], 0, 0
     for session in itertools.islice(GROUPS[name](), 0, None, every):
-        more = sum(nodes_of(pair[1]) + nodes_of(pair[2]) for pair in session[2])
+        more = sum(nodes_of(pair[1]) + nodes_of(pair[2]) for pair in session[2] if len(pair) > 2)
         if len(packed) == AT_ONCE or nodes + more > 2040:
             yield len(packed), sheet_of(packed, ((6, 7), (7, 6))[turn % 2])
             packed, nodes, turn = [], 0, turn + 1

@@ -32,7 +32,7 @@ import orders_compare
 import sheet_compare
 import sheet_reference
 from oracle import build as oracle
-from sheet_compare import LEFT, NOT_IN_RUST, Batch, Run, in_chunks
+from sheet_compare import ALL_LEFT, Batch, Run, in_chunks
 from terms_reference import Refused, framed, split
 
 DIRECTORY = os.path.join(oracle.ROOT, "crates", "replay")
@@ -87,15 +87,15 @@ class Sample:
 
 
 def fits(room, sheet, run):
-    return run.reason not in (LEFT, NOT_IN_RUST) and room <= BUFFER and len(sheet) <= BUFFER and len(run.output) <= BUFFER
+    return run.reason not in ALL_LEFT and room <= BUFFER and len(sheet) <= BUFFER and len(run.output) <= BUFFER
 
 
 # Making
 
 def short_orders():
-    """Orders of a kind and up to two small bytes, in a session with variables. Those of kind 22 end early."""
+    """Orders of a kind and up to two small bytes, in a session with variables. Those of kinds 21 and 22 end early."""
     small = bytes(range(21))
-    for kind in small + b"\x16":
+    for kind in small + b"\x15\x16":
         tails = [b""] + [bytes([one]) for one in small] + [bytes([one, two]) for one in small for two in small]
         yield "short", BUFFER, judge_sheets.AREAS, 0, judge_sheets.BEFORE + b"".join(framed(bytes([kind]) + tail) for tail in tails)
 

@@ -8,7 +8,7 @@ import sys
 
 from sheet_tokens import Tokens, near
 from sheet_words import (
-    ANSWERS, BUILTINS, CODES, COLLECTIONS, LEVELS, MOST, NAME, NOMINALS, ORDERS, OWNERS, RESERVED, SORTS, number_bytes)
+    ANSWERS, BUILTINS, CODES, COLLECTIONS, LEVELS, MOST, MOST_BOUND, NAME, NOMINALS, ORDERS, OWNERS, RESERVED, SORTS, number_bytes)
 
 # A level takes up to four Python calls.
 sys.setrecursionlimit(20000)
@@ -17,6 +17,8 @@ sys.setrecursionlimit(20000)
 ANSWER_LEVELS = 2400
 LEAVES = {"unknown": b"\x02", "error": b"\x03"}
 PATTERNS = {kind: pattern.split() for kind, pattern in ORDERS.items()}
+# By kind: the kind whose pattern goes on where this one ends.
+LONGER = {kind: other for kind, pattern in PATTERNS.items() for other, longer in PATTERNS.items() if longer[:len(pattern)] == pattern and other != kind}
 FIRST_WORDS = sorted({pattern[0] for pattern in PATTERNS.values()}) + ["bytes", "tail", "name"]
 
 
@@ -184,6 +186,11 @@ class Line(Tokens):
             self.fail("a builtin type, as i32 or builtin 11")
         return bytes([BUILTINS.index(self.take())])
 
+    def bound(self):
+        minus = self.taken("-")
+        size = self.integer("a bound", MOST_BOUND)
+        return bytes([minus]) + number_bytes(size // (MOST + 1)) + number_bytes(size % (MOST + 1))
+
     def checks(self):
         if not self.taken("checks"):
             return number_bytes(MOST)
@@ -233,13 +240,22 @@ class Line(Tokens):
         if self.taken("bytes"):
             return self.raw()
         first = self.peek()
-        kinds = [kind for kind, pattern in PATTERNS.items() if pattern[0] == first]
+        kinds = [kind for kind, pattern in PATTERNS.items() if pattern[0] == first and kind not in LONGER.values()]
         if not kinds:
             self.fail("an order", near(first, FIRST_WORDS))
         self.take()
         kind, rest = self.told_apart(kinds)
-        out = bytes([kind])
-        for piece in rest:
+        out = self.pieces(rest)
+        if kind in LONGER:
+            more = PATTERNS[LONGER[kind]][len(PATTERNS[kind]):]
+            if self.peek() == more[0]:
+                return bytes([LONGER[kind]]) + out + self.pieces(more)
+        return bytes([kind]) + out
+
+    def pieces(self, pattern):
+        """The bytes of the fields of a pattern."""
+        out = b""
+        for piece in pattern:
             if piece.startswith("{"):
                 out += getattr(self, piece[1:-1])()
             else:

@@ -19,7 +19,7 @@ TAGS = (
 
 
 class Unreadable(Exception):
-    """The first fault met; its argument is the refusal of document 01."""
+    """The first fault met; its argument is the refusal of document 01 or 02."""
 
 
 class Bytes:
@@ -35,6 +35,7 @@ class Bytes:
         self.at = 0
         self.names = names
         self.levels = levels
+        self.unlisted_sign = False
 
     # Bytes and numbers
 
@@ -194,6 +195,11 @@ class Bytes:
         code = self.listed(CODES)
         return BUILTINS[code] if code < len(BUILTINS) else "builtin %d" % code
 
+    def bound(self):
+        sign, high, low = self.byte(), self.count(), self.count()
+        self.unlisted_sign |= sign > 1
+        return "%s%d" % ("-" if sign else "", high * (MOST + 1) + low)
+
     def checks(self):
         """The largest number of checks is not said."""
         checks = self.count()
@@ -231,6 +237,8 @@ class Bytes:
         for piece in ORDERS[kind].split():
             pieces.append(getattr(self, piece[1:-1])() if piece.startswith("{") else piece)
         self.used_up()
+        if self.unlisted_sign:
+            raise Unreadable(13)
         return " ".join(piece for piece in pieces if piece)
 
     # Answers

@@ -81,7 +81,7 @@ class Tokens:
         token = self.peek()
         if not self.is_number():
             self.fail(what)
-        if len(token.lstrip("0")) > 10 or int(token) > most:
+        if len(token.lstrip("0")) > len(str(most)) or int(token) > most:
             self.fail("%s up to %d" % (what, most))
         return int(self.take())
 

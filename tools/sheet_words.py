@@ -8,6 +8,7 @@ that a new order is a new line there and in ANSWERS. Numbers may be left out.
 import re
 
 MOST = 4294967295
+MOST_BOUND = 18446744073709551615
 LEVELS = 200
 CODES = 32
 ROOM = 32768        # what the sheet program reads and writes at most
@@ -36,6 +37,7 @@ ORDERS = dict(enumerate((
     "associated {term} interface {nominal} owner {term}",
     "normalise {rules} in {term}",
 )))
+ORDERS[21] = ORDERS[1] + " from {bound} to {bound}"
 ORDERS[22] = "constrain strictly {checks} {term} = {term}"
 
 TRUTH = ("no", "yes")
@@ -48,6 +50,7 @@ BOUNDS = ("satisfies", "satisfies_for")
 ANSWERS = dict(enumerate((
     "term", "term", "term", "nothing", VERDICT, "term", CHANGE, CHANGE, "number", TRUTH, TRUTH, "term", "term", "term", "term",
     ("flags", QUESTIONS), TRUTH, ("flags", BOUNDS), "maybe", "term", "term")))
+ANSWERS[21] = "term"
 ANSWERS[22] = VERDICT
 
 REFUSALS = {
@@ -60,6 +63,7 @@ REFUSALS = {
     7: "more than 2,048 nodes, those of this order and those kept by pairs that bound a variable",
     8: "a new variable while 512 exist",
     9: "more than 8,192 children met in normalising",
+    13: "a sign over 1, a low bound above the high one, or no integer type that holds both",
 }
 
 BUILTINS = ("i8", "i16", "i32", "i64", "u8", "u16", "u32", "u64", "f32", "f64", "never")

@@ -2,7 +2,7 @@
  * The run of a sheet: the C declaration of the static library libentry.a.
  *
  * A sheet is a run of orders, each a length and that many bytes. The run answers them one after another in a fresh session; an
- * answer is a length, an outcome byte (0, or a refusal from 1 to 9) and on 0 the value. Lengths are numbers in base 128, the low
+ * answer is a length, an outcome byte (0, or a refusal: 1 to 9, or 13) and on 0 the value. Lengths are numbers in base 128, the low
  * group first, the top bit of a byte set where more follow, in the shortest form.
  *
  * For C99 and C++, on x86-64 Linux.
@@ -40,7 +40,8 @@ enum sheet_refusal {
     SHEET_REFUSED_NOT_ISSUED = 6, /* orders 3 to 5: a variable that was not issued */
     SHEET_REFUSED_NODES = 7,      /* kept nodes and this order's nodes exceed 2,048 */
     SHEET_REFUSED_VARIABLES = 8,  /* a new variable while 512 exist */
-    SHEET_REFUSED_CHILDREN = 9    /* orders 19 and 20: more than 8,192 children visited */
+    SHEET_REFUSED_CHILDREN = 9,   /* orders 19 and 20: more than 8,192 children visited */
+    SHEET_REFUSED_BOUNDS = 13     /* order 21: a sign over 1, low above high, or no integer type holds both */
 };
 
 #ifdef __cplusplus

@@ -13,8 +13,9 @@ with a session of its own. Standard input is a run of sheets: room for
 answers, length, each four bytes with the low byte first, and the sheet. For
 each one come out: the reason, a byte; orders answered, bytes of answers, four
 bytes each; the answers. Reason 255 stands for a sheet that the Rust could
-not go on with, as its terms grew too large, and 253 for one with an order 22
-that is not refused, which Kagari does not have; the answers before stand.
+not go on with, as its terms grew too large, 253 for one with an order 22 and
+252 for one with an order 21 that is not refused, which Kagari does not have;
+the answers before stand.
 
 DIR of --source holds Kagari's sources (KAGARI_SOURCE of the environment, or
 ../shared/docs/src beside the repository). What is built goes to DIR of --out
@@ -42,7 +43,7 @@ Written here, as stand-ins or around it:
   format.rs      reader and writer of the byte form, with refusals 1 to 7
   orders.rs      orders 9 to 20, and refusal 9
   solver.rs      the place of Solver
-  sheets.rs      orders 0 to 8, refusals of order 22, refusal 8, whole sheets
+  sheets.rs      orders 0 to 8, refusals of orders 21 and 22, refusal 8, whole sheets
   stack.rs       a thread with a large stack
   main.rs        lengths, the limits of input and output
 and for tests/judge.py, which links the static library beside all this:

@@ -4,7 +4,8 @@
 //! family, which the tables count; the room of the output; the words of the four areas; what output and areas are
 //! filled with; the length of the sheet. Each sheet is run by both sides. At the first difference orders are taken out
 //! as long as the two differ, the rest is printed in hexadecimal, and the exit status is 1. Else the counts are
-//! printed, a line for each.
+//! printed, a line for each, and before them the library's runs of the sheets that the oracle left, which tests/judge.py
+//! compares with the reference in Python. With the argument runs the library alone is run, and every run is printed.
 
 mod ffi; // bindings/rust/src/ffi.rs, which tests/judge.py puts beside this file
 mod format;
@@ -47,10 +48,15 @@ impl Wanted {
         Self { reason, orders, answers }
     }
 
+    /// Whether the oracle left the sheet.
+    fn is_left(&self) -> bool {
+        matches!(self.reason, sheets::LEFT | sheets::NOT_IN_RUST | sheets::RANGE_NOT_IN_RUST)
+    }
+
     /// Whether a run is the wanted one, as far as the oracle went on.
     fn agrees(&self, found: &Found) -> bool {
         let (orders, bytes) = (u64::from(self.orders), &self.answers);
-        let same = if matches!(self.reason, sheets::LEFT | sheets::NOT_IN_RUST) {
+        let same = if self.is_left() {
             found.orders >= orders && found.answers.starts_with(bytes)
         } else {
             (found.reason, found.orders) == (u32::from(self.reason), orders) && found.answers == *bytes
@@ -126,30 +132,67 @@ fn numbers(from: &mut impl Read) -> Option<[usize; 8]> {
     Some(found)
 }
 
+/// A frame of the input.
+struct Frame {
+    family: usize,
+    room: Room,
+    sheet: Vec<u8>,
+}
+
+impl Frame {
+    fn read(from: &mut impl Read) -> Option<Self> {
+        let [family, bytes, a, b, c, d, fill, length] = numbers(from)?;
+        let mut sheet = vec![0; length];
+        from.read_exact(&mut sheet).expect("the sheet is whole");
+        Some(Self { family, room: Room { bytes, words: [a, b, c, d], fill: fill as u32 }, sheet })
+    }
+
+    /// The line of a run: family, room, reason, orders, and in hexadecimal the sheet and the answers, each behind an x.
+    fn told(&self, run: &Found) -> String {
+        let hexadecimal = |bytes: &[u8]| bytes.iter().map(|byte| format!("{byte:02x}")).collect::<String>();
+        let (sheet, answers) = (hexadecimal(&self.sheet), hexadecimal(&run.answers));
+        format!("run {} {} {} {} x{sheet} x{answers}", self.family, self.room.bytes, run.reason, run.orders)
+    }
+}
+
 /// Gives whether the two sides agree on all frames.
 fn serve() -> bool {
     let mut from = std::io::stdin().lock();
-    let (mut library, mut tables, mut sheet, mut index) = (Library::new(), Tables::default(), Vec::new(), 0);
-    while let Some([family, bytes, a, b, c, d, fill, length]) = numbers(&mut from) {
-        sheet.resize(length, 0);
-        from.read_exact(&mut sheet).expect("the sheet is whole");
-        let room = Room { bytes, words: [a, b, c, d], fill: fill as u32 };
-        let wanted = Wanted::of(&sheet, room);
-        if !wanted.agrees(&library.run(&sheet, room)) {
-            println!("differs {index} {family}");
-            describe(&mut library, &sheet, room);
+    let (mut library, mut tables, mut left, mut index) = (Library::new(), Tables::default(), Vec::new(), 0);
+    while let Some(frame) = Frame::read(&mut from) {
+        let (sheet, room) = (&frame.sheet, frame.room);
+        let (wanted, found) = (Wanted::of(sheet, room), library.run(sheet, room));
+        if !wanted.agrees(&found) {
+            println!("differs {index} {}", frame.family);
+            describe(&mut library, sheet, room);
             return false;
         }
-        tables.add(family as u32, &sheet, wanted.reason, &wanted.answers);
+        if wanted.is_left() {
+            left.push(frame.told(&found));
+        }
+        tables.add(frame.family as u32, sheet, wanted.reason, &wanted.answers);
         index += 1;
     }
+    // At the end, as who feeds the frames does not read before.
+    left.iter().for_each(|line| println!("{line}"));
     tables.show();
+    true
+}
+
+/// Prints the library's run of each frame.
+fn tell_runs() -> bool {
+    let mut from = std::io::stdin().lock();
+    let mut library = Library::new();
+    while let Some(frame) = Frame::read(&mut from) {
+        println!("{}", frame.told(&library.run(&frame.sheet, frame.room)));
+    }
     true
 }
 
 fn main() {
     // A panic of the Rust is a difference, which is told where it is found.
     std::panic::set_hook(Box::new(|_| {}));
-    let agreed = stack::on_a_large_stack(serve);
+    let runs = std::env::args().nth(1).is_some_and(|word| word == "runs");
+    let agreed = stack::on_a_large_stack(if runs { tell_runs } else { serve });
     std::process::exit(i32::from(!agreed));
 }

@@ -1,5 +1,5 @@
-//! Whole sheets: orders 0 to 8 by Kagari's Solver, the others by orders.rs. Kagari has no order 22: it is read and refused as
-//! order 4 is, and where it would be answered the sheet is left.
+//! Whole sheets: orders 0 to 8 by Kagari's Solver, the others by orders.rs. Kagari has no orders 21 and 22: the first is read
+//! and refused by document 02, the second as order 4 is, and where one of them would be answered the sheet is left.
 //!
 //! Standard input is a run of sheets: room for answers, length, each four bytes with the low byte first, and the sheet.
 //! For each one come out: the reason, a byte; orders answered, bytes of answers, four bytes each; the answers.
@@ -21,6 +21,9 @@ const MET: usize = 400_000;
 pub const LEFT: u8 = 255;
 /// The reason for a sheet that was left at an order 22.
 pub const NOT_IN_RUST: u8 = 253;
+/// The reason for a sheet that was left at an order 21.
+pub const RANGE_NOT_IN_RUST: u8 = 252;
+const RANGED: u8 = 21;
 const STRICT: u8 = 22;
 
 #[derive(PartialEq, Eq, Hash)]
@@ -36,7 +39,8 @@ struct Session {
     kept: usize,
 }
 
-/// An order's answer without its length, or None where the Rust would have to meet too many nodes, or to pose a strict pair.
+/// An order's answer without its length, or None where the Rust would have to meet too many nodes, to request a range or to pose a
+/// strict pair.
 type Answer = Option<Vec<u8>>;
 
 fn outcome(value: Parsed<Answer>) -> Answer {
@@ -46,10 +50,34 @@ fn outcome(value: Parsed<Answer>) -> Answer {
     }
 }
 
+/// A bound of an order 21: a byte for the sign, and a size of 64 bits.
+struct Bound {
+    sign: u8,
+    size: u64,
+}
+
+impl Bound {
+    fn read(fields: &mut Reader) -> Parsed<Bound> {
+        let (sign, high, low) = (fields.byte()?, fields.number()?, fields.number()?);
+        Ok(Bound { sign, size: u64::from(high) << 32 | u64::from(low) })
+    }
+
+    fn value(&self) -> i128 {
+        if self.sign == 1 { -i128::from(self.size) } else { i128::from(self.size) }
+    }
+}
+
+/// Refusal 13. A type that holds a negative number and another one is signed; all that 64 bits hold is in I64 or U64.
+fn refuse_bounds(low: &Bound, high: &Bound) -> Parsed<()> {
+    let (least, most) = (low.value(), high.value());
+    let held = if least < 0 { i64::try_from(least).is_ok() && i64::try_from(most).is_ok() } else { u64::try_from(most).is_ok() };
+    if low.sign > 1 || high.sign > 1 || least > most || !held { Err(Refused(13)) } else { Ok(()) }
+}
+
 impl Session {
     fn answer(&mut self, order: &[u8]) -> Answer {
         match order.first() {
-            Some(kind) if *kind <= 8 || *kind == STRICT => outcome(self.value(*kind, &order[1..])),
+            Some(kind) if *kind <= 8 || *kind == RANGED || *kind == STRICT => outcome(self.value(*kind, &order[1..])),
             _ => Some(orders::answer(order, self.kept)),
         }
     }
@@ -115,6 +143,14 @@ impl Session {
                 fields.end()?;
                 Ok(term(within_nodes(MET, || solver.resolve(&whole))))
             }
+            RANGED => {
+                let (site, _) = (fields.number()?, fields.code()?);
+                let (low, high) = (Bound::read(&mut fields)?, Bound::read(&mut fields)?);
+                fields.end()?;
+                refuse_bounds(&low, &high)?;
+                self.place(Place::Expression(site, 1))?;
+                Ok(None)
+            }
             6 => {
                 fields.end()?;
                 Ok(within_nodes(MET, || solver.apply_numeric_defaults()).map(|bound| vec![bound.into()]))
@@ -149,7 +185,12 @@ pub fn run(data: &[u8], room: usize) -> (u8, u32, Vec<u8>) {
             return (10, answered, out);
         };
         let Some(answer) = session.answer(order) else {
-            return (if order.first() == Some(&STRICT) { NOT_IN_RUST } else { LEFT }, answered, out);
+            let reason = match order.first() {
+                Some(&RANGED) => RANGE_NOT_IN_RUST,
+                Some(&STRICT) => NOT_IN_RUST,
+                _ => LEFT,
+            };
+            return (reason, answered, out);
         };
         let mut framed = Vec::new();
         put_number(&mut framed, answer.len());

@@ -3,7 +3,7 @@
 use crate::format::{Read, Reader};
 use crate::kagari::TypeId;
 use crate::orders;
-use crate::sheets::{LEFT, NOT_IN_RUST};
+use crate::sheets::{LEFT, NOT_IN_RUST, RANGE_NOT_IN_RUST};
 use std::collections::BTreeMap;
 
 const QUESTIONS: [&str; 7] = ["never", "integer", "concrete", "unresolved", "unknown", "self type", "projection"];
@@ -33,6 +33,7 @@ impl Tables {
         match reason {
             LEFT => self.count(format!("left {family}")),
             NOT_IN_RUST => self.count(format!("strict {family}")),
+            RANGE_NOT_IN_RUST => self.count(format!("ranged {family}")),
             _ => self.count(format!("reason {reason}")),
         }
         for (order, answer) in orders_of(sheet).0.iter().zip(orders_of(answers).0) {
@@ -47,7 +48,7 @@ impl Tables {
     fn add_order(&mut self, order: &[u8], answer: &[u8]) {
         let row = match order.first() {
             None => "empty".to_string(),
-            Some(kind) if *kind > 20 && *kind != 22 => "other".to_string(),
+            Some(kind) if *kind > 22 => "other".to_string(),
             Some(kind) => kind.to_string(),
         };
         self.count(format!("outcome {row} {}", answer[0]));

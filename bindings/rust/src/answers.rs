@@ -34,11 +34,13 @@ pub enum Refusal {
     Variables = 8,
     /// 9: orders 19 and 20 visit terms with more than 8,192 children.
     Children = 9,
+    /// 13: order 21 has a sign over 1, a low bound above the high one, or bounds that no integer type holds.
+    Bounds = 13,
 }
 
 impl Refusal {
-    /// All nine, by rising code.
-    pub const ALL: [Refusal; 9] = [
+    /// All ten, by rising code.
+    pub const ALL: [Refusal; 10] = [
         Refusal::Length,
         Refusal::Unlisted,
         Refusal::Number,
@@ -48,14 +50,15 @@ impl Refusal {
         Refusal::Nodes,
         Refusal::Variables,
         Refusal::Children,
+        Refusal::Bounds,
     ];
 
-    /// The outcome byte that stands for it, 1 to 9.
+    /// The outcome byte that stands for it, 1 to 9 or 13.
     pub fn code(self) -> u8 {
         self as u8
     }
 
-    /// The refusal that an outcome byte stands for; none for 0 and for bytes above 9.
+    /// The refusal that an outcome byte stands for; none for 0 and for bytes that stand for none.
     pub fn from_code(code: u8) -> Option<Self> {
         Self::ALL.into_iter().find(|refusal| refusal.code() == code)
     }
@@ -73,6 +76,9 @@ impl fmt::Display for Refusal {
             Refusal::Nodes => "kept nodes and this order's nodes exceed 2,048",
             Refusal::Variables => "a new variable while 512 exist",
             Refusal::Children => "more than 8,192 children visited",
+            Refusal::Bounds => {
+                "a sign over 1, a low bound above the high one, or no integer type that holds both"
+            }
         })
     }
 }
@@ -89,7 +95,7 @@ pub enum Outcome {
 }
 
 impl Outcome {
-    /// The outcome that a byte stands for; none for bytes above 9.
+    /// The outcome that a byte stands for; none for bytes that stand for none.
     pub fn from_code(code: u8) -> Option<Self> {
         match code {
             0 => Some(Outcome::Done),
@@ -181,16 +187,18 @@ mod tests {
     use super::*;
 
     #[test]
-    fn codes_are_1_to_9() {
+    fn codes_are_1_to_9_and_13() {
         let codes: Vec<u8> = Refusal::ALL.iter().map(|refusal| refusal.code()).collect();
-        assert_eq!(codes, [1, 2, 3, 4, 5, 6, 7, 8, 9]);
+        assert_eq!(codes, [1, 2, 3, 4, 5, 6, 7, 8, 9, 13]);
         assert_eq!(Outcome::from_code(0), Some(Outcome::Done));
         for refusal in Refusal::ALL {
             let outcome = Outcome::from_code(refusal.code());
             assert_eq!(outcome, Some(Outcome::Refused(refusal)));
         }
         assert_eq!(Refusal::from_code(0), None);
-        assert_eq!(Outcome::from_code(10), None);
+        for code in [10, 11, 12, 14, 255] {
+            assert_eq!(Outcome::from_code(code), None);
+        }
     }
 
     #[test]

@@ -35,7 +35,8 @@ fn outcome(order: &[u8]) -> Outcome {
 fn refusals_in_reading() {
     assert_eq!(outcome(&[]), Outcome::Refused(Refusal::Length));
     assert_eq!(outcome(&[8, 0]), Outcome::Refused(Refusal::Length));
-    assert_eq!(outcome(&[21]), Outcome::Refused(Refusal::Unlisted));
+    assert_eq!(outcome(&[21]), Outcome::Refused(Refusal::Length));
+    assert_eq!(outcome(&[23]), Outcome::Refused(Refusal::Unlisted));
     assert_eq!(outcome(&[15, 20]), Outcome::Refused(Refusal::Unlisted));
     assert_eq!(outcome(&[2, 0x80, 0x00]), Outcome::Refused(Refusal::Number));
     assert_eq!(
@@ -43,6 +44,22 @@ fn refusals_in_reading() {
         Outcome::Refused(Refusal::Members)
     );
     assert_eq!(outcome(&[5, 1, 0]), Outcome::Refused(Refusal::NotIssued));
+}
+
+#[test]
+fn bounds() {
+    assert_eq!(outcome(&[21, 0, 2, 1, 0, 1, 0, 0, 100]), Outcome::Done);
+    // A sign of 2, 1 to 0, and -1 to 2^63.
+    for bounds in [
+        &[2, 0, 0, 0, 0, 1][..],
+        &[0, 0, 1, 0, 0, 0],
+        &[1, 0, 1, 0, 0x80, 0x80, 0x80, 0x80, 0x08, 0],
+    ] {
+        assert_eq!(
+            outcome(&order(&[21, 0, 2], bounds)),
+            Outcome::Refused(Refusal::Bounds)
+        );
+    }
 }
 
 #[test]

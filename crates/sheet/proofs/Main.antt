@@ -46,7 +46,7 @@ use Rattle.sheet.specs.Demand3.{ByteStrings, InFragment, PairsInFragment
 use Rattle.sheet.specs.MixedPairs.{PosedInMix}
 use Rattle.sheet.specs.PairsAnswered.{SomePairAnswered}
 use Rattle.sheet.specs.RepeatedPairs.{repeated, PosedAgain}
-use Rattle.sheet.specs.RustBytes.{frames, AsTheRust, AllSolved}
+use Rattle.sheet.specs.RustBytes.{frames, OfRustAlone, AsTheRust, AllSolved}
 use Rattle.sheet.specs.RobinsonBytes.{FirstOrder, PlainOrder, AnsweredSo, DecidesOrders}
 use Rattle.sheet.specs.Stopping.{behind, Stopped}
 use Rattle.sheet.specs.Entry.{finished, sizesAccepted, entryResult}
@@ -110,8 +110,8 @@ module _ (sheet out a b c d : List ℕ) (reason orders bytes : ℕ) (out′ a′
   module _ (octet : (i : ℕ) → getD sheet i 0 < 256) where
     -- DEMAND 2, THE RUST. "Everywhere in 01's domain answers equal the Rust's, byte by byte in 01's format": `Solver` of solver.rs answers those orders that are of
     -- kinds 0 to 8 and not refused with the same bytes. Where all are such, its answers are all that the call wrote. "The Rust is compared on order 4 alone"
-    -- (document 02): no pair was posed by order 22.
-    pub demand-2-rust : OnlyPosedBy documentLimits false served
+    -- (document 02), and it has no ranges: of the orders that were not refused none is 21 or 22.
+    pub demand-2-rust : OfRustAlone documentLimits served
         → (r : AsTheRust documentLimits served) × (AllSolved documentLimits fresh served → take bytes out′ ≡ frames (r .replies))
     demand-2-rust y =
         let r = rust-bytes documentLimits served (orders-bytes sheet (call.slice-bytes sheet octet) orders 0) y in

@@ -1,7 +1,8 @@
 -- The fields of an order, and what its bytes say of them: document 01, "Sheet".
 use mathlib.Core.List.{List, [], _∷_}
+use mathlib.Core.Option.{Option, none, some}
 use Prim.Native.Nat.{ℕ, zero, suc, _+_, _*_}
-use lib.Dec.{ltb}
+use lib.Dec.{eqb, leb, ltb}
 use lib.ListN.{length}
 use Rattle.solver.specs.Terms.Parser.{Parser, got, refused, pick, _>>=_, return, byte, number}
 use Rattle.solver.specs.Terms.Shape as shape
@@ -15,6 +16,7 @@ use Rattle.solver.specs.Terms.Rows as rows
 use Rattle.solver.specs.Terms.Rows.{entryRow, receiverRow, argumentRow}
 use Rattle.solver.specs.Terms.Parameters as order
 use Rattle.solver.specs.Terms.Lookup.{Pattern}
+use Rattle.solver.specs.Families.{Bound}
 
 -- what a field is
 pub data FieldSort : Type 0 where
@@ -80,6 +82,21 @@ numberOf (received rs) = 0
 numberOf (named ps) = 0
 numberOf (listed ts) = 0
 numberOf (ruled rs) = 0
+
+-- "a sign byte (0 or 1 for minus)": none for any other
+unfoldable pub signed : ℕ → ℕ → Option Bound
+signed b n = pick (leb b 1) (some (record { minus = eqb b 1; size = n })) none
+
+unfoldable pub boundOf : Field → Option Bound
+boundOf (bounded b n) = signed b n
+boundOf (value n) = none
+boundOf (tree t) = none
+boundOf (bare ps) = none
+boundOf (entered es) = none
+boundOf (received rs) = none
+boundOf (named ps) = none
+boundOf (listed ts) = none
+boundOf (ruled rs) = none
 
 unfoldable pub termOf : Field → Term
 termOf (tree t) = t
@@ -160,6 +177,9 @@ rulesOf (listed ts) = []
 
 abbrev pub numberAt : ℕ → List Field → ℕ
 numberAt i fs = numberOf (nth i fs)
+
+abbrev pub boundAt : ℕ → List Field → Option Bound
+boundAt i fs = boundOf (nth i fs)
 
 abbrev pub termAt : ℕ → List Field → Term
 termAt i fs = termOf (nth i fs)

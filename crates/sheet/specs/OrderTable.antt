@@ -8,10 +8,10 @@ use lib.Dec.{eqb}
 use Rattle.solver.specs.Terms.Parser.{Parser, Result, got, refused, pick, _>>=_, refuse, byte}
 use Rattle.solver.specs.Terms.Shape as shape
 use Rattle.solver.specs.Terms.Shape.{ceiling}
-use Rattle.solver.specs.Families.{requested}
+use Rattle.solver.specs.Families.{Bound, Request, requested, requestOf}
 use Rattle.solver.specs.Orders as solver
 use Rattle.solver.specs.Orders.{Command}
-use Rattle.sheet.specs.Fields.{FieldSort, ordinary, code, term, Field, numberAt, termAt, fields, last}
+use Rattle.sheet.specs.Fields.{FieldSort, ordinary, code, bound, term, Field, numberAt, boundAt, termAt, fields, last}
 
 -- "An answer is [..] an outcome byte (0 or a refusal), and on 0 the value"
 pub data Answer : Type 0 where
@@ -65,6 +65,24 @@ never-defaults = record { number = 7; layout = []; act = tells (λ fs. solver.ne
 abbrev pub revision : Row
 revision = record { number = 8; layout = []; act = tells (λ fs. solver.revision) }
 
+-- document 02: "Order 21 requests a number variable by site, fallback code, low and high". 13: "sign over 1, low above high, or no integer type holds both; after
+-- leftover bytes, before 7"
+unfoldable pub between : ℕ → Option Bound → Option Bound → Option Request
+between c (some low) (some high) = requestOf c low high
+between c (some low) none = none
+between c none h = none
+
+unfoldable pub asking : ℕ → Option Request → Command
+asking site (some r) = solver.number site r
+asking site none = solver.unread 13
+
+abbrev pub range-variable : Row
+range-variable = record {
+  number = 21;
+  layout = ordinary ∷ code ∷ bound ∷ bound ∷ [];
+  act = tells (λ fs. asking (numberAt 0 fs) (between (numberAt 1 fs) (boundAt 2 fs) (boundAt 3 fs)));
+}
+
 -- document 02: "Order 22 is order 4 with Set and Map access as part of the shape."
 abbrev pub constrain-strictly : Row
 constrain-strictly = record {
@@ -75,7 +93,8 @@ constrain-strictly = record {
 
 unfoldable pub sessionOrders : List Row
 sessionOrders =
-    variable ∷ number-variable ∷ annotation-hole ∷ defer-never ∷ constrain ∷ resolve ∷ numeric-defaults ∷ never-defaults ∷ revision ∷ constrain-strictly ∷ []
+    variable ∷ number-variable ∷ annotation-hole ∷ defer-never ∷ constrain ∷ resolve ∷ numeric-defaults ∷ never-defaults ∷ revision ∷ range-variable
+    ∷ constrain-strictly ∷ []
 
 -- ---- a row, by its number
 

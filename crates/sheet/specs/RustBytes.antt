@@ -1,12 +1,13 @@
--- The answers to orders 0 to 8 of a list, to be compared with the Rust's `Solver` byte by byte.
+-- The answers to orders 0 to 8 of a list, and to those that document 02 adds to the session's, to be compared with the Rust's `Solver` byte by byte.
 use mathlib.Core.Path.{_≡_}
-use mathlib.Core.Bool.{true}
+use mathlib.Core.Bool.{true, false}
 use mathlib.Core.List.{List, [], _∷_, _++_}
 use mathlib.Core.Option.{Option, none, some}
 use Prim.Native.Nat.{ℕ}
 use Rattle.solver.specs.Terms.Result.{pick}
 use Rattle.solver.specs.Session.{Limits, Session, fresh}
 use Rattle.solver.specs.Orders.{Command, Reply}
+use Rattle.solver.specs.Demand3.{Role, requesting, posing, defaulting, neither, role}
 use Rattle.solver.specs.Rust.{answers, default, given}
 use Rattle.sheet.specs.OrderTable.{Answer}
 use Rattle.sheet.specs.Sheet.{answerOf, orderOf, framed}
@@ -27,6 +28,21 @@ solvedOne (some c) a = pick (accepted a) (framed a) []
 unfoldable pub solvedTo : Limits → Session → List (List ℕ) → List ℕ
 solvedTo lim s [] = []
 solvedTo lim s (b ∷ bs) = solvedOne (command s b) (orderOf lim s b .answer) ++ solvedTo lim (orderOf lim s b .session) bs
+
+-- what the Rust has not: ranges, and pairs that are strict
+abbrev pub InRust : Role → Type 0
+InRust (requesting site r) = r .ranged ≡ false
+InRust (posing strict t u) = strict ≡ false
+InRust defaulting = Unit {0}
+InRust neither = Unit {0}
+
+abbrev pub AllInRust : List Command → Type 0
+AllInRust [] = Unit {0}
+AllInRust (c ∷ cs) = InRust (role c) × AllInRust cs
+
+-- of the orders of a list that are not refused none requests a range (21) or poses a strict pair (22): "The Rust is compared on order 4 alone"
+abbrev pub OfRustAlone : Limits → List (List ℕ) → Type 0
+OfRustAlone lim bs = AllInRust (given lim fresh (commands lim fresh bs))
 
 -- THE RUST'S SOLVER (`Solver` of solver.rs, line by line), given in turn those orders of a list that are of kinds 0 to 8 and not refused, comes to no panic, and
 -- its answers, in the sheet's format, are the sheet's answers to them.

@@ -157,7 +157,7 @@ fn pair_order(
     )
 }
 
-// Orders 0, 1, 2, 6, 7 and 8, which have no tokens.
+// Orders 0, 1, 2, 6, 7, 8 and 21, which have no tokens.
 fn plain_order(
     x: Solver,
     half: usize,

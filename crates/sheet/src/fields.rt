@@ -11,7 +11,7 @@ ghost use lib.ListN.{length};
 ghost use Rattle.solver.specs.Terms.Tokens.{area};
 ghost use Rattle.solver.specs.Terms.StepCodes.{place, stepOf};
 ghost use Rattle.sheet.specs.Fields.{field, code, bound, parameters};
-ghost use Rattle.sheet.specs.Words.FieldLayout.{plainOf, partOf, keysOf, signPlace, Free, Ample, PartDone, PlainDone, listField};
+ghost use Rattle.sheet.specs.Words.FieldLayout.{plainOf, partOf, keysOf, Free, Ample, PartDone, PlainDone, listField};
 ghost use Rattle.sheet.specs.Words.FieldsContract.{fieldOf, ReadAt};
 
 pub const ORDINARY: u64 = 4294967295;
@@ -37,19 +37,6 @@ fn code_field(s: &[u8], at: &mut usize, value: &mut u64) -> u8
     0
 }
 
-// A sign byte as the place of a bound's spot: 0 for plus, 1 for minus, 2 for any other.
-fn sign_place(b: u8) -> usize
-    ensures { λ r. ⌜ r ≡ signPlace b ⌝ }
-{
-    if b == 0 {
-        return 0;
-    }
-    if b == 1 {
-        return 1;
-    }
-    2
-}
-
 // A bound of a range: its sign, which may be any byte, and its size.
 fn bound_field(s: &[u8], at: &mut usize, value: &mut u64, start: &mut usize) -> u8
     requires { ⌜ now at ≤ length (now s) ⌝ }
@@ -60,7 +47,7 @@ fn bound_field(s: &[u8], at: &mut usize, value: &mut u64, start: &mut usize) -> 
     if s.len() <= i {
         return 1;
     }
-    *start = sign_place(s[i]);
+    *start = s[i] as usize;
     *at = i + 1;
     let a = number_at(s, at, value, ORDINARY);
     if a != 0 {

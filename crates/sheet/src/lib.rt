@@ -47,18 +47,20 @@ pub struct Order {
     pub nodes: usize,
 }
 
-// An order for a variable: that of a site and a slot (order 0), a number variable of a site with its fallback (1), a hole of a site (2).
+// An order for a variable: that of a site and a slot (order 0), a number variable of a site with the word of its request (1 and 21), a hole of a site (2).
 pub enum VariableOrder {
     Slot(u32, u32),
     Number(u32, u32),
     Hole(u32),
 }
 
-// An order without terms: for a variable (orders 0, 1 and 2), the defaults of numbers (6) or with true of deferred variables (7), the revision (8).
+// An order without terms: for a variable (orders 0, 1, 2 and 21), the defaults of numbers (6) or with true of deferred variables (7), the revision (8); or a
+// refusal for what its fields say.
 pub enum TermlessOrder {
     Variable(VariableOrder),
     Defaults(bool),
     Revision,
+    Refusal(u8),
 }
 
 // What reading an order finds, or the refusal.

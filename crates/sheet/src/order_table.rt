@@ -24,6 +24,7 @@ pub fn row_of(kind: u8) -> OrderRow
         6 => OrderRow::Listed(Class::Session, 0),
         7 => OrderRow::Listed(Class::Session, 0),
         8 => OrderRow::Listed(Class::Session, 0),
+        21 => OrderRow::Listed(Class::Session, 11110301),
         22 => OrderRow::Listed(Class::Session, 40401),
         9 => OrderRow::Listed(Class::Operation, 404),
         10 => OrderRow::Listed(Class::Operation, 404),

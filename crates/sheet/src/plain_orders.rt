@@ -1,5 +1,6 @@
-// Orders 0, 1, 2, 6, 7 and 8 on what the solver is lent: the tokens, the table, and the work area, all 0.
+// Orders 0, 1, 2, 6, 7, 8 and 21 on what the solver is lent: the tokens, the table, and the work area, all 0.
 use super::AfterOrder;
+use super::FieldSpot;
 use super::Order;
 use super::TermlessOrder;
 use super::VariableOrder;
@@ -11,28 +12,33 @@ use solver::Named;
 use solver::Site;
 use solver::Solver;
 use solver::Subject;
+use solver::plain_request;
+use solver::range_request;
 use solver::variable_len;
 use solver::write_variable;
 ghost use mathlib.Core.Path.{_≡_};
 ghost use mathlib.Core.Bool.{not};
 ghost use mathlib.Core.List.{List};
+ghost use mathlib.Core.Option.{Option, some};
 ghost use Prim.Native.Nat.{ℕ, _<_};
 ghost use lib.Dec.{eqb};
 ghost use Rattle.solver.specs.Terms.Term.{Term, var, bytes};
+ghost use Rattle.solver.specs.Families.{Request, requested};
 ghost use Rattle.solver.specs.Session.{Session, issued};
 ghost use Rattle.solver.specs.Invariant.{InOrder};
 ghost use Rattle.solver.specs.Orders as orders;
 ghost use Rattle.solver.specs.Words.Worklist.{Zero};
-ghost use Rattle.solver.specs.Words.SessionRepresentation.{Represents, limitsOf};
+ghost use Rattle.solver.specs.Words.SessionRepresentation.{HeldRequest, Represents, limitsOf};
 ghost use Rattle.solver.specs.Words.MethodContract.{Beside};
 ghost use Rattle.solver.specs.Words.OrderTerms.{Asked, Frames, resolvedTo};
-ghost use Rattle.sheet.specs.OrderTable.{outcome};
+ghost use Rattle.sheet.specs.OrderTable.{outcome, between, asking};
 ghost use Rattle.sheet.specs.Operations.{bit};
 ghost use Rattle.sheet.specs.Sheet.{solve};
+ghost use Rattle.sheet.specs.Words.FieldLayout.{spotBound};
 ghost use Rattle.sheet.specs.Words.OperationsContract.{plainOrders, Asks};
 ghost use Rattle.sheet.specs.Words.FramingContract.{OutputRoom, outputAt, Framed};
-ghost use Rattle.sheet.specs.Words.SessionOrdersContract.{lent, Does, Says, defaultsBy, variableCommand, siteOf, FallbackListed};
-ghost use Rattle.sheet.specs.Words.SessionOrdersContract.{variableAnswer, termlessCommand, TermlessListed};
+ghost use Rattle.sheet.specs.Words.SessionOrdersContract.{lent, Does, Says, defaultsBy, variableCommand, siteOf, RequestTold};
+ghost use Rattle.sheet.specs.Words.SessionOrdersContract.{variableAnswer, termlessCommand, TermlessTold};
 
 // Whether the revision is another, as a byte.
 fn changed_byte(old: usize, new: usize) -> u8
@@ -150,7 +156,7 @@ fn site_of(wanted: VariableOrder) -> Site
     }
 }
 
-// The answer for the variable v: order 0 answers the variable itself, orders 1 and 2 what it resolves to.
+// The answer for the variable v: order 0 answers the variable itself, the others what it resolves to.
 fn answer_variable(
     x: Solver,
     kinds: &[u32],
@@ -188,7 +194,7 @@ fn answer_variable(
 // The variable is issued, where the place has none; a number variable is requested.
 fn issue_variable(x: Solver, tables: &mut [u32], wanted: VariableOrder) -> Solver
     requires held { ⌜ ((ks vs : List ℕ) × (z : Session) × Represents x ks vs (now tables) z) ⌝ }
-    requires fallback { ⌜ FallbackListed wanted ⌝ }
+    requires fallback { ⌜ RequestTold wanted ⌝ }
     ensures held { λ r. ⌜ ((ks vs : List ℕ) (z : Session) → Represents x ks vs (now (tables .entry)) z
         → Represents r ks vs (now (tables .exit)) (solve (limitsOf x) z (variableCommand wanted) .session)) ⌝ }
     ensures beside { λ r. ⌜ Beside x r (now (tables .entry)) (now (tables .exit)) ⌝ }
@@ -198,8 +204,8 @@ fn issue_variable(x: Solver, tables: &mut [u32], wanted: VariableOrder) -> Solve
             let y = x.variable(tables, site, slot);
             y.solver
         }
-        VariableOrder::Number(site, fallback) => {
-            let y = x.numeric_variable(tables, site, fallback);
+        VariableOrder::Number(site, request) => {
+            let y = x.numeric_variable(tables, site, request);
             y.solver
         }
         VariableOrder::Hole(site) => {
@@ -209,7 +215,7 @@ fn issue_variable(x: Solver, tables: &mut [u32], wanted: VariableOrder) -> Solve
     }
 }
 
-// Orders 0, 1 and 2.
+// Orders 0, 1, 2 and 21.
 fn variable_order(
     x: Solver,
     kinds: &[u32],
@@ -221,7 +227,7 @@ fn variable_order(
     to: usize,
 ) -> AfterOrder
     requires held { ⌜ ((z : Session) × Represents x (now kinds) (now vals) (now tables) z) ⌝ }
-    requires areas { ⌜ FallbackListed wanted × Frames x (now frames) ⌝ }
+    requires areas { ⌜ RequestTold wanted × Frames x (now frames) ⌝ }
     requires room { ⌜ OutputRoom (now out) to ⌝ }
     ensures clear { λ _. ⌜ Zero (now (frames .exit)) ⌝ }
     ensures does { λ r. ⌜ ((z : Session) → Represents x (now (kinds .entry)) (now (vals .entry)) (now (tables .entry)) z
@@ -240,20 +246,60 @@ fn variable_order(
     AfterOrder { solver: y, next }
 }
 
+// The word of what an order 21 requests, of its fallback and the spots of its bounds: 0 where it is refused.
+fn range_word(fallback: u32, low: FieldSpot, high: FieldSpot) -> u32
+    requires { ⌜ fallback < 32 ⌝ }
+    ensures { λ r. ⌜ HeldRequest (between fallback (spotBound low) (spotBound high)) r ⌝ }
+{
+    if 1 < low.place {
+        return 0;
+    }
+    if 1 < high.place {
+        return 0;
+    }
+    range_request(
+        fallback,
+        low.place == 1,
+        low.value,
+        high.place == 1,
+        high.value,
+    )
+}
+
+// The word of what an order 1 or 21 requests: 0 where it is refused.
+fn request_word(o: Order, fallback: u32) -> u32
+    requires { ⌜ fallback < 32 ⌝ }
+    ensures plain { λ r. ⌜ (o .kind ≡ 1 → HeldRequest (some (requested fallback)) r) ⌝ }
+    ensures range { λ r. ⌜ ((o .kind ≡ 1 → ⊥) → HeldRequest (between fallback (spotBound (o .third)) (spotBound (o .fourth))) r) ⌝ }
+{
+    if o.kind == 1 {
+        return plain_request(fallback);
+    }
+    range_word(fallback, o.third, o.fourth)
+}
+
+// An order for the number variable of a site, or the refusal 13.
+fn number_order(site: u32, word: u32) -> TermlessOrder
+    ensures command { λ r. ⌜ ((q : Option Request) → HeldRequest q word → termlessCommand r ≡ asking site q) ⌝ }
+    ensures told { λ r. ⌜ ((q : Option Request) → HeldRequest q word → TermlessTold r) ⌝ }
+{
+    if word == 0 {
+        return TermlessOrder::Refusal(13);
+    }
+    TermlessOrder::Variable(VariableOrder::Number(site, word))
+}
+
 // What an order without terms says.
 pub fn termless_of(o: Order) -> TermlessOrder
     requires { ⌜ ((ks vs s ws : List ℕ) × Asks ks vs s ws plainOrders o) ⌝ }
     ensures command { λ r. ⌜ ((ks vs s ws : List ℕ) → Says ks vs s ws o (termlessCommand r)) ⌝ }
-    ensures listed { λ r. ⌜ TermlessListed r ⌝ }
+    ensures told { λ r. ⌜ TermlessTold r ⌝ }
 {
     let kind = o.kind;
     let first = o.first.value as u32;
     let second = o.second.value as u32;
     if kind == 0 {
         return TermlessOrder::Variable(VariableOrder::Slot(first, second));
-    }
-    if kind == 1 {
-        return TermlessOrder::Variable(VariableOrder::Number(first, second));
     }
     if kind == 2 {
         return TermlessOrder::Variable(VariableOrder::Hole(first));
@@ -264,10 +310,13 @@ pub fn termless_of(o: Order) -> TermlessOrder
     if kind == 7 {
         return TermlessOrder::Defaults(true);
     }
-    TermlessOrder::Revision
+    if kind == 8 {
+        return TermlessOrder::Revision;
+    }
+    number_order(first, request_word(o, second))
 }
 
-// Orders 0, 1, 2, 6, 7 and 8.
+// Orders 0, 1, 2, 6, 7, 8 and 21.
 pub fn termless_order(
     x: Solver,
     what: TermlessOrder,
@@ -279,7 +328,7 @@ pub fn termless_order(
     to: usize,
 ) -> AfterOrder
     requires held { ⌜ ((z : Session) × InOrder (issued z) (z .solver) × Represents x (now kinds) (now vals) (now tables) z) ⌝ }
-    requires areas { ⌜ TermlessListed what × Frames x (now frames) ⌝ }
+    requires areas { ⌜ TermlessTold what × Frames x (now frames) ⌝ }
     requires room { ⌜ OutputRoom (now out) to ⌝ }
     ensures clear { λ _. ⌜ Zero (now (frames .exit)) ⌝ }
     ensures does { λ r. ⌜ ((z : Session) → InOrder (issued z) (z .solver) → Represents x (now (kinds .entry)) (now (vals .entry)) (now (tables .entry)) z
@@ -292,5 +341,9 @@ pub fn termless_order(
         }
         TermlessOrder::Defaults(never) => default_order(x, never, kinds, vals, tables, out, to),
         TermlessOrder::Revision => revision_order(x, out, to),
+        TermlessOrder::Refusal(code) => {
+            let next = write_refusal(out, to, code);
+            AfterOrder { solver: x, next }
+        }
     }
 }

@@ -1,17 +1,18 @@
--- Demand 3 over lists of orders 0 to 8 and 22, on terms: its premises, its two sentences, and what document 02 says of lists that mix orders 4 and 22.
+-- Demand 3 over lists of orders 0 to 8, 21 and 22, on terms: its premises, its two sentences, and what document 02 says of lists that mix orders 4 and 22
+-- and of numeric defaults after such a list.
 use mathlib.Core.Path.{_≡_}
 use mathlib.Core.Bool.{Bool, true, false, _||_}
 use mathlib.Core.List.{List, [], _∷_}
-use mathlib.Core.Logic.{_↔_}
+use mathlib.Core.Logic.{_↔_, _⊎_}
 use mathlib.Core.Option.{Option, none, some}
 use Prim.Native.Nat.{ℕ, _<_}
-use lib.Dec.{eqb}
+use lib.Dec.{eqb, ltb}
 use Rattle.terms.specs.Result.{pick}
 use Rattle.terms.specs.Term.{Term, var, node}
 use Rattle.terms.specs.Questions.{among, meets}
 use Rattle.terms.specs.Formed.{Formed}
 use Rattle.unify.specs.Solver.{put}
-use Rattle.solver.specs.Families.{Request, belongs}
+use Rattle.solver.specs.Families.{Bound, Request, requested, requestOf, belongs}
 use Rattle.solver.specs.Shapes.{Notion, notion, readAll}
 use Rattle.solver.specs.Constrain.{Pair, replace, resolved, always, occurs}
 use Rattle.solver.specs.Session.{Limits, at, Session, issued, find, fresh}
@@ -56,7 +57,7 @@ placed (some v) n = v
 -- ---- what an order is to the demand
 
 pub data Role : Type 0 where
-  -- order 1: a site, and what its fallback requests
+  -- orders 1 and 21: a site, and what is requested
   requesting : ℕ → Request → Role
   -- orders 4 and 22: whether it is strict, its two terms
   posing : Bool → Term → Term → Role
@@ -77,7 +78,8 @@ role nevers = defaulting
 role revision = neither
 role (unread r) = neither
 
--- "Only orders answered with outcome 0 issue, request and pose": an order 1 requests of the variable of its place, or of the next one,
+-- "Only orders answered with outcome 0 issue, request and pose": an order 1 requests of the variable of its place, or of the next one ("among the
+-- premises order 21 counts as order 1"),
 unfoldable pub requestedBy : Session → (ℕ → Option Request) → Role → Bool → ℕ → Option Request
 requestedBy s f (requesting site r) b = pick b (put f (placed (find (at site 1) (s .places)) (issued s)) (some r)) f
 requestedBy s f (posing a t u) b = f
@@ -124,7 +126,8 @@ VariableFree t = meets isVariable always t ≡ false
 abbrev pub Assigns : ℕ → (ℕ → Term) → Type 0
 Assigns N θ = (v : ℕ) → v < N → Formed (θ v) × VariableFree (θ v)
 
--- "true to the families if each requested number variable gets a builtin of its family"
+-- "true to the families if each requested number variable gets a builtin of its family"; "the types so requested are the variable's family, whatever its
+-- fallback"
 abbrev pub RespectsFamilies : (ℕ → Term) → (ℕ → Option Request) → Type 0
 RespectsFamilies θ requests = (v : ℕ) (r : Request) → requests v ≡ some r → belongs (r .family) (θ v) ≡ true
 
@@ -186,6 +189,41 @@ abbrev pub Unequal : History → Bool → Term → Term → Type 0
 Unequal h b t u = (θ : ℕ → Term) → Assigns (issued (h .session)) θ → RespectsFamilies θ (h .requests) → AgreesExactly θ (h .session)
     → ¬ EqualUpToAccess (notion b) (replace θ t) (replace θ u)
 
+-- ---- defaults after compatible pairs
+
+-- of order 1: "fallbacks are integers or F64" (a range may have any)
+unfoldable pub integerOrF64 : ℕ → Bool
+integerOrF64 c = ltb c 8 || eqb c 9
+
+-- what the bytes of an order request: 1 a code, 21 a range
+abbrev pub RequestMade : Request → Type 0
+RequestMade r = (r ≡ requested (r .fallback)) ⊎ ((low : Bound) × (high : Bound) × (requestOf (r .fallback) low high ≡ some r))
+
+abbrev pub ProperRole : Role → Type 0
+ProperRole (requesting site r) = RequestMade r
+ProperRole (posing b t u) = Unit {0}
+ProperRole defaulting = Unit {0}
+ProperRole neither = Unit {0}
+
+abbrev pub AllProper : List Command → Type 0
+AllProper [] = Unit {0}
+AllProper (c ∷ cs) = ProperRole (role c) × AllProper cs
+
+abbrev pub Fallbacks : (ℕ → Option Request) → Type 0
+Fallbacks requests = (v : ℕ) (r : Request) → requests v ≡ some r → r .ranged ≡ false → integerOrF64 (r .fallback) ≡ true
+
+-- "if every pair was compatible then numeric defaults still leave an assignment that satisfies them all, and every number variable has a type admitted
+-- by its own request": h is the history of the list, z the session after an order 6 that follows it
+pub record Filled (h : History) (z : Session) : Type 0 where
+  -- an assignment is left that agrees with what the variables resolve to now
+  pub left : (θ : ℕ → Term) × Assigns (issued z) θ × RespectsFamilies θ (h .requests) × AgreesExactly θ z
+  -- each such makes every pair equal by the order that posed it
+  pub satisfies : (θ : ℕ → Term) → RespectsFamilies θ (h .requests) → AgreesExactly θ z → EachBy θ (h .by) (h .posed)
+  -- who agrees up to access with what the variables resolve to now agreed before, so that the second sentence speaks of it
+  pub agrees : (n : Notion) (θ : ℕ → Term) → Agrees n θ z → Agrees n θ (h .session)
+  -- its own request is that of order 1 or 21, not what joins left of it
+  pub typed : (v : ℕ) (r : Request) → h .requests v ≡ some r → belongs (r .family) (resolved (z .solver) (var v)) ≡ true
+
 -- ---- the premises
 
 -- "pairs free of Unknown, Error and projections"
@@ -211,7 +249,7 @@ module _ (lim : Limits) where
   history h (c ∷ cs) = history (after h c) cs
 
   -- Of an order where it stands, in the session s, that leaves the session y: "each number place requested once and not issued earlier" (an order 1
-  -- refused with 8 has such a place too), and "no default that bound a variable": "A default bound a variable where order 6 or 7 leaves another revision
+  -- refused with 8 has such a place too; 21 as 1), and "no default that bound a variable": "A default bound a variable where order 6 or 7 leaves another revision
   -- than it found"
   abbrev pub AllowedBy : Session → Role → Session → Type 0
   AllowedBy s (requesting site r) y = find (at site 1) (s .places) ≡ none

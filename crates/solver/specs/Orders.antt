@@ -1,4 +1,4 @@
--- Orders 0 to 8 and 22 on a session: the session after an order, and its answer.
+-- Orders 0 to 8, 21 and 22 on a session: the session after an order, and its answer.
 use mathlib.Core.Bool.{Bool, true, false, not, _&&_}
 use mathlib.Core.List.{List, [], _∷_}
 use mathlib.Core.Option.{Option, none, some}
@@ -16,7 +16,7 @@ use Rattle.solver.specs.Session.{Limits, VariablePlace, at, gap, Session
 pub data Command : Type 0 where
   -- 0: site, slot
   variable : ℕ → ℕ → Command
-  -- 1: site, what is requested: `requested` of the fallback code
+  -- 1 and 21: site, what is requested: `requested` of the fallback code, or a range's request
   number : ℕ → Request → Command
   -- 2: site
   hole : ℕ → Command

@@ -79,18 +79,18 @@ keep s z n = record { solver = z; places = s .places; deferred = s .deferred; ke
 abbrev pub never : Term
 never = node 4 (num 10 end)
 
--- the variable that a variable leads to, if it leads to one, is bound
-unfoldable pub settleAt : Solver → Term → Term → Solver
-settleAt z d (var w) = record { bindings = put (z .bindings) w (some d); requests = z .requests; revision = suc (z .revision) }
+-- the variable w that a variable leads to, if it leads to one, is bound to d w
+unfoldable pub settleAt : Solver → (ℕ → Term) → Term → Solver
+settleAt z d (var w) = record { bindings = put (z .bindings) w (some (d w)); requests = z .requests; revision = suc (z .revision) }
 settleAt z d (node k ps) = z
 
 unfoldable pub numericAt : Solver → ℕ → Option Request → Solver
 numericAt z v none = z
-numericAt z v (some r) = settleAt z (defaultOf r) (top z (var v))
+numericAt z v (some r) = settleAt z (λ w. defaultOf r (z .requests w)) (top z (var v))
 
 unfoldable pub neverAt : Solver → ℕ → Bool → Solver
 neverAt z v false = z
-neverAt z v true = settleAt z never (top z (var v))
+neverAt z v true = settleAt z (λ w. never) (top z (var v))
 
 -- `apply_numeric_defaults` and `apply_never_defaults`: "by rising id"; n variables from v on
 unfoldable pub numericDefaults : ℕ → ℕ → Solver → Solver

@@ -1,5 +1,7 @@
 // Orders 3, 6 and 7: deferrals and defaults. The builtin with the code c stands at 2 * c of the areas.
 use super::Solver;
+use super::families::family_mask;
+use super::families::has;
 use super::resolving::named_run;
 use super::top::shallow_resolve;
 use super::words::wide;
@@ -8,13 +10,14 @@ ghost use mathlib.Core.Option.{Option};
 ghost use Prim.Native.Nat.{ℕ, _+_, _*_, _^_, _≤_, _<_};
 ghost use lib.ListN.{length, take};
 ghost use Rattle.terms.specs.Term.{Term, var};
+ghost use Rattle.solver.specs.Families.{Family, admits, Request, preference, firstOf, taken};
 ghost use Rattle.solver.specs.Constrain.{follow, resolved};
 ghost use Rattle.solver.specs.Session.{Session, issued, withSolver, deferring};
 ghost use Rattle.solver.specs.Orders as orders;
 ghost use Rattle.solver.specs.Words.Bindings.{HeldBindings};
-ghost use Rattle.solver.specs.Words.SessionRepresentation.{limitsOf, Represents};
+ghost use Rattle.solver.specs.Words.SessionRepresentation.{limitsOf, bit, RequestWord, requestIn, HeldRequest, Represents};
 ghost use Rattle.solver.specs.Words.OrderTerms.{Poses};
-ghost use Rattle.solver.specs.Words.MethodContract.{Shaped, Beside, Low, EndsAt, settleWord, defaultWord, defaulted};
+ghost use Rattle.solver.specs.Words.MethodContract.{Shaped, Beside, Low, EndsAt, defaultWord, endWord, endMask, defaultAt, defaulted};
 
 // The variable at the end of the chain of bindings from v on, or the length of the table where the chain ends at no variable of the table.
 pub fn root_of(kinds: &[u32], vals: &[u32], bound: &[u32], most: usize, v: usize) -> usize
@@ -44,9 +47,9 @@ pub fn root_of(kinds: &[u32], vals: &[u32], bound: &[u32], most: usize, v: usize
     w
 }
 
-// The word that names the default of the variable v: with `never` that of Never, if v is deferred, else that of its fallback, if it has one.
-fn default_word(tables: &[u32], m: usize, v: usize, never: bool) -> usize
-    requires { ⌜ (v < m) × (7 * m ≤ length (now tables)) × (m < 2 ^ 32) ⌝ }
+// The word that the default of the variable v goes by: with `never` that of Never, if v is deferred, else its request's.
+fn default_word(tables: &[u32], m: usize, v: usize, never: bool) -> u32
+    requires { ⌜ (v < m) × (7 * m ≤ length (now tables)) ⌝ }
     ensures { λ r. ⌜ r ≡ defaultWord never m (now (tables .entry)) v ⌝ }
 {
     if never {
@@ -55,7 +58,77 @@ fn default_word(tables: &[u32], m: usize, v: usize, never: bool) -> usize
         }
         return 11;
     }
-    wide(tables[m + v])
+    tables[m + v]
+}
+
+// The word at the end w of its chain, 0 with `never`.
+fn end_word(tables: &[u32], m: usize, w: usize, never: bool) -> u32
+    requires { ⌜ (w < m) × (7 * m ≤ length (now tables)) ⌝ }
+    ensures { λ r. ⌜ r ≡ endWord never m (now (tables .entry)) w ⌝ }
+{
+    if never {
+        return 0;
+    }
+    tables[m + w]
+}
+
+// The first type of a mask in the order of preference, or the fallback.
+fn first_of(mask: u32, fallback: u32) -> u32
+    requires { ⌜ fallback < 32 ⌝ }
+    ensures { λ r. ⌜ ((f : Family) → ((c : ℕ) → admits f c ≡ bit mask c) → r ≡ firstOf fallback f preference) × (r < 32) ⌝ }
+{
+    if has(mask, 2) {
+        return 2;
+    }
+    if has(mask, 3) {
+        return 3;
+    }
+    if has(mask, 6) {
+        return 6;
+    }
+    if has(mask, 7) {
+        return 7;
+    }
+    if has(mask, 0) {
+        return 0;
+    }
+    if has(mask, 4) {
+        return 4;
+    }
+    if has(mask, 1) {
+        return 1;
+    }
+    if has(mask, 5) {
+        return 5;
+    }
+    fallback
+}
+
+// What is admitted at the end of a chain: by its word, or by the own one where it has none.
+fn end_mask(own: u32, last: u32) -> u32
+    ensures { λ r. ⌜ r ≡ endMask own last ⌝ }
+{
+    if last == 0 {
+        return family_mask(own);
+    }
+    family_mask(last)
+}
+
+// The code that a numeric default takes, by the word of the variable whose turn it is and by that of the end of its chain. With a range a word is 64 or
+// more.
+fn default_code(own: u32, last: u32) -> u32
+    requires { ⌜ 0 < own ⌝ }
+    ensures { λ r. ⌜ ((o : Option Request) → RequestWord own → HeldRequest o last → r ≡ taken (requestIn own) o) × (r < 32) ⌝ }
+{
+    let fallback = (own - 1) % 32;
+    if (own | last) < 64 {
+        return fallback;
+    }
+    let mask = end_mask(own, last);
+    if has(mask, fallback) {
+        return fallback;
+    }
+    first_of(mask, fallback)
 }
 
 impl Solver {
@@ -81,39 +154,37 @@ impl Solver {
         self
     }
 
-    // Binds the variable that v leads to, if it leads to one, to the builtin that a word names: 0 names none, c + 1 the one with the code c.
+    // The default of the variable v: the variable that it leads to, if it leads to one, is bound to a builtin.
     pub fn bind_default(
         mut self,
         kinds: &[u32],
         vals: &[u32],
         tables: &mut [u32],
         v: usize,
-        word: usize,
+        never: bool,
     ) -> Solver
         requires shape { ⌜ Shaped self (length (now tables)) ⌝ }
         requires areas { ⌜ (v < self .variables) × (self .revision < 2 ^ 33) × (length (now vals) ≡ length (now kinds)) ⌝ }
         ensures held { λ r. ⌜
             ((s : Session)
-            → word ≤ 32
             → Represents self (now (kinds .entry)) (now (vals .entry)) (now (tables .entry)) s
             → Low (self .variables) (s .solver .bindings)
-            → Represents r (now (kinds .entry)) (now (vals .entry)) (now (tables .exit)) (withSolver s (settleWord (s .solver) v word))) ⌝ }
+            → Represents r (now (kinds .entry)) (now (vals .entry)) (now (tables .exit)) (withSolver s (defaultAt never s v))) ⌝ }
         ensures steps { λ r. ⌜ (r .revision ≤ self .revision + 1) × (r .issued ≡ self .issued) ⌝ }
         ensures beside { λ r. ⌜ Beside self r (now (tables .entry)) (now (tables .exit)) ⌝ }
     {
+        let m = self.variables;
+        let word = default_word(tables, m, v, never);
         if word == 0 {
             return self;
         }
-        if 32 < word {
-            return self;
-        }
-        let m = self.variables;
         let most = self.revision;
         let w = root_of(kinds, vals, &tables[..m], most, v);
         if m <= w {
             return self;
         }
-        tables[w] = (2 * word - 1) as u32;
+        let code = default_code(word, end_word(tables, m, w, never));
+        tables[w] = 2 * code + 1;
         self.revision = most + 1;
         self
     }
@@ -135,18 +206,16 @@ impl Solver {
             → Represents r (now (kinds .entry)) (now (vals .entry)) (now (tables .exit)) (withSolver s (defaulted never (issued s) s))) ⌝ }
         ensures beside { λ r. ⌜ Beside self r (now (tables .entry)) (now (tables .exit)) ⌝ }
     {
-        let m = self.variables;
         let n = self.issued;
         let mut v = 0;
         while v < n {
-            let word = default_word(tables, m, v, never);
-            self = self.bind_default(kinds, vals, tables, v, word);
+            self = self.bind_default(kinds, vals, tables, v, never);
             v += 1;
         }
         self
     }
 
-    // Order 6: each number variable takes its fallback.
+    // Order 6: each number variable takes its default.
     pub fn apply_numeric_defaults(
         mut self,
         kinds: &[u32],

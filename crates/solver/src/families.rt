@@ -7,13 +7,13 @@ ghost use mathlib.Core.Option.{some};
 ghost use Prim.Native.Nat.{ℕ, _+_, _*_, _^_, _≤_, _<_};
 ghost use lib.ListN.{length, getD};
 ghost use Rattle.terms.specs.Term.{Term, Held};
-ghost use Rattle.solver.specs.Families.{familyOf, belongs};
+ghost use Rattle.solver.specs.Families.{belongs};
 ghost use Rattle.solver.specs.Constrain.{Requests, admit};
 ghost use Rattle.solver.specs.Session.{Session, withSolver};
-ghost use Rattle.solver.specs.Words.SessionRepresentation.{requestWords, HeldRequest, Represents};
-ghost use Rattle.solver.specs.Words.MethodContract.{Shaped, Beside, is-some, boundTo, atMost, Handed};
+ghost use Rattle.solver.specs.Words.SessionRepresentation.{requestWords, bit, RequestWord, requestIn, HeldRequest, Represents};
+ghost use Rattle.solver.specs.Words.MethodContract.{Shaped, Beside, is-some, boundTo, atMost, maskIn, joinedWord, Handed};
 
-// A variable's request: 0 for none, c + 1 for the fallback c.
+// A variable's request: the word of its column, 0 for none.
 pub fn request_word(tables: &[u32], m: usize, v: u32) -> u32
     requires { ⌜ 7 * m ≤ length (now tables) ⌝ }
     ensures { λ r. ⌜ r ≡ getD (requestWords m (now (tables .entry))) v 0 ⌝ }
@@ -25,10 +25,32 @@ pub fn request_word(tables: &[u32], m: usize, v: u32) -> u32
     tables[m + at]
 }
 
-// Whether the term at q is a builtin of the family that a fallback has.
-pub fn in_family(kinds: &[u32], vals: &[u32], q: usize, fallback: u32) -> bool
+// The types that a request's word admits, as a mask.
+pub fn family_mask(word: u32) -> u32
+    ensures { λ r. ⌜ r ≡ maskIn word ⌝ }
+{
+    if 32 < word {
+        return (word - 33) / 32 % 256;
+    }
+    if word == 10 {
+        return 768;
+    }
+    255
+}
+
+// Whether a mask has the type with this code.
+pub fn has(mask: u32, c: u32) -> bool
+    requires { ⌜ c < 32 ⌝ }
+    ensures { λ r. ⌜ r ≡ bit mask c ⌝ }
+{
+    (mask >> c) % 2 == 1
+}
+
+// Whether the term at q is a builtin that a request's word admits.
+pub fn in_family(kinds: &[u32], vals: &[u32], q: usize, word: u32) -> bool
     requires { ⌜ (q < length (now kinds)) × (length (now vals) ≡ length (now kinds)) ⌝ }
-    ensures { λ r. ⌜ ((t : Term) → Held (now (kinds .entry)) (now (vals .entry)) q t → r ≡ belongs (familyOf fallback) t) ⌝ }
+    ensures { λ r. ⌜
+        ((t : Term) → RequestWord word → Held (now (kinds .entry)) (now (vals .entry)) q t → r ≡ belongs (requestIn word .family) t) ⌝ }
 {
     if kinds[q] != 6 {
         return false;
@@ -43,10 +65,10 @@ pub fn in_family(kinds: &[u32], vals: &[u32], q: usize, fallback: u32) -> bool
         return false;
     }
     let c = vals[q + 1];
-    if fallback == 9 {
-        return 8 <= c && c <= 9;
+    if 31 < c {
+        return false;
     }
-    c <= 7
+    has(family_mask(word), c)
 }
 
 // Whether the unbound variable v may be bound to the term at q, which is an unbound variable or a node.
@@ -63,19 +85,27 @@ pub fn admissible(kinds: &[u32], vals: &[u32], tables: &[u32], m: usize, v: u32,
         return true;
     }
     if kinds[q] != 1 {
-        return in_family(kinds, vals, q, word - 1);
+        return in_family(kinds, vals, q, word);
     }
     let other = request_word(tables, m, vals[q]);
     if other == 0 {
         return true;
     }
-    if word == 10 {
-        return other == 10;
-    }
-    other != 10
+    family_mask(word) & family_mask(other) != 0
 }
 
-// The request of v goes on to the variable of a token, if v has one and the token is a variable of the table.
+// The word of the variable left free where two are joined: `word` is that of the one bound, `other` its own. With a range a word is 64 or more.
+fn joined_word(word: u32, other: u32) -> u32
+    requires { ⌜ 0 < word ⌝ }
+    ensures { λ r. ⌜ r ≡ joinedWord word other ⌝ }
+{
+    if (word | other) < 64 {
+        return word;
+    }
+    33 + (word - 1) % 32 + 32 * (family_mask(word) & family_mask(other))
+}
+
+// The request of v is joined to that of the variable of a token, if v has one and the token is a variable of the table.
 pub fn propagate_request(tables: &mut [u32], m: usize, v: usize, kind: u32, val: u32)
     requires { ⌜ (v < m) × (7 * m ≤ length (now tables)) ⌝ }
     ensures { λ _. ⌜ Handed m v kind val (now (tables .entry)) (now (tables .exit)) ⌝ }
@@ -91,11 +121,11 @@ pub fn propagate_request(tables: &mut [u32], m: usize, v: usize, kind: u32, val:
     if m <= w {
         return;
     }
-    tables[m + w] = word;
+    tables[m + w] = joined_word(word, tables[m + w]);
 }
 
 impl Solver {
-    // Binds the unbound variable v to the term at q, which is admissible: its request goes on to the variable that it is bound to.
+    // Binds the unbound variable v to the term at q, which is admissible: its request is joined to that of the variable that it is bound to.
     pub fn bind(
         mut self,
         kinds: &[u32],

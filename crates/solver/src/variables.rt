@@ -11,10 +11,9 @@ ghost use mathlib.Core.List.{List};
 ghost use Prim.Native.Nat.{ℕ, _+_, _*_, _^_, _≤_, _<_};
 ghost use lib.ListN.{length, getD};
 ghost use Rattle.solver.specs.declared.Named.the-variants.{Variable};
-ghost use Rattle.solver.specs.Families.{requested};
 ghost use Rattle.solver.specs.Session.{VariablePlace, at, gap, Session, find};
 ghost use Rattle.solver.specs.Orders as orders;
-ghost use Rattle.solver.specs.Words.SessionRepresentation.{limitsOf, placeWords, siteWords, slotWords, HeldPlace, HeldPlaces, Represents};
+ghost use Rattle.solver.specs.Words.SessionRepresentation.{limitsOf, placeWords, siteWords, slotWords, RequestWord, requestIn, HeldPlace, HeldPlaces, Represents};
 ghost use Rattle.solver.specs.Words.MethodContract.{matches, lastMatch, found, Shaped, Beside, placed, namedOf, namedBelow, Issued, Replied, replyOf};
 ghost use Rattle.solver.specs.Words.MethodContract.{resolvedReply};
 ghost use Rattle.solver.specs.Words.OrderTerms.{placeOf};
@@ -158,14 +157,14 @@ impl Solver {
         self.issue(tables, 1, site, slot)
     }
 
-    // Order 1: the number variable of a site, with its fallback from now on.
-    pub fn numeric_variable(mut self, tables: &mut [u32], site: u32, fallback: u32) -> Issue
-        requires { ⌜ Shaped self (length (now tables)) × (fallback < 32) × ((ks vs : List ℕ) × (s : Session) × Represents self ks vs (now tables) s) ⌝ }
+    // Orders 1 and 21: the number variable of a site, with the request of this word from now on.
+    pub fn numeric_variable(mut self, tables: &mut [u32], site: u32, request: u32) -> Issue
+        requires { ⌜ Shaped self (length (now tables)) × RequestWord request × ((ks vs : List ℕ) × (s : Session) × Represents self ks vs (now tables) s) ⌝ }
         ensures held { λ r. ⌜
             ((ks vs : List ℕ) (s : Session)
             → Represents self ks vs (now (tables .entry)) s
-            → Replied (r .solver) ks vs (now (tables .exit)) (at site 1) (orders.order (limitsOf self) s (orders.number site (requested fallback)))
-            (resolvedReply (orders.order (limitsOf self) s (orders.number site (requested fallback)) .session .solver)) (r .answer)) ⌝ }
+            → Replied (r .solver) ks vs (now (tables .exit)) (at site 1) (orders.order (limitsOf self) s (orders.number site (requestIn request)))
+            (resolvedReply (orders.order (limitsOf self) s (orders.number site (requestIn request)) .session .solver)) (r .answer)) ⌝ }
         ensures beside { λ r. ⌜ Beside self (r .solver) (now (tables .entry)) (now (tables .exit)) ⌝ }
     {
         let m = self.variables;
@@ -175,7 +174,7 @@ impl Solver {
         match answer {
             Named::Variable(v) => {
                 let at = m + wide(v);
-                tables[at] = fallback + 1;
+                tables[at] = request;
                 Issue {
                     solver,
                     answer: Named::Variable(v),

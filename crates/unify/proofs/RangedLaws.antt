@@ -10,7 +10,7 @@ use lib.Dec.{eqb}
 use borrow.Author.Tests.{eq-eqb, eqb-true}
 use Rattle.unify.specs.Term.{clash}
 use Rattle.unify.specs.Ranged.{Numeric, code, among, Family, numerics, admits, integers, floats, familyOf, sieve, gathered, Bound, atMost, holds}
-use Rattle.unify.specs.Ranged.{Request, plainly, within, requestOf, joinedAs, meet, preference, firstOf, chosen, rangedAt, familyAt, taken, Integral, Good}
+use Rattle.unify.specs.Ranged.{Request, requested, requestOf, joinedAs, meet, preference, firstOf, chosen, rangedAt, familyAt, taken, Integral, Good}
 
 -- ---- what a join admits
 
@@ -116,12 +116,24 @@ sieve-part p c (x ∷ l) e = go (λ h. sieve-part p c l h) (p x) (eqb c (code x)
     go i true false q h = i (rw q at h)
     go i false false q h = i h
 
+-- a range keeps its fallback
+pub range-made : (c : ℕ) (low high : Bound) (r : Request) → requestOf c low high ≡ some r → (r .fallback ≡ c) × (r .ranged ≡ true)
+unfolding requestOf joinedAs
+range-made c low high r e = go (atMost low high) (gathered (sieve (holds low high) (numerics integers))) e
+  where
+    go : (b : Bool) (o : Option Family) → cond b (joinedAs c true o) none ≡ some r → (r .fallback ≡ c) × (r .ranged ≡ true)
+    go false o h = clash (cc)
+    go true none h = clash (cc)
+    go true (some f) h =
+        let y : record { fallback = c; family = f; ranged = true } ≡ r = cc in
+        (ap (λ (q : Request). q .fallback) (sym y), ap (λ (q : Request). q .ranged) (sym y))
+
 -- a range requests Good
 pub range-good : (c : ℕ) (low high : Bound) (r : Request) → requestOf c low high ≡ some r → Good r
-unfolding requestOf within gathered
+unfolding requestOf joinedAs gathered
 range-good c low high r e = go (atMost low high) (sieve (holds low high) (numerics integers)) refl e
   where
-    go : (b : Bool) (l : List Numeric) → sieve (holds low high) (numerics integers) ≡ l → cond b (within c (gathered l)) none ≡ some r → Good r
+    go : (b : Bool) (l : List Numeric) → sieve (holds low high) (numerics integers) ≡ l → cond b (joinedAs c true (gathered l)) none ≡ some r → Good r
     go false l q h = clash (cc)
     go true [] q h = clash (cc)
     go true (x ∷ l) q h =
@@ -129,7 +141,7 @@ range-good c low high r e = go (atMost low high) (sieve (holds low high) (numeri
         subst (λ (r : Request). Good r) y (inl (refl, λ d a. integers-preferred d (sieve-part (holds low high) d (numerics integers) (ap (among d) q ∙ a))))
 
 -- a plain request with an integer or F64
-pub plain-good : (c : ℕ) → admits (familyOf c) c ≡ true → Good (plainly c)
+pub plain-good : (c : ℕ) → admits (familyOf c) c ≡ true → Good (requested c)
 plain-good c e = inr (refl, refl, e)
 
 -- ---- meetings
@@ -142,6 +154,7 @@ family-cases c = go (eqb c 9)
     go true = inl refl
     go false = inr refl
 
+-- two plain ones
 module _ (r s : Request) (b : r .ranged ≡ false) (d : s .ranged ≡ false) where
   meet-of : (f g : Family) → r .family ≡ f → s .family ≡ g → meet r s ≡ joinedAs (r .fallback) false (gathered (sieve (λ x. admits g (code x)) (numerics f)))
   unfolding meet
@@ -149,19 +162,19 @@ module _ (r s : Request) (b : r .ranged ≡ false) (d : s .ranged ≡ false) whe
       ap₂ (λ (x y : Family). joinedAs (r .fallback) (r .ranged || s .ranged) (gathered (sieve (λ z. admits y (code z)) (numerics x)))) p q
       ∙ ap (λ (y : Bool). joinedAs (r .fallback) y (gathered (sieve (λ z. admits g (code z)) (numerics f)))) (ap₂ _||_ b d)
 
-  plain-floats : r .family ≡ floats → s .family ≡ floats → meet r s ≡ some (record { fallback = r .fallback; family = floats; ranged = false })
+  pub plain-floats : r .family ≡ floats → s .family ≡ floats → meet r s ≡ some (record { fallback = r .fallback; family = floats; ranged = false })
   unfolding joinedAs gathered sieve among code
   plain-floats p q = meet-of floats floats p q
 
-  plain-integers : r .family ≡ integers → s .family ≡ integers → meet r s ≡ some (record { fallback = r .fallback; family = integers; ranged = false })
+  pub plain-integers : r .family ≡ integers → s .family ≡ integers → meet r s ≡ some (record { fallback = r .fallback; family = integers; ranged = false })
   unfolding joinedAs gathered sieve among code
   plain-integers p q = meet-of integers integers p q
 
-  plain-apart : r .family ≡ floats → s .family ≡ integers → meet r s ≡ none
+  pub plain-apart : r .family ≡ floats → s .family ≡ integers → meet r s ≡ none
   unfolding joinedAs gathered sieve among code
   plain-apart p q = meet-of floats integers p q
 
-  plain-apart′ : r .family ≡ integers → s .family ≡ floats → meet r s ≡ none
+  pub plain-apart′ : r .family ≡ integers → s .family ≡ floats → meet r s ≡ none
   unfolding joinedAs gathered sieve among code
   plain-apart′ p q = meet-of integers floats p q
 

@@ -1,4 +1,4 @@
--- Requests of number variables as sets of types: plain ones, ranges, what two requests leave when their variables meet, and what a default takes.
+-- Number variables: what orders 1 and 21 request of one, as a set of types; what becomes of two requests when their variables meet; what a default takes.
 use mathlib.Core.Path.{_≡_}
 use mathlib.Core.Logic.{_⊎_}
 use mathlib.Core.Bool.{Bool, true, false, _&&_, _||_, cond}
@@ -9,6 +9,7 @@ use lib.Dec.{eqb, leb}
 
 -- ---- types
 
+-- the builtins to which the Rust binds a number variable, and "Builtin codes: 0 to 7 I8 I16 I32 I64 U8 U16 U32 U64, 8 F32, 9 F64"
 pub data Numeric : Type 0 where
   I8 I16 I32 I64 U8 U16 U32 U64 F32 F64 : Numeric
 
@@ -24,11 +25,12 @@ code U64 = 7
 code F32 = 8
 code F64 = 9
 
+-- the type with this code is one of the list
 unfoldable pub among : ℕ → List Numeric → Bool
 among c [] = false
 among c (x ∷ l) = eqb c (code x) || among c l
 
--- a family: a set with at least one, by rising code
+-- a family: a set of them with at least one, by rising code
 pub record Family : Type 0 where
   pub one : Numeric
   pub more : List Numeric
@@ -36,6 +38,7 @@ pub record Family : Type 0 where
 abbrev pub numerics : Family → List Numeric
 numerics f = f .one ∷ f .more
 
+-- `admissible`, at a builtin
 abbrev pub admits : Family → ℕ → Bool
 admits f c = among c (numerics f)
 
@@ -45,6 +48,7 @@ integers = record { one = I8; more = I16 ∷ I32 ∷ I64 ∷ U8 ∷ U16 ∷ U32 
 abbrev pub floats : Family
 floats = record { one = F32; more = F64 ∷ [] }
 
+-- "`floating` means a fallback of F64 only, so F32 counts as integer"
 unfoldable pub familyOf : ℕ → Family
 familyOf c = cond (eqb c 9) floats integers
 
@@ -111,22 +115,20 @@ pub record Request : Type 0 where
   pub ranged : Bool
 
 -- order 1
-abbrev pub plainly : ℕ → Request
-plainly c = record { fallback = c; family = familyOf c; ranged = false }
+abbrev pub requested : ℕ → Request
+requested c = record { fallback = c; family = familyOf c; ranged = false }
 
-unfoldable pub within : ℕ → Option Family → Option Request
-within c none = none
-within c (some f) = some (record { fallback = c; family = f; ranged = true })
-
--- order 21: none (refusal 13) if low is above high, or no integer type holds both
-unfoldable pub requestOf : ℕ → Bound → Bound → Option Request
-requestOf c low high = cond (atMost low high) (within c (gathered (sieve (holds low high) (numerics integers)))) none
-
+-- with a fallback, and whether a range took part
 unfoldable pub joinedAs : ℕ → Bool → Option Family → Option Request
 joinedAs c b none = none
 joinedAs c b (some f) = some (record { fallback = c; family = f; ranged = b })
 
--- a number variable of the first request is bound to one of the second: the types that both admit, and the first's fallback
+-- order 21: none (refusal 13) if low is above high, or no integer type holds both
+unfoldable pub requestOf : ℕ → Bound → Bound → Option Request
+requestOf c low high = cond (atMost low high) (joinedAs c true (gathered (sieve (holds low high) (numerics integers)))) none
+
+-- A number variable of the first request is bound to one of the second: "the types both admit", and the fallback of the one that is bound
+-- (`self.numeric.insert(*other, fallback)`). None if no type is left.
 unfoldable pub meet : Request → Request → Option Request
 meet r s = joinedAs (r .fallback) (r .ranged || s .ranged) (gathered (sieve (λ x. admits (s .family) (code x)) (numerics (r .family))))
 

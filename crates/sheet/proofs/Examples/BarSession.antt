@@ -28,10 +28,10 @@ answers : List ℕ
 answers = 3 ∷ 0 ∷ 1 ∷ 0 ∷ 3 ∷ 0 ∷ 1 ∷ 1 ∷ 2 ∷ 0 ∷ 1 ∷ 2 ∷ 0 ∷ 0 ∷ 7 ∷ 0 ∷ 5 ∷ 2 ∷ 1 ∷ 1 ∷ 4 ∷ 2 ∷ 2 ∷ 0 ∷ 1 ∷ []
 
 bar : (runOf documentLimits sheet 32768 .answers ≡ answers) × (runOf documentLimits sheet 32768 .reason ≡ 0) × (runOf documentLimits sheet 32768 .orders ≡ 6)
-unfolding sheet answers groups digits shortest reading.code reading.rising reading.variable reading.many reading.row reading.kinded reading.term kindOf size bytes nums subs children row tag class same among meets ℕ-discrete put families.familyOf families.admits families.belongs families.belongsRow shapes.loose shapes.blank shapes.blankRow shapes.unmarked shapes.read shapes.sameShape shapes.turned solving.replace solving.followed solving.resolve solving.follow solving.recovery solving.is solving.projects solving.admit solving.bind₁ solving.bind₀ solving.bind solving.zipOn solving.decompose solving.differ solving.match solving.checkPair solving.settles session.samePlace session.find orders.verdictOf orders.solverOf orders.beyond orders.variableAt orders.order layout field fields known kindedOrder readBy readOrder rowIn table sessionOrders operations nth numberOf termOf step framed answerOf runFrom
+unfolding sheet answers groups digits shortest reading.code reading.rising reading.variable reading.many reading.row reading.kinded reading.term kindOf size bytes nums subs children row tag class same among meets ℕ-discrete put families.familyOf families.among families.belongs families.belongsRow shapes.loose shapes.blank shapes.blankRow shapes.unmarked shapes.read shapes.sameShape shapes.turned solving.replace solving.followed solving.resolve solving.follow solving.recovery solving.is solving.projects solving.admit solving.bind₁ solving.bind₀ solving.bind solving.zipOn solving.decompose solving.differ solving.match solving.checkPair solving.settles session.samePlace session.find orders.verdictOf orders.solverOf orders.beyond orders.variableAt orders.order layout field fields known kindedOrder readBy readOrder rowIn table sessionOrders operations nth numberOf termOf step framed answerOf runFrom
 bar = (refl, refl, refl)
 
 -- an output that is one byte too short for the last answer
 short : (runOf documentLimits sheet 24 .reason ≡ 11) × (runOf documentLimits sheet 24 .orders ≡ 5)
-unfolding sheet groups digits shortest reading.code reading.rising reading.variable reading.many reading.row reading.kinded reading.term kindOf size bytes nums subs children row tag class same among meets ℕ-discrete put families.familyOf families.admits families.belongs families.belongsRow shapes.loose shapes.blank shapes.blankRow shapes.unmarked shapes.read shapes.sameShape shapes.turned solving.replace solving.followed solving.resolve solving.follow solving.recovery solving.is solving.projects solving.admit solving.bind₁ solving.bind₀ solving.bind solving.zipOn solving.decompose solving.differ solving.match solving.checkPair solving.settles session.samePlace session.find orders.verdictOf orders.solverOf orders.beyond orders.variableAt orders.order layout field fields known kindedOrder readBy readOrder rowIn table sessionOrders operations nth numberOf termOf step framed answerOf runFrom
+unfolding sheet groups digits shortest reading.code reading.rising reading.variable reading.many reading.row reading.kinded reading.term kindOf size bytes nums subs children row tag class same among meets ℕ-discrete put families.familyOf families.among families.belongs families.belongsRow shapes.loose shapes.blank shapes.blankRow shapes.unmarked shapes.read shapes.sameShape shapes.turned solving.replace solving.followed solving.resolve solving.follow solving.recovery solving.is solving.projects solving.admit solving.bind₁ solving.bind₀ solving.bind solving.zipOn solving.decompose solving.differ solving.match solving.checkPair solving.settles session.samePlace session.find orders.verdictOf orders.solverOf orders.beyond orders.variableAt orders.order layout field fields known kindedOrder readBy readOrder rowIn table sessionOrders operations nth numberOf termOf step framed answerOf runFrom
 short = (refl, refl)

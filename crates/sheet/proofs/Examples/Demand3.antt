@@ -50,13 +50,13 @@ level =
 
 answered-all : answeredOrders documentLimits sheet 32768
     ≡ (0 ∷ 7 ∷ 0 ∷ []) ∷ (0 ∷ 8 ∷ 0 ∷ []) ∷ (4 ∷ 9 ∷ 9 ∷ 1 ∷ 0 ∷ 9 ∷ 5 ∷ 2 ∷ 1 ∷ 1 ∷ 4 ∷ 2 ∷ []) ∷ (4 ∷ 9 ∷ 1 ∷ 1 ∷ 9 ∷ 1 ∷ 0 ∷ []) ∷ (5 ∷ 1 ∷ 0 ∷ []) ∷ (8 ∷ []) ∷ []
-unfolding groups digits shortest reading.code reading.rising reading.variable reading.many reading.row reading.kinded reading.term kindOf size bytes nums subs children row tag class same among meets first conflicts-with ℕ-discrete put families.code families.codes families.familyOf families.admits families.belongs families.belongsRow shapes.loose shapes.blank shapes.blankRow shapes.unmarked shapes.read shapes.sameShape shapes.turned
+unfolding groups digits shortest reading.code reading.rising reading.variable reading.many reading.row reading.kinded reading.term kindOf size bytes nums subs children row tag class same among meets first conflicts-with ℕ-discrete put families.code families.among families.familyOf families.belongs families.belongsRow shapes.loose shapes.blank shapes.blankRow shapes.unmarked shapes.read shapes.sameShape shapes.turned
     solving.replace solving.followed solving.resolve solving.follow solving.recovery solving.is solving.projects solving.joined solving.join solving.allow solving.admit solving.bind₁ solving.bind₀ solving.bind solving.zipOn solving.decompose solving.differ solving.match solving.checkPair solving.settles session.samePlace session.find session.settleAt session.numericAt session.numericDefaults
     orders.verdictOf orders.solverOf orders.beyond orders.variableAt orders.numberAt orders.order placed outside layout field fields known kindedOrder readBy readOrder rowIn table sessionOrders operations nodes allNodes nth numberOf termOf step framed answerOf runFrom commandOf commands theirs.accepted theirs.says theirs.requestedBy theirs.posedBy theirs.strictBy theirs.history ordersFrom
 answered-all = refl
 
 sheet-premises : Premises documentLimits (answeredOrders documentLimits sheet 32768)
-unfolding groups digits shortest reading.code reading.rising reading.variable reading.many reading.row reading.kinded reading.term kindOf size bytes nums subs children row tag class same among meets first conflicts-with ℕ-discrete put families.code families.codes families.familyOf families.admits families.belongs families.belongsRow shapes.loose shapes.blank shapes.blankRow shapes.unmarked shapes.read shapes.sameShape shapes.turned
+unfolding groups digits shortest reading.code reading.rising reading.variable reading.many reading.row reading.kinded reading.term kindOf size bytes nums subs children row tag class same among meets first conflicts-with ℕ-discrete put families.code families.among families.familyOf families.belongs families.belongsRow shapes.loose shapes.blank shapes.blankRow shapes.unmarked shapes.read shapes.sameShape shapes.turned
     solving.replace solving.followed solving.resolve solving.follow solving.recovery solving.is solving.projects solving.joined solving.join solving.allow solving.admit solving.bind₁ solving.bind₀ solving.bind solving.zipOn solving.decompose solving.differ solving.match solving.checkPair solving.settles session.samePlace session.find session.settleAt session.numericAt session.numericDefaults
     orders.verdictOf orders.solverOf orders.beyond orders.variableAt orders.numberAt orders.order placed outside layout field fields known kindedOrder readBy readOrder rowIn table sessionOrders operations nodes allNodes nth numberOf termOf step framed answerOf runFrom commandOf commands theirs.accepted theirs.says theirs.requestedBy theirs.posedBy theirs.strictBy theirs.history ordersFrom
 sheet-premises = record { allowed = (tt, (tt, (tt, (tt, (tt, (tt, tt)))))); pairs = (refl, refl, (refl, refl, tt)); noneCancelled = refl }
@@ -66,7 +66,7 @@ two : _≡_ {A = ℕ} 2 2
 two = refl
 
 level-premises : Premises documentLimits level
-unfolding groups digits shortest reading.code reading.rising reading.variable reading.many reading.row reading.kinded reading.term kindOf size bytes nums subs children row tag class same among meets first conflicts-with ℕ-discrete put families.code families.codes families.familyOf families.admits families.belongs families.belongsRow shapes.loose shapes.blank shapes.blankRow shapes.unmarked shapes.read shapes.sameShape shapes.turned
+unfolding groups digits shortest reading.code reading.rising reading.variable reading.many reading.row reading.kinded reading.term kindOf size bytes nums subs children row tag class same among meets first conflicts-with ℕ-discrete put families.code families.among families.familyOf families.belongs families.belongsRow shapes.loose shapes.blank shapes.blankRow shapes.unmarked shapes.read shapes.sameShape shapes.turned
     solving.replace solving.followed solving.resolve solving.follow solving.recovery solving.is solving.projects solving.joined solving.join solving.allow solving.admit solving.bind₁ solving.bind₀ solving.bind solving.zipOn solving.decompose solving.differ solving.match solving.checkPair solving.settles session.samePlace session.find session.settleAt session.numericAt session.numericDefaults
     orders.verdictOf orders.solverOf orders.beyond orders.variableAt orders.numberAt orders.order placed outside layout field fields known kindedOrder readBy readOrder rowIn table sessionOrders operations nodes allNodes nth numberOf termOf step framed answerOf runFrom commandOf commands theirs.accepted theirs.says theirs.requestedBy theirs.posedBy theirs.strictBy theirs.history ordersFrom
 level-premises = record { allowed = (refl, (tt, (tt, (two, tt)))); pairs = (refl, refl, tt); noneCancelled = refl }
@@ -82,14 +82,14 @@ level-bytes = ((omega arith, (omega arith, (omega arith, tt))), ((omega arith, (
 -- the second pair was answered incompatible, so that no assignment makes both equal
 no-assignment : (θ : ℕ → Term) → Assigns 2 θ → RespectsFamilies θ (historyOf documentLimits beginning (answeredOrders documentLimits sheet 32768) .requests)
     → ¬ MakesEqual loose θ (historyOf documentLimits beginning (answeredOrders documentLimits sheet 32768) .posed)
-unfolding groups digits shortest reading.code reading.rising reading.variable reading.many reading.row reading.kinded reading.term kindOf size bytes nums subs children row tag class same among meets first conflicts-with ℕ-discrete put families.code families.codes families.familyOf families.admits families.belongs families.belongsRow shapes.loose shapes.blank shapes.blankRow shapes.unmarked shapes.read shapes.sameShape shapes.turned
+unfolding groups digits shortest reading.code reading.rising reading.variable reading.many reading.row reading.kinded reading.term kindOf size bytes nums subs children row tag class same among meets first conflicts-with ℕ-discrete put families.code families.among families.familyOf families.belongs families.belongsRow shapes.loose shapes.blank shapes.blankRow shapes.unmarked shapes.read shapes.sameShape shapes.turned
     solving.replace solving.followed solving.resolve solving.follow solving.recovery solving.is solving.projects solving.joined solving.join solving.allow solving.admit solving.bind₁ solving.bind₀ solving.bind solving.zipOn solving.decompose solving.differ solving.match solving.checkPair solving.settles session.samePlace session.find session.settleAt session.numericAt session.numericDefaults
     orders.verdictOf orders.solverOf orders.beyond orders.variableAt orders.numberAt orders.order placed outside layout field fields known kindedOrder readBy readOrder rowIn table sessionOrders operations nodes allNodes nth numberOf termOf step framed answerOf runFrom commandOf commands theirs.accepted theirs.says theirs.requestedBy theirs.posedBy theirs.strictBy theirs.history ordersFrom
 no-assignment = demand-3-run documentLimits false sheet sheet-bytes 32768 (refl, (refl, tt)) sheet-premises .0 .first .0 refl
 
 -- none was, so that the assignments that make the pair equal are those that agree with what ?0 and ?1 resolve to
 agreeing : (θ : ℕ → Term) → Assigns 2 θ → RespectsFamilies θ (historyOf documentLimits beginning level .requests) → Agrees loose θ (historyOf documentLimits beginning level .session) → MakesEqual loose θ (historyOf documentLimits beginning level .posed)
-unfolding groups digits shortest reading.code reading.rising reading.variable reading.many reading.row reading.kinded reading.term kindOf size bytes nums subs children row tag class same among meets first conflicts-with ℕ-discrete put families.code families.codes families.familyOf families.admits families.belongs families.belongsRow shapes.loose shapes.blank shapes.blankRow shapes.unmarked shapes.read shapes.sameShape shapes.turned
+unfolding groups digits shortest reading.code reading.rising reading.variable reading.many reading.row reading.kinded reading.term kindOf size bytes nums subs children row tag class same among meets first conflicts-with ℕ-discrete put families.code families.among families.familyOf families.belongs families.belongsRow shapes.loose shapes.blank shapes.blankRow shapes.unmarked shapes.read shapes.sameShape shapes.turned
     solving.replace solving.followed solving.resolve solving.follow solving.recovery solving.is solving.projects solving.joined solving.join solving.allow solving.admit solving.bind₁ solving.bind₀ solving.bind solving.zipOn solving.decompose solving.differ solving.match solving.checkPair solving.settles session.samePlace session.find session.settleAt session.numericAt session.numericDefaults
     orders.verdictOf orders.solverOf orders.beyond orders.variableAt orders.numberAt orders.order placed outside layout field fields known kindedOrder readBy readOrder rowIn table sessionOrders operations nodes allNodes nth numberOf termOf step framed answerOf runFrom commandOf commands theirs.accepted theirs.says theirs.requestedBy theirs.posedBy theirs.strictBy theirs.history ordersFrom
 agreeing θ a t g = demand-3-bytes documentLimits false level level-bytes (refl, tt) level-premises .second refl θ a .1 (t, g) .1

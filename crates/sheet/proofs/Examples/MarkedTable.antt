@@ -76,7 +76,7 @@ pub record TermLines : Type 0 where
 
 terms : TermLines
 unfolding groups digits shortest reading.code reading.rising reading.variable reading.many reading.pairs reading.row reading.kinded reading.term kindOf size bytes nums subs children row tag class same among meets first second countedBy enteredBy
-    conflicts-with collection-access read-only-view can-weaken-to ℕ-discrete put families.familyOf families.admits families.belongs families.belongsRow shapes.loose shapes.blank shapes.blankRow shapes.unmarked shapes.read
+    conflicts-with collection-access read-only-view can-weaken-to ℕ-discrete put families.familyOf families.among families.belongs families.belongsRow shapes.loose shapes.blank shapes.blankRow shapes.unmarked shapes.read
     shapes.sameShape shapes.turned solving.replace solving.followed solving.resolve solving.follow solving.recovery solving.is solving.projects solving.admit solving.bind₁ solving.bind₀ solving.bind solving.zipOn
     solving.decompose solving.differ solving.match solving.checkPair solving.settles orders.verdictOf orders.solverOf orders.beyond orders.order layout field fields known kindedOrder readBy readOrder rowIn table sessionOrders operations nodes allNodes nth numberOf termOf bits answered step answerOf
 terms = record { conflict = refl; compatible = refl; weakens = refl; not-back = refl; projection = refl }
@@ -103,7 +103,7 @@ pub record CheckLines : Type 0 where
 
 cancelled : CheckLines
 unfolding answersTo sessionAfter groups digits shortest reading.code reading.rising reading.variable reading.many reading.row reading.kinded reading.term kindOf size bytes nums subs children row tag class same among meets
-    ℕ-discrete put families.familyOf families.admits families.belongs families.belongsRow shapes.loose shapes.blank shapes.blankRow shapes.unmarked shapes.read shapes.sameShape shapes.turned solving.replace solving.followed
+    ℕ-discrete put families.familyOf families.among families.belongs families.belongsRow shapes.loose shapes.blank shapes.blankRow shapes.unmarked shapes.read shapes.sameShape shapes.turned solving.replace solving.followed
     solving.resolve solving.follow solving.recovery solving.is solving.projects solving.admit solving.bind₁ solving.bind₀ solving.bind solving.zipOn solving.decompose solving.differ solving.match solving.checkPair solving.settles
     session.samePlace session.find orders.verdictOf orders.solverOf orders.beyond orders.variableAt orders.order layout field fields known kindedOrder readBy readOrder rowIn table sessionOrders operations nth numberOf termOf step framed answerOf
 cancelled = record { one-check = refl; unbound = refl; two-checks = refl }

@@ -69,7 +69,7 @@ record Pairs : Type 0 where
 
 pairs : Pairs
 unfolding answersTo sessionAfter commandOf accepted groups digits shortest reading.code reading.rising reading.variable reading.many reading.row reading.kinded reading.term kindOf size bytes nums subs children row tag class same
-    among meets ℕ-discrete put families.code families.codes families.familyOf families.admits families.belongs families.belongsRow shapes.loose shapes.blank shapes.blankRow shapes.unmarked shapes.read shapes.readAll
+    among meets ℕ-discrete put families.code families.among families.familyOf families.belongs families.belongsRow shapes.loose shapes.blank shapes.blankRow shapes.unmarked shapes.read shapes.readAll
     shapes.sameShape shapes.turned solving.replace solving.followed solving.resolve solving.follow solving.recovery solving.is solving.projects solving.admit solving.bind₁ solving.bind₀ solving.bind solving.zipOn
     solving.decompose solving.differ solving.match solving.checkPair solving.settles session.samePlace session.find orders.verdictOf orders.solverOf orders.beyond orders.variableAt orders.numberAt orders.order outside layout field
     fields known kindedOrder readBy readOrder rowIn table sessionOrders operations nth numberOf termOf step framed answerOf

@@ -41,12 +41,12 @@ record Strict : Type 0 where
   loosely : answersTo documentLimits fresh (fresh-one ∷ sets 0x04 0x01 ∷ resolved-one ∷ []) ≡ 3 ∷ 0 ∷ 1 ∷ 0 ∷ 2 ∷ 0 ∷ 1 ∷ 3 ∷ 0 ∷ 4 ∷ 2 ∷ []
   -- strictly with the same access: so it is too
   binds : answersTo documentLimits fresh (fresh-one ∷ sets 0x16 0x00 ∷ resolved-one ∷ []) ≡ 3 ∷ 0 ∷ 1 ∷ 0 ∷ 2 ∷ 0 ∷ 1 ∷ 3 ∷ 0 ∷ 4 ∷ 2 ∷ []
-  -- orders 21 and 23 are not listed
-  unlisted : answersTo documentLimits fresh (sets 0x15 0x00 ∷ sets 0x17 0x00 ∷ []) ≡ 1 ∷ 2 ∷ 1 ∷ 2 ∷ []
+  -- orders 23 and 24 are not listed
+  unlisted : answersTo documentLimits fresh (sets 0x17 0x00 ∷ sets 0x18 0x00 ∷ []) ≡ 1 ∷ 2 ∷ 1 ∷ 2 ∷ []
 
 strict : Strict
 unfolding answersTo sessionAfter commandOf groups digits shortest reading.code reading.rising reading.variable reading.many reading.row reading.kinded reading.term kindOf size bytes nums subs children row tag class same among meets
-    ℕ-discrete put families.code families.codes families.familyOf families.admits families.belongs families.belongsRow shapes.loose shapes.exact shapes.blank shapes.blankRow shapes.unmarked shapes.read shapes.readAll shapes.sameShape
+    ℕ-discrete put families.code families.among families.familyOf families.belongs families.belongsRow shapes.loose shapes.exact shapes.blank shapes.blankRow shapes.unmarked shapes.read shapes.readAll shapes.sameShape
     shapes.turned solving.replace solving.followed solving.resolve solving.follow solving.recovery solving.is solving.projects solving.admit solving.bind₁ solving.bind₀ solving.bind solving.zipOn solving.decompose solving.differ
     solving.match solving.checkPair solving.settles session.samePlace session.find orders.verdictOf orders.solverOf orders.beyond orders.variableAt orders.order layout field fields known kindedOrder readBy readOrder rowIn table
     sessionOrders operations nth numberOf termOf step framed answerOf

@@ -4,7 +4,7 @@ use mathlib.Core.List.{List, [], _∷_, _++_}
 use mathlib.Core.Option.{Option, none, some}
 use mathlib.Core.Path.{_≡_}
 use Prim.Native.Nat.{ℕ, zero, suc, _+_, _-_, _*_, _^_, _≤_, _<_}
-use lib.Dec.{eqb, leb}
+use lib.Dec.{eqb}
 use lib.ListN.{length, getD}
 use Rattle.solver.specs.TermTypes.{Place, Rule, Step, Next, Stopped}
 use Rattle.solver.specs.Terms.Parser.{Parser, Result, got, refused, pick, _>>=_, return, number}
@@ -17,6 +17,7 @@ use Rattle.solver.specs.Terms.Rows.{entryRow, receiverRow, argumentRow}
 use Rattle.solver.specs.Terms.Parameters.{parameters}
 use Rattle.solver.specs.Terms.Lookup.{Pattern, ruleAt, putRule}
 use Rattle.solver.specs.Terms.ReadContract.{Only}
+use Rattle.solver.specs.Families.{Bound}
 use Rattle.sheet.specs.declared.FieldSpot.{FieldSpot}
 use Rattle.sheet.specs.declared.Order.{Order}
 use Rattle.sheet.specs.declared.OrderRow.{OrderRow}
@@ -26,7 +27,7 @@ use Rattle.sheet.specs.declared.Class.the-variants.{Session, Operation}
 use Rattle.sheet.specs.OrderTable.{Act, tells, answers, Row, rowIn, layout}
 use Rattle.sheet.specs.Sheet.{table}
 use Rattle.sheet.specs.Fields as fields
-use Rattle.sheet.specs.Fields.{FieldSort, Field, value, bounded, tree, bare, entered, received, named, listed, ruled, nodes, allNodes, ruleNodes, nth}
+use Rattle.sheet.specs.Fields.{FieldSort, Field, signed, value, bounded, tree, bare, entered, received, named, listed, ruled, nodes, allNodes, ruleNodes, nth}
 
 -- ---- the table in numbers
 
@@ -255,14 +256,14 @@ unfoldable pub RulesAt : (ws : List ℕ) → ℕ → ℕ → List Pattern → Ty
 RulesAt ws r a [] = Unit {0}
 RulesAt ws r a (p ∷ rs) = (ruleAt ws r ≡ ruleWords a p) × RulesAt ws (suc r) (a + length (ruleItems (p ∷ []))) rs
 
--- a sign byte as a place: 2 for all that are over 1
-unfoldable pub signPlace : ℕ → ℕ
-signPlace b = pick (leb b 1) b 2
+-- what a spot says of a bound
+abbrev pub spotBound : FieldSpot → Option Bound
+spotBound x = signed (x .place) (x .value)
 
 -- the spot of a field whose tokens begin at a; ws are the words of rules
 abbrev pub SpotOf : (s ws : List ℕ) → ℕ → FieldSpot → Field → Type 0
 SpotOf s ws a x (value n) = x .value ≡ n
-SpotOf s ws a x (bounded b n) = (x .value ≡ n) × (x .place ≡ signPlace b)
+SpotOf s ws a x (bounded b n) = (x .value ≡ n) × (x .place ≡ b)
 SpotOf s ws a x (tree t) = x .place ≡ a
 SpotOf s ws a x (bare ps) = x .place ≡ a
 SpotOf s ws a x (entered es) = (x .value ≡ length es) × (x .place ≡ a) × (x .end ≡ a + length (partItems (entryRow es)))

@@ -11,13 +11,12 @@ use Rattle.solver.specs.Terms.Parameters.{parameters}
 use Rattle.solver.specs.Terms.Lookup.{Ruled}
 use Rattle.sheet.specs.declared.FieldSpot.{FieldSpot}
 use Rattle.sheet.specs.declared.Order.{Order}
-use Rattle.sheet.specs.Words.FieldLayout.{signPlace}
 use Rattle.sheet.specs.Fields.{Field, value, bounded, tree, bare, entered, received, named, listed, ruled, nth}
 
 -- s is the order's bytes, ws the words of its rules, six a rule
 abbrev pub HeldField : (ks vs s ws : List ℕ) → FieldSpot → Field → Type 0
 HeldField ks vs s ws x (value n) = x .value ≡ n
-HeldField ks vs s ws x (bounded b n) = (x .value ≡ n) × (x .place ≡ signPlace b)
+HeldField ks vs s ws x (bounded b n) = (x .value ≡ n) × (x .place ≡ b)
 HeldField ks vs s ws x (tree t) = Held ks vs (x .place) t
 HeldField ks vs s ws x (bare ps) = Held ks vs (x .place) (node 20 ps)
 HeldField ks vs s ws x (entered es) = (x .value ≡ length es) × HeldParts ks vs (x .place) (x .end) (entryRow es)

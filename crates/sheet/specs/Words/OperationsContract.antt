@@ -36,9 +36,9 @@ abbrev pub Among : List ℕ → ℕ → Type 0
 Among [] k = ⊥
 Among (n ∷ ns) k = (k ≡ n) ⊎ Among ns k
 
--- the orders of the session that have numbers alone
+-- the orders of the session that have no tokens
 abbrev pub plainOrders : List ℕ
-plainOrders = 0 ∷ 1 ∷ 2 ∷ 6 ∷ 7 ∷ 8 ∷ []
+plainOrders = 0 ∷ 1 ∷ 2 ∷ 6 ∷ 7 ∷ 8 ∷ 21 ∷ []
 
 abbrev pub numbersOf : List Row → List ℕ
 numbersOf [] = []

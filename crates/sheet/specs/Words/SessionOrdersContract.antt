@@ -1,4 +1,4 @@
--- Orders 0 to 8 on the counters, the tokens and the table that the solver is lent.
+-- Orders 0 to 8, 21 and 22 on the counters, the tokens and the table that the solver is lent.
 use mathlib.Core.Bool.{Bool, true, false}
 use mathlib.Core.List.{List, [], _∷_}
 use mathlib.Core.Option.{Option, none, some}
@@ -11,13 +11,12 @@ use Rattle.solver.specs.declared.Site.the-variants as place
 use Rattle.sheet.specs.declared.VariableOrder.{VariableOrder}
 use Rattle.sheet.specs.declared.VariableOrder.the-variants.{Slot, Number, Hole}
 use Rattle.sheet.specs.declared.TermlessOrder.{TermlessOrder}
-use Rattle.sheet.specs.declared.TermlessOrder.the-variants.{Variable, Defaults, Revision}
+use Rattle.sheet.specs.declared.TermlessOrder.the-variants.{Variable, Defaults, Revision, Refusal}
 use Rattle.solver.specs.Terms.Term.{Term, var}
 use Rattle.solver.specs.Constrain.{resolved}
-use Rattle.solver.specs.Families.{requested}
 use Rattle.solver.specs.Session.{Session}
-use Rattle.solver.specs.Orders.{Command, variable, number, hole, numbers, nevers, revision}
-use Rattle.solver.specs.Words.SessionRepresentation.{Represents}
+use Rattle.solver.specs.Orders.{Command, variable, number, hole, numbers, nevers, revision, unread}
+use Rattle.solver.specs.Words.SessionRepresentation.{RequestWord, requestIn, Represents}
 use Rattle.solver.specs.Words.ConstrainContract.{pendingFrom}
 use Rattle.solver.specs.Words.Worklist.{Zero}
 use Rattle.solver.specs.Words.MethodContract.{Beside}
@@ -50,28 +49,28 @@ pub record Does (m : Lent) (y : Solver) (us : List ℕ) (z : Session) (st : Step
 pub record Says (ks vs s ws : List ℕ) (o : Order) (c : Command) : Type 0 where
   pub says : (known : ℕ) (k : Row) (fs : List Field) → rowIn table (o .kind) ≡ some k → Given ks vs s ws known k o fs → commandOf k fs ≡ some c
 
--- orders 0, 1 and 2: their commands
+-- orders 0, 1, 2 and 21: their commands
 abbrev pub variableCommand : VariableOrder → Command
 variableCommand (Slot s i) = variable s i
-variableCommand (Number s f) = number s (requested f)
+variableCommand (Number s w) = number s (requestIn w)
 variableCommand (Hole s) = hole s
 
 -- the place of the variable: that of a number variable is slot 1 of its site
 abbrev pub siteOf : VariableOrder → Site
 siteOf (Slot s i) = place.Slot s i
-siteOf (Number s f) = place.Slot s 1
+siteOf (Number s w) = place.Slot s 1
 siteOf (Hole s) = place.Hole s
 
--- a fallback is the code of a builtin
-abbrev pub FallbackListed : VariableOrder → Type 0
-FallbackListed (Slot s i) = Unit {0}
-FallbackListed (Number s f) = f < 32
-FallbackListed (Hole s) = Unit {0}
+-- what is requested is told by a word as the table has it
+abbrev pub RequestTold : VariableOrder → Type 0
+RequestTold (Slot s i) = Unit {0}
+RequestTold (Number s w) = RequestWord w
+RequestTold (Hole s) = Unit {0}
 
 -- what is answered for the variable v: itself, or what it resolves to
 abbrev pub variableAnswer : Session → VariableOrder → ℕ → Term
 variableAnswer z (Slot s i) v = var v
-variableAnswer z (Number s f) v = resolved (z .solver) (var v)
+variableAnswer z (Number s w) v = resolved (z .solver) (var v)
 variableAnswer z (Hole s) v = resolved (z .solver) (var v)
 
 -- orders 6 and 7, by whether Never is the default
@@ -79,16 +78,18 @@ abbrev pub defaultsBy : Bool → Command
 defaultsBy false = numbers
 defaultsBy true = nevers
 
--- orders 0, 1, 2, 6, 7 and 8
+-- orders 0, 1, 2, 6, 7, 8 and 21
 abbrev pub termlessCommand : TermlessOrder → Command
 termlessCommand (Variable o) = variableCommand o
 termlessCommand (Defaults b) = defaultsBy b
 termlessCommand Revision = revision
+termlessCommand (Refusal c) = unread c
 
-abbrev pub TermlessListed : TermlessOrder → Type 0
-TermlessListed (Variable o) = FallbackListed o
-TermlessListed (Defaults b) = Unit {0}
-TermlessListed Revision = Unit {0}
+abbrev pub TermlessTold : TermlessOrder → Type 0
+TermlessTold (Variable o) = RequestTold o
+TermlessTold (Defaults b) = Unit {0}
+TermlessTold Revision = Unit {0}
+TermlessTold (Refusal c) = Unit {0}
 
 -- the number of an order that poses a pair, strictly or not
 abbrev pub pairNumber : Bool → ℕ

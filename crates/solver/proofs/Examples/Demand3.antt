@@ -12,7 +12,8 @@ use Rattle.terms.specs.Shape.{kindOf, manyTerms}
 use Rattle.terms.specs.Formed.{Formed, TakesNumber, afterNumber, TakesTerm, afterTerm}
 use Rattle.terms.proofs.Laws.General.Bools.{never-false}
 use Rattle.unify.specs.Solver.{put}
-use Rattle.solver.specs.Families.{requested, code, codes, familyOf, admits, belongs, belongsRow}
+use Rattle.solver.specs.Families as asked
+use Rattle.solver.specs.Families.{requested, code, familyOf, belongs, belongsRow, rangedAt, taken}
 use Rattle.solver.specs.Shapes.{loose, blank, blankRow, unmarked, read, sameShape, turned}
 use Rattle.solver.specs.Constrain.{replace, followed, resolve, follow, recovery, is, projects, joined, join, allow, admit, bind₁, bind₀, bind, zipOn, decompose, differ, match, checkPair, settles}
 use Rattle.solver.specs.Session.{documentLimits, samePlace, issued, find, settleAt, numericAt, numericDefaults}
@@ -52,7 +53,7 @@ level = number 1 (requested 2) ∷ variable 2 0 ∷ pair false 9 (tuple₂ (var 
 bar-premises : Premises documentLimits bar
 unfolding bar level history order variableAt numberAt find samePlace settles checkPair match differ decompose bind bind₀ bind₁ zipOn admit allow join joined sameShape same read blank blankRow loose unmarked turned class nums
     row tag children subs resolve follow followed replace recovery projects is meets among beyond size put ℕ-discrete verdictOf solverOf accepted says requestedBy posedBy strictBy placed outside
-    familyOf admits belongs belongsRow code codes numericDefaults numericAt settleAt
+    familyOf asked.among belongs belongsRow code rangedAt taken numericDefaults numericAt settleAt
 bar-premises = record {
   allowed = (tt, (tt, (tt, (tt, tt))));
   pairs = (
@@ -70,7 +71,7 @@ bar-premises = record {
 level-premises : Premises documentLimits level
 unfolding bar level history order variableAt numberAt find samePlace settles checkPair match differ decompose bind bind₀ bind₁ zipOn admit allow join joined sameShape same read blank blankRow loose unmarked turned class nums
     row tag children subs resolve follow followed replace recovery projects is meets among beyond size put ℕ-discrete verdictOf solverOf accepted says requestedBy posedBy strictBy placed outside
-    familyOf admits belongs belongsRow code codes numericDefaults numericAt settleAt
+    familyOf asked.among belongs belongsRow code rangedAt taken numericDefaults numericAt settleAt
 level-premises = record {
   allowed = (refl, (tt, (tt, (refl, tt))));
   pairs = (
@@ -89,7 +90,7 @@ record Answered : Type 0 where
 answered : Answered
 unfolding bar level history order variableAt numberAt find samePlace settles checkPair match differ decompose bind bind₀ bind₁ zipOn admit allow join joined sameShape same read blank blankRow loose unmarked turned class nums
     row tag children subs resolve follow followed replace recovery projects is meets among beyond size put ℕ-discrete verdictOf solverOf accepted says requestedBy posedBy strictBy placed outside
-    familyOf admits belongs belongsRow code codes numericDefaults numericAt settleAt
+    familyOf asked.among belongs belongsRow code rangedAt taken numericDefaults numericAt settleAt
 answered = record { bar-no = refl; level-yes = refl }
 
 -- by which order
@@ -100,7 +101,7 @@ record PosedLoosely : Type 0 where
 posed-loosely : PosedLoosely
 unfolding bar level history order variableAt numberAt find samePlace settles checkPair match differ decompose bind bind₀ bind₁ zipOn admit allow join joined sameShape same read blank blankRow loose unmarked turned class nums
     row tag children subs resolve follow followed replace recovery projects is meets among beyond size put ℕ-discrete verdictOf solverOf accepted says requestedBy posedBy strictBy placed outside
-    familyOf admits belongs belongsRow code codes numericDefaults numericAt settleAt
+    familyOf asked.among belongs belongsRow code rangedAt taken numericDefaults numericAt settleAt
 posed-loosely = record { bars = (refl, (refl, tt)); levels = (refl, tt) }
 
 abbrev None : List Command → Type 0

@@ -12,7 +12,8 @@ use Rattle.terms.specs.Term.{Term, var, size}
 use Rattle.terms.specs.Tree.{unknown, nums, row, tag, class, children, subs, same}
 use Rattle.terms.specs.Questions.{among, meets}
 use Rattle.unify.specs.Solver.{put}
-use Rattle.solver.specs.Families.{requested, code, codes, familyOf, admits, belongs, belongsRow}
+use Rattle.solver.specs.Families as asked
+use Rattle.solver.specs.Families.{requested, code, familyOf, belongs, belongsRow, rangedAt, taken}
 use Rattle.solver.specs.Shapes.{loose, blank, blankRow, unmarked, read, readAll, sameShape, turned}
 use Rattle.solver.specs.Constrain.{replace, followed, resolve, follow, recovery, is, projects, joined, join, allow, admit, bind₁, bind₀, bind, zipOn, decompose, differ, match, checkPair, settles}
 use Rattle.solver.specs.Session.{Session, documentLimits, fresh, samePlace, find, settleAt, numericAt, numericDefaults}
@@ -68,7 +69,7 @@ record Pairs : Type 0 where
 pairs : Pairs
 unfolding clashed numbered cut everything run replies order variableAt numberAt find samePlace settles checkPair match differ decompose bind bind₀ bind₁ zipOn admit allow join joined sameShape same read readAll blank blankRow
     loose unmarked turned class nums row tag children subs resolve follow followed replace recovery projects is meets among beyond size put ℕ-discrete verdictOf solverOf outside
-    familyOf admits belongs belongsRow code codes numericDefaults numericAt settleAt
+    familyOf asked.among belongs belongsRow code rangedAt taken numericDefaults numericAt settleAt
 pairs = record {
   before₁ = refl;
   before₂ = refl;

@@ -8,7 +8,8 @@ use Rattle.terms.specs.Term.{Term, var, node, end, num, sub, size}
 use Rattle.terms.specs.Tree.{unknown, nums, row, tag, class, children, subs, same}
 use Rattle.terms.specs.Questions.{among, meets}
 use Rattle.unify.specs.Solver.{put}
-use Rattle.solver.specs.Families.{requested, code, codes, familyOf, admits, belongs, belongsRow, shared, gathered, withFallback, meet}
+use Rattle.solver.specs.Families as asked
+use Rattle.solver.specs.Families.{requested, code, familyOf, belongs, belongsRow, sieve, gathered, joinedAs, meet, rangedAt, taken}
 use Rattle.solver.specs.Shapes.{loose, exact, blank, blankRow, unmarked, read, sameShape, turned}
 use Rattle.solver.specs.Constrain.{replace, followed, resolve, follow, recovery, is, projects, joined, join, allow, admit, bind₁, bind₀, bind, zipOn, decompose, differ, match, checkPair, settles}
 use Rattle.solver.specs.Session.{documentLimits, samePlace, find, fresh, deferring, settleAt, numericAt, neverAt, numericDefaults, neverDefaults}
@@ -84,7 +85,7 @@ record Examples : Type 0 where
 
 examples : Examples
 unfolding answers loose exact ℕ-discrete put size nums row tag class children subs same among meets
-    code codes familyOf admits belongs belongsRow shared gathered withFallback meet blank blankRow unmarked read sameShape turned
+    code asked.among familyOf belongs belongsRow sieve gathered joinedAs meet rangedAt taken blank blankRow unmarked read sameShape turned
     replace followed resolve follow recovery is projects joined join allow admit bind₁ bind₀ bind zipOn decompose differ match checkPair settles
     samePlace find deferring settleAt numericAt neverAt numericDefaults neverDefaults verdictOf solverOf beyond variableAt numberAt holeAt order replies
 examples = record {

@@ -1,5 +1,6 @@
 -- Laws: a session in its words: columns, counters, methods.
 --   ColumnLaws          reading and writing the columns of a table
+--   RequestWordLaws     the words of requests: what one admits, how two meet, what a default takes
 --   RepresentationLaws  a session that is held, at the start, with more tokens and with other scratch
 --   MethodLaws          the counters and the table after a method, by what has changed; places and orders 0 to 2
 --   ChainLaws           the end of a chain of bindings; deferrals and defaults
@@ -8,6 +9,7 @@
 --   SessionsLaws        a session alone in its areas: fresh, and cleared
 --   HandingLaws         the words of a rule, stored; what the readers say
 pub mod ColumnLaws
+pub mod RequestWordLaws
 pub mod RepresentationLaws
 pub mod MethodLaws
 pub mod ChainLaws

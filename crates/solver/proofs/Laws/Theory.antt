@@ -6,6 +6,7 @@
 --   TheorySimulation  each order and each answer, viewed
 --   MixView           lists of orders, with the notion of each pair
 --   Demand3Laws       demand 3; what a list that mixes strict pairs with others keeps of it
+--   FilledLaws        numeric defaults after a list whose pairs were all compatible
 --   AgainLaws         a compatible pair posed again binds nothing and is not incompatible
 --   RepeatLaws        so a script that repeats it runs through
 pub mod TheoryView
@@ -15,5 +16,6 @@ pub mod ConstrainView
 pub mod TheorySimulation
 pub mod MixView
 pub mod Demand3Laws
+pub mod FilledLaws
 pub mod AgainLaws
 pub mod RepeatLaws

@@ -3,20 +3,22 @@ use mathlib.Core.Bool.{Bool, true, false, _&&_, _||_}
 use mathlib.Core.List.{List}
 use mathlib.Core.Option.{Option, none, some}
 use mathlib.Core.Path.{_≡_}
-use Prim.Native.Nat.{ℕ, zero, suc, _+_, _*_, _^_, _≤_, _<_}
+use Prim.Native.Nat.{ℕ, zero, suc, _+_, _-_, _*_, _/_, _%_, _^_, _≤_, _<_}
+use lib.Bits.{bitAnd, bitOr}
 use lib.Dec.{eqb, ltb}
 use lib.ListN.{length, getD, set, drop}
 use Rattle.terms.specs.Result.{pick}
-use Rattle.terms.specs.Term.{Term, var, node, num, end}
+use Rattle.terms.specs.Term.{Term, var, node}
 use Rattle.solver.specs.declared.Solver.{Solver}
 use Rattle.solver.specs.declared.Named.{Named}
 use Rattle.solver.specs.declared.Named.the-variants.{Variable, Full}
 use Rattle.solver.specs.Constrain as solving
 use Rattle.unify.specs.Solver.{put}
-use Rattle.solver.specs.Constrain.{resolved, top, Requests}
-use Rattle.solver.specs.Session.{Limits, VariablePlace, Session, issued, find, issueAt, settleAt, numericDefaults, neverDefaults}
+use Rattle.solver.specs.Families.{Numeric, I8, I16, I32, I64, U8, U16, U32, U64}
+use Rattle.solver.specs.Constrain.{resolved, Requests}
+use Rattle.solver.specs.Session.{Limits, VariablePlace, Session, issued, find, issueAt, numericAt, neverAt, numericDefaults, neverDefaults}
 use Rattle.solver.specs.Orders.{Reply, term, refused, Step, full}
-use Rattle.solver.specs.Words.SessionRepresentation.{Represents}
+use Rattle.solver.specs.Words.SessionRepresentation.{flag, Represents}
 
 -- ---- the words
 
@@ -123,31 +125,57 @@ EndsAt m (node k ps) r = r ≡ m
 abbrev pub boundTo : solving.Solver → ℕ → Term → Requests → solving.Solver
 boundTo z v t rs = record { bindings = put (z .bindings) v (some t); requests = rs; revision = suc (z .revision) }
 
--- the request of v went on to the variable val, if there is one and the kind says that there is a variable
+-- the types that the word of a request admits, as a mask
+unfoldable pub maskIn : ℕ → ℕ
+maskIn word = pick (ltb 32 word) ((word - 33) / 32 % 256) (pick (eqb word 10) 768 255)
+
+-- A variable of the first word is bound to one of the second, which then has this word. The words of plain requests, and 0, are below 64: where both are,
+-- the first goes on. Else the types of both, with the first's fallback.
+unfoldable pub joinedWord : ℕ → ℕ → ℕ
+joinedWord word other = pick (ltb (bitOr word other) 64) word (33 + (word - 1) % 32 + 32 * bitAnd (maskIn word) (maskIn other))
+
+-- the request of v was joined to that of the variable val, if there is one and the kind says that there is a variable
 pub record Handed (m v kind val : ℕ) (ts us : List ℕ) : Type 0 where
   pub none : getD ts (m + v) 0 ≡ 0 → us ≡ ts
   pub node : (kind ≡ 1 → ⊥) → us ≡ ts
   pub far : m ≤ val → us ≡ ts
-  pub on : (getD ts (m + v) 0 ≡ 0 → ⊥) → kind ≡ 1 → val < m → us ≡ set ts (m + val) (getD ts (m + v) 0)
+  pub on : (getD ts (m + v) 0 ≡ 0 → ⊥) → kind ≡ 1 → val < m → us ≡ set ts (m + val) (joinedWord (getD ts (m + v) 0) (getD ts (m + val) 0))
   pub size : length us ≡ length ts
   pub rest : drop (7 * m) us ≡ drop (7 * m) ts
 
+-- ---- ranges
+
+-- the mask of the integer types that pass a test
+abbrev pub maskOf : (Numeric → Bool) → ℕ
+maskOf p =
+    flag (p I8) + 2 * flag (p I16) + 4 * flag (p I32) + 8 * flag (p I64)
+    + 16 * flag (p U8) + 32 * flag (p U16) + 64 * flag (p U32) + 128 * flag (p U64)
+
 -- ---- defaults
 
--- the builtin that a word names: 0 names none
-unfoldable pub settleWord : solving.Solver → ℕ → ℕ → solving.Solver
-settleWord z v zero = z
-settleWord z v (suc c) = settleAt z (node 4 (num c end)) (top z (var v))
-
--- of a variable's deferral, the word that names Never
+-- of a variable's deferral, the word of a request with fallback Never
 unfoldable pub neverWord : ℕ → ℕ
 neverWord zero = 0
 neverWord (suc n) = 11
 
--- the word that names the default of the variable v: by its deferral, or by its request
+-- the word that the default of the variable v goes by: of its deferral, or its request's
 unfoldable pub defaultWord : Bool → ℕ → List ℕ → ℕ → ℕ
 defaultWord true m ts v = neverWord (getD ts (5 * m + v) 0)
 defaultWord false m ts v = getD ts (m + v) 0
+
+-- and the word at the end of its chain: for Never it does not count
+unfoldable pub endWord : Bool → ℕ → List ℕ → ℕ → ℕ
+endWord true m ts w = 0
+endWord false m ts w = getD ts (m + w) 0
+
+-- what is admitted there, as a mask: where nothing is asked of the end, by the own word
+unfoldable pub endMask : ℕ → ℕ → ℕ
+endMask own last = pick (eqb last 0) (maskIn own) (maskIn last)
+
+-- the default of the variable v
+unfoldable pub defaultAt : Bool → Session → ℕ → solving.Solver
+defaultAt true s v = neverAt (s .solver) v (s .deferred v)
+defaultAt false s v = numericAt (s .solver) v (s .solver .requests v)
 
 -- the solver of a session after these defaults of the variables before n
 unfoldable pub defaulted : Bool → ℕ → Session → solving.Solver

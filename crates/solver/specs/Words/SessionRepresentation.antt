@@ -1,7 +1,8 @@
 -- A session as the counters, the two token areas and a table hold it. The table has seven columns of m words, m being the limit of
 -- variables, a word of each for every variable:
 --   0 binding    0 for none, p + 1 for the term at p
---   1 request    0 for none, c + 1 for the fallback code c
+--   1 request    0 for none, c + 1 for the plain request with the fallback code c; where a range took part 33 + c + 32 * m, with bit n of m for each
+--                type admitted whose code is n
 --   2 place      0 for a variable that is not issued, 1 for a site and slot, 2 for a hole
 --   3 site       0 for a variable that is not issued
 --   4 slot       0 for a hole, and for a variable that is not issued
@@ -12,8 +13,8 @@ use mathlib.Core.Bool.{Bool, true, false}
 use mathlib.Core.List.{List, [], _∷_, _++_}
 use mathlib.Core.Option.{Option, none, some}
 use mathlib.Core.Path.{_≡_}
-use Prim.Native.Nat.{ℕ, zero, suc, _+_, _*_, _^_, _≤_, _<_}
-use lib.Dec.{eqb}
+use Prim.Native.Nat.{ℕ, zero, suc, _+_, _-_, _*_, _/_, _%_, _^_, _≤_, _<_}
+use lib.Dec.{eqb, ltb}
 use lib.ListN.{length, getD, take, drop}
 use Rattle.terms.specs.Result.{pick}
 use Rattle.terms.specs.Words.Tokens.{Item}
@@ -21,7 +22,7 @@ use Rattle.terms.specs.Term.{node, num, end, items, Held}
 use Rattle.solver.specs.declared.Solver.{Solver}
 use Rattle.solver.specs.declared.Verdict.{Verdict}
 use Rattle.solver.specs.declared.Verdict.the-variants.{Incompatible, Compatible, Cancelled}
-use Rattle.solver.specs.Families.{Request, familyOf}
+use Rattle.solver.specs.Families.{Numeric, I8, I16, I32, I64, U8, U16, U32, U64, F32, F64, code, Family, integers, sieve, Request, requested}
 use Rattle.solver.specs.Session.{Limits, VariablePlace, at, gap, Session, issued}
 use Rattle.solver.specs.Invariant.{WithinLimits}
 use Rattle.solver.specs.Words.Bindings.{HeldBindings}
@@ -61,10 +62,40 @@ freeWords m ts = take m (drop (6 * m) ts)
 
 -- ---- what the words of a variable say
 
--- a family is that of the fallback, as order 1 requests it; a join leaves it so. The fallback is the code of a builtin.
+-- every type, by rising code
+abbrev pub everyNumeric : List Numeric
+everyNumeric = I8 ∷ I16 ∷ I32 ∷ I64 ∷ U8 ∷ U16 ∷ U32 ∷ U64 ∷ F32 ∷ F64 ∷ []
+
+unfoldable pub bit : ℕ → ℕ → Bool
+bit m n = eqb (m / 2 ^ n % 2) 1
+
+-- the types of a mask
+abbrev pub typesIn : ℕ → List Numeric
+typesIn m = sieve (λ x. bit m (code x)) everyNumeric
+
+-- a mask that has none does not stand in the table
+unfoldable pub familyIn : List Numeric → Family
+familyIn [] = integers
+familyIn (x ∷ l) = record { one = x; more = l }
+
+abbrev pub maskedFamily : ℕ → Family
+maskedFamily m = familyIn (typesIn m)
+
+-- the words that stand in the table for a request: the mask is a byte that is not 0
+pub record RequestWord (word : ℕ) : Type 0 where
+  pub some : 0 < word
+  pub mask : 32 < word → 64 < word
+  pub most : word < 33 + 32 * 256
+
+-- what such a word requests
+unfoldable pub requestIn : ℕ → Request
+requestIn word = pick (ltb 32 word)
+    (record { fallback = (word - 1) % 32; family = maskedFamily ((word - 33) / 32); ranged = true })
+    (requested (word - 1))
+
 abbrev pub HeldRequest : Option Request → ℕ → Type 0
 HeldRequest none word = word ≡ 0
-HeldRequest (some r) word = (word ≡ r .fallback + 1) × (r .family ≡ familyOf (r .fallback)) × (r .fallback < 32)
+HeldRequest (some r) word = RequestWord word × (r ≡ requestIn word)
 
 abbrev pub HeldPlace : VariablePlace → ℕ → ℕ → ℕ → Type 0
 HeldPlace (at s i) k site slot = (k ≡ 1) × (site ≡ s) × (slot ≡ i)

@@ -24,7 +24,7 @@ use Rattle.unify.specs.Mixes.{By, Mixing, also, noted, mix, mix-begin, A
 use Rattle.unify.specs.Filled.{AllGood, FilledBy}
 use Rattle.unify.proofs.FilledLaws.{defaults-leave}
 use Rattle.unify.specs.Ranged.{I8, I16, I32, I64, U8, U16, U32, U64, code, among, Family, admits, integers, familyOf, sieve, gathered, Bound, below, lowest, highest}
-use Rattle.unify.specs.Ranged.{Request, plainly, within, requestOf, joinedAs, meet, firstOf, chosen, rangedAt, familyAt, taken, Good}
+use Rattle.unify.specs.Ranged.{Request, requested, requestOf, joinedAs, meet, firstOf, chosen, rangedAt, familyAt, taken, Good}
 use Rattle.unify.proofs.RangedLaws.{never-true, both, Meets, meets, misses, admits-one, range-good, plain-good, good-meet, taken-in}
 use Rattle.unify.proofs.Examples.Kagari.{Head, head, head-discrete, list-discrete, kagari-soft, kagari-rigid, kagari-shape, kagari-some-plain, loose, arity, neverHead, is}
 
@@ -175,7 +175,7 @@ record Worked : Type 0 where
   small-is : requestOf 5 (plus 0) (plus 10) ≡ some (asking integers 5 true)
 
 worked : Worked
-unfolding requestOf within gathered sieve below lowest highest
+unfolding requestOf joinedAs gathered sieve below lowest highest
 worked = record { bytes = refl; zero-is = refl; zero-high = refl; none-holds = refl; only-i64 = refl; only-u64 = refl; above = refl; signed-is = refl; below-is = refl; small-is = refl }
 
 answers : List (Command ranges) → List (Reply ranges)
@@ -186,36 +186,36 @@ builtinTerm c = node (builtin c) nil
 
 record Sessions : Type 0 where
   -- a plain I8 is bound to a range that does not hold it: the default of the first goes by the end of its chain, and takes I32, not I8
-  chain : answers (number 1 (plainly 0) ∷ number 2 wide ∷ pair 9 (var 0) (var 1) ∷ numbers ∷ resolving (var 0) ∷ revision ∷ [])
+  chain : answers (number 1 (requested 0) ∷ number 2 wide ∷ pair 9 (var 0) (var 1) ∷ numbers ∷ resolving (var 0) ∷ revision ∷ [])
       ≡ term (var 0) ∷ term (var 1) ∷ verdict 1 ∷ changed true ∷ term (builtinTerm 2) ∷ count 2 ∷ []
   -- a range below zero: what the end admits is I8, I16, I32, I64, and not the fallback U8
-  below-zero : answers (number 0 (plainly 4) ∷ number 1 (asking (signed .family) 2 true) ∷ pair 9 (var 0) (var 1) ∷ numbers ∷ resolving (var 1) ∷ [])
+  below-zero : answers (number 0 (requested 4) ∷ number 1 (asking (signed .family) 2 true) ∷ pair 9 (var 0) (var 1) ∷ numbers ∷ resolving (var 1) ∷ [])
       ≡ term (var 0) ∷ term (var 1) ∷ verdict 1 ∷ changed true ∷ term (builtinTerm 2) ∷ []
   -- the fallback is that of the variable whose turn it is, the end's request says what is admitted: U16, not U8
   turns : answers (number 0 (asking integers 5 true) ∷ variable 1 0 ∷ number 2 (asking integers 4 true) ∷ pair 9 (var 0) (var 1) ∷ pair 9 (var 2) (var 1) ∷ numbers ∷ resolving (var 1) ∷ [])
       ≡ term (var 0) ∷ term (var 1) ∷ term (var 2) ∷ verdict 1 ∷ verdict 1 ∷ changed true ∷ term (builtinTerm 5) ∷ []
   -- a range requested of a variable that is bound already: the end, which has a plain request, does not learn of it; one without request does
-  late : answers (number 0 (plainly 2) ∷ number 1 (plainly 2) ∷ pair 9 (var 0) (var 1) ∷ number 0 wide ∷ numbers ∷ resolving (var 1) ∷ [])
+  late : answers (number 0 (requested 2) ∷ number 1 (requested 2) ∷ pair 9 (var 0) (var 1) ∷ number 0 wide ∷ numbers ∷ resolving (var 1) ∷ [])
       ≡ term (var 0) ∷ term (var 1) ∷ verdict 1 ∷ term (var 1) ∷ changed true ∷ term (builtinTerm 0) ∷ []
   late-free : answers (variable 0 1 ∷ variable 1 0 ∷ pair 9 (var 0) (var 1) ∷ number 0 wide ∷ numbers ∷ resolving (var 1) ∷ [])
       ≡ term (var 0) ∷ term (var 1) ∷ verdict 1 ∷ term (var 1) ∷ changed true ∷ term (builtinTerm 2) ∷ []
   -- (a range took part in the own request: what the end admits is I32, not the fallback F64)
-  late-float : answers (number 0 (plainly 2) ∷ number 1 (plainly 2) ∷ pair 9 (var 0) (var 1) ∷ number 0 (asking (wide .family) 9 true) ∷ numbers ∷ resolving (var 1) ∷ [])
+  late-float : answers (number 0 (requested 2) ∷ number 1 (requested 2) ∷ pair 9 (var 0) (var 1) ∷ number 0 (asking (wide .family) 9 true) ∷ numbers ∷ resolving (var 1) ∷ [])
       ≡ term (var 0) ∷ term (var 1) ∷ verdict 1 ∷ term (var 1) ∷ changed true ∷ term (builtinTerm 2) ∷ []
   -- a range over an end that admits floats alone: nothing of the list is admitted, and the fallback is taken
-  late-none : answers (number 0 (plainly 9) ∷ number 1 (plainly 9) ∷ pair 9 (var 0) (var 1) ∷ number 0 wide ∷ numbers ∷ resolving (var 1) ∷ [])
+  late-none : answers (number 0 (requested 9) ∷ number 1 (requested 9) ∷ pair 9 (var 0) (var 1) ∷ number 0 wide ∷ numbers ∷ resolving (var 1) ∷ [])
       ≡ term (var 0) ∷ term (var 1) ∷ verdict 1 ∷ term (var 1) ∷ changed true ∷ term (builtinTerm 0) ∷ []
   -- a plain request after a range makes the variable plain again
-  plain-again : answers (number 0 wide ∷ number 0 (plainly 2) ∷ pair 9 (var 0) (builtinTerm 0) ∷ [])
+  plain-again : answers (number 0 wide ∷ number 0 (requested 2) ∷ pair 9 (var 0) (builtinTerm 0) ∷ [])
       ≡ term (var 0) ∷ term (var 0) ∷ verdict 1 ∷ []
   -- three variables: the two ranges leave I16, I32, I64, and the fallback of the first, I64, is among them; U8 is not
-  meeting : answers (number 1 (plainly 3) ∷ number 2 wide ∷ number 3 signed ∷ pair 9 (var 1) (var 2) ∷ pair 9 (var 0) (var 1) ∷ pair 9 (var 2) (builtinTerm 4) ∷ numbers ∷ resolving (var 1) ∷ [])
+  meeting : answers (number 1 (requested 3) ∷ number 2 wide ∷ number 3 signed ∷ pair 9 (var 1) (var 2) ∷ pair 9 (var 0) (var 1) ∷ pair 9 (var 2) (builtinTerm 4) ∷ numbers ∷ resolving (var 1) ∷ [])
       ≡ term (var 0) ∷ term (var 1) ∷ term (var 2) ∷ verdict 1 ∷ verdict 1 ∷ verdict 0 ∷ changed true ∷ term (builtinTerm 3) ∷ []
   -- a join marks its end: I8, requested plainly and bound to an end that was plain until a range joined it, is not taken
-  marked : answers (number 1 (plainly 0) ∷ number 2 (plainly 2) ∷ number 3 wide ∷ pair 9 (var 2) (var 1) ∷ pair 9 (var 0) (var 1) ∷ numbers ∷ resolving (var 1) ∷ [])
+  marked : answers (number 1 (requested 0) ∷ number 2 (requested 2) ∷ number 3 wide ∷ pair 9 (var 2) (var 1) ∷ pair 9 (var 0) (var 1) ∷ numbers ∷ resolving (var 1) ∷ [])
       ≡ term (var 0) ∷ term (var 1) ∷ term (var 2) ∷ verdict 1 ∷ verdict 1 ∷ changed true ∷ term (builtinTerm 2) ∷ []
   -- F64 meets no range; a range of I64 alone meets none of U64 alone
-  apart : answers (number 1 (plainly 9) ∷ number 2 wide ∷ pair 9 (var 0) (var 1) ∷ number 3 (asking (record { one = I64; more = [] }) 2 true) ∷ number 4 (asking (record { one = U64; more = [] }) 2 true) ∷ pair 9 (var 2) (var 3) ∷ numbers ∷ resolving (var 3) ∷ [])
+  apart : answers (number 1 (requested 9) ∷ number 2 wide ∷ pair 9 (var 0) (var 1) ∷ number 3 (asking (record { one = I64; more = [] }) 2 true) ∷ number 4 (asking (record { one = U64; more = [] }) 2 true) ∷ pair 9 (var 2) (var 3) ∷ numbers ∷ resolving (var 3) ∷ [])
       ≡ term (var 0) ∷ term (var 1) ∷ verdict 0 ∷ term (var 2) ∷ term (var 3) ∷ verdict 0 ∷ changed true ∷ term (builtinTerm 7) ∷ []
 
 sessions : Sessions
@@ -228,16 +228,16 @@ sessions = record { chain = refl; below-zero = refl; turns = refl; late = refl; 
 
 -- The premises of `ranged-defaults` are met: a plain request with fallback I8, and one from 0 to 200, joined by a strict pair.
 abbrev joining : List (By ranges Bool)
-joining = (false, number 1 (plainly 0)) ∷ (false, number 2 wide) ∷ (true, pair 9 (var 0) (var 1)) ∷ []
+joining = (false, number 1 (requested 0)) ∷ (false, number 2 wide) ∷ (true, pair 9 (var 0) (var 1)) ∷ []
 
 abbrev joinedRun : Mixing ranges default neverHead Bool norm
 joinedRun = mix ranges default neverHead Bool norm (mix-begin ranges default neverHead Bool norm) joining
 
 good-wide : Good wide
-unfolding requestOf within gathered sieve below lowest highest
+unfolding requestOf joinedAs gathered sieve below lowest highest
 good-wide = range-good 0 (plus 0) (plus 200) wide refl
 
-good-plain : Good (plainly 0)
+good-plain : Good (requested 0)
 unfolding familyOf among code
 good-plain = plain-good 0 refl
 
@@ -248,13 +248,13 @@ unfolding norm head-discrete list-discrete kagari-soft kagari-rigid ℕ-discrete
     obey serve-number serve-pair lift settle mix also noted
 filled-so = ranged-defaults joining (refl, (refl, (tt, tt))) (refl, (tt, tt, tt)) goods refl
   where
-    first : (v : ℕ) (f : Request) → ((v ≡ 0) × (plainly 0 ≡ f)) ⊎ ((v ≢ 0) × (_≡_ {A = Option Request} none (some f))) → Good f
+    first : (v : ℕ) (f : Request) → ((v ≡ 0) × (requested 0 ≡ f)) ⊎ ((v ≢ 0) × (_≡_ {A = Option Request} none (some f))) → Good f
     first v f (inl q) = subst (λ (r : Request). Good r) (q .1) good-plain
     first v f (inr q) = clash (cc (q .1))
 
-    second : (v : ℕ) (f : Request) → ((v ≡ 1) × (wide ≡ f)) ⊎ ((v ≢ 1) × (put (λ w. none) 0 (some (plainly 0)) v ≡ some f)) → Good f
+    second : (v : ℕ) (f : Request) → ((v ≡ 1) × (wide ≡ f)) ⊎ ((v ≢ 1) × (put (λ w. none) 0 (some (requested 0)) v ≡ some f)) → Good f
     second v f (inl q) = subst (λ (r : Request). Good r) (q .1) good-wide
-    second v f (inr q) = first v f (put-cases (λ w. none) 0 (plainly 0) v f (q .1))
+    second v f (inr q) = first v f (put-cases (λ w. none) 0 (requested 0) v f (q .1))
 
     goods : AllGood ranges Good (joinedRun .run .asked)
-    goods v f p = second v f (put-cases (put (λ w. none) 0 (some (plainly 0))) 1 wide v f p)
+    goods v f p = second v f (put-cases (put (λ w. none) 0 (some (requested 0))) 1 wide v f p)

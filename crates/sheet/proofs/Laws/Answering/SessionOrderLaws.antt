@@ -1,4 +1,4 @@
--- Steps of orders 0 to 8 done on what is lent: what each answers, and that it is done or not.
+-- Steps of orders 0 to 8, 21 and 22 done on what is lent: what each answers, and that it is done or not.
 use mathlib.Core.Path.{_≡_, refl, sym, ap, subst, _∙_}
 use mathlib.Core.Bool.{Bool, true, false, not, _||_}
 use mathlib.Core.List.{List, [], _∷_, _++_}
@@ -17,13 +17,13 @@ use Rattle.solver.specs.declared.Named.the-variants.{Variable, Full}
 use Rattle.sheet.specs.declared.VariableOrder.{VariableOrder}
 use Rattle.sheet.specs.declared.VariableOrder.the-variants.{Slot, Number, Hole}
 use Rattle.sheet.specs.declared.TermlessOrder.{TermlessOrder}
-use Rattle.solver.specs.Families.{Request, requested}
+use Rattle.solver.specs.Families.{Request}
 use Rattle.solver.specs.Constrain.{resolved}
 use Rattle.solver.specs.Session.{Limits, Session, VariablePlace, at, gap, issued, find}
 use Rattle.solver.specs.Orders as orders
 use Rattle.solver.specs.Orders.{order, variableAt, numberAt, holeAt, full, refused, _gives_}
 use Rattle.solver.specs.Invariant.{InOrder}
-use Rattle.solver.specs.Words.SessionRepresentation.{Represents, limitsOf}
+use Rattle.solver.specs.Words.SessionRepresentation.{requestIn, Represents, limitsOf}
 use Rattle.solver.specs.Words.MethodContract.{Beside, found, placed, namedOf}
 use Rattle.solver.specs.Words.OrderTerms.{placeOf}
 use Rattle.solver.proofs.Laws.Definition.SolverInvariantLaws.{ordered-revision}
@@ -145,7 +145,7 @@ module _ (lim : Limits) (z : Session) (site slot : ℕ) where
   unfolding order variableAt
   variable-full u f = rw (u, f) refl
 
--- order 1
+-- orders 1 and 21
 module _ (lim : Limits) (z : Session) (site : ℕ) (r : Request) where
   number-go : (o : Option ℕ) (f : Bool) → full lim z ≡ f → found (issued z) o < lim .variables
       → answerOf (numberAt lim z (at site 1) r o f .reply) ≡ outcome (bytes (resolved (z .solver) (var (found (issued z) o))))
@@ -180,17 +180,17 @@ module _ (lim : Limits) (z : Session) (site : ℕ) where
   unfolding order holeAt
   hole-full u f = rw (u, f) refl
 
--- all three
+-- all of them
 module _ (lim : Limits) (z : Session) where
   pub variable-order-answer : (o : VariableOrder) → nextOf z (placeOf (siteOf o)) < lim .variables
       → solve lim z (variableCommand o) .answer ≡ outcome (bytes (variableAnswer z o (nextOf z (placeOf (siteOf o)))))
   variable-order-answer (Slot s i) = variable-answer lim z s i
-  variable-order-answer (Number s f) = number-answer lim z s (requested f)
+  variable-order-answer (Number s w) = number-answer lim z s (requestIn w)
   variable-order-answer (Hole s) = hole-answer lim z s
 
   pub variable-order-full : (o : VariableOrder) → find (placeOf (siteOf o)) (z .places) ≡ none → full lim z ≡ true → order lim z (variableCommand o) ≡ (z gives refused 8)
   variable-order-full (Slot s i) = variable-full lim z s i
-  variable-order-full (Number s f) = number-full lim z s (requested f)
+  variable-order-full (Number s w) = number-full lim z s (requestIn w)
   variable-order-full (Hole s) = hole-full lim z s
 
 -- refusal 8, whatever the order
@@ -200,6 +200,12 @@ unfolding answerOf
 full-does x ks vs ts z L c e out₀ to out r f =
     does-same L (solve (limitsOf x) z c) out₀ to out r (ap (λ (s : orders.Step). s .session) e)
     (subst (λ a. Framed a out₀ to out r) (sym (ap (λ (s : orders.Step). answerOf (s .reply)) e)) f)
+
+-- any other refusal
+pub refusal-does : (x : Solver) (ks vs ts : List ℕ) (z : Session) → Represents x ks vs ts z → (c : ℕ) (out₀ : List ℕ) (to : ℕ) (out : List ℕ) (r : ℕ) → Framed (refusal c) out₀ to out r
+    → Does (lent x ks vs ts) x ts z (solve (limitsOf x) z (orders.unread c)) (outputAt out₀ to) (outputAt out r)
+unfolding order answerOf
+refusal-does x ks vs ts z L c out₀ to out r f = does-same L (solve (limitsOf x) z (orders.unread c)) out₀ to out r refl f
 
 -- ---- answers that are terms
 
@@ -216,7 +222,7 @@ changed-same old new e = rw (eq-eqb new old e) refl
 pub changed-other : (old new : ℕ) → (new ≡ old → ⊥) → 1 ≡ bit (not (eqb new old))
 changed-other old new e = rw (ne-eqb new old e) refl
 
--- ---- orders 0 to 2: by the variable that the place has or would be given
+-- ---- orders 0 to 2 and 21: by the variable that the place has or would be given
 
 module _ (x : Solver) (ks vs ts : List ℕ) (z : Session) (L : Represents x ks vs ts z) (c : orders.Command) (p : VariablePlace) (w : ℕ → List ℕ)
     (answers : nextOf z p < x .variables → solve (limitsOf x) z c .answer ≡ outcome (w (nextOf z p)))

@@ -2,6 +2,7 @@
 use mathlib.Core.Path.{_≡_, refl, sym, ap, subst, _∙_}
 use mathlib.Core.Bool.{Bool, true, false, _||_}
 use mathlib.Core.List.{List, [], _∷_}
+use mathlib.Core.Logic.{inl, inr}
 use mathlib.Core.Option.{Option, none, some}
 use Prim.Native.Nat.{ℕ, zero, suc, _+_, _≤_, _<_}
 use native.Mathlib.Omega.{arith}
@@ -12,20 +13,22 @@ use Rattle.solver.specs.Terms.Term.{Term, size}
 use Rattle.solver.specs.Terms.Formed.{Formed}
 use Rattle.solver.proofs.Terms.Bools.{never-true}
 use Rattle.solver.proofs.Terms.KindTableLaws.{both-true}
-use Rattle.solver.specs.Families.{requested}
+use Rattle.solver.specs.Families.{Bound, Request, requested, requestOf}
+use Rattle.solver.specs.Demand3.{RequestMade}
 use Rattle.solver.specs.Session.{Limits, Session, issued}
 use Rattle.solver.specs.Orders as orders
 use Rattle.solver.specs.Orders.{Command, order, known}
+use Rattle.solver.proofs.Laws.Definition.FamilyLaws.{range-made}
 use Rattle.solver.proofs.Laws.Definition.SolverInvariantLaws.{within-known}
 use Rattle.sheet.specs.Fields as fields
 use Rattle.sheet.specs.Fields.{FieldSort, Field, value, tree, nodes, allNodes, nth, numberOf, numberAt, termOf}
 use Rattle.sheet.specs.OrderTable as rows
-use Rattle.sheet.specs.OrderTable.{refusal, Act, tells, answers, Row, sessionOrders, rowIn, layout, knownBy}
+use Rattle.sheet.specs.OrderTable.{refusal, Act, tells, answers, Row, between, asking, sessionOrders, rowIn, layout, knownBy}
 use Rattle.sheet.specs.Sheet.{Step, table, answerOf, solve, perform, step}
 use Rattle.sheet.specs.Words.FieldsFormed.{FormedFields}
 use Rattle.sheet.specs.Words.OrderGiven.{OfSort, FitsLayout}
 use Rattle.sheet.specs.Words.FieldLayout.{sortNumber, isNumber, numeric, isTokenless, tokenless, fieldItems, allItems}
-use Rattle.sheet.proofs.Laws.Reading.OrderTableLaws.{session-row}
+use Rattle.sheet.proofs.Laws.Reading.OrderTableLaws.{none-some, session-row}
 
 -- ---- fields that are numbers
 
@@ -105,18 +108,18 @@ two-terms (f ∷ (g ∷ [])) h = absurd (h .1 .1)
 two-terms (f ∷ (g ∷ (i ∷ []))) h = (h .0 .0, h .1 .0 .0, h .1 .1 .0 .0, rw (h .0 .1, h .1 .0 .1, h .1 .1 .0 .1) refl)
 two-terms (f ∷ (g ∷ (i ∷ (j ∷ fs)))) h = absurd (h .1 .1 .1)
 
-pub second-code : (fs : List Field) → FitsLayout (fields.ordinary ∷ fields.code ∷ []) fs → numberAt 1 fs < 32
+pub second-code : (l : List FieldSort) (fs : List Field) → FitsLayout (fields.ordinary ∷ fields.code ∷ l) fs → numberAt 1 fs < 32
 unfolding FitsLayout nth numberOf
-second-code [] h = absurd h
-second-code (f ∷ []) h = absurd (h .1)
-second-code (f ∷ (g ∷ fs)) h = rw (h .1 .0 .1) (h .1 .0 .2)
+second-code l [] h = absurd h
+second-code l (f ∷ []) h = absurd (h .1)
+second-code l (f ∷ (g ∷ fs)) h = rw (h .1 .0 .1) (h .1 .0 .2)
 
 -- ---- an order of the session
 
--- what reading gives: formed terms, and what is requested is what a fallback requests, which is a builtin's code
+-- what reading gives: formed terms, and what is requested is what a fallback, which is a builtin's code, or a range requests
 abbrev pub FormedCommand : Command → Type 0
 FormedCommand (orders.variable site slot) = Unit {0}
-FormedCommand (orders.number site r) = (r ≡ requested (r .fallback)) × (r .fallback < 32)
+FormedCommand (orders.number site r) = RequestMade r × (r .fallback < 32)
 FormedCommand (orders.hole site) = Unit {0}
 FormedCommand (orders.defer t) = Formed t
 FormedCommand (orders.pair d k t u) = Formed t × Formed u
@@ -128,7 +131,7 @@ FormedCommand (orders.unread r) = Unit {0}
 
 -- f makes the command of fields of the layout l
 pub record Made (l : List FieldSort) (f : List Field → Command) : Type 0 where
-  -- its terms are formed, and what it requests is what a fallback requests
+  -- its terms are formed, and what it requests is what a fallback or a range requests
   pub read : (n : ℕ) (fs : List Field) → FitsLayout l fs → FormedFields n fs → FormedCommand (f fs)
   -- with more nodes than the limit it is refused
   pub crowded : (lim : Limits) (z : Session) (fs : List Field) → FitsLayout l fs → FormedFields (issued z) fs → z .kept ≤ lim .nodes → lim .nodes < z .kept + allNodes fs
@@ -145,8 +148,32 @@ variable-made = record { read = λ n fs fit formed. tt; crowded = λ lim z fs fi
 number-made : Made (layout rows.number-variable) (λ fs. orders.number (numberAt 0 fs) (requested (numberAt 1 fs)))
 unfolding layout tokenless isTokenless isNumber sortNumber nth numberOf
 number-made = record {
-  read = λ n fs fit formed. (refl, second-code fs fit);
+  read = λ n fs fit formed. (inl refl, second-code [] fs fit);
   crowded = λ lim z fs fit formed g h. uncrowded (layout rows.number-variable) refl lim z fs fit g h;
+}
+
+-- what a range requests
+between-made : (c : ℕ) (x y : Option Bound) (r : Request) → between c x y ≡ some r → RequestMade r × (r .fallback ≡ c)
+unfolding between
+between-made c none y r e = none-some e
+between-made c (some low) none r e = none-some e
+between-made c (some low) (some high) r e =
+    let f = range-made c low high r e .0 in
+    (inr (low, high, ap (λ (d : ℕ). requestOf d low high) f ∙ e), f)
+
+asking-made : (site c : ℕ) (x y : Option Bound) → c < 32 → FormedCommand (asking site (between c x y))
+unfolding asking
+asking-made site c x y l = go (between c x y) refl
+  where
+    go : (o : Option Request) → between c x y ≡ o → FormedCommand (asking site o)
+    go none e = tt
+    go (some r) e = let m = between-made c x y r e in (m .0, omega (arith, m .1))
+
+range-variable-made : Made (layout rows.range-variable) (λ fs. asking (numberAt 0 fs) (between (numberAt 1 fs) (fields.boundAt 2 fs) (fields.boundAt 3 fs)))
+unfolding layout tokenless isTokenless isNumber sortNumber
+range-variable-made = record {
+  read = λ n fs fit formed. asking-made (numberAt 0 fs) (numberAt 1 fs) (fields.boundAt 2 fs) (fields.boundAt 3 fs) (second-code (fields.bound ∷ fields.bound ∷ []) fs fit);
+  crowded = λ lim z fs fit formed g h. uncrowded (layout rows.range-variable) refl lim z fs fit g h;
 }
 
 hole-made : Made (layout rows.annotation-hole) (λ fs. orders.hole (numberAt 0 fs))
@@ -204,7 +231,7 @@ All (r ∷ rs) = MadeBy (layout r) (r .act) × All rs
 all-made : All sessionOrders
 unfolding sessionOrders layout
 all-made =
-    (variable-made, (number-made, (hole-made, (defer-made, (pair-made false, (resolve-made, (bare-made orders.numbers tt, (bare-made orders.nevers tt, (bare-made orders.revision tt, (pair-made true, tt))))))))))
+    (variable-made, (number-made, (hole-made, (defer-made, (pair-made false, (resolve-made, (bare-made orders.numbers tt, (bare-made orders.nevers tt, (bare-made orders.revision tt, (range-variable-made, (pair-made true, tt)))))))))))
 
 found : (rs : List Row) → All rs → (k : ℕ) (r : Row) → rowIn rs k ≡ some r → MadeBy (layout r) (r .act)
 unfolding rowIn

@@ -87,7 +87,7 @@ packed-some a l = omega (arith, sort-some a)
 some-same : {A : Type 0} {a b : A} → some a ≡ some b → a ≡ b
 some-same e = cc
 
-none-some : {A B : Type 0} {a : A} → _≡_ {A = Option A} none (some a) → B
+pub none-some : {A B : Type 0} {a : A} → _≡_ {A = Option A} none (some a) → B
 none-some e = let z : _≡_ {A = ℕ} 0 1 = cc in absurd (omega arith)
 
 -- a test that every row passes

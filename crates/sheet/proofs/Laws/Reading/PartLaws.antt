@@ -6,7 +6,7 @@ use mathlib.Core.Logic.{_⊎_, inl, inr}
 use Prim.Native.Nat.{ℕ, zero, suc, _+_, _-_, _*_, _^_, _≤_, _<_}
 use native.Mathlib.Decide.{decLt, ℕ-discrete}
 use native.Mathlib.Omega.{arith}
-use borrow.Author.Tests.{ne-eqb, lt-ltb, le-ltb, lt-leb}
+use borrow.Author.Tests.{ne-eqb, lt-ltb, le-ltb}
 use lib.Dec.{eqb}
 use lib.ListN.{length, getD}
 use Rattle.solver.specs.TermTypes.{Place, Step, Next, Stopped}
@@ -31,7 +31,7 @@ use Rattle.solver.specs.Words.HandingContract.{NumberSaid, PassedSaid, StepSaid
 use Rattle.sheet.specs.declared.FieldSpot.{FieldSpot}
 use Rattle.sheet.specs.Fields as fields
 use Rattle.sheet.specs.Fields.{Field, value, bounded, tree, bare, entered, received, named, listed, levels, nodes}
-use Rattle.sheet.specs.Words.FieldLayout.{signPlace, plainOf, partOf, keysOf, fieldItems, Free, Ample, PartDone, FieldDone, ReadOnly, valueField, listField, FieldRead, Spotted, Unread}
+use Rattle.sheet.specs.Words.FieldLayout.{plainOf, partOf, keysOf, fieldItems, Free, Ample, PartDone, FieldDone, ReadOnly, valueField, listField, FieldRead, Spotted, Unread}
 use Rattle.sheet.specs.Words.FieldsContract.{fieldOf, ReadAt}
 use Rattle.sheet.proofs.Laws.Reading.StoredLaws.{stored-none, stored-kept}
 use Rattle.sheet.proofs.Laws.Reading.CodeLaws.{Coded, not-zero, number-coded, value-coded, bounded-coded, named-coded, parameters-coded, part-coded}
@@ -241,18 +241,6 @@ list-field s ws at found whole p d e (Unread c) h x = (h ∙ x .0, x .1)
 
 -- ---- fields without tokens
 
-pub sign-plus : (b : ℕ) → b ≡ 0 → 0 ≡ signPlace b
-unfolding signPlace
-sign-plus b e = rw e refl
-
-pub sign-minus : (b : ℕ) → b ≡ 1 → 1 ≡ signPlace b
-unfolding signPlace
-sign-minus b e = rw e refl
-
-pub sign-other : (b : ℕ) → (b ≡ 0 → ⊥) → (b ≡ 1 → ⊥) → 2 ≡ signPlace b
-unfolding signPlace
-sign-other b e f = rw (lt-leb b 1 (omega arith)) refl
-
 module _ (s : List ℕ) (p : Place) (inside : p .at ≤ length s) where
   pub value-yes : (most v n : ℕ) (x : FieldSpot) → got v n ≡ number s most (p .at) → x .value ≡ v → ReadOnly s (valueField s most (p .at)) p (Spotted x (moved p n))
   unfolding fieldItems nodes
@@ -290,7 +278,7 @@ module _ (s : List ℕ) (p : Place) (inside : p .at ≤ length s) where
       unfolding fields.field
       bound-low c i ws d f = (rw (lt-ltb (p .at) (length s) h, ← e, ← i), refl)
 
-      pub bound-yes : (w n : ℕ) (x : FieldSpot) → got w n ≡ number s (ceiling shape.ordinary) m → x .value ≡ v * 4294967296 + w → x .place ≡ signPlace (getD s (p .at) 0)
+      pub bound-yes : (w n : ℕ) (x : FieldSpot) → got w n ≡ number s (ceiling shape.ordinary) m → x .value ≡ v * 4294967296 + w → x .place ≡ getD s (p .at) 0
           → ReadOnly s (fields.field s 0 fields.bound (p .at)) p (Spotted x (moved p n))
       unfolding fields.field fieldItems nodes
       bound-yes w n x i ev ep ws d f =
@@ -415,7 +403,7 @@ module _ (s : List ℕ) (at₀ : ℕ) (inside : at₀ ≤ length s) where
         pub bound-small : next-code ≡ 0 → w ≤ 4294967295
         bound-small n = number-bounds (ceiling shape.ordinary) s at w next (bound-after .1) (sym (got-low n)) .small
 
-        pub bound-said : next-code ≡ 0 → (size start : ℕ) → size ≡ v * 4294967296 + w → start ≡ signPlace (getD s at₀ 0) → ReadAt s (fields.field s 0 fields.bound at₀) at₀ 0 size start next
+        pub bound-said : next-code ≡ 0 → (size start : ℕ) → size ≡ v * 4294967296 + w → start ≡ getD s at₀ 0 → ReadAt s (fields.field s 0 fields.bound at₀) at₀ 0 size start next
         bound-said n size start ev ep end top nodes limit =
             bound-yes s (place at₀ top nodes limit) inside h v at got-high w next (record { value = size; place = start; end = end }) (got-low n) ev ep
 

@@ -97,8 +97,12 @@ unfolding table sessionOrders operations rowIn layout packed sortNumber
 returns-22 c = rw (c .match .keys22) refl
 
 returns-23 : tie.Need-returns-23
+unfolding table sessionOrders operations rowIn layout packed sortNumber
+returns-23 c = rw (c .match .keys23) refl
+
+returns-24 : tie.Need-returns-24
 unfolding table sessionOrders operations
-returns-23 c = sym (ap rowWords (unlisted _ (c .match .rest)))
+returns-24 c = sym (ap rowWords (unlisted _ (c .match .rest)))
 
 pub row-of-spec : {M : Type 1} → statement M
 row-of-spec =
@@ -126,4 +130,5 @@ row-of-spec =
     returns-20
     returns-21
     returns-22
-    returns-23)
+    returns-23
+    returns-24)

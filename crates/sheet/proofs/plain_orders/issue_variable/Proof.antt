@@ -2,7 +2,7 @@
 use mathlib.Core.Path.{subst}
 use Rattle.solver.proofs.Laws.Table.MethodLaws.{lent-shaped}
 use Rattle.sheet.specs.declared.VariableOrder.{VariableOrder}
-use Rattle.sheet.specs.Words.SessionOrdersContract.{FallbackListed}
+use Rattle.sheet.specs.Words.SessionOrdersContract.{RequestTold}
 use borrow.Author.Needs.{needs}
 use Rattle.sheet.proofs.plain_orders.issue_variable.Statement.{statement}
 use Rattle.sheet.proofs.plain_orders.issue_variable.Tie as tie
@@ -21,7 +21,7 @@ enum-known-wanted-2 c = search needs
 numeric-variable-requires : tie.Need-numeric-variable-requires
 numeric-variable-requires c κs =
     let p = c .before .before .before .before .before .pre in
-    let h = subst (λ (o : VariableOrder). FallbackListed o) (c .before .before .wanted2 .given .1) (p .1) in
+    let h = subst (λ (o : VariableOrder). RequestTold o) (c .before .before .wanted2 .given .1) (p .1) in
     (lent-shaped _ _ _ _ _ (p .0 .3), h, p .0)
 
 enum-known-wanted-3 : tie.Need-enum-known-wanted-3

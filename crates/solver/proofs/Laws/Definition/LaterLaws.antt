@@ -10,7 +10,7 @@ use Rattle.unify.specs.Term.{clash}
 use Rattle.unify.specs.Solver.{put-other}
 use Rattle.unify.specs.Table.{Table}
 use Rattle.unify.proofs.Whole.{Sane, sane-fill}
-use Rattle.solver.specs.Families.{Request}
+use Rattle.solver.specs.Families.{Request, taken}
 use Rattle.solver.specs.Shapes.{Notion, loose, notion, read}
 use Rattle.solver.specs.Constrain.{Solver, resolved, top, Pair, checkPair, settles, constrain}
 use Rattle.solver.specs.Session.{Limits, Session, at, gap, issued, find, deferring, never, settleAt, numericAt, neverAt, numericDefaults, neverDefaults}
@@ -60,23 +60,23 @@ module _ (n : Notion) (codes-count : n 4 ≡ false) (N : ℕ) where
 -- ---- defaults
 
 module _ (N : ℕ) where
-  default-ordered : (z : Solver) (c v : ℕ) → v < N → Ordered N z → Ordered N (settleAt z (node 4 (num c end)) (top z (var v)))
+  default-ordered : (z : Solver) (c : ℕ → ℕ) (v : ℕ) → v < N → Ordered N z → Ordered N (settleAt z (λ w. node 4 (num (c w) end)) (top z (var v)))
   default-ordered z c v l h =
       let e = notion-codes false in
-      sane-ordered loose e N (settleAt z (node 4 (num c end)) (top z (var v)))
+      sane-ordered loose e N (settleAt z (λ w. node 4 (num (c w) end)) (top z (var v)))
       (subst (λ (x : Table S). Sane S fallback never (read loose) (respects loose e) N x) (at-view z c v)
-      (sane-fill S fallback never (read loose) (respects loose e) N (view-table z) (λ w. node 4 (num c end)) v l (ordered-sane loose e N z h)))
+      (sane-fill S fallback never (read loose) (respects loose e) N (view-table z) (λ w. node 4 (num (c w) end)) v l (ordered-sane loose e N z h)))
 
-  settle-extends : (z : Solver) (d t : Term) → ((w : ℕ) → t ≡ var w → z .bindings w ≡ none) → Extends z (settleAt z d t)
+  settle-extends : (z : Solver) (d : ℕ → Term) (t : Term) → ((w : ℕ) → t ≡ var w → z .bindings w ≡ none) → Extends z (settleAt z d t)
   unfolding settleAt
-  settle-extends z d (var w) h v t e = put-other (z .bindings) w (some d) v (λ p. let q = ap (z .bindings) p in let r = h w refl in clash (cc)) ∙ e
+  settle-extends z d (var w) h v t e = put-other (z .bindings) w (some (d w)) v (λ p. let q = ap (z .bindings) p in let r = h w refl in clash (cc)) ∙ e
   settle-extends z d (node k ps) h v t e = e
 
   abbrev Kept : Solver → Solver → Type 0
   Kept z y = Ordered N y × Extends z y
 
-  default-kept : (z : Solver) (c v : ℕ) → v < N → Ordered N z → Kept z (settleAt z (node 4 (num c end)) (top z (var v)))
-  default-kept z c v l h = (default-ordered z c v l h, settle-extends z (node 4 (num c end)) (top z (var v)) (λ w q. top-free N z h (var v) w q))
+  default-kept : (z : Solver) (c : ℕ → ℕ) (v : ℕ) → v < N → Ordered N z → Kept z (settleAt z (λ w. node 4 (num (c w) end)) (top z (var v)))
+  default-kept z c v l h = (default-ordered z c v l h, settle-extends z (λ w. node 4 (num (c w) end)) (top z (var v)) (λ w q. top-free N z h (var v) w q))
 
   numeric-extends : (m v : ℕ) (z : Solver) → v + m ≤ N → Ordered N z → Extends z (numericDefaults m v z)
   unfolding numericDefaults numericAt
@@ -87,7 +87,7 @@ module _ (N : ℕ) where
     where
       go : (o : Option Request) → Kept z (numericAt z v o)
       go none = (h, λ w t e. e)
-      go (some r) = default-kept z (r .fallback) v (omega arith) h
+      go (some r) = default-kept z (λ w. taken r (z .requests w)) v (omega arith) h
 
   never-extends : (d : ℕ → Bool) (m v : ℕ) (z : Solver) → v + m ≤ N → Ordered N z → Extends z (neverDefaults d m v z)
   unfolding neverDefaults neverAt
@@ -98,7 +98,7 @@ module _ (N : ℕ) where
     where
       go : (b : Bool) → Kept z (neverAt z v b)
       go false = (h, λ w t e. e)
-      go true = default-kept z 10 v (omega arith) h
+      go true = default-kept z (λ w. 10) v (omega arith) h
 
 -- ---- orders
 

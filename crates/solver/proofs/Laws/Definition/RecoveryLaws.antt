@@ -13,7 +13,7 @@ use Rattle.terms.proofs.Laws.General.Bools.{never-false}
 use Rattle.unify.specs.Term.{clash}
 use Rattle.unify.specs.Solver.{put}
 use Rattle.unify.proofs.Sound.{put-cases}
-use Rattle.solver.specs.Families.{Request}
+use Rattle.solver.specs.Families.{Request, taken}
 use Rattle.solver.specs.Shapes.{Notion, notion, sameShape}
 use Rattle.solver.specs.Constrain.{Solver, replace, replaceRow, followed, resolve, resolved, top, always, recovery, recovers, occurs, projects, Requests, Pair, admit}
 use Rattle.solver.specs.Constrain.{bind₁, bind₀, bind, decompose, differ, match, checkPair, settles, constrain}
@@ -149,9 +149,9 @@ module _ (n : Notion) where
 
 -- ---- defaults
 
-settle-none : (z : Solver) (c : ℕ) (t : Term) → NoneBound z → NoneBound (settleAt z (node 4 (num c end)) t)
+settle-none : (z : Solver) (c : ℕ → ℕ) (t : Term) → NoneBound z → NoneBound (settleAt z (λ w. node 4 (num (c w) end)) t)
 unfolding settleAt meets recovery among
-settle-none z c (var w) h = put-none (z .bindings) w (node 4 (num c end)) h refl
+settle-none z c (var w) h = put-none (z .bindings) w (node 4 (num (c w) end)) h refl
 settle-none z c (node k ps) h = h
 
 numeric-none : (m v : ℕ) (z : Solver) → NoneBound z → NoneBound (numericDefaults m v z)
@@ -161,7 +161,7 @@ numeric-none (suc m) v z h = numeric-none m (suc v) (numericAt z v (z .requests 
   where
     go : (o : Option Request) → NoneBound (numericAt z v o)
     go none = h
-    go (some r) = settle-none z (r .fallback) (top z (var v)) h
+    go (some r) = settle-none z (λ w. taken r (z .requests w)) (top z (var v)) h
 
 never-none : (d : ℕ → Bool) (m v : ℕ) (z : Solver) → NoneBound z → NoneBound (neverDefaults d m v z)
 unfolding neverDefaults neverAt
@@ -170,7 +170,7 @@ never-none d (suc m) v z h = never-none d m (suc v) (neverAt z v (d v)) (go (d v
   where
     go : (b : Bool) → NoneBound (neverAt z v b)
     go false = h
-    go true = settle-none z 10 (top z (var v)) h
+    go true = settle-none z (λ w. 10) (top z (var v)) h
 
 -- ---- orders
 

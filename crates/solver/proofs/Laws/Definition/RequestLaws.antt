@@ -1,26 +1,20 @@
 -- Requests as order 1 makes them: the family is that of the fallback, floats for 9 and integers for the others. What such a family admits,
--- and how two of them meet.
-use mathlib.Core.Path.{_≡_, refl, sym, ap, ap₂, _∙_, subst}
-use mathlib.Core.Bool.{Bool, true, false, _||_}
-use mathlib.Core.List.{List}
+-- how two of them meet, and what a default takes of them.
+use mathlib.Core.Path.{_≡_, refl, sym, ap, ap₂, _∙_}
+use mathlib.Core.Bool.{Bool, true, false, _||_, cond}
 use mathlib.Core.Logic.{_≢_}
 use mathlib.Core.Option.{Option, none, some}
-use Prim.Native.Nat.{ℕ, zero, suc, _+_, _≤_, _<_}
+use Prim.Native.Nat.{ℕ, zero, suc, _≤_}
 use native.Mathlib.Decide.{ℕ-discrete}
 use native.Mathlib.Omega.{arith}
 use borrow.Author.Tests.{eq-eqb, ne-eqb, le-ltb}
 use lib.Dec.{eqb, ltb}
-use lib.ListN.{length, getD, set}
-use lib.Seq.{getD-set-same, getD-set-other}
 use Rattle.terms.specs.Result.{pick}
 use Rattle.terms.specs.Term.{Term, node, end, num}
-use Rattle.terms.specs.Questions.{among}
 use Rattle.terms.proofs.Laws.General.Bools.{or-none}
 use Rattle.unify.specs.Term.{clash}
-use Rattle.unify.specs.Solver.{put, put-same, put-other}
-use Rattle.solver.specs.Families.{code, codes, Family, numerics, integers, floats, familyOf, admits, belongs, belongsRow, shared, gathered, Request, withFallback, meet}
-use Rattle.solver.specs.Constrain.{Requests}
-use Rattle.solver.specs.Words.SessionRepresentation.{HeldRequest}
+use Rattle.unify.proofs.RangedLaws.{plain-floats, plain-integers, plain-apart, plain-apart′}
+use Rattle.solver.specs.Families.{code, among, Family, integers, floats, familyOf, admits, belongs, belongsRow, Request, requested, meet, rangedAt, taken}
 use Rattle.solver.proofs.Laws.Definition.FamilyLaws.{belongs-code}
 
 -- ---- what the family of a fallback admits
@@ -35,12 +29,12 @@ integral f e = rw (ne-eqb f 9 e)
 
 -- F32 and F64
 pub admits-floats : (c : ℕ) → admits floats c ≡ (eqb c 8 || eqb c 9)
-unfolding admits codes code among
+unfolding code among
 admits-floats c = ap (λ (b : Bool). eqb c 8 || b) (or-none (eqb c 9))
 
 -- the codes below 8
 none-far : (c : ℕ) → 8 ≤ c → admits integers c ≡ false
-unfolding admits codes code among
+unfolding code among
 none-far c l =
     rw (
       ne-eqb c 0 (λ e. omega arith),
@@ -54,7 +48,7 @@ none-far c l =
     )
 
 pub admits-integers : (c : ℕ) → admits integers c ≡ ltb c 8
-unfolding admits codes code among
+unfolding code among
 admits-integers zero = refl
 admits-integers (suc zero) = refl
 admits-integers (suc (suc zero)) = refl
@@ -72,7 +66,7 @@ pub admits-family : (f c : ℕ) → admits (familyOf f) c ≡ pick (eqb f 9) (eq
 unfolding familyOf
 admits-family f c = go (eqb f 9)
   where
-    go : (b : Bool) → admits (pick b floats integers) c ≡ pick b (eqb c 8 || eqb c 9) (ltb c 8)
+    go : (b : Bool) → admits (cond b floats integers) c ≡ pick b (eqb c 8 || eqb c 9) (ltb c 8)
     go true = admits-floats c
     go false = admits-integers c
 
@@ -96,35 +90,30 @@ belongs-family f c = belongs-builtin (familyOf f) c ∙ admits-family f c
 -- ---- two requests of that kind
 
 abbrev pub Kind : Request → Type 0
-Kind r = r .family ≡ familyOf (r .fallback)
+Kind r = (r .family ≡ familyOf (r .fallback)) × (r .ranged ≡ false)
+
+pub requested-kind : (c : ℕ) → Kind (requested c)
+requested-kind c = (refl, refl)
 
 module _ (r s : Request) (a : Kind r) (b : Kind s) where
-  meet-of : (f g : Family) → r .family ≡ f → s .family ≡ g → meet r s ≡ withFallback (r .fallback) (gathered (shared (numerics f) g))
-  unfolding meet
-  meet-of f g p q = ap₂ (λ (x y : Family). withFallback (r .fallback) (gathered (shared (numerics x) y))) p q
+  whole : (f : Family) → r .family ≡ f → _≡_ {A = Option Request} (some (record { fallback = r .fallback; family = f; ranged = false })) (some r)
+  whole f p = sym (ap₂ (λ (x : Family) (y : Bool). some (record { fallback = r .fallback; family = x; ranged = y })) p (a .1))
 
-  whole : (f : Family) → r .family ≡ f → _≡_ {A = Option Request} (some (record { fallback = r .fallback; family = f })) (some r)
-  whole f p = ap (λ (x : Family). some (record { fallback = r .fallback; family = x })) (sym p)
-
-  pub meet-floats : r .fallback ≡ 9 → s .fallback ≡ 9 → meet r s ≡ some r
-  unfolding withFallback gathered shared admits codes code among
+  meet-floats : r .fallback ≡ 9 → s .fallback ≡ 9 → meet r s ≡ some r
   meet-floats p q =
-      let x = a ∙ floating (r .fallback) p in
-      meet-of floats floats x (b ∙ floating (s .fallback) q) ∙ whole floats x
+      let x = a .0 ∙ floating (r .fallback) p in
+      plain-floats r s (a .1) (b .1) x (b .0 ∙ floating (s .fallback) q) ∙ whole floats x
 
-  pub meet-integers : r .fallback ≢ 9 → s .fallback ≢ 9 → meet r s ≡ some r
-  unfolding withFallback gathered shared admits codes code among
+  meet-integers : r .fallback ≢ 9 → s .fallback ≢ 9 → meet r s ≡ some r
   meet-integers p q =
-      let x = a ∙ integral (r .fallback) p in
-      meet-of integers integers x (b ∙ integral (s .fallback) q) ∙ whole integers x
+      let x = a .0 ∙ integral (r .fallback) p in
+      plain-integers r s (a .1) (b .1) x (b .0 ∙ integral (s .fallback) q) ∙ whole integers x
 
-  pub meet-float-integer : r .fallback ≡ 9 → s .fallback ≢ 9 → meet r s ≡ none
-  unfolding withFallback gathered shared admits codes code among
-  meet-float-integer p q = meet-of floats integers (a ∙ floating (r .fallback) p) (b ∙ integral (s .fallback) q)
+  meet-float-integer : r .fallback ≡ 9 → s .fallback ≢ 9 → meet r s ≡ none
+  meet-float-integer p q = plain-apart r s (a .1) (b .1) (a .0 ∙ floating (r .fallback) p) (b .0 ∙ integral (s .fallback) q)
 
-  pub meet-integer-float : r .fallback ≢ 9 → s .fallback ≡ 9 → meet r s ≡ none
-  unfolding withFallback gathered shared admits codes code among
-  meet-integer-float p q = meet-of integers floats (a ∙ integral (r .fallback) p) (b ∙ floating (s .fallback) q)
+  meet-integer-float : r .fallback ≢ 9 → s .fallback ≡ 9 → meet r s ≡ none
+  meet-integer-float p q = plain-apart′ r s (a .1) (b .1) (a .0 ∙ integral (r .fallback) p) (b .0 ∙ floating (s .fallback) q)
 
   -- by tests
   pub meet-tests : meet r s ≡ pick (eqb (r .fallback) 9) (pick (eqb (s .fallback) 9) (some r) none) (pick (eqb (s .fallback) 9) none (some r))
@@ -147,27 +136,8 @@ meet-first r s e a b p = go (eqb (r .fallback) 9) (eqb (s .fallback) 9) (sym (me
     go false true q = clash (cc)
     go false false q = cc
 
--- ---- the words that hold requests
-
-pub held-none : (o : Option Request) (word : ℕ) → HeldRequest o word → word ≡ 0 → o ≡ none
-held-none none word h e = refl
-held-none (some r) word h e = absurd (let p = h .0 in omega arith)
-
-pub held-word : (o : Option Request) (word : ℕ) (r : Request) → HeldRequest o word → o ≡ some r → (word ≡ r .fallback + 1) × Kind r
-held-word o word r h e = let g = subst (λ (x : Option Request). HeldRequest x word) e h in (g .0, g .1)
-
-pub held-low : (o : Option Request) (word : ℕ) (r : Request) → HeldRequest o word → o ≡ some r → r .fallback < 32
-held-low o word r h e = subst (λ (x : Option Request). HeldRequest x word) e h .2
-
--- one request more
-pub put-held : (rs : Requests) (ws : List ℕ) (v : ℕ) (r : Request) → ((w : ℕ) → HeldRequest (rs w) (getD ws w 0)) → v < length ws → Kind r → r .fallback < 32
-    → (w : ℕ) → HeldRequest (put rs v (some r) w) (getD (set ws v (r .fallback + 1)) w 0)
-put-held rs ws v r h l a c w = go (ℕ-discrete w v)
-  where
-    go : Dec (w ≡ v) → HeldRequest (put rs v (some r) w) (getD (set ws v (r .fallback + 1)) w 0)
-    go (yes e) =
-        subst (λ (x : Option Request). HeldRequest x (getD (set ws v (r .fallback + 1)) w 0)) (sym (ap (put rs v (some r)) e ∙ put-same rs v (some r)))
-        (ap (λ (i : ℕ). getD (set ws v (r .fallback + 1)) i 0) e ∙ getD-set-same ws v (r .fallback + 1) 0 l, a, c)
-    go (no e) =
-        subst (λ (x : Option Request). HeldRequest x (getD (set ws v (r .fallback + 1)) w 0)) (sym (put-other rs v (some r) w e))
-        (subst (λ (x : ℕ). HeldRequest (rs w) x) (sym (getD-set-other ws v w (r .fallback + 1) 0 e)) (h w))
+-- of plain ones a default takes the fallback of the variable whose turn it is
+pub taken-plain : (r : Request) (o : Option Request) → r .ranged ≡ false → ((s : Request) → o ≡ some s → s .ranged ≡ false) → taken r o ≡ r .fallback
+unfolding taken rangedAt
+taken-plain r none a b = rw a
+taken-plain r (some s) a b = rw (a, b s refl)

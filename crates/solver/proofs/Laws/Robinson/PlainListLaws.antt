@@ -12,6 +12,7 @@ use Rattle.unify.specs.Term.{Sort, Tree, nil, _▸_}
 use Rattle.unify.specs.Orders.{Run}
 use Rattle.unify.proofs.RobinsonPair.{Simple}
 use Rattle.unify.proofs.PlainLists.{SimplePairs, PlainRun, obey-plain, plain-begin, run-simple}
+use Rattle.solver.specs.Families.{taken}
 use Rattle.solver.specs.Shapes.{Notion, notion, read, readAll}
 use Rattle.solver.specs.Constrain.{Pair, resolved, occurs, recovery, projects}
 use Rattle.solver.specs.Session.{Limits, Session, find, fresh, never}
@@ -68,26 +69,26 @@ module _ (lim : Limits) (n : Notion) (codes-count : n 4 ≡ false) where
   simple-builtin c = (refl, refl, rw codes-count refl, tt)
 
   abbrev Keeps : Run S TheSession → Type 0
-  Keeps x = PlainRun S (read n) fallback never (λ r o. simple-builtin (r .fallback)) (simple-builtin 10) x
+  Keeps x = PlainRun S (read n) fallback never (λ r o. simple-builtin (taken r o)) (simple-builtin 10) x
 
   all-kept : (h : History) → Keeps (view-run h) → (cs : List Command) → Keeps (view-run (history lim h cs))
   unfolding history
   all-kept h y [] = y
   all-kept h y (c ∷ cs) = all-kept (after lim h c) (subst (λ (x : Run S TheSession). Keeps x) (order-view lim h c)
-      (obey-plain S (read n) fallback never (λ r o. simple-builtin (r .fallback)) (simple-builtin 10) (read (notion (strict c))) (view-run h) y (view-command lim (h .session) c))) cs
+      (obey-plain S (read n) fallback never (λ r o. simple-builtin (taken r o)) (simple-builtin 10) (read (notion (strict c))) (view-run h) y (view-command lim (h .session) c))) cs
 
   abbrev h : List Command → History
   h cs = history lim beginning cs
 
   kept : (cs : List Command) → Keeps (view-run (h cs))
   unfolding viewed find
-  kept cs = all-kept beginning (plain-begin S (read n) fallback never (λ r o. simple-builtin (r .fallback)) (simple-builtin 10)) cs
+  kept cs = all-kept beginning (plain-begin S (read n) fallback never (λ r o. simple-builtin (taken r o)) (simple-builtin 10)) cs
 
   resolved-pure : (cs : List Command) → AllPure n (h cs .posed) → (t : Term) → Pure n t → Pure n (resolved (h cs .session .solver) t)
   resolved-pure cs p t q =
       view-pure n (resolved (h cs .session .solver) t)
       (subst (λ (x : T). Simple S (read n) x) (sym (seen (h cs .session) t))
-      (run-simple S (read n) fallback never (λ r o. simple-builtin (r .fallback)) (simple-builtin 10) (view-run (h cs)) (kept cs) (pairs-view n (h cs .posed) p) (view t) (simple-view n t (q .0) (q .1))))
+      (run-simple S (read n) fallback never (λ r o. simple-builtin (taken r o)) (simple-builtin 10) (view-run (h cs)) (kept cs) (pairs-view n (h cs .posed) p) (view t) (simple-view n t (q .0) (q .1))))
 
   -- A TERM POSED PLAIN RESOLVES TO A PLAIN ONE, after every list of orders whose posed pairs are so, whatever they were answered.
   posed-plain-of : (cs : List Command) → AllPure n (h cs .posed) → (t : Term) → Pure n t

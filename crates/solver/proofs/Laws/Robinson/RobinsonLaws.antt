@@ -262,7 +262,7 @@ module _ (lim : Limits) (b : Bool) where
       (λ v. view-resolve (h .session .solver .revision) (h .session .solver .bindings) (var v))
       (r (normal-pairs (notion b) (h .posed) (f .unmarked)) (p .noneCancelled, plain-pairs-view (h .posed) (p .pairs)) (f .numberless))
 
-  -- ROBINSON 1965 DECIDES: for every list of orders 0 to 8 and 22 given in turn to a fresh session, whose pairs are plain first-order ones, all posed by order 4
+  -- ROBINSON 1965 DECIDES: for every list of orders 0 to 8, 21 and 22 given in turn to a fresh session, whose pairs are plain first-order ones, all posed by order 4
   -- (up to Set and Map access) or all strictly
   pub robinson : (cs : List Command) → FirstOrder lim b cs → Decides (history lim beginning cs)
   robinson cs f = decides-of (history lim beginning cs) (found cs f)

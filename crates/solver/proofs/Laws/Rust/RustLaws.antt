@@ -32,7 +32,7 @@ use Rattle.unify.proofs.Whole.{Sane, sane-begin, sane-more, sane-asks, sane-bin
 use Rattle.unify.specs.RustMaps.{look, sorted, look-site}
 use Rattle.unify.proofs.RustMapLaws.{look-insert, Once, once-insert, with-some, collect, sorted-collect}
 use Rattle.unify.proofs.RustRounds.{Holds, holds-begin, holds-push, within}
-use Rattle.solver.specs.Families.{Request, requested}
+use Rattle.solver.specs.Families.{Request, requested, defaultOf}
 use Rattle.solver.specs.Shapes.{loose, notion, read}
 use Rattle.solver.specs.Constrain as solving
 use Rattle.solver.specs.Constrain.{resolved, top}
@@ -49,7 +49,8 @@ use Rattle.solver.proofs.Laws.Theory.TheoryViewLaws.{viewed, all-viewed
 use Rattle.solver.proofs.Laws.Theory.ConstrainView.{view-table, view-out, settles-view, fallback, leaf-view, fill-view}
 use Rattle.solver.proofs.Laws.Theory.TheorySimulation.{known-yes}
 use Rattle.solver.proofs.Laws.Theory.Demand3Laws.{respects}
-use Rattle.solver.proofs.Laws.Definition.DefaultLaws.{settle-requests}
+use Rattle.solver.proofs.Laws.Definition.DefaultLaws.{settle-requests, settle-same}
+use Rattle.solver.proofs.Laws.Definition.RequestLaws.{taken-plain}
 use Rattle.solver.proofs.Laws.Definition.InOrderLaws.{find-issued}
 use Rattle.solver.proofs.Laws.Rust.RustPasses.{codes-count, view-bindings, view-numeric, push-view, long-view, asked, look-view, formed-push, low-insert, Proper, Held, resolve-held, Kept, kept-trans, bound, bound-some, bound-held, formed-bound, asks-held, MeetsOut, while-goes}
 
@@ -110,7 +111,7 @@ pub record Filled (N : ℕ) (y : solving.Solver) (z : Solver) (o : Option Solver
 
 -- the root of a variable, if it is a variable, is bound
 fill-same : (N : ℕ) (y : solving.Solver) (z : Solver) → Both N y z → (c v : ℕ) → c < 32 → v < N
-    → Filled N (settleAt y (node 4 (num c end)) (top y (var v))) z (default-root z c (resolved y (var v)))
+    → Filled N (settleAt y (λ w. node 4 (num c end)) (top y (var v))) z (default-root z c (resolved y (var v)))
 unfolding default-root settleAt tree.sub view session.fill sane-bind
 fill-same N y z b c v lc l = go (top y (var v)) (view-follow (y .revision) (y .bindings) (var v)) (resolved y (var v)) (right N y z b (var v))
   where
@@ -129,14 +130,14 @@ fill-same N y z b c v lc l = go (top y (var v)) (view-follow (y .revision) (y .b
     root : (w : ℕ) → table.top S tab (tree.var v) ≡ tree.var w → (w < N) × (tab .bound w ≡ none)
     root = reach S (read loose) (respects loose codes-count) N tab s (b .sane .stands) (b .sane .fine) (tree.var v) (tree.var v) refl (λ w e. omega arith)
 
-    binds : (w : ℕ) → w < N → tab .bound w ≡ none → Filled N (settleAt y d (var w)) z (default-root z c (var w))
+    binds : (w : ℕ) → w < N → tab .bound w ≡ none → Filled N (settleAt y (λ w. d) (var w)) z (default-root z c (var w))
     binds w m e =
         let r = b .sane .stands .rep .unbound w e in
         let k = both-long N y z b in
         record {
           out = bound z w d;
           is = bound-some z w d (omega arith);
-          both = subst (λ (x : Table S). BothTable N x (bound z w d)) (fill-view y c (var w)) (record {
+          both = subst (λ (x : Table S). BothTable N x (bound z w d)) (fill-view y (λ w. c) (var w)) (record {
             sane = sane-bind S fallback never (read loose) (respects loose codes-count) N tab d w m e (b .sane);
             held = subst (λ (x : T). Held N (bound z w d) (theory.bind S s w x (s .fam))) (leaf-view c)
                 (bound-held N z s (b .held) (idem N y z b) w d m r (ap (λ (x : T). tree.sub (s .res) x) (leaf-view c) ∙ sym (leaf-view c)) (λ i. subst (λ (x : T). In w x) (leaf-view c) i));
@@ -145,13 +146,24 @@ fill-same N y z b c v lc l = go (top y (var v)) (view-follow (y .revision) (y .b
           kept = (refl, refl, refl);
         }
 
-    go : (t : Term) → view t ≡ table.top S tab (tree.var v) → (u : Term) → view u ≡ s .res v → Filled N (settleAt y d t) z (default-root z c u)
+    go : (t : Term) → view t ≡ table.top S tab (tree.var v) → (u : Term) → view u ≡ s .res v → Filled N (settleAt y (λ w. d) t) z (default-root z c u)
     go (var w) p u q =
         let a = root w (sym p) in
         let e : view u ≡ tree.var w = q ∙ sym above ∙ ap (λ (x : T). tree.sub (s .res) x) (sym p) ∙ b .sane .stands .rep .unbound w (a .1) in
-        subst (λ (x : Term). Filled N (settleAt y d (var w)) z (default-root z c x)) (sym (view-injective u (var w) e)) (binds w (a .0) (a .1))
+        subst (λ (x : Term). Filled N (settleAt y (λ w. d) (var w)) z (default-root z c x)) (sym (view-injective u (var w) e)) (binds w (a .0) (a .1))
     go (node k ps) p (var w) q = let e = q ∙ sym above ∙ ap (λ (x : T). tree.sub (s .res) x) (sym p) in clash (cc)
     go (node k ps) p (node j qs) q = record { out = z; is = refl; both = b; kept = (refl, refl, refl) }
+
+-- the Rust's requests are plain, so a default takes the fallback
+plain-same : (g : ℕ → Option ℕ) (y : solving.Solver) → ((w : ℕ) → y .requests w ≡ asked (g w)) → (c : ℕ) (t : Term)
+    → settleAt y (λ w. node 4 (num c end)) t ≡ settleAt y (λ w. defaultOf (requested c) (y .requests w)) t
+unfolding asked
+plain-same g y e c t = settle-same y (λ w. node 4 (num c end)) (λ w. defaultOf (requested c) (y .requests w))
+    (λ w. ap (λ (x : ℕ). node 4 (num x end)) (sym (taken-plain (requested c) (y .requests w) refl (λ s p. asked-plain (g w) s (sym (e w) ∙ p))))) t
+  where
+    asked-plain : (o : Option ℕ) (s : Request) → asked o ≡ some s → s .ranged ≡ false
+    asked-plain none s p = clash (cc)
+    asked-plain (some d) s p = let q : requested d ≡ s = cc in ap (λ (x : Request). x .ranged) (sym q)
 
 numbers-same : (g : ℕ → Option ℕ) → ((v c : ℕ) → g v ≡ some c → c < 32) → (N m v : ℕ) (y : solving.Solver) (z : Solver) → v + m ≤ N → ((w : ℕ) → y .requests w ≡ asked (g w)) → Both N y z
     → Filled N (numericDefaults m v y) z (numeric-defaults (collect m v g) z)
@@ -166,16 +178,17 @@ numbers-same g low N (suc m) v y z l e b =
         → Filled N (numericDefaults m (suc v) (numericAt y v (asked o))) z (numeric-defaults (with-some v o (collect m (suc v) g)) z)
     go none q i = i y z e b
     go (some c) q i =
-        let d = node 4 (num c end) in
+        let d : ℕ → Term = λ w. node 4 (num c end) in
         let f = fill-same N y z b c v (low v c q) (omega arith) in
         let r = i (settleAt y d (top y (var v))) (f .out) (λ w. ap (λ (h : ℕ → Option Request). h w) (settle-requests y d (top y (var v))) ∙ e w) (f .both) in
-        record {
+        subst (λ (x : solving.Solver). Filled N (numericDefaults m (suc v) x) z (numeric-defaults ((v, c) ∷ collect m (suc v) g) z)) (plain-same g y e c (top y (var v)))
+        (record {
           out = r .out;
           is = ap (λ (o : Option Term). and-then o (λ t. and-then (default-root z c t) (λ x. numeric-defaults (collect m (suc v) g) x))) (both-resolve N y z b (var v) (var-issued N v (omega arith)))
               ∙ ap (λ (o : Option Solver). and-then o (λ x. numeric-defaults (collect m (suc v) g) x)) (f .is) ∙ r .is;
           both = r .both;
           kept = kept-trans z (f .out) (r .out) (f .kept) (r .kept);
-        }
+        })
 
 nevers-same : (d : ℕ → Bool) (g : ℕ → Option (Unit {0})) (N m v : ℕ) (y : solving.Solver) (z : Solver) → v + m ≤ N → ((w : ℕ) → is-some (g w) ≡ d w) → Both N y z
     → Filled N (neverDefaults d m v y) z (never-defaults (collect m v g) z)
@@ -190,7 +203,7 @@ nevers-same d g N (suc m) v y z l e b =
     go none i = i y z b
     go (some u) i =
         let f = fill-same N y z b 10 v (omega arith) (omega arith) in
-        let r = i (settleAt y never (top y (var v))) (f .out) (f .both) in
+        let r = i (settleAt y (λ w. never) (top y (var v))) (f .out) (f .both) in
         record {
           out = r .out;
           is = ap (λ (o : Option Term). and-then o (λ t. and-then (default-root z 10 t) (λ x. never-defaults (collect m (suc v) g) x))) (both-resolve N y z b (var v) (var-issued N v (omega arith)))

@@ -1,6 +1,6 @@
 -- The Rust's `resolve` and the loop of its `constrain` go as the theory's, pass by pass, and do not panic.
 use mathlib.Core.Path.{_≡_, refl, sym, ap, ap₂, _∙_, subst}
-use mathlib.Core.Bool.{Bool, true, false, not, _&&_, _||_}
+use mathlib.Core.Bool.{Bool, true, false, not, _&&_, _||_, cond}
 use mathlib.Core.List.{List, [], _∷_, _++_, map}
 use mathlib.Core.Logic.{inl, inr, _≢_, ite}
 use mathlib.Core.Option.{Option, none, some}
@@ -33,7 +33,8 @@ use Rattle.unify.specs.RustMaps as theirs
 use Rattle.unify.specs.RustMaps.{look, insert}
 use Rattle.unify.proofs.RustMapLaws.{look-insert, nth-push, nth-set, nth-inside, store-set}
 use Rattle.unify.proofs.RustRounds.{Holds, holds-rounds, holds-asks, holds-free, holds-bind, within}
-use Rattle.solver.specs.Families.{code, codes, integers, floats, familyOf, admits, belongs, belongsRow, shared, gathered, Request, requested, withFallback, meet}
+use Rattle.solver.specs.Families as families
+use Rattle.solver.specs.Families.{code, integers, floats, familyOf, admits, belongs, belongsRow, Request, requested, meet}
 use Rattle.solver.specs.Shapes.{blank, blankRow, loose, read, sameShape, pushed}
 use Rattle.solver.specs.Constrain.{Pair, replace, replaceRow, always, recovery, recovers, occurs, projects, joined, join, allow, admit, zipOn}
 use Rattle.solver.specs.Orders.{beyond}
@@ -44,6 +45,7 @@ use Rattle.solver.proofs.Laws.Theory.Signature.{S, term?}
 use Rattle.solver.proofs.Laws.Theory.TheoryViewLaws.{viewed, view-replace, recovers-view, occurs-in, in-occurs, unknown-issued, same-wide}
 use Rattle.solver.proofs.Laws.Theory.ConstrainView.{view-pairs, admit-view, zip-view}
 use Rattle.solver.proofs.Laws.Theory.Demand3Laws.{respects}
+use Rattle.solver.proofs.Laws.Definition.RequestLaws.{requested-kind, meet-tests}
 use Rattle.solver.proofs.Laws.Rust.RustShapes.{shape-right}
 
 pub codes-count : loose 4 ≡ false
@@ -305,22 +307,20 @@ module _ (N : ℕ) (z : Solver) (st : State S) (h : Held N z st) where
 -- ---- number variables
 
 meet-requested : (c d : ℕ) → meet (requested c) (requested d) ≡ pick (equal (floating d) (floating c)) (some (requested c)) none
-unfolding meet withFallback gathered shared admits among codes code familyOf
-meet-requested c d = go (eqb c 9) (eqb d 9)
+meet-requested c d = meet-tests (requested c) (requested d) (requested-kind c) (requested-kind d) ∙ go (eqb c 9) (eqb d 9)
   where
-    go : (a b : Bool) → withFallback c (gathered (shared (pick a floats integers .one ∷ pick a floats integers .more) (pick b floats integers)))
-        ≡ pick (equal b a) (some (record { fallback = c; family = pick a floats integers })) none
+    go : (a b : Bool) → pick a (pick b (some (requested c)) none) (pick b none (some (requested c))) ≡ pick (equal b a) (some (requested c)) none
     go true true = refl
     go true false = refl
     go false true = refl
     go false false = refl
 
 takes-right : (c k : ℕ) (ps : Parts) → belongs (familyOf c) (node k ps) ≡ takes c k ps
-unfolding belongs belongsRow takes admits codes code familyOf
+unfolding belongs belongsRow takes code familyOf families.among among
 takes-right c k end = and-false (eqb k 4)
 takes-right c k (num target end) = go (eqb c 9)
   where
-    go : (a : Bool) → (eqb k 4 && among target (codes (pick a floats integers .one ∷ pick a floats integers .more)))
+    go : (a : Bool) → (eqb k 4 && admits (cond a floats integers) target)
         ≡ (eqb k 4 && pick a (among target (8 ∷ 9 ∷ [])) (among target (0 ∷ 1 ∷ 2 ∷ 3 ∷ 4 ∷ 5 ∷ 6 ∷ 7 ∷ [])))
     go true = refl
     go false = refl

@@ -1,26 +1,27 @@
 -- What a number variable may be bound to, by tokens and words, and the binding made.
-use mathlib.Core.Path.{_≡_, refl, sym, ap, _∙_, subst}
-use mathlib.Core.Bool.{Bool, true, false, not, _||_}
+use mathlib.Core.Path.{_≡_, refl, sym, ap, ap₂, _∙_, subst}
+use mathlib.Core.Bool.{Bool, true, false, not}
 use mathlib.Core.List.{List}
 use mathlib.Core.Option.{Option, none, some}
-use Prim.Native.Nat.{ℕ, _+_, _-_, _≤_, _<_}
+use Prim.Native.Nat.{ℕ, _+_, _≤_, _<_}
 use native.Mathlib.Omega.{arith}
-use native.Mathlib.Decide.{ℕ-discrete, decLt}
-use borrow.Author.Tests.{eq-eqb, ne-eqb, lt-ltb, le-ltb, le-leb, lt-leb}
-use lib.Dec.{eqb, leb, ltb}
+use native.Mathlib.Decide.{ℕ-discrete}
+use borrow.Author.Tests.{eq-eqb, ne-eqb}
+use lib.Bits.{bitAnd}
+use lib.Dec.{eqb}
 use lib.ListN.{length, getD, set}
-use Rattle.terms.specs.Result.{pick}
 use Rattle.terms.specs.Term.{Term, Parts, var, node, end, num, items, Held}
 use Rattle.terms.proofs.Laws.Held.HeldLaws.{headKind, headValue, held-first, held-node, held-num, row-num, row-end}
 use Rattle.unify.specs.Solver.{put}
 use Rattle.unify.specs.Term.{clash}
 use Rattle.solver.specs.declared.Solver.{Solver}
-use Rattle.solver.specs.Families.{Request, familyOf, belongs, meet}
+use Rattle.solver.specs.Families.{Family, Request, belongs, meet}
 use Rattle.solver.specs.Constrain.{Requests, joined, join, allow, admit}
 use Rattle.solver.specs.Session.{Session, withSolver}
-use Rattle.solver.specs.Words.SessionRepresentation.{requestWords, HeldRequest, Represents}
-use Rattle.solver.specs.Words.MethodContract.{Beside, is-some, atMost, boundTo, Handed}
-use Rattle.solver.proofs.Laws.Definition.RequestLaws.{belongs-none, belongs-family, meet-tests, meet-first, held-none, held-word, held-low}
+use Rattle.solver.specs.Words.SessionRepresentation.{bit, RequestWord, requestIn, HeldRequest, Represents}
+use Rattle.solver.specs.Words.MethodContract.{Beside, is-some, atMost, boundTo, maskIn, joinedWord, Handed}
+use Rattle.solver.proofs.Laws.Definition.RequestLaws.{belongs-builtin, belongs-none}
+use Rattle.solver.proofs.Laws.Table.RequestWordLaws.{bit-high, masks, word-admits, words-apart, words-meet, joined-none, held-none, held-some}
 use Rattle.solver.proofs.Laws.Table.MethodLaws.{beside-set, request-near, lent-request, lent-bound}
 
 -- ---- a builtin, by its tokens
@@ -41,8 +42,8 @@ module _ (ks vs : List ℕ) (q : ℕ) where
       record { head = f .0; span = f .1; room = h .within; number = r .0; code = r .1 }
 
   -- no builtin has these tokens
-  pub no-builtin : (f : ℕ) → ((c : ℕ) → Builtin c → ⊥) → (t : Term) → Held ks vs q t → false ≡ belongs (familyOf f) t
-  no-builtin f n t h = sym (belongs-none (familyOf f) t (λ c e. n c (builtin-words c (subst (λ (u : Term). Held ks vs q u) e h))))
+  pub no-builtin : (f : Family) → ((c : ℕ) → Builtin c → ⊥) → (t : Term) → Held ks vs q t → false ≡ belongs f t
+  no-builtin f n t h = sym (belongs-none f t (λ c e. n c (builtin-words c (subst (λ (u : Term). Held ks vs q u) e h))))
 
   -- a term with these tokens is a builtin
   pub is-builtin : getD ks q 0 ≡ 6 → getD vs q 0 ≡ 2 → getD ks (q + 1) 0 ≡ 0 → (t : Term) → Held ks vs q t → t ≡ node 4 (num (getD vs (q + 1) 0) end)
@@ -56,35 +57,14 @@ module _ (ks vs : List ℕ) (q : ℕ) where
       let z : r .1 ≡ end = row-end ks vs (q + 1 + 1) _ (r .1) (r .4) (omega (arith, f .1)) in
       rw (e, r .2, z, r .3)
 
--- ---- the tests of codes
+  -- a builtin, by the bit of its code
+  module _ (word : ℕ) (W : RequestWord word) (a : getD ks q 0 ≡ 6) (b : getD vs q 0 ≡ 2) (d : getD ks (q + 1) 0 ≡ 0) where
+    pub builtin-bit : (t : Term) → Held ks vs q t → bit (maskIn word) (getD vs (q + 1) 0) ≡ belongs (requestIn word .family) t
+    builtin-bit t h =
+        sym (ap (belongs (requestIn word .family)) (is-builtin a b d t h) ∙ belongs-builtin (requestIn word .family) (getD vs (q + 1) 0) ∙ word-admits word W (getD vs (q + 1) 0))
 
-float-code : (c : ℕ) → 8 ≤ c → leb c 9 ≡ (eqb c 8 || eqb c 9)
-float-code c l = go (ℕ-discrete c 8) (ℕ-discrete c 9)
-  where
-    go : Dec (c ≡ 8) → Dec (c ≡ 9) → leb c 9 ≡ (eqb c 8 || eqb c 9)
-    go (yes e) d = rw (eq-eqb c 8 e) (le-leb c 9 (omega arith))
-    go (no e) (yes f) = rw (ne-eqb c 8 e, eq-eqb c 9 f) (le-leb c 9 (omega arith))
-    go (no e) (no f) = rw (ne-eqb c 8 e, ne-eqb c 9 f) (lt-leb c 9 (omega arith))
-
-integer-code : (c : ℕ) → leb c 7 ≡ ltb c 8
-integer-code c = go (decLt c 8)
-  where
-    go : Dec (c < 8) → leb c 7 ≡ ltb c 8
-    go (yes l) = le-leb c 7 (omega arith) ∙ sym (lt-ltb c 8 l)
-    go (no l) = lt-leb c 7 (omega arith) ∙ sym (le-ltb c 8 (omega arith))
-
-module _ (t : Term) (f c : ℕ) (e : t ≡ node 4 (num c end)) where
-  belongs-code-of : belongs (familyOf f) t ≡ pick (eqb f 9) (eqb c 8 || eqb c 9) (ltb c 8)
-  belongs-code-of = ap (belongs (familyOf f)) e ∙ belongs-family f c
-
-  pub float-high : f ≡ 9 → 8 ≤ c → leb c 9 ≡ belongs (familyOf f) t
-  float-high g l = float-code c l ∙ sym (belongs-code-of ∙ rw (eq-eqb f 9 g))
-
-  pub float-low : f ≡ 9 → c < 8 → leb 8 c ≡ belongs (familyOf f) t
-  float-low g l = lt-leb 8 c l ∙ sym (belongs-code-of ∙ rw (eq-eqb f 9 g, ne-eqb c 8 (λ q. omega arith), ne-eqb c 9 (λ q. omega arith)))
-
-  pub integer : (f ≡ 9 → ⊥) → leb c 7 ≡ belongs (familyOf f) t
-  integer g = integer-code c ∙ sym (belongs-code-of ∙ rw (ne-eqb f 9 g))
+    pub builtin-high : 31 < getD vs (q + 1) 0 → (t : Term) → Held ks vs q t → false ≡ belongs (requestIn word .family) t
+    builtin-high l t h = sym (bit-high (maskIn word) (getD vs (q + 1) 0) (masks word W .1) (omega arith)) ∙ builtin-bit t h
 
 -- ---- whether the requests after it are there
 
@@ -95,21 +75,17 @@ module _ (ks vs : List ℕ) (q : ℕ) (rs : Requests) (ws : List ℕ) (held : (u
   admit-free t e = rw (held-none (rs v) (getD ws v 0) (held v) e)
 
   -- a node is of the family or not
-  pub admit-node : (t : Term) (b : Bool) → Held ks vs q t → (getD ws v 0 ≡ 0 → ⊥) → (getD ks q 0 ≡ 1 → ⊥) → b ≡ belongs (familyOf (getD ws v 0 - 1)) t
-      → b ≡ is-some (admit rs (rs v) t)
+  pub admit-node : (t : Term) (b : Bool) → Held ks vs q t → (getD ws v 0 ≡ 0 → ⊥) → (getD ks q 0 ≡ 1 → ⊥)
+      → (RequestWord (getD ws v 0) → b ≡ belongs (requestIn (getD ws v 0) .family) t) → b ≡ is-some (admit rs (rs v) t)
   unfolding admit allow headKind
   admit-node (var w) b h e k d = absurd (k (held-first ks vs q (var w) h .0))
-  admit-node (node j ps) b h e k d = go (rs v) refl (held v)
+  admit-node (node j ps) b h e k d =
+      let r = held-some (rs v) (getD ws v 0) (held v) e in
+      rw (r .1) (d (r .0) ∙ sym (some-allow (belongs (requestIn (getD ws v 0) .family) (node j ps))))
     where
       some-allow : (x : Bool) → is-some (allow rs x) ≡ x
       some-allow true = refl
       some-allow false = refl
-
-      go : (o : Option Request) → rs v ≡ o → HeldRequest o (getD ws v 0) → b ≡ is-some (admit rs o (node j ps))
-      go none f g = absurd (e g)
-      go (some r) f g =
-          let c : getD ws v 0 - 1 ≡ r .fallback = let x = g .0 in omega arith in
-          d ∙ ap (λ (x : ℕ). belongs (familyOf x) (node j ps)) c ∙ ap (λ x. belongs x (node j ps)) (sym (g .1)) ∙ sym (some-allow (belongs (r .family) (node j ps)))
 
   -- a variable with no request takes this one
   pub admit-other : (t : Term) → Held ks vs q t → getD ks q 0 ≡ 1 → getD ws (getD vs q 0) 0 ≡ 0 → true ≡ is-some (admit rs (rs v) t)
@@ -124,61 +100,42 @@ module _ (ks vs : List ℕ) (q : ℕ) (rs : Requests) (ws : List ℕ) (held : (u
       go none = refl
       go (some r) = rw free
 
-  -- two number variables join where both are floating or neither is
-  pub admit-joins-if : (t : Term) (b : Bool) → Held ks vs q t → getD ks q 0 ≡ 1 → (getD ws v 0 ≡ 0 → ⊥) → (getD ws (getD vs q 0) 0 ≡ 0 → ⊥)
-      → b ≡ pick (eqb (getD ws v 0) 10) (eqb (getD ws (getD vs q 0) 0) 10) (not (eqb (getD ws (getD vs q 0) 0) 10)) → b ≡ is-some (admit rs (rs v) t)
+  -- two number variables join where their masks have a bit in common
+  pub admit-joins : (t : Term) (m n : ℕ) → Held ks vs q t → getD ks q 0 ≡ 1 → (getD ws v 0 ≡ 0 → ⊥) → (getD ws (getD vs q 0) 0 ≡ 0 → ⊥)
+      → m ≡ maskIn (getD ws v 0) → n ≡ maskIn (getD ws (getD vs q 0) 0) → not (eqb (bitAnd m n) 0) ≡ is-some (admit rs (rs v) t)
   unfolding admit join joined headKind headValue
-  admit-joins-if (node j ps) b h k e f d = absurd (omega (arith, held-first ks vs q (node j ps) h .0))
-  admit-joins-if (var w) b h k e f d = go (rs v) (held v)
+  admit-joins (node j ps) m n h k e f x y = absurd (omega (arith, held-first ks vs q (node j ps) h .0))
+  admit-joins (var w) m n h k e f x y =
+      let at = held-first ks vs q (var w) h .1 in
+      let r = held-some (rs v) (getD ws v 0) (held v) e in
+      let u = held-some (rs w) (getD ws w 0) (held w) (rw at at f) in
+      rw (x, y, at, r .1, u .1) (go (r .0) (u .0) (ℕ-discrete (bitAnd (maskIn (getD ws v 0)) (maskIn (getD ws w 0))) 0))
     where
-      at : getD vs q 0 ≡ w
-      at = held-first ks vs q (var w) h .1
-
-      one-less : (x y : ℕ) → x ≡ y + 1 → eqb x 10 ≡ eqb y 9
-      one-less x y i = less (ℕ-discrete y 9)
-        where
-          less : Dec (y ≡ 9) → eqb x 10 ≡ eqb y 9
-          less (yes z) = eq-eqb x 10 (omega arith) ∙ sym (eq-eqb y 9 z)
-          less (no z) = ne-eqb x 10 (λ a. z (omega arith)) ∙ sym (ne-eqb y 9 z)
-
-      picked : (r : Request) (x y : Bool) → pick x y (not y) ≡ is-some (joined rs w (pick x (pick y (some r) none) (pick y none (some r))))
-      picked r true true = refl
-      picked r true false = refl
-      picked r false true = refl
-      picked r false false = refl
-
-      both : (r u : Request) → rs w ≡ some u → HeldRequest (some r) (getD ws v 0) → HeldRequest (some u) (getD ws w 0) → b ≡ is-some (join rs r w (rs w))
-      both r u j g i =
-          d ∙ rw (at, one-less (getD ws v 0) (r .fallback) (g .0), one-less (getD ws w 0) (u .fallback) (i .0), j, meet-tests r u (g .1) (i .1)) (picked r (eqb (r .fallback) 9) (eqb (u .fallback) 9))
-
-      on : (r : Request) (p : Option Request) → rs w ≡ p → HeldRequest (some r) (getD ws v 0) → HeldRequest p (getD ws w 0) → b ≡ is-some (join rs r w (rs w))
-      on r none j g i = absurd (f (ap (λ (x : ℕ). getD ws x 0) at ∙ i))
-      on r (some u) j g i = both r u j g i
-
-      go : (o : Option Request) → HeldRequest o (getD ws v 0) → b ≡ is-some (admit rs o (var w))
-      go none g = absurd (e g)
-      go (some r) g = on r (rs w) refl g (held w)
+      go : RequestWord (getD ws v 0) → RequestWord (getD ws w 0) → Dec (bitAnd (maskIn (getD ws v 0)) (maskIn (getD ws w 0)) ≡ 0)
+          → not (eqb (bitAnd (maskIn (getD ws v 0)) (maskIn (getD ws w 0))) 0) ≡ is-some (joined rs w (meet (requestIn (getD ws v 0)) (requestIn (getD ws w 0))))
+      go A B (yes z) = rw (eq-eqb (bitAnd (maskIn (getD ws v 0)) (maskIn (getD ws w 0))) 0 z, words-apart (getD ws v 0) (getD ws w 0) A B z)
+      go A B (no z) = rw (ne-eqb (bitAnd (maskIn (getD ws v 0)) (maskIn (getD ws w 0))) 0 z, words-meet (getD ws v 0) (getD ws w 0) A B z .1)
 
 -- ---- the binding
 
 module _ (x : Solver) (ks vs ts us : List ℕ) (s : Session) (L : Represents x ks vs ts s) (v q : ℕ) (below : v < x .variables)
     (H : Handed (x .variables) v (getD ks q 0) (getD vs q 0) ts us) where
-  word : getD ts (x .variables + v) 0 ≡ getD (requestWords (x .variables) ts) v 0
-  word = request-near (x .variables) ts v below
+  held-word : (w : ℕ) (o : Option Request) → w < x .variables → s .solver .requests w ≡ o → HeldRequest o (getD ts (x .variables + w) 0)
+  held-word w o l e =
+      subst (λ (p : Option Request). HeldRequest p (getD ts (x .variables + w) 0)) e
+      (subst (λ (n : ℕ). HeldRequest (s .solver .requests w) n) (sym (request-near (x .variables) ts w l)) (L .requests w))
 
   still : (rs : Requests) → s .solver .requests ≡ rs → us ≡ ts
       → Represents x ks vs us (withSolver s (record { bindings = s .solver .bindings; requests = rs; revision = s .solver .revision }))
   still rs e f = rw (f, ← e) L
 
-  moves : (w : ℕ) (r : Request) (rs : Requests) → s .solver .requests v ≡ some r → w < x .variables → getD ks q 0 ≡ 1 → getD vs q 0 ≡ w
-      → put (s .solver .requests) w (some r) ≡ rs
+  moves : (w : ℕ) (r : Request) (rs : Requests) → (getD ts (x .variables + v) 0 ≡ 0 → ⊥) → w < x .variables → getD ks q 0 ≡ 1 → getD vs q 0 ≡ w
+      → HeldRequest (some r) (joinedWord (getD ts (x .variables + v) 0) (getD ts (x .variables + w) 0)) → put (s .solver .requests) w (some r) ≡ rs
       → Represents x ks vs us (withSolver s (record { bindings = s .solver .bindings; requests = rs; revision = s .solver .revision }))
-  moves w r rs e l k d f =
-      let h = held-word (s .solver .requests v) (getD (requestWords (x .variables) ts) v 0) r (L .requests v) e in
-      let c = held-low (s .solver .requests v) (getD (requestWords (x .variables) ts) v 0) r (L .requests v) e in
-      let g : getD ts (x .variables + v) 0 ≡ r .fallback + 1 = word ∙ h .0 in
-      let u : us ≡ set ts (x .variables + w) (r .fallback + 1) = H .on (λ z. omega arith) k (omega arith) ∙ rw (d, g) in
-      rw (u, ← f) (lent-request x ks vs ts s L w r l (h .1) c)
+  moves w r rs n l k d g f =
+      let j = joinedWord (getD ts (x .variables + v) 0) (getD ts (x .variables + w) 0) in
+      let u : us ≡ set ts (x .variables + w) j = H .on n k (omega arith) ∙ rw d in
+      rw (u, ← f) (lent-request x ks vs ts s L w j r l g)
 
   pub lent-handed : (t : Term) (rs : Requests) → Held ks vs q t → atMost (x .variables) t → admit (s .solver .requests) (s .solver .requests v) t ≡ some rs
       → Represents x ks vs us (withSolver s (record { bindings = s .solver .bindings; requests = rs; revision = s .solver .revision }))
@@ -190,18 +147,27 @@ module _ (x : Solver) (ks vs ts us : List ℕ) (s : Session) (L : Represents x k
           → Represents x ks vs us (withSolver s (record { bindings = s .solver .bindings; requests = rs; revision = s .solver .revision }))
       met w r u p o h l none i j = clash (cc)
       met w r u p o h l (some g) i j =
-          let k = held-word (s .solver .requests v) (getD (requestWords (x .variables) ts) v 0) r (L .requests v) p .1 in
-          let n = held-word (s .solver .requests w) (getD (requestWords (x .variables) ts) w 0) u (L .requests w) o .1 in
-          let y : r ≡ g = meet-first r u g k n i in
+          let A = held-word v (some r) below p in
+          let B = held-word w (some u) l o in
+          let a = getD ts (x .variables + v) 0 in
+          let b = getD ts (x .variables + w) 0 in
           let f = held-first ks vs q (var w) h in
-          moves w r rs p l (f .0) (f .1) (ap (λ (b : Request). put (s .solver .requests) w (some b)) y ∙ (let z : put (s .solver .requests) w (some g) ≡ rs = cc in z))
+          let e : meet (requestIn a) (requestIn b) ≡ some g = ap₂ meet (sym (A .1)) (sym (B .1)) ∙ i in
+          let n : bitAnd (maskIn a) (maskIn b) ≡ 0 → ⊥ = λ z. let y = words-apart a b (A .0) (B .0) z in clash (cc) in
+          let W = words-meet a b (A .0) (B .0) n in
+          let y : g ≡ requestIn (joinedWord a b) = let y = W .1 in cc in
+          moves w g rs (λ z. omega (arith, A .0 .some)) l (f .0) (f .1) (W .0, y) (cc)
 
       towards : (w : ℕ) (r : Request) → s .solver .requests v ≡ some r → Held ks vs q (var w) → w < x .variables
           → (o : Option Request) → s .solver .requests w ≡ o → join (s .solver .requests) r w o ≡ some rs
           → Represents x ks vs us (withSolver s (record { bindings = s .solver .bindings; requests = rs; revision = s .solver .revision }))
       towards w r p h l none o j =
+          let A = held-word v (some r) below p in
+          let a = getD ts (x .variables + v) 0 in
           let f = held-first ks vs q (var w) h in
-          moves w r rs p l (f .0) (f .1) (cc)
+          let z : getD ts (x .variables + w) 0 ≡ 0 = held-word w none l o in
+          let e : joinedWord a (getD ts (x .variables + w) 0) ≡ a = ap (joinedWord a) z ∙ joined-none a (A .0) in
+          moves w r rs (λ y. omega (arith, A .0 .some)) l (f .0) (f .1) (subst (λ (n : ℕ). HeldRequest (some r) n) (sym e) A) (cc)
       towards w r p h l (some u) o j = met w r u p o h l (meet r u) refl j
 
       belonging : (k : ℕ) (ps : Parts) → Held ks vs q (node k ps) → (b : Bool) → allow (s .solver .requests) b ≡ some rs
@@ -211,10 +177,7 @@ module _ (x : Solver) (ks vs ts us : List ℕ) (s : Session) (L : Represents x k
 
       go : (o : Option Request) → s .solver .requests v ≡ o → (t : Term) → Held ks vs q t → atMost (x .variables) t → admit (s .solver .requests) o t ≡ some rs
           → Represents x ks vs us (withSolver s (record { bindings = s .solver .bindings; requests = rs; revision = s .solver .revision }))
-      go none p t h a j =
-          let n = L .requests v in
-          let z : getD (requestWords (x .variables) ts) v 0 ≡ 0 = subst (λ (o : Option Request). HeldRequest o (getD (requestWords (x .variables) ts) v 0)) p n in
-          still rs (cc) (H .none (word ∙ z))
+      go none p t h a j = still rs (cc) (H .none (held-word v none below p))
       go (some r) p (var w) h a j = towards w r p h a (s .solver .requests w) refl j
       go (some r) p (node k ps) h a j = belonging k ps h (belongs (r .family) (node k ps)) j
 

@@ -14,7 +14,7 @@ use Rattle.terms.specs.Term.{Term, Parts, var, node, num, end, Held}
 use Rattle.terms.proofs.Laws.Held.HeldLaws.{headKind, headValue, held-first, items-some}
 use Rattle.unify.specs.Solver.{put, put-same, put-other}
 use Rattle.solver.specs.declared.Solver.{Solver}
-use Rattle.solver.specs.Families.{Request}
+use Rattle.solver.specs.Families.{Request, rangedAt, taken, defaultOf}
 use Rattle.solver.specs.Constrain as solving
 use Rattle.solver.specs.Constrain.{replaceRow, followed, resolve, follow, resolved, top}
 use Rattle.solver.specs.Session.{Session, issued, withSolver, deferring, settleAt, numericAt, neverAt, numericDefaults, neverDefaults}
@@ -22,8 +22,8 @@ use Rattle.solver.specs.Invariant.{InOrder}
 use Rattle.solver.specs.Words.Bindings.{HeldBinding, HeldBindings}
 use Rattle.solver.specs.Words.ReachContract.{Steady, Topped}
 use Rattle.solver.specs.Words.ResolveWalk.{runLen, Named}
-use Rattle.solver.specs.Words.SessionRepresentation.{HeldRequest, flag, Represents}
-use Rattle.solver.specs.Words.MethodContract.{Beside, atMost, Low, EndsAt, settleWord, neverWord, defaultWord, defaulted}
+use Rattle.solver.specs.Words.SessionRepresentation.{RequestWord, requestIn, HeldRequest, flag, Represents}
+use Rattle.solver.specs.Words.MethodContract.{Beside, atMost, Low, EndsAt, neverWord, defaultWord, endWord, defaultAt, defaulted}
 use Rattle.solver.specs.Words.ConstrainContract.{Within}
 use Rattle.solver.proofs.Laws.Resolving.FrameLaws.{run-none}
 use Rattle.solver.proofs.Laws.Resolving.ResolvedLaws.{run-held}
@@ -31,6 +31,7 @@ use Rattle.solver.proofs.Laws.Resolving.TopLaws.{follow-none}
 use Rattle.solver.proofs.Laws.Definition.SolverInvariantLaws.{var-within, ordered-within, ordered-steady, ordered-topped, top-low}
 use Rattle.solver.proofs.Laws.Definition.InOrderLaws.{in-order-ordered}
 use Rattle.solver.proofs.Laws.Table.ColumnLaws.{column-read}
+use Rattle.solver.proofs.Laws.Table.RequestWordLaws.{held-none, held-some}
 use Rattle.solver.proofs.Laws.Table.MethodLaws.{beside-same, beside-then, lent-defer, lent-bound}
 
 -- ---- from a variable on
@@ -113,55 +114,108 @@ low-put m b w c low v t e = go (ℕ-discrete v w)
         subst (λ (u : Term). atMost m u) h tt
     go (no f) = low v t (sym (put-other b w (some (node 4 (num c end))) v f) ∙ e)
 
-pub low-settle : (m : ℕ) (z : solving.Solver) (c : ℕ) (t : Term) → Low m (z .bindings) → Low m (settleAt z (node 4 (num c end)) t .bindings)
+pub low-settle : (m : ℕ) (z : solving.Solver) (c : ℕ → ℕ) (t : Term) → Low m (z .bindings) → Low m (settleAt z (λ w. node 4 (num (c w) end)) t .bindings)
 unfolding settleAt
-low-settle m z c (var w) low = low-put m (z .bindings) w c low
+low-settle m z c (var w) low = low-put m (z .bindings) w (c w) low
 low-settle m z c (node k ps) low = low
 
 -- ---- one default
 
-pub settled-none : (x : Solver) (ks vs ts : List ℕ) (s : Session) → Represents x ks vs ts s → (v word : ℕ) → word ≡ 0 → Represents x ks vs ts (withSolver s (settleWord (s .solver) v word))
-unfolding settleWord
-settled-none x ks vs ts s L v word e = rw e L
+-- by the word of v, which is that of its deferral or of its request
+module _ (never : Bool) (x : Solver) (ks vs ts : List ℕ) (s : Session) (L : Represents x ks vs ts s) (v word : ℕ) (below : v < x .variables)
+    (named : word ≡ defaultWord never (x .variables) ts v) where
+  deferral : word ≡ neverWord (getD ts (5 * x .variables + v) 0) → word ≡ neverWord (flag (s .deferred v))
+  deferral e = e ∙ ap neverWord (sym (column-read (x .variables) (5 * x .variables) ts _ v refl below) ∙ L .deferred v)
 
-module _ (x : Solver) (ks vs ts : List ℕ) (s : Session) (L : Represents x ks vs ts s) (low : Low (x .variables) (s .solver .bindings)) (v w : ℕ) (below : v < x .variables)
-    (e : EndsAt (length (take (x .variables) ts)) (follow (x .revision) (s .solver .bindings) (var v)) w) where
-  ends : EndsAt (x .variables) (top (s .solver) (var v)) w
-  ends =
-      let r = L .room in
-      subst (λ (n : ℕ). EndsAt (x .variables) (follow n (s .solver .bindings) (var v)) w) (L .revision)
-      (subst (λ (m : ℕ). EndsAt m (follow (x .revision) (s .solver .bindings) (var v)) w) (length-take-le (x .variables) ts (omega arith)) e)
+  asked : (w : ℕ) → w < x .variables → HeldRequest (s .solver .requests w) (getD ts (x .variables + w) 0)
+  asked w l = subst (λ (n : ℕ). HeldRequest (s .solver .requests w) n) (column-read (x .variables) (x .variables) ts _ w refl l) (L .requests w)
 
-  most : atMost (x .variables) (top (s .solver) (var v))
-  most = low-top (x .variables) (s .solver .bindings) low (s .solver .revision) (var v) below
+  requested-as : word ≡ getD ts (x .variables + v) 0 → HeldRequest (s .solver .requests v) word
+  requested-as e = subst (λ (n : ℕ). HeldRequest (s .solver .requests v) n) (sym e) (asked v below)
 
-  -- the chain ends at no variable
-  pub settled-stop : (word : ℕ) → x .variables ≤ w → Represents x ks vs ts (withSolver s (settleWord (s .solver) v word))
-  unfolding settleWord settleAt
-  settled-stop zero l = L
-  settled-stop (suc c) l = go (top (s .solver) (var v)) ends most
+  -- no default
+  stays : (b : Bool) → word ≡ defaultWord b (x .variables) ts v → word ≡ 0 → defaultAt b s v ≡ s .solver
+  unfolding defaultWord defaultAt numericAt neverAt neverWord
+  stays false e z = rw (held-none (s .solver .requests v) word (requested-as e) z)
+  stays true e z = go (s .deferred v) (deferral e)
     where
-      go : (t : Term) → EndsAt (x .variables) t w → atMost (x .variables) t → Represents x ks vs ts (withSolver s (settleAt (s .solver) (node 4 (num c end)) t))
-      go (var u) f o = absurd (let q = f o in omega arith)
-      go (node k ps) f o = L
+      go : (d : Bool) → word ≡ neverWord (flag d) → neverAt (s .solver) v d ≡ s .solver
+      go false h = refl
+      go true h = absurd (omega arith)
 
-  -- the chain ends at the variable w
-  pub settled-bound : (y : Solver) (word : ℕ) → w < x .variables → (word ≡ 0 → ⊥) → word ≤ 32 → Beside x y ts (set ts w (2 * word - 1))
-      → y .issued ≡ x .issued → y .revision ≡ x .revision + 1 → y .kept ≡ x .kept
-      → Represents y ks vs (set ts w (2 * word - 1)) (withSolver s (settleWord (s .solver) v word))
-  unfolding settleWord settleAt
-  settled-bound y zero l p o B i r k = absurd (p refl)
-  settled-bound y (suc c) l p o B i r k = go (top (s .solver) (var v)) ends most
+  pub settled-none : word ≡ 0 → Represents x ks vs ts (withSolver s (defaultAt never s v))
+  settled-none z = rw (stays never named z) L
+
+  -- the code c is the one that the two words give, where the chain ends at w
+  abbrev Coded : Bool → ℕ → ℕ → Type 0
+  Coded b w c = (o : Option Request) → RequestWord word → HeldRequest o (endWord b (x .variables) ts w) → c ≡ taken (requestIn word) o
+
+  -- a default: the variable w of the table at which the chain ends is bound to the builtin with this code
+  record Settles (b : Bool) : Type 0 where
+    builtin : ℕ → Term
+    settles : defaultAt b s v ≡ settleAt (s .solver) builtin (top (s .solver) (var v))
+    coded : (w c : ℕ) → w < x .variables → Coded b w c → builtin w ≡ node 4 (num c end)
+
+  settling : (b : Bool) → word ≡ defaultWord b (x .variables) ts v → (word ≡ 0 → ⊥) → Settles b
+  unfolding defaultWord endWord defaultAt numericAt neverAt neverWord requestIn taken rangedAt
+  settling false e n =
+      let r = held-some (s .solver .requests v) word (requested-as e) n in
+      record {
+        builtin = λ w. defaultOf (requestIn word) (s .solver .requests w);
+        settles = rw (r .1);
+        coded = λ w c l h. ap (λ (k : ℕ). node 4 (num k end)) (sym (h (s .solver .requests w) (r .0) (asked w l)));
+      }
+  settling true e n = go (s .deferred v) refl (deferral e)
     where
-      a : 2 * suc c - 1 ≡ c + c + 1
-      a = omega arith
+      go : (d : Bool) → s .deferred v ≡ d → word ≡ neverWord (flag d) → Settles true
+      go false f h = absurd (n h)
+      go true f h =
+          record {
+            builtin = λ w. node 4 (num 10 end);
+            settles = rw f;
+            coded = λ w c l k.
+                ap (λ (i : ℕ). node 4 (num i end)) (sym (k none (record { some = omega arith; mask = λ j. omega arith; most = omega arith }) refl ∙ ap (λ (i : ℕ). taken (requestIn i) none) h));
+          }
 
-      go : (t : Term) → EndsAt (x .variables) t w → atMost (x .variables) t
-          → Represents y ks vs (set ts w (2 * suc c - 1)) (withSolver s (settleAt (s .solver) (node 4 (num c end)) t))
-      go (var u) f q =
-          let g : w ≡ u = f q in
-          rw (a, ← g) (lent-bound x ks vs ts s L w (c + c) (node 4 (num c end)) l (L .builtins c (omega arith)) y (rw a at B) i r k)
-      go (node j ps) f q = absurd (let g = f in omega arith)
+  module _ (low : Low (x .variables) (s .solver .bindings)) (w : ℕ) (e : EndsAt (length (take (x .variables) ts)) (follow (x .revision) (s .solver .bindings) (var v)) w)
+      (n : word ≡ 0 → ⊥) where
+    ends : EndsAt (x .variables) (top (s .solver) (var v)) w
+    ends =
+        let r = L .room in
+        subst (λ (n : ℕ). EndsAt (x .variables) (follow n (s .solver .bindings) (var v)) w) (L .revision)
+        (subst (λ (m : ℕ). EndsAt m (follow (x .revision) (s .solver .bindings) (var v)) w) (length-take-le (x .variables) ts (omega arith)) e)
+
+    most : atMost (x .variables) (top (s .solver) (var v))
+    most = low-top (x .variables) (s .solver .bindings) low (s .solver .revision) (var v) below
+
+    default : Settles never
+    default = settling never named n
+
+    -- the chain ends at no variable
+    pub settled-stop : x .variables ≤ w → Represents x ks vs ts (withSolver s (defaultAt never s v))
+    unfolding settleAt
+    settled-stop l = rw (default .settles) (go (top (s .solver) (var v)) ends most)
+      where
+        go : (t : Term) → EndsAt (x .variables) t w → atMost (x .variables) t → Represents x ks vs ts (withSolver s (settleAt (s .solver) (default .builtin) t))
+        go (var u) f o = absurd (let q = f o in omega arith)
+        go (node k ps) f o = L
+
+    -- the chain ends at the variable w
+    pub settled-bound : (y : Solver) (c : ℕ) → w < x .variables → Coded never w c → c < 32 → Beside x y ts (set ts w (2 * c + 1))
+        → y .issued ≡ x .issued → y .revision ≡ x .revision + 1 → y .kept ≡ x .kept
+        → Represents y ks vs (set ts w (2 * c + 1)) (withSolver s (defaultAt never s v))
+    unfolding settleAt
+    settled-bound y c l h o B i r k = rw (default .settles) (go (top (s .solver) (var v)) ends most)
+      where
+        a : 2 * c + 1 ≡ c + c + 1
+        a = omega arith
+
+        go : (t : Term) → EndsAt (x .variables) t w → atMost (x .variables) t
+            → Represents y ks vs (set ts w (2 * c + 1)) (withSolver s (settleAt (s .solver) (default .builtin) t))
+        go (var u) f q =
+            let g : w ≡ u = f q in
+            rw (a, ← g, default .coded w c l h) (lent-bound x ks vs ts s L w (c + c) (node 4 (num c end)) l (L .builtins c o) y (rw a at B) i r k)
+        go (node j ps) f q = absurd (let g = f in omega arith)
 
 -- ---- all of them, by rising id
 
@@ -190,7 +244,7 @@ numeric-low m (suc n) v z low = numeric-low m n (suc v) (numericAt z v (z .reque
   where
     go : (o : Option Request) → Low m (numericAt z v o .bindings)
     go none = low
-    go (some r) = low-settle m z (r .fallback) (top z (var v)) low
+    go (some r) = low-settle m z (λ w. taken r (z .requests w)) (top z (var v)) low
 
 pub never-low : (m : ℕ) (d : ℕ → Bool) (n v : ℕ) (z : solving.Solver) → Low m (z .bindings) → Low m (neverDefaults d n v z .bindings)
 unfolding neverDefaults neverAt
@@ -199,18 +253,7 @@ never-low m d (suc n) v z low = never-low m d n (suc v) (neverAt z v (d v)) (go 
   where
     go : (b : Bool) → Low m (neverAt z v b .bindings)
     go false = low
-    go true = low-settle m z 10 (top z (var v)) low
-
--- what a variable's words say of its default
-pub request-named : (z : solving.Solver) (v : ℕ) (o : Option Request) (word : ℕ) → HeldRequest o word → (word ≤ 32) × (settleWord z v word ≡ numericAt z v o)
-unfolding settleWord numericAt
-request-named z v none word h = (let e : word ≡ 0 = h in omega arith, rw h)
-request-named z v (some r) word h = (let e = h .0 in let l = h .2 in omega arith, rw (h .0, add-one))
-
-pub never-named : (z : solving.Solver) (v : ℕ) (b : Bool) (word : ℕ) → word ≡ flag b → (neverWord word ≤ 32) × (settleWord z v (neverWord word) ≡ neverAt z v b)
-unfolding settleWord neverAt neverWord
-never-named z v false word e = rw e (omega arith, refl)
-never-named z v true word e = rw e (omega arith, refl)
+    go true = low-settle m z (λ w. 10) (top z (var v)) low
 
 module _ (never : Bool) (x₀ : Solver) (ks vs ts₀ : List ℕ) where
   pub applied-start : Applied never x₀ ks vs ts₀ 0 x₀ ts₀
@@ -228,39 +271,27 @@ module _ (never : Bool) (x₀ : Solver) (ks vs ts₀ : List ℕ) where
       go false s = refl
       go true s = refl
 
-  module _ (n : ℕ) (x y : Solver) (ts us : List ℕ) (word : ℕ) (A : Applied never x₀ ks vs ts₀ n x ts) (room : x₀ .issued ≤ x₀ .variables) where
+  module _ (n : ℕ) (x y : Solver) (ts us : List ℕ) (A : Applied never x₀ ks vs ts₀ n x ts) (room : x₀ .issued ≤ x₀ .variables) where
     low-before : (b : Bool) (s : Session) → Low (x₀ .variables) (s .solver .bindings) → Low (x₀ .variables) (defaulted b n s .bindings)
     unfolding defaulted
     low-before false s low = numeric-low (x₀ .variables) n 0 (s .solver) low
     low-before true s low = never-low (x₀ .variables) (s .deferred) n 0 (s .solver) low
 
-    -- what the word of the next variable does
-    next : (b : Bool) → n < x .variables → word ≡ defaultWord b (x .variables) ts n → (s : Session) → Represents x ks vs ts (withSolver s (defaulted b n s))
-        → (word ≤ 32) × (settleWord (defaulted b n s) n word ≡ defaulted b (n + 1) s)
-    unfolding defaulted defaultWord
-    next false l e s L =
-        let z = numericDefaults n 0 (s .solver) in
-        let h : HeldRequest (z .requests n) word = subst (λ (w : ℕ). HeldRequest (z .requests n) w) (column-read (x .variables) (x .variables) ts _ n refl l ∙ sym e) (L .requests n) in
-        let k = request-named z n (z .requests n) word h in
-        (k .0, k .1 ∙ sym (rw (add-one, numeric-more n 0 (s .solver), zero-add)))
-    next true l e s L =
-        let z = neverDefaults (s .deferred) n 0 (s .solver) in
-        let d = getD ts (5 * x .variables + n) 0 in
-        let h : d ≡ flag (s .deferred n) = sym (column-read (x .variables) (5 * x .variables) ts _ n refl l) ∙ L .deferred n in
-        let k = never-named z n (s .deferred n) d h in
-        rw e (k .0, k .1 ∙ sym (rw (add-one, never-more (s .deferred) n 0 (s .solver), zero-add)))
+    -- the default of the next variable
+    next : (b : Bool) (s : Session) → defaultAt b (withSolver s (defaulted b n s)) n ≡ defaulted b (n + 1) s
+    unfolding defaulted defaultAt
+    next false s = sym (rw (add-one, numeric-more n 0 (s .solver), zero-add))
+    next true s = sym (rw (add-one, never-more (s .deferred) n 0 (s .solver), zero-add))
 
-    pub applied-step : n < x₀ .issued → word ≡ defaultWord never (x₀ .variables) ts n
-        → ((s : Session) → word ≤ 32 → Represents x ks vs ts s → Low (x .variables) (s .solver .bindings) → Represents y ks vs us (withSolver s (settleWord (s .solver) n word)))
+    pub applied-step : n < x₀ .issued
+        → ((s : Session) → Represents x ks vs ts s → Low (x .variables) (s .solver .bindings) → Represents y ks vs us (withSolver s (defaultAt never s n)))
         → Beside x y ts us → y .issued ≡ x .issued → y .revision ≤ x .revision + 1 → Applied never x₀ ks vs ts₀ (n + 1) y us
-    applied-step l e h B i r =
+    applied-step l h B i r =
         let v = A .beside .variables in
         record {
           held = λ s L low.
-              let M = A .held s L low in
-              let k = next never (omega arith) (e ∙ ap (λ (m : ℕ). defaultWord never m ts n) (sym v)) s M in
-              subst (λ (z : solving.Solver). Represents y ks vs us (withSolver s z)) (k .1)
-              (h (withSolver s (defaulted never n s)) (k .0) M (subst (λ (m : ℕ). Low m (defaulted never n s .bindings)) (sym v) (low-before never s low)));
+              subst (λ (z : solving.Solver). Represents y ks vs us (withSolver s z)) (next never s)
+              (h (withSolver s (defaulted never n s)) (A .held s L low) (subst (λ (m : ℕ). Low m (defaulted never n s .bindings)) (sym v) (low-before never s low)));
           beside = beside-then (A .beside) B;
           issued = i ∙ A .issued;
           steps = omega (arith, A .steps);

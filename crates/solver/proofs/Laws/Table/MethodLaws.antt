@@ -18,19 +18,19 @@ use Rattle.solver.specs.declared.Solver.{Solver}
 use Rattle.solver.specs.declared.Named.{Named}
 use Rattle.solver.specs.declared.Site.{Site}
 use Rattle.solver.specs.declared.Named.the-variants.{Variable, Full}
-use Rattle.solver.specs.Families.{Request, requested, familyOf}
+use Rattle.solver.specs.Families.{Request}
 use Rattle.solver.specs.Session.{Limits, VariablePlace, at, gap, samePlace, Session, issued, find, withSolver, issueAt, request, deferring}
 use Rattle.solver.specs.Orders.{full, variableAt, numberAt, holeAt}
 use Rattle.solver.specs.Invariant.{WithinLimits}
 use Rattle.solver.specs.Words.Bindings.{HeldBindings}
 use Rattle.solver.specs.Words.Worklist.{Zero}
 use Rattle.solver.specs.Words.SessionRepresentation.{limitsOf, bindingWords, requestWords, placeWords, siteWords, slotWords, deferralWords, HeldRequest, HeldPlace, HeldPlaces, Unplaced, flag, freeWords, Represents}
-use Rattle.solver.specs.Words.MethodContract.{Shaped, Beside, matches, lastMatch, found, placing, placed, namedOf, namedBelow, Issued, Replied, replyOf, resolvedReply, Handed, neverWord, defaultWord}
+use Rattle.solver.specs.Words.MethodContract.{Shaped, Beside, matches, lastMatch, found, placing, placed, namedOf, namedBelow, Issued, Replied, replyOf, resolvedReply, joinedWord, Handed, neverWord, defaultWord, endWord}
 use Rattle.solver.specs.Words.OrderTerms.{placeOf}
 use Rattle.solver.proofs.Laws.Definition.InOrderLaws.{find-issued}
 use Rattle.solver.proofs.Laws.Resolving.BindingLaws.{bind-held}
 use Rattle.solver.proofs.Laws.Table.ColumnLaws.{column-read, column-past, column-length, column-write, column-before, column-behind}
-use Rattle.solver.proofs.Laws.Definition.RequestLaws.{put-held}
+use Rattle.solver.proofs.Laws.Table.RequestWordLaws.{put-held}
 
 -- ---- the method's table beside the columns
 
@@ -309,13 +309,13 @@ module _ (x : Solver) (ks vs ts : List ℕ) (s : Session) (L : Represents x ks v
         })
 
   -- v is a number variable
-  module _ (v : ℕ) (r : Request) (below : v < m) (kind : r .family ≡ familyOf (r .fallback)) (low : r .fallback < 32) where
+  module _ (v word : ℕ) (r : Request) (below : v < m) (held : HeldRequest (some r) word) where
     abbrev requestAt : List ℕ
-    requestAt = set ts (m + v) (r .fallback + 1)
+    requestAt = set ts (m + v) word
 
     pub lent-request : Represents x ks vs requestAt (request s v r)
     lent-request =
-        let w = r .fallback + 1 in
+        let w = word in
         let size = L .room in
         lent-changed x x ks vs ts requestAt s L (beside-set x x ts ts (m + v) w (beside-same x ts) (omega arith)) (request s v r)
         (record {
@@ -325,7 +325,7 @@ module _ (x : Solver) (ks vs ts : List ℕ) (s : Session) (L : Represents x ks v
           sum = refl;
           most = L .fits .variables;
           bindings = fixed-bindings requestAt (take-set-le m ts (m + v) w (omega arith));
-          requests = λ u. rw (column-write m m ts _ v w refl below) (put-held (s .solver .requests) (requestWords m ts) v r (L .requests) (omega (arith, column-length m m ts (omega arith))) kind low u);
+          requests = λ u. rw (column-write m m ts _ v w refl below) (put-held (s .solver .requests) (requestWords m ts) v word r (L .requests) (omega (arith, column-length m m ts (omega arith))) held u);
           places = fixed-places requestAt (column-before m (2 * m) ts (m + v) w (omega arith)) (column-before m (3 * m) ts (m + v) w (omega arith)) (column-before m (4 * m) ts (m + v) w (omega arith));
           unplaced = fixed-unplaced requestAt (column-before m (2 * m) ts (m + v) w (omega arith)) (column-before m (3 * m) ts (m + v) w (omega arith)) (column-before m (4 * m) ts (m + v) w (omega arith));
           deferred = fixed-deferred requestAt (column-before m (5 * m) ts (m + v) w (omega arith));
@@ -515,17 +515,17 @@ module _ (y : Solver) (ks vs us : List ℕ) (lim : Limits) (s : Session) (p : Va
       go none false i = clash (let e = i .answer in cc)
 
   -- and where the place has its variable, whose request is written
-  pub number-replied : (v c : ℕ) → Issued y ks vs us p (placed lim s p) (Variable v) → v < y .variables → c < 32
-      → Replied y ks vs (set us (y .variables + v) (c + 1)) p (numberAt lim s p (requested c) (find p (s .places)) (full lim s))
-      (resolvedReply (numberAt lim s p (requested c) (find p (s .places)) (full lim s) .session .solver)) (Variable v)
+  pub number-replied : (v word : ℕ) (r : Request) → Issued y ks vs us p (placed lim s p) (Variable v) → v < y .variables → HeldRequest (some r) word
+      → Replied y ks vs (set us (y .variables + v) word) p (numberAt lim s p r (find p (s .places)) (full lim s))
+      (resolvedReply (numberAt lim s p r (find p (s .places)) (full lim s) .session .solver)) (Variable v)
   unfolding placing numberAt
-  number-replied v c j l low = go (find p (s .places)) (full lim s) j
+  number-replied v word r j l held = go (find p (s .places)) (full lim s) j
     where
-      there : (s′ : Session) → Represents y ks vs us s′ → Represents y ks vs (set us (y .variables + v) (c + 1)) (request s′ v (requested c))
-      there s′ L = lent-request y ks vs us s′ L v (requested c) l refl low
+      there : (s′ : Session) → Represents y ks vs us s′ → Represents y ks vs (set us (y .variables + v) word) (request s′ v r)
+      there s′ L = lent-request y ks vs us s′ L v word r l held
 
       go : (o : Option ℕ) (b : Bool) → Issued y ks vs us p (placing s p o b) (Variable v)
-          → Replied y ks vs (set us (y .variables + v) (c + 1)) p (numberAt lim s p (requested c) o b) (resolvedReply (numberAt lim s p (requested c) o b .session .solver)) (Variable v)
+          → Replied y ks vs (set us (y .variables + v) word) p (numberAt lim s p r o b) (resolvedReply (numberAt lim s p r o b .session .solver)) (Variable v)
       go (some w) b i =
           let e : v ≡ w = let q = i .answer in cc in
           rw (← e) (record { represents = there s (i .represents); reply = refl; located = i .located })
@@ -535,10 +535,10 @@ module _ (y : Solver) (ks vs us : List ℕ) (lim : Limits) (s : Session) (p : Va
           rw (← e) (record { represents = there (issueAt s p) (i .represents); reply = refl; located = i .located })
 
   -- the same at an index that is that word's
-  pub number-written : (a : Named) (v c j : ℕ) → a ≡ Variable v → Issued y ks vs us p (placed lim s p) a → v < y .variables → c < 32 → j ≡ y .variables + v
-      → Replied y ks vs (set us j (c + 1)) p (numberAt lim s p (requested c) (find p (s .places)) (full lim s))
-      (resolvedReply (numberAt lim s p (requested c) (find p (s .places)) (full lim s) .session .solver)) (Variable v)
-  number-written a v c j e i l low f = rw f (number-replied v c (subst (λ (b : Named). Issued y ks vs us p (placed lim s p) b) e i) l low)
+  pub number-written : (a : Named) (v word j : ℕ) (r : Request) → a ≡ Variable v → Issued y ks vs us p (placed lim s p) a → v < y .variables → HeldRequest (some r) word → j ≡ y .variables + v
+      → Replied y ks vs (set us j word) p (numberAt lim s p r (find p (s .places)) (full lim s))
+      (resolvedReply (numberAt lim s p r (find p (s .places)) (full lim s) .session .solver)) (Variable v)
+  number-written a v word j r e i l held f = rw f (number-replied v word r (subst (λ (b : Named). Issued y ks vs us p (placed lim s p) b) e i) l held)
 
   pub number-none : (a : Named) (r : Request) → a ≡ Full → Issued y ks vs us p (placed lim s p) a
       → Replied y ks vs us p (numberAt lim s p r (find p (s .places)) (full lim s)) (resolvedReply (numberAt lim s p r (find p (s .places)) (full lim s) .session .solver)) Full
@@ -562,18 +562,19 @@ module _ (m v kind val : ℕ) (ts : List ℕ) where
   pub handed-far : m ≤ val → Handed m v kind val ts ts
   handed-far e = record { none = λ _. refl; node = λ _. refl; far = λ _. refl; on = λ n k l. absurd (omega arith); size = refl; rest = refl }
 
-  pub handed-on : (getD ts (m + v) 0 ≡ 0 → ⊥) → kind ≡ 1 → val < m → Handed m v kind val ts (set ts (m + val) (getD ts (m + v) 0))
-  handed-on n k l =
+  pub handed-on : (word : ℕ) → (getD ts (m + v) 0 ≡ 0 → ⊥) → kind ≡ 1 → val < m → word ≡ joinedWord (getD ts (m + v) 0) (getD ts (m + val) 0)
+      → Handed m v kind val ts (set ts (m + val) word)
+  handed-on word n k l e =
       record {
         none = λ e. absurd (n e);
         node = λ e. absurd (e k);
         far = λ e. absurd (omega arith);
-        on = λ _ _ _. refl;
-        size = length-set ts (m + val) (getD ts (m + v) 0);
-        rest = drop-set-lt (7 * m) ts (m + val) (getD ts (m + v) 0) (omega arith);
+        on = λ _ _ _. ap (set ts (m + val)) e;
+        size = length-set ts (m + val) word;
+        rest = drop-set-lt (7 * m) ts (m + val) word (omega arith);
       }
 
--- ---- words that name builtins
+-- ---- words that defaults go by
 
 module _ (never : Bool) (m : ℕ) (ts : List ℕ) (v : ℕ) where
   pub default-none : never ≡ true → getD ts (5 * m + v) 0 ≡ 0 → 0 ≡ defaultWord never m ts v
@@ -591,3 +592,11 @@ module _ (never : Bool) (m : ℕ) (ts : List ℕ) (v : ℕ) where
   pub default-request : never ≡ false → getD ts (m + v) 0 ≡ defaultWord never m ts v
   unfolding defaultWord
   default-request b = rw b
+
+  pub end-never : never ≡ true → 0 ≡ endWord never m ts v
+  unfolding endWord
+  end-never b = rw b
+
+  pub end-request : never ≡ false → getD ts (m + v) 0 ≡ endWord never m ts v
+  unfolding endWord
+  end-request b = rw b

@@ -18,7 +18,7 @@ use Rattle.unify.specs.Solver.{Out, cancelled, done, put, any-soft}
 use Rattle.unify.specs.Table as table
 use Rattle.unify.specs.Table.{Table, answer}
 use Rattle.unify.specs.Session as session
-use Rattle.solver.specs.Families.{Family, Request, belongs, belongsRow, meet, defaultOf}
+use Rattle.solver.specs.Families.{Family, Request, belongs, belongsRow, meet, taken, defaultOf}
 use Rattle.solver.specs.Shapes.{Notion, blank, blankRow, read, sameShape, turned, pushed}
 use Rattle.solver.specs.Constrain.{Solver, resolved, top, recovery, recovers, occurs, projects, Requests, Pair, joined, join, allow, admit, Check, bind₁, bind₀, bind, zipOn, decompose, differ, match, checkPair, settles}
 use Rattle.solver.specs.Session.{never, settleAt, numericAt, neverAt, numericDefaults, neverDefaults}
@@ -217,37 +217,39 @@ module _ (n : Notion) where
 
 -- ---- defaults
 
--- by the request of the variable whose turn it is, whatever the end of its chain has
+-- by the request of the variable whose turn it is and that of the end of its chain
 abbrev pub fallback : Request → Option Request → Term
-fallback r o = defaultOf r
+fallback r o = defaultOf r o
 
 pub leaf-view : (c : ℕ) → view (node 4 (num c end)) ≡ tree.node (node 4 (num c end)) nil
 unfolding view blankRow turned class forest nums
 leaf-view c = refl
 
-pub fill-view : (z : Solver) (c : ℕ) (t : Term) → session.fill S fallback never (view-table z) (λ w. node 4 (num c end)) (view t) ≡ view-table (settleAt z (node 4 (num c end)) t)
-unfolding session.fill settleAt view
-fill-view z c (var w) =
-    ap (λ (f : ℕ → Option T). record { bound = f; fam = z .requests; rev = suc (z .revision) })
-    (ap (λ (t : T). put (all-viewed (z .bindings)) w (some t)) (sym (leaf-view c)) ∙ put-viewed (z .bindings) w (node 4 (num c end)))
-fill-view z c (node k ps) = refl
+-- the builtin of the code c w, where w is the variable at the end
+module _ (z : Solver) (c : ℕ → ℕ) where
+  pub fill-view : (t : Term) → session.fill S fallback never (view-table z) (λ w. node 4 (num (c w) end)) (view t) ≡ view-table (settleAt z (λ w. node 4 (num (c w) end)) t)
+  unfolding session.fill settleAt view
+  fill-view (var w) =
+      ap (λ (f : ℕ → Option T). record { bound = f; fam = z .requests; rev = suc (z .revision) })
+      (ap (λ (t : T). put (all-viewed (z .bindings)) w (some t)) (sym (leaf-view (c w))) ∙ put-viewed (z .bindings) w (node 4 (num (c w) end)))
+  fill-view (node k ps) = refl
 
-pub at-view : (z : Solver) (c v : ℕ)
-    → session.fill S fallback never (view-table z) (λ w. node 4 (num c end)) (table.top S (view-table z) (tree.var v)) ≡ view-table (settleAt z (node 4 (num c end)) (top z (var v)))
-unfolding view
-at-view z c v =
-    ap (session.fill S fallback never (view-table z) (λ w. node 4 (num c end))) (sym (view-follow (z .revision) (z .bindings) (var v)))
-    ∙ fill-view z c (top z (var v))
+  pub at-view : (v : ℕ)
+      → session.fill S fallback never (view-table z) (λ w. node 4 (num (c w) end)) (table.top S (view-table z) (tree.var v)) ≡ view-table (settleAt z (λ w. node 4 (num (c w) end)) (top z (var v)))
+  unfolding view
+  at-view v =
+      ap (session.fill S fallback never (view-table z) (λ w. node 4 (num (c w) end))) (sym (view-follow (z .revision) (z .bindings) (var v)))
+      ∙ fill-view (top z (var v))
 
 numeric-view : (z : Solver) (v : ℕ) (o : Option Request) → session.number-one S fallback never (view-table z) v o ≡ view-table (numericAt z v o)
 unfolding session.number-one numericAt
 numeric-view z v none = refl
-numeric-view z v (some r) = at-view z (r .fallback) v
+numeric-view z v (some r) = at-view z (λ w. taken r (z .requests w)) v
 
 never-view : (z : Solver) (v : ℕ) (b : Bool) → session.never-one S fallback never (view-table z) v b ≡ view-table (neverAt z v b)
 unfolding session.never-one neverAt
 never-view z v false = refl
-never-view z v true = at-view z 10 v
+never-view z v true = at-view z (λ w. 10) v
 
 pub numerics-view : (n v : ℕ) (z : Solver) → session.fill-numbers S fallback never n v (view-table z) ≡ view-table (numericDefaults n v z)
 unfolding session.fill-numbers numericDefaults

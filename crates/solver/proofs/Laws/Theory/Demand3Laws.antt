@@ -1,4 +1,4 @@
--- Demand 3 for every list of orders 0 to 8 and 22, on terms, and what a list that mixes 4 and 22 keeps: carried over from the theory along the view.
+-- Demand 3 for every list of orders 0 to 8, 21 and 22, on terms, and what a list that mixes 4 and 22 keeps: carried over from the theory along the view.
 use mathlib.Core.Path.{_≡_, refl, sym, ap, _∙_, subst}
 use mathlib.Core.Bool.{Bool, true, false, _&&_, _||_}
 use mathlib.Core.List.{List, [], _∷_, map}
@@ -21,7 +21,7 @@ use Rattle.unify.specs.Orders as theirs
 use Rattle.unify.specs.Orders.{Run, Issued}
 use Rattle.unify.specs.Table.{Table, answer, table-poses}
 use Rattle.unify.proofs.Lazy.{resolve-right}
-use Rattle.unify.proofs.InOrder.{InOrderRun}
+use Rattle.unify.proofs.InOrder.{InOrder, InOrderRun}
 use Rattle.unify.specs.Session as session
 use Rattle.unify.specs.Mixes as mixes
 use Rattle.unify.proofs.MixLaws as mix-laws
@@ -114,7 +114,7 @@ module _ (n : Notion) (codes-count : n 4 ≡ false) where
   pub respects : (r : Request) (h k : Term) → read n h ≡ read n k → belongs (r .family) h ≡ belongs (r .family) k
   respects r h k e = sym (read-belongs (r .family) h) ∙ ap (belongs (r .family)) e ∙ read-belongs (r .family) k
 
-abbrev viewing : (ℕ → Term) → ℕ → T
+abbrev pub viewing : (ℕ → Term) → ℕ → T
 viewing θ v = view (θ v)
 
 belongs-member : (r : Request) (t : Term) → belongs (r .family) t ≡ true → meaning.Member S r (view t)
@@ -123,12 +123,12 @@ belongs-member r t e =
     (node 4 (num (x .0) end), ap view (x .1) ∙ leaf-view (x .0), ap (belongs (r .family)) (sym (x .1)) ∙ e)
 
 -- a tree of a family is the view of a builtin
-member-belongs : (r : Request) (t : T) → meaning.Member S r t → (u : Term) × (t ≡ view u) × (belongs (r .family) u ≡ true)
+pub member-belongs : (r : Request) (t : T) → meaning.Member S r t → (u : Term) × (t ≡ view u) × (belongs (r .family) u ≡ true)
 member-belongs r t m =
     let x = belongs-code (r .family) (m .0) (m .2) in
     (m .0, m .1 ∙ ap (λ (h : Term). tree.node h nil) (x .1) ∙ sym (leaf-view (x .0)) ∙ ap view (sym (x .1)), m .2)
 
-true-view : (θ : ℕ → Term) (f : ℕ → Option Request) → RespectsFamilies θ f → meaning.True S (viewing θ) f
+pub true-view : (θ : ℕ → Term) (f : ℕ → Option Request) → RespectsFamilies θ f → meaning.True S (viewing θ) f
 true-view θ f p v r e = belongs-member r (θ v) (p v r e)
 
 view-true : (θ : ℕ → Term) (f : ℕ → Option Request) → meaning.True S (viewing θ) f → RespectsFamilies θ f
@@ -169,15 +169,15 @@ module _ (n : Notion) (θ : ℕ → Term) where
       ap (λ (t : T). tree.sub (viewing θ) t) (sym (view-resolve (s .solver .revision) (s .solver .bindings) (var v)))
       ∙ sym (view-replace θ (resolved (s .solver) (var v)))
 
-  abbrev Their : Session → Type 0
+  abbrev pub Their : Session → Type 0
   Their s = (v : ℕ) → v < issued s → Sim (read n) (viewing θ v) (tree.sub (viewing θ) (answer S (view-table (s .solver)) (tree.var v)))
 
-  agrees-view : (s : Session) → Agrees n θ s → Their s
+  pub agrees-view : (s : Session) → Agrees n θ s → Their s
   agrees-view s a v l =
       sim-eq n (view (θ v)) (view (θ v)) (view (replace θ (resolved (s .solver) (var v)))) (tree.sub (viewing θ) (answer S (view-table (s .solver)) (tree.var v)))
       refl (sym (answer-under s v)) (alike-sim n (θ v) (replace θ (resolved (s .solver) (var v))) (a v l))
 
-  view-agrees : (s : Session) → Their s → Agrees n θ s
+  pub view-agrees : (s : Session) → Their s → Agrees n θ s
   view-agrees s a v l =
       sim-alike n (θ v) (replace θ (resolved (s .solver) (var v)))
       (sim-eq n (view (θ v)) (view (θ v)) (tree.sub (viewing θ) (answer S (view-table (s .solver)) (tree.var v))) (view (replace θ (resolved (s .solver) (var v))))
@@ -251,13 +251,13 @@ all-same n N θ σ e (p ∷ ps) w a = (
 -- ---- from the theory
 
 -- an assignment of trees is one of terms
-back-assigns : (N : ℕ) (σ : ℕ → T) → theirs.Assigns S N σ → Assigns N (λ v. back (σ v))
+pub back-assigns : (N : ℕ) (σ : ℕ → T) → theirs.Assigns S N σ → Assigns N (λ v. back (σ v))
 back-assigns N σ a v l = (
   formed-back (σ v) (a v l .1) (a v l .0),
   closed-free (back (σ v)) (subst (λ (t : T). Closed t) (sym (view-back (σ v) (a v l .1))) (a v l .0)),
 )
 
-back-respects : (σ : ℕ → T) (f : ℕ → Option Request) → meaning.True S σ f → RespectsFamilies (λ v. back (σ v)) f
+pub back-respects : (σ : ℕ → T) (f : ℕ → Option Request) → meaning.True S σ f → RespectsFamilies (λ v. back (σ v)) f
 back-respects σ f t v r p = let x = member-belongs r (σ v) (t v r p) in ap (belongs (r .family)) (ap back (x .1) ∙ back-view (x .0)) ∙ x .2
 
 module _ (n : Notion) (h : History) where
@@ -301,10 +301,10 @@ module _ (n : Notion) (h : History) where
 -- ---- exact agreement
 
 module _ (θ : ℕ → Term) where
-  exactly-view : (s : Session) → AgreesExactly θ s → mixes.AgreesExactly S (issued s) (viewing θ) (view-table (s .solver))
+  pub exactly-view : (s : Session) → AgreesExactly θ s → mixes.AgreesExactly S (issued s) (viewing θ) (view-table (s .solver))
   exactly-view s a v l = ap view (a v l) ∙ sym (answer-under loose θ s v)
 
-  view-exactly : (s : Session) → mixes.AgreesExactly S (issued s) (viewing θ) (view-table (s .solver)) → AgreesExactly θ s
+  pub view-exactly : (s : Session) → mixes.AgreesExactly S (issued s) (viewing θ) (view-table (s .solver)) → AgreesExactly θ s
   view-exactly s a v l = view-injective (θ v) (replace θ (resolved (s .solver) (var v))) (a v l ∙ answer-under loose θ s v)
 
   equal-view : (n : Notion) (t u : Term) → EqualUpToAccess n (replace θ t) (replace θ u) → Sim (read n) (tree.sub (viewing θ) (view t)) (tree.sub (viewing θ) (view u))
@@ -313,7 +313,7 @@ module _ (θ : ℕ → Term) where
   view-equal : (n : Notion) (t u : Term) → Sim (read n) (tree.sub (viewing θ) (view t)) (tree.sub (viewing θ) (view u)) → EqualUpToAccess n (replace θ t) (replace θ u)
   view-equal n t u e = all-equal n θ ((t, u) ∷ []) (e, tt) .0
 
-  view-each : (bs : List Bool) (ps : List Pair) → mixes.EachBy S Bool norm (viewing θ) bs (view-pairs ps) → EachBy θ bs ps
+  pub view-each : (bs : List Bool) (ps : List Pair) → mixes.EachBy S Bool norm (viewing θ) bs (view-pairs ps) → EachBy θ bs ps
   view-each [] [] e = tt
   view-each [] (p ∷ ps) e = e
   view-each (b ∷ bs) [] e = e
@@ -323,6 +323,19 @@ module _ (θ : ℕ → Term) where
 same-sim : (n : Notion) (N : ℕ) (θ σ : ℕ → T) → ((v : ℕ) → v < N → θ v ≡ σ v) → (t u : T) → Issued N t → Issued N u
     → Sim (read n) (tree.sub θ t) (tree.sub θ u) → Sim (read n) (tree.sub σ t) (tree.sub σ u)
 same-sim n N θ σ e t u it iu a = all-same n N θ σ e ((t, u) ∷ []) (it, iu, tt) (a, tt) .0
+
+-- what is left in what a variable resolves to is issued
+pub left-issued : (N : ℕ) (z : Table S) → InOrder S N z → (v w : ℕ) → v < N → In w (answer S z (tree.var v)) → w < N
+unfolding tree.sub
+left-issued N z x v w l i = x .fine .within v w l (subst (λ (t : T). In w t) (resolve-right (z .bound) (z .rev) (x .means .res) (x .stands .rep) (tree.var v)) i)
+
+-- an assignment of trees that agrees exactly with what the variables resolve to, as one of terms
+pub back-exactly : (s : Session) → InOrder S (issued s) (view-table (s .solver)) → (σ : ℕ → T) → theirs.Assigns S (issued s) σ
+    → mixes.AgreesExactly S (issued s) σ (view-table (s .solver)) → AgreesExactly (λ v. back (σ v)) s
+back-exactly s x σ a g = view-exactly (λ v. back (σ v)) s (λ v l. same v l ∙ g v l ∙ sub-ext (answer S (view-table (s .solver)) (tree.var v)) (λ w i. sym (same w (left-issued (issued s) (view-table (s .solver)) x v w l i))))
+  where
+    same : (v : ℕ) → v < issued s → view (back (σ v)) ≡ σ v
+    same v l = view-back (σ v) (a v l .1)
 
 -- ---- THE THEOREMS
 
@@ -342,19 +355,13 @@ module _ (lim : Limits) where
   posed-within : (cs : List Command) → Within (issued (history lim beginning cs .session)) (view-pairs (history lim beginning cs .posed))
   posed-within cs = subst (λ (x : Mix). Within (x .run .count) (x .run .posed)) (led cs) (mix-within (mixes.mix-begin S fallback never Bool norm) tt (view-all lim fresh cs))
 
-  mix-premises : (cs : List Command) → Premises lim cs → mixes.MixPremises S fallback never Bool norm (view-mix (history lim beginning cs))
+  pub mix-premises : (cs : List Command) → Premises lim cs → mixes.MixPremises S fallback never Bool norm (view-mix (history lim beginning cs))
   mix-premises cs p = (p .noneCancelled, plain-pairs-view (history lim beginning cs .posed) (p .pairs))
 
-  -- what is left in what a variable resolves to is issued
-  left-issued : (cs : List Command) (v w : ℕ) → v < issued (history lim beginning cs .session)
-      → In w (answer S (view-table (history lim beginning cs .session .solver)) (tree.var v)) → w < issued (history lim beginning cs .session)
-  unfolding tree.sub
-  left-issued cs v w l i =
-      let z = view-table (history lim beginning cs .session .solver) in
-      let x = subst (λ (x : Mix). InOrderRun S fallback never (x .run)) (led cs) (mix-laws.mix-in-order S fallback never Bool norm respects-by (view-all lim fresh cs)) .table in
-      x .fine .within v w l (subst (λ (t : T). In w t) (resolve-right (z .bound) (z .rev) (x .means .res) (x .stands .rep) (tree.var v)) i)
+  pub history-ordered : (cs : List Command) → InOrder S (issued (history lim beginning cs .session)) (view-table (history lim beginning cs .session .solver))
+  history-ordered cs = subst (λ (x : Mix). InOrderRun S fallback never (x .run)) (led cs) (mix-laws.mix-in-order S fallback never Bool norm respects-by (view-all lim fresh cs)) .table
 
-  -- DEMAND 3: for every list of orders 0 to 8 and 22, refused ones included, given in turn to a fresh session, that poses only pairs by order 4 (b is false: up
+  -- DEMAND 3: for every list of orders 0 to 8, 21 and 22, refused ones included, given in turn to a fresh session, that poses only pairs by order 4 (b is false: up
   -- to Set and Map access), or only strict ones (b is true: with access included, in agreeing too); and for all limits.
   pub demand-3 : (b : Bool) (cs : List Command) → OnlyBy b (history lim beginning cs .by) → Premises lim cs → Demand3 (notion b) (history lim beginning cs)
   demand-3 b cs o p =
@@ -404,7 +411,7 @@ module _ (lim : Limits) where
           let θ : ℕ → Term = λ v. back (σ v) in
           let same : (v : ℕ) → v < issued s → view (back (σ v)) ≡ σ v = λ v l. view-back (σ v) (a v l .1) in
           f θ (back-assigns (issued s) σ a) (back-respects σ (h .requests) r)
-          (view-exactly θ s (λ v l. same v l ∙ g v l ∙ sub-ext (answer S (view-table (s .solver)) (tree.var v)) (λ w i. sym (same w (left-issued cs v w l i)))))
+          (back-exactly s (history-ordered cs) σ a g)
           (view-equal θ (notion b) t u
           (same-sim (notion b) (issued s) σ (viewing θ) (λ v l. sym (same v l)) (view t) (view u) (known-yes s t kt) (known-yes s u ku) e))
 

@@ -21,11 +21,12 @@ use Rattle.unify.specs.Term as tree
 use Rattle.unify.specs.Term.{Sort, one, many, Tree, nil, _▸_, Closed, width}
 use Rattle.unify.specs.Solver.{Sig}
 use Rattle.unify.specs.Meaning as meaning
+use Rattle.unify.proofs.RangedLaws.{admits-one}
 use Rattle.solver.specs.Families.{Request, code, belongs, meet}
 use Rattle.solver.specs.Shapes.{blankRow, turned}
 use Rattle.solver.specs.Constrain.{recovery, projects}
 use Rattle.solver.proofs.Laws.Theory.TheoryView.{T, forest, view, views, backs, back, views-map, map-turned, turned-length, back-turn, Every, every-turned}
-use Rattle.solver.proofs.Laws.Definition.FamilyLaws.{code-low, admits-one, code-belongs, meet-some, meet-none}
+use Rattle.solver.proofs.Laws.Definition.FamilyLaws.{code-low, code-belongs, meet-some, meet-none}
 use Rattle.solver.proofs.Laws.Definition.FormedTest.{formed?}
 
 pub is : {P : Type 0} → Dec P → Bool

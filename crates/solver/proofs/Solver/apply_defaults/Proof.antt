@@ -8,27 +8,20 @@ use Rattle.solver.proofs.Solver.apply_defaults.Statement.{statement}
 use Rattle.solver.proofs.Solver.apply_defaults.Tie as tie
 
 abbrev Inv-loop : tie.InvT-loop
-Inv-loop self₀ kinds vals tables₀ never m n v₀ self tables v = Applied never self₀ kinds vals tables₀ v self tables
+Inv-loop self₀ kinds vals tables₀ never n v₀ self tables v = Applied never self₀ kinds vals tables₀ v self tables
 
 abbrev μ-loop : tie.MeasureT-loop
-μ-loop self₀ kinds vals tables₀ never m n v₀ self tables v = n - v
+μ-loop self₀ kinds vals tables₀ never n v₀ self tables v = n - v
 
 loop-holds : tie.Need-loop-holds Inv-loop μ-loop
 loop-holds c = applied-start _ _ _ _ _
 
-default-word-requires : tie.Need-default-word-requires Inv-loop μ-loop
-default-word-requires c κs =
-    let p = c .before .before .before .before .before .before .pre in
-    let A = c .before .before .loop .inv in
-    let t = c .before .loop-test .taken in
-    (omega (arith, p .0 .issued), omega (arith, A .beside .size, p .0 .room), p .0 .narrow)
-
 bind-default-requires : tie.Need-bind-default-requires Inv-loop μ-loop
 bind-default-requires c κs =
-    let p = c .before .before .before .before .before .before .before .before .pre in
-    let A = c .before .before .before .before .loop .inv in
+    let p = c .before .before .before .before .before .before .pre in
+    let A = c .before .before .loop .inv in
     let B = A .beside in
-    let t = c .before .before .before .loop-test .taken in (
+    let t = c .before .loop-test .taken in (
       record { issued = omega (arith, A .issued, B .variables, p .0 .issued); room = omega (arith, B .size, B .variables, p .0 .room); narrow = omega (arith, B .variables, p .0 .narrow) },
       (omega (arith, B .variables, p .0 .issued), omega (arith, A .steps, p .1 .0, p .0 .issued, p .0 .narrow), p .1 .1),
     )
@@ -41,12 +34,12 @@ loop-less c = search needs
 
 loop-again : tie.Need-loop-again Inv-loop μ-loop
 loop-again c =
-    let s = c .before .before .before .before .before .before .before .before .before .before .before in
+    let s = c .before .before .before .before .before .before .before .before .before in
     let a = s .args in
-    let l = c .before .before .before .before .before .before .before .loop in
+    let l = c .before .before .before .before .before .loop in
     let e = c .before .before .bind-default .ensures in
-    applied-step (a .never) (a .self) (now (a .kinds)) (now (a .vals)) (now (a .tables)) (l .v) (l .self) _ (l .tables) _ _ (l .inv) (s .pre .0 .issued)
-    (c .before .before .before .before .before .before .loop-test .taken) (c .before .before .before .before .default-word .ensures) (e .0) (e .1 .1) (e .1 .0 .1) (e .1 .0 .0)
+    applied-step (a .never) (a .self) (now (a .kinds)) (now (a .vals)) (now (a .tables)) (l .v) (l .self) _ (l .tables) _ (l .inv) (s .pre .0 .issued)
+    (c .before .before .before .before .loop-test .taken) (e .0) (e .1 .1) (e .1 .0 .1) (e .1 .0 .0)
 
 same-length : tie.Need-same-length Inv-loop μ-loop
 same-length c = search needs
@@ -65,7 +58,6 @@ apply-defaults-spec =
     Inv-loop
     μ-loop
     loop-holds
-    default-word-requires
     bind-default-requires
     add-v
     loop-less

@@ -1,12 +1,10 @@
 -- `Solver::numeric_variable`. The request is written where the place has its variable.
 use denote.Ref.{now}
 use mathlib.Core.Path.{refl}
-use Prim.Native.Nat.{_+_}
 use native.Mathlib.Omega.{arith}
-use Rattle.solver.specs.Families.{requested}
 use Rattle.solver.specs.Session.{at}
 use Rattle.solver.specs.Orders.{order}
-use Rattle.solver.specs.Words.SessionRepresentation.{limitsOf}
+use Rattle.solver.specs.Words.SessionRepresentation.{limitsOf, requestIn}
 use Rattle.solver.proofs.Laws.Table.MethodLaws.{beside-set, number-written, number-none}
 use borrow.Author.Needs.{needs}
 use Rattle.solver.proofs.Solver.numeric_variable.Statement.{statement}
@@ -23,9 +21,6 @@ wide-requires c κs = search needs
 
 add-at : tie.Need-add-at
 add-at c = search needs
-
-add-tables : tie.Need-add-tables
-add-tables c = search needs
 
 mul-tables : tie.Need-mul-tables
 mul-tables c = search needs
@@ -50,8 +45,8 @@ returns c =
     let l = i .1 .0 _ g in
     let e = c .wide .ensures in
     let q = c .before .before .before .before .before .before .before .before .before .before .pre .1 in (
-      λ ks vs s L. number-written _ ks vs _ (limitsOf (a .self)) s (at (a .site) 1) _ _ (a .fallback) _ g (i .0 ks vs s (at (a .site) 1) (refl, refl, refl) L) (omega (arith, i .1 .1 .variables)) q (omega (arith, i .1 .1 .variables)),
-      beside-set (a .self) _ (now (a .tables)) _ _ (a .fallback + 1) (i .1 .1) (omega arith),
+      λ ks vs s L. number-written _ ks vs _ (limitsOf (a .self)) s (at (a .site) 1) _ _ (a .request) _ (requestIn (a .request)) g (i .0 ks vs s (at (a .site) 1) (refl, refl, refl) L) (omega (arith, i .1 .1 .variables)) (q, refl) (omega (arith, i .1 .1 .variables)),
+      beside-set (a .self) _ (now (a .tables)) _ _ (a .request) (i .1 .1) (omega arith),
     )
 
 same-length-2 : tie.Need-same-length-2
@@ -62,7 +57,7 @@ unfolding order
 returns-2 c =
     let a = c .before .before .before .before .before .before .before .before .args in
     let i = c .before .before .before .before .before .issue .ensures in
-    (λ ks vs s L. number-none _ ks vs _ (limitsOf (a .self)) s (at (a .site) 1) _ (requested (a .fallback)) (c .enum-told .given .1) (i .0 ks vs s (at (a .site) 1) (refl, refl, refl) L), i .1 .1)
+    (λ ks vs s L. number-none _ ks vs _ (limitsOf (a .self)) s (at (a .site) 1) _ (requestIn (a .request)) (c .enum-told .given .1) (i .0 ks vs s (at (a .site) 1) (refl, refl, refl) L), i .1 .1)
 
 pub numeric-variable-spec : {M : Type 1} → statement M
 numeric-variable-spec =
@@ -72,7 +67,6 @@ numeric-variable-spec =
     enum-known-answer
     wide-requires
     add-at
-    add-tables
     mul-tables
     slice-write-tables
     enum-told

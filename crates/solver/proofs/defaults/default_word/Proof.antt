@@ -1,6 +1,5 @@
 -- `default_word`. By the flag, and by the word of the deferral.
 use denote.Ref.{now}
-use mathlib.Core.Path.{_∙_}
 use Rattle.solver.proofs.Laws.Table.MethodLaws.{default-none, default-never, default-request}
 use borrow.Author.Needs.{needs}
 use Rattle.solver.proofs.defaults.default_word.Statement.{statement}
@@ -20,30 +19,27 @@ shared-slice-read-if2 c = search needs
 
 returns : tie.Need-returns
 returns c =
-    let a = c .before .before .before .before .args in
+    let a = c .before .before .before .args in
     default-none (a .never) (a .m) (now (a .tables)) (a .v) (c .before .before .if1 .taken) (c .if2 .taken)
 
 returns-2 : tie.Need-returns-2
 returns-2 c =
-    let a = c .before .before .before .before .args in
+    let a = c .before .before .before .args in
     default-never (a .never) (a .m) (now (a .tables)) (a .v) (c .before .before .if1 .taken) (c .if2 .left)
 
-add-wide : tie.Need-add-wide
-add-wide c = search needs
+add-result : tie.Need-add-result
+add-result c = search needs
 
-mul-wide : tie.Need-mul-wide
-mul-wide c = search needs
+mul-result : tie.Need-mul-result
+mul-result c = search needs
 
-shared-slice-read-wide : tie.Need-shared-slice-read-wide
-shared-slice-read-wide c = search needs
-
-wide-requires : tie.Need-wide-requires
-wide-requires c κs = search needs
+shared-slice-read-result : tie.Need-shared-slice-read-result
+shared-slice-read-result c = search needs
 
 returns-3 : tie.Need-returns-3
 returns-3 c =
-    let a = c .before .before .before .before .args in
-    c .wide .ensures ∙ default-request (a .never) (a .m) (now (a .tables)) (a .v) (c .before .before .if1 .left)
+    let a = c .before .before .args in
+    default-request (a .never) (a .m) (now (a .tables)) (a .v) (c .before .if1 .left)
 
 pub default-word-spec : {M : Type 1} → statement M
 default-word-spec =
@@ -55,8 +51,7 @@ default-word-spec =
     shared-slice-read-if2
     returns
     returns-2
-    add-wide
-    mul-wide
-    shared-slice-read-wide
-    wide-requires
+    add-result
+    mul-result
+    shared-slice-read-result
     returns-3)
