@@ -34,7 +34,7 @@ use Rattle.solver.specs.Shapes.{notion, loose, exact}
 use Rattle.solver.specs.Constrain.{resolved}
 use Rattle.solver.specs.Session.{Session, documentLimits, issued, fresh}
 use Rattle.solver.specs.Orders as orders
-use Rattle.solver.specs.Demand3.{beginning, Demand3, KeepsHalf, Unequal}
+use Rattle.solver.specs.Demand3.{beginning, Demand3, KeepsHalf, Unequal, Fallbacks, Filled}
 use Rattle.solver.specs.Invariant.{Invariant, WithinLimits, SettledBy}
 use Rattle.solver.specs.Robinson.{Unmarked, UnmarkedPairs, Decides}
 use Rattle.solver.specs.RobinsonPair.{FirstOrderIn}
@@ -51,7 +51,7 @@ use Rattle.sheet.specs.RobinsonBytes.{FirstOrder, PlainOrder, AnsweredSo
 use Rattle.sheet.specs.Stopping.{behind, Stopped}
 use Rattle.sheet.specs.Entry.{finished, sizesAccepted, entryResult}
 use Rattle.sheet.proofs.Examples.MarkedTable.{MarkedLines, marked}
-use Rattle.sheet.proofs.Laws.Bytes.Demand3Bytes.{demand-3-bytes, mixed-half-bytes, mixed-pair-bytes, bytes-parts}
+use Rattle.sheet.proofs.Laws.Bytes.Demand3Bytes.{demand-3-bytes, mixed-half-bytes, mixed-pair-bytes, filled-bytes, bytes-parts}
 use Rattle.sheet.proofs.Laws.Bytes.PairsAnsweredLaws.{incompatible-answered, cancelled-answered}
 use Rattle.sheet.proofs.Laws.Bytes.Demand3Run.{orders-bytes}
 use Rattle.sheet.proofs.Laws.Bytes.InvariantBytes as session
@@ -146,6 +146,16 @@ module _ (sheet out a b c d : List ℕ) (reason orders bytes : ℕ) (out′ a′
     mix-each-pair bs cs b e p =
         let o = bytes-parts bs b cs (subst ByteStrings e (orders-bytes sheet (call.slice-bytes sheet octet) orders 0)) in
         mixed-pair-bytes documentLimits bs (o .0) p b (o .1)
+
+    -- DEFAULTS AFTER A CLEAN SCRIPT (document 02). "Under demand 3's premises, with ranges allowed, if every pair was compatible then numeric defaults still leave an
+    -- assignment that satisfies them all, and every number variable has a type admitted by its own request.": of each order 6 that the call answered, where the orders
+    -- before it keep demand 3's premises, the one on fallbacks included.
+    pub defaults-fill : (bs cs : List (List ℕ)) → served ≡ bs ++ ((6 ∷ []) ∷ cs) → Premises documentLimits bs
+        → (let h = historyOf documentLimits beginning bs in
+        Fallbacks (h .requests) → h .incompatible ≡ false → Filled h (orderOf documentLimits (sessionAfter documentLimits fresh bs) (6 ∷ []) .session))
+    defaults-fill bs cs e =
+        let o = bytes-parts bs (6 ∷ []) cs (subst ByteStrings e (orders-bytes sheet (call.slice-bytes sheet octet) orders 0)) in
+        filled-bytes documentLimits bs (o .0)
 
 -- ---- AN ORDER, AND A LIST OF ORDERS, each given as its bytes to a session, whatever was answered
 

@@ -12,14 +12,16 @@ use Rattle.solver.specs.Session.{Limits, Session, fresh}
 use Rattle.solver.specs.Orders as solver
 use Rattle.solver.specs.Orders.{Command, order, run}
 use Rattle.solver.specs.Demand3 as theirs
-use Rattle.solver.specs.Demand3.{History, Role, requesting, posing, defaulting, neither, role, posedBy, beginning, history, PlainPairs, KeepsHalf, Unequal}
+use Rattle.solver.specs.Demand3.{History, Role, requesting, posing, defaulting, neither, role, posedBy, beginning, history, PlainPairs, KeepsHalf, Unequal, ProperRole, AllProper, Fallbacks, Filled}
 use Rattle.solver.proofs.Laws.Theory.Demand3Laws.{demand-3, mixed-half, mixed-pair}
+use Rattle.solver.proofs.Laws.Theory.FilledLaws.{defaults-leave}
 use Rattle.sheet.specs.Commands.{commands}
 use Rattle.sheet.specs.Demand3.{ByteString, ByteStrings, historyOf, PairsInFragment, Premises, Demand3OfBytes, OnlyPosedBy}
 use Rattle.sheet.specs.MixedPairs.{PosedInMix}
 use Rattle.sheet.specs.OrdersInTurn.{accepted, sessionAfter}
-use Rattle.sheet.specs.OrderTable.{outcome}
-use Rattle.sheet.specs.Sheet.{Step, answerOf, orderOf}
+use Rattle.sheet.specs.Fields.{fields}
+use Rattle.sheet.specs.OrderTable.{outcome, sessionOrders, rowIn, layout, readBy, kindedOrder}
+use Rattle.sheet.specs.Sheet.{Step, table, readOrder, answerOf, step, orderOf}
 use Rattle.sheet.specs.PairsAnswered.{PairAnswered}
 use Rattle.sheet.proofs.Laws.Bytes.PairsAnsweredLaws.{said, from-bytes}
 use Rattle.sheet.proofs.Laws.Bytes.CommandLaws.{accepted-of, StepBy, does-order, AllFormed, command-formed, session-commands}
@@ -94,6 +96,29 @@ demand-3-bytes lim strict bs o y p = demand-3 lim strict (commands lim fresh bs)
 pub mixed-half-bytes : (lim : Limits) (bs : List (List ℕ)) → ByteStrings bs → Premises lim bs → KeepsHalf (historyOf lim beginning bs)
 mixed-half-bytes lim bs o p = mixed-half lim (commands lim fresh bs) (premises-of lim bs o p)
 
+-- ---- defaults
+
+role-proper : (c : Command) → FormedCommand c → ProperRole (role c)
+role-proper (solver.variable site slot) a = tt
+role-proper (solver.number site r) a = a .0
+role-proper (solver.hole site) a = tt
+role-proper (solver.defer t) a = tt
+role-proper (solver.pair d k t u) a = tt
+role-proper (solver.resolving t) a = tt
+role-proper solver.numbers a = tt
+role-proper solver.nevers a = tt
+role-proper solver.revision a = tt
+role-proper (solver.unread r) a = tt
+
+all-proper : (cs : List Command) → AllFormed cs → AllProper cs
+all-proper [] a = tt
+all-proper (c ∷ cs) a = (role-proper c (a .0), all-proper cs (a .1))
+
+-- the byte 6 is the order of numeric defaults
+order-6 : (lim : Limits) (s : Session) → orderOf lim s (6 ∷ []) ≡ record { session = order lim s solver.numbers .session; answer = answerOf (order lim s solver.numbers .reply) }
+unfolding readOrder readBy kindedOrder rowIn table sessionOrders layout fields step
+order-6 lim s = refl
+
 -- its session is the one after the orders
 history-run : (lim : Limits) (h : History) (cs : List Command) → history lim h cs .session ≡ run lim (h .session) cs
 unfolding history run
@@ -102,6 +127,16 @@ history-run lim h (c ∷ cs) = history-run lim (theirs.after lim h c) cs
 
 pub history-session : (lim : Limits) (h : History) (bs : List (List ℕ)) → historyOf lim h bs .session ≡ sessionAfter lim (h .session) bs
 history-session lim h bs = history-run lim h (commands lim (h .session) bs) ∙ sym (session-commands lim (h .session) bs)
+
+-- NUMERIC DEFAULTS after compatible pairs: an order 6 that follows the list.
+pub filled-bytes : (lim : Limits) (bs : List (List ℕ)) → ByteStrings bs → Premises lim bs
+    → (let h = historyOf lim beginning bs in Fallbacks (h .requests) → h .incompatible ≡ false → Filled h (orderOf lim (sessionAfter lim fresh bs) (6 ∷ []) .session))
+filled-bytes lim bs o p f c =
+    let h = historyOf lim beginning bs in
+    let e : order lim (h .session) solver.numbers .session ≡ orderOf lim (sessionAfter lim fresh bs) (6 ∷ []) .session =
+    ap (λ (z : Session). order lim z solver.numbers .session) (history-session lim beginning bs) ∙ sym (ap (λ (x : Step). x .session) (order-6 lim (sessionAfter lim fresh bs)))
+    in
+    subst (λ (z : Session). Filled h z) e (defaults-leave lim (commands lim fresh bs) (all-proper (commands lim fresh bs) (told.all-formed lim fresh bs o)) (premises-of lim bs o p) f c)
 
 -- IN A MIX, EACH PAIR: it is answered incompatible exactly if no assignment that agrees exactly with what the variables resolved to before it makes it equal.
 pub mixed-pair-bytes : (lim : Limits) (bs : List (List ℕ)) → ByteStrings bs → Premises lim bs → (b : List ℕ) → ByteString b → (strict : Bool) (k : ℕ) (t u : Term)
