@@ -747,7 +747,7 @@ for kind, text, value in SAMPLES:
     case("%d with a byte after its last field" % kind, 1, whole + "00")
     case("%d with a term after its last field" % kind, 1, whole + I32)
 case("an empty order", 1, "")
-for kind in (21, 29, 127, 128, 255):
+for kind in (23, 29, 127, 128, 255):
     case("kind %d" % kind, 2, "%02x 02 02" % kind)
     case("kind %d alone" % kind, 2, "%02x" % kind)
 case("the kind is a byte, not a number", 2, "89 00 02 02")
