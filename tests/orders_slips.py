@@ -27,7 +27,7 @@ constant("visits_8193", VISITS=8193)
 constant("children_8191", CHILDREN=8191)
 constant("children_8193", CHILDREN=8193)
 constant("kind_20_unlisted", ORDERS={kind: row for kind, row in ORDERS.items() if kind != 20})
-constant("kind_21_listed", ORDERS={**ORDERS, 21: ORDERS[9]})
+constant("kind_23_listed", ORDERS={**ORDERS, 23: ORDERS[9]})
 constant("instantiate_term_first", ORDERS={**ORDERS, 12: (("one_term", "substitution"), "term_then_substitution", "term")},
          term_then_substitution=lambda self, term, substitution: self.instantiated(substitution, term))
 constant("context_parameters_first",
