@@ -33,17 +33,13 @@ The groups:
 --every takes one list of N.
 """
 
-import argparse
 import itertools
-import shlex
 import sys
 
 import strict_small
-from comparing import Differs, slips_verdict
 from orders_reference import BUILTIN, TUPLE, written
-from sheet_compare import Frames, Plain, Program, in_chunks
-from sheet_slips import SLIPS
-from strict_small import LOOSE, ROOM, STRICT, Universe, Wrong, X, Y, Z, both, check_heights, lists, nested, ro, rw, shown
+from small_lists import Trial, Wrong
+from strict_small import LOOSE, STRICT, Universe, X, Y, Z, both, check_heights, lists, nested, ro, rw, shown
 from terms_reference import Reader, framed, number_bytes, split
 
 I8, I16, I32, I64, U8, U16, U32, U64, F32, F64 = ((BUILTIN, code) for code in range(10))
@@ -179,37 +175,6 @@ def told(requests, pairs, output, why):
     return "\n".join(lines + ["answers\n  " + "\n  ".join(map(shown, split(output)[0]))])
 
 
-def check_group(name, program, every):
-    """How many lists there were; the first that is wrong raises Wrong."""
-    make, constants, constructors, levels, variables, share = GROUPS[name]
-    universe, count = Ranged(constants, constructors, levels * variables, variables), 0
-    for chunk in in_chunks(itertools.islice(make(), 0, None, every * share)):
-        check_heights(chunk, levels)
-        runs = program.runs([(ROOM, sheet_of(*each)) for each in chunk])
-        for each, run in zip(chunk, runs):
-            try:
-                check_list(universe, *each, run.output)
-            except Wrong as fault:
-                raise Wrong(told(*each, run.output, fault.args[0]))
-        count += len(chunk)
-    return count, universe
-
-
-def check(programs, names, every):
-    passed = 0
-    for who, program in programs.items():
-        for name in names:
-            try:
-                count, universe = check_group(name, program, every)
-            except (Wrong, Differs) as fault:
-                print("%s, group %s: %s\n%d passed, 1 failed" % (who, name, fault.args[0], passed))
-                return 1
-            print("%-10s%9d lists, %d terms, %d assignments" % (name, count, len(universe.terms), len(universe.assignments)), flush=True)
-            passed += count
-    print("%d passed, 0 failed" % passed)
-    return 0
-
-
 # Slips that change which pairs are compatible, what is resolved, or whether a default is admitted. Which of several admitted types a default
 # takes, and what is refused, is not told by solutions: sheet_cases.py has it.
 FOUND_HERE = (
@@ -223,39 +188,8 @@ FOUND_HERE = (
     "default_keeps_its_fallback", "ranges_not_held_to_in_order_22", "default_i32_only")
 
 
-def check_slips(slips, names, every):
-    left = dict.fromkeys(slips)
-    for slip in slips:
-        for name in names:
-            try:
-                check_group(name, Plain(SLIPS[slip]), every)
-            except Wrong as fault:
-                print("%-44s group %s: %s" % (slip, name, fault.args[0].split("\n")[0]), flush=True)
-                del left[slip]
-                break
-    return slips_verdict(slips, left)
-
-
-def main():
-    parser = argparse.ArgumentParser(description=__doc__, formatter_class=argparse.RawDescriptionHelpFormatter)
-    parser.add_argument("--self", action="store_true")
-    parser.add_argument("--frames", metavar="COMMAND")
-    parser.add_argument("--program", metavar="COMMAND")
-    parser.add_argument("--slip", choices=("all",) + FOUND_HERE, metavar="NAME")
-    parser.add_argument("--group", choices=list(GROUPS))
-    parser.add_argument("--every", type=int, default=1, metavar="N")
-    options = parser.parse_args()
-    names = [options.group] if options.group else list(GROUPS)
-    if options.slip:
-        return check_slips(FOUND_HERE if options.slip == "all" else (options.slip,), names, options.every)
-    programs = {"reference": Plain()} if options.self else {}
-    for text, kind in ((options.frames, Frames), (options.program, Program)):
-        if text:
-            programs[text] = kind(shlex.split(text))
-    if not programs:
-        parser.error("give --self, --frames, --program or --slip")
-    return check(programs, names, options.every)
+TRIAL = Trial(GROUPS, Ranged, sheet_of, check_heights, check_list, told, FOUND_HERE)
 
 
 if __name__ == "__main__":
-    sys.exit(main())
+    sys.exit(TRIAL.main(__doc__))

@@ -50,16 +50,13 @@ The groups:
 --every takes one list of N.
 """
 
-import argparse
 import itertools
-import shlex
 import sys
 
-from comparing import Differs, shown, slips_verdict
+from comparing import shown
 from orders_reference import ARRAY, BUILTIN, INFERENCE, MAP, REFERENCE, SET, TUPLE, written
-from sheet_compare import Frames, Plain, Program, in_chunks
-from sheet_reference import FLOATS, INCOMPATIBLE, INTEGERS, Sheet
-from sheet_slips import SLIPS
+from sheet_reference import FLOATS, INCOMPATIBLE, INTEGERS
+from small_lists import Trial, Wrong
 from terms_reference import Reader, framed, number_bytes, split
 
 X, Y, Z = (INFERENCE, 0), (INFERENCE, 1), (INFERENCE, 2)
@@ -67,7 +64,6 @@ I8, F64 = (BUILTIN, 0), (BUILTIN, 9)
 LOOSE, STRICT = 4, 22
 FAMILIES = {None: None, 2: INTEGERS, 9: FLOATS}
 CHECKS = 1000
-ROOM = Sheet.OUTPUT
 
 
 # Terms: a tag, marks, and the terms inside
@@ -253,10 +249,6 @@ def sheet_of(requests, pairs):
     return bytes(out + shows)
 
 
-class Wrong(Exception):
-    pass
-
-
 def check_list(universe, requests, pairs, output):
     """Raises Wrong where answers are not as document 02 says."""
     answers = split(output)[0][len(requests):]
@@ -298,37 +290,6 @@ def check_heights(chunk, levels):
             sys.exit("%s is too high for its universe" % (term,))
 
 
-def check_group(name, program, every):
-    """How many lists there were; the first that is wrong raises Wrong."""
-    make, constants, constructors, levels, variables, share = GROUPS[name]
-    universe, count = Universe(constants, constructors, levels * variables, variables), 0
-    for chunk in in_chunks(itertools.islice(make(), 0, None, every * share)):
-        check_heights(chunk, levels)
-        runs = program.runs([(ROOM, sheet_of(*each)) for each in chunk])
-        for each, run in zip(chunk, runs):
-            try:
-                check_list(universe, *each, run.output)
-            except Wrong as fault:
-                raise Wrong(told(*each, run.output, fault.args[0]))
-        count += len(chunk)
-    return count, universe
-
-
-def check(programs, names, every):
-    passed = 0
-    for who, program in programs.items():
-        for name in names:
-            try:
-                count, universe = check_group(name, program, every)
-            except (Wrong, Differs) as fault:
-                print("%s, group %s: %s\n%d passed, 1 failed" % (who, name, fault.args[0], passed))
-                return 1
-            print("%-10s%9d lists, %d terms, %d assignments" % (name, count, len(universe.terms), len(universe.assignments)), flush=True)
-            passed += count
-    print("%d passed, 0 failed" % passed)
-    return 0
-
-
 # Slips that change which pairs are compatible, or what is resolved. What a clash leaves bound beside it is not told by solutions: a pair that
 # is taken back, or whose parts are met after a clash of access, keeps all that is checked here. sheet_cases.py has it.
 FOUND_HERE = (
@@ -340,39 +301,8 @@ FOUND_HERE = (
     "reference_access_ignored_in_order_22", "no_families_in_order_22", "no_occurs_check_in_order_22", "order_22_binds_nothing")
 
 
-def check_slips(slips, names, every):
-    left = dict.fromkeys(slips)
-    for slip in slips:
-        for name in names:
-            try:
-                check_group(name, Plain(SLIPS[slip]), every)
-            except Wrong as fault:
-                print("%-44s group %s: %s" % (slip, name, fault.args[0].split("\n")[0]), flush=True)
-                del left[slip]
-                break
-    return slips_verdict(slips, left)
-
-
-def main():
-    parser = argparse.ArgumentParser(description=__doc__, formatter_class=argparse.RawDescriptionHelpFormatter)
-    parser.add_argument("--self", action="store_true")
-    parser.add_argument("--frames", metavar="COMMAND")
-    parser.add_argument("--program", metavar="COMMAND")
-    parser.add_argument("--slip", choices=("all",) + FOUND_HERE, metavar="NAME")
-    parser.add_argument("--group", choices=list(GROUPS))
-    parser.add_argument("--every", type=int, default=1, metavar="N")
-    options = parser.parse_args()
-    names = [options.group] if options.group else list(GROUPS)
-    if options.slip:
-        return check_slips(FOUND_HERE if options.slip == "all" else (options.slip,), names, options.every)
-    programs = {"reference": Plain()} if options.self else {}
-    for text, kind in ((options.frames, Frames), (options.program, Program)):
-        if text:
-            programs[text] = kind(shlex.split(text))
-    if not programs:
-        parser.error("give --self, --frames, --program or --slip")
-    return check(programs, names, options.every)
+TRIAL = Trial(GROUPS, Universe, sheet_of, check_heights, check_list, told, FOUND_HERE)
 
 
 if __name__ == "__main__":
-    sys.exit(main())
+    sys.exit(TRIAL.main(__doc__))

@@ -1,4 +1,4 @@
--- The answers to orders 0 to 8 of a list, and to those that document 02 adds to the session's, to be compared with the Rust's `Solver` byte by byte.
+-- The answers to orders 0 to 8 of a list, to be compared with the Rust's `Solver` byte by byte; and which lists have no other order that is told to the session.
 use mathlib.Core.Path.{_≡_}
 use mathlib.Core.Bool.{true, false}
 use mathlib.Core.List.{List, [], _∷_, _++_}

@@ -11,7 +11,7 @@
 --   OrderGiven             an order that was read: held, formed, of the sorts of its kind
 --   OrderReaderContract    an order read into the areas
 --   SessionInAreas         a session in the four areas, and an order answered there
---   SessionOrdersContract  orders 0 to 8 on what the solver is lent
+--   SessionOrdersContract  orders 0 to 8, 21 and 22 on what the solver is lent
 pub mod DispatchContract
 pub mod FieldLayout
 pub mod FieldsContract

@@ -22,7 +22,8 @@ both true true e = (refl, refl)
 both true false e = never-true e
 both false b e = never-true e
 
-sieve-among : (p : ℕ → Bool) (c : ℕ) (l : List Numeric) → among c (sieve (λ x. p (code x)) l) ≡ (among c l && p c)
+-- what is left of a list by a test of codes
+pub sieve-among : (p : ℕ → Bool) (c : ℕ) (l : List Numeric) → among c (sieve (λ x. p (code x)) l) ≡ (among c l && p c)
 unfolding sieve among
 sieve-among p c [] = refl
 sieve-among p c (x ∷ l) = go (p (code x)) refl (eqb c (code x)) refl (sieve-among p c l)

@@ -85,7 +85,7 @@ pub record Issued (x : Solver) (ks vs ts : List ℕ) (p : VariablePlace) (y : Pl
 
 -- ---- orders 0 to 2
 
--- order 0 answers the variable, orders 1 and 2 what it resolves to; no variable is refusal 8
+-- order 0 answers the variable, orders 1, 2 and 21 what it resolves to; no variable is refusal 8
 abbrev pub replyOf : Named → Reply
 replyOf (Variable v) = term (var v)
 replyOf Full = refused 8

@@ -54,7 +54,7 @@ placeOf (Hole s) = gap s
 
 -- ---- what is resolved
 
--- order 5: the term that follows; orders 1 and 2: a variable
+-- order 5: the term that follows; orders 1, 2 and 21: a variable
 abbrev pub Asked : (x : Solver) (ks vs ts : List ℕ) → Subject → Session → Term → Type 0
 Asked x ks vs ts Follows z t = Poses x ks vs ts z t
 Asked x ks vs ts (Id v) z t = Represents x ks vs ts z × (t ≡ var v) × (v < x .variables)

@@ -9,7 +9,7 @@ use Prim.Native.Nat.{ℕ, zero, suc, _+_, _-_, _*_, _/_, _%_, _^_, _≤_, _<_}
 use native.Mathlib.Nat.{div-eq-of-lt, lt-of-lt-of-le, pow-suc, div-one}
 use native.Mathlib.Omega.{arith}
 use native.Mathlib.Decide.{ℕ-discrete, decLt}
-use borrow.Author.Tests.{eq-eqb, ne-eqb, eqb-true, eqb-false, lt-ltb, le-ltb}
+use borrow.Author.Tests.{eq-eqb, ne-eqb, eqb-false, lt-ltb, le-ltb}
 use lib.Bits.{bitAnd, bitOr, and-shr, and-mod, and-le-l, and-le-r, and-mask, or-add-and, or-lt, or-zero-r}
 use lib.Pow.{pow-pos, pow-mono, shr-shr}
 use lib.Dec.{eqb, ltb}
@@ -17,6 +17,7 @@ use lib.ListN.{length, getD, set}
 use lib.Seq.{getD-set-same, getD-set-other}
 use Rattle.terms.proofs.Laws.General.Bools.{and-false, or-true, or-right, or-none}
 use Rattle.unify.specs.Solver.{put, put-same, put-other}
+use Rattle.unify.proofs.RangedLaws.{sieve-among}
 use Rattle.solver.specs.Families.{Numeric, I8, I16, I32, I64, U8, U16, U32, U64, code, among, Family, numerics, admits, integers, familyOf, sieve, gathered}
 use Rattle.solver.specs.Families.{Bound, atMost, holds, Request, requested, joinedAs, requestOf, meet, preference, firstOf, chosen, rangedAt, familyAt, taken}
 use Rattle.solver.specs.Constrain.{Requests}
@@ -74,18 +75,6 @@ every-low (suc (suc (suc (suc (suc (suc (suc zero))))))) l = refl
 every-low (suc (suc (suc (suc (suc (suc (suc (suc zero)))))))) l = refl
 every-low (suc (suc (suc (suc (suc (suc (suc (suc (suc zero))))))))) l = refl
 every-low (suc (suc (suc (suc (suc (suc (suc (suc (suc (suc c)))))))))) l = absurd (omega arith)
-
-sieve-among : (p : ℕ → Bool) (c : ℕ) (l : List Numeric) → among c (sieve (λ x. p (code x)) l) ≡ (among c l && p c)
-unfolding sieve among
-sieve-among p c [] = refl
-sieve-among p c (x ∷ l) = go (p (code x)) refl (eqb c (code x)) refl (sieve-among p c l)
-  where
-    go : (b : Bool) → p (code x) ≡ b → (e : Bool) → eqb c (code x) ≡ e → among c (sieve (λ x. p (code x)) l) ≡ (among c l && p c)
-        → among c (cond b (x ∷ sieve (λ x. p (code x)) l) (sieve (λ x. p (code x)) l)) ≡ ((e || among c l) && p c)
-    go true q true d h = rw (d, eqb-true c (code x) d, q)
-    go true q false d h = rw d h
-    go false q true d h = h ∙ rw (eqb-true c (code x) d, q) (and-false (among (code x) l))
-    go false q false d h = h
 
 sieve-same : (p q : Numeric → Bool) → ((x : Numeric) → p x ≡ q x) → (l : List Numeric) → sieve p l ≡ sieve q l
 unfolding sieve
