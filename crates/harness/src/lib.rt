@@ -1,4 +1,5 @@
 // A sheet run in an output and areas that are filled before it and looked at after it, as the head of a frame says.
+#![tactic(auto)]
 ghost use Rattle.std.specs.Prelude.{◌≡◌, ◌≤◌, length};
 
 use frames::{all_bytes, all_words, fill_bytes, fill_words, low_byte, number_at, number_within};
@@ -10,7 +11,7 @@ const ROOM: usize = 32768;
 const WORDS: usize = 20000;
 
 // What a run returns, and whether it has left the output after its answers and the areas as it must.
-#[derive(Drop)]
+#[derive(Clone, Copy)]
 pub struct Outcome {
     pub reason: u32,
     pub orders: u64,

@@ -3,6 +3,7 @@
 // run, and the wanted reason, orders and bytes of answers; then the sheet and the wanted answers. Each sheet is run, and everything is compared: what is
 // told, the answers, the output after them, which is as it was, and the areas, which are all 0, or as they were under reason 12. The program
 // writes how many vectors there were, how many of them differ, and the index of the first that does, which is the number of vectors where none does.
+#![tactic(auto)]
 ghost use Rattle.std.specs.Prelude.{◌≡◌, ◌≤◌, length};
 
 use frames::{number_at, number_within, read_part};
@@ -20,7 +21,7 @@ const SAME: u32 = 1;
 const OTHER: u32 = 2;
 
 // Vectors, those that differ, the index of the first of these.
-#[derive(Drop)]
+#[derive(Clone, Copy)]
 struct Tally {
     vectors: u32,
     differ: u32,

@@ -3,6 +3,7 @@
 // The answer to a frame is a length, an outcome (0 or the refusal) and, on 0, for terms the nodes and the tokens, and the bytes again. Bytes
 // left over (1) are refused before more than 2,048 nodes (7). After each frame both areas must be clear: else its answer is left out and the
 // run ends, as it does at a faulty length and where an answer does not fit.
+#![tactic(auto)]
 ghost use Rattle.std.specs.Prelude.{◌≡◌, ◌+◌, ◌≤◌, ◌<◌, length};
 ghost use Rattle.reread.specs.Frame.{Sound, Inside};
 
@@ -13,7 +14,7 @@ use terms::{
 };
 
 // What a frame holds: for terms the nodes, the tokens and the first token to write.
-#[derive(Drop)]
+#[derive(Clone, Copy)]
 pub enum Frame {
     Refused(u8),
     Number(u64),
@@ -21,7 +22,7 @@ pub enum Frame {
 }
 
 // Where a frame lies.
-#[derive(Drop)]
+#[derive(Clone, Copy)]
 pub enum Part {
     Lies(usize, usize),
     Nowhere,

@@ -1,4 +1,5 @@
 // The sheet: orders read, answered and framed; the run.
+#![tactic(auto)]
 mod dispatch;
 mod fields;
 mod framing;
@@ -16,14 +17,14 @@ pub use running::run_sheet;
 use solver::Solver;
 
 // What an order does: it is told to the session, or it leaves the session as it was.
-#[derive(Drop)]
+#[derive(Clone, Copy)]
 pub enum Class {
     Session,
     Operation,
 }
 
 // A row of the table of orders, its class and the sorts of its fields in digits; or that no order has the number.
-#[derive(Drop)]
+#[derive(Clone, Copy)]
 pub enum OrderRow {
     Listed(Class, u64),
     Unlisted,
@@ -31,7 +32,7 @@ pub enum OrderRow {
 
 // A field of an order: a number or count, the place of its first token (of parameters: their position in the bytes), and the token after
 // its last.
-#[derive(Drop)]
+#[derive(Clone, Copy)]
 pub struct FieldSpot {
     pub value: u64,
     pub place: usize,
@@ -39,7 +40,7 @@ pub struct FieldSpot {
 }
 
 // An order that was read: its kind, at most five fields, the token after the last one, and the nodes kept with those of the order.
-#[derive(Drop)]
+#[derive(Clone, Copy)]
 pub struct Order {
     pub kind: u8,
     pub first: FieldSpot,
@@ -52,7 +53,7 @@ pub struct Order {
 }
 
 // An order for a variable: that of a site and a slot (order 0), a number variable of a site with the word of its request (1 and 21), a hole of a site (2).
-#[derive(Drop)]
+#[derive(Clone, Copy)]
 pub enum VariableOrder {
     Slot(u32, u32),
     Number(u32, u32),
@@ -61,7 +62,7 @@ pub enum VariableOrder {
 
 // An order without terms: for a variable (orders 0, 1, 2 and 21), the defaults of numbers (6) or with true of deferred variables (7), the revision (8); or a
 // refusal for what its fields say.
-#[derive(Drop)]
+#[derive(Clone, Copy)]
 pub enum TermlessOrder {
     Variable(VariableOrder),
     Defaults(bool),
@@ -70,28 +71,28 @@ pub enum TermlessOrder {
 }
 
 // What reading an order finds, or the refusal.
-#[derive(Drop)]
+#[derive(Clone, Copy)]
 pub enum Reading {
     Whole(Order),
     Refused(u8),
 }
 
 // The counters after an order, and the position after its answer: past the end of the output where it does not fit.
-#[derive(Drop)]
+#[derive(Clone, Copy)]
 pub struct AfterOrder {
     pub solver: Solver,
     pub next: usize,
 }
 
 // Where the next order lies, its first byte and its size, or that its length is faulty.
-#[derive(Drop)]
+#[derive(Clone, Copy)]
 pub enum Frame {
     Lies(usize, usize),
     Faulty,
 }
 
 // What a run returns: why it ended, how many orders it answered, and how many bytes it wrote.
-#[derive(Drop)]
+#[derive(Clone, Copy)]
 pub struct Report {
     pub reason: u32,
     pub orders: u64,
@@ -99,7 +100,7 @@ pub struct Report {
 }
 
 // A run that ended: what it returns, and the solver that it left.
-#[derive(Drop)]
+#[derive(Clone, Copy)]
 pub struct Closed {
     pub report: Report,
     pub solver: Solver,

@@ -1,4 +1,5 @@
 // The solver: its counters by value, its tables lent. Variables, deferrals, defaults, constrain, resolving, and what a resolved term has.
+#![tactic(auto)]
 mod answers;
 mod constrain;
 mod defaults;
@@ -30,14 +31,14 @@ pub use terms::{
 };
 
 // A run of tokens: len of them, from at on.
-#[derive(Drop)]
+#[derive(Clone, Copy)]
 pub struct Run {
     pub at: usize,
     pub len: usize,
 }
 
 // A place in a walk: the token at, of a run that ends before end, below which depth runs wait in the frames.
-#[derive(Drop)]
+#[derive(Clone, Copy)]
 pub struct Stand {
     pub at: usize,
     pub end: usize,
@@ -45,28 +46,28 @@ pub struct Stand {
 }
 
 // Whether what is asked for was met, and how many variables stand in the queue.
-#[derive(Drop)]
+#[derive(Clone, Copy)]
 pub struct Reached {
     pub hit: bool,
     pub top: usize,
 }
 
 // Whether no difference was seen, and how many places are linked.
-#[derive(Drop)]
+#[derive(Clone, Copy)]
 pub struct Closure {
     pub equal: bool,
     pub top: usize,
 }
 
 // A pending pair: the places of its two terms.
-#[derive(Drop)]
+#[derive(Clone, Copy)]
 pub struct PairAt {
     pub left: usize,
     pub right: usize,
 }
 
 // How many children of a node have been passed, and how many pairs are pending.
-#[derive(Drop)]
+#[derive(Clone, Copy)]
 pub struct Counted {
     pub child: usize,
     pub top: usize,
@@ -74,7 +75,7 @@ pub struct Counted {
 
 // The counters of a session, with its limits: at most `variables` variables and `nodes` kept nodes. So far `issued` variables, `revision`
 // bindings, `kept` nodes, and `top` tokens in use.
-#[derive(Drop)]
+#[derive(Clone, Copy)]
 pub struct Solver {
     pub variables: usize,
     pub nodes: usize,
@@ -85,7 +86,7 @@ pub struct Solver {
 }
 
 // The counters that an order is read by: the variables issued, the nodes kept, the tokens in use, and the limit of the nodes.
-#[derive(Drop)]
+#[derive(Clone, Copy)]
 pub struct Standing {
     pub issued: usize,
     pub kept: usize,
@@ -94,28 +95,28 @@ pub struct Standing {
 }
 
 // The place of a variable: a slot of a site, or a hole.
-#[derive(Drop)]
+#[derive(Clone, Copy)]
 pub enum Site {
     Slot(u32, u32),
     Hole(u32),
 }
 
 // What is resolved: the term that follows the session's tokens, or a variable.
-#[derive(Drop)]
+#[derive(Clone, Copy)]
 pub enum Subject {
     Follows,
     Id(u32),
 }
 
 // Where resolving begins: at the term of a place, with so many bindings left to follow; or at a variable that stands for itself.
-#[derive(Drop)]
+#[derive(Clone, Copy)]
 pub enum Start {
     Begins(usize, usize),
     Free(u32),
 }
 
 // What `constrain` answers.
-#[derive(Drop)]
+#[derive(Clone, Copy)]
 pub enum Verdict {
     Incompatible,
     Compatible,
@@ -123,14 +124,14 @@ pub enum Verdict {
 }
 
 // The solver after a pair, and what came of it.
-#[derive(Drop)]
+#[derive(Clone, Copy)]
 pub struct Solved {
     pub solver: Solver,
     pub verdict: Verdict,
 }
 
 // The solver after a check, whether the pair is compatible so far, and how many pairs are pending.
-#[derive(Drop)]
+#[derive(Clone, Copy)]
 pub struct Checked {
     pub solver: Solver,
     pub good: bool,
@@ -138,14 +139,14 @@ pub struct Checked {
 }
 
 // The variable of a place, or that no more may be issued: refusal 8.
-#[derive(Drop)]
+#[derive(Clone, Copy)]
 pub enum Named {
     Variable(u32),
     Full,
 }
 
 // The solver after orders 0 to 2, and what it answers.
-#[derive(Drop)]
+#[derive(Clone, Copy)]
 pub struct Issue {
     pub solver: Solver,
     pub answer: Named,
@@ -153,7 +154,7 @@ pub struct Issue {
 
 // What takes the place of binders, as the terms have it: a substitution's entries and receivers in the areas, parameters in the order's bytes
 // with their arguments in the areas; in a `context` the parameters have no arguments.
-#[derive(Drop)]
+#[derive(Clone, Copy)]
 pub struct Binders {
     pub context: bool,
     pub entries: usize,
@@ -165,7 +166,7 @@ pub struct Binders {
 }
 
 // A normalised term, as the terms have it: its content, the records used, its bytes, and what it was looked up by.
-#[derive(Drop)]
+#[derive(Clone, Copy)]
 pub struct Ready {
     pub head: u32,
     pub kids: u32,
@@ -179,7 +180,7 @@ pub struct Ready {
 }
 
 // What normalising answers: refusal 9; that the term's bytes are more than there is room for; or the term, whose records stay until it is written.
-#[derive(Drop)]
+#[derive(Clone, Copy)]
 pub enum Normalised {
     Refused,
     Long,

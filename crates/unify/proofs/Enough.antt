@@ -123,12 +123,12 @@ module _ (S : Sig) where
 
     nothing : (z : Table S) (ok : Bool) → Ends-by_itself z ok []
     unfolding settles
-    nothing z ok = (0, λ k. elim k [ zero ↦ λ l. tt | suc k ↦ λ l. tt ])
+    nothing z ok = (0, λ k. elim k as (λ k. 0 ≤ k → Finished (settles S n k z ok [])) [ zero ↦ λ l. tt | suc k ↦ λ l. tt ])
 
     one_more : (z : Table S) (ok : Bool) (p : Pair S) (ps : List (Pair S))
         → Ends-by_itself (turn S n z p.0 p.1 ps).state (ok && (turn S n z p.0 p.1 ps).good) (turn S n z p.0 p.1 ps).todo → Ends-by_itself z ok (p ∷ ps)
     unfolding settles
-    one_more z ok p ps e = (suc e.0, λ k. elim k [ zero ↦ λ l. absurd (omega arith) | suc k ↦ λ l. e.1 k (omega arith) ])
+    one_more z ok p ps e = (suc e.0, λ k. elim k as (λ k. suc e.0 ≤ k → Finished (settles S n k z ok (p ∷ ps))) [ zero ↦ λ l. absurd (omega arith) | suc k ↦ λ l. e.1 k (omega arith) ])
 
     going_on : (N : ℕ) (z : Table S) (s : State S) (p q : Pair S) (ps qs : List (Pair S)) → Going N z s (p ∷ ps) (q ∷ qs)
         → Going N (turn S n z p.0 p.1 ps).state (step S n s q.0 q.1 qs).state (turn S n z p.0 p.1 ps).todo (step S n s q.0 q.1 qs).todo

@@ -390,7 +390,7 @@ module _ {H : Type 0} where
               where
                 go : (y : ℕ) → In y (inst both σ) → In w (value c y) → ((y ≡ v) × (value c y ≡ r)) ⊎ ((y ≢ v) × (value c y ≡ var y)) → In w (inst both σ)
                 go y a b (inl p) = j w (rw p.1 at b)
-                go y a b (inr p) = let q : w ≡ y = rw p.1 at b in rw q a
+                go y a b (inr p) = let q : w ≡ y = rw p.1 at b in subst (λ (x : ℕ). In x (inst both σ)) (sym q) a
 
             gone : ¬ In v (inst both (compose head? σ c))
             gone m = let y = from v m in go y.0 y.2 (value_case y.0)

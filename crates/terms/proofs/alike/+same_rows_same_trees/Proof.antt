@@ -7,8 +7,8 @@ use Rattle.terms.proofs.alike.+same_rows_same_trees.Proof.Measures.{μ-same-rows
 use Rattle.terms.proofs.alike.+same_rows_same_trees.Proof.SameRows.{member as same-rows-member}
 use Rattle.terms.proofs.alike.+same_rows_same_trees.Proof.SameTrees.{member as same-trees-member}
 
-pub +same-rows-same-trees-spec : {M : Type 1} → statement M
-+same-rows-same-trees-spec =
+pub +same_rows_same_trees_spec : {M : Type 1} → statement M
++same_rows_same_trees_spec =
     close μ-same-rows μ-same-trees
     (λ t. same-rows-member t)
     (λ t. same-trees-member t)

@@ -5,25 +5,25 @@ use borrow.Author.Rules.{rules}
 use Rattle.terms.proofs.find.find_parameter.Statement.{statement}
 use Rattle.terms.proofs.find.find_parameter.Tie as tie
 
-pass-parameters-requires : tie.Need-pass-parameters-requires
+pass-parameters-requires : tie.Need-pass_parameters-r-requires
 pass-parameters-requires c κs = search rules
 
-enum-known-r : tie.Need-enum-known-r
+enum-known-r : tie.Need-enum_known-r
 enum-known-r c = search rules
 
-enum-known-r-2 : tie.Need-enum-known-r-2
+enum-known-r-2 : tie.Need-enum_known-r-in-Faulty-1
 enum-known-r-2 c = search rules
 
-returns : tie.Need-returns
+returns : tie.Need-returns-in-Through
 returns c =
-    let a = c.before.before.before.before.before.args in
-    through_index (parameters a.s.now a.count a.at) (record { owner = a.owner; position = a.position }) _ _ (rw c.before.r.given.1 at c.before.before.before.pass-parameters.ensures)
+    let a = c.args in
+    through_index (parameters a.s.now a.count a.at) (record { owner = a.owner; position = a.position }) _ _ (rw c.in-Through.is at c.pass_parameters-r.ensures)
 
-returns-2 : tie.Need-returns-2
+returns-2 : tie.Need-returns-in-Faulty
 returns-2 c =
-    let a = c.before.before.before.before.before.args in
-    faulty_index (parameters a.s.now a.count a.at) (record { owner = a.owner; position = a.position }) _ (rw c.before.r2.given.1 at c.before.before.before.pass-parameters.ensures)
+    let a = c.args in
+    faulty_index (parameters a.s.now a.count a.at) (record { owner = a.owner; position = a.position }) _ (rw c.in-Faulty.is at c.pass_parameters-r.ensures)
 
-pub find-parameter-spec : {M : Type 1} → statement M
-find-parameter-spec =
+pub find_parameter_spec : {M : Type 1} → statement M
+find_parameter_spec =
     tie.close (tie.spec pass-parameters-requires enum-known-r enum-known-r-2 returns returns-2)

@@ -11,67 +11,67 @@ use borrow.Author.Rules.{rules}
 use Rattle.terms.proofs.find.find_record.Statement.{statement}
 use Rattle.terms.proofs.find.find_record.Tie as tie
 
-abbrev invariant-loop : tie.invariant-loop
+abbrev invariant-loop : tie.invariant-loop-i
 invariant-loop kinds vals from end width first last best₀ i₀ best i =
     last_at kinds vals width first last (end - i) i end best ≡ last_at kinds vals width first last (end - from) from end Nothing
 
-abbrev decreases-loop : tie.decreases-loop
+abbrev decreases-loop : tie.decreases-loop-i
 decreases-loop kinds vals from end width first last best₀ i₀ best i = end - i
 
 -- how far it goes
-far : (c : tie.After-stride invariant-loop decreases-loop) → (1 ≤ c.stride.result) × (c.stride.result ≤ c.before.before.before.before.before.before.before.before.before.args.end - (c.before.before.before.before.before.before.loop.i + c.before.before.before.before.before.before.before.before.before.args.width))
+far : (c : tie.After-stride invariant-loop decreases-loop) → (1 ≤ c.stride.result) × (c.stride.result ≤ c.args.end - (c.loop-i.i + c.args.width))
 far c =
-    let a = c.before.before.before.before.before.before.before.before.before.args in
-    let t = c.before.before.before.before.before.before.loop.i + a.width in
+    let a = c.args in
+    let t = c.loop-i.i + a.width in
     rw c.stride.ensures (clip_within (a.end - t) (span (get_or a.kinds.now t 0) (get_or a.vals.now t 0)) (omega arith))
 
-loop-holds : tie.Need-loop-init invariant-loop decreases-loop
+loop-holds : tie.Need-loop-i-init invariant-loop decreases-loop
 loop-holds c = refl
 
-sub-if1 : tie.Need-overflow-sub-if1 invariant-loop decreases-loop
+sub-if1 : tie.Need-overflow_sub-end invariant-loop decreases-loop
 sub-if1 c = search rules
 
-returns : tie.Need-returns invariant-loop decreases-loop
-returns c = search_end _ _ _ _ _ (omega arith) _ _ _ c.if1.true ∙ c.before.before.loop.invariant
+returns : tie.Need-returns-then-end-i invariant-loop decreases-loop
+returns c = search_end _ _ _ _ _ (omega arith) _ _ _ c.if-end-i.true ∙ c.loop-i.invariant
 
-add-t : tie.Need-overflow-add-t invariant-loop decreases-loop
+add-t : tie.Need-overflow_add-t invariant-loop decreases-loop
 add-t c = search rules
 
-long-at-requires : tie.Need-long-at-requires invariant-loop decreases-loop
+long-at-requires : tie.Need-long_at-requires invariant-loop decreases-loop
 long-at-requires c κs = search rules
 
-sub-long-at : tie.Need-overflow-sub-long-at invariant-loop decreases-loop
+sub-long-at : tie.Need-overflow_sub-t invariant-loop decreases-loop
 sub-long-at c = search rules
 
-long-at-requires-2 : tie.Need-long-at-requires-2 invariant-loop decreases-loop
+long-at-requires-2 : tie.Need-long_at-requires-in-loop-i invariant-loop decreases-loop
 long-at-requires-2 c κs = search rules
 
-later-requires : tie.Need-later-requires invariant-loop decreases-loop
+later-requires : tie.Need-later-best-requires invariant-loop decreases-loop
 later-requires c κs = search rules
 
-sub-stride : tie.Need-overflow-sub-stride invariant-loop decreases-loop
+sub-stride : tie.Need-overflow_sub-end-in-loop-i invariant-loop decreases-loop
 sub-stride c = search rules
 
 stride-requires : tie.Need-stride-requires invariant-loop decreases-loop
 stride-requires c κs = search rules
 
-add-i : tie.Need-overflow-add-i invariant-loop decreases-loop
+add-i : tie.Need-overflow_add-i invariant-loop decreases-loop
 add-i c = omega (arith, far c)
 
-loop-less : tie.Need-loop-smaller invariant-loop decreases-loop
+loop-less : tie.Need-loop-i-smaller invariant-loop decreases-loop
 loop-less c = omega (arith, far c)
 
-loop-again : tie.Need-loop-preserved invariant-loop decreases-loop
+loop-again : tie.Need-loop-i-preserved invariant-loop decreases-loop
 loop-again c =
-    let a = c.before.before.before.before.before.before.before.before.before.args in
-    let l = c.before.before.before.before.before.before.loop in
-    search_more a.kinds.now a.vals.now a.width a.first a.last (omega arith) l.i a.end l.best (omega arith) _ (c.before.later.ensures ∙ rw (c.before.before.before.long-at.ensures, c.before.before.long-at2.ensures)) _ (ap (λ (x : ℕ). l.i + a.width + x) c.stride.ensures) ∙ l.invariant
+    let a = c.args in
+    let l = c.loop-i in
+    search_more a.kinds.now a.vals.now a.width a.first c.args.last (omega arith) l.i a.end l.best (omega arith) _ (c.later-best.ensures ∙ rw (c.long_at.ensures, c.long_at-in-loop-i.ensures)) _ (ap (λ (x : ℕ). l.i + a.width + x) c.stride.ensures) ∙ l.invariant
 
-returns-2 : tie.Need-returns-2 invariant-loop decreases-loop
-returns-2 c = search_end _ _ _ _ _ (omega arith) _ _ _ (omega arith) ∙ c.before.loop.invariant
+returns-2 : tie.Need-returns invariant-loop decreases-loop
+returns-2 c = search_end _ _ _ _ _ (omega arith) _ _ _ (omega arith) ∙ c.loop-i.invariant
 
-pub find-record-spec : {M : Type 1} → statement M
-find-record-spec =
+pub find_record_spec : {M : Type 1} → statement M
+find_record_spec =
     tie.close
     (tie.spec
     invariant-loop

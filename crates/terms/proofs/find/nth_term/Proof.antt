@@ -10,51 +10,51 @@ use borrow.Author.Rules.{rules}
 use Rattle.terms.proofs.find.nth_term.Statement.{statement}
 use Rattle.terms.proofs.find.nth_term.Tie as tie
 
-abbrev invariant-loop : tie.invariant-loop
+abbrev invariant-loop : tie.invariant-loop-left
 invariant-loop kinds vals from n i₀ left₀ i left = nth_at kinds vals left i ≡ nth_at kinds vals n from
 
-abbrev decreases-loop : tie.decreases-loop
+abbrev decreases-loop : tie.decreases-loop-left
 decreases-loop kinds vals from n i₀ left₀ i left = left
 
-loop-holds : tie.Need-loop-init invariant-loop decreases-loop
+loop-holds : tie.Need-loop-left-init invariant-loop decreases-loop
 loop-holds c = refl
 
-returns : tie.Need-returns invariant-loop decreases-loop
-returns c = nth_out _ _ _ _ c.if1.true ∙ c.before.before.loop.invariant
+returns : tie.Need-returns-then-kinds-i invariant-loop decreases-loop
+returns c = nth_out _ _ _ _ c.if-kinds-i.true ∙ c.loop-left.invariant
 
-sub-stride : tie.Need-overflow-sub-stride invariant-loop decreases-loop
+sub-stride : tie.Need-overflow_sub-kinds invariant-loop decreases-loop
 sub-stride c = search rules
 
-stride-requires : tie.Need-stride-requires invariant-loop decreases-loop
+stride-requires : tie.Need-stride-i-requires invariant-loop decreases-loop
 stride-requires c κs = search rules
 
-add-i : tie.Need-overflow-add-i invariant-loop decreases-loop
+add-i : tie.Need-overflow_add-i invariant-loop decreases-loop
 add-i c =
-    let a = c.before.before.before.before.before.before.args in
-    let i = c.before.before.before.loop.i in
+    let a = c.args in
+    let i = c.loop-left.i in
     let room = length a.kinds.now - i in
-    omega (arith, c.stride.ensures, clip_within room (span (get_or a.kinds.now i 0) (get_or a.vals.now i 0)) (omega arith))
+    omega (arith, c.stride-i.ensures, clip_within room (span (get_or a.kinds.now i 0) (get_or a.vals.now i 0)) (omega arith))
 
-sub-left : tie.Need-overflow-sub-left invariant-loop decreases-loop
+sub-left : tie.Need-overflow_sub-left invariant-loop decreases-loop
 sub-left c = search rules
 
-loop-less : tie.Need-loop-smaller invariant-loop decreases-loop
+loop-less : tie.Need-loop-left-smaller invariant-loop decreases-loop
 loop-less c = search rules
 
-loop-again : tie.Need-loop-preserved invariant-loop decreases-loop
+loop-again : tie.Need-loop-left-preserved invariant-loop decreases-loop
 loop-again c =
-    let a = c.before.before.before.before.before.before.args in
-    let l = c.before.before.before.loop in
-    ap (λ (x : ℕ). nth_at a.kinds.now a.vals.now (l.left - 1) (l.i + x)) c.stride.ensures ∙ nth_more a.kinds.now a.vals.now l.left l.i c.before.before.loop-test.true c.before.if1.false ∙ l.invariant
+    let a = c.args in
+    let l = c.loop-left in
+    ap (λ (x : ℕ). nth_at a.kinds.now a.vals.now (l.left - 1) (l.i + x)) c.stride-i.ensures ∙ nth_more a.kinds.now a.vals.now l.left l.i c.loop-left-test.true c.if-kinds-i.false ∙ l.invariant
 
-returns-2 : tie.Need-returns-2 invariant-loop decreases-loop
-returns-2 c = nth_here _ _ _ _ c.before.loop-test.false c.if2.true ∙ c.before.before.loop.invariant
+returns-2 : tie.Need-returns-then-i-kinds invariant-loop decreases-loop
+returns-2 c = nth_here _ _ _ _ c.loop-left-test.false c.if-i-kinds.true ∙ c.loop-left.invariant
 
-returns-3 : tie.Need-returns-3 invariant-loop decreases-loop
-returns-3 c = nth_out _ _ _ _ c.if2.false ∙ c.before.before.loop.invariant
+returns-3 : tie.Need-returns-else-i-kinds invariant-loop decreases-loop
+returns-3 c = nth_out _ _ _ _ c.if-i-kinds.false ∙ c.loop-left.invariant
 
-pub nth-term-spec : {M : Type 1} → statement M
-nth-term-spec =
+pub nth_term_spec : {M : Type 1} → statement M
+nth_term_spec =
     tie.close
     (tie.spec
     invariant-loop

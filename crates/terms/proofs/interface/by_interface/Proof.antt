@@ -13,186 +13,174 @@ use borrow.Author.Rules.{rules}
 use Rattle.terms.proofs.interface.by_interface.Statement.{statement}
 use Rattle.terms.proofs.interface.by_interface.Tie as tie
 
-add-child-at : tie.Need-overflow-add-child-at
-add-child-at c = omega (arith, c.before.before.before.before.requires.1.0.few)
+add-child-at : tie.Need-overflow_add-n
+add-child-at c = omega (arith, c.requires.1.0.few)
 
-add-child-at-2 : tie.Need-overflow-add-child-at-2
-add-child-at-2 c = omega (arith, c.before.before.before.before.requires.1.0.few, c.before.before.before.before.requires.1.0.low)
+add-child-at-2 : tie.Need-overflow_add-n-2
+add-child-at-2 c = omega (arith, c.requires.1.0.few, c.requires.1.0.low)
 
-child-at-requires : tie.Need-child-at-requires
-child-at-requires c κs = c.before.before.before.before.requires.0
+child-at-requires : tie.Need-child_at-argument-requires
+child-at-requires c κs = c.requires.0
 
-enum_told : tie.Need-enum-told
+enum_told : tie.Need-enum_told-1
 enum_told c = search rules
 
-returns : tie.Need-returns
+returns : tie.Need-returns-in-At
 returns c =
-    let start = c.before.before.before.before.before.before.before in
-    λ S t i owner w k d h. let r = rw c.enum_told.given.1 at (c.before.before.child-at.ensures S t w) in through_argument t i owner (own_args t _
-    _ (start.requires.1.0.arguments.is start.args.heads.now start.args.kids.now S start.args.x.kids t w) (start.requires.1.0.members.is
-    start.args.heads.now start.args.kids.now S start.args.x.kids t w) r.0 r.1)
+    λ S t i owner w k d h. let r = rw c.in-At.is at (c.child_at-argument.ensures S t w) in through_argument t i owner (own_args t _
+    _ (c.requires.1.0.arguments.is c.args.heads.now c.args.kids.now S c.args.x.kids t w) (c.requires.1.0.members.is
+    c.args.heads.now c.args.kids.now S c.args.x.kids t w) r.0 r.1)
 
-enum-told-2 : tie.Need-enum-told-2
+enum-told-2 : tie.Need-enum_told-in_default
 enum-told-2 c = search rules
 
-number-at-requires : tie.Need-number-at-requires
-number-at-requires c κs = c.before.before.before.before.before.before.before.requires.0
+number-at-requires : tie.Need-number_at-requires
+number-at-requires c κs = c.requires.0
 
-number-at-requires-2 : tie.Need-number-at-requires-2
-number-at-requires-2 c κs = c.before.before.before.before.before.before.before.before.requires.0
+number-at-requires-2 : tie.Need-number_at-requires-2
+number-at-requires-2 c κs = c.requires.0
 
-returns-2 : tie.Need-returns-2
+returns-2 : tie.Need-returns-then-number_at
 returns-2 c =
-    let start = c.before.before.before.before.before.before.before.before.before.before in
-    λ S t i owner w k d h. through_other t i owner (own_plain t _ _ (start.requires.1.0.arguments.is
-    start.args.heads.now start.args.kids.now S start.args.x.kids t w) (start.requires.1.0.members.is
-    start.args.heads.now start.args.kids.now S start.args.x.kids t w) (rw c.before.before.before.enum-told2.given.1 at (c.before.before.before.before.before.child-at.ensures
-    S t w))) _ _ (c.before.before.number_at.ensures.1.is start.args.heads.now start.args.kids.now S start.args.x.kids t w) (c.before.number-at2.ensures.1.is
-    start.args.heads.now start.args.kids.now S 0 _ (interface_tree start.args.kinds.now start.args.vals.now start.args.g
-    start.requires.0 i owner h start.args.heads.now start.args.kids.now S _ _ refl refl) ∙ ap (λ (j : Parts). get_or (nums j) 0 0) (row_node 20
-    i)) c.if1.true
+    λ S t i owner w k d h. through_other t i owner (own_plain t _ _ (c.requires.1.0.arguments.is
+    c.args.heads.now c.args.kids.now S c.args.x.kids t w) (c.requires.1.0.members.is
+    c.args.heads.now c.args.kids.now S c.args.x.kids t w) (rw c.in_default.is at (c.child_at-argument.ensures
+    S t w))) _ _ (c.number_at.ensures.1.is c.args.heads.now c.args.kids.now S c.args.x.kids t w) (c.number_at-2.ensures.1.is
+    c.args.heads.now c.args.kids.now S 0 _ (interface_tree c.args.kinds.now c.args.vals.now c.args.g
+    c.requires.0 i owner h c.args.heads.now c.args.kids.now S _ _ refl refl) ∙ ap (λ (j : Parts). get_or (nums j) 0 0) (row_node 20
+    i)) c.if-number_at.true
 
-child-at-requires-2 : tie.Need-child-at-requires-2
-child-at-requires-2 c κs = c.before.before.before.before.before.before.before.before.before.before.requires.0
+child-at-requires-2 : tie.Need-child_at-receiver-requires
+child-at-requires-2 c κs = c.requires.0
 
-enum-known-receiver : tie.Need-enum-known-receiver
+enum-known-receiver : tie.Need-enum_known-receiver
 enum-known-receiver c = search rules
 
-enum-told-3 : tie.Need-enum-told-3
+enum-told-3 : tie.Need-enum_told-in_default-receiver
 enum-told-3 c = search rules
 
-returns-3 : tie.Need-returns-3
+returns-3 : tie.Need-returns-in_default-receiver
 returns-3 c =
-    let start = c.before.before.before.before.before.before.before.before.before.before.before.before.before in
-    λ S t i owner w k d h. through_bare t i owner (own_plain t _ _ (start.requires.1.0.arguments.is
-    start.args.heads.now start.args.kids.now S start.args.x.kids t w) (start.requires.1.0.members.is
-    start.args.heads.now start.args.kids.now S start.args.x.kids t w) (rw c.before.before.before.before.before.before.enum-told2.given.1
-    at (c.before.before.before.before.before.before.before.before.child-at.ensures S t w))) _ _ (c.before.before.before.before.before.number_at.ensures.1.is
-    start.args.heads.now start.args.kids.now S start.args.x.kids t w) (c.before.before.before.before.number-at2.ensures.1.is start.args.heads.now start.args.kids.now S 0 _ (interface_tree start.args.kinds.now start.args.vals.now start.args.g start.requires.0
-    i owner h start.args.heads.now start.args.kids.now S _ _ refl refl) ∙ ap (λ (j : Parts). get_or (nums j) 0 0) (row_node 20 i)) c.before.before.before.if1.false
-    (rw c.enum-told3.given.1 at (c.before.before.child-at2.ensures S t w))
+    λ S t i owner w k d h. through_bare t i owner (own_plain t _ _ (c.requires.1.0.arguments.is
+    c.args.heads.now c.args.kids.now S c.args.x.kids t w) (c.requires.1.0.members.is
+    c.args.heads.now c.args.kids.now S c.args.x.kids t w) (rw c.in_default.is
+    at (c.child_at-argument.ensures S t w))) _ _ (c.number_at.ensures.1.is
+    c.args.heads.now c.args.kids.now S c.args.x.kids t w) (c.number_at-2.ensures.1.is c.args.heads.now c.args.kids.now S 0 _ (interface_tree c.args.kinds.now c.args.vals.now c.args.g c.requires.0
+    i owner h c.args.heads.now c.args.kids.now S _ _ refl refl) ∙ ap (λ (j : Parts). get_or (nums j) 0 0) (row_node 20 i)) c.if-number_at.false
+    (rw c.in_default-receiver.is at (c.child_at-receiver.ensures S t w))
 
 source-requires : tie.Need-source-requires
 source-requires c κs = search rules
 
-same-trees-requires : tie.Need-same-trees-requires
-same-trees-requires c κs = c.before.before.before.before.before.before.before.before.before.before.before.before.before.before.before.requires.0
+same-trees-requires : tie.Need-same_trees-requires
+same-trees-requires c κs = c.requires.0
 
-returns-4 : tie.Need-returns-4
+returns-4 : tie.Need-returns-then-not-same_trees
 returns-4 c =
-    let start = c.before.before.before.before.before.before.before.before.before.before.before.before.before.before.before.before.before
-    in
-    let enum-told2' = c.before.before.before.before.before.before.before.before.before.before.enum-told2 in
-    let child-at' = c.before.before.before.before.before.before.before.before.before.before.before.before.child-at in
-    let number-at' = c.before.before.before.before.before.before.before.before.before.number_at in
-    let number-at2' = c.before.before.before.before.before.before.before.before.number-at2 in
-    let if1' = c.before.before.before.before.before.before.before.if1 in
-    let source' = c.before.before.source in
+    let child-at' = c.child_at-argument in
+    let number-at' = c.number_at in
+    let number-at2' = c.number_at-2 in
+    let if1' = c.if-number_at in
+    let source' = c.source in
     λ S t i owner w k d h.
-    let r = rw c.before.before.before.before.receiver.given.1 at (c.before.before.before.before.before.before.child-at2.ensures S t w) in
-    through_stranger t i owner (own_plain t _ _ (start.pre.1.0.arguments.is start.args.heads.now start.args.kids.now S start.args.x.kids
-    t w) (start.pre.1.0.members.is start.args.heads.now start.args.kids.now S start.args.x.kids t w) (rw enum-told2'.given.1 at
-    (child-at'.ensures S t w))) _ _ (number-at'.ensures.1.is start.args.heads.now start.args.kids.now S start.args.x.kids t w)
-    (number-at2'.ensures.1.is start.args.heads.now start.args.kids.now S 0 _ (interface_tree start.args.kinds.now start.args.vals.now
-    start.args.g start.pre.0 i owner h start.args.heads.now start.args.kids.now S _ _ refl refl) ∙ ap (λ (j : Parts). get_or (nums j) 0
+    let r = rw c.in-At-receiver.is at (c.child_at-receiver.ensures S t w) in
+    through_stranger t i owner (own_plain t _ _ (c.requires.1.0.arguments.is c.args.heads.now c.args.kids.now S c.args.x.kids
+    t w) (c.requires.1.0.members.is c.args.heads.now c.args.kids.now S c.args.x.kids t w) (rw c.in_default.is at
+    (child-at'.ensures S t w))) _ _ (number-at'.ensures.1.is c.args.heads.now c.args.kids.now S c.args.x.kids t w)
+    (number-at2'.ensures.1.is c.args.heads.now c.args.kids.now S 0 _ (interface_tree c.args.kinds.now c.args.vals.now
+    c.args.g c.requires.0 i owner h c.args.heads.now c.args.kids.now S _ _ refl refl) ∙ ap (λ (j : Parts). get_or (nums j) 0
     0) (row_node 20 i)) if1'.false r.0 r.1
-    (c.before.same-trees.ensures.no (not-true _ c.if2.true) S S _ _ r.2 (owner_tree start.args.kinds.now start.args.vals.now
-    start.args.g start.pre.0 i owner h start.args.heads.now start.args.kids.now S _ _ source'.ensures.0 source'.ensures.1)
-    (receiver_low t i owner (own_plain t _ _ (start.pre.1.0.arguments.is start.args.heads.now start.args.kids.now S start.args.x.kids t
-    w) (start.pre.1.0.members.is start.args.heads.now start.args.kids.now S start.args.x.kids t w) (rw enum-told2'.given.1 at
-    (child-at'.ensures S t w))) _ _ (number-at'.ensures.1.is start.args.heads.now start.args.kids.now S start.args.x.kids t w)
-    (number-at2'.ensures.1.is start.args.heads.now start.args.kids.now S 0 _ (interface_tree start.args.kinds.now start.args.vals.now
-    start.args.g start.pre.0 i owner h start.args.heads.now start.args.kids.now S _ _ refl refl) ∙ ap (λ (j : Parts). get_or (nums j) 0
+    (c.same_trees.ensures.no (not-true _ c.if-not-same_trees.true-raw) S S _ _ r.2 (owner_tree c.args.kinds.now c.args.vals.now
+    c.args.g c.requires.0 i owner h c.args.heads.now c.args.kids.now S _ _ source'.ensures.0 source'.ensures.1)
+    (receiver_low t i owner (own_plain t _ _ (c.requires.1.0.arguments.is c.args.heads.now c.args.kids.now S c.args.x.kids t
+    w) (c.requires.1.0.members.is c.args.heads.now c.args.kids.now S c.args.x.kids t w) (rw c.in_default.is at
+    (child-at'.ensures S t w))) _ _ (number-at'.ensures.1.is c.args.heads.now c.args.kids.now S c.args.x.kids t w)
+    (number-at2'.ensures.1.is c.args.heads.now c.args.kids.now S 0 _ (interface_tree c.args.kinds.now c.args.vals.now
+    c.args.g c.requires.0 i owner h c.args.heads.now c.args.kids.now S _ _ refl refl) ∙ ap (λ (j : Parts). get_or (nums j) 0
     0) (row_node 20 i)) if1'.false r.0 r.1 _ d))
 
-add-number-place : tie.Need-overflow-add-number-place
-add-number-place c = omega (arith, c.before.before.before.before.before.before.before.before.before.before.before.before.before.before.before.before.before.requires.1.0.low)
+add-number-place : tie.Need-overflow_add-m
+add-number-place c = omega (arith, c.requires.1.0.low)
 
-number-place-requires : tie.Need-number-place-requires
-number-place-requires c κs = c.before.before.before.before.before.before.before.before.before.before.before.before.before.before.before.before.before.requires.0
+number-place-requires : tie.Need-number_place-p-requires
+number-place-requires c κs = c.requires.0
 
-output-requires : tie.Need-output-requires
-output-requires c κs = c.before.before.before.before.before.before.before.before.before.before.before.before.before.before.before.before.before.before.requires.0
+output-requires : tie.Need-output-value-requires
+output-requires c κs = c.requires.0
 
-add-same-trees : tie.Need-overflow-add-same-trees
-add-same-trees c = omega (arith, c.before.before.before.before.before.before.before.before.before.before.before.before.before.before.before.before.before.before.before.requires.1.1)
+add-same-trees : tie.Need-overflow_add-fuel
+add-same-trees c = omega (arith, c.requires.1.1)
 
-same-trees-requires-2 : tie.Need-same-trees-requires-2
-same-trees-requires-2 c κs = c.before.before.before.before.before.before.before.before.before.before.before.before.before.before.before.before.before.before.before.requires.0
+same-trees-requires-2 : tie.Need-same_trees-requires-2
+same-trees-requires-2 c κs = c.requires.0
 
-returns-5 : tie.Need-returns-5
+returns-5 : tie.Need-returns-then-same_trees
 returns-5 c =
-    let start = c.before.before.before.before.before.before.before.before.before.before.before.before.before.before.before.before.before.before.before.before.before
+    let source' = c.source in
+    let child-at' = c.child_at-argument
     in
-    let source' = c.before.before.before.before.before.before.source in
-    let enum-told2' = c.before.before.before.before.before.before.before.before.before.before.before.before.before.before.enum-told2 in
-    let child-at' = c.before.before.before.before.before.before.before.before.before.before.before.before.before.before.before.before.child-at
-    in
-    let number-at' = c.before.before.before.before.before.before.before.before.before.before.before.before.before.number_at in
-    let number-at2' = c.before.before.before.before.before.before.before.before.before.before.before.before.number-at2 in
-    let if1' = c.before.before.before.before.before.before.before.before.before.before.before.if1 in
-    let number-place' = c.before.before.before.number-place in
+    let number-at' = c.number_at in
+    let number-at2' = c.number_at-2 in
+    let if1' = c.if-number_at in
+    let number-place' = c.number_place-p in
     λ S t i owner w k d h.
-    let r = rw c.before.before.before.before.before.before.before.before.receiver.given.1 at (c.before.before.before.before.before.before.before.before.before.before.child-at2.ensures
+    let r = rw c.in-At-receiver.is at (c.child_at-receiver.ensures
     S t w) in
-    let o = c.before.before.before.before.before.same-trees.ensures.yes (not-false _ c.before.before.before.before.if2.false) S S _ _ r.2
-    (owner_tree start.args.kinds.now start.args.vals.now start.args.g start.pre.0 i owner h start.args.heads.now start.args.kids.now
-    S _ _ source'.ensures.0 source'.ensures.1) (receiver_low t i owner (own_plain t _ _ (start.pre.1.0.arguments.is start.args.heads.now
-    start.args.kids.now S start.args.x.kids t w) (start.pre.1.0.members.is start.args.heads.now start.args.kids.now S start.args.x.kids
-    t w) (rw enum-told2'.given.1 at (child-at'.ensures S t w))) _ _ (number-at'.ensures.1.is start.args.heads.now start.args.kids.now
-    S start.args.x.kids t w) (number-at2'.ensures.1.is start.args.heads.now start.args.kids.now S 0 _ (interface_tree start.args.kinds.now
-    start.args.vals.now start.args.g start.pre.0 i owner h start.args.heads.now start.args.kids.now S _ _ refl refl) ∙ ap (λ (j : Parts).
+    let o = c.same_trees.ensures.yes (not-false _ c.if-not-same_trees.false-raw) S S _ _ r.2
+    (owner_tree c.args.kinds.now c.args.vals.now c.args.g c.requires.0 i owner h c.args.heads.now c.args.kids.now
+    S _ _ source'.ensures.0 source'.ensures.1) (receiver_low t i owner (own_plain t _ _ (c.requires.1.0.arguments.is c.args.heads.now
+    c.args.kids.now S c.args.x.kids t w) (c.requires.1.0.members.is c.args.heads.now c.args.kids.now S c.args.x.kids
+    t w) (rw c.in_default.is at (child-at'.ensures S t w))) _ _ (number-at'.ensures.1.is c.args.heads.now c.args.kids.now
+    S c.args.x.kids t w) (number-at2'.ensures.1.is c.args.heads.now c.args.kids.now S 0 _ (interface_tree c.args.kinds.now
+    c.args.vals.now c.args.g c.requires.0 i owner h c.args.heads.now c.args.kids.now S _ _ refl refl) ∙ ap (λ (j : Parts).
     get_or (nums j) 0 0) (row_node 20 i)) if1'.false r.0 r.1 _ d) in
-    let v = c.before.before.output.ensures S i owner h number-place'.ensures.kind in
-    let ev = ap (output owner i) (number-place'.ensures.is start.args.heads.now start.args.kids.now S start.args.x.kids t w ∙
-    member_here t _ _ (start.pre.1.0.arguments.is start.args.heads.now start.args.kids.now S start.args.x.kids t w) (start.pre.1.0.members.is
-    start.args.heads.now start.args.kids.now S start.args.x.kids t w) _ refl) in
-    through_same t i owner (own_plain t _ _ (start.pre.1.0.arguments.is start.args.heads.now start.args.kids.now S start.args.x.kids t w)
-    (start.pre.1.0.members.is start.args.heads.now start.args.kids.now S start.args.x.kids t w) (rw enum-told2'.given.1 at
-    (child-at'.ensures S t w))) _ _ (number-at'.ensures.1.is start.args.heads.now start.args.kids.now S start.args.x.kids t w)
-    (number-at2'.ensures.1.is start.args.heads.now start.args.kids.now S 0 _ (interface_tree start.args.kinds.now start.args.vals.now
-    start.args.g start.pre.0 i owner h start.args.heads.now start.args.kids.now S _ _ refl refl) ∙ ap (λ (j : Parts). get_or (nums j) 0
-    0) (row_node 20 i)) if1'.false r.0 r.1 o k _ ev (c.before.same-trees2.ensures.yes c.if3.true S S _ _ w v d)
+    let v = c.output-value.ensures S i owner h number-place'.ensures.kind in
+    let ev = ap (output owner i) (number-place'.ensures.is c.args.heads.now c.args.kids.now S c.args.x.kids t w ∙
+    member_here t _ _ (c.requires.1.0.arguments.is c.args.heads.now c.args.kids.now S c.args.x.kids t w) (c.requires.1.0.members.is
+    c.args.heads.now c.args.kids.now S c.args.x.kids t w) _ refl) in
+    through_same t i owner (own_plain t _ _ (c.requires.1.0.arguments.is c.args.heads.now c.args.kids.now S c.args.x.kids t w)
+    (c.requires.1.0.members.is c.args.heads.now c.args.kids.now S c.args.x.kids t w) (rw c.in_default.is at
+    (child-at'.ensures S t w))) _ _ (number-at'.ensures.1.is c.args.heads.now c.args.kids.now S c.args.x.kids t w)
+    (number-at2'.ensures.1.is c.args.heads.now c.args.kids.now S 0 _ (interface_tree c.args.kinds.now c.args.vals.now
+    c.args.g c.requires.0 i owner h c.args.heads.now c.args.kids.now S _ _ refl refl) ∙ ap (λ (j : Parts). get_or (nums j) 0
+    0) (row_node 20 i)) if1'.false r.0 r.1 o k _ ev (c.same_trees-2.ensures.yes c.if-same_trees.true S S _ _ w v d)
 
-returns-6 : tie.Need-returns-6
+returns-6 : tie.Need-returns
 returns-6 c =
-    let start = c.before.before.before.before.before.before.before.before.before.before.before.before.before.before.before.before.before.before.before.before.before
+    let source' = c.source in
+    let child-at' = c.child_at-argument
     in
-    let source' = c.before.before.before.before.before.before.source in
-    let enum-told2' = c.before.before.before.before.before.before.before.before.before.before.before.before.before.before.enum-told2 in
-    let child-at' = c.before.before.before.before.before.before.before.before.before.before.before.before.before.before.before.before.child-at
-    in
-    let number-at' = c.before.before.before.before.before.before.before.before.before.before.before.before.before.number_at in
-    let number-at2' = c.before.before.before.before.before.before.before.before.before.before.before.before.number-at2 in
-    let if1' = c.before.before.before.before.before.before.before.before.before.before.before.if1 in
-    let number-place' = c.before.before.before.number-place in
+    let number-at' = c.number_at in
+    let number-at2' = c.number_at-2 in
+    let if1' = c.if-number_at in
+    let number-place' = c.number_place-p in
     λ S t i owner w k d h.
-    let r = rw c.before.before.before.before.before.before.before.before.receiver.given.1 at (c.before.before.before.before.before.before.before.before.before.before.child-at2.ensures
+    let r = rw c.in-At-receiver.is at (c.child_at-receiver.ensures
     S t w) in
-    let o = c.before.before.before.before.before.same-trees.ensures.yes (not-false _ c.before.before.before.before.if2.false) S S _ _ r.2
-    (owner_tree start.args.kinds.now start.args.vals.now start.args.g start.pre.0 i owner h start.args.heads.now start.args.kids.now
-    S _ _ source'.ensures.0 source'.ensures.1) (receiver_low t i owner (own_plain t _ _ (start.pre.1.0.arguments.is start.args.heads.now
-    start.args.kids.now S start.args.x.kids t w) (start.pre.1.0.members.is start.args.heads.now start.args.kids.now S start.args.x.kids
-    t w) (rw enum-told2'.given.1 at (child-at'.ensures S t w))) _ _ (number-at'.ensures.1.is start.args.heads.now start.args.kids.now
-    S start.args.x.kids t w) (number-at2'.ensures.1.is start.args.heads.now start.args.kids.now S 0 _ (interface_tree start.args.kinds.now
-    start.args.vals.now start.args.g start.pre.0 i owner h start.args.heads.now start.args.kids.now S _ _ refl refl) ∙ ap (λ (j : Parts).
+    let o = c.same_trees.ensures.yes (not-false _ c.if-not-same_trees.false-raw) S S _ _ r.2
+    (owner_tree c.args.kinds.now c.args.vals.now c.args.g c.requires.0 i owner h c.args.heads.now c.args.kids.now
+    S _ _ source'.ensures.0 source'.ensures.1) (receiver_low t i owner (own_plain t _ _ (c.requires.1.0.arguments.is c.args.heads.now
+    c.args.kids.now S c.args.x.kids t w) (c.requires.1.0.members.is c.args.heads.now c.args.kids.now S c.args.x.kids
+    t w) (rw c.in_default.is at (child-at'.ensures S t w))) _ _ (number-at'.ensures.1.is c.args.heads.now c.args.kids.now
+    S c.args.x.kids t w) (number-at2'.ensures.1.is c.args.heads.now c.args.kids.now S 0 _ (interface_tree c.args.kinds.now
+    c.args.vals.now c.args.g c.requires.0 i owner h c.args.heads.now c.args.kids.now S _ _ refl refl) ∙ ap (λ (j : Parts).
     get_or (nums j) 0 0) (row_node 20 i)) if1'.false r.0 r.1 _ d) in
-    let v = c.before.before.output.ensures S i owner h number-place'.ensures.kind in
-    let ev = ap (output owner i) (number-place'.ensures.is start.args.heads.now start.args.kids.now S start.args.x.kids t w ∙
-    member_here t _ _ (start.pre.1.0.arguments.is start.args.heads.now start.args.kids.now S start.args.x.kids t w) (start.pre.1.0.members.is
-    start.args.heads.now start.args.kids.now S start.args.x.kids t w) _ refl) in (
+    let v = c.output-value.ensures S i owner h number-place'.ensures.kind in
+    let ev = ap (output owner i) (number-place'.ensures.is c.args.heads.now c.args.kids.now S c.args.x.kids t w ∙
+    member_here t _ _ (c.requires.1.0.arguments.is c.args.heads.now c.args.kids.now S c.args.x.kids t w) (c.requires.1.0.members.is
+    c.args.heads.now c.args.kids.now S c.args.x.kids t w) _ refl) in (
       _,
-      through_found t i owner (own_plain t _ _ (start.pre.1.0.arguments.is start.args.heads.now start.args.kids.now S start.args.x.kids
-          t w) (start.pre.1.0.members.is start.args.heads.now start.args.kids.now S start.args.x.kids t w) (rw enum-told2'.given.1 at
-          (child-at'.ensures S t w))) _ _ (number-at'.ensures.1.is start.args.heads.now start.args.kids.now S start.args.x.kids t w)
-          (number-at2'.ensures.1.is start.args.heads.now start.args.kids.now S 0 _ (interface_tree start.args.kinds.now start.args.vals.now
-          start.args.g start.pre.0 i owner h start.args.heads.now start.args.kids.now S _ _ refl refl) ∙ ap (λ (j : Parts). get_or (nums j) 0
-          0) (row_node 20 i)) if1'.false r.0 r.1 o k _ ev (c.before.same-trees2.ensures.no c.if3.false S S _ _ w v d),
+      through_found t i owner (own_plain t _ _ (c.requires.1.0.arguments.is c.args.heads.now c.args.kids.now S c.args.x.kids
+          t w) (c.requires.1.0.members.is c.args.heads.now c.args.kids.now S c.args.x.kids t w) (rw c.in_default.is at
+          (child-at'.ensures S t w))) _ _ (number-at'.ensures.1.is c.args.heads.now c.args.kids.now S c.args.x.kids t w)
+          (number-at2'.ensures.1.is c.args.heads.now c.args.kids.now S 0 _ (interface_tree c.args.kinds.now c.args.vals.now
+          c.args.g c.requires.0 i owner h c.args.heads.now c.args.kids.now S _ _ refl refl) ∙ ap (λ (j : Parts). get_or (nums j) 0
+          0) (row_node 20 i)) if1'.false r.0 r.1 o k _ ev (c.same_trees-2.ensures.no c.if-same_trees.false S S _ _ w v d),
       v,
     )
 
-pub by-interface-spec : {M : Type 1} → statement M
-by-interface-spec =
+pub by_interface_spec : {M : Type 1} → statement M
+by_interface_spec =
     tie.close
     (tie.spec
     add-child-at

@@ -10,53 +10,53 @@ use Rattle.terms.proofs.keep.clear_rest.Statement.{statement}
 use Rattle.terms.proofs.keep.clear_rest.Tie as tie
 
 -- what is required, in each arm
-told : (c : tie.After-r) → Clearable c.before.before.before.before.args.p c.before.before.before.before.args.left (Next c.r.given.0.0)
-told c = rw c.r.given.1 at c.before.before.before.before.requires
+told : (c : tie.In-Next) → Clearable c.args.p c.args.left (Next c.in-Next.q)
+told c = rw c.in-Next.is at c.requires
 
-told-stop : (c : tie.After-r2) → Clearable c.before.before.before.before.args.p c.before.before.before.before.args.left (Stopped c.r2.given.0.0)
-told-stop c = rw c.r2.given.1 at c.before.before.before.before.requires
+told-stop : (c : tie.In-Stopped) → Clearable c.args.p c.args.left (Stopped c.in-Stopped.c)
+told-stop c = rw c.in-Stopped.is at c.requires
 
-enum-known-r : tie.Need-enum-known-r
+enum-known-r : tie.Need-enum_known-r
 enum-known-r c = search rules
 
-sub-clear-tokens : tie.Need-overflow-sub-clear-tokens
-sub-clear-tokens c = omega (arith, told c.before.before.before.before.before.before.before)
+sub-clear-tokens : tie.Need-overflow_sub-q
+sub-clear-tokens c = omega (arith, told c.before.before.before.before.before.before)
 
-clear-tokens-requires : tie.Need-clear-tokens-requires
-clear-tokens-requires c κs = omega (arith, told c.before.before.before.before.before.before.before)
+clear-tokens-requires : tie.Need-clear_tokens-requires
+clear-tokens-requires c κs = omega (arith, told c.before.before.before.before.before.before)
 
-enum-known-r-2 : tie.Need-enum-known-r-2
+enum-known-r-2 : tie.Need-enum_known-r-in-Stopped-1
 enum-known-r-2 c = search rules
 
-add-clear-tokens : tie.Need-overflow-add-clear-tokens
-add-clear-tokens c = omega (arith, told-stop c.before.before.before)
+add-clear-tokens : tie.Need-overflow_add-left
+add-clear-tokens c = omega (arith, told-stop c.before.before)
 
-clear-tokens-requires-2 : tie.Need-clear-tokens-requires-2
-clear-tokens-requires-2 c κs = omega (arith, told-stop c.before.before.before)
+clear-tokens-requires-2 : tie.Need-clear_tokens-requires-in-Stopped
+clear-tokens-requires-2 c κs = omega (arith, told-stop c.before.before)
 
-same_length : tie.Need-same-length
+same_length : tie.Need-shape_of-kinds-then-q
 same_length c = search rules
 
-same-length-2 : tie.Need-same-length-2
+same-length-2 : tie.Need-shape_of-vals-then-q
 same-length-2 c = search rules
 
-returns : tie.Need-returns
-returns c = (sym c.before.before.before.before.before.before.before.before.before.before.before.before.r.given.1, rw (c.before.before.before.before.before.before.before.before.before.before.before.before.r.given.1, lt-leb _ _ c.before.before.before.before.before.before.before.before.before.if1.true) c.before.before.before.before.clear-tokens.ensures)
+returns : tie.Need-returns-then-q
+returns c = (sym c.in-Next.is, rw (c.in-Next.is, lt-leb _ _ c.if-q.true) c.clear_tokens.ensures)
 
-returns-2 : tie.Need-returns-2
-returns-2 c = (sym c.before.before.before.r.given.1, rw (c.before.before.before.r.given.1, le-leb _ _ c.if1.false) refl)
+returns-2 : tie.Need-returns-else-q
+returns-2 c = (sym c.in-Next.is, rw (c.in-Next.is, le-leb _ _ c.if-q.false) refl)
 
-same-length-3 : tie.Need-same-length-3
+same-length-3 : tie.Need-shape_of-kinds-in-Stopped
 same-length-3 c = search rules
 
-same-length-4 : tie.Need-same-length-4
+same-length-4 : tie.Need-shape_of-vals-in-Stopped
 same-length-4 c = search rules
 
-returns-3 : tie.Need-returns-3
-returns-3 c = (sym c.before.before.before.before.before.before.before.before.r2.given.1, rw c.before.before.before.before.before.before.before.before.r2.given.1 c.before.before.before.before.clear-tokens2.ensures)
+returns-3 : tie.Need-returns-in-Stopped
+returns-3 c = (sym c.in-Stopped.is, rw c.in-Stopped.is c.clear_tokens-in-Stopped.ensures)
 
-pub clear-rest-spec : {M : Type 1} → statement M
-clear-rest-spec =
+pub clear_rest_spec : {M : Type 1} → statement M
+clear_rest_spec =
     tie.close
     (tie.spec
     enum-known-r

@@ -8,48 +8,48 @@ use Rattle.terms.proofs.Laws.Format.KeepTermLaws.{done_clearable, done_room, ter
 use Rattle.terms.proofs.keep.keep_term.Statement.{statement}
 use Rattle.terms.proofs.keep.keep_term.Tie as tie
 
-read-term-requires : tie.Need-read-term-requires
+read-term-requires : tie.Need-read_term-r-requires
 read-term-requires c κs = search rules
 
-sub-clear-rest : tie.Need-overflow-sub-clear-rest
+sub-clear-rest : tie.Need-overflow_sub-s
 sub-clear-rest c = search rules
 
-step-of-requires : tie.Need-step-of-requires
+step-of-requires : tie.Need-step_of-requires
 step-of-requires c κs = search rules
 
-clear-rest-requires : tie.Need-clear-rest-requires
+clear-rest-requires : tie.Need-clear_rest-requires
 clear-rest-requires c κs =
-    let a = c.before.before.before.before.before.before.before.before.before.before.before.before.before.before.before.before.before.args in
-    let read-term' = c.before.before.before.before.before.before.before.before.read-term in
-    let s = a.s.now in
-    let p = a.p in
-    let l = a.p.limit in
+    let a = c.args in
+    let read-term' = c.read_term-r in
+    let s = c.args.s.now in
+    let p = c.args.p in
+    let l = c.args.p.limit in
     let d = area a.kinds.now a.vals.now in
-    let e = (area read-term'.new.1.0 read-term'.new.1.1.0) in
-    let r = (step_of read-term'.result read-term'.new.1.1.1.0 read-term'.new.1.1.1.1.0 read-term'.new.1.1.1.1.1.0 l) in
-    let x = read-term'.ensures in
-    rw c.step_of_lem.ensures (done_clearable items size s _ p d e r x c.before.before.before.before.before.before.before.before.before.before.before.before.before.before.before.before.before.requires)
+    let e = (area c.read_term-r.new.kinds c.read_term-r.new.vals) in
+    let r = (step_of read-term'.result c.read_term-r.new.at c.read_term-r.new.top c.read_term-r.new.nodes l) in
+    let x = c.read_term-r.ensures in
+    rw c.step_of.ensures (done_clearable items size s _ p d e r x c.requires)
 
-same_length : tie.Need-same-length
+same_length : tie.Need-shape_of-kinds
 same_length c = search rules
 
-same-length-2 : tie.Need-same-length-2
+same-length-2 : tie.Need-shape_of-vals
 same-length-2 c = search rules
 
 returns : tie.Need-returns
 returns c =
-    let a = c.before.before.before.before.before.before.before.before.before.before.before.before.before.before.before.before.before.before.before.before.before.before.args in
-    let read-term' = c.before.before.before.before.before.before.before.before.before.before.before.before.before.read-term in
-    let s = a.s.now in
-    let p = a.p in
-    let l = a.p.limit in
+    let a = c.args in
+    let read-term' = c.read_term-r in
+    let s = c.args.s.now in
+    let p = c.args.p in
+    let l = c.args.p.limit in
     let d = area a.kinds.now a.vals.now in
-    let e = (area read-term'.new.1.0 read-term'.new.1.1.0) in
-    let r = (step_of read-term'.result read-term'.new.1.1.1.0 read-term'.new.1.1.1.1.0 read-term'.new.1.1.1.1.1.0 l) in
-    let x = read-term'.ensures in
-    let k = c.before.before.before.before.clear-rest in
-    let z = c.before.before.before.before.before.step_of_lem.ensures in
-    (k.ensures.0 ∙ z ∙ term_answer s _ p d e r x, (term_kept s _ p d e r _ x (rw z at k.ensures.1), rw (k.ensures.0, z) (done_room items size s _ p d e r x c.before.before.before.before.before.before.before.before.before.before.before.before.before.before.before.before.before.before.before.before.before.before.requires)))
+    let e = (area c.read_term-r.new.kinds c.read_term-r.new.vals) in
+    let r = (step_of read-term'.result c.read_term-r.new.at c.read_term-r.new.top c.read_term-r.new.nodes l) in
+    let x = c.read_term-r.ensures in
+    let k = c.clear_rest in
+    let z = c.step_of.ensures in
+    (k.ensures.0 ∙ z ∙ term_answer s _ p d e r x, (term_kept s _ p d e r _ x (rw z at k.ensures.1), rw (k.ensures.0, z) (done_room items size s _ p d e r x c.requires)))
 
-pub keep-term-spec : {M : Type 1} → statement M
-keep-term-spec = tie.close (tie.spec read-term-requires sub-clear-rest step-of-requires clear-rest-requires same_length same-length-2 returns)
+pub keep_term_spec : {M : Type 1} → statement M
+keep_term_spec = tie.close (tie.spec read-term-requires sub-clear-rest step-of-requires clear-rest-requires same_length same-length-2 returns)

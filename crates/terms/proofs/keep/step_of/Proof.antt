@@ -4,11 +4,11 @@ use Rattle.terms.proofs.Laws.Format.StepCodeLaws.{stops}
 use Rattle.terms.proofs.keep.step_of.Statement.{statement}
 use Rattle.terms.proofs.keep.step_of.Tie as tie
 
-returns : tie.Need-returns
-returns c = rw c.if1.true refl
+returns : tie.Need-returns-then-code-eq0
+returns c = rw c.if-code-eq0.true refl
 
-returns-2 : tie.Need-returns-2
-returns-2 c = sym (stops c.before.args.code c.before.args.at c.before.args.top c.before.args.nodes c.before.args.limit c.if1.false)
+returns-2 : tie.Need-returns
+returns-2 c = sym (stops c.args.code c.args.at c.args.top c.args.nodes c.args.limit c.if-code-eq0.false)
 
-pub step-of-spec : {M : Type 1} → statement M
-step-of-spec = tie.close (tie.spec returns returns-2)
+pub step_of_spec : {M : Type 1} → statement M
+step_of_spec = tie.close (tie.spec returns returns-2)

@@ -235,7 +235,7 @@ next-record-meets {𝓤 = 𝓤} 𝓛 mem run 𝓣 known =
     walk_Meets 𝓛 the-fn.ended stayed (Goes-none 𝓛 3 B yes (λ κs x f. refl), (Goes-gave_slice 𝓛 3 1 tt (plain (λ _. u32)), (Goes-gave_slice 𝓛 3 2 tt (plain (λ _. u32)), (Goes-none 𝓛 3 (λ _. U.the_row) yes (λ κs x f. refl), tt)))) (the-fn.clauses 𝓛 mem run)
     (WpFn 𝓤 𝓛.H 𝓣.C 𝓣.Λ code.function) (WpFn-mono 𝓤 𝓛.H 𝓛.laws 𝓣 code.function) (next-record-walks 𝓛 mem run 𝓣.C 𝓣.Λ (fm_of 𝓤 𝓛.H 𝓛.laws 𝓣) known)
 
-pub next-record-spec : {M : Type 1} → stated.statement M
+pub next_record_spec : {M : Type 1} → stated.statement M
 unfolding code.routine tables_of
 next-record-spec 𝓤 𝓛 𝓜 𝓡 =
     entered 𝓤 𝓛.H (triple_of 𝓛 the-fn.signature (the-fn.spec 𝓛 𝓜.mem 𝓡.run))

@@ -12,99 +12,99 @@ use Rattle.terms.proofs.Laws.Format.ListLaws.{keys_no, keys_yes, single_no, sing
 use Rattle.terms.proofs.lists.read_record.Statement.{statement}
 use Rattle.terms.proofs.lists.read_record.Tie as tie
 
-read-id-requires : tie.Need-read-id-requires
+read-id-requires : tie.Need-read_id-a-requires
 read-id-requires c κs = search rules
 
-same_length : tie.Need-same-length
+same_length : tie.Need-shape_of-kinds-then-a-ne0
 same_length c = search rules
 
-same-length-2 : tie.Need-same-length-2
+same-length-2 : tie.Need-shape_of-vals-then-a-ne0
 same-length-2 c = search rules
 
-returns : tie.Need-returns
+returns : tie.Need-returns-then-a-ne0
 returns c =
-    let a = c.before.before.before.before.before.before.before.before.before.before.before.before.before.before.args in
-    let read-id' = c.before.before.before.before.before.read-id in
-    let s = a.s.now in
-    let l = a.limit in
+    let a = c.args in
+    let read-id' = c.read_id-a in
+    let s = c.args.s.now in
+    let l = c.args.limit in
     let p = place a.at.now a.top.now a.nodes.now l in
     let t = term s a.issued a.levels in
     let d = area a.kinds.now a.vals.now in
-    let e = (area read-id'.new.1.0 read-id'.new.1.1.0) in
-    let z = stops read-id'.result read-id'.new.1.1.1.0 read-id'.new.1.1.1.1.0 a.nodes.now l c.if1.true in
+    let e = (area c.read_id-a.new.kinds c.read_id-a.new.vals) in
+    let z = stops read-id'.result c.read_id-a.new.at c.read_id-a.new.top a.nodes.now l c.if-a-ne0.true in
     rw z (single_no s t (keys a.first a.second) p d e read-id'.result (keys_no s a.first a.second p d e read-id'.result (rw z at read-id'.ensures)))
 
-read-id-requires-2 : tie.Need-read-id-requires-2
+read-id-requires-2 : tie.Need-read_id-b-requires
 read-id-requires-2 c κs =
-    let a = c.before.before.before.before.before.before.before.before.before.before.before.before.before.before.before.before.before.before.args in
-    let read-id' = c.before.before.before.before.before.before.before.before.before.read-id in
-    let s = a.s.now in
-    let l = a.limit in
+    let a = c.args in
+    let read-id' = c.read_id-a in
+    let s = c.args.s.now in
+    let l = c.args.limit in
     let p = place a.at.now a.top.now a.nodes.now l in
-    let x = rw c.before.before.before.before.if1.false at read-id'.ensures in
-    ((room_next s p (place read-id'.new.1.1.1.0 read-id'.new.1.1.1.1.0 a.nodes.now l) x.2.inside x.2.pace x.2.paced c.before.before.before.before.before.before.before.before.before.before.before.before.before.before.before.before.before.before.requires), omega arith)
+    let x = rw c.if-a-ne0.false at read-id'.ensures in
+    ((room_next s p (place c.read_id-a.new.at c.read_id-a.new.top a.nodes.now l) x.2.inside x.2.pace x.2.paced c.requires), omega arith)
 
-same-length-3 : tie.Need-same-length-3
+same-length-3 : tie.Need-shape_of-kinds-then-b-ne0
 same-length-3 c = search rules
 
-same-length-4 : tie.Need-same-length-4
+same-length-4 : tie.Need-shape_of-vals-then-b-ne0
 same-length-4 c = search rules
 
-returns-2 : tie.Need-returns-2
+returns-2 : tie.Need-returns-then-b-ne0
 returns-2 c =
-    let a = c.before.before.before.before.before.before.before.before.before.before.before.before.before.before.before.before.before.before.before.before.before.before.before.before.args in
-    let read-id' = c.before.before.before.before.before.before.before.before.before.before.before.before.before.before.before.read-id in
-    let read-id2' = c.before.before.before.before.before.read-id2 in
-    let s = a.s.now in
-    let l = a.limit in
+    let a = c.args in
+    let read-id' = c.read_id-a in
+    let read-id2' = c.read_id-b in
+    let s = c.args.s.now in
+    let l = c.args.limit in
     let p = place a.at.now a.top.now a.nodes.now l in
     let t = term s a.issued a.levels in
     let d = area a.kinds.now a.vals.now in
-    let e = (area read-id'.new.1.0 read-id'.new.1.1.0) in
-    let f = (area read-id2'.new.1.0 read-id2'.new.1.1.0) in
-    let x = rw c.before.before.before.before.before.before.before.before.before.before.if1.false at read-id'.ensures in
-    let q = (place read-id'.new.1.1.1.0 read-id'.new.1.1.1.1.0 a.nodes.now l) in
-    let z = stops read-id2'.result read-id2'.new.1.1.1.0 read-id2'.new.1.1.1.1.0 a.nodes.now l c.if2.true in
+    let e = (area c.read_id-a.new.kinds c.read_id-a.new.vals) in
+    let f = (area c.read_id-b.new.kinds c.read_id-b.new.vals) in
+    let x = rw c.if-a-ne0.false at read-id'.ensures in
+    let q = (place c.read_id-a.new.at c.read_id-a.new.top a.nodes.now l) in
+    let z = stops read-id2'.result c.read_id-b.new.at c.read_id-b.new.top a.nodes.now l c.if-b-ne0.true in
     let y = rw z at read-id2'.ensures in
     rw z (single_no s t (keys a.first a.second) p d f read-id2'.result (keys_yes s a.first a.second p d e q x f (Stopped read-id2'.result) y))
 
-read-term-requires : tie.Need-read-term-requires
+read-term-requires : tie.Need-read_term-requires
 read-term-requires c κs =
-    let a = c.before.before.before.before.before.before.before.before.before.before.before.before.before.before.before.before.before.before.before.before.before.before.before.before.before.before.before.before.before.args in
-    let read-id' = c.before.before.before.before.before.before.before.before.before.before.before.before.before.before.before.before.before.before.before.before.read-id in
-    let read-id2' = c.before.before.before.before.before.before.before.before.before.before.read-id2 in
-    let s = a.s.now in
-    let l = a.limit in
+    let a = c.args in
+    let read-id' = c.read_id-a in
+    let read-id2' = c.read_id-b in
+    let s = c.args.s.now in
+    let l = c.args.limit in
     let p = place a.at.now a.top.now a.nodes.now l in
-    let x = rw c.before.before.before.before.before.before.before.before.before.before.before.before.before.before.before.if1.false at read-id'.ensures in
-    let q = (place read-id'.new.1.1.1.0 read-id'.new.1.1.1.1.0 a.nodes.now l) in
-    let y = rw c.before.before.before.before.before.if2.false at read-id2'.ensures in
-    room_next s q (place read-id2'.new.1.1.1.0 read-id2'.new.1.1.1.1.0 a.nodes.now l) y.2.inside y.2.pace y.2.paced (room_next s p q x.2.inside x.2.pace x.2.paced c.before.before.before.before.before.before.before.before.before.before.before.before.before.before.before.before.before.before.before.before.before.before.before.before.before.before.before.before.before.requires)
+    let x = rw c.if-a-ne0.false at read-id'.ensures in
+    let q = (place c.read_id-a.new.at c.read_id-a.new.top a.nodes.now l) in
+    let y = rw c.if-b-ne0.false at read-id2'.ensures in
+    room_next s q (place c.read_id-b.new.at c.read_id-b.new.top a.nodes.now l) y.2.inside y.2.pace y.2.paced (room_next s p q x.2.inside x.2.pace x.2.paced c.requires)
 
-same-length-5 : tie.Need-same-length-5
+same-length-5 : tie.Need-shape_of-kinds
 same-length-5 c = search rules
 
-same-length-6 : tie.Need-same-length-6
+same-length-6 : tie.Need-shape_of-vals
 same-length-6 c = search rules
 
-returns-3 : tie.Need-returns-3
+returns-3 : tie.Need-returns
 returns-3 c =
-    let a = c.before.before.before.before.before.before.before.before.before.before.before.before.before.before.before.before.before.before.before.before.before.before.before.before.before.before.before.before.before.before.before.before.before.before.args in
-    let read-id' = c.before.before.before.before.before.before.before.before.before.before.before.before.before.before.before.before.before.before.before.before.before.before.before.before.before.read-id in
-    let read-id2' = c.before.before.before.before.before.before.before.before.before.before.before.before.before.before.before.read-id2 in
-    let read-term' = c.before.before.before.before.read-term in
-    let s = a.s.now in
-    let l = a.limit in
+    let a = c.args in
+    let read-id' = c.read_id-a in
+    let read-id2' = c.read_id-b in
+    let read-term' = c.read_term in
+    let s = c.args.s.now in
+    let l = c.args.limit in
     let p = place a.at.now a.top.now a.nodes.now l in
     let t = term s a.issued a.levels in
     let d = area a.kinds.now a.vals.now in
-    let e = (area read-id'.new.1.0 read-id'.new.1.1.0) in
-    let f = (area read-id2'.new.1.0 read-id2'.new.1.1.0) in
-    let x = rw c.before.before.before.before.before.before.before.before.before.before.before.before.before.before.before.before.before.before.before.before.if1.false at read-id'.ensures in
-    let q = (place read-id'.new.1.1.1.0 read-id'.new.1.1.1.1.0 a.nodes.now l) in
-    let u = (place read-id2'.new.1.1.1.0 read-id2'.new.1.1.1.1.0 a.nodes.now l) in
-    let y = rw c.before.before.before.before.before.before.before.before.before.before.if2.false at read-id2'.ensures in
-    single_yes s t (keys a.first a.second) p d f u (keys_yes s a.first a.second p d e q x f (Next u) y) (area read-term'.new.1.0 read-term'.new.1.1.0) (step_of read-term'.result read-term'.new.1.1.1.0 read-term'.new.1.1.1.1.0 read-term'.new.1.1.1.1.1.0 l) read-term'.ensures
+    let e = (area c.read_id-a.new.kinds c.read_id-a.new.vals) in
+    let f = (area c.read_id-b.new.kinds c.read_id-b.new.vals) in
+    let x = rw c.if-a-ne0.false at read-id'.ensures in
+    let q = (place c.read_id-a.new.at c.read_id-a.new.top a.nodes.now l) in
+    let u = (place c.read_id-b.new.at c.read_id-b.new.top a.nodes.now l) in
+    let y = rw c.if-b-ne0.false at read-id2'.ensures in
+    single_yes s t (keys a.first a.second) p d f u (keys_yes s a.first a.second p d e q x f (Next u) y) (area c.read_term.new.kinds c.read_term.new.vals) (step_of read-term'.result c.read_term.new.at c.read_term.new.top c.read_term.new.nodes l) read-term'.ensures
 
-pub read-record-spec : {M : Type 1} → statement M
-read-record-spec = tie.close (tie.spec read-id-requires same_length same-length-2 returns read-id-requires-2 same-length-3 same-length-4 returns-2 read-term-requires same-length-5 same-length-6 returns-3)
+pub read_record_spec : {M : Type 1} → statement M
+read_record_spec = tie.close (tie.spec read-id-requires same_length same-length-2 returns read-id-requires-2 same-length-3 same-length-4 returns-2 read-term-requires same-length-5 same-length-6 returns-3)

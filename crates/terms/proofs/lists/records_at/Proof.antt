@@ -391,7 +391,7 @@ module _ {M : Type 1} {𝓤 : Ura M} (𝓛 : Logic 𝓤) (mem : Memory → SProp
       (Goes-none_slice 𝓛 3 (0 ∷ []) tt (plain (λ _. u8)) as_passed, (Goes-none 𝓛 3 (λ _. Z.the_row) as_passed (λ κs x f. refl), (Goes-slice 𝓛 3 1 tt (plain (λ _. u32)), (Goes-slice 𝓛 3 2 tt (plain (λ _. u32)), (Goes-none 𝓛 3 (λ _. U.the_row) as_passed (λ κs x f. refl), tt)))))
       (the-fn.clauses 𝓛 mem run) (WpFn 𝓤 H 𝓣.C 𝓣.Λ code.function) (WpFn-mono 𝓤 H 𝓛.laws 𝓣 code.function) records-at-walks
 
-pub records-at-spec : {M : Type 1} → stated.statement M
+pub records_at_spec : {M : Type 1} → stated.statement M
 unfolding code.routine tables_of
 records-at-spec 𝓤 𝓛 𝓜 𝓡 =
     entered 𝓤 𝓛.H (triple_of 𝓛 the-fn.signature (the-fn.spec 𝓛 𝓜.mem 𝓡.run))

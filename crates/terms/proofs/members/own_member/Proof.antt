@@ -8,127 +8,120 @@ use borrow.Author.Rules.{rules}
 use Rattle.terms.proofs.members.own_member.Statement.{statement}
 use Rattle.terms.proofs.members.own_member.Tie as tie
 
-add-number-at : tie.Need-overflow-add-number-at
-add-number-at c = omega (arith, c.before.before.before.before.requires.1.low)
+add-number-at : tie.Need-overflow_add-m
+add-number-at c = omega (arith, c.requires.1.low)
 
-number-at-requires : tie.Need-number-at-requires
-number-at-requires c κs = c.before.before.before.before.requires.0
+number-at-requires : tie.Need-number_at-key-requires
+number-at-requires c κs = c.requires.0
 
-cast-key : tie.Need-overflow-cast-key
-cast-key c = omega (arith, c.number_at.ensures.0)
+cast-key : tie.Need-overflow_cast-key
+cast-key c = omega (arith, c.number_at-key.ensures.0)
 
-add-child-at : tie.Need-overflow-add-child-at
-add-child-at c = omega (arith, c.before.before.before.before.before.requires.1.few)
+add-child-at : tie.Need-overflow_add-n
+add-child-at c = omega (arith, c.requires.1.few)
 
-add-child-at-2 : tie.Need-overflow-add-child-at-2
-add-child-at-2 c = omega (arith, c.before.before.before.before.before.requires.1.few, c.before.before.before.before.before.requires.1.low)
+add-child-at-2 : tie.Need-overflow_add-n-2
+add-child-at-2 c = omega (arith, c.requires.1.few, c.requires.1.low)
 
-child-at-requires : tie.Need-child-at-requires
-child-at-requires c κs = c.before.before.before.before.before.requires.0
+child-at-requires : tie.Need-child_at-argument-requires
+child-at-requires c κs = c.requires.0
 
-enum_told : tie.Need-enum-told
+enum_told : tie.Need-enum_told-1
 enum_told c = search rules
 
-returns : tie.Need-returns
+returns : tie.Need-returns-in-At
 returns c =
-    let start = c.before.before.before.before.before.before.before.before in
-    λ S t w. let r = rw c.enum_told.given.1 at (c.before.before.child-at.ensures S t w) in own_stop t _ _ (start.requires.1.arguments.is start.args.heads.now
-    start.args.kids.now S start.args.x.kids t w) (start.requires.1.members.is start.args.heads.now start.args.kids.now S start.args.x.kids
-    t w) (own_args t _ _ (start.requires.1.arguments.is start.args.heads.now start.args.kids.now S start.args.x.kids t w) (start.requires.1.members.is
-    start.args.heads.now start.args.kids.now S start.args.x.kids t w) r.0 r.1)
+    λ S t w. let r = rw c.in-At.is at (c.child_at-argument.ensures S t w) in own_stop t _ _ (c.requires.1.arguments.is c.args.heads.now
+    c.args.kids.now S c.args.x.kids t w) (c.requires.1.members.is c.args.heads.now c.args.kids.now S c.args.x.kids
+    t w) (own_args t _ _ (c.requires.1.arguments.is c.args.heads.now c.args.kids.now S c.args.x.kids t w) (c.requires.1.members.is
+    c.args.heads.now c.args.kids.now S c.args.x.kids t w) r.0 r.1)
 
-enum-told-2 : tie.Need-enum-told-2
+enum-told-2 : tie.Need-enum_told-in_default
 enum-told-2 c = search rules
 
-member-of-requires : tie.Need-member-of-requires
-member-of-requires c κs = (c.before.before.before.before.before.before.before.before.requires.0, (c.before.before.before.before.before.before.before.before.requires.1, omega arith))
+member-of-requires : tie.Need-member_of-own-requires
+member-of-requires c κs = (c.requires.0, (c.requires.1, omega arith))
 
-enum-known-own : tie.Need-enum-known-own
+enum-known-own : tie.Need-enum_known-own
 enum-known-own c = search rules
 
-returns-2 : tie.Need-returns-2
+returns-2 : tie.Need-returns-in-At-own
 returns-2 c =
-    let start = c.before.before.before.before.before.before.before.before.before.before.before.before in
-    λ S t w. let r = rw c.before.own.given.1 at (c.before.before.before.member_of.ensures S t w) in (
+    λ S t w. let r = rw c.in-At-own.is at (c.member_of-own.ensures S t w) in (
       r.0,
-      own_found t _ _ (start.requires.1.arguments.is
-          start.args.heads.now start.args.kids.now S start.args.x.kids t w) (start.requires.1.members.is start.args.heads.now start.args.kids.now
-          S start.args.x.kids t w) _ (c.before.before.before.before.before.before.before.number_at.ensures.1.is start.args.heads.now start.args.kids.now S start.args.x.kids t w) (own_plain t _ _ (start.requires.1.arguments.is start.args.heads.now start.args.kids.now S
-          start.args.x.kids t w) (start.requires.1.members.is start.args.heads.now start.args.kids.now S start.args.x.kids t w) (rw c.before.before.before.before.enum-told2.given.1
-          at (c.before.before.before.before.before.before.child-at.ensures S t w))) r.0 r.1,
+      own_found t _ _ (c.requires.1.arguments.is
+          c.args.heads.now c.args.kids.now S c.args.x.kids t w) (c.requires.1.members.is c.args.heads.now c.args.kids.now
+          S c.args.x.kids t w) _ (c.number_at-key.ensures.1.is c.args.heads.now c.args.kids.now S c.args.x.kids t w) (own_plain t _ _ (c.requires.1.arguments.is c.args.heads.now c.args.kids.now S
+          c.args.x.kids t w) (c.requires.1.members.is c.args.heads.now c.args.kids.now S c.args.x.kids t w) (rw c.in_default.is
+          at (c.child_at-argument.ensures S t w))) r.0 r.1,
       r.2,
     )
 
-enum-told-3 : tie.Need-enum-told-3
+enum-told-3 : tie.Need-enum_told-in_default-own
 enum-told-3 c = search rules
 
-child-at-requires-2 : tie.Need-child-at-requires-2
-child-at-requires-2 c κs = c.before.before.before.before.before.before.before.before.before.before.before.requires.0
+child-at-requires-2 : tie.Need-child_at-receiver-requires
+child-at-requires-2 c κs = c.requires.0
 
-enum-known-receiver : tie.Need-enum-known-receiver
+enum-known-receiver : tie.Need-enum_known-receiver
 enum-known-receiver c = search rules
 
-enum-told-4 : tie.Need-enum-told-4
+enum-told-4 : tie.Need-enum_told-in_default-receiver
 enum-told-4 c = search rules
 
-returns-3 : tie.Need-returns-3
+returns-3 : tie.Need-returns-in_default-receiver
 returns-3 c =
-    let start = c.before.before.before.before.before.before.before.before.before.before.before.before.before.before in
-    λ S t w. own_empty t _ _ (start.requires.1.arguments.is start.args.heads.now start.args.kids.now S start.args.x.kids t w) (start.requires.1.members.is
-    start.args.heads.now start.args.kids.now S start.args.x.kids t w) _ (c.before.before.before.before.before.before.before.before.before.number_at.ensures.1.is
-    start.args.heads.now start.args.kids.now S start.args.x.kids t w) (own_plain t _ _ (start.requires.1.arguments.is start.args.heads.now
-    start.args.kids.now S start.args.x.kids t w) (start.requires.1.members.is start.args.heads.now start.args.kids.now S start.args.x.kids
-    t w) (rw c.before.before.before.before.before.before.enum-told2.given.1 at (c.before.before.before.before.before.before.before.before.child-at.ensures
-    S t w))) (rw c.before.before.before.enum-told3.given.1 at (c.before.before.before.before.before.member_of.ensures S t w)) (rw c.enum-told4.given.1
-    at (c.before.before.child-at2.ensures S t w))
+    λ S t w. own_empty t _ _ (c.requires.1.arguments.is c.args.heads.now c.args.kids.now S c.args.x.kids t w) (c.requires.1.members.is
+    c.args.heads.now c.args.kids.now S c.args.x.kids t w) _ (c.number_at-key.ensures.1.is
+    c.args.heads.now c.args.kids.now S c.args.x.kids t w) (own_plain t _ _ (c.requires.1.arguments.is c.args.heads.now
+    c.args.kids.now S c.args.x.kids t w) (c.requires.1.members.is c.args.heads.now c.args.kids.now S c.args.x.kids
+    t w) (rw c.in_default.is at (c.child_at-argument.ensures
+    S t w))) (rw c.in_default-own.is at (c.member_of-own.ensures S t w)) (rw c.in_default-receiver.is
+    at (c.child_at-receiver.ensures S t w))
 
-tag-at-requires : tie.Need-tag-at-requires
-tag-at-requires c κs = c.before.before.before.before.before.before.before.before.before.before.before.before.before.before.before.requires.0
+tag-at-requires : tie.Need-tag_at-requires
+tag-at-requires c κs = c.requires.0
 
-returns-4 : tie.Need-returns-4
+returns-4 : tie.Need-returns-then-tag_at-ne15
 returns-4 c =
-    let start = c.before.before.before.before.before.before.before.before.before.before.before.before.before.before.before.before.before
-    in
     λ S t w.
-    let r = rw c.before.before.before.receiver.given.1 at (c.before.before.before.before.before.child-at2.ensures S t w) in
-    own_other t _ _ (start.pre.1.arguments.is start.args.heads.now start.args.kids.now S start.args.x.kids t w) (start.pre.1.members.is
-    start.args.heads.now start.args.kids.now S start.args.x.kids t w) _ (c.before.before.before.before.before.before.before.before.before.before.before.before.number_at.ensures.1.is
-    start.args.heads.now start.args.kids.now S start.args.x.kids t w) (own_plain t _ _ (start.pre.1.arguments.is start.args.heads.now
-    start.args.kids.now S start.args.x.kids t w) (start.pre.1.members.is start.args.heads.now start.args.kids.now S start.args.x.kids
-    t w) (rw c.before.before.before.before.before.before.before.before.before.enum-told2.given.1 at (c.before.before.before.before.before.before.before.before.before.before.before.child-at.ensures
-    S t w))) (rw c.before.before.before.before.before.before.enum-told3.given.1 at (c.before.before.before.before.before.before.before.before.member_of.ensures
-    S t w)) r.0 r.1 _ (c.before.tag_at.ensures.is start.args.heads.now start.args.kids.now S _ r.0 r.2) c.if1.true
+    let r = rw c.in-At-receiver.is at (c.child_at-receiver.ensures S t w) in
+    own_other t _ _ (c.requires.1.arguments.is c.args.heads.now c.args.kids.now S c.args.x.kids t w) (c.requires.1.members.is
+    c.args.heads.now c.args.kids.now S c.args.x.kids t w) _ (c.number_at-key.ensures.1.is
+    c.args.heads.now c.args.kids.now S c.args.x.kids t w) (own_plain t _ _ (c.requires.1.arguments.is c.args.heads.now
+    c.args.kids.now S c.args.x.kids t w) (c.requires.1.members.is c.args.heads.now c.args.kids.now S c.args.x.kids
+    t w) (rw c.in_default.is at (c.child_at-argument.ensures
+    S t w))) (rw c.in_default-own.is at (c.member_of-own.ensures
+    S t w)) r.0 r.1 _ (c.tag_at.ensures.is c.args.heads.now c.args.kids.now S _ r.0 r.2) c.if-tag_at-ne15.true
 
-number-at-requires-2 : tie.Need-number-at-requires-2
-number-at-requires-2 c κs = c.before.before.before.before.before.before.before.before.before.before.before.before.before.before.before.before.before.requires.0
+number-at-requires-2 : tie.Need-number_at-a-requires
+number-at-requires-2 c κs = c.requires.0
 
-number-at-requires-3 : tie.Need-number-at-requires-3
-number-at-requires-3 c κs = c.before.before.before.before.before.before.before.before.before.before.before.before.before.before.before.before.before.before.requires.0
+number-at-requires-3 : tie.Need-number_at-b-requires
+number-at-requires-3 c κs = c.requires.0
 
-member-of-requires-2 : tie.Need-member-of-requires-2
+member-of-requires-2 : tie.Need-member_of-requires
 member-of-requires-2 c κs = (
-  c.before.before.before.before.before.before.before.before.before.before.before.before.before.before.before.before.before.before.before.requires.0,
-  (counted _ _ _ _ c.before.number-at2.ensures c.number-at3.ensures, omega arith),
+  c.requires.0,
+  (counted _ _ _ _ c.number_at-a.ensures c.number_at-b.ensures, omega arith),
 )
 
-returns-5 : tie.Need-returns-5
+returns-5 : tie.Need-returns
 returns-5 c =
-    let start = c.before.before.before.before.before.before.before.before.before.before.before.before.before.before.before.before.before.before.before.before
-    in
     λ S t w.
-    let r = rw c.before.before.before.before.before.before.receiver.given.1 at (c.before.before.before.before.before.before.before.before.child-at2.ensures S t w) in
-    let e = own_trait t _ _ (start.pre.1.arguments.is start.args.heads.now start.args.kids.now S start.args.x.kids t w) (start.pre.1.members.is
-    start.args.heads.now start.args.kids.now S start.args.x.kids t w) _ (c.before.before.before.before.before.before.before.before.before.before.before.before.before.before.before.number_at.ensures.1.is
-    start.args.heads.now start.args.kids.now S start.args.x.kids t w) (own_plain t _ _ (start.pre.1.arguments.is start.args.heads.now
-    start.args.kids.now S start.args.x.kids t w) (start.pre.1.members.is start.args.heads.now start.args.kids.now S start.args.x.kids
-    t w) (rw c.before.before.before.before.before.before.before.before.before.before.before.before.enum-told2.given.1 at (c.before.before.before.before.before.before.before.before.before.before.before.before.before.before.child-at.ensures
-    S t w))) (rw c.before.before.before.before.before.before.before.before.before.enum-told3.given.1 at (c.before.before.before.before.before.before.before.before.before.before.before.member_of.ensures
-    S t w)) r.0 r.1 _ (c.before.before.before.before.tag_at.ensures.is start.args.heads.now start.args.kids.now S _ r.0 r.2) c.before.before.before.if1.false
+    let r = rw c.in-At-receiver.is at (c.child_at-receiver.ensures S t w) in
+    let e = own_trait t _ _ (c.requires.1.arguments.is c.args.heads.now c.args.kids.now S c.args.x.kids t w) (c.requires.1.members.is
+    c.args.heads.now c.args.kids.now S c.args.x.kids t w) _ (c.number_at-key.ensures.1.is
+    c.args.heads.now c.args.kids.now S c.args.x.kids t w) (own_plain t _ _ (c.requires.1.arguments.is c.args.heads.now
+    c.args.kids.now S c.args.x.kids t w) (c.requires.1.members.is c.args.heads.now c.args.kids.now S c.args.x.kids
+    t w) (rw c.in_default.is at (c.child_at-argument.ensures
+    S t w))) (rw c.in_default-own.is at (c.member_of-own.ensures
+    S t w)) r.0 r.1 _ (c.tag_at.ensures.is c.args.heads.now c.args.kids.now S _ r.0 r.2) c.if-tag_at-ne15.false
     in
-    rw e (c.member-of2.ensures S r.0 r.2)
+    rw e (c.member_of.ensures S r.0 r.2)
 
-pub own-member-spec : {M : Type 1} → statement M
-own-member-spec =
+pub own_member_spec : {M : Type 1} → statement M
+own_member_spec =
     tie.close
     (tie.spec
     add-number-at

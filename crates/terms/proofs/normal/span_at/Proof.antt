@@ -7,7 +7,7 @@ use borrow.Author.Rules.{rules}
 use Rattle.terms.proofs.normal.span_at.Statement.{statement}
 use Rattle.terms.proofs.normal.span_at.Tie as tie
 
-wide-requires : tie.Need-wide-requires
+wide-requires : tie.Need-wide-from-requires
 wide-requires c κs = search rules
 
 word-requires : tie.Need-word-requires
@@ -24,13 +24,13 @@ least-requires c κs = search rules
 
 returns : tie.Need-returns
 returns c =
-    let start = c.before.before.before.before.before.before.before in (
+    (
       omega (arith, c.least.ensures),
-      λ t h le. span_told start.args.kinds.now start.args.vals.now _ _ _ _ _ c.before.before.before.before.wide.ensures
-          c.before.before.before.word.ensures c.before.before.word2.ensures c.before.step.ensures.1 c.least.ensures t h le,
+      λ t h le. span_told c.args.kinds.now c.args.vals.now _ _ _ _ _ c.wide-from.ensures
+          c.word.ensures c.word-2.ensures c.step.ensures.1 c.least.ensures t h le,
     )
 
-pub span-at-spec : {M : Type 1} → statement M
-span-at-spec =
+pub span_at_spec : {M : Type 1} → statement M
+span_at_spec =
     tie.close
     (tie.spec wide-requires word-requires word-requires-2 step-requires least-requires returns)

@@ -11,41 +11,41 @@ use Rattle.terms.proofs.numbers.read_number.Statement.{statement}
 use Rattle.terms.proofs.numbers.read_number.Tie as tie
 
 -- the number, with the byte that was read in front
-byte-here : (c : tie.After-wide) →
-    let a = c.before.before.before.before.args in
-    groups a.most 0 1 a.at (c.wide.result ∷ drop (a.at + 1) a.s.now) ≡ number a.most a.s.now a.at
-byte-here c = rw (c.wide.ensures, ← at_byte _ _ c.before.before.if1.false)
+byte-here : (c : tie.After-wide-b) →
+    let a = c.args in
+    groups a.most 0 1 a.at (c.wide-b.result ∷ drop (a.at + 1) a.s.now) ≡ number a.most a.s.now a.at
+byte-here c = rw (c.wide-b.ensures, ← at_byte _ _ c.if-s-at.false)
 
-returns : tie.Need-returns
-returns c = sym (at-end _ _ _ _ _ c.if1.true)
+returns : tie.Need-returns-then-s-at
+returns c = sym (at-end _ _ _ _ _ c.if-s-at.true)
 
-shared-slice-read-wide : tie.Need-shared-slice-read-wide
+shared-slice-read-wide : tie.Need-bounds-s-at
 shared-slice-read-wide c = search rules
 
-wide-requires : tie.Need-wide-requires
+wide-requires : tie.Need-wide-b-requires
 wide-requires c κs = search rules
 
-read-groups-requires : tie.Need-read-groups-requires
+read-groups-requires : tie.Need-read_groups-requires
 read-groups-requires c κs = search rules
 
-returns-2 : tie.Need-returns-2
+returns-2 : tie.Need-returns-then-b-ge128
 returns-2 c = search rules
 
-returns-3 : tie.Need-returns-3
+returns-3 : tie.Need-returns-then-most-b
 returns-3 c =
-    let a = c.before.before.before.before.before.before.args in
-    sym (step_over a.most 0 1 a.at c.before.before.wide.result _ (omega (arith, c.if3.true))) ∙ byte-here c.before.before
+    let a = c.args in
+    sym (step_over a.most 0 1 a.at c.wide-b.result _ (omega (arith, c.if-most-b.true))) ∙ byte-here c.before.before
 
-add-t5 : tie.Need-overflow-add-t5
+add-t5 : tie.Need-overflow_add-result
 add-t5 c = search rules
 
-returns-4 : tie.Need-returns-4
+returns-4 : tie.Need-returns
 returns-4 c =
-    let a = c.before.before.before.before.before.before.args in
-    sym (one_group a.most a.at c.before.before.wide.result _ c.if3.false c.before.if2.false) ∙ byte-here c.before.before
+    let a = c.args in
+    sym (one_group a.most a.at c.wide-b.result _ c.if-most-b.false c.if-b-ge128.false) ∙ byte-here c.before.before
 
-pub read-number-spec : {M : Type 1} → statement M
-read-number-spec =
+pub read_number_spec : {M : Type 1} → statement M
+read_number_spec =
     tie.close
     (tie.spec
     returns

@@ -5,47 +5,47 @@ use borrow.Author.Rules.{rules}
 use Rattle.terms.proofs.opening.begin.Statement.{statement}
 use Rattle.terms.proofs.opening.begin.Tie as tie
 
-put-children-requires : tie.Need-put-children-requires
-put-children-requires c κs = c.before.before.before.before.before.before.requires
+put-children-requires : tie.Need-put_children-c-requires
+put-children-requires c κs = c.requires
 
-tag-at-requires : tie.Need-tag-at-requires
-tag-at-requires c κs = c.before.before.before.before.before.before.before.before.before.before.before.requires.sight
+tag-at-requires : tie.Need-tag_at-tag-requires
+tag-at-requires c κs = c.requires.sight
 
-same_length : tie.Need-same-length
+same_length : tie.Need-shape_of-heads-then-tag-lt12
 same_length c = search rules
 
-same-length-2 : tie.Need-same-length-2
+same-length-2 : tie.Need-shape_of-kids-then-tag-lt12
 same-length-2 c = search rules
 
-returns : tie.Need-returns
+returns : tie.Need-returns-then-tag-lt12
 returns c =
-    let put-children' = c.before.before.before.before.before.before.put-children in
-    let tag' = c.before.tag_at.ensures in (
+    let put-children' = c.put_children-c in
+    let tag' = c.tag_at-tag.ensures in (
       put-children'.ensures.0,
       (
         put-children'.ensures.1.0,
-        (put-children'.ensures.1.1, (ordered_plain _ _ _ _ _ tag' c.if1.true, (tag', λ le. absurd (omega (arith, c.if1.true))))),
+        (put-children'.ensures.1.1, (ordered_plain _ _ _ _ _ tag' c.if-tag-lt12.true, (tag', λ le. absurd (omega (arith, c.if-tag-lt12.true))))),
       ),
     )
 
-number-at-requires : tie.Need-number-at-requires
-number-at-requires c κs = c.before.before.before.before.before.before.before.before.before.before.before.before.before.requires.sight
+number-at-requires : tie.Need-number_at-arguments-requires
+number-at-requires c κs = c.requires.sight
 
-number-at-requires-2 : tie.Need-number-at-requires-2
-number-at-requires-2 c κs = c.before.before.before.before.before.before.before.before.before.before.before.before.before.before.requires.sight
+number-at-requires-2 : tie.Need-number_at-members-requires
+number-at-requires-2 c κs = c.requires.sight
 
-same-length-3 : tie.Need-same-length-3
+same-length-3 : tie.Need-shape_of-heads
 same-length-3 c = search rules
 
-same-length-4 : tie.Need-same-length-4
+same-length-4 : tie.Need-shape_of-kids
 same-length-4 c = search rules
 
-returns-2 : tie.Need-returns-2
+returns-2 : tie.Need-returns
 returns-2 c =
-    let put-children' = c.before.before.before.before.before.before.before.before.put-children in
-    let tag' = c.before.before.before.tag_at.ensures in
-    let arguments' = c.before.number_at.ensures in
-    let members' = c.number-at2.ensures in (
+    let put-children' = c.put_children-c in
+    let tag' = c.tag_at-tag.ensures in
+    let arguments' = c.number_at-arguments.ensures in
+    let members' = c.number_at-members.ensures in (
       put-children'.ensures.0,
       (
         put-children'.ensures.1.0,
@@ -59,8 +59,8 @@ returns-2 c =
       ),
     )
 
-pub begin-spec : {M : Type 1} → statement M
-begin-spec =
+pub begin_spec : {M : Type 1} → statement M
+begin_spec =
     tie.close
     (tie.spec
     put-children-requires

@@ -8,20 +8,18 @@ use Rattle.terms.proofs.opening.tag_at.Tie as tie
 wide-requires : tie.Need-wide-requires
 wide-requires c κs = search rules
 
-token-at-requires : tie.Need-token-at-requires
-token-at-requires c κs = c.before.before.before.requires
+token-at-requires : tie.Need-token_at-x-requires
+token-at-requires c κs = c.requires
 
-returns : tie.Need-returns
+returns : tie.Need-returns-then-x-lt2
 returns c =
-    let start = c.before.before.before.before.before.before in
-    tag_low (view start.args.kinds.now start.args.vals.now start.args.g) _ _ _ c.before.before.before.wide.ensures c.before.before.token-at.ensures.0
-    c.if1.true
+    tag_low (view c.args.kinds.now c.args.vals.now c.args.g) _ _ _ c.wide.ensures c.token_at-x.ensures.0
+    c.if-x-lt2.true
 
-returns-2 : tie.Need-returns-2
+returns-2 : tie.Need-returns
 returns-2 c =
-    let start = c.before.before.before.before.before.before.before in
-    tag_high (view start.args.kinds.now start.args.vals.now start.args.g) _ _ _ c.before.before.before.before.wide.ensures c.before.before.before.token-at.ensures.0
-    c.before.if1.false
+    tag_high (view c.args.kinds.now c.args.vals.now c.args.g) _ _ _ c.wide.ensures c.token_at-x.ensures.0
+    c.if-x-lt2.false
 
-pub tag-at-spec : {M : Type 1} → statement M
-tag-at-spec = tie.close (tie.spec wide-requires token-at-requires returns returns-2)
+pub tag_at_spec : {M : Type 1} → statement M
+tag_at_spec = tie.close (tie.spec wide-requires token-at-requires returns returns-2)

@@ -15,109 +15,109 @@ use borrow.Author.Rules.{rules}
 use Rattle.terms.proofs.questions.ask_row.Statement.{statement}
 use Rattle.terms.proofs.questions.ask_row.Tie as tie
 
-abbrev invariant-loop : tie.invariant-loop
+abbrev invariant-loop : tie.invariant-loop-p
 invariant-loop kinds vals a e question s at params p₀ p =
     (p ≤ e) × ((qs : List Parameter) (n : ℕ) → parameters s params at ≡ got qs n → (w : Bool) → Asking kinds vals a e (counted qs question) (entered question) w → Asking kinds vals p e (counted qs question) (entered question) w)
 
-abbrev decreases-loop : tie.decreases-loop
+abbrev decreases-loop : tie.decreases-loop-p
 decreases-loop kinds vals a e question s at params p₀ p = e - p
 
-loop-holds : tie.Need-loop-init invariant-loop decreases-loop
+loop-holds : tie.Need-loop-p-init invariant-loop decreases-loop
 loop-holds c = (omega arith, λ qs n h w y. y)
 
-mul-k : tie.Need-overflow-mul-k invariant-loop decreases-loop
+mul-k : tie.Need-offset_bounds-kinds-p invariant-loop decreases-loop
 mul-k c = search rules
 
-shared-slice-read-k : tie.Need-shared-slice-read-k invariant-loop decreases-loop
+shared-slice-read-k : tie.Need-bounds-kinds-p invariant-loop decreases-loop
 shared-slice-read-k c = search rules
 
-add-p : tie.Need-overflow-add-p invariant-loop decreases-loop
+add-p : tie.Need-overflow_add-p invariant-loop decreases-loop
 add-p c = omega arith
 
-loop-less : tie.Need-loop-smaller invariant-loop decreases-loop
+loop-less : tie.Need-loop-p-smaller-then-k-eq0 invariant-loop decreases-loop
 loop-less c = omega arith
 
-loop-again : tie.Need-loop-preserved invariant-loop decreases-loop
-loop-again c = (omega arith, λ qs n h w y. ask_number _ _ _ _ _ _ w (c.before.before.before.loop.invariant.1 qs n h w y) c.before.before.loop-test.true c.if1.true)
+loop-again : tie.Need-loop-p-preserved-then-k-eq0 invariant-loop decreases-loop
+loop-again c = (omega arith, λ qs n h w y. ask_number _ _ _ _ _ _ w (c.loop-p.invariant.1 qs n h w y) c.loop-p-test.true c.if-k-eq0.true)
 
-tag-of-requires : tie.Need-tag-of-requires invariant-loop decreases-loop
+tag-of-requires : tie.Need-tag_of-tag-requires invariant-loop decreases-loop
 tag-of-requires c κs = omega arith
 
-add-word-at : tie.Need-overflow-add-word-at invariant-loop decreases-loop
+add-word-at : tie.Need-overflow_add-p-else-k-eq0 invariant-loop decreases-loop
 add-word-at c = search rules
 
-word-at-requires : tie.Need-word-at-requires invariant-loop decreases-loop
+word-at-requires : tie.Need-word_at-x-requires invariant-loop decreases-loop
 word-at-requires c κs = search rules
 
-add-word-at-2 : tie.Need-overflow-add-word-at-2 invariant-loop decreases-loop
+add-word-at-2 : tie.Need-overflow_add-p-else-k-eq0-2 invariant-loop decreases-loop
 add-word-at-2 c = search rules
 
-word-at-requires-2 : tie.Need-word-at-requires-2 invariant-loop decreases-loop
+word-at-requires-2 : tie.Need-word_at-y-requires invariant-loop decreases-loop
 word-at-requires-2 c κs = search rules
 
 counts-requires : tie.Need-counts-requires invariant-loop decreases-loop
 counts-requires c κs = search rules
 
-returns : tie.Need-returns invariant-loop decreases-loop
+returns : tie.Need-returns-then-counts invariant-loop decreases-loop
 returns c =
     λ qs n h w y.
-    let a = c.before.before.before.before.before.before.before.before.before.before.before.before.args in
-    let x = ask_term (counted qs a.question) (entered a.question) _ _ _ _ w (c.before.before.before.before.before.before.before.before.loop.invariant.1 qs n h w y) c.before.before.before.before.before.before.before.loop-test.true c.before.before.before.before.before.if1.false in
-    let g : c.before.before.before.before.tag_of.result ≡ tag x.term = c.before.before.before.before.tag_of.ensures ∙ ap tag_of (held_first _ _ _ x.term x.here).0 ∙ tag_kind x.term in
+    let a = c.args in
+    let x = ask_term (counted qs a.question) (entered a.question) _ _ _ _ w (c.loop-p.invariant.1 qs n h w y) c.loop-p-test.true c.if-k-eq0.false in
+    let g : c.tag_of-tag.result ≡ tag x.term = c.tag_of-tag.ensures ∙ ap tag_of (held_first _ _ _ x.term x.here).0 ∙ tag_kind x.term in
     let k : counted qs a.question x.term ≡ true =
-    sym (told_counts _ _ _ _ x.rest qs a.question x.term x.formed x.held) ∙ rw (← g, ← c.before.before.before.word_at.ensures, ← c.before.before.word-at2.ensures) (sym (c.before.counts.ensures qs n h) ∙ c.if2.true) in
+    sym (told_counts _ _ _ _ x.rest qs a.question x.term x.formed x.held) ∙ rw (← g, ← c.word_at-x.ensures, ← c.word_at-y.ensures) (sym (c.counts.ensures qs n h) ∙ c.if-counts.true) in
     ask_counts _ _ _ _ _ _ w x k
 
 enters-requires : tie.Need-enters-requires invariant-loop decreases-loop
 enters-requires c κs = search rules
 
-add-p-2 : tie.Need-overflow-add-p-2 invariant-loop decreases-loop
+add-p-2 : tie.Need-overflow_add-p-then-enters invariant-loop decreases-loop
 add-p-2 c = search rules
 
-loop-less-2 : tie.Need-loop-smaller-2 invariant-loop decreases-loop
+loop-less-2 : tie.Need-loop-p-smaller-then-enters invariant-loop decreases-loop
 loop-less-2 c = search rules
 
-loop-again-2 : tie.Need-loop-preserved-2 invariant-loop decreases-loop
+loop-again-2 : tie.Need-loop-p-preserved-then-enters invariant-loop decreases-loop
 loop-again-2 c = (
   omega arith,
   λ qs n h w y.
-      let a = c.before.before.before.before.before.before.before.before.before.before.before.before.before.before.args in
-      let x = ask_term (counted qs a.question) (entered a.question) _ _ _ _ w (c.before.before.before.before.before.before.before.before.before.before.loop.invariant.1 qs n h w y) c.before.before.before.before.before.before.before.before.before.loop-test.true c.before.before.before.before.before.before.before.if1.false in
-      let g : c.before.before.before.before.before.before.tag_of.result ≡ tag x.term = c.before.before.before.before.before.before.tag_of.ensures ∙ ap tag_of (held_first _ _ _ x.term x.here).0 ∙ tag_kind x.term in
+      let a = c.args in
+      let x = ask_term (counted qs a.question) (entered a.question) _ _ _ _ w (c.loop-p.invariant.1 qs n h w y) c.loop-p-test.true c.if-k-eq0.false in
+      let g : c.tag_of-tag.result ≡ tag x.term = c.tag_of-tag.ensures ∙ ap tag_of (held_first _ _ _ x.term x.here).0 ∙ tag_kind x.term in
       let k : counted qs a.question x.term ≡ false =
-      sym (told_counts _ _ _ _ x.rest qs a.question x.term x.formed x.held) ∙ rw (← g, ← c.before.before.before.before.before.word_at.ensures, ← c.before.before.before.before.word-at2.ensures) (sym (c.before.before.before.counts.ensures qs n h) ∙ c.before.before.if2.false) in
-      ask_enter _ _ _ _ _ _ w x k (ap (entered_by a.question) (sym g) ∙ sym c.before.enters.ensures ∙ c.if3.true),
+      sym (told_counts _ _ _ _ x.rest qs a.question x.term x.formed x.held) ∙ rw (← g, ← c.word_at-x.ensures, ← c.word_at-y.ensures) (sym (c.counts.ensures qs n h) ∙ c.if-counts.false) in
+      ask_enter _ _ _ _ _ _ w x k (ap (entered_by a.question) (sym g) ∙ sym c.enters.ensures ∙ c.if-enters.true),
 )
 
-sub-skip : tie.Need-overflow-sub-skip invariant-loop decreases-loop
+sub-skip : tie.Need-overflow_sub-e invariant-loop decreases-loop
 sub-skip c = search rules
 
-skip-requires : tie.Need-skip-requires invariant-loop decreases-loop
+skip-requires : tie.Need-skip-p-requires invariant-loop decreases-loop
 skip-requires c κs = search rules
 
-add-p-3 : tie.Need-overflow-add-p-3 invariant-loop decreases-loop
+add-p-3 : tie.Need-overflow_add-p-else-enters invariant-loop decreases-loop
 add-p-3 c = search rules
 
-loop-less-3 : tie.Need-loop-smaller-3 invariant-loop decreases-loop
+loop-less-3 : tie.Need-loop-p-smaller invariant-loop decreases-loop
 loop-less-3 c = search rules
 
-loop-again-3 : tie.Need-loop-preserved-3 invariant-loop decreases-loop
+loop-again-3 : tie.Need-loop-p-preserved invariant-loop decreases-loop
 loop-again-3 c = (
   omega arith,
   λ qs n h w y.
-      let a = c.before.before.before.before.before.before.before.before.before.before.before.before.before.before.before.args in
-      let x = ask_term (counted qs a.question) (entered a.question) _ _ _ _ w (c.before.before.before.before.before.before.before.before.before.before.before.loop.invariant.1 qs n h w y) c.before.before.before.before.before.before.before.before.before.before.loop-test.true c.before.before.before.before.before.before.before.before.if1.false in
-      let g : c.before.before.before.before.before.before.before.tag_of.result ≡ tag x.term = c.before.before.before.before.before.before.before.tag_of.ensures ∙ ap tag_of (held_first _ _ _ x.term x.here).0 ∙ tag_kind x.term in
+      let a = c.args in
+      let x = ask_term (counted qs a.question) (entered a.question) _ _ _ _ w (c.loop-p.invariant.1 qs n h w y) c.loop-p-test.true c.if-k-eq0.false in
+      let g : c.tag_of-tag.result ≡ tag x.term = c.tag_of-tag.ensures ∙ ap tag_of (held_first _ _ _ x.term x.here).0 ∙ tag_kind x.term in
       let k : counted qs a.question x.term ≡ false =
-      sym (told_counts _ _ _ _ x.rest qs a.question x.term x.formed x.held) ∙ rw (← g, ← c.before.before.before.before.before.before.word_at.ensures, ← c.before.before.before.before.before.word-at2.ensures) (sym (c.before.before.before.before.counts.ensures qs n h) ∙ c.before.before.before.if2.false) in
-      ask_pass _ _ _ _ _ _ w x _ k (ap (entered_by a.question) (sym g) ∙ sym c.before.before.enters.ensures ∙ c.before.if3.false) c.skip.ensures.2,
+      sym (told_counts _ _ _ _ x.rest qs a.question x.term x.formed x.held) ∙ rw (← g, ← c.word_at-x.ensures, ← c.word_at-y.ensures) (sym (c.counts.ensures qs n h) ∙ c.if-counts.false) in
+      ask_pass _ _ _ _ _ _ w x _ k (ap (entered_by a.question) (sym g) ∙ sym c.enters.ensures ∙ c.if-enters.false) c.skip-p.ensures.2,
 )
 
-returns-2 : tie.Need-returns-2 invariant-loop decreases-loop
-returns-2 c = λ qs n h w y. ask_end _ _ _ _ _ _ w (c.before.loop.invariant.1 qs n h w y) c.loop-test.false
+returns-2 : tie.Need-returns invariant-loop decreases-loop
+returns-2 c = λ qs n h w y. ask_end _ _ _ _ _ _ w (c.loop-p.invariant.1 qs n h w y) c.loop-p-test.false
 
-pub ask-row-spec : {M : Type 1} → statement M
-ask-row-spec =
+pub ask_row_spec : {M : Type 1} → statement M
+ask_row_spec =
     tie.close
     (tie.spec
     invariant-loop

@@ -5,14 +5,14 @@ use borrow.Author.Rules.{rules}
 use Rattle.terms.proofs.questions.enters.Statement.{statement}
 use Rattle.terms.proofs.questions.enters.Tie as tie
 
-returns : tie.Need-returns
-returns c = entered_four _ _ c.match.keys1
+returns : tie.Need-returns-in-4
+returns c = entered_four _ _ c.in-4.is
 
-returns-2 : tie.Need-returns-2
-returns-2 c = entered_few _ _ (omega (arith, c.if1.true))
+returns-2 : tie.Need-returns-in-0-to-1
+returns-2 c = entered_few _ _ (omega (arith, c.in-0-to-1.if-question-lt2-own.true))
 
-returns-3 : tie.Need-returns-3
-returns-3 c = entered_most _ _ (omega (arith, c.if1.false)) c.before.match.rest.1
+returns-3 : tie.Need-returns-in_default
+returns-3 c = entered_most _ _ (omega (arith, c.in_default.if-question-lt2-own.false)) c.in_default-1.rest.1
 
-pub enters-spec : {M : Type 1} → statement M
-enters-spec = tie.close (tie.spec returns returns-2 returns-3)
+pub enters_spec : {M : Type 1} → statement M
+enters_spec = tie.close (tie.spec returns returns-2 returns-3)

@@ -7,11 +7,11 @@ use Rattle.terms.proofs.questions.word_at.Tie as tie
 word-requires : tie.Need-word-requires
 word-requires c κs = search rules
 
-returns : tie.Need-returns
-returns c = rw (lt-ltb _ _ c.before.if1.true) c.word.ensures
+returns : tie.Need-returns-then-i-end
+returns c = rw (lt-ltb _ _ c.if-i-end.true) c.word.ensures
 
-returns-2 : tie.Need-returns-2
-returns-2 c = rw (le-ltb _ _ c.if1.false)
+returns-2 : tie.Need-returns
+returns-2 c = rw (le-ltb _ _ c.if-i-end.false)
 
-pub word-at-spec : {M : Type 1} → statement M
-word-at-spec = tie.close (tie.spec word-requires returns returns-2)
+pub word_at_spec : {M : Type 1} → statement M
+word_at_spec = tie.close (tie.spec word-requires returns returns-2)

@@ -18,8 +18,8 @@ use Rattle.terms.proofs.read.+read_nominal_read_pairs_read_plain_read_projection
 use Rattle.terms.proofs.read.+read_nominal_read_pairs_read_plain_read_projection_read_row_read_term_read_terms.Proof.ReadTerm.{member as read-term-member}
 use Rattle.terms.proofs.read.+read_nominal_read_pairs_read_plain_read_projection_read_row_read_term_read_terms.Proof.ReadTerms.{member as read-terms-member}
 
-pub +read-nominal-read-pairs-read-plain-read-projection-read-row-read-term-read-terms-spec : {M : Type 1} → statement M
-+read-nominal-read-pairs-read-plain-read-projection-read-row-read-term-read-terms-spec =
+pub +read_nominal_read_pairs_read_plain_read_projection_read_row_read_term_read_terms_spec : {M : Type 1} → statement M
++read_nominal_read_pairs_read_plain_read_projection_read_row_read_term_read_terms_spec =
     close μ-read-nominal μ-read-pairs μ-read-plain μ-read-projection μ-read-row μ-read-term μ-read-terms
     (λ t. read-nominal-member t)
     (λ t. read-pairs-member t)

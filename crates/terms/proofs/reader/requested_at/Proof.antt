@@ -229,7 +229,7 @@ wanted-at-meets {𝓤 = 𝓤} 𝓛 mem run 𝓣 known_next =
     (Goes-none_slice 𝓛 3 (0 ∷ []) tt (plain (λ _. u8)) yes, (Goes-none 𝓛 3 (λ _. Z.the_row) yes (λ κs x f. refl), (Goes-gave_slice 𝓛 3 1 tt (plain (λ _. u32)), (Goes-gave_slice 𝓛 3 2 tt (plain (λ _. u32)), (Goes-none 𝓛 3 (λ _. U.the_row) yes (λ κs x f. refl), tt))))) (the-fn.clauses 𝓛 mem run)
     (WpFn 𝓤 𝓛.H 𝓣.C 𝓣.Λ code.function) (WpFn-mono 𝓤 𝓛.H 𝓛.laws 𝓣 code.function) (wanted-at-walks 𝓛 mem run 𝓣.C 𝓣.Λ (fm_of 𝓤 𝓛.H 𝓛.laws 𝓣) known_next)
 
-pub requested-at-spec : {M : Type 1} → stated.statement M
+pub requested_at_spec : {M : Type 1} → stated.statement M
 unfolding code.routine tables_of
 requested-at-spec 𝓤 𝓛 𝓜 𝓡 =
     entered 𝓤 𝓛.H (triple_of 𝓛 the-fn.signature (the-fn.spec 𝓛 𝓜.mem 𝓡.run))

@@ -10,85 +10,85 @@ use borrow.Author.Rules.{rules}
 use Rattle.terms.proofs.recover.alike_rows.Statement.{statement}
 use Rattle.terms.proofs.recover.alike_rows.Tie as tie
 
-abbrev invariant-loop : tie.invariant-loop
+abbrev invariant-loop : tie.invariant-loop-a
 invariant-loop kinds vals a ae b be i₀ j₀ i j =
     (i ≤ ae) × (j ≤ be) × ((ps qs : Parts) → HeldParts kinds vals a ae ps → HeldParts kinds vals b be qs → Alike kinds vals i ae j be (alike ps qs))
 
-abbrev decreases-loop : tie.decreases-loop
+abbrev decreases-loop : tie.decreases-loop-a
 decreases-loop kinds vals a ae b be i₀ j₀ i j = ae - i
 
-loop-holds : tie.Need-loop-init invariant-loop decreases-loop
+loop-holds : tie.Need-loop-a-init invariant-loop decreases-loop
 loop-holds c = (omega arith, omega arith, λ ps qs h g. record { left = ps; right = qs; held_left = h; held_right = g; same = refl })
 
 paired-requires : tie.Need-paired-requires invariant-loop decreases-loop
-paired-requires c κs = (c.before.before.before.requires.1, c.before.before.before.requires.3)
+paired-requires c κs = (c.requires.1, c.requires.3)
 
 word-requires : tie.Need-word-requires invariant-loop decreases-loop
 word-requires c κs = search rules
 
-word-requires-2 : tie.Need-word-requires-2 invariant-loop decreases-loop
+word-requires-2 : tie.Need-word-requires-then-word-eq0 invariant-loop decreases-loop
 word-requires-2 c κs = search rules
 
-word-requires-3 : tie.Need-word-requires-3 invariant-loop decreases-loop
+word-requires-3 : tie.Need-word-requires-then-word-eq0-2 invariant-loop decreases-loop
 word-requires-3 c κs = search rules
 
-returns : tie.Need-returns invariant-loop decreases-loop
+returns : tie.Need-returns-then-word invariant-loop decreases-loop
 returns c = λ ps qs h g.
-    let y = c.before.before.before.before.before.before.paired.ensures.0 c.before.before.before.before.before.if1.true in
-    alike_differ _ _ _ _ _ _ _ (c.before.before.before.before.before.before.before.loop.invariant.2 ps qs h g) y.left y.right (sym c.before.before.before.before.word.ensures ∙ c.before.before.before.if2.true) (y.number (sym c.before.before.before.before.word.ensures ∙ c.before.before.before.if2.true)) (λ z. c.if3.true (c.before.before.word2.ensures ∙ z ∙ sym c.before.word3.ensures))
+    let y = c.paired.ensures.0 c.loop-a-test.true in
+    alike_differ _ _ _ _ _ _ _ (c.loop-a.invariant.2 ps qs h g) y.left y.right (sym c.word.ensures ∙ c.if-word-eq0.true) (y.number (sym c.word.ensures ∙ c.if-word-eq0.true)) (λ z. c.if-word.true (c.word-then-word-eq0.ensures ∙ z ∙ sym c.word-then-word-eq0-2.ensures))
 
-add-i : tie.Need-overflow-add-i invariant-loop decreases-loop
-add-i c = omega (arith, c.before.before.before.before.before.before.paired.ensures.0 c.before.before.before.before.before.if1.true)
+add-i : tie.Need-overflow_add-i invariant-loop decreases-loop
+add-i c = omega (arith, c.paired.ensures.0 c.loop-a-test.true)
 
-add-j : tie.Need-overflow-add-j invariant-loop decreases-loop
-add-j c = omega (arith, c.before.before.before.before.before.before.paired.ensures.0 c.before.before.before.before.before.if1.true)
+add-j : tie.Need-overflow_add-j invariant-loop decreases-loop
+add-j c = omega (arith, c.paired.ensures.0 c.loop-a-test.true)
 
-loop-less : tie.Need-loop-smaller invariant-loop decreases-loop
-loop-less c = omega (arith, c.before.before.before.before.before.before.paired.ensures.0 c.before.before.before.before.before.if1.true)
+loop-less : tie.Need-loop-a-smaller-then-word-eq0 invariant-loop decreases-loop
+loop-less c = omega (arith, c.paired.ensures.0 c.loop-a-test.true)
 
-loop-again : tie.Need-loop-preserved invariant-loop decreases-loop
+loop-again : tie.Need-loop-a-preserved-then-word-eq0 invariant-loop decreases-loop
 loop-again c =
-    let y = c.before.before.before.before.before.before.paired.ensures.0 c.before.before.before.before.before.if1.true in
-    (omega arith, omega arith, λ ps qs h g. alike_numbers _ _ _ _ _ _ _ (c.before.before.before.before.before.before.before.loop.invariant.2 ps qs h g) y.left y.right (sym c.before.before.before.before.word.ensures ∙ c.before.before.before.if2.true) (y.number (sym c.before.before.before.before.word.ensures ∙ c.before.before.before.if2.true)) (sym c.before.before.word2.ensures ∙ c.if3.false ∙ c.before.word3.ensures))
+    let y = c.paired.ensures.0 c.loop-a-test.true in
+    (omega arith, omega arith, λ ps qs h g. alike_numbers _ _ _ _ _ _ _ (c.loop-a.invariant.2 ps qs h g) y.left y.right (sym c.word.ensures ∙ c.if-word-eq0.true) (y.number (sym c.word.ensures ∙ c.if-word-eq0.true)) (sym c.word-then-word-eq0.ensures ∙ c.if-word.false ∙ c.word-then-word-eq0-2.ensures))
 
-sub-skip : tie.Need-overflow-sub-skip invariant-loop decreases-loop
+sub-skip : tie.Need-overflow_sub-ae invariant-loop decreases-loop
 sub-skip c = search rules
 
-skip-requires : tie.Need-skip-requires invariant-loop decreases-loop
+skip-requires : tie.Need-skip-i-requires invariant-loop decreases-loop
 skip-requires c κs =
-    let y = c.before.before.before.paired.ensures.0 c.before.before.if1.true in
-    (omega arith, c.before.before.before.before.before.before.before.requires.4, omega arith)
+    let y = c.paired.ensures.0 c.loop-a-test.true in
+    (omega arith, c.requires.4, omega arith)
 
-add-i-2 : tie.Need-overflow-add-i-2 invariant-loop decreases-loop
+add-i-2 : tie.Need-overflow_add-i-else-word-eq0 invariant-loop decreases-loop
 add-i-2 c = omega arith
 
-sub-skip-2 : tie.Need-overflow-sub-skip-2 invariant-loop decreases-loop
+sub-skip-2 : tie.Need-overflow_sub-be invariant-loop decreases-loop
 sub-skip-2 c = search rules
 
-skip-requires-2 : tie.Need-skip-requires-2 invariant-loop decreases-loop
+skip-requires-2 : tie.Need-skip-j-requires invariant-loop decreases-loop
 skip-requires-2 c κs =
-    let y = c.before.before.before.before.paired.ensures.0 c.before.before.before.if1.true in
-    (omega arith, c.before.before.before.before.before.before.before.before.requires.4, omega arith)
+    let y = c.paired.ensures.0 c.loop-a-test.true in
+    (omega arith, c.requires.4, omega arith)
 
-add-j-2 : tie.Need-overflow-add-j-2 invariant-loop decreases-loop
+add-j-2 : tie.Need-overflow_add-j-else-word-eq0 invariant-loop decreases-loop
 add-j-2 c = omega arith
 
-loop-less-2 : tie.Need-loop-smaller-2 invariant-loop decreases-loop
-loop-less-2 c = omega (arith, c.before.before.before.before.before.paired.ensures.0 c.before.before.before.before.if1.true)
+loop-less-2 : tie.Need-loop-a-smaller invariant-loop decreases-loop
+loop-less-2 c = omega (arith, c.paired.ensures.0 c.loop-a-test.true)
 
-loop-again-2 : tie.Need-loop-preserved-2 invariant-loop decreases-loop
+loop-again-2 : tie.Need-loop-a-preserved invariant-loop decreases-loop
 loop-again-2 c =
-    let y = c.before.before.before.before.before.paired.ensures.0 c.before.before.before.before.if1.true in
-    (omega arith, omega arith, λ ps qs h g. alike_terms _ _ _ _ _ _ _ (c.before.before.before.before.before.before.loop.invariant.2 ps qs h g) y.left y.right _ _ (λ z. c.before.before.if2.false (c.before.before.before.word.ensures ∙ z)) (y.term (λ z. c.before.before.if2.false (c.before.before.before.word.ensures ∙ z))) c.before.skip.ensures.2 c.skip2.ensures.2)
+    let y = c.paired.ensures.0 c.loop-a-test.true in
+    (omega arith, omega arith, λ ps qs h g. alike_terms _ _ _ _ _ _ _ (c.loop-a.invariant.2 ps qs h g) y.left y.right _ _ (λ z. c.if-word-eq0.false (c.word.ensures ∙ z)) (y.term (λ z. c.if-word-eq0.false (c.word.ensures ∙ z))) c.skip-i.ensures.2 c.skip-j.ensures.2)
 
-returns-2 : tie.Need-returns-2 invariant-loop decreases-loop
-returns-2 c = λ ps qs h g. alike_parted _ _ _ _ _ _ _ (c.before.before.before.loop.invariant.2 ps qs h g) (c.before.before.paired.ensures.1 c.before.if1.false) c.if4.true
+returns-2 : tie.Need-returns-then-i-ae invariant-loop decreases-loop
+returns-2 c = λ ps qs h g. alike_parted _ _ _ _ _ _ _ (c.loop-a.invariant.2 ps qs h g) (c.paired.ensures.1 c.loop-a-test.false) c.if-i-ae.true
 
-returns-3 : tie.Need-returns-3 invariant-loop decreases-loop
-returns-3 c = λ ps qs h g. alike_last _ _ _ _ _ _ _ (c.before.before.before.loop.invariant.2 ps qs h g) c.if4.false
+returns-3 : tie.Need-returns invariant-loop decreases-loop
+returns-3 c = λ ps qs h g. alike_last _ _ _ _ _ _ _ (c.loop-a.invariant.2 ps qs h g) c.if-i-ae.false
 
-pub alike-rows-spec : {M : Type 1} → statement M
-alike-rows-spec =
+pub alike_rows_spec : {M : Type 1} → statement M
+alike_rows_spec =
     tie.close
     (tie.spec
     invariant-loop

@@ -6,40 +6,40 @@ use borrow.Author.Rules.{rules}
 use Rattle.terms.proofs.recover.recovered_len.Statement.{statement}
 use Rattle.terms.proofs.recover.recovered_len.Tie as tie
 
-sub-skip : tie.Need-overflow-sub-skip
+sub-skip : tie.Need-overflow_sub-kinds
 sub-skip c = search rules
 
-skip-requires : tie.Need-skip-requires
+skip-requires : tie.Need-skip-n-requires
 skip-requires c κs = search rules
 
-sub-skip-2 : tie.Need-overflow-sub-skip-2
+sub-skip-2 : tie.Need-overflow_sub-kinds-2
 sub-skip-2 c = search rules
 
-skip-requires-2 : tie.Need-skip-requires-2
+skip-requires-2 : tie.Need-skip-m-requires
 skip-requires-2 c κs = search rules
 
-add-recover-term : tie.Need-overflow-add-recover-term
+add-recover-term : tie.Need-overflow_add-a
 add-recover-term c = search rules
 
-add-recover-term-2 : tie.Need-overflow-add-recover-term-2
+add-recover-term-2 : tie.Need-overflow_add-b
 add-recover-term-2 c = search rules
 
-slice-aggregate-recover-term : tie.Need-slice-aggregate-recover-term
+slice-aggregate-recover-term : tie.Need-slice_bounds-recover_term-end
 slice-aggregate-recover-term c = search rules
 
-recover-term-requires : tie.Need-recover-term-requires
+recover-term-requires : tie.Need-recover_term-requires
 recover-term-requires c κs = search rules
 
 returns : tie.Need-returns
 returns c =
     λ t u ht hu ft fu.
-    let n = told _ _ _ _ t ht c.before.before.before.before.skip.ensures.2 in
-    let m = told _ _ _ _ u hu c.before.before.before.skip2.ensures.2 in
-    let z = c.before.recover-term.ensures.1 t u (held_one _ _ _ _ t ht n) (held_one _ _ _ _ u hu m) ft fu in
+    let n = told _ _ _ _ t ht c.skip-n.ensures.2 in
+    let m = told _ _ _ _ u hu c.skip-m.ensures.2 in
+    let z = c.recover_term.ensures.1 t u (held_one _ _ _ _ t ht n) (held_one _ _ _ _ u hu m) ft fu in
     omega (arith, z.next)
 
-pub recovered-len-spec : {M : Type 1} → statement M
-recovered-len-spec =
+pub recovered_len_spec : {M : Type 1} → statement M
+recovered_len_spec =
     tie.close
     (tie.spec
     sub-skip

@@ -5,39 +5,39 @@ use borrow.Author.Rules.{rules}
 use Rattle.terms.proofs.recover.write_recovered.Statement.{statement}
 use Rattle.terms.proofs.recover.write_recovered.Tie as tie
 
-sub-skip : tie.Need-overflow-sub-skip
+sub-skip : tie.Need-overflow_sub-kinds
 sub-skip c = search rules
 
-skip-requires : tie.Need-skip-requires
+skip-requires : tie.Need-skip-n-requires
 skip-requires c κs = search rules
 
-sub-skip-2 : tie.Need-overflow-sub-skip-2
+sub-skip-2 : tie.Need-overflow_sub-kinds-2
 sub-skip-2 c = search rules
 
-skip-requires-2 : tie.Need-skip-requires-2
+skip-requires-2 : tie.Need-skip-m-requires
 skip-requires-2 c κs = search rules
 
-add-recover-term : tie.Need-overflow-add-recover-term
+add-recover-term : tie.Need-overflow_add-a
 add-recover-term c = search rules
 
-add-recover-term-2 : tie.Need-overflow-add-recover-term-2
+add-recover-term-2 : tie.Need-overflow_add-b
 add-recover-term-2 c = search rules
 
-recover-term-requires : tie.Need-recover-term-requires
+recover-term-requires : tie.Need-recover_term-requires
 recover-term-requires c κs = search rules
 
-same_length : tie.Need-same-length
+same_length : tie.Need-shape_of-out
 same_length c = search rules
 
 returns : tie.Need-returns
 returns c =
     λ t u ht hu ft fu.
-    let n = told _ _ _ _ t ht c.before.before.before.before.before.skip.ensures.2 in
-    let m = told _ _ _ _ u hu c.before.before.before.before.skip2.ensures.2 in
-    c.before.before.recover-term.ensures.1 t u (held_one _ _ _ _ t ht n) (held_one _ _ _ _ u hu m) ft fu
+    let n = told _ _ _ _ t ht c.skip-n.ensures.2 in
+    let m = told _ _ _ _ u hu c.skip-m.ensures.2 in
+    c.recover_term.ensures.1 t u (held_one _ _ _ _ t ht n) (held_one _ _ _ _ u hu m) ft fu
 
-pub write-recovered-spec : {M : Type 1} → statement M
-write-recovered-spec =
+pub write_recovered_spec : {M : Type 1} → statement M
+write_recovered_spec =
     tie.close
     (tie.spec
     sub-skip

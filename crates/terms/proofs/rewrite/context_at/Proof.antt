@@ -4,35 +4,35 @@ use borrow.Author.Rules.{rules}
 use Rattle.terms.proofs.rewrite.context_at.Statement.{statement}
 use Rattle.terms.proofs.rewrite.context_at.Tie as tie
 
-find-entry-requires : tie.Need-find-entry-requires
+find-entry-requires : tie.Need-find_entry-e-requires
 find-entry-requires c κs = search rules
 
-enum-known-e : tie.Need-enum-known-e
+enum-known-e : tie.Need-enum_known-e
 enum-known-e c = search rules
 
-enum_told : tie.Need-enum-told
+enum_told : tie.Need-enum_told-1
 enum_told c = search rules
 
-find-parameter-requires : tie.Need-find-parameter-requires
+find-parameter-requires : tie.Need-find_parameter-n-requires
 find-parameter-requires c κs = search rules
 
-enum-known-n : tie.Need-enum-known-n
+enum-known-n : tie.Need-enum_known-n
 enum-known-n c = search rules
 
-enum-told-2 : tie.Need-enum-told-2
+enum-told-2 : tie.Need-enum_told-in-Nothing-n
 enum-told-2 c = search rules
 
-returns : tie.Need-returns
-returns c = context_entry _ _ _ _ _ _ _ (rw c.before.e.given.1 at c.before.before.before.find-entry.ensures)
+returns : tie.Need-returns-in-At
+returns c = context_entry _ _ _ _ _ _ _ (rw c.in-At.is at c.find_entry-e.ensures)
 
-returns-2 : tie.Need-returns-2
-returns-2 c = context_parameter _ _ _ _ _ _ _ (rw c.before.before.before.before.enum_told.given.1 at c.before.before.before.before.before.before.find-entry.ensures) (rw c.before.n.given.1 at c.before.before.before.find-parameter.ensures)
+returns-2 : tie.Need-returns-in-At-n
+returns-2 c = context_parameter _ _ _ _ _ _ _ (rw c.in-Nothing.is at c.find_entry-e.ensures) (rw c.in-At-n.is at c.find_parameter-n.ensures)
 
-returns-3 : tie.Need-returns-3
-returns-3 c = context_none _ _ _ _ _ _ (rw c.before.before.before.enum_told.given.1 at c.before.before.before.before.before.find-entry.ensures) (rw c.enum-told2.given.1 at c.before.before.find-parameter.ensures)
+returns-3 : tie.Need-returns-in-Nothing-n
+returns-3 c = context_none _ _ _ _ _ _ (rw c.in-Nothing.is at c.find_entry-e.ensures) (rw c.in-Nothing-n.is at c.find_parameter-n.ensures)
 
-pub context-at-spec : {M : Type 1} → statement M
-context-at-spec =
+pub context_at_spec : {M : Type 1} → statement M
+context_at_spec =
     tie.close
     (tie.spec
     find-entry-requires

@@ -4,53 +4,53 @@ use borrow.Author.Rules.{rules}
 use Rattle.terms.proofs.rewrite.replaced_at.Statement.{statement}
 use Rattle.terms.proofs.rewrite.replaced_at.Tie as tie
 
-mul-k : tie.Need-overflow-mul-k
+mul-k : tie.Need-offset_bounds-kinds-p
 mul-k c = search rules
 
-shared-slice-read-k : tie.Need-shared-slice-read-k
+shared-slice-read-k : tie.Need-bounds-kinds-p
 shared-slice-read-k c = search rules
 
-add-long-at : tie.Need-overflow-add-long-at
+add-long-at : tie.Need-overflow_add-p
 add-long-at c = search rules
 
-long-at-requires : tie.Need-long-at-requires
+long-at-requires : tie.Need-long_at-owner-requires
 long-at-requires c κs = search rules
 
-add-long-at-2 : tie.Need-overflow-add-long-at-2
+add-long-at-2 : tie.Need-overflow_add-p-then-k-eq19
 add-long-at-2 c = search rules
 
-long-at-requires-2 : tie.Need-long-at-requires-2
+long-at-requires-2 : tie.Need-long_at-position-requires
 long-at-requires-2 c κs = search rules
 
-context-at-requires : tie.Need-context-at-requires
+context-at-requires : tie.Need-context_at-requires
 context-at-requires c κs = search rules
 
-returns : tie.Need-returns
-returns c = chosen_context _ _ _ _ _ c.before.before.before.before.if1.true c.before.if2.true _ _ _ c.before.before.before.long-at.ensures c.before.before.long-at2.ensures c.context-at.ensures
+returns : tie.Need-returns-then-b
+returns c = chosen_context _ _ _ _ _ c.if-k-eq19.true c.if-b.true _ _ _ c.long_at-owner.ensures c.long_at-position.ensures c.context_at.ensures
 
-generic-at-requires : tie.Need-generic-at-requires
+generic-at-requires : tie.Need-generic_at-requires
 generic-at-requires c κs = search rules
 
-returns-2 : tie.Need-returns-2
-returns-2 c = chosen_generic _ _ _ _ _ c.before.before.before.before.if1.true c.before.if2.false _ _ _ c.before.before.before.long-at.ensures c.before.before.long-at2.ensures c.generic-at.ensures
+returns-2 : tie.Need-returns-then-k-eq19
+returns-2 c = chosen_generic _ _ _ _ _ c.if-k-eq19.true c.if-b.false _ _ _ c.long_at-owner.ensures c.long_at-position.ensures c.generic_at.ensures
 
-add-long-at-3 : tie.Need-overflow-add-long-at-3
+add-long-at-3 : tie.Need-overflow_add-p-then-k-eq21
 add-long-at-3 c = search rules
 
-long-at-requires-3 : tie.Need-long-at-requires-3
+long-at-requires-3 : tie.Need-long_at-owner-requires-then-k-eq21
 long-at-requires-3 c κs = search rules
 
-self-at-requires : tie.Need-self-at-requires
+self-at-requires : tie.Need-self_at-requires
 self-at-requires c κs = search rules
 
-returns-3 : tie.Need-returns-3
-returns-3 c = chosen_self _ _ _ _ _ c.before.before.before.if1.false c.before.before.if3.true _ _ c.before.long-at3.ensures c.self-at.ensures
+returns-3 : tie.Need-returns-then-k-eq21
+returns-3 c = chosen_self _ _ _ _ _ c.if-k-eq19.false c.if-k-eq21.true _ _ c.long_at-owner-then-k-eq21.ensures c.self_at.ensures
 
-returns-4 : tie.Need-returns-4
-returns-4 c = chosen_keep _ _ _ _ _ c.before.if1.false c.if3.false
+returns-4 : tie.Need-returns
+returns-4 c = chosen_keep _ _ _ _ _ c.if-k-eq19.false c.if-k-eq21.false
 
-pub replaced-at-spec : {M : Type 1} → statement M
-replaced-at-spec =
+pub replaced_at_spec : {M : Type 1} → statement M
+replaced_at_spec =
     tie.close
     (tie.spec
     mul-k

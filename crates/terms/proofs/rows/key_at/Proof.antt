@@ -10,70 +10,70 @@ use borrow.Author.Rules.{rules}
 use Rattle.terms.proofs.rows.key_at.Statement.{statement}
 use Rattle.terms.proofs.rows.key_at.Tie as tie
 
-abbrev invariant-loop : tie.invariant-loop
+abbrev invariant-loop : tie.invariant-loop-q
 invariant-loop kinds vals g h x end q₀ k₀ q k = Scan (view kinds vals g) h end q (Passed x k) × (k ≤ q)
 
-abbrev decreases-loop : tie.decreases-loop
+abbrev decreases-loop : tie.decreases-loop-q
 decreases-loop kinds vals g h x end q₀ k₀ q k = end - q
 
-row-of-requires : tie.Need-row-of-requires invariant-loop decreases-loop
-row-of-requires c κs = c.before.before.requires
+row-of-requires : tie.Need-row_of-part-requires invariant-loop decreases-loop
+row-of-requires c κs = c.requires
 
-loop-holds : tie.Need-loop-init invariant-loop decreases-loop
-loop-holds c = (scan_start _ _ _ _ _ c.row_of.ensures (passed_start _), omega arith)
+loop-holds : tie.Need-loop-q-init invariant-loop decreases-loop
+loop-holds c = (scan_start _ _ _ _ _ c.row_of-part.ensures (passed_start _), omega arith)
 
-token-at-requires : tie.Need-token-at-requires invariant-loop decreases-loop
-token-at-requires c κs = c.before.before.before.before.before.requires
+token-at-requires : tie.Need-token_at-y-requires invariant-loop decreases-loop
+token-at-requires c κs = c.requires
 
-returns : tie.Need-returns invariant-loop decreases-loop
+returns : tie.Need-returns-then-k-ge3 invariant-loop decreases-loop
 returns c =
-    let token-at' = c.before.before.before.before.before.token-at in
-    key_here _ _ _ _ _ _ c.before.before.before.before.before.before.before.loop.invariant.0 c.before.before.before.before.before.before.loop-test.true
-    token-at'.ensures.0 token-at'.ensures.1 c.before.before.before.if1.true c.before.if2.true c.if3.true
+    let token-at' = c.token_at-y in
+    key_here _ _ _ _ _ _ c.loop-q.invariant.0 c.loop-q-test.true
+    token-at'.ensures.0 token-at'.ensures.1 c.if-y-eq0.true c.if-y-x.true c.if-k-ge3.true
 
-add-k : tie.Need-overflow-add-k invariant-loop decreases-loop
+add-k : tie.Need-overflow_add-k invariant-loop decreases-loop
 add-k c =
-    let loop' = c.before.before.before.before.before.before.loop in
+    let loop' = c.loop-q in
     omega (arith, loop'.invariant.1, loop'.invariant.0.small)
 
-add-q : tie.Need-overflow-add-q invariant-loop decreases-loop
-add-q c = omega (arith, c.before.before.before.before.before.before.loop.invariant.0.small)
+add-q : tie.Need-overflow_add-q invariant-loop decreases-loop
+add-q c = omega (arith, c.loop-q.invariant.0.small)
 
-loop-less : tie.Need-loop-smaller invariant-loop decreases-loop
+loop-less : tie.Need-loop-q-smaller-then-y-eq0 invariant-loop decreases-loop
 loop-less c = search rules
 
-loop-again : tie.Need-loop-preserved invariant-loop decreases-loop
+loop-again : tie.Need-loop-q-preserved-then-y-eq0 invariant-loop decreases-loop
 loop-again c =
-    let loop' = c.before.before.before.before.before.before.loop in
-    let token-at' = c.before.before.before.before.token-at in (
-      key_next _ _ _ _ _ _ loop'.invariant.0 c.before.before.before.before.before.loop-test.true token-at'.ensures.0 token-at'.ensures.1
-          c.before.before.if1.true (λ k e. ⊎_elim (λ w. omega (arith, w.1.left)) (λ w. w.left e) c.if2.branch),
+    let loop' = c.loop-q in
+    let token-at' = c.token_at-y in (
+      key_next _ _ _ _ _ _ loop'.invariant.0 c.loop-q-test.true token-at'.ensures.0 token-at'.ensures.1
+          c.if-y-eq0.true (λ k e. ⊎_elim (λ w. omega (arith, w.1.left)) (λ w. w.left e) c.if-y-x.branch),
       omega (arith, loop'.invariant.1),
     )
 
-step-requires : tie.Need-step-requires invariant-loop decreases-loop
+step-requires : tie.Need-step-q-requires invariant-loop decreases-loop
 step-requires c κs = search rules
 
-add-q-2 : tie.Need-overflow-add-q-2 invariant-loop decreases-loop
-add-q-2 c = omega (arith, c.before.before.before.before.before.loop.invariant.0.small)
+add-q-2 : tie.Need-overflow_add-q-else-y-eq0 invariant-loop decreases-loop
+add-q-2 c = omega (arith, c.loop-q.invariant.0.small)
 
-loop-less-2 : tie.Need-loop-smaller-2 invariant-loop decreases-loop
+loop-less-2 : tie.Need-loop-q-smaller invariant-loop decreases-loop
 loop-less-2 c = search rules
 
-loop-again-2 : tie.Need-loop-preserved-2 invariant-loop decreases-loop
+loop-again-2 : tie.Need-loop-q-preserved invariant-loop decreases-loop
 loop-again-2 c =
-    let loop' = c.before.before.before.before.before.loop in
-    let token-at' = c.before.before.before.token-at in (
-      key_pass _ _ _ _ _ _ loop'.invariant.0 c.before.before.before.before.loop-test.true token-at'.ensures.0 token-at'.ensures.1 c.before.if1.false
-          _ c.step.ensures.1,
+    let loop' = c.loop-q in
+    let token-at' = c.token_at-y in (
+      key_pass _ _ _ _ _ _ loop'.invariant.0 c.loop-q-test.true token-at'.ensures.0 token-at'.ensures.1 c.if-y-eq0.false
+          _ c.step-q.ensures.1,
       omega (arith, loop'.invariant.1),
     )
 
-returns-2 : tie.Need-returns-2 invariant-loop decreases-loop
-returns-2 c = key_over _ _ _ _ _ _ c.before.loop.invariant.0 c.loop-test.false
+returns-2 : tie.Need-returns invariant-loop decreases-loop
+returns-2 c = key_over _ _ _ _ _ _ c.loop-q.invariant.0 c.loop-q-test.false
 
-pub key-at-spec : {M : Type 1} → statement M
-key-at-spec =
+pub key_at_spec : {M : Type 1} → statement M
+key_at_spec =
     tie.close
     (tie.spec
     invariant-loop

@@ -9,66 +9,65 @@ use borrow.Author.Rules.{rules}
 use Rattle.terms.proofs.rows.number_place.Statement.{statement}
 use Rattle.terms.proofs.rows.number_place.Tie as tie
 
-abbrev invariant-loop : tie.invariant-loop
+abbrev invariant-loop : tie.invariant-loop-q
 invariant-loop kinds vals g h i end q₀ left₀ q left = Scan (view kinds vals g) h end q (Wanted i left)
 
-abbrev decreases-loop : tie.decreases-loop
+abbrev decreases-loop : tie.decreases-loop-q
 decreases-loop kinds vals g h i end q₀ left₀ q left = end - q
 
-row-of-requires : tie.Need-row-of-requires invariant-loop decreases-loop
-row-of-requires c κs = c.before.before.requires
+row-of-requires : tie.Need-row_of-part-requires invariant-loop decreases-loop
+row-of-requires c κs = c.requires
 
-loop-holds : tie.Need-loop-init invariant-loop decreases-loop
-loop-holds c = scan_start _ _ _ _ _ c.row_of.ensures (λ w. refl)
+loop-holds : tie.Need-loop-q-init invariant-loop decreases-loop
+loop-holds c = scan_start _ _ _ _ _ c.row_of-part.ensures (λ w. refl)
 
-token-at-requires : tie.Need-token-at-requires invariant-loop decreases-loop
-token-at-requires c κs = c.before.before.before.before.before.requires
+token-at-requires : tie.Need-token_at-x-requires invariant-loop decreases-loop
+token-at-requires c κs = c.requires
 
-returns : tie.Need-returns invariant-loop decreases-loop
+returns : tie.Need-returns-then-left-eq0 invariant-loop decreases-loop
 returns c =
-    let token-at' = c.before.before.before.token-at in
-    number_here _ _ _ _ _ _ c.before.before.before.before.before.loop.invariant c.before.before.before.before.loop-test.true token-at'.ensures.0
-    token-at'.ensures.1 c.before.if1.true c.if2.true
+    let token-at' = c.token_at-x in
+    number_here _ _ _ _ _ _ c.loop-q.invariant c.loop-q-test.true token-at'.ensures.0
+    token-at'.ensures.1 c.if-x-eq0.true c.if-left-eq0.true
 
-sub-left : tie.Need-overflow-sub-left invariant-loop decreases-loop
+sub-left : tie.Need-overflow_sub-left invariant-loop decreases-loop
 sub-left c = search rules
 
-add-q : tie.Need-overflow-add-q invariant-loop decreases-loop
+add-q : tie.Need-overflow_add-q invariant-loop decreases-loop
 add-q c = search rules
 
-loop-less : tie.Need-loop-smaller invariant-loop decreases-loop
+loop-less : tie.Need-loop-q-smaller-then-x-eq0 invariant-loop decreases-loop
 loop-less c = search rules
 
-loop-again : tie.Need-loop-preserved invariant-loop decreases-loop
+loop-again : tie.Need-loop-q-preserved-then-x-eq0 invariant-loop decreases-loop
 loop-again c =
-    let token-at' = c.before.before.before.token-at in
-    number_next _ _ _ _ _ _ c.before.before.before.before.before.loop.invariant c.before.before.before.before.loop-test.true token-at'.ensures.0
-    token-at'.ensures.1 c.before.if1.true _ (omega arith)
+    let token-at' = c.token_at-x in
+    number_next _ _ _ _ _ _ c.loop-q.invariant c.loop-q-test.true token-at'.ensures.0
+    token-at'.ensures.1 c.if-x-eq0.true _ (omega arith)
 
-step-requires : tie.Need-step-requires invariant-loop decreases-loop
+step-requires : tie.Need-step-q-requires invariant-loop decreases-loop
 step-requires c κs = search rules
 
-add-q-2 : tie.Need-overflow-add-q-2 invariant-loop decreases-loop
+add-q-2 : tie.Need-overflow_add-q-else-x-eq0 invariant-loop decreases-loop
 add-q-2 c = search rules
 
-loop-less-2 : tie.Need-loop-smaller-2 invariant-loop decreases-loop
+loop-less-2 : tie.Need-loop-q-smaller invariant-loop decreases-loop
 loop-less-2 c = search rules
 
-loop-again-2 : tie.Need-loop-preserved-2 invariant-loop decreases-loop
+loop-again-2 : tie.Need-loop-q-preserved invariant-loop decreases-loop
 loop-again-2 c =
-    let token-at' = c.before.before.before.token-at in
-    number_pass _ _ _ _ _ _ c.before.before.before.before.before.loop.invariant c.before.before.before.before.loop-test.true token-at'.ensures.0
-    token-at'.ensures.1 c.before.if1.false _ c.step.ensures.1
+    let token-at' = c.token_at-x in
+    number_pass _ _ _ _ _ _ c.loop-q.invariant c.loop-q-test.true token-at'.ensures.0
+    token-at'.ensures.1 c.if-x-eq0.false _ c.step-q.ensures.1
 
-returns-2 : tie.Need-returns-2 invariant-loop decreases-loop
+returns-2 : tie.Need-returns invariant-loop decreases-loop
 returns-2 c =
-    let start = c.before.before.before.before.before in
-    let f = few_kinds start.args.kinds.now start.args.vals.now start.args.g start.requires in
-    let g = few_vals start.args.kinds.now start.args.vals.now start.args.g start.requires in
-    number_over _ _ _ _ _ _ c.before.loop.invariant _ (omega arith) (omega arith) c.loop-test.false
+    let f = few_kinds c.args.kinds.now c.args.vals.now c.args.g c.requires in
+    let g = few_vals c.args.kinds.now c.args.vals.now c.args.g c.requires in
+    number_over _ _ _ _ _ _ c.loop-q.invariant _ (omega arith) (omega arith) c.loop-q-test.false
 
-pub number-place-spec : {M : Type 1} → statement M
-number-place-spec =
+pub number_place_spec : {M : Type 1} → statement M
+number_place_spec =
     tie.close
     (tie.spec
     invariant-loop

@@ -288,7 +288,7 @@ module _ {M : Type 1} {𝓤 : Ura M} (𝓛 : Logic 𝓤) (mem : Memory → SProp
   first-with-meets : Meets 𝓛 first-with.signature (WpFn 𝓤 H 𝓣.C 𝓣.Λ code.function) (first-with.spec 𝓛 mem run)
   first-with-meets = walk_Meets 𝓛 first-with.ended stayed (Goes-none_slice 𝓛 1 (0 ∷ []) tt (plain (λ _. R)) as_passed, (Goes-none 𝓛 1 (λ _. u32) as_passed (λ κs x f. refl), tt)) (first-with.clauses 𝓛 mem run) (WpFn 𝓤 H 𝓣.C 𝓣.Λ code.function) (WpFn-mono 𝓤 H 𝓛.laws 𝓣 code.function) first-with-walks
 
-pub first-with-spec : {M : Type 1} → stated.statement M
+pub first_with_spec : {M : Type 1} → stated.statement M
 unfolding code.routine tables_of
 first-with-spec 𝓤 𝓛 𝓜 𝓡 =
     entered 𝓤 𝓛.H (triple_of 𝓛 first-with.signature (first-with.spec 𝓛 𝓜.mem 𝓡.run))

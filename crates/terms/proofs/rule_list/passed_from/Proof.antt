@@ -219,7 +219,7 @@ passed-from-meets {𝓤 = 𝓤} 𝓛 mem run 𝓣 known-list known-scan =
     (Goes-none_slice 𝓛 1 (0 ∷ []) tt (plain (λ _. u32)) yes, (Goes-none 𝓛 1 (λ _. usize) yes (λ κs x f. refl), (Goes-none 𝓛 1 (λ _. u32) yes (λ κs x f. refl), tt))) (the-fn.clauses 𝓛 mem run)
     (WpFn 𝓤 𝓛.H 𝓣.C 𝓣.Λ code.function) (WpFn-mono 𝓤 𝓛.H 𝓛.laws 𝓣 code.function) (passed-from-walks 𝓛 mem run 𝓣.C 𝓣.Λ (fm_of 𝓤 𝓛.H 𝓛.laws 𝓣) known-list known-scan)
 
-pub passed-from-spec : {M : Type 1} → stated.statement M
+pub passed_from_spec : {M : Type 1} → stated.statement M
 unfolding code.routine tables_of
 passed-from-spec 𝓤 𝓛 𝓜 𝓡 =
     entered 𝓤 𝓛.H (triple_of 𝓛 the-fn.signature (the-fn.spec 𝓛 𝓜.mem 𝓡.run))

@@ -11,10 +11,10 @@ use borrow.Author.Rules.{rules}
 use Rattle.terms.proofs.rules.find_rule.Statement.{statement}
 use Rattle.terms.proofs.rules.find_rule.Tie as tie
 
-abbrev invariant-loop : tie.invariant-loop
+abbrev invariant-loop : tie.invariant-loop-m
 invariant-loop kinds vals rules heads kids g fuel s member count r m₀ a₀ left₀ m a left = Arguing kinds vals g heads kids s fuel (rule_at rules r) m a left × (a < 4294967296)
 
-abbrev decreases-loop : tie.decreases-loop
+abbrev decreases-loop : tie.decreases-loop-m
 decreases-loop kinds vals rules heads kids g fuel s member count r m₀ a₀ left₀ m a left = left
 
 abbrev invariant-rules : tie.invariant-rules
@@ -23,119 +23,113 @@ invariant-rules kinds vals rules heads kids g fuel s member count r₀ r = Searc
 abbrev decreases-rules : tie.decreases-rules
 decreases-rules kinds vals rules heads kids g fuel s member count r₀ r = count - r
 
-cursor-requires : tie.Need-cursor-requires invariant-loop decreases-loop invariant-rules decreases-rules
-cursor-requires c κs = c.before.before.before.before.before.requires.0
+cursor-requires : tie.Need-cursor-s-requires invariant-loop decreases-loop invariant-rules decreases-rules
+cursor-requires c κs = c.requires.0
 
-member-in-requires : tie.Need-member-in-requires invariant-loop decreases-loop invariant-rules decreases-rules
-member-in-requires c κs = (c.before.before.before.before.before.before.requires.0, c.cursor.ensures.cut)
+member-in-requires : tie.Need-member_in-member-requires invariant-loop decreases-loop invariant-rules decreases-rules
+member-in-requires c κs = (c.requires.0, c.cursor-s.ensures.cut)
 
 rules-holds : tie.Need-rules-init invariant-loop decreases-loop invariant-rules decreases-rules
 rules-holds c =
-    let start = c.before.before.before.before.before.before.before in
-    (searching_start start.args.kinds.now start.args.vals.now start.args.rules.now start.args.g start.args.heads.now start.args.kids.now c.before.cursor.result start.args.fuel start.requires.0, omega arith, refl)
+    (searching_start c.args.kinds.now c.args.vals.now c.args.rules.now c.args.g c.args.heads.now c.args.kids.now c.cursor-s.result c.args.fuel c.requires.0, omega arith, refl)
 
-next-rule-requires : tie.Need-next-rule-requires invariant-loop decreases-loop invariant-rules decreases-rules
-next-rule-requires c κs = c.before.before.before.before.before.before.before.before.requires.1
+next-rule-requires : tie.Need-next_rule-r-requires invariant-loop decreases-loop invariant-rules decreases-rules
+next-rule-requires c κs = c.requires.1
 
-returns : tie.Need-returns invariant-loop decreases-loop invariant-rules decreases-rules
+returns : tie.Need-returns-then-count-r invariant-loop decreases-loop invariant-rules decreases-rules
 returns c =
-    let start = c.before.before.before.before.before.before.before.before.before.before in
-    let cursor' = c.before.before.before.before.cursor in
-    let rules' = c.before.before.rules in
-    let next = c.before.next-rule in
+    let cursor' = c.cursor-s in
+    let rules' = c.rules in
+    let next = c.next_rule-r in
     λ S t rs w d k.
-    let all = searching_to start.args.kinds.now start.args.vals.now start.args.rules.now start.args.g start.args.heads.now start.args.kids.now cursor'.result start.args.fuel start.requires.0 _ c.before.before.before.member-in.ensures _ next.result next.ensures rules'.invariant.0 (rule_count start.args.rules.now) (omega (arith, rules'.invariant.1, rules'.invariant.2)) (omega (arith, c.if1.true, rules'.invariant.2)) (omega arith) in
-    searching_none start.args.kinds.now start.args.vals.now start.args.rules.now start.args.g start.args.heads.now start.args.kids.now cursor'.result start.args.fuel start.requires.0 _ all (omega arith) S (row t) rs (cursor'.ensures.is start.args.heads.now start.args.kids.now S t w) d k
+    let all = searching_to c.args.kinds.now c.args.vals.now c.args.rules.now c.args.g c.args.heads.now c.args.kids.now cursor'.result c.args.fuel c.requires.0 _ c.member_in-member.ensures _ next.result next.ensures rules'.invariant.0 (rule_count c.args.rules.now) (omega (arith, rules'.invariant.1, rules'.invariant.2)) (omega (arith, c.if-count-r.true, rules'.invariant.2)) (omega arith) in
+    searching_none c.args.kinds.now c.args.vals.now c.args.rules.now c.args.g c.args.heads.now c.args.kids.now cursor'.result c.args.fuel c.requires.0 _ all (omega arith) S (row t) rs (cursor'.ensures.is c.args.heads.now c.args.kids.now S t w) d k
 
-rule-at-requires : tie.Need-rule-at-requires invariant-loop decreases-loop invariant-rules decreases-rules
-rule-at-requires c κs = omega (arith, c.if1.false, c.before.before.rules.invariant.2, c.before.before.before.before.before.before.before.before.before.before.requires.1)
+rule-at-requires : tie.Need-rule_at-rule-requires invariant-loop decreases-loop invariant-rules decreases-rules
+rule-at-requires c κs = omega (arith, c.if-count-r.false, c.rules.invariant.2, c.requires.1)
 
-same-front-requires : tie.Need-same-front-requires invariant-loop decreases-loop invariant-rules decreases-rules
-same-front-requires c κs = (c.before.before.before.before.before.before.before.before.before.before.before.requires.0, c.before.before.before.before.before.cursor.ensures.cut)
+same-front-requires : tie.Need-same_front-m-requires invariant-loop decreases-loop invariant-rules decreases-rules
+same-front-requires c κs = (c.requires.0, c.cursor-s.ensures.cut)
 
-wide-requires : tie.Need-wide-requires invariant-loop decreases-loop invariant-rules decreases-rules
+wide-requires : tie.Need-wide-a-requires invariant-loop decreases-loop invariant-rules decreases-rules
 wide-requires c κs = search rules
 
-loop-holds : tie.Need-loop-init invariant-loop decreases-loop invariant-rules decreases-rules
+loop-holds : tie.Need-loop-m-init invariant-loop decreases-loop invariant-rules decreases-rules
 loop-holds c =
-    let start = c.before.before.before.before.before.before.before.before.before.before.before.before.before in
-    let rule-at' = c.before.before.rule-at in
-    let e = rule-at'.ensures in
-    let f = rw e at c.before.same-front.ensures in
-    let held = arguing_start start.args.kinds.now start.args.vals.now start.args.g start.args.heads.now start.args.kids.now c.before.before.before.before.before.before.before.cursor.result start.args.fuel start.requires.0 (rule_at start.args.rules.now c.before.before.before.before.next-rule.result) c.before.same-front.result _ (c.wide.ensures ∙ ap (λ (z : Rule). z.arguments) e) f in
-    (rw (ap (λ (z : Rule). z.count) e) held, omega (arith, c.wide.ensures, rule-at'.type-inv))
+    let rule-at' = c.rule_at-rule in
+    let e = c.rule_at-rule.ensures in
+    let f = rw e at c.same_front-m.ensures in
+    let held = arguing_start c.args.kinds.now c.args.vals.now c.args.g c.args.heads.now c.args.kids.now c.cursor-s.result c.args.fuel c.requires.0 (rule_at c.args.rules.now c.next_rule-r.result) c.same_front-m.result _ (c.wide-a.ensures ∙ ap (λ (z : Rule). z.arguments) e) f in
+    (rw (ap (λ (z : Rule). z.count) e) held, omega (arith, c.wide-a.ensures, rule-at'.type_inv))
 
-enum-known-m : tie.Need-enum-known-m invariant-loop decreases-loop invariant-rules decreases-rules
+enum-known-m : tie.Need-enum_known-m invariant-loop decreases-loop invariant-rules decreases-rules
 enum-known-m c = search rules
 
-enum_told : tie.Need-enum-told invariant-loop decreases-loop invariant-rules decreases-rules
+enum_told : tie.Need-enum_told-1 invariant-loop decreases-loop invariant-rules decreases-rules
 enum_told c = search rules
 
-term-cursor-requires : tie.Need-term-cursor-requires invariant-loop decreases-loop invariant-rules decreases-rules
-term-cursor-requires c κs = (c.before.before.before.before.before.before.before.before.before.before.before.before.before.before.before.before.before.before.requires.0, c.before.before.before.before.loop.invariant.1)
+term-cursor-requires : tie.Need-term_cursor-argument-requires invariant-loop decreases-loop invariant-rules decreases-rules
+term-cursor-requires c κs = (c.requires.0, c.loop-m.invariant.1)
 
 moved-requires : tie.Need-moved-requires invariant-loop decreases-loop invariant-rules decreases-rules
 moved-requires c κs = search rules
 
-same-rows-requires : tie.Need-same-rows-requires invariant-loop decreases-loop invariant-rules decreases-rules
+same-rows-requires : tie.Need-same_rows-m-requires invariant-loop decreases-loop invariant-rules decreases-rules
 same-rows-requires c κs =
-    let met = rw c.before.before.before.before.m.given.1 at c.before.before.before.before.before.before.loop.invariant.0 in
-    (c.before.before.before.before.before.before.before.before.before.before.before.before.before.before.before.before.before.before.before.before.requires.0, (further_cut c.before.before.before.before.before.before.before.before.before.before.before.before.before.before.cursor.ensures.cut _ _ _ c.moved.ensures met.few, c.before.term-cursor.ensures.cut))
+    let met = rw c.in-Behind.is at c.loop-m.invariant.0 in
+    (c.requires.0, (further_cut c.cursor-s.ensures.cut _ _ _ c.moved.ensures met.few, c.term_cursor-argument.ensures.cut))
 
-sub-left : tie.Need-overflow-sub-left invariant-loop decreases-loop invariant-rules decreases-rules
-sub-left c = omega (arith, c.before.before.before.if2.false)
+sub-left : tie.Need-overflow_sub-left invariant-loop decreases-loop invariant-rules decreases-rules
+sub-left c = omega (arith, c.if-left-eq0.false)
 
-loop-less : tie.Need-loop-smaller invariant-loop decreases-loop invariant-rules decreases-rules
-loop-less c = omega (arith, c.before.before.before.if2.false)
+loop-less : tie.Need-loop-m-smaller invariant-loop decreases-loop invariant-rules decreases-rules
+loop-less c = omega (arith, c.if-left-eq0.false)
 
-loop-again : tie.Need-loop-preserved invariant-loop decreases-loop invariant-rules decreases-rules
+loop-again : tie.Need-loop-m-preserved invariant-loop decreases-loop invariant-rules decreases-rules
 loop-again c =
-    let start = c.before.before.before.before.before.before.before.before.before.before.before.before.before.before.before.before.before.before.before.before.before in
-    let loop' = c.before.before.before.before.before.before.before.loop in
-    let term-cursor' = c.before.before.term-cursor in
-    (argued_next start.args.kinds.now start.args.vals.now start.args.g start.args.heads.now start.args.kids.now c.before.before.before.before.before.before.before.before.before.before.before.before.before.before.before.cursor.result start.args.fuel start.requires.0 _ _ _ _ _ (rw c.before.before.before.before.before.m.given.1 at loop'.invariant.0) c.before.before.before.if2.false _ term-cursor'.ensures c.same_rows.result (rw c.before.moved.ensures at c.same_rows.ensures), term-cursor'.ensures.cut.small)
+    let loop' = c.loop-m in
+    let term-cursor' = c.term_cursor-argument in
+    (argued_next c.args.kinds.now c.args.vals.now c.args.g c.args.heads.now c.args.kids.now c.cursor-s.result c.args.fuel c.requires.0 _ _ _ _ _ (rw c.in-Behind.is at loop'.invariant.0) c.if-left-eq0.false _ term-cursor'.ensures c.same_rows-m.result (rw c.moved.ensures at c.same_rows-m.ensures), term-cursor'.ensures.cut.small)
 
-add_r : tie.Need-overflow-add-r invariant-loop decreases-loop invariant-rules decreases-rules
-add_r c = omega (arith, c.before.before.before.before.before.if1.false, c.before.before.before.before.before.before.before.rules.invariant.2, c.before.before.before.before.before.before.before.before.before.before.before.before.before.before.before.requires.1)
+add_r : tie.Need-overflow_add-r invariant-loop decreases-loop invariant-rules decreases-rules
+add_r c = omega (arith, c.if-count-r.false, c.rules.invariant.2, c.requires.1)
 
 rules-less : tie.Need-rules-smaller invariant-loop decreases-loop invariant-rules decreases-rules
-rules-less c = omega (arith, c.before.before.before.before.before.if1.false, c.before.before.before.before.before.before.next-rule.ensures.past)
+rules-less c = omega (arith, c.if-count-r.false, c.next_rule-r.ensures.past)
 
 rules-again : tie.Need-rules-preserved invariant-loop decreases-loop invariant-rules decreases-rules
 rules-again c =
-    let start = c.before.before.before.before.before.before.before.before.before.before.before.before.before.before.before in
-    let cursor' = c.before.before.before.before.before.before.before.before.before.cursor in
-    let rules' = c.before.before.before.before.before.before.before.rules in
-    let next = c.before.before.before.before.before.before.next-rule in
-    let less = c.before.before.before.before.before.if1.false in
-    let at-it = searching_to start.args.kinds.now start.args.vals.now start.args.rules.now start.args.g start.args.heads.now start.args.kids.now cursor'.result start.args.fuel start.requires.0 _ c.before.before.before.before.before.before.before.before.member-in.ensures _ next.result next.ensures rules'.invariant.0 next.result next.ensures.past (omega arith) (omega (arith, less, rules'.invariant.2)) in
-    let missed : Missed start.args.kinds.now start.args.vals.now start.args.g start.args.heads.now start.args.kids.now cursor'.result start.args.fuel (rule_at start.args.rules.now next.result) = ⊎_elim
-    (λ v. rw v.1.given.1 at c.before.loop.invariant.0)
-    (λ v. argued_more start.args.kinds.now start.args.vals.now start.args.g start.args.heads.now start.args.kids.now cursor'.result start.args.fuel start.requires.0 _ _ _ _ _ (rw v.1.given.1 at c.before.loop.invariant.0) v.3.taken v.5.left)
-    c.match.branch in
-    (searching_next start.args.kinds.now start.args.vals.now start.args.rules.now start.args.g start.args.heads.now start.args.kids.now cursor'.result start.args.fuel start.requires.0 _ at-it (omega (arith, less, rules'.invariant.2)) missed, omega (arith, less), rules'.invariant.2)
+    let cursor' = c.cursor-s in
+    let rules' = c.rules in
+    let next = c.next_rule-r in
+    let less = c.if-count-r.false in
+    let at-it = searching_to c.args.kinds.now c.args.vals.now c.args.rules.now c.args.g c.args.heads.now c.args.kids.now cursor'.result c.args.fuel c.requires.0 _ c.member_in-member.ensures _ next.result next.ensures rules'.invariant.0 next.result next.ensures.past (omega arith) (omega (arith, less, rules'.invariant.2)) in
+    let missed : Missed c.args.kinds.now c.args.vals.now c.args.g c.args.heads.now c.args.kids.now cursor'.result c.args.fuel (rule_at c.args.rules.now next.result) = ⊎_elim
+    (λ v. rw v.1.given.1 at c.loop-m.invariant.0)
+    (λ v. argued_more c.args.kinds.now c.args.vals.now c.args.g c.args.heads.now c.args.kids.now cursor'.result c.args.fuel c.requires.0 _ _ _ _ _ (rw v.1.given.1 at c.loop-m.invariant.0) v.3.taken v.5.left)
+    c.match-m.branch in
+    (searching_next c.args.kinds.now c.args.vals.now c.args.rules.now c.args.g c.args.heads.now c.args.kids.now cursor'.result c.args.fuel c.requires.0 _ at-it (omega (arith, less, rules'.invariant.2)) missed, omega (arith, less), rules'.invariant.2)
 
-rule-at-requires-2 : tie.Need-rule-at-requires-2 invariant-loop decreases-loop invariant-rules decreases-rules
-rule-at-requires-2 c κs = omega (arith, c.before.before.before.before.before.before.before.before.before.before.if1.false, c.before.before.before.before.before.before.before.before.before.before.before.before.rules.invariant.2, c.before.before.before.before.before.before.before.before.before.before.before.before.before.before.before.before.before.before.before.before.requires.1)
+rule-at-requires-2 : tie.Need-rule_at-rule-requires-2 invariant-loop decreases-loop invariant-rules decreases-rules
+rule-at-requires-2 c κs = omega (arith, c.if-count-r.false, c.rules.invariant.2, c.requires.1)
 
 source-requires : tie.Need-source-requires invariant-loop decreases-loop invariant-rules decreases-rules
 source-requires c κs = search rules
 
-returns-2 : tie.Need-returns-2 invariant-loop decreases-loop invariant-rules decreases-rules
+returns-2 : tie.Need-returns invariant-loop decreases-loop invariant-rules decreases-rules
 returns-2 c =
-    let start = c.before.before.before.before.before.before.before.before.before.before.before.before.before.before.before.before.before.before.before.before.before.before in
-    let cursor' = c.before.before.before.before.before.before.before.before.before.before.before.before.before.before.before.before.cursor in
-    let rules' = c.before.before.before.before.before.before.before.before.before.before.before.before.before.before.rules in
-    let next = c.before.before.before.before.before.before.before.before.before.before.before.before.before.next-rule in
-    let less = c.before.before.before.before.before.before.before.before.before.before.before.before.if1.false in
+    let cursor' = c.cursor-s in
+    let rules' = c.rules in
+    let next = c.next_rule-r in
+    let less = c.if-count-r.false in
     λ S t rs w d k.
-    let at-it = searching_to start.args.kinds.now start.args.vals.now start.args.rules.now start.args.g start.args.heads.now start.args.kids.now cursor'.result start.args.fuel start.requires.0 _ c.before.before.before.before.before.before.before.before.before.before.before.before.before.before.before.member-in.ensures _ next.result next.ensures rules'.invariant.0 next.result next.ensures.past (omega arith) (omega (arith, less, rules'.invariant.2)) in
-    let hit = argued_done start.args.kinds.now start.args.vals.now start.args.g start.args.heads.now start.args.kids.now cursor'.result start.args.fuel start.requires.0 _ _ _ _ _ (rw c.before.before.before.before.before.before.m.given.1 at c.before.before.before.before.before.before.before.before.loop.invariant.0) c.before.before.before.before.if2.true c.before.before.if3.true in
-    let r = searching_hit start.args.kinds.now start.args.vals.now start.args.rules.now start.args.g start.args.heads.now start.args.kids.now cursor'.result start.args.fuel start.requires.0 _ at-it (omega (arith, less, rules'.invariant.2)) hit S (row t) rs (cursor'.ensures.is start.args.heads.now start.args.kids.now S t w) d k in
-    (r.0, r.1, rw (c.source.ensures.0 ∙ ap (λ (z : Rule). z.value) c.before.rule-at2.ensures, c.source.ensures.1) r.2)
+    let at-it = searching_to c.args.kinds.now c.args.vals.now c.args.rules.now c.args.g c.args.heads.now c.args.kids.now cursor'.result c.args.fuel c.requires.0 _ c.member_in-member.ensures _ next.result next.ensures rules'.invariant.0 next.result next.ensures.past (omega arith) (omega (arith, less, rules'.invariant.2)) in
+    let hit = argued_done c.args.kinds.now c.args.vals.now c.args.g c.args.heads.now c.args.kids.now cursor'.result c.args.fuel c.requires.0 _ _ _ _ _ (rw c.in-Behind.is at c.loop-m.invariant.0) c.if-left-eq0.true c.if-s-p.true in
+    let r = searching_hit c.args.kinds.now c.args.vals.now c.args.rules.now c.args.g c.args.heads.now c.args.kids.now cursor'.result c.args.fuel c.requires.0 _ at-it (omega (arith, less, rules'.invariant.2)) hit S (row t) rs (cursor'.ensures.is c.args.heads.now c.args.kids.now S t w) d k in
+    (r.0, r.1, rw (c.source.ensures.0 ∙ ap (λ (z : Rule). z.value) c.rule_at-rule-2.ensures, c.source.ensures.1) r.2)
 
-pub find-rule-spec : {M : Type 1} → statement M
-find-rule-spec =
+pub find_rule_spec : {M : Type 1} → statement M
+find_rule_spec =
     tie.close
     (tie.spec
     invariant-loop

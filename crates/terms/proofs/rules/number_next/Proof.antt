@@ -6,20 +6,20 @@ use Rattle.terms.proofs.Laws.General.Bools.{never_true}
 use Rattle.terms.proofs.rules.number_next.Statement.{statement}
 use Rattle.terms.proofs.rules.number_next.Tie as tie
 
-returns : tie.Need-returns
-returns c = (never_true, λ _ h _ _. omega (arith, c.if1.true))
+returns : tie.Need-returns-then-end-at
+returns c = (never_true, λ _ h _ _. omega (arith, c.if-end-at.true))
 
-token-at-requires : tie.Need-token-at-requires
-token-at-requires c κs = c.before.before.before.requires
+token-at-requires : tie.Need-token_at-a-requires
+token-at-requires c κs = c.requires
 
-returns-2 : tie.Need-returns-2
-returns-2 c = (never_true, λ _ _ k _. c.if2.true (c.before.before.token-at.ensures.0 ∙ k))
+returns-2 : tie.Need-returns-then-a-ne0
+returns-2 c = (never_true, λ _ _ k _. c.if-a-ne0.true (c.token_at-a.ensures.0 ∙ k))
 
-returns-3 : tie.Need-returns-3
+returns-3 : tie.Need-returns
 returns-3 c = (
-  λ e. (c.before.before.before.before.if1.false, sym c.before.before.before.token-at.ensures.0 ∙ c.before.if2.false, sym c.before.before.before.token-at.ensures.1 ∙ eqb-true _ _ e),
-  λ e _ _ v. eqb-false _ _ e (c.before.before.before.token-at.ensures.1 ∙ v),
+  λ e. (c.if-end-at.false, sym c.token_at-a.ensures.0 ∙ c.if-a-ne0.false, sym c.token_at-a.ensures.1 ∙ eqb-true _ _ e),
+  λ e _ _ v. eqb-false _ _ e (c.token_at-a.ensures.1 ∙ v),
 )
 
-pub number-next-spec : {M : Type 1} → statement M
-number-next-spec = tie.close (tie.spec returns token-at-requires returns-2 returns-3)
+pub number_next_spec : {M : Type 1} → statement M
+number_next_spec = tie.close (tie.spec returns token-at-requires returns-2 returns-3)

@@ -4,14 +4,14 @@ use borrow.Author.Rules.{rules}
 use Rattle.terms.proofs.runs.is_one.Statement.{statement}
 use Rattle.terms.proofs.runs.is_one.Tie as tie
 
-returns : tie.Need-returns
-returns c = among_first c.before.args.n c.before.args.a c.before.args.b c.before.args.c c.if1.true
+returns : tie.Need-returns-then-n-a
+returns c = among_first c.args.n c.args.a c.args.b c.args.c c.if-n-a.true
 
-returns-2 : tie.Need-returns-2
-returns-2 c = among_second c.before.before.args.n c.before.before.args.a c.before.before.args.b c.before.before.args.c c.if2.true
+returns-2 : tie.Need-returns-then-n-b
+returns-2 c = among_second c.args.n c.args.a c.args.b c.args.c c.if-n-b.true
 
-returns-3 : tie.Need-returns-3
-returns-3 c = among_last c.before.before.args.n c.before.before.args.a c.before.before.args.b c.before.before.args.c c.before.if1.false c.if2.false
+returns-3 : tie.Need-returns
+returns-3 c = among_last c.args.n c.args.a c.args.b c.args.c c.if-n-a.false c.if-n-b.false
 
-pub is-one-spec : {M : Type 1} → statement M
-is-one-spec = tie.close (tie.spec returns returns-2 returns-3)
+pub is_one_spec : {M : Type 1} → statement M
+is_one_spec = tie.close (tie.spec returns returns-2 returns-3)

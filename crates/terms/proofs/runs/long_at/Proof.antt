@@ -11,7 +11,7 @@ long-requires : tie.Need-long-requires
 long-requires c κs = search rules
 
 returns : tie.Need-returns
-returns c = c.long.ensures ∙ c.before.word.ensures
+returns c = c.long.ensures ∙ c.word.ensures
 
-pub long-at-spec : {M : Type 1} → statement M
-long-at-spec = tie.close (tie.spec word-requires long-requires returns)
+pub long_at_spec : {M : Type 1} → statement M
+long_at_spec = tie.close (tie.spec word-requires long-requires returns)

@@ -4,29 +4,29 @@ use borrow.Author.Rules.{rules}
 use Rattle.terms.proofs.runs.same_term.Statement.{statement}
 use Rattle.terms.proofs.runs.same_term.Tie as tie
 
-sub-skip : tie.Need-overflow-sub-skip
+sub-skip : tie.Need-overflow_sub-kinds
 sub-skip c = search rules
 
-skip-requires : tie.Need-skip-requires
+skip-requires : tie.Need-skip-n-requires
 skip-requires c κs = search rules
 
-sub-skip-2 : tie.Need-overflow-sub-skip-2
+sub-skip-2 : tie.Need-overflow_sub-kinds-2
 sub-skip-2 c = search rules
 
-skip-requires-2 : tie.Need-skip-requires-2
+skip-requires-2 : tie.Need-skip-m-requires
 skip-requires-2 c κs = search rules
 
-returns : tie.Need-returns
-returns c = λ t u ht hu. differ_length _ _ _ _ t u ht hu _ _ c.before.before.skip.ensures.2 c.before.skip2.ensures.2 c.if1.true
+returns : tie.Need-returns-then-n-m
+returns c = λ t u ht hu. differ_length _ _ _ _ t u ht hu _ _ c.skip-n.ensures.2 c.skip-m.ensures.2 c.if-n-m.true
 
-same-run-requires : tie.Need-same-run-requires
+same-run-requires : tie.Need-same_run-requires
 same-run-requires c κs = search rules
 
-returns-2 : tie.Need-returns-2
-returns-2 c = λ t u ht hu. compared _ _ _ _ t u ht hu _ _ _ c.before.before.before.skip.ensures.2 c.before.before.skip2.ensures.2 c.before.if1.false c.same-run.ensures.0 c.same-run.ensures.1
+returns-2 : tie.Need-returns
+returns-2 c = λ t u ht hu. compared _ _ _ _ t u ht hu _ _ _ c.skip-n.ensures.2 c.skip-m.ensures.2 c.if-n-m.false c.same_run.ensures.0 c.same_run.ensures.1
 
-pub same-term-spec : {M : Type 1} → statement M
-same-term-spec =
+pub same_term_spec : {M : Type 1} → statement M
+same_term_spec =
     tie.close
     (tie.spec
     sub-skip

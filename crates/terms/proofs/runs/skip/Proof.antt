@@ -13,11 +13,11 @@ stride-requires c κs = search rules
 
 returns : tie.Need-returns
 returns c =
-    let a = c.before.before.before.args in
+    let a = c.args in
     let s = span (get_or a.kinds.now a.i 0) (get_or a.vals.now a.i 0) in
     let e = c.stride.ensures in
-    let w = clip_within a.room s c.before.before.before.requires.2 in
+    let w = clip_within a.room s c.requires.2 in
     (rw e w.0, rw e w.1, λ x y. e ∙ sym (clip_span a.room s (λ z. omega arith) y))
 
-pub skip-spec : {M : Type 1} → statement M
-skip-spec = tie.close (tie.spec stride-requires returns)
+pub skip_spec : {M : Type 1} → statement M
+skip_spec = tie.close (tie.spec stride-requires returns)

@@ -10,17 +10,17 @@ word-requires c κs = search rules
 word-requires-2 : tie.Need-word-requires-2
 word-requires-2 c κs = search rules
 
-span-of-requires : tie.Need-span-of-requires
+span-of-requires : tie.Need-span_of-s-requires
 span-of-requires c κs = search rules
 
-returns : tie.Need-returns
-returns c = rw (← c.before.before.before.word.ensures, ← c.before.before.word2.ensures, ← c.before.Span-of.ensures) (clip_none c.before.before.before.before.before.before.args.room _ c.if1.true)
+returns : tie.Need-returns-then-s-eq0
+returns c = rw (← c.word.ensures, ← c.word-2.ensures, ← c.span_of-s.ensures) (clip_none c.args.room _ c.if-s-eq0.true)
 
-returns-2 : tie.Need-returns-2
-returns-2 c = rw (← c.before.before.before.before.word.ensures, ← c.before.before.before.word2.ensures, ← c.before.before.Span-of.ensures) (clip_room c.before.before.before.before.before.before.before.args.room _ c.before.if1.false c.if2.true)
+returns-2 : tie.Need-returns-then-room-s
+returns-2 c = rw (← c.word.ensures, ← c.word-2.ensures, ← c.span_of-s.ensures) (clip_room c.args.room _ c.if-s-eq0.false c.if-room-s.true)
 
-returns-3 : tie.Need-returns-3
-returns-3 c = rw (← c.before.before.before.before.word.ensures, ← c.before.before.before.word2.ensures, ← c.before.before.Span-of.ensures) (clip_span c.before.before.before.before.before.before.before.args.room _ c.before.if1.false c.if2.false)
+returns-3 : tie.Need-returns
+returns-3 c = rw (← c.word.ensures, ← c.word-2.ensures, ← c.span_of-s.ensures) (clip_span c.args.room _ c.if-s-eq0.false c.if-room-s.false)
 
-pub stride-spec : {M : Type 1} → statement M
-stride-spec = tie.close (tie.spec word-requires word-requires-2 span-of-requires returns returns-2 returns-3)
+pub stride_spec : {M : Type 1} → statement M
+stride_spec = tie.close (tie.spec word-requires word-requires-2 span-of-requires returns returns-2 returns-3)

@@ -10,71 +10,71 @@ use borrow.Author.Rules.{rules}
 use Rattle.terms.proofs.satisfy.same_terms.Statement.{statement}
 use Rattle.terms.proofs.satisfy.same_terms.Tie as tie
 
-abbrev invariant-loop : tie.invariant-loop
+abbrev invariant-loop : tie.invariant-loop-left
 invariant-loop kinds vals a b count i₀ j₀ left₀ i j left =
     (i ≤ length kinds)
     × (j ≤ length kinds)
     × ((d : ℕ) (rest : Parts) (e : ℕ) (more : Parts) (w : Bool) → Lists kinds vals count a d rest b e more w → Lists kinds vals left i d rest j e more w)
 
-abbrev decreases-loop : tie.decreases-loop
+abbrev decreases-loop : tie.decreases-loop-left
 decreases-loop kinds vals a b count i₀ j₀ left₀ i j left = left
 
-loop-holds : tie.Need-loop-init invariant-loop decreases-loop
+loop-holds : tie.Need-loop-left-init invariant-loop decreases-loop
 loop-holds c = (omega arith, omega arith, λ d rest e more w x. x)
 
-returns : tie.Need-returns invariant-loop decreases-loop
+returns : tie.Need-returns-then-kinds-i invariant-loop decreases-loop
 returns c = (
   tt,
   λ d rest e more w x.
-      let y = next_arguments _ _ _ _ d rest _ e more w (c.before.before.loop.invariant.2 d rest e more w x) c.before.loop-test.true in
+      let y = next_arguments _ _ _ _ d rest _ e more w (c.loop-left.invariant.2 d rest e more w x) c.loop-left-test.true in
       absurd (omega (arith, argument_left _ _ _ _ d rest _ e more w y)),
 )
 
-returns-2 : tie.Need-returns-2 invariant-loop decreases-loop
+returns-2 : tie.Need-returns-then-kinds-j invariant-loop decreases-loop
 returns-2 c = (
   tt,
   λ d rest e more w x.
-      let y = next_arguments _ _ _ _ d rest _ e more w (c.before.before.before.loop.invariant.2 d rest e more w x) c.before.before.loop-test.true in
+      let y = next_arguments _ _ _ _ d rest _ e more w (c.loop-left.invariant.2 d rest e more w x) c.loop-left-test.true in
       absurd (omega (arith, argument_right _ _ _ _ d rest _ e more w y)),
 )
 
-same-term-requires : tie.Need-same-term-requires invariant-loop decreases-loop
+same-term-requires : tie.Need-same_term-requires invariant-loop decreases-loop
 same-term-requires c κs = search rules
 
-returns-3 : tie.Need-returns-3 invariant-loop decreases-loop
+returns-3 : tie.Need-returns-then-not-same_term invariant-loop decreases-loop
 returns-3 c = (
   tt,
   λ d rest e more w x.
-      let y = next_arguments _ _ _ _ d rest _ e more w (c.before.before.before.before.before.loop.invariant.2 d rest e more w x) c.before.before.before.before.loop-test.true in
-      arguments_differ _ _ _ _ d rest _ e more w y _ (c.before.same-term.ensures y.t y.u y.here_left y.here_right) c.if3.true,
+      let y = next_arguments _ _ _ _ d rest _ e more w (c.loop-left.invariant.2 d rest e more w x) c.loop-left-test.true in
+      arguments_differ _ _ _ _ d rest _ e more w y _ (c.same_term.ensures y.t y.u y.here_left y.here_right) c.if-not-same_term.true-raw,
 )
 
-behind-requires : tie.Need-behind-requires invariant-loop decreases-loop
+behind-requires : tie.Need-behind-i-requires invariant-loop decreases-loop
 behind-requires c κs = search rules
 
-behind-requires-2 : tie.Need-behind-requires-2 invariant-loop decreases-loop
+behind-requires-2 : tie.Need-behind-j-requires invariant-loop decreases-loop
 behind-requires-2 c κs = search rules
 
-sub-left : tie.Need-overflow-sub-left invariant-loop decreases-loop
+sub-left : tie.Need-overflow_sub-left invariant-loop decreases-loop
 sub-left c = search rules
 
-loop-less : tie.Need-loop-smaller invariant-loop decreases-loop
+loop-less : tie.Need-loop-left-smaller invariant-loop decreases-loop
 loop-less c = search rules
 
-loop-again : tie.Need-loop-preserved invariant-loop decreases-loop
+loop-again : tie.Need-loop-left-preserved invariant-loop decreases-loop
 loop-again c = (
   omega arith,
   omega arith,
   λ d rest e more w x.
-      let y = next_arguments _ _ _ _ d rest _ e more w (c.before.before.before.before.before.before.before.loop.invariant.2 d rest e more w x) c.before.before.before.before.before.before.loop-test.true in
-      arguments_next _ _ _ _ d rest _ e more w y _ _ _ (c.before.before.before.same-term.ensures y.t y.u y.here_left y.here_right) c.before.before.if3.false (c.before.behind.ensures.1 y.t y.here_left) (c.behind2.ensures.1 y.u y.here_right),
+      let y = next_arguments _ _ _ _ d rest _ e more w (c.loop-left.invariant.2 d rest e more w x) c.loop-left-test.true in
+      arguments_next _ _ _ _ d rest _ e more w y _ _ _ (c.same_term.ensures y.t y.u y.here_left y.here_right) c.if-not-same_term.false-raw (c.behind-i.ensures.1 y.t y.here_left) (c.behind-j.ensures.1 y.u y.here_right),
 )
 
-returns-4 : tie.Need-returns-4 invariant-loop decreases-loop
-returns-4 c = ((omega arith, omega arith), λ d rest e more w x. arguments_over _ _ _ _ d rest _ e more w (c.before.loop.invariant.2 d rest e more w x) (omega arith))
+returns-4 : tie.Need-returns invariant-loop decreases-loop
+returns-4 c = ((omega arith, omega arith), λ d rest e more w x. arguments_over _ _ _ _ d rest _ e more w (c.loop-left.invariant.2 d rest e more w x) (omega arith))
 
-pub same-terms-spec : {M : Type 1} → statement M
-same-terms-spec =
+pub same_terms_spec : {M : Type 1} → statement M
+same_terms_spec =
     tie.close
     (tie.spec
     invariant-loop

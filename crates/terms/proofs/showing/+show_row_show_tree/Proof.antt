@@ -7,8 +7,8 @@ use Rattle.terms.proofs.showing.+show_row_show_tree.Proof.Measures.{μ-show-row,
 use Rattle.terms.proofs.showing.+show_row_show_tree.Proof.ShowRow.{member as show-row-member}
 use Rattle.terms.proofs.showing.+show_row_show_tree.Proof.ShowTree.{member as show-tree-member}
 
-pub +show-row-show-tree-spec : {M : Type 1} → statement M
-+show-row-show-tree-spec =
+pub +show_row_show_tree_spec : {M : Type 1} → statement M
++show_row_show_tree_spec =
     close μ-show-row μ-show-tree
     (λ t. show-row-member t)
     (λ t. show-tree-member t)

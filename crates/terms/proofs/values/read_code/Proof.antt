@@ -10,72 +10,69 @@ use Rattle.terms.proofs.Laws.Format.ValueLaws.{coded_none, coded_yes, coded_no}
 use Rattle.terms.proofs.values.read_code.Statement.{statement}
 use Rattle.terms.proofs.values.read_code.Tie as tie
 
-returns : tie.Need-returns
+returns : tie.Need-returns-then-codes-eq0
 returns c =
-    let a = c.before.before.before.before.args in
-    let s = a.s.now in
-    let l = a.limit in
+    let a = c.args in
+    let s = c.args.s.now in
+    let l = c.args.limit in
     let p = place a.at.now a.top.now a.nodes l in
     let d = area a.kinds.now a.vals.now in
-    coded_none s p d d _ c.if1.true c.before.before.before.before.requires.inside
+    coded_none s p d d _ c.if-codes-eq0.true c.requires.inside
 
-code-at-requires : tie.Need-code-at-requires
+code-at-requires : tie.Need-code_at-r-requires
 code-at-requires c κs = search rules
 
-enum-known-r : tie.Need-enum-known-r
+enum-known-r : tie.Need-enum_known-r
 enum-known-r c = search rules
 
-add-top : tie.Need-overflow-add-top
+add-top : tie.Need-overflow_add-top
 add-top c = search rules
 
-cast-put-token : tie.Need-overflow-cast-put-token
+cast-put-token : tie.Need-overflow_cast-v
 cast-put-token c =
-    let a = c.before.before.before.before.before.before.before.before.before.before.before.before.args in
-    let r' = c.before.before.before.before.r in
-    let s = a.s.now in
-    let v = r'.given.0.0 in
-    let next = r'.given.0.1.0 in
-    let w : Within s a.at.now 255 (Value v next) = rw r'.given.1 at c.before.before.before.before.before.before.code_at.ensures.1 in
+    let a = c.args in
+    let s = c.args.s.now in
+    let v = c.in-Value.v in
+    let next = c.in-Value.next in
+    let w : Within s a.at.now 255 (Value v next) = rw c.in-Value.is at c.code_at-r.ensures.1 in
     omega (arith, w)
 
-put-token-requires : tie.Need-put-token-requires
+put-token-requires : tie.Need-put_token-requires
 put-token-requires c κs = search rules
 
-enum-known-r-2 : tie.Need-enum-known-r-2
+enum-known-r-2 : tie.Need-enum_known-r-in-Refused-1
 enum-known-r-2 c = search rules
 
-same_length : tie.Need-same-length
+same_length : tie.Need-shape_of-kinds
 same_length c = search rules
 
-same-length-2 : tie.Need-same-length-2
+same-length-2 : tie.Need-shape_of-vals
 same-length-2 c = search rules
 
-returns-2 : tie.Need-returns-2
+returns-2 : tie.Need-returns-in-Value
 returns-2 c =
-    let a = c.before.before.before.before.before.before.before.before.before.before.before.before.before.before.before.before.before.args in
-    let r' = c.before.before.before.before.before.before.before.before.before.r in
-    let code-at' = c.before.before.before.before.before.before.before.before.before.before.before.code_at in
-    let put-token' = c.before.before.before.before.put-token in
-    let s = a.s.now in
-    let l = a.limit in
+    let a = c.args in
+    let code-at' = c.code_at-r in
+    let put-token' = c.put_token in
+    let s = c.args.s.now in
+    let l = c.args.limit in
     let p = place a.at.now a.top.now a.nodes l in
     let d = area a.kinds.now a.vals.now in
-    let v = r'.given.0.0 in
-    let next = r'.given.0.1.0 in
-    let w : Within s a.at.now 255 (Value v next) = rw r'.given.1 at code-at'.ensures.1 in
-    coded_yes s p d (area put-token'.new.0 put-token'.new.1.0) a.codes v next c.before.before.before.before.before.before.before.before.before.before.before.before.before.if1.false (rw r'.given.1 at code-at'.ensures.0) w put-token'.ensures
+    let v = c.in-Value.v in
+    let next = c.in-Value.next in
+    let w : Within s a.at.now 255 (Value v next) = rw c.in-Value.is at code-at'.ensures.1 in
+    coded_yes s p d (area c.put_token.new.kinds c.put_token.new.vals) a.codes v next c.if-codes-eq0.false (rw c.in-Value.is at code-at'.ensures.0) w put-token'.ensures
 
-returns-3 : tie.Need-returns-3
+returns-3 : tie.Need-returns-in-Refused
 returns-3 c =
-    let a = c.before.before.before.before.before.before.before.before.before.args in
-    let r2' = c.before.r2 in
-    let s = a.s.now in
-    let l = a.limit in
+    let a = c.args in
+    let s = c.args.s.now in
+    let l = c.args.limit in
     let p = place a.at.now a.top.now a.nodes l in
     let d = area a.kinds.now a.vals.now in
-    let n = r2'.given.0.0 in
-    let g = rw r2'.given.1 at c.before.before.before.code_at.ensures.0 in
-    rw (stops n a.at.now a.top.now a.nodes l (λ z. omega (arith, z, code_some s a.codes a.at.now n g))) (coded_no s p d d a.codes n c.before.before.before.before.before.if1.false g)
+    let n = c.in-Refused.e in
+    let g = rw c.in-Refused.is at c.code_at-r.ensures.0 in
+    rw (stops n a.at.now a.top.now a.nodes l (λ z. omega (arith, z, code_some s a.codes a.at.now n g))) (coded_no s p d d a.codes n c.if-codes-eq0.false g)
 
-pub read-code-spec : {M : Type 1} → statement M
-read-code-spec = tie.close (tie.spec returns code-at-requires enum-known-r add-top cast-put-token put-token-requires enum-known-r-2 same_length same-length-2 returns-2 returns-3)
+pub read_code_spec : {M : Type 1} → statement M
+read_code_spec = tie.close (tie.spec returns code-at-requires enum-known-r add-top cast-put-token put-token-requires enum-known-r-2 same_length same-length-2 returns-2 returns-3)

@@ -11,75 +11,70 @@ use borrow.Author.Rules.{rules}
 use Rattle.terms.proofs.virtual_tokens.token_at.Statement.{statement}
 use Rattle.terms.proofs.virtual_tokens.token_at.Tie as tie
 
-locate-requires : tie.Need-locate-requires
+locate-requires : tie.Need-locate-s-requires
 locate-requires c κs = search rules
 
-enum-known-s : tie.Need-enum-known-s
+enum-known-s : tie.Need-enum_known-s
 enum-known-s c = search rules
 
 word-requires : tie.Need-word-requires
 word-requires c κs = search rules
 
-word-requires-2 : tie.Need-word-requires-2
+word-requires-2 : tie.Need-word-requires-in-Lent
 word-requires-2 c κs = search rules
 
-enum_told : tie.Need-enum-told
+enum_told : tie.Need-enum_told-1
 enum_told c = search rules
 
-enum-told-2 : tie.Need-enum-told-2
+enum-told-2 : tie.Need-enum_told-in-Head
 enum-told-2 c = search rules
 
-enum-told-3 : tie.Need-enum-told-3
+enum-told-3 : tie.Need-enum_told-in-Nowhere
 enum-told-3 c = search rules
 
-returns : tie.Need-returns
+returns : tie.Need-returns-in-Lent
 returns c =
-    let start = c.before.before.before.before.before.before.before.before in
-    let s' = c.before.before.before.s in
-    let ks = start.args.kinds.now in
-    let vs = start.args.vals.now in
-    let l : Located start.args.g (length ks) start.args.q (Lent s'.given.0.0) = rw s'.given.1 at c.before.before.before.before.before.locate.ensures
+    let ks = c.args.kinds.now in
+    let vs = c.args.vals.now in
+    let l : Located c.args.g (length ks) c.args.q (Lent c.in-Lent.p) = rw c.in-Lent.is at c.locate-s.ensures
     in (
-      c.before.word.ensures ∙ sym (spot_word ks start.args.g 5 20 (length ks) start.args.q (Lent s'.given.0.0) l refl),
-      c.word2.ensures ∙
-          sym (spot_word vs start.args.g 1 start.args.g.size (length ks) start.args.q (Lent s'.given.0.0) l start.requires.pairs),
+      c.word.ensures ∙ sym (spot_word ks c.args.g 5 20 (length ks) c.args.q (Lent c.in-Lent.p) l refl),
+      c.word-in-Lent.ensures ∙
+          sym (spot_word vs c.args.g 1 c.args.g.size (length ks) c.args.q (Lent c.in-Lent.p) l c.requires.pairs),
     )
 
-returns-2 : tie.Need-returns-2
+returns-2 : tie.Need-returns-in-Error
 returns-2 c =
-    let start = c.before.before.before.before.before in
-    let ks = start.args.kinds.now in
-    let vs = start.args.vals.now in
-    let l : Located start.args.g (length ks) start.args.q Error = rw c.enum_told.given.1 at c.before.before.locate.ensures in (
-      sym (spot_word ks start.args.g 5 20 (length ks) start.args.q Error l refl),
-      sym (spot_word vs start.args.g 1 start.args.g.size
-          (length ks) start.args.q Error l start.requires.pairs),
+    let ks = c.args.kinds.now in
+    let vs = c.args.vals.now in
+    let l : Located c.args.g (length ks) c.args.q Error = rw c.in-Error.is at c.locate-s.ensures in (
+      sym (spot_word ks c.args.g 5 20 (length ks) c.args.q Error l refl),
+      sym (spot_word vs c.args.g 1 c.args.g.size
+          (length ks) c.args.q Error l c.requires.pairs),
     )
 
-returns-3 : tie.Need-returns-3
+returns-3 : tie.Need-returns-in-Head
 returns-3 c =
-    let start = c.before.before.before.before.before in
-    let ks = start.args.kinds.now in
-    let vs = start.args.vals.now in
-    let l : Located start.args.g (length ks) start.args.q Head = rw c.enum-told2.given.1 at c.before.before.locate.ensures in (
-      sym (spot_word ks start.args.g 5 20 (length ks) start.args.q Head l refl),
-      sym (spot_word vs start.args.g 1 start.args.g.size
-          (length ks) start.args.q Head l start.requires.pairs),
+    let ks = c.args.kinds.now in
+    let vs = c.args.vals.now in
+    let l : Located c.args.g (length ks) c.args.q Head = rw c.in-Head.is at c.locate-s.ensures in (
+      sym (spot_word ks c.args.g 5 20 (length ks) c.args.q Head l refl),
+      sym (spot_word vs c.args.g 1 c.args.g.size
+          (length ks) c.args.q Head l c.requires.pairs),
     )
 
-returns-4 : tie.Need-returns-4
+returns-4 : tie.Need-returns-in-Nowhere
 returns-4 c =
-    let start = c.before.before.before.before.before in
-    let ks = start.args.kinds.now in
-    let vs = start.args.vals.now in
-    let l : Located start.args.g (length ks) start.args.q Nowhere = rw c.enum-told3.given.1 at c.before.before.locate.ensures in (
-      sym (spot_word ks start.args.g 5 20 (length ks) start.args.q Nowhere l refl),
-      sym (spot_word vs start.args.g 1 start.args.g.size
-          (length ks) start.args.q Nowhere l start.requires.pairs),
+    let ks = c.args.kinds.now in
+    let vs = c.args.vals.now in
+    let l : Located c.args.g (length ks) c.args.q Nowhere = rw c.in-Nowhere.is at c.locate-s.ensures in (
+      sym (spot_word ks c.args.g 5 20 (length ks) c.args.q Nowhere l refl),
+      sym (spot_word vs c.args.g 1 c.args.g.size
+          (length ks) c.args.q Nowhere l c.requires.pairs),
     )
 
-pub token-at-spec : {M : Type 1} → statement M
-token-at-spec =
+pub token_at_spec : {M : Type 1} → statement M
+token_at_spec =
     tie.close
     (tie.spec
     locate-requires

@@ -7,16 +7,16 @@ use Rattle.terms.proofs.Laws.Normalising.FixedLaws.{Counting, counting_start, co
 use Rattle.terms.proofs.walking.fixed_nodes.Statement.{statement}
 use Rattle.terms.proofs.walking.fixed_nodes.Tie as tie
 
-abbrev invariant-loop : tie.invariant-loop
+abbrev invariant-loop : tie.invariant-loop-q
 invariant-loop kinds vals most from span end n₀ q₀ n q = Counting kinds vals from from q end n
 
-abbrev decreases-loop : tie.decreases-loop
+abbrev decreases-loop : tie.decreases-loop-q
 decreases-loop kinds vals most from span end n₀ q₀ n q = end - q
 
-returns : tie.Need-returns invariant-loop decreases-loop
+returns : tie.Need-returns-then-x-ne0 invariant-loop decreases-loop
 returns c = ((omega arith, omega arith), λ h. absurd (omega arith))
 
-wide-requires : tie.Need-wide-requires invariant-loop decreases-loop
+wide-requires : tie.Need-wide-from-requires invariant-loop decreases-loop
 wide-requires c κs = search rules
 
 word-requires : tie.Need-word-requires invariant-loop decreases-loop
@@ -25,73 +25,72 @@ word-requires c κs = search rules
 word-requires-2 : tie.Need-word-requires-2 invariant-loop decreases-loop
 word-requires-2 c κs = search rules
 
-step-requires : tie.Need-step-requires invariant-loop decreases-loop
+step-requires : tie.Need-step-span-requires invariant-loop decreases-loop
 step-requires c κs = search rules
 
-returns-2 : tie.Need-returns-2 invariant-loop decreases-loop
+returns-2 : tie.Need-returns-then-span-gt-TRIED invariant-loop decreases-loop
 returns-2 c = ((omega arith, omega arith), λ h. absurd (omega arith))
 
-add-end : tie.Need-overflow-add-end invariant-loop decreases-loop
-add-end c = omega (arith, c.before.before.before.before.wide.ensures, c.before.step.ensures.0)
+add-end : tie.Need-overflow_add-end invariant-loop decreases-loop
+add-end c = omega (arith, c.wide-from.ensures, c.step-span.ensures.0)
 
-returns-3 : tie.Need-returns-3 invariant-loop decreases-loop
+returns-3 : tie.Need-returns-then-kinds-end invariant-loop decreases-loop
 returns-3 c = ((omega arith, omega arith), λ h. absurd (omega arith))
 
-loop-holds : tie.Need-loop-init invariant-loop decreases-loop
+loop-holds : tie.Need-loop-q-init invariant-loop decreases-loop
 loop-holds c =
-    let wide' = c.before.before.before.before.before.wide in
-    let step' = c.before.before.step in
-    counting_start _ _ _ _ _ refl (omega (arith, wide'.ensures)) (omega (arith, step'.ensures.0)) c.before.before.before.before.word.ensures c.before.before.before.word2.ensures
+    let wide' = c.wide-from in
+    let step' = c.step-span in
+    counting_start _ _ _ _ _ refl (omega (arith, wide'.ensures)) (omega (arith, step'.ensures.0)) c.word.ensures c.word-2.ensures
     step'.ensures.1 (omega arith)
 
-mul-k : tie.Need-overflow-mul-k invariant-loop decreases-loop
+mul-k : tie.Need-offset_bounds-kinds-q invariant-loop decreases-loop
 mul-k c = search rules
 
-shared-slice-read-k : tie.Need-shared-slice-read-k invariant-loop decreases-loop
-shared-slice-read-k c = omega (arith, c.before.before.loop.invariant.within, c.before.loop-test.true)
+shared-slice-read-k : tie.Need-bounds-kinds-q invariant-loop decreases-loop
+shared-slice-read-k c = omega (arith, c.loop-q.invariant.within, c.loop-q-test.true)
 
-returns-4 : tie.Need-returns-4 invariant-loop decreases-loop
+returns-4 : tie.Need-returns-then-k-eq20 invariant-loop decreases-loop
 returns-4 c = ((omega arith, omega arith), λ h. absurd (omega arith))
 
-first-of-node-requires : tie.Need-first-of-node-requires invariant-loop decreases-loop
+first-of-node-requires : tie.Need-first_of_node-n-requires invariant-loop decreases-loop
 first-of-node-requires c κs = search rules
 
-add-n : tie.Need-overflow-add-n invariant-loop decreases-loop
+add-n : tie.Need-overflow_add-n invariant-loop decreases-loop
 add-n c =
-    let l = c.before.before.before.before.loop in
-    omega (arith, l.invariant.low, l.invariant.scan.small, c.before.before.before.loop-test.true, first_few _ _ c.first-of-node.ensures)
+    let l = c.loop-q in
+    omega (arith, l.invariant.low, l.invariant.scan.small, c.loop-q-test.true, first_few _ _ c.first_of_node-n.ensures)
 
-add-q : tie.Need-overflow-add-q invariant-loop decreases-loop
-add-q c = omega (arith, c.before.before.before.before.loop.invariant.scan.small, c.before.before.before.loop-test.true)
+add-q : tie.Need-overflow_add-q invariant-loop decreases-loop
+add-q c = omega (arith, c.loop-q.invariant.scan.small, c.loop-q-test.true)
 
-loop-less : tie.Need-loop-smaller invariant-loop decreases-loop
-loop-less c = omega (arith, c.before.before.before.loop-test.true)
+loop-less : tie.Need-loop-q-smaller invariant-loop decreases-loop
+loop-less c = omega (arith, c.loop-q-test.true)
 
-loop-again : tie.Need-loop-preserved invariant-loop decreases-loop
+loop-again : tie.Need-loop-q-preserved invariant-loop decreases-loop
 loop-again c =
-    counting_next _ _ _ _ _ _ _ c.before.before.before.before.loop.invariant c.before.before.before.loop-test.true refl c.before.if4.false c.first-of-node.ensures
+    counting_next _ _ _ _ _ _ _ c.loop-q.invariant c.loop-q-test.true refl c.if-k-eq20.false c.first_of_node-n.ensures
 
-returns-5 : tie.Need-returns-5 invariant-loop decreases-loop
+returns-5 : tie.Need-returns-then-most-n invariant-loop decreases-loop
 returns-5 c = ((omega arith, omega arith), λ h. absurd (omega arith))
 
-returns-6 : tie.Need-returns-6 invariant-loop decreases-loop
+returns-6 : tie.Need-returns invariant-loop decreases-loop
 returns-6 c =
-    let start = c.before.before.before.before.before.before.before.before.before.before.before.before.before in
-    let l = c.before.before.loop in
-    let step' = c.before.before.before.before.before.step in
-    let from' = c.before.before.before.before.before.before.before.before.wide.ensures in
-    let word' = c.before.before.before.before.before.before.before.word.ensures in
-    let word'' = c.before.before.before.before.before.before.word2.ensures in (
-      (omega (arith, c.if5.false), omega (arith, l.invariant.low, l.invariant.high, c.before.before.before.before.if2.false)),
+    let l = c.loop-q in
+    let step' = c.step-span in
+    let from' = c.wide-from.ensures in
+    let word' = c.word.ensures in
+    let word'' = c.word-2.ensures in (
+      (omega (arith, c.if-most-n.false), omega (arith, l.invariant.low, l.invariant.high, c.if-span-gt-TRIED.false)),
       λ some. record {
-        source = c.before.before.before.before.before.before.before.before.before.if1.false;
-        lent = lent_span start.args.kinds.now start.args.vals.now _ _ _ from' word' word'' step'.ensures.1 (omega (arith, c.before.before.before.if3.false));
-        is = λ t h. counting_done _ _ _ _ _ _ _ l.invariant (omega (arith, c.before.loop-test.false)) t (rw from' h);
+        source = c.if-x-ne0.false;
+        lent = lent_span c.args.kinds.now c.args.vals.now _ _ _ from' word' word'' step'.ensures.1 (omega (arith, c.if-kinds-end.false));
+        is = λ t h. counting_done _ _ _ _ _ _ _ l.invariant (omega (arith, c.loop-q-test.false)) t (rw from' h);
       },
     )
 
-pub fixed-nodes-spec : {M : Type 1} → statement M
-fixed-nodes-spec =
+pub fixed_nodes_spec : {M : Type 1} → statement M
+fixed_nodes_spec =
     tie.close
     (tie.spec
     invariant-loop

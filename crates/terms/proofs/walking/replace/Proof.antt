@@ -13,58 +13,53 @@ use borrow.Author.Rules.{rules}
 use Rattle.terms.proofs.walking.replace.Statement.{statement}
 use Rattle.terms.proofs.walking.replace.Tie as tie
 
-own-member-requires : tie.Need-own-member-requires
-own-member-requires c κs = (c.before.before.before.before.before.requires.0, c.before.before.before.before.before.requires.1.1.0)
+own-member-requires : tie.Need-own_member-own-requires
+own-member-requires c κs = (c.requires.0, c.requires.1.1.0)
 
-enum-known-own : tie.Need-enum-known-own
+enum-known-own : tie.Need-enum_known-own
 enum-known-own c = search rules
 
-returns : tie.Need-returns
+returns : tie.Need-returns-in-At
 returns c =
-    let start = c.before.before.before.before.before.before.before.before.before in
     λ S t look w d k.
-    let e = sym (start.requires.1.0.is start.args.heads.now start.args.kids.now S _ t w) in
-    let r = rw c.before.own.given.1 at (c.before.before.before.own-member.ensures S t w) in
+    let e = sym (c.requires.1.0.is c.args.heads.now c.args.kids.now S _ t w) in
+    let r = rw c.in-At.is at (c.own_member-own.ensures S t w) in
     (r.0, replace_own (look_by look) t e r.0 r.1, r.2)
 
-enum_told : tie.Need-enum-told
+enum_told : tie.Need-enum_told-1
 enum_told c = search rules
 
-find-rule-requires : tie.Need-find-rule-requires
+find-rule-requires : tie.Need-find_rule-requires
 find-rule-requires c κs =
-    let start = c.before.before.before.before.before.before.before.before.before.before in
-    (start.requires.0, start.requires.1.1.1.0)
+    (c.requires.0, c.requires.1.1.1.0)
 
-returns-2 : tie.Need-returns-2
+returns-2 : tie.Need-returns-then-g-eq0
 returns-2 c =
-    let start = c.before.before.before.before.before.before.before.before.before.before.before in
     λ S t look w d k.
-    let e = sym (start.requires.1.0.is start.args.heads.now start.args.kids.now S _ t
+    let e = sym (c.requires.1.0.is c.args.heads.now c.args.kids.now S _ t
     w) in
-    let o = rw c.before.before.before.enum_told.given.1 at (c.before.before.before.before.before.own-member.ensures S t w) in
+    let o = rw c.in_default.is at (c.own_member-own.ensures S t w) in
     rw (replace_look (look_by look) t e o)
-    (looked_rules start.args.kinds.now start.args.vals.now start.args.rules.now start.args.g
-    (λ (q : Option Term). Fetched (view start.args.kinds.now start.args.vals.now start.args.g) start.args.heads.now start.args.kids.now
-    S q c.find-rule.result)
-    (row t) look k c.before.if1.true (λ rs h. c.find-rule.ensures S t rs w (omega (arith, depth_row t)) h))
+    (looked_rules c.args.kinds.now c.args.vals.now c.args.rules.now c.args.g
+    (λ (q : Option Term). Fetched (view c.args.kinds.now c.args.vals.now c.args.g) c.args.heads.now c.args.kids.now
+    S q c.find_rule.result)
+    (row t) look k c.if-g-eq0.true (λ rs h. c.find_rule.ensures S t rs w (omega (arith, depth_row t)) h))
 
-by-interface-requires : tie.Need-by-interface-requires
+by-interface-requires : tie.Need-by_interface-requires
 by-interface-requires c κs =
-    let start = c.before.before.before.before.before.before.before.before.before.before in
-    (start.requires.0, (start.requires.1.1.0, start.requires.1.1.1.1))
+    (c.requires.0, (c.requires.1.1.0, c.requires.1.1.1.1))
 
-returns-3 : tie.Need-returns-3
+returns-3 : tie.Need-returns
 returns-3 c =
-    let start = c.before.before.before.before.before.before.before.before.before.before.before in
     λ S t look w d k.
-    let e = sym (start.requires.1.0.is start.args.heads.now start.args.kids.now S _ t
+    let e = sym (c.requires.1.0.is c.args.heads.now c.args.kids.now S _ t
     w) in
-    let o = rw c.before.before.before.enum_told.given.1 at (c.before.before.before.before.before.own-member.ensures S t w) in
+    let o = rw c.in_default.is at (c.own_member-own.ensures S t w) in
     rw (replace_look (look_by look) t e o)
-    (looked_through start.args.kinds.now start.args.vals.now start.args.rules.now start.args.g
-    (λ (q : Option Term). Fetched (view start.args.kinds.now start.args.vals.now start.args.g) start.args.heads.now start.args.kids.now
-    S q c.by-interface.result)
-    (row t) look k c.before.if1.false (λ i owner h. c.by-interface.ensures S t i owner w e d h))
+    (looked_through c.args.kinds.now c.args.vals.now c.args.rules.now c.args.g
+    (λ (q : Option Term). Fetched (view c.args.kinds.now c.args.vals.now c.args.g) c.args.heads.now c.args.kids.now
+    S q c.by_interface.result)
+    (row t) look k c.if-g-eq0.false (λ i owner h. c.by_interface.ensures S t i owner w e d h))
 
 pub replace_spec : {M : Type 1} → statement M
 replace_spec =

@@ -8,64 +8,64 @@ use borrow.Author.Rules.{rules}
 use Rattle.terms.proofs.write.put_run.Statement.{statement}
 use Rattle.terms.proofs.write.put_run.Tie as tie
 
-mul-if1 : tie.Need-overflow-mul-if1
+mul-if1 : tie.Need-overflow_mul-count
 mul-if1 c = search rules
 
-add-if1 : tie.Need-overflow-add-if1
+add-if1 : tie.Need-overflow_add-at
 add-if1 c = search rules
 
-write-run-requires : tie.Need-write-run-requires
+write-run-requires : tie.Need-write_run-requires
 write-run-requires c κs =
-    let a = c.before.before.before.before.before.args in
-    let b = spelt_short a.kinds.now a.vals.now (λ i. omega (arith, c.before.before.before.shared-slice-known2.given i)) a.from a.count in
-    (c.before.before.before.before.before.requires.0, omega (arith, c.before.if1.true))
+    let a = c.args in
+    let b = spelt_short a.kinds.now a.vals.now (λ i. omega (arith, c.shared_slice_known-2-1.given i)) a.from a.count in
+    (c.requires.0, omega (arith, c.if-at-count.true))
 
-same_length : tie.Need-same-length
+same_length : tie.Need-shape_of-out-then-at-count
 same_length c = search rules
 
-returns : tie.Need-returns
+returns : tie.Need-returns-then-at-count
 returns c =
-    let a = c.before.before.before.before.before.before.before.before.args in
-    let b = spelt_short a.kinds.now a.vals.now (λ i. omega (arith, c.before.before.before.before.before.before.shared-slice-known2.given i)) a.from a.count in
-    (c.before.before.write-run.ensures.0, (c.before.before.write-run.ensures.1 ∙ put_fits a.out.now a.at (spelt a.kinds.now a.vals.now a.from a.count) _ refl (omega (arith, c.before.before.before.before.if1.true)), omega (arith, c.before.before.write-run.ensures.0)))
+    let a = c.args in
+    let b = spelt_short a.kinds.now a.vals.now (λ i. omega (arith, c.shared_slice_known-2-1.given i)) a.from a.count in
+    (c.write_run.ensures.0, (c.write_run.ensures.1 ∙ put_fits a.out.now a.at (spelt a.kinds.now a.vals.now a.from a.count) _ refl (omega (arith, c.if-at-count.true)), omega (arith, c.write_run.ensures.0)))
 
-run-len-requires : tie.Need-run-len-requires
+run-len-requires : tie.Need-run_len-n-requires
 run-len-requires c κs = search rules
 
-add-if2 : tie.Need-overflow-add-if2
+add-if2 : tie.Need-overflow_add-at-2
 add-if2 c =
-    let a = c.before.before.before.before.before.args in
-    let b = spelt_short a.kinds.now a.vals.now (λ i. omega (arith, c.before.before.before.shared-slice-known2.given i)) a.from a.count in
-    omega (arith, c.run_len.ensures, c.before.before.before.before.before.requires.1)
+    let a = c.args in
+    let b = spelt_short a.kinds.now a.vals.now (λ i. omega (arith, c.shared_slice_known-2-1.given i)) a.from a.count in
+    omega (arith, c.run_len-n.ensures, c.requires.1)
 
-write-run-requires-2 : tie.Need-write-run-requires-2
-write-run-requires-2 c κs = (c.before.before.before.before.before.before.before.requires.0, omega (arith, c.before.before.run_len.ensures, c.before.if2.true))
+write-run-requires-2 : tie.Need-write_run-requires-then-at-n
+write-run-requires-2 c κs = (c.requires.0, omega (arith, c.run_len-n.ensures, c.if-at-n.true))
 
-same-length-2 : tie.Need-same-length-2
+same-length-2 : tie.Need-shape_of-out-then-at-n
 same-length-2 c = search rules
 
-returns-2 : tie.Need-returns-2
+returns-2 : tie.Need-returns-then-at-n
 returns-2 c =
-    let a = c.before.before.before.before.before.before.before.before.before.before.args in
-    let b = spelt_short a.kinds.now a.vals.now (λ i. omega (arith, c.before.before.before.before.before.before.before.before.shared-slice-known2.given i)) a.from a.count in
-    let f = c.before.before.before.before.before.run_len.ensures in
-    (c.before.before.write-run2.ensures.0, (c.before.before.write-run2.ensures.1 ∙ put_fits a.out.now a.at (spelt a.kinds.now a.vals.now a.from a.count) _ f c.before.before.before.before.if2.true, omega (arith, c.before.before.write-run2.ensures.0)))
+    let a = c.args in
+    let b = spelt_short a.kinds.now a.vals.now (λ i. omega (arith, c.shared_slice_known-2-1.given i)) a.from a.count in
+    let f = c.run_len-n.ensures in
+    (c.write_run-then-at-n.ensures.0, (c.write_run-then-at-n.ensures.1 ∙ put_fits a.out.now a.at (spelt a.kinds.now a.vals.now a.from a.count) _ f c.if-at-n.true, omega (arith, c.write_run-then-at-n.ensures.0)))
 
-add-result : tie.Need-overflow-add-result
+add-result : tie.Need-overflow_add-result
 add-result c =
-    let a = c.before.before.before.before.before.before.args in
-    let b = spelt_short a.kinds.now a.vals.now (λ i. omega (arith, c.before.before.before.before.shared-slice-known2.given i)) a.from a.count in
-    omega (arith, c.before.run_len.ensures, c.before.before.before.before.before.before.requires.1)
+    let a = c.args in
+    let b = spelt_short a.kinds.now a.vals.now (λ i. omega (arith, c.shared_slice_known-2-1.given i)) a.from a.count in
+    omega (arith, c.run_len-n.ensures, c.requires.1)
 
-returns-3 : tie.Need-returns-3
+returns-3 : tie.Need-returns
 returns-3 c =
-    let a = c.before.before.before.before.before.before.args in
-    let b = spelt_short a.kinds.now a.vals.now (λ i. omega (arith, c.before.before.before.before.shared-slice-known2.given i)) a.from a.count in
-    let f = c.before.run_len.ensures in
-    (omega (arith, f), (put_long a.out.now a.at (spelt a.kinds.now a.vals.now a.from a.count) _ f c.if2.false, omega (arith, f)))
+    let a = c.args in
+    let b = spelt_short a.kinds.now a.vals.now (λ i. omega (arith, c.shared_slice_known-2-1.given i)) a.from a.count in
+    let f = c.run_len-n.ensures in
+    (omega (arith, f), (put_long a.out.now a.at (spelt a.kinds.now a.vals.now a.from a.count) _ f c.if-at-n.false, omega (arith, f)))
 
-pub put-run-spec : {M : Type 1} → statement M
-put-run-spec =
+pub put_run_spec : {M : Type 1} → statement M
+put_run_spec =
     tie.close
     (tie.spec
     mul-if1

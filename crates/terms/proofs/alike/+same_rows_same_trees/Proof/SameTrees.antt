@@ -21,106 +21,104 @@ module _ (t : ℕ) where
   abbrev claims : lts.Claims
   claims = (wide-reads.Asked, wide-reads.Learnt, token-at-reads.Asked, token-at-reads.Learnt, is-lent-reads.Asked, is-lent-reads.Learnt, same-term-reads.Asked, same-term-reads.Learnt, cursor-reads.Asked, cursor-reads.Learnt, same-rows-below t, same_rows.Post)
 
-  returns : lts.Need-returns claims (same-trees-at t) same-trees.Post
-  returns c = alike_none _ _ _ _ _ _ c.if1.true
+  returns : lts.Need-returns-then-fuel-eq0 claims (same-trees-at t) same-trees.Post
+  returns c = alike_none _ _ _ _ _ _ c.if-fuel-eq0.true
 
   wide-requires : lts.Need-wide-requires claims (same-trees-at t) same-trees.Post
   wide-requires c κs = search rules
 
-  token-at-requires : lts.Need-token-at-requires claims (same-trees-at t) same-trees.Post
-  token-at-requires c κs = c.before.before.before.before.before.before.requires.1
+  token-at-requires : lts.Need-token_at-s-requires claims (same-trees-at t) same-trees.Post
+  token-at-requires c κs = c.requires.1
 
   wide-requires-2 : lts.Need-wide-requires-2 claims (same-trees-at t) same-trees.Post
   wide-requires-2 c κs = search rules
 
-  token-at-requires-2 : lts.Need-token-at-requires-2 claims (same-trees-at t) same-trees.Post
-  token-at-requires-2 c κs = c.before.before.before.before.before.before.before.before.requires.1
+  token-at-requires-2 : lts.Need-token_at-t-requires claims (same-trees-at t) same-trees.Post
+  token-at-requires-2 c κs = c.requires.1
 
-  returns-2 : lts.Need-returns-2 claims (same-trees-at t) same-trees.Post
+  returns-2 : lts.Need-returns-then-s-t claims (same-trees-at t) same-trees.Post
   returns-2 c =
-      let token-at' = c.before.before.before.before.before.token-at in
-      let token-at2' = c.before.before.before.token-at2 in
-      alike_kinds _ _ _ _ _ _ _ _ c.before.before.before.before.before.before.wide.ensures c.before.before.before.before.wide2.ensures
-      token-at'.ensures.0 token-at'.ensures.1 token-at2'.ensures.0 token-at2'.ensures.1 c.if2.true
+      let token-at' = c.token_at-s in
+      let token-at2' = c.token_at-t in
+      alike_kinds _ _ _ _ _ _ _ _ c.wide.ensures c.wide-2.ensures
+      token-at'.ensures.0 token-at'.ensures.1 token-at2'.ensures.0 token-at2'.ensures.1 c.if-s-t.true
 
-  returns-3 : lts.Need-returns-3 claims (same-trees-at t) same-trees.Post
+  returns-3 : lts.Need-returns-then-s-eq1 claims (same-trees-at t) same-trees.Post
   returns-3 c =
-      let token-at' = c.before.before.before.before.before.before.before.before.before.token-at in
-      let token-at2' = c.before.before.before.before.before.before.before.token-at2 in
-      alike_vars _ _ _ _ _ _ _ _ c.before.before.before.before.before.before.before.before.before.before.wide.ensures c.before.before.before.before.before.before.before.before.wide2.ensures
-      token-at'.ensures.0 token-at'.ensures.1 token-at2'.ensures.0 token-at2'.ensures.1 c.before.before.before.before.if2.false c.before.before.if3.true
+      let token-at' = c.token_at-s in
+      let token-at2' = c.token_at-t in
+      alike_vars _ _ _ _ _ _ _ _ c.wide.ensures c.wide-2.ensures
+      token-at'.ensures.0 token-at'.ensures.1 token-at2'.ensures.0 token-at2'.ensures.1 c.if-s-t.false c.if-s-eq1.true
 
-  is-lent-requires : lts.Need-is-lent-requires claims (same-trees-at t) same-trees.Post
+  is-lent-requires : lts.Need-is_lent-requires claims (same-trees-at t) same-trees.Post
   is-lent-requires c κs = search rules
 
-  is-lent-requires-2 : lts.Need-is-lent-requires-2 claims (same-trees-at t) same-trees.Post
+  is-lent-requires-2 : lts.Need-is_lent-requires-then-is_lent claims (same-trees-at t) same-trees.Post
   is-lent-requires-2 c κs = search rules
 
-  wide-requires-3 : lts.Need-wide-requires-3 claims (same-trees-at t) same-trees.Post
+  wide-requires-3 : lts.Need-wide-requires-then-is_lent-2 claims (same-trees-at t) same-trees.Post
   wide-requires-3 c κs = search rules
 
-  wide-requires-4 : lts.Need-wide-requires-4 claims (same-trees-at t) same-trees.Post
+  wide-requires-4 : lts.Need-wide-requires-then-is_lent-2-2 claims (same-trees-at t) same-trees.Post
   wide-requires-4 c κs = search rules
 
-  same-term-requires : lts.Need-same-term-requires claims (same-trees-at t) same-trees.Post
+  same-term-requires : lts.Need-same_term-requires claims (same-trees-at t) same-trees.Post
   same-term-requires c κs =
-      let start = c.before.before.before.before.before.before.before.before.before.before.before.before.before.before.before.before.before.before.before.before in
-      let l = lent_true start.args.kinds.now start.args.vals.now start.args.x _ c.before.before.before.before.before.is-lent.ensures c.before.before.before.before.if4.true in
-      let m = lent_true start.args.kinds.now start.args.vals.now start.args.y _ c.before.before.before.is-lent2.ensures c.before.before.if5.true in
-      (rw c.before.wide3.ensures (lent_first start.args.kinds.now start.args.vals.now start.args.x.head l.1), rw c.wide4.ensures (lent_first start.args.kinds.now start.args.vals.now start.args.y.head m.1), start.requires.1.pairs)
+      let l = lent_true c.args.kinds.now c.args.vals.now c.args.x _ c.is_lent.ensures c.if-is_lent.true in
+      let m = lent_true c.args.kinds.now c.args.vals.now c.args.y _ c.is_lent-then-is_lent.ensures c.if-is_lent-2.true in
+      (rw c.wide-then-is_lent-2.ensures (lent_first c.args.kinds.now c.args.vals.now c.args.x.head l.1), rw c.wide-then-is_lent-2-2.ensures (lent_first c.args.kinds.now c.args.vals.now c.args.y.head m.1), c.requires.1.pairs)
 
-  returns-4 : lts.Need-returns-4 claims (same-trees-at t) same-trees.Post
+  returns-4 : lts.Need-returns-then-is_lent-2 claims (same-trees-at t) same-trees.Post
   returns-4 c =
-      let start = c.before.before.before.before.before.before.before.before.before.before.before.before.before.before.before.before.before.before.before.before.before in
-      alike_lent start.args.kinds.now start.args.vals.now start.args.g start.requires.1 start.args.heads.now start.args.kids.now start.args.x start.args.y start.args.fuel _ _
-      c.before.before.wide3.ensures c.before.wide4.ensures (lent_true start.args.kinds.now start.args.vals.now start.args.x _ c.before.before.before.before.before.before.is-lent.ensures c.before.before.before.before.before.if4.true) (lent_true start.args.kinds.now start.args.vals.now start.args.y _ c.before.before.before.before.is-lent2.ensures c.before.before.before.if5.true)
-      _ c.same-term.ensures
+      alike_lent c.args.kinds.now c.args.vals.now c.args.g c.requires.1 c.args.heads.now c.args.kids.now c.args.x c.args.y c.args.fuel _ _
+      c.wide-then-is_lent-2.ensures c.wide-then-is_lent-2-2.ensures (lent_true c.args.kinds.now c.args.vals.now c.args.x _ c.is_lent.ensures c.if-is_lent.true) (lent_true c.args.kinds.now c.args.vals.now c.args.y _ c.is_lent-then-is_lent.ensures c.if-is_lent-2.true)
+      _ c.same_term.ensures
 
-  cursor-requires : lts.Need-cursor-requires claims (same-trees-at t) same-trees.Post
-  cursor-requires c κs = c.before.before.before.before.before.before.before.before.before.before.before.before.before.before.before.before.requires.1
+  cursor-requires : lts.Need-cursor-a-requires claims (same-trees-at t) same-trees.Post
+  cursor-requires c κs = c.requires.1
 
-  cursor-requires-2 : lts.Need-cursor-requires-2 claims (same-trees-at t) same-trees.Post
-  cursor-requires-2 c κs = c.before.before.before.before.before.before.before.before.before.before.before.before.before.before.before.before.before.requires.1
+  cursor-requires-2 : lts.Need-cursor-b-requires claims (same-trees-at t) same-trees.Post
+  cursor-requires-2 c κs = c.requires.1
 
-  sub-same-rows : lts.Need-overflow-sub-same-rows claims (same-trees-at t) same-trees.Post
+  sub-same-rows : lts.Need-overflow_sub-fuel claims (same-trees-at t) same-trees.Post
   sub-same-rows c = search rules
 
-  same-rows-requires : lts.Need-same-rows-requires claims (same-trees-at t) same-trees.Post
+  same-rows-requires : lts.Need-same_rows-m-requires claims (same-trees-at t) same-trees.Post
   same-rows-requires c κs =
-      let start = c.before.before.before.before.before.before.before.before.before.before.before.before.before.before.before.before.before.before in (
-        omega (arith, start.requires.0, c.before.before.before.before.before.before.before.before.before.before.before.before.before.if1.false),
+      (
+        omega (arith, c.requires.0, c.if-fuel-eq0.false),
         (
-          start.requires.1,
-          (c.before.cursor.ensures.cut, c.cursor2.ensures.cut),
+          c.requires.1,
+          (c.cursor-a.ensures.cut, c.cursor-b.ensures.cut),
         ),
       )
 
-  enum-known-m : lts.Need-enum-known-m claims (same-trees-at t) same-trees.Post
+  enum-known-m : lts.Need-enum_known-m claims (same-trees-at t) same-trees.Post
   enum-known-m c = search rules
 
-  enum_told : lts.Need-enum-told claims (same-trees-at t) same-trees.Post
+  enum_told : lts.Need-enum_told-1 claims (same-trees-at t) same-trees.Post
   enum_told c = search rules
 
-  returns-5 : lts.Need-returns-5 claims (same-trees-at t) same-trees.Post
+  returns-5 : lts.Need-returns-in_default claims (same-trees-at t) same-trees.Post
   returns-5 c =
-      let token-at' = c.before.before.before.before.before.before.before.before.before.before.before.before.before.before.token-at in
-      let token-at2' = c.before.before.before.before.before.before.before.before.before.before.before.before.token-at2 in
-      alike_rows _ _ _ _ _ _ _ _ c.before.before.before.before.before.before.before.before.before.before.before.before.before.before.before.wide.ensures
-      c.before.before.before.before.before.before.before.before.before.before.before.before.before.wide2.ensures token-at'.ensures.0 token-at'.ensures.1
-      token-at2'.ensures.0 token-at2'.ensures.1 c.before.before.before.before.before.before.before.before.before.if2.false c.before.before.before.before.before.before.before.if3.false
-      _ _ c.before.before.before.before.cursor.ensures c.before.before.before.cursor2.ensures _ (omega (arith, c.before.before.before.before.before.before.before.before.before.before.before.before.before.before.before.before.if1.false))
-      (rw c.enum_told.given.1 at c.before.before.same_rows.ensures)
+      let token-at' = c.token_at-s in
+      let token-at2' = c.token_at-t in
+      alike_rows _ _ _ _ _ _ _ _ c.wide.ensures
+      c.wide-2.ensures token-at'.ensures.0 token-at'.ensures.1
+      token-at2'.ensures.0 token-at2'.ensures.1 c.if-s-t.false c.if-s-eq1.false
+      _ _ c.cursor-a.ensures c.cursor-b.ensures _ (omega (arith, c.if-fuel-eq0.false))
+      (rw c.in_default.is at c.same_rows-m.ensures)
 
-  returns-6 : lts.Need-returns-6 claims (same-trees-at t) same-trees.Post
+  returns-6 : lts.Need-returns claims (same-trees-at t) same-trees.Post
   returns-6 c =
-      let token-at' = c.before.before.before.before.before.before.before.before.before.before.before.before.before.before.before.before.token-at in
-      let token-at2' = c.before.before.before.before.before.before.before.before.before.before.before.before.before.before.token-at2 in
-      alike_ends _ _ _ _ _ _ _ _ c.before.before.before.before.before.before.before.before.before.before.before.before.before.before.before.before.before.wide.ensures
-      c.before.before.before.before.before.before.before.before.before.before.before.before.before.before.before.wide2.ensures token-at'.ensures.0
-      token-at'.ensures.1 token-at2'.ensures.0 token-at2'.ensures.1 c.before.before.before.before.before.before.before.before.before.before.before.if2.false
-      c.before.before.before.before.before.before.before.before.before.if3.false _ _ c.before.before.before.before.before.before.cursor.ensures c.before.before.before.before.before.cursor2.ensures
-      _ (omega (arith, c.before.before.before.before.before.before.before.before.before.before.before.before.before.before.before.before.before.before.if1.false))
-      _ _ (rw c.before.before.m.given.1 at c.before.before.before.before.same_rows.ensures)
+      let token-at' = c.token_at-s in
+      let token-at2' = c.token_at-t in
+      alike_ends _ _ _ _ _ _ _ _ c.wide.ensures
+      c.wide-2.ensures token-at'.ensures.0
+      token-at'.ensures.1 token-at2'.ensures.0 token-at2'.ensures.1 c.if-s-t.false
+      c.if-s-eq1.false _ _ c.cursor-a.ensures c.cursor-b.ensures
+      _ (omega (arith, c.if-fuel-eq0.false))
+      _ _ (rw c.in-Behind.is at c.same_rows-m.ensures)
 
   pub member : {M : Type 1} → lts.Closed claims (same-trees-at t) same-trees.Post M
   member = lts.spec claims (same-trees-at t) same-trees.Post returns wide-requires token-at-requires wide-requires-2 token-at-requires-2 returns-2 returns-3 is-lent-requires is-lent-requires-2 wide-requires-3 wide-requires-4 same-term-requires returns-4 cursor-requires cursor-requires-2 sub-same-rows same-rows-requires enum-known-m enum_told returns-5 returns-6

@@ -25,85 +25,85 @@ module _ (t : ℕ) where
   abbrev claims : lts.Claims
   claims = (read-fields-reads.Asked, read-fields-reads.Learnt, no-terms-reads.Asked, no-terms-reads.Learnt, read-value-reads.Asked, read-value-reads.Learnt, read-terms-below t, read-terms.Post)
 
-  read-fields-requires : lts.Need-read-fields-requires claims (read-plain-at t) read_plain.Post
+  read-fields-requires : lts.Need-read_fields-a-requires claims (read-plain-at t) read_plain.Post
   read-fields-requires c κs = search rules
 
-  same_length : lts.Need-same-length claims (read-plain-at t) read_plain.Post
+  same_length : lts.Need-shape_of-kinds-then-a-ne0 claims (read-plain-at t) read_plain.Post
   same_length c = search rules
 
-  same-length-2 : lts.Need-same-length-2 claims (read-plain-at t) read_plain.Post
+  same-length-2 : lts.Need-shape_of-vals-then-a-ne0 claims (read-plain-at t) read_plain.Post
   same-length-2 c = search rules
 
-  returns : lts.Need-returns claims (read-plain-at t) read_plain.Post
+  returns : lts.Need-returns-then-a-ne0 claims (read-plain-at t) read_plain.Post
   returns c =
-      let a = c.before.before.before.before.before.before.before.before.before.before.before.before.before.before.args in
-      let read-fields' = c.before.before.before.before.before.read-fields in
-      let s = a.s.now in
-      let l = a.limit in
+      let a = c.args in
+      let read-fields' = c.read_fields-a in
+      let s = c.args.s.now in
+      let l = c.args.limit in
       let p = place a.at.now a.top.now a.nodes.now l in
       let t = term s a.issued a.levels in
       let d = area a.kinds.now a.vals.now in
-      let z = stops read-fields'.result read-fields'.new.1.1.1.0 read-fields'.new.1.1.1.1.0 a.nodes.now l c.if1.true in
-      rw z (plain_no s t p d (area read-fields'.new.1.0 read-fields'.new.1.1.0) a.f read-fields'.result (rw z at read-fields'.ensures))
+      let z = stops read-fields'.result c.read_fields-a.new.at c.read_fields-a.new.top a.nodes.now l c.if-a-ne0.true in
+      rw z (plain_no s t p d (area c.read_fields-a.new.kinds c.read_fields-a.new.vals) a.f read-fields'.result (rw z at read-fields'.ensures))
 
-  no-terms-requires : lts.Need-no-terms-requires claims (read-plain-at t) read_plain.Post
+  no-terms-requires : lts.Need-no_terms-requires claims (read-plain-at t) read_plain.Post
   no-terms-requires c κs = search rules
 
-  same-length-3 : lts.Need-same-length-3 claims (read-plain-at t) read_plain.Post
+  same-length-3 : lts.Need-shape_of-kinds-then-no_terms claims (read-plain-at t) read_plain.Post
   same-length-3 c = search rules
 
-  same-length-4 : lts.Need-same-length-4 claims (read-plain-at t) read_plain.Post
+  same-length-4 : lts.Need-shape_of-vals-then-no_terms claims (read-plain-at t) read_plain.Post
   same-length-4 c = search rules
 
-  returns-2 : lts.Need-returns-2 claims (read-plain-at t) read_plain.Post
+  returns-2 : lts.Need-returns-then-no_terms claims (read-plain-at t) read_plain.Post
   returns-2 c =
-      let a = c.before.before.before.before.before.before.before.before.before.before.before.before.before.before.before.before.args in
-      let read-fields' = c.before.before.before.before.before.before.before.read-fields in
-      let s = a.s.now in
-      let l = a.limit in
+      let a = c.args in
+      let read-fields' = c.read_fields-a in
+      let s = c.args.s.now in
+      let l = c.args.limit in
       let p = place a.at.now a.top.now a.nodes.now l in
       let t = term s a.issued a.levels in
       let d = area a.kinds.now a.vals.now in
-      let q = (place read-fields'.new.1.1.1.0 read-fields'.new.1.1.1.1.0 a.nodes.now l) in
-      let x = rw c.before.before.if1.false at read-fields'.ensures in
-      let z : termless a.f ≡ true = sym c.before.no_terms_lem.ensures ∙ c.if2.true in
-      plain_fields s t p d (area read-fields'.new.1.0 read-fields'.new.1.1.0) a.f q x z
+      let q = (place c.read_fields-a.new.at c.read_fields-a.new.top a.nodes.now l) in
+      let x = rw c.if-a-ne0.false at read-fields'.ensures in
+      let z : termless a.f ≡ true = sym c.no_terms.ensures ∙ c.if-no_terms.true in
+      plain_fields s t p d (area c.read_fields-a.new.kinds c.read_fields-a.new.vals) a.f q x z
 
-  read-value-requires : lts.Need-read-value-requires claims (read-plain-at t) read_plain.Post
+  read-value-requires : lts.Need-read_value-b-requires claims (read-plain-at t) read_plain.Post
   read-value-requires c κs =
-      let a = c.before.before.before.before.before.before.before.before.before.before.before.before.before.before.before.before.before.before.before.before.before.before.args in
-      let read-fields' = c.before.before.before.before.before.before.before.before.before.before.before.before.before.read-fields in
-      let s = a.s.now in
-      let l = a.limit in
+      let a = c.args in
+      let read-fields' = c.read_fields-a in
+      let s = c.args.s.now in
+      let l = c.args.limit in
       let p = place a.at.now a.top.now a.nodes.now l in
-      let q = place read-fields'.new.1.1.1.0 read-fields'.new.1.1.1.1.0 a.nodes.now l in
-      let x = rw c.before.before.before.before.before.before.before.before.if1.false at read-fields'.ensures in
-      ((room_next s p q x.2.inside x.2.pace x.2.paced c.before.before.before.before.before.before.before.before.before.before.before.before.before.before.before.before.before.before.before.before.before.before.requires.1), omega arith)
+      let q = place c.read_fields-a.new.at c.read_fields-a.new.top a.nodes.now l in
+      let x = rw c.if-a-ne0.false at read-fields'.ensures in
+      ((room_next s p q x.2.inside x.2.pace x.2.paced c.requires.1), omega arith)
 
-  same-length-5 : lts.Need-same-length-5 claims (read-plain-at t) read_plain.Post
+  same-length-5 : lts.Need-shape_of-kinds-then-b-ne0 claims (read-plain-at t) read_plain.Post
   same-length-5 c = search rules
 
-  same-length-6 : lts.Need-same-length-6 claims (read-plain-at t) read_plain.Post
+  same-length-6 : lts.Need-shape_of-vals-then-b-ne0 claims (read-plain-at t) read_plain.Post
   same-length-6 c = search rules
 
-  returns-3 : lts.Need-returns-3 claims (read-plain-at t) read_plain.Post
+  returns-3 : lts.Need-returns-then-b-ne0 claims (read-plain-at t) read_plain.Post
   returns-3 c =
-      let a = c.before.before.before.before.before.before.before.before.before.before.before.before.before.before.before.before.before.before.before.before.before.before.before.before.before.before.before.before.args in
-      let read-fields' = c.before.before.before.before.before.before.before.before.before.before.before.before.before.before.before.before.before.before.before.read-fields in
-      let s = a.s.now in
-      let l = a.limit in
+      let a = c.args in
+      let read-fields' = c.read_fields-a in
+      let s = c.args.s.now in
+      let l = c.args.limit in
       let p = place a.at.now a.top.now a.nodes.now l in
       let t = term s a.issued a.levels in
       let d = area a.kinds.now a.vals.now in
-      let read-value' = c.before.before.before.before.before.read-value in
-      let q = place read-fields'.new.1.1.1.0 read-fields'.new.1.1.1.1.0 a.nodes.now l in
-      let e = area read-fields'.new.1.0 read-fields'.new.1.1.0 in
-      let x = rw c.before.before.before.before.before.before.before.before.before.before.before.before.before.before.if1.false at read-fields'.ensures in
-      let y = rw (unvalued read-value'.result read-value'.new.1.1.1.1.1.0 read-value'.new.1.1.1.0 read-value'.new.1.1.1.1.0 a.nodes.now l c.if4.true) at read-value'.ensures in
-      rw (stops read-value'.result read-value'.new.1.1.1.0 read-value'.new.1.1.1.1.0 a.nodes.now l c.if4.true) (plain_stop s t p d e a.f q x c.before.before.before.before.before.before.before.before.before.before.before.if3.true (area read-value'.new.1.0 read-value'.new.1.1.0) read-value'.result y)
+      let read-value' = c.read_value-b in
+      let q = place c.read_fields-a.new.at c.read_fields-a.new.top a.nodes.now l in
+      let e = area c.read_fields-a.new.kinds c.read_fields-a.new.vals in
+      let x = rw c.if-a-ne0.false at read-fields'.ensures in
+      let y = rw (unvalued read-value'.result c.read_value-b.new.value c.read_value-b.new.at c.read_value-b.new.top a.nodes.now l c.if-b-ne0.true) at read-value'.ensures in
+      rw (stops read-value'.result c.read_value-b.new.at c.read_value-b.new.top a.nodes.now l c.if-b-ne0.true) (plain_stop s t p d e a.f q x c.if-f.true (area c.read_value-b.new.kinds c.read_value-b.new.vals) read-value'.result y)
 
   -- where the terms begin: what was read so far, and how many terms are counted at most
-  abbrev Begun : lts.Joined3 claims (read-plain-at t) read_plain.Post → Type 0
+  abbrev Begun : lts.Joined-f claims (read-plain-at t) read_plain.Post → Type 0
   Begun c =
       let a = c.before.before.before.before.before.before.before.before.before.before.before.before.before.before.before.before.before.args in
       let s = a.s.now in
@@ -114,73 +114,73 @@ module _ (t : ℕ) where
       let o = c.if3 in
       SoFar s (row s t (plain a.f) a.at.now) (many s t (o.n + a.f.terms) o.at) p d (area o.kinds o.vals) (place o.at o.top a.nodes.now l) × (o.n ≤ 4294967295)
 
-  begun : (c : lts.Joined3 claims (read-plain-at t) read_plain.Post) → Begun c
+  begun : (c : lts.Joined-f claims (read-plain-at t) read_plain.Post) → Begun c
   begun c =
-      let a = c.before.before.before.before.before.before.before.before.before.before.before.before.before.before.before.before.before.args in
-      let read-fields' = c.before.before.before.before.before.before.before.before.read-fields in
-      let s = a.s.now in
-      let l = a.limit in
+      let a = c.args in
+      let read-fields' = c.read_fields-a in
+      let s = c.args.s.now in
+      let l = c.args.limit in
       let p = place a.at.now a.top.now a.nodes.now l in
       let t = term s a.issued a.levels in
       let d = area a.kinds.now a.vals.now in
-      let q = place read-fields'.new.1.1.1.0 read-fields'.new.1.1.1.1.0 a.nodes.now l in
-      let e = area read-fields'.new.1.0 read-fields'.new.1.1.0 in
-      let x = rw c.before.before.before.if1.false at read-fields'.ensures in
+      let q = place c.read_fields-a.new.at c.read_fields-a.new.top a.nodes.now l in
+      let e = area c.read_fields-a.new.kinds c.read_fields-a.new.vals in
+      let x = rw c.if-a-ne0.false at read-fields'.ensures in
       ⊎_elim
       (λ w.
       let y = rw w.11.left at w.6.ensures in
       rw (w.12, w.13, w.14, w.15, w.16) (plain_counted s t p d e a.f q x w.0.taken (area w.6.last.1.0 w.6.last.1.1.0) w.6.last.1.1.1.1.1.0 (place w.6.last.1.1.1.0 w.6.last.1.1.1.1.0 a.nodes.now l) y, y.1))
       (λ w. rw (w.1, w.2, w.3, w.4, w.5) (plain_uncounted s t p d e a.f q x w.0.left, omega arith))
-      c.if3.branch
+      c.if-f.branch
 
-  cast-read-terms : lts.Need-overflow-cast-read-terms claims (read-plain-at t) read_plain.Post
+  cast-read-terms : lts.Need-overflow_cast-f claims (read-plain-at t) read_plain.Post
   cast-read-terms c = search rules
 
-  add-read-terms : lts.Need-overflow-add-read-terms claims (read-plain-at t) read_plain.Post
+  add-read-terms : lts.Need-overflow_add-n claims (read-plain-at t) read_plain.Post
   add-read-terms c = omega (arith, (begun c.before.before.before.before.before.before).1)
 
-  read-terms-requires : lts.Need-read-terms-requires claims (read-plain-at t) read_plain.Post
+  read-terms-requires : lts.Need-read_terms-requires claims (read-plain-at t) read_plain.Post
   read-terms-requires c κs =
-      let a = c.before.before.before.before.before.before.before.before.before.before.before.before.before.before.before.before.before.before.before.before.before.before.before.args in
-      let s = a.s.now in
-      let l = a.limit in
+      let a = c.args in
+      let s = c.args.s.now in
+      let l = c.args.limit in
       let p = place a.at.now a.top.now a.nodes.now l in
-      let pre' = c.before.before.before.before.before.before.before.before.before.before.before.before.before.before.before.before.before.before.before.before.before.before.before.requires in
-      let o = c.before.before.before.before.before.before.if3 in
+      let pre' = c.requires in
+      let o = c.if-f in
       let x = (begun c.before.before.before.before.before.before).0 in
-      (omega (arith, pre'.0), room_next s p (place o.at o.top a.nodes.now l) x.wrote.inside x.wrote.pace x.wrote.paced pre'.1)
+      (omega (arith, pre'.0), room_next s p (place c.if-f.at c.if-f.top a.nodes.now l) x.wrote.inside x.wrote.pace x.wrote.paced pre'.1)
 
-  same-length-7 : lts.Need-same-length-7 claims (read-plain-at t) read_plain.Post
+  same-length-7 : lts.Need-shape_of-kinds claims (read-plain-at t) read_plain.Post
   same-length-7 c =
-      let a = c.before.before.before.before.before.before.before.before.before.before.before.before.before.before.before.before.before.before.before.before.before.before.before.before.before.before.before.before.args in
-      let s = a.s.now in
-      let l = a.limit in
+      let a = c.args in
+      let s = c.args.s.now in
+      let l = c.args.limit in
       let p = place a.at.now a.top.now a.nodes.now l in
       let d = area a.kinds.now a.vals.now in
-      let o = c.before.before.before.before.before.before.before.before.before.before.before.if3 in
-      omega (arith, c.before.before.before.before.read-terms.auto.1.0, kinds_length s p d (area o.kinds o.vals) (begun c.before.before.before.before.before.before.before.before.before.before.before).0.wrote)
+      let o = c.if-f in
+      omega (arith, c.read_terms.auto.kinds, kinds_length s p d (area c.if-f.kinds c.if-f.vals) (begun c.before.before.before.before.before.before.before.before.before.before.before).0.wrote)
 
-  same-length-8 : lts.Need-same-length-8 claims (read-plain-at t) read_plain.Post
+  same-length-8 : lts.Need-shape_of-vals claims (read-plain-at t) read_plain.Post
   same-length-8 c =
-      let a = c.before.before.before.before.before.before.before.before.before.before.before.before.before.before.before.before.before.before.before.before.before.before.before.before.before.before.before.before.args in
-      let s = a.s.now in
-      let l = a.limit in
+      let a = c.args in
+      let s = c.args.s.now in
+      let l = c.args.limit in
       let p = place a.at.now a.top.now a.nodes.now l in
       let d = area a.kinds.now a.vals.now in
-      let o = c.before.before.before.before.before.before.before.before.before.before.before.if3 in
-      omega (arith, c.before.before.before.before.read-terms.auto.1.1.0, vals_length s p d (area o.kinds o.vals) (begun c.before.before.before.before.before.before.before.before.before.before.before).0.wrote)
+      let o = c.if-f in
+      omega (arith, c.read_terms.auto.vals, vals_length s p d (area c.if-f.kinds c.if-f.vals) (begun c.before.before.before.before.before.before.before.before.before.before.before).0.wrote)
 
-  returns-4 : lts.Need-returns-4 claims (read-plain-at t) read_plain.Post
+  returns-4 : lts.Need-returns claims (read-plain-at t) read_plain.Post
   returns-4 c =
-      let a = c.before.before.before.before.before.before.before.before.before.before.before.before.before.before.before.before.before.before.before.before.before.before.before.before.before.before.before.before.args in
-      let s = a.s.now in
-      let l = a.limit in
+      let a = c.args in
+      let s = c.args.s.now in
+      let l = c.args.limit in
       let p = place a.at.now a.top.now a.nodes.now l in
       let t = term s a.issued a.levels in
       let d = area a.kinds.now a.vals.now in
-      let o = c.before.before.before.before.before.before.before.before.before.before.before.if3 in
-      let read-terms' = c.before.before.before.before.read-terms in
-      so_far_done s (row s t (plain a.f) a.at.now) p d (many s t (o.n + a.f.terms) o.at) (area o.kinds o.vals) (place o.at o.top a.nodes.now l) (begun c.before.before.before.before.before.before.before.before.before.before.before).0 (area read-terms'.new.1.0 read-terms'.new.1.1.0) (step_of read-terms'.result read-terms'.new.1.1.1.0 read-terms'.new.1.1.1.1.0 read-terms'.new.1.1.1.1.1.0 l) read-terms'.ensures
+      let o = c.if-f in
+      let read-terms' = c.read_terms in
+      so_far_done s (row s t (plain a.f) a.at.now) p d (many s t (c.if-f.n + a.f.terms) c.if-f.at) (area c.if-f.kinds c.if-f.vals) (place c.if-f.at c.if-f.top a.nodes.now l) (begun c.before.before.before.before.before.before.before.before.before.before.before).0 (area c.read_terms.new.kinds c.read_terms.new.vals) (step_of read-terms'.result c.read_terms.new.at c.read_terms.new.top c.read_terms.new.nodes l) read-terms'.ensures
 
   pub member : {M : Type 1} → lts.Closed claims (read-plain-at t) read_plain.Post M
   member = lts.spec claims (read-plain-at t) read_plain.Post read-fields-requires same_length same-length-2 returns no-terms-requires same-length-3 same-length-4 returns-2 read-value-requires same-length-5 same-length-6 returns-3 cast-read-terms add-read-terms read-terms-requires same-length-7 same-length-8 returns-4

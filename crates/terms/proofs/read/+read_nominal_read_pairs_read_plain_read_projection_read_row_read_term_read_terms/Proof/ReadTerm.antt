@@ -22,121 +22,121 @@ module _ (t : ℕ) where
   abbrev claims : lts.Claims
   claims = (kind-of-reads.Asked, kind-of-reads.Learnt, read-variable-reads.Asked, read-variable-reads.Learnt, read-row-below t, read_row.Post, close-node-reads.Asked, close-node-reads.Learnt)
 
-  returns : lts.Need-returns claims (read-term-at t) read-term.Post
-  returns c = (levels_none _ _ _ _ c.if1.true, refl)
+  returns : lts.Need-returns-then-levels-eq0 claims (read-term-at t) read-term.Post
+  returns c = (levels_none _ _ _ _ c.if-levels-eq0.true, refl)
 
-  returns-2 : lts.Need-returns-2 claims (read-term-at t) read-term.Post
-  returns-2 c = (term_end _ _ _ _ c.before.before.if1.false c.if2.true, refl)
+  returns-2 : lts.Need-returns-then-s-here claims (read-term-at t) read-term.Post
+  returns-2 c = (term_end _ _ _ _ c.if-levels-eq0.false c.if-s-here.true, refl)
 
-  shared-slice-read-tag : lts.Need-shared-slice-read-tag claims (read-term-at t) read-term.Post
+  shared-slice-read-tag : lts.Need-bounds-s-here claims (read-term-at t) read-term.Post
   shared-slice-read-tag c = search rules
 
-  kind-of-requires : lts.Need-kind-of-requires claims (read-term-at t) read-term.Post
+  kind-of-requires : lts.Need-kind_of-kind-requires claims (read-term-at t) read-term.Post
   kind-of-requires c κs = search rules
 
-  enum_told : lts.Need-enum-told claims (read-term-at t) read-term.Post
+  enum_told : lts.Need-enum_told-1 claims (read-term-at t) read-term.Post
   enum_told c = search rules
 
-  read-variable-requires : lts.Need-read-variable-requires claims (read-term-at t) read-term.Post
+  read-variable-requires : lts.Need-read_variable-requires claims (read-term-at t) read-term.Post
   read-variable-requires c κs = search rules
 
-  enum-known-kind : lts.Need-enum-known-kind claims (read-term-at t) read-term.Post
+  enum-known-kind : lts.Need-enum_known-kind claims (read-term-at t) read-term.Post
   enum-known-kind c = search rules
 
-  add_at : lts.Need-overflow-add-at claims (read-term-at t) read-term.Post
+  add_at : lts.Need-overflow_add-at claims (read-term-at t) read-term.Post
   add_at c = search rules
 
-  add-top : lts.Need-overflow-add-top claims (read-term-at t) read-term.Post
+  add-top : lts.Need-overflow_add-top claims (read-term-at t) read-term.Post
   add-top c = search rules
 
-  add-nodes : lts.Need-overflow-add-nodes claims (read-term-at t) read-term.Post
+  add-nodes : lts.Need-overflow_add-nodes claims (read-term-at t) read-term.Post
   add-nodes c = search rules
 
-  sub-read-row : lts.Need-overflow-sub-read-row claims (read-term-at t) read-term.Post
+  sub-read-row : lts.Need-overflow_sub-levels claims (read-term-at t) read-term.Post
   sub-read-row c = search rules
 
-  read-row-requires : lts.Need-read-row-requires claims (read-term-at t) read-term.Post
+  read-row-requires : lts.Need-read_row-r-requires claims (read-term-at t) read-term.Post
   read-row-requires c κs = search rules
 
-  same_length : lts.Need-same-length claims (read-term-at t) read-term.Post
+  same_length : lts.Need-shape_of-kinds-then-r-ne0 claims (read-term-at t) read-term.Post
   same_length c = search rules
 
-  same-length-2 : lts.Need-same-length-2 claims (read-term-at t) read-term.Post
+  same-length-2 : lts.Need-shape_of-vals-then-r-ne0 claims (read-term-at t) read-term.Post
   same-length-2 c = search rules
 
-  returns-3 : lts.Need-returns-3 claims (read-term-at t) read-term.Post
+  returns-3 : lts.Need-returns-then-r-ne0 claims (read-term-at t) read-term.Post
   returns-3 c =
-      let a = c.before.before.before.before.before.before.before.before.before.before.before.before.before.before.before.before.before.before.before.before.before.before.before.before.args in
-      let read-row' = c.before.before.before.before.before.read_row in
-      let if2' = c.before.before.before.before.before.before.before.before.before.before.before.before.before.before.before.before.before.before.if2 in
-      let s = a.s.now in
-      let l = a.limit in
+      let a = c.args in
+      let read-row' = c.read_row-r in
+      let if2' = c.if-s-here in
+      let s = c.args.s.now in
+      let l = c.args.limit in
       let p = place a.at.now a.top.now a.nodes.now l in
       let d = area a.kinds.now a.vals.now in
-      let e = (area read-row'.new.1.0 read-row'.new.1.1.0) in
-      let z = stops read-row'.result read-row'.new.1.1.1.0 read-row'.new.1.1.1.1.0 read-row'.new.1.1.1.1.1.0 l c.if3.true in
-      rw (z, term_row s a.issued a.levels p.at c.before.before.before.before.before.before.before.before.before.before.before.before.before.before.before.before.before.before.before.before.if1.false if2'.false _ (rw c.before.before.before.before.before.before.before.before.before.before.before.before.before.before.kind.given.1 at c.before.before.before.before.before.before.before.before.before.before.before.before.before.before.before.before.kind-of.ensures))
+      let e = (area c.read_row-r.new.kinds c.read_row-r.new.vals) in
+      let z = stops read-row'.result c.read_row-r.new.at c.read_row-r.new.top c.read_row-r.new.nodes l c.if-r-ne0.true in
+      rw (z, term_row s a.issued a.levels p.at c.if-levels-eq0.false if2'.false _ (rw c.in-Node.is at c.kind_of-kind.ensures))
       (node_done s p d e e (get_or s p.at 0) _ (Stopped read-row'.result) if2'.false (rw z at read-row'.ensures) refl)
 
-  cast-close-node : lts.Need-overflow-cast-close-node claims (read-term-at t) read-term.Post
-  cast-close-node c = omega (arith, c.before.before.before.before.before.before.before.before.before.before.before.before.before.before.before.before.before.before.before.shared-slice-known2.given c.before.before.before.before.before.before.before.before.before.before.before.before.before.before.before.before.before.before.before.before.before.before.before.before.before.before.args.at.now)
+  cast-close-node : lts.Need-overflow_cast-tag claims (read-term-at t) read-term.Post
+  cast-close-node c = omega (arith, c.shared_slice_known-2-1.given c.args.at.now)
 
-  close-node-requires : lts.Need-close-node-requires claims (read-term-at t) read-term.Post
+  close-node-requires : lts.Need-close_node-requires claims (read-term-at t) read-term.Post
   close-node-requires c κs =
-      let a = c.before.before.before.before.before.before.before.before.before.before.before.before.before.before.before.before.before.before.before.before.before.before.before.before.before.before.args in
-      let read-row' = c.before.before.before.before.before.before.before.read_row in
-      let s = a.s.now in
-      let l = a.limit in
+      let a = c.args in
+      let read-row' = c.read_row-r in
+      let s = c.args.s.now in
+      let l = c.args.limit in
       let p = place a.at.now a.top.now a.nodes.now l in
       let d = area a.kinds.now a.vals.now in
-      let x = rw c.before.before.if3.false at read-row'.ensures in
-      (omega (arith, c.before.before.before.before.before.before.before.before.before.before.before.before.before.before.before.before.before.before.before.shared-slice-known2.given a.at.now), closable s p d (area read-row'.new.1.0 read-row'.new.1.1.0) _ (Next (place read-row'.new.1.1.1.0 read-row'.new.1.1.1.1.0 read-row'.new.1.1.1.1.1.0 l)) (room_inside s p c.before.before.before.before.before.before.before.before.before.before.before.before.before.before.before.before.before.before.before.before.before.before.before.before.before.before.requires.1 c.before.before.before.before.before.before.before.before.before.before.before.before.before.before.before.before.before.before.before.before.if2.false) x)
+      let x = rw c.if-r-ne0.false at read-row'.ensures in
+      (omega (arith, c.shared_slice_known-2-1.given a.at.now), closable s p d (area c.read_row-r.new.kinds c.read_row-r.new.vals) _ (Next (place c.read_row-r.new.at c.read_row-r.new.top c.read_row-r.new.nodes l)) (room_inside s p c.requires.1 c.if-s-here.false) x)
 
-  enum-told-2 : lts.Need-enum-told-2 claims (read-term-at t) read-term.Post
+  enum-told-2 : lts.Need-enum_told-in-Unlisted claims (read-term-at t) read-term.Post
   enum-told-2 c = search rules
 
-  same-length-3 : lts.Need-same-length-3 claims (read-term-at t) read-term.Post
+  same-length-3 : lts.Need-shape_of-kinds-in-Variable claims (read-term-at t) read-term.Post
   same-length-3 c = search rules
 
-  same-length-4 : lts.Need-same-length-4 claims (read-term-at t) read-term.Post
+  same-length-4 : lts.Need-shape_of-vals-in-Variable claims (read-term-at t) read-term.Post
   same-length-4 c = search rules
 
-  returns-4 : lts.Need-returns-4 claims (read-term-at t) read-term.Post
+  returns-4 : lts.Need-returns-in-Variable claims (read-term-at t) read-term.Post
   returns-4 c =
-      let a = c.before.before.before.before.before.before.before.before.before.before.before.before.before.before.before.before.before.before.before.before.args in
-      let s = a.s.now in
-      let l = a.limit in
+      let a = c.args in
+      let s = c.args.s.now in
+      let l = c.args.limit in
       let p = place a.at.now a.top.now a.nodes.now l in
-      rw (term_variable s a.issued a.levels p.at c.before.before.before.before.before.before.before.before.before.before.before.before.before.before.before.before.if1.false c.before.before.before.before.before.before.before.before.before.before.before.before.before.before.if2.false (rw c.before.before.before.before.before.before.before.before.before.before.enum_told.given.1 at c.before.before.before.before.before.before.before.before.before.before.before.before.kind-of.ensures)) c.before.before.before.before.read-variable.ensures
+      rw (term_variable s a.issued a.levels p.at c.if-levels-eq0.false c.if-s-here.false (rw c.in-Variable.is at c.kind_of-kind.ensures)) c.read_variable.ensures
 
-  same-length-5 : lts.Need-same-length-5 claims (read-term-at t) read-term.Post
+  same-length-5 : lts.Need-shape_of-kinds-else-r-ne0 claims (read-term-at t) read-term.Post
   same-length-5 c = search rules
 
-  same-length-6 : lts.Need-same-length-6 claims (read-term-at t) read-term.Post
+  same-length-6 : lts.Need-shape_of-vals-else-r-ne0 claims (read-term-at t) read-term.Post
   same-length-6 c = search rules
 
-  returns-5 : lts.Need-returns-5 claims (read-term-at t) read-term.Post
+  returns-5 : lts.Need-returns-else-r-ne0 claims (read-term-at t) read-term.Post
   returns-5 c =
-      let a = c.before.before.before.before.before.before.before.before.before.before.before.before.before.before.before.before.before.before.before.before.before.before.before.before.before.before.before.before.before.before.before.args in
-      let read-row' = c.before.before.before.before.before.before.before.before.before.before.before.before.read_row in
-      let close-node' = c.before.before.before.before.close-node in
-      let if2' = c.before.before.before.before.before.before.before.before.before.before.before.before.before.before.before.before.before.before.before.before.before.before.before.before.before.if2 in
-      let s = a.s.now in
-      let l = a.limit in
+      let a = c.args in
+      let read-row' = c.read_row-r in
+      let close-node' = c.close_node in
+      let if2' = c.if-s-here in
+      let s = c.args.s.now in
+      let l = c.args.limit in
       let p = place a.at.now a.top.now a.nodes.now l in
       let d = area a.kinds.now a.vals.now in
-      let e = (area read-row'.new.1.0 read-row'.new.1.1.0) in
-      let f = area close-node'.new.0 close-node'.new.1.0 in
-      rw (term_row s a.issued a.levels p.at c.before.before.before.before.before.before.before.before.before.before.before.before.before.before.before.before.before.before.before.before.before.before.before.before.before.before.before.if1.false if2'.false _ (rw c.before.before.before.before.before.before.before.before.before.before.before.before.before.before.before.before.before.before.before.before.before.kind.given.1 at c.before.before.before.before.before.before.before.before.before.before.before.before.before.before.before.before.before.before.before.before.before.before.before.kind-of.ensures))
-      (node_done s p d e f (get_or s p.at 0) _ (Next (place read-row'.new.1.1.1.0 read-row'.new.1.1.1.1.0 read-row'.new.1.1.1.1.1.0 l)) if2'.false (rw c.before.before.before.before.before.before.before.if3.false at read-row'.ensures) close-node'.ensures)
+      let e = (area c.read_row-r.new.kinds c.read_row-r.new.vals) in
+      let f = area c.close_node.new.kinds c.close_node.new.vals in
+      rw (term_row s a.issued a.levels p.at c.if-levels-eq0.false if2'.false _ (rw c.in-Node.is at c.kind_of-kind.ensures))
+      (node_done s p d e f (get_or s p.at 0) _ (Next (place c.read_row-r.new.at c.read_row-r.new.top c.read_row-r.new.nodes l)) if2'.false (rw c.if-r-ne0.false at read-row'.ensures) close-node'.ensures)
 
-  returns-6 : lts.Need-returns-6 claims (read-term-at t) read-term.Post
+  returns-6 : lts.Need-returns-in-Unlisted claims (read-term-at t) read-term.Post
   returns-6 c =
-      let a = c.before.before.before.before.before.before.before.before.before.before.args in
-      let s = a.s.now in
-      let l = a.limit in
+      let a = c.args in
+      let s = c.args.s.now in
+      let l = c.args.limit in
       let p = place a.at.now a.top.now a.nodes.now l in
-      (term_unlisted s a.issued a.levels p.at c.before.before.before.before.before.before.if1.false c.before.before.before.before.if2.false (rw c.enum-told2.given.1 at c.before.before.kind-of.ensures), refl)
+      (term_unlisted s a.issued a.levels p.at c.if-levels-eq0.false c.if-s-here.false (rw c.in-Unlisted.is at c.kind_of-kind.ensures), refl)
 
   pub member : {M : Type 1} → lts.Closed claims (read-term-at t) read-term.Post M
   member = lts.spec claims (read-term-at t) read-term.Post returns returns-2 shared-slice-read-tag kind-of-requires enum_told read-variable-requires enum-known-kind add_at add-top add-nodes sub-read-row read-row-requires same_length same-length-2 returns-3 cast-close-node close-node-requires enum-told-2 same-length-3 same-length-4 returns-4 same-length-5 same-length-6 returns-5 returns-6

@@ -23,107 +23,107 @@ use Rattle.terms.proofs.runs.word.Reads as word-reads
 use Rattle.terms.proofs.write.put_run.Reads as put-run-reads
 use Rattle.terms.proofs.recover.+recover_row_recover_term.Proof.Measures.{recover-row-at, recover-term-below}
 
-abbrev Inv-loop : lts.invariant-loop
+abbrev Inv-loop : lts.invariant-loop-out
 Inv-loop kinds vals p pe stop q qe out₀ at i₀ j₀ to₀ out i j to =
     ((p ≤ i) × (i ≤ pe)) × ((q ≤ j) × (j ≤ qe)) × ((at ≤ to) × (to + 6 * p + 6 * q ≤ at + 6 * i + 6 * j) × (length out ≡ length out₀))
     × ((k : ℕ) (ps qs : Parts) → HeldParts kinds vals p pe ps → HeldParts kinds vals q qe qs → Subs Formed ps → Subs Formed qs → stop ≡ p + upto k ps → Recovering kinds vals i pe stop j qe out₀ out at to (part_bytes (recover_row ps k qs)))
 
-abbrev μ-loop : lts.decreases-loop
+abbrev μ-loop : lts.decreases-loop-out
 μ-loop kinds vals p pe stop q qe out₀ at i₀ j₀ to₀ out i j to = pe - i
 
 module _ (t : ℕ) where
   abbrev claims : lts.Claims
   claims = (paired-reads.Asked, paired-reads.Learnt, word-reads.Asked, word-reads.Learnt, put-run-reads.Asked, put-run-reads.Learnt, skip-reads.Asked, skip-reads.Learnt, recover-term-below t, recover-term.Post)
 
-  loop-holds : lts.Need-loop-init claims (recover-row-at t) recover_row.Post Inv-loop μ-loop
-  loop-holds c = (omega (arith, c.before.before.before.requires.1.0), omega (arith, c.before.before.before.requires.1.0), omega arith, λ k ps qs hp hq fp fq e. record { count = k; left = ps; right = qs; held_left = hp; held_right = hq; formed_left = fp; formed_right = fq; stops = e; done = []; put = put_none _ _; same = refl })
+  loop-holds : lts.Need-loop-out-init claims (recover-row-at t) recover_row.Post Inv-loop μ-loop
+  loop-holds c = (omega (arith, c.requires.1.0), omega (arith, c.requires.1.0), omega arith, λ k ps qs hp hq fp fq e. record { count = k; left = ps; right = qs; held_left = hp; held_right = hq; formed_left = fp; formed_right = fq; stops = e; done = []; put = put_none _ _; same = refl })
 
   paired-requires : lts.Need-paired-requires claims (recover-row-at t) recover_row.Post Inv-loop μ-loop
-  paired-requires c κs = (omega (arith, c.before.before.before.before.requires.1.0), omega (arith, c.before.before.before.before.requires.1.0))
+  paired-requires c κs = (omega (arith, c.requires.1.0), omega (arith, c.requires.1.0))
 
   word-requires : lts.Need-word-requires claims (recover-row-at t) recover_row.Post Inv-loop μ-loop
   word-requires c κs = search rules
 
-  put-run-requires : lts.Need-put-run-requires claims (recover-row-at t) recover_row.Post Inv-loop μ-loop
-  put-run-requires c κs = ((omega (arith, c.before.before.before.before.paired.ensures.0 c.before.before.before.if1.true, c.before.before.before.before.before.loop.invariant.0, c.before.before.before.before.before.loop.invariant.1, c.before.before.before.before.before.loop.invariant.2, c.before.before.before.before.before.before.before.before.before.requires.1.0), omega (arith, c.before.before.before.before.paired.ensures.0 c.before.before.before.if1.true, c.before.before.before.before.before.loop.invariant.0, c.before.before.before.before.before.loop.invariant.1, c.before.before.before.before.before.loop.invariant.2, c.before.before.before.before.before.before.before.before.before.requires.1.0)), omega (arith, c.before.before.before.before.paired.ensures.0 c.before.before.before.if1.true, c.before.before.before.before.before.loop.invariant.0, c.before.before.before.before.before.loop.invariant.1, c.before.before.before.before.before.loop.invariant.2, c.before.before.before.before.before.before.before.before.before.requires.1.0, c.before.before.before.before.before.before.before.before.before.requires.1.1))
+  put-run-requires : lts.Need-put_run-to-requires claims (recover-row-at t) recover_row.Post Inv-loop μ-loop
+  put-run-requires c κs = ((omega (arith, c.paired.ensures.0 c.loop-out-test.true, c.loop-out.invariant.0, c.loop-out.invariant.1, c.loop-out.invariant.2, c.requires.1.0), omega (arith, c.paired.ensures.0 c.loop-out-test.true, c.loop-out.invariant.0, c.loop-out.invariant.1, c.loop-out.invariant.2, c.requires.1.0)), omega (arith, c.paired.ensures.0 c.loop-out-test.true, c.loop-out.invariant.0, c.loop-out.invariant.1, c.loop-out.invariant.2, c.requires.1.0, c.requires.1.1))
 
-  add-i : lts.Need-overflow-add-i claims (recover-row-at t) recover_row.Post Inv-loop μ-loop
-  add-i c = omega (arith, c.before.before.before.before.before.before.before.paired.ensures.0 c.before.before.before.before.before.before.if1.true, c.before.before.before.before.before.before.before.before.loop.invariant.0, c.before.before.before.before.before.before.before.before.loop.invariant.1, c.before.before.before.before.before.before.before.before.loop.invariant.2, c.before.before.before.before.before.before.before.before.before.before.before.before.requires.1.0)
+  add-i : lts.Need-overflow_add-i claims (recover-row-at t) recover_row.Post Inv-loop μ-loop
+  add-i c = omega (arith, c.paired.ensures.0 c.loop-out-test.true, c.loop-out.invariant.0, c.loop-out.invariant.1, c.loop-out.invariant.2, c.requires.1.0)
 
-  add-j : lts.Need-overflow-add-j claims (recover-row-at t) recover_row.Post Inv-loop μ-loop
-  add-j c = omega (arith, c.before.before.before.before.before.before.before.paired.ensures.0 c.before.before.before.before.before.before.if1.true, c.before.before.before.before.before.before.before.before.loop.invariant.0, c.before.before.before.before.before.before.before.before.loop.invariant.1, c.before.before.before.before.before.before.before.before.loop.invariant.2, c.before.before.before.before.before.before.before.before.before.before.before.before.requires.1.0)
+  add-j : lts.Need-overflow_add-j claims (recover-row-at t) recover_row.Post Inv-loop μ-loop
+  add-j c = omega (arith, c.paired.ensures.0 c.loop-out-test.true, c.loop-out.invariant.0, c.loop-out.invariant.1, c.loop-out.invariant.2, c.requires.1.0)
 
-  loop-less : lts.Need-loop-smaller claims (recover-row-at t) recover_row.Post Inv-loop μ-loop
-  loop-less c = omega (arith, c.before.before.before.before.before.before.before.paired.ensures.0 c.before.before.before.before.before.before.if1.true, c.before.before.before.before.before.before.before.before.loop.invariant.0, c.before.before.before.before.before.before.before.before.loop.invariant.1, c.before.before.before.before.before.before.before.before.loop.invariant.2, c.before.before.before.before.before.before.before.before.before.before.before.before.requires.1.0)
+  loop-less : lts.Need-loop-out-smaller-then-word-eq0 claims (recover-row-at t) recover_row.Post Inv-loop μ-loop
+  loop-less c = omega (arith, c.paired.ensures.0 c.loop-out-test.true, c.loop-out.invariant.0, c.loop-out.invariant.1, c.loop-out.invariant.2, c.requires.1.0)
 
-  loop-again : lts.Need-loop-preserved claims (recover-row-at t) recover_row.Post Inv-loop μ-loop
+  loop-again : lts.Need-loop-out-preserved-then-word-eq0 claims (recover-row-at t) recover_row.Post Inv-loop μ-loop
   loop-again c = (
-    omega (arith, c.before.before.before.before.before.before.before.paired.ensures.0 c.before.before.before.before.before.before.if1.true, c.before.before.before.before.before.before.before.before.loop.invariant.0, c.before.before.before.before.before.before.before.before.loop.invariant.1, c.before.before.before.before.before.before.before.before.loop.invariant.2, c.before.before.before.before.before.before.before.before.before.before.before.before.requires.1.0),
-    omega (arith, c.before.before.before.before.before.before.before.paired.ensures.0 c.before.before.before.before.before.before.if1.true, c.before.before.before.before.before.before.before.before.loop.invariant.0, c.before.before.before.before.before.before.before.before.loop.invariant.1, c.before.before.before.before.before.before.before.before.loop.invariant.2, c.before.before.before.before.before.before.before.before.before.before.before.before.requires.1.0),
-    omega (arith, c.before.before.before.before.before.before.before.paired.ensures.0 c.before.before.before.before.before.before.if1.true, c.before.before.put-run.ensures.1.1, c.before.before.before.before.before.before.before.before.loop.invariant.0, c.before.before.before.before.before.before.before.before.loop.invariant.1, c.before.before.before.before.before.before.before.before.loop.invariant.2),
+    omega (arith, c.paired.ensures.0 c.loop-out-test.true, c.loop-out.invariant.0, c.loop-out.invariant.1, c.loop-out.invariant.2, c.requires.1.0),
+    omega (arith, c.paired.ensures.0 c.loop-out-test.true, c.loop-out.invariant.0, c.loop-out.invariant.1, c.loop-out.invariant.2, c.requires.1.0),
+    omega (arith, c.paired.ensures.0 c.loop-out-test.true, c.put_run-to.ensures.1.1, c.loop-out.invariant.0, c.loop-out.invariant.1, c.loop-out.invariant.2),
     λ k ps qs hp hq fp fq e.
-        let x = c.before.before.before.before.before.before.before.before.loop.invariant.3 k ps qs hp hq fp fq e in
-        recover_number _ _ _ _ _ _ _ _ _ _ _ _ x (c.before.before.before.before.before.before.before.paired.ensures.0 c.before.before.before.before.before.before.if1.true).left c.before.before.before.before.before.before.before.before.before.before.before.before.requires.1.0.1 (c.before.before.before.before.before.before.before.paired.ensures.0 c.before.before.before.before.before.before.if1.true).right (sym c.before.before.before.before.before.word.ensures ∙ c.before.before.before.before.if2.true) ((c.before.before.before.before.before.before.before.paired.ensures.0 c.before.before.before.before.before.before.if1.true).number (sym c.before.before.before.before.before.word.ensures ∙ c.before.before.before.before.if2.true)) _ _ c.before.before.put-run.ensures.0 c.before.before.put-run.ensures.1.0,
+        let x = c.loop-out.invariant.3 k ps qs hp hq fp fq e in
+        recover_number _ _ _ _ _ _ _ _ _ _ _ _ x (c.paired.ensures.0 c.loop-out-test.true).left c.requires.1.0.1 (c.paired.ensures.0 c.loop-out-test.true).right (sym c.word.ensures ∙ c.if-word-eq0.true) ((c.paired.ensures.0 c.loop-out-test.true).number (sym c.word.ensures ∙ c.if-word-eq0.true)) _ _ c.put_run-to.ensures.0 c.put_run-to.ensures.1.0,
   )
 
-  sub-skip : lts.Need-overflow-sub-skip claims (recover-row-at t) recover_row.Post Inv-loop μ-loop
-  sub-skip c = omega (arith, c.before.before.before.paired.ensures.0 c.before.before.if1.true, c.before.before.before.before.loop.invariant.0, c.before.before.before.before.loop.invariant.1, c.before.before.before.before.loop.invariant.2, c.before.before.before.before.before.before.before.before.requires.1.0)
+  sub-skip : lts.Need-overflow_sub-pe claims (recover-row-at t) recover_row.Post Inv-loop μ-loop
+  sub-skip c = omega (arith, c.paired.ensures.0 c.loop-out-test.true, c.loop-out.invariant.0, c.loop-out.invariant.1, c.loop-out.invariant.2, c.requires.1.0)
 
-  skip-requires : lts.Need-skip-requires claims (recover-row-at t) recover_row.Post Inv-loop μ-loop
-  skip-requires c κs = (omega (arith, c.before.before.before.paired.ensures.0 c.before.before.if1.true, c.before.before.before.before.loop.invariant.0, c.before.before.before.before.loop.invariant.1, c.before.before.before.before.loop.invariant.2, c.before.before.before.before.before.before.before.before.requires.1.0), c.before.before.before.before.before.before.before.before.requires.1.0.5, omega (arith, c.before.before.before.paired.ensures.0 c.before.before.if1.true, c.before.before.before.before.loop.invariant.0, c.before.before.before.before.loop.invariant.1, c.before.before.before.before.loop.invariant.2, c.before.before.before.before.before.before.before.before.requires.1.0))
+  skip-requires : lts.Need-skip-n-requires claims (recover-row-at t) recover_row.Post Inv-loop μ-loop
+  skip-requires c κs = (omega (arith, c.paired.ensures.0 c.loop-out-test.true, c.loop-out.invariant.0, c.loop-out.invariant.1, c.loop-out.invariant.2, c.requires.1.0), c.requires.1.0.5, omega (arith, c.paired.ensures.0 c.loop-out-test.true, c.loop-out.invariant.0, c.loop-out.invariant.1, c.loop-out.invariant.2, c.requires.1.0))
 
-  sub-skip-2 : lts.Need-overflow-sub-skip-2 claims (recover-row-at t) recover_row.Post Inv-loop μ-loop
-  sub-skip-2 c = omega (arith, c.before.before.before.before.paired.ensures.0 c.before.before.before.if1.true, c.before.before.before.before.before.loop.invariant.0, c.before.before.before.before.before.loop.invariant.1, c.before.before.before.before.before.loop.invariant.2, c.before.before.before.before.before.before.before.before.before.requires.1.0)
+  sub-skip-2 : lts.Need-overflow_sub-qe claims (recover-row-at t) recover_row.Post Inv-loop μ-loop
+  sub-skip-2 c = omega (arith, c.paired.ensures.0 c.loop-out-test.true, c.loop-out.invariant.0, c.loop-out.invariant.1, c.loop-out.invariant.2, c.requires.1.0)
 
-  skip-requires-2 : lts.Need-skip-requires-2 claims (recover-row-at t) recover_row.Post Inv-loop μ-loop
-  skip-requires-2 c κs = (omega (arith, c.before.before.before.before.paired.ensures.0 c.before.before.before.if1.true, c.before.before.before.before.before.loop.invariant.0, c.before.before.before.before.before.loop.invariant.1, c.before.before.before.before.before.loop.invariant.2, c.before.before.before.before.before.before.before.before.before.requires.1.0), c.before.before.before.before.before.before.before.before.before.requires.1.0.5, omega (arith, c.before.before.before.before.paired.ensures.0 c.before.before.before.if1.true, c.before.before.before.before.before.loop.invariant.0, c.before.before.before.before.before.loop.invariant.1, c.before.before.before.before.before.loop.invariant.2, c.before.before.before.before.before.before.before.before.before.requires.1.0))
+  skip-requires-2 : lts.Need-skip-m-requires claims (recover-row-at t) recover_row.Post Inv-loop μ-loop
+  skip-requires-2 c κs = (omega (arith, c.paired.ensures.0 c.loop-out-test.true, c.loop-out.invariant.0, c.loop-out.invariant.1, c.loop-out.invariant.2, c.requires.1.0), c.requires.1.0.5, omega (arith, c.paired.ensures.0 c.loop-out-test.true, c.loop-out.invariant.0, c.loop-out.invariant.1, c.loop-out.invariant.2, c.requires.1.0))
 
-  add-recover-term : lts.Need-overflow-add-recover-term claims (recover-row-at t) recover_row.Post Inv-loop μ-loop
-  add-recover-term c = omega (arith, c.before.before.before.before.before.paired.ensures.0 c.before.before.before.before.if1.true, c.before.before.before.before.before.before.loop.invariant.0, c.before.before.before.before.before.before.loop.invariant.1, c.before.before.before.before.before.before.loop.invariant.2, c.before.before.before.before.before.before.before.before.before.before.requires.1.0, c.before.skip.ensures.1)
+  add-recover-term : lts.Need-overflow_add-i-else-word-eq0 claims (recover-row-at t) recover_row.Post Inv-loop μ-loop
+  add-recover-term c = omega (arith, c.paired.ensures.0 c.loop-out-test.true, c.loop-out.invariant.0, c.loop-out.invariant.1, c.loop-out.invariant.2, c.requires.1.0, c.skip-n.ensures.1)
 
-  add-recover-term-2 : lts.Need-overflow-add-recover-term-2 claims (recover-row-at t) recover_row.Post Inv-loop μ-loop
-  add-recover-term-2 c = omega (arith, c.before.before.before.before.before.paired.ensures.0 c.before.before.before.before.if1.true, c.before.before.before.before.before.before.loop.invariant.0, c.before.before.before.before.before.before.loop.invariant.1, c.before.before.before.before.before.before.loop.invariant.2, c.before.before.before.before.before.before.before.before.before.before.requires.1.0, c.skip2.ensures.1)
+  add-recover-term-2 : lts.Need-overflow_add-j-else-word-eq0 claims (recover-row-at t) recover_row.Post Inv-loop μ-loop
+  add-recover-term-2 c = omega (arith, c.paired.ensures.0 c.loop-out-test.true, c.loop-out.invariant.0, c.loop-out.invariant.1, c.loop-out.invariant.2, c.requires.1.0, c.skip-m.ensures.1)
 
-  recover-term-requires : lts.Need-recover-term-requires claims (recover-row-at t) recover_row.Post Inv-loop μ-loop
-  recover-term-requires c κs = (omega (arith, c.before.before.before.before.before.before.paired.ensures.0 c.before.before.before.before.before.if1.true, c.before.before.before.before.before.before.before.loop.invariant.0, c.before.before.before.before.before.before.before.loop.invariant.1, c.before.before.before.before.before.before.before.loop.invariant.2, c.before.before.before.before.before.before.before.before.before.before.before.requires.0, c.before.before.before.before.before.before.before.before.before.before.before.requires.1.0, c.before.before.skip.ensures.0, c.before.before.skip.ensures.1), ((omega (arith, c.before.before.before.before.before.before.paired.ensures.0 c.before.before.before.before.before.if1.true, c.before.before.skip.ensures.0), omega (arith, c.before.before.before.before.before.before.paired.ensures.0 c.before.before.before.before.before.if1.true, c.before.before.before.before.before.before.before.loop.invariant.0, c.before.before.before.before.before.before.before.loop.invariant.1, c.before.before.before.before.before.before.before.loop.invariant.2, c.before.before.before.before.before.before.before.before.before.before.before.requires.1.0, c.before.before.skip.ensures.1), omega (arith, c.before.before.before.before.before.before.paired.ensures.0 c.before.before.before.before.before.if1.true, c.before.skip2.ensures.0), omega (arith, c.before.before.before.before.before.before.paired.ensures.0 c.before.before.before.before.before.if1.true, c.before.before.before.before.before.before.before.loop.invariant.0, c.before.before.before.before.before.before.before.loop.invariant.1, c.before.before.before.before.before.before.before.loop.invariant.2, c.before.before.before.before.before.before.before.before.before.before.before.requires.1.0, c.before.skip2.ensures.1), c.before.before.before.before.before.before.before.before.before.before.before.requires.1.0.5), omega (arith, c.before.before.before.before.before.before.paired.ensures.0 c.before.before.before.before.before.if1.true, c.before.before.before.before.before.before.before.loop.invariant.0, c.before.before.before.before.before.before.before.loop.invariant.1, c.before.before.before.before.before.before.before.loop.invariant.2, c.before.before.before.before.before.before.before.before.before.before.before.requires.1.0, c.before.before.before.before.before.before.before.before.before.before.before.requires.1.1, c.before.before.skip.ensures.1, c.before.skip2.ensures.1, c.before.before.skip.ensures.0, c.before.skip2.ensures.0)))
+  recover-term-requires : lts.Need-recover_term-to-requires claims (recover-row-at t) recover_row.Post Inv-loop μ-loop
+  recover-term-requires c κs = (omega (arith, c.paired.ensures.0 c.loop-out-test.true, c.loop-out.invariant.0, c.loop-out.invariant.1, c.loop-out.invariant.2, c.requires.0, c.requires.1.0, c.skip-n.ensures.0, c.skip-n.ensures.1), ((omega (arith, c.paired.ensures.0 c.loop-out-test.true, c.skip-n.ensures.0), omega (arith, c.paired.ensures.0 c.loop-out-test.true, c.loop-out.invariant.0, c.loop-out.invariant.1, c.loop-out.invariant.2, c.requires.1.0, c.skip-n.ensures.1), omega (arith, c.paired.ensures.0 c.loop-out-test.true, c.skip-m.ensures.0), omega (arith, c.paired.ensures.0 c.loop-out-test.true, c.loop-out.invariant.0, c.loop-out.invariant.1, c.loop-out.invariant.2, c.requires.1.0, c.skip-m.ensures.1), c.requires.1.0.5), omega (arith, c.paired.ensures.0 c.loop-out-test.true, c.loop-out.invariant.0, c.loop-out.invariant.1, c.loop-out.invariant.2, c.requires.1.0, c.requires.1.1, c.skip-n.ensures.1, c.skip-m.ensures.1, c.skip-n.ensures.0, c.skip-m.ensures.0)))
 
-  add-i-2 : lts.Need-overflow-add-i-2 claims (recover-row-at t) recover_row.Post Inv-loop μ-loop
-  add-i-2 c = omega (arith, c.before.before.before.before.before.before.before.before.before.paired.ensures.0 c.before.before.before.before.before.before.before.before.if1.true, c.before.before.before.before.before.before.before.before.before.before.loop.invariant.0, c.before.before.before.before.before.before.before.before.before.before.loop.invariant.1, c.before.before.before.before.before.before.before.before.before.before.loop.invariant.2, c.before.before.before.before.before.before.before.before.before.before.before.before.before.before.requires.1.0, c.before.before.before.before.before.skip.ensures.1)
+  add-i-2 : lts.Need-overflow_add-i-else-word-eq0-2 claims (recover-row-at t) recover_row.Post Inv-loop μ-loop
+  add-i-2 c = omega (arith, c.paired.ensures.0 c.loop-out-test.true, c.loop-out.invariant.0, c.loop-out.invariant.1, c.loop-out.invariant.2, c.requires.1.0, c.skip-n.ensures.1)
 
-  add-j-2 : lts.Need-overflow-add-j-2 claims (recover-row-at t) recover_row.Post Inv-loop μ-loop
-  add-j-2 c = omega (arith, c.before.before.before.before.before.before.before.before.before.paired.ensures.0 c.before.before.before.before.before.before.before.before.if1.true, c.before.before.before.before.before.before.before.before.before.before.loop.invariant.0, c.before.before.before.before.before.before.before.before.before.before.loop.invariant.1, c.before.before.before.before.before.before.before.before.before.before.loop.invariant.2, c.before.before.before.before.before.before.before.before.before.before.before.before.before.before.requires.1.0, c.before.before.before.before.skip2.ensures.1)
+  add-j-2 : lts.Need-overflow_add-j-else-word-eq0-2 claims (recover-row-at t) recover_row.Post Inv-loop μ-loop
+  add-j-2 c = omega (arith, c.paired.ensures.0 c.loop-out-test.true, c.loop-out.invariant.0, c.loop-out.invariant.1, c.loop-out.invariant.2, c.requires.1.0, c.skip-m.ensures.1)
 
-  loop-less-2 : lts.Need-loop-smaller-2 claims (recover-row-at t) recover_row.Post Inv-loop μ-loop
-  loop-less-2 c = omega (arith, c.before.before.before.before.before.before.before.before.before.paired.ensures.0 c.before.before.before.before.before.before.before.before.if1.true, c.before.before.before.before.before.before.before.before.before.before.loop.invariant.0, c.before.before.before.before.before.before.before.before.before.before.loop.invariant.1, c.before.before.before.before.before.before.before.before.before.before.loop.invariant.2, c.before.before.before.before.before.before.before.before.before.before.before.before.before.before.requires.1.0, c.before.before.before.before.before.skip.ensures.0, c.before.before.before.before.before.skip.ensures.1)
+  loop-less-2 : lts.Need-loop-out-smaller claims (recover-row-at t) recover_row.Post Inv-loop μ-loop
+  loop-less-2 c = omega (arith, c.paired.ensures.0 c.loop-out-test.true, c.loop-out.invariant.0, c.loop-out.invariant.1, c.loop-out.invariant.2, c.requires.1.0, c.skip-n.ensures.0, c.skip-n.ensures.1)
 
-  loop-again-2 : lts.Need-loop-preserved-2 claims (recover-row-at t) recover_row.Post Inv-loop μ-loop
+  loop-again-2 : lts.Need-loop-out-preserved claims (recover-row-at t) recover_row.Post Inv-loop μ-loop
   loop-again-2 c = (
-    omega (arith, c.before.before.before.before.before.before.before.before.before.paired.ensures.0 c.before.before.before.before.before.before.before.before.if1.true, c.before.before.before.before.before.before.before.before.before.before.loop.invariant.0, c.before.before.before.before.before.before.before.before.before.before.loop.invariant.1, c.before.before.before.before.before.before.before.before.before.before.loop.invariant.2, c.before.before.before.before.before.before.before.before.before.before.before.before.before.before.requires.1.0, c.before.before.before.before.before.skip.ensures.0, c.before.before.before.before.before.skip.ensures.1),
-    omega (arith, c.before.before.before.before.before.before.before.before.before.paired.ensures.0 c.before.before.before.before.before.before.before.before.if1.true, c.before.before.before.before.before.before.before.before.before.before.loop.invariant.0, c.before.before.before.before.before.before.before.before.before.before.loop.invariant.1, c.before.before.before.before.before.before.before.before.before.before.loop.invariant.2, c.before.before.before.before.before.before.before.before.before.before.before.before.before.before.requires.1.0, c.before.before.before.before.skip2.ensures.0, c.before.before.before.before.skip2.ensures.1),
-    omega (arith, c.before.before.before.before.before.before.before.before.before.paired.ensures.0 c.before.before.before.before.before.before.before.before.if1.true, c.before.before.before.before.before.before.before.before.before.before.loop.invariant.0, c.before.before.before.before.before.before.before.before.before.before.loop.invariant.1, c.before.before.before.before.before.before.before.before.before.before.loop.invariant.2, c.before.before.recover-term.ensures.0, c.before.before.before.before.before.skip.ensures.0, c.before.before.before.before.skip2.ensures.0),
+    omega (arith, c.paired.ensures.0 c.loop-out-test.true, c.loop-out.invariant.0, c.loop-out.invariant.1, c.loop-out.invariant.2, c.requires.1.0, c.skip-n.ensures.0, c.skip-n.ensures.1),
+    omega (arith, c.paired.ensures.0 c.loop-out-test.true, c.loop-out.invariant.0, c.loop-out.invariant.1, c.loop-out.invariant.2, c.requires.1.0, c.skip-m.ensures.0, c.skip-m.ensures.1),
+    omega (arith, c.paired.ensures.0 c.loop-out-test.true, c.loop-out.invariant.0, c.loop-out.invariant.1, c.loop-out.invariant.2, c.recover_term-to.ensures.0, c.skip-n.ensures.0, c.skip-m.ensures.0),
     λ k ps qs hp hq fp fq e.
-        let x = c.before.before.before.before.before.before.before.before.before.before.loop.invariant.3 k ps qs hp hq fp fq e in
-        let y = both_terms _ _ _ _ _ _ _ _ _ _ _ _ x (c.before.before.before.before.before.before.before.before.before.paired.ensures.0 c.before.before.before.before.before.before.before.before.if1.true).left c.before.before.before.before.before.before.before.before.before.before.before.before.before.before.requires.1.0.1 (c.before.before.before.before.before.before.before.before.before.paired.ensures.0 c.before.before.before.before.before.before.before.before.if1.true).right (λ z. c.before.before.before.before.before.before.if2.false (c.before.before.before.before.before.before.before.word.ensures ∙ z)) ((c.before.before.before.before.before.before.before.before.before.paired.ensures.0 c.before.before.before.before.before.before.before.before.if1.true).term (λ z. c.before.before.before.before.before.before.if2.false (c.before.before.before.before.before.before.before.word.ensures ∙ z))) in
-        let n = told_row _ _ _ _ _ y.t y.ps y.row_left c.before.before.before.before.before.skip.ensures.2 in
-        let m = told_row _ _ _ _ _ y.u y.qs y.row_right c.before.before.before.before.skip2.ensures.2 in
-        recover_both _ _ _ _ _ _ _ _ _ _ _ _ x (c.before.before.before.before.before.before.before.before.before.paired.ensures.0 c.before.before.before.before.before.before.before.before.if1.true).left c.before.before.before.before.before.before.before.before.before.before.before.before.before.before.requires.1.0.1 (c.before.before.before.before.before.before.before.before.before.paired.ensures.0 c.before.before.before.before.before.before.before.before.if1.true).right y _ _ n m _ _ (c.before.before.recover-term.ensures.1 y.t y.u (held_one _ _ _ _ y.t y.held_left n) (held_one _ _ _ _ y.u y.held_right m) y.formed_left y.formed_right),
+        let x = c.loop-out.invariant.3 k ps qs hp hq fp fq e in
+        let y = both_terms _ _ _ _ _ _ _ _ _ _ _ _ x (c.paired.ensures.0 c.loop-out-test.true).left c.requires.1.0.1 (c.paired.ensures.0 c.loop-out-test.true).right (λ z. c.if-word-eq0.false (c.word.ensures ∙ z)) ((c.paired.ensures.0 c.loop-out-test.true).term (λ z. c.if-word-eq0.false (c.word.ensures ∙ z))) in
+        let n = told_row _ _ _ _ _ y.t y.ps y.row_left c.skip-n.ensures.2 in
+        let m = told_row _ _ _ _ _ y.u y.qs y.row_right c.skip-m.ensures.2 in
+        recover_both _ _ _ _ _ _ _ _ _ _ _ _ x (c.paired.ensures.0 c.loop-out-test.true).left c.requires.1.0.1 (c.paired.ensures.0 c.loop-out-test.true).right y _ _ n m _ _ (c.recover_term-to.ensures.1 y.t y.u (held_one _ _ _ _ y.t y.held_left n) (held_one _ _ _ _ y.u y.held_right m) y.formed_left y.formed_right),
   )
 
-  sub-put-run : lts.Need-overflow-sub-put-run claims (recover-row-at t) recover_row.Post Inv-loop μ-loop
-  sub-put-run c = omega (arith, c.before.before.loop.invariant.0, c.before.before.loop.invariant.1, c.before.before.loop.invariant.2)
+  sub-put-run : lts.Need-overflow_sub-pe-2 claims (recover-row-at t) recover_row.Post Inv-loop μ-loop
+  sub-put-run c = omega (arith, c.loop-out.invariant.0, c.loop-out.invariant.1, c.loop-out.invariant.2)
 
-  put-run-requires-2 : lts.Need-put-run-requires-2 claims (recover-row-at t) recover_row.Post Inv-loop μ-loop
-  put-run-requires-2 c κs = ((omega (arith, c.before.before.before.loop.invariant.0, c.before.before.before.loop.invariant.1, c.before.before.before.loop.invariant.2, c.before.before.before.before.before.before.before.requires.1.0), omega (arith, c.before.before.before.loop.invariant.0, c.before.before.before.loop.invariant.1, c.before.before.before.loop.invariant.2, c.before.before.before.before.before.before.before.requires.1.0)), omega (arith, c.before.before.before.loop.invariant.0, c.before.before.before.loop.invariant.1, c.before.before.before.loop.invariant.2, c.before.before.before.before.before.before.before.requires.1.0, c.before.before.before.before.before.before.before.requires.1.1))
+  put-run-requires-2 : lts.Need-put_run-requires claims (recover-row-at t) recover_row.Post Inv-loop μ-loop
+  put-run-requires-2 c κs = ((omega (arith, c.loop-out.invariant.0, c.loop-out.invariant.1, c.loop-out.invariant.2, c.requires.1.0), omega (arith, c.loop-out.invariant.0, c.loop-out.invariant.1, c.loop-out.invariant.2, c.requires.1.0)), omega (arith, c.loop-out.invariant.0, c.loop-out.invariant.1, c.loop-out.invariant.2, c.requires.1.0, c.requires.1.1))
 
-  same_length : lts.Need-same-length claims (recover-row-at t) recover_row.Post Inv-loop μ-loop
-  same_length c = omega (arith, c.before.before.before.before.before.before.loop.invariant.0, c.before.before.before.before.before.before.loop.invariant.1, c.before.before.before.before.before.before.loop.invariant.2, c.before.before.put-run2.auto)
+  same_length : lts.Need-shape_of-out claims (recover-row-at t) recover_row.Post Inv-loop μ-loop
+  same_length c = omega (arith, c.loop-out.invariant.0, c.loop-out.invariant.1, c.loop-out.invariant.2, c.put_run.auto)
 
   returns : lts.Need-returns claims (recover-row-at t) recover_row.Post Inv-loop μ-loop
   returns c = (
-    omega (arith, c.before.before.put-run2.ensures.1.1, c.before.before.before.before.before.before.loop.invariant.0, c.before.before.before.before.before.before.loop.invariant.1, c.before.before.before.before.before.before.loop.invariant.2, c.before.before.before.before.before.before.before.before.before.before.requires.1.0),
+    omega (arith, c.put_run.ensures.1.1, c.loop-out.invariant.0, c.loop-out.invariant.1, c.loop-out.invariant.2, c.requires.1.0),
     λ k ps qs hp hq fp fq e.
-        let x = c.before.before.before.before.before.before.loop.invariant.3 k ps qs hp hq fp fq e in
-        recover_stays _ _ _ _ _ _ _ _ _ _ _ _ x (stays_parted _ _ _ _ _ _ _ _ _ _ _ _ x c.before.before.before.before.before.before.before.before.before.before.requires.1.0.1 (c.before.before.before.before.before.paired.ensures.1 c.before.before.before.before.if1.false)) _ _ c.before.before.put-run2.ensures.0 c.before.before.put-run2.ensures.1.0,
+        let x = c.loop-out.invariant.3 k ps qs hp hq fp fq e in
+        recover_stays _ _ _ _ _ _ _ _ _ _ _ _ x (stays_parted _ _ _ _ _ _ _ _ _ _ _ _ x c.requires.1.0.1 (c.paired.ensures.1 c.loop-out-test.false)) _ _ c.put_run.ensures.0 c.put_run.ensures.1.0,
   )
 
   pub member : {M : Type 1} → lts.Closed claims (recover-row-at t) recover_row.Post M

@@ -28,101 +28,96 @@ module _ (t : ℕ) where
   wide-requires : lts.Need-wide-requires claims (show-tree-at t) show-tree.Post
   wide-requires c κs = search rules
 
-  token-at-requires : lts.Need-token-at-requires claims (show-tree-at t) show-tree.Post
-  token-at-requires c κs = c.before.before.before.before.before.before.requires.1.0
+  token-at-requires : lts.Need-token_at-h-requires claims (show-tree-at t) show-tree.Post
+  token-at-requires c κs = c.requires.1.0
 
-  wide-requires-2 : lts.Need-wide-requires-2 claims (show-tree-at t) show-tree.Post
+  wide-requires-2 : lts.Need-wide-requires-then-x-eq0 claims (show-tree-at t) show-tree.Post
   wide-requires-2 c κs = search rules
 
   step-requires : lts.Need-step-requires claims (show-tree-at t) show-tree.Post
   step-requires c κs = search rules
 
-  show-run-requires : lts.Need-show-run-requires claims (show-tree-at t) show-tree.Post
+  show-run-requires : lts.Need-show_run-requires claims (show-tree-at t) show-tree.Post
   show-run-requires c κs =
-      let start = c.before.before.before.before.before.before.before.before.before.before.before.before in
-      (start.requires.1.0, ((omega (arith, c.before.before.wide2.ensures), omega (arith, c.before.step.ensures.0)), start.requires.1.1))
+      (c.requires.1.0, ((omega (arith, c.wide-then-x-eq0.ensures), omega (arith, c.step.ensures.0)), c.requires.1.1))
 
-  same_length : lts.Need-same-length claims (show-tree-at t) show-tree.Post
-  same_length c = c.before.before.show-run.ensures.0.long
+  same_length : lts.Need-shape_of-out-then-x-eq0 claims (show-tree-at t) show-tree.Post
+  same_length c = c.show_run.ensures.0.long
 
-  returns : lts.Need-returns claims (show-tree-at t) show-tree.Post
+  returns : lts.Need-returns-then-x-eq0 claims (show-tree-at t) show-tree.Post
   returns c =
-      let show-run' = c.before.before.show-run in
-      let start = c.before.before.before.before.before.before.before.before.before.before.before.before.before.before.before in
-      let wide2' = c.before.before.before.before.before.wide2 in
-      let step' = c.before.before.before.before.step in
-      let token-at' = c.before.before.before.before.before.before.before.before.token-at in
-      let wide' = c.before.before.before.before.before.before.before.before.before.wide in (
+      let show-run' = c.show_run in
+      let wide2' = c.wide-then-x-eq0 in
+      let step' = c.step in
+      let token-at' = c.token_at-h in
+      let wide' = c.wide in (
         show-run'.ensures.0,
         λ S t w d.
-            let e = tree_flat (view start.args.kinds.now start.args.vals.now start.args.g) start.args.heads.now start.args.kids.now
-            S w c.before.before.before.before.before.before.if1.true wide2'.result step'.result wide2'.ensures
-            (token-at'.ensures.0 ∙ ap (λ (i : ℕ). get_or (view start.args.kinds.now start.args.vals.now start.args.g).kinds i 0)
+            let e = tree_flat (view c.args.kinds.now c.args.vals.now c.args.g) c.args.heads.now c.args.kids.now
+            S w c.if-x-eq0.true wide2'.result step'.result wide2'.ensures
+            (token-at'.ensures.0 ∙ ap (λ (i : ℕ). get_or (view c.args.kinds.now c.args.vals.now c.args.g).kinds i 0)
             (wide'.ensures ∙ sym wide2'.ensures))
-            (token-at'.ensures.1 ∙ ap (λ (i : ℕ). get_or (view start.args.kinds.now start.args.vals.now start.args.g).vals i 0)
+            (token-at'.ensures.1 ∙ ap (λ (i : ℕ). get_or (view c.args.kinds.now c.args.vals.now c.args.g).vals i 0)
             (wide'.ensures ∙ sym wide2'.ensures)) step'.ensures.1 in
             rw (← e) show-run'.ensures.1,
       )
 
-  add-result : lts.Need-overflow-add-result claims (show-tree-at t) show-tree.Post
+  add-result : lts.Need-overflow_add-result claims (show-tree-at t) show-tree.Post
   add-result c = search rules
 
-  returns-2 : lts.Need-returns-2 claims (show-tree-at t) show-tree.Post
-  returns-2 c = (kept_at _ _ _ _ (omega (arith, c.before.before.before.before.before.before.before.before.before.before.requires.1.1)), λ S t w d. absurd (omega (arith, d (omega (arith, c.before.if1.false)), depth_some t)))
+  returns-2 : lts.Need-returns-then-fuel-eq0 claims (show-tree-at t) show-tree.Post
+  returns-2 c = (kept_at _ _ _ _ (omega (arith, c.requires.1.1)), λ S t w d. absurd (omega (arith, d (omega (arith, c.if-x-eq0.false)), depth_some t)))
 
-  cursor-requires : lts.Need-cursor-requires claims (show-tree-at t) show-tree.Post
-  cursor-requires c κs = c.before.before.before.before.before.before.before.before.before.before.requires.1.0
+  cursor-requires : lts.Need-cursor-c-requires claims (show-tree-at t) show-tree.Post
+  cursor-requires c κs = c.requires.1.0
 
-  show-token-requires : lts.Need-show-token-requires claims (show-tree-at t) show-tree.Post
-  show-token-requires c κs = c.before.before.before.before.before.before.before.before.before.before.before.before.requires.1.1
+  show-token-requires : lts.Need-show_token-i-requires claims (show-tree-at t) show-tree.Post
+  show-token-requires c κs = c.requires.1.1
 
-  same-length-2 : lts.Need-same-length-2 claims (show-tree-at t) show-tree.Post
-  same-length-2 c = c.before.before.before.show-token.ensures.0.long
+  same-length-2 : lts.Need-shape_of-out-then-out-i claims (show-tree-at t) show-tree.Post
+  same-length-2 c = c.show_token-i.ensures.0.long
 
-  returns-3 : lts.Need-returns-3 claims (show-tree-at t) show-tree.Post
+  returns-3 : lts.Need-returns-then-out-i claims (show-tree-at t) show-tree.Post
   returns-3 c =
-      let start = c.before.before.before.before.before.before.before.before.before.before.before.before.before.before.before.before in
-      let a = start.args in
-      let show-token' = c.before.before.before.show-token in
-      let token-at' = c.before.before.before.before.before.before.before.before.before.token-at in
-      let wide' = c.before.before.before.before.before.before.before.before.before.before.wide in (
+      let a = c.args in
+      let show-token' = c.show_token-i in
+      let token-at' = c.token_at-h in
+      let wide' = c.wide in (
         show-token'.ensures.0,
-        λ S t w d. shows_first a.on a.out.now show-token'.new.0 a.at (plain token-at'.result.kind token-at'.result.value) (part_bytes (row t)) (bytes t) start.requires.1.1
+        λ S t w d. shows_first a.on a.out.now c.show_token-i.new.out a.at (plain token-at'.result.kind token-at'.result.value) (part_bytes (row t)) (bytes t) c.requires.1.1
             (tree_bytes (view a.kinds.now a.vals.now a.g) a.heads.now a.kids.now S w
             (token-at'.ensures.0 ∙ ap (λ (i : ℕ). get_or (view a.kinds.now a.vals.now a.g).kinds i 0) wide'.ensures)
             (token-at'.ensures.1 ∙ ap (λ (i : ℕ). get_or (view a.kinds.now a.vals.now a.g).vals i 0) wide'.ensures))
             _ show-token'.ensures.0.long show-token'.ensures.1
-            (omega (arith, c.if3.true, show-token'.ensures.0.long)),
+            (omega (arith, c.if-out-i.true, show-token'.ensures.0.long)),
       )
 
-  sub-show-row : lts.Need-overflow-sub-show-row claims (show-tree-at t) show-tree.Post
-  sub-show-row c = omega (arith, c.before.before.before.before.before.before.if2.false)
+  sub-show-row : lts.Need-overflow_sub-fuel claims (show-tree-at t) show-tree.Post
+  sub-show-row c = omega (arith, c.if-fuel-eq0.false)
 
-  show-row-requires : lts.Need-show-row-requires claims (show-tree-at t) show-tree.Post
+  show-row-requires : lts.Need-show_row-requires claims (show-tree-at t) show-tree.Post
   show-row-requires c κs =
-      let start = c.before.before.before.before.before.before.before.before.before.before.before.before.before.before.before.before.before in
-      (omega (arith, start.requires.0, c.before.before.before.before.before.before.before.if2.false), (start.requires.1.0, (c.before.before.before.before.before.before.cursor.ensures.cut, omega (arith, c.before.if3.false))))
+      (omega (arith, c.requires.0, c.if-fuel-eq0.false), (c.requires.1.0, (c.cursor-c.ensures.cut, omega (arith, c.if-out-i.false))))
 
-  same-length-3 : lts.Need-same-length-3 claims (show-tree-at t) show-tree.Post
-  same-length-3 c = c.before.before.show-row.ensures.0.long ∙ c.before.before.before.before.before.before.before.show-token.ensures.0.long
+  same-length-3 : lts.Need-shape_of-out claims (show-tree-at t) show-tree.Post
+  same-length-3 c = c.show_row.ensures.0.long ∙ c.show_token-i.ensures.0.long
 
-  returns-4 : lts.Need-returns-4 claims (show-tree-at t) show-tree.Post
+  returns-4 : lts.Need-returns claims (show-tree-at t) show-tree.Post
   returns-4 c =
-      let start = c.before.before.before.before.before.before.before.before.before.before.before.before.before.before.before.before.before.before.before.before in
-      let a = start.args in
-      let show-token' = c.before.before.before.before.before.before.before.show-token in
-      let show-row' = c.before.before.show-row in
-      let token-at' = c.before.before.before.before.before.before.before.before.before.before.before.before.before.token-at in
-      let wide' = c.before.before.before.before.before.before.before.before.before.before.before.before.before.before.wide in (
+      let a = c.args in
+      let show-token' = c.show_token-i in
+      let show-row' = c.show_row in
+      let token-at' = c.token_at-h in
+      let wide' = c.wide in (
         kept_then _ _ _ _ _ _ _ show-token'.ensures.0 show-row'.ensures.0,
-        λ S t w d. shows_then a.on a.out.now show-token'.new.0 a.at (plain token-at'.result.kind token-at'.result.value) (part_bytes (row t)) (bytes t) start.requires.1.1
+        λ S t w d. shows_then a.on a.out.now c.show_token-i.new.out a.at (plain token-at'.result.kind token-at'.result.value) (part_bytes (row t)) (bytes t) c.requires.1.1
             (tree_bytes (view a.kinds.now a.vals.now a.g) a.heads.now a.kids.now S w
             (token-at'.ensures.0 ∙ ap (λ (i : ℕ). get_or (view a.kinds.now a.vals.now a.g).kinds i 0) wide'.ensures)
             (token-at'.ensures.1 ∙ ap (λ (i : ℕ). get_or (view a.kinds.now a.vals.now a.g).vals i 0) wide'.ensures))
             _ show-token'.ensures.0.long show-token'.ensures.1
-            (omega (arith, c.before.before.before.before.if3.false, show-token'.ensures.0.long)) _ show-row'.result show-row'.ensures.0.long
-            (show-row'.ensures.1 S (row t) (c.before.before.before.before.before.before.before.before.before.cursor.ensures.is a.heads.now a.kids.now S t w)
-            (omega (arith, d (omega (arith, c.before.before.before.before.before.before.before.before.before.before.before.if1.false)), depth_row t, c.before.before.before.before.before.before.before.before.before.before.if2.false))),
+            (omega (arith, c.if-out-i.false, show-token'.ensures.0.long)) _ show-row'.result show-row'.ensures.0.long
+            (show-row'.ensures.1 S (row t) (c.cursor-c.ensures.is a.heads.now a.kids.now S t w)
+            (omega (arith, d (omega (arith, c.if-x-eq0.false)), depth_row t, c.if-fuel-eq0.false))),
       )
 
   pub member : {M : Type 1} → lts.Closed claims (show-tree-at t) show-tree.Post M
