@@ -5,11 +5,11 @@ use mathlib.Core.Path.{◌≡◌}
 use Prim.Native.Nat.{◌+◌, ◌*◌, ◌≤◌, ◌<◌, ◌-◌}
 use mathlib.Core.List.{◌∷◌}
 use mathlib.Core.Path.{sym, ◌∙◌}
-use mathlib.Core.Logic.{⊎_elim}
 use lib.ListN.{length, drop}
 use Rattle.terms.specs.Number.{groups, number}
 use Rattle.terms.proofs.Laws.Numbers.NumberStepLaws.{over, within, parts, step_over, step_more, step_padded, step_zero, step_last, at_byte, at-end}
 use Rattle.terms.proofs.numbers.read_groups.Statement.{statement}
+use Rattle.terms.proofs.numbers.read_groups.Lts.{then-b-eq0+else-w-gt1, else-b-eq0}
 use Rattle.terms.proofs.numbers.read_groups.Tie as tie
 
 abbrev invariant-loop : tie.invariant-loop-i
@@ -74,10 +74,10 @@ returns-3 c =
     let e = c.before.before in
     let l = c.loop-i in
     let b = c.wide-b.result in
-    ⊎_elim
-    (λ w. sym (step_zero _ l.v l.w l.i b _ (within_most e) w.0.taken w.1.left) ∙ byte-here c.before.before.before)
-    (λ w. sym (step_last _ l.v l.w l.i b _ (within_most e) c.if-b-lt128.true w.left) ∙ byte-here c.before.before.before)
-    c.if-b-eq0.branch
+    elim c.if-b-eq0.branch [
+      then-b-eq0+else-w-gt1 w ↦ sym (step_zero _ l.v l.w l.i b _ (within_most e) w.if-b-eq0.true w.if-w-gt1.false) ∙ byte-here c.before.before.before
+    | else-b-eq0 w ↦ sym (step_last _ l.v l.w l.i b _ (within_most e) c.if-b-lt128.true w.if-b-eq0.false) ∙ byte-here c.before.before.before
+    ]
 
 mul-v : tie.Need-overflow_mul-v invariant-loop decreases-loop
 mul-v c =

@@ -12,7 +12,7 @@ returns-2 : tie.Need-returns-in-0-to-1
 returns-2 c = entered_few _ _ (omega (arith, c.in-0-to-1.if-question-lt2-own.true))
 
 returns-3 : tie.Need-returns-in_default
-returns-3 c = entered_most _ _ (omega (arith, c.in_default.if-question-lt2-own.false)) c.in_default-1.rest.1
+returns-3 c = entered_most _ _ (omega (arith, c.in_default.if-question-lt2-own.false)) c.in_default.in_default-own.rest.1
 
 pub enters_spec : {M : Type 1} → statement M
 enters_spec = tie.close (tie.spec returns returns-2 returns-3)

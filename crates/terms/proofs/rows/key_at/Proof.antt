@@ -4,7 +4,7 @@ use native.Mathlib.Omega.{arith}
 use mathlib.Core.Path.{◌≡◌, refl}
 use Rattle.terms.specs.Words.VirtualTokens.{view}
 use Rattle.terms.proofs.Laws.Normalising.VirtualTokenLaws.{few_kinds, few_vals}
-use mathlib.Core.Logic.{⊎_elim}
+use Rattle.terms.proofs.rows.key_at.Lts.{then-y-x+else-k-ge3, else-y-x}
 use Rattle.terms.proofs.Laws.Normalising.ScanLaws.{Scan, scan_start, Passed, passed_start, key_over, key_here, key_next, key_pass}
 use borrow.Author.Rules.{rules}
 use Rattle.terms.proofs.rows.key_at.Statement.{statement}
@@ -47,7 +47,7 @@ loop-again c =
     let loop' = c.loop-q in
     let token-at' = c.token_at-y in (
       key_next _ _ _ _ _ _ loop'.invariant.0 c.loop-q-test.true token-at'.ensures.0 token-at'.ensures.1
-          c.if-y-eq0.true (λ k e. ⊎_elim (λ w. omega (arith, w.1.left)) (λ w. w.left e) c.if-y-x.branch),
+          c.if-y-eq0.true (λ k e. elim c.if-y-x.branch [ then-y-x+else-k-ge3 w ↦ omega (arith, w.if-k-ge3.false) | else-y-x w ↦ w.if-y-x.false e ]),
       omega (arith, loop'.invariant.1),
     )
 

@@ -1,7 +1,7 @@
 -- `find_rule`. The outer invariant: no rule passed is the row's. The inner: what is left of the row decides, with the arguments that are left.
 use Prim.Native.Nat.{◌-◌, ◌≤◌, ◌<◌}
 use mathlib.Core.Path.{◌≡◌, refl, ap, ◌∙◌}
-use mathlib.Core.Logic.{⊎_elim}
+use Rattle.terms.proofs.rules.find_rule.Lts.{in_default, in-Behind+then-left-eq0+else-s-p}
 use native.Mathlib.Omega.{arith}
 use Rattle.terms.specs.Tree.{row}
 use Rattle.terms.specs.declared.Rule.{Rule}
@@ -104,10 +104,10 @@ rules-again c =
     let next = c.next_rule-r in
     let less = c.if-count-r.false in
     let at-it = searching_to c.args.kinds.now c.args.vals.now c.args.rules.now c.args.g c.args.heads.now c.args.kids.now cursor'.result c.args.fuel c.requires.0 _ c.member_in-member.ensures _ next.result next.ensures rules'.invariant.0 next.result next.ensures.past (omega arith) (omega (arith, less, rules'.invariant.2)) in
-    let missed : Missed c.args.kinds.now c.args.vals.now c.args.g c.args.heads.now c.args.kids.now cursor'.result c.args.fuel (rule_at c.args.rules.now next.result) = ⊎_elim
-    (λ v. rw v.1.given.1 at c.loop-m.invariant.0)
-    (λ v. argued_more c.args.kinds.now c.args.vals.now c.args.g c.args.heads.now c.args.kids.now cursor'.result c.args.fuel c.requires.0 _ _ _ _ _ (rw v.1.given.1 at c.loop-m.invariant.0) v.3.taken v.5.left)
-    c.match-m.branch in
+    let missed : Missed c.args.kinds.now c.args.vals.now c.args.g c.args.heads.now c.args.kids.now cursor'.result c.args.fuel (rule_at c.args.rules.now next.result) = elim c.match-m.branch [
+      in_default v ↦ rw v.in_default.is at c.loop-m.invariant.0
+    | in-Behind+then-left-eq0+else-s-p v ↦ argued_more c.args.kinds.now c.args.vals.now c.args.g c.args.heads.now c.args.kids.now cursor'.result c.args.fuel c.requires.0 _ _ _ _ _ (rw v.in-Behind.is at c.loop-m.invariant.0) v.if-left-eq0.true v.if-s-p.false
+    ] in
     (searching_next c.args.kinds.now c.args.vals.now c.args.rules.now c.args.g c.args.heads.now c.args.kids.now cursor'.result c.args.fuel c.requires.0 _ at-it (omega (arith, less, rules'.invariant.2)) missed, omega (arith, less), rules'.invariant.2)
 
 rule-at-requires-2 : tie.Need-rule_at-rule-requires-2 invariant-loop decreases-loop invariant-rules decreases-rules

@@ -1,10 +1,11 @@
 -- `clear_run`. The loop's invariant: the words still to clear, cleared, give what is asked.
-use mathlib.Core.Logic.{⊎_elim, inl, inr}
+use mathlib.Core.Logic.{inl, inr}
 use Prim.Native.Nat.{◌-◌}
 use native.Mathlib.Omega.{arith}
 use Rattle.terms.proofs.Laws.Format.StoreLaws.{Clearing, clearing_start, clearing_more, clearing_done}
 use borrow.Author.Rules.{rules}
 use Rattle.terms.proofs.store.clear_run.Statement.{statement}
+use Rattle.terms.proofs.store.clear_run.Lts.{then-words-end, else-words-end}
 use Rattle.terms.proofs.store.clear_run.Tie as tie
 
 abbrev invariant-loop : tie.invariant-loop-i
@@ -15,10 +16,10 @@ decreases-loop words₀ from end stop i₀ words i = stop - i
 
 loop-holds : tie.Need-loop-i-init invariant-loop decreases-loop
 loop-holds c =
-    ⊎_elim
-    (λ w. clearing_start _ _ _ _ (omega arith) (omega arith) (inr (omega arith)))
-    (λ w. clearing_start _ _ _ _ (omega arith) (omega arith) (inl (omega arith)))
-    c.if-words-end.branch
+    elim c.if-words-end.branch [
+      then-words-end w ↦ clearing_start _ _ _ _ (omega arith) (omega arith) (inr (omega arith))
+    | else-words-end w ↦ clearing_start _ _ _ _ (omega arith) (omega arith) (inl (omega arith))
+    ]
 
 mul_words : tie.Need-offset_bounds-words-i invariant-loop decreases-loop
 mul_words c = search rules

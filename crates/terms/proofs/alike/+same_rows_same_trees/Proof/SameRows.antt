@@ -94,7 +94,7 @@ module _ (t : ℕ) where
 
   same-trees-requires : lts.Need-same_trees-requires claims (same-rows-at t) same_rows.Post Inv-loop μ-loop
   same-trees-requires c κs =
-      (omega (arith, c.requires.1.0), c.requires.1.1.0)
+      (omega (arith, c.requires.0), c.requires.1.0)
 
   returns-5 : lts.Need-returns-then-not-same_trees claims (same-rows-at t) same_rows.Post Inv-loop μ-loop
   returns-5 c =

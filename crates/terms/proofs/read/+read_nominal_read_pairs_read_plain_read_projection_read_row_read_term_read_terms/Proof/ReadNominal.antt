@@ -127,12 +127,12 @@ module _ (t : ℕ) where
   -- where the members begin: what was read so far
   abbrev Begun : lts.Joined-v-ne0 claims (read-nominal-at t) read-nominal.Post → Type 0
   Begun c =
-      let a = c.before.before.before.before.before.before.before.before.before.before.before.before.before.before.before.before.before.before.before.before.before.before.before.before.before.before.before.args in
-      let s = a.s.now in
-      let l = a.limit in
+      let a = c.args in
+      let s = c.args.s.now in
+      let l = c.args.limit in
       let t = term s a.issued a.levels in
-      let o = c.if3 in
-      SoFar s (row s t (shape.nominal shape.done) a.at.now) (row s t (shape.members shape.done) o.at) (place a.at.now a.top.now a.nodes.now l) (area a.kinds.now a.vals.now) (area o.kinds o.vals) (place o.at o.top o.nodes l)
+      let o = c.if-v-ne0 in
+      SoFar s (row s t (shape.nominal shape.done) a.at.now) (row s t (shape.members shape.done) c.if-v-ne0.at) (place a.at.now a.top.now a.nodes.now l) (area a.kinds.now a.vals.now) (area c.if-v-ne0.kinds c.if-v-ne0.vals) (place c.if-v-ne0.at c.if-v-ne0.top c.if-v-ne0.nodes l)
 
   begun : (c : lts.Joined-v-ne0 claims (read-nominal-at t) read-nominal.Post) → Begun c
   begun c =

@@ -105,14 +105,14 @@ module _ (t : ℕ) where
   -- where the terms begin: what was read so far, and how many terms are counted at most
   abbrev Begun : lts.Joined-f claims (read-plain-at t) read_plain.Post → Type 0
   Begun c =
-      let a = c.before.before.before.before.before.before.before.before.before.before.before.before.before.before.before.before.before.args in
-      let s = a.s.now in
-      let l = a.limit in
+      let a = c.args in
+      let s = c.args.s.now in
+      let l = c.args.limit in
       let p = place a.at.now a.top.now a.nodes.now l in
       let t = term s a.issued a.levels in
       let d = area a.kinds.now a.vals.now in
-      let o = c.if3 in
-      SoFar s (row s t (plain a.f) a.at.now) (many s t (o.n + a.f.terms) o.at) p d (area o.kinds o.vals) (place o.at o.top a.nodes.now l) × (o.n ≤ 4294967295)
+      let o = c.if-f in
+      SoFar s (row s t (plain a.f) a.at.now) (many s t (c.if-f.n + a.f.terms) c.if-f.at) p d (area c.if-f.kinds c.if-f.vals) (place c.if-f.at c.if-f.top a.nodes.now l) × (c.if-f.n ≤ 4294967295)
 
   begun : (c : lts.Joined-f claims (read-plain-at t) read_plain.Post) → Begun c
   begun c =

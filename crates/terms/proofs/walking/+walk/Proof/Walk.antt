@@ -178,19 +178,19 @@ module _ (t : ℕ) where
       let begin' = c.begin-o in (
         omega (
           arith,
-          c.requires.1.0,
+          c.requires.0,
           c.if-levels-eq0.false,
           loop'.invariant.fewer,
         ),
         (
           record {
-            sight = c.requires.1.1.0.sight;
-            heads = omega (arith, c.requires.1.1.0.heads, begin'.ensures.1.0.heads.long, loop'.invariant.frames.heads.long);
-            kids = omega (arith, c.requires.1.1.0.kids, begin'.ensures.1.0.kids.long, loop'.invariant.frames.kids.long);
+            sight = c.requires.1.0.sight;
+            heads = omega (arith, c.requires.1.0.heads, begin'.ensures.1.0.heads.long, loop'.invariant.frames.heads.long);
+            kids = omega (arith, c.requires.1.0.kids, begin'.ensures.1.0.kids.long, loop'.invariant.frames.kids.long);
             within = loop'.invariant.high;
-            small = c.requires.1.1.0.small;
+            small = c.requires.1.0.small;
           },
-          (c.requires.1.1.1.0, omega (arith, c.requires.1.1.1.1)),
+          (c.requires.1.1.0, omega (arith, c.requires.1.1.1)),
         ),
       )
 
@@ -217,15 +217,15 @@ module _ (t : ℕ) where
       let fr = frames_then _ _ _ _ _ _ _ _ _ _ c.args.next c.args.most (frames_then _ _ _ _ _ _ _ _ _ _ c.args.next loop'.at
       begin'.ensures.1.0 loop'.invariant.frames (omega arith) (omega arith) loop'.invariant.low (omega arith)) walk'.ensures.1 (omega arith) (omega
       (arith, loop'.invariant.low)) loop'.invariant.high walk'.ensures.0.within in (
-        walks_stopped c.args.kinds.now c.args.vals.now c.args.rules.now c.args.g c.args.heads.now c.args.kids.now _ _ c.args.x c.args.next c.args.levels c.args.visits c.args.most c.requires.1.1.0.within
+        walks_stopped c.args.kinds.now c.args.vals.now c.args.rules.now c.args.g c.args.heads.now c.args.kids.now _ _ c.args.x c.args.next c.args.levels c.args.visits c.args.most c.requires.1.0.within
             (λ S t look b w z.
             let o = begin'.ensures.1.1.0.done c.if-o.false
             S t b w in
             walking_over c.args.kinds.now c.args.vals.now c.args.rules.now c.args.g _ _ _ _ _ _ _ _ _ _ _ _ _ _ _ _ _
             loop'.invariant c.loop-j-test.true _ slot'.ensures.0
-            slot'.ensures.1 (omega (arith, c.requires.1.1.0.heads, begin'.ensures.1.0.heads.long, loop'.invariant.frames.heads.long)) (omega (
+            slot'.ensures.1 (omega (arith, c.requires.1.0.heads, begin'.ensures.1.0.heads.long, loop'.invariant.frames.heads.long)) (omega (
               arith,
-              c.requires.1.1.0.kids,
+              c.requires.1.0.kids,
               begin'.ensures.1.0.kids.long,
               loop'.invariant.frames.kids.long,
             )) _ _ walk'.result walk'.ensures.0 walk'.ensures.1
@@ -308,20 +308,20 @@ module _ (t : ℕ) where
       let walk' = c.walk-w in
       walking_next c.args.kinds.now c.args.vals.now c.args.rules.now c.args.g _ _ _ _ _ _ _ _ _ _ _ _ _ _ _ _ _ loop'.invariant
       c.loop-j-test.true _ slot'.ensures.0 slot'.ensures.1
-      (omega (arith, c.requires.1.1.0.heads, begin'.ensures.1.0.heads.long, loop'.invariant.frames.heads.long)) (omega (
+      (omega (arith, c.requires.1.0.heads, begin'.ensures.1.0.heads.long, loop'.invariant.frames.heads.long)) (omega (
         arith,
-        c.requires.1.1.0.kids,
+        c.requires.1.0.kids,
         begin'.ensures.1.0.kids.long,
         loop'.invariant.frames.kids.long,
       )) _ _ walk'.result walk'.ensures.0 walk'.ensures.1 c.if-w.false
 
   add-t27 : lts.Need-overflow_add-z claims (walk_at t) walk.Post Inv-loop μ-loop
   add-t27 c =
-      omega (arith, c.requires.1.1.0.small, c.requires.1.1.0.within)
+      omega (arith, c.requires.1.0.small, c.requires.1.0.within)
 
   cast-t28-2 : lts.Need-overflow_cast-z claims (walk_at t) walk.Post Inv-loop μ-loop
   cast-t28-2 c =
-      omega (arith, c.requires.1.1.0.small, c.requires.1.1.0.within)
+      omega (arith, c.requires.1.0.small, c.requires.1.0.within)
 
   result-requires-3 : lts.Need-result-requires-then-o-ne18 claims (walk_at t) walk.Post Inv-loop μ-loop
   result-requires-3 c κs = search rules
@@ -338,7 +338,7 @@ module _ (t : ℕ) where
       let begin' = c.begin-o in (
         walks_kept c.args.kinds.now c.args.vals.now c.args.rules.now c.args.g c.args.heads.now c.args.kids.now
             _ _ _ _ c.args.x _ _ _ _ _ _ _ _ _ _ _ _ _ loop'.invariant c.loop-j-test.false (omega (arith, c.if-levels-eq0.false)) c.own_len-size.ensures.1
-            (omega (arith, c.own_len-size.ensures.0, begin'.ensures.0, c.requires.1.1.0.small))
+            (omega (arith, c.own_len-size.ensures.0, begin'.ensures.0, c.requires.1.0.small))
             (λ S t b w. begin'.ensures.1.1.0.done c.if-o.false S t b w) begin'.ensures.1.1.1.0
             _ refl (λ S t look w d z. replace_other (look_by look) t (λ e. c.if-o-ne18.true (begin'.ensures.1.1.1.1.0.is _ _ S _ t w ∙ e))) _ c.result-then-o-ne18.ensures,
         rw c.result-then-o-ne18.ensures (frames_then _ _ _ _ _ _ _ _ _ _ c.args.next loop'.at begin'.ensures.1.0 loop'.invariant.frames (omega arith)
@@ -348,10 +348,10 @@ module _ (t : ℕ) where
   replace-requires : lts.Need-replace-f-requires claims (walk_at t) walk.Post Inv-loop μ-loop
   replace-requires c κs =
       let begin' = c.begin-o in (
-        c.requires.1.1.0.sight,
+        c.requires.1.0.sight,
         (
           rw (sym c.if-o-ne18.false) begin'.ensures.1.1.1.1.0,
-          (begin'.ensures.1.1.1.1.1 (omega (arith, c.if-o-ne18.false)), (c.requires.1.1.1.0, c.requires.1.1.1.1.0)),
+          (begin'.ensures.1.1.1.1.1 (omega (arith, c.if-o-ne18.false)), (c.requires.1.1.0, c.requires.1.1.1.0)),
         ),
       )
 
@@ -376,7 +376,7 @@ module _ (t : ℕ) where
       let begin' = c.begin-o in (
         walks_kept c.args.kinds.now c.args.vals.now c.args.rules.now c.args.g c.args.heads.now c.args.kids.now
             _ _ _ _ c.args.x _ _ _ _ _ _ _ _ _ _ _ _ _ loop'.invariant c.loop-j-test.false (omega (arith, c.if-levels-eq0.false)) c.own_len-size.ensures.1
-            (omega (arith, c.own_len-size.ensures.0, begin'.ensures.0, c.requires.1.1.0.small))
+            (omega (arith, c.own_len-size.ensures.0, begin'.ensures.0, c.requires.1.0.small))
             (λ S t b w. begin'.ensures.1.1.0.done c.if-o.false S t b w) begin'.ensures.1.1.1.0
             _ refl (λ S t look w d z. rw c.in_default.is at (c.replace-f.ensures S t look w d z)) _ c.result-in_default.ensures,
         rw c.result-in_default.ensures (frames_then _ _ _ _ _ _ _ _ _ _ c.args.next loop'.at begin'.ensures.1.0 loop'.invariant.frames (omega arith)
@@ -406,10 +406,10 @@ module _ (t : ℕ) where
         walks_itself c.args.kinds.now c.args.vals.now c.args.rules.now c.args.g c.args.heads.now c.args.kids.now
             _ _ _ _ c.args.x _ _ _ _ _ _ _ _ _ _ _ _ _ loop'.invariant c.loop-j-test.false
             (omega (arith, c.if-levels-eq0.false)) c.own_len-size.ensures.1
-            (omega (arith, c.own_len-size.ensures.0, begin'.ensures.0, c.requires.1.1.0.small))
+            (omega (arith, c.own_len-size.ensures.0, begin'.ensures.0, c.requires.1.0.small))
             (λ S t b w. begin'.ensures.1.1.0.done c.if-o.false
             S t b w) begin'.ensures.1.1.1.0 _ refl _ (λ S t look w d z. rw c.in-At.is at (c.replace-f.ensures
-            S t look w d z)) c.requires.1.1.0.sight (c.same_trees.ensures.yes c.if-same_trees.true) _ refl refl _ c.result-then-same_trees.ensures,
+            S t look w d z)) c.requires.1.0.sight (c.same_trees.ensures.yes c.if-same_trees.true) _ refl refl _ c.result-then-same_trees.ensures,
         rw c.result-then-same_trees.ensures (frames_then _ _ _ _ _ _ _ _ _ _ c.args.next loop'.at begin'.ensures.1.0 loop'.invariant.frames (omega arith)
             (omega arith) loop'.invariant.low (omega arith)),
       )
@@ -424,19 +424,19 @@ module _ (t : ℕ) where
       in (
         omega (
           arith,
-          c.requires.1.0,
+          c.requires.0,
           c.if-levels-eq0.false,
           loop'.invariant.fewer,
         ),
         (
           record {
-            sight = c.requires.1.1.0.sight;
-            heads = omega (arith, c.requires.1.1.0.heads, begin'.ensures.1.0.heads.long, loop'.invariant.frames.heads.long);
-            kids = omega (arith, c.requires.1.1.0.kids, begin'.ensures.1.0.kids.long, loop'.invariant.frames.kids.long);
+            sight = c.requires.1.0.sight;
+            heads = omega (arith, c.requires.1.0.heads, begin'.ensures.1.0.heads.long, loop'.invariant.frames.heads.long);
+            kids = omega (arith, c.requires.1.0.kids, begin'.ensures.1.0.kids.long, loop'.invariant.frames.kids.long);
             within = loop'.invariant.high;
-            small = c.requires.1.1.0.small;
+            small = c.requires.1.0.small;
           },
-          (c.requires.1.1.1.0, omega (arith, c.requires.1.1.1.1)),
+          (c.requires.1.1.0, omega (arith, c.requires.1.1.1)),
         ),
       )
 
@@ -459,7 +459,7 @@ module _ (t : ℕ) where
       let walk2' = c.walk in (
         walks_followed c.args.kinds.now c.args.vals.now c.args.rules.now c.args.g c.args.heads.now c.args.kids.now _ _ _ _ c.args.x _ _ _ _ _ _ _ _ _ _ _ _ _ loop'.invariant c.loop-j-test.false
             (omega (arith, c.if-levels-eq0.false)) c.own_len-size.ensures.1
-            (omega (arith, c.own_len-size.ensures.0, begin'.ensures.0, c.requires.1.1.0.small))
+            (omega (arith, c.own_len-size.ensures.0, begin'.ensures.0, c.requires.1.0.small))
             (λ S t b w. begin'.ensures.1.1.0.done c.if-o.false
             S t b w) begin'.ensures.1.1.1.0 _ refl _ (λ S t look w d z. rw c.in-At.is
             at (c.replace-f.ensures S t look w d
