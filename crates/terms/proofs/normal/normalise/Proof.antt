@@ -2,7 +2,7 @@
 use mathlib.Core.Path.{◌≡◌, refl, sym, ap, ◌∙◌}
 use native.Mathlib.Omega.{arith}
 use lib.ListN.{length}
-use Rattle.terms.specs.Lookup.{rules}
+use Rattle.terms.specs.Lookup.{rules as listed}
 use Rattle.terms.proofs.Laws.Normalising.NormalLaws.{given_sight}
 use borrow.Author.Rules.{rules}
 use Rattle.terms.proofs.normal.normalise.Statement.{statement}
@@ -33,7 +33,7 @@ same-length-3 c = search rules
 returns : tie.Need-returns
 returns c =
     let run' = c.run in
-    (run'.ensures.0, (run'.ensures.1.0, λ t rs h k. run'.ensures.1.1 t (rules rs) h (refl, k)))
+    (run'.ensures.0, (run'.ensures.1.0, λ t rs h k. run'.ensures.1.1 t (listed rs) h (refl, k)))
 
 pub normalise_spec : {M : Type 1} → statement M
 normalise_spec = tie.close (tie.spec run-requires same_length same-length-2 same-length-3 returns)

@@ -3,7 +3,6 @@ use lib.ListN.{length}
 use borrow.Author.Rules.{rules}
 use native.Mathlib.Omega.{arith}
 use mathlib.Core.Path.{◌≡◌, refl}
-use mathlib.Core.Logic.{⊎_elim}
 use Rattle.terms.specs.Words.Tokens.{area}
 use Rattle.terms.specs.Words.StepCodes.{place, step_of}
 use Rattle.terms.specs.Reading.{many, pairs, row, term}
@@ -14,6 +13,7 @@ use Rattle.terms.proofs.Laws.Format.ReadLaws.{SoFar, so_far_start, so_far_done, 
 use Rattle.terms.proofs.Laws.Format.ReadSequenceLaws.{room_next}
 use Prim.Native.Nat.{ℕ}
 use Rattle.terms.proofs.read.+read_nominal_read_pairs_read_plain_read_projection_read_row_read_term_read_terms.Lts-read_nominal as lts
+use Rattle.terms.proofs.read.+read_nominal_read_pairs_read_plain_read_projection_read_row_read_term_read_terms.Lts-read_nominal.{then-v-ne0+else-b-ne0, else-v-ne0}
 use Rattle.terms.proofs.read.read_nominal.Reads as read-nominal
 use Rattle.terms.proofs.read.read_pairs.Reads as read_pairs
 use Rattle.terms.proofs.read.read_terms.Reads as read-terms
@@ -153,14 +153,14 @@ module _ (t : ℕ) where
       let y = rw c.if-n-ne0.false at read-value2'.ensures in
       let whole = row s t (shape.nominal shape.done) a.at.now in
       let start = number_start s t p d e shape.definition (shape.terms (shape.members shape.done)) c.read_value-a.new.value q x in
-      ⊎_elim
-      (λ w.
-      let g = area w.6.last.1.0 w.6.last.1.1.0 in
-      let v = place w.6.last.1.1.1.0 w.6.last.1.1.1.1.0 w.6.last.1.1.1.1.1.0 l in
-      rw (w.12, w.13, w.14, w.15, w.16) (terms_next s t whole p d e q (shape.members shape.done) start g v (listed_yes s t q e f refl n u y g (Next v) (rw w.11.left at w.6.ensures))))
-      (λ w.
-      rw (w.1, w.2, w.3, w.4, w.5) (terms_next s t whole p d e q (shape.members shape.done) start f u (listed_yes s t q e f refl n u y f (Next u) (terms_end s t (many s t n u.at) u f f u n (omega (arith, w.0.left)) (so_far_start s (many s t n u.at) u f y.2.inside)))))
-      c.if-v-ne0.branch
+      elim c.if-v-ne0.branch [
+        then-v-ne0+else-b-ne0 w ↦
+      let g = area w.read_terms-b.new.kinds w.read_terms-b.new.vals in
+      let v = place w.read_terms-b.new.at w.read_terms-b.new.top w.read_terms-b.new.nodes l in
+      rw (w.kinds-is, w.vals-is, w.at-is, w.top-is, w.nodes-is) (terms_next s t whole p d e q (shape.members shape.done) start g v (listed_yes s t q e f refl n u y g (Next v) (rw w.if-b-ne0.false at w.read_terms-b.ensures)))
+      | else-v-ne0 w ↦
+      rw (w.kinds-is, w.vals-is, w.at-is, w.top-is, w.nodes-is) (terms_next s t whole p d e q (shape.members shape.done) start f u (listed_yes s t q e f refl n u y f (Next u) (terms_end s t (many s t n u.at) u f f u n (omega (arith, w.if-v-ne0.false)) (so_far_start s (many s t n u.at) u f y.2.inside))))
+      ]
 
   read-value-requires-3 : lts.Need-read_value-m-requires claims (read-nominal-at t) read-nominal.Post
   read-value-requires-3 c κs =

@@ -3,7 +3,6 @@ use borrow.Author.Rules.{rules}
 use native.Mathlib.Omega.{arith}
 use mathlib.Core.Path.{◌≡◌, sym, ◌∙◌}
 use mathlib.Core.Bool.{true}
-use mathlib.Core.Logic.{⊎_elim}
 use Rattle.terms.specs.Words.Tokens.{area}
 use Rattle.terms.specs.Words.StepCodes.{place, step_of}
 use Rattle.terms.specs.Words.RowPieces.{termless}
@@ -14,6 +13,7 @@ use Rattle.terms.proofs.Laws.Format.ReadLaws.{SoFar, so_far_done, kinds_length, 
 use Rattle.terms.proofs.Laws.Format.ReadSequenceLaws.{room_next}
 use Prim.Native.Nat.{ℕ, ◌+◌, ◌≤◌}
 use Rattle.terms.proofs.read.+read_nominal_read_pairs_read_plain_read_projection_read_row_read_term_read_terms.Lts-read_plain as lts
+use Rattle.terms.proofs.read.+read_nominal_read_pairs_read_plain_read_projection_read_row_read_term_read_terms.Lts-read_plain.{then-f+else-b-ne0, else-f}
 use Rattle.terms.proofs.read.read_plain.Reads as read_plain
 use Rattle.terms.proofs.read.read_terms.Reads as read-terms
 use Rattle.terms.proofs.kinds.no_terms.Reads as no-terms-reads
@@ -126,12 +126,13 @@ module _ (t : ℕ) where
       let q = place c.read_fields-a.new.at c.read_fields-a.new.top a.nodes.now l in
       let e = area c.read_fields-a.new.kinds c.read_fields-a.new.vals in
       let x = rw c.if-a-ne0.false at read-fields'.ensures in
-      ⊎_elim
-      (λ w.
-      let y = rw w.11.left at w.6.ensures in
-      rw (w.12, w.13, w.14, w.15, w.16) (plain_counted s t p d e a.f q x w.0.taken (area w.6.last.1.0 w.6.last.1.1.0) w.6.last.1.1.1.1.1.0 (place w.6.last.1.1.1.0 w.6.last.1.1.1.1.0 a.nodes.now l) y, y.1))
-      (λ w. rw (w.1, w.2, w.3, w.4, w.5) (plain_uncounted s t p d e a.f q x w.0.left, omega arith))
-      c.if-f.branch
+      elim c.if-f.branch [
+        then-f+else-b-ne0 w ↦
+      let y = rw w.if-b-ne0.false at w.read_value-b.ensures in
+      rw (w.kinds-is, w.vals-is, w.at-is, w.top-is, w.n-is) (plain_counted s t p d e a.f q x w.if-f.true (area w.read_value-b.new.kinds w.read_value-b.new.vals) w.read_value-b.new.value (place w.read_value-b.new.at w.read_value-b.new.top a.nodes.now l) y, y.1)
+      | else-f w ↦
+      rw (w.kinds-is, w.vals-is, w.at-is, w.top-is, w.n-is) (plain_uncounted s t p d e a.f q x w.if-f.false, omega arith)
+      ]
 
   cast-read-terms : lts.Need-overflow_cast-f claims (read-plain-at t) read_plain.Post
   cast-read-terms c = search rules
