@@ -1,5 +1,6 @@
 // Terms: numbers; terms read into two lent areas as runs of tokens, and written again; the operations on them.
 #![tactic(auto)]
+
 mod alike;
 mod compare;
 mod find;

@@ -11,7 +11,7 @@ loop-r-init c = record { bytes = refl; along = along_start c.args.s.now c.args.z
 pub loop-r-preserved : goal.loop-r-preserved
 loop-r-preserved c =
     let h : RecordDone c.args.s.now c.loop-r.r.stand c.args.w (area c.loop-r.kinds c.loop-r.vals) (area c.next_record-r.new.kinds c.next_record-r.new.vals) c.next_record-r.result.stand =
-        rw c.loop-r.invariant.bytes at c.next_record-r.ensures.done in
+    rw c.loop-r.invariant.bytes at c.next_record-r.ensures.done in
     record {
       bytes = ap (λ (b : Bor (List ℕ)). b.now) c.next_record-r.ensures.bytes ∙ c.loop-r.invariant.bytes;
       along = along_next _ _ _ _ _ _ c.loop-r.invariant.along c.loop-r-test.true _ _ h;
@@ -20,7 +20,7 @@ loop-r-preserved c =
 pub loop-r-smaller : goal.loop-r-smaller
 loop-r-smaller c =
     let h : RecordDone c.args.s.now c.loop-r.r.stand c.args.w (area c.loop-r.kinds c.loop-r.vals) (area c.next_record-r.new.kinds c.next_record-r.new.vals) c.next_record-r.result.stand =
-        rw c.loop-r.invariant.bytes at c.next_record-r.ensures.done in
+    rw c.loop-r.invariant.bytes at c.next_record-r.ensures.done in
     along_fewer _ _ _ _ _ _ c.loop-r.invariant.along c.loop-r-test.true _ _ h
 
 pub next_record-r-requires : goal.next_record-r-requires

@@ -14,12 +14,11 @@ span-at-requires-2 : tie.Need-span_at-whole-requires
 span-at-requires-2 c κs = search rules
 
 returns : tie.Need-returns-then-whole-eq0
-returns c =
-    (
-      given_sight _ _ _ c.requires.0 c.requires.1 (omega arith),
-      λ i o ho hi. given_never c.args.kinds.now c.args.vals.now _ _ c.span_at-whole.ensures.1
-          c.if-whole-eq0.true i hi,
-    )
+returns c = (
+  given_sight _ _ _ c.requires.0 c.requires.1 (omega arith),
+  λ i o ho hi. given_never c.args.kinds.now c.args.vals.now _ _ c.span_at-whole.ensures.1
+      c.if-whole-eq0.true i hi,
+)
 
 sub_row : tie.Need-overflow_sub-row
 sub_row c = search rules

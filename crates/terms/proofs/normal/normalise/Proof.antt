@@ -9,17 +9,16 @@ use Rattle.terms.proofs.normal.normalise.Statement.{statement}
 use Rattle.terms.proofs.normal.normalise.Tie as tie
 
 run-requires : tie.Need-run-requires
-run-requires c κs =
-    (
-      record {
-        sight = given_sight _ _ _ c.requires.0.pairs c.requires.0.short (omega arith);
-        heads = c.requires.0.heads;
-        kids = c.requires.0.kids;
-        within = omega arith;
-        small = omega arith;
-      },
-      ((c.requires.1.0, omega arith, omega arith), ((c.requires.0.heads_zero, c.requires.0.kids_zero), c.requires.1.1.0)),
-    )
+run-requires c κs = (
+  record {
+    sight = given_sight _ _ _ c.requires.0.pairs c.requires.0.short (omega arith);
+    heads = c.requires.0.heads;
+    kids = c.requires.0.kids;
+    within = omega arith;
+    small = omega arith;
+  },
+  ((c.requires.1.0, omega arith, omega arith), ((c.requires.0.heads_zero, c.requires.0.kids_zero), c.requires.1.1.0)),
+)
 
 same_length : tie.Need-shape_of-heads
 same_length c = search rules

@@ -23,12 +23,11 @@ least-requires : tie.Need-least-requires
 least-requires c κs = search rules
 
 returns : tie.Need-returns
-returns c =
-    (
-      omega (arith, c.least.ensures),
-      λ t h le. span_told c.args.kinds.now c.args.vals.now _ _ _ _ _ c.wide-from.ensures
-          c.word.ensures c.word-2.ensures c.step.ensures.1 c.least.ensures t h le,
-    )
+returns c = (
+  omega (arith, c.least.ensures),
+  λ t h le. span_told c.args.kinds.now c.args.vals.now _ _ _ _ _ c.wide-from.ensures
+      c.word.ensures c.word-2.ensures c.step.ensures.1 c.least.ensures t h le,
+)
 
 pub span_at_spec : {M : Type 1} → statement M
 span_at_spec =

@@ -15,17 +15,16 @@ slice-aggregate-run : tie.Need-slice_bounds-run-end
 slice-aggregate-run c = search rules
 
 run-requires : tie.Need-run-requires
-run-requires c κs =
-    (
-      record {
-        sight = c.given-g.ensures.0;
-        heads = c.requires.0.heads;
-        kids = c.requires.0.kids;
-        within = omega arith;
-        small = omega arith;
-      },
-      ((omega arith, omega arith, omega arith), ((c.requires.0.heads_zero, c.requires.0.kids_zero), c.requires.1.0)),
-    )
+run-requires c κs = (
+  record {
+    sight = c.given-g.ensures.0;
+    heads = c.requires.0.heads;
+    kids = c.requires.0.kids;
+    within = omega arith;
+    small = omega arith;
+  },
+  ((omega arith, omega arith, omega arith), ((c.requires.0.heads_zero, c.requires.0.kids_zero), c.requires.1.0)),
+)
 
 same_length : tie.Need-shape_of-heads
 same_length c = search rules

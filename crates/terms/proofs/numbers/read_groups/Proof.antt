@@ -75,8 +75,8 @@ returns-3 c =
     let l = c.loop-i in
     let b = c.wide-b.result in
     elim c.if-b-eq0.branch [
-      then-b-eq0+else-w-gt1 w ↦ sym (step_zero _ l.v l.w l.i b _ (within_most e) w.if-b-eq0.true w.if-w-gt1.false) ∙ byte-here c.before.before.before
-    | else-b-eq0 w ↦ sym (step_last _ l.v l.w l.i b _ (within_most e) c.if-b-lt128.true w.if-b-eq0.false) ∙ byte-here c.before.before.before
+      | then-b-eq0+else-w-gt1 w ↦ sym (step_zero _ l.v l.w l.i b _ (within_most e) w.if-b-eq0.true w.if-w-gt1.false) ∙ byte-here c.before.before.before
+      | else-b-eq0 w ↦ sym (step_last _ l.v l.w l.i b _ (within_most e) c.if-b-lt128.true w.if-b-eq0.false) ∙ byte-here c.before.before.before
     ]
 
 mul-v : tie.Need-overflow_mul-v invariant-loop decreases-loop

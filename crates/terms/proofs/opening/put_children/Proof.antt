@@ -110,8 +110,7 @@ loop-again-2 : tie.Need-loop-q-preserved invariant-loop decreases-loop
 loop-again-2 c =
     let loop' = c.loop-q in
     let token-at' = c.token_at-y in
-    let if2' = c.if-most-next in
-    (
+    let if2' = c.if-most-next in (
       opening_child _ _ _ _ _ _ _ _ _ _ _ loop'.invariant.0 c.loop-q-test.true token-at'.ensures.0
           token-at'.ensures.1 c.if-y-eq0.false _ _ _ c.child_here-z.ensures.0 c.child_here-z.ensures.1
           c.step-q.ensures.1 c.step-q.ensures.0.0

@@ -105,8 +105,8 @@ rules-again c =
     let less = c.if-count-r.false in
     let at-it = searching_to c.args.kinds.now c.args.vals.now c.args.rules.now c.args.g c.args.heads.now c.args.kids.now cursor'.result c.args.fuel c.requires.0 _ c.member_in-member.ensures _ next.result next.ensures rules'.invariant.0 next.result next.ensures.past (omega arith) (omega (arith, less, rules'.invariant.2)) in
     let missed : Missed c.args.kinds.now c.args.vals.now c.args.g c.args.heads.now c.args.kids.now cursor'.result c.args.fuel (rule_at c.args.rules.now next.result) = elim c.match-m.branch [
-      in_default v ↦ rw v.in_default.is at c.loop-m.invariant.0
-    | in-Behind+then-left-eq0+else-s-p v ↦ argued_more c.args.kinds.now c.args.vals.now c.args.g c.args.heads.now c.args.kids.now cursor'.result c.args.fuel c.requires.0 _ _ _ _ _ (rw v.in-Behind.is at c.loop-m.invariant.0) v.if-left-eq0.true v.if-s-p.false
+      | in_default v ↦ rw v.in_default.is at c.loop-m.invariant.0
+      | in-Behind+then-left-eq0+else-s-p v ↦ argued_more c.args.kinds.now c.args.vals.now c.args.g c.args.heads.now c.args.kids.now cursor'.result c.args.fuel c.requires.0 _ _ _ _ _ (rw v.in-Behind.is at c.loop-m.invariant.0) v.if-left-eq0.true v.if-s-p.false
     ] in
     (searching_next c.args.kinds.now c.args.vals.now c.args.rules.now c.args.g c.args.heads.now c.args.kids.now cursor'.result c.args.fuel c.requires.0 _ at-it (omega (arith, less, rules'.invariant.2)) missed, omega (arith, less), rules'.invariant.2)
 

@@ -38,14 +38,13 @@ moved-requires : tie.Need-moved-requires
 moved-requires c κs = search rules
 
 same-rows-requires-2 : tie.Need-same_rows-b-requires
-same-rows-requires-2 c κs =
-    (
-      c.requires.0,
-      (
-        further_cut c.requires.1 _ _ _ c.moved.ensures (rw c.in-Behind.is at c.same_rows-a.ensures).0,
-        c.cursor-interface.ensures.cut,
-      ),
-    )
+same-rows-requires-2 c κs = (
+  c.requires.0,
+  (
+    further_cut c.requires.1 _ _ _ c.moved.ensures (rw c.in-Behind.is at c.same_rows-a.ensures).0,
+    c.cursor-interface.ensures.cut,
+  ),
+)
 
 enum-known-b : tie.Need-enum_known-b
 enum-known-b c = search rules

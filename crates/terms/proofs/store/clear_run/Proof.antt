@@ -17,8 +17,8 @@ decreases-loop words₀ from end stop i₀ words i = stop - i
 loop-holds : tie.Need-loop-i-init invariant-loop decreases-loop
 loop-holds c =
     elim c.if-words-end.branch [
-      then-words-end w ↦ clearing_start _ _ _ _ (omega arith) (omega arith) (inr (omega arith))
-    | else-words-end w ↦ clearing_start _ _ _ _ (omega arith) (omega arith) (inl (omega arith))
+      | then-words-end w ↦ clearing_start _ _ _ _ (omega arith) (omega arith) (inr (omega arith))
+      | else-words-end w ↦ clearing_start _ _ _ _ (omega arith) (omega arith) (inl (omega arith))
     ]
 
 mul_words : tie.Need-offset_bounds-words-i invariant-loop decreases-loop

@@ -84,14 +84,13 @@ module _ (t : ℕ) where
   sub-same-rows c = search rules
 
   same-rows-requires : lts.Need-same_rows-m-requires claims (same-trees-at t) same-trees.Post
-  same-rows-requires c κs =
-      (
-        omega (arith, c.requires.0, c.if-fuel-eq0.false),
-        (
-          c.requires.1,
-          (c.cursor-a.ensures.cut, c.cursor-b.ensures.cut),
-        ),
-      )
+  same-rows-requires c κs = (
+    omega (arith, c.requires.0, c.if-fuel-eq0.false),
+    (
+      c.requires.1,
+      (c.cursor-a.ensures.cut, c.cursor-b.ensures.cut),
+    ),
+  )
 
   enum-known-m : lts.Need-enum_known-m claims (same-trees-at t) same-trees.Post
   enum-known-m c = search rules

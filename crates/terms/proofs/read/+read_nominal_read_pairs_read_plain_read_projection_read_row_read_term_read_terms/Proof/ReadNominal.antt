@@ -154,12 +154,12 @@ module _ (t : ℕ) where
       let whole = row s t (shape.nominal shape.done) a.at.now in
       let start = number_start s t p d e shape.definition (shape.terms (shape.members shape.done)) c.read_value-a.new.value q x in
       elim c.if-v-ne0.branch [
-        then-v-ne0+else-b-ne0 w ↦
-      let g = area w.read_terms-b.new.kinds w.read_terms-b.new.vals in
-      let v = place w.read_terms-b.new.at w.read_terms-b.new.top w.read_terms-b.new.nodes l in
-      rw (w.kinds-is, w.vals-is, w.at-is, w.top-is, w.nodes-is) (terms_next s t whole p d e q (shape.members shape.done) start g v (listed_yes s t q e f refl n u y g (Next v) (rw w.if-b-ne0.false at w.read_terms-b.ensures)))
-      | else-v-ne0 w ↦
-      rw (w.kinds-is, w.vals-is, w.at-is, w.top-is, w.nodes-is) (terms_next s t whole p d e q (shape.members shape.done) start f u (listed_yes s t q e f refl n u y f (Next u) (terms_end s t (many s t n u.at) u f f u n (omega (arith, w.if-v-ne0.false)) (so_far_start s (many s t n u.at) u f y.2.inside))))
+        | then-v-ne0+else-b-ne0 w ↦
+            let g = area w.read_terms-b.new.kinds w.read_terms-b.new.vals in
+            let v = place w.read_terms-b.new.at w.read_terms-b.new.top w.read_terms-b.new.nodes l in
+            rw (w.kinds-is, w.vals-is, w.at-is, w.top-is, w.nodes-is) (terms_next s t whole p d e q (shape.members shape.done) start g v (listed_yes s t q e f refl n u y g (Next v) (rw w.if-b-ne0.false at w.read_terms-b.ensures)))
+        | else-v-ne0 w ↦
+            rw (w.kinds-is, w.vals-is, w.at-is, w.top-is, w.nodes-is) (terms_next s t whole p d e q (shape.members shape.done) start f u (listed_yes s t q e f refl n u y f (Next u) (terms_end s t (many s t n u.at) u f f u n (omega (arith, w.if-v-ne0.false)) (so_far_start s (many s t n u.at) u f y.2.inside))))
       ]
 
   read-value-requires-3 : lts.Need-read_value-m-requires claims (read-nominal-at t) read-nominal.Post

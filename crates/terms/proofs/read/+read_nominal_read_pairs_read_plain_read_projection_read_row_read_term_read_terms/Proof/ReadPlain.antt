@@ -127,11 +127,11 @@ module _ (t : ℕ) where
       let e = area c.read_fields-a.new.kinds c.read_fields-a.new.vals in
       let x = rw c.if-a-ne0.false at read-fields'.ensures in
       elim c.if-f.branch [
-        then-f+else-b-ne0 w ↦
-      let y = rw w.if-b-ne0.false at w.read_value-b.ensures in
-      rw (w.kinds-is, w.vals-is, w.at-is, w.top-is, w.n-is) (plain_counted s t p d e a.f q x w.if-f.true (area w.read_value-b.new.kinds w.read_value-b.new.vals) w.read_value-b.new.value (place w.read_value-b.new.at w.read_value-b.new.top a.nodes.now l) y, y.1)
-      | else-f w ↦
-      rw (w.kinds-is, w.vals-is, w.at-is, w.top-is, w.n-is) (plain_uncounted s t p d e a.f q x w.if-f.false, omega arith)
+        | then-f+else-b-ne0 w ↦
+            let y = rw w.if-b-ne0.false at w.read_value-b.ensures in
+            rw (w.kinds-is, w.vals-is, w.at-is, w.top-is, w.n-is) (plain_counted s t p d e a.f q x w.if-f.true (area w.read_value-b.new.kinds w.read_value-b.new.vals) w.read_value-b.new.value (place w.read_value-b.new.at w.read_value-b.new.top a.nodes.now l) y, y.1)
+        | else-f w ↦
+            rw (w.kinds-is, w.vals-is, w.at-is, w.top-is, w.n-is) (plain_uncounted s t p d e a.f q x w.if-f.false, omega arith)
       ]
 
   cast-read-terms : lts.Need-overflow_cast-f claims (read-plain-at t) read_plain.Post

@@ -44,25 +44,23 @@ module _ (t : ℕ) where
   result-requires c κs = search rules
 
   returns : lts.Need-returns-then-levels-eq0 claims (walk_at t) walk.Post Inv-loop μ-loop
-  returns c =
-      (
-        walks_failed c.args.kinds.now c.args.vals.now c.args.rules.now c.args.g c.requires.1.0.sight c.args.heads.now
-            c.args.kids.now c.args.x c.args.next c.args.levels c.args.visits c.args.most c.requires.1.0.within
-            (λ look t. walk-levels (finds look) _ t _ _ c.if-levels-eq0.true) _ refl refl _ c.result.ensures,
-        frames_same _ _ _ _,
-      )
+  returns c = (
+    walks_failed c.args.kinds.now c.args.vals.now c.args.rules.now c.args.g c.requires.1.0.sight c.args.heads.now
+        c.args.kids.now c.args.x c.args.next c.args.levels c.args.visits c.args.most c.requires.1.0.within
+        (λ look t. walk-levels (finds look) _ t _ _ c.if-levels-eq0.true) _ refl refl _ c.result.ensures,
+    frames_same _ _ _ _,
+  )
 
   result-requires-2 : lts.Need-result-requires-then-visits-eq0 claims (walk_at t) walk.Post Inv-loop μ-loop
   result-requires-2 c κs = search rules
 
   returns-2 : lts.Need-returns-then-visits-eq0 claims (walk_at t) walk.Post Inv-loop μ-loop
-  returns-2 c =
-      (
-        walks_failed c.args.kinds.now c.args.vals.now c.args.rules.now c.args.g c.requires.1.0.sight c.args.heads.now
-            c.args.kids.now c.args.x c.args.next c.args.levels c.args.visits c.args.most c.requires.1.0.within
-            (λ look t. walk_visits (finds look) _ t _ _ c.if-visits-eq0.true) _ refl refl _ c.result-then-visits-eq0.ensures,
-        frames_same _ _ _ _,
-      )
+  returns-2 c = (
+    walks_failed c.args.kinds.now c.args.vals.now c.args.rules.now c.args.g c.requires.1.0.sight c.args.heads.now
+        c.args.kids.now c.args.x c.args.next c.args.levels c.args.visits c.args.most c.requires.1.0.within
+        (λ look t. walk_visits (finds look) _ t _ _ c.if-visits-eq0.true) _ refl refl _ c.result-then-visits-eq0.ensures,
+    frames_same _ _ _ _,
+  )
 
   least-requires : lts.Need-least-requires claims (walk_at t) walk.Post Inv-loop μ-loop
   least-requires c κs = search rules
@@ -71,11 +69,10 @@ module _ (t : ℕ) where
   fixed-nodes-requires c κs = search rules
 
   fixed-len-requires : lts.Need-fixed_len-size-requires claims (walk_at t) walk.Post Inv-loop μ-loop
-  fixed-len-requires c κs =
-      (
-        (c.requires.1.0.sight.pairs, (c.fixed_nodes-same.ensures.1 c.if-same-gt0.true).lent),
-        omega (arith, c.requires.1.0.sight.few),
-      )
+  fixed-len-requires c κs = (
+    (c.requires.1.0.sight.pairs, (c.fixed_nodes-same.ensures.1 c.if-same-gt0.true).lent),
+    omega (arith, c.requires.1.0.sight.few),
+  )
 
   kept-requires : lts.Need-kept-requires claims (walk_at t) walk.Post Inv-loop μ-loop
   kept-requires c κs =
