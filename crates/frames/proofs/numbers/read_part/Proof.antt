@@ -7,27 +7,27 @@ use borrow.Author.Rules.{rules}
 use Rattle.frames.proofs.numbers.read_part.Statement.{statement}
 use Rattle.frames.proofs.numbers.read_part.Tie as tie
 
-slice-relend-prefix-read-full : tie.Need-slice-relend-prefix-read-full
+slice-relend-prefix-read-full : tie.Need-slice_bounds-read_full-end
 slice-relend-prefix-read-full c = search rules
 
-slice-aggregate-read-full : tie.Need-slice-aggregate-read-full
+slice-aggregate-read-full : tie.Need-slice_bounds-read_full-end-2
 slice-aggregate-read-full c = sym (length-take-le _ _ (omega arith))
 
-read-full-requires : tie.Need-read-full-requires
+read-full-requires : tie.Need-read_full-got-requires
 read-full-requires c κs = search rules
 
-same_length : tie.Need-same-length
+same_length : tie.Need-shape_of-part
 same_length c = search rules
 
 returns : tie.Need-returns
 returns c =
-    let a = c.before.before.before.before.before.args in
-    let r = c.before.before.read-full in
-    drop_at r.new.1.0 (drop a.size a.part.now) a.size
-    (r.auto.1.0 ∙ length-take-le a.size a.part.now c.before.before.before.before.before.requires)
+    let a = c.args in
+    let r = c.read_full-got in
+    drop_at c.read_full-got.new.buf (drop a.size a.part.now) a.size
+    (c.read_full-got.auto.buf ∙ length-take-le a.size a.part.now c.requires)
 
-pub read-part-spec : {M : Type 1} → statement M
-read-part-spec =
+pub read_part_spec : {M : Type 1} → statement M
+read_part_spec =
     tie.close
     (tie.spec
     slice-relend-prefix-read-full

@@ -9,44 +9,44 @@ use borrow.Author.Rules.{rules}
 use Rattle.frames.proofs.words.all_words.Statement.{statement}
 use Rattle.frames.proofs.words.all_words.Tie as tie
 
-abbrev invariant-loop : tie.invariant-loop
+abbrev invariant-loop : tie.invariant-loop-i
 invariant-loop w x i₀ i = (i ≤ length w) × (every x w ≡ every x (drop i w))
 
-abbrev decreases-loop : tie.decreases-loop
+abbrev decreases-loop : tie.decreases-loop-i
 decreases-loop w x i₀ i = length w - i
 
-loop-holds : tie.Need-loop-init invariant-loop decreases-loop
+loop-holds : tie.Need-loop-i-init invariant-loop decreases-loop
 loop-holds c = (omega arith, refl)
 
-mul-if1 : tie.Need-overflow-mul-if1 invariant-loop decreases-loop
+mul-if1 : tie.Need-offset_bounds-w-i invariant-loop decreases-loop
 mul-if1 c = search rules
 
-shared-slice-read-if1 : tie.Need-shared-slice-read-if1 invariant-loop decreases-loop
+shared-slice-read-if1 : tie.Need-bounds-w-i invariant-loop decreases-loop
 shared-slice-read-if1 c = search rules
 
-returns : tie.Need-returns invariant-loop decreases-loop
+returns : tie.Need-returns-then-w-i invariant-loop decreases-loop
 returns c =
-    let l = c.before.before.before.loop in
-    every_other _ l.i _ c.before.before.loop-test.true c.if1.true ∙ sym l.invariant.1
+    let l = c.loop-i in
+    every_other _ l.i _ c.loop-i-test.true c.if-w-i.true ∙ sym l.invariant.1
 
-add-i : tie.Need-overflow-add-i invariant-loop decreases-loop
+add-i : tie.Need-overflow_add-i invariant-loop decreases-loop
 add-i c = search rules
 
-loop-less : tie.Need-loop-smaller invariant-loop decreases-loop
+loop-less : tie.Need-loop-i-smaller invariant-loop decreases-loop
 loop-less c = search rules
 
-loop-again : tie.Need-loop-preserved invariant-loop decreases-loop
+loop-again : tie.Need-loop-i-preserved invariant-loop decreases-loop
 loop-again c =
-    let l = c.before.before.before.loop in
-    (omega arith, l.invariant.1 ∙ every_same _ l.i _ c.before.before.loop-test.true c.if1.false)
+    let l = c.loop-i in
+    (omega arith, l.invariant.1 ∙ every_same _ l.i _ c.loop-i-test.true c.if-w-i.false)
 
-returns-2 : tie.Need-returns-2 invariant-loop decreases-loop
+returns-2 : tie.Need-returns invariant-loop decreases-loop
 returns-2 c =
-    let l = c.before.loop in
-    every_end _ l.i _ c.loop-test.false ∙ sym l.invariant.1
+    let l = c.loop-i in
+    every_end _ l.i _ c.loop-i-test.false ∙ sym l.invariant.1
 
-pub all-words-spec : {M : Type 1} → statement M
-all-words-spec =
+pub all_words_spec : {M : Type 1} → statement M
+all_words_spec =
     tie.close
     (tie.spec
     invariant-loop
