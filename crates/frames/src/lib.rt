@@ -1,5 +1,6 @@
 // What the programs that run cases share: frames of numbers and bytes, and words and bytes that are filled and looked at.
 #![tactic(auto)]
+
 mod numbers;
 mod words;
 

@@ -1,5 +1,6 @@
 // The solver: its counters by value, its tables lent. Variables, deferrals, defaults, constrain, resolving, and what a resolved term has.
 #![tactic(auto)]
+
 mod answers;
 mod constrain;
 mod defaults;

@@ -82,32 +82,32 @@ module _ (ks vs : List ℕ) (σ : ℕ → Term) (τ : Term → Term) where
     abbrev Tells : List ℕ → Bool → Type 0
     Tells par' same = Outcome ks vs σ par₀ par' same (Pairwise (Linked ks vs τ par') ps qs) (CoincideRow σ ps qs)
 
-    no : (CoincideRow σ w.psr w.qsr → ⊥) → Tells par false
-    no f = record { fair = w.fair; yes = never_true; honest = λ h e. absurd (f (w.level e)) }
+    differ : (CoincideRow σ w.psr w.qsr → ⊥) → Tells par false
+    differ f = record { fair = w.fair; yes = never_true; honest = λ h e. absurd (f (w.level e)) }
 
     pub no_short : i < ae → be ≤ j → Tells par false
-    no_short hi hj = no (λ e. not_end i ae w.psr w.hp hi (ℕ_discrete (get_or ks i 0) 0) (e ∙ ap (replace_row σ) (row_end ks vs j be w.qsr w.hq hj)))
+    no_short hi hj = differ (λ e. not_end i ae w.psr w.hp hi (ℕ_discrete (get_or ks i 0) 0) (e ∙ ap (replace_row σ) (row_end ks vs j be w.qsr w.hq hj)))
 
     pub no_long : ae ≤ i → j < be → Tells par false
-    no_long hi hj = no (λ e. not_end j be w.qsr w.hq hj (ℕ_discrete (get_or ks j 0) 0) (sym e ∙ ap (replace_row σ) (row_end ks vs i ae w.psr w.hp hi)))
+    no_long hi hj = differ (λ e. not_end j be w.qsr w.hq hj (ℕ_discrete (get_or ks j 0) 0) (sym e ∙ ap (replace_row σ) (row_end ks vs i ae w.psr w.hp hi)))
 
     pub no_term : i < ae → j < be → get_or ks i 0 ≡ 0 → (get_or ks j 0 ≡ 0 → ⊥) → Tells par false
     no_term hi hj ki kj =
         let p = row_num ks vs i ae w.psr w.hp hi ki in
         let q = row_sub ks vs j be w.qsr w.hq hj kj in
-        no (λ e. num_sub p.0 q.0 p.1 q.1 (rw (p.2, q.2) at e))
+        differ (λ e. num_sub p.0 q.0 p.1 q.1 (rw (p.2, q.2) at e))
 
     pub no_number : i < ae → j < be → (get_or ks i 0 ≡ 0 → ⊥) → get_or ks j 0 ≡ 0 → Tells par false
     no_number hi hj ki kj =
         let p = row_sub ks vs i ae w.psr w.hp hi ki in
         let q = row_num ks vs j be w.qsr w.hq hj kj in
-        no (λ e. num_sub q.0 p.0 q.1 p.1 (sym (rw (p.2, q.2) at e)))
+        differ (λ e. num_sub q.0 p.0 q.1 p.1 (sym (rw (p.2, q.2) at e)))
 
     pub no_value : i < ae → j < be → get_or ks i 0 ≡ 0 → get_or ks j 0 ≡ 0 → (get_or vs i 0 ≡ get_or vs j 0 → ⊥) → Tells par false
     no_value hi hj ki kj f =
         let p = row_num ks vs i ae w.psr w.hp hi ki in
         let q = row_num ks vs j be w.qsr w.hq hj kj in
-        no (λ e. f (p.3 ∙ (num_apart p.0 q.0 p.1 q.1 (rw (p.2, q.2) at e)).0 ∙ sym q.3))
+        differ (λ e. f (p.3 ∙ (num_apart p.0 q.0 p.1 q.1 (rw (p.2, q.2) at e)).0 ∙ sym q.3))
 
     pub walk_number : i < ae → j < be → get_or ks i 0 ≡ 0 → get_or ks j 0 ≡ 0 → get_or vs i 0 ≡ get_or vs j 0 → RowWalk ae be ps qs par₀ (i + 1) (j + 1) par
     unfolding Pairwise

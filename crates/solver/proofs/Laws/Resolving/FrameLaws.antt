@@ -1,5 +1,5 @@
 -- Laws of bound runs, of `walk`, and of the stack of runs that wait while a bound variable's run is walked.
-use mathlib.Core.Path.{◌≡◌, refl, sym, ap, ◌∙◌}
+use mathlib.Core.Path.{◌≡◌, refl, sym, ap, ◌∙◌, subst}
 use mathlib.Core.List.{List, [], ◌∷◌, ◌++◌, append_assoc, append-nil}
 use Prim.Native.Nat.{ℕ, zero, suc, pred, ◌+◌, ◌-◌, ◌≤◌, ◌<◌}
 use native.Mathlib.Numerals.{add-one}
@@ -61,7 +61,8 @@ module _ {A : Type 0} (leaf : ℕ → ℕ → List A) (pre : List A) (ks vs bs :
   walk_into (suc n) k v zero shut size pos = absurd (omega arith)
   walk_into (suc n) k v (suc len) shut size pos =
       let m : suc n - 1 ≡ n = omega arith in
-      rw (m, ← size (omega arith))
+      subst (λ (j : ℕ). walk leaf pre ks vs bs (suc n) k v ≡ pre ++ spell (walk leaf pre ks vs bs j) ks vs (pred (get_or bs v 0)) (suc len)) (sym m)
+      (rw (← size (omega arith)))
 
 -- the frame of the last of d waiting runs is 0
 abbrev popped : List ℕ → ℕ → List ℕ

@@ -299,10 +299,13 @@ module _ (x : Solver) (ks vs ts : List ℕ) (s : Session) (L : Represents x ks v
           most = omega arith;
           bindings = fixed_bindings written bindings;
           requests = fixed_requests written requests;
-          places = rw (places, sites, slots)
+          places =
+              subst (λ (l : List ℕ). HeldPlaces l (site_words m written) (slot_words m written) (p ∷ s.places)) (sym places)
+              (subst (λ (l : List ℕ). HeldPlaces (set (place_words m ts) (length s.places) kind) l (slot_words m written) (p ∷ s.places)) (sym sites)
+              (subst (λ (l : List ℕ). HeldPlaces (set (place_words m ts) (length s.places) kind) (set (site_words m ts) (length s.places) site) l (p ∷ s.places)) (sym slots)
               (places_new (place_words m ts) (site_words m ts) (slot_words m ts) p kind site slot s.places h
               (omega (arith, column_length m (2 * m) ts (omega arith))) (omega (arith, column_length m (3 * m) ts (omega arith))) (omega (arith, column_length m (4 * m) ts (omega arith)))
-              L.places);
+              L.places)));
           unplaced = rw (places, sites, slots) (unplaced_new (place_words m ts) (site_words m ts) (slot_words m ts) kind site slot (length s.places) L.unplaced);
           deferred = fixed_deferred written deferrals;
           free = column_before m (6 * m) b (4 * m + x.issued) slot (omega arith) ∙ column_before m (6 * m) a (3 * m + x.issued) site (omega arith) ∙ column_before m (6 * m) ts (2 * m + x.issued) kind (omega arith);

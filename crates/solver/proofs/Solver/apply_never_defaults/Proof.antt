@@ -5,17 +5,17 @@ use borrow.Author.Rules.{rules}
 use Rattle.solver.proofs.Solver.apply_never_defaults.Statement.{statement}
 use Rattle.solver.proofs.Solver.apply_never_defaults.Tie as tie
 
-apply-defaults-requires : tie.Need-apply-defaults-requires
+apply-defaults-requires : tie.Need-apply_defaults-self-requires
 apply-defaults-requires c κs = search rules
 
-same_length : tie.Need-same-length
+same_length : tie.Need-shape_of-tables
 same_length c = search rules
 
 returns : tie.Need-returns
 unfolding order defaulted
 returns c =
-    let e = c.before.before.apply-defaults.ensures in
+    let e = c.apply_defaults-self.ensures in
     (λ s L low. e.0 s L low, e.1)
 
-pub apply-never-defaults-spec : {M : Type 1} → statement M
-apply-never-defaults-spec = tie.close (tie.spec apply-defaults-requires same_length returns)
+pub apply_never_defaults_spec : {M : Type 1} → statement M
+apply_never_defaults_spec = tie.close (tie.spec apply-defaults-requires same_length returns)

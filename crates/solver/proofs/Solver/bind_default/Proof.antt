@@ -10,81 +10,81 @@ use borrow.Author.Rules.{rules}
 use Rattle.solver.proofs.Solver.bind_default.Statement.{statement}
 use Rattle.solver.proofs.Solver.bind_default.Tie as tie
 
-default-word-requires : tie.Need-default-word-requires
+default-word-requires : tie.Need-default_word-word-requires
 default-word-requires c κs = search rules
 
-same_length : tie.Need-same-length
+same_length : tie.Need-shape_of-tables-then-word-eq0
 same_length c = search rules
 
-returns : tie.Need-returns
+returns : tie.Need-returns-then-word-eq0
 returns c =
-    let a = c.before.before.before.before.before.before.args in
-    let p = c.before.before.before.before.before.before.requires in
-    (λ s L low. settled_none a.never a.self a.kinds.now a.vals.now a.tables.now s L a.v _ p.1.0 c.before.default-word.ensures c.if1.true, ((omega arith, refl), beside_same a.self a.tables.now))
+    let a = c.args in
+    let p = c.requires in
+    (λ s L low. settled_none a.never a.self a.kinds.now a.vals.now a.tables.now s L a.v _ p.1.0 c.default_word-word.ensures c.if-word-eq0.true, ((omega arith, refl), beside_same a.self a.tables.now))
 
-slice-reshare-prefix-root-of : tie.Need-slice-reshare-prefix-root-of
+slice-reshare-prefix-root-of : tie.Need-slice_bounds-root_of-end
 slice-reshare-prefix-root-of c = search rules
 
-slice-aggregate-root-of : tie.Need-slice-aggregate-root-of
+slice-aggregate-root-of : tie.Need-slice_bounds-root_of-end-2
 slice-aggregate-root-of c =
-    let p = c.before.before.before.before.before.before.before.requires in
+    let p = c.requires in
     sym (length-take-le _ _ (omega (arith, p.0.room)))
 
-root-of-requires : tie.Need-root-of-requires
+root-of-requires : tie.Need-root_of-w-requires
 root-of-requires c κs =
-    let a = c.before.before.before.before.before.before.before.args in
-    let p = c.before.before.before.before.before.before.before.requires in
-    let r = p.0.room in
+    let a = c.args in
+    let p = c.requires in
+    let r = c.requires.0.room in
     (omega (arith, length-take-le a.self.variables a.tables.now (omega arith), p.1.0), p.1.2)
 
-same-length-2 : tie.Need-same-length-2
+same-length-2 : tie.Need-shape_of-tables-then-m-w
 same-length-2 c = search rules
 
-returns-2 : tie.Need-returns-2
+returns-2 : tie.Need-returns-then-m-w
 returns-2 c =
-    let a = c.before.before.before.before.before.before.before.before.before.args in
-    let p = c.before.before.before.before.before.before.before.before.before.requires in (
-      λ s L low. settled_stop a.never a.self a.kinds.now a.vals.now a.tables.now s L a.v _ p.1.0 c.before.before.before.before.default-word.ensures low _ (c.before.root-of.ensures s.solver.bindings L.bindings) c.before.before.before.if1.false c.if2.true,
+    let a = c.args in
+    let p = c.requires in (
+      λ s L low. settled_stop a.never a.self a.kinds.now a.vals.now a.tables.now s L a.v _ p.1.0 c.default_word-word.ensures low _ (c.root_of-w.ensures s.solver.bindings L.bindings) c.if-word-eq0.false c.if-m-w.true,
       ((omega arith, refl), beside_same a.self a.tables.now),
     )
 
-end-word-requires : tie.Need-end-word-requires
+end-word-requires : tie.Need-end_word-requires
 end-word-requires c κs = search rules
 
-default-code-requires : tie.Need-default-code-requires
+default-code-requires : tie.Need-default_code-code-requires
 default-code-requires c κs = search rules
 
-mul-tables : tie.Need-overflow-mul-tables
+mul-tables : tie.Need-overflow_mul-tables
 mul-tables c = search rules
 
-add-tables : tie.Need-overflow-add-tables
+add-tables : tie.Need-overflow_add-tables
 add-tables c = search rules
 
-mul-tables-2 : tie.Need-overflow-mul-tables-2
+mul-tables-2 : tie.Need-offset_bounds-tables-w
 mul-tables-2 c = search rules
 
-slice-write-tables : tie.Need-slice-write-tables
+slice-write-tables : tie.Need-bounds-tables-w
 slice-write-tables c = search rules
 
-add-self : tie.Need-overflow-add-self
+add-self : tie.Need-overflow_add-self
 add-self c = search rules
 
-same-length-3 : tie.Need-same-length-3
+same-length-3 : tie.Need-shape_of-tables
 same-length-3 c = search rules
 
-returns-3 : tie.Need-returns-3
+returns-3 : tie.Need-returns
 returns-3 c =
-    let a = c.before.before.before.before.before.before.before.before.before.before.before.before.args in
-    let p = c.before.before.before.before.before.before.before.before.before.before.before.before.requires in
-    let C = c.default-code.ensures in
-    let B = beside_set a.self _ a.tables.now a.tables.now c.before.before.before.before.root-of.result (2 * c.default-code.result + 1) (record { variables = refl; nodes = refl; top = refl; size = refl; rest = refl }) (omega (arith, c.before.before.before.if2.false)) in (
-      λ s L low. settled_bound a.never a.self a.kinds.now a.vals.now a.tables.now s L a.v _ p.1.0 c.before.before.before.before.before.before.before.default-word.ensures low _ (c.before.before.before.before.root-of.ensures s.solver.bindings L.bindings) c.before.before.before.before.before.before.if1.false _ _ c.before.before.before.if2.false
-          (λ o W h. C.0 o W (subst (λ (n : ℕ). HeldRequest o n) (sym c.before.end-word.ensures) h)) C.1 B refl refl refl,
+    let a = c.args in
+    let p = c.requires in
+    let C = c.default_code-code.ensures in
+    let B = beside_set a.self _ a.tables.now a.tables.now c.root_of-w.result (2 * c.default_code-code.result + 1) (record { variables = refl; nodes = refl; top = refl; size = refl; rest = refl }) (omega (arith, c.if-m-w.false)) in (
+      λ s L low. settled_bound a.never a.self a.kinds.now a.vals.now a.tables.now s L a.v _ p.1.0 c.default_word-word.ensures low _ (c.root_of-w.ensures s.solver.bindings L.bindings) c.if-word-eq0.false _ _ c.if-m-w.false
+          (λ o W h. C.0 o W (subst (λ (n : ℕ). HeldRequest o n) (sym c.end_word.ensures) h)) C.1 B refl refl refl,
       ((omega arith, refl), B),
     )
 
-pub bind-default-spec : {M : Type 1} → statement M
-bind-default-spec =
+pub bind_default_spec : {M : Type 1} → statement M
+bind_default_spec =
     tie.close
     (tie.spec
     default-word-requires

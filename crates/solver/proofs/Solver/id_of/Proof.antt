@@ -7,40 +7,40 @@ use borrow.Author.Rules.{rules}
 use Rattle.solver.proofs.Solver.id_of.Statement.{statement}
 use Rattle.solver.proofs.Solver.id_of.Tie as tie
 
-enum-known-site : tie.Need-enum-known-site
+enum-known-site : tie.Need-enum_known-site
 enum-known-site c = search rules
 
-find-place-requires : tie.Need-find-place-requires
+find-place-requires : tie.Need-find_place-requires
 find-place-requires c κs = search rules
 
-named-below-requires : tie.Need-named-below-requires
+named-below-requires : tie.Need-named_below-requires
 named-below-requires c κs = search rules
 
-enum-known-site-2 : tie.Need-enum-known-site-2
+enum-known-site-2 : tie.Need-enum_known-site-in-Hole-1
 enum-known-site-2 c = search rules
 
-find-place-requires-2 : tie.Need-find-place-requires-2
+find-place-requires-2 : tie.Need-find_place-requires-in-Hole
 find-place-requires-2 c κs = search rules
 
-named-below-requires-2 : tie.Need-named-below-requires-2
+named-below-requires-2 : tie.Need-named_below-requires-in-Hole
 named-below-requires-2 c κs = search rules
 
-returns : tie.Need-returns
+returns : tie.Need-returns-in-Slot
 returns c =
-    let a = c.before.before.before.before.before.before.args in (
-      λ ks vs s L. c.named-below.ensures ∙ site_below a.self ks vs a.tables.now s L (at c.before.before.before.site.given.0.0 c.before.before.before.site.given.0.1.0) _ (c.before.find-place.ensures.1 (at c.before.before.before.site.given.0.0 c.before.before.before.site.given.0.1.0) s.places (refl, refl, refl) (sym L.issued) L.places) a.site (ap place_of c.before.before.before.site.given.1),
-      named_low _ _ _ c.named-below.ensures,
+    let a = c.args in (
+      λ ks vs s L. c.named_below.ensures ∙ site_below a.self ks vs a.tables.now s L (at c.in-Slot.s c.in-Slot.i) _ (c.find_place.ensures.1 (at c.in-Slot.s c.in-Slot.i) s.places (refl, refl, refl) (sym L.issued) L.places) a.site (ap place_of c.in-Slot.is),
+      named_low _ _ _ c.named_below.ensures,
     )
 
-returns-2 : tie.Need-returns-2
+returns-2 : tie.Need-returns-in-Hole
 returns-2 c =
-    let a = c.before.before.before.before.before.before.args in (
-      λ ks vs s L. c.named-below2.ensures ∙ site_below a.self ks vs a.tables.now s L (gap c.before.before.before.site2.given.0.0) _ (c.before.find-place2.ensures.1 (gap c.before.before.before.site2.given.0.0) s.places (refl, refl, refl) (sym L.issued) L.places) a.site (ap place_of c.before.before.before.site2.given.1),
-      named_low _ _ _ c.named-below2.ensures,
+    let a = c.args in (
+      λ ks vs s L. c.named_below-in-Hole.ensures ∙ site_below a.self ks vs a.tables.now s L (gap c.in-Hole.s) _ (c.find_place-in-Hole.ensures.1 (gap c.in-Hole.s) s.places (refl, refl, refl) (sym L.issued) L.places) a.site (ap place_of c.in-Hole.is),
+      named_low _ _ _ c.named_below-in-Hole.ensures,
     )
 
-pub id-of-spec : {M : Type 1} → statement M
-id-of-spec =
+pub id_of_spec : {M : Type 1} → statement M
+id_of_spec =
     tie.close
     (tie.spec
     enum-known-site

@@ -9,100 +9,100 @@ use borrow.Author.Rules.{rules}
 use Rattle.solver.proofs.Solver.issue.Statement.{statement}
 use Rattle.solver.proofs.Solver.issue.Tie as tie
 
-find-place-requires : tie.Need-find-place-requires
+find-place-requires : tie.Need-find_place-v-requires
 find-place-requires c κs = search rules
 
-cast-t12 : tie.Need-overflow-cast-t12
+cast-t12 : tie.Need-overflow_cast-result
 cast-t12 c = search rules
 
-same_length : tie.Need-same-length
+same_length : tie.Need-shape_of-tables-then-v-issued
 same_length c = search rules
 
-returns : tie.Need-returns
+returns : tie.Need-returns-then-v-issued
 returns c =
-    let a = c.before.before.before.before.args in
-    let f = c.before.find-place in
-    let p = c.before.before.before.before.requires in (
-      λ ks vs s q h L. issued_found a.self ks vs a.tables.now s L q f.result (f.ensures.1 q s.places h (sym L.issued) L.places) c.if1.true,
-      (λ w e. let d : f.result ≡ w = cc in omega (arith, c.if1.true, p.issued), beside_same a.self a.tables.now),
+    let a = c.args in
+    let f = c.find_place-v in
+    let p = c.requires in (
+      λ ks vs s q h L. issued_found a.self ks vs a.tables.now s L q f.result (f.ensures.1 q s.places h (sym L.issued) L.places) c.if-v-issued.true,
+      (λ w e. let d : f.result ≡ w = cc in omega (arith, c.if-v-issued.true, p.issued), beside_same a.self a.tables.now),
     )
 
-same-length-2 : tie.Need-same-length-2
+same-length-2 : tie.Need-shape_of-tables-then-m-issued
 same-length-2 c = search rules
 
-returns-2 : tie.Need-returns-2
+returns-2 : tie.Need-returns-then-m-issued
 returns-2 c =
-    let a = c.before.before.before.before.before.args in
-    let f = c.before.before.find-place in (
-      λ ks vs s q h L. issued_full a.self ks vs a.tables.now s L q f.result (f.ensures.1 q s.places h (sym L.issued) L.places) c.before.if1.false c.if2.true,
+    let a = c.args in
+    let f = c.find_place-v in (
+      λ ks vs s q h L. issued_full a.self ks vs a.tables.now s L q f.result (f.ensures.1 q s.places h (sym L.issued) L.places) c.if-v-issued.false c.if-m-issued.true,
       (λ w e. clash (cc), beside_same a.self a.tables.now),
     )
 
-mul-tables : tie.Need-overflow-mul-tables
+mul-tables : tie.Need-overflow_mul-tables
 mul-tables c = search rules
 
-add-tables : tie.Need-overflow-add-tables
+add-tables : tie.Need-overflow_add-tables
 add-tables c = search rules
 
-mul-tables-2 : tie.Need-overflow-mul-tables-2
+mul-tables-2 : tie.Need-offset_bounds-tables-m
 mul-tables-2 c = search rules
 
-slice-write-tables : tie.Need-slice-write-tables
+slice-write-tables : tie.Need-bounds-tables-m
 slice-write-tables c = search rules
 
-mul-tables-3 : tie.Need-overflow-mul-tables-3
+mul-tables-3 : tie.Need-overflow_mul-tables-2
 mul-tables-3 c = search rules
 
-add-tables-2 : tie.Need-overflow-add-tables-2
+add-tables-2 : tie.Need-overflow_add-tables-2
 add-tables-2 c = search rules
 
-mul-tables-4 : tie.Need-overflow-mul-tables-4
+mul-tables-4 : tie.Need-offset_bounds-tables-m-2
 mul-tables-4 c = search rules
 
-slice-write-tables-2 : tie.Need-slice-write-tables-2
+slice-write-tables-2 : tie.Need-bounds-tables-m-2
 slice-write-tables-2 c =
-    let a = c.before.before.before.before.before.args in
-    omega (arith, c.if2.false, length-set a.tables.now (2 * a.self.variables + a.self.issued) a.kind)
+    let a = c.args in
+    omega (arith, c.if-m-issued.false, length-set a.tables.now (2 * a.self.variables + a.self.issued) a.kind)
 
-mul-tables-5 : tie.Need-overflow-mul-tables-5
+mul-tables-5 : tie.Need-overflow_mul-tables-3
 mul-tables-5 c = search rules
 
-add-tables-3 : tie.Need-overflow-add-tables-3
+add-tables-3 : tie.Need-overflow_add-tables-3
 add-tables-3 c = search rules
 
-mul-tables-6 : tie.Need-overflow-mul-tables-6
+mul-tables-6 : tie.Need-offset_bounds-tables-m-3
 mul-tables-6 c = search rules
 
-slice-write-tables-3 : tie.Need-slice-write-tables-3
+slice-write-tables-3 : tie.Need-bounds-tables-m-3
 slice-write-tables-3 c =
-    let a = c.before.before.before.before.before.args in
-    let x = a.self in
+    let a = c.args in
+    let x = c.args.self in
     let one = set a.tables.now (2 * x.variables + x.issued) a.kind in
-    omega (arith, c.if2.false, length-set a.tables.now (2 * x.variables + x.issued) a.kind, length-set one (3 * x.variables + x.issued) a.site)
+    omega (arith, c.if-m-issued.false, length-set a.tables.now (2 * x.variables + x.issued) a.kind, length-set one (3 * x.variables + x.issued) a.site)
 
-add-self : tie.Need-overflow-add-self
+add-self : tie.Need-overflow_add-self
 add-self c = search rules
 
-cast-t21 : tie.Need-overflow-cast-t21
+cast-t21 : tie.Need-overflow_cast-result-2
 cast-t21 c = search rules
 
-same-length-3 : tie.Need-same-length-3
+same-length-3 : tie.Need-shape_of-tables
 same-length-3 c = search rules
 
-returns-3 : tie.Need-returns-3
+returns-3 : tie.Need-returns
 returns-3 c =
-    let a = c.before.before.before.before.before.args in
-    let x = a.self in
-    let ts = a.tables.now in
-    let f = c.before.before.find-place in
-    let l = c.if2.false in
+    let a = c.args in
+    let x = c.args.self in
+    let ts = c.args.tables.now in
+    let f = c.find_place-v in
+    let l = c.if-m-issued.false in
     let B = beside_set x _ ts _ (4 * x.variables + x.issued) a.slot (beside_set x _ ts _ (3 * x.variables + x.issued) a.site (beside_set x _ ts _ (2 * x.variables + x.issued) a.kind (record { variables = refl; nodes = refl; top = refl; size = refl; rest = refl }) (omega arith)) (omega arith)) (omega arith) in (
-      λ ks vs s q h L. issued_new x ks vs ts s L q f.result (f.ensures.1 q s.places h (sym L.issued) L.places) a.kind a.site a.slot h c.before.if1.false l _ B refl refl refl,
+      λ ks vs s q h L. issued_new x ks vs ts s L q f.result (f.ensures.1 q s.places h (sym L.issued) L.places) a.kind a.site a.slot h c.if-v-issued.false l _ B refl refl refl,
       (λ w e. let d : x.issued ≡ w = cc in omega (arith, l), B),
     )
 
-pub issue-spec : {M : Type 1} → statement M
-issue-spec =
+pub issue_spec : {M : Type 1} → statement M
+issue_spec =
     tie.close
     (tie.spec
     find-place-requires

@@ -10,63 +10,63 @@ use borrow.Author.Rules.{rules}
 use Rattle.solver.proofs.Solver.resolve.Statement.{statement}
 use Rattle.solver.proofs.Solver.resolve.Tie as tie
 
-start-requires : tie.Need-start-requires
-start-requires c κs = let p = c.before.before.before.before.before.requires.0 in (_, _, p.0, p.1, p.2)
+start-requires : tie.Need-start-begun-requires
+start-requires c κs = let p = c.requires.0 in (_, _, p.0, p.1, p.2)
 
-enum-known-begun : tie.Need-enum-known-begun
+enum-known-begun : tie.Need-enum_known-begun
 enum-known-begun c = search rules
 
-slice-aggregate-write-resolved : tie.Need-slice-aggregate-write-resolved
+slice-aggregate-write-resolved : tie.Need-slice_bounds-write_resolved-end
 slice-aggregate-write-resolved c =
-    let a = c.before.before.before.before.before.before.before.before.before.before.args in
-    let p = c.before.before.before.before.before.before.before.before.before.before.requires.0 in
+    let a = c.args in
+    let p = c.requires.0 in
     sym (length-take-le _ _ (omega (arith, (asked_areas a.self _ _ _ p.0 p.1 a.what p.2).room)))
 
-write-resolved-requires : tie.Need-write-resolved-requires
+write-resolved-requires : tie.Need-write_resolved-requires
 write-resolved-requires c κs =
-    let a = c.before.before.before.before.before.before.before.before.before.before.before.before.args in
-    let p = c.before.before.before.before.before.before.before.before.before.before.before.before.requires.0 in
+    let a = c.args in
+    let p = c.requires.0 in
     let F = asked_areas a.self _ _ _ p.0 p.1 a.what p.2 in
-    let B = begins_at a.self _ _ p.0 p.1 _ (c.before.before.before.before.before.before.start.ensures _ _ p.0 p.1 p.2) _ _ c.before.before.before.before.begun.given.1 in
-    let l = resolved_bytes_lem a.kinds.now a.vals.now (take a.self.variables a.tables.now) p.0.solver.bindings F.bindings c.before.before.before.before.begun.given.0.1.0 c.before.before.before.before.begun.given.0.0 B.0 B.1 ∙ ap bytes (sym B.2) in
-    ((F.pairs, F.short, omega (arith, B.3, c.before.before.before.before.before.before.before.before.before.before.before.before.requires.1.room)), (B.4, omega (arith, p.3, ap length l)))
+    let B = begins_at a.self _ _ p.0 p.1 _ (c.start-begun.ensures _ _ p.0 p.1 p.2) _ _ c.in-Begins.is in
+    let l = resolved_bytes_lem a.kinds.now a.vals.now (take a.self.variables a.tables.now) p.0.solver.bindings F.bindings c.in-Begins.most c.in-Begins.p B.0 B.1 ∙ ap bytes (sym B.2) in
+    ((F.pairs, F.short, omega (arith, B.3, c.requires.1.room)), (B.4, omega (arith, p.3, ap length l)))
 
-enum-known-begun-2 : tie.Need-enum-known-begun-2
+enum-known-begun-2 : tie.Need-enum_known-begun-in-Free-1
 enum-known-begun-2 c = search rules
 
-write-variable-requires : tie.Need-write-variable-requires
+write-variable-requires : tie.Need-write_variable-requires
 write-variable-requires c κs =
-    let a = c.before.before.before.before.before.before.before.before.before.before.args in
-    let p = c.before.before.before.before.before.before.before.before.before.before.requires.0 in
-    omega (arith, p.3, ap length (stands_free a.self _ _ p.0 p.1 _ (c.before.before.before.before.start.ensures _ _ p.0 p.1 p.2) _ c.before.before.begun2.given.1))
+    let a = c.args in
+    let p = c.requires.0 in
+    omega (arith, p.3, ap length (stands_free a.self _ _ p.0 p.1 _ (c.start-begun.ensures _ _ p.0 p.1 p.2) _ c.in-Free.is))
 
-same_length : tie.Need-same-length
+same_length : tie.Need-shape_of-work
 same_length c = search rules
 
-same-length-2 : tie.Need-same-length-2
+same-length-2 : tie.Need-shape_of-out-in-Begins
 same-length-2 c = search rules
 
-returns : tie.Need-returns
+returns : tie.Need-returns-in-Begins
 returns c =
-    let a = c.before.before.before.before.before.before.before.before.before.before.before.before.before.before.before.before.before.args in
-    let e = c.before.before.before.before.write-resolved.ensures in (
+    let a = c.args in
+    let e = c.write_resolved.ensures in (
       λ z t A.
-          let B = begins_at a.self _ _ z t _ (c.before.before.before.before.before.before.before.before.before.before.before.start.ensures _ _ z t A) _ _ c.before.before.before.before.before.before.before.before.before.begun.given.1 in
+          let B = begins_at a.self _ _ z t _ (c.start-begun.ensures _ _ z t A) _ _ c.in-Begins.is in
           wrote_as _ _ a.to a.out.now _ _ (ap bytes (sym B.2)) (e.1.1.0 B.0 z.solver.bindings B.1 (asked_areas a.self _ _ _ z t a.what A).bindings),
-      e.1.1.1.1 c.before.before.before.before.before.before.before.before.before.before.before.before.before.before.before.before.before.requires.1.clear,
+      e.1.1.1.1 c.requires.1.clear,
     )
 
-same-length-3 : tie.Need-same-length-3
+same-length-3 : tie.Need-shape_of-out-in-Free
 same-length-3 c = search rules
 
-returns-2 : tie.Need-returns-2
+returns-2 : tie.Need-returns-in-Free
 returns-2 c =
-    let a = c.before.before.before.before.before.before.before.before.before.before.before.before.before.args in
-    let e = c.before.before.write-variable.ensures in
-    (λ z t A. wrote_as _ _ a.to a.out.now _ _ (stands_free a.self _ _ z t _ (c.before.before.before.before.before.before.before.start.ensures _ _ z t A) _ c.before.before.before.before.before.begun2.given.1) e, c.before.before.before.before.before.before.before.before.before.before.before.before.before.requires.1.clear)
+    let a = c.args in
+    let e = c.write_variable.ensures in
+    (λ z t A. wrote_as _ _ a.to a.out.now _ _ (stands_free a.self _ _ z t _ (c.start-begun.ensures _ _ z t A) _ c.in-Free.is) e, c.requires.1.clear)
 
-pub resolve-spec : {M : Type 1} → statement M
-resolve-spec =
+pub resolve_spec : {M : Type 1} → statement M
+resolve_spec =
     tie.close
     (tie.spec
     start-requires

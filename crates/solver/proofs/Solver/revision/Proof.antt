@@ -8,5 +8,5 @@ returns : tie.Need-returns
 unfolding order
 returns c = (refl, λ ks vs ts s L. ap count (sym L.revision))
 
-pub revision-spec : {M : Type 1} → statement M
-revision-spec = tie.close (tie.spec returns)
+pub revision_spec : {M : Type 1} → statement M
+revision_spec = tie.close (tie.spec returns)

@@ -11,120 +11,110 @@ use borrow.Author.Rules.{rules}
 use Rattle.solver.proofs.Solver.solve_pair.Statement.{statement}
 use Rattle.solver.proofs.Solver.solve_pair.Tie as tie
 
-abbrev invariant-loop : tie.invariant-loop
+abbrev invariant-loop : tie.invariant-loop-count
 invariant-loop self₀ kinds vals tables₀ work₀ p q k strict base count₀ left₀ ok₀ self tables work count left ok =
     Loop (notion strict) self₀ kinds vals tables₀ work₀ left₀ count₀ ok₀ self tables work left count ok
 
-abbrev decreases-loop : tie.decreases-loop
+abbrev decreases-loop : tie.decreases-loop-count
 decreases-loop self₀ kinds vals tables₀ work₀ p q k strict base count₀ left₀ ok₀ self tables work count left ok = left
 
-mul-base : tie.Need-overflow-mul-base invariant-loop decreases-loop
+mul-base : tie.Need-overflow_mul-base invariant-loop decreases-loop
 mul-base c = search rules
 
-put-pair-requires : tie.Need-put-pair-requires invariant-loop decreases-loop
+put-pair-requires : tie.Need-put_pair-count-requires invariant-loop decreases-loop
 put-pair-requires c κs =
-    let h = c.before.before.before.before.before.before in
-    let a = h.args in
-    let S = h.requires.1.0 in
-    let L = h.requires.0.4 in
-    let p = held_place _ _ _ _ h.requires.0.5.held in
-    let q = held_place _ _ _ _ h.requires.0.6.held in
+    let a = c.args in
+    let S = c.requires.1.0 in
+    let L = c.requires.0.4 in
+    let p = held_place _ _ _ _ c.requires.0.5.held in
+    let q = held_place _ _ _ _ c.requires.0.6.held in
     (omega (arith, S.pairs), (omega (arith, L.short), omega (arith, L.short)))
 
-loop-holds : tie.Need-loop-init invariant-loop decreases-loop
+loop-holds : tie.Need-loop-count-init invariant-loop decreases-loop
 loop-holds c =
-    let h = c.before.before.before.before.before.before.before.before.before in
-    let a = h.args in
-    loop_start (notion a.strict) a.self a.kinds.now a.vals.now a.tables.now _ a.work.now a.k _ true h.requires.0.0 (constrain (notion a.strict) a.k h.requires.0.0.solver h.requires.0.1 h.requires.0.2) (going_start (notion a.strict) a.self a.kinds.now a.vals.now a.tables.now h.requires.0.0 h.requires.0.3 h.requires.0.4 h.requires.1.1 a.p a.q h.requires.0.1 h.requires.0.2 h.requires.0.5 h.requires.0.6 _ c.before.tables.given _ c.before.before.put-pair.ensures a.k) h.requires.1.0 c.before.tables.given
+    let a = c.args in
+    loop_start (notion a.strict) a.self a.kinds.now a.vals.now a.tables.now _ a.work.now a.k _ true c.requires.0.0 (constrain (notion a.strict) a.k c.requires.0.0.solver c.requires.0.1 c.requires.0.2) (going_start (notion a.strict) a.self a.kinds.now a.vals.now a.tables.now c.requires.0.0 c.requires.0.3 c.requires.0.4 c.requires.1.1 a.p a.q c.requires.0.1 c.requires.0.2 c.requires.0.5 c.requires.0.6 _ c.tables-1.given _ c.put_pair-count.ensures a.k) c.requires.1.0 c.tables-1.given
 
-clear-pairs-requires : tie.Need-clear-pairs-requires invariant-loop decreases-loop
+clear-pairs-requires : tie.Need-clear_pairs-requires invariant-loop decreases-loop
 clear-pairs-requires c κs =
-    let h = c.before.before.before.before.before.before.before.before.before.before.before.before.before in
-    let a = h.args in
-    let l = c.before.before.before.loop in
+    let a = c.args in
+    let l = c.loop-count in
     loop_room (notion a.strict) (notion_codes a.strict) a.self a.kinds.now a.vals.now _ _ _ _ _ l.self l.tables l.work l.left l.count l.ok l.invariant
 
-same_length : tie.Need-same-length invariant-loop decreases-loop
+same_length : tie.Need-shape_of-tables-then-left-eq0 invariant-loop decreases-loop
 same_length c = search rules
 
-same-length-2 : tie.Need-same-length-2 invariant-loop decreases-loop
+same-length-2 : tie.Need-shape_of-work-then-left-eq0 invariant-loop decreases-loop
 same-length-2 c = search rules
 
-returns : tie.Need-returns invariant-loop decreases-loop
+returns : tie.Need-returns-then-left-eq0 invariant-loop decreases-loop
 returns c =
-    let h = c.before.before.before.before.before.before.before.before.before.before.before.before.before.before.before.before in
-    let a = h.args in
-    let l = c.before.before.before.before.before.before.loop in
-    ((λ s t u o L kp kq. going_cancel (notion a.strict) a.self a.kinds.now a.vals.now a.tables.now s _ l.self l.tables l.left l.count l.ok (l.invariant.carries s (constrain (notion a.strict) a.k s.solver t u) (going_start (notion a.strict) a.self a.kinds.now a.vals.now a.tables.now s o L h.requires.1.1 a.p a.q t u kp kq _ c.before.before.before.before.before.before.before.before.tables.given _ c.before.before.before.before.before.before.before.before.before.put-pair.ensures a.k)) (counted_start a.self l.self _ _ a.tables.now _ l.tables _ c.before.before.before.before.before.before.before.before.tables.given c.before.before.before.before.before.before.before.before.before.put-pair.ensures l.invariant.counted) c.before.before.before.before.if1.true c.before.before.before.before.before.loop-test.true _ c.before.tables2.given c.before.before.clear-pairs.ensures), l.invariant.room.clear)
+    let a = c.args in
+    let l = c.loop-count in
+    ((λ s t u o L kp kq. going_cancel (notion a.strict) a.self a.kinds.now a.vals.now a.tables.now s _ l.self l.tables l.left l.count l.ok (l.invariant.carries s (constrain (notion a.strict) a.k s.solver t u) (going_start (notion a.strict) a.self a.kinds.now a.vals.now a.tables.now s o L c.requires.1.1 a.p a.q t u kp kq _ c.tables-1.given _ c.put_pair-count.ensures a.k)) (counted_start a.self l.self _ _ a.tables.now _ l.tables _ c.tables-1.given c.put_pair-count.ensures l.invariant.counted) c.if-left-eq0.true c.loop-count-test.true _ c.tables-then-left-eq0-1.given c.clear_pairs.ensures), l.invariant.room.clear)
 
-sub-left : tie.Need-overflow-sub-left invariant-loop decreases-loop
+sub-left : tie.Need-overflow_sub-left invariant-loop decreases-loop
 sub-left c = search rules
 
-sub-count : tie.Need-overflow-sub-count invariant-loop decreases-loop
+sub-count : tie.Need-overflow_sub-count invariant-loop decreases-loop
 sub-count c = search rules
 
-take-pair-requires : tie.Need-take-pair-requires invariant-loop decreases-loop
+take-pair-requires : tie.Need-take_pair-pair-requires invariant-loop decreases-loop
 take-pair-requires c κs =
-    let h = c.before.before.before.before.before.before.before.before.before.before.before.before.before in
-    let a = h.args in
-    let l = c.before.before.before.loop in
+    let a = c.args in
+    let l = c.loop-count in
     omega (arith, loop_room (notion a.strict) (notion_codes a.strict) a.self a.kinds.now a.vals.now _ _ _ _ _ l.self l.tables l.work l.left l.count l.ok l.invariant)
 
-check-pair-requires : tie.Need-check-pair-requires invariant-loop decreases-loop
+check-pair-requires : tie.Need-check_pair-r-requires invariant-loop decreases-loop
 check-pair-requires c κs =
-    let h = c.before.before.before.before.before.before.before.before.before.before.before.before.before.before.before.before.before.before in
-    let a = h.args in
-    let l = c.before.before.before.before.before.before.before.before.loop in
-    (loop_due (notion a.strict) (notion_codes a.strict) a.self a.kinds.now a.vals.now _ _ _ _ _ l.self l.tables l.work l.left l.count l.ok l.invariant _ _ _ c.before.before.before.before.before.before.if1.false c.before.before.before.before.before.before.before.loop-test.true c.before.before.before.tables3.given c.before.before.before.before.take-pair.ensures, loop_scratch (notion a.strict) (notion_codes a.strict) a.self a.kinds.now a.vals.now _ _ _ _ _ l.self l.tables l.work l.left l.count l.ok l.invariant _ _ _ c.before.before.before.before.before.before.if1.false c.before.before.before.before.before.before.before.loop-test.true c.before.before.before.tables3.given c.before.before.before.before.take-pair.ensures)
+    let a = c.args in
+    let l = c.loop-count in
+    (loop_due (notion a.strict) (notion_codes a.strict) a.self a.kinds.now a.vals.now _ _ _ _ _ l.self l.tables l.work l.left l.count l.ok l.invariant _ _ _ c.if-left-eq0.false c.loop-count-test.true c.tables-in-loop-count-1.given c.take_pair-pair.ensures, loop_scratch (notion a.strict) (notion_codes a.strict) a.self a.kinds.now a.vals.now _ _ _ _ _ l.self l.tables l.work l.left l.count l.ok l.invariant _ _ _ c.if-left-eq0.false c.loop-count-test.true c.tables-in-loop-count-1.given c.take_pair-pair.ensures)
 
-loop-less : tie.Need-loop-smaller invariant-loop decreases-loop
+loop-less : tie.Need-loop-count-smaller-then-not-good invariant-loop decreases-loop
 loop-less c = search rules
 
-loop-again : tie.Need-loop-preserved invariant-loop decreases-loop
+loop-again : tie.Need-loop-count-preserved-then-not-good invariant-loop decreases-loop
 loop-again c =
-    let h = c.before.before.before.before.before.before.before.before.before.before.before.before.before.before.before.before.before.before.before.before.before.before.before.before.before in
-    let a = h.args in
-    let l = c.before.before.before.before.before.before.before.before.before.before.before.before.before.before.before.loop in
-    loop_next (notion a.strict) (notion_codes a.strict) a.self a.kinds.now a.vals.now _ _ _ _ _ l.self l.tables l.work l.left l.count l.ok l.invariant _ _ _ c.before.before.before.before.before.before.before.before.before.before.before.before.before.if1.false c.before.before.before.before.before.before.before.before.before.before.before.before.before.before.loop-test.true c.before.before.before.before.before.before.before.before.before.before.tables3.given c.before.before.before.before.before.before.before.before.before.before.before.take-pair.ensures _ _ _ c.before.before.before.before.before.tables4.given c.before.before.before.work.given c.before.before.before.before.before.before.check-pair.ensures.1 c.before.before.before.before.before.before.check-pair.ensures.0 false (and-false l.ok _ (not-true _ c.if2.true))
+    let a = c.args in
+    let l = c.loop-count in
+    loop_next (notion a.strict) (notion_codes a.strict) a.self a.kinds.now a.vals.now _ _ _ _ _ l.self l.tables l.work l.left l.count l.ok l.invariant _ _ _ c.if-left-eq0.false c.loop-count-test.true c.tables-in-loop-count-1.given c.take_pair-pair.ensures _ _ _ c.tables-in-loop-count-2-1.given c.work-1.given c.check_pair-r.ensures.1 c.check_pair-r.ensures.0 false (and-false l.ok _ (not-true _ c.if-not-good.true-raw))
 
-loop-less-2 : tie.Need-loop-smaller-2 invariant-loop decreases-loop
+loop-less-2 : tie.Need-loop-count-smaller invariant-loop decreases-loop
 loop-less-2 c = search rules
 
-loop-again-2 : tie.Need-loop-preserved-2 invariant-loop decreases-loop
+loop-again-2 : tie.Need-loop-count-preserved invariant-loop decreases-loop
 loop-again-2 c =
-    let h = c.before.before.before.before.before.before.before.before.before.before.before.before.before.before.before.before.before.before.before.before.before.before.before.before.before in
-    let a = h.args in
-    let l = c.before.before.before.before.before.before.before.before.before.before.before.before.before.before.before.loop in
-    loop_next (notion a.strict) (notion_codes a.strict) a.self a.kinds.now a.vals.now _ _ _ _ _ l.self l.tables l.work l.left l.count l.ok l.invariant _ _ _ c.before.before.before.before.before.before.before.before.before.before.before.before.before.if1.false c.before.before.before.before.before.before.before.before.before.before.before.before.before.before.loop-test.true c.before.before.before.before.before.before.before.before.before.before.tables3.given c.before.before.before.before.before.before.before.before.before.before.before.take-pair.ensures _ _ _ c.before.before.before.before.before.tables4.given c.before.before.before.work.given c.before.before.before.before.before.before.check-pair.ensures.1 c.before.before.before.before.before.before.check-pair.ensures.0 l.ok (and-true l.ok _ (not-false _ c.if2.false))
+    let a = c.args in
+    let l = c.loop-count in
+    loop_next (notion a.strict) (notion_codes a.strict) a.self a.kinds.now a.vals.now _ _ _ _ _ l.self l.tables l.work l.left l.count l.ok l.invariant _ _ _ c.if-left-eq0.false c.loop-count-test.true c.tables-in-loop-count-1.given c.take_pair-pair.ensures _ _ _ c.tables-in-loop-count-2-1.given c.work-1.given c.check_pair-r.ensures.1 c.check_pair-r.ensures.0 l.ok (and-true l.ok _ (not-false _ c.if-not-good.false-raw))
 
-same-length-3 : tie.Need-same-length-3 invariant-loop decreases-loop
+same-length-3 : tie.Need-shape_of-tables-then-ok invariant-loop decreases-loop
 same-length-3 c = search rules
 
-same-length-4 : tie.Need-same-length-4 invariant-loop decreases-loop
+same-length-4 : tie.Need-shape_of-work-then-ok invariant-loop decreases-loop
 same-length-4 c = search rules
 
-returns-2 : tie.Need-returns-2 invariant-loop decreases-loop
+returns-2 : tie.Need-returns-then-ok invariant-loop decreases-loop
 returns-2 c =
-    let h = c.before.before.before.before.before.before.before.before.before.before.before.before in
-    let a = h.args in
-    let l = c.before.before.loop in
-    ((λ s t u o L kp kq. going_end (notion a.strict) a.self a.kinds.now a.vals.now a.tables.now s _ l.self l.tables l.left l.count true (told_so (l.invariant.carries s (constrain (notion a.strict) a.k s.solver t u) (going_start (notion a.strict) a.self a.kinds.now a.vals.now a.tables.now s o L h.requires.1.1 a.p a.q t u kp kq _ c.before.before.before.before.tables.given _ c.before.before.before.before.before.put-pair.ensures a.k)) c.if3.true) (counted_start a.self l.self _ _ a.tables.now _ l.tables _ c.before.before.before.before.tables.given c.before.before.before.before.before.put-pair.ensures l.invariant.counted) (omega (arith, c.before.loop-test.false))), l.invariant.room.clear)
+    let a = c.args in
+    let l = c.loop-count in
+    ((λ s t u o L kp kq. going_end (notion a.strict) a.self a.kinds.now a.vals.now a.tables.now s _ l.self l.tables l.left l.count true (told_so (l.invariant.carries s (constrain (notion a.strict) a.k s.solver t u) (going_start (notion a.strict) a.self a.kinds.now a.vals.now a.tables.now s o L c.requires.1.1 a.p a.q t u kp kq _ c.tables-1.given _ c.put_pair-count.ensures a.k)) c.if-ok.true) (counted_start a.self l.self _ _ a.tables.now _ l.tables _ c.tables-1.given c.put_pair-count.ensures l.invariant.counted) (omega (arith, c.loop-count-test.false))), l.invariant.room.clear)
 
-same-length-5 : tie.Need-same-length-5 invariant-loop decreases-loop
+same-length-5 : tie.Need-shape_of-tables invariant-loop decreases-loop
 same-length-5 c = search rules
 
-same-length-6 : tie.Need-same-length-6 invariant-loop decreases-loop
+same-length-6 : tie.Need-shape_of-work invariant-loop decreases-loop
 same-length-6 c = search rules
 
-returns-3 : tie.Need-returns-3 invariant-loop decreases-loop
+returns-3 : tie.Need-returns invariant-loop decreases-loop
 returns-3 c =
-    let h = c.before.before.before.before.before.before.before.before.before.before.before.before in
-    let a = h.args in
-    let l = c.before.before.loop in
-    ((λ s t u o L kp kq. going_end (notion a.strict) a.self a.kinds.now a.vals.now a.tables.now s _ l.self l.tables l.left l.count false (told_so (l.invariant.carries s (constrain (notion a.strict) a.k s.solver t u) (going_start (notion a.strict) a.self a.kinds.now a.vals.now a.tables.now s o L h.requires.1.1 a.p a.q t u kp kq _ c.before.before.before.before.tables.given _ c.before.before.before.before.before.put-pair.ensures a.k)) c.if3.false) (counted_start a.self l.self _ _ a.tables.now _ l.tables _ c.before.before.before.before.tables.given c.before.before.before.before.before.put-pair.ensures l.invariant.counted) (omega (arith, c.before.loop-test.false))), l.invariant.room.clear)
+    let a = c.args in
+    let l = c.loop-count in
+    ((λ s t u o L kp kq. going_end (notion a.strict) a.self a.kinds.now a.vals.now a.tables.now s _ l.self l.tables l.left l.count false (told_so (l.invariant.carries s (constrain (notion a.strict) a.k s.solver t u) (going_start (notion a.strict) a.self a.kinds.now a.vals.now a.tables.now s o L c.requires.1.1 a.p a.q t u kp kq _ c.tables-1.given _ c.put_pair-count.ensures a.k)) c.if-ok.false) (counted_start a.self l.self _ _ a.tables.now _ l.tables _ c.tables-1.given c.put_pair-count.ensures l.invariant.counted) (omega (arith, c.loop-count-test.false))), l.invariant.room.clear)
 
-pub solve-pair-spec : {M : Type 1} → statement M
-solve-pair-spec =
+pub solve_pair_spec : {M : Type 1} → statement M
+solve_pair_spec =
     tie.close
     (tie.spec
     invariant-loop

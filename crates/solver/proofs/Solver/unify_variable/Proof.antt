@@ -7,121 +7,111 @@ use borrow.Author.Rules.{rules}
 use Rattle.solver.proofs.Solver.unify_variable.Statement.{statement}
 use Rattle.solver.proofs.Solver.unify_variable.Tie as tie
 
-slice-reshare-prefix-recovers : tie.Need-slice-reshare-prefix-recovers
+slice-reshare-prefix-recovers : tie.Need-slice_bounds-recovers-end
 slice-reshare-prefix-recovers c = search rules
 
-slice-aggregate-recovers : tie.Need-slice-aggregate-recovers
+slice-aggregate-recovers : tie.Need-slice_bounds-recovers-end-2
 slice-aggregate-recovers c =
-    let h = c.before.before.before.before.before in
-    let a = h.args in
-    sym (bindings_long a.self a.kinds.now a.vals.now a.tables.now h.requires.0.0 h.requires.0.2.represents)
+    let a = c.args in
+    sym (bindings_long a.self a.kinds.now a.vals.now a.tables.now c.requires.0.0 c.requires.0.2.represents)
 
 recovers-requires : tie.Need-recovers-requires
 recovers-requires c κs =
-    let h = c.before.before.before.before.before.before in
-    let a = h.args in
-    let L = lent_marks a.self a.kinds.now a.vals.now a.tables.now h.requires.0.0 h.requires.0.2.represents a.work.now h.requires.1 in
-    (facing_areas a.self a.kinds.now a.vals.now a.tables.now h.requires.0.0 a.v a.q h.requires.0.1 h.requires.0.2, (L, h.requires.1.clear))
+    let a = c.args in
+    let L = lent_marks a.self a.kinds.now a.vals.now a.tables.now c.requires.0.0 c.requires.0.2.represents a.work.now c.requires.1 in
+    (facing_areas a.self a.kinds.now a.vals.now a.tables.now c.requires.0.0 a.v a.q c.requires.0.1 c.requires.0.2, (L, c.requires.1.clear))
 
-same_length : tie.Need-same-length
+same_length : tie.Need-shape_of-tables-then-recovers
 same_length c = search rules
 
-same-length-2 : tie.Need-same-length-2
+same-length-2 : tie.Need-shape_of-work-then-recovers
 same-length-2 c = search rules
 
-returns : tie.Need-returns
+returns : tie.Need-returns-then-recovers
 returns c =
-    let h = c.before.before.before.before.before.before.before.before.before.before in
-    let a = h.args in (
-      (λ s t x y ps F W. assign_recovers a.self a.kinds.now a.vals.now a.tables.now s a.v a.q t F a.count ps W x y (sym (c.before.before.before.recovers.ensures.0 t s.solver.bindings s.solver.revision F.known.held F.represents.bindings F.steady) ∙ c.if1.true)),
-      c.before.before.before.recovers.ensures.1,
+    let a = c.args in (
+      (λ s t x y ps F W. assign_recovers a.self a.kinds.now a.vals.now a.tables.now s a.v a.q t F a.count ps W x y (sym (c.recovers.ensures.0 t s.solver.bindings s.solver.revision F.known.held F.represents.bindings F.steady) ∙ c.if-recovers.true)),
+      c.recovers.ensures.1,
     )
 
 admissible-requires : tie.Need-admissible-requires
 admissible-requires c κs =
-    let h = c.before.before.before.before.before.before.before.before.before.before.before in
-    let a = h.args in
-    (h.requires.0.2.represents.room, facing_place a.self a.kinds.now a.vals.now a.tables.now h.requires.0.0 a.v a.q h.requires.0.1 h.requires.0.2, h.requires.0.2.represents.vals)
+    let a = c.args in
+    (c.requires.0.2.represents.room, facing_place a.self a.kinds.now a.vals.now a.tables.now c.requires.0.0 a.v a.q c.requires.0.1 c.requires.0.2, c.requires.0.2.represents.vals)
 
-same-length-3 : tie.Need-same-length-3
+same-length-3 : tie.Need-shape_of-tables-then-not-admissible
 same-length-3 c = search rules
 
-same-length-4 : tie.Need-same-length-4
+same-length-4 : tie.Need-shape_of-work-then-not-admissible
 same-length-4 c = search rules
 
-returns-2 : tie.Need-returns-2
+returns-2 : tie.Need-returns-then-not-admissible
 returns-2 c =
-    let h = c.before.before.before.before.before.before.before.before.before.before.before.before.before in
-    let a = h.args in (
+    let a = c.args in (
       (λ s t x y ps F W. assign_refused a.self a.kinds.now a.vals.now a.tables.now s a.v a.q t F a.count ps W x y
-          (sym (c.before.before.before.before.before.before.recovers.ensures.0 t s.solver.bindings s.solver.revision F.known.held F.represents.bindings F.steady) ∙ c.before.before.before.if1.false)
-          (sym (c.before.admissible.ensures t s.solver.requests F.represents.requests F.known.held) ∙ not-true _ c.if2.true)),
-      c.before.before.before.before.before.before.recovers.ensures.1,
+          (sym (c.recovers.ensures.0 t s.solver.bindings s.solver.revision F.known.held F.represents.bindings F.steady) ∙ c.if-recovers.false)
+          (sym (c.admissible.ensures t s.solver.requests F.represents.requests F.known.held) ∙ not-true _ c.if-not-admissible.true-raw)),
+      c.recovers.ensures.1,
     )
 
-slice-reshare-prefix-occurs : tie.Need-slice-reshare-prefix-occurs
+slice-reshare-prefix-occurs : tie.Need-slice_bounds-occurs-end
 slice-reshare-prefix-occurs c = search rules
 
-slice-aggregate-occurs : tie.Need-slice-aggregate-occurs
+slice-aggregate-occurs : tie.Need-slice_bounds-occurs-end-2
 slice-aggregate-occurs c =
-    let h = c.before.before.before.before.before.before.before.before.before.before.before.before.before.before in
-    let a = h.args in
-    sym (bindings_long a.self a.kinds.now a.vals.now a.tables.now h.requires.0.0 h.requires.0.2.represents)
+    let a = c.args in
+    sym (bindings_long a.self a.kinds.now a.vals.now a.tables.now c.requires.0.0 c.requires.0.2.represents)
 
 occurs-requires : tie.Need-occurs-requires
 occurs-requires c κs =
-    let h = c.before.before.before.before.before.before.before.before.before.before.before.before.before.before.before in
-    let a = h.args in
-    let e = bindings_long a.self a.kinds.now a.vals.now a.tables.now h.requires.0.0 h.requires.0.2.represents in (
-      facing_areas a.self a.kinds.now a.vals.now a.tables.now h.requires.0.0 a.v a.q h.requires.0.1 h.requires.0.2,
-      (omega (arith, h.requires.1.marks, c.before.before.before.before.before.before.before.work.given), c.before.before.before.before.before.before.before.before.recovers.ensures.1),
+    let a = c.args in
+    let e = bindings_long a.self a.kinds.now a.vals.now a.tables.now c.requires.0.0 c.requires.0.2.represents in (
+      facing_areas a.self a.kinds.now a.vals.now a.tables.now c.requires.0.0 a.v a.q c.requires.0.1 c.requires.0.2,
+      (omega (arith, c.requires.1.marks, c.work-1.given), c.recovers.ensures.1),
     )
 
-same-length-5 : tie.Need-same-length-5
+same-length-5 : tie.Need-shape_of-tables-then-occurs
 same-length-5 c = search rules
 
-same-length-6 : tie.Need-same-length-6
+same-length-6 : tie.Need-shape_of-work-then-occurs
 same-length-6 c = search rules
 
-returns-3 : tie.Need-returns-3
+returns-3 : tie.Need-returns-then-occurs
 returns-3 c =
-    let h = c.before.before.before.before.before.before.before.before.before.before.before.before.before.before.before.before.before.before.before in
-    let a = h.args in (
+    let a = c.args in (
       (λ s t x y ps F W. assign_occurs a.self a.kinds.now a.vals.now a.tables.now s a.v a.q t F a.count ps W x y
-          (sym (c.before.before.before.before.before.before.before.before.before.before.before.before.recovers.ensures.0 t s.solver.bindings s.solver.revision F.known.held F.represents.bindings F.steady) ∙ c.before.before.before.before.before.before.before.before.before.if1.false)
-          (sym (c.before.before.before.occurs.ensures.0 t s.solver.bindings s.solver.revision F.known.held F.represents.bindings F.steady F.free) ∙ c.if3.true)),
-      c.before.before.before.occurs.ensures.1,
+          (sym (c.recovers.ensures.0 t s.solver.bindings s.solver.revision F.known.held F.represents.bindings F.steady) ∙ c.if-recovers.false)
+          (sym (c.occurs.ensures.0 t s.solver.bindings s.solver.revision F.known.held F.represents.bindings F.steady F.free) ∙ c.if-occurs.true)),
+      c.occurs.ensures.1,
     )
 
-bind-requires : tie.Need-bind-requires
+bind-requires : tie.Need-bind-next-requires
 bind-requires c κs =
-    let h = c.before.before.before.before.before.before.before.before.before.before.before.before.before.before.before.before.before.before.before.before in
-    let a = h.args in
-    let s = h.requires.0.0 in
-    let t = h.requires.0.1 in
-    (facing_shaped a.self a.kinds.now a.vals.now a.tables.now s a.v a.q t h.requires.0.2, facing_bind a.self a.kinds.now a.vals.now a.tables.now s a.v a.q t h.requires.0.2)
+    let a = c.args in
+    let s = c.requires.0.0 in
+    let t = c.requires.0.1 in
+    (facing_shaped a.self a.kinds.now a.vals.now a.tables.now s a.v a.q t c.requires.0.2, facing_bind a.self a.kinds.now a.vals.now a.tables.now s a.v a.q t c.requires.0.2)
 
-same-length-7 : tie.Need-same-length-7
+same-length-7 : tie.Need-shape_of-tables
 same-length-7 c = search rules
 
-same-length-8 : tie.Need-same-length-8
+same-length-8 : tie.Need-shape_of-work
 same-length-8 c = search rules
 
-returns-4 : tie.Need-returns-4
+returns-4 : tie.Need-returns
 returns-4 c =
-    let h = c.before.before.before.before.before.before.before.before.before.before.before.before.before.before.before.before.before.before.before.before.before.before.before in
-    let a = h.args in
-    let b = c.before.before.bind.ensures in (
+    let a = c.args in
+    let b = c.bind-next.ensures in (
       (λ s t x y ps F W. assign_bound a.self a.kinds.now a.vals.now a.tables.now s a.v a.q t F a.count ps W x y
-          (sym (c.before.before.before.before.before.before.before.before.before.before.before.before.before.before.before.before.recovers.ensures.0 t s.solver.bindings s.solver.revision F.known.held F.represents.bindings F.steady) ∙ c.before.before.before.before.before.before.before.before.before.before.before.before.before.if1.false)
-          (sym (c.before.before.before.before.before.before.before.before.before.before.before.admissible.ensures t s.solver.requests F.represents.requests F.known.held) ∙ not-false _ c.before.before.before.before.before.before.before.before.before.before.if2.false)
-          (sym (c.before.before.before.before.before.before.before.occurs.ensures.0 t s.solver.bindings s.solver.revision F.known.held F.represents.bindings F.steady F.free) ∙ c.before.before.before.before.if3.false)
+          (sym (c.recovers.ensures.0 t s.solver.bindings s.solver.revision F.known.held F.represents.bindings F.steady) ∙ c.if-recovers.false)
+          (sym (c.admissible.ensures t s.solver.requests F.represents.requests F.known.held) ∙ not-false _ c.if-not-admissible.false-raw)
+          (sym (c.occurs.ensures.0 t s.solver.bindings s.solver.revision F.known.held F.represents.bindings F.steady F.free) ∙ c.if-occurs.false)
           _ _ (λ rs l e. b.0 s t rs F.represents F.known.held l e) b.1.1),
-      c.before.before.before.before.before.before.before.occurs.ensures.1,
+      c.occurs.ensures.1,
     )
 
-pub unify-variable-spec : {M : Type 1} → statement M
-unify-variable-spec =
+pub unify_variable_spec : {M : Type 1} → statement M
+unify_variable_spec =
     tie.close
     (tie.spec
     slice-reshare-prefix-recovers

@@ -7,28 +7,28 @@ use borrow.Author.Rules.{rules}
 use Rattle.solver.proofs.answers.write_variable.Statement.{statement}
 use Rattle.solver.proofs.answers.write_variable.Tie as tie
 
-slice-write-out : tie.Need-slice-write-out
+slice-write-out : tie.Need-bounds-out-to
 slice-write-out c =
-    let a = c.before.args in
-    omega (arith, c.before.requires, var_size _ a.v refl)
+    let a = c.args in
+    omega (arith, c.requires, var_size _ a.v refl)
 
-add-write-number : tie.Need-overflow-add-write-number
+add-write-number : tie.Need-overflow_add-to
 add-write-number c = search rules
 
-write-number-requires : tie.Need-write-number-requires
+write-number-requires : tie.Need-write_number-requires
 write-number-requires c κs =
-    let a = c.before.before.args in
-    simp length-set (omega (arith, c.before.before.requires, var_size _ a.v refl))
+    let a = c.args in
+    simp length-set (omega (arith, c.requires, var_size _ a.v refl))
 
-same_length : tie.Need-same-length
-same_length c = simp length-set at c.before.before.write-number.auto.0
+same_length : tie.Need-shape_of-out
+same_length c = simp length-set at c.write_number.auto.out
 
 returns : tie.Need-returns
 returns c =
-    let a = c.before.before.before.before.before.args in
-    let e = c.before.before.write-number.ensures in
+    let a = c.args in
+    let e = c.write_number.ensures in
     (omega (arith, e.0, var_size _ a.v refl), var_stored _ _ a.v _ e.1)
 
-pub write-variable-spec : {M : Type 1} → statement M
-write-variable-spec =
+pub write_variable_spec : {M : Type 1} → statement M
+write_variable_spec =
     tie.close (tie.spec slice-write-out add-write-number write-number-requires same_length returns)

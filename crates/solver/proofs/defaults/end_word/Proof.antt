@@ -4,25 +4,25 @@ use borrow.Author.Rules.{rules}
 use Rattle.solver.proofs.defaults.end_word.Statement.{statement}
 use Rattle.solver.proofs.defaults.end_word.Tie as tie
 
-returns : tie.Need-returns
+returns : tie.Need-returns-then-never
 returns c =
-    let a = c.before.args in
-    end_never a.never a.m a.tables.now a.w c.if1.true
+    let a = c.args in
+    end_never a.never a.m a.tables.now a.w c.if-never.true
 
-add-result : tie.Need-overflow-add-result
+add-result : tie.Need-overflow_add-result
 add-result c = search rules
 
-mul-result : tie.Need-overflow-mul-result
+mul-result : tie.Need-offset_bounds-tables-m
 mul-result c = search rules
 
-shared-slice-read-result : tie.Need-shared-slice-read-result
+shared-slice-read-result : tie.Need-bounds-tables-m
 shared-slice-read-result c = search rules
 
-returns-2 : tie.Need-returns-2
+returns-2 : tie.Need-returns
 returns-2 c =
-    let a = c.before.before.args in
-    end_request a.never a.m a.tables.now a.w c.before.if1.false
+    let a = c.args in
+    end_request a.never a.m a.tables.now a.w c.if-never.false
 
-pub end-word-spec : {M : Type 1} → statement M
-end-word-spec =
+pub end_word_spec : {M : Type 1} → statement M
+end_word_spec =
     tie.close (tie.spec returns add-result mul-result shared-slice-read-result returns-2)

@@ -9,65 +9,65 @@ use Rattle.solver.proofs.defaults.first_of.Tie as tie
 has-requires : tie.Need-has-requires
 has-requires c κs = search rules
 
-returns : tie.Need-returns
+returns : tie.Need-returns-then-has
 unfolding code first_of
-returns c = (λ f h. rw (h 2 ∙ sym c.before.has.ensures ∙ c.if1.true), omega arith)
+returns c = (λ f h. rw (h 2 ∙ sym c.has.ensures ∙ c.if-has.true), omega arith)
 
 has-requires-2 : tie.Need-has-requires-2
 has-requires-2 c κs = search rules
 
-returns-2 : tie.Need-returns-2
+returns-2 : tie.Need-returns-then-has-2
 unfolding code first_of
-returns-2 c = (λ f h. rw (h 2 ∙ sym c.before.before.before.has.ensures ∙ c.before.before.if1.false, h 3 ∙ sym c.before.has2.ensures ∙ c.if2.true), omega arith)
+returns-2 c = (λ f h. rw (h 2 ∙ sym c.has.ensures ∙ c.if-has.false, h 3 ∙ sym c.has-2.ensures ∙ c.if-has-2.true), omega arith)
 
 has-requires-3 : tie.Need-has-requires-3
 has-requires-3 c κs = search rules
 
-returns-3 : tie.Need-returns-3
+returns-3 : tie.Need-returns-then-has-3
 unfolding code first_of
-returns-3 c = (λ f h. rw (h 2 ∙ sym c.before.before.before.before.before.has.ensures ∙ c.before.before.before.before.if1.false, h 3 ∙ sym c.before.before.before.has2.ensures ∙ c.before.before.if2.false, h 6 ∙ sym c.before.has3.ensures ∙ c.if3.true), omega arith)
+returns-3 c = (λ f h. rw (h 2 ∙ sym c.has.ensures ∙ c.if-has.false, h 3 ∙ sym c.has-2.ensures ∙ c.if-has-2.false, h 6 ∙ sym c.has-3.ensures ∙ c.if-has-3.true), omega arith)
 
 has-requires-4 : tie.Need-has-requires-4
 has-requires-4 c κs = search rules
 
-returns-4 : tie.Need-returns-4
+returns-4 : tie.Need-returns-then-has-4
 unfolding code first_of
-returns-4 c = (λ f h. rw (h 2 ∙ sym c.before.before.before.before.before.before.before.has.ensures ∙ c.before.before.before.before.before.before.if1.false, h 3 ∙ sym c.before.before.before.before.before.has2.ensures ∙ c.before.before.before.before.if2.false, h 6 ∙ sym c.before.before.before.has3.ensures ∙ c.before.before.if3.false, h 7 ∙ sym c.before.has4.ensures ∙ c.if4.true), omega arith)
+returns-4 c = (λ f h. rw (h 2 ∙ sym c.has.ensures ∙ c.if-has.false, h 3 ∙ sym c.has-2.ensures ∙ c.if-has-2.false, h 6 ∙ sym c.has-3.ensures ∙ c.if-has-3.false, h 7 ∙ sym c.has-4.ensures ∙ c.if-has-4.true), omega arith)
 
 has-requires-5 : tie.Need-has-requires-5
 has-requires-5 c κs = search rules
 
-returns-5 : tie.Need-returns-5
+returns-5 : tie.Need-returns-then-has-5
 unfolding code first_of
-returns-5 c = (λ f h. rw (h 2 ∙ sym c.before.before.before.before.before.before.before.before.before.has.ensures ∙ c.before.before.before.before.before.before.before.before.if1.false, h 3 ∙ sym c.before.before.before.before.before.before.before.has2.ensures ∙ c.before.before.before.before.before.before.if2.false, h 6 ∙ sym c.before.before.before.before.before.has3.ensures ∙ c.before.before.before.before.if3.false, h 7 ∙ sym c.before.before.before.has4.ensures ∙ c.before.before.if4.false, h 0 ∙ sym c.before.has5.ensures ∙ c.if5.true), omega arith)
+returns-5 c = (λ f h. rw (h 2 ∙ sym c.has.ensures ∙ c.if-has.false, h 3 ∙ sym c.has-2.ensures ∙ c.if-has-2.false, h 6 ∙ sym c.has-3.ensures ∙ c.if-has-3.false, h 7 ∙ sym c.has-4.ensures ∙ c.if-has-4.false, h 0 ∙ sym c.has-5.ensures ∙ c.if-has-5.true), omega arith)
 
 has-requires-6 : tie.Need-has-requires-6
 has-requires-6 c κs = search rules
 
-returns-6 : tie.Need-returns-6
+returns-6 : tie.Need-returns-then-has-6
 unfolding code first_of
-returns-6 c = (λ f h. rw (h 2 ∙ sym c.before.before.before.before.before.before.before.before.before.before.before.has.ensures ∙ c.before.before.before.before.before.before.before.before.before.before.if1.false, h 3 ∙ sym c.before.before.before.before.before.before.before.before.before.has2.ensures ∙ c.before.before.before.before.before.before.before.before.if2.false, h 6 ∙ sym c.before.before.before.before.before.before.before.has3.ensures ∙ c.before.before.before.before.before.before.if3.false, h 7 ∙ sym c.before.before.before.before.before.has4.ensures ∙ c.before.before.before.before.if4.false, h 0 ∙ sym c.before.before.before.has5.ensures ∙ c.before.before.if5.false, h 4 ∙ sym c.before.has6.ensures ∙ c.if6.true), omega arith)
+returns-6 c = (λ f h. rw (h 2 ∙ sym c.has.ensures ∙ c.if-has.false, h 3 ∙ sym c.has-2.ensures ∙ c.if-has-2.false, h 6 ∙ sym c.has-3.ensures ∙ c.if-has-3.false, h 7 ∙ sym c.has-4.ensures ∙ c.if-has-4.false, h 0 ∙ sym c.has-5.ensures ∙ c.if-has-5.false, h 4 ∙ sym c.has-6.ensures ∙ c.if-has-6.true), omega arith)
 
 has-requires-7 : tie.Need-has-requires-7
 has-requires-7 c κs = search rules
 
-returns-7 : tie.Need-returns-7
+returns-7 : tie.Need-returns-then-has-7
 unfolding code first_of
-returns-7 c = (λ f h. rw (h 2 ∙ sym c.before.before.before.before.before.before.before.before.before.before.before.before.before.has.ensures ∙ c.before.before.before.before.before.before.before.before.before.before.before.before.if1.false, h 3 ∙ sym c.before.before.before.before.before.before.before.before.before.before.before.has2.ensures ∙ c.before.before.before.before.before.before.before.before.before.before.if2.false, h 6 ∙ sym c.before.before.before.before.before.before.before.before.before.has3.ensures ∙ c.before.before.before.before.before.before.before.before.if3.false, h 7 ∙ sym c.before.before.before.before.before.before.before.has4.ensures ∙ c.before.before.before.before.before.before.if4.false, h 0 ∙ sym c.before.before.before.before.before.has5.ensures ∙ c.before.before.before.before.if5.false, h 4 ∙ sym c.before.before.before.has6.ensures ∙ c.before.before.if6.false, h 1 ∙ sym c.before.has7.ensures ∙ c.if7.true), omega arith)
+returns-7 c = (λ f h. rw (h 2 ∙ sym c.has.ensures ∙ c.if-has.false, h 3 ∙ sym c.has-2.ensures ∙ c.if-has-2.false, h 6 ∙ sym c.has-3.ensures ∙ c.if-has-3.false, h 7 ∙ sym c.has-4.ensures ∙ c.if-has-4.false, h 0 ∙ sym c.has-5.ensures ∙ c.if-has-5.false, h 4 ∙ sym c.has-6.ensures ∙ c.if-has-6.false, h 1 ∙ sym c.has-7.ensures ∙ c.if-has-7.true), omega arith)
 
 has-requires-8 : tie.Need-has-requires-8
 has-requires-8 c κs = search rules
 
-returns-8 : tie.Need-returns-8
+returns-8 : tie.Need-returns-then-has-8
 unfolding code first_of
-returns-8 c = (λ f h. rw (h 2 ∙ sym c.before.before.before.before.before.before.before.before.before.before.before.before.before.before.before.has.ensures ∙ c.before.before.before.before.before.before.before.before.before.before.before.before.before.before.if1.false, h 3 ∙ sym c.before.before.before.before.before.before.before.before.before.before.before.before.before.has2.ensures ∙ c.before.before.before.before.before.before.before.before.before.before.before.before.if2.false, h 6 ∙ sym c.before.before.before.before.before.before.before.before.before.before.before.has3.ensures ∙ c.before.before.before.before.before.before.before.before.before.before.if3.false, h 7 ∙ sym c.before.before.before.before.before.before.before.before.before.has4.ensures ∙ c.before.before.before.before.before.before.before.before.if4.false, h 0 ∙ sym c.before.before.before.before.before.before.before.has5.ensures ∙ c.before.before.before.before.before.before.if5.false, h 4 ∙ sym c.before.before.before.before.before.has6.ensures ∙ c.before.before.before.before.if6.false, h 1 ∙ sym c.before.before.before.has7.ensures ∙ c.before.before.if7.false, h 5 ∙ sym c.before.has8.ensures ∙ c.if8.true), omega arith)
+returns-8 c = (λ f h. rw (h 2 ∙ sym c.has.ensures ∙ c.if-has.false, h 3 ∙ sym c.has-2.ensures ∙ c.if-has-2.false, h 6 ∙ sym c.has-3.ensures ∙ c.if-has-3.false, h 7 ∙ sym c.has-4.ensures ∙ c.if-has-4.false, h 0 ∙ sym c.has-5.ensures ∙ c.if-has-5.false, h 4 ∙ sym c.has-6.ensures ∙ c.if-has-6.false, h 1 ∙ sym c.has-7.ensures ∙ c.if-has-7.false, h 5 ∙ sym c.has-8.ensures ∙ c.if-has-8.true), omega arith)
 
-returns-9 : tie.Need-returns-9
+returns-9 : tie.Need-returns
 unfolding code first_of
-returns-9 c = (λ f h. rw (h 2 ∙ sym c.before.before.before.before.before.before.before.before.before.before.before.before.before.before.before.has.ensures ∙ c.before.before.before.before.before.before.before.before.before.before.before.before.before.before.if1.false, h 3 ∙ sym c.before.before.before.before.before.before.before.before.before.before.before.before.before.has2.ensures ∙ c.before.before.before.before.before.before.before.before.before.before.before.before.if2.false, h 6 ∙ sym c.before.before.before.before.before.before.before.before.before.before.before.has3.ensures ∙ c.before.before.before.before.before.before.before.before.before.before.if3.false, h 7 ∙ sym c.before.before.before.before.before.before.before.before.before.has4.ensures ∙ c.before.before.before.before.before.before.before.before.if4.false, h 0 ∙ sym c.before.before.before.before.before.before.before.has5.ensures ∙ c.before.before.before.before.before.before.if5.false, h 4 ∙ sym c.before.before.before.before.before.has6.ensures ∙ c.before.before.before.before.if6.false, h 1 ∙ sym c.before.before.before.has7.ensures ∙ c.before.before.if7.false, h 5 ∙ sym c.before.has8.ensures ∙ c.if8.false), omega arith)
+returns-9 c = (λ f h. rw (h 2 ∙ sym c.has.ensures ∙ c.if-has.false, h 3 ∙ sym c.has-2.ensures ∙ c.if-has-2.false, h 6 ∙ sym c.has-3.ensures ∙ c.if-has-3.false, h 7 ∙ sym c.has-4.ensures ∙ c.if-has-4.false, h 0 ∙ sym c.has-5.ensures ∙ c.if-has-5.false, h 4 ∙ sym c.has-6.ensures ∙ c.if-has-6.false, h 1 ∙ sym c.has-7.ensures ∙ c.if-has-7.false, h 5 ∙ sym c.has-8.ensures ∙ c.if-has-8.false), omega arith)
 
-pub first-of-spec : {M : Type 1} → statement M
-first-of-spec =
+pub first_of_spec : {M : Type 1} → statement M
+first_of_spec =
     tie.close
     (tie.spec
     has-requires

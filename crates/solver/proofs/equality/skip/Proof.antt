@@ -7,35 +7,35 @@ use borrow.Author.Rules.{rules}
 use Rattle.solver.proofs.equality.skip.Statement.{statement}
 use Rattle.solver.proofs.equality.skip.Tie as tie
 
-mul-if1 : tie.Need-overflow-mul-if1
+mul-if1 : tie.Need-offset_bounds-kinds-i
 mul-if1 c = search rules
 
-shared-slice-read-if1 : tie.Need-shared-slice-read-if1
+shared-slice-read-if1 : tie.Need-bounds-kinds-i
 shared-slice-read-if1 c = search rules
 
-returns : tie.Need-returns
-returns c = (omega arith, omega arith, λ x y. sym (span_one _ _ c.if1.true))
+returns : tie.Need-returns-then-kinds-i-lt2
+returns c = (omega arith, omega arith, λ x y. sym (span_one _ _ c.if-kinds-i-lt2.true))
 
-mul_wide : tie.Need-overflow-mul-wide
+mul_wide : tie.Need-offset_bounds-vals-i
 mul_wide c = search rules
 
-shared-slice-read-wide : tie.Need-shared-slice-read-wide
+shared-slice-read-wide : tie.Need-bounds-vals-i
 shared-slice-read-wide c = search rules
 
-wide-requires : tie.Need-wide-requires
+wide-requires : tie.Need-wide-s-requires
 wide-requires c κs = search rules
 
-returns-2 : tie.Need-returns-2
-returns-2 c = (omega arith, omega arith, λ x y. absurd (omega (arith, c.before.wide.ensures, c.if2.true, span_node (get_or c.before.before.before.before.before.before.before.args.kinds.now c.before.before.before.before.before.before.before.args.i 0) (get_or c.before.before.before.before.before.before.before.args.vals.now c.before.before.before.before.before.before.before.args.i 0) c.before.before.before.if1.false)))
+returns-2 : tie.Need-returns-then-s-eq0
+returns-2 c = (omega arith, omega arith, λ x y. absurd (omega (arith, c.wide-s.ensures, c.if-s-eq0.true, span_node (get_or c.args.kinds.now c.args.i 0) (get_or c.args.vals.now c.args.i 0) c.if-kinds-i-lt2.false)))
 
-returns-3 : tie.Need-returns-3
-returns-3 c = (omega arith, omega arith, λ x y. absurd (omega (arith, c.before.before.wide.ensures, c.if3.true, span_node (get_or c.before.before.before.before.before.before.before.before.args.kinds.now c.before.before.before.before.before.before.before.before.args.i 0) (get_or c.before.before.before.before.before.before.before.before.args.vals.now c.before.before.before.before.before.before.before.before.args.i 0) c.before.before.before.before.if1.false)))
+returns-3 : tie.Need-returns-then-room-s
+returns-3 c = (omega arith, omega arith, λ x y. absurd (omega (arith, c.wide-s.ensures, c.if-room-s.true, span_node (get_or c.args.kinds.now c.args.i 0) (get_or c.args.vals.now c.args.i 0) c.if-kinds-i-lt2.false)))
 
-returns-4 : tie.Need-returns-4
-returns-4 c = (omega arith, omega arith, λ x y. c.before.before.wide.ensures ∙ sym (span_node _ _ c.before.before.before.before.if1.false))
+returns-4 : tie.Need-returns
+returns-4 c = (omega arith, omega arith, λ x y. c.wide-s.ensures ∙ sym (span_node _ _ c.if-kinds-i-lt2.false))
 
-pub skip-spec : {M : Type 1} → statement M
-skip-spec =
+pub skip_spec : {M : Type 1} → statement M
+skip_spec =
     tie.close
     (tie.spec
     mul-if1

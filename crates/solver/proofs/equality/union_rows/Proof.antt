@@ -15,7 +15,7 @@ use borrow.Author.Rules.{rules}
 use Rattle.solver.proofs.equality.union_rows.Statement.{statement}
 use Rattle.solver.proofs.equality.union_rows.Tie as tie
 
-abbrev invariant-loop : tie.invariant-loop
+abbrev invariant-loop : tie.invariant-loop-i
 invariant-loop kinds vals bound most a ae b be work₀ from i₀ j₀ top₀ work i j top =
     (i ≤ ae)
     × (j ≤ be)
@@ -24,166 +24,156 @@ invariant-loop kinds vals bound most a ae b be work₀ from i₀ j₀ top₀ wor
     → Fair kinds vals (link_words kinds work₀) → RowWalk kinds vals (stands_for most h) (follow most h) ae be ps qs (link_words kinds work₀) i j (link_words kinds work))
     × (length work ≡ length work₀)
 
-abbrev decreases-loop : tie.decreases-loop
+abbrev decreases-loop : tie.decreases-loop-i
 decreases-loop kinds vals bound most a ae b be work₀ from i₀ j₀ top₀ work i j top = ae - i
 
-loop-holds : tie.Need-loop-init invariant-loop decreases-loop
-loop-holds c = (omega arith, omega arith, advanced_none _ _ _ _ c.before.before.before.before.requires.1, λ h ps qs e hp hq fa. walk_start _ _ (stands_for c.before.before.before.before.args.most h) (follow c.before.before.before.before.args.most h) _ _ _ _ ps qs _ hp hq fa, refl)
+loop-holds : tie.Need-loop-i-init invariant-loop decreases-loop
+loop-holds c = (omega arith, omega arith, advanced_none _ _ _ _ c.requires.1, λ h ps qs e hp hq fa. walk_start _ _ (stands_for c.args.most h) (follow c.args.most h) _ _ _ _ ps qs _ hp hq fa, refl)
 
-same_length : tie.Need-same-length invariant-loop decreases-loop
-same_length c = c.before.before.loop.invariant.4
+same_length : tie.Need-shape_of-work-then-be-j invariant-loop decreases-loop
+same_length c = c.loop-i.invariant.4
 
-returns : tie.Need-returns invariant-loop decreases-loop
+returns : tie.Need-returns-then-be-j invariant-loop decreases-loop
 returns c =
-    let s = c.before.before.before.before.before.before.before in
-    let l = c.before.before.loop in
-    (l.invariant.2, λ h ps qs e hp hq fa. no_short _ _ (stands_for s.args.most h) (follow s.args.most h) _ _ ps qs _ _ _ _ (l.invariant.3 h ps qs e hp hq fa) (omega arith) c.if1.true)
+    let l = c.loop-i in
+    (l.invariant.2, λ h ps qs e hp hq fa. no_short _ _ (stands_for c.args.most h) (follow c.args.most h) _ _ ps qs _ _ _ _ (l.invariant.3 h ps qs e hp hq fa) (omega arith) c.if-be-j.true)
 
-mul-if2 : tie.Need-overflow-mul-if2 invariant-loop decreases-loop
+mul-if2 : tie.Need-offset_bounds-kinds-i invariant-loop decreases-loop
 mul-if2 c = omega arith
 
-shared-slice-read-if2 : tie.Need-shared-slice-read-if2 invariant-loop decreases-loop
+shared-slice-read-if2 : tie.Need-bounds-kinds-i invariant-loop decreases-loop
 shared-slice-read-if2 c = omega arith
 
-mul-if3 : tie.Need-overflow-mul-if3 invariant-loop decreases-loop
+mul-if3 : tie.Need-offset_bounds-kinds-j invariant-loop decreases-loop
 mul-if3 c = omega arith
 
-shared-slice-read-if3 : tie.Need-shared-slice-read-if3 invariant-loop decreases-loop
+shared-slice-read-if3 : tie.Need-bounds-kinds-j invariant-loop decreases-loop
 shared-slice-read-if3 c = omega arith
 
-same-length-2 : tie.Need-same-length-2 invariant-loop decreases-loop
-same-length-2 c = c.before.before.before.before.before.before.loop.invariant.4
+same-length-2 : tie.Need-shape_of-work-then-kinds-j-ne0 invariant-loop decreases-loop
+same-length-2 c = c.loop-i.invariant.4
 
-returns-2 : tie.Need-returns-2 invariant-loop decreases-loop
+returns-2 : tie.Need-returns-then-kinds-j-ne0 invariant-loop decreases-loop
 returns-2 c =
-    let s = c.before.before.before.before.before.before.before.before.before.before.before in
-    let l = c.before.before.before.before.before.before.loop in
-    (l.invariant.2, λ h ps qs e hp hq fa. no_term _ _ (stands_for s.args.most h) (follow s.args.most h) _ _ ps qs _ _ _ _ (l.invariant.3 h ps qs e hp hq fa) (omega arith) (omega arith) c.before.before.if2.true c.if3.true)
+    let l = c.loop-i in
+    (l.invariant.2, λ h ps qs e hp hq fa. no_term _ _ (stands_for c.args.most h) (follow c.args.most h) _ _ ps qs _ _ _ _ (l.invariant.3 h ps qs e hp hq fa) (omega arith) (omega arith) c.if-kinds-i-eq0.true c.if-kinds-j-ne0.true)
 
-mul-if4 : tie.Need-overflow-mul-if4 invariant-loop decreases-loop
+mul-if4 : tie.Need-offset_bounds-vals-i invariant-loop decreases-loop
 mul-if4 c = omega arith
 
-shared-slice-read-if4 : tie.Need-shared-slice-read-if4 invariant-loop decreases-loop
+shared-slice-read-if4 : tie.Need-bounds-vals-i invariant-loop decreases-loop
 shared-slice-read-if4 c = omega arith
 
-mul-if4-2 : tie.Need-overflow-mul-if4-2 invariant-loop decreases-loop
+mul-if4-2 : tie.Need-offset_bounds-vals-j invariant-loop decreases-loop
 mul-if4-2 c = omega arith
 
-shared-slice-read-if4-2 : tie.Need-shared-slice-read-if4-2 invariant-loop decreases-loop
+shared-slice-read-if4-2 : tie.Need-bounds-vals-j invariant-loop decreases-loop
 shared-slice-read-if4-2 c = omega arith
 
-same-length-3 : tie.Need-same-length-3 invariant-loop decreases-loop
-same-length-3 c = c.before.before.before.before.before.before.before.before.before.loop.invariant.4
+same-length-3 : tie.Need-shape_of-work-then-vals-i invariant-loop decreases-loop
+same-length-3 c = c.loop-i.invariant.4
 
-returns-3 : tie.Need-returns-3 invariant-loop decreases-loop
+returns-3 : tie.Need-returns-then-vals-i invariant-loop decreases-loop
 returns-3 c =
-    let s = c.before.before.before.before.before.before.before.before.before.before.before.before.before.before in
-    let l = c.before.before.before.before.before.before.before.before.before.loop in
-    (l.invariant.2, λ h ps qs e hp hq fa. no_value _ _ (stands_for s.args.most h) (follow s.args.most h) _ _ ps qs _ _ _ _ (l.invariant.3 h ps qs e hp hq fa) (omega arith) (omega arith) c.before.before.before.before.before.if2.true c.before.before.before.if3.false c.if4.true)
+    let l = c.loop-i in
+    (l.invariant.2, λ h ps qs e hp hq fa. no_value _ _ (stands_for c.args.most h) (follow c.args.most h) _ _ ps qs _ _ _ _ (l.invariant.3 h ps qs e hp hq fa) (omega arith) (omega arith) c.if-kinds-i-eq0.true c.if-kinds-j-ne0.false c.if-vals-i.true)
 
-add-i : tie.Need-overflow-add-i invariant-loop decreases-loop
+add-i : tie.Need-overflow_add-i invariant-loop decreases-loop
 add-i c = omega arith
 
-add-j : tie.Need-overflow-add-j invariant-loop decreases-loop
+add-j : tie.Need-overflow_add-j invariant-loop decreases-loop
 add-j c = omega arith
 
-loop-less : tie.Need-loop-smaller invariant-loop decreases-loop
+loop-less : tie.Need-loop-i-smaller-then-kinds-i-eq0 invariant-loop decreases-loop
 loop-less c = omega arith
 
-loop-again : tie.Need-loop-preserved invariant-loop decreases-loop
+loop-again : tie.Need-loop-i-preserved-then-kinds-i-eq0 invariant-loop decreases-loop
 loop-again c =
-    let s = c.before.before.before.before.before.before.before.before.before.before.before.before.before.before in
-    let l = c.before.before.before.before.before.before.before.before.before.loop in
-    (omega arith, omega arith, l.invariant.2, λ h ps qs e hp hq fa. walk_number _ _ (stands_for s.args.most h) (follow s.args.most h) _ _ ps qs _ _ _ _ (l.invariant.3 h ps qs e hp hq fa) (omega arith) (omega arith) c.before.before.before.before.before.if2.true c.before.before.before.if3.false c.if4.false, l.invariant.4)
+    let l = c.loop-i in
+    (omega arith, omega arith, l.invariant.2, λ h ps qs e hp hq fa. walk_number _ _ (stands_for c.args.most h) (follow c.args.most h) _ _ ps qs _ _ _ _ (l.invariant.3 h ps qs e hp hq fa) (omega arith) (omega arith) c.if-kinds-i-eq0.true c.if-kinds-j-ne0.false c.if-vals-i.false, l.invariant.4)
 
-mul-if5 : tie.Need-overflow-mul-if5 invariant-loop decreases-loop
+mul-if5 : tie.Need-offset_bounds-kinds-j-else-kinds-i-eq0 invariant-loop decreases-loop
 mul-if5 c = omega arith
 
-shared-slice-read-if5 : tie.Need-shared-slice-read-if5 invariant-loop decreases-loop
+shared-slice-read-if5 : tie.Need-bounds-kinds-j-else-kinds-i-eq0 invariant-loop decreases-loop
 shared-slice-read-if5 c = omega arith
 
-same-length-4 : tie.Need-same-length-4 invariant-loop decreases-loop
-same-length-4 c = c.before.before.before.before.before.before.loop.invariant.4
+same-length-4 : tie.Need-shape_of-work-then-kinds-j-eq0 invariant-loop decreases-loop
+same-length-4 c = c.loop-i.invariant.4
 
-returns-4 : tie.Need-returns-4 invariant-loop decreases-loop
+returns-4 : tie.Need-returns-then-kinds-j-eq0 invariant-loop decreases-loop
 returns-4 c =
-    let s = c.before.before.before.before.before.before.before.before.before.before.before in
-    let l = c.before.before.before.before.before.before.loop in
-    (l.invariant.2, λ h ps qs e hp hq fa. no_number _ _ (stands_for s.args.most h) (follow s.args.most h) _ _ ps qs _ _ _ _ (l.invariant.3 h ps qs e hp hq fa) (omega arith) (omega arith) c.before.before.if2.false c.if5.true)
+    let l = c.loop-i in
+    (l.invariant.2, λ h ps qs e hp hq fa. no_number _ _ (stands_for c.args.most h) (follow c.args.most h) _ _ ps qs _ _ _ _ (l.invariant.3 h ps qs e hp hq fa) (omega arith) (omega arith) c.if-kinds-i-eq0.false c.if-kinds-j-eq0.true)
 
-union-terms-requires : tie.Need-union-terms-requires invariant-loop decreases-loop
+union-terms-requires : tie.Need-union_terms-r-requires invariant-loop decreases-loop
 union-terms-requires c κs =
-    let s = c.before.before.before.before.before.before.before.before.before.before.before.before in
-    let l = c.before.before.before.before.before.before.before.loop in
-    ((omega arith, omega arith, s.requires.0.4, s.requires.0.5), l.invariant.2.wired)
+    let l = c.loop-i in
+    ((omega arith, omega arith, c.requires.0.4, c.requires.0.5), l.invariant.2.wired)
 
-same-length-5 : tie.Need-same-length-5 invariant-loop decreases-loop
+same-length-5 : tie.Need-shape_of-work-then-not-equal invariant-loop decreases-loop
 same-length-5 c = search rules
 
-returns-5 : tie.Need-returns-5 invariant-loop decreases-loop
+returns-5 : tie.Need-returns-then-not-equal invariant-loop decreases-loop
 returns-5 c =
-    let s = c.before.before.before.before.before.before.before.before.before.before.before.before.before.before.before.before in
-    let l = c.before.before.before.before.before.before.before.before.before.before.before.loop in
-    let d = c.before.before.before.union-terms.ensures in (
+    let l = c.loop-i in
+    let d = c.union_terms-r.ensures in (
       advanced_on _ _ _ _ _ _ _ _ _ _ l.invariant.2 d.0,
-      λ h ps qs e hp hq fa. no_join _ _ (stands_for s.args.most h) (follow s.args.most h) _ _ ps qs _ _ _ _ (l.invariant.3 h ps qs e hp hq fa) _ d.0.keeps (omega arith) (omega arith) c.before.before.before.before.before.before.before.if2.false c.before.before.before.before.before.if5.false _ (λ t u ht hu. d.1 h t u e ht hu (l.invariant.3 h ps qs e hp hq fa).fair) (not-true _ c.if6.true),
+      λ h ps qs e hp hq fa. no_join _ _ (stands_for c.args.most h) (follow c.args.most h) _ _ ps qs _ _ _ _ (l.invariant.3 h ps qs e hp hq fa) _ d.0.keeps (omega arith) (omega arith) c.if-kinds-i-eq0.false c.if-kinds-j-eq0.false _ (λ t u ht hu. d.1 h t u e ht hu (l.invariant.3 h ps qs e hp hq fa).fair) (not-true _ c.if-not-equal.true-raw),
     )
 
-sub-skip : tie.Need-overflow-sub-skip invariant-loop decreases-loop
+sub-skip : tie.Need-overflow_sub-ae invariant-loop decreases-loop
 sub-skip c = omega arith
 
-skip-requires : tie.Need-skip-requires invariant-loop decreases-loop
+skip-requires : tie.Need-skip-i-requires invariant-loop decreases-loop
 skip-requires c κs = omega arith
 
-add-i-2 : tie.Need-overflow-add-i-2 invariant-loop decreases-loop
+add-i-2 : tie.Need-overflow_add-i-else-kinds-i-eq0 invariant-loop decreases-loop
 add-i-2 c = omega arith
 
-sub-skip-2 : tie.Need-overflow-sub-skip-2 invariant-loop decreases-loop
+sub-skip-2 : tie.Need-overflow_sub-be invariant-loop decreases-loop
 sub-skip-2 c = omega arith
 
-skip-requires-2 : tie.Need-skip-requires-2 invariant-loop decreases-loop
+skip-requires-2 : tie.Need-skip-j-requires invariant-loop decreases-loop
 skip-requires-2 c κs = omega arith
 
-add-j-2 : tie.Need-overflow-add-j-2 invariant-loop decreases-loop
+add-j-2 : tie.Need-overflow_add-j-else-kinds-i-eq0 invariant-loop decreases-loop
 add-j-2 c = omega arith
 
-loop-less-2 : tie.Need-loop-smaller-2 invariant-loop decreases-loop
+loop-less-2 : tie.Need-loop-i-smaller invariant-loop decreases-loop
 loop-less-2 c = omega arith
 
-loop-again-2 : tie.Need-loop-preserved-2 invariant-loop decreases-loop
+loop-again-2 : tie.Need-loop-i-preserved invariant-loop decreases-loop
 loop-again-2 c =
-    let s = c.before.before.before.before.before.before.before.before.before.before.before.before.before.before.before.before.before.before in
-    let l = c.before.before.before.before.before.before.before.before.before.before.before.before.before.loop in
-    let d = c.before.before.before.before.before.union-terms.ensures in
-    let r = c.before.skip.ensures in
-    let q = c.skip2.ensures in (
+    let l = c.loop-i in
+    let d = c.union_terms-r.ensures in
+    let r = c.skip-i.ensures in
+    let q = c.skip-j.ensures in (
       omega arith,
       omega arith,
       advanced_on _ _ _ _ _ _ _ _ _ _ l.invariant.2 d.0,
-      λ h ps qs e hp hq fa. walk_join _ _ (stands_for s.args.most h) (follow s.args.most h) _ _ ps qs _ _ _ _ (l.invariant.3 h ps qs e hp hq fa) _ d.0.keeps (omega arith) (omega arith) c.before.before.before.before.before.before.before.before.before.if2.false c.before.before.before.before.before.before.before.if5.false _ (λ t u ht hu. d.1 h t u e ht hu (l.invariant.3 h ps qs e hp hq fa).fair) (not-false _ c.before.before.if6.false) _ _ (λ x y. r.2 x (omega arith)) (λ x y. q.2 x (omega arith)),
+      λ h ps qs e hp hq fa. walk_join _ _ (stands_for c.args.most h) (follow c.args.most h) _ _ ps qs _ _ _ _ (l.invariant.3 h ps qs e hp hq fa) _ d.0.keeps (omega arith) (omega arith) c.if-kinds-i-eq0.false c.if-kinds-j-eq0.false _ (λ t u ht hu. d.1 h t u e ht hu (l.invariant.3 h ps qs e hp hq fa).fair) (not-false _ c.if-not-equal.false-raw) _ _ (λ x y. r.2 x (omega arith)) (λ x y. q.2 x (omega arith)),
       search rules,
     )
 
-same-length-6 : tie.Need-same-length-6 invariant-loop decreases-loop
-same-length-6 c = c.before.before.loop.invariant.4
+same-length-6 : tie.Need-shape_of-work-then-j-be invariant-loop decreases-loop
+same-length-6 c = c.loop-i.invariant.4
 
-returns-6 : tie.Need-returns-6 invariant-loop decreases-loop
+returns-6 : tie.Need-returns-then-j-be invariant-loop decreases-loop
 returns-6 c =
-    let s = c.before.before.before.before.before.before.before in
-    let l = c.before.before.loop in
-    (l.invariant.2, λ h ps qs e hp hq fa. no_long _ _ (stands_for s.args.most h) (follow s.args.most h) _ _ ps qs _ _ _ _ (l.invariant.3 h ps qs e hp hq fa) (omega arith) c.if7.true)
+    let l = c.loop-i in
+    (l.invariant.2, λ h ps qs e hp hq fa. no_long _ _ (stands_for c.args.most h) (follow c.args.most h) _ _ ps qs _ _ _ _ (l.invariant.3 h ps qs e hp hq fa) (omega arith) c.if-j-be.true)
 
-same-length-7 : tie.Need-same-length-7 invariant-loop decreases-loop
-same-length-7 c = c.before.before.loop.invariant.4
+same-length-7 : tie.Need-shape_of-work invariant-loop decreases-loop
+same-length-7 c = c.loop-i.invariant.4
 
-returns-7 : tie.Need-returns-7 invariant-loop decreases-loop
+returns-7 : tie.Need-returns invariant-loop decreases-loop
 returns-7 c =
-    let s = c.before.before.before.before.before.before.before in
-    let l = c.before.before.loop in
-    (l.invariant.2, λ h ps qs e hp hq fa. walk_yes _ _ (stands_for s.args.most h) (follow s.args.most h) _ _ ps qs _ _ _ _ (l.invariant.3 h ps qs e hp hq fa) (omega arith) c.if7.false)
+    let l = c.loop-i in
+    (l.invariant.2, λ h ps qs e hp hq fa. walk_yes _ _ (stands_for c.args.most h) (follow c.args.most h) _ _ ps qs _ _ _ _ (l.invariant.3 h ps qs e hp hq fa) (omega arith) c.if-j-be.false)
 
-pub union-rows-spec : {M : Type 1} → statement M
-union-rows-spec =
+pub union_rows_spec : {M : Type 1} → statement M
+union_rows_spec =
     tie.close
     (tie.spec
     invariant-loop

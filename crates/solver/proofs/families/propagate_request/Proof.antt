@@ -9,66 +9,66 @@ use borrow.Author.Rules.{rules}
 use Rattle.solver.proofs.families.propagate_request.Statement.{statement}
 use Rattle.solver.proofs.families.propagate_request.Tie as tie
 
-add-word : tie.Need-overflow-add-word
+add-word : tie.Need-overflow_add-word
 add-word c = search rules
 
-mul-word : tie.Need-overflow-mul-word
+mul-word : tie.Need-offset_bounds-tables-m
 mul-word c = search rules
 
-slice-read-word : tie.Need-slice-read-word
+slice-read-word : tie.Need-bounds-tables-m
 slice-read-word c = search rules
 
-returns : tie.Need-returns
+returns : tie.Need-returns-then-word-eq0
 returns c =
-    let a = c.before.before.before.args in
-    handed_none a.m a.v a.kind a.val a.tables.now c.if1.true
+    let a = c.args in
+    handed_none a.m a.v a.kind a.val a.tables.now c.if-word-eq0.true
 
-returns-2 : tie.Need-returns-2
+returns-2 : tie.Need-returns-then-kind-ne1
 returns-2 c =
-    let a = c.before.before.before.before.args in
-    handed_node a.m a.v a.kind a.val a.tables.now c.if2.true
+    let a = c.args in
+    handed_node a.m a.v a.kind a.val a.tables.now c.if-kind-ne1.true
 
-wide-requires : tie.Need-wide-requires
+wide-requires : tie.Need-wide-w-requires
 wide-requires c κs = search rules
 
-returns-3 : tie.Need-returns-3
+returns-3 : tie.Need-returns-then-m-w
 returns-3 c =
-    let a = c.before.before.before.before.before.before.args in
-    handed_far a.m a.v a.kind a.val a.tables.now (omega (arith, c.before.wide.ensures, c.if3.true))
+    let a = c.args in
+    handed_far a.m a.v a.kind a.val a.tables.now (omega (arith, c.wide-w.ensures, c.if-m-w.true))
 
-add-joined-word : tie.Need-overflow-add-joined-word
+add-joined-word : tie.Need-overflow_add-m
 add-joined-word c = search rules
 
-mul-joined-word : tie.Need-overflow-mul-joined-word
+mul-joined-word : tie.Need-offset_bounds-tables-m-2
 mul-joined-word c = search rules
 
-slice-read-joined-word : tie.Need-slice-read-joined-word
+slice-read-joined-word : tie.Need-bounds-tables-m-2
 slice-read-joined-word c = search rules
 
-joined-word-requires : tie.Need-joined-word-requires
+joined-word-requires : tie.Need-joined_word-requires
 joined-word-requires c κs = search rules
 
-add-tables : tie.Need-overflow-add-tables
+add-tables : tie.Need-overflow_add-tables
 add-tables c = search rules
 
-mul-tables : tie.Need-overflow-mul-tables
+mul-tables : tie.Need-offset_bounds-tables-m-3
 mul-tables c = search rules
 
-slice-write-tables : tie.Need-slice-write-tables
+slice-write-tables : tie.Need-bounds-tables-m-3
 slice-write-tables c = search rules
 
-same_length : tie.Need-same-length
+same_length : tie.Need-shape_of-tables
 same_length c = search rules
 
-returns-4 : tie.Need-returns-4
+returns-4 : tie.Need-returns
 returns-4 c =
-    let a = c.before.before.before.before.before.before.before.before.args in
-    let w = c.before.before.before.wide.ensures in
-    rw w (handed_on a.m a.v a.kind a.val a.tables.now _ c.before.before.before.before.before.if1.false c.before.before.before.before.if2.false (omega (arith, w, c.before.before.if3.false))
+    let a = c.args in
+    let w = c.wide-w.ensures in
+    rw w (handed_on a.m a.v a.kind a.val a.tables.now _ c.if-word-eq0.false c.if-kind-ne1.false (omega (arith, w, c.if-m-w.false))
     (c.joined_word.ensures ∙ ap (λ (i : ℕ). joined_word (get_or a.tables.now (a.m + a.v) 0) (get_or a.tables.now (a.m + i) 0)) w))
 
-pub propagate-request-spec : {M : Type 1} → statement M
-propagate-request-spec =
+pub propagate_request_spec : {M : Type 1} → statement M
+propagate_request_spec =
     tie.close
     (tie.spec
     add-word

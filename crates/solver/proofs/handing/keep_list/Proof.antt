@@ -4,51 +4,51 @@ use borrow.Author.Rules.{rules}
 use Rattle.solver.proofs.handing.keep_list.Statement.{statement}
 use Rattle.solver.proofs.handing.keep_list.Tie as tie
 
-keep-terms-requires : tie.Need-keep-terms-requires
+keep-terms-requires : tie.Need-keep_terms-requires
 keep-terms-requires c κs = search rules
 
-keep-receivers-requires : tie.Need-keep-receivers-requires
+keep-receivers-requires : tie.Need-keep_receivers-requires
 keep-receivers-requires c κs = search rules
 
-keep-entries-requires : tie.Need-keep-entries-requires
+keep-entries-requires : tie.Need-keep_entries-requires
 keep-entries-requires c κs = search rules
 
-same_length : tie.Need-same-length
+same_length : tie.Need-shape_of-kinds-in-0
 same_length c = search rules
 
-same-length-2 : tie.Need-same-length-2
+same-length-2 : tie.Need-shape_of-vals-in-0
 same-length-2 c = search rules
 
-returns : tie.Need-returns
+returns : tie.Need-returns-in-0
 returns c =
-    let r = c.before.before.before.before.keep-terms in
-    rw c.before.before.before.before.before.before.before.match.keys1 (record { says = r.ensures.0; areas = r.ensures.1.0; room = r.ensures.1.1 })
+    let r = c.keep_terms in
+    rw c.in-0.is (record { says = r.ensures.0; areas = r.ensures.1.0; room = r.ensures.1.1 })
 
-same-length-3 : tie.Need-same-length-3
+same-length-3 : tie.Need-shape_of-kinds-in-1
 same-length-3 c = search rules
 
-same-length-4 : tie.Need-same-length-4
+same-length-4 : tie.Need-shape_of-vals-in-1
 same-length-4 c = search rules
 
-returns-2 : tie.Need-returns-2
+returns-2 : tie.Need-returns-in-1
 returns-2 c =
-    let r = c.before.before.before.before.keep-receivers in
-    rw c.before.before.before.before.before.before.before.match.keys2 (record { says = r.ensures.0; areas = r.ensures.1.0; room = r.ensures.1.1 })
+    let r = c.keep_receivers in
+    rw c.in-1.is (record { says = r.ensures.0; areas = r.ensures.1.0; room = r.ensures.1.1 })
 
-same-length-5 : tie.Need-same-length-5
+same-length-5 : tie.Need-shape_of-kinds-in_default
 same-length-5 c = search rules
 
-same-length-6 : tie.Need-same-length-6
+same-length-6 : tie.Need-shape_of-vals-in_default
 same-length-6 c = search rules
 
-returns-3 : tie.Need-returns-3
+returns-3 : tie.Need-returns-in_default
 returns-3 c =
-    let r = c.before.before.before.before.keep-entries in
-    let n = c.before.before.before.before.before.before.before.match.rest in
-    entries_kept c.before.before.before.before.before.before.before.before.before.before.before.args.keys n.0.1 n.1 _ _ _ _ _ _ _ _ (record { says = r.ensures.0; areas = r.ensures.1.0; room = r.ensures.1.1 })
+    let r = c.keep_entries in
+    let n = c.in_default.in_default-own.rest in
+    entries_kept c.args.keys n.0.1 n.1 _ _ _ _ _ _ _ _ (record { says = r.ensures.0; areas = r.ensures.1.0; room = r.ensures.1.1 })
 
-pub keep-list-spec : {M : Type 1} → statement M
-keep-list-spec =
+pub keep_list_spec : {M : Type 1} → statement M
+keep_list_spec =
     tie.close
     (tie.spec
     keep-terms-requires

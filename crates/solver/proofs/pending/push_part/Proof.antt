@@ -7,59 +7,57 @@ use borrow.Author.Rules.{rules}
 use Rattle.solver.proofs.pending.push_part.Statement.{statement}
 use Rattle.solver.proofs.pending.push_part.Tie as tie
 
-returns : tie.Need-returns
+returns : tie.Need-returns-then-kind-eq0
 returns c =
-    let a = c.before.before.args in (
-      omega (arith, ap length (here_number a.kind a.i c.if1.true)),
-      laid_nothing _ _ (window_number a.lo a.hi a.from.child a.kind a.i c.if1.true) (window_number a.lo a.hi a.from.child a.kind a.j c.if1.true),
+    let a = c.args in (
+      omega (arith, ap length (here_number a.kind a.i c.if-kind-eq0.true)),
+      laid_nothing _ _ (window_number a.lo a.hi a.from.child a.kind a.i c.if-kind-eq0.true) (window_number a.lo a.hi a.from.child a.kind a.j c.if-kind-eq0.true),
     )
 
-add-t13 : tie.Need-overflow-add-t13
+add-t13 : tie.Need-overflow_add-result
 add-t13 c = search rules
 
-returns-2 : tie.Need-returns-2
+returns-2 : tie.Need-returns-then-child-lo
 returns-2 c =
-    let a = c.before.before.before.args in
-    let n = c.before.if1.false in (
+    let a = c.args in
+    let n = c.if-kind-eq0.false in (
       omega (arith, ap length (here_term a.kind a.i n)),
-      laid_nothing _ _ (window_before a.lo a.hi a.from.child a.kind a.i n c.if2.true) (window_before a.lo a.hi a.from.child a.kind a.j n c.if2.true),
+      laid_nothing _ _ (window_before a.lo a.hi a.from.child a.kind a.i n c.if-child-lo.true) (window_before a.lo a.hi a.from.child a.kind a.j n c.if-child-lo.true),
     )
 
-add-t14 : tie.Need-overflow-add-t14
+add-t14 : tie.Need-overflow_add-result-then-hi-child
 add-t14 c = search rules
 
-returns-3 : tie.Need-returns-3
+returns-3 : tie.Need-returns-then-hi-child
 returns-3 c =
-    let a = c.before.before.before.before.args in
-    let n = c.before.before.if1.false in (
+    let a = c.args in
+    let n = c.if-kind-eq0.false in (
       omega (arith, ap length (here_term a.kind a.i n)),
-      laid_nothing _ _ (window_behind a.lo a.hi a.from.child a.kind a.i n c.if3.true) (window_behind a.lo a.hi a.from.child a.kind a.j n c.if3.true),
+      laid_nothing _ _ (window_behind a.lo a.hi a.from.child a.kind a.i n c.if-hi-child.true) (window_behind a.lo a.hi a.from.child a.kind a.j n c.if-hi-child.true),
     )
 
-put-pair-requires : tie.Need-put-pair-requires
+put-pair-requires : tie.Need-put_pair-next-requires
 put-pair-requires c κs =
-    let s = c.before.before.before.before.before in
-    let a = s.args in
-    let wi = window-here a.lo a.hi a.from.child a.kind a.i c.before.before.before.if1.false (omega (arith, c.before.before.if2.false)) (omega (arith, c.before.if3.false)) in
-    (omega (arith, s.requires.0, ap length wi), (s.requires.1.1, s.requires.1.2))
+    let a = c.args in
+    let wi = window-here a.lo a.hi a.from.child a.kind a.i c.if-kind-eq0.false (omega (arith, c.if-child-lo.false)) (omega (arith, c.if-hi-child.false)) in
+    (omega (arith, c.requires.0, ap length wi), (c.requires.1.1, c.requires.1.2))
 
-add-t17 : tie.Need-overflow-add-t17
+add-t17 : tie.Need-overflow_add-result-2
 add-t17 c = search rules
 
-same_length : tie.Need-same-length
+same_length : tie.Need-shape_of-tables
 same_length c = search rules
 
-returns-4 : tie.Need-returns-4
+returns-4 : tie.Need-returns
 returns-4 c =
-    let s = c.before.before.before.before.before.before.before.before in
-    let a = s.args in
-    let n = c.before.before.before.before.before.before.if1.false in
-    let wi = window-here a.lo a.hi a.from.child a.kind a.i n (omega (arith, c.before.before.before.before.before.if2.false)) (omega (arith, c.before.before.before.before.if3.false)) in
-    let wj = window-here a.lo a.hi a.from.child a.kind a.j n (omega (arith, c.before.before.before.before.before.if2.false)) (omega (arith, c.before.before.before.before.if3.false)) in
-    (omega (arith, ap length (here_term a.kind a.i n)), laid_pair _ _ a.i a.j wi wj c.before.before.put-pair.ensures)
+    let a = c.args in
+    let n = c.if-kind-eq0.false in
+    let wi = window-here a.lo a.hi a.from.child a.kind a.i n (omega (arith, c.if-child-lo.false)) (omega (arith, c.if-hi-child.false)) in
+    let wj = window-here a.lo a.hi a.from.child a.kind a.j n (omega (arith, c.if-child-lo.false)) (omega (arith, c.if-hi-child.false)) in
+    (omega (arith, ap length (here_term a.kind a.i n)), laid_pair _ _ a.i a.j wi wj c.put_pair-next.ensures)
 
-pub push-part-spec : {M : Type 1} → statement M
-push-part-spec =
+pub push_part_spec : {M : Type 1} → statement M
+push_part_spec =
     tie.close
     (tie.spec
     returns

@@ -9,66 +9,65 @@ use borrow.Author.Rules.{rules}
 use Rattle.solver.proofs.reach.clear_marks.Statement.{statement}
 use Rattle.solver.proofs.reach.clear_marks.Tie as tie
 
-abbrev invariant-loop : tie.invariant-loop
+abbrev invariant-loop : tie.invariant-loop-k
 invariant-loop work₀ n top k₀ work k = Clearing (take n work) (drop n work) k × (k ≤ n) × (length work ≡ length work₀)
 
-abbrev decreases-loop : tie.decreases-loop
+abbrev decreases-loop : tie.decreases-loop-k
 decreases-loop work₀ n top k₀ work k = k
 
 -- how long the two parts are in a turn, and that its entry of the queue is a number of the table
-turn : (c : tie.After-wide invariant-loop decreases-loop) → (length (drop c.before.before.before.before.before.args.n c.before.before.before.loop.work) ≡ length c.before.before.before.loop.work - c.before.before.before.before.before.args.n)
-    × (c.before.before.before.before.before.args.n + c.before.before.before.before.before.args.n ≤ length c.before.before.before.loop.work)
-    × (get_or (drop c.before.before.before.before.before.args.n c.before.before.before.loop.work) (c.before.before.before.loop.k - 1) 0 ≡ c.wide.result) × (c.wide.result < c.before.before.before.before.before.args.n)
+turn : (c : tie.After-wide-v invariant-loop decreases-loop) → (length (drop c.args.n c.loop-k.work) ≡ length c.loop-k.work - c.args.n)
+    × (c.args.n + c.args.n ≤ length c.loop-k.work)
+    × (get_or (drop c.args.n c.loop-k.work) (c.loop-k.k - 1) 0 ≡ c.wide-v.result) × (c.wide-v.result < c.args.n)
 turn c =
-    let l = c.before.before.before.loop in
-    let n = c.before.before.before.before.before.args.n in
-    let h : n + n ≤ length l.work = omega (arith, l.invariant.2, c.before.before.before.before.before.requires.1) in
-    let e = get_or-drop n l.work (l.k - 1) 0 ∙ sym c.wide.ensures in
+    let l = c.loop-k in
+    let n = c.args.n in
+    let h : n + n ≤ length l.work = omega (arith, l.invariant.2, c.requires.1) in
+    let e = get_or-drop n l.work (l.k - 1) 0 ∙ sym c.wide-v.ensures in
     ((parts_long n l.work h).1, h, e, omega (arith, l.invariant.0.inside (l.k - 1) (omega arith), e, (parts_long n l.work h).0))
 
-loop-holds : tie.Need-loop-init invariant-loop decreases-loop
+loop-holds : tie.Need-loop-k-init invariant-loop decreases-loop
 loop-holds c =
-    let s = c.before in
-    (clearing_start s.requires.0, omega (arith, top-le s.requires.0, (parts_long s.args.n s.args.work.now s.requires.1).0), refl)
+    (clearing_start c.requires.0, omega (arith, top-le c.requires.0, (parts_long c.args.n c.args.work.now c.requires.1).0), refl)
 
-sub-k : tie.Need-overflow-sub-k invariant-loop decreases-loop
+sub-k : tie.Need-overflow_sub-k invariant-loop decreases-loop
 sub-k c = search rules
 
-add_wide : tie.Need-overflow-add-wide invariant-loop decreases-loop
-add_wide c = omega (arith, c.before.loop.invariant.1, c.before.before.before.requires.1, c.before.before.before.well-formed)
+add_wide : tie.Need-overflow_add-n invariant-loop decreases-loop
+add_wide c = omega (arith, c.loop-k.invariant.1, c.requires.1, c.well_formed)
 
-mul_wide : tie.Need-overflow-mul-wide invariant-loop decreases-loop
-mul_wide c = omega (arith, c.before.loop.invariant.1, c.before.loop.invariant.2, c.before.before.before.requires.1, c.before.before.before.well-formed)
+mul_wide : tie.Need-offset_bounds-work-n invariant-loop decreases-loop
+mul_wide c = omega (arith, c.loop-k.invariant.1, c.loop-k.invariant.2, c.requires.1, c.well_formed)
 
-slice-read-wide : tie.Need-slice-read-wide invariant-loop decreases-loop
-slice-read-wide c = omega (arith, c.before.before.loop.invariant.1, c.before.before.loop.invariant.2, c.before.before.before.before.requires.1)
+slice-read-wide : tie.Need-bounds-work-n invariant-loop decreases-loop
+slice-read-wide c = omega (arith, c.loop-k.invariant.1, c.loop-k.invariant.2, c.requires.1)
 
-wide-requires : tie.Need-wide-requires invariant-loop decreases-loop
+wide-requires : tie.Need-wide-v-requires invariant-loop decreases-loop
 wide-requires c κs = search rules
 
-add-work : tie.Need-overflow-add-work invariant-loop decreases-loop
-add-work c = omega (arith, c.before.before.before.loop.invariant.1, c.before.before.before.before.before.requires.1, c.before.before.before.before.before.well-formed)
+add-work : tie.Need-overflow_add-work invariant-loop decreases-loop
+add-work c = omega (arith, c.loop-k.invariant.1, c.requires.1, c.well_formed)
 
-mul-work : tie.Need-overflow-mul-work invariant-loop decreases-loop
-mul-work c = omega (arith, c.before.before.before.loop.invariant.1, c.before.before.before.loop.invariant.2, c.before.before.before.before.before.requires.1, c.before.before.before.before.before.well-formed)
+mul-work : tie.Need-offset_bounds-work-n-in-loop-k invariant-loop decreases-loop
+mul-work c = omega (arith, c.loop-k.invariant.1, c.loop-k.invariant.2, c.requires.1, c.well_formed)
 
-slice-write-work : tie.Need-slice-write-work invariant-loop decreases-loop
-slice-write-work c = omega (arith, c.before.before.before.loop.invariant.1, c.before.before.before.loop.invariant.2, c.before.before.before.before.before.requires.1)
+slice-write-work : tie.Need-bounds-work-n-in-loop-k invariant-loop decreases-loop
+slice-write-work c = omega (arith, c.loop-k.invariant.1, c.loop-k.invariant.2, c.requires.1)
 
-mul-work-2 : tie.Need-overflow-mul-work-2 invariant-loop decreases-loop
-mul-work-2 c = omega (arith, (turn c).3, c.before.before.before.loop.invariant.2, c.before.before.before.before.before.requires.1, c.before.before.before.before.before.well-formed)
+mul-work-2 : tie.Need-offset_bounds-work-v invariant-loop decreases-loop
+mul-work-2 c = omega (arith, (turn c).3, c.loop-k.invariant.2, c.requires.1, c.well_formed)
 
-slice-write-work-2 : tie.Need-slice-write-work-2 invariant-loop decreases-loop
-slice-write-work-2 c = omega (arith, (turn c).3, c.before.before.before.loop.invariant.2, c.before.before.before.before.before.requires.1, length-set c.before.before.before.loop.work (c.before.before.before.before.before.args.n + (c.before.before.before.loop.k - 1)) 0)
+slice-write-work-2 : tie.Need-bounds-work-v invariant-loop decreases-loop
+slice-write-work-2 c = omega (arith, (turn c).3, c.loop-k.invariant.2, c.requires.1, length-set c.loop-k.work (c.args.n + (c.loop-k.k - 1)) 0)
 
-loop-less : tie.Need-loop-smaller invariant-loop decreases-loop
+loop-less : tie.Need-loop-k-smaller invariant-loop decreases-loop
 loop-less c = search rules
 
-loop-again : tie.Need-loop-preserved invariant-loop decreases-loop
+loop-again : tie.Need-loop-k-preserved invariant-loop decreases-loop
 loop-again c =
-    let l = c.before.before.before.loop in
-    let n = c.before.before.before.before.before.args.n in
-    let v = c.wide.result in
+    let l = c.loop-k in
+    let n = c.args.n in
+    let v = c.wide-v.result in
     let t = turn c in
     let k = l.k - 1 in
     let s : Clearing (set (take n l.work) v 0) (set (drop n l.work) k 0) k = rw (← t.2) (clearing_step l.invariant.0 k (omega arith) (omega (arith, t.0, t.1, l.invariant.1))) in (
@@ -77,16 +76,16 @@ loop-again c =
       length-set (set l.work (n + k) 0) v 0 ∙ length-set l.work (n + k) 0 ∙ l.invariant.2,
     )
 
-same_length : tie.Need-same-length invariant-loop decreases-loop
+same_length : tie.Need-shape_of-work invariant-loop decreases-loop
 same_length c = search rules
 
 returns : tie.Need-returns invariant-loop decreases-loop
 returns c =
-    let z = clearing_end c.before.loop.invariant.0 (omega arith) in
-    zero_join c.before.before.before.args.n c.before.loop.work z.0 z.1
+    let z = clearing_end c.loop-k.invariant.0 (omega arith) in
+    zero_join c.args.n c.loop-k.work z.0 z.1
 
-pub clear-marks-spec : {M : Type 1} → statement M
-clear-marks-spec =
+pub clear_marks_spec : {M : Type 1} → statement M
+clear_marks_spec =
     tie.close
     (tie.spec
     invariant-loop

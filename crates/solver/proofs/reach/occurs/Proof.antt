@@ -7,24 +7,24 @@ use borrow.Author.Rules.{rules}
 use Rattle.solver.proofs.reach.occurs.Statement.{statement}
 use Rattle.solver.proofs.reach.occurs.Tie as tie
 
-wide-requires : tie.Need-wide-requires
+wide-requires : tie.Need-wide-want-requires
 wide-requires c κs = search rules
 
-add-want : tie.Need-overflow-add-want
+add-want : tie.Need-overflow_add-want
 add-want c = search rules
 
 reaches-requires : tie.Need-reaches-requires
 reaches-requires c κs = search rules
 
-same_length : tie.Need-same-length
+same_length : tie.Need-shape_of-work
 same_length c = search rules
 
 returns : tie.Need-returns
 returns c =
-    let a = c.before.before.before.before.before.before.before.before.before.args in
-    let m = c.before.before.reaches.ensures in
-    let e = ap (λ (x : ℕ). x + 1) c.before.before.before.before.wide.ensures in
+    let a = c.args in
+    let m = c.reaches.ensures in
+    let e = ap (λ (x : ℕ). x + 1) c.wide-want.ensures in
     ((λ t b n h g S f. m.1.0 t b n h g S (free_variable b _ a.v e f) ∙ asks_variable _ a.v e (resolve n b t)), m.1.1)
 
-pub occurs-spec : {M : Type 1} → statement M
-occurs-spec = tie.close (tie.spec wide-requires add-want reaches-requires same_length returns)
+pub occurs_spec : {M : Type 1} → statement M
+occurs_spec = tie.close (tie.spec wide-requires add-want reaches-requires same_length returns)

@@ -9,13 +9,13 @@ use Rattle.solver.proofs.reach.recovers.Tie as tie
 reaches-requires : tie.Need-reaches-requires
 reaches-requires c κs = search rules
 
-same_length : tie.Need-same-length
+same_length : tie.Need-shape_of-work
 same_length c = search rules
 
 returns : tie.Need-returns
 returns c =
-    let m = c.before.before.reaches.ensures in
+    let m = c.reaches.ensures in
     ((λ t b n h g S. m.1.0 t b n h g S tt ∙ asks_recovery (resolve n b t)), m.1.1)
 
-pub recovers-spec : {M : Type 1} → statement M
-recovers-spec = tie.close (tie.spec reaches-requires same_length returns)
+pub recovers_spec : {M : Type 1} → statement M
+recovers_spec = tie.close (tie.spec reaches-requires same_length returns)

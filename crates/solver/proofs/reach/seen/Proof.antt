@@ -8,35 +8,35 @@ use borrow.Author.Rules.{rules}
 use Rattle.solver.proofs.reach.seen.Statement.{statement}
 use Rattle.solver.proofs.reach.seen.Tie as tie
 
-returns : tie.Need-returns
+returns : tie.Need-returns-then-before
 returns c = search rules
 
-returns-2 : tie.Need-returns-2
+returns-2 : tie.Need-returns-then-kind-eq4
 returns-2 c =
-    let a = c.before.before.before.args in
-    counts_unknown a.want a.kind a.val c.before.if2.true c.if3.true ∙ sym (or-false a.before _ c.before.before.if1.false)
+    let a = c.args in
+    counts_unknown a.want a.kind a.val c.if-want-eq0.true c.if-kind-eq4.true ∙ sym (or-false a.before _ c.if-before.false)
 
-returns-3 : tie.Need-returns-3
+returns-3 : tie.Need-returns-then-want-eq0
 returns-3 c =
-    let a = c.before.before.before.args in
-    counts_error a.want a.kind a.val c.before.if2.true c.if3.false ∙ sym (or-false a.before _ c.before.before.if1.false)
+    let a = c.args in
+    counts_error a.want a.kind a.val c.if-want-eq0.true c.if-kind-eq4.false ∙ sym (or-false a.before _ c.if-before.false)
 
-returns-4 : tie.Need-returns-4
+returns-4 : tie.Need-returns-then-kind-ne1
 returns-4 c =
-    let a = c.before.before.before.args in
-    counts_other a.want a.kind a.val c.before.if2.false c.if4.true ∙ sym (or-false a.before _ c.before.before.if1.false)
+    let a = c.args in
+    counts_other a.want a.kind a.val c.if-want-eq0.false c.if-kind-ne1.true ∙ sym (or-false a.before _ c.if-before.false)
 
-sub-result : tie.Need-overflow-sub-result
+sub-result : tie.Need-overflow_sub-result
 sub-result c = search rules
 
 wide-requires : tie.Need-wide-requires
 wide-requires c κs = search rules
 
-returns-5 : tie.Need-returns-5
+returns-5 : tie.Need-returns
 returns-5 c =
-    let a = c.before.before.before.before.args in
-    ap (eqb (a.want - 1)) c.wide.ensures ∙ counts_same a.want a.kind a.val c.before.before.if2.false c.before.if4.false ∙ sym (or-false a.before _ c.before.before.before.if1.false)
+    let a = c.args in
+    ap (eqb (a.want - 1)) c.wide.ensures ∙ counts_same a.want a.kind a.val c.if-want-eq0.false c.if-kind-ne1.false ∙ sym (or-false a.before _ c.if-before.false)
 
-pub seen-spec : {M : Type 1} → statement M
-seen-spec =
+pub seen_spec : {M : Type 1} → statement M
+seen_spec =
     tie.close (tie.spec returns returns-2 returns-3 returns-4 sub-result wide-requires returns-5)

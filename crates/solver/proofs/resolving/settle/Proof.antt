@@ -12,7 +12,7 @@ use Rattle.solver.proofs.Laws.Resolving.FrameLaws.{entered_open, steps, steps_po
 use Rattle.solver.proofs.resolving.settle.Statement.{statement}
 use Rattle.solver.proofs.resolving.settle.Tie as tie
 
-abbrev invariant-loop : tie.invariant-loop
+abbrev invariant-loop : tie.invariant-loop-c
 invariant-loop kinds vals bound most frames₀ c₀ frames c =
     Sound kinds most frames c
     × (left kinds vals bound most frames c ≡ left kinds vals bound most frames₀ c₀)
@@ -20,79 +20,79 @@ invariant-loop kinds vals bound most frames₀ c₀ frames c =
     × Apart most frames₀ frames
     × (Bare (c₀.depth + c₀.depth) frames₀ → Bare (c.depth + c.depth) frames)
 
-abbrev decreases-loop : tie.decreases-loop
+abbrev decreases-loop : tie.decreases-loop-c
 decreases-loop kinds vals bound most frames₀ c₀ frames c = steps kinds vals bound most frames c.at c.end c.depth
 
-loop-holds : tie.Need-loop-init invariant-loop decreases-loop
-loop-holds c = (c.before.before.before.before.requires.2, refl, refl, (λ j h. refl), λ b. b)
+loop-holds : tie.Need-loop-c-init invariant-loop decreases-loop
+loop-holds c = (c.requires.2, refl, refl, (λ j h. refl), λ b. b)
 
-same_length : tie.Need-same-length invariant-loop decreases-loop
+same_length : tie.Need-shape_of-frames-then-c-eq0 invariant-loop decreases-loop
 same_length c = omega arith
 
-returns : tie.Need-returns invariant-loop decreases-loop
+returns : tie.Need-returns-then-c-eq0 invariant-loop decreases-loop
 returns c =
-    let a = c.before.before.before.before.before.before.before.before.before.args in
-    let l = c.before.before.before.before.loop in
+    let a = c.args in
+    let l = c.loop-c in
     let o = rest_over (walk one [] a.kinds.now a.vals.now a.bound.now) a.most a.kinds.now a.vals.now l.frames l.c.at l.c.end (omega arith) in
-    record { ready = record { sound = l.invariant.0; head = λ h. absurd (omega arith); over = λ _. rw c.if2.true o; alone = λ _. c.if2.true }; same = l.invariant.1; apart = l.invariant.3; bare = l.invariant.4 }
+    record { ready = record { sound = l.invariant.0; head = λ h. absurd (omega arith); over = λ _. rw c.if-c-eq0.true o; alone = λ _. c.if-c-eq0.true }; same = l.invariant.1; apart = l.invariant.3; bare = l.invariant.4 }
 
-sub-c : tie.Need-overflow-sub-c invariant-loop decreases-loop
+sub-c : tie.Need-overflow_sub-c invariant-loop decreases-loop
 sub-c c = omega arith
 
-add-i : tie.Need-overflow-add-i invariant-loop decreases-loop
+add-i : tie.Need-overflow_add-i invariant-loop decreases-loop
 add-i c = omega arith
 
-mul_wide : tie.Need-overflow-mul-wide invariant-loop decreases-loop
+mul_wide : tie.Need-offset_bounds-frames-i invariant-loop decreases-loop
 mul_wide c = omega arith
 
-slice-read-wide : tie.Need-slice-read-wide invariant-loop decreases-loop
+slice-read-wide : tie.Need-bounds-frames-i invariant-loop decreases-loop
 slice-read-wide c = omega arith
 
 wide-requires : tie.Need-wide-requires invariant-loop decreases-loop
 wide-requires c κs = omega arith
 
-add_wide : tie.Need-overflow-add-wide invariant-loop decreases-loop
+add_wide : tie.Need-overflow_add-i-then-c invariant-loop decreases-loop
 add_wide c = omega arith
 
-mul-wide-2 : tie.Need-overflow-mul-wide-2 invariant-loop decreases-loop
+mul-wide-2 : tie.Need-offset_bounds-frames-i-then-c invariant-loop decreases-loop
 mul-wide-2 c = omega arith
 
-slice-read-wide-2 : tie.Need-slice-read-wide-2 invariant-loop decreases-loop
+slice-read-wide-2 : tie.Need-bounds-frames-i-then-c invariant-loop decreases-loop
 slice-read-wide-2 c = omega arith
 
-wide-requires-2 : tie.Need-wide-requires-2 invariant-loop decreases-loop
+wide-requires-2 : tie.Need-wide-requires-then-c invariant-loop decreases-loop
 wide-requires-2 c κs = omega arith
 
-mul-frames : tie.Need-overflow-mul-frames invariant-loop decreases-loop
+mul-frames : tie.Need-offset_bounds-frames-i-then-c-2 invariant-loop decreases-loop
 mul-frames c = omega arith
 
-slice-write-frames : tie.Need-slice-write-frames invariant-loop decreases-loop
+slice-write-frames : tie.Need-bounds-frames-i-then-c-2 invariant-loop decreases-loop
 slice-write-frames c =
-    let l = c.before.before.before.before.before.before.before.before.before.before.loop in
+    let l = c.loop-c in
     omega (arith, l.invariant.0.depth, l.invariant.0.room)
 
-add-frames : tie.Need-overflow-add-frames invariant-loop decreases-loop
+add-frames : tie.Need-overflow_add-frames invariant-loop decreases-loop
 add-frames c = omega arith
 
-mul-frames-2 : tie.Need-overflow-mul-frames-2 invariant-loop decreases-loop
+mul-frames-2 : tie.Need-offset_bounds-frames-i-then-c-3 invariant-loop decreases-loop
 mul-frames-2 c = omega arith
 
-slice-write-frames-2 : tie.Need-slice-write-frames-2 invariant-loop decreases-loop
+slice-write-frames-2 : tie.Need-bounds-frames-i-then-c-3 invariant-loop decreases-loop
 slice-write-frames-2 c =
-    let l = c.before.before.before.before.before.before.before.before.before.before.loop in
+    let l = c.loop-c in
     omega (arith, l.invariant.0.depth, l.invariant.0.room, length-set l.frames (l.c.depth - 1 + (l.c.depth - 1)) 0)
 
-loop-less : tie.Need-loop-smaller invariant-loop decreases-loop
+loop-less : tie.Need-loop-c-smaller-then-c invariant-loop decreases-loop
 loop-less c =
-    let a = c.before.before.before.before.before.before.before.before.before.before.before.before.before.before.before.args in
-    let l = c.before.before.before.before.before.before.before.before.before.before.loop in
-    rw (c.before.before.wide.ensures, c.wide2.ensures) (steps_pop a.kinds.now a.vals.now a.bound.now a.most l.frames l.c.at l.c.end l.c.depth (omega arith) (omega arith))
+    let a = c.args in
+    let l = c.loop-c in
+    rw (c.wide.ensures, c.wide-then-c.ensures) (steps_pop a.kinds.now a.vals.now a.bound.now a.most l.frames l.c.at l.c.end l.c.depth (omega arith) (omega arith))
 
-loop-again : tie.Need-loop-preserved invariant-loop decreases-loop
+loop-again : tie.Need-loop-c-preserved-then-c invariant-loop decreases-loop
 loop-again c =
-    let a = c.before.before.before.before.before.before.before.before.before.before.before.before.before.before.before.args in
-    let l = c.before.before.before.before.before.before.before.before.before.before.loop in
-    rw (c.before.before.wide.ensures, c.wide2.ensures) (
+    let a = c.args in
+    let l = c.loop-c in
+    rw (c.wide.ensures, c.wide-then-c.ensures) (
       sound_pop _ _ _ _ _ _ l.invariant.0 (omega arith),
       sym (rest_pop (walk one [] a.kinds.now a.vals.now a.bound.now) a.most a.kinds.now a.vals.now l.frames l.c.at l.c.end l.c.depth (omega arith) (omega arith)) ∙ l.invariant.1,
       simp length-set l.invariant.2,
@@ -100,24 +100,24 @@ loop-again c =
       λ b. bare_pop l.frames l.c.depth (omega arith) (omega (arith, l.invariant.0.depth, l.invariant.0.room)) (l.invariant.4 b),
     )
 
-sub-enter : tie.Need-overflow-sub-enter invariant-loop decreases-loop
+sub-enter : tie.Need-overflow_sub-most invariant-loop decreases-loop
 sub-enter c = omega arith
 
-enter-requires : tie.Need-enter-requires invariant-loop decreases-loop
+enter-requires : tie.Need-enter-r-requires invariant-loop decreases-loop
 enter-requires c κs = omega arith
 
-same-length-2 : tie.Need-same-length-2 invariant-loop decreases-loop
+same-length-2 : tie.Need-shape_of-frames-then-r-eq0 invariant-loop decreases-loop
 same-length-2 c = omega arith
 
-returns-2 : tie.Need-returns-2 invariant-loop decreases-loop
+returns-2 : tie.Need-returns-then-r-eq0 invariant-loop decreases-loop
 returns-2 c =
-    let a = c.before.before.before.before.before.before.before.before.before.before.before.args in
-    let l = c.before.before.before.before.before.before.loop in
-    let i = c.before.before.enter.ensures in
+    let a = c.args in
+    let l = c.loop-c in
+    let i = c.enter-r.ensures in
     record {
       ready = record {
         sound = l.invariant.0;
-        head = λ h. rest_leaf one [] a.kinds.now a.vals.now a.bound.now a.most l.frames l.c.at l.c.end l.c.depth _ _ h i c.if3.true;
+        head = λ h. rest_leaf one [] a.kinds.now a.vals.now a.bound.now a.most l.frames l.c.at l.c.end l.c.depth _ _ h i c.if-r-eq0.true;
         over = λ h. absurd (omega (arith, l.invariant.0.order));
         alone = λ h. absurd (omega (arith, l.invariant.0.order));
       };
@@ -126,57 +126,57 @@ returns-2 c =
       bare = l.invariant.4;
     }
 
-add-i-2 : tie.Need-overflow-add-i-2 invariant-loop decreases-loop
+add-i-2 : tie.Need-overflow_add-i-else-c invariant-loop decreases-loop
 add-i-2 c = omega arith
 
-add-frames-2 : tie.Need-overflow-add-frames-2 invariant-loop decreases-loop
+add-frames-2 : tie.Need-overflow_add-frames-else-c invariant-loop decreases-loop
 add-frames-2 c = omega arith
 
-cast-frames : tie.Need-overflow-cast-frames invariant-loop decreases-loop
+cast-frames : tie.Need-overflow_cast-frames invariant-loop decreases-loop
 cast-frames c = omega arith
 
-mul-frames-3 : tie.Need-overflow-mul-frames-3 invariant-loop decreases-loop
+mul-frames-3 : tie.Need-offset_bounds-frames-i-else-c invariant-loop decreases-loop
 mul-frames-3 c = omega arith
 
-slice-write-frames-3 : tie.Need-slice-write-frames-3 invariant-loop decreases-loop
+slice-write-frames-3 : tie.Need-bounds-frames-i-else-c invariant-loop decreases-loop
 slice-write-frames-3 c =
-    let o = entered_open _ _ _ _ _ _ _ c.before.before.before.before.enter.ensures (omega arith) in
-    omega (arith, c.before.before.before.before.before.before.before.before.loop.invariant)
+    let o = entered_open _ _ _ _ _ _ _ c.enter-r.ensures (omega arith) in
+    omega (arith, c.loop-c.invariant)
 
-cast-frames-2 : tie.Need-overflow-cast-frames-2 invariant-loop decreases-loop
+cast-frames-2 : tie.Need-overflow_cast-frames-else-c invariant-loop decreases-loop
 cast-frames-2 c = omega arith
 
-add-frames-3 : tie.Need-overflow-add-frames-3 invariant-loop decreases-loop
+add-frames-3 : tie.Need-overflow_add-frames-else-c-2 invariant-loop decreases-loop
 add-frames-3 c = omega arith
 
-mul-frames-4 : tie.Need-overflow-mul-frames-4 invariant-loop decreases-loop
+mul-frames-4 : tie.Need-offset_bounds-frames-i-else-c-2 invariant-loop decreases-loop
 mul-frames-4 c = omega arith
 
-slice-write-frames-4 : tie.Need-slice-write-frames-4 invariant-loop decreases-loop
+slice-write-frames-4 : tie.Need-bounds-frames-i-else-c-2 invariant-loop decreases-loop
 slice-write-frames-4 c =
-    let l = c.before.before.before.before.before.before.before.before.before.loop in
-    let o = entered_open _ _ _ _ _ _ _ c.before.before.before.before.before.enter.ensures (omega arith) in
+    let l = c.loop-c in
+    let o = entered_open _ _ _ _ _ _ _ c.enter-r.ensures (omega arith) in
     omega (arith, l.invariant, length-set l.frames (l.c.depth + l.c.depth) (l.c.at + 1))
 
-add-c : tie.Need-overflow-add-c invariant-loop decreases-loop
+add-c : tie.Need-overflow_add-c invariant-loop decreases-loop
 add-c c = omega arith
 
-add-c-2 : tie.Need-overflow-add-c-2 invariant-loop decreases-loop
+add-c-2 : tie.Need-overflow_add-c-else-c invariant-loop decreases-loop
 add-c-2 c = omega arith
 
-loop-less-2 : tie.Need-loop-smaller-2 invariant-loop decreases-loop
+loop-less-2 : tie.Need-loop-c-smaller invariant-loop decreases-loop
 loop-less-2 c =
-    let a = c.before.before.before.before.before.before.before.before.before.before.before.before.before.before.before.before.args in
-    let l = c.before.before.before.before.before.before.before.before.before.before.before.loop in
-    let o = entered_open _ _ _ _ _ _ _ c.before.before.before.before.before.before.before.enter.ensures (omega arith) in
-    steps_into a.kinds.now a.vals.now a.bound.now a.most l.frames l.c.at l.c.end l.c.depth _ _ (omega (arith, l.invariant)) c.before.before.before.before.before.before.before.enter.ensures (omega arith) (omega (arith, l.invariant))
+    let a = c.args in
+    let l = c.loop-c in
+    let o = entered_open _ _ _ _ _ _ _ c.enter-r.ensures (omega arith) in
+    steps_into a.kinds.now a.vals.now a.bound.now a.most l.frames l.c.at l.c.end l.c.depth _ _ (omega (arith, l.invariant)) c.enter-r.ensures (omega arith) (omega (arith, l.invariant))
 
-loop-again-2 : tie.Need-loop-preserved-2 invariant-loop decreases-loop
+loop-again-2 : tie.Need-loop-c-preserved invariant-loop decreases-loop
 loop-again-2 c =
-    let a = c.before.before.before.before.before.before.before.before.before.before.before.before.before.before.before.before.args in
-    let l = c.before.before.before.before.before.before.before.before.before.before.before.loop in
-    let i = c.before.before.before.before.before.before.before.enter.ensures in
-    let o = entered_open _ _ _ _ _ _ _ c.before.before.before.before.before.before.before.enter.ensures (omega arith) in (
+    let a = c.args in
+    let l = c.loop-c in
+    let i = c.enter-r.ensures in
+    let o = entered_open _ _ _ _ _ _ _ c.enter-r.ensures (omega arith) in (
       sound_push _ _ _ _ _ _ _ _ l.invariant.0 (omega (arith, l.invariant)) (omega arith) i.within,
       sym (rest_into one [] a.kinds.now a.vals.now a.bound.now a.most l.frames l.c.at l.c.end l.c.depth _ _ (omega (arith, l.invariant)) i (omega arith) (omega (arith, l.invariant))) ∙ l.invariant.1,
       simp length-set l.invariant.2,
@@ -184,8 +184,8 @@ loop-again-2 c =
       λ b. bare_push l.frames l.c.depth (l.c.at + 1) l.c.end (l.invariant.4 b),
     )
 
-pub settle-spec : {M : Type 1} → statement M
-settle-spec =
+pub settle_spec : {M : Type 1} → statement M
+settle_spec =
     tie.close
     (tie.spec
     invariant-loop

@@ -10,31 +10,31 @@ use Rattle.solver.proofs.Laws.Resolving.ResolvedLaws.{named_bytes, resolved_byte
 use Rattle.solver.proofs.resolving.write_resolved.Statement.{statement}
 use Rattle.solver.proofs.resolving.write_resolved.Tie as tie
 
-add-named-run : tie.Need-overflow-add-named-run
+add-named-run : tie.Need-overflow_add-p
 add-named-run c = search rules
 
-named-run-requires : tie.Need-named-run-requires
+named-run-requires : tie.Need-named_run-run-requires
 named-run-requires c κs = search rules
 
-write-walked-requires : tie.Need-write-walked-requires
+write-walked-requires : tie.Need-write_walked-requires
 write-walked-requires c κs =
-    let a = c.before.before.before.before.before.before.before.before.args in
-    let q = c.before.before.before.before.before.before.before.before.requires in
-    let n = c.before.before.named-run.ensures in
+    let a = c.args in
+    let q = c.requires in
+    let n = c.named_run-run.ensures in
     let e = named_bytes a.kinds.now a.vals.now a.bound.now a.most a.p _ _ n in
     ((q.0.0, q.0.1, n.within, q.0.2), omega (arith, ap length e, q.1.1))
 
-same_length : tie.Need-same-length
+same_length : tie.Need-shape_of-frames
 same_length c = search rules
 
-same-length-2 : tie.Need-same-length-2
+same-length-2 : tie.Need-shape_of-out
 same-length-2 c = search rules
 
 returns : tie.Need-returns
 returns c =
-    let a = c.before.before.before.before.before.before.before.before.before.before.before.before.before.args in
-    let w = c.before.before.before.before.write-walked.ensures in
-    let e = named_bytes a.kinds.now a.vals.now a.bound.now a.most a.p _ _ c.before.before.before.before.before.before.before.named-run.ensures in (
+    let a = c.args in
+    let w = c.write_walked.ensures in
+    let e = named_bytes a.kinds.now a.vals.now a.bound.now a.most a.p _ _ c.named_run-run.ensures in (
       w.0 ∙ ap (λ (l : List ℕ). a.to + length l) e,
       (
         w.1.0 ∙ ap (λ (l : List ℕ). sets a.out.now a.to l) e,
@@ -45,8 +45,8 @@ returns c =
       ),
     )
 
-pub write-resolved-spec : {M : Type 1} → statement M
-write-resolved-spec =
+pub write_resolved_spec : {M : Type 1} → statement M
+write_resolved_spec =
     tie.close
     (tie.spec
     add-named-run

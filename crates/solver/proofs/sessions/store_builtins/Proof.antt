@@ -8,68 +8,68 @@ use borrow.Author.Rules.{rules}
 use Rattle.solver.proofs.sessions.store_builtins.Statement.{statement}
 use Rattle.solver.proofs.sessions.store_builtins.Tie as tie
 
-abbrev invariant-loop : tie.invariant-loop
+abbrev invariant-loop : tie.invariant-loop-n
 invariant-loop a₀ b₀ n₀ a b n = Stored a b n
 
-abbrev decreases-loop : tie.decreases-loop
+abbrev decreases-loop : tie.decreases-loop-n
 decreases-loop a₀ b₀ n₀ a b n = 32 - n
 
-loop-holds : tie.Need-loop-init invariant-loop decreases-loop
+loop-holds : tie.Need-loop-n-init invariant-loop decreases-loop
 loop-holds c = stored_none _ _ c.requires.0 c.requires.1
 
-add_at : tie.Need-overflow-add-at invariant-loop decreases-loop
+add_at : tie.Need-overflow_add-at invariant-loop decreases-loop
 add_at c = search rules
 
-add-next : tie.Need-overflow-add-next invariant-loop decreases-loop
+add-next : tie.Need-overflow_add-next invariant-loop decreases-loop
 add-next c = search rules
 
-mul-a : tie.Need-overflow-mul-a invariant-loop decreases-loop
+mul-a : tie.Need-offset_bounds-a-at invariant-loop decreases-loop
 mul-a c = search rules
 
-slice-write-a : tie.Need-slice-write-a invariant-loop decreases-loop
-slice-write-a c = omega (arith, c.before.loop.invariant.a_long)
+slice-write-a : tie.Need-bounds-a-at invariant-loop decreases-loop
+slice-write-a c = omega (arith, c.loop-n.invariant.a_long)
 
-mul-a-2 : tie.Need-overflow-mul-a-2 invariant-loop decreases-loop
+mul-a-2 : tie.Need-offset_bounds-a-next invariant-loop decreases-loop
 mul-a-2 c = search rules
 
-slice-write-a-2 : tie.Need-slice-write-a-2 invariant-loop decreases-loop
-slice-write-a-2 c = simp length-set (omega (arith, c.before.loop.invariant.a_long))
+slice-write-a-2 : tie.Need-bounds-a-next invariant-loop decreases-loop
+slice-write-a-2 c = simp length-set (omega (arith, c.loop-n.invariant.a_long))
 
-mul-b : tie.Need-overflow-mul-b invariant-loop decreases-loop
+mul-b : tie.Need-offset_bounds-b-at invariant-loop decreases-loop
 mul-b c = search rules
 
-slice-write-b : tie.Need-slice-write-b invariant-loop decreases-loop
-slice-write-b c = omega (arith, c.before.loop.invariant.b_long)
+slice-write-b : tie.Need-bounds-b-at invariant-loop decreases-loop
+slice-write-b c = omega (arith, c.loop-n.invariant.b_long)
 
-cast-b : tie.Need-overflow-cast-b invariant-loop decreases-loop
+cast-b : tie.Need-overflow_cast-b invariant-loop decreases-loop
 cast-b c = search rules
 
-mul-b-2 : tie.Need-overflow-mul-b-2 invariant-loop decreases-loop
+mul-b-2 : tie.Need-offset_bounds-b-next invariant-loop decreases-loop
 mul-b-2 c = search rules
 
-slice-write-b-2 : tie.Need-slice-write-b-2 invariant-loop decreases-loop
-slice-write-b-2 c = simp length-set (omega (arith, c.before.loop.invariant.b_long))
+slice-write-b-2 : tie.Need-bounds-b-next invariant-loop decreases-loop
+slice-write-b-2 c = simp length-set (omega (arith, c.loop-n.invariant.b_long))
 
-add-n : tie.Need-overflow-add-n invariant-loop decreases-loop
+add-n : tie.Need-overflow_add-n invariant-loop decreases-loop
 add-n c = search rules
 
-loop-less : tie.Need-loop-smaller invariant-loop decreases-loop
+loop-less : tie.Need-loop-n-smaller invariant-loop decreases-loop
 loop-less c = omega arith
 
-loop-again : tie.Need-loop-preserved invariant-loop decreases-loop
-loop-again c = stored_more _ _ _ c.before.loop.invariant c.loop-test.true
+loop-again : tie.Need-loop-n-preserved invariant-loop decreases-loop
+loop-again c = stored_more _ _ _ c.loop-n.invariant c.loop-n-test.true
 
-same_length : tie.Need-same-length invariant-loop decreases-loop
-same_length c = c.before.loop.invariant.a_long ∙ sym c.before.before.requires.0
+same_length : tie.Need-shape_of-a invariant-loop decreases-loop
+same_length c = c.loop-n.invariant.a_long ∙ sym c.requires.0
 
-same-length-2 : tie.Need-same-length-2 invariant-loop decreases-loop
-same-length-2 c = c.before.loop.invariant.b_long ∙ sym c.before.before.requires.1
+same-length-2 : tie.Need-shape_of-b invariant-loop decreases-loop
+same-length-2 c = c.loop-n.invariant.b_long ∙ sym c.requires.1
 
 returns : tie.Need-returns invariant-loop decreases-loop
-returns c = stored_all _ _ _ c.before.loop.invariant (omega arith)
+returns c = stored_all _ _ _ c.loop-n.invariant (omega arith)
 
-pub store-builtins-spec : {M : Type 1} → statement M
-store-builtins-spec =
+pub store_builtins_spec : {M : Type 1} → statement M
+store_builtins_spec =
     tie.close
     (tie.spec
     invariant-loop
