@@ -7,46 +7,46 @@ use borrow.Author.Rules.{rules}
 use Rattle.sheet.proofs.fields.keep_part.Statement.{statement}
 use Rattle.sheet.proofs.fields.keep_part.Tie as tie
 
-read-part-requires : tie.Need-read-part-requires
+read-part-requires : tie.Need-read_part-requires
 read-part-requires c κs = search rules
 
-keys-of-requires : tie.Need-keys-of-requires
+keys-of-requires : tie.Need-keys_of-requires
 keys-of-requires c κs = search rules
 
-read-list-requires : tie.Need-read-list-requires
+read-list-requires : tie.Need-read_list-requires
 read-list-requires c κs = search rules
 
-same_length : tie.Need-same-length
+same_length : tie.Need-shape_of-kinds-in-4
 same_length c = search rules
 
-same-length-2 : tie.Need-same-length-2
+same-length-2 : tie.Need-shape_of-vals-in-4
 same-length-2 c = search rules
 
-returns : tie.Need-returns
+returns : tie.Need-returns-in-4
 returns c =
     λ ws.
-    let a = c.before.before.before.before.before.before.before.before.before.before.before.before.before.before.before.args in
-    let r = c.before.before.before.before.read-part in
-    either_told a.s.now ws a.issued (place a.at.now a.top.now a.nodes.now a.limit) (area a.kinds.now a.vals.now) (area r.new.1.0 r.new.1.1.0) c.before.before.before.before.before.before.before.before.before.before.before.before.before.before.before.requires.1 a.count
-    r.result r.new.1.1.1.0 r.new.1.1.1.1.0 r.new.1.1.1.1.1.0 a.sort c.before.before.before.before.before.before.before.before.before.before.before.if1.false c.before.before.before.before.before.before.before.before.before.before.if2.true r.ensures
+    let a = c.args in
+    let r = c.read_part in
+    either_told a.s.now ws a.issued (place a.at.now a.top.now a.nodes.now a.limit) (area a.kinds.now a.vals.now) (area c.read_part.new.kinds c.read_part.new.vals) c.requires.1 a.count
+    r.result c.read_part.new.at c.read_part.new.top c.read_part.new.nodes a.sort c.in-4.if-sort-lt4-own.false c.in-4.if-sort-lt6-own.true r.ensures
 
-same-length-3 : tie.Need-same-length-3
+same-length-3 : tie.Need-shape_of-kinds-in_default
 same-length-3 c = search rules
 
-same-length-4 : tie.Need-same-length-4
+same-length-4 : tie.Need-shape_of-vals-in_default
 same-length-4 c = search rules
 
-returns-2 : tie.Need-returns-2
+returns-2 : tie.Need-returns-in_default
 returns-2 c =
     λ ws.
-    let a = c.before.before.before.before.before.before.before.before.before.before.before.before.before.before.before.args in
-    let r = c.before.before.before.before.read-list in
-    list_told a.s.now ws a.issued (place a.at.now a.top.now a.nodes.now a.limit) (area a.kinds.now a.vals.now) (area r.new.1.0 r.new.1.1.0) c.before.before.before.before.before.before.before.before.before.before.before.before.before.before.before.requires.1 a.count
-    r.result r.new.1.1.1.0 r.new.1.1.1.1.0 r.new.1.1.1.1.1.0 a.sort c.before.before.before.before.before.keys_of.result
-    (⊎_elim (λ v. inl v.taken) (λ v. inr v.1.left) c.before.before.before.before.before.before.before.before.before.before.before.if1.branch) c.before.before.before.before.before.keys_of.ensures r.ensures
+    let a = c.args in
+    let r = c.read_list in
+    list_told a.s.now ws a.issued (place a.at.now a.top.now a.nodes.now a.limit) (area a.kinds.now a.vals.now) (area c.read_list.new.kinds c.read_list.new.vals) c.requires.1 a.count
+    r.result c.read_list.new.at c.read_list.new.top c.read_list.new.nodes a.sort c.keys_of.result
+    (⊎_elim (λ v. inl v.taken) (λ v. inr v.1.left) c.in_default.branch) c.keys_of.ensures r.ensures
 
-pub keep-part-spec : {M : Type 1} → statement M
-keep-part-spec =
+pub keep_part_spec : {M : Type 1} → statement M
+keep_part_spec =
     tie.close
     (tie.spec
     read-part-requires

@@ -11,79 +11,79 @@ use borrow.Author.Rules.{rules}
 use Rattle.sheet.proofs.fields.read_plain.Statement.{statement}
 use Rattle.sheet.proofs.fields.read_plain.Tie as tie
 
-number-at-requires : tie.Need-number-at-requires
+number-at-requires : tie.Need-number_at-requires
 number-at-requires c κs = search rules
 
-code-field-requires : tie.Need-code-field-requires
-code-field-requires c κs = c.before.before.before.before.before.before.requires.0.inside
+code-field-requires : tie.Need-code_field-requires
+code-field-requires c κs = c.requires.0.inside
 
-parameters-field-requires : tie.Need-parameters-field-requires
-parameters-field-requires c κs = c.before.before.before.before.before.before.before.requires.0.inside
+parameters-field-requires : tie.Need-parameters_field-requires
+parameters-field-requires c κs = c.requires.0.inside
 
-bound-field-requires : tie.Need-bound-field-requires
-bound-field-requires c κs = c.before.before.before.before.before.before.before.requires.0.inside
+bound-field-requires : tie.Need-bound_field-requires
+bound-field-requires c κs = c.requires.0.inside
 
-list-field-requires : tie.Need-list-field-requires
+list-field-requires : tie.Need-list_field-requires
 list-field-requires c κs = search rules
 
-tree-field-requires : tie.Need-tree-field-requires
+tree-field-requires : tie.Need-tree_field-requires
 tree-field-requires c κs = search rules
 
-returns : tie.Need-returns
+returns : tie.Need-returns-in-1
 unfolding plain_of field
 returns c =
-    let a = c.before.before.before.before.before.before.before.args in
+    let a = c.args in
     let d = area a.kinds.now a.vals.now in
-    λ ws. rw c.before.before.before.match.keys1 (value_said a.s.now 4294967295 a.at.now a.value.now c.number_at.result c.number_at.new.1.0 c.number_at.new.1.1.0 c.before.before.before.before.before.before.before.requires.0.inside c.number_at.ensures a.start.now a.end.now a.top.now a.nodes.now a.limit ws d c.before.before.before.before.before.before.before.requires.1)
+    λ ws. rw c.in-1.is (value_said a.s.now 4294967295 a.at.now a.value.now c.number_at.result c.number_at.new.at c.number_at.new.value c.requires.0.inside c.number_at.ensures a.start.now a.end.now a.top.now a.nodes.now a.limit ws d c.requires.1)
 
-returns-2 : tie.Need-returns-2
+returns-2 : tie.Need-returns-in-3
 unfolding plain_of field
 returns-2 c =
-    let a = c.before.before.before.before.before.before.before.args in
+    let a = c.args in
     let d = area a.kinds.now a.vals.now in
-    λ ws. rw c.before.before.before.match.keys3 (c.code-field.ensures a.start.now a.end.now a.top.now a.nodes.now a.limit ws d c.before.before.before.before.before.before.before.requires.1)
+    λ ws. rw c.in-3.is (c.code_field.ensures a.start.now a.end.now a.top.now a.nodes.now a.limit ws d c.requires.1)
 
-returns-3 : tie.Need-returns-3
+returns-3 : tie.Need-returns-in-8
 unfolding plain_of field
 returns-3 c =
-    let a = c.before.before.before.before.before.before.before.before.args in
+    let a = c.args in
     let d = area a.kinds.now a.vals.now in
-    λ ws. rw c.before.before.before.before.match.keys4 (c.parameters-field.ensures a.end.now a.top.now a.nodes.now a.limit ws d c.before.before.before.before.before.before.before.before.requires.1)
+    λ ws. rw c.in-8.is (c.parameters_field.ensures a.end.now a.top.now a.nodes.now a.limit ws d c.requires.1)
 
-returns-4 : tie.Need-returns-4
+returns-4 : tie.Need-returns-in-11
 unfolding plain_of field
 returns-4 c =
-    let a = c.before.before.before.before.before.before.before.before.args in
+    let a = c.args in
     let d = area a.kinds.now a.vals.now in
-    λ ws. rw c.before.before.before.before.match.keys5 (c.bound-field.ensures a.end.now a.top.now a.nodes.now a.limit ws d c.before.before.before.before.before.before.before.before.requires.1)
+    λ ws. rw c.in-11.is (c.bound_field.ensures a.end.now a.top.now a.nodes.now a.limit ws d c.requires.1)
 
-same_length : tie.Need-same-length
+same_length : tie.Need-shape_of-kinds-in_default
 same_length c = search rules
 
-same-length-2 : tie.Need-same-length-2
+same-length-2 : tie.Need-shape_of-vals-in_default
 same-length-2 c = search rules
 
-returns-5 : tie.Need-returns-5
+returns-5 : tie.Need-returns-in_default
 returns-5 c =
-    let a = c.before.before.before.before.before.before.before.before.before.before.before.before.before.before.before.before.before.before.args in
-    let h : (a.sort < 1) ⊎ (6 ≤ a.sort) = ⊎_elim (λ v. inl v.taken) (λ v. inr v.1.left) c.before.before.before.before.before.before.before.before.before.before.before.before.before.if1.branch in
-    let r = c.before.before.before.before.before.before.before.before.before.before.before.before.before.before.match.rest in
-    λ ws. rw (plain_list a.s.now a.issued a.sort a.at.now h r.0.1 r.1) (c.before.before.before.before.list_field_lem.ensures ws)
+    let a = c.args in
+    let h : (a.sort < 1) ⊎ (6 ≤ a.sort) = ⊎_elim (λ v. inl v.taken) (λ v. inr v.1.left) c.in_default.branch in
+    let r = c.in_default-1.rest in
+    λ ws. rw (plain_list a.s.now a.issued a.sort a.at.now h r.0.1 r.1) (c.list_field.ensures ws)
 
-same-length-3 : tie.Need-same-length-3
+same-length-3 : tie.Need-shape_of-kinds-in-2
 same-length-3 c = search rules
 
-same-length-4 : tie.Need-same-length-4
+same-length-4 : tie.Need-shape_of-vals-in-2
 same-length-4 c = search rules
 
-returns-6 : tie.Need-returns-6
+returns-6 : tie.Need-returns-in-2
 returns-6 c =
-    let a = c.before.before.before.before.before.before.before.before.before.before.before.before.before.before.before.before.before.args in
-    let h : (a.sort ≡ 2) ⊎ ((3 < a.sort) × (a.sort < 6)) = ⊎_elim (λ v. inl v.keys2) (λ v. inr (omega (arith, v.1.left, v.0.rest.0.0.0.0.1, v.0.rest.0.0.0.1, v.0.rest.0.0.1), v.2.taken)) c.before.before.before.before.before.before.before.before.before.before.before.before.before.match.branch in
-    λ ws. rw (plain_tree a.s.now a.issued a.sort a.at.now h) (c.before.before.before.before.tree-field.ensures ws)
+    let a = c.args in
+    let h : (a.sort ≡ 2) ⊎ ((3 < a.sort) × (a.sort < 6)) = ⊎_elim (λ v. inl v.keys2) (λ v. inr (omega (arith, v.1.left, v.0.rest.0.0.0.0.1, v.0.rest.0.0.0.1, v.0.rest.0.0.1), v.2.taken)) c.in-2-1.branch in
+    λ ws. rw (plain_tree a.s.now a.issued a.sort a.at.now h) (c.tree_field.ensures ws)
 
-pub read-plain-spec : {M : Type 1} → statement M
-read-plain-spec =
+pub read_plain_spec : {M : Type 1} → statement M
+read_plain_spec =
     tie.close
     (tie.spec
     number-at-requires

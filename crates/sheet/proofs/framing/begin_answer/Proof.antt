@@ -11,66 +11,66 @@ use borrow.Author.Rules.{rules}
 use Rattle.sheet.proofs.framing.begin_answer.Statement.{statement}
 use Rattle.sheet.proofs.framing.begin_answer.Tie as tie
 
-sub-if1 : tie.Need-overflow-sub-if1
+sub-if1 : tie.Need-overflow_sub-out
 sub-if1 c = search rules
 
-add-result : tie.Need-overflow-add-result
+add-result : tie.Need-overflow_add-result
 add-result c = search rules
 
-returns : tie.Need-returns
+returns : tie.Need-returns-then-out-to
 returns c =
-    let a = c.before.before.args in
+    let a = c.args in
     unbegun a.size a.out.now a.to (omega arith)
 
-add-number-len : tie.Need-overflow-add-number-len
+add-number-len : tie.Need-overflow_add-size
 add-number-len c = search rules
 
-number-len-requires : tie.Need-number-len-requires
+number-len-requires : tie.Need-number_len-n-requires
 number-len-requires c κs = search rules
 
-sub-if2 : tie.Need-overflow-sub-if2
+sub-if2 : tie.Need-overflow_sub-out-2
 sub-if2 c = search rules
 
-add-if2 : tie.Need-overflow-add-if2
-add-if2 c = omega (arith, c.number-len.ensures, short_word (c.before.before.before.args.size + 1) (omega arith))
+add-if2 : tie.Need-overflow_add-n
+add-if2 c = omega (arith, c.number_len-n.ensures, short_word (c.args.size + 1) (omega arith))
 
-add-if2-2 : tie.Need-overflow-add-if2-2
-add-if2-2 c = omega (arith, c.number-len.ensures, short_word (c.before.before.before.args.size + 1) (omega arith))
+add-if2-2 : tie.Need-overflow_add-n-2
+add-if2-2 c = omega (arith, c.number_len-n.ensures, short_word (c.args.size + 1) (omega arith))
 
-add-result-2 : tie.Need-overflow-add-result-2
+add-result-2 : tie.Need-overflow_add-result-then-out-to-2
 add-result-2 c = search rules
 
-returns-2 : tie.Need-returns-2
+returns-2 : tie.Need-returns-then-out-to-2
 returns-2 c =
-    let a = c.before.before.before.before.args in
+    let a = c.args in
     let e = ap (λ (k : ℕ). length (shortest k)) (add-one a.size) in
-    unbegun a.size a.out.now a.to (omega (arith, e, c.before.number-len.ensures))
+    unbegun a.size a.out.now a.to (omega (arith, e, c.number_len-n.ensures))
 
-add-write-number : tie.Need-overflow-add-write-number
+add-write-number : tie.Need-overflow_add-size-2
 add-write-number c = search rules
 
-write-number-requires : tie.Need-write-number-requires
+write-number-requires : tie.Need-write_number-i-requires
 write-number-requires c κs = search rules
 
-slice-write-out : tie.Need-slice-write-out
+slice-write-out : tie.Need-bounds-out-i
 slice-write-out c = search rules
 
-add-result-3 : tie.Need-overflow-add-result-3
+add-result-3 : tie.Need-overflow_add-result-2
 add-result-3 c = search rules
 
-same_length : tie.Need-same-length
+same_length : tie.Need-shape_of-out
 same_length c = search rules
 
-returns-3 : tie.Need-returns-3
+returns-3 : tie.Need-returns
 returns-3 c =
-    let a = c.before.before.before.before.before.before.before.before.args in
+    let a = c.args in
     let e = ap (λ (k : ℕ). length (shortest k)) (add-one a.size) in
-    let n = c.before.before.before.before.before.number-len.ensures in
-    let w = c.before.before.write-number.ensures in
+    let n = c.number_len-n.ensures in
+    let w = c.write_number-i.ensures in
     begun a.size a.out.now a.to _ _ (omega (arith, e, n)) (w.0 ∙ ap (λ (k : ℕ). a.to + length (shortest k)) (add-one a.size)) (rw (← add-one a.size, ← w.1) refl)
 
-pub begin-answer-spec : {M : Type 1} → statement M
-begin-answer-spec =
+pub begin_answer_spec : {M : Type 1} → statement M
+begin_answer_spec =
     tie.close
     (tie.spec
     sub-if1

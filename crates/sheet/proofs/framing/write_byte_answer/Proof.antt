@@ -9,45 +9,45 @@ use borrow.Author.Rules.{rules}
 use Rattle.sheet.proofs.framing.write_byte_answer.Statement.{statement}
 use Rattle.sheet.proofs.framing.write_byte_answer.Tie as tie
 
-sub-if1 : tie.Need-overflow-sub-if1
+sub-if1 : tie.Need-overflow_sub-out
 sub-if1 c = search rules
 
-add-result : tie.Need-overflow-add-result
+add-result : tie.Need-overflow_add-result
 add-result c = search rules
 
-returns : tie.Need-returns
+returns : tie.Need-returns-then-out-to-lt3
 returns c =
-    let a = c.before.args in
+    let a = c.args in
     frame_over (outcome (a.a ∷ [])) _ (one_frame a.a) a.out.now a.to _ _ (omega arith) refl refl
 
-slice-write-out : tie.Need-slice-write-out
+slice-write-out : tie.Need-bounds-out-to
 slice-write-out c = search rules
 
-add-out : tie.Need-overflow-add-out
+add-out : tie.Need-overflow_add-out
 add-out c = search rules
 
-slice-write-out-2 : tie.Need-slice-write-out-2
+slice-write-out-2 : tie.Need-bounds-out-to-2
 slice-write-out-2 c = simp length-set (omega arith)
 
-add-out-2 : tie.Need-overflow-add-out-2
+add-out-2 : tie.Need-overflow_add-out-2
 add-out-2 c = search rules
 
-slice-write-out-3 : tie.Need-slice-write-out-3
+slice-write-out-3 : tie.Need-bounds-out-to-3
 slice-write-out-3 c = simp length-set (omega arith)
 
-add-result-2 : tie.Need-overflow-add-result-2
+add-result-2 : tie.Need-overflow_add-result-2
 add-result-2 c = search rules
 
-same_length : tie.Need-same-length
+same_length : tie.Need-shape_of-out
 same_length c = search rules
 
-returns-2 : tie.Need-returns-2
+returns-2 : tie.Need-returns
 returns-2 c =
-    let a = c.before.args in
+    let a = c.args in
     frame_fits (outcome (a.a ∷ [])) _ (one_frame a.a) a.out.now a.to _ _ (omega arith) refl (three_stores a.out.now a.to _ _ _)
 
-pub write-byte-answer-spec : {M : Type 1} → statement M
-write-byte-answer-spec =
+pub write_byte_answer_spec : {M : Type 1} → statement M
+write_byte_answer_spec =
     tie.close
     (tie.spec
     sub-if1

@@ -13,82 +13,82 @@ use borrow.Author.Rules.{rules}
 use Rattle.sheet.proofs.operations.applied.Statement.{statement}
 use Rattle.sheet.proofs.operations.applied.Tie as tie
 
-write-byte-answer-requires : tie.Need-write-byte-answer-requires
+write-byte-answer-requires : tie.Need-write_byte_answer-requires
 write-byte-answer-requires c κs = search rules
 
-same_length : tie.Need-same-length
+same_length : tie.Need-shape_of-out-then-b-given
 same_length c = search rules
 
-returns : tie.Need-returns
+returns : tie.Need-returns-then-b-given
 returns c =
     λ t es rs ps ts x.
-    frame_as _ _ (ap outcome (sym (apply_none ps t es rs ts (λ h. c.before.before.before.before.if1.true (x.parameters ∙ sym h ∙ sym x.many))))) _ _ _ _ c.before.before.write-byte-answer.ensures
+    frame_as _ _ (ap outcome (sym (apply_none ps t es rs ts (λ h. c.if-b-given.true (x.parameters ∙ sym h ∙ sym x.many))))) _ _ _ _ c.write_byte_answer.ensures
 
-write-term-requires : tie.Need-write-term-requires
+write-term-requires : tie.Need-write_term-size-requires
 write-term-requires c κs =
-    let p = c.before.before.before.before.before.before.before.requires in
-    let a = c.before.before.before.before.before.before.before.args in
-    let n = counted_term a.kinds.now a.vals.now (λ i. omega (arith, c.before.before.before.before.shared-slice-known3.given i)) a.s.now (binders_of a.b) p.1.0 a.from p.1.1.0 (omega (arith, p.0.short)) in
+    let p = c.requires in
+    let a = c.args in
+    let n = counted_term a.kinds.now a.vals.now (λ i. omega (arith, c.shared_slice_known-3-1.given i)) a.s.now (binders_of a.b) p.1.0 a.from p.1.1.0 (omega (arith, p.0.short)) in
     (p.1.0, (p.1.1.0, record { counts = omega (arith, n); fits = λ h. never_true h }))
 
-add-begin-answer : tie.Need-overflow-add-begin-answer
+add-begin-answer : tie.Need-overflow_add-size
 add-begin-answer c =
-    let p = c.before.before.before.before.before.before.before.before.before.before.before.requires in
-    let a = c.before.before.before.before.before.before.before.before.before.before.before.args in
-    let n = counted_term a.kinds.now a.vals.now (λ i. omega (arith, c.before.before.before.before.before.before.before.before.shared-slice-known3.given i)) a.s.now (binders_of a.b) p.1.0 a.from p.1.1.0 (omega (arith, p.0.short)) in
-    omega (arith, n, c.before.before.before.write-term.ensures.0.next)
+    let p = c.requires in
+    let a = c.args in
+    let n = counted_term a.kinds.now a.vals.now (λ i. omega (arith, c.shared_slice_known-3-1.given i)) a.s.now (binders_of a.b) p.1.0 a.from p.1.1.0 (omega (arith, p.0.short)) in
+    omega (arith, n, c.write_term-size.ensures.0.next)
 
-begin-answer-requires : tie.Need-begin-answer-requires
+begin-answer-requires : tie.Need-begin_answer-at-requires
 begin-answer-requires c κs = search rules
 
-same-length-2 : tie.Need-same-length-2
+same-length-2 : tie.Need-shape_of-out-then-out-at
 same-length-2 c = search rules
 
-returns-2 : tie.Need-returns-2
+returns-2 : tie.Need-returns-then-out-at
 returns-2 c =
     λ t es rs ps ts x.
-    let a = c.before.before.before.before.before.before.before.before.before.before.before.before.before.before.before.args in
-    let l = begun_long _ _ a.to _ _ c.before.before.before.begin-answer.ensures in
-    let q = apply_some ps t es rs ts (sym x.many ∙ sym c.before.before.before.before.before.before.before.before.before.if1.false ∙ x.parameters) in
-    frame_as _ _ (perhaps_some ps t es rs ts q.0 q.1) _ _ _ _ (one_over a.out.now _ _ a.to _ _ (bytes q.0) (c.before.before.before.before.before.before.before.write-term.ensures.1.applied t es rs ps ts x.end q.0 x.formed x.held x.binders x.arguments x.plain q.1) c.before.before.before.begin-answer.ensures (omega (arith, l)))
+    let a = c.args in
+    let l = begun_long _ _ a.to _ _ c.begin_answer-at.ensures in
+    let q = apply_some ps t es rs ts (sym x.many ∙ sym c.if-b-given.false ∙ x.parameters) in
+    frame_as _ _ (perhaps_some ps t es rs ts q.0 q.1) _ _ _ _ (one_over a.out.now _ _ a.to _ _ (bytes q.0) (c.write_term-size.ensures.1.applied t es rs ps ts x.end q.0 x.formed x.held x.binders x.arguments x.plain q.1) c.begin_answer-at.ensures (omega (arith, l)))
 
-slice-write-out : tie.Need-slice-write-out
+slice-write-out : tie.Need-bounds-out-at
 slice-write-out c =
-    let a = c.before.before.before.before.before.before.before.before.before.before.before.before.before.before.before.args in
-    let l = begun_long _ _ a.to _ _ c.before.before.before.begin-answer.ensures in
-    let m = begun_room _ _ a.to _ _ c.before.before.before.begin-answer.ensures (omega (arith, l, c.if2.false)) in
+    let a = c.args in
+    let l = begun_long _ _ a.to _ _ c.begin_answer-at.ensures in
+    let m = begun_room _ _ a.to _ _ c.begin_answer-at.ensures (omega (arith, l, c.if-out-at.false)) in
     omega (arith, m)
 
-add-write-term : tie.Need-overflow-add-write-term
+add-write-term : tie.Need-overflow_add-at
 add-write-term c = search rules
 
-write-term-requires-2 : tie.Need-write-term-requires-2
+write-term-requires-2 : tie.Need-write_term-requires
 write-term-requires-2 c κs =
-    let p = c.before.before.before.before.before.before.before.before.before.before.before.before.before.before.before.before.requires in
-    let a = c.before.before.before.before.before.before.before.before.before.before.before.before.before.before.before.before.args in
-    let e = c.before.before.before.before.before.before.before.before.write-term.ensures.0 in
-    let l = begun_long _ _ a.to _ _ c.before.before.before.before.begin-answer.ensures in
-    let m = begun_room _ _ a.to _ _ c.before.before.before.before.begin-answer.ensures (omega (arith, l, c.before.if2.false)) in
+    let p = c.requires in
+    let a = c.args in
+    let e = c.write_term-size.ensures.0 in
+    let l = begun_long _ _ a.to _ _ c.begin_answer-at.ensures in
+    let m = begun_room _ _ a.to _ _ c.begin_answer-at.ensures (omega (arith, l, c.if-out-at.false)) in
     (p.1.0, (p.1.1.0, record { counts = omega (arith, e.next, l, m, ap length e.wrote, p.1.1.1.short); fits = λ h. simp length-set (omega (arith, e.next, m)) }))
 
-same-length-3 : tie.Need-same-length-3
+same-length-3 : tie.Need-shape_of-out
 same-length-3 c =
-    let a = c.before.before.before.before.before.before.before.before.before.before.before.before.before.before.before.before.before.before.before.args in
-    let e = c.before.before.before.before.before.before.before.before.before.before.before.write-term.ensures.0 in
-    let l = begun_long _ _ a.to _ _ c.before.before.before.before.before.before.before.begin-answer.ensures in
-    let k = simp length-set at c.before.before.write-term2.auto.1.1.1.1.1.0 in
+    let a = c.args in
+    let e = c.write_term-size.ensures.0 in
+    let l = begun_long _ _ a.to _ _ c.begin_answer-at.ensures in
+    let k = simp length-set at c.write_term.auto.out in
     omega (arith, k, l, ap length e.wrote)
 
-returns-3 : tie.Need-returns-3
+returns-3 : tie.Need-returns
 returns-3 c =
     λ t es rs ps ts x.
-    let a = c.before.before.before.before.before.before.before.before.before.before.before.before.before.before.before.before.before.before.before.args in
-    let l = begun_long _ _ a.to _ _ c.before.before.before.before.before.before.before.begin-answer.ensures in
-    let q = apply_some ps t es rs ts (sym x.many ∙ sym c.before.before.before.before.before.before.before.before.before.before.before.before.before.if1.false ∙ x.parameters) in
-    frame_as _ _ (perhaps_some ps t es rs ts q.0 q.1) _ _ _ _ (one_in a.out.now _ _ a.to _ _ (bytes q.0) (c.before.before.before.before.before.before.before.before.before.before.before.write-term.ensures.1.applied t es rs ps ts x.end q.0 x.formed x.held x.binders x.arguments x.plain q.1) c.before.before.before.before.before.before.before.begin-answer.ensures (omega (arith, l, c.before.before.before.before.if2.false)) _ _ (c.before.before.write-term2.ensures.1.applied t es rs ps ts x.end q.0 x.formed x.held x.binders x.arguments x.plain q.1))
+    let a = c.args in
+    let l = begun_long _ _ a.to _ _ c.begin_answer-at.ensures in
+    let q = apply_some ps t es rs ts (sym x.many ∙ sym c.if-b-given.false ∙ x.parameters) in
+    frame_as _ _ (perhaps_some ps t es rs ts q.0 q.1) _ _ _ _ (one_in a.out.now _ _ a.to _ _ (bytes q.0) (c.write_term-size.ensures.1.applied t es rs ps ts x.end q.0 x.formed x.held x.binders x.arguments x.plain q.1) c.begin_answer-at.ensures (omega (arith, l, c.if-out-at.false)) _ _ (c.write_term.ensures.1.applied t es rs ps ts x.end q.0 x.formed x.held x.binders x.arguments x.plain q.1))
 
-pub applied-spec : {M : Type 1} → statement M
-applied-spec =
+pub applied_spec : {M : Type 1} → statement M
+applied_spec =
     tie.close
     (tie.spec
     write-byte-answer-requires

@@ -6,28 +6,28 @@ use borrow.Author.Rules.{rules}
 use Rattle.sheet.proofs.operations.question.Statement.{statement}
 use Rattle.sheet.proofs.operations.question.Tie as tie
 
-ask-requires : tie.Need-ask-requires
+ask-requires : tie.Need-ask-r-requires
 ask-requires c κs =
-    let p = c.before.before.before.requires in
+    let p = c.requires in
     (p.0, (p.1, record { list = []; next = 0; read = no_parameters _ }))
 
 bit-requires : tie.Need-bit-requires
 bit-requires c κs = search rules
 
-returns : tie.Need-returns
+returns : tie.Need-returns-then-q-eq2
 returns c =
     λ t h f.
-    let a = c.before.before.before.before.before.before.args in
-    c.bit.ensures ∙ contrary a.q t _ c.before.if1.true (c.before.before.ask.ensures [] 0 (no_parameters _) t h f)
+    let a = c.args in
+    c.bit.ensures ∙ contrary a.q t _ c.if-q-eq2.true (c.ask-r.ensures [] 0 (no_parameters _) t h f)
 
 bit-requires-2 : tie.Need-bit-requires-2
 bit-requires-2 c κs = search rules
 
-returns-2 : tie.Need-returns-2
+returns-2 : tie.Need-returns
 returns-2 c =
     λ t h f.
-    let a = c.before.before.before.before.before.before.args in
-    c.bit2.ensures ∙ plainly a.q t _ c.before.if1.false (c.before.before.ask.ensures [] 0 (no_parameters _) t h f)
+    let a = c.args in
+    c.bit-2.ensures ∙ plainly a.q t _ c.if-q-eq2.false (c.ask-r.ensures [] 0 (no_parameters _) t h f)
 
-pub question-spec : {M : Type 1} → statement M
-question-spec = tie.close (tie.spec ask-requires bit-requires returns bit-requires-2 returns-2)
+pub question_spec : {M : Type 1} → statement M
+question_spec = tie.close (tie.spec ask-requires bit-requires returns bit-requires-2 returns-2)

@@ -8,55 +8,55 @@ use borrow.Author.Rules.{rules}
 use Rattle.sheet.proofs.operations.recovered.Statement.{statement}
 use Rattle.sheet.proofs.operations.recovered.Tie as tie
 
-recovered-len-requires : tie.Need-recovered-len-requires
+recovered-len-requires : tie.Need-recovered_len-size-requires
 recovered-len-requires c κs =
-    let p = c.before.before.before.requires in
-    let x = p.1.0.2 in
+    let p = c.requires in
+    let x = c.requires.1.0.2 in
     ((held_in _ _ _ _ x.left, held_in _ _ _ _ x.right, p.0.pairs), (omega (arith, p.0.short), formed_both _ _ _ _ _ _ x))
 
-begin-answer-requires : tie.Need-begin-answer-requires
+begin-answer-requires : tie.Need-begin_answer-at-requires
 begin-answer-requires c κs = search rules
 
-same_length : tie.Need-same-length
+same_length : tie.Need-shape_of-out-then-out-at
 same_length c = search rules
 
-returns : tie.Need-returns
+returns : tie.Need-returns-then-out-at
 returns c =
     λ t u x.
-    let a = c.before.before.before.before.before.before.before.before.before.args in
-    let e = c.before.before.before.before.before.recovered-len.ensures t u x.left x.right x.left_formed x.right_formed in
-    let y = c.before.before.before.begin-answer.ensures in
+    let a = c.args in
+    let e = c.recovered_len-size.ensures t u x.left x.right x.left_formed x.right_formed in
+    let y = c.begin_answer-at.ensures in
     value_over (bytes (recover_from t u)) _ e a.out.now a.to _ _ y (omega (arith, begun_long _ _ a.to _ _ y))
 
-write-recovered-requires : tie.Need-write-recovered-requires
+write-recovered-requires : tie.Need-write_recovered-requires
 write-recovered-requires c κs =
-    let p = c.before.before.before.before.before.before.before.before.before.before.requires in
-    let x = p.1.0.2 in
-    let y = c.before.before.before.before.begin-answer.ensures in
+    let p = c.requires in
+    let x = c.requires.1.0.2 in
+    let y = c.begin_answer-at.ensures in
     let l = begun_long _ _ _ _ _ y in
-    let e = c.before.before.before.before.before.before.recovered-len.ensures _ _ x.left x.right x.left_formed x.right_formed in
-    let m = begun_room _ _ _ _ _ y (omega (arith, c.before.if1.false)) in
+    let e = c.recovered_len-size.ensures _ _ x.left x.right x.left_formed x.right_formed in
+    let m = begun_room _ _ _ _ _ y (omega (arith, c.if-out-at.false)) in
     let f = formed_both _ _ _ _ _ _ x in (
       (held_in _ _ _ _ x.left, held_in _ _ _ _ x.right, p.0.pairs),
-      (omega (arith, p.0.short, p.1.1.short, c.before.if1.false), record { left = f.0; right = f.1; room = omega (arith, m, e) }),
+      (omega (arith, p.0.short, p.1.1.short, c.if-out-at.false), record { left = f.0; right = f.1; room = omega (arith, m, e) }),
     )
 
-same-length-2 : tie.Need-same-length-2
+same-length-2 : tie.Need-shape_of-out
 same-length-2 c = search rules
 
-returns-2 : tie.Need-returns-2
+returns-2 : tie.Need-returns
 returns-2 c =
     λ t u x.
-    let a = c.before.before.before.before.before.before.before.before.before.before.before.before.before.args in
-    let e = c.before.before.before.before.before.before.before.before.before.recovered-len.ensures t u x.left x.right x.left_formed x.right_formed in
-    let y = c.before.before.before.before.before.before.before.begin-answer.ensures in
+    let a = c.args in
+    let e = c.recovered_len-size.ensures t u x.left x.right x.left_formed x.right_formed in
+    let y = c.begin_answer-at.ensures in
     let h = begun_long _ _ a.to _ _ y in
-    let m = begun_room _ _ a.to _ _ y (omega (arith, c.before.before.before.before.if1.false)) in
-    let f = c.before.before.write-recovered.ensures t u x.left x.right x.left_formed x.right_formed in
-    value_in (bytes (recover_from t u)) _ e a.out.now a.to _ _ y (omega (arith, c.before.before.before.before.if1.false)) _ _ f.next (f.wrote (omega (arith, m)))
+    let m = begun_room _ _ a.to _ _ y (omega (arith, c.if-out-at.false)) in
+    let f = c.write_recovered.ensures t u x.left x.right x.left_formed x.right_formed in
+    value_in (bytes (recover_from t u)) _ e a.out.now a.to _ _ y (omega (arith, c.if-out-at.false)) _ _ f.next (f.wrote (omega (arith, m)))
 
-pub recovered-spec : {M : Type 1} → statement M
-recovered-spec =
+pub recovered_spec : {M : Type 1} → statement M
+recovered_spec =
     tie.close
     (tie.spec
     recovered-len-requires

@@ -12,10 +12,10 @@ use Rattle.sheet.proofs.operations.reduce.Tie as tie
 
 associated-requires : tie.Need-associated-requires
 associated-requires c κs =
-    let p = c.before.before.before.before.before.before.before.before.before.before.before.before.before.before.requires in
-    let a = c.before.before.before.before.before.before.before.before.before.before.before.before.before.before.args in
-    let y = p.1.0.1 in
-    let f = associated_asks _ _ _ _ a.o _ c.before.before.before.if1.true y in
+    let p = c.requires in
+    let a = c.args in
+    let y = c.requires.1.0.1 in
+    let f = associated_asks _ _ _ _ a.o _ c.if-o-eq19.true y in
     let x = f.3 in (
       p.0,
       (
@@ -24,67 +24,67 @@ associated-requires c κs =
       ),
     )
 
-same_length : tie.Need-same-length
+same_length : tie.Need-shape_of-heads-then-o-eq19
 same_length c = search rules
 
-same-length-2 : tie.Need-same-length-2
+same-length-2 : tie.Need-shape_of-kids-then-o-eq19
 same-length-2 c = search rules
 
-same-length-3 : tie.Need-same-length-3
+same-length-3 : tie.Need-shape_of-out-then-o-eq19
 same-length-3 c = search rules
 
-returns : tie.Need-returns
+returns : tie.Need-returns-then-o-eq19
 returns c =
-    let a = c.before.before.before.before.before.before.before.before.before.before.before.before.before.before.before.before.before.before.before.before.before.args in
-    let d = c.before.before.before.before.before.before.associated.ensures in
-    (d.0, λ s. associated_replies a.kinds.now a.vals.now s a.rules.now a.o c.before.before.before.before.before.before.before.before.before.before.if1.true _ (λ t ps u x. d.1 t ps u x))
+    let a = c.args in
+    let d = c.associated.ensures in
+    (d.0, λ s. associated_replies a.kinds.now a.vals.now s a.rules.now a.o c.if-o-eq19.true _ (λ t ps u x. d.1 t ps u x))
 
-mul-n : tie.Need-overflow-mul-n
+mul-n : tie.Need-overflow_mul-n
 mul-n c =
-    let p = c.before.before.before.before.before.before.before.before.before.before.before.requires in
-    let a = c.before.before.before.before.before.before.before.before.before.before.before.args in
-    let y = p.1.0.1 in
-    let k = other 19 20 a.o.kind y.among c.if1.false in
+    let p = c.requires in
+    let a = c.args in
+    let y = c.requires.1.0.1 in
+    let k = other 19 20 a.o.kind y.among c.if-o-eq19.false in
     omega (arith, (rules_asks _ _ _ _ a.o _ k y).3, p.1.1.0)
 
-slice-aggregate-normalised : tie.Need-slice-aggregate-normalised
+slice-aggregate-normalised : tie.Need-slice_bounds-normalised-end
 slice-aggregate-normalised c =
-    let p = c.before.before.before.before.before.before.before.before.before.before.before.before.before.before.requires in
-    let a = c.before.before.before.before.before.before.before.before.before.before.before.before.before.before.args in
-    let y = p.1.0.1 in
-    let k = other 19 20 a.o.kind y.among c.before.before.before.if1.false in
+    let p = c.requires in
+    let a = c.args in
+    let y = c.requires.1.0.1 in
+    let k = other 19 20 a.o.kind y.among c.if-o-eq19.false in
     sym (length-take-le _ _ (rules_asks _ _ _ _ a.o _ k y).3)
 
 normalised-requires : tie.Need-normalised-requires
 normalised-requires c κs =
-    let p = c.before.before.before.before.before.before.before.before.before.before.before.before.before.before.before.requires in
-    let a = c.before.before.before.before.before.before.before.before.before.before.before.before.before.before.before.args in
-    let y = p.1.0.1 in
-    let k = other 19 20 a.o.kind y.among c.before.before.before.before.if1.false in
+    let p = c.requires in
+    let a = c.args in
+    let y = c.requires.1.0.1 in
+    let k = other 19 20 a.o.kind y.among c.if-o-eq19.false in
     let f = rules_asks _ _ _ _ a.o _ k y in
     let x = f.2 in
     (p.0, (held_in _ _ _ _ x.term, (simp length-take (omega (arith, p.1.1.0)), (p.1.1.1, record { term = f.1; patterns = f.0; held = x.term; ruled = x.rules }))))
 
-same-length-4 : tie.Need-same-length-4
+same-length-4 : tie.Need-shape_of-heads
 same-length-4 c = search rules
 
-same-length-5 : tie.Need-same-length-5
+same-length-5 : tie.Need-shape_of-kids
 same-length-5 c = search rules
 
-same-length-6 : tie.Need-same-length-6
+same-length-6 : tie.Need-shape_of-out
 same-length-6 c = search rules
 
-returns-2 : tie.Need-returns-2
+returns-2 : tie.Need-returns
 returns-2 c =
-    let p = c.before.before.before.before.before.before.before.before.before.before.before.before.before.before.before.before.before.before.before.before.before.before.requires in
-    let a = c.before.before.before.before.before.before.before.before.before.before.before.before.before.before.before.before.before.before.before.before.before.before.args in
-    let y = p.1.0.1 in
-    let k = other 19 20 a.o.kind y.among c.before.before.before.before.before.before.before.before.before.before.before.if1.false in
-    let d = c.before.before.before.before.before.before.normalised.ensures in
+    let p = c.requires in
+    let a = c.args in
+    let y = c.requires.1.0.1 in
+    let k = other 19 20 a.o.kind y.among c.if-o-eq19.false in
+    let d = c.normalised.ensures in
     (d.0, λ s. rules_replies a.kinds.now a.vals.now s a.rules.now a.o k _ (λ rs t x l. d.1 t rs x))
 
-pub reduce-spec : {M : Type 1} → statement M
-reduce-spec =
+pub reduce_spec : {M : Type 1} → statement M
+reduce_spec =
     tie.close
     (tie.spec
     associated-requires

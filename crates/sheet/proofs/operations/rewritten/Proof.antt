@@ -11,45 +11,45 @@ use borrow.Author.Rules.{rules}
 use Rattle.sheet.proofs.operations.rewritten.Statement.{statement}
 use Rattle.sheet.proofs.operations.rewritten.Tie as tie
 
-write-term-requires : tie.Need-write-term-requires
+write-term-requires : tie.Need-write_term-size-requires
 write-term-requires c κs =
-    let p = c.before.before.before.before.before.requires in
-    let a = c.before.before.before.before.before.args in
-    let n = counted_term a.kinds.now a.vals.now (λ i. omega (arith, c.before.before.shared-slice-known3.given i)) a.s.now (binders_of a.b) p.1.0 a.from p.1.1.0 (omega (arith, p.0.short)) in
+    let p = c.requires in
+    let a = c.args in
+    let n = counted_term a.kinds.now a.vals.now (λ i. omega (arith, c.shared_slice_known-3-1.given i)) a.s.now (binders_of a.b) p.1.0 a.from p.1.1.0 (omega (arith, p.0.short)) in
     (p.1.0, (p.1.1.0, record { counts = omega (arith, n); fits = λ h. never_true h }))
 
-begin-answer-requires : tie.Need-begin-answer-requires
+begin-answer-requires : tie.Need-begin_answer-at-requires
 begin-answer-requires c κs = search rules
 
-same_length : tie.Need-same-length
+same_length : tie.Need-shape_of-out-then-out-at
 same_length c = search rules
 
-returns : tie.Need-returns
+returns : tie.Need-returns-then-out-at
 returns c =
-    let a = c.before.before.before.before.before.before.before.before.before.before.before.before.before.args in
-    let l = begun_long _ _ a.to _ _ c.before.before.before.begin-answer.ensures in
-    rewrites_one a.kinds.now a.vals.now a.s.now (binders_of a.b) a.from _ _ (λ x w. counted_over a.out.now _ _ a.to _ _ x w c.before.before.before.begin-answer.ensures (omega (arith, l))) c.before.before.before.before.before.before.before.write-term.ensures.1
+    let a = c.args in
+    let l = begun_long _ _ a.to _ _ c.begin_answer-at.ensures in
+    rewrites_one a.kinds.now a.vals.now a.s.now (binders_of a.b) a.from _ _ (λ x w. counted_over a.out.now _ _ a.to _ _ x w c.begin_answer-at.ensures (omega (arith, l))) c.write_term-size.ensures.1
 
-write-term-requires-2 : tie.Need-write-term-requires-2
+write-term-requires-2 : tie.Need-write_term-requires
 write-term-requires-2 c κs =
-    let p = c.before.before.before.before.before.before.before.before.before.before.before.before.before.before.requires in
-    let a = c.before.before.before.before.before.before.before.before.before.before.before.before.before.before.args in
-    let e = c.before.before.before.before.before.before.before.before.write-term.ensures.0 in
-    let l = begun_long _ _ a.to _ _ c.before.before.before.before.begin-answer.ensures in
-    let m = begun_room _ _ a.to _ _ c.before.before.before.before.begin-answer.ensures (omega (arith, l, c.before.if1.false)) in
+    let p = c.requires in
+    let a = c.args in
+    let e = c.write_term-size.ensures.0 in
+    let l = begun_long _ _ a.to _ _ c.begin_answer-at.ensures in
+    let m = begun_room _ _ a.to _ _ c.begin_answer-at.ensures (omega (arith, l, c.if-out-at.false)) in
     (p.1.0, (p.1.1.0, record { counts = omega (arith, e.next, l, m, ap length e.wrote, p.1.1.1.short); fits = λ h. omega (arith, e.next, m) }))
 
-same-length-2 : tie.Need-same-length-2
+same-length-2 : tie.Need-shape_of-out
 same-length-2 c = search rules
 
-returns-2 : tie.Need-returns-2
+returns-2 : tie.Need-returns
 returns-2 c =
-    let a = c.before.before.before.before.before.before.before.before.before.before.before.before.before.before.before.before.before.args in
-    let l = begun_long _ _ a.to _ _ c.before.before.before.before.before.before.before.begin-answer.ensures in
-    rewrites_two a.kinds.now a.vals.now a.s.now (binders_of a.b) a.from _ _ _ (λ x u w. counted_in a.out.now _ _ a.to _ _ x u c.before.before.before.before.before.before.before.begin-answer.ensures (omega (arith, l, c.before.before.before.before.if1.false)) _ _ w) c.before.before.before.before.before.before.before.before.before.before.before.write-term.ensures.1 c.before.before.write-term2.ensures.1
+    let a = c.args in
+    let l = begun_long _ _ a.to _ _ c.begin_answer-at.ensures in
+    rewrites_two a.kinds.now a.vals.now a.s.now (binders_of a.b) a.from _ _ _ (λ x u w. counted_in a.out.now _ _ a.to _ _ x u c.begin_answer-at.ensures (omega (arith, l, c.if-out-at.false)) _ _ w) c.write_term-size.ensures.1 c.write_term.ensures.1
 
-pub rewritten-spec : {M : Type 1} → statement M
-rewritten-spec =
+pub rewritten_spec : {M : Type 1} → statement M
+rewritten_spec =
     tie.close
     (tie.spec
     write-term-requires

@@ -6,46 +6,46 @@ use borrow.Author.Rules.{rules}
 use Rattle.sheet.proofs.order_reader.read_order.Statement.{statement}
 use Rattle.sheet.proofs.order_reader.read_order.Tie as tie
 
-returns : tie.Need-returns
+returns : tie.Need-returns-then-s-eq0
 returns c =
-    let a = c.before.before.before.before.before.args in
-    (order_empty a.s.now a.issued c.if1.true, refl)
+    let a = c.args in
+    (order_empty a.s.now a.issued c.if-s-eq0.true, refl)
 
-shared-slice-read-kind : tie.Need-shared-slice-read-kind
+shared-slice-read-kind : tie.Need-bounds-s-0
 shared-slice-read-kind c = search rules
 
-row-of-requires : tie.Need-row-of-requires
+row-of-requires : tie.Need-row_of-requires
 row-of-requires c κs = search rules
 
-enum-known-class : tie.Need-enum-known-class
+enum-known-class : tie.Need-enum_known-class
 enum-known-class c = search rules
 
-enum_told : tie.Need-enum-told
+enum_told : tie.Need-enum_told-1
 enum_told c = search rules
 
-returns-2 : tie.Need-returns-2
+returns-2 : tie.Need-returns-in_default
 returns-2 c =
-    let a = c.before.before.before.before.before.before.before.before.before.args in
-    (order_unlisted a.s.now a.issued (omega (arith, c.before.before.before.before.if1.false)) (sym (rw c.enum_told.given.1 at c.before.before.row_of.ensures)), refl)
+    let a = c.args in
+    (order_unlisted a.s.now a.issued (omega (arith, c.if-s-eq0.false)) (sym (rw c.in_default.is at c.row_of.ensures)), refl)
 
-read-fields-requires : tie.Need-read-fields-requires
+read-fields-requires : tie.Need-read_fields-requires
 read-fields-requires c κs =
-    (c.before.before.before.before.before.before.before.before.before.before.before.before.before.requires, (omega (arith, c.before.before.before.before.before.before.before.before.if1.false), (refl, sym (rw c.before.before.before.before.class.given.1 at c.before.before.before.before.before.before.row_of.ensures))))
+    (c.requires, (omega (arith, c.if-s-eq0.false), (refl, sym (rw c.in-Listed.is at c.row_of.ensures))))
 
-same_length : tie.Need-same-length
+same_length : tie.Need-shape_of-kinds
 same_length c = search rules
 
-same-length-2 : tie.Need-same-length-2
+same-length-2 : tie.Need-shape_of-vals
 same-length-2 c = search rules
 
-same-length-3 : tie.Need-same-length-3
+same-length-3 : tie.Need-shape_of-rules
 same-length-3 c = search rules
 
-returns-3 : tie.Need-returns-3
+returns-3 : tie.Need-returns
 returns-3 c = search rules
 
-pub read-order-spec : {M : Type 1} → statement M
-read-order-spec =
+pub read_order_spec : {M : Type 1} → statement M
+read_order_spec =
     tie.close
     (tie.spec
     returns

@@ -7,32 +7,32 @@ use Rattle.sheet.proofs.Laws.Reading.OrderTableLaws.{operates, unlisted_session,
 use Rattle.sheet.proofs.order_table.is_operation.Statement.{statement}
 use Rattle.sheet.proofs.order_table.is_operation.Tie as tie
 
-row-of-requires : tie.Need-row-of-requires
+row-of-requires : tie.Need-row_of-requires
 row-of-requires c κs = search rules
 
-enum-known-class : tie.Need-enum-known-class
+enum-known-class : tie.Need-enum_known-class
 enum-known-class c = search rules
 
-enum_told : tie.Need-enum-told
+enum_told : tie.Need-enum_told-1
 enum_told c = search rules
 
-returns : tie.Need-returns
-returns c = unlisted_session (row_in table c.before.before.before.args.kind) (rw c.enum_told.given.1 at c.before.before.row_of.ensures)
+returns : tie.Need-returns-in_default
+returns c = unlisted_session (row_in table c.args.kind) (rw c.in_default.is at c.row_of.ensures)
 
-enum-told-2 : tie.Need-enum-told-2
+enum-told-2 : tie.Need-enum_told-in-Session
 enum-told-2 c = search rules
 
-enum-told-3 : tie.Need-enum-told-3
+enum-told-3 : tie.Need-enum_told-in-Operation
 enum-told-3 c = search rules
 
-returns-2 : tie.Need-returns-2
-returns-2 c = sym (listed_class (row_in table c.before.before.before.before.before.before.args.kind) _ _ (rw c.before.before.before.class.given.1 at c.before.before.before.before.before.row_of.ensures) ∙ ap operates c.enum-told2.given.1)
+returns-2 : tie.Need-returns-in-Session
+returns-2 c = sym (listed_class (row_in table c.args.kind) _ _ (rw c.in-Listed.is at c.row_of.ensures) ∙ ap operates c.in-Session.is)
 
-returns-3 : tie.Need-returns-3
-returns-3 c = sym (listed_class (row_in table c.before.before.before.before.before.before.args.kind) _ _ (rw c.before.before.before.class.given.1 at c.before.before.before.before.before.row_of.ensures) ∙ ap operates c.enum-told3.given.1)
+returns-3 : tie.Need-returns-in-Operation
+returns-3 c = sym (listed_class (row_in table c.args.kind) _ _ (rw c.in-Listed.is at c.row_of.ensures) ∙ ap operates c.in-Operation.is)
 
-pub is-operation-spec : {M : Type 1} → statement M
-is-operation-spec =
+pub is_operation_spec : {M : Type 1} → statement M
+is_operation_spec =
     tie.close
     (tie.spec
     row-of-requires

@@ -19,10 +19,10 @@ chosen-requires-5 : tie.Need-chosen-requires-5
 chosen-requires-5 c κs = search rules
 
 returns : tie.Need-returns
-returns c = rw (c.chosen5.ensures, c.before.chosen4.ensures, c.before.before.chosen3.ensures, c.before.before.before.chosen2.ensures, c.before.before.before.before.chosen.ensures)
+returns c = rw (c.chosen-5.ensures, c.chosen-4.ensures, c.chosen-3.ensures, c.chosen-2.ensures, c.chosen.ensures)
 
-pub put-spot-spec : {M : Type 1} → statement M
-put-spot-spec =
+pub put_spot_spec : {M : Type 1} → statement M
+put_spot_spec =
     tie.close
     (tie.spec
     chosen-requires

@@ -4,13 +4,13 @@ use borrow.Author.Rules.{rules}
 use Rattle.sheet.proofs.plain_orders.changed_byte.Statement.{statement}
 use Rattle.sheet.proofs.plain_orders.changed_byte.Tie as tie
 
-returns : tie.Need-returns
+returns : tie.Need-returns-then-new-old
 returns c =
-    let a = c.before.args in changed_same a.old a.new c.if1.true
+    let a = c.args in changed_same a.old c.args.new c.if-new-old.true
 
-returns-2 : tie.Need-returns-2
+returns-2 : tie.Need-returns
 returns-2 c =
-    let a = c.before.args in changed_other a.old a.new c.if1.false
+    let a = c.args in changed_other a.old c.args.new c.if-new-old.false
 
-pub changed-byte-spec : {M : Type 1} → statement M
-changed-byte-spec = tie.close (tie.spec returns returns-2)
+pub changed_byte_spec : {M : Type 1} → statement M
+changed_byte_spec = tie.close (tie.spec returns returns-2)

@@ -8,46 +8,46 @@ use borrow.Author.Rules.{rules}
 use Rattle.sheet.proofs.plain_orders.default_order.Statement.{statement}
 use Rattle.sheet.proofs.plain_orders.default_order.Tie as tie
 
-sub-if1 : tie.Need-overflow-sub-if1
+sub-if1 : tie.Need-overflow_sub-out
 sub-if1 c = search rules
 
-add-next : tie.Need-overflow-add-next
+add-next : tie.Need-overflow_add-next
 add-next c = search rules
 
-returns : tie.Need-returns
+returns : tie.Need-returns-then-out-to-lt3
 returns c =
-    let a = c.before.before.before.before.before.args in
-    λ z A L. defaults_not L (solve (limits_of a.x) z (defaults_by a.never)) (defaults_tell a.never (limits_of a.x) z) a.out.now a.to c.before.before.before.before.before.requires.1.inside (omega (arith, c.if1.true))
+    let a = c.args in
+    λ z A L. defaults_not L (solve (limits_of a.x) z (defaults_by a.never)) (defaults_tell a.never (limits_of a.x) z) a.out.now a.to c.requires.1.inside (omega (arith, c.if-out-to-lt3.true))
 
-revision-requires : tie.Need-revision-requires
+revision-requires : tie.Need-revision-old-requires
 revision-requires c κs = search rules
 
-with-defaults-requires : tie.Need-with-defaults-requires
-with-defaults-requires c κs = c.before.before.before.before.before.before.before.requires.0
+with-defaults-requires : tie.Need-with_defaults-y-requires
+with-defaults-requires c κs = c.requires.0
 
-revision-requires-2 : tie.Need-revision-requires-2
+revision-requires-2 : tie.Need-revision-requires
 revision-requires-2 c κs = search rules
 
-changed-byte-requires : tie.Need-changed-byte-requires
+changed-byte-requires : tie.Need-changed_byte-a-requires
 changed-byte-requires c κs = search rules
 
-write-byte-answer-requires : tie.Need-write-byte-answer-requires
+write-byte-answer-requires : tie.Need-write_byte_answer-next-requires
 write-byte-answer-requires c κs = search rules
 
-same_length : tie.Need-same-length
+same_length : tie.Need-shape_of-tables
 same_length c = search rules
 
-same-length-2 : tie.Need-same-length-2
+same-length-2 : tie.Need-shape_of-out
 same-length-2 c = search rules
 
-returns-2 : tie.Need-returns-2
+returns-2 : tie.Need-returns
 returns-2 c =
-    let a = c.before.before.before.before.before.before.before.before.before.before.before.before.before.before.before.before.args in
-    let e = c.before.before.before.before.before.before.before.before.with-defaults.ensures in
-    λ z A L. defaults_done L (solve (limits_of a.x) z (defaults_by a.never)) (defaults_tell a.never (limits_of a.x) z) a.out.now a.to c.before.before.before.before.before.before.before.before.before.before.before.before.before.before.before.before.requires.1.inside _ _ _ _ _ (omega (arith, c.before.before.before.before.before.before.before.before.before.before.before.if1.false)) (e.0 z A L) e.1 (rw (c.before.before.before.before.before.before.before.before.before.before.revision.ensures.0, c.before.before.before.before.before.revision2.ensures.0) at c.before.before.before.before.changed-byte.ensures) c.before.before.write-byte-answer.ensures
+    let a = c.args in
+    let e = c.with_defaults-y.ensures in
+    λ z A L. defaults_done L (solve (limits_of a.x) z (defaults_by a.never)) (defaults_tell a.never (limits_of a.x) z) a.out.now a.to c.requires.1.inside _ _ _ _ _ (omega (arith, c.if-out-to-lt3.false)) (e.0 z A L) e.1 (rw (c.revision-old.ensures.0, c.revision.ensures.0) at c.changed_byte-a.ensures) c.write_byte_answer-next.ensures
 
-pub default-order-spec : {M : Type 1} → statement M
-default-order-spec =
+pub default_order_spec : {M : Type 1} → statement M
+default_order_spec =
     tie.close
     (tie.spec
     sub-if1

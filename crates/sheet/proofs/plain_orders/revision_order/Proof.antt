@@ -4,22 +4,22 @@ use borrow.Author.Rules.{rules}
 use Rattle.sheet.proofs.plain_orders.revision_order.Statement.{statement}
 use Rattle.sheet.proofs.plain_orders.revision_order.Tie as tie
 
-revision-requires : tie.Need-revision-requires
+revision-requires : tie.Need-revision-n-requires
 revision-requires c κs = search rules
 
-write-number-answer-requires : tie.Need-write-number-answer-requires
+write-number-answer-requires : tie.Need-write_number_answer-next-requires
 write-number-answer-requires c κs = search rules
 
-same_length : tie.Need-same-length
+same_length : tie.Need-shape_of-out
 same_length c = search rules
 
 returns : tie.Need-returns
 returns c =
-    let a = c.before.before.before.before.before.before.args in
-    λ ks vs ts z L. revision_does a.x ks vs ts z L c.before.before.before.before.revision.result c.before.before.before.before.revision.ensures.0 a.out.now a.to _ _ c.before.before.write-number-answer.ensures
+    let a = c.args in
+    λ ks vs ts z L. revision_does a.x ks vs ts z L c.revision-n.result c.revision-n.ensures.0 a.out.now a.to _ _ c.write_number_answer-next.ensures
 
-pub revision-order-spec : {M : Type 1} → statement M
-revision-order-spec =
+pub revision_order_spec : {M : Type 1} → statement M
+revision_order_spec =
     tie.close
     (tie.spec
     revision-requires

@@ -7,80 +7,80 @@ use borrow.Author.Rules.{rules}
 use Rattle.sheet.proofs.plain_orders.termless_order.Statement.{statement}
 use Rattle.sheet.proofs.plain_orders.termless_order.Tie as tie
 
-enum-known-what : tie.Need-enum-known-what
+enum-known-what : tie.Need-enum_known-what
 enum-known-what c = search rules
 
-variable-order-requires : tie.Need-variable-order-requires
+variable-order-requires : tie.Need-variable_order-requires
 variable-order-requires c κs =
-    let p = c.before.before.before.before.before.before.before.before.before.before.before.requires in
-    let h = subst (λ (o : TermlessOrder). TermlessTold o) c.before.before.before.before.what.given.1 p.1.0.0 in
+    let p = c.requires in
+    let h = subst (λ (o : TermlessOrder). TermlessTold o) c.in-Variable.is p.1.0.0 in
     ((p.0.0, p.0.2), ((h, p.1.0.1), p.1.1))
 
-enum-known-what-2 : tie.Need-enum-known-what-2
+enum-known-what-2 : tie.Need-enum_known-what-in-Defaults-1
 enum-known-what-2 c = search rules
 
-default-order-requires : tie.Need-default-order-requires
-default-order-requires c κs = let p = c.before.before.before.before.before.before.before.before.before.before.requires in (p.0, p.1.1)
+default-order-requires : tie.Need-default_order-requires
+default-order-requires c κs = let p = c.requires in (p.0, p.1.1)
 
-enum_told : tie.Need-enum-told
+enum_told : tie.Need-enum_told-1
 enum_told c = search rules
 
-revision-order-requires : tie.Need-revision-order-requires
+revision-order-requires : tie.Need-revision_order-requires
 revision-order-requires c κs = search rules
 
-enum-known-what-3 : tie.Need-enum-known-what-3
+enum-known-what-3 : tie.Need-enum_known-what-in-Refusal-1
 enum-known-what-3 c = search rules
 
-write-refusal-requires : tie.Need-write-refusal-requires
+write-refusal-requires : tie.Need-write_refusal-next-requires
 write-refusal-requires c κs = search rules
 
-same_length : tie.Need-same-length
+same_length : tie.Need-shape_of-tables-in-Variable
 same_length c = search rules
 
-same-length-2 : tie.Need-same-length-2
+same-length-2 : tie.Need-shape_of-frames
 same-length-2 c = search rules
 
-same-length-3 : tie.Need-same-length-3
+same-length-3 : tie.Need-shape_of-out-in-Variable
 same-length-3 c = search rules
 
-returns : tie.Need-returns
+returns : tie.Need-returns-in-Variable
 returns c =
-    let a = c.before.before.before.before.before.before.before.before.before.before.before.before.before.before.before.before.before.before.args in
-    let e = c.before.before.before.before.before.before.variable-order.ensures in
-    (e.0, λ z A L. does_termless a.x _ _ _ _ _ z _ _ (sym c.before.before.before.before.before.before.before.before.before.before.before.what.given.1) a.out.now a.to _ _ (e.1 z L))
+    let a = c.args in
+    let e = c.variable_order.ensures in
+    (e.0, λ z A L. does_termless a.x _ _ _ _ _ z _ _ (sym c.in-Variable.is) a.out.now a.to _ _ (e.1 z L))
 
-same-length-4 : tie.Need-same-length-4
+same-length-4 : tie.Need-shape_of-tables-in-Defaults
 same-length-4 c = search rules
 
-same-length-5 : tie.Need-same-length-5
+same-length-5 : tie.Need-shape_of-out-in-Defaults
 same-length-5 c = search rules
 
-returns-2 : tie.Need-returns-2
+returns-2 : tie.Need-returns-in-Defaults
 returns-2 c =
-    let a = c.before.before.before.before.before.before.before.before.before.before.before.before.before.before.before.args in
-    (c.before.before.before.before.before.before.before.before.before.before.before.before.before.before.before.requires.1.0.1.clear, λ z A L. does_termless a.x _ _ _ _ _ z _ _ (sym c.before.before.before.before.before.before.before.before.what2.given.1) a.out.now a.to _ _ (c.before.before.before.before.default-order.ensures z A L))
+    let a = c.args in
+    (c.requires.1.0.1.clear, λ z A L. does_termless a.x _ _ _ _ _ z _ _ (sym c.in-Defaults.is) a.out.now a.to _ _ (c.default_order.ensures z A L))
 
-same-length-6 : tie.Need-same-length-6
+same-length-6 : tie.Need-shape_of-out-in-Revision
 same-length-6 c = search rules
 
-returns-3 : tie.Need-returns-3
+returns-3 : tie.Need-returns-in-Revision
 returns-3 c =
-    let a = c.before.before.before.before.before.before.before.before.before.before.before.args in
-    (c.before.before.before.before.before.before.before.before.before.before.before.requires.1.0.1.clear, λ z A L. does_termless a.x _ _ _ _ _ z _ _ (sym c.before.before.before.before.enum_told.given.1) a.out.now a.to _ _ (c.before.before.revision-order.ensures _ _ _ z L))
+    let a = c.args in
+    (c.requires.1.0.1.clear, λ z A L. does_termless a.x _ _ _ _ _ z _ _ (sym c.in-Revision.is) a.out.now a.to _ _ (c.revision_order.ensures _ _ _ z L))
 
-same-length-7 : tie.Need-same-length-7
+same-length-7 : tie.Need-shape_of-out-in-Refusal
 same-length-7 c = search rules
 
-returns-4 : tie.Need-returns-4
+returns-4 : tie.Need-returns-in-Refusal
 returns-4 c =
-    let a = c.before.before.before.before.before.before.before.before.before.before.before.before.args in (
-      c.before.before.before.before.before.before.before.before.before.before.before.before.requires.1.0.1.clear,
-      λ z A L. does_termless a.x _ _ _ _ _ z _ _ (sym c.before.before.before.before.before.what3.given.1) a.out.now a.to _ _
-          (refusal_does a.x _ _ _ z L _ a.out.now a.to _ _ c.before.before.write-refusal.ensures),
+    let a = c.args in (
+      c.requires.1.0.1.clear,
+      λ z A L. does_termless a.x _ _ _ _ _ z _ _ (sym c.in-Refusal.is) a.out.now a.to _ _
+          (refusal_does a.x _ _ _ z L _ a.out.now a.to _ _ c.write_refusal-next.ensures),
     )
 
-pub termless-order-spec : {M : Type 1} → statement M
-termless-order-spec =
+pub termless_order_spec : {M : Type 1} → statement M
+termless_order_spec =
     tie.close
     (tie.spec
     enum-known-what

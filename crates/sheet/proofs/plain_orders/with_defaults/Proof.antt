@@ -22,32 +22,32 @@ ready : (x : Solver) (ks vs ts : List ℕ) (z : Session) → InOrder (issued z) 
 ready x ks vs ts z A L =
     (lent_shaped _ _ _ _ _ L, (omega (arith, lent_revision _ _ _ _ _ A L, L.narrow), L.vals, (z, L, in_order_low _ _ _ _ z A L)))
 
-apply-never-defaults-requires : tie.Need-apply-never-defaults-requires
+apply-never-defaults-requires : tie.Need-apply_never_defaults-requires
 apply-never-defaults-requires c κs =
-    let p = c.before.before.before.before.before.requires in ready _ _ _ _ p.0 p.1 p.2
+    let p = c.requires in ready _ _ _ _ p.0 p.1 p.2
 
-same_length : tie.Need-same-length
+same_length : tie.Need-shape_of-tables-then-never
 same_length c = search rules
 
-returns : tie.Need-returns
+returns : tie.Need-returns-then-never
 returns c =
-    let e = c.before.before.apply_never_defaults.ensures in
-    rw c.before.before.before.before.if1.true (λ z A L. e.0 z L (in_order_low _ _ _ _ z A L), e.1)
+    let e = c.apply_never_defaults.ensures in
+    rw c.if-never.true (λ z A L. e.0 z L (in_order_low _ _ _ _ z A L), e.1)
 
-apply-numeric-defaults-requires : tie.Need-apply-numeric-defaults-requires
+apply-numeric-defaults-requires : tie.Need-apply_numeric_defaults-requires
 apply-numeric-defaults-requires c κs =
-    let p = c.before.before.before.before.before.requires in ready _ _ _ _ p.0 p.1 p.2
+    let p = c.requires in ready _ _ _ _ p.0 p.1 p.2
 
-same-length-2 : tie.Need-same-length-2
+same-length-2 : tie.Need-shape_of-tables
 same-length-2 c = search rules
 
-returns-2 : tie.Need-returns-2
+returns-2 : tie.Need-returns
 returns-2 c =
-    let e = c.before.before.apply_numeric_defaults.ensures in
-    rw c.before.before.before.before.if1.false (λ z A L. e.0 z L (in_order_low _ _ _ _ z A L), e.1)
+    let e = c.apply_numeric_defaults.ensures in
+    rw c.if-never.false (λ z A L. e.0 z L (in_order_low _ _ _ _ z A L), e.1)
 
-pub with-defaults-spec : {M : Type 1} → statement M
-with-defaults-spec =
+pub with_defaults_spec : {M : Type 1} → statement M
+with_defaults_spec =
     tie.close
     (tie.spec
     apply-never-defaults-requires

@@ -12,10 +12,10 @@ use borrow.Author.Rules.{rules}
 use Rattle.sheet.proofs.running.run_in.Statement.{statement}
 use Rattle.sheet.proofs.running.run_in.Tie as tie
 
-lay-fresh-requires : tie.Need-lay-fresh-requires
+lay-fresh-requires : tie.Need-lay_fresh-x-requires
 lay-fresh-requires c κs =
-    let a = c.before.before.before.before.before.before.before.before.before.before.args in
-    let R = c.before.before.before.before.before.before.before.before.before.before.requires.0 in (
+    let a = c.args in
+    let R = c.requires.0 in (
       omega (arith, R.c_size, R.table),
       record {
         kinds = omega (arith, R.tokens);
@@ -25,65 +25,64 @@ lay-fresh-requires c κs =
       },
     )
 
-answer-orders-requires : tie.Need-answer-orders-requires
+answer-orders-requires : tie.Need-answer_orders-r-requires
 answer-orders-requires c κs =
-    let b = c.before.before.before.before.before.before.before.before.before.before.before.before.before.lay-fresh in
-    let k = b.auto.1.1.1 in
-    ((b.ensures.1, roomy_same (ap (λ (x : Solver). x.variables) b.ensures.0) (ap (λ (x : Solver). x.nodes) b.ensures.0) k.0 k.1.0 k.1.1.0 k.1.1.1.0 c.before.before.before.before.before.before.before.before.before.before.before.before.before.before.before.before.before.before.before.before.before.before.before.before.requires.0), c.before.before.before.before.before.before.before.before.before.before.before.before.before.before.before.before.before.before.before.before.before.before.before.before.requires.1)
+    let b = c.lay_fresh-x in
+    ((b.ensures.1, roomy_same (ap (λ (x : Solver). x.variables) b.ensures.0) (ap (λ (x : Solver). x.nodes) b.ensures.0) c.lay_fresh-x.auto.a c.lay_fresh-x.auto.b c.lay_fresh-x.auto.c c.lay_fresh-x.auto.d c.requires.0), c.requires.1)
 
-mul-clear-session : tie.Need-overflow-mul-clear-session
+mul-clear-session : tie.Need-offset_bounds-c-half
 mul-clear-session c =
-    omega (arith, c.before.before.before.before.before.before.before.before.before.before.before.before.before.before.before.before.before.before.before.before.before.before.before.before.before.before.before.before.before.before.before.before.before.before.before.before.before.before.requires.0.table, c.before.before.before.before.before.before.before.before.before.before.before.before.before.before.before.before.before.before.before.before.before.before.before.before.before.before.before.before.before.before.before.before.before.before.before.before.before.before.requires.0.few)
+    omega (arith, c.requires.0.table, c.requires.0.few)
 
-sub-clear-session : tie.Need-overflow-sub-clear-session
+sub-clear-session : tie.Need-slice_bounds-clear_session-count
 sub-clear-session c =
-    omega (arith, c.before.before.before.before.before.before.before.before.before.before.before.before.before.answer-orders.auto.1.1.1.1.1.1.0, c.before.before.before.before.before.before.before.before.before.before.before.before.before.before.before.before.before.before.before.before.before.before.before.before.before.before.before.lay-fresh.auto.1.1.1.1.1.0, c.before.before.before.before.before.before.before.before.before.before.before.before.before.before.before.before.before.before.before.before.before.before.before.before.before.before.before.before.before.before.before.before.before.before.before.before.before.before.requires.0.c_size, c.before.before.before.before.before.before.before.before.before.before.before.before.before.before.before.before.before.before.before.before.before.before.before.before.before.before.before.before.before.before.before.before.before.before.before.before.before.before.requires.0.table)
+    omega (arith, c.answer_orders-r.auto.c, c.lay_fresh-x.auto.c, c.requires.0.c_size, c.requires.0.table)
 
-part-clear-session-start : tie.Need-slice-bounds-clear-session-start
+part-clear-session-start : tie.Need-slice_bounds-clear_session-start
 part-clear-session-start c =
-    omega (arith, c.before.before.before.before.before.before.before.before.before.before.before.before.before.answer-orders.auto.1.1.1.1.1.1.0, c.before.before.before.before.before.before.before.before.before.before.before.before.before.before.before.before.before.before.before.before.before.before.before.before.before.before.before.lay-fresh.auto.1.1.1.1.1.0, c.before.before.before.before.before.before.before.before.before.before.before.before.before.before.before.before.before.before.before.before.before.before.before.before.before.before.before.before.before.before.before.before.before.before.before.before.before.before.requires.0.c_size, c.before.before.before.before.before.before.before.before.before.before.before.before.before.before.before.before.before.before.before.before.before.before.before.before.before.before.before.before.before.before.before.before.before.before.before.before.before.before.requires.0.table)
+    omega (arith, c.answer_orders-r.auto.c, c.lay_fresh-x.auto.c, c.requires.0.c_size, c.requires.0.table)
 
-part-clear-session-end : tie.Need-slice-bounds-clear-session-end
+part-clear-session-end : tie.Need-slice_bounds-clear_session-end
 part-clear-session-end c = search rules
 
-clear-session-requires : tie.Need-clear-session-requires
+clear-session-requires : tie.Need-clear_session-requires
 clear-session-requires c κs =
-    let L = c.before.before.before.before.before.before.before.before.before.before.before.before.before.before.answer-orders.ensures.1 in
-    (L.session, lays_holds _ c.before.before.before.before.before.before.before.before.before.before.before.before.before.before.before.before.before.before.before.before.before.before.before.before.before.before.before.before.before.before.before.before.before.before.before.before.before.before.before.args.half _ _ _ _ L.session L.in_areas)
+    let L = c.answer_orders-r.ensures.1 in
+    (L.session, lays_holds _ c.args.half _ _ _ _ L.session L.in_areas)
 
-same_length : tie.Need-same-length
+same_length : tie.Need-shape_of-out
 same_length c = search rules
 
-same-length-2 : tie.Need-same-length-2
+same-length-2 : tie.Need-shape_of-a
 same-length-2 c =
-    omega (arith, c.before.before.before.before.before.before.before.clear-session.auto.1.0, c.before.before.before.before.before.before.before.before.before.before.before.before.before.before.before.before.before.before.before.before.before.before.answer-orders.auto.1.1.1.1.0, c.before.before.before.before.before.before.before.before.before.before.before.before.before.before.before.before.before.before.before.before.before.before.before.before.before.before.before.before.before.before.before.before.before.before.before.before.lay-fresh.auto.1.1.1.0)
+    omega (arith, c.clear_session.auto.a, c.answer_orders-r.auto.a, c.lay_fresh-x.auto.a)
 
-same-length-3 : tie.Need-same-length-3
+same-length-3 : tie.Need-shape_of-b
 same-length-3 c =
-    omega (arith, c.before.before.before.before.before.before.before.clear-session.auto.1.1.0, c.before.before.before.before.before.before.before.before.before.before.before.before.before.before.before.before.before.before.before.before.before.before.answer-orders.auto.1.1.1.1.1.0, c.before.before.before.before.before.before.before.before.before.before.before.before.before.before.before.before.before.before.before.before.before.before.before.before.before.before.before.before.before.before.before.before.before.before.before.before.lay-fresh.auto.1.1.1.1.0)
+    omega (arith, c.clear_session.auto.b, c.answer_orders-r.auto.b, c.lay_fresh-x.auto.b)
 
-same-length-4 : tie.Need-same-length-4
+same-length-4 : tie.Need-shape_of-c
 same-length-4 c =
-    let l = c.before.before.before.before.before.before.before.before.before.before.before.before.before.before.before.before.before.before.before.before.before.before.answer-orders.new.1.1.1.1.1.1.0 in
-    let u = c.before.before.before.before.before.before.before.clear-session in
-    omega (arith, same_len_mid c.before.before.before.before.before.before.before.before.before.before.before.before.before.before.before.before.before.before.before.before.before.before.before.before.before.before.before.before.before.before.before.before.before.before.before.before.before.before.before.before.before.before.before.before.before.before.before.args.half (length l - c.before.before.before.before.before.before.before.before.before.before.before.before.before.before.before.before.before.before.before.before.before.before.before.before.before.before.before.before.before.before.before.before.before.before.before.before.before.before.before.before.before.before.before.before.before.before.before.args.half) l u.new.1.1.1.0 u.auto.1.1.1.0, c.before.before.before.before.before.before.before.before.before.before.before.before.before.before.before.before.before.before.before.before.before.before.answer-orders.auto.1.1.1.1.1.1.0, c.before.before.before.before.before.before.before.before.before.before.before.before.before.before.before.before.before.before.before.before.before.before.before.before.before.before.before.before.before.before.before.before.before.before.before.before.lay-fresh.auto.1.1.1.1.1.0)
+    let l = c.answer_orders-r.new.c in
+    let u = c.clear_session in
+    omega (arith, same_len_mid c.args.half (length l - c.args.half) l c.clear_session.new.tables c.clear_session.auto.tables, c.answer_orders-r.auto.c, c.lay_fresh-x.auto.c)
 
-same-length-5 : tie.Need-same-length-5
+same-length-5 : tie.Need-shape_of-d
 same-length-5 c = search rules
 
 returns : tie.Need-returns
 returns c =
-    let a = c.before.before.before.before.before.before.before.before.before.before.before.before.before.before.before.before.before.before.before.before.before.before.before.before.before.before.before.before.before.before.before.before.before.before.before.before.before.before.before.before.before.before.before.before.before.before.before.args in
-    let r = c.before.before.before.before.before.before.before.before.before.before.before.before.before.before.before.before.before.before.before.before.before.before.answer-orders in
-    let L = r.ensures.1 in
-    let e = c.before.before.before.before.before.before.before.clear-session.ensures in
-    let k = c.before.before.before.before.before.before.before.clear-session.new in (
-      rw c.before.before.before.before.before.before.before.before.before.before.before.before.before.before.before.before.before.before.before.before.before.before.before.before.before.before.before.before.before.before.before.before.before.before.before.before.lay-fresh.ensures.0 at r.ensures.0,
-      (zero_cleared k.1.0 (length r.new.1.1.1.1.0) e.0, zero_cleared k.1.1.0 (length r.new.1.1.1.1.1.0) e.1.0, front_zero a.half _ _ (omega (arith, r.auto.1.1.1.1.1.1.0, c.before.before.before.before.before.before.before.before.before.before.before.before.before.before.before.before.before.before.before.before.before.before.before.before.before.before.before.before.before.before.before.before.before.before.before.before.lay-fresh.auto.1.1.1.1.1.0, c.before.before.before.before.before.before.before.before.before.before.before.before.before.before.before.before.before.before.before.before.before.before.before.before.before.before.before.before.before.before.before.before.before.before.before.before.before.before.before.before.before.before.before.before.before.before.before.requires.0.c_size, c.before.before.before.before.before.before.before.before.before.before.before.before.before.before.before.before.before.before.before.before.before.before.before.before.before.before.before.before.before.before.before.before.before.before.before.before.before.before.before.before.before.before.before.before.before.before.before.requires.0.table)) L.in_areas.front e.1.1, L.in_areas.work),
+    let a = c.args in
+    let r = c.answer_orders-r in
+    let L = c.answer_orders-r.ensures.1 in
+    let e = c.clear_session.ensures in
+    (
+      rw c.lay_fresh-x.ensures.0 at r.ensures.0,
+      (zero_cleared c.clear_session.new.a (length c.answer_orders-r.new.a) e.0, zero_cleared c.clear_session.new.b (length c.answer_orders-r.new.b) e.1.0, front_zero a.half _ _ (omega (arith, c.answer_orders-r.auto.c, c.lay_fresh-x.auto.c, c.requires.0.c_size, c.requires.0.table)) L.in_areas.front e.1.1, L.in_areas.work),
     )
 
-pub run-in-spec : {M : Type 1} → statement M
-run-in-spec =
+pub run_in_spec : {M : Type 1} → statement M
+run_in_spec =
     tie.close
     (tie.spec
     lay-fresh-requires

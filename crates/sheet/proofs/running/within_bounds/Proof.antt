@@ -4,29 +4,29 @@ use Rattle.sheet.specs.Entry.{sizes_accepted}
 use Rattle.sheet.proofs.running.within_bounds.Statement.{statement}
 use Rattle.sheet.proofs.running.within_bounds.Tie as tie
 
-returns : tie.Need-returns
+returns : tie.Need-returns-then-sheet-gt16777216
 unfolding sizes_accepted
-returns c = simp (lt-leb _ _ c.if1.true)
+returns c = simp (lt-leb _ _ c.if-sheet-gt16777216.true)
 
-returns-2 : tie.Need-returns-2
+returns-2 : tie.Need-returns-then-out-gt16777216
 unfolding sizes_accepted
-returns-2 c = simp (le-leb _ _ c.before.if1.false, lt-leb _ _ c.if2.true)
+returns-2 c = simp (le-leb _ _ c.if-sheet-gt16777216.false, lt-leb _ _ c.if-out-gt16777216.true)
 
-returns-3 : tie.Need-returns-3
+returns-3 : tie.Need-returns-then-a-lt16384
 unfolding sizes_accepted
-returns-3 c = simp (le-leb _ _ c.before.before.if1.false, le-leb _ _ c.before.if2.false, lt-leb _ _ c.if3.true)
+returns-3 c = simp (le-leb _ _ c.if-sheet-gt16777216.false, le-leb _ _ c.if-out-gt16777216.false, lt-leb _ _ c.if-a-lt16384.true)
 
-returns-4 : tie.Need-returns-4
+returns-4 : tie.Need-returns-then-b-lt16384
 unfolding sizes_accepted
-returns-4 c = simp (le-leb _ _ c.before.before.before.if1.false, le-leb _ _ c.before.before.if2.false, le-leb _ _ c.before.if3.false, lt-leb _ _ c.if4.true)
+returns-4 c = simp (le-leb _ _ c.if-sheet-gt16777216.false, le-leb _ _ c.if-out-gt16777216.false, le-leb _ _ c.if-a-lt16384.false, lt-leb _ _ c.if-b-lt16384.true)
 
-returns-5 : tie.Need-returns-5
+returns-5 : tie.Need-returns-then-c-lt16384
 unfolding sizes_accepted
-returns-5 c = simp (le-leb _ _ c.before.before.before.before.if1.false, le-leb _ _ c.before.before.before.if2.false, le-leb _ _ c.before.before.if3.false, le-leb _ _ c.before.if4.false, lt-leb _ _ c.if5.true)
+returns-5 c = simp (le-leb _ _ c.if-sheet-gt16777216.false, le-leb _ _ c.if-out-gt16777216.false, le-leb _ _ c.if-a-lt16384.false, le-leb _ _ c.if-b-lt16384.false, lt-leb _ _ c.if-c-lt16384.true)
 
-returns-6 : tie.Need-returns-6
+returns-6 : tie.Need-returns
 unfolding sizes_accepted
-returns-6 c = simp (le-leb _ _ c.before.before.before.before.if1.false, le-leb _ _ c.before.before.before.if2.false, le-leb _ _ c.before.before.if3.false, le-leb _ _ c.before.if4.false, le-leb _ _ c.if5.false)
+returns-6 c = simp (le-leb _ _ c.if-sheet-gt16777216.false, le-leb _ _ c.if-out-gt16777216.false, le-leb _ _ c.if-a-lt16384.false, le-leb _ _ c.if-b-lt16384.false, le-leb _ _ c.if-c-lt16384.false)
 
-pub within-bounds-spec : {M : Type 1} → statement M
-within-bounds-spec = tie.close (tie.spec returns returns-2 returns-3 returns-4 returns-5 returns-6)
+pub within_bounds_spec : {M : Type 1} → statement M
+within_bounds_spec = tie.close (tie.spec returns returns-2 returns-3 returns-4 returns-5 returns-6)
