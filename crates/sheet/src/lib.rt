@@ -1,5 +1,6 @@
 // The sheet: orders read, answered and framed; the run.
 #![tactic(auto)]
+
 mod dispatch;
 mod fields;
 mod framing;

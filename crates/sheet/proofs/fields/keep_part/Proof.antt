@@ -1,10 +1,11 @@
 -- `keep_part`: by the sort.
-use mathlib.Core.Logic.{inl, inr, ⊎_elim}
+use mathlib.Core.Logic.{inl, inr}
 use Rattle.solver.specs.Terms.Tokens.{area}
 use Rattle.solver.specs.Terms.StepCodes.{place}
 use Rattle.sheet.proofs.Laws.Reading.PartLaws.{either_told, list_told}
 use borrow.Author.Rules.{rules}
 use Rattle.sheet.proofs.fields.keep_part.Statement.{statement}
+use Rattle.sheet.proofs.fields.keep_part.Lts.{in_default-via-then-sort-lt4, in_default-via-else-sort-lt4+else-sort-lt6}
 use Rattle.sheet.proofs.fields.keep_part.Tie as tie
 
 read-part-requires : tie.Need-read_part-requires
@@ -43,7 +44,7 @@ returns-2 c =
     let r = c.read_list in
     list_told a.s.now ws a.issued (place a.at.now a.top.now a.nodes.now a.limit) (area a.kinds.now a.vals.now) (area c.read_list.new.kinds c.read_list.new.vals) c.requires.1 a.count
     r.result c.read_list.new.at c.read_list.new.top c.read_list.new.nodes a.sort c.keys_of.result
-    (⊎_elim (λ v. inl v.taken) (λ v. inr v.1.left) c.in_default.branch) c.keys_of.ensures r.ensures
+    (elim c.in_default.branch [ in_default-via-then-sort-lt4 v ↦ inl v.if-sort-lt4-1.true | in_default-via-else-sort-lt4+else-sort-lt6 v ↦ inr v.if-sort-lt6-1.false ]) c.keys_of.ensures r.ensures
 
 pub keep_part_spec : {M : Type 1} → statement M
 keep_part_spec =

@@ -1,5 +1,5 @@
 -- `read_plain`: by the sort.
-use mathlib.Core.Logic.{◌⊎◌, inl, inr, ⊎_elim}
+use mathlib.Core.Logic.{◌⊎◌, inl, inr}
 use mathlib.Core.Path.{◌≡◌}
 use Prim.Native.Nat.{◌≤◌, ◌<◌}
 use native.Mathlib.Omega.{arith}
@@ -9,6 +9,7 @@ use Rattle.sheet.specs.Words.FieldLayout.{plain_of}
 use Rattle.sheet.proofs.Laws.Reading.PartLaws.{value_said, plain_tree, plain_list}
 use borrow.Author.Rules.{rules}
 use Rattle.sheet.proofs.fields.read_plain.Statement.{statement}
+use Rattle.sheet.proofs.fields.read_plain.Lts.{in_default-via-then-sort-lt1, in_default-via-else-sort-lt1+else-sort-lt6, in-2-1, in_default+else-sort-lt1+then-sort-lt6}
 use Rattle.sheet.proofs.fields.read_plain.Tie as tie
 
 number-at-requires : tie.Need-number_at-requires
@@ -66,7 +67,7 @@ same-length-2 c = search rules
 returns-5 : tie.Need-returns-in_default
 returns-5 c =
     let a = c.args in
-    let h : (a.sort < 1) ⊎ (6 ≤ a.sort) = ⊎_elim (λ v. inl v.taken) (λ v. inr v.1.left) c.in_default.branch in
+    let h : (a.sort < 1) ⊎ (6 ≤ a.sort) = elim c.in_default.branch [ in_default-via-then-sort-lt1 v ↦ inl v.if-sort-lt1-1.true | in_default-via-else-sort-lt1+else-sort-lt6 v ↦ inr v.if-sort-lt6-1.false ] in
     let r = c.in_default-1.rest in
     λ ws. rw (plain_list a.s.now a.issued a.sort a.at.now h r.0.1 r.1) (c.list_field.ensures ws)
 
@@ -79,7 +80,7 @@ same-length-4 c = search rules
 returns-6 : tie.Need-returns-in-2
 returns-6 c =
     let a = c.args in
-    let h : (a.sort ≡ 2) ⊎ ((3 < a.sort) × (a.sort < 6)) = ⊎_elim (λ v. inl v.keys2) (λ v. inr (omega (arith, v.1.left, v.0.rest.0.0.0.0.1, v.0.rest.0.0.0.1, v.0.rest.0.0.1), v.2.taken)) c.in-2-1.branch in
+    let h : (a.sort ≡ 2) ⊎ ((3 < a.sort) × (a.sort < 6)) = elim c.in-2-1.branch [ in-2-1 v ↦ inl v.in-2-1.keys2 | in_default+else-sort-lt1+then-sort-lt6 v ↦ inr (omega (arith, v.if-sort-lt1-1.false, v.in_default-1.rest.0.0.0.0.1, v.in_default-1.rest.0.0.0.1, v.in_default-1.rest.0.0.1), v.if-sort-lt6-1.true) ] in
     λ ws. rw (plain_tree a.s.now a.issued a.sort a.at.now h) (c.tree_field.ensures ws)
 
 pub read_plain_spec : {M : Type 1} → statement M

@@ -98,7 +98,7 @@ returns-2 : tie.Need-returns-then-out-r invariant-loop decreases-loop
 returns-2 c =
     let e = c.closed-then-out-r.ensures in
     rw (e.0, e.1, e.2, e.3)
-    (ends_long c.loop-at.invariant.0 _ _ _ _ _ c.serve_order-r.ensures c.loop-at-test.true (told c.before.before.before.before.before.before.before.before.before.before.before.before.before.before.before.before.before.before.before)
+    (ends_long c.loop-at.invariant.0 _ _ _ _ _ c.serve_order-r.ensures c.loop-at-test.true (told c.before.before.before.before.before.before.before.before.before.before.before.before.before.before.before.before.before.before.before.before)
     (omega (arith, c.if-out-r.true, c.serve_order-r.auto.out)))
 
 add-orders : tie.Need-overflow_add-orders invariant-loop decreases-loop

@@ -75,8 +75,7 @@ returns c =
     let a = c.args in
     let r = c.answer_orders-r in
     let L = c.answer_orders-r.ensures.1 in
-    let e = c.clear_session.ensures in
-    (
+    let e = c.clear_session.ensures in (
       rw c.lay_fresh-x.ensures.0 at r.ensures.0,
       (zero_cleared c.clear_session.new.a (length c.answer_orders-r.new.a) e.0, zero_cleared c.clear_session.new.b (length c.answer_orders-r.new.b) e.1.0, front_zero a.half _ _ (omega (arith, c.answer_orders-r.auto.c, c.lay_fresh-x.auto.c, c.requires.0.c_size, c.requires.0.table)) L.in_areas.front e.1.1, L.in_areas.work),
     )
