@@ -7,56 +7,56 @@ use Rattle.reread.proofs.answer.Statement.{statement}
 use Rattle.reread.proofs.answer.Tie as tie
 
 -- the tokens that are kept lie within the areas
-within : (c : tie.After-f3) → Sound (length c.before.before.before.before.before.args.kinds.now) (length c.before.before.before.before.before.args.vals.now) (Kept c.f3.given.0.0 c.f3.given.0.1.0 c.f3.given.0.1.1.0)
-within c = rw c.f3.given.1 at c.before.before.before.before.before.requires.1
+within : (c : tie.In-Kept) → Sound (length c.args.kinds.now) (length c.args.vals.now) (Kept c.in-Kept.nodes c.in-Kept.tokens c.in-Kept.first)
+within c = rw c.in-Kept.is at c.requires.1
 
-enum-known-f : tie.Need-enum-known-f
+enum-known-f : tie.Need-enum_known-f
 enum-known-f c = search rules
 
-refused-answer-requires : tie.Need-refused-answer-requires
+refused-answer-requires : tie.Need-refused_answer-requires
 refused-answer-requires c κs = search rules
 
-enum-known-f-2 : tie.Need-enum-known-f-2
+enum-known-f-2 : tie.Need-enum_known-f-in-Number-1
 enum-known-f-2 c = search rules
 
-number-answer-requires : tie.Need-number-answer-requires
+number-answer-requires : tie.Need-number_answer-requires
 number-answer-requires c κs = search rules
 
-enum-known-f-3 : tie.Need-enum-known-f-3
+enum-known-f-3 : tie.Need-enum_known-f-in-Kept-1
 enum-known-f-3 c = search rules
 
-kept-answer-requires : tie.Need-kept-answer-requires
-kept-answer-requires c κs = (c.before.before.before.before.before.before.before.before.before.requires.0, within c.before.before.before.before)
+kept-answer-requires : tie.Need-kept_answer-r-requires
+kept-answer-requires c κs = (c.requires.0, within c.before.before.before.before.before)
 
-clear-tokens-requires : tie.Need-clear-tokens-requires
+clear-tokens-requires : tie.Need-clear_tokens-requires
 clear-tokens-requires c κs = search rules
 
-same_length : tie.Need-same-length
+same_length : tie.Need-shape_of-out-in-Refused
 same_length c = search rules
 
-returns : tie.Need-returns
+returns : tie.Need-returns-in-Refused
 returns c = search rules
 
-same-length-2 : tie.Need-same-length-2
+same-length-2 : tie.Need-shape_of-out-in-Number
 same-length-2 c = search rules
 
-returns-2 : tie.Need-returns-2
+returns-2 : tie.Need-returns-in-Number
 returns-2 c = search rules
 
-same-length-3 : tie.Need-same-length-3
+same-length-3 : tie.Need-shape_of-kinds
 same-length-3 c = search rules
 
-same-length-4 : tie.Need-same-length-4
+same-length-4 : tie.Need-shape_of-vals
 same-length-4 c = search rules
 
-same-length-5 : tie.Need-same-length-5
+same-length-5 : tie.Need-shape_of-out-in-Kept
 same-length-5 c = search rules
 
-returns-3 : tie.Need-returns-3
+returns-3 : tie.Need-returns-in-Kept
 returns-3 c = search rules
 
-pub answer-spec : {M : Type 1} → statement M
-answer-spec =
+pub answer_spec : {M : Type 1} → statement M
+answer_spec =
     tie.close
     (tie.spec
     enum-known-f

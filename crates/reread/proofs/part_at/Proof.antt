@@ -8,35 +8,35 @@ use Rattle.reread.proofs.part_at.Statement.{statement}
 use Rattle.reread.proofs.part_at.Tie as tie
 
 -- where a length ends
-after : (c : tie.After-r) → Bounded 4294967295 c.before.before.before.before.args.at (length c.before.before.before.before.args.s.now) c.r.given.0.0 c.r.given.0.1.0
-after c = number_bounds _ c.before.before.before.before.args.s.now c.before.before.before.before.args.at _ _ (omega arith) (sym (rw c.r.given.1 at c.before.before.read_number.ensures))
+after : (c : tie.In-Value) → Bounded 4294967295 c.args.at (length c.args.s.now) c.in-Value.size c.in-Value.from
+after c = number_bounds _ c.args.s.now c.args.at _ _ (omega arith) (sym (rw c.in-Value.is at c.read_number-r.ensures))
 
-read-number-requires : tie.Need-read-number-requires
+read-number-requires : tie.Need-read_number-r-requires
 read-number-requires c κs = search rules
 
-enum-known-r : tie.Need-enum-known-r
+enum-known-r : tie.Need-enum_known-r
 enum-known-r c = search rules
 
-sub-if1 : tie.Need-overflow-sub-if1
-sub-if1 c = omega (arith, (after c.before).inside)
+sub-if1 : tie.Need-overflow_sub-s
+sub-if1 c = omega (arith, (after c).inside)
 
-returns : tie.Need-returns
+returns : tie.Need-returns-then-s-from
 returns c = search rules
 
-add-t8 : tie.Need-overflow-add-t8
+add-t8 : tie.Need-overflow_add-result
 add-t8 c = search rules
 
-enum_told : tie.Need-enum-told
+enum_told : tie.Need-enum_told-1
 enum_told c = search rules
 
-returns-2 : tie.Need-returns-2
-returns-2 c = omega (arith, (after c.before.before).inside, (after c.before.before).after)
+returns-2 : tie.Need-returns-else-s-from
+returns-2 c = omega (arith, (after c.before).inside, (after c.before).after)
 
-returns-3 : tie.Need-returns-3
+returns-3 : tie.Need-returns-in-Refused
 returns-3 c = search rules
 
-pub part-at-spec : {M : Type 1} → statement M
-part-at-spec =
+pub part_at_spec : {M : Type 1} → statement M
+part_at_spec =
     tie.close
     (tie.spec
     read-number-requires

@@ -9,84 +9,84 @@ use borrow.Author.Rules.{rules}
 use Rattle.reread.proofs.run.Statement.{statement}
 use Rattle.reread.proofs.run.Tie as tie
 
-abbrev invariant-loop : tie.invariant-loop
+abbrev invariant-loop : tie.invariant-loop-at
 invariant-loop s kinds₀ vals₀ out₀ at₀ to₀ kinds vals out at to =
     (at ≤ length s) × (to ≤ length out) × (length kinds ≡ length kinds₀) × (length vals ≡ length vals₀) × (length out ≡ length out₀)
 
-abbrev decreases-loop : tie.decreases-loop
+abbrev decreases-loop : tie.decreases-loop-at
 decreases-loop s kinds₀ vals₀ out₀ at₀ to₀ kinds vals out at to = length s - at
 
 -- where the frame lies
-lies : (c : tie.After-part invariant-loop decreases-loop) → Inside c.before.before.before.before.loop.at (length c.before.before.before.before.before.before.before.before.before.args.s.now) (Lies c.part.given.0.0 c.part.given.0.1.0)
-lies c = rw c.part.given.1 at c.before.before.part_at.ensures
+lies : (c : tie.In-Lies invariant-loop decreases-loop) → Inside c.loop-at.at (length c.args.s.now) (Lies c.in-Lies.from c.in-Lies.end)
+lies c = rw c.in-Lies.is at c.part_at-part.ensures
 
-loop-holds : tie.Need-loop-init invariant-loop decreases-loop
+loop-holds : tie.Need-loop-at-init invariant-loop decreases-loop
 loop-holds c = search rules
 
-part-at-requires : tie.Need-part-at-requires invariant-loop decreases-loop
+part-at-requires : tie.Need-part_at-part-requires invariant-loop decreases-loop
 part-at-requires c κs = search rules
 
-enum-known-part : tie.Need-enum-known-part invariant-loop decreases-loop
+enum-known-part : tie.Need-enum_known-part invariant-loop decreases-loop
 enum-known-part c = search rules
 
-sub-answer-frame : tie.Need-overflow-sub-answer-frame invariant-loop decreases-loop
-sub-answer-frame c = omega (arith, lies c.before)
+sub-answer-frame : tie.Need-slice_bounds-answer_frame-count invariant-loop decreases-loop
+sub-answer-frame c = omega (arith, lies c)
 
-part-answer-frame-start : tie.Need-slice-bounds-answer-frame-start invariant-loop decreases-loop
-part-answer-frame-start c = omega (arith, lies c.before)
+part-answer-frame-start : tie.Need-slice_bounds-answer_frame-start invariant-loop decreases-loop
+part-answer-frame-start c = omega (arith, lies c)
 
-part-answer-frame-end : tie.Need-slice-bounds-answer-frame-end invariant-loop decreases-loop
-part-answer-frame-end c = omega (arith, lies c.before)
+part-answer-frame-end : tie.Need-slice_bounds-answer_frame-end invariant-loop decreases-loop
+part-answer-frame-end c = omega (arith, lies c)
 
-answer-frame-requires : tie.Need-answer-frame-requires invariant-loop decreases-loop
-answer-frame-requires c κs = (simp (length-take, length-drop) (omega (arith, lies c.before.before.before.before.before)), c.before.before.before.before.before.before.before.before.before.loop.invariant.1)
+answer-frame-requires : tie.Need-answer_frame-next-requires invariant-loop decreases-loop
+answer-frame-requires c κs = (simp (length-take, length-drop) (omega (arith, lies c.before.before.before.before)), c.loop-at.invariant.1)
 
-same_length : tie.Need-same-length invariant-loop decreases-loop
+same_length : tie.Need-shape_of-kinds-then-next-to invariant-loop decreases-loop
 same_length c = search rules
 
-same-length-2 : tie.Need-same-length-2 invariant-loop decreases-loop
+same-length-2 : tie.Need-shape_of-vals-then-next-to invariant-loop decreases-loop
 same-length-2 c = search rules
 
-same-length-3 : tie.Need-same-length-3 invariant-loop decreases-loop
+same-length-3 : tie.Need-shape_of-out-then-next-to invariant-loop decreases-loop
 same-length-3 c = search rules
 
-returns : tie.Need-returns invariant-loop decreases-loop
+returns : tie.Need-returns-then-next-to invariant-loop decreases-loop
 returns c = search rules
 
-loop-less : tie.Need-loop-smaller invariant-loop decreases-loop
-loop-less c = omega (arith, lies c.before.before.before.before.before.before.before.before.before.before.before.before.before)
+loop-less : tie.Need-loop-at-smaller invariant-loop decreases-loop
+loop-less c = omega (arith, lies c.before.before.before.before.before.before.before.before.before.before.before.before)
 
-loop-again : tie.Need-loop-preserved invariant-loop decreases-loop
+loop-again : tie.Need-loop-at-preserved invariant-loop decreases-loop
 loop-again c =
-    let i = c.before.before.before.before.before.before.before.before.before.before.before.before.before.before.before.before.before.loop.invariant in
-    let r = c.before.before.before.before.before.before.before.answer-frame in
-    (omega (arith, lies c.before.before.before.before.before.before.before.before.before.before.before.before.before), r.ensures, r.auto.1.0 ∙ i.2, r.auto.1.1.0 ∙ i.3, r.auto.1.1.1.0 ∙ i.4)
+    let i = c.loop-at.invariant in
+    let r = c.answer_frame-next in
+    (omega (arith, lies c.before.before.before.before.before.before.before.before.before.before.before.before), r.ensures, c.answer_frame-next.auto.kinds ∙ i.2, c.answer_frame-next.auto.vals ∙ i.3, c.answer_frame-next.auto.out ∙ i.4)
 
-enum_told : tie.Need-enum-told invariant-loop decreases-loop
+enum_told : tie.Need-enum_told-1 invariant-loop decreases-loop
 enum_told c = search rules
 
-same-length-4 : tie.Need-same-length-4 invariant-loop decreases-loop
+same-length-4 : tie.Need-shape_of-kinds-in-Nowhere invariant-loop decreases-loop
 same-length-4 c = search rules
 
-same-length-5 : tie.Need-same-length-5 invariant-loop decreases-loop
+same-length-5 : tie.Need-shape_of-vals-in-Nowhere invariant-loop decreases-loop
 same-length-5 c = search rules
 
-same-length-6 : tie.Need-same-length-6 invariant-loop decreases-loop
+same-length-6 : tie.Need-shape_of-out-in-Nowhere invariant-loop decreases-loop
 same-length-6 c = search rules
 
-returns-2 : tie.Need-returns-2 invariant-loop decreases-loop
+returns-2 : tie.Need-returns-in-Nowhere invariant-loop decreases-loop
 returns-2 c = search rules
 
-same-length-7 : tie.Need-same-length-7 invariant-loop decreases-loop
+same-length-7 : tie.Need-shape_of-kinds invariant-loop decreases-loop
 same-length-7 c = search rules
 
-same-length-8 : tie.Need-same-length-8 invariant-loop decreases-loop
+same-length-8 : tie.Need-shape_of-vals invariant-loop decreases-loop
 same-length-8 c = search rules
 
-same-length-9 : tie.Need-same-length-9 invariant-loop decreases-loop
+same-length-9 : tie.Need-shape_of-out invariant-loop decreases-loop
 same-length-9 c = search rules
 
-returns-3 : tie.Need-returns-3 invariant-loop decreases-loop
+returns-3 : tie.Need-returns invariant-loop decreases-loop
 returns-3 c = search rules
 
 pub run_spec : {M : Type 1} → statement M
