@@ -1,5 +1,6 @@
 // The sheet program: reads a sheet of up to 32,768 bytes from standard input, later bytes unread, and writes the answers.
 #![tactic(auto)]
+
 fn main() {
     let mut sheet = [0u8; 32768];
     let mut out = [0u8; 32768];

@@ -1,6 +1,7 @@
 // The functions that programs in other languages call, with no condition in their contracts: `rt staticlib entry` writes target/staticlib/libentry.a.
 // bindings/c/sheet.h and bindings/rust/src/ffi.rs declare them, and bindings/declared.py compares these declarations with this file.
 #![tactic(auto)]
+
 ghost use Rattle.std.specs.Prelude.{◌≡◌, ℕ, ◌<◌, get_or};
 ghost use Rattle.sheet.specs.Entry.{document_limits, finished, entry_result};
 

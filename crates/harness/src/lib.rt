@@ -1,5 +1,6 @@
 // A sheet run in an output and areas that are filled before it and looked at after it, as the head of a frame says.
 #![tactic(auto)]
+
 ghost use Rattle.std.specs.Prelude.{◌≡◌, ◌≤◌, length};
 
 use frames::{all_bytes, all_words, fill_bytes, fill_words, low_byte, number_at, number_within};

@@ -4,6 +4,7 @@
 // told, the answers, the output after them, which is as it was, and the areas, which are all 0, or as they were under reason 12. The program
 // writes how many vectors there were, how many of them differ, and the index of the first that does, which is the number of vectors where none does.
 #![tactic(auto)]
+
 ghost use Rattle.std.specs.Prelude.{◌≡◌, ◌≤◌, length};
 
 use frames::{number_at, number_within, read_part};

@@ -4,6 +4,7 @@
 // left over (1) are refused before more than 2,048 nodes (7). After each frame both areas must be clear: else its answer is left out and the
 // run ends, as it does at a faulty length and where an answer does not fit.
 #![tactic(auto)]
+
 ghost use Rattle.std.specs.Prelude.{◌≡◌, ◌+◌, ◌≤◌, ◌<◌, length};
 ghost use Rattle.reread.specs.Frame.{Sound, Inside};
 

@@ -3,6 +3,7 @@
 // and then the sheet. For each frame the program writes the reason, a byte; the orders answered and the bytes of answers, four bytes each; a byte that
 // is 1 where the output after the answers is as it was, and the areas are all 0, or as they were under reason 12; and the answers.
 #![tactic(auto)]
+
 ghost use Rattle.std.specs.Prelude.{◌≡◌, ◌≤◌, ◌<◌, length};
 
 use frames::{low_byte, number_within, put_number, read_part};

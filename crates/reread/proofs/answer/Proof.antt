@@ -1,14 +1,10 @@
--- `answer`: by what the frame holds.
+-- `answer`: by what the frame holds; the tokens that are kept lie within the areas.
 use Rattle.reread.specs.Frame.{Sound}
 use Rattle.reread.specs.declared.Frame.TheVariants.{Kept}
 use lib.ListN.{length}
 use borrow.Author.Rules.{rules}
 use Rattle.reread.proofs.answer.Statement.{statement}
 use Rattle.reread.proofs.answer.Tie as tie
-
--- the tokens that are kept lie within the areas
-within : (c : tie.In-Kept) → Sound (length c.args.kinds.now) (length c.args.vals.now) (Kept c.in-Kept.nodes c.in-Kept.tokens c.in-Kept.first)
-within c = rw c.in-Kept.is at c.requires.1
 
 enum-known-f : tie.Need-enum_known-f
 enum-known-f c = search rules
@@ -26,7 +22,9 @@ enum-known-f-3 : tie.Need-enum_known-f-in-Kept-1
 enum-known-f-3 c = search rules
 
 kept-answer-requires : tie.Need-kept_answer-r-requires
-kept-answer-requires c κs = (c.requires.0, within c.before.before.before.before.before)
+kept-answer-requires c κs =
+    let within : Sound (length c.args.kinds.now) (length c.args.vals.now) (Kept c.in-Kept.nodes c.in-Kept.tokens c.in-Kept.first) = rw c.in-Kept.is at c.requires.1 in
+    (c.requires.0, within)
 
 clear-tokens-requires : tie.Need-clear_tokens-requires
 clear-tokens-requires c κs = search rules

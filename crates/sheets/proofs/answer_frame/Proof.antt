@@ -6,65 +6,65 @@ use borrow.Author.Rules.{rules}
 use Rattle.sheets.proofs.answer_frame.Statement.{statement}
 use Rattle.sheets.proofs.answer_frame.Tie as tie
 
-read-full-requires : tie.Need-read-full-requires
+read-full-requires : tie.Need-read_full-n-requires
 read-full-requires c κs = search rules
 
-same_length : tie.Need-same-length
+same_length : tie.Need-shape_of-head-then-n-lt16
 same_length c = search rules
 
-returns : tie.Need-returns
+returns : tie.Need-returns-then-n-lt16
 returns c = search rules
 
-number-within-requires : tie.Need-number-within-requires
+number-within-requires : tie.Need-number_within-size-requires
 number-within-requires c κs = search rules
 
-read-part-requires : tie.Need-read-part-requires
+read-part-requires : tie.Need-read_part-requires
 read-part-requires c κs = search rules
 
-same-length-2 : tie.Need-same-length-2
+same-length-2 : tie.Need-shape_of-head-then-not-read_part
 same-length-2 c = search rules
 
-same-length-3 : tie.Need-same-length-3
+same-length-3 : tie.Need-shape_of-sheet-then-not-read_part
 same-length-3 c = search rules
 
-returns-2 : tie.Need-returns-2
+returns-2 : tie.Need-returns-then-not-read_part
 returns-2 c = search rules
 
-slice-reshare-prefix-answer-sheet : tie.Need-slice-reshare-prefix-answer-sheet
+slice-reshare-prefix-answer-sheet : tie.Need-slice_bounds-answer_sheet-end
 slice-reshare-prefix-answer-sheet c = search rules
 
-slice-aggregate-answer-sheet : tie.Need-slice-aggregate-answer-sheet
+slice-aggregate-answer-sheet : tie.Need-slice_bounds-answer_sheet-end-2
 slice-aggregate-answer-sheet c = sym (length-take-le _ _ (omega arith))
 
-answer-sheet-requires : tie.Need-answer-sheet-requires
+answer-sheet-requires : tie.Need-answer_sheet-requires
 answer-sheet-requires c κs = search rules
 
-same-length-4 : tie.Need-same-length-4
+same-length-4 : tie.Need-shape_of-head
 same-length-4 c = search rules
 
-same-length-5 : tie.Need-same-length-5
+same-length-5 : tie.Need-shape_of-sheet
 same-length-5 c = search rules
 
-same-length-6 : tie.Need-same-length-6
+same-length-6 : tie.Need-shape_of-out
 same-length-6 c = search rules
 
-same-length-7 : tie.Need-same-length-7
+same-length-7 : tie.Need-shape_of-a
 same-length-7 c = search rules
 
-same-length-8 : tie.Need-same-length-8
+same-length-8 : tie.Need-shape_of-b
 same-length-8 c = search rules
 
-same-length-9 : tie.Need-same-length-9
+same-length-9 : tie.Need-shape_of-c
 same-length-9 c = search rules
 
-same-length-10 : tie.Need-same-length-10
+same-length-10 : tie.Need-shape_of-d
 same-length-10 c = search rules
 
-returns-3 : tie.Need-returns-3
+returns-3 : tie.Need-returns
 returns-3 c = search rules
 
-pub answer-frame-spec : {M : Type 1} → statement M
-answer-frame-spec =
+pub answer_frame_spec : {M : Type 1} → statement M
+answer_frame_spec =
     tie.close
     (tie.spec
     read-full-requires

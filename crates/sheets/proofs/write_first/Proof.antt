@@ -6,14 +6,14 @@ use borrow.Author.Rules.{rules}
 use Rattle.sheets.proofs.write_first.Statement.{statement}
 use Rattle.sheets.proofs.write_first.Tie as tie
 
-slice-aggregate-write-all : tie.Need-slice-aggregate-write-all
+slice-aggregate-write-all : tie.Need-slice_bounds-write_all-end
 slice-aggregate-write-all c = sym (length-take-le _ _ (omega arith))
 
-write-all-requires : tie.Need-write-all-requires
+write-all-requires : tie.Need-write_all-requires
 write-all-requires c κs = search rules
 
 returns : tie.Need-returns
 returns c = search rules
 
-pub write-first-spec : {M : Type 1} → statement M
-write-first-spec = tie.close (tie.spec slice-aggregate-write-all write-all-requires returns)
+pub write_first_spec : {M : Type 1} → statement M
+write_first_spec = tie.close (tie.spec slice-aggregate-write-all write-all-requires returns)
