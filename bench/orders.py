@@ -5,7 +5,7 @@
   python3 bench/orders.py 12 20       these orders alone
   python3 bench/orders.py limits      the orders at the limits alone
 
-It needs valgrind and target/bin/checker. The instructions are those that
+It needs valgrind and crates/checker/out/checker. The instructions are those that
 callgrind counts; they are the same in every run. With A an order and B the
 same order with one byte too many, which is read, cleared and refused:
 
@@ -35,7 +35,7 @@ from orders_cases import (F64, G, I32, I64, NONE, RO, RW, U, arr, fun, gen, host
                           ref, rule, self_, seq, set_, struct, subst, to, tup)
 from orders_reference import GENERIC, SELF_TYPE, framed, member_of  # noqa: E402
 
-PROGRAM = os.path.join(ROOT, "target", "bin", "checker")
+PROGRAM = os.path.join(ROOT, "crates", "checker", "out", "checker")
 NODES = (64, 128, 256, 512, 1024, 2047)
 VISITS = (256, 512, 1024, 2048, 4096, 8192)
 MOST_GROWTH = 2.5
@@ -623,7 +623,7 @@ def limits():
 
 def main(words):
     if not os.path.exists(PROGRAM):
-        sys.exit("there is no target/bin/checker")
+        sys.exit("there is no crates/checker/out/checker")
     if words == ["limits"]:
         limits()
         return 0

@@ -5,7 +5,7 @@
   python3 bench/sheets.py classes hazards       these parts alone: classes, strict, ranges, hazards, solver, growth
   python3 bench/sheets.py classes --only deep   the rows whose name has this text
   python3 bench/sheets.py --quick               fewer and shorter rounds
-  --library FILE     the library (target/staticlib/libentry.a, which `rt staticlib entry` proves and writes)
+  --library FILE     the library (crates/entry/out/libentry.a, which `rt lib entry` proves and writes)
   --picture FILE     where the picture goes
 
 What is timed. A Rust program (bench/driver, rustc with opt-level 3) links the library and takes Kagari's Solver and
@@ -36,7 +36,7 @@ import sheet_classes as made  # noqa: E402
 from oracle import build as oracle  # noqa: E402
 
 OUT = os.path.join(ROOT, "target", "bench")
-LIBRARY = os.path.join(ROOT, "target", "staticlib", "libentry.a")
+LIBRARY = os.path.join(ROOT, "crates", "entry", "out", "libentry.a")
 PICTURE = os.path.join(ROOT, "docs", "benchmarks.svg")
 PARTS = ("classes", "strict", "ranges", "hazards", "solver", "growth")
 TURNS = 4           # of the two sides of the parts `strict` and `ranges`
@@ -45,7 +45,7 @@ TURNS = 4           # of the two sides of the parts `strict` and `ranges`
 def built(library, source):
     """Builds the driver and gives its path."""
     if not os.path.isfile(library):
-        sys.exit("there is no library %s: rt staticlib entry" % library)
+        sys.exit("there is no library %s: rt lib entry" % library)
     os.environ["KAGARI_UNCOUNTED"] = "1"
     words = ("-C", "opt-level=3", "-C", "codegen-units=1", "-C", "link-arg=" + os.path.abspath(library))
     try:

@@ -4,7 +4,7 @@
   python3 bench/terms.py
 
 It builds the plain Rust reader in this directory and compares it with
-target/bin/term_bench where that program exists.
+crates/term_bench/out/term_bench where that program exists.
 
 term_bench reads from the standard input: a mode byte (1 read, 2 write,
 3 both), a repeat count of four bytes, low byte first, and the bytes of one
@@ -29,7 +29,7 @@ from terms_reference import Reader, number_bytes  # noqa: E402
 
 MANIFEST = os.path.join(ROOT, "bench", "Cargo.toml")
 RUST = os.path.join(ROOT, "bench", "target", "release", "plain_terms")
-RATTLE = os.path.join(ROOT, "target", "bin", "term_bench")
+RATTLE = os.path.join(ROOT, "crates", "term_bench", "out", "term_bench")
 MODES = (("read", 1), ("write", 2))
 SECONDS = 0.25  # for the large repeat count
 RUNS = 5
@@ -152,7 +152,7 @@ def main():
     columns = ["term", "bytes", "nodes"]
     for mode, _ in MODES:
         columns += [mode + ", Rust"] + ([mode + ", Rattle", "Rattle / Rust"] if with_rattle else [])
-    print("Million bytes a second." + ("" if with_rattle else " There is no target/bin/term_bench: Rust alone."))
+    print("Million bytes a second." + ("" if with_rattle else " There is no crates/term_bench/out/term_bench: Rust alone."))
     print()
     print("| " + " | ".join(columns) + " |")
     print("|---|" + "---:|" * (len(columns) - 1))

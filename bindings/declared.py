@@ -3,7 +3,7 @@
 
   python3 bindings/declared.py
 
-Every function marked #[no_mangle] pub extern "C" must be declared in c/sheet.h and in rust/src/ffi.rs, and nothing else may be declared there: the same
+Every function marked #[unsafe(no_mangle)] pub extern "C" must be declared in c/sheet.h and in rust/src/ffi.rs, and nothing else may be declared there: the same
 name, parameters of the same names and types in the same order, and the same result. A slice is passed as a pointer and, under the name with _len behind it, a
 length; a reference to a number is a pointer. The last line is 'N passed, 0 failed'; a function counts once for each of the two files.
 """
@@ -45,11 +45,11 @@ def passed_as(name, kind):
 def exported(text):
     """The exported functions of the Rattle source as they are passed: {name: (parameters, result)}."""
     found = {}
-    for name, inside, result in re.findall(r'#\[no_mangle\]\s*pub extern "C" fn (\w+)\(([^()]*)\)(?:\s*->\s*(\w+))?', text):
+    for name, inside, result in re.findall(r'#\[unsafe\(no_mangle\)\]\s*pub extern "C" fn (\w+)\(([^()]*)\)(?:\s*->\s*(\w+))?', text):
         given = [part.partition(":") for part in parts(inside)]
         found[name] = [each for word, _, kind in given for each in passed_as(word.strip(), kind.strip())], result
-    if not found or len(found) != text.count("#[no_mangle]"):
-        sys.exit("%s: declared.py understands %d of %d exported functions" % (SOURCE, len(found), text.count("#[no_mangle]")))
+    if not found or len(found) != text.count("#[unsafe(no_mangle)]"):
+        sys.exit("%s: declared.py understands %d of %d exported functions" % (SOURCE, len(found), text.count("#[unsafe(no_mangle)]")))
     return found
 
 

@@ -1,5 +1,5 @@
 #!/usr/bin/env bash
-# Builds and tests the C header and the Rust crate on target/staticlib/libentry.a, or on the one in the directory SHEET_LIB_DIR. Everything is
+# Builds and tests the C header and the Rust crate on crates/entry/out/libentry.a, or on the one in the directory SHEET_LIB_DIR. Everything is
 # written under target/bindings. The last line is 'N passed, 0 failed'. What needs a compiler that is not at hand is left out, which is said, and is a
 # failure unless WITHOUT_BINDINGS=1 says that it is meant. `test.sh --ready` tells that alone.
 set -euo pipefail
@@ -26,14 +26,14 @@ if [ "${1:-}" = --ready ] || [ "$(uname -sm)" != "Linux x86_64" ] || ! command -
     exit 0
 fi
 work=$PWD/target/bindings
-lib=${SHEET_LIB_DIR:-target/staticlib}
+lib=${SHEET_LIB_DIR:-crates/entry/out}
 mkdir -p "$work/tmp"
 if [ -z "${SHEET_LIB_DIR:-}" ] && [ ! -e "$lib/libentry.a" ]; then
     if ! command -v rt >/dev/null; then
         echo "bindings: no $lib/libentry.a, and no rt to make it"
         exit 1
     fi
-    rt staticlib entry
+    rt lib entry
 fi
 lib=$(cd "$lib" && pwd)
 export SHEET_LIB_DIR=$lib TMPDIR=$work/tmp CARGO_TARGET_DIR=$work/cargo

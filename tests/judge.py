@@ -5,10 +5,10 @@
   python3 tests/judge.py --short                        all short orders and sheets, too
   python3 tests/judge.py --slip NAME                    with a slip in the oracle: must find a difference
   python3 tests/judge.py --slip all                     with each of them: passes if every one is found
-  python3 tests/judge.py --program target/bin/sheets    the program `sheets` in the place of the library
-  python3 tests/judge.py --checker target/bin/checker   the sheet program, a process for each sheet
+  python3 tests/judge.py --program crates/sheets/out/sheets      the program `sheets` in the place of the library
+  python3 tests/judge.py --checker crates/checker/out/checker    the sheet program, a process for each sheet
 
-The library is target/staticlib/libentry.a, which `rt staticlib entry` writes,
+The library is crates/entry/out/libentry.a, which `rt lib entry` writes,
 or --library FILE. tests/oracle/build.py says what is taken from the Rust and
 what stands around it. Library and oracle are linked into one program
 (tests/oracle/judge.rs), which is built first, in target/judge or --out DIR,
@@ -58,7 +58,7 @@ from oracle import build as oracle
 from sheet_compare import ALL_LEFT, OUTCOMES, Batch, Frames, Left, Program, in_chunks
 from sheet_reference import Run
 
-LIBRARY = os.path.join(oracle.ROOT, "target", "staticlib", "libentry.a")
+LIBRARY = os.path.join(oracle.ROOT, "crates", "entry", "out", "libentry.a")
 DECLARED = os.path.join(oracle.ROOT, "bindings", "rust", "src")         # where ffi.rs declares the entry, for all Rust
 OUT = os.path.join(oracle.ROOT, "target", "judge")
 DEFAULT_SHEETS = 20000
@@ -81,7 +81,7 @@ REASONS = (0, 10, 11, 12)
 def built(options, slip=None):
     """The judge's path."""
     if not os.path.isfile(options.library):
-        sys.exit("there is no library %s: rt staticlib entry writes it" % options.library)
+        sys.exit("there is no library %s: rt lib entry writes it" % options.library)
     texts = oracle.taken(options.source)
     for name in sorted(os.listdir(oracle.HERE)):
         if name.endswith(".rs"):

@@ -23,9 +23,9 @@ something does not hold (FAILS below). An error of form (a name that is missing,
 and an edit of the code is to leave the needs of each proof, and so the code's shape, as they are. The edits tool_.. test this command itself:
 each has a line 'wanted: TEXT' with the fault that it must be told for, and no page names them.
 
-Edits are tried in a copy of the crates by rt dev, over an incremental folder. The folder is that of --cache (target), or is filled first. It
-is put back after each edit, so that each starts from the one of the crate as it is. The libraries of the crates below come from --cache too;
-with --wait they are waited for, so that this can run beside rt ci, which removes target first.
+Edits are tried in copies of the crates by rt check, over what it keeps in out/incremental: what an earlier check kept in the crate's own out is taken
+over, and is filled first where there is none. It is put back after each edit, so that each starts from that of the crate as it is. The libraries of
+the crates below come from their out folders too, where rt ci or rt check left them.
 
 With --together N up to N edits of the code are tried in one check, where no two of them name facts of one place. The proof of a function sees its
 own code and the contracts of others, so an error in it comes from the edit of that function. An edit that does not count as refused in
@@ -46,7 +46,6 @@ import subprocess
 import sys
 import tempfile
 import threading
-import time
 
 ROOT = os.path.dirname(os.path.dirname(os.path.abspath(__file__)))
 PAGE = os.path.join(ROOT, "docs", "MUST-FAIL.md")
@@ -56,14 +55,16 @@ KINDS = {"code": ("src/",), "definition": ("specs/",), "statement": ("src/", "sp
 CONTRACT = ("requires", "ensures", "⌜", "ghost")       # no code
 FAILS = (
     re.compile(r"expected type .* but this has type ", re.S),
+    re.compile(r"computed as far as (they go|it goes), the two (types|values) ", re.S),
+    re.compile(r"as printed, the two types ", re.S),
     re.compile(r"` ≟ `.*` does not hold ", re.S),
     re.compile(r"`omega`: .* does not follow from what it read", re.S),
     re.compile(r"`search`: no proof of .* was found. Every way was tried", re.S),
-    re.compile(r"^no proof file, and `search` does not close it"),
+    re.compile(r"^no answer, and `search` does not prove it"),
 )
-NEEDS = re.compile(r"-spec: |has no field `|has no `Need-")     # a proof's needs are others
-ERROR = re.compile(r"^(\S.*?\.antt):\d+:\d+: error: (?:`([^`]+)`: )?(.*)$")
-UNPROVED = re.compile(r"^fn \S+: no proof: expected `[^`]+` in (\S+\.antt); `search` does not close (.*)$")
+NEEDS = re.compile(r"_spec: |has no field `|has no `Need-")     # a proof's needs are others
+ERROR = re.compile(r"^(\./\S.*?\.antt):\d+:\d+: error: (?:`([^`]+)`: )?(.*)$")
+UNPROVED = re.compile(r"^fn \S+: no proof: expected answers in (\S+\.antt); `search` did not prove ([^;]*)")
 
 Change = collections.namedtuple("Change", "file old new")
 Fact = collections.namedtuple("Fact", "place name words shows")
@@ -222,9 +223,9 @@ def errors_in(text, crate):
     for line in text.splitlines():
         start, none = ERROR.match(line), UNPROVED.match(line)
         if start:
-            found.append([place_of(start.group(1), crate), start.group(2), start.group(3)])
+            found.append([place_of(start.group(1)), start.group(2), start.group(3)])
         elif none:
-            found += [[place_of(none.group(1), crate), name, "no proof file, and `search` does not close it"]
+            found += [[place_of(none.group(1)), name, "no answer, and `search` does not prove it"]
                       for name in re.findall("`([^`]+)`", none.group(2))]
         elif found and line.startswith("  "):
             found[-1][2] += " " + line.strip()
@@ -233,9 +234,9 @@ def errors_in(text, crate):
     return [each for each in found if each[0]]
 
 
-def place_of(path, crate):
-    parts = path.rpartition("/crates/%s/" % crate)[2][:-len(".antt")].split("/")
-    parts = [part for part in parts if part != "Proof" and not part.startswith("+")]
+def place_of(path):
+    parts = path[len("./"):-len(".antt")].split("/")
+    parts = [part for part in parts if part not in ("Proof", "Answers", "Invariants") and not part.startswith("+")]
     return "/".join(parts[1:] if parts[0] == "proofs" else parts)
 
 
@@ -319,53 +320,46 @@ def manifest(directory):
 
 
 class Copy:
-    """A copy of the crates with a target of its own, where edits are tried."""
+    """A copy of the crates, where edits are tried."""
 
     def __init__(self, directory):
         self.directory, self.kept = directory, {}
-        shutil.copytree(os.path.join(ROOT, "crates"), os.path.join(directory, "crates"))
+        shutil.copytree(os.path.join(ROOT, "crates"), os.path.join(directory, "crates"), ignore=shutil.ignore_patterns("out"))
         shutil.copy(os.path.join(ROOT, "crates.txt"), directory)
-        for part in ("rlib", "stamp", "inc"):
-            os.makedirs(self.at(part))
 
-    def at(self, *parts):
-        return os.path.join(self.directory, "target", *parts)
+    def out(self, crate, *parts):
+        return os.path.join(self.directory, "crates", crate, "out", *parts)
 
-    def take_library(self, crate, target):
-        """The proved library of a crate, out of another target, if it is there and the copy has none."""
-        if os.path.exists(self.at("stamp", crate)) or not os.path.exists(os.path.join(target, "stamp", crate)):
-            return
-        shutil.copytree(os.path.join(target, "rlib", crate + ".rlib"), self.at("rlib", crate + ".rlib"), copy_function=shutil.copy2)
-        shutil.copy2(os.path.join(target, "stamp", crate), self.at("stamp", crate))
-
-    def take_cache(self, crate, target):
-        if os.path.isdir(os.path.join(target, "inc", crate)):
-            link_tree(os.path.join(target, "inc", crate), self.at("inc", crate))
+    def take(self, crate, part, root):
+        """What a check under that root left of a crate: its library (rlib), or what it kept of its modules (incremental)."""
+        there = os.path.join(root, "crates", crate, "out", part)
+        if os.path.isdir(there) and not os.path.isdir(self.out(crate, part)):
+            link_tree(there, self.out(crate, part))
 
     def keep(self, crate):
-        """From here on put_back gives this state of the crate's incremental folder."""
-        link_tree(self.at("inc", crate), os.path.join(self.directory, "kept", crate))
-        self.kept[crate] = manifest(self.at("inc", crate))
+        """From here on put_back gives this state of what is kept of the crate's modules."""
+        link_tree(self.out(crate, "incremental"), os.path.join(self.directory, "kept", crate))
+        self.kept[crate] = manifest(self.out(crate, "incremental"))
 
     def put_back(self, crate):
-        """rt dev writes a module's file anew and never into the old one, so that the kept links have the old ones."""
-        now, kept = manifest(self.at("inc", crate)), self.kept[crate]
+        """rt check writes a module's file anew and never into the old one, so that the kept links have the old ones."""
+        now, kept = manifest(self.out(crate, "incremental")), self.kept[crate]
         for file, (node, size, _) in now.items():
             if file not in kept:
-                os.unlink(self.at("inc", crate, file))
+                os.unlink(self.out(crate, "incremental", file))
             elif node == kept[file][0] and now[file] != kept[file] and size:
-                raise RuntimeError("rt dev wrote into %s in place: the cache cannot be put back" % file)
+                raise RuntimeError("rt check wrote into %s in place: it cannot be put back" % file)
         for file, (node, _, _) in kept.items():
             if now.get(file, (0,))[0] != node:
                 if file in now:
-                    os.unlink(self.at("inc", crate, file))
-                os.makedirs(os.path.dirname(self.at("inc", crate, file)), exist_ok=True)
-                os.link(os.path.join(self.directory, "kept", crate, file), self.at("inc", crate, file))
+                    os.unlink(self.out(crate, "incremental", file))
+                os.makedirs(os.path.dirname(self.out(crate, "incremental", file)), exist_ok=True)
+                os.link(os.path.join(self.directory, "kept", crate, file), self.out(crate, "incremental", file))
 
-    def dev(self, crate):
-        """rt dev of a crate: its status, what it says, its processor time, its memory."""
-        process = subprocess.Popen(["rt", "dev", crate], cwd=self.directory, stdout=subprocess.PIPE, stderr=subprocess.STDOUT,
-                                   stdin=subprocess.DEVNULL, start_new_session=True)
+    def check(self, crate):
+        """rt check of a crate: its status, what it says, its processor time, its memory."""
+        process = subprocess.Popen(["rt", "check"], cwd=os.path.join(self.directory, "crates", crate), stdout=subprocess.PIPE,
+                                   stderr=subprocess.STDOUT, stdin=subprocess.DEVNULL, start_new_session=True)
         RUNNING.add(process)
         with process.stdout as output:
             text = output.read().decode(errors="replace")
@@ -383,7 +377,7 @@ class Copy:
         for path, text in texts.items():
             write_text(path, text)
         try:
-            return self.dev(group[0].crate)
+            return self.check(group[0].crate)
         finally:
             for path, text in before.items():
                 write_text(path, text)
@@ -404,11 +398,9 @@ class Run:
         """Whether the crate as it is is proved, with its cache in every copy."""
         first = self.copies[0]
         for each in below:
-            while self.options.wait and not os.path.exists(os.path.join(self.options.cache, "stamp", each)):
-                time.sleep(2)
-            first.take_library(each, self.options.cache)
-        first.take_cache(crate, self.options.cache)
-        checked = first.dev(crate)
+            first.take(each, "rlib", ROOT)
+        first.take(crate, "incremental", ROOT)
+        checked = first.check(crate)
         self.megabytes = max(self.megabytes, checked.megabytes)
         modules = re.findall("^crate %s: modules loaded=([0-9]+) checked=([0-9]+)" % crate, checked.text, re.M)
         if checked.status != 0 or not re.search("^logic=proved", checked.text, re.M):
@@ -418,8 +410,8 @@ class Run:
         first.keep(crate)
         for other in self.copies[1:]:
             for each in below:
-                other.take_library(each, first.at())
-            other.take_cache(crate, first.at())
+                other.take(each, "rlib", first.directory)
+            other.take(crate, "incremental", first.directory)
             other.keep(crate)
         return True
 
@@ -524,10 +516,8 @@ def main():
     parser.add_argument("names", nargs="*", metavar="NAME")
     parser.add_argument("--list", action="store_true")
     parser.add_argument("--tables", action="store_true")
-    parser.add_argument("--jobs", type=int, default=1, choices=(1, 2), help="how many are tried at a time (1)")
+    parser.add_argument("--jobs", type=int, default=1, choices=(1, 2, 3, 4), help="how many are tried at a time (1)")
     parser.add_argument("--together", type=int, default=1, metavar="N", help="how many edits of the code may share a check (1)")
-    parser.add_argument("--cache", default=os.path.join(ROOT, "target"), metavar="DIR", help="a target with inc, rlib and stamp")
-    parser.add_argument("--wait", action="store_true", help="wait for the libraries in --cache")
     parser.add_argument("--work", metavar="DIR", help="where the copies are made, for the time of the run (the system's)")
     parser.add_argument("--logs", metavar="DIR", help="keep there what the check said of each edit")
     options = parser.parse_args()

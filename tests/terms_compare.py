@@ -1,7 +1,7 @@
 #!/usr/bin/env python3
 """Compares the program with the reference on random and on all short frames.
 
-  python3 tests/terms_compare.py [--program target/bin/reread] [--frames N] [--seed S]
+  python3 tests/terms_compare.py [--program crates/reread/out/reread] [--frames N] [--seed S]
   python3 tests/terms_compare.py --exhaustive    also all frames of three bytes after the kind (7 minutes)
   python3 tests/terms_compare.py --slip NAME     with a reference that has one fault: must fail
   python3 tests/terms_compare.py --slip all      with each of them: passes if every one fails
@@ -160,7 +160,7 @@ def main():
     parser.add_argument("--exhaustive", action="store_true")
     parser.add_argument("--slip", choices=["all"] + list(SLIPS), metavar="NAME")
     options = parser.parse_args()
-    command = shlex.split(options.program) if options.program else [os.path.join(ROOT, "target", "bin", "reread")]
+    command = shlex.split(options.program) if options.program else [os.path.join(ROOT, "crates", "reread", "out", "reread")]
     if not os.path.exists(command[0]):
         if options.program or not options.slip:
             sys.exit("there is no program %s" % command[0])

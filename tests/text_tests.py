@@ -216,7 +216,7 @@ class Tests:
             self.command(["assemble", at("none")], status=1)
             self.command(["assemble", place], status=1)
             self.command(["assemble", bar, "-o", at("none/none")], status=1)
-            self.check("rt check checker" in self.command(["run", bar, "--program", at("none")], status=1)[1], "no program")
+            self.check("rt run checker" in self.command(["run", bar, "--program", at("none")], status=1)[1], "no program")
 
     # Examples and the document
 
@@ -412,7 +412,7 @@ FAULTS = [
 
 def main():
     parser = argparse.ArgumentParser(description=__doc__, formatter_class=argparse.RawDescriptionHelpFormatter)
-    parser.add_argument("--program", default=os.path.join(ROOT, "target", "bin", "checker"))
+    parser.add_argument("--program", default=os.path.join(ROOT, "crates", "checker", "out", "checker"))
     parser.add_argument("--sheets", type=int, default=200, metavar="N", help="random sheets (default 200)")
     parser.add_argument("--write", action="store_true", help="write the transcripts of the examples")
     tests = Tests(parser.parse_args())

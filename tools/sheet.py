@@ -23,7 +23,7 @@ from sheet_tokens import TextError, Tokens
 from sheet_words import ROOM
 
 ROOT = os.path.dirname(os.path.dirname(os.path.abspath(__file__)))
-PROGRAM = os.path.join(ROOT, "target", "bin", "checker")
+PROGRAM = os.path.join(ROOT, "crates", "checker", "out", "checker")
 
 
 class Failed(Exception):
@@ -113,7 +113,7 @@ def answers_of(program, sheet):
     try:
         done = subprocess.run([path], input=sheet[:ROOM], stdout=subprocess.PIPE, check=False)
     except OSError as fault:
-        raise Failed("%s: %s. Build it with: rt check checker. Or give another with --program."
+        raise Failed("%s: %s. Build it with: rt run checker. Or give another with --program."
                      % (shown(program), fault.strerror))
     if done.returncode:
         raise Failed("%s ended with status %d" % (shown(program), done.returncode))
@@ -155,7 +155,7 @@ def options_of(words):
     commands = parser.add_subparsers(dest="command", required=True)
     one = commands.add_parser("run", help="assemble a text, run the proved program, show every answer beside its order")
     one.add_argument("file", help="a text, - for standard input")
-    one.add_argument("--program", default=PROGRAM, help="the sheet program (default: target/bin/checker)")
+    one.add_argument("--program", default=PROGRAM, help="the sheet program (default: crates/checker/out/checker)")
     one.add_argument("--hex", action="store_true", help="show the bytes too")
     one.set_defaults(do=run)
     one = commands.add_parser("assemble", help="write the bytes of a text")

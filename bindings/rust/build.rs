@@ -1,4 +1,4 @@
-//! Finds libentry.a: in the directory that SHEET_LIB_DIR names, else where `rt staticlib entry` writes it.
+//! Finds libentry.a: in the directory that SHEET_LIB_DIR names, else where `rt lib entry` writes it.
 
 use std::env;
 use std::fs;
@@ -16,13 +16,13 @@ fn main() {
     let (dir, from) = match env::var_os("SHEET_LIB_DIR") {
         Some(dir) => (PathBuf::from(dir), "which SHEET_LIB_DIR names"),
         None => (
-            PathBuf::from("../../target/staticlib"),
+            PathBuf::from("../../crates/entry/out"),
             "relative to the crate; SHEET_LIB_DIR is not set",
         ),
     };
     let Ok(archive) = fs::canonicalize(dir.join("libentry.a")) else {
         stop(&format!(
-            "no libentry.a in {} ({from}). Make it with `rt staticlib entry` at the top of the repository, or set SHEET_LIB_DIR to the directory that has it",
+            "no libentry.a in {} ({from}). Make it with `rt lib entry` at the top of the repository, or set SHEET_LIB_DIR to the directory that has it",
             dir.display()
         ));
     };
