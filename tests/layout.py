@@ -37,7 +37,7 @@ CLAUSE = re.compile(r" *(requires|ensures)\b")
 def files(*endings):
     """The files of the crates: crate, path within it, lines without comments."""
     for crate in sorted(os.listdir(CRATES)):
-        for directory, _, names in sorted(os.walk(os.path.join(CRATES, crate))):
+        for directory, _, names in sorted(each for part in ("src", "specs", "proofs") for each in os.walk(os.path.join(CRATES, crate, part))):
             for name in sorted(names):
                 if name.endswith(endings):
                     path = os.path.join(directory, name)
@@ -96,6 +96,9 @@ def proof_places():
         module = os.path.splitext(path)[0][len("src/"):]
         for owner, name, _, _ in functions(lines):
             found.setdefault(crate, {})["/".join([owner or module, name] if owner or module not in ("lib", "main") else [name])] = path
+        # A cycle of calls has a name of its own, and its folder begins with a +.
+        for name in re.findall(r"#\[cycle\((\w+)\)\]", "\n".join(lines)):
+            found.setdefault(crate, {})["%s/+%s" % (module, name)] = path
     return found
 
 
@@ -104,11 +107,11 @@ def undeclared(crate, path, places):
     folder, name = os.path.split(path)
     if name == "Lib.antt" and folder in ("specs", "proofs"):
         return None
-    if name == "Proof.antt":
+    if name in ("Proof.antt", "Invariants.antt", "Answers.antt"):
         above, _, own = folder[len("proofs/"):].rpartition("/")
-        wanted = ["/".join([above, each] if above else [each]) for each in own.strip("+").split("+")]
-        lost = [each for each in wanted if each not in places.get(crate, {})]
-        return "there is no function %s" % ", ".join(lost) if lost else None
+        at = "/".join([above, own] if above else [own])
+        called = at.replace("/+", "/") if at not in places.get(crate, {}) else at       # a function that calls itself
+        return None if called in places.get(crate, {}) else "there is no function %s" % at
     parent = os.path.join(CRATES, crate, folder + ("/Lib.antt" if folder in ("specs", "proofs") else ".antt"))
     if not os.path.isfile(parent):
         return "there is no file %s" % os.path.relpath(parent, CRATES)

@@ -179,7 +179,7 @@ def dependencies():
     for line in read_text(os.path.join(ROOT, "crates.txt")).splitlines():
         name, colon, names = line.partition("#")[0].partition(":")
         if colon:
-            found[name.strip()] = [each for each in names.split() if each in found]
+            found[name.split()[0]] = [each for each in names.split() if each in found]
     for name, below in found.items():
         for each in list(below):
             below += [more for more in found[each] if more not in below]
@@ -342,12 +342,13 @@ class Copy:
         self.kept[crate] = manifest(self.out(crate, "incremental"))
 
     def put_back(self, crate):
-        """rt check writes a module's file anew and never into the old one, so that the kept links have the old ones."""
+        """rt check writes a module's file anew and never into the old one, so that the kept links have the old ones. (What it notes for checks in other
+        places, under -offers, is no module's.)"""
         now, kept = manifest(self.out(crate, "incremental")), self.kept[crate]
         for file, (node, size, _) in now.items():
             if file not in kept:
                 os.unlink(self.out(crate, "incremental", file))
-            elif node == kept[file][0] and now[file] != kept[file] and size:
+            elif node == kept[file][0] and now[file] != kept[file] and size and "-offers" not in file:
                 raise RuntimeError("rt check wrote into %s in place: it cannot be put back" % file)
         for file, (node, _, _) in kept.items():
             if now.get(file, (0,))[0] != node:

@@ -115,10 +115,10 @@ fn read_fields(
     kept: usize,
     limit: usize,
 ) -> Reading
-    requires order_room { OrderRoom s.now kinds.old vals.old rules.old first kept limit }
-    requires s_nonzero { 0 < length s.now }
-    requires kind_value { kind ≡ get_or s.now 0 0 }
-    requires row_is { RowIs kind class sorts }
+    requires room { OrderRoom s.now kinds.old vals.old rules.old first kept limit }
+    requires tagged { 0 < length s.now }
+    requires kinded { kind ≡ get_or s.now 0 0 }
+    requires row { RowIs kind class sorts }
     ensures { OrderDone s.now issued first kept limit (area kinds.old vals.old)
         (area kinds.new vals.new) rules.new result }
 {

@@ -17,8 +17,8 @@ const RULE: u64 = 409010405;
 
 // Stores the words of the r-th rule, from its spots.
 fn keep_rule(rules: &mut [u32], r: u64, o: Order)
-    requires words_fit { WordsFit o }
-    requires r_bound { r < 4294967296 }
+    requires words { WordsFit o }
+    requires few { r < 4294967296 }
     ensures { rules.new ≡ put_rule rules.old r (rule_from o) }
 {
     put_rule(
@@ -48,7 +48,7 @@ fn read_rule(
 ) -> u8
     requires ample { Ample s.now (place at.old top.old nodes.old limit) }
     requires free { Free top.old (area kinds.old vals.old) }
-    requires r_bound { r < 4294967296 }
+    requires few { r < 4294967296 }
     ensures { RuleDone (rule s.now issued at.old) s.now
         (place at.old top.old nodes.old limit) (area kinds.old vals.old)
         (area kinds.new vals.new) r rules.old rules.new
@@ -104,7 +104,7 @@ pub fn read_rules(
 ) -> u8
     requires ample { Ample s.now (place at.old top.old nodes.old limit) }
     requires free { Free top.old (area kinds.old vals.old) }
-    requires count_bound { count < 4294967296 }
+    requires few { count < 4294967296 }
     ensures { RulesDone (rule_list s.now issued count at.old) s.now
         (place at.old top.old nodes.old limit) (area kinds.old vals.old)
         (area kinds.new vals.new) count rules.new (step_of result at.new top.new nodes.new limit) }

@@ -141,7 +141,8 @@ fn union_rows(
     work: &mut [u32],
     from: usize,
 ) -> Closure
-    requires places { (a ≤ ae) × (ae ≤ length kinds.now) × (b ≤ be) × (be ≤ length kinds.now) × (length vals.now ≡ length kinds.now) × (length kinds.now < 2 ^ 32) }
+    requires places { (a ≤ ae) × (ae ≤ length kinds.now) × (b ≤ be) × (be ≤ length kinds.now) × (length vals.now ≡ length kinds.now)
+        × (length kinds.now < 2 ^ 32) }
     requires wired { WiredIn kinds.now work.old from }
     ensures advanced { AdvancedIn kinds.now work.old from work.new result.top }
     ensures terms { (h : ℕ → Option Term) (ps qs : Parts)

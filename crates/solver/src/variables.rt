@@ -86,7 +86,8 @@ impl Solver {
     // The variable that a place has or would be given, without issuing it.
     pub fn id_of(self, tables: &[u32], site: Site) -> Named
         requires { (ks vs : List ℕ) × (s : Session) × Represents self ks vs tables.now s }
-        ensures by_index { (ks vs : List ℕ) (s : Session) → Represents self ks vs tables.now s → result ≡ named_of (placed (limits_of self) s (place_of site)).variable }
+        ensures placed { (ks vs : List ℕ) (s : Session) → Represents self ks vs tables.now s
+            → result ≡ named_of (placed (limits_of self) s (place_of site)).variable }
         ensures low { (v : ℕ) → result ≡ Variable v → v < self.variables }
     {
         let m = self.variables;

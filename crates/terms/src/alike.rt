@@ -48,7 +48,7 @@ fn is_lent(kinds: &[u32], vals: &[u32], x: Content) -> bool
 }
 
 // Whether the parts at x begin with all that are at y; the children at x have at most `fuel` levels.
-#[cycle(same_rows_same_trees)]
+#[cycle(comparing)]
 pub fn same_rows(
     kinds: &[u32],
     vals: &[u32],
@@ -101,7 +101,7 @@ pub fn same_rows(
 }
 
 // Whether two contents stand for the same tree; the first has at most `fuel` levels. Lent ones are compared token by token.
-#[cycle(same_rows_same_trees)]
+#[cycle(comparing)]
 pub fn same_trees(
     kinds: &[u32],
     vals: &[u32],

@@ -176,7 +176,7 @@ fn stays(k: u32, l: u32) -> bool
 }
 
 // Writes the term at p with its holes filled from the term at q where it fits, and returns the position after it.
-#[cycle(recover_row_recover_term)]
+#[cycle(recovering)]
 fn recover_term(
     kinds: &[u32],
     vals: &[u32],
@@ -210,7 +210,7 @@ fn recover_term(
 }
 
 // The same of the row from p up to pe, as far as `stop`, from the row at q; the rest is written as it stands.
-#[cycle(recover_row_recover_term)]
+#[cycle(recovering)]
 fn recover_row(
     kinds: &[u32],
     vals: &[u32],

@@ -95,7 +95,7 @@ fn show_run(
 }
 
 // The parts of a row from a place on; its children have at most `fuel` levels.
-#[cycle(show_row_show_tree)]
+#[cycle(showing_trees)]
 fn show_row(
     kinds: &[u32],
     vals: &[u32],
@@ -139,7 +139,7 @@ fn show_row(
 }
 
 // The tree that a content stands for; where it is built it has at most `fuel` levels.
-#[cycle(show_row_show_tree)]
+#[cycle(showing_trees)]
 pub fn show_tree(
     kinds: &[u32],
     vals: &[u32],

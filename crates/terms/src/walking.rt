@@ -149,7 +149,7 @@ fn fixed_nodes(kinds: &[u32], vals: &[u32], x: Content, most: usize) -> usize
 
 // How many bytes a content has that the walk leaves as it is.
 fn fixed_len(kinds: &[u32], vals: &[u32], x: Content) -> usize
-    requires vals_len { (length vals.now ≡ length kinds.now) × (x.head + span (get_or kinds.now x.head 0) (get_or vals.now x.head 0) ≤ length kinds.now) }
+    requires term { (length vals.now ≡ length kinds.now) × (x.head + span (get_or kinds.now x.head 0) (get_or vals.now x.head 0) ≤ length kinds.now) }
     requires few { length kinds.now < 4294967296 }
     ensures bound { result < 68719476736 }
     ensures bytes { (t : Term) → Held kinds.now vals.now x.head t → result ≡ length (bytes t) }

@@ -60,8 +60,8 @@ pub fn write_run(
     out: &mut [u8],
     at: usize,
 ) -> usize
-    requires count_in_bounds { (from + count ≤ length kinds.now) × (from + count ≤ length vals.now) }
-    requires count_in_bounds_2 { at + length (spelt kinds.now vals.now from count) ≤ length out.old }
+    requires run { (from + count ≤ length kinds.now) × (from + count ≤ length vals.now) }
+    requires room { at + length (spelt kinds.now vals.now from count) ≤ length out.old }
     ensures next { result ≡ at + length (spelt kinds.now vals.now from count) }
     ensures wrote { out.new ≡ sets out.old at (spelt kinds.now vals.now from count) }
 {

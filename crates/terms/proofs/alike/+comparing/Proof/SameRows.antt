@@ -7,14 +7,14 @@ use Rattle.terms.proofs.Laws.Normalising.AlikeLaws.{Meeting, meeting_start, meet
 use borrow.Author.Rules.{rules}
 use native.Mathlib.Omega.{arith}
 use Prim.Native.Nat.{ℕ}
-use Rattle.terms.proofs.alike.+same_rows_same_trees.Lts-same_rows as lts
+use Rattle.terms.proofs.alike.+comparing.Lts-same_rows as lts
 use Rattle.terms.proofs.alike.same_rows.Kinds as kinds
 use Rattle.terms.proofs.alike.same_rows.Reads as same_rows
 use Rattle.terms.proofs.alike.same_trees.Reads as same-trees
 use Rattle.terms.proofs.rows.child_here.Reads as child-here-reads
 use Rattle.terms.proofs.virtual_tokens.step.Reads as step-reads
 use Rattle.terms.proofs.virtual_tokens.token_at.Reads as token-at-reads
-use Rattle.terms.proofs.alike.+same_rows_same_trees.Proof.Measures.{same-rows-at, same-trees-below}
+use Rattle.terms.proofs.alike.+comparing.Proof.Measures.{same-rows-at, same-trees-below}
 
 abbrev Inv-loop : lts.invariant-loop-q
 Inv-loop kinds vals heads kids g x y fuel p₀ i₀ q₀ j₀ p i q j = Meeting (view kinds vals g) heads kids x y fuel p i q j

@@ -12,13 +12,13 @@ use Rattle.terms.proofs.Laws.Format.StepCodeLaws.{stops, unvalued}
 use Rattle.terms.proofs.Laws.Format.ReadLaws.{SoFar, so_far_start, so_far_done, kinds_length, vals_length, terms_end, pairs_end, listed_no, listed_yes, number_no, number_yes, number_start, terms_no, terms_next, members_no, members_last}
 use Rattle.terms.proofs.Laws.Format.ReadSequenceLaws.{room_next}
 use Prim.Native.Nat.{ℕ}
-use Rattle.terms.proofs.read.+read_nominal_read_pairs_read_plain_read_projection_read_row_read_term_read_terms.Lts-read_nominal as lts
-use Rattle.terms.proofs.read.+read_nominal_read_pairs_read_plain_read_projection_read_row_read_term_read_terms.Lts-read_nominal.{then-v-ne0+else-b-ne0, else-v-ne0}
+use Rattle.terms.proofs.read.+reading.Lts-read_nominal as lts
+use Rattle.terms.proofs.read.+reading.Lts-read_nominal.{then-v-ne0+else-b-ne0, else-v-ne0}
 use Rattle.terms.proofs.read.read_nominal.Reads as read-nominal
 use Rattle.terms.proofs.read.read_pairs.Reads as read_pairs
 use Rattle.terms.proofs.read.read_terms.Reads as read-terms
 use Rattle.terms.proofs.values.read_value.Reads as read-value-reads
-use Rattle.terms.proofs.read.+read_nominal_read_pairs_read_plain_read_projection_read_row_read_term_read_terms.Proof.Measures.{read-nominal-at, read-pairs-below, read-terms-below}
+use Rattle.terms.proofs.read.+reading.Proof.Measures.{read-nominal-at, read-pairs-below, read-terms-below}
 
 module _ (t : ℕ) where
   abbrev claims : lts.Claims

@@ -11,13 +11,13 @@ use Rattle.terms.proofs.Laws.Format.StepCodeLaws.{stops, unvalued}
 use Rattle.terms.proofs.Laws.Format.ReadLaws.{term_no, term_yes, interface_no, interface_yes, number_no, number_yes, listed_no, listed_yes, terms_last}
 use Rattle.terms.proofs.Laws.Format.ReadSequenceLaws.{room_next}
 use Prim.Native.Nat.{ℕ}
-use Rattle.terms.proofs.read.+read_nominal_read_pairs_read_plain_read_projection_read_row_read_term_read_terms.Lts-read_projection as lts
+use Rattle.terms.proofs.read.+reading.Lts-read_projection as lts
 use Rattle.terms.proofs.read.read_nominal.Reads as read-nominal
 use Rattle.terms.proofs.read.read_projection.Reads as read-projection
 use Rattle.terms.proofs.read.read_term.Reads as read-term
 use Rattle.terms.proofs.read.read_terms.Reads as read-terms
 use Rattle.terms.proofs.values.read_value.Reads as read-value-reads
-use Rattle.terms.proofs.read.+read_nominal_read_pairs_read_plain_read_projection_read_row_read_term_read_terms.Proof.Measures.{read-projection-at, read-nominal-below, read-term-below, read-terms-below}
+use Rattle.terms.proofs.read.+reading.Proof.Measures.{read-projection-at, read-nominal-below, read-term-below, read-terms-below}
 
 module _ (t : ℕ) where
   abbrev claims : lts.Claims

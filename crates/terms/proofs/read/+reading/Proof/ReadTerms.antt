@@ -8,10 +8,10 @@ use Rattle.terms.proofs.Laws.Format.StepCodeLaws.{stops}
 use Rattle.terms.proofs.Laws.Format.ReadLaws.{SoFar, so_far_start, terms_end, terms_stop, terms_more, kinds_length, vals_length}
 use Rattle.terms.proofs.Laws.Format.ReadSequenceLaws.{room_next}
 use Prim.Native.Nat.{ℕ}
-use Rattle.terms.proofs.read.+read_nominal_read_pairs_read_plain_read_projection_read_row_read_term_read_terms.Lts-read_terms as lts
+use Rattle.terms.proofs.read.+reading.Lts-read_terms as lts
 use Rattle.terms.proofs.read.read_term.Reads as read-term
 use Rattle.terms.proofs.read.read_terms.Reads as read-terms
-use Rattle.terms.proofs.read.+read_nominal_read_pairs_read_plain_read_projection_read_row_read_term_read_terms.Proof.Measures.{read-terms-at, read-term-below}
+use Rattle.terms.proofs.read.+reading.Proof.Measures.{read-terms-at, read-term-below}
 
 abbrev Inv-loop : lts.invariant-loop-left
 Inv-loop s kinds₀ vals₀ at₀ top₀ nodes₀ limit levels issued count left₀ kinds vals at top nodes left = SoFar s (many s (term s issued levels) count at₀) (many s (term s issued levels) left at) (place at₀ top₀ nodes₀ limit) (area kinds₀ vals₀) (area kinds vals) (place at top nodes limit)

@@ -8,11 +8,11 @@ use Rattle.terms.proofs.Laws.Format.StepCodeLaws.{stops, unvalued}
 use Rattle.terms.proofs.Laws.Format.ReadLaws.{SoFar, so_far_start, pairs_end, pairs_no, pairs_stop, pairs_more, kinds_length, vals_length}
 use Rattle.terms.proofs.Laws.Format.ReadSequenceLaws.{room_next}
 use Prim.Native.Nat.{ℕ}
-use Rattle.terms.proofs.read.+read_nominal_read_pairs_read_plain_read_projection_read_row_read_term_read_terms.Lts-read_pairs as lts
+use Rattle.terms.proofs.read.+reading.Lts-read_pairs as lts
 use Rattle.terms.proofs.read.read_pairs.Reads as read_pairs
 use Rattle.terms.proofs.read.read_term.Reads as read-term
 use Rattle.terms.proofs.values.read_value.Reads as read-value-reads
-use Rattle.terms.proofs.read.+read_nominal_read_pairs_read_plain_read_projection_read_row_read_term_read_terms.Proof.Measures.{read-pairs-at, read-term-below}
+use Rattle.terms.proofs.read.+reading.Proof.Measures.{read-pairs-at, read-term-below}
 
 abbrev Inv-loop : lts.invariant-loop-left
 Inv-loop s kinds₀ vals₀ at₀ top₀ nodes₀ limit levels issued count member₀ least₀ left₀ kinds vals at top nodes member least left = SoFar s (pairs s (term s issued levels) count 0 at₀) (pairs s (term s issued levels) left least at) (place at₀ top₀ nodes₀ limit) (area kinds₀ vals₀) (area kinds vals) (place at top nodes limit)

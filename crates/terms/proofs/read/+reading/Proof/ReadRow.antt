@@ -1,12 +1,12 @@
 -- `read_row`: by the kinds of row.
 use borrow.Author.Rules.{rules}
 use Prim.Native.Nat.{ℕ}
-use Rattle.terms.proofs.read.+read_nominal_read_pairs_read_plain_read_projection_read_row_read_term_read_terms.Lts-read_row as lts
+use Rattle.terms.proofs.read.+reading.Lts-read_row as lts
 use Rattle.terms.proofs.read.read_nominal.Reads as read-nominal
 use Rattle.terms.proofs.read.read_plain.Reads as read_plain
 use Rattle.terms.proofs.read.read_projection.Reads as read-projection
 use Rattle.terms.proofs.read.read_row.Reads as read_row
-use Rattle.terms.proofs.read.+read_nominal_read_pairs_read_plain_read_projection_read_row_read_term_read_terms.Proof.Measures.{read-row-at, read-nominal-below, read-plain-below, read-projection-below}
+use Rattle.terms.proofs.read.+reading.Proof.Measures.{read-row-at, read-nominal-below, read-plain-below, read-projection-below}
 
 module _ (t : ℕ) where
   abbrev claims : lts.Claims

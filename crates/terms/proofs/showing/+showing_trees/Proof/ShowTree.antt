@@ -10,7 +10,7 @@ use Rattle.terms.proofs.Laws.Normalising.ShowLaws.{tree_flat, tree_bytes, shows_
 use borrow.Author.Rules.{rules}
 use native.Mathlib.Omega.{arith}
 use Prim.Native.Nat.{ℕ}
-use Rattle.terms.proofs.showing.+show_row_show_tree.Lts-show_tree as lts
+use Rattle.terms.proofs.showing.+showing_trees.Lts-show_tree as lts
 use Rattle.terms.proofs.showing.show_row.Reads as show-row
 use Rattle.terms.proofs.showing.show_tree.Reads as show-tree
 use Rattle.terms.proofs.alike.cursor.Reads as cursor-reads
@@ -19,7 +19,7 @@ use Rattle.terms.proofs.showing.show_run.Reads as show-run-reads
 use Rattle.terms.proofs.showing.show_token.Reads as show-token-reads
 use Rattle.terms.proofs.virtual_tokens.step.Reads as step-reads
 use Rattle.terms.proofs.virtual_tokens.token_at.Reads as token-at-reads
-use Rattle.terms.proofs.showing.+show_row_show_tree.Proof.Measures.{show-tree-at, show-row-below}
+use Rattle.terms.proofs.showing.+showing_trees.Proof.Measures.{show-tree-at, show-row-below}
 
 module _ (t : ℕ) where
   abbrev claims : lts.Claims

@@ -6,7 +6,7 @@ use Rattle.terms.proofs.Laws.Normalising.SourceLaws.{lent_first}
 use borrow.Author.Rules.{rules}
 use native.Mathlib.Omega.{arith}
 use Prim.Native.Nat.{ℕ}
-use Rattle.terms.proofs.alike.+same_rows_same_trees.Lts-same_trees as lts
+use Rattle.terms.proofs.alike.+comparing.Lts-same_trees as lts
 use Rattle.terms.proofs.alike.same_trees.Kinds as kinds
 use Rattle.terms.proofs.alike.same_rows.Reads as same_rows
 use Rattle.terms.proofs.alike.same_trees.Reads as same-trees
@@ -15,7 +15,7 @@ use Rattle.terms.proofs.alike.is_lent.Reads as is-lent-reads
 use Rattle.terms.proofs.runs.same_term.Reads as same-term-reads
 use Rattle.terms.proofs.runs.wide.Reads as wide-reads
 use Rattle.terms.proofs.virtual_tokens.token_at.Reads as token-at-reads
-use Rattle.terms.proofs.alike.+same_rows_same_trees.Proof.Measures.{same-trees-at, same-rows-below}
+use Rattle.terms.proofs.alike.+comparing.Proof.Measures.{same-trees-at, same-rows-below}
 
 module _ (t : ℕ) where
   abbrev claims : lts.Claims

@@ -10,13 +10,13 @@ use Rattle.terms.proofs.Laws.Format.StepCodeLaws.{stops}
 use Rattle.terms.proofs.Laws.Format.ReadLaws.{levels_none, term_end, term_variable, term_row, term_unlisted}
 use Rattle.terms.proofs.Laws.Format.ReadSequenceLaws.{room_inside, closable, node_done}
 use Prim.Native.Nat.{ℕ}
-use Rattle.terms.proofs.read.+read_nominal_read_pairs_read_plain_read_projection_read_row_read_term_read_terms.Lts-read_term as lts
+use Rattle.terms.proofs.read.+reading.Lts-read_term as lts
 use Rattle.terms.proofs.read.read_row.Reads as read_row
 use Rattle.terms.proofs.read.read_term.Reads as read-term
 use Rattle.terms.proofs.kinds.kind_of.Reads as kind-of-reads
 use Rattle.terms.proofs.values.read_variable.Reads as read-variable-reads
 use Rattle.terms.proofs.store.close_node.Reads as close-node-reads
-use Rattle.terms.proofs.read.+read_nominal_read_pairs_read_plain_read_projection_read_row_read_term_read_terms.Proof.Measures.{read-term-at, read-row-below}
+use Rattle.terms.proofs.read.+reading.Proof.Measures.{read-term-at, read-row-below}
 
 module _ (t : ℕ) where
   abbrev claims : lts.Claims

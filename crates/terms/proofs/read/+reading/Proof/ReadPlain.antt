@@ -12,14 +12,14 @@ use Rattle.terms.proofs.Laws.Format.StepCodeLaws.{stops, unvalued}
 use Rattle.terms.proofs.Laws.Format.ReadLaws.{SoFar, so_far_done, kinds_length, vals_length, plain_no, plain_uncounted, plain_stop, plain_counted, plain_fields}
 use Rattle.terms.proofs.Laws.Format.ReadSequenceLaws.{room_next}
 use Prim.Native.Nat.{ℕ, ◌+◌, ◌≤◌}
-use Rattle.terms.proofs.read.+read_nominal_read_pairs_read_plain_read_projection_read_row_read_term_read_terms.Lts-read_plain as lts
-use Rattle.terms.proofs.read.+read_nominal_read_pairs_read_plain_read_projection_read_row_read_term_read_terms.Lts-read_plain.{then-f+else-b-ne0, else-f}
+use Rattle.terms.proofs.read.+reading.Lts-read_plain as lts
+use Rattle.terms.proofs.read.+reading.Lts-read_plain.{then-f+else-b-ne0, else-f}
 use Rattle.terms.proofs.read.read_plain.Reads as read_plain
 use Rattle.terms.proofs.read.read_terms.Reads as read-terms
 use Rattle.terms.proofs.kinds.no_terms.Reads as no-terms-reads
 use Rattle.terms.proofs.values.read_fields.Reads as read-fields-reads
 use Rattle.terms.proofs.values.read_value.Reads as read-value-reads
-use Rattle.terms.proofs.read.+read_nominal_read_pairs_read_plain_read_projection_read_row_read_term_read_terms.Proof.Measures.{read-plain-at, read-terms-below}
+use Rattle.terms.proofs.read.+reading.Proof.Measures.{read-plain-at, read-terms-below}
 
 module _ (t : ℕ) where
   abbrev claims : lts.Claims

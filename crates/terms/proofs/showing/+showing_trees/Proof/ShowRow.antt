@@ -4,14 +4,14 @@ use Rattle.terms.proofs.Laws.Normalising.ShowLaws.{RowShowing, row_start, row_fu
 use borrow.Author.Rules.{rules}
 use native.Mathlib.Omega.{arith}
 use Prim.Native.Nat.{ℕ, ◌-◌}
-use Rattle.terms.proofs.showing.+show_row_show_tree.Lts-show_row as lts
+use Rattle.terms.proofs.showing.+showing_trees.Lts-show_row as lts
 use Rattle.terms.proofs.showing.show_row.Reads as show-row
 use Rattle.terms.proofs.showing.show_tree.Reads as show-tree
 use Rattle.terms.proofs.rows.child_here.Reads as child-here-reads
 use Rattle.terms.proofs.showing.show_token.Reads as show-token-reads
 use Rattle.terms.proofs.virtual_tokens.step.Reads as step-reads
 use Rattle.terms.proofs.virtual_tokens.token_at.Reads as token-at-reads
-use Rattle.terms.proofs.showing.+show_row_show_tree.Proof.Measures.{show-row-at, show-tree-below}
+use Rattle.terms.proofs.showing.+showing_trees.Proof.Measures.{show-row-at, show-tree-below}
 
 abbrev Inv-loop : lts.invariant-loop-q
 Inv-loop kinds vals heads kids g c fuel out₀ at on i₀ q₀ n₀ out i q n = RowShowing (view kinds vals g) heads kids on out₀ at c fuel out i q n

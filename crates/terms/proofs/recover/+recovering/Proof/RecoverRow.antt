@@ -13,7 +13,7 @@ use Rattle.terms.proofs.Laws.Replacing.RecoverLaws.{Recovering, put_none, recove
 use borrow.Author.Rules.{rules}
 use native.Mathlib.Omega.{arith}
 use Prim.Native.Nat.{ℕ}
-use Rattle.terms.proofs.recover.+recover_row_recover_term.Lts-recover_row as lts
+use Rattle.terms.proofs.recover.+recovering.Lts-recover_row as lts
 use Rattle.terms.proofs.recover.recover_row.Kinds as kinds
 use Rattle.terms.proofs.recover.recover_row.Reads as recover_row
 use Rattle.terms.proofs.recover.recover_term.Reads as recover-term
@@ -21,7 +21,7 @@ use Rattle.terms.proofs.recover.paired.Reads as paired-reads
 use Rattle.terms.proofs.runs.skip.Reads as skip-reads
 use Rattle.terms.proofs.runs.word.Reads as word-reads
 use Rattle.terms.proofs.write.put_run.Reads as put-run-reads
-use Rattle.terms.proofs.recover.+recover_row_recover_term.Proof.Measures.{recover-row-at, recover-term-below}
+use Rattle.terms.proofs.recover.+recovering.Proof.Measures.{recover-row-at, recover-term-below}
 
 abbrev Inv-loop : lts.invariant-loop-out
 Inv-loop kinds vals p pe stop q qe out₀ at i₀ j₀ to₀ out i j to =

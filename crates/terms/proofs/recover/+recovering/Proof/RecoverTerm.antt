@@ -15,7 +15,7 @@ use Prim.Native.Nat.{◌-◌, ◌%◌}
 use borrow.Author.Rules.{rules}
 use native.Mathlib.Omega.{arith}
 use Prim.Native.Nat.{ℕ}
-use Rattle.terms.proofs.recover.+recover_row_recover_term.Lts-recover_term as lts
+use Rattle.terms.proofs.recover.+recovering.Lts-recover_term as lts
 use Rattle.terms.proofs.recover.recover_term.Kinds as kinds
 use Rattle.terms.proofs.recover.recover_row.Reads as recover_row
 use Rattle.terms.proofs.recover.recover_term.Reads as recover-term
@@ -25,7 +25,7 @@ use Rattle.terms.proofs.recover.stays.Reads as stays-reads
 use Rattle.terms.proofs.runs.is_one.Reads as is-one-reads
 use Rattle.terms.proofs.runs.word.Reads as word-reads
 use Rattle.terms.proofs.write.put_run.Reads as put-run-reads
-use Rattle.terms.proofs.recover.+recover_row_recover_term.Proof.Measures.{recover-term-at, recover-row-below}
+use Rattle.terms.proofs.recover.+recovering.Proof.Measures.{recover-term-at, recover-row-below}
 
 module _ (t : ℕ) where
   abbrev claims : lts.Claims
