@@ -5,7 +5,7 @@
   python3 bench/sheets.py classes hazards       these parts alone: classes, strict, ranges, hazards, solver, growth
   python3 bench/sheets.py classes --only deep   the rows whose name has this text
   python3 bench/sheets.py --quick               fewer and shorter rounds
-  --library FILE     the library (crates/entry/out/libentry.a, which `rt lib entry` proves and writes)
+  --library FILE     the library (crates/entry/out/libentry.a, which `rt lib` proves and writes in crates/entry)
   --picture FILE     where the picture goes
 
 What is timed. A Rust program (bench/driver, rustc with opt-level 3) links the library and takes Kagari's Solver and
@@ -45,7 +45,7 @@ TURNS = 4           # of the two sides of the parts `strict` and `ranges`
 def built(library, source):
     """Builds the driver and gives its path."""
     if not os.path.isfile(library):
-        sys.exit("there is no library %s: rt lib entry" % library)
+        sys.exit("there is no library %s: cd crates/entry && rt lib" % library)
     os.environ["KAGARI_UNCOUNTED"] = "1"
     words = ("-C", "opt-level=3", "-C", "codegen-units=1", "-C", "link-arg=" + os.path.abspath(library))
     try:

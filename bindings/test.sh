@@ -33,7 +33,7 @@ if [ -z "${SHEET_LIB_DIR:-}" ] && [ ! -e "$lib/libentry.a" ]; then
         echo "bindings: no $lib/libentry.a, and no rt to make it"
         exit 1
     fi
-    rt lib entry
+    (cd crates/entry && rt lib)
 fi
 lib=$(cd "$lib" && pwd)
 export SHEET_LIB_DIR=$lib TMPDIR=$work/tmp CARGO_TARGET_DIR=$work/cargo

@@ -8,7 +8,7 @@
   python3 tests/judge.py --program crates/sheets/out/sheets      the program `sheets` in the place of the library
   python3 tests/judge.py --checker crates/checker/out/checker    the sheet program, a process for each sheet
 
-The library is crates/entry/out/libentry.a, which `rt lib entry` writes,
+The library is crates/entry/out/libentry.a, which `rt lib` writes in crates/entry,
 or --library FILE. tests/oracle/build.py says what is taken from the Rust and
 what stands around it. Library and oracle are linked into one program
 (tests/oracle/judge.rs), which is built first, in target/judge or --out DIR,
@@ -81,7 +81,7 @@ REASONS = (0, 10, 11, 12)
 def built(options, slip=None):
     """The judge's path."""
     if not os.path.isfile(options.library):
-        sys.exit("there is no library %s: rt lib entry writes it" % options.library)
+        sys.exit("there is no library %s: cd crates/entry && rt lib writes it" % options.library)
     texts = oracle.taken(options.source)
     for name in sorted(os.listdir(oracle.HERE)):
         if name.endswith(".rs"):

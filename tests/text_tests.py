@@ -216,7 +216,7 @@ class Tests:
             self.command(["assemble", at("none")], status=1)
             self.command(["assemble", place], status=1)
             self.command(["assemble", bar, "-o", at("none/none")], status=1)
-            self.check("rt run checker" in self.command(["run", bar, "--program", at("none")], status=1)[1], "no program")
+            self.check("cd crates/checker && rt run" in self.command(["run", bar, "--program", at("none")], status=1)[1], "no program")
 
     # Examples and the document
 

@@ -1,4 +1,4 @@
-//! Finds libentry.a: in the directory that SHEET_LIB_DIR names, else where `rt lib entry` writes it.
+//! Finds libentry.a: in the directory that SHEET_LIB_DIR names, else where `rt lib` writes it in crates/entry.
 
 use std::env;
 use std::fs;
@@ -22,7 +22,7 @@ fn main() {
     };
     let Ok(archive) = fs::canonicalize(dir.join("libentry.a")) else {
         stop(&format!(
-            "no libentry.a in {} ({from}). Make it with `rt lib entry` at the top of the repository, or set SHEET_LIB_DIR to the directory that has it",
+            "no libentry.a in {} ({from}). Make it with `rt lib` in crates/entry, or set SHEET_LIB_DIR to the directory that has it",
             dir.display()
         ));
     };

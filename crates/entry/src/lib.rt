@@ -1,4 +1,4 @@
-// The functions that programs in other languages call, with no condition in their contracts: `rt staticlib entry` writes target/staticlib/libentry.a.
+// The functions that programs in other languages call, with no condition in their contracts: `rt lib` here writes out/libentry.a.
 // bindings/c/sheet.h and bindings/rust/src/ffi.rs declare them, and bindings/declared.py compares these declarations with this file.
 #![tactic(auto)]
 
