@@ -6,7 +6,6 @@ use Rattle.solver.specs.Session.{Limits, Session, issued}
 use Rattle.solver.specs.Invariant.{InOrder}
 -- the limits, handed on to the crates that name this one alone
 pub use Rattle.solver.specs.Session.{document_limits}
-use Rattle.solver.specs.Words.SessionRepresentation.{limits_of}
 use Rattle.sheet.specs.declared.Frame.{Frame}
 use Rattle.sheet.specs.declared.Frame.TheVariants.{Lies, Faulty}
 use Rattle.sheet.specs.Sheet.{Run, run_of}

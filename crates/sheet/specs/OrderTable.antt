@@ -2,7 +2,7 @@
 -- an order by a table. Quoted is document 01, "Sheet".
 use Rattle.std.specs.Prelude.{true, false, List, [], ◌∷◌, ℕ, ◌+◌, eqb}
 use Rattle.std.proofs.Math.Option.{Option, none, some}
-use Rattle.solver.specs.Terms.Parser.{Parser, Result, got, refused, pick, ◌>>=◌, refuse, byte}
+use Rattle.solver.specs.Terms.Parser.{Parser, Result, pick, ◌>>=◌, refuse, byte}
 use Rattle.solver.specs.Terms.Shape as shape
 use Rattle.solver.specs.Terms.Shape.{ceiling}
 use Rattle.solver.specs.Families.{Bound, Request, requested, request_of}

@@ -1,5 +1,5 @@
 -- An order on a session, and the run of a sheet: what the exported entry is to equal.
-use Rattle.std.specs.Prelude.{Bool, true, false, List, [], ◌∷◌, ◌++◌, ℕ, zero, suc, ◌+◌, ◌-◌, ltb, leb, length, take, drop}
+use Rattle.std.specs.Prelude.{List, [], ◌∷◌, ◌++◌, ℕ, zero, suc, ◌+◌, ◌-◌, ltb, leb, length, take, drop}
 use Rattle.solver.specs.Terms.Result.{Result, got, refused, pick}
 use Rattle.solver.specs.Terms.Number.{number, shortest}
 use Rattle.solver.specs.Terms.Shape as shape

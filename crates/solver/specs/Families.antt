@@ -1,5 +1,5 @@
 -- Number variables on the terms: families and requests are those of crate unify; which terms belong to a family, and the builtin that a default takes.
-use Rattle.std.specs.Prelude.{Bool, false, ◌&&◌, ℕ, eqb}
+use Rattle.std.specs.Prelude.{Bool, false, ◌&&◌, eqb}
 use Rattle.std.proofs.Math.Option.{Option}
 use Rattle.terms.specs.Term.{Term, Parts, var, node, end, num, sub}
 pub use Rattle.unify.specs.Ranged.{Numeric, I8, I16, I32, I64, U8, U16, U32, U64, F32, F64, Family, Bound, Request}

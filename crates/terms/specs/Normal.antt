@@ -3,7 +3,7 @@
 use Rattle.std.specs.Prelude.{Bool, true, false, ◌&&◌, List, [], ◌∷◌, ℕ, zero, suc, ◌+◌, eqb, ltb, length, get_or, set, take, drop}
 use Rattle.std.proofs.Math.Option.{Option, none, some}
 use Rattle.terms.specs.Result.{pick}
-use Rattle.terms.specs.Term.{Term, Parts, var, node, end, num, sub}
+use Rattle.terms.specs.Term.{Term, Parts, node}
 use Rattle.terms.specs.Tree.{error, nums, subs, children, with_kids, row, tag, slot, same, same_terms, Nominal, same_nominal, look_up, interface_of, receiver_of, member_of, arguments_of, projection}
 use Rattle.terms.specs.Questions.{contains_projection}
 use Rattle.terms.specs.Comparison.{no_terms}

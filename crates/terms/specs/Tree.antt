@@ -2,7 +2,7 @@
 -- `TypeId` and `NominalType`), and the parts of a nominal and of a projection. A row of parts has its numbers and its terms apart, `nums` and `subs`, each in byte order:
 --   a nominal's row    numbers: declaration, n, m, m members;               terms: n arguments, m members' terms
 --   a projection's row numbers: declaration, n, m, m members, member, count; terms: receiver, n interface arguments, m members' terms, arguments
-use Rattle.std.specs.Prelude.{Bool, true, false, ◌&&◌, List, [], ◌∷◌, ◌++◌, ℕ, zero, suc, min, max, ◌+◌, ◌-◌, eqb, ltb, leb, length, get_or, take, drop}
+use Rattle.std.specs.Prelude.{Bool, true, false, ◌&&◌, List, [], ◌∷◌, ℕ, zero, suc, min, ◌+◌, ◌-◌, eqb, ltb, length, get_or, take, drop}
 use Rattle.std.proofs.Math.Option.{Option, none, some}
 use Rattle.terms.specs.Result.{pick}
 use Rattle.terms.specs.Term.{Term, Parts, var, node, end, num, sub}

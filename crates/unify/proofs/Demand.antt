@@ -4,14 +4,14 @@ use mathlib.Core.Logic.{◌⊎◌, inl, inr, ◌↔◌, ◌≢◌}
 use mathlib.Core.Bool.{Bool, true, false, not, ◌||◌}
 use mathlib.Core.Option.{Option, none, some}
 use mathlib.Core.List.{List, [], ◌∷◌}
-use Prim.Native.Nat.{ℕ, zero, suc, ◌≤◌, ◌<◌}
+use Prim.Native.Nat.{ℕ, suc, ◌≤◌, ◌<◌}
 use native.Mathlib.Decide.{ℕ_discrete, dec_lt}
 use native.Mathlib.Omega.{arith}
-use Rattle.unify.specs.Term.{Sort, one, many, Tree, var, node, nil, ◌▸◌, sub, width, In, Closed, clash, sub-sub, sub_fix, sub_closed}
+use Rattle.unify.specs.Term.{var, node, nil, sub, width, In, Closed, clash, sub-sub, sub_fix, sub_closed}
 use Rattle.unify.specs.Term.{Sim, sim_of_eq, sim_refl}
-use Rattle.unify.specs.Solver.{Sig, T, Pair, State, Out, cancelled, done, put, put_same, put_other, constrain, poses, asks, begin}
-use Rattle.unify.specs.Meaning.{Member, Under, True, Kept, Fine, Below, Plain, PlainPairs, PlainState, plain_sub, plain_formed, KeptState, Tidy, Agree, All, Sols}
-use Rattle.unify.proofs.Sound.{put_cases, After, AllPlain, Finer, Grows, constrain_right}
+use Rattle.unify.specs.Solver.{Sig, T, State, Out, cancelled, done, put, put_same, put_other, constrain, poses, asks, begin}
+use Rattle.unify.specs.Meaning.{Member, True, Kept, Fine, Plain, PlainPairs, PlainState, plain_sub, plain_formed, KeptState, Tidy, Agree, All, Sols}
+use Rattle.unify.proofs.Sound.{put_cases, After, AllPlain, Finer, constrain_right}
 use Rattle.unify.specs.Orders.{Issued, issued?, Order, issue, ask, pose, other, Run, fresh, settle, posing, serve, run, Assigns, Demand3}
 
 module _ (S : Sig) where

@@ -1,19 +1,19 @@
 -- The loop ends by itself: for every session and every pending pairs some number of checks is enough, and no larger one is cancelled.
 -- The measure: the unbound variables that are left, and below that the size of the pending pairs, resolved.
-use mathlib.Core.Path.{◌≡◌, refl, ap, ap₂, sym, ◌∙◌}
-use mathlib.Core.Logic.{◌⊎◌, inl, inr, ◌↔◌, ◌≢◌}
+use mathlib.Core.Path.{◌≡◌, refl, ap}
+use mathlib.Core.Logic.{◌⊎◌, inl, inr}
 use mathlib.Core.Bool.{Bool, true, false, ◌&&◌, ◌||◌}
 use mathlib.Core.Option.{Option, none, some}
 use mathlib.Core.List.{List, [], ◌∷◌}
 use Prim.Native.Nat.{ℕ, zero, suc, ◌+◌, ◌≤◌, ◌<◌}
 use native.Mathlib.Omega.{arith}
-use Rattle.unify.specs.Term.{Sort, one, many, Tree, var, node, nil, ◌▸◌, Term, Forest, size, sub, In, in?, same?, clash}
-use Rattle.unify.specs.Solver.{Sig, T, Pair, State, bind, Step, Out, cancelled, done}
+use Rattle.unify.specs.Term.{var, node, nil, ◌▸◌, Term, Forest, size, sub, In, in?, same?, clash}
+use Rattle.unify.specs.Solver.{Sig, T, Pair, State, Step, Out, cancelled, done}
 use Rattle.unify.specs.Solver.{admit, any_soft, assign₁, assign₀, assign, zip_on, split₁, split, unequal, compare, step}
 use Rattle.unify.specs.Meaning.{Fine, Below}
-use Rattle.unify.proofs.Sound.{Right, step_right}
-use Rattle.unify.specs.Table.{Table, top, Turn, turn, settles, taken, tally}
-use Rattle.unify.proofs.Refine.{Stands, Alike, Counted, Follows, turn_follows, turn_counted, reach, idem_sub}
+use Rattle.unify.proofs.Sound.{step_right}
+use Rattle.unify.specs.Table.{Table, Turn, turn, settles, taken, tally}
+use Rattle.unify.proofs.Refine.{Stands, Alike, Counted, turn_follows, turn_counted, reach, idem_sub}
 
 size_pos : {H : Type 0} (t : Term H) → 1 ≤ size t
 unfolding size

@@ -13,7 +13,7 @@ use Rattle.unify.specs.Solver.{Sig, T, Pair, State, Out, cancelled, done, put, p
 use Rattle.unify.specs.Meaning.{Member, Under, True, Fine, Kept, Plain, PlainPairs, Tidy, plain_formed, Agree}
 use Rattle.unify.proofs.Sound.{put_cases, Grows, Adm, adm_leaf, bind_fine, bind_tidy, bind_grows}
 use Rattle.unify.proofs.Lazy.{rep_bind, resolve_right}
-use Rattle.unify.specs.Orders.{Issued, issued?, fresh, settle}
+use Rattle.unify.specs.Orders.{Issued, issued?, settle}
 use Rattle.unify.proofs.Demand.{solution, solution_closed, solution_plain, solution_agrees, solution_true}
 use Rattle.unify.specs.Table.{Table, answer, top, taken_put, table_poses, tie₁, tie₀, tie, part₁, part, differ, match, turn, settles}
 use Rattle.unify.proofs.Refine.{Stands, Counted, idem_sub, tops, reach}

@@ -3,14 +3,14 @@
 -- substitution `res` of the session gives.
 -- The measure: a list of the bound variables in which each binding names only unbound variables and variables that stand later.
 use mathlib.Core.Path.{◌≡◌, refl, ap, sym, ◌∙◌, subst}
-use mathlib.Core.Logic.{◌⊎◌, inl, inr, ◌↔◌, ◌≢◌}
+use mathlib.Core.Logic.{◌⊎◌, inl, inr, ◌≢◌}
 use mathlib.Core.Option.{Option, none, some}
 use mathlib.Core.List.{List, [], ◌∷◌, ◌++◌}
 use lib.ListN.{length, length-append}
-use Prim.Native.Nat.{ℕ, zero, suc, ◌+◌, ◌≤◌, ◌<◌}
+use Prim.Native.Nat.{ℕ, zero, suc, ◌+◌, ◌≤◌}
 use native.Mathlib.Decide.{ℕ_discrete}
 use native.Mathlib.Omega.{arith}
-use Rattle.unify.specs.Term.{Sort, one, many, Tree, var, node, nil, ◌▸◌, Term, sub, In, in?, clash, sub_ext, sub-sub, sub_fix, in_sub, sub_in}
+use Rattle.unify.specs.Term.{Sort, many, Tree, var, node, nil, ◌▸◌, Term, sub, In, in?, clash, sub_ext, sub-sub, sub_fix, sub_in}
 use Rattle.unify.specs.Solver.{put, put_same, put_other}
 use Rattle.unify.proofs.Sound.{put_cases}
 use Rattle.unify.specs.Expansion.{expand, resolve}

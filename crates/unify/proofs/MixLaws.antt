@@ -12,7 +12,7 @@ use native.Mathlib.Omega.{arith}
 use Rattle.unify.specs.Term.{var, node, sub, clash}
 use Rattle.unify.specs.Solver.{Sig, T, Pair, State, Out, cancelled, done, put, put_same, put_other, poses, asks, begin}
 use Rattle.unify.specs.Meaning.{Member, Under, True, Fine, Plain, PlainPairs}
-use Rattle.unify.specs.Orders.{Issued, issued?, fresh, settle, Demand3}
+use Rattle.unify.specs.Orders.{Issued, issued?, settle, Demand3}
 use Rattle.unify.specs.Table.{Table, answer, taken, table_poses, table_asks}
 use Rattle.unify.specs.Session.{Command, variable, number, hole, defer, pair, resolving, numbers, nevers, revision, refused, Reply, verdict, with_table}
 use Rattle.unify.specs.Session.{deferring, R, move, serve_variable, serve_hole, serve_number, serve_defer, lift, serve_pair, obey, obey_all, Allowed, AllAllowed, reply, if_issued, verdict_of}

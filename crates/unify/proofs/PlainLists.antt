@@ -7,7 +7,7 @@ use mathlib.Core.Bool.{Bool, true, false, ◌&&◌, ◌||◌}
 use mathlib.Core.Option.{Option, none, some}
 use mathlib.Core.List.{List, [], ◌∷◌}
 use Prim.Native.Nat.{ℕ, zero, suc}
-use Rattle.unify.specs.Term.{Sort, one, Tree, var, node, nil, ◌▸◌, Forest, In, in?, same?, clash}
+use Rattle.unify.specs.Term.{Sort, Tree, var, node, nil, ◌▸◌, Forest, In, in?, same?, clash}
 use Rattle.unify.specs.Solver.{Sig, T, Pair, Out, cancelled, done, put, put_same, admit, any_soft, zip_on}
 use Rattle.unify.proofs.Sound.{put_cases}
 use Rattle.unify.specs.Expansion.{expand, resolve}

@@ -1,19 +1,19 @@
 -- The solver over a table of bindings answers as the solver over substitutions does; so demand 3 holds of it.
 use mathlib.Core.Path.{◌≡◌, refl, ap, ap₂, sym, ◌∙◌, subst, fun_ext}
-use mathlib.Core.Logic.{◌⊎◌, inl, inr, ◌↔◌, ◌≢◌}
+use mathlib.Core.Logic.{◌⊎◌, inl, inr}
 use mathlib.Core.Bool.{Bool, true, false, ◌&&◌, ◌||◌}
 use mathlib.Core.Option.{Option, none, some}
 use mathlib.Core.List.{List, [], ◌∷◌}
 use lib.ListN.{length}
 use Prim.Native.Nat.{ℕ, zero, suc, ◌≤◌, ◌<◌}
 use native.Mathlib.Omega.{arith}
-use Rattle.unify.specs.Term.{Sort, one, many, Tree, var, node, nil, ◌▸◌, Term, Forest, sub, In, in?, same?, clash, sub_ext, sub-sub, sub_fix, in_sub}
-use Rattle.unify.specs.Solver.{Sig, T, Pair, State, bind, Step, Out, cancelled, done, put, put_same, put_other}
-use Rattle.unify.specs.Solver.{joined, join, allow, admit, any_soft, assign₁, assign₀, assign, zip_on, split₁, split, unequal, compare, step, constrain, poses, asks, begin}
+use Rattle.unify.specs.Term.{Sort, Tree, var, node, nil, ◌▸◌, Term, Forest, sub, In, in?, same?, clash, sub-sub, sub_fix, in_sub}
+use Rattle.unify.specs.Solver.{Sig, T, Pair, State, Step, Out, cancelled, done, put, put_other}
+use Rattle.unify.specs.Solver.{admit, any_soft, assign₁, assign₀, assign, zip_on, split₁, split, unequal, compare, step, constrain, poses, asks, begin}
 use Rattle.unify.specs.Meaning.{Fine, Below}
 use Rattle.unify.proofs.Lazy.{Mem, Deep, Sorted, sorted_mem, deep_all, Rep, resolve_right, rep_fresh, rep_bind}
-use Rattle.unify.specs.Expansion.{expand, resolve}
-use Rattle.unify.proofs.Sound.{Right, step_right}
+use Rattle.unify.specs.Expansion.{expand}
+use Rattle.unify.proofs.Sound.{step_right}
 use Rattle.unify.specs.Orders.{Issued, issued?, Order, issue, ask, pose, other, Run, fresh, settle, posing, serve, run, Demand3}
 use Rattle.unify.proofs.Demand.{Inv, fresh_inv, serve_inv, run_inv, Premises, demand_of, end}
 use Rattle.unify.specs.Table.{walk, Table, answer, top, Turn, tie₁, tie₀, tie, part₁, part, differ, match, turn, settles, tally, taken, taken_put, table_poses, table_asks, table_begin}

@@ -2,17 +2,15 @@
 -- marks (each head is its own normal form), no number variable, no recovery term and no projection the solver decides unifiability, and
 -- what it resolves variables to is a most general unifier.
 use mathlib.Core.Path.{◌≡◌, refl, ap, ap₂, sym, ◌∙◌, subst}
-use mathlib.Core.Logic.{◌⊎◌, inl, inr, ◌↔◌, ◌≢◌}
 use mathlib.Core.Bool.{Bool, true, false, ◌&&◌, ◌||◌}
 use mathlib.Core.Option.{Option, none, some}
 use mathlib.Core.List.{List, [], ◌∷◌}
-use Prim.Native.Nat.{ℕ, zero, suc, ◌≤◌, ◌<◌}
+use Prim.Native.Nat.{ℕ, zero, suc}
 use native.Mathlib.Decide.{ℕ_discrete}
-use native.Mathlib.Omega.{arith}
-use Rattle.unify.specs.Term.{Sort, one, many, Tree, var, node, nil, ◌▸◌, Term, Forest, map, sub, In, in?, same?, clash, Sim, sim_of_eq, sub_fix, in_sub}
-use Rattle.unify.specs.Solver.{Sig, T, Pair, State, bind, Step, Out, cancelled, done, put, put_same, put_other}
+use Rattle.unify.specs.Term.{Sort, Tree, var, node, nil, ◌▸◌, Forest, map, sub, In, in?, same?, clash, Sim, sim_of_eq, sub_fix}
+use Rattle.unify.specs.Solver.{Sig, T, Pair, State, Step, Out, cancelled, done, put, put_same, put_other}
 use Rattle.unify.specs.Solver.{admit, any_soft, assign₁, assign₀, assign, zip_on, split₁, split, unequal, compare, step, constrain, poses, asks, begin}
-use Rattle.unify.specs.Meaning.{Fine, True, Agree, All, Sols}
+use Rattle.unify.specs.Meaning.{True, All}
 use Rattle.unify.specs.Orders.{Issued, issued?, Order, issue, ask, pose, other, Run, fresh, settle, posing, serve, run}
 use Rattle.unify.proofs.Demand.{Inv, Premises, end, fresh_inv, run_inv}
 

@@ -10,7 +10,7 @@ use mathlib.Core.List.{List, [], ◌∷◌, ◌++◌}
 use Prim.Native.Nat.{ℕ, zero, suc, ◌≤◌, ◌<◌}
 use native.Mathlib.Decide.{ℕ_discrete}
 use native.Mathlib.Omega.{arith}
-use Rattle.unify.specs.Term.{Sort, one, Tree, var, node, nil, ◌▸◌, Forest, sub, In, in?, same?, clash, sub_ext, sub-sub, sub_fix, in_sub, occurs_clash, sim_of_eq}
+use Rattle.unify.specs.Term.{Sort, Tree, var, node, nil, ◌▸◌, Forest, sub, In, in?, same?, clash, sub_ext, sub-sub, sub_fix, in_sub, occurs_clash, sim_of_eq}
 use Rattle.unify.specs.Solver.{Sig, T, Pair, State, bind, Step, Out, cancelled, done, put, put_same, put_other}
 use Rattle.unify.specs.Solver.{admit, any_soft, assign₁, assign₀, assign, zip_on, split₁, split, unequal, compare, step, constrain, poses}
 use Rattle.unify.specs.Meaning.{Fine, Below, Plain, Sols}

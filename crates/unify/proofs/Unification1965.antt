@@ -5,17 +5,17 @@ use mathlib.Core.HLevel.{Discrete}
 use mathlib.Core.Bool.{Bool, true, false}
 use mathlib.Core.Option.{Option, none, some}
 use mathlib.Core.List.{List, [], ◌∷◌, ◌++◌, append-nil, append_assoc}
-use Prim.Native.Nat.{ℕ, zero, suc, ◌+◌, ◌≤◌, ◌<◌, max}
+use Prim.Native.Nat.{ℕ, zero, suc, ◌+◌, ◌≤◌, ◌<◌}
 use native.Mathlib.Decide.{ℕ_discrete, dec_le, le_ind}
 use native.Mathlib.Omega.{arith}
-use Rattle.unify.specs.Term.{Sort, one, many, Tree, var, node, nil, ◌▸◌, Term, Forest, width, width_sub, sub, sub-sub, sub_ext, sub_fix, In, in?, in_sub, same?, clash, occurs_clash, sim_of_eq}
+use Rattle.unify.specs.Term.{Sort, Tree, var, node, nil, ◌▸◌, Term, Forest, width, width_sub, sub, sub-sub, sub_ext, sub_fix, In, in?, in_sub, same?, clash, occurs_clash, sim_of_eq}
 use Rattle.unify.specs.Solver.{Sig, T, Pair, State}
 use Rattle.unify.specs.Orders.{Order, Run, fresh}
 use Rattle.unify.proofs.Demand.{Premises, end}
 use Rattle.unify.specs.Table.{Table, answer}
 use Rattle.unify.proofs.Refine.{over, table_end, table_means}
 use Rattle.unify.specs.Session.{Command, session_begin, sheet, AllAllowed}
-use Rattle.unify.proofs.Whole.{project, sheet_means}
+use Rattle.unify.proofs.Whole.{sheet_means}
 use Rattle.unify.proofs.Robinson.{Unifies, NoNumbers, Robinson, Normal, NormalPairs, robinson_loose}
 use Rattle.unify.specs.Robinson1965.{Subst, Symbol, variable, function, symbol, spelled, Outcome, going, unifier, without, Has, has?, Substitution, value, inst, Unifier, ordered, above, occurring, variables, or_else, lefts, rights}
 use Rattle.unify.specs.Robinson1965.{images, others, compose, disagreement, replace, step3, step2, again, rounds, unification, MostGeneralUnifier}

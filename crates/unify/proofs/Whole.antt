@@ -1,24 +1,24 @@
 -- A session with orders 0 to 8. After EVERY list of them the table stands for a substitution, so that resolving ends and is right, and the
 -- revision is the number of bound variables. Under the premises of demand 3 its two sentences hold.
-use mathlib.Core.Path.{◌≡◌, refl, ap, ap₂, sym, ◌∙◌, subst, fun_ext}
-use mathlib.Core.Logic.{◌⊎◌, inl, inr, ◌↔◌, ◌≢◌}
-use mathlib.Core.Bool.{Bool, true, false, not, ◌||◌}
+use mathlib.Core.Path.{◌≡◌, refl, ap, sym, ◌∙◌, subst}
+use mathlib.Core.Logic.{◌⊎◌, inl, inr, ◌≢◌}
+use mathlib.Core.Bool.{Bool, true, false, ◌||◌}
 use mathlib.Core.Option.{Option, none, some}
 use mathlib.Core.List.{List, [], ◌∷◌}
 use Prim.Native.Nat.{ℕ, zero, suc, ◌+◌, ◌≤◌, ◌<◌}
 use native.Mathlib.Decide.{ℕ_discrete}
 use native.Mathlib.Omega.{arith}
-use Rattle.unify.specs.Term.{Sort, one, many, Tree, var, node, nil, ◌▸◌, sub, In, clash}
-use Rattle.unify.specs.Solver.{Sig, T, Pair, State, Out, cancelled, done, put, put_same, put_other, bind, asks, poses, begin}
-use Rattle.unify.specs.Meaning.{Fine, Below}
+use Rattle.unify.specs.Term.{var, node, nil, sub, clash}
+use Rattle.unify.specs.Solver.{Sig, T, State, Out, cancelled, done, put, put_same, put_other, bind, asks, poses, begin}
+use Rattle.unify.specs.Meaning.{Fine}
 use Rattle.unify.proofs.Sound.{put_cases, bind_fine}
-use Rattle.unify.proofs.Lazy.{Rep, rep_fresh, rep_bind, resolve_right}
+use Rattle.unify.proofs.Lazy.{rep_fresh, rep_bind}
 use Rattle.unify.specs.Orders.{Issued, issued?, Order, issue, ask, pose, other, Run, fresh, settle, posing, serve, run, Demand3}
 use Rattle.unify.proofs.Demand.{Premises, fine_issue}
-use Rattle.unify.specs.Table.{Table, answer, top, taken, tally, taken_put, table_poses, table_asks, table_begin}
+use Rattle.unify.specs.Table.{Table, answer, top, taken, taken_put, table_poses, table_asks, table_begin}
 use Rattle.unify.proofs.Refine.{Stands, Counted, Ends, settles_follows, counted_more, reach, table_end, table_demand_3}
-use Rattle.unify.specs.Session.{Command, variable, number, hole, defer, pair, resolving, numbers, nevers, revision, refused, Session, session_begin, with_table, with_site, with_hole, with_diverging}
-use Rattle.unify.specs.Session.{fill, number_one, never_one, fill_numbers, fill_nevers, deferring, R, move, grow, serve_variable, serve_hole, asking, serve_number, serve_defer, lift, serve_pair, obey, obey_all, sheet, Allowed, AllAllowed}
+use Rattle.unify.specs.Session.{Command, variable, number, hole, defer, pair, resolving, numbers, nevers, revision, refused, session_begin, with_table}
+use Rattle.unify.specs.Session.{fill, number_one, never_one, fill_numbers, fill_nevers, deferring, R, move, serve_variable, serve_hole, serve_number, serve_defer, lift, serve_pair, obey, obey_all, sheet, Allowed, AllAllowed}
 use Rattle.unify.specs.Session.{Reply, term, verdict, changed, nothing, refusal, reply, replies, if_issued, verdict_of}
 
 module _ (S : Sig) (default : S.Fam → Option S.Fam → S.Head) (never : S.Head)

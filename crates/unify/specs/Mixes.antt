@@ -1,7 +1,7 @@
 -- Sessions of orders 0 to 8 whose pairs are posed by one of several equalities, as strict and loose for access. An order of a mix is an equality and
 -- an order of `Session`; the equality counts at a pair alone.
-use Rattle.std.specs.Prelude.{◌≡◌, ◌↔◌, true, false, List, [], ◌∷◌, ℕ, ◌<◌}
-use Rattle.std.proofs.Math.Option.{Option, none}
+use Rattle.std.specs.Prelude.{◌≡◌, ◌↔◌, false, List, [], ◌∷◌, ℕ, ◌<◌}
+use Rattle.std.proofs.Math.Option.{Option}
 use Rattle.unify.specs.Term.{var, sub, Sim}
 use Rattle.unify.specs.Solver.{Sig, T, Pair, Out, cancelled, done}
 use Rattle.unify.specs.Meaning.{True, PlainPairs}

@@ -1,6 +1,4 @@
 -- `run_filled`: the answers lie within the output.
-use Prim.Native.Nat.{◌≤◌}
-use lib.ListN.{length}
 use Rattle.sheet.proofs.Laws.Run.EntryLaws.{bytes_inside}
 use borrow.Author.Rules.{rules}
 use Rattle.harness.proofs.run_filled.Statement.{statement}

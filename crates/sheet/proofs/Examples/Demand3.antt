@@ -1,8 +1,8 @@
 -- Demand 3 used on two lists of order bytes: its premises can be met, on both sides of the first sentence.
 use mathlib.Core.Path.{◌≡◌, refl}
-use mathlib.Core.Bool.{Bool, true, false}
+use mathlib.Core.Bool.{false}
 use mathlib.Core.List.{List, [], ◌∷◌}
-use Prim.Native.Nat.{ℕ, ◌<◌}
+use Prim.Native.Nat.{ℕ}
 use native.Mathlib.Decide.{ℕ_discrete}
 use native.Mathlib.Omega.{arith}
 use Rattle.solver.specs.Terms.Number.{groups, digits, shortest}
@@ -25,7 +25,7 @@ use Rattle.solver.specs.Demand3.{placed, outside, beginning, Demand3, Assigns, R
 use Rattle.sheet.specs.Fields.{field, fields, nodes, all_nodes, nth, number_of, term_of}
 use Rattle.sheet.specs.OrderTable.{session_orders, row_in, layout, known, command_of, kinded_order, read_by}
 use Rattle.sheet.specs.Operations.{operations}
-use Rattle.sheet.specs.Sheet.{table, read_order, step, framed, answer_of, run_from, run_of}
+use Rattle.sheet.specs.Sheet.{table, read_order, step, framed, answer_of, run_from}
 use Rattle.sheet.specs.OrdersInTurn.{orders_from, answered_orders}
 use Rattle.sheet.specs.Commands.{commands}
 use Rattle.sheet.specs.Demand3.{ByteString, ByteStrings, history_of, Premises}

@@ -1,7 +1,7 @@
 -- Document 01's lines "Marked for the proved table", together, each on the definition of an order's bytes; and those "Run only" lines that compute in
 -- little time.
 use mathlib.Core.List.{List, [], ◌∷◌, ◌++◌}
-use mathlib.Core.Option.{Option, none, some}
+use mathlib.Core.Option.{none}
 use mathlib.Core.Path.{◌≡◌, refl}
 use Prim.Native.Nat.{ℕ, zero, suc}
 use native.Mathlib.Decide.{ℕ_discrete}
@@ -9,7 +9,7 @@ use Rattle.solver.specs.Terms.Result.{got, refused}
 use Rattle.solver.specs.Terms.Number.{number, groups, digits, shortest}
 use Rattle.solver.specs.Terms.Reading as reading
 use Rattle.solver.specs.Terms.Shape.{kind_of}
-use Rattle.solver.specs.Terms.Term.{Term, node, end, num, sub, size, bytes}
+use Rattle.solver.specs.Terms.Term.{size, bytes}
 use Rattle.solver.specs.Terms.Tree.{nums, subs, fill, children, with_kids, row, tag, nominal_slot, projection_slot, class, slot_by, same, look_up, interface_of, receiver_of, member_of, arguments_of}
 use Rattle.solver.specs.Terms.Questions.{among, meets, first, second, counted_by, entered_by, answered}
 use Rattle.solver.specs.Terms.Normal.{visit_kids, member_from, trait_member, own_member, replacement, walk_by, by_rules}

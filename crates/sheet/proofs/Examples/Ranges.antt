@@ -1,7 +1,6 @@
 -- Order 21 as bytes: what defaults take, which requests are refused and where, and what joins leave.
 use mathlib.Core.Path.{◌≡◌, refl}
-use mathlib.Core.List.{List, [], ◌∷◌}
-use Prim.Native.Nat.{ℕ}
+use mathlib.Core.List.{[], ◌∷◌}
 use native.Mathlib.Decide.{ℕ_discrete}
 use Rattle.solver.specs.Terms.Number.{groups, digits, shortest}
 use Rattle.solver.specs.Terms.Reading as reading

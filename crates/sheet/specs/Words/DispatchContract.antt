@@ -4,7 +4,6 @@ use Rattle.solver.specs.Terms.Tokens.{Area, area, blank}
 use Rattle.solver.specs.declared.Solver.{Solver}
 use Rattle.solver.specs.Session.{Session, issued}
 use Rattle.solver.specs.Invariant.{InOrder}
-use Rattle.solver.specs.Words.SessionRepresentation.{limits_of}
 use Rattle.sheet.specs.declared.Order.{Order}
 use Rattle.sheet.specs.Words.SessionInAreas.{Areas, areas, RepresentsInAreas, Served}
 use Rattle.sheet.specs.Words.FramingContract.{Output}

@@ -1,5 +1,5 @@
 -- How the fields of an order are laid out: their sorts as numbers, their tokens, and the spots that tell where they stand.
-use Rattle.std.specs.Prelude.{Bool, true, false, ◌&&◌, ◌||◌, List, [], ◌∷◌, ◌++◌, ◌≡◌, ℕ, zero, suc, ◌+◌, ◌-◌, ◌*◌, ◌^◌, ◌≤◌, ◌<◌, eqb, length, get_or}
+use Rattle.std.specs.Prelude.{Bool, true, false, ◌&&◌, ◌||◌, List, [], ◌∷◌, ◌++◌, ◌≡◌, ℕ, zero, suc, ◌+◌, ◌-◌, ◌*◌, ◌^◌, ◌≤◌, ◌<◌, eqb, length}
 use Rattle.std.proofs.Math.Option.{Option, none, some}
 use Rattle.solver.specs.TermTypes.{Place, Rule, Step, Next, Stopped}
 use Rattle.solver.specs.Terms.Parser.{Parser, Result, got, refused, pick, ◌>>=◌, return, number}

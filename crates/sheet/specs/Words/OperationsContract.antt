@@ -7,7 +7,6 @@ use Rattle.solver.specs.Terms.Held.{HeldParts}
 use Rattle.solver.specs.Terms.Shape as shape
 use Rattle.solver.specs.Terms.Formed.{Formed, Fit}
 use Rattle.solver.specs.Terms.Questions.{Parameter}
-use Rattle.solver.specs.Terms.Parameters.{parameters}
 use Rattle.solver.specs.Terms.Substitution.{Entry, Receiver}
 use Rattle.solver.specs.Terms.Rows.{argument_row}
 use Rattle.solver.specs.Terms.RewriteContract.{HeldBinders}

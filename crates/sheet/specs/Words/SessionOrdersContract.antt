@@ -1,6 +1,6 @@
 -- Orders 0 to 8, 21 and 22 on the counters, the tokens and the table that the solver is lent.
-use Rattle.std.specs.Prelude.{Bool, true, false, List, [], ◌∷◌, ◌≡◌, ℕ, ◌+◌, ◌≤◌, ◌<◌, length, drop}
-use Rattle.std.proofs.Math.Option.{Option, none, some}
+use Rattle.std.specs.Prelude.{Bool, true, false, List, ◌≡◌, ℕ, ◌+◌, ◌≤◌, ◌<◌, length, drop}
+use Rattle.std.proofs.Math.Option.{some}
 use Rattle.solver.specs.declared.Solver.{Solver}
 use Rattle.solver.specs.declared.Site.{Site}
 use Rattle.solver.specs.declared.Site.TheVariants as place

@@ -1,6 +1,6 @@
 -- Numeric defaults after compatible pairs: the theorem used on a list with ranges, joins and a strict pair; and why fallbacks are asked for.
 use mathlib.Core.Path.{◌≡◌, refl, sym, ap, ◌∙◌}
-use mathlib.Core.Bool.{Bool, true, false, ◌||◌}
+use mathlib.Core.Bool.{true, false, ◌||◌}
 use mathlib.Core.List.{List, [], ◌∷◌}
 use mathlib.Core.Logic.{◌⊎◌, inl, inr, ◌≢◌}
 use mathlib.Core.Option.{Option, none, some}
@@ -8,7 +8,7 @@ use Prim.Native.Nat.{ℕ}
 use native.Mathlib.Decide.{ℕ_discrete}
 use native.Mathlib.Omega.{arith}
 use lib.Dec.{eqb, ltb}
-use Rattle.terms.specs.Term.{Term, var, node, end, num, sub, size}
+use Rattle.terms.specs.Term.{var, size}
 use Rattle.terms.specs.Tree.{nums, row, tag, class, children, subs, same}
 use Rattle.terms.specs.Questions.{among, meets}
 use Rattle.terms.proofs.Laws.General.Bools.{never_true}

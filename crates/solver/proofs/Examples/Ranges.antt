@@ -1,11 +1,11 @@
 -- Sessions with order 21: numbers known as a range, by computation.
 use mathlib.Core.Path.{◌≡◌, refl}
-use mathlib.Core.Bool.{Bool, true, false}
+use mathlib.Core.Bool.{true, false}
 use mathlib.Core.List.{List, [], ◌∷◌}
 use mathlib.Core.Option.{Option, none, some}
 use Prim.Native.Nat.{ℕ}
 use native.Mathlib.Decide.{ℕ_discrete}
-use Rattle.terms.specs.Term.{Term, var, node, end, num, sub, size}
+use Rattle.terms.specs.Term.{var, size}
 use Rattle.terms.specs.Tree.{nums, row, tag, class, children, subs, same}
 use Rattle.terms.specs.Questions.{among, meets}
 use Rattle.unify.specs.Solver.{put}
@@ -17,7 +17,7 @@ use Rattle.solver.specs.Constrain.{replace, followed, resolve, follow, recovery,
 use Rattle.solver.specs.Session.{document_limits, same_place, find, fresh, deferring, settle_at, numeric_at, never_at, numeric_defaults_of, never_defaults_of}
 use Rattle.solver.specs.Orders.{Command, variable, number, pair, resolving, defer, numbers, nevers, revision, unread}
 use Rattle.solver.specs.Orders.{Reply, term, verdict, changed, count, nothing, refused, verdict_code, solver_of, beyond, variable_step, number_at, order, replies}
-use Rattle.solver.proofs.Examples.Sessions.{I32, builtin, array, tuple₂}
+use Rattle.solver.proofs.Examples.Sessions.{I32, builtin, tuple₂}
 
 abbrev pub plus : ℕ → Bound
 plus n = record { minus = false; size = n }

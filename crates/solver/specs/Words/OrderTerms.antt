@@ -1,5 +1,5 @@
 -- Terms after the tokens of a session, as an order brings them; what an order asks to resolve, and where resolving it begins.
-use Rattle.std.specs.Prelude.{false, List, ◌≡◌, ℕ, ◌+◌, ◌^◌, ◌≤◌, ◌<◌, length, take}
+use Rattle.std.specs.Prelude.{List, ◌≡◌, ℕ, ◌+◌, ◌^◌, ◌≤◌, ◌<◌, length, take}
 use Rattle.terms.specs.Term.{Term, var, items, size, bytes, AllVars, Held}
 use Rattle.solver.specs.declared.Solver.{Solver}
 use Rattle.solver.specs.declared.Site.{Site}

@@ -1,11 +1,9 @@
 -- `normalize` and `with_associated_types` on small terms, by computation: the limits of depth and visits, which replacement comes first, the order of the
 -- visits.
 use mathlib.Core.Path.{◌≡◌, refl}
-use mathlib.Core.Bool.{Bool, true, false}
-use mathlib.Core.List.{List, [], ◌∷◌}
-use mathlib.Core.Option.{Option, none, some}
+use mathlib.Core.List.{[], ◌∷◌}
 use Prim.Native.Nat.{ℕ, zero, suc}
-use Rattle.terms.specs.Term.{Term, Parts, var, node, end, num, sub}
+use Rattle.terms.specs.Term.{Term, node, end, num, sub}
 use Rattle.terms.specs.Tree.{error, nums, subs, fill, children, with_kids, row, tag, nominal_slot, projection_slot, class, slot_by, same, same_terms, same_numbers, Nominal, same_nominal, look_up, interface_of, receiver_of, member_of, arguments_of, put_terms, put_members, projection}
 use Rattle.terms.specs.Questions.{meets, counted_by, entered_by}
 use Rattle.terms.specs.Normal.{visit_kids, member_from, trait_member, own_member, replacement, walk_by, walk, Rule, matches, by_rules, by_interface, normalize, with_associated_types}

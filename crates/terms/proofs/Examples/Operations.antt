@@ -1,15 +1,15 @@
 -- The operations on small terms, by computation: document 01's marked lines and slips, and corners of the Rust.
 use mathlib.Core.Path.{◌≡◌, refl}
 use mathlib.Core.Logic.{inl, inr}
-use mathlib.Core.Bool.{Bool, true, false, ◌&&◌, ◌||◌}
-use mathlib.Core.List.{List, [], ◌∷◌}
-use mathlib.Core.Option.{Option, none, some}
+use mathlib.Core.Bool.{true, false}
+use mathlib.Core.List.{[], ◌∷◌}
+use mathlib.Core.Option.{none, some}
 use Prim.Native.Nat.{ℕ}
-use Rattle.terms.specs.Term.{Term, Parts, var, node, end, num, sub}
+use Rattle.terms.specs.Term.{Term, var, node, end, num, sub}
 use Rattle.terms.specs.Tree.{unknown, error, nums, subs, row, tag, same, same_terms, same_numbers, Nominal, look_up, nominal_of, interface_of, receiver_of, member_of, arguments_of}
 use Rattle.terms.specs.Questions.{meets, AmongEntered, OneCounts, Parameter, same_parameter, contains, first, second, among, counted_by, counted, entered_by, entered, is_never, is_integer, is_concrete, is_unresolved, contains_unknown, contains_self_type, contains_projection, is_resolved_in}
 use Rattle.terms.specs.Comparison.{conflicts_with, collection_access, read_only_view, can_weaken_to, every, has, bounded, satisfies, reflexive, satisfies_for}
-use Rattle.terms.specs.Substitution.{substitute_once, Entry, Receiver, TypeSubstitution, get, receiver, instantiated, instantiate, contextual, argument_context, self_of, with_self, zipped, apply}
+use Rattle.terms.specs.Substitution.{substitute_once, Entry, TypeSubstitution, get, receiver, instantiated, instantiate, contextual, argument_context, self_of, with_self, zipped, apply}
 use Rattle.terms.specs.Recovery.{parts, reach, nominal_reach, recover_from}
 use Rattle.terms.proofs.Laws.General.Bools.{never_true}
 use Rattle.terms.proofs.Laws.Asking.FoundLaws.{finds}

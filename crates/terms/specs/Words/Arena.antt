@@ -1,7 +1,7 @@
 -- Trees in words. A content is two words, a head h and a child word c. The node copied is the one whose first token stands at h of the area. c says
 -- where its children are: 0 as after that token, k + 1 the contents at records k, k + 1, .., in byte order. Record i of the arena is the content hs at i,
 -- cs at i. Records are written once a visit and never freed.
-use Rattle.std.specs.Prelude.{◌≡◌, Bool, true, false, ◌&&◌, ◌||◌, List, [], ◌∷◌, ℕ, zero, suc, ◌+◌, ◌-◌, ◌≤◌, ◌<◌, eqb, ltb, leb, length, get_or}
+use Rattle.std.specs.Prelude.{◌≡◌, Bool, true, false, ◌&&◌, ◌||◌, List, ℕ, zero, suc, ◌+◌, ◌≤◌, ◌<◌, ltb, leb, length, get_or}
 use Rattle.std.proofs.Math.Option.{Option, none, some}
 use Rattle.terms.specs.declared.Content.{Content}
 use Rattle.terms.specs.declared.Cursor.{Cursor}

@@ -2,7 +2,7 @@
 use Rattle.std.specs.Prelude.{◌≡◌, Bool, true, false, ◌&&◌, List, ℕ, zero, suc, ◌+◌, ◌≤◌, ◌<◌, eqb, leb, length, get_or}
 use Rattle.std.proofs.lemmas.List.Edits.{sets}
 use Rattle.terms.specs.Result.{pick}
-use Rattle.terms.specs.Term.{Term, Parts, end, num, sub, items}
+use Rattle.terms.specs.Term.{Parts, end, num, sub, items}
 
 -- bytes written at a position where they fit, and else nothing
 abbrev pub put_if : List ℕ → ℕ → List ℕ → List ℕ

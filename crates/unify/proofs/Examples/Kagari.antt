@@ -1,23 +1,23 @@
 -- The heads, families and two equalities of Kagari's terms: an instance of `Sig`, so that nothing above is about nothing; and the
 -- worked session of document 01, run on the model.
 use mathlib.Core.Path.{◌≡◌, refl, ap, sym, ◌∙◌}
-use mathlib.Core.Logic.{◌↔◌, ◌≢◌}
+use mathlib.Core.Logic.{◌↔◌}
 use mathlib.Core.HLevel.{Discrete}
-use mathlib.Core.Bool.{Bool, true, false, ◌&&◌, ◌||◌, cond, not, beq}
+use mathlib.Core.Bool.{Bool, true, false, ◌&&◌, ◌||◌, cond, beq}
 use mathlib.Core.Option.{Option, none, some}
 use mathlib.Core.List.{List, [], ◌∷◌}
 use lib.ListN.{length}
-use Prim.Native.Nat.{ℕ, zero, suc, ◌+◌, ◌<◌}
+use Prim.Native.Nat.{ℕ, ◌+◌, ◌<◌}
 use native.Mathlib.Decide.{ℕ_discrete, dec_lt, dec_le}
 use native.Mathlib.Omega.{arith}
-use Rattle.unify.specs.Term.{Sort, one, many, Tree, var, node, nil, ◌▸◌, Term, clash, width, sub, in?, same?}
-use Rattle.unify.specs.Solver.{Sig, T, Out, cancelled, done, put, admit, join, joined, allow, any_soft, zip_on}
+use Rattle.unify.specs.Term.{var, node, nil, ◌▸◌, Term, clash, width, sub, in?, same?}
+use Rattle.unify.specs.Solver.{Sig, put, admit, join, joined, allow, any_soft, zip_on}
 use Rattle.unify.specs.Expansion.{resolve, expand}
 use Rattle.unify.specs.Orders.{Run, fresh, settle, issued?, Demand3}
 use Rattle.unify.proofs.Demand.{Premises}
-use Rattle.unify.specs.Table.{Table, answer, walk, tie₁, tie₀, tie, part₁, part, differ, match, turn, settles}
-use Rattle.unify.specs.Session.{Command, variable, number, hole, defer, pair, resolving, numbers, nevers, revision, refused, Session, session_begin, sheet, AllAllowed}
-use Rattle.unify.specs.Session.{Reply, term, verdict, changed, count, nothing, refusal, verdict_of, variable_at, if_issued, reply, replies, is_same}
+use Rattle.unify.specs.Table.{answer, walk, tie₁, tie₀, tie, part₁, part, differ, match, turn, settles}
+use Rattle.unify.specs.Session.{Command, variable, number, pair, resolving, numbers, revision, Session, session_begin, sheet, AllAllowed}
+use Rattle.unify.specs.Session.{Reply, term, verdict, changed, count, verdict_of, variable_at, if_issued, reply, replies, is_same}
 use Rattle.unify.specs.Session.{fill, number_one, never_one, fill_numbers, fill_nevers, deferring, serve_variable, serve_hole, serve_number, serve_defer, lift, serve_pair, obey}
 use Rattle.unify.proofs.Whole.{whole_demand_3}
 use Rattle.unify.proofs.Unification1965.{decides, AsRobinson, algorithm_sheet}

@@ -14,7 +14,7 @@ use Rattle.unify.specs.Expansion.{resolve, expand}
 use Rattle.unify.specs.Orders.{Issued, fresh, settle, issued?}
 use Rattle.unify.specs.Table.{answer, walk, tie₁, tie₀, tie, part₁, part, differ, match, turn, settles}
 use Rattle.unify.specs.Session.{Command, variable, number, pair, numbers, session_begin, sheet}
-use Rattle.unify.specs.Session.{Reply, term, verdict, changed, count, verdict_of, variable_at, if_issued, reply, replies, is_same}
+use Rattle.unify.specs.Session.{Reply, term, verdict, changed, verdict_of, variable_at, if_issued, reply, replies, is_same}
 use Rattle.unify.specs.Session.{fill, number_one, never_one, fill_numbers, fill_nevers, deferring, serve_variable, serve_hole, serve_number, serve_defer, lift, serve_pair, obey, obey_all}
 use Rattle.unify.specs.Robinson1965.{Outcome, unifier, without, value, has?, images, others, disagreement, replace, step3, step2, again, rounds, unification, ordered, above, occurring, or_else}
 use Rattle.unify.proofs.RobinsonPair.{Simple, PlainPair, DecidesPair, RobinsonDecides, robinson_each, decides_at}

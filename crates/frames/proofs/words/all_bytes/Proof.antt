@@ -1,7 +1,6 @@
 -- `all_bytes`. Invariant: the values that were passed are x.
 use mathlib.Core.Path.{◌≡◌, refl, sym, ◌∙◌}
-use Prim.Native.Nat.{◌≤◌, ◌-◌}
-use native.Mathlib.Omega.{arith}
+use Prim.Native.Nat.{◌-◌}
 use lib.ListN.{length, drop}
 use Rattle.frames.specs.Numbers.{every}
 use Rattle.frames.proofs.WordsLaws.{every_same, every_other, every_end}

@@ -3,7 +3,7 @@ use mathlib.Core.Path.{◌≡◌, refl, sym, ap, subst, ◌∙◌}
 use mathlib.Core.Bool.{Bool, true, false, not}
 use mathlib.Core.List.{List, [], ◌∷◌, ◌++◌, append-nil}
 use mathlib.Core.Logic.{inl, inr, ⊎_elim}
-use mathlib.Core.Option.{Option, none, some}
+use mathlib.Core.Option.{some}
 use Prim.Native.Nat.{ℕ, ◌+◌, ◌-◌, ◌*◌, ◌≤◌, ◌<◌}
 use native.Mathlib.Decide.{ℕ_discrete}
 use native.Mathlib.Omega.{arith}
@@ -37,9 +37,7 @@ use Rattle.sheet.specs.OrderTable as rows
 use Rattle.sheet.specs.OrderTable.{Answer, refusal, Act, Row, session_orders, row_in, layout, command_by, command_of, Read}
 use Rattle.sheet.specs.Operations.{operations, operation}
 use Rattle.sheet.specs.Sheet.{table, read_order, Step, solve, perform, step, step_read, order_of}
-use Rattle.sheet.specs.declared.FieldSpot.{FieldSpot}
-use Rattle.sheet.specs.Words.FieldsHeld.{HeldField}
-use Rattle.sheet.specs.Words.FieldsFormed.{FormedField, FormedFields}
+use Rattle.sheet.specs.Words.FieldsFormed.{FormedFields}
 use Rattle.sheet.specs.Words.OrderGiven.{FitsLayout, Given}
 use Rattle.sheet.specs.Words.FieldLayout.{is_operation, SpotOf, field_items, all_items, spare, spares, spot_at, start_at}
 use Rattle.sheet.specs.Words.OrderReaderContract.{RulesRoom, OrderRoom}

@@ -1,5 +1,5 @@
 -- What an order of the session tells is made of its fields: of numbers and bounds, or of its terms, which are formed, issued and all of its nodes.
-use mathlib.Core.Path.{◌≡◌, refl, sym, ap, subst, ◌∙◌}
+use mathlib.Core.Path.{◌≡◌, refl, ap, subst, ◌∙◌}
 use mathlib.Core.Bool.{Bool, true, false, ◌||◌}
 use mathlib.Core.List.{List, [], ◌∷◌}
 use mathlib.Core.Logic.{inl, inr}
@@ -24,7 +24,7 @@ use Rattle.sheet.specs.Fields as fields
 use Rattle.sheet.specs.Fields.{FieldSort, Field, value, tree, nodes, all_nodes, nth, number_of, number_at, term_of}
 use Rattle.sheet.specs.OrderTable as rows
 use Rattle.sheet.specs.OrderTable.{refusal, Act, tells, answers, Row, between, asking, session_orders, row_in, layout, known_by}
-use Rattle.sheet.specs.Sheet.{Step, table, answer_of, solve, perform, step}
+use Rattle.sheet.specs.Sheet.{table, answer_of, solve, perform, step}
 use Rattle.sheet.specs.Words.FieldsFormed.{FormedFields}
 use Rattle.sheet.specs.Words.OrderGiven.{OfSort, FitsLayout}
 use Rattle.sheet.specs.Words.FieldLayout.{sort_number, is_number, numeric, is_tokenless, tokenless, field_items, all_items}

@@ -9,7 +9,7 @@ use native.Mathlib.Omega.{arith}
 use borrow.Author.Tests.{le-leb, lt-leb}
 use lib.Dec.{eqb, leb}
 use Rattle.solver.specs.Terms.Result.{pick}
-use Rattle.solver.specs.Families.{Bound, Request, requested, request_of}
+use Rattle.solver.specs.Families.{Request, requested, request_of}
 use Rattle.solver.specs.Orders as orders
 use Rattle.solver.specs.Words.SessionRepresentation.{RequestWord, request_in, HeldRequest}
 use Rattle.sheet.specs.declared.FieldSpot.{FieldSpot}

@@ -4,7 +4,6 @@ use mathlib.Core.Bool.{Bool, true, false}
 use mathlib.Core.List.{List, [], ◌∷◌}
 use mathlib.Core.Option.{Option, none, some}
 use Prim.Native.Nat.{ℕ}
-use native.Mathlib.Omega.{arith}
 use lib.Dec.{ltb}
 use lib.ListN.{length}
 use Rattle.solver.specs.Terms.Parser.{Result, got, refused, bind, pick, byte}
@@ -15,7 +14,7 @@ use Rattle.solver.specs.Orders.{Command, Reply, order, run}
 use Rattle.solver.specs.Demand3 as theirs
 use Rattle.sheet.specs.Fields as fields
 use Rattle.sheet.specs.Fields.{Field, last}
-use Rattle.sheet.specs.OrderTable.{Answer, Act, tells, answers, Row, session_orders, row_in, layout, known_by, known, command_by, command_of, Read, kinded_order, read_by}
+use Rattle.sheet.specs.OrderTable.{Answer, Act, tells, answers, Row, session_orders, row_in, layout, known, command_by, command_of, Read, kinded_order, read_by}
 use Rattle.sheet.specs.Sheet.{Step, table, read_order, answer_of, solve, perform, step, step_read, order_of}
 use Rattle.sheet.specs.OrdersInTurn.{accepted, session_after}
 use Rattle.sheet.specs.Commands.{command_read, command, leaves, prefixed, commands}

@@ -7,7 +7,6 @@ use mathlib.Core.Option.{Option, none, some}
 use Prim.Native.Nat.{ℕ, ◌+◌}
 use native.Mathlib.Omega.{arith}
 use borrow.Author.Tests.{eqb-true, eq-eqb}
-use lib.Dec.{eqb}
 use Rattle.solver.specs.Terms.Term.{Term, size}
 use Rattle.solver.proofs.Terms.Bools.{never_true, or-true, or_right}
 use Rattle.solver.specs.Families.{Request}

@@ -26,7 +26,7 @@ use Rattle.sheet.specs.Fields as fields
 use Rattle.sheet.specs.Fields.{Field, FieldSort, ruled, nodes, all_nodes, last, nth}
 use Rattle.sheet.specs.OrderTable.{Row, row_in, layout, known, kinded_order, read_by}
 use Rattle.sheet.specs.Sheet.{table, read_order}
-use Rattle.sheet.specs.Words.FieldLayout.{row_words, RowIs, layout_in, sorts_at, known_for, sort_of, plain_of, packed, Plain, Plains, field_items, all_items, Free, Ample, no_fields, Spots, finished_order, FieldDone, RulesDone}
+use Rattle.sheet.specs.Words.FieldLayout.{row_words, RowIs, layout_in, sorts_at, known_for, sort_of, plain_of, Plain, Plains, field_items, all_items, Free, Ample, no_fields, Spots, finished_order, FieldDone, RulesDone}
 use Rattle.solver.specs.Terms.StepCodes.{step_of}
 use Rattle.sheet.specs.Words.FieldsContract.{field_of}
 use Rattle.sheet.specs.Words.OrderReaderContract.{OrderRoom, WholeOrder}

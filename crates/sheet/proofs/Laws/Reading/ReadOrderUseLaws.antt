@@ -14,7 +14,7 @@ use Rattle.solver.specs.Terms.Held.{HeldParts}
 use Rattle.solver.proofs.Terms.StoreLaws.{length_kinds, length_vals}
 use Rattle.solver.specs.Words.SessionRepresentation.{begins}
 use Rattle.sheet.specs.declared.Order.{Order}
-use Rattle.sheet.specs.Fields.{Field, value, tree, nodes, nth}
+use Rattle.sheet.specs.Fields.{Field, value, tree, nth}
 use Rattle.sheet.specs.Words.FieldsFormed.{FormedField, FormedFields}
 use Rattle.sheet.specs.Words.FieldLayout.{field_items, all_items}
 use Rattle.sheet.specs.Words.OrderReaderContract.{WholeOrder}

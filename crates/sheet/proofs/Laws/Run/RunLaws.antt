@@ -11,7 +11,6 @@ use lib.Seq.{sets, sets-eq, length-sets, take_at, drop-append-add, drop-drop}
 use Rattle.solver.specs.Terms.Result.{Result, got, refused, pick}
 use Rattle.solver.specs.declared.Solver.{Solver}
 use Rattle.solver.specs.Session.{Limits, Session, issued, fresh}
-use Rattle.solver.specs.Orders as solver
 use Rattle.solver.specs.Orders.{Command, order, run}
 use Rattle.solver.specs.Invariant.{InOrder}
 use Rattle.solver.proofs.Laws.Definition.InOrderLaws.{fresh_in_order, run_in_order}

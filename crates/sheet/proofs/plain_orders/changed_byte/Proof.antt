@@ -1,6 +1,5 @@
 -- `changed_byte`: by the test.
 use Rattle.sheet.proofs.Laws.Answering.SessionOrderLaws.{changed_same, changed_other}
-use borrow.Author.Rules.{rules}
 use Rattle.sheet.proofs.plain_orders.changed_byte.Statement.{statement}
 use Rattle.sheet.proofs.plain_orders.changed_byte.Tie as tie
 

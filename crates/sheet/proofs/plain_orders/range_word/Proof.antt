@@ -1,5 +1,4 @@
 -- `range_word`: a sign over 1, or what the bounds request.
-use native.Mathlib.Omega.{arith}
 use Rattle.sheet.proofs.Laws.Answering.TermlessLaws.{low_sign, high_sign, both_signs}
 use borrow.Author.Rules.{rules}
 use Rattle.sheet.proofs.plain_orders.range_word.Statement.{statement}

@@ -7,7 +7,7 @@ use lib.ListN.{length}
 use Rattle.solver.specs.declared.Solver.{Solver}
 use Rattle.solver.specs.Session.{Session, issued}
 use Rattle.solver.specs.Invariant.{InOrder}
-use Rattle.solver.specs.Words.SessionRepresentation.{Represents, limits_of}
+use Rattle.solver.specs.Words.SessionRepresentation.{Represents}
 use Rattle.solver.specs.Words.MethodContract.{Shaped, Low}
 use Rattle.solver.proofs.Laws.Table.MethodLaws.{lent_shaped}
 use Rattle.solver.proofs.Laws.Table.ChainLaws.{in_order_low}

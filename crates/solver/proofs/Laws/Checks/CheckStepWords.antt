@@ -9,7 +9,6 @@ use lib.ListN.{length, get_or, take, drop}
 use lib.Seq.{get_or-drop}
 use Rattle.terms.specs.Term.{Term}
 use Rattle.solver.specs.declared.Solver.{Solver}
-use Rattle.solver.specs.declared.Checked.{Checked}
 use Rattle.solver.specs.Shapes.{pushed}
 use Rattle.solver.specs.Constrain as solving
 use Rattle.solver.specs.Constrain.{Pair, passed, failed, zip_on}

@@ -15,7 +15,7 @@ use Rattle.solver.specs.declared.Solver.{Solver}
 use Rattle.solver.specs.declared.Checked.{Checked}
 use Rattle.solver.specs.declared.Verdict.{Verdict}
 use Rattle.solver.specs.declared.Verdict.TheVariants.{Incompatible, Compatible, Cancelled}
-use Rattle.solver.specs.Shapes.{Notion, pushed}
+use Rattle.solver.specs.Shapes.{Notion}
 use Rattle.solver.specs.Constrain as solving
 use Rattle.solver.specs.Constrain.{Pair, check_pair, top, follow, followed, settles, constrain}
 use Rattle.solver.specs.Session.{Session, issued, with_solver}

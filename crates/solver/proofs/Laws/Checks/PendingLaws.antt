@@ -9,7 +9,6 @@ use native.Mathlib.Decide.{dec_lt}
 use native.Mathlib.Omega.{arith}
 use lib.ListN.{length, get_or}
 use Rattle.terms.specs.Term.{Term, Parts, node, Held}
-use Rattle.terms.specs.Tree.{tag}
 use Rattle.terms.proofs.Laws.Held.HeldLaws.{kind_some, items_some, held_first}
 use Rattle.solver.specs.Constrain.{follow}
 use Rattle.solver.specs.Words.ReachContract.{Steady}

@@ -1,6 +1,6 @@
 -- What a default leaves as it was, and what it goes by.
 use mathlib.Core.Path.{◌≡◌, refl, ap}
-use mathlib.Core.Option.{Option, some}
+use mathlib.Core.Option.{some}
 use Prim.Native.Nat.{ℕ, suc}
 use Rattle.terms.specs.Term.{Term, var, node}
 use Rattle.unify.specs.Solver.{put}

@@ -9,11 +9,11 @@ use native.Mathlib.Omega.{arith}
 use borrow.Author.Tests.{eq-eqb}
 use Rattle.terms.specs.Term.{Term, var, node, size}
 use Rattle.terms.specs.Tree.{same}
-use Rattle.unify.specs.Solver.{Out, cancelled, done}
+use Rattle.unify.specs.Solver.{Out}
 use Rattle.solver.specs.Shapes.{Notion, notion, same_shape}
 use Rattle.solver.specs.Constrain.{Solver, Pair, Requests, resolved, top, recovery, recovers, occurs, projects, admit, bind₁, bind₀, bind, decompose, differ, match, check_pair, settles, constrain}
 use Rattle.solver.specs.Session.{Limits, Session, keep}
-use Rattle.solver.specs.Orders.{pair, known, crowded, moved, keeps, unless, solver_of, posing, order}
+use Rattle.solver.specs.Orders.{pair, known, crowded, keeps, unless, solver_of, posing, order}
 
 -- the revision does not fall, and where it is the same the solver is
 abbrev pub Quiet : Solver → Solver → Type 0

@@ -6,7 +6,7 @@ use mathlib.Core.List.{List, [], ◌∷◌}
 use mathlib.Core.Logic.{◌⊎◌, inl, inr, ◌↔◌}
 use Prim.Native.Nat.{ℕ}
 use lib.ListN.{length}
-use Rattle.terms.specs.Term.{Term, Parts, var, node, end, num, sub}
+use Rattle.terms.specs.Term.{Term, Parts, var, node, num, sub}
 use Rattle.unify.specs.Term as tree
 use Rattle.unify.specs.Term.{Sort, Tree, nil, ◌▸◌, sub_ext, sub-sub, sub_fix}
 use Rattle.unify.specs.Solver.{State}

@@ -7,7 +7,7 @@ use mathlib.Core.Option.{none}
 use Prim.Native.Nat.{ℕ, ◌+◌}
 use borrow.Author.Tests.{eqb-true}
 use Rattle.terms.specs.Result.{pick}
-use Rattle.terms.specs.Term.{Term, var, node, size}
+use Rattle.terms.specs.Term.{Term, var, size}
 use Rattle.terms.specs.Tree.{same}
 use Rattle.terms.specs.Questions.{meets}
 use Rattle.terms.proofs.Laws.General.Bools.{never_true}

@@ -12,7 +12,7 @@ use borrow.Author.Tests.{eq-eqb, ne_eqb}
 use lib.Dec.{eqb}
 use lib.ListN.{length}
 use Rattle.terms.specs.Result.{pick}
-use Rattle.terms.specs.Term.{Term, var, node, end, num, sub, size}
+use Rattle.terms.specs.Term.{Term, var, node, end, num, size}
 use Rattle.terms.specs.Shape.{kind_of}
 use Rattle.terms.specs.Formed.{TakesNumber, after_number, Formed}
 use Rattle.terms.proofs.Laws.General.Bools.{never_true, never_false}

@@ -11,7 +11,7 @@ use lib.Dec.{eqb, ltb}
 use lib.ListN.{length, get_or, drop, set, length-set}
 use lib.Seq.{length-take-le, take-set-le, take-set-lt, drop-set-lt, get_or-set_same, get_or-set_other}
 use Rattle.terms.specs.Result.{pick}
-use Rattle.terms.specs.Term.{Term, var, node, Held}
+use Rattle.terms.specs.Term.{Term, var, Held}
 use Rattle.unify.specs.Solver.{put, put_same, put_other}
 use Rattle.unify.specs.Term.{clash}
 use Rattle.solver.specs.declared.Solver.{Solver}

@@ -1,7 +1,7 @@
 -- Demand 3 for every list of orders 0 to 8, 21 and 22, on terms, and what a list that mixes 4 and 22 keeps: carried over from the theory along the view.
 use mathlib.Core.Path.{◌≡◌, refl, sym, ap, ◌∙◌, subst}
 use mathlib.Core.Bool.{Bool, true, false, ◌&&◌, ◌||◌}
-use mathlib.Core.List.{List, [], ◌∷◌, map}
+use mathlib.Core.List.{List, [], ◌∷◌}
 use mathlib.Core.Logic.{◌↔◌}
 use mathlib.Core.Option.{Option, none, some}
 use Prim.Native.Nat.{ℕ, suc, ◌+◌, ◌<◌}
@@ -9,9 +9,8 @@ use native.Mathlib.Omega.{arith}
 use borrow.Author.Tests.{eqb-true}
 use lib.Dec.{eqb}
 use Rattle.terms.specs.Result.{pick}
-use Rattle.terms.specs.Term.{Term, Parts, var, node, end, num, sub, size}
+use Rattle.terms.specs.Term.{Term, Parts, var, node, end, num, size}
 use Rattle.terms.specs.Questions.{among, meets}
-use Rattle.terms.specs.Formed.{Formed}
 use Rattle.terms.proofs.Laws.General.Bools.{never_true, never_false}
 use Rattle.unify.specs.Term as tree
 use Rattle.unify.specs.Term.{Sort, Tree, nil, ◌▸◌, In, Closed, Sim, sub_ext}

@@ -3,35 +3,33 @@ use mathlib.Core.Path.{◌≡◌, refl, sym, ap, ◌∙◌, subst}
 use mathlib.Core.Bool.{Bool, true, false, ◌||◌}
 use mathlib.Core.List.{List, [], ◌∷◌}
 use mathlib.Core.Logic.{◌⊎◌, inl, inr, ◌≢◌}
-use mathlib.Core.Option.{Option, none, some}
-use Prim.Native.Nat.{ℕ, ◌<◌}
+use mathlib.Core.Option.{Option, some}
+use Prim.Native.Nat.{ℕ}
 use lib.Dec.{eqb, ltb}
 use Rattle.terms.specs.Result.{pick}
-use Rattle.terms.specs.Term.{Term, var, node, end, num}
+use Rattle.terms.specs.Term.{var, node, end, num}
 use Rattle.terms.proofs.Laws.General.Bools.{or_right, or-none}
 use Rattle.unify.specs.Term as tree
 use Rattle.unify.specs.Term.{nil, width, clash}
-use Rattle.unify.specs.Solver.{put}
 use Rattle.unify.specs.Meaning as meaning
 use Rattle.unify.specs.Table.{Table, answer}
-use Rattle.unify.specs.Session as session
 use Rattle.unify.specs.Mixes as mixes
 use Rattle.unify.specs.Filled as theirs
 use Rattle.unify.specs.Ranged.{Good}
 use Rattle.unify.proofs.Sound.{put_cases}
 use Rattle.unify.proofs.RangedLaws.{range_good, good_meet, taken_in}
 use Rattle.unify.proofs.FilledLaws as theory
-use Rattle.solver.specs.Families.{Family, admits, numerics, family_of, Request, requested, belongs, taken, default_of}
+use Rattle.solver.specs.Families.{admits, numerics, family_of, Request, belongs, taken, default_of}
 use Rattle.solver.specs.Shapes.{read}
 use Rattle.solver.specs.Constrain.{resolved}
 use Rattle.solver.specs.Session.{Limits, Session, at, find, issued, fresh, never, numeric_defaults_of}
 use Rattle.solver.specs.Orders.{Command, numbers, order}
 use Rattle.solver.specs.Demand3.{History, Role, requesting, posing, defaulting, neither, role, accepted, placed, requested_by, after, history, beginning, integer_or_f64, RequestMade, ProperRole, AllProper, Fallbacks, Filled, Premises}
-use Rattle.solver.proofs.Laws.Theory.TheoryView.{T, view, view_injective, back}
+use Rattle.solver.proofs.Laws.Theory.TheoryView.{view, view_injective, back}
 use Rattle.solver.proofs.Laws.Theory.Signature.{S, builtin_plain}
 use Rattle.solver.proofs.Laws.Theory.TheoryViewLaws.{view_resolve}
 use Rattle.solver.proofs.Laws.Theory.ConstrainView.{view_table, view_pairs, fallback, numerics_view}
-use Rattle.solver.proofs.Laws.Theory.MixView.{norm, Mix, view_mix, view_all}
+use Rattle.solver.proofs.Laws.Theory.MixView.{norm, Mix, view_all}
 use Rattle.solver.proofs.Laws.Theory.Demand3Laws.{viewing, member_belongs, true_view, agrees_view, view_agrees, back_assigns, back_respects, back_exactly, exactly_view, view_each}
 use Rattle.solver.proofs.Laws.Theory.Demand3Laws.{respects_by, led, all_allowed, mix_premises, history_ordered}
 use Rattle.solver.proofs.Laws.Definition.FamilyLaws.{admitted_low, code_belongs}

@@ -1,9 +1,9 @@
 -- `conflicts_with` on rows in the areas.
 use mathlib.Core.Path.{◌≡◌, refl, sym, ap, subst, ◌∙◌}
-use mathlib.Core.Bool.{Bool, true, false, not, ◌&&◌, ◌||◌}
+use mathlib.Core.Bool.{Bool, true, false, not, ◌||◌}
 use mathlib.Core.List.{List, [], ◌∷◌}
 use mathlib.Core.Logic.{◌⊎◌, inl, inr}
-use Prim.Native.Nat.{ℕ, zero, suc, ◌+◌, ◌-◌, ◌≤◌, ◌<◌}
+use Prim.Native.Nat.{ℕ, suc, ◌+◌, ◌-◌, ◌≤◌, ◌<◌}
 use native.Mathlib.Omega.{arith}
 use native.Mathlib.Decide.{dec_lt, ℕ_discrete}
 use borrow.Author.Tests.{eq-eqb, ne_eqb, eqb-true, lt-ltb, le-ltb}
@@ -22,7 +22,7 @@ use Rattle.terms.specs.declared.Pace.{Pace}
 use Rattle.terms.specs.declared.Pace.TheVariants.{Clash, Onward}
 use Rattle.terms.specs.Words.CompareContract.{Rows, Passed, Stepped}
 use Rattle.terms.proofs.Laws.General.Bools.{never_true, never_false, or-true, or_right, or_assoc, or-false, or-none}
-use Rattle.terms.proofs.Laws.Held.HeldLaws.{held_first, head_kind, head_value, row_num, row_sub, row_end, end_ends, held_sub, items_some}
+use Rattle.terms.proofs.Laws.Held.HeldLaws.{held_first, head_kind, row_num, row_sub, row_end, end_ends, held_sub, items_some}
 use Rattle.terms.proofs.Laws.Held.FlatLaws.{join, fit_append, held_enter, held_one}
 use Rattle.terms.proofs.Laws.Held.SameLaws.{span_held}
 

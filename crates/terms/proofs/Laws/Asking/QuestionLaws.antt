@@ -5,24 +5,22 @@ use mathlib.Core.List.{List, [], ◌∷◌}
 use Prim.Native.Nat.{ℕ, zero, suc, ◌+◌, ◌-◌, ◌≤◌, ◌<◌}
 use native.Mathlib.Decide.{ℕ_discrete}
 use native.Mathlib.Omega.{arith}
-use borrow.Author.Tests.{eq-eqb, ne_eqb, lt-ltb, le-ltb}
-use lib.Dec.{eqb, ltb}
+use borrow.Author.Tests.{ne_eqb, lt-ltb}
+use lib.Dec.{eqb}
 use lib.ListN.{length, get_or}
-use Rattle.terms.specs.declared.Lookup.{Lookup}
 use Rattle.terms.specs.declared.Lookup.TheVariants.{At, Nothing}
-use Rattle.terms.specs.Result.{pick}
-use Rattle.terms.specs.Parser.{Result, got, refused, bind, number}
-use Rattle.terms.specs.Term.{Term, Parts, var, node, end, num, sub, ◌+++◌, items, part_items, Subs}
+use Rattle.terms.specs.Parser.{Result, got, refused, bind}
+use Rattle.terms.specs.Term.{Term, Parts, var, node, end, num, sub, ◌+++◌, items, Subs}
 use Rattle.terms.specs.Words.Held.{Held, HeldParts, span}
 use Rattle.terms.specs.Shape as shape
 use Rattle.terms.specs.Shape.{Shape, layout}
 use Rattle.terms.specs.Formed.{Formed, Fit, TakesNumber, TakesTerm, after_number, after_term}
 use Rattle.terms.specs.Tree.{nums, row, tag}
-use Rattle.terms.specs.Questions.{Parameter, contains, is_empty, first, second, among, counted_by, counted, entered_by, entered, meets, meets_row, is_concrete, is_resolved_in}
-use Rattle.terms.specs.Parameters.{parameter, parameters, index_in, last_index, is_found}
+use Rattle.terms.specs.Questions.{Parameter, contains, is_empty, first, second, among, counted_by, counted, entered_by, meets, meets_row, is_concrete, is_resolved_in}
+use Rattle.terms.specs.Parameters.{parameter, parameters, index_in, is_found}
 use Rattle.terms.specs.Words.QuestionsContract.{tag_of, word, Asking}
-use Rattle.terms.proofs.Laws.General.Bools.{never_true, never_false, or-true, or-none, or_assoc, or-false}
-use Rattle.terms.proofs.Laws.Held.HeldLaws.{head_kind, held_first, held_num, held_node, held_sub, row_num, row_sub, row_end}
+use Rattle.terms.proofs.Laws.General.Bools.{or-true, or-none, or_assoc, or-false}
+use Rattle.terms.proofs.Laws.Held.HeldLaws.{head_kind, held_num, held_sub, row_num, row_sub, row_end}
 use Rattle.terms.proofs.Laws.Held.FlatLaws.{held_enter, held_one}
 use Rattle.terms.proofs.Laws.Format.ShapeLaws.{More, some_done}
 use Rattle.terms.proofs.Laws.Format.ParameterLaws.{found_contains}

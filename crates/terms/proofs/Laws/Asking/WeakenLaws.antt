@@ -3,26 +3,25 @@ use mathlib.Core.Path.{◌≡◌, refl, sym, ap, subst, ◌∙◌}
 use mathlib.Core.Bool.{Bool, true, false, not, ◌&&◌, ◌||◌}
 use mathlib.Core.List.{List, [], ◌∷◌}
 use mathlib.Core.Logic.{◌⊎◌, inl, inr}
-use mathlib.Core.Option.{Option, none, some}
-use Prim.Native.Nat.{ℕ, zero, suc, ◌+◌, ◌-◌, ◌≤◌, ◌<◌}
+use mathlib.Core.Option.{none, some}
+use Prim.Native.Nat.{ℕ, zero, suc, ◌+◌, ◌<◌}
 use native.Mathlib.Decide.{ℕ_discrete}
 use native.Mathlib.Omega.{arith}
-use borrow.Author.Tests.{eq-eqb, ne_eqb, eqb-true}
+use borrow.Author.Tests.{eq-eqb, ne_eqb}
 use lib.Dec.{eqb}
 use lib.ListN.{length, get_or}
 use Rattle.terms.specs.Result.{pick}
 use Rattle.terms.specs.Term.{Term, Parts, var, node, end, num, sub, items, part_items}
-use Rattle.terms.specs.Words.Held.{Held, HeldParts, span}
+use Rattle.terms.specs.Words.Held.{Held, HeldParts}
 use Rattle.terms.specs.Shape as shape
 use Rattle.terms.specs.Shape.{Shape, layout}
-use Rattle.terms.specs.Formed.{Formed, Fit, TakesNumber, TakesTerm, after_number}
+use Rattle.terms.specs.Formed.{Formed, Fit, TakesTerm, after_number}
 use Rattle.terms.specs.Tree.{nums, row, tag}
 use Rattle.terms.specs.Questions.{first, among}
-use Rattle.terms.specs.Comparison.{recovery, conflicts_with, rows_conflict, collection_access, read_only_view, with_first, agrees, is, can_weaken_to}
+use Rattle.terms.specs.Comparison.{conflicts_with, rows_conflict, collection_access, read_only_view, with_first, agrees, is, can_weaken_to}
 use Rattle.terms.specs.Words.CompareContract.{Rows}
 use Rattle.terms.proofs.Laws.General.Bools.{never_true, and-false}
-use Rattle.terms.proofs.Laws.Held.HeldLaws.{head_kind, held_first, held_node, held_num}
-use Rattle.terms.proofs.Laws.Held.SameLaws.{told}
+use Rattle.terms.proofs.Laws.Held.HeldLaws.{head_kind, held_node, held_num}
 use Rattle.terms.proofs.Laws.Format.ShapeLaws.{More, some_done}
 use Rattle.terms.proofs.Laws.Asking.ConflictLaws.{among_three, not_among}
 

@@ -1,7 +1,6 @@
 -- Rows that fit a shape.
 use mathlib.Core.Path.{◌≡◌, subst}
 use Prim.Native.Nat.{ℕ, suc}
-use native.Mathlib.Omega.{arith}
 use Rattle.terms.specs.Term.{Parts}
 use Rattle.terms.specs.Shape as shape
 use Rattle.terms.specs.Shape.{Shape, many_members}

@@ -21,7 +21,7 @@ use Rattle.terms.specs.Shape as shape
 use Rattle.terms.specs.Shape.{Shape, Meaning, kind_of, layout, nominal, ceiling, many_terms, many_members}
 use Rattle.terms.specs.Formed.{Formed, Fit, TakesNumber, TakesTerm, after_number, after_term}
 use Rattle.terms.specs.Reading.{◌then◌, code, count, rising, variable, many, pairs, row, kinded, term, bare}
-use Rattle.terms.specs.Words.ReadContract.{seq, into, onto}
+use Rattle.terms.specs.Words.ReadContract.{onto}
 use Rattle.terms.proofs.Laws.Format.RowPieceLaws.{after_end, onto_seq, pairs_seq}
 use Rattle.terms.proofs.Laws.Format.KindTableLaws.{small, small_code, all_small, row_tag}
 

@@ -1,16 +1,16 @@
 -- A node is entered by putting its row before what is left: the walks over whole terms are walks over one row.
-use mathlib.Core.Path.{◌≡◌, refl, sym, ap, subst, ◌∙◌}
-use mathlib.Core.List.{List, [], ◌∷◌, ◌++◌, append-nil}
-use Prim.Native.Nat.{ℕ, zero, suc, ◌+◌, ◌≤◌, ◌<◌}
+use mathlib.Core.Path.{◌≡◌, refl, sym, ap, subst}
+use mathlib.Core.List.{List, [], append-nil}
+use Prim.Native.Nat.{ℕ, zero, suc, ◌+◌}
 use native.Mathlib.Numerals.{add-one}
 use native.Mathlib.Omega.{arith}
-use lib.ListN.{length, get_or, length-append}
-use Rattle.terms.specs.Words.Tokens.{Item, item, toks, spell}
-use Rattle.terms.specs.Term.{Term, Parts, var, node, end, num, sub, ◌+++◌, items, part_items}
+use lib.ListN.{length, length-append}
+use Rattle.terms.specs.Words.Tokens.{spell}
+use Rattle.terms.specs.Term.{Term, Parts, node, end, num, sub, ◌+++◌, items, part_items}
 use Rattle.terms.specs.Words.Held.{Held, HeldParts}
 use Rattle.terms.specs.Shape as shape
 use Rattle.terms.specs.Shape.{Shape, many_terms, many_members}
-use Rattle.terms.specs.Formed.{Formed, Fit, TakesNumber, TakesTerm, after_number, after_term}
+use Rattle.terms.specs.Formed.{Fit, TakesNumber, TakesTerm, after_number, after_term}
 use Rattle.terms.proofs.Laws.Format.ReadSequenceLaws.{items_append}
 
 -- ---- one shape and then another

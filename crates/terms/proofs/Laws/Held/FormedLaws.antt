@@ -1,12 +1,11 @@
 -- Formed terms: their children are formed, and so are they with other formed children.
-use mathlib.Core.Path.{◌≡◌, refl, sym, ap, ◌∙◌}
+use mathlib.Core.Path.{◌≡◌, refl}
 use mathlib.Core.List.{List, [], ◌∷◌}
-use Prim.Native.Nat.{ℕ, zero, suc, ◌+◌, ◌≤◌, ◌<◌}
+use Prim.Native.Nat.{ℕ, zero, suc}
 use native.Mathlib.Omega.{arith}
 use lib.ListN.{length, get_or}
 use Rattle.terms.specs.Term.{Term, Parts, var, node, end, num, sub}
-use Rattle.terms.specs.Shape as shape
-use Rattle.terms.specs.Shape.{Shape, kind_of, layout, ceiling}
+use Rattle.terms.specs.Shape.{Shape, kind_of, layout}
 use Rattle.terms.specs.Formed.{Formed, Fit, after_number, after_term}
 use Rattle.terms.specs.Tree.{error, subs, fill, children, with_kids}
 use Rattle.terms.proofs.Laws.Normalising.RespectLaws.{Inherited}

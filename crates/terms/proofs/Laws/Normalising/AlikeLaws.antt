@@ -1,10 +1,10 @@
 -- Two rows read in step: what is left of both decides whether the one begins with the other.
 use mathlib.Core.Path.{◌≡◌, refl, sym, ap, ap₂, ◌∙◌}
 use mathlib.Core.Bool.{Bool, true, false, ◌&&◌}
-use mathlib.Core.List.{List, [], ◌∷◌}
-use Prim.Native.Nat.{ℕ, zero, suc, max, ◌+◌, ◌-◌, ◌≤◌, ◌<◌}
+use mathlib.Core.List.{List}
+use Prim.Native.Nat.{ℕ, suc, max, ◌+◌, ◌≤◌, ◌<◌}
 use native.Mathlib.Omega.{arith}
-use borrow.Author.Tests.{eq-eqb, ne_eqb, eqb-true, eqb-false, leb-true, leb-false}
+use borrow.Author.Tests.{eqb-true, eqb-false, leb-true, leb-false}
 use lib.Dec.{eqb, leb}
 use lib.ListN.{length, get_or}
 use Rattle.terms.specs.Words.Tokens.{Area}
@@ -17,7 +17,7 @@ use Rattle.terms.specs.declared.Content.{Content}
 use Rattle.terms.specs.declared.Cursor.{Cursor}
 use Rattle.terms.specs.declared.Met.TheVariants.{Behind, Apart}
 use Rattle.terms.specs.Words.Arena.{head_of, kids_of, Tree, variable, branch, Parted, RowAt, From, Cut, Alike, Begins, Starts}
-use Rattle.terms.proofs.Laws.General.Bools.{never_true, never_false}
+use Rattle.terms.proofs.Laws.General.Bools.{never_true}
 use Rattle.terms.proofs.Laws.Held.HeldLaws.{head_kind}
 use Rattle.terms.proofs.Laws.Held.SameLaws.{both, same_refl, same_true}
 use Rattle.terms.proofs.Laws.Normalising.SourceLaws.{tree_held}

@@ -1,19 +1,19 @@
 -- Trees in words: what a content stands for, taken apart token by token, kept where the records that it looks at are kept, and built anew over other
 -- children.
 use mathlib.Core.Path.{◌≡◌, refl, sym, ap, ◌∙◌}
-use mathlib.Core.Bool.{Bool, true, false, ◌&&◌, ◌||◌}
+use mathlib.Core.Bool.{Bool, true, false, ◌||◌}
 use mathlib.Core.List.{List, [], ◌∷◌}
 use mathlib.Core.Logic.{⊎_elim, ◌⊎◌, inl, inr}
-use Prim.Native.Nat.{ℕ, zero, suc, ◌+◌, ◌-◌, ◌≤◌, ◌<◌}
+use Prim.Native.Nat.{ℕ, zero, suc, ◌+◌, ◌≤◌, ◌<◌}
 use native.Mathlib.Numerals.{add-one}
 use native.Mathlib.Omega.{arith}
 use borrow.Author.Tests.{lt-ltb, le-leb, ltb-true, leb-true}
 use lib.Dec.{ltb, leb}
 use lib.ListN.{length, get_or}
 use Rattle.terms.specs.Words.Tokens.{Area}
-use Rattle.terms.specs.Term.{Term, Parts, var, node, end, num, sub, items, part_items}
+use Rattle.terms.specs.Term.{Term, Parts, var, node, end, num, sub, items}
 use Rattle.terms.specs.Words.Held.{Held, HeldParts, span}
-use Rattle.terms.specs.Tree.{error, subs, fill, children, with_kids, row, tag}
+use Rattle.terms.specs.Tree.{error, subs, fill, children, with_kids, row}
 use Rattle.terms.specs.Words.Arena.{head_of, kids_of, Marked, Tree, variable, branch, Parted, over, number, child, grow, Below}
 use Rattle.terms.proofs.Laws.Held.HeldLaws.{head_kind, head_value, held_first, kind_some, span_one, span_node, items_some, held_num, held_sub, held_node}
 use Rattle.terms.proofs.Laws.Held.SameLaws.{both, span_held}

@@ -4,7 +4,7 @@ use mathlib.Core.Path.{◌≡◌, refl, sym, ap, ◌∙◌}
 use mathlib.Core.Bool.{Bool, true, false}
 use mathlib.Core.List.{List, [], ◌∷◌}
 use mathlib.Core.Option.{Option, none, some}
-use Prim.Native.Nat.{ℕ, zero, suc, min, max, ◌+◌, ◌-◌, ◌≤◌, ◌<◌}
+use Prim.Native.Nat.{ℕ, zero, suc, min, ◌+◌, ◌-◌, ◌≤◌, ◌<◌}
 use native.Mathlib.Omega.{arith}
 use native.Mathlib.Decide.{ℕ_discrete}
 use borrow.Author.Tests.{ltb-true, ltb-false}
@@ -13,7 +13,7 @@ use lib.ListN.{length, get_or, set, length-set}
 use lib.Seq.{get_or-set_same, get_or-set_other}
 use Rattle.terms.specs.Term.{Term, Parts, var, node, end, num, sub, depth, depths}
 use Rattle.terms.specs.Tree.{error, nums, subs, fill, children, with_kids, row, tag, class, nominal_slot, projection_slot, slot_by, slot, same}
-use Rattle.terms.specs.Normal.{Out, Row, failed, visit_kids, follow, settle, rebuilt, walk_by}
+use Rattle.terms.specs.Normal.{Out, Row, visit_kids, follow, settle, walk_by}
 use Rattle.terms.proofs.Laws.Normalising.SlotLaws.{nominal_member, nominal_argument, projection_argument, projection_receiver, projection_member, projection_interface}
 
 -- ---- every place comes

@@ -1,6 +1,6 @@
 -- A term with no projection comes through the walk of `normalize` as it was, at the cost of a visit for each of its nodes.
 use mathlib.Core.Path.{◌≡◌, refl, sym, ap, ap₂, ◌∙◌}
-use mathlib.Core.Bool.{Bool, true, false, ◌||◌, ◌&&◌}
+use mathlib.Core.Bool.{Bool, true, false, ◌||◌}
 use mathlib.Core.List.{List, [], ◌∷◌, ◌++◌}
 use mathlib.Core.Option.{Option, none}
 use Prim.Native.Nat.{ℕ, zero, suc, pred, min, ◌+◌, ◌-◌, ◌≤◌, ◌<◌}
@@ -16,13 +16,13 @@ use Rattle.terms.specs.declared.Walked.{Walked}
 use Rattle.terms.specs.Words.Tokens.{Item, item, spell, toks}
 use Rattle.terms.specs.Term.{Term, Parts, var, node, end, num, sub, items, part_items, bytes, size, sizes, Held}
 use Rattle.terms.specs.Words.Held.{span}
-use Rattle.terms.specs.Tree.{error, nums, subs, fill, children, with_kids, row, tag, class, nominal_slot, slot_by, slot}
+use Rattle.terms.specs.Tree.{error, nums, subs, fill, children, with_kids, row, tag, class, slot}
 use Rattle.terms.specs.Questions.{meets, meets_row, counted, counted_by, entered, entered_by, contains_projection}
 use Rattle.terms.specs.Words.VirtualTokens.{view, Sight}
 use Rattle.terms.specs.Lookup.{Look, look_by}
 use Rattle.terms.specs.Words.Arena.{Tree, grow, Frames}
 use Rattle.terms.specs.Words.WalkingContract.{node_first, Fixed, Walks}
-use Rattle.terms.specs.Normal.{Out, Row, visit_kids, settle, rebuilt, replacement, walk_by, only_if}
+use Rattle.terms.specs.Normal.{Out, Row, visit_kids, rebuilt, replacement, walk_by}
 use Rattle.terms.proofs.Laws.General.Bools.{never_true, never_false}
 use Rattle.terms.proofs.Laws.Held.HeldLaws.{toks_cons, items_some}
 use Rattle.terms.proofs.Laws.Held.SameLaws.{span_held}

@@ -1,24 +1,22 @@
 -- Order 19: the projection made anew stands among the tokens that are seen, and what is found by cases.
 use mathlib.Core.Path.{◌≡◌, refl, sym, ap, ◌∙◌}
-use mathlib.Core.Bool.{Bool, true, false, ◌&&◌}
+use mathlib.Core.Bool.{Bool, true, false}
 use mathlib.Core.List.{List, [], ◌∷◌, ◌++◌}
-use mathlib.Core.Option.{Option, none, some}
+use mathlib.Core.Option.{none, some}
 use Prim.Native.Nat.{ℕ, zero, suc, ◌+◌, ◌-◌, ◌*◌, ◌/◌, ◌%◌, ◌≤◌, ◌<◌}
 use native.Mathlib.Nat.{mul-add-div_right, mul-add-mod_self_right, mod-eq_of_lt, div-eq_of_lt, mul-le-mul_right, suc-mul}
 use native.Mathlib.Numerals.{add-one}
 use native.Mathlib.Omega.{arith}
-use borrow.Author.Tests.{eq-eqb, ne_eqb, le-ltb}
+use borrow.Author.Tests.{eq-eqb, ne_eqb}
 use lib.Dec.{eqb}
 use lib.ListN.{length, get_or, length-append, get_or-eq_default, get_elem?}
 use Rattle.terms.specs.declared.Origin.{Origin}
-use Rattle.terms.specs.declared.Content.{Content}
 use Rattle.terms.specs.declared.Spot.{Spot}
 use Rattle.terms.specs.declared.Spot.TheVariants.{Lent, Error, Head, Nowhere}
-use Rattle.terms.specs.Result.{pick}
 use Rattle.terms.specs.Words.Tokens.{Area, Item, item, spell, toks}
 use Rattle.terms.specs.Term.{Term, Parts, var, node, end, num, sub, ◌+++◌, items, part_items, depth, depths}
 use Rattle.terms.specs.Words.Held.{Held}
-use Rattle.terms.specs.Words.VirtualTokens.{copied, word_at, count, seen, view, Sight, Located, LentAt}
+use Rattle.terms.specs.Words.VirtualTokens.{copied, word_at, count, view, Sight, Located, LentAt}
 use Rattle.terms.specs.Tree.{nums, subs, children, row, tag, member_of, arguments_of}
 use Rattle.terms.specs.Comparison.{no_terms}
 use Rattle.terms.specs.Normal.{member_from}
@@ -30,7 +28,7 @@ use Rattle.terms.proofs.Laws.Normalising.ScanLaws.{children_row}
 use Rattle.terms.specs.Words.Arena.{Tree}
 use Rattle.terms.proofs.Laws.Normalising.ArenaLaws.{held_tree}
 use Rattle.terms.proofs.Laws.Format.ReadSequenceLaws.{items_append}
-use Rattle.terms.proofs.Laws.Normalising.VirtualTokenLaws.{seen_at_lem, seen_length, toks_same, spot_word, located_head, located_copy, copied_owner, copied_interface, copied_member, copied_last, view_held}
+use Rattle.terms.proofs.Laws.Normalising.VirtualTokenLaws.{seen_length, toks_same, spot_word, located_head, located_copy, copied_owner, copied_interface, copied_member, copied_last, view_held}
 
 -- ---- the lent token of a number
 

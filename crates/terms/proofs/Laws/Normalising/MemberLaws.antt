@@ -1,6 +1,6 @@
 -- A member looked up by its place, and a projection's own member by cases.
 use mathlib.Core.Path.{◌≡◌, refl, sym, ap, ◌∙◌}
-use mathlib.Core.Bool.{Bool, true, false}
+use mathlib.Core.Bool.{true, false}
 use mathlib.Core.List.{List, [], ◌∷◌}
 use mathlib.Core.Option.{Option, none, some}
 use Prim.Native.Nat.{ℕ, zero, suc, min, ◌+◌, ◌-◌, ◌≤◌, ◌<◌}
@@ -13,7 +13,7 @@ use Rattle.terms.specs.Term.{Term, Parts}
 use Rattle.terms.specs.Tree.{error, nums, subs, children, row, tag, look_up, receiver_of, member_of, arguments_of}
 use Rattle.terms.specs.Comparison.{no_terms}
 use Rattle.terms.specs.Substitution.{or_else}
-use Rattle.terms.specs.Normal.{only_if, member_from, trait_member, own_member, replacement}
+use Rattle.terms.specs.Normal.{member_from, trait_member, own_member, replacement}
 use Rattle.terms.specs.declared.Origin.{Origin}
 use Rattle.terms.specs.Lookup.{Pattern, by_patterns, through, Look, rules, interface, look_by, Ruled, HeldGiven, Looks}
 use Rattle.terms.specs.Words.Arena.{Keyed}

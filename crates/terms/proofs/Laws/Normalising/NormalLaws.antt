@@ -1,9 +1,9 @@
 -- The whole of normalising: the scan for projections, the records cleared, and the answer.
 use mathlib.Core.Path.{◌≡◌, refl, sym, ap, ap₂, ◌∙◌}
-use mathlib.Core.Bool.{Bool, true, false, ◌||◌, ◌&&◌}
+use mathlib.Core.Bool.{Bool, true, false, ◌||◌}
 use mathlib.Core.List.{List, [], ◌∷◌, ◌++◌}
 use mathlib.Core.Option.{Option}
-use Prim.Native.Nat.{ℕ, zero, suc, min, ◌+◌, ◌-◌, ◌*◌, ◌≤◌, ◌<◌}
+use Prim.Native.Nat.{ℕ, zero, suc, min, ◌+◌, ◌-◌, ◌≤◌, ◌<◌}
 use native.Mathlib.Nat.{mul-le-mul}
 use native.Mathlib.Decide.{dec_lt, ℕ_discrete}
 use native.Mathlib.Omega.{arith}
@@ -14,7 +14,6 @@ use lib.Seq.{get_or-set_same, get_or-set_other, ext_get_or}
 use Rattle.terms.specs.declared.Origin.{Origin}
 use Rattle.terms.specs.declared.Content.{Content}
 use Rattle.terms.specs.declared.Walked.{Walked}
-use Rattle.terms.specs.declared.Ready.{Ready}
 use Rattle.terms.specs.declared.Normalised.{Normalised}
 use Rattle.terms.specs.declared.Normalised.TheVariants.{Refused, Long, Done}
 use Rattle.terms.specs.Result.{pick}
@@ -28,7 +27,7 @@ use Rattle.terms.specs.Normal.{Out, replacement, walk_by, normalise}
 use Rattle.terms.specs.Lookup.{Look, look_by, Looks, HeldGiven}
 use Rattle.terms.specs.Words.Arena.{Tree, grow, Frame, Frames}
 use Rattle.terms.specs.Words.WalkingContract.{Visited, Walks}
-use Rattle.terms.specs.Words.NormalContract.{Zero, Stands, Sized, Fitted, number_of, number_for, Answers, Leaves}
+use Rattle.terms.specs.Words.NormalContract.{Zero, Sized, Fitted, number_for, Answers, Leaves}
 use Rattle.terms.proofs.Laws.General.Bools.{never_true, or_assoc}
 use Rattle.terms.proofs.Laws.Normalising.VirtualTokenLaws.{view_held}
 use Rattle.terms.proofs.Laws.Normalising.ArenaLaws.{held_tree}

@@ -1,17 +1,17 @@
 -- A walk keeps to a property of terms that children and rebuilt nodes inherit: its result has it, and it sees nothing of what is looked up but on terms
 -- that have it.
-use mathlib.Core.Path.{◌≡◌, refl, sym, ap, ap₂, ◌∙◌}
+use mathlib.Core.Path.{◌≡◌, refl, ap, ◌∙◌}
 use mathlib.Core.Bool.{Bool, true, false}
-use mathlib.Core.List.{List, [], ◌∷◌}
+use mathlib.Core.List.{List}
 use mathlib.Core.Option.{Option, none, some}
-use Prim.Native.Nat.{ℕ, zero, suc, ◌+◌, ◌≤◌, ◌<◌}
+use Prim.Native.Nat.{ℕ, zero, suc, ◌+◌, ◌<◌}
 use native.Mathlib.Decide.{ℕ_discrete, dec_lt}
 use native.Mathlib.Omega.{arith}
 use lib.ListN.{length, get_or, set, length-set}
 use lib.Seq.{get_or-set_same, get_or-set_other, set_out}
 use Rattle.terms.specs.Term.{Term}
 use Rattle.terms.specs.Tree.{error, children, with_kids, slot, same}
-use Rattle.terms.specs.Normal.{Out, Row, failed, visit_kids, follow, settle, rebuilt, walk_by}
+use Rattle.terms.specs.Normal.{Out, Row, visit_kids, follow, settle, rebuilt, walk_by}
 
 -- ---- what the property is to be
 

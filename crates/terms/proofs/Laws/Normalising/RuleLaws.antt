@@ -2,12 +2,12 @@
 use mathlib.Core.Path.{◌≡◌, refl, sym, ap, ap₂, ◌∙◌}
 use mathlib.Core.Bool.{Bool, true, false}
 use mathlib.Core.List.{List, [], ◌∷◌}
-use mathlib.Core.Option.{Option, none, some}
-use Prim.Native.Nat.{ℕ, zero, suc, max, ◌+◌, ◌-◌, ◌≤◌, ◌<◌}
+use mathlib.Core.Option.{none, some}
+use Prim.Native.Nat.{ℕ, zero, suc, ◌+◌, ◌-◌, ◌≤◌, ◌<◌}
 use native.Mathlib.Omega.{arith}
 use lib.ListN.{length, get_or}
 use Rattle.terms.specs.Words.Tokens.{Area}
-use Rattle.terms.specs.Term.{Term, Parts, var, node, end, num, sub, ◌+++◌, items, depth, depths}
+use Rattle.terms.specs.Term.{Term, Parts, node, end, num, sub, ◌+++◌, depth, depths}
 use Rattle.terms.specs.Words.Held.{Held, HeldParts, span}
 use Rattle.terms.specs.Tree.{nums, row, same_rows, put_terms}
 use Rattle.terms.specs.declared.Origin.{Origin}

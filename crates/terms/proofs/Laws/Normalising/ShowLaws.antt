@@ -14,7 +14,7 @@ use Rattle.terms.specs.Words.TokenBytes.{plain, spelt}
 use Rattle.terms.specs.Term.{Term, Parts, end, num, sub, depth, depths, bytes, part_bytes, Held}
 use Rattle.terms.specs.Words.Held.{span}
 use Rattle.terms.specs.Tree.{row}
-use Rattle.terms.specs.Words.Arena.{head_of, kids_of, Tree, variable, branch, Parted, child, From, Cut}
+use Rattle.terms.specs.Words.Arena.{head_of, kids_of, Tree, variable, branch, Parted, From, Cut}
 use Rattle.terms.specs.Words.ShowingContract.{Shows, Kept}
 use Rattle.terms.proofs.Laws.General.Bools.{never_false}
 use Rattle.terms.proofs.Laws.Held.HeldLaws.{items_some}

@@ -1,14 +1,14 @@
 -- Trees whose children are as in the source are terms that the tokens hold; where their tokens are lent, the lent areas hold them.
 use mathlib.Core.Path.{◌≡◌, refl, sym, ap, ◌∙◌}
 use mathlib.Core.Bool.{Bool}
-use mathlib.Core.List.{List, [], ◌∷◌, ◌++◌}
+use mathlib.Core.List.{List, ◌∷◌}
 use Prim.Native.Nat.{ℕ, zero, suc, ◌+◌, ◌≤◌, ◌<◌}
 use native.Mathlib.Decide.{dec_lt}
 use native.Mathlib.Numerals.{add-one}
 use native.Mathlib.Omega.{arith}
 use lib.ListN.{length, get_or, length-append, get_or-eq_default}
-use Rattle.terms.specs.Words.Tokens.{Area, Item, item, spell, toks}
-use Rattle.terms.specs.Term.{Term, Parts, var, node, end, num, sub, items, part_items}
+use Rattle.terms.specs.Words.Tokens.{Area, Item, item, spell}
+use Rattle.terms.specs.Term.{Term, Parts, node, num, sub, items, part_items}
 use Rattle.terms.specs.Words.Held.{Held, HeldParts, span}
 use Rattle.terms.specs.declared.Origin.{Origin}
 use Rattle.terms.specs.Words.VirtualTokens.{view, Sight}

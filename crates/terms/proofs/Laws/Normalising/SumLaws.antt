@@ -1,16 +1,16 @@
 -- Sums over the children of a node: the order of the visits comes to each place once, so a sum in that order is the sum in byte order.
 use mathlib.Core.Path.{◌≡◌, refl, sym, ap, ap₂, ◌∙◌}
 use mathlib.Core.Bool.{Bool}
-use mathlib.Core.List.{List, [], ◌∷◌, ◌++◌}
+use mathlib.Core.List.{List, [], ◌∷◌}
 use Prim.Native.Nat.{ℕ, zero, suc, min, ◌+◌, ◌-◌, ◌*◌, ◌^◌, ◌≤◌, ◌<◌}
 use native.Mathlib.Omega.{arith}
-use borrow.Author.Tests.{lt-ltb, le-ltb, eq-eqb, ne_eqb}
-use lib.Dec.{eqb, ltb}
+use borrow.Author.Tests.{lt-ltb, le-ltb}
+use lib.Dec.{ltb}
 use lib.ListN.{length, get_or, length-append}
 use Rattle.terms.specs.Result.{pick}
 use Rattle.terms.specs.Number.{shortest}
 use Rattle.terms.specs.Term.{Term, Parts, var, node, end, num, sub, items, bytes, part_bytes, Held}
-use Rattle.terms.specs.Tree.{error, nums, subs, fill, children, with_kids, row, tag, class, nominal_slot, projection_slot, slot_by, slot}
+use Rattle.terms.specs.Tree.{error, subs, fill, children, with_kids, row, nominal_slot, projection_slot, slot_by}
 use Rattle.terms.specs.Words.Tokens.{Area}
 use Rattle.terms.specs.Words.Held.{span}
 use Rattle.terms.specs.Words.TokenBytes.{plain, spelt}
@@ -19,7 +19,7 @@ use Rattle.terms.proofs.Laws.Format.WriteLaws.{plain_short, spelt_short, held_by
 use Rattle.terms.proofs.Laws.Held.SameLaws.{span_held}
 use Rattle.terms.proofs.Laws.Normalising.ScanLaws.{Scan, scan_start, scan_over, scan_number, scan_child}
 use Rattle.terms.proofs.Laws.Normalising.DepthLaws.{less}
-use Rattle.terms.proofs.Laws.Normalising.SlotLaws.{nominal_member, nominal_argument, projection_argument, projection_receiver, projection_member, projection_interface, slot_zero, slot_one, slot_two}
+use Rattle.terms.proofs.Laws.Normalising.SlotLaws.{nominal_member, nominal_argument, projection_argument, projection_receiver, projection_member, projection_interface}
 
 -- ---- each place comes once
 

@@ -1,17 +1,17 @@
 -- The tokens that normalising sees, word by word.
 use mathlib.Core.Path.{◌≡◌, refl, sym, ap, ◌∙◌}
-use mathlib.Core.List.{List, [], ◌∷◌, ◌++◌}
+use mathlib.Core.List.{List}
 use Prim.Native.Nat.{ℕ, zero, suc, ◌+◌, ◌-◌, ◌*◌, ◌/◌, ◌%◌, ◌≤◌, ◌<◌}
 use native.Mathlib.Decide.{dec_lt}
-use native.Mathlib.Nat.{le-div_iff_mul-le, mod-lt, mul-add-div_right, mul-add-mod_self_right, mod-eq_of_lt, div-eq_of_lt, add-zero, add-suc, suc-add}
+use native.Mathlib.Nat.{le-div_iff_mul-le}
 use native.Mathlib.Omega.{arith}
 use borrow.Author.Tests.{lt-ltb, le-ltb, le-leb, lt-leb, eq-eqb, ne_eqb}
 use lib.ListN.{length, get_or, get_or-eq_default}
 use Rattle.terms.specs.declared.Origin.{Origin}
 use Rattle.terms.specs.declared.Spot.{Spot}
 use Rattle.terms.specs.declared.Spot.TheVariants.{Lent, Error, Head, Nowhere}
-use Rattle.terms.specs.Words.Tokens.{Item, item, spell, toks}
-use Rattle.terms.specs.Term.{Term, Parts, node, end, items, part_items}
+use Rattle.terms.specs.Words.Tokens.{spell, toks}
+use Rattle.terms.specs.Term.{Term, Parts, items, part_items}
 use Rattle.terms.specs.Words.Held.{Held, HeldParts}
 use Rattle.terms.specs.Tree.{error}
 use Rattle.terms.specs.Words.TokenBytes.{spelt}

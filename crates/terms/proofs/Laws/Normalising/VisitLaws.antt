@@ -1,13 +1,12 @@
 -- The walk of the definition by cases; its count never falls.
-use mathlib.Core.Path.{◌≡◌, refl, sym, ap, ◌∙◌}
+use mathlib.Core.Path.{◌≡◌, refl}
 use mathlib.Core.Bool.{Bool, true, false}
-use mathlib.Core.List.{List, [], ◌∷◌}
 use mathlib.Core.Option.{Option, none, some}
 use Prim.Native.Nat.{ℕ, zero, suc, ◌+◌, ◌-◌, ◌≤◌, ◌<◌}
 use native.Mathlib.Omega.{arith}
 use native.Mathlib.Numerals.{add-one}
 use lib.ListN.{length, get_or, set}
-use Rattle.terms.specs.Term.{Term, Parts}
+use Rattle.terms.specs.Term.{Term}
 use Rattle.terms.specs.Tree.{error, children, with_kids, same, slot}
 use Rattle.terms.specs.Normal.{Out, Row, failed, visit_kids, follow, settle, rebuilt, walk_by}
 

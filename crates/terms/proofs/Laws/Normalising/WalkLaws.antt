@@ -1,10 +1,10 @@
 -- A visit in the arena: the children one after the other, and then the node as it is, replaced, or Error.
 use mathlib.Core.Path.{◌≡◌, refl, sym, ap, ◌∙◌}
 use mathlib.Core.Bool.{Bool, true, false}
-use mathlib.Core.List.{List, [], ◌∷◌}
-use mathlib.Core.Logic.{⊎_elim, ◌⊎◌, inl, inr}
+use mathlib.Core.List.{List}
+use mathlib.Core.Logic.{⊎_elim}
 use mathlib.Core.Option.{Option, none, some}
-use Prim.Native.Nat.{ℕ, zero, suc, ◌+◌, ◌-◌, ◌*◌, ◌≤◌, ◌<◌}
+use Prim.Native.Nat.{ℕ, suc, ◌+◌, ◌-◌, ◌*◌, ◌≤◌, ◌<◌}
 use native.Mathlib.Omega.{arith}
 use native.Mathlib.Decide.{ℕ_discrete}
 use lib.ListN.{length, get_or, set, length-set}
@@ -13,21 +13,21 @@ use Rattle.terms.specs.declared.Origin.{Origin}
 use Rattle.terms.specs.declared.Content.{Content}
 use Rattle.terms.specs.declared.Walked.{Walked}
 use Rattle.terms.specs.Words.Tokens.{Area}
-use Rattle.terms.specs.Term.{Term, Parts, depth, bytes}
+use Rattle.terms.specs.Term.{Term, depth, bytes}
 use Rattle.terms.specs.Tree.{error, nums, row, tag, children, with_kids, class, slot_by, slot, same}
 use Rattle.terms.specs.Words.VirtualTokens.{view, Sight}
 use Rattle.terms.specs.Normal.{Out, Row, failed, visit_kids, follow, settle, rebuilt, replacement, walk_by}
 use Rattle.terms.specs.Lookup.{Look, look_by, Looks}
-use Rattle.terms.specs.Words.Arena.{Tree, OwnAt, Below, grow, Frames, Opened, Opens, Ordered}
+use Rattle.terms.specs.Words.Arena.{Tree, OwnAt, Below, grow, Frames, Opened, Ordered}
 use Rattle.terms.specs.Words.WalkingContract.{Visited, Walks}
-use Rattle.terms.proofs.Laws.General.Bools.{never_true, never_false}
+use Rattle.terms.proofs.Laws.General.Bools.{never_true}
 use Rattle.terms.proofs.Laws.Held.SameLaws.{same_refl, not_same}
 use Rattle.terms.proofs.Laws.Normalising.VirtualTokenLaws.{view_error}
 use Rattle.terms.proofs.Laws.Normalising.ArenaLaws.{Keeps, wider, tree_kept, held_tree, tree_anew, grow_old, grow_new, grow_case, grow_below}
 use Rattle.terms.proofs.Laws.Normalising.OpenLaws.{frames_same, frames_set, frames_then}
 use Rattle.terms.proofs.Laws.Normalising.DepthLaws.{node_depth, walk_depth}
 use Rattle.terms.proofs.Laws.Normalising.SumLaws.{slot_once, total, total_none, total_same, total_last, slots_total, length_at, with_bytes, error_bytes}
-use Rattle.terms.proofs.Laws.Normalising.VisitLaws.{walk-levels, walk_visits, first, walk_some, visit_count, walk_count, visit_step, visit_none, over_start, over_visit}
+use Rattle.terms.proofs.Laws.Normalising.VisitLaws.{first, walk_some, visit_count, walk_count, visit_step, visit_none, over_visit}
 
 -- ---- the children of a node, visited by f
 

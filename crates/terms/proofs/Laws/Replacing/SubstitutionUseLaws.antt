@@ -21,7 +21,7 @@ use Rattle.terms.specs.Shape.{layout}
 use Rattle.terms.specs.Formed.{Formed, Fit, TakesNumber, after_number, TakesTerm}
 use Rattle.terms.specs.Tree.{tag, row, nums, unknown}
 use Rattle.terms.specs.Questions.{Parameter, contains, first, second}
-use Rattle.terms.specs.Substitution.{or_else, substitute_once, Entry, Receiver, TypeSubstitution, get, receiver, extend, instantiated, instantiate, contextual, argument_context, with_self, zipped}
+use Rattle.terms.specs.Substitution.{or_else, substitute_once, Entry, Receiver, TypeSubstitution, get, receiver, extend, instantiated, instantiate, contextual, argument_context, zipped}
 use Rattle.terms.specs.Parameters.{is_found, last_from, last_index, parameters}
 use Rattle.terms.specs.Rows.{entry_row, receiver_row}
 use Rattle.terms.specs.Words.FindContract.{Finds, entry_at, receiver_at, argument_for}

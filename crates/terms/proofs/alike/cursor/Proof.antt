@@ -1,6 +1,5 @@
 -- `cursor`.
 use Rattle.terms.proofs.Laws.Normalising.AlikeLaws.{starts}
-use borrow.Author.Rules.{rules}
 use Rattle.terms.proofs.alike.cursor.Statement.{statement}
 use Rattle.terms.proofs.alike.cursor.Tie as tie
 

@@ -1,9 +1,9 @@
 -- `rows_conflict`. The loop's invariant: what is left of the rows conflicts as the whole rows do.
 use native.Mathlib.Omega.{arith}
 use mathlib.Core.Bool.{Bool}
-use mathlib.Core.Path.{◌≡◌, sym, ◌∙◌}
+use mathlib.Core.Path.{sym}
 use Prim.Native.Nat.{◌≤◌, ◌-◌}
-use Rattle.terms.specs.Words.CompareContract.{Rows, Forward, Stepped}
+use Rattle.terms.specs.Words.CompareContract.{Rows}
 use Rattle.terms.proofs.Laws.Asking.ConflictLaws.{rows_short, rows_last}
 use borrow.Author.Rules.{rules}
 use Rattle.terms.proofs.compare.rows_conflict.Statement.{statement}

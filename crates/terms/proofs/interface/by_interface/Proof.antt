@@ -1,10 +1,9 @@
 -- `by_interface`. By its tests.
-use mathlib.Core.Path.{◌≡◌, refl, sym, ap, ◌∙◌}
-use Prim.Native.Nat.{ℕ, ◌+◌, ◌*◌, ◌<◌}
+use mathlib.Core.Path.{refl, ap, ◌∙◌}
 use native.Mathlib.Omega.{arith}
 use borrow.Author.Tests.{not-true, not-false}
-use lib.ListN.{length, get_or}
-use Rattle.terms.specs.Term.{Term, Parts}
+use lib.ListN.{get_or}
+use Rattle.terms.specs.Term.{Parts}
 use Rattle.terms.specs.Tree.{nums}
 use Rattle.terms.specs.Lookup.{output}
 use Rattle.terms.proofs.Laws.Normalising.MemberLaws.{own_args, own_plain, member_here}

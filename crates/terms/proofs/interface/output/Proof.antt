@@ -1,9 +1,9 @@
 -- `output`. The member is known, or not.
-use mathlib.Core.Path.{◌≡◌, refl, sym, ap, ◌∙◌}
-use Prim.Native.Nat.{ℕ, ◌+◌, ◌*◌, ◌<◌}
+use mathlib.Core.Path.{sym, ap, ◌∙◌}
+use Prim.Native.Nat.{ℕ, ◌+◌, ◌*◌}
 use native.Mathlib.Omega.{arith}
-use lib.ListN.{length, get_or}
-use Rattle.terms.specs.Term.{Term, Parts}
+use lib.ListN.{length}
+use Rattle.terms.specs.Term.{Parts}
 use Rattle.terms.specs.Normal.{member_from}
 use Rattle.terms.proofs.Laws.Normalising.InterfaceLaws.{row_node, interface_tree, made_tree, made_fits, output_known, output_made}
 use Rattle.terms.proofs.Laws.Normalising.OpenLaws.{counted}

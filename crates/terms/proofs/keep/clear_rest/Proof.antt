@@ -1,8 +1,7 @@
 -- `clear_rest`: by the answer's two cases, and whether the limit was passed.
-use mathlib.Core.Path.{◌≡◌, refl, sym}
+use mathlib.Core.Path.{refl, sym}
 use native.Mathlib.Omega.{arith}
 use Rattle.terms.specs.declared.Step.TheVariants.{Next, Stopped}
-use Rattle.terms.specs.Words.Tokens.{area}
 use Rattle.terms.specs.Words.ReadContract.{Clearable}
 use borrow.Author.Tests.{le-leb, lt-leb}
 use borrow.Author.Rules.{rules}

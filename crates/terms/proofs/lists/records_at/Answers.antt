@@ -1,5 +1,5 @@
 -- The laws of `Along`, at the reader's record; the bytes stay those of the slice.
-use Rattle.std.proofs.Common.{◌≡◌, ◌<◌, ◌∙◌, ap, arith, refl, List, ℕ, Bor}
+use Rattle.std.proofs.Common.{◌∙◌, ap, arith, refl, List, ℕ, Bor}
 use Rattle.terms.specs.Words.Tokens.{area}
 use Rattle.terms.specs.Words.ListsContract.{RecordDone}
 use Rattle.terms.proofs.Laws.Format.ListReaderLaws.{along_start, along_reads, along_next, along_fewer, along_end}

@@ -1,10 +1,6 @@
 -- `member_of`. By the place of the key.
-use mathlib.Core.Path.{◌≡◌, ap, ◌∙◌}
-use mathlib.Core.List.{List}
 use native.Mathlib.Omega.{arith}
-use Rattle.terms.specs.Term.{Term}
 use Rattle.terms.specs.Tree.{row}
-use lib.ListN.{get_elem?}
 use Rattle.terms.proofs.Laws.Normalising.ScanLaws.{children_row}
 use Rattle.terms.proofs.Laws.Normalising.MemberLaws.{member_found, member_late, member_none}
 use borrow.Author.Rules.{rules}

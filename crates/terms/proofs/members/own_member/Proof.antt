@@ -1,7 +1,5 @@
 -- `own_member`. By its tests.
-use mathlib.Core.Path.{◌≡◌, ap, ◌∙◌}
 use native.Mathlib.Omega.{arith}
-use Rattle.terms.specs.Tree.{row}
 use Rattle.terms.proofs.Laws.Normalising.MemberLaws.{own_args, own_stop, own_plain, own_found, own_empty, own_other, own_trait}
 use Rattle.terms.proofs.Laws.Normalising.OpenLaws.{counted}
 use borrow.Author.Rules.{rules}

@@ -1,7 +1,6 @@
 -- `given`.
-use mathlib.Core.Path.{◌≡◌, refl, sym, ap, ◌∙◌}
+use mathlib.Core.Path.{refl}
 use native.Mathlib.Omega.{arith}
-use lib.ListN.{length}
 use Rattle.terms.proofs.Laws.Normalising.NormalLaws.{given_sight, given_held, given_never}
 use borrow.Author.Rules.{rules}
 use Rattle.terms.proofs.normal.given.Statement.{statement}

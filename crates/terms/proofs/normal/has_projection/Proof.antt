@@ -1,5 +1,5 @@
 -- `has_projection`. Invariant: what is left decides.
-use Prim.Native.Nat.{◌-◌, ◌+◌, ◌<◌}
+use Prim.Native.Nat.{◌-◌}
 use native.Mathlib.Omega.{arith}
 use Rattle.terms.proofs.Laws.Normalising.NormalLaws.{Scanning, scanning_start, scanning_none, scanning_found, scanning_next}
 use borrow.Author.Rules.{rules}

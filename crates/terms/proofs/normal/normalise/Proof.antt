@@ -1,7 +1,6 @@
 -- `normalise`.
-use mathlib.Core.Path.{◌≡◌, refl, sym, ap, ◌∙◌}
+use mathlib.Core.Path.{refl}
 use native.Mathlib.Omega.{arith}
-use lib.ListN.{length}
 use Rattle.terms.specs.Lookup.{rules as listed}
 use Rattle.terms.proofs.Laws.Normalising.NormalLaws.{given_sight}
 use borrow.Author.Rules.{rules}

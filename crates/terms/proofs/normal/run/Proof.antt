@@ -1,9 +1,8 @@
 -- `run`. Not walked, refused, or walked.
-use Prim.Native.Nat.{ℕ}
-use mathlib.Core.Path.{◌≡◌, refl, sym, ap, ◌∙◌}
+use mathlib.Core.Path.{refl, sym, ap, ◌∙◌}
 use native.Mathlib.Omega.{arith}
 use borrow.Author.Tests.{not-true, not-false}
-use Rattle.terms.specs.Normal.{Out, normalise}
+use Rattle.terms.specs.Normal.{Out}
 use Rattle.terms.specs.Lookup.{look_by}
 use Rattle.terms.proofs.Laws.Normalising.NormalLaws.{normalise_plain, normalise_walked, plain_leaves, plain_answers, walked_leaves, walked_answers, over_leaves, over_answers, blank_lengths}
 use borrow.Author.Rules.{rules}

@@ -1,7 +1,5 @@
 -- `span_at`.
-use mathlib.Core.Path.{◌≡◌, refl, sym, ap, ◌∙◌}
 use native.Mathlib.Omega.{arith}
-use lib.ListN.{length}
 use Rattle.terms.proofs.Laws.Normalising.NormalLaws.{span_told}
 use borrow.Author.Rules.{rules}
 use Rattle.terms.proofs.normal.span_at.Statement.{statement}

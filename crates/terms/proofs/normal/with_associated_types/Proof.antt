@@ -1,7 +1,5 @@
 -- `with_associated_types`.
-use mathlib.Core.Path.{◌≡◌, refl, sym, ap, ◌∙◌}
 use native.Mathlib.Omega.{arith}
-use lib.ListN.{length}
 use Rattle.terms.specs.Lookup.{interface}
 use borrow.Author.Rules.{rules}
 use Rattle.terms.proofs.normal.with_associated_types.Statement.{statement}

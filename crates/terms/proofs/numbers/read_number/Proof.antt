@@ -3,7 +3,7 @@ use borrow.Author.Rules.{rules}
 use native.Mathlib.Omega.{arith}
 use mathlib.Core.Path.{◌≡◌, sym, ◌∙◌}
 use mathlib.Core.List.{◌∷◌}
-use Prim.Native.Nat.{◌+◌, ◌<◌}
+use Prim.Native.Nat.{◌+◌}
 use lib.ListN.{drop}
 use Rattle.terms.specs.Number.{groups, number}
 use Rattle.terms.proofs.Laws.Numbers.NumberStepLaws.{step_over, one_group, at_byte, at-end}

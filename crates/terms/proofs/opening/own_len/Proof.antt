@@ -1,10 +1,9 @@
 -- `own_len`. Invariant: the bytes counted and those of the numbers that are left are the term's own.
-use Prim.Native.Nat.{ℕ, ◌-◌, ◌+◌, ◌≤◌, ◌<◌}
+use Prim.Native.Nat.{ℕ, ◌-◌}
 use native.Mathlib.Omega.{arith}
-use mathlib.Core.Path.{◌≡◌, refl, ap, ◌∙◌}
-use lib.ListN.{length, get_or}
+use mathlib.Core.Path.{ap, ◌∙◌}
+use lib.ListN.{get_or}
 use Rattle.terms.specs.Words.VirtualTokens.{view}
-use Rattle.terms.specs.Words.TokenBytes.{plain}
 use Rattle.terms.proofs.Laws.Normalising.SumLaws.{token_few, Owning, owning_start, owning_number, owning_child, owning_done}
 use borrow.Author.Rules.{rules}
 use Rattle.terms.proofs.opening.own_len.Statement.{statement}

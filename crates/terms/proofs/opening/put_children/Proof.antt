@@ -1,5 +1,5 @@
 -- `put_children`. Invariant: n children stand in records.
-use Prim.Native.Nat.{◌-◌, ◌+◌, ◌≤◌, ◌<◌}
+use Prim.Native.Nat.{◌-◌, ◌+◌, ◌≤◌}
 use native.Mathlib.Omega.{arith}
 use Rattle.terms.specs.Words.VirtualTokens.{view}
 use Rattle.terms.proofs.Laws.Normalising.OpenLaws.{Opening, opening_start, opening_number, opening_child, opening_stop, opening_done}

@@ -1,8 +1,6 @@
 -- `counts`: question by question.
-use mathlib.Core.Path.{◌≡◌, refl, sym, ap, ◌∙◌}
-use mathlib.Core.Bool.{not}
+use mathlib.Core.Path.{refl, sym, ◌∙◌}
 use borrow.Author.Tests.{eq-eqb, ne_eqb}
-use native.Mathlib.Omega.{arith}
 use Rattle.terms.specs.Questions.{counted_by}
 use Rattle.terms.proofs.Laws.Format.KindLaws.{past}
 use Prim.Native.Nat.{zero-le}

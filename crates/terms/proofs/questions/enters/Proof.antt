@@ -1,7 +1,6 @@
 -- `enters`: the questions 0 and 1, 4, and the others.
 use native.Mathlib.Omega.{arith}
 use Rattle.terms.proofs.Laws.Asking.QuestionLaws.{entered_few, entered_four, entered_most}
-use borrow.Author.Rules.{rules}
 use Rattle.terms.proofs.questions.enters.Statement.{statement}
 use Rattle.terms.proofs.questions.enters.Tie as tie
 

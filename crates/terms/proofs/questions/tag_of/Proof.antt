@@ -1,6 +1,5 @@
 -- `tag_of`: by the kind.
 use Rattle.terms.proofs.Laws.Asking.QuestionLaws.{tag_few, tag_node}
-use borrow.Author.Rules.{rules}
 use Rattle.terms.proofs.questions.tag_of.Statement.{statement}
 use Rattle.terms.proofs.questions.tag_of.Tie as tie
 

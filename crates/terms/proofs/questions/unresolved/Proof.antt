@@ -1,5 +1,5 @@
 -- `unresolved`: by the tag.
-use mathlib.Core.Path.{◌≡◌, refl, sym, ap, ◌∙◌}
+use mathlib.Core.Path.{sym, ap, ◌∙◌}
 use mathlib.Core.Bool.{not}
 use Rattle.terms.proofs.Laws.Asking.QuestionLaws.{failing, own_self, projected, binder, known, no_parameters, found_there, found_nowhere}
 use borrow.Author.Rules.{rules}

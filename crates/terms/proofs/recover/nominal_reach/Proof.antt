@@ -2,7 +2,6 @@
 use native.Mathlib.Omega.{arith}
 use mathlib.Core.Path.{◌≡◌, sym, ap, subst, ◌∙◌}
 use Prim.Native.Nat.{ℕ, ◌+◌}
-use lib.ListN.{get_or}
 use Rattle.terms.specs.Words.Held.{HeldParts}
 use Rattle.terms.specs.Shape as shape
 use Rattle.terms.specs.Shape.{many_terms}

@@ -1,11 +1,7 @@
 -- `child_at`. Invariant: n children have been passed.
-use Prim.Native.Nat.{◌-◌, ◌+◌, ◌≤◌, ◌<◌}
+use Prim.Native.Nat.{◌-◌, ◌≤◌}
 use native.Mathlib.Omega.{arith}
-use mathlib.Core.Path.{◌≡◌, refl}
 use Rattle.terms.specs.Words.VirtualTokens.{view}
-use Rattle.terms.proofs.Laws.Normalising.VirtualTokenLaws.{few_kinds, few_vals}
-use mathlib.Core.Path.{ap, sym, ◌∙◌}
-use lib.ListN.{get_elem?}
 use Rattle.terms.proofs.Laws.Normalising.ScanLaws.{Scan, scan_start, Counted, counted_start, child_over, child_number, child_next, child_found}
 use borrow.Author.Rules.{rules}
 use Rattle.terms.proofs.rows.child_at.Statement.{statement}

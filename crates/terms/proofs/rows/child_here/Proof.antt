@@ -1,5 +1,4 @@
 -- `child_here`. By the child word.
-use mathlib.Core.Path.{◌≡◌}
 use native.Mathlib.Omega.{arith}
 use Rattle.terms.proofs.Laws.Normalising.ScanLaws.{head_record, kids_record}
 use borrow.Author.Rules.{rules}

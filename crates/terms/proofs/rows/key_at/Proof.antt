@@ -1,9 +1,7 @@
 -- `key_at`. Invariant: none of the k numbers that were passed is the key.
-use Prim.Native.Nat.{◌-◌, ◌+◌, ◌≤◌, ◌<◌}
+use Prim.Native.Nat.{◌-◌, ◌≤◌}
 use native.Mathlib.Omega.{arith}
-use mathlib.Core.Path.{◌≡◌, refl}
 use Rattle.terms.specs.Words.VirtualTokens.{view}
-use Rattle.terms.proofs.Laws.Normalising.VirtualTokenLaws.{few_kinds, few_vals}
 use Rattle.terms.proofs.rows.key_at.Lts.{then-y-x+else-k-ge3, else-y-x}
 use Rattle.terms.proofs.Laws.Normalising.ScanLaws.{Scan, scan_start, Passed, passed_start, key_over, key_here, key_next, key_pass}
 use borrow.Author.Rules.{rules}

@@ -1,7 +1,7 @@
 -- `number_place`. Invariant: the wanted number is the left-th of what is left.
-use Prim.Native.Nat.{◌-◌, ◌+◌, ◌≤◌, ◌<◌}
+use Prim.Native.Nat.{◌-◌}
 use native.Mathlib.Omega.{arith}
-use mathlib.Core.Path.{◌≡◌, refl}
+use mathlib.Core.Path.{refl}
 use Rattle.terms.specs.Words.VirtualTokens.{view}
 use Rattle.terms.proofs.Laws.Normalising.VirtualTokenLaws.{few_kinds, few_vals}
 use Rattle.terms.proofs.Laws.Normalising.ScanLaws.{Scan, scan_start, Wanted, number_over, number_here, number_next, number_pass}

@@ -1,5 +1,5 @@
 -- What is left of the list at the index begins with the rule that was looked at.
-use Rattle.std.proofs.Common.{◌≡◌, ◌+◌, ◌<◌, ◌≤◌, ℕ, Bool, true, false, List, [], ◌∷◌, length, drop, get_or, arith, refl, sym, ◌∙◌, ap}
+use Rattle.std.proofs.Common.{◌≡◌, ◌+◌, ◌<◌, ℕ, true, false, List, [], ◌∷◌, length, drop, get_or, arith, refl}
 use Rattle.std.proofs.lemmas.List.{drop_more}
 use Rattle.terms.specs.declared.Rule.{Rule}
 use Rattle.terms.specs.Words.RuleListContract.{has_member, first_with}

@@ -2,8 +2,7 @@
 use native.Mathlib.Omega.{arith}
 use Rattle.terms.specs.Words.VirtualTokens.{view}
 use Rattle.terms.proofs.Laws.General.Bools.{not-true, not-false}
-use Rattle.terms.proofs.Laws.Normalising.RuleLaws.{NumbersAre, numbers_apart, numbers_met}
-use borrow.Author.Rules.{rules}
+use Rattle.terms.proofs.Laws.Normalising.RuleLaws.{numbers_apart, numbers_met}
 use Rattle.terms.proofs.rules.two_numbers.Statement.{statement}
 use Rattle.terms.proofs.rules.two_numbers.Tie as tie
 

@@ -1,6 +1,5 @@
 -- `is_one`: a test on three numbers.
 use Rattle.terms.proofs.Laws.Asking.ConflictLaws.{among_first, among_second, among_last}
-use borrow.Author.Rules.{rules}
 use Rattle.terms.proofs.runs.is_one.Statement.{statement}
 use Rattle.terms.proofs.runs.is_one.Tie as tie
 

@@ -1,6 +1,5 @@
 -- `number_at`: by the cases of `rising`.
 use mathlib.Core.Path.{◌≡◌, sym}
-use native.Mathlib.Omega.{arith}
 use Rattle.terms.specs.Parser.{got, number}
 use Rattle.terms.proofs.Laws.Numbers.NumberBoundLaws.{number_bounds}
 use Rattle.terms.proofs.Laws.Format.FieldLaws.{rising_refused, rising_low, rising_got}

@@ -1,8 +1,5 @@
 -- `token_at`. By the spot.
-use mathlib.Core.Path.{◌≡◌, refl, sym, ap, ◌∙◌}
-use Prim.Native.Nat.{ℕ, ◌-◌, ◌+◌, ◌/◌, ◌%◌}
-use native.Mathlib.Nat.{mod-lt}
-use native.Mathlib.Omega.{arith}
+use mathlib.Core.Path.{refl, sym, ◌∙◌}
 use lib.ListN.{length}
 use Rattle.terms.specs.declared.Spot.TheVariants.{Lent, Error, Head, Nowhere}
 use Rattle.terms.specs.Words.VirtualTokens.{Located}

@@ -1,8 +1,6 @@
 -- `fixed_len`.
-use Prim.Native.Nat.{◌-◌, ◌+◌, ◌≤◌, ◌<◌}
 use native.Mathlib.Omega.{arith}
-use mathlib.Core.Path.{◌≡◌, refl, sym, ap, ◌∙◌}
-use lib.ListN.{length}
+use mathlib.Core.Path.{◌∙◌}
 use Rattle.terms.proofs.Laws.Normalising.SumLaws.{lent_room, lent_few, lent_bytes}
 use borrow.Author.Rules.{rules}
 use Rattle.terms.proofs.walking.fixed_len.Statement.{statement}

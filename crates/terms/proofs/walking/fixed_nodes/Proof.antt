@@ -1,6 +1,6 @@
 -- `fixed_nodes`. Invariant: the nodes before q are counted, none of them a projection.
-use mathlib.Core.Path.{◌≡◌, refl, sym, ◌∙◌}
-use Prim.Native.Nat.{◌-◌, ◌+◌, ◌≤◌, ◌<◌}
+use mathlib.Core.Path.{refl}
+use Prim.Native.Nat.{◌-◌}
 use native.Mathlib.Omega.{arith}
 use borrow.Author.Rules.{rules}
 use Rattle.terms.proofs.Laws.Normalising.FixedLaws.{Counting, counting_start, counting_done, counting_next, first_few, lent_span}

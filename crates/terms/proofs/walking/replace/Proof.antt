@@ -1,5 +1,5 @@
 -- `replace`. The own member, then what is looked up.
-use mathlib.Core.Path.{◌≡◌, sym}
+use mathlib.Core.Path.{sym}
 use mathlib.Core.Option.{Option}
 use native.Mathlib.Omega.{arith}
 use Rattle.terms.specs.Term.{Term}

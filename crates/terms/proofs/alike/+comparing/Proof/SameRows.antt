@@ -1,6 +1,5 @@
 -- `same_rows`. Invariant: the whole begins with the other where what is left does.
-use Prim.Native.Nat.{◌-◌, ◌+◌, ◌≤◌, ◌<◌}
-use mathlib.Core.Path.{◌≡◌, refl}
+use Prim.Native.Nat.{◌-◌}
 use borrow.Author.Tests.{not-true, not-false}
 use Rattle.terms.specs.Words.VirtualTokens.{view}
 use Rattle.terms.proofs.Laws.Normalising.AlikeLaws.{Meeting, meeting_start, meeting_done, meeting_short, meeting_child, meeting_apart, meeting_number, meeting_other, meeting_differ, meeting_same}
@@ -8,7 +7,6 @@ use borrow.Author.Rules.{rules}
 use native.Mathlib.Omega.{arith}
 use Prim.Native.Nat.{ℕ}
 use Rattle.terms.proofs.alike.+comparing.Lts-same_rows as lts
-use Rattle.terms.proofs.alike.same_rows.Kinds as kinds
 use Rattle.terms.proofs.alike.same_rows.Reads as same_rows
 use Rattle.terms.proofs.alike.same_trees.Reads as same-trees
 use Rattle.terms.proofs.rows.child_here.Reads as child-here-reads

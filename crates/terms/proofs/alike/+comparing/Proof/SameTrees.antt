@@ -1,13 +1,10 @@
 -- `same_trees`. By the first tokens, and then all tokens, or the rows.
-use Prim.Native.Nat.{◌-◌, ◌+◌, ◌≤◌, ◌<◌}
-use mathlib.Core.Path.{◌≡◌, refl}
 use Rattle.terms.proofs.Laws.Normalising.AlikeLaws.{alike_none, alike_kinds, alike_vars, lent_true, alike_lent, alike_rows, alike_ends}
 use Rattle.terms.proofs.Laws.Normalising.SourceLaws.{lent_first}
 use borrow.Author.Rules.{rules}
 use native.Mathlib.Omega.{arith}
 use Prim.Native.Nat.{ℕ}
 use Rattle.terms.proofs.alike.+comparing.Lts-same_trees as lts
-use Rattle.terms.proofs.alike.same_trees.Kinds as kinds
 use Rattle.terms.proofs.alike.same_rows.Reads as same_rows
 use Rattle.terms.proofs.alike.same_trees.Reads as same-trees
 use Rattle.terms.proofs.alike.cursor.Reads as cursor-reads

@@ -16,7 +16,6 @@ use borrow.Author.Rules.{rules}
 use native.Mathlib.Omega.{arith}
 use Prim.Native.Nat.{ℕ}
 use Rattle.terms.proofs.recover.+recovering.Lts-recover_term as lts
-use Rattle.terms.proofs.recover.recover_term.Kinds as kinds
 use Rattle.terms.proofs.recover.recover_row.Reads as recover_row
 use Rattle.terms.proofs.recover.recover_term.Reads as recover-term
 use Rattle.terms.proofs.questions.tag_of.Reads as tag-of-reads

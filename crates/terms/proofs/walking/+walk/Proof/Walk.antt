@@ -1,7 +1,6 @@
 -- `walk`. Invariant: j children have been visited, and the arena is filled up to `at`.
-use Prim.Native.Nat.{◌-◌, ◌+◌, ◌≤◌, ◌<◌}
-use mathlib.Core.Path.{◌≡◌, refl, sym, ap, ◌∙◌}
-use lib.ListN.{length, length-set}
+use Prim.Native.Nat.{◌-◌}
+use mathlib.Core.Path.{refl, sym, ◌∙◌}
 use Rattle.terms.proofs.Laws.Normalising.OpenLaws.{frames_same, frames_wider, frames_then}
 use Rattle.terms.proofs.Laws.Normalising.VisitLaws.{walk-levels, walk_visits, over_start}
 use Rattle.terms.proofs.Laws.Normalising.FixedLaws.{fixed_kept}
@@ -12,7 +11,6 @@ use borrow.Author.Rules.{rules}
 use native.Mathlib.Omega.{arith}
 use Prim.Native.Nat.{ℕ}
 use Rattle.terms.proofs.walking.+walk.Lts-walk as lts
-use Rattle.terms.proofs.walking.walk.Kinds as kinds
 use Rattle.terms.proofs.walking.walk.Reads as walk
 use Rattle.terms.proofs.alike.same_trees.Reads as same-trees-reads
 use Rattle.terms.proofs.opening.begin.Reads as begin-reads
