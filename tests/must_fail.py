@@ -62,7 +62,7 @@ FAILS = (
     re.compile(r"`search`: no proof of .* was found. Every way was tried", re.S),
     re.compile(r"^no answer, and `search` does not prove it"),
 )
-NEEDS = re.compile(r"_spec: |has no field `|has no `Need-")     # a proof's needs are others
+NEEDS = re.compile(r"_spec: |has no field `|has no `Need-|Goals` has no `")     # a proof's needs are others
 ERROR = re.compile(r"^(\./\S.*?\.antt):\d+:\d+: error: (?:`([^`]+)`: )?(.*)$")
 UNPROVED = re.compile(r"^fn \S+: no proof: expected answers in (\S+\.antt); `search` did not prove ([^;]*)")
 

@@ -113,7 +113,7 @@ def answers_of(program, sheet):
     try:
         done = subprocess.run([path], input=sheet[:ROOM], stdout=subprocess.PIPE, check=False)
     except OSError as fault:
-        raise Failed("%s: %s. Build it with: cd crates/checker && rt run. Or give another with --program."
+        raise Failed("%s: %s. Build it with: cd crates/checker && rt run <stdin. Or give another with --program."
                      % (shown(program), fault.strerror))
     if done.returncode:
         raise Failed("%s ended with status %d" % (shown(program), done.returncode))
