@@ -1,8 +1,6 @@
 -- Numbers: base 128, low group first, the top bit of a byte set where more follow, shortest form only.
 use Rattle.std.specs.Prelude.{ℕ, zero, suc, ◌+◌, ◌-◌, ◌*◌, ◌/◌, ◌%◌, ◌&&◌, List, [], ◌∷◌, drop, ltb, leb, eqb}
 use Rattle.terms.specs.Result.{Result, got, refused, pick}
-use Rattle.terms.specs.declared.NumberRead.{NumberRead}
-use Rattle.terms.specs.declared.NumberRead.TheVariants.{Value, Refused}
 
 -- The bytes from position `at` on, where the groups before have the value v and a group counts w here.
 -- A byte b leaves v + b * w as the least number that can still come: a last group b < 128 is that number, and after
@@ -17,11 +15,6 @@ groups most v w at (b ∷ bs) =
 -- the number at a position of s, at most `most`
 abbrev pub number : ℕ → List ℕ → ℕ → Result ℕ
 number most s at = groups most 0 1 at (drop at s)
-
--- what an answer says
-abbrev pub result_of : NumberRead → Result ℕ
-result_of (Value v n) = got v n
-result_of (Refused c) = refused c
 
 -- the groups of v, low first, each but the last with its top bit set: enough fuel is v itself
 unfoldable pub digits : ℕ → ℕ → List ℕ

@@ -3,6 +3,7 @@
 use Rattle.std.specs.Prelude.{◌≡◌, ◌⊎◌, Bool, true, false, not, ◌&&◌, ◌||◌, List, [], ◌∷◌, ℕ, zero, suc, eqb, ltb, get_or}
 use Rattle.terms.specs.Term.{Term, Parts, var, node, end, num, sub}
 use Rattle.terms.specs.Tree.{nums, row, tag}
+pub use Rattle.terms.specs.declared.Parameter.{Parameter}
 
 -- ---- the walk
 
@@ -36,11 +37,7 @@ OneCounts counts enters t = (u : Term) × AmongEntered enters u t × (counts u �
 
 -- ---- which terms count
 
--- `GenericParameterType` without its name: equality goes by owner and position
-pub record Parameter : Type 0 where
-  pub owner : ℕ
-  pub position : ℕ
-
+-- `GenericParameterType` without its name (`Parameter`, an owner and a position): equality goes by both
 unfoldable pub same_parameter : Parameter → Parameter → Bool
 same_parameter p q = eqb p.owner q.owner && eqb p.position q.position
 

@@ -3,10 +3,9 @@
 use Rattle.std.specs.Prelude.{Bool, false, List, [], ◌∷◌, ℕ, zero, suc, ◌+◌, ◌-◌, leb, length}
 use Rattle.terms.specs.declared.Fields.{Fields}
 use Rattle.terms.specs.declared.Place.{Place}
-use Rattle.terms.specs.declared.Step.{Step}
-use Rattle.terms.specs.declared.Step.TheVariants.{Next, Stopped}
 use Rattle.terms.specs.Parser.{Parser, Result, got, refused, pick, ◌>>=◌, return, number}
 use Rattle.terms.specs.Words.Tokens.{Area, puts, blank}
+use Rattle.terms.specs.Words.ReadContract.{Step, Next, Stopped}
 use Rattle.terms.specs.Term.{Term, Parts, end, num, sub, part_items, sizes}
 use Rattle.terms.specs.Reading.{◌then◌}
 use Rattle.terms.specs.Words.RowPieces.{fields}

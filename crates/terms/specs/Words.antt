@@ -17,7 +17,7 @@
 --   RulesContract      what the search of a rule answers
 --   SatisfyContract    what the functions that test a bound hand on
 --   ShowingContract    bytes sized, or written
---   StepCodes          the answers of the functions that are lent the numbers of a place
+--   Outcomes          the answers of the functions that are lent the numbers of a place
 --   TermsAtPlaces      what stands at the places that a function is told
 --   TokenBytes         the bytes of tokens as they stand
 --   Tokens             the token areas
@@ -39,7 +39,7 @@ pub mod RuleListContract
 pub mod RulesContract
 pub mod SatisfyContract
 pub mod ShowingContract
-pub mod StepCodes
+pub mod Outcomes
 pub mod TermsAtPlaces
 pub mod TokenBytes
 pub mod Tokens

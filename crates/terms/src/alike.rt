@@ -7,7 +7,7 @@ ghost use Rattle.terms.specs.Words.Arena.{Cut, further, Alike, Begins, Starts};
 use super::rows::{child_here, row_of};
 use super::runs::{same_term, span_of, wide, word};
 use super::virtual_tokens::{step, token_at};
-use super::{Content, Cursor, Met, Origin};
+use super::{Content, Cursor, Origin};
 
 // The start of a content's row.
 pub fn cursor(kinds: &[u32], vals: &[u32], g: Origin, x: Content) -> Cursor
@@ -58,7 +58,7 @@ pub fn same_rows(
     x: Cursor,
     y: Cursor,
     fuel: usize,
-) -> Met
+) -> Option<(usize, usize)>
     requires sight { Sight kinds.now vals.now g }
     requires cut { Cut x × Cut y }
     ensures { Begins (view kinds.now vals.now g) heads.now kids.now x y fuel result }
@@ -69,27 +69,27 @@ pub fn same_rows(
     let mut j = y.child;
     while q < y.end {
         if x.end <= p {
-            return Met::Apart;
+            return None;
         }
         let s = token_at(kinds, vals, g, p);
         let t = token_at(kinds, vals, g, q);
         if t.kind == 0 {
             if s.kind != 0 {
-                return Met::Apart;
+                return None;
             }
             if s.value != t.value {
-                return Met::Apart;
+                return None;
             }
             p += 1;
             q += 1;
         } else {
             if s.kind == 0 {
-                return Met::Apart;
+                return None;
             }
             let a = child_here(heads, kids, x.kids, p, i);
             let b = child_here(heads, kids, y.kids, q, j);
             if !same_trees(kinds, vals, heads, kids, g, a, b, fuel) {
-                return Met::Apart;
+                return None;
             }
             i += 1;
             j += 1;
@@ -97,7 +97,7 @@ pub fn same_rows(
             q += step(t);
         }
     }
-    Met::Behind(p, i)
+    Some((p, i))
 }
 
 // Whether two contents stand for the same tree; the first has at most `fuel` levels. Lent ones are compared token by token.
@@ -134,7 +134,7 @@ pub fn same_trees(
     let a = cursor(kinds, vals, g, x);
     let b = cursor(kinds, vals, g, y);
     let m = same_rows(kinds, vals, heads, kids, g, a, b, fuel - 1);
-    let Met::Behind(at, _) = m else {
+    let Some((at, _)) = m else {
         return false;
     };
     a.end <= at

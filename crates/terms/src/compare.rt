@@ -7,11 +7,17 @@ ghost use Rattle.terms.specs.Words.TermsAtPlaces.{FormedAt};
 ghost use Rattle.terms.specs.Comparison.{conflicts_with, can_weaken_to};
 ghost use Rattle.terms.specs.Words.CompareContract.{Rows, Forward, Stepped, Passed};
 
-use super::Pace;
 use super::runs::{is_one, same_term, skip, word};
 
 // One step through two rows: a number, or a term that yields or a projection as a whole, or a node's head.
-fn pair_step(kinds: &[u32], vals: &[u32], i: usize, ae: usize, j: usize, be: usize) -> Pace
+fn pair_step(
+    kinds: &[u32],
+    vals: &[u32],
+    i: usize,
+    ae: usize,
+    j: usize,
+    be: usize,
+) -> Option<(usize, usize)>
     requires { (i < ae) × (ae ≤ length kinds.now) × (j < be) × (be ≤ length kinds.now) × (length vals.now ≡ length kinds.now) }
     ensures forward { Forward i ae j be result }
     ensures stepped { (whole : Bool) → Rows kinds.now vals.now i ae j be whole → Stepped kinds.now vals.now ae be whole result }
@@ -20,21 +26,28 @@ fn pair_step(kinds: &[u32], vals: &[u32], i: usize, ae: usize, j: usize, be: usi
     let l = word(kinds, j);
     if k == 0 {
         if l != 0 {
-            return Pace::Clash;
+            return None;
         }
         if word(vals, i) != word(vals, j) {
-            return Pace::Clash;
+            return None;
         }
-        return Pace::Onward(i + 1, j + 1);
+        return Some((i + 1, j + 1));
     }
     if l == 0 {
-        return Pace::Clash;
+        return None;
     }
     pair_terms(kinds, vals, i, ae, j, be)
 }
 
 // The same where a term comes next in both rows.
-fn pair_terms(kinds: &[u32], vals: &[u32], i: usize, ae: usize, j: usize, be: usize) -> Pace
+fn pair_terms(
+    kinds: &[u32],
+    vals: &[u32],
+    i: usize,
+    ae: usize,
+    j: usize,
+    be: usize,
+) -> Option<(usize, usize)>
     requires { (i < ae) × (ae ≤ length kinds.now) × (j < be) × (be ≤ length kinds.now) × (length vals.now ≡ length kinds.now) × (0 < get_or kinds.now i 0)
         × (0 < get_or kinds.now j 0) }
     ensures forward { Forward i ae j be result }
@@ -50,19 +63,26 @@ fn pair_terms(kinds: &[u32], vals: &[u32], i: usize, ae: usize, j: usize, be: us
         return past(kinds, vals, i, ae, j, be);
     }
     if k != l {
-        return Pace::Clash;
+        return None;
     }
     if k == 20 {
         if !same_term(kinds, vals, i, j) {
-            return Pace::Clash;
+            return None;
         }
         return past(kinds, vals, i, ae, j, be);
     }
-    Pace::Onward(i + 1, j + 1)
+    Some((i + 1, j + 1))
 }
 
 // Past the terms that come next.
-fn past(kinds: &[u32], vals: &[u32], i: usize, ae: usize, j: usize, be: usize) -> Pace
+fn past(
+    kinds: &[u32],
+    vals: &[u32],
+    i: usize,
+    ae: usize,
+    j: usize,
+    be: usize,
+) -> Option<(usize, usize)>
     requires { (i < ae) × (ae ≤ length kinds.now) × (j < be) × (be ≤ length kinds.now) × (length vals.now ≡ length kinds.now) }
     ensures forward { Forward i ae j be result }
     ensures passed { (t u : Term) (ps qs : Parts)
@@ -72,7 +92,7 @@ fn past(kinds: &[u32], vals: &[u32], i: usize, ae: usize, j: usize, be: usize) -
 {
     let n = skip(kinds, vals, i, ae - i);
     let m = skip(kinds, vals, j, be - j);
-    Pace::Onward(i + n, j + m)
+    Some((i + n, j + m))
 }
 
 // Whether two rows conflict.
@@ -88,10 +108,10 @@ fn rows_conflict(kinds: &[u32], vals: &[u32], a: usize, ae: usize, b: usize, be:
         }
         let r = pair_step(kinds, vals, i, ae, j, be);
         match r {
-            Pace::Clash => {
+            None => {
                 return true;
             }
-            Pace::Onward(k, l) => {
+            Some((k, l)) => {
                 i = k;
                 j = l;
             }

@@ -12,7 +12,7 @@ use super::rows::{child_at, number_at, number_place};
 use super::rules::source;
 use super::runs::wide;
 use super::virtual_tokens::{locate, token_at};
-use super::{Content, Found, Origin, Spot};
+use super::{Content, Origin, Spot};
 
 // The lent token whose value the number at p has.
 fn lent_place(kinds: &[u32], vals: &[u32], g: Origin, p: usize) -> usize
@@ -58,7 +58,7 @@ fn output(kinds: &[u32], vals: &[u32], heads: &[u32], kids: &[u32], g: Origin, p
         0,
         x.value,
     );
-    if let Found::At(y) = known {
+    if let Some(y) = known {
         return y;
     }
     let t = lent_place(kinds, vals, g, p);
@@ -76,7 +76,7 @@ pub fn by_interface(
     n: usize,
     m: usize,
     fuel: usize,
-) -> Found
+) -> Option<Content>
     requires sight { Sight kinds.now vals.now g }
     requires counts { Counts (view kinds.now vals.now g) x.head n m }
     requires low { fuel < 4294967296 }
@@ -88,23 +88,20 @@ pub fn by_interface(
         → Fetched (view kinds.now vals.now g) heads.now kids.now S (through i owner (row t)) result }
 {
     let argument = child_at(kinds, vals, heads, kids, g, x, 1 + n + m);
-    if let Found::At(_) = argument {
-        return Found::Nothing;
+    if argument.is_some() {
+        return None;
     }
     if number_at(kinds, vals, g, x.head, 0) != number_at(kinds, vals, g, g.interface, 0) {
-        return Found::Nothing;
+        return None;
     }
-    let receiver = child_at(kinds, vals, heads, kids, g, x, 0);
-    let Found::At(y) = receiver else {
-        return Found::Nothing;
-    };
+    let y = child_at(kinds, vals, heads, kids, g, x, 0)?;
     if !same_trees(kinds, vals, heads, kids, g, y, source(g.owner), fuel) {
-        return Found::Nothing;
+        return None;
     }
     let p = number_place(kinds, vals, g, x.head, 3 + m);
     let value = output(kinds, vals, heads, kids, g, p);
     if same_trees(kinds, vals, heads, kids, g, x, value, fuel + 1) {
-        return Found::Nothing;
+        return None;
     }
-    Found::At(value)
+    Some(value)
 }

@@ -1,48 +1,43 @@
 // A term, or a bare nominal, is read and kept whole, or nothing of it remains.
-ghost use Rattle.std.specs.Prelude.{◌≡◌, ◌+◌, ◌-◌, ◌^◌, ◌<◌, length};
+ghost use Rattle.std.specs.Prelude.{◌≡◌, ◌+◌, ◌-◌, ◌^◌, ◌<◌, length, OnErr};
 ghost use Rattle.terms.specs.Words.Tokens.{area};
 ghost use Rattle.terms.specs.Term.{size};
 ghost use Rattle.terms.specs.Reading.{term, bare};
-ghost use Rattle.terms.specs.Words.ReadContract.{Room, RoomAfter, answer, kept, contents, Clearable, Cleared};
-ghost use Rattle.terms.specs.Words.StepCodes.{step_of};
+ghost use Rattle.terms.specs.Words.ReadContract.{Room, answer, kept, contents, Clearable, Cleared};
+ghost use Rattle.terms.specs.Words.Outcomes.{step_of};
 
 use super::read::{read_bare, read_term};
 use super::store::clear_tokens;
-use super::{Place, Step};
+use super::{Place, Refusal};
 
-// Clears what a refusal has left from `p` on, and what was read past the limit.
-pub fn clear_rest(kinds: &mut [u32], vals: &mut [u32], p: Place, left: usize, r: Step) -> Step
-    requires { Clearable p left r }
-    ensures same { result ≡ r }
-    ensures cleared { Cleared p left (area kinds.old vals.old) (area kinds.new vals.new) r }
+// Ends a reading that began at `first`, with `left` bytes left. What was read past the limit is cleared, and what a refusal has left; the place is then as it
+// was.
+pub fn settle(
+    kinds: &mut [u32],
+    vals: &mut [u32],
+    first: Place,
+    left: usize,
+    outcome: Result<(), Refusal>,
+    place: &mut Place,
+) -> Result<(), Refusal>
+    requires { Clearable first left (step_of outcome place.old) }
+    ensures same { step_of result place.new ≡ step_of outcome place.old }
+    ensures cleared { Cleared first left (area kinds.old vals.old) (area kinds.new vals.new) (step_of outcome place.old) }
+    ensures back { OnErr result (place.new ≡ first) }
 {
-    match r {
-        Step::Next(q) => {
-            if q.limit < q.nodes {
-                clear_tokens(kinds, vals, p.top, q.top - p.top);
+    match outcome {
+        Ok(()) => {
+            if place.limit < place.nodes {
+                clear_tokens(kinds, vals, first.top, place.top - first.top);
             }
-            Step::Next(q)
+            Ok(())
         }
-        Step::Stopped(c) => {
-            clear_tokens(kinds, vals, p.top, left + 1);
-            Step::Stopped(c)
+        Err(refusal) => {
+            clear_tokens(kinds, vals, first.top, left + 1);
+            *place = first;
+            Err(refusal)
         }
     }
-}
-
-// The answer of a reading function whose code is `code`.
-pub fn step_of(code: u8, at: usize, top: usize, nodes: usize, limit: usize) -> Step
-    ensures { result ≡ step_of code at top nodes limit }
-{
-    if code == 0 {
-        return Step::Next(Place {
-            at,
-            top,
-            nodes,
-            limit,
-        });
-    }
-    Step::Stopped(code)
 }
 
 // Reads a term with `levels` levels left, whose variables are below `issued`.
@@ -50,29 +45,20 @@ pub fn keep_term(
     s: &[u8],
     kinds: &mut [u32],
     vals: &mut [u32],
-    p: Place,
+    place: &mut Place,
     levels: u32,
     issued: u64,
-) -> Step
-    requires { Room s.now p }
-    ensures answer { result ≡ answer p (term s.now issued levels p.at) size }
+) -> Result<(), Refusal>
+    requires { Room s.now place.old }
+    ensures answer { step_of result place.new ≡ answer place.old (term s.now issued levels place.old.at) size }
     ensures areas { area kinds.new vals.new
-        ≡ kept s.now p (term s.now issued levels p.at) size (area kinds.old vals.old) }
-    ensures room { RoomAfter s.now result }
+        ≡ kept s.now place.old (term s.now issued levels place.old.at) size (area kinds.old vals.old) }
+    ensures room { Room s.now place.new }
+    ensures back { OnErr result (place.new ≡ place.old) }
 {
-    let mut at = p.at;
-    let mut top = p.top;
-    let mut nodes = p.nodes;
-    let r = read_term(
-        s, kinds, vals, &mut at, &mut top, &mut nodes, p.limit, levels, issued,
-    );
-    clear_rest(
-        kinds,
-        vals,
-        p,
-        s.len() - p.at,
-        step_of(r, at, top, nodes, p.limit),
-    )
+    let first = *place;
+    let outcome = read_term(s, kinds, vals, place, levels, issued);
+    settle(kinds, vals, first, s.len() - first.at, outcome, place)
 }
 
 // Reads a bare nominal, whose contents have `levels` levels left; it stands under a head with the tag 20.
@@ -80,28 +66,19 @@ pub fn keep_nominal(
     s: &[u8],
     kinds: &mut [u32],
     vals: &mut [u32],
-    p: Place,
+    place: &mut Place,
     levels: u32,
     issued: u64,
-) -> Step
-    requires room { Room s.now p }
-    requires space { p.top + 1 + (length s.now - p.at) < 2 ^ 32 }
-    ensures answer { result ≡ answer p (bare s.now issued levels p.at) contents }
+) -> Result<(), Refusal>
+    requires room { Room s.now place.old }
+    requires space { place.old.top + 1 + (length s.now - place.old.at) < 2 ^ 32 }
+    ensures answer { step_of result place.new ≡ answer place.old (bare s.now issued levels place.old.at) contents }
     ensures areas { area kinds.new vals.new
-        ≡ kept s.now p (bare s.now issued levels p.at) contents (area kinds.old vals.old) }
-    ensures room { RoomAfter s.now result }
+        ≡ kept s.now place.old (bare s.now issued levels place.old.at) contents (area kinds.old vals.old) }
+    ensures room { Room s.now place.new }
+    ensures back { OnErr result (place.new ≡ place.old) }
 {
-    let mut at = p.at;
-    let mut top = p.top;
-    let mut nodes = p.nodes;
-    let r = read_bare(
-        s, kinds, vals, &mut at, &mut top, &mut nodes, p.limit, levels, issued,
-    );
-    clear_rest(
-        kinds,
-        vals,
-        p,
-        s.len() - p.at,
-        step_of(r, at, top, nodes, p.limit),
-    )
+    let first = *place;
+    let outcome = read_bare(s, kinds, vals, place, levels, issued);
+    settle(kinds, vals, first, s.len() - first.at, outcome, place)
 }

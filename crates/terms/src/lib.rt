@@ -33,7 +33,7 @@ mod write;
 pub use compare::{can_weaken_to, conflicts_with};
 pub use find::skip_parameters;
 pub use keep::{keep_nominal, keep_term};
-pub use lists::{keep_entries, keep_receivers, keep_terms};
+pub use lists::keep_list;
 pub use normal::{normalise, with_associated_types, write_normalised};
 pub use numbers::{number_len, read_number, write_number};
 pub use questions::ask;
@@ -43,6 +43,39 @@ pub use rewrite::write_term;
 pub use satisfy::{satisfies, satisfies_for};
 pub use store::clear_tokens;
 pub use write::{run_len, write_run};
+
+// Why an order is refused: it ends early or has bytes left over; a tag, a code or a kind that is not listed; a number too large or not in its shortest
+// form; a level too many; members that do not rise; a variable that was not issued; nodes too many; variables too many; children too many.
+#[derive(Clone, Copy, Debug, PartialEq, Eq)]
+pub enum Refusal {
+    Length = 1,
+    Code = 2,
+    Number = 3,
+    Depth = 4,
+    Order = 5,
+    Variable = 6,
+    Nodes = 7,
+    Variables = 8,
+    Children = 9,
+}
+
+impl From<Refusal> for u8 {
+    ghost use Rattle.std.specs.Prelude.{◌≡◌};
+    ghost use Rattle.terms.specs.Result.{number_of};
+
+    ghost from_gives = { λ refusal number. number ≡ number_of refusal };
+
+    fn from(refusal: Refusal) -> u8 {
+        refusal as u8
+    }
+}
+
+// A generic parameter: its owner, and its position in the owner's list.
+#[derive(Clone, Copy, PartialEq, Eq)]
+pub struct Parameter {
+    pub owner: u64,
+    pub position: u64,
+}
 
 // Where reading stands: the position in the bytes, the number of the next token, and how many nodes were read. While these are at most
 // `limit`, tokens are stored; past it reading goes on without.
@@ -54,30 +87,23 @@ pub struct Place {
     pub limit: usize,
 }
 
-// Where a term reader stands: the place, how many records are left to be read, and the code of the refusal that it met, 0 where there was none.
-#[derive(Clone, Copy)]
-pub struct Stand {
-    pub place: Place,
-    pub left: u64,
-    pub code: u8,
-}
-
 // A term reader: the bytes of an order, and where it stands in them.
 #[derive(Clone, Copy)]
 pub struct TermReader<'a> {
     pub bytes: &'a [u8],
-    pub stand: Stand,
+    pub place: Place,
 }
 
-// What a term reader is asked for: a term, or where `bare` a bare nominal, with the levels left and the number that its variables are below.
-#[derive(Clone, Copy)]
-pub struct ReadRequest {
-    pub bare: bool,
-    pub levels: u32,
-    pub issued: u64,
+// A list of an order: arguments are terms, receivers have an owner each, and entries an owner and a position.
+#[derive(Clone, Copy, Debug, PartialEq, Eq)]
+pub enum Listing {
+    Arguments,
+    Receivers,
+    Entries,
 }
 
-// What a term reader is asked for in a list: an owner where `first` and a position where `second`, and then a term, as above.
+// What a term reader is asked for in a list: an owner where `first` and a position where `second`, and then a term, with the levels left and the number that
+// its variables are below.
 #[derive(Clone, Copy)]
 pub struct RecordRequest {
     pub first: bool,
@@ -110,55 +136,6 @@ pub enum Kind {
     Variable,
     Node(Row),
     Unlisted,
-}
-
-// The place after what was read, or the refusal.
-#[derive(Clone, Copy)]
-pub enum Step {
-    Next(Place),
-    Stopped(u8),
-}
-
-// What reading a number finds: its value and the position after it, or the refusal's code.
-#[derive(Clone, Copy)]
-pub enum NumberRead {
-    Value(u64, usize),
-    Refused(u8),
-}
-
-// A step of a comparison: the rows conflict, or it goes on at these places.
-#[derive(Clone, Copy)]
-pub enum Pace {
-    Clash,
-    Onward(usize, usize),
-}
-
-// What a search finds: a place, or an index.
-#[derive(Clone, Copy)]
-pub enum Lookup {
-    At(usize),
-    Nothing,
-}
-
-// What going through required members finds: the place after them, or the place of one that is not given, and how many are left from it on.
-#[derive(Clone, Copy)]
-pub enum MembersFound {
-    All(usize),
-    Lacking(usize, usize),
-}
-
-// What reading a parameter finds: its owner, its position in the owner's list, and the position in the bytes after it; or the refusal's code.
-#[derive(Clone, Copy)]
-pub enum ParameterRead {
-    Named(u64, u64, usize),
-    Unnamed(u8),
-}
-
-// What going through parameters finds: the position after them, and the index of the last one that was looked for; or the refusal's code.
-#[derive(Clone, Copy)]
-pub enum ParametersRead {
-    Through(usize, Lookup),
-    Faulty(u8),
 }
 
 // What takes the place of binders. A substitution is two rows in the areas: its entries from `entries` up to `receivers`, its receivers from there up
@@ -224,19 +201,6 @@ pub struct Content {
     pub kids: u32,
 }
 
-#[derive(Clone, Copy)]
-pub enum Found {
-    At(Content),
-    Nothing,
-}
-
-// Which member a key is, if it is one.
-#[derive(Clone, Copy)]
-pub enum Key {
-    KeyAt(usize),
-    NoKey,
-}
-
 // How many children were put into records, or that they would be too many.
 #[derive(Clone, Copy)]
 pub struct Count {
@@ -261,13 +225,6 @@ pub struct Cursor {
     pub end: usize,
     pub child: usize,
     pub kids: u32,
-}
-
-// Whether a row begins with another: the next token after that and how many children were passed, or not.
-#[derive(Clone, Copy)]
-pub enum Met {
-    Behind(usize, usize),
-    Apart,
 }
 
 // A rule of order 20: the places of its interface and its receiver, its member, the place of its arguments and how many they are, and the place of its

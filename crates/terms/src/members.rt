@@ -8,7 +8,7 @@ ghost use Rattle.terms.specs.Words.Arena.{Tree, Counts, Fetched};
 
 use super::opening::tag_at;
 use super::rows::{child_at, key_at, number_at};
-use super::{Content, Found, Key, Origin};
+use super::{Content, Origin};
 
 // The member `key` of the nominal in a content's row with n arguments and m members, whose arguments begin after b terms.
 pub fn member_of(
@@ -22,7 +22,7 @@ pub fn member_of(
     m: usize,
     b: usize,
     key: u32,
-) -> Found
+) -> Option<Content>
     requires sight { Sight kinds.now vals.now g }
     requires counts { Counts (view kinds.now vals.now g) x.head n m }
     requires start { b ≤ 1 }
@@ -30,12 +30,9 @@ pub fn member_of(
         → Tree (view kinds.now vals.now g) heads.now kids.now S x.head x.kids t
         → Fetched (view kinds.now vals.now g) heads.now kids.now S (member_from b key (row t)) result }
 {
-    let k = key_at(kinds, vals, g, x.head, key);
-    let Key::KeyAt(i) = k else {
-        return Found::Nothing;
-    };
+    let i = key_at(kinds, vals, g, x.head, key)?;
     if m <= i {
-        return Found::Nothing;
+        return None;
     }
     child_at(kinds, vals, heads, kids, g, x, b + n + i)
 }
@@ -50,7 +47,7 @@ pub fn own_member(
     x: Content,
     n: usize,
     m: usize,
-) -> Found
+) -> Option<Content>
     requires sight { Sight kinds.now vals.now g }
     requires counts { Counts (view kinds.now vals.now g) x.head n m }
     ensures { (S : ℕ → Bool) (t : Term)
@@ -59,19 +56,16 @@ pub fn own_member(
 {
     let key = number_at(kinds, vals, g, x.head, 3 + m) as u32;
     let argument = child_at(kinds, vals, heads, kids, g, x, 1 + n + m);
-    if let Found::At(_) = argument {
-        return Found::Nothing;
+    if argument.is_some() {
+        return None;
     }
     let own = member_of(kinds, vals, heads, kids, g, x, n, m, 1, key);
-    if let Found::At(y) = own {
-        return Found::At(y);
+    if own.is_some() {
+        return own;
     }
-    let receiver = child_at(kinds, vals, heads, kids, g, x, 0);
-    let Found::At(y) = receiver else {
-        return Found::Nothing;
-    };
+    let y = child_at(kinds, vals, heads, kids, g, x, 0)?;
     if tag_at(kinds, vals, g, y.head) != 15 {
-        return Found::Nothing;
+        return None;
     }
     let a = number_at(kinds, vals, g, y.head, 1);
     let b = number_at(kinds, vals, g, y.head, 2);

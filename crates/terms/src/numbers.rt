@@ -1,58 +1,51 @@
 // Numbers of the byte form: base 128, low group first, shortest form only.
 ghost use Rattle.std.specs.Prelude.{◌≡◌, ◌+◌, ◌≤◌, length};
 ghost use Rattle.std.proofs.lemmas.List.Edits.{sets};
-ghost use Rattle.terms.specs.Number.{number, result_of, shortest};
+ghost use Rattle.terms.specs.Result.{said};
+ghost use Rattle.terms.specs.Number.{number, shortest};
 
-use super::NumberRead;
-
-fn wide(b: u8) -> u64
-    ensures { result ≡ b }
-{
-    b as u64
-}
+use super::Refusal;
 
 // The number at a position of s, at most `most`, group by group.
-fn read_groups(s: &[u8], at: usize, most: u64) -> NumberRead
-    ensures { result_of result ≡ number most s.now at }
+fn read_groups(s: &[u8], at: usize, most: u64) -> Result<(u64, usize), Refusal>
+    ensures { said result ≡ number most s.now at }
 {
     let mut v: u64 = 0;
     let mut w: u64 = 1;
-    let mut i = at;
-    while i < s.len() {
-        let b = wide(s[i]);
+    for i in at..s.len() {
+        let b = u64::from(s[i]);
         if (most - v) / w < b {
-            return NumberRead::Refused(3);
+            return Err(Refusal::Number);
         }
         if b < 128 {
             if b == 0 {
                 if 1 < w {
-                    return NumberRead::Refused(3);
+                    return Err(Refusal::Number);
                 }
             }
-            return NumberRead::Value(v + b * w, i + 1);
+            return Ok((v + b * w, i + 1));
         }
-        v = v + (b - 128) * w;
-        w = w * 128;
-        i = i + 1;
+        v += (b - 128) * w;
+        w *= 128;
     }
-    NumberRead::Refused(1)
+    Err(Refusal::Length)
 }
 
 // The number at a position of s, at most `most`. Most numbers have one group.
-pub fn read_number(s: &[u8], at: usize, most: u64) -> NumberRead
-    ensures { result_of result ≡ number most s.now at }
+pub fn read_number(s: &[u8], at: usize, most: u64) -> Result<(u64, usize), Refusal>
+    ensures { said result ≡ number most s.now at }
 {
     if s.len() <= at {
-        return NumberRead::Refused(1);
+        return Err(Refusal::Length);
     }
-    let b = wide(s[at]);
+    let b = u64::from(s[at]);
     if 128 <= b {
         return read_groups(s, at, most);
     }
     if most < b {
-        return NumberRead::Refused(3);
+        return Err(Refusal::Number);
     }
-    NumberRead::Value(b, at + 1)
+    Ok((b, at + 1))
 }
 
 // How many bytes the shortest form of a number has.

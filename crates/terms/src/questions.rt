@@ -12,7 +12,7 @@ ghost use Rattle.terms.specs.Words.QuestionsContract.{tag_of, word, Asking};
 
 use super::find::find_parameter;
 use super::runs::{is_one, skip};
-use super::{Lookup, runs};
+use super::{Parameter, runs};
 
 // The tag of the term whose first token has this kind.
 pub fn tag_of(k: u32) -> u32
@@ -40,11 +40,11 @@ fn unresolved(tag: u32, a: u32, b: u32, s: &[u8], at: usize, params: u64) -> boo
     if tag != 17 {
         return false;
     }
-    let r = find_parameter(s, at, params, a as u64, b as u64);
-    match r {
-        Lookup::At(i) => false,
-        Lookup::Nothing => true,
-    }
+    let wanted = Parameter {
+        owner: u64::from(a),
+        position: u64::from(b),
+    };
+    find_parameter(s, at, params, wanted).is_none()
 }
 
 // Whether a term counts for a question, by its tag and its first two numbers.

@@ -1,76 +1,111 @@
-// The term reader, which holds the bytes and the position in them, and what reads by it.
-ghost use Rattle.std.specs.Prelude.{◌≡◌};
+// The term reader, which holds the bytes and the place in them, and what reads by it.
+ghost use Rattle.std.specs.Prelude.{◌≡◌, OnErr};
 ghost use Rattle.terms.specs.Words.Tokens.{area};
-ghost use Rattle.terms.specs.Words.ReadContract.{Room, RoomAfter, answer, kept};
-ghost use Rattle.terms.specs.Words.ReaderContract.{Space, Readable, RequestDone, part, nodes_of};
+ghost use Rattle.terms.specs.Words.ReadContract.{Room, PartsDone, answer, kept};
+ghost use Rattle.terms.specs.Words.ReaderContract.{Space, part, nodes_of};
+ghost use Rattle.terms.specs.Words.ListsContract.{one_at};
+ghost use Rattle.terms.specs.Words.Outcomes.{step_of};
 
 use super::keep::{keep_nominal, keep_term};
-use super::{Place, ReadRequest, Stand, Step, TermReader};
+use super::lists::read_record;
+use super::{Place, RecordRequest, Refusal, TermReader};
 
-// Reads what is wanted at a place in the bytes.
-fn keep_requested(s: &[u8], z: Stand, kinds: &mut [u32], vals: &mut [u32], w: ReadRequest) -> Step
-    requires { Readable s.now z w }
-    ensures { RequestDone s.now z w (area kinds.old vals.old) (area kinds.new vals.new) result }
+// Reads a term at a place in the bytes, or where `bare` a bare nominal.
+fn keep_part(
+    s: &[u8],
+    kinds: &mut [u32],
+    vals: &mut [u32],
+    place: &mut Place,
+    bare: bool,
+    levels: u32,
+    issued: u64,
+) -> Result<(), Refusal>
+    requires room { Room s.now place.old }
+    requires space { Space bare s.now place.old }
+    ensures answer { step_of result place.new ≡ answer place.old (part bare s.now issued levels place.old.at) (nodes_of bare) }
+    ensures areas { area kinds.new vals.new
+        ≡ kept s.now place.old (part bare s.now issued levels place.old.at) (nodes_of bare) (area kinds.old vals.old) }
+    ensures room { Room s.now place.new }
+    ensures back { OnErr result (place.new ≡ place.old) }
 {
-    if w.bare {
-        keep_nominal(s, kinds, vals, z.place, w.levels, w.issued)
+    if bare {
+        keep_nominal(s, kinds, vals, place, levels, issued)
     } else {
-        keep_term(s, kinds, vals, z.place, w.levels, w.issued)
+        keep_term(s, kinds, vals, place, levels, issued)
     }
 }
 
-// Reads what is wanted where the reader stands.
-fn next_requested<'a>(
-    r: TermReader<'a>,
-    kinds: &mut [u32],
-    vals: &mut [u32],
-    w: ReadRequest,
-) -> Step
-    requires { Readable r.bytes.now r.stand w }
-    ensures { RequestDone r.entry.bytes.now r.entry.stand w (area kinds.old vals.old) (area kinds.new vals.new) result }
-{
-    keep_requested(r.bytes, r.stand, kinds, vals, w)
+impl<'a> TermReader<'a> {
+    // Reads a term, or where `bare` a bare nominal; then the reader stands after it, or where it is refused as it stood.
+    fn next_part(
+        &mut self,
+        kinds: &mut [u32],
+        vals: &mut [u32],
+        bare: bool,
+        levels: u32,
+        issued: u64,
+    ) -> Result<(), Refusal>
+        requires room { Room self.old.bytes.now self.old.place }
+        requires space { Space bare self.old.bytes.now self.old.place }
+        ensures answer { step_of result self.new.place
+            ≡ answer self.old.place (part bare self.old.bytes.now issued levels self.old.place.at) (nodes_of bare) }
+        ensures areas { area kinds.new vals.new
+            ≡ kept self.old.bytes.now self.old.place (part bare self.old.bytes.now issued levels self.old.place.at) (nodes_of bare)
+            (area kinds.old vals.old) }
+        ensures room { Room self.old.bytes.now self.new.place }
+        ensures back { OnErr result (self.new.place ≡ self.old.place) }
+    {
+        keep_part(
+            self.bytes,
+            kinds,
+            vals,
+            &mut self.place,
+            bare,
+            levels,
+            issued,
+        )
+    }
+
+    // Reads a record of a list; then the reader stands after it, or where it is refused somewhere in it.
+    pub fn next_record(
+        &mut self,
+        kinds: &mut [u32],
+        vals: &mut [u32],
+        w: RecordRequest,
+    ) -> Result<(), Refusal>
+        requires { Room self.old.bytes.now self.old.place }
+        ensures bytes { self.new.bytes ≡ self.old.bytes }
+        ensures done { PartsDone self.old.bytes.now (one_at self.old.bytes.now w self.old.place.at) self.old.place
+            (area kinds.old vals.old) (area kinds.new vals.new) (step_of result self.new.place) }
+    {
+        read_record(self.bytes, kinds, vals, &mut self.place, w)
+    }
 }
 
-// The same at a place in the bytes, by a reader that is made for it.
-fn requested_at(s: &[u8], z: Stand, kinds: &mut [u32], vals: &mut [u32], w: ReadRequest) -> Step
-    requires { Readable s.now z w }
-    ensures { RequestDone s.now z w (area kinds.old vals.old) (area kinds.new vals.new) result }
-{
-    next_requested(TermReader { bytes: s, stand: z }, kinds, vals, w)
-}
-
-// Reads a term with `levels` levels left, whose variables are below `issued`; or a bare nominal, whose contents have as many left and which
-// stands under a head with the tag 20.
+// Reads a term with `levels` levels left, whose variables are below `issued`; or where `bare` a bare nominal, whose contents have as many left and which
+// stands under a head with the tag 20. Where it is refused the place stays.
 pub fn part_at(
     s: &[u8],
     kinds: &mut [u32],
     vals: &mut [u32],
-    p: Place,
+    place: &mut Place,
     bare: bool,
     levels: u32,
     issued: u64,
-) -> Step
-    requires room { Room s.now p }
-    requires space { Space bare s.now p }
-    ensures answer { result ≡ answer p (part bare s.now issued levels p.at) (nodes_of bare) }
+) -> Result<(), Refusal>
+    requires room { Room s.now place.old }
+    requires space { Space bare s.now place.old }
+    ensures answer { step_of result place.new ≡ answer place.old (part bare s.now issued levels place.old.at) (nodes_of bare) }
     ensures areas { area kinds.new vals.new
-        ≡ kept s.now p (part bare s.now issued levels p.at) (nodes_of bare) (area kinds.old vals.old) }
-    ensures room { RoomAfter s.now result }
+        ≡ kept s.now place.old (part bare s.now issued levels place.old.at) (nodes_of bare) (area kinds.old vals.old) }
+    ensures room { Room s.now place.new }
+    ensures back { OnErr result (place.new ≡ place.old) }
 {
-    requested_at(
-        s,
-        Stand {
-            place: p,
-            left: 1,
-            code: 0,
-        },
-        kinds,
-        vals,
-        ReadRequest {
-            bare,
-            levels,
-            issued,
-        },
-    )
+    let mut reader = TermReader {
+        bytes: s,
+        place: *place,
+    };
+    let outcome = reader.next_part(kinds, vals, bare, levels, issued);
+    *place = reader.place;
+    outcome
 }

@@ -12,16 +12,13 @@ ghost use Rattle.terms.specs.Words.RewriteContract.{Writes, Rewrites};
 use super::find::{find_entry, find_parameter, find_receiver, nth_term};
 use super::runs::{long_at, stride};
 use super::write::{run_len, write_run};
-use super::{Binders, Choice, Lookup};
+use super::{Binders, Choice, Parameter};
 
 // What was found, or the term itself.
-fn taken(found: Lookup) -> Choice
+fn taken(found: Option<usize>) -> Choice
     ensures { result ≡ by found Choice.Keep }
 {
-    match found {
-        Lookup::At(q) => Choice::By(q),
-        Lookup::Nothing => Choice::Keep,
-    }
+    found.map_or(Choice::Keep, Choice::By)
 }
 
 // The argument for a parameter, where it is one.
@@ -30,61 +27,43 @@ fn argument_for(
     vals: &[u32],
     s: &[u8],
     b: Binders,
-    owner: u64,
-    position: u64,
-) -> Lookup
+    wanted: Parameter,
+) -> Option<usize>
     requires { length vals.now ≡ length kinds.now }
-    ensures { result ≡ argument_for kinds.now vals.now b.arguments (index s.now b owner position) }
+    ensures { result ≡ argument_for kinds.now vals.now b.arguments (index s.now b wanted) }
 {
-    let n = find_parameter(s, b.parameters, b.count, owner, position);
-    match n {
-        Lookup::At(k) => nth_term(kinds, vals, b.arguments, k),
-        Lookup::Nothing => Lookup::Nothing,
-    }
+    let k = find_parameter(s, b.parameters, b.count, wanted)?;
+    nth_term(kinds, vals, b.arguments, k)
 }
 
 // What takes the place of a Generic: the argument for a parameter, or an entry's term.
-fn generic_at(
-    kinds: &[u32],
-    vals: &[u32],
-    s: &[u8],
-    b: Binders,
-    owner: u64,
-    position: u64,
-) -> Choice
+fn generic_at(kinds: &[u32], vals: &[u32], s: &[u8], b: Binders, wanted: Parameter) -> Choice
     requires { Ready kinds.now vals.now b }
-    ensures { result ≡ generic kinds.now vals.now s.now b owner position }
+    ensures { result ≡ generic kinds.now vals.now s.now b wanted }
 {
-    let a = argument_for(kinds, vals, s, b, owner, position);
+    let a = argument_for(kinds, vals, s, b, wanted);
     match a {
-        Lookup::At(q) => Choice::By(q),
-        Lookup::Nothing => {
-            let e = find_entry(kinds, vals, b.entries, b.receivers, owner, position);
+        Some(q) => Choice::By(q),
+        None => {
+            let e = find_entry(kinds, vals, b.entries, b.receivers, wanted);
             taken(e)
         }
     }
 }
 
 // In a context: an entry's term, or Unknown for a parameter.
-fn context_at(
-    kinds: &[u32],
-    vals: &[u32],
-    s: &[u8],
-    b: Binders,
-    owner: u64,
-    position: u64,
-) -> Choice
+fn context_at(kinds: &[u32], vals: &[u32], s: &[u8], b: Binders, wanted: Parameter) -> Choice
     requires { Ready kinds.now vals.now b }
-    ensures { result ≡ in_context_of kinds.now vals.now s.now b owner position }
+    ensures { result ≡ in_context_of kinds.now vals.now s.now b wanted }
 {
-    let e = find_entry(kinds, vals, b.entries, b.receivers, owner, position);
+    let e = find_entry(kinds, vals, b.entries, b.receivers, wanted);
     match e {
-        Lookup::At(q) => Choice::By(q),
-        Lookup::Nothing => {
-            let n = find_parameter(s, b.parameters, b.count, owner, position);
-            match n {
-                Lookup::At(k) => Choice::Unknown,
-                Lookup::Nothing => Choice::Keep,
+        Some(q) => Choice::By(q),
+        None => {
+            if find_parameter(s, b.parameters, b.count, wanted).is_some() {
+                Choice::Unknown
+            } else {
+                Choice::Keep
             }
         }
     }
@@ -110,12 +89,14 @@ fn replaced_at(kinds: &[u32], vals: &[u32], s: &[u8], b: Binders, p: usize) -> C
 {
     let k = kinds[p];
     if k == 19 {
-        let owner = long_at(vals, p + 1);
-        let position = long_at(vals, p + 2);
+        let wanted = Parameter {
+            owner: long_at(vals, p + 1),
+            position: long_at(vals, p + 2),
+        };
         if b.context {
-            return context_at(kinds, vals, s, b, owner, position);
+            return context_at(kinds, vals, s, b, wanted);
         }
-        return generic_at(kinds, vals, s, b, owner, position);
+        return generic_at(kinds, vals, s, b, wanted);
     }
     if k == 21 {
         let owner = long_at(vals, p + 1);

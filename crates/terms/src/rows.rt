@@ -8,7 +8,7 @@ ghost use Rattle.terms.specs.Words.Arena.{head_of, kids_of, Tree, RowAt, NumberA
 
 use super::runs::{wide, word};
 use super::virtual_tokens::{step, token_at};
-use super::{Content, Found, Key, Origin, Part};
+use super::{Content, Origin, Part};
 
 // A place past all tokens.
 const NOWHERE: usize = 4294967295;
@@ -65,7 +65,7 @@ pub fn number_at(kinds: &[u32], vals: &[u32], g: Origin, h: u32, i: usize) -> us
 }
 
 // Which number from the third on is x, counted from there.
-pub fn key_at(kinds: &[u32], vals: &[u32], g: Origin, h: u32, x: u32) -> Key
+pub fn key_at(kinds: &[u32], vals: &[u32], g: Origin, h: u32, x: u32) -> Option<usize>
     requires { Sight kinds.now vals.now g }
     ensures { KeyOf (view kinds.now vals.now g) h x result }
 {
@@ -78,7 +78,7 @@ pub fn key_at(kinds: &[u32], vals: &[u32], g: Origin, h: u32, x: u32) -> Key
         if y.kind == 0 {
             if y.value == x {
                 if 3 <= k {
-                    return Key::KeyAt(k - 3);
+                    return Some(k - 3);
                 }
             }
             k += 1;
@@ -87,7 +87,7 @@ pub fn key_at(kinds: &[u32], vals: &[u32], g: Origin, h: u32, x: u32) -> Key
             q += step(y);
         }
     }
-    Key::NoKey
+    None
 }
 
 // The content of a child that is the i-th of its node, whose child word is c, and stands at q where it is as in the source.
@@ -118,7 +118,7 @@ pub fn child_at(
     g: Origin,
     x: Content,
     i: usize,
-) -> Found
+) -> Option<Content>
     requires { Sight kinds.now vals.now g }
     ensures { (S : ℕ → Bool) (t : Term)
         → Tree (view kinds.now vals.now g) heads.now kids.now S x.head x.kids t
@@ -134,11 +134,11 @@ pub fn child_at(
             q += 1;
         } else {
             if n == i {
-                return Found::At(child_here(heads, kids, x.kids, q, n));
+                return Some(child_here(heads, kids, x.kids, q, n));
             }
             n += 1;
             q += step(y);
         }
     }
-    Found::Nothing
+    None
 }

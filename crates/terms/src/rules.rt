@@ -11,7 +11,7 @@ use super::alike::{cursor, moved, same_rows};
 use super::rule_list::{next_rule, rule_at};
 use super::runs::wide;
 use super::virtual_tokens::{step, token_at};
-use super::{Content, Cursor, Found, Met, Origin, Rule};
+use super::{Content, Cursor, Origin, Rule};
 
 // A place past all tokens.
 const NOWHERE: usize = 4294967295;
@@ -69,19 +69,26 @@ fn number_next(kinds: &[u32], vals: &[u32], g: Origin, at: usize, end: usize, m:
 }
 
 // Whether two numbers come next in a row, and the place after them.
-fn two_numbers(kinds: &[u32], vals: &[u32], g: Origin, x: Cursor, m: u32, n: u32) -> Met
+fn two_numbers(
+    kinds: &[u32],
+    vals: &[u32],
+    g: Origin,
+    x: Cursor,
+    m: u32,
+    n: u32,
+) -> Option<(usize, usize)>
     requires sight { Sight kinds.now vals.now g }
     requires cut { Cut x }
     ensures { Numbers (view kinds.now vals.now g) x m n result }
 {
     let at = x.at;
     if !number_next(kinds, vals, g, at, x.end, m) {
-        return Met::Apart;
+        return None;
     }
     if !number_next(kinds, vals, g, at + 1, x.end, n) {
-        return Met::Apart;
+        return None;
     }
-    Met::Behind(at + 2, x.child)
+    Some((at + 2, x.child))
 }
 
 // Whether a row begins with what a rule has before its arguments, and the place after that.
@@ -94,22 +101,16 @@ fn same_front(
     x: Cursor,
     rule: Rule,
     fuel: usize,
-) -> Met
+) -> Option<(usize, usize)>
     requires sight { Sight kinds.now vals.now g }
     requires cut { Cut x }
     ensures { Fronted kinds.now vals.now (view kinds.now vals.now g) heads.now kids.now x rule fuel
         result }
 {
     let receiver = term_cursor(kinds, vals, g, wide(rule.receiver));
-    let a = same_rows(kinds, vals, heads, kids, g, x, receiver, fuel);
-    let Met::Behind(p, i) = a else {
-        return Met::Apart;
-    };
+    let (p, i) = same_rows(kinds, vals, heads, kids, g, x, receiver, fuel)?;
     let interface = cursor(kinds, vals, g, source(rule.interface));
-    let b = same_rows(kinds, vals, heads, kids, g, moved(x, p, i), interface, fuel);
-    let Met::Behind(q, j) = b else {
-        return Met::Apart;
-    };
+    let (q, j) = same_rows(kinds, vals, heads, kids, g, moved(x, p, i), interface, fuel)?;
     two_numbers(kinds, vals, g, moved(x, q, j), rule.member, rule.count)
 }
 
@@ -146,7 +147,7 @@ pub fn find_rule(
     g: Origin,
     x: Content,
     fuel: usize,
-) -> Found
+) -> Option<Content>
     requires sight { Sight kinds.now vals.now g }
     requires few { length rules.now < 4294967296 }
     ensures { (S : ℕ → Bool) (t : Term) (rs : List Pattern)
@@ -162,14 +163,14 @@ pub fn find_rule(
     'rules: loop {
         r = next_rule(rules, r, member);
         if count <= r {
-            return Found::Nothing;
+            return None;
         }
         let rule = rule_at(rules, r);
         let mut m = same_front(kinds, vals, heads, kids, g, s, rule, fuel);
         let mut a = wide(rule.arguments);
         let mut left = rule.count;
         loop {
-            let Met::Behind(p, i) = m else {
+            let Some((p, i)) = m else {
                 break;
             };
             if left == 0 {
@@ -186,5 +187,5 @@ pub fn find_rule(
         r += 1;
     }
     let rule = rule_at(rules, r);
-    Found::At(source(rule.value))
+    Some(source(rule.value))
 }

@@ -14,7 +14,6 @@ ghost use Rattle.terms.specs.Words.SatisfyContract.{Laid, Listed, Lists, Near, A
 ghost use Rattle.terms.specs.Words.SatisfyContract.{Satisfied, covers};
 
 use super::runs::{same_term, skip, wide, word};
-use super::{Lookup, MembersFound, Pace};
 
 // The place after the term at i.
 fn behind(kinds: &[u32], vals: &[u32], i: usize) -> usize
@@ -26,7 +25,7 @@ fn behind(kinds: &[u32], vals: &[u32], i: usize) -> usize
 }
 
 // The place of the term of a member, among `count` pairs of a member and a term from p on.
-fn member_at(kinds: &[u32], vals: &[u32], p: usize, count: usize, member: u32) -> Lookup
+fn member_at(kinds: &[u32], vals: &[u32], p: usize, count: usize, member: u32) -> Option<usize>
     requires { (p ≤ length kinds.now + 1) × (length vals.now ≡ length kinds.now) }
     ensures within { Inside (length kinds.now) result }
     ensures looked { (e : ℕ) (rest : Parts) (whole : Option Term)
@@ -37,15 +36,15 @@ fn member_at(kinds: &[u32], vals: &[u32], p: usize, count: usize, member: u32) -
     let mut left = count;
     while left > 0 {
         if kinds.len() <= i + 1 {
-            return Lookup::Nothing;
+            return None;
         }
         if vals[i] == member {
-            return Lookup::At(i + 1);
+            return Some(i + 1);
         }
         i = behind(kinds, vals, i + 1);
         left -= 1;
     }
-    Lookup::Nothing
+    None
 }
 
 // Whether the members listed at x have this one with the term at t: `get(member) == Some(ty)`.
@@ -59,13 +58,19 @@ fn gives(kinds: &[u32], vals: &[u32], x: usize, member: u32, t: usize) -> bool
     let count = wide(word(vals, x));
     let r = member_at(kinds, vals, x + 1, count, member);
     match r {
-        Lookup::At(i) => same_term(kinds, vals, i, t),
-        Lookup::Nothing => false,
+        Some(i) => same_term(kinds, vals, i, t),
+        None => false,
     }
 }
 
 // The first of `count` required members from p on that the members listed at x do not give.
-fn lacking(kinds: &[u32], vals: &[u32], x: usize, p: usize, count: usize) -> MembersFound
+fn lacking(
+    kinds: &[u32],
+    vals: &[u32],
+    x: usize,
+    p: usize,
+    count: usize,
+) -> Result<usize, (usize, usize)>
     requires { (x ≤ length kinds.now) × (p ≤ length kinds.now + 1) × (length vals.now ≡ length kinds.now) }
     ensures within { Short (length kinds.now) count result }
     ensures gave { (d : ℕ) (gs : List ℕ) (hs : List Term) (other : Parts) (f : ℕ → Term → Bool) (e : ℕ) (rest : Parts) (whole : Bool)
@@ -78,19 +83,25 @@ fn lacking(kinds: &[u32], vals: &[u32], x: usize, p: usize, count: usize) -> Mem
     let mut left = count;
     while left > 0 {
         if kinds.len() <= i + 1 {
-            return MembersFound::All(i);
+            return Ok(i);
         }
         if !gives(kinds, vals, x, vals[i], i + 1) {
-            return MembersFound::Lacking(i, left);
+            return Err((i, left));
         }
         i = behind(kinds, vals, i + 1);
         left -= 1;
     }
-    MembersFound::All(i)
+    Ok(i)
 }
 
 // The places after `count` terms from a on and as many from b on, where they are the same.
-fn same_terms(kinds: &[u32], vals: &[u32], a: usize, b: usize, count: usize) -> Pace
+fn same_terms(
+    kinds: &[u32],
+    vals: &[u32],
+    a: usize,
+    b: usize,
+    count: usize,
+) -> Option<(usize, usize)>
     requires { (a ≤ length kinds.now) × (b ≤ length kinds.now) × (length vals.now ≡ length kinds.now) }
     ensures within { Near (length kinds.now) result }
     ensures agreed { (d : ℕ) (rest : Parts) (e : ℕ) (more : Parts) (whole : Bool)
@@ -102,23 +113,23 @@ fn same_terms(kinds: &[u32], vals: &[u32], a: usize, b: usize, count: usize) -> 
     let mut left = count;
     while left > 0 {
         if kinds.len() <= i {
-            return Pace::Clash;
+            return None;
         }
         if kinds.len() <= j {
-            return Pace::Clash;
+            return None;
         }
         if !same_term(kinds, vals, i, j) {
-            return Pace::Clash;
+            return None;
         }
         i = behind(kinds, vals, i);
         j = behind(kinds, vals, j);
         left -= 1;
     }
-    Pace::Onward(i, j)
+    Some((i, j))
 }
 
 // The places of the members of the nominals whose rows stand at a and b, where their declarations and arguments are the same.
-fn heads(kinds: &[u32], vals: &[u32], a: usize, b: usize) -> Pace
+fn heads(kinds: &[u32], vals: &[u32], a: usize, b: usize) -> Option<(usize, usize)>
     requires { (a ≤ length kinds.now) × (b ≤ length kinds.now) × (length vals.now ≡ length kinds.now) }
     ensures within { Near (length kinds.now) result }
     ensures headed { (d : ℕ) (n : Nominal) (rest : Parts) (e : ℕ) (m : Nominal) (more : Parts)
@@ -127,24 +138,24 @@ fn heads(kinds: &[u32], vals: &[u32], a: usize, b: usize) -> Pace
         → Headed kinds.now vals.now d n rest e m more result }
 {
     if kinds.len() <= a + 1 {
-        return Pace::Clash;
+        return None;
     }
     if kinds.len() <= b + 1 {
-        return Pace::Clash;
+        return None;
     }
     if word(vals, a) != word(vals, b) {
-        return Pace::Clash;
+        return None;
     }
     let n = word(vals, a + 1);
     if n != word(vals, b + 1) {
-        return Pace::Clash;
+        return None;
     }
     let count = wide(n);
     same_terms(kinds, vals, a + 2, b + 2, count)
 }
 
 // Whether the nominal whose row stands at a satisfies the one at b: where it does, the place after that one.
-fn satisfies_row(kinds: &[u32], vals: &[u32], a: usize, b: usize) -> Lookup
+fn satisfies_row(kinds: &[u32], vals: &[u32], a: usize, b: usize) -> Option<usize>
     requires { (a ≤ length kinds.now) × (b ≤ length kinds.now) × (length vals.now ≡ length kinds.now) }
     ensures within { Ended (length kinds.now) result }
     ensures satisfied { (d : ℕ) (n : Nominal) (rest : Parts) (e : ℕ) (m : Nominal) (more : Parts)
@@ -152,18 +163,9 @@ fn satisfies_row(kinds: &[u32], vals: &[u32], a: usize, b: usize) -> Lookup
         → Laid kinds.now vals.now b e m more
         → Satisfied kinds.now vals.now e more (satisfies n m) result }
 {
-    let h = heads(kinds, vals, a, b);
-    match h {
-        Pace::Clash => Lookup::Nothing,
-        Pace::Onward(x, y) => {
-            let count = wide(word(vals, y));
-            let g = lacking(kinds, vals, x, y + 1, count);
-            match g {
-                MembersFound::All(z) => Lookup::At(z),
-                MembersFound::Lacking(j, l) => Lookup::Nothing,
-            }
-        }
-    }
+    let (x, y) = heads(kinds, vals, a, b)?;
+    let count = wide(word(vals, y));
+    lacking(kinds, vals, x, y + 1, count).ok()
 }
 
 // Whether the term at t is the projection of a member of the receiver, without arguments, whose interface the nominal at a satisfies.
@@ -195,13 +197,13 @@ fn is_reflexive(
     let i = behind(kinds, vals, t + 1);
     let r = satisfies_row(kinds, vals, a, i);
     match r {
-        Lookup::At(z) => {
+        Some(z) => {
             if word(vals, z) != member {
                 return false;
             }
             word(vals, z + 1) == 0
         }
-        Lookup::Nothing => false,
+        None => false,
     }
 }
 
@@ -229,10 +231,10 @@ fn covered(
     while left > 0 {
         let g = lacking(kinds, vals, x, i, left);
         match g {
-            MembersFound::All(z) => {
+            Ok(z) => {
                 return true;
             }
-            MembersFound::Lacking(j, l) => {
+            Err((j, l)) => {
                 if !is_reflexive(kinds, vals, a, receiver, vals[j], j + 1) {
                     return false;
                 }
@@ -255,11 +257,7 @@ pub fn satisfies(kinds: &[u32], vals: &[u32], a: usize, b: usize) -> bool
         → Fit (nominal done) qs
         → result ≡ satisfies (nominal_of ps) (nominal_of qs) }
 {
-    let r = satisfies_row(kinds, vals, a + 1, b + 1);
-    match r {
-        Lookup::At(z) => true,
-        Lookup::Nothing => false,
-    }
+    satisfies_row(kinds, vals, a + 1, b + 1).is_some()
 }
 
 // `satisfies_for` of the bare nominals at a and b, for the receiver that stands at its place.
@@ -277,8 +275,8 @@ pub fn satisfies_for(kinds: &[u32], vals: &[u32], a: usize, b: usize, receiver: 
 {
     let h = heads(kinds, vals, a + 1, b + 1);
     match h {
-        Pace::Clash => false,
-        Pace::Onward(x, y) => {
+        None => false,
+        Some((x, y)) => {
             let count = wide(word(vals, y));
             covered(kinds, vals, a + 1, x, y + 1, count, receiver)
         }

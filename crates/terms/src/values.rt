@@ -1,15 +1,16 @@
-// Codes and numbers, which are stored as tokens of kind 0, and variables, of kind 1. Each answers 0 where it has read, else the refusal.
+// Codes and numbers, which are stored as tokens of kind 0, and variables, of kind 1. The place that is lent goes on after what was read; on a refusal
+// it stays.
 ghost use Rattle.std.specs.Prelude.{◌≡◌, ◌+◌, ◌≤◌, ◌<◌, ◌^◌, length};
-ghost use Rattle.terms.specs.Number.{result_of};
+ghost use Rattle.terms.specs.Result.{said};
 ghost use Rattle.terms.specs.Words.Tokens.{area};
 ghost use Rattle.terms.specs.Reading.{code, rising, variable};
 ghost use Rattle.terms.specs.Words.RowPieces.{coded, numbered, fields};
 ghost use Rattle.terms.specs.Words.ReadContract.{Within, Room, ValueDone, TermDone, PartsDone};
-ghost use Rattle.terms.specs.Words.StepCodes.{place, step_of, value_of};
+ghost use Rattle.terms.specs.Words.Outcomes.{step_of, value_of};
 
 use super::numbers::read_number;
 use super::store::put_token;
-use super::{Fields, NumberRead};
+use super::{Fields, Place, Refusal};
 
 // The ceilings of the numbers that name definitions and of the others.
 pub const DEFINITION: u64 = 4294967295;
@@ -17,38 +18,33 @@ pub const DEFINITION: u64 = 4294967295;
 pub const ORDINARY: u64 = 4294967295;
 
 // A code byte below `codes`.
-fn code_at(s: &[u8], at: usize, codes: u32) -> NumberRead
+fn code_at(s: &[u8], at: usize, codes: u32) -> Result<(u64, usize), Refusal>
     requires { at ≤ length s.now }
-    ensures found { result_of result ≡ code s.now codes at }
+    ensures found { said result ≡ code s.now codes at }
     ensures within { Within s.now at 255 result }
 {
     if s.len() <= at {
-        return NumberRead::Refused(1);
+        return Err(Refusal::Length);
     }
-    let b = s[at] as u32;
-    if b < codes {
-        NumberRead::Value(b as u64, at + 1)
+    let b = s[at];
+    if u32::from(b) < codes {
+        Ok((u64::from(b), at + 1))
     } else {
-        NumberRead::Refused(2)
+        Err(Refusal::Code)
     }
 }
 
-// A number of `least` to `most`; refusal 5 where it is below `least`.
-fn number_at(s: &[u8], at: usize, most: u64, least: u64) -> NumberRead
+// A number of `least` to `most`.
+fn number_at(s: &[u8], at: usize, most: u64, least: u64) -> Result<(u64, usize), Refusal>
     requires { at ≤ length s.now }
-    ensures found { result_of result ≡ rising s.now most least at }
+    ensures found { said result ≡ rising s.now most least at }
     ensures within { Within s.now at most result }
 {
-    let r = read_number(s, at, most);
-    match r {
-        NumberRead::Value(v, next) => {
-            if v < least {
-                return NumberRead::Refused(5);
-            }
-            NumberRead::Value(v, next)
-        }
-        NumberRead::Refused(e) => NumberRead::Refused(e),
+    let (v, next) = read_number(s, at, most)?;
+    if v < least {
+        return Err(Refusal::Order);
     }
+    Ok((v, next))
 }
 
 // Reads a number of `least` to `most` and stores it.
@@ -56,32 +52,27 @@ pub fn read_value(
     s: &[u8],
     kinds: &mut [u32],
     vals: &mut [u32],
-    at: &mut usize,
-    top: &mut usize,
-    value: &mut u64,
-    nodes: usize,
-    limit: usize,
+    place: &mut Place,
     most: u64,
     least: u64,
-) -> u8
-    requires room { Room s.now (place at.old top.old nodes limit) }
+) -> Result<u64, Refusal>
+    requires room { Room s.now place.old }
     requires narrow { most < 2 ^ 32 }
-    ensures { ValueDone most s.now (rising s.now most least at.old) (place at.old top.old nodes limit)
-        (area kinds.old vals.old) (area kinds.new vals.new)
-        (value_of result value.new at.new top.new nodes limit) }
+    ensures { ValueDone most s.now (rising s.now most least place.old.at) place.old
+        (area kinds.old vals.old) (area kinds.new vals.new) (value_of result place.new) }
 {
-    let r = number_at(s, *at, most, least);
-    match r {
-        NumberRead::Value(v, next) => {
-            let t = *top;
-            *value = v;
-            *at = next;
-            *top = t + 1;
-            put_token(kinds, vals, nodes <= limit, t, 0, v as u32);
-            0
-        }
-        NumberRead::Refused(e) => e,
-    }
+    let (v, next) = number_at(s, place.at, most, least)?;
+    put_token(
+        kinds,
+        vals,
+        place.nodes <= place.limit,
+        place.top,
+        0,
+        v as u32,
+    );
+    place.at = next;
+    place.top += 1;
+    Ok(v)
 }
 
 // Reads a code below `codes`, or nothing where that is 0.
@@ -89,30 +80,28 @@ fn read_code(
     s: &[u8],
     kinds: &mut [u32],
     vals: &mut [u32],
-    at: &mut usize,
-    top: &mut usize,
-    nodes: usize,
-    limit: usize,
+    place: &mut Place,
     codes: u32,
-) -> u8
-    requires { Room s.now (place at.old top.old nodes limit) }
-    ensures { PartsDone s.now (coded s.now codes at.old) (place at.old top.old nodes limit)
-        (area kinds.old vals.old) (area kinds.new vals.new) (step_of result at.new top.new nodes limit) }
+) -> Result<(), Refusal>
+    requires { Room s.now place.old }
+    ensures { PartsDone s.now (coded s.now codes place.old.at) place.old
+        (area kinds.old vals.old) (area kinds.new vals.new) (step_of result place.new) }
 {
     if codes == 0 {
-        return 0;
+        return Ok(());
     }
-    let r = code_at(s, *at, codes);
-    match r {
-        NumberRead::Value(v, next) => {
-            let t = *top;
-            *at = next;
-            *top = t + 1;
-            put_token(kinds, vals, nodes <= limit, t, 0, v as u32);
-            0
-        }
-        NumberRead::Refused(e) => e,
-    }
+    let (v, next) = code_at(s, place.at, codes)?;
+    put_token(
+        kinds,
+        vals,
+        place.nodes <= place.limit,
+        place.top,
+        0,
+        v as u32,
+    );
+    place.at = next;
+    place.top += 1;
+    Ok(())
 }
 
 // Reads a number of at most `most` where one is wanted.
@@ -120,23 +109,19 @@ pub fn read_id(
     s: &[u8],
     kinds: &mut [u32],
     vals: &mut [u32],
-    at: &mut usize,
-    top: &mut usize,
-    nodes: usize,
-    limit: usize,
+    place: &mut Place,
     most: u64,
     wanted: bool,
-) -> u8
-    requires room { Room s.now (place at.old top.old nodes limit) }
+) -> Result<(), Refusal>
+    requires room { Room s.now place.old }
     requires narrow { most < 2 ^ 32 }
-    ensures { PartsDone s.now (numbered s.now most wanted at.old) (place at.old top.old nodes limit)
-        (area kinds.old vals.old) (area kinds.new vals.new) (step_of result at.new top.new nodes limit) }
+    ensures { PartsDone s.now (numbered s.now most wanted place.old.at) place.old
+        (area kinds.old vals.old) (area kinds.new vals.new) (step_of result place.new) }
 {
     if wanted {
-        let mut v: u64 = 0;
-        return read_value(s, kinds, vals, at, top, &mut v, nodes, limit, most, 0);
+        read_value(s, kinds, vals, place, most, 0)?;
     }
-    0
+    Ok(())
 }
 
 // Reads what stands before the terms of a plain row.
@@ -144,25 +129,16 @@ pub fn read_fields(
     s: &[u8],
     kinds: &mut [u32],
     vals: &mut [u32],
-    at: &mut usize,
-    top: &mut usize,
-    nodes: usize,
-    limit: usize,
+    place: &mut Place,
     f: Fields,
-) -> u8
-    requires { Room s.now (place at.old top.old nodes limit) }
-    ensures { PartsDone s.now (fields s.now f at.old) (place at.old top.old nodes limit)
-        (area kinds.old vals.old) (area kinds.new vals.new) (step_of result at.new top.new nodes limit) }
+) -> Result<(), Refusal>
+    requires { Room s.now place.old }
+    ensures { PartsDone s.now (fields s.now f place.old.at) place.old
+        (area kinds.old vals.old) (area kinds.new vals.new) (step_of result place.new) }
 {
-    let a = read_code(s, kinds, vals, at, top, nodes, limit, f.codes);
-    if a != 0 {
-        return a;
-    }
-    let b = read_id(s, kinds, vals, at, top, nodes, limit, DEFINITION, f.first);
-    if b != 0 {
-        return b;
-    }
-    read_id(s, kinds, vals, at, top, nodes, limit, ORDINARY, f.second)
+    read_code(s, kinds, vals, place, f.codes)?;
+    read_id(s, kinds, vals, place, DEFINITION, f.first)?;
+    read_id(s, kinds, vals, place, ORDINARY, f.second)
 }
 
 // Reads the id of a variable, whose tag is at the position, and stores it as a token of kind 1.
@@ -170,32 +146,28 @@ pub fn read_variable(
     s: &[u8],
     kinds: &mut [u32],
     vals: &mut [u32],
-    at: &mut usize,
-    top: &mut usize,
-    nodes: &mut usize,
-    limit: usize,
+    place: &mut Place,
     issued: u64,
-) -> u8
-    requires room { Room s.now (place at.old top.old nodes.old limit) }
-    requires tagged { at.old < length s.now }
-    ensures { TermDone s.now (variable s.now issued (at.old + 1))
-        (place at.old top.old nodes.old limit) (area kinds.old vals.old)
-        (area kinds.new vals.new) (step_of result at.new top.new nodes.new limit) }
+) -> Result<(), Refusal>
+    requires room { Room s.now place.old }
+    requires tagged { place.old.at < length s.now }
+    ensures { TermDone s.now (variable s.now issued (place.old.at + 1)) place.old
+        (area kinds.old vals.old) (area kinds.new vals.new) (step_of result place.new) }
 {
-    let r = number_at(s, *at + 1, ORDINARY, 0);
-    match r {
-        NumberRead::Value(v, next) => {
-            if issued <= v {
-                return 6;
-            }
-            let t = *top;
-            let count = *nodes + 1;
-            *at = next;
-            *top = t + 1;
-            *nodes = count;
-            put_token(kinds, vals, count <= limit, t, 1, v as u32);
-            0
-        }
-        NumberRead::Refused(e) => e,
+    let (v, next) = number_at(s, place.at + 1, ORDINARY, 0)?;
+    if issued <= v {
+        return Err(Refusal::Variable);
     }
+    place.nodes += 1;
+    put_token(
+        kinds,
+        vals,
+        place.nodes <= place.limit,
+        place.top,
+        1,
+        v as u32,
+    );
+    place.at = next;
+    place.top += 1;
+    Ok(())
 }

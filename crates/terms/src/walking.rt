@@ -17,7 +17,7 @@ use super::runs::{span_of, wide, word};
 use super::slots::{least, slot};
 use super::virtual_tokens::step;
 use super::write::run_len;
-use super::{Content, Found, Origin, Token, Walked};
+use super::{Content, Origin, Token, Walked};
 
 // What a projection with the counts n and m is replaced by; its children have at most `fuel` levels.
 fn replace(
@@ -31,7 +31,7 @@ fn replace(
     n: usize,
     m: usize,
     fuel: usize,
-) -> Found
+) -> Option<Content>
     requires sight { Sight kinds.now vals.now g }
     requires tagged { TagAt (view kinds.now vals.now g) x.head 18 }
     requires counts { Counts (view kinds.now vals.now g) x.head n m }
@@ -44,8 +44,8 @@ fn replace(
         → Fetched (view kinds.now vals.now g) heads.now kids.now S (replacement (look_by look) t) result }
 {
     let own = own_member(kinds, vals, heads, kids, g, x, n, m);
-    if let Found::At(y) = own {
-        return Found::At(y);
+    if own.is_some() {
+        return own;
     }
     if g.size == 0 {
         return find_rule(kinds, vals, rules, heads, kids, g, x, fuel);
@@ -252,7 +252,7 @@ pub fn walk(
         o.members,
         levels,
     );
-    let Found::At(v) = f else {
+    let Some(v) = f else {
         return result(z, at, left, size);
     };
     if same_trees(kinds, vals, heads, kids, g, z, v, levels + 1) {

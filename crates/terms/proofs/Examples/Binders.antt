@@ -2,7 +2,6 @@
 use mathlib.Core.Path.{◌≡◌, refl}
 use mathlib.Core.List.{List, [], ◌∷◌, ◌++◌}
 use Prim.Native.Nat.{ℕ}
-use Rattle.terms.specs.declared.Lookup.TheVariants.{At, Nothing}
 use Rattle.terms.specs.Number.{groups, shortest, digits}
 use Rattle.terms.specs.Parser.{got, refused}
 use Rattle.terms.specs.Words.Tokens.{Item, item, spell}
@@ -16,6 +15,7 @@ use Rattle.terms.specs.Parameters.{parameter, parameters, last_from, last_index}
 use Rattle.terms.specs.Rows.{entries, entry_row, receiver_row}
 use Rattle.terms.specs.Words.FindContract.{clip, last_at, nth_at}
 use Rattle.terms.specs.Words.RewriteContract.{self, generic, in_context_of, chosen, piece, pace, pieces, written, for_instance, for_context, for_family}
+use Rattle.std.specs.Prelude.{Some, None}
 
 abbrev i32 : Term
 i32 = node 4 (num 2 end)
@@ -44,8 +44,8 @@ unfolding parameters parameter groups
 parameters_read = (refl, refl, refl)
 
 -- the last one counts
-last_counts : (last_index (record { owner = 1; position = 0 } ∷ record { owner = 1; position = 1 } ∷ record { owner = 1; position = 0 } ∷ []) (record { owner = 1; position = 0 }) ≡ At 2)
-    × (last_index (record { owner = 1; position = 0 } ∷ []) (record { owner = 1; position = 1 }) ≡ Nothing)
+last_counts : (last_index (record { owner = 1; position = 0 } ∷ record { owner = 1; position = 1 } ∷ record { owner = 1; position = 0 } ∷ []) (record { owner = 1; position = 0 }) ≡ Some 2)
+    × (last_index (record { owner = 1; position = 0 } ∷ []) (record { owner = 1; position = 1 }) ≡ None)
 unfolding last_from same_parameter
 last_counts = (refl, refl)
 

@@ -5,7 +5,6 @@
 --   ReadSequenceLaws  what a run of reads leaves, put together from what each leaves
 --   RowPieceLaws      a row is its pieces one after another
 --   ValueLaws         what the readers of codes and numbers answer, on plain values
---   StepCodeLaws      the codes of the functions that are lent the numbers of a place
 --   ReadLaws          what each reading function answers, from what its parts answer, on plain values
 --   KindTableLaws     rules of the table of kinds, each one computed test
 --   ShapeLaws         rows that fit a shape
@@ -18,7 +17,6 @@
 --   ListLaws          lists read record by record and kept as rows
 --   ListReaderLaws    the term reader goes from record to record
 --   KeepSequenceLaws  what is kept stays
---   ReaderLaws        what is wanted, by the flag
 --   ParameterLaws     parameters in the bytes
 pub mod KindLaws
 pub mod FieldLaws
@@ -26,7 +24,6 @@ pub mod StoreLaws
 pub mod ReadSequenceLaws
 pub mod RowPieceLaws
 pub mod ValueLaws
-pub mod StepCodeLaws
 pub mod ReadLaws
 pub mod KindTableLaws
 pub mod ShapeLaws
@@ -38,5 +35,4 @@ pub mod KeepTermLaws
 pub mod ListLaws
 pub mod ListReaderLaws
 pub mod KeepSequenceLaws
-pub mod ReaderLaws
 pub mod ParameterLaws

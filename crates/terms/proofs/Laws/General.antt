@@ -2,4 +2,5 @@
 --   Bools  flags
 --   Again  a `&κ mut [T]` that is lent again for a lifetime κ' of a call, and comes back
 pub mod Bools
+pub mod Options
 pub mod Again

@@ -1,17 +1,12 @@
 -- Trees in words. A content is two words, a head h and a child word c. The node copied is the one whose first token stands at h of the area. c says
 -- where its children are: 0 as after that token, k + 1 the contents at records k, k + 1, .., in byte order. Record i of the arena is the content hs at i,
 -- cs at i. Records are written once a visit and never freed.
-use Rattle.std.specs.Prelude.{◌≡◌, Bool, true, false, ◌&&◌, ◌||◌, List, ℕ, zero, suc, ◌+◌, ◌≤◌, ◌<◌, ltb, leb, length, get_or}
-use Rattle.std.proofs.Math.Option.{Option, none, some}
+use Rattle.std.specs.Prelude.{◌≡◌, Bool, true, false, ◌&&◌, ◌||◌, List, ℕ, zero, suc, ◌+◌, ◌≤◌, ◌<◌, ltb, leb, length, get_or, Option, Some, None}
+use Rattle.std.proofs.Math.Option as math
+use Rattle.std.proofs.Math.Option.{none, some}
 use Rattle.terms.specs.declared.Content.{Content}
 use Rattle.terms.specs.declared.Cursor.{Cursor}
-use Rattle.terms.specs.declared.Met.{Met}
-use Rattle.terms.specs.declared.Met.TheVariants.{Behind, Apart}
-use Rattle.terms.specs.declared.Found.{Found}
-use Rattle.terms.specs.declared.Found.TheVariants.{At, Nothing}
 use Rattle.terms.specs.declared.Origin.{Origin}
-use Rattle.terms.specs.declared.Key.{Key}
-use Rattle.terms.specs.declared.Key.TheVariants.{KeyAt, NoKey}
 use Rattle.terms.specs.Number.{shortest}
 use Rattle.terms.specs.Words.Tokens.{Area}
 use Rattle.terms.specs.Term.{Term, Parts, var, node, end, num, sub, ◌+++◌, depth, depths}
@@ -78,17 +73,17 @@ pub record Counts (a : Area) (h n m : ℕ) : Type 0 where
   pub members : ValueAt a h 2 m
 
 -- the first number from the third on, counted from there, that is x
-abbrev pub Keyed : (x : ℕ) → List ℕ → Key → Type 0
-Keyed x l (KeyAt i) = (3 + i < length l) × (get_or l (3 + i) 0 ≡ x) × ((j : ℕ) → j < i → get_or l (3 + j) 0 ≡ x → ⊥)
-Keyed x l NoKey = (j : ℕ) → 3 + j < length l → get_or l (3 + j) 0 ≡ x → ⊥
+abbrev pub Keyed : (x : ℕ) → List ℕ → Option ℕ → Type 0
+Keyed x l (Some i) = (3 + i < length l) × (get_or l (3 + i) 0 ≡ x) × ((j : ℕ) → j < i → get_or l (3 + j) 0 ≡ x → ⊥)
+Keyed x l None = (j : ℕ) → 3 + j < length l → get_or l (3 + j) 0 ≡ x → ⊥
 
-pub record KeyOf (a : Area) (h x : ℕ) (r : Key) : Type 0 where
+pub record KeyOf (a : Area) (h x : ℕ) (r : Option ℕ) : Type 0 where
   pub is : (hs cs : List ℕ) (S : ℕ → Bool) (c : ℕ) (t : Term) → Tree a hs cs S h c t → Keyed x (nums (row t)) r
 
 -- a content found, or none, as o says
-abbrev pub Fetched : (a : Area) (hs cs : List ℕ) (S : ℕ → Bool) → Option Term → Found → Type 0
-Fetched a hs cs S o (At x) = (u : Term) × (o ≡ some u) × Tree a hs cs S x.head x.kids u
-Fetched a hs cs S o Nothing = o ≡ none
+abbrev pub Fetched : (a : Area) (hs cs : List ℕ) (S : ℕ → Bool) → math.Option Term → Option Content → Type 0
+Fetched a hs cs S o (Some x) = (u : Term) × (o ≡ some u) × Tree a hs cs S x.head x.kids u
+Fetched a hs cs S o None = o ≡ none
 
 -- the tag of the term at h
 pub record TagAt (a : Area) (h r : ℕ) : Type 0 where
@@ -163,12 +158,12 @@ pub record Alike (a : Area) (hs cs : List ℕ) (x y : Content) (fuel : ℕ) (r :
   pub no : r ≡ false → (S T : ℕ → Bool) (t u : Term) → Tree a hs cs S x.head x.kids t → Tree a hs cs T y.head y.kids u → depth t ≤ fuel → t ≡ u → ⊥
 
 -- whether the parts at one cursor, of at most `fuel` levels, begin with those at another, and the place after them
-abbrev pub Begins : (a : Area) (hs cs : List ℕ) (x y : Cursor) (fuel : ℕ) → Met → Type 0
-Begins a hs cs x y fuel (Behind at n) =
+abbrev pub Begins : (a : Area) (hs cs : List ℕ) (x y : Cursor) (fuel : ℕ) → Option (ℕ × ℕ) → Type 0
+Begins a hs cs x y fuel (Some (at, n)) =
     (n ≤ at)
     × ((S T : ℕ → Bool) (ps qs : Parts) → From a hs cs S x ps → From a hs cs T y qs → depths ps ≤ fuel
     → (rest : Parts) × (ps ≡ qs +++ rest) × Parted a hs cs S x.kids x.end at n rest)
-Begins a hs cs x y fuel Apart =
+Begins a hs cs x y fuel None =
     (S T : ℕ → Bool) (ps qs : Parts) → From a hs cs S x ps → From a hs cs T y qs → depths ps ≤ fuel → (rest : Parts) → ps ≡ qs +++ rest → ⊥
 
 -- a cursor at the start of a content's row

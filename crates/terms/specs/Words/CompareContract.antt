@@ -1,7 +1,5 @@
 -- What the functions that compare two rows hand on.
-use Rattle.std.specs.Prelude.{◌≡◌, Bool, true, List, ℕ, ◌≤◌, ◌<◌}
-use Rattle.terms.specs.declared.Pace.{Pace}
-use Rattle.terms.specs.declared.Pace.TheVariants.{Clash, Onward}
+use Rattle.std.specs.Prelude.{◌≡◌, Bool, true, List, ℕ, ◌≤◌, ◌<◌, Option, Some, None}
 use Rattle.terms.specs.Term.{Parts}
 use Rattle.terms.specs.Words.Held.{HeldParts}
 use Rattle.terms.specs.Shape.{Shape}
@@ -20,16 +18,16 @@ pub record Rows (ks vs : List ℕ) (i ae j be : ℕ) (whole : Bool) : Type 0 whe
   pub same : whole ≡ rows_conflict left right
 
 -- a step goes forward within both rows
-abbrev pub Forward : (i ae j be : ℕ) → Pace → Type 0
-Forward i ae j be Clash = Unit {0}
-Forward i ae j be (Onward k l) = (i < k) × (k ≤ ae) × (j < l) × (l ≤ be)
+abbrev pub Forward : (i ae j be : ℕ) → Option (ℕ × ℕ) → Type 0
+Forward i ae j be None = Unit {0}
+Forward i ae j be (Some (k, l)) = (i < k) × (k ≤ ae) × (j < l) × (l ≤ be)
 
 -- and finds that the rows conflict, or leaves rows that conflict as these do
-abbrev pub Stepped : (ks vs : List ℕ) (ae be : ℕ) (whole : Bool) → Pace → Type 0
-Stepped ks vs ae be whole Clash = whole ≡ true
-Stepped ks vs ae be whole (Onward k l) = Rows ks vs k ae l be whole
+abbrev pub Stepped : (ks vs : List ℕ) (ae be : ℕ) (whole : Bool) → Option (ℕ × ℕ) → Type 0
+Stepped ks vs ae be whole None = whole ≡ true
+Stepped ks vs ae be whole (Some (k, l)) = Rows ks vs k ae l be whole
 
 -- both rows go on after the terms that came next
-abbrev pub Passed : (ks vs : List ℕ) (ae : ℕ) (ps : Parts) (be : ℕ) (qs : Parts) → Pace → Type 0
-Passed ks vs ae ps be qs Clash = ⊥
-Passed ks vs ae ps be qs (Onward k l) = HeldParts ks vs k ae ps × HeldParts ks vs l be qs
+abbrev pub Passed : (ks vs : List ℕ) (ae : ℕ) (ps : Parts) (be : ℕ) (qs : Parts) → Option (ℕ × ℕ) → Type 0
+Passed ks vs ae ps be qs None = ⊥
+Passed ks vs ae ps be qs (Some (k, l)) = HeldParts ks vs k ae ps × HeldParts ks vs l be qs

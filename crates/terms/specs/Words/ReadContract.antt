@@ -1,18 +1,21 @@
 -- What the reading functions answer and leave. In each, `d` is the areas at entry and `e` at exit, `p` the place at entry.
-use Rattle.std.specs.Prelude.{◌≡◌, ℕ, ◌+◌, ◌-◌, ◌^◌, ◌≤◌, ◌<◌, List, [], ◌∷◌, leb, length}
-use Rattle.terms.specs.declared.NumberRead.{NumberRead}
-use Rattle.terms.specs.declared.NumberRead.TheVariants.{Value, Refused}
+use Rattle.std.specs.Prelude.{◌≡◌, ℕ, ◌+◌, ◌-◌, ◌^◌, ◌≤◌, ◌<◌, List, [], ◌∷◌, leb, length, Ok, Err}
+use Rattle.std.specs.declared.result.Result as rust
 use Rattle.terms.specs.declared.Place.{Place}
-use Rattle.terms.specs.declared.Step.{Step}
-use Rattle.terms.specs.declared.Step.TheVariants.{Next, Stopped}
+use Rattle.terms.specs.declared.Refusal.{Refusal}
 use Rattle.terms.specs.Parser.{Result, Parser, got, refused, bind, pick}
 use Rattle.terms.specs.Words.Tokens.{Item, item, Area, puts, put_if, blank}
 use Rattle.terms.specs.Term.{Term, Parts, var, node, end, num, sub, ◌+++◌, items, part_items, size, sizes}
 
 -- a field's value is at most `most`, and the reader stays within the bytes
-abbrev pub Within : List ℕ → ℕ → ℕ → NumberRead → Type 0
-Within s at most (Value v n) = (v ≤ most) × (at < n) × (n ≤ length s)
-Within s at most (Refused c) = Unit {0}
+abbrev pub Within : List ℕ → ℕ → ℕ → rust.Result (ℕ × ℕ) Refusal → Type 0
+Within s at most (Ok (v, n)) = (v ≤ most) × (at < n) × (n ≤ length s)
+Within s at most (Err e) = Unit {0}
+
+-- where reading goes on: at a place, or nowhere, with the number of the refusal
+pub data Step : Type 0 where
+  Next : Place → Step
+  Stopped : ℕ → Step
 
 -- the position is within the bytes, and for each byte left there is a number of 32 bits for a token and for a node
 pub record Room (s : List ℕ) (p : Place) : Type 0 where

@@ -1,9 +1,8 @@
 -- Writing a term with its binders replaced: on words, whatever they are, and what that says of terms.
-use Rattle.std.specs.Prelude.{◌≡◌, Bool, true, false, List, [], ◌∷◌, ◌++◌, ℕ, zero, suc, ◌+◌, ◌-◌, ◌^◌, ◌≤◌, ◌<◌, eqb, ltb, length, get_or}
-use Rattle.std.proofs.Math.Option.{Option, none, some}
+use Rattle.std.specs.Prelude.{◌≡◌, Bool, true, false, List, [], ◌∷◌, ◌++◌, ℕ, zero, suc, ◌+◌, ◌-◌, ◌^◌, ◌≤◌, ◌<◌, eqb, ltb, length, get_or, Option, Some, None}
+use Rattle.std.proofs.Math.Option as math
+use Rattle.std.proofs.Math.Option.{none, some}
 use Rattle.std.proofs.lemmas.List.Edits.{sets}
-use Rattle.terms.specs.declared.Lookup.{Lookup}
-use Rattle.terms.specs.declared.Lookup.TheVariants.{At, Nothing}
 use Rattle.terms.specs.declared.Binders.{Binders}
 use Rattle.terms.specs.declared.Choice.{Choice}
 use Rattle.terms.specs.declared.Choice.TheVariants.{Keep, By, Unknown}
@@ -21,13 +20,13 @@ use Rattle.terms.specs.Words.FindContract.{stride, entry_at, receiver_at, argume
 
 -- ---- what takes the place of the term at p
 
-abbrev pub by : Lookup → Choice → Choice
-by (At q) c = By q
-by Nothing c = c
+abbrev pub by : Option ℕ → Choice → Choice
+by (Some q) c = By q
+by None c = c
 
 -- the index of a parameter
-abbrev pub index : List ℕ → Binders → ℕ → ℕ → Lookup
-index s b o q = index_in (parameters s b.count b.parameters) (record { owner = o; position = q })
+abbrev pub index : List ℕ → Binders → Parameter → Option ℕ
+index s b p = index_in (parameters s b.count b.parameters) p
 
 -- a SelfType: by a receiver, but in `argument_context` by nothing
 unfoldable pub self : List ℕ → List ℕ → Binders → ℕ → Choice
@@ -35,17 +34,21 @@ self ks vs b o = pick b.context Keep (by (receiver_at ks vs b.receivers b.finish
 
 module _ (ks vs s : List ℕ) (b : Binders) where
   -- a Generic in `instantiate` and in `apply`: an argument for a parameter comes before an entry
-  unfoldable pub generic : ℕ → ℕ → Choice
-  generic o q = by (argument_for ks vs b.arguments (index s b o q)) (by (entry_at ks vs b.entries b.receivers o q) Keep)
+  unfoldable pub generic : Parameter → Choice
+  generic p = by (argument_for ks vs b.arguments (index s b p)) (by (entry_at ks vs b.entries b.receivers p.owner p.position) Keep)
 
   -- a Generic in `argument_context`: an entry, else Unknown for a parameter
-  unfoldable pub in_context_of : ℕ → ℕ → Choice
-  in_context_of o q = by (entry_at ks vs b.entries b.receivers o q) (pick (is_found (index s b o q)) Unknown Keep)
+  unfoldable pub in_context_of : Parameter → Choice
+  in_context_of p = by (entry_at ks vs b.entries b.receivers p.owner p.position) (pick (is_found (index s b p)) Unknown Keep)
+
+  -- the parameter that a Generic names
+  abbrev pub named_at : ℕ → Parameter
+  named_at p = record { owner = get_or vs (p + 1) 0; position = get_or vs (p + 2) 0 }
 
   -- the head of a Generic has the kind 19, that of a SelfType 21
   unfoldable pub chosen : ℕ → Choice
   chosen p =
-      pick (eqb (get_or ks p 0) 19) (pick b.context (in_context_of (get_or vs (p + 1) 0) (get_or vs (p + 2) 0)) (generic (get_or vs (p + 1) 0) (get_or vs (p + 2) 0)))
+      pick (eqb (get_or ks p 0) 19) (pick b.context (in_context_of (named_at p)) (generic (named_at p)))
       (pick (eqb (get_or ks p 0) 21) (self ks vs b (get_or vs (p + 1) 0)) Keep)
 
 -- ---- what is written
@@ -92,7 +95,7 @@ Inside ks (By q) = q < length ks
 Inside ks Unknown = Unit {0}
 
 -- what was chosen is what a step of `substitute_once` gives
-abbrev pub Agrees : List ℕ → List ℕ → Choice → Option Term → Type 0
+abbrev pub Agrees : List ℕ → List ℕ → Choice → math.Option Term → Type 0
 Agrees ks vs Keep o = o ≡ none
 Agrees ks vs (By q) o = (u : Term) × (o ≡ some u) × Held ks vs q u
 Agrees ks vs Unknown o = o ≡ some unknown

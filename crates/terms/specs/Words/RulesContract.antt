@@ -1,9 +1,7 @@
 -- What the search of a rule answers: places in rows.
-use Rattle.std.specs.Prelude.{◌≡◌, Bool, List, [], ◌∷◌, ℕ, ◌+◌, ◌≤◌, length}
+use Rattle.std.specs.Prelude.{◌≡◌, Bool, List, [], ◌∷◌, ℕ, ◌+◌, ◌≤◌, length, Option, Some, None}
 use Rattle.terms.specs.declared.Cursor.{Cursor}
 use Rattle.terms.specs.declared.Rule.{Rule}
-use Rattle.terms.specs.declared.Met.{Met}
-use Rattle.terms.specs.declared.Met.TheVariants.{Behind, Apart}
 use Rattle.terms.specs.Words.Tokens.{Area}
 use Rattle.terms.specs.Term.{Term, Parts, end, num, sub, items, depths}
 use Rattle.terms.specs.Words.Held.{Held}
@@ -18,20 +16,20 @@ pub record TermStarts (a : Area) (p : ℕ) (r : Cursor) : Type 0 where
   pub ends : (t : Term) → Held a.kinds a.vals p t → r.end ≡ p + length (items t)
 
 -- whether the numbers m and n come next, and the place after them
-abbrev pub Numbers : (a : Area) (x : Cursor) (m n : ℕ) → Met → Type 0
-Numbers a x m n (Behind at c) =
+abbrev pub Numbers : (a : Area) (x : Cursor) (m n : ℕ) → Option (ℕ × ℕ) → Type 0
+Numbers a x m n (Some (at, c)) =
     (c ≤ at)
     × ((hs cs : List ℕ) (S : ℕ → Bool) (ps : Parts) → From a hs cs S x ps
     → (rest : Parts) × (ps ≡ num m (num n rest)) × Parted a hs cs S x.kids x.end at c rest)
-Numbers a x m n Apart = (hs cs : List ℕ) (S : ℕ → Bool) (ps : Parts) → From a hs cs S x ps → (rest : Parts) → ps ≡ num m (num n rest) → ⊥
+Numbers a x m n None = (hs cs : List ℕ) (S : ℕ → Bool) (ps : Parts) → From a hs cs S x ps → (rest : Parts) → ps ≡ num m (num n rest) → ⊥
 
 -- whether a row begins with what a rule has before its arguments, and the place after that
-abbrev pub Fronted : (ks vs : List ℕ) (a : Area) (hs cs : List ℕ) (x : Cursor) (w : Rule) (fuel : ℕ) → Met → Type 0
-Fronted ks vs a hs cs x w fuel (Behind at c) =
+abbrev pub Fronted : (ks vs : List ℕ) (a : Area) (hs cs : List ℕ) (x : Cursor) (w : Rule) (fuel : ℕ) → Option (ℕ × ℕ) → Type 0
+Fronted ks vs a hs cs x w fuel (Some (at, c)) =
     (c ≤ at)
     × ((S : ℕ → Bool) (ps : Parts) (p : Pattern) → From a hs cs S x ps → depths ps ≤ fuel → HeldRule ks vs w p
     → (rest : Parts) × (ps ≡ front p rest) × Parted a hs cs S x.kids x.end at c rest)
-Fronted ks vs a hs cs x w fuel Apart =
+Fronted ks vs a hs cs x w fuel None =
     (S : ℕ → Bool) (ps : Parts) (p : Pattern) → From a hs cs S x ps → depths ps ≤ fuel → HeldRule ks vs w p → (rest : Parts) → ps ≡ front p rest → ⊥
 
 -- the last number but one, where a and b come before these

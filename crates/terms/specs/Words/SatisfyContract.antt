@@ -1,12 +1,8 @@
 -- What the functions that test a bound hand on.
-use Rattle.std.specs.Prelude.{◌≡◌, Bool, true, false, ◌&&◌, ◌||◌, List, ◌∷◌, ℕ, ◌+◌, ◌≤◌, ◌<◌, eqb, length, get_or}
-use Rattle.std.proofs.Math.Option.{Option, none, some}
-use Rattle.terms.specs.declared.Lookup.{Lookup}
-use Rattle.terms.specs.declared.Lookup.TheVariants.{At, Nothing}
-use Rattle.terms.specs.declared.Pace.{Pace}
-use Rattle.terms.specs.declared.Pace.TheVariants.{Clash, Onward}
-use Rattle.terms.specs.declared.MembersFound.{MembersFound}
-use Rattle.terms.specs.declared.MembersFound.TheVariants.{All, Lacking}
+use Rattle.std.specs.Prelude.{◌≡◌, Bool, true, false, ◌&&◌, ◌||◌, List, ◌∷◌, ℕ, ◌+◌, ◌≤◌, ◌<◌, eqb, length, get_or, Option, Some, None, Ok, Err}
+use Rattle.std.proofs.Math.Option as math
+use Rattle.std.proofs.Math.Option.{none, some}
+use Rattle.std.specs.declared.result.Result as rust
 use Rattle.terms.specs.Term.{Term, Parts, num, items, Subs}
 use Rattle.terms.specs.Words.Held.{Held, HeldParts}
 use Rattle.terms.specs.Formed.{Formed}
@@ -48,23 +44,23 @@ pub record Lists (ks vs : List ℕ) (n i d : ℕ) (rest : Parts) (j e : ℕ) (mo
   pub same : whole ≡ same_terms left right
 
 -- places within the areas, or at their end
-abbrev pub Near : ℕ → Pace → Type 0
-Near n Clash = Unit {0}
-Near n (Onward x y) = (x ≤ n) × (y ≤ n)
+abbrev pub Near : ℕ → Option (ℕ × ℕ) → Type 0
+Near n None = Unit {0}
+Near n (Some (x, y)) = (x ≤ n) × (y ≤ n)
 
 -- they differ, or are the same and the rows go on after them
-abbrev pub Agreed : (ks vs : List ℕ) (d : ℕ) (rest : Parts) (e : ℕ) (more : Parts) (whole : Bool) → Pace → Type 0
-Agreed ks vs d rest e more whole Clash = whole ≡ false
-Agreed ks vs d rest e more whole (Onward x y) = (whole ≡ true) × HeldParts ks vs x d rest × HeldParts ks vs y e more
+abbrev pub Agreed : (ks vs : List ℕ) (d : ℕ) (rest : Parts) (e : ℕ) (more : Parts) (whole : Bool) → Option (ℕ × ℕ) → Type 0
+Agreed ks vs d rest e more whole None = whole ≡ false
+Agreed ks vs d rest e more whole (Some (x, y)) = (whole ≡ true) × HeldParts ks vs x d rest × HeldParts ks vs y e more
 
 -- the declaration and the arguments agree
 unfoldable pub agree : Nominal → Nominal → Bool
 agree a b = eqb a.declaration b.declaration && same_terms a.arguments b.arguments
 
 -- where they do, the places of the members
-abbrev pub Headed : (ks vs : List ℕ) (d : ℕ) (a : Nominal) (rest : Parts) (e : ℕ) (b : Nominal) (more : Parts) → Pace → Type 0
-Headed ks vs d a rest e b more Clash = agree a b ≡ false
-Headed ks vs d a rest e b more (Onward x y) =
+abbrev pub Headed : (ks vs : List ℕ) (d : ℕ) (a : Nominal) (rest : Parts) (e : ℕ) (b : Nominal) (more : Parts) → Option (ℕ × ℕ) → Type 0
+Headed ks vs d a rest e b more None = agree a b ≡ false
+Headed ks vs d a rest e b more (Some (x, y)) =
     (agree a b ≡ true) × Listed ks vs x d a.members a.values rest × Listed ks vs y e b.members b.values more
 
 -- ---- members
@@ -94,40 +90,40 @@ pub record Next-pair {A : Type 0} (ks vs : List ℕ) (p n e : ℕ) (rest : Parts
   pub paired : length values + 1 ≡ n
   pub same : whole ≡ f (member ∷ members) (value ∷ values)
 
-abbrev pub Inside : ℕ → Lookup → Type 0
-Inside n (At i) = i < n
-Inside n Nothing = Unit {0}
+abbrev pub Inside : ℕ → Option ℕ → Type 0
+Inside n (Some i) = i < n
+Inside n None = Unit {0}
 
 -- what looking a member up finds
-abbrev pub Looked : (ks vs : List ℕ) (whole : Option Term) → Lookup → Type 0
-Looked ks vs whole (At i) = (t : Term) × Held ks vs i t × (whole ≡ some t)
-Looked ks vs whole Nothing = whole ≡ none
+abbrev pub Looked : (ks vs : List ℕ) (whole : math.Option Term) → Option ℕ → Type 0
+Looked ks vs whole (Some i) = (t : Term) × Held ks vs i t × (whole ≡ some t)
+Looked ks vs whole None = whole ≡ none
 
 -- ---- required members
 
 -- a member that is lacking has a term within the areas, and is one of those asked for
-abbrev pub Short : (n count : ℕ) → MembersFound → Type 0
-Short n count (All z) = z ≤ n + 1
-Short n count (Lacking j l) = (j + 1 < n) × (0 < l) × (l ≤ count)
+abbrev pub Short : (n count : ℕ) → rust.Result ℕ (ℕ × ℕ) → Type 0
+Short n count (Ok z) = z ≤ n + 1
+Short n count (Err (j, l)) = (j + 1 < n) × (0 < l) × (l ≤ count)
 
 -- a test passes each member that is given with its term
 abbrev pub Passes : (gs : List ℕ) (hs : List Term) (f : ℕ → Term → Bool) → Type 0
 Passes gs hs f = (m : ℕ) (t : Term) → same_option (look_up m gs hs) t ≡ true → f m t ≡ true
 
 -- all pass and the row goes on after them, or one is not given, and what is left from it on passes as the whole does
-abbrev pub Gave : (ks vs : List ℕ) (e : ℕ) (rest : Parts) (gs : List ℕ) (hs : List Term) (f : ℕ → Term → Bool) (whole : Bool) → MembersFound → Type 0
-Gave ks vs e rest gs hs f whole (All z) = (whole ≡ true) × HeldParts ks vs z e rest
-Gave ks vs e rest gs hs f whole (Lacking j l) =
+abbrev pub Gave : (ks vs : List ℕ) (e : ℕ) (rest : Parts) (gs : List ℕ) (hs : List Term) (f : ℕ → Term → Bool) (whole : Bool) → rust.Result ℕ (ℕ × ℕ) → Type 0
+Gave ks vs e rest gs hs f whole (Ok z) = (whole ≡ true) × HeldParts ks vs z e rest
+Gave ks vs e rest gs hs f whole (Err (j, l)) =
     (x : Next-pair ks vs j l e rest (every f) whole) × (same_option (look_up x.member gs hs) x.value ≡ false)
 
 -- the bound is satisfied and the row of what is required ends there, or it is not
-abbrev pub Ended : ℕ → Lookup → Type 0
-Ended n (At z) = z ≤ n + 1
-Ended n Nothing = Unit {0}
+abbrev pub Ended : ℕ → Option ℕ → Type 0
+Ended n (Some z) = z ≤ n + 1
+Ended n None = Unit {0}
 
-abbrev pub Satisfied : (ks vs : List ℕ) (e : ℕ) (more : Parts) (whole : Bool) → Lookup → Type 0
-Satisfied ks vs e more whole (At z) = (whole ≡ true) × HeldParts ks vs z e more
-Satisfied ks vs e more whole Nothing = whole ≡ false
+abbrev pub Satisfied : (ks vs : List ℕ) (e : ℕ) (more : Parts) (whole : Bool) → Option ℕ → Type 0
+Satisfied ks vs e more whole (Some z) = (whole ≡ true) × HeldParts ks vs z e more
+Satisfied ks vs e more whole None = whole ≡ false
 
 -- the test of `satisfies_for`
 abbrev pub covers : Nominal → Term → ℕ → Term → Bool

@@ -2,16 +2,13 @@
 use mathlib.Core.Path.{◌≡◌, refl, sym, ap, subst, ◌∙◌}
 use mathlib.Core.Bool.{Bool, true, false, not, ◌&&◌}
 use mathlib.Core.List.{List, [], ◌∷◌}
-use mathlib.Core.Option.{Option, none, some}
+use mathlib.Core.Option as math
+use mathlib.Core.Option.{none, some}
 use Prim.Native.Nat.{ℕ, suc, ◌+◌, ◌-◌, ◌≤◌, ◌<◌}
 use native.Mathlib.Omega.{arith}
 use borrow.Author.Tests.{eq-eqb, ne_eqb, eqb-true}
 use lib.Dec.{eqb}
 use lib.ListN.{length, get_or}
-use Rattle.terms.specs.declared.Lookup.TheVariants.{At, Nothing}
-use Rattle.terms.specs.declared.Pace.{Pace}
-use Rattle.terms.specs.declared.Pace.TheVariants.{Clash, Onward}
-use Rattle.terms.specs.declared.MembersFound.TheVariants.{All, Lacking}
 use Rattle.terms.specs.Result.{pick}
 use Rattle.terms.specs.Term.{Term, Parts, sub, items, Subs}
 use Rattle.terms.specs.Words.Held.{Held, HeldParts}
@@ -20,11 +17,14 @@ use Rattle.terms.specs.Shape.{nominal}
 use Rattle.terms.specs.Formed.{Formed, Fit}
 use Rattle.terms.specs.Tree.{Nominal, nominal_of, look_up, put_terms, put_members, same, same_terms}
 use Rattle.terms.specs.Comparison.{same_option, every, has, bounded, satisfies, reflexive, satisfies_for}
-use Rattle.terms.specs.Words.SatisfyContract.{pairing, Laid, Listed, Lists, Agreed, agree, Headed, Pairs, Next-pair, Looked, Passes, Gave, Satisfied, covers}
+use Rattle.terms.specs.Words.SatisfyContract.{pairing, Laid, Listed, Lists, Agreed, agree, Headed, Pairs, Next-pair, Looked, Passes, Gave, Short, Ended, Satisfied, covers}
 use Rattle.terms.proofs.Laws.General.Bools.{never_true, or-true, or-false, and-false, not-true, not-false}
 use Rattle.terms.proofs.Laws.Held.SameLaws.{both, same_refl, same_true}
 use Rattle.terms.proofs.Laws.Held.NominalLaws.{Rising, nominal_is, split, Projected, reflexive_parts}
 use Rattle.terms.proofs.Laws.Held.HeldLaws.{held_num, held_sub, items_some}
+use Rattle.std.specs.Prelude.{Option, Some, None, Ok, Err, is_some}
+use Rattle.std.specs.declared.result.Result as rust
+use Rattle.std.specs.Result.{result_ok}
 
 -- ---- pairs of a member and a term
 
@@ -85,8 +85,8 @@ module _ {A : Type 0} (ks vs : List ℕ) (p n e : ℕ) (rest : Parts) (f : List 
 
 -- ---- a member is looked up
 
-module _ (ks vs : List ℕ) (p n e : ℕ) (rest : Parts) (m : ℕ) (whole : Option Term) where
-  pub look_found : Next-pair ks vs p n e rest (look_up m) whole → get_or vs p 0 ≡ m → Looked ks vs whole (At (p + 1))
+module _ (ks vs : List ℕ) (p n e : ℕ) (rest : Parts) (m : ℕ) (whole : math.Option Term) where
+  pub look_found : Next-pair ks vs p n e rest (look_up m) whole → get_or vs p 0 ≡ m → Looked ks vs whole (Some (p + 1))
   unfolding look_up
   look_found x h = (x.value, x.here, x.same ∙ rw (eq-eqb x.member m (sym x.word ∙ h)))
 
@@ -95,7 +95,7 @@ module _ (ks vs : List ℕ) (p n e : ℕ) (rest : Parts) (m : ℕ) (whole : Opti
   unfolding look_up
   look_next x k d h = pair_passed ks vs p n e rest (look_up m) whole x k h (x.same ∙ rw (ne_eqb x.member m (λ z. d (x.word ∙ z))))
 
-  pub look_none : Pairs ks vs p n e rest (look_up m) whole → n ≡ 0 → Looked ks vs whole Nothing
+  pub look_none : Pairs ks vs p n e rest (look_up m) whole → n ≡ 0 → Looked ks vs whole None
   unfolding look_up
   look_none x h = (pairs_over ks vs p n e rest (look_up m) whole x h).0
 
@@ -140,7 +140,7 @@ module _ (ks vs : List ℕ) (p n e : ℕ) (rest : Parts) (f : ℕ → Term → B
     pub given_next : (k : ℕ) → Passes gs hs f → not r ≡ false → k ≡ p + 1 + length (items x.value) → Pairs ks vs k (n - 1) e rest (every f) whole
     given_next k h t = every_next x k (h x.member x.value (sym told_of ∙ not-false r t))
 
-    pub not_given : not r ≡ true → Gave ks vs e rest gs hs f whole (Lacking p n)
+    pub not_given : not r ≡ true → Gave ks vs e rest gs hs f whole (Err (p, n))
     not_given t = (x, sym told_of ∙ not-true r t)
 
 -- ---- arguments
@@ -185,12 +185,12 @@ module _ (ks vs : List ℕ) (n i d : ℕ) (rest : Parts) (j e : ℕ) (more : Par
             same = s;
           }
 
-  pub arguments_over : Lists ks vs n i d rest j e more whole → n ≡ 0 → Agreed ks vs d rest e more whole (Onward i j)
+  pub arguments_over : Lists ks vs n i d rest j e more whole → n ≡ 0 → Agreed ks vs d rest e more whole (Some (i, j))
   unfolding put_terms same_terms
   arguments_over x h = go x.left x.right x.held_left x.held_right x.many_left x.many_right x.same
     where
       go : (ts us : List Term) → HeldParts ks vs i d (put_terms ts rest) → HeldParts ks vs j e (put_terms us more) → length ts ≡ n → length us ≡ n
-          → whole ≡ same_terms ts us → Agreed ks vs d rest e more whole (Onward i j)
+          → whole ≡ same_terms ts us → Agreed ks vs d rest e more whole (Some (i, j))
       go [] [] hl hr ml mr s = (s, hl, hr)
       go [] (u ∷ us) hl hr ml mr s = absurd (omega arith)
       go (t ∷ ts) us hl hr ml mr s = absurd (omega arith)
@@ -282,12 +282,12 @@ module _ (ks vs : List ℕ) (p d : ℕ) (a : Nominal) (rest : Parts) (q e : ℕ)
         same = refl;
       }
 
-  pub headed : get_or vs p 0 ≡ get_or vs q 0 → (r : Pace)
+  pub headed : get_or vs p 0 ≡ get_or vs q 0 → (r : Option (ℕ × ℕ))
       → Agreed ks vs d (pairing a.members a.values rest) e (pairing b.members b.values more) (same_terms a.arguments b.arguments) r
       → Headed ks vs d a rest e b more r
   unfolding agree Subs
-  headed h Clash g = rw g (and-false (eqb a.declaration b.declaration))
-  headed h (Onward i j) g =
+  headed h None g = rw g (and-false (eqb a.declaration b.declaration))
+  headed h (Some (i, j)) g =
       let s = laid_words ks vs p d a rest x in
       let t = laid_words ks vs q e b more y in (
         rw (eq-eqb a.declaration b.declaration (sym s.first ∙ h ∙ t.first)) g.0,
@@ -327,15 +327,30 @@ passes_covers a w m t h = or-true (same_option (look_up m a.members a.values) t)
 
 -- `satisfies`, where the declarations and the arguments agree
 module _ (ks vs : List ℕ) (a b : Nominal) (e : ℕ) (more : Parts) (h : agree a b ≡ true) where
-  pub satisfied_all : (z : ℕ) → Gave ks vs e more a.members a.values (has a) (every (has a) b.members b.values) (All z) → Satisfied ks vs e more (satisfies a b) (At z)
+  pub satisfied_all : (z : ℕ) → Gave ks vs e more a.members a.values (has a) (every (has a) b.members b.values) (Ok z) → Satisfied ks vs e more (satisfies a b) (Some z)
   satisfied_all z g = (bounded_members (has a) a b h ∙ g.0, g.1)
 
-  pub satisfied_lacking : (j l : ℕ) → Gave ks vs e more a.members a.values (has a) (every (has a) b.members b.values) (Lacking j l) → satisfies a b ≡ false
+  pub satisfied_lacking : (j l : ℕ) → Gave ks vs e more a.members a.values (has a) (every (has a) b.members b.values) (Err (j, l)) → satisfies a b ≡ false
   unfolding has
   satisfied_lacking j l g = bounded_members (has a) a b h ∙ every_fails ks vs j l e more (has a) (every (has a) b.members b.values) g.0 g.1
 
+  -- whichever it is
+  pub satisfied_row : (r : rust.Result ℕ (ℕ × ℕ)) → Gave ks vs e more a.members a.values (has a) (every (has a) b.members b.values) r → Satisfied ks vs e more (satisfies a b) (result_ok r)
+  satisfied_row (Ok z) g = satisfied_all z g
+  satisfied_row (Err (j, l)) g = satisfied_lacking j l g
+
+-- where the row ends
+pub ended_row : (n count : ℕ) (r : rust.Result ℕ (ℕ × ℕ)) → Short n count r → Ended n (result_ok r)
+ended_row n count (Ok z) h = h
+ended_row n count (Err (j, l)) h = tt
+
+-- whether it is satisfied
+pub whole_is : (ks vs : List ℕ) (e : ℕ) (more : Parts) (whole : Bool) (o : Option ℕ) → Satisfied ks vs e more whole o → is_some o ≡ whole
+whole_is ks vs e more whole (Some z) h = sym h.0
+whole_is ks vs e more whole None h = sym h
+
 -- a member that is not given, in `satisfies_for`
-module _ (ks vs : List ℕ) (a : Nominal) (w : Term) (j l e : ℕ) (more : Parts) (whole : Bool) (g : Gave ks vs e more a.members a.values (covers a w) whole (Lacking j l))
+module _ (ks vs : List ℕ) (a : Nominal) (w : Term) (j l e : ℕ) (more : Parts) (whole : Bool) (g : Gave ks vs e more a.members a.values (covers a w) whole (Err (j, l)))
     (r : Bool) (told : r ≡ reflexive a w (get_or vs j 0) g.0.value) where
   covers_as : covers a w g.0.member g.0.value ≡ r
   unfolding has
@@ -463,6 +478,6 @@ satisfies_trans a b c h k =
     bounded_members (has a) a c (both_agree a c (x.0 ∙ y.0) (x.1 ∙ y.1))
     ∙ every_more (has b) (has a) (λ m u e. found m u (look_up m b.members b.values) refl e s.1) c.members c.values t.1
   where
-    found : (m : ℕ) (u : Term) (o : Option Term) → look_up m b.members b.values ≡ o → same_option o u ≡ true → every (has a) b.members b.values ≡ true → has a m u ≡ true
+    found : (m : ℕ) (u : Term) (o : math.Option Term) → look_up m b.members b.values ≡ o → same_option o u ≡ true → every (has a) b.members b.values ≡ true → has a m u ≡ true
     found m u none q e w = never_true e
     found m u (some v) q e w = every_found (has a) m u b.members b.values w (q ∙ ap (λ (x : Term). some x) (same_true v u e))

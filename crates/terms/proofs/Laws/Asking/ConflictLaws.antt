@@ -18,13 +18,12 @@ use Rattle.terms.specs.Formed.{Formed, Fit, TakesNumber, TakesTerm, after_number
 use Rattle.terms.specs.Tree.{same, same_rows}
 use Rattle.terms.specs.Questions.{among}
 use Rattle.terms.specs.Comparison.{recovery, conflicts_with, rows_conflict}
-use Rattle.terms.specs.declared.Pace.{Pace}
-use Rattle.terms.specs.declared.Pace.TheVariants.{Clash, Onward}
 use Rattle.terms.specs.Words.CompareContract.{Rows, Passed, Stepped}
 use Rattle.terms.proofs.Laws.General.Bools.{never_true, never_false, or-true, or_right, or_assoc, or-false, or-none}
 use Rattle.terms.proofs.Laws.Held.HeldLaws.{held_first, head_kind, row_num, row_sub, row_end, end_ends, held_sub, items_some}
 use Rattle.terms.proofs.Laws.Held.FlatLaws.{join, fit_append, held_enter, held_one}
 use Rattle.terms.proofs.Laws.Held.SameLaws.{span_held}
+use Rattle.std.specs.Prelude.{Option, Some, None}
 
 -- ---- the definition
 
@@ -313,13 +312,13 @@ module _ (ks vs : List ℕ) (i ae j be : ℕ) (whole : Bool) (x : Terms ks vs i 
   firm_right : among (get_or ks j 0) (1 ∷ 4 ∷ 5 ∷ []) ≡ false → Firm x.u
   firm_right a = firm x.u (ap (λ (k : ℕ). among k (1 ∷ 4 ∷ 5 ∷ [])) kind_right ∙ a)
 
-  pub step_left : among (get_or ks i 0) (1 ∷ 4 ∷ 5 ∷ []) ≡ true → (r : Pace) → Passed ks vs ae x.ps be x.qs r → Stepped ks vs ae be whole r
-  step_left a Clash p = absurd p
-  step_left a (Onward k l) p = onward k l p.0 p.1 (yields_left x.t x.u (ap (λ (k : ℕ). among k (1 ∷ 4 ∷ 5 ∷ [])) kind_left ∙ a))
+  pub step_left : among (get_or ks i 0) (1 ∷ 4 ∷ 5 ∷ []) ≡ true → (r : Option (ℕ × ℕ)) → Passed ks vs ae x.ps be x.qs r → Stepped ks vs ae be whole r
+  step_left a None p = absurd p
+  step_left a (Some (k, l)) p = onward k l p.0 p.1 (yields_left x.t x.u (ap (λ (k : ℕ). among k (1 ∷ 4 ∷ 5 ∷ [])) kind_left ∙ a))
 
-  pub step_right : among (get_or ks j 0) (1 ∷ 4 ∷ 5 ∷ []) ≡ true → (r : Pace) → Passed ks vs ae x.ps be x.qs r → Stepped ks vs ae be whole r
-  step_right a Clash p = absurd p
-  step_right a (Onward k l) p = onward k l p.0 p.1 (yields_right x.t x.u (ap (λ (k : ℕ). among k (1 ∷ 4 ∷ 5 ∷ [])) kind_right ∙ a))
+  pub step_right : among (get_or ks j 0) (1 ∷ 4 ∷ 5 ∷ []) ≡ true → (r : Option (ℕ × ℕ)) → Passed ks vs ae x.ps be x.qs r → Stepped ks vs ae be whole r
+  step_right a None p = absurd p
+  step_right a (Some (k, l)) p = onward k l p.0 p.1 (yields_right x.t x.u (ap (λ (k : ℕ). among k (1 ∷ 4 ∷ 5 ∷ [])) kind_right ∙ a))
 
   module _ (a : among (get_or ks i 0) (1 ∷ 4 ∷ 5 ∷ []) ≡ false) (b : among (get_or ks j 0) (1 ∷ 4 ∷ 5 ∷ []) ≡ false) where
     pub step_kinds : (get_or ks i 0 ≡ get_or ks j 0 → ⊥) → whole ≡ true
@@ -332,9 +331,9 @@ module _ (ks vs : List ℕ) (i ae j be : ℕ) (whole : Bool) (x : Terms ks vs i 
       pub step_projections : get_or ks i 0 ≡ 20 → same x.t x.u ≡ false → whole ≡ true
       step_projections p h = clash (projections x.t x.u (firm_left a) (firm_right b) same_kind (kind_left ∙ p) ∙ ap not h)
 
-      pub step_whole : get_or ks i 0 ≡ 20 → same x.t x.u ≡ true → (r : Pace) → Passed ks vs ae x.ps be x.qs r → Stepped ks vs ae be whole r
-      step_whole p h Clash q = absurd q
-      step_whole p h (Onward k l) q = onward k l q.0 q.1 (projections x.t x.u (firm_left a) (firm_right b) same_kind (kind_left ∙ p) ∙ ap not h)
+      pub step_whole : get_or ks i 0 ≡ 20 → same x.t x.u ≡ true → (r : Option (ℕ × ℕ)) → Passed ks vs ae x.ps be x.qs r → Stepped ks vs ae be whole r
+      step_whole p h None q = absurd q
+      step_whole p h (Some (k, l)) q = onward k l q.0 q.1 (projections x.t x.u (firm_left a) (firm_right b) same_kind (kind_left ∙ p) ∙ ap not h)
 
       pub step_enter : (get_or ks i 0 ≡ 20 → ⊥) → Rows ks vs (i + 1) ae (j + 1) be whole
       unfolding Formed

@@ -8,7 +8,6 @@ use native.Mathlib.Omega.{arith}
 use borrow.Author.Tests.{ne_eqb, lt-ltb}
 use lib.Dec.{eqb}
 use lib.ListN.{length, get_or}
-use Rattle.terms.specs.declared.Lookup.TheVariants.{At, Nothing}
 use Rattle.terms.specs.Parser.{Result, got, refused, bind}
 use Rattle.terms.specs.Term.{Term, Parts, var, node, end, num, sub, ◌+++◌, items, Subs}
 use Rattle.terms.specs.Words.Held.{Held, HeldParts, span}
@@ -25,6 +24,7 @@ use Rattle.terms.proofs.Laws.Held.FlatLaws.{held_enter, held_one}
 use Rattle.terms.proofs.Laws.Format.ShapeLaws.{More, some_done}
 use Rattle.terms.proofs.Laws.Format.ParameterLaws.{found_contains}
 use Rattle.terms.proofs.Laws.Asking.ConflictLaws.{passed, not_among}
+use Rattle.std.specs.Prelude.{Option, Some, None, is_some}
 
 -- ---- tags
 
@@ -129,11 +129,19 @@ no_parameters s (suc c) at ps n e = ne_eqb (suc c) 0 (λ z. omega arith) ∙ go 
     go (refused c) ps n e = never c ps n e
 
 -- what the search tells
-pub found_there : (found : Result (List Parameter)) (ps : List Parameter) (n i : ℕ) (p : Parameter) → found ≡ got ps n → At i ≡ index_in found p → contains ps p ≡ true
+pub found_there : (found : Result (List Parameter)) (ps : List Parameter) (n i : ℕ) (p : Parameter) → found ≡ got ps n → Some i ≡ index_in found p → contains ps p ≡ true
 found_there found ps n i p e h = sym (found_contains ps p) ∙ ap is_found (sym (h ∙ ap (λ (r : Result (List Parameter)). index_in r p) e))
 
-pub found_nowhere : (found : Result (List Parameter)) (ps : List Parameter) (n : ℕ) (p : Parameter) → found ≡ got ps n → Nothing ≡ index_in found p → contains ps p ≡ false
+pub found_nowhere : (found : Result (List Parameter)) (ps : List Parameter) (n : ℕ) (p : Parameter) → found ≡ got ps n → None ≡ index_in found p → contains ps p ≡ false
 found_nowhere found ps n p e h = sym (found_contains ps p) ∙ ap is_found (sym (h ∙ ap (λ (r : Result (List Parameter)). index_in r p) e))
+
+-- what `is_none` says of it
+pub absent : (found : Result (List Parameter)) (ps : List Parameter) (n : ℕ) (p : Parameter) → found ≡ got ps n
+    → (o : Option ℕ) → o ≡ index_in found p → (b : Bool) → is_some o ≡ not b → b ≡ not (contains ps p)
+absent found ps n p e (Some i) h true k = absurd (cc)
+absent found ps n p e (Some i) h false k = sym (ap not (found_there found ps n i p e h))
+absent found ps n p e None h true k = sym (ap not (found_nowhere found ps n p e h))
+absent found ps n p e None h false k = absurd (cc)
 
 -- ---- entering
 

@@ -10,8 +10,8 @@ use lib.Dec.{leb}
 use lib.ListN.{length, get_or, length-set}
 use lib.Seq.{get_or-set_same, get_or-set_other}
 use Rattle.terms.specs.declared.Place.{Place}
-use Rattle.terms.specs.declared.Step.{Step}
-use Rattle.terms.specs.declared.Step.TheVariants.{Next, Stopped}
+use Rattle.terms.specs.Words.ReadContract.{Step}
+use Rattle.terms.specs.Words.ReadContract.{Next, Stopped}
 use Rattle.terms.specs.Parser.{Result, got, refused, pick}
 use Rattle.terms.specs.Words.Tokens.{Item, item, Area, put, puts, zeros, blank, before, spell, toks}
 use Rattle.terms.specs.Term.{Term, node, items, size, sizes, Held}

@@ -8,8 +8,8 @@ use native.Mathlib.Omega.{arith}
 use lib.ListN.{length}
 use Rattle.terms.specs.declared.Fields.{Fields}
 use Rattle.terms.specs.declared.Place.{Place}
-use Rattle.terms.specs.declared.Step.{Step}
-use Rattle.terms.specs.declared.Step.TheVariants.{Next, Stopped}
+use Rattle.terms.specs.Words.ReadContract.{Step}
+use Rattle.terms.specs.Words.ReadContract.{Next, Stopped}
 use Rattle.terms.specs.Parser.{Result, Parser, got, refused, bind, number}
 use Rattle.terms.specs.Words.Tokens.{Area}
 use Rattle.terms.specs.Term.{Term, Parts, end, num, sub, part_items, sizes, ◌+++◌}

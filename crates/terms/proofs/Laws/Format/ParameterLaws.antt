@@ -4,26 +4,11 @@ use mathlib.Core.Bool.{Bool, true, false, ◌&&◌, ◌||◌}
 use mathlib.Core.List.{List, [], ◌∷◌}
 use Prim.Native.Nat.{ℕ, suc, ◌+◌, ◌-◌, ◌≤◌, ◌<◌}
 use native.Mathlib.Omega.{arith}
-use borrow.Author.Tests.{eq-eqb, ne_eqb}
-use lib.Dec.{eqb}
-use Rattle.terms.specs.declared.Lookup.{Lookup}
-use Rattle.terms.specs.declared.Lookup.TheVariants.{At, Nothing}
-use Rattle.terms.specs.declared.ParametersRead.TheVariants.{Through, Faulty}
 use Rattle.terms.specs.Parser.{Result, got, refused, bind, pick, number}
 use Rattle.terms.specs.Shape.{definition, ordinary, ceiling}
 use Rattle.terms.specs.Questions.{Parameter, same_parameter, contains}
 use Rattle.terms.specs.Parameters.{parameter, parameters, last_from, last_index, passed, index_in, past, is_found}
-
--- the one that is looked for stands here
-module _ (owner position o q : ℕ) (here : ℕ) (best : Lookup) where
-  pub later_same : owner ≡ o → position ≡ q → At here ≡ pick (eqb owner o && eqb position q) (At here) best
-  later_same e f = rw (eq-eqb owner o e, eq-eqb position q f)
-
-  pub later_owner : (owner ≡ o → ⊥) → best ≡ pick (eqb owner o && eqb position q) (At here) best
-  later_owner e = rw (ne_eqb owner o e)
-
-  pub later_position : owner ≡ o → (position ≡ q → ⊥) → best ≡ pick (eqb owner o && eqb position q) (At here) best
-  later_position e f = rw (eq-eqb owner o e, ne_eqb position q f)
+use Rattle.std.specs.Prelude.{Option, Some, None}
 
 module _ (s : List ℕ) (at : ℕ) where
   pub parameter_no : (c : ℕ) → refused c ≡ number s (ceiling definition) at → refused c ≡ parameter s at
@@ -39,76 +24,72 @@ module _ (s : List ℕ) (at : ℕ) where
     unfolding parameter
     parameter_yes q m f = rw (← e, ← f)
 
--- the parameters from i on, n of `count` being passed
-module _ (s : List ℕ) (owner position count n i : ℕ) (best : Lookup) where
-  abbrev p : Parameter
-  p = record { owner = owner; position = position }
-
-  pub pass_end : count ≤ n → Through i best ≡ passed n best (parameters s (count - n) i) p
+-- the parameters from i on, n of `count` being passed, where p is wanted
+module _ (s : List ℕ) (p : Parameter) (count n i : ℕ) (best : Option ℕ) where
+  pub pass_end : count ≤ n → got best i ≡ passed n best (parameters s (count - n) i) p
   unfolding parameters last_from
   pass_end h = let z : count - n ≡ 0 = omega arith in rw z
 
   module _ (h : n < count) where
-    pub pass_stop : (c : ℕ) → refused c ≡ parameter s i → Faulty c ≡ passed n best (parameters s (count - n) i) p
+    pub pass_stop : (c : ℕ) → refused c ≡ parameter s i → refused c ≡ passed n best (parameters s (count - n) i) p
     unfolding parameters
     pass_stop c e = let z : count - n ≡ suc (count - (n + 1)) = omega arith in rw (z, ← e)
 
-    pub pass_more : (o q next : ℕ) → got (record { owner = o; position = q }) next ≡ parameter s i
-        → (best' : Lookup) → best' ≡ pick (eqb o owner && eqb q position) (At n) best
+    pub pass_more : (q : Parameter) (next : ℕ) → got q next ≡ parameter s i → (best' : Option ℕ) → best' ≡ pick (same_parameter q p) (Some n) best
         → passed (n + 1) best' (parameters s (count - (n + 1)) next) p ≡ passed n best (parameters s (count - n) i) p
-    unfolding parameters last_from same_parameter
-    pass_more o q next e best' f =
+    unfolding parameters last_from
+    pass_more q next e best' f =
         let z : count - n ≡ suc (count - (n + 1)) = omega arith in
         rw (f, z, ← e) (go (parameters s (count - (n + 1)) next))
       where
-        go : (r : Result (List Parameter)) → passed (n + 1) (pick (eqb o owner && eqb q position) (At n) best) r p ≡ passed n best (bind r (λ ps m. got (record { owner = o; position = q } ∷ ps) m)) p
+        go : (r : Result (List Parameter)) → passed (n + 1) (pick (same_parameter q p) (Some n) best) r p ≡ passed n best (bind r (λ ps m. got (q ∷ ps) m)) p
         go (got ps m) = refl
         go (refused c) = refl
 
 -- what going through them says
 module _ (found : Result (List Parameter)) (p : Parameter) where
-  pub through_past : (count next : ℕ) (best : Lookup) → Through next best ≡ passed 0 Nothing found p → got count next ≡ past count found
+  pub through_past : (count next : ℕ) (best : Option ℕ) → got best next ≡ passed 0 None found p → got count next ≡ past count found
   through_past count next best e = go found e
     where
-      go : (r : Result (List Parameter)) → Through next best ≡ passed 0 Nothing r p → got count next ≡ past count r
+      go : (r : Result (List Parameter)) → got best next ≡ passed 0 None r p → got count next ≡ past count r
       go (got ps m) h = let z : next ≡ m = cc in rw z
       go (refused c) h = absurd (let z : ◌≡◌ {A = ℕ} 0 1 = cc in omega arith)
 
-  pub faulty_past : (count c : ℕ) → Faulty c ≡ passed 0 Nothing found p → refused c ≡ past count found
+  pub faulty_past : (count c : ℕ) → refused c ≡ passed 0 None found p → refused c ≡ past count found
   faulty_past count c e = go found e
     where
-      go : (r : Result (List Parameter)) → Faulty c ≡ passed 0 Nothing r p → refused c ≡ past count r
+      go : (r : Result (List Parameter)) → refused c ≡ passed 0 None r p → refused c ≡ past count r
       go (got ps m) h = absurd (let z : ◌≡◌ {A = ℕ} 0 1 = cc in omega arith)
       go (refused d) h = let z : c ≡ d = cc in rw z
 
-  pub through_index : (next : ℕ) (best : Lookup) → Through next best ≡ passed 0 Nothing found p → best ≡ index_in found p
+  pub through_index : (next : ℕ) (best : Option ℕ) → got best next ≡ passed 0 None found p → best ≡ index_in found p
   through_index next best e = go found e
     where
-      go : (r : Result (List Parameter)) → Through next best ≡ passed 0 Nothing r p → best ≡ index_in r p
+      go : (r : Result (List Parameter)) → got best next ≡ passed 0 None r p → best ≡ index_in r p
       go (got ps m) h = cc
       go (refused c) h = absurd (let z : ◌≡◌ {A = ℕ} 0 1 = cc in omega arith)
 
-  pub faulty_index : (c : ℕ) → Faulty c ≡ passed 0 Nothing found p → Nothing ≡ index_in found p
+  pub faulty_index : (c : ℕ) → refused c ≡ passed 0 None found p → None ≡ index_in found p
   faulty_index c e = go found e
     where
-      go : (r : Result (List Parameter)) → Faulty c ≡ passed 0 Nothing r p → Nothing ≡ index_in r p
+      go : (r : Result (List Parameter)) → refused c ≡ passed 0 None r p → None ≡ index_in r p
       go (got ps m) h = absurd (let z : ◌≡◌ {A = ℕ} 0 1 = cc in omega arith)
       go (refused d) h = refl
 
 -- `contains` asks whether there is one
-found_or : (n : ℕ) (best : Lookup) (ps : List Parameter) (p : Parameter) → is_found (last_from n best ps p) ≡ (contains ps p || is_found best)
+found_or : (n : ℕ) (best : Option ℕ) (ps : List Parameter) (p : Parameter) → is_found (last_from n best ps p) ≡ (contains ps p || is_found best)
 unfolding last_from contains
 found_or n best [] p = refl
-found_or n best (q ∷ qs) p = found_or (n + 1) (pick (same_parameter q p) (At n) best) qs p ∙ go (same_parameter q p) (contains qs p)
+found_or n best (q ∷ qs) p = found_or (n + 1) (pick (same_parameter q p) (Some n) best) qs p ∙ go (same_parameter q p) (contains qs p)
   where
-    go : (b c : Bool) → (c || is_found (pick b (At n) best)) ≡ ((b || c) || is_found best)
+    go : (b c : Bool) → (c || is_found (pick b (Some n) best)) ≡ ((b || c) || is_found best)
     go true true = refl
     go true false = refl
     go false true = refl
     go false false = refl
 
 pub found_contains : (ps : List Parameter) (p : Parameter) → is_found (last_index ps p) ≡ contains ps p
-found_contains ps p = found_or 0 Nothing ps p ∙ go (contains ps p)
+found_contains ps p = found_or 0 None ps p ∙ go (contains ps p)
   where
     go : (b : Bool) → (b || false) ≡ b
     go true = refl

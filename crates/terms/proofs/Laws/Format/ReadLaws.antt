@@ -11,8 +11,8 @@ use lib.Dec.{eqb}
 use lib.ListN.{length, get_or}
 use Rattle.terms.specs.declared.Fields.{Fields}
 use Rattle.terms.specs.declared.Place.{Place}
-use Rattle.terms.specs.declared.Step.{Step}
-use Rattle.terms.specs.declared.Step.TheVariants.{Next, Stopped}
+use Rattle.terms.specs.Words.ReadContract.{Step}
+use Rattle.terms.specs.Words.ReadContract.{Next, Stopped}
 use Rattle.terms.specs.Parser.{Result, Parser, refused, number}
 use Rattle.terms.specs.Words.Tokens.{Item, Area}
 use Rattle.terms.specs.Term.{Term, Parts, end, num, sub, ◌+++◌, items, part_items, size, sizes}
@@ -162,6 +162,10 @@ module _ (s : List ℕ) (t : Parser Term) (whole : Result Parts) (p : Place) (d 
   pub terms_next : (r : Shape) → SoFar s whole (row s t (shape.terms r) q.at) p d e q
       → (f : Area) (u : Place) → PartsDone s (listed s t true q.at) q e f (Next u) → SoFar s whole (row s t r u.at) p d f u
   terms_next r x f u y = so_far_more s whole p d (row s t r u.at) e q y.0 (rw (row_terms s t r q.at, y.1) at x) f u y.2
+
+-- one fewer is left
+pub sub_step : (n i : ℕ) → n - (i + 1) ≡ n - i - 1
+sub_step n i = omega arith
 
 -- `left` more terms
 module _ (s : List ℕ) (t : Parser Term) (whole : Result Parts) (p : Place) (d e : Area) (q : Place) where

@@ -8,8 +8,8 @@ use Prim.Native.Nat.{ℕ, suc, ◌+◌, ◌-◌, ◌^◌, ◌≤◌, ◌<◌}
 use native.Mathlib.Omega.{arith}
 use lib.ListN.{length, length-append}
 use Rattle.terms.specs.declared.Place.{Place}
-use Rattle.terms.specs.declared.Step.{Step}
-use Rattle.terms.specs.declared.Step.TheVariants.{Next, Stopped}
+use Rattle.terms.specs.Words.ReadContract.{Step}
+use Rattle.terms.specs.Words.ReadContract.{Next, Stopped}
 use Rattle.terms.specs.Parser.{Result, Parser, got, bind}
 use Rattle.terms.specs.Words.Tokens.{put_if, Item, item, Area, put, puts}
 use Rattle.terms.specs.Term.{Term, Parts, node, end, num, sub, ◌+++◌, items, part_items, size, sizes}

@@ -7,9 +7,9 @@ use native.Mathlib.Omega.{arith}
 use borrow.Author.Tests.{le-leb}
 use lib.Dec.{leb}
 use lib.ListN.{length}
-use Rattle.terms.specs.declared.NumberRead.TheVariants.{Value}
+use Rattle.std.specs.Prelude.{Ok}
 use Rattle.terms.specs.declared.Place.{Place}
-use Rattle.terms.specs.declared.Step.TheVariants.{Next, Stopped}
+use Rattle.terms.specs.Words.ReadContract.{Next, Stopped}
 use Rattle.terms.specs.Parser.{Result, got, refused, number}
 use Rattle.terms.specs.Words.Tokens.{item, Area, puts, put_if}
 use Rattle.terms.specs.Term.{var, end, num, items, size}
@@ -52,7 +52,7 @@ module _ (s : List ℕ) (p : Place) (d e : Area) where
     inside = b;
   }
 
-  pub value_yes : (most v next : ℕ) (found : Result ℕ) → got v next ≡ found → Within s p.at most (Value v next) → e ≡ put_if (leb p.nodes p.limit) d p.top 0 v
+  pub value_yes : (most v next : ℕ) (found : Result ℕ) → got v next ≡ found → Within s p.at most (Ok (v, next)) → e ≡ put_if (leb p.nodes p.limit) d p.top 0 v
       → ValueDone most s found p d e (Valued v (record { at = next; top = p.top + 1; nodes = p.nodes; limit = p.limit }))
   value_yes most v next found g w h = (sym g, w.0, wrote_value v next w.1 w.2 h)
 
@@ -66,7 +66,7 @@ module _ (s : List ℕ) (p : Place) (d e : Area) where
   unfolding coded
   coded_none codes z h = rw z (none_done s p d d h)
 
-  pub coded_yes : (codes v next : ℕ) → (codes ≡ 0 → ⊥) → got v next ≡ code s codes p.at → Within s p.at 255 (Value v next) → e ≡ put_if (leb p.nodes p.limit) d p.top 0 v
+  pub coded_yes : (codes v next : ℕ) → (codes ≡ 0 → ⊥) → got v next ≡ code s codes p.at → Within s p.at 255 (Ok (v, next)) → e ≡ put_if (leb p.nodes p.limit) d p.top 0 v
       → PartsDone s (coded s codes p.at) p d e (Next (record { at = next; top = p.top + 1; nodes = p.nodes; limit = p.limit }))
   unfolding coded
   coded_yes zero v next z g w h = absurd (z refl)

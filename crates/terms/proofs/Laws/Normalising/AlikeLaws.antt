@@ -15,13 +15,13 @@ use Rattle.terms.specs.Words.VirtualTokens.{view, Sight}
 use Rattle.terms.specs.declared.Origin.{Origin}
 use Rattle.terms.specs.declared.Content.{Content}
 use Rattle.terms.specs.declared.Cursor.{Cursor}
-use Rattle.terms.specs.declared.Met.TheVariants.{Behind, Apart}
 use Rattle.terms.specs.Words.Arena.{head_of, kids_of, Tree, variable, branch, Parted, RowAt, From, Cut, Alike, Begins, Starts}
 use Rattle.terms.proofs.Laws.General.Bools.{never_true}
 use Rattle.terms.proofs.Laws.Held.HeldLaws.{head_kind}
 use Rattle.terms.proofs.Laws.Held.SameLaws.{both, same_refl, same_true}
 use Rattle.terms.proofs.Laws.Normalising.SourceLaws.{tree_held}
 use Rattle.terms.proofs.Laws.Normalising.ArenaLaws.{parted_over, parted_more, parted_number, parted_child, tree_kind}
+use Rattle.std.specs.Prelude.{Some, None}
 
 clash : {A : Type 0} → ◌≡◌ {A = ℕ} 0 1 → A
 clash e = absurd (omega arith)
@@ -84,7 +84,7 @@ module _ (a : Area) (hs cs : List ℕ) (x y : Cursor) (fuel : ℕ) where
   }
 
   module _ (p i q j : ℕ) (w : Meeting p i q j) where
-    pub meeting_done : y.end ≤ q → Begins a hs cs x y fuel (Behind p i)
+    pub meeting_done : y.end ≤ q → Begins a hs cs x y fuel (Some (p, i))
     meeting_done le = (
       w.first,
       λ S T ps qs f g d.
@@ -94,7 +94,7 @@ module _ (a : Area) (hs cs : List ℕ) (x y : Cursor) (fuel : ℕ) where
     )
 
     -- the first row ends before
-    pub meeting_short : q < y.end → x.end ≤ p → Begins a hs cs x y fuel Apart
+    pub meeting_short : q < y.end → x.end ≤ p → Begins a hs cs x y fuel None
     meeting_short lt le S T ps qs f g d rest e =
         let b = w.is S T ps qs f g d in
         no_end b.m rest (parted_more a hs cs T b.right lt) (sym (parted_over a hs cs S b.left le) ∙ b.to rest e)
@@ -103,7 +103,7 @@ module _ (a : Area) (hs cs : List ℕ) (x y : Cursor) (fuel : ℕ) where
         (en : n ≡ get_or a.kinds q 0) (ez : z ≡ get_or a.vals q 0) where
       module _ (o : n ≡ 0) where
         -- a number meets a child
-        pub meeting_child : (k ≡ 0 → ⊥) → Begins a hs cs x y fuel Apart
+        pub meeting_child : (k ≡ 0 → ⊥) → Begins a hs cs x y fuel None
         meeting_child c S T ps qs f g d rest e =
             let b = w.is S T ps qs f g d in
             let u = parted_child a hs cs S b.left lp ek ev c in
@@ -111,7 +111,7 @@ module _ (a : Area) (hs cs : List ℕ) (x y : Cursor) (fuel : ℕ) where
             let h : sub u.term u.rest ≡ num z (s.rest +++ rest) = sym u.is ∙ b.to rest e ∙ ap (λ (r : Parts). r +++ rest) s.is in
             clash (cc)
 
-        pub meeting_apart : k ≡ 0 → (v ≡ z → ⊥) → Begins a hs cs x y fuel Apart
+        pub meeting_apart : k ≡ 0 → (v ≡ z → ⊥) → Begins a hs cs x y fuel None
         meeting_apart c ne S T ps qs f g d rest e =
             let b = w.is S T ps qs f g d in
             let u = parted_number a hs cs S b.left lp ek ev c in
@@ -142,7 +142,7 @@ module _ (a : Area) (hs cs : List ℕ) (x y : Cursor) (fuel : ℕ) where
 
       module _ (o : n ≡ 0 → ⊥) where
         -- a child meets a number
-        pub meeting_other : k ≡ 0 → Begins a hs cs x y fuel Apart
+        pub meeting_other : k ≡ 0 → Begins a hs cs x y fuel None
         meeting_other c S T ps qs f g d rest e =
             let b = w.is S T ps qs f g d in
             let u = parted_number a hs cs S b.left lp ek ev c in
@@ -153,7 +153,7 @@ module _ (a : Area) (hs cs : List ℕ) (x y : Cursor) (fuel : ℕ) where
         -- two children, compared
         module _ (c : k ≡ 0 → ⊥) (s t : Content) (sh : s.head ≡ head_of hs x.kids p i) (sk : s.kids ≡ kids_of cs x.kids i)
             (th : t.head ≡ head_of hs y.kids q j) (tk : t.kids ≡ kids_of cs y.kids j) (r : Bool) (al : Alike a hs cs s t fuel r) where
-          pub meeting_differ : r ≡ false → Begins a hs cs x y fuel Apart
+          pub meeting_differ : r ≡ false → Begins a hs cs x y fuel None
           meeting_differ fl S T ps qs f g d rest e =
               let b = w.is S T ps qs f g d in
               let u = parted_child a hs cs S b.left lp ek ev c in
@@ -239,14 +239,14 @@ module _ (a : Area) (hs cs : List ℕ) (x y : Content) (fuel : ℕ) where
       }
 
       module _ (o : k ≡ 1 → ⊥) (c d : Cursor) (sc : Starts a x c) (sd : Starts a y d) (less : ℕ) (el : less + 1 ≡ fuel) where
-        pub alike_rows : Begins a hs cs c d less Apart → Alike a hs cs x y fuel false
+        pub alike_rows : Begins a hs cs c d less None → Alike a hs cs x y fuel false
         alike_rows b = record {
           yes = λ e. never_true e;
           no = λ e S T t u f g low i.
               b S T (row t) (row u) (sc.is hs cs S t f) (sd.is hs cs T u g) (omega (arith, depth_row t)) end (ap row i ∙ sym (behind_end (row u)));
         }
 
-        pub alike_ends : (at n : ℕ) → Begins a hs cs c d less (Behind at n) → Alike a hs cs x y fuel (leb c.end at)
+        pub alike_ends : (at n : ℕ) → Begins a hs cs c d less (Some (at, n)) → Alike a hs cs x y fuel (leb c.end at)
         alike_ends at n b = record {
           yes = λ e S T t u f g low.
               let m = b.1 S T (row t) (row u) (sc.is hs cs S t f) (sd.is hs cs T u g) (omega (arith, depth_row t)) in

@@ -8,7 +8,6 @@ use native.Mathlib.Omega.{arith}
 use borrow.Author.Tests.{eq-eqb, ne_eqb}
 use lib.ListN.{length, get_or, take, drop, length-take, length-drop, get_elem?}
 use lib.Seq.{get_or-take, get_or-drop}
-use Rattle.terms.specs.declared.Key.TheVariants.{KeyAt, NoKey}
 use Rattle.terms.specs.Term.{Term, Parts}
 use Rattle.terms.specs.Tree.{error, nums, subs, children, row, tag, look_up, receiver_of, member_of, arguments_of}
 use Rattle.terms.specs.Comparison.{no_terms}
@@ -18,6 +17,7 @@ use Rattle.terms.specs.declared.Origin.{Origin}
 use Rattle.terms.specs.Lookup.{Pattern, by_patterns, through, Look, rules, interface, look_by, Ruled, HeldGiven, Looks}
 use Rattle.terms.specs.Words.Arena.{Keyed}
 use Rattle.terms.proofs.Laws.Normalising.ScanLaws.{children_row}
+use Rattle.std.specs.Prelude.{Some, None}
 
 -- ---- elements by place
 
@@ -73,7 +73,7 @@ module _ (b x : ℕ) (ps : Parts) (n m : ℕ) (en : n ≡ get_or (nums ps) 1 0) 
       let l : length keys ≡ min m (length (nums ps) - 3) = simp (length-take, length-drop) in
       (omega arith, omega arith, get_or-take m (drop 3 (nums ps)) j 0 (omega arith) ∙ get_or-drop 3 (nums ps) j 0)
 
-  module _ (i : ℕ) (k : Keyed x (nums ps) (KeyAt i)) where
+  module _ (i : ℕ) (k : Keyed x (nums ps) (Some i)) where
     pub member_found : i < m → member_from b x ps ≡ get_elem? (subs ps) (b + n + i)
     member_found lt =
         let l : length keys ≡ min m (length (nums ps) - 3) = simp (length-take, length-drop) in
@@ -88,7 +88,7 @@ module _ (b x : ℕ) (ps : Parts) (n m : ℕ) (en : n ≡ get_or (nums ps) 1 0) 
     member_late le =
         member_is ∙ look_none x keys _ (λ j h e. let y = key_at j h in k.2 j (omega (arith, y.0)) (sym y.2 ∙ e))
 
-  pub member_none : Keyed x (nums ps) NoKey → member_from b x ps ≡ none
+  pub member_none : Keyed x (nums ps) None → member_from b x ps ≡ none
   member_none k = member_is ∙ look_none x keys _ (λ j h e. let y = key_at j h in k j y.1 (sym y.2 ∙ e))
 
 -- ---- a projection's own member

@@ -14,8 +14,6 @@ use Rattle.terms.specs.declared.Origin.{Origin}
 use Rattle.terms.specs.declared.Rule.{Rule}
 use Rattle.terms.specs.declared.Cursor.{Cursor}
 use Rattle.terms.specs.declared.Content.{Content}
-use Rattle.terms.specs.declared.Met.{Met}
-use Rattle.terms.specs.declared.Met.TheVariants.{Behind, Apart}
 use Rattle.terms.specs.Result.{pick}
 use Rattle.terms.specs.Words.VirtualTokens.{view, Sight}
 use Rattle.terms.specs.Lookup.{Pattern, front, left, by_patterns, rule_at, rule_count, HeldRule, Ruled}
@@ -27,6 +25,7 @@ use Rattle.terms.proofs.Laws.Held.HeldLaws.{kind_some, items_some, held_sub}
 use Rattle.terms.proofs.Laws.Held.SameLaws.{span_held, rows_refl, rows_true}
 use Rattle.terms.proofs.Laws.Normalising.VirtualTokenLaws.{view_held, view_parts}
 use Rattle.terms.proofs.Laws.Normalising.ArenaLaws.{held_tree, tree_kind, tree_row, parted_over, parted_more, parted_number, parted_child}
+use Rattle.std.specs.Prelude.{Option, Some, None}
 
 clash : {A : Type 0} → ◌≡◌ {A = ℕ} 0 1 → A
 clash e = absurd (omega arith)
@@ -77,10 +76,10 @@ module _ (a : Area) (x : Cursor) (m n : ℕ) where
       let d = num_behind a hs cs S b.3 in
       record { first = b.0; kind = b.1; value = b.2; second = d.0; kind2 = d.1; value2 = d.2 }
 
-  pub numbers_apart : (NumbersAre → ⊥) → Numbers a x m n Apart
+  pub numbers_apart : (NumbersAre → ⊥) → Numbers a x m n None
   numbers_apart f hs cs S ps g rest e = f (numbers_are hs cs S ps rest g e)
 
-  pub numbers_met : NumbersAre → x.child ≤ x.at → (at : ℕ) → at ≡ x.at + 2 → Numbers a x m n (Behind at x.child)
+  pub numbers_met : NumbersAre → x.child ≤ x.at → (at : ℕ) → at ≡ x.at + 2 → Numbers a x m n (Some (at, x.child))
   numbers_met w few at z = (
     omega arith,
     λ hs cs S ps f.
@@ -132,11 +131,11 @@ module _ (ks vs : List ℕ) (g : Origin) (s : Sight ks vs g) (hs cs : List ℕ) 
       rw (row_node 20 i) at (w.is hs cs nothing (node 20 i) t)
 
   module _ (x : Cursor) (w : Rule) (fuel : ℕ) (rc : Cursor) (at : ℕ) (e : at ≡ w.receiver) (tr : TermStarts area at rc) where
-    pub front_receiver : Begins area hs cs x rc fuel Apart → Fronted ks vs area hs cs x w fuel Apart
+    pub front_receiver : Begins area hs cs x rc fuel None → Fronted ks vs area hs cs x w fuel None
     front_receiver b S ps p f d h rest q =
         b S nothing ps (sub p.receiver end) f (source_from w.receiver at p.receiver rc h.receiver e tr) d _ (q ∙ front_is p rest)
 
-    module _ (c n : ℕ) (b : Begins area hs cs x rc fuel (Behind c n)) (y : Content) (ic : Cursor) (yh : y.head ≡ w.interface) (yk : y.kids ≡ 0) (st : Starts area y ic) where
+    module _ (c n : ℕ) (b : Begins area hs cs x rc fuel (Some (c, n))) (y : Content) (ic : Cursor) (yh : y.head ≡ w.interface) (yk : y.kids ≡ 0) (st : Starts area y ic) where
       -- after the receiver
       pub record First (S : ℕ → Bool) (ps : Parts) (p : Pattern) : Type 0 where
         pub rest : Parts
@@ -149,14 +148,14 @@ module _ (ks vs : List ℕ) (g : Origin) (s : Sight ks vs g) (hs cs : List ℕ) 
           let r = b.1 S nothing ps (sub p.receiver end) f (source_from w.receiver at p.receiver rc h.receiver e tr) d in
           record { rest = r.0; is = r.1; there = r.2; low = omega (arith, depths_behind (sub p.receiver end) r.0, ap depths r.1) }
 
-      pub front_interface : Begins area hs cs (further x c n) ic fuel Apart → Fronted ks vs area hs cs x w fuel Apart
+      pub front_interface : Begins area hs cs (further x c n) ic fuel None → Fronted ks vs area hs cs x w fuel None
       front_interface b2 S ps p f d h rest q =
           let r = first S ps p f d h in
           let z : sub p.receiver r.rest ≡ sub p.receiver (p.interface +++ num p.member (num (length p.arguments) rest)) = sym r.is ∙ q ∙ front_is p rest in
           b2 S nothing r.rest p.interface r.there (nominal_from w.interface p.interface y ic h.interface yh yk st) r.low
           (num p.member (num (length p.arguments) rest)) (cc)
 
-      module _ (o m : ℕ) (b2 : Begins area hs cs (further x c n) ic fuel (Behind o m)) where
+      module _ (o m : ℕ) (b2 : Begins area hs cs (further x c n) ic fuel (Some (o, m))) where
         -- after the interface
         pub record Second (S : ℕ → Bool) (ps : Parts) (p : Pattern) : Type 0 where
           pub rest : Parts
@@ -169,8 +168,8 @@ module _ (ks vs : List ℕ) (g : Origin) (s : Sight ks vs g) (hs cs : List ℕ) 
             let t = b2.1 S nothing r.rest p.interface r.there (nominal_from w.interface p.interface y ic h.interface yh yk st) r.low in
             record { rest = t.0; is = r.is ∙ ap (sub p.receiver) t.1; there = t.2 }
 
-        pub front_numbers : (r : Met) → Numbers area (further x o m) w.member w.count r → Fronted ks vs area hs cs x w fuel r
-        front_numbers (Behind q i) z = (
+        pub front_numbers : (r : Option (ℕ × ℕ)) → Numbers area (further x o m) w.member w.count r → Fronted ks vs area hs cs x w fuel r
+        front_numbers (Some (q, i)) z = (
           z.0,
           λ S ps p f d h.
               let r = second S ps p f d h in
@@ -178,7 +177,7 @@ module _ (ks vs : List ℕ) (g : Origin) (s : Sight ks vs g) (hs cs : List ℕ) 
               let u = ap₂ (λ (i j : ℕ). num i (num j t.0)) h.member h.count in
               (t.0, r.is ∙ ap (λ (l : Parts). sub p.receiver (p.interface +++ l)) (t.1 ∙ u) ∙ sym (front_is p t.0), t.2),
         )
-        front_numbers Apart z = λ S ps p f d h rest q.
+        front_numbers None z = λ S ps p f d h rest q.
             let r = second S ps p f d h in
             let v : sub p.receiver (p.interface +++ r.rest) ≡ sub p.receiver (p.interface +++ num p.member (num (length p.arguments) rest)) = sym r.is ∙ q ∙ front_is p rest in
             let u = ap₂ (λ (i j : ℕ). num i (num j rest)) h.member h.count in
@@ -307,13 +306,13 @@ module _ (ks vs : List ℕ) (g : Origin) (hs cs : List ℕ) (x : Cursor) (fuel :
     pub few : n ≤ c
     pub is : (S : ℕ → Bool) (ps : Parts) (p : Pattern) → From seen hs cs S x ps → depths ps ≤ fuel → HeldRule ks vs w p → ArguingAt c n q l S ps p
 
-  abbrev pub Arguing : (w : Rule) → Met → (q l : ℕ) → Type 0
-  Arguing w (Behind c n) q l = ArguedBehind w c n q l
-  Arguing w Apart q l = Missed w
+  abbrev pub Arguing : (w : Rule) → Option (ℕ × ℕ) → (q l : ℕ) → Type 0
+  Arguing w (Some (c, n)) q l = ArguedBehind w c n q l
+  Arguing w None q l = Missed w
 
 module _ (ks vs : List ℕ) (g : Origin) (hs cs : List ℕ) (x : Cursor) (fuel : ℕ) (s : Sight ks vs g) where
-  pub arguing_start : (w : Rule) (m : Met) (q : ℕ) → q ≡ w.arguments → Fronted ks vs (view ks vs g) hs cs x w fuel m → Arguing ks vs g hs cs x fuel w m q w.count
-  arguing_start w (Behind c n) q eq f = record {
+  pub arguing_start : (w : Rule) (m : Option (ℕ × ℕ)) (q : ℕ) → q ≡ w.arguments → Fronted ks vs (view ks vs g) hs cs x w fuel m → Arguing ks vs g hs cs x fuel w m q w.count
+  arguing_start w (Some (c, n)) q eq f = record {
     few = f.0;
     is = λ S ps p h d k.
         let t = f.1 S ps p h d k in
@@ -338,7 +337,7 @@ module _ (ks vs : List ℕ) (g : Origin) (hs cs : List ℕ) (x : Cursor) (fuel :
             depths_behind p.interface (num p.member (num (length p.arguments) rest)),
             depths_behind (sub p.receiver end) (p.interface +++ num p.member (num (length p.arguments) rest)),
           )
-  arguing_start w Apart q eq f = record { is = λ S ps p h d k e. f S ps p h d k (put_terms p.arguments end) e }
+  arguing_start w None q eq f = record { is = λ S ps p h d k e. f S ps p h d k (put_terms p.arguments end) e }
 
   module _ (u : Rule) (c n q l : ℕ) (w : ArguedBehind ks vs g hs cs x fuel u c n q l) where
     pub argued_done : l ≡ 0 → x.end ≤ c → Hit ks vs g hs cs x fuel u
@@ -382,8 +381,8 @@ module _ (ks vs : List ℕ) (g : Origin) (hs cs : List ℕ) (x : Cursor) (fuel :
                 held = rw (ts.ends u y.0) y.1;
               }
 
-      pub argued_next : (m : Met) → Begins (view ks vs g) hs cs (further x c n) tc fuel m → Arguing ks vs g hs cs x fuel u m tc.end (l - 1)
-      argued_next (Behind c' n') b = record {
+      pub argued_next : (m : Option (ℕ × ℕ)) → Begins (view ks vs g) hs cs (further x c n) tc fuel m → Arguing ks vs g hs cs x fuel u m tc.end (l - 1)
+      argued_next (Some (c', n')) b = record {
         few = b.0;
         is = λ S ps p h d k.
             let y = next S ps p h d k in
@@ -402,7 +401,7 @@ module _ (ks vs : List ℕ) (g : Origin) (hs cs : List ℕ) (x : Cursor) (fuel :
               from = λ e. t.from (z.1 ∙ ap (sub y.term) e ∙ sym o);
             };
       }
-      argued_next Apart b = record {
+      argued_next None b = record {
         is = λ S ps p h d k e.
             let y = next S ps p h d k in
             let t = y.old in

@@ -12,8 +12,8 @@ use Rattle.terms.specs.Term.{Term, Parts, var, node, end, num, sub}
 use Rattle.terms.specs.Words.Held.{span}
 use Rattle.terms.specs.Tree.{error, nums, subs, children, row}
 use Rattle.terms.specs.Words.Arena.{head_of, kids_of, Tree, Parted, RowAt, NumberAt, KeyOf}
-use Rattle.terms.specs.declared.Key.TheVariants.{KeyAt, NoKey}
 use Rattle.terms.proofs.Laws.Normalising.ArenaLaws.{parted_over, parted_number, parted_child, tree_row}
+use Rattle.std.specs.Prelude.{Some, None}
 
 -- ---- a term's row, from its first token's kind and value
 
@@ -163,7 +163,7 @@ passed_next x k n w v r ne p =
         ne (omega arith) (sym (passed_num x k n w v r p).1 ∙ ap (λ (i : ℕ). get_or (nums w) i 0) (sym o) ∙ z)
 
 module _ (a : Area) (h e q x k : ℕ) (s : Scan a h e q (Passed x k)) where
-  pub key_over : e ≤ q → KeyOf a h x NoKey
+  pub key_over : e ≤ q → KeyOf a h x None
   key_over le = record {
     is = λ hs cs S c t w j lt z.
         let y = scan_over a h e q (Passed x k) s le hs cs S c t w in
@@ -172,7 +172,7 @@ module _ (a : Area) (h e q x k : ℕ) (s : Scan a h e q (Passed x k)) where
   }
 
   module _ (lt : q < e) {j v : ℕ} (ek : j ≡ get_or a.kinds q 0) (ev : v ≡ get_or a.vals q 0) where
-    pub key_here : j ≡ 0 → v ≡ x → 3 ≤ k → KeyOf a h x (KeyAt (k - 3))
+    pub key_here : j ≡ 0 → v ≡ x → 3 ≤ k → KeyOf a h x (Some (k - 3))
     key_here z vx k3 = record {
       is = λ hs cs S c t w.
           let y = scan_here a h e q (Passed x k) s lt ek ev z hs cs S c t w in

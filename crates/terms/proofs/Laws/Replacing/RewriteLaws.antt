@@ -9,8 +9,6 @@ use borrow.Author.Tests.{eq-eqb, ne_eqb, lt-ltb, le-ltb, ltb-true}
 use lib.Dec.{eqb, ltb}
 use lib.ListN.{length, get_or, length-append}
 use lib.Seq.{sets, length-sets}
-use Rattle.terms.specs.declared.Lookup.{Lookup}
-use Rattle.terms.specs.declared.Lookup.TheVariants.{At, Nothing}
 use Rattle.terms.specs.declared.Binders.{Binders}
 use Rattle.terms.specs.declared.Choice.{Choice}
 use Rattle.terms.specs.declared.Choice.TheVariants.{Keep, By, Unknown}
@@ -19,9 +17,11 @@ use Rattle.terms.specs.Words.TokenBytes.{spelt}
 use Rattle.terms.specs.Parameters.{is_found}
 use Rattle.terms.specs.Words.Held.{span}
 use Rattle.terms.specs.Words.FindContract.{stride, last_at, nth_at, entry_at, receiver_at, argument_for}
-use Rattle.terms.specs.Words.RewriteContract.{by, index, self, generic, in_context_of, chosen, piece, pace, pieces, rewritten, written, Ready, Space, Inside, Writes}
+use Rattle.terms.specs.Questions.{Parameter}
+use Rattle.terms.specs.Words.RewriteContract.{by, index, self, generic, in_context_of, named_at, chosen, piece, pace, pieces, rewritten, written, Ready, Space, Inside, Writes}
 use Rattle.terms.proofs.Laws.Format.WriteLaws.{sets_append, spelt_short}
 use Rattle.terms.proofs.Laws.Replacing.FindLaws.{clip_within}
+use Rattle.std.specs.Prelude.{Option, Some, None}
 
 pub pick_yes : {A : Type 0} (t : Bool) (x y : A) → t ≡ true → x ≡ pick t x y
 pick_yes t x y e = rw e
@@ -31,24 +31,24 @@ pick_no t x y e = rw e
 
 -- ---- what is chosen
 
-module _ (ks vs s : List ℕ) (b : Binders) (o q : ℕ) where
-  pub generic_argument : (p : ℕ) → At p ≡ argument_for ks vs b.arguments (index s b o q) → By p ≡ generic ks vs s b o q
+module _ (ks vs s : List ℕ) (b : Binders) (w : Parameter) where
+  pub generic_argument : (p : ℕ) → Some p ≡ argument_for ks vs b.arguments (index s b w) → By p ≡ generic ks vs s b w
   unfolding generic
   generic_argument p e = rw (← e)
 
-  pub generic_entry : (r : Choice) (e : Lookup) → Nothing ≡ argument_for ks vs b.arguments (index s b o q) → e ≡ entry_at ks vs b.entries b.receivers o q → r ≡ by e Keep → r ≡ generic ks vs s b o q
+  pub generic_entry : (r : Choice) (e : Option ℕ) → None ≡ argument_for ks vs b.arguments (index s b w) → e ≡ entry_at ks vs b.entries b.receivers w.owner w.position → r ≡ by e Keep → r ≡ generic ks vs s b w
   unfolding generic
   generic_entry r e n f h = h ∙ rw (← n, f)
 
-  pub context_entry : (p : ℕ) → At p ≡ entry_at ks vs b.entries b.receivers o q → By p ≡ in_context_of ks vs s b o q
+  pub context_entry : (p : ℕ) → Some p ≡ entry_at ks vs b.entries b.receivers w.owner w.position → By p ≡ in_context_of ks vs s b w
   unfolding in_context_of
   context_entry p e = rw (← e)
 
-  pub context_parameter : (k : ℕ) → Nothing ≡ entry_at ks vs b.entries b.receivers o q → At k ≡ index s b o q → Unknown ≡ in_context_of ks vs s b o q
+  pub context_parameter : (k : ℕ) → None ≡ entry_at ks vs b.entries b.receivers w.owner w.position → Some k ≡ index s b w → Unknown ≡ in_context_of ks vs s b w
   unfolding in_context_of
   context_parameter k e n = rw (← e, ← n)
 
-  pub context_none : Nothing ≡ entry_at ks vs b.entries b.receivers o q → Nothing ≡ index s b o q → Keep ≡ in_context_of ks vs s b o q
+  pub context_none : None ≡ entry_at ks vs b.entries b.receivers w.owner w.position → None ≡ index s b w → Keep ≡ in_context_of ks vs s b w
   unfolding in_context_of
   context_none e n = rw (← e, ← n)
 
@@ -57,21 +57,25 @@ module _ (ks vs : List ℕ) (b : Binders) (o : ℕ) where
   unfolding self
   self_context e = rw e
 
-  pub self_receiver : b.context ≡ false → (r : Choice) (e : Lookup) → e ≡ receiver_at ks vs b.receivers b.finish o → r ≡ by e Keep → r ≡ self ks vs b o
+  pub self_receiver : b.context ≡ false → (r : Choice) (e : Option ℕ) → e ≡ receiver_at ks vs b.receivers b.finish o → r ≡ by e Keep → r ≡ self ks vs b o
   unfolding self
   self_receiver c r e f h = rw c (h ∙ rw f)
 
+-- the parameter whose owner and position stand there
+named_is : (ks vs s : List ℕ) (b : Binders) (w : Parameter) (p : ℕ) → w.owner ≡ get_or vs (p + 1) 0 → w.position ≡ get_or vs (p + 2) 0 → w ≡ named_at ks vs s b p
+named_is ks vs s b w p e f = λ i. record { owner = e i; position = f i }
+
 module _ (ks vs s : List ℕ) (b : Binders) (p : ℕ) where
-  pub chosen_context : get_or ks p 0 ≡ 19 → b.context ≡ true → (r : Choice) (o q : ℕ) → o ≡ get_or vs (p + 1) 0 → q ≡ get_or vs (p + 2) 0 → r ≡ in_context_of ks vs s b o q → r ≡ chosen ks vs s b p
+  pub chosen_context : get_or ks p 0 ≡ 19 → b.context ≡ true → (r : Choice) (w : Parameter) → w.owner ≡ get_or vs (p + 1) 0 → w.position ≡ get_or vs (p + 2) 0 → r ≡ in_context_of ks vs s b w → r ≡ chosen ks vs s b p
   unfolding chosen
-  chosen_context k c r o q e f h =
-      let z : in_context_of ks vs s b o q ≡ in_context_of ks vs s b (get_or vs (p + 1) 0) (get_or vs (p + 2) 0) = rw (e, f) in
+  chosen_context k c r w e f h =
+      let z : in_context_of ks vs s b w ≡ in_context_of ks vs s b (named_at ks vs s b p) = ap (in_context_of ks vs s b) (named_is ks vs s b w p e f) in
       h ∙ z ∙ pick_yes b.context _ _ c ∙ pick_yes (eqb (get_or ks p 0) 19) _ _ (eq-eqb (get_or ks p 0) 19 k)
 
-  pub chosen_generic : get_or ks p 0 ≡ 19 → b.context ≡ false → (r : Choice) (o q : ℕ) → o ≡ get_or vs (p + 1) 0 → q ≡ get_or vs (p + 2) 0 → r ≡ generic ks vs s b o q → r ≡ chosen ks vs s b p
+  pub chosen_generic : get_or ks p 0 ≡ 19 → b.context ≡ false → (r : Choice) (w : Parameter) → w.owner ≡ get_or vs (p + 1) 0 → w.position ≡ get_or vs (p + 2) 0 → r ≡ generic ks vs s b w → r ≡ chosen ks vs s b p
   unfolding chosen
-  chosen_generic k c r o q e f h =
-      let z : generic ks vs s b o q ≡ generic ks vs s b (get_or vs (p + 1) 0) (get_or vs (p + 2) 0) = rw (e, f) in
+  chosen_generic k c r w e f h =
+      let z : generic ks vs s b w ≡ generic ks vs s b (named_at ks vs s b p) = ap (generic ks vs s b) (named_is ks vs s b w p e f) in
       h ∙ z ∙ pick_no b.context _ _ c ∙ pick_yes (eqb (get_or ks p 0) 19) _ _ (eq-eqb (get_or ks p 0) 19 k)
 
   pub chosen_self : (get_or ks p 0 ≡ 19 → ⊥) → get_or ks p 0 ≡ 21 → (r : Choice) (o : ℕ) → o ≡ get_or vs (p + 1) 0 → r ≡ self ks vs b o → r ≡ chosen ks vs s b p
@@ -127,23 +131,23 @@ module _ (on : Bool) (out : List ℕ) (i : ℕ) (x y : List ℕ) (e : x ≡ y) w
 -- ---- what is chosen is within the areas
 
 -- a place that was found is below e
-pub Below : ℕ → Lookup → Type 0
-Below e (At q) = q < e
-Below e Nothing = Unit {0}
+pub Below : ℕ → Option ℕ → Type 0
+Below e (Some q) = q < e
+Below e None = Unit {0}
 
-below_more : (t : Bool) (e q : ℕ) (best : Lookup) → q < e → Below e best → Below e (pick t (At q) best)
+below_more : (t : Bool) (e q : ℕ) (best : Option ℕ) → q < e → Below e best → Below e (pick t (Some q) best)
 unfolding Below
 below_more true e q best h b = h
 below_more false e q best h b = b
 
 module _ (ks vs : List ℕ) where
-  last_below : (w a b f i e : ℕ) (best : Lookup) → Below e best → Below e (last_at ks vs w a b f i e best)
+  last_below : (w a b f i e : ℕ) (best : Option ℕ) → Below e best → Below e (last_at ks vs w a b f i e best)
   unfolding last_at
   last_below w a b zero i e best h = h
   last_below w a b (suc f) i e best h = go (ltb (i + w) e) refl (last_below w a b f (i + w + stride ks vs (i + w) (e - (i + w))) e better)
     where
-      better : Lookup
-      better = pick (eqb (get_or vs i 0) a && eqb (get_or vs (i + w - 1) 0) b) (At (i + w)) best
+      better : Option ℕ
+      better = pick (eqb (get_or vs i 0) a && eqb (get_or vs (i + w - 1) 0) b) (Some (i + w)) best
 
       go : (t : Bool) → ltb (i + w) e ≡ t → (Below e better → Below e (last_at ks vs w a b f (i + w + stride ks vs (i + w) (e - (i + w))) e better))
           → Below e (pick t (last_at ks vs w a b f (i + w + stride ks vs (i + w) (e - (i + w))) e better) best)
@@ -154,24 +158,24 @@ module _ (ks vs : List ℕ) where
   unfolding nth_at Below
   nth_below zero i = go (ltb i (length ks)) refl
     where
-      go : (t : Bool) → ltb i (length ks) ≡ t → Below (length ks) (pick t (At i) Nothing)
+      go : (t : Bool) → ltb i (length ks) ≡ t → Below (length ks) (pick t (Some i) None)
       go true p = ltb-true i (length ks) p
       go false p = tt
   nth_below (suc n) i = go (ltb i (length ks)) (nth_below n (i + stride ks vs i (length ks - i)))
     where
-      go : (t : Bool) → Below (length ks) (nth_at ks vs n (i + stride ks vs i (length ks - i))) → Below (length ks) (pick t (nth_at ks vs n (i + stride ks vs i (length ks - i))) Nothing)
+      go : (t : Bool) → Below (length ks) (nth_at ks vs n (i + stride ks vs i (length ks - i))) → Below (length ks) (pick t (nth_at ks vs n (i + stride ks vs i (length ks - i))) None)
       go true h = h
       go false h = tt
 
-  below_by : (e : ℕ) → e ≤ length ks → (l : Lookup) (c : Choice) → Below e l → Inside ks c → Inside ks (by l c)
+  below_by : (e : ℕ) → e ≤ length ks → (l : Option ℕ) (c : Choice) → Below e l → Inside ks c → Inside ks (by l c)
   unfolding Below
-  below_by e m (At q) c h k = omega arith
-  below_by e m Nothing c h k = k
+  below_by e m (Some q) c h k = omega arith
+  below_by e m None c h k = k
 
-  argument_below : (i : ℕ) (n : Lookup) → Below (length ks) (argument_for ks vs i n)
+  argument_below : (i : ℕ) (n : Option ℕ) → Below (length ks) (argument_for ks vs i n)
   unfolding Below
-  argument_below i (At n) = nth_below n i
-  argument_below i Nothing = tt
+  argument_below i (Some n) = nth_below n i
+  argument_below i None = tt
 
   inside_pick : (t : Bool) (c d : Choice) → Inside ks c → Inside ks d → Inside ks (pick t c d)
   inside_pick true c d h k = h
@@ -182,13 +186,14 @@ module _ (ks vs : List ℕ) where
   chosen_inside s b r p =
       let o = get_or vs (p + 1) 0 in
       let q = get_or vs (p + 2) 0 in
+      let w = named_at ks vs s b p in
       let entry = entry_at ks vs b.entries b.receivers o q in
-      let e = last_below 2 o q (b.receivers - b.entries) b.entries b.receivers Nothing tt in
-      let f = last_below 1 o o (b.finish - b.receivers) b.receivers b.finish Nothing tt in
+      let e = last_below 2 o q (b.receivers - b.entries) b.entries b.receivers None tt in
+      let f = last_below 1 o o (b.finish - b.receivers) b.receivers b.finish None tt in
       inside_pick (eqb (get_or ks p 0) 19) _ _
-      (inside_pick b.context (in_context_of ks vs s b o q) (generic ks vs s b o q)
-      (below_by b.receivers r.entries entry (pick (is_found (index s b o q)) Unknown Keep) e (inside_pick (is_found (index s b o q)) Unknown Keep tt tt))
-      (below_by (length ks) (omega arith) (argument_for ks vs b.arguments (index s b o q)) (by entry Keep) (argument_below b.arguments (index s b o q))
+      (inside_pick b.context (in_context_of ks vs s b w) (generic ks vs s b w)
+      (below_by b.receivers r.entries entry (pick (is_found (index s b w)) Unknown Keep) e (inside_pick (is_found (index s b w)) Unknown Keep tt tt))
+      (below_by (length ks) (omega arith) (argument_for ks vs b.arguments (index s b w)) (by entry Keep) (argument_below b.arguments (index s b w))
       (below_by b.receivers r.entries entry Keep e tt)))
       (inside_pick (eqb (get_or ks p 0) 21) (self ks vs b o) Keep
       (inside_pick b.context Keep _ tt (below_by b.finish r.receivers (receiver_at ks vs b.receivers b.finish o) Keep f tt)) tt)

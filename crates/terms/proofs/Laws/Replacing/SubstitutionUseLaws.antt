@@ -2,14 +2,13 @@
 use mathlib.Core.Path.{◌≡◌, refl, sym, ap, ◌∙◌}
 use mathlib.Core.Bool.{Bool, true, false}
 use mathlib.Core.List.{List, [], ◌∷◌, ◌++◌, append-nil}
-use mathlib.Core.Option.{Option, none, some}
+use mathlib.Core.Option as math
+use mathlib.Core.Option.{none, some}
 use Prim.Native.Nat.{ℕ, ◌+◌, ◌-◌, ◌≤◌}
 use native.Mathlib.Omega.{arith}
 use borrow.Author.Tests.{eq-eqb, ne_eqb, eqb-true, eqb-false}
 use lib.Dec.{eqb}
 use lib.ListN.{length, get_or}
-use Rattle.terms.specs.declared.Lookup.{Lookup}
-use Rattle.terms.specs.declared.Lookup.TheVariants.{At, Nothing}
 use Rattle.terms.specs.declared.Binders.{Binders}
 use Rattle.terms.specs.declared.Choice.{Choice}
 use Rattle.terms.specs.declared.Choice.TheVariants.{Keep, Unknown}
@@ -32,6 +31,7 @@ use Rattle.terms.proofs.Laws.Replacing.SubstitutionLaws.{else_none, get_append, 
 use Rattle.terms.proofs.Laws.Replacing.FindLaws.{stride_held, entry_held, receiver_held, argument_held}
 use Rattle.terms.proofs.Laws.Replacing.RewriteLaws.{chosen_context, chosen_generic, chosen_self, chosen_keep, self_context, self_receiver}
 use Rattle.terms.proofs.Laws.Replacing.InsertLaws.{substituted_bytes}
+use Rattle.std.specs.Prelude.{Option, Some, None}
 
 -- ---- the heads of a Generic and of a SelfType
 
@@ -102,11 +102,11 @@ module _ (ks vs : List ℕ) (p : ℕ) where
 -- ---- what is chosen is what the step gives
 
 module _ (ks vs : List ℕ) where
-  agrees_by : (l : Lookup) (c : Choice) (o p : Option Term) → Finds ks vs l o → Agrees ks vs c p → Agrees ks vs (by l c) (or_else o p)
-  agrees_by (At q) c o p f a = (f.0, rw f.1, f.2)
-  agrees_by Nothing c o p f a = rw f a
+  agrees_by : (l : Option ℕ) (c : Choice) (o p : math.Option Term) → Finds ks vs l o → Agrees ks vs c p → Agrees ks vs (by l c) (or_else o p)
+  agrees_by (Some q) c o p f a = (f.0, rw f.1, f.2)
+  agrees_by None c o p f a = rw f a
 
-  agrees_is : (c d : Choice) (o p : Option Term) → d ≡ c → p ≡ o → Agrees ks vs c o → Agrees ks vs d p
+  agrees_is : (c d : Choice) (o p : math.Option Term) → d ≡ c → p ≡ o → Agrees ks vs c o → Agrees ks vs d p
   agrees_is c d o p e f a = rw (e, f) a
 
   agrees_known : (t : Bool) → Agrees ks vs (pick t Unknown Keep) (pick t (some unknown) none)
@@ -118,7 +118,7 @@ pub number_kept : (ks vs s : List ℕ) (b : Binders) (p : ℕ) → get_or ks p 0
 number_kept ks vs s b p h = sym (chosen_keep ks vs s b p (λ e. omega arith) (λ e. omega arith))
 
 module _ (ks vs s : List ℕ) (b : Binders) (es : List Entry) (rs : List Receiver) (ps : List Parameter) (h : HeldBinders ks vs s b es rs ps) where
-  index_is : (o q : ℕ) → index s b o q ≡ last_index ps (record { owner = o; position = q })
+  index_is : (o q : ℕ) → index s b (record { owner = o; position = q }) ≡ last_index ps (record { owner = o; position = q })
   index_is o q = rw h.parameters
 
   entry_finds : (o q : ℕ) → Finds ks vs (entry_at ks vs b.entries b.receivers o q) (get es (record { owner = o; position = q }))
@@ -126,11 +126,11 @@ module _ (ks vs s : List ℕ) (b : Binders) (es : List Entry) (rs : List Receive
 
   -- `argument_context`
   module _ (c : b.context ≡ true) where
-    context_agrees : (o q : ℕ) → Agrees ks vs (in_context_of ks vs s b o q) (or_else (get es (record { owner = o; position = q })) (pick (contains ps (record { owner = o; position = q })) (some unknown) none))
+    context_agrees : (o q : ℕ) → Agrees ks vs (in_context_of ks vs s b (record { owner = o; position = q })) (or_else (get es (record { owner = o; position = q })) (pick (contains ps (record { owner = o; position = q })) (some unknown) none))
     unfolding in_context_of
     context_agrees o q =
-        let known : is_found (index s b o q) ≡ contains ps (record { owner = o; position = q }) = ap is_found (index_is o q) ∙ found_contains ps (record { owner = o; position = q }) in
-        agrees_by ks vs (entry_at ks vs b.entries b.receivers o q) (pick (is_found (index s b o q)) Unknown Keep) (get es (record { owner = o; position = q })) _ (entry_finds o q) (rw known (agrees_known ks vs (contains ps (record { owner = o; position = q }))))
+        let known : is_found (index s b (record { owner = o; position = q })) ≡ contains ps (record { owner = o; position = q }) = ap is_found (index_is o q) ∙ found_contains ps (record { owner = o; position = q }) in
+        agrees_by ks vs (entry_at ks vs b.entries b.receivers o q) (pick (is_found (index s b (record { owner = o; position = q }))) Unknown Keep) (get es (record { owner = o; position = q })) _ (entry_finds o q) (rw known (agrees_known ks vs (contains ps (record { owner = o; position = q }))))
 
     contextually : (p : ℕ) (t : Term) → Held ks vs p t → Formed t → Agrees ks vs (chosen ks vs s b p) (contextual (record { parameters = es; receivers = rs }) ps t)
     unfolding contextual
@@ -138,7 +138,7 @@ module _ (ks vs s : List ℕ) (b : Binders) (es : List Entry) (rs : List Receive
       where
         go : Head ks vs p t → Agrees ks vs (chosen ks vs s b p) (contextual (record { parameters = es; receivers = rs }) ps t)
         go (binder x y u v) =
-            agrees_is ks vs (in_context_of ks vs s b (first t) (second t)) _ _ _ (sym (chosen_context ks vs s b p y c _ (first t) (second t) (sym u) (sym v) refl)) (rw (eq-eqb (tag t) 17 x))
+            agrees_is ks vs (in_context_of ks vs s b (record { owner = first t; position = second t })) _ _ _ (sym (chosen_context ks vs s b p y c _ (record { owner = first t; position = second t }) (sym u) (sym v) refl)) (rw (eq-eqb (tag t) 17 x))
             (context_agrees (first t) (second t))
         go (owner x y u) =
             agrees_is ks vs Keep _ none _
@@ -151,15 +151,15 @@ module _ (ks vs s : List ℕ) (b : Binders) (es : List Entry) (rs : List Receive
     abbrev whole : TypeSubstitution
     whole = extend (record { parameters = es; receivers = rs }) (zipped ps ts)
 
-    generic_agrees : (o q : ℕ) → Agrees ks vs (generic ks vs s b o q) (get (es ++ zipped ps ts) (record { owner = o; position = q }))
+    generic_agrees : (o q : ℕ) → Agrees ks vs (generic ks vs s b (record { owner = o; position = q })) (get (es ++ zipped ps ts) (record { owner = o; position = q }))
     unfolding generic
     generic_agrees o q =
         let p : Parameter = record { owner = o; position = q } in
         let entry = entry_at ks vs b.entries b.receivers o q in
-        let f : Finds ks vs (argument_for ks vs b.arguments (index s b o q)) (get (zipped ps ts) p) = rw (index_is o q) (a p) in
-        let g = agrees_by ks vs (argument_for ks vs b.arguments (index s b o q)) (by entry Keep) (get (zipped ps ts) p) _ f (agrees_by ks vs entry Keep (get es p) none (entry_finds o q) refl) in
-        agrees_is ks vs (by (argument_for ks vs b.arguments (index s b o q)) (by entry Keep)) _ _ _ refl
-        (get_append es (zipped ps ts) p ∙ ap (λ (x : Option Term). or_else (get (zipped ps ts) p) x) (sym (else_none (get es p)))) g
+        let f : Finds ks vs (argument_for ks vs b.arguments (index s b (record { owner = o; position = q }))) (get (zipped ps ts) p) = rw (index_is o q) (a p) in
+        let g = agrees_by ks vs (argument_for ks vs b.arguments (index s b (record { owner = o; position = q }))) (by entry Keep) (get (zipped ps ts) p) _ f (agrees_by ks vs entry Keep (get es p) none (entry_finds o q) refl) in
+        agrees_is ks vs (by (argument_for ks vs b.arguments (index s b (record { owner = o; position = q }))) (by entry Keep)) _ _ _ refl
+        (get_append es (zipped ps ts) p ∙ ap (λ (x : math.Option Term). or_else (get (zipped ps ts) p) x) (sym (else_none (get es p)))) g
 
     self_agrees : (o : ℕ) → Agrees ks vs (by (receiver_at ks vs b.receivers b.finish o) Keep) (receiver rs o)
     self_agrees o =
@@ -173,7 +173,7 @@ module _ (ks vs s : List ℕ) (b : Binders) (es : List Entry) (rs : List Receive
       where
         go : Head ks vs p t → Agrees ks vs (chosen ks vs s b p) (instantiated whole t)
         go (binder x y u v) =
-            agrees_is ks vs (generic ks vs s b (first t) (second t)) _ _ _ (sym (chosen_generic ks vs s b p y c _ (first t) (second t) (sym u) (sym v) refl)) (rw (eq-eqb (tag t) 17 x))
+            agrees_is ks vs (generic ks vs s b (record { owner = first t; position = second t })) _ _ _ (sym (chosen_generic ks vs s b p y c _ (record { owner = first t; position = second t }) (sym u) (sym v) refl)) (rw (eq-eqb (tag t) 17 x))
             (generic_agrees (first t) (second t))
         go (owner x y u) =
             agrees_is ks vs (by (receiver_at ks vs b.receivers b.finish (first t)) Keep) _ _ _
@@ -186,7 +186,7 @@ module _ (ks vs s : List ℕ) (b : Binders) (es : List Entry) (rs : List Receive
 
 module _ (ks vs s : List ℕ) (b : Binders) (a : ℕ) where
   -- what is written is the bytes after a step that agrees with the choices
-  step_bytes : (f : Term → Option Term) → ((p : ℕ) (t : Term) → Held ks vs p t → Formed t → Agrees ks vs (chosen ks vs s b p) (f t))
+  step_bytes : (f : Term → math.Option Term) → ((p : ℕ) (t : Term) → Held ks vs p t → Formed t → Agrees ks vs (chosen ks vs s b p) (f t))
       → (t : Term) → Formed t → Held ks vs a t → written ks vs s b a ≡ bytes (substitute_once f t)
   step_bytes f agrees t w h =
       substituted_bytes ks vs (chosen ks vs s b) f (number_kept ks vs s b) agrees t a _ h w (stride_held ks vs a (length ks - a) t h (omega (arith, h.within)))

@@ -1,0 +1,13 @@
+-- `find_record`. Invariant: the records that are left, with what was found, give the answer.
+use mathlib.Core.Path.{◌≡◌}
+use Prim.Native.Nat.{◌-◌}
+use Rattle.terms.specs.Words.FindContract.{last_at}
+use Rattle.terms.proofs.find.find_record.Given as goal
+use Rattle.std.specs.Prelude.{None}
+
+abbrev pub invariant-loop-i : goal.invariant-loop-i
+invariant-loop-i l =
+    last_at l.kinds l.vals l.width l.wanted.owner l.wanted.position (l.end - l.i) l.i l.end l.best ≡ last_at l.kinds l.vals l.width l.wanted.owner l.wanted.position (l.end - l.from) l.from l.end None
+
+abbrev pub decreases-loop-i : goal.decreases-loop-i
+decreases-loop-i l = l.end - l.i

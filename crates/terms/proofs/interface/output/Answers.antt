@@ -1,0 +1,32 @@
+-- `output`. The member is known, or not.
+use mathlib.Core.Path.{sym, ap, ◌∙◌}
+use Prim.Native.Nat.{ℕ, ◌+◌, ◌*◌}
+use lib.ListN.{length}
+use Rattle.terms.specs.Term.{Parts}
+use Rattle.terms.specs.Normal.{member_from}
+use Rattle.terms.proofs.Laws.Normalising.InterfaceLaws.{row_node, interface_tree, made_tree, output_known, output_made}
+use Rattle.terms.proofs.interface.output.Goals as goal
+
+pub returns-in-Some : goal.returns-in-Some
+returns-in-Some c =
+    let source' = c.source in
+    let token-at' = c.token_at-x in
+    λ S i owner h k.
+    let r = rw c.in-Some.is at (c.member_of-known.ensures S _ (interface_tree c.args.kinds.now c.args.vals.now
+    c.args.g c.requires i owner h c.args.heads.now c.args.kids.now S _ _ source'.ensures.0 source'.ensures.1)) in
+    let e = ap (λ (j : Parts). member_from 0 token-at'.result.value j) (sym (row_node 20 i)) ∙ r.1 in
+    rw (← token-at'.ensures.value, output_known owner i _ r.0 e) r.2
+
+pub returns : goal.returns
+returns c =
+    let source' = c.source in
+    let token-at' = c.token_at-x in
+    let lent-place' = c.lent_place-t in
+    λ S i owner h k.
+    let r = rw c.in_default.is at (c.member_of-known.ensures S _ (interface_tree c.args.kinds.now c.args.vals.now c.args.g c.requires i owner h c.args.heads.now c.args.kids.now S _ _
+    source'.ensures.0 source'.ensures.1)) in
+    let e = ap (λ (j : Parts). member_from 0 token-at'.result.value j) (sym (row_node 20 i)) ∙ r in
+    let z = ap (λ (n : ℕ). member_from 0 n i) (sym token-at'.ensures.value) ∙ e in
+    rw (output_made owner i _ z) (made_tree c.args.kinds.now c.args.vals.now c.args.g c.requires i owner h c.args.heads.now
+    c.args.kids.now S _ _ _ _ lent-place'.ensures k
+    (c.source-2.ensures.0 ∙ ap (λ (n : ℕ). length c.args.kinds.now + 1 + lent-place'.result * n) c.wide.ensures) c.source-2.ensures.1)

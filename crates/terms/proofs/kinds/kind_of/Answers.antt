@@ -1,0 +1,79 @@
+-- `kind_of`: each single tag by computation on the table, the two ranges by `nominal_tag` and `unlisted_tag`.
+use Prim.Native.Nat.{zero-le}
+use Rattle.terms.specs.Shape.{kind_of, many_terms}
+use Rattle.terms.proofs.Laws.Format.KindLaws.{nominal_tag, unlisted_tag, past}
+use Rattle.terms.proofs.kinds.kind_of.Goals as goal
+
+pub returns-in-0 : goal.returns-in-0
+unfolding kind_of many_terms
+returns-in-0 c = rw c.in-0.is c.plain.ensures
+
+pub returns-in-1 : goal.returns-in-1
+unfolding kind_of many_terms
+returns-in-1 c = rw c.in-1.is
+
+pub returns-in-2 : goal.returns-in-2
+unfolding kind_of many_terms
+returns-in-2 c = rw c.in-2.is c.plain-in-2.ensures
+
+pub returns-in-3 : goal.returns-in-3
+unfolding kind_of many_terms
+returns-in-3 c = rw c.in-3.is c.plain-in-3.ensures
+
+pub returns-in-4 : goal.returns-in-4
+unfolding kind_of many_terms
+returns-in-4 c = rw c.in-4.is c.plain-in-4.ensures
+
+pub returns-in-5 : goal.returns-in-5
+unfolding kind_of many_terms
+returns-in-5 c = rw c.in-5.is c.plain-in-5.ensures
+
+pub returns-in-6 : goal.returns-in-6
+unfolding kind_of many_terms
+returns-in-6 c = rw c.in-6.is c.plain-in-6.ensures
+
+pub returns-in-7 : goal.returns-in-7
+unfolding kind_of many_terms
+returns-in-7 c = rw c.in-7.is c.plain-in-7.ensures
+
+pub returns-in-8 : goal.returns-in-8
+unfolding kind_of many_terms
+returns-in-8 c = rw c.in-8.is c.plain-in-8.ensures
+
+pub returns-in-9 : goal.returns-in-9
+unfolding kind_of many_terms
+returns-in-9 c = rw c.in-9.is c.plain-in-9.ensures
+
+pub returns-in-10 : goal.returns-in-10
+unfolding kind_of many_terms
+returns-in-10 c = rw c.in-10.is c.plain-in-10.ensures
+
+pub returns-in-11 : goal.returns-in-11
+unfolding kind_of many_terms
+returns-in-11 c = rw c.in-11.is c.plain-in-11.ensures
+
+pub returns-in-16 : goal.returns-in-16
+unfolding kind_of many_terms
+returns-in-16 c = rw c.in-16.is c.plain-in-16.ensures
+
+pub returns-in-17 : goal.returns-in-17
+unfolding kind_of many_terms
+returns-in-17 c = rw c.in-17.is c.plain-in-17.ensures
+
+pub returns-in-18 : goal.returns-in-18
+unfolding kind_of many_terms
+returns-in-18 c = rw c.in-18.is
+
+pub returns-in-19 : goal.returns-in-19
+unfolding kind_of many_terms
+returns-in-19 c = rw c.in-19.is c.plain-in-19.ensures
+
+pub returns-in-12-to-15 : goal.returns-in-12-to-15
+returns-in-12-to-15 c =
+    let n = c.in-12-to-15.in_default-own.rest in
+    nominal_tag _ (past 11 _ (past 10 _ (past 9 _ (past 8 _ (past 7 _ (past 6 _ (past 5 _ (past 4 _ (past 3 _ (past 2 _ (past 1 _ (past 0 _ zero-le n.0.0.0.0.0.0.0.0.0.0.0.0.0.0.0.1) n.0.0.0.0.0.0.0.0.0.0.0.0.0.0.1) n.0.0.0.0.0.0.0.0.0.0.0.0.0.1) n.0.0.0.0.0.0.0.0.0.0.0.0.1) n.0.0.0.0.0.0.0.0.0.0.0.1) n.0.0.0.0.0.0.0.0.0.0.1) n.0.0.0.0.0.0.0.0.0.1) n.0.0.0.0.0.0.0.0.1) n.0.0.0.0.0.0.0.1) n.0.0.0.0.0.0.1) n.0.0.0.0.0.1) n.0.0.0.0.1) c.in-12-to-15.if-tag-lt16-own.true
+
+pub returns-in-20-to-255 : goal.returns-in-20-to-255
+returns-in-20-to-255 c =
+    let n = c.in-20-to-255.in_default-own.rest in
+    unlisted_tag _ (past 19 _ (past 18 _ (past 17 _ (past 16 _ c.in-20-to-255.if-tag-lt16-own.false n.0.0.0.1) n.0.0.1) n.0.1) n.1)

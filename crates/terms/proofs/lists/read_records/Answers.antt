@@ -1,0 +1,44 @@
+-- The laws of `Along`, at the reader's place; the bytes stay those of the slice.
+use Rattle.std.proofs.Common.{◌∙◌, ap, arith, refl, List, ℕ, Bor}
+use native.Mathlib.Nat.{sub-zero}
+use Rattle.terms.specs.Words.Tokens.{area}
+use Rattle.terms.specs.Words.ListsContract.{list_at}
+use Rattle.terms.proofs.Laws.General.Options.{handed_on}
+use Rattle.terms.proofs.Laws.Format.ReadLaws.{sub_step}
+use Rattle.terms.proofs.Laws.Format.ListReaderLaws.{along_start, along_room, along_next, along_stop, along_end}
+use Rattle.terms.proofs.lists.read_records.Goals as goal
+
+pub loop-i-init : goal.loop-i-init
+loop-i-init c =
+    let a = c.args in
+    record { bytes = refl; along = along_start a.s.now a.w a.count a.place.now (area a.kinds.now a.vals.now) c.requires }
+
+pub next_record-requires : goal.next_record-requires
+next_record-requires c =
+    let a = c.args in
+    let l = c.loop-i in
+    rw l.invariant.bytes (along_room a.s.now a.w a.count a.place.now (area a.kinds.now a.vals.now) c.requires l.i l.reader.place (area l.kinds l.vals) l.invariant.along)
+
+pub loop-i-preserved : goal.loop-i-preserved
+loop-i-preserved c =
+    let a = c.args in
+    let l = c.loop-i in
+    let x = rw l.invariant.bytes at c.in_ok-next_record.ensures.done in
+    record {
+      bytes = ap (λ (b : Bor (List ℕ)). b.now) c.next_record.ensures.bytes ∙ l.invariant.bytes;
+      along = rw (sub_step a.count l.i) (along_next a.s.now a.w a.count a.place.now (area a.kinds.now a.vals.now) c.requires l.i l.reader.place (area l.kinds l.vals) l.invariant.along c.loop-i-test.true (area c.next_record.new.kinds c.next_record.new.vals) c.next_record.new.self.place x);
+    }
+
+pub returns-in_err-next_record : goal.returns-in_err-next_record
+returns-in_err-next_record c =
+    let a = c.args in
+    let l = c.loop-i in
+    let x = rw l.invariant.bytes at c.in_err-next_record.ensures.done in
+    rw (handed_on _ _ c.from_residual.ensures.1)
+    (along_stop a.s.now a.w a.count a.place.now (area a.kinds.now a.vals.now) c.requires l.i l.reader.place (area l.kinds l.vals) l.invariant.along c.loop-i-test.true (area c.next_record.new.kinds c.next_record.new.vals) _ x)
+
+pub returns : goal.returns
+returns c =
+    let a = c.args in
+    let l = c.loop-i in
+    along_end a.s.now a.w a.count a.place.now (area a.kinds.now a.vals.now) c.requires l.i l.reader.place (area l.kinds l.vals) l.invariant.along (omega arith)

@@ -1,0 +1,9 @@
+-- `begin`.
+use Rattle.terms.proofs.Laws.Normalising.OpenLaws.{ordered_plain}
+use native.Mathlib.Omega.{arith}
+use Rattle.terms.proofs.opening.begin.Goals as goal
+
+pub returns-then-tag-lt12 : goal.returns-then-tag-lt12
+returns-then-tag-lt12 c =
+    let put-children' = c.put_children-c in
+    let tag' = c.tag_at-tag.ensures in record { bound = put-children'.ensures.bound; frames = put-children'.ensures.frames; opens = put-children'.ensures.opens; ordered = ordered_plain _ _ _ _ _ tag' c.if-tag-lt12.true; tagged = tag'; counted = λ le. absurd (omega (arith, c.if-tag-lt12.true)) }

@@ -1,0 +1,18 @@
+-- `find_rule`. The outer invariant: no rule passed is the row's. The inner: what is left of the row decides, with the arguments that are left.
+use Prim.Native.Nat.{◌-◌, ◌≤◌, ◌<◌}
+use mathlib.Core.Path.{◌≡◌}
+use Rattle.terms.specs.Lookup.{rule_at, rule_count}
+use Rattle.terms.proofs.Laws.Normalising.RuleLaws.{Arguing, Searching}
+use Rattle.terms.proofs.rules.find_rule.Given as goal
+
+abbrev pub invariant-loop-m : goal.invariant-loop-m
+invariant-loop-m l = Arguing l.kinds l.vals l.g l.heads l.kids l.s l.fuel (rule_at l.rules l.r) l.m l.a l.left × (l.a < 4294967296)
+
+abbrev pub decreases-loop-m : goal.decreases-loop-m
+decreases-loop-m l = l.left
+
+abbrev pub invariant-rules : goal.invariant-rules
+invariant-rules l = Searching l.kinds l.vals l.rules l.g l.heads l.kids l.s l.fuel l.r × (l.r ≤ l.count) × (l.count ≡ rule_count l.rules)
+
+abbrev pub decreases-rules : goal.decreases-rules
+decreases-rules l = l.count - l.r

@@ -1,0 +1,19 @@
+-- `covered`. The loop's invariant: what is left is covered as the whole is.
+use mathlib.Core.Bool.{Bool}
+use Prim.Native.Nat.{ℕ, ◌+◌, ◌≤◌}
+use lib.ListN.{length}
+use Rattle.terms.specs.Term.{Term, Parts}
+use Rattle.terms.specs.Words.Held.{Held}
+use Rattle.terms.specs.Tree.{Nominal}
+use Rattle.terms.specs.Comparison.{every}
+use Rattle.terms.specs.Words.SatisfyContract.{Laid, Listed, Pairs, covers}
+use Rattle.terms.proofs.satisfy.covered.Given as goal
+
+abbrev pub invariant-loop-left : goal.invariant-loop-left
+invariant-loop-left l =
+    (l.i ≤ length l.kinds + 1)
+    × ((d : ℕ) (n : Nominal) (rest : Parts) (w : Term) (e : ℕ) (more : Parts) (o : Bool) → Laid l.kinds l.vals l.a d n rest → Listed l.kinds l.vals l.x d n.members n.values rest
+    → Held l.kinds l.vals l.receiver w → Pairs l.kinds l.vals l.p l.count e more (every (covers n w)) o → Pairs l.kinds l.vals l.i l.left e more (every (covers n w)) o)
+
+abbrev pub decreases-loop-left : goal.decreases-loop-left
+decreases-loop-left l = l.left

@@ -1,0 +1,30 @@
+use native.Mathlib.Omega.{arith}
+use Rattle.terms.proofs.Laws.Asking.BoundLaws.{next_pair, pair_inside, look_found, look_next, look_none}
+use Rattle.terms.proofs.satisfy.member_at.Goals as goal
+
+pub returns-then-kinds-i : goal.returns-then-kinds-i
+returns-then-kinds-i c = record {
+  within = tt;
+  looked = λ e rest w x.
+      let y = next_pair _ _ _ _ e rest _ w (c.loop-left.invariant.1 e rest w x) c.loop-left-test.true in
+      absurd (omega (arith, pair_inside _ _ _ _ e rest _ w y));
+}
+
+pub returns-then-vals-i : goal.returns-then-vals-i
+returns-then-vals-i c = record {
+  within = omega arith;
+  looked = λ e rest w x.
+      let y = next_pair _ _ _ _ e rest _ w (c.loop-left.invariant.1 e rest w x) c.loop-left-test.true in
+      look_found _ _ _ _ e rest _ w y c.if-vals-i.true;
+}
+
+pub loop-left-preserved : goal.loop-left-preserved
+loop-left-preserved c = (
+  omega arith,
+  λ e rest w x.
+      let y = next_pair _ _ _ _ e rest _ w (c.loop-left.invariant.1 e rest w x) c.loop-left-test.true in
+      look_next _ _ _ _ e rest _ w y _ c.if-vals-i.false (c.behind-i.ensures.passed y.value y.here),
+)
+
+pub returns : goal.returns
+returns c = record { within = tt; looked = λ e rest w x. look_none _ _ _ _ e rest _ w (c.loop-left.invariant.1 e rest w x) (omega arith) }

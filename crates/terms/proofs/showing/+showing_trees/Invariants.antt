@@ -1,0 +1,24 @@
+use Prim.Native.Nat.{ℕ, ◌-◌, ◌+◌, ◌*◌}
+use Rattle.terms.proofs.Laws.Normalising.AlikeLaws.{depth_some, depth_row}
+use Rattle.terms.proofs.Laws.Normalising.ShowLaws.{RowShowing, row_start, row_full, row_done, row_number, row_child, tree_flat, tree_bytes, shows_first, shows_then, kept_at, kept_then}
+use Rattle.terms.specs.Term.{bytes, part_bytes}
+use Rattle.terms.specs.Tree.{row}
+use Rattle.terms.specs.Words.TokenBytes.{plain}
+use Rattle.terms.specs.Words.VirtualTokens.{view}
+use borrow.Author.Rules.{rules}
+use lib.ListN.{get_or}
+use mathlib.Core.Path.{sym, ap, ◌∙◌}
+use native.Mathlib.Omega.{arith}
+use Rattle.terms.proofs.showing.+showing_trees.Given as goal
+
+abbrev pub decreases-show_row : goal.decreases-show_row
+decreases-show_row l = 2 * l.fuel + 1
+
+abbrev pub decreases-show_tree : goal.decreases-show_tree
+decreases-show_tree l = 2 * l.fuel
+
+abbrev pub invariant-show_row-loop-q : goal.invariant-show_row-loop-q
+invariant-show_row-loop-q l = RowShowing (view l.kinds l.vals l.g) l.heads l.kids l.on l.initial.out l.at l.c l.fuel l.out l.i l.q l.n
+
+abbrev pub decreases-show_row-loop-q : goal.decreases-show_row-loop-q
+decreases-show_row-loop-q l = l.c.end - l.q

@@ -1,0 +1,12 @@
+-- A number, and a token for it.
+use Rattle.terms.specs.Words.Tokens.{area}
+use Rattle.terms.proofs.Laws.Format.ValueLaws.{value_yes}
+use Rattle.terms.proofs.values.read_value.Goals as goal
+
+pub returns : goal.returns
+returns c =
+    let a = c.args in
+    let s = a.s.now in
+    let p = a.place.now in
+    let d = area a.kinds.now a.vals.now in
+    value_yes s p d (area c.put_token.new.kinds c.put_token.new.vals) a.most _ _ _ c.in_ok-v.ensures.found c.in_ok-v.ensures.within c.put_token.ensures

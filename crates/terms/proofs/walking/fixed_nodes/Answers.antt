@@ -1,0 +1,35 @@
+use mathlib.Core.Path.{refl}
+use native.Mathlib.Omega.{arith}
+use Rattle.terms.proofs.Laws.Normalising.FixedLaws.{counting_start, counting_done, counting_next, first_few, lent_span}
+use Rattle.terms.proofs.walking.fixed_nodes.Goals as goal
+
+pub loop-q-init : goal.loop-q-init
+loop-q-init c =
+    let wide' = c.wide-from in
+    let step' = c.step-span in
+    counting_start _ _ _ _ _ refl (omega (arith, wide'.ensures)) (omega (arith, step'.ensures.some)) c.word.ensures c.word-2.ensures
+    step'.ensures.span (omega arith)
+
+pub overflow_add-n : goal.overflow_add-n
+overflow_add-n c =
+    let l = c.loop-q in
+    omega (arith, l.invariant.low, l.invariant.scan.small, c.loop-q-test.true, first_few _ _ c.first_of_node-n.ensures)
+
+pub loop-q-preserved : goal.loop-q-preserved
+loop-q-preserved c =
+    counting_next _ _ _ _ _ _ _ c.loop-q.invariant c.loop-q-test.true refl c.if-k-eq20.false c.first_of_node-n.ensures
+
+pub returns : goal.returns
+returns c =
+    let l = c.loop-q in
+    let step' = c.step-span in
+    let from' = c.wide-from.ensures in
+    let word' = c.word.ensures in
+    let word'' = c.word-2.ensures in record {
+      few = (omega (arith, c.if-most-n.false), omega (arith, l.invariant.low, l.invariant.high, c.if-span-gt-TRIED.false));
+      fixed = λ some. record {
+        source = c.if-x-ne0.false;
+        lent = lent_span c.args.kinds.now c.args.vals.now _ _ _ from' word' word'' step'.ensures.span (omega (arith, c.if-kinds-end.false));
+        is = λ t h. counting_done _ _ _ _ _ _ _ l.invariant (omega (arith, c.loop-q-test.false)) t (rw from' h);
+      };
+    }

@@ -1,0 +1,25 @@
+use mathlib.Core.Path.{refl, ap}
+use Prim.Native.Nat.{◌+◌, ◌-◌}
+use native.Mathlib.Omega.{arith}
+use lib.ListN.{length}
+use Rattle.terms.specs.Words.TokenBytes.{plain}
+use Rattle.terms.proofs.Laws.Format.WriteLaws.{spell_none, length_step, spelt_short}
+use Rattle.terms.proofs.write.run_len.Goals as goal
+
+pub overflow_add-n : goal.overflow_add-n
+overflow_add-n c =
+    let a = c.args in
+    let l = c.loop-p in
+    omega (arith, spelt_short a.kinds.now a.vals.now (λ i. omega (arith, c.shared_slice_known-2-1.given i)) a.from a.count, length_step plain a.kinds.now a.vals.now l.p (a.from + a.count) (omega arith), c.well_formed)
+
+pub loop-p-preserved : goal.loop-p-preserved
+loop-p-preserved c =
+    let a = c.args in
+    let l = c.loop-p in
+    (omega arith, omega arith, refl, omega (arith, length_step plain a.kinds.now a.vals.now l.p (a.from + a.count) (omega arith)))
+
+pub returns : goal.returns
+returns c =
+    let a = c.args in
+    let l = c.loop-p in
+    omega (arith, ap length (spell_none plain a.kinds.now a.vals.now l.p (a.from + a.count - l.p) (omega arith)))
