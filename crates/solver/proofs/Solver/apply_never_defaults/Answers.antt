@@ -3,8 +3,8 @@ use Rattle.solver.specs.Orders.{order}
 use Rattle.solver.specs.Words.MethodContract.{defaulted}
 use Rattle.solver.proofs.Solver.apply_never_defaults.Goals as goal
 
-pub returns : goal.returns
+pub returns-clause-held : goal.returns-clause-held
 unfolding order defaulted
-returns c =
+returns-clause-held c =
     let e = c.apply_defaults-self.ensures in
-    record { held = λ s L low. e.held s L low; beside = e.beside }
+    λ s L low. e.held s L low

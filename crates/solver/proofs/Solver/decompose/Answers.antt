@@ -1,6 +1,6 @@
 -- `decompose`.
 use mathlib.Core.Path.{sym, ◌∙◌}
-use borrow.Author.Tests.{not-true, not-false, eq-eqb, ne_eqb}
+use borrow.Author.Tests.{eq-eqb, ne_eqb}
 use Rattle.solver.specs.Shapes.{notion}
 use Rattle.solver.proofs.Laws.Checks.CheckContractLaws.{nodes_places, nodes_twins, apart_recovers, apart_projects, apart_unlike, apart_pushes}
 use Rattle.solver.proofs.Solver.decompose.Goals as goal
@@ -39,15 +39,15 @@ same_shape-requires c =
 pub returns-then-not-same_shape : goal.returns-then-not-same_shape
 returns-then-not-same_shape c =
     let a = c.args in
-    record { after = λ s t u ps L N W. apart_unlike (notion a.strict) a.self a.kinds.now a.vals.now a.tables.now s a.a a.b a.count t u L N ps W (sym c.either_recovers.ensures ∙ c.if-either_recovers.false) (ne_eqb _ 20 c.if-kinds-a-eq20.false) _ (not-true _ c.if-not-same_shape.true-raw) c.same_shape.ensures }
+    record { after = λ s t u ps L N W. apart_unlike (notion a.strict) a.self a.kinds.now a.vals.now a.tables.now s a.a a.b a.count t u L N ps W (sym c.either_recovers.ensures ∙ c.if-either_recovers.false) (ne_eqb _ 20 c.if-kinds-a-eq20.false) _ c.if-not-same_shape.true c.same_shape.ensures }
 
 pub push_children-top-requires : goal.push_children-top-requires
 push_children-top-requires c =
     let a = c.args in
     let p = nodes_places (notion a.strict) a.self a.kinds.now a.vals.now a.a a.b a.count c.requires.nodes.0 c.requires.nodes.1 c.requires.nodes.2 in
-    record { areas = (p.0, p.1, c.requires.room.2, c.requires.room.1); room = nodes_twins (notion a.strict) a.self a.kinds.now a.vals.now a.a a.b a.count c.requires.nodes.0 c.requires.nodes.1 c.requires.nodes.2 _ (not-false _ c.if-not-same_shape.false-raw) c.same_shape.ensures _ c.requires.room.0 }
+    record { areas = (p.0, p.1, c.requires.room.2, c.requires.room.1); room = nodes_twins (notion a.strict) a.self a.kinds.now a.vals.now a.a a.b a.count c.requires.nodes.0 c.requires.nodes.1 c.requires.nodes.2 _ c.if-not-same_shape.false c.same_shape.ensures _ c.requires.room.0 }
 
 pub returns : goal.returns
 returns c =
     let a = c.args in
-    record { after = λ s t u ps L N W. apart_pushes (notion a.strict) a.self a.kinds.now a.vals.now a.tables.now s a.a a.b a.count t u L N ps W (sym c.either_recovers.ensures ∙ c.if-either_recovers.false) (ne_eqb _ 20 c.if-kinds-a-eq20.false) _ (not-false _ c.if-not-same_shape.false-raw) c.same_shape.ensures _ _ c.tables-1.given c.push_children-top.ensures }
+    record { after = λ s t u ps L N W. apart_pushes (notion a.strict) a.self a.kinds.now a.vals.now a.tables.now s a.a a.b a.count t u L N ps W (sym c.either_recovers.ensures ∙ c.if-either_recovers.false) (ne_eqb _ 20 c.if-kinds-a-eq20.false) _ c.if-not-same_shape.false c.same_shape.ensures _ _ c.push_children-top.auto.tables c.push_children-top.ensures }

@@ -1,8 +1,8 @@
 -- `Solver::revision`.
-use mathlib.Core.Path.{refl, sym, ap}
+use mathlib.Core.Path.{sym, ap}
 use Rattle.solver.specs.Orders.{order, count}
 use Rattle.solver.proofs.Solver.revision.Goals as goal
 
-pub returns : goal.returns
+pub returns-clause-held : goal.returns-clause-held
 unfolding order
-returns c = record { count = refl; held = λ ks vs ts s L. ap count (sym L.revision) }
+returns-clause-held c = λ ks vs ts s L. ap count (sym L.revision)

@@ -1,6 +1,6 @@
 -- `Solver::start`. By what is asked for.
 use native.Mathlib.Omega.{arith}
-use Rattle.solver.proofs.Laws.Table.OrderTermLaws.{asked_id, start_behind, start_none, start_free, start_bound}
+use Rattle.solver.proofs.Laws.Table.OrderTermLaws.{start_none, start_free, start_bound}
 use Rattle.solver.proofs.Solver.start.Goals as goal
 
 pub returns-then-most-eq0 : goal.returns-then-most-eq0
@@ -8,24 +8,12 @@ returns-then-most-eq0 c =
     let a = c.args in
     λ ks vs z t A. start_none a.self a.tables.now a.what _ c.in-Id.is ks vs z t A c.if-most-eq0.true
 
-pub bounds-tables-i : goal.bounds-tables-i
-bounds-tables-i c =
-    let a = c.args in
-    let p = c.requires in
-    let k = asked_id a.self a.tables.now a.what _ c.in-Id.is p.0 p.1 p.2 p.3 p.4 in
-    omega (arith, c.wide-i.ensures, k.2, k.0.room)
-
 pub returns-then-word-eq0 : goal.returns-then-word-eq0
 returns-then-word-eq0 c =
     let a = c.args in
     λ ks vs z t A. start_free a.self a.tables.now a.what _ c.in-Id.is ks vs z t A _ _ c.wide-i.ensures c.wide-word.ensures c.if-word-eq0.true
 
-pub returns-in-Follows : goal.returns-in-Follows
-returns-in-Follows c =
-    let a = c.args in
-    start_behind a.self a.tables.now a.what c.in-Follows.is
-
 pub returns-else-word-eq0 : goal.returns-else-word-eq0
 returns-else-word-eq0 c =
     let a = c.args in
-    λ ks vs z t A. start_bound a.self a.tables.now a.what _ c.in-Id.is ks vs z t A _ _ c.wide-i.ensures c.wide-word.ensures c.if-word-eq0.false c.if-most-eq0.false (omega (arith, c.wide-word.ensures, c.shared_slice_known-in-Id-1.given c.wide-i.result))
+    λ ks vs z t A. start_bound a.self a.tables.now a.what _ c.in-Id.is ks vs z t A _ _ c.wide-i.ensures c.wide-word.ensures c.if-word-eq0.false c.if-most-eq0.false (omega (arith, c.wide-word.ensures, c.type_inv.tables c.wide-i.result))

@@ -15,9 +15,6 @@ write_number-requires c =
     let a = c.args in
     simp length-set (omega (arith, c.requires, var_size _ a.v refl))
 
-pub shape_of-out : goal.shape_of-out
-shape_of-out c = simp length-set at c.write_number.auto.out
-
 pub returns : goal.returns
 returns c =
     let a = c.args in

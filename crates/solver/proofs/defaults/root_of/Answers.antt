@@ -3,7 +3,7 @@ use mathlib.Core.Path.{sym, subst}
 use Prim.Native.Nat.{ℕ}
 use native.Mathlib.Omega.{arith}
 use mathlib.Core.Option.{Option}
-use lib.ListN.{length, get_or}
+use lib.ListN.{length}
 use Rattle.terms.specs.Term.{Term, var, Held}
 use Rattle.solver.specs.Constrain.{follow}
 use Rattle.solver.specs.Words.Bindings.{HeldBindings}

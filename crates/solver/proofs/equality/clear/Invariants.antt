@@ -1,7 +1,6 @@
 -- `clear`. Invariant: `Clearing`, the places that are still linked are listed before k. Measure: k.
 use lib.ListN.{length, take, drop}
 use mathlib.Core.Path.{◌≡◌}
-use Prim.Native.Nat.{◌-◌}
 use Rattle.solver.specs.Words.CongruenceClasses.{Clearing}
 use Rattle.solver.proofs.equality.clear.Given as goal
 

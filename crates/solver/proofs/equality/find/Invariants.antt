@@ -1,6 +1,6 @@
 -- `find`. Invariant: r is reached from a by going up. Measure: r, which falls.
 use lib.ListN.{take}
-use Prim.Native.Nat.{◌-◌, ◌<◌}
+use Prim.Native.Nat.{◌<◌}
 use Rattle.solver.specs.Words.CongruenceClasses.{Up}
 use Rattle.solver.proofs.equality.find.Given as goal
 

@@ -7,6 +7,3 @@ pub clear-requires : goal.clear-requires
 clear-requires c =
     let w = c.decide-r.ensures.wired in
     (links_fit _ _ _ w, clear_start c.args.kinds.now _ _ _ w)
-
-pub returns : goal.returns
-returns c = record { clear = c.clear.ensures; term = λ t u b ht hu hb st tp. c.decide-r.ensures.term t u b ht hu (record { held = hb; steady = st; topped = tp }) }

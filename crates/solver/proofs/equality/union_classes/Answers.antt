@@ -1,16 +1,7 @@
 -- `union_classes`. The higher root is linked below the lower one, unless they are one.
 use native.Mathlib.Omega.{arith}
-use Rattle.solver.proofs.Laws.Equality.LinkLaws.{advanced_none}
-use Rattle.solver.proofs.Laws.Equality.EqualLaws.{links_fit, queue_fits, united_one, left_room, left_advanced, united_left, right_room, right_advanced, united_right}
+use Rattle.solver.proofs.Laws.Equality.EqualLaws.{queue_fits, united_one, left_room, left_advanced, united_left, right_room, right_advanced, united_right}
 use Rattle.solver.proofs.equality.union_classes.Goals as goal
-
-pub find-x-requires : goal.find-x-requires
-find-x-requires c =
-    (c.requires.places.0, links_fit c.args.kinds.now c.args.work.now c.args.top c.requires.wired, c.requires.wired.falls)
-
-pub find-y-requires : goal.find-y-requires
-find-y-requires c =
-    (c.requires.places.1, links_fit c.args.kinds.now c.args.work.now c.args.top c.requires.wired, c.requires.wired.falls)
 
 pub link-requires : goal.link-requires
 link-requires c =
@@ -50,8 +41,8 @@ returns-then-y-x c =
     let h = c.link-then-y-x.ensures in
     record { advanced = left_advanced c.args.kinds.now c.args.work.now c.args.top c.requires.wired c.args.a c.args.b f.result g.result c.requires.places.3 c.requires.places.4 f.ensures.2 g.ensures.2 f.ensures.0 f.ensures.1 c.if-y-x.true _ h.0 h.1; terms = united_left c.args.kinds.now c.args.work.now c.args.top c.requires.wired c.args.a c.args.b f.result g.result c.requires.places.3 c.requires.places.4 f.ensures.2 g.ensures.2 f.ensures.0 f.ensures.1 c.if-y-x.true _ h.0 h.1 }
 
-pub returns : goal.returns
-returns c =
+pub returns-clause-terms : goal.returns-clause-terms
+returns-clause-terms c =
     let f = c.find-x in
     let g = c.find-y in
-    record { advanced = advanced_none _ _ _ _ c.requires.wired; terms = united_one c.args.kinds.now c.args.work.now c.args.top c.requires.wired c.args.a c.args.b f.result g.result c.requires.places.3 c.requires.places.4 f.ensures.2 g.ensures.2 (omega (arith, c.if-y-x.false, c.if-x-y.false)) }
+    united_one c.args.kinds.now c.args.work.now c.args.top c.requires.wired c.args.a c.args.b f.result g.result c.requires.places.3 c.requires.places.4 f.ensures.2 g.ensures.2 (omega (arith, c.if-y-x.false, c.if-x-y.false))

@@ -33,5 +33,4 @@ returns c =
     let ks = c.args.kinds.now in
     let vs = c.args.vals.now in
     let i = c.args.i in
-    let n = c.if-len-eq0.false in
     part_end_at ks vs i c.args.end (i + c.wide-len.result) (omega arith) (omega arith) (ap (λ (x : ℕ). i + x) (c.wide-len.ensures ∙ sym (span_node (get_or ks i 0) (get_or vs i 0) c.if-kinds-i-lt2.false)))

@@ -19,11 +19,11 @@ returns-then-hi-child c =
     let a = c.args in
     let n = c.if-kind-eq0.false in record { child = omega (arith, ap length (here_term a.kind a.i n)); laid = laid_nothing _ _ (window_behind a.lo a.hi a.from.child a.kind a.i n c.if-hi-child.true) (window_behind a.lo a.hi a.from.child a.kind a.j n c.if-hi-child.true) }
 
-pub put_pair-next-requires : goal.put_pair-next-requires
-put_pair-next-requires c =
+pub put_pair-next-requires-clause-room : goal.put_pair-next-requires-clause-room
+put_pair-next-requires-clause-room c =
     let a = c.args in
     let wi = window-here a.lo a.hi a.from.child a.kind a.i c.if-kind-eq0.false (omega (arith, c.if-child-lo.false)) (omega (arith, c.if-hi-child.false)) in
-    record { room = omega (arith, c.requires.room, ap length wi); small = (c.requires.small.1, c.requires.small.2) }
+    omega (arith, c.requires.room, ap length wi)
 
 pub returns : goal.returns
 returns c =

@@ -1,20 +1,14 @@
 use mathlib.Core.Path.{sym, ◌∙◌}
-use Prim.Native.Nat.{◌-◌}
 use native.Mathlib.Omega.{arith}
 use mathlib.Core.Bool.{false}
-use borrow.Author.Tests.{not-true, not-false, le-leb, lt-leb}
-use Rattle.solver.proofs.Laws.Checks.RowsInStepLaws.{walks_start, walks_over, walks_short, walks_apart, walks_step, heads_differ, shape_told}
+use borrow.Author.Tests.{le-leb, lt-leb}
+use Rattle.solver.proofs.Laws.Checks.RowsInStepLaws.{walks_over, walks_short, walks_apart, walks_step, heads_differ, shape_told}
 use Rattle.solver.proofs.pending.same_shape.Goals as goal
 
 pub returns-then-kinds-a : goal.returns-then-kinds-a
 returns-then-kinds-a c =
     let a = c.args in
     heads_differ a.kinds.now a.vals.now a.a a.b a.strict c.if-kinds-a.true
-
-pub loop-i-init : goal.loop-i-init
-loop-i-init c =
-    let a = c.args in
-    (omega (arith, c.part_end-ae.ensures.past), omega (arith, c.part_end-be.ensures.past), walks_start a.kinds.now a.vals.now a.a c.part_end-ae.result a.b c.part_end-be.result c.access_free-free.result)
 
 pub returns-then-be-j : goal.returns-then-be-j
 returns-then-be-j c =
@@ -38,13 +32,7 @@ returns-then-not-parts_agree c =
     let y = c.part_end-be in
     let f = c.access_free-free in
     shape_told ks vs a.a a.b a.strict c.if-kinds-a.false x.result y.result x.ensures y.ensures f.result f.ensures false
-    (walks_apart ks vs a.a x.result a.b y.result f.result l.i l.j l.free l.invariant.2 c.loop-i-test.true c.if-be-j.false (sym c.parts_agree.ensures ∙ not-true _ c.if-not-parts_agree.true-raw))
-
-pub loop-i-smaller : goal.loop-i-smaller
-loop-i-smaller c =
-    let p = c.part_end-i.ensures.past in
-    let q = c.part_end-i.ensures.within in
-    omega arith
+    (walks_apart ks vs a.a x.result a.b y.result f.result l.i l.j l.free l.invariant.2 c.loop-i-test.true c.if-be-j.false (sym c.parts_agree.ensures ∙ c.if-not-parts_agree.true))
 
 pub loop-i-preserved : goal.loop-i-preserved
 loop-i-preserved c =
@@ -57,7 +45,7 @@ loop-i-preserved c =
     let f = c.access_free-free in
     let p = c.part_end-i in
     let q = c.part_end-j in
-    (p.ensures.within, q.ensures.within, walks_step ks vs a.a x.result a.b y.result f.result l.i l.j l.free l.invariant.2 c.loop-i-test.true c.if-be-j.false (sym c.parts_agree.ensures ∙ not-false _ c.if-not-parts_agree.false-raw) p.result q.result p.ensures q.ensures)
+    (p.ensures.within, q.ensures.within, walks_step ks vs a.a x.result a.b y.result f.result l.i l.j l.free l.invariant.2 c.loop-i-test.true c.if-be-j.false (sym c.parts_agree.ensures ∙ c.if-not-parts_agree.false) p.result q.result p.ensures q.ensures)
 
 pub returns : goal.returns
 returns c =

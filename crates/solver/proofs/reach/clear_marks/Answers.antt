@@ -22,27 +22,6 @@ pub loop-k-init : goal.loop-k-init
 loop-k-init c =
     (clearing_start c.requires.0, omega (arith, top-le c.requires.0, (parts_long c.args.n c.args.work.now c.requires.1).0), refl)
 
-pub overflow_add-n : goal.overflow_add-n
-overflow_add-n c = omega (arith, c.loop-k.invariant.1, c.requires.1, c.well_formed)
-
-pub offset_bounds-work-n : goal.offset_bounds-work-n
-offset_bounds-work-n c = omega (arith, c.loop-k.invariant.1, c.loop-k.invariant.2, c.requires.1, c.well_formed)
-
-pub bounds-work-n : goal.bounds-work-n
-bounds-work-n c = omega (arith, c.loop-k.invariant.1, c.loop-k.invariant.2, c.requires.1)
-
-pub overflow_add-work : goal.overflow_add-work
-overflow_add-work c = omega (arith, c.loop-k.invariant.1, c.requires.1, c.well_formed)
-
-pub offset_bounds-work-n-in-loop-k : goal.offset_bounds-work-n-in-loop-k
-offset_bounds-work-n-in-loop-k c = omega (arith, c.loop-k.invariant.1, c.loop-k.invariant.2, c.requires.1, c.well_formed)
-
-pub bounds-work-n-in-loop-k : goal.bounds-work-n-in-loop-k
-bounds-work-n-in-loop-k c = omega (arith, c.loop-k.invariant.1, c.loop-k.invariant.2, c.requires.1)
-
-pub offset_bounds-work-v : goal.offset_bounds-work-v
-offset_bounds-work-v c = omega (arith, (turn (goal.at.offset_bounds-work-v c).After-wide-v).3, c.loop-k.invariant.2, c.requires.1, c.well_formed)
-
 pub bounds-work-v : goal.bounds-work-v
 bounds-work-v c = omega (arith, (turn (goal.at.bounds-work-v c).After-wide-v).3, c.loop-k.invariant.2, c.requires.1, length-set c.loop-k.work (c.args.n + (c.loop-k.k - 1)) 0)
 

@@ -1,6 +1,6 @@
 -- `clear_marks`. Invariant: `Clearing`, the marks that are left are those of the first k words of the queue.
 use mathlib.Core.Path.{◌≡◌}
-use Prim.Native.Nat.{◌-◌, ◌≤◌}
+use Prim.Native.Nat.{◌≤◌}
 use lib.ListN.{length, take, drop}
 use Rattle.solver.proofs.Laws.Resolving.WorklistLaws.{Clearing}
 use Rattle.solver.proofs.reach.clear_marks.Given as goal

@@ -1,11 +1,11 @@
 use mathlib.Core.Path.{◌≡◌, refl, sym, ap, ◌∙◌}
-use Prim.Native.Nat.{ℕ, ◌+◌, ◌-◌, ◌≤◌, ◌<◌}
+use Prim.Native.Nat.{ℕ, ◌+◌, ◌≤◌, ◌<◌}
 use native.Mathlib.Omega.{arith}
 use lib.ListN.{length, get_or}
 use lib.Seq.{get_or-drop}
 use Rattle.solver.specs.Words.ReachContract.{run_of}
 use Rattle.solver.proofs.Laws.Resolving.WorklistLaws.{work_none, top-le, entry_in, zero_take, zero_drop, parts_long}
-use Rattle.solver.proofs.Laws.Resolving.ReachLaws.{going_start, going_step, going_hit, going_end, named_run_of}
+use Rattle.solver.proofs.Laws.Resolving.ReachLaws.{going_start, going_step, going_end, named_run_of}
 use Rattle.solver.proofs.reach.reach.Goals as goal
 use Rattle.solver.proofs.reach.reach.Goals.{After-wide-w, At-loop-done}
 
@@ -23,20 +23,17 @@ entry c =
     let q = c.wide-w.ensures ∙ sym (get_or-drop n l.work l.done 0) in
     omega (arith, q, entry_in l.invariant.0.work l.done c.loop-done-test.true, (parts_long n l.work (omega (arith, c.loop-done.invariant.1, c.scan-c.auto.work, c.requires.scratch.0))).0)
 
-pub scan-c-requires : goal.scan-c-requires
-scan-c-requires c =
+pub scan-c-requires-clause-work : goal.scan-c-requires-clause-work
+scan-c-requires-clause-work c =
     let n = length c.args.bound.now in
     let w = c.args.work.now in
-    record { areas = (c.requires.areas.0, c.named_run-run.ensures.within); work = (work_none _ _ (zero_take n w c.requires.scratch.1) (zero_drop n w c.requires.scratch.1), c.requires.scratch.0) }
+    (work_none _ _ (zero_take n w c.requires.scratch.1) (zero_drop n w c.requires.scratch.1), c.requires.scratch.0)
 
 pub loop-done-init : goal.loop-done-init
 loop-done-init c =
     let n = length c.args.bound.now in
     let m = c.scan-c in
     (going_start (zero_take n c.args.work.now c.requires.scratch.1) (parts_long n _ (omega (arith, c.scan-c.auto.work, c.requires.scratch.0))).0 _ (named_run_of c.args.kinds.now c.args.vals.now (c.args.p + 1) _ _ c.named_run-run.ensures) m.ensures.hit m.ensures.grown, refl)
-
-pub returns-then-hit : goal.returns-then-hit
-returns-then-hit c = record { told = going_hit c.loop-done.invariant.0 c.if-hit.true; work = c.loop-done.invariant.0.work }
 
 pub overflow_add-n : goal.overflow_add-n
 overflow_add-n c = omega (arith, lens (goal.at.overflow_add-n c).At-loop-done, c.loop-done-test.true, c.well_formed)
@@ -47,15 +44,8 @@ offset_bounds-work-n c = omega (arith, lens (goal.at.offset_bounds-work-n c).At-
 pub bounds-work-n : goal.bounds-work-n
 bounds-work-n c = omega (arith, lens (goal.at.bounds-work-n c).At-loop-done, c.loop-done-test.true)
 
-pub offset_bounds-bound-w : goal.offset_bounds-bound-w
-offset_bounds-bound-w c = omega (arith, entry (goal.at.offset_bounds-bound-w c).After-wide-w, c.well_formed)
-
 pub bounds-bound-w : goal.bounds-bound-w
 bounds-bound-w c = entry (goal.at.bounds-bound-w c).After-wide-w
-
-pub scan-c-requires-in-loop-done : goal.scan-c-requires-in-loop-done
-scan-c-requires-in-loop-done c =
-    record { areas = (c.requires.areas.0, c.named_run-next.ensures.within); work = (c.loop-done.invariant.0.work, (lens (goal.at.scan-c-requires-in-loop-done c).At-loop-done).0) }
 
 pub loop-done-smaller : goal.loop-done-smaller
 loop-done-smaller c = omega (arith, lens (goal.at.loop-done-smaller c).At-loop-done, c.loop-done-test.true)
@@ -73,5 +63,5 @@ loop-done-preserved c =
     let le = (lens (goal.at.loop-done-preserved c).At-loop-done).0 in
     (going_step l.invariant.0 c.if-hit.false c.loop-done-test.true _ e ((parts_long n _ (omega (arith, h, le))).0 ∙ sym (parts_long n l.work le).0) m.ensures.hit m.ensures.grown, h ∙ l.invariant.1)
 
-pub returns : goal.returns
-returns c = record { told = going_end c.loop-done.invariant.0 (omega (arith, c.loop-done-test.false)); work = c.loop-done.invariant.0.work }
+pub returns-clause-told : goal.returns-clause-told
+returns-clause-told c = going_end c.loop-done.invariant.0 (omega (arith, c.loop-done-test.false))

@@ -1,7 +1,7 @@
 use Rattle.terms.proofs.Laws.General.Bools.{or-true, or_right, never_true}
-use mathlib.Core.Path.{◌≡◌, refl, sym, ap, ◌∙◌}
+use mathlib.Core.Path.{refl, sym, ap, ◌∙◌}
 use mathlib.Core.Bool.{Bool, ◌||◌}
-use Prim.Native.Nat.{suc, ◌+◌, ◌-◌}
+use Prim.Native.Nat.{suc, ◌+◌}
 use native.Mathlib.Omega.{arith}
 use lib.ListN.{get_or}
 use Rattle.terms.specs.Words.Tokens.{toks}
@@ -18,9 +18,6 @@ loop-i-init c = (
   grown_none c.requires.work.0 _ (λ u l i. never_true (sym (has_start (suc u) c.args.kinds.now c.args.vals.now c.args.run.at) ∙ i)),
   refl,
 )
-
-pub push-top-requires : goal.push-top-requires
-push-top-requires c = (c.loop-i.invariant.2.work, omega (arith, c.loop-i.invariant.3, c.requires.work.1))
 
 pub loop-i-preserved : goal.loop-i-preserved
 loop-i-preserved c =
@@ -39,9 +36,3 @@ loop-i-preserved c =
           (λ u p. has_snoc (suc u) ks vs a l.i ∙ or_right (has (suc u) (toks ks vs a l.i)) (counts (suc u) (get_or ks (a + l.i) 0) (get_or vs (a + l.i) 0)) p),
       e,
     )
-
-pub returns : goal.returns
-returns c =
-    let l = c.loop-i in
-    let e : c.args.run.len ≡ l.i = omega (arith, l.invariant.0, c.loop-i-test.false) in
-    record { hit = rw e l.invariant.1; grown = rw e l.invariant.2 }

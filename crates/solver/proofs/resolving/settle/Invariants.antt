@@ -1,7 +1,7 @@
 -- `settle`. Invariant: the place is sound, what is left of the walk is what was left at the start, and the frames past those
 -- of waiting runs are 0 where they were. Measure: `steps`.
 use mathlib.Core.Path.{◌≡◌}
-use Prim.Native.Nat.{◌+◌, ◌-◌}
+use Prim.Native.Nat.{◌+◌}
 use lib.ListN.{length}
 use Rattle.solver.specs.Words.ResolveFrames.{left, Sound, Apart, Bare}
 use Rattle.solver.proofs.Laws.Resolving.FrameLaws.{steps}

@@ -1,7 +1,7 @@
 -- `shallow_resolve`. Invariant: with the steps that are left, the term at q stands for what the term at p stands for.
 use mathlib.Core.Option.{Option}
 use mathlib.Core.Path.{◌≡◌}
-use Prim.Native.Nat.{ℕ, ◌-◌, ◌≤◌, ◌<◌}
+use Prim.Native.Nat.{ℕ, ◌≤◌, ◌<◌}
 use lib.ListN.{length}
 use Rattle.terms.specs.Term.{Term, Held}
 use Rattle.solver.specs.Constrain.{follow}

@@ -1,6 +1,6 @@
 -- `find_place`: none where no variable has the site. Invariant: what is looked for is among the first v variables.
 use mathlib.Core.Path.{◌≡◌}
-use Prim.Native.Nat.{◌-◌, ◌≤◌}
+use Prim.Native.Nat.{◌≤◌}
 use Rattle.solver.proofs.Laws.Table.MethodLaws.{Last}
 use Rattle.solver.proofs.variables.find_place.Given as goal
 
