@@ -6,4 +6,8 @@ pub returns : goal.returns
 returns c =
     let a = c.args in
     let H = c.requires.1 in
-    record { kinds = used_cleared _ a.a.now _ c.clear_words.auto.words H.kinds c.clear_words.ensures; vals = used_cleared _ a.b.now _ c.clear_words-2.auto.words H.vals c.clear_words-2.ensures; table = used_cleared _ a.tables.now _ c.clear_words-3.auto.words H.blank c.clear_words-3.ensures }
+    record {
+      kinds = used_cleared _ a.a.now _ c.clear_words.auto.words H.kinds c.clear_words.ensures;
+      vals = used_cleared _ a.b.now _ c.clear_words-2.auto.words H.vals c.clear_words-2.ensures;
+      table = used_cleared _ a.tables.now _ c.clear_words-3.auto.words H.blank c.clear_words-3.ensures;
+    }

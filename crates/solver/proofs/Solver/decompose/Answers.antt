@@ -45,7 +45,10 @@ pub push_children-top-requires : goal.push_children-top-requires
 push_children-top-requires c =
     let a = c.args in
     let p = nodes_places (notion a.strict) a.self a.kinds.now a.vals.now a.a a.b a.count c.requires.nodes.0 c.requires.nodes.1 c.requires.nodes.2 in
-    record { areas = (p.0, p.1, c.requires.room.2, c.requires.room.1); room = nodes_twins (notion a.strict) a.self a.kinds.now a.vals.now a.a a.b a.count c.requires.nodes.0 c.requires.nodes.1 c.requires.nodes.2 _ c.if-not-same_shape.false c.same_shape.ensures _ c.requires.room.0 }
+    record {
+      areas = (p.0, p.1, c.requires.room.2, c.requires.room.1);
+      room = nodes_twins (notion a.strict) a.self a.kinds.now a.vals.now a.a a.b a.count c.requires.nodes.0 c.requires.nodes.1 c.requires.nodes.2 _ c.if-not-same_shape.false c.same_shape.ensures _ c.requires.room.0;
+    }
 
 pub returns : goal.returns
 returns c =

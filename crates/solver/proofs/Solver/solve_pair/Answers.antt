@@ -33,7 +33,10 @@ pub check_pair-r-requires : goal.check_pair-r-requires
 check_pair-r-requires c =
     let a = c.args in
     let l = c.loop-count in
-    record { due = loop_due (notion a.strict) (notion_codes a.strict) a.self a.kinds.now a.vals.now _ _ _ _ _ l.self l.tables l.work l.left l.count l.ok l.invariant _ _ _ c.if-left-eq0.false c.loop-count-test.true c.take_pair-pair.auto.tables c.take_pair-pair.ensures; room = loop_scratch (notion a.strict) (notion_codes a.strict) a.self a.kinds.now a.vals.now _ _ _ _ _ l.self l.tables l.work l.left l.count l.ok l.invariant _ _ _ c.if-left-eq0.false c.loop-count-test.true c.take_pair-pair.auto.tables c.take_pair-pair.ensures }
+    record {
+      due = loop_due (notion a.strict) (notion_codes a.strict) a.self a.kinds.now a.vals.now _ _ _ _ _ l.self l.tables l.work l.left l.count l.ok l.invariant _ _ _ c.if-left-eq0.false c.loop-count-test.true c.take_pair-pair.auto.tables c.take_pair-pair.ensures;
+      room = loop_scratch (notion a.strict) (notion_codes a.strict) a.self a.kinds.now a.vals.now _ _ _ _ _ l.self l.tables l.work l.left l.count l.ok l.invariant _ _ _ c.if-left-eq0.false c.loop-count-test.true c.take_pair-pair.auto.tables c.take_pair-pair.ensures;
+    }
 
 pub loop-count-preserved-then-not-good : goal.loop-count-preserved-then-not-good
 loop-count-preserved-then-not-good c =

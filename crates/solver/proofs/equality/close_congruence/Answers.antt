@@ -45,7 +45,10 @@ returns-then-not-equal c =
     let l = c.loop-done in
     let t = taken_entry c.args.kinds.now l.work l.top l.invariant.1.wired l.done (omega arith) c.wide-x.result c.wide-x.ensures in
     let d = c.union_parts-r.ensures in
-    record { advanced = advanced_on _ _ _ _ _ _ _ _ _ _ l.invariant.1 d.advanced; terms = λ b e fa. going_no _ _ (stands_for c.args.most b) (follow c.args.most b) _ _ _ _ _ _ _ _ _ _ (l.invariant.2 b e fa) l.invariant.1.wired d.advanced (omega arith) t.2 (omega (arith, c.wide-y.ensures, t.1, t.3)) _ (λ k j ps qs hx hy. d.terms b k j ps qs e hx hy (l.invariant.2 b e fa).fair) c.if-not-equal.true }
+    record {
+      advanced = advanced_on _ _ _ _ _ _ _ _ _ _ l.invariant.1 d.advanced;
+      terms = λ b e fa. going_no _ _ (stands_for c.args.most b) (follow c.args.most b) _ _ _ _ _ _ _ _ _ _ (l.invariant.2 b e fa) l.invariant.1.wired d.advanced (omega arith) t.2 (omega (arith, c.wide-y.ensures, t.1, t.3)) _ (λ k j ps qs hx hy. d.terms b k j ps qs e hx hy (l.invariant.2 b e fa).fair) c.if-not-equal.true;
+    }
 
 pub loop-done-smaller : goal.loop-done-smaller
 loop-done-smaller c =

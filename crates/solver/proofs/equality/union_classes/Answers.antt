@@ -20,7 +20,10 @@ returns-then-x-y c =
     let f = c.find-x in
     let g = c.find-y in
     let h = c.link.ensures in
-    record { advanced = right_advanced c.args.kinds.now c.args.work.now c.args.top c.requires.wired c.args.a c.args.b f.result g.result c.requires.places.3 c.requires.places.4 f.ensures.2 g.ensures.2 g.ensures.0 g.ensures.1 c.if-x-y.true _ h.0 h.1; terms = united_right c.args.kinds.now c.args.work.now c.args.top c.requires.wired c.args.a c.args.b f.result g.result c.requires.places.3 c.requires.places.4 f.ensures.2 g.ensures.2 g.ensures.0 g.ensures.1 c.if-x-y.true _ h.0 h.1 }
+    record {
+      advanced = right_advanced c.args.kinds.now c.args.work.now c.args.top c.requires.wired c.args.a c.args.b f.result g.result c.requires.places.3 c.requires.places.4 f.ensures.2 g.ensures.2 g.ensures.0 g.ensures.1 c.if-x-y.true _ h.0 h.1;
+      terms = united_right c.args.kinds.now c.args.work.now c.args.top c.requires.wired c.args.a c.args.b f.result g.result c.requires.places.3 c.requires.places.4 f.ensures.2 g.ensures.2 g.ensures.0 g.ensures.1 c.if-x-y.true _ h.0 h.1;
+    }
 
 pub link-requires-then-y-x : goal.link-requires-then-y-x
 link-requires-then-y-x c =
@@ -39,7 +42,10 @@ returns-then-y-x c =
     let f = c.find-x in
     let g = c.find-y in
     let h = c.link-then-y-x.ensures in
-    record { advanced = left_advanced c.args.kinds.now c.args.work.now c.args.top c.requires.wired c.args.a c.args.b f.result g.result c.requires.places.3 c.requires.places.4 f.ensures.2 g.ensures.2 f.ensures.0 f.ensures.1 c.if-y-x.true _ h.0 h.1; terms = united_left c.args.kinds.now c.args.work.now c.args.top c.requires.wired c.args.a c.args.b f.result g.result c.requires.places.3 c.requires.places.4 f.ensures.2 g.ensures.2 f.ensures.0 f.ensures.1 c.if-y-x.true _ h.0 h.1 }
+    record {
+      advanced = left_advanced c.args.kinds.now c.args.work.now c.args.top c.requires.wired c.args.a c.args.b f.result g.result c.requires.places.3 c.requires.places.4 f.ensures.2 g.ensures.2 f.ensures.0 f.ensures.1 c.if-y-x.true _ h.0 h.1;
+      terms = united_left c.args.kinds.now c.args.work.now c.args.top c.requires.wired c.args.a c.args.b f.result g.result c.requires.places.3 c.requires.places.4 f.ensures.2 g.ensures.2 f.ensures.0 f.ensures.1 c.if-y-x.true _ h.0 h.1;
+    }
 
 pub returns-clause-terms : goal.returns-clause-terms
 returns-clause-terms c =

@@ -34,7 +34,11 @@ returns-then-kinds-j-eq0-clause-terms c =
 pub returns-then-not-equal : goal.returns-then-not-equal
 returns-then-not-equal c =
     let l = c.loop-i in
-    let d = c.union_terms-r.ensures in record { advanced = advanced_on _ _ _ _ _ _ _ _ _ _ l.invariant.2 d.advanced; terms = λ h ps qs e hp hq fa. no_join _ _ (stands_for c.args.most h) (follow c.args.most h) _ _ ps qs _ _ _ _ (l.invariant.3 h ps qs e hp hq fa) _ d.advanced.keeps (omega arith) (omega arith) c.if-kinds-i-eq0.false c.if-kinds-j-eq0.false _ (λ t u ht hu. d.terms h t u e ht hu (l.invariant.3 h ps qs e hp hq fa).fair) c.if-not-equal.true }
+    let d = c.union_terms-r.ensures in
+    record {
+      advanced = advanced_on _ _ _ _ _ _ _ _ _ _ l.invariant.2 d.advanced;
+      terms = λ h ps qs e hp hq fa. no_join _ _ (stands_for c.args.most h) (follow c.args.most h) _ _ ps qs _ _ _ _ (l.invariant.3 h ps qs e hp hq fa) _ d.advanced.keeps (omega arith) (omega arith) c.if-kinds-i-eq0.false c.if-kinds-j-eq0.false _ (λ t u ht hu. d.terms h t u e ht hu (l.invariant.3 h ps qs e hp hq fa).fair) c.if-not-equal.true;
+    }
 
 pub loop-i-preserved : goal.loop-i-preserved
 loop-i-preserved c =

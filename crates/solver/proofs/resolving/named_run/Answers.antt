@@ -14,7 +14,11 @@ use Rattle.solver.proofs.resolving.named_run.Goals.{Joined-kinds-at-ge2}
 pub returns-then-word-eq0 : goal.returns-then-word-eq0
 returns-then-word-eq0 c =
     let a = c.args in
-    record { size = sym (ap (run_len a.kinds.now a.vals.now) c.if-word-eq0.true ∙ run_none a.kinds.now a.vals.now); place = omega arith; within = omega arith }
+    record {
+      size = sym (ap (run_len a.kinds.now a.vals.now) c.if-word-eq0.true ∙ run_none a.kinds.now a.vals.now);
+      place = omega arith;
+      within = omega arith;
+    }
 
 pub returns-then-kinds-at : goal.returns-then-kinds-at
 returns-then-kinds-at c =

@@ -13,7 +13,12 @@ returns-then-c-eq0 c =
     let a = c.args in
     let l = c.loop-c in
     let o = rest_over (walk one [] a.kinds.now a.vals.now a.bound.now) a.most a.kinds.now a.vals.now l.frames l.c.at l.c.end (omega arith) in
-    record { ready = record { sound = l.invariant.0; head = λ h. absurd (omega arith); over = λ _. rw c.if-c-eq0.true o; alone = λ _. c.if-c-eq0.true }; same = l.invariant.1; apart = l.invariant.3; bare = l.invariant.4 }
+    record {
+      ready = record { sound = l.invariant.0; head = λ h. absurd (omega arith); over = λ _. rw c.if-c-eq0.true o; alone = λ _. c.if-c-eq0.true };
+      same = l.invariant.1;
+      apart = l.invariant.3;
+      bare = l.invariant.4;
+    }
 
 pub loop-c-smaller-then-c : goal.loop-c-smaller-then-c
 loop-c-smaller-then-c c =
