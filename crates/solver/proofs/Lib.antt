@@ -1,5 +1,5 @@
--- Proofs. Laws are grouped by what they are about; a folder named as a module of the code has the proofs of its
--- functions, MODULE/FUNCTION/Proof.antt.
+-- Proofs. Laws are grouped by what they are about; a folder named as a module of the code has what is written of the
+-- proofs of its functions, MODULE/FUNCTION/Invariants.antt and Answers.antt. The check finds the rest.
 --   Laws/Definition  the solver's definition: requests, the invariant, fuel, histories
 --   Laws/Theory      terms as trees of the theory; demand 3, carried over from it
 --   Laws/Robinson    Robinson 1965 on terms

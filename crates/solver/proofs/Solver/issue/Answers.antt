@@ -1,0 +1,28 @@
+-- `Solver::issue`. By what the search found, and whether one more may be issued.
+use mathlib.Core.Path.{refl, sym}
+use Prim.Native.Nat.{◌+◌, ◌*◌}
+use native.Mathlib.Omega.{arith}
+use Rattle.solver.proofs.Laws.Table.MethodLaws.{beside_set, issued_found, issued_full, issued_new}
+use Rattle.solver.proofs.Solver.issue.Goals as goal
+
+pub returns-then-v-issued-clause-held : goal.returns-then-v-issued-clause-held
+returns-then-v-issued-clause-held c =
+    let a = c.args in
+    let f = c.find_place-v in
+    λ ks vs s q h L. issued_found a.self ks vs a.tables.now s L q f.result (f.ensures.place q s.places h (sym L.issued) L.places) c.if-v-issued.true
+
+pub returns-then-m-issued-clause-held : goal.returns-then-m-issued-clause-held
+returns-then-m-issued-clause-held c =
+    let a = c.args in
+    let f = c.find_place-v in
+    λ ks vs s q h L. issued_full a.self ks vs a.tables.now s L q f.result (f.ensures.place q s.places h (sym L.issued) L.places) c.if-v-issued.false c.if-m-issued.true
+
+pub returns-clause-held : goal.returns-clause-held
+returns-clause-held c =
+    let a = c.args in
+    let x = c.args.self in
+    let ts = c.args.tables.now in
+    let f = c.find_place-v in
+    let l = c.if-m-issued.false in
+    let B = beside_set x _ ts _ (4 * x.variables + x.issued) a.slot (beside_set x _ ts _ (3 * x.variables + x.issued) a.site (beside_set x _ ts _ (2 * x.variables + x.issued) a.kind (record { variables = refl; nodes = refl; top = refl; size = refl; rest = refl }) (omega arith)) (omega arith)) (omega arith) in
+    λ ks vs s q h L. issued_new x ks vs ts s L q f.result (f.ensures.place q s.places h (sym L.issued) L.places) a.kind a.site a.slot h c.if-v-issued.false l _ B refl refl refl

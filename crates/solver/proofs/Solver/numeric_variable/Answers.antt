@@ -1,0 +1,24 @@
+-- `Solver::numeric_variable`. The request is written where the place has its variable.
+use mathlib.Core.Path.{refl}
+use native.Mathlib.Omega.{arith}
+use Rattle.solver.specs.Session.{at}
+use Rattle.solver.specs.Orders.{order}
+use Rattle.solver.specs.Words.SessionRepresentation.{limits_of, request_in}
+use Rattle.solver.proofs.Laws.Table.MethodLaws.{number_written, number_none}
+use Rattle.solver.proofs.Solver.numeric_variable.Goals as goal
+
+pub returns-in-Variable-clause-held : goal.returns-in-Variable-clause-held
+unfolding order
+returns-in-Variable-clause-held c =
+    let a = c.args in
+    let i = c.issue-c.ensures in
+    let g = c.in-Variable.is in
+    let q = c.requires.1 in
+    λ ks vs s L. number_written _ ks vs _ (limits_of a.self) s (at a.site 1) _ _ a.request _ (request_in a.request) g (i.held ks vs s (at a.site 1) (refl, refl, refl) L) (omega (arith, i.low _ g, i.beside.variables)) (q, refl) (omega (arith, i.low _ g, i.beside.variables))
+
+pub returns-in-Full-clause-held : goal.returns-in-Full-clause-held
+unfolding order
+returns-in-Full-clause-held c =
+    let a = c.args in
+    let i = c.issue-c.ensures in
+    λ ks vs s L. number_none _ ks vs _ (limits_of a.self) s (at a.site 1) _ (request_in a.request) c.in-Full.is (i.held ks vs s (at a.site 1) (refl, refl, refl) L)

@@ -1,0 +1,19 @@
+-- `Solver::start`. By what is asked for.
+use native.Mathlib.Omega.{arith}
+use Rattle.solver.proofs.Laws.Table.OrderTermLaws.{start_none, start_free, start_bound}
+use Rattle.solver.proofs.Solver.start.Goals as goal
+
+pub returns-then-most-eq0 : goal.returns-then-most-eq0
+returns-then-most-eq0 c =
+    let a = c.args in
+    λ ks vs z t A. start_none a.self a.tables.now a.what _ c.in-Id.is ks vs z t A c.if-most-eq0.true
+
+pub returns-then-word-eq0 : goal.returns-then-word-eq0
+returns-then-word-eq0 c =
+    let a = c.args in
+    λ ks vs z t A. start_free a.self a.tables.now a.what _ c.in-Id.is ks vs z t A _ _ c.wide-i.ensures c.wide-word.ensures c.if-word-eq0.true
+
+pub returns-else-word-eq0 : goal.returns-else-word-eq0
+returns-else-word-eq0 c =
+    let a = c.args in
+    λ ks vs z t A. start_bound a.self a.tables.now a.what _ c.in-Id.is ks vs z t A _ _ c.wide-i.ensures c.wide-word.ensures c.if-word-eq0.false c.if-most-eq0.false (omega (arith, c.wide-word.ensures, c.type_inv.tables c.wide-i.result))

@@ -1,0 +1,45 @@
+-- `unify_variable`.
+use mathlib.Core.Path.{sym, ◌∙◌}
+use Rattle.solver.proofs.Laws.Checks.CheckContractLaws.{facing_place, facing_bind, assign_recovers, assign_refused, assign_occurs, assign_bound}
+use Rattle.solver.proofs.Solver.unify_variable.Goals as goal
+
+pub returns-then-recovers-clause-after : goal.returns-then-recovers-clause-after
+returns-then-recovers-clause-after c =
+    let a = c.args in
+    λ s t x y ps F W. assign_recovers a.self a.kinds.now a.vals.now a.tables.now s a.v a.q t F a.count ps W x y (sym (c.recovers.ensures.term t s.solver.bindings s.solver.revision F.known.held F.represents.bindings F.steady) ∙ c.if-recovers.true)
+
+pub admissible-requires : goal.admissible-requires
+admissible-requires c =
+    let a = c.args in
+    (c.requires.faces.2.represents.room, facing_place a.self a.kinds.now a.vals.now a.tables.now c.requires.faces.0 a.v a.q c.requires.faces.1 c.requires.faces.2, c.requires.faces.2.represents.vals)
+
+pub returns-then-not-admissible-clause-after : goal.returns-then-not-admissible-clause-after
+returns-then-not-admissible-clause-after c =
+    let a = c.args in
+    λ s t x y ps F W. assign_refused a.self a.kinds.now a.vals.now a.tables.now s a.v a.q t F a.count ps W x y
+    (sym (c.recovers.ensures.term t s.solver.bindings s.solver.revision F.known.held F.represents.bindings F.steady) ∙ c.if-recovers.false)
+    (sym (c.admissible.ensures t s.solver.requests F.represents.requests F.known.held) ∙ c.if-not-admissible.true)
+
+pub returns-then-occurs-clause-after : goal.returns-then-occurs-clause-after
+returns-then-occurs-clause-after c =
+    let a = c.args in
+    λ s t x y ps F W. assign_occurs a.self a.kinds.now a.vals.now a.tables.now s a.v a.q t F a.count ps W x y
+    (sym (c.recovers.ensures.term t s.solver.bindings s.solver.revision F.known.held F.represents.bindings F.steady) ∙ c.if-recovers.false)
+    (sym (c.occurs.ensures.term t s.solver.bindings s.solver.revision F.known.held F.represents.bindings F.steady F.free) ∙ c.if-occurs.true)
+
+pub bind-next-requires-clause-areas : goal.bind-next-requires-clause-areas
+bind-next-requires-clause-areas c =
+    let a = c.args in
+    let s = c.requires.faces.0 in
+    let t = c.requires.faces.1 in
+    facing_bind a.self a.kinds.now a.vals.now a.tables.now s a.v a.q t c.requires.faces.2
+
+pub returns-clause-after : goal.returns-clause-after
+returns-clause-after c =
+    let a = c.args in
+    let b = c.bind-next.ensures in
+    λ s t x y ps F W. assign_bound a.self a.kinds.now a.vals.now a.tables.now s a.v a.q t F a.count ps W x y
+    (sym (c.recovers.ensures.term t s.solver.bindings s.solver.revision F.known.held F.represents.bindings F.steady) ∙ c.if-recovers.false)
+    (sym (c.admissible.ensures t s.solver.requests F.represents.requests F.known.held) ∙ c.if-not-admissible.false)
+    (sym (c.occurs.ensures.term t s.solver.bindings s.solver.revision F.known.held F.represents.bindings F.steady F.free) ∙ c.if-occurs.false)
+    _ _ (λ rs l e. b.held s t rs F.represents F.known.held l e) b.beside

@@ -1,0 +1,47 @@
+-- `root_of`. By whether the variable is bound, and by the token at the end of the chain.
+use mathlib.Core.Path.{sym, subst}
+use Prim.Native.Nat.{ℕ}
+use native.Mathlib.Omega.{arith}
+use mathlib.Core.Option.{Option}
+use lib.ListN.{length}
+use Rattle.terms.specs.Term.{Term, var, Held}
+use Rattle.solver.specs.Constrain.{follow}
+use Rattle.solver.specs.Words.Bindings.{HeldBindings}
+use Rattle.solver.specs.Words.ResolveWalk.{Named}
+use Rattle.solver.specs.Words.MethodContract.{EndsAt}
+use Rattle.solver.proofs.Laws.Table.ChainLaws.{end_none, end_free, end_bound, ends_node, ends_far, ends_near}
+use Rattle.solver.proofs.defaults.root_of.Goals as goal
+use Rattle.solver.proofs.defaults.root_of.Goals.{After-shallow_resolve-q}
+
+-- the term at the end of the chain
+ended : (c : After-shallow_resolve-q) (b : ℕ → Option Term) → HeldBindings c.args.kinds.now c.args.vals.now c.args.bound.now b
+    → Held c.args.kinds.now c.args.vals.now c.shallow_resolve-q.result (follow c.args.most b (var c.args.v))
+ended c b h =
+    let a = c.args in
+    let x = end_bound a.kinds.now a.vals.now a.bound.now b h a.most a.v _ _ (subst (λ (w : ℕ). Named a.kinds.now a.vals.now w c.named_run-run.result.at c.named_run-run.result.len) c.wide.ensures c.named_run-run.ensures) c.if-most-eq0.false c.if-len-eq0.false in
+    subst (λ (t : Term). Held a.kinds.now a.vals.now c.shallow_resolve-q.result t) (sym x.2) (c.shallow_resolve-q.ensures.term x.0 b x.1 h)
+
+pub returns-then-most-eq0 : goal.returns-then-most-eq0
+returns-then-most-eq0 c =
+    let a = c.args in
+    λ b h. end_none a.most b (length a.bound.now) a.v c.if-most-eq0.true
+
+pub returns-then-len-eq0 : goal.returns-then-len-eq0
+returns-then-len-eq0 c =
+    let a = c.args in
+    λ b h. end_free a.kinds.now a.vals.now a.bound.now b h a.most a.v _ _ (subst (λ (w : ℕ). Named a.kinds.now a.vals.now w c.named_run-run.result.at c.named_run-run.result.len) c.wide.ensures c.named_run-run.ensures) (length a.bound.now) c.if-most-eq0.false c.if-len-eq0.true
+
+pub returns-then-kinds-q-ne1 : goal.returns-then-kinds-q-ne1
+returns-then-kinds-q-ne1 c =
+    let a = c.args in
+    λ b h. ends_node a.kinds.now a.vals.now c.shallow_resolve-q.result (length a.bound.now) (follow a.most b (var a.v)) (ended (goal.at.returns-then-kinds-q-ne1 c).After-shallow_resolve-q b h) c.if-kinds-q-ne1.true
+
+pub returns-then-bound-w : goal.returns-then-bound-w
+returns-then-bound-w c =
+    let a = c.args in
+    λ b h. ends_far a.kinds.now a.vals.now c.shallow_resolve-q.result (length a.bound.now) (follow a.most b (var a.v)) (ended (goal.at.returns-then-bound-w c).After-shallow_resolve-q b h) (omega (arith, c.wide-w.ensures, c.if-bound-w.true))
+
+pub returns : goal.returns
+returns c =
+    let a = c.args in
+    λ b h. subst (λ (r : ℕ). EndsAt (length a.bound.now) (follow a.most b (var a.v)) r) (sym c.wide-w.ensures) (ends_near a.kinds.now a.vals.now c.shallow_resolve-q.result (length a.bound.now) (follow a.most b (var a.v)) (ended (goal.at.returns c).After-shallow_resolve-q b h) c.if-kinds-q-ne1.false)

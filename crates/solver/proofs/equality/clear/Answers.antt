@@ -1,0 +1,23 @@
+use lib.ListN.{take, drop, set, length-set}
+use mathlib.Core.Path.{◌≡◌, ◌∙◌}
+use native.Mathlib.Omega.{arith}
+use Prim.Native.Nat.{◌+◌, ◌-◌}
+use Rattle.solver.proofs.Laws.Equality.LinkLaws.{clear_end}
+use Rattle.solver.proofs.Laws.Equality.EqualLaws.{clear_turn, zero_area}
+use Rattle.solver.proofs.equality.clear.Goals as goal
+
+pub loop-k-preserved : goal.loop-k-preserved
+loop-k-preserved c =
+    let l = c.loop-k in
+    let n = c.args.n in (
+      clear_turn n l.work l.k l.invariant.0 c.wide-x.result (omega arith) c.wide-x.ensures (omega (arith, c.requires.0, l.invariant.1)),
+      length-set (set l.work c.wide-x.result 0) (n + (l.k - 1)) 0 ∙ length-set l.work c.wide-x.result 0 ∙ l.invariant.1,
+    )
+
+pub returns : goal.returns
+returns c =
+    let l = c.loop-k in
+    let n = c.args.n in
+    let k : l.k ≡ 0 = omega arith in
+    let z = clear_end (take n l.work) (drop n l.work) (rw k at l.invariant.0) in
+    zero_area n l.work z.0 z.1

@@ -1,0 +1,72 @@
+use native.Mathlib.Omega.{arith}
+use Rattle.solver.specs.Constrain.{follow}
+use Rattle.solver.specs.Words.CongruenceClasses.{stands_for}
+use Rattle.solver.proofs.Laws.Equality.LinkLaws.{advanced_on, top_below}
+use Rattle.solver.proofs.Laws.Equality.CloseLaws.{going_on, going_no, going_yes}
+use Rattle.solver.proofs.Laws.Equality.EqualLaws.{queue_fits, taken_entry}
+use borrow.Author.Rules.{rules}
+use Rattle.solver.proofs.equality.close_congruence.Goals as goal
+
+pub overflow_add-n : goal.overflow_add-n
+overflow_add-n c =
+    let l = c.loop-done in
+    omega (arith, queue_fits c.args.kinds.now l.work l.top l.invariant.1.wired, top_below _ _ _ _ l.invariant.1.wired, l.invariant.3, c.well_formed)
+
+pub offset_bounds-work-n : goal.offset_bounds-work-n
+offset_bounds-work-n c =
+    let l = c.loop-done in
+    omega (arith, queue_fits c.args.kinds.now l.work l.top l.invariant.1.wired, top_below _ _ _ _ l.invariant.1.wired, l.invariant.3, c.well_formed)
+
+pub bounds-work-n : goal.bounds-work-n
+bounds-work-n c =
+    let l = c.loop-done in
+    omega (arith, queue_fits c.args.kinds.now l.work l.top l.invariant.1.wired, top_below _ _ _ _ l.invariant.1.wired)
+
+pub bounds-work-x : goal.bounds-work-x
+bounds-work-x c =
+    let l = c.loop-done in
+    let t = taken_entry c.args.kinds.now l.work l.top l.invariant.1.wired l.done (omega arith) c.wide-x.result c.wide-x.ensures in
+    omega (arith, t.0, queue_fits c.args.kinds.now l.work l.top l.invariant.1.wired, top_below _ _ _ _ l.invariant.1.wired)
+
+pub overflow_sub-y : goal.overflow_sub-y
+overflow_sub-y c =
+    let l = c.loop-done in
+    let t = taken_entry c.args.kinds.now l.work l.top l.invariant.1.wired l.done (omega arith) c.wide-x.result c.wide-x.ensures in
+    omega (arith, c.wide-y.ensures, t.1, t.3)
+
+pub union_parts-r-requires-clause-places : goal.union_parts-r-requires-clause-places
+union_parts-r-requires-clause-places c =
+    let l = c.loop-done in
+    let t = taken_entry c.args.kinds.now l.work l.top l.invariant.1.wired l.done (omega arith) c.wide-x.result c.wide-x.ensures in
+    (t.0, omega (arith, c.wide-y.ensures, t.0, t.1, t.3, t.4), c.requires.areas.0, c.requires.areas.1)
+
+pub returns-then-not-equal : goal.returns-then-not-equal
+returns-then-not-equal c =
+    let l = c.loop-done in
+    let t = taken_entry c.args.kinds.now l.work l.top l.invariant.1.wired l.done (omega arith) c.wide-x.result c.wide-x.ensures in
+    let d = c.union_parts-r.ensures in
+    record {
+      advanced = advanced_on _ _ _ _ _ _ _ _ _ _ l.invariant.1 d.advanced;
+      terms = λ b e fa. going_no _ _ (stands_for c.args.most b) (follow c.args.most b) _ _ _ _ _ _ _ _ _ _ (l.invariant.2 b e fa) l.invariant.1.wired d.advanced (omega arith) t.2 (omega (arith, c.wide-y.ensures, t.1, t.3)) _ (λ k j ps qs hx hy. d.terms b k j ps qs e hx hy (l.invariant.2 b e fa).fair) c.if-not-equal.true;
+    }
+
+pub loop-done-smaller : goal.loop-done-smaller
+loop-done-smaller c =
+    let l = c.loop-done in
+    omega (arith, queue_fits c.args.kinds.now l.work l.top l.invariant.1.wired, top_below _ _ _ _ l.invariant.1.wired)
+
+pub loop-done-preserved : goal.loop-done-preserved
+loop-done-preserved c =
+    let l = c.loop-done in
+    let t = taken_entry c.args.kinds.now l.work l.top l.invariant.1.wired l.done (omega arith) c.wide-x.result c.wide-x.ensures in
+    let d = c.union_parts-r.ensures in (
+      omega (arith, d.advanced.more),
+      advanced_on _ _ _ _ _ _ _ _ _ _ l.invariant.1 d.advanced,
+      λ b e fa. going_on _ _ (stands_for c.args.most b) (follow c.args.most b) _ _ _ _ _ _ _ _ _ _ (l.invariant.2 b e fa) l.invariant.1.wired d.advanced (omega arith) t.2 (omega (arith, c.wide-y.ensures, t.1, t.3)) _ (λ k j ps qs hx hy. d.terms b k j ps qs e hx hy (l.invariant.2 b e fa).fair) c.if-not-equal.false,
+      search rules,
+    )
+
+pub returns-clause-terms : goal.returns-clause-terms
+returns-clause-terms c =
+    let l = c.loop-done in
+    λ b e fa. going_yes _ _ (stands_for c.args.most b) (follow c.args.most b) _ _ _ _ _ (l.invariant.2 b e fa) l.invariant.1.wired (omega arith)

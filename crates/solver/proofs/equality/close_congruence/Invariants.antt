@@ -1,0 +1,22 @@
+-- `close_congruence`. Invariant: `Going`, the parts of the first `done` places of the queue are joined. Measure: the places that have not been taken.
+use lib.ListN.{length}
+use mathlib.Core.Option.{Option}
+use mathlib.Core.Path.{◌≡◌}
+use Prim.Native.Nat.{ℕ, ◌-◌, ◌≤◌}
+use Rattle.terms.specs.Term.{Term}
+use Rattle.solver.specs.Constrain.{follow}
+use Rattle.solver.specs.Words.SessionRepresentation.{begins}
+use Rattle.solver.specs.Words.CongruenceClasses.{link_words, queue_words, AdvancedIn, HeldSteady, stands_for, Fair}
+use Rattle.solver.proofs.Laws.Equality.CloseLaws.{Going}
+use Rattle.solver.proofs.equality.close_congruence.Given as goal
+
+abbrev pub invariant-loop-done : goal.invariant-loop-done
+invariant-loop-done l =
+    (l.done ≤ l.top)
+    × AdvancedIn l.kinds l.initial.work l.from l.work l.top
+    × ((b : ℕ → Option Term) → HeldSteady l.kinds l.vals l.bound l.most b → Fair l.kinds l.vals (link_words l.kinds l.initial.work)
+    → Going l.kinds l.vals (stands_for l.most b) (follow l.most b) (link_words l.kinds l.initial.work) (link_words l.kinds l.work) (queue_words l.kinds l.work) l.done)
+    × (length l.work ≡ length l.initial.work)
+
+abbrev pub decreases-loop-done : goal.decreases-loop-done
+decreases-loop-done l = begins l.kinds - l.done

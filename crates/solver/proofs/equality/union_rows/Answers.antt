@@ -1,0 +1,64 @@
+use native.Mathlib.Omega.{arith}
+use Rattle.solver.specs.Constrain.{follow}
+use Rattle.solver.specs.Words.CongruenceClasses.{stands_for}
+use Rattle.solver.proofs.Laws.Equality.LinkLaws.{advanced_on}
+use Rattle.solver.proofs.Laws.Equality.UnionRowLaws.{walk_number, walk_join, walk_yes, no_short, no_long, no_term, no_number, no_value, no_join}
+use borrow.Author.Rules.{rules}
+use Rattle.solver.proofs.equality.union_rows.Goals as goal
+
+pub returns-then-be-j-clause-terms : goal.returns-then-be-j-clause-terms
+returns-then-be-j-clause-terms c =
+    let l = c.loop-i in
+    λ h ps qs e hp hq fa. no_short _ _ (stands_for c.args.most h) (follow c.args.most h) _ _ ps qs _ _ _ _ (l.invariant.3 h ps qs e hp hq fa) (omega arith) c.if-be-j.true
+
+pub returns-then-kinds-j-ne0-clause-terms : goal.returns-then-kinds-j-ne0-clause-terms
+returns-then-kinds-j-ne0-clause-terms c =
+    let l = c.loop-i in
+    λ h ps qs e hp hq fa. no_term _ _ (stands_for c.args.most h) (follow c.args.most h) _ _ ps qs _ _ _ _ (l.invariant.3 h ps qs e hp hq fa) (omega arith) (omega arith) c.if-kinds-i-eq0.true c.if-kinds-j-ne0.true
+
+pub returns-then-vals-i-clause-terms : goal.returns-then-vals-i-clause-terms
+returns-then-vals-i-clause-terms c =
+    let l = c.loop-i in
+    λ h ps qs e hp hq fa. no_value _ _ (stands_for c.args.most h) (follow c.args.most h) _ _ ps qs _ _ _ _ (l.invariant.3 h ps qs e hp hq fa) (omega arith) (omega arith) c.if-kinds-i-eq0.true c.if-kinds-j-ne0.false c.if-vals-i.true
+
+pub loop-i-preserved-then-kinds-i-eq0 : goal.loop-i-preserved-then-kinds-i-eq0
+loop-i-preserved-then-kinds-i-eq0 c =
+    let l = c.loop-i in
+    (omega arith, omega arith, l.invariant.2, λ h ps qs e hp hq fa. walk_number _ _ (stands_for c.args.most h) (follow c.args.most h) _ _ ps qs _ _ _ _ (l.invariant.3 h ps qs e hp hq fa) (omega arith) (omega arith) c.if-kinds-i-eq0.true c.if-kinds-j-ne0.false c.if-vals-i.false, l.invariant.4)
+
+pub returns-then-kinds-j-eq0-clause-terms : goal.returns-then-kinds-j-eq0-clause-terms
+returns-then-kinds-j-eq0-clause-terms c =
+    let l = c.loop-i in
+    λ h ps qs e hp hq fa. no_number _ _ (stands_for c.args.most h) (follow c.args.most h) _ _ ps qs _ _ _ _ (l.invariant.3 h ps qs e hp hq fa) (omega arith) (omega arith) c.if-kinds-i-eq0.false c.if-kinds-j-eq0.true
+
+pub returns-then-not-equal : goal.returns-then-not-equal
+returns-then-not-equal c =
+    let l = c.loop-i in
+    let d = c.union_terms-r.ensures in
+    record {
+      advanced = advanced_on _ _ _ _ _ _ _ _ _ _ l.invariant.2 d.advanced;
+      terms = λ h ps qs e hp hq fa. no_join _ _ (stands_for c.args.most h) (follow c.args.most h) _ _ ps qs _ _ _ _ (l.invariant.3 h ps qs e hp hq fa) _ d.advanced.keeps (omega arith) (omega arith) c.if-kinds-i-eq0.false c.if-kinds-j-eq0.false _ (λ t u ht hu. d.terms h t u e ht hu (l.invariant.3 h ps qs e hp hq fa).fair) c.if-not-equal.true;
+    }
+
+pub loop-i-preserved : goal.loop-i-preserved
+loop-i-preserved c =
+    let l = c.loop-i in
+    let d = c.union_terms-r.ensures in
+    let r = c.skip-i.ensures in
+    let q = c.skip-j.ensures in (
+      omega arith,
+      omega arith,
+      advanced_on _ _ _ _ _ _ _ _ _ _ l.invariant.2 d.advanced,
+      λ h ps qs e hp hq fa. walk_join _ _ (stands_for c.args.most h) (follow c.args.most h) _ _ ps qs _ _ _ _ (l.invariant.3 h ps qs e hp hq fa) _ d.advanced.keeps (omega arith) (omega arith) c.if-kinds-i-eq0.false c.if-kinds-j-eq0.false _ (λ t u ht hu. d.terms h t u e ht hu (l.invariant.3 h ps qs e hp hq fa).fair) c.if-not-equal.false _ _ (λ x y. r.2 x (omega arith)) (λ x y. q.2 x (omega arith)),
+      search rules,
+    )
+
+pub returns-then-j-be-clause-terms : goal.returns-then-j-be-clause-terms
+returns-then-j-be-clause-terms c =
+    let l = c.loop-i in
+    λ h ps qs e hp hq fa. no_long _ _ (stands_for c.args.most h) (follow c.args.most h) _ _ ps qs _ _ _ _ (l.invariant.3 h ps qs e hp hq fa) (omega arith) c.if-j-be.true
+
+pub returns-clause-terms : goal.returns-clause-terms
+returns-clause-terms c =
+    let l = c.loop-i in
+    λ h ps qs e hp hq fa. walk_yes _ _ (stands_for c.args.most h) (follow c.args.most h) _ _ ps qs _ _ _ _ (l.invariant.3 h ps qs e hp hq fa) (omega arith) c.if-j-be.false

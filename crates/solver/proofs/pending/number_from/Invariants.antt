@@ -1,0 +1,12 @@
+-- `number_from`. Invariant: what is left of the row has its numbers. Measure: the tokens left.
+use Prim.Native.Nat.{◌-◌, ◌≤◌}
+use Rattle.terms.specs.Term.{Parts}
+use Rattle.terms.specs.Words.Held.{HeldParts}
+use Rattle.solver.proofs.Laws.Checks.PushLaws.{Seeking}
+use Rattle.solver.proofs.pending.number_from.Given as goal
+
+abbrev pub invariant-loop-i : goal.invariant-loop-i
+invariant-loop-i l = (l.i ≤ l.end) × ((ps : Parts) → HeldParts l.kinds l.vals l.from l.end ps → Seeking l.kinds l.vals l.i l.end ps)
+
+abbrev pub decreases-loop-i : goal.decreases-loop-i
+decreases-loop-i l = l.end - l.i

@@ -1,0 +1,12 @@
+-- `push_range`. Invariant: the pairs done, and the rows that are left. Measure: the tokens left of the first row.
+use mathlib.Core.Path.{◌≡◌}
+use Prim.Native.Nat.{◌-◌, ◌≤◌}
+use lib.ListN.{length}
+use Rattle.solver.proofs.Laws.Checks.PushLaws.{Pushing}
+use Rattle.solver.proofs.pending.push_range.Given as goal
+
+abbrev pub invariant-loop-i : goal.invariant-loop-i
+invariant-loop-i l = (l.i ≤ l.ae) × (l.j ≤ l.be) × Pushing l.kinds l.vals l.a l.ae l.b l.be l.lo l.hi l.base l.count l.initial.tables l.tables l.i l.j l.c.child l.c.top × (length l.tables ≡ length l.initial.tables)
+
+abbrev pub decreases-loop-i : goal.decreases-loop-i
+decreases-loop-i l = l.ae - l.i

@@ -1,0 +1,62 @@
+-- `push`. By the token's kind, the table and the mark.
+use mathlib.Core.Path.{◌≡◌, refl, sym, ap, ◌∙◌}
+use mathlib.Core.Bool.{true}
+use Prim.Native.Nat.{ℕ, suc, ◌<◌}
+use native.Mathlib.Omega.{arith}
+use lib.ListN.{get_or, take, length-set}
+use lib.Seq.{get_or-take}
+use Rattle.solver.specs.Words.ReachContract.{counts}
+use Rattle.solver.proofs.Laws.Resolving.WorklistLaws.{room_left, grown_new, grown_none, marked, parts_long, take_marked, drop_marked}
+use Rattle.solver.proofs.Laws.Resolving.AskLaws.{token_is, is_token}
+use Rattle.solver.proofs.reach.push.Goals as goal
+use Rattle.solver.proofs.reach.push.Goals.{Else-work-at-ne0}
+
+-- a variable of the table that is not marked leaves room in the queue
+room : (c : Else-work-at-ne0) → (c.wide-at.result < c.args.n) × (c.args.top < c.args.n) × (get_or (take c.args.n c.args.work.now) c.wide-at.result 0 ≡ 0)
+room c =
+    let x = c.wide-at.result in
+    let lt : x < c.args.n = omega (arith, c.if-n-at.false) in
+    let l = (parts_long c.args.n c.args.work.now c.requires.1).0 in
+    let z = get_or-take c.args.n c.args.work.now x 0 lt ∙ c.if-work-at-ne0.false in
+    (lt, omega (arith, l, room_left c.requires.0 x (omega arith) z), z)
+
+pub returns-then-kind-ne1 : goal.returns-then-kind-ne1
+returns-then-kind-ne1 c =
+    grown_none c.requires.0 (λ (u : ℕ). counts (suc u) c.args.kind c.args.val ≡ true) (λ u l i. absurd (c.if-kind-ne1.true (token_is u c.args.kind c.args.val i).0))
+
+pub returns-then-n-at : goal.returns-then-n-at
+returns-then-n-at c =
+    let n = (parts_long c.args.n c.args.work.now c.requires.1).0 in
+    grown_none c.requires.0 (λ (u : ℕ). counts (suc u) c.args.kind c.args.val ≡ true)
+    (λ u l i. absurd (omega (arith, (token_is u c.args.kind c.args.val i).1, c.wide-at.ensures, c.if-n-at.true)))
+
+pub returns-then-work-at-ne0 : goal.returns-then-work-at-ne0
+returns-then-work-at-ne0 c =
+    let x = c.wide-at.result in
+    let e = get_or-take c.args.n c.args.work.now x 0 (omega (arith, c.if-n-at.false)) in
+    let m = marked c.requires.0 x (λ q. c.if-work-at-ne0.true (sym e ∙ q)) in
+    grown_none c.requires.0 (λ (u : ℕ). counts (suc u) c.args.kind c.args.val ≡ true)
+    (λ u l i. ap (λ (y : ℕ). get_or (take c.args.n c.args.work.now) y 0) ((token_is u c.args.kind c.args.val i).1 ∙ sym c.wide-at.ensures) ∙ m)
+
+pub overflow_add-work : goal.overflow_add-work
+overflow_add-work c = omega (arith, (room (goal.at.overflow_add-work c).Else-work-at-ne0).1, c.requires.1, c.well_formed)
+
+pub offset_bounds-work-n : goal.offset_bounds-work-n
+offset_bounds-work-n c = omega (arith, (room (goal.at.offset_bounds-work-n c).Else-work-at-ne0).1, c.requires.1, c.well_formed)
+
+pub bounds-work-n : goal.bounds-work-n
+bounds-work-n c = omega (arith, (room (goal.at.bounds-work-n c).Else-work-at-ne0).1, c.requires.1, length-set c.args.work.now c.wide-at.result 1)
+
+pub overflow_add-result : goal.overflow_add-result
+overflow_add-result c = omega (arith, (room (goal.at.overflow_add-result c).Else-work-at-ne0).1, c.requires.1, c.well_formed)
+
+pub returns : goal.returns
+returns c =
+    let n = c.args.n in
+    let w = c.args.work.now in
+    let x = c.wide-at.result in
+    let r = room (goal.at.returns c).Else-work-at-ne0 in
+    let l = parts_long n w c.requires.1 in
+    rw (← c.wide-at.ensures, take_marked n w x c.args.top 1 x r.0, drop_marked n w x c.args.top 1 x r.0)
+    (grown_new c.requires.0 x (omega (arith, r.0, l.0)) r.2 (omega (arith, r.1, l.1, c.requires.1)) (λ (u : ℕ). counts (suc u) c.args.kind x ≡ true)
+    (is_token x c.args.kind x c.if-kind-ne1.false refl) (λ u i. (token_is u c.args.kind x i).1))

@@ -1,0 +1,44 @@
+-- `enter`. By the token's kind and the variable's word.
+use mathlib.Core.Path.{refl, sym, ap, ◌∙◌}
+use Prim.Native.Nat.{ℕ, pred}
+use native.Mathlib.Omega.{arith}
+use lib.ListN.{get_or, get_or-eq_default}
+use Rattle.solver.specs.Words.ResolveWalk.{run_len}
+use Rattle.solver.proofs.Laws.Resolving.FrameLaws.{run_none, inner_var, inner_other}
+use Rattle.solver.proofs.resolving.enter.Goals as goal
+
+pub returns-then-kinds-p-ne1 : goal.returns-then-kinds-p-ne1
+returns-then-kinds-p-ne1 c =
+    let a = c.args in
+    record {
+      shut = λ _. refl;
+      size = λ _. sym (inner_other a.kinds.now a.vals.now a.bound.now (get_or a.kinds.now a.p 0) (get_or a.vals.now a.p 0) c.if-kinds-p-ne1.true);
+      place = omega arith;
+      within = omega arith;
+    }
+
+pub returns-then-bound-v : goal.returns-then-bound-v
+returns-then-bound-v c =
+    let a = c.args in
+    let z = get_or-eq_default a.bound.now 0 {n = get_or a.vals.now a.p 0} (omega arith) in
+    record {
+      shut = λ _. refl;
+      size = λ _. sym (inner_var a.kinds.now a.vals.now a.bound.now (get_or a.kinds.now a.p 0) (get_or a.vals.now a.p 0) (omega arith)
+          ∙ ap (run_len a.kinds.now a.vals.now) z ∙ run_none a.kinds.now a.vals.now);
+      place = omega arith;
+      within = omega arith;
+    }
+
+pub returns : goal.returns
+returns c =
+    let a = c.args in
+    let v = c.wide-v.ensures in
+    let w = c.wide.ensures ∙ ap (λ (i : ℕ). get_or a.bound.now i 0) v in
+    let b = c.named_run.ensures in
+    record {
+      shut = λ z. absurd (omega (arith, c.if-left-eq0.false));
+      size = λ _. b.size ∙ ap (run_len a.kinds.now a.vals.now) w
+          ∙ sym (inner_var a.kinds.now a.vals.now a.bound.now (get_or a.kinds.now a.p 0) (get_or a.vals.now a.p 0) (omega arith));
+      place = λ z. b.place z ∙ ap pred w;
+      within = b.within;
+    }

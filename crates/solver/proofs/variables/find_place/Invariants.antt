@@ -1,0 +1,11 @@
+-- `find_place`: none where no variable has the site. Invariant: what is looked for is among the first v variables.
+use mathlib.Core.Path.{◌≡◌}
+use Prim.Native.Nat.{◌≤◌}
+use Rattle.solver.proofs.Laws.Table.MethodLaws.{Last}
+use Rattle.solver.proofs.variables.find_place.Given as goal
+
+abbrev pub invariant-loop-v : goal.invariant-loop-v
+invariant-loop-v l = (Last l.kind l.site l.slot l.m l.tables l.issued l.issued ≡ Last l.kind l.site l.slot l.m l.tables l.issued l.v) × (l.v ≤ l.issued)
+
+abbrev pub decreases-loop-v : goal.decreases-loop-v
+decreases-loop-v l = l.v
