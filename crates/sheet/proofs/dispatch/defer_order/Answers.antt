@@ -6,32 +6,26 @@ use lib.Seq.{length-take-le}
 use borrow.Rule.Slice.PartMut.{take_put}
 use Rattle.solver.specs.Orders as orders
 use Rattle.sheet.proofs.Laws.Answering.SessionInAreasLaws.{poses_tail, does_tail}
-use Rattle.sheet.proofs.Laws.Answering.DispatchLaws.{taken_half, taken_a, taken_b, poses, posed, defer_term, defer_known, defer_step}
+use Rattle.sheet.proofs.Laws.Answering.DispatchLaws.{taken_half, taken_b, poses, posed, defer_term, defer_known, defer_step}
 use Rattle.sheet.proofs.dispatch.defer_order.Goals as goal
-
-pub slice_bounds-defer_term-end : goal.slice_bounds-defer_term-end
-slice_bounds-defer_term-end c =
-    sym (length-take-le _ _ (taken_a c.requires.taken.5 c.requires.within))
 
 pub slice_bounds-defer_term-end-2 : goal.slice_bounds-defer_term-end-2
 slice_bounds-defer_term-end-2 c =
     sym (length-take-le _ _ (taken_b c.requires.taken.5 c.requires.within))
 
-pub defer_term-requires : goal.defer_term-requires
-defer_term-requires c =
+pub defer_term-requires-clause-held : goal.defer_term-requires-clause-held
+defer_term-requires-clause-held c =
     let a = c.args in
-    let p = c.requires in
     let T = c.requires.taken.5 in
     let W = c.requires.within in
     let h = c.requires.kind in
     let t = defer_term T W h in
     let R = c.requires.taken.5.ready in
-    record { held = (R.session, t.0, poses_tail a.half a.c.now _ _ _ _ _ (poses T W t.0 t.1 (defer_known T W h) R.session R.ordered R.in_areas)); room = p.room }
+    (R.session, t.0, poses_tail a.half a.c.now _ _ _ _ _ (poses T W t.0 t.1 (defer_known T W h) R.session R.ordered R.in_areas))
 
 pub returns : goal.returns
 returns c =
     let a = c.args in
-    let p = c.requires in
     let W = c.requires.within in
     let h = c.requires.kind in
     let e = c.defer_term.ensures in

@@ -1,14 +1,6 @@
 -- `operate_order`: the answer of the operation.
-use mathlib.Core.Path.{sym}
-use lib.Seq.{length-take-le}
-use Rattle.sheet.proofs.Laws.Answering.DispatchLaws.{taken_half, taken_lends, taken_asks, operated}
+use Rattle.sheet.proofs.Laws.Answering.DispatchLaws.{taken_lends, taken_asks, operated}
 use Rattle.sheet.proofs.dispatch.operate_order.Goals as goal
-
-pub slice_bounds-operate-end-2 : goal.slice_bounds-operate-end-2
-slice_bounds-operate-end-2 c =
-    let a = c.args in
-    let p = c.requires in
-    sym (length-take-le a.half a.c.now (taken_half p.taken.2))
 
 pub operate-next-requires : goal.operate-next-requires
 operate-next-requires c =

@@ -6,7 +6,7 @@ use lib.ListN.{length}
 use lib.Seq.{length-take-le}
 use borrow.Rule.Slice.PartMut.{take_put}
 use Rattle.sheet.proofs.Laws.Answering.SessionInAreasLaws.{pair_tail, scratch_tail, blank_tail, pair_does_tail}
-use Rattle.sheet.proofs.Laws.Answering.DispatchLaws.{taken_half, taken_a, taken_b, pair_terms, pair_k, poses_pair, pair_nodes, pair_scratch, pair_blank, pair_answered}
+use Rattle.sheet.proofs.Laws.Answering.DispatchLaws.{taken_half, taken_b, pair_terms, pair_k, poses_pair, pair_nodes, pair_scratch, pair_blank, pair_answered}
 use Rattle.sheet.proofs.dispatch.pair_order.Goals as goal
 
 pub overflow_cast-k : goal.overflow_cast-k
@@ -17,10 +17,6 @@ overflow_cast-k c =
     let q = pair_terms T p.within a.strict p.kind in
     let k = pair_k T p.within a.strict p.kind q.0 q.1 q.2 q.3 in
     omega (arith, k.0, k.1)
-
-pub slice_bounds-constrain_order-end : goal.slice_bounds-constrain_order-end
-slice_bounds-constrain_order-end c =
-    sym (length-take-le _ _ (taken_a c.requires.taken.4 c.requires.within))
 
 pub slice_bounds-constrain_order-end-2 : goal.slice_bounds-constrain_order-end-2
 slice_bounds-constrain_order-end-2 c =
@@ -39,7 +35,6 @@ constrain_order-requires c =
 pub returns : goal.returns
 returns c =
     let a = c.args in
-    let p = c.requires in
     let W = c.requires.within in
     let h = c.requires.kind in
     let e = c.constrain_order.ensures in

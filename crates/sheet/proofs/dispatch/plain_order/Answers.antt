@@ -1,12 +1,11 @@
 -- `plain_order`: no tokens; the table lent and put back.
-use native.Mathlib.Omega.{arith}
 use mathlib.Core.Path.{sym}
 use Prim.Native.Nat.{◌-◌}
 use lib.ListN.{length}
 use lib.Seq.{length-take-le}
 use borrow.Rule.Slice.PartMut.{take_put}
 use Rattle.sheet.proofs.Laws.Answering.SessionInAreasLaws.{ready_frames, lent_tail, does_tail}
-use Rattle.sheet.proofs.Laws.Answering.DispatchLaws.{taken_half, taken_a, taken_b, plain_asks, plain_lent, plain_answered}
+use Rattle.sheet.proofs.Laws.Answering.DispatchLaws.{taken_half, taken_b, plain_asks, plain_lent, plain_answered}
 use Rattle.sheet.proofs.dispatch.plain_order.Goals as goal
 
 pub termless_of-what-requires : goal.termless_of-what-requires
@@ -14,26 +13,9 @@ termless_of-what-requires c =
     let p = c.requires in
     (_, _, p.taken.0, p.taken.3, plain_asks p.taken.4 p.within p.kind)
 
-pub slice_bounds-termless_order-end : goal.slice_bounds-termless_order-end
-slice_bounds-termless_order-end c =
-    sym (length-take-le _ _ (taken_a c.requires.taken.4 c.requires.within))
-
 pub slice_bounds-termless_order-end-2 : goal.slice_bounds-termless_order-end-2
 slice_bounds-termless_order-end-2 c =
     sym (length-take-le _ _ (taken_b c.requires.taken.4 c.requires.within))
-
-pub offset_bounds-c-half : goal.offset_bounds-c-half
-offset_bounds-c-half c =
-    let R = c.requires.taken.4.ready.roomy in
-    omega (arith, R.table, R.few)
-
-pub slice_bounds-termless_order-count : goal.slice_bounds-termless_order-count
-slice_bounds-termless_order-count c =
-    taken_half c.requires.taken.4
-
-pub slice_bounds-termless_order-start : goal.slice_bounds-termless_order-start
-slice_bounds-termless_order-start c =
-    taken_half c.requires.taken.4
 
 pub termless_order-requires : goal.termless_order-requires
 termless_order-requires c =

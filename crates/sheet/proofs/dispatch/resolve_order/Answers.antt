@@ -3,12 +3,8 @@ use mathlib.Core.Path.{refl, sym}
 use lib.Seq.{length-take-le}
 use Rattle.solver.specs.Orders as orders
 use Rattle.sheet.proofs.Laws.Answering.SessionInAreasLaws.{ready_frames, poses_tail, does_part}
-use Rattle.sheet.proofs.Laws.Answering.DispatchLaws.{taken_a, taken_b, poses, posed, resolve_term, resolve_known, resolve_step}
+use Rattle.sheet.proofs.Laws.Answering.DispatchLaws.{taken_b, poses, posed, resolve_term, resolve_known, resolve_step}
 use Rattle.sheet.proofs.dispatch.resolve_order.Goals as goal
-
-pub slice_bounds-resolve_term-end : goal.slice_bounds-resolve_term-end
-slice_bounds-resolve_term-end c =
-    sym (length-take-le _ _ (taken_a c.requires.taken.4 c.requires.within))
 
 pub slice_bounds-resolve_term-end-2 : goal.slice_bounds-resolve_term-end-2
 slice_bounds-resolve_term-end-2 c =
@@ -28,7 +24,6 @@ resolve_term-requires c =
 pub returns : goal.returns
 returns c =
     let a = c.args in
-    let p = c.requires in
     let W = c.requires.within in
     let h = c.requires.kind in
     let e = c.resolve_term.ensures in

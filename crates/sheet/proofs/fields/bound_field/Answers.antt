@@ -1,20 +1,13 @@
 -- `bound_field`: a byte, and then two numbers.
 use mathlib.Core.Path.{refl}
 use native.Mathlib.Omega.{arith}
-use lib.ListN.{get_or}
 use Rattle.sheet.proofs.Laws.Reading.PartLaws.{bound_ended, bound_unread, bound_after, bound_unread_low, bound_small, bound_said}
-use borrow.Author.Rules.{Fits-under}
 use Rattle.sheet.proofs.fields.bound_field.Goals as goal
 
 pub returns-then-s-i : goal.returns-then-s-i
 returns-then-s-i c =
     let a = c.args in
     bound_ended a.s.now a.at.now c.requires c.if-s-i.true a.value.now a.start.now a.at.now
-
-pub overflow_cast-start : goal.overflow_cast-start
-overflow_cast-start c =
-    let a = c.args in
-    Fits-under _ (get_or a.s.now a.at.now 0) 256 (omega (arith, c.shared_slice_known-2-1.given a.at.now)) tt
 
 pub returns-then-a-ne0 : goal.returns-then-a-ne0
 returns-then-a-ne0 c =

@@ -1,9 +1,8 @@
 -- `keep_part`: by the sort.
-use mathlib.Core.Logic.{inl, inr}
+use native.Mathlib.Omega.{arith}
 use Rattle.solver.specs.Terms.Tokens.{area}
 use Rattle.solver.specs.Terms.StepCodes.{place}
 use Rattle.sheet.proofs.Laws.Reading.PartLaws.{either_told, list_told}
-use Rattle.sheet.proofs.fields.keep_part.Goals.{in_default-via-then-sort-lt4, in_default-via-else-sort-lt4+else-sort-lt6}
 use Rattle.sheet.proofs.fields.keep_part.Goals as goal
 
 pub returns-in-4 : goal.returns-in-4
@@ -12,7 +11,7 @@ returns-in-4 c =
     let a = c.args in
     let r = c.read_part in
     either_told a.s.now ws a.issued (place a.at.now a.top.now a.nodes.now a.limit) (area a.kinds.now a.vals.now) (area c.read_part.new.kinds c.read_part.new.vals) c.requires.free a.count
-    r.result c.read_part.new.at c.read_part.new.top c.read_part.new.nodes a.sort c.in-4.if-sort-lt4-own.false c.in-4.if-sort-lt6-own.true r.ensures
+    r.result c.read_part.new.at c.read_part.new.top c.read_part.new.nodes a.sort (omega arith) (omega arith) r.ensures
 
 pub returns-in_default : goal.returns-in_default
 returns-in_default c =
@@ -21,4 +20,4 @@ returns-in_default c =
     let r = c.read_list in
     list_told a.s.now ws a.issued (place a.at.now a.top.now a.nodes.now a.limit) (area a.kinds.now a.vals.now) (area c.read_list.new.kinds c.read_list.new.vals) c.requires.free a.count
     r.result c.read_list.new.at c.read_list.new.top c.read_list.new.nodes a.sort c.keys_of.result
-    (elim c.in_default.branch [ in_default-via-then-sort-lt4 v ↦ inl v.if-sort-lt4-1.true | in_default-via-else-sort-lt4+else-sort-lt6 v ↦ inr v.if-sort-lt6-1.false ]) c.keys_of.ensures r.ensures
+    (grind arith) c.keys_of.ensures r.ensures

@@ -1,29 +1,18 @@
 -- `list_field`: a count, and what is kept after it.
-use mathlib.Core.Path.{refl}
 use Rattle.solver.specs.Terms.StepCodes.{place}
 use Rattle.solver.specs.Terms.Tokens.{area}
 use Rattle.sheet.specs.Words.FieldLayout.{part_of}
 use Rattle.sheet.specs.Words.FieldsContract.{field_of}
-use Rattle.sheet.proofs.Laws.Reading.CodeLaws.{list_coded, number_coded}
-use Rattle.sheet.proofs.Laws.Reading.PartLaws.{number_told, number_refused, list_field_lem, list_counted, list_refused, part_field, part_none, ample_moved, unread}
+use Rattle.sheet.proofs.Laws.Reading.CodeLaws.{number_coded}
+use Rattle.sheet.proofs.Laws.Reading.PartLaws.{number_told, list_field_lem, list_counted, part_field, part_none, ample_moved}
 use Rattle.sheet.proofs.fields.list_field.Goals as goal
 
-pub returns-then-a-ne0 : goal.returns-then-a-ne0
-returns-then-a-ne0 c =
-    let a = c.args in
-    let n = c.number_at-a in
-    let d = area a.kinds.now a.vals.now in
-    λ ws.
-    unread a.s.now ws _ (place a.at.now a.top.now a.nodes.now a.limit) d d (list_coded a.s.now a.issued a.sort a.at.now) n.result c.number_at-a.new.value a.start.now a.end.now c.number_at-a.new.at a.top.now
-    a.nodes.now a.limit
-    (list_refused a.s.now a.issued a.sort a.at.now n.result (number_refused _ _ _ n.result c.number_at-a.new.at c.number_at-a.new.value n.ensures c.if-a-ne0.true), refl)
-
-pub keep_part-r-requires : goal.keep_part-r-requires
-keep_part-r-requires c =
+pub keep_part-r-requires-clause-ample : goal.keep_part-r-requires-clause-ample
+keep_part-r-requires-clause-ample c =
     let a = c.args in
     let n = c.number_at-a in
     let e = number_told _ _ _ n.result c.number_at-a.new.at c.number_at-a.new.value (number_coded a.s.now 4294967295 a.at.now) n.ensures c.if-a-ne0.false in
-    record { ample = ample_moved a.s.now (place a.at.now a.top.now a.nodes.now a.limit) c.number_at-a.new.value c.number_at-a.new.at c.requires.ample e; free = c.requires.free }
+    ample_moved a.s.now (place a.at.now a.top.now a.nodes.now a.limit) c.number_at-a.new.value c.number_at-a.new.at c.requires.ample e
 
 pub returns-then-r-ne0 : goal.returns-then-r-ne0
 returns-then-r-ne0 c =

@@ -1,5 +1,5 @@
 -- `read_plain`: by the sort.
-use mathlib.Core.Logic.{◌⊎◌, inl, inr}
+use mathlib.Core.Logic.{◌⊎◌}
 use mathlib.Core.Path.{◌≡◌}
 use Prim.Native.Nat.{◌≤◌, ◌<◌}
 use native.Mathlib.Omega.{arith}
@@ -7,17 +7,7 @@ use Rattle.solver.specs.Terms.Tokens.{area}
 use Rattle.sheet.specs.Fields.{field}
 use Rattle.sheet.specs.Words.FieldLayout.{plain_of}
 use Rattle.sheet.proofs.Laws.Reading.PartLaws.{value_said, plain_tree, plain_list}
-use Rattle.sheet.proofs.fields.read_plain.Goals.{in_default-via-then-sort-lt1, in_default-via-else-sort-lt1+else-sort-lt6, in-2-1, in_default+else-sort-lt1+then-sort-lt6}
 use Rattle.sheet.proofs.fields.read_plain.Goals as goal
-
-pub code_field-requires : goal.code_field-requires
-code_field-requires c = c.requires.ample.inside
-
-pub parameters_field-requires : goal.parameters_field-requires
-parameters_field-requires c = c.requires.ample.inside
-
-pub bound_field-requires : goal.bound_field-requires
-bound_field-requires c = c.requires.ample.inside
 
 pub returns-in-1 : goal.returns-in-1
 unfolding plain_of field
@@ -50,12 +40,11 @@ returns-in-11 c =
 pub returns-in_default : goal.returns-in_default
 returns-in_default c =
     let a = c.args in
-    let h : (a.sort < 1) ⊎ (6 ≤ a.sort) = elim c.in_default.branch [ in_default-via-then-sort-lt1 v ↦ inl v.if-sort-lt1-1.true | in_default-via-else-sort-lt1+else-sort-lt6 v ↦ inr v.if-sort-lt6-1.false ] in
-    let r = c.in_default-1.rest in
-    λ ws. rw (plain_list a.s.now a.issued a.sort a.at.now h r.0.1 r.1) (c.list_field.ensures ws)
+    let h : (a.sort < 1) ⊎ (6 ≤ a.sort) = grind arith in
+    λ ws. rw (plain_list a.s.now a.issued a.sort a.at.now h (λ e. omega arith) (λ e. omega arith)) (c.list_field.ensures ws)
 
 pub returns-in-2 : goal.returns-in-2
 returns-in-2 c =
     let a = c.args in
-    let h : (a.sort ≡ 2) ⊎ ((3 < a.sort) × (a.sort < 6)) = elim c.in-2-1.branch [ in-2-1 v ↦ inl v.in-2-1.keys2 | in_default+else-sort-lt1+then-sort-lt6 v ↦ inr (omega (arith, v.if-sort-lt1-1.false, v.in_default-1.rest.0.0.0.0.1, v.in_default-1.rest.0.0.0.1, v.in_default-1.rest.0.0.1), v.if-sort-lt6-1.true) ] in
+    let h : (a.sort ≡ 2) ⊎ ((3 < a.sort) × (a.sort < 6)) = grind arith in
     λ ws. rw (plain_tree a.s.now a.issued a.sort a.at.now h) (c.tree_field.ensures ws)

@@ -6,25 +6,14 @@ use lib.ListN.{length}
 use native.Mathlib.Numerals.{add-one}
 use Rattle.solver.specs.Terms.Number.{shortest}
 use Rattle.solver.proofs.Terms.WriteLaws.{short_word}
-use Rattle.sheet.proofs.Laws.Answering.FramingLaws.{begun, unbegun}
+use Rattle.sheet.proofs.Laws.Answering.FramingLaws.{begun}
 use Rattle.sheet.proofs.framing.begin_answer.Goals as goal
-
-pub returns-then-out-to : goal.returns-then-out-to
-returns-then-out-to c =
-    let a = c.args in
-    unbegun a.size a.out.now a.to (omega arith)
 
 pub overflow_add-n : goal.overflow_add-n
 overflow_add-n c = omega (arith, c.number_len-n.ensures, short_word (c.args.size + 1) (omega arith))
 
 pub overflow_add-n-2 : goal.overflow_add-n-2
 overflow_add-n-2 c = omega (arith, c.number_len-n.ensures, short_word (c.args.size + 1) (omega arith))
-
-pub returns-then-out-to-2 : goal.returns-then-out-to-2
-returns-then-out-to-2 c =
-    let a = c.args in
-    let e = ap (λ (k : ℕ). length (shortest k)) (add-one a.size) in
-    unbegun a.size a.out.now a.to (omega (arith, e, c.number_len-n.ensures))
 
 pub returns : goal.returns
 returns c =

@@ -2,7 +2,6 @@
 use mathlib.Core.Path.{refl}
 use mathlib.Core.List.{[], ◌∷◌}
 use native.Mathlib.Omega.{arith}
-use lib.ListN.{length-set}
 use Rattle.sheet.specs.OrderTable.{outcome}
 use Rattle.sheet.proofs.Laws.Answering.FramingLaws.{frame_over, frame_fits, three_stores, one_frame}
 use Rattle.sheet.proofs.framing.write_byte_answer.Goals as goal
@@ -11,12 +10,6 @@ pub returns-then-out-to-lt3 : goal.returns-then-out-to-lt3
 returns-then-out-to-lt3 c =
     let a = c.args in
     frame_over (outcome (a.a ∷ [])) _ (one_frame a.a) a.out.now a.to _ _ (omega arith) refl refl
-
-pub bounds-out-to-2 : goal.bounds-out-to-2
-bounds-out-to-2 c = simp length-set (omega arith)
-
-pub bounds-out-to-3 : goal.bounds-out-to-3
-bounds-out-to-3 c = simp length-set (omega arith)
 
 pub returns : goal.returns
 returns c =

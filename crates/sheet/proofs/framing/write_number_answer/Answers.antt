@@ -1,7 +1,7 @@
 -- `write_number_answer`: the number after its opening.
 use native.Mathlib.Omega.{arith}
 use Rattle.solver.specs.Terms.Number.{shortest}
-use Rattle.sheet.proofs.Laws.Answering.FramingLaws.{value_in, value_over, begun_long, begun_room}
+use Rattle.sheet.proofs.Laws.Answering.FramingLaws.{value_in, value_over, begun_long}
 use Rattle.sheet.proofs.framing.write_number_answer.Goals as goal
 
 pub returns-then-out-at : goal.returns-then-out-at
@@ -9,13 +9,6 @@ returns-then-out-at c =
     let a = c.args in
     let l = begun_long _ a.out.now a.to _ _ c.begin_answer-at.ensures in
     value_over (shortest a.n) _ c.number_len-size.ensures a.out.now a.to _ _ c.begin_answer-at.ensures (omega (arith, l))
-
-pub write_number-requires : goal.write_number-requires
-write_number-requires c =
-    let a = c.args in
-    let l = begun_long _ a.out.now a.to _ _ c.begin_answer-at.ensures in
-    let m = begun_room _ a.out.now a.to _ _ c.begin_answer-at.ensures (omega (arith, l)) in
-    omega (arith, m, c.number_len-size.ensures)
 
 pub returns : goal.returns
 returns c =

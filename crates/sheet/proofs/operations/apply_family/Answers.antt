@@ -16,7 +16,6 @@ applied-requires c =
 pub returns : goal.returns
 returns c =
     λ ws.
-    let p = c.requires in
     let a = c.args in
     let y = c.requires.asks.1 in
     let k = among_only 18 a.o.kind y.among in

@@ -2,9 +2,6 @@
 use Rattle.sheet.proofs.Laws.Answering.AnswerLaws.{frame_as, all_seven}
 use Rattle.sheet.proofs.operations.asked.Goals as goal
 
-pub write_bytes_answer-requires : goal.write_bytes_answer-requires
-write_bytes_answer-requires c = c.requires.room
-
 pub returns : goal.returns
 returns c =
     λ t h f.

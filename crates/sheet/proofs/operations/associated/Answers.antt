@@ -1,7 +1,5 @@
 -- `associated`: normalised through the interface, then settled.
 use mathlib.Core.Path.{ap}
-use native.Mathlib.Omega.{arith}
-use lib.ListN.{length}
 use Rattle.sheet.specs.Operations.{settled}
 use Rattle.solver.specs.Terms.Lookup.{through}
 use Rattle.solver.specs.Terms.Normal.{normalise, levels, visits}
@@ -9,19 +7,14 @@ use Rattle.solver.proofs.Terms.NormalizeLaws.{interface_normalize}
 use Rattle.sheet.proofs.Laws.Answering.AnswerLaws.{frame_as, frame_from, answers_from}
 use Rattle.sheet.proofs.operations.associated.Goals as goal
 
-pub settled-requires : goal.settled-requires
-settled-requires c =
-    let p = c.requires in
+pub settled-requires-clause-answers : goal.settled-requires-clause-answers
+settled-requires-clause-answers c =
     let e = c.with_associated_types-r.ensures in
     let a = c.args in
-    let x = c.requires.terms in record {
-      room = record { inside = omega (arith, ap length e.out, p.room.inside); short = omega (arith, ap length e.out, p.room.short) };
-      leaves = (_, _, e.leaves);
-      answers = (
-        normalise levels visits (through x.row x.owner) x.term,
-        answers_from _ _ _ _ a.out.now _ a.to _ c.with_associated_types-r.result e.out (e.answers x.term x.row x.owner x.held x.interface x.owns),
-      );
-    }
+    let x = c.requires.terms in (
+      normalise levels visits (through x.row x.owner) x.term,
+      answers_from _ _ _ _ a.out.now _ a.to _ c.with_associated_types-r.result e.out (e.answers x.term x.row x.owner x.held x.interface x.owns),
+    )
 
 pub returns : goal.returns
 returns c =

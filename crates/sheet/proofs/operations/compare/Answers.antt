@@ -32,18 +32,16 @@ returns-then-o-eq10 c =
     let a = c.args in
     weakens_replies a.kinds.now a.vals.now s ws a.o c.if-o-eq10.true _ (λ t u x. frame_as _ _ (one_byte _ _ (c.bit-then-o-eq10.ensures ∙ ap bit (c.can_weaken_to-r.ensures t u x.left x.right x.left_formed x.right_formed))) _ _ _ _ c.write_byte_answer-then-o-eq10.ensures)
 
-pub recovered-requires : goal.recovered-requires
-recovered-requires c =
-    let p = c.requires in
+pub recovered-requires-clause-terms : goal.recovered-requires-clause-terms
+recovered-requires-clause-terms c =
     let a = c.args in
     let y = c.requires.asks.2 in
     let k = third 9 10 11 a.o.kind y.among c.if-o-eq9.false c.if-o-eq10.false in
-    record { areas = p.areas; terms = recover_asks _ _ _ _ a.o _ k y; room = p.room }
+    recover_asks _ _ _ _ a.o _ k y
 
 pub returns : goal.returns
 returns c =
     λ s ws.
-    let p = c.requires in
     let a = c.args in
     let y = c.requires.asks.2 in
     let k = third 9 10 11 a.o.kind y.among c.if-o-eq9.false c.if-o-eq10.false in

@@ -29,9 +29,6 @@ ask-r-requires c =
     let x = resolved_asks _ _ _ _ a.o _ c.if-o-eq16.true y in
     record { place = (held_in _ _ _ _ x.3, p.areas.pairs); term = record { term = x.1; held = x.3; formed = x.4 }; parameters = record { list = x.0; next = x.2.0; read = x.2.1 } }
 
-pub write_byte_answer-requires : goal.write_byte_answer-requires
-write_byte_answer-requires c = c.requires.room
-
 pub returns-then-o-eq16 : goal.returns-then-o-eq16
 returns-then-o-eq16 c =
     λ ws.
@@ -55,13 +52,9 @@ satisfies_for-y-requires c =
     let k = third 15 16 17 a.o.kind y.among c.if-o-eq15.false c.if-o-eq16.false in
     let x = satisfied_asks _ _ _ _ a.o _ k y in record { places = (held_in _ _ _ _ x.3, held_in _ _ _ _ x.4, held_in _ _ _ _ x.5, p.areas.pairs); nominals = (record { row = x.0; held = x.3; fit = x.6 }, record { row = x.1; held = x.4; fit = x.7 }); receiver = (x.2, x.5) }
 
-pub write_bytes_answer-requires : goal.write_bytes_answer-requires
-write_bytes_answer-requires c = c.requires.room
-
 pub returns : goal.returns
 returns c =
     λ ws.
-    let p = c.requires in
     let a = c.args in
     let y = c.requires.asks.1 in
     let k = third 15 16 17 a.o.kind y.among c.if-o-eq15.false c.if-o-eq16.false in

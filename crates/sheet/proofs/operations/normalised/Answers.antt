@@ -1,7 +1,5 @@
 -- `normalised`: normalised by the rules, then settled.
 use mathlib.Core.Path.{ap}
-use native.Mathlib.Omega.{arith}
-use lib.ListN.{length}
 use Rattle.sheet.specs.Operations.{settled}
 use Rattle.solver.specs.Terms.Lookup.{by_patterns}
 use Rattle.solver.specs.Terms.Normal.{normalise, levels, visits}
@@ -9,24 +7,14 @@ use Rattle.solver.proofs.Terms.NormalizeLaws.{rules_normalize}
 use Rattle.sheet.proofs.Laws.Answering.AnswerLaws.{frame_as, frame_from, answers_from}
 use Rattle.sheet.proofs.operations.normalised.Goals as goal
 
-pub normalise-r-requires : goal.normalise-r-requires
-normalise-r-requires c =
-    let p = c.requires in
-    record { lends = p.lends; few = p.few; place = p.room.inside; terms = p.terms }
-
-pub settled-requires : goal.settled-requires
-settled-requires c =
-    let p = c.requires in
+pub settled-requires-clause-answers : goal.settled-requires-clause-answers
+settled-requires-clause-answers c =
     let e = c.normalise-r.ensures in
     let a = c.args in
-    let x = c.requires.terms in record {
-      room = record { inside = omega (arith, ap length e.out, p.room.inside); short = omega (arith, ap length e.out, p.room.short) };
-      leaves = (_, _, e.leaves);
-      answers = (
-        normalise levels visits (by_patterns x.patterns) x.term,
-        answers_from _ _ _ _ a.out.now _ a.to _ c.normalise-r.result e.out (e.answers x.term x.patterns x.held x.ruled),
-      );
-    }
+    let x = c.requires.terms in (
+      normalise levels visits (by_patterns x.patterns) x.term,
+      answers_from _ _ _ _ a.out.now _ a.to _ c.normalise-r.result e.out (e.answers x.term x.patterns x.held x.ruled),
+    )
 
 pub returns : goal.returns
 returns c =

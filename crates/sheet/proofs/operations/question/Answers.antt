@@ -4,10 +4,9 @@ use mathlib.Core.List.{[]}
 use Rattle.sheet.proofs.Laws.Answering.AnswerLaws.{no_parameters, contrary, plainly}
 use Rattle.sheet.proofs.operations.question.Goals as goal
 
-pub ask-r-requires : goal.ask-r-requires
-ask-r-requires c =
-    let p = c.requires in
-    record { place = p.place; term = p.term; parameters = record { list = []; next = 0; read = no_parameters _ } }
+pub ask-r-requires-clause-parameters : goal.ask-r-requires-clause-parameters
+ask-r-requires-clause-parameters c =
+    record { list = []; next = 0; read = no_parameters _ }
 
 pub returns-then-q-eq2 : goal.returns-then-q-eq2
 returns-then-q-eq2 c =

@@ -6,11 +6,11 @@ use Rattle.sheet.proofs.Laws.Answering.AnswerLaws.{held_in, formed_both}
 use Rattle.sheet.proofs.Laws.Answering.FramingLaws.{value_in, value_over, begun_long, begun_room}
 use Rattle.sheet.proofs.operations.recovered.Goals as goal
 
-pub recovered_len-size-requires : goal.recovered_len-size-requires
-recovered_len-size-requires c =
+pub recovered_len-size-requires-clause-places : goal.recovered_len-size-requires-clause-places
+recovered_len-size-requires-clause-places c =
     let p = c.requires in
     let x = c.requires.terms.2 in
-    record { places = (held_in _ _ _ _ x.left, held_in _ _ _ _ x.right, p.areas.pairs); room = omega (arith, p.areas.short); terms = formed_both _ _ _ _ _ _ x }
+    (held_in _ _ _ _ x.left, held_in _ _ _ _ x.right, p.areas.pairs)
 
 pub returns-then-out-at : goal.returns-then-out-at
 returns-then-out-at c =

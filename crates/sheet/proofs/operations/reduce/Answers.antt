@@ -16,11 +16,11 @@ associated-requires c =
     let f = associated_asks _ _ _ _ a.o _ c.if-o-eq19.true y in
     let x = f.3 in record { lends = p.lends; places = (held_in _ _ _ _ x.term, held_in _ _ _ _ x.interface, held_in _ _ _ _ x.owns); room = p.room; terms = record { term = f.0; row = f.1; owner = f.2; held = x.term; interface = x.interface; owns = x.owns } }
 
-pub returns-then-o-eq19 : goal.returns-then-o-eq19
-returns-then-o-eq19 c =
+pub returns-then-o-eq19-clause-says : goal.returns-then-o-eq19-clause-says
+returns-then-o-eq19-clause-says c =
     let a = c.args in
     let d = c.associated.ensures in
-    record { clear = d.clear; says = λ s. associated_replies a.kinds.now a.vals.now s a.rules.now a.o c.if-o-eq19.true _ (λ t ps u x. d.says t ps u x) }
+    λ s. associated_replies a.kinds.now a.vals.now s a.rules.now a.o c.if-o-eq19.true _ (λ t ps u x. d.says t ps u x)
 
 pub overflow_mul-n : goal.overflow_mul-n
 overflow_mul-n c =
@@ -32,7 +32,6 @@ overflow_mul-n c =
 
 pub slice_bounds-normalised-end : goal.slice_bounds-normalised-end
 slice_bounds-normalised-end c =
-    let p = c.requires in
     let a = c.args in
     let y = c.requires.asks.1 in
     let k = other 19 20 a.o.kind y.among c.if-o-eq19.false in
@@ -48,11 +47,10 @@ normalised-requires c =
     let x = f.2 in
     record { lends = p.lends; place = held_in _ _ _ _ x.term; few = simp length-take (omega (arith, p.few)); room = p.room; terms = record { term = f.1; patterns = f.0; held = x.term; ruled = x.rules } }
 
-pub returns : goal.returns
-returns c =
-    let p = c.requires in
+pub returns-clause-says : goal.returns-clause-says
+returns-clause-says c =
     let a = c.args in
     let y = c.requires.asks.1 in
     let k = other 19 20 a.o.kind y.among c.if-o-eq19.false in
     let d = c.normalised.ensures in
-    record { clear = d.clear; says = λ s. rules_replies a.kinds.now a.vals.now s a.rules.now a.o k _ (λ rs t x l. d.says t rs x) }
+    λ s. rules_replies a.kinds.now a.vals.now s a.rules.now a.o k _ (λ rs t x l. d.says t rs x)

@@ -18,9 +18,7 @@ rewritten-requires c =
 pub returns-then-o-eq12 : goal.returns-then-o-eq12
 returns-then-o-eq12 c =
     λ ws.
-    let p = c.requires in
     let a = c.args in
-    let y = c.requires.asks.1 in
     let k = c.if-o-eq12.true in
     let e = c.instantiation-b.ensures in
     instance_replies a.kinds.now a.vals.now a.s.now ws a.o k _ (λ es rs t g h f. c.rewritten.ensures.instantiated t es rs f h (held_as _ _ _ _ _ e es rs _ g) (ap (λ (b : Binders). b.context) e))
@@ -37,9 +35,7 @@ rewritten-requires-then-o-eq13 c =
 pub returns-then-o-eq13 : goal.returns-then-o-eq13
 returns-then-o-eq13 c =
     λ ws.
-    let p = c.requires in
     let a = c.args in
-    let y = c.requires.asks.1 in
     let k = c.if-o-eq13.true in
     let e = c.context-b.ensures in
     context_replies a.kinds.now a.vals.now a.s.now ws a.o k _ (λ es ps t g h f. c.rewritten-then-o-eq13.ensures.in_context t es _ ps f h (held_as _ _ _ _ _ e es _ ps g) (ap (λ (b : Binders). b.context) e))
@@ -56,7 +52,6 @@ rewritten-requires-2 c =
 pub returns : goal.returns
 returns c =
     λ ws.
-    let p = c.requires in
     let a = c.args in
     let y = c.requires.asks.1 in
     let k = third 12 13 14 a.o.kind y.among c.if-o-eq12.false c.if-o-eq13.false in

@@ -13,7 +13,3 @@ pub returns-in_default : goal.returns-in_default
 returns-in_default c =
     let a = c.args in
     (order_unlisted a.s.now a.issued (omega (arith, c.if-s-eq0.false)) (sym (rw c.in_default.is at c.row_of.ensures)), refl)
-
-pub read_fields-requires : goal.read_fields-requires
-read_fields-requires c =
-    record { room = c.requires; tagged = omega (arith, c.if-s-eq0.false); kinded = refl; row = sym (rw c.in-Listed.is at c.row_of.ensures) }

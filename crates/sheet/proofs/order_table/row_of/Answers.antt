@@ -5,6 +5,7 @@ use Rattle.sheet.specs.Operations.{operations}
 use Rattle.sheet.specs.Sheet.{table}
 use Rattle.sheet.specs.Words.FieldLayout.{row_words, packed, sort_number}
 use Rattle.sheet.proofs.Laws.Reading.OrderTableLaws.{unlisted}
+use borrow.Author.Rules.{rules}
 use Rattle.sheet.proofs.order_table.row_of.Goals as goal
 
 pub returns-in-0 : goal.returns-in-0
@@ -101,4 +102,4 @@ returns-in-20 c = rw c.in-20.is refl
 
 pub returns-in_default : goal.returns-in_default
 unfolding table session_orders operations
-returns-in_default c = sym (ap row_words (unlisted _ c.in_default.in_default-own.rest))
+returns-in_default c = sym (ap row_words (unlisted _ (search rules)))

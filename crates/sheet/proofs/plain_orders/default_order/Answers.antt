@@ -11,9 +11,6 @@ returns-then-out-to-lt3 c =
     let a = c.args in
     λ z A L. defaults_not L (solve (limits_of a.x) z (defaults_by a.never)) (defaults_tell a.never (limits_of a.x) z) a.out.now a.to c.requires.room.inside (omega (arith, c.if-out-to-lt3.true))
 
-pub with_defaults-y-requires : goal.with_defaults-y-requires
-with_defaults-y-requires c = c.requires.held
-
 pub returns : goal.returns
 returns c =
     let a = c.args in

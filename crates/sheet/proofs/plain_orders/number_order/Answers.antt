@@ -2,12 +2,12 @@
 use Rattle.sheet.proofs.Laws.Answering.TermlessLaws.{asked_none, asked_some}
 use Rattle.sheet.proofs.plain_orders.number_order.Goals as goal
 
-pub returns-then-word-eq0 : goal.returns-then-word-eq0
-returns-then-word-eq0 c =
+pub returns-then-word-eq0-clause-command : goal.returns-then-word-eq0-clause-command
+returns-then-word-eq0-clause-command c =
     let a = c.args in
-    record { command = λ q h. (asked_none a.site a.word c.if-word-eq0.true q h).0; told = λ q h. tt }
+    λ q h. (asked_none a.site a.word c.if-word-eq0.true q h).0
 
-pub returns : goal.returns
-returns c =
+pub returns-clause-command : goal.returns-clause-command
+returns-clause-command c =
     let a = c.args in
-    record { command = λ q h. (asked_some a.site a.word c.if-word-eq0.false q h).0; told = λ q h. (asked_some a.site a.word c.if-word-eq0.false q h).1 }
+    λ q h. (asked_some a.site a.word c.if-word-eq0.false q h).0

@@ -17,25 +17,20 @@ overflow_cast-second c =
     let A = c.requires.4 in
     omega (arith, (second_number p.0 p.1 p.2 p.3 c.args.o A.known A.kind A.fields A.numbered A.given A.among).1)
 
-pub returns-then-kind-eq0 : goal.returns-then-kind-eq0
-returns-then-kind-eq0 c =
-    record { command = λ ks vs s ws. record { says = λ known k fs e G. variable_told ks vs s ws c.args.o known k fs e G c.requires.4.among c.if-kind-eq0.true }; told = tt }
+pub returns-then-kind-eq0-clause-command : goal.returns-then-kind-eq0-clause-command
+returns-then-kind-eq0-clause-command c = λ ks vs s ws. record { says = λ known k fs e G. variable_told ks vs s ws c.args.o known k fs e G c.requires.4.among c.if-kind-eq0.true }
 
-pub returns-then-kind-eq2 : goal.returns-then-kind-eq2
-returns-then-kind-eq2 c =
-    record { command = λ ks vs s ws. record { says = λ known k fs e G. hole_told ks vs s ws c.args.o known k fs e G c.requires.4.among c.if-kind-eq2.true }; told = tt }
+pub returns-then-kind-eq2-clause-command : goal.returns-then-kind-eq2-clause-command
+returns-then-kind-eq2-clause-command c = λ ks vs s ws. record { says = λ known k fs e G. hole_told ks vs s ws c.args.o known k fs e G c.requires.4.among c.if-kind-eq2.true }
 
-pub returns-then-kind-eq6 : goal.returns-then-kind-eq6
-returns-then-kind-eq6 c =
-    record { command = λ ks vs s ws. record { says = λ known k fs e G. numbers_told ks vs s ws c.args.o known k fs e G c.requires.4.among c.if-kind-eq6.true }; told = tt }
+pub returns-then-kind-eq6-clause-command : goal.returns-then-kind-eq6-clause-command
+returns-then-kind-eq6-clause-command c = λ ks vs s ws. record { says = λ known k fs e G. numbers_told ks vs s ws c.args.o known k fs e G c.requires.4.among c.if-kind-eq6.true }
 
-pub returns-then-kind-eq7 : goal.returns-then-kind-eq7
-returns-then-kind-eq7 c =
-    record { command = λ ks vs s ws. record { says = λ known k fs e G. nevers_told ks vs s ws c.args.o known k fs e G c.requires.4.among c.if-kind-eq7.true }; told = tt }
+pub returns-then-kind-eq7-clause-command : goal.returns-then-kind-eq7-clause-command
+returns-then-kind-eq7-clause-command c = λ ks vs s ws. record { says = λ known k fs e G. nevers_told ks vs s ws c.args.o known k fs e G c.requires.4.among c.if-kind-eq7.true }
 
-pub returns-then-kind-eq8 : goal.returns-then-kind-eq8
-returns-then-kind-eq8 c =
-    record { command = λ ks vs s ws. record { says = λ known k fs e G. revision_told ks vs s ws c.args.o known k fs e G c.requires.4.among c.if-kind-eq8.true }; told = tt }
+pub returns-then-kind-eq8-clause-command : goal.returns-then-kind-eq8-clause-command
+returns-then-kind-eq8-clause-command c = λ ks vs s ws. record { says = λ known k fs e G. revision_told ks vs s ws c.args.o known k fs e G c.requires.4.among c.if-kind-eq8.true }
 
 pub request_word-requires : goal.request_word-requires
 request_word-requires c =

@@ -20,20 +20,22 @@ ready : (x : Solver) (ks vs ts : List ℕ) (z : Session) → InOrder (issued z) 
 ready x ks vs ts z A L =
     (lent_shaped _ _ _ _ _ L, (omega (arith, lent_revision _ _ _ _ _ A L, L.narrow), L.vals, (z, L, in_order_low _ _ _ _ z A L)))
 
-pub apply_never_defaults-requires : goal.apply_never_defaults-requires
-apply_never_defaults-requires c =
-    let p = c.requires in let both = ready _ _ _ _ p.0 p.1 p.2 in record { shape = both.0; areas = both.1 }
+pub apply_never_defaults-requires-clause-areas : goal.apply_never_defaults-requires-clause-areas
+apply_never_defaults-requires-clause-areas c =
+    let p = c.requires in let both = ready _ _ _ _ p.0 p.1 p.2 in
+    both.1
 
-pub returns-then-never : goal.returns-then-never
-returns-then-never c =
+pub returns-then-never-clause-held : goal.returns-then-never-clause-held
+returns-then-never-clause-held c =
     let e = c.apply_never_defaults.ensures in
-    record { held = rw c.if-never.true (λ z A L. e.held z L (in_order_low _ _ _ _ z A L)); beside = e.beside }
+    rw c.if-never.true (λ z A L. e.held z L (in_order_low _ _ _ _ z A L))
 
-pub apply_numeric_defaults-requires : goal.apply_numeric_defaults-requires
-apply_numeric_defaults-requires c =
-    let p = c.requires in let both = ready _ _ _ _ p.0 p.1 p.2 in record { shape = both.0; areas = both.1 }
+pub apply_numeric_defaults-requires-clause-areas : goal.apply_numeric_defaults-requires-clause-areas
+apply_numeric_defaults-requires-clause-areas c =
+    let p = c.requires in let both = ready _ _ _ _ p.0 p.1 p.2 in
+    both.1
 
-pub returns : goal.returns
-returns c =
+pub returns-clause-held : goal.returns-clause-held
+returns-clause-held c =
     let e = c.apply_numeric_defaults.ensures in
-    record { held = rw c.if-never.false (λ z A L. e.held z L (in_order_low _ _ _ _ z A L)); beside = e.beside }
+    rw c.if-never.false (λ z A L. e.held z L (in_order_low _ _ _ _ z A L))

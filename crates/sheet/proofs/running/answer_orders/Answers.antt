@@ -1,7 +1,7 @@
 use native.Mathlib.Omega.{arith}
 use mathlib.Core.Path.{◌≡◌, refl, ◌∙◌}
-use Prim.Native.Nat.{◌+◌, ◌-◌}
-use lib.ListN.{length, take, drop, length-take, length-drop}
+use Prim.Native.Nat.{◌+◌}
+use lib.ListN.{length, take, drop}
 use Rattle.solver.specs.Terms.Result.{got}
 use Rattle.sheet.specs.Sheet.{next_order}
 use Rattle.sheet.proofs.Laws.Run.SplittingLaws.{Ahead, next_ahead}
@@ -23,50 +23,19 @@ told c = rw c.order_at-bytes.ensures (rw c.in-Lies.is at c.next_order.ensures)
 pub loop-at-init : goal.loop-at-init
 loop-at-init c = (going_start c.requires.held.0 c.requires.held.1, refl, refl, refl, refl)
 
-pub shape_of-out-in_default : goal.shape_of-out-in_default
-shape_of-out-in_default c = c.loop-at.invariant.0.long
-
-pub shape_of-a-in_default : goal.shape_of-a-in_default
-shape_of-a-in_default c = c.loop-at.invariant.1
-
-pub shape_of-b-in_default : goal.shape_of-b-in_default
-shape_of-b-in_default c = c.loop-at.invariant.2
-
-pub shape_of-c-in_default : goal.shape_of-c-in_default
-shape_of-c-in_default c = c.loop-at.invariant.3
-
-pub shape_of-d-in_default : goal.shape_of-d-in_default
-shape_of-d-in_default c = c.loop-at.invariant.4
-
-pub returns-in_default : goal.returns-in_default
-returns-in_default c =
+pub returns-in_default-clause-run : goal.returns-in_default-clause-run
+returns-in_default-clause-run c =
     let e = c.closed.ensures in
     let both = ends_faulty c.loop-at.invariant.0 c.loop-at-test.true (rw c.in_default.is at c.next_order.ensures) in
-    record { run = rw (e.0, e.1, e.2) both.0; left = rw e.3 both.1 }
+    rw (e.0, e.1, e.2) both.0
 
 pub order_at-bytes-requires : goal.order_at-bytes-requires
 order_at-bytes-requires c = (ahead (goal.at.order_at-bytes-requires c).In-Lies).inside
 
-pub serve_order-r-requires : goal.serve_order-r-requires
-serve_order-r-requires c =
+pub serve_order-r-requires-clause-held : goal.serve_order-r-requires-clause-held
+serve_order-r-requires-clause-held c =
     let i = c.loop-at.invariant.0 in
-    let p = c.requires.room in
-    record { held = going_ready i; room = (rw c.order_at-bytes.ensures (simp (length-take, length-drop) (omega (arith, p.0))), omega (arith, i.room, i.long), omega (arith, i.long, p.1)) }
-
-pub shape_of-out-then-out-r : goal.shape_of-out-then-out-r
-shape_of-out-then-out-r c = c.serve_order-r.auto.out ∙ c.loop-at.invariant.0.long
-
-pub shape_of-a-then-out-r : goal.shape_of-a-then-out-r
-shape_of-a-then-out-r c = c.serve_order-r.auto.a ∙ c.loop-at.invariant.1
-
-pub shape_of-b-then-out-r : goal.shape_of-b-then-out-r
-shape_of-b-then-out-r c = c.serve_order-r.auto.b ∙ c.loop-at.invariant.2
-
-pub shape_of-c-then-out-r : goal.shape_of-c-then-out-r
-shape_of-c-then-out-r c = c.serve_order-r.auto.c ∙ c.loop-at.invariant.3
-
-pub shape_of-d-then-out-r : goal.shape_of-d-then-out-r
-shape_of-d-then-out-r c = c.serve_order-r.auto.d ∙ c.loop-at.invariant.4
+    going_ready i
 
 pub returns-then-out-r : goal.returns-then-out-r
 returns-then-out-r c =
@@ -74,9 +43,6 @@ returns-then-out-r c =
     let both = ends_long c.loop-at.invariant.0 _ _ _ _ _ c.serve_order-r.ensures c.loop-at-test.true (told (goal.at.returns-then-out-r c).After-order_at-bytes)
     (omega (arith, c.if-out-r.true, c.serve_order-r.auto.out)) in
     record { run = rw (e.0, e.1, e.2) both.0; left = rw e.3 both.1 }
-
-pub overflow_add-orders : goal.overflow_add-orders
-overflow_add-orders c = omega (arith, c.requires.room.0, c.loop-at.invariant.0.few, c.loop-at.invariant.0.inside)
 
 pub overflow_add-at : goal.overflow_add-at
 overflow_add-at c = omega (arith, c.requires.room.0, (ahead (goal.at.overflow_add-at c).In-Lies).inside)
@@ -90,23 +56,8 @@ loop-at-preserved c =
     let n = c.serve_order-r.auto.out in
     (going_on i.0 _ _ _ _ _ c.serve_order-r.ensures c.loop-at-test.true (told (goal.at.loop-at-preserved c).After-order_at-bytes) (omega (arith, c.if-out-r.false, n)) c.serve_order-r.auto.a c.serve_order-r.auto.b c.serve_order-r.auto.c c.serve_order-r.auto.d, c.serve_order-r.auto.a ∙ i.1, c.serve_order-r.auto.b ∙ i.2, c.serve_order-r.auto.c ∙ i.3, c.serve_order-r.auto.d ∙ i.4)
 
-pub shape_of-out : goal.shape_of-out
-shape_of-out c = c.loop-at.invariant.0.long
-
-pub shape_of-a : goal.shape_of-a
-shape_of-a c = c.loop-at.invariant.1
-
-pub shape_of-b : goal.shape_of-b
-shape_of-b c = c.loop-at.invariant.2
-
-pub shape_of-c : goal.shape_of-c
-shape_of-c c = c.loop-at.invariant.3
-
-pub shape_of-d : goal.shape_of-d
-shape_of-d c = c.loop-at.invariant.4
-
-pub returns : goal.returns
-returns c =
+pub returns-clause-run : goal.returns-clause-run
+returns-clause-run c =
     let e = c.closed-2.ensures in
     let both = ends_used c.loop-at.invariant.0 c.loop-at-test.false in
-    record { run = rw (e.0, e.1, e.2) both.0; left = rw e.3 both.1 }
+    rw (e.0, e.1, e.2) both.0

@@ -4,8 +4,8 @@ use mathlib.Core.Path.{◌≡◌}
 use Rattle.solver.specs.Terms.Result.{got}
 use Rattle.solver.specs.Terms.Number.{number}
 use Rattle.sheet.proofs.Laws.Reading.CodeLaws.{number_coded}
-use Rattle.sheet.proofs.Laws.Reading.PartLaws.{number_told, number_refused}
-use Rattle.sheet.proofs.Laws.Run.SplittingLaws.{number_inside, frame_short, frame_whole, frame_none}
+use Rattle.sheet.proofs.Laws.Reading.PartLaws.{number_told}
+use Rattle.sheet.proofs.Laws.Run.SplittingLaws.{number_inside, frame_whole}
 use Rattle.sheet.proofs.splitting.next_order.Goals as goal
 use Rattle.sheet.proofs.splitting.next_order.Goals.{Else-r-ne0}
 
@@ -15,16 +15,8 @@ said c =
     let n = c.number_at-r in
     number_told _ _ _ n.result c.number_at-r.new.at c.number_at-r.new.value (number_coded c.args.s.now 4294967295 c.args.at) n.ensures c.if-r-ne0.false
 
-pub returns-then-r-ne0 : goal.returns-then-r-ne0
-returns-then-r-ne0 c =
-    let n = c.number_at-r in
-    frame_none _ _ n.result (number_refused _ _ _ n.result c.number_at-r.new.at c.number_at-r.new.value n.ensures c.if-r-ne0.true)
-
 pub overflow_sub-s : goal.overflow_sub-s
 overflow_sub-s c = omega (arith, (number_inside _ _ _ _ _ (said (goal.at.overflow_sub-s c).Else-r-ne0)).inside)
-
-pub returns-then-s-from : goal.returns-then-s-from
-returns-then-s-from c = frame_short _ _ _ _ (said (goal.at.returns-then-s-from c).Else-r-ne0) c.if-s-from.true
 
 pub returns : goal.returns
 returns c = frame_whole _ _ _ _ (said (goal.at.returns c).Else-r-ne0) (omega arith)

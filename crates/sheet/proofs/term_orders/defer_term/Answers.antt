@@ -8,10 +8,6 @@ returns-then-out-next c =
     let a = c.args in
     λ z t P. defer_over a.x _ _ _ z t P a.out.now a.to _ _ c.write_empty_answer-next.ensures (omega (arith, c.if-out-next.true, c.write_empty_answer-next.auto.out))
 
-pub defer_never-y-requires : goal.defer_never-y-requires
-defer_never-y-requires c =
-    let p = c.requires.held in (p.0, p.1, p.2)
-
 pub returns : goal.returns
 returns c =
     let a = c.args in
