@@ -1,5 +1,5 @@
 -- Proofs. Laws are grouped by what they are about; a folder named as a module of the code has the proofs of its
--- functions, MODULE/FUNCTION/Proof.antt.
+-- functions: MODULE/FUNCTION/Invariants.antt and Answers.antt, where the check does not find all of them.
 --   Main            all promises on one page: start here
 --   Laws/Reading    an order read into the areas
 --   Laws/Answering  an order answered in the areas

@@ -1,0 +1,31 @@
+-- `answer_order`: refused for its nodes, or by the kind.
+use mathlib.Core.Path.{ap}
+use native.Mathlib.Omega.{arith}
+use Rattle.solver.specs.declared.Standing.{Standing}
+use Rattle.sheet.proofs.Laws.Answering.DispatchLaws.{crowded}
+use Rattle.sheet.proofs.dispatch.answer_order.Goals as goal
+
+pub returns-then-n-o : goal.returns-then-n-o
+returns-then-n-o c =
+    let n = ap (λ (x : Standing). x.nodes) c.standing-n.ensures in
+    λ a₀ b₀ T. crowded T (omega (arith, n, c.if-n-o.true)) _ _ c.write_refusal-next.ensures
+
+pub returns-then-k-eq3 : goal.returns-then-k-eq3
+returns-then-k-eq3 c =
+    let a = c.args in
+    λ a₀ b₀ T. c.defer_order.ensures a.s.now a₀ b₀ a.d.now a.rules.now T
+
+pub returns-then-poses_pair : goal.returns-then-poses_pair
+returns-then-poses_pair c =
+    let a = c.args in
+    λ a₀ b₀ T. c.pair_order.ensures a.s.now a₀ b₀ a.rules.now T
+
+pub returns-then-k-eq5 : goal.returns-then-k-eq5
+returns-then-k-eq5 c =
+    let a = c.args in
+    λ a₀ b₀ T. c.resolve_order.ensures a.s.now a₀ b₀ a.rules.now T
+
+pub returns : goal.returns
+returns c =
+    let a = c.args in
+    λ a₀ b₀ T. c.plain_order.ensures a.s.now a₀ b₀ a.rules.now T

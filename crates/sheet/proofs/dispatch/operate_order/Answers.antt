@@ -1,0 +1,14 @@
+-- `operate_order`: the answer of the operation.
+use Rattle.sheet.proofs.Laws.Answering.DispatchLaws.{taken_lends, taken_asks, operated}
+use Rattle.sheet.proofs.dispatch.operate_order.Goals as goal
+
+pub operate-next-requires : goal.operate-next-requires
+operate-next-requires c =
+    let p = c.requires in
+    record { lends = taken_lends p.taken.2 p.within; asks = taken_asks p.taken.2 p.within p.kind; few = p.words; room = p.room }
+
+pub returns : goal.returns
+returns c =
+    let p = c.requires in
+    let e = c.operate-next.ensures in
+    λ a₀ b₀ T. operated T p.within p.kind _ _ e.says _ _ e.clear

@@ -1,0 +1,25 @@
+-- `resolved`: sized, begun and written.
+use native.Mathlib.Omega.{arith}
+use Rattle.solver.specs.Words.OrderTerms.{resolved_to}
+use Rattle.sheet.proofs.Laws.Answering.FramingLaws.{value_in, value_over}
+use Rattle.sheet.proofs.Laws.Answering.SessionOrderLaws.{long_over}
+use Rattle.sheet.proofs.plain_orders.resolved.Goals as goal
+
+pub returns-then-limit-size-clause-term : goal.returns-then-limit-size-clause-term
+returns-then-limit-size-clause-term c =
+    let a = c.args in
+    let e = c.resolved_len-size.ensures in
+    λ z t A. long_over (resolved_to z t) a.out.now a.to (omega (arith, e.len z t A, c.if-limit-size.true))
+
+pub returns-then-limit-at-clause-term : goal.returns-then-limit-at-clause-term
+returns-then-limit-at-clause-term c =
+    let a = c.args in
+    let e = c.resolved_len-size.ensures in
+    λ z t A. value_over (resolved_to z t) _ (omega (arith, e.len z t A, c.if-limit-size.false)) a.out.now a.to _ _ c.begin_answer-at.ensures c.if-limit-at.true
+
+pub returns-clause-term : goal.returns-clause-term
+returns-clause-term c =
+    let a = c.args in
+    let e = c.resolved_len-size.ensures in
+    let w = c.resolve.ensures in
+    λ z t A. value_in (resolved_to z t) _ (omega (arith, e.len z t A, c.if-limit-size.false)) a.out.now a.to _ _ c.begin_answer-at.ensures (omega (arith, c.if-limit-at.false)) _ _ (w.wrote z t A).0 (w.wrote z t A).1

@@ -1,0 +1,63 @@
+use native.Mathlib.Omega.{arith}
+use mathlib.Core.Path.{◌≡◌, refl, ◌∙◌}
+use Prim.Native.Nat.{◌+◌}
+use lib.ListN.{length, take, drop}
+use Rattle.solver.specs.Terms.Result.{got}
+use Rattle.sheet.specs.Sheet.{next_order}
+use Rattle.sheet.proofs.Laws.Run.SplittingLaws.{Ahead, next_ahead}
+use Rattle.sheet.proofs.Laws.Run.RunLaws.{going_start, going_ready, going_on, ends_used, ends_faulty, ends_long}
+use Rattle.sheet.proofs.running.answer_orders.Goals as goal
+use Rattle.sheet.proofs.running.answer_orders.Goals.{After-order_at-bytes, In-Lies}
+
+-- the order that framing found
+found : (c : In-Lies) → got (take c.in-Lies.size (drop c.in-Lies.from c.args.s.now)) (c.in-Lies.from + c.in-Lies.size) ≡ next_order c.args.s.now c.loop-at.at
+found c = rw c.in-Lies.is at c.next_order.ensures
+
+ahead : (c : In-Lies) → Ahead c.loop-at.at (c.in-Lies.from + c.in-Lies.size) (length c.args.s.now)
+ahead c = next_ahead _ _ _ _ (found c)
+
+-- the order, as it is handed on
+told : (c : After-order_at-bytes) → got c.order_at-bytes.result.now (c.in-Lies.from + c.in-Lies.size) ≡ next_order c.args.s.now c.loop-at.at
+told c = rw c.order_at-bytes.ensures (rw c.in-Lies.is at c.next_order.ensures)
+
+pub loop-at-init : goal.loop-at-init
+loop-at-init c = (going_start c.requires.held.0 c.requires.held.1, refl, refl, refl, refl)
+
+pub returns-in_default-clause-run : goal.returns-in_default-clause-run
+returns-in_default-clause-run c =
+    let e = c.closed.ensures in
+    let both = ends_faulty c.loop-at.invariant.0 c.loop-at-test.true (rw c.in_default.is at c.next_order.ensures) in
+    rw (e.0, e.1, e.2) both.0
+
+pub order_at-bytes-requires : goal.order_at-bytes-requires
+order_at-bytes-requires c = (ahead (goal.at.order_at-bytes-requires c).In-Lies).inside
+
+pub serve_order-r-requires-clause-held : goal.serve_order-r-requires-clause-held
+serve_order-r-requires-clause-held c =
+    let i = c.loop-at.invariant.0 in
+    going_ready i
+
+pub returns-then-out-r : goal.returns-then-out-r
+returns-then-out-r c =
+    let e = c.closed-then-out-r.ensures in
+    let both = ends_long c.loop-at.invariant.0 _ _ _ _ _ c.serve_order-r.ensures c.loop-at-test.true (told (goal.at.returns-then-out-r c).After-order_at-bytes)
+    (omega (arith, c.if-out-r.true, c.serve_order-r.auto.out)) in
+    record { run = rw (e.0, e.1, e.2) both.0; left = rw e.3 both.1 }
+
+pub overflow_add-at : goal.overflow_add-at
+overflow_add-at c = omega (arith, c.requires.room.0, (ahead (goal.at.overflow_add-at c).In-Lies).inside)
+
+pub loop-at-smaller : goal.loop-at-smaller
+loop-at-smaller c = omega (arith, (ahead (goal.at.loop-at-smaller c).In-Lies).inside, (ahead (goal.at.loop-at-smaller c).In-Lies).after)
+
+pub loop-at-preserved : goal.loop-at-preserved
+loop-at-preserved c =
+    let i = c.loop-at.invariant in
+    let n = c.serve_order-r.auto.out in
+    (going_on i.0 _ _ _ _ _ c.serve_order-r.ensures c.loop-at-test.true (told (goal.at.loop-at-preserved c).After-order_at-bytes) (omega (arith, c.if-out-r.false, n)) c.serve_order-r.auto.a c.serve_order-r.auto.b c.serve_order-r.auto.c c.serve_order-r.auto.d, c.serve_order-r.auto.a ∙ i.1, c.serve_order-r.auto.b ∙ i.2, c.serve_order-r.auto.c ∙ i.3, c.serve_order-r.auto.d ∙ i.4)
+
+pub returns-clause-run : goal.returns-clause-run
+returns-clause-run c =
+    let e = c.closed-2.ensures in
+    let both = ends_used c.loop-at.invariant.0 c.loop-at-test.false in
+    rw (e.0, e.1, e.2) both.0
