@@ -130,13 +130,11 @@ pub fn nth_term(kinds: &[u32], vals: &[u32], from: usize, n: usize) -> Option<us
     ensures { result ≡ nth_at kinds.now vals.now n from }
 {
     let mut i = from;
-    let mut left = n;
-    while 0 < left {
+    for k in 0..n {
         if kinds.len() <= i {
             return None;
         }
         i += stride(kinds, vals, i, kinds.len() - i);
-        left -= 1;
     }
     if i < kinds.len() { Some(i) } else { None }
 }

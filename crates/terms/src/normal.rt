@@ -29,12 +29,10 @@ fn has_projection(kinds: &[u32], vals: &[u32], p: u32) -> bool
         value: word(vals, from),
     };
     let end = from + step(head);
-    let mut q = from;
-    while q < end {
+    for q in from..end {
         if word(kinds, q) == 20 {
             return true;
         }
-        q += 1;
     }
     false
 }

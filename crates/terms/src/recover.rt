@@ -24,13 +24,11 @@ fn behind_terms(kinds: &[u32], vals: &[u32], i: usize, e: usize, n: u32) -> usiz
     ensures behind { (s : Shape) (ps : Parts) → HeldParts kinds.now vals.now i e ps → Fit (many_terms n s) ps → result ≡ i + upto n ps }
 {
     let mut p = i;
-    let mut left = n;
-    while 0 < left {
+    for k in 0..n {
         if e <= p {
             return p;
         }
         p += skip(kinds, vals, p, e - p);
-        left -= 1;
     }
     p
 }

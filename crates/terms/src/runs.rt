@@ -92,15 +92,13 @@ pub fn same_run(kinds: &[u32], vals: &[u32], a: usize, b: usize, count: usize) -
     ensures yes { result ≡ true → toks kinds.now vals.now a count ≡ toks kinds.now vals.now b count }
     ensures no { result ≡ false → toks kinds.now vals.now a count ≡ toks kinds.now vals.now b count → ⊥ }
 {
-    let mut i = 0;
-    while i < count {
+    for i in 0..count {
         if kinds[a + i] != kinds[b + i] {
             return false;
         }
         if vals[a + i] != vals[b + i] {
             return false;
         }
-        i += 1;
     }
     true
 }

@@ -33,8 +33,7 @@ fn member_at(kinds: &[u32], vals: &[u32], p: usize, count: usize, member: u32) -
         → Looked kinds.now vals.now whole result }
 {
     let mut i = p;
-    let mut left = count;
-    while left > 0 {
+    for k in 0..count {
         if kinds.len() <= i + 1 {
             return None;
         }
@@ -42,7 +41,6 @@ fn member_at(kinds: &[u32], vals: &[u32], p: usize, count: usize, member: u32) -
             return Some(i + 1);
         }
         i = behind(kinds, vals, i + 1);
-        left -= 1;
     }
     None
 }
@@ -80,16 +78,14 @@ fn lacking(
         → Gave kinds.now vals.now e rest gs hs f whole result }
 {
     let mut i = p;
-    let mut left = count;
-    while left > 0 {
+    for k in 0..count {
         if kinds.len() <= i + 1 {
             return Ok(i);
         }
         if !gives(kinds, vals, x, vals[i], i + 1) {
-            return Err((i, left));
+            return Err((i, count - k));
         }
         i = behind(kinds, vals, i + 1);
-        left -= 1;
     }
     Ok(i)
 }
@@ -110,8 +106,7 @@ fn same_terms(
 {
     let mut i = a;
     let mut j = b;
-    let mut left = count;
-    while left > 0 {
+    for k in 0..count {
         if kinds.len() <= i {
             return None;
         }
@@ -123,7 +118,6 @@ fn same_terms(
         }
         i = behind(kinds, vals, i);
         j = behind(kinds, vals, j);
-        left -= 1;
     }
     Some((i, j))
 }

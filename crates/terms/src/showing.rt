@@ -83,13 +83,11 @@ fn show_run(
         return show_flat(kinds, vals, from, count, out, at, on);
     }
     let mut i = at;
-    let mut q = from;
-    while q < end {
+    for q in from..end {
         i = show_token(out, i, token_at(kinds, vals, g, q), on);
         if out.len() < i {
             return i;
         }
-        q += 1;
     }
     i
 }

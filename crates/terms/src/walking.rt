@@ -132,14 +132,12 @@ fn fixed_nodes(kinds: &[u32], vals: &[u32], x: Content, most: usize) -> usize
         return 0;
     }
     let mut n = 0;
-    let mut q = from;
-    while q < end {
+    for q in from..end {
         let k = kinds[q];
         if k == 20 {
             return 0;
         }
         n += first_of_node(k);
-        q += 1;
     }
     if most < n {
         return 0;
@@ -201,10 +199,9 @@ pub fn walk(
     }
     let n = o.n;
     let mut size = own_len(kinds, vals, g, x.head);
-    let mut j = 0;
     let mut at = next + n;
     let mut left = visits - 1;
-    while j < n {
+    for j in 0..n {
         let i = next + slot(o.tag, o.arguments, o.members, n, j);
         let y = Content {
             head: heads[i],
@@ -231,7 +228,6 @@ pub fn walk(
         at = w.next;
         left = w.visits;
         size += w.size;
-        j += 1;
     }
     let z = Content {
         head: x.head,

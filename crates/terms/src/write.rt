@@ -43,10 +43,8 @@ pub fn run_len(kinds: &[u32], vals: &[u32], from: usize, count: usize) -> usize
 {
     let end = from + count;
     let mut n = 0;
-    let mut p = from;
-    while p < end {
+    for p in from..end {
         n += token_len(kinds[p], vals[p]);
-        p += 1;
     }
     n
 }
@@ -67,10 +65,8 @@ pub fn write_run(
 {
     let end = from + count;
     let mut i = at;
-    let mut p = from;
-    while p < end {
+    for p in from..end {
         i = write_token(out, i, kinds[p], vals[p]);
-        p += 1;
     }
     i
 }

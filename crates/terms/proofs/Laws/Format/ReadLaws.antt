@@ -163,10 +163,6 @@ module _ (s : List ℕ) (t : Parser Term) (whole : Result Parts) (p : Place) (d 
       → (f : Area) (u : Place) → PartsDone s (listed s t true q.at) q e f (Next u) → SoFar s whole (row s t r u.at) p d f u
   terms_next r x f u y = so_far_more s whole p d (row s t r u.at) e q y.0 (rw (row_terms s t r q.at, y.1) at x) f u y.2
 
--- one fewer is left
-pub sub_step : (n i : ℕ) → n - (i + 1) ≡ n - i - 1
-sub_step n i = omega arith
-
 -- `left` more terms
 module _ (s : List ℕ) (t : Parser Term) (whole : Result Parts) (p : Place) (d e : Area) (q : Place) where
   pub terms_end : (left : ℕ) → left ≤ 0 → SoFar s whole (many s t left q.at) p d e q → PartsDone s whole p d e (Next q)

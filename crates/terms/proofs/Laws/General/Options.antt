@@ -1,5 +1,5 @@
--- What `is_some` and the exit of a `?` say of the value.
-use Rattle.std.proofs.Common.{◌≡◌, refl, true, false, Option, Some, None, is_some, Result, Err}
+-- What `is_some` and the exit of a `?` say of the value; and a loop that counts.
+use Rattle.std.proofs.Common.{ℕ, ◌+◌, ◌-◌, arith, ◌≡◌, refl, true, false, Option, Some, None, is_some, Result, Err}
 use Rattle.std.specs.Result.{IsErrAnd}
 use Rattle.std.proofs.lemmas.Result.{err_from_is_err_and}
 use Rattle.terms.specs.declared.Refusal.{Refusal}
@@ -15,3 +15,7 @@ something (Some x) e = (x, refl)
 -- a refusal that a `?` hands on
 pub handed_on : {A : Type 0} (r : Result A Refusal) (e : Refusal) → IsErrAnd r (λ x. x ≡ e) → r ≡ Err e
 handed_on r e h = let p = err_from_is_err_and r h in rw (p.1, p.2) refl
+
+-- one fewer is left
+pub sub_step : (n i : ℕ) → n - (i + 1) ≡ n - i - 1
+sub_step n i = omega arith

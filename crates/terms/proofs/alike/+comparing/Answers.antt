@@ -1,10 +1,7 @@
 -- `same_rows`. Invariant: the whole begins with the other where what is left does.
 -- `same_trees`. By the first tokens, and then all tokens, or the rows.
-use Prim.Native.Nat.{◌-◌, ℕ, ◌+◌, ◌*◌}
-use Rattle.terms.proofs.Laws.Normalising.AlikeLaws.{Meeting, meeting_start, meeting_done, meeting_short, meeting_child, meeting_apart, meeting_number, meeting_other, meeting_differ, meeting_same, alike_none, alike_kinds, alike_vars, lent_true, alike_lent, alike_rows, alike_ends}
+use Rattle.terms.proofs.Laws.Normalising.AlikeLaws.{meeting_start, meeting_done, meeting_short, meeting_child, meeting_apart, meeting_number, meeting_other, meeting_differ, meeting_same, alike_none, alike_kinds, alike_vars, lent_true, alike_lent, alike_rows, alike_ends}
 use Rattle.terms.proofs.Laws.Normalising.SourceLaws.{lent_first}
-use Rattle.terms.specs.Words.VirtualTokens.{view}
-use borrow.Author.Rules.{rules}
 use borrow.Author.Tests.{not-true, not-false}
 use native.Mathlib.Omega.{arith}
 use Rattle.terms.proofs.alike.+comparing.Goals as goal

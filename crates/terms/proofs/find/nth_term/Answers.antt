@@ -1,3 +1,4 @@
+use Rattle.terms.proofs.Laws.General.Options.{sub_step}
 use Rattle.terms.proofs.Laws.Replacing.FindLaws.{clip_within, nth_here, nth_out, nth_more}
 use mathlib.Core.Path.{ap, ◌∙◌}
 use Prim.Native.Nat.{ℕ, ◌+◌, ◌-◌}
@@ -8,23 +9,23 @@ use Rattle.terms.specs.Words.FindContract.{nth_at}
 use Rattle.terms.proofs.find.nth_term.Goals as goal
 
 pub returns-then-kinds-i : goal.returns-then-kinds-i
-returns-then-kinds-i c = nth_out _ _ _ _ c.if-kinds-i.true ∙ c.loop-left.invariant
+returns-then-kinds-i c = nth_out _ _ _ _ c.if-kinds-i.true ∙ c.loop-k.invariant
 
 pub overflow_add-i : goal.overflow_add-i
 overflow_add-i c =
     let a = c.args in
-    let i = c.loop-left.i in
+    let i = c.loop-k.i in
     let room = length a.kinds.now - i in
     omega (arith, c.stride-i.ensures, clip_within room (span (get_or a.kinds.now i 0) (get_or a.vals.now i 0)) (omega arith))
 
-pub loop-left-preserved : goal.loop-left-preserved
-loop-left-preserved c =
+pub loop-k-preserved : goal.loop-k-preserved
+loop-k-preserved c =
     let a = c.args in
-    let l = c.loop-left in
-    ap (λ (x : ℕ). nth_at a.kinds.now a.vals.now (l.left - 1) (l.i + x)) c.stride-i.ensures ∙ nth_more a.kinds.now a.vals.now l.left l.i c.loop-left-test.true c.if-kinds-i.false ∙ l.invariant
+    let l = c.loop-k in
+    rw (sub_step a.n l.k) (ap (λ (x : ℕ). nth_at a.kinds.now a.vals.now (a.n - l.k - 1) (l.i + x)) c.stride-i.ensures ∙ nth_more a.kinds.now a.vals.now (a.n - l.k) l.i (omega arith) c.if-kinds-i.false ∙ l.invariant)
 
 pub returns-then-i-kinds : goal.returns-then-i-kinds
-returns-then-i-kinds c = nth_here _ _ _ _ c.loop-left-test.false c.if-i-kinds.true ∙ c.loop-left.invariant
+returns-then-i-kinds c = nth_here _ _ _ _ (omega arith) c.if-i-kinds.true ∙ c.loop-k.invariant
 
 pub returns-else-i-kinds : goal.returns-else-i-kinds
-returns-else-i-kinds c = nth_out _ _ _ _ c.if-i-kinds.false ∙ c.loop-left.invariant
+returns-else-i-kinds c = nth_out _ _ _ _ c.if-i-kinds.false ∙ c.loop-k.invariant

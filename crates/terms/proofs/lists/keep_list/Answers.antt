@@ -1,5 +1,5 @@
 -- The records are the rows of the list, whichever it is.
-use Rattle.std.proofs.Common.{◌≡◌, Bool, ◌∙◌, sym, ap}
+use Rattle.std.proofs.Common.{◌≡◌, ◌∙◌, sym, ap}
 use Rattle.terms.specs.Words.Tokens.{area}
 use Rattle.terms.proofs.Laws.Format.ListReaderLaws.{flags, listed_as}
 use Rattle.terms.proofs.lists.keep_list.Goals as goal

@@ -1,10 +1,7 @@
 -- The laws of `Along`, at the reader's place; the bytes stay those of the slice.
 use Rattle.std.proofs.Common.{◌∙◌, ap, arith, refl, List, ℕ, Bor}
-use native.Mathlib.Nat.{sub-zero}
 use Rattle.terms.specs.Words.Tokens.{area}
-use Rattle.terms.specs.Words.ListsContract.{list_at}
-use Rattle.terms.proofs.Laws.General.Options.{handed_on}
-use Rattle.terms.proofs.Laws.Format.ReadLaws.{sub_step}
+use Rattle.terms.proofs.Laws.General.Options.{handed_on, sub_step}
 use Rattle.terms.proofs.Laws.Format.ListReaderLaws.{along_start, along_room, along_next, along_stop, along_end}
 use Rattle.terms.proofs.lists.read_records.Goals as goal
 

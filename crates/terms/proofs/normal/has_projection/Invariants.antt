@@ -1,10 +1,6 @@
 -- `has_projection`. Invariant: what is left decides.
-use Prim.Native.Nat.{◌-◌}
 use Rattle.terms.proofs.Laws.Normalising.NormalLaws.{Scanning}
 use Rattle.terms.proofs.normal.has_projection.Given as goal
 
 abbrev pub invariant-loop-q : goal.invariant-loop-q
 invariant-loop-q l = Scanning l.kinds l.vals l.p l.q l.end
-
-abbrev pub decreases-loop-q : goal.decreases-loop-q
-decreases-loop-q l = l.end - l.q

@@ -32,14 +32,12 @@ returns-then-most-v c =
 
 pub returns-then-w-gt1 : goal.returns-then-w-gt1
 returns-then-w-gt1 c =
-    let e = c.before.before.before in
     let l = c.loop-i in
     sym (step_padded _ l.v l.w l.i c.from-b.result _ (within_most (goal.at.returns-then-w-gt1 c).Else-most-v) c.if-b-eq0.true c.if-w-gt1.true)
     ∙ byte-here (goal.at.returns-then-w-gt1 c).After-from-b
 
 pub returns-then-b-lt128 : goal.returns-then-b-lt128
 returns-then-b-lt128 c =
-    let e = c.before.before in
     let l = c.loop-i in
     let b = c.from-b.result in
     elim c.if-b-eq0.branch [
@@ -49,7 +47,6 @@ returns-then-b-lt128 c =
 
 pub loop-i-preserved : goal.loop-i-preserved
 loop-i-preserved c =
-    let e = c.before in
     let l = c.loop-i in
     let b = c.from-b.result in
     let p = parts b l.w c.if-b-lt128.false in

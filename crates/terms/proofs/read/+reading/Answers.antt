@@ -1,5 +1,5 @@
 -- What each reader leaves, from what its parts leave.
-use Rattle.std.proofs.Common.{◌≡◌, ◌+◌, ◌-◌, ◌≤◌, ℕ, true, refl, sym, ◌∙◌, arith, length, get_or}
+use Rattle.std.proofs.Common.{◌≡◌, ◌+◌, ◌-◌, ◌≤◌, ℕ, true, refl, sym, ◌∙◌, arith, get_or}
 use Rattle.terms.specs.Words.Tokens.{area}
 use Rattle.terms.specs.Words.RowPieces.{termless}
 use Rattle.terms.specs.Shape as shape
@@ -7,9 +7,9 @@ use Rattle.terms.specs.Shape.{plain}
 use Rattle.terms.specs.Reading.{term, many, pairs, row}
 use Rattle.terms.specs.Words.Outcomes.{step_of}
 use Rattle.terms.specs.Words.ReadContract.{Next, Stopped}
-use Rattle.terms.proofs.Laws.General.Options.{handed_on}
+use Rattle.terms.proofs.Laws.General.Options.{handed_on, sub_step}
 use Rattle.terms.proofs.Laws.Format.ReadSequenceLaws.{node_done}
-use Rattle.terms.proofs.Laws.Format.ReadLaws.{SoFar, so_far_start, so_far_done, terms_end, terms_stop, terms_more, terms_next, pairs_end, pairs_no, pairs_stop, pairs_more, terms_no, levels_none, term_end, term_variable, term_row, term_unlisted, plain_no, plain_fields, plain_stop, plain_counted, plain_uncounted, number_no, number_yes, number_start, listed_no, listed_yes, members_no, members_last, interface_no, interface_yes, term_no, term_yes, terms_last, sub_step}
+use Rattle.terms.proofs.Laws.Format.ReadLaws.{SoFar, so_far_start, so_far_done, terms_end, terms_stop, terms_more, terms_next, pairs_end, pairs_no, pairs_stop, pairs_more, terms_no, levels_none, term_end, term_variable, term_row, term_unlisted, plain_no, plain_fields, plain_stop, plain_counted, plain_uncounted, number_no, number_yes, number_start, listed_no, listed_yes, members_no, members_last, interface_no, interface_yes, term_no, term_yes, terms_last}
 use Rattle.terms.proofs.read.+reading.Goals as goal
 use Rattle.terms.proofs.read.+reading.Goals.{read_plain-Joined-f, read_plain-then-f+in_ok-n, read_plain-else-f, read_nominal-Joined-arguments-ne0, read_nominal-then-arguments-ne0+in_ok-read_terms, read_nominal-else-arguments-ne0}
 use native.Mathlib.Nat.{sub-zero}

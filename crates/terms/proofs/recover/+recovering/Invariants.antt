@@ -1,23 +1,12 @@
-use Prim.Native.Nat.{◌+◌, ◌*◌, ◌-◌, ◌≤◌, ℕ, ◌%◌}
-use Rattle.terms.proofs.Laws.Asking.QuestionLaws.{among_two}
-use Rattle.terms.proofs.Laws.Held.FlatLaws.{held_one}
-use Rattle.terms.proofs.Laws.Replacing.RecoverLaws.{Recovering, put_none, recover_stays, stays_parted, recover_number, both_terms, recover_both, told_row, put_one, put_then, put_same, tag_told, whole_bytes, stays_first, stays_not, hole_left, entered_term, head_byte, row_any, row_formed}
-use Rattle.terms.specs.Comparison.{recovery}
+use Prim.Native.Nat.{◌+◌, ◌*◌, ◌-◌, ◌≤◌, ℕ}
+use Rattle.terms.proofs.Laws.Replacing.RecoverLaws.{Recovering}
 use Rattle.terms.specs.Formed.{Formed}
-use Rattle.terms.specs.Questions.{among}
-use Rattle.terms.specs.Recovery.{recover_row, recover_from, reach}
-use Rattle.terms.specs.Term.{Parts, part_bytes, Subs, bytes}
-use Rattle.terms.specs.Tree.{tag, row}
+use Rattle.terms.specs.Recovery.{recover_row}
+use Rattle.terms.specs.Term.{Parts, part_bytes, Subs}
 use Rattle.terms.specs.Words.Held.{HeldParts}
 use Rattle.terms.specs.Words.RecoverContract.{upto}
-use Rattle.terms.specs.Words.TokenBytes.{spelt}
-use borrow.Author.Rules.{rules}
-use lib.Dec.{eqb}
 use lib.ListN.{length}
-use mathlib.Core.Bool.{◌||◌}
-use mathlib.Core.List.{[], ◌∷◌}
-use mathlib.Core.Path.{◌≡◌, refl, sym, ◌∙◌, ap}
-use native.Mathlib.Omega.{arith}
+use mathlib.Core.Path.{◌≡◌}
 use Rattle.terms.proofs.recover.+recovering.Given as goal
 
 abbrev pub decreases-recover_row : goal.decreases-recover_row

@@ -1,5 +1,5 @@
 -- `behind_terms`. The loop's invariant: what is left of the terms ends where all of them do.
-use Prim.Native.Nat.{◌+◌, ◌≤◌}
+use Prim.Native.Nat.{◌+◌, ◌≤◌, ◌-◌}
 use Rattle.terms.specs.Term.{Parts}
 use Rattle.terms.specs.Words.Held.{HeldParts}
 use Rattle.terms.specs.Shape.{Shape, many_terms}
@@ -8,9 +8,6 @@ use Rattle.terms.specs.Words.RecoverContract.{upto}
 use Rattle.terms.proofs.Laws.Replacing.RecoverLaws.{Behind}
 use Rattle.terms.proofs.recover.behind_terms.Given as goal
 
-abbrev pub invariant-loop-left : goal.invariant-loop-left
-invariant-loop-left l =
-    (l.i ≤ l.p) × (l.p ≤ l.e) × ((s : Shape) (ps : Parts) → HeldParts l.kinds l.vals l.i l.e ps → Fit (many_terms l.n s) ps → Behind l.kinds l.vals l.p l.e l.left s (l.i + upto l.n ps))
-
-abbrev pub decreases-loop-left : goal.decreases-loop-left
-decreases-loop-left l = l.left
+abbrev pub invariant-loop-k : goal.invariant-loop-k
+invariant-loop-k l =
+    (l.i ≤ l.p) × (l.p ≤ l.e) × ((s : Shape) (ps : Parts) → HeldParts l.kinds l.vals l.i l.e ps → Fit (many_terms l.n s) ps → Behind l.kinds l.vals l.p l.e (l.n - l.k) s (l.i + upto l.n ps))

@@ -9,6 +9,3 @@ invariant-loop-i l =
     (l.i ≤ l.count)
     × (toks l.kinds l.vals (l.a + l.i) (l.count - l.i) ≡ toks l.kinds l.vals (l.b + l.i) (l.count - l.i) → toks l.kinds l.vals l.a l.count ≡ toks l.kinds l.vals l.b l.count)
     × (toks l.kinds l.vals l.a l.count ≡ toks l.kinds l.vals l.b l.count → toks l.kinds l.vals (l.a + l.i) (l.count - l.i) ≡ toks l.kinds l.vals (l.b + l.i) (l.count - l.i))
-
-abbrev pub decreases-loop-i : goal.decreases-loop-i
-decreases-loop-i l = l.count - l.i

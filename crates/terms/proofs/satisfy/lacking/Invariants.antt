@@ -1,19 +1,15 @@
 -- `lacking`. The loop's invariant: what is left passes as the whole does, for every test that passes what is given.
 use mathlib.Core.Bool.{Bool}
 use mathlib.Core.List.{List}
-use Prim.Native.Nat.{ℕ, ◌+◌, ◌≤◌}
+use Prim.Native.Nat.{ℕ, ◌+◌, ◌≤◌, ◌-◌}
 use lib.ListN.{length}
 use Rattle.terms.specs.Term.{Term, Parts}
 use Rattle.terms.specs.Comparison.{every}
 use Rattle.terms.specs.Words.SatisfyContract.{Listed, Passes, Pairs}
 use Rattle.terms.proofs.satisfy.lacking.Given as goal
 
-abbrev pub invariant-loop-left : goal.invariant-loop-left
-invariant-loop-left l =
+abbrev pub invariant-loop-k : goal.invariant-loop-k
+invariant-loop-k l =
     (l.i ≤ length l.kinds + 1)
-    × (l.left ≤ l.count)
     × ((d : ℕ) (gs : List ℕ) (hs : List Term) (other : Parts) (f : ℕ → Term → Bool) (e : ℕ) (rest : Parts) (w : Bool) → Listed l.kinds l.vals l.x d gs hs other
-    → Passes gs hs f → Pairs l.kinds l.vals l.p l.count e rest (every f) w → Pairs l.kinds l.vals l.i l.left e rest (every f) w)
-
-abbrev pub decreases-loop-left : goal.decreases-loop-left
-decreases-loop-left l = l.left
+    → Passes gs hs f → Pairs l.kinds l.vals l.p l.count e rest (every f) w → Pairs l.kinds l.vals l.i (l.count - l.k) e rest (every f) w)

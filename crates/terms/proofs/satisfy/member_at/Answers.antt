@@ -1,3 +1,4 @@
+use Rattle.terms.proofs.Laws.General.Options.{sub_step}
 use native.Mathlib.Omega.{arith}
 use Rattle.terms.proofs.Laws.Asking.BoundLaws.{next_pair, pair_inside, look_found, look_next, look_none}
 use Rattle.terms.proofs.satisfy.member_at.Goals as goal
@@ -6,7 +7,7 @@ pub returns-then-kinds-i : goal.returns-then-kinds-i
 returns-then-kinds-i c = record {
   within = tt;
   looked = λ e rest w x.
-      let y = next_pair _ _ _ _ e rest _ w (c.loop-left.invariant.1 e rest w x) c.loop-left-test.true in
+      let y = next_pair _ _ _ _ e rest _ w (c.loop-k.invariant.1 e rest w x) (omega arith) in
       absurd (omega (arith, pair_inside _ _ _ _ e rest _ w y));
 }
 
@@ -14,17 +15,17 @@ pub returns-then-vals-i : goal.returns-then-vals-i
 returns-then-vals-i c = record {
   within = omega arith;
   looked = λ e rest w x.
-      let y = next_pair _ _ _ _ e rest _ w (c.loop-left.invariant.1 e rest w x) c.loop-left-test.true in
+      let y = next_pair _ _ _ _ e rest _ w (c.loop-k.invariant.1 e rest w x) (omega arith) in
       look_found _ _ _ _ e rest _ w y c.if-vals-i.true;
 }
 
-pub loop-left-preserved : goal.loop-left-preserved
-loop-left-preserved c = (
+pub loop-k-preserved : goal.loop-k-preserved
+loop-k-preserved c = (
   omega arith,
   λ e rest w x.
-      let y = next_pair _ _ _ _ e rest _ w (c.loop-left.invariant.1 e rest w x) c.loop-left-test.true in
-      look_next _ _ _ _ e rest _ w y _ c.if-vals-i.false (c.behind-i.ensures.passed y.value y.here),
+      let y = next_pair _ _ _ _ e rest _ w (c.loop-k.invariant.1 e rest w x) (omega arith) in
+      rw (sub_step c.args.count c.loop-k.k) (look_next _ _ _ _ e rest _ w y _ c.if-vals-i.false (c.behind-i.ensures.passed y.value y.here)),
 )
 
 pub returns : goal.returns
-returns c = record { within = tt; looked = λ e rest w x. look_none _ _ _ _ e rest _ w (c.loop-left.invariant.1 e rest w x) (omega arith) }
+returns c = record { within = tt; looked = λ e rest w x. look_none _ _ _ _ e rest _ w (c.loop-k.invariant.1 e rest w x) (omega arith) }

@@ -1,16 +1,13 @@
 -- `member_at`. The loop's invariant: in what is left of the pairs the member is found as in the whole.
 use mathlib.Core.Option.{Option}
-use Prim.Native.Nat.{ℕ, ◌+◌, ◌≤◌}
+use Prim.Native.Nat.{ℕ, ◌+◌, ◌≤◌, ◌-◌}
 use lib.ListN.{length}
 use Rattle.terms.specs.Term.{Term, Parts}
 use Rattle.terms.specs.Tree.{look_up}
 use Rattle.terms.specs.Words.SatisfyContract.{Pairs}
 use Rattle.terms.proofs.satisfy.member_at.Given as goal
 
-abbrev pub invariant-loop-left : goal.invariant-loop-left
-invariant-loop-left l =
+abbrev pub invariant-loop-k : goal.invariant-loop-k
+invariant-loop-k l =
     (l.i ≤ length l.kinds + 1)
-    × ((e : ℕ) (rest : Parts) (w : Option Term) → Pairs l.kinds l.vals l.p l.count e rest (look_up l.member) w → Pairs l.kinds l.vals l.i l.left e rest (look_up l.member) w)
-
-abbrev pub decreases-loop-left : goal.decreases-loop-left
-decreases-loop-left l = l.left
+    × ((e : ℕ) (rest : Parts) (w : Option Term) → Pairs l.kinds l.vals l.p l.count e rest (look_up l.member) w → Pairs l.kinds l.vals l.i (l.count - l.k) e rest (look_up l.member) w)

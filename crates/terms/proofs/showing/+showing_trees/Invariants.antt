@@ -1,14 +1,6 @@
-use Prim.Native.Nat.{ℕ, ◌-◌, ◌+◌, ◌*◌}
-use Rattle.terms.proofs.Laws.Normalising.AlikeLaws.{depth_some, depth_row}
-use Rattle.terms.proofs.Laws.Normalising.ShowLaws.{RowShowing, row_start, row_full, row_done, row_number, row_child, tree_flat, tree_bytes, shows_first, shows_then, kept_at, kept_then}
-use Rattle.terms.specs.Term.{bytes, part_bytes}
-use Rattle.terms.specs.Tree.{row}
-use Rattle.terms.specs.Words.TokenBytes.{plain}
+use Prim.Native.Nat.{◌-◌, ◌+◌, ◌*◌}
+use Rattle.terms.proofs.Laws.Normalising.ShowLaws.{RowShowing}
 use Rattle.terms.specs.Words.VirtualTokens.{view}
-use borrow.Author.Rules.{rules}
-use lib.ListN.{get_or}
-use mathlib.Core.Path.{sym, ap, ◌∙◌}
-use native.Mathlib.Omega.{arith}
 use Rattle.terms.proofs.showing.+showing_trees.Given as goal
 
 abbrev pub decreases-show_row : goal.decreases-show_row

@@ -1,11 +1,7 @@
 -- `show_run`. Lent tokens by `show_flat`; for others, invariant: the tokens from q on are left.
-use Prim.Native.Nat.{◌-◌}
 use Rattle.terms.specs.Words.VirtualTokens.{view}
 use Rattle.terms.proofs.Laws.Normalising.ShowLaws.{Running}
 use Rattle.terms.proofs.showing.show_run.Given as goal
 
 abbrev pub invariant-loop-q : goal.invariant-loop-q
 invariant-loop-q l = Running (view l.kinds l.vals l.g).kinds (view l.kinds l.vals l.g).vals l.on l.initial.out l.at l.from l.count l.out l.i l.q l.end
-
-abbrev pub decreases-loop-q : goal.decreases-loop-q
-decreases-loop-q l = l.end - l.q

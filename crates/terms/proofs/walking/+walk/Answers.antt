@@ -1,12 +1,10 @@
 -- `walk`. Invariant: j children have been visited, and the arena is filled up to `at`.
-use Prim.Native.Nat.{◌-◌, ℕ, ◌+◌, ◌*◌}
 use Rattle.terms.proofs.Laws.Normalising.FixedLaws.{fixed_kept}
 use Rattle.terms.proofs.Laws.Normalising.MemberLaws.{replace_other}
 use Rattle.terms.proofs.Laws.Normalising.OpenLaws.{frames_same, frames_wider, frames_then}
 use Rattle.terms.proofs.Laws.Normalising.VisitLaws.{walk-levels, walk_visits, over_start}
-use Rattle.terms.proofs.Laws.Normalising.WalkLaws.{add_sizes, finds, Walking, order-of, walking_start, walking_next, walking_over, walks_kept, walks_itself, walks_followed, walks_failed, walks_stopped}
+use Rattle.terms.proofs.Laws.Normalising.WalkLaws.{add_sizes, finds, order-of, walking_start, walking_next, walking_over, walks_kept, walks_itself, walks_followed, walks_failed, walks_stopped}
 use Rattle.terms.specs.Lookup.{look_by}
-use borrow.Author.Rules.{rules}
 use mathlib.Core.Path.{refl, sym, ◌∙◌}
 use native.Mathlib.Omega.{arith}
 use Rattle.terms.proofs.walking.+walk.Goals as goal
@@ -232,15 +230,6 @@ overflow_add-size t c =
     let loop' = c.loop-j in
     let walk' = c.walk-w.ensures.walks in
     omega (arith, add_sizes _ _ c.args.visits _ walk'.fewer _ c.own_len-size.ensures.bound loop'.invariant.bounded loop'.invariant.fewer walk'.bounded c.requires.low.1 (omega (arith, loop'.invariant.upto, c.begin-o.ensures.bound, c.requires.room.small)))
-
-pub overflow_add-j : goal.overflow_add-j
-overflow_add-j t c =
-    omega (
-      arith,
-      c.loop-j-test.true,
-      c.begin-o.ensures.bound,
-      c.requires.room.small,
-    )
 
 pub loop-j-smaller : goal.loop-j-smaller
 loop-j-smaller t c = omega (arith, c.loop-j-test.true)

@@ -10,6 +10,3 @@ abbrev pub invariant-loop-p : goal.invariant-loop-p
 invariant-loop-p l =
     (l.from ≤ l.p) × (l.p ≤ l.end) × (l.end ≡ l.from + l.count)
     × (l.n + length (spell plain l.kinds l.vals l.p (l.end - l.p)) ≡ length (spell plain l.kinds l.vals l.from l.count))
-
-abbrev pub decreases-loop-p : goal.decreases-loop-p
-decreases-loop-p l = l.end - l.p

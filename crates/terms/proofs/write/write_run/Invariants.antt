@@ -10,6 +10,3 @@ abbrev pub invariant-loop-p : goal.invariant-loop-p
 invariant-loop-p l =
     (l.from ≤ l.p) × (l.p ≤ l.end) × (l.end ≡ l.from + l.count)
     × Left l.initial.out l.at (spell plain l.kinds l.vals l.from l.count) l.out l.i (spell plain l.kinds l.vals l.p (l.end - l.p))
-
-abbrev pub decreases-loop-p : goal.decreases-loop-p
-decreases-loop-p l = l.end - l.p
