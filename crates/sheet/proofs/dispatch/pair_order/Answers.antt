@@ -30,7 +30,8 @@ constrain_order-requires c =
     let W = c.requires.within in
     let h = c.requires.kind in
     let q = pair_terms T W a.strict h in
-    let R = c.requires.taken.4.ready in record { held = (R.session, q.1, q.2, pair_tail a.half a.c.now _ _ _ _ _ _ _ (poses_pair T W a.strict h q.0 q.1 q.2 q.3 R.session R.ordered R.in_areas), pair_nodes T W a.strict h q.0 q.1 q.2 q.3 R.session R.in_areas); areas = (scratch_tail a.half a.c.now _ _ _ (pair_scratch T W a.strict h q.0 q.1 q.2 q.3), blank_tail a.half a.c.now (7 * a.x.variables) (pair_blank T W a.strict h q.0 q.1 q.2 q.3)); room = p.room }
+    let R = c.requires.taken.4.ready in
+    record { held = (R.session, q.1, q.2, pair_tail a.half a.c.now _ _ _ _ _ _ _ (poses_pair T W a.strict h q.0 q.1 q.2 q.3 R.session R.ordered R.in_areas), pair_nodes T W a.strict h q.0 q.1 q.2 q.3 R.session R.in_areas); areas = (scratch_tail a.half a.c.now _ _ _ (pair_scratch T W a.strict h q.0 q.1 q.2 q.3), blank_tail a.half a.c.now (7 * a.x.variables) (pair_blank T W a.strict h q.0 q.1 q.2 q.3)); room = p.room }
 
 pub returns : goal.returns
 returns c =

@@ -50,7 +50,8 @@ satisfies_for-y-requires c =
     let a = c.args in
     let y = c.requires.asks.1 in
     let k = third 15 16 17 a.o.kind y.among c.if-o-eq15.false c.if-o-eq16.false in
-    let x = satisfied_asks _ _ _ _ a.o _ k y in record { places = (held_in _ _ _ _ x.3, held_in _ _ _ _ x.4, held_in _ _ _ _ x.5, p.areas.pairs); nominals = (record { row = x.0; held = x.3; fit = x.6 }, record { row = x.1; held = x.4; fit = x.7 }); receiver = (x.2, x.5) }
+    let x = satisfied_asks _ _ _ _ a.o _ k y in
+    record { places = (held_in _ _ _ _ x.3, held_in _ _ _ _ x.4, held_in _ _ _ _ x.5, p.areas.pairs); nominals = (record { row = x.0; held = x.3; fit = x.6 }, record { row = x.1; held = x.4; fit = x.7 }); receiver = (x.2, x.5) }
 
 pub returns : goal.returns
 returns c =

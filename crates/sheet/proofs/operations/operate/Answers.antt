@@ -29,6 +29,4 @@ reduce-requires-clause-asks c =
     (_, asks_among _ _ _ _ a.o _ _ p.asks (two 19 a.o.kind (omega arith) (omega (arith, (operations_within a.o.kind p.asks.among).1))))
 
 pub returns-clause-says : goal.returns-clause-says
-returns-clause-says c =
-    let d = c.reduce.ensures in
-    d.says _
+returns-clause-says c = c.reduce.ensures.says _

@@ -28,7 +28,8 @@ write_recovered-requires c =
     let l = begun_long _ _ _ _ _ y in
     let e = c.recovered_len-size.ensures _ _ x.left x.right x.left_formed x.right_formed in
     let m = begun_room _ _ _ _ _ y (omega (arith, c.if-out-at.false)) in
-    let f = formed_both _ _ _ _ _ _ x in record { places = (held_in _ _ _ _ x.left, held_in _ _ _ _ x.right, p.areas.pairs); room = omega (arith, p.areas.short, p.room.short, c.if-out-at.false); terms = record { left = f.0; right = f.1; room = omega (arith, m, e) } }
+    let f = formed_both _ _ _ _ _ _ x in
+    record { places = (held_in _ _ _ _ x.left, held_in _ _ _ _ x.right, p.areas.pairs); room = omega (arith, p.areas.short, p.room.short, c.if-out-at.false); terms = record { left = f.0; right = f.1; room = omega (arith, m, e) } }
 
 pub returns : goal.returns
 returns c =

@@ -14,7 +14,8 @@ associated-requires c =
     let a = c.args in
     let y = c.requires.asks.1 in
     let f = associated_asks _ _ _ _ a.o _ c.if-o-eq19.true y in
-    let x = f.3 in record { lends = p.lends; places = (held_in _ _ _ _ x.term, held_in _ _ _ _ x.interface, held_in _ _ _ _ x.owns); room = p.room; terms = record { term = f.0; row = f.1; owner = f.2; held = x.term; interface = x.interface; owns = x.owns } }
+    let x = f.3 in
+    record { lends = p.lends; places = (held_in _ _ _ _ x.term, held_in _ _ _ _ x.interface, held_in _ _ _ _ x.owns); room = p.room; terms = record { term = f.0; row = f.1; owner = f.2; held = x.term; interface = x.interface; owns = x.owns } }
 
 pub returns-then-o-eq19-clause-says : goal.returns-then-o-eq19-clause-says
 returns-then-o-eq19-clause-says c =

@@ -23,7 +23,8 @@ pub read_rules-r-requires : goal.read_rules-r-requires
 read_rules-r-requires c =
     let a = c.args in
     let n = c.number_at-a in
-    let e = number_told _ _ _ n.result c.number_at-a.new.at c.number_at-a.new.value (number_coded a.s.now 4294967295 a.at.now) n.ensures c.if-a-ne0.false in record { ample = ample_moved a.s.now (place a.at.now a.top.now a.nodes.now a.limit) c.number_at-a.new.value c.number_at-a.new.at c.requires.ample e; free = c.requires.free; few = rules_small a.s.now a.at.now c.number_at-a.new.value c.number_at-a.new.at c.requires.ample.inside e }
+    let e = number_told _ _ _ n.result c.number_at-a.new.at c.number_at-a.new.value (number_coded a.s.now 4294967295 a.at.now) n.ensures c.if-a-ne0.false in
+    record { ample = ample_moved a.s.now (place a.at.now a.top.now a.nodes.now a.limit) c.number_at-a.new.value c.number_at-a.new.at c.requires.ample e; free = c.requires.free; few = rules_small a.s.now a.at.now c.number_at-a.new.value c.number_at-a.new.at c.requires.ample.inside e }
 
 pub returns : goal.returns
 unfolding sort_of

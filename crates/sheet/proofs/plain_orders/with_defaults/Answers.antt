@@ -8,22 +8,21 @@ use Rattle.solver.specs.declared.Solver.{Solver}
 use Rattle.solver.specs.Session.{Session, issued}
 use Rattle.solver.specs.Invariant.{InOrder}
 use Rattle.solver.specs.Words.SessionRepresentation.{Represents}
-use Rattle.solver.specs.Words.MethodContract.{Shaped, Low}
-use Rattle.solver.proofs.Laws.Table.MethodLaws.{lent_shaped}
+use Rattle.solver.specs.Words.MethodContract.{Low}
 use Rattle.solver.proofs.Laws.Table.ChainLaws.{in_order_low}
 use Rattle.sheet.proofs.Laws.Answering.SessionOrderLaws.{lent_revision}
 use Rattle.sheet.proofs.plain_orders.with_defaults.Goals as goal
 
 -- what both ask
 ready : (x : Solver) (ks vs ts : List ℕ) (z : Session) → InOrder (issued z) z.solver → Represents x ks vs ts z
-    → Shaped x (length ts) × ((x.revision < 2 ^ 32) × (length vs ≡ length ks) × ((s : Session) × Represents x ks vs ts s × Low x.variables s.solver.bindings))
+    → (x.revision < 2 ^ 32) × (length vs ≡ length ks) × ((s : Session) × Represents x ks vs ts s × Low x.variables s.solver.bindings)
 ready x ks vs ts z A L =
-    (lent_shaped _ _ _ _ _ L, (omega (arith, lent_revision _ _ _ _ _ A L, L.narrow), L.vals, (z, L, in_order_low _ _ _ _ z A L)))
+    (omega (arith, lent_revision _ _ _ _ _ A L, L.narrow), L.vals, (z, L, in_order_low _ _ _ _ z A L))
 
 pub apply_never_defaults-requires-clause-areas : goal.apply_never_defaults-requires-clause-areas
 apply_never_defaults-requires-clause-areas c =
-    let p = c.requires in let both = ready _ _ _ _ p.0 p.1 p.2 in
-    both.1
+    let p = c.requires in
+    ready _ _ _ _ p.0 p.1 p.2
 
 pub returns-then-never-clause-held : goal.returns-then-never-clause-held
 returns-then-never-clause-held c =
@@ -32,8 +31,8 @@ returns-then-never-clause-held c =
 
 pub apply_numeric_defaults-requires-clause-areas : goal.apply_numeric_defaults-requires-clause-areas
 apply_numeric_defaults-requires-clause-areas c =
-    let p = c.requires in let both = ready _ _ _ _ p.0 p.1 p.2 in
-    both.1
+    let p = c.requires in
+    ready _ _ _ _ p.0 p.1 p.2
 
 pub returns-clause-held : goal.returns-clause-held
 returns-clause-held c =

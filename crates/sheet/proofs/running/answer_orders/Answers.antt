@@ -26,16 +26,13 @@ loop-at-init c = (going_start c.requires.held.0 c.requires.held.1, refl, refl, r
 pub returns-in_default-clause-run : goal.returns-in_default-clause-run
 returns-in_default-clause-run c =
     let e = c.closed.ensures in
-    let both = ends_faulty c.loop-at.invariant.0 c.loop-at-test.true (rw c.in_default.is at c.next_order.ensures) in
-    rw (e.0, e.1, e.2) both.0
+    rw (e.0, e.1, e.2) (ends_faulty c.loop-at.invariant.0 c.loop-at-test.true (rw c.in_default.is at c.next_order.ensures)).0
 
 pub order_at-bytes-requires : goal.order_at-bytes-requires
 order_at-bytes-requires c = (ahead (goal.at.order_at-bytes-requires c).In-Lies).inside
 
 pub serve_order-r-requires-clause-held : goal.serve_order-r-requires-clause-held
-serve_order-r-requires-clause-held c =
-    let i = c.loop-at.invariant.0 in
-    going_ready i
+serve_order-r-requires-clause-held c = going_ready c.loop-at.invariant.0
 
 pub returns-then-out-r : goal.returns-then-out-r
 returns-then-out-r c =
@@ -59,5 +56,4 @@ loop-at-preserved c =
 pub returns-clause-run : goal.returns-clause-run
 returns-clause-run c =
     let e = c.closed-2.ensures in
-    let both = ends_used c.loop-at.invariant.0 c.loop-at-test.false in
-    rw (e.0, e.1, e.2) both.0
+    rw (e.0, e.1, e.2) (ends_used c.loop-at.invariant.0 c.loop-at-test.false).0
