@@ -6,12 +6,13 @@ pub use Rattle.terms.proofs.Laws.Format.KindLaws
 pub use Rattle.terms.proofs.Laws.Format.KindTableLaws
 pub use Rattle.terms.proofs.Laws.Format.FieldLaws
 pub use Rattle.terms.proofs.Laws.Format.StoreLaws
-pub use Rattle.terms.proofs.Laws.Format.StepCodeLaws
+pub use Rattle.solver.proofs.Laws.Table.StepCodeLaws
 pub use Rattle.terms.proofs.Laws.Format.TokenCountLaws
 pub use Rattle.terms.proofs.Laws.Format.Sound
 pub use Rattle.terms.proofs.Laws.Format.RoundTrip
 pub use Rattle.terms.proofs.Laws.Format.WriteLaws
 pub use Rattle.terms.proofs.Laws.General.Bools
+pub use Rattle.terms.proofs.Laws.General.Options
 pub use Rattle.terms.proofs.Laws.Held.HeldLaws
 pub use Rattle.terms.proofs.Laws.Format.KeepTermLaws
 pub use Rattle.terms.proofs.Laws.Replacing.RewriteLaws

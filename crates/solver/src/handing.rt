@@ -4,28 +4,26 @@ ghost use Rattle.std.specs.Prelude.{◌≡◌, ◌<◌};
 ghost use Rattle.terms.specs.Number.{number};
 ghost use Rattle.terms.specs.Parameters.{parameters};
 ghost use Rattle.terms.specs.Words.Tokens.{area};
-ghost use Rattle.terms.specs.Words.StepCodes.{place};
+ghost use Rattle.solver.specs.Words.StepCodes.{place, step_of};
 ghost use Rattle.terms.specs.Words.ReadContract.{Room};
+ghost use Rattle.terms.specs.Words.Outcomes as terms;
 ghost use Rattle.terms.specs.Words.ReaderContract.{Space};
 ghost use Rattle.terms.specs.Lookup.{put_rule};
-ghost use Rattle.solver.specs.Words.HandingContract.{NumberSaid, PassedSaid, StepSaid, PartRead, ListKept, ListRead};
+ghost use Rattle.solver.specs.Words.HandingContract.{NumberSaid, PassedSaid, StepSaid, PartRead, ListRead, listing_of};
 
-use terms::{
-    NumberRead, Place, Step, keep_entries, keep_receivers, keep_terms, part_at, read_number,
-};
+use terms::{Listing, Place, Refusal, keep_list, part_at, read_number};
 
 // A number of at most `most`.
 pub fn number_at(s: &[u8], at: &mut usize, value: &mut u64, most: u64) -> u8
     ensures { NumberSaid (number most s.now at.old) at.old value.old result at.new value.new }
 {
-    let r = read_number(s, *at, most);
-    match r {
-        NumberRead::Value(v, next) => {
+    match read_number(s, *at, most) {
+        Ok((v, next)) => {
             *value = v;
             *at = next;
             0
         }
-        NumberRead::Refused(c) => c,
+        Err(refusal) => u8::from(refusal),
     }
 }
 
@@ -33,28 +31,32 @@ pub fn number_at(s: &[u8], at: &mut usize, value: &mut u64, most: u64) -> u8
 pub fn skip_parameters(s: &[u8], at: &mut usize, count: u64) -> u8
     ensures { PassedSaid (parameters s.now count at.old) at.old result at.new }
 {
-    let r = terms::skip_parameters(s, *at, count);
-    match r {
-        NumberRead::Value(_, next) => {
+    match terms::skip_parameters(s, *at, count) {
+        Ok(next) => {
             *at = next;
             0
         }
-        NumberRead::Refused(c) => c,
+        Err(refusal) => u8::from(refusal),
     }
 }
 
-// Sets the numbers of a place to those after a step.
-fn set_place(r: Step, at: &mut usize, top: &mut usize, nodes: &mut usize) -> u8
-    ensures { StepSaid r at.old top.old nodes.old result at.new top.new nodes.new }
+// Sets the numbers of a place to those it has at the end: the code of an answer.
+fn set_place(
+    outcome: Result<(), Refusal>,
+    place: Place,
+    at: &mut usize,
+    top: &mut usize,
+    nodes: &mut usize,
+) -> u8
+    ensures code { step_of result place.at place.top place.nodes place.limit ≡ terms.step_of outcome place }
+    ensures numbers { (at.new ≡ place.at) × (top.new ≡ place.top) × (nodes.new ≡ place.nodes) }
 {
-    match r {
-        Step::Next(q) => {
-            *at = q.at;
-            *top = q.top;
-            *nodes = q.nodes;
-            0
-        }
-        Step::Stopped(c) => c,
+    *at = place.at;
+    *top = place.top;
+    *nodes = place.nodes;
+    match outcome {
+        Ok(()) => 0,
+        Err(refusal) => u8::from(refusal),
     }
 }
 
@@ -76,38 +78,28 @@ pub fn read_part(
     ensures { PartRead bare s.now issued levels (place at.old top.old nodes.old limit)
         (area kinds.old vals.old) (area kinds.new vals.new) result at.new top.new nodes.new }
 {
-    let p = Place {
+    let mut place = Place {
         at: *at,
         top: *top,
         nodes: *nodes,
         limit,
     };
-    let r = part_at(s, kinds, vals, p, bare, levels, issued);
-    set_place(r, at, top, nodes)
+    let outcome = part_at(s, kinds, vals, &mut place, bare, levels, issued);
+    set_place(outcome, place, at, top, nodes)
 }
 
-// So many arguments, receivers or entries, by the numbers that each has before its term.
-fn keep_list(
-    s: &[u8],
-    kinds: &mut [u32],
-    vals: &mut [u32],
-    p: Place,
-    keys: u8,
-    levels: u32,
-    issued: u64,
-    count: u64,
-) -> Step
-    requires { Room s.now p }
-    ensures { ListKept keys s.now issued levels count p (area kinds.old vals.old) (area kinds.new vals.new) result }
+// The list that has so many numbers before each term.
+fn listing_of(keys: u8) -> Listing
+    ensures { result ≡ listing_of keys }
 {
     match keys {
-        0 => keep_terms(s, kinds, vals, p, levels, issued, count),
-        1 => keep_receivers(s, kinds, vals, p, levels, issued, count),
-        _ => keep_entries(s, kinds, vals, p, levels, issued, count),
+        0 => Listing::Arguments,
+        1 => Listing::Receivers,
+        _ => Listing::Entries,
     }
 }
 
-// The same, lent the numbers of the place.
+// So many arguments, receivers or entries, by the numbers that each has before its term.
 pub fn read_list(
     s: &[u8],
     kinds: &mut [u32],
@@ -125,14 +117,15 @@ pub fn read_list(
     ensures { ListRead keys s.now issued levels count (place at.old top.old nodes.old limit)
         (area kinds.old vals.old) (area kinds.new vals.new) result at.new top.new nodes.new }
 {
-    let p = Place {
+    let mut place = Place {
         at: *at,
         top: *top,
         nodes: *nodes,
         limit,
     };
-    let r = keep_list(s, kinds, vals, p, keys, levels, issued, count);
-    set_place(r, at, top, nodes)
+    let listing = listing_of(keys);
+    let outcome = keep_list(s, kinds, vals, &mut place, listing, levels, issued, count);
+    set_place(outcome, place, at, top, nodes)
 }
 
 // Stores the words of the r-th rule, where all of them fit: the places of its interface and its receiver, its member, the place of its arguments and how many

@@ -7,7 +7,8 @@
 --   AdmitLaws           what a number variable may be bound to, by tokens and words; a binding made
 --   OrderTermLaws       terms after the tokens of a session; where resolving begins
 --   SessionsLaws        a session alone in its areas: fresh, and cleared
---   HandingLaws         the words of a rule, stored; what the readers say
+--   HandingLaws         the words of a rule, stored
+--   StepCodeLaws        no refusal is 0, and a code that is not 0 is a refusal
 pub mod ColumnLaws
 pub mod RequestWordLaws
 pub mod RepresentationLaws
@@ -17,3 +18,4 @@ pub mod AdmitLaws
 pub mod OrderTermLaws
 pub mod SessionsLaws
 pub mod HandingLaws
+pub mod StepCodeLaws

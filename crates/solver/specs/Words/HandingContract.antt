@@ -1,8 +1,8 @@
 -- The terms' functions as this crate hands them on: readers that are lent numbers, and structs and an enum of its own for what those functions take and give.
 use Rattle.std.specs.Prelude.{◌≡◌, Bool, List, ℕ, zero, suc}
 use Rattle.terms.specs.declared.Place.{Place}
-use Rattle.terms.specs.declared.Step.{Step}
-use Rattle.terms.specs.declared.Step.TheVariants.{Next, Stopped}
+use Rattle.terms.specs.declared.Listing.{Listing}
+use Rattle.terms.specs.declared.Listing.TheVariants.{Arguments, Receivers, Entries}
 use Rattle.terms.specs.declared.Binders.{Binders as TermBinders}
 use Rattle.terms.specs.declared.Ready.{Ready as TermReady}
 use Rattle.terms.specs.declared.Normalised.{Normalised as TermNormalised}
@@ -11,7 +11,7 @@ use Rattle.terms.specs.Result.{Result, got, refused}
 use Rattle.terms.specs.Words.Tokens.{Area}
 use Rattle.terms.specs.Term.{Parts}
 use Rattle.terms.specs.Reading.{term}
-use Rattle.terms.specs.Words.ReadContract.{RoomAfter, answer, kept}
+use Rattle.terms.specs.Words.ReadContract.{Step, Next, Stopped, RoomAfter, answer, kept}
 use Rattle.terms.specs.Words.ReaderContract.{part, nodes_of}
 use Rattle.terms.specs.Rows.{entries, receivers, arguments, entry_row, receiver_row, argument_row, answer_of, kept_of}
 use Rattle.solver.specs.declared.Binders.{Binders}
@@ -54,16 +54,11 @@ ListRead zero s issued levels count p d e code at top nodes = RowRead argument_r
 ListRead (suc zero) s issued levels count p d e code at top nodes = RowRead receiver_row (receivers s (term s issued levels) count p.at) s p d e code at top nodes
 ListRead (suc (suc k)) s issued levels count p d e code at top nodes = RowRead entry_row (entries s (term s issued levels) count p.at) s p d e code at top nodes
 
--- the same before the numbers are set
-pub record RowKept {A : Type 0} (row : A → Parts) (found : Result A) (s : List ℕ) (p : Place) (d e : Area) (r : Step) : Type 0 where
-  pub says : r ≡ answer_of row p found
-  pub areas : e ≡ kept_of row s p found d
-  pub room : RoomAfter s r
-
-abbrev pub ListKept : (keys : ℕ) (s : List ℕ) (issued levels count : ℕ) (p : Place) (d e : Area) → Step → Type 0
-ListKept zero s issued levels count p d e r = RowKept argument_row (arguments s (term s issued levels) count p.at) s p d e r
-ListKept (suc zero) s issued levels count p d e r = RowKept receiver_row (receivers s (term s issued levels) count p.at) s p d e r
-ListKept (suc (suc k)) s issued levels count p d e r = RowKept entry_row (entries s (term s issued levels) count p.at) s p d e r
+-- the list that has so many numbers before each term
+abbrev pub listing_of : ℕ → Listing
+listing_of zero = Arguments
+listing_of (suc zero) = Receivers
+listing_of (suc (suc k)) = Entries
 
 -- ---- which value of the terms a struct or the enum stands for
 
