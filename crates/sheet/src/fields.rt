@@ -1,84 +1,108 @@
-// The fields of an order, rules aside: each is read and its tokens kept. A reading function is lent the numbers of the place, and where the numbers of the
-// field's spot go, and answers 0 where it has read, else the refusal.
+// The fields of an order, rules aside: each is read and its tokens kept. A reading function is lent the place and answers the field's spot; where it refuses,
+// the place is of no use.
 ghost use Rattle.std.specs.Prelude.{◌≡◌, List, ℕ, ◌≤◌, length};
 ghost use Rattle.solver.specs.Terms.Tokens.{area};
-ghost use Rattle.solver.specs.Terms.StepCodes.{place, step_of};
-ghost use Rattle.sheet.specs.Fields.{field, code, bound, parameters};
-ghost use Rattle.sheet.specs.Words.FieldLayout.{plain_of, part_of, keys_of, Free, Ample, PartDone, PlainDone, list_field};
-ghost use Rattle.sheet.specs.Words.FieldsContract.{field_of, ReadAt};
+ghost use Rattle.solver.specs.Terms.Outcomes.{step_of};
+ghost use Rattle.sheet.specs.Fields.{field, ordinary, code, bound, parameters};
+ghost use Rattle.sheet.specs.Words.FieldLayout.{plain_of, part_of, listing_of, Free, Ample, PartDone, PlainDone, ReadOnly, list_field};
+ghost use Rattle.sheet.specs.Words.FieldsContract.{field_of, NumberRead};
 
-use solver::{number_at, read_list, read_part, skip_parameters};
+use super::FieldSpot;
+use solver::{Listing, Place, Refusal, keep_list, part_at, read_number, skip_parameters};
 
-pub const ORDINARY: u64 = 4294967295;
+const ORDINARY: u64 = 4294967295;
 
 const LEVELS: u32 = 200;
 
-// A builtin's code.
-fn code_field(s: &[u8], at: &mut usize, value: &mut u64) -> u8
-    requires { at.old ≤ length s.now }
-    ensures { (start : ℕ)
-        → ReadAt s.now (field s.now 0 code at.old) at.old result value.new start at.new }
+// A number of 32 bits; where it is refused the place stays.
+pub fn next_number(s: &[u8], place: &mut Place) -> Result<u64, Refusal>
+    ensures { NumberRead s.now place.old result place.new }
 {
-    let i = *at;
+    let (value, next) = read_number(s, place.at, ORDINARY)?;
+    place.at = next;
+    Ok(value)
+}
+
+// The spot of a number.
+fn number_spot(value: u64) -> FieldSpot
+    ensures { result ≡ record { value = value; place = 0; end = 0 } }
+{
+    FieldSpot {
+        value,
+        place: 0,
+        end: 0,
+    }
+}
+
+// A number.
+fn number_field(s: &[u8], place: &mut Place) -> Result<FieldSpot, Refusal>
+    requires { place.old.at ≤ length s.now }
+    ensures { ReadOnly s.now (field s.now 0 ordinary place.old.at) place.old (field_of result place.new) }
+{
+    let value = next_number(s, place)?;
+    Ok(number_spot(value))
+}
+
+// A builtin's code.
+fn code_field(s: &[u8], place: &mut Place) -> Result<FieldSpot, Refusal>
+    requires { place.old.at ≤ length s.now }
+    ensures { ReadOnly s.now (field s.now 0 code place.old.at) place.old (field_of result place.new) }
+{
+    let i = place.at;
     if s.len() <= i {
-        return 1;
+        return Err(Refusal::Length);
     }
     let c = s[i];
     if 32 <= c {
-        return 2;
+        return Err(Refusal::Code);
     }
-    *value = c as u64;
-    *at = i + 1;
-    0
+    place.at = i + 1;
+    Ok(number_spot(u64::from(c)))
 }
 
 // A bound of a range: its sign, which may be any byte, and its size.
-fn bound_field(s: &[u8], at: &mut usize, value: &mut u64, start: &mut usize) -> u8
-    requires { at.old ≤ length s.now }
-    ensures { ReadAt s.now (field s.now 0 bound at.old) at.old result value.new
-        start.new at.new }
+fn bound_field(s: &[u8], place: &mut Place) -> Result<FieldSpot, Refusal>
+    requires { place.old.at ≤ length s.now }
+    ensures { ReadOnly s.now (field s.now 0 bound place.old.at) place.old (field_of result place.new) }
 {
-    let i = *at;
+    let i = place.at;
     if s.len() <= i {
-        return 1;
+        return Err(Refusal::Length);
     }
-    *start = s[i] as usize;
-    *at = i + 1;
-    let a = number_at(s, at, value, ORDINARY);
-    if a != 0 {
-        return a;
-    }
-    let high = *value;
-    let b = number_at(s, at, value, ORDINARY);
-    if b != 0 {
-        return b;
-    }
-    *value = high * 4294967296 + *value;
-    0
+    let sign = s[i] as usize;
+    place.at = i + 1;
+    let high = next_number(s, place)?;
+    let low = next_number(s, place)?;
+    Ok(FieldSpot {
+        value: high * 4294967296 + low,
+        place: sign,
+        end: 0,
+    })
 }
 
 // A count and so many parameters: they stay in the bytes.
-fn parameters_field(s: &[u8], at: &mut usize, value: &mut u64, start: &mut usize) -> u8
-    requires { at.old ≤ length s.now }
-    ensures { ReadAt s.now (field s.now 0 parameters at.old) at.old result value.new
-        start.new at.new }
+fn parameters_field(s: &[u8], place: &mut Place) -> Result<FieldSpot, Refusal>
+    requires { place.old.at ≤ length s.now }
+    ensures { ReadOnly s.now (field s.now 0 parameters place.old.at) place.old (field_of result place.new) }
 {
-    let a = number_at(s, at, value, ORDINARY);
-    if a != 0 {
-        return a;
-    }
-    *start = *at;
-    skip_parameters(s, at, *value)
+    let value = next_number(s, place)?;
+    let start = place.at;
+    place.at = skip_parameters(s, start, value)?;
+    Ok(FieldSpot {
+        value,
+        place: start,
+        end: 0,
+    })
 }
 
-// How many numbers stand before each term of entries, receivers or arguments.
-fn keys_of(sort: u8) -> u8
-    ensures { result ≡ keys_of sort }
+// The list that a sort has: entries, arguments, else receivers.
+fn listing_of(sort: u8) -> Listing
+    ensures { result ≡ listing_of sort }
 {
     match sort {
-        6 => 2,
-        9 => 0,
-        _ => 1,
+        6 => Listing::Entries,
+        9 => Listing::Arguments,
+        _ => Listing::Receivers,
     }
 }
 
@@ -87,35 +111,25 @@ fn keep_part(
     s: &[u8],
     kinds: &mut [u32],
     vals: &mut [u32],
-    at: &mut usize,
-    top: &mut usize,
-    nodes: &mut usize,
-    limit: usize,
+    place: &mut Place,
     sort: u8,
     issued: u64,
     count: u64,
-) -> u8
-    requires ample { Ample s.now (place at.old top.old nodes.old limit) }
-    requires free { Free top.old (area kinds.old vals.old) }
+) -> Result<(), Refusal>
+    requires ample { Ample s.now place.old }
+    requires free { Free place.old.top (area kinds.old vals.old) }
     ensures { (ws : List ℕ)
-        → PartDone s.now ws count (part_of s.now issued sort count at.old)
-        (place at.old top.old nodes.old limit) (area kinds.old vals.old)
-        (area kinds.new vals.new) (step_of result at.new top.new nodes.new limit) }
+        → PartDone s.now ws count (part_of s.now issued sort count place.old.at) place.old
+        (area kinds.old vals.old) (area kinds.new vals.new) (step_of result place.new) }
 {
     match sort {
-        4 | 5 => {
-            let bare = sort == 5;
-            read_part(s, kinds, vals, at, top, nodes, limit, bare, LEVELS, issued)
-        }
-        _ => read_list(
+        4 | 5 => part_at(s, kinds, vals, place, sort == 5, LEVELS, issued),
+        _ => keep_list(
             s,
             kinds,
             vals,
-            at,
-            top,
-            nodes,
-            limit,
-            keys_of(sort),
+            place,
+            listing_of(sort),
             LEVELS,
             issued,
             count,
@@ -128,69 +142,41 @@ fn tree_field(
     s: &[u8],
     kinds: &mut [u32],
     vals: &mut [u32],
-    at: &mut usize,
-    top: &mut usize,
-    nodes: &mut usize,
-    limit: usize,
-    value: &mut u64,
-    start: &mut usize,
-    end: &mut usize,
+    place: &mut Place,
     sort: u8,
     issued: u64,
     count: u64,
-) -> u8
-    requires ample { Ample s.now (place at.old top.old nodes.old limit) }
-    requires free { Free top.old (area kinds.old vals.old) }
-    ensures { PlainDone s.now (part_of s.now issued sort count at.old)
-        (place at.old top.old nodes.old limit) (area kinds.old vals.old)
-        (area kinds.new vals.new)
-        (field_of result value.new start.new end.new at.new top.new nodes.new limit) }
+) -> Result<FieldSpot, Refusal>
+    requires ample { Ample s.now place.old }
+    requires free { Free place.old.top (area kinds.old vals.old) }
+    ensures { PlainDone s.now (part_of s.now issued sort count place.old.at) place.old
+        (area kinds.old vals.old) (area kinds.new vals.new) (field_of result place.new) }
 {
-    let first = *top;
-    let r = keep_part(s, kinds, vals, at, top, nodes, limit, sort, issued, count);
-    if r != 0 {
-        return r;
-    }
-    *value = count;
-    *start = first;
-    *end = *top;
-    0
+    let first = place.top;
+    keep_part(s, kinds, vals, place, sort, issued, count)?;
+    Ok(FieldSpot {
+        value: count,
+        place: first,
+        end: place.top,
+    })
 }
 
-// A count and so many entries, receivers or arguments. The steps of `tree_field` stand here again, so that `keep_part` has two callers (docs/DECISIONS.md).
+// A count and so many entries, receivers or arguments.
 fn list_field(
     s: &[u8],
     kinds: &mut [u32],
     vals: &mut [u32],
-    at: &mut usize,
-    top: &mut usize,
-    nodes: &mut usize,
-    limit: usize,
-    value: &mut u64,
-    start: &mut usize,
-    end: &mut usize,
+    place: &mut Place,
     sort: u8,
     issued: u64,
-) -> u8
-    requires ample { Ample s.now (place at.old top.old nodes.old limit) }
-    requires free { Free top.old (area kinds.old vals.old) }
-    ensures { PlainDone s.now (list_field s.now issued sort at.old)
-        (place at.old top.old nodes.old limit) (area kinds.old vals.old)
-        (area kinds.new vals.new)
-        (field_of result value.new start.new end.new at.new top.new nodes.new limit) }
+) -> Result<FieldSpot, Refusal>
+    requires ample { Ample s.now place.old }
+    requires free { Free place.old.top (area kinds.old vals.old) }
+    ensures { PlainDone s.now (list_field s.now issued sort place.old.at) place.old
+        (area kinds.old vals.old) (area kinds.new vals.new) (field_of result place.new) }
 {
-    let a = number_at(s, at, value, ORDINARY);
-    if a != 0 {
-        return a;
-    }
-    let first = *top;
-    let r = keep_part(s, kinds, vals, at, top, nodes, limit, sort, issued, *value);
-    if r != 0 {
-        return r;
-    }
-    *start = first;
-    *end = *top;
-    0
+    let count = next_number(s, place)?;
+    tree_field(s, kinds, vals, place, sort, issued, count)
 }
 
 // A field of a sort other than rules.
@@ -198,33 +184,21 @@ pub fn read_plain(
     s: &[u8],
     kinds: &mut [u32],
     vals: &mut [u32],
-    at: &mut usize,
-    top: &mut usize,
-    nodes: &mut usize,
-    limit: usize,
-    value: &mut u64,
-    start: &mut usize,
-    end: &mut usize,
+    place: &mut Place,
     sort: u8,
     issued: u64,
-) -> u8
-    requires ample { Ample s.now (place at.old top.old nodes.old limit) }
-    requires free { Free top.old (area kinds.old vals.old) }
-    ensures { PlainDone s.now (field s.now issued (plain_of sort) at.old)
-        (place at.old top.old nodes.old limit) (area kinds.old vals.old)
-        (area kinds.new vals.new)
-        (field_of result value.new start.new end.new at.new top.new nodes.new limit) }
+) -> Result<FieldSpot, Refusal>
+    requires ample { Ample s.now place.old }
+    requires free { Free place.old.top (area kinds.old vals.old) }
+    ensures { PlainDone s.now (field s.now issued (plain_of sort) place.old.at) place.old
+        (area kinds.old vals.old) (area kinds.new vals.new) (field_of result place.new) }
 {
     match sort {
-        1 => number_at(s, at, value, ORDINARY),
-        2 | 4 | 5 => tree_field(
-            s, kinds, vals, at, top, nodes, limit, value, start, end, sort, issued, 1,
-        ),
-        3 => code_field(s, at, value),
-        8 => parameters_field(s, at, value, start),
-        11 => bound_field(s, at, value, start),
-        _ => list_field(
-            s, kinds, vals, at, top, nodes, limit, value, start, end, sort, issued,
-        ),
+        1 => number_field(s, place),
+        2 | 4 | 5 => tree_field(s, kinds, vals, place, sort, issued, 1),
+        3 => code_field(s, place),
+        8 => parameters_field(s, place),
+        11 => bound_field(s, place),
+        _ => list_field(s, kinds, vals, place, sort, issued),
     }
 }

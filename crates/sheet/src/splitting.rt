@@ -3,23 +3,17 @@ ghost use Rattle.std.specs.Prelude.{◌≡◌, ◌+◌, ◌≤◌, length, take,
 ghost use Rattle.sheet.specs.Sheet.{next_order};
 ghost use Rattle.sheet.specs.Entry.{framed_part};
 
-use super::Frame;
-use solver::number_at;
+use solver::read_number;
 
-// Where the order whose length stands at a position lies.
-pub fn next_order(s: &[u8], at: usize) -> Frame
+// Where the order whose length stands at a position lies, its first byte and its size; nothing where that length is faulty.
+pub fn next_order(s: &[u8], at: usize) -> Option<(usize, usize)>
     ensures { framed_part s.now result ≡ next_order s.now at }
 {
-    let mut from = at;
-    let mut size: u64 = 0;
-    let r = number_at(s, &mut from, &mut size, 4294967295);
-    if r != 0 {
-        return Frame::Faulty;
-    }
+    let (size, from) = read_number(s, at, 4294967295).ok()?;
     if ((s.len() - from) as u64) < size {
-        return Frame::Faulty;
+        return None;
     }
-    Frame::Lies(from, size as usize)
+    Some((from, size as usize))
 }
 
 // The order that lies there: that part of the sheet.

@@ -6,7 +6,6 @@ pub use Rattle.terms.proofs.Laws.Format.KindLaws
 pub use Rattle.terms.proofs.Laws.Format.KindTableLaws
 pub use Rattle.terms.proofs.Laws.Format.FieldLaws
 pub use Rattle.terms.proofs.Laws.Format.StoreLaws
-pub use Rattle.solver.proofs.Laws.Table.StepCodeLaws
 pub use Rattle.terms.proofs.Laws.Format.TokenCountLaws
 pub use Rattle.terms.proofs.Laws.Format.Sound
 pub use Rattle.terms.proofs.Laws.Format.RoundTrip

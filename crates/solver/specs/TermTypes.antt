@@ -1,4 +1,4 @@
--- The types of the terms that definitions of the sheet speak of, handed on. No code of the sheet has a value of one.
+-- The types of the terms that definitions of the sheet speak of, handed on.
 pub use Rattle.terms.specs.declared.Place.{Place}
 pub use Rattle.terms.specs.declared.Refusal.{Refusal}
 pub use Rattle.terms.specs.declared.Refusal.TheVariants.{Length, Code, Number, Depth, Order, Variable, Nodes, Variables, Children}
@@ -7,3 +7,7 @@ pub use Rattle.terms.specs.declared.Listing.TheVariants.{Arguments, Receivers, E
 pub use Rattle.terms.specs.Words.ReadContract.{Step, Next, Stopped}
 pub use Rattle.terms.specs.declared.Rule.{Rule}
 pub use Rattle.terms.specs.declared.Binders.{Binders}
+pub use Rattle.terms.specs.declared.Parameter.{Parameter}
+pub use Rattle.terms.specs.declared.Ready.{Ready}
+pub use Rattle.terms.specs.declared.Normalised.{Normalised}
+pub use Rattle.terms.specs.declared.Normalised.TheVariants.{Refused, Long, Done}

@@ -11,7 +11,6 @@ pub use Rattle.terms.specs.Reading
 pub use Rattle.terms.specs.Words.ReadContract
 pub use Rattle.terms.specs.Words.Outcomes
 pub use Rattle.terms.specs.Words.ListsContract
-pub use Rattle.solver.specs.Words.StepCodes
 pub use Rattle.terms.specs.Words.ReaderContract
 pub use Rattle.terms.specs.Tree
 pub use Rattle.terms.specs.Questions

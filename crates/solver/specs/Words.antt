@@ -4,7 +4,6 @@
 --   Bindings               bindings that the areas and a table hold
 --   CongruenceClasses      classes of token places
 --   ConstrainContract      one check of `constrain` on what is lent
---   HandingContract        the terms' functions as the sheet calls them
 --   MethodContract         what the methods say of the counters and the table
 --   OrderTerms             terms that follow the tokens of a session; what is resolved
 --   PendingContract        pending pairs as words, places of children, rows in step
@@ -13,12 +12,10 @@
 --   ResolveWalk            a held term with bound variables replaced, on any words
 --   SessionRepresentation  a session that the counters, the areas and a table hold
 --   SessionsContract       a session alone in its areas
---   StepCodes              the answers of functions that are lent the numbers of a place
 --   Worklist               marks, and a queue of what is marked
 pub mod Bindings
 pub mod CongruenceClasses
 pub mod ConstrainContract
-pub mod HandingContract
 pub mod MethodContract
 pub mod OrderTerms
 pub mod PendingContract
@@ -27,5 +24,4 @@ pub mod ResolveFrames
 pub mod ResolveWalk
 pub mod SessionRepresentation
 pub mod SessionsContract
-pub mod StepCodes
 pub mod Worklist

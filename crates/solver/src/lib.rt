@@ -6,12 +6,11 @@ mod constrain;
 mod defaults;
 mod equality;
 mod families;
-mod handing;
-mod normal;
 mod pending;
 mod ranges;
 mod reach;
 mod resolving;
+mod rule_words;
 mod sessions;
 mod substitution;
 mod top;
@@ -19,16 +18,17 @@ mod variables;
 mod words;
 
 pub use answers::{variable_len, write_variable};
-pub use handing::{number_at, put_rule, read_list, read_part, skip_parameters};
-pub use normal::{normalise, with_associated_types, write_normalised};
 pub use ranges::{plain_request, range_request};
+pub use rule_words::put_rule;
 pub use sessions::clear;
-pub use substitution::{context, family, instantiation, self_only, write_term};
+pub use substitution::{context, family, instantiation, self_only};
 
-// Functions of the terms that are handed on to the sheet, which names this crate alone.
+// Functions and types of the terms that are handed on to the sheet, which names this crate alone.
 pub use terms::{
-    ask, can_weaken_to, clear_tokens, conflicts_with, number_len, recovered_len, satisfies,
-    satisfies_for, write_number, write_recovered,
+    Binders, Listing, Normalised, Parameter, Place, Ready, Refusal, ask, can_weaken_to,
+    clear_tokens, conflicts_with, keep_list, normalise, number_len, part_at, read_number,
+    recovered_len, satisfies, satisfies_for, skip_parameters, with_associated_types,
+    write_normalised, write_number, write_recovered, write_term,
 };
 
 // A run of tokens: len of them, from at on.
@@ -151,39 +151,4 @@ pub enum Named {
 pub struct Issue {
     pub solver: Solver,
     pub answer: Named,
-}
-
-// What takes the place of binders, as the terms have it: a substitution's entries and receivers in the areas, parameters in the order's bytes
-// with their arguments in the areas; in a `context` the parameters have no arguments.
-#[derive(Clone, Copy)]
-pub struct Binders {
-    pub context: bool,
-    pub entries: usize,
-    pub receivers: usize,
-    pub finish: usize,
-    pub parameters: usize,
-    pub count: u64,
-    pub arguments: usize,
-}
-
-// A normalised term, as the terms have it: its content, the records used, its bytes, and what it was looked up by.
-#[derive(Clone, Copy)]
-pub struct Ready {
-    pub head: u32,
-    pub kids: u32,
-    pub next: usize,
-    pub size: usize,
-    pub owner: u32,
-    pub span: u32,
-    pub interface: u32,
-    pub row: u32,
-    pub length: u32,
-}
-
-// What normalising answers: refusal 9; that the term's bytes are more than there is room for; or the term, whose records stay until it is written.
-#[derive(Clone, Copy)]
-pub enum Normalised {
-    Refused,
-    Long,
-    Done(Ready),
 }

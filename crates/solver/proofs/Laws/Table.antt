@@ -7,8 +7,7 @@
 --   AdmitLaws           what a number variable may be bound to, by tokens and words; a binding made
 --   OrderTermLaws       terms after the tokens of a session; where resolving begins
 --   SessionsLaws        a session alone in its areas: fresh, and cleared
---   HandingLaws         the words of a rule, stored
---   StepCodeLaws        no refusal is 0, and a code that is not 0 is a refusal
+--   RuleWordLaws        the words of a rule, stored
 pub mod ColumnLaws
 pub mod RequestWordLaws
 pub mod RepresentationLaws
@@ -17,5 +16,4 @@ pub mod ChainLaws
 pub mod AdmitLaws
 pub mod OrderTermLaws
 pub mod SessionsLaws
-pub mod HandingLaws
-pub mod StepCodeLaws
+pub mod RuleWordLaws
