@@ -8,13 +8,14 @@ use mathlib.Core.Option.{none, some}
 use Prim.Native.Nat.{ℕ, ◌+◌, ◌-◌, ◌≤◌, ◌<◌}
 use native.Mathlib.Omega.{arith}
 use lib.ListN.{length, get_or, take, drop, replicate}
+use Rattle.solver.specs.TermTypes.{Parameter}
 use Rattle.solver.specs.Terms.Result.{got}
 use Rattle.solver.specs.Terms.Number.{number, shortest}
 use Rattle.solver.specs.Terms.Term.{Term, var, depth, size, AllVars, bytes}
 use Rattle.solver.specs.Terms.Formed.{Formed}
 use Rattle.solver.specs.Terms.Reading as reading
 use Rattle.solver.specs.Terms.Tree.{Nominal}
-use Rattle.solver.specs.Terms.Questions.{Parameter, counted, entered, OneCounts, asked, answered, is_concrete, is_resolved_in, contains_projection}
+use Rattle.solver.specs.Terms.Questions.{counted, entered, OneCounts, asked, answered, is_concrete, is_resolved_in, contains_projection}
 use Rattle.solver.specs.Terms.Comparison.{conflicts_with, satisfies, satisfies_for}
 use Rattle.solver.specs.Terms.Recovery.{recover_from}
 use Rattle.solver.specs.Terms.Substitution.{Entry, or_else, get, instantiate}

@@ -1,20 +1,18 @@
 -- The session as a run begins it and as an order finds it; what a run hands back and leaves.
-use Rattle.std.specs.Prelude.{Bool, ◌&&◌, List, ◌++◌, ◌≡◌, ℕ, ◌+◌, leb, length, take, drop, replicate}
+use Rattle.std.specs.Prelude.{Option, Some, None, Bool, ◌&&◌, List, ◌++◌, ◌≡◌, ℕ, ◌+◌, leb, length, take, drop, replicate}
 use Rattle.solver.specs.Terms.Result.{Result, got, refused, pick}
 use Rattle.solver.specs.declared.Solver.{Solver}
 use Rattle.solver.specs.Session.{Limits, Session, issued}
 use Rattle.solver.specs.Invariant.{InOrder}
 -- the limits, handed on to the crates that name this one alone
 pub use Rattle.solver.specs.Session.{document_limits}
-use Rattle.sheet.specs.declared.Frame.{Frame}
-use Rattle.sheet.specs.declared.Frame.TheVariants.{Lies, Faulty}
 use Rattle.sheet.specs.Sheet.{Run, run_of}
 use Rattle.sheet.specs.Words.SessionInAreas.{Areas, RepresentsInAreas, AreasSuffice}
 
 -- where framing says that the next order lies, as that part of the sheet and the position after it; 10 where a length is faulty
-abbrev pub framed_part : List ℕ → Frame → Result (List ℕ)
-framed_part s (Lies from size) = got (take size (drop from s)) (from + size)
-framed_part s Faulty = refused 10
+abbrev pub framed_part : List ℕ → Option (ℕ × ℕ) → Result (List ℕ)
+framed_part s (Some (from, size)) = got (take size (drop from s)) (from + size)
+framed_part s None = refused 10
 
 -- As an order finds the areas: they are large enough, and hold a session that some list of orders leaves.
 pub record AreasReady (x : Solver) (half : ℕ) (m : Areas) : Type 0 where

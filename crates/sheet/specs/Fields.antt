@@ -1,13 +1,13 @@
 -- The fields of an order, and what its bytes say of them: document 01, "Sheet".
 use Rattle.std.specs.Prelude.{List, [], ◌∷◌, ℕ, zero, suc, ◌+◌, ◌*◌, eqb, leb, ltb, length}
 use Rattle.std.proofs.Math.Option.{Option, none, some}
+use Rattle.solver.specs.TermTypes.{Parameter}
 use Rattle.solver.specs.Terms.Parser.{Parser, got, refused, pick, ◌>>=◌, return, byte, number}
 use Rattle.solver.specs.Terms.Shape as shape
 use Rattle.solver.specs.Terms.Shape.{ceiling}
 use Rattle.solver.specs.Terms.Term.{Term, Parts, end, size, sizes}
 use Rattle.solver.specs.Terms.Tree.{unknown, row}
 use Rattle.solver.specs.Terms.Reading as reading
-use Rattle.solver.specs.Terms.Questions.{Parameter}
 use Rattle.solver.specs.Terms.Substitution.{Entry, Receiver}
 use Rattle.solver.specs.Terms.Rows as rows
 use Rattle.solver.specs.Terms.Rows.{entry_row, receiver_row, argument_row}

@@ -20,8 +20,8 @@ use super::order_reader::{clear_order, read_order};
 use super::order_table::is_operation;
 use super::plain_orders::{termless_of, termless_order};
 use super::term_orders::{constrain_order, defer_term, resolve_term};
-use super::{AfterOrder, Order, Reading};
-use solver::Solver;
+use super::{AfterOrder, Order};
+use solver::{Solver, refusal_number};
 
 // Orders 9 to 20: the session stays as it was.
 fn operate_order(
@@ -239,15 +239,15 @@ fn serve_with(
     let n = x.standing();
     let r = read_order(s, a, b, rules, n.issued as u64, n.top, n.kept, n.nodes);
     match r {
-        Reading::Whole(o) => {
+        Ok(o) => {
             let w = answer_order(x, half, s, a, b, c, d, rules, o, out, to);
             let y = w.solver;
             let m = y.standing();
             clear_order(a, b, m.top, o);
             w
         }
-        Reading::Refused(code) => {
-            let next = write_refusal(out, to, code);
+        Err(refusal) => {
+            let next = write_refusal(out, to, refusal_number(refusal));
             AfterOrder { solver: x, next }
         }
     }

@@ -71,25 +71,11 @@ pub enum TermlessOrder {
     Refusal(u8),
 }
 
-// What reading an order finds, or the refusal.
-#[derive(Clone, Copy)]
-pub enum Reading {
-    Whole(Order),
-    Refused(u8),
-}
-
 // The counters after an order, and the position after its answer: past the end of the output where it does not fit.
 #[derive(Clone, Copy)]
 pub struct AfterOrder {
     pub solver: Solver,
     pub next: usize,
-}
-
-// Where the next order lies, its first byte and its size, or that its length is faulty.
-#[derive(Clone, Copy)]
-pub enum Frame {
-    Lies(usize, usize),
-    Faulty,
 }
 
 // What a run returns: why it ended, how many orders it answered, and how many bytes it wrote.

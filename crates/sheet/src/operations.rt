@@ -5,14 +5,14 @@ ghost use Rattle.solver.specs.Terms.Tokens.{area};
 ghost use Rattle.solver.specs.Terms.Formed.{Formed};
 ghost use Rattle.solver.specs.Terms.TermsAtPlaces.{FormedAt};
 ghost use Rattle.solver.specs.Terms.Tree.{nominal_of};
-ghost use Rattle.solver.specs.Terms.Questions.{Parameter, answered};
+ghost use Rattle.solver.specs.TermTypes.{Parameter};
+ghost use Rattle.solver.specs.Terms.Questions.{answered};
 ghost use Rattle.solver.specs.Terms.Recovery.{recover_from};
 ghost use Rattle.solver.specs.Terms.Substitution.{Entry, Receiver, apply};
 ghost use Rattle.solver.specs.Terms.RewriteContract.{Ready, Rewrites};
 ghost use Rattle.solver.specs.Terms.Lookup.{Pattern};
 ghost use Rattle.solver.specs.Terms.Normal.{Out, normalize, with_associated_types, levels, most};
 ghost use Rattle.solver.specs.Terms.NormalContract.{Answers, Leaves, Lends, RuledAt, OwnedAt};
-ghost use Rattle.solver.specs.Words.HandingContract.{binders_of, normalised_of};
 ghost use Rattle.sheet.specs.OrderTable.{outcome};
 ghost use Rattle.sheet.specs.Operations.{bit, seven, perhaps, settled, rule_of, operations};
 ghost use Rattle.sheet.specs.Words.FramingContract.{OutputRoom, Framed};
@@ -63,10 +63,10 @@ fn rewritten(
     to: usize,
 ) -> usize
     requires areas { Tokens kinds.now vals.now }
-    requires ready { Ready kinds.now vals.now (binders_of b) }
+    requires ready { Ready kinds.now vals.now b }
     requires place { from < length kinds.now }
     requires room { OutputRoom out.old to }
-    ensures { Rewrites kinds.now vals.now s.now (binders_of b) from
+    ensures { Rewrites kinds.now vals.now s.now b from
         (λ x. Framed (outcome x) out.old to out.new result) }
 {
     let size = write_term(kinds, vals, s, b, from, out, 0, false);
@@ -89,11 +89,11 @@ fn applied(
     to: usize,
 ) -> usize
     requires areas { Tokens kinds.now vals.now }
-    requires ready { Ready kinds.now vals.now (binders_of b) }
+    requires ready { Ready kinds.now vals.now b }
     requires place { from < length kinds.now }
     requires room { OutputRoom out.old to }
     ensures { (t : Term) (es : List Entry) (rs : List Receiver) (ps : List Parameter) (ts : List Term)
-        → Applies kinds.now vals.now s.now (binders_of b) given from t es rs ps ts
+        → Applies kinds.now vals.now s.now b given from t es rs ps ts
         → Framed (outcome (perhaps (apply ps t (record { parameters = es; receivers = rs }) ts))) out.old to out.new result }
 {
     if b.count != given {
@@ -151,13 +151,13 @@ fn settled(
     to: usize,
 ) -> usize
     requires room { OutputRoom out.old to }
-    requires leaves { (hs : List ℕ) × (cs : List ℕ) × Leaves kinds.now vals.now hs cs heads.old kids.old most (normalised_of r) }
-    requires answers { (o : Out) × Answers kinds.now vals.now heads.old kids.old out.old to levels most o (normalised_of r) }
+    requires leaves { (hs : List ℕ) × (cs : List ℕ) × Leaves kinds.now vals.now hs cs heads.old kids.old most r }
+    requires answers { (o : Out) × Answers kinds.now vals.now heads.old kids.old out.old to levels most o r }
     ensures clear { (hs cs : List ℕ)
-        → Leaves kinds.now vals.now hs cs heads.old kids.old most (normalised_of r)
+        → Leaves kinds.now vals.now hs cs heads.old kids.old most r
         → area heads.new kids.new ≡ area hs cs }
     ensures says { (o : Out) → Answers kinds.now vals.now heads.old kids.old
-        out.old to levels most o (normalised_of r) → Framed (settled o) out.old to out.new result }
+        out.old to levels most o r → Framed (settled o) out.old to out.new result }
 {
     match r {
         Normalised::Refused => write_refusal(out, to, 9),

@@ -1,18 +1,18 @@
-// An order read: its kind, and its fields by the layout of the kind. The functions that read a field are lent the numbers of the place, and where the numbers
-// of the field's spot go, and answer 0 where they have read, else the refusal.
+// An order read: its kind, and its fields by the layout of the kind. The functions that read a field are lent the place and answer
+// the field's spot; where they refuse, the place is of no use.
 ghost use Rattle.std.specs.Prelude.{◌≡◌, ◌-◌, ◌<◌, ◌≤◌, length, get_or};
 ghost use Rattle.solver.specs.Terms.Tokens.{area, blank};
-ghost use Rattle.solver.specs.Terms.StepCodes.{place};
+ghost use Rattle.solver.specs.Terms.Result.{number_of};
 ghost use Rattle.sheet.specs.Fields.{field};
 ghost use Rattle.sheet.specs.Words.FieldLayout.{RowIs, sort_of, Plain, Free, Ample, FieldDone, finished_order};
 ghost use Rattle.sheet.specs.Words.FieldsContract.{field_of};
 ghost use Rattle.sheet.specs.Words.OrderReaderContract.{OrderRoom, OrderDone};
 
-use super::fields::{ORDINARY, read_plain};
+use super::fields::{next_number, read_plain};
 use super::order_table::{known_of, no_fields, put_spot, row_of};
 use super::rules::read_rules;
-use super::{Class, Order, OrderRow, Reading};
-use solver::{clear_tokens, number_at};
+use super::{Class, FieldSpot, Order, OrderRow};
+use solver::{Place, Refusal, clear_tokens};
 
 // A count and so many rules.
 fn rules_field(
@@ -20,31 +20,22 @@ fn rules_field(
     kinds: &mut [u32],
     vals: &mut [u32],
     rules: &mut [u32],
-    at: &mut usize,
-    top: &mut usize,
-    nodes: &mut usize,
-    limit: usize,
-    value: &mut u64,
-    start: &mut usize,
-    end: &mut usize,
+    place: &mut Place,
     issued: u64,
-) -> u8
-    requires ample { Ample s.now (place at.old top.old nodes.old limit) }
-    requires free { Free top.old (area kinds.old vals.old) }
-    ensures { FieldDone s.now rules.new (field s.now issued (sort_of 10) at.old)
-        (place at.old top.old nodes.old limit) (area kinds.old vals.old)
-        (area kinds.new vals.new)
-        (field_of result value.new start.new end.new at.new top.new nodes.new limit) }
+) -> Result<FieldSpot, Refusal>
+    requires ample { Ample s.now place.old }
+    requires free { Free place.old.top (area kinds.old vals.old) }
+    ensures { FieldDone s.now rules.new (field s.now issued (sort_of 10) place.old.at) place.old
+        (area kinds.old vals.old) (area kinds.new vals.new) (field_of result place.new) }
 {
-    let a = number_at(s, at, value, ORDINARY);
-    if a != 0 {
-        return a;
-    }
-    let n = *value;
-    *start = *top;
-    let r = read_rules(s, kinds, vals, rules, at, top, nodes, limit, n, issued);
-    *end = *top;
-    r
+    let value = next_number(s, place)?;
+    let first = place.top;
+    read_rules(s, kinds, vals, rules, place, value, issued)?;
+    Ok(FieldSpot {
+        value,
+        place: first,
+        end: place.top,
+    })
 }
 
 // A field of any sort.
@@ -53,32 +44,20 @@ fn read_field(
     kinds: &mut [u32],
     vals: &mut [u32],
     rules: &mut [u32],
-    at: &mut usize,
-    top: &mut usize,
-    nodes: &mut usize,
-    limit: usize,
-    value: &mut u64,
-    start: &mut usize,
-    end: &mut usize,
+    place: &mut Place,
     sort: u8,
     issued: u64,
-) -> u8
-    requires ample { Ample s.now (place at.old top.old nodes.old limit) }
-    requires free { Free top.old (area kinds.old vals.old) }
-    ensures done { FieldDone s.now rules.new (field s.now issued (sort_of sort) at.old)
-        (place at.old top.old nodes.old limit) (area kinds.old vals.old)
-        (area kinds.new vals.new)
-        (field_of result value.new start.new end.new at.new top.new nodes.new limit) }
+) -> Result<FieldSpot, Refusal>
+    requires ample { Ample s.now place.old }
+    requires free { Free place.old.top (area kinds.old vals.old) }
+    ensures done { FieldDone s.now rules.new (field s.now issued (sort_of sort) place.old.at) place.old
+        (area kinds.old vals.old) (area kinds.new vals.new) (field_of result place.new) }
     ensures words { Plain (sort_of sort) → rules.new ≡ rules.old }
 {
     if sort == 10 {
-        return rules_field(
-            s, kinds, vals, rules, at, top, nodes, limit, value, start, end, issued,
-        );
+        return rules_field(s, kinds, vals, rules, place, issued);
     }
-    read_plain(
-        s, kinds, vals, at, top, nodes, limit, value, start, end, sort, issued,
-    )
+    read_plain(s, kinds, vals, place, sort, issued)
 }
 
 // The fields as an order of a kind, with the token after the last one and the nodes.
@@ -92,13 +71,19 @@ fn finished(mut o: Order, kind: u8, top: usize, nodes: usize) -> Order
 }
 
 // The refusal, with the tokens from `first` up to `last` cleared.
-fn undone(kinds: &mut [u32], vals: &mut [u32], first: usize, last: usize, code: u8) -> Reading
+fn undone(
+    kinds: &mut [u32],
+    vals: &mut [u32],
+    first: usize,
+    last: usize,
+    refusal: Refusal,
+) -> Result<Order, Refusal>
     requires { first ≤ last }
-    ensures refusal { result ≡ Reading.Refused code }
+    ensures refusal { result ≡ Err refusal }
     ensures areas { area kinds.new vals.new ≡ blank (area kinds.old vals.old) first (last - first) }
 {
     clear_tokens(kinds, vals, first, last - first);
-    Reading::Refused(code)
+    Err(refusal)
 }
 
 // Reads the fields of an order of a kind, as `read_order` tells it.
@@ -114,7 +99,7 @@ fn read_fields(
     first: usize,
     kept: usize,
     limit: usize,
-) -> Reading
+) -> Result<Order, Refusal>
     requires room { OrderRoom s.now kinds.old vals.old rules.old first kept limit }
     requires tagged { 0 < length s.now }
     requires kinded { kind ≡ get_or s.now 0 0 }
@@ -123,43 +108,33 @@ fn read_fields(
         (area kinds.new vals.new) rules.new result }
 {
     let known = known_of(class, issued);
-    let mut at: usize = 1;
-    let mut top = first;
-    let mut nodes = kept;
+    let mut place = Place {
+        at: 1,
+        top: first,
+        nodes: kept,
+        limit,
+    };
     let mut rest = sorts;
     let mut i: u32 = 0;
     let mut o = no_fields();
     while 0 < rest {
-        let last = top;
-        let mut value: u64 = 0;
-        let mut start: usize = 0;
-        let mut end: usize = 0;
-        let r = read_field(
-            s,
-            kinds,
-            vals,
-            rules,
-            &mut at,
-            &mut top,
-            &mut nodes,
-            limit,
-            &mut value,
-            &mut start,
-            &mut end,
-            (rest % 100) as u8,
-            known,
-        );
-        if r != 0 {
-            return undone(kinds, vals, first, last, r);
+        let last = place.top;
+        let sort = (rest % 100) as u8;
+        match read_field(s, kinds, vals, rules, &mut place, sort, known) {
+            Ok(spot) => {
+                o = put_spot(o, i, spot);
+            }
+            Err(refusal) => {
+                return undone(kinds, vals, first, last, refusal);
+            }
         }
-        o = put_spot(o, i, value, start, end);
         i = i + 1;
         rest = rest / 100;
     }
-    if at < s.len() {
-        return undone(kinds, vals, first, top, 1);
+    if place.at < s.len() {
+        return undone(kinds, vals, first, place.top, Refusal::Length);
     }
-    Reading::Whole(finished(o, kind, top, nodes))
+    Ok(finished(o, kind, place.top, place.nodes))
 }
 
 // Reads an order, which is all of `s`. Its tokens stand from `top` on where its nodes with those `kept` are within the limit, and the words of its rules
@@ -173,17 +148,17 @@ pub fn read_order(
     top: usize,
     kept: usize,
     limit: usize,
-) -> Reading
+) -> Result<Order, Refusal>
     requires { OrderRoom s.now kinds.old vals.old rules.old top kept limit }
     ensures { OrderDone s.now issued top kept limit (area kinds.old vals.old)
         (area kinds.new vals.new) rules.new result }
 {
     if s.len() == 0 {
-        return Reading::Refused(1);
+        return Err(Refusal::Length);
     }
     let kind = s[0];
     let OrderRow::Listed(class, sorts) = row_of(kind) else {
-        return Reading::Refused(2);
+        return Err(Refusal::Code);
     };
     read_fields(
         s, kinds, vals, rules, kind, class, sorts, issued, top, kept, limit,

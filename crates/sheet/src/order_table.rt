@@ -100,14 +100,9 @@ fn chosen(on: bool, x: FieldSpot, y: FieldSpot) -> FieldSpot
 }
 
 // The order with another spot for its i-th field.
-pub fn put_spot(o: Order, i: u32, value: u64, start: usize, end: usize) -> Order
-    ensures { result ≡ put_spot i (record { value = value; place = start; end = end }) o }
+pub fn put_spot(o: Order, i: u32, x: FieldSpot) -> Order
+    ensures { result ≡ put_spot i x o }
 {
-    let x = FieldSpot {
-        value,
-        place: start,
-        end,
-    };
     Order {
         kind: o.kind,
         first: chosen(i == 0, x, o.first),

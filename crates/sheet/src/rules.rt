@@ -1,8 +1,8 @@
-// Rules: each is five fields that are read by a layout of their own, and six words that tell where these stand. The reading functions are lent the numbers of
-// the place, and answer 0 where they have read, else the refusal.
+// Rules: each is five fields that are read by a layout of their own, and six words that tell where these stand. The reading functions are lent
+// the place; where they refuse it is of no use.
 ghost use Rattle.std.specs.Prelude.{◌≡◌, ◌<◌};
 ghost use Rattle.solver.specs.Terms.Tokens.{area};
-ghost use Rattle.solver.specs.Terms.StepCodes.{place, step_of};
+ghost use Rattle.solver.specs.Terms.Outcomes.{step_of};
 ghost use Rattle.solver.specs.Terms.Lookup.{put_rule};
 ghost use Rattle.sheet.specs.Fields.{rule, rule_list};
 ghost use Rattle.sheet.specs.Words.FieldLayout.{Free, Ample, rule_from, WordsFit, RuleDone, RulesDone};
@@ -10,7 +10,7 @@ ghost use Rattle.sheet.specs.Words.FieldLayout.{Free, Ample, rule_from, WordsFit
 use super::Order;
 use super::fields::read_plain;
 use super::order_table::{no_fields, put_spot};
-use solver::{clear_tokens, put_rule};
+use solver::{Place, Refusal, clear_tokens, put_rule};
 
 // A nominal, a term, a number that names a member, arguments and a term, as `sorts_of` tells a layout.
 const RULE: u64 = 409010405;
@@ -39,54 +39,37 @@ fn read_rule(
     kinds: &mut [u32],
     vals: &mut [u32],
     rules: &mut [u32],
-    at: &mut usize,
-    top: &mut usize,
-    nodes: &mut usize,
-    limit: usize,
+    place: &mut Place,
     r: u64,
     issued: u64,
-) -> u8
-    requires ample { Ample s.now (place at.old top.old nodes.old limit) }
-    requires free { Free top.old (area kinds.old vals.old) }
+) -> Result<(), Refusal>
+    requires ample { Ample s.now place.old }
+    requires free { Free place.old.top (area kinds.old vals.old) }
     requires few { r < 4294967296 }
-    ensures { RuleDone (rule s.now issued at.old) s.now
-        (place at.old top.old nodes.old limit) (area kinds.old vals.old)
-        (area kinds.new vals.new) r rules.old rules.new
-        (step_of result at.new top.new nodes.new limit) }
+    ensures { RuleDone (rule s.now issued place.old.at) s.now place.old
+        (area kinds.old vals.old) (area kinds.new vals.new) r rules.old rules.new
+        (step_of result place.new) }
 {
-    let first = *top;
+    let first = place.top;
     let mut rest = RULE;
     let mut i: u32 = 0;
     let mut o = no_fields();
     while 0 < rest {
-        let last = *top;
-        let mut value: u64 = 0;
-        let mut start: usize = 0;
-        let mut end: usize = 0;
-        let a = read_plain(
-            s,
-            kinds,
-            vals,
-            at,
-            top,
-            nodes,
-            limit,
-            &mut value,
-            &mut start,
-            &mut end,
-            (rest % 100) as u8,
-            issued,
-        );
-        if a != 0 {
-            clear_tokens(kinds, vals, first, last - first);
-            return a;
+        let last = place.top;
+        match read_plain(s, kinds, vals, place, (rest % 100) as u8, issued) {
+            Ok(spot) => {
+                o = put_spot(o, i, spot);
+            }
+            Err(refusal) => {
+                clear_tokens(kinds, vals, first, last - first);
+                return Err(refusal);
+            }
         }
-        o = put_spot(o, i, value, start, end);
         i = i + 1;
         rest = rest / 100;
     }
     keep_rule(rules, r, o);
-    0
+    Ok(())
 }
 
 // `count` rules; on a refusal nothing of them remains in the areas.
@@ -95,30 +78,24 @@ pub fn read_rules(
     kinds: &mut [u32],
     vals: &mut [u32],
     rules: &mut [u32],
-    at: &mut usize,
-    top: &mut usize,
-    nodes: &mut usize,
-    limit: usize,
+    place: &mut Place,
     count: u64,
     issued: u64,
-) -> u8
-    requires ample { Ample s.now (place at.old top.old nodes.old limit) }
-    requires free { Free top.old (area kinds.old vals.old) }
+) -> Result<(), Refusal>
+    requires ample { Ample s.now place.old }
+    requires free { Free place.old.top (area kinds.old vals.old) }
     requires few { count < 4294967296 }
-    ensures { RulesDone (rule_list s.now issued count at.old) s.now
-        (place at.old top.old nodes.old limit) (area kinds.old vals.old)
-        (area kinds.new vals.new) count rules.new (step_of result at.new top.new nodes.new limit) }
+    ensures { RulesDone (rule_list s.now issued count place.old.at) s.now place.old
+        (area kinds.old vals.old) (area kinds.new vals.new) count rules.new
+        (step_of result place.new) }
 {
-    let first = *top;
-    let mut r: u64 = 0;
-    while r < count {
-        let last = *top;
-        let a = read_rule(s, kinds, vals, rules, at, top, nodes, limit, r, issued);
-        if a != 0 {
+    let first = place.top;
+    for r in 0..count {
+        let last = place.top;
+        if let Err(refusal) = read_rule(s, kinds, vals, rules, place, r, issued) {
             clear_tokens(kinds, vals, first, last - first);
-            return a;
+            return Err(refusal);
         }
-        r = r + 1;
     }
-    0
+    Ok(())
 }

@@ -11,7 +11,7 @@ ghost use Rattle.sheet.specs.Entry.{Ended, Left, sizes_accepted, finished, entry
 use super::dispatch::serve_order;
 use super::splitting::{next_order, order_at};
 use super::starting::lay_fresh;
-use super::{Closed, Frame, Report};
+use super::{Closed, Report};
 use solver::{Solver, clear};
 
 // What a run returns, and the solver that it leaves.
@@ -51,7 +51,7 @@ fn answer_orders(
     let mut to = 0;
     let mut orders: u64 = 0;
     while at < s.len() {
-        let Frame::Lies(from, size) = next_order(s, at) else {
+        let Some((from, size)) = next_order(s, at) else {
             return closed(10, orders, to, x);
         };
         let bytes = order_at(s, from, size);

@@ -1,6 +1,7 @@
 // Orders 1, 2, 5 and 8: what a term or a variable resolves to, and the revision.
 ghost use Rattle.std.specs.Prelude.{◌≡◌, List, ℕ, min, ◌+◌, ◌^◌, ◌≤◌, ◌<◌, length};
 ghost use Rattle.std.proofs.lemmas.List.Edits.{sets};
+ghost use Rattle.terms.specs.Result.{number_of};
 ghost use Rattle.terms.specs.Term.{Term, var, bytes};
 ghost use Rattle.solver.specs.Session.{Session};
 ghost use Rattle.solver.specs.Orders as orders;
@@ -11,7 +12,7 @@ ghost use Rattle.solver.specs.Words.OrderTerms.{Asked, Starts, Frames, resolved_
 use super::resolving::{clear_words, resolved_len, write_resolved};
 use super::words::wide;
 use super::{Solver, Start, Subject};
-use terms::{number_len, write_number};
+use terms::{Refusal, number_len, write_number};
 
 // How many bytes a variable has.
 pub fn variable_len(v: u32) -> usize
@@ -128,4 +129,11 @@ impl Solver {
             Start::Free(v) => write_variable(out, to, v),
         }
     }
+}
+
+// Document 01's number of a refusal.
+pub fn refusal_number(refusal: Refusal) -> u8
+    ensures { result ≡ number_of refusal }
+{
+    u8::from(refusal)
 }

@@ -17,7 +17,7 @@ mod top;
 mod variables;
 mod words;
 
-pub use answers::{variable_len, write_variable};
+pub use answers::{refusal_number, variable_len, write_variable};
 pub use ranges::{plain_request, range_request};
 pub use rule_words::put_rule;
 pub use sessions::clear;

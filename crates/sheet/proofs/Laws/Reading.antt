@@ -5,7 +5,6 @@
 --   FitLaws           what is read is of the sorts of its kind
 --   SpotLaws          where the fields stand, and that they are held there
 --   FieldLoopLaws     the loop over a layout
---   CodeLaws          no refusal is 0
 --   PartLaws          one field read and kept, and its spot
 --   RuleReading       rules as fields, and their words
 --   OrderLaws         the whole order
@@ -16,7 +15,6 @@ pub mod OrderTableLaws
 pub mod FitLaws
 pub mod SpotLaws
 pub mod FieldLoopLaws
-pub mod CodeLaws
 pub mod PartLaws
 pub mod RuleReading
 pub mod OrderLaws

@@ -1,7 +1,7 @@
 -- How the fields of an order are laid out: their sorts as numbers, their tokens, and the spots that tell where they stand.
 use Rattle.std.specs.Prelude.{Bool, true, false, ◌&&◌, ◌||◌, List, [], ◌∷◌, ◌++◌, ◌≡◌, ℕ, zero, suc, ◌+◌, ◌-◌, ◌*◌, ◌^◌, ◌≤◌, ◌<◌, eqb, length}
 use Rattle.std.proofs.Math.Option.{Option, none, some}
-use Rattle.solver.specs.TermTypes.{Place, Rule, Step, Next, Stopped}
+use Rattle.solver.specs.TermTypes.{Place, Rule, Listing, Arguments, Receivers, Entries, Step, Next, Stopped}
 use Rattle.solver.specs.Terms.Parser.{Parser, Result, got, refused, pick, ◌>>=◌, return, number}
 use Rattle.solver.specs.Terms.Tokens.{Item, Area, puts, blank}
 use Rattle.solver.specs.Terms.Term.{node, items, part_items}
@@ -138,9 +138,9 @@ rule_sorts = fields.nominal ∷ fields.term ∷ fields.ordinary ∷ fields.argum
 abbrev pub rule_fields : Pattern → List Field
 rule_fields p = bare p.interface ∷ tree p.receiver ∷ value p.member ∷ listed p.arguments ∷ tree p.value ∷ []
 
--- how many numbers stand before each term of a list
-abbrev pub keys_of : ℕ → ℕ
-keys_of k = pick (eqb k 6) 2 (pick (eqb k 9) 0 1)
+-- the list that a sort has
+abbrev pub listing_of : ℕ → Listing
+listing_of k = pick (eqb k 6) Entries (pick (eqb k 9) Arguments Receivers)
 
 -- the fields whose tokens are stored, by the number of their sort: of a list so many; a receiver is a list of one
 module _ (s : List ℕ) (issued : ℕ) where
@@ -193,6 +193,10 @@ spares [] = 0
 spares (a ∷ l) = spare a + spares l
 
 -- ---- places
+
+-- the place at another position
+abbrev pub moved : Place → ℕ → Place
+moved p at = record { at = at; top = p.top; nodes = p.nodes; limit = p.limit }
 
 -- from n on the areas hold nothing: clearing changes nothing
 abbrev pub Free : ℕ → Area → Type 0

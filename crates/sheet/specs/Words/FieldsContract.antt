@@ -1,16 +1,25 @@
--- The answers of the functions that are lent the numbers of a place, and where the numbers of a spot go. A code of 0 says that the field was read, and then
--- the numbers are its spot and the place after it; any other code is the refusal, and the numbers are of no use.
-use Rattle.std.specs.Prelude.{List, ℕ, zero, suc}
-use Rattle.solver.specs.Terms.StepCodes.{place}
-use Rattle.solver.specs.Terms.Result.{Result}
-use Rattle.sheet.specs.Fields.{Field}
-use Rattle.sheet.specs.Words.FieldLayout.{FieldRead, Spotted, Unread, ReadOnly}
+-- The answers of the functions that are lent a place, and what a number is: where there was something to read, the place is after it; else they give the refusal.
+use Rattle.std.specs.Prelude.{◌≡◌, List, ℕ, Ok, Err}
+use Rattle.std.specs.declared.result.Result as rust
+use Rattle.solver.specs.TermTypes.{Place, Refusal}
+use Rattle.solver.specs.Terms.Result.{Result, got, refused, number_of}
+use Rattle.solver.specs.Terms.Number.{number}
+use Rattle.solver.specs.Terms.Shape as shape
+use Rattle.solver.specs.Terms.Shape.{ceiling}
+use Rattle.sheet.specs.declared.FieldSpot.{FieldSpot}
+use Rattle.sheet.specs.Words.FieldLayout.{FieldRead, Spotted, Unread, moved}
 
-abbrev pub field_of : (code value start end at top nodes limit : ℕ) → FieldRead
-field_of zero value start end at top nodes limit = Spotted (record { value = value; place = start; end = end }) (place at top nodes limit)
-field_of (suc c) value start end at top nodes limit = Unread (suc c)
+-- the spot of a field, with the place after it
+abbrev pub field_of : rust.Result FieldSpot Refusal → Place → FieldRead
+field_of (Ok x) p = Spotted x p
+field_of (Err e) p = Unread (number_of e)
 
--- a field without tokens, which is lent the position alone: whatever the other numbers are
-abbrev pub ReadAt : (s : List ℕ) (found : Result Field) (at code value start next : ℕ) → Type 0
-ReadAt s found at code value start next =
-    (end top nodes limit : ℕ) → ReadOnly s found (place at top nodes limit) (field_of code value start end next top nodes limit)
+-- a value, with the position after it
+abbrev pub value_at : rust.Result ℕ Refusal → ℕ → Result ℕ
+value_at (Ok v) at = got v at
+value_at (Err e) at = refused (number_of e)
+
+-- a number of 32 bits was read at the place p, or refused, and the place is q
+pub record NumberRead (s : List ℕ) (p : Place) (r : rust.Result ℕ Refusal) (q : Place) : Type 0 where
+  pub is : value_at r q.at ≡ number (ceiling shape.ordinary) s p.at
+  pub place : q ≡ moved p q.at

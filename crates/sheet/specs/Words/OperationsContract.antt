@@ -1,12 +1,11 @@
 -- What the functions that answer orders 9 to 20 ask and promise.
 use Rattle.std.specs.Prelude.{◌≡◌, false, List, [], ◌∷◌, ◌⊎◌, ℕ, ◌≤◌, length}
 use Rattle.std.proofs.Math.Option.{some}
-use Rattle.solver.specs.TermTypes.{Binders}
+use Rattle.solver.specs.TermTypes.{Binders, Parameter}
 use Rattle.solver.specs.Terms.Term.{Term, Parts, node, Held}
 use Rattle.solver.specs.Terms.Held.{HeldParts}
 use Rattle.solver.specs.Terms.Shape as shape
 use Rattle.solver.specs.Terms.Formed.{Formed, Fit}
-use Rattle.solver.specs.Terms.Questions.{Parameter}
 use Rattle.solver.specs.Terms.Substitution.{Entry, Receiver}
 use Rattle.solver.specs.Terms.Rows.{argument_row}
 use Rattle.solver.specs.Terms.RewriteContract.{HeldBinders}

@@ -1,7 +1,7 @@
 -- An order that was read: its fields are of the sorts that its kind asks, their terms are formed, and all of them are held.
 use Rattle.std.specs.Prelude.{◌≡◌, List, [], ◌∷◌, ℕ, ◌<◌}
+use Rattle.solver.specs.TermTypes.{Parameter}
 use Rattle.solver.specs.Terms.Term.{Term, Parts}
-use Rattle.solver.specs.Terms.Questions.{Parameter}
 use Rattle.solver.specs.Terms.Substitution.{Entry, Receiver}
 use Rattle.solver.specs.Terms.Lookup.{Pattern}
 use Rattle.sheet.specs.declared.Order.{Order}

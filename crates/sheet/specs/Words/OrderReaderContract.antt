@@ -1,11 +1,11 @@
 -- An order read into the areas: what reading it needs, and what it leaves.
-use Rattle.std.specs.Prelude.{List, ◌⊎◌, ◌≡◌, ℕ, ◌+◌, ◌-◌, ◌*◌, ◌^◌, ◌≤◌, ◌<◌, length, get_or}
+use Rattle.std.specs.Prelude.{Ok, Err, List, ◌⊎◌, ◌≡◌, ℕ, ◌+◌, ◌-◌, ◌*◌, ◌^◌, ◌≤◌, ◌<◌, length, get_or}
+use Rattle.std.specs.declared.result.Result as rust
 use Rattle.std.proofs.Math.Option.{some}
-use Rattle.solver.specs.Terms.Result.{got, refused}
+use Rattle.solver.specs.TermTypes.{Refusal}
+use Rattle.solver.specs.Terms.Result.{got, refused, number_of}
 use Rattle.solver.specs.Terms.Tokens.{Area, area, puts, blank, before, toks}
 use Rattle.sheet.specs.declared.Order.{Order}
-use Rattle.sheet.specs.declared.Reading.{Reading}
-use Rattle.sheet.specs.declared.Reading.TheVariants.{Whole, Refused}
 use Rattle.sheet.specs.Fields.{fields, all_nodes}
 use Rattle.sheet.specs.OrderTable.{Read, row_in, layout, known}
 use Rattle.sheet.specs.Sheet.{table, read_order}
@@ -57,6 +57,6 @@ pub record WholeOrder (s : List ℕ) (issued top kept limit : ℕ) (d e : Area) 
   pub free : Free o.top e
   pub cleared : blank e top (o.top - top) ≡ d
 
-abbrev pub OrderDone : (s : List ℕ) (issued top kept limit : ℕ) (d e : Area) (ws : List ℕ) → Reading → Type 0
-OrderDone s issued top kept limit d e ws (Whole o) = WholeOrder s issued top kept limit d e ws o
-OrderDone s issued top kept limit d e ws (Refused c) = (read_order s issued ≡ refused c) × (e ≡ d)
+abbrev pub OrderDone : (s : List ℕ) (issued top kept limit : ℕ) (d e : Area) (ws : List ℕ) → rust.Result Order Refusal → Type 0
+OrderDone s issued top kept limit d e ws (Ok o) = WholeOrder s issued top kept limit d e ws o
+OrderDone s issued top kept limit d e ws (Err r) = (read_order s issued ≡ refused (number_of r)) × (e ≡ d)

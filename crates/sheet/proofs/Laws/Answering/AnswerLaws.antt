@@ -9,7 +9,7 @@ use native.Mathlib.Numerals.{add-one}
 use borrow.Author.Tests.{lt-ltb, le-ltb, eq-eqb, ne_eqb, eqb-false}
 use lib.ListN.{length, length-append, set}
 use lib.Seq.{sets}
-use Rattle.solver.specs.TermTypes.{Binders}
+use Rattle.solver.specs.TermTypes.{Binders, Parameter}
 use Rattle.solver.specs.Terms.Result.{got}
 use Rattle.solver.specs.Terms.Parameters.{parameters}
 use Rattle.solver.proofs.Terms.HeldLaws.{items_some}
@@ -17,7 +17,7 @@ use Rattle.solver.specs.Terms.Term.{Term, bytes, Held}
 use Rattle.solver.specs.Terms.TermsAtPlaces.{FormedAt}
 use Rattle.solver.specs.Terms.Tokens.{area, blank}
 use Rattle.solver.specs.Terms.VirtualTokens.{Sight}
-use Rattle.solver.specs.Terms.Questions.{Parameter, asked, answered}
+use Rattle.solver.specs.Terms.Questions.{asked, answered}
 use Rattle.solver.specs.Terms.Substitution.{Entry, Receiver, apply, instantiate, extend, zipped}
 use Rattle.solver.specs.Terms.RewriteContract.{Rewrites, Writes}
 use Rattle.solver.specs.Terms.Normal.{Out, levels, most}
@@ -26,7 +26,6 @@ use Rattle.solver.proofs.Terms.NormalLaws.{refused_number, few_number, long_numb
 use Rattle.solver.specs.declared.Ready.{Ready}
 use Rattle.solver.specs.declared.Normalised.{Normalised}
 use Rattle.solver.specs.declared.Normalised.TheVariants.{Refused, Long, Done}
-use Rattle.solver.specs.Words.HandingContract.{ready_of, normalised_of}
 use Rattle.sheet.specs.OrderTable.{Answer, refusal, outcome}
 use Rattle.sheet.specs.Operations.{bit, bits, seven, perhaps, settled}
 use Rattle.sheet.specs.Words.FramingContract.{Framed, opening, Begun}
@@ -151,24 +150,24 @@ value_long v out to h =
 
 -- document 01's number of an answer
 abbrev said_by : Normalised → ℕ
-said_by r = number_of (normalised_of r)
+said_by r = number_of r
 
 -- the areas
 module _ (ks vs hs cs hs₁ cs₁ : List ℕ) (r : Normalised) where
-  leaves_same : (said_by r ≡ 0 → ⊥) → Leaves ks vs hs cs hs₁ cs₁ most (normalised_of r) → area hs₁ cs₁ ≡ area hs cs
+  leaves_same : (said_by r ≡ 0 → ⊥) → Leaves ks vs hs cs hs₁ cs₁ most r → area hs₁ cs₁ ≡ area hs cs
   leaves_same n x = let y = x.same n in rw (y.0, y.1)
 
-  pub leaves_refused : r ≡ Refused → Leaves ks vs hs cs hs₁ cs₁ most (normalised_of r) → area hs₁ cs₁ ≡ area hs cs
+  pub leaves_refused : r ≡ Refused → Leaves ks vs hs cs hs₁ cs₁ most r → area hs₁ cs₁ ≡ area hs cs
   leaves_refused e = leaves_same (λ z. eqb-false 9 0 refl (sym (ap said_by e) ∙ z))
 
-  pub leaves_long : r ≡ Long → Leaves ks vs hs cs hs₁ cs₁ most (normalised_of r) → area hs₁ cs₁ ≡ area hs cs
+  pub leaves_long : r ≡ Long → Leaves ks vs hs cs hs₁ cs₁ most r → area hs₁ cs₁ ≡ area hs cs
   leaves_long e = leaves_same (λ z. eqb-false 11 0 refl (sym (ap said_by e) ∙ z))
 
-  pub leaves_done : (w : Ready) → r ≡ Done w → Leaves ks vs hs cs hs₁ cs₁ most (normalised_of r) → (w.next ≤ most) × (blank (area hs₁ cs₁) 0 w.next ≡ area hs cs) × Sight ks vs (ready_of w).given
+  pub leaves_done : (w : Ready) → r ≡ Done w → Leaves ks vs hs cs hs₁ cs₁ most r → (w.next ≤ most) × (blank (area hs₁ cs₁) 0 w.next ≡ area hs cs) × Sight ks vs w.given
   leaves_done w e x = rw e at x.records
 
 -- the answers
-module _ (ks vs hs cs out₀ : List ℕ) (to : ℕ) (r : Normalised) (o : Out) (x : Answers ks vs hs cs out₀ to levels most o (normalised_of r)) where
+module _ (ks vs hs cs out₀ : List ℕ) (to : ℕ) (r : Normalised) (o : Out) (x : Answers ks vs hs cs out₀ to levels most o r) where
   number_is : (n : ℕ) → said_by r ≡ n → n ≡ number_for most (length out₀) to o
   number_is n e = sym e ∙ x.number
 
@@ -183,12 +182,12 @@ module _ (ks vs hs cs out₀ : List ℕ) (to : ℕ) (r : Normalised) (o : Out) (
       let l = long_number most (length out₀) to o (number_is 11 (ap said_by e)) in
       frame_as (outcome (bytes o.term)) (settled o) (settled_term o (few_as 11 (ap said_by e) (eqb-false 9 11 refl))) out₀ to out₀ (length out₀ + 1) (value_long (bytes o.term) out₀ to l)
 
-  pub answers_done : (w : Ready) → r ≡ Done w → (o.count ≤ most) × (w.size ≡ length (bytes o.term)) × Stands ks vs hs cs (ready_of w) levels o.term
+  pub answers_done : (w : Ready) → r ≡ Done w → (o.count ≤ most) × (w.size ≡ length (bytes o.term)) × Stands ks vs hs cs w levels o.term
   answers_done w e =
-      let y : (w.size ≡ length (bytes o.term)) × Stands ks vs hs cs (ready_of w) levels o.term = rw e at x.values in
+      let y : (w.size ≡ length (bytes o.term)) × Stands ks vs hs cs w levels o.term = rw e at x.values in
       (few_as 0 (ap said_by e) (eqb-false 9 0 refl), y.0, y.1)
 
 -- what is looked for is found in the same output
-pub answers_from : (ks vs hs cs out₀ out₁ : List ℕ) (to : ℕ) (o : Out) (r : Normalised) → out₁ ≡ out₀ → Answers ks vs hs cs out₀ to levels most o (normalised_of r)
-    → Answers ks vs hs cs out₁ to levels most o (normalised_of r)
+pub answers_from : (ks vs hs cs out₀ out₁ : List ℕ) (to : ℕ) (o : Out) (r : Normalised) → out₁ ≡ out₀ → Answers ks vs hs cs out₀ to levels most o r
+    → Answers ks vs hs cs out₁ to levels most o r
 answers_from ks vs hs cs out₀ out₁ to o r e x = rw (sym e) at x

@@ -5,7 +5,7 @@ use mathlib.Core.Option.{some}
 use Prim.Native.Nat.{ℕ, ◌*◌, ◌≤◌}
 use native.Mathlib.Omega.{arith}
 use lib.ListN.{length, take}
-use Rattle.solver.specs.TermTypes.{Binders}
+use Rattle.solver.specs.TermTypes.{Binders, Parameter}
 use Rattle.solver.specs.Terms.Result.{got}
 use Rattle.solver.specs.Terms.Tokens.{spell}
 use Rattle.solver.specs.Terms.Term.{Term, Parts, node, end, part_items, Held, bytes}
@@ -13,7 +13,7 @@ use Rattle.solver.specs.Terms.Held.{HeldParts}
 use Rattle.solver.specs.Terms.Shape as shape
 use Rattle.solver.specs.Terms.Formed.{Formed, Fit, Each}
 use Rattle.solver.specs.Terms.Tree.{nominal_of}
-use Rattle.solver.specs.Terms.Questions.{Parameter, is_resolved_in}
+use Rattle.solver.specs.Terms.Questions.{is_resolved_in}
 use Rattle.solver.specs.Terms.Comparison.{conflicts_with, can_weaken_to, satisfies, satisfies_for}
 use Rattle.solver.specs.Terms.Recovery.{recover_from}
 use Rattle.solver.specs.Terms.Parameters.{parameters}

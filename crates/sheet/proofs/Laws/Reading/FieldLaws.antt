@@ -8,6 +8,7 @@ use native.Mathlib.Omega.{arith}
 use borrow.Author.Tests.{ltb-true}
 use lib.Dec.{ltb}
 use lib.ListN.{length, length-append, length-drop, drop, get_or}
+use Rattle.solver.specs.TermTypes.{Parameter}
 use Rattle.solver.specs.Terms.Number.{digits, shortest}
 use Rattle.solver.specs.Terms.Parser.{Result, Parser, got, refused, bind, pick, return, refuse, byte, number}
 use Rattle.solver.specs.Terms.Term.{Term, Parts, var, node, end, num, sub, items, part_items, size, sizes, bytes, part_bytes}
@@ -16,7 +17,6 @@ use Rattle.solver.specs.Terms.Shape.{ceiling}
 use Rattle.solver.specs.Terms.Formed.{Fit, TakesTerm}
 use Rattle.solver.specs.Terms.Reading as reading
 use Rattle.solver.specs.Terms.Tree.{row}
-use Rattle.solver.specs.Terms.Questions.{Parameter}
 use Rattle.solver.specs.Terms.Substitution.{Entry, Receiver}
 use Rattle.solver.specs.Terms.Rows.{entries, receivers, arguments, entry_row, receiver_row, argument_row}
 use Rattle.solver.specs.Terms.Parameters.{parameter, parameters}

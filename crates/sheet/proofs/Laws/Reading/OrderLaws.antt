@@ -1,5 +1,5 @@
 -- An order: its kind, its fields and nothing after them; and what its reading leaves.
-use mathlib.Core.Path.{◌≡◌, refl, sym, ap, ap₂, ◌∙◌}
+use mathlib.Core.Path.{◌≡◌, refl, sym, ap, ap₂, subst, ◌∙◌}
 use mathlib.Core.List.{List, [], ◌∷◌}
 use mathlib.Core.Logic.{⊎_elim}
 use mathlib.Core.Option.{Option, none, some}
@@ -8,7 +8,8 @@ use native.Mathlib.Decide.{dec_lt, ℕ_discrete}
 use native.Mathlib.Omega.{arith}
 use borrow.Author.Tests.{lt-ltb, le-ltb, ne_eqb}
 use lib.ListN.{length, get_or, drop}
-use Rattle.solver.specs.TermTypes.{Place}
+use Rattle.std.specs.Prelude.{Ok}
+use Rattle.solver.specs.TermTypes.{Place, Next, Stopped}
 use Rattle.solver.specs.Terms.Parser.{Result, got, refused, bind, number}
 use Rattle.solver.specs.Terms.Shape as shape
 use Rattle.solver.specs.Terms.Shape.{ceiling}
@@ -19,6 +20,7 @@ use Rattle.solver.proofs.Terms.KeepTermLaws.{stored_at}
 use Rattle.solver.proofs.Terms.NumberBoundLaws.{number_bounds}
 use Rattle.solver.proofs.Terms.NumberStepLaws.{one_group, at_byte, at-end}
 use Rattle.solver.proofs.Terms.Shortest.{Octets}
+use Rattle.sheet.specs.declared.FieldSpot.{FieldSpot}
 use Rattle.sheet.specs.declared.Order.{Order}
 use Rattle.sheet.specs.declared.OrderRow.TheVariants.{Unlisted}
 use Rattle.sheet.specs.declared.Class.{Class}
@@ -26,13 +28,11 @@ use Rattle.sheet.specs.Fields as fields
 use Rattle.sheet.specs.Fields.{Field, FieldSort, ruled, nodes, all_nodes, last, nth}
 use Rattle.sheet.specs.OrderTable.{Row, row_in, layout, known, kinded_order, read_by}
 use Rattle.sheet.specs.Sheet.{table, read_order}
-use Rattle.sheet.specs.Words.FieldLayout.{row_words, RowIs, layout_in, sorts_at, known_for, sort_of, plain_of, Plain, Plains, field_items, all_items, Free, Ample, no_fields, Spots, finished_order, FieldDone, RulesDone}
-use Rattle.solver.specs.Terms.StepCodes.{step_of}
-use Rattle.sheet.specs.Words.FieldsContract.{field_of}
+use Rattle.sheet.specs.Words.FieldLayout.{row_words, RowIs, layout_in, sorts_at, known_for, sort_of, plain_of, Plain, Plains, field_items, all_items, Free, Ample, no_fields, Spots, finished_order, FieldDone, RulesDone, Spotted, Unread}
+use Rattle.sheet.specs.Words.FieldsContract.{NumberRead}
 use Rattle.sheet.specs.Words.OrderReaderContract.{OrderRoom, WholeOrder}
 use Rattle.sheet.proofs.Laws.Reading.StoredLaws.{stored_kinds, stored_before, stored_undo}
 use Rattle.sheet.proofs.Laws.Reading.FieldLaws.{parts_of, same_value, rules_found, fields_found}
-use Rattle.sheet.proofs.Laws.Reading.PartLaws.{moved}
 use Rattle.sheet.proofs.Laws.Reading.OrderTableLaws.{row_of, known_class, layout_short, layout_leading, layout_plain, layout_ruled, spares_few}
 use Rattle.sheet.proofs.Laws.Reading.SpotLaws.{RulesFit, plain_fit, rules_room, fields_followed, spots_held, spot_kept}
 use Rattle.sheet.proofs.Laws.Reading.FitLaws.{fields_fit}
@@ -52,17 +52,22 @@ module _ (s us : List ℕ) (issued : ℕ) (p : Place) (d e : Area) where
   unfolding fields.field
   rules_refused c h = rw (← h)
 
-  pub rules_field : (n m : ℕ) → got n m ≡ number s (ceiling shape.ordinary) p.at → (c a b at top nodes limit : ℕ) → RulesDone (fields.rule_list s issued n m) s (moved p m) d e n us (step_of c at top nodes limit)
-      → FieldDone s us (fields.field s issued fields.rules p.at) p d e (field_of c n a b at top nodes limit)
-  unfolding fields.field field_items nodes
-  rules_field n m h zero a b at top nodes limit (rs, found, y, inside, count, words) = (
-    ruled rs,
-    rw (← h) (ap (λ (x : Result (List _)). bind x (λ rs j. got (ruled rs) j)) found),
-    record { whole = y.whole; only = y.only; free = y.free; limit = y.limit; tokens = y.tokens; counts = y.counts },
-    inside,
-    (sym count, λ k. words (omega arith)),
-  )
-  rules_field n m h (suc c) a b at top nodes limit x = (rw (← h) (ap (λ (x : Result (List _)). bind x (λ rs j. got (ruled rs) j)) x.0), x.1)
+  module _ (q : Place) (n : ℕ) (x : NumberRead s p (Ok n) q) where
+    pub rules_field : (w : Place) (spot : FieldSpot) → spot.value ≡ n → RulesDone (fields.rule_list s issued n q.at) s q d e n us (Next w)
+        → FieldDone s us (fields.field s issued fields.rules p.at) p d e (Spotted spot w)
+    unfolding fields.field field_items nodes
+    rules_field w spot v done =
+        let (rs, found, y, inside, count, words) = subst (λ (z : Place). RulesDone (fields.rule_list s issued n q.at) s z d e n us (Next w)) x.place done in (
+          ruled rs,
+          rw (← x.is) (ap (λ (x : Result (List _)). bind x (λ rs j. got (ruled rs) j)) found),
+          record { whole = y.whole; only = y.only; free = y.free; limit = y.limit; tokens = y.tokens; counts = y.counts },
+          inside,
+          (v ∙ sym count, λ k. words (omega (arith, count, k))),
+        )
+
+    pub rules_none : (c : ℕ) → RulesDone (fields.rule_list s issued n q.at) s q d e n us (Stopped c) → FieldDone s us (fields.field s issued fields.rules p.at) p d e (Unread c)
+    unfolding fields.field
+    rules_none c done = (rw (← x.is) (ap (λ (x : Result (List _)). bind x (λ rs j. got (ruled rs) j)) done.0), done.1)
 
 -- a number whose first byte is below 128 is that byte
 number_one : (s : List ℕ) (at v m : ℕ) → number s (ceiling shape.ordinary) at ≡ got v m → get_or s at 0 < 128 → v ≡ get_or s at 0

@@ -1,5 +1,5 @@
 -- One field: what is read and kept of it, and its spot.
-use mathlib.Core.Path.{◌≡◌, refl, sym, ap, ◌∙◌}
+use mathlib.Core.Path.{◌≡◌, refl, sym, ap, subst, ◌∙◌}
 use mathlib.Core.List.{List}
 use mathlib.Core.Bool.{Bool, true, false}
 use mathlib.Core.Logic.{◌⊎◌, inl, inr}
@@ -9,7 +9,11 @@ use native.Mathlib.Omega.{arith}
 use borrow.Author.Tests.{ne_eqb, lt-ltb, le-ltb}
 use lib.Dec.{eqb}
 use lib.ListN.{length, get_or}
-use Rattle.solver.specs.TermTypes.{Place, Step, Next, Stopped}
+use Rattle.std.specs.Prelude.{⊤, Ok, Err}
+use Rattle.std.specs.declared.result.Result as rust
+use Rattle.solver.specs.TermTypes.{Place, Refusal, Step, Parameter, Entries, Arguments, Receivers}
+use Rattle.solver.specs.Terms.Outcomes.{step_of}
+use Rattle.solver.specs.Terms.ListsContract.{ListKept}
 use Rattle.solver.specs.Terms.Parser.{Result, Parser, got, refused, bind, pick, ◌>>=◌, return, number}
 use Rattle.solver.specs.Terms.Tokens.{Area}
 use Rattle.solver.specs.Terms.Term.{Term, Parts, node, items, part_items, size, sizes}
@@ -17,29 +21,21 @@ use Rattle.solver.specs.Terms.Tree.{row}
 use Rattle.solver.specs.Terms.Shape as shape
 use Rattle.solver.specs.Terms.Shape.{ceiling}
 use Rattle.solver.specs.Terms.Reading as reading
-use Rattle.solver.specs.Terms.StepCodes.{place, step_of}
 use Rattle.solver.specs.Terms.ReadContract.{Room, RoomAfter, answer, kept, contents}
 use Rattle.solver.specs.Terms.ReaderContract.{part, nodes_of}
-use Rattle.solver.specs.Terms.Questions.{Parameter}
 use Rattle.solver.specs.Terms.Substitution.{Entry, Receiver}
 use Rattle.solver.specs.Terms.Parameters.{parameters, past}
 use Rattle.solver.specs.Terms.Rows as rows
 use Rattle.solver.specs.Terms.Rows.{entry_row, receiver_row, argument_row, answer_of, kept_of}
 use Rattle.solver.proofs.Terms.NumberBoundLaws.{number_bounds}
 use Rattle.solver.proofs.Terms.FieldLaws.{code_end, code_listed, code_unlisted}
-use Rattle.solver.specs.Words.HandingContract.{NumberSaid, PassedSaid, StepSaid, PartRead, ListRead}
 use Rattle.sheet.specs.declared.FieldSpot.{FieldSpot}
 use Rattle.sheet.specs.Fields as fields
 use Rattle.sheet.specs.Fields.{Field, value, bounded, tree, bare, entered, received, named, listed, levels, nodes}
-use Rattle.sheet.specs.Words.FieldLayout.{plain_of, part_of, keys_of, field_items, Free, Ample, PartDone, FieldDone, ReadOnly, value_field, list_field, FieldRead, Spotted, Unread}
-use Rattle.sheet.specs.Words.FieldsContract.{field_of, ReadAt}
+use Rattle.sheet.specs.Words.FieldLayout.{plain_of, part_of, listing_of, moved, field_items, Free, Ample, PartDone, FieldDone, ReadOnly, value_field, list_field, FieldRead, Spotted, Unread}
+use Rattle.sheet.specs.Words.FieldsContract.{NumberRead}
 use Rattle.sheet.proofs.Laws.Reading.StoredLaws.{stored_none, stored_kept}
-use Rattle.sheet.proofs.Laws.Reading.CodeLaws.{Coded, not-zero, number_coded, value_coded, bounded_coded, named_coded, parameters_coded, part_coded}
 use Rattle.sheet.proofs.Laws.Reading.FieldLaws.{parts_of, same_value, parameters_found}
-
--- the place with another position
-abbrev pub moved : Place → ℕ → Place
-moved p at = record { at = at; top = p.top; nodes = p.nodes; limit = p.limit }
 
 pub room_of : (s : List ℕ) (p : Place) → Ample s p → Room s p
 room_of s p a = record { inside = a.inside; tokens = omega (arith, a.tokens); counts = omega (arith, a.counts) }
@@ -100,7 +96,7 @@ module _ (s ws : List ℕ) (issued : ℕ) (p : Place) (d e : Area) (f : Free p.t
       go (refused c) er ee = rw er (refl, ee ∙ f _)
 
   -- a term or a nominal, told by the flag
-  either_part : (k : ℕ) → 3 < k → k < 6 → r ≡ answer p (part (eqb k 5) s issued levels p.at) (nodes_of (eqb k 5)) → e ≡ kept s p (part (eqb k 5) s issued levels p.at) (nodes_of (eqb k 5)) d
+  pub either_part : (k : ℕ) → 3 < k → k < 6 → r ≡ answer p (part (eqb k 5) s issued levels p.at) (nodes_of (eqb k 5)) → e ≡ kept s p (part (eqb k 5) s issued levels p.at) (nodes_of (eqb k 5)) d
       → PartDone s ws n (part_of s issued k n p.at) p d e r
   unfolding part_of
   either_part k a b er ee = go (dec_lt k 5)
@@ -157,80 +153,22 @@ part_else : (s : List ℕ) (issued k n : ℕ) → (k < 4) ⊎ (6 ≤ k) → (k �
 unfolding part_of
 part_else s issued k n h c d at = rw (ne_eqb k 4 (outside k 4 6 h 4 (omega arith) (omega arith)), ne_eqb k 5 (outside k 4 6 h 5 (omega arith) (omega arith)), ne_eqb k 6 c, ne_eqb k 9 d)
 
--- ---- a spot for them, as the code answers
-
--- a refusal's code
-pub unread : (s ws : List ℕ) (found : Result Field) (p : Place) (d e : Area) → Coded found → (c v a m at top nodes limit : ℕ)
-    → FieldDone s ws found p d e (Unread c) → FieldDone s ws found p d e (field_of c v a m at top nodes limit)
-unread s ws found p d e k zero v a m at top nodes limit x = absurd (omega (arith, not-zero found 0 k x.0))
-unread s ws found p d e k (suc c) v a m at top nodes limit x = x
-
-pub unread_at : (s : List ℕ) (found : Result Field) (at : ℕ) → Coded found → (c v a next : ℕ) → ((top nodes limit : ℕ) → ReadOnly s found (place at top nodes limit) (Unread c)) → ReadAt s found at c v a next
-unread_at s found at k c v a next h m top nodes limit ws d f = unread s ws found (place at top nodes limit) d d k c v a m next top nodes limit (h top nodes limit ws d f)
-
--- a code that is not 0 is a refusal
-pub unreads : (c v a m at top nodes limit : ℕ) → (c ≡ 0 → ⊥) → field_of c v a m at top nodes limit ≡ Unread c
-unreads zero v a m at top nodes limit h = absurd (h refl)
-unreads (suc c) v a m at top nodes limit h = refl
-
--- a term or a nominal, or a list whose count is known: the step in numbers, and its spot
-module _ (s ws : List ℕ) (n : ℕ) (found : Result Field) (p : Place) (d e : Area) (code at top nodes : ℕ) where
-  pub part_step : (x : Step) → Coded found → StepSaid x p.at p.top p.nodes code at top nodes → PartDone s ws n found p d e x
-      → PartDone s ws n found p d e (step_of code at top nodes p.limit)
-  part_step (Next q) k (e0, e1, e2, e3) (f, is, y, inside, laid) =
-      rw (e0, e1, e2, e3) (f, is, record { whole = y.whole; only = y.only; free = y.free; limit = refl; tokens = y.tokens; counts = y.counts }, inside, laid)
-  part_step (Stopped c) k (e0, e1, e2, e3) x = go code (rw (← e0) at x)
+-- a list, told by its sort
+module _ (s ws : List ℕ) (issued : ℕ) (p : Place) (d e : Area) (f : Free p.top d) (n : ℕ) (r : Step) (room : RoomAfter s r) where
+  pub list_part : (k : ℕ) → (k < 4) ⊎ (6 ≤ k) → ListKept (listing_of k) s issued levels n p d e r → PartDone s ws n (part_of s issued k n p.at) p d e r
+  list_part k h x = go (ℕ_discrete k 6) (ℕ_discrete k 9)
     where
-      go : (b : ℕ) → (found ≡ refused b) × (e ≡ d) → PartDone s ws n found p d e (step_of b at top nodes p.limit)
-      go zero x = absurd (omega (arith, not-zero found 0 k x.0))
-      go (suc b) x = x
+      go : Dec (k ≡ 6) → Dec (k ≡ 9) → PartDone s ws n (part_of s issued k n p.at) p d e r
+      go (yes a) b = let y : ListKept Entries s issued levels n p d e r = rw a at x in rw a (entries_part s ws issued p d e f n r room y.says y.areas)
+      go (no a) (yes b) = let y : ListKept Arguments s issued levels n p d e r = rw b at x in rw b (arguments_part s ws issued p d e f n r room y.says y.areas)
+      go (no a) (no b) =
+          let y : ListKept Receivers s issued levels n p d e r = rw (ne_eqb k 6 a, ne_eqb k 9 b) at x in
+          rw (part_else s issued k n h a b p.at) (receivers_part s ws issued p d e f n r room y.says y.areas)
 
-  pub part_field : code ≡ 0 → PartDone s ws n found p d e (step_of code at top nodes p.limit) → FieldDone s ws found p d e (field_of 0 n p.top top at top nodes p.limit)
-  part_field z x = rw z at x
-
-  pub part_none : (code ≡ 0 → ⊥) → PartDone s ws n found p d e (step_of code at top nodes p.limit)
-      → (v a m : ℕ) → FieldDone s ws found p d e (field_of code v a m at top nodes p.limit)
-  part_none z x v a m = go code z x
-    where
-      go : (c : ℕ) → (c ≡ 0 → ⊥) → PartDone s ws n found p d e (step_of c at top nodes p.limit) → FieldDone s ws found p d e (field_of c v a m at top nodes p.limit)
-      go zero z x = absurd (z refl)
-      go (suc c) z x = x
-
--- what the readers say
-module _ (s ws : List ℕ) (issued : ℕ) (p : Place) (d e : Area) (f : Free p.top d) (n code at top nodes : ℕ) where
-  abbrev Told : ℕ → Type 0
-  Told k = PartDone s ws n (part_of s issued k n p.at) p d e (step_of code at top nodes p.limit)
-
-  told : (k : ℕ) (x : Step) → StepSaid x p.at p.top p.nodes code at top nodes → PartDone s ws n (part_of s issued k n p.at) p d e x → Told k
-  told k x = part_step s ws n (part_of s issued k n p.at) p d e code at top nodes x (part_coded s issued k n p.at)
-
-  pub either_told : (k : ℕ) → 3 < k → k < 6 → PartRead (eqb k 5) s issued levels p d e code at top nodes → Told k
-  either_told k a b x =
-      let r = answer p (part (eqb k 5) s issued levels p.at) (nodes_of (eqb k 5)) in
-      told k r x.says (either_part s ws issued p d e f n r x.room k a b refl x.areas)
-
-  entries_told : ListRead 2 s issued levels n p d e code at top nodes → Told 6
-  entries_told x =
-      let r = answer_of entry_row p (rows.entries s (reading.term s issued levels) n p.at) in
-      told 6 r x.says (entries_part s ws issued p d e f n r x.room refl x.areas)
-
-  arguments_told : ListRead 0 s issued levels n p d e code at top nodes → Told 9
-  arguments_told x =
-      let r = answer_of argument_row p (rows.arguments s (reading.term s issued levels) n p.at) in
-      told 9 r x.says (arguments_part s ws issued p d e f n r x.room refl x.areas)
-
-  receivers_told : (k : ℕ) → (k < 4) ⊎ (6 ≤ k) → (k ≡ 6 → ⊥) → (k ≡ 9 → ⊥) → ListRead 1 s issued levels n p d e code at top nodes → Told k
-  receivers_told k h a b x =
-      let r = answer_of receiver_row p (rows.receivers s (reading.term s issued levels) n p.at) in
-      told k r x.says (rw (part_else s issued k n h a b p.at) (receivers_part s ws issued p d e f n r x.room refl x.areas))
-
-  pub list_told : (k keys : ℕ) → (k < 4) ⊎ (6 ≤ k) → keys ≡ keys_of k → ListRead keys s issued levels n p d e code at top nodes → Told k
-  list_told k keys h z x = go (ℕ_discrete k 6) (ℕ_discrete k 9)
-    where
-      go : Dec (k ≡ 6) → Dec (k ≡ 9) → Told k
-      go (yes a) b = rw a (entries_told (rw (z, a) at x))
-      go (no a) (yes b) = rw b (arguments_told (rw (z, b) at x))
-      go (no a) (no b) = receivers_told k h a b (rw (z, ne_eqb k 6 a, ne_eqb k 9 b) at x)
+-- where something was read there is room after it
+pub room_after : (s : List ℕ) (r : rust.Result ⊤ Refusal) (p : Place) → Room s p → RoomAfter s (step_of r p)
+room_after s (Ok u) p h = h
+room_after s (Err e) p h = tt
 
 -- a list after its count
 pub list_field_lem : (s ws : List ℕ) (at : ℕ) (found whole : Result Field) (p : Place) (d e : Area) (r : FieldRead) → whole ≡ found → FieldDone s ws found (moved p at) d e r
@@ -322,103 +260,37 @@ module _ (s : List ℕ) (p : Place) (inside : p.at ≤ length s) where
             )
         go (refused b) w h = absurd (let z : ◌≡◌ {A = ℕ} 0 1 = cc in omega arith)
 
--- ---- numbers and parameters, as they are told
+-- ---- a number that was read, and the place after it
 
-suc_some : (c : ℕ) → suc c ≡ 0 → ⊥
-suc_some c e = omega (arith, e)
+-- the position moved twice
+pub moved_again : (p q : Place) → q ≡ moved p q.at → (n : ℕ) → moved q n ≡ moved p n
+moved_again p q e n = ap (λ (z : Place). moved z n) e
 
-module _ (x : Result ℕ) (at₀ v₀ code at v : ℕ) where
-  pub number_told : Coded x → NumberSaid x at₀ v₀ code at v → code ≡ 0 → got v at ≡ x
-  number_told k y z = go x k y
-    where
-      go : (x : Result ℕ) → Coded x → NumberSaid x at₀ v₀ code at v → got v at ≡ x
-      go (got w n) k (e0, e1, e2) = rw (e1, e2)
-      go (refused c) k (e0, e1, e2) = absurd (omega (arith, k, e0, z))
+pub moved_twice : (p q r : Place) (n : ℕ) → q ≡ moved (moved p n) q.at → r ≡ moved q r.at → r ≡ moved p r.at
+moved_twice p q r n e f = f ∙ ap (λ (z : Place). moved z r.at) e
 
-  pub number_refused : NumberSaid x at₀ v₀ code at v → (code ≡ 0 → ⊥) → refused code ≡ x
-  number_refused y z = go x y
-    where
-      go : (x : Result ℕ) → NumberSaid x at₀ v₀ code at v → refused code ≡ x
-      go (got w n) (e0, e1, e2) = absurd (z e0)
-      go (refused c) (e0, e1, e2) = ap refused e0
-
-module _ (n at₀ code at : ℕ) where
-  past_told : (x : Result (List Parameter)) → Coded x → PassedSaid x at₀ code at → code ≡ 0 → got n at ≡ past n x
-  past_told (got ps m) k (e0, e1) z = rw e1
-  past_told (refused c) k (e0, e1) z = absurd (omega (arith, k, e0, z))
-
-  past_refused : (x : Result (List Parameter)) → PassedSaid x at₀ code at → (code ≡ 0 → ⊥) → refused code ≡ past n x
-  past_refused (got ps m) (e0, e1) z = absurd (z e0)
-  past_refused (refused c) (e0, e1) z = ap refused e0
-
-pub value_said : (s : List ℕ) (most at₀ v₀ code at v : ℕ) → at₀ ≤ length s → NumberSaid (number s most at₀) at₀ v₀ code at v → (start : ℕ) → ReadAt s (value_field s most at₀) at₀ code v start at
-value_said s most at₀ v₀ zero at v inside x start end top nodes limit =
-    value_yes s (place at₀ top nodes limit) inside most v at (record { value = v; place = start; end = end }) (number_told (number s most at₀) at₀ v₀ 0 at v (number_coded s most at₀) x refl) refl
-value_said s most at₀ v₀ (suc c) at v inside x start end top nodes limit =
-    unread_at s (value_field s most at₀) at₀ (value_coded s most at₀) (suc c) v start at
-    (λ top nodes limit. value_no s (place at₀ top nodes limit) inside most (suc c) (number_refused (number s most at₀) at₀ v₀ (suc c) at v x (suc_some c))) end top nodes limit
-
--- a count that was read, and then what `skip_parameters` says
-pub parameters_said : (s : List ℕ) (at₀ n m code at : ℕ) → at₀ ≤ length s → got n m ≡ number s (ceiling shape.ordinary) at₀ → PassedSaid (parameters s n m) m code at
-    → ReadAt s (fields.field s 0 fields.parameters at₀) at₀ code n m at
-parameters_said s at₀ n m zero at inside e x end top nodes limit =
-    parameters_yes s (place at₀ top nodes limit) inside n m e n at (record { value = n; place = m; end = end }) (past_told n m 0 at (parameters s n m) (parameters_coded s n m) x refl) refl refl
-parameters_said s at₀ n m (suc c) at inside e x end top nodes limit =
-    unread_at s (fields.field s 0 fields.parameters at₀) at₀ (named_coded s 0 at₀) (suc c) n m at
-    (λ top nodes limit. parameters_no s (place at₀ top nodes limit) inside n m e (suc c) (past_refused n m (suc c) at (parameters s n m) x (suc_some c))) end top nodes limit
-
-pub parameters_uncounted : (s : List ℕ) (at₀ v₀ code at v start : ℕ) → at₀ ≤ length s → NumberSaid (number s (ceiling shape.ordinary) at₀) at₀ v₀ code at v → (code ≡ 0 → ⊥)
-    → ReadAt s (fields.field s 0 fields.parameters at₀) at₀ code v start at
-parameters_uncounted s at₀ v₀ code at v start inside x z =
-    unread_at s (fields.field s 0 fields.parameters at₀) at₀ (named_coded s 0 at₀) code v start at
-    (λ top nodes limit. parameters_count s (place at₀ top nodes limit) inside code (number_refused (number s (ceiling shape.ordinary) at₀) at₀ v₀ code at v x z))
-
--- a bound: its sign, and then what `number_at` says twice
-module _ (s : List ℕ) (at₀ : ℕ) (inside : at₀ ≤ length s) where
-  pub bound_ended : length s ≤ at₀ → (v start next : ℕ) → ReadAt s (fields.field s 0 fields.bound at₀) at₀ 1 v start next
-  bound_ended h v start next end top nodes limit = bound_none s (place at₀ top nodes limit) inside h
-
-  module _ (h : at₀ < length s) (v₀ code at v : ℕ) (x : NumberSaid (number s (ceiling shape.ordinary) (at₀ + 1)) (at₀ + 1) v₀ code at v) where
-    pub bound_unread : (code ≡ 0 → ⊥) → (start : ℕ) → ReadAt s (fields.field s 0 fields.bound at₀) at₀ code v start at
-    bound_unread z start =
-        unread_at s (fields.field s 0 fields.bound at₀) at₀ (bounded_coded s 0 at₀) code v start at
-        (λ top nodes limit. bound_high s (place at₀ top nodes limit) inside h code (number_refused (number s (ceiling shape.ordinary) (at₀ + 1)) (at₀ + 1) v₀ code at v x z))
-
-    module _ (z : code ≡ 0) where
-      got_high : got v at ≡ number s (ceiling shape.ordinary) (at₀ + 1)
-      got_high = number_told (number s (ceiling shape.ordinary) (at₀ + 1)) (at₀ + 1) v₀ code at v (number_coded s (ceiling shape.ordinary) (at₀ + 1)) x z
-
-      pub bound_after : (v ≤ 4294967295) × (at ≤ length s)
-      bound_after = let b = number_bounds (ceiling shape.ordinary) s (at₀ + 1) v at (omega arith) (sym got_high) in (b.small, b.inside)
-
-      module _ (next-code next w : ℕ) (y : NumberSaid (number s (ceiling shape.ordinary) at) at v next-code next w) where
-        pub bound_unread_low : (next-code ≡ 0 → ⊥) → (start : ℕ) → ReadAt s (fields.field s 0 fields.bound at₀) at₀ next-code w start next
-        bound_unread_low n start =
-            unread_at s (fields.field s 0 fields.bound at₀) at₀ (bounded_coded s 0 at₀) next-code w start next
-            (λ top nodes limit. bound_low s (place at₀ top nodes limit) inside h v at got_high next-code (number_refused (number s (ceiling shape.ordinary) at) at v next-code next w y n))
-
-        got_low : next-code ≡ 0 → got w next ≡ number s (ceiling shape.ordinary) at
-        got_low n = number_told (number s (ceiling shape.ordinary) at) at v next-code next w (number_coded s (ceiling shape.ordinary) at) y n
-
-        pub bound_small : next-code ≡ 0 → w ≤ 4294967295
-        bound_small n = (number_bounds (ceiling shape.ordinary) s at w next bound_after.1 (sym (got_low n))).small
-
-        pub bound_said : next-code ≡ 0 → (size start : ℕ) → size ≡ v * 4294967296 + w → start ≡ get_or s at₀ 0 → ReadAt s (fields.field s 0 fields.bound at₀) at₀ 0 size start next
-        bound_said n size start ev ep end top nodes limit =
-            bound_yes s (place at₀ top nodes limit) inside h v at got_high w next (record { value = size; place = start; end = end }) (got_low n) ev ep
-
--- ---- lists after their counts
+pub read_moved : (s : List ℕ) (found : Result Field) (p : Place) (x : FieldSpot) (n : ℕ) (z : Place) → z ≡ moved p n → ReadOnly s found p (Spotted x (moved p n)) → ReadOnly s found p (Spotted x z)
+read_moved s found p x n z e h = subst (λ (w : Place). ReadOnly s found p (Spotted x w)) (sym e) h
 
 pub ample_moved : (s : List ℕ) (p : Place) (n at : ℕ) → Ample s p → got n at ≡ number s (ceiling shape.ordinary) p.at → Ample s (moved p at)
 ample_moved s p n at a e =
     let b = number_bounds (ceiling shape.ordinary) s p.at n at a.inside (sym e) in
     record { inside = b.inside; tokens = omega (arith, a.tokens, b.after); counts = omega (arith, a.counts, b.after) }
 
-pub list_counted : (s : List ℕ) (issued k at n m : ℕ) → got n m ≡ number s (ceiling shape.ordinary) at → list_field s issued k at ≡ part_of s issued k n m
-list_counted s issued k at n m e = rw (← e)
-
 pub list_refused : (s : List ℕ) (issued k at c : ℕ) → refused c ≡ number s (ceiling shape.ordinary) at → list_field s issued k at ≡ refused c
 list_refused s issued k at c e = rw (← e)
+
+module _ (s : List ℕ) (p q : Place) (v : ℕ) (x : NumberRead s p (Ok v) q) where
+  pub number_small : p.at ≤ length s → (v ≤ 4294967295) × (q.at ≤ length s)
+  number_small inside = let b = number_bounds (ceiling shape.ordinary) s p.at v q.at inside (sym x.is) in (b.small, b.inside)
+
+  pub ample_after : Ample s p → Ample s q
+  ample_after a = subst (Ample s) (sym x.place) (ample_moved s p v q.at a x.is)
+
+  pub list_after : (ws : List ℕ) (issued k : ℕ) (d e : Area) (r : FieldRead) → FieldDone s ws (part_of s issued k v q.at) q d e r → FieldDone s ws (list_field s issued k p.at) p d e r
+  list_after ws issued k d e r y =
+      list_field_lem s ws q.at (part_of s issued k v q.at) (list_field s issued k p.at) p d e r (rw (← x.is))
+      (subst (λ (z : Place). FieldDone s ws (part_of s issued k v q.at) z d e r) x.place y)
 
 -- ---- sorts by their numbers
 

@@ -8,10 +8,10 @@ read_order-r-requires c =
     let p = c.requires in
     rw c.standing-n.ensures (ready_room a.x a.half a.s.now a.a.now a.b.now a.c.now a.d.now a.rules.now p.held p.room.0 p.words.0)
 
-pub returns-in-Whole : goal.returns-in-Whole
-returns-in-Whole c =
+pub returns-in-Ok : goal.returns-in-Ok
+returns-in-Ok c =
     let a = c.args in
     let p = c.requires in
-    let W = rw (c.standing-n.ensures, c.in-Whole.is) at c.read_order-r.ensures in
+    let W = rw (c.standing-n.ensures, c.in-Ok.is) at c.read_order-r.ensures in
     let A = c.answer_order-w.ensures a.a.now a.b.now (record { ready = p.held; whole = W }) in
     A.serves _ _ (rw c.standing-m.ensures at c.clear_order.ensures)

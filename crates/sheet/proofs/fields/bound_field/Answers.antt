@@ -1,49 +1,34 @@
 -- `bound_field`: a byte, and then two numbers.
 use mathlib.Core.Path.{refl}
+use Prim.Native.Nat.{◌+◌}
 use native.Mathlib.Omega.{arith}
-use Rattle.sheet.proofs.Laws.Reading.PartLaws.{bound_ended, bound_unread, bound_after, bound_unread_low, bound_small, bound_said}
+use Rattle.solver.proofs.Terms.Options.{handed_on}
+use Rattle.sheet.proofs.Laws.Reading.PartLaws.{moved_twice, read_moved, bound_none, bound_high, bound_low, bound_yes, number_small}
 use Rattle.sheet.proofs.fields.bound_field.Goals as goal
 
 pub returns-then-s-i : goal.returns-then-s-i
-returns-then-s-i c =
-    let a = c.args in
-    bound_ended a.s.now a.at.now c.requires c.if-s-i.true a.value.now a.start.now a.at.now
+returns-then-s-i c = bound_none c.args.s.now c.args.place.now c.requires c.if-s-i.true
 
-pub returns-then-a-ne0 : goal.returns-then-a-ne0
-returns-then-a-ne0 c =
-    let a = c.args in
-    let n = c.number_at-a in
-    bound_unread a.s.now a.at.now c.requires c.if-s-i.false a.value.now n.result c.number_at-a.new.at c.number_at-a.new.value n.ensures c.if-a-ne0.true _
+pub returns-in_err-high : goal.returns-in_err-high
+returns-in_err-high c =
+    rw (handed_on _ _ c.from_residual.ensures.1) (bound_high c.args.s.now c.args.place.now c.requires c.if-s-i.false _ c.in_err-high.ensures.is)
 
-pub returns-then-b-ne0 : goal.returns-then-b-ne0
-returns-then-b-ne0 c =
-    let a = c.args in
-    let n = c.number_at-a in
-    let m = c.number_at-b in
-    bound_unread_low a.s.now a.at.now c.requires c.if-s-i.false a.value.now n.result c.number_at-a.new.at c.number_at-a.new.value n.ensures c.if-a-ne0.false
-    m.result c.number_at-b.new.at c.number_at-b.new.value m.ensures c.if-b-ne0.true _
+pub returns-in_err-low : goal.returns-in_err-low
+returns-in_err-low c =
+    rw (handed_on _ _ c.from_residual-in_err-low.ensures.1)
+    (bound_low c.args.s.now c.args.place.now c.requires c.if-s-i.false _ _ c.in_ok-high.ensures.is _ c.in_err-low.ensures.is)
 
-pub overflow_mul-value : goal.overflow_mul-value
-overflow_mul-value c =
-    let a = c.args in
-    let n = c.number_at-a in
-    let b = bound_after a.s.now a.at.now c.requires c.if-s-i.false a.value.now n.result c.number_at-a.new.at c.number_at-a.new.value n.ensures c.if-a-ne0.false in
-    omega (arith, b.0)
+pub overflow_mul-result : goal.overflow_mul-result
+overflow_mul-result c = omega (arith, (number_small _ _ _ _ c.in_ok-high.ensures (omega (arith, c.if-s-i.false))).0)
 
-pub overflow_add-value : goal.overflow_add-value
-overflow_add-value c =
-    let a = c.args in
-    let n = c.number_at-a in
-    let m = c.number_at-b in
-    let b = bound_after a.s.now a.at.now c.requires c.if-s-i.false a.value.now n.result c.number_at-a.new.at c.number_at-a.new.value n.ensures c.if-a-ne0.false in
-    let d = bound_small a.s.now a.at.now c.requires c.if-s-i.false a.value.now n.result c.number_at-a.new.at c.number_at-a.new.value n.ensures c.if-a-ne0.false
-    m.result c.number_at-b.new.at c.number_at-b.new.value m.ensures c.if-b-ne0.false in
-    omega (arith, b.0, d)
+pub overflow_add-result : goal.overflow_add-result
+overflow_add-result c =
+    let high = number_small _ _ _ _ c.in_ok-high.ensures (omega (arith, c.if-s-i.false)) in
+    let low = number_small _ _ _ _ c.in_ok-low.ensures high.1 in
+    omega (arith, high.0, low.0)
 
 pub returns : goal.returns
 returns c =
-    let a = c.args in
-    let n = c.number_at-a in
-    let m = c.number_at-b in
-    bound_said a.s.now a.at.now c.requires c.if-s-i.false a.value.now n.result c.number_at-a.new.at c.number_at-a.new.value n.ensures c.if-a-ne0.false
-    m.result c.number_at-b.new.at c.number_at-b.new.value m.ensures c.if-b-ne0.false _ _ refl refl
+    let x = c.in_ok-high.ensures in
+    let y = c.in_ok-low.ensures in
+    read_moved _ _ _ _ _ _ (moved_twice c.args.place.now c.next_number.new.place c.next_number-2.new.place (c.args.place.now.at + 1) x.place y.place) (bound_yes c.args.s.now c.args.place.now c.requires c.if-s-i.false _ _ x.is _ _ _ y.is refl refl)

@@ -5,7 +5,6 @@ use Rattle.solver.specs.Terms.Term.{bytes}
 use Rattle.sheet.specs.OrderTable.{outcome}
 use Rattle.solver.proofs.Terms.Bools.{never_true}
 use Rattle.solver.proofs.Terms.RewriteLaws.{counted_term}
-use Rattle.solver.specs.Words.HandingContract.{binders_of}
 use Rattle.sheet.proofs.Laws.Answering.AnswerLaws.{frame_as, apply_none, apply_some, perhaps_some, one_over, one_in}
 use Rattle.sheet.proofs.Laws.Answering.FramingLaws.{begun_long}
 use Rattle.sheet.proofs.operations.applied.Goals as goal
@@ -19,14 +18,14 @@ pub write_term-size-requires-clause-space : goal.write_term-size-requires-clause
 write_term-size-requires-clause-space c =
     let p = c.requires in
     let a = c.args in
-    let n = counted_term a.kinds.now a.vals.now (λ i. omega (arith, c.type_inv.vals i)) a.s.now (binders_of a.b) p.ready a.from p.place (omega (arith, p.areas.short)) in
+    let n = counted_term a.kinds.now a.vals.now (λ i. omega (arith, c.type_inv.vals i)) a.s.now a.b p.ready a.from p.place (omega (arith, p.areas.short)) in
     record { counts = omega (arith, n); fits = λ h. never_true h }
 
 pub overflow_add-size : goal.overflow_add-size
 overflow_add-size c =
     let p = c.requires in
     let a = c.args in
-    let n = counted_term a.kinds.now a.vals.now (λ i. omega (arith, c.type_inv.vals i)) a.s.now (binders_of a.b) p.ready a.from p.place (omega (arith, p.areas.short)) in
+    let n = counted_term a.kinds.now a.vals.now (λ i. omega (arith, c.type_inv.vals i)) a.s.now a.b p.ready a.from p.place (omega (arith, p.areas.short)) in
     omega (arith, n, c.write_term-size.ensures.words.next)
 
 pub returns-then-out-at : goal.returns-then-out-at

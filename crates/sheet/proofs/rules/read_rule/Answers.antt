@@ -2,14 +2,11 @@ use mathlib.Core.Path.{refl, ap, ◌∙◌}
 use mathlib.Core.List.{[]}
 use native.Mathlib.Omega.{arith}
 use Rattle.solver.specs.Terms.Tokens.{area}
-use Rattle.solver.specs.Terms.StepCodes.{place}
 use Rattle.solver.specs.TermTypes.{Rule}
 use Rattle.solver.proofs.Terms.Shortest.{octets}
-use Rattle.solver.proofs.Terms.StepCodeLaws.{stops}
 use Rattle.solver.specs.Terms.Lookup.{put_rule}
 use Rattle.sheet.specs.Words.FieldLayout.{rule_sorts}
 use Rattle.sheet.proofs.Laws.Reading.FieldLoopLaws.{rule_start, plain_more, plain_stop, through_all, through_undo}
-use Rattle.sheet.proofs.Laws.Reading.PartLaws.{unreads}
 use Rattle.sheet.proofs.Laws.Reading.RuleReading.{rule_here, rule_refused}
 use Rattle.sheet.proofs.rules.read_rule.Goals as goal
 
@@ -17,48 +14,48 @@ pub loop-rest-init : goal.loop-rest-init
 loop-rest-init c =
     let a = c.args in
     let s = c.args.s.now in
-    let p = place a.at.now a.top.now a.nodes.now a.limit in
+    let p = a.place.now in
     let d = area a.kinds.now a.vals.now in
     rule_start s a.issued p d c.requires.free c.requires.ample c.no_fields-o.result c.no_fields-o.ensures
 
-pub returns-then-a-ne0 : goal.returns-then-a-ne0
-returns-then-a-ne0 c =
+pub returns-in-Err : goal.returns-in-Err
+returns-in-Err c =
     let a = c.args in
     let s = c.args.s.now in
-    let p = place a.at.now a.top.now a.nodes.now a.limit in
+    let p = a.place.now in
     let d = area a.kinds.now a.vals.now in
     let oct = octets s (λ i. omega (arith, c.type_inv.s i)) in
     let l = c.loop-rest in
-    let q = place l.at l.top l.nodes a.limit in
+    let q = l.place in
     let e = area l.kinds l.vals in
-    let m = c.read_plain-a in
-    let g = area c.read_plain-a.new.kinds c.read_plain-a.new.vals in
-    let y = rw (unreads m.result c.read_plain-a.new.value c.read_plain-a.new.start c.read_plain-a.new.end c.read_plain-a.new.at c.read_plain-a.new.top c.read_plain-a.new.nodes a.limit c.if-a-ne0.true) at (m.ensures []) in
-    rw (stops m.result c.read_plain-a.new.at c.read_plain-a.new.top c.read_plain-a.new.nodes a.limit c.if-a-ne0.true) (rule_refused s [] oct a.issued p d e c.requires.ample _ (plain_stop s oct [] [] a.issued rule_sorts p d e l.rest l.i l.o q l.invariant.0 c.loop-rest-test.true l.invariant.1 _ g y), through_undo s [] a.issued rule_sorts p d e l.rest l.i l.o q l.invariant.0 g _ _ c.requires.free y.1 refl c.clear_tokens.ensures)
+    let m = c.read_plain in
+    let g = area c.read_plain.new.kinds c.read_plain.new.vals in
+    let y = rw c.in-Err.is at (m.ensures []) in
+    (rule_refused s [] oct a.issued p d e c.requires.ample _ (plain_stop s oct [] [] a.issued rule_sorts p d e l.rest l.i l.o q l.invariant.0 c.loop-rest-test.true l.invariant.1 _ g y), through_undo s [] a.issued rule_sorts p d e l.rest l.i l.o q l.invariant.0 g _ _ c.requires.free y.1 refl c.clear_tokens.ensures)
 
 pub loop-rest-preserved : goal.loop-rest-preserved
 loop-rest-preserved c =
     let a = c.args in
     let s = c.args.s.now in
-    let p = place a.at.now a.top.now a.nodes.now a.limit in
+    let p = a.place.now in
     let d = area a.kinds.now a.vals.now in
     let oct = octets s (λ i. omega (arith, c.type_inv.s i)) in
     let l = c.loop-rest in
-    let q = place l.at l.top l.nodes a.limit in
+    let q = l.place in
     let e = area l.kinds l.vals in
-    let m = c.read_plain-a in
-    let g = area c.read_plain-a.new.kinds c.read_plain-a.new.vals in
-    rw c.put_spot-o.ensures (plain_more s oct [] [] a.issued rule_sorts p d e l.rest l.i l.o q l.invariant.0 c.loop-rest-test.true l.invariant.1 refl _ _ g (rw c.if-a-ne0.false at (m.ensures [])))
+    let m = c.read_plain in
+    let g = area c.read_plain.new.kinds c.read_plain.new.vals in
+    rw c.put_spot-o.ensures (plain_more s oct [] [] a.issued rule_sorts p d e l.rest l.i l.o q l.invariant.0 c.loop-rest-test.true l.invariant.1 refl _ _ g (rw c.in-Ok.is at (m.ensures [])))
 
 pub keep_rule-requires-clause-words : goal.keep_rule-requires-clause-words
 keep_rule-requires-clause-words c =
     let a = c.args in
     let s = c.args.s.now in
-    let p = place a.at.now a.top.now a.nodes.now a.limit in
+    let p = a.place.now in
     let d = area a.kinds.now a.vals.now in
     let oct = octets s (λ i. omega (arith, c.type_inv.s i)) in
     let l = c.loop-rest in
-    let q = place l.at l.top l.nodes a.limit in
+    let q = l.place in
     let e = area l.kinds l.vals in
     (rule_here s [] oct a.issued p d e c.requires.ample l.o q (through_all s [] a.issued rule_sorts p d e l.rest l.i l.o q l.invariant.0 c.loop-rest-test.false)).fits
 
@@ -66,11 +63,11 @@ pub returns : goal.returns
 returns c =
     let a = c.args in
     let s = c.args.s.now in
-    let p = place a.at.now a.top.now a.nodes.now a.limit in
+    let p = a.place.now in
     let d = area a.kinds.now a.vals.now in
     let oct = octets s (λ i. omega (arith, c.type_inv.s i)) in
     let l = c.loop-rest in
-    let q = place l.at l.top l.nodes a.limit in
+    let q = l.place in
     let e = area l.kinds l.vals in
     let x = rule_here s [] oct a.issued p d e c.requires.ample l.o q (through_all s [] a.issued rule_sorts p d e l.rest l.i l.o q l.invariant.0 c.loop-rest-test.false) in
     (x.rule, x.found, x.stored, x.inside, c.keep_rule.ensures ∙ ap (λ (z : Rule). put_rule a.rules.now a.r z) x.words)

@@ -1,9 +1,7 @@
 use mathlib.Core.Path.{refl}
 use native.Mathlib.Omega.{arith}
 use Rattle.solver.specs.Terms.Tokens.{area}
-use Rattle.solver.specs.Terms.StepCodes.{place}
 use Rattle.solver.proofs.Terms.Shortest.{octets}
-use Rattle.solver.proofs.Terms.StepCodeLaws.{stops}
 use Rattle.sheet.proofs.Laws.Reading.RuleReading.{rules_start, rules_more, rules_stop, rules_undo, rules_end}
 use Rattle.sheet.proofs.rules.read_rules.Goals as goal
 
@@ -11,48 +9,47 @@ pub loop-r-init : goal.loop-r-init
 loop-r-init c =
     let a = c.args in
     let s = c.args.s.now in
-    let p = place a.at.now a.top.now a.nodes.now a.limit in
+    let p = a.place.now in
     let d = area a.kinds.now a.vals.now in
     rules_start s a.issued a.count p d a.rules.now c.requires.free c.requires.ample
 
-pub returns-then-a-ne0 : goal.returns-then-a-ne0
-returns-then-a-ne0 c =
+pub returns-in-Err : goal.returns-in-Err
+returns-in-Err c =
     let a = c.args in
     let s = c.args.s.now in
-    let p = place a.at.now a.top.now a.nodes.now a.limit in
+    let p = a.place.now in
     let d = area a.kinds.now a.vals.now in
     let oct = octets s (λ i. omega (arith, c.type_inv.s i)) in
     let l = c.loop-r in
-    let q = place l.at l.top l.nodes a.limit in
+    let q = l.place in
     let e = area l.kinds l.vals in
-    let m = c.read_rule-a in
-    let g = area c.read_rule-a.new.kinds c.read_rule-a.new.vals in
-    let z = stops m.result c.read_rule-a.new.at c.read_rule-a.new.top c.read_rule-a.new.nodes a.limit c.if-a-ne0.true in
-    let y = rw z at m.ensures in
-    rw z (rules_stop s oct a.issued a.count p d e a.rules.now l.rules l.r q l.invariant c.loop-r-test.true _ g c.read_rule-a.new.rules y, rules_undo s oct a.issued a.count p d e a.rules.now l.rules l.r q l.invariant g _ _ c.requires.free y.1 refl c.clear_tokens.ensures)
+    let m = c.read_rule in
+    let g = area c.read_rule.new.kinds c.read_rule.new.vals in
+    let y = rw c.in-Err.is at m.ensures in
+    (rules_stop s oct a.issued a.count p d e a.rules.now l.rules l.r q l.invariant c.loop-r-test.true _ g c.read_rule.new.rules y, rules_undo s oct a.issued a.count p d e a.rules.now l.rules l.r q l.invariant g _ _ c.requires.free y.1 refl c.clear_tokens.ensures)
 
 pub loop-r-preserved : goal.loop-r-preserved
 loop-r-preserved c =
     let a = c.args in
     let s = c.args.s.now in
-    let p = place a.at.now a.top.now a.nodes.now a.limit in
+    let p = a.place.now in
     let d = area a.kinds.now a.vals.now in
     let oct = octets s (λ i. omega (arith, c.type_inv.s i)) in
     let l = c.loop-r in
-    let q = place l.at l.top l.nodes a.limit in
+    let q = l.place in
     let e = area l.kinds l.vals in
-    let m = c.read_rule-a in
-    let g = area c.read_rule-a.new.kinds c.read_rule-a.new.vals in
-    rules_more s oct a.issued a.count p d e a.rules.now l.rules l.r q l.invariant c.loop-r-test.true _ g c.read_rule-a.new.rules (rw c.if-a-ne0.false at m.ensures)
+    let m = c.read_rule in
+    let g = area c.read_rule.new.kinds c.read_rule.new.vals in
+    rules_more s oct a.issued a.count p d e a.rules.now l.rules l.r q l.invariant c.loop-r-test.true _ g c.read_rule.new.rules (rw c.in_default.is at m.ensures)
 
 pub returns : goal.returns
 returns c =
     let a = c.args in
     let s = c.args.s.now in
-    let p = place a.at.now a.top.now a.nodes.now a.limit in
+    let p = a.place.now in
     let d = area a.kinds.now a.vals.now in
     let oct = octets s (λ i. omega (arith, c.type_inv.s i)) in
     let l = c.loop-r in
-    let q = place l.at l.top l.nodes a.limit in
+    let q = l.place in
     let e = area l.kinds l.vals in
     rules_end s oct a.issued a.count p d e a.rules.now l.rules l.r q l.invariant c.loop-r-test.false

@@ -7,18 +7,18 @@ use Rattle.sheet.specs.Sheet.{next_order}
 use Rattle.sheet.proofs.Laws.Run.SplittingLaws.{Ahead, next_ahead}
 use Rattle.sheet.proofs.Laws.Run.RunLaws.{going_start, going_ready, going_on, ends_used, ends_faulty, ends_long}
 use Rattle.sheet.proofs.running.answer_orders.Goals as goal
-use Rattle.sheet.proofs.running.answer_orders.Goals.{After-order_at-bytes, In-Lies}
+use Rattle.sheet.proofs.running.answer_orders.Goals.{After-order_at-bytes, In-Some}
 
 -- the order that framing found
-found : (c : In-Lies) → got (take c.in-Lies.size (drop c.in-Lies.from c.args.s.now)) (c.in-Lies.from + c.in-Lies.size) ≡ next_order c.args.s.now c.loop-at.at
-found c = rw c.in-Lies.is at c.next_order.ensures
+found : (c : In-Some) → got (take c.in-Some.size (drop c.in-Some.from c.args.s.now)) (c.in-Some.from + c.in-Some.size) ≡ next_order c.args.s.now c.loop-at.at
+found c = rw c.in-Some.is at c.next_order.ensures
 
-ahead : (c : In-Lies) → Ahead c.loop-at.at (c.in-Lies.from + c.in-Lies.size) (length c.args.s.now)
+ahead : (c : In-Some) → Ahead c.loop-at.at (c.in-Some.from + c.in-Some.size) (length c.args.s.now)
 ahead c = next_ahead _ _ _ _ (found c)
 
 -- the order, as it is handed on
-told : (c : After-order_at-bytes) → got c.order_at-bytes.result.now (c.in-Lies.from + c.in-Lies.size) ≡ next_order c.args.s.now c.loop-at.at
-told c = rw c.order_at-bytes.ensures (rw c.in-Lies.is at c.next_order.ensures)
+told : (c : After-order_at-bytes) → got c.order_at-bytes.result.now (c.in-Some.from + c.in-Some.size) ≡ next_order c.args.s.now c.loop-at.at
+told c = rw c.order_at-bytes.ensures (rw c.in-Some.is at c.next_order.ensures)
 
 pub loop-at-init : goal.loop-at-init
 loop-at-init c = (going_start c.requires.held.0 c.requires.held.1, refl, refl, refl, refl)
@@ -29,7 +29,7 @@ returns-in_default-clause-run c =
     rw (e.0, e.1, e.2) (ends_faulty c.loop-at.invariant.0 c.loop-at-test.true (rw c.in_default.is at c.next_order.ensures)).0
 
 pub order_at-bytes-requires : goal.order_at-bytes-requires
-order_at-bytes-requires c = (ahead (goal.at.order_at-bytes-requires c).In-Lies).inside
+order_at-bytes-requires c = (ahead (goal.at.order_at-bytes-requires c).In-Some).inside
 
 pub serve_order-r-requires-clause-held : goal.serve_order-r-requires-clause-held
 serve_order-r-requires-clause-held c = going_ready c.loop-at.invariant.0
@@ -42,10 +42,10 @@ returns-then-out-r c =
     record { run = rw (e.0, e.1, e.2) both.0; left = rw e.3 both.1 }
 
 pub overflow_add-at : goal.overflow_add-at
-overflow_add-at c = omega (arith, c.requires.room.0, (ahead (goal.at.overflow_add-at c).In-Lies).inside)
+overflow_add-at c = omega (arith, c.requires.room.0, (ahead (goal.at.overflow_add-at c).In-Some).inside)
 
 pub loop-at-smaller : goal.loop-at-smaller
-loop-at-smaller c = omega (arith, (ahead (goal.at.loop-at-smaller c).In-Lies).inside, (ahead (goal.at.loop-at-smaller c).In-Lies).after)
+loop-at-smaller c = omega (arith, (ahead (goal.at.loop-at-smaller c).In-Some).inside, (ahead (goal.at.loop-at-smaller c).In-Some).after)
 
 pub loop-at-preserved : goal.loop-at-preserved
 loop-at-preserved c =
