@@ -1,2 +1,1 @@
--- Proofs. WordsLaws: lists of one value; the folders have the proofs of the functions, MODULE/FUNCTION/Proof.antt.
-pub mod WordsLaws
+-- Proofs; the folders have the answers of the functions, MODULE/FUNCTION.

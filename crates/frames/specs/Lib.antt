@@ -1,3 +1,3 @@
--- Numbers of four bytes, and lists of one value.
+-- Numbers of four bytes.
 -- The crate assumes nothing: no axiom, no hole, nothing trusted, here and in proofs; the gate looks for them.
 pub mod Numbers

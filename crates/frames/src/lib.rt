@@ -1,8 +1,8 @@
-// What the programs that run cases share: frames of numbers and bytes, and words and bytes that are filled and looked at.
+// What the programs that run cases share: the numbers of a frame and the bytes after them, and values that are all one.
 #![tactic(auto)]
 
 mod numbers;
-mod words;
+mod values;
 
-pub use numbers::{number_at, number_within, put_number, read_part};
-pub use words::{all_bytes, all_words, fill_bytes, fill_words, low_byte};
+pub use numbers::{low_byte, number_at, number_within, put_number, read_part};
+pub use values::all_are;

@@ -5,249 +5,103 @@
 // writes how many vectors there were, how many of them differ, and the index of the first that does, which is the number of vectors where none does.
 #![tactic(auto)]
 
-ghost use Rattle.std.specs.Prelude.{◌≡◌, ◌≤◌, length};
+use frames::{number_at, read_part};
+use harness::{Bench, Head, Outcome, ROOM};
 
-use frames::{number_at, number_within, read_part};
-use harness::{Outcome, run_case};
-
-const ROOM: usize = 32768;
-
+// Vectors at most.
 const MOST: u32 = 4000000000;
 
-// What is found of a vector: there is none, it agrees, it differs.
-const NONE: u32 = 0;
+// What a run is wanted to tell.
+#[derive(Clone, Copy)]
+struct Wanted {
+    reason: u32,
+    orders: u32,
+    bytes: u32,
+}
 
-const SAME: u32 = 1;
+impl Wanted {
+    // Reads the numbers of a vector that stand behind its head, or nothing where the input ends before.
+    fn read() -> Option<Wanted> {
+        let mut bytes = [0; 12];
+        read_part(&mut bytes, 12).then(|| Wanted {
+            reason: number_at(&bytes, 0),
+            orders: number_at(&bytes, 4),
+            bytes: number_at(&bytes, 8),
+        })
+    }
 
-const OTHER: u32 = 2;
+    // Whether a run tells it.
+    fn is_told(&self, ran: &Outcome) -> bool {
+        self.reason == ran.reason
+            && u64::from(self.orders) == ran.orders
+            && self.bytes as usize == ran.bytes
+    }
+}
 
 // Vectors, those that differ, the index of the first of these.
-#[derive(Clone, Copy)]
+#[derive(Clone, Copy, Default)]
 struct Tally {
     vectors: u32,
     differ: u32,
-    first: u32,
+    first: Option<u32>,
 }
 
-// Whether the output begins with the wanted answers.
-fn begins(out: &[u8], wanted: &[u8]) -> bool {
-    if out.len() < wanted.len() {
-        return false;
-    }
-    let mut i = 0;
-    while i < wanted.len() {
-        if out[i] != wanted[i] {
-            return false;
+impl Tally {
+    // Counts one vector more.
+    fn count(&mut self, same: bool) {
+        if !same {
+            self.differ = self.differ.saturating_add(1);
+            self.first = self.first.or(Some(self.vectors));
         }
-        i += 1;
+        self.vectors = self.vectors.saturating_add(1);
     }
-    true
 }
 
-// Whether a run tells what the head wants.
-fn tells(head: &[u8], r: Outcome) -> bool
-    requires { 28 ≤ length head.now }
-{
-    if number_at(head, 16) != r.reason {
-        return false;
+// Replays a vector. Returns whether all is as wanted, or nothing where the input ends before the vector does.
+fn replay_vector(bench: &mut Bench, answers: &mut [u8; ROOM]) -> Option<bool> {
+    let Some(head) = Head::read() else {
+        return None;
+    };
+    let Some(wanted) = Wanted::read() else {
+        return None;
+    };
+    let size = (wanted.bytes as usize).min(ROOM);
+    if !bench.read_sheet(&head) || !read_part(answers, size) {
+        return None;
     }
-    if (number_at(head, 20) as u64) != r.orders {
-        return false;
-    }
-    (number_at(head, 24) as usize) == r.bytes
-}
-
-// Runs a sheet. Returns whether all is as wanted.
-fn run_wanted(
-    head: &[u8],
-    sheet: &[u8],
-    wanted: &[u8],
-    out: &mut [u8],
-    a: &mut [u32],
-    b: &mut [u32],
-    c: &mut [u32],
-    d: &mut [u32],
-) -> bool
-    requires head { length head.now ≡ 28 }
-    requires room { length out.old ≡ 32768 }
-    requires areas { (length a.old ≡ 20000) × (length b.old ≡ 20000) × (length c.old ≡ 20000) × (length d.old ≡ 20000) }
-{
-    let r = run_case(head, sheet, out, a, b, c, d);
-    if !tells(head, r) {
-        return false;
-    }
-    if !begins(out, wanted) {
-        return false;
-    }
-    r.good
-}
-
-// Reads a vector. Returns whether it is all there.
-fn read_vector(head: &mut [u8], sheet: &mut [u8], wanted: &mut [u8]) -> bool
-    requires head { length head.old ≡ 28 }
-    requires room { (length sheet.old ≡ 32768) × (length wanted.old ≡ 32768) }
-{
-    let n = io::read_full(0, head);
-    if n < 28 {
-        return false;
-    }
-    let size = number_within(head, 4, ROOM);
-    if !read_part(sheet, size) {
-        return false;
-    }
-    let most = number_within(head, 24, ROOM);
-    read_part(wanted, most)
-}
-
-// Runs a sheet that has been read. Returns whether all is as wanted.
-fn run_vector(
-    head: &[u8],
-    sheet: &[u8],
-    wanted: &[u8],
-    out: &mut [u8],
-    a: &mut [u32],
-    b: &mut [u32],
-    c: &mut [u32],
-    d: &mut [u32],
-) -> bool
-    requires head { length head.now ≡ 28 }
-    requires room { (length sheet.now ≡ 32768) × (length wanted.now ≡ 32768) × (length out.old ≡ 32768) }
-    requires areas { (length a.old ≡ 20000) × (length b.old ≡ 20000) × (length c.old ≡ 20000) × (length d.old ≡ 20000) }
-{
-    let size = number_within(head, 4, ROOM);
-    let most = number_within(head, 24, ROOM);
-    run_wanted(head, &sheet[..size], &wanted[..most], out, a, b, c, d)
-}
-
-// Replays a vector.
-fn replay_vector(
-    head: &mut [u8],
-    sheet: &mut [u8],
-    wanted: &mut [u8],
-    out: &mut [u8],
-    a: &mut [u32],
-    b: &mut [u32],
-    c: &mut [u32],
-    d: &mut [u32],
-) -> u32
-    requires head { length head.old ≡ 28 }
-    requires room { (length sheet.old ≡ 32768) × (length wanted.old ≡ 32768) × (length out.old ≡ 32768) }
-    requires areas { (length a.old ≡ 20000) × (length b.old ≡ 20000) × (length c.old ≡ 20000) × (length d.old ≡ 20000) }
-{
-    if !read_vector(head, sheet, wanted) {
-        return NONE;
-    }
-    if run_vector(head, sheet, wanted, out, a, b, c, d) {
-        return SAME;
-    }
-    OTHER
-}
-
-fn next(n: u32) -> u32 {
-    if n < MOST {
-        return n + 1;
-    }
-    n
-}
-
-// One vector more. As long as none differs, the first is the number of vectors.
-fn counted(t: Tally, found: u32) -> Tally {
-    let vectors = next(t.vectors);
-    if found == OTHER {
-        return Tally {
-            vectors,
-            differ: next(t.differ),
-            first: t.first,
-        };
-    }
-    if t.differ == 0 {
-        return Tally {
-            vectors,
-            differ: 0,
-            first: vectors,
-        };
-    }
-    Tally {
-        vectors,
-        differ: t.differ,
-        first: t.first,
-    }
+    let ran = bench.run(&head);
+    Some(wanted.is_told(&ran) && bench.out.starts_with(&answers[..size]) && ran.good)
 }
 
 // Replays vectors until the input ends.
-fn replay(
-    head: &mut [u8],
-    sheet: &mut [u8],
-    wanted: &mut [u8],
-    out: &mut [u8],
-    a: &mut [u32],
-    b: &mut [u32],
-    c: &mut [u32],
-    d: &mut [u32],
-) -> Tally
-    requires head { length head.old ≡ 28 }
-    requires room { (length sheet.old ≡ 32768) × (length wanted.old ≡ 32768) × (length out.old ≡ 32768) }
-    requires areas { (length a.old ≡ 20000) × (length b.old ≡ 20000) × (length c.old ≡ 20000) × (length d.old ≡ 20000) }
-{
-    let mut t = Tally {
-        vectors: 0,
-        differ: 0,
-        first: 0,
-    };
-    let mut left = MOST;
-    while 0 < left {
-        left -= 1;
-        let found = replay_vector(head, sheet, wanted, out, a, b, c, d);
-        if found == NONE {
-            return t;
-        }
-        t = counted(t, found);
+fn replay(bench: &mut Bench, answers: &mut [u8; ROOM]) -> Tally {
+    let mut tally = Tally::default();
+    for _ in 0..MOST {
+        let Some(same) = replay_vector(bench, answers) else {
+            break;
+        };
+        tally.count(same);
     }
-    t
+    tally
 }
 
-// Puts ten decimal digits.
-fn put_decimal(s: &mut [u8; 11], n: u32) {
-    let mut v = n;
-    let mut i = 10;
-    while 0 < i {
-        i -= 1;
-        s[i] = 48 + (v % 10) as u8;
-        v = v / 10;
-    }
-}
-
-fn write_digits(digits: &[u8; 11]) {
-    io::write_all(1, digits);
-}
-
+// Writes a name and a number of ten digits.
 fn write_line(name: &[u8], n: u32) {
-    let mut digits = [10u8; 11];
-    put_decimal(&mut digits, n);
+    let mut line = [b'\n'; 11];
+    let mut rest = n;
+    for digit in line[..10].iter_mut().rev() {
+        *digit = b'0' + (rest % 10) as u8;
+        rest /= 10;
+    }
     io::write_all(1, name);
-    write_digits(&digits);
+    io::write_all(1, &line);
 }
 
 fn main() {
-    let mut head = [0u8; 28];
-    let mut sheet = [0u8; 32768];
-    let mut wanted = [0u8; 32768];
-    let mut out = [0u8; 32768];
-    let mut a = [0u32; 20000];
-    let mut b = [0u32; 20000];
-    let mut c = [0u32; 20000];
-    let mut d = [0u32; 20000];
-    let t = replay(
-        &mut head,
-        &mut sheet,
-        &mut wanted,
-        &mut out,
-        &mut a,
-        &mut b,
-        &mut c,
-        &mut d,
-    );
-    write_line(b"vectors ", t.vectors);
-    write_line(b"differ  ", t.differ);
-    write_line(b"first   ", t.first);
+    let mut bench = Bench::new();
+    let mut answers = [0; ROOM];
+    let tally = replay(&mut bench, &mut answers);
+    write_line(b"vectors ", tally.vectors);
+    write_line(b"differ  ", tally.differ);
+    write_line(b"first   ", tally.first.unwrap_or(tally.vectors));
 }

@@ -8,7 +8,7 @@
 ghost use Rattle.std.specs.Prelude.{◌≡◌, ◌+◌, ◌≤◌, ◌<◌, length};
 ghost use Rattle.reread.specs.Frame.{Sound, Inside};
 
-use frames::all_words;
+use frames::all_are;
 use terms::{
     NumberRead, Place, Step, clear_tokens, keep_nominal, keep_term, number_len, read_number,
     run_len, write_number, write_run,
@@ -226,10 +226,10 @@ fn answer_frame(s: &[u8], kinds: &mut [u32], vals: &mut [u32], out: &mut [u8], t
 {
     let f = read_frame(s, kinds, vals);
     let next = answer(kinds, vals, f, out, to);
-    if !all_words(kinds, 0) {
+    if !all_are(kinds, 0) {
         return to;
     }
-    if !all_words(vals, 0) {
+    if !all_are(vals, 0) {
         return to;
     }
     next

@@ -1,0 +1,1 @@
+-- The answers of the functions, MODULE/FUNCTION.

@@ -1,0 +1,167 @@
+// A sheet, what it is run in, and the run.
+ghost use Rattle.std.specs.Prelude.{◌≡◌, ◌≤◌, ◌%◌, ◌==◌, length, drop, replicate, take};
+ghost use Rattle.std.specs.List.{list_all};
+ghost use Rattle.sheet.specs.Entry.{document_limits, entry_result, finished};
+ghost use Rattle.harness.specs.Run.{left_in, is_left, run_in};
+
+use crate::{Head, ROOM, WORDS};
+use frames::{all_are, low_byte, read_part};
+use sheet::{Report, run_sheet};
+
+// The reason of a run that does not take the sheet, since the output or an area does not suit.
+const NOT_TAKEN: u32 = 12;
+
+/// What a run returns, and whether it has left the output after its answers and the areas as it must.
+#[derive(Clone, Copy)]
+pub struct Outcome {
+    pub reason: u32,
+    pub orders: u64,
+    pub bytes: usize,
+    pub good: bool,
+}
+
+/// A sheet, and the output and the four areas that it is run in.
+#[derive(Drop)]
+pub struct Bench {
+    pub sheet: [u8; ROOM],
+    pub out: [u8; ROOM],
+    pub a: [u32; WORDS],
+    pub b: [u32; WORDS],
+    pub c: [u32; WORDS],
+    pub d: [u32; WORDS],
+}
+
+impl Bench {
+    ghost use Rattle.harness.specs.Run.{run_of, is_left};
+
+    /// Zeros.
+    pub fn new() -> Bench
+        ensures sheet { result.sheet ≡ replicate 32768 0 }
+        ensures out { result.out ≡ replicate 32768 0 }
+        ensures areas { (result.a ≡ replicate 20000 0) × (result.b ≡ replicate 20000 0) × (result.c ≡ replicate 20000 0) × (result.d ≡ replicate 20000 0) }
+    {
+        Bench {
+            sheet: [0; ROOM],
+            out: [0; ROOM],
+            a: [0; WORDS],
+            b: [0; WORDS],
+            c: [0; WORDS],
+            d: [0; WORDS],
+        }
+    }
+
+    /// Reads the sheet of a frame from the input. Returns whether all of it is there. Which bytes these are is the input's choice; the bytes behind them stay.
+    pub fn read_sheet(&mut self, head: &Head) -> bool
+        ensures { drop head.now.size self.new.sheet ≡ drop head.now.size self.old.sheet }
+    {
+        read_part(&mut self.sheet, head.size)
+    }
+
+    /// Runs the sheet, in as much of the output and of the areas as the head says, filled with what it says.
+    pub fn run(&mut self, head: &Head) -> Outcome
+        ensures reason { result.reason ≡ (run_of head.now self.old.sheet).reason }
+        ensures orders { result.orders ≡ (run_of head.now self.old.sheet).orders }
+        ensures bytes { result.bytes ≡ (run_of head.now self.old.sheet).bytes }
+        ensures within { result.bytes ≤ head.now.room }
+        ensures good { result.good ≡ is_left head.now.fill (run_of head.now self.old.sheet) }
+        ensures answers { take head.now.room self.new.out ≡ (run_of head.now self.old.sheet).out }
+    {
+        run_part(
+            &self.sheet[..head.size],
+            &mut self.out,
+            &mut self.a,
+            &mut self.b,
+            &mut self.c,
+            &mut self.d,
+            head,
+        )
+    }
+}
+
+// What the areas hold after a run: what they were filled with where nothing was run, and else 0.
+fn left_in(reason: u32, fill: u32) -> u32
+    ensures { result ≡ left_in reason fill }
+{
+    if reason == NOT_TAKEN { fill } else { 0 }
+}
+
+// Whether all words of some areas are `x`.
+fn areas_are(areas: &[&[u32]], x: u32) -> bool
+    ensures { result ≡ list_all (λ area. list_all (λ y. y == x) area.now) areas.now }
+{
+    areas.iter().all(|area| all_are(area, x))
+}
+
+// Runs a sheet. The answers lie in the output.
+fn run_inside(
+    sheet: &[u8],
+    out: &mut [u8],
+    a: &mut [u32],
+    b: &mut [u32],
+    c: &mut [u32],
+    d: &mut [u32],
+) -> Report
+    ensures within { result.bytes ≤ length out.new }
+    ensures run { finished result.reason result.orders result.bytes out.new a.new b.new c.new d.new
+        ≡ entry_result document_limits 16384 sheet.now out.old a.old b.old c.old d.old }
+{
+    run_sheet(sheet, out, a, b, c, d)
+}
+
+// Runs a sheet in an output and areas that it fills.
+fn run_filled(
+    sheet: &[u8],
+    out: &mut [u8],
+    a: &mut [u32],
+    b: &mut [u32],
+    c: &mut [u32],
+    d: &mut [u32],
+    fill: u32,
+) -> Outcome
+    ensures within { result.bytes ≤ length out.new }
+    ensures run { finished result.reason result.orders result.bytes out.new a.new b.new c.new d.new
+        ≡ entry_result document_limits 16384 sheet.now (replicate (length out.old) (fill % 256)) (replicate (length a.old) fill)
+        (replicate (length b.old) fill) (replicate (length c.old) fill) (replicate (length d.old) fill) }
+    ensures good { result.good ≡ is_left fill (finished result.reason result.orders result.bytes out.new a.new b.new c.new d.new) }
+{
+    out.fill(low_byte(fill));
+    a.fill(fill);
+    b.fill(fill);
+    c.fill(fill);
+    d.fill(fill);
+    let ran = run_inside(sheet, out, a, b, c, d);
+    let left = left_in(ran.reason, fill);
+    let good = all_are(&out[ran.bytes..], low_byte(fill)) && areas_are(&[a, b, c, d], left);
+    Outcome {
+        reason: ran.reason,
+        orders: ran.orders,
+        bytes: ran.bytes,
+        good,
+    }
+}
+
+// Runs a sheet in as much of the output and of the areas as a head says.
+fn run_part(
+    sheet: &[u8],
+    out: &mut [u8; ROOM],
+    a: &mut [u32; WORDS],
+    b: &mut [u32; WORDS],
+    c: &mut [u32; WORDS],
+    d: &mut [u32; WORDS],
+    head: &Head,
+) -> Outcome
+    ensures within { result.bytes ≤ head.now.room }
+    ensures run { finished result.reason result.orders result.bytes (take head.now.room out.new) (take head.now.words a.new)
+        (take head.now.words b.new) (take head.now.words c.new) (take head.now.words d.new) ≡ run_in head.now sheet.now }
+    ensures good { result.good ≡ is_left head.now.fill (run_in head.now sheet.now) }
+{
+    run_filled(
+        sheet,
+        &mut out[..head.room],
+        &mut a[..head.words],
+        &mut b[..head.words],
+        &mut c[..head.words],
+        &mut d[..head.words],
+        head.fill,
+    )
+}
