@@ -6,27 +6,19 @@
 #![tactic(auto)]
 
 ghost use Rattle.std.specs.Prelude.{◌≡◌, ◌+◌, ◌≤◌, ◌<◌, length};
-ghost use Rattle.reread.specs.Frame.{Sound, Inside};
+ghost use Rattle.reread.specs.Frame.{Sound, Lies, Inside};
 
 use frames::all_are;
 use terms::{
-    NumberRead, Place, Step, clear_tokens, keep_nominal, keep_term, number_len, read_number,
-    run_len, write_number, write_run,
+    Place, Refusal, clear_tokens, keep_nominal, keep_term, number_len, read_number, run_len,
+    write_number, write_run,
 };
 
 // What a frame holds: for terms the nodes, the tokens and the first token to write.
 #[derive(Clone, Copy)]
 pub enum Frame {
-    Refused(u8),
     Number(u64),
     Kept(usize, usize, usize),
-}
-
-// Where a frame lies.
-#[derive(Clone, Copy)]
-pub enum Part {
-    Lies(usize, usize),
-    Nowhere,
 }
 
 const MOST: u64 = 4294967295;
@@ -35,44 +27,40 @@ const LEVELS: u32 = 200;
 
 const NODES: usize = 2048;
 
-// What is wrong with a term that was read: 1 bytes left over, 7 too many nodes, or tokens for the areas, and 0 nothing.
-fn fault(q: Place, size: usize, first: usize, kinds: usize, vals: usize) -> u8
-    ensures { result ≡ 0 → (first ≤ q.top) × (q.top ≤ kinds) × (q.top ≤ vals) }
+// Whether a term that was read is all of the bytes, and its nodes and its tokens have space.
+fn fits(q: Place, size: usize, first: usize, kinds: usize, vals: usize) -> Result<(), Refusal>
+    ensures { Lies first q.top kinds vals result }
 {
     if q.at < size {
-        return 1;
+        return Err(Refusal::Length);
     }
     if NODES < q.nodes {
-        return 7;
+        return Err(Refusal::Nodes);
     }
-    if kinds < q.top {
-        return 7;
-    }
-    if vals < q.top {
-        return 7;
+    if kinds.min(vals) < q.top {
+        return Err(Refusal::Nodes);
     }
     if q.top < first {
-        return 7;
+        return Err(Refusal::Nodes);
     }
-    0
+    Ok(())
 }
 
-// What was kept, or the refusal, with nothing left in the areas.
-fn settle(kinds: &mut [u32], vals: &mut [u32], size: usize, first: usize, r: Step) -> Frame
+// What was kept up to a place, or the refusal, with nothing left in the areas.
+fn settle(
+    kinds: &mut [u32],
+    vals: &mut [u32],
+    size: usize,
+    first: usize,
+    q: Place,
+) -> Result<Frame, Refusal>
     ensures { Sound (length kinds.new) (length vals.new) result }
 {
-    match r {
-        Step::Next(q) => {
-            let tokens = q.top;
-            let c = fault(q, size, first, kinds.len(), vals.len());
-            if c == 0 {
-                return Frame::Kept(q.nodes, tokens, first);
-            }
-            clear_tokens(kinds, vals, 0, tokens);
-            Frame::Refused(c)
-        }
-        Step::Stopped(c) => Frame::Refused(c),
+    if let Err(refusal) = fits(q, size, first, kinds.len(), vals.len()) {
+        clear_tokens(kinds, vals, 0, q.top);
+        return Err(refusal);
     }
+    Ok(Frame::Kept(q.nodes, q.top, first))
 }
 
 // A term, or a bare nominal, from a position on.
@@ -83,50 +71,45 @@ fn term_frame(
     at: usize,
     issued: u64,
     bare: bool,
-) -> Frame
+) -> Result<Frame, Refusal>
     requires { (at ≤ length s.now) × (length s.now < 65536) }
     ensures { Sound (length kinds.new) (length vals.new) result }
 {
-    let p = Place {
+    let mut place = Place {
         at,
         top: 0,
         nodes: 0,
         limit: NODES,
     };
     if bare {
-        let r = keep_nominal(s, kinds, vals, p, LEVELS, issued);
-        settle(kinds, vals, s.len(), 1, r)
+        keep_nominal(s, kinds, vals, &mut place, LEVELS, issued)?;
+        settle(kinds, vals, s.len(), 1, place)
     } else {
-        let r = keep_term(s, kinds, vals, p, LEVELS, issued);
-        settle(kinds, vals, s.len(), 0, r)
+        keep_term(s, kinds, vals, &mut place, LEVELS, issued)?;
+        settle(kinds, vals, s.len(), 0, place)
     }
 }
 
 // Reads a frame.
-fn read_frame(s: &[u8], kinds: &mut [u32], vals: &mut [u32]) -> Frame
+fn read_frame(s: &[u8], kinds: &mut [u32], vals: &mut [u32]) -> Result<Frame, Refusal>
     requires { length s.now < 65536 }
     ensures { Sound (length kinds.new) (length vals.new) result }
 {
     if s.len() == 0 {
-        return Frame::Refused(1);
+        return Err(Refusal::Length);
     }
     let kind = s[0];
     if 2 < kind {
-        return Frame::Refused(2);
+        return Err(Refusal::Code);
     }
-    let r = read_number(s, 1, MOST);
-    match r {
-        NumberRead::Value(v, next) => {
-            if kind < 2 {
-                return term_frame(s, kinds, vals, next, v, kind == 1);
-            }
-            if next < s.len() {
-                return Frame::Refused(1);
-            }
-            Frame::Number(v)
-        }
-        NumberRead::Refused(c) => Frame::Refused(c),
+    let (v, next) = read_number(s, 1, MOST)?;
+    if kind < 2 {
+        return term_frame(s, kinds, vals, next, v, kind == 1);
     }
+    if next < s.len() {
+        return Err(Refusal::Length);
+    }
+    Ok(Frame::Number(v))
 }
 
 // A refusal.
@@ -186,15 +169,21 @@ fn kept_answer(
 }
 
 // Writes the answer to a frame and clears its tokens. Returns the position after the answer, or `at` where it does not fit.
-fn answer(kinds: &mut [u32], vals: &mut [u32], f: Frame, out: &mut [u8], at: usize) -> usize
+fn answer(
+    kinds: &mut [u32],
+    vals: &mut [u32],
+    f: Result<Frame, Refusal>,
+    out: &mut [u8],
+    at: usize,
+) -> usize
     requires place { at ≤ length out.old }
     requires sound { Sound (length kinds.old) (length vals.old) f }
     ensures { result ≤ length out.new }
 {
     match f {
-        Frame::Refused(c) => refused_answer(out, at, c),
-        Frame::Number(v) => number_answer(out, at, v),
-        Frame::Kept(nodes, tokens, first) => {
+        Err(refusal) => refused_answer(out, at, u8::from(refusal)),
+        Ok(Frame::Number(v)) => number_answer(out, at, v),
+        Ok(Frame::Kept(nodes, tokens, first)) => {
             let r = kept_answer(kinds, vals, nodes, tokens, first, out, at);
             clear_tokens(kinds, vals, 0, tokens);
             r
@@ -202,21 +191,16 @@ fn answer(kinds: &mut [u32], vals: &mut [u32], f: Frame, out: &mut [u8], at: usi
     }
 }
 
-// Where the frame at a position lies: its first byte and the place after its last, or nowhere in `s`.
-fn part_at(s: &[u8], at: usize) -> Part
+// Where the frame at a position lies: its first byte and the place after its last; nothing where it does not lie in `s`.
+fn part_at(s: &[u8], at: usize) -> Option<(usize, usize)>
     requires { (at ≤ length s.now) × (length s.now < 65536) }
     ensures { Inside at (length s.now) result }
 {
-    let r = read_number(s, at, MOST);
-    match r {
-        NumberRead::Value(size, from) => {
-            if ((s.len() - from) as u64) < size {
-                return Part::Nowhere;
-            }
-            Part::Lies(from, from + size as usize)
-        }
-        NumberRead::Refused(_) => Part::Nowhere,
+    let (size, from) = read_number(s, at, MOST).ok()?;
+    if ((s.len() - from) as u64) < size {
+        return None;
     }
+    Some((from, from + size as usize))
 }
 
 // Answers a frame at a position of `out`. Returns the position after the answer, or `to` where it does not fit or something remains in an area.
@@ -243,20 +227,15 @@ fn run(s: &[u8], kinds: &mut [u32], vals: &mut [u32], out: &mut [u8]) -> usize
     let mut at = 0;
     let mut to = 0;
     while at < s.len() {
-        let part = part_at(s, at);
-        match part {
-            Part::Lies(from, end) => {
-                let next = answer_frame(&s[from..end], kinds, vals, out, to);
-                if next == to {
-                    return to;
-                }
-                to = next;
-                at = end;
-            }
-            Part::Nowhere => {
-                return to;
-            }
+        let Some((from, end)) = part_at(s, at) else {
+            return to;
+        };
+        let next = answer_frame(&s[from..end], kinds, vals, out, to);
+        if next == to {
+            return to;
         }
+        to = next;
+        at = end;
     }
     to
 }

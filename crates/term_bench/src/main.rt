@@ -5,7 +5,7 @@
 ghost use Rattle.std.specs.Prelude.{◌<◌, ◌≤◌, length};
 
 use frames::number_at;
-use terms::{Place, Step, clear_tokens, keep_term, run_len, write_run};
+use terms::{Place, clear_tokens, keep_term, run_len, write_run};
 
 const LEVELS: u32 = 200;
 
@@ -16,25 +16,19 @@ fn read_once(s: &[u8], kinds: &mut [u32], vals: &mut [u32]) -> usize
     requires { length s.now < 65536 }
     ensures { (result ≤ length kinds.new) × (result ≤ length vals.new) }
 {
-    let p = Place {
+    let mut place = Place {
         at: 0,
         top: 0,
         nodes: 0,
         limit: NODES,
     };
-    let r = keep_term(s, kinds, vals, p, LEVELS, 0);
-    match r {
-        Step::Next(q) => {
-            if kinds.len() < q.top {
-                return 0;
-            }
-            if vals.len() < q.top {
-                return 0;
-            }
-            q.top
-        }
-        Step::Stopped(_) => 0,
+    if keep_term(s, kinds, vals, &mut place, LEVELS, 0).is_err() {
+        return 0;
     }
+    if kinds.len().min(vals.len()) < place.top {
+        return 0;
+    }
+    place.top
 }
 
 // Writes the tokens. Returns how many bytes they have, or 0 where there is no space for them.
@@ -53,12 +47,10 @@ fn reads(s: &[u8], kinds: &mut [u32], vals: &mut [u32], count: u32) -> u64
     requires { length s.now < 65536 }
 {
     let mut sum: u64 = 0;
-    let mut i: u32 = 0;
-    while i < count {
+    for _ in 0..count {
         let tokens = read_once(s, kinds, vals);
         clear_tokens(kinds, vals, 0, tokens);
-        sum = std::num::wrapping_add_u64(sum, tokens as u64);
-        i += 1;
+        sum = sum.wrapping_add(tokens as u64);
     }
     sum
 }
@@ -68,11 +60,9 @@ fn writes(kinds: &[u32], vals: &[u32], tokens: usize, out: &mut [u8], count: u32
     requires { (tokens ≤ length kinds.now) × (tokens ≤ length vals.now) }
 {
     let mut sum: u64 = 0;
-    let mut i: u32 = 0;
-    while i < count {
+    for _ in 0..count {
         let size = write_once(kinds, vals, tokens, out);
-        sum = std::num::wrapping_add_u64(sum, size as u64);
-        i += 1;
+        sum = sum.wrapping_add(size as u64);
     }
     sum
 }
@@ -97,7 +87,7 @@ fn measure(s: &[u8], kinds: &mut [u32], vals: &mut [u32], out: &mut [u8]) -> u64
     let read = reads(&s[5..], kinds, vals, turns(s, 2));
     let tokens = read_once(&s[5..], kinds, vals);
     let written = writes(kinds, vals, tokens, out, turns(s, 1));
-    std::num::wrapping_add_u64(read, written)
+    read.wrapping_add(written)
 }
 
 fn main() {

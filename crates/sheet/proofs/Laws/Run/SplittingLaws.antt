@@ -8,11 +8,7 @@ use native.Mathlib.Omega.{arith}
 use borrow.Author.Tests.{lt-ltb, le-ltb, ltb-false}
 use lib.Dec.{ltb}
 use lib.ListN.{length, take, drop, drop_of_length-le}
-use Rattle.std.specs.Prelude.{Option, Some, Ok, Err}
-use Rattle.std.specs.Result.{result_ok}
-use Rattle.std.specs.declared.result.Result as rust
-use Rattle.solver.specs.TermTypes.{Refusal}
-use Rattle.solver.specs.Terms.Result.{Result, got, refused, pick, said}
+use Rattle.solver.specs.Terms.Result.{Result, got, refused, pick}
 use Rattle.solver.specs.Terms.Number.{number, groups}
 use Rattle.solver.specs.Terms.Shape as shape
 use Rattle.solver.specs.Terms.Shape.{ceiling}
@@ -34,11 +30,6 @@ number_inside most s at v n e = go (dec_le at (length s))
         let o : number most s at ≡ refused 1 = past_end most s at (omega arith) in
         let z : ◌≡◌ {A = ℕ} 0 1 = cc in
         absurd (omega arith)
-
--- a number that is taken from an answer
-pub number_taken : (r : rust.Result (ℕ × ℕ) Refusal) (o : Option (ℕ × ℕ)) → o ≡ result_ok r → (v n : ℕ) → o ≡ Some (v, n) → got v n ≡ said r
-number_taken (Ok x) o e v n h = let z : x ≡ (v, n) = cc in rw z
-number_taken (Err y) o e v n h = absurd (cc)
 
 -- ---- what framing answers
 
