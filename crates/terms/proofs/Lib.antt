@@ -1,5 +1,5 @@
 -- Proofs. Laws are grouped by what they are about; a folder named as a module of the code has the proofs of its
--- functions, MODULE/FUNCTION/Proof.antt.
+-- functions, MODULE/FUNCTION/Invariants.antt and Answers.antt; what is not there the check finds.
 --   Laws/General      flags, and a slice that is lent again
 --   Laws/Numbers      numbers in bytes: their steps, bounds and shortest form
 --   Laws/Format       a term read from its bytes and kept, and the bytes of a term
