@@ -107,6 +107,7 @@ fn listing_of(sort: u8) -> Listing
 }
 
 // The tokens of a term, of a nominal, or of `count` entries, receivers or arguments.
+#[inline(never)]
 fn keep_part(
     s: &[u8],
     kinds: &mut [u32],

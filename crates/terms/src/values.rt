@@ -48,6 +48,7 @@ fn number_at(s: &[u8], at: usize, most: u64, least: u64) -> Result<(u64, usize),
 }
 
 // Reads a number of `least` to `most` and stores it.
+#[inline(always)]
 pub fn read_value(
     s: &[u8],
     kinds: &mut [u32],
@@ -76,6 +77,7 @@ pub fn read_value(
 }
 
 // Reads a code below `codes`, or nothing where that is 0.
+#[inline(always)]
 fn read_code(
     s: &[u8],
     kinds: &mut [u32],
@@ -105,6 +107,7 @@ fn read_code(
 }
 
 // Reads a number of at most `most` where one is wanted.
+#[inline(always)]
 pub fn read_id(
     s: &[u8],
     kinds: &mut [u32],
@@ -125,6 +128,7 @@ pub fn read_id(
 }
 
 // Reads what stands before the terms of a plain row.
+#[inline(always)]
 pub fn read_fields(
     s: &[u8],
     kinds: &mut [u32],
