@@ -82,10 +82,8 @@ pub fn write_bytes_answer(out: &mut [u8], to: usize, v: &[u8]) -> usize
     if out.len() < at {
         return at;
     }
-    let mut i = 0;
-    while i < n {
+    for i in 0..n {
         out[at + i] = v[i];
-        i += 1;
     }
     at + n
 }

@@ -24,13 +24,6 @@ pub enum Class {
     Operation,
 }
 
-// A row of the table of orders, its class and the sorts of its fields in digits; or that no order has the number.
-#[derive(Clone, Copy)]
-pub enum OrderRow {
-    Listed(Class, u64),
-    Unlisted,
-}
-
 // A field of an order: a number or count, the place of its first token (of parameters: their position in the bytes), and the token after
 // its last.
 #[derive(Clone, Copy)]

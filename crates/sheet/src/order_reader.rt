@@ -11,7 +11,7 @@ ghost use Rattle.sheet.specs.Words.OrderReaderContract.{OrderRoom, OrderDone};
 use super::fields::{next_number, read_plain};
 use super::order_table::{known_of, no_fields, put_spot, row_of};
 use super::rules::read_rules;
-use super::{Class, FieldSpot, Order, OrderRow};
+use super::{Class, FieldSpot, Order};
 use solver::{Place, Refusal, clear_tokens};
 
 // A count and so many rules.
@@ -157,7 +157,7 @@ pub fn read_order(
         return Err(Refusal::Length);
     }
     let kind = s[0];
-    let OrderRow::Listed(class, sorts) = row_of(kind) else {
+    let Some((class, sorts)) = row_of(kind) else {
         return Err(Refusal::Code);
     };
     read_fields(

@@ -5,38 +5,38 @@ ghost use Rattle.sheet.specs.OrderTable.{row_in};
 ghost use Rattle.sheet.specs.Sheet.{table};
 ghost use Rattle.sheet.specs.Words.FieldLayout.{row_words, known_for, is_operation, put_spot, no_spot, no_fields};
 
-use super::{Class, FieldSpot, Order, OrderRow};
+use super::{Class, FieldSpot, Order};
 
-// THE TABLE OF ORDERS: a class and the sorts of the fields, two digits a field, those of the first field last: 1 a number, 2 an owner and a term, 3 a
+// THE TABLE OF ORDERS: of a number that is listed the class and the sorts of the fields, two digits a field, those of the first field last: 1 a number, 2 an owner and a term, 3 a
 // code, 4 a term, 5 a nominal, 6 entries, 7 receivers, 8 parameters, 9 arguments, 10 rules, 11 a bound.
-pub fn row_of(kind: u8) -> OrderRow
+pub fn row_of(kind: u8) -> Option<(Class, u64)>
     ensures { result ≡ row_words (row_in table kind) }
 {
     match kind {
-        0 => OrderRow::Listed(Class::Session, 101),
-        1 => OrderRow::Listed(Class::Session, 301),
-        2 => OrderRow::Listed(Class::Session, 1),
-        3 => OrderRow::Listed(Class::Session, 4),
-        4 => OrderRow::Listed(Class::Session, 40401),
-        5 => OrderRow::Listed(Class::Session, 4),
-        6 => OrderRow::Listed(Class::Session, 0),
-        7 => OrderRow::Listed(Class::Session, 0),
-        8 => OrderRow::Listed(Class::Session, 0),
-        21 => OrderRow::Listed(Class::Session, 11110301),
-        22 => OrderRow::Listed(Class::Session, 40401),
-        9 => OrderRow::Listed(Class::Operation, 404),
-        10 => OrderRow::Listed(Class::Operation, 404),
-        11 => OrderRow::Listed(Class::Operation, 404),
-        12 => OrderRow::Listed(Class::Operation, 40706),
-        13 => OrderRow::Listed(Class::Operation, 4080706),
-        14 => OrderRow::Listed(Class::Operation, 402),
-        15 => OrderRow::Listed(Class::Operation, 4),
-        16 => OrderRow::Listed(Class::Operation, 408),
-        17 => OrderRow::Listed(Class::Operation, 40505),
-        18 => OrderRow::Listed(Class::Operation, 907060408),
-        19 => OrderRow::Listed(Class::Operation, 40504),
-        20 => OrderRow::Listed(Class::Operation, 410),
-        _ => OrderRow::Unlisted,
+        0 => Some((Class::Session, 101)),
+        1 => Some((Class::Session, 301)),
+        2 => Some((Class::Session, 1)),
+        3 => Some((Class::Session, 4)),
+        4 => Some((Class::Session, 40401)),
+        5 => Some((Class::Session, 4)),
+        6 => Some((Class::Session, 0)),
+        7 => Some((Class::Session, 0)),
+        8 => Some((Class::Session, 0)),
+        21 => Some((Class::Session, 11110301)),
+        22 => Some((Class::Session, 40401)),
+        9 => Some((Class::Operation, 404)),
+        10 => Some((Class::Operation, 404)),
+        11 => Some((Class::Operation, 404)),
+        12 => Some((Class::Operation, 40706)),
+        13 => Some((Class::Operation, 4080706)),
+        14 => Some((Class::Operation, 402)),
+        15 => Some((Class::Operation, 4)),
+        16 => Some((Class::Operation, 408)),
+        17 => Some((Class::Operation, 40505)),
+        18 => Some((Class::Operation, 907060408)),
+        19 => Some((Class::Operation, 40504)),
+        20 => Some((Class::Operation, 410)),
+        _ => None,
     }
 }
 
@@ -54,7 +54,7 @@ pub fn known_of(class: Class, issued: u64) -> u64
 pub fn is_operation(kind: u8) -> bool
     ensures { result ≡ is_operation (row_in table kind) }
 {
-    let OrderRow::Listed(class, _sorts) = row_of(kind) else {
+    let Some((class, _)) = row_of(kind) else {
         return false;
     };
     match class {

@@ -21,9 +21,7 @@ ghost use Rattle.sheet.specs.Words.SessionOrdersContract.{variable_answer, terml
 
 use super::framing::{begin_answer, write_byte_answer, write_number_answer, write_refusal};
 use super::{AfterOrder, FieldSpot, Order, TermlessOrder, VariableOrder};
-use solver::{
-    Named, Site, Solver, Subject, plain_request, range_request, variable_len, write_variable,
-};
+use solver::{Site, Solver, Subject, plain_request, range_request, variable_len, write_variable};
 
 // Whether the revision is another, as a byte.
 fn changed_byte(old: usize, new: usize) -> u8
@@ -219,7 +217,7 @@ fn variable_order(
         → Does (lent x kinds.now vals.now tables.old) result.solver tables.new z
         (solve (limits_of x) z (variable_command wanted)) (output_at out.old to) (output_at out.new result.next) }
 {
-    let Named::Variable(v) = x.id_of(tables, site_of(wanted)) else {
+    let Some(v) = x.id_of(tables, site_of(wanted)) else {
         let next = write_refusal(out, to, 8);
         return AfterOrder { solver: x, next };
     };

@@ -201,10 +201,8 @@ impl Solver {
         ensures beside { Beside self result tables.old tables.new }
     {
         let n = self.issued;
-        let mut v = 0;
-        while v < n {
+        for v in 0..n {
             self = self.bind_default(kinds, vals, tables, v, never);
-            v += 1;
         }
         self
     }

@@ -291,9 +291,7 @@ fn clear(n: usize, work: &mut [u32], top: usize)
     requires { (n ≤ length work.old) × Clearing (take n work.old) (drop n work.old) top }
     ensures { Zero work.new }
 {
-    let mut k = top;
-    while 0 < k {
-        k -= 1;
+    for k in (0..top).rev() {
         let x = wide(work[n + k]);
         work[x] = 0;
         work[n + k] = 0;

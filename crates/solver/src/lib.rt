@@ -139,16 +139,9 @@ pub struct Checked {
     pub count: usize,
 }
 
-// The variable of a place, or that no more may be issued: refusal 8.
-#[derive(Clone, Copy)]
-pub enum Named {
-    Variable(u32),
-    Full,
-}
-
-// The solver after orders 0 to 2, and what it answers.
+// The solver after orders 0 to 2, and the variable of the place; none where no more may be issued, which is refusal 8.
 #[derive(Clone, Copy)]
 pub struct Issue {
     pub solver: Solver,
-    pub answer: Named,
+    pub answer: Option<u32>,
 }

@@ -74,13 +74,11 @@ pub fn scan(
 {
     let mut hit = false;
     let mut top = from;
-    let mut i = 0;
-    while i < run.len {
+    for i in 0..run.len {
         let k = kinds[run.at + i];
         let v = vals[run.at + i];
         hit = seen(k, v, want, hit);
         top = push(work, n, top, k, v);
-        i += 1;
     }
     Reached { hit, top }
 }
@@ -121,9 +119,7 @@ pub fn clear_marks(work: &mut [u32], n: usize, top: usize)
     requires { Work (take n work.old) (drop n work.old) top × (n + n ≤ length work.old) }
     ensures { Zero work.new }
 {
-    let mut k = top;
-    while 0 < k {
-        k -= 1;
+    for k in (0..top).rev() {
         let v = wide(work[n + k]);
         work[n + k] = 0;
         work[v] = 0;

@@ -250,9 +250,7 @@ pub fn clear_words(words: &mut [u32], count: usize)
     requires { count ≤ length words.old }
     ensures { Cleared count words.old words.new }
 {
-    let mut i = 0;
-    while i < count {
+    for i in 0..count {
         words[i] = 0;
-        i += 1;
     }
 }

@@ -20,15 +20,13 @@ fn store_builtins(a: &mut [u32], b: &mut [u32])
     requires { (length a.old ≡ 64) × (length b.old ≡ 64) }
     ensures { (c : ℕ) → c < 32 → Held a.new b.new (c + c) (node 4 (num c end)) }
 {
-    let mut n = 0;
-    while n < 32 {
+    for n in 0..32 {
         let at = n + n;
         let next = at + 1;
         a[at] = 6;
         a[next] = 0;
         b[at] = 2;
         b[next] = n as u32;
-        n += 1;
     }
 }
 

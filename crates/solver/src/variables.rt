@@ -1,7 +1,6 @@
 // Orders 0 to 2: the variable of a place. A variable's words in the table say what it is the variable of: 1, a site and a slot, or 2 and
 // the site of a hole.
-ghost use Rattle.std.specs.Prelude.{◌≡◌, true, false, List, ℕ, ◌+◌, ◌*◌, ◌^◌, ◌≤◌, ◌<◌, length, get_or};
-ghost use Rattle.solver.specs.declared.Named.TheVariants.{Variable};
+ghost use Rattle.std.specs.Prelude.{Some, ◌≡◌, true, false, List, ℕ, ◌+◌, ◌*◌, ◌^◌, ◌≤◌, ◌<◌, length, get_or};
 ghost use Rattle.solver.specs.Session.{VariablePlace, at, gap, Session, find};
 ghost use Rattle.solver.specs.Orders as orders;
 ghost use Rattle.solver.specs.Words.SessionRepresentation.{limits_of, place_words, site_words, slot_words, RequestWord, request_in, HeldPlace, HeldPlaces, Represents};
@@ -10,7 +9,7 @@ ghost use Rattle.solver.specs.Words.MethodContract.{resolved_reply};
 ghost use Rattle.solver.specs.Words.OrderTerms.{place_of};
 
 use super::words::wide;
-use super::{Issue, Named, Site, Solver};
+use super::{Issue, Site, Solver};
 
 // Whether a variable's words are those asked for: a hole has no slot.
 pub fn is_place(kind: u32, site: u32, slot: u32, k: u32, s: u32, i: u32) -> bool
@@ -35,12 +34,10 @@ fn has_word(words: &[u32], from: usize, count: usize, x: u32) -> bool
     ensures none { result ≡ false → (i : ℕ) → i < count → get_or words.now (from + i) 0 ≡ x → ⊥ }
 {
     let mut found = false;
-    let mut i = 0;
-    while i < count {
+    for i in 0..count {
         if words[from + i] == x {
             found = true;
         }
-        i += 1;
     }
     found
 }
@@ -58,9 +55,7 @@ pub fn find_place(tables: &[u32], m: usize, issued: usize, kind: u32, site: u32,
     if !has_word(tables, 3 * m, issued, site) {
         return issued;
     }
-    let mut v = issued;
-    while 0 < v {
-        v -= 1;
+    for v in (0..issued).rev() {
         let k = tables[2 * m + v];
         let s = tables[3 * m + v];
         let i = tables[4 * m + v];
@@ -72,23 +67,23 @@ pub fn find_place(tables: &[u32], m: usize, issued: usize, kind: u32, site: u32,
 }
 
 // A variable below m by its name; no other may be issued.
-fn named_below(v: usize, m: usize) -> Named
+fn named_below(v: usize, m: usize) -> Option<u32>
     requires { m < 2 ^ 32 }
     ensures { result ≡ named_below v m }
 {
     if v < m {
-        return Named::Variable(v as u32);
+        return Some(v as u32);
     }
-    Named::Full
+    None
 }
 
 impl Solver {
     // The variable that a place has or would be given, without issuing it.
-    pub fn id_of(self, tables: &[u32], site: Site) -> Named
+    pub fn id_of(self, tables: &[u32], site: Site) -> Option<u32>
         requires { (ks vs : List ℕ) × (s : Session) × Represents self ks vs tables.now s }
         ensures placed { (ks vs : List ℕ) (s : Session) → Represents self ks vs tables.now s
             → result ≡ named_of (placed (limits_of self) s (place_of site)).variable }
-        ensures low { (v : ℕ) → result ≡ Variable v → v < self.variables }
+        ensures low { (v : ℕ) → result ≡ Some v → v < self.variables }
     {
         let m = self.variables;
         let n = self.issued;
@@ -105,7 +100,7 @@ impl Solver {
             → HeldPlace p kind site slot
             → Represents self ks vs tables.old s
             → Issued result.solver ks vs tables.new p (placed (limits_of self) s p) result.answer }
-        ensures low { (v : ℕ) → result.answer ≡ Variable v → v < self.variables }
+        ensures low { (v : ℕ) → result.answer ≡ Some v → v < self.variables }
         ensures beside { Beside self result.solver tables.old tables.new }
     {
         let m = self.variables;
@@ -114,13 +109,13 @@ impl Solver {
         if v < issued {
             return Issue {
                 solver: self,
-                answer: Named::Variable(v as u32),
+                answer: Some(v as u32),
             };
         }
         if m <= issued {
             return Issue {
                 solver: self,
-                answer: Named::Full,
+                answer: None,
             };
         }
         tables[2 * m + issued] = kind;
@@ -129,7 +124,7 @@ impl Solver {
         self.issued = issued + 1;
         Issue {
             solver: self,
-            answer: Named::Variable(issued as u32),
+            answer: Some(issued as u32),
         }
     }
 
@@ -155,22 +150,11 @@ impl Solver {
     {
         let m = self.variables;
         let c = self.issue(tables, 1, site, 1);
-        let solver = c.solver;
-        let answer = c.answer;
-        match answer {
-            Named::Variable(v) => {
-                let at = m + wide(v);
-                tables[at] = request;
-                Issue {
-                    solver,
-                    answer: Named::Variable(v),
-                }
-            }
-            Named::Full => Issue {
-                solver,
-                answer: Named::Full,
-            },
+        if let Some(v) = c.answer {
+            let at = m + wide(v);
+            tables[at] = request;
         }
+        c
     }
 
     // Order 2: the variable of a hole.

@@ -1,5 +1,5 @@
 -- How the fields of an order are laid out: their sorts as numbers, their tokens, and the spots that tell where they stand.
-use Rattle.std.specs.Prelude.{Bool, true, false, ◌&&◌, ◌||◌, List, [], ◌∷◌, ◌++◌, ◌≡◌, ℕ, zero, suc, ◌+◌, ◌-◌, ◌*◌, ◌^◌, ◌≤◌, ◌<◌, eqb, length}
+use Rattle.std.specs.Prelude.{Some, None, Bool, true, false, ◌&&◌, ◌||◌, List, [], ◌∷◌, ◌++◌, ◌≡◌, ℕ, zero, suc, ◌+◌, ◌-◌, ◌*◌, ◌^◌, ◌≤◌, ◌<◌, eqb, length}
 use Rattle.std.proofs.Math.Option.{Option, none, some}
 use Rattle.solver.specs.TermTypes.{Place, Rule, Listing, Arguments, Receivers, Entries, Step, Next, Stopped}
 use Rattle.solver.specs.Terms.Parser.{Parser, Result, got, refused, pick, ◌>>=◌, return, number}
@@ -15,9 +15,8 @@ use Rattle.solver.specs.Terms.ReadContract.{Only}
 use Rattle.solver.specs.Families.{Bound}
 use Rattle.sheet.specs.declared.FieldSpot.{FieldSpot}
 use Rattle.sheet.specs.declared.Order.{Order}
-use Rattle.sheet.specs.declared.OrderRow.{OrderRow}
 use Rattle.sheet.specs.declared.Class.{Class}
-use Rattle.sheet.specs.declared.OrderRow.TheVariants.{Listed, Unlisted}
+use Rattle.std.specs.declared.option.Option as rust
 use Rattle.sheet.specs.declared.Class.TheVariants.{Session, Operation}
 use Rattle.sheet.specs.OrderTable.{Act, tells, answers, Row, row_in, layout}
 use Rattle.sheet.specs.Sheet.{table}
@@ -83,13 +82,13 @@ class_by (tells f) = Session
 class_by (answers f) = Operation
 
 -- a row of the table as the code has it
-abbrev pub row_words : Option Row → OrderRow
-row_words none = Unlisted
-row_words (some r) = Listed (class_by r.act) (packed (layout r))
+abbrev pub row_words : Option Row → rust.Option (Class × ℕ)
+row_words none = None
+row_words (some r) = Some (class_by r.act, packed (layout r))
 
 -- the order with a number is listed, of a class and with these sorts
 abbrev pub RowIs : ℕ → Class → ℕ → Type 0
-RowIs k c sorts = row_words (row_in table k) ≡ Listed c sorts
+RowIs k c sorts = row_words (row_in table k) ≡ Some (c, sorts)
 
 -- it is listed, and leaves the session as it was
 abbrev pub answers_by : Act → Bool

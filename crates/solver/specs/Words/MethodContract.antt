@@ -1,12 +1,11 @@
 -- What the solver's methods say of the counters, the table and their answers.
-use Rattle.std.specs.Prelude.{Bool, true, false, ◌&&◌, ◌||◌, List, ◌≡◌, ℕ, zero, suc, ◌+◌, ◌-◌, ◌*◌, ◌/◌, ◌%◌, ◌^◌, ◌≤◌, ◌<◌, eqb, ltb, length, get_or, set, drop}
+use Rattle.std.specs.Prelude.{Some, None, Bool, true, false, ◌&&◌, ◌||◌, List, ◌≡◌, ℕ, zero, suc, ◌+◌, ◌-◌, ◌*◌, ◌/◌, ◌%◌, ◌^◌, ◌≤◌, ◌<◌, eqb, ltb, length, get_or, set, drop}
 use Rattle.std.proofs.Math.Option.{Option, none, some}
 use Rattle.std.specs.Int.Bits.{bit_and, bit_or}
 use Rattle.terms.specs.Result.{pick}
 use Rattle.terms.specs.Term.{Term, var, node}
 use Rattle.solver.specs.declared.Solver.{Solver}
-use Rattle.solver.specs.declared.Named.{Named}
-use Rattle.solver.specs.declared.Named.TheVariants.{Variable, Full}
+use Rattle.std.specs.declared.option.Option as rust
 use Rattle.solver.specs.Constrain as solving
 use Rattle.unify.specs.Solver.{put}
 use Rattle.solver.specs.Families.{Numeric, I8, I16, I32, I64, U8, U16, U32, U64}
@@ -59,21 +58,21 @@ placing s p none false = record { session = issue_at s p; variable = some (issue
 abbrev pub placed : Limits → Session → VariablePlace → Placing
 placed lim s p = placing s p (find p s.places) (full lim s)
 
-abbrev pub named_of : Option ℕ → Named
-named_of none = Full
-named_of (some v) = Variable v
+abbrev pub named_of : Option ℕ → rust.Option ℕ
+named_of none = None
+named_of (some v) = Some v
 
 -- a variable below m; no other may be issued
-unfoldable pub named_below : ℕ → ℕ → Named
-named_below v m = pick (ltb v m) (Variable v) Full
+unfoldable pub named_below : ℕ → ℕ → rust.Option ℕ
+named_below v m = pick (ltb v m) (Some v) None
 
 -- where the variable of an answer stands
-abbrev pub Located : VariablePlace → Session → Named → Type 0
-Located p s (Variable v) = (find p s.places ≡ some v) × (v < issued s)
-Located p s Full = find p s.places ≡ none
+abbrev pub Located : VariablePlace → Session → rust.Option ℕ → Type 0
+Located p s (Some v) = (find p s.places ≡ some v) × (v < issued s)
+Located p s None = find p s.places ≡ none
 
 -- a place asked for: the session is held after it, and the answer is its variable
-pub record Issued (x : Solver) (ks vs ts : List ℕ) (p : VariablePlace) (y : Placing) (a : Named) : Type 0 where
+pub record Issued (x : Solver) (ks vs ts : List ℕ) (p : VariablePlace) (y : Placing) (a : rust.Option ℕ) : Type 0 where
   pub represents : Represents x ks vs ts y.session
   pub answer : a ≡ named_of y.variable
   pub located : Located p y.session a
@@ -81,16 +80,16 @@ pub record Issued (x : Solver) (ks vs ts : List ℕ) (p : VariablePlace) (y : Pl
 -- ---- orders 0 to 2
 
 -- order 0 answers the variable, orders 1, 2 and 21 what it resolves to; no variable is refusal 8
-abbrev pub reply_of : Named → Reply
-reply_of (Variable v) = term (var v)
-reply_of Full = refused 8
+abbrev pub reply_of : rust.Option ℕ → Reply
+reply_of (Some v) = term (var v)
+reply_of None = refused 8
 
-abbrev pub resolved_reply : solving.Solver → Named → Reply
-resolved_reply z (Variable v) = term (resolved z (var v))
-resolved_reply z Full = refused 8
+abbrev pub resolved_reply : solving.Solver → rust.Option ℕ → Reply
+resolved_reply z (Some v) = term (resolved z (var v))
+resolved_reply z None = refused 8
 
 -- an order done: the session is held after it, and the answer is the order's
-pub record Replied (x : Solver) (ks vs ts : List ℕ) (p : VariablePlace) (y : Step) (says : Named → Reply) (a : Named) : Type 0 where
+pub record Replied (x : Solver) (ks vs ts : List ℕ) (p : VariablePlace) (y : Step) (says : rust.Option ℕ → Reply) (a : rust.Option ℕ) : Type 0 where
   pub represents : Represents x ks vs ts y.session
   pub reply : y.reply ≡ says a
   pub located : Located p y.session a

@@ -12,8 +12,8 @@ use Rattle.solver.specs.Terms.Number.{shortest}
 use Rattle.solver.specs.Terms.Term.{var, bytes}
 use Rattle.solver.proofs.Terms.Bools.{never_true}
 use Rattle.solver.specs.declared.Solver.{Solver}
-use Rattle.solver.specs.declared.Named.{Named}
-use Rattle.solver.specs.declared.Named.TheVariants.{Variable, Full}
+use Rattle.std.specs.Prelude.{Some, None}
+use Rattle.std.specs.declared.option.Option as rust
 use Rattle.sheet.specs.declared.VariableOrder.{VariableOrder}
 use Rattle.sheet.specs.declared.VariableOrder.TheVariants.{Slot, Number, Hole}
 use Rattle.sheet.specs.declared.TermlessOrder.{TermlessOrder}
@@ -227,13 +227,13 @@ changed_other old new e = rw (ne_eqb new old e) refl
 module _ (x : Solver) (ks vs ts : List ℕ) (z : Session) (L : Represents x ks vs ts z) (c : orders.Command) (p : VariablePlace) (w : ℕ → List ℕ)
     (answers : next_of z p < x.variables → (solve (limits_of x) z c).answer ≡ outcome (w (next_of z p)))
     (fullness : find p z.places ≡ none → full (limits_of x) z ≡ true → order (limits_of x) z c ≡ (z gives refused 8))
-    (a : Named) (e : a ≡ named_of (placed (limits_of x) z p).variable) (out₀ : List ℕ) (to : ℕ) (out : List ℕ) (r : ℕ) where
-  pub place_refused : a ≡ Full → Framed (refusal 8) out₀ to out r → Does (lent x ks vs ts) x ts z (solve (limits_of x) z c) (output_at out₀ to) (output_at out r)
+    (a : rust.Option ℕ) (e : a ≡ named_of (placed (limits_of x) z p).variable) (out₀ : List ℕ) (to : ℕ) (out : List ℕ) (r : ℕ) where
+  pub place_refused : a ≡ None → Framed (refusal 8) out₀ to out r → Does (lent x ks vs ts) x ts z (solve (limits_of x) z c) (output_at out₀ to) (output_at out r)
   place_refused f g =
       let n = named_none (limits_of x) z p L.fits (sym f ∙ e) in
       full_does x ks vs ts z L c (fullness n.0 n.1) out₀ to out r g
 
-  module _ (v : ℕ) (f : a ≡ Variable v) (g : Framed (outcome (w v)) out₀ to out r) where
+  module _ (v : ℕ) (f : a ≡ Some v) (g : Framed (outcome (w v)) out₀ to out r) where
     says : Framed (solve (limits_of x) z c).answer out₀ to out r
     says =
         let n = named_next (limits_of x) z p L.fits v (sym f ∙ e) in

@@ -8,7 +8,7 @@ use native.Mathlib.Decide.{dec_lt, ℕ_discrete}
 use native.Mathlib.Omega.{arith}
 use borrow.Author.Tests.{lt-ltb, le-ltb, ne_eqb}
 use lib.ListN.{length, get_or, drop}
-use Rattle.std.specs.Prelude.{Ok}
+use Rattle.std.specs.Prelude.{None, Ok}
 use Rattle.solver.specs.TermTypes.{Place, Next, Stopped}
 use Rattle.solver.specs.Terms.Parser.{Result, got, refused, bind, number}
 use Rattle.solver.specs.Terms.Shape as shape
@@ -22,7 +22,6 @@ use Rattle.solver.proofs.Terms.NumberStepLaws.{one_group, at_byte, at-end}
 use Rattle.solver.proofs.Terms.Shortest.{Octets}
 use Rattle.sheet.specs.declared.FieldSpot.{FieldSpot}
 use Rattle.sheet.specs.declared.Order.{Order}
-use Rattle.sheet.specs.declared.OrderRow.TheVariants.{Unlisted}
 use Rattle.sheet.specs.declared.Class.{Class}
 use Rattle.sheet.specs.Fields as fields
 use Rattle.sheet.specs.Fields.{Field, FieldSort, ruled, nodes, all_nodes, last, nth}
@@ -124,11 +123,11 @@ module _ (s : List ℕ) (issued : ℕ) where
     unfolding read_order read_by
     order_row o h = rw (lt-ltb 0 (length s) some_bytes, h)
 
-    pub order_unlisted : row_words (row_in table (get_or s 0 0)) ≡ Unlisted → read_order s issued ≡ refused 2
+    pub order_unlisted : row_words (row_in table (get_or s 0 0)) ≡ None → read_order s issued ≡ refused 2
     unfolding kinded_order
     order_unlisted h = go (row_in table (get_or s 0 0)) refl h
       where
-        go : (o : Option Row) → row_in table (get_or s 0 0) ≡ o → row_words o ≡ Unlisted → read_order s issued ≡ refused 2
+        go : (o : Option Row) → row_in table (get_or s 0 0) ≡ o → row_words o ≡ None → read_order s issued ≡ refused 2
         go none e h = order_row none e
         go (some r) e h = let z : ◌≡◌ {A = ℕ} 0 1 = cc in absurd (omega arith)
 

@@ -13,7 +13,8 @@ use lib.ListN.{length}
 use Rattle.solver.specs.Terms.Result.{pick}
 use Rattle.solver.proofs.Terms.Bools.{never_true, never_false}
 use Rattle.solver.proofs.Terms.KindTableLaws.{both_true}
-use Rattle.sheet.specs.declared.OrderRow.TheVariants.{Listed, Unlisted}
+use Rattle.std.specs.Prelude.{Some, None}
+use Rattle.std.specs.declared.option.Option as rust
 use Rattle.sheet.specs.declared.Class.{Class}
 use Rattle.sheet.specs.declared.Class.TheVariants.{Session, Operation}
 use Rattle.sheet.specs.Fields as fields
@@ -228,14 +229,16 @@ spares_few k r e = leb-true (spares (layout r)) 8 (every_row (λ (r : Row). leb 
 
 -- ---- what an order does
 
-listed_same : {c d : Class} {m n : ℕ} → Listed c m ≡ Listed d n → (c ≡ d) × (m ≡ n)
-listed_same e = (cc, cc)
+listed_same : {c d : Class} {m n : ℕ} → ◌≡◌ {A = rust.Option (Class × ℕ)} (Some (c, m)) (Some (d, n)) → (c ≡ d) × (m ≡ n)
+listed_same {c} {d} {m} {n} e =
+    let p : ◌≡◌ {A = Class × ℕ} (c, m) (d, n) = cc in
+    (ap (λ (x : Class × ℕ). x.0) p, ap (λ (x : Class × ℕ). x.1) p)
 
 -- the row of an order that is listed
 pub row_of : (k : ℕ) (c : Class) (n : ℕ) → RowIs k c n → (r : Row) × (row_in table k ≡ some r) × (c ≡ class_by r.act) × (n ≡ packed (layout r))
 row_of k c n h = go (row_in table k) refl h
   where
-    go : (o : Option Row) → row_in table k ≡ o → row_words o ≡ Listed c n → (r : Row) × (row_in table k ≡ some r) × (c ≡ class_by r.act) × (n ≡ packed (layout r))
+    go : (o : Option Row) → row_in table k ≡ o → row_words o ≡ Some (c, n) → (r : Row) × (row_in table k ≡ some r) × (c ≡ class_by r.act) × (n ≡ packed (layout r))
     go none e h = let z : ◌≡◌ {A = ℕ} 0 1 = cc in absurd (omega arith)
     go (some r) e h = let t = listed_same h in (r, e, sym t.0, sym t.1)
 
@@ -244,11 +247,11 @@ abbrev pub operates : Class → Bool
 operates Session = false
 operates Operation = true
 
-pub unlisted_session : (o : Option Row) → Unlisted ≡ row_words o → false ≡ is_operation o
+pub unlisted_session : (o : Option Row) → None ≡ row_words o → false ≡ is_operation o
 unlisted_session none h = refl
 unlisted_session (some r) h = let z : ◌≡◌ {A = ℕ} 0 1 = cc in absurd (omega arith)
 
-pub listed_class : (o : Option Row) (c : Class) (n : ℕ) → Listed c n ≡ row_words o → is_operation o ≡ operates c
+pub listed_class : (o : Option Row) (c : Class) (n : ℕ) → Some (c, n) ≡ row_words o → is_operation o ≡ operates c
 listed_class none c n h = let z : ◌≡◌ {A = ℕ} 0 1 = cc in absurd (omega arith)
 listed_class (some r) c n h = go r.act (sym (listed_same h).0)
   where

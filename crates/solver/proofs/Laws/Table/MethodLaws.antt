@@ -15,9 +15,9 @@ use Rattle.terms.specs.Term.{Term, var, Held}
 use Rattle.unify.specs.Solver.{put, put_same, put_other}
 use Rattle.unify.specs.Term.{clash}
 use Rattle.solver.specs.declared.Solver.{Solver}
-use Rattle.solver.specs.declared.Named.{Named}
+use Rattle.std.specs.Prelude.{Some, None}
+use Rattle.std.specs.declared.option.Option as rust
 use Rattle.solver.specs.declared.Site.{Site}
-use Rattle.solver.specs.declared.Named.TheVariants.{Variable, Full}
 use Rattle.solver.specs.Families.{Request}
 use Rattle.solver.specs.Session.{Limits, VariablePlace, at, gap, same_place, Session, issued, find, with_solver, issue_at, request, deferring}
 use Rattle.solver.specs.Orders.{full, variable_step, number_at, hole_at}
@@ -414,21 +414,21 @@ module _ (x : Solver) (ks vs ts : List ℕ) (s : Session) (L : Represents x ks v
   placed_below = go (find p s.places) refl e (full (limits_of x) s) refl
     where
       go : (o : Option ℕ) → find p s.places ≡ o → v ≡ found x.issued o → (b : Bool) → full (limits_of x) s ≡ b
-          → pick (ltb v x.variables) (Variable v) Full ≡ named_of (placing s p o b).variable
-      go (some w) q f b g = rw (lt-ltb v x.variables (omega (arith, find_issued p s.places w q, L.issued, L.fits.variables))) (ap Variable f)
+          → pick (ltb v x.variables) (Some v) None ≡ named_of (placing s p o b).variable
+      go (some w) q f b g = rw (lt-ltb v x.variables (omega (arith, find_issued p s.places w q, L.issued, L.fits.variables))) (ap Some f)
       go none q f true g = rw (le-ltb v x.variables (omega (arith, leb-true x.variables (length s.places) g, L.issued))) refl
-      go none q f false g = rw (lt-ltb v x.variables (omega (arith, leb-false x.variables (length s.places) g, L.issued))) (ap Variable (f ∙ L.issued))
+      go none q f false g = rw (lt-ltb v x.variables (omega (arith, leb-false x.variables (length s.places) g, L.issued))) (ap Some (f ∙ L.issued))
 
   pub site_below : (site : Site) → place_of site ≡ p → named_below v x.variables ≡ named_of (placed (limits_of x) s (place_of site)).variable
   site_below site f = subst (λ (q : VariablePlace). named_below v x.variables ≡ named_of (placed (limits_of x) s q).variable) (sym f) placed_below
 
-  pub issued_found : v < x.issued → Issued x ks vs ts p (placed (limits_of x) s p) (Variable v)
+  pub issued_found : v < x.issued → Issued x ks vs ts p (placed (limits_of x) s p) (Some v)
   unfolding placing
   issued_found l =
       let f = is_found l in
       rw f (record { represents = L; answer = refl; located = (f, omega (arith, L.issued)) })
 
-  pub issued_full : x.issued ≤ v → x.variables ≤ x.issued → Issued x ks vs ts p (placed (limits_of x) s p) Full
+  pub issued_full : x.issued ≤ v → x.variables ≤ x.issued → Issued x ks vs ts p (placed (limits_of x) s p) None
   unfolding placing
   issued_full l n =
       let f = not_found l in
@@ -438,22 +438,22 @@ module _ (x : Solver) (ks vs ts : List ℕ) (s : Session) (L : Represents x ks v
       → Beside x y ts (set (set (set ts (2 * x.variables + x.issued) kind) (3 * x.variables + x.issued) site) (4 * x.variables + x.issued) slot)
       → y.issued ≡ x.issued + 1 → y.revision ≡ x.revision → y.kept ≡ x.kept
       → Issued y ks vs (set (set (set ts (2 * x.variables + x.issued) kind) (3 * x.variables + x.issued) site) (4 * x.variables + x.issued) slot) p
-      (placed (limits_of x) s p) (Variable x.issued)
+      (placed (limits_of x) s p) (Some x.issued)
   unfolding placing find
   issued_new kind site slot h l n y B i r k =
       let f = not_found l in
       rw (f, lt-leb x.variables (length s.places) (omega (arith, L.issued)))
       (record {
         represents = lent_issue x ks vs ts s L p kind site slot h n y B i r k;
-        answer = ap Variable L.issued;
+        answer = ap Some L.issued;
         located = (rw (same_self p, L.issued), omega (arith, L.issued));
       })
 
-pub named_low : (v m : ℕ) (r : Named) → r ≡ named_below v m → (w : ℕ) → r ≡ Variable w → w < m
+pub named_low : (v m : ℕ) (r : rust.Option ℕ) → r ≡ named_below v m → (w : ℕ) → r ≡ Some w → w < m
 unfolding named_below
 named_low v m r e w f = go (ltb v m) refl (sym f ∙ e)
   where
-    go : (b : Bool) → ltb v m ≡ b → Variable w ≡ pick b (Variable v) Full → w < m
+    go : (b : Bool) → ltb v m ≡ b → Some w ≡ pick b (Some v) None → w < m
     go true g h =
         let i : w ≡ v = cc in
         omega (arith, ltb-true v m g)
@@ -461,11 +461,11 @@ named_low v m r e w f = go (ltb v m) refl (sym f ∙ e)
 
 -- the variable that a place has or would be given, told by its name
 module _ (lim : Limits) (s : Session) (p : VariablePlace) (fits : WithinLimits lim s) where
-  pub named_next : (v : ℕ) → Variable v ≡ named_of (placed lim s p).variable → (v ≡ found (issued s) (find p s.places)) × (v < lim.variables)
+  pub named_next : (v : ℕ) → Some v ≡ named_of (placed lim s p).variable → (v ≡ found (issued s) (find p s.places)) × (v < lim.variables)
   unfolding placing
   named_next v = go (find p s.places) refl (full lim s) refl
     where
-      go : (o : Option ℕ) → find p s.places ≡ o → (b : Bool) → full lim s ≡ b → Variable v ≡ named_of (placing s p o b).variable
+      go : (o : Option ℕ) → find p s.places ≡ o → (b : Bool) → full lim s ≡ b → Some v ≡ named_of (placing s p o b).variable
           → (v ≡ found (issued s) o) × (v < lim.variables)
       go (some w) q b f e =
           let i : v ≡ w = cc in
@@ -475,11 +475,11 @@ module _ (lim : Limits) (s : Session) (p : VariablePlace) (fits : WithinLimits l
           let i : v ≡ issued s = cc in
           (i, omega (arith, leb-false lim.variables (issued s) f))
 
-  pub named_none : Full ≡ named_of (placed lim s p).variable → (find p s.places ≡ none) × (full lim s ≡ true)
+  pub named_none : None ≡ named_of (placed lim s p).variable → (find p s.places ≡ none) × (full lim s ≡ true)
   unfolding placing
   named_none = go (find p s.places) (full lim s)
     where
-      go : (o : Option ℕ) (b : Bool) → Full ≡ named_of (placing s p o b).variable → (o ≡ none) × (b ≡ true)
+      go : (o : Option ℕ) (b : Bool) → None ≡ named_of (placing s p o b).variable → (o ≡ none) × (b ≡ true)
       go (some w) b e = clash cc
       go none true e = (refl, refl)
       go none false e = clash cc
@@ -487,7 +487,7 @@ module _ (lim : Limits) (s : Session) (p : VariablePlace) (fits : WithinLimits l
 -- ---- orders 0 to 2
 
 module _ (y : Solver) (ks vs us : List ℕ) (lim : Limits) (s : Session) (p : VariablePlace) where
-  pub variable_replied : (a : Named) → Issued y ks vs us p (placed lim s p) a → Replied y ks vs us p (variable_step lim s p (find p s.places) (full lim s)) reply_of a
+  pub variable_replied : (a : rust.Option ℕ) → Issued y ks vs us p (placed lim s p) a → Replied y ks vs us p (variable_step lim s p (find p s.places) (full lim s)) reply_of a
   unfolding placing variable_step
   variable_replied a = go (find p s.places) (full lim s)
     where
@@ -496,7 +496,7 @@ module _ (y : Solver) (ks vs us : List ℕ) (lim : Limits) (s : Session) (p : Va
       go none true i = record { represents = i.represents; reply = ap reply_of (sym i.answer); located = i.located }
       go none false i = record { represents = i.represents; reply = ap reply_of (sym i.answer); located = i.located }
 
-  pub hole_replied : (a : Named) → Issued y ks vs us p (placed lim s p) a
+  pub hole_replied : (a : rust.Option ℕ) → Issued y ks vs us p (placed lim s p) a
       → Replied y ks vs us p (hole_at lim s p (find p s.places) (full lim s)) (resolved_reply (hole_at lim s p (find p s.places) (full lim s)).session.solver) a
   unfolding placing hole_at
   hole_replied a = go (find p s.places) (full lim s)
@@ -507,28 +507,28 @@ module _ (y : Solver) (ks vs us : List ℕ) (lim : Limits) (s : Session) (p : Va
       go none false i = record { represents = i.represents; reply = ap (resolved_reply s.solver) (sym i.answer); located = i.located }
 
   -- order 1, where no variable may be issued
-  pub number_full : (r : Request) → Issued y ks vs us p (placed lim s p) Full
-      → Replied y ks vs us p (number_at lim s p r (find p s.places) (full lim s)) (resolved_reply (number_at lim s p r (find p s.places) (full lim s)).session.solver) Full
+  pub number_full : (r : Request) → Issued y ks vs us p (placed lim s p) None
+      → Replied y ks vs us p (number_at lim s p r (find p s.places) (full lim s)) (resolved_reply (number_at lim s p r (find p s.places) (full lim s)).session.solver) None
   unfolding placing number_at
   number_full r = go (find p s.places) (full lim s)
     where
-      go : (o : Option ℕ) (b : Bool) → Issued y ks vs us p (placing s p o b) Full → Replied y ks vs us p (number_at lim s p r o b) (resolved_reply (number_at lim s p r o b).session.solver) Full
+      go : (o : Option ℕ) (b : Bool) → Issued y ks vs us p (placing s p o b) None → Replied y ks vs us p (number_at lim s p r o b) (resolved_reply (number_at lim s p r o b).session.solver) None
       go (some v) b i = clash (let e = i.answer in cc)
       go none true i = record { represents = i.represents; reply = refl; located = i.located }
       go none false i = clash (let e = i.answer in cc)
 
   -- and where the place has its variable, whose request is written
-  pub number_replied : (v word : ℕ) (r : Request) → Issued y ks vs us p (placed lim s p) (Variable v) → v < y.variables → HeldRequest (some r) word
+  pub number_replied : (v word : ℕ) (r : Request) → Issued y ks vs us p (placed lim s p) (Some v) → v < y.variables → HeldRequest (some r) word
       → Replied y ks vs (set us (y.variables + v) word) p (number_at lim s p r (find p s.places) (full lim s))
-      (resolved_reply (number_at lim s p r (find p s.places) (full lim s)).session.solver) (Variable v)
+      (resolved_reply (number_at lim s p r (find p s.places) (full lim s)).session.solver) (Some v)
   unfolding placing number_at
   number_replied v word r j l held = go (find p s.places) (full lim s) j
     where
       there : (s' : Session) → Represents y ks vs us s' → Represents y ks vs (set us (y.variables + v) word) (request s' v r)
       there s' L = lent_request y ks vs us s' L v word r l held
 
-      go : (o : Option ℕ) (b : Bool) → Issued y ks vs us p (placing s p o b) (Variable v)
-          → Replied y ks vs (set us (y.variables + v) word) p (number_at lim s p r o b) (resolved_reply (number_at lim s p r o b).session.solver) (Variable v)
+      go : (o : Option ℕ) (b : Bool) → Issued y ks vs us p (placing s p o b) (Some v)
+          → Replied y ks vs (set us (y.variables + v) word) p (number_at lim s p r o b) (resolved_reply (number_at lim s p r o b).session.solver) (Some v)
       go (some w) b i =
           let e : v ≡ w = let q = i.answer in cc in
           rw (← e) (record { represents = there s i.represents; reply = refl; located = i.located })
@@ -538,14 +538,14 @@ module _ (y : Solver) (ks vs us : List ℕ) (lim : Limits) (s : Session) (p : Va
           rw (← e) (record { represents = there (issue_at s p) i.represents; reply = refl; located = i.located })
 
   -- the same at an index that is that word's
-  pub number_written : (a : Named) (v word j : ℕ) (r : Request) → a ≡ Variable v → Issued y ks vs us p (placed lim s p) a → v < y.variables → HeldRequest (some r) word → j ≡ y.variables + v
+  pub number_written : (a : rust.Option ℕ) (v word j : ℕ) (r : Request) → a ≡ Some v → Issued y ks vs us p (placed lim s p) a → v < y.variables → HeldRequest (some r) word → j ≡ y.variables + v
       → Replied y ks vs (set us j word) p (number_at lim s p r (find p s.places) (full lim s))
-      (resolved_reply (number_at lim s p r (find p s.places) (full lim s)).session.solver) (Variable v)
-  number_written a v word j r e i l held f = rw f (number_replied v word r (subst (λ (b : Named). Issued y ks vs us p (placed lim s p) b) e i) l held)
+      (resolved_reply (number_at lim s p r (find p s.places) (full lim s)).session.solver) (Some v)
+  number_written a v word j r e i l held f = rw f (number_replied v word r (subst (λ (b : rust.Option ℕ). Issued y ks vs us p (placed lim s p) b) e i) l held)
 
-  pub number_none : (a : Named) (r : Request) → a ≡ Full → Issued y ks vs us p (placed lim s p) a
-      → Replied y ks vs us p (number_at lim s p r (find p s.places) (full lim s)) (resolved_reply (number_at lim s p r (find p s.places) (full lim s)).session.solver) Full
-  number_none a r e i = number_full r (subst (λ (b : Named). Issued y ks vs us p (placed lim s p) b) e i)
+  pub number_none : (a : rust.Option ℕ) (r : Request) → a ≡ None → Issued y ks vs us p (placed lim s p) a
+      → Replied y ks vs us p (number_at lim s p r (find p s.places) (full lim s)) (resolved_reply (number_at lim s p r (find p s.places) (full lim s)).session.solver) None
+  number_none a r e i = number_full r (subst (λ (b : rust.Option ℕ). Issued y ks vs us p (placed lim s p) b) e i)
 
 -- ---- requests on words
 

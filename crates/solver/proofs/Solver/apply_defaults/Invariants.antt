@@ -1,10 +1,6 @@
 -- `Solver::apply_defaults`. Invariant: the variables before v have their defaults.
-use Prim.Native.Nat.{◌-◌}
 use Rattle.solver.proofs.Laws.Table.ChainLaws.{Applied}
 use Rattle.solver.proofs.Solver.apply_defaults.Given as goal
 
 abbrev pub invariant-loop-v : goal.invariant-loop-v
 invariant-loop-v l = Applied l.never l.initial.self l.kinds l.vals l.initial.tables l.v l.self l.tables
-
-abbrev pub decreases-loop-v : goal.decreases-loop-v
-decreases-loop-v l = l.n - l.v

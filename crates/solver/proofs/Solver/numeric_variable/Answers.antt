@@ -7,18 +7,18 @@ use Rattle.solver.specs.Words.SessionRepresentation.{limits_of, request_in}
 use Rattle.solver.proofs.Laws.Table.MethodLaws.{number_written, number_none}
 use Rattle.solver.proofs.Solver.numeric_variable.Goals as goal
 
-pub returns-in-Variable-clause-held : goal.returns-in-Variable-clause-held
+pub returns-in-Some-clause-held : goal.returns-in-Some-clause-held
 unfolding order
-returns-in-Variable-clause-held c =
+returns-in-Some-clause-held c =
     let a = c.args in
     let i = c.issue-c.ensures in
-    let g = c.in-Variable.is in
+    let g = c.in-Some.is in
     let q = c.requires.1 in
-    λ ks vs s L. number_written _ ks vs _ (limits_of a.self) s (at a.site 1) _ _ a.request _ (request_in a.request) g (i.held ks vs s (at a.site 1) (refl, refl, refl) L) (omega (arith, i.low _ g, i.beside.variables)) (q, refl) (omega (arith, i.low _ g, i.beside.variables))
+    λ ks vs s L. rw g (number_written _ ks vs _ (limits_of a.self) s (at a.site 1) _ _ a.request _ (request_in a.request) g (i.held ks vs s (at a.site 1) (refl, refl, refl) L) (omega (arith, i.low _ g, i.beside.variables)) (q, refl) (omega (arith, i.low _ g, i.beside.variables)))
 
-pub returns-in-Full-clause-held : goal.returns-in-Full-clause-held
+pub returns-in_default-clause-held : goal.returns-in_default-clause-held
 unfolding order
-returns-in-Full-clause-held c =
+returns-in_default-clause-held c =
     let a = c.args in
     let i = c.issue-c.ensures in
-    λ ks vs s L. number_none _ ks vs _ (limits_of a.self) s (at a.site 1) _ (request_in a.request) c.in-Full.is (i.held ks vs s (at a.site 1) (refl, refl, refl) L)
+    λ ks vs s L. rw c.in_default.is (number_none _ ks vs _ (limits_of a.self) s (at a.site 1) _ (request_in a.request) c.in_default.is (i.held ks vs s (at a.site 1) (refl, refl, refl) L))

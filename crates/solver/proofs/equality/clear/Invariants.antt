@@ -7,6 +7,3 @@ use Rattle.solver.proofs.equality.clear.Given as goal
 abbrev pub invariant-loop-k : goal.invariant-loop-k
 invariant-loop-k l =
     Clearing (take l.n l.work) (drop l.n l.work) l.k × (length l.work ≡ length l.initial.work)
-
-abbrev pub decreases-loop-k : goal.decreases-loop-k
-decreases-loop-k l = l.k

@@ -7,6 +7,3 @@ use Rattle.solver.proofs.reach.clear_marks.Given as goal
 
 abbrev pub invariant-loop-k : goal.invariant-loop-k
 invariant-loop-k l = Clearing (take l.n l.work) (drop l.n l.work) l.k × (l.k ≤ l.n) × (length l.work ≡ length l.initial.work)
-
-abbrev pub decreases-loop-k : goal.decreases-loop-k
-decreases-loop-k l = l.k

@@ -1,7 +1,7 @@
 -- `scan`. Invariant: hit and the marks are what the first i tokens of the run give.
 use mathlib.Core.Path.{◌≡◌}
 use mathlib.Core.Bool.{true}
-use Prim.Native.Nat.{ℕ, suc, ◌-◌, ◌≤◌}
+use Prim.Native.Nat.{ℕ, suc, ◌≤◌}
 use lib.ListN.{length, take, drop}
 use Rattle.terms.specs.Words.Tokens.{toks}
 use Rattle.solver.specs.Words.Worklist.{Grown}
@@ -10,6 +10,3 @@ use Rattle.solver.proofs.reach.scan.Given as goal
 
 abbrev pub invariant-loop-i : goal.invariant-loop-i
 invariant-loop-i l = (l.i ≤ l.run.len) × (l.hit ≡ has l.want (toks l.kinds l.vals l.run.at l.i)) × Grown (λ (u : ℕ). has (suc u) (toks l.kinds l.vals l.run.at l.i) ≡ true) (take l.n l.initial.work) (drop l.n l.initial.work) l.from (take l.n l.work) (drop l.n l.work) l.top × (length l.work ≡ length l.initial.work)
-
-abbrev pub decreases-loop-i : goal.decreases-loop-i
-decreases-loop-i l = l.run.len - l.i

@@ -1,10 +1,6 @@
 -- `store_builtins`: one builtin more each turn.
-use Prim.Native.Nat.{◌-◌}
 use Rattle.solver.proofs.Laws.Table.SessionsLaws.{Stored}
 use Rattle.solver.proofs.sessions.store_builtins.Given as goal
 
 abbrev pub invariant-loop-n : goal.invariant-loop-n
 invariant-loop-n l = Stored l.a l.b l.n
-
-abbrev pub decreases-loop-n : goal.decreases-loop-n
-decreases-loop-n l = 32 - l.n

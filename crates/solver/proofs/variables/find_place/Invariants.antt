@@ -6,6 +6,3 @@ use Rattle.solver.proofs.variables.find_place.Given as goal
 
 abbrev pub invariant-loop-v : goal.invariant-loop-v
 invariant-loop-v l = (Last l.kind l.site l.slot l.m l.tables l.issued l.issued ≡ Last l.kind l.site l.slot l.m l.tables l.issued l.v) × (l.v ≤ l.issued)
-
-abbrev pub decreases-loop-v : goal.decreases-loop-v
-decreases-loop-v l = l.v
