@@ -54,14 +54,14 @@ pub enum VariableOrder {
     Hole(u32),
 }
 
-// An order without terms: for a variable (orders 0, 1, 2 and 21), the defaults of numbers (6) or with true of deferred variables (7), the revision (8); or a
-// refusal for what its fields say.
+// An order without terms: for a variable (orders 0, 1, 2 and 21), the defaults of numbers (6) or with true of deferred variables (7), the revision (8); or that no
+// type lies within its bounds: refusal 13.
 #[derive(Clone, Copy)]
 pub enum TermlessOrder {
     Variable(VariableOrder),
     Defaults(bool),
     Revision,
-    Refusal(u8),
+    NoType,
 }
 
 // The counters after an order, and the position after its answer: past the end of the output where it does not fit.

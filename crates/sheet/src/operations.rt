@@ -30,10 +30,7 @@ use solver::{
 fn bit(b: bool) -> u8
     ensures { result ≡ bit b }
 {
-    if b {
-        return 1;
-    }
-    0
+    u8::from(b)
 }
 
 // Order 11.

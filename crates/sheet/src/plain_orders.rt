@@ -27,10 +27,7 @@ use solver::{Site, Solver, Subject, plain_request, range_request, variable_len, 
 fn changed_byte(old: usize, new: usize) -> u8
     ensures { result ≡ bit (not (eqb new old)) }
 {
-    if new == old {
-        return 0;
-    }
-    1
+    u8::from(new != old)
 }
 
 // Order 8.
@@ -267,7 +264,7 @@ fn number_order(site: u32, word: u32) -> TermlessOrder
     ensures told { (q : Option Request) → HeldRequest q word → TermlessTold result }
 {
     if word == 0 {
-        return TermlessOrder::Refusal(13);
+        return TermlessOrder::NoType;
     }
     TermlessOrder::Variable(VariableOrder::Number(site, word))
 }
@@ -324,8 +321,8 @@ pub fn termless_order(
         }
         TermlessOrder::Defaults(never) => default_order(x, never, kinds, vals, tables, out, to),
         TermlessOrder::Revision => revision_order(x, out, to),
-        TermlessOrder::Refusal(code) => {
-            let next = write_refusal(out, to, code);
+        TermlessOrder::NoType => {
+            let next = write_refusal(out, to, 13);
             AfterOrder { solver: x, next }
         }
     }

@@ -117,11 +117,11 @@ pub enum Start {
 }
 
 // What `constrain` answers.
-#[derive(Clone, Copy)]
+#[derive(Clone, Copy, Debug, PartialEq, Eq)]
 pub enum Verdict {
-    Incompatible,
-    Compatible,
-    Cancelled,
+    Incompatible = 0,
+    Compatible = 1,
+    Cancelled = 2,
 }
 
 // The solver after a pair, and what came of it.

@@ -7,7 +7,7 @@ use Rattle.solver.specs.declared.Site.TheVariants as place
 use Rattle.sheet.specs.declared.VariableOrder.{VariableOrder}
 use Rattle.sheet.specs.declared.VariableOrder.TheVariants.{Slot, Number, Hole}
 use Rattle.sheet.specs.declared.TermlessOrder.{TermlessOrder}
-use Rattle.sheet.specs.declared.TermlessOrder.TheVariants.{Variable, Defaults, Revision, Refusal}
+use Rattle.sheet.specs.declared.TermlessOrder.TheVariants.{Variable, Defaults, Revision, NoType}
 use Rattle.solver.specs.Terms.Term.{Term, var}
 use Rattle.solver.specs.Constrain.{resolved}
 use Rattle.solver.specs.Session.{Session}
@@ -79,13 +79,13 @@ abbrev pub termless_command : TermlessOrder → Command
 termless_command (Variable o) = variable_command o
 termless_command (Defaults b) = defaults_by b
 termless_command Revision = revision
-termless_command (Refusal c) = unread c
+termless_command NoType = unread 13
 
 abbrev pub TermlessTold : TermlessOrder → Type 0
 TermlessTold (Variable o) = RequestTold o
 TermlessTold (Defaults b) = Unit {0}
 TermlessTold Revision = Unit {0}
-TermlessTold (Refusal c) = Unit {0}
+TermlessTold NoType = Unit {0}
 
 -- the number of an order that poses a pair, strictly or not
 abbrev pub pair_number : Bool → ℕ
