@@ -59,12 +59,8 @@ impl Tally {
 
 // Replays a vector. Returns whether all is as wanted, or nothing where the input ends before the vector does.
 fn replay_vector(bench: &mut Bench, answers: &mut [u8; ROOM]) -> Option<bool> {
-    let Some(head) = Head::read() else {
-        return None;
-    };
-    let Some(wanted) = Wanted::read() else {
-        return None;
-    };
+    let head = Head::read()?;
+    let wanted = Wanted::read()?;
     let size = (wanted.bytes as usize).min(ROOM);
     if !bench.read_sheet(&head) || !read_part(answers, size) {
         return None;
