@@ -152,10 +152,8 @@ pub fn clear_pairs(tables: &mut [u32], base: usize, count: usize)
     ensures { Wiped base count tables.old tables.new }
 {
     let end = count + count;
-    let mut i = 0;
-    while i < end {
+    for i in 0..end {
         tables[base + i] = 0;
-        i += 1;
     }
 }
 
