@@ -1,5 +1,5 @@
 -- What the head of a frame says.
-use Rattle.std.specs.Prelude.{◌≡◌, ℕ, List, min}
+use Rattle.std.specs.Prelude.{◌≡◌, ℕ, List, min, Option, Some, None}
 use Rattle.frames.specs.Numbers.{number_at}
 use Rattle.harness.specs.declared.head.Head.{Head}
 
@@ -9,3 +9,8 @@ pub record IsHeadOf (h : Head) (bytes : List ℕ) : Type 0 where
   pub size : h.size ≡ min (number_at bytes 4) 32768
   pub words : h.words ≡ min (number_at bytes 8) 20000
   pub fill : h.fill ≡ number_at bytes 12
+
+-- a head that was read is that of the bytes; where the input ends before there is none
+abbrev pub HeadRead : Option Head → List ℕ → Type 0
+HeadRead (Some h) bytes = IsHeadOf h bytes
+HeadRead None bytes = Unit {0}

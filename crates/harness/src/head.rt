@@ -33,9 +33,16 @@ impl From<[u8; 16]> for Head {
 }
 
 impl Head {
-    /// Reads a head from the input, or nothing where the input ends before. Which numbers these are is the input's choice.
-    pub fn read() -> Option<Head> {
-        let mut bytes = [0; 16];
-        read_part(&mut bytes, 16).then(|| Head::from(bytes))
+    ghost use Rattle.harness.specs.Head.{HeadRead};
+
+    /// Reads sixteen bytes of the input and hands back the head that they are, or nothing where the input ends before. Which bytes these are is the input's
+    /// choice.
+    pub fn read(bytes: &mut [u8; 16]) -> Option<Head>
+        ensures { HeadRead result bytes.new }
+    {
+        if !read_part(bytes, 16) {
+            return None;
+        }
+        Some(Head::from(*bytes))
     }
 }

@@ -59,7 +59,7 @@ impl Tally {
 
 // Replays a vector. Returns whether all is as wanted, or nothing where the input ends before the vector does.
 fn replay_vector(bench: &mut Bench, answers: &mut [u8; ROOM]) -> Option<bool> {
-    let head = Head::read()?;
+    let head = Head::read(&mut [0; 16])?;
     let wanted = Wanted::read()?;
     let size = (wanted.bytes as usize).min(ROOM);
     if !bench.read_sheet(&head) || !read_part(answers, size) {

@@ -22,7 +22,7 @@ fn told(ran: &Outcome) -> [u8; 10] {
 
 // Answers a frame. Returns whether there was one.
 fn answer_frame(bench: &mut Bench) -> bool {
-    let Some(head) = Head::read() else {
+    let Some(head) = Head::read(&mut [0; 16]) else {
         return false;
     };
     if !bench.read_sheet(&head) {
