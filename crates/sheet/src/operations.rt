@@ -21,7 +21,7 @@ ghost use Rattle.sheet.specs.Words.OperationsContract.{Tokens, numbers_of, Asks,
 use super::Order;
 use super::framing::{begin_answer, write_byte_answer, write_bytes_answer, write_refusal};
 use solver::{
-    Binders, Normalised, ask, can_weaken_to, clear_tokens, conflicts_with, context, family,
+    Binders, Unfinished, ask, can_weaken_to, clear_tokens, conflicts_with, context, family,
     instantiation, normalise, recovered_len, satisfies, satisfies_for, self_only,
     with_associated_types, write_normalised, write_recovered, write_term,
 };
@@ -143,7 +143,7 @@ fn settled(
     vals: &[u32],
     heads: &mut [u32],
     kids: &mut [u32],
-    r: Normalised,
+    r: Result<solver::Ready, Unfinished>,
     out: &mut [u8],
     to: usize,
 ) -> usize
@@ -157,9 +157,9 @@ fn settled(
         out.old to levels most o r → Framed (settled o) out.old to out.new result }
 {
     match r {
-        Normalised::Refused => write_refusal(out, to, 9),
-        Normalised::Long => out.len() + 1,
-        Normalised::Done(w) => {
+        Err(Unfinished::TooMany) => write_refusal(out, to, 9),
+        Err(Unfinished::TooLong) => out.len() + 1,
+        Ok(w) => {
             let size = w.size;
             let at = begin_answer(out, to, size);
             if out.len() < at {

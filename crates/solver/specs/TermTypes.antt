@@ -9,5 +9,5 @@ pub use Rattle.terms.specs.declared.Rule.{Rule}
 pub use Rattle.terms.specs.declared.Binders.{Binders}
 pub use Rattle.terms.specs.declared.Parameter.{Parameter}
 pub use Rattle.terms.specs.declared.Ready.{Ready}
-pub use Rattle.terms.specs.declared.Normalised.{Normalised}
-pub use Rattle.terms.specs.declared.Normalised.TheVariants.{Refused, Long, Done}
+pub use Rattle.terms.specs.declared.Unfinished.{Unfinished}
+pub use Rattle.terms.specs.declared.Unfinished.TheVariants.{TooMany, TooLong}

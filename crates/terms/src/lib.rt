@@ -201,21 +201,13 @@ pub struct Content {
     pub kids: u32,
 }
 
-// How many children were put into records, or that they would be too many.
-#[derive(Clone, Copy)]
-pub struct Count {
-    pub n: usize,
-    pub over: bool,
-}
-
-// A node whose children are in records: how many, its tag, its counts of arguments and members; or that the children are too many.
+// A node whose children are in records: how many, its tag, its counts of arguments and members.
 #[derive(Clone, Copy)]
 pub struct Begun {
     pub n: usize,
     pub tag: u32,
     pub arguments: usize,
     pub members: usize,
-    pub over: bool,
 }
 
 // A place in the row of a content: the next token, the row's end, how many children were passed, and the content's child word.
@@ -239,14 +231,13 @@ pub struct Rule {
     pub value: u32,
 }
 
-// What a visit gives: a content, how many records are used, the visits left, and how many bytes the content has; or that the children are too many.
+// What a visit gives: a content, how many records are used, the visits left, and how many bytes the content has.
 #[derive(Clone, Copy)]
 pub struct Walked {
     pub head: u32,
     pub kids: u32,
     pub next: usize,
     pub visits: usize,
-    pub over: bool,
     pub size: usize,
 }
 
@@ -260,10 +251,9 @@ pub struct Ready {
     pub given: Origin,
 }
 
-// What normalising answers: refusal 9; that the term's bytes are more than there is room for; or the term, whose records stay until it is written.
-#[derive(Clone, Copy)]
-pub enum Normalised {
-    Refused,
-    Long,
-    Done(Ready),
+// Why normalising gives no term: its children are too many, refusal 9; or its bytes are more than there is room for.
+#[derive(Clone, Copy, Debug, PartialEq, Eq)]
+pub enum Unfinished {
+    TooMany,
+    TooLong,
 }

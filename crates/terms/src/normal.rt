@@ -17,7 +17,7 @@ use super::slots::least;
 use super::store::clear_tokens;
 use super::virtual_tokens::step;
 use super::walking::walk;
-use super::{Content, Normalised, Origin, Ready, Token};
+use super::{Content, Origin, Ready, Token, Unfinished};
 
 // Whether the term at p has a projection.
 fn has_projection(kinds: &[u32], vals: &[u32], p: u32) -> bool
@@ -37,7 +37,7 @@ fn has_projection(kinds: &[u32], vals: &[u32], p: u32) -> bool
     false
 }
 
-// Sizes a content, whose records are `next`, and keeps it where it fits from `at` on.
+// Sizes a content, whose records are `next`, and keeps it where it fits from `at` on, else clears its records.
 fn size_up(
     kinds: &[u32],
     vals: &[u32],
@@ -49,7 +49,7 @@ fn size_up(
     fuel: usize,
     out: &mut [u8],
     at: usize,
-) -> Normalised
+) -> Option<Ready>
     requires sight { Sight kinds.now vals.now g }
     requires place { at ≤ length out.old }
     ensures out { out.new ≡ out.old }
@@ -59,9 +59,9 @@ fn size_up(
     let e = show_tree(kinds, vals, heads, kids, g, x, fuel, out, at, false);
     if out.len() < e {
         clear_tokens(heads, kids, 0, next);
-        return Normalised::Long;
+        return None;
     }
-    Normalised::Done(Ready {
+    Some(Ready {
         head: x.head,
         kids: x.kids,
         next,
@@ -70,7 +70,7 @@ fn size_up(
     })
 }
 
-// Keeps a content of `size` bytes, whose records are `next`, where there is room for them.
+// Keeps a content of `size` bytes, whose records are `next`, where there is room for them, else clears its records.
 fn fit_up(
     heads: &mut [u32],
     kids: &mut [u32],
@@ -79,14 +79,14 @@ fn fit_up(
     next: usize,
     size: usize,
     room: usize,
-) -> Normalised
+) -> Option<Ready>
     ensures fitted { Fitted heads.old kids.old heads.new kids.new g x next size room result }
 {
     if room < size {
         clear_tokens(heads, kids, 0, next);
-        return Normalised::Long;
+        return None;
     }
-    Normalised::Done(Ready {
+    Some(Ready {
         head: x.head,
         kids: x.kids,
         next,
@@ -109,7 +109,7 @@ fn run(
     most: usize,
     out: &mut [u8],
     at: usize,
-) -> Normalised
+) -> Result<Ready, Unfinished>
     requires room { RecordRoom kinds.now vals.now heads.old kids.old g 0 most }
     requires few { (length rules.now < 4294967296) × (levels < 4294967295) × (visits < 134217728) }
     requires zero { Zero heads.old most × Zero kids.old most }
@@ -123,9 +123,10 @@ fn run(
         (normalise levels visits (look_by look) t) result }
 {
     if !has_projection(kinds, vals, p) {
-        return size_up(kinds, vals, heads, kids, g, source(p), 0, 0, out, at);
+        let plain = size_up(kinds, vals, heads, kids, g, source(p), 0, 0, out, at);
+        return plain.ok_or(Unfinished::TooLong);
     }
-    let w = walk(
+    let walked = walk(
         kinds,
         vals,
         rules,
@@ -138,15 +139,16 @@ fn run(
         visits,
         most,
     );
-    if w.over {
+    let Some(w) = walked else {
         clear_tokens(heads, kids, 0, most);
-        return Normalised::Refused;
-    }
+        return Err(Unfinished::TooMany);
+    };
     let x = Content {
         head: w.head,
         kids: w.kids,
     };
-    fit_up(heads, kids, g, x, w.next, w.size, out.len() - at)
+    let kept = fit_up(heads, kids, g, x, w.next, w.size, out.len() - at);
+    kept.ok_or(Unfinished::TooLong)
 }
 
 // Depth 0 to 64; 8192 visits; refusal 9 for more children than these.
@@ -210,7 +212,7 @@ pub fn normalise(
     p: u32,
     out: &mut [u8],
     at: usize,
-) -> Normalised
+) -> Result<Ready, Unfinished>
     requires lends { Lends kinds.now vals.now heads.old kids.old most }
     requires few { length rules.now < 4294967296 }
     requires place { at ≤ length out.old }
@@ -246,7 +248,7 @@ pub fn with_associated_types(
     owner: u32,
     out: &mut [u8],
     at: usize,
-) -> Normalised
+) -> Result<Ready, Unfinished>
     requires lends { Lends kinds.now vals.now heads.old kids.old most }
     requires place { at ≤ length out.old }
     requires terms { OwnedAt kinds.now vals.now p interface owner }

@@ -1,13 +1,13 @@
 // The children of a content are put into records of their own.
-ghost use Rattle.std.specs.Prelude.{◌≡◌, false, ◌+◌, ◌≤◌, ◌<◌};
+ghost use Rattle.std.specs.Prelude.{◌<◌};
 ghost use Rattle.terms.specs.Words.VirtualTokens.{view, Sight};
-ghost use Rattle.terms.specs.Words.Arena.{TagAt, OwnAt, Counts, Frames, RecordRoom, Opens, Ordered};
+ghost use Rattle.terms.specs.Words.Arena.{TagAt, OwnAt, RecordRoom, Opens, Prepares};
 
 use super::rows::{child_here, number_at, row_of};
 use super::runs::wide;
 use super::virtual_tokens::{step, token_at};
 use super::write::token_len;
-use super::{Begun, Content, Count, Origin};
+use super::{Begun, Content, Origin};
 
 // The tag of the term whose first token stands at h; 1 of a variable.
 pub fn tag_at(kinds: &[u32], vals: &[u32], g: Origin, h: u32) -> u32
@@ -21,7 +21,7 @@ pub fn tag_at(kinds: &[u32], vals: &[u32], g: Origin, h: u32) -> u32
     x.kind - 2
 }
 
-// Puts the children of a content, in byte order, at the records next, next + 1, ..
+// Puts the children of a content, in byte order, at the records next, next + 1, .. and says how many; None where they are too many.
 fn put_children(
     kinds: &[u32],
     vals: &[u32],
@@ -31,12 +31,10 @@ fn put_children(
     x: Content,
     next: usize,
     most: usize,
-) -> Count
+) -> Option<usize>
     requires { RecordRoom kinds.now vals.now heads.old kids.old g next most }
-    ensures bound { next + result.n ≤ most }
-    ensures frames { Frames heads.old kids.old heads.new kids.new next (next + result.n) }
-    ensures opens { Opens (view kinds.now vals.now g) heads.old kids.old heads.new kids.new x.head
-        x.kids next result.n most result.over }
+    ensures { Opens (view kinds.now vals.now g) heads.old kids.old heads.new kids.new x.head x.kids
+        next most result }
 {
     let part = row_of(kinds, vals, g, x.head);
     let end = part.end;
@@ -48,7 +46,7 @@ fn put_children(
             q += 1;
         } else {
             if most <= next + n {
-                return Count { n, over: true };
+                return None;
             }
             let z = child_here(heads, kids, x.kids, q, n);
             heads[next + n] = z.head;
@@ -57,10 +55,11 @@ fn put_children(
             q += step(y);
         }
     }
-    Count { n, over: false }
+    Some(n)
 }
 
 // Puts the children of a content into records, and says in which order they are to be visited: below the tag 12 in byte order, without the counts.
+// None where the children are too many.
 pub fn begin(
     kinds: &[u32],
     vals: &[u32],
@@ -70,36 +69,29 @@ pub fn begin(
     x: Content,
     next: usize,
     most: usize,
-) -> Begun
+) -> Option<Begun>
     requires { RecordRoom kinds.now vals.now heads.old kids.old g next most }
-    ensures bound { next + result.n ≤ most }
-    ensures frames { Frames heads.old kids.old heads.new kids.new next (next + result.n) }
-    ensures opens { Opens (view kinds.now vals.now g) heads.old kids.old heads.new kids.new x.head
-        x.kids next result.n most result.over }
-    ensures ordered { Ordered (view kinds.now vals.now g) x.head result.tag result.arguments result.members }
-    ensures tagged { TagAt (view kinds.now vals.now g) x.head result.tag }
-    ensures counted { 12 ≤ result.tag → Counts (view kinds.now vals.now g) x.head result.arguments result.members }
+    ensures { Prepares (view kinds.now vals.now g) heads.old kids.old heads.new kids.new x.head
+        x.kids next most result }
 {
-    let c = put_children(kinds, vals, heads, kids, g, x, next, most);
+    let n = put_children(kinds, vals, heads, kids, g, x, next, most)?;
     let tag = tag_at(kinds, vals, g, x.head);
     if tag < 12 {
-        return Begun {
-            n: c.n,
+        return Some(Begun {
+            n,
             tag,
             arguments: 0,
             members: 0,
-            over: c.over,
-        };
+        });
     }
     let arguments = number_at(kinds, vals, g, x.head, 1);
     let members = number_at(kinds, vals, g, x.head, 2);
-    Begun {
-        n: c.n,
+    Some(Begun {
+        n,
         tag,
         arguments,
         members,
-        over: c.over,
-    }
+    })
 }
 
 // How many bytes the term whose first token stands at h has besides those of its children.

@@ -1,12 +1,12 @@
 // `walk` of `normalize`: every term is visited, and projections are replaced.
-ghost use Rattle.std.specs.Prelude.{◌≡◌, Bool, true, false, ℕ, ◌+◌, ◌-◌, ◌≤◌, ◌<◌, length, get_or};
+ghost use Rattle.std.specs.Prelude.{◌≡◌, Bool, Some, None, ℕ, ◌+◌, ◌-◌, ◌≤◌, ◌<◌, length, get_or};
 ghost use Rattle.terms.specs.Words.VirtualTokens.{view, Sight};
 ghost use Rattle.terms.specs.Term.{Term, depth, bytes, Held};
 ghost use Rattle.terms.specs.Normal.{replacement};
 ghost use Rattle.terms.specs.Lookup.{Look, look_by, Looks};
 ghost use Rattle.terms.specs.Words.Arena.{Tree, TagAt, Counts, Fetched, Frames, RecordRoom};
 ghost use Rattle.terms.specs.Words.Held.{span};
-ghost use Rattle.terms.specs.Words.WalkingContract.{node_first, Fixed, Walks};
+ghost use Rattle.terms.specs.Words.WalkingContract.{node_first, Fixed, Walks, used};
 
 use super::alike::same_trees;
 use super::interface::by_interface;
@@ -55,45 +55,38 @@ fn replace(
 
 // A result, of so many bytes.
 fn result(x: Content, next: usize, visits: usize, size: usize) -> Walked
-    ensures { result ≡ record { head = x.head; kids = x.kids; next = next; visits = visits; over = false; size = size } }
+    ensures { result ≡ record { head = x.head; kids = x.kids; next = next; visits = visits; size = size } }
 {
     Walked {
         head: x.head,
         kids: x.kids,
         next,
         visits,
-        over: false,
         size,
     }
 }
 
-// The children are too many.
-fn stopped(most: usize) -> Walked
-    ensures { (result.next ≡ most) × (result.visits ≡ 0) × (result.over ≡ true) × (result.size ≡ 0) }
-{
-    Walked {
-        head: 0,
-        kids: 0,
-        next: most,
-        visits: 0,
-        over: true,
-        size: 0,
-    }
-}
-
 // A content of so many nodes and bytes stays as it is, at the cost of a visit for each node; their children are counted as if they had been put into records.
-fn kept(x: Content, nodes: usize, size: usize, next: usize, visits: usize, most: usize) -> Walked
+// None where they are too many.
+fn kept(
+    x: Content,
+    nodes: usize,
+    size: usize,
+    next: usize,
+    visits: usize,
+    most: usize,
+) -> Option<Walked>
     requires some { (0 < nodes) × (nodes ≤ visits) × (nodes < 4294967296) }
     requires room { next < 4294967296 }
     ensures fits { next + (nodes - 1) ≤ most
-        → result ≡ record { head = x.head; kids = x.kids; next = next + (nodes - 1); visits = visits - nodes; over = false; size = size } }
-    ensures stops { most < next + (nodes - 1) → (result.next ≡ most) × (result.visits ≡ 0) × (result.over ≡ true) × (result.size ≡ 0) }
+        → result ≡ Some (record { head = x.head; kids = x.kids; next = next + (nodes - 1); visits = visits - nodes; size = size }) }
+    ensures stops { most < next + (nodes - 1) → result ≡ None }
 {
     let last = next + (nodes - 1);
     if most < last {
-        return stopped(most);
+        return None;
     }
-    result(x, last, visits - nodes, size)
+    Some(result(x, last, visits - nodes, size))
 }
 
 // 1 where a token of this kind is the first of a node, 0 where it is a number.
@@ -158,6 +151,7 @@ fn fixed_len(kinds: &[u32], vals: &[u32], x: Content) -> usize
 }
 
 // Visits the content x, with `levels` levels and `visits` visits left. The records of the result stand from `next` on, at most `most` in all.
+// None where the children are too many.
 pub fn walk(
     kinds: &[u32],
     vals: &[u32],
@@ -170,33 +164,30 @@ pub fn walk(
     levels: usize,
     visits: usize,
     most: usize,
-) -> Walked
+) -> Option<Walked>
     requires room { RecordRoom kinds.now vals.now heads.old kids.old g next most }
     requires few { length rules.now < 4294967296 }
     requires low { (levels < 4294967296) × (visits < 134217728) }
     ensures walks { Walks kinds.now vals.now rules.now g heads.old kids.old heads.new kids.new x
         next levels visits most result }
-    ensures frames { Frames heads.old kids.old heads.new kids.new next result.next }
+    ensures frames { Frames heads.old kids.old heads.new kids.new next (used most result) }
 {
     let error = Content {
         head: kinds.len() as u32,
         kids: 0,
     };
     if levels == 0 {
-        return result(error, next, visits, 1);
+        return Some(result(error, next, visits, 1));
     }
     if visits == 0 {
-        return result(error, next, visits, 1);
+        return Some(result(error, next, visits, 1));
     }
     let same = fixed_nodes(kinds, vals, x, least(levels, visits));
     if 0 < same {
         let size = fixed_len(kinds, vals, x);
         return kept(x, same, size, next, visits, most);
     }
-    let o = begin(kinds, vals, heads, kids, g, x, next, most);
-    if o.over {
-        return stopped(most);
-    }
+    let o = begin(kinds, vals, heads, kids, g, x, next, most)?;
     let n = o.n;
     let mut size = own_len(kinds, vals, g, x.head);
     let mut at = next + n;
@@ -219,10 +210,7 @@ pub fn walk(
             levels - 1,
             left,
             most,
-        );
-        if w.over {
-            return stopped(most);
-        }
+        )?;
         heads[i] = w.head;
         kids[i] = w.kids;
         at = w.next;
@@ -234,7 +222,7 @@ pub fn walk(
         kids: (next + 1) as u32,
     };
     if o.tag != 18 {
-        return result(z, at, left, size);
+        return Some(result(z, at, left, size));
     }
     let f = replace(
         kinds,
@@ -249,10 +237,10 @@ pub fn walk(
         levels,
     );
     let Some(v) = f else {
-        return result(z, at, left, size);
+        return Some(result(z, at, left, size));
     };
     if same_trees(kinds, vals, heads, kids, g, z, v, levels + 1) {
-        return result(error, at, left, 1);
+        return Some(result(error, at, left, 1));
     }
     walk(
         kinds,

@@ -4,6 +4,7 @@
 use Rattle.std.specs.Prelude.{◌≡◌, Bool, true, false, ◌&&◌, ◌||◌, List, ℕ, zero, suc, ◌+◌, ◌≤◌, ◌<◌, ltb, leb, length, get_or, Option, Some, None}
 use Rattle.std.proofs.Math.Option as math
 use Rattle.std.proofs.Math.Option.{none, some}
+use Rattle.terms.specs.declared.Begun.{Begun}
 use Rattle.terms.specs.declared.Content.{Content}
 use Rattle.terms.specs.declared.Cursor.{Cursor}
 use Rattle.terms.specs.declared.Origin.{Origin}
@@ -128,14 +129,36 @@ pub record Opened (a : Area) (hs cs : List ℕ) (S : ℕ → Bool) (next n : ℕ
   pub count : n ≡ length (children t)
   pub each : (j : ℕ) → j < n → Tree a hs cs S (get_or hs (next + j) 0) (get_or cs (next + j) 0) (get_or (children t) j error)
 
--- what opening the content h, c leaves: its children, or that they are too many
-pub record Opens (a : Area) (hs₀ cs₀ hs cs : List ℕ) (h c next n most : ℕ) (over : Bool) : Type 0 where
-  pub done : over ≡ false → (S : ℕ → Bool) (t : Term) → Below S next → Tree a hs₀ cs₀ S h c t → Opened a hs cs S next n t
-  pub stopped : over ≡ true → (S : ℕ → Bool) (t : Term) → Below S next → Tree a hs₀ cs₀ S h c t → most < next + length (children t)
+-- the content h, c is opened: its n children stand in records, and no others are changed
+pub record Filled (a : Area) (hs₀ cs₀ hs cs : List ℕ) (h c next most n : ℕ) : Type 0 where
+  pub bound : next + n ≤ most
+  pub frames : Frames hs₀ cs₀ hs cs next (next + n)
+  pub done : (S : ℕ → Bool) (t : Term) → Below S next → Tree a hs₀ cs₀ S h c t → Opened a hs cs S next n t
+
+-- its children are too many; no records but those from `next` up to `most` are changed
+pub record Overfull (a : Area) (hs₀ cs₀ hs cs : List ℕ) (h c next most : ℕ) : Type 0 where
+  pub frames : Frames hs₀ cs₀ hs cs next most
+  pub stopped : (S : ℕ → Bool) (t : Term) → Below S next → Tree a hs₀ cs₀ S h c t → most < next + length (children t)
+
+-- what opening the content h, c leaves: so many children, or that they are too many
+abbrev pub Opens : (a : Area) (hs₀ cs₀ hs cs : List ℕ) (h c next most : ℕ) → Option ℕ → Type 0
+Opens a hs₀ cs₀ hs cs h c next most (Some n) = Filled a hs₀ cs₀ hs cs h c next most n
+Opens a hs₀ cs₀ hs cs h c next most None = Overfull a hs₀ cs₀ hs cs h c next most
 
 -- the places in which its children are to be visited, from the tag k and the counts n, m of arguments and members
 pub record Ordered (a : Area) (h k n m : ℕ) : Type 0 where
   pub is : (hs cs : List ℕ) (S : ℕ → Bool) (c : ℕ) (t : Term) → Tree a hs cs S h c t → (j : ℕ) → slot_by (class k) n m (length (children t)) j ≡ slot t j
+
+-- the content h, c is opened as b says: how many children it has, its tag, and in which order they are to be visited
+pub record Prepared (a : Area) (hs₀ cs₀ hs cs : List ℕ) (h c next most : ℕ) (b : Begun) : Type 0 where
+  pub opens : Filled a hs₀ cs₀ hs cs h c next most b.n
+  pub ordered : Ordered a h b.tag b.arguments b.members
+  pub tagged : TagAt a h b.tag
+  pub counted : 12 ≤ b.tag → Counts a h b.arguments b.members
+
+abbrev pub Prepares : (a : Area) (hs₀ cs₀ hs cs : List ℕ) (h c next most : ℕ) → Option Begun → Type 0
+Prepares a hs₀ cs₀ hs cs h c next most (Some b) = Prepared a hs₀ cs₀ hs cs h c next most b
+Prepares a hs₀ cs₀ hs cs h c next most None = Overfull a hs₀ cs₀ hs cs h c next most
 
 -- ---- comparing
 

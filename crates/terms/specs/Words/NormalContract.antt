@@ -1,10 +1,10 @@
 -- What normalising answers, and what it leaves in the record areas.
-use Rattle.std.specs.Prelude.{◌≡◌, Bool, List, ℕ, ◌+◌, ◌≤◌, ◌<◌, ltb, length, get_or}
+use Rattle.std.specs.Prelude.{◌≡◌, Bool, List, ℕ, ◌+◌, ◌≤◌, ◌<◌, ltb, length, get_or, Option, Some, None, Result, Ok, Err}
 use Rattle.terms.specs.declared.Origin.{Origin}
 use Rattle.terms.specs.declared.Content.{Content}
 use Rattle.terms.specs.declared.Ready.{Ready}
-use Rattle.terms.specs.declared.Normalised.{Normalised}
-use Rattle.terms.specs.declared.Normalised.TheVariants.{Refused, Long, Done}
+use Rattle.terms.specs.declared.Unfinished.{Unfinished}
+use Rattle.terms.specs.declared.Unfinished.TheVariants.{TooMany, TooLong}
 use Rattle.terms.specs.Result.{pick}
 use Rattle.terms.specs.Words.Tokens.{area, blank}
 use Rattle.terms.specs.Term.{Term, Parts, node, depth, bytes, Held}
@@ -15,10 +15,10 @@ use Rattle.terms.specs.Words.Arena.{Tree}
 
 -- Document 01's number for each case: refusal 9; 11, where the term has more bytes than there is room for; 0, whose value is the term. 9 and 0 are outcomes of
 -- an order, 11 is a reason of the run.
-abbrev pub number_of : Normalised → ℕ
-number_of Refused = 9
-number_of Long = 11
-number_of (Done w) = 0
+abbrev pub answer_number : Result Ready Unfinished → ℕ
+answer_number (Err TooMany) = 9
+answer_number (Err TooLong) = 11
+answer_number (Ok w) = 0
 
 -- the number by the definition, whose result is o: with at most `most` children, and an output of so many bytes from `at` on
 abbrev pub number_for : (most len at : ℕ) → Out → ℕ
@@ -35,25 +35,23 @@ pub record Stands (ks vs hs cs : List ℕ) (w : Ready) (levels : ℕ) (u : Term)
   pub low : 0 < w.kids → depth u ≤ levels + 1
 
 -- the values of each case: the bytes that the term u has, and records that hold it. Which words these are is the program's choice.
-abbrev pub Values : (ks vs hs cs : List ℕ) (levels : ℕ) → Term → Normalised → Type 0
-Values ks vs hs cs levels u Refused = Unit {0}
-Values ks vs hs cs levels u Long = Unit {0}
-Values ks vs hs cs levels u (Done w) = (w.size ≡ length (bytes u)) × Stands ks vs hs cs w levels u
+abbrev pub Values : (ks vs hs cs : List ℕ) (levels : ℕ) → Term → Result Ready Unfinished → Type 0
+Values ks vs hs cs levels u (Err e) = Unit {0}
+Values ks vs hs cs levels u (Ok w) = (w.size ≡ length (bytes u)) × Stands ks vs hs cs w levels u
 
 -- The answer to a term whose result by the definition is o, with at most `most` children, and room in `out` from `at` on. hs and cs are the record areas at exit.
-pub record Answers (ks vs hs cs out : List ℕ) (at levels most : ℕ) (o : Out) (r : Normalised) : Type 0 where
-  pub number : number_of r ≡ number_for most (length out) at o
+pub record Answers (ks vs hs cs out : List ℕ) (at levels most : ℕ) (o : Out) (r : Result Ready Unfinished) : Type 0 where
+  pub number : answer_number r ≡ number_for most (length out) at o
   pub values : Values ks vs hs cs levels o.term r
 
 -- the records of each case
-abbrev pub Records : (ks vs hs₀ cs₀ hs cs : List ℕ) (most : ℕ) → Normalised → Type 0
-Records ks vs hs₀ cs₀ hs cs most Refused = Unit {0}
-Records ks vs hs₀ cs₀ hs cs most Long = Unit {0}
-Records ks vs hs₀ cs₀ hs cs most (Done w) = (w.next ≤ most) × (blank (area hs cs) 0 w.next ≡ area hs₀ cs₀) × Sight ks vs w.given
+abbrev pub Records : (ks vs hs₀ cs₀ hs cs : List ℕ) (most : ℕ) → Result Ready Unfinished → Type 0
+Records ks vs hs₀ cs₀ hs cs most (Err e) = Unit {0}
+Records ks vs hs₀ cs₀ hs cs most (Ok w) = (w.next ≤ most) × (blank (area hs cs) 0 w.next ≡ area hs₀ cs₀) × Sight ks vs w.given
 
 -- The record areas, hs₀ and cs₀ at entry, hs and cs at exit: as they were where the number is not 0, else the records used are to be cleared.
-pub record Leaves (ks vs hs₀ cs₀ hs cs : List ℕ) (most : ℕ) (r : Normalised) : Type 0 where
-  pub same : (number_of r ≡ 0 → ⊥) → (hs ≡ hs₀) × (cs ≡ cs₀)
+pub record Leaves (ks vs hs₀ cs₀ hs cs : List ℕ) (most : ℕ) (r : Result Ready Unfinished) : Type 0 where
+  pub same : (answer_number r ≡ 0 → ⊥) → (hs ≡ hs₀) × (cs ≡ cs₀)
   pub records : Records ks vs hs₀ cs₀ hs cs most r
 
 -- order 20: a term at p, and rules in words
@@ -88,19 +86,17 @@ pub record Lends (ks vs hs cs : List ℕ) (most : ℕ) : Type 0 where
   pub kids_zero : Zero cs most
 
 -- a content whose records are `next`, sized: it is kept where it fits, else its records are cleared
-abbrev pub Sized : (ks vs hs₀ cs₀ hs cs : List ℕ) (g : Origin) (x : Content) (next fuel : ℕ) (out : List ℕ) (at : ℕ) → Normalised → Type 0
-Sized ks vs hs₀ cs₀ hs cs g x next fuel out at Refused = ⊥
-Sized ks vs hs₀ cs₀ hs cs g x next fuel out at Long =
+abbrev pub Sized : (ks vs hs₀ cs₀ hs cs : List ℕ) (g : Origin) (x : Content) (next fuel : ℕ) (out : List ℕ) (at : ℕ) → Option Ready → Type 0
+Sized ks vs hs₀ cs₀ hs cs g x next fuel out at None =
     (area hs cs ≡ blank (area hs₀ cs₀) 0 next)
     × ((S : ℕ → Bool) (t : Term) → Tree (view ks vs g) hs₀ cs₀ S x.head x.kids t → (0 < x.kids → depth t ≤ fuel) → length out < at + length (bytes t))
-Sized ks vs hs₀ cs₀ hs cs g x next fuel out at (Done w) =
+Sized ks vs hs₀ cs₀ hs cs g x next fuel out at (Some w) =
     (hs ≡ hs₀) × (cs ≡ cs₀) × (w.head ≡ x.head) × (w.kids ≡ x.kids) × (w.next ≡ next) × (w.given ≡ g)
     × ((S : ℕ → Bool) (t : Term) → Tree (view ks vs g) hs₀ cs₀ S x.head x.kids t → (0 < x.kids → depth t ≤ fuel)
     → (w.size ≡ length (bytes t)) × (at + w.size ≤ length out))
 
 -- a content of `size` bytes, kept where there is room for them, else its records are cleared
-abbrev pub Fitted : (hs₀ cs₀ hs cs : List ℕ) (g : Origin) (x : Content) (next size room : ℕ) → Normalised → Type 0
-Fitted hs₀ cs₀ hs cs g x next size room Refused = ⊥
-Fitted hs₀ cs₀ hs cs g x next size room Long = (area hs cs ≡ blank (area hs₀ cs₀) 0 next) × (room < size)
-Fitted hs₀ cs₀ hs cs g x next size room (Done w) =
+abbrev pub Fitted : (hs₀ cs₀ hs cs : List ℕ) (g : Origin) (x : Content) (next size room : ℕ) → Option Ready → Type 0
+Fitted hs₀ cs₀ hs cs g x next size room None = (area hs cs ≡ blank (area hs₀ cs₀) 0 next) × (room < size)
+Fitted hs₀ cs₀ hs cs g x next size room (Some w) =
     (hs ≡ hs₀) × (cs ≡ cs₀) × (w.head ≡ x.head) × (w.kids ≡ x.kids) × (w.next ≡ next) × (w.given ≡ g) × (w.size ≡ size) × (size ≤ room)

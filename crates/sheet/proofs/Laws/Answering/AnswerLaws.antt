@@ -15,17 +15,16 @@ use Rattle.solver.specs.Terms.Parameters.{parameters}
 use Rattle.solver.proofs.Terms.HeldLaws.{items_some}
 use Rattle.solver.specs.Terms.Term.{Term, bytes, Held}
 use Rattle.solver.specs.Terms.TermsAtPlaces.{FormedAt}
-use Rattle.solver.specs.Terms.Tokens.{area, blank}
-use Rattle.solver.specs.Terms.VirtualTokens.{Sight}
 use Rattle.solver.specs.Terms.Questions.{asked, answered}
 use Rattle.solver.specs.Terms.Substitution.{Entry, Receiver, apply, instantiate, extend, zipped}
 use Rattle.solver.specs.Terms.RewriteContract.{Rewrites, Writes}
 use Rattle.solver.specs.Terms.Normal.{Out, levels, most}
-use Rattle.solver.specs.Terms.NormalContract.{number_of, number_for, Answers, Leaves, Stands}
+use Rattle.solver.specs.Terms.NormalContract.{answer_number, number_for, Answers, Stands}
 use Rattle.solver.proofs.Terms.NormalLaws.{refused_number, few_number, long_number}
 use Rattle.solver.specs.declared.Ready.{Ready}
-use Rattle.solver.specs.declared.Normalised.{Normalised}
-use Rattle.solver.specs.declared.Normalised.TheVariants.{Refused, Long, Done}
+use Rattle.solver.specs.declared.Unfinished.{Unfinished}
+use Rattle.solver.specs.declared.Unfinished.TheVariants.{TooMany, TooLong}
+use Rattle.std.specs.Prelude.{Result, Ok, Err}
 use Rattle.sheet.specs.OrderTable.{Answer, refusal, outcome}
 use Rattle.sheet.specs.Operations.{bit, bits, seven, perhaps, settled}
 use Rattle.sheet.specs.Words.FramingContract.{Framed, opening, Begun}
@@ -148,46 +147,28 @@ pub value_long : (v out : List ℕ) (to : ℕ) → length out < to + length v �
 value_long v out to h =
     frame_over (outcome v) (opening (length v) ++ v) (value_frame v) out to out (length out + 1) (omega (arith, length-append (opening (length v)) v)) refl refl
 
--- document 01's number of an answer
-abbrev said_by : Normalised → ℕ
-said_by r = number_of r
-
--- the areas
-module _ (ks vs hs cs hs₁ cs₁ : List ℕ) (r : Normalised) where
-  leaves_same : (said_by r ≡ 0 → ⊥) → Leaves ks vs hs cs hs₁ cs₁ most r → area hs₁ cs₁ ≡ area hs cs
-  leaves_same n x = let y = x.same n in rw (y.0, y.1)
-
-  pub leaves_refused : r ≡ Refused → Leaves ks vs hs cs hs₁ cs₁ most r → area hs₁ cs₁ ≡ area hs cs
-  leaves_refused e = leaves_same (λ z. eqb-false 9 0 refl (sym (ap said_by e) ∙ z))
-
-  pub leaves_long : r ≡ Long → Leaves ks vs hs cs hs₁ cs₁ most r → area hs₁ cs₁ ≡ area hs cs
-  leaves_long e = leaves_same (λ z. eqb-false 11 0 refl (sym (ap said_by e) ∙ z))
-
-  pub leaves_done : (w : Ready) → r ≡ Done w → Leaves ks vs hs cs hs₁ cs₁ most r → (w.next ≤ most) × (blank (area hs₁ cs₁) 0 w.next ≡ area hs cs) × Sight ks vs w.given
-  leaves_done w e x = rw e at x.records
-
 -- the answers
-module _ (ks vs hs cs out₀ : List ℕ) (to : ℕ) (r : Normalised) (o : Out) (x : Answers ks vs hs cs out₀ to levels most o r) where
-  number_is : (n : ℕ) → said_by r ≡ n → n ≡ number_for most (length out₀) to o
+module _ (ks vs hs cs out₀ : List ℕ) (to : ℕ) (r : Result Ready Unfinished) (o : Out) (x : Answers ks vs hs cs out₀ to levels most o r) where
+  number_is : (n : ℕ) → answer_number r ≡ n → n ≡ number_for most (length out₀) to o
   number_is n e = sym e ∙ x.number
 
-  few_as : (n : ℕ) → said_by r ≡ n → (9 ≡ n → ⊥) → o.count ≤ most
+  few_as : (n : ℕ) → answer_number r ≡ n → (9 ≡ n → ⊥) → o.count ≤ most
   few_as n e f = few_number most (length out₀) to o (λ z. f (z ∙ sym (number_is n e)))
 
-  pub answers_refused : r ≡ Refused → refusal 9 ≡ settled o
-  answers_refused e = settled_refused o (refused_number most (length out₀) to o (number_is 9 (ap said_by e)))
+  pub answers_many : r ≡ Err TooMany → refusal 9 ≡ settled o
+  answers_many e = settled_refused o (refused_number most (length out₀) to o (number_is 9 (ap answer_number e)))
 
-  pub answers_long : r ≡ Long → Framed (settled o) out₀ to out₀ (length out₀ + 1)
+  pub answers_long : r ≡ Err TooLong → Framed (settled o) out₀ to out₀ (length out₀ + 1)
   answers_long e =
-      let l = long_number most (length out₀) to o (number_is 11 (ap said_by e)) in
-      frame_as (outcome (bytes o.term)) (settled o) (settled_term o (few_as 11 (ap said_by e) (eqb-false 9 11 refl))) out₀ to out₀ (length out₀ + 1) (value_long (bytes o.term) out₀ to l)
+      let l = long_number most (length out₀) to o (number_is 11 (ap answer_number e)) in
+      frame_as (outcome (bytes o.term)) (settled o) (settled_term o (few_as 11 (ap answer_number e) (eqb-false 9 11 refl))) out₀ to out₀ (length out₀ + 1) (value_long (bytes o.term) out₀ to l)
 
-  pub answers_done : (w : Ready) → r ≡ Done w → (o.count ≤ most) × (w.size ≡ length (bytes o.term)) × Stands ks vs hs cs w levels o.term
+  pub answers_done : (w : Ready) → r ≡ Ok w → (o.count ≤ most) × (w.size ≡ length (bytes o.term)) × Stands ks vs hs cs w levels o.term
   answers_done w e =
       let y : (w.size ≡ length (bytes o.term)) × Stands ks vs hs cs w levels o.term = rw e at x.values in
-      (few_as 0 (ap said_by e) (eqb-false 9 0 refl), y.0, y.1)
+      (few_as 0 (ap answer_number e) (eqb-false 9 0 refl), y.0, y.1)
 
 -- what is looked for is found in the same output
-pub answers_from : (ks vs hs cs out₀ out₁ : List ℕ) (to : ℕ) (o : Out) (r : Normalised) → out₁ ≡ out₀ → Answers ks vs hs cs out₀ to levels most o r
+pub answers_from : (ks vs hs cs out₀ out₁ : List ℕ) (to : ℕ) (o : Out) (r : Result Ready Unfinished) → out₁ ≡ out₀ → Answers ks vs hs cs out₀ to levels most o r
     → Answers ks vs hs cs out₁ to levels most o r
 answers_from ks vs hs cs out₀ out₁ to o r e x = rw (sym e) at x

@@ -1,6 +1,8 @@
 -- A term with no projection comes through the walk of `normalize` as it was, at the cost of a visit for each of its nodes.
 use mathlib.Core.Path.{◌≡◌, refl, sym, ap, ap₂, ◌∙◌}
 use mathlib.Core.Bool.{Bool, true, false, ◌||◌}
+use Rattle.std.specs.declared.option.Option as rust
+use Rattle.std.specs.Prelude.{Some, None}
 use mathlib.Core.List.{List, [], ◌∷◌, ◌++◌}
 use mathlib.Core.Option.{Option, none}
 use Prim.Native.Nat.{ℕ, zero, suc, pred, min, ◌+◌, ◌-◌, ◌≤◌, ◌<◌}
@@ -21,7 +23,7 @@ use Rattle.terms.specs.Questions.{meets, meets_row, counted, counted_by, entered
 use Rattle.terms.specs.Words.VirtualTokens.{view, Sight}
 use Rattle.terms.specs.Lookup.{Look, look_by}
 use Rattle.terms.specs.Words.Arena.{Tree, grow, Frames}
-use Rattle.terms.specs.Words.WalkingContract.{node_first, Fixed, Walks}
+use Rattle.terms.specs.Words.WalkingContract.{node_first, Fixed, Went, Walks, used}
 use Rattle.terms.specs.Normal.{Out, Row, visit_kids, rebuilt, replacement, walk_by}
 use Rattle.terms.proofs.Laws.General.Bools.{never_true, never_false}
 use Rattle.terms.proofs.Laws.Held.HeldLaws.{toks_cons, items_some}
@@ -30,7 +32,7 @@ use Rattle.terms.proofs.Laws.Normalising.SourceLaws.{tree_held}
 use Rattle.terms.proofs.Laws.Normalising.ArenaLaws.{wider, tree_kept, grow_old}
 use Rattle.terms.proofs.Laws.Normalising.OpenLaws.{frames_same}
 use Rattle.terms.proofs.Laws.Normalising.NormalLaws.{Scanning, scanning_start, scanning_none, scanning_next}
-use Rattle.terms.proofs.Laws.Normalising.WalkLaws.{finds, walks_stopped}
+use Rattle.terms.proofs.Laws.Normalising.WalkLaws.{finds}
 use Rattle.terms.proofs.Laws.Normalising.SumLaws.{total, total_split, plainly}
 use Rattle.terms.proofs.Laws.Normalising.SlotLaws.{class_low, class_high, class_nominal, nominal_member, nominal_argument, slot_zero, slot_one}
 
@@ -354,14 +356,14 @@ module _ (ks vs ws : List ℕ) (g : Origin) (s : Sight ks vs g) (hs cs : List �
       let y = f.is t h in
       (fixed_walk (look_by look) levels t visits next y.0 (omega (arith, y.1)) (omega (arith, y.1)), y.1, len t h)
 
-  walks_fixed : next + (r - 1) ≤ most → (w : Walked) → w ≡ record { head = x.head; kids = x.kids; next = next + (r - 1); visits = visits - r; over = false; size = m }
-      → Walks ks vs ws g hs cs hs cs x next levels visits most w
+  walks_fixed : next + (r - 1) ≤ most → (w : Walked) → w ≡ record { head = x.head; kids = x.kids; next = next + (r - 1); visits = visits - r; size = m }
+      → Went ks vs ws g hs cs hs cs x next levels visits most w
   walks_fixed le w e = rw e (record {
     later = omega arith;
     within = le;
     fewer = omega arith;
     bounded = omega arith;
-    done = λ fl S t look b tr z.
+    done = λ S t look b tr z.
         let y = walked S t look tr in
         rw y.0 (record {
           tree = tree_kept (view ks vs g) hs cs S hs cs (grow S next (next + (r - 1))) (wider hs cs S (grow S next (next + (r - 1))) (λ k m. grow_old S next (next + (r - 1)) k m)) tr;
@@ -369,20 +371,16 @@ module _ (ks vs ws : List ℕ) (g : Origin) (s : Sight ks vs g) (hs cs : List �
           count = ap (λ (n : ℕ). next + (n - 1)) y.1;
           size = y.2;
         });
-    stopped = λ tr. never_true tr;
   })
 
-  walks_fixed_over : next ≤ most → most < next + (r - 1) → (w : Walked) → w.next ≡ most → w.visits ≡ 0 → w.over ≡ true → w.size ≡ 0 → Walks ks vs ws g hs cs hs cs x next levels visits most w
-  walks_fixed_over le m' = walks_stopped ks vs ws g hs cs hs cs x next levels visits most le
-      (λ S t look b tr z. let y = walked S t look tr in rw y.0 (omega (arith, m', y.1)))
-
   -- either way, and the records stay
-  pub fixed_kept : next ≤ most → (w : Walked)
-      → (next + (r - 1) ≤ most → w ≡ record { head = x.head; kids = x.kids; next = next + (r - 1); visits = visits - r; over = false; size = m })
-      → (most < next + (r - 1) → (w.next ≡ most) × (w.visits ≡ 0) × (w.over ≡ true) × (w.size ≡ 0))
-      → Walks ks vs ws g hs cs hs cs x next levels visits most w × Frames hs cs hs cs next w.next
-  fixed_kept le w fits stops = (go (dec_lt most (next + (r - 1))), frames_same hs cs next w.next)
+  pub fixed_kept : (w : rust.Option Walked)
+      → (next + (r - 1) ≤ most → w ≡ Some (record { head = x.head; kids = x.kids; next = next + (r - 1); visits = visits - r; size = m }))
+      → (most < next + (r - 1) → w ≡ None)
+      → Walks ks vs ws g hs cs hs cs x next levels visits most w × Frames hs cs hs cs next (used most w)
+  fixed_kept w fits stops = (go w fits stops (dec_lt most (next + (r - 1))), frames_same hs cs next (used most w))
     where
-      go : Dec (most < next + (r - 1)) → Walks ks vs ws g hs cs hs cs x next levels visits most w
-      go (yes m') = let e = stops m' in walks_fixed_over le m' w e.0 e.1 e.2 e.3
-      go (no m') = walks_fixed (omega arith) w (fits (omega arith))
+      go : (w : rust.Option Walked) → (next + (r - 1) ≤ most → w ≡ Some (record { head = x.head; kids = x.kids; next = next + (r - 1); visits = visits - r; size = m }))
+          → (most < next + (r - 1) → w ≡ None) → Dec (most < next + (r - 1)) → Walks ks vs ws g hs cs hs cs x next levels visits most w
+      go w fits stops (yes m') = rw (stops m') (λ S t look b tr z. let y = walked S t look tr in rw y.0 (omega (arith, m', y.1)))
+      go w fits stops (no m') = rw (fits (omega arith)) (walks_fixed (omega arith) _ refl)

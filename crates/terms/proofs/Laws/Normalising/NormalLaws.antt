@@ -14,8 +14,10 @@ use lib.Seq.{get_or-set_same, get_or-set_other, ext_get_or}
 use Rattle.terms.specs.declared.Origin.{Origin}
 use Rattle.terms.specs.declared.Content.{Content}
 use Rattle.terms.specs.declared.Walked.{Walked}
-use Rattle.terms.specs.declared.Normalised.{Normalised}
-use Rattle.terms.specs.declared.Normalised.TheVariants.{Refused, Long, Done}
+use Rattle.terms.specs.declared.Ready.{Ready}
+use Rattle.terms.specs.declared.Unfinished.TheVariants.{TooMany, TooLong}
+use Rattle.std.specs.declared.option.Option as rust
+use Rattle.std.specs.Prelude.{Some, None, Err, ok_or}
 use Rattle.terms.specs.Result.{pick}
 use Rattle.terms.specs.Words.Tokens.{Item, item, Area, area, put, puts, zeros, blank, spell, toks}
 use Rattle.terms.specs.Term.{Term, Parts, var, node, end, num, sub, items, part_items, bytes, depth, Held}
@@ -26,12 +28,11 @@ use Rattle.terms.specs.Words.VirtualTokens.{view, Sight}
 use Rattle.terms.specs.Normal.{Out, replacement, walk_by, normalise}
 use Rattle.terms.specs.Lookup.{Look, look_by, Looks, HeldGiven}
 use Rattle.terms.specs.Words.Arena.{Tree, grow, Frame, Frames}
-use Rattle.terms.specs.Words.WalkingContract.{Visited, Walks}
+use Rattle.terms.specs.Words.WalkingContract.{Visited, Overrun, Went}
 use Rattle.terms.specs.Words.NormalContract.{Zero, Sized, Fitted, number_for, Answers, Leaves}
 use Rattle.terms.proofs.Laws.General.Bools.{never_true, or_assoc}
 use Rattle.terms.proofs.Laws.Normalising.VirtualTokenLaws.{view_held}
 use Rattle.terms.proofs.Laws.Normalising.ArenaLaws.{held_tree}
-use Rattle.terms.proofs.Laws.Normalising.OpenLaws.{frames_wider}
 use Rattle.terms.proofs.Laws.Normalising.DepthLaws.{walk_depth}
 use Rattle.terms.proofs.Laws.Held.HeldLaws.{toks_cons, items_some}
 use Rattle.terms.proofs.Laws.Held.SameLaws.{span_held}
@@ -220,28 +221,26 @@ areas_same hs cs js bs e = (ap (λ (d : Area). d.kinds) e, ap (λ (d : Area). d.
 module _ (ks vs : List ℕ) (g : Origin) (s : Sight ks vs g) (hs₀ cs₀ hs cs : List ℕ) (x : Content) (out : List ℕ) (at levels most : ℕ) where
   -- a term that is not walked
   module _ (p : ℕ) (eh : x.head ≡ p) (ek : x.kids ≡ 0) where
-    pub plain_leaves : (r : Normalised) → Sized ks vs hs₀ cs₀ hs cs g x 0 0 out at r → Leaves ks vs hs₀ cs₀ hs cs most r
-    plain_leaves Refused z = absurd z
-    plain_leaves Long z = record { same = λ n. areas_same hs cs hs₀ cs₀ (z.0 ∙ nothing_blank (area hs₀ cs₀)); records = tt }
-    plain_leaves (Done w) z = record {
+    pub plain_leaves : (r : rust.Option Ready) → Sized ks vs hs₀ cs₀ hs cs g x 0 0 out at r → Leaves ks vs hs₀ cs₀ hs cs most (ok_or r TooLong)
+    plain_leaves None z = record { same = λ n. areas_same hs cs hs₀ cs₀ (z.0 ∙ nothing_blank (area hs₀ cs₀)); records = tt }
+    plain_leaves (Some w) z = record {
       same = λ n. absurd (n refl);
       records = (omega (arith, z.4), ap (blank (area hs cs) 0) z.4 ∙ nothing_blank (area hs cs) ∙ ap₂ area z.0 z.1, rw z.5 s);
     }
 
-    pub plain_answers : (t : Term) (o : Out) → Held ks vs p t → o.term ≡ t → o.count ≡ 0 → (r : Normalised) → Sized ks vs hs₀ cs₀ hs cs g x 0 0 out at r
-        → Answers ks vs hs cs out at levels most o r
+    pub plain_answers : (t : Term) (o : Out) → Held ks vs p t → o.term ≡ t → o.count ≡ 0 → (r : rust.Option Ready) → Sized ks vs hs₀ cs₀ hs cs g x 0 0 out at r
+        → Answers ks vs hs cs out at levels most o (ok_or r TooLong)
     plain_answers t o h et ec r z = go r z
       where
         there : Tree (view ks vs g) hs₀ cs₀ (λ i. false) x.head x.kids t
         there = rw (eh, ek) (held_tree (view ks vs g) hs₀ cs₀ (λ i. false) t p (view_held ks vs g s p t h))
 
-        go : (r : Normalised) → Sized ks vs hs₀ cs₀ hs cs g x 0 0 out at r → Answers ks vs hs cs out at levels most o r
-        go Refused z = absurd z
-        go Long z = record {
+        go : (r : rust.Option Ready) → Sized ks vs hs₀ cs₀ hs cs g x 0 0 out at r → Answers ks vs hs cs out at levels most o (ok_or r TooLong)
+        go None z = record {
           number = number_long most (length out) at o (omega arith) (rw et (z.1 (λ i. false) t there (λ k. absurd (omega arith))));
           values = tt;
         }
-        go (Done w) z =
+        go (Some w) z =
             let y = z.6 (λ i. false) t there (λ k. absurd (omega arith)) in
             let e = y.0 ∙ ap (λ (u : Term). length (bytes u)) (sym et) in
             record {
@@ -250,28 +249,27 @@ module _ (ks vs : List ℕ) (g : Origin) (s : Sight ks vs g) (hs₀ cs₀ hs cs 
             }
 
   -- a term that is walked: w is what the walk gave, in the areas hs₁, cs₁
-  module _ (ws hs₁ cs₁ : List ℕ) (y : Content) (visits : ℕ) (w : Walked) (walks : Walks ks vs ws g hs₀ cs₀ hs₁ cs₁ y 0 levels visits most w) (fr : Frames hs₀ cs₀ hs₁ cs₁ 0 w.next)
+  module _ (ws hs₁ cs₁ : List ℕ) (y : Content) (visits : ℕ) (w : Walked) (walks : Went ks vs ws g hs₀ cs₀ hs₁ cs₁ y 0 levels visits most w) (fr : Frames hs₀ cs₀ hs₁ cs₁ 0 w.next)
       (zh : Zero hs₀ most) (zc : Zero cs₀ most) (eh : x.head ≡ w.head) (ek : x.kids ≡ w.kids) (le : at ≤ length out) where
     back : blank (area hs₁ cs₁) 0 w.next ≡ area hs₀ cs₀
     back = blank_back hs₀ cs₀ hs₁ cs₁ w.next most fr zh zc walks.within
 
-    pub walked_leaves : (r : Normalised) → Fitted hs₁ cs₁ hs cs g x w.next w.size (length out - at) r → Leaves ks vs hs₀ cs₀ hs cs most r
-    walked_leaves Refused z = absurd z
-    walked_leaves Long z = record { same = λ n. areas_same hs cs hs₀ cs₀ (z.0 ∙ back); records = tt }
-    walked_leaves (Done v) z = record {
+    pub walked_leaves : (r : rust.Option Ready) → Fitted hs₁ cs₁ hs cs g x w.next w.size (length out - at) r → Leaves ks vs hs₀ cs₀ hs cs most (ok_or r TooLong)
+    walked_leaves None z = record { same = λ n. areas_same hs cs hs₀ cs₀ (z.0 ∙ back); records = tt }
+    walked_leaves (Some v) z = record {
       same = λ n. absurd (n refl);
       records =
           (omega (arith, z.4, walks.within), ap (blank (area hs cs) 0) z.4 ∙ ap (λ (d : Area). blank d 0 w.next) (ap₂ area z.0 z.1) ∙ back, rw z.5 s);
     }
 
-    pub walked_answers : w.over ≡ false → (p : ℕ) → y.head ≡ p → y.kids ≡ 0 → (t : Term) (look : Look) (o : Out) → Held ks vs p t → Looks ks vs ws g look
-        → o ≡ walk_by (replacement (look_by look)) levels t visits 0 → (r : Normalised) → Fitted hs₁ cs₁ hs cs g x w.next w.size (length out - at) r
-        → Answers ks vs hs cs out at levels most o r
-    walked_answers fl p yh yk t look o h k eo r z = go r z
+    pub walked_answers : (p : ℕ) → y.head ≡ p → y.kids ≡ 0 → (t : Term) (look : Look) (o : Out) → Held ks vs p t → Looks ks vs ws g look
+        → o ≡ walk_by (replacement (look_by look)) levels t visits 0 → (r : rust.Option Ready) → Fitted hs₁ cs₁ hs cs g x w.next w.size (length out - at) r
+        → Answers ks vs hs cs out at levels most o (ok_or r TooLong)
+    walked_answers p yh yk t look o h k eo r z = go r z
       where
         v : Visited (view ks vs g) hs₁ cs₁ (λ i. false) 0 w.head w.kids w.next w.visits w.size (walk_by (replacement (look_by look)) levels t visits 0)
         v =
-            walks.done fl (λ i. false) t look (λ i e. never_true e)
+            walks.done (λ i. false) t look (λ i e. never_true e)
             (rw (yh, yk) (held_tree (view ks vs g) hs₀ cs₀ (λ i. false) t p (view_held ks vs g s p t h))) k
 
         there : Tree (view ks vs g) hs₁ cs₁ (grow (λ i. false) 0 w.next) x.head x.kids o.term
@@ -286,31 +284,30 @@ module _ (ks vs : List ℕ) (g : Origin) (s : Sight ks vs g) (hs₀ cs₀ hs cs 
         sized : w.size ≡ length (bytes o.term)
         sized = v.size ∙ ap (λ (q : Out). length (bytes q.term)) (sym eo)
 
-        go : (r : Normalised) → Fitted hs₁ cs₁ hs cs g x w.next w.size (length out - at) r → Answers ks vs hs cs out at levels most o r
-        go Refused z = absurd z
-        go Long z = record { number = number_long most (length out) at o few (omega (arith, z.1, sized)); values = tt }
-        go (Done u) z = record {
+        go : (r : rust.Option Ready) → Fitted hs₁ cs₁ hs cs g x w.next w.size (length out - at) r → Answers ks vs hs cs out at levels most o (ok_or r TooLong)
+        go None z = record { number = number_long most (length out) at o few (omega (arith, z.1, sized)); values = tt }
+        go (Some u) z = record {
           number = number_done most (length out) at o few (omega (arith, z.6, z.7, sized));
           values = (z.6 ∙ sized, record { marks = grow (λ i. false) 0 w.next; tree = rw (z.0, z.1, z.2, z.3, z.5) there; low = λ k. low });
         }
 
 -- the children were too many
-module _ (ks vs : List ℕ) (g : Origin) (s : Sight ks vs g) (hs₀ cs₀ hs₁ cs₁ hs cs ws : List ℕ) (y : Content) (levels visits most : ℕ) (w : Walked)
-    (walks : Walks ks vs ws g hs₀ cs₀ hs₁ cs₁ y 0 levels visits most w) where
-  pub over_leaves : Frames hs₀ cs₀ hs₁ cs₁ 0 w.next → Zero hs₀ most → Zero cs₀ most → area hs cs ≡ blank (area hs₁ cs₁) 0 most → Leaves ks vs hs₀ cs₀ hs cs most Refused
-  over_leaves fr zh zc e = record {
-    same = λ n. areas_same hs cs hs₀ cs₀ (e ∙ blank_back hs₀ cs₀ hs₁ cs₁ most most (frames_wider hs₀ cs₀ hs₁ cs₁ 0 w.next most fr walks.within) zh zc (omega arith));
+module _ (ks vs hs₀ cs₀ hs cs : List ℕ) (most : ℕ) where
+  pub over_leaves : (hs₁ cs₁ : List ℕ) → Frames hs₀ cs₀ hs₁ cs₁ 0 most → Zero hs₀ most → Zero cs₀ most → area hs cs ≡ blank (area hs₁ cs₁) 0 most → Leaves ks vs hs₀ cs₀ hs cs most (Err TooMany)
+  over_leaves hs₁ cs₁ fr zh zc e = record {
+    same = λ n. areas_same hs cs hs₀ cs₀ (e ∙ blank_back hs₀ cs₀ hs₁ cs₁ most most fr zh zc (omega arith));
     records = tt;
   }
 
-  pub over_answers : w.over ≡ true → (p : ℕ) → y.head ≡ p → y.kids ≡ 0 → (t : Term) (look : Look) (o : Out) → Held ks vs p t → Looks ks vs ws g look
-      → o ≡ walk_by (replacement (look_by look)) levels t visits 0 → (out : List ℕ) (at : ℕ) → Answers ks vs hs cs out at levels most o Refused
-  over_answers tr p yh yk t look o h k eo out at = record { number = number_refused most (length out) at o many; values = tt }
-    where
-      many : most < o.count
-      many =
-          rw eo (walks.stopped tr (λ i. false) t look (λ i e. never_true e)
-          (rw (yh, yk) (held_tree (view ks vs g) hs₀ cs₀ (λ i. false) t p (view_held ks vs g s p t h))) k)
+  module _ (ws : List ℕ) (g : Origin) (s : Sight ks vs g) (y : Content) (levels visits : ℕ) where
+    pub over_answers : Overrun ks vs ws g hs₀ cs₀ y 0 levels visits most → (p : ℕ) → y.head ≡ p → y.kids ≡ 0 → (t : Term) (look : Look) (o : Out) → Held ks vs p t → Looks ks vs ws g look
+        → o ≡ walk_by (replacement (look_by look)) levels t visits 0 → (out : List ℕ) (at : ℕ) → Answers ks vs hs cs out at levels most o (Err TooMany)
+    over_answers walks p yh yk t look o h k eo out at = record { number = number_refused most (length out) at o many; values = tt }
+      where
+        many : most < o.count
+        many =
+            rw eo (walks (λ i. false) t look (λ i e. never_true e)
+            (rw (yh, yk) (held_tree (view ks vs g) hs₀ cs₀ (λ i. false) t p (view_held ks vs g s p t h))) k)
 
 -- ---- what order 19 looks up by
 

@@ -1,6 +1,6 @@
 -- The children of a content put into records, one after the other.
 use mathlib.Core.Path.{◌≡◌, refl, sym, ap, ◌∙◌}
-use mathlib.Core.Bool.{Bool, true, false}
+use mathlib.Core.Bool.{Bool}
 use mathlib.Core.List.{List}
 use Prim.Native.Nat.{ℕ, ◌+◌, ◌-◌, ◌≤◌, ◌<◌}
 use native.Mathlib.Omega.{arith}
@@ -12,8 +12,7 @@ use Rattle.terms.specs.Words.Tokens.{Area}
 use Rattle.terms.specs.Term.{Term, Parts, var, node}
 use Rattle.terms.specs.Words.Held.{span}
 use Rattle.terms.specs.Tree.{error, subs, children, row, tag, class, slot_by}
-use Rattle.terms.specs.Words.Arena.{head_of, kids_of, Tree, Parted, Below, RowAt, TagAt, ValueAt, Counts, Frame, Frames, Opens, Ordered}
-use Rattle.terms.proofs.Laws.General.Bools.{never_true, never_false}
+use Rattle.terms.specs.Words.Arena.{head_of, kids_of, Tree, Parted, Below, RowAt, TagAt, ValueAt, Counts, Frame, Frames, Filled, Overfull, Ordered}
 use Rattle.terms.proofs.Laws.Held.HeldLaws.{head_kind}
 use Rattle.terms.proofs.Laws.Normalising.ArenaLaws.{Keeps, tree_kept, parted_kept, parted_over, parted_number, parted_child, tree_kind}
 use Rattle.terms.proofs.Laws.Normalising.ScanLaws.{drop_next, subs_num, subs_sub, subs_end, children_row}
@@ -99,12 +98,13 @@ module _ (a : Area) (hs₀ cs₀ : List ℕ) (h c e next : ℕ) where
   }
 
   module _ (hs cs : List ℕ) (q n : ℕ) (o : Opening hs cs q n) where
-    pub opening_done : e ≤ q → (most : ℕ) → Opens a hs₀ cs₀ hs cs h c next n most false
-    opening_done le most = record {
-      done = λ z S t b w.
+    pub opening_done : e ≤ q → (most : ℕ) → next + n ≤ most → Filled a hs₀ cs₀ hs cs h c next most n
+    opening_done le most fits = record {
+      bound = fits;
+      frames = o.frames;
+      done = λ S t b w.
           let x = o.is S t b w in
           record { count = omega (arith, x.total, ap (λ (r : Parts). length (subs r)) (parted_over a hs cs S x.rest le), ap length subs_end); each = x.each };
-      stopped = λ z. never_true z;
     }
 
     module _ (lt : q < e) {k v : ℕ} (ek : k ≡ get_or a.kinds q 0) (ev : v ≡ get_or a.vals q 0) where
@@ -122,10 +122,10 @@ module _ (a : Area) (hs₀ cs₀ : List ℕ) (h c e next : ℕ) where
 
       module _ (z : k ≡ 0 → ⊥) where
         -- one child more than there is room for
-        pub opening_stop : (most : ℕ) → most ≤ next + n → Opens a hs₀ cs₀ hs cs h c next n most true
-        opening_stop most le = record {
-          done = λ z. never_false z;
-          stopped = λ y S t b w.
+        pub opening_stop : (most : ℕ) → most ≤ next + n → next + n ≤ most → Overfull a hs₀ cs₀ hs cs h c next most
+        opening_stop most le fits = record {
+          frames = frames_wider hs₀ cs₀ hs cs next (next + n) most o.frames fits;
+          stopped = λ S t b w.
               let x = o.is S t b w in
               let d = parted_child a hs cs S x.rest lt ek ev z in
               let m = drop_next error n (children t) d.term (subs d.rest) (x.order ∙ ap subs d.is ∙ subs_sub d.term d.rest) in

@@ -1,9 +1,11 @@
 -- A visit in the arena: the children one after the other, and then the node as it is, replaced, or Error.
 use mathlib.Core.Path.{◌≡◌, refl, sym, ap, ◌∙◌}
-use mathlib.Core.Bool.{Bool, true, false}
+use mathlib.Core.Bool.{Bool, true}
 use mathlib.Core.List.{List}
 use mathlib.Core.Logic.{⊎_elim}
 use mathlib.Core.Option.{Option, none, some}
+use Rattle.std.specs.declared.option.Option as rust
+use Rattle.std.specs.Prelude.{Some, None}
 use Prim.Native.Nat.{ℕ, suc, ◌+◌, ◌-◌, ◌*◌, ◌≤◌, ◌<◌}
 use native.Mathlib.Omega.{arith}
 use native.Mathlib.Decide.{ℕ_discrete}
@@ -19,8 +21,7 @@ use Rattle.terms.specs.Words.VirtualTokens.{view, Sight}
 use Rattle.terms.specs.Normal.{Out, Row, failed, visit_kids, follow, settle, rebuilt, replacement, walk_by}
 use Rattle.terms.specs.Lookup.{Look, look_by, Looks}
 use Rattle.terms.specs.Words.Arena.{Tree, OwnAt, Below, grow, Frames, Opened, Ordered}
-use Rattle.terms.specs.Words.WalkingContract.{Visited, Walks}
-use Rattle.terms.proofs.Laws.General.Bools.{never_true}
+use Rattle.terms.specs.Words.WalkingContract.{Visited, Overrun, Went, Walks, used}
 use Rattle.terms.proofs.Laws.Held.SameLaws.{same_refl, not_same}
 use Rattle.terms.proofs.Laws.Normalising.VirtualTokenLaws.{view_error}
 use Rattle.terms.proofs.Laws.Normalising.ArenaLaws.{Keeps, wider, tree_kept, held_tree, tree_anew, grow_old, grow_new, grow_case, grow_below}
@@ -50,6 +51,20 @@ module _ (a : Area) (f : Term → ℕ → ℕ → Out) (S : ℕ → Bool) (next 
     same = rw (← e) (ap (λ (r : ℕ). visit_kids f (slot t) r 0 s₀) (omega arith));
     sized = omega (arith, total_none (length_at (children t)) (slot t) 0);
   }
+
+  -- where the visit of a child is too much, all is
+  pub visit_over : (hs cs : List ℕ) (j at left base size i : ℕ) (w : VisitAt hs cs j at left base size) → j < n → i ≡ slot t j → ((u : Term) (v c : ℕ) → c ≤ (f u v c).count) → (most : ℕ)
+      → most < (f (get_or w.terms i error) left at).count → most < (visit_kids f (slot t) n 0 s₀).count
+  visit_over hs cs j at left base size i w lt islot g most m =
+      let z = w.same ∙ visit_step f (slot t) (n - j) j _ (omega arith) in
+      rw (z, ← islot) (omega (
+        arith,
+        visit_count (λ u. none) f g (slot t) (n - j - 1) (j + 1) (record {
+          terms = set w.terms i (f (get_or w.terms i error) left at).term;
+          visits = (f (get_or w.terms i error) left at).visits;
+          count = (f (get_or w.terms i error) left at).count;
+        }),
+      ))
 
   module _ (hs cs hs' cs' : List ℕ) (j at left base size i h' c' at' left' more : ℕ) (b : Below S next) (w : VisitAt hs cs j at left base size) (lt : j < n) (en : n ≡ length (children t)) (islot : i ≡ slot t j)
       (in_row : i < n) (low : next + n ≤ at) (fr : Frames hs cs hs' cs' at at') (lh : next + i < length hs) (lc : next + i < length cs) (le : at ≤ at')
@@ -121,19 +136,6 @@ module _ (a : Area) (f : Term → ℕ → ℕ → Out) (S : ℕ → Bool) (next 
               rw (get_or-set_other hs' (next + i) (next + k) h' 0 (λ z. e (omega arith)), get_or-set_other cs' (next + i) (next + k) c' 0 (λ z. e (omega arith)), get_or-set_other w.terms i k (f (get_or w.terms i error) left at).term error e, fr.heads.below (next + k) (omega arith), fr.kids.below (next + k) (omega arith))
               (tree_kept a hs cs _ stored stored' _ keeps_old (w.each k l))
 
-      -- where the visit of a child is too much, all is
-      pub visit_over : ((u : Term) (v c : ℕ) → c ≤ (f u v c).count) → (most : ℕ) → most < (f (get_or w.terms i error) left at).count → most < (visit_kids f (slot t) n 0 s₀).count
-      visit_over g most m =
-          let z = w.same ∙ visit_step f (slot t) (n - j) j _ (omega arith) in
-          rw (z, ← islot) (omega (
-            arith,
-            visit_count (λ u. none) f g (slot t) (n - j - 1) (j + 1) (record {
-              terms = set w.terms i (f (get_or w.terms i error) left at).term;
-              visits = (f (get_or w.terms i error) left at).visits;
-              count = (f (get_or w.terms i error) left at).count;
-            }),
-          ))
-
   -- all visited
   pub visit_done : (hs cs : List ℕ) (j at left base size : ℕ) → n ≤ j → (w : VisitAt hs cs j at left base size)
       → visit_kids f (slot t) n 0 s₀ ≡ record { terms = w.terms; visits = left; count = at }
@@ -179,9 +181,7 @@ module _ (ks vs ws : List ℕ) (g : Origin) where
   }
 
   module _ (hs₀ cs₀ hs cs : List ℕ) (k m l next n levels visits most base j at left size : ℕ) (w : Walking hs₀ cs₀ hs cs k m l next n levels visits most base j at left size) (lt : j < n)
-      (i : ℕ) (ei : i ≡ slot_by (class k) m l n j) (in_row : i < n) (lh : most ≤ length hs) (lc : most ≤ length cs)
-      (hs' cs' : List ℕ) (r : Walked) (walks : Walks ks vs ws g hs cs hs' cs' (record { head = get_or hs (next + i) 0; kids = get_or cs (next + i) 0 }) at (levels - 1) left most r)
-      (fr : Frames hs cs hs' cs' at r.next) where
+      (i : ℕ) (ei : i ≡ slot_by (class k) m l n j) (in_row : i < n) where
     abbrev marks : (ℕ → Bool) → ℕ → Bool
     marks S = grow S (next + n) at
 
@@ -190,8 +190,10 @@ module _ (ks vs ws : List ℕ) (g : Origin) where
         → Below (marks S) at × Tree (view ks vs g) hs cs (marks S) (get_or hs (next + i) 0) (get_or cs (next + i) 0) (get_or (w.is S t look b o q z).terms i error)
     visited S t look b o q z = (grow_below S next (next + n) at b (omega (arith, w.low)), (w.is S t look b o q z).each i in_row)
 
-    pub walking_next : r.over ≡ false → Walking hs₀ cs₀ (set hs' (next + i) r.head) (set cs' (next + i) r.kids) k m l next n levels visits most base (j + 1) r.next r.visits (size + r.size)
-    walking_next fl = record {
+    pub walking_next : most ≤ length hs → most ≤ length cs → (hs' cs' : List ℕ) (r : Walked)
+        → Went ks vs ws g hs cs hs' cs' (record { head = get_or hs (next + i) 0; kids = get_or cs (next + i) 0 }) at (levels - 1) left most r → Frames hs cs hs' cs' at r.next
+        → Walking hs₀ cs₀ (set hs' (next + i) r.head) (set cs' (next + i) r.kids) k m l next n levels visits most base (j + 1) r.next r.visits (size + r.size)
+    walking_next lh lc hs' cs' r walks fr = record {
       upto = omega arith;
       bounded = omega (arith, w.bounded, w.fewer, walks.fewer, walks.bounded);
       low = omega (arith, w.low, walks.later);
@@ -206,18 +208,17 @@ module _ (ks vs ws : List ℕ) (g : Origin) where
           let v = visited S t look b o q z in
           visit_next (view ks vs g) (walk_by (finds look) (levels - 1)) S next n t (first (finds look) t visits next) hs cs hs' cs' j at left base size i r.head r.kids r.next r.visits r.size
           b u lt o.count (ei ∙ q j) in_row w.low fr (omega (arith, w.low, w.high)) (omega (arith, w.low, w.high)) walks.later
-          (walks.done fl (marks S) (get_or u.terms i error) look v.0 v.1 z);
+          (walks.done (marks S) (get_or u.terms i error) look v.0 v.1 z);
     }
 
-    pub walking_over : r.over ≡ true → (S : ℕ → Bool) (t : Term) (look : Look) → Below S next → Opened (view ks vs g) hs₀ cs₀ S next n t → Order k m l n t → Looks ks vs ws g look
+    pub walking_over : Overrun ks vs ws g hs cs (record { head = get_or hs (next + i) 0; kids = get_or cs (next + i) 0 }) at (levels - 1) left most → (S : ℕ → Bool) (t : Term) (look : Look) → Below S next → Opened (view ks vs g) hs₀ cs₀ S next n t → Order k m l n t → Looks ks vs ws g look
         → 0 < levels → most < (walk_by (finds look) levels t visits next).count
-    walking_over tr S t look b o q z hl =
+    walking_over walks S t look b o q z hl =
         let u = w.is S t look b o q z in
         let v = visited S t look b o q z in
         over_visit most (finds look) levels t visits next n hl (omega (arith, w.fewer)) o.count
-        (visit_over (view ks vs g) (walk_by (finds look) (levels - 1)) S next n t (first (finds look) t visits next) hs cs hs' cs' j at left base size i r.head r.kids r.next r.visits r.size
-        b u lt o.count (ei ∙ q j) in_row w.low fr (omega (arith, w.low, w.high)) (omega (arith, w.low, w.high)) walks.later
-        (walk_count (finds look) (levels - 1)) most (walks.stopped tr (marks S) (get_or u.terms i error) look v.0 v.1 z))
+        (visit_over (view ks vs g) (walk_by (finds look) (levels - 1)) S next n t (first (finds look) t visits next) hs cs j at left base size i
+        u lt (ei ∙ q j) (walk_count (finds look) (levels - 1)) most (walks (marks S) (get_or u.terms i error) look v.0 v.1 z))
 
 -- ---- the node, when its children have been visited
 
@@ -281,18 +282,17 @@ module _ (ks vs ws : List ℕ) (g : Origin) (hs₁ cs₁ hs₀ cs₀ hs cs : Lis
   -- it is not replaced
   pub walks_kept : (c : ℕ) → c ≡ next + 1
       → ((S : ℕ → Bool) (t : Term) (look : Look) → Tree (view ks vs g) hs cs S x.head c t → depth t ≤ levels + 1 → Looks ks vs ws g look → finds look t ≡ none)
-      → (r : Walked) → r ≡ record { head = x.head; kids = c; next = at; visits = left; over = false; size = size } → Walks ks vs ws g hs₁ cs₁ hs cs x next levels visits most r
+      → (r : Walked) → r ≡ record { head = x.head; kids = c; next = at; visits = left; size = size } → Went ks vs ws g hs₁ cs₁ hs cs x next levels visits most r
   walks_kept c ec f r e = rw e (record {
     later = bounds_low;
     within = w.high;
     fewer = bounds_few;
     bounded = bounds_size;
-    done = λ fl S t look b tr z.
+    done = λ S t look b tr z.
         let v = node_at S t look b tr z in
         let tr' : Tree (view ks vs g) hs cs (grow S next at) x.head c v.node = rw ec v.tree in
         let y = v.is ∙ ap (λ (o : Option Term). settle (walk_by (finds look) (levels - 1)) v.node o left at) (f (grow S next at) v.node look tr' v.low z) in
         rw y (record { tree = tr'; visits = refl; count = refl; size = v.sized });
-    stopped = λ tr. never_true tr;
   })
 
   -- it is replaced by what stands at y
@@ -323,39 +323,38 @@ module _ (ks vs ws : List ℕ) (g : Origin) (hs₁ cs₁ hs₀ cs₀ hs cs : Lis
 
     -- by itself
     pub walks_itself : Sight ks vs g → ((S T : ℕ → Bool) (t u : Term) → Tree (view ks vs g) hs cs S x.head c t → Tree (view ks vs g) hs cs T y.head y.kids u → depth t ≤ levels + 1 → t ≡ u)
-        → (e : Content) → e.head ≡ length ks → e.kids ≡ 0 → (r : Walked) → r ≡ record { head = e.head; kids = e.kids; next = at; visits = left; over = false; size = 1 }
-        → Walks ks vs ws g hs₁ cs₁ hs cs x next levels visits most r
+        → (e : Content) → e.head ≡ length ks → e.kids ≡ 0 → (r : Walked) → r ≡ record { head = e.head; kids = e.kids; next = at; visits = left; size = 1 }
+        → Went ks vs ws g hs₁ cs₁ hs cs x next levels visits most r
     walks_itself s q e eh ek r er = rw er (record {
       later = bounds_low;
       within = w.high;
       fewer = bounds_few;
       bounded = omega arith;
-      done = λ fl S t look b tr z.
+      done = λ S t look b tr z.
           let v = replaced S t look b tr z in
           let i : v.node ≡ v.value = q (grow S next at) (grow S next at) v.node v.value v.tree v.other v.low in
           let j = ap (λ (u : Term). same u v.node) (sym i) ∙ same_refl v.node in
           let o = v.is ∙ ap (λ (d : Bool). follow (walk_by (finds look) (levels - 1)) d v.value left at) j in
           rw (o, eh, ek) (record { tree = held_tree (view ks vs g) hs cs (grow S next at) error (length ks) (view_error ks vs g s); visits = refl; count = refl; size = error_bytes });
-      stopped = λ tr. never_true tr;
     })
 
     -- by another term, which is visited
     module _ (q : (S T : ℕ → Bool) (t u : Term) → Tree (view ks vs g) hs cs S x.head c t → Tree (view ks vs g) hs cs T y.head y.kids u → depth t ≤ levels + 1 → t ≡ u → ⊥)
-        (hs' cs' : List ℕ) (r : Walked) (walks : Walks ks vs ws g hs cs hs' cs' y at (levels - 1) left most r) where
+        (hs' cs' : List ℕ) where
       follows : (S : ℕ → Bool) (t : Term) (look : Look) (v : Replaced S t look) → walk_by (finds look) levels t visits next ≡ walk_by (finds look) (levels - 1) v.value left at
       follows S t look v =
           let j = not_same v.value v.node (λ e. q (grow S next at) (grow S next at) v.node v.value v.tree v.other v.low (sym e)) in
           v.is ∙ ap (λ (d : Bool). follow (walk_by (finds look) (levels - 1)) d v.value left at) j
 
-      pub walks_followed : Walks ks vs ws g hs₁ cs₁ hs' cs' x next levels visits most r
-      walks_followed = record {
+      pub walks_followed : (r : rust.Option Walked) → Walks ks vs ws g hs cs hs' cs' y at (levels - 1) left most r → Walks ks vs ws g hs₁ cs₁ hs' cs' x next levels visits most r
+      walks_followed (Some r) walks = record {
         later = omega (arith, bounds_low, walks.later);
         within = walks.within;
         fewer = omega (arith, bounds_few, walks.fewer);
         bounded = omega (arith, bounds_few, walks.fewer, walks.bounded);
-        done = λ fl S t look b tr z.
+        done = λ S t look b tr z.
             let v = replaced S t look b tr z in
-            let p = walks.done fl (grow S next at) v.value look (grow_below S next next at b bounds_low) v.other z in
+            let p = walks.done (grow S next at) v.value look (grow_below S next next at b bounds_low) v.other z in
             rw (follows S t look v) (record {
               tree = tree_kept (view ks vs g) hs' cs' (grow (grow S next at) at r.next) hs' cs' (grow S next r.next)
                   (wider hs' cs' (grow (grow S next at) at r.next) (grow S next r.next) (λ i mk.
@@ -366,38 +365,31 @@ module _ (ks vs ws : List ℕ) (g : Origin) (hs₁ cs₁ hs₀ cs₀ hs cs : Lis
               count = p.count;
               size = p.size;
             });
-        stopped = λ tru S t look b tr z.
-            let v = replaced S t look b tr z in
-            rw (follows S t look v) (walks.stopped tru (grow S next at) v.value look (grow_below S next next at b bounds_low) v.other z);
       }
+      walks_followed None walks = λ S t look b tr z.
+          let v = replaced S t look b tr z in
+          rw (follows S t look v) (walks (grow S next at) v.value look (grow_below S next next at b bounds_low) v.other z)
 
--- ---- a visit that is not made, and one whose children are too many
+-- ---- a visit that is not made
 
 module _ (ks vs ws : List ℕ) (g : Origin) (s : Sight ks vs g) (hs cs : List ℕ) (x : Content) (next levels visits most : ℕ) (le : next ≤ most) where
   pub walks_failed : ((look : Look) (t : Term) → walk_by (finds look) levels t visits next ≡ failed visits next)
-      → (e : Content) → e.head ≡ length ks → e.kids ≡ 0 → (r : Walked) → r ≡ record { head = e.head; kids = e.kids; next = next; visits = visits; over = false; size = 1 }
-      → Walks ks vs ws g hs cs hs cs x next levels visits most r
+      → (e : Content) → e.head ≡ length ks → e.kids ≡ 0 → (r : Walked) → r ≡ record { head = e.head; kids = e.kids; next = next; visits = visits; size = 1 }
+      → Went ks vs ws g hs cs hs cs x next levels visits most r
   walks_failed f e eh ek r er = rw er (record {
     later = omega arith;
     within = le;
     fewer = omega arith;
     bounded = omega arith;
-    done = λ fl S t look b tr z.
+    done = λ S t look b tr z.
         rw (f look t, eh, ek) (record { tree = held_tree (view ks vs g) hs cs (grow S next next) error (length ks) (view_error ks vs g s); visits = refl; count = refl; size = error_bytes });
-    stopped = λ tr. never_true tr;
   })
 
-pub walks_stopped : (ks vs ws : List ℕ) (g : Origin) (hs₀ cs₀ hs cs : List ℕ) (x : Content) (next levels visits most : ℕ) → next ≤ most
-    → ((S : ℕ → Bool) (t : Term) (look : Look) → Below S next → Tree (view ks vs g) hs₀ cs₀ S x.head x.kids t → Looks ks vs ws g look → most < (walk_by (finds look) levels t visits next).count)
-    → (r : Walked) → r.next ≡ most → r.visits ≡ 0 → r.over ≡ true → r.size ≡ 0 → Walks ks vs ws g hs₀ cs₀ hs cs x next levels visits most r
-walks_stopped ks vs ws g hs₀ cs₀ hs cs x next levels visits most le f r en ev eo es = record {
-  later = omega arith;
-  within = omega arith;
-  fewer = omega arith;
-  bounded = omega arith;
-  done = λ fl. never_true (sym fl ∙ eo);
-  stopped = λ tr S t look b w z. f S t look b w z;
-}
+-- what is used comes after what was
+pub used_later : (ks vs ws : List ℕ) (g : Origin) (hs₀ cs₀ hs cs : List ℕ) (x : Content) (next levels visits most : ℕ) → next ≤ most → (r : rust.Option Walked)
+    → Walks ks vs ws g hs₀ cs₀ hs cs x next levels visits most r → next ≤ used most r
+used_later ks vs ws g hs₀ cs₀ hs cs x next levels visits most le (Some r) w = w.later
+used_later ks vs ws g hs₀ cs₀ hs cs x next levels visits most le None w = le
 
 -- the bytes of a node and of its children so far are a word
 pub add_sizes : (size more visits left : ℕ) {used : ℕ} → used ≤ left → (base : ℕ) {j : ℕ} → base < 34359738368 → size ≤ base + 68719476736 * (visits - 1 - left) + j → left < visits

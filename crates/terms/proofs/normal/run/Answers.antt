@@ -8,51 +8,47 @@ use Rattle.terms.proofs.normal.run.Goals as goal
 
 pub returns-then-not-has_projection : goal.returns-then-not-has_projection
 returns-then-not-has_projection c =
-    let size-up' = c.size_up in
-    let source' = c.source in record {
-      out = size-up'.ensures.out;
-      leaves = plain_leaves c.args.kinds.now c.args.vals.now c.args.g c.requires.room.sight c.args.heads.now c.args.kids.now
-          _ _ _ c.args.out.now c.args.at c.args.levels c.args.most _ source'.ensures.0 source'.ensures.1 size-up'.result
-          size-up'.ensures.sized;
+    let a = c.args in
+    let s = c.requires.room.sight in
+    let y = c.source.ensures in
+    let plain' = c.size_up-plain in
+    rw c.ok_or.ensures.value (record {
+      out = plain'.ensures.out;
+      leaves = plain_leaves a.kinds.now a.vals.now a.g s a.heads.now a.kids.now _ _ _ a.out.now a.at a.levels a.most _ y.0 y.1 plain'.result plain'.ensures.sized;
       answers = λ t look h k.
-          let e = normalise_plain c.args.levels c.args.visits (look_by look) t (sym (c.has_projection.ensures
-          t h) ∙ not-true _ c.if-not-has_projection.true-raw) in
-          plain_answers c.args.kinds.now c.args.vals.now c.args.g c.requires.room.sight c.args.heads.now c.args.kids.now _ _ _ c.args.out.now c.args.at c.args.levels c.args.most _ source'.ensures.0
-          source'.ensures.1 t _ h (ap (λ (o : Out). o.term) e) (ap (λ (o : Out). o.count) e) size-up'.result size-up'.ensures.sized;
-    }
+          let e = normalise_plain a.levels a.visits (look_by look) t (sym (c.has_projection.ensures t h) ∙ not-true _ c.if-not-has_projection.true-raw) in
+          plain_answers a.kinds.now a.vals.now a.g s a.heads.now a.kids.now _ _ _ a.out.now a.at a.levels a.most _ y.0 y.1 t _ h (ap (λ (o : Out). o.term) e) (ap (λ (o : Out). o.count) e)
+          plain'.result plain'.ensures.sized;
+    })
 
-pub returns-then-w : goal.returns-then-w
-returns-then-w c =
-    let walk' = c.walk-w in
-    let clear-tokens' = c.clear_tokens in
-    let source2' = c.source-2 in record {
+pub returns-in_default : goal.returns-in_default
+returns-in_default c =
+    let a = c.args in
+    let s = c.requires.room.sight in
+    let y = c.source-2.ensures in
+    let w = rw c.in_default.is at c.walk-walked.ensures.walks in
+    let fr = rw c.in_default.is at c.walk-walked.ensures.frames in
+    record {
       out = refl;
-      leaves = over_leaves c.args.kinds.now c.args.vals.now c.args.g c.requires.room.sight c.args.heads.now c.args.kids.now
-          _ _ _ _ c.args.rules.now _ _ _ _ _ walk'.ensures.walks walk'.ensures.frames c.requires.zero.0 c.requires.zero.1
-          clear-tokens'.ensures;
+      leaves = over_leaves a.kinds.now a.vals.now a.heads.now a.kids.now _ _ a.most _ _ fr c.requires.zero.0 c.requires.zero.1 c.clear_tokens.ensures;
       answers = λ t look h k.
-          over_answers c.args.kinds.now c.args.vals.now c.args.g c.requires.room.sight c.args.heads.now c.args.kids.now _ _ c.clear_tokens.new.kinds c.clear_tokens.new.vals c.args.rules.now _ _ _ _ _ walk'.ensures.walks c.if-w.true
-          _ source2'.ensures.0 source2'.ensures.1 t look _ h k
-          (normalise_walked c.args.levels c.args.visits (look_by look) t (sym (c.has_projection.ensures
-          t h) ∙ not-false _ c.if-not-has_projection.false-raw))
-          c.args.out.now c.args.at;
+          over_answers a.kinds.now a.vals.now a.heads.now a.kids.now c.clear_tokens.new.kinds c.clear_tokens.new.vals a.most a.rules.now a.g s _ a.levels a.visits w _ y.0 y.1 t look _ h k
+          (normalise_walked a.levels a.visits (look_by look) t (sym (c.has_projection.ensures t h) ∙ not-false _ c.if-not-has_projection.false-raw)) a.out.now a.at;
     }
 
 pub returns : goal.returns
 returns c =
-    let fit-up' = c.fit_up in
-    let walk' = c.walk-w in
-    let source2' = c.source-2
-    in record {
+    let a = c.args in
+    let s = c.requires.room.sight in
+    let y = c.source-2.ensures in
+    let kept' = c.fit_up-kept in
+    let w = rw c.in-Some.is at c.walk-walked.ensures.walks in
+    let fr = rw c.in-Some.is at c.walk-walked.ensures.frames in
+    rw c.ok_or-2.ensures.value (record {
       out = refl;
-      leaves = walked_leaves c.args.kinds.now c.args.vals.now c.args.g c.requires.room.sight c.args.heads.now c.args.kids.now
-          _ _ _ c.args.out.now c.args.at c.args.levels c.args.most c.args.rules.now _ _ _ c.args.visits
-          walk'.result walk'.ensures.walks walk'.ensures.frames c.requires.zero.0 c.requires.zero.1 refl refl c.requires.place fit-up'.result fit-up'.ensures.fitted;
+      leaves = walked_leaves a.kinds.now a.vals.now a.g s a.heads.now a.kids.now _ _ _ a.out.now a.at a.levels a.most a.rules.now _ _ _ a.visits _ w fr c.requires.zero.0 c.requires.zero.1 refl refl c.requires.place
+          kept'.result kept'.ensures.fitted;
       answers = λ t look h k.
-          walked_answers c.args.kinds.now c.args.vals.now c.args.g c.requires.room.sight c.args.heads.now c.args.kids.now _ _ _ c.args.out.now c.args.at c.args.levels c.args.most c.args.rules.now _ _
-          _ c.args.visits walk'.result walk'.ensures.walks walk'.ensures.frames c.requires.zero.0 c.requires.zero.1 refl refl c.requires.place c.if-w.false
-          _ source2'.ensures.0 source2'.ensures.1 t look _ h k
-          (normalise_walked c.args.levels c.args.visits (look_by look) t (sym (c.has_projection.ensures
-          t h) ∙ not-false _ c.if-not-has_projection.false-raw))
-          fit-up'.result fit-up'.ensures.fitted;
-    }
+          walked_answers a.kinds.now a.vals.now a.g s a.heads.now a.kids.now _ _ _ a.out.now a.at a.levels a.most a.rules.now _ _ _ a.visits _ w fr c.requires.zero.0 c.requires.zero.1 refl refl c.requires.place
+          _ y.0 y.1 t look _ h k (normalise_walked a.levels a.visits (look_by look) t (sym (c.has_projection.ensures t h) ∙ not-false _ c.if-not-has_projection.false-raw)) kept'.result kept'.ensures.fitted;
+    })

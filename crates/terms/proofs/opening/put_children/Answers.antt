@@ -16,12 +16,9 @@ loop-q-preserved-then-y-eq0 c =
 pub returns-then-most-next : goal.returns-then-most-next
 returns-then-most-next c =
     let loop' = c.loop-q in
-    let token-at' = c.token_at-y in record {
-      bound = loop'.invariant.1;
-      frames = loop'.invariant.0.frames;
-      opens = opening_stop _ _ _ _ _ _ _ _ _ _ _ loop'.invariant.0 c.loop-q-test.true
-          token-at'.ensures.kind token-at'.ensures.value c.if-y-eq0.false _ c.if-most-next.true;
-    }
+    let token-at' = c.token_at-y in
+    opening_stop _ _ _ _ _ _ _ _ _ _ _ loop'.invariant.0 c.loop-q-test.true token-at'.ensures.kind token-at'.ensures.value c.if-y-eq0.false _ c.if-most-next.true
+    loop'.invariant.1
 
 pub loop-q-preserved : goal.loop-q-preserved
 loop-q-preserved c =
@@ -36,4 +33,4 @@ loop-q-preserved c =
     )
 
 pub returns : goal.returns
-returns c = record { bound = c.loop-q.invariant.1; frames = c.loop-q.invariant.0.frames; opens = opening_done _ _ _ _ _ _ _ _ _ _ _ c.loop-q.invariant.0 c.loop-q-test.false _ }
+returns c = opening_done _ _ _ _ _ _ _ _ _ _ _ c.loop-q.invariant.0 c.loop-q-test.false _ c.loop-q.invariant.1

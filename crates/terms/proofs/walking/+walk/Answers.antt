@@ -1,10 +1,11 @@
 -- `walk`. Invariant: j children have been visited, and the arena is filled up to `at`.
 use Rattle.terms.proofs.Laws.Normalising.FixedLaws.{fixed_kept}
 use Rattle.terms.proofs.Laws.Normalising.MemberLaws.{replace_other}
-use Rattle.terms.proofs.Laws.Normalising.OpenLaws.{frames_same, frames_wider, frames_then}
+use Rattle.terms.proofs.Laws.Normalising.OpenLaws.{frames_same, frames_then}
 use Rattle.terms.proofs.Laws.Normalising.VisitLaws.{walk-levels, walk_visits, over_start}
-use Rattle.terms.proofs.Laws.Normalising.WalkLaws.{add_sizes, finds, order-of, walking_start, walking_next, walking_over, walks_kept, walks_itself, walks_followed, walks_failed, walks_stopped}
+use Rattle.terms.proofs.Laws.Normalising.WalkLaws.{add_sizes, finds, order-of, walking_start, walking_next, walking_over, walks_kept, walks_itself, walks_followed, walks_failed, used_later}
 use Rattle.terms.specs.Lookup.{look_by}
+use Rattle.terms.specs.Words.WalkingContract.{used}
 use mathlib.Core.Path.{refl, sym, ◌∙◌}
 use native.Mathlib.Omega.{arith}
 use Rattle.terms.proofs.walking.+walk.Goals as goal
@@ -40,90 +41,86 @@ returns-then-same-gt0 t c =
     let nodes' = c.fixed_nodes-same.ensures in
     let least' = c.least.ensures in
     let len' = c.fixed_len-size.ensures in
-    let both = fixed_kept c.args.kinds.now c.args.vals.now c.args.rules.now c.args.g c.requires.room.sight c.args.heads.now
-    c.args.kids.now c.args.x c.args.next c.args.levels c.args.visits c.args.most _ _ (nodes'.fixed c.if-same-gt0.true)
-    len'.bytes len'.bound c.if-same-gt0.true (omega (arith, nodes'.few.0, least')) (omega (arith, nodes'.few.0, least')) c.requires.room.within _ c.kept.ensures.fits c.kept.ensures.stops in record { walks = both.0; frames = both.1 }
+    let both = fixed_kept c.args.kinds.now c.args.vals.now c.args.rules.now c.args.g c.requires.room.sight c.args.heads.now c.args.kids.now c.args.x c.args.next c.args.levels c.args.visits c.args.most _ _
+    (nodes'.fixed c.if-same-gt0.true) len'.bytes len'.bound c.if-same-gt0.true (omega (arith, nodes'.few.0, least')) (omega (arith, nodes'.few.0, least')) _ c.kept.ensures.fits c.kept.ensures.stops in
+    record { walks = both.0; frames = both.1 }
 
-pub begin-o-requires : goal.begin-o-requires
-begin-o-requires t c = c.requires.room
+pub begin-requires : goal.begin-requires
+begin-requires t c = c.requires.room
 
-pub shape_of-heads-then-o : goal.shape_of-heads-then-o
-shape_of-heads-then-o t c = c.begin-o.ensures.frames.heads.long
+pub shape_of-heads-in_err-o : goal.shape_of-heads-in_err-o
+shape_of-heads-in_err-o t c = c.in_err-o.ensures.frames.heads.long
 
-pub shape_of-kids-then-o : goal.shape_of-kids-then-o
-shape_of-kids-then-o t c = c.begin-o.ensures.frames.kids.long
+pub shape_of-kids-in_err-o : goal.shape_of-kids-in_err-o
+shape_of-kids-in_err-o t c = c.in_err-o.ensures.frames.kids.long
 
-pub returns-then-o : goal.returns-then-o
-returns-then-o t c =
-    let begin' = c.begin-o in record {
-      walks = walks_stopped c.args.kinds.now c.args.vals.now c.args.rules.now c.args.g c.args.heads.now c.args.kids.now _ _ c.args.x c.args.next c.args.levels c.args.visits c.args.most c.requires.room.within
-          (λ S t look b w z. over_start _ (finds look) _ t _ _ (omega (arith, c.if-levels-eq0.false))
-          (omega (arith, c.if-visits-eq0.false)) (begin'.ensures.opens.stopped c.if-o.true
-          S t b w))
-          _ c.stopped.ensures.0 c.stopped.ensures.1 c.stopped.ensures.2 c.stopped.ensures.3;
-      frames = rw c.stopped.ensures.0 (frames_wider _ _ _ _ _ _ _ begin'.ensures.frames begin'.ensures.bound);
-    }
+pub returns-in_err-o : goal.returns-in_err-o
+returns-in_err-o t c =
+    rw c.from_residual.ensures (record {
+      walks = λ S t look b w z. over_start _ (finds look) _ t _ _ (omega (arith, c.if-levels-eq0.false)) (omega (arith, c.if-visits-eq0.false)) (c.in_err-o.ensures.stopped S t b w);
+      frames = c.in_err-o.ensures.frames;
+    })
 
 pub own_len-size-requires : goal.own_len-size-requires
 own_len-size-requires t c = c.requires.room.sight
 
 pub overflow_add-at : goal.overflow_add-at
-overflow_add-at t c = omega (arith, c.begin-o.ensures.bound, c.requires.room.small)
+overflow_add-at t c = omega (arith, c.in_ok-o.ensures.opens.bound, c.requires.room.small)
 
 pub overflow_sub-left : goal.overflow_sub-left
 overflow_sub-left t c = omega (arith, c.if-visits-eq0.false)
 
 pub loop-j-init : goal.loop-j-init
 loop-j-init t c =
-    walking_start c.args.kinds.now c.args.vals.now c.args.rules.now c.args.g _ _ _ _ _ _ _ _ _ _ _ c.begin-o.ensures.bound
+    walking_start c.args.kinds.now c.args.vals.now c.args.rules.now c.args.g _ _ _ _ _ _ _ _ _ _ _ c.in_ok-o.ensures.opens.bound
     (omega (arith, c.if-visits-eq0.false))
 
 pub slot-requires : goal.slot-requires
 slot-requires t c = (
-  omega (arith, c.begin-o.ensures.bound, c.requires.room.small),
+  omega (arith, c.in_ok-o.ensures.opens.bound, c.requires.room.small),
   c.loop-j-test.true,
 )
 
 pub overflow_add-i : goal.overflow_add-i
-overflow_add-i t c = omega (arith, c.slot.ensures.1, c.begin-o.ensures.bound, c.requires.room.small)
+overflow_add-i t c = omega (arith, c.slot.ensures.1, c.in_ok-o.ensures.opens.bound, c.requires.room.small)
 
 pub offset_bounds-heads-i : goal.offset_bounds-heads-i
-offset_bounds-heads-i t c = omega (arith, c.slot.ensures.1, c.begin-o.ensures.bound, c.requires.room.small)
+offset_bounds-heads-i t c = omega (arith, c.slot.ensures.1, c.in_ok-o.ensures.opens.bound, c.requires.room.small)
 
 pub bounds-heads-i : goal.bounds-heads-i
 bounds-heads-i t c =
-    let begin' = c.begin-o in
+    let begin' = c.in_ok-o in
     omega (
       arith,
       c.slot.ensures.1,
-      begin'.ensures.bound,
+      begin'.ensures.opens.bound,
       c.requires.room.heads,
-      begin'.ensures.frames.heads.long,
+      begin'.ensures.opens.frames.heads.long,
       c.loop-j.invariant.frames.heads.long,
     )
 
 pub offset_bounds-kids-i : goal.offset_bounds-kids-i
-offset_bounds-kids-i t c = omega (arith, c.slot.ensures.1, c.begin-o.ensures.bound, c.requires.room.small)
+offset_bounds-kids-i t c = omega (arith, c.slot.ensures.1, c.in_ok-o.ensures.opens.bound, c.requires.room.small)
 
 pub bounds-kids-i : goal.bounds-kids-i
 bounds-kids-i t c =
-    let begin' = c.begin-o in
+    let begin' = c.in_ok-o in
     omega (
       arith,
       c.slot.ensures.1,
-      begin'.ensures.bound,
+      begin'.ensures.opens.bound,
       c.requires.room.kids,
-      begin'.ensures.frames.kids.long,
+      begin'.ensures.opens.frames.kids.long,
       c.loop-j.invariant.frames.kids.long,
     )
 
 pub overflow_sub-levels : goal.overflow_sub-levels
 overflow_sub-levels t c = omega (arith, c.if-levels-eq0.false)
 
-pub walk-w-requires : goal.walk-w-requires
-walk-w-requires t c =
+pub walk-requires : goal.walk-requires
+walk-requires t c =
     let loop' = c.loop-j in
-    let begin' = c.begin-o in (
+    let begin' = c.in_ok-o in (
       omega (
         arith,
         c.if-levels-eq0.false,
@@ -132,8 +129,8 @@ walk-w-requires t c =
       (
         record {
           sight = c.requires.room.sight;
-          heads = omega (arith, c.requires.room.heads, begin'.ensures.frames.heads.long, loop'.invariant.frames.heads.long);
-          kids = omega (arith, c.requires.room.kids, begin'.ensures.frames.kids.long, loop'.invariant.frames.kids.long);
+          heads = omega (arith, c.requires.room.heads, begin'.ensures.opens.frames.heads.long, loop'.invariant.frames.heads.long);
+          kids = omega (arith, c.requires.room.kids, begin'.ensures.opens.frames.kids.long, loop'.invariant.frames.kids.long);
           within = loop'.invariant.high;
           small = c.requires.room.small;
         },
@@ -141,65 +138,48 @@ walk-w-requires t c =
       ),
     )
 
-pub shape_of-heads-then-w : goal.shape_of-heads-then-w
-shape_of-heads-then-w t c =
-    c.walk-w.ensures.frames.heads.long ∙ c.loop-j.invariant.frames.heads.long
-    ∙ c.begin-o.ensures.frames.heads.long
+pub shape_of-heads-in_err-w : goal.shape_of-heads-in_err-w
+shape_of-heads-in_err-w t c = c.in_err-w.ensures.frames.heads.long ∙ c.loop-j.invariant.frames.heads.long ∙ c.in_ok-o.ensures.opens.frames.heads.long
 
-pub shape_of-kids-then-w : goal.shape_of-kids-then-w
-shape_of-kids-then-w t c =
-    c.walk-w.ensures.frames.kids.long ∙ c.loop-j.invariant.frames.kids.long
-    ∙ c.begin-o.ensures.frames.kids.long
+pub shape_of-kids-in_err-w : goal.shape_of-kids-in_err-w
+shape_of-kids-in_err-w t c = c.in_err-w.ensures.frames.kids.long ∙ c.loop-j.invariant.frames.kids.long ∙ c.in_ok-o.ensures.opens.frames.kids.long
 
-pub returns-then-w : goal.returns-then-w
-returns-then-w t c =
+pub returns-in_err-w : goal.returns-in_err-w
+returns-in_err-w t c =
     let loop' = c.loop-j in
-    let begin' = c.begin-o
-    in
-    let walk' = c.walk-w in
+    let begin' = c.in_ok-o in
     let slot' = c.slot in
-    let fr = frames_then _ _ _ _ _ _ _ _ _ _ c.args.next c.args.most (frames_then _ _ _ _ _ _ _ _ _ _ c.args.next loop'.at
-    begin'.ensures.frames loop'.invariant.frames (omega arith) (omega arith) loop'.invariant.low (omega arith)) walk'.ensures.frames (omega arith) (omega
-    (arith, loop'.invariant.low)) loop'.invariant.high walk'.ensures.walks.within in record {
-      walks = walks_stopped c.args.kinds.now c.args.vals.now c.args.rules.now c.args.g c.args.heads.now c.args.kids.now _ _ c.args.x c.args.next c.args.levels c.args.visits c.args.most c.requires.room.within
-          (λ S t look b w z.
-          let o = begin'.ensures.opens.done c.if-o.false
-          S t b w in
-          walking_over c.args.kinds.now c.args.vals.now c.args.rules.now c.args.g _ _ _ _ _ _ _ _ _ _ _ _ _ _ _ _ _
-          loop'.invariant c.loop-j-test.true _ slot'.ensures.0
-          slot'.ensures.1 (omega (arith, c.requires.room.heads, begin'.ensures.frames.heads.long, loop'.invariant.frames.heads.long)) (omega (
-            arith,
-            c.requires.room.kids,
-            begin'.ensures.frames.kids.long,
-            loop'.invariant.frames.kids.long,
-          )) _ _ walk'.result walk'.ensures.walks walk'.ensures.frames
-          c.if-w.true S t look b o (order-of c.args.kinds.now c.args.vals.now c.args.rules.now c.args.g
-          _ _ _ _ S c.args.x _ _ _ _ _ t w o begin'.ensures.ordered) z (omega (arith, c.if-levels-eq0.false)))
-          _ c.stopped-then-w.ensures.0 c.stopped-then-w.ensures.1 c.stopped-then-w.ensures.2 c.stopped-then-w.ensures.3;
-      frames = rw c.stopped-then-w.ensures.0 fr;
-    }
+    rw c.from_residual-in_err-w.ensures (record {
+      walks = λ S t look b w z.
+          let o = begin'.ensures.opens.done S t b w in
+          walking_over c.args.kinds.now c.args.vals.now c.args.rules.now c.args.g _ _ _ _ _ _ _ _ _ _ _ _ _ _ _ _ _ loop'.invariant c.loop-j-test.true _ slot'.ensures.0 slot'.ensures.1
+          c.in_err-w.ensures.walks S t look b o (order-of c.args.kinds.now c.args.vals.now c.args.rules.now c.args.g _ _ _ _ S c.args.x _ _ _ _ _ t w o begin'.ensures.ordered) z
+          (omega (arith, c.if-levels-eq0.false));
+      frames = frames_then _ _ _ _ _ _ _ _ _ _ c.args.next c.args.most
+          (frames_then _ _ _ _ _ _ _ _ _ _ c.args.next loop'.at begin'.ensures.opens.frames loop'.invariant.frames (omega arith) (omega arith) loop'.invariant.low (omega arith))
+          c.in_err-w.ensures.frames (omega arith) (omega (arith, loop'.invariant.low)) loop'.invariant.high (omega arith);
+    })
 
 pub offset_bounds-heads-i-in-loop-j : goal.offset_bounds-heads-i-in-loop-j
 offset_bounds-heads-i-in-loop-j t c =
     omega (
       arith,
       c.slot.ensures.1,
-      c.begin-o.ensures.bound,
+      c.in_ok-o.ensures.opens.bound,
       c.requires.room.small,
     )
 
 pub bounds-heads-i-in-loop-j : goal.bounds-heads-i-in-loop-j
 bounds-heads-i-in-loop-j t c =
-    let begin' = c.begin-o
-    in
+    let begin' = c.in_ok-o in
     omega (
       arith,
       c.slot.ensures.1,
-      begin'.ensures.bound,
+      begin'.ensures.opens.bound,
       c.requires.room.heads,
-      begin'.ensures.frames.heads.long,
+      begin'.ensures.opens.frames.heads.long,
       c.loop-j.invariant.frames.heads.long,
-      c.walk-w.ensures.frames.heads.long,
+      c.in_ok-w.ensures.frames.heads.long,
     )
 
 pub offset_bounds-kids-i-in-loop-j : goal.offset_bounds-kids-i-in-loop-j
@@ -207,29 +187,28 @@ offset_bounds-kids-i-in-loop-j t c =
     omega (
       arith,
       c.slot.ensures.1,
-      c.begin-o.ensures.bound,
+      c.in_ok-o.ensures.opens.bound,
       c.requires.room.small,
     )
 
 pub bounds-kids-i-in-loop-j : goal.bounds-kids-i-in-loop-j
 bounds-kids-i-in-loop-j t c =
-    let begin' = c.begin-o
-    in
+    let begin' = c.in_ok-o in
     omega (
       arith,
       c.slot.ensures.1,
-      begin'.ensures.bound,
+      begin'.ensures.opens.bound,
       c.requires.room.kids,
-      begin'.ensures.frames.kids.long,
+      begin'.ensures.opens.frames.kids.long,
       c.loop-j.invariant.frames.kids.long,
-      c.walk-w.ensures.frames.kids.long,
+      c.in_ok-w.ensures.frames.kids.long,
     )
 
 pub overflow_add-size : goal.overflow_add-size
 overflow_add-size t c =
     let loop' = c.loop-j in
-    let walk' = c.walk-w.ensures.walks in
-    omega (arith, add_sizes _ _ c.args.visits _ walk'.fewer _ c.own_len-size.ensures.bound loop'.invariant.bounded loop'.invariant.fewer walk'.bounded c.requires.low.1 (omega (arith, loop'.invariant.upto, c.begin-o.ensures.bound, c.requires.room.small)))
+    let walk' = c.in_ok-w.ensures.walks in
+    omega (arith, add_sizes _ _ c.args.visits _ walk'.fewer _ c.own_len-size.ensures.bound loop'.invariant.bounded loop'.invariant.fewer walk'.bounded c.requires.low.1 (omega (arith, loop'.invariant.upto, c.in_ok-o.ensures.opens.bound, c.requires.room.small)))
 
 pub loop-j-smaller : goal.loop-j-smaller
 loop-j-smaller t c = omega (arith, c.loop-j-test.true)
@@ -238,17 +217,16 @@ pub loop-j-preserved : goal.loop-j-preserved
 loop-j-preserved t c =
     let loop' = c.loop-j in
     let slot' = c.slot in
-    let begin' = c.begin-o
-    in
-    let walk' = c.walk-w in
+    let begin' = c.in_ok-o in
+    let walk' = c.in_ok-w in
     walking_next c.args.kinds.now c.args.vals.now c.args.rules.now c.args.g _ _ _ _ _ _ _ _ _ _ _ _ _ _ _ _ _ loop'.invariant
     c.loop-j-test.true _ slot'.ensures.0 slot'.ensures.1
-    (omega (arith, c.requires.room.heads, begin'.ensures.frames.heads.long, loop'.invariant.frames.heads.long)) (omega (
+    (omega (arith, c.requires.room.heads, begin'.ensures.opens.frames.heads.long, loop'.invariant.frames.heads.long)) (omega (
       arith,
       c.requires.room.kids,
-      begin'.ensures.frames.kids.long,
+      begin'.ensures.opens.frames.kids.long,
       loop'.invariant.frames.kids.long,
-    )) _ _ walk'.result walk'.ensures.walks walk'.ensures.frames c.if-w.false
+    )) _ _ _ walk'.ensures.walks walk'.ensures.frames
 
 pub overflow_add-z : goal.overflow_add-z
 overflow_add-z t c =
@@ -259,44 +237,44 @@ overflow_cast-z t c =
     omega (arith, c.requires.room.small, c.requires.room.within)
 
 pub shape_of-heads-then-o-ne18 : goal.shape_of-heads-then-o-ne18
-shape_of-heads-then-o-ne18 t c = c.loop-j.invariant.frames.heads.long ∙ c.begin-o.ensures.frames.heads.long
+shape_of-heads-then-o-ne18 t c = c.loop-j.invariant.frames.heads.long ∙ c.in_ok-o.ensures.opens.frames.heads.long
 
 pub shape_of-kids-then-o-ne18 : goal.shape_of-kids-then-o-ne18
-shape_of-kids-then-o-ne18 t c = c.loop-j.invariant.frames.kids.long ∙ c.begin-o.ensures.frames.kids.long
+shape_of-kids-then-o-ne18 t c = c.loop-j.invariant.frames.kids.long ∙ c.in_ok-o.ensures.opens.frames.kids.long
 
 pub returns-then-o-ne18 : goal.returns-then-o-ne18
 returns-then-o-ne18 t c =
     let loop' = c.loop-j in
-    let begin' = c.begin-o in record {
+    let begin' = c.in_ok-o in record {
       walks = walks_kept c.args.kinds.now c.args.vals.now c.args.rules.now c.args.g c.args.heads.now c.args.kids.now
           _ _ _ _ c.args.x _ _ _ _ _ _ _ _ _ _ _ _ _ loop'.invariant c.loop-j-test.false (omega (arith, c.if-levels-eq0.false)) c.own_len-size.ensures.own
-          (omega (arith, c.own_len-size.ensures.bound, begin'.ensures.bound, c.requires.room.small))
-          (λ S t b w. begin'.ensures.opens.done c.if-o.false S t b w) begin'.ensures.ordered
+          (omega (arith, c.own_len-size.ensures.bound, begin'.ensures.opens.bound, c.requires.room.small))
+          begin'.ensures.opens.done begin'.ensures.ordered
           _ refl (λ S t look w d z. replace_other (look_by look) t (λ e. c.if-o-ne18.true (begin'.ensures.tagged.is _ _ S _ t w ∙ e))) _ c.result-then-o-ne18.ensures;
-      frames = rw c.result-then-o-ne18.ensures (frames_then _ _ _ _ _ _ _ _ _ _ c.args.next loop'.at begin'.ensures.frames loop'.invariant.frames (omega arith)
+      frames = rw c.result-then-o-ne18.ensures (frames_then _ _ _ _ _ _ _ _ _ _ c.args.next loop'.at begin'.ensures.opens.frames loop'.invariant.frames (omega arith)
           (omega arith) loop'.invariant.low (omega arith));
     }
 
 pub replace-f-requires : goal.replace-f-requires
 replace-f-requires t c =
-    let begin' = c.begin-o in record { sight = c.requires.room.sight; tagged = rw (sym c.if-o-ne18.false) begin'.ensures.tagged; counts = begin'.ensures.counted (omega (arith, c.if-o-ne18.false)); few = c.requires.few; low = c.requires.low.0 }
+    let begin' = c.in_ok-o in record { sight = c.requires.room.sight; tagged = rw (sym c.if-o-ne18.false) begin'.ensures.tagged; counts = begin'.ensures.counted (omega (arith, c.if-o-ne18.false)); few = c.requires.few; low = c.requires.low.0 }
 
 pub shape_of-heads-in_default : goal.shape_of-heads-in_default
-shape_of-heads-in_default t c = c.loop-j.invariant.frames.heads.long ∙ c.begin-o.ensures.frames.heads.long
+shape_of-heads-in_default t c = c.loop-j.invariant.frames.heads.long ∙ c.in_ok-o.ensures.opens.frames.heads.long
 
 pub shape_of-kids-in_default : goal.shape_of-kids-in_default
-shape_of-kids-in_default t c = c.loop-j.invariant.frames.kids.long ∙ c.begin-o.ensures.frames.kids.long
+shape_of-kids-in_default t c = c.loop-j.invariant.frames.kids.long ∙ c.in_ok-o.ensures.opens.frames.kids.long
 
 pub returns-in_default : goal.returns-in_default
 returns-in_default t c =
     let loop' = c.loop-j in
-    let begin' = c.begin-o in record {
+    let begin' = c.in_ok-o in record {
       walks = walks_kept c.args.kinds.now c.args.vals.now c.args.rules.now c.args.g c.args.heads.now c.args.kids.now
           _ _ _ _ c.args.x _ _ _ _ _ _ _ _ _ _ _ _ _ loop'.invariant c.loop-j-test.false (omega (arith, c.if-levels-eq0.false)) c.own_len-size.ensures.own
-          (omega (arith, c.own_len-size.ensures.bound, begin'.ensures.bound, c.requires.room.small))
-          (λ S t b w. begin'.ensures.opens.done c.if-o.false S t b w) begin'.ensures.ordered
+          (omega (arith, c.own_len-size.ensures.bound, begin'.ensures.opens.bound, c.requires.room.small))
+          begin'.ensures.opens.done begin'.ensures.ordered
           _ refl (λ S t look w d z. rw c.in_default.is at (c.replace-f.ensures S t look w d z)) _ c.result-in_default.ensures;
-      frames = rw c.result-in_default.ensures (frames_then _ _ _ _ _ _ _ _ _ _ c.args.next loop'.at begin'.ensures.frames loop'.invariant.frames (omega arith)
+      frames = rw c.result-in_default.ensures (frames_then _ _ _ _ _ _ _ _ _ _ c.args.next loop'.at begin'.ensures.opens.frames loop'.invariant.frames (omega arith)
           (omega arith) loop'.invariant.low (omega arith));
     }
 
@@ -307,34 +285,33 @@ pub same_trees-requires : goal.same_trees-requires
 same_trees-requires t c = c.requires.room.sight
 
 pub shape_of-heads-then-same_trees : goal.shape_of-heads-then-same_trees
-shape_of-heads-then-same_trees t c = c.loop-j.invariant.frames.heads.long ∙ c.begin-o.ensures.frames.heads.long
+shape_of-heads-then-same_trees t c = c.loop-j.invariant.frames.heads.long ∙ c.in_ok-o.ensures.opens.frames.heads.long
 
 pub shape_of-kids-then-same_trees : goal.shape_of-kids-then-same_trees
-shape_of-kids-then-same_trees t c = c.loop-j.invariant.frames.kids.long ∙ c.begin-o.ensures.frames.kids.long
+shape_of-kids-then-same_trees t c = c.loop-j.invariant.frames.kids.long ∙ c.in_ok-o.ensures.opens.frames.kids.long
 
 pub returns-then-same_trees : goal.returns-then-same_trees
 returns-then-same_trees t c =
     let loop' = c.loop-j in
-    let begin' = c.begin-o
+    let begin' = c.in_ok-o
     in record {
       walks = walks_itself c.args.kinds.now c.args.vals.now c.args.rules.now c.args.g c.args.heads.now c.args.kids.now
           _ _ _ _ c.args.x _ _ _ _ _ _ _ _ _ _ _ _ _ loop'.invariant c.loop-j-test.false
           (omega (arith, c.if-levels-eq0.false)) c.own_len-size.ensures.own
-          (omega (arith, c.own_len-size.ensures.bound, begin'.ensures.bound, c.requires.room.small))
-          (λ S t b w. begin'.ensures.opens.done c.if-o.false
-          S t b w) begin'.ensures.ordered _ refl _ (λ S t look w d z. rw c.in-Some.is at (c.replace-f.ensures
+          (omega (arith, c.own_len-size.ensures.bound, begin'.ensures.opens.bound, c.requires.room.small))
+          begin'.ensures.opens.done begin'.ensures.ordered _ refl _ (λ S t look w d z. rw c.in-Some.is at (c.replace-f.ensures
           S t look w d z)) c.requires.room.sight (c.same_trees.ensures.yes c.if-same_trees.true) _ refl refl _ c.result-then-same_trees.ensures;
-      frames = rw c.result-then-same_trees.ensures (frames_then _ _ _ _ _ _ _ _ _ _ c.args.next loop'.at begin'.ensures.frames loop'.invariant.frames (omega arith)
+      frames = rw c.result-then-same_trees.ensures (frames_then _ _ _ _ _ _ _ _ _ _ c.args.next loop'.at begin'.ensures.opens.frames loop'.invariant.frames (omega arith)
           (omega arith) loop'.invariant.low (omega arith));
     }
 
 pub overflow_sub-levels-2 : goal.overflow_sub-levels-2
 overflow_sub-levels-2 t c = omega (arith, c.if-levels-eq0.false)
 
-pub walk-requires : goal.walk-requires
-walk-requires t c =
+pub walk-requires-2 : goal.walk-requires-2
+walk-requires-2 t c =
     let loop' = c.loop-j in
-    let begin' = c.begin-o
+    let begin' = c.in_ok-o
     in (
       omega (
         arith,
@@ -344,8 +321,8 @@ walk-requires t c =
       (
         record {
           sight = c.requires.room.sight;
-          heads = omega (arith, c.requires.room.heads, begin'.ensures.frames.heads.long, loop'.invariant.frames.heads.long);
-          kids = omega (arith, c.requires.room.kids, begin'.ensures.frames.kids.long, loop'.invariant.frames.kids.long);
+          heads = omega (arith, c.requires.room.heads, begin'.ensures.opens.frames.heads.long, loop'.invariant.frames.heads.long);
+          kids = omega (arith, c.requires.room.kids, begin'.ensures.opens.frames.kids.long, loop'.invariant.frames.kids.long);
           within = loop'.invariant.high;
           small = c.requires.room.small;
         },
@@ -355,30 +332,26 @@ walk-requires t c =
 
 pub shape_of-heads : goal.shape_of-heads
 shape_of-heads t c =
-    c.walk.ensures.frames.heads.long ∙ c.loop-j.invariant.frames.heads.long
-    ∙ c.begin-o.ensures.frames.heads.long
+    c.walk-2.ensures.frames.heads.long ∙ c.loop-j.invariant.frames.heads.long
+    ∙ c.in_ok-o.ensures.opens.frames.heads.long
 
 pub shape_of-kids : goal.shape_of-kids
 shape_of-kids t c =
-    c.walk.ensures.frames.kids.long ∙ c.loop-j.invariant.frames.kids.long
-    ∙ c.begin-o.ensures.frames.kids.long
+    c.walk-2.ensures.frames.kids.long ∙ c.loop-j.invariant.frames.kids.long
+    ∙ c.in_ok-o.ensures.opens.frames.kids.long
 
 pub returns : goal.returns
 returns t c =
-    let loop' = c.loop-j
-    in
-    let begin' = c.begin-o
-    in
-    let walk2' = c.walk in record {
+    let loop' = c.loop-j in
+    let begin' = c.in_ok-o in
+    let walk' = c.walk-2 in
+    record {
       walks = walks_followed c.args.kinds.now c.args.vals.now c.args.rules.now c.args.g c.args.heads.now c.args.kids.now _ _ _ _ c.args.x _ _ _ _ _ _ _ _ _ _ _ _ _ loop'.invariant c.loop-j-test.false
-          (omega (arith, c.if-levels-eq0.false)) c.own_len-size.ensures.own
-          (omega (arith, c.own_len-size.ensures.bound, begin'.ensures.bound, c.requires.room.small))
-          (λ S t b w. begin'.ensures.opens.done c.if-o.false
-          S t b w) begin'.ensures.ordered _ refl _ (λ S t look w d z. rw c.in-Some.is
-          at (c.replace-f.ensures S t look w d
-          z)) (c.same_trees.ensures.no c.if-same_trees.false)
-          _ _ _ walk2'.ensures.walks;
-      frames = frames_then _ _ _ _ _ _ _ _ _ _ c.args.next walk2'.result.next (frames_then _ _ _ _ _ _ _ _ _ _ c.args.next loop'.at begin'.ensures.frames
-          loop'.invariant.frames (omega arith) (omega arith) loop'.invariant.low (omega arith)) walk2'.ensures.frames (omega arith) (omega (arith, loop'.invariant.low))
-          walk2'.ensures.walks.later (omega arith);
+          (omega (arith, c.if-levels-eq0.false)) c.own_len-size.ensures.own (omega (arith, c.own_len-size.ensures.bound, begin'.ensures.opens.bound, c.requires.room.small))
+          begin'.ensures.opens.done begin'.ensures.ordered _ refl _ (λ S t look w d z. rw c.in-Some.is at (c.replace-f.ensures S t look w d z)) (c.same_trees.ensures.no c.if-same_trees.false)
+          _ _ walk'.result walk'.ensures.walks;
+      frames = frames_then _ _ _ _ _ _ _ _ _ _ c.args.next (used c.args.most walk'.result)
+          (frames_then _ _ _ _ _ _ _ _ _ _ c.args.next loop'.at begin'.ensures.opens.frames loop'.invariant.frames (omega arith) (omega arith) loop'.invariant.low (omega arith))
+          walk'.ensures.frames (omega arith) (omega (arith, loop'.invariant.low))
+          (used_later _ _ _ _ _ _ _ _ _ _ _ _ _ loop'.invariant.high walk'.result walk'.ensures.walks) (omega arith);
     }
