@@ -52,6 +52,10 @@ frames_then hs₀ cs₀ hs cs hs' cs' a b c d x y f g xa xc by dy = record {
   kids = frame_then cs₀ cs cs' a b c d x y f.kids g.kids xa xc by dy;
 }
 
+-- one frame after the other, from the same record on
+pub frames_next : (hs₀ cs₀ hs cs hs' cs' : List ℕ) (a b c : ℕ) → Frames hs₀ cs₀ hs cs a b → Frames hs cs hs' cs' a c → b ≤ c → Frames hs₀ cs₀ hs' cs' a c
+frames_next hs₀ cs₀ hs cs hs' cs' a b c f g le = frames_then hs₀ cs₀ hs cs hs' cs' a b a c a c f g (omega arith) (omega arith) le (omega arith)
+
 pub frames_wider : (hs₀ cs₀ hs cs : List ℕ) (a b c : ℕ) → Frames hs₀ cs₀ hs cs a b → b ≤ c → Frames hs₀ cs₀ hs cs a c
 frames_wider hs₀ cs₀ hs cs a b c f le = record {
   heads = record { long = f.heads.long; below = f.heads.below; above = λ i l. f.heads.above i (omega arith) };

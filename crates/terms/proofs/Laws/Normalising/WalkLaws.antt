@@ -390,8 +390,3 @@ pub used_later : (ks vs ws : List ℕ) (g : Origin) (hs₀ cs₀ hs cs : List �
     → Walks ks vs ws g hs₀ cs₀ hs cs x next levels visits most r → next ≤ used most r
 used_later ks vs ws g hs₀ cs₀ hs cs x next levels visits most le (Some r) w = w.later
 used_later ks vs ws g hs₀ cs₀ hs cs x next levels visits most le None w = le
-
--- the bytes of a node and of its children so far are a word
-pub add_sizes : (size more visits left : ℕ) {used : ℕ} → used ≤ left → (base : ℕ) {j : ℕ} → base < 34359738368 → size ≤ base + 68719476736 * (visits - 1 - left) + j → left < visits
-    → more ≤ 68719476736 * (left - used) + 1 → visits < 134217728 → j < 4294967296 → size + more < 18446744073709551616
-add_sizes size more visits left f base b s l m v h = omega arith

@@ -1,3 +1,4 @@
+-- `walk`. Invariant: j children have been visited, and the arena is filled up to `at`.
 use Prim.Native.Nat.{◌+◌}
 use Rattle.terms.proofs.Laws.Normalising.WalkLaws.{Walking}
 use Rattle.terms.proofs.walking.+walk.Given as goal
