@@ -18,6 +18,7 @@
 --   SatisfyContract    what the functions that test a bound hand on
 --   ShowingContract    bytes sized, or written
 --   Outcomes          the answers of the functions that are lent the numbers of a place
+--   SlotsContract      the classes of tags
 --   TermsAtPlaces      what stands at the places that a function is told
 --   TokenBytes         the bytes of tokens as they stand
 --   Tokens             the token areas
@@ -39,6 +40,7 @@ pub mod RuleListContract
 pub mod RulesContract
 pub mod SatisfyContract
 pub mod ShowingContract
+pub mod SlotsContract
 pub mod Outcomes
 pub mod TermsAtPlaces
 pub mod TokenBytes

@@ -5,9 +5,9 @@ ghost use Rattle.terms.specs.Words.VirtualTokens.{view, Sight};
 ghost use Rattle.terms.specs.Words.Arena.{Cut, further, Alike, Begins, Starts};
 
 use super::rows::{child_here, row_of};
-use super::runs::{same_term, span_of, wide, word};
-use super::virtual_tokens::{step, token_at};
-use super::{Content, Cursor, Origin};
+use super::runs::{same_term, wide, word};
+use super::virtual_tokens::token_at;
+use super::{Content, Cursor, Origin, Token};
 
 // The start of a content's row.
 pub fn cursor(kinds: &[u32], vals: &[u32], g: Origin, x: Content) -> Cursor
@@ -44,7 +44,11 @@ fn is_lent(kinds: &[u32], vals: &[u32], x: Content) -> bool
         return false;
     }
     let p = wide(x.head);
-    p + span_of(word(kinds, p), word(vals, p)) <= kinds.len()
+    let head = Token {
+        kind: word(kinds, p),
+        value: word(vals, p),
+    };
+    p + head.span() <= kinds.len()
 }
 
 // Whether the parts at x begin with all that are at y; the children at x have at most `fuel` levels.
@@ -93,8 +97,8 @@ pub fn same_rows(
             }
             i += 1;
             j += 1;
-            p += step(s);
-            q += step(t);
+            p += s.step();
+            q += t.step();
         }
     }
     Some((p, i))

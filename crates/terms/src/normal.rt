@@ -13,9 +13,7 @@ ghost use Rattle.terms.specs.Words.NormalContract.{Zero, Lends, Stands, Sized, F
 use super::rules::source;
 use super::runs::{wide, word};
 use super::showing::show_tree;
-use super::slots::least;
 use super::store::clear_tokens;
-use super::virtual_tokens::step;
 use super::walking::walk;
 use super::{Content, Normalised, Origin, Ready, Token};
 
@@ -28,7 +26,7 @@ fn has_projection(kinds: &[u32], vals: &[u32], p: u32) -> bool
         kind: word(kinds, from),
         value: word(vals, from),
     };
-    let end = from + step(head);
+    let end = from + head.step();
     for q in from..end {
         if word(kinds, q) == 20 {
             return true;
@@ -166,7 +164,7 @@ fn span_at(kinds: &[u32], vals: &[u32], p: u32, len: usize) -> usize
         kind: word(kinds, from),
         value: word(vals, from),
     };
-    least(step(head), len)
+    head.step().min(len)
 }
 
 // What order 19 looks up by: the places of a bare nominal and of the owner.

@@ -3,9 +3,10 @@ ghost use Rattle.std.specs.Prelude.{◌≡◌, false, ◌+◌, ◌≤◌, ◌<�
 ghost use Rattle.terms.specs.Words.VirtualTokens.{view, Sight};
 ghost use Rattle.terms.specs.Words.Arena.{TagAt, OwnAt, Counts, Frames, RecordRoom, Opens, Ordered};
 
+use super::questions::tag_of;
 use super::rows::{child_here, number_at, row_of};
 use super::runs::wide;
-use super::virtual_tokens::{step, token_at};
+use super::virtual_tokens::token_at;
 use super::write::token_len;
 use super::{Begun, Content, Count, Origin};
 
@@ -14,11 +15,7 @@ pub fn tag_at(kinds: &[u32], vals: &[u32], g: Origin, h: u32) -> u32
     requires { Sight kinds.now vals.now g }
     ensures { TagAt (view kinds.now vals.now g) h result }
 {
-    let x = token_at(kinds, vals, g, wide(h));
-    if x.kind < 2 {
-        return x.kind;
-    }
-    x.kind - 2
+    tag_of(token_at(kinds, vals, g, wide(h)).kind)
 }
 
 // Puts the children of a content, in byte order, at the records next, next + 1, ..
@@ -54,7 +51,7 @@ fn put_children(
             heads[next + n] = z.head;
             kids[next + n] = z.kids;
             n += 1;
-            q += step(y);
+            q += y.step();
         }
     }
     Count { n, over: false }
@@ -119,7 +116,7 @@ pub fn own_len(kinds: &[u32], vals: &[u32], g: Origin, h: u32) -> usize
             n += token_len(y.kind, y.value);
             q += 1;
         } else {
-            q += step(y);
+            q += y.step();
         }
     }
     n

@@ -7,7 +7,7 @@ ghost use Rattle.terms.specs.Tree.{children};
 ghost use Rattle.terms.specs.Words.Arena.{head_of, kids_of, Tree, RowAt, NumberAt, ValueAt, KeyOf, Fetched};
 
 use super::runs::{wide, word};
-use super::virtual_tokens::{step, token_at};
+use super::virtual_tokens::token_at;
 use super::{Content, Origin, Part};
 
 // A place past all tokens.
@@ -19,7 +19,7 @@ pub fn row_of(kinds: &[u32], vals: &[u32], g: Origin, h: u32) -> Part
     ensures { RowAt (view kinds.now vals.now g) h result.from result.end }
 {
     let p = wide(h);
-    let end = p + step(token_at(kinds, vals, g, p));
+    let end = p + token_at(kinds, vals, g, p).step();
     if NOWHERE < end {
         return Part {
             from: p + 1,
@@ -47,7 +47,7 @@ pub fn number_place(kinds: &[u32], vals: &[u32], g: Origin, h: u32, i: usize) ->
             left -= 1;
             q += 1;
         } else {
-            q += step(x);
+            q += x.step();
         }
     }
     NOWHERE
@@ -84,7 +84,7 @@ pub fn key_at(kinds: &[u32], vals: &[u32], g: Origin, h: u32, x: u32) -> Option<
             k += 1;
             q += 1;
         } else {
-            q += step(y);
+            q += y.step();
         }
     }
     None
@@ -137,7 +137,7 @@ pub fn child_at(
                 return Some(child_here(heads, kids, x.kids, q, n));
             }
             n += 1;
-            q += step(y);
+            q += y.step();
         }
     }
     None

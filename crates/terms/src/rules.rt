@@ -10,7 +10,7 @@ ghost use Rattle.terms.specs.Words.RulesContract.{TermStarts, Numbers, Fronted, 
 use super::alike::{cursor, moved, same_rows};
 use super::rule_list::{next_rule, rule_at};
 use super::runs::wide;
-use super::virtual_tokens::{step, token_at};
+use super::virtual_tokens::token_at;
 use super::{Content, Cursor, Origin, Rule};
 
 // A place past all tokens.
@@ -29,7 +29,7 @@ fn term_cursor(kinds: &[u32], vals: &[u32], g: Origin, p: usize) -> Cursor
     requires small { p < 4294967296 }
     ensures { TermStarts (view kinds.now vals.now g) p result }
 {
-    let end = p + step(token_at(kinds, vals, g, p));
+    let end = p + token_at(kinds, vals, g, p).step();
     if NOWHERE < end {
         return Cursor {
             at: p,
@@ -130,7 +130,7 @@ fn member_in(kinds: &[u32], vals: &[u32], g: Origin, x: Cursor) -> u32
             last = y.value;
             q += 1;
         } else {
-            q += step(y);
+            q += y.step();
         }
     }
     before

@@ -9,7 +9,7 @@ ghost use Rattle.terms.specs.Words.ShowingContract.{Shows, Kept};
 use super::alike::cursor;
 use super::rows::child_here;
 use super::runs::wide;
-use super::virtual_tokens::{step, token_at};
+use super::virtual_tokens::token_at;
 use super::write::{run_len, token_len, write_run, write_token};
 use super::{Content, Cursor, Origin, Token};
 
@@ -130,7 +130,7 @@ fn show_row(
             let z = child_here(heads, kids, c.kids, q, n);
             i = show_tree(kinds, vals, heads, kids, g, z, fuel, out, i, on);
             n += 1;
-            q += step(y);
+            q += y.step();
         }
     }
     i
@@ -160,7 +160,7 @@ pub fn show_tree(
 {
     let h = token_at(kinds, vals, g, wide(x.head));
     if x.kids == 0 {
-        return show_run(kinds, vals, g, wide(x.head), step(h), out, at, on);
+        return show_run(kinds, vals, g, wide(x.head), h.step(), out, at, on);
     }
     if fuel == 0 {
         return out.len() + 1;

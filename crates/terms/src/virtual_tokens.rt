@@ -1,6 +1,5 @@
 // The tokens that normalising sees: the lent ones, Error, and the projections that order 19 may make anew.
 ghost use Rattle.std.specs.Prelude.{◌≡◌, ◌+◌, ◌≤◌, ◌<◌, get_or};
-ghost use Rattle.terms.specs.Words.Held.{span};
 ghost use Rattle.terms.specs.Words.VirtualTokens.{copied, Located, view, Sight};
 
 use super::runs::{wide, word};
@@ -70,18 +69,4 @@ pub fn token_at(kinds: &[u32], vals: &[u32], g: Origin, q: usize) -> Token
         },
         Spot::Nowhere => Token { kind: 0, value: 0 },
     }
-}
-
-// How many tokens the term has that begins with a token.
-pub fn step(x: Token) -> usize
-    ensures some { (1 ≤ result) × (result < 4294967296) }
-    ensures span { 1 ≤ span x.kind x.value → result ≡ span x.kind x.value }
-{
-    if x.kind < 2 {
-        return 1;
-    }
-    if x.value == 0 {
-        return 1;
-    }
-    wide(x.value)
 }

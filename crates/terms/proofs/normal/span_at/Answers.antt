@@ -5,7 +5,7 @@ use Rattle.terms.proofs.normal.span_at.Goals as goal
 
 pub returns : goal.returns
 returns c = record {
-  bound = omega (arith, c.least.ensures);
+  bound = omega (arith, c.min.ensures);
   span = λ t h le. span_told c.args.kinds.now c.args.vals.now _ _ _ _ _ c.wide-from.ensures
-      c.word.ensures c.word-2.ensures c.step.ensures.span c.least.ensures t h le;
+      c.word.ensures c.word-2.ensures c.step.ensures.span c.min.ensures t h le;
 }

@@ -33,12 +33,12 @@ fixed_len-size-requires t c = record { term = (c.requires.room.sight.pairs, (c.f
 
 pub kept-requires : goal.kept-requires
 kept-requires t c =
-    let nodes' = c.fixed_nodes-same.ensures.few in record { some = (c.if-same-gt0.true, omega (arith, nodes'.0, c.least.ensures), nodes'.1); room = omega (arith, c.requires.room.within, c.requires.room.small) }
+    let nodes' = c.fixed_nodes-same.ensures.few in record { some = (c.if-same-gt0.true, omega (arith, nodes'.0, c.min.ensures), nodes'.1); room = omega (arith, c.requires.room.within, c.requires.room.small) }
 
 pub returns-then-same-gt0 : goal.returns-then-same-gt0
 returns-then-same-gt0 t c =
     let nodes' = c.fixed_nodes-same.ensures in
-    let least' = c.least.ensures in
+    let least' = c.min.ensures in
     let len' = c.fixed_len-size.ensures in
     let both = fixed_kept c.args.kinds.now c.args.vals.now c.args.rules.now c.args.g c.requires.room.sight c.args.heads.now
     c.args.kids.now c.args.x c.args.next c.args.levels c.args.visits c.args.most _ _ (nodes'.fixed c.if-same-gt0.true)
