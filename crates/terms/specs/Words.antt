@@ -13,6 +13,7 @@
 --   RecoverContract    what the functions that recover a term hand on
 --   RewriteContract    writing a term with its binders replaced
 --   RowPieces          the pieces in which the code reads a plain row
+--   RowsContract       what a walk over a row comes to
 --   RuleListContract   the rules as a list of records, scanned for a member
 --   RulesContract      what the search of a rule answers
 --   SatisfyContract    what the functions that test a bound hand on
@@ -36,6 +37,7 @@ pub mod ReaderContract
 pub mod RecoverContract
 pub mod RewriteContract
 pub mod RowPieces
+pub mod RowsContract
 pub mod RuleListContract
 pub mod RulesContract
 pub mod SatisfyContract

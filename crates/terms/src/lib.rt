@@ -216,6 +216,16 @@ pub struct Part {
     pub end: usize,
 }
 
+// A walk over a row: the tokens that are seen, where it stands, and where the row ends. It comes to each number and to the first token of each child.
+#[derive(Clone, Copy, Drop)]
+pub struct RowWalk<'a> {
+    pub kinds: &'a [u32],
+    pub vals: &'a [u32],
+    pub given: Origin,
+    pub at: usize,
+    pub end: usize,
+}
+
 // A tree in words: the place of its first token, and where its children are.
 #[derive(Clone, Copy)]
 pub struct Content {

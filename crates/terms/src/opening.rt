@@ -4,7 +4,7 @@ ghost use Rattle.terms.specs.Words.VirtualTokens.{view, Sight};
 ghost use Rattle.terms.specs.Words.Arena.{TagAt, OwnAt, Counts, Frames, RecordRoom, Opens, Ordered};
 
 use super::questions::tag_of;
-use super::rows::{child_here, number_at, row_of};
+use super::rows::{child_here, number_at, row_of, walk_row};
 use super::runs::wide;
 use super::virtual_tokens::token_at;
 use super::write::token_len;
@@ -106,17 +106,10 @@ pub fn own_len(kinds: &[u32], vals: &[u32], g: Origin, h: u32) -> usize
     ensures own { OwnAt (view kinds.now vals.now g) h result }
 {
     let x = token_at(kinds, vals, g, wide(h));
-    let part = row_of(kinds, vals, g, h);
-    let end = part.end;
-    let mut q = part.from;
     let mut n = token_len(x.kind, x.value);
-    while q < end {
-        let y = token_at(kinds, vals, g, q);
+    for (_, y) in walk_row(kinds, vals, g, h) {
         if y.kind == 0 {
             n += token_len(y.kind, y.value);
-            q += 1;
-        } else {
-            q += y.step();
         }
     }
     n

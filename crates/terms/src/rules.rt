@@ -11,7 +11,7 @@ use super::alike::{cursor, moved, same_rows};
 use super::rule_list::{next_rule, rule_at};
 use super::runs::wide;
 use super::virtual_tokens::token_at;
-use super::{Content, Cursor, Origin, Rule};
+use super::{Content, Cursor, Origin, RowWalk, Rule};
 
 // A place past all tokens.
 const NOWHERE: usize = 4294967295;
@@ -120,17 +120,19 @@ fn member_in(kinds: &[u32], vals: &[u32], g: Origin, x: Cursor) -> u32
     requires cut { Cut x }
     ensures { MemberIn (view kinds.now vals.now g) x result }
 {
-    let mut q = x.at;
+    let row = RowWalk {
+        kinds,
+        vals,
+        given: g,
+        at: x.at,
+        end: x.end,
+    };
     let mut before = 0;
     let mut last = 0;
-    while q < x.end {
-        let y = token_at(kinds, vals, g, q);
+    for (_, y) in row {
         if y.kind == 0 {
             before = last;
             last = y.value;
-            q += 1;
-        } else {
-            q += y.step();
         }
     }
     before

@@ -11,7 +11,7 @@ use super::rows::child_here;
 use super::runs::wide;
 use super::virtual_tokens::token_at;
 use super::write::{run_len, token_len, write_run, write_token};
-use super::{Content, Cursor, Origin, Token};
+use super::{Content, Cursor, Origin, RowWalk, Token};
 
 // One token.
 fn show_token(out: &mut [u8], at: usize, x: Token, on: bool) -> usize
@@ -115,22 +115,25 @@ fn show_row(
         → depths ps ≤ fuel
         → Shows on out.old out.new at (part_bytes ps) result }
 {
+    let row = RowWalk {
+        kinds,
+        vals,
+        given: g,
+        at: c.at,
+        end: c.end,
+    };
     let mut i = at;
-    let mut q = c.at;
     let mut n = c.child;
-    while q < c.end {
+    for (q, y) in row {
         if out.len() < i {
             return i;
         }
-        let y = token_at(kinds, vals, g, q);
         if y.kind == 0 {
             i = show_token(out, i, y, on);
-            q += 1;
         } else {
             let z = child_here(heads, kids, c.kids, q, n);
             i = show_tree(kinds, vals, heads, kids, g, z, fuel, out, i, on);
             n += 1;
-            q += y.step();
         }
     }
     i

@@ -25,7 +25,7 @@ use Rattle.terms.proofs.Laws.Held.HeldLaws.{head_kind, held_num, held_sub, row_n
 use Rattle.terms.proofs.Laws.Held.FlatLaws.{held_enter, held_one}
 use Rattle.terms.proofs.Laws.Format.ShapeLaws.{More, some_done}
 use Rattle.terms.proofs.Laws.Format.ParameterLaws.{found_contains}
-use Rattle.terms.proofs.Laws.Asking.ConflictLaws.{passed, not_among}
+use Rattle.terms.proofs.Laws.Asking.ConflictLaws.{passed}
 use Rattle.std.specs.Prelude.{Option, Some, None, is_some}
 
 -- ---- tags

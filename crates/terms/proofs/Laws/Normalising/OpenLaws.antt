@@ -2,17 +2,17 @@
 use mathlib.Core.Path.{◌≡◌, refl, sym, ap, ◌∙◌}
 use mathlib.Core.Bool.{Bool, true, false}
 use mathlib.Core.List.{List}
-use Prim.Native.Nat.{ℕ, ◌+◌, ◌-◌, ◌≤◌, ◌<◌}
+use Prim.Native.Nat.{ℕ, ◌+◌, ◌≤◌, ◌<◌}
 use native.Mathlib.Omega.{arith}
 use borrow.Author.Count.{below_more}
 use borrow.Author.Tests.{lt-ltb, ne_eqb}
 use lib.ListN.{length, get_or, set, drop, length-set}
 use lib.Seq.{get_or-set_same, get_or-set_other}
 use Rattle.terms.specs.Words.Tokens.{Area}
-use Rattle.terms.specs.Term.{Term, Parts, var, node}
+use Rattle.terms.specs.Term.{Term, Parts}
 use Rattle.terms.specs.Words.QuestionsContract.{tag_of}
 use Rattle.terms.specs.Words.Held.{span}
-use Rattle.terms.specs.Tree.{error, subs, children, row, tag, class, slot_by}
+use Rattle.terms.specs.Tree.{error, subs, children, row, class, slot_by}
 use Rattle.terms.specs.Words.Arena.{head_of, kids_of, Tree, Parted, Below, RowAt, TagAt, ValueAt, Counts, Frame, Frames, Opens, Ordered}
 use Rattle.terms.proofs.Laws.General.Bools.{never_true, never_false}
 use Rattle.terms.proofs.Laws.Asking.QuestionLaws.{tag_kind}

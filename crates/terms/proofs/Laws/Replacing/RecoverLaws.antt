@@ -22,7 +22,7 @@ use Rattle.terms.specs.Words.Tokens.{spell}
 use Rattle.terms.specs.Comparison.{recovery}
 use Rattle.terms.specs.Recovery.{recover_from, recover_row, reach, nominal_reach, parts}
 use Rattle.terms.specs.Words.RecoverContract.{put_if, Put, upto, alike, Parted, no_left, no_right, number_term, term_number}
-use Rattle.terms.proofs.Laws.General.Bools.{never_true, never_false, and-false, or-true, or_right, or-false, or-none}
+use Rattle.terms.proofs.Laws.General.Bools.{never_true, never_false, and-false}
 use Rattle.terms.proofs.Laws.Format.WriteLaws.{sets_append, held_bytes, spell_step, spelt_add}
 use Rattle.terms.specs.Shape as shape
 use Rattle.terms.specs.Shape.{Shape, Meaning, kind_of, many_terms, many_members, nominal, layout}

@@ -1,9 +1,7 @@
 use Rattle.terms.proofs.Laws.Replacing.FindLaws.{search_end, search_more}
 use mathlib.Core.Path.{◌≡◌, refl, ap, ◌∙◌}
-use Prim.Native.Nat.{ℕ, ◌+◌, ◌-◌, ◌≤◌}
+use Prim.Native.Nat.{ℕ, ◌+◌}
 use native.Mathlib.Omega.{arith}
-use lib.ListN.{get_or}
-use Rattle.terms.specs.Words.Held.{span}
 use Rattle.terms.proofs.find.find_record.Goals as goal
 use Rattle.terms.proofs.find.find_record.Goals.{then-eq, else-eq}
 

@@ -1,9 +1,9 @@
 -- `clear_run`: the part that is filled, or none.
 use native.Mathlib.Omega.{arith}
-use mathlib.Core.Path.{sym, ap, ◌∙◌}
+use mathlib.Core.Path.{ap, ◌∙◌}
 use mathlib.Core.List.{List}
 use Prim.Native.Nat.{ℕ, ◌-◌}
-use borrow.Rule.Slice.PartMut.{put_mid, mid_of, mid_len}
+use borrow.Rule.Slice.PartMut.{put_mid, mid_len}
 use lib.ListN.{replicate}
 use Rattle.terms.proofs.Laws.Format.StoreLaws.{cleared_part, cleared_none}
 use Rattle.terms.proofs.store.clear_run.Goals as goal
