@@ -5,7 +5,7 @@ ghost use Rattle.terms.specs.Words.VirtualTokens.{view, Sight};
 ghost use Rattle.terms.specs.Words.Arena.{Cut, further, Alike, Begins, Starts};
 
 use super::rows::{child_here, row_of};
-use super::runs::{same_term, wide, word};
+use super::runs::{same_term, word};
 use super::virtual_tokens::token_at;
 use super::{Content, Cursor, Origin, Token};
 
@@ -43,7 +43,7 @@ fn is_lent(kinds: &[u32], vals: &[u32], x: Content) -> bool
     if x.kids != 0 {
         return false;
     }
-    let p = wide(x.head);
+    let p = x.head as usize;
     let head = Token {
         kind: word(kinds, p),
         value: word(vals, p),
@@ -122,8 +122,8 @@ pub fn same_trees(
     if fuel == 0 {
         return false;
     }
-    let s = token_at(kinds, vals, g, wide(x.head));
-    let t = token_at(kinds, vals, g, wide(y.head));
+    let s = token_at(kinds, vals, g, x.head as usize);
+    let t = token_at(kinds, vals, g, y.head as usize);
     if s.kind != t.kind {
         return false;
     }
@@ -132,7 +132,7 @@ pub fn same_trees(
     }
     if is_lent(kinds, vals, x) {
         if is_lent(kinds, vals, y) {
-            return same_term(kinds, vals, wide(x.head), wide(y.head));
+            return same_term(kinds, vals, x.head as usize, y.head as usize);
         }
     }
     let a = cursor(kinds, vals, g, x);

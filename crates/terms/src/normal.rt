@@ -11,7 +11,7 @@ ghost use Rattle.terms.specs.Words.Arena.{RecordRoom};
 ghost use Rattle.terms.specs.Words.NormalContract.{Zero, Lends, Stands, Sized, Fitted, Answers, Leaves, RuledAt, OwnedAt, KeptAt};
 
 use super::rules::source;
-use super::runs::{wide, word};
+use super::runs::word;
 use super::showing::show_tree;
 use super::store::clear_tokens;
 use super::walking::walk;
@@ -21,7 +21,7 @@ use super::{Content, Normalised, Origin, Ready, Token};
 fn has_projection(kinds: &[u32], vals: &[u32], p: u32) -> bool
     ensures { (t : Term) → Held kinds.now vals.now p t → result ≡ contains_projection t }
 {
-    let from = wide(p);
+    let from = p as usize;
     let head = Token {
         kind: word(kinds, from),
         value: word(vals, from),
@@ -159,7 +159,7 @@ fn span_at(kinds: &[u32], vals: &[u32], p: u32, len: usize) -> usize
     ensures bound { result ≤ len }
     ensures span { (t : Term) → Held kinds.now vals.now p t → length (items t) ≤ len → result ≡ length (items t) }
 {
-    let from = wide(p);
+    let from = p as usize;
     let head = Token {
         kind: word(kinds, from),
         value: word(vals, from),

@@ -5,7 +5,6 @@ ghost use Rattle.terms.specs.Words.Arena.{TagAt, OwnAt, Counts, Frames, RecordRo
 
 use super::questions::tag_of;
 use super::rows::{child_here, number_at, row_of, walk_row};
-use super::runs::wide;
 use super::virtual_tokens::token_at;
 use super::write::token_len;
 use super::{Begun, Content, Count, Origin};
@@ -15,7 +14,7 @@ pub fn tag_at(kinds: &[u32], vals: &[u32], g: Origin, h: u32) -> u32
     requires { Sight kinds.now vals.now g }
     ensures { TagAt (view kinds.now vals.now g) h result }
 {
-    tag_of(token_at(kinds, vals, g, wide(h)).kind)
+    tag_of(token_at(kinds, vals, g, h as usize).kind)
 }
 
 // Puts the children of a content, in byte order, at the records next, next + 1, ..
@@ -105,7 +104,7 @@ pub fn own_len(kinds: &[u32], vals: &[u32], g: Origin, h: u32) -> usize
     ensures bound { result < 34359738368 }
     ensures own { OwnAt (view kinds.now vals.now g) h result }
 {
-    let x = token_at(kinds, vals, g, wide(h));
+    let x = token_at(kinds, vals, g, h as usize);
     let mut n = token_len(x.kind, x.value);
     for (_, y) in walk_row(kinds, vals, g, h) {
         if y.kind == 0 {

@@ -8,7 +8,7 @@ ghost use Rattle.terms.specs.Tree.{children};
 ghost use Rattle.terms.specs.Words.Arena.{head_of, kids_of, Tree, RowAt, NumberAt, ValueAt, KeyOf, Fetched};
 ghost use Rattle.terms.specs.Words.RowsContract.{Moves};
 
-use super::runs::{wide, word};
+use super::runs::word;
 use super::virtual_tokens::token_at;
 use super::{Content, Origin, Part, RowWalk, Token};
 
@@ -20,7 +20,7 @@ pub fn row_of(kinds: &[u32], vals: &[u32], g: Origin, h: u32) -> Part
     requires { Sight kinds.now vals.now g }
     ensures { RowAt (view kinds.now vals.now g) h result.from result.end }
 {
-    let p = wide(h);
+    let p = h as usize;
     let end = p + token_at(kinds, vals, g, p).step();
     if NOWHERE < end {
         return Part {
@@ -92,7 +92,7 @@ pub fn number_at(kinds: &[u32], vals: &[u32], g: Origin, h: u32, i: usize) -> us
 {
     let p = number_place(kinds, vals, g, h, i);
     let x = token_at(kinds, vals, g, p);
-    wide(x.value)
+    x.value as usize
 }
 
 // Which number from the third on is x, counted from there.
@@ -126,7 +126,7 @@ pub fn child_here(heads: &[u32], kids: &[u32], c: u32, q: usize, i: usize) -> Co
             kids: 0,
         };
     }
-    let k = wide(c) - 1 + i;
+    let k = c as usize - 1 + i;
     Content {
         head: word(heads, k),
         kids: word(kids, k),

@@ -9,7 +9,6 @@ ghost use Rattle.terms.specs.Words.RulesContract.{TermStarts, Numbers, Fronted, 
 
 use super::alike::{cursor, moved, same_rows};
 use super::rule_list::{next_rule, rule_at};
-use super::runs::wide;
 use super::virtual_tokens::token_at;
 use super::{Content, Cursor, Origin, RowWalk, Rule};
 
@@ -107,7 +106,7 @@ fn same_front(
     ensures { Fronted kinds.now vals.now (view kinds.now vals.now g) heads.now kids.now x rule fuel
         result }
 {
-    let receiver = term_cursor(kinds, vals, g, wide(rule.receiver));
+    let receiver = term_cursor(kinds, vals, g, rule.receiver as usize);
     let (p, i) = same_rows(kinds, vals, heads, kids, g, x, receiver, fuel)?;
     let interface = cursor(kinds, vals, g, source(rule.interface));
     let (q, j) = same_rows(kinds, vals, heads, kids, g, moved(x, p, i), interface, fuel)?;
@@ -169,7 +168,7 @@ pub fn find_rule(
         }
         let rule = rule_at(rules, r);
         let mut m = same_front(kinds, vals, heads, kids, g, s, rule, fuel);
-        let mut a = wide(rule.arguments);
+        let mut a = rule.arguments as usize;
         let mut left = rule.count;
         loop {
             let Some((p, i)) = m else {

@@ -8,12 +8,6 @@ ghost use Rattle.terms.specs.Words.FindContract.{stride};
 
 use super::Token;
 
-pub fn wide(x: u32) -> usize
-    ensures { result ≡ x }
-{
-    x as usize
-}
-
 // The word at i, 0 past the end.
 pub fn word(words: &[u32], i: usize) -> u32
     ensures { result ≡ get_or words.now i 0 }

@@ -8,7 +8,6 @@ ghost use Rattle.terms.specs.Words.ShowingContract.{Shows, Kept};
 
 use super::alike::cursor;
 use super::rows::child_here;
-use super::runs::wide;
 use super::virtual_tokens::token_at;
 use super::write::{run_len, token_len, write_run, write_token};
 use super::{Content, Cursor, Origin, RowWalk, Token};
@@ -161,9 +160,9 @@ pub fn show_tree(
         → (0 < x.kids → depth t ≤ fuel)
         → Shows on out.old out.new at (bytes t) result }
 {
-    let h = token_at(kinds, vals, g, wide(x.head));
+    let h = token_at(kinds, vals, g, x.head as usize);
     if x.kids == 0 {
-        return show_run(kinds, vals, g, wide(x.head), h.step(), out, at, on);
+        return show_run(kinds, vals, g, x.head as usize, h.step(), out, at, on);
     }
     if fuel == 0 {
         return out.len() + 1;

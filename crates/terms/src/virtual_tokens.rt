@@ -2,7 +2,7 @@
 ghost use Rattle.std.specs.Prelude.{◌≡◌, ◌+◌, ◌≤◌, ◌<◌, get_or};
 ghost use Rattle.terms.specs.Words.VirtualTokens.{copied, Located, view, Sight};
 
-use super::runs::{wide, word};
+use super::runs::word;
 use super::{Origin, Spot, Token};
 
 // Which lent token stands r-th after the head of the projection for the token t.
@@ -10,13 +10,13 @@ fn copied(g: Origin, len: usize, r: usize, t: usize) -> usize
     requires { (1 ≤ r) × (r < 4294967296) }
     ensures { result ≡ copied g len r t }
 {
-    let span = wide(g.span);
-    let row = wide(g.row);
+    let span = g.span as usize;
+    let row = g.row as usize;
     if r <= span {
-        return wide(g.owner) + r - 1;
+        return g.owner as usize + r - 1;
     }
     if r <= span + row {
-        return wide(g.interface) + (r - span);
+        return g.interface as usize + (r - span);
     }
     if r == span + row + 1 {
         return t;
@@ -35,7 +35,7 @@ pub fn locate(g: Origin, len: usize, q: usize) -> Spot
     if q == len {
         return Spot::Error;
     }
-    let size = wide(g.size);
+    let size = g.size as usize;
     if size == 0 {
         return Spot::Nowhere;
     }

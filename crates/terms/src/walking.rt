@@ -13,7 +13,7 @@ use super::interface::by_interface;
 use super::members::own_member;
 use super::opening::{begin, own_len};
 use super::rules::find_rule;
-use super::runs::{wide, word};
+use super::runs::word;
 use super::slots::slot;
 use super::write::run_len;
 use super::{Content, Origin, Token, Walked};
@@ -117,7 +117,7 @@ fn fixed_nodes(kinds: &[u32], vals: &[u32], x: Content, most: usize) -> usize
     if x.kids != 0 {
         return 0;
     }
-    let from = wide(x.head);
+    let from = x.head as usize;
     let head = Token {
         kind: word(kinds, from),
         value: word(vals, from),
@@ -151,7 +151,7 @@ fn fixed_len(kinds: &[u32], vals: &[u32], x: Content) -> usize
     ensures bound { result < 68719476736 }
     ensures bytes { (t : Term) → Held kinds.now vals.now x.head t → result ≡ length (bytes t) }
 {
-    let from = wide(x.head);
+    let from = x.head as usize;
     let head = Token {
         kind: word(kinds, from),
         value: word(vals, from),

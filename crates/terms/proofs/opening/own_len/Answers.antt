@@ -1,7 +1,4 @@
-use Prim.Native.Nat.{ℕ}
 use native.Mathlib.Omega.{arith}
-use mathlib.Core.Path.{ap, ◌∙◌}
-use lib.ListN.{get_or}
 use Rattle.terms.specs.Words.VirtualTokens.{view}
 use Rattle.terms.proofs.Laws.Normalising.ScanLaws.{over_here, over_on, over_width, over_child, over_number}
 use Rattle.terms.proofs.Laws.Normalising.SumLaws.{token_few, owning_start, owning_number, owning_child, owning_done}
@@ -44,7 +41,6 @@ pub returns : goal.returns
 returns c =
     let a = view c.args.kinds.now c.args.vals.now c.args.g in
     let token-at' = c.token_at-x in
-    let wide' = c.wide.ensures in
-    let z = owning_done a c.args.h _ _ _ _ c.loop-y.invariant.0 c.in-None.ensures.steps.0.0 (token-at'.ensures.kind ∙ ap (λ (p : ℕ). get_or a.kinds p 0) wide')
-    (token-at'.ensures.value ∙ ap (λ (p : ℕ). get_or a.vals p 0) wide') c.token_len-n.ensures in
+    let z = owning_done a c.args.h _ _ _ _ c.loop-y.invariant.0 c.in-None.ensures.steps.0.0 token-at'.ensures.kind
+    token-at'.ensures.value c.token_len-n.ensures in
     record { bound = z.1; own = z.0 }

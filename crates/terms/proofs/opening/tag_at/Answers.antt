@@ -1,7 +1,8 @@
 -- `tag_at`. By the kind.
+use mathlib.Core.Path.{refl}
 use Rattle.terms.specs.Words.VirtualTokens.{view}
 use Rattle.terms.proofs.Laws.Normalising.OpenLaws.{tag_at_kind}
 use Rattle.terms.proofs.opening.tag_at.Goals as goal
 
 pub returns : goal.returns
-returns c = tag_at_kind (view c.args.kinds.now c.args.vals.now c.args.g) _ _ _ _ c.wide.ensures c.token_at.ensures.kind c.tag_of.ensures
+returns c = tag_at_kind (view c.args.kinds.now c.args.vals.now c.args.g) _ _ _ _ refl c.token_at.ensures.kind c.tag_of.ensures

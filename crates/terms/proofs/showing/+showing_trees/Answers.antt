@@ -9,7 +9,7 @@ use Rattle.terms.specs.Tree.{row}
 use Rattle.terms.specs.Words.TokenBytes.{plain}
 use Rattle.terms.specs.Words.VirtualTokens.{view}
 use lib.ListN.{get_or}
-use mathlib.Core.Path.{sym, ap, ◌∙◌}
+use mathlib.Core.Path.{refl, ap, ◌∙◌}
 use native.Mathlib.Omega.{arith}
 use Rattle.terms.proofs.showing.+showing_trees.Goals as goal
 
@@ -54,7 +54,7 @@ show_tree-token_at-h-requires t c = c.requires.sight
 
 pub show_tree-show_run-requires : goal.show_tree-show_run-requires
 show_tree-show_run-requires t c =
-    record { sight = c.requires.sight; small = (omega (arith, c.wide-then-x-eq0.ensures), omega (arith, c.step.ensures.some)); room = c.requires.room }
+    record { sight = c.requires.sight; small = (omega arith, omega (arith, c.step.ensures.some)); room = c.requires.room }
 
 pub show_tree-shape_of-out-then-x-eq0 : goal.show_tree-shape_of-out-then-x-eq0
 show_tree-shape_of-out-then-x-eq0 t c = c.show_run.ensures.kept.long
@@ -62,18 +62,17 @@ show_tree-shape_of-out-then-x-eq0 t c = c.show_run.ensures.kept.long
 pub show_tree-returns-then-x-eq0 : goal.show_tree-returns-then-x-eq0
 show_tree-returns-then-x-eq0 t c =
     let show-run' = c.show_run in
-    let wide2' = c.wide-then-x-eq0 in
     let step' = c.step in
     let token-at' = c.token_at-h in
-    let wide' = c.wide in record {
+    record {
       kept = show-run'.ensures.kept;
       shows = λ S t w d.
           let e = tree_flat (view c.args.kinds.now c.args.vals.now c.args.g) c.args.heads.now c.args.kids.now
-          S w c.if-x-eq0.true wide2'.result step'.result wide2'.ensures
+          S w c.if-x-eq0.true c.args.x.head step'.result refl
           (token-at'.ensures.kind ∙ ap (λ (i : ℕ). get_or (view c.args.kinds.now c.args.vals.now c.args.g).kinds i 0)
-          (wide'.ensures ∙ sym wide2'.ensures))
+          refl)
           (token-at'.ensures.value ∙ ap (λ (i : ℕ). get_or (view c.args.kinds.now c.args.vals.now c.args.g).vals i 0)
-          (wide'.ensures ∙ sym wide2'.ensures)) step'.ensures.span in
+          refl) step'.ensures.span in
           rw (← e) show-run'.ensures.shows;
     }
 
@@ -94,12 +93,12 @@ show_tree-returns-then-out-i t c =
     let a = c.args in
     let show-token' = c.show_token-i in
     let token-at' = c.token_at-h in
-    let wide' = c.wide in record {
+    record {
       kept = show-token'.ensures.kept;
       shows = λ S t w d. shows_first a.on a.out.now c.show_token-i.new.out a.at (plain token-at'.result.kind token-at'.result.value) (part_bytes (row t)) (bytes t) c.requires.room
           (tree_bytes (view a.kinds.now a.vals.now a.g) a.heads.now a.kids.now S w
-          (token-at'.ensures.kind ∙ ap (λ (i : ℕ). get_or (view a.kinds.now a.vals.now a.g).kinds i 0) wide'.ensures)
-          (token-at'.ensures.value ∙ ap (λ (i : ℕ). get_or (view a.kinds.now a.vals.now a.g).vals i 0) wide'.ensures))
+          token-at'.ensures.kind
+          token-at'.ensures.value)
           _ show-token'.ensures.kept.long show-token'.ensures.shows
           (omega (arith, c.if-out-i.true, show-token'.ensures.kept.long));
     }
@@ -119,12 +118,12 @@ show_tree-returns t c =
     let show-token' = c.show_token-i in
     let show-row' = c.show_row in
     let token-at' = c.token_at-h in
-    let wide' = c.wide in record {
+    record {
       kept = kept_then _ _ _ _ _ _ _ show-token'.ensures.kept show-row'.ensures.kept;
       shows = λ S t w d. shows_then a.on a.out.now c.show_token-i.new.out a.at (plain token-at'.result.kind token-at'.result.value) (part_bytes (row t)) (bytes t) c.requires.room
           (tree_bytes (view a.kinds.now a.vals.now a.g) a.heads.now a.kids.now S w
-          (token-at'.ensures.kind ∙ ap (λ (i : ℕ). get_or (view a.kinds.now a.vals.now a.g).kinds i 0) wide'.ensures)
-          (token-at'.ensures.value ∙ ap (λ (i : ℕ). get_or (view a.kinds.now a.vals.now a.g).vals i 0) wide'.ensures))
+          token-at'.ensures.kind
+          token-at'.ensures.value)
           _ show-token'.ensures.kept.long show-token'.ensures.shows
           (omega (arith, c.if-out-i.false, show-token'.ensures.kept.long)) _ show-row'.result show-row'.ensures.kept.long
           (show-row'.ensures.shows S (row t) (c.cursor-c.ensures.is a.heads.now a.kids.now S t w)
