@@ -67,6 +67,7 @@ pub fn same_rows(
     requires cut { Cut x × Cut y }
     ensures { Begins (view kinds.now vals.now g) heads.now kids.now x y fuel result }
 {
+    // two rows are walked at once, and the first is left where the second ends, so no `RowWalk` stands for either
     let mut p = x.at;
     let mut i = x.child;
     let mut q = y.at;

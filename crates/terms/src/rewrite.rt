@@ -105,7 +105,8 @@ fn replaced_at(kinds: &[u32], vals: &[u32], s: &[u8], b: Binders, p: usize) -> C
     Choice::Keep
 }
 
-// Writes a run of tokens, or only counts its bytes.
+// Writes a run of tokens, or only counts its bytes. A trait with a sink that writes and one that counts is no plainer: its laws say of each what `pick on` says
+// of both, and each function up to the orders would take a type for `on`.
 fn emit_run(
     kinds: &[u32],
     vals: &[u32],

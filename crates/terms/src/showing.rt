@@ -12,7 +12,7 @@ use super::virtual_tokens::token_at;
 use super::write::{run_len, token_len, write_run, write_token};
 use super::{Content, Cursor, Origin, RowWalk, Token};
 
-// One token.
+// One token. `on` is a flag and no type, as in `emit_run`: what is sized and what is written are the same but for the last step.
 fn show_token(out: &mut [u8], at: usize, x: Token, on: bool) -> usize
     requires { at ≤ length out.old }
     ensures kept { Kept on out.old out.new at result }
