@@ -6,7 +6,7 @@ ghost use Rattle.solver.specs.Terms.Formed.{Formed};
 ghost use Rattle.solver.specs.Terms.TermsAtPlaces.{FormedAt};
 ghost use Rattle.solver.specs.Terms.Tree.{nominal_of};
 ghost use Rattle.solver.specs.TermTypes.{Parameter};
-ghost use Rattle.solver.specs.Terms.Questions.{answered};
+ghost use Rattle.solver.specs.Terms.Questions.{answered, number_of_question};
 ghost use Rattle.solver.specs.Terms.Recovery.{recover_from};
 ghost use Rattle.solver.specs.Terms.Substitution.{Entry, Receiver, apply};
 ghost use Rattle.solver.specs.Terms.RewriteContract.{Ready, Rewrites};
@@ -21,8 +21,8 @@ ghost use Rattle.sheet.specs.Words.OperationsContract.{Tokens, numbers_of, Asks,
 use super::Order;
 use super::framing::{begin_answer, write_byte_answer, write_bytes_answer, write_refusal};
 use solver::{
-    Binders, Unfinished, ask, can_weaken_to, clear_tokens, conflicts_with, context, family,
-    instantiation, normalise, recovered_len, satisfies, satisfies_for, self_only,
+    Binders, Question, Unfinished, ask, can_weaken_to, clear_tokens, conflicts_with, context,
+    family, instantiation, normalise, recovered_len, satisfies, satisfies_for, self_only,
     with_associated_types, write_normalised, write_recovered, write_term,
 };
 
@@ -105,17 +105,17 @@ fn applied(
     write_term(kinds, vals, s, b, from, out, at + 1, true)
 }
 
-// One of the seven questions; a term is concrete where question 2 finds nothing.
-fn question(s: &[u8], kinds: &[u32], vals: &[u32], p: usize, q: u32) -> u8
+// One of the seven questions; a term is concrete where the question finds nothing.
+fn question(s: &[u8], kinds: &[u32], vals: &[u32], p: usize, q: Question) -> u8
     requires place { (p < length kinds.now) × (length vals.now ≡ length kinds.now) }
     requires term { FormedAt kinds.now vals.now p }
-    ensures { (t : Term) → Held kinds.now vals.now p t → Formed t → result ≡ bit (answered q t) }
+    ensures { (t : Term) → Held kinds.now vals.now p t → Formed t → result ≡ bit (answered (number_of_question q) t) }
 {
     let r = ask(kinds, vals, p, q, s, 0, 0);
-    if q == 2 {
-        return bit(!r);
+    match q {
+        Question::IsConcrete => bit(!r),
+        _ => bit(r),
     }
-    bit(r)
 }
 
 // Order 15: the seven questions.
@@ -126,13 +126,13 @@ fn asked(s: &[u8], kinds: &[u32], vals: &[u32], p: usize, out: &mut [u8], to: us
     ensures { (t : Term) → Held kinds.now vals.now p t → Formed t
         → Framed (outcome (seven t)) out.old to out.new result }
 {
-    let a = question(s, kinds, vals, p, 0);
-    let b = question(s, kinds, vals, p, 1);
-    let c = question(s, kinds, vals, p, 2);
-    let d = question(s, kinds, vals, p, 3);
-    let e = question(s, kinds, vals, p, 4);
-    let f = question(s, kinds, vals, p, 5);
-    let g = question(s, kinds, vals, p, 6);
+    let a = question(s, kinds, vals, p, Question::IsNever);
+    let b = question(s, kinds, vals, p, Question::IsInteger);
+    let c = question(s, kinds, vals, p, Question::IsConcrete);
+    let d = question(s, kinds, vals, p, Question::IsUnresolved);
+    let e = question(s, kinds, vals, p, Question::ContainsUnknown);
+    let f = question(s, kinds, vals, p, Question::ContainsSelfType);
+    let g = question(s, kinds, vals, p, Question::ContainsProjection);
     let v = [a, b, c, d, e, f, g];
     write_bytes_answer(out, to, &v)
 }
@@ -288,7 +288,15 @@ fn inquire(s: &[u8], kinds: &[u32], vals: &[u32], o: Order, out: &mut [u8], to: 
         return asked(s, kinds, vals, a.place, out, to);
     }
     if o.kind == 16 {
-        let r = ask(kinds, vals, b.place, 7, s, a.place, a.value);
+        let r = ask(
+            kinds,
+            vals,
+            b.place,
+            Question::IsResolvedIn,
+            s,
+            a.place,
+            a.value,
+        );
         return write_byte_answer(out, to, bit(!r));
     }
     let x = satisfies(kinds, vals, a.place, b.place);

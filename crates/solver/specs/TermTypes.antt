@@ -5,6 +5,8 @@ pub use Rattle.terms.specs.declared.Refusal.TheVariants.{Length, Code, Number, D
 pub use Rattle.terms.specs.declared.Listing.{Listing}
 pub use Rattle.terms.specs.declared.Listing.TheVariants.{Arguments, Receivers, Entries}
 pub use Rattle.terms.specs.Words.ReadContract.{Step, Next, Stopped}
+pub use Rattle.terms.specs.declared.Question.{Question}
+pub use Rattle.terms.specs.declared.Question.TheVariants.{IsNever, IsInteger, IsConcrete, IsUnresolved, ContainsUnknown, ContainsSelfType, ContainsProjection, IsResolvedIn}
 pub use Rattle.terms.specs.declared.Rule.{Rule}
 pub use Rattle.terms.specs.declared.Binders.{Binders}
 pub use Rattle.terms.specs.declared.Parameter.{Parameter}

@@ -19,27 +19,7 @@ ghost use Rattle.solver.specs.Words.CongruenceClasses.{Closed, TermsJoined, Rows
 use super::Closure;
 use super::top::shallow_resolve;
 use super::words::wide;
-
-// How many tokens the term at i has, at least 1 and at most `room`.
-fn skip(kinds: &[u32], vals: &[u32], i: usize, room: usize) -> usize
-    requires { (i < length kinds.now) × (length vals.now ≡ length kinds.now) × (1 ≤ room) }
-    ensures { (1 ≤ result)
-        × (result ≤ room)
-        × (1 ≤ span (get_or kinds.now i 0) (get_or vals.now i 0) → span (get_or kinds.now i 0) (get_or vals.now i 0) ≤ room
-        → result ≡ span (get_or kinds.now i 0) (get_or vals.now i 0)) }
-{
-    if kinds[i] < 2 {
-        return 1;
-    }
-    let s = wide(vals[i]);
-    if s == 0 {
-        return 1;
-    }
-    if room < s {
-        return room;
-    }
-    s
-}
+use terms::skip;
 
 // The root of the class of a, of the n places.
 fn find(n: usize, work: &[u32], a: usize) -> usize

@@ -4,6 +4,19 @@ use Rattle.std.specs.Prelude.{◌≡◌, ◌⊎◌, Bool, true, false, not, ◌&
 use Rattle.terms.specs.Term.{Term, Parts, var, node, end, num, sub}
 use Rattle.terms.specs.Tree.{nums, row, tag}
 pub use Rattle.terms.specs.declared.Parameter.{Parameter}
+pub use Rattle.terms.specs.declared.Question.{Question}
+use Rattle.terms.specs.declared.Question.TheVariants.{IsNever, IsInteger, IsConcrete, IsUnresolved, ContainsUnknown, ContainsSelfType, ContainsProjection, IsResolvedIn}
+
+-- Document 01's number for each question.
+abbrev pub number_of_question : Question → ℕ
+number_of_question IsNever = 0
+number_of_question IsInteger = 1
+number_of_question IsConcrete = 2
+number_of_question IsUnresolved = 3
+number_of_question ContainsUnknown = 4
+number_of_question ContainsSelfType = 5
+number_of_question ContainsProjection = 6
+number_of_question IsResolvedIn = 7
 
 -- ---- the walk
 

@@ -13,11 +13,13 @@
 --   RecoverContract    what the functions that recover a term hand on
 --   RewriteContract    writing a term with its binders replaced
 --   RowPieces          the pieces in which the code reads a plain row
+--   RowsContract       what a walk over a row comes to
 --   RuleListContract   the rules as a list of records, scanned for a member
 --   RulesContract      what the search of a rule answers
 --   SatisfyContract    what the functions that test a bound hand on
 --   ShowingContract    bytes sized, or written
 --   Outcomes          the answers of the functions that are lent the numbers of a place
+--   SlotsContract      the classes of tags
 --   TermsAtPlaces      what stands at the places that a function is told
 --   TokenBytes         the bytes of tokens as they stand
 --   Tokens             the token areas
@@ -35,10 +37,12 @@ pub mod ReaderContract
 pub mod RecoverContract
 pub mod RewriteContract
 pub mod RowPieces
+pub mod RowsContract
 pub mod RuleListContract
 pub mod RulesContract
 pub mod SatisfyContract
 pub mod ShowingContract
+pub mod SlotsContract
 pub mod Outcomes
 pub mod TermsAtPlaces
 pub mod TokenBytes

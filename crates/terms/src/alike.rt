@@ -5,9 +5,9 @@ ghost use Rattle.terms.specs.Words.VirtualTokens.{view, Sight};
 ghost use Rattle.terms.specs.Words.Arena.{Cut, further, Alike, Begins, Starts};
 
 use super::rows::{child_here, row_of};
-use super::runs::{same_term, span_of, wide, word};
-use super::virtual_tokens::{step, token_at};
-use super::{Content, Cursor, Origin};
+use super::runs::{same_term, word};
+use super::virtual_tokens::token_at;
+use super::{Content, Cursor, Origin, Token};
 
 // The start of a content's row.
 pub fn cursor(kinds: &[u32], vals: &[u32], g: Origin, x: Content) -> Cursor
@@ -43,8 +43,12 @@ fn is_lent(kinds: &[u32], vals: &[u32], x: Content) -> bool
     if x.kids != 0 {
         return false;
     }
-    let p = wide(x.head);
-    p + span_of(word(kinds, p), word(vals, p)) <= kinds.len()
+    let p = x.head as usize;
+    let head = Token {
+        kind: word(kinds, p),
+        value: word(vals, p),
+    };
+    p + head.span() <= kinds.len()
 }
 
 // Whether the parts at x begin with all that are at y; the children at x have at most `fuel` levels.
@@ -63,6 +67,7 @@ pub fn same_rows(
     requires cut { Cut x × Cut y }
     ensures { Begins (view kinds.now vals.now g) heads.now kids.now x y fuel result }
 {
+    // two rows are walked at once, and the first is left where the second ends, so no `RowWalk` stands for either
     let mut p = x.at;
     let mut i = x.child;
     let mut q = y.at;
@@ -93,8 +98,8 @@ pub fn same_rows(
             }
             i += 1;
             j += 1;
-            p += step(s);
-            q += step(t);
+            p += s.step();
+            q += t.step();
         }
     }
     Some((p, i))
@@ -118,8 +123,8 @@ pub fn same_trees(
     if fuel == 0 {
         return false;
     }
-    let s = token_at(kinds, vals, g, wide(x.head));
-    let t = token_at(kinds, vals, g, wide(y.head));
+    let s = token_at(kinds, vals, g, x.head as usize);
+    let t = token_at(kinds, vals, g, y.head as usize);
     if s.kind != t.kind {
         return false;
     }
@@ -128,7 +133,7 @@ pub fn same_trees(
     }
     if is_lent(kinds, vals, x) {
         if is_lent(kinds, vals, y) {
-            return same_term(kinds, vals, wide(x.head), wide(y.head));
+            return same_term(kinds, vals, x.head as usize, y.head as usize);
         }
     }
     let a = cursor(kinds, vals, g, x);

@@ -1,13 +1,28 @@
 // Comparing two terms without building anything: `conflicts_with` and `can_weaken_to`.
-ghost use Rattle.std.specs.Prelude.{◌≡◌, Bool, ◌≤◌, ◌<◌, length, get_or};
+ghost use Rattle.std.specs.Prelude.{◌≡◌, Bool, ◌≤◌, ◌<◌, length, get_or, [], ◌∷◌};
 ghost use Rattle.terms.specs.Term.{Term, Parts, sub};
 ghost use Rattle.terms.specs.Words.Held.{Held, HeldParts};
 ghost use Rattle.terms.specs.Formed.{Formed};
 ghost use Rattle.terms.specs.Words.TermsAtPlaces.{FormedAt};
+ghost use Rattle.terms.specs.Questions.{among};
 ghost use Rattle.terms.specs.Comparison.{conflicts_with, can_weaken_to};
 ghost use Rattle.terms.specs.Words.CompareContract.{Rows, Forward, Stepped, Passed};
 
-use super::runs::{is_one, same_term, skip, word};
+use super::runs::{same_term, skip, word};
+
+// Whether a term conflicts with nothing, by the kind of its first token: Inference, Unknown and Error.
+fn yields(kind: u32) -> bool
+    ensures { result ≡ among kind (1 ∷ 4 ∷ 5 ∷ []) }
+{
+    matches!(kind, 1 | 4 | 5)
+}
+
+// Whether a term has an access, by the kind of its first token: Reference, Map and Set.
+fn has_access(kind: u32) -> bool
+    ensures { result ≡ among kind (2 ∷ 12 ∷ 13 ∷ []) }
+{
+    matches!(kind, 2 | 12 | 13)
+}
 
 // One step through two rows: a number, or a term that yields or a projection as a whole, or a node's head.
 fn pair_step(
@@ -55,11 +70,10 @@ fn pair_terms(
 {
     let k = word(kinds, i);
     let l = word(kinds, j);
-    // Inference, Unknown and Error conflict with nothing
-    if is_one(k, 1, 4, 5) {
+    if yields(k) {
         return past(kinds, vals, i, ae, j, be);
     }
-    if is_one(l, 1, 4, 5) {
+    if yields(l) {
         return past(kinds, vals, i, ae, j, be);
     }
     if k != l {
@@ -151,8 +165,7 @@ pub fn can_weaken_to(kinds: &[u32], vals: &[u32], a: usize, b: usize) -> bool
     if k != word(kinds, b) {
         return false;
     }
-    // Reference, Map, Set
-    if !is_one(k, 2, 12, 13) {
+    if !has_access(k) {
         return false;
     }
     let n = skip(kinds, vals, a, kinds.len() - a);

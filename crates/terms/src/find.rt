@@ -5,7 +5,7 @@ ghost use Rattle.terms.specs.Parameters.{parameter, parameters, passed, past, sk
 ghost use Rattle.terms.specs.Words.FindContract.{last_at, entry_at, receiver_at, nth_at};
 
 use super::numbers::read_number;
-use super::runs::{long_at, stride};
+use super::runs::{skip, word};
 use super::values::{DEFINITION, ORDINARY};
 use super::{Parameter, Refusal};
 
@@ -81,13 +81,13 @@ fn find_record(
         }
         let t = i + width;
         let here = Parameter {
-            owner: long_at(vals, i),
-            position: long_at(vals, t - 1),
+            owner: u64::from(word(vals, i)),
+            position: u64::from(word(vals, t - 1)),
         };
         if here == wanted {
             best = Some(t);
         }
-        i = t + stride(kinds, vals, t, end - t);
+        i = t + skip(kinds, vals, t, end - t);
     }
     best
 }
@@ -134,7 +134,7 @@ pub fn nth_term(kinds: &[u32], vals: &[u32], from: usize, n: usize) -> Option<us
         if kinds.len() <= i {
             return None;
         }
-        i += stride(kinds, vals, i, kinds.len() - i);
+        i += skip(kinds, vals, i, kinds.len() - i);
     }
     if i < kinds.len() { Some(i) } else { None }
 }

@@ -10,7 +10,6 @@ use super::alike::same_trees;
 use super::members::member_of;
 use super::rows::{child_at, number_at, number_place};
 use super::rules::source;
-use super::runs::wide;
 use super::virtual_tokens::{locate, token_at};
 use super::{Content, Origin, Spot};
 
@@ -62,7 +61,7 @@ fn output(kinds: &[u32], vals: &[u32], heads: &[u32], kids: &[u32], g: Origin, p
         return y;
     }
     let t = lent_place(kinds, vals, g, p);
-    source((kinds.len() + 1 + t * wide(g.size)) as u32)
+    source((kinds.len() + 1 + t * g.size as usize) as u32)
 }
 
 // What the given interface has for a projection with the counts n and m; its children have at most `fuel` levels.

@@ -40,6 +40,7 @@ pub use questions::ask;
 pub use reader::part_at;
 pub use recover::{recovered_len, write_recovered};
 pub use rewrite::write_term;
+pub use runs::skip;
 pub use satisfy::{satisfies, satisfies_for};
 pub use store::clear_tokens;
 pub use write::{run_len, write_run};
@@ -75,6 +76,19 @@ impl From<Refusal> for u8 {
 pub struct Parameter {
     pub owner: u64,
     pub position: u64,
+}
+
+// A question of `TypeId` that looks for a term of some kind. The first seven are those of order 15, in its order.
+#[derive(Clone, Copy, Debug, PartialEq, Eq)]
+pub enum Question {
+    IsNever,
+    IsInteger,
+    IsConcrete,
+    IsUnresolved,
+    ContainsUnknown,
+    ContainsSelfType,
+    ContainsProjection,
+    IsResolvedIn,
 }
 
 // Where reading stands: the position in the bytes, the number of the next token, and how many nodes were read. While these are at most
@@ -160,6 +174,14 @@ pub enum Choice {
     Unknown,
 }
 
+// In which order the children of a term are come to, by its tag.
+#[derive(Clone, Copy, Debug, PartialEq, Eq)]
+pub enum Class {
+    Plain,
+    Nominal,
+    Projection,
+}
+
 // A token: its kind and its value.
 #[derive(Clone, Copy)]
 pub struct Token {
@@ -191,6 +213,16 @@ pub struct Origin {
 #[derive(Clone, Copy)]
 pub struct Part {
     pub from: usize,
+    pub end: usize,
+}
+
+// A walk over a row: the tokens that are seen, where it stands, and where the row ends. It comes to each number and to the first token of each child.
+#[derive(Clone, Copy, Drop)]
+pub struct RowWalk<'a> {
+    pub kinds: &'a [u32],
+    pub vals: &'a [u32],
+    pub given: Origin,
+    pub at: usize,
     pub end: usize,
 }
 

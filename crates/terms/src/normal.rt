@@ -11,11 +11,9 @@ ghost use Rattle.terms.specs.Words.Arena.{RecordRoom};
 ghost use Rattle.terms.specs.Words.NormalContract.{Zero, Lends, Stands, Sized, Fitted, Answers, Leaves, RuledAt, OwnedAt, KeptAt};
 
 use super::rules::source;
-use super::runs::{wide, word};
+use super::runs::word;
 use super::showing::show_tree;
-use super::slots::least;
 use super::store::clear_tokens;
-use super::virtual_tokens::step;
 use super::walking::walk;
 use super::{Content, Origin, Ready, Token, Unfinished};
 
@@ -23,12 +21,12 @@ use super::{Content, Origin, Ready, Token, Unfinished};
 fn has_projection(kinds: &[u32], vals: &[u32], p: u32) -> bool
     ensures { (t : Term) → Held kinds.now vals.now p t → result ≡ contains_projection t }
 {
-    let from = wide(p);
+    let from = p as usize;
     let head = Token {
         kind: word(kinds, from),
         value: word(vals, from),
     };
-    let end = from + step(head);
+    let end = from + head.step();
     for q in from..end {
         if word(kinds, q) == 20 {
             return true;
@@ -163,12 +161,12 @@ fn span_at(kinds: &[u32], vals: &[u32], p: u32, len: usize) -> usize
     ensures bound { result ≤ len }
     ensures span { (t : Term) → Held kinds.now vals.now p t → length (items t) ≤ len → result ≡ length (items t) }
 {
-    let from = wide(p);
+    let from = p as usize;
     let head = Token {
         kind: word(kinds, from),
         value: word(vals, from),
     };
-    least(step(head), len)
+    head.step().min(len)
 }
 
 // What order 19 looks up by: the places of a bare nominal and of the owner.

@@ -3,9 +3,9 @@ ghost use Rattle.std.specs.Prelude.{◌<◌};
 ghost use Rattle.terms.specs.Words.VirtualTokens.{view, Sight};
 ghost use Rattle.terms.specs.Words.Arena.{TagAt, OwnAt, RecordRoom, Opens, Prepares};
 
-use super::rows::{child_here, number_at, row_of};
-use super::runs::wide;
-use super::virtual_tokens::{step, token_at};
+use super::questions::tag_of;
+use super::rows::{child_here, number_at, row_of, walk_row};
+use super::virtual_tokens::token_at;
 use super::write::token_len;
 use super::{Begun, Content, Origin};
 
@@ -14,11 +14,7 @@ pub fn tag_at(kinds: &[u32], vals: &[u32], g: Origin, h: u32) -> u32
     requires { Sight kinds.now vals.now g }
     ensures { TagAt (view kinds.now vals.now g) h result }
 {
-    let x = token_at(kinds, vals, g, wide(h));
-    if x.kind < 2 {
-        return x.kind;
-    }
-    x.kind - 2
+    tag_of(token_at(kinds, vals, g, h as usize).kind)
 }
 
 // Puts the children of a content, in byte order, at the records next, next + 1, .. and says how many; None where they are too many.
@@ -52,7 +48,7 @@ fn put_children(
             heads[next + n] = z.head;
             kids[next + n] = z.kids;
             n += 1;
-            q += step(y);
+            q += y.step();
         }
     }
     Some(n)
@@ -100,18 +96,11 @@ pub fn own_len(kinds: &[u32], vals: &[u32], g: Origin, h: u32) -> usize
     ensures bound { result < 34359738368 }
     ensures own { OwnAt (view kinds.now vals.now g) h result }
 {
-    let x = token_at(kinds, vals, g, wide(h));
-    let part = row_of(kinds, vals, g, h);
-    let end = part.end;
-    let mut q = part.from;
+    let x = token_at(kinds, vals, g, h as usize);
     let mut n = token_len(x.kind, x.value);
-    while q < end {
-        let y = token_at(kinds, vals, g, q);
+    for (_, y) in walk_row(kinds, vals, g, h) {
         if y.kind == 0 {
             n += token_len(y.kind, y.value);
-            q += 1;
-        } else {
-            q += step(y);
         }
     }
     n

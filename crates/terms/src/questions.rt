@@ -5,14 +5,14 @@ ghost use Rattle.terms.specs.Parser.{got};
 ghost use Rattle.terms.specs.Term.{Term};
 ghost use Rattle.terms.specs.Words.Held.{Held};
 ghost use Rattle.terms.specs.Formed.{Formed};
-ghost use Rattle.terms.specs.Questions.{Parameter, counted_by, entered_by, counted, entered, asked};
+ghost use Rattle.terms.specs.Questions.{Parameter, counted_by, entered_by, counted, entered, asked, number_of_question};
 ghost use Rattle.terms.specs.Parameters.{parameters};
 ghost use Rattle.terms.specs.Words.TermsAtPlaces.{FormedAt, ParametersAt};
 ghost use Rattle.terms.specs.Words.QuestionsContract.{tag_of, word, Asking};
 
 use super::find::find_parameter;
-use super::runs::{is_one, skip};
-use super::{Parameter, runs};
+use super::runs::skip;
+use super::{Parameter, Question, runs};
 
 // The tag of the term whose first token has this kind.
 pub fn tag_of(k: u32) -> u32
@@ -28,63 +28,43 @@ pub fn tag_of(k: u32) -> u32
 fn unresolved(tag: u32, a: u32, b: u32, s: &[u8], at: usize, params: u64) -> bool
     ensures { (ps : List Parameter) (n : ℕ) → parameters s.now params at ≡ got ps n → result ≡ counted_by ps 7 tag a b }
 {
-    if is_one(tag, 1, 2, 3) {
-        return true;
+    match tag {
+        1 | 2 | 3 | 19 => true,
+        18 => params == 0,
+        17 => {
+            let wanted = Parameter {
+                owner: u64::from(a),
+                position: u64::from(b),
+            };
+            find_parameter(s, at, params, wanted).is_none()
+        }
+        _ => false,
     }
-    if tag == 19 {
-        return true;
-    }
-    if tag == 18 {
-        return params == 0;
-    }
-    if tag != 17 {
-        return false;
-    }
-    let wanted = Parameter {
-        owner: u64::from(a),
-        position: u64::from(b),
-    };
-    find_parameter(s, at, params, wanted).is_none()
 }
 
 // Whether a term counts for a question, by its tag and its first two numbers.
-fn counts(question: u32, tag: u32, a: u32, b: u32, s: &[u8], at: usize, params: u64) -> bool
-    ensures { (ps : List Parameter) (n : ℕ) → parameters s.now params at ≡ got ps n → result ≡ counted_by ps question tag a b }
+fn counts(question: Question, tag: u32, a: u32, b: u32, s: &[u8], at: usize, params: u64) -> bool
+    ensures { (ps : List Parameter) (n : ℕ) → parameters s.now params at ≡ got ps n → result ≡ counted_by ps (number_of_question question) tag a b }
 {
     match question {
-        0 => {
-            if tag == 4 {
-                return a == 10;
-            }
-            false
-        }
-        1 => {
-            if tag == 4 {
-                return a < 8;
-            }
-            false
-        }
-        2 => {
-            if is_one(tag, 1, 2, 3) {
-                return true;
-            }
-            is_one(tag, 17, 18, 19)
-        }
-        3 => is_one(tag, 1, 2, 3),
-        4 => is_one(tag, 1, 2, 2),
-        5 => tag == 19,
-        6 => tag == 18,
-        _ => unresolved(tag, a, b, s, at, params),
+        Question::IsNever => tag == 4 && a == 10,
+        Question::IsInteger => tag == 4 && a < 8,
+        Question::IsConcrete => matches!(tag, 1 | 2 | 3 | 17 | 18 | 19),
+        Question::IsUnresolved => matches!(tag, 1 | 2 | 3),
+        Question::ContainsUnknown => matches!(tag, 1 | 2),
+        Question::ContainsSelfType => tag == 19,
+        Question::ContainsProjection => tag == 18,
+        Question::IsResolvedIn => unresolved(tag, a, b, s, at, params),
     }
 }
 
 // Whether a question enters a term with this tag.
-fn enters(question: u32, tag: u32) -> bool
-    ensures { result ≡ entered_by question tag }
+fn enters(question: Question, tag: u32) -> bool
+    ensures { result ≡ entered_by (number_of_question question) tag }
 {
     match question {
-        0..=1 => false,
-        4 => tag != 18,
+        Question::IsNever | Question::IsInteger => false,
+        Question::ContainsUnknown => tag != 18,
         _ => true,
     }
 }
@@ -106,7 +86,7 @@ fn ask_row(
     vals: &[u32],
     a: usize,
     e: usize,
-    question: u32,
+    question: Question,
     s: &[u8],
     at: usize,
     params: u64,
@@ -115,7 +95,7 @@ fn ask_row(
     ensures { (qs : List Parameter) (n : ℕ)
         → parameters s.now params at ≡ got qs n
         → (whole : Bool)
-        → Asking kinds.now vals.now a e (counted qs question) (entered question) whole
+        → Asking kinds.now vals.now a e (counted qs (number_of_question question)) (entered (number_of_question question)) whole
         → result ≡ whole }
 {
     let mut p = a;
@@ -145,7 +125,7 @@ pub fn ask(
     kinds: &[u32],
     vals: &[u32],
     p: usize,
-    question: u32,
+    question: Question,
     s: &[u8],
     at: usize,
     params: u64,
@@ -158,7 +138,7 @@ pub fn ask(
         → (t : Term)
         → Held kinds.now vals.now p t
         → Formed t
-        → result ≡ asked qs question t }
+        → result ≡ asked qs (number_of_question question) t }
 {
     let n = skip(kinds, vals, p, kinds.len() - p);
     ask_row(kinds, vals, p, p + n, question, s, at, params)

@@ -10,31 +10,6 @@ use super::keep::{keep_nominal, keep_term};
 use super::lists::read_record;
 use super::{Place, RecordRequest, Refusal, TermReader};
 
-// Reads a term at a place in the bytes, or where `bare` a bare nominal.
-fn keep_part(
-    s: &[u8],
-    kinds: &mut [u32],
-    vals: &mut [u32],
-    place: &mut Place,
-    bare: bool,
-    levels: u32,
-    issued: u64,
-) -> Result<(), Refusal>
-    requires room { Room s.now place.old }
-    requires space { Space bare s.now place.old }
-    ensures answer { step_of result place.new ≡ answer place.old (part bare s.now issued levels place.old.at) (nodes_of bare) }
-    ensures areas { area kinds.new vals.new
-        ≡ kept s.now place.old (part bare s.now issued levels place.old.at) (nodes_of bare) (area kinds.old vals.old) }
-    ensures room { Room s.now place.new }
-    ensures back { OnErr result (place.new ≡ place.old) }
-{
-    if bare {
-        keep_nominal(s, kinds, vals, place, levels, issued)
-    } else {
-        keep_term(s, kinds, vals, place, levels, issued)
-    }
-}
-
 impl<'a> TermReader<'a> {
     // Reads a term, or where `bare` a bare nominal; then the reader stands after it, or where it is refused as it stood.
     fn next_part(
@@ -55,15 +30,11 @@ impl<'a> TermReader<'a> {
         ensures room { Room self.old.bytes.now self.new.place }
         ensures back { OnErr result (self.new.place ≡ self.old.place) }
     {
-        keep_part(
-            self.bytes,
-            kinds,
-            vals,
-            &mut self.place,
-            bare,
-            levels,
-            issued,
-        )
+        if bare {
+            keep_nominal(self.bytes, kinds, vals, &mut self.place, levels, issued)
+        } else {
+            keep_term(self.bytes, kinds, vals, &mut self.place, levels, issued)
+        }
     }
 
     // Reads a record of a list; then the reader stands after it, or where it is refused somewhere in it.

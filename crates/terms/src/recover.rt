@@ -1,8 +1,9 @@
 // `recover_from`: the holes of a term are filled from another, straight to the output. The recursion goes down both terms together, so it is at most
 // as deep as the first has levels; the work is linear in the tokens of both.
-ghost use Rattle.std.specs.Prelude.{◌≡◌, true, false, ◌||◌, ℕ, ◌+◌, ◌-◌, ◌*◌, ◌^◌, ◌≤◌, ◌<◌, eqb, length};
+ghost use Rattle.std.specs.Prelude.{◌≡◌, true, false, ◌||◌, ℕ, ◌+◌, ◌-◌, ◌*◌, ◌^◌, ◌≤◌, ◌<◌, eqb, length, [], ◌∷◌};
 ghost use Rattle.terms.specs.Result.{pick};
 ghost use Rattle.terms.specs.Words.QuestionsContract.{word};
+ghost use Rattle.terms.specs.Questions.{among};
 ghost use Rattle.terms.specs.Comparison.{recovery};
 ghost use Rattle.terms.specs.Term.{Term, Parts, node, end, sub, bytes, part_bytes, Subs};
 ghost use Rattle.terms.specs.Words.Held.{Held, HeldParts};
@@ -14,7 +15,7 @@ ghost use Rattle.terms.specs.Recovery.{recover_from, recover_row, reach, nominal
 ghost use Rattle.terms.specs.Words.RecoverContract.{Put, upto, alike, Paired, Parted};
 
 use super::questions::{tag_of, word_at};
-use super::runs::{is_one, skip, word};
+use super::runs::{skip, word};
 use super::write::put_run;
 
 // The place after n terms from i on, at most e.
@@ -113,6 +114,27 @@ fn nominal_reach(kinds: &[u32], vals: &[u32], p: usize, pe: usize, q: usize, qe:
     i
 }
 
+// Whether the whole row of a term is recovered, by its tag: Iter, Array, Map and Set.
+fn is_container(tag: u32) -> bool
+    ensures { result ≡ among tag (7 ∷ 9 ∷ 10 ∷ 11 ∷ []) }
+{
+    matches!(tag, 7 | 9 | 10 | 11)
+}
+
+// Whether it is where the first numbers agree: Reference, Tuple, Function and Range.
+fn has_first_number(tag: u32) -> bool
+    ensures { result ≡ among tag (0 ∷ 5 ∷ 6 ∷ 8 ∷ []) }
+{
+    matches!(tag, 0 | 5 | 6 | 8)
+}
+
+// Whether a term is a nominal, by its tag.
+fn is_nominal(tag: u32) -> bool
+    ensures { result ≡ among tag (12 ∷ 13 ∷ 14 ∷ 15 ∷ []) }
+{
+    matches!(tag, 12..=15)
+}
+
 // How far the row of the term at p is recovered from the one at q, as a place.
 fn reach_end(kinds: &[u32], vals: &[u32], p: usize, pe: usize, q: usize, qe: usize) -> usize
     requires { (p < pe) × (pe ≤ length kinds.now) × (q < qe) × (qe ≤ length kinds.now) × (length vals.now ≡ length kinds.now) }
@@ -128,24 +150,13 @@ fn reach_end(kinds: &[u32], vals: &[u32], p: usize, pe: usize, q: usize, qe: usi
     if k != tag_of(word(kinds, q)) {
         return p + 1;
     }
-    // Iter, Array, Map, Set
-    if is_one(k, 7, 9, 10) {
+    if is_container(k) {
         return pe;
     }
-    if k == 11 {
-        return pe;
-    }
-    // Reference, Tuple, Function, Range
-    if is_one(k, 0, 5, 6) {
+    if has_first_number(k) {
         return first_reach(vals, p, pe, q, qe);
     }
-    if k == 8 {
-        return first_reach(vals, p, pe, q, qe);
-    }
-    if is_one(k, 12, 13, 14) {
-        return nominal_reach(kinds, vals, p, pe, q, qe);
-    }
-    if k == 15 {
+    if is_nominal(k) {
         return nominal_reach(kinds, vals, p, pe, q, qe);
     }
     p + 1
@@ -163,14 +174,18 @@ fn first_reach(vals: &[u32], p: usize, pe: usize, q: usize, qe: usize) -> usize
     p + 1
 }
 
+// Whether a term is filled from another, by its tag: Unknown and Error.
+fn is_hole(tag: u32) -> bool
+    ensures { result ≡ recovery tag }
+{
+    matches!(tag, 2 | 3)
+}
+
 // Whether the first of two terms stays as it is, by their tags: Unknown and Error fill nothing, and Inference is never replaced.
 fn stays(k: u32, l: u32) -> bool
     ensures { result ≡ (recovery l || eqb k 1) }
 {
-    if is_one(l, 2, 3, 3) {
-        return true;
-    }
-    k == 1
+    is_hole(l) || k == 1
 }
 
 // Writes the term at p with its holes filled from the term at q where it fits, and returns the position after it.
@@ -199,7 +214,7 @@ fn recover_term(
     if stays(k, tag_of(word(kinds, q))) {
         return put_run(kinds, vals, p, pe - p, out, at);
     }
-    if is_one(k, 2, 3, 3) {
+    if is_hole(k) {
         return put_run(kinds, vals, q, qe - q, out, at);
     }
     let stop = reach_end(kinds, vals, p, pe, q, qe);

@@ -10,7 +10,7 @@ ghost use Rattle.terms.specs.Words.RewriteContract.{by, index, generic, in_conte
 ghost use Rattle.terms.specs.Words.RewriteContract.{Writes, Rewrites};
 
 use super::find::{find_entry, find_parameter, find_receiver, nth_term};
-use super::runs::{long_at, stride};
+use super::runs::{skip, word};
 use super::write::{run_len, write_run};
 use super::{Binders, Choice, Parameter};
 
@@ -90,8 +90,8 @@ fn replaced_at(kinds: &[u32], vals: &[u32], s: &[u8], b: Binders, p: usize) -> C
     let k = kinds[p];
     if k == 19 {
         let wanted = Parameter {
-            owner: long_at(vals, p + 1),
-            position: long_at(vals, p + 2),
+            owner: u64::from(word(vals, p + 1)),
+            position: u64::from(word(vals, p + 2)),
         };
         if b.context {
             return context_at(kinds, vals, s, b, wanted);
@@ -99,13 +99,14 @@ fn replaced_at(kinds: &[u32], vals: &[u32], s: &[u8], b: Binders, p: usize) -> C
         return generic_at(kinds, vals, s, b, wanted);
     }
     if k == 21 {
-        let owner = long_at(vals, p + 1);
+        let owner = u64::from(word(vals, p + 1));
         return self_at(kinds, vals, b, owner);
     }
     Choice::Keep
 }
 
-// Writes a run of tokens, or only counts its bytes.
+// Writes a run of tokens, or only counts its bytes. A trait with a sink that writes and one that counts is no plainer: its laws say of each what `pick on` says
+// of both, and each function up to the orders would take a type for `on`.
 fn emit_run(
     kinds: &[u32],
     vals: &[u32],
@@ -144,7 +145,7 @@ fn emit(
     match c {
         Choice::Keep => emit_run(kinds, vals, p, 1, out, i, on),
         Choice::By(q) => {
-            let n = stride(kinds, vals, q, kinds.len() - q);
+            let n = skip(kinds, vals, q, kinds.len() - q);
             emit_run(kinds, vals, q, n, out, i, on)
         }
         Choice::Unknown => {
@@ -164,8 +165,8 @@ fn pace(kinds: &[u32], vals: &[u32], c: Choice, p: usize, end: usize) -> usize
 {
     match c {
         Choice::Keep => 1,
-        Choice::By(_) => stride(kinds, vals, p, end - p),
-        Choice::Unknown => stride(kinds, vals, p, end - p),
+        Choice::By(_) => skip(kinds, vals, p, end - p),
+        Choice::Unknown => skip(kinds, vals, p, end - p),
     }
 }
 
@@ -217,6 +218,6 @@ pub fn write_term(
     ensures words { Writes on out.old at result out.new (written kinds.now vals.now s.now b from) }
     ensures trees { Rewrites kinds.now vals.now s.now b from (Writes on out.old at result out.new) }
 {
-    let n = stride(kinds, vals, from, kinds.len() - from);
+    let n = skip(kinds, vals, from, kinds.len() - from);
     rewrite_run(kinds, vals, s, b, from, n, out, at, on)
 }

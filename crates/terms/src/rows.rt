@@ -1,14 +1,16 @@
 // The row of a node by place: its numbers, its members' keys, its children.
-ghost use Rattle.std.specs.Prelude.{◌≡◌, Bool, ℕ, ◌<◌, get_or};
+ghost use Rattle.std.specs.Prelude.{◌≡◌, Bool, ℕ, ◌-◌, ◌<◌, get_or};
+ghost use Rattle.std.specs.Iterator.{at_most};
 ghost use Rattle.std.proofs.Math.ListN.{get_elem?};
 ghost use Rattle.terms.specs.Words.VirtualTokens.{view, Sight};
 ghost use Rattle.terms.specs.Term.{Term};
 ghost use Rattle.terms.specs.Tree.{children};
 ghost use Rattle.terms.specs.Words.Arena.{head_of, kids_of, Tree, RowAt, NumberAt, ValueAt, KeyOf, Fetched};
+ghost use Rattle.terms.specs.Words.RowsContract.{Moves};
 
-use super::runs::{wide, word};
-use super::virtual_tokens::{step, token_at};
-use super::{Content, Origin, Part};
+use super::runs::word;
+use super::virtual_tokens::token_at;
+use super::{Content, Origin, Part, RowWalk, Token};
 
 // A place past all tokens.
 const NOWHERE: usize = 4294967295;
@@ -18,8 +20,8 @@ pub fn row_of(kinds: &[u32], vals: &[u32], g: Origin, h: u32) -> Part
     requires { Sight kinds.now vals.now g }
     ensures { RowAt (view kinds.now vals.now g) h result.from result.end }
 {
-    let p = wide(h);
-    let end = p + step(token_at(kinds, vals, g, p));
+    let p = h as usize;
+    let end = p + token_at(kinds, vals, g, p).step();
     if NOWHERE < end {
         return Part {
             from: p + 1,
@@ -29,25 +31,54 @@ pub fn row_of(kinds: &[u32], vals: &[u32], g: Origin, h: u32) -> Part
     Part { from: p + 1, end }
 }
 
+impl<'a> Iterator for RowWalk<'a> {
+    type Item = (usize, Token);
+
+    ghost can_next = { λ s. Sight s.kinds.now s.vals.now s.given × (s.end < 4294967296) };
+
+    ghost next_gives = { Moves };
+
+    ghost remaining = { λ s. at_most (s.end - s.at) };
+
+    fn next(&mut self) -> Option<(usize, Token)> {
+        let at = self.at;
+        if self.end <= at {
+            return None;
+        }
+        let token = token_at(self.kinds, self.vals, self.given, at);
+        self.at += token.step();
+        Some((at, token))
+    }
+}
+
+// The walk over the row of the term whose first token stands at h.
+pub fn walk_row<'a>(kinds: &'a [u32], vals: &'a [u32], g: Origin, h: u32) -> RowWalk<'a>
+    requires { Sight kinds.now vals.now g }
+    ensures row { RowAt (view kinds.now vals.now g) h result.at result.end }
+    ensures tokens { (result.kinds.now ≡ kinds.now) × (result.vals.now ≡ vals.now) × (result.given ≡ g) }
+{
+    let row = row_of(kinds, vals, g, h);
+    RowWalk {
+        kinds,
+        vals,
+        given: g,
+        at: row.from,
+        end: row.end,
+    }
+}
+
 // Where the i-th number of the row stands.
 pub fn number_place(kinds: &[u32], vals: &[u32], g: Origin, h: u32, i: usize) -> usize
     requires { Sight kinds.now vals.now g }
     ensures { NumberAt (view kinds.now vals.now g) h i result }
 {
-    let part = row_of(kinds, vals, g, h);
-    let end = part.end;
-    let mut q = part.from;
     let mut left = i;
-    while q < end {
-        let x = token_at(kinds, vals, g, q);
+    for (q, x) in walk_row(kinds, vals, g, h) {
         if x.kind == 0 {
             if left == 0 {
                 return q;
             }
             left -= 1;
-            q += 1;
-        } else {
-            q += step(x);
         }
     }
     NOWHERE
@@ -61,7 +92,7 @@ pub fn number_at(kinds: &[u32], vals: &[u32], g: Origin, h: u32, i: usize) -> us
 {
     let p = number_place(kinds, vals, g, h, i);
     let x = token_at(kinds, vals, g, p);
-    wide(x.value)
+    x.value as usize
 }
 
 // Which number from the third on is x, counted from there.
@@ -69,12 +100,8 @@ pub fn key_at(kinds: &[u32], vals: &[u32], g: Origin, h: u32, x: u32) -> Option<
     requires { Sight kinds.now vals.now g }
     ensures { KeyOf (view kinds.now vals.now g) h x result }
 {
-    let part = row_of(kinds, vals, g, h);
-    let end = part.end;
-    let mut q = part.from;
     let mut k = 0;
-    while q < end {
-        let y = token_at(kinds, vals, g, q);
+    for (_, y) in walk_row(kinds, vals, g, h) {
         if y.kind == 0 {
             if y.value == x {
                 if 3 <= k {
@@ -82,9 +109,6 @@ pub fn key_at(kinds: &[u32], vals: &[u32], g: Origin, h: u32, x: u32) -> Option<
                 }
             }
             k += 1;
-            q += 1;
-        } else {
-            q += step(y);
         }
     }
     None
@@ -102,7 +126,7 @@ pub fn child_here(heads: &[u32], kids: &[u32], c: u32, q: usize, i: usize) -> Co
             kids: 0,
         };
     }
-    let k = wide(c) - 1 + i;
+    let k = c as usize - 1 + i;
     Content {
         head: word(heads, k),
         kids: word(kids, k),
@@ -124,20 +148,13 @@ pub fn child_at(
         → Tree (view kinds.now vals.now g) heads.now kids.now S x.head x.kids t
         → Fetched (view kinds.now vals.now g) heads.now kids.now S (get_elem? (children t) i) result }
 {
-    let part = row_of(kinds, vals, g, x.head);
-    let end = part.end;
-    let mut q = part.from;
     let mut n = 0;
-    while q < end {
-        let y = token_at(kinds, vals, g, q);
-        if y.kind == 0 {
-            q += 1;
-        } else {
+    for (q, y) in walk_row(kinds, vals, g, x.head) {
+        if y.kind != 0 {
             if n == i {
                 return Some(child_here(heads, kids, x.kids, q, n));
             }
             n += 1;
-            q += step(y);
         }
     }
     None

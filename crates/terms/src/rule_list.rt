@@ -33,14 +33,12 @@ fn has_member(rule: Rule, member: u32) -> bool
 fn first_with(rules: &[Rule], member: u32) -> usize
     ensures { result ≡ first_with rules.now member }
 {
-    let mut i = 0;
-    while i < rules.len() {
-        if has_member(rules[i], member) {
-            break;
+    for (i, rule) in rules.iter().enumerate() {
+        if has_member(*rule, member) {
+            return i;
         }
-        i += 1;
     }
-    i
+    rules.len()
 }
 
 // Four rules from the r-th on; past the last, words are 0.

@@ -9,9 +9,8 @@ ghost use Rattle.terms.specs.Words.RulesContract.{TermStarts, Numbers, Fronted, 
 
 use super::alike::{cursor, moved, same_rows};
 use super::rule_list::{next_rule, rule_at};
-use super::runs::wide;
-use super::virtual_tokens::{step, token_at};
-use super::{Content, Cursor, Origin, Rule};
+use super::virtual_tokens::token_at;
+use super::{Content, Cursor, Origin, RowWalk, Rule};
 
 // A place past all tokens.
 const NOWHERE: usize = 4294967295;
@@ -29,7 +28,7 @@ fn term_cursor(kinds: &[u32], vals: &[u32], g: Origin, p: usize) -> Cursor
     requires small { p < 4294967296 }
     ensures { TermStarts (view kinds.now vals.now g) p result }
 {
-    let end = p + step(token_at(kinds, vals, g, p));
+    let end = p + token_at(kinds, vals, g, p).step();
     if NOWHERE < end {
         return Cursor {
             at: p,
@@ -107,7 +106,7 @@ fn same_front(
     ensures { Fronted kinds.now vals.now (view kinds.now vals.now g) heads.now kids.now x rule fuel
         result }
 {
-    let receiver = term_cursor(kinds, vals, g, wide(rule.receiver));
+    let receiver = term_cursor(kinds, vals, g, rule.receiver as usize);
     let (p, i) = same_rows(kinds, vals, heads, kids, g, x, receiver, fuel)?;
     let interface = cursor(kinds, vals, g, source(rule.interface));
     let (q, j) = same_rows(kinds, vals, heads, kids, g, moved(x, p, i), interface, fuel)?;
@@ -120,17 +119,19 @@ fn member_in(kinds: &[u32], vals: &[u32], g: Origin, x: Cursor) -> u32
     requires cut { Cut x }
     ensures { MemberIn (view kinds.now vals.now g) x result }
 {
-    let mut q = x.at;
+    let row = RowWalk {
+        kinds,
+        vals,
+        given: g,
+        at: x.at,
+        end: x.end,
+    };
     let mut before = 0;
     let mut last = 0;
-    while q < x.end {
-        let y = token_at(kinds, vals, g, q);
+    for (_, y) in row {
         if y.kind == 0 {
             before = last;
             last = y.value;
-            q += 1;
-        } else {
-            q += step(y);
         }
     }
     before
@@ -167,7 +168,7 @@ pub fn find_rule(
         }
         let rule = rule_at(rules, r);
         let mut m = same_front(kinds, vals, heads, kids, g, s, rule, fuel);
-        let mut a = wide(rule.arguments);
+        let mut a = rule.arguments as usize;
         let mut left = rule.count;
         loop {
             let Some((p, i)) = m else {

@@ -1,23 +1,12 @@
 // Runs of tokens: how long a term is, and whether two are the same.
-ghost use Rattle.std.specs.Prelude.{◌≡◌, true, false, ◌+◌, ◌≤◌, ◌<◌, length, get_or, [], ◌∷◌};
+ghost use Rattle.std.specs.Prelude.{◌≡◌, true, false, ◌+◌, ◌≤◌, ◌<◌, length, get_or};
 ghost use Rattle.terms.specs.Words.Tokens.{toks};
 ghost use Rattle.terms.specs.Term.{Term};
 ghost use Rattle.terms.specs.Words.Held.{Held, span};
 ghost use Rattle.terms.specs.Tree.{same};
-ghost use Rattle.terms.specs.Questions.{among};
 ghost use Rattle.terms.specs.Words.FindContract.{stride};
 
-pub fn wide(x: u32) -> usize
-    ensures { result ≡ x }
-{
-    x as usize
-}
-
-fn long(x: u32) -> u64
-    ensures { result ≡ x }
-{
-    x as u64
-}
+use super::Token;
 
 // The word at i, 0 past the end.
 pub fn word(words: &[u32], i: usize) -> u32
@@ -29,60 +18,39 @@ pub fn word(words: &[u32], i: usize) -> u32
     0
 }
 
-// The same, as a wider number.
-pub fn long_at(words: &[u32], i: usize) -> u64
-    ensures { result ≡ get_or words.now i 0 }
-{
-    long(word(words, i))
-}
+impl Token {
+    // How many tokens the term has that begins with it, as it says; of a node's head that may be 0.
+    pub fn span(self) -> usize
+        ensures { result ≡ span self.kind self.value }
+    {
+        if self.kind < 2 {
+            return 1;
+        }
+        self.value as usize
+    }
 
-// Whether n is one of three numbers.
-pub fn is_one(n: u32, a: u32, b: u32, c: u32) -> bool
-    ensures { result ≡ among n (a ∷ b ∷ c ∷ []) }
-{
-    if n == a {
-        return true;
+    // The same, but at least 1, so that a walk over a row goes on.
+    pub fn step(self) -> usize
+        ensures some { (1 ≤ result) × (result < 4294967296) }
+        ensures span { 1 ≤ span self.kind self.value → result ≡ span self.kind self.value }
+    {
+        self.span().max(1)
     }
-    if n == b {
-        return true;
-    }
-    n == c
-}
-
-// How many tokens a term has whose first token this is.
-pub fn span_of(k: u32, v: u32) -> usize
-    ensures { result ≡ span k v }
-{
-    if k < 2 {
-        return 1;
-    }
-    wide(v)
-}
-
-// How far the term at i goes, within `room`.
-pub fn stride(kinds: &[u32], vals: &[u32], i: usize, room: usize) -> usize
-    requires { (i < length kinds.now) × (length vals.now ≡ length kinds.now) }
-    ensures { result ≡ stride kinds.now vals.now i room }
-{
-    let s = span_of(word(kinds, i), word(vals, i));
-    if s == 0 {
-        return 1;
-    }
-    if room < s {
-        return room;
-    }
-    s
 }
 
 // How many tokens the term at i has, at least 1 and at most `room`.
 pub fn skip(kinds: &[u32], vals: &[u32], i: usize, room: usize) -> usize
     requires { (i < length kinds.now) × (length vals.now ≡ length kinds.now) × (1 ≤ room) }
-    ensures { (1 ≤ result)
-        × (result ≤ room)
-        × (1 ≤ span (get_or kinds.now i 0) (get_or vals.now i 0) → span (get_or kinds.now i 0) (get_or vals.now i 0) ≤ room
-        → result ≡ span (get_or kinds.now i 0) (get_or vals.now i 0)) }
+    ensures some { (1 ≤ result) × (result ≤ room) }
+    ensures span { 1 ≤ span (get_or kinds.now i 0) (get_or vals.now i 0) → span (get_or kinds.now i 0) (get_or vals.now i 0) ≤ room
+        → result ≡ span (get_or kinds.now i 0) (get_or vals.now i 0) }
+    ensures is { result ≡ stride kinds.now vals.now i room }
 {
-    stride(kinds, vals, i, room)
+    let head = Token {
+        kind: kinds[i],
+        value: vals[i],
+    };
+    head.span().clamp(1, room)
 }
 
 // Whether the two runs of `count` tokens are the same, token by token.

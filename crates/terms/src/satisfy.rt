@@ -13,7 +13,7 @@ ghost use Rattle.terms.specs.Comparison.{same_option, every, satisfies, reflexiv
 ghost use Rattle.terms.specs.Words.SatisfyContract.{Laid, Listed, Lists, Near, Agreed, Headed, Pairs, Inside, Looked, Short, Passes, Gave, Ended};
 ghost use Rattle.terms.specs.Words.SatisfyContract.{Satisfied, covers};
 
-use super::runs::{same_term, skip, wide, word};
+use super::runs::{same_term, skip, word};
 
 // The place after the term at i.
 fn behind(kinds: &[u32], vals: &[u32], i: usize) -> usize
@@ -53,7 +53,7 @@ fn gives(kinds: &[u32], vals: &[u32], x: usize, member: u32, t: usize) -> bool
         → Held kinds.now vals.now t u
         → result ≡ same_option (look_up member gs hs) u }
 {
-    let count = wide(word(vals, x));
+    let count = word(vals, x) as usize;
     let r = member_at(kinds, vals, x + 1, count, member);
     match r {
         Some(i) => same_term(kinds, vals, i, t),
@@ -144,7 +144,7 @@ fn heads(kinds: &[u32], vals: &[u32], a: usize, b: usize) -> Option<(usize, usiz
     if n != word(vals, b + 1) {
         return None;
     }
-    let count = wide(n);
+    let count = n as usize;
     same_terms(kinds, vals, a + 2, b + 2, count)
 }
 
@@ -158,7 +158,7 @@ fn satisfies_row(kinds: &[u32], vals: &[u32], a: usize, b: usize) -> Option<usiz
         → Satisfied kinds.now vals.now e more (satisfies n m) result }
 {
     let (x, y) = heads(kinds, vals, a, b)?;
-    let count = wide(word(vals, y));
+    let count = word(vals, y) as usize;
     lacking(kinds, vals, x, y + 1, count).ok()
 }
 
@@ -271,7 +271,7 @@ pub fn satisfies_for(kinds: &[u32], vals: &[u32], a: usize, b: usize, receiver: 
     match h {
         None => false,
         Some((x, y)) => {
-            let count = wide(word(vals, y));
+            let count = word(vals, y) as usize;
             covered(kinds, vals, a + 1, x, y + 1, count, receiver)
         }
     }

@@ -8,12 +8,11 @@ ghost use Rattle.terms.specs.Words.ShowingContract.{Shows, Kept};
 
 use super::alike::cursor;
 use super::rows::child_here;
-use super::runs::wide;
-use super::virtual_tokens::{step, token_at};
+use super::virtual_tokens::token_at;
 use super::write::{run_len, token_len, write_run, write_token};
-use super::{Content, Cursor, Origin, Token};
+use super::{Content, Cursor, Origin, RowWalk, Token};
 
-// One token.
+// One token. `on` is a flag and no type, as in `emit_run`: what is sized and what is written are the same but for the last step.
 fn show_token(out: &mut [u8], at: usize, x: Token, on: bool) -> usize
     requires { at ≤ length out.old }
     ensures kept { Kept on out.old out.new at result }
@@ -115,22 +114,25 @@ fn show_row(
         → depths ps ≤ fuel
         → Shows on out.old out.new at (part_bytes ps) result }
 {
+    let row = RowWalk {
+        kinds,
+        vals,
+        given: g,
+        at: c.at,
+        end: c.end,
+    };
     let mut i = at;
-    let mut q = c.at;
     let mut n = c.child;
-    while q < c.end {
+    for (q, y) in row {
         if out.len() < i {
             return i;
         }
-        let y = token_at(kinds, vals, g, q);
         if y.kind == 0 {
             i = show_token(out, i, y, on);
-            q += 1;
         } else {
             let z = child_here(heads, kids, c.kids, q, n);
             i = show_tree(kinds, vals, heads, kids, g, z, fuel, out, i, on);
             n += 1;
-            q += step(y);
         }
     }
     i
@@ -158,9 +160,9 @@ pub fn show_tree(
         → (0 < x.kids → depth t ≤ fuel)
         → Shows on out.old out.new at (bytes t) result }
 {
-    let h = token_at(kinds, vals, g, wide(x.head));
+    let h = token_at(kinds, vals, g, x.head as usize);
     if x.kids == 0 {
-        return show_run(kinds, vals, g, wide(x.head), step(h), out, at, on);
+        return show_run(kinds, vals, g, x.head as usize, h.step(), out, at, on);
     }
     if fuel == 0 {
         return out.len() + 1;

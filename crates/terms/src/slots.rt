@@ -1,30 +1,19 @@
 // The order in which `map_children` comes to the children of a node.
-ghost use Rattle.std.specs.Prelude.{◌≡◌, min, ◌+◌, ◌-◌, ◌≤◌, ◌<◌};
+ghost use Rattle.std.specs.Prelude.{◌≡◌, ◌+◌, ◌-◌, ◌≤◌, ◌<◌};
 ghost use Rattle.terms.specs.Tree.{class, nominal_slot, projection_slot, slot_by};
+ghost use Rattle.terms.specs.Words.SlotsContract.{class_number};
 
-// The class of a tag: 0 another, 1 a nominal, 2 a projection.
-fn class_of(k: u32) -> usize
-    ensures { result ≡ class k }
-{
-    if k == 18 {
-        return 2;
-    }
-    if k < 12 {
-        return 0;
-    }
-    if 15 < k {
-        return 0;
-    }
-    1
-}
+use super::Class;
 
-pub fn least(a: usize, b: usize) -> usize
-    ensures { result ≡ min a b }
+// The class of a tag.
+fn class_of(k: u32) -> Class
+    ensures { class_number result ≡ class k }
 {
-    if a < b {
-        return a;
+    match k {
+        12..=15 => Class::Nominal,
+        18 => Class::Projection,
+        _ => Class::Plain,
     }
-    b
 }
 
 // Of a nominal with n arguments: members, then arguments.
@@ -62,13 +51,12 @@ pub fn slot(k: u32, n: usize, m: usize, c: usize, j: usize) -> usize
     requires { (c < 4294967296) × (j < c) }
     ensures { (result ≡ slot_by (class k) n m c j) × (result < c) }
 {
-    let x = class_of(k);
-    if x == 0 {
-        return j;
+    match class_of(k) {
+        Class::Plain => j,
+        Class::Nominal => nominal_slot(n.min(c), c, j),
+        Class::Projection => {
+            let a = n.min(c - 1);
+            projection_slot(a, m.min(c - 1 - a), c, j)
+        }
     }
-    if x == 1 {
-        return nominal_slot(least(n, c), c, j);
-    }
-    let a = least(n, c - 1);
-    projection_slot(a, least(m, c - 1 - a), c, j)
 }

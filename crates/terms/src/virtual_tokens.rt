@@ -1,9 +1,8 @@
 // The tokens that normalising sees: the lent ones, Error, and the projections that order 19 may make anew.
 ghost use Rattle.std.specs.Prelude.{◌≡◌, ◌+◌, ◌≤◌, ◌<◌, get_or};
-ghost use Rattle.terms.specs.Words.Held.{span};
 ghost use Rattle.terms.specs.Words.VirtualTokens.{copied, Located, view, Sight};
 
-use super::runs::{wide, word};
+use super::runs::word;
 use super::{Origin, Spot, Token};
 
 // Which lent token stands r-th after the head of the projection for the token t.
@@ -11,13 +10,13 @@ fn copied(g: Origin, len: usize, r: usize, t: usize) -> usize
     requires { (1 ≤ r) × (r < 4294967296) }
     ensures { result ≡ copied g len r t }
 {
-    let span = wide(g.span);
-    let row = wide(g.row);
+    let span = g.span as usize;
+    let row = g.row as usize;
     if r <= span {
-        return wide(g.owner) + r - 1;
+        return g.owner as usize + r - 1;
     }
     if r <= span + row {
-        return wide(g.interface) + (r - span);
+        return g.interface as usize + (r - span);
     }
     if r == span + row + 1 {
         return t;
@@ -36,7 +35,7 @@ pub fn locate(g: Origin, len: usize, q: usize) -> Spot
     if q == len {
         return Spot::Error;
     }
-    let size = wide(g.size);
+    let size = g.size as usize;
     if size == 0 {
         return Spot::Nowhere;
     }
@@ -70,18 +69,4 @@ pub fn token_at(kinds: &[u32], vals: &[u32], g: Origin, q: usize) -> Token
         },
         Spot::Nowhere => Token { kind: 0, value: 0 },
     }
-}
-
-// How many tokens the term has that begins with a token.
-pub fn step(x: Token) -> usize
-    ensures some { (1 ≤ result) × (result < 4294967296) }
-    ensures span { 1 ≤ span x.kind x.value → result ≡ span x.kind x.value }
-{
-    if x.kind < 2 {
-        return 1;
-    }
-    if x.value == 0 {
-        return 1;
-    }
-    wide(x.value)
 }

@@ -13,9 +13,8 @@ use super::interface::by_interface;
 use super::members::own_member;
 use super::opening::{begin, own_len};
 use super::rules::find_rule;
-use super::runs::{span_of, wide, word};
-use super::slots::{least, slot};
-use super::virtual_tokens::step;
+use super::runs::word;
+use super::slots::slot;
 use super::write::run_len;
 use super::{Content, Origin, Token, Walked};
 
@@ -111,12 +110,12 @@ fn fixed_nodes(kinds: &[u32], vals: &[u32], x: Content, most: usize) -> usize
     if x.kids != 0 {
         return 0;
     }
-    let from = wide(x.head);
+    let from = x.head as usize;
     let head = Token {
         kind: word(kinds, from),
         value: word(vals, from),
     };
-    let span = step(head);
+    let span = head.step();
     if TRIED < span {
         return 0;
     }
@@ -145,9 +144,12 @@ fn fixed_len(kinds: &[u32], vals: &[u32], x: Content) -> usize
     ensures bound { result < 68719476736 }
     ensures bytes { (t : Term) → Held kinds.now vals.now x.head t → result ≡ length (bytes t) }
 {
-    let from = wide(x.head);
-    let n = span_of(word(kinds, from), word(vals, from));
-    run_len(kinds, vals, from, n)
+    let from = x.head as usize;
+    let head = Token {
+        kind: word(kinds, from),
+        value: word(vals, from),
+    };
+    run_len(kinds, vals, from, head.span())
 }
 
 // Visits the content x, with `levels` levels and `visits` visits left. The records of the result stand from `next` on, at most `most` in all.
@@ -182,7 +184,7 @@ pub fn walk(
     if visits == 0 {
         return Some(result(error, next, visits, 1));
     }
-    let same = fixed_nodes(kinds, vals, x, least(levels, visits));
+    let same = fixed_nodes(kinds, vals, x, levels.min(visits));
     if 0 < same {
         let size = fixed_len(kinds, vals, x);
         return kept(x, same, size, next, visits, most);

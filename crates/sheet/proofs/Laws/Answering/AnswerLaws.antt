@@ -15,7 +15,8 @@ use Rattle.solver.specs.Terms.Parameters.{parameters}
 use Rattle.solver.proofs.Terms.HeldLaws.{items_some}
 use Rattle.solver.specs.Terms.Term.{Term, bytes, Held}
 use Rattle.solver.specs.Terms.TermsAtPlaces.{FormedAt}
-use Rattle.solver.specs.Terms.Questions.{asked, answered}
+use Rattle.solver.specs.Terms.Questions.{asked, answered, number_of_question}
+use Rattle.solver.specs.TermTypes.{Question, IsNever, IsInteger, IsConcrete, IsUnresolved, ContainsUnknown, ContainsSelfType, ContainsProjection, IsResolvedIn}
 use Rattle.solver.specs.Terms.Substitution.{Entry, Receiver, apply, instantiate, extend, zipped}
 use Rattle.solver.specs.Terms.RewriteContract.{Rewrites, Writes}
 use Rattle.solver.specs.Terms.Normal.{Out, levels, most}
@@ -118,13 +119,23 @@ pub no_parameters : (s : List ℕ) → parameters s 0 0 ≡ got [] 0
 unfolding parameters
 no_parameters s = refl
 
-pub contrary : (q : ℕ) (t : Term) (b : Bool) → q ≡ 2 → b ≡ asked [] q t → bit (not b) ≡ bit (answered q t)
+pub contrary : (q : Question) (t : Term) (b : Bool) → q ≡ IsConcrete → b ≡ asked [] (number_of_question q) t → bit (not b) ≡ bit (answered (number_of_question q) t)
 unfolding answered
-contrary q t b e h = rw (h, eq-eqb q 2 e)
+contrary q t b e h = rw (h, eq-eqb (number_of_question q) 2 (ap number_of_question e))
 
-pub plainly : (q : ℕ) (t : Term) (b : Bool) → (q ≡ 2 → ⊥) → b ≡ asked [] q t → bit b ≡ bit (answered q t)
+pub plainly : (q : Question) (t : Term) (b : Bool) → (q ≡ IsConcrete → ⊥) → b ≡ asked [] (number_of_question q) t → bit b ≡ bit (answered (number_of_question q) t)
 unfolding answered
-plainly q t b e h = rw (h, ne_eqb q 2 e)
+plainly q t b e h = rw (h, ne_eqb (number_of_question q) 2 (other q e))
+  where
+    other : (q : Question) → (q ≡ IsConcrete → ⊥) → number_of_question q ≡ 2 → ⊥
+    other IsNever d z = absurd (omega (arith, z))
+    other IsInteger d z = absurd (omega (arith, z))
+    other IsConcrete d z = d refl
+    other IsUnresolved d z = absurd (omega (arith, z))
+    other ContainsUnknown d z = absurd (omega (arith, z))
+    other ContainsSelfType d z = absurd (omega (arith, z))
+    other ContainsProjection d z = absurd (omega (arith, z))
+    other IsResolvedIn d z = absurd (omega (arith, z))
 
 pub all_seven : (t : Term) (a b c d e f g : ℕ)
     → a ≡ bit (answered 0 t) → b ≡ bit (answered 1 t) → c ≡ bit (answered 2 t) → d ≡ bit (answered 3 t) → e ≡ bit (answered 4 t) → f ≡ bit (answered 5 t) → g ≡ bit (answered 6 t)

@@ -8,14 +8,14 @@ pub ask-r-requires-clause-parameters : goal.ask-r-requires-clause-parameters
 ask-r-requires-clause-parameters c =
     record { list = []; next = 0; read = no_parameters _ }
 
-pub returns-then-q-eq2 : goal.returns-then-q-eq2
-returns-then-q-eq2 c =
+pub returns-in-IsConcrete : goal.returns-in-IsConcrete
+returns-in-IsConcrete c =
     λ t h f.
     let a = c.args in
-    c.bit.ensures ∙ contrary a.q t _ c.if-q-eq2.true (c.ask-r.ensures [] 0 (no_parameters _) t h f)
+    c.bit.ensures ∙ contrary a.q t _ c.in-IsConcrete.is (c.ask-r.ensures [] 0 (no_parameters _) t h f)
 
-pub returns : goal.returns
-returns c =
+pub returns-in_default : goal.returns-in_default
+returns-in_default c =
     λ t h f.
     let a = c.args in
-    c.bit-2.ensures ∙ plainly a.q t _ c.if-q-eq2.false (c.ask-r.ensures [] 0 (no_parameters _) t h f)
+    c.bit-in_default.ensures ∙ plainly a.q t _ c.in_default.not-IsConcrete (c.ask-r.ensures [] 0 (no_parameters _) t h f)

@@ -15,7 +15,7 @@ use Rattle.terms.specs.Result.{pick}
 use Rattle.terms.specs.Term.{Term, Parts, node, end, num, sub, items, Held}
 use Rattle.terms.specs.Words.Held.{HeldParts, span}
 use Rattle.terms.specs.Tree.{nums, row, tag, class, children}
-use Rattle.terms.proofs.Laws.Normalising.SlotLaws.{class_projection, class_low, class_high, class_nominal}
+use Rattle.terms.proofs.Laws.Normalising.SlotLaws.{class_projection, class_plain as plain, class_nominal}
 use Rattle.terms.proofs.Laws.Held.HeldLaws.{items_some, held_node, held_num, held_sub, row_end, row_num, row_sub}
 use Rattle.solver.specs.Shapes.{same_shape, turned}
 use Rattle.solver.specs.Words.PendingContract.{Laid, Taken, Wiped, places, pushed_places, PushedPairs, Twins, here, window, PartEnd, NumberAt}
@@ -432,12 +432,11 @@ unfolding turned
 turned_nominal c n l h = rw h
 
 class_plain : (k : ℕ) → (12 ≤ k → 15 < k) → class k ≡ 1 → ⊥
-class_plain k h e = go (ℕ_discrete k 18) (dec_lt k 12)
+class_plain k h e = go (ℕ_discrete k 18)
   where
-    go : Dec (k ≡ 18) → Dec (k < 12) → ⊥
-    go (yes p) q = omega (arith, class_projection k p)
-    go (no p) (yes q) = omega (arith, class_low k p q)
-    go (no p) (no q) = omega (arith, class_high k p (omega arith) (h (omega arith)))
+    go : Dec (k ≡ 18) → ⊥
+    go (yes p) = omega (arith, class_projection k p)
+    go (no p) = omega (arith, plain k p h)
 
 pushed_plain : (a k : ℕ) (ps : Parts) → (class k ≡ 1 → ⊥) → pushed_places a (node k ps) ≡ places (a + 1) ps
 unfolding row tag

@@ -49,7 +49,7 @@ loop-i-preserved c =
       omega arith,
       omega arith,
       advanced_on _ _ _ _ _ _ _ _ _ _ l.invariant.2 d.advanced,
-      λ h ps qs e hp hq fa. walk_join _ _ (stands_for c.args.most h) (follow c.args.most h) _ _ ps qs _ _ _ _ (l.invariant.3 h ps qs e hp hq fa) _ d.advanced.keeps (omega arith) (omega arith) c.if-kinds-i-eq0.false c.if-kinds-j-eq0.false _ (λ t u ht hu. d.terms h t u e ht hu (l.invariant.3 h ps qs e hp hq fa).fair) c.if-not-equal.false _ _ (λ x y. r.2 x (omega arith)) (λ x y. q.2 x (omega arith)),
+      λ h ps qs e hp hq fa. walk_join _ _ (stands_for c.args.most h) (follow c.args.most h) _ _ ps qs _ _ _ _ (l.invariant.3 h ps qs e hp hq fa) _ d.advanced.keeps (omega arith) (omega arith) c.if-kinds-i-eq0.false c.if-kinds-j-eq0.false _ (λ t u ht hu. d.terms h t u e ht hu (l.invariant.3 h ps qs e hp hq fa).fair) c.if-not-equal.false _ _ (λ x y. r.span x (omega arith)) (λ x y. q.span x (omega arith)),
       search rules,
     )
 

@@ -358,21 +358,6 @@ module _ (ks vs : List ℕ) (i ae j be : ℕ) (whole : Bool) (x : Terms ks vs i 
                 ∙ sym (conflict_append f.row g.row x.ps x.qs (layout f.tag) fl.1 gr);
           }
 
--- ---- the tests of the code
-
-module _ (n a b c : ℕ) where
-  pub among_first : n ≡ a → true ≡ among n (a ∷ b ∷ c ∷ [])
-  unfolding among
-  among_first e = sym (or-true (eqb n a) (eqb n b || (eqb n c || false)) (eq-eqb n a e))
-
-  pub among_second : n ≡ b → true ≡ among n (a ∷ b ∷ c ∷ [])
-  unfolding among
-  among_second e = sym (or_right (eqb n a) (eqb n b || (eqb n c || false)) (or-true (eqb n b) (eqb n c || false) (eq-eqb n b e)))
-
-  pub among_last : (n ≡ a → ⊥) → (n ≡ b → ⊥) → eqb n c ≡ among n (a ∷ b ∷ c ∷ [])
-  unfolding among
-  among_last p q = rw (ne_eqb n a p, ne_eqb n b q) (sym (or-none (eqb n c)))
-
 -- what `skip` tells of the term that comes next in a row
 pub passed : (ks vs : List ℕ) (i ae n : ℕ) (t : Term) (ps : Parts) → HeldParts ks vs i ae (sub t ps)
     → (1 ≤ span (get_or ks i 0) (get_or vs i 0) → span (get_or ks i 0) (get_or vs i 0) ≤ ae - i → n ≡ span (get_or ks i 0) (get_or vs i 0)) → HeldParts ks vs (i + n) ae ps

@@ -1,11 +1,12 @@
 -- The questions on tokens.
 use mathlib.Core.Path.{◌≡◌, refl, sym, ap, subst, ◌∙◌}
 use mathlib.Core.Bool.{Bool, true, false, not, ◌&&◌, ◌||◌}
+use mathlib.Core.Logic.{◌⊎◌, inl, inr}
 use mathlib.Core.List.{List, [], ◌∷◌}
 use Prim.Native.Nat.{ℕ, zero, suc, ◌+◌, ◌-◌, ◌≤◌, ◌<◌}
 use native.Mathlib.Decide.{ℕ_discrete}
 use native.Mathlib.Omega.{arith}
-use borrow.Author.Tests.{ne_eqb, lt-ltb}
+use borrow.Author.Tests.{eq-eqb, ne_eqb, lt-ltb}
 use lib.Dec.{eqb}
 use lib.ListN.{length, get_or}
 use Rattle.terms.specs.Parser.{Result, got, refused, bind}
@@ -15,15 +16,16 @@ use Rattle.terms.specs.Shape as shape
 use Rattle.terms.specs.Shape.{Shape, layout}
 use Rattle.terms.specs.Formed.{Formed, Fit, TakesNumber, TakesTerm, after_number, after_term}
 use Rattle.terms.specs.Tree.{nums, row, tag}
-use Rattle.terms.specs.Questions.{Parameter, contains, is_empty, first, second, among, counted_by, counted, entered_by, meets, meets_row, is_concrete, is_resolved_in}
+use Rattle.terms.specs.Questions.{Parameter, contains, is_empty, first, second, among, counted_by, counted, entered_by, meets, meets_row, is_concrete, is_resolved_in, Question, number_of_question}
+use Rattle.terms.specs.declared.Question.TheVariants.{IsNever, IsInteger, IsConcrete, IsUnresolved, ContainsUnknown, ContainsSelfType, ContainsProjection, IsResolvedIn}
 use Rattle.terms.specs.Parameters.{parameter, parameters, index_in, is_found}
 use Rattle.terms.specs.Words.QuestionsContract.{tag_of, word, Asking}
-use Rattle.terms.proofs.Laws.General.Bools.{or-true, or-none, or_assoc, or-false}
+use Rattle.terms.proofs.Laws.General.Bools.{or-true, or_right, or-none, or_assoc, or-false}
 use Rattle.terms.proofs.Laws.Held.HeldLaws.{head_kind, held_num, held_sub, row_num, row_sub, row_end}
 use Rattle.terms.proofs.Laws.Held.FlatLaws.{held_enter, held_one}
 use Rattle.terms.proofs.Laws.Format.ShapeLaws.{More, some_done}
 use Rattle.terms.proofs.Laws.Format.ParameterLaws.{found_contains}
-use Rattle.terms.proofs.Laws.Asking.ConflictLaws.{passed, not_among}
+use Rattle.terms.proofs.Laws.Asking.ConflictLaws.{passed}
 use Rattle.std.specs.Prelude.{Option, Some, None, is_some}
 
 -- ---- tags
@@ -47,45 +49,33 @@ tag_node (suc (suc k)) h = omega arith
 
 -- ---- which terms count
 
-pub counted_more : (ps : List Parameter) (q k a b : ℕ) → 7 ≤ q → counted_by ps 7 k a b ≡ counted_by ps q k a b
-unfolding counted_by
-counted_more ps zero k a b h = absurd (omega arith)
-counted_more ps (suc zero) k a b h = absurd (omega arith)
-counted_more ps (suc (suc zero)) k a b h = absurd (omega arith)
-counted_more ps (suc (suc (suc zero))) k a b h = absurd (omega arith)
-counted_more ps (suc (suc (suc (suc zero)))) k a b h = absurd (omega arith)
-counted_more ps (suc (suc (suc (suc (suc zero))))) k a b h = absurd (omega arith)
-counted_more ps (suc (suc (suc (suc (suc (suc zero)))))) k a b h = absurd (omega arith)
-counted_more ps (suc (suc (suc (suc (suc (suc (suc q))))))) k a b h = refl
+-- a number is none of a list's, or is one of them
+abbrev pub Apart : ℕ → List ℕ → Type 0
+Apart n [] = Unit
+Apart n (m ∷ ms) = (n ≡ m → ⊥) × Apart n ms
 
--- a list of tags in two parts
-pub among_split : (n a b c : ℕ) (l : List ℕ) → among n (a ∷ b ∷ c ∷ l) ≡ (among n (a ∷ b ∷ c ∷ []) || among n l)
-unfolding among
-among_split n a b c l = go (eqb n a) (eqb n b) (eqb n c) (among n l)
-  where
-    go : (x y z w : Bool) → (x || (y || (z || w))) ≡ ((x || (y || (z || false))) || w)
-    go true y z w = refl
-    go false true z w = refl
-    go false false true w = refl
-    go false false false w = refl
+abbrev pub Among : ℕ → List ℕ → Type 0
+Among n [] = ⊥
+Among n (m ∷ ms) = (n ≡ m) ⊎ Among n ms
 
-pub among_two : (n a b : ℕ) → among n (a ∷ b ∷ b ∷ []) ≡ among n (a ∷ b ∷ [])
+pub among_out : (n : ℕ) (ms : List ℕ) → (Among n ms → ⊥) → among n ms ≡ false
 unfolding among
-among_two n a b = go (eqb n a) (eqb n b)
+among_out n [] h = refl
+among_out n (m ∷ ms) h = rw (ne_eqb n m (λ e. h (inl e))) (among_out n ms (λ a. h (inr a)))
+
+pub among_in : (n : ℕ) (ms : List ℕ) → (Apart n ms → ⊥) → among n ms ≡ true
+unfolding among
+among_in n [] h = absurd (h tt)
+among_in n (m ∷ ms) h = go (ℕ_discrete n m) (λ d. among_in n ms (λ a. h (d, a)))
   where
-    go : (x y : Bool) → (x || (y || (y || false))) ≡ (x || (y || false))
-    go true y = refl
-    go false true = refl
-    go false false = refl
+    go : Dec (n ≡ m) → ((n ≡ m → ⊥) → among n ms ≡ true) → (eqb n m || among n ms) ≡ true
+    go (yes e) f = rw (eq-eqb n m e)
+    go (no d) f = or_right (eqb n m) (among n ms) (f d)
 
 module _ (ps : List Parameter) (k a b : ℕ) where
-  pub failing : among k (1 ∷ 2 ∷ 3 ∷ []) ≡ true → true ≡ counted_by ps 7 k a b
+  pub failing : among k (1 ∷ 2 ∷ 3 ∷ 19 ∷ []) ≡ true → true ≡ counted_by ps 7 k a b
   unfolding counted_by
-  failing h = sym (ap (λ (x : Bool). x || (eqb k 17 && not (contains ps (record { owner = a; position = b })) || eqb k 18 && is_empty ps)) (among_split k 1 2 3 (19 ∷ []) ∙ or-true (among k (1 ∷ 2 ∷ 3 ∷ [])) (among k (19 ∷ [])) h))
-
-  pub own_self : k ≡ 19 → true ≡ counted_by ps 7 k a b
-  unfolding counted_by among
-  own_self e = rw e
+  failing h = rw h
 
   pub projected : k ≡ 18 → counted_by ps 7 k a b ≡ is_empty ps
   unfolding counted_by among
@@ -95,11 +85,9 @@ module _ (ps : List Parameter) (k a b : ℕ) where
   unfolding counted_by among
   binder e = rw e (or-none (not (contains ps (record { owner = a; position = b }))))
 
-  pub known : among k (1 ∷ 2 ∷ 3 ∷ []) ≡ false → (k ≡ 19 → ⊥) → (k ≡ 18 → ⊥) → (k ≡ 17 → ⊥) → false ≡ counted_by ps 7 k a b
-  unfolding counted_by among
-  known h d e f =
-      let n = not_among k 1 2 3 h in
-      rw (ne_eqb k 1 n.0, ne_eqb k 2 n.1.0, ne_eqb k 3 n.1.1, ne_eqb k 19 d, ne_eqb k 18 e, ne_eqb k 17 f)
+  pub known : among k (1 ∷ 2 ∷ 3 ∷ 19 ∷ []) ≡ false → (k ≡ 18 → ⊥) → (k ≡ 17 → ⊥) → false ≡ counted_by ps 7 k a b
+  unfolding counted_by
+  known h e f = rw (h, ne_eqb k 18 e, ne_eqb k 17 f)
 
 -- ---- parameters
 
@@ -145,24 +133,16 @@ absent found ps n p e None h false k = absurd (cc)
 
 -- ---- entering
 
-pub entered_few : (q k : ℕ) → q ≤ 1 → false ≡ entered_by q k
+pub entered_most : (q : Question) (k : ℕ) → (q ≡ IsNever → ⊥) → (q ≡ IsInteger → ⊥) → (q ≡ ContainsUnknown → ⊥) → true ≡ entered_by (number_of_question q) k
 unfolding entered_by
-entered_few zero k h = refl
-entered_few (suc zero) k h = refl
-entered_few (suc (suc q)) k h = absurd (omega arith)
-
-pub entered_four : (q k : ℕ) → q ≡ 4 → not (eqb k 18) ≡ entered_by q k
-unfolding entered_by
-entered_four q k e = rw e
-
-pub entered_most : (q k : ℕ) → 2 ≤ q → (q ≡ 4 → ⊥) → true ≡ entered_by q k
-unfolding entered_by
-entered_most zero k h d = absurd (omega arith)
-entered_most (suc zero) k h d = absurd (omega arith)
-entered_most (suc (suc zero)) k h d = refl
-entered_most (suc (suc (suc zero))) k h d = refl
-entered_most (suc (suc (suc (suc zero)))) k h d = absurd (d refl)
-entered_most (suc (suc (suc (suc (suc q))))) k h d = refl
+entered_most IsNever k a b d = absurd (a refl)
+entered_most IsInteger k a b d = absurd (b refl)
+entered_most IsConcrete k a b d = refl
+entered_most IsUnresolved k a b d = refl
+entered_most ContainsUnknown k a b d = absurd (d refl)
+entered_most ContainsSelfType k a b d = refl
+entered_most ContainsProjection k a b d = refl
+entered_most IsResolvedIn k a b d = refl
 
 -- ---- the numbers after a head
 

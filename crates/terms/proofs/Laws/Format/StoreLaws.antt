@@ -1,14 +1,13 @@
 -- Runs of stores into the two areas.
 use mathlib.Core.Path.{◌≡◌, refl, sym, ap, ◌∙◌}
 use mathlib.Core.Bool.{Bool, true, false}
-use mathlib.Core.Logic.{◌⊎◌, inl, inr}
-use mathlib.Core.List.{List, [], ◌∷◌, ◌++◌}
-use Prim.Native.Nat.{ℕ, zero, suc, ◌+◌, ◌-◌, ◌≤◌, ◌<◌}
-use native.Mathlib.Numerals.{add-one}
+use mathlib.Core.List.{List, [], ◌∷◌, ◌++◌, append_assoc}
+use Prim.Native.Nat.{ℕ, zero, suc, min, ◌+◌, ◌-◌, ◌≤◌, ◌<◌}
 use native.Mathlib.Decide.{dec_lt}
 use native.Mathlib.Omega.{arith}
-use lib.ListN.{length, set, replicate, length-set}
-use lib.Seq.{sets, set_out, set_comm, set-set, take-set-le}
+use borrow.Rule.Slice.PartMut.{put_mid, Post-is}
+use lib.ListN.{length, set, replicate, length-set, take, drop, length-replicate}
+use lib.Seq.{sets, sets-eq, set_out, set_comm, set-set, take-set-le}
 use Rattle.terms.specs.Words.Tokens.{put_if, Item, item, Area, area, put, puts, zeros, blank, before}
 use Rattle.terms.specs.Words.ReadContract.{Only}
 
@@ -97,7 +96,7 @@ pub only_one : (on : Bool) (d : Area) (i k v : ℕ) → Only i 1 d (put_if on d 
 only_one true d i k v = cover_one 1 d i i k v (omega arith) (omega arith)
 only_one false d i k v = refl
 
--- ---- the loop that clears words: those still to clear, cleared, give what is asked
+-- ---- words cleared
 
 -- tokens cleared are words cleared in both areas
 blank_lists : (n : ℕ) (d : Area) (i : ℕ) → blank d i n ≡ area (sets d.kinds i (replicate n 0)) (sets d.vals i (replicate n 0))
@@ -117,35 +116,33 @@ sets_out : (vs l : List ℕ) (i : ℕ) → length l ≤ i → sets l i vs ≡ l
 sets_out [] l i h = refl
 sets_out (a ∷ vs) l i h = rw (set_out l i a h) (sets_out vs l (suc i) (omega arith))
 
--- `l` as it was and `m` as it is; the loop ends at `stop`, after which nothing is to clear
-pub record Clearing (l m : List ℕ) (from end stop i : ℕ) : Type 0 where
-  pub inside : stop ≤ length l
-  pub short : stop ≤ end
-  pub last : (end ≤ stop) ⊎ (length l ≤ stop)
-  pub same : length m ≡ length l
-  pub rest : sets m i (replicate (end - i) 0) ≡ sets l from (replicate (end - from) 0)
+-- what is cleared past the end changes nothing
+cleared_to : (l : List ℕ) (i m n : ℕ) → m ≤ n → length l ≤ i + m → sets l i (replicate n 0) ≡ sets l i (replicate m 0)
+cleared_to l i zero n h k = sets_out (replicate n 0) l i (omega arith)
+cleared_to l i (suc m) zero h k = absurd (omega arith)
+cleared_to l i (suc m) (suc n) h k = cleared_to (set l i 0) (suc i) m n (omega arith) (omega (arith, length-set l i 0))
 
-module _ (l m : List ℕ) (from end stop i : ℕ) (x : Clearing l m from end stop i) where
-  -- one word more
-  pub clearing_more : i < stop → Clearing l (set m i 0) from end stop (i + 1)
-  clearing_more h =
-      let e : end - i ≡ suc (end - suc i) = omega (arith, x.short) in
-      record {
-        inside = x.inside;
-        short = x.short;
-        last = x.last;
-        same = length-set m i 0 ∙ x.same;
-        rest = rw (add-one i) (rw e at x.rest);
-      }
+-- a part of the words filled with 0
+pub cleared_part : (l : List ℕ) (from end stop : ℕ) → stop ≡ min end (length l) → from < stop
+    → put_mid from (stop - from) l (replicate (stop - from) 0) ≡ sets l from (replicate (end - from) 0)
+cleared_part l from end stop e h =
+    let r : List ℕ = replicate (stop - from) 0 in
+    let n : length r ≡ stop - from = length-replicate (stop - from) 0 in
+    let m : from + length r ≡ stop = omega (arith, n) in
+    ap (λ (z : List ℕ). take from l ++ (r ++ z)) (Post-is from stop l (omega arith))
+    ∙ sym (append_assoc (take from l) r (drop stop l))
+    ∙ ap (λ (k : ℕ). take from l ++ r ++ drop k l) (sym m)
+    ∙ sym (sets-eq r l from (omega (arith, e, m)))
+    ∙ whole (dec_lt stop end)
+  where
+    whole : Dec (stop < end) → sets l from (replicate (stop - from) 0) ≡ sets l from (replicate (end - from) 0)
+    whole (yes k) = sym (cleared_to l from (stop - from) (end - from) (omega arith) (omega (arith, e)))
+    whole (no k) = let z : stop ≡ end = omega (arith, e) in ap (λ (x : ℕ). sets l from (replicate (x - from) 0)) z
 
-  -- at the end
-  pub clearing_done : stop ≤ i → m ≡ sets l from (replicate (end - from) 0)
-  clearing_done h = go x.last ∙ x.rest
-    where
-      go : (end ≤ stop) ⊎ (length l ≤ stop) → m ≡ sets m i (replicate (end - i) 0)
-      go (inl k) = let e : end - i ≡ 0 = omega arith in rw e refl
-      go (inr k) = sym (sets_out (replicate (end - i) 0) m i (omega (arith, x.same)))
-
--- before the loop
-pub clearing_start : (l : List ℕ) (from end stop : ℕ) → stop ≤ length l → stop ≤ end → (end ≤ stop) ⊎ (length l ≤ stop) → Clearing l l from end stop from
-clearing_start l from end stop h k s = record { inside = h; short = k; last = s; same = refl; rest = refl }
+-- nothing to fill: all that is to clear is past the end
+pub cleared_none : (l : List ℕ) (from end stop : ℕ) → stop ≡ min end (length l) → stop ≤ from → l ≡ sets l from (replicate (end - from) 0)
+cleared_none l from end stop e h = go (dec_lt from end)
+  where
+    go : Dec (from < end) → l ≡ sets l from (replicate (end - from) 0)
+    go (yes k) = sym (sets_out (replicate (end - from) 0) l from (omega arith))
+    go (no k) = let z : end - from ≡ 0 = omega arith in rw z refl

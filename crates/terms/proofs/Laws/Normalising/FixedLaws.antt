@@ -34,7 +34,7 @@ use Rattle.terms.proofs.Laws.Normalising.OpenLaws.{frames_same}
 use Rattle.terms.proofs.Laws.Normalising.NormalLaws.{Scanning, scanning_start, scanning_none, scanning_next}
 use Rattle.terms.proofs.Laws.Normalising.WalkLaws.{finds}
 use Rattle.terms.proofs.Laws.Normalising.SumLaws.{total, total_split, plainly}
-use Rattle.terms.proofs.Laws.Normalising.SlotLaws.{class_low, class_high, class_nominal, nominal_member, nominal_argument, slot_zero, slot_one}
+use Rattle.terms.proofs.Laws.Normalising.SlotLaws.{class_plain, class_nominal, nominal_member, nominal_argument, slot_zero, slot_one}
 
 -- ---- the sizes of some terms of a list
 
@@ -185,11 +185,11 @@ module _ (f : Term → ℕ → ℕ → Out) (t : Term) (v c : ℕ) (l : Leaves f
   visits_kids e = low (dec_lt (tag t) 12)
     where
       high : 12 ≤ tag t → Dec (15 < tag t) → Visits
-      high lo (yes h') = visits_plain (sym (class_high (tag t) e lo h'))
+      high lo (yes h') = visits_plain (sym (class_plain (tag t) e (λ l. h')))
       high lo (no h') = visits_nominal (sym (class_nominal (tag t) e lo (omega arith)))
 
       low : Dec (tag t < 12) → Visits
-      low (yes h') = visits_plain (sym (class_low (tag t) e h'))
+      low (yes h') = visits_plain (sym (class_plain (tag t) e (λ l. omega (arith, h'))))
       low (no h') = high (omega arith) (dec_lt 15 (tag t))
 
 -- ---- a term with no projection

@@ -2,18 +2,19 @@
 use mathlib.Core.Path.{◌≡◌, refl, sym, ap, ◌∙◌}
 use mathlib.Core.Bool.{Bool}
 use mathlib.Core.List.{List}
-use Prim.Native.Nat.{ℕ, ◌+◌, ◌-◌, ◌≤◌, ◌<◌}
+use Prim.Native.Nat.{ℕ, ◌+◌, ◌≤◌, ◌<◌}
 use native.Mathlib.Omega.{arith}
 use borrow.Author.Count.{below_more}
 use borrow.Author.Tests.{lt-ltb, ne_eqb}
 use lib.ListN.{length, get_or, set, drop, length-set}
 use lib.Seq.{get_or-set_same, get_or-set_other}
 use Rattle.terms.specs.Words.Tokens.{Area}
-use Rattle.terms.specs.Term.{Term, Parts, var, node}
+use Rattle.terms.specs.Term.{Term, Parts}
+use Rattle.terms.specs.Words.QuestionsContract.{tag_of}
 use Rattle.terms.specs.Words.Held.{span}
-use Rattle.terms.specs.Tree.{error, subs, children, row, tag, class, slot_by}
+use Rattle.terms.specs.Tree.{error, subs, children, row, class, slot_by}
 use Rattle.terms.specs.Words.Arena.{head_of, kids_of, Tree, Parted, Below, RowAt, TagAt, ValueAt, Counts, Frame, Frames, Filled, Overfull, Ordered}
-use Rattle.terms.proofs.Laws.Held.HeldLaws.{head_kind}
+use Rattle.terms.proofs.Laws.Asking.QuestionLaws.{tag_kind}
 use Rattle.terms.proofs.Laws.Normalising.ArenaLaws.{Keeps, tree_kept, parted_kept, parted_over, parted_number, parted_child, tree_kind}
 use Rattle.terms.proofs.Laws.Normalising.ScanLaws.{drop_next, subs_num, subs_sub, subs_end, children_row}
 
@@ -165,21 +166,10 @@ module _ (a : Area) (hs₀ cs₀ : List ℕ) (h c e next : ℕ) where
 
 -- ---- the order of the visits
 
-pub tag_low : (a : Area) (h p k : ℕ) → p ≡ h → k ≡ get_or a.kinds p 0 → k < 2 → TagAt a h k
-unfolding head_kind tag
-tag_low a h p k ep ek lt = record { is = λ hs cs S c t w. go t (tree_kind a hs cs S w (ek ∙ ap (λ (i : ℕ). get_or a.kinds i 0) ep)) }
-  where
-    go : (t : Term) → k ≡ head_kind t → k ≡ tag t
-    go (var v) e = e
-    go (node j ps) e = absurd (omega arith)
-
-pub tag_high : (a : Area) (h p k : ℕ) → p ≡ h → k ≡ get_or a.kinds p 0 → 2 ≤ k → TagAt a h (k - 2)
-unfolding head_kind tag
-tag_high a h p k ep ek le = record { is = λ hs cs S c t w. go t (tree_kind a hs cs S w (ek ∙ ap (λ (i : ℕ). get_or a.kinds i 0) ep)) }
-  where
-    go : (t : Term) → k ≡ head_kind t → k - 2 ≡ tag t
-    go (var v) e = absurd (omega arith)
-    go (node j ps) e = omega arith
+pub tag_at_kind : (a : Area) (h p k r : ℕ) → p ≡ h → k ≡ get_or a.kinds p 0 → r ≡ tag_of k → TagAt a h r
+tag_at_kind a h p k r ep ek er = record {
+  is = λ hs cs S c t w. er ∙ ap tag_of (tree_kind a hs cs S w (ek ∙ ap (λ (i : ℕ). get_or a.kinds i 0) ep)) ∙ tag_kind t;
+}
 
 -- the counts, from the two numbers found
 pub counted : (a : Area) (h n m : ℕ) → (n < 4294967296) × ValueAt a h 1 n → (m < 4294967296) × ValueAt a h 2 m → Counts a h n m

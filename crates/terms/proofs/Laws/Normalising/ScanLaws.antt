@@ -7,11 +7,17 @@ use Prim.Native.Nat.{ℕ, zero, suc, ◌+◌, ◌-◌, ◌≤◌, ◌<◌}
 use native.Mathlib.Decide.{dec_lt}
 use native.Mathlib.Omega.{arith}
 use lib.ListN.{length, get_or, drop, length-drop, get_elem?, get_or-eq_default}
+use Rattle.terms.specs.declared.Origin.{Origin}
+use Rattle.terms.specs.declared.RowWalk.{RowWalk}
+use Rattle.terms.specs.declared.Token.{Token}
 use Rattle.terms.specs.Words.Tokens.{Area}
 use Rattle.terms.specs.Term.{Term, Parts, var, node, end, num, sub}
 use Rattle.terms.specs.Words.Held.{span}
+use Rattle.terms.specs.Words.VirtualTokens.{view}
+use Rattle.terms.specs.Words.RowsContract.{Moves}
 use Rattle.terms.specs.Tree.{error, nums, subs, children, row}
 use Rattle.terms.specs.Words.Arena.{head_of, kids_of, Tree, Parted, RowAt, NumberAt, KeyOf}
+use Rattle.terms.proofs.Laws.Held.HeldLaws.{span_one}
 use Rattle.terms.proofs.Laws.Normalising.ArenaLaws.{parted_over, parted_number, parted_child, tree_row}
 use Rattle.std.specs.Prelude.{Some, None}
 
@@ -84,6 +90,55 @@ module _ (a : Area) (h e q : ℕ) (P : ℕ → Parts → Parts → Type 0) (s : 
             so = f x.passed (row t) y.term y.rest (rw y.is at x.so);
           };
     }
+
+-- ---- a walk over the tokens that are seen
+
+pub record Over (ks vs : List ℕ) (g : Origin) (s : RowWalk) : Type 0 where
+  pub kinds : s.kinds.now ≡ ks
+  pub vals : s.vals.now ≡ vs
+  pub given : s.given ≡ g
+
+module _ (ks vs : List ℕ) (g : Origin) (s : RowWalk) (w : Over ks vs g s) (q : ℕ) (y : Token) (t : RowWalk) (m : Moves s (Some (q, y)) t) where
+  pub over_here : (q ≡ s.at) × (s.at < s.end) × (y.kind ≡ get_or (view ks vs g).kinds s.at 0) × (y.value ≡ get_or (view ks vs g).vals s.at 0)
+  over_here =
+      let e : view s.kinds.now s.vals.now s.given ≡ view ks vs g = rw (w.kinds, w.vals, w.given) refl in
+      (m.0.0, m.0.1, m.0.2 ∙ ap (λ (a : Area). get_or a.kinds s.at 0) e, m.0.3 ∙ ap (λ (a : Area). get_or a.vals s.at 0) e)
+
+  pub over_on : Over ks vs g t
+  over_on = record { kinds = m.2 ∙ w.kinds; vals = m.3 ∙ w.vals; given = m.4 ∙ w.given }
+
+  pub over_width : 1 ≤ span y.kind y.value → t.at - s.at ≡ span y.kind y.value
+  over_width i = omega (arith, m.0.5 i)
+
+  -- behind a child, and behind a number
+  pub over_child : s.at + (t.at - s.at) ≡ t.at
+  over_child = omega (arith, m.0.4)
+
+  pub over_number : y.kind ≡ 0 → s.at + 1 ≡ t.at
+  over_number z =
+      let n = span_one y.kind y.value (omega (arith, z)) in
+      omega (arith, m.0.5 (omega (arith, n)), n)
+
+-- ---- a walk over the row of the term at h, which stands there
+
+pub record Walking (ks vs : List ℕ) (g : Origin) (h : ℕ) (s : RowWalk) (P : ℕ → Parts → Parts → Type 0) : Type 0 where
+  pub scan : Scan (view ks vs g) h s.end s.at P
+  pub over : Over ks vs g s
+
+module _ (ks vs : List ℕ) (g : Origin) (h : ℕ) (s : RowWalk) (P : ℕ → Parts → Parts → Type 0) where
+  pub walk_start : RowAt (view ks vs g) h s.at s.end → (s.kinds.now ≡ ks) × (s.vals.now ≡ vs) × (s.given ≡ g) → ((w : Parts) → P 0 w w) → Walking ks vs g h s P
+  walk_start r e f = record { scan = scan_start (view ks vs g) h s.end s.at P r f; over = record { kinds = e.0; vals = e.1; given = e.2 } }
+
+  module _ (w : Walking ks vs g h s P) (q : ℕ) (y : Token) (t : RowWalk) (m : Moves s (Some (q, y)) t) where
+    pub walk_child : (Q : ℕ → Parts → Parts → Type 0) → Scan (view ks vs g) h s.end (s.at + (t.at - s.at)) Q → Walking ks vs g h t Q
+    walk_child Q x =
+        let e = over_child ks vs g s w.over q y t m in
+        record { scan = rw (m.1) (rw e at x); over = over_on ks vs g s w.over q y t m }
+
+    pub walk_number : y.kind ≡ 0 → (Q : ℕ → Parts → Parts → Type 0) → Scan (view ks vs g) h s.end (s.at + 1) Q → Walking ks vs g h t Q
+    walk_number z Q x =
+        let e = over_number ks vs g s w.over q y t m z in
+        record { scan = rw (m.1) (rw e at x); over = over_on ks vs g s w.over q y t m }
 
 -- ---- the i-th number: the left-th of what is left
 

@@ -1,6 +1,8 @@
 -- The order of `map_children`, by cases.
 use mathlib.Core.Path.{◌≡◌, refl}
 use Prim.Native.Nat.{ℕ, zero, suc, min, ◌+◌, ◌-◌, ◌≤◌, ◌<◌}
+use native.Mathlib.Decide.{dec_lt}
+use native.Mathlib.Omega.{arith}
 use borrow.Author.Tests.{lt-ltb, le-ltb, eq-eqb, ne_eqb}
 use Rattle.terms.specs.Tree.{nominal_slot, projection_slot, class, slot_by}
 
@@ -9,13 +11,13 @@ module _ (k : ℕ) where
   unfolding class
   class_projection e = rw (eq-eqb k 18 e)
 
-  pub class_low : (k ≡ 18 → ⊥) → k < 12 → 0 ≡ class k
+  pub class_plain : (k ≡ 18 → ⊥) → (12 ≤ k → 15 < k) → 0 ≡ class k
   unfolding class
-  class_low e l = rw (ne_eqb k 18 e, lt-ltb k 12 l)
-
-  pub class_high : (k ≡ 18 → ⊥) → 12 ≤ k → 15 < k → 0 ≡ class k
-  unfolding class
-  class_high e l h = rw (ne_eqb k 18 e, le-ltb k 12 l, lt-ltb 15 k h)
+  class_plain e h = go (dec_lt k 12)
+    where
+      go : Dec (k < 12) → 0 ≡ class k
+      go (yes l) = rw (ne_eqb k 18 e, lt-ltb k 12 l)
+      go (no l) = let m : 12 ≤ k = omega arith in rw (ne_eqb k 18 e, le-ltb k 12 m, lt-ltb 15 k (h m))
 
   pub class_nominal : (k ≡ 18 → ⊥) → 12 ≤ k → k ≤ 15 → 1 ≡ class k
   unfolding class

@@ -4,7 +4,8 @@ use mathlib.Core.Bool.{Bool, true, false, ◌&&◌}
 use mathlib.Core.List.{List, [], ◌∷◌}
 use mathlib.Core.Option as math
 use mathlib.Core.Option.{none, some}
-use Prim.Native.Nat.{ℕ, zero, suc, ◌+◌, ◌-◌, ◌≤◌, ◌<◌}
+use Prim.Native.Nat.{ℕ, zero, suc, min, max, ◌+◌, ◌-◌, ◌≤◌, ◌<◌}
+use native.Mathlib.Decide.{dec_lt, ℕ_discrete}
 use native.Mathlib.Numerals.{sub-one}
 use native.Mathlib.Omega.{arith}
 use borrow.Author.Tests.{eq-eqb, ne_eqb, eqb-false, lt-ltb, le-ltb, ltb-false}
@@ -37,6 +38,14 @@ module _ (room s : ℕ) where
   pub clip_span : (s ≡ 0 → ⊥) → s ≤ room → s ≡ clip room s
   unfolding clip
   clip_span z h = rw (ne_eqb s 0 z, le-ltb room s h)
+
+  pub clip_clamp : 1 ≤ room → max 1 (min s room) ≡ clip room s
+  clip_clamp h = go (dec_lt room s) (ℕ_discrete s 0)
+    where
+      go : Dec (room < s) → Dec (s ≡ 0) → max 1 (min s room) ≡ clip room s
+      go l (yes z) = omega arith ∙ clip_none z
+      go (yes l) (no z) = omega arith ∙ clip_room z l
+      go (no l) (no z) = omega arith ∙ clip_span z (omega arith)
 
   pub clip_within : 1 ≤ room → (1 ≤ clip room s) × (clip room s ≤ room)
   unfolding clip

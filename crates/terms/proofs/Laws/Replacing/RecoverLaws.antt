@@ -22,7 +22,7 @@ use Rattle.terms.specs.Words.Tokens.{spell}
 use Rattle.terms.specs.Comparison.{recovery}
 use Rattle.terms.specs.Recovery.{recover_from, recover_row, reach, nominal_reach, parts}
 use Rattle.terms.specs.Words.RecoverContract.{put_if, Put, upto, alike, Parted, no_left, no_right, number_term, term_number}
-use Rattle.terms.proofs.Laws.General.Bools.{never_true, never_false, and-false, or-true, or_right, or-false, or-none}
+use Rattle.terms.proofs.Laws.General.Bools.{never_true, never_false, and-false}
 use Rattle.terms.proofs.Laws.Format.WriteLaws.{sets_append, held_bytes, spell_step, spelt_add}
 use Rattle.terms.specs.Shape as shape
 use Rattle.terms.specs.Shape.{Shape, Meaning, kind_of, many_terms, many_members, nominal, layout}
@@ -31,7 +31,7 @@ use Rattle.terms.proofs.Laws.Held.HeldLaws.{head_kind, held_num, held_sub, items
 use Rattle.terms.proofs.Laws.Held.SameLaws.{span_held}
 use Rattle.terms.proofs.Laws.Format.ShapeLaws.{More, some_done}
 use Rattle.terms.proofs.Laws.Asking.ConflictLaws.{passed}
-use Rattle.terms.proofs.Laws.Asking.QuestionLaws.{among_split, tag_kind, word_in, number_inside}
+use Rattle.terms.proofs.Laws.Asking.QuestionLaws.{tag_kind, word_in, number_inside}
 
 -- ---- writing piece by piece
 
@@ -427,20 +427,6 @@ module _ (ps qs : Parts) (a : NominalRow ps) (b : NominalRow qs) where
           two d n x = let e : 2 + n ≡ suc (suc n) = omega arith in ap (λ (c : ℕ). upto c (num d (num n x))) e
 
 -- ---- how far a term is recovered, by its tag
-
--- a list of four tags
-four : (n a b c d : ℕ) → among n (a ∷ b ∷ c ∷ d ∷ []) ≡ (among n (a ∷ b ∷ c ∷ []) || eqb n d)
-unfolding among
-four n a b c d = among_split n a b c (d ∷ []) ∙ ap (λ (x : Bool). among n (a ∷ b ∷ c ∷ []) || x) (or-none (eqb n d))
-
-pub four_left : (n a b c d : ℕ) → among n (a ∷ b ∷ c ∷ []) ≡ true → among n (a ∷ b ∷ c ∷ d ∷ []) ≡ true
-four_left n a b c d h = four n a b c d ∙ or-true (among n (a ∷ b ∷ c ∷ [])) (eqb n d) h
-
-pub four_last : (n a b c d : ℕ) → n ≡ d → among n (a ∷ b ∷ c ∷ d ∷ []) ≡ true
-four_last n a b c d h = four n a b c d ∙ or_right (among n (a ∷ b ∷ c ∷ [])) (eqb n d) (eq-eqb n d h)
-
-pub four_none : (n a b c d : ℕ) → among n (a ∷ b ∷ c ∷ []) ≡ false → (n ≡ d → ⊥) → among n (a ∷ b ∷ c ∷ d ∷ []) ≡ false
-four_none n a b c d h k = four n a b c d ∙ or-false (among n (a ∷ b ∷ c ∷ [])) (eqb n d) h ∙ ne_eqb n d k
 
 module _ (t u : Term) where
   pub reach_differ : (tag t ≡ tag u → ⊥) → reach t u ≡ 0

@@ -1,5 +1,6 @@
 -- `same_rows`. Invariant: the whole begins with the other where what is left does.
 -- `same_trees`. By the first tokens, and then all tokens, or the rows.
+use mathlib.Core.Path.{refl}
 use Rattle.terms.proofs.Laws.Normalising.AlikeLaws.{meeting_start, meeting_done, meeting_short, meeting_child, meeting_apart, meeting_number, meeting_other, meeting_differ, meeting_same, alike_none, alike_kinds, alike_vars, lent_true, alike_lent, alike_rows, alike_ends}
 use Rattle.terms.proofs.Laws.Normalising.SourceLaws.{lent_first}
 use borrow.Author.Tests.{not-true, not-false}
@@ -155,26 +156,26 @@ pub same_trees-returns-then-s-t : goal.same_trees-returns-then-s-t
 same_trees-returns-then-s-t t c =
     let token-at' = c.token_at-s in
     let token-at2' = c.token_at-t in
-    alike_kinds _ _ _ _ _ _ _ _ c.wide.ensures c.wide-2.ensures
+    alike_kinds _ _ _ _ _ _ _ _ refl refl
     token-at'.ensures.kind token-at'.ensures.value token-at2'.ensures.kind token-at2'.ensures.value c.if-s-t.true
 
 pub same_trees-returns-then-s-eq1 : goal.same_trees-returns-then-s-eq1
 same_trees-returns-then-s-eq1 t c =
     let token-at' = c.token_at-s in
     let token-at2' = c.token_at-t in
-    alike_vars _ _ _ _ _ _ _ _ c.wide.ensures c.wide-2.ensures
+    alike_vars _ _ _ _ _ _ _ _ refl refl
     token-at'.ensures.kind token-at'.ensures.value token-at2'.ensures.kind token-at2'.ensures.value c.if-s-t.false c.if-s-eq1.true
 
 pub same_trees-same_term-requires : goal.same_trees-same_term-requires
 same_trees-same_term-requires t c =
     let l = lent_true c.args.kinds.now c.args.vals.now c.args.x _ c.is_lent.ensures c.if-is_lent.true in
     let m = lent_true c.args.kinds.now c.args.vals.now c.args.y _ c.is_lent-then-is_lent.ensures c.if-is_lent-2.true in
-    (rw c.wide-then-is_lent-2.ensures (lent_first c.args.kinds.now c.args.vals.now c.args.x.head l.1), rw c.wide-then-is_lent-2-2.ensures (lent_first c.args.kinds.now c.args.vals.now c.args.y.head m.1), c.requires.pairs)
+    (lent_first c.args.kinds.now c.args.vals.now c.args.x.head l.1, lent_first c.args.kinds.now c.args.vals.now c.args.y.head m.1, c.requires.pairs)
 
 pub same_trees-returns-then-is_lent-2 : goal.same_trees-returns-then-is_lent-2
 same_trees-returns-then-is_lent-2 t c =
     alike_lent c.args.kinds.now c.args.vals.now c.args.g c.requires c.args.heads.now c.args.kids.now c.args.x c.args.y c.args.fuel _ _
-    c.wide-then-is_lent-2.ensures c.wide-then-is_lent-2-2.ensures (lent_true c.args.kinds.now c.args.vals.now c.args.x _ c.is_lent.ensures c.if-is_lent.true) (lent_true c.args.kinds.now c.args.vals.now c.args.y _ c.is_lent-then-is_lent.ensures c.if-is_lent-2.true)
+    refl refl (lent_true c.args.kinds.now c.args.vals.now c.args.x _ c.is_lent.ensures c.if-is_lent.true) (lent_true c.args.kinds.now c.args.vals.now c.args.y _ c.is_lent-then-is_lent.ensures c.if-is_lent-2.true)
     _ c.same_term.ensures
 
 pub same_trees-cursor-a-requires : goal.same_trees-cursor-a-requires
@@ -196,8 +197,8 @@ pub same_trees-returns-in_default : goal.same_trees-returns-in_default
 same_trees-returns-in_default t c =
     let token-at' = c.token_at-s in
     let token-at2' = c.token_at-t in
-    alike_rows _ _ _ _ _ _ _ _ c.wide.ensures
-    c.wide-2.ensures token-at'.ensures.kind token-at'.ensures.value
+    alike_rows _ _ _ _ _ _ _ _ refl
+    refl token-at'.ensures.kind token-at'.ensures.value
     token-at2'.ensures.kind token-at2'.ensures.value c.if-s-t.false c.if-s-eq1.false
     _ _ c.cursor-a.ensures c.cursor-b.ensures _ (omega (arith, c.if-fuel-eq0.false))
     (rw c.in_default.is at c.same_rows-m.ensures)
@@ -206,8 +207,8 @@ pub same_trees-returns : goal.same_trees-returns
 same_trees-returns t c =
     let token-at' = c.token_at-s in
     let token-at2' = c.token_at-t in
-    alike_ends _ _ _ _ _ _ _ _ c.wide.ensures
-    c.wide-2.ensures token-at'.ensures.kind
+    alike_ends _ _ _ _ _ _ _ _ refl
+    refl token-at'.ensures.kind
     token-at'.ensures.value token-at2'.ensures.kind token-at2'.ensures.value c.if-s-t.false
     c.if-s-eq1.false _ _ c.cursor-a.ensures c.cursor-b.ensures
     _ (omega (arith, c.if-fuel-eq0.false))

@@ -8,20 +8,20 @@ use Rattle.terms.proofs.Laws.Asking.ConflictLaws.{next_terms, step_left, step_ri
 use Rattle.terms.proofs.Laws.General.Bools.{not-true, not-false}
 use Rattle.terms.proofs.compare.pair_terms.Goals as goal
 
-pub returns-then-is_one : goal.returns-then-is_one
-returns-then-is_one c = record {
+pub returns-then-yields : goal.returns-then-yields
+returns-then-yields c = record {
   forward = c.past.ensures.forward;
   stepped = λ w x.
       let n = next_terms _ _ _ _ _ _ w x c.requires.0 c.requires.2 (λ e. omega (arith, c.requires.5)) (λ e. omega (arith, c.requires.6)) in
-      step_left _ _ _ _ _ _ w n (ap (λ (m : ℕ). among m (1 ∷ 4 ∷ 5 ∷ [])) (sym c.word-k.ensures) ∙ sym c.is_one.ensures ∙ c.if-is_one.true) c.past.result (c.past.ensures.passed n.t n.u n.ps n.qs n.row_left n.row_right);
+      step_left _ _ _ _ _ _ w n (ap (λ (m : ℕ). among m (1 ∷ 4 ∷ 5 ∷ [])) (sym c.word-k.ensures) ∙ sym c.yields.ensures ∙ c.if-yields.true) c.past.result (c.past.ensures.passed n.t n.u n.ps n.qs n.row_left n.row_right);
 }
 
-pub returns-then-is_one-2 : goal.returns-then-is_one-2
-returns-then-is_one-2 c = record {
-  forward = c.past-then-is_one-2.ensures.forward;
+pub returns-then-yields-2 : goal.returns-then-yields-2
+returns-then-yields-2 c = record {
+  forward = c.past-then-yields-2.ensures.forward;
   stepped = λ w x.
       let n = next_terms _ _ _ _ _ _ w x c.requires.0 c.requires.2 (λ e. omega (arith, c.requires.5)) (λ e. omega (arith, c.requires.6)) in
-      step_right _ _ _ _ _ _ w n (ap (λ (m : ℕ). among m (1 ∷ 4 ∷ 5 ∷ [])) (sym c.word-l.ensures) ∙ sym c.is_one-2.ensures ∙ c.if-is_one-2.true) c.past-then-is_one-2.result (c.past-then-is_one-2.ensures.passed n.t n.u n.ps n.qs n.row_left n.row_right);
+      step_right _ _ _ _ _ _ w n (ap (λ (m : ℕ). among m (1 ∷ 4 ∷ 5 ∷ [])) (sym c.word-l.ensures) ∙ sym c.yields-2.ensures ∙ c.if-yields-2.true) c.past-then-yields-2.result (c.past-then-yields-2.ensures.passed n.t n.u n.ps n.qs n.row_left n.row_right);
 }
 
 pub returns-then-k-l : goal.returns-then-k-l
@@ -29,7 +29,7 @@ returns-then-k-l c = record {
   forward = tt;
   stepped = λ w x.
       let n = next_terms _ _ _ _ _ _ w x c.requires.0 c.requires.2 (λ e. omega (arith, c.requires.5)) (λ e. omega (arith, c.requires.6)) in
-      step_kinds _ _ _ _ _ _ w n (ap (λ (m : ℕ). among m (1 ∷ 4 ∷ 5 ∷ [])) (sym c.word-k.ensures) ∙ sym c.is_one.ensures ∙ c.if-is_one.false) (ap (λ (m : ℕ). among m (1 ∷ 4 ∷ 5 ∷ [])) (sym c.word-l.ensures) ∙ sym c.is_one-2.ensures ∙ c.if-is_one-2.false) (λ z. c.if-k-l.true (c.word-k.ensures ∙ z ∙ sym c.word-l.ensures));
+      step_kinds _ _ _ _ _ _ w n (ap (λ (m : ℕ). among m (1 ∷ 4 ∷ 5 ∷ [])) (sym c.word-k.ensures) ∙ sym c.yields.ensures ∙ c.if-yields.false) (ap (λ (m : ℕ). among m (1 ∷ 4 ∷ 5 ∷ [])) (sym c.word-l.ensures) ∙ sym c.yields-2.ensures ∙ c.if-yields-2.false) (λ z. c.if-k-l.true (c.word-k.ensures ∙ z ∙ sym c.word-l.ensures));
 }
 
 pub returns-then-not-same_term : goal.returns-then-not-same_term
@@ -37,7 +37,7 @@ returns-then-not-same_term c = record {
   forward = tt;
   stepped = λ w x.
       let n = next_terms _ _ _ _ _ _ w x c.requires.0 c.requires.2 (λ e. omega (arith, c.requires.5)) (λ e. omega (arith, c.requires.6)) in
-      step_projections _ _ _ _ _ _ w n (ap (λ (m : ℕ). among m (1 ∷ 4 ∷ 5 ∷ [])) (sym c.word-k.ensures) ∙ sym c.is_one.ensures ∙ c.if-is_one.false) (ap (λ (m : ℕ). among m (1 ∷ 4 ∷ 5 ∷ [])) (sym c.word-l.ensures) ∙ sym c.is_one-2.ensures ∙ c.if-is_one-2.false) (sym c.word-k.ensures ∙ c.if-k-l.false ∙ c.word-l.ensures) (sym c.word-k.ensures ∙ c.if-k-eq20.true) (sym (c.same_term.ensures n.t n.u n.held_left n.held_right) ∙ not-true _ c.if-not-same_term.true-raw);
+      step_projections _ _ _ _ _ _ w n (ap (λ (m : ℕ). among m (1 ∷ 4 ∷ 5 ∷ [])) (sym c.word-k.ensures) ∙ sym c.yields.ensures ∙ c.if-yields.false) (ap (λ (m : ℕ). among m (1 ∷ 4 ∷ 5 ∷ [])) (sym c.word-l.ensures) ∙ sym c.yields-2.ensures ∙ c.if-yields-2.false) (sym c.word-k.ensures ∙ c.if-k-l.false ∙ c.word-l.ensures) (sym c.word-k.ensures ∙ c.if-k-eq20.true) (sym (c.same_term.ensures n.t n.u n.held_left n.held_right) ∙ not-true _ c.if-not-same_term.true-raw);
 }
 
 pub returns-then-k-eq20 : goal.returns-then-k-eq20
@@ -45,7 +45,7 @@ returns-then-k-eq20 c = record {
   forward = c.past-then-k-eq20.ensures.forward;
   stepped = λ w x.
       let n = next_terms _ _ _ _ _ _ w x c.requires.0 c.requires.2 (λ e. omega (arith, c.requires.5)) (λ e. omega (arith, c.requires.6)) in
-      step_whole _ _ _ _ _ _ w n (ap (λ (m : ℕ). among m (1 ∷ 4 ∷ 5 ∷ [])) (sym c.word-k.ensures) ∙ sym c.is_one.ensures ∙ c.if-is_one.false) (ap (λ (m : ℕ). among m (1 ∷ 4 ∷ 5 ∷ [])) (sym c.word-l.ensures) ∙ sym c.is_one-2.ensures ∙ c.if-is_one-2.false) (sym c.word-k.ensures ∙ c.if-k-l.false ∙ c.word-l.ensures) (sym c.word-k.ensures ∙ c.if-k-eq20.true) (sym (c.same_term.ensures n.t n.u n.held_left n.held_right) ∙ not-false _ c.if-not-same_term.false-raw) c.past-then-k-eq20.result (c.past-then-k-eq20.ensures.passed n.t n.u n.ps n.qs n.row_left n.row_right);
+      step_whole _ _ _ _ _ _ w n (ap (λ (m : ℕ). among m (1 ∷ 4 ∷ 5 ∷ [])) (sym c.word-k.ensures) ∙ sym c.yields.ensures ∙ c.if-yields.false) (ap (λ (m : ℕ). among m (1 ∷ 4 ∷ 5 ∷ [])) (sym c.word-l.ensures) ∙ sym c.yields-2.ensures ∙ c.if-yields-2.false) (sym c.word-k.ensures ∙ c.if-k-l.false ∙ c.word-l.ensures) (sym c.word-k.ensures ∙ c.if-k-eq20.true) (sym (c.same_term.ensures n.t n.u n.held_left n.held_right) ∙ not-false _ c.if-not-same_term.false-raw) c.past-then-k-eq20.result (c.past-then-k-eq20.ensures.passed n.t n.u n.ps n.qs n.row_left n.row_right);
 }
 
 pub returns : goal.returns
@@ -53,5 +53,5 @@ returns c = record {
   forward = omega arith;
   stepped = λ w x.
       let n = next_terms _ _ _ _ _ _ w x c.requires.0 c.requires.2 (λ e. omega (arith, c.requires.5)) (λ e. omega (arith, c.requires.6)) in
-      step_enter _ _ _ _ _ _ w n (ap (λ (m : ℕ). among m (1 ∷ 4 ∷ 5 ∷ [])) (sym c.word-k.ensures) ∙ sym c.is_one.ensures ∙ c.if-is_one.false) (ap (λ (m : ℕ). among m (1 ∷ 4 ∷ 5 ∷ [])) (sym c.word-l.ensures) ∙ sym c.is_one-2.ensures ∙ c.if-is_one-2.false) (sym c.word-k.ensures ∙ c.if-k-l.false ∙ c.word-l.ensures) (λ z. c.if-k-eq20.false (c.word-k.ensures ∙ z));
+      step_enter _ _ _ _ _ _ w n (ap (λ (m : ℕ). among m (1 ∷ 4 ∷ 5 ∷ [])) (sym c.word-k.ensures) ∙ sym c.yields.ensures ∙ c.if-yields.false) (ap (λ (m : ℕ). among m (1 ∷ 4 ∷ 5 ∷ [])) (sym c.word-l.ensures) ∙ sym c.yields-2.ensures ∙ c.if-yields-2.false) (sym c.word-k.ensures ∙ c.if-k-l.false ∙ c.word-l.ensures) (λ z. c.if-k-eq20.false (c.word-k.ensures ∙ z));
 }

@@ -4,4 +4,4 @@ use Rattle.terms.proofs.Laws.Asking.ConflictLaws.{passed}
 use Rattle.terms.proofs.compare.past.Goals as goal
 
 pub returns : goal.returns
-returns c = record { forward = omega arith; passed = λ t u ps qs ht hu. (passed _ _ _ _ _ t ps ht c.skip-n.ensures.2, passed _ _ _ _ _ u qs hu c.skip-m.ensures.2) }
+returns c = record { forward = omega arith; passed = λ t u ps qs ht hu. (passed _ _ _ _ _ t ps ht c.skip-n.ensures.span, passed _ _ _ _ _ u qs hu c.skip-m.ensures.span) }

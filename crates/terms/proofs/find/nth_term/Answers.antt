@@ -16,13 +16,13 @@ overflow_add-i c =
     let a = c.args in
     let i = c.loop-k.i in
     let room = length a.kinds.now - i in
-    omega (arith, c.stride-i.ensures, clip_within room (span (get_or a.kinds.now i 0) (get_or a.vals.now i 0)) (omega arith))
+    omega (arith, c.skip-i.ensures.is, clip_within room (span (get_or a.kinds.now i 0) (get_or a.vals.now i 0)) (omega arith))
 
 pub loop-k-preserved : goal.loop-k-preserved
 loop-k-preserved c =
     let a = c.args in
     let l = c.loop-k in
-    rw (sub_step a.n l.k) (ap (λ (x : ℕ). nth_at a.kinds.now a.vals.now (a.n - l.k - 1) (l.i + x)) c.stride-i.ensures ∙ nth_more a.kinds.now a.vals.now (a.n - l.k) l.i (omega arith) c.if-kinds-i.false ∙ l.invariant)
+    rw (sub_step a.n l.k) (ap (λ (x : ℕ). nth_at a.kinds.now a.vals.now (a.n - l.k - 1) (l.i + x)) c.skip-i.ensures.is ∙ nth_more a.kinds.now a.vals.now (a.n - l.k) l.i (omega arith) c.if-kinds-i.false ∙ l.invariant)
 
 pub returns-then-i-kinds : goal.returns-then-i-kinds
 returns-then-i-kinds c = nth_here _ _ _ _ (omega arith) c.if-i-kinds.true ∙ c.loop-k.invariant

@@ -1,7 +1,6 @@
 -- `output`. The member is known, or not.
 use mathlib.Core.Path.{sym, ap, ◌∙◌}
-use Prim.Native.Nat.{ℕ, ◌+◌, ◌*◌}
-use lib.ListN.{length}
+use Prim.Native.Nat.{ℕ}
 use Rattle.terms.specs.Term.{Parts}
 use Rattle.terms.specs.Normal.{member_from}
 use Rattle.terms.proofs.Laws.Normalising.InterfaceLaws.{row_node, interface_tree, made_tree, output_known, output_made}
@@ -29,4 +28,4 @@ returns c =
     let z = ap (λ (n : ℕ). member_from 0 n i) (sym token-at'.ensures.value) ∙ e in
     rw (output_made owner i _ z) (made_tree c.args.kinds.now c.args.vals.now c.args.g c.requires i owner h c.args.heads.now
     c.args.kids.now S _ _ _ _ lent-place'.ensures k
-    (c.source-2.ensures.0 ∙ ap (λ (n : ℕ). length c.args.kinds.now + 1 + lent-place'.result * n) c.wide.ensures) c.source-2.ensures.1)
+    c.source-2.ensures.0 c.source-2.ensures.1)

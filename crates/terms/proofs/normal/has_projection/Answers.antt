@@ -1,11 +1,11 @@
+use mathlib.Core.Path.{refl}
 use native.Mathlib.Omega.{arith}
 use Rattle.terms.proofs.Laws.Normalising.NormalLaws.{scanning_start, scanning_none, scanning_found, scanning_next}
 use Rattle.terms.proofs.normal.has_projection.Goals as goal
 
 pub loop-q-init : goal.loop-q-init
 loop-q-init c =
-    let wide' = c.wide-from in
-    scanning_start _ _ _ _ _ wide'.ensures (omega (arith, wide'.ensures)) (omega (arith, c.step.ensures.some)) c.word.ensures c.word-2.ensures
+    scanning_start _ _ _ _ _ refl (omega arith) (omega (arith, c.step.ensures.some)) c.word.ensures c.word-2.ensures
     c.step.ensures.span
 
 pub returns-then-word-eq20 : goal.returns-then-word-eq20

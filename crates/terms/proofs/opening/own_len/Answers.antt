@@ -1,36 +1,46 @@
-use Prim.Native.Nat.{ℕ}
 use native.Mathlib.Omega.{arith}
-use mathlib.Core.Path.{ap, ◌∙◌}
-use lib.ListN.{get_or}
 use Rattle.terms.specs.Words.VirtualTokens.{view}
+use Rattle.terms.proofs.Laws.Normalising.ScanLaws.{over_here, over_on, over_width, over_child, over_number}
 use Rattle.terms.proofs.Laws.Normalising.SumLaws.{token_few, owning_start, owning_number, owning_child, owning_done}
 use Rattle.terms.proofs.opening.own_len.Goals as goal
 
-pub loop-q-init : goal.loop-q-init
-loop-q-init c = owning_start _ _ _ _ _ c.row_of-part.ensures (token_few _ _ _ c.token_len-n.ensures (omega arith))
+pub loop-y-init : goal.loop-y-init
+loop-y-init c =
+    let e = c.walk_row-y-items.ensures in
+    rw c.into_iter-y-iterator.ensures.into_iter_gives (
+      owning_start _ _ _ _ _ e.row (token_few _ _ _ c.token_len-n.ensures (omega arith)),
+      record { kinds = e.tokens.0; vals = e.tokens.1; given = e.tokens.2 },
+    )
 
 pub overflow_add-n : goal.overflow_add-n
 overflow_add-n c =
-    let l = c.loop-q in
-    omega (arith, l.invariant.few, l.invariant.scan.small, token_few _ _ _ c.token_len-n-then-y-eq0.ensures (omega arith))
+    let i = c.loop-y.invariant.0 in
+    omega (arith, i.few, i.scan.small, c.in-Some.ensures.steps.0.1, token_few _ _ _ c.token_len-n-then-y-eq0.ensures (omega arith))
 
-pub loop-q-preserved-then-y-eq0 : goal.loop-q-preserved-then-y-eq0
-loop-q-preserved-then-y-eq0 c =
-    let token-at' = c.token_at-y in
-    owning_number _ _ _ _ _ _ c.loop-q.invariant c.loop-q-test.true token-at'.ensures.kind
-    token-at'.ensures.value c.if-y-eq0.true (omega arith) c.token_len-n-then-y-eq0.ensures
+pub loop-y-preserved-then-y-eq0 : goal.loop-y-preserved-then-y-eq0
+loop-y-preserved-then-y-eq0 c =
+    let i = c.loop-y.invariant in
+    let s = c.in-Some.ensures.steps in
+    let t = c.next.new.self in
+    let m = over_here _ _ _ _ i.1 _ _ t s in (
+      rw (s.1) (rw (over_number _ _ _ _ i.1 _ _ t s c.if-y-eq0.true) at (owning_number _ _ _ _ _ _ i.0 m.1 m.2 m.3 c.if-y-eq0.true (omega arith) c.token_len-n-then-y-eq0.ensures)),
+      over_on _ _ _ _ i.1 _ _ t s,
+    )
 
-pub loop-q-preserved : goal.loop-q-preserved
-loop-q-preserved c =
-    let token-at' = c.token_at-y in
-    owning_child _ _ _ _ _ _ c.loop-q.invariant c.loop-q-test.true token-at'.ensures.kind
-    token-at'.ensures.value c.if-y-eq0.false _ c.step-q.ensures.span
+pub loop-y-preserved : goal.loop-y-preserved
+loop-y-preserved c =
+    let i = c.loop-y.invariant in
+    let s = c.in-Some.ensures.steps in
+    let t = c.next.new.self in
+    let m = over_here _ _ _ _ i.1 _ _ t s in (
+      rw (s.1) (rw (over_child _ _ _ _ i.1 _ _ t s) at (owning_child _ _ _ _ _ _ i.0 m.1 m.2 m.3 c.if-y-eq0.false _ (over_width _ _ _ _ i.1 _ _ t s))),
+      over_on _ _ _ _ i.1 _ _ t s,
+    )
 
 pub returns : goal.returns
 returns c =
     let a = view c.args.kinds.now c.args.vals.now c.args.g in
     let token-at' = c.token_at-x in
-    let wide' = c.wide.ensures in
-    let z = owning_done a c.args.h _ _ _ _ c.loop-q.invariant c.loop-q-test.false (token-at'.ensures.kind ∙ ap (λ (p : ℕ). get_or a.kinds p 0) wide')
-    (token-at'.ensures.value ∙ ap (λ (p : ℕ). get_or a.vals p 0) wide') c.token_len-n.ensures in
+    let z = owning_done a c.args.h _ _ _ _ c.loop-y.invariant.0 c.in-None.ensures.steps.0.0 token-at'.ensures.kind
+    token-at'.ensures.value c.token_len-n.ensures in
     record { bound = z.1; own = z.0 }

@@ -1,19 +1,24 @@
 -- `unresolved`: by the tag.
 use mathlib.Core.Path.{sym, ◌∙◌}
-use Rattle.terms.proofs.Laws.Asking.QuestionLaws.{failing, own_self, projected, binder, known, no_parameters, absent}
+use mathlib.Core.List.{[], ◌∷◌}
+use native.Mathlib.Omega.{arith}
+use Rattle.terms.proofs.Laws.Asking.QuestionLaws.{among_in, among_out, failing, projected, binder, known, no_parameters, absent}
 use Rattle.terms.proofs.questions.unresolved.Goals as goal
 
-pub returns-then-is_one : goal.returns-then-is_one
-returns-then-is_one c = λ ps n h. failing ps _ _ _ (sym c.is_one.ensures ∙ c.if-is_one.true)
+pub returns-in-1 : goal.returns-in-1
+returns-in-1 c = λ ps n h. failing ps _ _ _ (among_in _ (1 ∷ 2 ∷ 3 ∷ 19 ∷ []) (λ x. omega (arith, x)))
 
-pub returns-then-tag-eq19 : goal.returns-then-tag-eq19
-returns-then-tag-eq19 c = λ ps n h. own_self ps _ _ _ c.if-tag-eq19.true
+pub returns-in-1-2 : goal.returns-in-1-2
+returns-in-1-2 c = λ ps n h. failing ps _ _ _ (among_in _ (1 ∷ 2 ∷ 3 ∷ 19 ∷ []) (λ x. omega (arith, x)))
 
-pub returns-then-tag-eq18 : goal.returns-then-tag-eq18
-returns-then-tag-eq18 c = λ ps n h. no_parameters _ _ _ ps n h ∙ sym (projected ps _ _ _ c.if-tag-eq18.true)
+pub returns-in-18 : goal.returns-in-18
+returns-in-18 c = λ ps n h. no_parameters _ _ _ ps n h ∙ sym (projected ps _ _ _ c.in-18.is)
 
-pub returns-then-tag-ne17 : goal.returns-then-tag-ne17
-returns-then-tag-ne17 c = λ ps n h. known ps _ _ _ (sym c.is_one.ensures ∙ c.if-is_one.false) c.if-tag-eq19.false c.if-tag-eq18.false c.if-tag-ne17.true
+pub returns-in-17 : goal.returns-in-17
+returns-in-17 c = λ ps n h. (rw (c.from.ensures, c.from-in-17.ensures) at (absent _ ps n _ h _ c.find_parameter.ensures _ c.is_none.ensures)) ∙ sym (binder ps _ _ _ c.in-17.is)
 
-pub returns : goal.returns
-returns c = λ ps n h. (rw (c.from.ensures, c.from-2.ensures) at (absent _ ps n _ h _ c.find_parameter.ensures _ c.is_none.ensures)) ∙ sym (binder ps _ _ _ c.if-tag-ne17.false)
+pub returns-in_default : goal.returns-in_default
+returns-in_default c = λ ps n h. known ps _ _ _ (among_out _ (1 ∷ 2 ∷ 3 ∷ 19 ∷ []) (λ x. omega (arith, x))) (λ e. omega arith) (λ e. omega arith)
+
+pub returns-in_default-2 : goal.returns-in_default-2
+returns-in_default-2 c = λ ps n h. known ps _ _ _ (among_out _ (1 ∷ 2 ∷ 3 ∷ 19 ∷ []) (λ x. omega (arith, x))) (λ e. omega arith) (λ e. omega arith)

@@ -1,11 +1,9 @@
 -- `recover_row`. The loop's invariant is `RecoverContract`: what was written, and what the rest of the rows gives.
 -- `recover_term`: the holes of either term, or the head and the rows.
 use Prim.Native.Nat.{◌-◌, ℕ, ◌%◌}
-use Rattle.terms.proofs.Laws.Asking.QuestionLaws.{among_two}
 use Rattle.terms.proofs.Laws.Held.FlatLaws.{held_one}
 use Rattle.terms.proofs.Laws.Replacing.RecoverLaws.{put_none, recover_stays, stays_parted, recover_number, both_terms, recover_both, told_row, put_one, put_then, put_same, tag_told, whole_bytes, stays_first, stays_not, hole_left, entered_term, head_byte, row_any, row_formed}
 use Rattle.terms.specs.Comparison.{recovery}
-use Rattle.terms.specs.Questions.{among}
 use Rattle.terms.specs.Recovery.{recover_row, recover_from, reach}
 use Rattle.terms.specs.Term.{part_bytes, bytes}
 use Rattle.terms.specs.Tree.{tag, row}
@@ -58,33 +56,33 @@ pub recover_row-skip-m-requires : goal.recover_row-skip-m-requires
 recover_row-skip-m-requires t c = (omega (arith, c.paired.ensures.on c.loop-out-test.true, c.loop-out.invariant.0, c.loop-out.invariant.1, c.loop-out.invariant.2, c.requires.places), c.requires.places.5, omega (arith, c.paired.ensures.on c.loop-out-test.true, c.loop-out.invariant.0, c.loop-out.invariant.1, c.loop-out.invariant.2, c.requires.places))
 
 pub recover_row-overflow_add-i-else-word-eq0 : goal.recover_row-overflow_add-i-else-word-eq0
-recover_row-overflow_add-i-else-word-eq0 t c = omega (arith, c.paired.ensures.on c.loop-out-test.true, c.loop-out.invariant.0, c.loop-out.invariant.1, c.loop-out.invariant.2, c.requires.places, c.skip-n.ensures.1)
+recover_row-overflow_add-i-else-word-eq0 t c = omega (arith, c.paired.ensures.on c.loop-out-test.true, c.loop-out.invariant.0, c.loop-out.invariant.1, c.loop-out.invariant.2, c.requires.places, c.skip-n.ensures.some.1)
 
 pub recover_row-overflow_add-j-else-word-eq0 : goal.recover_row-overflow_add-j-else-word-eq0
-recover_row-overflow_add-j-else-word-eq0 t c = omega (arith, c.paired.ensures.on c.loop-out-test.true, c.loop-out.invariant.0, c.loop-out.invariant.1, c.loop-out.invariant.2, c.requires.places, c.skip-m.ensures.1)
+recover_row-overflow_add-j-else-word-eq0 t c = omega (arith, c.paired.ensures.on c.loop-out-test.true, c.loop-out.invariant.0, c.loop-out.invariant.1, c.loop-out.invariant.2, c.requires.places, c.skip-m.ensures.some.1)
 
 pub recover_row-recover_term-to-requires : goal.recover_row-recover_term-to-requires
-recover_row-recover_term-to-requires t c = (omega (arith, c.paired.ensures.on c.loop-out-test.true, c.loop-out.invariant.0, c.loop-out.invariant.1, c.loop-out.invariant.2, c.requires.places, c.skip-n.ensures.0, c.skip-n.ensures.1), ((omega (arith, c.paired.ensures.on c.loop-out-test.true, c.skip-n.ensures.0), omega (arith, c.paired.ensures.on c.loop-out-test.true, c.loop-out.invariant.0, c.loop-out.invariant.1, c.loop-out.invariant.2, c.requires.places, c.skip-n.ensures.1), omega (arith, c.paired.ensures.on c.loop-out-test.true, c.skip-m.ensures.0), omega (arith, c.paired.ensures.on c.loop-out-test.true, c.loop-out.invariant.0, c.loop-out.invariant.1, c.loop-out.invariant.2, c.requires.places, c.skip-m.ensures.1), c.requires.places.5), omega (arith, c.paired.ensures.on c.loop-out-test.true, c.loop-out.invariant.0, c.loop-out.invariant.1, c.loop-out.invariant.2, c.requires.places, c.requires.room, c.skip-n.ensures.1, c.skip-m.ensures.1, c.skip-n.ensures.0, c.skip-m.ensures.0)))
+recover_row-recover_term-to-requires t c = (omega (arith, c.paired.ensures.on c.loop-out-test.true, c.loop-out.invariant.0, c.loop-out.invariant.1, c.loop-out.invariant.2, c.requires.places, c.skip-n.ensures.some.0, c.skip-n.ensures.some.1), ((omega (arith, c.paired.ensures.on c.loop-out-test.true, c.skip-n.ensures.some.0), omega (arith, c.paired.ensures.on c.loop-out-test.true, c.loop-out.invariant.0, c.loop-out.invariant.1, c.loop-out.invariant.2, c.requires.places, c.skip-n.ensures.some.1), omega (arith, c.paired.ensures.on c.loop-out-test.true, c.skip-m.ensures.some.0), omega (arith, c.paired.ensures.on c.loop-out-test.true, c.loop-out.invariant.0, c.loop-out.invariant.1, c.loop-out.invariant.2, c.requires.places, c.skip-m.ensures.some.1), c.requires.places.5), omega (arith, c.paired.ensures.on c.loop-out-test.true, c.loop-out.invariant.0, c.loop-out.invariant.1, c.loop-out.invariant.2, c.requires.places, c.requires.room, c.skip-n.ensures.some.1, c.skip-m.ensures.some.1, c.skip-n.ensures.some.0, c.skip-m.ensures.some.0)))
 
 pub recover_row-overflow_add-i-else-word-eq0-2 : goal.recover_row-overflow_add-i-else-word-eq0-2
-recover_row-overflow_add-i-else-word-eq0-2 t c = omega (arith, c.paired.ensures.on c.loop-out-test.true, c.loop-out.invariant.0, c.loop-out.invariant.1, c.loop-out.invariant.2, c.requires.places, c.skip-n.ensures.1)
+recover_row-overflow_add-i-else-word-eq0-2 t c = omega (arith, c.paired.ensures.on c.loop-out-test.true, c.loop-out.invariant.0, c.loop-out.invariant.1, c.loop-out.invariant.2, c.requires.places, c.skip-n.ensures.some.1)
 
 pub recover_row-overflow_add-j-else-word-eq0-2 : goal.recover_row-overflow_add-j-else-word-eq0-2
-recover_row-overflow_add-j-else-word-eq0-2 t c = omega (arith, c.paired.ensures.on c.loop-out-test.true, c.loop-out.invariant.0, c.loop-out.invariant.1, c.loop-out.invariant.2, c.requires.places, c.skip-m.ensures.1)
+recover_row-overflow_add-j-else-word-eq0-2 t c = omega (arith, c.paired.ensures.on c.loop-out-test.true, c.loop-out.invariant.0, c.loop-out.invariant.1, c.loop-out.invariant.2, c.requires.places, c.skip-m.ensures.some.1)
 
 pub recover_row-loop-out-smaller : goal.recover_row-loop-out-smaller
-recover_row-loop-out-smaller t c = omega (arith, c.paired.ensures.on c.loop-out-test.true, c.loop-out.invariant.0, c.loop-out.invariant.1, c.loop-out.invariant.2, c.requires.places, c.skip-n.ensures.0, c.skip-n.ensures.1)
+recover_row-loop-out-smaller t c = omega (arith, c.paired.ensures.on c.loop-out-test.true, c.loop-out.invariant.0, c.loop-out.invariant.1, c.loop-out.invariant.2, c.requires.places, c.skip-n.ensures.some.0, c.skip-n.ensures.some.1)
 
 pub recover_row-loop-out-preserved : goal.recover_row-loop-out-preserved
 recover_row-loop-out-preserved t c = (
-  omega (arith, c.paired.ensures.on c.loop-out-test.true, c.loop-out.invariant.0, c.loop-out.invariant.1, c.loop-out.invariant.2, c.requires.places, c.skip-n.ensures.0, c.skip-n.ensures.1),
-  omega (arith, c.paired.ensures.on c.loop-out-test.true, c.loop-out.invariant.0, c.loop-out.invariant.1, c.loop-out.invariant.2, c.requires.places, c.skip-m.ensures.0, c.skip-m.ensures.1),
-  omega (arith, c.paired.ensures.on c.loop-out-test.true, c.loop-out.invariant.0, c.loop-out.invariant.1, c.loop-out.invariant.2, c.recover_term-to.ensures.bound, c.skip-n.ensures.0, c.skip-m.ensures.0),
+  omega (arith, c.paired.ensures.on c.loop-out-test.true, c.loop-out.invariant.0, c.loop-out.invariant.1, c.loop-out.invariant.2, c.requires.places, c.skip-n.ensures.some.0, c.skip-n.ensures.some.1),
+  omega (arith, c.paired.ensures.on c.loop-out-test.true, c.loop-out.invariant.0, c.loop-out.invariant.1, c.loop-out.invariant.2, c.requires.places, c.skip-m.ensures.some.0, c.skip-m.ensures.some.1),
+  omega (arith, c.paired.ensures.on c.loop-out-test.true, c.loop-out.invariant.0, c.loop-out.invariant.1, c.loop-out.invariant.2, c.recover_term-to.ensures.bound, c.skip-n.ensures.some.0, c.skip-m.ensures.some.0),
   λ k ps qs hp hq fp fq e.
       let x = c.loop-out.invariant.3 k ps qs hp hq fp fq e in
       let y = both_terms _ _ _ _ _ _ _ _ _ _ _ _ x (c.paired.ensures.on c.loop-out-test.true).left c.requires.places.1 (c.paired.ensures.on c.loop-out-test.true).right (λ z. c.if-word-eq0.false (c.word.ensures ∙ z)) ((c.paired.ensures.on c.loop-out-test.true).term (λ z. c.if-word-eq0.false (c.word.ensures ∙ z))) in
-      let n = told_row _ _ _ _ _ y.t y.ps y.row_left c.skip-n.ensures.2 in
-      let m = told_row _ _ _ _ _ y.u y.qs y.row_right c.skip-m.ensures.2 in
+      let n = told_row _ _ _ _ _ y.t y.ps y.row_left c.skip-n.ensures.span in
+      let m = told_row _ _ _ _ _ y.u y.qs y.row_right c.skip-m.ensures.span in
       recover_both _ _ _ _ _ _ _ _ _ _ _ _ x (c.paired.ensures.on c.loop-out-test.true).left c.requires.places.1 (c.paired.ensures.on c.loop-out-test.true).right y _ _ n m _ _ (c.recover_term-to.ensures.put y.t y.u (held_one _ _ _ _ y.t y.held_left n) (held_one _ _ _ _ y.u y.held_right m) y.formed_left y.formed_right),
 )
 
@@ -127,12 +125,12 @@ recover_term-returns-then-stays t c = record {
 pub recover_term-overflow_sub-qe : goal.recover_term-overflow_sub-qe
 recover_term-overflow_sub-qe t c = omega (arith, c.requires.places)
 
-pub recover_term-put_run-requires-then-is_one : goal.recover_term-put_run-requires-then-is_one
-recover_term-put_run-requires-then-is_one t c = record { run = (omega (arith, c.requires.places), omega (arith, c.requires.places)); room = omega (arith, c.requires.places, c.requires.room) }
+pub recover_term-put_run-requires-then-is_hole : goal.recover_term-put_run-requires-then-is_hole
+recover_term-put_run-requires-then-is_hole t c = record { run = (omega (arith, c.requires.places), omega (arith, c.requires.places)); room = omega (arith, c.requires.places, c.requires.room) }
 
-pub recover_term-returns-then-is_one : goal.recover_term-returns-then-is_one
-recover_term-returns-then-is_one t c = record {
-  bound = omega (arith, c.put_run-then-is_one.ensures.bound, c.requires.places);
+pub recover_term-returns-then-is_hole : goal.recover_term-returns-then-is_hole
+recover_term-returns-then-is_hole t c = record {
+  bound = omega (arith, c.put_run-then-is_hole.ensures.bound, c.requires.places);
   put = λ t u ht hu ft fu.
       let a = c.args in
       let ks = c.args.kinds.now in
@@ -141,8 +139,8 @@ recover_term-returns-then-is_one t c = record {
       let y = tag_told _ _ _ _ u hu _ _ c.word-2.ensures c.tag_of.ensures in
       let h = ap (λ (n : ℕ). recovery n || eqb (tag t) 1) (sym y) ∙ ap (λ (n : ℕ). recovery c.tag_of.result || eqb n 1) (sym x) ∙ sym c.stays.ensures ∙ c.if-stays.false in
       let n = stays_not t u h in
-      let g = ap (λ (n : ℕ). among n (2 ∷ 3 ∷ [])) (sym x) ∙ sym (among_two _ 2 3) ∙ sym c.is_one.ensures ∙ c.if-is_one.true in
-      put_same a.out.now _ a.at c.put_run-then-is_one.result (spelt ks vs a.q (a.qe - a.q)) (bytes (recover_from t u)) (whole_bytes ks vs a.q a.qe u hu ∙ ap bytes (sym (hole_left t u n.0 n.1 g))) (put_one a.out.now _ a.at c.put_run-then-is_one.result (spelt ks vs a.q (a.qe - a.q)) c.put_run-then-is_one.ensures.next c.put_run-then-is_one.ensures.put);
+      let g = ap recovery (sym x) ∙ sym c.is_hole.ensures ∙ c.if-is_hole.true in
+      put_same a.out.now _ a.at c.put_run-then-is_hole.result (spelt ks vs a.q (a.qe - a.q)) (bytes (recover_from t u)) (whole_bytes ks vs a.q a.qe u hu ∙ ap bytes (sym (hole_left t u n.0 n.1 g))) (put_one a.out.now _ a.at c.put_run-then-is_hole.result (spelt ks vs a.q (a.qe - a.q)) c.put_run-then-is_hole.ensures.next c.put_run-then-is_hole.ensures.put);
 }
 
 pub recover_term-reach_end-stop-requires : goal.recover_term-reach_end-stop-requires
@@ -171,7 +169,7 @@ recover_term-returns t c = record {
       let y = tag_told _ _ _ _ u hu _ _ c.word-2.ensures c.tag_of.ensures in
       let h = ap (λ (n : ℕ). recovery n || eqb (tag t) 1) (sym y) ∙ ap (λ (n : ℕ). recovery c.tag_of.result || eqb n 1) (sym x) ∙ sym c.stays.ensures ∙ c.if-stays.false in
       let n = stays_not t u h in
-      let g = ap (λ (n : ℕ). among n (2 ∷ 3 ∷ [])) (sym x) ∙ sym (among_two _ 2 3) ∙ sym c.is_one.ensures ∙ c.if-is_one.false in
+      let g = ap recovery (sym x) ∙ sym c.is_hole.ensures ∙ c.if-is_hole.false in
       let d : tag t ≡ 1 → ⊥ = n.1 in
       let z = put_one a.out.now _ a.at c.put_run-next.result (spelt ks vs a.p 1) c.put_run-next.ensures.next c.put_run-next.ensures.put in
       let w = c.recover_row.ensures.put (reach t u) (row t) (row u) (row_any ks vs a.p a.pe t ht) (row_any ks vs a.q a.qe u hu) (row_formed t ft) (row_formed u fu) (c.reach_end-stop.ensures.reached t u ht hu ft fu) in

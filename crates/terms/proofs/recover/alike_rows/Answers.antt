@@ -16,7 +16,7 @@ loop-a-preserved-then-word-eq0 c =
 pub loop-a-preserved : goal.loop-a-preserved
 loop-a-preserved c =
     let y = c.paired.ensures.on c.loop-a-test.true in
-    (omega arith, omega arith, λ ps qs h g. alike_terms _ _ _ _ _ _ _ (c.loop-a.invariant.2 ps qs h g) y.left y.right _ _ (λ z. c.if-word-eq0.false (c.word.ensures ∙ z)) (y.term (λ z. c.if-word-eq0.false (c.word.ensures ∙ z))) c.skip-i.ensures.2 c.skip-j.ensures.2)
+    (omega arith, omega arith, λ ps qs h g. alike_terms _ _ _ _ _ _ _ (c.loop-a.invariant.2 ps qs h g) y.left y.right _ _ (λ z. c.if-word-eq0.false (c.word.ensures ∙ z)) (y.term (λ z. c.if-word-eq0.false (c.word.ensures ∙ z))) c.skip-i.ensures.span c.skip-j.ensures.span)
 
 pub returns-then-i-ae : goal.returns-then-i-ae
 returns-then-i-ae c = λ ps qs h g. alike_parted _ _ _ _ _ _ _ (c.loop-a.invariant.2 ps qs h g) (c.paired.ensures.off c.loop-a-test.false) c.if-i-ae.true

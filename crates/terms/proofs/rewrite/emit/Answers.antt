@@ -15,8 +15,8 @@ pub emit_run-requires-in-By : goal.emit_run-requires-in-By
 emit_run-requires-in-By c =
     let a = c.args in
     let h = inside_by a.kinds.now a.vals.now a.p a.c _ c.in-By.is c.requires.areas.2 in
-    let l = stride_in a.kinds.now a.vals.now a.p _ _ h c.stride-n.ensures in
-    record { run = (l, omega (arith, c.requires.areas.1)); space = respaced _ a.out.now _ _ _ (by_piece a.kinds.now a.vals.now a.p a.c _ _ c.in-By.is c.stride-n.ensures) _ c.requires.space }
+    let l = stride_in a.kinds.now a.vals.now a.p _ _ h c.skip-n.ensures.is in
+    record { run = (l, omega (arith, c.requires.areas.1)); space = respaced _ a.out.now _ _ _ (by_piece a.kinds.now a.vals.now a.p a.c _ _ c.in-By.is c.skip-n.ensures.is) _ c.requires.space }
 
 pub bounds-out-i : goal.bounds-out-i
 bounds-out-i c =
@@ -43,7 +43,7 @@ returns-in-Keep c =
 pub returns-in-By : goal.returns-in-By
 returns-in-By c =
     let a = c.args in
-    let both = retold a.on a.out.now a.i _ _ (by_piece a.kinds.now a.vals.now a.p a.c _ _ c.in-By.is c.stride-n.ensures) _ _ c.emit_run-in-By.ensures.next c.emit_run-in-By.ensures.wrote in record { next = both.0; wrote = both.1 }
+    let both = retold a.on a.out.now a.i _ _ (by_piece a.kinds.now a.vals.now a.p a.c _ _ c.in-By.is c.skip-n.ensures.is) _ _ c.emit_run-in-By.ensures.next c.emit_run-in-By.ensures.wrote in record { next = both.0; wrote = both.1 }
 
 pub returns-else-on : goal.returns-else-on
 returns-else-on c =

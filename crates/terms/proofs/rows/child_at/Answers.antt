@@ -1,36 +1,46 @@
 use native.Mathlib.Omega.{arith}
-use Rattle.terms.proofs.Laws.Normalising.ScanLaws.{child_over, child_number, child_next, child_found}
+use Rattle.terms.proofs.Laws.Normalising.ScanLaws.{Counted, walk_start, over_here, over_width, walk_child, walk_number, child_over, child_number, child_next, child_found, counted_start}
 use Rattle.terms.proofs.rows.child_at.Goals as goal
 
-pub loop-q-preserved-then-y-eq0 : goal.loop-q-preserved-then-y-eq0
-loop-q-preserved-then-y-eq0 c =
-    let loop' = c.loop-q in
-    let token-at' = c.token_at-y in (
-      child_number _ _ _ _ _ loop'.invariant.0 c.loop-q-test.true token-at'.ensures.kind token-at'.ensures.value c.if-y-eq0.true,
-      omega (arith, loop'.invariant),
-      omega (arith, loop'.invariant),
-    )
+pub loop-q-init : goal.loop-q-init
+loop-q-init c =
+    let a = c.args in
+    let e = c.walk_row-q-items.ensures in
+    (rw c.into_iter-q-iterator.ensures.into_iter_gives (walk_start a.kinds.now a.vals.now a.g a.x.head c.walk_row-q-items.result (Counted 0) e.row e.tokens counted_start), omega arith, omega arith)
 
 pub returns-then-n-i : goal.returns-then-n-i
 returns-then-n-i c =
-    let token-at' = c.token_at-y in
-    λ S t w.
-    let r = child_found _ _ _ _ _ c.loop-q.invariant.0 c.loop-q-test.true
-    token-at'.ensures.kind token-at'.ensures.value c.if-y-eq0.false c.args.heads.now c.args.kids.now S c.args.x.kids
-    t w _ _ c.child_here.ensures.head c.child_here.ensures.kids in
+    let w = c.loop-q.invariant.0 in
+    let m = over_here _ _ _ _ w.over _ _ c.next.new.self c.in-Some.ensures.steps in
+    λ S t x.
+    let r = child_found _ _ _ _ _ w.scan m.1 m.2 m.3 c.if-y-ne0.true c.args.heads.now c.args.kids.now S c.args.x.kids
+    t x _ _ (rw m.0 at c.child_here.ensures.head) c.child_here.ensures.kids in
     (r.0, rw (← c.if-n-i.true) r.1, r.2)
+
+pub loop-q-preserved-then-y-ne0 : goal.loop-q-preserved-then-y-ne0
+loop-q-preserved-then-y-ne0 c =
+    let i = c.loop-q.invariant in
+    let w = i.0 in
+    let s = c.in-Some.ensures.steps in
+    let m = over_here _ _ _ _ w.over _ _ c.next.new.self s in (
+      walk_child _ _ _ _ _ _ w _ _ c.next.new.self s _ (child_next _ _ _ _ _ w.scan m.1 m.2 m.3 c.if-y-ne0.true _ (over_width _ _ _ _ w.over _ _ c.next.new.self s)),
+      omega (arith, i.1, s.0.4),
+      omega (arith, i.2, c.if-n-i.false),
+    )
 
 pub loop-q-preserved : goal.loop-q-preserved
 loop-q-preserved c =
-    let loop' = c.loop-q in
-    let token-at' = c.token_at-y in (
-      child_next _ _ _ _ _ loop'.invariant.0 c.loop-q-test.true token-at'.ensures.kind token-at'.ensures.value c.if-y-eq0.false
-          _ c.step-q.ensures.span,
-      omega (arith, loop'.invariant.1),
-      omega (arith, c.if-n-i.false, loop'.invariant.2),
+    let i = c.loop-q.invariant in
+    let w = i.0 in
+    let s = c.in-Some.ensures.steps in
+    let m = over_here _ _ _ _ w.over _ _ c.next.new.self s in (
+      walk_number _ _ _ _ _ _ w _ _ c.next.new.self s c.if-y-ne0.false _ (child_number _ _ _ _ _ w.scan m.1 m.2 m.3 c.if-y-ne0.false),
+      omega (arith, i.1, s.0.4),
+      i.2,
     )
 
 pub returns : goal.returns
 returns c =
-    λ S t w. child_over _ _ _ _ _ c.loop-q.invariant.0 _ c.loop-q.invariant.2 c.loop-q-test.false c.args.heads.now c.args.kids.now
-    S c.args.x.kids t w
+    let w = c.loop-q.invariant.0 in
+    λ S t x. child_over _ _ _ _ _ w.scan _ c.loop-q.invariant.2 c.in-None.ensures.steps.0.0 c.args.heads.now c.args.kids.now
+    S c.args.x.kids t x

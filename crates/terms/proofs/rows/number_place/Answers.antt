@@ -1,28 +1,38 @@
 use native.Mathlib.Omega.{arith}
+use mathlib.Core.Path.{refl}
 use Rattle.terms.proofs.Laws.Normalising.VirtualTokenLaws.{few_kinds, few_vals}
-use Rattle.terms.proofs.Laws.Normalising.ScanLaws.{number_over, number_here, number_next, number_pass}
+use Rattle.terms.proofs.Laws.Normalising.ScanLaws.{Wanted, walk_start, over_here, over_width, walk_child, walk_number, number_over, number_here, number_next, number_pass}
 use Rattle.terms.proofs.rows.number_place.Goals as goal
+
+pub loop-q-init : goal.loop-q-init
+loop-q-init c =
+    let a = c.args in
+    let e = c.walk_row-q-items.ensures in
+    rw c.into_iter-q-iterator.ensures.into_iter_gives (walk_start a.kinds.now a.vals.now a.g a.h c.walk_row-q-items.result (Wanted a.i a.i) e.row e.tokens (λ w. refl))
 
 pub returns-then-left-eq0 : goal.returns-then-left-eq0
 returns-then-left-eq0 c =
-    let token-at' = c.token_at-x in
-    number_here _ _ _ _ _ _ c.loop-q.invariant c.loop-q-test.true token-at'.ensures.kind
-    token-at'.ensures.value c.if-x-eq0.true c.if-left-eq0.true
+    let w = c.loop-q.invariant in
+    let m = over_here _ _ _ _ w.over _ _ c.next.new.self c.in-Some.ensures.steps in
+    rw m.0 (number_here _ _ _ _ _ _ w.scan m.1 m.2 m.3 c.if-x-eq0.true c.if-left-eq0.true)
 
 pub loop-q-preserved-then-x-eq0 : goal.loop-q-preserved-then-x-eq0
 loop-q-preserved-then-x-eq0 c =
-    let token-at' = c.token_at-x in
-    number_next _ _ _ _ _ _ c.loop-q.invariant c.loop-q-test.true token-at'.ensures.kind
-    token-at'.ensures.value c.if-x-eq0.true _ (omega arith)
+    let w = c.loop-q.invariant in
+    let s = c.in-Some.ensures.steps in
+    let m = over_here _ _ _ _ w.over _ _ c.next.new.self s in
+    walk_number _ _ _ _ _ _ w _ _ c.next.new.self s c.if-x-eq0.true _ (number_next _ _ _ _ _ _ w.scan m.1 m.2 m.3 c.if-x-eq0.true _ (omega arith))
 
 pub loop-q-preserved : goal.loop-q-preserved
 loop-q-preserved c =
-    let token-at' = c.token_at-x in
-    number_pass _ _ _ _ _ _ c.loop-q.invariant c.loop-q-test.true token-at'.ensures.kind
-    token-at'.ensures.value c.if-x-eq0.false _ c.step-q.ensures.span
+    let w = c.loop-q.invariant in
+    let s = c.in-Some.ensures.steps in
+    let m = over_here _ _ _ _ w.over _ _ c.next.new.self s in
+    walk_child _ _ _ _ _ _ w _ _ c.next.new.self s _ (number_pass _ _ _ _ _ _ w.scan m.1 m.2 m.3 c.if-x-eq0.false _ (over_width _ _ _ _ w.over _ _ c.next.new.self s))
 
 pub returns : goal.returns
 returns c =
     let f = few_kinds c.args.kinds.now c.args.vals.now c.args.g c.requires in
     let g = few_vals c.args.kinds.now c.args.vals.now c.args.g c.requires in
-    number_over _ _ _ _ _ _ c.loop-q.invariant _ (omega arith) (omega arith) c.loop-q-test.false
+    let w = c.loop-q.invariant in
+    number_over _ _ _ _ _ _ w.scan _ (omega arith) (omega arith) c.in-None.ensures.steps.0.0

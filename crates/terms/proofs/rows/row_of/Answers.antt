@@ -1,4 +1,5 @@
 -- `row_of`. A row is cut where no token can stand.
+use mathlib.Core.Path.{refl}
 use native.Mathlib.Omega.{arith}
 use Rattle.terms.specs.Words.VirtualTokens.{view}
 use Rattle.terms.proofs.Laws.Normalising.VirtualTokenLaws.{few_kinds}
@@ -8,12 +9,12 @@ use Rattle.terms.proofs.rows.row_of.Goals as goal
 pub returns-then-end-gt-NOWHERE : goal.returns-then-end-gt-NOWHERE
 returns-then-end-gt-NOWHERE c =
     let token-at' = c.token_at in
-    row_cut (view c.args.kinds.now c.args.vals.now c.args.g) _ _ _ c.wide-p.ensures token-at'.ensures.kind
+    row_cut (view c.args.kinds.now c.args.vals.now c.args.g) _ _ _ refl token-at'.ensures.kind
     token-at'.ensures.value c.step.ensures.span _ (omega arith) (few_kinds c.args.kinds.now c.args.vals.now c.args.g
     c.requires) c.if-end-gt-NOWHERE.true
 
 pub returns : goal.returns
 returns c =
     let token-at' = c.token_at in
-    row_is (view c.args.kinds.now c.args.vals.now c.args.g) _ _ _ c.wide-p.ensures token-at'.ensures.kind
+    row_is (view c.args.kinds.now c.args.vals.now c.args.g) _ _ _ refl token-at'.ensures.kind
     token-at'.ensures.value c.step.ensures.span (omega arith)

@@ -20,15 +20,12 @@ none [] m = refl
 none (w ∷ ws) m = none ws m
 
 pub loop-i-preserved : goal.loop-i-preserved
-loop-i-preserved c =
-    let e = lacks c.args.rules.now c.loop-i.i c.args.member _ c.loop-i-test.true (c.if-has_member.ensures {u = tt}) in
-    (omega arith, omega (arith, e, c.loop-i.invariant.1))
+loop-i-preserved c = omega (arith, lacks c.args.rules.now c.loop-i.i c.args.member _ c.loop-i-test.true (c.if-has_member.ensures {u = tt}), c.loop-i.invariant)
 
-pub returns-after-loop-i : goal.returns-after-loop-i
-returns-after-loop-i c =
+pub returns : goal.returns
+returns c =
     let e : c.loop-i.i ≡ length c.args.rules.now = omega arith in
-    omega (arith, rw (← e) at (none c.args.rules.now c.args.member), c.loop-i.invariant.1)
+    omega (arith, rw (← e) at (none c.args.rules.now c.args.member), c.loop-i.invariant)
 
 pub returns-then-has_member : goal.returns-then-has_member
-returns-then-has_member c =
-    omega (arith, has c.args.rules.now c.loop-i.i c.args.member _ c.loop-i-test.true (c.if-has_member.ensures {u = tt}), c.loop-i.invariant.1)
+returns-then-has_member c = omega (arith, has c.args.rules.now c.loop-i.i c.args.member _ c.loop-i-test.true (c.if-has_member.ensures {u = tt}), c.loop-i.invariant)

@@ -21,8 +21,8 @@ loop-m-init c =
     let rule-at' = c.rule_at-rule in
     let e = c.rule_at-rule.ensures in
     let f = rw e at c.same_front-m.ensures in
-    let held = arguing_start c.args.kinds.now c.args.vals.now c.args.g c.args.heads.now c.args.kids.now c.cursor-s.result c.args.fuel c.requires.sight (rule_at c.args.rules.now c.next_rule-r.result) c.same_front-m.result _ (c.wide-a.ensures ∙ ap (λ (z : Rule). z.arguments) e) f in
-    (rw (ap (λ (z : Rule). z.count) e) held, omega (arith, c.wide-a.ensures, rule-at'.type_inv))
+    let held = arguing_start c.args.kinds.now c.args.vals.now c.args.g c.args.heads.now c.args.kids.now c.cursor-s.result c.args.fuel c.requires.sight (rule_at c.args.rules.now c.next_rule-r.result) c.same_front-m.result _ (ap (λ (z : Rule). z.arguments) e) f in
+    (rw (ap (λ (z : Rule). z.count) e) held, omega (arith, rule-at'.type_inv))
 
 pub loop-m-preserved : goal.loop-m-preserved
 loop-m-preserved c =

@@ -1,4 +1,5 @@
 -- `same_front`. Receiver, interface, and two numbers.
+use mathlib.Core.Path.{refl}
 use Rattle.terms.proofs.Laws.Normalising.RuleLaws.{front_receiver, front_interface, front_numbers}
 use Rattle.terms.proofs.rules.same_front.Goals as goal
 
@@ -7,7 +8,7 @@ returns-in_err-p c =
     let term-cursor' = c.term_cursor-receiver in
     rw c.from_residual.ensures
     (front_receiver c.args.kinds.now c.args.vals.now c.args.g c.requires.sight c.args.heads.now c.args.kids.now
-    c.args.x c.args.rule c.args.fuel term-cursor'.result _ c.wide.ensures term-cursor'.ensures
+    c.args.x c.args.rule c.args.fuel term-cursor'.result _ refl term-cursor'.ensures
     c.in_err-p.ensures)
 
 pub returns-in_err-q : goal.returns-in_err-q
@@ -17,7 +18,7 @@ returns-in_err-q c =
     let source' = c.source in
     rw c.from_residual-in_err-q.ensures
     (front_interface c.args.kinds.now c.args.vals.now c.args.g c.requires.sight c.args.heads.now c.args.kids.now
-    c.args.x c.args.rule c.args.fuel term-cursor'.result _ c.wide.ensures
+    c.args.x c.args.rule c.args.fuel term-cursor'.result _ refl
     term-cursor'.ensures _ _ c.in_ok-p.ensures
     _ cursor'.result source'.ensures.0 source'.ensures.1 cursor'.ensures (rw c.moved.ensures at c.in_err-q.ensures))
 
@@ -27,7 +28,7 @@ returns c =
     let cursor' = c.cursor-interface in
     let source' = c.source in
     front_numbers c.args.kinds.now c.args.vals.now c.args.g c.requires.sight c.args.heads.now c.args.kids.now
-    c.args.x c.args.rule c.args.fuel term-cursor'.result _ c.wide.ensures
+    c.args.x c.args.rule c.args.fuel term-cursor'.result _ refl
     term-cursor'.ensures _ _ c.in_ok-p.ensures
     _ cursor'.result source'.ensures.0 source'.ensures.1 cursor'.ensures _ _ (rw c.moved.ensures at c.in_ok-q.ensures) c.two_numbers.result (rw c.moved-2.ensures
     at c.two_numbers.ensures)

@@ -6,4 +6,4 @@ use Rattle.terms.proofs.Laws.Held.SameLaws.{told}
 use Rattle.terms.proofs.satisfy.behind.Goals as goal
 
 pub returns : goal.returns
-returns c = record { forward = omega arith; passed = λ t h. ap (λ (n : ℕ). c.args.i + n) (told _ _ _ _ t h c.skip.ensures.2) }
+returns c = record { forward = omega arith; passed = λ t h. ap (λ (n : ℕ). c.args.i + n) (told _ _ _ _ t h c.skip.ensures.span) }

@@ -21,5 +21,5 @@ returns c = record {
   within = c.same_terms.ensures.within;
   headed = λ d n rest e m more x y.
       headed _ _ _ d n rest _ e m more x y (sym c.word.ensures ∙ c.if-word.false ∙ c.word-2.ensures) c.same_terms.result
-      (c.same_terms.ensures.agreed d _ e _ _ (headed_lists _ _ _ d n rest _ e m more x y _ (c.wide-count.ensures ∙ c.word-n.ensures) (sym c.word-n.ensures ∙ c.if-n-word.false ∙ c.word-3.ensures)));
+      (c.same_terms.ensures.agreed d _ e _ _ (headed_lists _ _ _ d n rest _ e m more x y _ (c.word-n.ensures) (sym c.word-n.ensures ∙ c.if-n-word.false ∙ c.word-3.ensures)));
 }

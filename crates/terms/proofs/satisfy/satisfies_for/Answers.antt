@@ -19,5 +19,5 @@ returns-in-Some c =
     let x = laid_bare _ _ _ ps h f in
     let y = laid_bare _ _ _ qs k g in
     let z = rw c.in-Some.is at (c.heads-h.ensures.headed _ _ x.0 _ _ y.0 x.1 y.1) in
-    c.covered.ensures _ _ x.0 t _ y.0 _ x.1 z.1 ht (listed_pairs _ _ _ _ _ _ _ y.0 _ z.2 (c.wide-count.ensures ∙ c.word.ensures))
+    c.covered.ensures _ _ x.0 t _ y.0 _ x.1 z.1 ht (listed_pairs _ _ _ _ _ _ _ y.0 _ z.2 c.word-count.ensures)
     ∙ sym (bounded_members (covers (nominal_of ps) t) _ _ z.0)

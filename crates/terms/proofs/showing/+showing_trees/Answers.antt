@@ -2,94 +2,59 @@
 -- `show_tree`. As it stands in the source, or its first token and then its row.
 use Prim.Native.Nat.{ℕ}
 use Rattle.terms.proofs.Laws.Normalising.AlikeLaws.{depth_some, depth_row}
-use Rattle.terms.proofs.Laws.Normalising.ShowLaws.{row_start, row_full, row_done, row_number, row_child, tree_flat, tree_bytes, shows_first, shows_then, kept_at, kept_then}
+use Rattle.terms.proofs.Laws.Normalising.ScanLaws.{over_here, over_on, over_width, over_child, over_number}
+use Rattle.terms.proofs.Laws.Normalising.ShowLaws.{row_done, row_number, row_child, tree_flat, tree_bytes, shows_first, shows_then, kept_at, kept_then}
 use Rattle.terms.specs.Term.{bytes, part_bytes}
 use Rattle.terms.specs.Tree.{row}
 use Rattle.terms.specs.Words.TokenBytes.{plain}
 use Rattle.terms.specs.Words.VirtualTokens.{view}
 use lib.ListN.{get_or}
-use mathlib.Core.Path.{sym, ap, ◌∙◌}
+use mathlib.Core.Path.{refl, ap, ◌∙◌}
 use native.Mathlib.Omega.{arith}
 use Rattle.terms.proofs.showing.+showing_trees.Goals as goal
-
-pub show_row-loop-q-init : goal.show_row-loop-q-init
-show_row-loop-q-init t c =
-    let a = c.args in
-    row_start (view a.kinds.now a.vals.now a.g) a.heads.now a.kids.now a.on a.out.now a.at a.c a.fuel c.requires.room c.requires.cut
-
-pub show_row-shape_of-out-then-out-i : goal.show_row-shape_of-out-then-out-i
-show_row-shape_of-out-then-out-i t c = c.loop-q.invariant.kept.long
-
-pub show_row-returns-then-out-i : goal.show_row-returns-then-out-i
-show_row-returns-then-out-i t c =
-    let a = c.args in
-    let loop' = c.loop-q in
-    record { kept = loop'.invariant.kept; shows = row_full (view a.kinds.now a.vals.now a.g) a.heads.now a.kids.now a.on a.out.now a.at a.c a.fuel _ _ _ _ loop'.invariant (omega (arith, c.if-out-i.true, loop'.invariant.kept.long)) }
-
-pub show_row-token_at-y-requires : goal.show_row-token_at-y-requires
-show_row-token_at-y-requires t c = c.requires.sight
-
-pub show_row-show_token-i-requires : goal.show_row-show_token-i-requires
-show_row-show_token-i-requires t c = omega (arith, c.if-out-i.false)
-
-pub show_row-overflow_add-q : goal.show_row-overflow_add-q
-show_row-overflow_add-q t c = omega (arith, c.loop-q-test.true, c.requires.cut.small)
-
-pub show_row-loop-q-smaller-then-y-eq0 : goal.show_row-loop-q-smaller-then-y-eq0
-show_row-loop-q-smaller-then-y-eq0 t c = omega (arith, c.loop-q-test.true)
 
 pub show_row-loop-q-preserved-then-y-eq0 : goal.show_row-loop-q-preserved-then-y-eq0
 show_row-loop-q-preserved-then-y-eq0 t c =
     let a = c.args in
-    let loop' = c.loop-q in
-    let token-at' = c.token_at-y in
-    let show-token' = c.show_token-i in
-    row_number (view a.kinds.now a.vals.now a.g) a.heads.now a.kids.now a.on a.out.now a.at a.c a.fuel _ _ _ _ loop'.invariant (omega (arith, c.if-out-i.false, loop'.invariant.kept.long))
-    c.loop-q-test.true token-at'.ensures.kind token-at'.ensures.value _ _ show-token'.ensures.kept c.if-y-eq0.true show-token'.ensures.shows
-
-pub show_row-child_here-z-requires : goal.show_row-child_here-z-requires
-show_row-child_here-z-requires t c =
-    let if1' = c.loop-q-test in
-    (omega (arith, if1'.true, c.requires.cut.small), omega (arith, if1'.true, c.requires.cut.small, c.loop-q.invariant.few))
-
-pub show_row-show_tree-i-requires : goal.show_row-show_tree-i-requires
-show_row-show_tree-i-requires t c = (omega arith, (c.requires.sight, omega (arith, c.if-out-i.false)))
-
-pub show_row-overflow_add-n : goal.show_row-overflow_add-n
-show_row-overflow_add-n t c = omega (arith, c.loop-q-test.true, c.requires.cut.small, c.loop-q.invariant.few)
-
-pub show_row-overflow_add-q-else-y-eq0 : goal.show_row-overflow_add-q-else-y-eq0
-show_row-overflow_add-q-else-y-eq0 t c = omega (arith, c.loop-q-test.true, c.requires.cut.small, c.step-q.ensures.some)
-
-pub show_row-loop-q-smaller : goal.show_row-loop-q-smaller
-show_row-loop-q-smaller t c = omega (arith, c.loop-q-test.true, c.step-q.ensures.some)
+    let i = c.loop-q.invariant in
+    let s = c.in-Some.ensures.steps in
+    let o = c.next.new.self in
+    let m = over_here _ _ _ _ i.1 _ _ o s in
+    let e = c.show_token-i.ensures in (
+      rw (over_number _ _ _ _ i.1 _ _ o s c.if-y-eq0.true) at (row_number (view a.kinds.now a.vals.now a.g) a.heads.now a.kids.now a.on a.out.now a.at a.c a.fuel _ _ _ _ i.0
+          (omega (arith, c.if-out-i.false, i.0.kept.long)) (rw i.2 at m.1) m.2 m.3 _ _ e.kept c.if-y-eq0.true e.shows),
+      over_on _ _ _ _ i.1 _ _ o s,
+      s.1 ∙ i.2,
+    )
 
 pub show_row-loop-q-preserved : goal.show_row-loop-q-preserved
 show_row-loop-q-preserved t c =
     let a = c.args in
-    let loop' = c.loop-q in
-    let token-at' = c.token_at-y in
-    let child-here' = c.child_here-z in
-    let show-tree' = c.show_tree-i in
-    row_child (view a.kinds.now a.vals.now a.g) a.heads.now a.kids.now a.on a.out.now a.at a.c a.fuel _ _ _ _ loop'.invariant (omega (arith, c.if-out-i.false, loop'.invariant.kept.long))
-    c.loop-q-test.true token-at'.ensures.kind token-at'.ensures.value _ _ show-tree'.ensures.kept c.if-y-eq0.false _ child-here'.ensures.head
-    child-here'.ensures.kids _ c.step-q.ensures.span c.step-q.ensures.some.0 show-tree'.ensures.shows
+    let i = c.loop-q.invariant in
+    let s = c.in-Some.ensures.steps in
+    let o = c.next.new.self in
+    let m = over_here _ _ _ _ i.1 _ _ o s in
+    let h = c.child_here-z.ensures in
+    let e = c.show_tree-i.ensures in (
+      rw (over_child _ _ _ _ i.1 _ _ o s) at (row_child (view a.kinds.now a.vals.now a.g) a.heads.now a.kids.now a.on a.out.now a.at a.c a.fuel _ _ _ _ i.0
+          (omega (arith, c.if-out-i.false, i.0.kept.long)) (rw i.2 at m.1) m.2 m.3 _ _ e.kept c.if-y-eq0.false _ (rw (m.0) at h.head) h.kids _
+          (over_width _ _ _ _ i.1 _ _ o s) (omega (arith, s.0.4)) e.shows),
+      over_on _ _ _ _ i.1 _ _ o s,
+      s.1 ∙ i.2,
+    )
 
-pub show_row-shape_of-out : goal.show_row-shape_of-out
-show_row-shape_of-out t c = c.loop-q.invariant.kept.long
-
-pub show_row-returns : goal.show_row-returns
-show_row-returns t c =
+pub show_row-returns-clause-shows : goal.show_row-returns-clause-shows
+show_row-returns-clause-shows t c =
     let a = c.args in
-    let loop' = c.loop-q in
-    record { kept = loop'.invariant.kept; shows = row_done (view a.kinds.now a.vals.now a.g) a.heads.now a.kids.now a.on a.out.now a.at a.c a.fuel _ _ _ _ loop'.invariant c.loop-q-test.false }
+    let i = c.loop-q.invariant in
+    row_done (view a.kinds.now a.vals.now a.g) a.heads.now a.kids.now a.on a.out.now a.at a.c a.fuel _ _ _ _ i.0 (rw i.2 at c.in-None.ensures.steps.0.0)
 
 pub show_tree-token_at-h-requires : goal.show_tree-token_at-h-requires
 show_tree-token_at-h-requires t c = c.requires.sight
 
 pub show_tree-show_run-requires : goal.show_tree-show_run-requires
 show_tree-show_run-requires t c =
-    record { sight = c.requires.sight; small = (omega (arith, c.wide-then-x-eq0.ensures), omega (arith, c.step.ensures.some)); room = c.requires.room }
+    record { sight = c.requires.sight; small = (omega arith, omega (arith, c.step.ensures.some)); room = c.requires.room }
 
 pub show_tree-shape_of-out-then-x-eq0 : goal.show_tree-shape_of-out-then-x-eq0
 show_tree-shape_of-out-then-x-eq0 t c = c.show_run.ensures.kept.long
@@ -97,18 +62,17 @@ show_tree-shape_of-out-then-x-eq0 t c = c.show_run.ensures.kept.long
 pub show_tree-returns-then-x-eq0 : goal.show_tree-returns-then-x-eq0
 show_tree-returns-then-x-eq0 t c =
     let show-run' = c.show_run in
-    let wide2' = c.wide-then-x-eq0 in
     let step' = c.step in
     let token-at' = c.token_at-h in
-    let wide' = c.wide in record {
+    record {
       kept = show-run'.ensures.kept;
       shows = λ S t w d.
           let e = tree_flat (view c.args.kinds.now c.args.vals.now c.args.g) c.args.heads.now c.args.kids.now
-          S w c.if-x-eq0.true wide2'.result step'.result wide2'.ensures
+          S w c.if-x-eq0.true c.args.x.head step'.result refl
           (token-at'.ensures.kind ∙ ap (λ (i : ℕ). get_or (view c.args.kinds.now c.args.vals.now c.args.g).kinds i 0)
-          (wide'.ensures ∙ sym wide2'.ensures))
+          refl)
           (token-at'.ensures.value ∙ ap (λ (i : ℕ). get_or (view c.args.kinds.now c.args.vals.now c.args.g).vals i 0)
-          (wide'.ensures ∙ sym wide2'.ensures)) step'.ensures.span in
+          refl) step'.ensures.span in
           rw (← e) show-run'.ensures.shows;
     }
 
@@ -129,12 +93,12 @@ show_tree-returns-then-out-i t c =
     let a = c.args in
     let show-token' = c.show_token-i in
     let token-at' = c.token_at-h in
-    let wide' = c.wide in record {
+    record {
       kept = show-token'.ensures.kept;
       shows = λ S t w d. shows_first a.on a.out.now c.show_token-i.new.out a.at (plain token-at'.result.kind token-at'.result.value) (part_bytes (row t)) (bytes t) c.requires.room
           (tree_bytes (view a.kinds.now a.vals.now a.g) a.heads.now a.kids.now S w
-          (token-at'.ensures.kind ∙ ap (λ (i : ℕ). get_or (view a.kinds.now a.vals.now a.g).kinds i 0) wide'.ensures)
-          (token-at'.ensures.value ∙ ap (λ (i : ℕ). get_or (view a.kinds.now a.vals.now a.g).vals i 0) wide'.ensures))
+          token-at'.ensures.kind
+          token-at'.ensures.value)
           _ show-token'.ensures.kept.long show-token'.ensures.shows
           (omega (arith, c.if-out-i.true, show-token'.ensures.kept.long));
     }
@@ -154,12 +118,12 @@ show_tree-returns t c =
     let show-token' = c.show_token-i in
     let show-row' = c.show_row in
     let token-at' = c.token_at-h in
-    let wide' = c.wide in record {
+    record {
       kept = kept_then _ _ _ _ _ _ _ show-token'.ensures.kept show-row'.ensures.kept;
       shows = λ S t w d. shows_then a.on a.out.now c.show_token-i.new.out a.at (plain token-at'.result.kind token-at'.result.value) (part_bytes (row t)) (bytes t) c.requires.room
           (tree_bytes (view a.kinds.now a.vals.now a.g) a.heads.now a.kids.now S w
-          (token-at'.ensures.kind ∙ ap (λ (i : ℕ). get_or (view a.kinds.now a.vals.now a.g).kinds i 0) wide'.ensures)
-          (token-at'.ensures.value ∙ ap (λ (i : ℕ). get_or (view a.kinds.now a.vals.now a.g).vals i 0) wide'.ensures))
+          token-at'.ensures.kind
+          token-at'.ensures.value)
           _ show-token'.ensures.kept.long show-token'.ensures.shows
           (omega (arith, c.if-out-i.false, show-token'.ensures.kept.long)) _ show-row'.result show-row'.ensures.kept.long
           (show-row'.ensures.shows S (row t) (c.cursor-c.ensures.is a.heads.now a.kids.now S t w)

@@ -1,4 +1,6 @@
-use Prim.Native.Nat.{◌-◌, ◌+◌, ◌*◌}
+use mathlib.Core.Path.{◌≡◌}
+use Prim.Native.Nat.{◌+◌, ◌*◌}
+use Rattle.terms.proofs.Laws.Normalising.ScanLaws.{Over}
 use Rattle.terms.proofs.Laws.Normalising.ShowLaws.{RowShowing}
 use Rattle.terms.specs.Words.VirtualTokens.{view}
 use Rattle.terms.proofs.showing.+showing_trees.Given as goal
@@ -10,7 +12,6 @@ abbrev pub decreases-show_tree : goal.decreases-show_tree
 decreases-show_tree l = 2 * l.fuel
 
 abbrev pub invariant-show_row-loop-q : goal.invariant-show_row-loop-q
-invariant-show_row-loop-q l = RowShowing (view l.kinds l.vals l.g) l.heads l.kids l.on l.initial.out l.at l.c l.fuel l.out l.i l.q l.n
-
-abbrev pub decreases-show_row-loop-q : goal.decreases-show_row-loop-q
-decreases-show_row-loop-q l = l.c.end - l.q
+invariant-show_row-loop-q l =
+    RowShowing (view l.kinds l.vals l.fn.g) l.heads l.kids l.on l.initial.out l.at l.fn.c l.fuel l.out l.i l.q-iterator.at l.n
+    × Over l.kinds l.vals l.fn.g l.q-iterator × (l.q-iterator.end ≡ l.fn.c.end)

@@ -1,6 +1,5 @@
 -- `locate`. By its tests.
-use mathlib.Core.Path.{ap}
-use Prim.Native.Nat.{ℕ, ◌-◌, ◌+◌, ◌/◌, ◌%◌}
+use mathlib.Core.Path.{refl}
 use native.Mathlib.Omega.{arith}
 use Rattle.terms.proofs.Laws.Normalising.VirtualTokenLaws.{located_lent, located_error, located_none, located_past, located_head, located_copy}
 use Rattle.terms.proofs.virtual_tokens.locate.Goals as goal
@@ -12,25 +11,20 @@ pub returns-then-q-len-2 : goal.returns-then-q-len-2
 returns-then-q-len-2 c = located_error _ _ _ c.if-q-len-2.true
 
 pub returns-then-size-eq0 : goal.returns-then-size-eq0
-returns-then-size-eq0 c = located_none _ _ _ (omega (arith, c.if-q-len.false, c.if-q-len-2.false)) (omega (arith, c.if-size-eq0.true, c.wide-size.ensures))
+returns-then-size-eq0 c = located_none _ _ _ (omega (arith, c.if-q-len.false, c.if-q-len-2.false)) (omega (arith, c.if-size-eq0.true))
 
 pub returns-then-len-t : goal.returns-then-len-t
 returns-then-len-t c =
-    let wide' = c.wide-size in
     located_past _ _ _ (omega (arith, c.if-q-len.false, c.if-q-len-2.false)) (λ y. c.if-size-eq0.false
-    (omega (arith, wide'.ensures))) _ _ (ap (λ (n : ℕ). (c.args.q - (c.args.len + 1)) % n) wide'.ensures) (ap (λ (n : ℕ). (c.args.q
-    - (c.args.len + 1)) / n) wide'.ensures) c.if-len-t.true
+    (omega arith)) _ _ refl refl c.if-len-t.true
 
 pub returns-then-r-eq0 : goal.returns-then-r-eq0
 returns-then-r-eq0 c =
-    let wide' = c.wide-size in
     located_head _ _ _ (omega (arith, c.if-q-len.false, c.if-q-len-2.false)) (λ y. c.if-size-eq0.false
-    (omega (arith, wide'.ensures))) _ _ (ap (λ (n : ℕ). (c.args.q - (c.args.len + 1)) % n) wide'.ensures) (ap (λ (n : ℕ). (c.args.q
-    - (c.args.len + 1)) / n) wide'.ensures) c.if-len-t.false c.if-r-eq0.true
+    (omega arith)) _ _ refl refl c.if-len-t.false c.if-r-eq0.true
 
 pub returns : goal.returns
 returns c =
-    let wide' = c.wide-size in
     located_copy _ _ _ (omega (arith, c.if-q-len.false, c.if-q-len-2.false))
-    (λ y. c.if-size-eq0.false (omega (arith, wide'.ensures))) _ _ (ap (λ (n : ℕ). (c.args.q - (c.args.len + 1)) % n) wide'.ensures)
-    (ap (λ (n : ℕ). (c.args.q - (c.args.len + 1)) / n) wide'.ensures) c.if-len-t.false c.if-r-eq0.false _ c.copied.ensures
+    (λ y. c.if-size-eq0.false (omega arith)) _ _ refl
+    refl c.if-len-t.false c.if-r-eq0.false _ c.copied.ensures

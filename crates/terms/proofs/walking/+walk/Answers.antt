@@ -29,7 +29,7 @@ returns-then-visits-eq0 t c = record {
 pub returns-then-same-gt0 : goal.returns-then-same-gt0
 returns-then-same-gt0 t c =
     let nodes' = c.fixed_nodes-same.ensures in
-    let least' = c.least.ensures in
+    let least' = c.min.ensures in
     let len' = c.fixed_len-size.ensures in
     let both = fixed_kept c.args.kinds.now c.args.vals.now c.args.rules.now c.args.g c.requires.room.sight c.args.heads.now c.args.kids.now c.args.x c.args.next c.args.levels c.args.visits c.args.most _ _
     (nodes'.fixed c.if-same-gt0.true) len'.bytes len'.bound c.if-same-gt0.true (omega (arith, nodes'.few.0, least')) (omega (arith, nodes'.few.0, least')) _ c.kept.ensures.fits c.kept.ensures.stops in

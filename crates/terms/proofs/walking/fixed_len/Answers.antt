@@ -1,6 +1,6 @@
 -- `fixed_len`.
 use native.Mathlib.Omega.{arith}
-use mathlib.Core.Path.{◌∙◌}
+use mathlib.Core.Path.{refl, ◌∙◌}
 use Rattle.terms.proofs.Laws.Normalising.SumLaws.{lent_room, lent_few, lent_bytes}
 use Rattle.terms.proofs.walking.fixed_len.Goals as goal
 
@@ -8,8 +8,7 @@ pub returns : goal.returns
 returns c =
     let ks = c.args.kinds.now in
     let vs = c.args.vals.now in
-    let wide' = c.wide-from.ensures in
     let word' = c.word.ensures in
     let word2' = c.word-2.ensures in
-    let span' = c.span_of-n.ensures in
-    let r = lent_room ks vs _ _ _ wide' word' word2' span' c.requires.term.1 in record { bound = lent_few ks vs _ _ _ c.run_len.ensures (λ i. omega (arith, c.shared_slice_known-2-1.given i)) r c.requires.few; bytes = λ t h. c.run_len.ensures ∙ lent_bytes ks vs _ _ _ wide' word' word2' span' t h }
+    let span' = c.span.ensures in
+    let r = lent_room ks vs _ _ _ refl word' word2' span' c.requires.term.1 in record { bound = lent_few ks vs _ _ _ c.run_len.ensures (λ i. omega (arith, c.shared_slice_known-2-1.given i)) r c.requires.few; bytes = λ t h. c.run_len.ensures ∙ lent_bytes ks vs _ _ _ refl word' word2' span' t h }

@@ -5,9 +5,8 @@ use Rattle.terms.proofs.walking.fixed_nodes.Goals as goal
 
 pub loop-q-init : goal.loop-q-init
 loop-q-init c =
-    let wide' = c.wide-from in
     let step' = c.step-span in
-    counting_start _ _ _ _ _ refl (omega (arith, wide'.ensures)) (omega (arith, step'.ensures.some)) c.word.ensures c.word-2.ensures
+    counting_start _ _ _ _ _ refl (omega arith) (omega (arith, step'.ensures.some)) c.word.ensures c.word-2.ensures
     step'.ensures.span (omega arith)
 
 pub overflow_add-n : goal.overflow_add-n
@@ -23,13 +22,12 @@ pub returns : goal.returns
 returns c =
     let l = c.loop-q in
     let step' = c.step-span in
-    let from' = c.wide-from.ensures in
     let word' = c.word.ensures in
     let word'' = c.word-2.ensures in record {
       few = (omega (arith, c.if-most-n.false), omega (arith, l.invariant.low, l.invariant.high, c.if-span-gt-TRIED.false));
       fixed = λ some. record {
         source = c.if-x-ne0.false;
-        lent = lent_span c.args.kinds.now c.args.vals.now _ _ _ from' word' word'' step'.ensures.span (omega (arith, c.if-kinds-end.false));
-        is = λ t h. counting_done _ _ _ _ _ _ _ l.invariant (omega (arith, c.loop-q-test.false)) t (rw from' h);
+        lent = lent_span c.args.kinds.now c.args.vals.now _ _ _ refl word' word'' step'.ensures.span (omega (arith, c.if-kinds-end.false));
+        is = λ t h. counting_done _ _ _ _ _ _ _ l.invariant (omega (arith, c.loop-q-test.false)) t h;
       };
     }

@@ -1,0 +1,15 @@
+-- `is_nominal`: by the ranges of the tag.
+use mathlib.Core.Path.{sym}
+use mathlib.Core.List.{[], ◌∷◌}
+use native.Mathlib.Omega.{arith}
+use Rattle.terms.proofs.Laws.Asking.QuestionLaws.{among_in, among_out}
+use Rattle.terms.proofs.recover.is_nominal.Goals as goal
+
+pub returns-in-12-to-15 : goal.returns-in-12-to-15
+returns-in-12-to-15 c = sym (among_in _ (12 ∷ 13 ∷ 14 ∷ 15 ∷ []) (λ x. omega (arith, x)))
+
+pub returns-in_default : goal.returns-in_default
+returns-in_default c = sym (among_out _ (12 ∷ 13 ∷ 14 ∷ 15 ∷ []) (λ x. omega (arith, x)))
+
+pub returns-in_default-2 : goal.returns-in_default-2
+returns-in_default-2 c = sym (among_out _ (12 ∷ 13 ∷ 14 ∷ 15 ∷ []) (λ x. omega (arith, x)))
