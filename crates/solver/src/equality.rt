@@ -1,7 +1,8 @@
 // Equality of resolved terms in polynomial time, by classes of token places: union-find without path compression, where a place is linked below
 // a lower one. A place is linked once, and only nodes are linked, so there are fewer links than nodes; the row of each place that is linked is walked once.
 // The area `work` has a word for each place first, 0 where it heads its class and else y + 1 for the place y that it is linked to; then the
-// places that are linked, in the order in which that happened.
+// places that are linked, in the order in which that happened. The area and the number of links are lent side by side, as in the search for a variable: `Wired`
+// does not hold between the two writes of `link`, so it cannot be the invariant of a struct that holds the area.
 ghost use Rattle.std.specs.Prelude.{true, false, List, ◌≡◌, ℕ, ◌+◌, ◌^◌, ◌≤◌, ◌<◌, length, get_or, set, take, drop};
 ghost use Rattle.std.proofs.Math.Option.{Option};
 ghost use Rattle.terms.specs.Term.{Term, Parts, node};
@@ -255,7 +256,8 @@ fn clear(n: usize, work: &mut [u32], top: usize)
     }
 }
 
-// Whether the terms at p and q are the same, bound variables replaced: they are joined, and all that follows from it. The words of the area are 0 before and after.
+// Whether the terms at p and q are the same, bound variables replaced: they are joined, and all that follows from it. The words of
+// the area are 0 before and after.
 pub fn same_terms(
     kinds: &[u32],
     vals: &[u32],

@@ -130,7 +130,7 @@ pub enum Verdict {
     Cancelled = 2,
 }
 
-// The solver after a pair, and what came of it.
+// The solver after a pair, and what came of it. The counters go in and come back by value (document 01), so in this and the next two a part stands beside them.
 #[derive(Clone, Copy)]
 pub struct Solved {
     pub solver: Solver,

@@ -52,7 +52,7 @@ fn unsigned_holds(greatest: u64, low: Bound, high: Bound) -> bool
     least.at_most(low) && high.at_most(most)
 }
 
-// The integer types that hold both bounds, as a mask.
+// The integer types that hold both bounds, as a mask. In a table each type would have its sign, its greatest value and its weight, which is these lines again.
 fn range_mask(low: Bound, high: Bound) -> u32
     ensures { (result ≡ mask_of (holds (bound_of low) (bound_of high))) × (result ≤ 255) }
 {
