@@ -1,8 +1,9 @@
 // An order answered on the session that the areas hold.
-ghost use Rattle.std.specs.Prelude.{◌≡◌, true, false, ◌||◌, List, ℕ, ◌≤◌, ◌<◌, eqb, ltb, length, get_or};
+ghost use Rattle.std.specs.Prelude.{◌≡◌, true, false, ◌||◌, List, ℕ, ◌≤◌, ◌<◌, eqb, ltb, length, get_or, MatchOption};
 ghost use Rattle.solver.specs.Session.{Session, issued};
 ghost use Rattle.solver.specs.Invariant.{InOrder};
 ghost use Rattle.solver.specs.Words.SessionRepresentation.{limits_of};
+ghost use Rattle.solver.specs.Words.PendingContract.{strict_of};
 ghost use Rattle.sheet.specs.OrderTable.{row_in};
 ghost use Rattle.sheet.specs.Sheet.{table};
 ghost use Rattle.sheet.specs.Words.FieldLayout.{is_operation};
@@ -21,7 +22,7 @@ use super::order_table::is_operation;
 use super::plain_orders::{termless_of, termless_order};
 use super::term_orders::{constrain_order, defer_term, resolve_term};
 use super::{AfterOrder, Order};
-use solver::{Solver, refusal_number};
+use solver::{Access, Solver, refusal_number};
 
 // Orders 9 to 20: the session stays as it was.
 fn operate_order(
@@ -98,17 +99,18 @@ fn resolve_order(
     resolve_term(x, &a[..top], &b[..top], &c[half..], d, out, to)
 }
 
-// Whether an order poses a pair: 4, or 22 strictly.
-fn poses_pair(kind: u8) -> bool
-    ensures { result ≡ (eqb kind 4 || eqb kind 22) }
+// How an order poses a pair, if it does: 4, and 22 with access compared.
+fn posed_access(kind: u8) -> Option<Access>
+    ensures { MatchOption result ((eqb kind 4 || eqb kind 22) ≡ false) (λ a. kind ≡ pair_number (strict_of a)) }
 {
-    if kind == 4 {
-        return true;
+    match kind {
+        4 => Some(Access::Ignored),
+        22 => Some(Access::Compared),
+        _ => None,
     }
-    kind == 22
 }
 
-// Orders 4 and, strict, 22: where it bound a variable, its tokens are those of the session.
+// Orders 4 and 22: where it bound a variable, its tokens are those of the session.
 fn pair_order(
     x: Solver,
     half: usize,
@@ -117,13 +119,13 @@ fn pair_order(
     c: &mut [u32],
     d: &mut [u32],
     o: Order,
-    strict: bool,
+    access: Access,
     out: &mut [u8],
     to: usize,
 ) -> AfterOrder
     requires taken { (s a₀ b₀ ws : List ℕ) × OrderTaken x half s (areas a₀ b₀ c.old d.old) (area a.now b.now) ws o }
     requires within { o.nodes ≤ x.nodes }
-    requires kind { o.kind ≡ pair_number strict }
+    requires kind { o.kind ≡ pair_number (strict_of access) }
     requires room { OutputRoom out.old to }
     ensures { (s a₀ b₀ ws : List ℕ) → OrderTaken x half s (areas a₀ b₀ c.old d.old) (area a.now b.now) ws o
         → Answered x result.solver half s (areas a₀ b₀ c.old d.old) (area a.now b.now) o c.new
@@ -141,7 +143,7 @@ fn pair_order(
         q,
         k,
         o.nodes,
-        strict,
+        access,
         out,
         to,
     )
@@ -207,9 +209,8 @@ fn answer_order(
     if k == 3 {
         return defer_order(x, half, a, b, c, o, out, to);
     }
-    if poses_pair(k) {
-        let strict = k == 22;
-        return pair_order(x, half, a, b, c, d, o, strict, out, to);
+    if let Some(access) = posed_access(k) {
+        return pair_order(x, half, a, b, c, d, o, access, out, to);
     }
     if k == 5 {
         return resolve_order(x, half, a, b, c, d, o, out, to);

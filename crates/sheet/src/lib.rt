@@ -15,7 +15,7 @@ mod starting;
 mod term_orders;
 
 pub use running::run_sheet;
-use solver::Solver;
+use solver::{Defaulted, Solver};
 
 // What an order does: it is told to the session, or it leaves the session as it was.
 #[derive(Clone, Copy)]
@@ -54,12 +54,12 @@ pub enum VariableOrder {
     Hole(u32),
 }
 
-// An order without terms: for a variable (orders 0, 1, 2 and 21), the defaults of numbers (6) or with true of deferred variables (7), the revision (8); or that no
+// An order without terms: for a variable (orders 0, 1, 2 and 21), the defaults of numbers (6) or of deferred variables (7), the revision (8); or that no
 // type lies within its bounds: refusal 13.
 #[derive(Clone, Copy)]
 pub enum TermlessOrder {
     Variable(VariableOrder),
-    Defaults(bool),
+    Defaults(Defaulted),
     Revision,
     NoType,
 }

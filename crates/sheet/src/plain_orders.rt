@@ -21,7 +21,10 @@ ghost use Rattle.sheet.specs.Words.SessionOrdersContract.{variable_answer, terml
 
 use super::framing::{begin_answer, write_byte_answer, write_number_answer, write_refusal};
 use super::{AfterOrder, FieldSpot, Order, TermlessOrder, VariableOrder};
-use solver::{Site, Solver, Subject, plain_request, range_request, variable_len, write_variable};
+use solver::{
+    Bound, Defaulted, Site, Solver, Subject, plain_request, range_request, variable_len,
+    write_variable,
+};
 
 // Whether the revision is another, as a byte.
 fn changed_byte(old: usize, new: usize) -> u8
@@ -42,23 +45,29 @@ fn revision_order(x: Solver, out: &mut [u8], to: usize) -> AfterOrder
     AfterOrder { solver: x, next }
 }
 
-// The numeric defaults, or with `never` those of the variables that are deferred.
-fn with_defaults(x: Solver, never: bool, kinds: &[u32], vals: &[u32], tables: &mut [u32]) -> Solver
+// The numeric defaults, or those of the variables that are deferred.
+fn with_defaults(
+    x: Solver,
+    which: Defaulted,
+    kinds: &[u32],
+    vals: &[u32],
+    tables: &mut [u32],
+) -> Solver
     requires { (z : Session) × InOrder (issued z) z.solver × Represents x kinds.now vals.now tables.old z }
     ensures held { (z : Session) → InOrder (issued z) z.solver → Represents x kinds.now vals.now tables.old z
-        → Represents result kinds.now vals.now tables.new (solve (limits_of x) z (defaults_by never)).session }
+        → Represents result kinds.now vals.now tables.new (solve (limits_of x) z (defaults_by which)).session }
     ensures beside { Beside x result tables.old tables.new }
 {
-    if never {
-        return x.apply_never_defaults(kinds, vals, tables);
+    match which {
+        Defaulted::Requested => x.apply_numeric_defaults(kinds, vals, tables),
+        Defaulted::Deferred => x.apply_never_defaults(kinds, vals, tables),
     }
-    x.apply_numeric_defaults(kinds, vals, tables)
 }
 
 // Orders 6 and 7.
 fn default_order(
     x: Solver,
-    never: bool,
+    which: Defaulted,
     kinds: &[u32],
     vals: &[u32],
     tables: &mut [u32],
@@ -69,14 +78,14 @@ fn default_order(
     requires room { OutputRoom out.old to }
     ensures { (z : Session) → InOrder (issued z) z.solver → Represents x kinds.now vals.now tables.old z
         → Does (lent x kinds.now vals.now tables.old) result.solver tables.new z
-        (solve (limits_of x) z (defaults_by never)) (output_at out.old to) (output_at out.new result.next) }
+        (solve (limits_of x) z (defaults_by which)) (output_at out.old to) (output_at out.new result.next) }
 {
     if out.len() - to < 3 {
         let next = out.len() + 1;
         return AfterOrder { solver: x, next };
     }
     let old = x.revision();
-    let y = with_defaults(x, never, kinds, vals, tables);
+    let y = with_defaults(x, which, kinds, vals, tables);
     let a = changed_byte(old, y.revision());
     let next = write_byte_answer(out, to, a);
     AfterOrder { solver: y, next }
@@ -237,13 +246,15 @@ fn range_word(fallback: u32, low: FieldSpot, high: FieldSpot) -> u32
     if 1 < high.place {
         return 0;
     }
-    range_request(
-        fallback,
-        low.place == 1,
-        low.value,
-        high.place == 1,
-        high.value,
-    )
+    let least = Bound {
+        minus: low.place == 1,
+        size: low.value,
+    };
+    let greatest = Bound {
+        minus: high.place == 1,
+        size: high.value,
+    };
+    range_request(fallback, least, greatest)
 }
 
 // The word of what an order 1 or 21 requests: 0 where it is refused.
@@ -285,10 +296,10 @@ pub fn termless_of(o: Order) -> TermlessOrder
         return TermlessOrder::Variable(VariableOrder::Hole(first));
     }
     if kind == 6 {
-        return TermlessOrder::Defaults(false);
+        return TermlessOrder::Defaults(Defaulted::Requested);
     }
     if kind == 7 {
-        return TermlessOrder::Defaults(true);
+        return TermlessOrder::Defaults(Defaulted::Deferred);
     }
     if kind == 8 {
         return TermlessOrder::Revision;
@@ -319,7 +330,7 @@ pub fn termless_order(
         TermlessOrder::Variable(wanted) => {
             variable_order(x, kinds, vals, tables, frames, wanted, out, to)
         }
-        TermlessOrder::Defaults(never) => default_order(x, never, kinds, vals, tables, out, to),
+        TermlessOrder::Defaults(which) => default_order(x, which, kinds, vals, tables, out, to),
         TermlessOrder::Revision => revision_order(x, out, to),
         TermlessOrder::NoType => {
             let next = write_refusal(out, to, 13);

@@ -10,7 +10,7 @@ ghost use Rattle.sheet.specs.Words.FieldLayout.{Free, Ample, rule_from, WordsFit
 use super::Order;
 use super::fields::read_plain;
 use super::order_table::{no_fields, put_spot};
-use solver::{Place, Refusal, clear_tokens, put_rule};
+use solver::{Place, Refusal, Rule, clear_tokens, put_rule};
 
 // A nominal, a term, a number that names a member, arguments and a term, as `sorts_of` tells a layout.
 const RULE: u64 = 409010405;
@@ -21,16 +21,15 @@ fn keep_rule(rules: &mut [u32], r: u64, o: Order)
     requires few { r < 4294967296 }
     ensures { rules.new ≡ put_rule rules.old r (rule_from o) }
 {
-    put_rule(
-        rules,
-        r,
-        o.first.place as u32,
-        o.second.place as u32,
-        o.third.value as u32,
-        o.fourth.place as u32,
-        o.fourth.value as u32,
-        o.fifth.place as u32,
-    );
+    let rule = Rule {
+        interface: o.first.place as u32,
+        receiver: o.second.place as u32,
+        member: o.third.value as u32,
+        arguments: o.fourth.place as u32,
+        count: o.fourth.value as u32,
+        value: o.fifth.place as u32,
+    };
+    put_rule(rules, r, rule);
 }
 
 // The r-th rule; on a refusal nothing of it remains in the areas.

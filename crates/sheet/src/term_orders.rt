@@ -4,6 +4,7 @@ ghost use Rattle.solver.specs.Terms.Term.{Term, size};
 ghost use Rattle.solver.specs.Session.{Session};
 ghost use Rattle.solver.specs.Orders as orders;
 ghost use Rattle.solver.specs.Words.Worklist.{Zero};
+ghost use Rattle.solver.specs.Words.PendingContract.{strict_of};
 ghost use Rattle.solver.specs.Words.ConstrainContract.{Scratch, pending_from};
 ghost use Rattle.solver.specs.Words.SessionRepresentation.{limits_of, verdict_number};
 ghost use Rattle.sheet.specs.Sheet.{solve};
@@ -14,7 +15,7 @@ ghost use Rattle.sheet.specs.Words.SessionOrdersContract.{lent, Does, DoesPair};
 use super::AfterOrder;
 use super::framing::{write_byte_answer, write_empty_answer};
 use super::plain_orders::resolved;
-use solver::{Solver, Subject, Verdict};
+use solver::{Access, Solver, Subject, Verdict};
 
 // Order 3: the variable that the term after the session's tokens stands for, if it stands for one, is deferred.
 pub fn defer_term(
@@ -68,7 +69,7 @@ fn verdict_number(v: Verdict) -> u8
     v as u8
 }
 
-// Orders 4 and, strict, 22: the two terms after the session's tokens, with k checks; `nodes` counts the kept nodes and theirs.
+// Orders 4 and 22: the two terms after the session's tokens, with k checks; `nodes` counts the kept nodes and theirs.
 pub fn constrain_order(
     x: Solver,
     kinds: &[u32],
@@ -78,7 +79,7 @@ pub fn constrain_order(
     q: usize,
     k: u32,
     nodes: usize,
-    strict: bool,
+    access: Access,
     out: &mut [u8],
     to: usize,
 ) -> AfterOrder
@@ -89,13 +90,13 @@ pub fn constrain_order(
     ensures does { (z : Session) (t u : Term) → PosesPair x kinds.now vals.now tables.old z q t u
         → nodes ≡ z.kept + (size t + size u)
         → DoesPair (lent x kinds.now vals.now tables.old) result.solver tables.new z
-        (solve (limits_of x) z (orders.pair strict k t u)) (output_at out.old to) (output_at out.new result.next) }
+        (solve (limits_of x) z (orders.pair (strict_of access) k t u)) (output_at out.old to) (output_at out.new result.next) }
 {
     if out.len() - to < 3 {
         let next = out.len() + 1;
         return AfterOrder { solver: x, next };
     }
-    let r = x.constrain(kinds, vals, tables, work, q, k, nodes, strict);
+    let r = x.constrain(kinds, vals, tables, work, q, k, nodes, access);
     let solver = r.solver;
     let v = r.verdict;
     let a = verdict_number(v);

@@ -10,7 +10,6 @@ ghost use Rattle.solver.specs.Words.SessionRepresentation.{limits_of, Represents
 ghost use Rattle.solver.specs.Words.OrderTerms.{Asked, Starts, Frames, resolved_to};
 
 use super::resolving::{clear_words, resolved_len, write_resolved};
-use super::words::wide;
 use super::{Solver, Start, Subject};
 use terms::{Refusal, number_len, write_number};
 
@@ -54,8 +53,8 @@ impl Solver {
                 if most == 0 {
                     return Start::Free(v);
                 }
-                let i = wide(v);
-                let word = wide(tables[i]);
+                let i = v as usize;
+                let word = tables[i] as usize;
                 if word == 0 {
                     return Start::Free(v);
                 }

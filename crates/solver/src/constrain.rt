@@ -10,6 +10,7 @@ ghost use Rattle.solver.specs.Invariant.{InOrder};
 ghost use Rattle.solver.specs.Words.Worklist.{Zero};
 ghost use Rattle.solver.specs.Words.SessionRepresentation.{Represents};
 ghost use Rattle.solver.specs.Words.OrderTerms.{PosesPair};
+ghost use Rattle.solver.specs.Words.PendingContract.{strict_of};
 ghost use Rattle.solver.specs.Words.ConstrainContract.{Waiting, Known, Scratch, Facing, Nodes, Due, After, Constrained, Posed, pending_from};
 
 use super::equality::same_terms;
@@ -17,7 +18,7 @@ use super::families::admissible;
 use super::pending::{clear_pairs, push_children, put_pair, same_shape, take_pair};
 use super::reach::{occurs, recovers};
 use super::top::shallow_resolve;
-use super::{Checked, Solved, Solver, Verdict};
+use super::{Access, Checked, Solved, Solver, Verdict};
 
 // Whether a token is the head of an Unknown or Error, or another is.
 pub fn either_recovers(left: u32, right: u32) -> bool
@@ -93,7 +94,7 @@ impl Solver {
         tables: &mut [u32],
         a: usize,
         b: usize,
-        strict: bool,
+        access: Access,
         count: usize,
     ) -> Checked
         requires nodes { (t u : Term) × Nodes self kinds.now vals.now a b count t u }
@@ -104,7 +105,7 @@ impl Solver {
             → Nodes self kinds.now vals.now a b count t u
             → Waiting self kinds.now vals.now tables.old count ps
             → After self kinds.now vals.now tables.old tables.new s t u count
-            (decompose s.solver t u ps (recovery t || recovery u) (projects t) (same_shape (notion strict) t u)) result }
+            (decompose s.solver t u ps (recovery t || recovery u) (projects t) (same_shape (notion (strict_of access)) t u)) result }
     {
         if either_recovers(kinds[a], kinds[b]) {
             return Checked {
@@ -120,7 +121,7 @@ impl Solver {
                 count,
             };
         }
-        if !same_shape(kinds, vals, a, b, strict) {
+        if !same_shape(kinds, vals, a, b, access) {
             return Checked {
                 solver: self,
                 good: false,
@@ -145,7 +146,7 @@ impl Solver {
         work: &mut [u32],
         i: usize,
         j: usize,
-        strict: bool,
+        access: Access,
         count: usize,
     ) -> Checked
         requires due { (s : Session) × (t u : Term) × Due self kinds.now vals.now tables.old s i j count t u }
@@ -154,7 +155,7 @@ impl Solver {
             → Due self kinds.now vals.now tables.old s i j count t u
             → Waiting self kinds.now vals.now tables.old count ps
             → After self kinds.now vals.now tables.old tables.new s (solving.top s.solver t)
-            (solving.top s.solver u) count (solving.check_pair (notion strict) s.solver t u ps) result }
+            (solving.top s.solver u) count (solving.check_pair (notion (strict_of access)) s.solver t u ps) result }
         ensures clear { Zero work.new }
     {
         let m = self.variables;
@@ -174,7 +175,7 @@ impl Solver {
         if kinds[b] == 1 {
             return self.unify_variable(kinds, vals, tables, work, vals[b], a, count);
         }
-        self.decompose(kinds, vals, tables, a, b, strict, count)
+        self.decompose(kinds, vals, tables, a, b, access, count)
     }
 
     // The loop: the terms at p and q are constrained to be equal, with k checks.
@@ -187,7 +188,7 @@ impl Solver {
         p: usize,
         q: usize,
         k: u32,
-        strict: bool,
+        access: Access,
     ) -> Solved
         requires held { (s : Session) × (t u : Term) × InOrder (issued s) s.solver × Represents self kinds.now vals.now tables.old s
             × Known kinds.now vals.now s p t × Known kinds.now vals.now s q u }
@@ -198,7 +199,7 @@ impl Solver {
             → Known kinds.now vals.now s p t
             → Known kinds.now vals.now s q u
             → Constrained self kinds.now vals.now tables.old tables.new s
-            (solving.constrain (notion strict) k s.solver t u) result }
+            (solving.constrain (notion (strict_of access)) k s.solver t u) result }
         ensures clear { Zero work.new }
     {
         let base = 7 * self.variables;
@@ -218,7 +219,7 @@ impl Solver {
             let pair = take_pair(tables, base, count);
             let i = pair.left;
             let j = pair.right;
-            let r = self.check_pair(kinds, vals, tables, work, i, j, strict, count);
+            let r = self.check_pair(kinds, vals, tables, work, i, j, access, count);
             self = r.solver;
             count = r.count;
             let good = r.good;
@@ -237,7 +238,7 @@ impl Solver {
             verdict: Verdict::Incompatible,
         }
     }
-    // Orders 4 and 22 (strict): the two terms after the session's tokens, the second at q, are constrained to be equal, with k checks; `nodes` counts the kept
+    // Orders 4 and 22: the two terms after the session's tokens, the second at q, are constrained to be equal, with k checks; `nodes` counts the kept
     // nodes and theirs. Where a variable was bound their tokens are the session's from now on; else they are given back, and no node is kept.
     pub fn constrain(
         mut self,
@@ -248,7 +249,7 @@ impl Solver {
         q: usize,
         k: u32,
         nodes: usize,
-        strict: bool,
+        access: Access,
     ) -> Solved
         requires held { (s : Session) × (t u : Term) × PosesPair self kinds.now vals.now tables.old s q t u × (nodes ≡ s.kept + (size t + size u)) }
         requires room { Scratch self kinds.now tables.old work.old × Zero (drop (pending_from self) tables.old) }
@@ -256,7 +257,7 @@ impl Solver {
             → PosesPair self kinds.now vals.now tables.old s q t u
             → nodes ≡ s.kept + (size t + size u)
             → Posed self kinds.now vals.now tables.old tables.new s (size t + size u)
-            (solving.constrain (notion strict) k s.solver t u) result }
+            (solving.constrain (notion (strict_of access)) k s.solver t u) result }
         ensures clear { Zero work.new }
     {
         let p = self.top;
@@ -264,7 +265,7 @@ impl Solver {
         let revision = self.revision;
         self.kept = nodes;
         self.top = kinds.len();
-        let r = self.solve_pair(kinds, vals, tables, work, p, q, k, strict);
+        let r = self.solve_pair(kinds, vals, tables, work, p, q, k, access);
         let verdict = r.verdict;
         self = r.solver;
         if self.revision == revision {

@@ -11,11 +11,10 @@ ghost use Rattle.solver.specs.Words.SessionRepresentation.{limits_of, bit, Reque
 ghost use Rattle.solver.specs.Words.OrderTerms.{Poses};
 ghost use Rattle.solver.specs.Words.MethodContract.{Shaped, Beside, Low, EndsAt, default_word, end_word, end_mask, default_at, defaulted};
 
-use super::Solver;
 use super::families::{family_mask, has};
 use super::resolving::named_run;
 use super::top::shallow_resolve;
-use super::words::wide;
+use super::{Defaulted, Solver};
 
 // The variable at the end of the chain of bindings from v on, or the length of the table where the chain ends at no variable of the table.
 pub fn root_of(kinds: &[u32], vals: &[u32], bound: &[u32], most: usize, v: usize) -> usize
@@ -27,7 +26,7 @@ pub fn root_of(kinds: &[u32], vals: &[u32], bound: &[u32], most: usize, v: usize
     if most == 0 {
         return v;
     }
-    let run = named_run(kinds, vals, wide(bound[v]));
+    let run = named_run(kinds, vals, bound[v] as usize);
     let len = run.len;
     let at = run.at;
     if len == 0 {
@@ -37,36 +36,38 @@ pub fn root_of(kinds: &[u32], vals: &[u32], bound: &[u32], most: usize, v: usize
     if kinds[q] != 1 {
         return bound.len();
     }
-    let w = wide(vals[q]);
+    let w = vals[q] as usize;
     if bound.len() <= w {
         return bound.len();
     }
     w
 }
 
-// The word that the default of the variable v goes by: with `never` that of Never, if v is deferred, else its request's.
-fn default_word(tables: &[u32], m: usize, v: usize, never: bool) -> u32
+// The word that the default of the variable v goes by: its request's, or that of Never, if v is deferred.
+fn default_word(tables: &[u32], m: usize, v: usize, which: Defaulted) -> u32
     requires { (v < m) × (7 * m ≤ length tables.now) }
-    ensures { result ≡ default_word never m tables.now v }
+    ensures { result ≡ default_word which m tables.now v }
 {
-    if never {
-        if tables[5 * m + v] == 0 {
-            return 0;
+    match which {
+        Defaulted::Requested => tables[m + v],
+        Defaulted::Deferred => {
+            if tables[5 * m + v] == 0 {
+                return 0;
+            }
+            11
         }
-        return 11;
     }
-    tables[m + v]
 }
 
-// The word at the end w of its chain, 0 with `never`.
-fn end_word(tables: &[u32], m: usize, w: usize, never: bool) -> u32
+// The word at the end w of its chain: for Never it does not count.
+fn end_word(tables: &[u32], m: usize, w: usize, which: Defaulted) -> u32
     requires { (w < m) × (7 * m ≤ length tables.now) }
-    ensures { result ≡ end_word never m tables.now w }
+    ensures { result ≡ end_word which m tables.now w }
 {
-    if never {
-        return 0;
+    match which {
+        Defaulted::Requested => tables[m + w],
+        Defaulted::Deferred => 0,
     }
-    tables[m + w]
 }
 
 // The first type of a mask in the order of preference, or the fallback.
@@ -142,7 +143,7 @@ impl Solver {
         let most = self.revision;
         let q = shallow_resolve(kinds, vals, &tables[..m], most, self.top);
         if kinds[q] == 1 {
-            let v = wide(vals[q]);
+            let v = vals[q] as usize;
             if v < m {
                 tables[5 * m + v] = 1;
             }
@@ -157,19 +158,19 @@ impl Solver {
         vals: &[u32],
         tables: &mut [u32],
         v: usize,
-        never: bool,
+        which: Defaulted,
     ) -> Solver
         requires shape { Shaped self (length tables.old) }
         requires areas { (v < self.variables) × (self.revision < 2 ^ 33) × (length vals.now ≡ length kinds.now) }
         ensures held { (s : Session)
             → Represents self kinds.now vals.now tables.old s
             → Low self.variables s.solver.bindings
-            → Represents result kinds.now vals.now tables.new (with_solver s (default_at never s v)) }
+            → Represents result kinds.now vals.now tables.new (with_solver s (default_at which s v)) }
         ensures steps { (result.revision ≤ self.revision + 1) × (result.issued ≡ self.issued) }
         ensures beside { Beside self result tables.old tables.new }
     {
         let m = self.variables;
-        let word = default_word(tables, m, v, never);
+        let word = default_word(tables, m, v, which);
         if word == 0 {
             return self;
         }
@@ -178,31 +179,31 @@ impl Solver {
         if m <= w {
             return self;
         }
-        let code = default_code(word, end_word(tables, m, w, never));
+        let code = default_code(word, end_word(tables, m, w, which));
         tables[w] = 2 * code + 1;
         self.revision = most + 1;
         self
     }
 
-    // Each issued variable, by rising id, takes its default: with `never` by its deferral, else by its request.
+    // Each issued variable, by rising id, takes its default: by its request or by its deferral.
     fn apply_defaults(
         mut self,
         kinds: &[u32],
         vals: &[u32],
         tables: &mut [u32],
-        never: bool,
+        which: Defaulted,
     ) -> Solver
         requires shape { Shaped self (length tables.old) }
         requires areas { (self.revision < 2 ^ 32) × (length vals.now ≡ length kinds.now) }
         ensures held { (s : Session)
             → Represents self kinds.now vals.now tables.old s
             → Low self.variables s.solver.bindings
-            → Represents result kinds.now vals.now tables.new (with_solver s (defaulted never (issued s) s)) }
+            → Represents result kinds.now vals.now tables.new (with_solver s (defaulted which (issued s) s)) }
         ensures beside { Beside self result tables.old tables.new }
     {
         let n = self.issued;
         for v in 0..n {
-            self = self.bind_default(kinds, vals, tables, v, never);
+            self = self.bind_default(kinds, vals, tables, v, which);
         }
         self
     }
@@ -223,7 +224,7 @@ impl Solver {
             → Represents result kinds.now vals.now tables.new (orders.order (limits_of self) s orders.numbers).session }
         ensures beside { Beside self result tables.old tables.new }
     {
-        self = self.apply_defaults(kinds, vals, tables, false);
+        self = self.apply_defaults(kinds, vals, tables, Defaulted::Requested);
         self
     }
 
@@ -238,7 +239,7 @@ impl Solver {
             → Represents result kinds.now vals.now tables.new (orders.order (limits_of self) s orders.nevers).session }
         ensures beside { Beside self result tables.old tables.new }
     {
-        self = self.apply_defaults(kinds, vals, tables, true);
+        self = self.apply_defaults(kinds, vals, tables, Defaulted::Deferred);
         self
     }
 }

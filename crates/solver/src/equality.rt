@@ -1,7 +1,8 @@
 // Equality of resolved terms in polynomial time, by classes of token places: union-find without path compression, where a place is linked below
 // a lower one. A place is linked once, and only nodes are linked, so there are fewer links than nodes; the row of each place that is linked is walked once.
 // The area `work` has a word for each place first, 0 where it heads its class and else y + 1 for the place y that it is linked to; then the
-// places that are linked, in the order in which that happened.
+// places that are linked, in the order in which that happened. The area and the number of links are lent side by side, as in the search for a variable: `Wired`
+// does not hold between the two writes of `link`, so it cannot be the invariant of a struct that holds the area.
 ghost use Rattle.std.specs.Prelude.{true, false, List, ◌≡◌, ℕ, ◌+◌, ◌^◌, ◌≤◌, ◌<◌, length, get_or, set, take, drop};
 ghost use Rattle.std.proofs.Math.Option.{Option};
 ghost use Rattle.terms.specs.Term.{Term, Parts, node};
@@ -16,9 +17,7 @@ ghost use Rattle.solver.specs.Words.CongruenceClasses.{link_words, WiredIn, Adva
 ghost use Rattle.solver.specs.Words.CongruenceClasses.{Fair, Outcome};
 ghost use Rattle.solver.specs.Words.CongruenceClasses.{Closed, TermsJoined, RowsJoined};
 
-use super::Closure;
 use super::top::shallow_resolve;
-use super::words::wide;
 use terms::skip;
 
 // The root of the class of a, of the n places.
@@ -28,26 +27,28 @@ fn find(n: usize, work: &[u32], a: usize) -> usize
 {
     let mut r = a;
     while work[r] != 0 {
-        r = wide(work[r]) - 1;
+        r = work[r] as usize - 1;
     }
     r
 }
 
-// Links the place x below the lower place y, as the entry `top` of the queue.
-fn link(n: usize, work: &mut [u32], top: usize, x: usize, y: usize)
-    requires { (x < n) × (y < x) × (n < 2 ^ 32) × (n + top < length work.old) }
-    ensures { (take n work.new ≡ set (take n work.old) x (y + 1)) × (drop n work.new ≡ set (drop n work.old) top x) }
+// Links the place x below the lower place y, as the next entry of the queue.
+fn link(n: usize, work: &mut [u32], top: &mut usize, x: usize, y: usize)
+    requires { (x < n) × (y < x) × (n < 2 ^ 32) × (n + top.old < length work.old) }
+    ensures { (take n work.new ≡ set (take n work.old) x (y + 1)) × (drop n work.new ≡ set (drop n work.old) top.old x)
+        × (top.new ≡ top.old + 1) }
 {
     work[x] = (y + 1) as u32;
-    work[n + top] = x as u32;
+    work[n + *top] = x as u32;
+    *top += 1;
 }
 
 // Puts the nodes at a and b, of one tag, into one class.
-fn union_classes(kinds: &[u32], a: usize, b: usize, work: &mut [u32], top: usize) -> usize
+fn union_classes(kinds: &[u32], a: usize, b: usize, work: &mut [u32], top: &mut usize)
     requires places { (a < length kinds.now) × (b < length kinds.now) × (length kinds.now < 2 ^ 32) × (2 ≤ get_or kinds.now a 0)
         × (get_or kinds.now a 0 ≡ get_or kinds.now b 0) }
-    requires wired { WiredIn kinds.now work.old top }
-    ensures advanced { AdvancedIn kinds.now work.old top work.new result }
+    requires wired { WiredIn kinds.now work.old top.old }
+    ensures advanced { AdvancedIn kinds.now work.old top.old work.new top.new }
     ensures terms { (vs : List ℕ) (σ : ℕ → Term) (τ : Term → Term) (t u : Term)
         → Standing σ τ
         → Held kinds.now vs a (τ t)
@@ -61,13 +62,9 @@ fn union_classes(kinds: &[u32], a: usize, b: usize, work: &mut [u32], top: usize
     let y = find(n, work, b);
     if x < y {
         link(n, work, top, y, x);
-        return top + 1;
-    }
-    if y < x {
+    } else if y < x {
         link(n, work, top, x, y);
-        return top + 1;
     }
-    top
 }
 
 // Puts the terms at i and j into one class, unless their tops differ.
@@ -79,33 +76,30 @@ fn union_terms(
     i: usize,
     j: usize,
     work: &mut [u32],
-    top: usize,
-) -> Closure
+    top: &mut usize,
+) -> bool
     requires places { (i < length kinds.now) × (j < length kinds.now) × (length vals.now ≡ length kinds.now) × (length kinds.now < 2 ^ 32) }
-    requires wired { WiredIn kinds.now work.old top }
-    ensures advanced { AdvancedIn kinds.now work.old top work.new result.top }
+    requires wired { WiredIn kinds.now work.old top.old }
+    ensures advanced { AdvancedIn kinds.now work.old top.old work.new top.new }
     ensures terms { (b : ℕ → Option Term) (t u : Term)
         → HeldSteady kinds.now vals.now bound.now most b
         → Held kinds.now vals.now i t
         → Held kinds.now vals.now j u
-        → TermsJoined kinds.now vals.now most b work.old work.new result.equal t u }
+        → TermsJoined kinds.now vals.now most b work.old work.new result t u }
 {
     let a = shallow_resolve(kinds, vals, bound, most, i);
     let b = shallow_resolve(kinds, vals, bound, most, j);
     if kinds[a] != kinds[b] {
-        return Closure { equal: false, top };
+        return false;
     }
     if kinds[a] < 2 {
         if vals[a] != vals[b] {
-            return Closure { equal: false, top };
+            return false;
         }
-        return Closure { equal: true, top };
+        return true;
     }
-    let next = union_classes(kinds, a, b, work, top);
-    Closure {
-        equal: true,
-        top: next,
-    }
+    union_classes(kinds, a, b, work, top);
+    true
 }
 
 // Joins the terms of two rows of parts, one after the other, unless the rows differ in a number or in where their terms stand.
@@ -119,52 +113,48 @@ fn union_rows(
     b: usize,
     be: usize,
     work: &mut [u32],
-    from: usize,
-) -> Closure
+    top: &mut usize,
+) -> bool
     requires places { (a ≤ ae) × (ae ≤ length kinds.now) × (b ≤ be) × (be ≤ length kinds.now) × (length vals.now ≡ length kinds.now)
         × (length kinds.now < 2 ^ 32) }
-    requires wired { WiredIn kinds.now work.old from }
-    ensures advanced { AdvancedIn kinds.now work.old from work.new result.top }
+    requires wired { WiredIn kinds.now work.old top.old }
+    ensures advanced { AdvancedIn kinds.now work.old top.old work.new top.new }
     ensures terms { (h : ℕ → Option Term) (ps qs : Parts)
         → HeldSteady kinds.now vals.now bound.now most h
         → HeldParts kinds.now vals.now a ae ps
         → HeldParts kinds.now vals.now b be qs
-        → RowsJoined kinds.now vals.now most h work.old work.new result.equal ps qs }
+        → RowsJoined kinds.now vals.now most h work.old work.new result ps qs }
 {
     let mut i = a;
     let mut j = b;
-    let mut top = from;
     while i < ae {
         if be <= j {
-            return Closure { equal: false, top };
+            return false;
         }
         if kinds[i] == 0 {
             if kinds[j] != 0 {
-                return Closure { equal: false, top };
+                return false;
             }
             if vals[i] != vals[j] {
-                return Closure { equal: false, top };
+                return false;
             }
             i += 1;
             j += 1;
         } else {
             if kinds[j] == 0 {
-                return Closure { equal: false, top };
+                return false;
             }
-            let r = union_terms(kinds, vals, bound, most, i, j, work, top);
-            top = r.top;
-            let equal = r.equal;
-            if !equal {
-                return Closure { equal: false, top };
+            if !union_terms(kinds, vals, bound, most, i, j, work, top) {
+                return false;
             }
             i += skip(kinds, vals, i, ae - i);
             j += skip(kinds, vals, j, be - j);
         }
     }
     if j < be {
-        return Closure { equal: false, top };
+        return false;
     }
-    Closure { equal: true, top }
+    true
 }
 
 // Joins the parts of the nodes at x and y.
@@ -176,16 +166,16 @@ fn union_parts(
     x: usize,
     y: usize,
     work: &mut [u32],
-    top: usize,
-) -> Closure
+    top: &mut usize,
+) -> bool
     requires places { (x < length kinds.now) × (y < length kinds.now) × (length vals.now ≡ length kinds.now) × (length kinds.now < 2 ^ 32) }
-    requires wired { WiredIn kinds.now work.old top }
-    ensures advanced { AdvancedIn kinds.now work.old top work.new result.top }
+    requires wired { WiredIn kinds.now work.old top.old }
+    ensures advanced { AdvancedIn kinds.now work.old top.old work.new top.new }
     ensures terms { (b : ℕ → Option Term) (k l : ℕ) (ps qs : Parts)
         → HeldSteady kinds.now vals.now bound.now most b
         → Held kinds.now vals.now x (node k ps)
         → Held kinds.now vals.now y (node l qs)
-        → RowsJoined kinds.now vals.now most b work.old work.new result.equal ps qs }
+        → RowsJoined kinds.now vals.now most b work.old work.new result ps qs }
 {
     let n = skip(kinds, vals, x, kinds.len() - x);
     let m = skip(kinds, vals, y, kinds.len() - y);
@@ -210,60 +200,28 @@ fn close_congruence(
     bound: &[u32],
     most: usize,
     work: &mut [u32],
-    from: usize,
-) -> Closure
+    top: &mut usize,
+) -> bool
     requires areas { (length vals.now ≡ length kinds.now) × (length kinds.now < 2 ^ 32) }
-    requires wired { WiredIn kinds.now work.old from }
-    ensures advanced { AdvancedIn kinds.now work.old from work.new result.top }
+    requires wired { WiredIn kinds.now work.old top.old }
+    ensures advanced { AdvancedIn kinds.now work.old top.old work.new top.new }
     ensures terms { (b : ℕ → Option Term)
         → HeldSteady kinds.now vals.now bound.now most b
         → Fair kinds.now vals.now (link_words kinds.now work.old)
         → Closed kinds.now vals.now (stands_for most b) (follow most b) (link_words kinds.now work.old)
-        (link_words kinds.now work.new) result.equal }
+        (link_words kinds.now work.new) result }
 {
     let n = kinds.len();
-    let mut top = from;
     let mut done = 0;
-    while done < top {
-        let x = wide(work[n + done]);
-        let y = wide(work[x]) - 1;
-        let r = union_parts(kinds, vals, bound, most, x, y, work, top);
-        top = r.top;
-        let equal = r.equal;
-        if !equal {
-            return Closure { equal: false, top };
+    while done < *top {
+        let x = work[n + done] as usize;
+        let y = work[x] as usize - 1;
+        if !union_parts(kinds, vals, bound, most, x, y, work, top) {
+            return false;
         }
         done += 1;
     }
-    Closure { equal: true, top }
-}
-
-// Joins the terms at p and q and all that follows from it.
-fn decide(
-    kinds: &[u32],
-    vals: &[u32],
-    bound: &[u32],
-    most: usize,
-    p: usize,
-    q: usize,
-    work: &mut [u32],
-) -> Closure
-    requires places { (p < length kinds.now) × (q < length kinds.now) × (length vals.now ≡ length kinds.now) × (length kinds.now < 2 ^ 32) }
-    requires room { (length kinds.now + begins kinds.now ≤ length work.old) × Zero work.old }
-    ensures wired { WiredIn kinds.now work.new result.top }
-    ensures term { (t u : Term) (b : ℕ → Option Term)
-        → Held kinds.now vals.now p t
-        → Held kinds.now vals.now q u
-        → HeldSteady kinds.now vals.now bound.now most b
-        → result.equal ≡ same (resolve most b t) (resolve most b u) }
-{
-    let r = union_terms(kinds, vals, bound, most, p, q, work, 0);
-    let top = r.top;
-    let equal = r.equal;
-    if !equal {
-        return Closure { equal: false, top };
-    }
-    close_congruence(kinds, vals, bound, most, work, top)
+    true
 }
 
 // Sets the links of the places that are linked, and the queue, back to 0.
@@ -272,13 +230,14 @@ fn clear(n: usize, work: &mut [u32], top: usize)
     ensures { Zero work.new }
 {
     for k in (0..top).rev() {
-        let x = wide(work[n + k]);
+        let x = work[n + k] as usize;
         work[x] = 0;
         work[n + k] = 0;
     }
 }
 
-// Whether the terms at p and q are the same, bound variables replaced. The words of the area are 0 before and after.
+// Whether the terms at p and q are the same, bound variables replaced: they are joined, and all that follows from it. The words of
+// the area are 0 before and after.
 pub fn same_terms(
     kinds: &[u32],
     vals: &[u32],
@@ -299,7 +258,9 @@ pub fn same_terms(
         → Topped most b
         → result ≡ same (resolve most b t) (resolve most b u) }
 {
-    let r = decide(kinds, vals, bound, most, p, q, work);
-    clear(kinds.len(), work, r.top);
-    r.equal
+    let mut top = 0;
+    let equal = union_terms(kinds, vals, bound, most, p, q, work, &mut top)
+        && close_congruence(kinds, vals, bound, most, work, &mut top);
+    clear(kinds.len(), work, top);
+    equal
 }

@@ -9,14 +9,13 @@ ghost use Rattle.solver.specs.Words.SessionRepresentation.{request_words, bit, R
 ghost use Rattle.solver.specs.Words.MethodContract.{Shaped, Beside, is_some, bound_to, at_most, mask_in, joined_word, Handed};
 
 use super::Solver;
-use super::words::wide;
 
 // A variable's request: the word of its column, 0 for none.
 pub fn request_word(tables: &[u32], m: usize, v: u32) -> u32
     requires { 7 * m ≤ length tables.now }
     ensures { result ≡ get_or (request_words m tables.now) v 0 }
 {
-    let at = wide(v);
+    let at = v as usize;
     if m <= at {
         return 0;
     }
@@ -113,7 +112,7 @@ pub fn propagate_request(tables: &mut [u32], m: usize, v: usize, kind: u32, val:
     if kind != 1 {
         return;
     }
-    let w = wide(val);
+    let w = val as usize;
     if m <= w {
         return;
     }
@@ -143,7 +142,7 @@ impl Solver {
         ensures beside { Beside self result tables.old tables.new }
     {
         let m = self.variables;
-        let at = wide(v);
+        let at = v as usize;
         propagate_request(tables, m, at, kinds[q], vals[q]);
         tables[at] = (q + 1) as u32;
         self.revision += 1;

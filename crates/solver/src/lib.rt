@@ -15,7 +15,6 @@ mod sessions;
 mod substitution;
 mod top;
 mod variables;
-mod words;
 
 pub use answers::{refusal_number, variable_len, write_variable};
 pub use ranges::{plain_request, range_request};
@@ -25,9 +24,9 @@ pub use substitution::{context, family, instantiation, self_only};
 
 // Functions and types of the terms that are handed on to the sheet, which names this crate alone.
 pub use terms::{
-    Binders, Listing, Parameter, Place, Question, Ready, Refusal, Unfinished, ask, can_weaken_to,
-    clear_tokens, conflicts_with, keep_list, normalise, number_len, part_at, read_number,
-    recovered_len, satisfies, satisfies_for, skip_parameters, with_associated_types,
+    Binders, Listing, Parameter, Place, Question, Ready, Refusal, Rule, Unfinished, ask,
+    can_weaken_to, clear_tokens, conflicts_with, keep_list, normalise, number_len, part_at,
+    read_number, recovered_len, satisfies, satisfies_for, skip_parameters, with_associated_types,
     write_normalised, write_number, write_recovered, write_term,
 };
 
@@ -44,20 +43,6 @@ pub struct Stand {
     pub at: usize,
     pub end: usize,
     pub depth: usize,
-}
-
-// Whether what is asked for was met, and how many variables stand in the queue.
-#[derive(Clone, Copy)]
-pub struct Reached {
-    pub hit: bool,
-    pub top: usize,
-}
-
-// Whether no difference was seen, and how many places are linked.
-#[derive(Clone, Copy)]
-pub struct Closure {
-    pub equal: bool,
-    pub top: usize,
 }
 
 // A pending pair: the places of its two terms.
@@ -116,6 +101,27 @@ pub enum Start {
     Free(u32),
 }
 
+// Whether the access of a Map or a Set is part of a shape: in order 4 it is not, in order 22 it is.
+#[derive(Clone, Copy, Debug, PartialEq, Eq)]
+pub enum Access {
+    Ignored,
+    Compared,
+}
+
+// Whose defaults are taken: those of the variables that have a request, or those of the variables that are deferred, which take Never.
+#[derive(Clone, Copy, Debug, PartialEq, Eq)]
+pub enum Defaulted {
+    Requested,
+    Deferred,
+}
+
+// A bound of a range: its size, or with `minus` minus its size.
+#[derive(Clone, Copy, Debug, PartialEq, Eq)]
+pub struct Bound {
+    pub minus: bool,
+    pub size: u64,
+}
+
 // What `constrain` answers.
 #[derive(Clone, Copy, Debug, PartialEq, Eq)]
 pub enum Verdict {
@@ -124,7 +130,7 @@ pub enum Verdict {
     Cancelled = 2,
 }
 
-// The solver after a pair, and what came of it.
+// The solver after a pair, and what came of it. The counters go in and come back by value (document 01), so in this and the next two a part stands beside them.
 #[derive(Clone, Copy)]
 pub struct Solved {
     pub solver: Solver,

@@ -5,10 +5,9 @@ ghost use Rattle.terms.specs.Term.{Parts, node, Held};
 ghost use Rattle.terms.specs.Words.Held.{HeldParts};
 ghost use Rattle.terms.specs.Tree.{nums, children};
 ghost use Rattle.solver.specs.Shapes.{notion, same_shape};
-ghost use Rattle.solver.specs.Words.PendingContract.{Laid, Taken, Wiped, places, PushedPairs, Twins, agree, here, window, PartEnd, NumberAt};
+ghost use Rattle.solver.specs.Words.PendingContract.{strict_of, Laid, Taken, Wiped, places, PushedPairs, Twins, agree, here, window, PartEnd, NumberAt};
 
-use super::words::wide;
-use super::{Counted, PairAt};
+use super::{Access, Counted, PairAt};
 
 // Where the part at i ends, or end where it would go past it.
 pub fn part_end(kinds: &[u32], vals: &[u32], i: usize, end: usize) -> usize
@@ -18,7 +17,7 @@ pub fn part_end(kinds: &[u32], vals: &[u32], i: usize, end: usize) -> usize
     if kinds[i] < 2 {
         return i + 1;
     }
-    let len = wide(vals[i]);
+    let len = vals[i] as usize;
     if len == 0 {
         return end;
     }
@@ -46,25 +45,22 @@ pub fn parts_agree(kinds: &[u32], vals: &[u32], i: usize, j: usize, free: bool) 
 }
 
 // Whether the access of a head does not count: that of a Map or a Set, unless every access counts.
-pub fn access_free(kind: u32, strict: bool) -> bool
-    ensures { result ≡ (not strict && (eqb kind 12 || eqb kind 13)) }
+pub fn access_free(kind: u32, access: Access) -> bool
+    ensures { result ≡ (not (strict_of access) && (eqb kind 12 || eqb kind 13)) }
 {
-    if strict {
-        return false;
+    match access {
+        Access::Ignored => kind == 12 || kind == 13,
+        Access::Compared => false,
     }
-    if kind == 12 {
-        return true;
-    }
-    kind == 13
 }
 
 // Whether the nodes at a and b have the same shape: heads of one kind, and rows of parts that agree.
-pub fn same_shape(kinds: &[u32], vals: &[u32], a: usize, b: usize, strict: bool) -> bool
+pub fn same_shape(kinds: &[u32], vals: &[u32], a: usize, b: usize, access: Access) -> bool
     requires { (a < length kinds.now) × (b < length kinds.now) × (length vals.now ≡ length kinds.now) × (length kinds.now < 2 ^ 32) }
     ensures { (k j : ℕ) (ps qs : Parts)
         → Held kinds.now vals.now a (node k ps)
         → Held kinds.now vals.now b (node j qs)
-        → result ≡ same_shape (notion strict) (node k ps) (node j qs) }
+        → result ≡ same_shape (notion (strict_of access)) (node k ps) (node j qs) }
 {
     if kinds[a] != kinds[b] {
         return false;
@@ -73,7 +69,7 @@ pub fn same_shape(kinds: &[u32], vals: &[u32], a: usize, b: usize, strict: bool)
     let be = part_end(kinds, vals, b, kinds.len());
     let mut i = a + 1;
     let mut j = b + 1;
-    let mut free = access_free(kinds[a], strict);
+    let mut free = access_free(kinds[a], access);
     while i < ae {
         if be <= j {
             return false;
@@ -118,7 +114,7 @@ pub fn second_number(kinds: &[u32], vals: &[u32], a: usize) -> usize
     if end <= q {
         return 0;
     }
-    wide(vals[q])
+    vals[q] as usize
 }
 
 // Puts a pair on top of the pending ones, and returns how many there are then.
@@ -139,8 +135,8 @@ pub fn take_pair(tables: &mut [u32], base: usize, m: usize) -> PairAt
     ensures { Taken base m tables.old tables.new result.left result.right }
 {
     let w = base + m + m;
-    let left = wide(tables[w]);
-    let right = wide(tables[w + 1]);
+    let left = tables[w] as usize;
+    let right = tables[w + 1] as usize;
     tables[w] = 0;
     tables[w + 1] = 0;
     PairAt { left, right }
@@ -151,10 +147,7 @@ pub fn clear_pairs(tables: &mut [u32], base: usize, count: usize)
     requires { base + 2 * count ≤ length tables.old }
     ensures { Wiped base count tables.old tables.new }
 {
-    let end = count + count;
-    for i in 0..end {
-        tables[base + i] = 0;
-    }
+    tables[base..base + 2 * count].fill(0);
 }
 
 // Puts the parts at i and j on as a pair, if they are terms and their index is from lo up to hi.

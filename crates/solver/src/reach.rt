@@ -1,7 +1,8 @@
 // Whether a term has, bound variables replaced, a variable, or an Unknown or Error: one worklist over variables, so that the run of each
 // bound variable is scanned once. Question v + 1 asks for the variable v, question 0 for an Unknown or Error. One area of words is the
 // scratch: its first n words, n being the number of variables in the table, are the marks, the words from n on the queue. A variable's
-// mark is 1 once it stands in the queue.
+// mark is 1 once it stands in the queue. The scratch, n and the length of the queue are lent side by side: a struct with `Work` for its
+// invariant was tried, and the check asks for the invariant between the two writes of `push`, where the queue has no entry yet.
 ghost use Rattle.std.specs.Prelude.{◌≡◌, true, ◌||◌, ℕ, suc, ◌+◌, ◌^◌, ◌≤◌, ◌<◌, length, take, drop};
 ghost use Rattle.std.proofs.Math.Option.{Option, none};
 ghost use Rattle.terms.specs.Words.Tokens.{toks};
@@ -12,9 +13,8 @@ ghost use Rattle.solver.specs.Words.Bindings.{HeldBindings};
 ghost use Rattle.solver.specs.Words.Worklist.{Zero, Work, Grown};
 ghost use Rattle.solver.specs.Words.ReachContract.{counts, has, run_of, Told, asked, Steady, Free};
 
+use super::Run;
 use super::resolving::named_run;
-use super::words::wide;
-use super::{Reached, Run};
 
 // Whether a token is what is asked for, or one before it was.
 pub fn seen(kind: u32, val: u32, want: usize, before: bool) -> bool
@@ -32,31 +32,31 @@ pub fn seen(kind: u32, val: u32, want: usize, before: bool) -> bool
     if kind != 1 {
         return false;
     }
-    want - 1 == wide(val)
+    want - 1 == val as usize
 }
 
 // Marks the variable of a token and puts it into the queue, if the token is one, the table has it, and it was not marked.
-pub fn push(work: &mut [u32], n: usize, top: usize, kind: u32, val: u32) -> usize
-    requires { Work (take n work.old) (drop n work.old) top × (n + n ≤ length work.old) }
-    ensures { Grown (λ (u : ℕ). counts (suc u) kind val ≡ true) (take n work.old) (drop n work.old) top (take n work.new)
-        (drop n work.new) result }
+pub fn push(work: &mut [u32], n: usize, top: &mut usize, kind: u32, val: u32)
+    requires { Work (take n work.old) (drop n work.old) top.old × (n + n ≤ length work.old) }
+    ensures { Grown (λ (u : ℕ). counts (suc u) kind val ≡ true) (take n work.old) (drop n work.old) top.old (take n work.new)
+        (drop n work.new) top.new }
 {
     if kind != 1 {
-        return top;
+        return;
     }
-    let at = wide(val);
+    let at = val as usize;
     if n <= at {
-        return top;
+        return;
     }
     if work[at] != 0 {
-        return top;
+        return;
     }
     work[at] = 1;
-    work[n + top] = val;
-    top + 1
+    work[n + *top] = val;
+    *top += 1;
 }
 
-// Looks at the tokens of a run, and marks its variables.
+// Looks at the tokens of a run for what is asked for, and marks its variables.
 pub fn scan(
     kinds: &[u32],
     vals: &[u32],
@@ -64,54 +64,22 @@ pub fn scan(
     want: usize,
     work: &mut [u32],
     n: usize,
-    from: usize,
-) -> Reached
+    top: &mut usize,
+) -> bool
     requires areas { (length vals.now ≡ length kinds.now) × (run.at + run.len ≤ length kinds.now) }
-    requires work { Work (take n work.old) (drop n work.old) from × (n + n ≤ length work.old) }
-    ensures hit { result.hit ≡ has want (toks kinds.now vals.now run.at run.len) }
+    requires work { Work (take n work.old) (drop n work.old) top.old × (n + n ≤ length work.old) }
+    ensures hit { result ≡ has want (toks kinds.now vals.now run.at run.len) }
     ensures grown { Grown (λ (u : ℕ). has (suc u) (toks kinds.now vals.now run.at run.len) ≡ true) (take n work.old)
-        (drop n work.old) from (take n work.new) (drop n work.new) result.top }
+        (drop n work.old) top.old (take n work.new) (drop n work.new) top.new }
 {
     let mut hit = false;
-    let mut top = from;
     for i in 0..run.len {
         let k = kinds[run.at + i];
         let v = vals[run.at + i];
         hit = seen(k, v, want, hit);
-        top = push(work, n, top, k, v);
+        push(work, n, top, k, v);
     }
-    Reached { hit, top }
-}
-
-// Looks at the term at p and at what its variables are bound to, each once, until what is asked for is met.
-pub fn reach(
-    kinds: &[u32],
-    vals: &[u32],
-    bound: &[u32],
-    p: usize,
-    want: usize,
-    work: &mut [u32],
-) -> Reached
-    requires areas { (length vals.now ≡ length kinds.now) × (p < 2 ^ 32) }
-    requires scratch { (length bound.now + length bound.now ≤ length work.old) × Zero work.old }
-    ensures told { Told kinds.now vals.now bound.now (run_of kinds.now vals.now (p + 1)) want result.hit }
-    ensures work { Work (take (length bound.now) work.new) (drop (length bound.now) work.new) result.top }
-{
-    let n = bound.len();
-    let run = named_run(kinds, vals, p + 1);
-    let mut c = scan(kinds, vals, run, want, work, n, 0);
-    let mut done = 0;
-    while done < c.top {
-        let hit = c.hit;
-        if hit {
-            return c;
-        }
-        let w = wide(work[n + done]);
-        let next = named_run(kinds, vals, wide(bound[w]));
-        c = scan(kinds, vals, next, want, work, n, c.top);
-        done += 1;
-    }
-    c
+    hit
 }
 
 // Sets the marks of the variables in the queue, and the queue, back to 0.
@@ -120,13 +88,14 @@ pub fn clear_marks(work: &mut [u32], n: usize, top: usize)
     ensures { Zero work.new }
 {
     for k in (0..top).rev() {
-        let v = wide(work[n + k]);
+        let v = work[n + k] as usize;
         work[n + k] = 0;
         work[v] = 0;
     }
 }
 
-// Whether the term at p has what is asked for, bound variables replaced. The scratch is all 0 before and after.
+// Whether the term at p has what is asked for, bound variables replaced: it and what its variables are bound to are looked at, each once, until what is
+// asked for is met. The scratch is all 0 before and after.
 pub fn reaches(
     kinds: &[u32],
     vals: &[u32],
@@ -146,9 +115,26 @@ pub fn reaches(
         → result ≡ asked want (resolve n b t) }
     ensures clear { Zero work.new }
 {
-    let c = reach(kinds, vals, bound, p, want, work);
-    clear_marks(work, bound.len(), c.top);
-    c.hit
+    let n = bound.len();
+    let mut top = 0;
+    let mut hit = scan(
+        kinds,
+        vals,
+        named_run(kinds, vals, p + 1),
+        want,
+        work,
+        n,
+        &mut top,
+    );
+    let mut done = 0;
+    while !hit && done < top {
+        let w = work[n + done] as usize;
+        let next = named_run(kinds, vals, bound[w] as usize);
+        hit = scan(kinds, vals, next, want, work, n, &mut top);
+        done += 1;
+    }
+    clear_marks(work, n, top);
+    hit
 }
 
 // Whether the unbound variable v is in the term at p, bound variables replaced.
@@ -170,7 +156,7 @@ pub fn occurs(
         → result ≡ solving.occurs v (resolve n b t) }
     ensures clear { Zero work.new }
 {
-    let want = wide(v) + 1;
+    let want = v as usize + 1;
     reaches(kinds, vals, bound, p, want, work)
 }
 

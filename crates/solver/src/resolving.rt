@@ -10,7 +10,6 @@ ghost use Rattle.solver.specs.Words.ResolveFrames.{stand, Sound, Settled, Apart,
 ghost use Rattle.solver.specs.Words.Bindings.{HeldBindings};
 ghost use Rattle.solver.specs.Words.Worklist.{Zero};
 
-use super::words::wide;
 use super::{Run, Stand};
 use terms::{run_len, write_run};
 
@@ -28,7 +27,7 @@ pub fn named_run(kinds: &[u32], vals: &[u32], word: usize) -> Run
     }
     let mut len = 1;
     if 2 <= kinds[at] {
-        len = wide(vals[at]);
+        len = vals[at] as usize;
     }
     if kinds.len() - at < len {
         return Run { at: 0, len: 0 };
@@ -47,11 +46,11 @@ pub fn enter(kinds: &[u32], vals: &[u32], bound: &[u32], p: usize, left: usize) 
     if kinds[p] != 1 {
         return Run { at: 0, len: 0 };
     }
-    let v = wide(vals[p]);
+    let v = vals[p] as usize;
     if bound.len() <= v {
         return Run { at: 0, len: 0 };
     }
-    named_run(kinds, vals, wide(bound[v]))
+    named_run(kinds, vals, bound[v] as usize)
 }
 
 // Goes from a place to the next token that stands for itself, into bound variables and out of runs that are over; at == end says that
@@ -75,8 +74,8 @@ pub fn settle(
             }
             c.depth -= 1;
             let i = c.depth + c.depth;
-            c.at = wide(frames[i]);
-            c.end = wide(frames[i + 1]);
+            c.at = frames[i] as usize;
+            c.end = frames[i + 1] as usize;
             frames[i] = 0;
             frames[i + 1] = 0;
         } else {
@@ -250,7 +249,5 @@ pub fn clear_words(words: &mut [u32], count: usize)
     requires { count ≤ length words.old }
     ensures { Cleared count words.old words.new }
 {
-    for i in 0..count {
-        words[i] = 0;
-    }
+    words[..count].fill(0);
 }

@@ -11,8 +11,7 @@ use super::{Solver, Standing};
 pub fn clear(words: &mut [u32])
     ensures { words.new ≡ replicate (length words.old) 0 }
 {
-    let n = words.len();
-    clear_words(words, n);
+    words.fill(0);
 }
 
 // Stores the 32 builtins, two tokens each.

@@ -17,15 +17,12 @@ pub fn shallow_resolve(kinds: &[u32], vals: &[u32], bound: &[u32], most: usize, 
         → Held kinds.now vals.now result (follow most b t) }
 {
     let mut q = p;
-    let mut left = most;
-    while 0 < left {
+    for _ in 0..most {
         let r = enter(kinds, vals, bound, q, 1);
-        let len = r.len;
-        if len == 0 {
+        if r.len == 0 {
             return q;
         }
         q = r.at;
-        left -= 1;
     }
     q
 }

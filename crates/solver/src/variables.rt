@@ -8,7 +8,6 @@ ghost use Rattle.solver.specs.Words.MethodContract.{matches, last_match, found, 
 ghost use Rattle.solver.specs.Words.MethodContract.{resolved_reply};
 ghost use Rattle.solver.specs.Words.OrderTerms.{place_of};
 
-use super::words::wide;
 use super::{Issue, Site, Solver};
 
 // Whether a variable's words are those asked for: a hole has no slot.
@@ -151,7 +150,7 @@ impl Solver {
         let m = self.variables;
         let c = self.issue(tables, 1, site, 1);
         if let Some(v) = c.answer {
-            let at = m + wide(v);
+            let at = m + v as usize;
             tables[at] = request;
         }
         c

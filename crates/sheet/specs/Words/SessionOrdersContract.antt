@@ -7,6 +7,8 @@ use Rattle.solver.specs.declared.Site.TheVariants as place
 use Rattle.sheet.specs.declared.VariableOrder.{VariableOrder}
 use Rattle.sheet.specs.declared.VariableOrder.TheVariants.{Slot, Number, Hole}
 use Rattle.sheet.specs.declared.TermlessOrder.{TermlessOrder}
+use Rattle.solver.specs.declared.Defaulted.{Defaulted}
+use Rattle.solver.specs.declared.Defaulted.TheVariants.{Requested, Deferred}
 use Rattle.sheet.specs.declared.TermlessOrder.TheVariants.{Variable, Defaults, Revision, NoType}
 use Rattle.solver.specs.Terms.Term.{Term, var}
 use Rattle.solver.specs.Constrain.{resolved}
@@ -69,10 +71,10 @@ variable_answer z (Slot s i) v = var v
 variable_answer z (Number s w) v = resolved z.solver (var v)
 variable_answer z (Hole s) v = resolved z.solver (var v)
 
--- orders 6 and 7, by whether Never is the default
-abbrev pub defaults_by : Bool → Command
-defaults_by false = numbers
-defaults_by true = nevers
+-- orders 6 and 7, by whose defaults are taken
+abbrev pub defaults_by : Defaulted → Command
+defaults_by Requested = numbers
+defaults_by Deferred = nevers
 
 -- orders 0, 1, 2, 6, 7, 8 and 21
 abbrev pub termless_command : TermlessOrder → Command

@@ -5,6 +5,10 @@ use Rattle.std.specs.Int.Bits.{bit_and, bit_or}
 use Rattle.terms.specs.Result.{pick}
 use Rattle.terms.specs.Term.{Term, var, node}
 use Rattle.solver.specs.declared.Solver.{Solver}
+use Rattle.solver.specs.declared.Defaulted.{Defaulted}
+use Rattle.solver.specs.declared.Defaulted.TheVariants.{Requested, Deferred}
+use Rattle.solver.specs.declared.Bound.{Bound}
+use Rattle.solver.specs.Families as families
 use Rattle.std.specs.declared.option.Option as rust
 use Rattle.solver.specs.Constrain as solving
 use Rattle.unify.specs.Solver.{put}
@@ -139,6 +143,10 @@ pub record Handed (m v kind val : ℕ) (ts us : List ℕ) : Type 0 where
 
 -- ---- ranges
 
+-- a bound as the definition has it
+abbrev pub bound_of : Bound → families.Bound
+bound_of b = record { minus = b.minus; size = b.size }
+
 -- the mask of the integer types that pass a test
 abbrev pub mask_of : (Numeric → Bool) → ℕ
 mask_of p =
@@ -153,25 +161,25 @@ never_word zero = 0
 never_word (suc n) = 11
 
 -- the word that the default of the variable v goes by: of its deferral, or its request's
-unfoldable pub default_word : Bool → ℕ → List ℕ → ℕ → ℕ
-default_word true m ts v = never_word (get_or ts (5 * m + v) 0)
-default_word false m ts v = get_or ts (m + v) 0
+unfoldable pub default_word : Defaulted → ℕ → List ℕ → ℕ → ℕ
+default_word Deferred m ts v = never_word (get_or ts (5 * m + v) 0)
+default_word Requested m ts v = get_or ts (m + v) 0
 
 -- and the word at the end of its chain: for Never it does not count
-unfoldable pub end_word : Bool → ℕ → List ℕ → ℕ → ℕ
-end_word true m ts w = 0
-end_word false m ts w = get_or ts (m + w) 0
+unfoldable pub end_word : Defaulted → ℕ → List ℕ → ℕ → ℕ
+end_word Deferred m ts w = 0
+end_word Requested m ts w = get_or ts (m + w) 0
 
 -- what is admitted there, as a mask: where nothing is asked of the end, by the own word
 unfoldable pub end_mask : ℕ → ℕ → ℕ
 end_mask own last = pick (eqb last 0) (mask_in own) (mask_in last)
 
 -- the default of the variable v
-unfoldable pub default_at : Bool → Session → ℕ → solving.Solver
-default_at true s v = never_at s.solver v (s.deferred v)
-default_at false s v = numeric_at s.solver v (s.solver.requests v)
+unfoldable pub default_at : Defaulted → Session → ℕ → solving.Solver
+default_at Deferred s v = never_at s.solver v (s.deferred v)
+default_at Requested s v = numeric_at s.solver v (s.solver.requests v)
 
 -- the solver of a session after these defaults of the variables before n
-unfoldable pub defaulted : Bool → ℕ → Session → solving.Solver
-defaulted true n s = never_defaults_of s.deferred n 0 s.solver
-defaulted false n s = numeric_defaults_of n 0 s.solver
+unfoldable pub defaulted : Defaulted → ℕ → Session → solving.Solver
+defaulted Deferred n s = never_defaults_of s.deferred n 0 s.solver
+defaulted Requested n s = numeric_defaults_of n 0 s.solver

@@ -1,12 +1,19 @@
 -- The pending pairs of `constrain` as words: two places a pair, the last pair to be taken first; the places of a node's children, in the
 -- order in which they are pushed; and two rows walked in step.
-use Rattle.std.specs.Prelude.{Bool, true, not, ◌&&◌, ◌||◌, List, [], ◌∷◌, ◌++◌, ◌≡◌, ℕ, zero, suc, ◌+◌, ◌≤◌, ◌<◌, eqb, leb, ltb, length, get_or, drop}
+use Rattle.std.specs.Prelude.{Bool, true, false, not, ◌&&◌, ◌||◌, List, [], ◌∷◌, ◌++◌, ◌≡◌, ℕ, zero, suc, ◌+◌, ◌≤◌, ◌<◌, eqb, leb, ltb, length, get_or, drop}
 use Rattle.terms.specs.Result.{pick}
 use Rattle.terms.specs.Term.{Term, Parts, node, end, num, sub, items, Held}
 use Rattle.terms.specs.Words.Held.{HeldParts, span}
 use Rattle.terms.specs.Tree.{nums, row, tag, class, children}
+use Rattle.solver.specs.declared.Access.{Access}
+use Rattle.solver.specs.declared.Access.TheVariants.{Ignored, Compared}
 use Rattle.solver.specs.Shapes.{Notion, same_shape, turned, pushed}
 use Rattle.solver.specs.Constrain.{Pair, zip_on}
+
+-- whether the notion of equal shape is the strict one
+abbrev pub strict_of : Access → Bool
+strict_of Ignored = false
+strict_of Compared = true
 
 -- ---- pairs
 

@@ -1,17 +1,18 @@
 -- Steps of orders 0 to 8, 21 and 22 done on what is lent: what each answers, and that it is done or not.
 use mathlib.Core.Path.{◌≡◌, refl, sym, ap, subst, ◌∙◌}
-use mathlib.Core.Bool.{Bool, true, false, not, ◌||◌}
+use mathlib.Core.Bool.{Bool, true, false, not}
 use mathlib.Core.List.{List, [], ◌∷◌, ◌++◌}
 use mathlib.Core.Option.{Option, none, some}
 use Prim.Native.Nat.{ℕ, ◌+◌, ◌-◌, ◌≤◌, ◌<◌}
 use native.Mathlib.Omega.{arith}
-use borrow.Author.Tests.{leb-true, eqb-true, eq-eqb, ne_eqb}
+use borrow.Author.Tests.{leb-true, eq-eqb, ne_eqb}
 use lib.Dec.{eqb}
 use lib.ListN.{length, length-append}
 use Rattle.solver.specs.Terms.Number.{shortest}
 use Rattle.solver.specs.Terms.Term.{var, bytes}
-use Rattle.solver.proofs.Terms.Bools.{never_true}
 use Rattle.solver.specs.declared.Solver.{Solver}
+use Rattle.solver.specs.declared.Defaulted.{Defaulted}
+use Rattle.solver.specs.declared.Defaulted.TheVariants.{Requested, Deferred}
 use Rattle.std.specs.Prelude.{Some, None}
 use Rattle.std.specs.declared.option.Option as rust
 use Rattle.sheet.specs.declared.VariableOrder.{VariableOrder}
@@ -33,7 +34,7 @@ use Rattle.sheet.specs.OrderTable.{Answer, refusal, outcome}
 use Rattle.sheet.specs.Operations.{bit}
 use Rattle.sheet.specs.Sheet.{Step, solve, answer_of, framed}
 use Rattle.sheet.specs.Words.FramingContract.{output_at, Framed, opening}
-use Rattle.sheet.specs.Words.SessionOrdersContract.{lent, pair_number, Does, variable_command, site_of, variable_answer, defaults_by, termless_command}
+use Rattle.sheet.specs.Words.SessionOrdersContract.{lent, Does, variable_command, site_of, variable_answer, defaults_by, termless_command}
 use Rattle.sheet.proofs.Laws.Answering.FramingLaws.{one_frame, frame_over, value_frame}
 
 -- ---- done, or not
@@ -102,10 +103,10 @@ revision_does x ks vs ts z L n e out₀ to out r f =
 abbrev pub Tells : Session → Step → Type 0
 Tells z st = st.answer ≡ outcome (bit (not (eqb st.session.solver.revision z.solver.revision)) ∷ [])
 
-pub defaults_tell : (never : Bool) (lim : Limits) (z : Session) → Tells z (solve lim z (defaults_by never))
+pub defaults_tell : (which : Defaulted) (lim : Limits) (z : Session) → Tells z (solve lim z (defaults_by which))
 unfolding order answer_of
-defaults_tell false lim z = refl
-defaults_tell true lim z = refl
+defaults_tell Requested lim z = refl
+defaults_tell Deferred lim z = refl
 
 module _ {x : Solver} {ks vs ts : List ℕ} {z : Session} (L : Represents x ks vs ts z) (st : Step) (e : Tells z st) (out₀ : List ℕ) (to : ℕ) (inside : to ≤ length out₀) where
   size : length (framed st.answer) ≡ 3
@@ -253,13 +254,3 @@ pub does_termless : (x y : Solver) (ks vs ts us : List ℕ) (z : Session) (c d :
     → Does (lent x ks vs ts) y us z (solve (limits_of x) z (termless_command d)) (output_at out₀ to) (output_at out r)
 does_termless x y ks vs ts us z c d e out₀ to out r h =
     subst (λ (o : TermlessOrder). Does (lent x ks vs ts) y us z (solve (limits_of x) z (termless_command o)) (output_at out₀ to) (output_at out r)) e h
-
--- ---- orders 4 and 22
-
-pub pair_kind : (k : ℕ) → (eqb k 4 || eqb k 22) ≡ true → k ≡ pair_number (eqb k 22)
-pair_kind k h = go (eqb k 4) refl (eqb k 22) refl h
-  where
-    go : (a : Bool) → eqb k 4 ≡ a → (b : Bool) → eqb k 22 ≡ b → (a || b) ≡ true → k ≡ pair_number b
-    go a e true f h = eqb-true k 22 f
-    go true e false f h = eqb-true k 4 e
-    go false e false f h = never_true h

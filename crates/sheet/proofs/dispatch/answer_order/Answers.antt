@@ -15,8 +15,8 @@ returns-then-k-eq3 c =
     let a = c.args in
     λ a₀ b₀ T. c.defer_order.ensures a.s.now a₀ b₀ a.d.now a.rules.now T
 
-pub returns-then-poses_pair : goal.returns-then-poses_pair
-returns-then-poses_pair c =
+pub returns-in-Some : goal.returns-in-Some
+returns-in-Some c =
     let a = c.args in
     λ a₀ b₀ T. c.pair_order.ensures a.s.now a₀ b₀ a.rules.now T
 

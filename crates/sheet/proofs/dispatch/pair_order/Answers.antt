@@ -5,6 +5,7 @@ use Prim.Native.Nat.{◌*◌, ◌-◌}
 use lib.ListN.{length}
 use lib.Seq.{length-take-le}
 use borrow.Rule.Slice.PartMut.{take_put}
+use Rattle.solver.specs.Words.PendingContract.{strict_of}
 use Rattle.sheet.proofs.Laws.Answering.SessionInAreasLaws.{pair_tail, scratch_tail, blank_tail, pair_does_tail}
 use Rattle.sheet.proofs.Laws.Answering.DispatchLaws.{taken_half, taken_b, pair_terms, pair_k, poses_pair, pair_nodes, pair_scratch, pair_blank, pair_answered}
 use Rattle.sheet.proofs.dispatch.pair_order.Goals as goal
@@ -14,8 +15,8 @@ overflow_cast-k c =
     let a = c.args in
     let p = c.requires in
     let T = c.requires.taken.4 in
-    let q = pair_terms T p.within a.strict p.kind in
-    let k = pair_k T p.within a.strict p.kind q.0 q.1 q.2 q.3 in
+    let q = pair_terms T p.within (strict_of a.access) p.kind in
+    let k = pair_k T p.within (strict_of a.access) p.kind q.0 q.1 q.2 q.3 in
     omega (arith, k.0, k.1)
 
 pub slice_bounds-constrain_order-end-2 : goal.slice_bounds-constrain_order-end-2
@@ -29,9 +30,9 @@ constrain_order-requires c =
     let T = c.requires.taken.4 in
     let W = c.requires.within in
     let h = c.requires.kind in
-    let q = pair_terms T W a.strict h in
+    let q = pair_terms T W (strict_of a.access) h in
     let R = c.requires.taken.4.ready in
-    record { held = (R.session, q.1, q.2, pair_tail a.half a.c.now _ _ _ _ _ _ _ (poses_pair T W a.strict h q.0 q.1 q.2 q.3 R.session R.ordered R.in_areas), pair_nodes T W a.strict h q.0 q.1 q.2 q.3 R.session R.in_areas); areas = (scratch_tail a.half a.c.now _ _ _ (pair_scratch T W a.strict h q.0 q.1 q.2 q.3), blank_tail a.half a.c.now (7 * a.x.variables) (pair_blank T W a.strict h q.0 q.1 q.2 q.3)); room = p.room }
+    record { held = (R.session, q.1, q.2, pair_tail a.half a.c.now _ _ _ _ _ _ _ (poses_pair T W (strict_of a.access) h q.0 q.1 q.2 q.3 R.session R.ordered R.in_areas), pair_nodes T W (strict_of a.access) h q.0 q.1 q.2 q.3 R.session R.in_areas); areas = (scratch_tail a.half a.c.now _ _ _ (pair_scratch T W (strict_of a.access) h q.0 q.1 q.2 q.3), blank_tail a.half a.c.now (7 * a.x.variables) (pair_blank T W (strict_of a.access) h q.0 q.1 q.2 q.3)); room = p.room }
 
 pub returns : goal.returns
 returns c =
@@ -42,7 +43,7 @@ returns c =
     let w = c.constrain_order.new.tables in
     λ s a₀ b₀ ws T.
     let i = taken_half T in
-    let q = pair_terms T W a.strict h in
-    let k = pair_k T W a.strict h q.0 q.1 q.2 q.3 in
-    pair_answered T W a.strict h q.0 q.1 q.2 q.3 _ _ _ _ _ (take_put a.half (length a.c.now - a.half) a.c.now w i) e.clear a.o.first.value k.0
+    let q = pair_terms T W (strict_of a.access) h in
+    let k = pair_k T W (strict_of a.access) h q.0 q.1 q.2 q.3 in
+    pair_answered T W (strict_of a.access) h q.0 q.1 q.2 q.3 _ _ _ _ _ (take_put a.half (length a.c.now - a.half) a.c.now w i) e.clear a.o.first.value k.0
     (λ z P n. pair_does_tail a.half a.c.now a.x _ _ _ z _ _ _ _ _ w i (e.does z q.1 q.2 (pair_tail a.half a.c.now _ _ _ _ _ _ _ P) n))

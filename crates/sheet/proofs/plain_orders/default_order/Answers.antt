@@ -9,10 +9,10 @@ use Rattle.sheet.proofs.plain_orders.default_order.Goals as goal
 pub returns-then-out-to-lt3 : goal.returns-then-out-to-lt3
 returns-then-out-to-lt3 c =
     let a = c.args in
-    λ z A L. defaults_not L (solve (limits_of a.x) z (defaults_by a.never)) (defaults_tell a.never (limits_of a.x) z) a.out.now a.to c.requires.room.inside (omega (arith, c.if-out-to-lt3.true))
+    λ z A L. defaults_not L (solve (limits_of a.x) z (defaults_by a.which)) (defaults_tell a.which (limits_of a.x) z) a.out.now a.to c.requires.room.inside (omega (arith, c.if-out-to-lt3.true))
 
 pub returns : goal.returns
 returns c =
     let a = c.args in
     let e = c.with_defaults-y.ensures in
-    λ z A L. defaults_done L (solve (limits_of a.x) z (defaults_by a.never)) (defaults_tell a.never (limits_of a.x) z) a.out.now a.to c.requires.room.inside _ _ _ _ _ (omega (arith, c.if-out-to-lt3.false)) (e.held z A L) e.beside (rw (c.revision-old.ensures.count, c.revision.ensures.count) at c.changed_byte-a.ensures) c.write_byte_answer-next.ensures
+    λ z A L. defaults_done L (solve (limits_of a.x) z (defaults_by a.which)) (defaults_tell a.which (limits_of a.x) z) a.out.now a.to c.requires.room.inside _ _ _ _ _ (omega (arith, c.if-out-to-lt3.false)) (e.held z A L) e.beside (rw (c.revision-old.ensures.count, c.revision.ensures.count) at c.changed_byte-a.ensures) c.write_byte_answer-next.ensures

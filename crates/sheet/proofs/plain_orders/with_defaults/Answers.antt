@@ -1,4 +1,4 @@
--- `with_defaults`: by the flag.
+-- `with_defaults`: by whose they are.
 use mathlib.Core.List.{List}
 use mathlib.Core.Path.{◌≡◌}
 use Prim.Native.Nat.{ℕ, ◌^◌, ◌<◌}
@@ -24,17 +24,17 @@ apply_never_defaults-requires-clause-areas c =
     let p = c.requires in
     ready _ _ _ _ p.0 p.1 p.2
 
-pub returns-then-never-clause-held : goal.returns-then-never-clause-held
-returns-then-never-clause-held c =
+pub returns-in-Deferred-clause-held : goal.returns-in-Deferred-clause-held
+returns-in-Deferred-clause-held c =
     let e = c.apply_never_defaults.ensures in
-    rw c.if-never.true (λ z A L. e.held z L (in_order_low _ _ _ _ z A L))
+    rw c.in-Deferred.is (λ z A L. e.held z L (in_order_low _ _ _ _ z A L))
 
 pub apply_numeric_defaults-requires-clause-areas : goal.apply_numeric_defaults-requires-clause-areas
 apply_numeric_defaults-requires-clause-areas c =
     let p = c.requires in
     ready _ _ _ _ p.0 p.1 p.2
 
-pub returns-clause-held : goal.returns-clause-held
-returns-clause-held c =
+pub returns-in-Requested-clause-held : goal.returns-in-Requested-clause-held
+returns-in-Requested-clause-held c =
     let e = c.apply_numeric_defaults.ensures in
-    rw c.if-never.false (λ z A L. e.held z L (in_order_low _ _ _ _ z A L))
+    rw c.in-Requested.is (λ z A L. e.held z L (in_order_low _ _ _ _ z A L))

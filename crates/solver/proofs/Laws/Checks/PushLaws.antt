@@ -18,7 +18,7 @@ use Rattle.terms.specs.Tree.{nums, row, tag, class, children}
 use Rattle.terms.proofs.Laws.Normalising.SlotLaws.{class_projection, class_plain as plain, class_nominal}
 use Rattle.terms.proofs.Laws.Held.HeldLaws.{items_some, held_node, held_num, held_sub, row_end, row_num, row_sub}
 use Rattle.solver.specs.Shapes.{same_shape, turned}
-use Rattle.solver.specs.Words.PendingContract.{Laid, Taken, Wiped, places, pushed_places, PushedPairs, Twins, here, window, PartEnd, NumberAt}
+use Rattle.solver.specs.Words.PendingContract.{Laid, Taken, places, pushed_places, PushedPairs, Twins, here, window, PartEnd, NumberAt}
 use Rattle.solver.proofs.Laws.Equality.ClassesCoincide.{held_same}
 use Rattle.solver.proofs.Laws.Checks.RotateLaws.{places_length}
 use Rattle.solver.proofs.Laws.Checks.StackLaws.{pushed_pairs}
@@ -395,29 +395,6 @@ taken_off base m ts w x y e room ex ey = record {
   below = λ i h. get_or-set_other (set ts w 0) (w + 1) i 0 0 (λ q. omega arith) ∙ get_or-set_other ts w i 0 0 (λ q. omega arith);
   above = λ i h. get_or-set_other (set ts w 0) (w + 1) i 0 0 (λ q. omega arith) ∙ get_or-set_other ts w i 0 0 (λ q. omega arith);
 }
-
--- n words were set to 0
-pub record Wiping (base n : ℕ) (ts₀ ts : List ℕ) : Type 0 where
-  pub inside : (i : ℕ) → i < n → get_or ts (base + i) 0 ≡ 0
-  pub below : (i : ℕ) → i < base → get_or ts i 0 ≡ get_or ts₀ i 0
-  pub above : (i : ℕ) → base + n ≤ i → get_or ts i 0 ≡ get_or ts₀ i 0
-
-pub wiping_start : (base : ℕ) (ts : List ℕ) → Wiping base 0 ts ts
-wiping_start base ts = record { inside = λ i h. absurd (omega arith); below = λ i h. refl; above = λ i h. refl }
-
-pub wiping_step : (base n : ℕ) (ts₀ ts : List ℕ) → Wiping base n ts₀ ts → base + n < length ts → Wiping base (n + 1) ts₀ (set ts (base + n) 0)
-wiping_step base n ts₀ ts w l = record {
-  inside = λ i h. go i h (ℕ_discrete i n);
-  below = λ i h. get_or-set_other ts (base + n) i 0 0 (λ q. omega arith) ∙ w.below i h;
-  above = λ i h. get_or-set_other ts (base + n) i 0 0 (λ q. omega arith) ∙ w.above i (omega arith);
-}
-  where
-    go : (i : ℕ) → i < n + 1 → Dec (i ≡ n) → get_or (set ts (base + n) 0) (base + i) 0 ≡ 0
-    go i h (yes e) = rw e (get_or-set_same ts (base + n) 0 0 l)
-    go i h (no e) = get_or-set_other ts (base + n) (base + i) 0 0 (λ q. e (omega arith)) ∙ w.inside i (omega arith)
-
-pub wiping_end : (base count n : ℕ) (ts₀ ts : List ℕ) → n ≡ count + count → Wiping base n ts₀ ts → Wiped base count ts₀ ts
-wiping_end base count n ts₀ ts e w = record { inside = λ i h. w.inside i (omega arith); below = w.below; above = λ i h. w.above i (omega arith) }
 
 -- ---- what `push_children` does
 

@@ -13,7 +13,7 @@ use Rattle.terms.specs.Words.Held.{span}
 use Rattle.terms.proofs.Laws.Format.WriteLaws.{spell_step, spell_none}
 use Rattle.solver.specs.declared.Stand.{Stand}
 use Rattle.solver.specs.Words.ResolveWalk.{run_len, inner, walk, Entered, walked}
-use Rattle.solver.specs.Words.ResolveFrames.{pend, rest, stand, left, Sound, Apart, Bare, Ready, Settled, Cleared}
+use Rattle.solver.specs.Words.ResolveFrames.{pend, rest, stand, left, Sound, Apart, Bare, Ready, Settled}
 
 -- ---- what a cell names, and what takes a token's place
 
@@ -253,14 +253,3 @@ bare_pop st d z r h j m = go (ℕ_discrete j (d - 1 + (d - 1) + 1)) (ℕ_discret
     go (yes q) _ = rw q (get_or-set_same (set st (d - 1 + (d - 1)) 0) (d - 1 + (d - 1) + 1) 0 0 (omega (arith, length-set st (d - 1 + (d - 1)) 0)))
     go (no q) (yes u) = get_or-set_other (set st (d - 1 + (d - 1)) 0) (d - 1 + (d - 1) + 1) j 0 0 (omega (arith, q)) ∙ rw u (get_or-set_same st (d - 1 + (d - 1)) 0 0 (omega arith))
     go (no q) (no u) = get_or-set_other (set st (d - 1 + (d - 1)) 0) (d - 1 + (d - 1) + 1) j 0 0 (omega (arith, q)) ∙ get_or-set_other st (d - 1 + (d - 1)) j 0 0 (omega (arith, u)) ∙ h j (omega (arith, q, u))
-
--- one more word cleared
-pub cleared_step : (i : ℕ) (st₀ st : List ℕ) → Cleared i st₀ st → i < length st → Cleared (i + 1) st₀ (set st i 0)
-cleared_step i st₀ st h l = record {
-  zeros = λ j m. go j m (ℕ_discrete j i);
-  others = λ j m. get_or-set_other st i j 0 0 (omega arith) ∙ h.others j (omega arith);
-}
-  where
-    go : (j : ℕ) → j < i + 1 → Dec (j ≡ i) → get_or (set st i 0) j 0 ≡ 0
-    go j m (yes q) = rw q (get_or-set_same st i 0 0 l)
-    go j m (no q) = get_or-set_other st i j 0 0 (omega (arith, q)) ∙ h.zeros j (omega (arith, q))

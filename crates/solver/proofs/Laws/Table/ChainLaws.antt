@@ -14,6 +14,8 @@ use Rattle.terms.specs.Term.{Term, Parts, var, node, num, end, Held}
 use Rattle.terms.proofs.Laws.Held.HeldLaws.{head_kind, head_value, held_first, items_some}
 use Rattle.unify.specs.Solver.{put, put_same, put_other}
 use Rattle.solver.specs.declared.Solver.{Solver}
+use Rattle.solver.specs.declared.Defaulted.{Defaulted}
+use Rattle.solver.specs.declared.Defaulted.TheVariants.{Requested, Deferred}
 use Rattle.solver.specs.Families.{Request, ranged_at, taken, default_of}
 use Rattle.solver.specs.Constrain as solving
 use Rattle.solver.specs.Constrain.{replace_row, followed, resolve, follow, resolved, top}
@@ -122,8 +124,8 @@ low_settle m z c (node k ps) low = low
 -- ---- one default
 
 -- by the word of v, which is that of its deferral or of its request
-module _ (never : Bool) (x : Solver) (ks vs ts : List ℕ) (s : Session) (L : Represents x ks vs ts s) (v word : ℕ) (below : v < x.variables)
-    (named : word ≡ default_word never x.variables ts v) where
+module _ (which : Defaulted) (x : Solver) (ks vs ts : List ℕ) (s : Session) (L : Represents x ks vs ts s) (v word : ℕ) (below : v < x.variables)
+    (named : word ≡ default_word which x.variables ts v) where
   deferral : word ≡ never_word (get_or ts (5 * x.variables + v) 0) → word ≡ never_word (flag (s.deferred v))
   deferral e = e ∙ ap never_word (sym (column_read x.variables (5 * x.variables) ts _ v refl below) ∙ L.deferred v)
 
@@ -134,40 +136,40 @@ module _ (never : Bool) (x : Solver) (ks vs ts : List ℕ) (s : Session) (L : Re
   requested_as e = subst (λ (n : ℕ). HeldRequest (s.solver.requests v) n) (sym e) (asked v below)
 
   -- no default
-  stays : (b : Bool) → word ≡ default_word b x.variables ts v → word ≡ 0 → default_at b s v ≡ s.solver
+  stays : (b : Defaulted) → word ≡ default_word b x.variables ts v → word ≡ 0 → default_at b s v ≡ s.solver
   unfolding default_word default_at numeric_at never_at never_word
-  stays false e z = rw (held_none (s.solver.requests v) word (requested_as e) z)
-  stays true e z = go (s.deferred v) (deferral e)
+  stays Requested e z = rw (held_none (s.solver.requests v) word (requested_as e) z)
+  stays Deferred e z = go (s.deferred v) (deferral e)
     where
       go : (d : Bool) → word ≡ never_word (flag d) → never_at s.solver v d ≡ s.solver
       go false h = refl
       go true h = absurd (omega arith)
 
-  pub settled_none : word ≡ 0 → Represents x ks vs ts (with_solver s (default_at never s v))
-  settled_none z = rw (stays never named z) L
+  pub settled_none : word ≡ 0 → Represents x ks vs ts (with_solver s (default_at which s v))
+  settled_none z = rw (stays which named z) L
 
   -- the code c is the one that the two words give, where the chain ends at w
-  abbrev Coded : Bool → ℕ → ℕ → Type 0
+  abbrev Coded : Defaulted → ℕ → ℕ → Type 0
   Coded b w c = (o : Option Request) → RequestWord word → HeldRequest o (end_word b x.variables ts w) → c ≡ taken (request_in word) o
 
   -- a default: the variable w of the table at which the chain ends is bound to the builtin with this code
-  record Settles (b : Bool) : Type 0 where
+  record Settles (b : Defaulted) : Type 0 where
     builtin : ℕ → Term
     settles : default_at b s v ≡ settle_at s.solver builtin (top s.solver (var v))
     coded : (w c : ℕ) → w < x.variables → Coded b w c → builtin w ≡ node 4 (num c end)
 
-  settling : (b : Bool) → word ≡ default_word b x.variables ts v → (word ≡ 0 → ⊥) → Settles b
+  settling : (b : Defaulted) → word ≡ default_word b x.variables ts v → (word ≡ 0 → ⊥) → Settles b
   unfolding default_word end_word default_at numeric_at never_at never_word request_in taken ranged_at
-  settling false e n =
+  settling Requested e n =
       let r = held_some (s.solver.requests v) word (requested_as e) n in
       record {
         builtin = λ w. default_of (request_in word) (s.solver.requests w);
         settles = rw r.1;
         coded = λ w c l h. ap (λ (k : ℕ). node 4 (num k end)) (sym (h (s.solver.requests w) r.0 (asked w l)));
       }
-  settling true e n = go (s.deferred v) refl (deferral e)
+  settling Deferred e n = go (s.deferred v) refl (deferral e)
     where
-      go : (d : Bool) → s.deferred v ≡ d → word ≡ never_word (flag d) → Settles true
+      go : (d : Bool) → s.deferred v ≡ d → word ≡ never_word (flag d) → Settles Deferred
       go false f h = absurd (n h)
       go true f h =
           record {
@@ -188,11 +190,11 @@ module _ (never : Bool) (x : Solver) (ks vs ts : List ℕ) (s : Session) (L : Re
     most : at_most x.variables (top s.solver (var v))
     most = low_top x.variables s.solver.bindings low s.solver.revision (var v) below
 
-    default : Settles never
-    default = settling never named n
+    default : Settles which
+    default = settling which named n
 
     -- the chain ends at no variable
-    pub settled_stop : x.variables ≤ w → Represents x ks vs ts (with_solver s (default_at never s v))
+    pub settled_stop : x.variables ≤ w → Represents x ks vs ts (with_solver s (default_at which s v))
     unfolding settle_at
     settled_stop l = rw default.settles (go (top s.solver (var v)) ends most)
       where
@@ -201,9 +203,9 @@ module _ (never : Bool) (x : Solver) (ks vs ts : List ℕ) (s : Session) (L : Re
         go (node k ps) f o = L
 
     -- the chain ends at the variable w
-    pub settled_bound : (y : Solver) (c : ℕ) → w < x.variables → Coded never w c → c < 32 → Beside x y ts (set ts w (2 * c + 1))
+    pub settled_bound : (y : Solver) (c : ℕ) → w < x.variables → Coded which w c → c < 32 → Beside x y ts (set ts w (2 * c + 1))
         → y.issued ≡ x.issued → y.revision ≡ x.revision + 1 → y.kept ≡ x.kept
-        → Represents y ks vs (set ts w (2 * c + 1)) (with_solver s (default_at never s v))
+        → Represents y ks vs (set ts w (2 * c + 1)) (with_solver s (default_at which s v))
     unfolding settle_at
     settled_bound y c l h o B i r k = rw default.settles (go (top s.solver (var v)) ends most)
       where
@@ -220,8 +222,8 @@ module _ (never : Bool) (x : Solver) (ks vs ts : List ℕ) (s : Session) (L : Re
 -- ---- all of them, by rising id
 
 -- a default for every variable before n
-pub record Applied (never : Bool) (x₀ : Solver) (ks vs ts₀ : List ℕ) (n : ℕ) (x : Solver) (ts : List ℕ) : Type 0 where
-  pub held : (s : Session) → Represents x₀ ks vs ts₀ s → Low x₀.variables s.solver.bindings → Represents x ks vs ts (with_solver s (defaulted never n s))
+pub record Applied (which : Defaulted) (x₀ : Solver) (ks vs ts₀ : List ℕ) (n : ℕ) (x : Solver) (ts : List ℕ) : Type 0 where
+  pub held : (s : Session) → Represents x₀ ks vs ts₀ s → Low x₀.variables s.solver.bindings → Represents x ks vs ts (with_solver s (defaulted which n s))
   pub beside : Beside x₀ x ts₀ ts
   pub issued : x.issued ≡ x₀.issued
   pub steps : x.revision ≤ x₀.revision + n
@@ -255,43 +257,43 @@ never_low m d (suc n) v z low = never_low m d n (suc v) (never_at z v (d v)) (go
     go false = low
     go true = low_settle m z (λ w. 10) (top z (var v)) low
 
-module _ (never : Bool) (x₀ : Solver) (ks vs ts₀ : List ℕ) where
-  pub applied_start : Applied never x₀ ks vs ts₀ 0 x₀ ts₀
+module _ (which : Defaulted) (x₀ : Solver) (ks vs ts₀ : List ℕ) where
+  pub applied_start : Applied which x₀ ks vs ts₀ 0 x₀ ts₀
   unfolding defaulted numeric_defaults_of never_defaults_of
   applied_start =
       record {
-        held = λ s L low. subst (λ (y : solving.Solver). Represents x₀ ks vs ts₀ (with_solver s y)) (sym (go never s)) L;
+        held = λ s L low. subst (λ (y : solving.Solver). Represents x₀ ks vs ts₀ (with_solver s y)) (sym (go which s)) L;
         beside = beside_same x₀ ts₀;
         issued = refl;
         steps = omega arith;
         most = omega arith;
       }
     where
-      go : (b : Bool) (s : Session) → defaulted b 0 s ≡ s.solver
-      go false s = refl
-      go true s = refl
+      go : (b : Defaulted) (s : Session) → defaulted b 0 s ≡ s.solver
+      go Requested s = refl
+      go Deferred s = refl
 
-  module _ (n : ℕ) (x y : Solver) (ts us : List ℕ) (A : Applied never x₀ ks vs ts₀ n x ts) (room : x₀.issued ≤ x₀.variables) where
-    low_before : (b : Bool) (s : Session) → Low x₀.variables s.solver.bindings → Low x₀.variables (defaulted b n s).bindings
+  module _ (n : ℕ) (x y : Solver) (ts us : List ℕ) (A : Applied which x₀ ks vs ts₀ n x ts) (room : x₀.issued ≤ x₀.variables) where
+    low_before : (b : Defaulted) (s : Session) → Low x₀.variables s.solver.bindings → Low x₀.variables (defaulted b n s).bindings
     unfolding defaulted
-    low_before false s low = numeric_low x₀.variables n 0 s.solver low
-    low_before true s low = never_low x₀.variables s.deferred n 0 s.solver low
+    low_before Requested s low = numeric_low x₀.variables n 0 s.solver low
+    low_before Deferred s low = never_low x₀.variables s.deferred n 0 s.solver low
 
     -- the default of the next variable
-    next : (b : Bool) (s : Session) → default_at b (with_solver s (defaulted b n s)) n ≡ defaulted b (n + 1) s
+    next : (b : Defaulted) (s : Session) → default_at b (with_solver s (defaulted b n s)) n ≡ defaulted b (n + 1) s
     unfolding defaulted default_at
-    next false s = sym (rw (add-one, numeric_more n 0 s.solver, zero-add))
-    next true s = sym (rw (add-one, never_more s.deferred n 0 s.solver, zero-add))
+    next Requested s = sym (rw (add-one, numeric_more n 0 s.solver, zero-add))
+    next Deferred s = sym (rw (add-one, never_more s.deferred n 0 s.solver, zero-add))
 
     pub applied_step : n < x₀.issued
-        → ((s : Session) → Represents x ks vs ts s → Low x.variables s.solver.bindings → Represents y ks vs us (with_solver s (default_at never s n)))
-        → Beside x y ts us → y.issued ≡ x.issued → y.revision ≤ x.revision + 1 → Applied never x₀ ks vs ts₀ (n + 1) y us
+        → ((s : Session) → Represents x ks vs ts s → Low x.variables s.solver.bindings → Represents y ks vs us (with_solver s (default_at which s n)))
+        → Beside x y ts us → y.issued ≡ x.issued → y.revision ≤ x.revision + 1 → Applied which x₀ ks vs ts₀ (n + 1) y us
     applied_step l h B i r =
         let v = A.beside.variables in
         record {
           held = λ s L low.
-              subst (λ (z : solving.Solver). Represents y ks vs us (with_solver s z)) (next never s)
-              (h (with_solver s (defaulted never n s)) (A.held s L low) (subst (λ (m : ℕ). Low m (defaulted never n s).bindings) (sym v) (low_before never s low)));
+              subst (λ (z : solving.Solver). Represents y ks vs us (with_solver s z)) (next which s)
+              (h (with_solver s (defaulted which n s)) (A.held s L low) (subst (λ (m : ℕ). Low m (defaulted which n s).bindings) (sym v) (low_before which s low)));
           beside = beside_then A.beside B;
           issued = i ∙ A.issued;
           steps = omega (arith, A.steps);
@@ -299,9 +301,9 @@ module _ (never : Bool) (x₀ : Solver) (ks vs ts₀ : List ℕ) where
         }
 
   -- every variable has its default
-  pub applied_end : (n : ℕ) (x : Solver) (ts : List ℕ) → Applied never x₀ ks vs ts₀ n x ts → n ≡ x₀.issued → (s : Session) → Represents x₀ ks vs ts₀ s → Low x₀.variables s.solver.bindings
-      → Represents x ks vs ts (with_solver s (defaulted never (issued s) s))
-  applied_end n x ts A e s L low = subst (λ (k : ℕ). Represents x ks vs ts (with_solver s (defaulted never k s))) (e ∙ L.issued) (A.held s L low)
+  pub applied_end : (n : ℕ) (x : Solver) (ts : List ℕ) → Applied which x₀ ks vs ts₀ n x ts → n ≡ x₀.issued → (s : Session) → Represents x₀ ks vs ts₀ s → Low x₀.variables s.solver.bindings
+      → Represents x ks vs ts (with_solver s (defaulted which (issued s) s))
+  applied_end n x ts A e s L low = subst (λ (k : ℕ). Represents x ks vs ts (with_solver s (defaulted which k s))) (e ∙ L.issued) (A.held s L low)
 
 -- ---- a term's top decides whether it resolves to a variable
 

@@ -15,6 +15,8 @@ use Rattle.terms.specs.Term.{Term, var, Held}
 use Rattle.unify.specs.Solver.{put, put_same, put_other}
 use Rattle.unify.specs.Term.{clash}
 use Rattle.solver.specs.declared.Solver.{Solver}
+use Rattle.solver.specs.declared.Defaulted.{Defaulted}
+use Rattle.solver.specs.declared.Defaulted.TheVariants.{Requested, Deferred}
 use Rattle.std.specs.Prelude.{Some, None}
 use Rattle.std.specs.declared.option.Option as rust
 use Rattle.solver.specs.declared.Site.{Site}
@@ -579,12 +581,12 @@ module _ (m v kind val : ℕ) (ts : List ℕ) where
 
 -- ---- words that defaults go by
 
-module _ (never : Bool) (m : ℕ) (ts : List ℕ) (v : ℕ) where
-  pub default_none : never ≡ true → get_or ts (5 * m + v) 0 ≡ 0 → 0 ≡ default_word never m ts v
+module _ (which : Defaulted) (m : ℕ) (ts : List ℕ) (v : ℕ) where
+  pub default_none : which ≡ Deferred → get_or ts (5 * m + v) 0 ≡ 0 → 0 ≡ default_word which m ts v
   unfolding default_word never_word
   default_none b e = rw (b, e)
 
-  pub default_never : never ≡ true → (get_or ts (5 * m + v) 0 ≡ 0 → ⊥) → 11 ≡ default_word never m ts v
+  pub default_never : which ≡ Deferred → (get_or ts (5 * m + v) 0 ≡ 0 → ⊥) → 11 ≡ default_word which m ts v
   unfolding default_word never_word
   default_never b e = rw b (go (get_or ts (5 * m + v) 0) e)
     where
@@ -592,14 +594,14 @@ module _ (never : Bool) (m : ℕ) (ts : List ℕ) (v : ℕ) where
       go zero n = absurd (n refl)
       go (suc d) n = refl
 
-  pub default_request : never ≡ false → get_or ts (m + v) 0 ≡ default_word never m ts v
+  pub default_request : which ≡ Requested → get_or ts (m + v) 0 ≡ default_word which m ts v
   unfolding default_word
   default_request b = rw b
 
-  pub end_never : never ≡ true → 0 ≡ end_word never m ts v
+  pub end_never : which ≡ Deferred → 0 ≡ end_word which m ts v
   unfolding end_word
   end_never b = rw b
 
-  pub end_request : never ≡ false → get_or ts (m + v) 0 ≡ end_word never m ts v
+  pub end_request : which ≡ Requested → get_or ts (m + v) 0 ≡ end_word which m ts v
   unfolding end_word
   end_request b = rw b

@@ -2,6 +2,7 @@
 -- given back.
 use Prim.Native.Nat.{◌+◌}
 use Rattle.terms.specs.Term.{size}
+use Rattle.solver.specs.Words.PendingContract.{strict_of}
 use Rattle.solver.specs.Session.{keep}
 use Rattle.solver.specs.Shapes.{notion}
 use Rattle.solver.proofs.Laws.Table.OrderTermLaws.{pair_lent, pair_ordered, pair_left, pair_right}
@@ -21,7 +22,7 @@ solve_pair-r-requires-clause-held c =
 pub returns-then-self-revision-clause-solved : goal.returns-then-self-revision-clause-solved
 returns-then-self-revision-clause-solved c =
     let a = c.args in
-    let n = notion a.strict in
+    let n = notion (strict_of a.access) in
     let e = c.solve_pair-r.ensures in
     λ z t u P k.
     posed_still n a.self a.kinds.now a.vals.now a.tables.now _ z a.q t u P c.requires.room.1 c.solve_pair-r.auto.tables a.k a.nodes _ _
@@ -30,7 +31,7 @@ returns-then-self-revision-clause-solved c =
 pub returns-else-self-revision-clause-solved : goal.returns-else-self-revision-clause-solved
 returns-else-self-revision-clause-solved c =
     let a = c.args in
-    let n = notion a.strict in
+    let n = notion (strict_of a.access) in
     let e = c.solve_pair-r.ensures in
     λ z t u P k.
     posed_bound n a.self a.kinds.now a.vals.now a.tables.now _ z a.q t u P c.requires.room.1 c.solve_pair-r.auto.tables a.k a.nodes _ _

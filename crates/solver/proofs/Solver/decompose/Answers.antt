@@ -1,6 +1,7 @@
 -- `decompose`.
 use mathlib.Core.Path.{sym, ◌∙◌}
 use borrow.Author.Tests.{eq-eqb, ne_eqb}
+use Rattle.solver.specs.Words.PendingContract.{strict_of}
 use Rattle.solver.specs.Shapes.{notion}
 use Rattle.solver.proofs.Laws.Checks.CheckContractLaws.{nodes_places, nodes_twins, apart_recovers, apart_projects, apart_unlike, apart_pushes}
 use Rattle.solver.proofs.Solver.decompose.Goals as goal
@@ -8,49 +9,49 @@ use Rattle.solver.proofs.Solver.decompose.Goals as goal
 pub bounds-kinds-a : goal.bounds-kinds-a
 bounds-kinds-a c =
     let a = c.args in
-    (nodes_places (notion a.strict) a.self a.kinds.now a.vals.now a.a a.b a.count c.requires.nodes.0 c.requires.nodes.1 c.requires.nodes.2).0
+    (nodes_places (notion (strict_of a.access)) a.self a.kinds.now a.vals.now a.a a.b a.count c.requires.nodes.0 c.requires.nodes.1 c.requires.nodes.2).0
 
 pub bounds-kinds-b : goal.bounds-kinds-b
 bounds-kinds-b c =
     let a = c.args in
-    (nodes_places (notion a.strict) a.self a.kinds.now a.vals.now a.a a.b a.count c.requires.nodes.0 c.requires.nodes.1 c.requires.nodes.2).1
+    (nodes_places (notion (strict_of a.access)) a.self a.kinds.now a.vals.now a.a a.b a.count c.requires.nodes.0 c.requires.nodes.1 c.requires.nodes.2).1
 
 pub returns-then-either_recovers : goal.returns-then-either_recovers
 returns-then-either_recovers c =
     let a = c.args in
-    record { after = λ s t u ps L N W. apart_recovers (notion a.strict) a.self a.kinds.now a.vals.now a.tables.now s a.a a.b a.count t u L N ps W (sym c.either_recovers.ensures ∙ c.if-either_recovers.true) }
+    record { after = λ s t u ps L N W. apart_recovers (notion (strict_of a.access)) a.self a.kinds.now a.vals.now a.tables.now s a.a a.b a.count t u L N ps W (sym c.either_recovers.ensures ∙ c.if-either_recovers.true) }
 
 pub bounds-kinds-a-2 : goal.bounds-kinds-a-2
 bounds-kinds-a-2 c =
     let a = c.args in
-    (nodes_places (notion a.strict) a.self a.kinds.now a.vals.now a.a a.b a.count c.requires.nodes.0 c.requires.nodes.1 c.requires.nodes.2).0
+    (nodes_places (notion (strict_of a.access)) a.self a.kinds.now a.vals.now a.a a.b a.count c.requires.nodes.0 c.requires.nodes.1 c.requires.nodes.2).0
 
 pub returns-then-kinds-a-eq20 : goal.returns-then-kinds-a-eq20
 returns-then-kinds-a-eq20 c =
     let a = c.args in
-    record { after = λ s t u ps L N W. apart_projects (notion a.strict) a.self a.kinds.now a.vals.now a.tables.now s a.a a.b a.count t u L N ps W (sym c.either_recovers.ensures ∙ c.if-either_recovers.false) (eq-eqb _ 20 c.if-kinds-a-eq20.true) }
+    record { after = λ s t u ps L N W. apart_projects (notion (strict_of a.access)) a.self a.kinds.now a.vals.now a.tables.now s a.a a.b a.count t u L N ps W (sym c.either_recovers.ensures ∙ c.if-either_recovers.false) (eq-eqb _ 20 c.if-kinds-a-eq20.true) }
 
 pub same_shape-requires : goal.same_shape-requires
 same_shape-requires c =
     let a = c.args in
-    let p = nodes_places (notion a.strict) a.self a.kinds.now a.vals.now a.a a.b a.count c.requires.nodes.0 c.requires.nodes.1 c.requires.nodes.2 in
+    let p = nodes_places (notion (strict_of a.access)) a.self a.kinds.now a.vals.now a.a a.b a.count c.requires.nodes.0 c.requires.nodes.1 c.requires.nodes.2 in
     (p.0, p.1, c.requires.room.2, c.requires.room.1)
 
 pub returns-then-not-same_shape : goal.returns-then-not-same_shape
 returns-then-not-same_shape c =
     let a = c.args in
-    record { after = λ s t u ps L N W. apart_unlike (notion a.strict) a.self a.kinds.now a.vals.now a.tables.now s a.a a.b a.count t u L N ps W (sym c.either_recovers.ensures ∙ c.if-either_recovers.false) (ne_eqb _ 20 c.if-kinds-a-eq20.false) _ c.if-not-same_shape.true c.same_shape.ensures }
+    record { after = λ s t u ps L N W. apart_unlike (notion (strict_of a.access)) a.self a.kinds.now a.vals.now a.tables.now s a.a a.b a.count t u L N ps W (sym c.either_recovers.ensures ∙ c.if-either_recovers.false) (ne_eqb _ 20 c.if-kinds-a-eq20.false) _ c.if-not-same_shape.true c.same_shape.ensures }
 
 pub push_children-top-requires : goal.push_children-top-requires
 push_children-top-requires c =
     let a = c.args in
-    let p = nodes_places (notion a.strict) a.self a.kinds.now a.vals.now a.a a.b a.count c.requires.nodes.0 c.requires.nodes.1 c.requires.nodes.2 in
+    let p = nodes_places (notion (strict_of a.access)) a.self a.kinds.now a.vals.now a.a a.b a.count c.requires.nodes.0 c.requires.nodes.1 c.requires.nodes.2 in
     record {
       areas = (p.0, p.1, c.requires.room.2, c.requires.room.1);
-      room = nodes_twins (notion a.strict) a.self a.kinds.now a.vals.now a.a a.b a.count c.requires.nodes.0 c.requires.nodes.1 c.requires.nodes.2 _ c.if-not-same_shape.false c.same_shape.ensures _ c.requires.room.0;
+      room = nodes_twins (notion (strict_of a.access)) a.self a.kinds.now a.vals.now a.a a.b a.count c.requires.nodes.0 c.requires.nodes.1 c.requires.nodes.2 _ c.if-not-same_shape.false c.same_shape.ensures _ c.requires.room.0;
     }
 
 pub returns : goal.returns
 returns c =
     let a = c.args in
-    record { after = λ s t u ps L N W. apart_pushes (notion a.strict) a.self a.kinds.now a.vals.now a.tables.now s a.a a.b a.count t u L N ps W (sym c.either_recovers.ensures ∙ c.if-either_recovers.false) (ne_eqb _ 20 c.if-kinds-a-eq20.false) _ c.if-not-same_shape.false c.same_shape.ensures _ _ c.push_children-top.auto.tables c.push_children-top.ensures }
+    record { after = λ s t u ps L N W. apart_pushes (notion (strict_of a.access)) a.self a.kinds.now a.vals.now a.tables.now s a.a a.b a.count t u L N ps W (sym c.either_recovers.ensures ∙ c.if-either_recovers.false) (ne_eqb _ 20 c.if-kinds-a-eq20.false) _ c.if-not-same_shape.false c.same_shape.ensures _ _ c.push_children-top.auto.tables c.push_children-top.ensures }

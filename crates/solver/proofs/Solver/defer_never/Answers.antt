@@ -1,4 +1,5 @@
 -- `Solver::defer_never`. By the token at the top.
+use mathlib.Core.Path.{refl}
 use native.Mathlib.Omega.{arith}
 use Rattle.solver.proofs.Laws.Table.ChainLaws.{deferred_none, deferred_some, deferred_far}
 use Rattle.solver.proofs.Laws.Table.OrderTermLaws.{poses_inside, behind_bindings}
@@ -14,13 +15,13 @@ returns-then-v-m-clause-held c =
     let a = c.args in
     let t = c.shallow_resolve-q in
     let l = c.if-v-m.true in
-    λ s u P. deferred_some a.self _ _ a.tables.now s P.behind.ordered P.behind.represents a.kinds.now a.vals.now u t.result (t.ensures.term u s.solver.bindings P.held (behind_bindings _ _ _ _ _ P.behind)) _ c.wide-v.ensures c.if-kinds-q-eq1.true l
+    λ s u P. deferred_some a.self _ _ a.tables.now s P.behind.ordered P.behind.represents a.kinds.now a.vals.now u t.result (t.ensures.term u s.solver.bindings P.held (behind_bindings _ _ _ _ _ P.behind)) _ refl c.if-kinds-q-eq1.true l
 
 pub returns-else-v-m-clause-held : goal.returns-else-v-m-clause-held
 returns-else-v-m-clause-held c =
     let a = c.args in
     let t = c.shallow_resolve-q in
-    λ s u P. absurd (omega (arith, deferred_far a.self _ _ a.tables.now s P.behind.ordered P.behind.represents a.kinds.now a.vals.now u t.result (t.ensures.term u s.solver.bindings P.held (behind_bindings _ _ _ _ _ P.behind)) P.within c.if-kinds-q-eq1.true, c.wide-v.ensures, c.if-v-m.false))
+    λ s u P. absurd (omega (arith, deferred_far a.self _ _ a.tables.now s P.behind.ordered P.behind.represents a.kinds.now a.vals.now u t.result (t.ensures.term u s.solver.bindings P.held (behind_bindings _ _ _ _ _ P.behind)) P.within c.if-kinds-q-eq1.true, c.if-v-m.false))
 
 pub returns-else-kinds-q-eq1-clause-held : goal.returns-else-kinds-q-eq1-clause-held
 returns-else-kinds-q-eq1-clause-held c =

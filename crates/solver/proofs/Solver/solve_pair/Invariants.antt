@@ -1,11 +1,12 @@
 -- `Solver::solve_pair`. Invariant: `Loop`.
+use Rattle.solver.specs.Words.PendingContract.{strict_of}
 use Rattle.solver.specs.Shapes.{notion}
 use Rattle.solver.proofs.Laws.Checks.PairLoopLaws.{Loop}
 use Rattle.solver.proofs.Solver.solve_pair.Given as goal
 
 abbrev pub invariant-loop-count : goal.invariant-loop-count
 invariant-loop-count l =
-    Loop (notion l.strict) l.initial.self l.kinds l.vals l.initial.tables l.initial.work l.initial.left l.initial.count l.initial.ok l.self l.tables l.work l.left l.count l.ok
+    Loop (notion (strict_of l.access)) l.initial.self l.kinds l.vals l.initial.tables l.initial.work l.initial.left l.initial.count l.initial.ok l.self l.tables l.work l.left l.count l.ok
 
 abbrev pub decreases-loop-count : goal.decreases-loop-count
 decreases-loop-count l = l.left

@@ -1,4 +1,5 @@
 -- `Solver::start`. By what is asked for.
+use mathlib.Core.Path.{refl}
 use native.Mathlib.Omega.{arith}
 use Rattle.solver.proofs.Laws.Table.OrderTermLaws.{start_none, start_free, start_bound}
 use Rattle.solver.proofs.Solver.start.Goals as goal
@@ -11,9 +12,9 @@ returns-then-most-eq0 c =
 pub returns-then-word-eq0 : goal.returns-then-word-eq0
 returns-then-word-eq0 c =
     let a = c.args in
-    λ ks vs z t A. start_free a.self a.tables.now a.what _ c.in-Id.is ks vs z t A _ _ c.wide-i.ensures c.wide-word.ensures c.if-word-eq0.true
+    λ ks vs z t A. start_free a.self a.tables.now a.what _ c.in-Id.is ks vs z t A _ _ refl refl c.if-word-eq0.true
 
 pub returns-else-word-eq0 : goal.returns-else-word-eq0
 returns-else-word-eq0 c =
     let a = c.args in
-    λ ks vs z t A. start_bound a.self a.tables.now a.what _ c.in-Id.is ks vs z t A _ _ c.wide-i.ensures c.wide-word.ensures c.if-word-eq0.false c.if-most-eq0.false (omega (arith, c.wide-word.ensures, c.type_inv.tables c.wide-i.result))
+    λ ks vs z t A. start_bound a.self a.tables.now a.what _ c.in-Id.is ks vs z t A _ _ refl refl c.if-word-eq0.false c.if-most-eq0.false (omega arith)

@@ -5,14 +5,14 @@ use Rattle.solver.proofs.defaults.default_word.Goals as goal
 pub returns-then-tables-m-eq0 : goal.returns-then-tables-m-eq0
 returns-then-tables-m-eq0 c =
     let a = c.args in
-    default_none a.never a.m a.tables.now a.v c.if-never.true c.if-tables-m-eq0.true
+    default_none a.which a.m a.tables.now a.v c.in-Deferred.is c.if-tables-m-eq0.true
 
-pub returns-then-never : goal.returns-then-never
-returns-then-never c =
+pub returns-else-tables-m-eq0 : goal.returns-else-tables-m-eq0
+returns-else-tables-m-eq0 c =
     let a = c.args in
-    default_never a.never a.m a.tables.now a.v c.if-never.true c.if-tables-m-eq0.false
+    default_never a.which a.m a.tables.now a.v c.in-Deferred.is c.if-tables-m-eq0.false
 
-pub returns : goal.returns
-returns c =
+pub returns-in-Requested : goal.returns-in-Requested
+returns-in-Requested c =
     let a = c.args in
-    default_request a.never a.m a.tables.now a.v c.if-never.false
+    default_request a.which a.m a.tables.now a.v c.in-Requested.is

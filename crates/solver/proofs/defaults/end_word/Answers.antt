@@ -2,12 +2,12 @@
 use Rattle.solver.proofs.Laws.Table.MethodLaws.{end_never, end_request}
 use Rattle.solver.proofs.defaults.end_word.Goals as goal
 
-pub returns-then-never : goal.returns-then-never
-returns-then-never c =
+pub returns-in-Deferred : goal.returns-in-Deferred
+returns-in-Deferred c =
     let a = c.args in
-    end_never a.never a.m a.tables.now a.w c.if-never.true
+    end_never a.which a.m a.tables.now a.w c.in-Deferred.is
 
-pub returns : goal.returns
-returns c =
+pub returns-in-Requested : goal.returns-in-Requested
+returns-in-Requested c =
     let a = c.args in
-    end_request a.never a.m a.tables.now a.w c.if-never.false
+    end_request a.which a.m a.tables.now a.w c.in-Requested.is

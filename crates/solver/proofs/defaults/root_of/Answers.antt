@@ -7,8 +7,6 @@ use lib.ListN.{length}
 use Rattle.terms.specs.Term.{Term, var, Held}
 use Rattle.solver.specs.Constrain.{follow}
 use Rattle.solver.specs.Words.Bindings.{HeldBindings}
-use Rattle.solver.specs.Words.ResolveWalk.{Named}
-use Rattle.solver.specs.Words.MethodContract.{EndsAt}
 use Rattle.solver.proofs.Laws.Table.ChainLaws.{end_none, end_free, end_bound, ends_node, ends_far, ends_near}
 use Rattle.solver.proofs.defaults.root_of.Goals as goal
 use Rattle.solver.proofs.defaults.root_of.Goals.{After-shallow_resolve-q}
@@ -18,7 +16,7 @@ ended : (c : After-shallow_resolve-q) (b : ℕ → Option Term) → HeldBindings
     → Held c.args.kinds.now c.args.vals.now c.shallow_resolve-q.result (follow c.args.most b (var c.args.v))
 ended c b h =
     let a = c.args in
-    let x = end_bound a.kinds.now a.vals.now a.bound.now b h a.most a.v _ _ (subst (λ (w : ℕ). Named a.kinds.now a.vals.now w c.named_run-run.result.at c.named_run-run.result.len) c.wide.ensures c.named_run-run.ensures) c.if-most-eq0.false c.if-len-eq0.false in
+    let x = end_bound a.kinds.now a.vals.now a.bound.now b h a.most a.v _ _ c.named_run-run.ensures c.if-most-eq0.false c.if-len-eq0.false in
     subst (λ (t : Term). Held a.kinds.now a.vals.now c.shallow_resolve-q.result t) (sym x.2) (c.shallow_resolve-q.ensures.term x.0 b x.1 h)
 
 pub returns-then-most-eq0 : goal.returns-then-most-eq0
@@ -29,7 +27,7 @@ returns-then-most-eq0 c =
 pub returns-then-len-eq0 : goal.returns-then-len-eq0
 returns-then-len-eq0 c =
     let a = c.args in
-    λ b h. end_free a.kinds.now a.vals.now a.bound.now b h a.most a.v _ _ (subst (λ (w : ℕ). Named a.kinds.now a.vals.now w c.named_run-run.result.at c.named_run-run.result.len) c.wide.ensures c.named_run-run.ensures) (length a.bound.now) c.if-most-eq0.false c.if-len-eq0.true
+    λ b h. end_free a.kinds.now a.vals.now a.bound.now b h a.most a.v _ _ c.named_run-run.ensures (length a.bound.now) c.if-most-eq0.false c.if-len-eq0.true
 
 pub returns-then-kinds-q-ne1 : goal.returns-then-kinds-q-ne1
 returns-then-kinds-q-ne1 c =
@@ -39,9 +37,9 @@ returns-then-kinds-q-ne1 c =
 pub returns-then-bound-w : goal.returns-then-bound-w
 returns-then-bound-w c =
     let a = c.args in
-    λ b h. ends_far a.kinds.now a.vals.now c.shallow_resolve-q.result (length a.bound.now) (follow a.most b (var a.v)) (ended (goal.at.returns-then-bound-w c).After-shallow_resolve-q b h) (omega (arith, c.wide-w.ensures, c.if-bound-w.true))
+    λ b h. ends_far a.kinds.now a.vals.now c.shallow_resolve-q.result (length a.bound.now) (follow a.most b (var a.v)) (ended (goal.at.returns-then-bound-w c).After-shallow_resolve-q b h) (omega (arith, c.if-bound-w.true))
 
 pub returns : goal.returns
 returns c =
     let a = c.args in
-    λ b h. subst (λ (r : ℕ). EndsAt (length a.bound.now) (follow a.most b (var a.v)) r) (sym c.wide-w.ensures) (ends_near a.kinds.now a.vals.now c.shallow_resolve-q.result (length a.bound.now) (follow a.most b (var a.v)) (ended (goal.at.returns c).After-shallow_resolve-q b h) c.if-kinds-q-ne1.false)
+    λ b h. ends_near a.kinds.now a.vals.now c.shallow_resolve-q.result (length a.bound.now) (follow a.most b (var a.v)) (ended (goal.at.returns c).After-shallow_resolve-q b h) c.if-kinds-q-ne1.false

@@ -1,5 +1,5 @@
-use lib.ListN.{take, drop, set, length-set}
-use mathlib.Core.Path.{◌≡◌, ◌∙◌}
+use lib.ListN.{get_or, take, drop, set, length-set}
+use mathlib.Core.Path.{◌≡◌, refl, ◌∙◌}
 use native.Mathlib.Omega.{arith}
 use Prim.Native.Nat.{◌+◌, ◌-◌}
 use Rattle.solver.proofs.Laws.Equality.LinkLaws.{clear_end}
@@ -9,9 +9,10 @@ use Rattle.solver.proofs.equality.clear.Goals as goal
 pub loop-k-preserved : goal.loop-k-preserved
 loop-k-preserved c =
     let l = c.loop-k in
-    let n = c.args.n in (
-      clear_turn n l.work l.k l.invariant.0 c.wide-x.result (omega arith) c.wide-x.ensures (omega (arith, c.requires.0, l.invariant.1)),
-      length-set (set l.work c.wide-x.result 0) (n + (l.k - 1)) 0 ∙ length-set l.work c.wide-x.result 0 ∙ l.invariant.1,
+    let n = c.args.n in
+    let x = get_or l.work (n + (l.k - 1)) 0 in (
+      clear_turn n l.work l.k l.invariant.0 x (omega arith) refl (omega (arith, c.requires.0, l.invariant.1)),
+      length-set (set l.work x 0) (n + (l.k - 1)) 0 ∙ length-set l.work x 0 ∙ l.invariant.1,
     )
 
 pub returns : goal.returns

@@ -1,3 +1,4 @@
+use mathlib.Core.Path.{refl}
 use native.Mathlib.Omega.{arith}
 use Rattle.solver.specs.Constrain.{follow}
 use Rattle.solver.specs.Words.CongruenceClasses.{stands_for}
@@ -7,8 +8,8 @@ use Rattle.solver.proofs.Laws.Equality.EqualLaws.{queue_fits, taken_entry}
 use borrow.Author.Rules.{rules}
 use Rattle.solver.proofs.equality.close_congruence.Goals as goal
 
-pub overflow_add-n : goal.overflow_add-n
-overflow_add-n c =
+pub overflow_add-x : goal.overflow_add-x
+overflow_add-x c =
     let l = c.loop-done in
     omega (arith, queue_fits c.args.kinds.now l.work l.top l.invariant.1.wired, top_below _ _ _ _ l.invariant.1.wired, l.invariant.3, c.well_formed)
 
@@ -25,29 +26,29 @@ bounds-work-n c =
 pub bounds-work-x : goal.bounds-work-x
 bounds-work-x c =
     let l = c.loop-done in
-    let t = taken_entry c.args.kinds.now l.work l.top l.invariant.1.wired l.done (omega arith) c.wide-x.result c.wide-x.ensures in
+    let t = taken_entry c.args.kinds.now l.work l.top l.invariant.1.wired l.done (omega arith) _ refl in
     omega (arith, t.0, queue_fits c.args.kinds.now l.work l.top l.invariant.1.wired, top_below _ _ _ _ l.invariant.1.wired)
 
 pub overflow_sub-y : goal.overflow_sub-y
 overflow_sub-y c =
     let l = c.loop-done in
-    let t = taken_entry c.args.kinds.now l.work l.top l.invariant.1.wired l.done (omega arith) c.wide-x.result c.wide-x.ensures in
-    omega (arith, c.wide-y.ensures, t.1, t.3)
+    let t = taken_entry c.args.kinds.now l.work l.top l.invariant.1.wired l.done (omega arith) _ refl in
+    omega (arith, t.1, t.3)
 
-pub union_parts-r-requires-clause-places : goal.union_parts-r-requires-clause-places
-union_parts-r-requires-clause-places c =
+pub union_parts-requires-clause-places : goal.union_parts-requires-clause-places
+union_parts-requires-clause-places c =
     let l = c.loop-done in
-    let t = taken_entry c.args.kinds.now l.work l.top l.invariant.1.wired l.done (omega arith) c.wide-x.result c.wide-x.ensures in
-    (t.0, omega (arith, c.wide-y.ensures, t.0, t.1, t.3, t.4), c.requires.areas.0, c.requires.areas.1)
+    let t = taken_entry c.args.kinds.now l.work l.top l.invariant.1.wired l.done (omega arith) _ refl in
+    (t.0, omega (arith, t.0, t.1, t.3, t.4), c.requires.areas.0, c.requires.areas.1)
 
-pub returns-then-not-equal : goal.returns-then-not-equal
-returns-then-not-equal c =
+pub returns-then-not-union_parts : goal.returns-then-not-union_parts
+returns-then-not-union_parts c =
     let l = c.loop-done in
-    let t = taken_entry c.args.kinds.now l.work l.top l.invariant.1.wired l.done (omega arith) c.wide-x.result c.wide-x.ensures in
-    let d = c.union_parts-r.ensures in
+    let t = taken_entry c.args.kinds.now l.work l.top l.invariant.1.wired l.done (omega arith) _ refl in
+    let d = c.union_parts.ensures in
     record {
       advanced = advanced_on _ _ _ _ _ _ _ _ _ _ l.invariant.1 d.advanced;
-      terms = λ b e fa. going_no _ _ (stands_for c.args.most b) (follow c.args.most b) _ _ _ _ _ _ _ _ _ _ (l.invariant.2 b e fa) l.invariant.1.wired d.advanced (omega arith) t.2 (omega (arith, c.wide-y.ensures, t.1, t.3)) _ (λ k j ps qs hx hy. d.terms b k j ps qs e hx hy (l.invariant.2 b e fa).fair) c.if-not-equal.true;
+      terms = λ b e fa. going_no _ _ (stands_for c.args.most b) (follow c.args.most b) _ _ _ _ _ _ _ _ _ _ (l.invariant.2 b e fa) l.invariant.1.wired d.advanced (omega arith) t.2 (omega (arith, t.1, t.3)) _ (λ k j ps qs hx hy. d.terms b k j ps qs e hx hy (l.invariant.2 b e fa).fair) c.if-not-union_parts.true;
     }
 
 pub loop-done-smaller : goal.loop-done-smaller
@@ -55,14 +56,19 @@ loop-done-smaller c =
     let l = c.loop-done in
     omega (arith, queue_fits c.args.kinds.now l.work l.top l.invariant.1.wired, top_below _ _ _ _ l.invariant.1.wired)
 
+pub overflow_add-done : goal.overflow_add-done
+overflow_add-done c =
+    let l = c.loop-done in
+    omega (arith, queue_fits c.args.kinds.now l.work l.top l.invariant.1.wired, top_below _ _ _ _ l.invariant.1.wired, l.invariant.3, c.well_formed)
+
 pub loop-done-preserved : goal.loop-done-preserved
 loop-done-preserved c =
     let l = c.loop-done in
-    let t = taken_entry c.args.kinds.now l.work l.top l.invariant.1.wired l.done (omega arith) c.wide-x.result c.wide-x.ensures in
-    let d = c.union_parts-r.ensures in (
+    let t = taken_entry c.args.kinds.now l.work l.top l.invariant.1.wired l.done (omega arith) _ refl in
+    let d = c.union_parts.ensures in (
       omega (arith, d.advanced.more),
       advanced_on _ _ _ _ _ _ _ _ _ _ l.invariant.1 d.advanced,
-      λ b e fa. going_on _ _ (stands_for c.args.most b) (follow c.args.most b) _ _ _ _ _ _ _ _ _ _ (l.invariant.2 b e fa) l.invariant.1.wired d.advanced (omega arith) t.2 (omega (arith, c.wide-y.ensures, t.1, t.3)) _ (λ k j ps qs hx hy. d.terms b k j ps qs e hx hy (l.invariant.2 b e fa).fair) c.if-not-equal.false,
+      λ b e fa. going_on _ _ (stands_for c.args.most b) (follow c.args.most b) _ _ _ _ _ _ _ _ _ _ (l.invariant.2 b e fa) l.invariant.1.wired d.advanced (omega arith) t.2 (omega (arith, t.1, t.3)) _ (λ k j ps qs hx hy. d.terms b k j ps qs e hx hy (l.invariant.2 b e fa).fair) c.if-not-union_parts.false,
       search rules,
     )
 

@@ -13,7 +13,7 @@ use Rattle.solver.proofs.equality.close_congruence.Given as goal
 abbrev pub invariant-loop-done : goal.invariant-loop-done
 invariant-loop-done l =
     (l.done ≤ l.top)
-    × AdvancedIn l.kinds l.initial.work l.from l.work l.top
+    × AdvancedIn l.kinds l.initial.work l.initial.top l.work l.top
     × ((b : ℕ → Option Term) → HeldSteady l.kinds l.vals l.bound l.most b → Fair l.kinds l.vals (link_words l.kinds l.initial.work)
     → Going l.kinds l.vals (stands_for l.most b) (follow l.most b) (link_words l.kinds l.initial.work) (link_words l.kinds l.work) (queue_words l.kinds l.work) l.done)
     × (length l.work ≡ length l.initial.work)

@@ -1,4 +1,4 @@
-use lib.ListN.{take}
+use lib.ListN.{get_or, take}
 use lib.Seq.{get_or-take}
 use native.Mathlib.Omega.{arith}
 use Prim.Native.Nat.{◌-◌}
@@ -14,4 +14,4 @@ loop-r-preserved c =
     let l = c.loop-r in
     let a = c.args in
     let e = get_or-take a.n a.work.now l.r 0 l.invariant.0 in
-    (omega (arith, l.invariant.0, c.wide-r.ensures, c.loop-r-test.true, c.requires.2 l.r, e), up_snoc (take a.n a.work.now) (c.wide-r.result - 1) l.invariant.1 (omega (arith, e, c.wide-r.ensures, c.loop-r-test.true)))
+    (omega (arith, l.invariant.0, c.loop-r-test.true, c.requires.2 l.r, e), up_snoc (take a.n a.work.now) (get_or a.work.now l.r 0 - 1) l.invariant.1 (omega (arith, e, c.loop-r-test.true)))

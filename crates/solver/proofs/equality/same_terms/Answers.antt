@@ -1,9 +1,46 @@
--- `same_terms`. What `decide` answers; then the words are cleared.
+-- `same_terms`. From the joins to the two terms (`decide_yes`, `decide_no`, `decide_apart`); then the words are cleared.
+use lib.ListN.{length}
+use mathlib.Core.Path.{◌∙◌}
+use Rattle.terms.proofs.Laws.General.Bools.{never_true}
+use Rattle.solver.specs.Constrain.{follow}
+use Rattle.solver.specs.Words.CongruenceClasses.{link_words, WiredIn, HeldSteady, stands_for}
 use Rattle.solver.proofs.Laws.Equality.LinkLaws.{clear_start}
-use Rattle.solver.proofs.Laws.Equality.EqualLaws.{links_fit}
+use Rattle.solver.proofs.Laws.Equality.CloseLaws.{zero_fair, decide_no, decide_yes, decide_apart}
+use Rattle.solver.proofs.Laws.Equality.EqualLaws.{links_fit, zero_links, steady_standing, answer}
+use Rattle.solver.proofs.equality.same_terms.Goals.{then-union_terms, else-union_terms}
 use Rattle.solver.proofs.equality.same_terms.Goals as goal
+use Rattle.solver.proofs.equality.same_terms.Goals.{Joined-union_terms}
+
+-- the words are wired, whether or not the two terms were joined
+linked : (c : Joined-union_terms) → WiredIn c.args.kinds.now c.if-union_terms.work c.if-union_terms.top
+linked c =
+    elim c.if-union_terms.branch [
+      | then-union_terms w ↦ rw (w.work-is, w.top-is) w.close_congruence-equal.ensures.advanced.wired
+      | else-union_terms w ↦ rw (w.work-is, w.top-is) c.union_terms.ensures.advanced.wired
+    ]
 
 pub clear-requires : goal.clear-requires
 clear-requires c =
-    let w = c.decide-r.ensures.wired in
+    let w = linked (goal.at.clear-requires c).Joined-union_terms in
     (links_fit _ _ _ w, clear_start c.args.kinds.now _ _ _ w)
+
+pub returns-clause-term : goal.returns-clause-term
+returns-clause-term c =
+    let a = c.args in
+    let w = link_words a.kinds.now a.work.now in
+    let z = zero_links (length a.kinds.now) a.work.now c.requires.room.1 in
+    let d = c.union_terms.ensures in
+    λ t u b ht hu h S T.
+    let e : HeldSteady a.kinds.now a.vals.now a.bound.now a.most b = record { held = h; steady = S; topped = T } in
+    let s = steady_standing a.most b S T in
+    let j = d.terms b t u e ht hu (zero_fair _ _ w z) in
+    elim c.if-union_terms.branch [
+      | then-union_terms x ↦
+          let k = x.close_congruence-equal.ensures in
+          let g = k.terms b e j.fair in
+          x.equal-is ∙ answer a.most b t u _
+          (decide_yes _ _ (stands_for a.most b) (follow a.most b) s w z _ _ t u j _ k.advanced.keeps _ g x.if-union_terms.true)
+          (decide_apart _ _ (stands_for a.most b) (follow a.most b) s w z _ _ t u j _ k.advanced.keeps _ g x.if-union_terms.true)
+      | else-union_terms x ↦
+          x.equal-is ∙ x.if-union_terms.false ∙ answer a.most b t u _ never_true (λ _. decide_no _ _ (stands_for a.most b) (follow a.most b) s w z _ _ t u j x.if-union_terms.false)
+    ]

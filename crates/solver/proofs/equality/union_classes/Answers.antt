@@ -7,48 +7,36 @@ pub link-requires : goal.link-requires
 link-requires c =
     let f = c.find-x in
     let g = c.find-y in
-    (g.ensures.0, c.if-x-y.true, c.requires.places.2, omega (arith, right_room c.args.kinds.now c.args.work.now c.args.top c.requires.wired c.args.a c.args.b f.result g.result c.requires.places.3 c.requires.places.4 f.ensures.2 g.ensures.2 g.ensures.0 g.ensures.1 c.if-x-y.true, queue_fits c.args.kinds.now c.args.work.now c.args.top c.requires.wired))
-
-pub overflow_add-result : goal.overflow_add-result
-overflow_add-result c =
-    let f = c.find-x in
-    let g = c.find-y in
-    omega (arith, right_room c.args.kinds.now c.args.work.now c.args.top c.requires.wired c.args.a c.args.b f.result g.result c.requires.places.3 c.requires.places.4 f.ensures.2 g.ensures.2 g.ensures.0 g.ensures.1 c.if-x-y.true, queue_fits c.args.kinds.now c.args.work.now c.args.top c.requires.wired, c.well_formed)
+    (g.ensures.0, c.if-x-y.true, c.requires.places.2, omega (arith, right_room c.args.kinds.now c.args.work.now c.args.top.now c.requires.wired c.args.a c.args.b f.result g.result c.requires.places.3 c.requires.places.4 f.ensures.2 g.ensures.2 g.ensures.0 g.ensures.1 c.if-x-y.true, queue_fits c.args.kinds.now c.args.work.now c.args.top.now c.requires.wired))
 
 pub returns-then-x-y : goal.returns-then-x-y
 returns-then-x-y c =
     let f = c.find-x in
     let g = c.find-y in
     let h = c.link.ensures in
-    record {
-      advanced = right_advanced c.args.kinds.now c.args.work.now c.args.top c.requires.wired c.args.a c.args.b f.result g.result c.requires.places.3 c.requires.places.4 f.ensures.2 g.ensures.2 g.ensures.0 g.ensures.1 c.if-x-y.true _ h.0 h.1;
-      terms = united_right c.args.kinds.now c.args.work.now c.args.top c.requires.wired c.args.a c.args.b f.result g.result c.requires.places.3 c.requires.places.4 f.ensures.2 g.ensures.2 g.ensures.0 g.ensures.1 c.if-x-y.true _ h.0 h.1;
-    }
+    rw h.2 (record {
+      advanced = right_advanced c.args.kinds.now c.args.work.now c.args.top.now c.requires.wired c.args.a c.args.b f.result g.result c.requires.places.3 c.requires.places.4 f.ensures.2 g.ensures.2 g.ensures.0 g.ensures.1 c.if-x-y.true _ h.0 h.1;
+      terms = united_right c.args.kinds.now c.args.work.now c.args.top.now c.requires.wired c.args.a c.args.b f.result g.result c.requires.places.3 c.requires.places.4 f.ensures.2 g.ensures.2 g.ensures.0 g.ensures.1 c.if-x-y.true _ h.0 h.1;
+    })
 
 pub link-requires-then-y-x : goal.link-requires-then-y-x
 link-requires-then-y-x c =
     let f = c.find-x in
     let g = c.find-y in
-    (f.ensures.0, c.if-y-x.true, c.requires.places.2, omega (arith, left_room c.args.kinds.now c.args.work.now c.args.top c.requires.wired c.args.a c.args.b f.result g.result c.requires.places.3 c.requires.places.4 f.ensures.2 g.ensures.2 f.ensures.0 f.ensures.1 c.if-y-x.true, queue_fits c.args.kinds.now c.args.work.now c.args.top c.requires.wired))
-
-pub overflow_add-result-then-y-x : goal.overflow_add-result-then-y-x
-overflow_add-result-then-y-x c =
-    let f = c.find-x in
-    let g = c.find-y in
-    omega (arith, left_room c.args.kinds.now c.args.work.now c.args.top c.requires.wired c.args.a c.args.b f.result g.result c.requires.places.3 c.requires.places.4 f.ensures.2 g.ensures.2 f.ensures.0 f.ensures.1 c.if-y-x.true, queue_fits c.args.kinds.now c.args.work.now c.args.top c.requires.wired, c.well_formed)
+    (f.ensures.0, c.if-y-x.true, c.requires.places.2, omega (arith, left_room c.args.kinds.now c.args.work.now c.args.top.now c.requires.wired c.args.a c.args.b f.result g.result c.requires.places.3 c.requires.places.4 f.ensures.2 g.ensures.2 f.ensures.0 f.ensures.1 c.if-y-x.true, queue_fits c.args.kinds.now c.args.work.now c.args.top.now c.requires.wired))
 
 pub returns-then-y-x : goal.returns-then-y-x
 returns-then-y-x c =
     let f = c.find-x in
     let g = c.find-y in
     let h = c.link-then-y-x.ensures in
-    record {
-      advanced = left_advanced c.args.kinds.now c.args.work.now c.args.top c.requires.wired c.args.a c.args.b f.result g.result c.requires.places.3 c.requires.places.4 f.ensures.2 g.ensures.2 f.ensures.0 f.ensures.1 c.if-y-x.true _ h.0 h.1;
-      terms = united_left c.args.kinds.now c.args.work.now c.args.top c.requires.wired c.args.a c.args.b f.result g.result c.requires.places.3 c.requires.places.4 f.ensures.2 g.ensures.2 f.ensures.0 f.ensures.1 c.if-y-x.true _ h.0 h.1;
-    }
+    rw h.2 (record {
+      advanced = left_advanced c.args.kinds.now c.args.work.now c.args.top.now c.requires.wired c.args.a c.args.b f.result g.result c.requires.places.3 c.requires.places.4 f.ensures.2 g.ensures.2 f.ensures.0 f.ensures.1 c.if-y-x.true _ h.0 h.1;
+      terms = united_left c.args.kinds.now c.args.work.now c.args.top.now c.requires.wired c.args.a c.args.b f.result g.result c.requires.places.3 c.requires.places.4 f.ensures.2 g.ensures.2 f.ensures.0 f.ensures.1 c.if-y-x.true _ h.0 h.1;
+    })
 
-pub returns-clause-terms : goal.returns-clause-terms
-returns-clause-terms c =
+pub returns-else-y-x-clause-terms : goal.returns-else-y-x-clause-terms
+returns-else-y-x-clause-terms c =
     let f = c.find-x in
     let g = c.find-y in
-    united_one c.args.kinds.now c.args.work.now c.args.top c.requires.wired c.args.a c.args.b f.result g.result c.requires.places.3 c.requires.places.4 f.ensures.2 g.ensures.2 (omega (arith, c.if-y-x.false, c.if-x-y.false))
+    united_one c.args.kinds.now c.args.work.now c.args.top.now c.requires.wired c.args.a c.args.b f.result g.result c.requires.places.3 c.requires.places.4 f.ensures.2 g.ensures.2 (omega (arith, c.if-y-x.false, c.if-x-y.false))

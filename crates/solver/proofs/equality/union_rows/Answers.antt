@@ -31,25 +31,25 @@ returns-then-kinds-j-eq0-clause-terms c =
     let l = c.loop-i in
     λ h ps qs e hp hq fa. no_number _ _ (stands_for c.args.most h) (follow c.args.most h) _ _ ps qs _ _ _ _ (l.invariant.3 h ps qs e hp hq fa) (omega arith) (omega arith) c.if-kinds-i-eq0.false c.if-kinds-j-eq0.true
 
-pub returns-then-not-equal : goal.returns-then-not-equal
-returns-then-not-equal c =
+pub returns-then-not-union_terms : goal.returns-then-not-union_terms
+returns-then-not-union_terms c =
     let l = c.loop-i in
-    let d = c.union_terms-r.ensures in
+    let d = c.union_terms.ensures in
     record {
       advanced = advanced_on _ _ _ _ _ _ _ _ _ _ l.invariant.2 d.advanced;
-      terms = λ h ps qs e hp hq fa. no_join _ _ (stands_for c.args.most h) (follow c.args.most h) _ _ ps qs _ _ _ _ (l.invariant.3 h ps qs e hp hq fa) _ d.advanced.keeps (omega arith) (omega arith) c.if-kinds-i-eq0.false c.if-kinds-j-eq0.false _ (λ t u ht hu. d.terms h t u e ht hu (l.invariant.3 h ps qs e hp hq fa).fair) c.if-not-equal.true;
+      terms = λ h ps qs e hp hq fa. no_join _ _ (stands_for c.args.most h) (follow c.args.most h) _ _ ps qs _ _ _ _ (l.invariant.3 h ps qs e hp hq fa) _ d.advanced.keeps (omega arith) (omega arith) c.if-kinds-i-eq0.false c.if-kinds-j-eq0.false _ (λ t u ht hu. d.terms h t u e ht hu (l.invariant.3 h ps qs e hp hq fa).fair) c.if-not-union_terms.true;
     }
 
 pub loop-i-preserved : goal.loop-i-preserved
 loop-i-preserved c =
     let l = c.loop-i in
-    let d = c.union_terms-r.ensures in
+    let d = c.union_terms.ensures in
     let r = c.skip-i.ensures in
     let q = c.skip-j.ensures in (
       omega arith,
       omega arith,
       advanced_on _ _ _ _ _ _ _ _ _ _ l.invariant.2 d.advanced,
-      λ h ps qs e hp hq fa. walk_join _ _ (stands_for c.args.most h) (follow c.args.most h) _ _ ps qs _ _ _ _ (l.invariant.3 h ps qs e hp hq fa) _ d.advanced.keeps (omega arith) (omega arith) c.if-kinds-i-eq0.false c.if-kinds-j-eq0.false _ (λ t u ht hu. d.terms h t u e ht hu (l.invariant.3 h ps qs e hp hq fa).fair) c.if-not-equal.false _ _ (λ x y. r.span x (omega arith)) (λ x y. q.span x (omega arith)),
+      λ h ps qs e hp hq fa. walk_join _ _ (stands_for c.args.most h) (follow c.args.most h) _ _ ps qs _ _ _ _ (l.invariant.3 h ps qs e hp hq fa) _ d.advanced.keeps (omega arith) (omega arith) c.if-kinds-i-eq0.false c.if-kinds-j-eq0.false _ (λ t u ht hu. d.terms h t u e ht hu (l.invariant.3 h ps qs e hp hq fa).fair) c.if-not-union_terms.false _ _ (λ x y. r.span x (omega arith)) (λ x y. q.span x (omega arith)),
       search rules,
     )
 

@@ -14,7 +14,7 @@ abbrev pub invariant-loop-i : goal.invariant-loop-i
 invariant-loop-i l =
     (l.i ≤ l.ae)
     × (l.j ≤ l.be)
-    × AdvancedIn l.kinds l.initial.work l.from l.work l.top
+    × AdvancedIn l.kinds l.initial.work l.initial.top l.work l.top
     × ((h : ℕ → Option Term) (ps qs : Parts) → HeldSteady l.kinds l.vals l.bound l.most h → HeldParts l.kinds l.vals l.a l.ae ps → HeldParts l.kinds l.vals l.b l.be qs
     → Fair l.kinds l.vals (link_words l.kinds l.initial.work) → RowWalk l.kinds l.vals (stands_for l.most h) (follow l.most h) l.ae l.be ps qs (link_words l.kinds l.initial.work) l.i l.j (link_words l.kinds l.work))
     × (length l.work ≡ length l.initial.work)

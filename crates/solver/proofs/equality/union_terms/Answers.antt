@@ -27,5 +27,5 @@ pub returns-clause-terms : goal.returns-clause-terms
 returns-clause-terms c =
     let f = c.shallow_resolve-a.ensures in
     let g = c.shallow_resolve-b.ensures in
-    let z = c.union_classes-next.ensures in
+    let z = c.union_classes.ensures in
     λ b t u e ht hu fa. z.terms c.args.vals.now (stands_for c.args.most b) (follow c.args.most b) t u (steady_standing c.args.most b e.steady e.topped) (f.term t b ht e.held) (g.term u b hu e.held) fa

@@ -19,18 +19,18 @@ returns-then-len-eq0 c =
     let ks = c.args.kinds.now in
     let vs = c.args.vals.now in
     let i = c.args.i in
-    part_end_none ks vs i c.args.end (omega arith) (span_node (get_or ks i 0) (get_or vs i 0) c.if-kinds-i-lt2.false ∙ sym c.wide-len.ensures ∙ c.if-len-eq0.true)
+    part_end_none ks vs i c.args.end (omega arith) (span_node (get_or ks i 0) (get_or vs i 0) c.if-kinds-i-lt2.false ∙ c.if-len-eq0.true)
 
 pub returns-then-end-i : goal.returns-then-end-i
 returns-then-end-i c =
     let ks = c.args.kinds.now in
     let vs = c.args.vals.now in
     let i = c.args.i in
-    part_end_over ks vs i c.args.end (omega arith) (omega (arith, span_node (get_or ks i 0) (get_or vs i 0) c.if-kinds-i-lt2.false, c.wide-len.ensures, c.if-end-i.true))
+    part_end_over ks vs i c.args.end (omega arith) (omega (arith, span_node (get_or ks i 0) (get_or vs i 0) c.if-kinds-i-lt2.false, c.if-end-i.true))
 
 pub returns : goal.returns
 returns c =
     let ks = c.args.kinds.now in
     let vs = c.args.vals.now in
     let i = c.args.i in
-    part_end_at ks vs i c.args.end (i + c.wide-len.result) (omega arith) (omega arith) (ap (λ (x : ℕ). i + x) (c.wide-len.ensures ∙ sym (span_node (get_or ks i 0) (get_or vs i 0) c.if-kinds-i-lt2.false)))
+    part_end_at ks vs i c.args.end (i + get_or vs i 0) (omega arith) (omega arith) (ap (λ (x : ℕ). i + x) (sym (span_node (get_or ks i 0) (get_or vs i 0) c.if-kinds-i-lt2.false)))

@@ -1,5 +1,4 @@
 -- `second_number`. By whether the row has a number, and another after it.
-use mathlib.Core.Path.{◌∙◌}
 use native.Mathlib.Omega.{arith}
 use Rattle.solver.proofs.Laws.Checks.PushLaws.{second_none, second_one, second_some}
 use Rattle.solver.proofs.pending.second_number.Goals as goal
@@ -25,4 +24,4 @@ returns c =
     let e = c.part_end-end in
     let p = c.number_from-p in
     let q = c.number_from-q in
-    λ k ps h. c.wide.ensures ∙ second_some a.kinds.now a.vals.now a.a e.result e.ensures p.result q.result p.ensures.number (omega (arith, c.if-end-p.false)) q.ensures.number (omega (arith, c.if-end-q.false)) k ps h
+    λ k ps h. second_some a.kinds.now a.vals.now a.a e.result e.ensures p.result q.result p.ensures.number (omega (arith, c.if-end-p.false)) q.ensures.number (omega (arith, c.if-end-q.false)) k ps h

@@ -1,21 +1,22 @@
-use mathlib.Core.Path.{◌≡◌, refl, sym, ◌∙◌}
+use mathlib.Core.Path.{◌≡◌, refl, ◌∙◌}
 use Prim.Native.Nat.{◌+◌, ◌-◌, ◌≤◌, ◌<◌}
 use native.Mathlib.Omega.{arith}
 use lib.ListN.{length, get_or, set, take, drop, length-set}
 use lib.Seq.{get_or-drop}
 use Rattle.solver.proofs.Laws.Resolving.WorklistLaws.{top-le, Clearing, clearing_start, clearing_step, clearing_end, parts_long, zero_join, take_cleared, drop_cleared}
 use Rattle.solver.proofs.reach.clear_marks.Goals as goal
-use Rattle.solver.proofs.reach.clear_marks.Goals.{After-wide-v}
+use Rattle.solver.proofs.reach.clear_marks.Goals.{In-loop-k}
 
 -- how long the two parts are in a turn, and that its entry of the queue is a number of the table
-turn : (c : After-wide-v) → (length (drop c.args.n c.loop-k.work) ≡ length c.loop-k.work - c.args.n)
+turn : (c : In-loop-k) → (length (drop c.args.n c.loop-k.work) ≡ length c.loop-k.work - c.args.n)
     × (c.args.n + c.args.n ≤ length c.loop-k.work)
-    × (get_or (drop c.args.n c.loop-k.work) (c.loop-k.k - 1) 0 ≡ c.wide-v.result) × (c.wide-v.result < c.args.n)
+    × (get_or (drop c.args.n c.loop-k.work) (c.loop-k.k - 1) 0 ≡ get_or c.loop-k.work (c.args.n + (c.loop-k.k - 1)) 0)
+    × (get_or c.loop-k.work (c.args.n + (c.loop-k.k - 1)) 0 < c.args.n)
 turn c =
     let l = c.loop-k in
     let n = c.args.n in
     let h : n + n ≤ length l.work = omega (arith, l.invariant.2, c.requires.1) in
-    let e = get_or-drop n l.work (l.k - 1) 0 ∙ sym c.wide-v.ensures in
+    let e = get_or-drop n l.work (l.k - 1) 0 in
     ((parts_long n l.work h).1, h, e, omega (arith, l.invariant.0.inside (l.k - 1) (omega arith), e, (parts_long n l.work h).0))
 
 pub loop-k-init : goal.loop-k-init
@@ -23,14 +24,14 @@ loop-k-init c =
     (clearing_start c.requires.0, omega (arith, top-le c.requires.0, (parts_long c.args.n c.args.work.now c.requires.1).0), refl)
 
 pub bounds-work-v : goal.bounds-work-v
-bounds-work-v c = omega (arith, (turn (goal.at.bounds-work-v c).After-wide-v).3, c.loop-k.invariant.2, c.requires.1, length-set c.loop-k.work (c.args.n + (c.loop-k.k - 1)) 0)
+bounds-work-v c = omega (arith, (turn (goal.at.bounds-work-v c).In-loop-k).3, c.loop-k.invariant.2, c.requires.1, length-set c.loop-k.work (c.args.n + (c.loop-k.k - 1)) 0)
 
 pub loop-k-preserved : goal.loop-k-preserved
 loop-k-preserved c =
     let l = c.loop-k in
     let n = c.args.n in
-    let v = c.wide-v.result in
-    let t = turn (goal.at.loop-k-preserved c).After-wide-v in
+    let v = get_or l.work (n + (l.k - 1)) 0 in
+    let t = turn (goal.at.loop-k-preserved c).In-loop-k in
     let k = l.k - 1 in
     let s : Clearing (set (take n l.work) v 0) (set (drop n l.work) k 0) k = rw (← t.2) (clearing_step l.invariant.0 k (omega arith) (omega (arith, t.0, t.1, l.invariant.1))) in (
       rw (take_cleared n l.work v k 0 0 t.3, drop_cleared n l.work v k 0 0 t.3) s,

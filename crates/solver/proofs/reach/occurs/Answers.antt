@@ -1,6 +1,5 @@
 -- `occurs`.
-use mathlib.Core.Path.{ap, ◌∙◌}
-use Prim.Native.Nat.{ℕ, ◌+◌}
+use mathlib.Core.Path.{refl, ◌∙◌}
 use Rattle.solver.specs.Constrain.{resolve}
 use Rattle.solver.proofs.Laws.Resolving.ReachLaws.{asks_variable, free_variable}
 use Rattle.solver.proofs.reach.occurs.Goals as goal
@@ -9,5 +8,4 @@ pub returns-clause-term : goal.returns-clause-term
 returns-clause-term c =
     let a = c.args in
     let m = c.reaches.ensures in
-    let e = ap (λ (x : ℕ). x + 1) c.wide-want.ensures in
-    λ t b n h g S f. m.term t b n h g S (free_variable b _ a.v e f) ∙ asks_variable _ a.v e (resolve n b t)
+    λ t b n h g S f. m.term t b n h g S (free_variable b _ a.v refl f) ∙ asks_variable _ a.v refl (resolve n b t)

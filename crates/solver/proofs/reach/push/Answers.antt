@@ -12,9 +12,9 @@ use Rattle.solver.proofs.reach.push.Goals as goal
 use Rattle.solver.proofs.reach.push.Goals.{Else-work-at-ne0}
 
 -- a variable of the table that is not marked leaves room in the queue
-room : (c : Else-work-at-ne0) → (c.wide-at.result < c.args.n) × (c.args.top < c.args.n) × (get_or (take c.args.n c.args.work.now) c.wide-at.result 0 ≡ 0)
+room : (c : Else-work-at-ne0) → (c.args.val < c.args.n) × (c.args.top.now < c.args.n) × (get_or (take c.args.n c.args.work.now) c.args.val 0 ≡ 0)
 room c =
-    let x = c.wide-at.result in
+    let x = c.args.val in
     let lt : x < c.args.n = omega (arith, c.if-n-at.false) in
     let l = (parts_long c.args.n c.args.work.now c.requires.1).0 in
     let z = get_or-take c.args.n c.args.work.now x 0 lt ∙ c.if-work-at-ne0.false in
@@ -28,15 +28,15 @@ pub returns-then-n-at : goal.returns-then-n-at
 returns-then-n-at c =
     let n = (parts_long c.args.n c.args.work.now c.requires.1).0 in
     grown_none c.requires.0 (λ (u : ℕ). counts (suc u) c.args.kind c.args.val ≡ true)
-    (λ u l i. absurd (omega (arith, (token_is u c.args.kind c.args.val i).1, c.wide-at.ensures, c.if-n-at.true)))
+    (λ u l i. absurd (omega (arith, (token_is u c.args.kind c.args.val i).1, c.if-n-at.true)))
 
 pub returns-then-work-at-ne0 : goal.returns-then-work-at-ne0
 returns-then-work-at-ne0 c =
-    let x = c.wide-at.result in
+    let x = c.args.val in
     let e = get_or-take c.args.n c.args.work.now x 0 (omega (arith, c.if-n-at.false)) in
     let m = marked c.requires.0 x (λ q. c.if-work-at-ne0.true (sym e ∙ q)) in
     grown_none c.requires.0 (λ (u : ℕ). counts (suc u) c.args.kind c.args.val ≡ true)
-    (λ u l i. ap (λ (y : ℕ). get_or (take c.args.n c.args.work.now) y 0) ((token_is u c.args.kind c.args.val i).1 ∙ sym c.wide-at.ensures) ∙ m)
+    (λ u l i. ap (λ (y : ℕ). get_or (take c.args.n c.args.work.now) y 0) (token_is u c.args.kind c.args.val i).1 ∙ m)
 
 pub overflow_add-work : goal.overflow_add-work
 overflow_add-work c = omega (arith, (room (goal.at.overflow_add-work c).Else-work-at-ne0).1, c.requires.1, c.well_formed)
@@ -45,18 +45,18 @@ pub offset_bounds-work-n : goal.offset_bounds-work-n
 offset_bounds-work-n c = omega (arith, (room (goal.at.offset_bounds-work-n c).Else-work-at-ne0).1, c.requires.1, c.well_formed)
 
 pub bounds-work-n : goal.bounds-work-n
-bounds-work-n c = omega (arith, (room (goal.at.bounds-work-n c).Else-work-at-ne0).1, c.requires.1, length-set c.args.work.now c.wide-at.result 1)
+bounds-work-n c = omega (arith, (room (goal.at.bounds-work-n c).Else-work-at-ne0).1, c.requires.1, length-set c.args.work.now c.args.val 1)
 
-pub overflow_add-result : goal.overflow_add-result
-overflow_add-result c = omega (arith, (room (goal.at.overflow_add-result c).Else-work-at-ne0).1, c.requires.1, c.well_formed)
+pub overflow_add-top : goal.overflow_add-top
+overflow_add-top c = omega (arith, (room (goal.at.overflow_add-top c).Else-work-at-ne0).1, c.requires.1, c.well_formed)
 
 pub returns : goal.returns
 returns c =
     let n = c.args.n in
     let w = c.args.work.now in
-    let x = c.wide-at.result in
+    let x = c.args.val in
     let r = room (goal.at.returns c).Else-work-at-ne0 in
     let l = parts_long n w c.requires.1 in
-    rw (← c.wide-at.ensures, take_marked n w x c.args.top 1 x r.0, drop_marked n w x c.args.top 1 x r.0)
+    rw (take_marked n w x c.args.top.now 1 x r.0, drop_marked n w x c.args.top.now 1 x r.0)
     (grown_new c.requires.0 x (omega (arith, r.0, l.0)) r.2 (omega (arith, r.1, l.1, c.requires.1)) (λ (u : ℕ). counts (suc u) c.args.kind x ≡ true)
     (is_token x c.args.kind x c.if-kind-ne1.false refl) (λ u i. (token_is u c.args.kind x i).1))

@@ -22,12 +22,12 @@ loop-i-init c = (
 pub loop-i-preserved : goal.loop-i-preserved
 loop-i-preserved c =
     let l = c.loop-i in
-    let m = c.push-top in
+    let m = c.push in
     let ks = c.args.kinds.now in
     let vs = c.args.vals.now in
     let n = c.args.n in
     let a = c.args.run.at in
-    let e = c.push-top.auto.work ∙ l.invariant.3 in (
+    let e = c.push.auto.work ∙ l.invariant.3 in (
       omega arith,
       c.seen-hit.ensures ∙ ap (λ (b : Bool). b || counts c.args.want (get_or ks (a + l.i) 0) (get_or vs (a + l.i) 0)) l.invariant.1 ∙ sym (has_snoc c.args.want ks vs a l.i),
       grown_then _ _ _ l.invariant.2 m.ensures ((parts_long n _ (omega (arith, e, c.requires.work.1))).0 ∙ sym (parts_long n l.work (omega (arith, l.invariant.3, c.requires.work.1))).0)

@@ -1,7 +1,5 @@
 -- `seen`. By the question and the token's kind.
-use mathlib.Core.Path.{sym, ap, ◌∙◌}
-use Prim.Native.Nat.{◌-◌}
-use lib.Dec.{eqb}
+use mathlib.Core.Path.{sym, ◌∙◌}
 use Rattle.terms.proofs.Laws.General.Bools.{or-false}
 use Rattle.solver.proofs.Laws.Resolving.AskLaws.{counts_unknown, counts_error, counts_other, counts_same}
 use Rattle.solver.proofs.reach.seen.Goals as goal
@@ -24,4 +22,4 @@ returns-then-kind-ne1 c =
 pub returns : goal.returns
 returns c =
     let a = c.args in
-    ap (eqb (a.want - 1)) c.wide.ensures ∙ counts_same a.want a.kind a.val c.if-want-eq0.false c.if-kind-ne1.false ∙ sym (or-false a.before _ c.if-before.false)
+    counts_same a.want a.kind a.val c.if-want-eq0.false c.if-kind-ne1.false ∙ sym (or-false a.before _ c.if-before.false)

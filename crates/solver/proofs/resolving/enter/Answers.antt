@@ -1,6 +1,5 @@
 -- `enter`. By the token's kind and the variable's word.
 use mathlib.Core.Path.{refl, sym, ap, ◌∙◌}
-use Prim.Native.Nat.{ℕ, pred}
 use native.Mathlib.Omega.{arith}
 use lib.ListN.{get_or, get_or-eq_default}
 use Rattle.solver.specs.Words.ResolveWalk.{run_len}
@@ -32,13 +31,10 @@ returns-then-bound-v c =
 pub returns : goal.returns
 returns c =
     let a = c.args in
-    let v = c.wide-v.ensures in
-    let w = c.wide.ensures ∙ ap (λ (i : ℕ). get_or a.bound.now i 0) v in
     let b = c.named_run.ensures in
     record {
       shut = λ z. absurd (omega (arith, c.if-left-eq0.false));
-      size = λ _. b.size ∙ ap (run_len a.kinds.now a.vals.now) w
-          ∙ sym (inner_var a.kinds.now a.vals.now a.bound.now (get_or a.kinds.now a.p 0) (get_or a.vals.now a.p 0) (omega arith));
-      place = λ z. b.place z ∙ ap pred w;
+      size = λ _. b.size ∙ sym (inner_var a.kinds.now a.vals.now a.bound.now (get_or a.kinds.now a.p 0) (get_or a.vals.now a.p 0) (omega arith));
+      place = b.place;
       within = b.within;
     }

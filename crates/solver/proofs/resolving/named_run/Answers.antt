@@ -37,7 +37,7 @@ len_is : (c : Joined-kinds-at-ge2) → c.if-kinds-at-ge2.len
     (get_or c.args.vals.now (c.args.word - 1) 0)
 len_is c =
     elim c.if-kinds-at-ge2.branch [
-      | then-kinds-at-ge2 w ↦ w.len-is ∙ w.wide-len.ensures ∙ sym (span_node _ _ w.if-kinds-at-ge2.true)
+      | then-kinds-at-ge2 w ↦ w.len-is ∙ sym (span_node _ _ w.if-kinds-at-ge2.true)
       | else-kinds-at-ge2 w ↦ w.len-is ∙ sym (span_one _ _ (omega (arith, w.if-kinds-at-ge2.false)))
     ]
 

@@ -24,13 +24,12 @@ pub loop-c-smaller-then-c : goal.loop-c-smaller-then-c
 loop-c-smaller-then-c c =
     let a = c.args in
     let l = c.loop-c in
-    rw (c.wide.ensures, c.wide-then-c.ensures) (steps_pop a.kinds.now a.vals.now a.bound.now a.most l.frames l.c.at l.c.end l.c.depth (omega arith) (omega arith))
+    (steps_pop a.kinds.now a.vals.now a.bound.now a.most l.frames l.c.at l.c.end l.c.depth (omega arith) (omega arith))
 
 pub loop-c-preserved-then-c : goal.loop-c-preserved-then-c
 loop-c-preserved-then-c c =
     let a = c.args in
-    let l = c.loop-c in
-    rw (c.wide.ensures, c.wide-then-c.ensures) (
+    let l = c.loop-c in (
       sound_pop _ _ _ _ _ _ l.invariant.0 (omega arith),
       sym (rest_pop (walk one [] a.kinds.now a.vals.now a.bound.now) a.most a.kinds.now a.vals.now l.frames l.c.at l.c.end l.c.depth (omega arith) (omega arith)) ∙ l.invariant.1,
       simp length-set l.invariant.2,

@@ -1,18 +1,15 @@
 -- `shallow_resolve`. Invariant: with the steps that are left, the term at q stands for what the term at p stands for.
 use mathlib.Core.Option.{Option}
 use mathlib.Core.Path.{◌≡◌}
-use Prim.Native.Nat.{ℕ, ◌≤◌, ◌<◌}
+use Prim.Native.Nat.{ℕ, ◌-◌, ◌<◌}
 use lib.ListN.{length}
 use Rattle.terms.specs.Term.{Term, Held}
 use Rattle.solver.specs.Constrain.{follow}
 use Rattle.solver.specs.Words.Bindings.{HeldBindings}
 use Rattle.solver.proofs.top.shallow_resolve.Given as goal
 
-abbrev pub invariant-loop-left : goal.invariant-loop-left
-invariant-loop-left l =
+abbrev pub invariant-loop : goal.invariant-loop
+invariant-loop l =
     (l.q < length l.kinds)
-    × (l.left ≤ l.most)
-    × ((t : Term) (b : ℕ → Option Term) → Held l.kinds l.vals l.p t → HeldBindings l.kinds l.vals l.bound b → (u : Term) × Held l.kinds l.vals l.q u × (follow l.most b t ≡ follow l.left b u))
-
-abbrev pub decreases-loop-left : goal.decreases-loop-left
-decreases-loop-left l = l.left
+    × ((t : Term) (b : ℕ → Option Term) → Held l.kinds l.vals l.p t → HeldBindings l.kinds l.vals l.bound b
+    → (u : Term) × Held l.kinds l.vals l.q u × (follow l.most b t ≡ follow (l.most - l.counter) b u))
