@@ -106,7 +106,8 @@ fn listing_of(sort: Sort) -> Listing
     }
 }
 
-// The tokens of a term, of a nominal, or of `count` entries, receivers or arguments.
+// The tokens of a term, of a nominal, or of `count` entries, receivers or arguments. Terms and nominals share a call: with one for each, reading
+// took 2% longer.
 #[inline(never)]
 fn keep_part(
     s: &[u8],
@@ -124,8 +125,10 @@ fn keep_part(
         (area kinds.old vals.old) (area kinds.new vals.new) (step_of result place.new) }
 {
     match sort {
-        Sort::Term => part_at(s, kinds, vals, place, false, LEVELS, issued),
-        Sort::Nominal => part_at(s, kinds, vals, place, true, LEVELS, issued),
+        Sort::Term | Sort::Nominal => {
+            let bare = sort == Sort::Nominal;
+            part_at(s, kinds, vals, place, bare, LEVELS, issued)
+        }
         _ => keep_list(
             s,
             kinds,

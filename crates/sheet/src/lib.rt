@@ -51,6 +51,7 @@ pub struct FieldSpot {
 }
 
 // An order that was read: its kind, at most five fields, the token after the last one, and the nodes kept with those of the order.
+// The fields have names and are no array: what answers an order speaks of each by its name, and `o.fields[3].place` is no plainer than `o.fourth.place`.
 #[derive(Clone, Copy)]
 pub struct Order {
     pub kind: u8,

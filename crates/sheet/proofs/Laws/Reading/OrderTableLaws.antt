@@ -13,11 +13,10 @@ use lib.ListN.{length}
 use Rattle.solver.specs.Terms.Result.{pick}
 use Rattle.solver.proofs.Terms.Bools.{never_true, never_false}
 use Rattle.solver.proofs.Terms.KindTableLaws.{both_true}
-use Rattle.std.specs.Prelude.{Some, None}
+use Rattle.std.specs.Prelude.{Some}
 use Rattle.std.specs.declared.option.Option as rust
 use Rattle.sheet.specs.declared.Class.{Class}
 use Rattle.sheet.specs.declared.Sort.{Sort}
-use Rattle.sheet.specs.declared.Class.TheVariants.{Session, Operation}
 use Rattle.sheet.specs.Fields as fields
 use Rattle.sheet.specs.Fields.{FieldSort, Field}
 use Rattle.solver.specs.Orders.{Command}
@@ -177,23 +176,6 @@ row_of k c l h = go (row_in table k) refl h
     go : (o : Option Row) → row_in table k ≡ o → row_words o ≡ Some (c, sorts_of l) → (r : Row) × (row_in table k ≡ some r) × (c ≡ class_by r.act) × (sorts_of l ≡ layout r)
     go none e h = let z : ◌≡◌ {A = ℕ} 0 1 = cc in absurd (omega arith)
     go (some r) e h = let t = listed_same h in (r, e, sym t.0, sym t.1)
-
--- whether it leaves the session, by what the code has
-abbrev pub operates : Class → Bool
-operates Session = false
-operates Operation = true
-
-pub unlisted_session : (o : Option Row) → None ≡ row_words o → false ≡ is_operation o
-unlisted_session none h = refl
-unlisted_session (some r) h = let z : ◌≡◌ {A = ℕ} 0 1 = cc in absurd (omega arith)
-
-pub listed_class : (o : Option Row) (c : Class) (l : List FieldSort) → Some (c, l) ≡ row_words o → is_operation o ≡ operates c
-listed_class none c l h = let z : ◌≡◌ {A = ℕ} 0 1 = cc in absurd (omega arith)
-listed_class (some r) c l h = go r.act (sym (listed_same h).0)
-  where
-    go : (a : Act) → class_by a ≡ c → answers_by a ≡ operates c
-    go (tells f) e = ap operates e
-    go (answers f) e = ap operates e
 
 pub known_class : (r : Row) (n : ℕ) → known r n ≡ known_for (class_by r.act) n
 unfolding known

@@ -1,6 +1,7 @@
 -- One field: what is read and kept of it, and its spot.
 use mathlib.Core.Path.{◌≡◌, refl, sym, ap, subst, ◌∙◌}
 use mathlib.Core.List.{List}
+use mathlib.Core.Bool.{Bool, true, false}
 use mathlib.Core.Logic.{◌⊎◌, inl, inr}
 use Prim.Native.Nat.{ℕ, zero, suc, ◌+◌, ◌-◌, ◌*◌, ◌^◌, ◌≤◌, ◌<◌}
 use native.Mathlib.Omega.{arith}
@@ -19,6 +20,7 @@ use Rattle.solver.specs.Terms.Shape as shape
 use Rattle.solver.specs.Terms.Shape.{ceiling}
 use Rattle.solver.specs.Terms.Reading as reading
 use Rattle.solver.specs.Terms.ReadContract.{Room, RoomAfter, answer, kept, contents}
+use Rattle.solver.specs.Terms.ReaderContract.{part, nodes_of}
 use Rattle.solver.specs.Terms.Substitution.{Entry, Receiver}
 use Rattle.solver.specs.Terms.Parameters.{parameters, past}
 use Rattle.solver.specs.Terms.Rows as rows
@@ -74,7 +76,7 @@ module _ (s : List ℕ) (t : Parser Term) where
 -- ---- tokens that are kept
 
 module _ (s ws : List ℕ) (issued : ℕ) (p : Place) (d e : Area) (f : Free p.top d) (n : ℕ) (r : Step) (room : RoomAfter s r) where
-  pub term_part : r ≡ answer p (reading.term s issued levels p.at) size → e ≡ kept s p (reading.term s issued levels p.at) size d
+  term_part : r ≡ answer p (reading.term s issued levels p.at) size → e ≡ kept s p (reading.term s issued levels p.at) size d
       → PartDone s ws n (part_of s issued sorts.Term n p.at) p d e r
   unfolding part_of fields.field field_items nodes
   term_part er ee = go (reading.term s issued levels p.at) er ee
@@ -83,7 +85,7 @@ module _ (s ws : List ℕ) (issued : ℕ) (p : Place) (d e : Area) (f : Free p.t
       go (got t m) er ee = let q = rw er at room in rw er (tree t, refl, stored_kept p _ d f e (items t) (size t) refl refl refl ee, q.inside, refl)
       go (refused c) er ee = rw er (refl, ee ∙ f _)
 
-  pub nominal_part : r ≡ answer p (reading.bare s issued levels p.at) contents → e ≡ kept s p (reading.bare s issued levels p.at) contents d
+  nominal_part : r ≡ answer p (reading.bare s issued levels p.at) contents → e ≡ kept s p (reading.bare s issued levels p.at) contents d
       → PartDone s ws n (part_of s issued sorts.Nominal n p.at) p d e r
   unfolding part_of fields.field fields.nominal_field field_items nodes reading.bare row
   nominal_part er ee = go (reading.row s (reading.term s issued levels) (shape.nominal shape.done) p.at) er ee
@@ -92,6 +94,12 @@ module _ (s ws : List ℕ) (issued : ℕ) (p : Place) (d e : Area) (f : Free p.t
           → PartDone s ws n (bind (bind (bind x (λ ps m. got (node 20 ps) m)) (λ t m. got (row t) m)) (λ ps m. got (bare ps) m)) p d e r
       go (got ps m) er ee = let q = rw er at room in rw er (bare ps, refl, stored_kept p _ d f e (items (node 20 ps)) (sizes ps) refl refl refl ee, q.inside, refl)
       go (refused c) er ee = rw er (refl, ee ∙ f _)
+
+  -- a term or a nominal, told by the flag
+  pub either_part : (a : Sort) (b : Bool) → (a ≡ sorts.Term) ⊎ (a ≡ sorts.Nominal) → (a ≡ sorts.Term → b ≡ false) → (a ≡ sorts.Nominal → b ≡ true)
+      → r ≡ answer p (part b s issued levels p.at) (nodes_of b) → e ≡ kept s p (part b s issued levels p.at) (nodes_of b) d → PartDone s ws n (part_of s issued a n p.at) p d e r
+  either_part a b (inl x) f g er ee = let z = f x in rw x (term_part (rw z at er) (rw z at ee))
+  either_part a b (inr x) f g er ee = let z = g x in rw x (nominal_part (rw z at er) (rw z at ee))
 
   entries_part : r ≡ answer_of entry_row p (rows.entries s (reading.term s issued levels) n p.at) → e ≡ kept_of entry_row s p (rows.entries s (reading.term s issued levels) n p.at) d
       → PartDone s ws n (part_of s issued sorts.Entries n p.at) p d e r

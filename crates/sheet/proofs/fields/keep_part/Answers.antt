@@ -1,6 +1,6 @@
 -- `keep_part`: by the sort.
 use Rattle.solver.specs.Terms.Tokens.{area}
-use Rattle.sheet.proofs.Laws.Reading.PartLaws.{term_part, nominal_part, list_part, room_after}
+use Rattle.sheet.proofs.Laws.Reading.PartLaws.{either_part, list_part, room_after}
 use Rattle.sheet.proofs.fields.keep_part.Goals as goal
 
 pub returns-in-Term : goal.returns-in-Term
@@ -8,18 +8,8 @@ returns-in-Term c =
     λ ws.
     let a = c.args in
     let r = c.part_at in
-    rw c.in-Term.is
-    (term_part a.s.now ws a.issued a.place.now (area a.kinds.now a.vals.now) (area r.new.kinds r.new.vals) c.requires.free a.count
-    _ (room_after a.s.now r.result r.new.place r.ensures.room) r.ensures.answer r.ensures.areas)
-
-pub returns-in-Nominal : goal.returns-in-Nominal
-returns-in-Nominal c =
-    λ ws.
-    let a = c.args in
-    let r = c.part_at-in-Nominal in
-    rw c.in-Nominal.is
-    (nominal_part a.s.now ws a.issued a.place.now (area a.kinds.now a.vals.now) (area r.new.kinds r.new.vals) c.requires.free a.count
-    _ (room_after a.s.now r.result r.new.place r.ensures.room) r.ensures.answer r.ensures.areas)
+    either_part a.s.now ws a.issued a.place.now (area a.kinds.now a.vals.now) (area r.new.kinds r.new.vals) c.requires.free a.count
+    _ (room_after a.s.now r.result r.new.place r.ensures.room) a.sort _ c.in-Term.is (λ e. rw e at c.eq-bare.ensures) (λ e. rw e at c.eq-bare.ensures) r.ensures.answer r.ensures.areas
 
 pub returns-in_default : goal.returns-in_default
 returns-in_default c =
