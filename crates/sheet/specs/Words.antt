@@ -3,7 +3,7 @@
 -- serves. No promise rests on these.
 --   DispatchContract       an order taken into the areas, and served there
 --   FieldLayout            the fields' sorts, tokens and spots, and what the reading functions leave
---   FieldsContract         the answers of the reading functions, which are lent the numbers of a place
+--   FieldsContract         the answers of the reading functions, which are lent a place
 --   FieldsFormed           fields whose terms are formed
 --   FieldsHeld             the fields of an order, held
 --   FramingContract        answers in the output

@@ -24,6 +24,23 @@ pub enum Class {
     Operation,
 }
 
+// What a field of an order is, as `sort_of` tells it: a number; a builtin's code; a bound of a range; a term; a bare nominal; an owner and a term; or a count
+// and so many entries, receivers, parameters, arguments or rules.
+#[derive(Clone, Copy, Debug, PartialEq, Eq)]
+pub enum Sort {
+    Number,
+    Code,
+    Bound,
+    Term,
+    Nominal,
+    Receiver,
+    Entries,
+    Receivers,
+    Parameters,
+    Arguments,
+    Rules,
+}
+
 // A field of an order: a number or count, the place of its first token (of parameters: their position in the bytes), and the token after
 // its last.
 #[derive(Clone, Copy)]
@@ -34,6 +51,7 @@ pub struct FieldSpot {
 }
 
 // An order that was read: its kind, at most five fields, the token after the last one, and the nodes kept with those of the order.
+// The fields have names and are no array: what answers an order speaks of each by its name, and `o.fields[3].place` is no plainer than `o.fourth.place`.
 #[derive(Clone, Copy)]
 pub struct Order {
     pub kind: u8,

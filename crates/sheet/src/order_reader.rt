@@ -3,6 +3,7 @@
 ghost use Rattle.std.specs.Prelude.{◌≡◌, ◌-◌, ◌<◌, ◌≤◌, length, get_or};
 ghost use Rattle.solver.specs.Terms.Tokens.{area, blank};
 ghost use Rattle.solver.specs.Terms.Result.{number_of};
+ghost use Rattle.sheet.specs.declared.Sort.TheVariants.{Rules};
 ghost use Rattle.sheet.specs.Fields.{field};
 ghost use Rattle.sheet.specs.Words.FieldLayout.{RowIs, sort_of, Plain, Free, Ample, FieldDone, finished_order};
 ghost use Rattle.sheet.specs.Words.FieldsContract.{field_of};
@@ -11,7 +12,7 @@ ghost use Rattle.sheet.specs.Words.OrderReaderContract.{OrderRoom, OrderDone};
 use super::fields::{next_number, read_plain};
 use super::order_table::{known_of, no_fields, put_spot, row_of};
 use super::rules::read_rules;
-use super::{Class, FieldSpot, Order};
+use super::{Class, FieldSpot, Order, Sort};
 use solver::{Place, Refusal, clear_tokens};
 
 // A count and so many rules.
@@ -25,7 +26,7 @@ fn rules_field(
 ) -> Result<FieldSpot, Refusal>
     requires ample { Ample s.now place.old }
     requires free { Free place.old.top (area kinds.old vals.old) }
-    ensures { FieldDone s.now rules.new (field s.now issued (sort_of 10) place.old.at) place.old
+    ensures { FieldDone s.now rules.new (field s.now issued (sort_of Rules) place.old.at) place.old
         (area kinds.old vals.old) (area kinds.new vals.new) (field_of result place.new) }
 {
     let value = next_number(s, place)?;
@@ -45,7 +46,7 @@ fn read_field(
     vals: &mut [u32],
     rules: &mut [u32],
     place: &mut Place,
-    sort: u8,
+    sort: Sort,
     issued: u64,
 ) -> Result<FieldSpot, Refusal>
     requires ample { Ample s.now place.old }
@@ -54,10 +55,10 @@ fn read_field(
         (area kinds.old vals.old) (area kinds.new vals.new) (field_of result place.new) }
     ensures words { Plain (sort_of sort) → rules.new ≡ rules.old }
 {
-    if sort == 10 {
-        return rules_field(s, kinds, vals, rules, place, issued);
+    match sort {
+        Sort::Rules => rules_field(s, kinds, vals, rules, place, issued),
+        _ => read_plain(s, kinds, vals, place, sort, issued),
     }
-    read_plain(s, kinds, vals, place, sort, issued)
 }
 
 // The fields as an order of a kind, with the token after the last one and the nodes.
@@ -94,7 +95,7 @@ fn read_fields(
     rules: &mut [u32],
     kind: u8,
     class: Class,
-    sorts: u64,
+    sorts: &[Sort],
     issued: u64,
     first: usize,
     kept: usize,
@@ -103,7 +104,7 @@ fn read_fields(
     requires room { OrderRoom s.now kinds.old vals.old rules.old first kept limit }
     requires tagged { 0 < length s.now }
     requires kinded { kind ≡ get_or s.now 0 0 }
-    requires row { RowIs kind class sorts }
+    requires row { RowIs kind class sorts.now }
     ensures { OrderDone s.now issued first kept limit (area kinds.old vals.old)
         (area kinds.new vals.new) rules.new result }
 {
@@ -114,13 +115,10 @@ fn read_fields(
         nodes: kept,
         limit,
     };
-    let mut rest = sorts;
-    let mut i: u32 = 0;
     let mut o = no_fields();
-    while 0 < rest {
+    for (i, sort) in sorts.iter().enumerate() {
         let last = place.top;
-        let sort = (rest % 100) as u8;
-        match read_field(s, kinds, vals, rules, &mut place, sort, known) {
+        match read_field(s, kinds, vals, rules, &mut place, *sort, known) {
             Ok(spot) => {
                 o = put_spot(o, i, spot);
             }
@@ -128,8 +126,6 @@ fn read_fields(
                 return undone(kinds, vals, first, last, refusal);
             }
         }
-        i = i + 1;
-        rest = rest / 100;
     }
     if place.at < s.len() {
         return undone(kinds, vals, first, place.top, Refusal::Length);

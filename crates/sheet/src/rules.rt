@@ -7,13 +7,19 @@ ghost use Rattle.solver.specs.Terms.Lookup.{put_rule};
 ghost use Rattle.sheet.specs.Fields.{rule, rule_list};
 ghost use Rattle.sheet.specs.Words.FieldLayout.{Free, Ample, rule_from, WordsFit, RuleDone, RulesDone};
 
-use super::Order;
 use super::fields::read_plain;
 use super::order_table::{no_fields, put_spot};
+use super::{Order, Sort};
 use solver::{Place, Refusal, Rule, clear_tokens, put_rule};
 
-// A nominal, a term, a number that names a member, arguments and a term, as `sorts_of` tells a layout.
-const RULE: u64 = 409010405;
+// The layout of a rule: interface, receiver, the number of a member, arguments and value.
+const RULE: [Sort; 5] = [
+    Sort::Nominal,
+    Sort::Term,
+    Sort::Number,
+    Sort::Arguments,
+    Sort::Term,
+];
 
 // Stores the words of the r-th rule, from its spots.
 fn keep_rule(rules: &mut [u32], r: u64, o: Order)
@@ -50,12 +56,10 @@ fn read_rule(
         (step_of result place.new) }
 {
     let first = place.top;
-    let mut rest = RULE;
-    let mut i: u32 = 0;
     let mut o = no_fields();
-    while 0 < rest {
+    for (i, sort) in RULE.iter().enumerate() {
         let last = place.top;
-        match read_plain(s, kinds, vals, place, (rest % 100) as u8, issued) {
+        match read_plain(s, kinds, vals, place, *sort, issued) {
             Ok(spot) => {
                 o = put_spot(o, i, spot);
             }
@@ -64,8 +68,6 @@ fn read_rule(
                 return Err(refusal);
             }
         }
-        i = i + 1;
-        rest = rest / 100;
     }
     keep_rule(rules, r, o);
     Ok(())

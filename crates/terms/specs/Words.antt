@@ -18,7 +18,7 @@
 --   RulesContract      what the search of a rule answers
 --   SatisfyContract    what the functions that test a bound hand on
 --   ShowingContract    bytes sized, or written
---   Outcomes          the answers of the functions that are lent the numbers of a place
+--   Outcomes           the answers of the functions that are lent a place
 --   SlotsContract      the classes of tags
 --   TermsAtPlaces      what stands at the places that a function is told
 --   TokenBytes         the bytes of tokens as they stand

@@ -1,5 +1,5 @@
--- How the fields of an order are laid out: their sorts as numbers, their tokens, and the spots that tell where they stand.
-use Rattle.std.specs.Prelude.{Some, None, Bool, true, false, ◌&&◌, ◌||◌, List, [], ◌∷◌, ◌++◌, ◌≡◌, ℕ, zero, suc, ◌+◌, ◌-◌, ◌*◌, ◌^◌, ◌≤◌, ◌<◌, eqb, length}
+-- How the fields of an order are laid out: their sorts as the code has them, their tokens, and the spots that tell where they stand.
+use Rattle.std.specs.Prelude.{Some, None, Bool, true, false, ◌&&◌, List, [], ◌∷◌, ◌++◌, ◌≡◌, ℕ, zero, suc, ◌+◌, ◌-◌, ◌*◌, ◌^◌, ◌≤◌, ◌<◌, eqb, length}
 use Rattle.std.proofs.Math.Option.{Option, none, some}
 use Rattle.solver.specs.TermTypes.{Place, Rule, Listing, Arguments, Receivers, Entries, Step, Next, Stopped}
 use Rattle.solver.specs.Terms.Parser.{Parser, Result, got, refused, pick, ◌>>=◌, return, number}
@@ -16,6 +16,9 @@ use Rattle.solver.specs.Families.{Bound}
 use Rattle.sheet.specs.declared.FieldSpot.{FieldSpot}
 use Rattle.sheet.specs.declared.Order.{Order}
 use Rattle.sheet.specs.declared.Class.{Class}
+use Rattle.sheet.specs.declared.Sort.{Sort}
+use Rattle.sheet.specs.declared.Sort.TheVariants as sorts
+use Rattle.std.specs.Borrow.{Bor}
 use Rattle.std.specs.declared.option.Option as rust
 use Rattle.sheet.specs.declared.Class.TheVariants.{Session, Operation}
 use Rattle.sheet.specs.OrderTable.{Act, tells, answers, Row, row_in, layout}
@@ -23,45 +26,36 @@ use Rattle.sheet.specs.Sheet.{table}
 use Rattle.sheet.specs.Fields as fields
 use Rattle.sheet.specs.Fields.{FieldSort, Field, signed, value, bounded, tree, bare, entered, received, named, listed, ruled, nodes, all_nodes, rule_nodes, nth}
 
--- ---- the table in numbers
+-- ---- the table as the code has it
 
-unfoldable pub sort_number : FieldSort → ℕ
-sort_number fields.ordinary = 1
-sort_number fields.receiver = 2
-sort_number fields.code = 3
-sort_number fields.term = 4
-sort_number fields.nominal = 5
-sort_number fields.entries = 6
-sort_number fields.receivers = 7
-sort_number fields.parameters = 8
-sort_number fields.arguments = 9
-sort_number fields.rules = 10
-sort_number fields.bound = 11
+unfoldable pub sort_of : Sort → FieldSort
+sort_of sorts.Number = fields.ordinary
+sort_of sorts.Code = fields.code
+sort_of sorts.Bound = fields.bound
+sort_of sorts.Term = fields.term
+sort_of sorts.Nominal = fields.nominal
+sort_of sorts.Receiver = fields.receiver
+sort_of sorts.Entries = fields.entries
+sort_of sorts.Receivers = fields.receivers
+sort_of sorts.Parameters = fields.parameters
+sort_of sorts.Arguments = fields.arguments
+sort_of sorts.Rules = fields.rules
 
--- the sort with a number, rules aside
-unfoldable pub plain_of : ℕ → FieldSort
-plain_of n =
-    pick (eqb n 1) fields.ordinary
-    (pick (eqb n 2) fields.receiver
-    (pick (eqb n 3) fields.code
-    (pick (eqb n 4) fields.term
-    (pick (eqb n 5) fields.nominal
-    (pick (eqb n 6) fields.entries
-    (pick (eqb n 8) fields.parameters
-    (pick (eqb n 9) fields.arguments
-    (pick (eqb n 11) fields.bound fields.receivers))))))))
+-- what is read where rules are not: these are taken for receivers
+unfoldable pub plain_of : Sort → FieldSort
+plain_of sorts.Rules = fields.receivers
+plain_of a = sort_of a
 
-unfoldable pub sort_of : ℕ → FieldSort
-sort_of n = pick (eqb n 10) fields.rules (plain_of n)
-
--- a layout as a number: two digits a field, those of the first field last
-unfoldable pub packed : List FieldSort → ℕ
-packed [] = 0
-packed (a ∷ l) = sort_number a + 100 * packed l
+-- a layout
+abbrev pub sorts_of : List Sort → List FieldSort
+sorts_of [] = []
+sorts_of (a ∷ l) = sort_of a ∷ sorts_of l
 
 -- numbers and codes; those alone among the first n fields
 unfoldable pub is_number : FieldSort → Bool
-is_number a = eqb (sort_number a) 1 || eqb (sort_number a) 3
+is_number fields.ordinary = true
+is_number fields.code = true
+is_number a = false
 
 unfoldable pub numeric : ℕ → List FieldSort → Bool
 numeric zero l = true
@@ -70,7 +64,8 @@ numeric (suc n) (a ∷ l) = is_number a && numeric n l
 
 -- numbers, codes and bounds: the sorts without tokens, parameters aside; a layout of those alone
 unfoldable pub is_tokenless : FieldSort → Bool
-is_tokenless a = is_number a || eqb (sort_number a) 11
+is_tokenless fields.bound = true
+is_tokenless a = is_number a
 
 unfoldable pub tokenless : List FieldSort → Bool
 tokenless [] = true
@@ -81,14 +76,18 @@ abbrev pub class_by : Act → Class
 class_by (tells f) = Session
 class_by (answers f) = Operation
 
--- a row of the table as the code has it
-abbrev pub row_words : Option Row → rust.Option (Class × ℕ)
+-- a row of the table: its class and its layout; and what the code answers of it
+abbrev pub row_words : Option Row → rust.Option (Class × List FieldSort)
 row_words none = None
-row_words (some r) = Some (class_by r.act, packed (layout r))
+row_words (some r) = Some (class_by r.act, layout r)
+
+abbrev pub row_said : rust.Option (Class × Bor (List Sort)) → rust.Option (Class × List FieldSort)
+row_said None = None
+row_said (Some (c, l)) = Some (c, sorts_of l.now)
 
 -- the order with a number is listed, of a class and with these sorts
-abbrev pub RowIs : ℕ → Class → ℕ → Type 0
-RowIs k c sorts = row_words (row_in table k) ≡ Some (c, sorts)
+abbrev pub RowIs : ℕ → Class → List Sort → Type 0
+RowIs k c l = row_words (row_in table k) ≡ Some (c, sorts_of l)
 
 -- it is listed, and leaves the session as it was
 abbrev pub answers_by : Act → Bool
@@ -98,14 +97,6 @@ answers_by (answers f) = true
 abbrev pub is_operation : Option Row → Bool
 is_operation none = false
 is_operation (some r) = answers_by r.act
-
--- its layout; of a number that is not listed, none
-abbrev pub layout_in : Option Row → List FieldSort
-layout_in none = []
-layout_in (some r) = layout r
-
-abbrev pub sorts_at : ℕ → List FieldSort
-sorts_at k = layout_in (row_in table k)
 
 -- below what the variables of an order of a class are
 abbrev pub known_for : Class → ℕ → ℕ
@@ -138,18 +129,19 @@ abbrev pub rule_fields : Pattern → List Field
 rule_fields p = bare p.interface ∷ tree p.receiver ∷ value p.member ∷ listed p.arguments ∷ tree p.value ∷ []
 
 -- the list that a sort has
-abbrev pub listing_of : ℕ → Listing
-listing_of k = pick (eqb k 6) Entries (pick (eqb k 9) Arguments Receivers)
+abbrev pub listing_of : Sort → Listing
+listing_of sorts.Entries = Entries
+listing_of sorts.Arguments = Arguments
+listing_of a = Receivers
 
--- the fields whose tokens are stored, by the number of their sort: of a list so many; a receiver is a list of one
+-- the fields whose tokens are stored, by their sort: of a list so many; a receiver is a list of one
 module _ (s : List ℕ) (issued : ℕ) where
-  unfoldable pub part_of : ℕ → ℕ → Parser Field
-  part_of k n =
-      pick (eqb k 4) (fields.field s issued fields.term)
-      (pick (eqb k 5) (fields.field s issued fields.nominal)
-      (pick (eqb k 6) (rows.entries s (fields.term_field s issued) n >>= λ es. return (entered es))
-      (pick (eqb k 9) (rows.arguments s (fields.term_field s issued) n >>= λ ts. return (listed ts))
-      (rows.receivers s (fields.term_field s issued) n >>= λ rs. return (received rs)))))
+  unfoldable pub part_of : Sort → ℕ → Parser Field
+  part_of sorts.Term n = fields.field s issued fields.term
+  part_of sorts.Nominal n = fields.field s issued fields.nominal
+  part_of sorts.Entries n = rows.entries s (fields.term_field s issued) n >>= λ es. return (entered es)
+  part_of sorts.Arguments n = rows.arguments s (fields.term_field s issued) n >>= λ ts. return (listed ts)
+  part_of a n = rows.receivers s (fields.term_field s issued) n >>= λ rs. return (received rs)
 
 -- ---- tokens
 
@@ -340,8 +332,8 @@ abbrev pub value_field : (s : List ℕ) (most : ℕ) → Parser Field
 value_field s most = number s most >>= λ n. return (value n)
 
 -- a list as a field: its count, and then so many
-abbrev pub list_field : (s : List ℕ) (issued k : ℕ) → Parser Field
-list_field s issued k = number s (ceiling shape.ordinary) >>= λ n. part_of s issued k n
+abbrev pub list_field : (s : List ℕ) (issued : ℕ) → Sort → Parser Field
+list_field s issued a = number s (ceiling shape.ordinary) >>= λ n. part_of s issued a n
 
 -- a rule, and rules: ws are the words
 abbrev pub RuleDone : (found : Result Pattern) (s : List ℕ) (p : Place) (d e : Area) (r : ℕ) (ws us : List ℕ) → Step → Type 0

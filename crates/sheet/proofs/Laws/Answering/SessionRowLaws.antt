@@ -1,6 +1,6 @@
 -- What an order of the session tells is made of its fields: of numbers and bounds, or of its terms, which are formed, issued and all of its nodes.
 use mathlib.Core.Path.{◌≡◌, refl, ap, subst, ◌∙◌}
-use mathlib.Core.Bool.{Bool, true, false, ◌||◌}
+use mathlib.Core.Bool.{Bool, true, false}
 use mathlib.Core.List.{List, [], ◌∷◌}
 use mathlib.Core.Logic.{inl, inr}
 use mathlib.Core.Option.{Option, none, some}
@@ -27,24 +27,16 @@ use Rattle.sheet.specs.OrderTable.{refusal, Act, tells, answers, Row, between, a
 use Rattle.sheet.specs.Sheet.{table, answer_of, solve, perform, step}
 use Rattle.sheet.specs.Words.FieldsFormed.{FormedFields}
 use Rattle.sheet.specs.Words.OrderGiven.{OfSort, FitsLayout}
-use Rattle.sheet.specs.Words.FieldLayout.{sort_number, is_number, numeric, is_tokenless, tokenless, field_items, all_items}
+use Rattle.sheet.specs.Words.FieldLayout.{is_number, numeric, is_tokenless, tokenless, field_items, all_items}
 use Rattle.sheet.proofs.Laws.Reading.OrderTableLaws.{none-some, session_row}
 
 -- ---- fields that are numbers
 
 number_is : (a : FieldSort) (f : Field) → is_number a ≡ true → OfSort a f → (n : ℕ) × (f ≡ value n)
-unfolding is_number sort_number
+unfolding is_number
 number_is fields.ordinary f n h = h
 number_is fields.code f n h = (h.0, h.1)
-number_is fields.bound f n h = never_true n
-number_is fields.term f n h = never_true n
-number_is fields.nominal f n h = never_true n
-number_is fields.receiver f n h = never_true n
-number_is fields.entries f n h = never_true n
-number_is fields.receivers f n h = never_true n
-number_is fields.parameters f n h = never_true n
-number_is fields.arguments f n h = never_true n
-number_is fields.rules f n h = never_true n
+number_is a f n h = never_true n
 
 -- those among the first m fields
 pub numbers_are : (m : ℕ) (l : List FieldSort) (fs : List Field) → numeric m l ≡ true → FitsLayout l fs → (i : ℕ) → i < m → (n : ℕ) × (nth i fs ≡ value n)
@@ -58,28 +50,10 @@ numbers_are (suc m) (a ∷ l) (f ∷ fs) n h (suc i) j = numbers_are m l fs (bot
 
 -- ---- fields without tokens
 
-is_bound : (a : FieldSort) → eqb (sort_number a) 11 ≡ true → a ≡ fields.bound
-unfolding sort_number
-is_bound fields.ordinary n = never_true n
-is_bound fields.code n = never_true n
-is_bound fields.bound n = refl
-is_bound fields.term n = never_true n
-is_bound fields.nominal n = never_true n
-is_bound fields.receiver n = never_true n
-is_bound fields.entries n = never_true n
-is_bound fields.receivers n = never_true n
-is_bound fields.parameters n = never_true n
-is_bound fields.arguments n = never_true n
-is_bound fields.rules n = never_true n
-
 field-none : (a : FieldSort) (f : Field) → is_tokenless a ≡ true → OfSort a f → (nodes f ≡ 0) × (field_items f ≡ [])
 unfolding is_tokenless nodes field_items
-field-none a f n h = go (is_number a) refl (eqb (sort_number a) 11) refl n
-  where
-    go : (b : Bool) → is_number a ≡ b → (c : Bool) → eqb (sort_number a) 11 ≡ c → (b || c) ≡ true → (nodes f ≡ 0) × (field_items f ≡ [])
-    go true p c q m = let x = number_is a f p h in rw x.1 (refl, refl)
-    go false p true q m = let x = rw (is_bound a q) at h in rw x.2 (refl, refl)
-    go false p false q m = never_true m
+field-none fields.bound f n h = rw h.2 (refl, refl)
+field-none a f n h = let x = number_is a f n h in rw x.1 (refl, refl)
 
 pub tokenless_none : (l : List FieldSort) (fs : List Field) → tokenless l ≡ true → FitsLayout l fs → (all_nodes fs ≡ 0) × (all_items fs ≡ [])
 unfolding tokenless FitsLayout all_nodes all_items
@@ -142,11 +116,11 @@ uncrowded : {A : Type 0} (l : List FieldSort) → tokenless l ≡ true → (lim 
 uncrowded l n lim z fs fit g h = absurd (omega (arith, (tokenless_none l fs n fit).0))
 
 variable_made : Made (layout rows.variable) (λ fs. orders.variable (number_at 0 fs) (number_at 1 fs))
-unfolding layout tokenless is_tokenless is_number sort_number nth number_of
+unfolding layout tokenless is_tokenless is_number nth number_of
 variable_made = record { read = λ n fs fit formed. tt; crowded = λ lim z fs fit formed g h. uncrowded (layout rows.variable) refl lim z fs fit g h }
 
 number_made : Made (layout rows.number_variable) (λ fs. orders.number (number_at 0 fs) (requested (number_at 1 fs)))
-unfolding layout tokenless is_tokenless is_number sort_number nth number_of
+unfolding layout tokenless is_tokenless is_number nth number_of
 number_made = record {
   read = λ n fs fit formed. (inl refl, second_code [] fs fit);
   crowded = λ lim z fs fit formed g h. uncrowded (layout rows.number_variable) refl lim z fs fit g h;
@@ -170,14 +144,14 @@ asking_made site c x y l = go (between c x y) refl
     go (some r) e = let m = between_made c x y r e in (m.0, omega (arith, m.1))
 
 range_variable_made : Made (layout rows.range_variable) (λ fs. asking (number_at 0 fs) (between (number_at 1 fs) (fields.bound_at 2 fs) (fields.bound_at 3 fs)))
-unfolding layout tokenless is_tokenless is_number sort_number
+unfolding layout tokenless is_tokenless is_number
 range_variable_made = record {
   read = λ n fs fit formed. asking_made (number_at 0 fs) (number_at 1 fs) (fields.bound_at 2 fs) (fields.bound_at 3 fs) (second_code (fields.bound ∷ fields.bound ∷ []) fs fit);
   crowded = λ lim z fs fit formed g h. uncrowded (layout rows.range_variable) refl lim z fs fit g h;
 }
 
 hole_made : Made (layout rows.annotation_hole) (λ fs. orders.hole (number_at 0 fs))
-unfolding layout tokenless is_tokenless is_number sort_number nth number_of
+unfolding layout tokenless is_tokenless is_number nth number_of
 hole_made = record { read = λ n fs fit formed. tt; crowded = λ lim z fs fit formed g h. uncrowded (layout rows.annotation_hole) refl lim z fs fit g h }
 
 -- without fields
@@ -186,7 +160,7 @@ unfolding tokenless
 bare_made c r = record { read = λ n fs fit formed. r; crowded = λ lim z fs fit formed g h. uncrowded [] refl lim z fs fit g h }
 
 defer_made : Made (layout rows.defer_never) (λ fs. orders.defer (fields.term_at 0 fs))
-unfolding layout tokenless is_tokenless is_number sort_number nth term_of FormedFields all_nodes nodes order answer_of
+unfolding layout tokenless is_tokenless is_number nth term_of FormedFields all_nodes nodes order answer_of
 defer_made = record {
   read = λ n fs fit formed. let t = one_term fs fit in let g = rw t.1 at formed in rw t.1 g.0.formed;
   crowded = λ lim z fs fit formed k h.
@@ -197,7 +171,7 @@ defer_made = record {
 }
 
 resolve_made : Made (layout rows.resolve) (λ fs. orders.resolving (fields.term_at 0 fs))
-unfolding layout tokenless is_tokenless is_number sort_number nth term_of FormedFields all_nodes nodes order answer_of
+unfolding layout tokenless is_tokenless is_number nth term_of FormedFields all_nodes nodes order answer_of
 resolve_made = record {
   read = λ n fs fit formed. let t = one_term fs fit in let g = rw t.1 at formed in rw t.1 g.0.formed;
   crowded = λ lim z fs fit formed k h.
@@ -208,7 +182,7 @@ resolve_made = record {
 }
 
 pair_made : (d : Bool) → Made (fields.ordinary ∷ fields.term ∷ fields.term ∷ []) (λ fs. orders.pair d (number_at 0 fs) (fields.term_at 1 fs) (fields.term_at 2 fs))
-unfolding layout tokenless is_tokenless is_number sort_number nth term_of number_of FormedFields all_nodes nodes order answer_of
+unfolding layout tokenless is_tokenless is_number nth term_of number_of FormedFields all_nodes nodes order answer_of
 pair_made d = record {
   read = λ n fs fit formed. let t = two_terms fs fit in let g = rw t.3 at formed in rw t.3 (g.1.0.formed, g.1.1.0.formed);
   crowded = λ lim z fs fit formed k h.

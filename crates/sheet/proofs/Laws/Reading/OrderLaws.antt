@@ -6,7 +6,7 @@ use mathlib.Core.Option.{Option, none, some}
 use Prim.Native.Nat.{ℕ, zero, suc, ◌+◌, ◌-◌, ◌*◌, ◌≤◌, ◌<◌}
 use native.Mathlib.Decide.{dec_lt, ℕ_discrete}
 use native.Mathlib.Omega.{arith}
-use borrow.Author.Tests.{lt-ltb, le-ltb, ne_eqb}
+use borrow.Author.Tests.{lt-ltb, le-ltb}
 use lib.ListN.{length, get_or, drop}
 use Rattle.std.specs.Prelude.{None, Ok}
 use Rattle.solver.specs.TermTypes.{Place, Next, Stopped}
@@ -23,11 +23,13 @@ use Rattle.solver.proofs.Terms.Shortest.{Octets}
 use Rattle.sheet.specs.declared.FieldSpot.{FieldSpot}
 use Rattle.sheet.specs.declared.Order.{Order}
 use Rattle.sheet.specs.declared.Class.{Class}
+use Rattle.sheet.specs.declared.Sort.{Sort}
+use Rattle.sheet.specs.declared.Sort.TheVariants as sorts
 use Rattle.sheet.specs.Fields as fields
 use Rattle.sheet.specs.Fields.{Field, FieldSort, ruled, nodes, all_nodes, last, nth}
 use Rattle.sheet.specs.OrderTable.{Row, row_in, layout, known, kinded_order, read_by}
 use Rattle.sheet.specs.Sheet.{table, read_order}
-use Rattle.sheet.specs.Words.FieldLayout.{row_words, RowIs, layout_in, sorts_at, known_for, sort_of, plain_of, Plain, Plains, field_items, all_items, Free, Ample, no_fields, Spots, finished_order, FieldDone, RulesDone, Spotted, Unread}
+use Rattle.sheet.specs.Words.FieldLayout.{row_words, RowIs, sorts_of, known_for, sort_of, plain_of, Plain, Plains, field_items, all_items, Free, Ample, no_fields, Spots, finished_order, FieldDone, RulesDone, Spotted, Unread}
 use Rattle.sheet.specs.Words.FieldsContract.{NumberRead}
 use Rattle.sheet.specs.Words.OrderReaderContract.{OrderRoom, WholeOrder}
 use Rattle.sheet.proofs.Laws.Reading.StoredLaws.{stored_kinds, stored_before, stored_undo}
@@ -39,9 +41,10 @@ use Rattle.sheet.proofs.Laws.Reading.FieldLoopLaws.{Through, FieldsHere, through
 
 -- ---- a field of any sort
 
-pub sort_plain : (k : ℕ) → (k ≡ 10 → ⊥) → sort_of k ≡ plain_of k
-unfolding sort_of
-sort_plain k e = rw (ne_eqb k 10 e)
+pub sort_plain : (a : Sort) → (a ≡ sorts.Rules → ⊥) → sort_of a ≡ plain_of a
+unfolding plain_of
+sort_plain sorts.Rules h = absurd (h refl)
+sort_plain a h = refl
 
 pub rules_small : (s : List ℕ) (at n m : ℕ) → at ≤ length s → got n m ≡ number s (ceiling shape.ordinary) at → n < 4294967296
 rules_small s at n m h e = omega (arith, (number_bounds (ceiling shape.ordinary) s at n m h (sym e)).small)
@@ -98,18 +101,17 @@ rules_few s octets issued ws l p at fs n e b h =
     (rules_first ws r.0 y.0 (omega arith) (plain_fit ws l y.0 p (fields_fit s issued l x.1 y.0 y.1 y.2)))
 
 -- rules are not plain
-pub not_plain : {A : Type 0} (k : ℕ) → k ≡ 10 → Plain (sort_of k) → A
+pub not_plain : {A : Type 0} (a : Sort) → a ≡ sorts.Rules → Plain (sort_of a) → A
 unfolding sort_of Plain
-not_plain k e h = absurd (rw e at h)
+not_plain a e h = absurd (rw e at h)
 
 -- ---- the fields of a kind
 
-pub order_start : (s ws : List ℕ) (issued k : ℕ) (c : Class) (rest : ℕ) → RowIs k c rest → (p : Place) (d : Area) → Free p.top d → Ample s p → (o : Order) → o ≡ no_fields
-    → Through s ws issued (sorts_at k) p d d rest 0 o p
-order_start s ws issued k c rest h p d f a o eo =
-    let x = row_of k c rest h in
-    let l : sorts_at k ≡ layout x.0 = ap layout_in x.1 in
-    rw (eo, l) (through_start s ws issued (layout x.0) p d rest x.3 (layout_short k x.0 x.1) (layout_leading k x.0 x.1) f a)
+pub order_start : (s ws : List ℕ) (issued k : ℕ) (c : Class) (l : List Sort) → RowIs k c l → (p : Place) (d : Area) → Free p.top d → Ample s p → (o : Order) → o ≡ no_fields
+    → Through s ws issued (sorts_of l) p d d 0 o p
+order_start s ws issued k c l h p d f a o eo =
+    let x = row_of k c l h in
+    rw (eo, x.3) (through_start s ws issued (layout x.0) p d (layout_short k x.0 x.1) (layout_leading k x.0 x.1) f a)
 
 -- ---- the whole order
 
@@ -131,7 +133,7 @@ module _ (s : List ℕ) (issued : ℕ) where
         go none e h = order_row none e
         go (some r) e h = let z : ◌≡◌ {A = ℕ} 0 1 = cc in absurd (omega arith)
 
-    module _ (k : ℕ) (e : k ≡ get_or s 0 0) (c : Class) (n : ℕ) (is : RowIs k c n) where
+    module _ (k : ℕ) (e : k ≡ get_or s 0 0) (c : Class) (n : List Sort) (is : RowIs k c n) where
       abbrev r : Row
       r = (row_of k c n is).0
 
@@ -139,25 +141,25 @@ module _ (s : List ℕ) (issued : ℕ) where
       listed = (row_of k c n is).1
 
       -- the fields of the kind
-      fields_are : fields.fields s (known_for c issued) (sorts_at k) 1 ≡ fields.fields s (known r issued) (layout r) 1
+      fields_are : fields.fields s (known_for c issued) (sorts_of n) 1 ≡ fields.fields s (known r issued) (layout r) 1
       fields_are =
-          ap₂ (λ (m : ℕ) (l : List FieldSort). fields.fields s m l 1) (ap (λ (d : Class). known_for d issued) (row_of k c n is).2 ∙ sym (known_class r issued)) (ap layout_in listed)
+          ap₂ (λ (m : ℕ) (l : List FieldSort). fields.fields s m l 1) (ap (λ (d : Class). known_for d issued) (row_of k c n is).2 ∙ sym (known_class r issued)) (row_of k c n is).3
 
-      order_is : read_order s issued ≡ bind (fields.fields s (known_for c issued) (sorts_at k) 1) (λ fs. last s (record { kind = r; fields = fs }))
+      order_is : read_order s issued ≡ bind (fields.fields s (known_for c issued) (sorts_of n) 1) (λ fs. last s (record { kind = r; fields = fs }))
       unfolding kinded_order
       order_is = order_row (some r) (rw (← e) listed) ∙ ap (λ (x : Result (List Field)). bind x (λ fs. last s (record { kind = r; fields = fs }))) (sym fields_are)
 
-      pub order_refused : (a : ℕ) → fields.fields s (known_for c issued) (sorts_at k) 1 ≡ refused a → read_order s issued ≡ refused a
+      pub order_refused : (a : ℕ) → fields.fields s (known_for c issued) (sorts_of n) 1 ≡ refused a → read_order s issued ≡ refused a
       order_refused a h =
           order_is ∙ ap (λ (x : Result (List Field)). bind x (λ fs. last s (record { kind = r; fields = fs }))) h
 
-      after : (fs : List Field) (m : ℕ) → fields.fields s (known_for c issued) (sorts_at k) 1 ≡ got fs m → read_order s issued ≡ last s (record { kind = r; fields = fs }) m
+      after : (fs : List Field) (m : ℕ) → fields.fields s (known_for c issued) (sorts_of n) 1 ≡ got fs m → read_order s issued ≡ last s (record { kind = r; fields = fs }) m
       after fs m h = order_is ∙ ap (λ (x : Result (List Field)). bind x (λ fs. last s (record { kind = r; fields = fs }))) h
 
-      pub order_longer : (fs : List Field) (m : ℕ) → fields.fields s (known_for c issued) (sorts_at k) 1 ≡ got fs m → m < length s → read_order s issued ≡ refused 1
+      pub order_longer : (fs : List Field) (m : ℕ) → fields.fields s (known_for c issued) (sorts_of n) 1 ≡ got fs m → m < length s → read_order s issued ≡ refused 1
       order_longer fs m h l = after fs m h ∙ rw (lt-ltb m (length s) l)
 
-      order_whole : (fs : List Field) (m : ℕ) → fields.fields s (known_for c issued) (sorts_at k) 1 ≡ got fs m → length s ≤ m → read_order s issued ≡ got (record { kind = r; fields = fs }) m
+      order_whole : (fs : List Field) (m : ℕ) → fields.fields s (known_for c issued) (sorts_of n) 1 ≡ got fs m → length s ≤ m → read_order s issued ≡ got (record { kind = r; fields = fs }) m
       order_whole fs m h l = after fs m h ∙ rw (le-ltb m (length s) l)
 
       -- an order that is whole
@@ -176,7 +178,7 @@ module _ (s : List ℕ) (issued : ℕ) where
                 let told = rw (layout_ruled k r listed l) at found in
                 ⊎_elim (λ w. rules_room ws fs (omega arith)) (λ w. rules_few s octets (known r issued) ws (fields.term ∷ []) (tt, tt) 1 fs m told w.0 (omega arith)) (room.words (sym e ∙ l))
 
-        pub order_done : FieldsHere s ws (fields.fields s (known_for c issued) (sorts_at k) 1) start d e' o q → length s ≤ q.at
+        pub order_done : FieldsHere s ws (fields.fields s (known_for c issued) (sorts_of n) 1) start d e' o q → length s ≤ q.at
             → WholeOrder s issued top kept limit d e' ws (finished_order o k q.top q.nodes)
         order_done x l =
             let fs = x.read in

@@ -4,7 +4,7 @@ use mathlib.Core.Bool.{Bool, true, false, not, ◌&&◌, ◌||◌}
 use mathlib.Core.List.{List, [], ◌∷◌, ◌++◌}
 use mathlib.Core.Logic.{◌⊎◌, inl, inr}
 use mathlib.Core.Option.{Option, none, some}
-use Prim.Native.Nat.{ℕ, ◌+◌, ◌%◌, ◌/◌, ◌≤◌, ◌<◌}
+use Prim.Native.Nat.{ℕ, ◌+◌, ◌≤◌, ◌<◌}
 use native.Mathlib.Decide.{ℕ_discrete}
 use native.Mathlib.Omega.{arith}
 use borrow.Author.Tests.{eqb-true, eq-eqb, ne_eqb, leb-true}
@@ -13,75 +13,18 @@ use lib.ListN.{length}
 use Rattle.solver.specs.Terms.Result.{pick}
 use Rattle.solver.proofs.Terms.Bools.{never_true, never_false}
 use Rattle.solver.proofs.Terms.KindTableLaws.{both_true}
-use Rattle.std.specs.Prelude.{Some, None}
+use Rattle.std.specs.Prelude.{Some}
 use Rattle.std.specs.declared.option.Option as rust
 use Rattle.sheet.specs.declared.Class.{Class}
-use Rattle.sheet.specs.declared.Class.TheVariants.{Session, Operation}
+use Rattle.sheet.specs.declared.Sort.{Sort}
 use Rattle.sheet.specs.Fields as fields
 use Rattle.sheet.specs.Fields.{FieldSort, Field}
 use Rattle.solver.specs.Orders.{Command}
 use Rattle.sheet.specs.OrderTable.{Answer, Act, tells, answers, Row, session_orders, row_in, layout, known_by, known}
 use Rattle.sheet.specs.Operations.{operations}
 use Rattle.sheet.specs.Sheet.{table}
-use Rattle.sheet.specs.Words.FieldLayout.{sort_number, plain_of, sort_of, packed, is_number, numeric, is_tokenless, tokenless, class_by, row_words, RowIs, answers_by, is_operation, known_for, Plain, Plains, spares, spare}
+use Rattle.sheet.specs.Words.FieldLayout.{sorts_of, is_number, numeric, is_tokenless, tokenless, class_by, row_words, RowIs, answers_by, is_operation, known_for, Plain, Plains, spares, spare}
 use Rattle.sheet.specs.Words.OperationsContract.{Among, numbers_of, plain_orders}
-
--- ---- sorts
-
-pub sort_number_lem : (a : FieldSort) → sort_of (sort_number a) ≡ a
-unfolding sort_of plain_of sort_number
-sort_number_lem fields.ordinary = refl
-sort_number_lem fields.receiver = refl
-sort_number_lem fields.code = refl
-sort_number_lem fields.bound = refl
-sort_number_lem fields.term = refl
-sort_number_lem fields.nominal = refl
-sort_number_lem fields.entries = refl
-sort_number_lem fields.receivers = refl
-sort_number_lem fields.parameters = refl
-sort_number_lem fields.arguments = refl
-sort_number_lem fields.rules = refl
-
-pub plain_number : (a : FieldSort) → Plain a → plain_of (sort_number a) ≡ a
-unfolding plain_of sort_number Plain
-plain_number fields.ordinary h = refl
-plain_number fields.receiver h = refl
-plain_number fields.code h = refl
-plain_number fields.bound h = refl
-plain_number fields.term h = refl
-plain_number fields.nominal h = refl
-plain_number fields.entries h = refl
-plain_number fields.receivers h = refl
-plain_number fields.parameters h = refl
-plain_number fields.arguments h = refl
-plain_number fields.rules h = absurd h
-
-sort_some : (a : FieldSort) → (1 ≤ sort_number a) × (sort_number a ≤ 11)
-unfolding sort_number
-sort_some fields.ordinary = (omega arith, omega arith)
-sort_some fields.receiver = (omega arith, omega arith)
-sort_some fields.code = (omega arith, omega arith)
-sort_some fields.bound = (omega arith, omega arith)
-sort_some fields.term = (omega arith, omega arith)
-sort_some fields.nominal = (omega arith, omega arith)
-sort_some fields.entries = (omega arith, omega arith)
-sort_some fields.receivers = (omega arith, omega arith)
-sort_some fields.parameters = (omega arith, omega arith)
-sort_some fields.arguments = (omega arith, omega arith)
-sort_some fields.rules = (omega arith, omega arith)
-
--- the first two digits, and the rest
-pub packed_first : (a : FieldSort) (l : List FieldSort) → packed (a ∷ l) % 100 ≡ sort_number a
-unfolding packed
-packed_first a l = omega (arith, sort_some a)
-
-pub packed_rest : (a : FieldSort) (l : List FieldSort) → packed (a ∷ l) / 100 ≡ packed l
-unfolding packed
-packed_rest a l = omega (arith, sort_some a)
-
-pub packed_some : (a : FieldSort) (l : List FieldSort) → 0 < packed (a ∷ l)
-unfolding packed
-packed_some a l = omega (arith, sort_some a)
 
 -- ---- rows
 
@@ -166,25 +109,17 @@ layout_short k r e = leb-true (length (layout r)) 5 (every_row (λ (r : Row). le
 
 -- no rules
 unfoldable plain_sort_lem : FieldSort → Bool
-plain_sort_lem a = not (eqb (sort_number a) 10)
+plain_sort_lem fields.rules = false
+plain_sort_lem a = true
 
 unfoldable plain_sorts_lem : List FieldSort → Bool
 plain_sorts_lem [] = true
 plain_sorts_lem (a ∷ l) = plain_sort_lem a && plain_sorts_lem l
 
 plain_sort : (a : FieldSort) → plain_sort_lem a ≡ true → Plain a
-unfolding plain_sort_lem sort_number Plain
-plain_sort fields.ordinary h = tt
-plain_sort fields.receiver h = tt
-plain_sort fields.code h = tt
-plain_sort fields.bound h = tt
-plain_sort fields.term h = tt
-plain_sort fields.nominal h = tt
-plain_sort fields.entries h = tt
-plain_sort fields.receivers h = tt
-plain_sort fields.parameters h = tt
-plain_sort fields.arguments h = tt
+unfolding plain_sort_lem Plain
 plain_sort fields.rules h = never_true h
+plain_sort a h = tt
 
 plain_sorts : (l : List FieldSort) → plain_sorts_lem l ≡ true → Plains l
 unfolding plain_sorts_lem Plains
@@ -206,12 +141,12 @@ leading_of [] h = tt
 leading_of (a ∷ l) h = plain_sorts l h
 
 pub layout_leading : (k : ℕ) (r : Row) → row_in table k ≡ some r → Leading (layout r)
-unfolding table session_orders operations all layout leading plain_sorts_lem plain_sort_lem sort_number
+unfolding table session_orders operations all layout leading plain_sorts_lem plain_sort_lem
 layout_leading k r e = leading_of (layout r) (every_row (λ (r : Row). leading (layout r)) refl k r e)
 
 -- only order 20 has rules
 pub layout_plain : (k : ℕ) (r : Row) → row_in table k ≡ some r → (k ≡ 20 → ⊥) → Plains (layout r)
-unfolding table session_orders operations all layout plain_sorts_lem plain_sort_lem sort_number
+unfolding table session_orders operations all layout plain_sorts_lem plain_sort_lem
 layout_plain k r e h = go (eqb r.number 20) refl (every_row (λ (r : Row). eqb r.number 20 || plain_sorts_lem (layout r)) refl k r e)
   where
     go : (b : Bool) → eqb r.number 20 ≡ b → (b || plain_sorts_lem (layout r)) ≡ true → Plains (layout r)
@@ -229,35 +164,18 @@ spares_few k r e = leb-true (spares (layout r)) 8 (every_row (λ (r : Row). leb 
 
 -- ---- what an order does
 
-listed_same : {c d : Class} {m n : ℕ} → ◌≡◌ {A = rust.Option (Class × ℕ)} (Some (c, m)) (Some (d, n)) → (c ≡ d) × (m ≡ n)
-listed_same {c} {d} {m} {n} e =
-    let p : ◌≡◌ {A = Class × ℕ} (c, m) (d, n) = cc in
-    (ap (λ (x : Class × ℕ). x.0) p, ap (λ (x : Class × ℕ). x.1) p)
+listed_same : {c d : Class} {l m : List FieldSort} → ◌≡◌ {A = rust.Option (Class × List FieldSort)} (Some (c, l)) (Some (d, m)) → (c ≡ d) × (l ≡ m)
+listed_same {c} {d} {l} {m} e =
+    let p : ◌≡◌ {A = Class × List FieldSort} (c, l) (d, m) = cc in
+    (ap (λ (x : Class × List FieldSort). x.0) p, ap (λ (x : Class × List FieldSort). x.1) p)
 
 -- the row of an order that is listed
-pub row_of : (k : ℕ) (c : Class) (n : ℕ) → RowIs k c n → (r : Row) × (row_in table k ≡ some r) × (c ≡ class_by r.act) × (n ≡ packed (layout r))
-row_of k c n h = go (row_in table k) refl h
+pub row_of : (k : ℕ) (c : Class) (l : List Sort) → RowIs k c l → (r : Row) × (row_in table k ≡ some r) × (c ≡ class_by r.act) × (sorts_of l ≡ layout r)
+row_of k c l h = go (row_in table k) refl h
   where
-    go : (o : Option Row) → row_in table k ≡ o → row_words o ≡ Some (c, n) → (r : Row) × (row_in table k ≡ some r) × (c ≡ class_by r.act) × (n ≡ packed (layout r))
+    go : (o : Option Row) → row_in table k ≡ o → row_words o ≡ Some (c, sorts_of l) → (r : Row) × (row_in table k ≡ some r) × (c ≡ class_by r.act) × (sorts_of l ≡ layout r)
     go none e h = let z : ◌≡◌ {A = ℕ} 0 1 = cc in absurd (omega arith)
     go (some r) e h = let t = listed_same h in (r, e, sym t.0, sym t.1)
-
--- whether it leaves the session, by what the code has
-abbrev pub operates : Class → Bool
-operates Session = false
-operates Operation = true
-
-pub unlisted_session : (o : Option Row) → None ≡ row_words o → false ≡ is_operation o
-unlisted_session none h = refl
-unlisted_session (some r) h = let z : ◌≡◌ {A = ℕ} 0 1 = cc in absurd (omega arith)
-
-pub listed_class : (o : Option Row) (c : Class) (n : ℕ) → Some (c, n) ≡ row_words o → is_operation o ≡ operates c
-listed_class none c n h = let z : ◌≡◌ {A = ℕ} 0 1 = cc in absurd (omega arith)
-listed_class (some r) c n h = go r.act (sym (listed_same h).0)
-  where
-    go : (a : Act) → class_by a ≡ c → answers_by a ≡ operates c
-    go (tells f) e = ap operates e
-    go (answers f) e = ap operates e
 
 pub known_class : (r : Row) (n : ℕ) → known r n ≡ known_for (class_by r.act) n
 unfolding known
@@ -378,7 +296,7 @@ plain_among k r e h =
 
 -- they have no tokens
 pub plain_act : (k : ℕ) (r : Row) → row_in table k ≡ some r → Plainly k → (f : List Field → Command) × (r.act ≡ tells f) × (tokenless (layout r) ≡ true)
-unfolding table session_orders operations all elem layout tokenless is_tokenless is_number sort_number
+unfolding table session_orders operations all elem layout tokenless is_tokenless is_number
 plain_act k r e h =
     let a = act_tells r.act (operation_row k r false e h.0) in
     let t = every_row (λ (r : Row). answers_by r.act || (elem r.number (3 ∷ 4 ∷ 5 ∷ 22 ∷ []) || tokenless (layout r))) refl k r e in
@@ -404,7 +322,7 @@ among_elem k (n ∷ ns) (inr x) = or_yes (eqb k n) (among_elem k ns x)
 
 -- their first two fields are numbers
 pub plain_numeric : (k : ℕ) (r : Row) → row_in table k ≡ some r → Among plain_orders k → numeric 2 (layout r) ≡ true
-unfolding table session_orders operations all elem layout numeric is_number sort_number
+unfolding table session_orders operations all elem layout numeric is_number
 plain_numeric k r e x =
     let t = every_row (λ (r : Row). not (elem r.number plain_orders) || numeric 2 (layout r)) refl k r e in
     rw (← (row_number table k r e), among_elem k plain_orders x) at t

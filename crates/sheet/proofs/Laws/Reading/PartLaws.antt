@@ -4,17 +4,15 @@ use mathlib.Core.List.{List}
 use mathlib.Core.Bool.{Bool, true, false}
 use mathlib.Core.Logic.{◌⊎◌, inl, inr}
 use Prim.Native.Nat.{ℕ, zero, suc, ◌+◌, ◌-◌, ◌*◌, ◌^◌, ◌≤◌, ◌<◌}
-use native.Mathlib.Decide.{dec_lt, ℕ_discrete}
 use native.Mathlib.Omega.{arith}
-use borrow.Author.Tests.{ne_eqb, lt-ltb, le-ltb}
-use lib.Dec.{eqb}
+use borrow.Author.Tests.{lt-ltb, le-ltb}
 use lib.ListN.{length, get_or}
 use Rattle.std.specs.Prelude.{⊤, Ok, Err}
 use Rattle.std.specs.declared.result.Result as rust
-use Rattle.solver.specs.TermTypes.{Place, Refusal, Step, Parameter, Entries, Arguments, Receivers}
+use Rattle.solver.specs.TermTypes.{Place, Refusal, Step, Parameter}
 use Rattle.solver.specs.Terms.Outcomes.{step_of}
 use Rattle.solver.specs.Terms.ListsContract.{ListKept}
-use Rattle.solver.specs.Terms.Parser.{Result, Parser, got, refused, bind, pick, ◌>>=◌, return, number}
+use Rattle.solver.specs.Terms.Parser.{Result, Parser, got, refused, bind, number}
 use Rattle.solver.specs.Terms.Tokens.{Area}
 use Rattle.solver.specs.Terms.Term.{Term, Parts, node, items, part_items, size, sizes}
 use Rattle.solver.specs.Terms.Tree.{row}
@@ -30,9 +28,11 @@ use Rattle.solver.specs.Terms.Rows.{entry_row, receiver_row, argument_row, answe
 use Rattle.solver.proofs.Terms.NumberBoundLaws.{number_bounds}
 use Rattle.solver.proofs.Terms.FieldLaws.{code_end, code_listed, code_unlisted}
 use Rattle.sheet.specs.declared.FieldSpot.{FieldSpot}
+use Rattle.sheet.specs.declared.Sort.{Sort}
+use Rattle.sheet.specs.declared.Sort.TheVariants as sorts
 use Rattle.sheet.specs.Fields as fields
 use Rattle.sheet.specs.Fields.{Field, value, bounded, tree, bare, entered, received, named, listed, levels, nodes}
-use Rattle.sheet.specs.Words.FieldLayout.{plain_of, part_of, listing_of, moved, field_items, Free, Ample, PartDone, FieldDone, ReadOnly, value_field, list_field, FieldRead, Spotted, Unread}
+use Rattle.sheet.specs.Words.FieldLayout.{sort_of, plain_of, part_of, listing_of, moved, field_items, Free, Ample, PartDone, FieldDone, ReadOnly, value_field, list_field, FieldRead, Spotted, Unread}
 use Rattle.sheet.specs.Words.FieldsContract.{NumberRead}
 use Rattle.sheet.proofs.Laws.Reading.StoredLaws.{stored_none, stored_kept}
 use Rattle.sheet.proofs.Laws.Reading.FieldLaws.{parts_of, same_value, parameters_found}
@@ -77,8 +77,8 @@ module _ (s : List ℕ) (t : Parser Term) where
 
 module _ (s ws : List ℕ) (issued : ℕ) (p : Place) (d e : Area) (f : Free p.top d) (n : ℕ) (r : Step) (room : RoomAfter s r) where
   term_part : r ≡ answer p (reading.term s issued levels p.at) size → e ≡ kept s p (reading.term s issued levels p.at) size d
-      → PartDone s ws n (fields.field s issued fields.term p.at) p d e r
-  unfolding fields.field field_items nodes
+      → PartDone s ws n (part_of s issued sorts.Term n p.at) p d e r
+  unfolding part_of fields.field field_items nodes
   term_part er ee = go (reading.term s issued levels p.at) er ee
     where
       go : (x : Result Term) → r ≡ answer p x size → e ≡ kept s p x size d → PartDone s ws n (bind x (λ t m. got (tree t) m)) p d e r
@@ -86,8 +86,8 @@ module _ (s ws : List ℕ) (issued : ℕ) (p : Place) (d e : Area) (f : Free p.t
       go (refused c) er ee = rw er (refl, ee ∙ f _)
 
   nominal_part : r ≡ answer p (reading.bare s issued levels p.at) contents → e ≡ kept s p (reading.bare s issued levels p.at) contents d
-      → PartDone s ws n (fields.field s issued fields.nominal p.at) p d e r
-  unfolding fields.field fields.nominal_field field_items nodes reading.bare row
+      → PartDone s ws n (part_of s issued sorts.Nominal n p.at) p d e r
+  unfolding part_of fields.field fields.nominal_field field_items nodes reading.bare row
   nominal_part er ee = go (reading.row s (reading.term s issued levels) (shape.nominal shape.done) p.at) er ee
     where
       go : (x : Result Parts) → r ≡ answer p (bind x (λ ps m. got (node 20 ps) m)) contents → e ≡ kept s p (bind x (λ ps m. got (node 20 ps) m)) contents d
@@ -96,17 +96,13 @@ module _ (s ws : List ℕ) (issued : ℕ) (p : Place) (d e : Area) (f : Free p.t
       go (refused c) er ee = rw er (refl, ee ∙ f _)
 
   -- a term or a nominal, told by the flag
-  pub either_part : (k : ℕ) → 3 < k → k < 6 → r ≡ answer p (part (eqb k 5) s issued levels p.at) (nodes_of (eqb k 5)) → e ≡ kept s p (part (eqb k 5) s issued levels p.at) (nodes_of (eqb k 5)) d
-      → PartDone s ws n (part_of s issued k n p.at) p d e r
-  unfolding part_of
-  either_part k a b er ee = go (dec_lt k 5)
-    where
-      go : Dec (k < 5) → PartDone s ws n (part_of s issued k n p.at) p d e r
-      go (yes l) = let z : k ≡ 4 = omega arith in rw z (term_part (rw z at er) (rw z at ee))
-      go (no l) = let z : k ≡ 5 = omega arith in rw z (nominal_part (rw z at er) (rw z at ee))
+  pub either_part : (a : Sort) (b : Bool) → (a ≡ sorts.Term) ⊎ (a ≡ sorts.Nominal) → (a ≡ sorts.Term → b ≡ false) → (a ≡ sorts.Nominal → b ≡ true)
+      → r ≡ answer p (part b s issued levels p.at) (nodes_of b) → e ≡ kept s p (part b s issued levels p.at) (nodes_of b) d → PartDone s ws n (part_of s issued a n p.at) p d e r
+  either_part a b (inl x) f g er ee = let z = f x in rw x (term_part (rw z at er) (rw z at ee))
+  either_part a b (inr x) f g er ee = let z = g x in rw x (nominal_part (rw z at er) (rw z at ee))
 
   entries_part : r ≡ answer_of entry_row p (rows.entries s (reading.term s issued levels) n p.at) → e ≡ kept_of entry_row s p (rows.entries s (reading.term s issued levels) n p.at) d
-      → PartDone s ws n (part_of s issued 6 n p.at) p d e r
+      → PartDone s ws n (part_of s issued sorts.Entries n p.at) p d e r
   unfolding part_of field_items nodes
   entries_part er ee = go (rows.entries s (reading.term s issued levels) n p.at) (entries_many s (reading.term s issued levels) n p.at) er ee
     where
@@ -130,7 +126,7 @@ module _ (s ws : List ℕ) (issued : ℕ) (p : Place) (d e : Area) (f : Free p.t
       go (refused c) h er ee = rw er (refl, ee ∙ f _)
 
   arguments_part : r ≡ answer_of argument_row p (rows.arguments s (reading.term s issued levels) n p.at) → e ≡ kept_of argument_row s p (rows.arguments s (reading.term s issued levels) n p.at) d
-      → PartDone s ws n (part_of s issued 9 n p.at) p d e r
+      → PartDone s ws n (part_of s issued sorts.Arguments n p.at) p d e r
   unfolding part_of field_items nodes
   arguments_part er ee = go (rows.arguments s (reading.term s issued levels) n p.at) (arguments_many s (reading.term s issued levels) n p.at) er ee
     where
@@ -141,29 +137,15 @@ module _ (s ws : List ℕ) (issued : ℕ) (p : Place) (d e : Area) (f : Free p.t
           rw er (listed ts, refl, stored_kept p _ d f e (part_items (argument_row ts)) (sizes (argument_row ts)) refl refl refl ee, q.inside, (sym (c ts m refl), refl, refl))
       go (refused c) h er ee = rw er (refl, ee ∙ f _)
 
--- ---- by their numbers
-
--- a number outside a range is none of it
-outside : (k a b : ℕ) → (k < a) ⊎ (b ≤ k) → (j : ℕ) → a ≤ j → j < b → k ≡ j → ⊥
-outside k a b (inl l) j x y e = omega arith
-outside k a b (inr l) j x y e = omega arith
-
-part_else : (s : List ℕ) (issued k n : ℕ) → (k < 4) ⊎ (6 ≤ k) → (k ≡ 6 → ⊥) → (k ≡ 9 → ⊥)
-    → (at : ℕ) → part_of s issued k n at ≡ bind (rows.receivers s (reading.term s issued levels) n at) (λ rs m. got (received rs) m)
-unfolding part_of
-part_else s issued k n h c d at = rw (ne_eqb k 4 (outside k 4 6 h 4 (omega arith) (omega arith)), ne_eqb k 5 (outside k 4 6 h 5 (omega arith) (omega arith)), ne_eqb k 6 c, ne_eqb k 9 d)
-
 -- a list, told by its sort
 module _ (s ws : List ℕ) (issued : ℕ) (p : Place) (d e : Area) (f : Free p.top d) (n : ℕ) (r : Step) (room : RoomAfter s r) where
-  pub list_part : (k : ℕ) → (k < 4) ⊎ (6 ≤ k) → ListKept (listing_of k) s issued levels n p d e r → PartDone s ws n (part_of s issued k n p.at) p d e r
-  list_part k h x = go (ℕ_discrete k 6) (ℕ_discrete k 9)
-    where
-      go : Dec (k ≡ 6) → Dec (k ≡ 9) → PartDone s ws n (part_of s issued k n p.at) p d e r
-      go (yes a) b = let y : ListKept Entries s issued levels n p d e r = rw a at x in rw a (entries_part s ws issued p d e f n r room y.says y.areas)
-      go (no a) (yes b) = let y : ListKept Arguments s issued levels n p d e r = rw b at x in rw b (arguments_part s ws issued p d e f n r room y.says y.areas)
-      go (no a) (no b) =
-          let y : ListKept Receivers s issued levels n p d e r = rw (ne_eqb k 6 a, ne_eqb k 9 b) at x in
-          rw (part_else s issued k n h a b p.at) (receivers_part s ws issued p d e f n r room y.says y.areas)
+  pub list_part : (a : Sort) → (a ≡ sorts.Term → ⊥) → (a ≡ sorts.Nominal → ⊥) → ListKept (listing_of a) s issued levels n p d e r → PartDone s ws n (part_of s issued a n p.at) p d e r
+  unfolding part_of
+  list_part sorts.Term g h x = absurd (g refl)
+  list_part sorts.Nominal g h x = absurd (h refl)
+  list_part sorts.Entries g h x = entries_part s ws issued p d e f n r room x.says x.areas
+  list_part sorts.Arguments g h x = arguments_part s ws issued p d e f n r room x.says x.areas
+  list_part a g h x = receivers_part s ws issued p d e f n r room x.says x.areas
 
 -- where something was read there is room after it
 pub room_after : (s : List ℕ) (r : rust.Result ⊤ Refusal) (p : Place) → Room s p → RoomAfter s (step_of r p)
@@ -277,8 +259,8 @@ ample_moved s p n at a e =
     let b = number_bounds (ceiling shape.ordinary) s p.at n at a.inside (sym e) in
     record { inside = b.inside; tokens = omega (arith, a.tokens, b.after); counts = omega (arith, a.counts, b.after) }
 
-pub list_refused : (s : List ℕ) (issued k at c : ℕ) → refused c ≡ number s (ceiling shape.ordinary) at → list_field s issued k at ≡ refused c
-list_refused s issued k at c e = rw (← e)
+pub list_refused : (s : List ℕ) (issued : ℕ) (a : Sort) (at c : ℕ) → refused c ≡ number s (ceiling shape.ordinary) at → list_field s issued a at ≡ refused c
+list_refused s issued a at c e = rw (← e)
 
 module _ (s : List ℕ) (p q : Place) (v : ℕ) (x : NumberRead s p (Ok v) q) where
   pub number_small : p.at ≤ length s → (v ≤ 4294967295) × (q.at ≤ length s)
@@ -287,36 +269,25 @@ module _ (s : List ℕ) (p q : Place) (v : ℕ) (x : NumberRead s p (Ok v) q) wh
   pub ample_after : Ample s p → Ample s q
   ample_after a = subst (Ample s) (sym x.place) (ample_moved s p v q.at a x.is)
 
-  pub list_after : (ws : List ℕ) (issued k : ℕ) (d e : Area) (r : FieldRead) → FieldDone s ws (part_of s issued k v q.at) q d e r → FieldDone s ws (list_field s issued k p.at) p d e r
+  pub list_after : (ws : List ℕ) (issued : ℕ) (k : Sort) (d e : Area) (r : FieldRead) → FieldDone s ws (part_of s issued k v q.at) q d e r → FieldDone s ws (list_field s issued k p.at) p d e r
   list_after ws issued k d e r y =
       list_field_lem s ws q.at (part_of s issued k v q.at) (list_field s issued k p.at) p d e r (rw (← x.is))
       (subst (λ (z : Place). FieldDone s ws (part_of s issued k v q.at) z d e r) x.place y)
 
--- ---- sorts by their numbers
+-- ---- by their sorts
 
-module _ (s : List ℕ) (issued k at : ℕ) where
-  -- a receiver, a term and a nominal
-  pub plain_tree : (k ≡ 2) ⊎ ((3 < k) × (k < 6)) → fields.field s issued (plain_of k) at ≡ part_of s issued k 1 at
-  unfolding plain_of part_of fields.field
-  plain_tree (inl e) = rw e
-  plain_tree (inr h) = go (dec_lt k 5)
-    where
-      go : Dec (k < 5) → fields.field s issued (plain_of k) at ≡ part_of s issued k 1 at
-      go (yes l) = let e : k ≡ 4 = omega (arith, h.0) in rw e
-      go (no l) = let e : k ≡ 5 = omega (arith, h.1) in rw e
+module _ (s : List ℕ) (issued : ℕ) (a : Sort) (at : ℕ) where
+  -- a term, a nominal and a receiver
+  pub plain_tree : (a ≡ sorts.Term) ⊎ ((a ≡ sorts.Nominal) ⊎ (a ≡ sorts.Receiver)) → fields.field s issued (plain_of a) at ≡ part_of s issued a 1 at
+  unfolding plain_of sort_of part_of fields.field
+  plain_tree (inl e) = rw e refl
+  plain_tree (inr (inl e)) = rw e refl
+  plain_tree (inr (inr e)) = rw e refl
 
   -- lists
-  pub plain_list : (k < 1) ⊎ (6 ≤ k) → (k ≡ 8 → ⊥) → (k ≡ 11 → ⊥) → fields.field s issued (plain_of k) at ≡ list_field s issued k at
-  unfolding plain_of part_of fields.field
-  plain_list h d g =
-      rw (ne_eqb k 1 (outside k 1 6 h 1 (omega arith) (omega arith)), ne_eqb k 2 (outside k 1 6 h 2 (omega arith) (omega arith)), ne_eqb k 3 (outside k 1 6 h 3 (omega arith) (omega arith)), ne_eqb k 4 (outside k 1 6 h 4 (omega arith) (omega arith)), ne_eqb k 5 (outside k 1 6 h 5 (omega arith) (omega arith)), ne_eqb k 8 d, ne_eqb k 11 g) (by (eqb k 6) (eqb k 9))
-    where
-      by : (x y : Bool)
-          → fields.field s issued (pick x fields.entries (pick y fields.arguments fields.receivers)) at
-          ≡ bind (number s (ceiling shape.ordinary) at)
-          (λ n.
-          pick x (rows.entries s (fields.term_field s issued) n >>= λ es. return (entered es))
-          (pick y (rows.arguments s (fields.term_field s issued) n >>= λ ts. return (listed ts)) (rows.receivers s (fields.term_field s issued) n >>= λ rs. return (received rs))))
-      by true y = refl
-      by false true = refl
-      by false false = refl
+  pub plain_list : (a ≡ sorts.Entries) ⊎ ((a ≡ sorts.Receivers) ⊎ ((a ≡ sorts.Arguments) ⊎ (a ≡ sorts.Rules))) → fields.field s issued (plain_of a) at ≡ list_field s issued a at
+  unfolding plain_of sort_of part_of fields.field
+  plain_list (inl e) = rw e refl
+  plain_list (inr (inl e)) = rw e refl
+  plain_list (inr (inr (inl e))) = rw e refl
+  plain_list (inr (inr (inr e))) = rw e refl

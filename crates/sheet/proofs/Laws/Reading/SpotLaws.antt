@@ -1,13 +1,12 @@
 -- Spots: where the fields that were read stand, and that the areas hold them there.
 use mathlib.Core.Path.{◌≡◌, refl, sym, ap, ◌∙◌}
-use mathlib.Core.Bool.{Bool, true, not, ◌&&◌, ◌||◌}
+use mathlib.Core.Bool.{Bool, true, false, ◌&&◌}
 use mathlib.Core.List.{List, [], ◌∷◌, ◌++◌, append_assoc}
 use mathlib.Core.Option.{some}
 use Prim.Native.Nat.{ℕ, zero, suc, ◌+◌, ◌*◌, ◌≤◌, ◌<◌}
 use native.Mathlib.Decide.{dec_lt}
 use native.Mathlib.Omega.{arith}
 use borrow.Author.Tests.{ne_eqb}
-use lib.Dec.{eqb}
 use lib.ListN.{length, length-append, get_or, take}
 use lib.Seq.{get_or-take, length-take-le}
 use Rattle.solver.specs.Terms.Tokens.{Item, item, spell, toks}
@@ -27,7 +26,7 @@ use Rattle.sheet.specs.Operations.{operations}
 use Rattle.sheet.specs.Sheet.{table}
 use Rattle.sheet.specs.Words.FieldsHeld.{HeldField, HeldFields, Follows}
 use Rattle.sheet.specs.Words.OrderGiven.{OfSort, FitsLayout}
-use Rattle.sheet.specs.Words.FieldLayout.{sort_number, Plain, Plains, rule_items, field_items, all_items, rule_words, RulesAt, SpotOf, spot_at, put_spot, no_fields, start_at, Spots}
+use Rattle.sheet.specs.Words.FieldLayout.{Plain, Plains, rule_items, field_items, all_items, rule_words, RulesAt, SpotOf, spot_at, put_spot, no_fields, start_at, Spots}
 use Rattle.sheet.proofs.Laws.Reading.OrderTableLaws.{all, every_row}
 
 -- ---- one field more
@@ -287,57 +286,27 @@ FollowedBy (ruled rs) g = Unit {0}
 abbrev After : FieldSort → List FieldSort → Type 0
 After fields.entries (a ∷ l) = a ≡ fields.receivers
 After fields.entries [] = ⊥
-After fields.ordinary l = Unit {0}
-After fields.code l = Unit {0}
-After fields.bound l = Unit {0}
-After fields.term l = Unit {0}
-After fields.nominal l = Unit {0}
-After fields.receiver l = Unit {0}
-After fields.receivers l = Unit {0}
-After fields.parameters l = Unit {0}
-After fields.arguments l = Unit {0}
-After fields.rules l = Unit {0}
+After a l = Unit {0}
 
 unfoldable Joined : List FieldSort → Type 0
 Joined [] = Unit {0}
 Joined (a ∷ l) = After a l × Joined l
 
 unfoldable after : FieldSort → List FieldSort → Bool
-after a [] = not (eqb (sort_number a) 6)
-after a (b ∷ l) = not (eqb (sort_number a) 6) || eqb (sort_number b) 7
+after fields.entries (fields.receivers ∷ l) = true
+after fields.entries l = false
+after a l = true
 
 unfoldable joined : List FieldSort → Bool
 joined [] = true
 joined (a ∷ l) = after a l && joined l
 
-is_receivers : (a : FieldSort) → eqb (sort_number a) 7 ≡ true → a ≡ fields.receivers
-unfolding sort_number
-is_receivers fields.ordinary h = never_true h
-is_receivers fields.code h = never_true h
-is_receivers fields.bound h = never_true h
-is_receivers fields.term h = never_true h
-is_receivers fields.nominal h = never_true h
-is_receivers fields.receiver h = never_true h
-is_receivers fields.entries h = never_true h
-is_receivers fields.receivers h = refl
-is_receivers fields.parameters h = never_true h
-is_receivers fields.arguments h = never_true h
-is_receivers fields.rules h = never_true h
-
 after_of : (a : FieldSort) (l : List FieldSort) → after a l ≡ true → After a l
-unfolding after sort_number
+unfolding after
 after_of fields.entries [] h = never_true h
-after_of fields.entries (a ∷ l) h = is_receivers a h
-after_of fields.ordinary l h = tt
-after_of fields.code l h = tt
-after_of fields.bound l h = tt
-after_of fields.term l h = tt
-after_of fields.nominal l h = tt
-after_of fields.receiver l h = tt
-after_of fields.receivers l h = tt
-after_of fields.parameters l h = tt
-after_of fields.arguments l h = tt
-after_of fields.rules l h = tt
+after_of fields.entries (fields.receivers ∷ l) h = refl
+after_of fields.entries (a ∷ l) h = never_true h
+after_of a l h = tt
 
 joined_of : (l : List FieldSort) → joined l ≡ true → Joined l
 unfolding joined Joined
@@ -345,7 +314,7 @@ joined_of [] h = tt
 joined_of (a ∷ l) h = let t = both_true (after a l) (joined l) h in (after_of a l t.0, joined_of l t.1)
 
 layout_joined : (k : ℕ) (r : Row) → row_in table k ≡ some r → Joined (layout r)
-unfolding table session_orders operations all layout joined after sort_number
+unfolding table session_orders operations all layout joined after
 layout_joined k r e = joined_of (layout r) (every_row (λ (r : Row). joined (layout r)) refl k r e)
 
 followed : (a : FieldSort) (l : List FieldSort) (f : Field) (fs : List Field) → After a l → OfSort a f → FitsLayout l fs → FollowedBy f (nth 0 fs)

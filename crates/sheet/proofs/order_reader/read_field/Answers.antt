@@ -2,10 +2,13 @@
 use Rattle.sheet.proofs.Laws.Reading.OrderLaws.{not_plain, sort_plain}
 use Rattle.sheet.proofs.order_reader.read_field.Goals as goal
 
-pub returns-then-sort-eq10-clause-words : goal.returns-then-sort-eq10-clause-words
-returns-then-sort-eq10-clause-words c = not_plain c.args.sort c.if-sort-eq10.true
+pub returns-in-Rules-clause-done : goal.returns-in-Rules-clause-done
+returns-in-Rules-clause-done c = rw c.in-Rules.is c.rules_field.ensures
 
-pub returns-clause-done : goal.returns-clause-done
-returns-clause-done c =
+pub returns-in-Rules-clause-words : goal.returns-in-Rules-clause-words
+returns-in-Rules-clause-words c = not_plain c.args.sort c.in-Rules.is
+
+pub returns-in_default-clause-done : goal.returns-in_default-clause-done
+returns-in_default-clause-done c =
     let a = c.args in
-    rw (sort_plain a.sort c.if-sort-eq10.false) (c.read_plain.ensures a.rules.now)
+    rw (sort_plain a.sort c.in_default.not-Rules) (c.read_plain.ensures a.rules.now)
