@@ -5,6 +5,7 @@
 --   CompareContract    what the functions that compare two rows hand on
 --   FindContract       searches in the areas, on words
 --   Held               terms and rows that the areas hold
+--   Lent               what a lent value says
 --   ListsContract      what the term reader does in a list of an order
 --   NormalContract     what normalising answers, and what it leaves in the record areas
 --   QuestionsContract  words by which the questions are answered
@@ -29,6 +30,7 @@ pub mod Arena
 pub mod CompareContract
 pub mod FindContract
 pub mod Held
+pub mod Lent
 pub mod ListsContract
 pub mod NormalContract
 pub mod QuestionsContract

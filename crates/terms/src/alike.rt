@@ -1,20 +1,19 @@
 // Whether two contents stand for the same tree, each as in the source or built.
+ghost use Rattle.terms.specs.Words.Lent.{shown};
 ghost use Rattle.std.specs.Prelude.{◌≡◌, ◌&&◌, ◌+◌, eqb, leb, length, get_or};
 ghost use Rattle.terms.specs.Words.Held.{span};
-ghost use Rattle.terms.specs.Words.VirtualTokens.{view, Sight};
 ghost use Rattle.terms.specs.Words.Arena.{Cut, further, Alike, Begins, Starts};
 
 use super::rows::{child_here, row_of};
 use super::runs::{same_term, word};
 use super::virtual_tokens::token_at;
-use super::{Content, Cursor, Origin, Token};
+use super::{Content, Cursor, Origin, Seen, Token, Tokens};
 
 // The start of a content's row.
-pub fn cursor(kinds: &[u32], vals: &[u32], g: Origin, x: Content) -> Cursor
-    requires { Sight kinds.now vals.now g }
-    ensures { Starts (view kinds.now vals.now g) x result }
+pub fn cursor(seen: &Seen, x: Content) -> Cursor
+    ensures { Starts (shown seen.now) x result }
 {
-    let part = row_of(kinds, vals, g, x.head);
+    let part = row_of(seen, x.head);
     Cursor {
         at: part.from,
         end: part.end,
@@ -36,36 +35,33 @@ pub fn moved(x: Cursor, at: usize, child: usize) -> Cursor
 }
 
 // Whether a content is as in the source and all its tokens are lent.
-fn is_lent(kinds: &[u32], vals: &[u32], x: Content) -> bool
+fn is_lent(tokens: &Tokens, x: Content) -> bool
     ensures { result
-        ≡ (eqb x.kids 0 && leb (x.head + span (get_or kinds.now x.head 0) (get_or vals.now x.head 0)) (length kinds.now)) }
+        ≡ (eqb x.kids 0 && leb (x.head + span (get_or tokens.now.kinds.now x.head 0) (get_or tokens.now.vals.now x.head 0)) (length tokens.now.kinds.now)) }
 {
     if x.kids != 0 {
         return false;
     }
     let p = x.head as usize;
     let head = Token {
-        kind: word(kinds, p),
-        value: word(vals, p),
+        kind: word(tokens.kinds, p),
+        value: word(tokens.vals, p),
     };
-    p + head.span() <= kinds.len()
+    p + head.span() <= tokens.kinds.len()
 }
 
 // Whether the parts at x begin with all that are at y; the children at x have at most `fuel` levels.
 #[cycle(comparing)]
 pub fn same_rows(
-    kinds: &[u32],
-    vals: &[u32],
+    seen: &Seen,
     heads: &[u32],
     kids: &[u32],
-    g: Origin,
     x: Cursor,
     y: Cursor,
     fuel: usize,
 ) -> Option<(usize, usize)>
-    requires sight { Sight kinds.now vals.now g }
     requires cut { Cut x × Cut y }
-    ensures { Begins (view kinds.now vals.now g) heads.now kids.now x y fuel result }
+    ensures { Begins (shown seen.now) heads.now kids.now x y fuel result }
 {
     // two rows are walked at once, and the first is left where the second ends, so no `RowWalk` stands for either
     let mut p = x.at;
@@ -76,8 +72,8 @@ pub fn same_rows(
         if x.end <= p {
             return None;
         }
-        let s = token_at(kinds, vals, g, p);
-        let t = token_at(kinds, vals, g, q);
+        let s = token_at(seen, p);
+        let t = token_at(seen, q);
         if t.kind == 0 {
             if s.kind != 0 {
                 return None;
@@ -93,7 +89,7 @@ pub fn same_rows(
             }
             let a = child_here(heads, kids, x.kids, p, i);
             let b = child_here(heads, kids, y.kids, q, j);
-            if !same_trees(kinds, vals, heads, kids, g, a, b, fuel) {
+            if !same_trees(seen, heads, kids, a, b, fuel) {
                 return None;
             }
             i += 1;
@@ -108,37 +104,34 @@ pub fn same_rows(
 // Whether two contents stand for the same tree; the first has at most `fuel` levels. Lent ones are compared token by token.
 #[cycle(comparing)]
 pub fn same_trees(
-    kinds: &[u32],
-    vals: &[u32],
+    seen: &Seen,
     heads: &[u32],
     kids: &[u32],
-    g: Origin,
     x: Content,
     y: Content,
     fuel: usize,
 ) -> bool
-    requires { Sight kinds.now vals.now g }
-    ensures { Alike (view kinds.now vals.now g) heads.now kids.now x y fuel result }
+    ensures { Alike (shown seen.now) heads.now kids.now x y fuel result }
 {
     if fuel == 0 {
         return false;
     }
-    let s = token_at(kinds, vals, g, x.head as usize);
-    let t = token_at(kinds, vals, g, y.head as usize);
+    let s = token_at(seen, x.head as usize);
+    let t = token_at(seen, y.head as usize);
     if s.kind != t.kind {
         return false;
     }
     if s.kind == 1 {
         return s.value == t.value;
     }
-    if is_lent(kinds, vals, x) {
-        if is_lent(kinds, vals, y) {
-            return same_term(kinds, vals, x.head as usize, y.head as usize);
+    if is_lent(&seen.tokens, x) {
+        if is_lent(&seen.tokens, y) {
+            return same_term(&seen.tokens, x.head as usize, y.head as usize);
         }
     }
-    let a = cursor(kinds, vals, g, x);
-    let b = cursor(kinds, vals, g, y);
-    let m = same_rows(kinds, vals, heads, kids, g, a, b, fuel - 1);
+    let a = cursor(seen, x);
+    let b = cursor(seen, y);
+    let m = same_rows(seen, heads, kids, a, b, fuel - 1);
     let Some((at, _)) = m else {
         return false;
     };

@@ -8,6 +8,7 @@ ghost use Rattle.terms.specs.Questions.{among};
 ghost use Rattle.terms.specs.Comparison.{conflicts_with, can_weaken_to};
 ghost use Rattle.terms.specs.Words.CompareContract.{Rows, Forward, Stepped, Passed};
 
+use super::Tokens;
 use super::runs::{same_term, skip, word};
 
 // Whether a term conflicts with nothing, by the kind of its first token: Inference, Unknown and Error.
@@ -25,25 +26,18 @@ fn has_access(kind: u32) -> bool
 }
 
 // One step through two rows: a number, or a term that yields or a projection as a whole, or a node's head.
-fn pair_step(
-    kinds: &[u32],
-    vals: &[u32],
-    i: usize,
-    ae: usize,
-    j: usize,
-    be: usize,
-) -> Option<(usize, usize)>
-    requires { (i < ae) × (ae ≤ length kinds.now) × (j < be) × (be ≤ length kinds.now) × (length vals.now ≡ length kinds.now) }
+fn pair_step(tokens: &Tokens, i: usize, ae: usize, j: usize, be: usize) -> Option<(usize, usize)>
+    requires { (i < ae) × (ae ≤ length tokens.now.kinds.now) × (j < be) × (be ≤ length tokens.now.kinds.now) }
     ensures forward { Forward i ae j be result }
-    ensures stepped { (whole : Bool) → Rows kinds.now vals.now i ae j be whole → Stepped kinds.now vals.now ae be whole result }
+    ensures stepped { (whole : Bool) → Rows tokens.now.kinds.now tokens.now.vals.now i ae j be whole → Stepped tokens.now.kinds.now tokens.now.vals.now ae be whole result }
 {
-    let k = word(kinds, i);
-    let l = word(kinds, j);
+    let k = word(tokens.kinds, i);
+    let l = word(tokens.kinds, j);
     if k == 0 {
         if l != 0 {
             return None;
         }
-        if word(vals, i) != word(vals, j) {
+        if word(tokens.vals, i) != word(tokens.vals, j) {
             return None;
         }
         return Some((i + 1, j + 1));
@@ -51,68 +45,54 @@ fn pair_step(
     if l == 0 {
         return None;
     }
-    pair_terms(kinds, vals, i, ae, j, be)
+    pair_terms(tokens, i, ae, j, be)
 }
 
 // The same where a term comes next in both rows.
-fn pair_terms(
-    kinds: &[u32],
-    vals: &[u32],
-    i: usize,
-    ae: usize,
-    j: usize,
-    be: usize,
-) -> Option<(usize, usize)>
-    requires { (i < ae) × (ae ≤ length kinds.now) × (j < be) × (be ≤ length kinds.now) × (length vals.now ≡ length kinds.now) × (0 < get_or kinds.now i 0)
-        × (0 < get_or kinds.now j 0) }
+fn pair_terms(tokens: &Tokens, i: usize, ae: usize, j: usize, be: usize) -> Option<(usize, usize)>
+    requires { (i < ae) × (ae ≤ length tokens.now.kinds.now) × (j < be) × (be ≤ length tokens.now.kinds.now) × (0 < get_or tokens.now.kinds.now i 0)
+        × (0 < get_or tokens.now.kinds.now j 0) }
     ensures forward { Forward i ae j be result }
-    ensures stepped { (whole : Bool) → Rows kinds.now vals.now i ae j be whole → Stepped kinds.now vals.now ae be whole result }
+    ensures stepped { (whole : Bool) → Rows tokens.now.kinds.now tokens.now.vals.now i ae j be whole → Stepped tokens.now.kinds.now tokens.now.vals.now ae be whole result }
 {
-    let k = word(kinds, i);
-    let l = word(kinds, j);
+    let k = word(tokens.kinds, i);
+    let l = word(tokens.kinds, j);
     if yields(k) {
-        return past(kinds, vals, i, ae, j, be);
+        return past(tokens, i, ae, j, be);
     }
     if yields(l) {
-        return past(kinds, vals, i, ae, j, be);
+        return past(tokens, i, ae, j, be);
     }
     if k != l {
         return None;
     }
     if k == 20 {
-        if !same_term(kinds, vals, i, j) {
+        if !same_term(tokens, i, j) {
             return None;
         }
-        return past(kinds, vals, i, ae, j, be);
+        return past(tokens, i, ae, j, be);
     }
     Some((i + 1, j + 1))
 }
 
 // Past the terms that come next.
-fn past(
-    kinds: &[u32],
-    vals: &[u32],
-    i: usize,
-    ae: usize,
-    j: usize,
-    be: usize,
-) -> Option<(usize, usize)>
-    requires { (i < ae) × (ae ≤ length kinds.now) × (j < be) × (be ≤ length kinds.now) × (length vals.now ≡ length kinds.now) }
+fn past(tokens: &Tokens, i: usize, ae: usize, j: usize, be: usize) -> Option<(usize, usize)>
+    requires { (i < ae) × (ae ≤ length tokens.now.kinds.now) × (j < be) × (be ≤ length tokens.now.kinds.now) }
     ensures forward { Forward i ae j be result }
     ensures passed { (t u : Term) (ps qs : Parts)
-        → HeldParts kinds.now vals.now i ae (sub t ps)
-        → HeldParts kinds.now vals.now j be (sub u qs)
-        → Passed kinds.now vals.now ae ps be qs result }
+        → HeldParts tokens.now.kinds.now tokens.now.vals.now i ae (sub t ps)
+        → HeldParts tokens.now.kinds.now tokens.now.vals.now j be (sub u qs)
+        → Passed tokens.now.kinds.now tokens.now.vals.now ae ps be qs result }
 {
-    let n = skip(kinds, vals, i, ae - i);
-    let m = skip(kinds, vals, j, be - j);
+    let n = skip(tokens, i, ae - i);
+    let m = skip(tokens, j, be - j);
     Some((i + n, j + m))
 }
 
 // Whether two rows conflict.
-fn rows_conflict(kinds: &[u32], vals: &[u32], a: usize, ae: usize, b: usize, be: usize) -> bool
-    requires { (a ≤ ae) × (ae ≤ length kinds.now) × (b ≤ be) × (be ≤ length kinds.now) × (length vals.now ≡ length kinds.now) }
-    ensures { (whole : Bool) → Rows kinds.now vals.now a ae b be whole → result ≡ whole }
+fn rows_conflict(tokens: &Tokens, a: usize, ae: usize, b: usize, be: usize) -> bool
+    requires { (a ≤ ae) × (ae ≤ length tokens.now.kinds.now) × (b ≤ be) × (be ≤ length tokens.now.kinds.now) }
+    ensures { (whole : Bool) → Rows tokens.now.kinds.now tokens.now.vals.now a ae b be whole → result ≡ whole }
 {
     let mut i = a;
     let mut j = b;
@@ -120,7 +100,7 @@ fn rows_conflict(kinds: &[u32], vals: &[u32], a: usize, ae: usize, b: usize, be:
         if be <= j {
             return true;
         }
-        let r = pair_step(kinds, vals, i, ae, j, be);
+        let r = pair_step(tokens, i, ae, j, be);
         match r {
             None => {
                 return true;
@@ -135,52 +115,52 @@ fn rows_conflict(kinds: &[u32], vals: &[u32], a: usize, ae: usize, b: usize, be:
 }
 
 // `conflicts_with` of the terms at a and b.
-pub fn conflicts_with(kinds: &[u32], vals: &[u32], a: usize, b: usize) -> bool
-    requires places { (a < length kinds.now) × (b < length kinds.now) × (length vals.now ≡ length kinds.now) }
-    requires terms { FormedAt kinds.now vals.now a × FormedAt kinds.now vals.now b }
+pub fn conflicts_with(tokens: &Tokens, a: usize, b: usize) -> bool
+    requires places { (a < length tokens.now.kinds.now) × (b < length tokens.now.kinds.now) }
+    requires terms { FormedAt tokens.now.kinds.now tokens.now.vals.now a × FormedAt tokens.now.kinds.now tokens.now.vals.now b }
     ensures { (t u : Term)
-        → Held kinds.now vals.now a t
-        → Held kinds.now vals.now b u
+        → Held tokens.now.kinds.now tokens.now.vals.now a t
+        → Held tokens.now.kinds.now tokens.now.vals.now b u
         → Formed t
         → Formed u
         → result ≡ conflicts_with t u }
 {
-    let n = skip(kinds, vals, a, kinds.len() - a);
-    let m = skip(kinds, vals, b, kinds.len() - b);
-    rows_conflict(kinds, vals, a, a + n, b, b + m)
+    let n = skip(tokens, a, tokens.kinds.len() - a);
+    let m = skip(tokens, b, tokens.kinds.len() - b);
+    rows_conflict(tokens, a, a + n, b, b + m)
 }
 
 // `can_weaken_to` of the terms at a and b: a Mutable access against one that is not, and the rest does not conflict.
-pub fn can_weaken_to(kinds: &[u32], vals: &[u32], a: usize, b: usize) -> bool
-    requires places { (a < length kinds.now) × (b < length kinds.now) × (length vals.now ≡ length kinds.now) }
-    requires terms { FormedAt kinds.now vals.now a × FormedAt kinds.now vals.now b }
+pub fn can_weaken_to(tokens: &Tokens, a: usize, b: usize) -> bool
+    requires places { (a < length tokens.now.kinds.now) × (b < length tokens.now.kinds.now) }
+    requires terms { FormedAt tokens.now.kinds.now tokens.now.vals.now a × FormedAt tokens.now.kinds.now tokens.now.vals.now b }
     ensures { (t u : Term)
-        → Held kinds.now vals.now a t
-        → Held kinds.now vals.now b u
+        → Held tokens.now.kinds.now tokens.now.vals.now a t
+        → Held tokens.now.kinds.now tokens.now.vals.now b u
         → Formed t
         → Formed u
         → result ≡ can_weaken_to t u }
 {
-    let k = word(kinds, a);
-    if k != word(kinds, b) {
+    let k = word(tokens.kinds, a);
+    if k != word(tokens.kinds, b) {
         return false;
     }
     if !has_access(k) {
         return false;
     }
-    let n = skip(kinds, vals, a, kinds.len() - a);
-    let m = skip(kinds, vals, b, kinds.len() - b);
+    let n = skip(tokens, a, tokens.kinds.len() - a);
+    let m = skip(tokens, b, tokens.kinds.len() - b);
     if n < 2 {
         return false;
     }
     if m < 2 {
         return false;
     }
-    if word(vals, a + 1) != 1 {
+    if word(tokens.vals, a + 1) != 1 {
         return false;
     }
-    if word(vals, b + 1) != 0 {
+    if word(tokens.vals, b + 1) != 0 {
         return false;
     }
-    !rows_conflict(kinds, vals, a + 2, a + n, b + 2, b + m)
+    !rows_conflict(tokens, a + 2, a + n, b + 2, b + m)
 }

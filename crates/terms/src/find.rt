@@ -7,7 +7,7 @@ ghost use Rattle.terms.specs.Words.FindContract.{last_at, entry_at, receiver_at,
 use super::numbers::read_number;
 use super::runs::{skip, word};
 use super::values::{DEFINITION, ORDINARY};
-use super::{Parameter, Refusal};
+use super::{Parameter, Refusal, Tokens};
 
 // Reads a parameter: an owner and a position.
 fn parameter_at(s: &[u8], at: usize) -> Result<(Parameter, usize), Refusal>
@@ -62,16 +62,15 @@ pub fn find_parameter(s: &[u8], at: usize, count: u64, wanted: Parameter) -> Opt
 // Looks in a row of records, each of `width` numbers and a term, for the last one whose first number is the owner that is wanted and whose last is the
 // position. Linear in the records.
 fn find_record(
-    kinds: &[u32],
-    vals: &[u32],
+    tokens: &Tokens,
     from: usize,
     end: usize,
     width: usize,
     wanted: Parameter,
 ) -> Option<usize>
-    requires areas { (end ≤ length kinds.now) × (length vals.now ≡ length kinds.now) }
+    requires areas { end ≤ length tokens.now.kinds.now }
     requires width { (1 ≤ width) × (width ≤ 2) }
-    ensures { result ≡ last_at kinds.now vals.now width wanted.owner wanted.position (end - from) from end None }
+    ensures { result ≡ last_at tokens.now.kinds.now tokens.now.vals.now width wanted.owner wanted.position (end - from) from end None }
 {
     let mut best = None;
     let mut i = from;
@@ -81,60 +80,51 @@ fn find_record(
         }
         let t = i + width;
         let here = Parameter {
-            owner: u64::from(word(vals, i)),
-            position: u64::from(word(vals, t - 1)),
+            owner: u64::from(word(tokens.vals, i)),
+            position: u64::from(word(tokens.vals, t - 1)),
         };
         if here == wanted {
             best = Some(t);
         }
-        i = t + skip(kinds, vals, t, end - t);
+        i = t + skip(tokens, t, end - t);
     }
     best
 }
 
 // The place of the last entry's term for a parameter, in a row of entries.
-pub fn find_entry(
-    kinds: &[u32],
-    vals: &[u32],
-    from: usize,
-    end: usize,
-    wanted: Parameter,
-) -> Option<usize>
-    requires { (end ≤ length kinds.now) × (length vals.now ≡ length kinds.now) }
-    ensures { result ≡ entry_at kinds.now vals.now from end wanted.owner wanted.position }
+pub fn find_entry(tokens: &Tokens, from: usize, end: usize, wanted: Parameter) -> Option<usize>
+    requires { end ≤ length tokens.now.kinds.now }
+    ensures { result ≡ entry_at tokens.now.kinds.now tokens.now.vals.now from end wanted.owner wanted.position }
 {
-    find_record(kinds, vals, from, end, 2, wanted)
+    find_record(tokens, from, end, 2, wanted)
 }
 
 // The place of the last receiver's term for an owner, in a row of receivers.
-pub fn find_receiver(
-    kinds: &[u32],
-    vals: &[u32],
-    from: usize,
-    end: usize,
-    owner: u64,
-) -> Option<usize>
-    requires { (end ≤ length kinds.now) × (length vals.now ≡ length kinds.now) }
-    ensures { result ≡ receiver_at kinds.now vals.now from end owner }
+pub fn find_receiver(tokens: &Tokens, from: usize, end: usize, owner: u64) -> Option<usize>
+    requires { end ≤ length tokens.now.kinds.now }
+    ensures { result ≡ receiver_at tokens.now.kinds.now tokens.now.vals.now from end owner }
 {
     let wanted = Parameter {
         owner,
         position: owner,
     };
-    find_record(kinds, vals, from, end, 1, wanted)
+    find_record(tokens, from, end, 1, wanted)
 }
 
 // The place of the n-th term from a place on.
-pub fn nth_term(kinds: &[u32], vals: &[u32], from: usize, n: usize) -> Option<usize>
-    requires { length vals.now ≡ length kinds.now }
-    ensures { result ≡ nth_at kinds.now vals.now n from }
+pub fn nth_term(tokens: &Tokens, from: usize, n: usize) -> Option<usize>
+    ensures { result ≡ nth_at tokens.now.kinds.now tokens.now.vals.now n from }
 {
     let mut i = from;
     for k in 0..n {
-        if kinds.len() <= i {
+        if tokens.kinds.len() <= i {
             return None;
         }
-        i += skip(kinds, vals, i, kinds.len() - i);
+        i += skip(tokens, i, tokens.kinds.len() - i);
     }
-    if i < kinds.len() { Some(i) } else { None }
+    if i < tokens.kinds.len() {
+        Some(i)
+    } else {
+        None
+    }
 }

@@ -1,6 +1,7 @@
 // Order 19: a projection is looked up in the given interface, or made anew through it.
+ghost use Rattle.terms.specs.Words.Lent.{shown};
 ghost use Rattle.std.specs.Prelude.{◌≡◌, Bool, ℕ, ◌+◌, ◌≤◌, ◌<◌, get_or};
-ghost use Rattle.terms.specs.Words.VirtualTokens.{view, Sight, LentAt};
+ghost use Rattle.terms.specs.Words.VirtualTokens.{LentAt};
 ghost use Rattle.terms.specs.Term.{Term, Parts, depth};
 ghost use Rattle.terms.specs.Tree.{row, tag};
 ghost use Rattle.terms.specs.Lookup.{output, through, HeldGiven};
@@ -11,15 +12,14 @@ use super::members::member_of;
 use super::rows::{child_at, number_at, number_place};
 use super::rules::source;
 use super::virtual_tokens::{locate, token_at};
-use super::{Content, Origin, Spot};
+use super::{Content, Origin, Seen, Spot};
 
 // The lent token whose value the number at p has.
-fn lent_place(kinds: &[u32], vals: &[u32], g: Origin, p: usize) -> usize
-    requires { Sight kinds.now vals.now g }
-    ensures { LentAt kinds.now vals.now g p result }
+fn lent_place(seen: &Seen, p: usize) -> usize
+    ensures { LentAt seen.now.tokens.kinds.now seen.now.tokens.vals.now seen.now.given p result }
 {
-    let len = kinds.len();
-    let s = locate(g, len, p);
+    let len = seen.tokens.kinds.len();
+    let s = locate(seen.given, len, p);
     match s {
         Spot::Lent(q) => {
             if q < len {
@@ -34,24 +34,21 @@ fn lent_place(kinds: &[u32], vals: &[u32], g: Origin, p: usize) -> usize
 }
 
 // The interface's term for the member at p, or the projection made anew.
-fn output(kinds: &[u32], vals: &[u32], heads: &[u32], kids: &[u32], g: Origin, p: usize) -> Content
-    requires { Sight kinds.now vals.now g }
+fn output(seen: &Seen, heads: &[u32], kids: &[u32], p: usize) -> Content
     ensures { (S : ℕ → Bool) (i : Parts) (owner : Term)
-        → HeldGiven kinds.now vals.now g i owner
-        → get_or (view kinds.now vals.now g).kinds p 0 ≡ 0
-        → Tree (view kinds.now vals.now g) heads.now kids.now S result.head result.kids
-        (output owner i (get_or (view kinds.now vals.now g).vals p 0)) }
+        → HeldGiven seen.now.tokens.kinds.now seen.now.tokens.vals.now seen.now.given i owner
+        → get_or (shown seen.now).kinds p 0 ≡ 0
+        → Tree (shown seen.now) heads.now kids.now S result.head result.kids
+        (output owner i (get_or (shown seen.now).vals p 0)) }
 {
-    let x = token_at(kinds, vals, g, p);
-    let a = number_at(kinds, vals, g, g.interface, 1);
-    let b = number_at(kinds, vals, g, g.interface, 2);
+    let x = token_at(seen, p);
+    let a = number_at(seen, seen.given.interface, 1);
+    let b = number_at(seen, seen.given.interface, 2);
     let known = member_of(
-        kinds,
-        vals,
+        seen,
         heads,
         kids,
-        g,
-        source(g.interface),
+        source(seen.given.interface),
         a,
         b,
         0,
@@ -60,46 +57,43 @@ fn output(kinds: &[u32], vals: &[u32], heads: &[u32], kids: &[u32], g: Origin, p
     if let Some(y) = known {
         return y;
     }
-    let t = lent_place(kinds, vals, g, p);
-    source((kinds.len() + 1 + t * g.size as usize) as u32)
+    let t = lent_place(seen, p);
+    source((seen.tokens.kinds.len() + 1 + t * seen.given.size as usize) as u32)
 }
 
 // What the given interface has for a projection with the counts n and m; its children have at most `fuel` levels.
 pub fn by_interface(
-    kinds: &[u32],
-    vals: &[u32],
+    seen: &Seen,
     heads: &[u32],
     kids: &[u32],
-    g: Origin,
     x: Content,
     n: usize,
     m: usize,
     fuel: usize,
 ) -> Option<Content>
-    requires sight { Sight kinds.now vals.now g }
-    requires counts { Counts (view kinds.now vals.now g) x.head n m }
+    requires counts { Counts (shown seen.now) x.head n m }
     requires low { fuel < 4294967296 }
     ensures { (S : ℕ → Bool) (t : Term) (i : Parts) (owner : Term)
-        → Tree (view kinds.now vals.now g) heads.now kids.now S x.head x.kids t
+        → Tree (shown seen.now) heads.now kids.now S x.head x.kids t
         → tag t ≡ 18
         → depth t ≤ fuel + 1
-        → HeldGiven kinds.now vals.now g i owner
-        → Fetched (view kinds.now vals.now g) heads.now kids.now S (through i owner (row t)) result }
+        → HeldGiven seen.now.tokens.kinds.now seen.now.tokens.vals.now seen.now.given i owner
+        → Fetched (shown seen.now) heads.now kids.now S (through i owner (row t)) result }
 {
-    let argument = child_at(kinds, vals, heads, kids, g, x, 1 + n + m);
+    let argument = child_at(seen, heads, kids, x, 1 + n + m);
     if argument.is_some() {
         return None;
     }
-    if number_at(kinds, vals, g, x.head, 0) != number_at(kinds, vals, g, g.interface, 0) {
+    if number_at(seen, x.head, 0) != number_at(seen, seen.given.interface, 0) {
         return None;
     }
-    let y = child_at(kinds, vals, heads, kids, g, x, 0)?;
-    if !same_trees(kinds, vals, heads, kids, g, y, source(g.owner), fuel) {
+    let y = child_at(seen, heads, kids, x, 0)?;
+    if !same_trees(seen, heads, kids, y, source(seen.given.owner), fuel) {
         return None;
     }
-    let p = number_place(kinds, vals, g, x.head, 3 + m);
-    let value = output(kinds, vals, heads, kids, g, p);
-    if same_trees(kinds, vals, heads, kids, g, x, value, fuel + 1) {
+    let p = number_place(seen, x.head, 3 + m);
+    let value = output(seen, heads, kids, p);
+    if same_trees(seen, heads, kids, x, value, fuel + 1) {
         return None;
     }
     Some(value)

@@ -1,6 +1,10 @@
 // Terms: numbers; terms read into two lent areas as runs of tokens, and written again; the operations on them.
 #![tactic(auto)]
 
+ghost use Rattle.std.specs.Prelude.{◌≡◌, length};
+ghost use Rattle.terms.specs.Words.Tokens.{Narrow};
+ghost use Rattle.terms.specs.Words.VirtualTokens.{Sight};
+
 mod alike;
 mod compare;
 mod find;
@@ -182,6 +186,23 @@ pub enum Class {
     Projection,
 }
 
+// The tokens of terms, which are lent: the kinds, and as many values, which are words of 32 bits.
+#[derive(Clone, Copy)]
+pub struct Tokens<'a> {
+    pub kinds: &'a [u32],
+    pub vals: &'a [u32],
+    ghost pairs: { length vals.now ≡ length kinds.now },
+    ghost narrow: { Narrow vals.now },
+}
+
+// The tokens that normalising sees: the lent ones, and those that order 19 makes anew.
+#[derive(Clone, Copy)]
+pub struct Seen<'a> {
+    pub tokens: Tokens<'a>,
+    pub given: Origin,
+    ghost sight: { Sight tokens.kinds.now tokens.vals.now given },
+}
+
 // A token: its kind and its value.
 #[derive(Clone, Copy)]
 pub struct Token {
@@ -219,9 +240,7 @@ pub struct Part {
 // A walk over a row: the tokens that are seen, where it stands, and where the row ends. It comes to each number and to the first token of each child.
 #[derive(Clone, Copy, Drop)]
 pub struct RowWalk<'a> {
-    pub kinds: &'a [u32],
-    pub vals: &'a [u32],
-    pub given: Origin,
+    pub seen: Seen<'a>,
     pub at: usize,
     pub end: usize,
 }

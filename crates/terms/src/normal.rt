@@ -15,20 +15,20 @@ use super::runs::word;
 use super::showing::show_tree;
 use super::store::clear_tokens;
 use super::walking::walk;
-use super::{Content, Origin, Ready, Token, Unfinished};
+use super::{Content, Origin, Ready, Seen, Token, Tokens, Unfinished};
 
 // Whether the term at p has a projection.
-fn has_projection(kinds: &[u32], vals: &[u32], p: u32) -> bool
-    ensures { (t : Term) → Held kinds.now vals.now p t → result ≡ contains_projection t }
+fn has_projection(tokens: &Tokens, p: u32) -> bool
+    ensures { (t : Term) → Held tokens.now.kinds.now tokens.now.vals.now p t → result ≡ contains_projection t }
 {
     let from = p as usize;
     let head = Token {
-        kind: word(kinds, from),
-        value: word(vals, from),
+        kind: word(tokens.kinds, from),
+        value: word(tokens.vals, from),
     };
     let end = from + head.step();
     for q in from..end {
-        if word(kinds, q) == 20 {
+        if word(tokens.kinds, q) == 20 {
             return true;
         }
     }
@@ -37,24 +37,21 @@ fn has_projection(kinds: &[u32], vals: &[u32], p: u32) -> bool
 
 // Sizes a content, whose records are `next`, and keeps it where it fits from `at` on, else clears its records.
 fn size_up(
-    kinds: &[u32],
-    vals: &[u32],
+    seen: &Seen,
     heads: &mut [u32],
     kids: &mut [u32],
-    g: Origin,
     x: Content,
     next: usize,
     fuel: usize,
     out: &mut [u8],
     at: usize,
 ) -> Option<Ready>
-    requires sight { Sight kinds.now vals.now g }
     requires place { at ≤ length out.old }
     ensures out { out.new ≡ out.old }
-    ensures sized { Sized kinds.now vals.now heads.old kids.old heads.new kids.new g x next fuel
+    ensures sized { Sized seen.now.tokens.kinds.now seen.now.tokens.vals.now heads.old kids.old heads.new kids.new seen.now.given x next fuel
         out.old at result }
 {
-    let e = show_tree(kinds, vals, heads, kids, g, x, fuel, out, at, false);
+    let e = show_tree(seen, heads, kids, x, fuel, out, at, false);
     if out.len() < e {
         clear_tokens(heads, kids, 0, next);
         return None;
@@ -64,7 +61,7 @@ fn size_up(
         kids: x.kids,
         next,
         size: e - at,
-        given: g,
+        given: seen.given,
     })
 }
 
@@ -95,12 +92,10 @@ fn fit_up(
 
 // Normalises the term at p, by what g and the rules say is to be looked up.
 fn run(
-    kinds: &[u32],
-    vals: &[u32],
+    seen: &Seen,
     rules: &[u32],
     heads: &mut [u32],
     kids: &mut [u32],
-    g: Origin,
     p: u32,
     levels: usize,
     visits: usize,
@@ -108,35 +103,23 @@ fn run(
     out: &mut [u8],
     at: usize,
 ) -> Result<Ready, Unfinished>
-    requires room { RecordRoom kinds.now vals.now heads.old kids.old g 0 most }
+    requires room { RecordRoom seen.now.tokens.kinds.now seen.now.tokens.vals.now heads.old kids.old seen.now.given 0 most }
     requires few { (length rules.now < 4294967296) × (levels < 4294967295) × (visits < 134217728) }
     requires zero { Zero heads.old most × Zero kids.old most }
     requires place { at ≤ length out.old }
     ensures out { out.new ≡ out.old }
-    ensures leaves { Leaves kinds.now vals.now heads.old kids.old heads.new kids.new most result }
+    ensures leaves { Leaves seen.now.tokens.kinds.now seen.now.tokens.vals.now heads.old kids.old heads.new kids.new most result }
     ensures answers { (t : Term) (look : Look)
-        → Held kinds.now vals.now p t
-        → Looks kinds.now vals.now rules.now g look
-        → Answers kinds.now vals.now heads.new kids.new out.old at levels most
+        → Held seen.now.tokens.kinds.now seen.now.tokens.vals.now p t
+        → Looks seen.now.tokens.kinds.now seen.now.tokens.vals.now rules.now seen.now.given look
+        → Answers seen.now.tokens.kinds.now seen.now.tokens.vals.now heads.new kids.new out.old at levels most
         (normalise levels visits (look_by look) t) result }
 {
-    if !has_projection(kinds, vals, p) {
-        let plain = size_up(kinds, vals, heads, kids, g, source(p), 0, 0, out, at);
+    if !has_projection(&seen.tokens, p) {
+        let plain = size_up(seen, heads, kids, source(p), 0, 0, out, at);
         return plain.ok_or(Unfinished::TooLong);
     }
-    let walked = walk(
-        kinds,
-        vals,
-        rules,
-        heads,
-        kids,
-        g,
-        source(p),
-        0,
-        levels,
-        visits,
-        most,
-    );
+    let walked = walk(seen, rules, heads, kids, source(p), 0, levels, visits, most);
     let Some(w) = walked else {
         clear_tokens(heads, kids, 0, most);
         return Err(Unfinished::TooMany);
@@ -145,7 +128,7 @@ fn run(
         head: w.head,
         kids: w.kids,
     };
-    let kept = fit_up(heads, kids, g, x, w.next, w.size, out.len() - at);
+    let kept = fit_up(heads, kids, seen.given, x, w.next, w.size, out.len() - at);
     kept.ok_or(Unfinished::TooLong)
 }
 
@@ -157,30 +140,30 @@ const VISITS: usize = 8192;
 const MOST: usize = 8192;
 
 // How many tokens the term at p has, at most `len`.
-fn span_at(kinds: &[u32], vals: &[u32], p: u32, len: usize) -> usize
+fn span_at(tokens: &Tokens, p: u32, len: usize) -> usize
     ensures bound { result ≤ len }
-    ensures span { (t : Term) → Held kinds.now vals.now p t → length (items t) ≤ len → result ≡ length (items t) }
+    ensures span { (t : Term) → Held tokens.now.kinds.now tokens.now.vals.now p t → length (items t) ≤ len → result ≡ length (items t) }
 {
     let from = p as usize;
     let head = Token {
-        kind: word(kinds, from),
-        value: word(vals, from),
+        kind: word(tokens.kinds, from),
+        value: word(tokens.vals, from),
     };
     head.step().min(len)
 }
 
 // What order 19 looks up by: the places of a bare nominal and of the owner.
-fn given(kinds: &[u32], vals: &[u32], interface: u32, owner: u32) -> Origin
-    requires { (length vals.now ≡ length kinds.now) × (length kinds.now ≤ 32768) }
-    ensures sight { Sight kinds.now vals.now result }
+fn given(tokens: &Tokens, interface: u32, owner: u32) -> Origin
+    requires { length tokens.now.kinds.now ≤ 32768 }
+    ensures sight { Sight tokens.now.kinds.now tokens.now.vals.now result }
     ensures given { (i : Parts) (o : Term)
-        → Held kinds.now vals.now owner o
-        → Held kinds.now vals.now interface (node 20 i)
-        → HeldGiven kinds.now vals.now result i o }
+        → Held tokens.now.kinds.now tokens.now.vals.now owner o
+        → Held tokens.now.kinds.now tokens.now.vals.now interface (node 20 i)
+        → HeldGiven tokens.now.kinds.now tokens.now.vals.now result i o }
 {
-    let len = kinds.len();
-    let span = span_at(kinds, vals, owner, len);
-    let whole = span_at(kinds, vals, interface, len);
+    let len = tokens.kinds.len();
+    let span = span_at(tokens, owner, len);
+    let whole = span_at(tokens, interface, len);
     if whole == 0 {
         return Origin {
             owner,
@@ -202,8 +185,7 @@ fn given(kinds: &[u32], vals: &[u32], interface: u32, owner: u32) -> Origin
 
 // Order 20, `normalize`: the term at p is walked by the rules and sized. The rules are lent six words each.
 pub fn normalise(
-    kinds: &[u32],
-    vals: &[u32],
+    tokens: &Tokens,
     rules: &[u32],
     heads: &mut [u32],
     kids: &mut [u32],
@@ -211,16 +193,16 @@ pub fn normalise(
     out: &mut [u8],
     at: usize,
 ) -> Result<Ready, Unfinished>
-    requires lends { Lends kinds.now vals.now heads.old kids.old most }
+    requires lends { Lends tokens.now.kinds.now tokens.now.vals.now heads.old kids.old most }
     requires few { length rules.now < 4294967296 }
     requires place { at ≤ length out.old }
-    requires terms { RuledAt kinds.now vals.now rules.now p }
+    requires terms { RuledAt tokens.now.kinds.now tokens.now.vals.now rules.now p }
     ensures out { out.new ≡ out.old }
-    ensures leaves { Leaves kinds.now vals.now heads.old kids.old heads.new kids.new most result }
+    ensures leaves { Leaves tokens.now.kinds.now tokens.now.vals.now heads.old kids.old heads.new kids.new most result }
     ensures answers { (t : Term) (rs : List Pattern)
-        → Held kinds.now vals.now p t
-        → Ruled kinds.now vals.now rules.now 0 rs
-        → Answers kinds.now vals.now heads.new kids.new out.old at levels most
+        → Held tokens.now.kinds.now tokens.now.vals.now p t
+        → Ruled tokens.now.kinds.now tokens.now.vals.now rules.now 0 rs
+        → Answers tokens.now.kinds.now tokens.now.vals.now heads.new kids.new out.old at levels most
         (normalise levels visits (by_patterns rs) t) result }
 {
     let g = Origin {
@@ -230,15 +212,16 @@ pub fn normalise(
         row: 0,
         size: 0,
     };
-    run(
-        kinds, vals, rules, heads, kids, g, p, LEVELS, VISITS, MOST, out, at,
-    )
+    let seen = Seen {
+        tokens: *tokens,
+        given: g,
+    };
+    run(&seen, rules, heads, kids, p, LEVELS, VISITS, MOST, out, at)
 }
 
 // Order 19, `with_associated_types`: the term at p is walked by the interface and the owner, and sized.
 pub fn with_associated_types(
-    kinds: &[u32],
-    vals: &[u32],
+    tokens: &Tokens,
     heads: &mut [u32],
     kids: &mut [u32],
     p: u32,
@@ -247,26 +230,28 @@ pub fn with_associated_types(
     out: &mut [u8],
     at: usize,
 ) -> Result<Ready, Unfinished>
-    requires lends { Lends kinds.now vals.now heads.old kids.old most }
+    requires lends { Lends tokens.now.kinds.now tokens.now.vals.now heads.old kids.old most }
     requires place { at ≤ length out.old }
-    requires terms { OwnedAt kinds.now vals.now p interface owner }
+    requires terms { OwnedAt tokens.now.kinds.now tokens.now.vals.now p interface owner }
     ensures out { out.new ≡ out.old }
-    ensures leaves { Leaves kinds.now vals.now heads.old kids.old heads.new kids.new most result }
+    ensures leaves { Leaves tokens.now.kinds.now tokens.now.vals.now heads.old kids.old heads.new kids.new most result }
     ensures answers { (t : Term) (i : Parts) (o : Term)
-        → Held kinds.now vals.now p t
-        → Held kinds.now vals.now interface (node 20 i)
-        → Held kinds.now vals.now owner o
-        → Answers kinds.now vals.now heads.new kids.new out.old at levels most
+        → Held tokens.now.kinds.now tokens.now.vals.now p t
+        → Held tokens.now.kinds.now tokens.now.vals.now interface (node 20 i)
+        → Held tokens.now.kinds.now tokens.now.vals.now owner o
+        → Answers tokens.now.kinds.now tokens.now.vals.now heads.new kids.new out.old at levels most
         (normalise levels visits (through i o) t) result }
 {
-    let g = given(kinds, vals, interface, owner);
+    let g = given(tokens, interface, owner);
+    let seen = Seen {
+        tokens: *tokens,
+        given: g,
+    };
     run(
-        kinds,
-        vals,
-        &kinds[..0],
+        &seen,
+        &tokens.kinds[..0],
         heads,
         kids,
-        g,
         p,
         LEVELS,
         VISITS,
@@ -278,29 +263,31 @@ pub fn with_associated_types(
 
 // Writes what `normalise` or `with_associated_types` has kept at a position, clears its records, and returns the position after it.
 pub fn write_normalised(
-    kinds: &[u32],
-    vals: &[u32],
+    tokens: &Tokens,
     heads: &mut [u32],
     kids: &mut [u32],
     w: Ready,
     out: &mut [u8],
     at: usize,
 ) -> usize
-    requires sight { Sight kinds.now vals.now w.given }
+    requires sight { Sight tokens.now.kinds.now tokens.now.vals.now w.given }
     requires place { at ≤ length out.old }
-    requires kept { KeptAt kinds.now vals.now heads.old kids.old w levels out.old at }
+    requires kept { KeptAt tokens.now.kinds.now tokens.now.vals.now heads.old kids.old w levels out.old at }
     ensures areas { area heads.new kids.new ≡ blank (area heads.old kids.old) 0 w.next }
     ensures wrote { (u : Term)
-        → Stands kinds.now vals.now heads.old kids.old w levels u
+        → Stands tokens.now.kinds.now tokens.now.vals.now heads.old kids.old w levels u
         → at + length (bytes u) ≤ length out.old
         → (result ≡ at + length (bytes u)) × (out.new ≡ sets out.old at (bytes u)) }
 {
-    let g = w.given;
+    let seen = Seen {
+        tokens: *tokens,
+        given: w.given,
+    };
     let x = Content {
         head: w.head,
         kids: w.kids,
     };
-    let e = show_tree(kinds, vals, heads, kids, g, x, LEVELS + 1, out, at, true);
+    let e = show_tree(&seen, heads, kids, x, LEVELS + 1, out, at, true);
     clear_tokens(heads, kids, 0, w.next);
     if out.len() < e {
         return at;

@@ -12,7 +12,7 @@ ghost use Rattle.terms.specs.Words.QuestionsContract.{tag_of, word, Asking};
 
 use super::find::find_parameter;
 use super::runs::skip;
-use super::{Parameter, Question, runs};
+use super::{Parameter, Question, Tokens, runs};
 
 // The tag of the term whose first token has this kind.
 pub fn tag_of(k: u32) -> u32
@@ -82,8 +82,7 @@ pub fn word_at(vals: &[u32], i: usize, end: usize) -> u32
 
 // Whether a term that counts is among those that the question enters, in the row from a up to e.
 fn ask_row(
-    kinds: &[u32],
-    vals: &[u32],
+    tokens: &Tokens,
     a: usize,
     e: usize,
     question: Question,
@@ -91,29 +90,29 @@ fn ask_row(
     at: usize,
     params: u64,
 ) -> bool
-    requires { (a ≤ e) × (e ≤ length kinds.now) × (length vals.now ≡ length kinds.now) }
+    requires { (a ≤ e) × (e ≤ length tokens.now.kinds.now) }
     ensures { (qs : List Parameter) (n : ℕ)
         → parameters s.now params at ≡ got qs n
         → (whole : Bool)
-        → Asking kinds.now vals.now a e (counted qs (number_of_question question)) (entered (number_of_question question)) whole
+        → Asking tokens.now.kinds.now tokens.now.vals.now a e (counted qs (number_of_question question)) (entered (number_of_question question)) whole
         → result ≡ whole }
 {
     let mut p = a;
     while p < e {
-        let k = kinds[p];
+        let k = tokens.kinds[p];
         if k == 0 {
             p += 1;
         } else {
             let tag = tag_of(k);
-            let x = word_at(vals, p + 1, e);
-            let y = word_at(vals, p + 2, e);
+            let x = word_at(tokens.vals, p + 1, e);
+            let y = word_at(tokens.vals, p + 2, e);
             if counts(question, tag, x, y, s, at, params) {
                 return true;
             }
             if enters(question, tag) {
                 p += 1;
             } else {
-                p += skip(kinds, vals, p, e - p);
+                p += skip(tokens, p, e - p);
             }
         }
     }
@@ -121,25 +120,17 @@ fn ask_row(
 }
 
 // The same of the term at p. The parameters stand in the bytes, from `at` on; questions 0 to 6 look at none.
-pub fn ask(
-    kinds: &[u32],
-    vals: &[u32],
-    p: usize,
-    question: Question,
-    s: &[u8],
-    at: usize,
-    params: u64,
-) -> bool
-    requires place { (p < length kinds.now) × (length vals.now ≡ length kinds.now) }
-    requires term { FormedAt kinds.now vals.now p }
+pub fn ask(tokens: &Tokens, p: usize, question: Question, s: &[u8], at: usize, params: u64) -> bool
+    requires place { p < length tokens.now.kinds.now }
+    requires term { FormedAt tokens.now.kinds.now tokens.now.vals.now p }
     requires parameters { ParametersAt s.now params at }
     ensures { (qs : List Parameter) (n : ℕ)
         → parameters s.now params at ≡ got qs n
         → (t : Term)
-        → Held kinds.now vals.now p t
+        → Held tokens.now.kinds.now tokens.now.vals.now p t
         → Formed t
         → result ≡ asked qs (number_of_question question) t }
 {
-    let n = skip(kinds, vals, p, kinds.len() - p);
-    ask_row(kinds, vals, p, p + n, question, s, at, params)
+    let n = skip(tokens, p, tokens.kinds.len() - p);
+    ask_row(tokens, p, p + n, question, s, at, params)
 }

@@ -14,22 +14,23 @@ ghost use Rattle.terms.specs.Tree.{row};
 ghost use Rattle.terms.specs.Recovery.{recover_from, recover_row, reach, nominal_reach};
 ghost use Rattle.terms.specs.Words.RecoverContract.{Put, upto, alike, Paired, Parted};
 
+use super::Tokens;
 use super::questions::{tag_of, word_at};
 use super::runs::{skip, word};
 use super::write::put_run;
 
 // The place after n terms from i on, at most e.
-fn behind_terms(kinds: &[u32], vals: &[u32], i: usize, e: usize, n: u32) -> usize
-    requires { (i ≤ e) × (e ≤ length kinds.now) × (length vals.now ≡ length kinds.now) }
+fn behind_terms(tokens: &Tokens, i: usize, e: usize, n: u32) -> usize
+    requires { (i ≤ e) × (e ≤ length tokens.now.kinds.now) }
     ensures within { (i ≤ result) × (result ≤ e) }
-    ensures behind { (s : Shape) (ps : Parts) → HeldParts kinds.now vals.now i e ps → Fit (many_terms n s) ps → result ≡ i + upto n ps }
+    ensures behind { (s : Shape) (ps : Parts) → HeldParts tokens.now.kinds.now tokens.now.vals.now i e ps → Fit (many_terms n s) ps → result ≡ i + upto n ps }
 {
     let mut p = i;
     for k in 0..n {
         if e <= p {
             return p;
         }
-        p += skip(kinds, vals, p, e - p);
+        p += skip(tokens, p, e - p);
     }
     p
 }
@@ -53,25 +54,25 @@ fn paired(kinds: &[u32], i: usize, ae: usize, j: usize, be: usize) -> bool
 }
 
 // Whether two rows have the same numbers at the same places.
-fn alike_rows(kinds: &[u32], vals: &[u32], a: usize, ae: usize, b: usize, be: usize) -> bool
-    requires { (a ≤ ae) × (ae ≤ length kinds.now) × (b ≤ be) × (be ≤ length kinds.now) × (length vals.now ≡ length kinds.now) }
+fn alike_rows(tokens: &Tokens, a: usize, ae: usize, b: usize, be: usize) -> bool
+    requires { (a ≤ ae) × (ae ≤ length tokens.now.kinds.now) × (b ≤ be) × (be ≤ length tokens.now.kinds.now) }
     ensures { (ps qs : Parts)
-        → HeldParts kinds.now vals.now a ae ps
-        → HeldParts kinds.now vals.now b be qs
+        → HeldParts tokens.now.kinds.now tokens.now.vals.now a ae ps
+        → HeldParts tokens.now.kinds.now tokens.now.vals.now b be qs
         → result ≡ alike ps qs }
 {
     let mut i = a;
     let mut j = b;
-    while paired(kinds, i, ae, j, be) {
-        if word(kinds, i) == 0 {
-            if word(vals, i) != word(vals, j) {
+    while paired(tokens.kinds, i, ae, j, be) {
+        if word(tokens.kinds, i) == 0 {
+            if word(tokens.vals, i) != word(tokens.vals, j) {
                 return false;
             }
             i += 1;
             j += 1;
         } else {
-            i += skip(kinds, vals, i, ae - i);
-            j += skip(kinds, vals, j, be - j);
+            i += skip(tokens, i, ae - i);
+            j += skip(tokens, j, be - j);
         }
     }
     if i < ae {
@@ -81,23 +82,23 @@ fn alike_rows(kinds: &[u32], vals: &[u32], a: usize, ae: usize, b: usize, be: us
 }
 
 // How far the row of the nominal at p is recovered from the one at q, as a place.
-fn nominal_reach(kinds: &[u32], vals: &[u32], p: usize, pe: usize, q: usize, qe: usize) -> usize
-    requires { (p < pe) × (pe ≤ length kinds.now) × (q < qe) × (qe ≤ length kinds.now) × (length vals.now ≡ length kinds.now) }
+fn nominal_reach(tokens: &Tokens, p: usize, pe: usize, q: usize, qe: usize) -> usize
+    requires { (p < pe) × (pe ≤ length tokens.now.kinds.now) × (q < qe) × (qe ≤ length tokens.now.kinds.now) }
     ensures within { (p < result) × (result ≤ pe) }
     ensures reached { (k j : ℕ) (ps qs : Parts)
         → (k ≡ 1 → ⊥)
         → (j ≡ 1 → ⊥)
-        → HeldParts kinds.now vals.now p pe (sub (node k ps) end)
-        → HeldParts kinds.now vals.now q qe (sub (node j qs) end)
+        → HeldParts tokens.now.kinds.now tokens.now.vals.now p pe (sub (node k ps) end)
+        → HeldParts tokens.now.kinds.now tokens.now.vals.now q qe (sub (node j qs) end)
         → Fit (nominal done) ps
         → Fit (nominal done) qs
         → result ≡ p + 1 + upto (nominal_reach ps qs) ps }
 {
-    if word_at(vals, p + 1, pe) != word_at(vals, q + 1, qe) {
+    if word_at(tokens.vals, p + 1, pe) != word_at(tokens.vals, q + 1, qe) {
         return p + 1;
     }
-    let n = word_at(vals, p + 2, pe);
-    if n != word_at(vals, q + 2, qe) {
+    let n = word_at(tokens.vals, p + 2, pe);
+    if n != word_at(tokens.vals, q + 2, qe) {
         return p + 1;
     }
     if pe - p < 3 {
@@ -106,9 +107,9 @@ fn nominal_reach(kinds: &[u32], vals: &[u32], p: usize, pe: usize, q: usize, qe:
     if qe - q < 3 {
         return p + 1;
     }
-    let i = behind_terms(kinds, vals, p + 3, pe, n);
-    let j = behind_terms(kinds, vals, q + 3, qe, n);
-    if alike_rows(kinds, vals, i, pe, j, qe) {
+    let i = behind_terms(tokens, p + 3, pe, n);
+    let j = behind_terms(tokens, q + 3, qe, n);
+    if alike_rows(tokens, i, pe, j, qe) {
         return pe;
     }
     i
@@ -136,28 +137,28 @@ fn is_nominal(tag: u32) -> bool
 }
 
 // How far the row of the term at p is recovered from the one at q, as a place.
-fn reach_end(kinds: &[u32], vals: &[u32], p: usize, pe: usize, q: usize, qe: usize) -> usize
-    requires { (p < pe) × (pe ≤ length kinds.now) × (q < qe) × (qe ≤ length kinds.now) × (length vals.now ≡ length kinds.now) }
+fn reach_end(tokens: &Tokens, p: usize, pe: usize, q: usize, qe: usize) -> usize
+    requires { (p < pe) × (pe ≤ length tokens.now.kinds.now) × (q < qe) × (qe ≤ length tokens.now.kinds.now) }
     ensures within { (p < result) × (result ≤ pe) }
     ensures reached { (t u : Term)
-        → HeldParts kinds.now vals.now p pe (sub t end)
-        → HeldParts kinds.now vals.now q qe (sub u end)
+        → HeldParts tokens.now.kinds.now tokens.now.vals.now p pe (sub t end)
+        → HeldParts tokens.now.kinds.now tokens.now.vals.now q qe (sub u end)
         → Formed t
         → Formed u
         → result ≡ p + 1 + upto (reach t u) (row t) }
 {
-    let k = tag_of(word(kinds, p));
-    if k != tag_of(word(kinds, q)) {
+    let k = tag_of(word(tokens.kinds, p));
+    if k != tag_of(word(tokens.kinds, q)) {
         return p + 1;
     }
     if is_container(k) {
         return pe;
     }
     if has_first_number(k) {
-        return first_reach(vals, p, pe, q, qe);
+        return first_reach(tokens.vals, p, pe, q, qe);
     }
     if is_nominal(k) {
-        return nominal_reach(kinds, vals, p, pe, q, qe);
+        return nominal_reach(tokens, p, pe, q, qe);
     }
     p + 1
 }
@@ -191,8 +192,7 @@ fn stays(k: u32, l: u32) -> bool
 // Writes the term at p with its holes filled from the term at q where it fits, and returns the position after it.
 #[cycle(recovering)]
 fn recover_term(
-    kinds: &[u32],
-    vals: &[u32],
+    tokens: &Tokens,
     p: usize,
     pe: usize,
     q: usize,
@@ -200,33 +200,32 @@ fn recover_term(
     out: &mut [u8],
     at: usize,
 ) -> usize
-    requires places { (p < pe) × (pe ≤ length kinds.now) × (q < qe) × (qe ≤ length kinds.now) × (length vals.now ≡ length kinds.now) }
+    requires places { (p < pe) × (pe ≤ length tokens.now.kinds.now) × (q < qe) × (qe ≤ length tokens.now.kinds.now) }
     requires room { at + 6 * (pe - p) + 6 * (qe - q) < 2 ^ 64 }
     ensures bound { (at ≤ result) × (result ≤ at + 6 * (pe - p) + 6 * (qe - q)) }
     ensures put { (t u : Term)
-        → HeldParts kinds.now vals.now p pe (sub t end)
-        → HeldParts kinds.now vals.now q qe (sub u end)
+        → HeldParts tokens.now.kinds.now tokens.now.vals.now p pe (sub t end)
+        → HeldParts tokens.now.kinds.now tokens.now.vals.now q qe (sub u end)
         → Formed t
         → Formed u
         → Put out.old out.new at result (bytes (recover_from t u)) }
 {
-    let k = tag_of(word(kinds, p));
-    if stays(k, tag_of(word(kinds, q))) {
-        return put_run(kinds, vals, p, pe - p, out, at);
+    let k = tag_of(word(tokens.kinds, p));
+    if stays(k, tag_of(word(tokens.kinds, q))) {
+        return put_run(tokens.kinds, tokens.vals, p, pe - p, out, at);
     }
     if is_hole(k) {
-        return put_run(kinds, vals, q, qe - q, out, at);
+        return put_run(tokens.kinds, tokens.vals, q, qe - q, out, at);
     }
-    let stop = reach_end(kinds, vals, p, pe, q, qe);
-    let next = put_run(kinds, vals, p, 1, out, at);
-    recover_row(kinds, vals, p + 1, pe, stop, q + 1, qe, out, next)
+    let stop = reach_end(tokens, p, pe, q, qe);
+    let next = put_run(tokens.kinds, tokens.vals, p, 1, out, at);
+    recover_row(tokens, p + 1, pe, stop, q + 1, qe, out, next)
 }
 
 // The same of the row from p up to pe, as far as `stop`, from the row at q; the rest is written as it stands.
 #[cycle(recovering)]
 fn recover_row(
-    kinds: &[u32],
-    vals: &[u32],
+    tokens: &Tokens,
     p: usize,
     pe: usize,
     stop: usize,
@@ -235,12 +234,12 @@ fn recover_row(
     out: &mut [u8],
     at: usize,
 ) -> usize
-    requires places { (p ≤ stop) × (stop ≤ pe) × (pe ≤ length kinds.now) × (q ≤ qe) × (qe ≤ length kinds.now) × (length vals.now ≡ length kinds.now) }
+    requires places { (p ≤ stop) × (stop ≤ pe) × (pe ≤ length tokens.now.kinds.now) × (q ≤ qe) × (qe ≤ length tokens.now.kinds.now) }
     requires room { at + 6 * (pe - p) + 6 * (qe - q) < 2 ^ 64 }
     ensures bound { (at ≤ result) × (result ≤ at + 6 * (pe - p) + 6 * (qe - q)) }
     ensures put { (c : ℕ) (ps qs : Parts)
-        → HeldParts kinds.now vals.now p pe ps
-        → HeldParts kinds.now vals.now q qe qs
+        → HeldParts tokens.now.kinds.now tokens.now.vals.now p pe ps
+        → HeldParts tokens.now.kinds.now tokens.now.vals.now q qe qs
         → Subs Formed ps
         → Subs Formed qs
         → stop ≡ p + upto c ps
@@ -249,60 +248,53 @@ fn recover_row(
     let mut i = p;
     let mut j = q;
     let mut to = at;
-    while paired(kinds, i, stop, j, qe) {
-        if word(kinds, i) == 0 {
-            to = put_run(kinds, vals, i, 1, out, to);
+    while paired(tokens.kinds, i, stop, j, qe) {
+        if word(tokens.kinds, i) == 0 {
+            to = put_run(tokens.kinds, tokens.vals, i, 1, out, to);
             i += 1;
             j += 1;
         } else {
-            let n = skip(kinds, vals, i, pe - i);
-            let m = skip(kinds, vals, j, qe - j);
-            to = recover_term(kinds, vals, i, i + n, j, j + m, out, to);
+            let n = skip(tokens, i, pe - i);
+            let m = skip(tokens, j, qe - j);
+            to = recover_term(tokens, i, i + n, j, j + m, out, to);
             i += n;
             j += m;
         }
     }
-    put_run(kinds, vals, i, pe - i, out, to)
+    put_run(tokens.kinds, tokens.vals, i, pe - i, out, to)
 }
 
 // How many bytes `recover_from` of the terms at a and b has: where writing from 0 on ends, on an output of one byte.
-pub fn recovered_len(kinds: &[u32], vals: &[u32], a: usize, b: usize) -> usize
-    requires places { (a < length kinds.now) × (b < length kinds.now) × (length vals.now ≡ length kinds.now) }
-    requires room { 12 * length kinds.now < 2 ^ 64 }
-    requires terms { FormedAt kinds.now vals.now a × FormedAt kinds.now vals.now b }
+pub fn recovered_len(tokens: &Tokens, a: usize, b: usize) -> usize
+    requires places { (a < length tokens.now.kinds.now) × (b < length tokens.now.kinds.now) }
+    requires room { 12 * length tokens.now.kinds.now < 2 ^ 64 }
+    requires terms { FormedAt tokens.now.kinds.now tokens.now.vals.now a × FormedAt tokens.now.kinds.now tokens.now.vals.now b }
     ensures { (t u : Term)
-        → Held kinds.now vals.now a t
-        → Held kinds.now vals.now b u
+        → Held tokens.now.kinds.now tokens.now.vals.now a t
+        → Held tokens.now.kinds.now tokens.now.vals.now b u
         → Formed t
         → Formed u
         → result ≡ length (bytes (recover_from t u)) }
 {
-    let n = skip(kinds, vals, a, kinds.len() - a);
-    let m = skip(kinds, vals, b, kinds.len() - b);
+    let n = skip(tokens, a, tokens.kinds.len() - a);
+    let m = skip(tokens, b, tokens.kinds.len() - b);
     let mut none = [0u8; 1];
-    recover_term(kinds, vals, a, a + n, b, b + m, &mut none, 0)
+    recover_term(tokens, a, a + n, b, b + m, &mut none, 0)
 }
 
 // Writes `recover_from` of the terms at a and b, for which there is room, and returns the position after it.
-pub fn write_recovered(
-    kinds: &[u32],
-    vals: &[u32],
-    a: usize,
-    b: usize,
-    out: &mut [u8],
-    at: usize,
-) -> usize
-    requires places { (a < length kinds.now) × (b < length kinds.now) × (length vals.now ≡ length kinds.now) }
-    requires room { at + 12 * length kinds.now < 2 ^ 64 }
-    requires terms { RecoversAt kinds.now vals.now a b out.old at }
+pub fn write_recovered(tokens: &Tokens, a: usize, b: usize, out: &mut [u8], at: usize) -> usize
+    requires places { (a < length tokens.now.kinds.now) × (b < length tokens.now.kinds.now) }
+    requires room { at + 12 * length tokens.now.kinds.now < 2 ^ 64 }
+    requires terms { RecoversAt tokens.now.kinds.now tokens.now.vals.now a b out.old at }
     ensures { (t u : Term)
-        → Held kinds.now vals.now a t
-        → Held kinds.now vals.now b u
+        → Held tokens.now.kinds.now tokens.now.vals.now a t
+        → Held tokens.now.kinds.now tokens.now.vals.now b u
         → Formed t
         → Formed u
         → Put out.old out.new at result (bytes (recover_from t u)) }
 {
-    let n = skip(kinds, vals, a, kinds.len() - a);
-    let m = skip(kinds, vals, b, kinds.len() - b);
-    recover_term(kinds, vals, a, a + n, b, b + m, out, at)
+    let n = skip(tokens, a, tokens.kinds.len() - a);
+    let m = skip(tokens, b, tokens.kinds.len() - b);
+    recover_term(tokens, a, a + n, b, b + m, out, at)
 }

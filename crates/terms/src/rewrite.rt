@@ -12,7 +12,7 @@ ghost use Rattle.terms.specs.Words.RewriteContract.{Writes, Rewrites};
 use super::find::{find_entry, find_parameter, find_receiver, nth_term};
 use super::runs::{skip, word};
 use super::write::{run_len, write_run};
-use super::{Binders, Choice, Parameter};
+use super::{Binders, Choice, Parameter, Tokens};
 
 // What was found, or the term itself.
 fn taken(found: Option<usize>) -> Choice
@@ -22,41 +22,34 @@ fn taken(found: Option<usize>) -> Choice
 }
 
 // The argument for a parameter, where it is one.
-fn argument_for(
-    kinds: &[u32],
-    vals: &[u32],
-    s: &[u8],
-    b: Binders,
-    wanted: Parameter,
-) -> Option<usize>
-    requires { length vals.now ≡ length kinds.now }
-    ensures { result ≡ argument_for kinds.now vals.now b.arguments (index s.now b wanted) }
+fn argument_for(tokens: &Tokens, s: &[u8], b: Binders, wanted: Parameter) -> Option<usize>
+    ensures { result ≡ argument_for tokens.now.kinds.now tokens.now.vals.now b.arguments (index s.now b wanted) }
 {
     let k = find_parameter(s, b.parameters, b.count, wanted)?;
-    nth_term(kinds, vals, b.arguments, k)
+    nth_term(tokens, b.arguments, k)
 }
 
 // What takes the place of a Generic: the argument for a parameter, or an entry's term.
-fn generic_at(kinds: &[u32], vals: &[u32], s: &[u8], b: Binders, wanted: Parameter) -> Choice
-    requires { Ready kinds.now vals.now b }
-    ensures { result ≡ generic kinds.now vals.now s.now b wanted }
+fn generic_at(tokens: &Tokens, s: &[u8], b: Binders, wanted: Parameter) -> Choice
+    requires { Ready tokens.now.kinds.now tokens.now.vals.now b }
+    ensures { result ≡ generic tokens.now.kinds.now tokens.now.vals.now s.now b wanted }
 {
-    let a = argument_for(kinds, vals, s, b, wanted);
+    let a = argument_for(tokens, s, b, wanted);
     match a {
         Some(q) => Choice::By(q),
         None => {
-            let e = find_entry(kinds, vals, b.entries, b.receivers, wanted);
+            let e = find_entry(tokens, b.entries, b.receivers, wanted);
             taken(e)
         }
     }
 }
 
 // In a context: an entry's term, or Unknown for a parameter.
-fn context_at(kinds: &[u32], vals: &[u32], s: &[u8], b: Binders, wanted: Parameter) -> Choice
-    requires { Ready kinds.now vals.now b }
-    ensures { result ≡ in_context_of kinds.now vals.now s.now b wanted }
+fn context_at(tokens: &Tokens, s: &[u8], b: Binders, wanted: Parameter) -> Choice
+    requires { Ready tokens.now.kinds.now tokens.now.vals.now b }
+    ensures { result ≡ in_context_of tokens.now.kinds.now tokens.now.vals.now s.now b wanted }
 {
-    let e = find_entry(kinds, vals, b.entries, b.receivers, wanted);
+    let e = find_entry(tokens, b.entries, b.receivers, wanted);
     match e {
         Some(q) => Choice::By(q),
         None => {
@@ -70,83 +63,67 @@ fn context_at(kinds: &[u32], vals: &[u32], s: &[u8], b: Binders, wanted: Paramet
 }
 
 // What takes the place of a SelfType.
-fn self_at(kinds: &[u32], vals: &[u32], b: Binders, owner: u64) -> Choice
-    requires { Ready kinds.now vals.now b }
-    ensures { result ≡ self kinds.now vals.now b owner }
+fn self_at(tokens: &Tokens, b: Binders, owner: u64) -> Choice
+    requires { Ready tokens.now.kinds.now tokens.now.vals.now b }
+    ensures { result ≡ self tokens.now.kinds.now tokens.now.vals.now b owner }
 {
     if b.context {
         return Choice::Keep;
     }
-    let e = find_receiver(kinds, vals, b.receivers, b.finish, owner);
+    let e = find_receiver(tokens, b.receivers, b.finish, owner);
     taken(e)
 }
 
 // What takes the place of the term at p. Only the heads of Generic and SelfType are looked up.
-fn replaced_at(kinds: &[u32], vals: &[u32], s: &[u8], b: Binders, p: usize) -> Choice
-    requires areas { Ready kinds.now vals.now b }
-    requires place { p < length kinds.now }
-    ensures { result ≡ chosen kinds.now vals.now s.now b p }
+fn replaced_at(tokens: &Tokens, s: &[u8], b: Binders, p: usize) -> Choice
+    requires areas { Ready tokens.now.kinds.now tokens.now.vals.now b }
+    requires place { p < length tokens.now.kinds.now }
+    ensures { result ≡ chosen tokens.now.kinds.now tokens.now.vals.now s.now b p }
 {
-    let k = kinds[p];
+    let k = tokens.kinds[p];
     if k == 19 {
         let wanted = Parameter {
-            owner: u64::from(word(vals, p + 1)),
-            position: u64::from(word(vals, p + 2)),
+            owner: u64::from(word(tokens.vals, p + 1)),
+            position: u64::from(word(tokens.vals, p + 2)),
         };
         if b.context {
-            return context_at(kinds, vals, s, b, wanted);
+            return context_at(tokens, s, b, wanted);
         }
-        return generic_at(kinds, vals, s, b, wanted);
+        return generic_at(tokens, s, b, wanted);
     }
     if k == 21 {
-        let owner = u64::from(word(vals, p + 1));
-        return self_at(kinds, vals, b, owner);
+        let owner = u64::from(word(tokens.vals, p + 1));
+        return self_at(tokens, b, owner);
     }
     Choice::Keep
 }
 
 // Writes a run of tokens, or only counts its bytes. A trait with a sink that writes and one that counts is no plainer: its laws say of each what `pick on` says
 // of both, and each function up to the orders would take a type for `on`.
-fn emit_run(
-    kinds: &[u32],
-    vals: &[u32],
-    from: usize,
-    count: usize,
-    out: &mut [u8],
-    i: usize,
-    on: bool,
-) -> usize
-    requires run { (from + count ≤ length kinds.now) × (from + count ≤ length vals.now) }
-    requires space { Space on i (length (spelt kinds.now vals.now from count)) (length out.old) }
-    ensures next { result ≡ i + length (spelt kinds.now vals.now from count) }
-    ensures wrote { out.new ≡ pick on (sets out.old i (spelt kinds.now vals.now from count)) out.old }
+fn emit_run(tokens: &Tokens, from: usize, count: usize, out: &mut [u8], i: usize, on: bool) -> usize
+    requires run { (from + count ≤ length tokens.now.kinds.now) × (from + count ≤ length tokens.now.vals.now) }
+    requires space { Space on i (length (spelt tokens.now.kinds.now tokens.now.vals.now from count)) (length out.old) }
+    ensures next { result ≡ i + length (spelt tokens.now.kinds.now tokens.now.vals.now from count) }
+    ensures wrote { out.new ≡ pick on (sets out.old i (spelt tokens.now.kinds.now tokens.now.vals.now from count)) out.old }
 {
     if on {
-        return write_run(kinds, vals, from, count, out, i);
+        return write_run(tokens.kinds, tokens.vals, from, count, out, i);
     }
-    i + run_len(kinds, vals, from, count)
+    i + run_len(tokens.kinds, tokens.vals, from, count)
 }
 
 // Writes what takes the place of the term at p, or only counts its bytes.
-fn emit(
-    kinds: &[u32],
-    vals: &[u32],
-    c: Choice,
-    p: usize,
-    out: &mut [u8],
-    i: usize,
-    on: bool,
-) -> usize
-    requires areas { (p < length kinds.now) × (length vals.now ≡ length kinds.now) × Inside kinds.now c }
-    requires space { Space on i (length (piece kinds.now vals.now p c)) (length out.old) }
-    ensures next { result ≡ i + length (piece kinds.now vals.now p c) }
-    ensures wrote { out.new ≡ pick on (sets out.old i (piece kinds.now vals.now p c)) out.old }
+fn emit(tokens: &Tokens, c: Choice, p: usize, out: &mut [u8], i: usize, on: bool) -> usize
+    requires areas { (p < length tokens.now.kinds.now) × Inside tokens.now.kinds.now c }
+    requires space { Space on i (length (piece tokens.now.kinds.now tokens.now.vals.now p c)) (length out.old) }
+    ensures next { result ≡ i + length (piece tokens.now.kinds.now tokens.now.vals.now p c) }
+    ensures wrote { out.new ≡ pick on (sets out.old i (piece tokens.now.kinds.now tokens.now.vals.now p c)) out.old }
 {
     match c {
-        Choice::Keep => emit_run(kinds, vals, p, 1, out, i, on),
+        Choice::Keep => emit_run(tokens, p, 1, out, i, on),
         Choice::By(q) => {
-            let n = skip(kinds, vals, q, kinds.len() - q);
-            emit_run(kinds, vals, q, n, out, i, on)
+            let n = skip(tokens, q, tokens.kinds.len() - q);
+            emit_run(tokens, q, n, out, i, on)
         }
         Choice::Unknown => {
             if on {
@@ -159,22 +136,21 @@ fn emit(
 }
 
 // How many tokens from p on it stands for.
-fn pace(kinds: &[u32], vals: &[u32], c: Choice, p: usize, end: usize) -> usize
-    requires { (p < end) × (end ≤ length kinds.now) × (length vals.now ≡ length kinds.now) }
-    ensures { result ≡ pace kinds.now vals.now p end c }
+fn pace(tokens: &Tokens, c: Choice, p: usize, end: usize) -> usize
+    requires { (p < end) × (end ≤ length tokens.now.kinds.now) }
+    ensures { result ≡ pace tokens.now.kinds.now tokens.now.vals.now p end c }
 {
     match c {
         Choice::Keep => 1,
-        Choice::By(_) => skip(kinds, vals, p, end - p),
-        Choice::Unknown => skip(kinds, vals, p, end - p),
+        Choice::By(_) => skip(tokens, p, end - p),
+        Choice::Unknown => skip(tokens, p, end - p),
     }
 }
 
 // Writes the `count` tokens from `from` on at a position of `out`, with the binders replaced, and returns the position after them; or, where it is not
 // `on`, only counts.
 pub fn rewrite_run(
-    kinds: &[u32],
-    vals: &[u32],
+    tokens: &Tokens,
     s: &[u8],
     b: Binders,
     from: usize,
@@ -183,28 +159,27 @@ pub fn rewrite_run(
     at: usize,
     on: bool,
 ) -> usize
-    requires areas { Ready kinds.now vals.now b }
-    requires run { from + count ≤ length kinds.now }
-    requires space { Space on at (length (rewritten kinds.now vals.now s.now b from count)) (length out.old) }
-    ensures next { result ≡ at + length (rewritten kinds.now vals.now s.now b from count) }
+    requires areas { Ready tokens.now.kinds.now tokens.now.vals.now b }
+    requires run { from + count ≤ length tokens.now.kinds.now }
+    requires space { Space on at (length (rewritten tokens.now.kinds.now tokens.now.vals.now s.now b from count)) (length out.old) }
+    ensures next { result ≡ at + length (rewritten tokens.now.kinds.now tokens.now.vals.now s.now b from count) }
     ensures wrote { out.new
-        ≡ pick on (sets out.old at (rewritten kinds.now vals.now s.now b from count)) out.old }
+        ≡ pick on (sets out.old at (rewritten tokens.now.kinds.now tokens.now.vals.now s.now b from count)) out.old }
 {
     let end = from + count;
     let mut i = at;
     let mut p = from;
     while p < end {
-        let c = replaced_at(kinds, vals, s, b, p);
-        i = emit(kinds, vals, c, p, out, i, on);
-        p += pace(kinds, vals, c, p, end);
+        let c = replaced_at(tokens, s, b, p);
+        i = emit(tokens, c, p, out, i, on);
+        p += pace(tokens, c, p, end);
     }
     i
 }
 
 // Writes the term at a place at a position of `out`, with the binders replaced, and returns the position after it; or, where it is not `on`, only counts.
 pub fn write_term(
-    kinds: &[u32],
-    vals: &[u32],
+    tokens: &Tokens,
     s: &[u8],
     b: Binders,
     from: usize,
@@ -212,12 +187,12 @@ pub fn write_term(
     at: usize,
     on: bool,
 ) -> usize
-    requires areas { Ready kinds.now vals.now b }
-    requires place { from < length kinds.now }
-    requires space { Space on at (length (written kinds.now vals.now s.now b from)) (length out.old) }
-    ensures words { Writes on out.old at result out.new (written kinds.now vals.now s.now b from) }
-    ensures trees { Rewrites kinds.now vals.now s.now b from (Writes on out.old at result out.new) }
+    requires areas { Ready tokens.now.kinds.now tokens.now.vals.now b }
+    requires place { from < length tokens.now.kinds.now }
+    requires space { Space on at (length (written tokens.now.kinds.now tokens.now.vals.now s.now b from)) (length out.old) }
+    ensures words { Writes on out.old at result out.new (written tokens.now.kinds.now tokens.now.vals.now s.now b from) }
+    ensures trees { Rewrites tokens.now.kinds.now tokens.now.vals.now s.now b from (Writes on out.old at result out.new) }
 {
-    let n = skip(kinds, vals, from, kinds.len() - from);
-    rewrite_run(kinds, vals, s, b, from, n, out, at, on)
+    let n = skip(tokens, from, tokens.kinds.len() - from);
+    rewrite_run(tokens, s, b, from, n, out, at, on)
 }

@@ -1,4 +1,5 @@
 // The row of a node by place: its numbers, its members' keys, its children.
+ghost use Rattle.terms.specs.Words.Lent.{shown};
 ghost use Rattle.std.specs.Prelude.{◌≡◌, Bool, ℕ, ◌-◌, ◌<◌, get_or};
 ghost use Rattle.std.specs.Iterator.{at_most};
 ghost use Rattle.std.proofs.Math.ListN.{get_elem?};
@@ -10,18 +11,17 @@ ghost use Rattle.terms.specs.Words.RowsContract.{Moves};
 
 use super::runs::word;
 use super::virtual_tokens::token_at;
-use super::{Content, Origin, Part, RowWalk, Token};
+use super::{Content, Origin, Part, RowWalk, Seen, Token};
 
 // A place past all tokens.
 const NOWHERE: usize = 4294967295;
 
 // The row of the term whose first token stands at h.
-pub fn row_of(kinds: &[u32], vals: &[u32], g: Origin, h: u32) -> Part
-    requires { Sight kinds.now vals.now g }
-    ensures { RowAt (view kinds.now vals.now g) h result.from result.end }
+pub fn row_of(seen: &Seen, h: u32) -> Part
+    ensures { RowAt (shown seen.now) h result.from result.end }
 {
     let p = h as usize;
-    let end = p + token_at(kinds, vals, g, p).step();
+    let end = p + token_at(seen, p).step();
     if NOWHERE < end {
         return Part {
             from: p + 1,
@@ -34,7 +34,7 @@ pub fn row_of(kinds: &[u32], vals: &[u32], g: Origin, h: u32) -> Part
 impl<'a> Iterator for RowWalk<'a> {
     type Item = (usize, Token);
 
-    ghost can_next = { λ s. Sight s.kinds.now s.vals.now s.given × (s.end < 4294967296) };
+    ghost can_next = { λ s. s.end < 4294967296 };
 
     ghost next_gives = { Moves };
 
@@ -45,35 +45,31 @@ impl<'a> Iterator for RowWalk<'a> {
         if self.end <= at {
             return None;
         }
-        let token = token_at(self.kinds, self.vals, self.given, at);
+        let token = token_at(&self.seen, at);
         self.at += token.step();
         Some((at, token))
     }
 }
 
 // The walk over the row of the term whose first token stands at h.
-pub fn walk_row<'a>(kinds: &'a [u32], vals: &'a [u32], g: Origin, h: u32) -> RowWalk<'a>
-    requires { Sight kinds.now vals.now g }
-    ensures row { RowAt (view kinds.now vals.now g) h result.at result.end }
-    ensures tokens { (result.kinds.now ≡ kinds.now) × (result.vals.now ≡ vals.now) × (result.given ≡ g) }
+pub fn walk_row<'a>(seen: &Seen<'a>, h: u32) -> RowWalk<'a>
+    ensures row { RowAt (shown seen.now) h result.at result.end }
+    ensures seen { result.seen ≡ seen.now }
 {
-    let row = row_of(kinds, vals, g, h);
+    let row = row_of(seen, h);
     RowWalk {
-        kinds,
-        vals,
-        given: g,
+        seen: *seen,
         at: row.from,
         end: row.end,
     }
 }
 
 // Where the i-th number of the row stands.
-pub fn number_place(kinds: &[u32], vals: &[u32], g: Origin, h: u32, i: usize) -> usize
-    requires { Sight kinds.now vals.now g }
-    ensures { NumberAt (view kinds.now vals.now g) h i result }
+pub fn number_place(seen: &Seen, h: u32, i: usize) -> usize
+    ensures { NumberAt (shown seen.now) h i result }
 {
     let mut left = i;
-    for (q, x) in walk_row(kinds, vals, g, h) {
+    for (q, x) in walk_row(seen, h) {
         if x.kind == 0 {
             if left == 0 {
                 return q;
@@ -85,23 +81,21 @@ pub fn number_place(kinds: &[u32], vals: &[u32], g: Origin, h: u32, i: usize) ->
 }
 
 // The i-th number of the row, 0 where it has not so many.
-pub fn number_at(kinds: &[u32], vals: &[u32], g: Origin, h: u32, i: usize) -> usize
-    requires { Sight kinds.now vals.now g }
+pub fn number_at(seen: &Seen, h: u32, i: usize) -> usize
     ensures small { result < 4294967296 }
-    ensures value { ValueAt (view kinds.now vals.now g) h i result }
+    ensures value { ValueAt (shown seen.now) h i result }
 {
-    let p = number_place(kinds, vals, g, h, i);
-    let x = token_at(kinds, vals, g, p);
+    let p = number_place(seen, h, i);
+    let x = token_at(seen, p);
     x.value as usize
 }
 
 // Which number from the third on is x, counted from there.
-pub fn key_at(kinds: &[u32], vals: &[u32], g: Origin, h: u32, x: u32) -> Option<usize>
-    requires { Sight kinds.now vals.now g }
-    ensures { KeyOf (view kinds.now vals.now g) h x result }
+pub fn key_at(seen: &Seen, h: u32, x: u32) -> Option<usize>
+    ensures { KeyOf (shown seen.now) h x result }
 {
     let mut k = 0;
-    for (_, y) in walk_row(kinds, vals, g, h) {
+    for (_, y) in walk_row(seen, h) {
         if y.kind == 0 {
             if y.value == x {
                 if 3 <= k {
@@ -134,22 +128,13 @@ pub fn child_here(heads: &[u32], kids: &[u32], c: u32, q: usize, i: usize) -> Co
 }
 
 // The content of the i-th child, in byte order.
-pub fn child_at(
-    kinds: &[u32],
-    vals: &[u32],
-    heads: &[u32],
-    kids: &[u32],
-    g: Origin,
-    x: Content,
-    i: usize,
-) -> Option<Content>
-    requires { Sight kinds.now vals.now g }
+pub fn child_at(seen: &Seen, heads: &[u32], kids: &[u32], x: Content, i: usize) -> Option<Content>
     ensures { (S : ℕ → Bool) (t : Term)
-        → Tree (view kinds.now vals.now g) heads.now kids.now S x.head x.kids t
-        → Fetched (view kinds.now vals.now g) heads.now kids.now S (get_elem? (children t) i) result }
+        → Tree (shown seen.now) heads.now kids.now S x.head x.kids t
+        → Fetched (shown seen.now) heads.now kids.now S (get_elem? (children t) i) result }
 {
     let mut n = 0;
-    for (q, y) in walk_row(kinds, vals, g, x.head) {
+    for (q, y) in walk_row(seen, x.head) {
         if y.kind != 0 {
             if n == i {
                 return Some(child_here(heads, kids, x.kids, q, n));

@@ -1,6 +1,6 @@
 // The rules of order 20.
+ghost use Rattle.terms.specs.Words.Lent.{shown};
 ghost use Rattle.std.specs.Prelude.{◌≡◌, Bool, true, false, List, ℕ, ◌+◌, ◌*◌, ◌≤◌, ◌<◌, length, get_or};
-ghost use Rattle.terms.specs.Words.VirtualTokens.{view, Sight};
 ghost use Rattle.terms.specs.Term.{Term, depths};
 ghost use Rattle.terms.specs.Tree.{row};
 ghost use Rattle.terms.specs.Lookup.{Pattern, by_patterns, Ruled};
@@ -10,7 +10,7 @@ ghost use Rattle.terms.specs.Words.RulesContract.{TermStarts, Numbers, Fronted, 
 use super::alike::{cursor, moved, same_rows};
 use super::rule_list::{next_rule, rule_at};
 use super::virtual_tokens::token_at;
-use super::{Content, Cursor, Origin, RowWalk, Rule};
+use super::{Content, Cursor, Origin, RowWalk, Rule, Seen};
 
 // A place past all tokens.
 const NOWHERE: usize = 4294967295;
@@ -23,12 +23,11 @@ pub fn source(p: u32) -> Content
 }
 
 // The term at p as a row of its own.
-fn term_cursor(kinds: &[u32], vals: &[u32], g: Origin, p: usize) -> Cursor
-    requires sight { Sight kinds.now vals.now g }
+fn term_cursor(seen: &Seen, p: usize) -> Cursor
     requires small { p < 4294967296 }
-    ensures { TermStarts (view kinds.now vals.now g) p result }
+    ensures { TermStarts (shown seen.now) p result }
 {
-    let end = p + token_at(kinds, vals, g, p).step();
+    let end = p + token_at(seen, p).step();
     if NOWHERE < end {
         return Cursor {
             at: p,
@@ -46,21 +45,20 @@ fn term_cursor(kinds: &[u32], vals: &[u32], g: Origin, p: usize) -> Cursor
 }
 
 // Whether the number m stands at a place of a row that ends at `end`.
-fn number_next(kinds: &[u32], vals: &[u32], g: Origin, at: usize, end: usize, m: u32) -> bool
-    requires { Sight kinds.now vals.now g }
+fn number_next(seen: &Seen, at: usize, end: usize, m: u32) -> bool
     ensures yes { result ≡ true
-        → (at < end) × (get_or (view kinds.now vals.now g).kinds at 0 ≡ 0)
-        × (get_or (view kinds.now vals.now g).vals at 0 ≡ m) }
+        → (at < end) × (get_or (shown seen.now).kinds at 0 ≡ 0)
+        × (get_or (shown seen.now).vals at 0 ≡ m) }
     ensures no { result ≡ false
         → at < end
-        → get_or (view kinds.now vals.now g).kinds at 0 ≡ 0
-        → get_or (view kinds.now vals.now g).vals at 0 ≡ m
+        → get_or (shown seen.now).kinds at 0 ≡ 0
+        → get_or (shown seen.now).vals at 0 ≡ m
         → ⊥ }
 {
     if end <= at {
         return false;
     }
-    let a = token_at(kinds, vals, g, at);
+    let a = token_at(seen, at);
     if a.kind != 0 {
         return false;
     }
@@ -68,23 +66,15 @@ fn number_next(kinds: &[u32], vals: &[u32], g: Origin, at: usize, end: usize, m:
 }
 
 // Whether two numbers come next in a row, and the place after them.
-fn two_numbers(
-    kinds: &[u32],
-    vals: &[u32],
-    g: Origin,
-    x: Cursor,
-    m: u32,
-    n: u32,
-) -> Option<(usize, usize)>
-    requires sight { Sight kinds.now vals.now g }
+fn two_numbers(seen: &Seen, x: Cursor, m: u32, n: u32) -> Option<(usize, usize)>
     requires cut { Cut x }
-    ensures { Numbers (view kinds.now vals.now g) x m n result }
+    ensures { Numbers (shown seen.now) x m n result }
 {
     let at = x.at;
-    if !number_next(kinds, vals, g, at, x.end, m) {
+    if !number_next(seen, at, x.end, m) {
         return None;
     }
-    if !number_next(kinds, vals, g, at + 1, x.end, n) {
+    if !number_next(seen, at + 1, x.end, n) {
         return None;
     }
     Some((at + 2, x.child))
@@ -92,37 +82,31 @@ fn two_numbers(
 
 // Whether a row begins with what a rule has before its arguments, and the place after that.
 fn same_front(
-    kinds: &[u32],
-    vals: &[u32],
+    seen: &Seen,
     heads: &[u32],
     kids: &[u32],
-    g: Origin,
     x: Cursor,
     rule: Rule,
     fuel: usize,
 ) -> Option<(usize, usize)>
-    requires sight { Sight kinds.now vals.now g }
     requires cut { Cut x }
-    ensures { Fronted kinds.now vals.now (view kinds.now vals.now g) heads.now kids.now x rule fuel
+    ensures { Fronted seen.now.tokens.kinds.now seen.now.tokens.vals.now (shown seen.now) heads.now kids.now x rule fuel
         result }
 {
-    let receiver = term_cursor(kinds, vals, g, rule.receiver as usize);
-    let (p, i) = same_rows(kinds, vals, heads, kids, g, x, receiver, fuel)?;
-    let interface = cursor(kinds, vals, g, source(rule.interface));
-    let (q, j) = same_rows(kinds, vals, heads, kids, g, moved(x, p, i), interface, fuel)?;
-    two_numbers(kinds, vals, g, moved(x, q, j), rule.member, rule.count)
+    let receiver = term_cursor(seen, rule.receiver as usize);
+    let (p, i) = same_rows(seen, heads, kids, x, receiver, fuel)?;
+    let interface = cursor(seen, source(rule.interface));
+    let (q, j) = same_rows(seen, heads, kids, moved(x, p, i), interface, fuel)?;
+    two_numbers(seen, moved(x, q, j), rule.member, rule.count)
 }
 
 // The last number but one of a row: of a projection's, its member.
-fn member_in(kinds: &[u32], vals: &[u32], g: Origin, x: Cursor) -> u32
-    requires sight { Sight kinds.now vals.now g }
+fn member_in(seen: &Seen, x: Cursor) -> u32
     requires cut { Cut x }
-    ensures { MemberIn (view kinds.now vals.now g) x result }
+    ensures { MemberIn (shown seen.now) x result }
 {
     let row = RowWalk {
-        kinds,
-        vals,
-        given: g,
+        seen: *seen,
         at: x.at,
         end: x.end,
     };
@@ -140,25 +124,22 @@ fn member_in(kinds: &[u32], vals: &[u32], g: Origin, x: Cursor) -> u32
 // The value of the first rule whose four parts equal those of a projection; its children have at most `fuel` levels. The member is
 // looked for first, in the list of the rules; rule and argument walk are left together at the match.
 pub fn find_rule(
-    kinds: &[u32],
-    vals: &[u32],
+    seen: &Seen,
     rules: &[u32],
     heads: &[u32],
     kids: &[u32],
-    g: Origin,
     x: Content,
     fuel: usize,
 ) -> Option<Content>
-    requires sight { Sight kinds.now vals.now g }
     requires few { length rules.now < 4294967296 }
     ensures { (S : ℕ → Bool) (t : Term) (rs : List Pattern)
-        → Tree (view kinds.now vals.now g) heads.now kids.now S x.head x.kids t
+        → Tree (shown seen.now) heads.now kids.now S x.head x.kids t
         → depths (row t) ≤ fuel
-        → Ruled kinds.now vals.now rules.now 0 rs
-        → Fetched (view kinds.now vals.now g) heads.now kids.now S (by_patterns rs (row t)) result }
+        → Ruled seen.now.tokens.kinds.now seen.now.tokens.vals.now rules.now 0 rs
+        → Fetched (shown seen.now) heads.now kids.now S (by_patterns rs (row t)) result }
 {
-    let s = cursor(kinds, vals, g, x);
-    let member = member_in(kinds, vals, g, s);
+    let s = cursor(seen, x);
+    let member = member_in(seen, s);
     let count = rules.len() / 6;
     let mut r = 0;
     'rules: loop {
@@ -167,7 +148,7 @@ pub fn find_rule(
             return None;
         }
         let rule = rule_at(rules, r);
-        let mut m = same_front(kinds, vals, heads, kids, g, s, rule, fuel);
+        let mut m = same_front(seen, heads, kids, s, rule, fuel);
         let mut a = rule.arguments as usize;
         let mut left = rule.count;
         loop {
@@ -180,8 +161,8 @@ pub fn find_rule(
                 }
                 break;
             }
-            let argument = term_cursor(kinds, vals, g, a);
-            m = same_rows(kinds, vals, heads, kids, g, moved(s, p, i), argument, fuel);
+            let argument = term_cursor(seen, a);
+            m = same_rows(seen, heads, kids, moved(s, p, i), argument, fuel);
             a = argument.end;
             left -= 1;
         }

@@ -6,7 +6,7 @@ ghost use Rattle.terms.specs.Words.Held.{Held, span};
 ghost use Rattle.terms.specs.Tree.{same};
 ghost use Rattle.terms.specs.Words.FindContract.{stride};
 
-use super::Token;
+use super::{Token, Tokens};
 
 // The word at i, 0 past the end.
 pub fn word(words: &[u32], i: usize) -> u32
@@ -39,16 +39,16 @@ impl Token {
 }
 
 // How many tokens the term at i has, at least 1 and at most `room`.
-pub fn skip(kinds: &[u32], vals: &[u32], i: usize, room: usize) -> usize
-    requires { (i < length kinds.now) × (length vals.now ≡ length kinds.now) × (1 ≤ room) }
+pub fn skip(tokens: &Tokens, i: usize, room: usize) -> usize
+    requires { (i < length tokens.now.kinds.now) × (1 ≤ room) }
     ensures some { (1 ≤ result) × (result ≤ room) }
-    ensures span { 1 ≤ span (get_or kinds.now i 0) (get_or vals.now i 0) → span (get_or kinds.now i 0) (get_or vals.now i 0) ≤ room
-        → result ≡ span (get_or kinds.now i 0) (get_or vals.now i 0) }
-    ensures is { result ≡ stride kinds.now vals.now i room }
+    ensures span { 1 ≤ span (get_or tokens.now.kinds.now i 0) (get_or tokens.now.vals.now i 0) → span (get_or tokens.now.kinds.now i 0) (get_or tokens.now.vals.now i 0) ≤ room
+        → result ≡ span (get_or tokens.now.kinds.now i 0) (get_or tokens.now.vals.now i 0) }
+    ensures is { result ≡ stride tokens.now.kinds.now tokens.now.vals.now i room }
 {
     let head = Token {
-        kind: kinds[i],
-        value: vals[i],
+        kind: tokens.kinds[i],
+        value: tokens.vals[i],
     };
     head.span().clamp(1, room)
 }
@@ -72,14 +72,14 @@ pub fn same_run(kinds: &[u32], vals: &[u32], a: usize, b: usize, count: usize) -
 }
 
 // Whether the terms at a and b are the same.
-pub fn same_term(kinds: &[u32], vals: &[u32], a: usize, b: usize) -> bool
-    requires { (a < length kinds.now) × (b < length kinds.now) × (length vals.now ≡ length kinds.now) }
-    ensures { (t u : Term) → Held kinds.now vals.now a t → Held kinds.now vals.now b u → result ≡ same t u }
+pub fn same_term(tokens: &Tokens, a: usize, b: usize) -> bool
+    requires { (a < length tokens.now.kinds.now) × (b < length tokens.now.kinds.now) }
+    ensures { (t u : Term) → Held tokens.now.kinds.now tokens.now.vals.now a t → Held tokens.now.kinds.now tokens.now.vals.now b u → result ≡ same t u }
 {
-    let n = skip(kinds, vals, a, kinds.len() - a);
-    let m = skip(kinds, vals, b, kinds.len() - b);
+    let n = skip(tokens, a, tokens.kinds.len() - a);
+    let m = skip(tokens, b, tokens.kinds.len() - b);
     if n != m {
         return false;
     }
-    same_run(kinds, vals, a, b, n)
+    same_run(tokens.kinds, tokens.vals, a, b, n)
 }

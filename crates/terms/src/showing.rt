@@ -1,7 +1,7 @@
 // Tokens and contents are sized, or written where `on`. What is returned is the position after them, or, where they do not fit, one past the end of `out`.
+ghost use Rattle.terms.specs.Words.Lent.{shown};
 ghost use Rattle.std.specs.Prelude.{◌≡◌, Bool, ℕ, ◌+◌, ◌≤◌, ◌<◌, length};
 ghost use Rattle.terms.specs.Words.TokenBytes.{plain, spelt};
-ghost use Rattle.terms.specs.Words.VirtualTokens.{view, Sight};
 ghost use Rattle.terms.specs.Term.{Term, Parts, depth, depths, bytes, part_bytes};
 ghost use Rattle.terms.specs.Words.Arena.{Tree, From, Cut};
 ghost use Rattle.terms.specs.Words.ShowingContract.{Shows, Kept};
@@ -10,7 +10,7 @@ use super::alike::cursor;
 use super::rows::child_here;
 use super::virtual_tokens::token_at;
 use super::write::{run_len, token_len, write_run, write_token};
-use super::{Content, Cursor, Origin, RowWalk, Token};
+use super::{Content, Cursor, Origin, RowWalk, Seen, Token};
 
 // One token. `on` is a flag and no type, as in `emit_run`: what is sized and what is written are the same but for the last step.
 fn show_token(out: &mut [u8], at: usize, x: Token, on: bool) -> usize
@@ -60,30 +60,28 @@ fn show_flat(
 }
 
 // The `count` tokens from `from` on, by `show_flat` where all are lent.
-fn show_run(
-    kinds: &[u32],
-    vals: &[u32],
-    g: Origin,
-    from: usize,
-    count: usize,
-    out: &mut [u8],
-    at: usize,
-    on: bool,
-) -> usize
-    requires sight { Sight kinds.now vals.now g }
+fn show_run(seen: &Seen, from: usize, count: usize, out: &mut [u8], at: usize, on: bool) -> usize
     requires small { (from < 4294967296) × (count < 4294967296) }
     requires room { at ≤ length out.old }
     ensures kept { Kept on out.old out.new at result }
     ensures shows { Shows on out.old out.new at
-        (spelt (view kinds.now vals.now g).kinds (view kinds.now vals.now g).vals from count) result }
+        (spelt (shown seen.now).kinds (shown seen.now).vals from count) result }
 {
     let end = from + count;
-    if end <= kinds.len() {
-        return show_flat(kinds, vals, from, count, out, at, on);
+    if end <= seen.tokens.kinds.len() {
+        return show_flat(
+            seen.tokens.kinds,
+            seen.tokens.vals,
+            from,
+            count,
+            out,
+            at,
+            on,
+        );
     }
     let mut i = at;
     for q in from..end {
-        i = show_token(out, i, token_at(kinds, vals, g, q), on);
+        i = show_token(out, i, token_at(seen, q), on);
         if out.len() < i {
             return i;
         }
@@ -94,30 +92,25 @@ fn show_run(
 // The parts of a row from a place on; its children have at most `fuel` levels.
 #[cycle(showing_trees)]
 fn show_row(
-    kinds: &[u32],
-    vals: &[u32],
+    seen: &Seen,
     heads: &[u32],
     kids: &[u32],
-    g: Origin,
     c: Cursor,
     fuel: usize,
     out: &mut [u8],
     at: usize,
     on: bool,
 ) -> usize
-    requires sight { Sight kinds.now vals.now g }
     requires cut { Cut c }
     requires room { at ≤ length out.old }
     ensures kept { Kept on out.old out.new at result }
     ensures shows { (S : ℕ → Bool) (ps : Parts)
-        → From (view kinds.now vals.now g) heads.now kids.now S c ps
+        → From (shown seen.now) heads.now kids.now S c ps
         → depths ps ≤ fuel
         → Shows on out.old out.new at (part_bytes ps) result }
 {
     let row = RowWalk {
-        kinds,
-        vals,
-        given: g,
+        seen: *seen,
         at: c.at,
         end: c.end,
     };
@@ -131,7 +124,7 @@ fn show_row(
             i = show_token(out, i, y, on);
         } else {
             let z = child_here(heads, kids, c.kids, q, n);
-            i = show_tree(kinds, vals, heads, kids, g, z, fuel, out, i, on);
+            i = show_tree(seen, heads, kids, z, fuel, out, i, on);
             n += 1;
         }
     }
@@ -141,36 +134,33 @@ fn show_row(
 // The tree that a content stands for; where it is built it has at most `fuel` levels.
 #[cycle(showing_trees)]
 pub fn show_tree(
-    kinds: &[u32],
-    vals: &[u32],
+    seen: &Seen,
     heads: &[u32],
     kids: &[u32],
-    g: Origin,
     x: Content,
     fuel: usize,
     out: &mut [u8],
     at: usize,
     on: bool,
 ) -> usize
-    requires sight { Sight kinds.now vals.now g }
     requires room { at ≤ length out.old }
     ensures kept { Kept on out.old out.new at result }
     ensures shows { (S : ℕ → Bool) (t : Term)
-        → Tree (view kinds.now vals.now g) heads.now kids.now S x.head x.kids t
+        → Tree (shown seen.now) heads.now kids.now S x.head x.kids t
         → (0 < x.kids → depth t ≤ fuel)
         → Shows on out.old out.new at (bytes t) result }
 {
-    let h = token_at(kinds, vals, g, x.head as usize);
+    let h = token_at(seen, x.head as usize);
     if x.kids == 0 {
-        return show_run(kinds, vals, g, x.head as usize, h.step(), out, at, on);
+        return show_run(seen, x.head as usize, h.step(), out, at, on);
     }
     if fuel == 0 {
         return out.len() + 1;
     }
-    let c = cursor(kinds, vals, g, x);
+    let c = cursor(seen, x);
     let i = show_token(out, at, h, on);
     if out.len() < i {
         return i;
     }
-    show_row(kinds, vals, heads, kids, g, c, fuel - 1, out, i, on)
+    show_row(seen, heads, kids, c, fuel - 1, out, i, on)
 }

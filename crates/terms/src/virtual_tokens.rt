@@ -1,9 +1,10 @@
 // The tokens that normalising sees: the lent ones, Error, and the projections that order 19 may make anew.
+ghost use Rattle.terms.specs.Words.Lent.{shown};
 ghost use Rattle.std.specs.Prelude.{◌≡◌, ◌+◌, ◌≤◌, ◌<◌, get_or};
-ghost use Rattle.terms.specs.Words.VirtualTokens.{copied, Located, view, Sight};
+ghost use Rattle.terms.specs.Words.VirtualTokens.{copied, Located};
 
 use super::runs::word;
-use super::{Origin, Spot, Token};
+use super::{Origin, Seen, Spot, Token};
 
 // Which lent token stands r-th after the head of the projection for the token t.
 fn copied(g: Origin, len: usize, r: usize, t: usize) -> usize
@@ -51,21 +52,20 @@ pub fn locate(g: Origin, len: usize, q: usize) -> Spot
 }
 
 // The token at q.
-pub fn token_at(kinds: &[u32], vals: &[u32], g: Origin, q: usize) -> Token
-    requires { Sight kinds.now vals.now g }
-    ensures kind { result.kind ≡ get_or (view kinds.now vals.now g).kinds q 0 }
-    ensures value { result.value ≡ get_or (view kinds.now vals.now g).vals q 0 }
+pub fn token_at(seen: &Seen, q: usize) -> Token
+    ensures kind { result.kind ≡ get_or (shown seen.now).kinds q 0 }
+    ensures value { result.value ≡ get_or (shown seen.now).vals q 0 }
 {
-    let s = locate(g, kinds.len(), q);
+    let s = locate(seen.given, seen.tokens.kinds.len(), q);
     match s {
         Spot::Lent(p) => Token {
-            kind: word(kinds, p),
-            value: word(vals, p),
+            kind: word(seen.tokens.kinds, p),
+            value: word(seen.tokens.vals, p),
         },
         Spot::Error => Token { kind: 5, value: 1 },
         Spot::Head => Token {
             kind: 20,
-            value: g.size,
+            value: seen.given.size,
         },
         Spot::Nowhere => Token { kind: 0, value: 0 },
     }

@@ -1,6 +1,6 @@
 // `walk` of `normalize`: every term is visited, and projections are replaced.
+ghost use Rattle.terms.specs.Words.Lent.{shown};
 ghost use Rattle.std.specs.Prelude.{◌≡◌, Bool, Some, None, ℕ, ◌+◌, ◌-◌, ◌≤◌, ◌<◌, length, get_or};
-ghost use Rattle.terms.specs.Words.VirtualTokens.{view, Sight};
 ghost use Rattle.terms.specs.Term.{Term, depth, bytes, Held};
 ghost use Rattle.terms.specs.Normal.{replacement};
 ghost use Rattle.terms.specs.Lookup.{Look, look_by, Looks};
@@ -16,40 +16,37 @@ use super::rules::find_rule;
 use super::runs::word;
 use super::slots::slot;
 use super::write::run_len;
-use super::{Content, Origin, Token, Walked};
+use super::{Content, Origin, Seen, Token, Tokens, Walked};
 
 // What a projection with the counts n and m is replaced by; its children have at most `fuel` levels.
 fn replace(
-    kinds: &[u32],
-    vals: &[u32],
+    seen: &Seen,
     rules: &[u32],
     heads: &[u32],
     kids: &[u32],
-    g: Origin,
     x: Content,
     n: usize,
     m: usize,
     fuel: usize,
 ) -> Option<Content>
-    requires sight { Sight kinds.now vals.now g }
-    requires tagged { TagAt (view kinds.now vals.now g) x.head 18 }
-    requires counts { Counts (view kinds.now vals.now g) x.head n m }
+    requires tagged { TagAt (shown seen.now) x.head 18 }
+    requires counts { Counts (shown seen.now) x.head n m }
     requires few { length rules.now < 4294967296 }
     requires low { fuel < 4294967296 }
     ensures { (S : ℕ → Bool) (t : Term) (look : Look)
-        → Tree (view kinds.now vals.now g) heads.now kids.now S x.head x.kids t
+        → Tree (shown seen.now) heads.now kids.now S x.head x.kids t
         → depth t ≤ fuel + 1
-        → Looks kinds.now vals.now rules.now g look
-        → Fetched (view kinds.now vals.now g) heads.now kids.now S (replacement (look_by look) t) result }
+        → Looks seen.now.tokens.kinds.now seen.now.tokens.vals.now rules.now seen.now.given look
+        → Fetched (shown seen.now) heads.now kids.now S (replacement (look_by look) t) result }
 {
-    let own = own_member(kinds, vals, heads, kids, g, x, n, m);
+    let own = own_member(seen, heads, kids, x, n, m);
     if own.is_some() {
         return own;
     }
-    if g.size == 0 {
-        return find_rule(kinds, vals, rules, heads, kids, g, x, fuel);
+    if seen.given.size == 0 {
+        return find_rule(seen, rules, heads, kids, x, fuel);
     }
-    by_interface(kinds, vals, heads, kids, g, x, n, m, fuel)
+    by_interface(seen, heads, kids, x, n, m, fuel)
 }
 
 // A result, of so many bytes.
@@ -103,29 +100,29 @@ const TRIED: usize = 24;
 
 // How many nodes a content has that the walk leaves as it is: as in the source, of lent tokens alone, without a projection. 0 where it is another content,
 // or has more than `most` nodes, or too many tokens to be tried.
-fn fixed_nodes(kinds: &[u32], vals: &[u32], x: Content, most: usize) -> usize
+fn fixed_nodes(tokens: &Tokens, x: Content, most: usize) -> usize
     ensures few { (result ≤ most) × (result < 4294967296) }
-    ensures fixed { 0 < result → Fixed kinds.now vals.now x result }
+    ensures fixed { 0 < result → Fixed tokens.now.kinds.now tokens.now.vals.now x result }
 {
     if x.kids != 0 {
         return 0;
     }
     let from = x.head as usize;
     let head = Token {
-        kind: word(kinds, from),
-        value: word(vals, from),
+        kind: word(tokens.kinds, from),
+        value: word(tokens.vals, from),
     };
     let span = head.step();
     if TRIED < span {
         return 0;
     }
     let end = from + span;
-    if kinds.len() < end {
+    if tokens.kinds.len() < end {
         return 0;
     }
     let mut n = 0;
     for q in from..end {
-        let k = kinds[q];
+        let k = tokens.kinds[q];
         if k == 20 {
             return 0;
         }
@@ -138,44 +135,42 @@ fn fixed_nodes(kinds: &[u32], vals: &[u32], x: Content, most: usize) -> usize
 }
 
 // How many bytes a content has that the walk leaves as it is.
-fn fixed_len(kinds: &[u32], vals: &[u32], x: Content) -> usize
-    requires term { (length vals.now ≡ length kinds.now) × (x.head + span (get_or kinds.now x.head 0) (get_or vals.now x.head 0) ≤ length kinds.now) }
-    requires few { length kinds.now < 4294967296 }
+fn fixed_len(tokens: &Tokens, x: Content) -> usize
+    requires term { x.head + span (get_or tokens.now.kinds.now x.head 0) (get_or tokens.now.vals.now x.head 0) ≤ length tokens.now.kinds.now }
+    requires few { length tokens.now.kinds.now < 4294967296 }
     ensures bound { result < 68719476736 }
-    ensures bytes { (t : Term) → Held kinds.now vals.now x.head t → result ≡ length (bytes t) }
+    ensures bytes { (t : Term) → Held tokens.now.kinds.now tokens.now.vals.now x.head t → result ≡ length (bytes t) }
 {
     let from = x.head as usize;
     let head = Token {
-        kind: word(kinds, from),
-        value: word(vals, from),
+        kind: word(tokens.kinds, from),
+        value: word(tokens.vals, from),
     };
-    run_len(kinds, vals, from, head.span())
+    run_len(tokens.kinds, tokens.vals, from, head.span())
 }
 
 // Visits the content x, with `levels` levels and `visits` visits left. The records of the result stand from `next` on, at most `most` in all.
 // None where the children are too many.
 pub fn walk(
-    kinds: &[u32],
-    vals: &[u32],
+    seen: &Seen,
     rules: &[u32],
     heads: &mut [u32],
     kids: &mut [u32],
-    g: Origin,
     x: Content,
     next: usize,
     levels: usize,
     visits: usize,
     most: usize,
 ) -> Option<Walked>
-    requires room { RecordRoom kinds.now vals.now heads.old kids.old g next most }
+    requires room { RecordRoom seen.now.tokens.kinds.now seen.now.tokens.vals.now heads.old kids.old seen.now.given next most }
     requires few { length rules.now < 4294967296 }
     requires low { (levels < 4294967296) × (visits < 134217728) }
-    ensures walks { Walks kinds.now vals.now rules.now g heads.old kids.old heads.new kids.new x
+    ensures walks { Walks seen.now.tokens.kinds.now seen.now.tokens.vals.now rules.now seen.now.given heads.old kids.old heads.new kids.new x
         next levels visits most result }
     ensures frames { Frames heads.old kids.old heads.new kids.new next (used most result) }
 {
     let error = Content {
-        head: kinds.len() as u32,
+        head: seen.tokens.kinds.len() as u32,
         kids: 0,
     };
     if levels == 0 {
@@ -184,14 +179,14 @@ pub fn walk(
     if visits == 0 {
         return Some(result(error, next, visits, 1));
     }
-    let same = fixed_nodes(kinds, vals, x, levels.min(visits));
+    let same = fixed_nodes(&seen.tokens, x, levels.min(visits));
     if 0 < same {
-        let size = fixed_len(kinds, vals, x);
+        let size = fixed_len(&seen.tokens, x);
         return kept(x, same, size, next, visits, most);
     }
-    let o = begin(kinds, vals, heads, kids, g, x, next, most)?;
+    let o = begin(seen, heads, kids, x, next, most)?;
     let n = o.n;
-    let mut size = own_len(kinds, vals, g, x.head);
+    let mut size = own_len(seen, x.head);
     let mut at = next + n;
     let mut left = visits - 1;
     for j in 0..n {
@@ -200,19 +195,7 @@ pub fn walk(
             head: heads[i],
             kids: kids[i],
         };
-        let w = walk(
-            kinds,
-            vals,
-            rules,
-            heads,
-            kids,
-            g,
-            y,
-            at,
-            levels - 1,
-            left,
-            most,
-        )?;
+        let w = walk(seen, rules, heads, kids, y, at, levels - 1, left, most)?;
         heads[i] = w.head;
         kids[i] = w.kids;
         at = w.next;
@@ -226,35 +209,12 @@ pub fn walk(
     if o.tag != 18 {
         return Some(result(z, at, left, size));
     }
-    let f = replace(
-        kinds,
-        vals,
-        rules,
-        heads,
-        kids,
-        g,
-        z,
-        o.arguments,
-        o.members,
-        levels,
-    );
+    let f = replace(seen, rules, heads, kids, z, o.arguments, o.members, levels);
     let Some(v) = f else {
         return Some(result(z, at, left, size));
     };
-    if same_trees(kinds, vals, heads, kids, g, z, v, levels + 1) {
+    if same_trees(seen, heads, kids, z, v, levels + 1) {
         return Some(result(error, at, left, 1));
     }
-    walk(
-        kinds,
-        vals,
-        rules,
-        heads,
-        kids,
-        g,
-        v,
-        at,
-        levels - 1,
-        left,
-        most,
-    )
+    walk(seen, rules, heads, kids, v, at, levels - 1, left, most)
 }

@@ -36,10 +36,11 @@ pub fn write_token(out: &mut [u8], at: usize, k: u32, v: u32) -> usize
     at + 1
 }
 
-// How many bytes the `count` tokens from `from` on have.
+// How many bytes the `count` tokens from `from` on have; a token has at most 6.
 pub fn run_len(kinds: &[u32], vals: &[u32], from: usize, count: usize) -> usize
     requires { (from + count ≤ length kinds.now) × (from + count ≤ length vals.now) }
-    ensures { result ≡ length (spelt kinds.now vals.now from count) }
+    ensures len { result ≡ length (spelt kinds.now vals.now from count) }
+    ensures bound { result ≤ 6 * count }
 {
     let end = from + count;
     let mut n = 0;

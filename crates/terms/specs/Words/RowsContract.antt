@@ -4,7 +4,7 @@ use Rattle.terms.specs.declared.RowWalk.{RowWalk}
 use Rattle.terms.specs.declared.Token.{Token}
 use Rattle.terms.specs.Words.Tokens.{Area}
 use Rattle.terms.specs.Words.Held.{span}
-use Rattle.terms.specs.Words.VirtualTokens.{view}
+use Rattle.terms.specs.Words.Lent.{shown}
 
 -- from the place p of a row that ends at e, the walk comes to the token there and goes on behind it to o; or the row is over
 abbrev pub Comes : (a : Area) (p e : ℕ) → Option (ℕ × Token) → (o : ℕ) → Type 0
@@ -15,4 +15,4 @@ Comes a p e None o = (e ≤ p) × (o ≡ p)
 -- a step of a walk
 abbrev pub Moves : RowWalk → Option (ℕ × Token) → RowWalk → Type 0
 Moves s r t =
-    Comes (view s.kinds.now s.vals.now s.given) s.at s.end r t.at × (t.end ≡ s.end) × (t.kinds.now ≡ s.kinds.now) × (t.vals.now ≡ s.vals.now) × (t.given ≡ s.given)
+    Comes (shown s.seen) s.at s.end r t.at × (t.end ≡ s.end) × (t.seen ≡ s.seen)

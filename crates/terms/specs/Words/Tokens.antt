@@ -1,7 +1,7 @@
 -- The token areas. Token i is the pair of its kind, at i of `kinds`, and its value, at i of `vals`. Kind 0 is a number of the byte
 -- form, kind 1 a variable, and kind k + 2 the head of a node with the tag k, whose value is the node's span: how many tokens it has,
 -- itself included.
-use Rattle.std.specs.Prelude.{ℕ, zero, suc, Bool, List, [], ◌∷◌, ◌++◌, get_or, set, take}
+use Rattle.std.specs.Prelude.{◌^◌, ◌<◌, ℕ, zero, suc, Bool, List, [], ◌∷◌, ◌++◌, get_or, set, take}
 use Rattle.terms.specs.Result.{pick}
 
 pub data Item : Type 0 where
@@ -14,6 +14,10 @@ pub record Area : Type 0 where
 
 abbrev pub area : List ℕ → List ℕ → Area
 area ks vs = record { kinds = ks; vals = vs }
+
+-- words of 32 bits
+pub record Narrow (ws : List ℕ) : Type 0 where
+  pub fits : (i : ℕ) → get_or ws i 0 < 2 ^ 32
 
 -- one token stored; past the end of an area nothing is stored there
 abbrev pub put : Area → ℕ → ℕ → ℕ → Area

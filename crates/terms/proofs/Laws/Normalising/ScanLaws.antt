@@ -20,6 +20,8 @@ use Rattle.terms.specs.Words.Arena.{head_of, kids_of, Tree, Parted, RowAt, Numbe
 use Rattle.terms.proofs.Laws.Held.HeldLaws.{span_one}
 use Rattle.terms.proofs.Laws.Normalising.ArenaLaws.{parted_over, parted_number, parted_child, tree_row}
 use Rattle.std.specs.Prelude.{Some, None}
+use Rattle.terms.specs.declared.Seen.{Seen}
+use Rattle.terms.specs.Words.Lent.{shown}
 
 -- ---- a term's row, from its first token's kind and value
 
@@ -93,19 +95,12 @@ module _ (a : Area) (h e q : ℕ) (P : ℕ → Parts → Parts → Type 0) (s : 
 
 -- ---- a walk over the tokens that are seen
 
-pub record Over (ks vs : List ℕ) (g : Origin) (s : RowWalk) : Type 0 where
-  pub kinds : s.kinds.now ≡ ks
-  pub vals : s.vals.now ≡ vs
-  pub given : s.given ≡ g
+module _ (x : Seen) (s : RowWalk) (w : s.seen ≡ x) (q : ℕ) (y : Token) (t : RowWalk) (m : Moves s (Some (q, y)) t) where
+  pub over_here : (q ≡ s.at) × (s.at < s.end) × (y.kind ≡ get_or (shown x).kinds s.at 0) × (y.value ≡ get_or (shown x).vals s.at 0)
+  over_here = (m.0.0, m.0.1, m.0.2 ∙ ap (λ (e : Seen). get_or (shown e).kinds s.at 0) w, m.0.3 ∙ ap (λ (e : Seen). get_or (shown e).vals s.at 0) w)
 
-module _ (ks vs : List ℕ) (g : Origin) (s : RowWalk) (w : Over ks vs g s) (q : ℕ) (y : Token) (t : RowWalk) (m : Moves s (Some (q, y)) t) where
-  pub over_here : (q ≡ s.at) × (s.at < s.end) × (y.kind ≡ get_or (view ks vs g).kinds s.at 0) × (y.value ≡ get_or (view ks vs g).vals s.at 0)
-  over_here =
-      let e : view s.kinds.now s.vals.now s.given ≡ view ks vs g = rw (w.kinds, w.vals, w.given) refl in
-      (m.0.0, m.0.1, m.0.2 ∙ ap (λ (a : Area). get_or a.kinds s.at 0) e, m.0.3 ∙ ap (λ (a : Area). get_or a.vals s.at 0) e)
-
-  pub over_on : Over ks vs g t
-  over_on = record { kinds = m.2 ∙ w.kinds; vals = m.3 ∙ w.vals; given = m.4 ∙ w.given }
+  pub over_on : t.seen ≡ x
+  over_on = m.2 ∙ w
 
   pub over_width : 1 ≤ span y.kind y.value → t.at - s.at ≡ span y.kind y.value
   over_width i = omega (arith, m.0.5 i)
@@ -121,24 +116,24 @@ module _ (ks vs : List ℕ) (g : Origin) (s : RowWalk) (w : Over ks vs g s) (q :
 
 -- ---- a walk over the row of the term at h, which stands there
 
-pub record Walking (ks vs : List ℕ) (g : Origin) (h : ℕ) (s : RowWalk) (P : ℕ → Parts → Parts → Type 0) : Type 0 where
-  pub scan : Scan (view ks vs g) h s.end s.at P
-  pub over : Over ks vs g s
+pub record Walking (x : Seen) (h : ℕ) (s : RowWalk) (P : ℕ → Parts → Parts → Type 0) : Type 0 where
+  pub scan : Scan (shown x) h s.end s.at P
+  pub over : s.seen ≡ x
 
-module _ (ks vs : List ℕ) (g : Origin) (h : ℕ) (s : RowWalk) (P : ℕ → Parts → Parts → Type 0) where
-  pub walk_start : RowAt (view ks vs g) h s.at s.end → (s.kinds.now ≡ ks) × (s.vals.now ≡ vs) × (s.given ≡ g) → ((w : Parts) → P 0 w w) → Walking ks vs g h s P
-  walk_start r e f = record { scan = scan_start (view ks vs g) h s.end s.at P r f; over = record { kinds = e.0; vals = e.1; given = e.2 } }
+module _ (x : Seen) (h : ℕ) (s : RowWalk) (P : ℕ → Parts → Parts → Type 0) where
+  pub walk_start : RowAt (shown x) h s.at s.end → s.seen ≡ x → ((w : Parts) → P 0 w w) → Walking x h s P
+  walk_start r e f = record { scan = scan_start (shown x) h s.end s.at P r f; over = e }
 
-  module _ (w : Walking ks vs g h s P) (q : ℕ) (y : Token) (t : RowWalk) (m : Moves s (Some (q, y)) t) where
-    pub walk_child : (Q : ℕ → Parts → Parts → Type 0) → Scan (view ks vs g) h s.end (s.at + (t.at - s.at)) Q → Walking ks vs g h t Q
-    walk_child Q x =
-        let e = over_child ks vs g s w.over q y t m in
-        record { scan = rw (m.1) (rw e at x); over = over_on ks vs g s w.over q y t m }
+  module _ (w : Walking x h s P) (q : ℕ) (y : Token) (t : RowWalk) (m : Moves s (Some (q, y)) t) where
+    pub walk_child : (Q : ℕ → Parts → Parts → Type 0) → Scan (shown x) h s.end (s.at + (t.at - s.at)) Q → Walking x h t Q
+    walk_child Q d =
+        let e = over_child x s w.over q y t m in
+        record { scan = rw (m.1) (rw e at d); over = over_on x s w.over q y t m }
 
-    pub walk_number : y.kind ≡ 0 → (Q : ℕ → Parts → Parts → Type 0) → Scan (view ks vs g) h s.end (s.at + 1) Q → Walking ks vs g h t Q
-    walk_number z Q x =
-        let e = over_number ks vs g s w.over q y t m z in
-        record { scan = rw (m.1) (rw e at x); over = over_on ks vs g s w.over q y t m }
+    pub walk_number : y.kind ≡ 0 → (Q : ℕ → Parts → Parts → Type 0) → Scan (shown x) h s.end (s.at + 1) Q → Walking x h t Q
+    walk_number z Q d =
+        let e = over_number x s w.over q y t m z in
+        record { scan = rw (m.1) (rw e at d); over = over_on x s w.over q y t m }
 
 -- ---- the i-th number: the left-th of what is left
 

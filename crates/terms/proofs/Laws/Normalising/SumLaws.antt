@@ -318,9 +318,6 @@ pub lent_room : (ks vs : List ℕ) (h from n : ℕ) {k v : ℕ} → from ≡ h �
     → from + n ≤ length ks
 lent_room ks vs h from n ep ek ev en le = rw (en, ek, ev, ep) le
 
-pub lent_few : (ks vs : List ℕ) (from n m : ℕ) → m ≡ length (spelt ks vs from n) → ((i : ℕ) → get_or vs i 0 < 2 ^ 32) → from + n ≤ length ks → length ks < 4294967296 → m < 68719476736
-lent_few ks vs from n m e f le l = omega (arith, spelt_short ks vs f from n)
-
 pub lent_bytes : (ks vs : List ℕ) (h from n : ℕ) {k v : ℕ} → from ≡ h → k ≡ get_or ks from 0 → v ≡ get_or vs from 0 → n ≡ span k v → (t : Term) → Held ks vs h t
     → length (spelt ks vs from n) ≡ length (bytes t)
 lent_bytes ks vs h from n {k = k} {v = v} ep ek ev en t w =

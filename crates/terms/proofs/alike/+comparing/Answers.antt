@@ -14,12 +14,6 @@ same_rows-loop-q-init t c =
 pub same_rows-returns-then-x-p : goal.same_rows-returns-then-x-p
 same_rows-returns-then-x-p t c = meeting_short _ _ _ _ _ _ _ _ _ _ c.loop-q.invariant c.loop-q-test.true c.if-x-p.true
 
-pub same_rows-token_at-s-requires : goal.same_rows-token_at-s-requires
-same_rows-token_at-s-requires t c = c.requires.sight
-
-pub same_rows-token_at-t-requires : goal.same_rows-token_at-t-requires
-same_rows-token_at-t-requires t c = c.requires.sight
-
 pub same_rows-returns-then-s-ne0 : goal.same_rows-returns-then-s-ne0
 same_rows-returns-then-s-ne0 t c =
     let token-at' = c.token_at-s in
@@ -74,7 +68,7 @@ same_rows-child_here-b-requires t c =
     (omega (arith, if1'.true, c.requires.cut.1.small), omega (arith, if1'.true, c.requires.cut.1.small, c.loop-q.invariant.second))
 
 pub same_rows-same_trees-requires : goal.same_rows-same_trees-requires
-same_rows-same_trees-requires t c = (omega arith, c.requires.sight)
+same_rows-same_trees-requires t c = (omega arith, tt)
 
 pub same_rows-returns-then-not-same_trees : goal.same_rows-returns-then-not-same_trees
 same_rows-returns-then-not-same_trees t c =
@@ -146,12 +140,6 @@ same_rows-returns t c = meeting_done _ _ _ _ _ _ _ _ _ _ c.loop-q.invariant c.lo
 pub same_trees-returns-then-fuel-eq0 : goal.same_trees-returns-then-fuel-eq0
 same_trees-returns-then-fuel-eq0 t c = alike_none _ _ _ _ _ _ c.if-fuel-eq0.true
 
-pub same_trees-token_at-s-requires : goal.same_trees-token_at-s-requires
-same_trees-token_at-s-requires t c = c.requires
-
-pub same_trees-token_at-t-requires : goal.same_trees-token_at-t-requires
-same_trees-token_at-t-requires t c = c.requires
-
 pub same_trees-returns-then-s-t : goal.same_trees-returns-then-s-t
 same_trees-returns-then-s-t t c =
     let token-at' = c.token_at-s in
@@ -168,29 +156,20 @@ same_trees-returns-then-s-eq1 t c =
 
 pub same_trees-same_term-requires : goal.same_trees-same_term-requires
 same_trees-same_term-requires t c =
-    let l = lent_true c.args.kinds.now c.args.vals.now c.args.x _ c.is_lent.ensures c.if-is_lent.true in
-    let m = lent_true c.args.kinds.now c.args.vals.now c.args.y _ c.is_lent-then-is_lent.ensures c.if-is_lent-2.true in
-    (lent_first c.args.kinds.now c.args.vals.now c.args.x.head l.1, lent_first c.args.kinds.now c.args.vals.now c.args.y.head m.1, c.requires.pairs)
+    let l = lent_true c.args.seen.now.tokens.kinds.now c.args.seen.now.tokens.vals.now c.args.x _ c.is_lent.ensures c.if-is_lent.true in
+    let m = lent_true c.args.seen.now.tokens.kinds.now c.args.seen.now.tokens.vals.now c.args.y _ c.is_lent-then-is_lent.ensures c.if-is_lent-2.true in
+    (lent_first c.args.seen.now.tokens.kinds.now c.args.seen.now.tokens.vals.now c.args.x.head l.1, lent_first c.args.seen.now.tokens.kinds.now c.args.seen.now.tokens.vals.now c.args.y.head m.1)
 
 pub same_trees-returns-then-is_lent-2 : goal.same_trees-returns-then-is_lent-2
 same_trees-returns-then-is_lent-2 t c =
-    alike_lent c.args.kinds.now c.args.vals.now c.args.g c.requires c.args.heads.now c.args.kids.now c.args.x c.args.y c.args.fuel _ _
-    refl refl (lent_true c.args.kinds.now c.args.vals.now c.args.x _ c.is_lent.ensures c.if-is_lent.true) (lent_true c.args.kinds.now c.args.vals.now c.args.y _ c.is_lent-then-is_lent.ensures c.if-is_lent-2.true)
+    alike_lent c.args.seen.now.tokens.kinds.now c.args.seen.now.tokens.vals.now c.args.seen.now.given c.args.seen.now.sight c.args.heads.now c.args.kids.now c.args.x c.args.y c.args.fuel _ _
+    refl refl (lent_true c.args.seen.now.tokens.kinds.now c.args.seen.now.tokens.vals.now c.args.x _ c.is_lent.ensures c.if-is_lent.true) (lent_true c.args.seen.now.tokens.kinds.now c.args.seen.now.tokens.vals.now c.args.y _ c.is_lent-then-is_lent.ensures c.if-is_lent-2.true)
     _ c.same_term.ensures
-
-pub same_trees-cursor-a-requires : goal.same_trees-cursor-a-requires
-same_trees-cursor-a-requires t c = c.requires
-
-pub same_trees-cursor-b-requires : goal.same_trees-cursor-b-requires
-same_trees-cursor-b-requires t c = c.requires
 
 pub same_trees-same_rows-m-requires : goal.same_trees-same_rows-m-requires
 same_trees-same_rows-m-requires t c = (
   omega (arith, c.if-fuel-eq0.false),
-  (
-    c.requires,
-    (c.cursor-a.ensures.cut, c.cursor-b.ensures.cut),
-  ),
+  (c.cursor-a.ensures.cut, c.cursor-b.ensures.cut),
 )
 
 pub same_trees-returns-in_default : goal.same_trees-returns-in_default

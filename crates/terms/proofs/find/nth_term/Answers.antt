@@ -8,24 +8,24 @@ use Rattle.terms.specs.Words.Held.{span}
 use Rattle.terms.specs.Words.FindContract.{nth_at}
 use Rattle.terms.proofs.find.nth_term.Goals as goal
 
-pub returns-then-kinds-i : goal.returns-then-kinds-i
-returns-then-kinds-i c = nth_out _ _ _ _ c.if-kinds-i.true ∙ c.loop-k.invariant
+pub returns-then-tokens-i : goal.returns-then-tokens-i
+returns-then-tokens-i c = nth_out _ _ _ _ c.if-tokens-i.true ∙ c.loop-k.invariant
 
 pub overflow_add-i : goal.overflow_add-i
 overflow_add-i c =
     let a = c.args in
     let i = c.loop-k.i in
-    let room = length a.kinds.now - i in
-    omega (arith, c.skip-i.ensures.is, clip_within room (span (get_or a.kinds.now i 0) (get_or a.vals.now i 0)) (omega arith))
+    let room = length a.tokens.now.kinds.now - i in
+    omega (arith, c.skip-i.ensures.is, clip_within room (span (get_or a.tokens.now.kinds.now i 0) (get_or a.tokens.now.vals.now i 0)) (omega arith))
 
 pub loop-k-preserved : goal.loop-k-preserved
 loop-k-preserved c =
     let a = c.args in
     let l = c.loop-k in
-    rw (sub_step a.n l.k) (ap (λ (x : ℕ). nth_at a.kinds.now a.vals.now (a.n - l.k - 1) (l.i + x)) c.skip-i.ensures.is ∙ nth_more a.kinds.now a.vals.now (a.n - l.k) l.i (omega arith) c.if-kinds-i.false ∙ l.invariant)
+    rw (sub_step a.n l.k) (ap (λ (x : ℕ). nth_at a.tokens.now.kinds.now a.tokens.now.vals.now (a.n - l.k - 1) (l.i + x)) c.skip-i.ensures.is ∙ nth_more a.tokens.now.kinds.now a.tokens.now.vals.now (a.n - l.k) l.i (omega arith) c.if-tokens-i.false ∙ l.invariant)
 
-pub returns-then-i-kinds : goal.returns-then-i-kinds
-returns-then-i-kinds c = nth_here _ _ _ _ (omega arith) c.if-i-kinds.true ∙ c.loop-k.invariant
+pub returns-then-i-tokens : goal.returns-then-i-tokens
+returns-then-i-tokens c = nth_here _ _ _ _ (omega arith) c.if-i-tokens.true ∙ c.loop-k.invariant
 
-pub returns-else-i-kinds : goal.returns-else-i-kinds
-returns-else-i-kinds c = nth_out _ _ _ _ c.if-i-kinds.false ∙ c.loop-k.invariant
+pub returns-else-i-tokens : goal.returns-else-i-tokens
+returns-else-i-tokens c = nth_out _ _ _ _ c.if-i-tokens.false ∙ c.loop-k.invariant

@@ -5,4 +5,4 @@ use Rattle.terms.specs.Words.FindContract.{nth_at}
 use Rattle.terms.proofs.find.nth_term.Given as goal
 
 abbrev pub invariant-loop-k : goal.invariant-loop-k
-invariant-loop-k l = nth_at l.kinds l.vals (l.n - l.k) l.i ≡ nth_at l.kinds l.vals l.n l.from
+invariant-loop-k l = nth_at l.tokens.kinds.now l.tokens.vals.now (l.n - l.k) l.i ≡ nth_at l.tokens.kinds.now l.tokens.vals.now l.n l.from

@@ -22,8 +22,8 @@ returns-then-number_at c =
     c.args.heads.now c.args.kids.now S c.args.x.kids t w) (c.requires.counts.members.is
     c.args.heads.now c.args.kids.now S c.args.x.kids t w) (rw (nothing _ (sym c.is_some.ensures ∙ c.if-is_some.false)) at (c.child_at-argument.ensures
     S t w))) _ _ (c.number_at.ensures.value.is c.args.heads.now c.args.kids.now S c.args.x.kids t w) (c.number_at-2.ensures.value.is
-    c.args.heads.now c.args.kids.now S 0 _ (interface_tree c.args.kinds.now c.args.vals.now c.args.g
-    c.requires.sight i owner h c.args.heads.now c.args.kids.now S _ _ refl refl) ∙ ap (λ (j : Parts). get_or (nums j) 0 0) (row_node 20
+    c.args.heads.now c.args.kids.now S 0 _ (interface_tree c.args.seen.now.tokens.kinds.now c.args.seen.now.tokens.vals.now c.args.seen.now.given
+    c.args.seen.now.sight i owner h c.args.heads.now c.args.kids.now S _ _ refl refl) ∙ ap (λ (j : Parts). get_or (nums j) 0 0) (row_node 20
     i)) c.if-number_at.true
 
 pub returns-in_err-y : goal.returns-in_err-y
@@ -31,7 +31,7 @@ returns-in_err-y c =
     λ S t i owner w k d h. rw c.from_residual.ensures (through_bare t i owner (own_plain t _ _ (c.requires.counts.arguments.is
     c.args.heads.now c.args.kids.now S c.args.x.kids t w) (c.requires.counts.members.is
     c.args.heads.now c.args.kids.now S c.args.x.kids t w) (rw (nothing _ (sym c.is_some.ensures ∙ c.if-is_some.false)) at (c.child_at-argument.ensures S t w))) _ _ (c.number_at.ensures.value.is
-    c.args.heads.now c.args.kids.now S c.args.x.kids t w) (c.number_at-2.ensures.value.is c.args.heads.now c.args.kids.now S 0 _ (interface_tree c.args.kinds.now c.args.vals.now c.args.g c.requires.sight
+    c.args.heads.now c.args.kids.now S c.args.x.kids t w) (c.number_at-2.ensures.value.is c.args.heads.now c.args.kids.now S 0 _ (interface_tree c.args.seen.now.tokens.kinds.now c.args.seen.now.tokens.vals.now c.args.seen.now.given c.args.seen.now.sight
     i owner h c.args.heads.now c.args.kids.now S _ _ refl refl) ∙ ap (λ (j : Parts). get_or (nums j) 0 0) (row_node 20 i)) c.if-number_at.false
     (c.in_err-y.ensures S t w))
 
@@ -47,16 +47,16 @@ returns-then-not-same_trees c =
     through_stranger t i owner (own_plain t _ _ (c.requires.counts.arguments.is c.args.heads.now c.args.kids.now S c.args.x.kids
     t w) (c.requires.counts.members.is c.args.heads.now c.args.kids.now S c.args.x.kids t w) (rw (nothing _ (sym c.is_some.ensures ∙ c.if-is_some.false)) at
     (child-at'.ensures S t w))) _ _ (number-at'.ensures.value.is c.args.heads.now c.args.kids.now S c.args.x.kids t w)
-    (number-at2'.ensures.value.is c.args.heads.now c.args.kids.now S 0 _ (interface_tree c.args.kinds.now c.args.vals.now
-    c.args.g c.requires.sight i owner h c.args.heads.now c.args.kids.now S _ _ refl refl) ∙ ap (λ (j : Parts). get_or (nums j) 0
+    (number-at2'.ensures.value.is c.args.heads.now c.args.kids.now S 0 _ (interface_tree c.args.seen.now.tokens.kinds.now c.args.seen.now.tokens.vals.now
+    c.args.seen.now.given c.args.seen.now.sight i owner h c.args.heads.now c.args.kids.now S _ _ refl refl) ∙ ap (λ (j : Parts). get_or (nums j) 0
     0) (row_node 20 i)) if1'.false r.0 r.1
-    (c.same_trees.ensures.no (not-true _ c.if-not-same_trees.true-raw) S S _ _ r.2 (owner_tree c.args.kinds.now c.args.vals.now
-    c.args.g c.requires.sight i owner h c.args.heads.now c.args.kids.now S _ _ source'.ensures.0 source'.ensures.1)
+    (c.same_trees.ensures.no (not-true _ c.if-not-same_trees.true-raw) S S _ _ r.2 (owner_tree c.args.seen.now.tokens.kinds.now c.args.seen.now.tokens.vals.now
+    c.args.seen.now.given c.args.seen.now.sight i owner h c.args.heads.now c.args.kids.now S _ _ source'.ensures.0 source'.ensures.1)
     (receiver_low t i owner (own_plain t _ _ (c.requires.counts.arguments.is c.args.heads.now c.args.kids.now S c.args.x.kids t
     w) (c.requires.counts.members.is c.args.heads.now c.args.kids.now S c.args.x.kids t w) (rw (nothing _ (sym c.is_some.ensures ∙ c.if-is_some.false)) at
     (child-at'.ensures S t w))) _ _ (number-at'.ensures.value.is c.args.heads.now c.args.kids.now S c.args.x.kids t w)
-    (number-at2'.ensures.value.is c.args.heads.now c.args.kids.now S 0 _ (interface_tree c.args.kinds.now c.args.vals.now
-    c.args.g c.requires.sight i owner h c.args.heads.now c.args.kids.now S _ _ refl refl) ∙ ap (λ (j : Parts). get_or (nums j) 0
+    (number-at2'.ensures.value.is c.args.heads.now c.args.kids.now S 0 _ (interface_tree c.args.seen.now.tokens.kinds.now c.args.seen.now.tokens.vals.now
+    c.args.seen.now.given c.args.seen.now.sight i owner h c.args.heads.now c.args.kids.now S _ _ refl refl) ∙ ap (λ (j : Parts). get_or (nums j) 0
     0) (row_node 20 i)) if1'.false r.0 r.1 _ d))
 
 pub returns-then-same_trees : goal.returns-then-same_trees
@@ -71,12 +71,12 @@ returns-then-same_trees c =
     λ S t i owner w k d h.
     let r = c.in_ok-y.ensures S t w in
     let o = c.same_trees.ensures.yes (not-false _ c.if-not-same_trees.false-raw) S S _ _ r.2
-    (owner_tree c.args.kinds.now c.args.vals.now c.args.g c.requires.sight i owner h c.args.heads.now c.args.kids.now
+    (owner_tree c.args.seen.now.tokens.kinds.now c.args.seen.now.tokens.vals.now c.args.seen.now.given c.args.seen.now.sight i owner h c.args.heads.now c.args.kids.now
     S _ _ source'.ensures.0 source'.ensures.1) (receiver_low t i owner (own_plain t _ _ (c.requires.counts.arguments.is c.args.heads.now
     c.args.kids.now S c.args.x.kids t w) (c.requires.counts.members.is c.args.heads.now c.args.kids.now S c.args.x.kids
     t w) (rw (nothing _ (sym c.is_some.ensures ∙ c.if-is_some.false)) at (child-at'.ensures S t w))) _ _ (number-at'.ensures.value.is c.args.heads.now c.args.kids.now
-    S c.args.x.kids t w) (number-at2'.ensures.value.is c.args.heads.now c.args.kids.now S 0 _ (interface_tree c.args.kinds.now
-    c.args.vals.now c.args.g c.requires.sight i owner h c.args.heads.now c.args.kids.now S _ _ refl refl) ∙ ap (λ (j : Parts).
+    S c.args.x.kids t w) (number-at2'.ensures.value.is c.args.heads.now c.args.kids.now S 0 _ (interface_tree c.args.seen.now.tokens.kinds.now
+    c.args.seen.now.tokens.vals.now c.args.seen.now.given c.args.seen.now.sight i owner h c.args.heads.now c.args.kids.now S _ _ refl refl) ∙ ap (λ (j : Parts).
     get_or (nums j) 0 0) (row_node 20 i)) if1'.false r.0 r.1 _ d) in
     let v = c.output-value.ensures S i owner h number-place'.ensures.kind in
     let ev = ap (output owner i) (number-place'.ensures.is c.args.heads.now c.args.kids.now S c.args.x.kids t w ∙
@@ -85,8 +85,8 @@ returns-then-same_trees c =
     through_same t i owner (own_plain t _ _ (c.requires.counts.arguments.is c.args.heads.now c.args.kids.now S c.args.x.kids t w)
     (c.requires.counts.members.is c.args.heads.now c.args.kids.now S c.args.x.kids t w) (rw (nothing _ (sym c.is_some.ensures ∙ c.if-is_some.false)) at
     (child-at'.ensures S t w))) _ _ (number-at'.ensures.value.is c.args.heads.now c.args.kids.now S c.args.x.kids t w)
-    (number-at2'.ensures.value.is c.args.heads.now c.args.kids.now S 0 _ (interface_tree c.args.kinds.now c.args.vals.now
-    c.args.g c.requires.sight i owner h c.args.heads.now c.args.kids.now S _ _ refl refl) ∙ ap (λ (j : Parts). get_or (nums j) 0
+    (number-at2'.ensures.value.is c.args.heads.now c.args.kids.now S 0 _ (interface_tree c.args.seen.now.tokens.kinds.now c.args.seen.now.tokens.vals.now
+    c.args.seen.now.given c.args.seen.now.sight i owner h c.args.heads.now c.args.kids.now S _ _ refl refl) ∙ ap (λ (j : Parts). get_or (nums j) 0
     0) (row_node 20 i)) if1'.false r.0 r.1 o k _ ev (c.same_trees-2.ensures.yes c.if-same_trees.true S S _ _ w v d)
 
 pub returns : goal.returns
@@ -101,12 +101,12 @@ returns c =
     λ S t i owner w k d h.
     let r = c.in_ok-y.ensures S t w in
     let o = c.same_trees.ensures.yes (not-false _ c.if-not-same_trees.false-raw) S S _ _ r.2
-    (owner_tree c.args.kinds.now c.args.vals.now c.args.g c.requires.sight i owner h c.args.heads.now c.args.kids.now
+    (owner_tree c.args.seen.now.tokens.kinds.now c.args.seen.now.tokens.vals.now c.args.seen.now.given c.args.seen.now.sight i owner h c.args.heads.now c.args.kids.now
     S _ _ source'.ensures.0 source'.ensures.1) (receiver_low t i owner (own_plain t _ _ (c.requires.counts.arguments.is c.args.heads.now
     c.args.kids.now S c.args.x.kids t w) (c.requires.counts.members.is c.args.heads.now c.args.kids.now S c.args.x.kids
     t w) (rw (nothing _ (sym c.is_some.ensures ∙ c.if-is_some.false)) at (child-at'.ensures S t w))) _ _ (number-at'.ensures.value.is c.args.heads.now c.args.kids.now
-    S c.args.x.kids t w) (number-at2'.ensures.value.is c.args.heads.now c.args.kids.now S 0 _ (interface_tree c.args.kinds.now
-    c.args.vals.now c.args.g c.requires.sight i owner h c.args.heads.now c.args.kids.now S _ _ refl refl) ∙ ap (λ (j : Parts).
+    S c.args.x.kids t w) (number-at2'.ensures.value.is c.args.heads.now c.args.kids.now S 0 _ (interface_tree c.args.seen.now.tokens.kinds.now
+    c.args.seen.now.tokens.vals.now c.args.seen.now.given c.args.seen.now.sight i owner h c.args.heads.now c.args.kids.now S _ _ refl refl) ∙ ap (λ (j : Parts).
     get_or (nums j) 0 0) (row_node 20 i)) if1'.false r.0 r.1 _ d) in
     let v = c.output-value.ensures S i owner h number-place'.ensures.kind in
     let ev = ap (output owner i) (number-place'.ensures.is c.args.heads.now c.args.kids.now S c.args.x.kids t w ∙
@@ -116,8 +116,8 @@ returns c =
       through_found t i owner (own_plain t _ _ (c.requires.counts.arguments.is c.args.heads.now c.args.kids.now S c.args.x.kids
           t w) (c.requires.counts.members.is c.args.heads.now c.args.kids.now S c.args.x.kids t w) (rw (nothing _ (sym c.is_some.ensures ∙ c.if-is_some.false)) at
           (child-at'.ensures S t w))) _ _ (number-at'.ensures.value.is c.args.heads.now c.args.kids.now S c.args.x.kids t w)
-          (number-at2'.ensures.value.is c.args.heads.now c.args.kids.now S 0 _ (interface_tree c.args.kinds.now c.args.vals.now
-          c.args.g c.requires.sight i owner h c.args.heads.now c.args.kids.now S _ _ refl refl) ∙ ap (λ (j : Parts). get_or (nums j) 0
+          (number-at2'.ensures.value.is c.args.heads.now c.args.kids.now S 0 _ (interface_tree c.args.seen.now.tokens.kinds.now c.args.seen.now.tokens.vals.now
+          c.args.seen.now.given c.args.seen.now.sight i owner h c.args.heads.now c.args.kids.now S _ _ refl refl) ∙ ap (λ (j : Parts). get_or (nums j) 0
           0) (row_node 20 i)) if1'.false r.0 r.1 o k _ ev (c.same_trees-2.ensures.no c.if-same_trees.false S S _ _ w v d),
       v,
     )

@@ -11,8 +11,8 @@ returns-in-Some c =
     let source' = c.source in
     let token-at' = c.token_at-x in
     λ S i owner h k.
-    let r = rw c.in-Some.is at (c.member_of-known.ensures S _ (interface_tree c.args.kinds.now c.args.vals.now
-    c.args.g c.requires i owner h c.args.heads.now c.args.kids.now S _ _ source'.ensures.0 source'.ensures.1)) in
+    let r = rw c.in-Some.is at (c.member_of-known.ensures S _ (interface_tree c.args.seen.now.tokens.kinds.now c.args.seen.now.tokens.vals.now
+    c.args.seen.now.given c.args.seen.now.sight i owner h c.args.heads.now c.args.kids.now S _ _ source'.ensures.0 source'.ensures.1)) in
     let e = ap (λ (j : Parts). member_from 0 token-at'.result.value j) (sym (row_node 20 i)) ∙ r.1 in
     rw (← token-at'.ensures.value, output_known owner i _ r.0 e) r.2
 
@@ -22,10 +22,10 @@ returns c =
     let token-at' = c.token_at-x in
     let lent-place' = c.lent_place-t in
     λ S i owner h k.
-    let r = rw c.in_default.is at (c.member_of-known.ensures S _ (interface_tree c.args.kinds.now c.args.vals.now c.args.g c.requires i owner h c.args.heads.now c.args.kids.now S _ _
+    let r = rw c.in_default.is at (c.member_of-known.ensures S _ (interface_tree c.args.seen.now.tokens.kinds.now c.args.seen.now.tokens.vals.now c.args.seen.now.given c.args.seen.now.sight i owner h c.args.heads.now c.args.kids.now S _ _
     source'.ensures.0 source'.ensures.1)) in
     let e = ap (λ (j : Parts). member_from 0 token-at'.result.value j) (sym (row_node 20 i)) ∙ r in
     let z = ap (λ (n : ℕ). member_from 0 n i) (sym token-at'.ensures.value) ∙ e in
-    rw (output_made owner i _ z) (made_tree c.args.kinds.now c.args.vals.now c.args.g c.requires i owner h c.args.heads.now
+    rw (output_made owner i _ z) (made_tree c.args.seen.now.tokens.kinds.now c.args.seen.now.tokens.vals.now c.args.seen.now.given c.args.seen.now.sight i owner h c.args.heads.now
     c.args.kids.now S _ _ _ _ lent-place'.ensures k
     c.source-2.ensures.0 c.source-2.ensures.1)

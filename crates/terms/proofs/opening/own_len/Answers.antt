@@ -9,7 +9,7 @@ loop-y-init c =
     let e = c.walk_row-y-items.ensures in
     rw c.into_iter-y-iterator.ensures.into_iter_gives (
       owning_start _ _ _ _ _ e.row (token_few _ _ _ c.token_len-n.ensures (omega arith)),
-      record { kinds = e.tokens.0; vals = e.tokens.1; given = e.tokens.2 },
+      e.seen,
     )
 
 pub overflow_add-n : goal.overflow_add-n
@@ -22,9 +22,9 @@ loop-y-preserved-then-y-eq0 c =
     let i = c.loop-y.invariant in
     let s = c.in-Some.ensures.steps in
     let t = c.next.new.self in
-    let m = over_here _ _ _ _ i.1 _ _ t s in (
-      rw (s.1) (rw (over_number _ _ _ _ i.1 _ _ t s c.if-y-eq0.true) at (owning_number _ _ _ _ _ _ i.0 m.1 m.2 m.3 c.if-y-eq0.true (omega arith) c.token_len-n-then-y-eq0.ensures)),
-      over_on _ _ _ _ i.1 _ _ t s,
+    let m = over_here _ _ i.1 _ _ t s in (
+      rw (s.1) (rw (over_number _ _ i.1 _ _ t s c.if-y-eq0.true) at (owning_number _ _ _ _ _ _ i.0 m.1 m.2 m.3 c.if-y-eq0.true (omega arith) c.token_len-n-then-y-eq0.ensures)),
+      over_on _ _ i.1 _ _ t s,
     )
 
 pub loop-y-preserved : goal.loop-y-preserved
@@ -32,14 +32,14 @@ loop-y-preserved c =
     let i = c.loop-y.invariant in
     let s = c.in-Some.ensures.steps in
     let t = c.next.new.self in
-    let m = over_here _ _ _ _ i.1 _ _ t s in (
-      rw (s.1) (rw (over_child _ _ _ _ i.1 _ _ t s) at (owning_child _ _ _ _ _ _ i.0 m.1 m.2 m.3 c.if-y-eq0.false _ (over_width _ _ _ _ i.1 _ _ t s))),
-      over_on _ _ _ _ i.1 _ _ t s,
+    let m = over_here _ _ i.1 _ _ t s in (
+      rw (s.1) (rw (over_child _ _ i.1 _ _ t s) at (owning_child _ _ _ _ _ _ i.0 m.1 m.2 m.3 c.if-y-eq0.false _ (over_width _ _ i.1 _ _ t s))),
+      over_on _ _ i.1 _ _ t s,
     )
 
 pub returns : goal.returns
 returns c =
-    let a = view c.args.kinds.now c.args.vals.now c.args.g in
+    let a = view c.args.seen.now.tokens.kinds.now c.args.seen.now.tokens.vals.now c.args.seen.now.given in
     let token-at' = c.token_at-x in
     let z = owning_done a c.args.h _ _ _ _ c.loop-y.invariant.0 c.in-None.ensures.steps.0.0 token-at'.ensures.kind
     token-at'.ensures.value c.token_len-n.ensures in

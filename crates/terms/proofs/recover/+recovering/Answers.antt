@@ -47,13 +47,13 @@ pub recover_row-overflow_sub-pe : goal.recover_row-overflow_sub-pe
 recover_row-overflow_sub-pe t c = omega (arith, c.paired.ensures.on c.loop-out-test.true, c.loop-out.invariant.0, c.loop-out.invariant.1, c.loop-out.invariant.2, c.requires.places)
 
 pub recover_row-skip-n-requires : goal.recover_row-skip-n-requires
-recover_row-skip-n-requires t c = (omega (arith, c.paired.ensures.on c.loop-out-test.true, c.loop-out.invariant.0, c.loop-out.invariant.1, c.loop-out.invariant.2, c.requires.places), c.requires.places.5, omega (arith, c.paired.ensures.on c.loop-out-test.true, c.loop-out.invariant.0, c.loop-out.invariant.1, c.loop-out.invariant.2, c.requires.places))
+recover_row-skip-n-requires t c = (omega (arith, c.paired.ensures.on c.loop-out-test.true, c.loop-out.invariant.0, c.loop-out.invariant.1, c.loop-out.invariant.2, c.requires.places), omega (arith, c.paired.ensures.on c.loop-out-test.true, c.loop-out.invariant.0, c.loop-out.invariant.1, c.loop-out.invariant.2, c.requires.places))
 
 pub recover_row-overflow_sub-qe : goal.recover_row-overflow_sub-qe
 recover_row-overflow_sub-qe t c = omega (arith, c.paired.ensures.on c.loop-out-test.true, c.loop-out.invariant.0, c.loop-out.invariant.1, c.loop-out.invariant.2, c.requires.places)
 
 pub recover_row-skip-m-requires : goal.recover_row-skip-m-requires
-recover_row-skip-m-requires t c = (omega (arith, c.paired.ensures.on c.loop-out-test.true, c.loop-out.invariant.0, c.loop-out.invariant.1, c.loop-out.invariant.2, c.requires.places), c.requires.places.5, omega (arith, c.paired.ensures.on c.loop-out-test.true, c.loop-out.invariant.0, c.loop-out.invariant.1, c.loop-out.invariant.2, c.requires.places))
+recover_row-skip-m-requires t c = (omega (arith, c.paired.ensures.on c.loop-out-test.true, c.loop-out.invariant.0, c.loop-out.invariant.1, c.loop-out.invariant.2, c.requires.places), omega (arith, c.paired.ensures.on c.loop-out-test.true, c.loop-out.invariant.0, c.loop-out.invariant.1, c.loop-out.invariant.2, c.requires.places))
 
 pub recover_row-overflow_add-i-else-word-eq0 : goal.recover_row-overflow_add-i-else-word-eq0
 recover_row-overflow_add-i-else-word-eq0 t c = omega (arith, c.paired.ensures.on c.loop-out-test.true, c.loop-out.invariant.0, c.loop-out.invariant.1, c.loop-out.invariant.2, c.requires.places, c.skip-n.ensures.some.1)
@@ -62,7 +62,7 @@ pub recover_row-overflow_add-j-else-word-eq0 : goal.recover_row-overflow_add-j-e
 recover_row-overflow_add-j-else-word-eq0 t c = omega (arith, c.paired.ensures.on c.loop-out-test.true, c.loop-out.invariant.0, c.loop-out.invariant.1, c.loop-out.invariant.2, c.requires.places, c.skip-m.ensures.some.1)
 
 pub recover_row-recover_term-to-requires : goal.recover_row-recover_term-to-requires
-recover_row-recover_term-to-requires t c = (omega (arith, c.paired.ensures.on c.loop-out-test.true, c.loop-out.invariant.0, c.loop-out.invariant.1, c.loop-out.invariant.2, c.requires.places, c.skip-n.ensures.some.0, c.skip-n.ensures.some.1), ((omega (arith, c.paired.ensures.on c.loop-out-test.true, c.skip-n.ensures.some.0), omega (arith, c.paired.ensures.on c.loop-out-test.true, c.loop-out.invariant.0, c.loop-out.invariant.1, c.loop-out.invariant.2, c.requires.places, c.skip-n.ensures.some.1), omega (arith, c.paired.ensures.on c.loop-out-test.true, c.skip-m.ensures.some.0), omega (arith, c.paired.ensures.on c.loop-out-test.true, c.loop-out.invariant.0, c.loop-out.invariant.1, c.loop-out.invariant.2, c.requires.places, c.skip-m.ensures.some.1), c.requires.places.5), omega (arith, c.paired.ensures.on c.loop-out-test.true, c.loop-out.invariant.0, c.loop-out.invariant.1, c.loop-out.invariant.2, c.requires.places, c.requires.room, c.skip-n.ensures.some.1, c.skip-m.ensures.some.1, c.skip-n.ensures.some.0, c.skip-m.ensures.some.0)))
+recover_row-recover_term-to-requires t c = (omega (arith, c.paired.ensures.on c.loop-out-test.true, c.loop-out.invariant.0, c.loop-out.invariant.1, c.loop-out.invariant.2, c.requires.places, c.skip-n.ensures.some.0, c.skip-n.ensures.some.1), ((omega (arith, c.paired.ensures.on c.loop-out-test.true, c.skip-n.ensures.some.0), omega (arith, c.paired.ensures.on c.loop-out-test.true, c.loop-out.invariant.0, c.loop-out.invariant.1, c.loop-out.invariant.2, c.requires.places, c.skip-n.ensures.some.1), omega (arith, c.paired.ensures.on c.loop-out-test.true, c.skip-m.ensures.some.0), omega (arith, c.paired.ensures.on c.loop-out-test.true, c.loop-out.invariant.0, c.loop-out.invariant.1, c.loop-out.invariant.2, c.requires.places, c.skip-m.ensures.some.1)), omega (arith, c.paired.ensures.on c.loop-out-test.true, c.loop-out.invariant.0, c.loop-out.invariant.1, c.loop-out.invariant.2, c.requires.places, c.requires.room, c.skip-n.ensures.some.1, c.skip-m.ensures.some.1, c.skip-n.ensures.some.0, c.skip-m.ensures.some.0)))
 
 pub recover_row-overflow_add-i-else-word-eq0-2 : goal.recover_row-overflow_add-i-else-word-eq0-2
 recover_row-overflow_add-i-else-word-eq0-2 t c = omega (arith, c.paired.ensures.on c.loop-out-test.true, c.loop-out.invariant.0, c.loop-out.invariant.1, c.loop-out.invariant.2, c.requires.places, c.skip-n.ensures.some.1)
@@ -114,8 +114,8 @@ recover_term-returns-then-stays t c = record {
   bound = omega (arith, c.put_run.ensures.bound, c.requires.places);
   put = λ t u ht hu ft fu.
       let a = c.args in
-      let ks = c.args.kinds.now in
-      let vs = c.args.vals.now in
+      let ks = c.args.tokens.now.kinds.now in
+      let vs = c.args.tokens.now.vals.now in
       let x = tag_told _ _ _ _ t ht _ _ c.word.ensures c.tag_of-k.ensures in
       let y = tag_told _ _ _ _ u hu _ _ c.word-2.ensures c.tag_of.ensures in
       let h = ap (λ (n : ℕ). recovery n || eqb (tag t) 1) (sym y) ∙ ap (λ (n : ℕ). recovery c.tag_of.result || eqb n 1) (sym x) ∙ sym c.stays.ensures ∙ c.if-stays.true in
@@ -133,8 +133,8 @@ recover_term-returns-then-is_hole t c = record {
   bound = omega (arith, c.put_run-then-is_hole.ensures.bound, c.requires.places);
   put = λ t u ht hu ft fu.
       let a = c.args in
-      let ks = c.args.kinds.now in
-      let vs = c.args.vals.now in
+      let ks = c.args.tokens.now.kinds.now in
+      let vs = c.args.tokens.now.vals.now in
       let x = tag_told _ _ _ _ t ht _ _ c.word.ensures c.tag_of-k.ensures in
       let y = tag_told _ _ _ _ u hu _ _ c.word-2.ensures c.tag_of.ensures in
       let h = ap (λ (n : ℕ). recovery n || eqb (tag t) 1) (sym y) ∙ ap (λ (n : ℕ). recovery c.tag_of.result || eqb n 1) (sym x) ∙ sym c.stays.ensures ∙ c.if-stays.false in
@@ -156,15 +156,15 @@ pub recover_term-overflow_add-q : goal.recover_term-overflow_add-q
 recover_term-overflow_add-q t c = omega (arith, c.requires.places)
 
 pub recover_term-recover_row-requires : goal.recover_term-recover_row-requires
-recover_term-recover_row-requires t c = (omega (arith, c.requires.places), ((omega (arith, c.reach_end-stop.ensures.within), omega (arith, c.reach_end-stop.ensures.within), c.requires.places.1, omega (arith, c.requires.places), c.requires.places.3, c.requires.places.4), omega (arith, c.put_run-next.ensures.bound, c.requires.places, c.requires.room)))
+recover_term-recover_row-requires t c = (omega (arith, c.requires.places), ((omega (arith, c.reach_end-stop.ensures.within), omega (arith, c.reach_end-stop.ensures.within), c.requires.places.1, omega (arith, c.requires.places), c.requires.places.3), omega (arith, c.put_run-next.ensures.bound, c.requires.places, c.requires.room)))
 
 pub recover_term-returns : goal.recover_term-returns
 recover_term-returns t c = record {
   bound = omega (arith, c.put_run-next.ensures.bound, c.recover_row.ensures.bound, c.requires.places);
   put = λ t u ht hu ft fu.
       let a = c.args in
-      let ks = c.args.kinds.now in
-      let vs = c.args.vals.now in
+      let ks = c.args.tokens.now.kinds.now in
+      let vs = c.args.tokens.now.vals.now in
       let x = tag_told _ _ _ _ t ht _ _ c.word.ensures c.tag_of-k.ensures in
       let y = tag_told _ _ _ _ u hu _ _ c.word-2.ensures c.tag_of.ensures in
       let h = ap (λ (n : ℕ). recovery n || eqb (tag t) 1) (sym y) ∙ ap (λ (n : ℕ). recovery c.tag_of.result || eqb n 1) (sym x) ∙ sym c.stays.ensures ∙ c.if-stays.false in

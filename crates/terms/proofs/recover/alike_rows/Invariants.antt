@@ -8,7 +8,7 @@ use Rattle.terms.proofs.recover.alike_rows.Given as goal
 
 abbrev pub invariant-loop-a : goal.invariant-loop-a
 invariant-loop-a l =
-    (l.i ≤ l.ae) × (l.j ≤ l.be) × ((ps qs : Parts) → HeldParts l.kinds l.vals l.a l.ae ps → HeldParts l.kinds l.vals l.b l.be qs → Alike l.kinds l.vals l.i l.ae l.j l.be (alike ps qs))
+    (l.i ≤ l.ae) × (l.j ≤ l.be) × ((ps qs : Parts) → HeldParts l.tokens.kinds.now l.tokens.vals.now l.a l.ae ps → HeldParts l.tokens.kinds.now l.tokens.vals.now l.b l.be qs → Alike l.tokens.kinds.now l.tokens.vals.now l.i l.ae l.j l.be (alike ps qs))
 
 abbrev pub decreases-loop-a : goal.decreases-loop-a
 decreases-loop-a l = l.ae - l.i

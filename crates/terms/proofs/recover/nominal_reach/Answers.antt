@@ -60,8 +60,8 @@ returns-then-alike_rows c = record {
       let j = c.behind_terms-j.ensures.behind (shape.members shape.done) b.row.rest b.rest (subst (λ (z : ℕ). Fit (many_terms z (shape.members shape.done)) b.row.rest) (sym m) b.row.fit) in
       let l = held_drop _ _ a.row.count _ _ a.row.rest a.rest in
       let r = held_drop _ _ b.row.count _ _ b.row.rest b.rest in
-      let u = subst (λ (z : ℕ). HeldParts c.args.kinds.now c.args.vals.now z c.args.pe (drop_parts a.row.count a.row.rest)) (sym (i ∙ ap (λ (z : ℕ). c.args.p + 3 + upto z a.row.rest) n)) l in
-      let v = subst (λ (z : ℕ). HeldParts c.args.kinds.now c.args.vals.now z c.args.qe (drop_parts b.row.count b.row.rest)) (sym (j ∙ ap (λ (z : ℕ). c.args.q + 3 + upto z b.row.rest) m)) r in
+      let u = subst (λ (z : ℕ). HeldParts c.args.tokens.now.kinds.now c.args.tokens.now.vals.now z c.args.pe (drop_parts a.row.count a.row.rest)) (sym (i ∙ ap (λ (z : ℕ). c.args.p + 3 + upto z a.row.rest) n)) l in
+      let v = subst (λ (z : ℕ). HeldParts c.args.tokens.now.kinds.now c.args.tokens.now.vals.now z c.args.qe (drop_parts b.row.count b.row.rest)) (sym (j ∙ ap (λ (z : ℕ). c.args.q + 3 + upto z b.row.rest) m)) r in
       reach_all ps qs a.row b.row _ x y _ (sym (members_alike ps qs a.row b.row) ∙ sym (c.alike_rows.ensures _ _ u v) ∙ c.if-alike_rows.true) a.ends;
 }
 
@@ -79,7 +79,7 @@ returns c = record {
       let j = c.behind_terms-j.ensures.behind (shape.members shape.done) b.row.rest b.rest (subst (λ (z : ℕ). Fit (many_terms z (shape.members shape.done)) b.row.rest) (sym m) b.row.fit) in
       let l = held_drop _ _ a.row.count _ _ a.row.rest a.rest in
       let r = held_drop _ _ b.row.count _ _ b.row.rest b.rest in
-      let u = subst (λ (z : ℕ). HeldParts c.args.kinds.now c.args.vals.now z c.args.pe (drop_parts a.row.count a.row.rest)) (sym (i ∙ ap (λ (z : ℕ). c.args.p + 3 + upto z a.row.rest) n)) l in
-      let v = subst (λ (z : ℕ). HeldParts c.args.kinds.now c.args.vals.now z c.args.qe (drop_parts b.row.count b.row.rest)) (sym (j ∙ ap (λ (z : ℕ). c.args.q + 3 + upto z b.row.rest) m)) r in
+      let u = subst (λ (z : ℕ). HeldParts c.args.tokens.now.kinds.now c.args.tokens.now.vals.now z c.args.pe (drop_parts a.row.count a.row.rest)) (sym (i ∙ ap (λ (z : ℕ). c.args.p + 3 + upto z a.row.rest) n)) l in
+      let v = subst (λ (z : ℕ). HeldParts c.args.tokens.now.kinds.now c.args.tokens.now.vals.now z c.args.qe (drop_parts b.row.count b.row.rest)) (sym (j ∙ ap (λ (z : ℕ). c.args.q + 3 + upto z b.row.rest) m)) r in
       reach_arguments ps qs a.row b.row _ x y _ (sym (members_alike ps qs a.row b.row) ∙ sym (c.alike_rows.ensures _ _ u v) ∙ c.if-alike_rows.false) (i ∙ ap (λ (z : ℕ). c.args.p + 3 + upto z a.row.rest) n);
 }

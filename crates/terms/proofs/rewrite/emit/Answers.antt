@@ -9,43 +9,43 @@ use Rattle.terms.proofs.rewrite.emit.Goals as goal
 pub emit_run-requires : goal.emit_run-requires
 emit_run-requires c =
     let a = c.args in
-    record { run = (omega arith, omega arith); space = respaced _ a.out.now _ _ _ (keep_piece a.kinds.now a.vals.now a.p a.c c.in-Keep.is) _ c.requires.space }
+    record { run = (omega arith, omega arith); space = respaced _ a.out.now _ _ _ (keep_piece a.tokens.now.kinds.now a.tokens.now.vals.now a.p a.c c.in-Keep.is) _ c.requires.space }
 
 pub emit_run-requires-in-By : goal.emit_run-requires-in-By
 emit_run-requires-in-By c =
     let a = c.args in
-    let h = inside_by a.kinds.now a.vals.now a.p a.c _ c.in-By.is c.requires.areas.2 in
-    let l = stride_in a.kinds.now a.vals.now a.p _ _ h c.skip-n.ensures.is in
-    record { run = (l, omega (arith, c.requires.areas.1)); space = respaced _ a.out.now _ _ _ (by_piece a.kinds.now a.vals.now a.p a.c _ _ c.in-By.is c.skip-n.ensures.is) _ c.requires.space }
+    let h = inside_by a.tokens.now.kinds.now a.tokens.now.vals.now a.p a.c _ c.in-By.is c.requires.areas.1 in
+    let l = stride_in a.tokens.now.kinds.now a.tokens.now.vals.now a.p _ _ h c.skip-n.ensures.is in
+    record { run = (l, omega (arith, c.args.tokens.now.pairs)); space = respaced _ a.out.now _ _ _ (by_piece a.tokens.now.kinds.now a.tokens.now.vals.now a.p a.c _ _ c.in-By.is c.skip-n.ensures.is) _ c.requires.space }
 
 pub bounds-out-i : goal.bounds-out-i
 bounds-out-i c =
     let a = c.args in
-    let h = respaced _ a.out.now _ _ _ (unknown_piece a.kinds.now a.vals.now a.p a.c c.in-Unknown.is) _ c.requires.space in
+    let h = respaced _ a.out.now _ _ _ (unknown_piece a.tokens.now.kinds.now a.tokens.now.vals.now a.p a.c c.in-Unknown.is) _ c.requires.space in
     omega (arith, h.fits c.if-on.true)
 
 pub returns-then-on : goal.returns-then-on
 returns-then-on c =
     let a = c.args in
-    let both = retold a.on a.out.now a.i _ _ (unknown_piece a.kinds.now a.vals.now a.p a.c c.in-Unknown.is) _ _ refl (pick_yes a.on (sets a.out.now a.i (2 ∷ [])) a.out.now c.if-on.true) in record { next = both.0; wrote = both.1 }
+    let both = retold a.on a.out.now a.i _ _ (unknown_piece a.tokens.now.kinds.now a.tokens.now.vals.now a.p a.c c.in-Unknown.is) _ _ refl (pick_yes a.on (sets a.out.now a.i (2 ∷ [])) a.out.now c.if-on.true) in record { next = both.0; wrote = both.1 }
 
 pub overflow_add-result-in-Unknown : goal.overflow_add-result-in-Unknown
 overflow_add-result-in-Unknown c =
     let a = c.args in
-    let h = respaced _ a.out.now _ _ _ (unknown_piece a.kinds.now a.vals.now a.p a.c c.in-Unknown.is) _ c.requires.space in
+    let h = respaced _ a.out.now _ _ _ (unknown_piece a.tokens.now.kinds.now a.tokens.now.vals.now a.p a.c c.in-Unknown.is) _ c.requires.space in
     omega (arith, h.counts)
 
 pub returns-in-Keep : goal.returns-in-Keep
 returns-in-Keep c =
     let a = c.args in
-    let both = retold a.on a.out.now a.i _ _ (keep_piece a.kinds.now a.vals.now a.p a.c c.in-Keep.is) _ _ c.emit_run.ensures.next c.emit_run.ensures.wrote in record { next = both.0; wrote = both.1 }
+    let both = retold a.on a.out.now a.i _ _ (keep_piece a.tokens.now.kinds.now a.tokens.now.vals.now a.p a.c c.in-Keep.is) _ _ c.emit_run.ensures.next c.emit_run.ensures.wrote in record { next = both.0; wrote = both.1 }
 
 pub returns-in-By : goal.returns-in-By
 returns-in-By c =
     let a = c.args in
-    let both = retold a.on a.out.now a.i _ _ (by_piece a.kinds.now a.vals.now a.p a.c _ _ c.in-By.is c.skip-n.ensures.is) _ _ c.emit_run-in-By.ensures.next c.emit_run-in-By.ensures.wrote in record { next = both.0; wrote = both.1 }
+    let both = retold a.on a.out.now a.i _ _ (by_piece a.tokens.now.kinds.now a.tokens.now.vals.now a.p a.c _ _ c.in-By.is c.skip-n.ensures.is) _ _ c.emit_run-in-By.ensures.next c.emit_run-in-By.ensures.wrote in record { next = both.0; wrote = both.1 }
 
 pub returns-else-on : goal.returns-else-on
 returns-else-on c =
     let a = c.args in
-    let both = retold a.on a.out.now a.i _ _ (unknown_piece a.kinds.now a.vals.now a.p a.c c.in-Unknown.is) _ _ refl (pick_no a.on (sets a.out.now a.i (2 ∷ [])) a.out.now c.if-on.false) in record { next = both.0; wrote = both.1 }
+    let both = retold a.on a.out.now a.i _ _ (unknown_piece a.tokens.now.kinds.now a.tokens.now.vals.now a.p a.c c.in-Unknown.is) _ _ refl (pick_no a.on (sets a.out.now a.i (2 ∷ [])) a.out.now c.if-on.false) in record { next = both.0; wrote = both.1 }

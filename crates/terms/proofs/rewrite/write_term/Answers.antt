@@ -7,10 +7,10 @@ pub rewrite_run-requires : goal.rewrite_run-requires
 rewrite_run-requires c =
     let a = c.args in
     let e = c.skip-n.ensures.is in
-    record { areas = c.requires.areas; run = stride_in a.kinds.now a.vals.now a.from _ _ c.requires.place e; space = whole_space a.kinds.now a.vals.now a.s.now a.b a.from _ e _ _ _ c.requires.space }
+    record { areas = c.requires.areas; run = stride_in a.tokens.now.kinds.now a.tokens.now.vals.now a.from _ _ c.requires.place e; space = whole_space a.tokens.now.kinds.now a.tokens.now.vals.now a.s.now a.b a.from _ e _ _ _ c.requires.space }
 
 pub returns : goal.returns
 returns c =
     let a = c.args in
-    let w = whole_writes a.kinds.now a.vals.now a.s.now a.b a.from _ c.skip-n.ensures.is a.on a.out.now a.at _ _ c.rewrite_run.ensures.next c.rewrite_run.ensures.wrote in
-    record { words = w; trees = rewrites a.kinds.now a.vals.now a.s.now a.b a.from _ w }
+    let w = whole_writes a.tokens.now.kinds.now a.tokens.now.vals.now a.s.now a.b a.from _ c.skip-n.ensures.is a.on a.out.now a.at _ _ c.rewrite_run.ensures.next c.rewrite_run.ensures.wrote in
+    record { words = w; trees = rewrites a.tokens.now.kinds.now a.tokens.now.vals.now a.s.now a.b a.from _ w }

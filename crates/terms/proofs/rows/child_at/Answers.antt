@@ -6,12 +6,12 @@ pub loop-q-init : goal.loop-q-init
 loop-q-init c =
     let a = c.args in
     let e = c.walk_row-q-items.ensures in
-    (rw c.into_iter-q-iterator.ensures.into_iter_gives (walk_start a.kinds.now a.vals.now a.g a.x.head c.walk_row-q-items.result (Counted 0) e.row e.tokens counted_start), omega arith, omega arith)
+    (rw c.into_iter-q-iterator.ensures.into_iter_gives (walk_start a.seen.now a.x.head c.walk_row-q-items.result (Counted 0) e.row e.seen counted_start), omega arith, omega arith)
 
 pub returns-then-n-i : goal.returns-then-n-i
 returns-then-n-i c =
     let w = c.loop-q.invariant.0 in
-    let m = over_here _ _ _ _ w.over _ _ c.next.new.self c.in-Some.ensures.steps in
+    let m = over_here _ _ w.over _ _ c.next.new.self c.in-Some.ensures.steps in
     λ S t x.
     let r = child_found _ _ _ _ _ w.scan m.1 m.2 m.3 c.if-y-ne0.true c.args.heads.now c.args.kids.now S c.args.x.kids
     t x _ _ (rw m.0 at c.child_here.ensures.head) c.child_here.ensures.kids in
@@ -22,8 +22,8 @@ loop-q-preserved-then-y-ne0 c =
     let i = c.loop-q.invariant in
     let w = i.0 in
     let s = c.in-Some.ensures.steps in
-    let m = over_here _ _ _ _ w.over _ _ c.next.new.self s in (
-      walk_child _ _ _ _ _ _ w _ _ c.next.new.self s _ (child_next _ _ _ _ _ w.scan m.1 m.2 m.3 c.if-y-ne0.true _ (over_width _ _ _ _ w.over _ _ c.next.new.self s)),
+    let m = over_here _ _ w.over _ _ c.next.new.self s in (
+      walk_child _ _ _ _ w _ _ c.next.new.self s _ (child_next _ _ _ _ _ w.scan m.1 m.2 m.3 c.if-y-ne0.true _ (over_width _ _ w.over _ _ c.next.new.self s)),
       omega (arith, i.1, s.0.4),
       omega (arith, i.2, c.if-n-i.false),
     )
@@ -33,8 +33,8 @@ loop-q-preserved c =
     let i = c.loop-q.invariant in
     let w = i.0 in
     let s = c.in-Some.ensures.steps in
-    let m = over_here _ _ _ _ w.over _ _ c.next.new.self s in (
-      walk_number _ _ _ _ _ _ w _ _ c.next.new.self s c.if-y-ne0.false _ (child_number _ _ _ _ _ w.scan m.1 m.2 m.3 c.if-y-ne0.false),
+    let m = over_here _ _ w.over _ _ c.next.new.self s in (
+      walk_number _ _ _ _ w _ _ c.next.new.self s c.if-y-ne0.false _ (child_number _ _ _ _ _ w.scan m.1 m.2 m.3 c.if-y-ne0.false),
       omega (arith, i.1, s.0.4),
       i.2,
     )

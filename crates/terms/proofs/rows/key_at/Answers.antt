@@ -7,20 +7,20 @@ pub loop-y-init : goal.loop-y-init
 loop-y-init c =
     let a = c.args in
     let e = c.walk_row-y-items.ensures in
-    (rw c.into_iter-y-iterator.ensures.into_iter_gives (walk_start a.kinds.now a.vals.now a.g a.h c.walk_row-y-items.result (Passed a.x 0) e.row e.tokens (passed_start a.x)), omega arith)
+    (rw c.into_iter-y-iterator.ensures.into_iter_gives (walk_start a.seen.now a.h c.walk_row-y-items.result (Passed a.x 0) e.row e.seen (passed_start a.x)), omega arith)
 
 pub returns-then-k-ge3 : goal.returns-then-k-ge3
 returns-then-k-ge3 c =
     let w = c.loop-y.invariant.0 in
-    let m = over_here _ _ _ _ w.over _ _ c.next.new.self c.in-Some.ensures.steps in
+    let m = over_here _ _ w.over _ _ c.next.new.self c.in-Some.ensures.steps in
     key_here _ _ _ _ _ _ w.scan m.1 m.2 m.3 c.if-y-eq0.true c.if-y-x.true c.if-k-ge3.true
 
 pub loop-y-preserved-then-y-eq0 : goal.loop-y-preserved-then-y-eq0
 loop-y-preserved-then-y-eq0 c =
     let w = c.loop-y.invariant.0 in
     let s = c.in-Some.ensures.steps in
-    let m = over_here _ _ _ _ w.over _ _ c.next.new.self s in (
-      walk_number _ _ _ _ _ _ w _ _ c.next.new.self s c.if-y-eq0.true _ (key_next _ _ _ _ _ _ w.scan m.1 m.2 m.3
+    let m = over_here _ _ w.over _ _ c.next.new.self s in (
+      walk_number _ _ _ _ w _ _ c.next.new.self s c.if-y-eq0.true _ (key_next _ _ _ _ _ _ w.scan m.1 m.2 m.3
           c.if-y-eq0.true (λ k e. elim c.if-y-x.branch [ then-y-x+else-k-ge3 w ↦ omega (arith, w.if-k-ge3.false) | else-y-x w ↦ w.if-y-x.false e ])),
       omega (arith, c.loop-y.invariant.1, s.0.4),
     )
@@ -29,8 +29,8 @@ pub loop-y-preserved : goal.loop-y-preserved
 loop-y-preserved c =
     let w = c.loop-y.invariant.0 in
     let s = c.in-Some.ensures.steps in
-    let m = over_here _ _ _ _ w.over _ _ c.next.new.self s in (
-      walk_child _ _ _ _ _ _ w _ _ c.next.new.self s _ (key_pass _ _ _ _ _ _ w.scan m.1 m.2 m.3 c.if-y-eq0.false _ (over_width _ _ _ _ w.over _ _ c.next.new.self s)),
+    let m = over_here _ _ w.over _ _ c.next.new.self s in (
+      walk_child _ _ _ _ w _ _ c.next.new.self s _ (key_pass _ _ _ _ _ _ w.scan m.1 m.2 m.3 c.if-y-eq0.false _ (over_width _ _ w.over _ _ c.next.new.self s)),
       omega (arith, c.loop-y.invariant.1, s.0.4),
     )
 

@@ -4,4 +4,4 @@ use Rattle.terms.proofs.Laws.Normalising.ScanLaws.{Walking, Passed}
 use Rattle.terms.proofs.rows.key_at.Given as goal
 
 abbrev pub invariant-loop-y : goal.invariant-loop-y
-invariant-loop-y l = Walking l.kinds l.vals l.fn.g l.h l.y-iterator (Passed l.x l.k) × (l.k ≤ l.y-iterator.at)
+invariant-loop-y l = Walking l.seen l.h l.y-iterator (Passed l.x l.k) × (l.k ≤ l.y-iterator.at)

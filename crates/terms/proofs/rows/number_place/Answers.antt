@@ -8,31 +8,31 @@ pub loop-q-init : goal.loop-q-init
 loop-q-init c =
     let a = c.args in
     let e = c.walk_row-q-items.ensures in
-    rw c.into_iter-q-iterator.ensures.into_iter_gives (walk_start a.kinds.now a.vals.now a.g a.h c.walk_row-q-items.result (Wanted a.i a.i) e.row e.tokens (λ w. refl))
+    rw c.into_iter-q-iterator.ensures.into_iter_gives (walk_start a.seen.now a.h c.walk_row-q-items.result (Wanted a.i a.i) e.row e.seen (λ w. refl))
 
 pub returns-then-left-eq0 : goal.returns-then-left-eq0
 returns-then-left-eq0 c =
     let w = c.loop-q.invariant in
-    let m = over_here _ _ _ _ w.over _ _ c.next.new.self c.in-Some.ensures.steps in
+    let m = over_here _ _ w.over _ _ c.next.new.self c.in-Some.ensures.steps in
     rw m.0 (number_here _ _ _ _ _ _ w.scan m.1 m.2 m.3 c.if-x-eq0.true c.if-left-eq0.true)
 
 pub loop-q-preserved-then-x-eq0 : goal.loop-q-preserved-then-x-eq0
 loop-q-preserved-then-x-eq0 c =
     let w = c.loop-q.invariant in
     let s = c.in-Some.ensures.steps in
-    let m = over_here _ _ _ _ w.over _ _ c.next.new.self s in
-    walk_number _ _ _ _ _ _ w _ _ c.next.new.self s c.if-x-eq0.true _ (number_next _ _ _ _ _ _ w.scan m.1 m.2 m.3 c.if-x-eq0.true _ (omega arith))
+    let m = over_here _ _ w.over _ _ c.next.new.self s in
+    walk_number _ _ _ _ w _ _ c.next.new.self s c.if-x-eq0.true _ (number_next _ _ _ _ _ _ w.scan m.1 m.2 m.3 c.if-x-eq0.true _ (omega arith))
 
 pub loop-q-preserved : goal.loop-q-preserved
 loop-q-preserved c =
     let w = c.loop-q.invariant in
     let s = c.in-Some.ensures.steps in
-    let m = over_here _ _ _ _ w.over _ _ c.next.new.self s in
-    walk_child _ _ _ _ _ _ w _ _ c.next.new.self s _ (number_pass _ _ _ _ _ _ w.scan m.1 m.2 m.3 c.if-x-eq0.false _ (over_width _ _ _ _ w.over _ _ c.next.new.self s))
+    let m = over_here _ _ w.over _ _ c.next.new.self s in
+    walk_child _ _ _ _ w _ _ c.next.new.self s _ (number_pass _ _ _ _ _ _ w.scan m.1 m.2 m.3 c.if-x-eq0.false _ (over_width _ _ w.over _ _ c.next.new.self s))
 
 pub returns : goal.returns
 returns c =
-    let f = few_kinds c.args.kinds.now c.args.vals.now c.args.g c.requires in
-    let g = few_vals c.args.kinds.now c.args.vals.now c.args.g c.requires in
+    let f = few_kinds c.args.seen.now.tokens.kinds.now c.args.seen.now.tokens.vals.now c.args.seen.now.given c.args.seen.now.sight in
+    let g = few_vals c.args.seen.now.tokens.kinds.now c.args.seen.now.tokens.vals.now c.args.seen.now.given c.args.seen.now.sight in
     let w = c.loop-q.invariant in
     number_over _ _ _ _ _ _ w.scan _ (omega arith) (omega arith) c.in-None.ensures.steps.0.0

@@ -3,4 +3,4 @@ use Rattle.terms.proofs.Laws.Normalising.ScanLaws.{Walking, Wanted}
 use Rattle.terms.proofs.rows.number_place.Given as goal
 
 abbrev pub invariant-loop-q : goal.invariant-loop-q
-invariant-loop-q l = Walking l.kinds l.vals l.fn.g l.h l.q-iterator (Wanted l.i l.left)
+invariant-loop-q l = Walking l.seen l.h l.q-iterator (Wanted l.i l.left)

@@ -9,12 +9,12 @@ use Rattle.terms.proofs.rows.row_of.Goals as goal
 pub returns-then-end-gt-NOWHERE : goal.returns-then-end-gt-NOWHERE
 returns-then-end-gt-NOWHERE c =
     let token-at' = c.token_at in
-    row_cut (view c.args.kinds.now c.args.vals.now c.args.g) _ _ _ refl token-at'.ensures.kind
-    token-at'.ensures.value c.step.ensures.span _ (omega arith) (few_kinds c.args.kinds.now c.args.vals.now c.args.g
-    c.requires) c.if-end-gt-NOWHERE.true
+    row_cut (view c.args.seen.now.tokens.kinds.now c.args.seen.now.tokens.vals.now c.args.seen.now.given) _ _ _ refl token-at'.ensures.kind
+    token-at'.ensures.value c.step.ensures.span _ (omega arith) (few_kinds c.args.seen.now.tokens.kinds.now c.args.seen.now.tokens.vals.now c.args.seen.now.given
+    c.args.seen.now.sight) c.if-end-gt-NOWHERE.true
 
 pub returns : goal.returns
 returns c =
     let token-at' = c.token_at in
-    row_is (view c.args.kinds.now c.args.vals.now c.args.g) _ _ _ refl token-at'.ensures.kind
+    row_is (view c.args.seen.now.tokens.kinds.now c.args.seen.now.tokens.vals.now c.args.seen.now.given) _ _ _ refl token-at'.ensures.kind
     token-at'.ensures.value c.step.ensures.span (omega arith)

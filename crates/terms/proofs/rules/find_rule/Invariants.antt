@@ -6,13 +6,13 @@ use Rattle.terms.proofs.Laws.Normalising.RuleLaws.{Arguing, Searching}
 use Rattle.terms.proofs.rules.find_rule.Given as goal
 
 abbrev pub invariant-loop-m : goal.invariant-loop-m
-invariant-loop-m l = Arguing l.kinds l.vals l.g l.heads l.kids l.s l.fuel (rule_at l.rules l.r) l.m l.a l.left × (l.a < 4294967296)
+invariant-loop-m l = Arguing l.seen.tokens.kinds.now l.seen.tokens.vals.now l.seen.given l.heads l.kids l.s l.fuel (rule_at l.rules l.r) l.m l.a l.left × (l.a < 4294967296)
 
 abbrev pub decreases-loop-m : goal.decreases-loop-m
 decreases-loop-m l = l.left
 
 abbrev pub invariant-rules : goal.invariant-rules
-invariant-rules l = Searching l.kinds l.vals l.rules l.g l.heads l.kids l.s l.fuel l.r × (l.r ≤ l.count) × (l.count ≡ rule_count l.rules)
+invariant-rules l = Searching l.seen.tokens.kinds.now l.seen.tokens.vals.now l.rules l.seen.given l.heads l.kids l.s l.fuel l.r × (l.r ≤ l.count) × (l.count ≡ rule_count l.rules)
 
 abbrev pub decreases-rules : goal.decreases-rules
 decreases-rules l = l.count - l.r

@@ -8,9 +8,9 @@ loop-y-preserved-then-y-eq0 c =
     let i = c.loop-y.invariant in
     let s = c.in-Some.ensures.steps in
     let t = c.next.new.self in
-    let m = over_here _ _ _ _ i.1 _ _ t s in (
-      rw (over_number _ _ _ _ i.1 _ _ t s c.if-y-eq0.true) at (calling_number _ _ _ _ _ i.0 (rw i.2 at m.1) m.2 m.3 c.if-y-eq0.true),
-      over_on _ _ _ _ i.1 _ _ t s,
+    let m = over_here _ _ i.1 _ _ t s in (
+      rw (over_number _ _ i.1 _ _ t s c.if-y-eq0.true) at (calling_number _ _ _ _ _ i.0 (rw i.2 at m.1) m.2 m.3 c.if-y-eq0.true),
+      over_on _ _ i.1 _ _ t s,
       s.1 ∙ i.2,
     )
 
@@ -19,9 +19,9 @@ loop-y-preserved c =
     let i = c.loop-y.invariant in
     let s = c.in-Some.ensures.steps in
     let t = c.next.new.self in
-    let m = over_here _ _ _ _ i.1 _ _ t s in (
-      rw (over_child _ _ _ _ i.1 _ _ t s) at (calling_child _ _ _ _ _ i.0 (rw i.2 at m.1) m.2 m.3 c.if-y-eq0.false _ (over_width _ _ _ _ i.1 _ _ t s)),
-      over_on _ _ _ _ i.1 _ _ t s,
+    let m = over_here _ _ i.1 _ _ t s in (
+      rw (over_child _ _ i.1 _ _ t s) at (calling_child _ _ _ _ _ i.0 (rw i.2 at m.1) m.2 m.3 c.if-y-eq0.false _ (over_width _ _ i.1 _ _ t s)),
+      over_on _ _ i.1 _ _ t s,
       s.1 ∙ i.2,
     )
 

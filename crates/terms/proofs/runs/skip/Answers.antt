@@ -7,4 +7,4 @@ use Rattle.terms.proofs.runs.skip.Goals as goal
 pub returns-clause-is : goal.returns-clause-is
 returns-clause-is c =
     let a = c.args in
-    c.clamp.ensures ∙ ap (λ (s : ℕ). max 1 (min s a.room)) c.span.ensures ∙ clip_clamp a.room _ c.requires.2
+    c.clamp.ensures ∙ ap (λ (s : ℕ). max 1 (min s a.room)) c.span.ensures ∙ clip_clamp a.room _ c.requires.1

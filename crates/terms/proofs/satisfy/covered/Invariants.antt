@@ -11,9 +11,9 @@ use Rattle.terms.proofs.satisfy.covered.Given as goal
 
 abbrev pub invariant-loop-left : goal.invariant-loop-left
 invariant-loop-left l =
-    (l.i ≤ length l.kinds + 1)
-    × ((d : ℕ) (n : Nominal) (rest : Parts) (w : Term) (e : ℕ) (more : Parts) (o : Bool) → Laid l.kinds l.vals l.a d n rest → Listed l.kinds l.vals l.x d n.members n.values rest
-    → Held l.kinds l.vals l.receiver w → Pairs l.kinds l.vals l.p l.count e more (every (covers n w)) o → Pairs l.kinds l.vals l.i l.left e more (every (covers n w)) o)
+    (l.i ≤ length l.tokens.kinds.now + 1)
+    × ((d : ℕ) (n : Nominal) (rest : Parts) (w : Term) (e : ℕ) (more : Parts) (o : Bool) → Laid l.tokens.kinds.now l.tokens.vals.now l.a d n rest → Listed l.tokens.kinds.now l.tokens.vals.now l.x d n.members n.values rest
+    → Held l.tokens.kinds.now l.tokens.vals.now l.receiver w → Pairs l.tokens.kinds.now l.tokens.vals.now l.p l.count e more (every (covers n w)) o → Pairs l.tokens.kinds.now l.tokens.vals.now l.i l.left e more (every (covers n w)) o)
 
 abbrev pub decreases-loop-left : goal.decreases-loop-left
 decreases-loop-left l = l.left

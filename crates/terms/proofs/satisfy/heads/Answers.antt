@@ -4,11 +4,11 @@ use native.Mathlib.Omega.{arith}
 use Rattle.terms.proofs.Laws.Asking.BoundLaws.{laid_words, declarations_differ, counts_differ, headed_lists, headed}
 use Rattle.terms.proofs.satisfy.heads.Goals as goal
 
-pub returns-then-kinds-a : goal.returns-then-kinds-a
-returns-then-kinds-a c = record { within = tt; headed = λ d n rest e m more x y. absurd (omega (arith, (laid_words _ _ _ d n rest x).inside)) }
+pub returns-then-tokens-a : goal.returns-then-tokens-a
+returns-then-tokens-a c = record { within = tt; headed = λ d n rest e m more x y. absurd (omega (arith, (laid_words _ _ _ d n rest x).inside)) }
 
-pub returns-then-kinds-b : goal.returns-then-kinds-b
-returns-then-kinds-b c = record { within = tt; headed = λ d n rest e m more x y. absurd (omega (arith, (laid_words _ _ _ e m more y).inside)) }
+pub returns-then-tokens-b : goal.returns-then-tokens-b
+returns-then-tokens-b c = record { within = tt; headed = λ d n rest e m more x y. absurd (omega (arith, (laid_words _ _ _ e m more y).inside)) }
 
 pub returns-then-word : goal.returns-then-word
 returns-then-word c = record { within = tt; headed = λ d n rest e m more x y. declarations_differ _ _ _ d n rest _ e m more x y (λ z. c.if-word.true (c.word.ensures ∙ z ∙ sym c.word-2.ensures)) }

@@ -6,25 +6,25 @@ use Rattle.terms.proofs.Laws.Held.NominalLaws.{called, projected, not_projected,
 use Rattle.terms.proofs.Laws.Asking.BoundLaws.{other_receiver, not_satisfied, other_member, by_arguments}
 use Rattle.terms.proofs.satisfy.is_reflexive.Goals as goal
 
-pub returns-then-kinds-t-ne20 : goal.returns-then-kinds-t-ne20
-returns-then-kinds-t-ne20 c = λ d n rest w u x hw hu f. sym (not_projected n w _ u (λ e. c.if-kinds-t-ne20.true ((held_first _ _ _ u hu).0 ∙ e)))
+pub returns-then-tokens-t-ne20 : goal.returns-then-tokens-t-ne20
+returns-then-tokens-t-ne20 c = λ d n rest w u x hw hu f. sym (not_projected n w _ u (λ e. c.if-tokens-t-ne20.true ((held_first _ _ _ u hu).0 ∙ e)))
 
-pub returns-then-kinds-t : goal.returns-then-kinds-t
-returns-then-kinds-t c =
+pub returns-then-tokens-t : goal.returns-then-tokens-t
+returns-then-tokens-t c =
     λ d n rest w u x hw hu f.
-    let y = projected u f (sym (held_first _ _ _ u hu).0 ∙ c.if-kinds-t-ne20.false) in
+    let y = projected u f (sym (held_first _ _ _ u hu).0 ∙ c.if-tokens-t-ne20.false) in
     absurd (omega (arith, (receiver_held _ _ _ u hu y).within, items_some y.receiver))
 
 pub returns-then-not-same_term : goal.returns-then-not-same_term
 returns-then-not-same_term c =
     λ d n rest w u x hw hu f.
-    let y = projected u f (sym (held_first _ _ _ u hu).0 ∙ c.if-kinds-t-ne20.false) in
+    let y = projected u f (sym (held_first _ _ _ u hu).0 ∙ c.if-tokens-t-ne20.false) in
     other_receiver n w _ u y _ (c.same_term.ensures y.receiver w (receiver_held _ _ _ u hu y) hw) c.if-not-same_term.true-raw
 
 pub returns-then-word-member : goal.returns-then-word-member
 returns-then-word-member c =
     λ d n rest w u x hw hu f.
-    let y = projected u f (sym (held_first _ _ _ u hu).0 ∙ c.if-kinds-t-ne20.false) in
+    let y = projected u f (sym (held_first _ _ _ u hu).0 ∙ c.if-tokens-t-ne20.false) in
     let h = receiver_held _ _ _ u hu y in
     let l = interface_laid _ _ _ u hu y _ (c.behind-i.ensures.passed y.receiver h) f in
     let g = rw c.in-Some.is at (c.satisfies_row-r.ensures.satisfied d n rest l.0 y.interface (called y.member y.arguments) x l.1) in
@@ -34,7 +34,7 @@ returns-then-word-member c =
 pub returns-else-word-member : goal.returns-else-word-member
 returns-else-word-member c =
     λ d n rest w u x hw hu f.
-    let y = projected u f (sym (held_first _ _ _ u hu).0 ∙ c.if-kinds-t-ne20.false) in
+    let y = projected u f (sym (held_first _ _ _ u hu).0 ∙ c.if-tokens-t-ne20.false) in
     let h = receiver_held _ _ _ u hu y in
     let l = interface_laid _ _ _ u hu y _ (c.behind-i.ensures.passed y.receiver h) f in
     let g = rw c.in-Some.is at (c.satisfies_row-r.ensures.satisfied d n rest l.0 y.interface (called y.member y.arguments) x l.1) in
@@ -44,7 +44,7 @@ returns-else-word-member c =
 pub returns-in-None : goal.returns-in-None
 returns-in-None c =
     λ d n rest w u x hw hu f.
-    let y = projected u f (sym (held_first _ _ _ u hu).0 ∙ c.if-kinds-t-ne20.false) in
+    let y = projected u f (sym (held_first _ _ _ u hu).0 ∙ c.if-tokens-t-ne20.false) in
     let h = receiver_held _ _ _ u hu y in
     let l = interface_laid _ _ _ u hu y _ (c.behind-i.ensures.passed y.receiver h) f in
     let g = rw c.in-None.is at (c.satisfies_row-r.ensures.satisfied d n rest l.0 y.interface (called y.member y.arguments) x l.1) in

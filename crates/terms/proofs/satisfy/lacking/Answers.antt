@@ -3,8 +3,8 @@ use native.Mathlib.Omega.{arith}
 use Rattle.terms.proofs.Laws.Asking.BoundLaws.{next_pair, pair_inside, given_next, not_given, every_over}
 use Rattle.terms.proofs.satisfy.lacking.Goals as goal
 
-pub returns-then-kinds-i : goal.returns-then-kinds-i
-returns-then-kinds-i c = record {
+pub returns-then-tokens-i : goal.returns-then-tokens-i
+returns-then-tokens-i c = record {
   within = omega arith;
   gave = λ d gs hs other f e rest w l h x.
       let y = next_pair _ _ _ _ e rest _ w (c.loop-k.invariant.1 d gs hs other f e rest w l h x) (omega arith) in

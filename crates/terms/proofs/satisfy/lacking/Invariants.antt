@@ -10,6 +10,6 @@ use Rattle.terms.proofs.satisfy.lacking.Given as goal
 
 abbrev pub invariant-loop-k : goal.invariant-loop-k
 invariant-loop-k l =
-    (l.i ≤ length l.kinds + 1)
-    × ((d : ℕ) (gs : List ℕ) (hs : List Term) (other : Parts) (f : ℕ → Term → Bool) (e : ℕ) (rest : Parts) (w : Bool) → Listed l.kinds l.vals l.x d gs hs other
-    → Passes gs hs f → Pairs l.kinds l.vals l.p l.count e rest (every f) w → Pairs l.kinds l.vals l.i (l.count - l.k) e rest (every f) w)
+    (l.i ≤ length l.tokens.kinds.now + 1)
+    × ((d : ℕ) (gs : List ℕ) (hs : List Term) (other : Parts) (f : ℕ → Term → Bool) (e : ℕ) (rest : Parts) (w : Bool) → Listed l.tokens.kinds.now l.tokens.vals.now l.x d gs hs other
+    → Passes gs hs f → Pairs l.tokens.kinds.now l.tokens.vals.now l.p l.count e rest (every f) w → Pairs l.tokens.kinds.now l.tokens.vals.now l.i (l.count - l.k) e rest (every f) w)

@@ -9,5 +9,5 @@ use Rattle.terms.proofs.satisfy.member_at.Given as goal
 
 abbrev pub invariant-loop-k : goal.invariant-loop-k
 invariant-loop-k l =
-    (l.i ≤ length l.kinds + 1)
-    × ((e : ℕ) (rest : Parts) (w : Option Term) → Pairs l.kinds l.vals l.p l.count e rest (look_up l.member) w → Pairs l.kinds l.vals l.i (l.count - l.k) e rest (look_up l.member) w)
+    (l.i ≤ length l.tokens.kinds.now + 1)
+    × ((e : ℕ) (rest : Parts) (w : Option Term) → Pairs l.tokens.kinds.now l.tokens.vals.now l.p l.count e rest (look_up l.member) w → Pairs l.tokens.kinds.now l.tokens.vals.now l.i (l.count - l.k) e rest (look_up l.member) w)

@@ -3,16 +3,16 @@ use native.Mathlib.Omega.{arith}
 use Rattle.terms.proofs.Laws.Asking.BoundLaws.{next_arguments, arguments_over, argument_left, argument_right, arguments_differ, arguments_next}
 use Rattle.terms.proofs.satisfy.same_terms.Goals as goal
 
-pub returns-then-kinds-i : goal.returns-then-kinds-i
-returns-then-kinds-i c = record {
+pub returns-then-tokens-i : goal.returns-then-tokens-i
+returns-then-tokens-i c = record {
   within = tt;
   agreed = λ d rest e more w x.
       let y = next_arguments _ _ _ _ d rest _ e more w (c.loop-k.invariant.2 d rest e more w x) (omega arith) in
       absurd (omega (arith, argument_left _ _ _ _ d rest _ e more w y));
 }
 
-pub returns-then-kinds-j : goal.returns-then-kinds-j
-returns-then-kinds-j c = record {
+pub returns-then-tokens-j : goal.returns-then-tokens-j
+returns-then-tokens-j c = record {
   within = tt;
   agreed = λ d rest e more w x.
       let y = next_arguments _ _ _ _ d rest _ e more w (c.loop-k.invariant.2 d rest e more w x) (omega arith) in

@@ -8,6 +8,6 @@ use Rattle.terms.proofs.satisfy.same_terms.Given as goal
 
 abbrev pub invariant-loop-k : goal.invariant-loop-k
 invariant-loop-k l =
-    (l.i ≤ length l.kinds)
-    × (l.j ≤ length l.kinds)
-    × ((d : ℕ) (rest : Parts) (e : ℕ) (more : Parts) (w : Bool) → Lists l.kinds l.vals l.count l.a d rest l.b e more w → Lists l.kinds l.vals (l.count - l.k) l.i d rest l.j e more w)
+    (l.i ≤ length l.tokens.kinds.now)
+    × (l.j ≤ length l.tokens.kinds.now)
+    × ((d : ℕ) (rest : Parts) (e : ℕ) (more : Parts) (w : Bool) → Lists l.tokens.kinds.now l.tokens.vals.now l.count l.a d rest l.b e more w → Lists l.tokens.kinds.now l.tokens.vals.now (l.count - l.k) l.i d rest l.j e more w)

@@ -4,4 +4,4 @@ use Rattle.terms.proofs.Laws.Normalising.ShowLaws.{Running}
 use Rattle.terms.proofs.showing.show_run.Given as goal
 
 abbrev pub invariant-loop-q : goal.invariant-loop-q
-invariant-loop-q l = Running (view l.kinds l.vals l.g).kinds (view l.kinds l.vals l.g).vals l.on l.initial.out l.at l.from l.count l.out l.i l.q l.end
+invariant-loop-q l = Running (view l.seen.tokens.kinds.now l.seen.tokens.vals.now l.seen.given).kinds (view l.seen.tokens.kinds.now l.seen.tokens.vals.now l.seen.given).vals l.on l.initial.out l.at l.from l.count l.out l.i l.q l.end

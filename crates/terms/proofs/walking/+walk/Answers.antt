@@ -12,7 +12,7 @@ use Rattle.terms.proofs.walking.+walk.Goals as goal
 
 pub returns-then-levels-eq0 : goal.returns-then-levels-eq0
 returns-then-levels-eq0 t c = record {
-  walks = walks_failed c.args.kinds.now c.args.vals.now c.args.rules.now c.args.g c.requires.room.sight c.args.heads.now
+  walks = walks_failed c.args.seen.now.tokens.kinds.now c.args.seen.now.tokens.vals.now c.args.rules.now c.args.seen.now.given c.requires.room.sight c.args.heads.now
       c.args.kids.now c.args.x c.args.next c.args.levels c.args.visits c.args.most c.requires.room.within
       (λ look t. walk-levels (finds look) _ t _ _ c.if-levels-eq0.true) _ refl refl _ c.result.ensures;
   frames = frames_same _ _ _ _;
@@ -20,7 +20,7 @@ returns-then-levels-eq0 t c = record {
 
 pub returns-then-visits-eq0 : goal.returns-then-visits-eq0
 returns-then-visits-eq0 t c = record {
-  walks = walks_failed c.args.kinds.now c.args.vals.now c.args.rules.now c.args.g c.requires.room.sight c.args.heads.now
+  walks = walks_failed c.args.seen.now.tokens.kinds.now c.args.seen.now.tokens.vals.now c.args.rules.now c.args.seen.now.given c.requires.room.sight c.args.heads.now
       c.args.kids.now c.args.x c.args.next c.args.levels c.args.visits c.args.most c.requires.room.within
       (λ look t. walk_visits (finds look) _ t _ _ c.if-visits-eq0.true) _ refl refl _ c.result-then-visits-eq0.ensures;
   frames = frames_same _ _ _ _;
@@ -31,7 +31,7 @@ returns-then-same-gt0 t c =
     let nodes' = c.fixed_nodes-same.ensures in
     let least' = c.min.ensures in
     let len' = c.fixed_len-size.ensures in
-    let both = fixed_kept c.args.kinds.now c.args.vals.now c.args.rules.now c.args.g c.requires.room.sight c.args.heads.now c.args.kids.now c.args.x c.args.next c.args.levels c.args.visits c.args.most _ _
+    let both = fixed_kept c.args.seen.now.tokens.kinds.now c.args.seen.now.tokens.vals.now c.args.rules.now c.args.seen.now.given c.requires.room.sight c.args.heads.now c.args.kids.now c.args.x c.args.next c.args.levels c.args.visits c.args.most _ _
     (nodes'.fixed c.if-same-gt0.true) len'.bytes len'.bound c.if-same-gt0.true (omega (arith, nodes'.few.0, least')) (omega (arith, nodes'.few.0, least')) _ c.kept.ensures.fits c.kept.ensures.stops in
     record { walks = both.0; frames = both.1 }
 
@@ -44,7 +44,7 @@ returns-in_err-o t c =
 
 pub loop-j-init : goal.loop-j-init
 loop-j-init t c =
-    walking_start c.args.kinds.now c.args.vals.now c.args.rules.now c.args.g _ _ _ _ _ _ _ _ _ _ _ c.in_ok-o.ensures.opens.bound
+    walking_start c.args.seen.now.tokens.kinds.now c.args.seen.now.tokens.vals.now c.args.rules.now c.args.seen.now.given _ _ _ _ _ _ _ _ _ _ _ c.in_ok-o.ensures.opens.bound
     (omega (arith, c.if-visits-eq0.false))
 
 pub returns-in_err-w : goal.returns-in_err-w
@@ -55,8 +55,8 @@ returns-in_err-w t c =
     rw c.from_residual-in_err-w.ensures (record {
       walks = λ S t look b w z.
           let o = begin'.ensures.opens.done S t b w in
-          walking_over c.args.kinds.now c.args.vals.now c.args.rules.now c.args.g _ _ _ _ _ _ _ _ _ _ _ _ _ _ _ _ _ loop'.invariant c.loop-j-test.true _ slot'.ensures.0 slot'.ensures.1
-          c.in_err-w.ensures.walks S t look b o (order-of c.args.kinds.now c.args.vals.now c.args.rules.now c.args.g _ _ _ _ S c.args.x _ _ _ _ _ t w o begin'.ensures.ordered) z
+          walking_over c.args.seen.now.tokens.kinds.now c.args.seen.now.tokens.vals.now c.args.rules.now c.args.seen.now.given _ _ _ _ _ _ _ _ _ _ _ _ _ _ _ _ _ loop'.invariant c.loop-j-test.true _ slot'.ensures.0 slot'.ensures.1
+          c.in_err-w.ensures.walks S t look b o (order-of c.args.seen.now.tokens.kinds.now c.args.seen.now.tokens.vals.now c.args.rules.now c.args.seen.now.given _ _ _ _ S c.args.x _ _ _ _ _ t w o begin'.ensures.ordered) z
           (omega (arith, c.if-levels-eq0.false));
       frames = frames_then _ _ _ _ _ _ _ _ _ _ c.args.next c.args.most
           (frames_next _ _ _ _ _ _ _ _ _ begin'.ensures.opens.frames loop'.invariant.frames loop'.invariant.low)
@@ -69,7 +69,7 @@ loop-j-preserved t c =
     let slot' = c.slot in
     let begin' = c.in_ok-o in
     let walk' = c.in_ok-w in
-    walking_next c.args.kinds.now c.args.vals.now c.args.rules.now c.args.g _ _ _ _ _ _ _ _ _ _ _ _ _ _ _ _ _ loop'.invariant
+    walking_next c.args.seen.now.tokens.kinds.now c.args.seen.now.tokens.vals.now c.args.rules.now c.args.seen.now.given _ _ _ _ _ _ _ _ _ _ _ _ _ _ _ _ _ loop'.invariant
     c.loop-j-test.true _ slot'.ensures.0 slot'.ensures.1
     (omega (arith, c.requires.room.heads, begin'.ensures.opens.frames.heads.long, loop'.invariant.frames.heads.long)) (omega (
       arith,
@@ -82,7 +82,7 @@ pub returns-then-o-ne18 : goal.returns-then-o-ne18
 returns-then-o-ne18 t c =
     let loop' = c.loop-j in
     let begin' = c.in_ok-o in record {
-      walks = walks_kept c.args.kinds.now c.args.vals.now c.args.rules.now c.args.g c.args.heads.now c.args.kids.now
+      walks = walks_kept c.args.seen.now.tokens.kinds.now c.args.seen.now.tokens.vals.now c.args.rules.now c.args.seen.now.given c.args.heads.now c.args.kids.now
           _ _ _ _ c.args.x _ _ _ _ _ _ _ _ _ _ _ _ _ loop'.invariant c.loop-j-test.false (omega (arith, c.if-levels-eq0.false)) c.own_len-size.ensures.own
           (omega (arith, c.own_len-size.ensures.bound, begin'.ensures.opens.bound, c.requires.room.small))
           begin'.ensures.opens.done begin'.ensures.ordered
@@ -94,7 +94,7 @@ pub returns-in_default : goal.returns-in_default
 returns-in_default t c =
     let loop' = c.loop-j in
     let begin' = c.in_ok-o in record {
-      walks = walks_kept c.args.kinds.now c.args.vals.now c.args.rules.now c.args.g c.args.heads.now c.args.kids.now
+      walks = walks_kept c.args.seen.now.tokens.kinds.now c.args.seen.now.tokens.vals.now c.args.rules.now c.args.seen.now.given c.args.heads.now c.args.kids.now
           _ _ _ _ c.args.x _ _ _ _ _ _ _ _ _ _ _ _ _ loop'.invariant c.loop-j-test.false (omega (arith, c.if-levels-eq0.false)) c.own_len-size.ensures.own
           (omega (arith, c.own_len-size.ensures.bound, begin'.ensures.opens.bound, c.requires.room.small))
           begin'.ensures.opens.done begin'.ensures.ordered
@@ -107,7 +107,7 @@ returns-then-same_trees t c =
     let loop' = c.loop-j in
     let begin' = c.in_ok-o
     in record {
-      walks = walks_itself c.args.kinds.now c.args.vals.now c.args.rules.now c.args.g c.args.heads.now c.args.kids.now
+      walks = walks_itself c.args.seen.now.tokens.kinds.now c.args.seen.now.tokens.vals.now c.args.rules.now c.args.seen.now.given c.args.heads.now c.args.kids.now
           _ _ _ _ c.args.x _ _ _ _ _ _ _ _ _ _ _ _ _ loop'.invariant c.loop-j-test.false
           (omega (arith, c.if-levels-eq0.false)) c.own_len-size.ensures.own
           (omega (arith, c.own_len-size.ensures.bound, begin'.ensures.opens.bound, c.requires.room.small))
@@ -122,7 +122,7 @@ returns t c =
     let begin' = c.in_ok-o in
     let walk' = c.walk-2 in
     record {
-      walks = walks_followed c.args.kinds.now c.args.vals.now c.args.rules.now c.args.g c.args.heads.now c.args.kids.now _ _ _ _ c.args.x _ _ _ _ _ _ _ _ _ _ _ _ _ loop'.invariant c.loop-j-test.false
+      walks = walks_followed c.args.seen.now.tokens.kinds.now c.args.seen.now.tokens.vals.now c.args.rules.now c.args.seen.now.given c.args.heads.now c.args.kids.now _ _ _ _ c.args.x _ _ _ _ _ _ _ _ _ _ _ _ _ loop'.invariant c.loop-j-test.false
           (omega (arith, c.if-levels-eq0.false)) c.own_len-size.ensures.own (omega (arith, c.own_len-size.ensures.bound, begin'.ensures.opens.bound, c.requires.room.small))
           begin'.ensures.opens.done begin'.ensures.ordered _ refl _ (λ S t look w d z. rw c.in-Some.is at (c.replace-f.ensures S t look w d z)) (c.same_trees.ensures.no c.if-same_trees.false)
           _ _ walk'.result walk'.ensures.walks;

@@ -27,7 +27,7 @@ returns c =
       few = (omega (arith, c.if-most-n.false), omega (arith, l.invariant.low, l.invariant.high, c.if-span-gt-TRIED.false));
       fixed = λ some. record {
         source = c.if-x-ne0.false;
-        lent = lent_span c.args.kinds.now c.args.vals.now _ _ _ refl word' word'' step'.ensures.span (omega (arith, c.if-kinds-end.false));
+        lent = lent_span c.args.tokens.now.kinds.now c.args.tokens.now.vals.now _ _ _ refl word' word'' step'.ensures.span (omega (arith, c.if-tokens-end.false));
         is = λ t h. counting_done _ _ _ _ _ _ _ l.invariant (omega (arith, c.loop-q-test.false)) t h;
       };
     }

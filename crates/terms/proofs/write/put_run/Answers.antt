@@ -22,17 +22,17 @@ pub overflow_add-at-2 : goal.overflow_add-at-2
 overflow_add-at-2 c =
     let a = c.args in
     let b = spelt_short a.kinds.now a.vals.now (λ i. omega (arith, c.shared_slice_known-2-1.given i)) a.from a.count in
-    omega (arith, c.run_len-n.ensures, c.requires.room)
+    omega (arith, c.run_len-n.ensures.len, c.requires.room)
 
 pub overflow_add-result : goal.overflow_add-result
 overflow_add-result c =
     let a = c.args in
     let b = spelt_short a.kinds.now a.vals.now (λ i. omega (arith, c.shared_slice_known-2-1.given i)) a.from a.count in
-    omega (arith, c.run_len-n.ensures, c.requires.room)
+    omega (arith, c.run_len-n.ensures.len, c.requires.room)
 
 pub returns : goal.returns
 returns c =
     let a = c.args in
     let b = spelt_short a.kinds.now a.vals.now (λ i. omega (arith, c.shared_slice_known-2-1.given i)) a.from a.count in
-    let f = c.run_len-n.ensures in
+    let f = c.run_len-n.ensures.len in
     record { next = omega (arith, f); put = put_long a.out.now a.at (spelt a.kinds.now a.vals.now a.from a.count) _ f c.if-at-n.false; bound = omega (arith, f) }

@@ -18,8 +18,14 @@ loop-p-preserved c =
     let l = c.loop-p in
     (omega arith, omega arith, refl, omega (arith, length_step plain a.kinds.now a.vals.now l.p (a.from + a.count) (omega arith)))
 
-pub returns : goal.returns
-returns c =
+pub returns-clause-bound : goal.returns-clause-bound
+returns-clause-bound c =
+    let a = c.args in
+    let l = c.loop-p in
+    omega (arith, l.invariant, spelt_short a.kinds.now a.vals.now (λ i. omega (arith, c.shared_slice_known-2-1.given i)) a.from a.count)
+
+pub returns-clause-len : goal.returns-clause-len
+returns-clause-len c =
     let a = c.args in
     let l = c.loop-p in
     omega (arith, ap length (spell_none plain a.kinds.now a.vals.now l.p (a.from + a.count - l.p) (omega arith)))
