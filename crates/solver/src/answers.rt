@@ -11,7 +11,7 @@ ghost use Rattle.solver.specs.Words.OrderTerms.{Asked, Starts, Frames, resolved_
 
 use super::resolving::{clear_words, resolved_len, write_resolved};
 use super::{Solver, Start, Subject};
-use terms::{Refusal, number_len, write_number};
+use terms::{Refusal, Tokens, number_len, write_number};
 
 // How many bytes a variable has.
 pub fn variable_len(v: u32) -> usize
@@ -66,17 +66,16 @@ impl Solver {
     // How many bytes the term that is asked for resolves to, or limit + 1 where those are more than limit.
     pub fn resolved_len(
         self,
-        kinds: &[u32],
-        vals: &[u32],
+        tokens: &Tokens,
         tables: &[u32],
         work: &mut [u32],
         what: Subject,
         limit: usize,
     ) -> usize
-        requires held { (s : Session) × (t : Term) × Asked self kinds.now vals.now tables.now what s t }
+        requires held { (s : Session) × (t : Term) × Asked self tokens.now.kinds.now tokens.now.vals.now tables.now what s t }
         requires room { Frames self work.old × (limit < 2 ^ 32) }
         ensures len { (s : Session) (t : Term)
-            → Asked self kinds.now vals.now tables.now what s t
+            → Asked self tokens.now.kinds.now tokens.now.vals.now tables.now what s t
             → result ≡ min (limit + 1) (length (resolved_to s t)) }
         ensures clear { Zero work.new }
     {
@@ -84,7 +83,7 @@ impl Solver {
         let begun = self.start(tables, what);
         match begun {
             Start::Begins(p, most) => {
-                let size = resolved_len(kinds, vals, &tables[..m], most, work, p, limit);
+                let size = resolved_len(tokens, &tables[..m], most, work, p, limit);
                 if limit < size {
                     clear_words(work, most + most);
                 }
@@ -103,19 +102,18 @@ impl Solver {
     // Writes these bytes at a position of out, and returns the position after them.
     pub fn resolve(
         self,
-        kinds: &[u32],
-        vals: &[u32],
+        tokens: &Tokens,
         tables: &[u32],
         work: &mut [u32],
         what: Subject,
         out: &mut [u8],
         to: usize,
     ) -> usize
-        requires held { (s : Session) × (t : Term) × Asked self kinds.now vals.now tables.now what s t
+        requires held { (s : Session) × (t : Term) × Asked self tokens.now.kinds.now tokens.now.vals.now tables.now what s t
             × (to + length (resolved_to s t) ≤ length out.old) }
         requires room { Frames self work.old }
         ensures wrote { (s : Session) (t : Term)
-            → Asked self kinds.now vals.now tables.now what s t
+            → Asked self tokens.now.kinds.now tokens.now.vals.now tables.now what s t
             → (result ≡ to + length (resolved_to s t)) × (out.new ≡ sets out.old to (resolved_to s t)) }
         ensures clear { Zero work.new }
     {
@@ -123,7 +121,7 @@ impl Solver {
         let begun = self.start(tables, what);
         match begun {
             Start::Begins(p, most) => {
-                write_resolved(kinds, vals, &tables[..m], most, work, p, out, to)
+                write_resolved(tokens, &tables[..m], most, work, p, out, to)
             }
             Start::Free(v) => write_variable(out, to, v),
         }

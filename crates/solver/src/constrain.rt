@@ -19,6 +19,7 @@ use super::pending::{clear_pairs, push_children, put_pair, same_shape, take_pair
 use super::reach::{occurs, recovers};
 use super::top::shallow_resolve;
 use super::{Access, Checked, Solved, Solver, Verdict};
+use terms::Tokens;
 
 // Whether a token is the head of an Unknown or Error, or another is.
 pub fn either_recovers(left: u32, right: u32) -> bool
@@ -40,45 +41,44 @@ impl Solver {
     // The unbound variable v meets the term at q, which is a top: recovery, then the family, then whether the variable occurs.
     pub fn unify_variable(
         self,
-        kinds: &[u32],
-        vals: &[u32],
+        tokens: &Tokens,
         tables: &mut [u32],
         work: &mut [u32],
         v: u32,
         q: usize,
         count: usize,
     ) -> Checked
-        requires faces { (s : Session) × (t : Term) × Facing self kinds.now vals.now tables.old s v q t }
-        requires room { Scratch self kinds.now tables.old work.old }
+        requires faces { (s : Session) × (t : Term) × Facing self tokens.now.kinds.now tokens.now.vals.now tables.old s v q t }
+        requires room { Scratch self tokens.now.kinds.now tables.old work.old }
         ensures after { (s : Session) (t a b : Term) (ps : List Pair)
-            → Facing self kinds.now vals.now tables.old s v q t
-            → Waiting self kinds.now vals.now tables.old count ps
-            → After self kinds.now vals.now tables.old tables.new s a b count (solving.bind s.solver v t ps) result }
+            → Facing self tokens.now.kinds.now tokens.now.vals.now tables.old s v q t
+            → Waiting self tokens.now.kinds.now tokens.now.vals.now tables.old count ps
+            → After self tokens.now.kinds.now tokens.now.vals.now tables.old tables.new s a b count (solving.bind s.solver v t ps) result }
         ensures clear { Zero work.new }
     {
         let m = self.variables;
-        if recovers(kinds, vals, &tables[..m], q, work) {
+        if recovers(tokens, &tables[..m], q, work) {
             return Checked {
                 solver: self,
                 good: true,
                 count,
             };
         }
-        if !admissible(kinds, vals, tables, m, v, q) {
+        if !admissible(tokens, tables, m, v, q) {
             return Checked {
                 solver: self,
                 good: false,
                 count,
             };
         }
-        if occurs(kinds, vals, &tables[..m], q, v, work) {
+        if occurs(tokens, &tables[..m], q, v, work) {
             return Checked {
                 solver: self,
                 good: false,
                 count,
             };
         }
-        let next = self.bind(kinds, vals, tables, v, q);
+        let next = self.bind(tokens, tables, v, q);
         Checked {
             solver: next,
             good: true,
@@ -89,39 +89,38 @@ impl Solver {
     // The nodes at a and b: recovery, then projections, then the shapes.
     pub fn decompose(
         self,
-        kinds: &[u32],
-        vals: &[u32],
+        tokens: &Tokens,
         tables: &mut [u32],
         a: usize,
         b: usize,
         access: Access,
         count: usize,
     ) -> Checked
-        requires nodes { (t u : Term) × Nodes self kinds.now vals.now a b count t u }
-        requires room { (pending_from self + 2 * (32 + self.nodes) ≤ length tables.old) × (length kinds.now < 4294967296) × (length vals.now ≡ length kinds.now)
+        requires nodes { (t u : Term) × Nodes self tokens.now.kinds.now tokens.now.vals.now a b count t u }
+        requires room { (pending_from self + 2 * (32 + self.nodes) ≤ length tables.old) × (length tokens.now.kinds.now < 4294967296)
             × (length tables.old < 4294967296) }
         ensures after { (s : Session) (t u : Term) (ps : List Pair)
-            → Represents self kinds.now vals.now tables.old s
-            → Nodes self kinds.now vals.now a b count t u
-            → Waiting self kinds.now vals.now tables.old count ps
-            → After self kinds.now vals.now tables.old tables.new s t u count
+            → Represents self tokens.now.kinds.now tokens.now.vals.now tables.old s
+            → Nodes self tokens.now.kinds.now tokens.now.vals.now a b count t u
+            → Waiting self tokens.now.kinds.now tokens.now.vals.now tables.old count ps
+            → After self tokens.now.kinds.now tokens.now.vals.now tables.old tables.new s t u count
             (decompose s.solver t u ps (recovery t || recovery u) (projects t) (same_shape (notion (strict_of access)) t u)) result }
     {
-        if either_recovers(kinds[a], kinds[b]) {
+        if either_recovers(tokens.kinds[a], tokens.kinds[b]) {
             return Checked {
                 solver: self,
                 good: true,
                 count,
             };
         }
-        if kinds[a] == 20 {
+        if tokens.kinds[a] == 20 {
             return Checked {
                 solver: self,
                 good: false,
                 count,
             };
         }
-        if !same_shape(kinds, vals, a, b, access) {
+        if !same_shape(tokens, a, b, access) {
             return Checked {
                 solver: self,
                 good: false,
@@ -129,7 +128,7 @@ impl Solver {
             };
         }
         let base = 7 * self.variables;
-        let top = push_children(kinds, vals, a, b, tables, base, count);
+        let top = push_children(tokens, a, b, tables, base, count);
         Checked {
             solver: self,
             good: true,
@@ -140,8 +139,7 @@ impl Solver {
     // One check: the pair at i and j, with `count` pairs pending below it.
     pub fn check_pair(
         self,
-        kinds: &[u32],
-        vals: &[u32],
+        tokens: &Tokens,
         tables: &mut [u32],
         work: &mut [u32],
         i: usize,
@@ -149,40 +147,39 @@ impl Solver {
         access: Access,
         count: usize,
     ) -> Checked
-        requires due { (s : Session) × (t u : Term) × Due self kinds.now vals.now tables.old s i j count t u }
-        requires room { Scratch self kinds.now tables.old work.old }
+        requires due { (s : Session) × (t u : Term) × Due self tokens.now.kinds.now tokens.now.vals.now tables.old s i j count t u }
+        requires room { Scratch self tokens.now.kinds.now tables.old work.old }
         ensures after { (s : Session) (t u : Term) (ps : List Pair)
-            → Due self kinds.now vals.now tables.old s i j count t u
-            → Waiting self kinds.now vals.now tables.old count ps
-            → After self kinds.now vals.now tables.old tables.new s (solving.top s.solver t)
+            → Due self tokens.now.kinds.now tokens.now.vals.now tables.old s i j count t u
+            → Waiting self tokens.now.kinds.now tokens.now.vals.now tables.old count ps
+            → After self tokens.now.kinds.now tokens.now.vals.now tables.old tables.new s (solving.top s.solver t)
             (solving.top s.solver u) count (solving.check_pair (notion (strict_of access)) s.solver t u ps) result }
         ensures clear { Zero work.new }
     {
         let m = self.variables;
         let most = self.revision;
-        if same_terms(kinds, vals, &tables[..m], most, i, j, work) {
+        if same_terms(tokens, &tables[..m], most, i, j, work) {
             return Checked {
                 solver: self,
                 good: true,
                 count,
             };
         }
-        let a = shallow_resolve(kinds, vals, &tables[..m], most, i);
-        let b = shallow_resolve(kinds, vals, &tables[..m], most, j);
-        if kinds[a] == 1 {
-            return self.unify_variable(kinds, vals, tables, work, vals[a], b, count);
+        let a = shallow_resolve(tokens, &tables[..m], most, i);
+        let b = shallow_resolve(tokens, &tables[..m], most, j);
+        if tokens.kinds[a] == 1 {
+            return self.unify_variable(tokens, tables, work, tokens.vals[a], b, count);
         }
-        if kinds[b] == 1 {
-            return self.unify_variable(kinds, vals, tables, work, vals[b], a, count);
+        if tokens.kinds[b] == 1 {
+            return self.unify_variable(tokens, tables, work, tokens.vals[b], a, count);
         }
-        self.decompose(kinds, vals, tables, a, b, access, count)
+        self.decompose(tokens, tables, a, b, access, count)
     }
 
     // The loop: the terms at p and q are constrained to be equal, with k checks.
     pub fn solve_pair(
         mut self,
-        kinds: &[u32],
-        vals: &[u32],
+        tokens: &Tokens,
         tables: &mut [u32],
         work: &mut [u32],
         p: usize,
@@ -190,15 +187,15 @@ impl Solver {
         k: u32,
         access: Access,
     ) -> Solved
-        requires held { (s : Session) × (t u : Term) × InOrder (issued s) s.solver × Represents self kinds.now vals.now tables.old s
-            × Known kinds.now vals.now s p t × Known kinds.now vals.now s q u }
-        requires room { Scratch self kinds.now tables.old work.old × Zero (drop (pending_from self) tables.old) }
+        requires held { (s : Session) × (t u : Term) × InOrder (issued s) s.solver × Represents self tokens.now.kinds.now tokens.now.vals.now tables.old s
+            × Known tokens.now.kinds.now tokens.now.vals.now s p t × Known tokens.now.kinds.now tokens.now.vals.now s q u }
+        requires room { Scratch self tokens.now.kinds.now tables.old work.old × Zero (drop (pending_from self) tables.old) }
         ensures solved { (s : Session) (t u : Term)
             → InOrder (issued s) s.solver
-            → Represents self kinds.now vals.now tables.old s
-            → Known kinds.now vals.now s p t
-            → Known kinds.now vals.now s q u
-            → Constrained self kinds.now vals.now tables.old tables.new s
+            → Represents self tokens.now.kinds.now tokens.now.vals.now tables.old s
+            → Known tokens.now.kinds.now tokens.now.vals.now s p t
+            → Known tokens.now.kinds.now tokens.now.vals.now s q u
+            → Constrained self tokens.now.kinds.now tokens.now.vals.now tables.old tables.new s
             (solving.constrain (notion (strict_of access)) k s.solver t u) result }
         ensures clear { Zero work.new }
     {
@@ -219,7 +216,7 @@ impl Solver {
             let pair = take_pair(tables, base, count);
             let i = pair.left;
             let j = pair.right;
-            let r = self.check_pair(kinds, vals, tables, work, i, j, access, count);
+            let r = self.check_pair(tokens, tables, work, i, j, access, count);
             self = r.solver;
             count = r.count;
             let good = r.good;
@@ -242,8 +239,7 @@ impl Solver {
     // nodes and theirs. Where a variable was bound their tokens are the session's from now on; else they are given back, and no node is kept.
     pub fn constrain(
         mut self,
-        kinds: &[u32],
-        vals: &[u32],
+        tokens: &Tokens,
         tables: &mut [u32],
         work: &mut [u32],
         q: usize,
@@ -251,12 +247,12 @@ impl Solver {
         nodes: usize,
         access: Access,
     ) -> Solved
-        requires held { (s : Session) × (t u : Term) × PosesPair self kinds.now vals.now tables.old s q t u × (nodes ≡ s.kept + (size t + size u)) }
-        requires room { Scratch self kinds.now tables.old work.old × Zero (drop (pending_from self) tables.old) }
+        requires held { (s : Session) × (t u : Term) × PosesPair self tokens.now.kinds.now tokens.now.vals.now tables.old s q t u × (nodes ≡ s.kept + (size t + size u)) }
+        requires room { Scratch self tokens.now.kinds.now tables.old work.old × Zero (drop (pending_from self) tables.old) }
         ensures solved { (s : Session) (t u : Term)
-            → PosesPair self kinds.now vals.now tables.old s q t u
+            → PosesPair self tokens.now.kinds.now tokens.now.vals.now tables.old s q t u
             → nodes ≡ s.kept + (size t + size u)
-            → Posed self kinds.now vals.now tables.old tables.new s (size t + size u)
+            → Posed self tokens.now.kinds.now tokens.now.vals.now tables.old tables.new s (size t + size u)
             (solving.constrain (notion (strict_of access)) k s.solver t u) result }
         ensures clear { Zero work.new }
     {
@@ -264,8 +260,9 @@ impl Solver {
         let kept = self.kept;
         let revision = self.revision;
         self.kept = nodes;
+        let kinds = tokens.kinds;
         self.top = kinds.len();
-        let r = self.solve_pair(kinds, vals, tables, work, p, q, k, access);
+        let r = self.solve_pair(tokens, tables, work, p, q, k, access);
         let verdict = r.verdict;
         self = r.solver;
         if self.revision == revision {

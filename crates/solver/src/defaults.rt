@@ -15,28 +15,29 @@ use super::families::{family_mask, has};
 use super::resolving::named_run;
 use super::top::shallow_resolve;
 use super::{Defaulted, Solver};
+use terms::Tokens;
 
 // The variable at the end of the chain of bindings from v on, or the length of the table where the chain ends at no variable of the table.
-pub fn root_of(kinds: &[u32], vals: &[u32], bound: &[u32], most: usize, v: usize) -> usize
-    requires { (v < length bound.now) × (length vals.now ≡ length kinds.now) }
+pub fn root_of(tokens: &Tokens, bound: &[u32], most: usize, v: usize) -> usize
+    requires { v < length bound.now }
     ensures { (b : ℕ → Option Term)
-        → HeldBindings kinds.now vals.now bound.now b
+        → HeldBindings tokens.now.kinds.now tokens.now.vals.now bound.now b
         → EndsAt (length bound.now) (follow most b (var v)) result }
 {
     if most == 0 {
         return v;
     }
-    let run = named_run(kinds, vals, bound[v] as usize);
+    let run = named_run(tokens, bound[v] as usize);
     let len = run.len;
     let at = run.at;
     if len == 0 {
         return v;
     }
-    let q = shallow_resolve(kinds, vals, bound, most - 1, at);
-    if kinds[q] != 1 {
+    let q = shallow_resolve(tokens, bound, most - 1, at);
+    if tokens.kinds[q] != 1 {
         return bound.len();
     }
-    let w = vals[q] as usize;
+    let w = tokens.vals[q] as usize;
     if bound.len() <= w {
         return bound.len();
     }
@@ -131,19 +132,19 @@ fn default_code(own: u32, last: u32) -> u32
 
 impl Solver {
     // Order 3: the variable that the term after the session's tokens stands for, if it stands for one, is deferred.
-    pub fn defer_never(self, kinds: &[u32], vals: &[u32], tables: &mut [u32]) -> Solver
-        requires { (s : Session) × (t : Term) × Poses self kinds.now vals.now tables.old s t }
+    pub fn defer_never(self, tokens: &Tokens, tables: &mut [u32]) -> Solver
+        requires { (s : Session) × (t : Term) × Poses self tokens.now.kinds.now tokens.now.vals.now tables.old s t }
         ensures held { (s : Session) (t : Term)
-            → Poses self kinds.now vals.now tables.old s t
-            → Represents result (take self.top kinds.now) (take self.top vals.now) tables.new
+            → Poses self tokens.now.kinds.now tokens.now.vals.now tables.old s t
+            → Represents result (take self.top tokens.now.kinds.now) (take self.top tokens.now.vals.now) tables.new
             (deferring s (resolved s.solver t)) }
         ensures beside { Beside self result tables.old tables.new }
     {
         let m = self.variables;
         let most = self.revision;
-        let q = shallow_resolve(kinds, vals, &tables[..m], most, self.top);
-        if kinds[q] == 1 {
-            let v = vals[q] as usize;
+        let q = shallow_resolve(tokens, &tables[..m], most, self.top);
+        if tokens.kinds[q] == 1 {
+            let v = tokens.vals[q] as usize;
             if v < m {
                 tables[5 * m + v] = 1;
             }
@@ -154,18 +155,17 @@ impl Solver {
     // The default of the variable v: the variable that it leads to, if it leads to one, is bound to a builtin.
     pub fn bind_default(
         mut self,
-        kinds: &[u32],
-        vals: &[u32],
+        tokens: &Tokens,
         tables: &mut [u32],
         v: usize,
         which: Defaulted,
     ) -> Solver
         requires shape { Shaped self (length tables.old) }
-        requires areas { (v < self.variables) × (self.revision < 2 ^ 33) × (length vals.now ≡ length kinds.now) }
+        requires areas { (v < self.variables) × (self.revision < 2 ^ 33) }
         ensures held { (s : Session)
-            → Represents self kinds.now vals.now tables.old s
+            → Represents self tokens.now.kinds.now tokens.now.vals.now tables.old s
             → Low self.variables s.solver.bindings
-            → Represents result kinds.now vals.now tables.new (with_solver s (default_at which s v)) }
+            → Represents result tokens.now.kinds.now tokens.now.vals.now tables.new (with_solver s (default_at which s v)) }
         ensures steps { (result.revision ≤ self.revision + 1) × (result.issued ≡ self.issued) }
         ensures beside { Beside self result tables.old tables.new }
     {
@@ -175,7 +175,7 @@ impl Solver {
             return self;
         }
         let most = self.revision;
-        let w = root_of(kinds, vals, &tables[..m], most, v);
+        let w = root_of(tokens, &tables[..m], most, v);
         if m <= w {
             return self;
         }
@@ -186,60 +186,49 @@ impl Solver {
     }
 
     // Each issued variable, by rising id, takes its default: by its request or by its deferral.
-    fn apply_defaults(
-        mut self,
-        kinds: &[u32],
-        vals: &[u32],
-        tables: &mut [u32],
-        which: Defaulted,
-    ) -> Solver
+    fn apply_defaults(mut self, tokens: &Tokens, tables: &mut [u32], which: Defaulted) -> Solver
         requires shape { Shaped self (length tables.old) }
-        requires areas { (self.revision < 2 ^ 32) × (length vals.now ≡ length kinds.now) }
+        requires areas { self.revision < 2 ^ 32 }
         ensures held { (s : Session)
-            → Represents self kinds.now vals.now tables.old s
+            → Represents self tokens.now.kinds.now tokens.now.vals.now tables.old s
             → Low self.variables s.solver.bindings
-            → Represents result kinds.now vals.now tables.new (with_solver s (defaulted which (issued s) s)) }
+            → Represents result tokens.now.kinds.now tokens.now.vals.now tables.new (with_solver s (defaulted which (issued s) s)) }
         ensures beside { Beside self result tables.old tables.new }
     {
         let n = self.issued;
         for v in 0..n {
-            self = self.bind_default(kinds, vals, tables, v, which);
+            self = self.bind_default(tokens, tables, v, which);
         }
         self
     }
 
     // Order 6: each number variable takes its default.
-    pub fn apply_numeric_defaults(
-        mut self,
-        kinds: &[u32],
-        vals: &[u32],
-        tables: &mut [u32],
-    ) -> Solver
+    pub fn apply_numeric_defaults(mut self, tokens: &Tokens, tables: &mut [u32]) -> Solver
         requires shape { Shaped self (length tables.old) }
-        requires areas { (self.revision < 2 ^ 32) × (length vals.now ≡ length kinds.now)
-            × ((s : Session) × Represents self kinds.now vals.now tables.old s × Low self.variables s.solver.bindings) }
+        requires areas { (self.revision < 2 ^ 32)
+            × ((s : Session) × Represents self tokens.now.kinds.now tokens.now.vals.now tables.old s × Low self.variables s.solver.bindings) }
         ensures held { (s : Session)
-            → Represents self kinds.now vals.now tables.old s
+            → Represents self tokens.now.kinds.now tokens.now.vals.now tables.old s
             → Low self.variables s.solver.bindings
-            → Represents result kinds.now vals.now tables.new (orders.order (limits_of self) s orders.numbers).session }
+            → Represents result tokens.now.kinds.now tokens.now.vals.now tables.new (orders.order (limits_of self) s orders.numbers).session }
         ensures beside { Beside self result tables.old tables.new }
     {
-        self = self.apply_defaults(kinds, vals, tables, Defaulted::Requested);
+        self = self.apply_defaults(tokens, tables, Defaulted::Requested);
         self
     }
 
     // Order 7: each variable that is deferred takes Never.
-    pub fn apply_never_defaults(mut self, kinds: &[u32], vals: &[u32], tables: &mut [u32]) -> Solver
+    pub fn apply_never_defaults(mut self, tokens: &Tokens, tables: &mut [u32]) -> Solver
         requires shape { Shaped self (length tables.old) }
-        requires areas { (self.revision < 2 ^ 32) × (length vals.now ≡ length kinds.now)
-            × ((s : Session) × Represents self kinds.now vals.now tables.old s × Low self.variables s.solver.bindings) }
+        requires areas { (self.revision < 2 ^ 32)
+            × ((s : Session) × Represents self tokens.now.kinds.now tokens.now.vals.now tables.old s × Low self.variables s.solver.bindings) }
         ensures held { (s : Session)
-            → Represents self kinds.now vals.now tables.old s
+            → Represents self tokens.now.kinds.now tokens.now.vals.now tables.old s
             → Low self.variables s.solver.bindings
-            → Represents result kinds.now vals.now tables.new (orders.order (limits_of self) s orders.nevers).session }
+            → Represents result tokens.now.kinds.now tokens.now.vals.now tables.new (orders.order (limits_of self) s orders.nevers).session }
         ensures beside { Beside self result tables.old tables.new }
     {
-        self = self.apply_defaults(kinds, vals, tables, Defaulted::Deferred);
+        self = self.apply_defaults(tokens, tables, Defaulted::Deferred);
         self
     }
 }

@@ -18,7 +18,7 @@ ghost use Rattle.solver.specs.Words.CongruenceClasses.{Fair, Outcome};
 ghost use Rattle.solver.specs.Words.CongruenceClasses.{Closed, TermsJoined, RowsJoined};
 
 use super::top::shallow_resolve;
-use terms::skip;
+use terms::{Tokens, skip};
 
 // The root of the class of a, of the n places.
 fn find(n: usize, work: &[u32], a: usize) -> usize
@@ -69,8 +69,7 @@ fn union_classes(kinds: &[u32], a: usize, b: usize, work: &mut [u32], top: &mut 
 
 // Puts the terms at i and j into one class, unless their tops differ.
 fn union_terms(
-    kinds: &[u32],
-    vals: &[u32],
+    tokens: &Tokens,
     bound: &[u32],
     most: usize,
     i: usize,
@@ -78,34 +77,33 @@ fn union_terms(
     work: &mut [u32],
     top: &mut usize,
 ) -> bool
-    requires places { (i < length kinds.now) × (j < length kinds.now) × (length vals.now ≡ length kinds.now) × (length kinds.now < 2 ^ 32) }
-    requires wired { WiredIn kinds.now work.old top.old }
-    ensures advanced { AdvancedIn kinds.now work.old top.old work.new top.new }
+    requires places { (i < length tokens.now.kinds.now) × (j < length tokens.now.kinds.now) × (length tokens.now.kinds.now < 2 ^ 32) }
+    requires wired { WiredIn tokens.now.kinds.now work.old top.old }
+    ensures advanced { AdvancedIn tokens.now.kinds.now work.old top.old work.new top.new }
     ensures terms { (b : ℕ → Option Term) (t u : Term)
-        → HeldSteady kinds.now vals.now bound.now most b
-        → Held kinds.now vals.now i t
-        → Held kinds.now vals.now j u
-        → TermsJoined kinds.now vals.now most b work.old work.new result t u }
+        → HeldSteady tokens.now.kinds.now tokens.now.vals.now bound.now most b
+        → Held tokens.now.kinds.now tokens.now.vals.now i t
+        → Held tokens.now.kinds.now tokens.now.vals.now j u
+        → TermsJoined tokens.now.kinds.now tokens.now.vals.now most b work.old work.new result t u }
 {
-    let a = shallow_resolve(kinds, vals, bound, most, i);
-    let b = shallow_resolve(kinds, vals, bound, most, j);
-    if kinds[a] != kinds[b] {
+    let a = shallow_resolve(tokens, bound, most, i);
+    let b = shallow_resolve(tokens, bound, most, j);
+    if tokens.kinds[a] != tokens.kinds[b] {
         return false;
     }
-    if kinds[a] < 2 {
-        if vals[a] != vals[b] {
+    if tokens.kinds[a] < 2 {
+        if tokens.vals[a] != tokens.vals[b] {
             return false;
         }
         return true;
     }
-    union_classes(kinds, a, b, work, top);
+    union_classes(tokens.kinds, a, b, work, top);
     true
 }
 
 // Joins the terms of two rows of parts, one after the other, unless the rows differ in a number or in where their terms stand.
 fn union_rows(
-    kinds: &[u32],
-    vals: &[u32],
+    tokens: &Tokens,
     bound: &[u32],
     most: usize,
     a: usize,
@@ -115,15 +113,15 @@ fn union_rows(
     work: &mut [u32],
     top: &mut usize,
 ) -> bool
-    requires places { (a ≤ ae) × (ae ≤ length kinds.now) × (b ≤ be) × (be ≤ length kinds.now) × (length vals.now ≡ length kinds.now)
-        × (length kinds.now < 2 ^ 32) }
-    requires wired { WiredIn kinds.now work.old top.old }
-    ensures advanced { AdvancedIn kinds.now work.old top.old work.new top.new }
+    requires places { (a ≤ ae) × (ae ≤ length tokens.now.kinds.now) × (b ≤ be) × (be ≤ length tokens.now.kinds.now)
+        × (length tokens.now.kinds.now < 2 ^ 32) }
+    requires wired { WiredIn tokens.now.kinds.now work.old top.old }
+    ensures advanced { AdvancedIn tokens.now.kinds.now work.old top.old work.new top.new }
     ensures terms { (h : ℕ → Option Term) (ps qs : Parts)
-        → HeldSteady kinds.now vals.now bound.now most h
-        → HeldParts kinds.now vals.now a ae ps
-        → HeldParts kinds.now vals.now b be qs
-        → RowsJoined kinds.now vals.now most h work.old work.new result ps qs }
+        → HeldSteady tokens.now.kinds.now tokens.now.vals.now bound.now most h
+        → HeldParts tokens.now.kinds.now tokens.now.vals.now a ae ps
+        → HeldParts tokens.now.kinds.now tokens.now.vals.now b be qs
+        → RowsJoined tokens.now.kinds.now tokens.now.vals.now most h work.old work.new result ps qs }
 {
     let mut i = a;
     let mut j = b;
@@ -131,24 +129,24 @@ fn union_rows(
         if be <= j {
             return false;
         }
-        if kinds[i] == 0 {
-            if kinds[j] != 0 {
+        if tokens.kinds[i] == 0 {
+            if tokens.kinds[j] != 0 {
                 return false;
             }
-            if vals[i] != vals[j] {
+            if tokens.vals[i] != tokens.vals[j] {
                 return false;
             }
             i += 1;
             j += 1;
         } else {
-            if kinds[j] == 0 {
+            if tokens.kinds[j] == 0 {
                 return false;
             }
-            if !union_terms(kinds, vals, bound, most, i, j, work, top) {
+            if !union_terms(tokens, bound, most, i, j, work, top) {
                 return false;
             }
-            i += skip(kinds, vals, i, ae - i);
-            j += skip(kinds, vals, j, be - j);
+            i += skip(tokens, i, ae - i);
+            j += skip(tokens, j, be - j);
         }
     }
     if j < be {
@@ -159,8 +157,7 @@ fn union_rows(
 
 // Joins the parts of the nodes at x and y.
 fn union_parts(
-    kinds: &[u32],
-    vals: &[u32],
+    tokens: &Tokens,
     bound: &[u32],
     most: usize,
     x: usize,
@@ -168,55 +165,43 @@ fn union_parts(
     work: &mut [u32],
     top: &mut usize,
 ) -> bool
-    requires places { (x < length kinds.now) × (y < length kinds.now) × (length vals.now ≡ length kinds.now) × (length kinds.now < 2 ^ 32) }
-    requires wired { WiredIn kinds.now work.old top.old }
-    ensures advanced { AdvancedIn kinds.now work.old top.old work.new top.new }
+    requires places { (x < length tokens.now.kinds.now) × (y < length tokens.now.kinds.now) × (length tokens.now.kinds.now < 2 ^ 32) }
+    requires wired { WiredIn tokens.now.kinds.now work.old top.old }
+    ensures advanced { AdvancedIn tokens.now.kinds.now work.old top.old work.new top.new }
     ensures terms { (b : ℕ → Option Term) (k l : ℕ) (ps qs : Parts)
-        → HeldSteady kinds.now vals.now bound.now most b
-        → Held kinds.now vals.now x (node k ps)
-        → Held kinds.now vals.now y (node l qs)
-        → RowsJoined kinds.now vals.now most b work.old work.new result ps qs }
+        → HeldSteady tokens.now.kinds.now tokens.now.vals.now bound.now most b
+        → Held tokens.now.kinds.now tokens.now.vals.now x (node k ps)
+        → Held tokens.now.kinds.now tokens.now.vals.now y (node l qs)
+        → RowsJoined tokens.now.kinds.now tokens.now.vals.now most b work.old work.new result ps qs }
 {
-    let n = skip(kinds, vals, x, kinds.len() - x);
-    let m = skip(kinds, vals, y, kinds.len() - y);
-    union_rows(
-        kinds,
-        vals,
-        bound,
-        most,
-        x + 1,
-        x + n,
-        y + 1,
-        y + m,
-        work,
-        top,
-    )
+    let n = skip(tokens, x, tokens.kinds.len() - x);
+    let m = skip(tokens, y, tokens.kinds.len() - y);
+    union_rows(tokens, bound, most, x + 1, x + n, y + 1, y + m, work, top)
 }
 
 // Joins the parts of every place that is linked, those that come to be linked on the way too, until a difference shows.
 fn close_congruence(
-    kinds: &[u32],
-    vals: &[u32],
+    tokens: &Tokens,
     bound: &[u32],
     most: usize,
     work: &mut [u32],
     top: &mut usize,
 ) -> bool
-    requires areas { (length vals.now ≡ length kinds.now) × (length kinds.now < 2 ^ 32) }
-    requires wired { WiredIn kinds.now work.old top.old }
-    ensures advanced { AdvancedIn kinds.now work.old top.old work.new top.new }
+    requires areas { length tokens.now.kinds.now < 2 ^ 32 }
+    requires wired { WiredIn tokens.now.kinds.now work.old top.old }
+    ensures advanced { AdvancedIn tokens.now.kinds.now work.old top.old work.new top.new }
     ensures terms { (b : ℕ → Option Term)
-        → HeldSteady kinds.now vals.now bound.now most b
-        → Fair kinds.now vals.now (link_words kinds.now work.old)
-        → Closed kinds.now vals.now (stands_for most b) (follow most b) (link_words kinds.now work.old)
-        (link_words kinds.now work.new) result }
+        → HeldSteady tokens.now.kinds.now tokens.now.vals.now bound.now most b
+        → Fair tokens.now.kinds.now tokens.now.vals.now (link_words tokens.now.kinds.now work.old)
+        → Closed tokens.now.kinds.now tokens.now.vals.now (stands_for most b) (follow most b) (link_words tokens.now.kinds.now work.old)
+        (link_words tokens.now.kinds.now work.new) result }
 {
-    let n = kinds.len();
+    let n = tokens.kinds.len();
     let mut done = 0;
     while done < *top {
         let x = work[n + done] as usize;
         let y = work[x] as usize - 1;
-        if !union_parts(kinds, vals, bound, most, x, y, work, top) {
+        if !union_parts(tokens, bound, most, x, y, work, top) {
             return false;
         }
         done += 1;
@@ -239,28 +224,27 @@ fn clear(n: usize, work: &mut [u32], top: usize)
 // Whether the terms at p and q are the same, bound variables replaced: they are joined, and all that follows from it. The words of
 // the area are 0 before and after.
 pub fn same_terms(
-    kinds: &[u32],
-    vals: &[u32],
+    tokens: &Tokens,
     bound: &[u32],
     most: usize,
     p: usize,
     q: usize,
     work: &mut [u32],
 ) -> bool
-    requires places { (p < length kinds.now) × (q < length kinds.now) × (length vals.now ≡ length kinds.now) × (length kinds.now < 2 ^ 32) }
-    requires room { (length kinds.now + begins kinds.now ≤ length work.old) × Zero work.old }
+    requires places { (p < length tokens.now.kinds.now) × (q < length tokens.now.kinds.now) × (length tokens.now.kinds.now < 2 ^ 32) }
+    requires room { (length tokens.now.kinds.now + begins tokens.now.kinds.now ≤ length work.old) × Zero work.old }
     ensures clear { Zero work.new }
     ensures term { (t u : Term) (b : ℕ → Option Term)
-        → Held kinds.now vals.now p t
-        → Held kinds.now vals.now q u
-        → HeldBindings kinds.now vals.now bound.now b
+        → Held tokens.now.kinds.now tokens.now.vals.now p t
+        → Held tokens.now.kinds.now tokens.now.vals.now q u
+        → HeldBindings tokens.now.kinds.now tokens.now.vals.now bound.now b
         → Steady most b
         → Topped most b
         → result ≡ same (resolve most b t) (resolve most b u) }
 {
     let mut top = 0;
-    let equal = union_terms(kinds, vals, bound, most, p, q, work, &mut top)
-        && close_congruence(kinds, vals, bound, most, work, &mut top);
-    clear(kinds.len(), work, top);
+    let equal = union_terms(tokens, bound, most, p, q, work, &mut top)
+        && close_congruence(tokens, bound, most, work, &mut top);
+    clear(tokens.kinds.len(), work, top);
     equal
 }

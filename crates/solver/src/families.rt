@@ -9,6 +9,7 @@ ghost use Rattle.solver.specs.Words.SessionRepresentation.{request_words, bit, R
 ghost use Rattle.solver.specs.Words.MethodContract.{Shaped, Beside, is_some, bound_to, at_most, mask_in, joined_word, Handed};
 
 use super::Solver;
+use terms::Tokens;
 
 // A variable's request: the word of its column, 0 for none.
 pub fn request_word(tables: &[u32], m: usize, v: u32) -> u32
@@ -44,23 +45,23 @@ pub fn has(mask: u32, c: u32) -> bool
 }
 
 // Whether the term at q is a builtin that a request's word admits.
-pub fn in_family(kinds: &[u32], vals: &[u32], q: usize, word: u32) -> bool
-    requires { (q < length kinds.now) × (length vals.now ≡ length kinds.now) }
-    ensures { (t : Term) → RequestWord word → Held kinds.now vals.now q t → result ≡ belongs (request_in word).family t }
+pub fn in_family(tokens: &Tokens, q: usize, word: u32) -> bool
+    requires { q < length tokens.now.kinds.now }
+    ensures { (t : Term) → RequestWord word → Held tokens.now.kinds.now tokens.now.vals.now q t → result ≡ belongs (request_in word).family t }
 {
-    if kinds[q] != 6 {
+    if tokens.kinds[q] != 6 {
         return false;
     }
-    if vals[q] != 2 {
+    if tokens.vals[q] != 2 {
         return false;
     }
-    if kinds.len() - q < 2 {
+    if tokens.kinds.len() - q < 2 {
         return false;
     }
-    if kinds[q + 1] != 0 {
+    if tokens.kinds[q + 1] != 0 {
         return false;
     }
-    let c = vals[q + 1];
+    let c = tokens.vals[q + 1];
     if 31 < c {
         return false;
     }
@@ -68,21 +69,21 @@ pub fn in_family(kinds: &[u32], vals: &[u32], q: usize, word: u32) -> bool
 }
 
 // Whether the unbound variable v may be bound to the term at q, which is an unbound variable or a node.
-pub fn admissible(kinds: &[u32], vals: &[u32], tables: &[u32], m: usize, v: u32, q: usize) -> bool
-    requires { (7 * m ≤ length tables.now) × (q < length kinds.now) × (length vals.now ≡ length kinds.now) }
+pub fn admissible(tokens: &Tokens, tables: &[u32], m: usize, v: u32, q: usize) -> bool
+    requires { (7 * m ≤ length tables.now) × (q < length tokens.now.kinds.now) }
     ensures { (t : Term) (rs : Requests)
         → ((u : ℕ) → HeldRequest (rs u) (get_or (request_words m tables.now) u 0))
-        → Held kinds.now vals.now q t
+        → Held tokens.now.kinds.now tokens.now.vals.now q t
         → result ≡ is_some (admit rs (rs v) t) }
 {
     let word = request_word(tables, m, v);
     if word == 0 {
         return true;
     }
-    if kinds[q] != 1 {
-        return in_family(kinds, vals, q, word);
+    if tokens.kinds[q] != 1 {
+        return in_family(tokens, q, word);
     }
-    let other = request_word(tables, m, vals[q]);
+    let other = request_word(tables, m, tokens.vals[q]);
     if other == 0 {
         return true;
     }
@@ -121,29 +122,22 @@ pub fn propagate_request(tables: &mut [u32], m: usize, v: usize, kind: u32, val:
 
 impl Solver {
     // Binds the unbound variable v to the term at q, which is admissible: its request is joined to that of the variable that it is bound to.
-    pub fn bind(
-        mut self,
-        kinds: &[u32],
-        vals: &[u32],
-        tables: &mut [u32],
-        v: u32,
-        q: usize,
-    ) -> Solver
+    pub fn bind(mut self, tokens: &Tokens, tables: &mut [u32], v: u32, q: usize) -> Solver
         requires shape { Shaped self (length tables.old) }
-        requires areas { (v < self.variables) × (q < length kinds.now) × (length vals.now ≡ length kinds.now) × (length kinds.now < 2 ^ 32)
+        requires areas { (v < self.variables) × (q < length tokens.now.kinds.now) × (length tokens.now.kinds.now < 2 ^ 32)
             × (self.revision < 2 ^ 33) }
         ensures held { (s : Session) (t : Term) (rs : Requests)
-            → Represents self kinds.now vals.now tables.old s
-            → Held kinds.now vals.now q t
+            → Represents self tokens.now.kinds.now tokens.now.vals.now tables.old s
+            → Held tokens.now.kinds.now tokens.now.vals.now q t
             → at_most self.variables t
             → admit s.solver.requests (s.solver.requests v) t ≡ some rs
-            → Represents result kinds.now vals.now tables.new (with_solver s (bound_to s.solver v t rs)) }
+            → Represents result tokens.now.kinds.now tokens.now.vals.now tables.new (with_solver s (bound_to s.solver v t rs)) }
         ensures counts { (result.revision ≡ self.revision + 1) × (result.issued ≡ self.issued) × (result.kept ≡ self.kept) }
         ensures beside { Beside self result tables.old tables.new }
     {
         let m = self.variables;
         let at = v as usize;
-        propagate_request(tables, m, at, kinds[q], vals[q]);
+        propagate_request(tables, m, at, tokens.kinds[q], tokens.vals[q]);
         tables[at] = (q + 1) as u32;
         self.revision += 1;
         self

@@ -8,16 +8,17 @@ ghost use Rattle.solver.specs.Shapes.{notion, same_shape};
 ghost use Rattle.solver.specs.Words.PendingContract.{strict_of, Laid, Taken, Wiped, places, PushedPairs, Twins, agree, here, window, PartEnd, NumberAt};
 
 use super::{Access, Counted, PairAt};
+use terms::Tokens;
 
 // Where the part at i ends, or end where it would go past it.
-pub fn part_end(kinds: &[u32], vals: &[u32], i: usize, end: usize) -> usize
-    requires { (i < end) × (end ≤ length kinds.now) × (length vals.now ≡ length kinds.now) }
-    ensures { PartEnd kinds.now vals.now i end result }
+pub fn part_end(tokens: &Tokens, i: usize, end: usize) -> usize
+    requires { (i < end) × (end ≤ length tokens.now.kinds.now) }
+    ensures { PartEnd tokens.now.kinds.now tokens.now.vals.now i end result }
 {
-    if kinds[i] < 2 {
+    if tokens.kinds[i] < 2 {
         return i + 1;
     }
-    let len = vals[i] as usize;
+    let len = tokens.vals[i] as usize;
     if len == 0 {
         return end;
     }
@@ -28,20 +29,20 @@ pub fn part_end(kinds: &[u32], vals: &[u32], i: usize, end: usize) -> usize
 }
 
 // Whether the parts at i and j agree, but for the terms that they are.
-pub fn parts_agree(kinds: &[u32], vals: &[u32], i: usize, j: usize, free: bool) -> bool
-    requires { (i < length kinds.now) × (j < length kinds.now) × (length vals.now ≡ length kinds.now) }
-    ensures { result ≡ agree free (get_or kinds.now i 0) (get_or vals.now i 0) (get_or kinds.now j 0) (get_or vals.now j 0) }
+pub fn parts_agree(tokens: &Tokens, i: usize, j: usize, free: bool) -> bool
+    requires { (i < length tokens.now.kinds.now) × (j < length tokens.now.kinds.now) }
+    ensures { result ≡ agree free (get_or tokens.now.kinds.now i 0) (get_or tokens.now.vals.now i 0) (get_or tokens.now.kinds.now j 0) (get_or tokens.now.vals.now j 0) }
 {
-    if kinds[i] != 0 {
-        return kinds[j] != 0;
+    if tokens.kinds[i] != 0 {
+        return tokens.kinds[j] != 0;
     }
-    if kinds[j] != 0 {
+    if tokens.kinds[j] != 0 {
         return false;
     }
     if free {
         return true;
     }
-    vals[i] == vals[j]
+    tokens.vals[i] == tokens.vals[j]
 }
 
 // Whether the access of a head does not count: that of a Map or a Set, unless every access counts.
@@ -55,66 +56,66 @@ pub fn access_free(kind: u32, access: Access) -> bool
 }
 
 // Whether the nodes at a and b have the same shape: heads of one kind, and rows of parts that agree.
-pub fn same_shape(kinds: &[u32], vals: &[u32], a: usize, b: usize, access: Access) -> bool
-    requires { (a < length kinds.now) × (b < length kinds.now) × (length vals.now ≡ length kinds.now) × (length kinds.now < 2 ^ 32) }
+pub fn same_shape(tokens: &Tokens, a: usize, b: usize, access: Access) -> bool
+    requires { (a < length tokens.now.kinds.now) × (b < length tokens.now.kinds.now) × (length tokens.now.kinds.now < 2 ^ 32) }
     ensures { (k j : ℕ) (ps qs : Parts)
-        → Held kinds.now vals.now a (node k ps)
-        → Held kinds.now vals.now b (node j qs)
+        → Held tokens.now.kinds.now tokens.now.vals.now a (node k ps)
+        → Held tokens.now.kinds.now tokens.now.vals.now b (node j qs)
         → result ≡ same_shape (notion (strict_of access)) (node k ps) (node j qs) }
 {
-    if kinds[a] != kinds[b] {
+    if tokens.kinds[a] != tokens.kinds[b] {
         return false;
     }
-    let ae = part_end(kinds, vals, a, kinds.len());
-    let be = part_end(kinds, vals, b, kinds.len());
+    let ae = part_end(tokens, a, tokens.kinds.len());
+    let be = part_end(tokens, b, tokens.kinds.len());
     let mut i = a + 1;
     let mut j = b + 1;
-    let mut free = access_free(kinds[a], access);
+    let mut free = access_free(tokens.kinds[a], access);
     while i < ae {
         if be <= j {
             return false;
         }
-        if !parts_agree(kinds, vals, i, j, free) {
+        if !parts_agree(tokens, i, j, free) {
             return false;
         }
-        i = part_end(kinds, vals, i, ae);
-        j = part_end(kinds, vals, j, be);
+        i = part_end(tokens, i, ae);
+        j = part_end(tokens, j, be);
         free = false;
     }
     be <= j
 }
 
 // Where the first number of a row stands that begins at from and ends before end; end where it has none.
-pub fn number_from(kinds: &[u32], vals: &[u32], from: usize, end: usize) -> usize
-    requires { (from ≤ end) × (end ≤ length kinds.now) × (length vals.now ≡ length kinds.now) }
+pub fn number_from(tokens: &Tokens, from: usize, end: usize) -> usize
+    requires { (from ≤ end) × (end ≤ length tokens.now.kinds.now) }
     ensures place { result ≤ end }
-    ensures number { (ps : Parts) → HeldParts kinds.now vals.now from end ps → NumberAt kinds.now vals.now result end ps }
+    ensures number { (ps : Parts) → HeldParts tokens.now.kinds.now tokens.now.vals.now from end ps → NumberAt tokens.now.kinds.now tokens.now.vals.now result end ps }
 {
     let mut i = from;
     while i < end {
-        if kinds[i] == 0 {
+        if tokens.kinds[i] == 0 {
             return i;
         }
-        i = part_end(kinds, vals, i, end);
+        i = part_end(tokens, i, end);
     }
     end
 }
 
 // The second number of the row of the node at a, 0 where it has not so many: of a nominal, how many arguments it has.
-pub fn second_number(kinds: &[u32], vals: &[u32], a: usize) -> usize
-    requires { (a < length kinds.now) × (length vals.now ≡ length kinds.now) }
-    ensures { (k : ℕ) (ps : Parts) → Held kinds.now vals.now a (node k ps) → result ≡ get_or (nums ps) 1 0 }
+pub fn second_number(tokens: &Tokens, a: usize) -> usize
+    requires { a < length tokens.now.kinds.now }
+    ensures { (k : ℕ) (ps : Parts) → Held tokens.now.kinds.now tokens.now.vals.now a (node k ps) → result ≡ get_or (nums ps) 1 0 }
 {
-    let end = part_end(kinds, vals, a, kinds.len());
-    let p = number_from(kinds, vals, a + 1, end);
+    let end = part_end(tokens, a, tokens.kinds.len());
+    let p = number_from(tokens, a + 1, end);
     if end <= p {
         return 0;
     }
-    let q = number_from(kinds, vals, p + 1, end);
+    let q = number_from(tokens, p + 1, end);
     if end <= q {
         return 0;
     }
-    vals[q] as usize
+    tokens.vals[q] as usize
 }
 
 // Puts a pair on top of the pending ones, and returns how many there are then.
@@ -193,8 +194,7 @@ pub fn push_part(
 
 // Puts the children of the nodes at a and b on in pairs, those with an index from lo up to hi.
 pub fn push_range(
-    kinds: &[u32],
-    vals: &[u32],
+    tokens: &Tokens,
     a: usize,
     b: usize,
     lo: usize,
@@ -203,15 +203,15 @@ pub fn push_range(
     base: usize,
     count: usize,
 ) -> usize
-    requires areas { (a < length kinds.now) × (b < length kinds.now) × (length vals.now ≡ length kinds.now) × (length kinds.now < 2 ^ 32) }
-    requires room { (w : Twins kinds.now vals.now a b) × (base + 2 * (count + length (window lo hi 0 (places (a + 1) w.left))) ≤ length tables.old) }
+    requires areas { (a < length tokens.now.kinds.now) × (b < length tokens.now.kinds.now) × (length tokens.now.kinds.now < 2 ^ 32) }
+    requires room { (w : Twins tokens.now.kinds.now tokens.now.vals.now a b) × (base + 2 * (count + length (window lo hi 0 (places (a + 1) w.left))) ≤ length tables.old) }
     ensures { (k j : ℕ) (ps qs : Parts)
-        → Held kinds.now vals.now a (node k ps)
-        → Held kinds.now vals.now b (node j qs)
+        → Held tokens.now.kinds.now tokens.now.vals.now a (node k ps)
+        → Held tokens.now.kinds.now tokens.now.vals.now b (node j qs)
         → Laid (window lo hi 0 (places (a + 1) ps)) (window lo hi 0 (places (b + 1) qs)) base count tables.old tables.new result }
 {
-    let ae = part_end(kinds, vals, a, kinds.len());
-    let be = part_end(kinds, vals, b, kinds.len());
+    let ae = part_end(tokens, a, tokens.kinds.len());
+    let be = part_end(tokens, b, tokens.kinds.len());
     let mut i = a + 1;
     let mut j = b + 1;
     let mut c = Counted {
@@ -219,9 +219,9 @@ pub fn push_range(
         top: count,
     };
     while i < ae {
-        c = push_part(tables, base, c, kinds[i], i, j, lo, hi);
-        i = part_end(kinds, vals, i, ae);
-        j = part_end(kinds, vals, j, be);
+        c = push_part(tables, base, c, tokens.kinds[i], i, j, lo, hi);
+        i = part_end(tokens, i, ae);
+        j = part_end(tokens, j, be);
     }
     c.top
 }
@@ -229,29 +229,28 @@ pub fn push_range(
 // Puts the children of two nodes of one shape on in pairs, as `map_children` comes to them: a nominal's members, then its arguments;
 // others in byte order. Returns how many pairs are pending then.
 pub fn push_children(
-    kinds: &[u32],
-    vals: &[u32],
+    tokens: &Tokens,
     a: usize,
     b: usize,
     tables: &mut [u32],
     base: usize,
     count: usize,
 ) -> usize
-    requires areas { (a < length kinds.now) × (b < length kinds.now) × (length vals.now ≡ length kinds.now) × (length kinds.now < 2 ^ 32) }
-    requires room { (w : Twins kinds.now vals.now a b) × (base + 2 * (count + length (children (node w.tag w.left))) ≤ length tables.old) }
+    requires areas { (a < length tokens.now.kinds.now) × (b < length tokens.now.kinds.now) × (length tokens.now.kinds.now < 2 ^ 32) }
+    requires room { (w : Twins tokens.now.kinds.now tokens.now.vals.now a b) × (base + 2 * (count + length (children (node w.tag w.left))) ≤ length tables.old) }
     ensures { (k j : ℕ) (ps qs : Parts)
-        → Held kinds.now vals.now a (node k ps)
-        → Held kinds.now vals.now b (node j qs)
-        → PushedPairs kinds.now vals.now a b (node k ps) (node j qs) base count tables.old tables.new result }
+        → Held tokens.now.kinds.now tokens.now.vals.now a (node k ps)
+        → Held tokens.now.kinds.now tokens.now.vals.now b (node j qs)
+        → PushedPairs tokens.now.kinds.now tokens.now.vals.now a b (node k ps) (node j qs) base count tables.old tables.new result }
 {
-    let all = kinds.len();
-    if kinds[a] < 14 {
-        return push_range(kinds, vals, a, b, 0, all, tables, base, count);
+    let all = tokens.kinds.len();
+    if tokens.kinds[a] < 14 {
+        return push_range(tokens, a, b, 0, all, tables, base, count);
     }
-    if 17 < kinds[a] {
-        return push_range(kinds, vals, a, b, 0, all, tables, base, count);
+    if 17 < tokens.kinds[a] {
+        return push_range(tokens, a, b, 0, all, tables, base, count);
     }
-    let n = second_number(kinds, vals, a);
-    let top = push_range(kinds, vals, a, b, n, all, tables, base, count);
-    push_range(kinds, vals, a, b, 0, n, tables, base, top)
+    let n = second_number(tokens, a);
+    let top = push_range(tokens, a, b, n, all, tables, base, count);
+    push_range(tokens, a, b, 0, n, tables, base, top)
 }

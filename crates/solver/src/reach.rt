@@ -15,6 +15,7 @@ ghost use Rattle.solver.specs.Words.ReachContract.{counts, has, run_of, Told, as
 
 use super::Run;
 use super::resolving::named_run;
+use terms::Tokens;
 
 // Whether a token is what is asked for, or one before it was.
 pub fn seen(kind: u32, val: u32, want: usize, before: bool) -> bool
@@ -58,24 +59,23 @@ pub fn push(work: &mut [u32], n: usize, top: &mut usize, kind: u32, val: u32)
 
 // Looks at the tokens of a run for what is asked for, and marks its variables.
 pub fn scan(
-    kinds: &[u32],
-    vals: &[u32],
+    tokens: &Tokens,
     run: Run,
     want: usize,
     work: &mut [u32],
     n: usize,
     top: &mut usize,
 ) -> bool
-    requires areas { (length vals.now ≡ length kinds.now) × (run.at + run.len ≤ length kinds.now) }
+    requires areas { run.at + run.len ≤ length tokens.now.kinds.now }
     requires work { Work (take n work.old) (drop n work.old) top.old × (n + n ≤ length work.old) }
-    ensures hit { result ≡ has want (toks kinds.now vals.now run.at run.len) }
-    ensures grown { Grown (λ (u : ℕ). has (suc u) (toks kinds.now vals.now run.at run.len) ≡ true) (take n work.old)
+    ensures hit { result ≡ has want (toks tokens.now.kinds.now tokens.now.vals.now run.at run.len) }
+    ensures grown { Grown (λ (u : ℕ). has (suc u) (toks tokens.now.kinds.now tokens.now.vals.now run.at run.len) ≡ true) (take n work.old)
         (drop n work.old) top.old (take n work.new) (drop n work.new) top.new }
 {
     let mut hit = false;
     for i in 0..run.len {
-        let k = kinds[run.at + i];
-        let v = vals[run.at + i];
+        let k = tokens.kinds[run.at + i];
+        let v = tokens.vals[run.at + i];
         hit = seen(k, v, want, hit);
         push(work, n, top, k, v);
     }
@@ -96,20 +96,13 @@ pub fn clear_marks(work: &mut [u32], n: usize, top: usize)
 
 // Whether the term at p has what is asked for, bound variables replaced: it and what its variables are bound to are looked at, each once, until what is
 // asked for is met. The scratch is all 0 before and after.
-pub fn reaches(
-    kinds: &[u32],
-    vals: &[u32],
-    bound: &[u32],
-    p: usize,
-    want: usize,
-    work: &mut [u32],
-) -> bool
-    requires areas { (length vals.now ≡ length kinds.now) × (p < 2 ^ 32) }
+pub fn reaches(tokens: &Tokens, bound: &[u32], p: usize, want: usize, work: &mut [u32]) -> bool
+    requires areas { p < 2 ^ 32 }
     requires scratch { (length bound.now + length bound.now ≤ length work.old) × Zero work.old }
-    ensures told { Told kinds.now vals.now bound.now (run_of kinds.now vals.now (p + 1)) want result }
+    ensures told { Told tokens.now.kinds.now tokens.now.vals.now bound.now (run_of tokens.now.kinds.now tokens.now.vals.now (p + 1)) want result }
     ensures term { (t : Term) (b : ℕ → Option Term) (n : ℕ)
-        → Held kinds.now vals.now p t
-        → HeldBindings kinds.now vals.now bound.now b
+        → Held tokens.now.kinds.now tokens.now.vals.now p t
+        → HeldBindings tokens.now.kinds.now tokens.now.vals.now bound.now b
         → Steady n b
         → Free want b
         → result ≡ asked want (resolve n b t) }
@@ -117,20 +110,12 @@ pub fn reaches(
 {
     let n = bound.len();
     let mut top = 0;
-    let mut hit = scan(
-        kinds,
-        vals,
-        named_run(kinds, vals, p + 1),
-        want,
-        work,
-        n,
-        &mut top,
-    );
+    let mut hit = scan(tokens, named_run(tokens, p + 1), want, work, n, &mut top);
     let mut done = 0;
     while !hit && done < top {
         let w = work[n + done] as usize;
-        let next = named_run(kinds, vals, bound[w] as usize);
-        hit = scan(kinds, vals, next, want, work, n, &mut top);
+        let next = named_run(tokens, bound[w] as usize);
+        hit = scan(tokens, next, want, work, n, &mut top);
         done += 1;
     }
     clear_marks(work, n, top);
@@ -138,38 +123,31 @@ pub fn reaches(
 }
 
 // Whether the unbound variable v is in the term at p, bound variables replaced.
-pub fn occurs(
-    kinds: &[u32],
-    vals: &[u32],
-    bound: &[u32],
-    p: usize,
-    v: u32,
-    work: &mut [u32],
-) -> bool
-    requires areas { (length vals.now ≡ length kinds.now) × (p < 2 ^ 32) }
+pub fn occurs(tokens: &Tokens, bound: &[u32], p: usize, v: u32, work: &mut [u32]) -> bool
+    requires areas { p < 2 ^ 32 }
     requires scratch { (length bound.now + length bound.now ≤ length work.old) × Zero work.old }
     ensures term { (t : Term) (b : ℕ → Option Term) (n : ℕ)
-        → Held kinds.now vals.now p t
-        → HeldBindings kinds.now vals.now bound.now b
+        → Held tokens.now.kinds.now tokens.now.vals.now p t
+        → HeldBindings tokens.now.kinds.now tokens.now.vals.now bound.now b
         → Steady n b
         → b v ≡ none
         → result ≡ solving.occurs v (resolve n b t) }
     ensures clear { Zero work.new }
 {
     let want = v as usize + 1;
-    reaches(kinds, vals, bound, p, want, work)
+    reaches(tokens, bound, p, want, work)
 }
 
 // Whether an Unknown or Error is in the term at p, bound variables replaced.
-pub fn recovers(kinds: &[u32], vals: &[u32], bound: &[u32], p: usize, work: &mut [u32]) -> bool
-    requires areas { (length vals.now ≡ length kinds.now) × (p < 2 ^ 32) }
+pub fn recovers(tokens: &Tokens, bound: &[u32], p: usize, work: &mut [u32]) -> bool
+    requires areas { p < 2 ^ 32 }
     requires scratch { (length bound.now + length bound.now ≤ length work.old) × Zero work.old }
     ensures term { (t : Term) (b : ℕ → Option Term) (n : ℕ)
-        → Held kinds.now vals.now p t
-        → HeldBindings kinds.now vals.now bound.now b
+        → Held tokens.now.kinds.now tokens.now.vals.now p t
+        → HeldBindings tokens.now.kinds.now tokens.now.vals.now bound.now b
         → Steady n b
         → result ≡ solving.recovers (resolve n b t) }
     ensures clear { Zero work.new }
 {
-    reaches(kinds, vals, bound, p, 0, work)
+    reaches(tokens, bound, p, 0, work)
 }

@@ -11,60 +11,52 @@ ghost use Rattle.solver.specs.Words.Bindings.{HeldBindings};
 ghost use Rattle.solver.specs.Words.Worklist.{Zero};
 
 use super::{Run, Stand};
-use terms::{run_len, write_run};
+use terms::{Tokens, run_len, write_run};
 
 // The run that a word of the table names, of len 0 where it names none.
-pub fn named_run(kinds: &[u32], vals: &[u32], word: usize) -> Run
-    requires { length vals.now ≡ length kinds.now }
-    ensures { Named kinds.now vals.now word result.at result.len }
+pub fn named_run(tokens: &Tokens, word: usize) -> Run
+    ensures { Named tokens.now.kinds.now tokens.now.vals.now word result.at result.len }
 {
     if word == 0 {
         return Run { at: 0, len: 0 };
     }
     let at = word - 1;
-    if kinds.len() <= at {
+    if tokens.kinds.len() <= at {
         return Run { at: 0, len: 0 };
     }
     let mut len = 1;
-    if 2 <= kinds[at] {
-        len = vals[at] as usize;
+    if 2 <= tokens.kinds[at] {
+        len = tokens.vals[at] as usize;
     }
-    if kinds.len() - at < len {
+    if tokens.kinds.len() - at < len {
         return Run { at: 0, len: 0 };
     }
     Run { at, len }
 }
 
 // The run that takes the place of the token at p, of len 0 where it stands for itself: with nothing left to enter, every token does.
-pub fn enter(kinds: &[u32], vals: &[u32], bound: &[u32], p: usize, left: usize) -> Run
-    requires { (p < length kinds.now) × (length vals.now ≡ length kinds.now) }
-    ensures { Entered kinds.now vals.now bound.now p left result.at result.len }
+pub fn enter(tokens: &Tokens, bound: &[u32], p: usize, left: usize) -> Run
+    requires { p < length tokens.now.kinds.now }
+    ensures { Entered tokens.now.kinds.now tokens.now.vals.now bound.now p left result.at result.len }
 {
     if left == 0 {
         return Run { at: 0, len: 0 };
     }
-    if kinds[p] != 1 {
+    if tokens.kinds[p] != 1 {
         return Run { at: 0, len: 0 };
     }
-    let v = vals[p] as usize;
+    let v = tokens.vals[p] as usize;
     if bound.len() <= v {
         return Run { at: 0, len: 0 };
     }
-    named_run(kinds, vals, bound[v] as usize)
+    named_run(tokens, bound[v] as usize)
 }
 
 // Goes from a place to the next token that stands for itself, into bound variables and out of runs that are over; at == end says that
 // the walk is over. A frame that it comes out of is 0 again, so that the frames of a walk that is over all are.
-pub fn settle(
-    kinds: &[u32],
-    vals: &[u32],
-    bound: &[u32],
-    most: usize,
-    frames: &mut [u32],
-    from: Stand,
-) -> Stand
-    requires { (length vals.now ≡ length kinds.now) × (length kinds.now < 2 ^ 32) × Sound kinds.now most frames.old from }
-    ensures { Settled kinds.now vals.now bound.now most frames.old from frames.new result }
+pub fn settle(tokens: &Tokens, bound: &[u32], most: usize, frames: &mut [u32], from: Stand) -> Stand
+    requires { (length tokens.now.kinds.now < 2 ^ 32) × Sound tokens.now.kinds.now most frames.old from }
+    ensures { Settled tokens.now.kinds.now tokens.now.vals.now bound.now most frames.old from frames.new result }
 {
     let mut c = from;
     loop {
@@ -79,7 +71,7 @@ pub fn settle(
             frames[i] = 0;
             frames[i + 1] = 0;
         } else {
-            let r = enter(kinds, vals, bound, c.at, most - c.depth);
+            let r = enter(tokens, bound, c.at, most - c.depth);
             if r.len == 0 {
                 return c;
             }
@@ -94,17 +86,10 @@ pub fn settle(
 }
 
 // The first place of a walk over a run.
-pub fn begin(
-    kinds: &[u32],
-    vals: &[u32],
-    bound: &[u32],
-    most: usize,
-    frames: &mut [u32],
-    run: Run,
-) -> Stand
-    requires { (length vals.now ≡ length kinds.now) × (length kinds.now < 2 ^ 32) × (run.at + run.len ≤ length kinds.now)
+pub fn begin(tokens: &Tokens, bound: &[u32], most: usize, frames: &mut [u32], run: Run) -> Stand
+    requires { (length tokens.now.kinds.now < 2 ^ 32) × (run.at + run.len ≤ length tokens.now.kinds.now)
         × (most + most ≤ length frames.old) }
-    ensures { Settled kinds.now vals.now bound.now most frames.old (stand run.at (run.at + run.len) 0)
+    ensures { Settled tokens.now.kinds.now tokens.now.vals.now bound.now most frames.old (stand run.at (run.at + run.len) 0)
         frames.new result }
 {
     let c = Stand {
@@ -112,20 +97,13 @@ pub fn begin(
         end: run.at + run.len,
         depth: 0,
     };
-    settle(kinds, vals, bound, most, frames, c)
+    settle(tokens, bound, most, frames, c)
 }
 
 // The place after a token that stands for itself.
-pub fn next(
-    kinds: &[u32],
-    vals: &[u32],
-    bound: &[u32],
-    most: usize,
-    frames: &mut [u32],
-    from: Stand,
-) -> Stand
-    requires { (length vals.now ≡ length kinds.now) × (length kinds.now < 2 ^ 32) × (from.at < from.end) × Sound kinds.now most frames.old from }
-    ensures { Settled kinds.now vals.now bound.now most frames.old (stand (from.at + 1) from.end from.depth)
+pub fn next(tokens: &Tokens, bound: &[u32], most: usize, frames: &mut [u32], from: Stand) -> Stand
+    requires { (length tokens.now.kinds.now < 2 ^ 32) × (from.at < from.end) × Sound tokens.now.kinds.now most frames.old from }
+    ensures { Settled tokens.now.kinds.now tokens.now.vals.now bound.now most frames.old (stand (from.at + 1) from.end from.depth)
         frames.new result }
 {
     let c = Stand {
@@ -133,42 +111,40 @@ pub fn next(
         end: from.end,
         depth: from.depth,
     };
-    settle(kinds, vals, bound, most, frames, c)
+    settle(tokens, bound, most, frames, c)
 }
 
 // How many bytes a run has with bound variables replaced, or limit + 1 where those are more than limit.
 pub fn walked_len(
-    kinds: &[u32],
-    vals: &[u32],
+    tokens: &Tokens,
     bound: &[u32],
     most: usize,
     frames: &mut [u32],
     run: Run,
     limit: usize,
 ) -> usize
-    requires areas { (length vals.now ≡ length kinds.now) × (length kinds.now < 2 ^ 32) × (run.at + run.len ≤ length kinds.now)
+    requires areas { (length tokens.now.kinds.now < 2 ^ 32) × (run.at + run.len ≤ length tokens.now.kinds.now)
         × (most + most ≤ length frames.old) }
     requires room { limit < 2 ^ 32 }
-    ensures len { result ≡ min (limit + 1) (length (flat_bytes (walked kinds.now vals.now bound.now most run.at run.len))) }
+    ensures len { result ≡ min (limit + 1) (length (flat_bytes (walked tokens.now.kinds.now tokens.now.vals.now bound.now most run.at run.len))) }
     ensures apart { Apart most frames.old frames.new }
     ensures bare { Zero frames.old → result ≤ limit → Zero frames.new }
 {
-    let mut c = begin(kinds, vals, bound, most, frames, run);
+    let mut c = begin(tokens, bound, most, frames, run);
     let mut n = 0;
     while c.at < c.end {
-        n += run_len(kinds, vals, c.at, 1);
+        n += run_len(tokens.kinds, tokens.vals, c.at, 1);
         if limit < n {
             return limit + 1;
         }
-        c = next(kinds, vals, bound, most, frames, c);
+        c = next(tokens, bound, most, frames, c);
     }
     n
 }
 
 // Writes a run at a position of out, bound variables replaced, and returns the position after it.
 pub fn write_walked(
-    kinds: &[u32],
-    vals: &[u32],
+    tokens: &Tokens,
     bound: &[u32],
     most: usize,
     frames: &mut [u32],
@@ -176,52 +152,50 @@ pub fn write_walked(
     out: &mut [u8],
     to: usize,
 ) -> usize
-    requires areas { (length vals.now ≡ length kinds.now) × (length kinds.now < 2 ^ 32) × (run.at + run.len ≤ length kinds.now)
+    requires areas { (length tokens.now.kinds.now < 2 ^ 32) × (run.at + run.len ≤ length tokens.now.kinds.now)
         × (most + most ≤ length frames.old) }
-    requires room { to + length (flat_bytes (walked kinds.now vals.now bound.now most run.at run.len)) ≤ length out.old }
-    ensures next { result ≡ to + length (flat_bytes (walked kinds.now vals.now bound.now most run.at run.len)) }
+    requires room { to + length (flat_bytes (walked tokens.now.kinds.now tokens.now.vals.now bound.now most run.at run.len)) ≤ length out.old }
+    ensures next { result ≡ to + length (flat_bytes (walked tokens.now.kinds.now tokens.now.vals.now bound.now most run.at run.len)) }
     ensures wrote { out.new
-        ≡ sets out.old to (flat_bytes (walked kinds.now vals.now bound.now most run.at run.len)) }
+        ≡ sets out.old to (flat_bytes (walked tokens.now.kinds.now tokens.now.vals.now bound.now most run.at run.len)) }
     ensures apart { Apart most frames.old frames.new }
     ensures bare { Zero frames.old → Zero frames.new }
 {
-    let mut c = begin(kinds, vals, bound, most, frames, run);
+    let mut c = begin(tokens, bound, most, frames, run);
     let mut i = to;
     while c.at < c.end {
-        i = write_run(kinds, vals, c.at, 1, out, i);
-        c = next(kinds, vals, bound, most, frames, c);
+        i = write_run(tokens.kinds, tokens.vals, c.at, 1, out, i);
+        c = next(tokens, bound, most, frames, c);
     }
     i
 }
 
 // How many bytes the term at p has with bound variables replaced, or limit + 1 where those are more than limit.
 pub fn resolved_len(
-    kinds: &[u32],
-    vals: &[u32],
+    tokens: &Tokens,
     bound: &[u32],
     most: usize,
     frames: &mut [u32],
     p: usize,
     limit: usize,
 ) -> usize
-    requires areas { (length vals.now ≡ length kinds.now) × (length kinds.now < 2 ^ 32) × (most + most ≤ length frames.old) }
+    requires areas { (length tokens.now.kinds.now < 2 ^ 32) × (most + most ≤ length frames.old) }
     requires room { (p < 2 ^ 32) × (limit < 2 ^ 32) }
-    ensures len { result ≡ min (limit + 1) (length (resolved_bytes kinds.now vals.now bound.now most p)) }
+    ensures len { result ≡ min (limit + 1) (length (resolved_bytes tokens.now.kinds.now tokens.now.vals.now bound.now most p)) }
     ensures term { (t : Term) (b : ℕ → Option Term)
-        → Held kinds.now vals.now p t
-        → HeldBindings kinds.now vals.now bound.now b
+        → Held tokens.now.kinds.now tokens.now.vals.now p t
+        → HeldBindings tokens.now.kinds.now tokens.now.vals.now bound.now b
         → result ≡ min (limit + 1) (length (bytes (resolve most b t))) }
     ensures apart { Apart most frames.old frames.new }
     ensures bare { Zero frames.old → result ≤ limit → Zero frames.new }
 {
-    let run = named_run(kinds, vals, p + 1);
-    walked_len(kinds, vals, bound, most, frames, run, limit)
+    let run = named_run(tokens, p + 1);
+    walked_len(tokens, bound, most, frames, run, limit)
 }
 
 // Writes the term at p at a position of out, bound variables replaced, and returns the position after it.
 pub fn write_resolved(
-    kinds: &[u32],
-    vals: &[u32],
+    tokens: &Tokens,
     bound: &[u32],
     most: usize,
     frames: &mut [u32],
@@ -229,19 +203,19 @@ pub fn write_resolved(
     out: &mut [u8],
     to: usize,
 ) -> usize
-    requires areas { (length vals.now ≡ length kinds.now) × (length kinds.now < 2 ^ 32) × (most + most ≤ length frames.old) }
-    requires room { (p < 2 ^ 32) × (to + length (resolved_bytes kinds.now vals.now bound.now most p) ≤ length out.old) }
-    ensures next { result ≡ to + length (resolved_bytes kinds.now vals.now bound.now most p) }
-    ensures wrote { out.new ≡ sets out.old to (resolved_bytes kinds.now vals.now bound.now most p) }
+    requires areas { (length tokens.now.kinds.now < 2 ^ 32) × (most + most ≤ length frames.old) }
+    requires room { (p < 2 ^ 32) × (to + length (resolved_bytes tokens.now.kinds.now tokens.now.vals.now bound.now most p) ≤ length out.old) }
+    ensures next { result ≡ to + length (resolved_bytes tokens.now.kinds.now tokens.now.vals.now bound.now most p) }
+    ensures wrote { out.new ≡ sets out.old to (resolved_bytes tokens.now.kinds.now tokens.now.vals.now bound.now most p) }
     ensures term { (t : Term) (b : ℕ → Option Term)
-        → Held kinds.now vals.now p t
-        → HeldBindings kinds.now vals.now bound.now b
+        → Held tokens.now.kinds.now tokens.now.vals.now p t
+        → HeldBindings tokens.now.kinds.now tokens.now.vals.now bound.now b
         → (result ≡ to + length (bytes (resolve most b t))) × (out.new ≡ sets out.old to (bytes (resolve most b t))) }
     ensures apart { Apart most frames.old frames.new }
     ensures bare { Zero frames.old → Zero frames.new }
 {
-    let run = named_run(kinds, vals, p + 1);
-    write_walked(kinds, vals, bound, most, frames, run, out, to)
+    let run = named_run(tokens, p + 1);
+    write_walked(tokens, bound, most, frames, run, out, to)
 }
 
 // Sets the words before count to 0.

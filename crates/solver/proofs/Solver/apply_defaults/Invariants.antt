@@ -3,4 +3,4 @@ use Rattle.solver.proofs.Laws.Table.ChainLaws.{Applied}
 use Rattle.solver.proofs.Solver.apply_defaults.Given as goal
 
 abbrev pub invariant-loop-v : goal.invariant-loop-v
-invariant-loop-v l = Applied l.which l.initial.self l.kinds l.vals l.initial.tables l.v l.self l.tables
+invariant-loop-v l = Applied l.which l.initial.self l.tokens.kinds.now l.tokens.vals.now l.initial.tables l.v l.self l.tables

@@ -25,7 +25,7 @@ returns-then-self-revision-clause-solved c =
     let n = notion (strict_of a.access) in
     let e = c.solve_pair-r.ensures in
     λ z t u P k.
-    posed_still n a.self a.kinds.now a.vals.now a.tables.now _ z a.q t u P c.requires.room.1 c.solve_pair-r.auto.tables a.k a.nodes _ _
+    posed_still n a.self a.tokens.now.kinds.now a.tokens.now.vals.now a.tables.now _ z a.q t u P c.requires.room.1 c.solve_pair-r.auto.tables a.k a.nodes _ _
     (e.solved (keep z z.solver (size t + size u)) t u (pair_ordered a.self _ _ _ z a.q t u P) (pair_lent a.self _ _ _ z a.q t u P a.nodes k) (pair_left a.self _ _ _ z a.q t u P) (pair_right a.self _ _ _ z a.q t u P)) c.if-self-revision.true
 
 pub returns-else-self-revision-clause-solved : goal.returns-else-self-revision-clause-solved
@@ -34,5 +34,5 @@ returns-else-self-revision-clause-solved c =
     let n = notion (strict_of a.access) in
     let e = c.solve_pair-r.ensures in
     λ z t u P k.
-    posed_bound n a.self a.kinds.now a.vals.now a.tables.now _ z a.q t u P c.requires.room.1 c.solve_pair-r.auto.tables a.k a.nodes _ _
+    posed_bound n a.self a.tokens.now.kinds.now a.tokens.now.vals.now a.tables.now _ z a.q t u P c.requires.room.1 c.solve_pair-r.auto.tables a.k a.nodes _ _
     (e.solved (keep z z.solver (size t + size u)) t u (pair_ordered a.self _ _ _ z a.q t u P) (pair_lent a.self _ _ _ z a.q t u P a.nodes k) (pair_left a.self _ _ _ z a.q t u P) (pair_right a.self _ _ _ z a.q t u P)) c.if-self-revision.false

@@ -6,7 +6,7 @@ use Rattle.solver.proofs.Solver.solve_pair.Given as goal
 
 abbrev pub invariant-loop-count : goal.invariant-loop-count
 invariant-loop-count l =
-    Loop (notion (strict_of l.access)) l.initial.self l.kinds l.vals l.initial.tables l.initial.work l.initial.left l.initial.count l.initial.ok l.self l.tables l.work l.left l.count l.ok
+    Loop (notion (strict_of l.access)) l.initial.self l.tokens.kinds.now l.tokens.vals.now l.initial.tables l.initial.work l.initial.left l.initial.count l.initial.ok l.self l.tables l.work l.left l.count l.ok
 
 abbrev pub decreases-loop-count : goal.decreases-loop-count
 decreases-loop-count l = l.left

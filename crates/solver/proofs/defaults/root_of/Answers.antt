@@ -12,12 +12,12 @@ use Rattle.solver.proofs.defaults.root_of.Goals as goal
 use Rattle.solver.proofs.defaults.root_of.Goals.{After-shallow_resolve-q}
 
 -- the term at the end of the chain
-ended : (c : After-shallow_resolve-q) (b : ℕ → Option Term) → HeldBindings c.args.kinds.now c.args.vals.now c.args.bound.now b
-    → Held c.args.kinds.now c.args.vals.now c.shallow_resolve-q.result (follow c.args.most b (var c.args.v))
+ended : (c : After-shallow_resolve-q) (b : ℕ → Option Term) → HeldBindings c.args.tokens.now.kinds.now c.args.tokens.now.vals.now c.args.bound.now b
+    → Held c.args.tokens.now.kinds.now c.args.tokens.now.vals.now c.shallow_resolve-q.result (follow c.args.most b (var c.args.v))
 ended c b h =
     let a = c.args in
-    let x = end_bound a.kinds.now a.vals.now a.bound.now b h a.most a.v _ _ c.named_run-run.ensures c.if-most-eq0.false c.if-len-eq0.false in
-    subst (λ (t : Term). Held a.kinds.now a.vals.now c.shallow_resolve-q.result t) (sym x.2) (c.shallow_resolve-q.ensures.term x.0 b x.1 h)
+    let x = end_bound a.tokens.now.kinds.now a.tokens.now.vals.now a.bound.now b h a.most a.v _ _ c.named_run-run.ensures c.if-most-eq0.false c.if-len-eq0.false in
+    subst (λ (t : Term). Held a.tokens.now.kinds.now a.tokens.now.vals.now c.shallow_resolve-q.result t) (sym x.2) (c.shallow_resolve-q.ensures.term x.0 b x.1 h)
 
 pub returns-then-most-eq0 : goal.returns-then-most-eq0
 returns-then-most-eq0 c =
@@ -27,19 +27,19 @@ returns-then-most-eq0 c =
 pub returns-then-len-eq0 : goal.returns-then-len-eq0
 returns-then-len-eq0 c =
     let a = c.args in
-    λ b h. end_free a.kinds.now a.vals.now a.bound.now b h a.most a.v _ _ c.named_run-run.ensures (length a.bound.now) c.if-most-eq0.false c.if-len-eq0.true
+    λ b h. end_free a.tokens.now.kinds.now a.tokens.now.vals.now a.bound.now b h a.most a.v _ _ c.named_run-run.ensures (length a.bound.now) c.if-most-eq0.false c.if-len-eq0.true
 
-pub returns-then-kinds-q-ne1 : goal.returns-then-kinds-q-ne1
-returns-then-kinds-q-ne1 c =
+pub returns-then-tokens-q-ne1 : goal.returns-then-tokens-q-ne1
+returns-then-tokens-q-ne1 c =
     let a = c.args in
-    λ b h. ends_node a.kinds.now a.vals.now c.shallow_resolve-q.result (length a.bound.now) (follow a.most b (var a.v)) (ended (goal.at.returns-then-kinds-q-ne1 c).After-shallow_resolve-q b h) c.if-kinds-q-ne1.true
+    λ b h. ends_node a.tokens.now.kinds.now a.tokens.now.vals.now c.shallow_resolve-q.result (length a.bound.now) (follow a.most b (var a.v)) (ended (goal.at.returns-then-tokens-q-ne1 c).After-shallow_resolve-q b h) c.if-tokens-q-ne1.true
 
 pub returns-then-bound-w : goal.returns-then-bound-w
 returns-then-bound-w c =
     let a = c.args in
-    λ b h. ends_far a.kinds.now a.vals.now c.shallow_resolve-q.result (length a.bound.now) (follow a.most b (var a.v)) (ended (goal.at.returns-then-bound-w c).After-shallow_resolve-q b h) (omega (arith, c.if-bound-w.true))
+    λ b h. ends_far a.tokens.now.kinds.now a.tokens.now.vals.now c.shallow_resolve-q.result (length a.bound.now) (follow a.most b (var a.v)) (ended (goal.at.returns-then-bound-w c).After-shallow_resolve-q b h) (omega (arith, c.if-bound-w.true))
 
 pub returns : goal.returns
 returns c =
     let a = c.args in
-    λ b h. ends_near a.kinds.now a.vals.now c.shallow_resolve-q.result (length a.bound.now) (follow a.most b (var a.v)) (ended (goal.at.returns c).After-shallow_resolve-q b h) c.if-kinds-q-ne1.false
+    λ b h. ends_near a.tokens.now.kinds.now a.tokens.now.vals.now c.shallow_resolve-q.result (length a.bound.now) (follow a.most b (var a.v)) (ended (goal.at.returns c).After-shallow_resolve-q b h) c.if-tokens-q-ne1.false

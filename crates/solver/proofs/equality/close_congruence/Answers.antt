@@ -11,40 +11,40 @@ use Rattle.solver.proofs.equality.close_congruence.Goals as goal
 pub overflow_add-x : goal.overflow_add-x
 overflow_add-x c =
     let l = c.loop-done in
-    omega (arith, queue_fits c.args.kinds.now l.work l.top l.invariant.1.wired, top_below _ _ _ _ l.invariant.1.wired, l.invariant.3, c.well_formed)
+    omega (arith, queue_fits c.args.tokens.now.kinds.now l.work l.top l.invariant.1.wired, top_below _ _ _ _ l.invariant.1.wired, l.invariant.3, c.well_formed)
 
 pub offset_bounds-work-n : goal.offset_bounds-work-n
 offset_bounds-work-n c =
     let l = c.loop-done in
-    omega (arith, queue_fits c.args.kinds.now l.work l.top l.invariant.1.wired, top_below _ _ _ _ l.invariant.1.wired, l.invariant.3, c.well_formed)
+    omega (arith, queue_fits c.args.tokens.now.kinds.now l.work l.top l.invariant.1.wired, top_below _ _ _ _ l.invariant.1.wired, l.invariant.3, c.well_formed)
 
 pub bounds-work-n : goal.bounds-work-n
 bounds-work-n c =
     let l = c.loop-done in
-    omega (arith, queue_fits c.args.kinds.now l.work l.top l.invariant.1.wired, top_below _ _ _ _ l.invariant.1.wired)
+    omega (arith, queue_fits c.args.tokens.now.kinds.now l.work l.top l.invariant.1.wired, top_below _ _ _ _ l.invariant.1.wired)
 
 pub bounds-work-x : goal.bounds-work-x
 bounds-work-x c =
     let l = c.loop-done in
-    let t = taken_entry c.args.kinds.now l.work l.top l.invariant.1.wired l.done (omega arith) _ refl in
-    omega (arith, t.0, queue_fits c.args.kinds.now l.work l.top l.invariant.1.wired, top_below _ _ _ _ l.invariant.1.wired)
+    let t = taken_entry c.args.tokens.now.kinds.now l.work l.top l.invariant.1.wired l.done (omega arith) _ refl in
+    omega (arith, t.0, queue_fits c.args.tokens.now.kinds.now l.work l.top l.invariant.1.wired, top_below _ _ _ _ l.invariant.1.wired)
 
 pub overflow_sub-y : goal.overflow_sub-y
 overflow_sub-y c =
     let l = c.loop-done in
-    let t = taken_entry c.args.kinds.now l.work l.top l.invariant.1.wired l.done (omega arith) _ refl in
+    let t = taken_entry c.args.tokens.now.kinds.now l.work l.top l.invariant.1.wired l.done (omega arith) _ refl in
     omega (arith, t.1, t.3)
 
 pub union_parts-requires-clause-places : goal.union_parts-requires-clause-places
 union_parts-requires-clause-places c =
     let l = c.loop-done in
-    let t = taken_entry c.args.kinds.now l.work l.top l.invariant.1.wired l.done (omega arith) _ refl in
-    (t.0, omega (arith, t.0, t.1, t.3, t.4), c.requires.areas.0, c.requires.areas.1)
+    let t = taken_entry c.args.tokens.now.kinds.now l.work l.top l.invariant.1.wired l.done (omega arith) _ refl in
+    (t.0, omega (arith, t.0, t.1, t.3, t.4), c.requires.areas)
 
 pub returns-then-not-union_parts : goal.returns-then-not-union_parts
 returns-then-not-union_parts c =
     let l = c.loop-done in
-    let t = taken_entry c.args.kinds.now l.work l.top l.invariant.1.wired l.done (omega arith) _ refl in
+    let t = taken_entry c.args.tokens.now.kinds.now l.work l.top l.invariant.1.wired l.done (omega arith) _ refl in
     let d = c.union_parts.ensures in
     record {
       advanced = advanced_on _ _ _ _ _ _ _ _ _ _ l.invariant.1 d.advanced;
@@ -54,17 +54,17 @@ returns-then-not-union_parts c =
 pub loop-done-smaller : goal.loop-done-smaller
 loop-done-smaller c =
     let l = c.loop-done in
-    omega (arith, queue_fits c.args.kinds.now l.work l.top l.invariant.1.wired, top_below _ _ _ _ l.invariant.1.wired)
+    omega (arith, queue_fits c.args.tokens.now.kinds.now l.work l.top l.invariant.1.wired, top_below _ _ _ _ l.invariant.1.wired)
 
 pub overflow_add-done : goal.overflow_add-done
 overflow_add-done c =
     let l = c.loop-done in
-    omega (arith, queue_fits c.args.kinds.now l.work l.top l.invariant.1.wired, top_below _ _ _ _ l.invariant.1.wired, l.invariant.3, c.well_formed)
+    omega (arith, queue_fits c.args.tokens.now.kinds.now l.work l.top l.invariant.1.wired, top_below _ _ _ _ l.invariant.1.wired, l.invariant.3, c.well_formed)
 
 pub loop-done-preserved : goal.loop-done-preserved
 loop-done-preserved c =
     let l = c.loop-done in
-    let t = taken_entry c.args.kinds.now l.work l.top l.invariant.1.wired l.done (omega arith) _ refl in
+    let t = taken_entry c.args.tokens.now.kinds.now l.work l.top l.invariant.1.wired l.done (omega arith) _ refl in
     let d = c.union_parts.ensures in (
       omega (arith, d.advanced.more),
       advanced_on _ _ _ _ _ _ _ _ _ _ l.invariant.1 d.advanced,

@@ -12,7 +12,7 @@ use Rattle.solver.proofs.equality.same_terms.Goals as goal
 use Rattle.solver.proofs.equality.same_terms.Goals.{Joined-union_terms}
 
 -- the words are wired, whether or not the two terms were joined
-linked : (c : Joined-union_terms) → WiredIn c.args.kinds.now c.if-union_terms.work c.if-union_terms.top
+linked : (c : Joined-union_terms) → WiredIn c.args.tokens.now.kinds.now c.if-union_terms.work c.if-union_terms.top
 linked c =
     elim c.if-union_terms.branch [
       | then-union_terms w ↦ rw (w.work-is, w.top-is) w.close_congruence-equal.ensures.advanced.wired
@@ -22,16 +22,16 @@ linked c =
 pub clear-requires : goal.clear-requires
 clear-requires c =
     let w = linked (goal.at.clear-requires c).Joined-union_terms in
-    (links_fit _ _ _ w, clear_start c.args.kinds.now _ _ _ w)
+    (links_fit _ _ _ w, clear_start c.args.tokens.now.kinds.now _ _ _ w)
 
 pub returns-clause-term : goal.returns-clause-term
 returns-clause-term c =
     let a = c.args in
-    let w = link_words a.kinds.now a.work.now in
-    let z = zero_links (length a.kinds.now) a.work.now c.requires.room.1 in
+    let w = link_words a.tokens.now.kinds.now a.work.now in
+    let z = zero_links (length a.tokens.now.kinds.now) a.work.now c.requires.room.1 in
     let d = c.union_terms.ensures in
     λ t u b ht hu h S T.
-    let e : HeldSteady a.kinds.now a.vals.now a.bound.now a.most b = record { held = h; steady = S; topped = T } in
+    let e : HeldSteady a.tokens.now.kinds.now a.tokens.now.vals.now a.bound.now a.most b = record { held = h; steady = S; topped = T } in
     let s = steady_standing a.most b S T in
     let j = d.terms b t u e ht hu (zero_fair _ _ w z) in
     elim c.if-union_terms.branch [

@@ -14,9 +14,9 @@ abbrev pub invariant-loop-i : goal.invariant-loop-i
 invariant-loop-i l =
     (l.i ≤ l.ae)
     × (l.j ≤ l.be)
-    × AdvancedIn l.kinds l.initial.work l.initial.top l.work l.top
-    × ((h : ℕ → Option Term) (ps qs : Parts) → HeldSteady l.kinds l.vals l.bound l.most h → HeldParts l.kinds l.vals l.a l.ae ps → HeldParts l.kinds l.vals l.b l.be qs
-    → Fair l.kinds l.vals (link_words l.kinds l.initial.work) → RowWalk l.kinds l.vals (stands_for l.most h) (follow l.most h) l.ae l.be ps qs (link_words l.kinds l.initial.work) l.i l.j (link_words l.kinds l.work))
+    × AdvancedIn l.tokens.kinds.now l.initial.work l.initial.top l.work l.top
+    × ((h : ℕ → Option Term) (ps qs : Parts) → HeldSteady l.tokens.kinds.now l.tokens.vals.now l.bound l.most h → HeldParts l.tokens.kinds.now l.tokens.vals.now l.a l.ae ps → HeldParts l.tokens.kinds.now l.tokens.vals.now l.b l.be qs
+    → Fair l.tokens.kinds.now l.tokens.vals.now (link_words l.tokens.kinds.now l.initial.work) → RowWalk l.tokens.kinds.now l.tokens.vals.now (stands_for l.most h) (follow l.most h) l.ae l.be ps qs (link_words l.tokens.kinds.now l.initial.work) l.i l.j (link_words l.tokens.kinds.now l.work))
     × (length l.work ≡ length l.initial.work)
 
 abbrev pub decreases-loop-i : goal.decreases-loop-i

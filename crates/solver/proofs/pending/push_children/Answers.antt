@@ -7,16 +7,16 @@ use Rattle.solver.proofs.pending.push_children.Goals as goal
 pub push_range-requires-clause-room : goal.push_range-requires-clause-room
 push_range-requires-clause-room c = (c.requires.room.0, room_all c.requires.room.0 c.args.base c.args.count (length c.args.tables.now) c.requires.room.1)
 
-pub returns-then-kinds-a-lt14 : goal.returns-then-kinds-a-lt14
-returns-then-kinds-a-lt14 c =
-    λ k j ps qs ha hb. pushed_once c.requires.room.0 k j ps qs ha hb (λ h. let t = c.if-kinds-a-lt14.true in absurd (omega arith)) (c.push_range.ensures k j ps qs ha hb)
+pub returns-then-tokens-a-lt14 : goal.returns-then-tokens-a-lt14
+returns-then-tokens-a-lt14 c =
+    λ k j ps qs ha hb. pushed_once c.requires.room.0 k j ps qs ha hb (λ h. let t = c.if-tokens-a-lt14.true in absurd (omega arith)) (c.push_range.ensures k j ps qs ha hb)
 
-pub push_range-requires-then-kinds-a-gt17-clause-room : goal.push_range-requires-then-kinds-a-gt17-clause-room
-push_range-requires-then-kinds-a-gt17-clause-room c = (c.requires.room.0, room_all c.requires.room.0 c.args.base c.args.count (length c.args.tables.now) c.requires.room.1)
+pub push_range-requires-then-tokens-a-gt17-clause-room : goal.push_range-requires-then-tokens-a-gt17-clause-room
+push_range-requires-then-tokens-a-gt17-clause-room c = (c.requires.room.0, room_all c.requires.room.0 c.args.base c.args.count (length c.args.tables.now) c.requires.room.1)
 
-pub returns-then-kinds-a-gt17 : goal.returns-then-kinds-a-gt17
-returns-then-kinds-a-gt17 c =
-    λ k j ps qs ha hb. pushed_once c.requires.room.0 k j ps qs ha hb (λ _. c.if-kinds-a-gt17.true) (c.push_range-then-kinds-a-gt17.ensures k j ps qs ha hb)
+pub returns-then-tokens-a-gt17 : goal.returns-then-tokens-a-gt17
+returns-then-tokens-a-gt17 c =
+    λ k j ps qs ha hb. pushed_once c.requires.room.0 k j ps qs ha hb (λ _. c.if-tokens-a-gt17.true) (c.push_range-then-tokens-a-gt17.ensures k j ps qs ha hb)
 
 pub push_range-top-requires-clause-room : goal.push_range-top-requires-clause-room
 push_range-top-requires-clause-room c = (c.requires.room.0, room_drop c.requires.room.0 c.args.base c.args.count (length c.args.tables.now) c.requires.room.1 c.second_number-n.result)
@@ -30,5 +30,5 @@ push_range-requires-2-clause-room c =
 pub returns : goal.returns
 returns c =
     λ k j ps qs ha hb.
-    pushed_twice c.requires.room.0 k j ps qs ha hb (omega (arith, c.if-kinds-a-lt14.false)) (omega (arith, c.if-kinds-a-gt17.false)) c.second_number-n.result (c.second_number-n.ensures k ps ha) _ c.push_range-top.result
+    pushed_twice c.requires.room.0 k j ps qs ha hb (omega (arith, c.if-tokens-a-lt14.false)) (omega (arith, c.if-tokens-a-gt17.false)) c.second_number-n.result (c.second_number-n.ensures k ps ha) _ c.push_range-top.result
     (c.push_range-top.ensures k j ps qs ha hb) (c.push_range-2.ensures k j ps qs ha hb)

@@ -16,7 +16,7 @@ push_part-c-requires-clause-room c =
 pub part_end-j-requires : goal.part_end-j-requires
 part_end-j-requires c =
     let l = c.loop-i in
-    (pushing_more l.invariant.2 c.loop-i-test.true, c.part_end-be.ensures.within, c.requires.areas.2)
+    (pushing_more l.invariant.2 c.loop-i-test.true, c.part_end-be.ensures.within)
 
 pub loop-i-preserved : goal.loop-i-preserved
 loop-i-preserved c =

@@ -4,7 +4,7 @@ use Rattle.solver.proofs.Laws.Checks.RowsInStepLaws.{Walks}
 use Rattle.solver.proofs.pending.same_shape.Given as goal
 
 abbrev pub invariant-loop-i : goal.invariant-loop-i
-invariant-loop-i l = (l.i ≤ l.ae) × (l.j ≤ l.be) × Walks l.kinds l.vals l.a l.ae l.b l.be l.initial.free l.i l.j l.free
+invariant-loop-i l = (l.i ≤ l.ae) × (l.j ≤ l.be) × Walks l.tokens.kinds.now l.tokens.vals.now l.a l.ae l.b l.be l.initial.free l.i l.j l.free
 
 abbrev pub decreases-loop-i : goal.decreases-loop-i
 decreases-loop-i l = l.ae - l.i

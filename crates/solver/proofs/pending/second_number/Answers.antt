@@ -8,7 +8,7 @@ returns-then-end-p c =
     let a = c.args in
     let e = c.part_end-end in
     let p = c.number_from-p in
-    second_none a.kinds.now a.vals.now a.a e.result e.ensures p.result p.ensures.number c.if-end-p.true
+    second_none a.tokens.now.kinds.now a.tokens.now.vals.now a.a e.result e.ensures p.result p.ensures.number c.if-end-p.true
 
 pub returns-then-end-q : goal.returns-then-end-q
 returns-then-end-q c =
@@ -16,7 +16,7 @@ returns-then-end-q c =
     let e = c.part_end-end in
     let p = c.number_from-p in
     let q = c.number_from-q in
-    second_one a.kinds.now a.vals.now a.a e.result e.ensures p.result q.result p.ensures.number (omega (arith, c.if-end-p.false)) q.ensures.number c.if-end-q.true
+    second_one a.tokens.now.kinds.now a.tokens.now.vals.now a.a e.result e.ensures p.result q.result p.ensures.number (omega (arith, c.if-end-p.false)) q.ensures.number c.if-end-q.true
 
 pub returns : goal.returns
 returns c =
@@ -24,4 +24,4 @@ returns c =
     let e = c.part_end-end in
     let p = c.number_from-p in
     let q = c.number_from-q in
-    λ k ps h. second_some a.kinds.now a.vals.now a.a e.result e.ensures p.result q.result p.ensures.number (omega (arith, c.if-end-p.false)) q.ensures.number (omega (arith, c.if-end-q.false)) k ps h
+    λ k ps h. second_some a.tokens.now.kinds.now a.tokens.now.vals.now a.a e.result e.ensures p.result q.result p.ensures.number (omega (arith, c.if-end-p.false)) q.ensures.number (omega (arith, c.if-end-q.false)) k ps h

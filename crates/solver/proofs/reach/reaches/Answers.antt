@@ -26,7 +26,7 @@ entry c =
     omega (arith, get_or-drop n l.work l.done 0, entry_in l.invariant.work l.done c.if-done-top.true, (parts_long n l.work (omega (arith, l.auto.work, c.scan-hit.auto.work, c.requires.scratch.0))).0)
 
 -- the answer, where the loop ends
-told : (c : Left-loop-hit) → Told c.args.kinds.now c.args.vals.now c.args.bound.now (run_of c.args.kinds.now c.args.vals.now (c.args.p + 1)) c.args.want c.loop-hit.hit
+told : (c : Left-loop-hit) → Told c.args.tokens.now.kinds.now c.args.tokens.now.vals.now c.args.bound.now (run_of c.args.tokens.now.kinds.now c.args.tokens.now.vals.now (c.args.p + 1)) c.args.want c.loop-hit.hit
 told c =
     let i = c.loop-hit.invariant in
     elim c.loop-hit-test.branch [
@@ -44,7 +44,7 @@ pub loop-hit-init : goal.loop-hit-init
 loop-hit-init c =
     let n = length c.args.bound.now in
     let m = c.scan-hit in
-    going_start (zero_take n c.args.work.now c.requires.scratch.1) (parts_long n _ (omega (arith, m.auto.work, c.requires.scratch.0))).0 _ (named_run_of c.args.kinds.now c.args.vals.now (c.args.p + 1) _ _ c.named_run.ensures) m.ensures.hit m.ensures.grown
+    going_start (zero_take n c.args.work.now c.requires.scratch.1) (parts_long n _ (omega (arith, m.auto.work, c.requires.scratch.0))).0 _ (named_run_of c.args.tokens.now.kinds.now c.args.tokens.now.vals.now (c.args.p + 1) _ _ c.named_run.ensures) m.ensures.hit m.ensures.grown
 
 pub overflow_add-w : goal.overflow_add-w
 overflow_add-w c = omega (arith, lens (goal.at.overflow_add-w c).At-loop-hit, c.if-done-top.true, c.well_formed)
@@ -69,8 +69,8 @@ loop-hit-preserved c =
     let l = c.loop-hit in
     let m = c.scan-hit-in-loop-hit in
     let n = length c.args.bound.now in
-    let ks = c.args.kinds.now in
-    let vs = c.args.vals.now in
+    let ks = c.args.tokens.now.kinds.now in
+    let vs = c.args.tokens.now.vals.now in
     let q = get_or-drop n l.work l.done 0 in
     let e = named_run_of ks vs _ _ _ c.named_run-next.ensures ∙ ap (λ (i : ℕ). run_of ks vs (get_or c.args.bound.now i 0)) (sym q) in
     let le = (lens (goal.at.loop-hit-preserved c).At-loop-hit).0 in
@@ -82,4 +82,4 @@ returns-clause-told c = told (goal.at.returns-clause-told c).Left-loop-hit
 pub returns-clause-term : goal.returns-clause-term
 returns-clause-term c =
     let a = c.args in
-    told_asked a.kinds.now a.vals.now a.bound.now a.p a.want _ (told (goal.at.returns-clause-term c).Left-loop-hit)
+    told_asked a.tokens.now.kinds.now a.tokens.now.vals.now a.bound.now a.p a.want _ (told (goal.at.returns-clause-term c).Left-loop-hit)

@@ -14,8 +14,8 @@ use Rattle.solver.proofs.reach.scan.Goals as goal
 pub loop-i-init : goal.loop-i-init
 loop-i-init c = (
   omega arith,
-  sym (has_start c.args.want c.args.kinds.now c.args.vals.now c.args.run.at),
-  grown_none c.requires.work.0 _ (λ u l i. never_true (sym (has_start (suc u) c.args.kinds.now c.args.vals.now c.args.run.at) ∙ i)),
+  sym (has_start c.args.want c.args.tokens.now.kinds.now c.args.tokens.now.vals.now c.args.run.at),
+  grown_none c.requires.work.0 _ (λ u l i. never_true (sym (has_start (suc u) c.args.tokens.now.kinds.now c.args.tokens.now.vals.now c.args.run.at) ∙ i)),
   refl,
 )
 
@@ -23,8 +23,8 @@ pub loop-i-preserved : goal.loop-i-preserved
 loop-i-preserved c =
     let l = c.loop-i in
     let m = c.push in
-    let ks = c.args.kinds.now in
-    let vs = c.args.vals.now in
+    let ks = c.args.tokens.now.kinds.now in
+    let vs = c.args.tokens.now.vals.now in
     let n = c.args.n in
     let a = c.args.run.at in
     let e = c.push.auto.work ∙ l.invariant.3 in (

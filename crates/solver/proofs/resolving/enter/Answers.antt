@@ -6,12 +6,12 @@ use Rattle.solver.specs.Words.ResolveWalk.{run_len}
 use Rattle.solver.proofs.Laws.Resolving.FrameLaws.{run_none, inner_var, inner_other}
 use Rattle.solver.proofs.resolving.enter.Goals as goal
 
-pub returns-then-kinds-p-ne1 : goal.returns-then-kinds-p-ne1
-returns-then-kinds-p-ne1 c =
+pub returns-then-tokens-p-ne1 : goal.returns-then-tokens-p-ne1
+returns-then-tokens-p-ne1 c =
     let a = c.args in
     record {
       shut = λ _. refl;
-      size = λ _. sym (inner_other a.kinds.now a.vals.now a.bound.now (get_or a.kinds.now a.p 0) (get_or a.vals.now a.p 0) c.if-kinds-p-ne1.true);
+      size = λ _. sym (inner_other a.tokens.now.kinds.now a.tokens.now.vals.now a.bound.now (get_or a.tokens.now.kinds.now a.p 0) (get_or a.tokens.now.vals.now a.p 0) c.if-tokens-p-ne1.true);
       place = omega arith;
       within = omega arith;
     }
@@ -19,11 +19,11 @@ returns-then-kinds-p-ne1 c =
 pub returns-then-bound-v : goal.returns-then-bound-v
 returns-then-bound-v c =
     let a = c.args in
-    let z = get_or-eq_default a.bound.now 0 {n = get_or a.vals.now a.p 0} (omega arith) in
+    let z = get_or-eq_default a.bound.now 0 {n = get_or a.tokens.now.vals.now a.p 0} (omega arith) in
     record {
       shut = λ _. refl;
-      size = λ _. sym (inner_var a.kinds.now a.vals.now a.bound.now (get_or a.kinds.now a.p 0) (get_or a.vals.now a.p 0) (omega arith)
-          ∙ ap (run_len a.kinds.now a.vals.now) z ∙ run_none a.kinds.now a.vals.now);
+      size = λ _. sym (inner_var a.tokens.now.kinds.now a.tokens.now.vals.now a.bound.now (get_or a.tokens.now.kinds.now a.p 0) (get_or a.tokens.now.vals.now a.p 0) (omega arith)
+          ∙ ap (run_len a.tokens.now.kinds.now a.tokens.now.vals.now) z ∙ run_none a.tokens.now.kinds.now a.tokens.now.vals.now);
       place = omega arith;
       within = omega arith;
     }
@@ -34,7 +34,7 @@ returns c =
     let b = c.named_run.ensures in
     record {
       shut = λ z. absurd (omega (arith, c.if-left-eq0.false));
-      size = λ _. b.size ∙ sym (inner_var a.kinds.now a.vals.now a.bound.now (get_or a.kinds.now a.p 0) (get_or a.vals.now a.p 0) (omega arith));
+      size = λ _. b.size ∙ sym (inner_var a.tokens.now.kinds.now a.tokens.now.vals.now a.bound.now (get_or a.tokens.now.kinds.now a.p 0) (get_or a.tokens.now.vals.now a.p 0) (omega arith));
       place = b.place;
       within = b.within;
     }

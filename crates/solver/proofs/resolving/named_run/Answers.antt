@@ -7,46 +7,46 @@ use Rattle.terms.specs.Words.Held.{span}
 use Rattle.terms.proofs.Laws.Held.HeldLaws.{span_one, span_node}
 use Rattle.solver.specs.Words.ResolveWalk.{run_len}
 use Rattle.solver.proofs.Laws.Resolving.FrameLaws.{run_none, run_at, run_past}
-use Rattle.solver.proofs.resolving.named_run.Goals.{then-kinds-at-ge2, else-kinds-at-ge2}
+use Rattle.solver.proofs.resolving.named_run.Goals.{then-tokens-at-ge2, else-tokens-at-ge2}
 use Rattle.solver.proofs.resolving.named_run.Goals as goal
-use Rattle.solver.proofs.resolving.named_run.Goals.{Joined-kinds-at-ge2}
+use Rattle.solver.proofs.resolving.named_run.Goals.{Joined-tokens-at-ge2}
 
 pub returns-then-word-eq0 : goal.returns-then-word-eq0
 returns-then-word-eq0 c =
     let a = c.args in
     record {
-      size = sym (ap (run_len a.kinds.now a.vals.now) c.if-word-eq0.true ∙ run_none a.kinds.now a.vals.now);
+      size = sym (ap (run_len a.tokens.now.kinds.now a.tokens.now.vals.now) c.if-word-eq0.true ∙ run_none a.tokens.now.kinds.now a.tokens.now.vals.now);
       place = omega arith;
       within = omega arith;
     }
 
-pub returns-then-kinds-at : goal.returns-then-kinds-at
-returns-then-kinds-at c =
+pub returns-then-tokens-at : goal.returns-then-tokens-at
+returns-then-tokens-at c =
     let a = c.args in
     let p = a.word - 1 in
-    let z = get_or-eq_default a.kinds.now 0 {n = p} c.if-kinds-at.true in
+    let z = get_or-eq_default a.tokens.now.kinds.now 0 {n = p} c.if-tokens-at.true in
     record {
-      size = sym (run_past a.kinds.now a.vals.now a.word p (omega arith) (omega (arith, span_one (get_or a.kinds.now p 0) (get_or a.vals.now p 0) (omega arith))));
+      size = sym (run_past a.tokens.now.kinds.now a.tokens.now.vals.now a.word p (omega arith) (omega (arith, span_one (get_or a.tokens.now.kinds.now p 0) (get_or a.tokens.now.vals.now p 0) (omega arith))));
       place = omega arith;
       within = omega arith;
     }
 
 -- the length read is the term's span
-len_is : (c : Joined-kinds-at-ge2) → c.if-kinds-at-ge2.len
-    ≡ span (get_or c.args.kinds.now (c.args.word - 1) 0)
-    (get_or c.args.vals.now (c.args.word - 1) 0)
+len_is : (c : Joined-tokens-at-ge2) → c.if-tokens-at-ge2.len
+    ≡ span (get_or c.args.tokens.now.kinds.now (c.args.word - 1) 0)
+    (get_or c.args.tokens.now.vals.now (c.args.word - 1) 0)
 len_is c =
-    elim c.if-kinds-at-ge2.branch [
-      | then-kinds-at-ge2 w ↦ w.len-is ∙ sym (span_node _ _ w.if-kinds-at-ge2.true)
-      | else-kinds-at-ge2 w ↦ w.len-is ∙ sym (span_one _ _ (omega (arith, w.if-kinds-at-ge2.false)))
+    elim c.if-tokens-at-ge2.branch [
+      | then-tokens-at-ge2 w ↦ w.len-is ∙ sym (span_node _ _ w.if-tokens-at-ge2.true)
+      | else-tokens-at-ge2 w ↦ w.len-is ∙ sym (span_one _ _ (omega (arith, w.if-tokens-at-ge2.false)))
     ]
 
-pub returns-then-kinds-at-2 : goal.returns-then-kinds-at-2
-returns-then-kinds-at-2 c =
+pub returns-then-tokens-at-2 : goal.returns-then-tokens-at-2
+returns-then-tokens-at-2 c =
     let a = c.args in
     let p = a.word - 1 in
     record {
-      size = sym (run_past a.kinds.now a.vals.now a.word p (omega arith) (omega (arith, len_is (goal.at.returns-then-kinds-at-2 c).Joined-kinds-at-ge2)));
+      size = sym (run_past a.tokens.now.kinds.now a.tokens.now.vals.now a.word p (omega arith) (omega (arith, len_is (goal.at.returns-then-tokens-at-2 c).Joined-tokens-at-ge2)));
       place = omega arith;
       within = omega arith;
     }
@@ -56,7 +56,7 @@ returns c =
     let a = c.args in
     let p = a.word - 1 in
     record {
-      size = len_is (goal.at.returns c).Joined-kinds-at-ge2 ∙ sym (run_at a.kinds.now a.vals.now a.word p (omega arith) (omega (arith, len_is (goal.at.returns c).Joined-kinds-at-ge2)));
+      size = len_is (goal.at.returns c).Joined-tokens-at-ge2 ∙ sym (run_at a.tokens.now.kinds.now a.tokens.now.vals.now a.word p (omega arith) (omega (arith, len_is (goal.at.returns c).Joined-tokens-at-ge2)));
       place = λ _. omega arith;
       within = omega arith;
     }

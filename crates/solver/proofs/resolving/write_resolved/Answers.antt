@@ -13,26 +13,26 @@ write_walked-requires-clause-room c =
     let a = c.args in
     let q = c.requires in
     let n = c.named_run-run.ensures in
-    let e = named_bytes a.kinds.now a.vals.now a.bound.now a.most a.p _ _ n in
+    let e = named_bytes a.tokens.now.kinds.now a.tokens.now.vals.now a.bound.now a.most a.p _ _ n in
     omega (arith, ap length e, q.room.1)
 
 pub returns-clause-next : goal.returns-clause-next
 returns-clause-next c =
     let a = c.args in
     let w = c.write_walked.ensures in
-    let e = named_bytes a.kinds.now a.vals.now a.bound.now a.most a.p _ _ c.named_run-run.ensures in
+    let e = named_bytes a.tokens.now.kinds.now a.tokens.now.vals.now a.bound.now a.most a.p _ _ c.named_run-run.ensures in
     w.next ∙ ap (λ (l : List ℕ). a.to + length l) e
 
 pub returns-clause-wrote : goal.returns-clause-wrote
 returns-clause-wrote c =
     let a = c.args in
     let w = c.write_walked.ensures in
-    let e = named_bytes a.kinds.now a.vals.now a.bound.now a.most a.p _ _ c.named_run-run.ensures in
+    let e = named_bytes a.tokens.now.kinds.now a.tokens.now.vals.now a.bound.now a.most a.p _ _ c.named_run-run.ensures in
     w.wrote ∙ ap (λ (l : List ℕ). sets a.out.now a.to l) e
 
 pub returns-clause-term : goal.returns-clause-term
 returns-clause-term c =
     let a = c.args in
     let w = c.write_walked.ensures in
-    let e = named_bytes a.kinds.now a.vals.now a.bound.now a.most a.p _ _ c.named_run-run.ensures in
-    λ t b h g. let q = e ∙ resolved_bytes_lem a.kinds.now a.vals.now a.bound.now b g a.most a.p t h in (w.next ∙ ap (λ (l : List ℕ). a.to + length l) q, w.wrote ∙ ap (λ (l : List ℕ). sets a.out.now a.to l) q)
+    let e = named_bytes a.tokens.now.kinds.now a.tokens.now.vals.now a.bound.now a.most a.p _ _ c.named_run-run.ensures in
+    λ t b h g. let q = e ∙ resolved_bytes_lem a.tokens.now.kinds.now a.tokens.now.vals.now a.bound.now b g a.most a.p t h in (w.next ∙ ap (λ (l : List ℕ). a.to + length l) q, w.wrote ∙ ap (λ (l : List ℕ). sets a.out.now a.to l) q)

@@ -10,6 +10,6 @@ use Rattle.solver.proofs.top.shallow_resolve.Given as goal
 
 abbrev pub invariant-loop : goal.invariant-loop
 invariant-loop l =
-    (l.q < length l.kinds)
-    × ((t : Term) (b : ℕ → Option Term) → Held l.kinds l.vals l.p t → HeldBindings l.kinds l.vals l.bound b
-    → (u : Term) × Held l.kinds l.vals l.q u × (follow l.most b t ≡ follow (l.most - l.counter) b u))
+    (l.q < length l.tokens.kinds.now)
+    × ((t : Term) (b : ℕ → Option Term) → Held l.tokens.kinds.now l.tokens.vals.now l.p t → HeldBindings l.tokens.kinds.now l.tokens.vals.now l.bound b
+    → (u : Term) × Held l.tokens.kinds.now l.tokens.vals.now l.q u × (follow l.most b t ≡ follow (l.most - l.counter) b u))
