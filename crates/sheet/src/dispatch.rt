@@ -22,7 +22,7 @@ use super::order_table::is_operation;
 use super::plain_orders::{termless_of, termless_order};
 use super::term_orders::{constrain_order, defer_term, resolve_term};
 use super::{AfterOrder, Order};
-use solver::{Access, Solver, refusal_number};
+use solver::{Access, Solver, Tokens, refusal_number};
 
 // Orders 9 to 20: the session stays as it was.
 fn operate_order(
@@ -48,7 +48,16 @@ fn operate_order(
         → Answered x result.solver half s.now (areas a₀ b₀ c.old d.old) (area a.now b.now) o
         c.new d.new (output_at out.old to) (output_at out.new result.next) }
 {
-    let next = operate(s, a, b, &mut c[..half], d, rules, o, out, to);
+    let next = operate(
+        s,
+        &Tokens { kinds: a, vals: b },
+        &mut c[..half],
+        d,
+        rules,
+        o,
+        out,
+        to,
+    );
     AfterOrder { solver: x, next }
 }
 
@@ -72,7 +81,16 @@ fn defer_order(
         (output_at out.old to) (output_at out.new result.next) }
 {
     let top = o.top;
-    defer_term(x, &a[..top], &b[..top], &mut c[half..], out, to)
+    defer_term(
+        x,
+        &Tokens {
+            kinds: &a[..top],
+            vals: &b[..top],
+        },
+        &mut c[half..],
+        out,
+        to,
+    )
 }
 
 // Order 5.
@@ -96,7 +114,17 @@ fn resolve_order(
         d.new (output_at out.old to) (output_at out.new result.next) }
 {
     let top = o.top;
-    resolve_term(x, &a[..top], &b[..top], &c[half..], d, out, to)
+    resolve_term(
+        x,
+        &Tokens {
+            kinds: &a[..top],
+            vals: &b[..top],
+        },
+        &c[half..],
+        d,
+        out,
+        to,
+    )
 }
 
 // How an order poses a pair, if it does: 4, and 22 with access compared.
@@ -136,8 +164,10 @@ fn pair_order(
     let top = o.top;
     constrain_order(
         x,
-        &a[..top],
-        &b[..top],
+        &Tokens {
+            kinds: &a[..top],
+            vals: &b[..top],
+        },
         &mut c[half..],
         d,
         q,
@@ -172,7 +202,18 @@ fn plain_order(
 {
     let what = termless_of(o);
     let top = o.top;
-    termless_order(x, what, &a[..top], &b[..top], &mut c[half..], d, out, to)
+    termless_order(
+        x,
+        what,
+        &Tokens {
+            kinds: &a[..top],
+            vals: &b[..top],
+        },
+        &mut c[half..],
+        d,
+        out,
+        to,
+    )
 }
 
 // An order that was read, by its class; refusal 7 where it has too many nodes.

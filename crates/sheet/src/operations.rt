@@ -1,5 +1,5 @@
 // The answers of orders 9 to 20, from an order whose fields are held.
-ghost use Rattle.std.specs.Prelude.{◌≡◌, List, [], ◌∷◌, map, ℕ, ◌+◌, ◌*◌, ◌<◌, length};
+ghost use Rattle.std.specs.Prelude.{◌≡◌, List, [], ◌∷◌, map, ℕ, ◌+◌, ◌*◌, ◌≤◌, ◌<◌, length};
 ghost use Rattle.solver.specs.Terms.Term.{Term, Parts, bytes, Held};
 ghost use Rattle.solver.specs.Terms.Tokens.{area};
 ghost use Rattle.solver.specs.Terms.Formed.{Formed};
@@ -16,13 +16,13 @@ ghost use Rattle.solver.specs.Terms.NormalContract.{Answers, Leaves, Lends, Rule
 ghost use Rattle.sheet.specs.OrderTable.{outcome};
 ghost use Rattle.sheet.specs.Operations.{bit, seven, perhaps, settled, rule_of, operations};
 ghost use Rattle.sheet.specs.Words.FramingContract.{OutputRoom, Framed};
-ghost use Rattle.sheet.specs.Words.OperationsContract.{Tokens, numbers_of, Asks, Replies, Two, Applies, Associates, Normalises};
+ghost use Rattle.sheet.specs.Words.OperationsContract.{numbers_of, Asks, Replies, Two, Applies, Associates, Normalises};
 
 use super::Order;
 use super::framing::{begin_answer, write_byte_answer, write_bytes_answer, write_refusal};
 use solver::{
-    Binders, Question, Unfinished, ask, can_weaken_to, clear_tokens, conflicts_with, context,
-    family, instantiation, normalise, recovered_len, satisfies, satisfies_for, self_only,
+    Binders, Question, Tokens, Unfinished, ask, can_weaken_to, clear_tokens, conflicts_with,
+    context, family, instantiation, normalise, recovered_len, satisfies, satisfies_for, self_only,
     with_associated_types, write_normalised, write_recovered, write_term,
 };
 
@@ -34,84 +34,75 @@ fn bit(b: bool) -> u8
 }
 
 // Order 11.
-fn recovered(kinds: &[u32], vals: &[u32], a: usize, b: usize, out: &mut [u8], to: usize) -> usize
-    requires areas { Tokens kinds.now vals.now }
-    requires terms { (t : Term) × (u : Term) × Two kinds.now vals.now a b t u }
+fn recovered(tokens: &Tokens, a: usize, b: usize, out: &mut [u8], to: usize) -> usize
+    requires areas { length tokens.now.kinds.now ≤ 32768 }
+    requires terms { (t : Term) × (u : Term) × Two tokens.now.kinds.now tokens.now.vals.now a b t u }
     requires room { OutputRoom out.old to }
-    ensures { (t u : Term) → Two kinds.now vals.now a b t u
+    ensures { (t u : Term) → Two tokens.now.kinds.now tokens.now.vals.now a b t u
         → Framed (outcome (bytes (recover_from t u))) out.old to out.new result }
 {
-    let size = recovered_len(kinds, vals, a, b);
+    let size = recovered_len(tokens, a, b);
     let at = begin_answer(out, to, size);
     if out.len() < at {
         return at;
     }
-    write_recovered(kinds, vals, a, b, out, at)
+    write_recovered(tokens, a, b, out, at)
 }
 
 // Orders 12, 13 and 14: the term with its binders replaced.
-fn rewritten(
-    s: &[u8],
-    kinds: &[u32],
-    vals: &[u32],
-    b: Binders,
-    from: usize,
-    out: &mut [u8],
-    to: usize,
-) -> usize
-    requires areas { Tokens kinds.now vals.now }
-    requires ready { Ready kinds.now vals.now b }
-    requires place { from < length kinds.now }
+fn rewritten(s: &[u8], tokens: &Tokens, b: Binders, from: usize, out: &mut [u8], to: usize) -> usize
+    requires areas { length tokens.now.kinds.now ≤ 32768 }
+    requires ready { Ready tokens.now.kinds.now tokens.now.vals.now b }
+    requires place { from < length tokens.now.kinds.now }
     requires room { OutputRoom out.old to }
-    ensures { Rewrites kinds.now vals.now s.now b from
+    ensures { Rewrites tokens.now.kinds.now tokens.now.vals.now s.now b from
         (λ x. Framed (outcome x) out.old to out.new result) }
 {
-    let size = write_term(kinds, vals, s, b, from, out, 0, false);
+    let size = write_term(tokens, s, b, from, out, 0, false);
     let at = begin_answer(out, to, size);
     if out.len() < at {
         return at;
     }
-    write_term(kinds, vals, s, b, from, out, at, true)
+    write_term(tokens, s, b, from, out, at, true)
 }
 
 // Order 18: the same after a 1; or a 0, where the arguments are not as many as the parameters.
 fn applied(
     s: &[u8],
-    kinds: &[u32],
-    vals: &[u32],
+    tokens: &Tokens,
     b: Binders,
     given: u64,
     from: usize,
     out: &mut [u8],
     to: usize,
 ) -> usize
-    requires areas { Tokens kinds.now vals.now }
-    requires ready { Ready kinds.now vals.now b }
-    requires place { from < length kinds.now }
+    requires areas { length tokens.now.kinds.now ≤ 32768 }
+    requires ready { Ready tokens.now.kinds.now tokens.now.vals.now b }
+    requires place { from < length tokens.now.kinds.now }
     requires room { OutputRoom out.old to }
     ensures { (t : Term) (es : List Entry) (rs : List Receiver) (ps : List Parameter) (ts : List Term)
-        → Applies kinds.now vals.now s.now b given from t es rs ps ts
+        → Applies tokens.now.kinds.now tokens.now.vals.now s.now b given from t es rs ps ts
         → Framed (outcome (perhaps (apply ps t (record { parameters = es; receivers = rs }) ts))) out.old to out.new result }
 {
     if b.count != given {
         return write_byte_answer(out, to, 0);
     }
-    let size = write_term(kinds, vals, s, b, from, out, 0, false);
+    let size = write_term(tokens, s, b, from, out, 0, false);
     let at = begin_answer(out, to, size + 1);
     if out.len() < at {
         return at;
     }
     out[at] = 1;
-    write_term(kinds, vals, s, b, from, out, at + 1, true)
+    write_term(tokens, s, b, from, out, at + 1, true)
 }
 
 // One of the seven questions; a term is concrete where the question finds nothing.
-fn question(s: &[u8], kinds: &[u32], vals: &[u32], p: usize, q: Question) -> u8
-    requires place { (p < length kinds.now) × (length vals.now ≡ length kinds.now) }
-    requires term { FormedAt kinds.now vals.now p }
-    ensures { (t : Term) → Held kinds.now vals.now p t → Formed t → result ≡ bit (answered (number_of_question q) t) }
+fn question(s: &[u8], tokens: &Tokens, p: usize, q: Question) -> u8
+    requires place { p < length tokens.now.kinds.now }
+    requires term { FormedAt tokens.now.kinds.now tokens.now.vals.now p }
+    ensures { (t : Term) → Held tokens.now.kinds.now tokens.now.vals.now p t → Formed t → result ≡ bit (answered (number_of_question q) t) }
 {
-    let r = ask(kinds, vals, p, q, s, 0, 0);
+    let r = ask(tokens, p, q, s, 0, 0);
     match q {
         Question::IsConcrete => bit(!r),
         _ => bit(r),
@@ -119,28 +110,27 @@ fn question(s: &[u8], kinds: &[u32], vals: &[u32], p: usize, q: Question) -> u8
 }
 
 // Order 15: the seven questions.
-fn asked(s: &[u8], kinds: &[u32], vals: &[u32], p: usize, out: &mut [u8], to: usize) -> usize
-    requires place { (p < length kinds.now) × (length vals.now ≡ length kinds.now) }
-    requires term { FormedAt kinds.now vals.now p }
+fn asked(s: &[u8], tokens: &Tokens, p: usize, out: &mut [u8], to: usize) -> usize
+    requires place { p < length tokens.now.kinds.now }
+    requires term { FormedAt tokens.now.kinds.now tokens.now.vals.now p }
     requires room { OutputRoom out.old to }
-    ensures { (t : Term) → Held kinds.now vals.now p t → Formed t
+    ensures { (t : Term) → Held tokens.now.kinds.now tokens.now.vals.now p t → Formed t
         → Framed (outcome (seven t)) out.old to out.new result }
 {
-    let a = question(s, kinds, vals, p, Question::IsNever);
-    let b = question(s, kinds, vals, p, Question::IsInteger);
-    let c = question(s, kinds, vals, p, Question::IsConcrete);
-    let d = question(s, kinds, vals, p, Question::IsUnresolved);
-    let e = question(s, kinds, vals, p, Question::ContainsUnknown);
-    let f = question(s, kinds, vals, p, Question::ContainsSelfType);
-    let g = question(s, kinds, vals, p, Question::ContainsProjection);
+    let a = question(s, tokens, p, Question::IsNever);
+    let b = question(s, tokens, p, Question::IsInteger);
+    let c = question(s, tokens, p, Question::IsConcrete);
+    let d = question(s, tokens, p, Question::IsUnresolved);
+    let e = question(s, tokens, p, Question::ContainsUnknown);
+    let f = question(s, tokens, p, Question::ContainsSelfType);
+    let g = question(s, tokens, p, Question::ContainsProjection);
     let v = [a, b, c, d, e, f, g];
     write_bytes_answer(out, to, &v)
 }
 
 // A normalised term, or refusal 9; what normalising has left in the areas is cleared.
 fn settled(
-    kinds: &[u32],
-    vals: &[u32],
+    tokens: &Tokens,
     heads: &mut [u32],
     kids: &mut [u32],
     r: Result<solver::Ready, Unfinished>,
@@ -148,12 +138,12 @@ fn settled(
     to: usize,
 ) -> usize
     requires room { OutputRoom out.old to }
-    requires leaves { (hs : List ℕ) × (cs : List ℕ) × Leaves kinds.now vals.now hs cs heads.old kids.old most r }
-    requires answers { (o : Out) × Answers kinds.now vals.now heads.old kids.old out.old to levels most o r }
+    requires leaves { (hs : List ℕ) × (cs : List ℕ) × Leaves tokens.now.kinds.now tokens.now.vals.now hs cs heads.old kids.old most r }
+    requires answers { (o : Out) × Answers tokens.now.kinds.now tokens.now.vals.now heads.old kids.old out.old to levels most o r }
     ensures clear { (hs cs : List ℕ)
-        → Leaves kinds.now vals.now hs cs heads.old kids.old most r
+        → Leaves tokens.now.kinds.now tokens.now.vals.now hs cs heads.old kids.old most r
         → area heads.new kids.new ≡ area hs cs }
-    ensures says { (o : Out) → Answers kinds.now vals.now heads.old kids.old
+    ensures says { (o : Out) → Answers tokens.now.kinds.now tokens.now.vals.now heads.old kids.old
         out.old to levels most o r → Framed (settled o) out.old to out.new result }
 {
     match r {
@@ -166,15 +156,14 @@ fn settled(
                 clear_tokens(heads, kids, 0, w.next);
                 return at;
             }
-            write_normalised(kinds, vals, heads, kids, w, out, at)
+            write_normalised(tokens, heads, kids, w, out, at)
         }
     }
 }
 
 // Order 19.
 fn associated(
-    kinds: &[u32],
-    vals: &[u32],
+    tokens: &Tokens,
     heads: &mut [u32],
     kids: &mut [u32],
     p: usize,
@@ -183,17 +172,16 @@ fn associated(
     out: &mut [u8],
     to: usize,
 ) -> usize
-    requires lends { Lends kinds.now vals.now heads.old kids.old most }
-    requires places { (p < length kinds.now) × (interface < length kinds.now) × (owner < length kinds.now) }
+    requires lends { Lends tokens.now.kinds.now tokens.now.vals.now heads.old kids.old most }
+    requires places { (p < length tokens.now.kinds.now) × (interface < length tokens.now.kinds.now) × (owner < length tokens.now.kinds.now) }
     requires room { OutputRoom out.old to }
-    requires terms { OwnedAt kinds.now vals.now p interface owner }
+    requires terms { OwnedAt tokens.now.kinds.now tokens.now.vals.now p interface owner }
     ensures clear { area heads.new kids.new ≡ area heads.old kids.old }
-    ensures says { (t : Term) (i : Parts) (o : Term) → Associates kinds.now vals.now p interface owner t i o
+    ensures says { (t : Term) (i : Parts) (o : Term) → Associates tokens.now.kinds.now tokens.now.vals.now p interface owner t i o
         → Framed (settled (with_associated_types t (nominal_of i) o)) out.old to out.new result }
 {
     let r = with_associated_types(
-        kinds,
-        vals,
+        tokens,
         heads,
         kids,
         p as u32,
@@ -202,13 +190,12 @@ fn associated(
         out,
         to,
     );
-    settled(kinds, vals, heads, kids, r, out, to)
+    settled(tokens, heads, kids, r, out, to)
 }
 
 // Order 20.
 fn normalised(
-    kinds: &[u32],
-    vals: &[u32],
+    tokens: &Tokens,
     heads: &mut [u32],
     kids: &mut [u32],
     rules: &[u32],
@@ -216,102 +203,94 @@ fn normalised(
     out: &mut [u8],
     to: usize,
 ) -> usize
-    requires lends { Lends kinds.now vals.now heads.old kids.old most }
-    requires place { p < length kinds.now }
+    requires lends { Lends tokens.now.kinds.now tokens.now.vals.now heads.old kids.old most }
+    requires place { p < length tokens.now.kinds.now }
     requires few { length rules.now < 4294967296 }
     requires room { OutputRoom out.old to }
-    requires terms { RuledAt kinds.now vals.now rules.now p }
+    requires terms { RuledAt tokens.now.kinds.now tokens.now.vals.now rules.now p }
     ensures clear { area heads.new kids.new ≡ area heads.old kids.old }
-    ensures says { (t : Term) (rs : List Pattern) → Normalises kinds.now vals.now rules.now p rs t
+    ensures says { (t : Term) (rs : List Pattern) → Normalises tokens.now.kinds.now tokens.now.vals.now rules.now p rs t
         → Framed (settled (normalize (map rule_of rs) t)) out.old to out.new result }
 {
-    let r = normalise(kinds, vals, rules, heads, kids, p as u32, out, to);
-    settled(kinds, vals, heads, kids, r, out, to)
+    let r = normalise(tokens, rules, heads, kids, p as u32, out, to);
+    settled(tokens, heads, kids, r, out, to)
 }
 
 // Orders 9, 10 and 11: two terms.
-fn compare(kinds: &[u32], vals: &[u32], o: Order, out: &mut [u8], to: usize) -> usize
-    requires areas { Tokens kinds.now vals.now }
-    requires asks { (s : List ℕ) × (ws : List ℕ) × Asks kinds.now vals.now s ws (9 ∷ 10 ∷ 11 ∷ []) o }
+fn compare(tokens: &Tokens, o: Order, out: &mut [u8], to: usize) -> usize
+    requires areas { length tokens.now.kinds.now ≤ 32768 }
+    requires asks { (s : List ℕ) × (ws : List ℕ) × Asks tokens.now.kinds.now tokens.now.vals.now s ws (9 ∷ 10 ∷ 11 ∷ []) o }
     requires room { OutputRoom out.old to }
-    ensures { (s ws : List ℕ) → Replies kinds.now vals.now s ws o (λ x. Framed x out.old to out.new result) }
+    ensures { (s ws : List ℕ) → Replies tokens.now.kinds.now tokens.now.vals.now s ws o (λ x. Framed x out.old to out.new result) }
 {
     let a = o.first;
     let b = o.second;
     if o.kind == 9 {
-        let r = conflicts_with(kinds, vals, a.place, b.place);
+        let r = conflicts_with(tokens, a.place, b.place);
         return write_byte_answer(out, to, bit(r));
     }
     if o.kind == 10 {
-        let r = can_weaken_to(kinds, vals, a.place, b.place);
+        let r = can_weaken_to(tokens, a.place, b.place);
         return write_byte_answer(out, to, bit(r));
     }
-    recovered(kinds, vals, a.place, b.place, out, to)
+    recovered(tokens, a.place, b.place, out, to)
 }
 
 // Orders 12, 13 and 14: a term and what takes the place of its binders.
-fn substitute(s: &[u8], kinds: &[u32], vals: &[u32], o: Order, out: &mut [u8], to: usize) -> usize
-    requires areas { Tokens kinds.now vals.now }
-    requires asks { (ws : List ℕ) × Asks kinds.now vals.now s.now ws (12 ∷ 13 ∷ 14 ∷ []) o }
+fn substitute(s: &[u8], tokens: &Tokens, o: Order, out: &mut [u8], to: usize) -> usize
+    requires areas { length tokens.now.kinds.now ≤ 32768 }
+    requires asks { (ws : List ℕ) × Asks tokens.now.kinds.now tokens.now.vals.now s.now ws (12 ∷ 13 ∷ 14 ∷ []) o }
     requires room { OutputRoom out.old to }
     ensures { (ws : List ℕ)
-        → Replies kinds.now vals.now s.now ws o (λ x. Framed x out.old to out.new result) }
+        → Replies tokens.now.kinds.now tokens.now.vals.now s.now ws o (λ x. Framed x out.old to out.new result) }
 {
     let e = o.first;
     let r = o.second;
     let t = o.third;
     if o.kind == 12 {
         let b = instantiation(e.place, r.place, r.end);
-        return rewritten(s, kinds, vals, b, t.place, out, to);
+        return rewritten(s, tokens, b, t.place, out, to);
     }
     if o.kind == 13 {
         let u = o.fourth;
         let b = context(e.place, r.place, t.place, t.value);
-        return rewritten(s, kinds, vals, b, u.place, out, to);
+        return rewritten(s, tokens, b, u.place, out, to);
     }
     let b = self_only(e.place, e.end);
-    rewritten(s, kinds, vals, b, r.place, out, to)
+    rewritten(s, tokens, b, r.place, out, to)
 }
 
 // Orders 15, 16 and 17: questions.
-fn inquire(s: &[u8], kinds: &[u32], vals: &[u32], o: Order, out: &mut [u8], to: usize) -> usize
-    requires areas { Tokens kinds.now vals.now }
-    requires asks { (ws : List ℕ) × Asks kinds.now vals.now s.now ws (15 ∷ 16 ∷ 17 ∷ []) o }
+fn inquire(s: &[u8], tokens: &Tokens, o: Order, out: &mut [u8], to: usize) -> usize
+    requires areas { length tokens.now.kinds.now ≤ 32768 }
+    requires asks { (ws : List ℕ) × Asks tokens.now.kinds.now tokens.now.vals.now s.now ws (15 ∷ 16 ∷ 17 ∷ []) o }
     requires room { OutputRoom out.old to }
     ensures { (ws : List ℕ)
-        → Replies kinds.now vals.now s.now ws o (λ x. Framed x out.old to out.new result) }
+        → Replies tokens.now.kinds.now tokens.now.vals.now s.now ws o (λ x. Framed x out.old to out.new result) }
 {
     let a = o.first;
     let b = o.second;
     let t = o.third;
     if o.kind == 15 {
-        return asked(s, kinds, vals, a.place, out, to);
+        return asked(s, tokens, a.place, out, to);
     }
     if o.kind == 16 {
-        let r = ask(
-            kinds,
-            vals,
-            b.place,
-            Question::IsResolvedIn,
-            s,
-            a.place,
-            a.value,
-        );
+        let r = ask(tokens, b.place, Question::IsResolvedIn, s, a.place, a.value);
         return write_byte_answer(out, to, bit(!r));
     }
-    let x = satisfies(kinds, vals, a.place, b.place);
-    let y = satisfies_for(kinds, vals, a.place, b.place, t.place);
+    let x = satisfies(tokens, a.place, b.place);
+    let y = satisfies_for(tokens, a.place, b.place, t.place);
     let v = [bit(x), bit(y)];
     write_bytes_answer(out, to, &v)
 }
 
 // Order 18: a family's value, for a substitution and arguments.
-fn apply_family(s: &[u8], kinds: &[u32], vals: &[u32], o: Order, out: &mut [u8], to: usize) -> usize
-    requires areas { Tokens kinds.now vals.now }
-    requires asks { (ws : List ℕ) × Asks kinds.now vals.now s.now ws (18 ∷ []) o }
+fn apply_family(s: &[u8], tokens: &Tokens, o: Order, out: &mut [u8], to: usize) -> usize
+    requires areas { length tokens.now.kinds.now ≤ 32768 }
+    requires asks { (ws : List ℕ) × Asks tokens.now.kinds.now tokens.now.vals.now s.now ws (18 ∷ []) o }
     requires room { OutputRoom out.old to }
     ensures { (ws : List ℕ)
-        → Replies kinds.now vals.now s.now ws o (λ x. Framed x out.old to out.new result) }
+        → Replies tokens.now.kinds.now tokens.now.vals.now s.now ws o (λ x. Framed x out.old to out.new result) }
 {
     let p = o.first;
     let t = o.second;
@@ -319,13 +298,12 @@ fn apply_family(s: &[u8], kinds: &[u32], vals: &[u32], o: Order, out: &mut [u8],
     let r = o.fourth;
     let l = o.fifth;
     let b = family(e.place, r.place, r.end, p.place, p.value, l.place);
-    applied(s, kinds, vals, b, l.value, t.place, out, to)
+    applied(s, tokens, b, l.value, t.place, out, to)
 }
 
 // Orders 19 and 20: a term normalised.
 fn reduce(
-    kinds: &[u32],
-    vals: &[u32],
+    tokens: &Tokens,
     heads: &mut [u32],
     kids: &mut [u32],
     rules: &[u32],
@@ -333,29 +311,28 @@ fn reduce(
     out: &mut [u8],
     to: usize,
 ) -> usize
-    requires lends { Lends kinds.now vals.now heads.old kids.old most }
-    requires asks { (s : List ℕ) × Asks kinds.now vals.now s rules.now (19 ∷ 20 ∷ []) o }
+    requires lends { Lends tokens.now.kinds.now tokens.now.vals.now heads.old kids.old most }
+    requires asks { (s : List ℕ) × Asks tokens.now.kinds.now tokens.now.vals.now s rules.now (19 ∷ 20 ∷ []) o }
     requires few { length rules.now < 4294967296 }
     requires room { OutputRoom out.old to }
     ensures clear { area heads.new kids.new ≡ area heads.old kids.old }
     ensures says { (s : List ℕ)
-        → Replies kinds.now vals.now s rules.now o (λ x. Framed x out.old to out.new result) }
+        → Replies tokens.now.kinds.now tokens.now.vals.now s rules.now o (λ x. Framed x out.old to out.new result) }
 {
     let a = o.first;
     let b = o.second;
     let t = o.third;
     if o.kind == 19 {
-        return associated(kinds, vals, heads, kids, a.place, b.place, t.place, out, to);
+        return associated(tokens, heads, kids, a.place, b.place, t.place, out, to);
     }
     let n = 6 * a.value as usize;
-    normalised(kinds, vals, heads, kids, &rules[..n], b.place, out, to)
+    normalised(tokens, heads, kids, &rules[..n], b.place, out, to)
 }
 
 // THE ANSWER of an order that leaves the session, whose fields are held.
 pub fn operate(
     s: &[u8],
-    kinds: &[u32],
-    vals: &[u32],
+    tokens: &Tokens,
     heads: &mut [u32],
     kids: &mut [u32],
     rules: &[u32],
@@ -363,26 +340,26 @@ pub fn operate(
     out: &mut [u8],
     to: usize,
 ) -> usize
-    requires lends { Lends kinds.now vals.now heads.old kids.old most }
-    requires asks { Asks kinds.now vals.now s.now rules.now (numbers_of operations) o }
+    requires lends { Lends tokens.now.kinds.now tokens.now.vals.now heads.old kids.old most }
+    requires asks { Asks tokens.now.kinds.now tokens.now.vals.now s.now rules.now (numbers_of operations) o }
     requires few { length rules.now < 4294967296 }
     requires room { OutputRoom out.old to }
     ensures clear { area heads.new kids.new ≡ area heads.old kids.old }
-    ensures says { Replies kinds.now vals.now s.now rules.now o
+    ensures says { Replies tokens.now.kinds.now tokens.now.vals.now s.now rules.now o
         (λ x. Framed x out.old to out.new result) }
 {
     let k = o.kind;
     if k < 12 {
-        return compare(kinds, vals, o, out, to);
+        return compare(tokens, o, out, to);
     }
     if k < 15 {
-        return substitute(s, kinds, vals, o, out, to);
+        return substitute(s, tokens, o, out, to);
     }
     if k < 18 {
-        return inquire(s, kinds, vals, o, out, to);
+        return inquire(s, tokens, o, out, to);
     }
     if k == 18 {
-        return apply_family(s, kinds, vals, o, out, to);
+        return apply_family(s, tokens, o, out, to);
     }
-    reduce(kinds, vals, heads, kids, rules, o, out, to)
+    reduce(tokens, heads, kids, rules, o, out, to)
 }

@@ -22,7 +22,7 @@ ghost use Rattle.sheet.specs.Words.SessionOrdersContract.{variable_answer, terml
 use super::framing::{begin_answer, write_byte_answer, write_number_answer, write_refusal};
 use super::{AfterOrder, FieldSpot, Order, TermlessOrder, VariableOrder};
 use solver::{
-    Bound, Defaulted, Site, Solver, Subject, plain_request, range_request, variable_len,
+    Bound, Defaulted, Site, Solver, Subject, Tokens, plain_request, range_request, variable_len,
     write_variable,
 };
 
@@ -46,21 +46,15 @@ fn revision_order(x: Solver, out: &mut [u8], to: usize) -> AfterOrder
 }
 
 // The numeric defaults, or those of the variables that are deferred.
-fn with_defaults(
-    x: Solver,
-    which: Defaulted,
-    kinds: &[u32],
-    vals: &[u32],
-    tables: &mut [u32],
-) -> Solver
-    requires { (z : Session) × InOrder (issued z) z.solver × Represents x kinds.now vals.now tables.old z }
-    ensures held { (z : Session) → InOrder (issued z) z.solver → Represents x kinds.now vals.now tables.old z
-        → Represents result kinds.now vals.now tables.new (solve (limits_of x) z (defaults_by which)).session }
+fn with_defaults(x: Solver, which: Defaulted, tokens: &Tokens, tables: &mut [u32]) -> Solver
+    requires { (z : Session) × InOrder (issued z) z.solver × Represents x tokens.now.kinds.now tokens.now.vals.now tables.old z }
+    ensures held { (z : Session) → InOrder (issued z) z.solver → Represents x tokens.now.kinds.now tokens.now.vals.now tables.old z
+        → Represents result tokens.now.kinds.now tokens.now.vals.now tables.new (solve (limits_of x) z (defaults_by which)).session }
     ensures beside { Beside x result tables.old tables.new }
 {
     match which {
-        Defaulted::Requested => x.apply_numeric_defaults(kinds, vals, tables),
-        Defaulted::Deferred => x.apply_never_defaults(kinds, vals, tables),
+        Defaulted::Requested => x.apply_numeric_defaults(tokens, tables),
+        Defaulted::Deferred => x.apply_never_defaults(tokens, tables),
     }
 }
 
@@ -68,16 +62,15 @@ fn with_defaults(
 fn default_order(
     x: Solver,
     which: Defaulted,
-    kinds: &[u32],
-    vals: &[u32],
+    tokens: &Tokens,
     tables: &mut [u32],
     out: &mut [u8],
     to: usize,
 ) -> AfterOrder
-    requires held { (z : Session) × InOrder (issued z) z.solver × Represents x kinds.now vals.now tables.old z }
+    requires held { (z : Session) × InOrder (issued z) z.solver × Represents x tokens.now.kinds.now tokens.now.vals.now tables.old z }
     requires room { OutputRoom out.old to }
-    ensures { (z : Session) → InOrder (issued z) z.solver → Represents x kinds.now vals.now tables.old z
-        → Does (lent x kinds.now vals.now tables.old) result.solver tables.new z
+    ensures { (z : Session) → InOrder (issued z) z.solver → Represents x tokens.now.kinds.now tokens.now.vals.now tables.old z
+        → Does (lent x tokens.now.kinds.now tokens.now.vals.now tables.old) result.solver tables.new z
         (solve (limits_of x) z (defaults_by which)) (output_at out.old to) (output_at out.new result.next) }
 {
     if out.len() - to < 3 {
@@ -85,7 +78,7 @@ fn default_order(
         return AfterOrder { solver: x, next };
     }
     let old = x.revision();
-    let y = with_defaults(x, which, kinds, vals, tables);
+    let y = with_defaults(x, which, tokens, tables);
     let a = changed_byte(old, y.revision());
     let next = write_byte_answer(out, to, a);
     AfterOrder { solver: y, next }
@@ -107,23 +100,22 @@ fn write_variable_answer(out: &mut [u8], to: usize, v: u32) -> usize
 // What a term or a variable resolves to, as the answer.
 pub fn resolved(
     x: Solver,
-    kinds: &[u32],
-    vals: &[u32],
+    tokens: &Tokens,
     tables: &[u32],
     frames: &mut [u32],
     what: Subject,
     out: &mut [u8],
     to: usize,
 ) -> usize
-    requires held { (z : Session) × (t : Term) × Asked x kinds.now vals.now tables.now what z t }
+    requires held { (z : Session) × (t : Term) × Asked x tokens.now.kinds.now tokens.now.vals.now tables.now what z t }
     requires areas { Frames x frames.old }
     requires room { OutputRoom out.old to }
     ensures clear { Zero frames.new }
-    ensures term { (z : Session) (t : Term) → Asked x kinds.now vals.now tables.now what z t
+    ensures term { (z : Session) (t : Term) → Asked x tokens.now.kinds.now tokens.now.vals.now tables.now what z t
         → Framed (outcome (resolved_to z t)) out.old to out.new result }
 {
     let limit = out.len();
-    let size = x.resolved_len(kinds, vals, tables, frames, what, limit);
+    let size = x.resolved_len(tokens, tables, frames, what, limit);
     if limit < size {
         return limit + 1;
     }
@@ -131,7 +123,7 @@ pub fn resolved(
     if limit < at {
         return at;
     }
-    x.resolve(kinds, vals, tables, frames, what, out, at)
+    x.resolve(tokens, tables, frames, what, out, at)
 }
 
 // The place of an order's variable.
@@ -148,8 +140,7 @@ fn site_of(wanted: VariableOrder) -> Site
 // The answer for the variable v: order 0 answers the variable itself, the others what it resolves to.
 fn answer_variable(
     x: Solver,
-    kinds: &[u32],
-    vals: &[u32],
+    tokens: &Tokens,
     tables: &[u32],
     frames: &mut [u32],
     wanted: VariableOrder,
@@ -157,26 +148,17 @@ fn answer_variable(
     out: &mut [u8],
     to: usize,
 ) -> usize
-    requires held { (z : Session) × Represents x kinds.now vals.now tables.now z }
+    requires held { (z : Session) × Represents x tokens.now.kinds.now tokens.now.vals.now tables.now z }
     requires areas { (v < x.variables) × Frames x frames.old }
     requires room { OutputRoom out.old to }
     ensures clear { Zero frames.new }
-    ensures term { (z : Session) → Represents x kinds.now vals.now tables.now z
+    ensures term { (z : Session) → Represents x tokens.now.kinds.now tokens.now.vals.now tables.now z
         → Framed (outcome (bytes (variable_answer z wanted v))) out.old to out.new result }
 {
     match wanted {
         VariableOrder::Slot(_, _) => write_variable_answer(out, to, v),
-        VariableOrder::Number(_, _) => resolved(
-            x,
-            kinds,
-            vals,
-            tables,
-            frames,
-            Subject::Id(v),
-            out,
-            to,
-        ),
-        VariableOrder::Hole(_) => resolved(x, kinds, vals, tables, frames, Subject::Id(v), out, to),
+        VariableOrder::Number(_, _) => resolved(x, tokens, tables, frames, Subject::Id(v), out, to),
+        VariableOrder::Hole(_) => resolved(x, tokens, tables, frames, Subject::Id(v), out, to),
     }
 }
 
@@ -207,27 +189,26 @@ fn issue_variable(x: Solver, tables: &mut [u32], wanted: VariableOrder) -> Solve
 // Orders 0, 1, 2 and 21.
 fn variable_order(
     x: Solver,
-    kinds: &[u32],
-    vals: &[u32],
+    tokens: &Tokens,
     tables: &mut [u32],
     frames: &mut [u32],
     wanted: VariableOrder,
     out: &mut [u8],
     to: usize,
 ) -> AfterOrder
-    requires held { (z : Session) × Represents x kinds.now vals.now tables.old z }
+    requires held { (z : Session) × Represents x tokens.now.kinds.now tokens.now.vals.now tables.old z }
     requires areas { RequestTold wanted × Frames x frames.old }
     requires room { OutputRoom out.old to }
     ensures clear { Zero frames.new }
-    ensures does { (z : Session) → Represents x kinds.now vals.now tables.old z
-        → Does (lent x kinds.now vals.now tables.old) result.solver tables.new z
+    ensures does { (z : Session) → Represents x tokens.now.kinds.now tokens.now.vals.now tables.old z
+        → Does (lent x tokens.now.kinds.now tokens.now.vals.now tables.old) result.solver tables.new z
         (solve (limits_of x) z (variable_command wanted)) (output_at out.old to) (output_at out.new result.next) }
 {
     let Some(v) = x.id_of(tables, site_of(wanted)) else {
         let next = write_refusal(out, to, 8);
         return AfterOrder { solver: x, next };
     };
-    let next = answer_variable(x, kinds, vals, tables, frames, wanted, v, out, to);
+    let next = answer_variable(x, tokens, tables, frames, wanted, v, out, to);
     if out.len() < next {
         return AfterOrder { solver: x, next };
     }
@@ -311,26 +292,25 @@ pub fn termless_of(o: Order) -> TermlessOrder
 pub fn termless_order(
     x: Solver,
     what: TermlessOrder,
-    kinds: &[u32],
-    vals: &[u32],
+    tokens: &Tokens,
     tables: &mut [u32],
     frames: &mut [u32],
     out: &mut [u8],
     to: usize,
 ) -> AfterOrder
-    requires held { (z : Session) × InOrder (issued z) z.solver × Represents x kinds.now vals.now tables.old z }
+    requires held { (z : Session) × InOrder (issued z) z.solver × Represents x tokens.now.kinds.now tokens.now.vals.now tables.old z }
     requires areas { TermlessTold what × Frames x frames.old }
     requires room { OutputRoom out.old to }
     ensures clear { Zero frames.new }
-    ensures does { (z : Session) → InOrder (issued z) z.solver → Represents x kinds.now vals.now tables.old z
-        → Does (lent x kinds.now vals.now tables.old) result.solver tables.new z
+    ensures does { (z : Session) → InOrder (issued z) z.solver → Represents x tokens.now.kinds.now tokens.now.vals.now tables.old z
+        → Does (lent x tokens.now.kinds.now tokens.now.vals.now tables.old) result.solver tables.new z
         (solve (limits_of x) z (termless_command what)) (output_at out.old to) (output_at out.new result.next) }
 {
     match what {
         TermlessOrder::Variable(wanted) => {
-            variable_order(x, kinds, vals, tables, frames, wanted, out, to)
+            variable_order(x, tokens, tables, frames, wanted, out, to)
         }
-        TermlessOrder::Defaults(which) => default_order(x, which, kinds, vals, tables, out, to),
+        TermlessOrder::Defaults(which) => default_order(x, which, tokens, tables, out, to),
         TermlessOrder::Revision => revision_order(x, out, to),
         TermlessOrder::NoType => {
             let next = write_refusal(out, to, 13);

@@ -15,50 +15,48 @@ ghost use Rattle.sheet.specs.Words.SessionOrdersContract.{lent, Does, DoesPair};
 use super::AfterOrder;
 use super::framing::{write_byte_answer, write_empty_answer};
 use super::plain_orders::resolved;
-use solver::{Access, Solver, Subject, Verdict};
+use solver::{Access, Solver, Subject, Tokens, Verdict};
 
 // Order 3: the variable that the term after the session's tokens stands for, if it stands for one, is deferred.
 pub fn defer_term(
     x: Solver,
-    kinds: &[u32],
-    vals: &[u32],
+    tokens: &Tokens,
     tables: &mut [u32],
     out: &mut [u8],
     to: usize,
 ) -> AfterOrder
-    requires held { (z : Session) × (t : Term) × Poses x kinds.now vals.now tables.old z t }
+    requires held { (z : Session) × (t : Term) × Poses x tokens.now.kinds.now tokens.now.vals.now tables.old z t }
     requires room { OutputRoom out.old to }
-    ensures { (z : Session) (t : Term) → Poses x kinds.now vals.now tables.old z t
-        → Does (lent x (take x.top kinds.now) (take x.top vals.now) tables.old) result.solver tables.new z
+    ensures { (z : Session) (t : Term) → Poses x tokens.now.kinds.now tokens.now.vals.now tables.old z t
+        → Does (lent x (take x.top tokens.now.kinds.now) (take x.top tokens.now.vals.now) tables.old) result.solver tables.new z
         (solve (limits_of x) z (orders.defer t)) (output_at out.old to) (output_at out.new result.next) }
 {
     let next = write_empty_answer(out, to);
     if out.len() < next {
         return AfterOrder { solver: x, next };
     }
-    let y = x.defer_never(kinds, vals, tables);
+    let y = x.defer_never(tokens, tables);
     AfterOrder { solver: y, next }
 }
 
 // Order 5: the term after the session's tokens.
 pub fn resolve_term(
     x: Solver,
-    kinds: &[u32],
-    vals: &[u32],
+    tokens: &Tokens,
     tables: &[u32],
     frames: &mut [u32],
     out: &mut [u8],
     to: usize,
 ) -> AfterOrder
-    requires held { (z : Session) × (t : Term) × Poses x kinds.now vals.now tables.now z t }
+    requires held { (z : Session) × (t : Term) × Poses x tokens.now.kinds.now tokens.now.vals.now tables.now z t }
     requires areas { Frames x frames.old }
     requires room { OutputRoom out.old to }
     ensures clear { Zero frames.new }
-    ensures does { (z : Session) (t : Term) → Poses x kinds.now vals.now tables.now z t
-        → Does (lent x (take x.top kinds.now) (take x.top vals.now) tables.now) result.solver tables.now z
+    ensures does { (z : Session) (t : Term) → Poses x tokens.now.kinds.now tokens.now.vals.now tables.now z t
+        → Does (lent x (take x.top tokens.now.kinds.now) (take x.top tokens.now.vals.now) tables.now) result.solver tables.now z
         (solve (limits_of x) z (orders.resolving t)) (output_at out.old to) (output_at out.new result.next) }
 {
-    let next = resolved(x, kinds, vals, tables, frames, Subject::Follows, out, to);
+    let next = resolved(x, tokens, tables, frames, Subject::Follows, out, to);
     AfterOrder { solver: x, next }
 }
 
@@ -72,8 +70,7 @@ fn verdict_number(v: Verdict) -> u8
 // Orders 4 and 22: the two terms after the session's tokens, with k checks; `nodes` counts the kept nodes and theirs.
 pub fn constrain_order(
     x: Solver,
-    kinds: &[u32],
-    vals: &[u32],
+    tokens: &Tokens,
     tables: &mut [u32],
     work: &mut [u32],
     q: usize,
@@ -83,20 +80,20 @@ pub fn constrain_order(
     out: &mut [u8],
     to: usize,
 ) -> AfterOrder
-    requires held { (z : Session) × (t u : Term) × PosesPair x kinds.now vals.now tables.old z q t u × (nodes ≡ z.kept + (size t + size u)) }
-    requires areas { Scratch x kinds.now tables.old work.old × Zero (drop (pending_from x) tables.old) }
+    requires held { (z : Session) × (t u : Term) × PosesPair x tokens.now.kinds.now tokens.now.vals.now tables.old z q t u × (nodes ≡ z.kept + (size t + size u)) }
+    requires areas { Scratch x tokens.now.kinds.now tables.old work.old × Zero (drop (pending_from x) tables.old) }
     requires room { OutputRoom out.old to }
     ensures clear { Zero work.new }
-    ensures does { (z : Session) (t u : Term) → PosesPair x kinds.now vals.now tables.old z q t u
+    ensures does { (z : Session) (t u : Term) → PosesPair x tokens.now.kinds.now tokens.now.vals.now tables.old z q t u
         → nodes ≡ z.kept + (size t + size u)
-        → DoesPair (lent x kinds.now vals.now tables.old) result.solver tables.new z
+        → DoesPair (lent x tokens.now.kinds.now tokens.now.vals.now tables.old) result.solver tables.new z
         (solve (limits_of x) z (orders.pair (strict_of access) k t u)) (output_at out.old to) (output_at out.new result.next) }
 {
     if out.len() - to < 3 {
         let next = out.len() + 1;
         return AfterOrder { solver: x, next };
     }
-    let r = x.constrain(kinds, vals, tables, work, q, k, nodes, access);
+    let r = x.constrain(tokens, tables, work, q, k, nodes, access);
     let solver = r.solver;
     let v = r.verdict;
     let a = verdict_number(v);

@@ -17,11 +17,6 @@ use Rattle.sheet.specs.Operations.{operation}
 use Rattle.sheet.specs.Sheet.{table}
 use Rattle.sheet.specs.Words.OrderGiven.{Given}
 
--- the areas of tokens
-pub record Tokens (ks vs : List ℕ) : Type 0 where
-  pub pairs : length vs ≡ length ks
-  pub short : length ks ≤ 32768
-
 -- ---- an order
 
 -- one of some numbers

@@ -4,7 +4,7 @@ use mathlib.Core.Bool.{Bool, true, false, not}
 use mathlib.Core.List.{List, [], ◌∷◌, ◌++◌, append-nil}
 use mathlib.Core.Logic.{inl, inr, ⊎_elim}
 use mathlib.Core.Option.{some}
-use Prim.Native.Nat.{ℕ, ◌+◌, ◌-◌, ◌*◌, ◌≤◌, ◌<◌}
+use Prim.Native.Nat.{ℕ, zero, suc, ◌^◌, ◌+◌, ◌-◌, ◌*◌, ◌≤◌, ◌<◌}
 use native.Mathlib.Decide.{ℕ_discrete}
 use native.Mathlib.Omega.{arith}
 use borrow.Author.Tests.{ne_eqb, le-ltb}
@@ -12,7 +12,7 @@ use lib.Dec.{eqb, ltb}
 use lib.ListN.{length, length-append, length-drop, get_or, take, drop, take-append-drop, get_or-eq_default}
 use lib.Seq.{length-take-le, get_or-take, take-take}
 use Rattle.solver.specs.Terms.Result.{Result, refused}
-use Rattle.solver.specs.Terms.Tokens.{Item, Area, area, blank, toks}
+use Rattle.solver.specs.Terms.Tokens.{Narrow, Item, Area, area, blank, toks}
 use Rattle.solver.specs.Terms.Term.{Term, items, size, Held, AllVars, sub, end}
 use Rattle.solver.specs.Terms.Held.{HeldParts}
 use Rattle.solver.specs.Terms.Normal.{most}
@@ -56,6 +56,20 @@ use Rattle.sheet.proofs.Laws.Reading.ReadOrderUseLaws.{order_long}
 use Rattle.sheet.proofs.Laws.Answering.TermOrderLaws as posing
 use Rattle.sheet.proofs.Laws.Answering.OperationStepLaws.{operation_step}
 use Rattle.sheet.proofs.Laws.Answering.SessionInAreasLaws.{ready_half, solve_kept, answers_does, answers_bound, answers_quiet}
+
+-- ---- the tokens up to a place, lent
+
+narrow_upto : (n : ℕ) (ws : List ℕ) → ((i : ℕ) → get_or ws i 0 < 2 ^ 32) → (i : ℕ) → get_or (take n ws) i 0 < 2 ^ 32
+narrow_upto zero ws f i = omega arith
+narrow_upto (suc n) [] f i = omega arith
+narrow_upto (suc n) (x ∷ xs) f zero = f 0
+narrow_upto (suc n) (x ∷ xs) f (suc i) = narrow_upto n xs (λ j. f (suc j)) i
+
+pub taken_narrow : (n : ℕ) (ws : List ℕ) → ((i : ℕ) → get_or ws i 0 < 2 ^ 32) → Narrow (take n ws)
+taken_narrow n ws f = record { fits = narrow_upto n ws f }
+
+pub taken_pairs : (n : ℕ) (ks vs : List ℕ) → n ≤ length ks → n ≤ length vs → length (take n vs) ≡ length (take n ks)
+taken_pairs n ks vs a b = length-take-le n vs b ∙ sym (length-take-le n ks a)
 
 -- ---- the rows that pose a pair
 

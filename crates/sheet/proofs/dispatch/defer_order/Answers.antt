@@ -5,9 +5,16 @@ use lib.ListN.{length}
 use lib.Seq.{length-take-le}
 use borrow.Rule.Slice.PartMut.{take_put}
 use Rattle.solver.specs.Orders as orders
+use native.Mathlib.Omega.{arith}
 use Rattle.sheet.proofs.Laws.Answering.SessionInAreasLaws.{poses_tail, does_tail}
-use Rattle.sheet.proofs.Laws.Answering.DispatchLaws.{taken_half, taken_b, poses, posed, defer_term, defer_known, defer_step}
+use Rattle.sheet.proofs.Laws.Answering.DispatchLaws.{taken_half, taken_b, poses, posed, defer_term, defer_known, defer_step, taken_a, taken_narrow, taken_pairs}
 use Rattle.sheet.proofs.dispatch.defer_order.Goals as goal
+
+pub invariant_of-defer_term : goal.invariant_of-defer_term
+invariant_of-defer_term c =
+    let T = c.requires.taken.5 in
+    let W = c.requires.within in
+    record { pairs = taken_pairs _ _ _ (taken_a T W) (taken_b T W); narrow = taken_narrow _ _ (λ i. omega (arith, c.type_inv.b i)) }
 
 pub slice_bounds-defer_term-end-2 : goal.slice_bounds-defer_term-end-2
 slice_bounds-defer_term-end-2 c =

@@ -1,6 +1,12 @@
 -- `operate_order`: the answer of the operation.
+use native.Mathlib.Omega.{arith}
 use Rattle.sheet.proofs.Laws.Answering.DispatchLaws.{taken_lends, taken_asks, operated}
 use Rattle.sheet.proofs.dispatch.operate_order.Goals as goal
+
+pub invariant_of-operate : goal.invariant_of-operate
+invariant_of-operate c =
+    let p = c.requires in
+    record { pairs = (taken_lends p.taken.2 p.within).pairs; narrow = record { fits = λ i. omega (arith, c.type_inv.b i) } }
 
 pub operate-next-requires : goal.operate-next-requires
 operate-next-requires c =

@@ -7,8 +7,14 @@ use lib.Seq.{length-take-le}
 use borrow.Rule.Slice.PartMut.{take_put}
 use Rattle.solver.specs.Words.PendingContract.{strict_of}
 use Rattle.sheet.proofs.Laws.Answering.SessionInAreasLaws.{pair_tail, scratch_tail, blank_tail, pair_does_tail}
-use Rattle.sheet.proofs.Laws.Answering.DispatchLaws.{taken_half, taken_b, pair_terms, pair_k, poses_pair, pair_nodes, pair_scratch, pair_blank, pair_answered}
+use Rattle.sheet.proofs.Laws.Answering.DispatchLaws.{taken_half, taken_b, pair_terms, pair_k, poses_pair, pair_nodes, pair_scratch, pair_blank, pair_answered, taken_a, taken_narrow, taken_pairs}
 use Rattle.sheet.proofs.dispatch.pair_order.Goals as goal
+
+pub invariant_of-constrain_order : goal.invariant_of-constrain_order
+invariant_of-constrain_order c =
+    let T = c.requires.taken.4 in
+    let W = c.requires.within in
+    record { pairs = taken_pairs _ _ _ (taken_a T W) (taken_b T W); narrow = taken_narrow _ _ (λ i. omega (arith, c.type_inv.b i)) }
 
 pub overflow_cast-k : goal.overflow_cast-k
 overflow_cast-k c =

@@ -4,9 +4,16 @@ use Prim.Native.Nat.{◌-◌}
 use lib.ListN.{length}
 use lib.Seq.{length-take-le}
 use borrow.Rule.Slice.PartMut.{take_put}
+use native.Mathlib.Omega.{arith}
 use Rattle.sheet.proofs.Laws.Answering.SessionInAreasLaws.{ready_frames, lent_tail, does_tail}
-use Rattle.sheet.proofs.Laws.Answering.DispatchLaws.{taken_half, taken_b, plain_asks, plain_lent, plain_answered}
+use Rattle.sheet.proofs.Laws.Answering.DispatchLaws.{taken_half, taken_b, plain_asks, plain_lent, plain_answered, taken_a, taken_narrow, taken_pairs}
 use Rattle.sheet.proofs.dispatch.plain_order.Goals as goal
+
+pub invariant_of-termless_order : goal.invariant_of-termless_order
+invariant_of-termless_order c =
+    let T = c.requires.taken.4 in
+    let W = c.requires.within in
+    record { pairs = taken_pairs _ _ _ (taken_a T W) (taken_b T W); narrow = taken_narrow _ _ (λ i. omega (arith, c.type_inv.b i)) }
 
 pub termless_of-what-requires : goal.termless_of-what-requires
 termless_of-what-requires c =

@@ -2,9 +2,16 @@
 use mathlib.Core.Path.{refl, sym}
 use lib.Seq.{length-take-le}
 use Rattle.solver.specs.Orders as orders
+use native.Mathlib.Omega.{arith}
 use Rattle.sheet.proofs.Laws.Answering.SessionInAreasLaws.{ready_frames, poses_tail, does_part}
-use Rattle.sheet.proofs.Laws.Answering.DispatchLaws.{taken_b, poses, posed, resolve_term, resolve_known, resolve_step}
+use Rattle.sheet.proofs.Laws.Answering.DispatchLaws.{taken_b, poses, posed, resolve_term, resolve_known, resolve_step, taken_a, taken_narrow, taken_pairs}
 use Rattle.sheet.proofs.dispatch.resolve_order.Goals as goal
+
+pub invariant_of-resolve_term : goal.invariant_of-resolve_term
+invariant_of-resolve_term c =
+    let T = c.requires.taken.4 in
+    let W = c.requires.within in
+    record { pairs = taken_pairs _ _ _ (taken_a T W) (taken_b T W); narrow = taken_narrow _ _ (λ i. omega (arith, c.type_inv.b i)) }
 
 pub slice_bounds-resolve_term-end-2 : goal.slice_bounds-resolve_term-end-2
 slice_bounds-resolve_term-end-2 c =

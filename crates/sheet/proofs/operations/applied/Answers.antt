@@ -18,14 +18,14 @@ pub write_term-size-requires-clause-space : goal.write_term-size-requires-clause
 write_term-size-requires-clause-space c =
     let p = c.requires in
     let a = c.args in
-    let n = counted_term a.kinds.now a.vals.now (λ i. omega (arith, c.type_inv.vals i)) a.s.now a.b p.ready a.from p.place (omega (arith, p.areas.short)) in
+    let n = counted_term a.tokens.now.kinds.now a.tokens.now.vals.now (λ i. omega (arith, c.args.tokens.now.narrow.fits i)) a.s.now a.b p.ready a.from p.place (omega (arith, p.areas)) in
     record { counts = omega (arith, n); fits = λ h. never_true h }
 
 pub overflow_add-size : goal.overflow_add-size
 overflow_add-size c =
     let p = c.requires in
     let a = c.args in
-    let n = counted_term a.kinds.now a.vals.now (λ i. omega (arith, c.type_inv.vals i)) a.s.now a.b p.ready a.from p.place (omega (arith, p.areas.short)) in
+    let n = counted_term a.tokens.now.kinds.now a.tokens.now.vals.now (λ i. omega (arith, c.args.tokens.now.narrow.fits i)) a.s.now a.b p.ready a.from p.place (omega (arith, p.areas)) in
     omega (arith, n, c.write_term-size.ensures.words.next)
 
 pub returns-then-out-at : goal.returns-then-out-at

@@ -11,7 +11,7 @@ applied-requires c =
     let y = c.requires.asks.1 in
     let k = among_only 18 a.o.kind y.among in
     let x = (family_asks _ _ _ _ a.o _ k y).5 in
-    record { areas = p.areas; ready = ready_as _ _ a.s.now _ _ c.family-b.ensures (binders_ready _ _ _ _ _ _ _ x.binders p.areas.pairs); place = held_in _ _ _ _ x.held; room = p.room }
+    record { areas = p.areas; ready = ready_as _ _ a.s.now _ _ c.family-b.ensures (binders_ready _ _ _ _ _ _ _ x.binders c.args.tokens.now.pairs); place = held_in _ _ _ _ x.held; room = p.room }
 
 pub returns : goal.returns
 returns c =
@@ -19,4 +19,4 @@ returns c =
     let a = c.args in
     let y = c.requires.asks.1 in
     let k = among_only 18 a.o.kind y.among in
-    family_replies a.kinds.now a.vals.now a.s.now ws a.o k _ (λ ps t es rs ts x. c.applied.ensures t es rs ps ts (applies_as _ _ _ _ _ c.family-b.ensures _ _ t es rs ps ts x))
+    family_replies a.tokens.now.kinds.now a.tokens.now.vals.now a.s.now ws a.o k _ (λ ps t es rs ts x. c.applied.ensures t es rs ps ts (applies_as _ _ _ _ _ c.family-b.ensures _ _ t es rs ps ts x))

@@ -10,7 +10,7 @@ pub recovered_len-size-requires-clause-places : goal.recovered_len-size-requires
 recovered_len-size-requires-clause-places c =
     let p = c.requires in
     let x = c.requires.terms.2 in
-    (held_in _ _ _ _ x.left, held_in _ _ _ _ x.right, p.areas.pairs)
+    (held_in _ _ _ _ x.left, held_in _ _ _ _ x.right)
 
 pub returns-then-out-at : goal.returns-then-out-at
 returns-then-out-at c =
@@ -29,7 +29,7 @@ write_recovered-requires c =
     let e = c.recovered_len-size.ensures _ _ x.left x.right x.left_formed x.right_formed in
     let m = begun_room _ _ _ _ _ y (omega (arith, c.if-out-at.false)) in
     let f = formed_both _ _ _ _ _ _ x in
-    record { places = (held_in _ _ _ _ x.left, held_in _ _ _ _ x.right, p.areas.pairs); room = omega (arith, p.areas.short, p.room.short, c.if-out-at.false); terms = record { left = f.0; right = f.1; room = omega (arith, m, e) } }
+    record { places = (held_in _ _ _ _ x.left, held_in _ _ _ _ x.right); room = omega (arith, p.areas, p.room.short, c.if-out-at.false); terms = record { left = f.0; right = f.1; room = omega (arith, m, e) } }
 
 pub returns : goal.returns
 returns c =

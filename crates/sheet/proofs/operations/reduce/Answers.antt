@@ -21,7 +21,7 @@ pub returns-then-o-eq19-clause-says : goal.returns-then-o-eq19-clause-says
 returns-then-o-eq19-clause-says c =
     let a = c.args in
     let d = c.associated.ensures in
-    λ s. associated_replies a.kinds.now a.vals.now s a.rules.now a.o c.if-o-eq19.true _ (λ t ps u x. d.says t ps u x)
+    λ s. associated_replies a.tokens.now.kinds.now a.tokens.now.vals.now s a.rules.now a.o c.if-o-eq19.true _ (λ t ps u x. d.says t ps u x)
 
 pub overflow_mul-n : goal.overflow_mul-n
 overflow_mul-n c =
@@ -54,4 +54,4 @@ returns-clause-says c =
     let y = c.requires.asks.1 in
     let k = other 19 20 a.o.kind y.among c.if-o-eq19.false in
     let d = c.normalised.ensures in
-    λ s. rules_replies a.kinds.now a.vals.now s a.rules.now a.o k _ (λ rs t x l. d.says t rs x)
+    λ s. rules_replies a.tokens.now.kinds.now a.tokens.now.vals.now s a.rules.now a.o k _ (λ rs t x l. d.says t rs x)

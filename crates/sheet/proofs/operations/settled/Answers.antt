@@ -12,18 +12,18 @@ returns-then-out-at-clause-says c =
     let a = c.args in
     let l = begun_long _ _ a.to _ _ c.begin_answer-at.ensures in
     λ o x.
-    let y = answers_done a.kinds.now a.vals.now a.heads.now a.kids.now a.out.now a.to a.r o x _ c.in-Ok.is in
+    let y = answers_done a.tokens.now.kinds.now a.tokens.now.vals.now a.heads.now a.kids.now a.out.now a.to a.r o x _ c.in-Ok.is in
     frame_as _ _ (settled_term o y.0) _ _ _ _ (value_over (bytes o.term) _ y.1 a.out.now a.to _ _ c.begin_answer-at.ensures (omega (arith, l, c.if-out-at.true)))
 
 pub returns-in-Err-TooMany-clause-says : goal.returns-in-Err-TooMany-clause-says
 returns-in-Err-TooMany-clause-says c =
     let a = c.args in
-    λ o x. frame_as _ _ (answers_many a.kinds.now a.vals.now a.heads.now a.kids.now a.out.now a.to a.r o x (c.in-Err-TooMany.is ∙ ap Err (rw c.in-Err-TooMany.is at c.in-Err-TooMany.field-0-is))) _ _ _ _ c.write_refusal.ensures
+    λ o x. frame_as _ _ (answers_many a.tokens.now.kinds.now a.tokens.now.vals.now a.heads.now a.kids.now a.out.now a.to a.r o x (c.in-Err-TooMany.is ∙ ap Err (rw c.in-Err-TooMany.is at c.in-Err-TooMany.field-0-is))) _ _ _ _ c.write_refusal.ensures
 
 pub returns-in-Err-TooLong-clause-says : goal.returns-in-Err-TooLong-clause-says
 returns-in-Err-TooLong-clause-says c =
     let a = c.args in
-    λ o x. answers_long a.kinds.now a.vals.now a.heads.now a.kids.now a.out.now a.to a.r o x (c.in-Err-TooLong.is ∙ ap Err (rw c.in-Err-TooLong.is at c.in-Err-TooLong.field-0-is))
+    λ o x. answers_long a.tokens.now.kinds.now a.tokens.now.vals.now a.heads.now a.kids.now a.out.now a.to a.r o x (c.in-Err-TooLong.is ∙ ap Err (rw c.in-Err-TooLong.is at c.in-Err-TooLong.field-0-is))
 
 pub returns-else-out-at-clause-says : goal.returns-else-out-at-clause-says
 returns-else-out-at-clause-says c =
@@ -31,6 +31,6 @@ returns-else-out-at-clause-says c =
     let l = begun_long _ _ a.to _ _ c.begin_answer-at.ensures in
     let m = begun_room _ _ a.to _ _ c.begin_answer-at.ensures (omega (arith, l, c.if-out-at.false)) in
     λ o x.
-    let y = answers_done a.kinds.now a.vals.now a.heads.now a.kids.now a.out.now a.to a.r o x _ c.in-Ok.is in
+    let y = answers_done a.tokens.now.kinds.now a.tokens.now.vals.now a.heads.now a.kids.now a.out.now a.to a.r o x _ c.in-Ok.is in
     let z = c.write_normalised.ensures.wrote o.term y.2 (omega (arith, m, y.1)) in
     frame_as _ _ (settled_term o y.0) _ _ _ _ (value_in (bytes o.term) _ y.1 a.out.now a.to _ _ c.begin_answer-at.ensures (omega (arith, l, c.if-out-at.false)) _ _ z.0 z.1)

@@ -15,9 +15,9 @@ use Rattle.sheet.proofs.plain_orders.with_defaults.Goals as goal
 
 -- what both ask
 ready : (x : Solver) (ks vs ts : List ℕ) (z : Session) → InOrder (issued z) z.solver → Represents x ks vs ts z
-    → (x.revision < 2 ^ 32) × (length vs ≡ length ks) × ((s : Session) × Represents x ks vs ts s × Low x.variables s.solver.bindings)
+    → (x.revision < 2 ^ 32) × ((s : Session) × Represents x ks vs ts s × Low x.variables s.solver.bindings)
 ready x ks vs ts z A L =
-    (omega (arith, lent_revision _ _ _ _ _ A L, L.narrow), L.vals, (z, L, in_order_low _ _ _ _ z A L))
+    (omega (arith, lent_revision _ _ _ _ _ A L, L.narrow), (z, L, in_order_low _ _ _ _ z A L))
 
 pub apply_never_defaults-requires-clause-areas : goal.apply_never_defaults-requires-clause-areas
 apply_never_defaults-requires-clause-areas c =
