@@ -75,6 +75,7 @@ fn self_at(tokens: &Tokens, b: Binders, owner: u64) -> Choice
 }
 
 // What takes the place of the term at p. Only the heads of Generic and SelfType are looked up.
+#[inline(always)]
 fn replaced_at(tokens: &Tokens, s: &[u8], b: Binders, p: usize) -> Choice
     requires areas { Ready tokens.now.kinds.now tokens.now.vals.now b }
     requires place { p < length tokens.now.kinds.now }
@@ -100,6 +101,7 @@ fn replaced_at(tokens: &Tokens, s: &[u8], b: Binders, p: usize) -> Choice
 
 // Writes a run of tokens, or only counts its bytes. A trait with a sink that writes and one that counts is no plainer: its laws say of each what `pick on` says
 // of both, and each function up to the orders would take a type for `on`.
+#[inline(always)]
 fn emit_run(tokens: &Tokens, from: usize, count: usize, out: &mut [u8], i: usize, on: bool) -> usize
     requires run { (from + count ≤ length tokens.now.kinds.now) × (from + count ≤ length tokens.now.vals.now) }
     requires space { Space on i (length (spelt tokens.now.kinds.now tokens.now.vals.now from count)) (length out.old) }
@@ -113,6 +115,7 @@ fn emit_run(tokens: &Tokens, from: usize, count: usize, out: &mut [u8], i: usize
 }
 
 // Writes what takes the place of the term at p, or only counts its bytes.
+#[inline(always)]
 fn emit(tokens: &Tokens, c: Choice, p: usize, out: &mut [u8], i: usize, on: bool) -> usize
     requires areas { (p < length tokens.now.kinds.now) × Inside tokens.now.kinds.now c }
     requires space { Space on i (length (piece tokens.now.kinds.now tokens.now.vals.now p c)) (length out.old) }
@@ -136,6 +139,7 @@ fn emit(tokens: &Tokens, c: Choice, p: usize, out: &mut [u8], i: usize, on: bool
 }
 
 // How many tokens from p on it stands for.
+#[inline(always)]
 fn pace(tokens: &Tokens, c: Choice, p: usize, end: usize) -> usize
     requires { (p < end) × (end ≤ length tokens.now.kinds.now) }
     ensures { result ≡ pace tokens.now.kinds.now tokens.now.vals.now p end c }

@@ -17,6 +17,7 @@ use super::{Content, Origin, Part, RowWalk, Seen, Token};
 const NOWHERE: usize = 4294967295;
 
 // The row of the term whose first token stands at h.
+#[inline(always)]
 pub fn row_of(seen: &Seen, h: u32) -> Part
     ensures { RowAt (shown seen.now) h result.from result.end }
 {
@@ -40,6 +41,7 @@ impl<'a> Iterator for RowWalk<'a> {
 
     ghost remaining = { λ s. at_most (s.end - s.at) };
 
+    #[inline(always)]
     fn next(&mut self) -> Option<(usize, Token)> {
         let at = self.at;
         if self.end <= at {
@@ -52,6 +54,7 @@ impl<'a> Iterator for RowWalk<'a> {
 }
 
 // The walk over the row of the term whose first token stands at h.
+#[inline(always)]
 pub fn walk_row<'a>(seen: &Seen<'a>, h: u32) -> RowWalk<'a>
     ensures row { RowAt (shown seen.now) h result.at result.end }
     ensures seen { result.seen ≡ seen.now }
@@ -109,6 +112,7 @@ pub fn key_at(seen: &Seen, h: u32, x: u32) -> Option<usize>
 }
 
 // The content of a child that is the i-th of its node, whose child word is c, and stands at q where it is as in the source.
+#[inline(always)]
 pub fn child_here(heads: &[u32], kids: &[u32], c: u32, q: usize, i: usize) -> Content
     requires { (q < 4294967296) × (i < 4294967296) }
     ensures head { result.head ≡ head_of heads.now c q i }

@@ -9,6 +9,7 @@ ghost use Rattle.terms.specs.Words.FindContract.{stride};
 use super::{Token, Tokens};
 
 // The word at i, 0 past the end.
+#[inline(always)]
 pub fn word(words: &[u32], i: usize) -> u32
     ensures { result ≡ get_or words.now i 0 }
 {
@@ -20,6 +21,7 @@ pub fn word(words: &[u32], i: usize) -> u32
 
 impl Token {
     // How many tokens the term has that begins with it, as it says; of a node's head that may be 0.
+    #[inline(always)]
     pub fn span(self) -> usize
         ensures { result ≡ span self.kind self.value }
     {
@@ -30,6 +32,7 @@ impl Token {
     }
 
     // The same, but at least 1, so that a walk over a row goes on.
+    #[inline(always)]
     pub fn step(self) -> usize
         ensures some { (1 ≤ result) × (result < 4294967296) }
         ensures span { 1 ≤ span self.kind self.value → result ≡ span self.kind self.value }
@@ -39,6 +42,7 @@ impl Token {
 }
 
 // How many tokens the term at i has, at least 1 and at most `room`.
+#[inline(always)]
 pub fn skip(tokens: &Tokens, i: usize, room: usize) -> usize
     requires { (i < length tokens.now.kinds.now) × (1 ≤ room) }
     ensures some { (1 ≤ result) × (result ≤ room) }

@@ -51,8 +51,9 @@ pub fn locate(g: Origin, len: usize, q: usize) -> Spot
     Spot::Lent(copied(g, len, r, t))
 }
 
-// The token at q.
-pub fn token_at(seen: &Seen, q: usize) -> Token
+// The token at q, wherever it is from.
+#[inline(never)]
+fn located_token(seen: &Seen, q: usize) -> Token
     ensures kind { result.kind ≡ get_or (shown seen.now).kinds q 0 }
     ensures value { result.value ≡ get_or (shown seen.now).vals q 0 }
 {
@@ -69,4 +70,20 @@ pub fn token_at(seen: &Seen, q: usize) -> Token
         },
         Spot::Nowhere => Token { kind: 0, value: 0 },
     }
+}
+
+// The token at q. Nearly all are lent, and are looked at without the search.
+#[inline(always)]
+pub fn token_at(seen: &Seen, q: usize) -> Token
+    ensures kind { result.kind ≡ get_or (shown seen.now).kinds q 0 }
+    ensures value { result.value ≡ get_or (shown seen.now).vals q 0 }
+{
+    let tokens = seen.tokens;
+    if q < tokens.kinds.len() {
+        return Token {
+            kind: tokens.kinds[q],
+            value: tokens.vals[q],
+        };
+    }
+    located_token(seen, q)
 }
