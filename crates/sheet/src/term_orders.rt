@@ -80,7 +80,8 @@ pub fn constrain_order(
     out: &mut [u8],
     to: usize,
 ) -> AfterOrder
-    requires held { (z : Session) × (t u : Term) × PosesPair x tokens.now.kinds.now tokens.now.vals.now tables.old z q t u × (nodes ≡ z.kept + (size t + size u)) }
+    requires held { (z : Session) × (t u : Term) × PosesPair x tokens.now.kinds.now tokens.now.vals.now tables.old z q t u
+        × (nodes ≡ z.kept + (size t + size u)) }
     requires areas { Scratch x tokens.now.kinds.now tables.old work.old × Zero (drop (pending_from x) tables.old) }
     requires room { OutputRoom out.old to }
     ensures clear { Zero work.new }

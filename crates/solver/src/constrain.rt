@@ -247,7 +247,8 @@ impl Solver {
         nodes: usize,
         access: Access,
     ) -> Solved
-        requires held { (s : Session) × (t u : Term) × PosesPair self tokens.now.kinds.now tokens.now.vals.now tables.old s q t u × (nodes ≡ s.kept + (size t + size u)) }
+        requires held { (s : Session) × (t u : Term) × PosesPair self tokens.now.kinds.now tokens.now.vals.now tables.old s q t u
+            × (nodes ≡ s.kept + (size t + size u)) }
         requires room { Scratch self tokens.now.kinds.now tables.old work.old × Zero (drop (pending_from self) tables.old) }
         ensures solved { (s : Session) (t u : Term)
             → PosesPair self tokens.now.kinds.now tokens.now.vals.now tables.old s q t u

@@ -31,7 +31,8 @@ pub fn part_end(tokens: &Tokens, i: usize, end: usize) -> usize
 // Whether the parts at i and j agree, but for the terms that they are.
 pub fn parts_agree(tokens: &Tokens, i: usize, j: usize, free: bool) -> bool
     requires { (i < length tokens.now.kinds.now) × (j < length tokens.now.kinds.now) }
-    ensures { result ≡ agree free (get_or tokens.now.kinds.now i 0) (get_or tokens.now.vals.now i 0) (get_or tokens.now.kinds.now j 0) (get_or tokens.now.vals.now j 0) }
+    ensures { result ≡ agree free (get_or tokens.now.kinds.now i 0) (get_or tokens.now.vals.now i 0)
+        (get_or tokens.now.kinds.now j 0) (get_or tokens.now.vals.now j 0) }
 {
     if tokens.kinds[i] != 0 {
         return tokens.kinds[j] != 0;
@@ -89,7 +90,8 @@ pub fn same_shape(tokens: &Tokens, a: usize, b: usize, access: Access) -> bool
 pub fn number_from(tokens: &Tokens, from: usize, end: usize) -> usize
     requires { (from ≤ end) × (end ≤ length tokens.now.kinds.now) }
     ensures place { result ≤ end }
-    ensures number { (ps : Parts) → HeldParts tokens.now.kinds.now tokens.now.vals.now from end ps → NumberAt tokens.now.kinds.now tokens.now.vals.now result end ps }
+    ensures number { (ps : Parts) → HeldParts tokens.now.kinds.now tokens.now.vals.now from end ps
+        → NumberAt tokens.now.kinds.now tokens.now.vals.now result end ps }
 {
     let mut i = from;
     while i < end {
@@ -204,7 +206,8 @@ pub fn push_range(
     count: usize,
 ) -> usize
     requires areas { (a < length tokens.now.kinds.now) × (b < length tokens.now.kinds.now) × (length tokens.now.kinds.now < 2 ^ 32) }
-    requires room { (w : Twins tokens.now.kinds.now tokens.now.vals.now a b) × (base + 2 * (count + length (window lo hi 0 (places (a + 1) w.left))) ≤ length tables.old) }
+    requires room { (w : Twins tokens.now.kinds.now tokens.now.vals.now a b)
+        × (base + 2 * (count + length (window lo hi 0 (places (a + 1) w.left))) ≤ length tables.old) }
     ensures { (k j : ℕ) (ps qs : Parts)
         → Held tokens.now.kinds.now tokens.now.vals.now a (node k ps)
         → Held tokens.now.kinds.now tokens.now.vals.now b (node j qs)
@@ -237,7 +240,8 @@ pub fn push_children(
     count: usize,
 ) -> usize
     requires areas { (a < length tokens.now.kinds.now) × (b < length tokens.now.kinds.now) × (length tokens.now.kinds.now < 2 ^ 32) }
-    requires room { (w : Twins tokens.now.kinds.now tokens.now.vals.now a b) × (base + 2 * (count + length (children (node w.tag w.left))) ≤ length tables.old) }
+    requires room { (w : Twins tokens.now.kinds.now tokens.now.vals.now a b)
+        × (base + 2 * (count + length (children (node w.tag w.left))) ≤ length tables.old) }
     ensures { (k j : ℕ) (ps qs : Parts)
         → Held tokens.now.kinds.now tokens.now.vals.now a (node k ps)
         → Held tokens.now.kinds.now tokens.now.vals.now b (node j qs)

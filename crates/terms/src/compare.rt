@@ -29,7 +29,8 @@ fn has_access(kind: u32) -> bool
 fn pair_step(tokens: &Tokens, i: usize, ae: usize, j: usize, be: usize) -> Option<(usize, usize)>
     requires { (i < ae) × (ae ≤ length tokens.now.kinds.now) × (j < be) × (be ≤ length tokens.now.kinds.now) }
     ensures forward { Forward i ae j be result }
-    ensures stepped { (whole : Bool) → Rows tokens.now.kinds.now tokens.now.vals.now i ae j be whole → Stepped tokens.now.kinds.now tokens.now.vals.now ae be whole result }
+    ensures stepped { (whole : Bool) → Rows tokens.now.kinds.now tokens.now.vals.now i ae j be whole
+        → Stepped tokens.now.kinds.now tokens.now.vals.now ae be whole result }
 {
     let k = word(tokens.kinds, i);
     let l = word(tokens.kinds, j);
@@ -53,7 +54,8 @@ fn pair_terms(tokens: &Tokens, i: usize, ae: usize, j: usize, be: usize) -> Opti
     requires { (i < ae) × (ae ≤ length tokens.now.kinds.now) × (j < be) × (be ≤ length tokens.now.kinds.now) × (0 < get_or tokens.now.kinds.now i 0)
         × (0 < get_or tokens.now.kinds.now j 0) }
     ensures forward { Forward i ae j be result }
-    ensures stepped { (whole : Bool) → Rows tokens.now.kinds.now tokens.now.vals.now i ae j be whole → Stepped tokens.now.kinds.now tokens.now.vals.now ae be whole result }
+    ensures stepped { (whole : Bool) → Rows tokens.now.kinds.now tokens.now.vals.now i ae j be whole
+        → Stepped tokens.now.kinds.now tokens.now.vals.now ae be whole result }
 {
     let k = word(tokens.kinds, i);
     let l = word(tokens.kinds, j);

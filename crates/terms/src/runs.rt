@@ -46,7 +46,8 @@ impl Token {
 pub fn skip(tokens: &Tokens, i: usize, room: usize) -> usize
     requires { (i < length tokens.now.kinds.now) × (1 ≤ room) }
     ensures some { (1 ≤ result) × (result ≤ room) }
-    ensures span { 1 ≤ span (get_or tokens.now.kinds.now i 0) (get_or tokens.now.vals.now i 0) → span (get_or tokens.now.kinds.now i 0) (get_or tokens.now.vals.now i 0) ≤ room
+    ensures span { 1 ≤ span (get_or tokens.now.kinds.now i 0) (get_or tokens.now.vals.now i 0)
+        → span (get_or tokens.now.kinds.now i 0) (get_or tokens.now.vals.now i 0) ≤ room
         → result ≡ span (get_or tokens.now.kinds.now i 0) (get_or tokens.now.vals.now i 0) }
     ensures is { result ≡ stride tokens.now.kinds.now tokens.now.vals.now i room }
 {

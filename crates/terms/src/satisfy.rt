@@ -185,7 +185,8 @@ fn is_reflexive(tokens: &Tokens, a: usize, receiver: usize, member: u32, t: usiz
 
 // Whether each of `count` required members from p on is given at x, or a reflexive projection for the nominal whose row stands at a.
 fn covered(tokens: &Tokens, a: usize, x: usize, p: usize, count: usize, receiver: usize) -> bool
-    requires { (a ≤ length tokens.now.kinds.now) × (x ≤ length tokens.now.kinds.now) × (p ≤ length tokens.now.kinds.now + 1) × (receiver < length tokens.now.kinds.now) }
+    requires { (a ≤ length tokens.now.kinds.now) × (x ≤ length tokens.now.kinds.now) × (p ≤ length tokens.now.kinds.now + 1)
+        × (receiver < length tokens.now.kinds.now) }
     ensures { (d : ℕ) (n : Nominal) (rest : Parts) (w : Term) (e : ℕ) (more : Parts) (whole : Bool)
         → Laid tokens.now.kinds.now tokens.now.vals.now a d n rest
         → Listed tokens.now.kinds.now tokens.now.vals.now x d n.members n.values rest
