@@ -1,4 +1,4 @@
-// An order answered on the session that the areas hold.
+// An order answered on the session that the areas hold. The four areas are lent as C hands them over: for a struct of `&mut` see `store.rt` of terms.
 ghost use Rattle.std.specs.Prelude.{◌≡◌, true, false, ◌||◌, List, ℕ, ◌≤◌, ◌<◌, eqb, ltb, length, get_or, MatchOption};
 ghost use Rattle.solver.specs.Session.{Session, issued};
 ghost use Rattle.solver.specs.Invariant.{InOrder};

@@ -111,6 +111,9 @@ pub fn key_at(seen: &Seen, h: u32, x: u32) -> Option<usize>
     None
 }
 
+// Heads and kids are two slices everywhere: the walk writes them between two looks, so a struct of both would be made for each call, and no contract ties their
+// lengths.
+//
 // The content of a child that is the i-th of its node, whose child word is c, and stands at q where it is as in the source.
 #[inline(always)]
 pub fn child_here(heads: &[u32], kids: &[u32], c: u32, q: usize, i: usize) -> Content
