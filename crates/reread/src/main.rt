@@ -226,6 +226,7 @@ fn run(s: &[u8], kinds: &mut [u32], vals: &mut [u32], out: &mut [u8]) -> usize
 {
     let mut at = 0;
     let mut to = 0;
+    // A step is as wide as what stands there, so no range is counted.
     while at < s.len() {
         let Some((from, end)) = part_at(s, at) else {
             return to;

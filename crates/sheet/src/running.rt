@@ -50,6 +50,7 @@ fn answer_orders(
     let mut at = 0;
     let mut to = 0;
     let mut orders: u64 = 0;
+    // A step is as wide as what stands there, so no range is counted.
     while at < s.len() {
         let Some((from, size)) = next_order(s, at) else {
             return closed(10, orders, to, x);

@@ -203,6 +203,7 @@ impl Solver {
         let mut count = put_pair(tables, base, 0, p, q);
         let mut left = k;
         let mut ok = true;
+        // It goes on until nothing is pending, and a step may add to that.
         while 0 < count {
             if left == 0 {
                 clear_pairs(tables, base, count);

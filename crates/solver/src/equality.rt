@@ -26,6 +26,7 @@ fn find(n: usize, work: &[u32], a: usize) -> usize
     ensures { (result < n) × (get_or (take n work.now) result 0 ≡ 0) × Up (take n work.now) a result }
 {
     let mut r = a;
+    // It goes up the links; how many there are is not known.
     while work[r] != 0 {
         r = work[r] as usize - 1;
     }
@@ -125,6 +126,7 @@ fn union_rows(
 {
     let mut i = a;
     let mut j = b;
+    // Both rows go on by the width of their own parts, so no range is counted.
     while i < ae {
         if be <= j {
             return false;
@@ -198,6 +200,7 @@ fn close_congruence(
 {
     let n = tokens.kinds.len();
     let mut done = 0;
+    // It goes on until nothing is pending, and a step may add to that.
     while done < *top {
         let x = work[n + done] as usize;
         let y = work[x] as usize - 1;

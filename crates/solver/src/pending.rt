@@ -72,6 +72,7 @@ pub fn same_shape(tokens: &Tokens, a: usize, b: usize, access: Access) -> bool
     let mut i = a + 1;
     let mut j = b + 1;
     let mut free = access_free(tokens.kinds[a], access);
+    // Both rows go on by the width of their own parts, so no range is counted.
     while i < ae {
         if be <= j {
             return false;
@@ -94,6 +95,7 @@ pub fn number_from(tokens: &Tokens, from: usize, end: usize) -> usize
         → NumberAt tokens.now.kinds.now tokens.now.vals.now result end ps }
 {
     let mut i = from;
+    // A step is as wide as what stands there, so no range is counted.
     while i < end {
         if tokens.kinds[i] == 0 {
             return i;
@@ -221,6 +223,7 @@ pub fn push_range(
         child: 0,
         top: count,
     };
+    // Both rows go on by the width of their own parts, so no range is counted.
     while i < ae {
         c = push_part(tables, base, c, tokens.kinds[i], i, j, lo, hi);
         i = part_end(tokens, i, ae);

@@ -112,6 +112,7 @@ pub fn reaches(tokens: &Tokens, bound: &[u32], p: usize, want: usize, work: &mut
     let mut top = 0;
     let mut hit = scan(tokens, named_run(tokens, p + 1), want, work, n, &mut top);
     let mut done = 0;
+    // It goes on until nothing is pending, and a step may add to that.
     while !hit && done < top {
         let w = work[n + done] as usize;
         let next = named_run(tokens, bound[w] as usize);

@@ -59,6 +59,7 @@ pub fn settle(tokens: &Tokens, bound: &[u32], most: usize, frames: &mut [u32], f
     ensures { Settled tokens.now.kinds.now tokens.now.vals.now bound.now most frames.old from frames.new result }
 {
     let mut c = from;
+    // It goes into bound variables and out of runs until a token stands for itself.
     loop {
         if c.at == c.end {
             if c.depth == 0 {
@@ -132,6 +133,7 @@ pub fn walked_len(
 {
     let mut c = begin(tokens, bound, most, frames, run);
     let mut n = 0;
+    // A step is as wide as what stands there, so no range is counted.
     while c.at < c.end {
         n += run_len(tokens.kinds, tokens.vals, c.at, 1);
         if limit < n {
@@ -163,6 +165,7 @@ pub fn write_walked(
 {
     let mut c = begin(tokens, bound, most, frames, run);
     let mut i = to;
+    // A step is as wide as what stands there, so no range is counted.
     while c.at < c.end {
         i = write_run(tokens.kinds, tokens.vals, c.at, 1, out, i);
         c = next(tokens, bound, most, frames, c);

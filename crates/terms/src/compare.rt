@@ -98,6 +98,7 @@ fn rows_conflict(tokens: &Tokens, a: usize, ae: usize, b: usize, be: usize) -> b
 {
     let mut i = a;
     let mut j = b;
+    // Both rows go on by the width of their own parts, so no range is counted.
     while i < ae {
         if be <= j {
             return true;

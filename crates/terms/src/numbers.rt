@@ -54,6 +54,7 @@ pub fn number_len(value: u64) -> usize
 {
     let mut v = value;
     let mut n: usize = 1;
+    // What is left is divided; how many groups there are is not known.
     while 128 <= v {
         v = v / 128;
         n = n + 1;
@@ -69,6 +70,7 @@ pub fn write_number(out: &mut [u8], at: usize, value: u64) -> usize
 {
     let mut v = value;
     let mut i = at;
+    // What is left is divided; how many groups there are is not known.
     while 128 <= v {
         out[i] = (v % 128 + 128) as u8;
         v = v / 128;

@@ -98,6 +98,7 @@ fn ask_row(
         → result ≡ whole }
 {
     let mut p = a;
+    // A step is as wide as what stands there where that is not entered, and 1 where it is.
     while p < e {
         let k = tokens.kinds[p];
         if k == 0 {

@@ -63,6 +63,7 @@ fn alike_rows(tokens: &Tokens, a: usize, ae: usize, b: usize, be: usize) -> bool
 {
     let mut i = a;
     let mut j = b;
+    // Both rows go on by the width of their own parts, so no range is counted.
     while paired(tokens.kinds, i, ae, j, be) {
         if word(tokens.kinds, i) == 0 {
             if word(tokens.vals, i) != word(tokens.vals, j) {
@@ -248,6 +249,7 @@ fn recover_row(
     let mut i = p;
     let mut j = q;
     let mut to = at;
+    // Both rows go on by the width of their own parts, so no range is counted.
     while paired(tokens.kinds, i, stop, j, qe) {
         if word(tokens.kinds, i) == 0 {
             to = put_run(tokens.kinds, tokens.vals, i, 1, out, to);

@@ -173,6 +173,7 @@ pub fn rewrite_run(
     let end = from + count;
     let mut i = at;
     let mut p = from;
+    // A step is as wide as what stands there, so no range is counted.
     while p < end {
         let c = replaced_at(tokens, s, b, p);
         i = emit(tokens, c, p, out, i, on);

@@ -70,6 +70,7 @@ pub fn next_rule(rules: &[u32], from: usize, member: u32) -> usize
 {
     let count = rules.len() / 6;
     let mut r = from;
+    // Four rules are looked at at a time, and it stops in the middle of them.
     while r < count {
         let n = passed_from(rules, r, member);
         r += n;

@@ -196,6 +196,7 @@ fn covered(tokens: &Tokens, a: usize, x: usize, p: usize, count: usize, receiver
 {
     let mut i = p;
     let mut left = count;
+    // Those that are given are passed several at a time, so no range is counted.
     while left > 0 {
         let g = lacking(tokens, x, i, left);
         match g {
