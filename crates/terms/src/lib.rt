@@ -95,6 +95,27 @@ pub enum Question {
     IsResolvedIn,
 }
 
+// The question with this number, and the last one for any higher number.
+impl From<u32> for Question {
+    ghost use Rattle.std.specs.Prelude.{◌≡◌, min};
+    ghost use Rattle.terms.specs.Questions.{number_of_question};
+
+    ghost from_gives = { λ number question. number_of_question question ≡ min number 7 };
+
+    fn from(number: u32) -> Question {
+        match number {
+            0 => Question::IsNever,
+            1 => Question::IsInteger,
+            2 => Question::IsConcrete,
+            3 => Question::IsUnresolved,
+            4 => Question::ContainsUnknown,
+            5 => Question::ContainsSelfType,
+            6 => Question::ContainsProjection,
+            _ => Question::IsResolvedIn,
+        }
+    }
+}
+
 // Where reading stands: the position in the bytes, the number of the next token, and how many nodes were read. While these are at most
 // `limit`, tokens are stored; past it reading goes on without.
 #[derive(Clone, Copy)]

@@ -4,7 +4,7 @@ ghost use Rattle.std.specs.Prelude.{◌<◌};
 ghost use Rattle.terms.specs.Words.Arena.{TagAt, OwnAt, RecordRoom, Opens, Prepares};
 
 use super::questions::tag_of;
-use super::rows::{child_here, number_at, row_of, walk_row};
+use super::rows::{child_here, number_at, walk_row};
 use super::virtual_tokens::token_at;
 use super::write::token_len;
 use super::{Begun, Content, Origin, Seen};
@@ -29,15 +29,9 @@ fn put_children(
     ensures { Opens (shown seen.now) heads.old kids.old heads.new kids.new x.head x.kids
         next most result }
 {
-    let part = row_of(seen, x.head);
-    let end = part.end;
-    let mut q = part.from;
     let mut n = 0;
-    while q < end {
-        let y = token_at(seen, q);
-        if y.kind == 0 {
-            q += 1;
-        } else {
+    for (q, y) in walk_row(seen, x.head) {
+        if y.kind != 0 {
             if most <= next + n {
                 return None;
             }
@@ -45,7 +39,6 @@ fn put_children(
             heads[next + n] = z.head;
             kids[next + n] = z.kids;
             n += 1;
-            q += y.step();
         }
     }
     Some(n)
