@@ -8,7 +8,7 @@ ghost use Rattle.solver.specs.Invariant.{InOrder};
 ghost use Rattle.solver.specs.Orders as orders;
 ghost use Rattle.solver.specs.Words.Worklist.{Zero};
 ghost use Rattle.solver.specs.Words.SessionRepresentation.{HeldRequest, Represents, limits_of};
-ghost use Rattle.solver.specs.Words.MethodContract.{Beside};
+ghost use Rattle.solver.specs.Words.MethodContract.{Beside, defaults_by};
 ghost use Rattle.solver.specs.Words.OrderTerms.{Asked, Frames, resolved_to};
 ghost use Rattle.sheet.specs.OrderTable.{outcome, between, asking};
 ghost use Rattle.sheet.specs.Operations.{bit};
@@ -16,7 +16,7 @@ ghost use Rattle.sheet.specs.Sheet.{solve};
 ghost use Rattle.sheet.specs.Words.FieldLayout.{spot_bound};
 ghost use Rattle.sheet.specs.Words.OperationsContract.{plain_orders, Asks};
 ghost use Rattle.sheet.specs.Words.FramingContract.{OutputRoom, output_at, Framed};
-ghost use Rattle.sheet.specs.Words.SessionOrdersContract.{lent, Does, Says, defaults_by, variable_command, site_of, RequestTold};
+ghost use Rattle.sheet.specs.Words.SessionOrdersContract.{lent, Does, Says, variable_command, site_of, RequestTold};
 ghost use Rattle.sheet.specs.Words.SessionOrdersContract.{variable_answer, termless_command, TermlessTold};
 
 use super::framing::{begin_answer, write_byte_answer, write_number_answer, write_refusal};
@@ -45,19 +45,6 @@ fn revision_order(x: Solver, out: &mut [u8], to: usize) -> AfterOrder
     AfterOrder { solver: x, next }
 }
 
-// The numeric defaults, or those of the variables that are deferred.
-fn with_defaults(x: Solver, which: Defaulted, tokens: &Tokens, tables: &mut [u32]) -> Solver
-    requires { (z : Session) × InOrder (issued z) z.solver × Represents x tokens.now.kinds.now tokens.now.vals.now tables.old z }
-    ensures held { (z : Session) → InOrder (issued z) z.solver → Represents x tokens.now.kinds.now tokens.now.vals.now tables.old z
-        → Represents result tokens.now.kinds.now tokens.now.vals.now tables.new (solve (limits_of x) z (defaults_by which)).session }
-    ensures beside { Beside x result tables.old tables.new }
-{
-    match which {
-        Defaulted::Requested => x.apply_numeric_defaults(tokens, tables),
-        Defaulted::Deferred => x.apply_never_defaults(tokens, tables),
-    }
-}
-
 // Orders 6 and 7.
 fn default_order(
     x: Solver,
@@ -78,7 +65,7 @@ fn default_order(
         return AfterOrder { solver: x, next };
     }
     let old = x.revision();
-    let y = with_defaults(x, which, tokens, tables);
+    let y = x.apply_defaults(tokens, tables, which);
     let a = changed_byte(old, y.revision());
     let next = write_byte_answer(out, to, a);
     AfterOrder { solver: y, next }

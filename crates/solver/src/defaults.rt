@@ -4,12 +4,12 @@ ghost use Rattle.std.proofs.Math.Option.{Option};
 ghost use Rattle.terms.specs.Term.{Term, var};
 ghost use Rattle.solver.specs.Families.{Family, admits, Request, preference, first_of, taken};
 ghost use Rattle.solver.specs.Constrain.{follow, resolved};
-ghost use Rattle.solver.specs.Session.{Session, issued, with_solver, deferring};
+ghost use Rattle.solver.specs.Session.{Session, with_solver, deferring};
 ghost use Rattle.solver.specs.Orders as orders;
 ghost use Rattle.solver.specs.Words.Bindings.{HeldBindings};
 ghost use Rattle.solver.specs.Words.SessionRepresentation.{limits_of, bit, RequestWord, request_in, HeldRequest, Represents};
 ghost use Rattle.solver.specs.Words.OrderTerms.{Poses};
-ghost use Rattle.solver.specs.Words.MethodContract.{Shaped, Beside, Low, EndsAt, default_word, end_word, end_mask, default_at, defaulted};
+ghost use Rattle.solver.specs.Words.MethodContract.{Shaped, Beside, Low, EndsAt, default_word, end_word, end_mask, default_at, defaults_by};
 
 use super::families::{family_mask, has};
 use super::resolving::named_run;
@@ -185,50 +185,20 @@ impl Solver {
         self
     }
 
-    // Each issued variable, by rising id, takes its default: by its request or by its deferral.
-    fn apply_defaults(mut self, tokens: &Tokens, tables: &mut [u32], which: Defaulted) -> Solver
+    // Orders 6 and 7: each issued variable, by rising id, takes its default: by its request, or by its deferral, which is Never.
+    pub fn apply_defaults(mut self, tokens: &Tokens, tables: &mut [u32], which: Defaulted) -> Solver
         requires shape { Shaped self (length tables.old) }
         requires areas { self.revision < 2 ^ 32 }
         ensures held { (s : Session)
             → Represents self tokens.now.kinds.now tokens.now.vals.now tables.old s
             → Low self.variables s.solver.bindings
-            → Represents result tokens.now.kinds.now tokens.now.vals.now tables.new (with_solver s (defaulted which (issued s) s)) }
+            → Represents result tokens.now.kinds.now tokens.now.vals.now tables.new (orders.order (limits_of self) s (defaults_by which)).session }
         ensures beside { Beside self result tables.old tables.new }
     {
         let n = self.issued;
         for v in 0..n {
             self = self.bind_default(tokens, tables, v, which);
         }
-        self
-    }
-
-    // Order 6: each number variable takes its default.
-    pub fn apply_numeric_defaults(mut self, tokens: &Tokens, tables: &mut [u32]) -> Solver
-        requires shape { Shaped self (length tables.old) }
-        requires areas { (self.revision < 2 ^ 32)
-            × ((s : Session) × Represents self tokens.now.kinds.now tokens.now.vals.now tables.old s × Low self.variables s.solver.bindings) }
-        ensures held { (s : Session)
-            → Represents self tokens.now.kinds.now tokens.now.vals.now tables.old s
-            → Low self.variables s.solver.bindings
-            → Represents result tokens.now.kinds.now tokens.now.vals.now tables.new (orders.order (limits_of self) s orders.numbers).session }
-        ensures beside { Beside self result tables.old tables.new }
-    {
-        self = self.apply_defaults(tokens, tables, Defaulted::Requested);
-        self
-    }
-
-    // Order 7: each variable that is deferred takes Never.
-    pub fn apply_never_defaults(mut self, tokens: &Tokens, tables: &mut [u32]) -> Solver
-        requires shape { Shaped self (length tables.old) }
-        requires areas { (self.revision < 2 ^ 32)
-            × ((s : Session) × Represents self tokens.now.kinds.now tokens.now.vals.now tables.old s × Low self.variables s.solver.bindings) }
-        ensures held { (s : Session)
-            → Represents self tokens.now.kinds.now tokens.now.vals.now tables.old s
-            → Low self.variables s.solver.bindings
-            → Represents result tokens.now.kinds.now tokens.now.vals.now tables.new (orders.order (limits_of self) s orders.nevers).session }
-        ensures beside { Beside self result tables.old tables.new }
-    {
-        self = self.apply_defaults(tokens, tables, Defaulted::Deferred);
         self
     }
 }

@@ -3,21 +3,32 @@
 ghost use Rattle.std.specs.Prelude.{Some, ◌≡◌, true, false, List, ℕ, ◌+◌, ◌*◌, ◌^◌, ◌≤◌, ◌<◌, length, get_or};
 ghost use Rattle.solver.specs.Session.{VariablePlace, at, gap, Session, find};
 ghost use Rattle.solver.specs.Orders as orders;
-ghost use Rattle.solver.specs.Words.SessionRepresentation.{limits_of, place_words, site_words, slot_words, RequestWord, request_in, HeldPlace, HeldPlaces, Represents};
+ghost use Rattle.solver.specs.Words.SessionRepresentation.{limits_of, place_words, site_words, slot_words, RequestWord, request_in, HeldPlaces, Represents};
 ghost use Rattle.solver.specs.Words.MethodContract.{matches, last_match, found, Shaped, Beside, placed, named_of, named_below, Issued, Replied, reply_of};
 ghost use Rattle.solver.specs.Words.MethodContract.{resolved_reply};
-ghost use Rattle.solver.specs.Words.OrderTerms.{place_of};
+ghost use Rattle.solver.specs.Words.OrderTerms.{place_of, kind_word, site_word, slot_word};
 
 use super::{Issue, Site, Solver};
 
-// Whether a variable's words are those asked for: a hole has no slot.
-pub fn is_place(kind: u32, site: u32, slot: u32, k: u32, s: u32, i: u32) -> bool
-    ensures { result ≡ matches kind site slot k s i }
+// The words that are written for a place.
+fn words_of(site: Site) -> (u32, u32, u32)
+    ensures { (result.0 ≡ kind_word site) × (result.1 ≡ site_word site) × (result.2 ≡ slot_word site) }
 {
+    match site {
+        Site::Slot(s, i) => (1, s, i),
+        Site::Hole(s) => (2, s, 0),
+    }
+}
+
+// Whether a variable's words are those of the place: a hole has no slot.
+pub fn is_place(site: Site, k: u32, s: u32, i: u32) -> bool
+    ensures { result ≡ matches (kind_word site) (site_word site) (slot_word site) k s i }
+{
+    let (kind, of, slot) = words_of(site);
     if k != kind {
         return false;
     }
-    if s != site {
+    if s != of {
         return false;
     }
     if kind == 2 {
@@ -41,24 +52,25 @@ fn has_word(words: &[u32], from: usize, count: usize, x: u32) -> bool
     found
 }
 
-// The last variable whose words are those asked for, or issued. Where no variable has the site there is none.
-pub fn find_place(tables: &[u32], m: usize, issued: usize, kind: u32, site: u32, slot: u32) -> usize
+// The last variable whose words are those of the place, or issued. Where no variable has the site there is none.
+pub fn find_place(tables: &[u32], m: usize, issued: usize, site: Site) -> usize
     requires { (issued ≤ m) × (7 * m ≤ length tables.now) }
-    ensures word { result ≡ last_match kind site slot (place_words m tables.now) (site_words m tables.now) (slot_words m tables.now) issued issued }
-    ensures place { (p : VariablePlace) (ps : List VariablePlace)
-        → HeldPlace p kind site slot
+    ensures word { result ≡ last_match (kind_word site) (site_word site) (slot_word site) (place_words m tables.now)
+        (site_words m tables.now) (slot_words m tables.now) issued issued }
+    ensures place { (ps : List VariablePlace)
         → length ps ≡ issued
         → HeldPlaces (place_words m tables.now) (site_words m tables.now) (slot_words m tables.now) ps
-        → result ≡ found issued (find p ps) }
+        → result ≡ found issued (find (place_of site) ps) }
 {
-    if !has_word(tables, 3 * m, issued, site) {
+    let words = words_of(site);
+    if !has_word(tables, 3 * m, issued, words.1) {
         return issued;
     }
     for v in (0..issued).rev() {
         let k = tables[2 * m + v];
         let s = tables[3 * m + v];
         let i = tables[4 * m + v];
-        if is_place(kind, site, slot, k, s, i) {
+        if is_place(site, k, s, i) {
             return v;
         }
     }
@@ -85,26 +97,22 @@ impl Solver {
         ensures low { (v : ℕ) → result ≡ Some v → v < self.variables }
     {
         let m = self.variables;
-        let n = self.issued;
-        match site {
-            Site::Slot(s, i) => named_below(find_place(tables, m, n, 1, s, i), m),
-            Site::Hole(s) => named_below(find_place(tables, m, n, 2, s, 0), m),
-        }
+        let v = find_place(tables, m, self.issued, site);
+        named_below(v, m)
     }
 
     // The variable of a place: the one that it has, or a new one.
-    pub fn issue(mut self, tables: &mut [u32], kind: u32, site: u32, slot: u32) -> Issue
+    pub fn issue(mut self, tables: &mut [u32], site: Site) -> Issue
         requires { Shaped self (length tables.old) }
-        ensures held { (ks vs : List ℕ) (s : Session) (p : VariablePlace)
-            → HeldPlace p kind site slot
+        ensures held { (ks vs : List ℕ) (s : Session)
             → Represents self ks vs tables.old s
-            → Issued result.solver ks vs tables.new p (placed (limits_of self) s p) result.answer }
+            → Issued result.solver ks vs tables.new (place_of site) (placed (limits_of self) s (place_of site)) result.answer }
         ensures low { (v : ℕ) → result.answer ≡ Some v → v < self.variables }
         ensures beside { Beside self result.solver tables.old tables.new }
     {
         let m = self.variables;
         let issued = self.issued;
-        let v = find_place(tables, m, issued, kind, site, slot);
+        let v = find_place(tables, m, issued, site);
         if v < issued {
             return Issue {
                 solver: self,
@@ -117,8 +125,9 @@ impl Solver {
                 answer: None,
             };
         }
+        let (kind, of, slot) = words_of(site);
         tables[2 * m + issued] = kind;
-        tables[3 * m + issued] = site;
+        tables[3 * m + issued] = of;
         tables[4 * m + issued] = slot;
         self.issued = issued + 1;
         Issue {
@@ -135,7 +144,7 @@ impl Solver {
             → Replied result.solver ks vs tables.new (at site slot) (orders.order (limits_of self) s (orders.variable site slot)) reply_of result.answer }
         ensures beside { Beside self result.solver tables.old tables.new }
     {
-        self.issue(tables, 1, site, slot)
+        self.issue(tables, Site::Slot(site, slot))
     }
 
     // Orders 1 and 21: the number variable of a site, with the request of this word from now on.
@@ -148,7 +157,7 @@ impl Solver {
         ensures beside { Beside self result.solver tables.old tables.new }
     {
         let m = self.variables;
-        let c = self.issue(tables, 1, site, 1);
+        let c = self.issue(tables, Site::Slot(site, 1));
         if let Some(v) = c.answer {
             let at = m + v as usize;
             tables[at] = request;
@@ -165,6 +174,6 @@ impl Solver {
             (resolved_reply (orders.order (limits_of self) s (orders.hole site)).session.solver) result.answer }
         ensures beside { Beside self result.solver tables.old tables.new }
     {
-        self.issue(tables, 2, site, 0)
+        self.issue(tables, Site::Hole(site))
     }
 }

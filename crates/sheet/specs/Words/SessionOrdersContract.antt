@@ -7,17 +7,15 @@ use Rattle.solver.specs.declared.Site.TheVariants as place
 use Rattle.sheet.specs.declared.VariableOrder.{VariableOrder}
 use Rattle.sheet.specs.declared.VariableOrder.TheVariants.{Slot, Number, Hole}
 use Rattle.sheet.specs.declared.TermlessOrder.{TermlessOrder}
-use Rattle.solver.specs.declared.Defaulted.{Defaulted}
-use Rattle.solver.specs.declared.Defaulted.TheVariants.{Requested, Deferred}
 use Rattle.sheet.specs.declared.TermlessOrder.TheVariants.{Variable, Defaults, Revision, NoType}
 use Rattle.solver.specs.Terms.Term.{Term, var}
 use Rattle.solver.specs.Constrain.{resolved}
 use Rattle.solver.specs.Session.{Session}
-use Rattle.solver.specs.Orders.{Command, variable, number, hole, numbers, nevers, revision, unread}
+use Rattle.solver.specs.Orders.{Command, variable, number, hole, revision, unread}
 use Rattle.solver.specs.Words.SessionRepresentation.{RequestWord, request_in, Represents}
 use Rattle.solver.specs.Words.ConstrainContract.{pending_from}
 use Rattle.solver.specs.Words.Worklist.{Zero}
-use Rattle.solver.specs.Words.MethodContract.{Beside}
+use Rattle.solver.specs.Words.MethodContract.{Beside, defaults_by}
 use Rattle.sheet.specs.declared.Order.{Order}
 use Rattle.sheet.specs.Fields.{Field}
 use Rattle.sheet.specs.OrderTable.{Row, row_in, command_of}
@@ -70,11 +68,6 @@ abbrev pub variable_answer : Session → VariableOrder → ℕ → Term
 variable_answer z (Slot s i) v = var v
 variable_answer z (Number s w) v = resolved z.solver (var v)
 variable_answer z (Hole s) v = resolved z.solver (var v)
-
--- orders 6 and 7, by whose defaults are taken
-abbrev pub defaults_by : Defaulted → Command
-defaults_by Requested = numbers
-defaults_by Deferred = nevers
 
 -- orders 0, 1, 2, 6, 7, 8 and 21
 abbrev pub termless_command : TermlessOrder → Command

@@ -15,7 +15,7 @@ use Rattle.unify.specs.Solver.{put}
 use Rattle.solver.specs.Families.{Numeric, I8, I16, I32, I64, U8, U16, U32, U64}
 use Rattle.solver.specs.Constrain.{resolved, Requests}
 use Rattle.solver.specs.Session.{Limits, VariablePlace, Session, issued, find, issue_at, numeric_at, never_at, numeric_defaults_of, never_defaults_of}
-use Rattle.solver.specs.Orders.{Reply, term, refused, Step, full}
+use Rattle.solver.specs.Orders.{Command, numbers, nevers, Reply, term, refused, Step, full}
 use Rattle.solver.specs.Words.SessionRepresentation.{flag, Represents}
 
 -- ---- the words
@@ -183,3 +183,8 @@ default_at Requested s v = numeric_at s.solver v (s.solver.requests v)
 unfoldable pub defaulted : Defaulted → ℕ → Session → solving.Solver
 defaulted Deferred n s = never_defaults_of s.deferred n 0 s.solver
 defaulted Requested n s = numeric_defaults_of n 0 s.solver
+
+-- orders 6 and 7, by whose defaults are taken
+abbrev pub defaults_by : Defaulted → Command
+defaults_by Requested = numbers
+defaults_by Deferred = nevers

@@ -48,6 +48,19 @@ abbrev pub place_of : Site → VariablePlace
 place_of (Slot s i) = at s i
 place_of (Hole s) = gap s
 
+-- its words in the table: what it is of, its site, and its slot
+abbrev pub kind_word : Site → ℕ
+kind_word (Slot s i) = 1
+kind_word (Hole s) = 2
+
+abbrev pub site_word : Site → ℕ
+site_word (Slot s i) = s
+site_word (Hole s) = s
+
+abbrev pub slot_word : Site → ℕ
+slot_word (Slot s i) = i
+slot_word (Hole s) = 0
+
 -- ---- what is resolved
 
 -- order 5: the term that follows; orders 1, 2 and 21: a variable

@@ -25,7 +25,7 @@ use Rattle.solver.specs.Orders as orders
 use Rattle.solver.specs.Orders.{order, variable_step, number_at, hole_at, full, refused, ◌gives◌}
 use Rattle.solver.specs.Invariant.{InOrder}
 use Rattle.solver.specs.Words.SessionRepresentation.{request_in, Represents, limits_of}
-use Rattle.solver.specs.Words.MethodContract.{Beside, found, placed, named_of}
+use Rattle.solver.specs.Words.MethodContract.{Beside, defaults_by, found, placed, named_of}
 use Rattle.solver.specs.Words.OrderTerms.{place_of}
 use Rattle.solver.proofs.Laws.Definition.SolverInvariantLaws.{ordered_revision}
 use Rattle.solver.proofs.Laws.Definition.InOrderLaws.{in_order_ordered}
@@ -34,7 +34,7 @@ use Rattle.sheet.specs.OrderTable.{Answer, refusal, outcome}
 use Rattle.sheet.specs.Operations.{bit}
 use Rattle.sheet.specs.Sheet.{Step, solve, answer_of, framed}
 use Rattle.sheet.specs.Words.FramingContract.{output_at, Framed, opening}
-use Rattle.sheet.specs.Words.SessionOrdersContract.{lent, Does, variable_command, site_of, variable_answer, defaults_by, termless_command}
+use Rattle.sheet.specs.Words.SessionOrdersContract.{lent, Does, variable_command, site_of, variable_answer, termless_command}
 use Rattle.sheet.proofs.Laws.Answering.FramingLaws.{one_frame, frame_over, value_frame}
 
 -- ---- done, or not

@@ -2,8 +2,9 @@
 use native.Mathlib.Omega.{arith}
 use Rattle.solver.specs.Words.SessionRepresentation.{limits_of}
 use Rattle.sheet.specs.Sheet.{solve}
-use Rattle.sheet.specs.Words.SessionOrdersContract.{defaults_by}
-use Rattle.sheet.proofs.Laws.Answering.SessionOrderLaws.{defaults_tell, defaults_not, defaults_done}
+use Rattle.solver.specs.Words.MethodContract.{defaults_by}
+use Rattle.solver.proofs.Laws.Table.ChainLaws.{in_order_low}
+use Rattle.sheet.proofs.Laws.Answering.SessionOrderLaws.{lent_revision, defaults_tell, defaults_not, defaults_done}
 use Rattle.sheet.proofs.plain_orders.default_order.Goals as goal
 
 pub returns-then-out-to-lt3 : goal.returns-then-out-to-lt3
@@ -11,8 +12,13 @@ returns-then-out-to-lt3 c =
     let a = c.args in
     λ z A L. defaults_not L (solve (limits_of a.x) z (defaults_by a.which)) (defaults_tell a.which (limits_of a.x) z) a.out.now a.to c.requires.room.inside (omega (arith, c.if-out-to-lt3.true))
 
+pub apply_defaults-y-requires-clause-areas : goal.apply_defaults-y-requires-clause-areas
+apply_defaults-y-requires-clause-areas c =
+    let p = c.requires.held in
+    omega (arith, lent_revision _ _ _ _ _ p.1 p.2, p.2.narrow)
+
 pub returns : goal.returns
 returns c =
     let a = c.args in
-    let e = c.with_defaults-y.ensures in
-    λ z A L. defaults_done L (solve (limits_of a.x) z (defaults_by a.which)) (defaults_tell a.which (limits_of a.x) z) a.out.now a.to c.requires.room.inside _ _ _ _ _ (omega (arith, c.if-out-to-lt3.false)) (e.held z A L) e.beside (rw (c.revision-old.ensures.count, c.revision.ensures.count) at c.changed_byte-a.ensures) c.write_byte_answer-next.ensures
+    let e = c.apply_defaults-y.ensures in
+    λ z A L. defaults_done L (solve (limits_of a.x) z (defaults_by a.which)) (defaults_tell a.which (limits_of a.x) z) a.out.now a.to c.requires.room.inside _ _ _ _ _ (omega (arith, c.if-out-to-lt3.false)) (e.held z L (in_order_low _ _ _ _ z A L)) e.beside (rw (c.revision-old.ensures.count, c.revision.ensures.count) at c.changed_byte-a.ensures) c.write_byte_answer-next.ensures

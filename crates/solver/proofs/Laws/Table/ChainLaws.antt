@@ -19,13 +19,14 @@ use Rattle.solver.specs.declared.Defaulted.TheVariants.{Requested, Deferred}
 use Rattle.solver.specs.Families.{Request, ranged_at, taken, default_of}
 use Rattle.solver.specs.Constrain as solving
 use Rattle.solver.specs.Constrain.{replace_row, followed, resolve, follow, resolved, top}
-use Rattle.solver.specs.Session.{Session, issued, with_solver, deferring, settle_at, numeric_at, never_at, numeric_defaults_of, never_defaults_of}
+use Rattle.solver.specs.Orders.{order}
+use Rattle.solver.specs.Session.{Limits, Session, issued, with_solver, deferring, settle_at, numeric_at, never_at, numeric_defaults_of, never_defaults_of}
 use Rattle.solver.specs.Invariant.{InOrder}
 use Rattle.solver.specs.Words.Bindings.{HeldBinding, HeldBindings}
 use Rattle.solver.specs.Words.ReachContract.{Steady, Topped}
 use Rattle.solver.specs.Words.ResolveWalk.{run_len, Named}
-use Rattle.solver.specs.Words.SessionRepresentation.{RequestWord, request_in, HeldRequest, flag, Represents}
-use Rattle.solver.specs.Words.MethodContract.{Beside, at_most, Low, EndsAt, never_word, default_word, end_word, default_at, defaulted}
+use Rattle.solver.specs.Words.SessionRepresentation.{limits_of, RequestWord, request_in, HeldRequest, flag, Represents}
+use Rattle.solver.specs.Words.MethodContract.{Beside, at_most, Low, EndsAt, never_word, default_word, end_word, default_at, defaulted, defaults_by}
 use Rattle.solver.specs.Words.ConstrainContract.{Within}
 use Rattle.solver.proofs.Laws.Resolving.FrameLaws.{run_none}
 use Rattle.solver.proofs.Laws.Resolving.ResolvedLaws.{run_held}
@@ -300,10 +301,18 @@ module _ (which : Defaulted) (x₀ : Solver) (ks vs ts₀ : List ℕ) where
           most = omega arith;
         }
 
+  -- what the order leaves
+  by_order : (b : Defaulted) (lim : Limits) (s : Session) → with_solver s (defaulted b (issued s) s) ≡ (order lim s (defaults_by b)).session
+  unfolding order defaulted
+  by_order Requested lim s = refl
+  by_order Deferred lim s = refl
+
   -- every variable has its default
   pub applied_end : (n : ℕ) (x : Solver) (ts : List ℕ) → Applied which x₀ ks vs ts₀ n x ts → n ≡ x₀.issued → (s : Session) → Represents x₀ ks vs ts₀ s → Low x₀.variables s.solver.bindings
-      → Represents x ks vs ts (with_solver s (defaulted which (issued s) s))
-  applied_end n x ts A e s L low = subst (λ (k : ℕ). Represents x ks vs ts (with_solver s (defaulted which k s))) (e ∙ L.issued) (A.held s L low)
+      → Represents x ks vs ts (order (limits_of x₀) s (defaults_by which)).session
+  applied_end n x ts A e s L low =
+      subst (Represents x ks vs ts) (by_order which (limits_of x₀) s)
+      (subst (λ (k : ℕ). Represents x ks vs ts (with_solver s (defaulted which k s))) (e ∙ L.issued) (A.held s L low))
 
 -- ---- a term's top decides whether it resolves to a variable
 

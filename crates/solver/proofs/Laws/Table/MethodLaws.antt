@@ -20,6 +20,7 @@ use Rattle.solver.specs.declared.Defaulted.TheVariants.{Requested, Deferred}
 use Rattle.std.specs.Prelude.{Some, None}
 use Rattle.std.specs.declared.option.Option as rust
 use Rattle.solver.specs.declared.Site.{Site}
+use Rattle.solver.specs.declared.Site.TheVariants.{Slot, Hole}
 use Rattle.solver.specs.Families.{Request}
 use Rattle.solver.specs.Session.{Limits, VariablePlace, at, gap, same_place, Session, issued, find, with_solver, issue_at, request, deferring}
 use Rattle.solver.specs.Orders.{full, variable_step, number_at, hole_at}
@@ -28,7 +29,7 @@ use Rattle.solver.specs.Words.Bindings.{HeldBindings}
 use Rattle.solver.specs.Words.Worklist.{Zero}
 use Rattle.solver.specs.Words.SessionRepresentation.{limits_of, binding_words, request_words, place_words, site_words, slot_words, deferral_words, HeldRequest, HeldPlace, HeldPlaces, Unplaced, flag, free_words, Represents}
 use Rattle.solver.specs.Words.MethodContract.{Shaped, Beside, matches, last_match, found, placing, placed, named_of, named_below, Issued, Replied, reply_of, resolved_reply, joined_word, Handed, never_word, default_word, end_word}
-use Rattle.solver.specs.Words.OrderTerms.{place_of}
+use Rattle.solver.specs.Words.OrderTerms.{place_of, kind_word, site_word, slot_word}
 use Rattle.solver.proofs.Laws.Definition.InOrderLaws.{find_issued}
 use Rattle.solver.proofs.Laws.Resolving.BindingLaws.{bind_held}
 use Rattle.solver.proofs.Laws.Table.ColumnLaws.{column_read, column_past, column_length, column_write, column_before, column_behind}
@@ -116,6 +117,11 @@ matches_same (gap a) (gap c) kind site slot k s i h g = rw (h.0, g.0, h.1, g.1) 
     and-true true = refl
     and-true false = refl
 
+-- the words of a place hold it
+pub place_held : (w : Site) (k s i : ℕ) → k ≡ kind_word w → s ≡ site_word w → i ≡ slot_word w → HeldPlace (place_of w) k s i
+place_held (Slot a b) k s i e f g = (e, f, g)
+place_held (Hole a) k s i e f g = (e, f, g)
+
 -- by tests
 module _ (kind site slot k s i : ℕ) where
   pub match_kind : (k ≡ kind → ⊥) → false ≡ matches kind site slot k s i
@@ -145,6 +151,11 @@ module _ (kind site slot k s i : ℕ) where
       go : Dec (i ≡ slot) → eqb i slot ≡ eqb slot i
       go (yes h) = eq-eqb i slot h ∙ sym (eq-eqb slot i (sym h))
       go (no h) = ne_eqb i slot h ∙ sym (ne_eqb slot i (λ x. h (sym x)))
+
+  -- the words asked for are those of a place
+  pub match_place : (w : Site) → kind ≡ kind_word w → site ≡ site_word w → slot ≡ slot_word w → matches kind site slot k s i ≡ matches (kind_word w) (site_word w) (slot_word w) k s i
+  match_place w e f g =
+      ap (λ (x : ℕ). matches x site slot k s i) e ∙ ap (λ (x : ℕ). matches (kind_word w) x slot k s i) f ∙ ap (λ (x : ℕ). matches (kind_word w) (site_word w) x k s i) g
 
 -- one variable more was looked at
 module _ (kind site slot : ℕ) (ks ss is : List ℕ) (d n : ℕ) where
@@ -211,6 +222,9 @@ module _ (kind site slot m : ℕ) (ts : List ℕ) (d : ℕ) where
   pub search_answer : (r : ℕ) → r ≡ Last d → (p : VariablePlace) (ps : List VariablePlace) → HeldPlace p kind site slot → length ps ≡ d
       → HeldPlaces (place_words m ts) (site_words m ts) (slot_words m ts) ps → r ≡ found d (find p ps)
   search_answer r e p ps h l g = e ∙ ap Last (sym l) ∙ match_found p kind site slot h (place_words m ts) (site_words m ts) (slot_words m ts) d ps g
+
+abbrev pub LastOf : Site → ℕ → List ℕ → ℕ → ℕ → ℕ
+LastOf w m ts d n = Last (kind_word w) (site_word w) (slot_word w) m ts d n
 
 -- the words of a variable that is not issued are written
 pub places_other : (ks ss is : List ℕ) (j a b c : ℕ) (ps : List VariablePlace) → length ps ≤ j → HeldPlaces ks ss is ps → HeldPlaces (set ks j a) (set ss j b) (set is j c) ps
@@ -420,9 +434,6 @@ module _ (x : Solver) (ks vs ts : List ℕ) (s : Session) (L : Represents x ks v
       go (some w) q f b g = rw (lt-ltb v x.variables (omega (arith, find_issued p s.places w q, L.issued, L.fits.variables))) (ap Some f)
       go none q f true g = rw (le-ltb v x.variables (omega (arith, leb-true x.variables (length s.places) g, L.issued))) refl
       go none q f false g = rw (lt-ltb v x.variables (omega (arith, leb-false x.variables (length s.places) g, L.issued))) (ap Some (f ∙ L.issued))
-
-  pub site_below : (site : Site) → place_of site ≡ p → named_below v x.variables ≡ named_of (placed (limits_of x) s (place_of site)).variable
-  site_below site f = subst (λ (q : VariablePlace). named_below v x.variables ≡ named_of (placed (limits_of x) s q).variable) (sym f) placed_below
 
   pub issued_found : v < x.issued → Issued x ks vs ts p (placed (limits_of x) s p) (Some v)
   unfolding placing

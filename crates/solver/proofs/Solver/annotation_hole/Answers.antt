@@ -1,5 +1,4 @@
 -- `Solver::annotation_hole`.
-use mathlib.Core.Path.{refl}
 use Rattle.solver.specs.Session.{gap}
 use Rattle.solver.specs.Orders.{order}
 use Rattle.solver.specs.Words.SessionRepresentation.{limits_of}
@@ -11,4 +10,4 @@ unfolding order
 returns-clause-held c =
     let a = c.args in
     let i = c.issue.ensures in
-    λ ks vs s L. hole_replied _ ks vs _ (limits_of a.self) s (gap a.site) _ (i.held ks vs s (gap a.site) (refl, refl, refl) L)
+    λ ks vs s L. hole_replied _ ks vs _ (limits_of a.self) s (gap a.site) _ (i.held ks vs s L)

@@ -1,5 +1,4 @@
 -- `Solver::variable`.
-use mathlib.Core.Path.{refl}
 use Rattle.solver.specs.Session.{at}
 use Rattle.solver.specs.Orders.{order}
 use Rattle.solver.specs.Words.SessionRepresentation.{limits_of}
@@ -11,4 +10,4 @@ unfolding order
 returns-clause-held c =
     let a = c.args in
     let i = c.issue.ensures in
-    λ ks vs s L. variable_replied _ ks vs _ (limits_of a.self) s (at a.site a.slot) _ (i.held ks vs s (at a.site a.slot) (refl, refl, refl) L)
+    λ ks vs s L. variable_replied _ ks vs _ (limits_of a.self) s (at a.site a.slot) _ (i.held ks vs s L)
