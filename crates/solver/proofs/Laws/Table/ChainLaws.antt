@@ -300,11 +300,6 @@ module _ (which : Defaulted) (x₀ : Solver) (ks vs ts₀ : List ℕ) where
           most = omega arith;
         }
 
-  -- every variable has its default
-  pub applied_end : (n : ℕ) (x : Solver) (ts : List ℕ) → Applied which x₀ ks vs ts₀ n x ts → n ≡ x₀.issued → (s : Session) → Represents x₀ ks vs ts₀ s → Low x₀.variables s.solver.bindings
-      → Represents x ks vs ts (with_solver s (defaulted which (issued s) s))
-  applied_end n x ts A e s L low = subst (λ (k : ℕ). Represents x ks vs ts (with_solver s (defaulted which k s))) (e ∙ L.issued) (A.held s L low)
-
 -- ---- a term's top decides whether it resolves to a variable
 
 module _ (n : ℕ) (b : ℕ → Option Term) (S : Steady n b) (T : Topped n b) (t : Term) where
