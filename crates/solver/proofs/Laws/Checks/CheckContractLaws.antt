@@ -7,8 +7,7 @@ use Prim.Native.Nat.{ℕ, suc, ◌+◌, ◌*◌, ◌^◌, ◌≤◌, ◌<◌}
 use native.Mathlib.Omega.{arith}
 use borrow.Author.Tests.{eqb-true, eqb-false, eq-eqb, ne_eqb}
 use lib.Dec.{eqb}
-use lib.ListN.{length, get_or, take}
-use lib.Seq.{length-take-le}
+use lib.ListN.{length, get_or}
 use Rattle.terms.specs.Term.{Term, Parts, var, node, AllVars, Held}
 use Rattle.terms.specs.Tree.{same, children}
 use Rattle.terms.specs.Questions.{among}
@@ -20,12 +19,11 @@ use Rattle.solver.specs.Constrain as solving
 use Rattle.solver.specs.Constrain.{Pair, Requests, follow, resolve, resolved, top, check_pair, recovery, recovers, occurs, projects, admit, bind, decompose}
 use Rattle.solver.specs.Session.{Session, issued, with_solver}
 use Rattle.solver.specs.Words.ReachContract.{Steady, Topped}
-use Rattle.solver.specs.Words.Worklist.{Zero}
 use Rattle.solver.specs.Words.Bindings.{HeldBindings}
-use Rattle.solver.specs.Words.SessionRepresentation.{begins, binding_words, Represents}
-use Rattle.solver.specs.Words.MethodContract.{Shaped, Beside, is_some, bound_to, at_most}
+use Rattle.solver.specs.Words.SessionRepresentation.{binding_words, Represents}
+use Rattle.solver.specs.Words.MethodContract.{Beside, is_some, bound_to, at_most}
 use Rattle.solver.specs.Words.PendingContract.{PushedPairs, Twins}
-use Rattle.solver.specs.Words.ConstrainContract.{Within, pending_from, Waiting, Scratch, Facing, Nodes, Due, After}
+use Rattle.solver.specs.Words.ConstrainContract.{Within, pending_from, Waiting, Facing, Nodes, Due, After}
 use Rattle.solver.proofs.Laws.Definition.InOrderLaws.{in_order_ordered}
 use Rattle.solver.proofs.Laws.Definition.SolverInvariantLaws.{Ordered, ordered_steady, ordered_topped, ordered_revision, top_within, top_low, top_free}
 use Rattle.solver.proofs.Laws.Definition.CheckStepLaws.{turn_same, turn_left, turn_right, turn_nodes, bind_recovers, bind_refused, bind_occurs, bind_bound, part_recovers, part_projects, part_pushes, part_unlike}
@@ -42,36 +40,14 @@ unfolding AllVars
 within_most N m l (var v) w = omega arith
 within_most N m l (node k ps) w = tt
 
--- the columns of the table, and the words for marks
-module _ (x : Solver) (ks vs ts : List ℕ) (s : Session) (L : Represents x ks vs ts s) where
-  pub lent_columns : x.variables ≤ length ts
-  lent_columns = omega (arith, L.room)
-
-  pub bindings_long : length (take x.variables ts) ≡ x.variables
-  bindings_long = length-take-le x.variables ts lent_columns
-
-  pub lent_marks : (work : List ℕ) → Scratch x ks ts work → length (take x.variables ts) + length (take x.variables ts) ≤ length work
-  lent_marks work S = omega (arith, S.marks, bindings_long)
-
--- a scratch area that was used and cleared
-pub scratch_again : (x : Solver) (ks ts work after : List ℕ) → Scratch x ks ts work → length after ≡ length work → Zero after → Scratch x ks ts after
-scratch_again x ks ts work after S e z =
-    record { pairs = S.pairs; short = S.short; links = omega (arith, S.links); marks = omega (arith, S.marks); clear = z }
-
 -- ---- a variable meets a term
 
 module _ (x : Solver) (ks vs ts : List ℕ) (s : Session) (v q : ℕ) (t : Term) (F : Facing x ks vs ts s v q t) where
   pub facing_place : q < length ks
   facing_place = held_place ks vs q t F.known.held
 
-  pub facing_areas : (length vs ≡ length ks) × (q < 2 ^ 32)
-  facing_areas = (F.represents.vals, omega (arith, facing_place, F.represents.short))
-
   pub facing_low : v < x.variables
   facing_low = omega (arith, F.low, F.represents.fits.variables)
-
-  pub facing_shaped : Shaped x (length ts)
-  facing_shaped = record { issued = omega (arith, F.represents.issued, F.represents.fits.variables); room = F.represents.room; narrow = F.represents.narrow }
 
   pub facing_bind : (v < x.variables) × (q < length ks) × (length vs ≡ length ks) × (length ks < 2 ^ 32) × (x.revision < 2 ^ 33)
   facing_bind = (facing_low, facing_place, F.represents.vals, F.represents.short, omega (arith, F.represents.revision, F.counted, F.represents.fits.variables, F.represents.narrow))
@@ -251,9 +227,6 @@ module _ (n : Notion) (x : Solver) (ks vs ts : List ℕ) (s : Session) (i j coun
   pub turned_same : (ps : List Pair) → Waiting x ks vs ts count ps → same (resolved z t) (resolved z u) ≡ true
       → After x ks vs ts ts s (top z t) (top z u) count (check_pair n z t u ps) (record { solver = x; good = true; count = count })
   turned_same ps W e = after_passed x ks vs ts s count ps D.represents W (top z t) (top z u) (turn_same n z t u ps e)
-
-  pub due_links : (work : List ℕ) → Scratch x ks ts work → length ks + begins ks ≤ length work
-  due_links work S = omega (arith, D.represents.begun, D.represents.fits.nodes, S.links)
 
   -- the tops of the two terms stand at a and b
   module _ (a b : ℕ) (at_a : Held ks vs a (top z t)) (at_b : Held ks vs b (top z u)) where

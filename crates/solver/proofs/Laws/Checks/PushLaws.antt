@@ -9,8 +9,8 @@ use native.Mathlib.Nat.{add-zero}
 use native.Mathlib.Omega.{arith}
 use borrow.Author.Tests.{ne_eqb, lt-ltb, le-ltb, le-leb, lt-leb}
 use lib.Dec.{eqb, leb, ltb}
-use lib.ListN.{length, get_or, set, take, drop, length-set, length-append, length-take, length-drop, get_or-append}
-use lib.Seq.{get_or-drop, get_or-set_same, get_or-set_other, get_or-append-add}
+use lib.ListN.{length, get_or, take, drop, length-append, length-take, length-drop, get_or-append}
+use lib.Seq.{get_or-append-add}
 use Rattle.terms.specs.Result.{pick}
 use Rattle.terms.specs.Term.{Term, Parts, node, end, num, sub, items, Held}
 use Rattle.terms.specs.Words.Held.{HeldParts, span}
@@ -18,7 +18,7 @@ use Rattle.terms.specs.Tree.{nums, row, tag, class, children}
 use Rattle.terms.proofs.Laws.Normalising.SlotLaws.{class_projection, class_plain as plain, class_nominal}
 use Rattle.terms.proofs.Laws.Held.HeldLaws.{items_some, held_node, held_num, held_sub, row_end, row_num, row_sub}
 use Rattle.solver.specs.Shapes.{same_shape, turned}
-use Rattle.solver.specs.Words.PendingContract.{Laid, Taken, places, pushed_places, PushedPairs, Twins, here, window, PartEnd, NumberAt}
+use Rattle.solver.specs.Words.PendingContract.{Laid, places, pushed_places, PushedPairs, Twins, here, window, PartEnd, NumberAt}
 use Rattle.solver.proofs.Laws.Equality.ClassesCoincide.{held_same}
 use Rattle.solver.proofs.Laws.Checks.RotateLaws.{places_length}
 use Rattle.solver.proofs.Laws.Checks.StackLaws.{pushed_pairs}
@@ -35,24 +35,6 @@ module _ {base count : ℕ} {ts₀ : List ℕ} where
     rights = λ j h. absurd (omega arith);
     below = λ i h. refl;
     above = λ i h. refl;
-  }
-
-  -- one pair
-  pub laid_one : (x y w : ℕ) → w ≡ base + (count + count) → w + 2 ≤ length ts₀ → Laid (x ∷ []) (y ∷ []) base count ts₀ (set (set ts₀ w x) (w + 1) y) (count + 1)
-  laid_one x y w e room = record {
-    even = refl;
-    size = refl;
-    lefts = λ j h.
-        let z : base + ((count + j) + (count + j)) ≡ w = omega arith in
-        let o : j ≡ 0 = omega arith in
-        ap (λ (i : ℕ). get_or (set (set ts₀ w x) (w + 1) y) i 0) z ∙ get_or-set_other (set ts₀ w x) (w + 1) w y 0 (λ q. omega arith) ∙ get_or-set_same ts₀ w x 0 (omega arith)
-        ∙ ap (λ (i : ℕ). get_or (x ∷ []) i 0) (sym o);
-    rights = λ j h.
-        let z : base + ((count + j) + (count + j) + 1) ≡ w + 1 = omega arith in
-        let o : j ≡ 0 = omega arith in
-        ap (λ (i : ℕ). get_or (set (set ts₀ w x) (w + 1) y) i 0) z ∙ get_or-set_same (set ts₀ w x) (w + 1) y 0 (omega (arith, length-set ts₀ w x)) ∙ ap (λ (i : ℕ). get_or (y ∷ []) i 0) (sym o);
-    below = λ i h. get_or-set_other (set ts₀ w x) (w + 1) i y 0 (λ q. omega arith) ∙ get_or-set_other ts₀ w i x 0 (λ q. omega arith);
-    above = λ i h. get_or-set_other (set ts₀ w x) (w + 1) i y 0 (λ q. omega arith) ∙ get_or-set_other ts₀ w i x 0 (λ q. omega arith);
   }
 
   pub laid_then : {ls rs ls' rs' ts ts' : List ℕ} {r r' : ℕ} → Laid ls rs base count ts₀ ts r → Laid ls' rs' base r ts ts' r' → Laid (ls ++ ls') (rs ++ rs') base count ts₀ ts' r'
@@ -334,9 +316,6 @@ pub record Seeking (ks vs : List ℕ) (i e : ℕ) (ps : Parts) : Type 0 where
   pub held : HeldParts ks vs i e left
   pub same : nums ps ≡ nums left
 
-pub seeking_start : (ks vs : List ℕ) (i e : ℕ) (ps : Parts) → HeldParts ks vs i e ps → Seeking ks vs i e ps
-seeking_start ks vs i e ps h = record { left = ps; held = h; same = refl }
-
 pub seeking_step : (ks vs : List ℕ) (i e i' : ℕ) (ps : Parts) → Seeking ks vs i e ps → i < e → (get_or ks i 0 ≡ 0 → ⊥) → PartEnd ks vs i e i' → Seeking ks vs i' e ps
 seeking_step ks vs i e i' ps w l k x =
     let p = row_part ks vs i e w.left w.held l in
@@ -382,19 +361,6 @@ pub laid_pair : {base count : ℕ} {ts ts' : List ℕ} {r : ℕ} (ls rs : List �
 laid_pair ls rs x y e f l = rw (e, f) l
 
 -- ---- a pair taken off, and all of them
-
-pub taken_off : (base m : ℕ) (ts : List ℕ) (w x y : ℕ) → w ≡ base + (m + m) → w + 2 ≤ length ts → x ≡ get_or ts w 0 → y ≡ get_or ts (w + 1) 0
-    → Taken base m ts (set (set ts w 0) (w + 1) 0) x y
-taken_off base m ts w x y e room ex ey = record {
-  left = ex ∙ ap (λ (i : ℕ). get_or ts i 0) e ∙ sym (get_or-drop base ts (m + m) 0);
-  right = let z : w + 1 ≡ base + (m + m + 1) = omega arith in ey ∙ ap (λ (i : ℕ). get_or ts i 0) z ∙ sym (get_or-drop base ts (m + m + 1) 0);
-  first = ap (λ (i : ℕ). get_or (set (set ts w 0) (w + 1) 0) i 0) (sym e) ∙ get_or-set_other (set ts w 0) (w + 1) w 0 0 (λ q. omega arith) ∙ get_or-set_same ts w 0 0 (omega arith);
-  second =
-      let z : base + (m + m + 1) ≡ w + 1 = omega arith in
-      ap (λ (i : ℕ). get_or (set (set ts w 0) (w + 1) 0) i 0) z ∙ get_or-set_same (set ts w 0) (w + 1) 0 0 (omega (arith, length-set ts w 0));
-  below = λ i h. get_or-set_other (set ts w 0) (w + 1) i 0 0 (λ q. omega arith) ∙ get_or-set_other ts w i 0 0 (λ q. omega arith);
-  above = λ i h. get_or-set_other (set ts w 0) (w + 1) i 0 0 (λ q. omega arith) ∙ get_or-set_other ts w i 0 0 (λ q. omega arith);
-}
 
 -- ---- what `push_children` does
 

@@ -246,9 +246,6 @@ abbrev pub Tells : (ks vs : List ℕ) (a ae b be : ℕ) (f₀ r : Bool) → Type
 Tells ks vs a ae b be f₀ r = (ps qs : Parts) → HeldParts ks vs (a + 1) ae ps → HeldParts ks vs (b + 1) be qs → r ≡ like_rows f₀ ps qs
 
 module _ (ks vs : List ℕ) (a ae b be : ℕ) (f₀ : Bool) where
-  pub walks_start : Walks ks vs a ae b be f₀ (a + 1) (b + 1) f₀
-  walks_start ps qs hp hq = record { left = ps; right = qs; held_left = hp; held_right = hq; like = refl }
-
   module _ (i j : ℕ) (f : Bool) (w : Walks ks vs a ae b be f₀ i j f) where
     goes_on : (h e : ℕ) (ps : Parts) → HeldParts ks vs h e ps → h < e → ps ≡ end → ⊥
     goes_on h e ps x l z = omega (arith, end_ends ks vs h e (rw z at x))

@@ -17,7 +17,7 @@ use Rattle.solver.specs.Words.ReachContract.{Steady, Topped}
 use Rattle.solver.specs.Words.SessionRepresentation.{begins}
 use Rattle.solver.specs.Words.CongruenceClasses.{link_words, queue_words, WiredIn, AdvancedIn, Clearing, Up, stands_for, Standing, Coincide, Linked, Fair, Outcome}
 use Rattle.solver.proofs.Laws.Resolving.ReachLaws.{by_variable}
-use Rattle.solver.proofs.Laws.Equality.LinkLaws.{wired_start, up_node, top_less, advanced_link, clear_step, told_class, told_left, told_right}
+use Rattle.solver.proofs.Laws.Equality.LinkLaws.{up_node, top_less, advanced_link, clear_step, told_class, told_left, told_right}
 
 -- ---- one area
 
@@ -72,9 +72,6 @@ zero_links n work z i = go (dec_lt i n)
     go (yes h) = get_or-take n work i 0 h ∙ z i
     go (no h) = get_or-eq_default (take n work) 0 {n = i} (omega (arith, length-take n work))
 
-pub zero_queue : (n : ℕ) (work : List ℕ) → Zero work → Zero (drop n work)
-zero_queue n work z i = get_or-drop n work i 0 ∙ z (n + i)
-
 pub zero_area : (n : ℕ) (work : List ℕ) → Zero (take n work) → Zero (drop n work) → Zero work
 zero_area n work y z i = go (dec_lt i n)
   where
@@ -84,16 +81,8 @@ zero_area n work y z i = go (dec_lt i n)
         let e : n + (i - n) ≡ i = omega arith in
         ap (λ (k : ℕ). get_or work k 0) (sym e) ∙ sym (get_or-drop n work (i - n) 0) ∙ z (i - n)
 
-pub area_start : (ks work : List ℕ) → length ks + begins ks ≤ length work → Zero work → WiredIn ks work 0
-area_start ks work r z =
-    wired_start ks (link_words ks work) (queue_words ks work) (zero_links (length ks) work z) (zero_queue (length ks) work z)
-    (length-take-le (length ks) work (omega arith)) (omega (arith, length-drop (length ks) work))
-
 -- clearing: the entry before k is within the area, the place that it lists too, and both words are set to 0
 module _ (n : ℕ) (work : List ℕ) (k : ℕ) (w : Clearing (take n work) (drop n work) k) where
-  pub clear_entry : n ≤ length work → n + k ≤ length work
-  clear_entry l = omega (arith, w.fits, length-drop n work)
-
   module _ (x : ℕ) (some : 0 < k) (e : x ≡ get_or work (n + (k - 1)) 0) (l : n ≤ length work) where
     listed_at : x ≡ get_or (drop n work) (k - 1) 0
     listed_at = e ∙ sym (get_or-drop n work (k - 1) 0)

@@ -20,18 +20,6 @@ use Rattle.solver.proofs.Laws.Equality.ClassesCoincide.{rows_map, held_same}
 
 -- ---- the links and the queue
 
-pub wired_start : (ks par queue : List ℕ) → Zero par → Zero queue → length par ≡ length ks → begins ks ≤ length queue → Wired ks par queue 0
-wired_start ks par queue p q l r = record {
-  size = l;
-  room = r;
-  falls = λ x. omega (arith, p x);
-  nodes = λ x y e. absurd (omega (arith, p x));
-  listed = λ i h. absurd (omega arith);
-  apart = λ i j h k. absurd (omega arith);
-  cover = λ x h. absurd (omega (arith, p x));
-  blank = λ i h. q i;
-}
-
 module _ (ks par queue : List ℕ) (top : ℕ) (w : Wired ks par queue top) where
   -- a place that is linked is a node
   hung_node : (x n : ℕ) → get_or par x 0 ≡ n → 0 < n → 2 ≤ get_or ks x 0
@@ -47,9 +35,6 @@ module _ (ks par queue : List ℕ) (top : ℕ) (w : Wired ks par queue top) wher
   -- no more places are linked than begin a term
   pub top_below : top ≤ begins ks
   top_below = pigeon_begins ks top (λ i. get_or queue i 0) queue_below w.apart queue_node
-
-  pub advanced_none : Advanced ks par queue top par queue top
-  advanced_none = record { wired = w; keeps = λ x y e. e; more = omega arith; front = λ i h. refl }
 
   -- a class has only nodes where it has one
   pub up_node : {a r : ℕ} → Up par a r → 2 ≤ get_or ks a 0 → 2 ≤ get_or ks r 0

@@ -219,9 +219,6 @@ sound_pop ks n st p e d s h =
           (s.frames j (omega arith));
     }
 
-pub sound_next : (ks : List ℕ) (n : ℕ) (st : List ℕ) (x : Stand) → Sound ks n st x → x.at < x.end → Sound ks n st (stand (x.at + 1) x.end x.depth)
-sound_next ks n st x s h = record { order = omega arith; within = s.within; depth = s.depth; room = s.room; frames = s.frames }
-
 -- ---- for the loops over `settle`
 
 module _ (ks vs bs : List ℕ) (n : ℕ) where

@@ -110,9 +110,6 @@ module _ {ks vs bs : List ℕ} {root : List Item} {q : ℕ} where
         let x = f.1 in
         R.passed f.0 v (omega arith) l (ap (λ (i : ℕ). has (suc v) (run_of ks vs (get_or bs i 0))) f.2 ∙ t)
 
-    pub going_hit : hit ≡ true → Told ks vs bs root q hit
-    going_hit h = record { no = λ n. never_false (sym h ∙ n); yes = R.yes }
-
     pub going_end : top ≤ done → Told ks vs bs root q hit
     going_end le =
         record {

@@ -191,9 +191,6 @@ module _ (x : Solver) (ks vs ts us : List ℕ) (s : Session) (L : Represents x k
 -- the same, with the counters told, and the variable's index
 module _ (x y : Solver) (ks vs ts us : List ℕ) (v i q : ℕ) (e : i ≡ v) (below : v < x.variables) (H : Handed x.variables i (get_or ks q 0) (get_or vs q 0) ts us)
     (a : y.variables ≡ x.variables) (b : y.nodes ≡ x.nodes) (c : y.top ≡ x.top) where
-  pub bound_beside : Beside x y ts (set us i (q + 1))
-  bound_beside = beside_set x y ts us i (q + 1) (record { variables = a; nodes = b; top = c; size = H.size; rest = H.rest }) (omega arith)
-
   pub bound_held : y.issued ≡ x.issued → y.revision ≡ x.revision + 1 → y.kept ≡ x.kept → (s : Session) (t : Term) (rs : Requests) → Represents x ks vs ts s
       → Held ks vs q t → at_most x.variables t → admit s.solver.requests (s.solver.requests v) t ≡ some rs
       → Represents y ks vs (set us i (q + 1)) (with_solver s (bound_to s.solver v t rs))

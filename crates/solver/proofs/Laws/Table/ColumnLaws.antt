@@ -1,20 +1,13 @@
 -- Laws of a table's columns: the column at o is the m words from o on, `take m (drop o ts)`. A place i of the table that is word v of it is
 -- given by the equation i ≡ o + v.
 use mathlib.Core.List.{List, [], ◌∷◌}
-use mathlib.Core.Path.{◌≡◌, refl, sym, ap, ◌∙◌}
+use mathlib.Core.Path.{◌≡◌, sym, ap, ◌∙◌}
 use Prim.Native.Nat.{ℕ, zero, suc, ◌+◌, ◌-◌, ◌<◌, ◌≤◌}
 use native.Mathlib.Omega.{arith}
 use lib.ListN.{length, get_or, set, take, drop, length-drop}
 use lib.Seq.{get_or-take, get_or-drop, length-take-le, take-set-lt, take-set-le, drop-set-lt, drop-set-add, take-take, take-nil}
 use Rattle.solver.specs.Words.Worklist.{Zero}
 use Rattle.solver.proofs.Laws.Resolving.WorklistLaws.{zero_take, zero_drop}
-
--- what stands past the first m words is 0
-pub take_past : (m : ℕ) (l : List ℕ) (v : ℕ) → m ≤ v → get_or (take m l) v 0 ≡ 0
-take_past zero l v h = refl
-take_past (suc m) [] v h = refl
-take_past (suc m) (x ∷ xs) zero h = absurd (omega arith)
-take_past (suc m) (x ∷ xs) (suc v) h = take_past m xs v (omega arith)
 
 -- the m words from o on are among the first o + m
 take_drop : (m o : ℕ) (l : List ℕ) → take m (drop o (take (o + m) l)) ≡ take m (drop o l)
@@ -29,9 +22,6 @@ take_drop m (suc o) (x ∷ xs) =
 module _ (m o : ℕ) (ts : List ℕ) where
   pub column_read : (i v : ℕ) → i ≡ o + v → v < m → get_or (take m (drop o ts)) v 0 ≡ get_or ts i 0
   column_read i v e h = get_or-take m (drop o ts) v 0 h ∙ get_or-drop o ts v 0 ∙ ap (λ (k : ℕ). get_or ts k 0) (sym e)
-
-  pub column_past : (v : ℕ) → m ≤ v → get_or (take m (drop o ts)) v 0 ≡ 0
-  column_past v h = take_past m (drop o ts) v h
 
   pub column_length : o + m ≤ length ts → length (take m (drop o ts)) ≡ m
   column_length h = length-take-le m (drop o ts) (omega (arith, length-drop o ts))

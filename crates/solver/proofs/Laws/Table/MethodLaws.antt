@@ -32,7 +32,7 @@ use Rattle.solver.specs.Words.MethodContract.{Shaped, Beside, matches, last_matc
 use Rattle.solver.specs.Words.OrderTerms.{place_of, kind_word, site_word, slot_word}
 use Rattle.solver.proofs.Laws.Definition.InOrderLaws.{find_issued}
 use Rattle.solver.proofs.Laws.Resolving.BindingLaws.{bind_held}
-use Rattle.solver.proofs.Laws.Table.ColumnLaws.{column_read, column_past, column_length, column_write, column_before, column_behind}
+use Rattle.solver.proofs.Laws.Table.ColumnLaws.{column_read, column_length, column_write, column_before, column_behind}
 use Rattle.solver.proofs.Laws.Table.RequestWordLaws.{put_held}
 
 -- ---- the method's table beside the columns
@@ -60,9 +60,6 @@ beside_then {x} {y} {z} {ts} {us} {ws} B C =
       size = C.size ∙ B.size;
       rest = subst (λ (m : ℕ). drop (7 * m) ws ≡ drop (7 * m) us) B.variables C.rest ∙ B.rest;
     }
-
-pub lent_shaped : (x : Solver) (ks vs ts : List ℕ) (s : Session) → Represents x ks vs ts s → Shaped x (length ts)
-lent_shaped x ks vs ts s L = record { issued = omega (arith, L.issued, L.fits.variables); room = L.room; narrow = L.narrow }
 
 -- ---- one law for all changes: what has changed is told
 
@@ -562,22 +559,10 @@ module _ (y : Solver) (ks vs us : List ℕ) (lim : Limits) (s : Session) (p : Va
 
 -- ---- requests on words
 
-pub request_far : (m : ℕ) (ts : List ℕ) (v : ℕ) → m ≤ v → 0 ≡ get_or (request_words m ts) v 0
-request_far m ts v l = sym (column_past m m ts v l)
-
 pub request_near : (m : ℕ) (ts : List ℕ) (v : ℕ) → v < m → get_or ts (m + v) 0 ≡ get_or (request_words m ts) v 0
 request_near m ts v l = sym (column_read m m ts _ v refl l)
 
 module _ (m v kind val : ℕ) (ts : List ℕ) where
-  pub handed_none : get_or ts (m + v) 0 ≡ 0 → Handed m v kind val ts ts
-  handed_none e = record { none = λ _. refl; node = λ _. refl; far = λ _. refl; on = λ n k l. absurd (n e); size = refl; rest = refl }
-
-  pub handed_node : (kind ≡ 1 → ⊥) → Handed m v kind val ts ts
-  handed_node e = record { none = λ _. refl; node = λ _. refl; far = λ _. refl; on = λ n k l. absurd (e k); size = refl; rest = refl }
-
-  pub handed_far : m ≤ val → Handed m v kind val ts ts
-  handed_far e = record { none = λ _. refl; node = λ _. refl; far = λ _. refl; on = λ n k l. absurd (omega arith); size = refl; rest = refl }
-
   pub handed_on : (word : ℕ) → (get_or ts (m + v) 0 ≡ 0 → ⊥) → kind ≡ 1 → val < m → word ≡ joined_word (get_or ts (m + v) 0) (get_or ts (m + val) 0)
       → Handed m v kind val ts (set ts (m + val) word)
   handed_on word n k l e =

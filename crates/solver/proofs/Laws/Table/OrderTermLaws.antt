@@ -1,13 +1,10 @@
 -- Terms after the tokens of a session: what the areas hold there, where resolving begins, and the counters with the terms of a pair kept.
 use mathlib.Core.Path.{◌≡◌, refl, sym, ap, subst, ◌∙◌}
-use mathlib.Core.Bool.{Bool, true, false}
 use mathlib.Core.List.{List}
 use mathlib.Core.Option.{Option, none, some}
 use Prim.Native.Nat.{ℕ, zero, suc, ◌+◌, ◌-◌, ◌*◌, ◌^◌, ◌≤◌, ◌<◌}
 use native.Mathlib.Numerals.{add-one}
 use native.Mathlib.Omega.{arith}
-use borrow.Author.Tests.{leb-true, leb-false}
-use lib.Dec.{leb}
 use lib.ListN.{length, get_or, set, take}
 use lib.Seq.{sets, get_or-take}
 use Rattle.terms.specs.Number.{shortest}
@@ -23,11 +20,9 @@ use Rattle.solver.specs.Constrain.{resolve, resolved}
 use Rattle.solver.specs.Session.{Session, issued, keep}
 use Rattle.solver.specs.Invariant.{InOrder}
 use Rattle.solver.specs.Words.Bindings.{HeldBinding, HeldBindings}
-use Rattle.solver.specs.Words.ResolveFrames.{Apart, Cleared}
-use Rattle.solver.specs.Words.Worklist.{Zero}
 use Rattle.solver.specs.Words.SessionRepresentation.{Represents, binding_words}
 use Rattle.solver.specs.Words.ConstrainContract.{Known, Scratch}
-use Rattle.solver.specs.Words.OrderTerms.{Behind, Poses, PosesPair, Asked, Starts, resolved_to}
+use Rattle.solver.specs.Words.OrderTerms.{Behind, Poses, PosesPair, Asked, Starts}
 use Rattle.solver.proofs.Laws.Table.RepresentationLaws.{Longer, longer_take, bindings_longer, begins_pair, lent_more}
 
 -- the areas have room, and hold the bindings
@@ -71,16 +66,6 @@ resolved_bound (suc n) b v t h e =
 
 -- ---- where resolving begins
 
--- at a term that follows
-pub starts_behind : (x : Solver) (ks vs ts : List ℕ) (z : Session) (t : Term) → Poses x ks vs ts z t → Starts x ks vs z t (Begins x.top x.revision)
-starts_behind x ks vs ts z t P = (
-  t,
-  P.held,
-  ap (λ (m : ℕ). resolve m z.solver.bindings t) (sym P.behind.represents.revision),
-  omega arith,
-  omega (arith, P.behind.inside, P.behind.short),
-)
-
 module _ (x : Solver) (ks vs ts : List ℕ) (z : Session) (L : Represents x ks vs ts z) (v : ℕ) (below : v < x.variables) where
   word_of : HeldBinding ks vs (z.solver.bindings v) (get_or ts v 0)
   word_of = subst (λ (w : ℕ). HeldBinding ks vs (z.solver.bindings v) w) (get_or-take x.variables ts v 0 below) (L.bindings v)
@@ -118,13 +103,6 @@ module _ (x : Solver) (ts : List ℕ) (what : Subject) where
       → Represents x ks vs ts z × (t ≡ var v) × (v < x.variables)
   asked_id v e ks vs z t a = subst (λ (w : Subject). Asked x ks vs ts w z t) e a
 
-  asked_behind : what ≡ Follows → (ks vs : List ℕ) (z : Session) (t : Term) → Asked x ks vs ts what z t → Poses x ks vs ts z t
-  asked_behind e ks vs z t a = subst (λ (w : Subject). Asked x ks vs ts w z t) e a
-
-  pub start_behind : what ≡ Follows → (ks vs : List ℕ) (z : Session) (t : Term) → Asked x ks vs ts what z t
-      → Starts x ks vs z t (Begins x.top x.revision)
-  start_behind e ks vs z t a = starts_behind x ks vs ts z t (asked_behind e ks vs z t a)
-
   module _ (v : ℕ) (e : what ≡ Id v) (ks vs : List ℕ) (z : Session) (t : Term) (a : Asked x ks vs ts what z t) where
     known : Represents x ks vs ts z × (t ≡ var v) × (v < x.variables)
     known = asked_id v e ks vs z t a
@@ -155,21 +133,10 @@ module _ (x : Solver) (ks vs : List ℕ) (z : Session) (t : Term) (begun : Start
   pub begins_at : (p m : ℕ) → begun ≡ Begins p m → (u : Term) × Held ks vs p u × (resolved z.solver t ≡ resolve m z.solver.bindings u) × (m ≤ x.revision) × (p < 2 ^ 32)
   begins_at p m e = subst (λ (b : Start). Starts x ks vs z t b) e s
 
-  pub stands_free : (v : ℕ) → begun ≡ Free v → bytes (var v) ≡ resolved_to z t
-  stands_free v e = ap bytes (sym (subst (λ (b : Start). Starts x ks vs z t b) e s))
-
 pub wrote_as : (w w' : List ℕ) (to : ℕ) (o out : List ℕ) (r : ℕ) → w ≡ w' → (r ≡ to + length w) × (out ≡ sets o to w) → (r ≡ to + length w') × (out ≡ sets o to w')
 wrote_as w w' to o out r e h = subst (λ (l : List ℕ). (r ≡ to + length l) × (out ≡ sets o to l)) e h
 
 -- ---- frames
-
--- a walk that was left, and its frames cleared
-pub zero_walked : (n : ℕ) (st₀ st₁ st : List ℕ) → Zero st₀ → Apart n st₀ st₁ → Cleared (n + n) st₁ st → Zero st
-zero_walked n st₀ st₁ st z a c j = go (leb (n + n) j) refl
-  where
-    go : (b : Bool) → leb (n + n) j ≡ b → get_or st j 0 ≡ 0
-    go true e = let l = leb-true (n + n) j e in c.others j l ∙ a j l ∙ z j
-    go false e = c.zeros j (leb-false (n + n) j e)
 
 -- ---- the bytes of a variable
 

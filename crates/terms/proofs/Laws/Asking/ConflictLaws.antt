@@ -368,10 +368,6 @@ passed ks vs i ae n t ps h p =
     let e = p (omega (arith, items_some t)) (omega (arith, h.ends, length-append (items t) (part_items ps))) ∙ s in
     subst (λ (k : ℕ). HeldParts ks vs (i + k) ae ps) (sym e) q.1
 
--- rows told by another name for their answer
-pub clash_is : (r : Bool) (whole : Bool) → whole ≡ true → r ≡ true → r ≡ whole
-clash_is r whole h k = k ∙ sym h
-
 -- two terms as rows
 pub terms_rows : (ks vs : List ℕ) (a b n m : ℕ) (t u : Term) → Held ks vs a t → Held ks vs b u → Formed t → Formed u → n ≡ length (items t) → m ≡ length (items u)
     → Rows ks vs a (a + n) b (b + m) (conflicts_with t u)

@@ -3,7 +3,7 @@
 use mathlib.Core.Path.{◌≡◌, refl, ap, ◌∙◌}
 use mathlib.Core.Bool.{Bool, true, false}
 use mathlib.Core.List.{List, [], ◌∷◌}
-use Prim.Native.Nat.{ℕ, suc, ◌+◌, ◌-◌, ◌*◌, ◌≤◌, ◌<◌, ◌^◌}
+use Prim.Native.Nat.{ℕ, suc, ◌+◌, ◌-◌, ◌*◌, ◌≤◌, ◌<◌}
 use native.Mathlib.Omega.{arith}
 use borrow.Author.Tests.{le-leb, leb-true}
 use lib.Dec.{leb}
@@ -14,11 +14,10 @@ use Rattle.terms.specs.Words.ReadContract.{Step}
 use Rattle.terms.specs.Words.ReadContract.{Next, Stopped}
 use Rattle.terms.specs.Parser.{Result, got, refused, pick}
 use Rattle.terms.specs.Words.Tokens.{Item, item, Area, put, puts, zeros, blank, before, spell, toks}
-use Rattle.terms.specs.Term.{Term, node, items, size, sizes, Held}
-use Rattle.terms.specs.Words.ReadContract.{Room, RoomAfter, Only, Done, TermDone, BareDone, answer, kept, contents, Clearable, Cleared}
+use Rattle.terms.specs.Term.{Term, items, size, Held}
+use Rattle.terms.specs.Words.ReadContract.{Only, Done, TermDone, kept, Cleared}
 use Rattle.terms.specs.Formed.{Formed}
 use Rattle.terms.proofs.Laws.Format.StoreLaws.{length_kinds, before_puts, only_wider}
-use Rattle.terms.proofs.Laws.Format.ReadSequenceLaws.{room_after}
 use Rattle.terms.proofs.Laws.Format.TokenCountLaws.{weight, tokens_bound, weight_one, one, two}
 
 -- ---- tokens that were stored stand where they were stored
@@ -53,9 +52,6 @@ fresh false d e f i n ws s o h = h ∙ o
 
 -- the answer and the areas where tokens ws of n nodes were read, up to the place q
 module _ (p q : Place) (ws : List Item) (n : ℕ) (tokens : q.top ≡ p.top + length ws) (counts : q.nodes ≡ p.nodes + n) (limit : q.limit ≡ p.limit) where
-  pub next_answer : Next q ≡ Next (record { at = q.at; top = p.top + length ws; nodes = p.nodes + n; limit = p.limit })
-  next_answer = rw (← tokens, ← counts, ← limit)
-
   pub next_kept : (d e f : Area) → (q.nodes ≤ p.limit → e ≡ puts d p.top ws) → Only p.top (length ws) d e
       → f ≡ pick (leb q.nodes q.limit) e (blank e p.top (q.top - p.top)) → f ≡ pick (leb (p.nodes + n) p.limit) (puts d p.top ws) (blank d p.top (length ws))
   next_kept d e f stored only c =
@@ -65,14 +61,6 @@ module _ (p q : Place) (ws : List Item) (n : ℕ) (tokens : q.top ≡ p.top + le
 
 -- the same of what was read as `ReadContract` says: a term, or a row
 module _ {A : Type 0} (ws : A → List Item) (n : A → ℕ) (s : List ℕ) (found : Result A) (p : Place) (d e : Area) where
-  pub done_clearable : (r : Step) → Done ws n s found p d e r → Room s p → Clearable p (length s - p.at) r
-  done_clearable (Next q) x room = (omega (arith, x.2.tokens), omega (arith, (room_after s p d e _ _ q x.2 room).tokens))
-  done_clearable (Stopped c) x room = omega (arith, room.tokens)
-
-  pub done_room : (r : Step) → Done ws n s found p d e r → Room s p → RoomAfter s r
-  done_room (Next q) x room = room_after s p d e _ _ q x.2 room
-  done_room (Stopped c) x room = tt
-
   pub done_next : (q : Place) (f : Area) (x : Done ws n s found p d e (Next q)) → Cleared p (length s - p.at) e f (Next q)
       → f ≡ pick (leb (p.nodes + n x.0) p.limit) (puts d p.top (ws x.0)) (blank d p.top (length (ws x.0)))
   done_next q f x c = let w = x.2 in next_kept p q (ws x.0) (n x.0) w.tokens w.counts w.limit d e f w.stored w.only c
@@ -81,33 +69,9 @@ module _ {A : Type 0} (ws : A → List Item) (n : A → ℕ) (s : List ℕ) (fou
   done_stop c f x y = y ∙ only_wider d e p.top (length s - p.at) x.1 p.top (length s - p.at + 1) (omega arith) (omega arith)
 
 module _ (s : List ℕ) (found : Result Term) (p : Place) (d e : Area) where
-  pub term_answer : (r : Step) → TermDone s found p d e r → r ≡ answer p found size
-  term_answer (Next q) x = rw x.1 (next_answer p q (items x.0) (size x.0) x.2.tokens x.2.counts x.2.limit)
-  term_answer (Stopped c) x = rw x.0
-
   pub term_kept : (r : Step) (f : Area) → TermDone s found p d e r → Cleared p (length s - p.at) e f r → f ≡ kept s p found size d
   term_kept (Next q) f x c = rw x.1 (done_next items size s found p d e q f x c)
   term_kept (Stopped c) f x y = rw x.0 (done_stop items size s found p d e c f x y)
-
-  pub bare_clearable : (r : Step) → BareDone s found p d e r → p.top + 1 + (length s - p.at) < 2 ^ 32 → p.at ≤ length s → Clearable p (length s - p.at) r
-  bare_clearable (Next q) x room h = (omega (arith, x.2.tokens), omega (arith, x.2.pace, x.2.inside))
-  bare_clearable (Stopped c) x room h = omega arith
-
-  pub bare_answer : (r : Step) → BareDone s found p d e r → r ≡ answer p found contents
-  bare_answer (Next q) x = rw x.1 (next_answer p q (items (node 20 x.0)) (sizes x.0) x.2.tokens x.2.counts x.2.limit)
-  bare_answer (Stopped c) x = rw x.0
-
-  pub bare_kept : (r : Step) (f : Area) → BareDone s found p d e r → Cleared p (length s - p.at) e f r → f ≡ kept s p found contents d
-  bare_kept (Next q) f x c =
-      let w = x.2 in
-      rw x.1 (next_kept p q (items (node 20 x.0)) (sizes x.0) w.tokens w.counts w.limit d e f w.stored w.only c)
-  bare_kept (Stopped c) f x y = rw x.0 (y ∙ x.1)
-
-  pub bare_room : (r : Step) → BareDone s found p d e r → Room s p → p.top + 1 + (length s - p.at) < 2 ^ 32 → RoomAfter s r
-  bare_room (Next q) x room h =
-      let w = x.2 in
-      record { inside = w.inside; tokens = omega (arith, w.pace, w.inside, room.inside); counts = omega (arith, w.paced, w.inside, room.counts, room.inside) }
-  bare_room (Stopped c) x room h = tt
 
 -- ---- what it says to a caller
 

@@ -18,7 +18,7 @@ use Rattle.terms.specs.Words.RowPieces.{coded, numbered, fields}
 use Rattle.terms.specs.Words.ReadContract.{TermDone, PartsDone, Cleared, after, seq}
 use Rattle.terms.specs.Substitution.{Entry, Receiver}
 use Rattle.terms.specs.Rows.{entries, receivers, arguments, entry_row, receiver_row, argument_row, keys, single, records, answer_of, kept_of}
-use Rattle.terms.proofs.Laws.Format.KeepTermLaws.{next_answer, done_next, done_stop}
+use Rattle.terms.proofs.Laws.Format.KeepTermLaws.{done_next, done_stop}
 use Rattle.terms.proofs.Laws.Format.ReadSequenceLaws.{wrote_sub, none_done, seq_stop, seq_next}
 use Rattle.terms.proofs.Laws.Format.RowPieceLaws.{after_end}
 use Rattle.terms.proofs.Laws.Format.ReadLaws.{SoFar, so_far_done, so_far_more}
@@ -78,10 +78,6 @@ module _ (s : List ℕ) (t : Parser Term) (f : Fields) (whole : Result Parts) (p
 -- ---- a row kept, or nothing
 
 module _ (s : List ℕ) (found : Result Parts) (p : Place) (d e : Area) where
-  pub row_answer : (r : Step) → PartsDone s found p d e r → r ≡ answer_of (λ ps. ps) p found
-  row_answer (Next q) x = rw x.1 (next_answer p q (part_items x.0) (sizes x.0) x.2.tokens x.2.counts x.2.limit)
-  row_answer (Stopped c) x = rw x.0
-
   pub row_kept : (r : Step) (f : Area) → PartsDone s found p d e r → Cleared p (length s - p.at) e f r → f ≡ kept_of (λ ps. ps) s p found d
   row_kept (Next q) f x c = rw x.1 (done_next part_items sizes s found p d e q f x c)
   row_kept (Stopped c) f x y = rw x.0 (done_stop part_items sizes s found p d e c f x y)

@@ -7,7 +7,7 @@ use native.Mathlib.Omega.{arith}
 use Rattle.terms.specs.Parser.{Result, got, refused, bind, pick, number}
 use Rattle.terms.specs.Shape.{definition, ordinary, ceiling}
 use Rattle.terms.specs.Questions.{Parameter, same_parameter, contains}
-use Rattle.terms.specs.Parameters.{parameter, parameters, last_from, last_index, passed, index_in, past, is_found}
+use Rattle.terms.specs.Parameters.{parameter, parameters, last_from, last_index, passed, index_in, is_found}
 use Rattle.std.specs.Prelude.{Option, Some, None}
 
 module _ (s : List ℕ) (at : ℕ) where
@@ -48,33 +48,12 @@ module _ (s : List ℕ) (p : Parameter) (count n i : ℕ) (best : Option ℕ) wh
 
 -- what going through them says
 module _ (found : Result (List Parameter)) (p : Parameter) where
-  pub through_past : (count next : ℕ) (best : Option ℕ) → got best next ≡ passed 0 None found p → got count next ≡ past count found
-  through_past count next best e = go found e
-    where
-      go : (r : Result (List Parameter)) → got best next ≡ passed 0 None r p → got count next ≡ past count r
-      go (got ps m) h = let z : next ≡ m = cc in rw z
-      go (refused c) h = absurd (let z : ◌≡◌ {A = ℕ} 0 1 = cc in omega arith)
-
-  pub faulty_past : (count c : ℕ) → refused c ≡ passed 0 None found p → refused c ≡ past count found
-  faulty_past count c e = go found e
-    where
-      go : (r : Result (List Parameter)) → refused c ≡ passed 0 None r p → refused c ≡ past count r
-      go (got ps m) h = absurd (let z : ◌≡◌ {A = ℕ} 0 1 = cc in omega arith)
-      go (refused d) h = let z : c ≡ d = cc in rw z
-
   pub through_index : (next : ℕ) (best : Option ℕ) → got best next ≡ passed 0 None found p → best ≡ index_in found p
   through_index next best e = go found e
     where
       go : (r : Result (List Parameter)) → got best next ≡ passed 0 None r p → best ≡ index_in r p
       go (got ps m) h = cc
       go (refused c) h = absurd (let z : ◌≡◌ {A = ℕ} 0 1 = cc in omega arith)
-
-  pub faulty_index : (c : ℕ) → refused c ≡ passed 0 None found p → None ≡ index_in found p
-  faulty_index c e = go found e
-    where
-      go : (r : Result (List Parameter)) → refused c ≡ passed 0 None r p → None ≡ index_in r p
-      go (got ps m) h = absurd (let z : ◌≡◌ {A = ℕ} 0 1 = cc in omega arith)
-      go (refused d) h = refl
 
 -- `contains` asks whether there is one
 found_or : (n : ℕ) (best : Option ℕ) (ps : List Parameter) (p : Parameter) → is_found (last_from n best ps p) ≡ (contains ps p || is_found best)

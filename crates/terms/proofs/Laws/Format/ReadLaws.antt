@@ -14,7 +14,7 @@ use Rattle.terms.specs.declared.Place.{Place}
 use Rattle.terms.specs.Words.ReadContract.{Step}
 use Rattle.terms.specs.Words.ReadContract.{Next, Stopped}
 use Rattle.terms.specs.Parser.{Result, Parser, refused, number}
-use Rattle.terms.specs.Words.Tokens.{Item, Area}
+use Rattle.terms.specs.Words.Tokens.{Area}
 use Rattle.terms.specs.Term.{Term, Parts, end, num, sub, ◌+++◌, items, part_items, size, sizes}
 use Rattle.terms.specs.Shape as shape
 use Rattle.terms.specs.Shape.{Shape, Sort, Meaning, kind_of, nominal, plain, ceiling, definition, ordinary}
@@ -22,18 +22,9 @@ use Rattle.terms.specs.Reading.{count, rising, variable, many, pairs, row, kinde
 use Rattle.terms.specs.Words.RowPieces.{termless, fields, listed}
 use Rattle.terms.specs.Words.ReadContract.{Wrote, TermDone, PartsDone, ValueDone, after, seq, into, onto, Valued, Unvalued}
 use Rattle.terms.proofs.Laws.General.Bools.{never_true}
-use Rattle.terms.proofs.Laws.Format.StoreLaws.{only_kinds, only_vals}
 use Rattle.terms.proofs.Laws.Format.ValueLaws.{value_plain}
 use Rattle.terms.proofs.Laws.Format.ReadSequenceLaws.{wrote_none, wrote_num, wrote_sub, then_wrote, items_append, sizes_append, after_done, none_done, seq_stop, seq_next, into_stop, into_next, onto_stop, onto_next, noded}
 use Rattle.terms.proofs.Laws.Format.RowPieceLaws.{after_end, after_after, after_seq, seq_end, seq_ext, seq_seq, into_ext, into_seq, row_terms, many_more, row_plain}
-
--- the areas keep their lengths
-module _ (s : List ℕ) (p : Place) (d e : Area) {ws : List Item} {n : ℕ} {q : Place} (w : Wrote s p d e ws n q) where
-  pub kinds_length : length e.kinds ≡ length d.kinds
-  kinds_length = only_kinds d e p.top (length ws) w.only
-
-  pub vals_length : length e.vals ≡ length d.vals
-  vals_length = only_vals d e p.top (length ws) w.only
 
 -- a number, and then a row that it decides
 module _ (s : List ℕ) (p : Place) (d e : Area) (most : ℕ) where

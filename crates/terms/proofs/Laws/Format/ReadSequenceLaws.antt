@@ -4,7 +4,7 @@ use mathlib.Core.Bool.{Bool, true}
 use borrow.Author.Tests.{le-leb}
 use lib.Dec.{leb}
 use mathlib.Core.List.{List, [], ◌∷◌, ◌++◌, append_assoc, append-nil}
-use Prim.Native.Nat.{ℕ, suc, ◌+◌, ◌-◌, ◌^◌, ◌≤◌, ◌<◌}
+use Prim.Native.Nat.{ℕ, suc, ◌+◌, ◌-◌, ◌≤◌, ◌<◌}
 use native.Mathlib.Omega.{arith}
 use lib.ListN.{length, length-append}
 use Rattle.terms.specs.declared.Place.{Place}
@@ -13,7 +13,7 @@ use Rattle.terms.specs.Words.ReadContract.{Next, Stopped}
 use Rattle.terms.specs.Parser.{Result, Parser, got, bind}
 use Rattle.terms.specs.Words.Tokens.{put_if, Item, item, Area, put, puts}
 use Rattle.terms.specs.Term.{Term, Parts, node, end, num, sub, ◌+++◌, items, part_items, size, sizes}
-use Rattle.terms.specs.Words.ReadContract.{Room, Wrote, Only, Left, TermDone, PartsDone, BareDone, ValueDone, after, seq, into, onto, Closable, Closed, Valued, Unvalued}
+use Rattle.terms.specs.Words.ReadContract.{Room, Wrote, Only, Left, TermDone, PartsDone, BareDone, ValueDone, after, seq, into, onto, Closed, Valued, Unvalued}
 use Rattle.terms.proofs.Laws.Format.StoreLaws.{head_last, puts_append, only_wider, only_one}
 
 -- ---- rows
@@ -136,16 +136,6 @@ module _ (s : List ℕ) (p : Place) (d e : Area) where
 abbrev pub inside : Place → Place
 inside p = record { at = p.at + 1; top = p.top + 1; nodes = p.nodes + 1; limit = p.limit }
 
-pub room_inside : (s : List ℕ) (p : Place) → Room s p → p.at < length s → Room s (inside p)
-room_inside s p r h = record { inside = omega arith; tokens = omega (arith, r.tokens); counts = omega (arith, r.counts) }
-
-pub closable : (s : List ℕ) (p : Place) (d e : Area) (found : Result Parts) (r : Step)
-    → Room s (inside p) → PartsDone s found (inside p) d e r → Closable p.top r
-closable s p d e found (Next q) room x =
-    let w = x.2 in
-    (omega (arith, w.tokens), omega (arith, (room_after s (inside p) d e _ _ q w room).tokens))
-closable s p d e found (Stopped c) room x = tt
-
 -- a token that is stored where the test holds
 pub on : {b : Bool} → b ≡ true → (d : Area) (i k v : ℕ) → put_if b d i k v ≡ put d i k v
 on h d i k v = rw h
@@ -191,16 +181,6 @@ node_done s p d e f tag found (Stopped c) here x y =
 -- the place of its parts
 abbrev pub under : Place → Place
 under p = record { at = p.at; top = p.top + 1; nodes = p.nodes; limit = p.limit }
-
-pub room_under : (s : List ℕ) (p : Place) → Room s p → p.top + 1 + (length s - p.at) < 2 ^ 32 → Room s (under p)
-room_under s p r h = record { inside = r.inside; tokens = h; counts = r.counts }
-
-pub bare_closable : (s : List ℕ) (p : Place) (d e : Area) (found : Result Parts) (r : Step)
-    → Room s (under p) → PartsDone s found (under p) d e r → Closable p.top r
-bare_closable s p d e found (Next q) room x =
-    let w = x.2 in
-    (omega (arith, w.tokens), omega (arith, (room_after s (under p) d e _ _ q w room).tokens))
-bare_closable s p d e found (Stopped c) room x = tt
 
 pub bare_done : (s : List ℕ) (p : Place) (d e f : Area) (found : Result Parts) (r : Step)
     → PartsDone s found (under p) d e r → Closed 20 p.top e f r → BareDone s (noded 20 found) p d f r

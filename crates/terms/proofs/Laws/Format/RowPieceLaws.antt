@@ -9,7 +9,7 @@ use Rattle.terms.specs.Parser.{Result, Parser, got, refused, bind, number}
 use Rattle.terms.specs.Term.{Term, Parts, end, num, sub, ◌+++◌}
 use Rattle.terms.specs.Shape as shape
 use Rattle.terms.specs.Shape.{Shape, Sort, definition, ordinary, ceiling, with_code, with_number, with_count, many_terms, plain}
-use Rattle.terms.specs.Reading.{code, count, many, pairs, row}
+use Rattle.terms.specs.Reading.{code, count, many, row}
 use Rattle.terms.specs.Words.RowPieces.{coded, numbered, fields, listed}
 use Rattle.terms.specs.Words.ReadContract.{after, seq, into, onto}
 
@@ -85,17 +85,9 @@ module _ (s : List ℕ) (p : Parser Term) (r : Shape) (at : ℕ) where
   unfolding row
   row_number f = refl
 
-  pub row_term : row s p (shape.term r) at ≡ onto (p at) (row s p r)
-  unfolding row
-  row_term = refl
-
   pub row_terms : row s p (shape.terms r) at ≡ seq (listed s p true at) (row s p r)
   unfolding row listed
   row_terms = sym (into_seq (count s at) (λ v n. many s p v n) (row s p r))
-
-  pub row_members : row s p (shape.members r) at ≡ into (count s at) (λ v n. seq (pairs s p v 0 n) (row s p r))
-  unfolding row
-  row_members = refl
 
   -- ---- plain rows
 

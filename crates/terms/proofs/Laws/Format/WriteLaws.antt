@@ -36,9 +36,6 @@ module _ (out₀ : List ℕ) (at : ℕ) (whole : List ℕ) where
     long = ap length eo ∙ length-sets out i x ∙ h.long;
   }
 
-  pub rest-is : (out : List ℕ) (i : ℕ) (rem rem' : List ℕ) → Left out₀ at whole out i rem → rem ≡ rem' → Left out₀ at whole out i rem'
-  rest-is out i rem rem' h e = record { place = rw (← e) h.place; same = rw (← e) h.same; long = h.long }
-
   pub written : (out : List ℕ) (i : ℕ) (rem : List ℕ) → Left out₀ at whole out i rem → rem ≡ []
       → (i ≡ at + length whole) × (out ≡ sets out₀ at whole)
   written out i rem h e =
@@ -117,9 +114,6 @@ module _ {A : Type 0} (f : ℕ → ℕ → List A) (ks vs : List ℕ) where
   pub length_step : (p e : ℕ) → p < e
       → length (spell f ks vs p (e - p)) ≡ length (f (get_or ks p 0) (get_or vs p 0)) + length (spell f ks vs (p + 1) (e - (p + 1)))
   length_step p e h = ap length (spell_step p e h) ∙ length-append (f (get_or ks p 0) (get_or vs p 0)) (spell f ks vs (p + 1) (e - (p + 1)))
-
-  pub spell_whole : (a c : ℕ) → spell f ks vs a (a + c - a) ≡ spell f ks vs a c
-  spell_whole a c = ap (λ (n : ℕ). spell f ks vs a n) (omega arith)
 
 pub spelt_short : (ks vs : List ℕ) → ((i : ℕ) → get_or vs i 0 < 2 ^ 32) → (a c : ℕ) → length (spelt ks vs a c) ≤ 6 * c
 unfolding spell

@@ -226,7 +226,3 @@ module _ (ks vs : List ℕ) (g : Origin) (s : Sight ks vs g) (i : Parts) (owner 
       let w = l.same k in
       rw (e, z) (held_tree (view ks vs g) hs cs S (made owner i (get_or (view ks vs g).vals p 0)) (length ks + 1 + t * g.size)
       (made_held ks vs g s i owner h t l.within w.0 (get_or (view ks vs g).vals p 0) w.1))
-
--- its place is a word
-pub made_fits : (ks vs : List ℕ) (g : Origin) → Sight ks vs g → (t size : ℕ) → t ≤ length ks → size ≡ g.size → length ks + 1 + t * size < 4294967296
-made_fits ks vs g s t size le e = rw e (omega (arith, made_within g (length ks) t le, s.few))

@@ -36,7 +36,6 @@ use Rattle.terms.proofs.Laws.Normalising.ArenaLaws.{held_tree}
 use Rattle.terms.proofs.Laws.Normalising.DepthLaws.{walk_depth}
 use Rattle.terms.proofs.Laws.Held.HeldLaws.{toks_cons, items_some}
 use Rattle.terms.proofs.Laws.Held.SameLaws.{span_held}
-use Rattle.terms.proofs.Laws.Format.StoreLaws.{length_kinds, length_vals}
 
 -- ---- records cleared
 
@@ -86,10 +85,6 @@ wiped_back l₀ l n m f z le =
 pub blank_back : (hs₀ cs₀ hs cs : List ℕ) (n m : ℕ) → Frames hs₀ cs₀ hs cs 0 n → Zero hs₀ m → Zero cs₀ m → n ≤ m → blank (area hs cs) 0 n ≡ area hs₀ cs₀
 blank_back hs₀ cs₀ hs cs n m f zh zc le =
     blank_is n (area hs cs) 0 ∙ ap₂ area (wiped_back hs₀ hs n m f.heads zh le) (wiped_back cs₀ cs n m f.kids zc le)
-
-pub blank_lengths : (hs cs js bs : List ℕ) (n : ℕ) → area hs cs ≡ blank (area js bs) 0 n → (length hs ≡ length js) × (length cs ≡ length bs)
-blank_lengths hs cs js bs n e =
-    (ap (λ (d : Area). length d.kinds) e ∙ length_kinds (zeros n) (area js bs) 0, ap (λ (d : Area). length d.vals) e ∙ length_vals (zeros n) (area js bs) 0)
 
 -- ---- the scan for projections
 

@@ -18,7 +18,7 @@ use Rattle.terms.specs.Result.{pick}
 use Rattle.terms.specs.Words.VirtualTokens.{view, Sight}
 use Rattle.terms.specs.Lookup.{Pattern, front, left, by_patterns, rule_at, rule_count, HeldRule, Ruled}
 use Rattle.terms.specs.Words.RuleListContract.{NextWith}
-use Rattle.terms.specs.Words.Arena.{Tree, Parted, over, number, child, From, Cut, further, Begins, Starts}
+use Rattle.terms.specs.Words.Arena.{Tree, Parted, over, number, child, From, further, Begins, Starts}
 use Rattle.terms.specs.Words.RulesContract.{TermStarts, Numbers, Fronted, last_but_one, MemberIn}
 use Rattle.terms.proofs.Laws.Normalising.RuleListLaws.{NoneFrom}
 use Rattle.terms.proofs.Laws.Held.HeldLaws.{kind_some, items_some, held_sub}
@@ -112,9 +112,6 @@ behind_cancel : (qs l m : Parts) → qs +++ l ≡ qs +++ m → l ≡ m
 behind_cancel end l m e = e
 behind_cancel (num n qs) l m e = behind_cancel qs l m (cc)
 behind_cancel (sub t qs) l m e = behind_cancel qs l m (cc)
-
-pub further_cut : {x : Cursor} → Cut x → (at n : ℕ) (r : Cursor) → r ≡ further x at n → n ≤ at → Cut r
-further_cut c at n r e le = rw e (record { small = c.small; few = le })
 
 module _ (ks vs : List ℕ) (g : Origin) (s : Sight ks vs g) (hs cs : List ℕ) where
   abbrev area : Area
@@ -422,9 +419,6 @@ pub record Searching (ks vs ws : List ℕ) (g : Origin) (hs cs : List ℕ) (x : 
       → (qs : List Pattern) × Ruled ks vs ws r qs × (by_patterns rs ps ≡ by_patterns qs ps)
 
 module _ (ks vs ws : List ℕ) (g : Origin) (hs cs : List ℕ) (x : Cursor) (fuel : ℕ) (s : Sight ks vs g) where
-  pub searching_start : Searching ks vs ws g hs cs x fuel 0
-  searching_start = record { is = λ S ps rs h d k. (rs, k, refl) }
-
   module _ (r : ℕ) (w : Searching ks vs ws g hs cs x fuel r) where
     pub searching_next : r < rule_count ws → Missed ks vs g hs cs x fuel (rule_at ws r) → Searching ks vs ws g hs cs x fuel (r + 1)
     searching_next lt m = record { is = λ S ps rs h d k. let t = w.is S ps rs h d k in go S ps rs h d t.0 t.1 t.2 }

@@ -7,13 +7,11 @@ use Prim.Native.Nat.{ℕ, zero, suc, ◌+◌, ◌-◌, ◌≤◌, ◌<◌}
 use native.Mathlib.Decide.{dec_lt}
 use native.Mathlib.Omega.{arith}
 use lib.ListN.{length, get_or, drop, length-drop, get_elem?, get_or-eq_default}
-use Rattle.terms.specs.declared.Origin.{Origin}
 use Rattle.terms.specs.declared.RowWalk.{RowWalk}
 use Rattle.terms.specs.declared.Token.{Token}
 use Rattle.terms.specs.Words.Tokens.{Area}
 use Rattle.terms.specs.Term.{Term, Parts, var, node, end, num, sub}
 use Rattle.terms.specs.Words.Held.{span}
-use Rattle.terms.specs.Words.VirtualTokens.{view}
 use Rattle.terms.specs.Words.RowsContract.{Moves}
 use Rattle.terms.specs.Tree.{error, nums, subs, children, row}
 use Rattle.terms.specs.Words.Arena.{head_of, kids_of, Tree, Parted, RowAt, NumberAt, KeyOf}
@@ -297,17 +295,3 @@ module _ (a : Area) (h e q m : ℕ) (s : Scan a h e q (Counted m)) where
                 ∙ (drop_next error m (subs (row t)) d.term (subs d.rest) (b.so.left ∙ ap subs d.is ∙ subs_sub d.term d.rest)).3,
             rw (ex, ey, ← b.so.count) d.tree,
           )
-
--- ---- a child's content, as the code reads it
-
-module _ (l : List ℕ) (c q i k r : ℕ) (z : c ≡ 0 → ⊥) (e : k ≡ c - 1 + i) (f : r ≡ get_or l k 0) where
-  pub head_record : r ≡ head_of l c q i
-  head_record = go c refl
-    where
-      go : (d : ℕ) → c ≡ d → r ≡ head_of l d q i
-      go zero y = absurd (z y)
-      go (suc d) y = f ∙ ap (λ (j : ℕ). get_or l j 0) (omega arith)
-
-pub kids_record : (l : List ℕ) (c i k r : ℕ) → (c ≡ 0 → ⊥) → k ≡ c - 1 + i → r ≡ get_or l k 0 → r ≡ kids_of l c i
-kids_record l zero i k r z e f = absurd (z refl)
-kids_record l (suc d) i k r z e f = f ∙ ap (λ (j : ℕ). get_or l j 0) (omega arith)

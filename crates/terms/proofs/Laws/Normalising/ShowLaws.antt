@@ -5,7 +5,7 @@ use mathlib.Core.List.{List, [], ◌++◌, append-nil}
 use Prim.Native.Nat.{ℕ, suc, ◌+◌, ◌-◌, ◌≤◌, ◌<◌}
 use native.Mathlib.Omega.{arith}
 use lib.ListN.{length, get_or, length-append}
-use lib.Seq.{sets, length-sets}
+use lib.Seq.{sets}
 use Rattle.terms.specs.declared.Content.{Content}
 use Rattle.terms.specs.declared.Cursor.{Cursor}
 use Rattle.terms.specs.Result.{pick}
@@ -14,13 +14,12 @@ use Rattle.terms.specs.Words.TokenBytes.{plain, spelt}
 use Rattle.terms.specs.Term.{Term, Parts, end, num, sub, depth, depths, bytes, part_bytes, Held}
 use Rattle.terms.specs.Words.Held.{span}
 use Rattle.terms.specs.Tree.{row}
-use Rattle.terms.specs.Words.Arena.{head_of, kids_of, Tree, variable, branch, Parted, From, Cut}
+use Rattle.terms.specs.Words.Arena.{head_of, kids_of, Tree, variable, branch, Parted, From}
 use Rattle.terms.specs.Words.ShowingContract.{Shows, Kept}
-use Rattle.terms.proofs.Laws.General.Bools.{never_false}
 use Rattle.terms.proofs.Laws.Held.HeldLaws.{items_some}
 use Rattle.terms.proofs.Laws.Held.SameLaws.{span_held}
 use Rattle.terms.proofs.Laws.Normalising.SourceLaws as source
-use Rattle.terms.proofs.Laws.Format.WriteLaws.{sets_append, spell_step, spell_none, spell_whole, held_bytes}
+use Rattle.terms.proofs.Laws.Format.WriteLaws.{sets_append, spell_step, spell_none, held_bytes}
 use Rattle.terms.proofs.Laws.Normalising.ArenaLaws.{parted_over, parted_number, parted_child}
 use Rattle.terms.proofs.Laws.Normalising.AlikeLaws.{depths_num, depths_sub}
 
@@ -68,21 +67,6 @@ module _ (on : Bool) (o₀ : List ℕ) (at : ℕ) (whole o : List ℕ) (i : ℕ)
       go true n q = sym (ap (λ (y : List ℕ). sets o i y) n) ∙ q
       go false n q = q
 
--- ---- bytes at once
-
-pub bytes_full : (on : Bool) (o : List ℕ) (at n r : ℕ) (x : List ℕ) → at ≤ length o → n ≡ length x → length o - at < n → length o < r → Kept on o o at r × Shows on o o at x r
-bytes_full on o at n r x le e lt h = (kept_at on o at r (omega arith), record { fits = λ f. absurd (omega arith); full = λ f. omega arith })
-
-pub bytes_written : (on : Bool) (o o' : List ℕ) (at r : ℕ) (x : List ℕ) → on ≡ true → at + length x ≤ length o → r ≡ at + length x → o' ≡ sets o at x
-    → Kept on o o' at r × Shows on o o' at x r
-bytes_written on o o' at r x e le er eo = (
-  record { long = ap length eo ∙ length-sets o at x; same = λ f. never_false (sym e ∙ f); after = omega arith },
-  record { fits = λ f. (er, rw e eo); full = λ f. absurd (omega arith) },
-)
-
-pub bytes_sized : (on : Bool) (o : List ℕ) (at r : ℕ) (x : List ℕ) → on ≡ false → at + length x ≤ length o → r ≡ at + length x → Kept on o o at r × Shows on o o at x r
-bytes_sized on o at r x e le er = (kept_at on o at r (omega arith), record { fits = λ f. (er, rw e refl); full = λ f. absurd (omega arith) })
-
 -- ---- a run of tokens
 
 module _ (ks vs : List ℕ) (on : Bool) (o₀ : List ℕ) (at from count : ℕ) where
@@ -92,14 +76,6 @@ module _ (ks vs : List ℕ) (on : Bool) (o₀ : List ℕ) (at from count : ℕ) 
     pub within : i ≤ length o₀
     pub ends : e ≡ from + count
     pub rest : Showing on o₀ at (spelt ks vs from count) o i (spelt ks vs q (e - q))
-
-  pub running_start : at ≤ length o₀ → Running o₀ at from (from + count)
-  running_start le = record {
-    kept = kept_at on o₀ at at (omega arith);
-    within = le;
-    ends = refl;
-    rest = rw (spell_whole plain ks vs from count) (show_start on o₀ at (spelt ks vs from count) le);
-  }
 
   module _ (o : List ℕ) (i q e : ℕ) (w : Running o i q e) where
     module _ (lt : q < e) {k v : ℕ} (ek : k ≡ get_or ks q 0) (ev : v ≡ get_or vs q 0) (o' : List ℕ) (d : ℕ) (f : Kept on o o' i d) (s : Shows on o o' i (plain k v) d) where
@@ -165,17 +141,7 @@ module _ (a : Area) (hs cs : List ℕ) (on : Bool) (o₀ : List ℕ) (at : ℕ) 
     pub kept : Kept on o₀ o at i
     pub is : (S : ℕ → Bool) (ps : Parts) → From a hs cs S c ps → depths ps ≤ fuel → RowLeft S ps o i q n
 
-  pub row_start : at ≤ length o₀ → Cut c → RowShowing o₀ at c.at c.child
-  row_start le ct = record {
-    few = ct.few;
-    kept = kept_at on o₀ at at (omega arith);
-    is = λ S ps f d. record { left = ps; rest = f; low = d; state = show_start on o₀ at (part_bytes ps) le };
-  }
-
   module _ (o : List ℕ) (i q n : ℕ) (w : RowShowing o i q n) where
-    pub row_full : length o₀ < i → (S : ℕ → Bool) (ps : Parts) → From a hs cs S c ps → depths ps ≤ fuel → Shows on o₀ o at (part_bytes ps) i
-    row_full h S ps f d = let u = w.is S ps f d in show_end on o₀ at (part_bytes ps) o i (part_bytes u.left) u.state (λ le. absurd (omega arith))
-
     pub row_done : c.end ≤ q → (S : ℕ → Bool) (ps : Parts) → From a hs cs S c ps → depths ps ≤ fuel → Shows on o₀ o at (part_bytes ps) i
     row_done le S ps f d =
         let u = w.is S ps f d in

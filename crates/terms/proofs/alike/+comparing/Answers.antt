@@ -1,15 +1,11 @@
 -- `same_rows`. Invariant: the whole begins with the other where what is left does.
 -- `same_trees`. By the first tokens, and then all tokens, or the rows.
 use mathlib.Core.Path.{refl}
-use Rattle.terms.proofs.Laws.Normalising.AlikeLaws.{meeting_start, meeting_done, meeting_short, meeting_child, meeting_apart, meeting_number, meeting_other, meeting_differ, meeting_same, alike_none, alike_kinds, alike_vars, lent_true, alike_lent, alike_rows, alike_ends}
+use Rattle.terms.proofs.Laws.Normalising.AlikeLaws.{meeting_done, meeting_short, meeting_child, meeting_apart, meeting_number, meeting_other, meeting_differ, meeting_same, alike_none, alike_kinds, alike_vars, lent_true, alike_lent, alike_rows, alike_ends}
 use Rattle.terms.proofs.Laws.Normalising.SourceLaws.{lent_first}
 use borrow.Author.Tests.{not-true, not-false}
 use native.Mathlib.Omega.{arith}
 use Rattle.terms.proofs.alike.+comparing.Goals as goal
-
-pub same_rows-loop-q-init : goal.same_rows-loop-q-init
-same_rows-loop-q-init t c =
-    meeting_start _ _ _ _ _ _ c.requires.cut.0 c.requires.cut.1
 
 pub same_rows-returns-then-x-p : goal.same_rows-returns-then-x-p
 same_rows-returns-then-x-p t c = meeting_short _ _ _ _ _ _ _ _ _ _ c.loop-q.invariant c.loop-q-test.true c.if-x-p.true
@@ -31,15 +27,6 @@ same_rows-returns-then-s-t t c =
     token-at'.ensures.kind token-at'.ensures.value token-at2'.ensures.kind token-at2'.ensures.value c.if-t-eq0.true
     c.if-s-ne0.false c.if-s-t.true
 
-pub same_rows-overflow_add-p : goal.same_rows-overflow_add-p
-same_rows-overflow_add-p t c = omega (arith, c.if-x-p.false, c.requires.cut.0.small)
-
-pub same_rows-overflow_add-q : goal.same_rows-overflow_add-q
-same_rows-overflow_add-q t c = omega (arith, c.loop-q-test.true, c.requires.cut.1.small)
-
-pub same_rows-loop-q-smaller-then-t-eq0 : goal.same_rows-loop-q-smaller-then-t-eq0
-same_rows-loop-q-smaller-then-t-eq0 t c = omega (arith, c.loop-q-test.true)
-
 pub same_rows-loop-q-preserved-then-t-eq0 : goal.same_rows-loop-q-preserved-then-t-eq0
 same_rows-loop-q-preserved-then-t-eq0 t c =
     let token-at' = c.token_at-s in
@@ -57,19 +44,6 @@ same_rows-returns-then-s-eq0 t c =
     c.if-x-p.false token-at'.ensures.kind token-at'.ensures.value token-at2'.ensures.kind token-at2'.ensures.value
     c.if-t-eq0.false c.if-s-eq0.true
 
-pub same_rows-child_here-a-requires : goal.same_rows-child_here-a-requires
-same_rows-child_here-a-requires t c =
-    let if2' = c.if-x-p in
-    (omega (arith, if2'.false, c.requires.cut.0.small), omega (arith, if2'.false, c.requires.cut.0.small, c.loop-q.invariant.first))
-
-pub same_rows-child_here-b-requires : goal.same_rows-child_here-b-requires
-same_rows-child_here-b-requires t c =
-    let if1' = c.loop-q-test in
-    (omega (arith, if1'.true, c.requires.cut.1.small), omega (arith, if1'.true, c.requires.cut.1.small, c.loop-q.invariant.second))
-
-pub same_rows-same_trees-requires : goal.same_rows-same_trees-requires
-same_rows-same_trees-requires t c = (omega arith, tt)
-
 pub same_rows-returns-then-not-same_trees : goal.same_rows-returns-then-not-same_trees
 same_rows-returns-then-not-same_trees t c =
     let token-at' = c.token_at-s in
@@ -81,45 +55,6 @@ same_rows-returns-then-not-same_trees t c =
     token-at'.ensures.kind token-at'.ensures.value token-at2'.ensures.kind token-at2'.ensures.value c.if-t-eq0.false
     c.if-s-eq0.false _ _ child-here'.ensures.head child-here'.ensures.kids child-here2'.ensures.head child-here2'.ensures.kids
     _ c.same_trees.ensures (not-true _ c.if-not-same_trees.true-raw)
-
-pub same_rows-overflow_add-i : goal.same_rows-overflow_add-i
-same_rows-overflow_add-i t c =
-    omega (
-      arith,
-      c.if-x-p.false,
-      c.requires.cut.0.small,
-      c.loop-q.invariant.first,
-    )
-
-pub same_rows-overflow_add-j : goal.same_rows-overflow_add-j
-same_rows-overflow_add-j t c =
-    omega (
-      arith,
-      c.loop-q-test.true,
-      c.requires.cut.1.small,
-      c.loop-q.invariant.second,
-    )
-
-pub same_rows-overflow_add-p-else-t-eq0 : goal.same_rows-overflow_add-p-else-t-eq0
-same_rows-overflow_add-p-else-t-eq0 t c =
-    omega (
-      arith,
-      c.if-x-p.false,
-      c.requires.cut.0.small,
-      c.step-p.ensures.some,
-    )
-
-pub same_rows-overflow_add-q-else-t-eq0 : goal.same_rows-overflow_add-q-else-t-eq0
-same_rows-overflow_add-q-else-t-eq0 t c =
-    omega (
-      arith,
-      c.loop-q-test.true,
-      c.requires.cut.1.small,
-      c.step-q.ensures.some,
-    )
-
-pub same_rows-loop-q-smaller : goal.same_rows-loop-q-smaller
-same_rows-loop-q-smaller t c = omega (arith, c.loop-q-test.true, c.step-q.ensures.some)
 
 pub same_rows-loop-q-preserved : goal.same_rows-loop-q-preserved
 same_rows-loop-q-preserved t c =
@@ -165,12 +100,6 @@ same_trees-returns-then-is_lent-2 t c =
     alike_lent c.args.seen.now.tokens.kinds.now c.args.seen.now.tokens.vals.now c.args.seen.now.given c.args.seen.now.sight c.args.heads.now c.args.kids.now c.args.x c.args.y c.args.fuel _ _
     refl refl (lent_true c.args.seen.now.tokens.kinds.now c.args.seen.now.tokens.vals.now c.args.x _ c.is_lent.ensures c.if-is_lent.true) (lent_true c.args.seen.now.tokens.kinds.now c.args.seen.now.tokens.vals.now c.args.y _ c.is_lent-then-is_lent.ensures c.if-is_lent-2.true)
     _ c.same_term.ensures
-
-pub same_trees-same_rows-m-requires : goal.same_trees-same_rows-m-requires
-same_trees-same_rows-m-requires t c = (
-  omega (arith, c.if-fuel-eq0.false),
-  (c.cursor-a.ensures.cut, c.cursor-b.ensures.cut),
-)
 
 pub same_trees-returns-in_default : goal.same_trees-returns-in_default
 same_trees-returns-in_default t c =

@@ -1,11 +1,9 @@
 -- What each reader leaves, from what its parts leave.
-use Rattle.std.proofs.Common.{◌≡◌, ◌+◌, ◌-◌, ◌≤◌, ℕ, true, refl, sym, ◌∙◌, arith, get_or}
+use Rattle.std.proofs.Common.{◌+◌, ◌-◌, ◌≤◌, ℕ, true, refl, sym, ◌∙◌, arith, get_or}
 use Rattle.terms.specs.Words.Tokens.{area}
-use Rattle.terms.specs.Words.RowPieces.{termless}
 use Rattle.terms.specs.Shape as shape
 use Rattle.terms.specs.Shape.{plain}
 use Rattle.terms.specs.Reading.{term, many, pairs, row}
-use Rattle.terms.specs.Words.Outcomes.{step_of}
 use Rattle.terms.specs.Words.ReadContract.{Next, Stopped}
 use Rattle.terms.proofs.Laws.General.Options.{handed_on, sub_step}
 use Rattle.terms.proofs.Laws.Format.ReadSequenceLaws.{node_done}
@@ -16,119 +14,43 @@ use native.Mathlib.Nat.{sub-zero}
 
 pub read_terms-loop-i-init : goal.read_terms-loop-i-init
 read_terms-loop-i-init t c =
-    let a = c.args in
-    let s = a.s.now in
-    let p = a.place.now in
-    let r = term s a.issued a.levels in
-    let d = area a.kinds.now a.vals.now in
-    rw (sub-zero a.count) (so_far_start s (many s r a.count p.at) p d c.requires.inside)
+    rw (sub-zero c.args.count) (so_far_start _ _ _ _ c.requires.inside)
 
 pub read_terms-returns-in_err-read_term : goal.read_terms-returns-in_err-read_term
-read_terms-returns-in_err-read_term t c =
-    let a = c.args in
-    let s = a.s.now in
-    let p = a.place.now in
-    let r = term s a.issued a.levels in
-    let d = area a.kinds.now a.vals.now in
-    let o = c.loop-i in
-    rw (handed_on _ _ c.from_residual.ensures.1) (terms_stop s r (many s r a.count p.at) p d (area o.kinds o.vals) o.place (a.count - o.i) (omega arith) o.invariant (area c.read_term.new.kinds c.read_term.new.vals) _ c.in_err-read_term.ensures)
+read_terms-returns-in_err-read_term t c = rw (handed_on _ _ c.from_residual.ensures.1) (terms_stop _ _ _ _ _ _ _ _ (omega arith) c.loop-i.invariant _ _ c.in_err-read_term.ensures)
 
 pub read_terms-loop-i-preserved : goal.read_terms-loop-i-preserved
 read_terms-loop-i-preserved t c =
-    let a = c.args in
-    let s = a.s.now in
-    let p = a.place.now in
-    let r = term s a.issued a.levels in
-    let d = area a.kinds.now a.vals.now in
-    let o = c.loop-i in
-    rw (sub_step a.count o.i) (terms_more s r (many s r a.count p.at) p d (area o.kinds o.vals) o.place (a.count - o.i) (omega arith) o.invariant (area c.read_term.new.kinds c.read_term.new.vals) c.read_term.new.place c.in_ok-read_term.ensures)
+    rw (sub_step c.args.count c.loop-i.i) (terms_more _ _ _ _ _ _ _ _ (omega arith) c.loop-i.invariant _ _ c.in_ok-read_term.ensures)
 
 pub read_terms-returns : goal.read_terms-returns
-read_terms-returns t c =
-    let a = c.args in
-    let s = a.s.now in
-    let p = a.place.now in
-    let r = term s a.issued a.levels in
-    let d = area a.kinds.now a.vals.now in
-    let o = c.loop-i in
-    terms_end s r (many s r a.count p.at) p d (area o.kinds o.vals) o.place (a.count - o.i) (omega arith) o.invariant
+read_terms-returns t c = terms_end _ _ _ _ _ _ _ _ (omega arith) c.loop-i.invariant
 
 pub read_pairs-loop-i-init : goal.read_pairs-loop-i-init
 read_pairs-loop-i-init t c =
-    let a = c.args in
-    let s = a.s.now in
-    let p = a.place.now in
-    let r = term s a.issued a.levels in
-    let d = area a.kinds.now a.vals.now in
-    rw (sub-zero a.count) (so_far_start s (pairs s r a.count 0 p.at) p d c.requires.inside)
+    rw (sub-zero c.args.count) (so_far_start _ _ _ _ c.requires.inside)
 
 pub read_pairs-returns-in_err-member : goal.read_pairs-returns-in_err-member
-read_pairs-returns-in_err-member t c =
-    let a = c.args in
-    let s = a.s.now in
-    let p = a.place.now in
-    let r = term s a.issued a.levels in
-    let d = area a.kinds.now a.vals.now in
-    let o = c.loop-i in
-    rw (handed_on _ _ c.from_residual.ensures.1) (pairs_no s r (pairs s r a.count 0 p.at) p d (area o.kinds o.vals) o.place o.least (a.count - o.i) (omega arith) o.invariant (area c.read_value.new.kinds c.read_value.new.vals) _ c.in_err-member.ensures)
+read_pairs-returns-in_err-member t c = rw (handed_on _ _ c.from_residual.ensures.1) (pairs_no _ _ _ _ _ _ _ _ _ (omega arith) c.loop-i.invariant _ _ c.in_err-member.ensures)
 
 pub read_pairs-returns-in_err-read_term : goal.read_pairs-returns-in_err-read_term
-read_pairs-returns-in_err-read_term t c =
-    let a = c.args in
-    let s = a.s.now in
-    let p = a.place.now in
-    let r = term s a.issued a.levels in
-    let d = area a.kinds.now a.vals.now in
-    let o = c.loop-i in
-    rw (handed_on _ _ c.from_residual-in_err-read_term.ensures.1) (pairs_stop s r (pairs s r a.count 0 p.at) p d (area o.kinds o.vals) o.place o.least (area c.read_value.new.kinds c.read_value.new.vals) _ c.read_value.new.place c.in_ok-member.ensures (a.count - o.i) (omega arith) o.invariant (area c.read_term.new.kinds c.read_term.new.vals) _ c.in_err-read_term.ensures)
+read_pairs-returns-in_err-read_term t c = rw (handed_on _ _ c.from_residual-in_err-read_term.ensures.1) (pairs_stop _ _ _ _ _ _ _ _ _ _ _ c.in_ok-member.ensures _ (omega arith) c.loop-i.invariant _ _ c.in_err-read_term.ensures)
 
 pub read_pairs-loop-i-preserved : goal.read_pairs-loop-i-preserved
 read_pairs-loop-i-preserved t c =
-    let a = c.args in
-    let s = a.s.now in
-    let p = a.place.now in
-    let r = term s a.issued a.levels in
-    let d = area a.kinds.now a.vals.now in
-    let o = c.loop-i in
-    rw (sub_step a.count o.i) (pairs_more s r (pairs s r a.count 0 p.at) p d (area o.kinds o.vals) o.place o.least (area c.read_value.new.kinds c.read_value.new.vals) _ c.read_value.new.place c.in_ok-member.ensures (a.count - o.i) (omega arith) o.invariant (area c.read_term.new.kinds c.read_term.new.vals) c.read_term.new.place c.in_ok-read_term.ensures)
+    rw (sub_step c.args.count c.loop-i.i) (pairs_more _ _ _ _ _ _ _ _ _ _ _ c.in_ok-member.ensures _ (omega arith) c.loop-i.invariant _ _ c.in_ok-read_term.ensures)
 
 pub read_pairs-returns : goal.read_pairs-returns
-read_pairs-returns t c =
-    let a = c.args in
-    let s = a.s.now in
-    let p = a.place.now in
-    let r = term s a.issued a.levels in
-    let d = area a.kinds.now a.vals.now in
-    let o = c.loop-i in
-    pairs_end s r (pairs s r a.count 0 p.at) p d (area o.kinds o.vals) o.place o.least (a.count - o.i) (omega arith) o.invariant
+read_pairs-returns t c = pairs_end _ _ _ _ _ _ _ _ _ (omega arith) c.loop-i.invariant
 
 pub read_plain-returns-in_err-read_fields : goal.read_plain-returns-in_err-read_fields
-read_plain-returns-in_err-read_fields t c =
-    let a = c.args in
-    let s = a.s.now in
-    let p = a.place.now in
-    let r = term s a.issued a.levels in
-    let d = area a.kinds.now a.vals.now in
-    rw (handed_on _ _ c.from_residual.ensures.1) (plain_no s r p d (area c.read_fields.new.kinds c.read_fields.new.vals) a.f _ c.in_err-read_fields.ensures)
+read_plain-returns-in_err-read_fields t c = rw (handed_on _ _ c.from_residual.ensures.1) (plain_no _ _ c.args.place.now _ _ _ _ c.in_err-read_fields.ensures)
 
 pub read_plain-returns-then-no_terms : goal.read_plain-returns-then-no_terms
-read_plain-returns-then-no_terms t c =
-    let a = c.args in
-    let s = a.s.now in
-    let p = a.place.now in
-    let r = term s a.issued a.levels in
-    let d = area a.kinds.now a.vals.now in
-    let z : termless a.f ≡ true = sym c.no_terms.ensures ∙ c.if-no_terms.true in
-    plain_fields s r p d (area c.read_fields.new.kinds c.read_fields.new.vals) a.f c.read_fields.new.place c.in_ok-read_fields.ensures z
+read_plain-returns-then-no_terms t c = plain_fields _ _ _ _ _ _ _ c.in_ok-read_fields.ensures (sym c.no_terms.ensures ∙ c.if-no_terms.true)
 
 pub read_plain-returns-in_err-n : goal.read_plain-returns-in_err-n
-read_plain-returns-in_err-n t c =
-    let a = c.args in
-    let s = a.s.now in
-    let p = a.place.now in
-    let r = term s a.issued a.levels in
-    let d = area a.kinds.now a.vals.now in
-    rw (handed_on _ _ c.from_residual-in_err-n.ensures.1) (plain_stop s r p d (area c.read_fields.new.kinds c.read_fields.new.vals) a.f c.read_fields.new.place c.in_ok-read_fields.ensures c.if-f.true (area c.read_value.new.kinds c.read_value.new.vals) _ c.in_err-n.ensures)
+read_plain-returns-in_err-n t c = rw (handed_on _ _ c.from_residual-in_err-n.ensures.1) (plain_stop _ _ _ _ _ _ _ c.in_ok-read_fields.ensures c.if-f.true _ _ c.in_err-n.ensures)
 
 -- where the terms begin: what was read so far, and how many terms are counted at most
 plain_begun : (t : ℕ) (c : read_plain-Joined-f t) →
@@ -150,23 +72,10 @@ plain_begun t c =
     ]
 
 pub read_plain-returns : goal.read_plain-returns
-read_plain-returns t c =
-    let a = c.args in
-    let s = a.s.now in
-    let p = a.place.now in
-    let r = term s a.issued a.levels in
-    let d = area a.kinds.now a.vals.now in
-    let o = c.if-f in
-    so_far_done s (row s r (plain a.f) p.at) p d (many s r (o.n + a.f.terms) o.place.at) (area o.kinds o.vals) o.place (plain_begun t (goal.at.read_plain-returns t c).Joined-f).0 (area c.read_terms.new.kinds c.read_terms.new.vals) (step_of c.read_terms.result c.read_terms.new.place) c.read_terms.ensures
+read_plain-returns t c = so_far_done _ _ _ _ _ _ _ (plain_begun t (goal.at.read_plain-returns t c).Joined-f).0 _ _ c.read_terms.ensures
 
 pub read_nominal-returns-in_err-read_value : goal.read_nominal-returns-in_err-read_value
-read_nominal-returns-in_err-read_value t c =
-    let a = c.args in
-    let s = a.s.now in
-    let p = a.place.now in
-    let r = term s a.issued a.levels in
-    let d = area a.kinds.now a.vals.now in
-    rw (handed_on _ _ c.from_residual.ensures.1) (number_no s r p d (area c.read_value.new.kinds c.read_value.new.vals) shape.definition (shape.terms (shape.members shape.done)) _ c.in_err-read_value.ensures)
+read_nominal-returns-in_err-read_value t c = rw (handed_on _ _ c.from_residual.ensures.1) (number_no _ _ c.args.place.now _ _ shape.definition (shape.terms (shape.members shape.done)) _ c.in_err-read_value.ensures)
 
 pub read_nominal-returns-in_err-arguments : goal.read_nominal-returns-in_err-arguments
 read_nominal-returns-in_err-arguments t c =
@@ -252,29 +161,10 @@ read_nominal-returns-then-members-eq0 t c =
     so_far_done s (row s r (shape.nominal shape.done) p.at) p d (row s r (shape.members shape.done) u.at) f u (nominal_begun t (goal.at.read_nominal-returns-then-members-eq0 t c).Joined-arguments-ne0) g (Next w) (members_last s r u f g n w k g (Next w) (pairs_end s r (pairs s r n 0 w.at) w g g w 0 n (omega (arith, c.if-members-eq0.true)) (so_far_start s (pairs s r n 0 w.at) w g k.2.inside)))
 
 pub read_nominal-returns : goal.read_nominal-returns
-read_nominal-returns t c =
-    let a = c.args in
-    let s = a.s.now in
-    let p = a.place.now in
-    let r = term s a.issued a.levels in
-    let d = area a.kinds.now a.vals.now in
-    let o = c.if-arguments-ne0 in
-    let f = area o.kinds o.vals in
-    let g = area c.read_value-3.new.kinds c.read_value-3.new.vals in
-    let u = o.place in
-    let w = c.read_value-3.new.place in
-    let h = area c.read_pairs.new.kinds c.read_pairs.new.vals in
-    let x = step_of c.read_pairs.result c.read_pairs.new.place in
-    so_far_done s (row s r (shape.nominal shape.done) p.at) p d (row s r (shape.members shape.done) u.at) f u (nominal_begun t (goal.at.read_nominal-returns t c).Joined-arguments-ne0) h x (members_last s r u f g _ w c.in_ok-members.ensures h x c.read_pairs.ensures)
+read_nominal-returns t c = so_far_done _ _ _ _ _ _ _ (nominal_begun t (goal.at.read_nominal-returns t c).Joined-arguments-ne0) _ _ (members_last _ _ _ _ _ _ _ c.in_ok-members.ensures _ _ c.read_pairs.ensures)
 
 pub read_projection-returns-in_err-read_term : goal.read_projection-returns-in_err-read_term
-read_projection-returns-in_err-read_term t c =
-    let a = c.args in
-    let s = a.s.now in
-    let p = a.place.now in
-    let r = term s a.issued a.levels in
-    let d = area a.kinds.now a.vals.now in
-    rw (handed_on _ _ c.from_residual.ensures.1) (term_no s r p d (area c.read_term.new.kinds c.read_term.new.vals) (shape.nominal (shape.number shape.definition (shape.terms shape.done))) _ c.in_err-read_term.ensures)
+read_projection-returns-in_err-read_term t c = rw (handed_on _ _ c.from_residual.ensures.1) (term_no _ _ c.args.place.now _ _ (shape.nominal (shape.number shape.definition (shape.terms shape.done))) _ c.in_err-read_term.ensures)
 
 pub read_projection-returns-in_err-read_nominal : goal.read_projection-returns-in_err-read_nominal
 read_projection-returns-in_err-read_nominal t c =
@@ -321,23 +211,7 @@ read_projection-returns-in_err-arguments t c =
     rw (handed_on _ _ c.from_residual-in_err-arguments.ensures.1) (term_yes s r p d e (shape.nominal (shape.number shape.definition (shape.terms shape.done))) q c.in_ok-read_term.ensures h (Stopped _) (interface_yes s r q e f (shape.number shape.definition (shape.terms shape.done)) u c.in_ok-read_nominal.ensures h (Stopped _) (number_yes s r u f g shape.definition (shape.terms shape.done) _ w c.in_ok-read_value.ensures h (Stopped _) (terms_last s r w g h (Stopped _) (listed_no s r w g h refl _ c.in_err-arguments.ensures)))))
 
 pub read_projection-returns : goal.read_projection-returns
-read_projection-returns t c =
-    let a = c.args in
-    let s = a.s.now in
-    let p = a.place.now in
-    let r = term s a.issued a.levels in
-    let d = area a.kinds.now a.vals.now in
-    let e = area c.read_term.new.kinds c.read_term.new.vals in
-    let f = area c.read_nominal.new.kinds c.read_nominal.new.vals in
-    let q = c.read_term.new.place in
-    let u = c.read_nominal.new.place in
-    let g = area c.read_value.new.kinds c.read_value.new.vals in
-    let h = area c.read_value-2.new.kinds c.read_value-2.new.vals in
-    let w = c.read_value.new.place in
-    let v = c.read_value-2.new.place in
-    let i = area c.read_terms.new.kinds c.read_terms.new.vals in
-    let x = step_of c.read_terms.result c.read_terms.new.place in
-    term_yes s r p d e (shape.nominal (shape.number shape.definition (shape.terms shape.done))) q c.in_ok-read_term.ensures i x (interface_yes s r q e f (shape.number shape.definition (shape.terms shape.done)) u c.in_ok-read_nominal.ensures i x (number_yes s r u f g shape.definition (shape.terms shape.done) _ w c.in_ok-read_value.ensures i x (terms_last s r w g i x (listed_yes s r w g h refl _ v c.in_ok-arguments.ensures i x c.read_terms.ensures))))
+read_projection-returns t c = term_yes _ _ _ _ _ (shape.nominal (shape.number shape.definition (shape.terms shape.done))) _ c.in_ok-read_term.ensures _ _ (interface_yes _ _ _ _ _ (shape.number shape.definition (shape.terms shape.done)) _ c.in_ok-read_nominal.ensures _ _ (number_yes _ _ _ _ _ shape.definition (shape.terms shape.done) _ _ c.in_ok-read_value.ensures _ _ (terms_last _ _ _ _ _ _ (listed_yes _ _ _ _ _ refl _ _ c.in_ok-arguments.ensures _ _ c.read_terms.ensures))))
 
 pub read_term-returns-then-levels-eq0 : goal.read_term-returns-then-levels-eq0
 read_term-returns-then-levels-eq0 t c = (levels_none _ _ _ _ c.if-levels-eq0.true, refl)
@@ -346,38 +220,13 @@ pub read_term-returns-then-s-here : goal.read_term-returns-then-s-here
 read_term-returns-then-s-here t c = (term_end _ _ _ _ c.if-levels-eq0.false c.if-s-here.true, refl)
 
 pub read_term-returns-in-Variable : goal.read_term-returns-in-Variable
-read_term-returns-in-Variable t c =
-    let a = c.args in
-    let s = a.s.now in
-    let p = a.place.now in
-    let d = area a.kinds.now a.vals.now in
-    rw (term_variable s a.issued a.levels p.at c.if-levels-eq0.false c.if-s-here.false (rw c.in-Variable.is at c.kind_of-kind.ensures)) c.read_variable.ensures
+read_term-returns-in-Variable t c = rw (term_variable _ _ _ _ c.if-levels-eq0.false c.if-s-here.false (rw c.in-Variable.is at c.kind_of-kind.ensures)) c.read_variable.ensures
 
 pub read_term-returns-in-Unlisted : goal.read_term-returns-in-Unlisted
-read_term-returns-in-Unlisted t c =
-    let a = c.args in
-    let s = a.s.now in
-    let p = a.place.now in
-    let d = area a.kinds.now a.vals.now in
-    (term_unlisted s a.issued a.levels p.at c.if-levels-eq0.false c.if-s-here.false (rw c.in-Unlisted.is at c.kind_of-kind.ensures), refl)
+read_term-returns-in-Unlisted t c = (term_unlisted _ _ _ _ c.if-levels-eq0.false c.if-s-here.false (rw c.in-Unlisted.is at c.kind_of-kind.ensures), refl)
 
 pub read_term-returns-in_err-read_row-in-Node : goal.read_term-returns-in_err-read_row-in-Node
-read_term-returns-in_err-read_row-in-Node t c =
-    let a = c.args in
-    let s = a.s.now in
-    let p = a.place.now in
-    let d = area a.kinds.now a.vals.now in
-    let e = area c.read_row.new.kinds c.read_row.new.vals in
-    rw ((handed_on _ _ c.from_residual.ensures.1), term_row s a.issued a.levels p.at c.if-levels-eq0.false c.if-s-here.false _ (rw c.in-Node.is at c.kind_of-kind.ensures))
-    (node_done s p d e e (get_or s p.at 0) _ (Stopped _) c.if-s-here.false c.in_err-read_row-in-Node.ensures refl)
+read_term-returns-in_err-read_row-in-Node t c = rw ((handed_on _ _ c.from_residual.ensures.1), term_row _ _ _ _ c.if-levels-eq0.false c.if-s-here.false _ (rw c.in-Node.is at c.kind_of-kind.ensures)) (node_done _ c.args.place.now _ _ _ _ _ (Stopped _) c.if-s-here.false c.in_err-read_row-in-Node.ensures refl)
 
 pub read_term-returns-in_ok-read_row-in-Node : goal.read_term-returns-in_ok-read_row-in-Node
-read_term-returns-in_ok-read_row-in-Node t c =
-    let a = c.args in
-    let s = a.s.now in
-    let p = a.place.now in
-    let d = area a.kinds.now a.vals.now in
-    let e = area c.read_row.new.kinds c.read_row.new.vals in
-    let f = area c.close_node.new.kinds c.close_node.new.vals in
-    rw (term_row s a.issued a.levels p.at c.if-levels-eq0.false c.if-s-here.false _ (rw c.in-Node.is at c.kind_of-kind.ensures))
-    (node_done s p d e f (get_or s p.at 0) _ (Next c.read_row.new.place) c.if-s-here.false c.in_ok-read_row-in-Node.ensures c.close_node.ensures)
+read_term-returns-in_ok-read_row-in-Node t c = rw (term_row _ _ _ _ c.if-levels-eq0.false c.if-s-here.false _ (rw c.in-Node.is at c.kind_of-kind.ensures)) (node_done _ c.args.place.now _ _ _ _ _ (Next c.read_row.new.place) c.if-s-here.false c.in_ok-read_row-in-Node.ensures c.close_node.ensures)

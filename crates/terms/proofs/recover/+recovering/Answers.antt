@@ -2,7 +2,7 @@
 -- `recover_term`: the holes of either term, or the head and the rows.
 use Prim.Native.Nat.{◌-◌, ℕ, ◌%◌}
 use Rattle.terms.proofs.Laws.Held.FlatLaws.{held_one}
-use Rattle.terms.proofs.Laws.Replacing.RecoverLaws.{put_none, recover_stays, stays_parted, recover_number, both_terms, recover_both, told_row, put_one, put_then, put_same, tag_told, whole_bytes, stays_first, stays_not, hole_left, entered_term, head_byte, row_any, row_formed}
+use Rattle.terms.proofs.Laws.Replacing.RecoverLaws.{recover_stays, stays_parted, recover_number, both_terms, recover_both, told_row, put_one, put_then, put_same, tag_told, whole_bytes, stays_first, stays_not, hole_left, entered_term, head_byte, row_any, row_formed}
 use Rattle.terms.specs.Comparison.{recovery}
 use Rattle.terms.specs.Recovery.{recover_row, recover_from, reach}
 use Rattle.terms.specs.Term.{part_bytes, bytes}
@@ -11,27 +11,9 @@ use Rattle.terms.specs.Words.TokenBytes.{spelt}
 use lib.Dec.{eqb}
 use mathlib.Core.Bool.{◌||◌}
 use mathlib.Core.List.{[], ◌∷◌}
-use mathlib.Core.Path.{◌≡◌, refl, sym, ◌∙◌, ap}
+use mathlib.Core.Path.{◌≡◌, sym, ◌∙◌, ap}
 use native.Mathlib.Omega.{arith}
 use Rattle.terms.proofs.recover.+recovering.Goals as goal
-
-pub recover_row-loop-out-init : goal.recover_row-loop-out-init
-recover_row-loop-out-init t c = (omega (arith, c.requires.places), omega (arith, c.requires.places), omega arith, λ k ps qs hp hq fp fq e. record { count = k; left = ps; right = qs; held_left = hp; held_right = hq; formed_left = fp; formed_right = fq; stops = e; done = []; put = put_none _ _; same = refl })
-
-pub recover_row-paired-requires : goal.recover_row-paired-requires
-recover_row-paired-requires t c = (omega (arith, c.requires.places), omega (arith, c.requires.places))
-
-pub recover_row-put_run-to-requires : goal.recover_row-put_run-to-requires
-recover_row-put_run-to-requires t c = record { run = (omega (arith, c.paired.ensures.on c.loop-out-test.true, c.loop-out.invariant.0, c.loop-out.invariant.1, c.loop-out.invariant.2, c.requires.places), omega (arith, c.paired.ensures.on c.loop-out-test.true, c.loop-out.invariant.0, c.loop-out.invariant.1, c.loop-out.invariant.2, c.requires.places)); room = omega (arith, c.paired.ensures.on c.loop-out-test.true, c.loop-out.invariant.0, c.loop-out.invariant.1, c.loop-out.invariant.2, c.requires.places, c.requires.room) }
-
-pub recover_row-overflow_add-i : goal.recover_row-overflow_add-i
-recover_row-overflow_add-i t c = omega (arith, c.paired.ensures.on c.loop-out-test.true, c.loop-out.invariant.0, c.loop-out.invariant.1, c.loop-out.invariant.2, c.requires.places)
-
-pub recover_row-overflow_add-j : goal.recover_row-overflow_add-j
-recover_row-overflow_add-j t c = omega (arith, c.paired.ensures.on c.loop-out-test.true, c.loop-out.invariant.0, c.loop-out.invariant.1, c.loop-out.invariant.2, c.requires.places)
-
-pub recover_row-loop-out-smaller-then-word-eq0 : goal.recover_row-loop-out-smaller-then-word-eq0
-recover_row-loop-out-smaller-then-word-eq0 t c = omega (arith, c.paired.ensures.on c.loop-out-test.true, c.loop-out.invariant.0, c.loop-out.invariant.1, c.loop-out.invariant.2, c.requires.places)
 
 pub recover_row-loop-out-preserved-then-word-eq0 : goal.recover_row-loop-out-preserved-then-word-eq0
 recover_row-loop-out-preserved-then-word-eq0 t c = (
@@ -42,36 +24,6 @@ recover_row-loop-out-preserved-then-word-eq0 t c = (
       let x = c.loop-out.invariant.3 k ps qs hp hq fp fq e in
       recover_number _ _ _ _ _ _ _ _ _ _ _ _ x (c.paired.ensures.on c.loop-out-test.true).left c.requires.places.1 (c.paired.ensures.on c.loop-out-test.true).right (sym c.word.ensures ∙ c.if-word-eq0.true) ((c.paired.ensures.on c.loop-out-test.true).number (sym c.word.ensures ∙ c.if-word-eq0.true)) _ _ c.put_run-to.ensures.next c.put_run-to.ensures.put,
 )
-
-pub recover_row-overflow_sub-pe : goal.recover_row-overflow_sub-pe
-recover_row-overflow_sub-pe t c = omega (arith, c.paired.ensures.on c.loop-out-test.true, c.loop-out.invariant.0, c.loop-out.invariant.1, c.loop-out.invariant.2, c.requires.places)
-
-pub recover_row-skip-n-requires : goal.recover_row-skip-n-requires
-recover_row-skip-n-requires t c = (omega (arith, c.paired.ensures.on c.loop-out-test.true, c.loop-out.invariant.0, c.loop-out.invariant.1, c.loop-out.invariant.2, c.requires.places), omega (arith, c.paired.ensures.on c.loop-out-test.true, c.loop-out.invariant.0, c.loop-out.invariant.1, c.loop-out.invariant.2, c.requires.places))
-
-pub recover_row-overflow_sub-qe : goal.recover_row-overflow_sub-qe
-recover_row-overflow_sub-qe t c = omega (arith, c.paired.ensures.on c.loop-out-test.true, c.loop-out.invariant.0, c.loop-out.invariant.1, c.loop-out.invariant.2, c.requires.places)
-
-pub recover_row-skip-m-requires : goal.recover_row-skip-m-requires
-recover_row-skip-m-requires t c = (omega (arith, c.paired.ensures.on c.loop-out-test.true, c.loop-out.invariant.0, c.loop-out.invariant.1, c.loop-out.invariant.2, c.requires.places), omega (arith, c.paired.ensures.on c.loop-out-test.true, c.loop-out.invariant.0, c.loop-out.invariant.1, c.loop-out.invariant.2, c.requires.places))
-
-pub recover_row-overflow_add-i-else-word-eq0 : goal.recover_row-overflow_add-i-else-word-eq0
-recover_row-overflow_add-i-else-word-eq0 t c = omega (arith, c.paired.ensures.on c.loop-out-test.true, c.loop-out.invariant.0, c.loop-out.invariant.1, c.loop-out.invariant.2, c.requires.places, c.skip-n.ensures.some.1)
-
-pub recover_row-overflow_add-j-else-word-eq0 : goal.recover_row-overflow_add-j-else-word-eq0
-recover_row-overflow_add-j-else-word-eq0 t c = omega (arith, c.paired.ensures.on c.loop-out-test.true, c.loop-out.invariant.0, c.loop-out.invariant.1, c.loop-out.invariant.2, c.requires.places, c.skip-m.ensures.some.1)
-
-pub recover_row-recover_term-to-requires : goal.recover_row-recover_term-to-requires
-recover_row-recover_term-to-requires t c = (omega (arith, c.paired.ensures.on c.loop-out-test.true, c.loop-out.invariant.0, c.loop-out.invariant.1, c.loop-out.invariant.2, c.requires.places, c.skip-n.ensures.some.0, c.skip-n.ensures.some.1), ((omega (arith, c.paired.ensures.on c.loop-out-test.true, c.skip-n.ensures.some.0), omega (arith, c.paired.ensures.on c.loop-out-test.true, c.loop-out.invariant.0, c.loop-out.invariant.1, c.loop-out.invariant.2, c.requires.places, c.skip-n.ensures.some.1), omega (arith, c.paired.ensures.on c.loop-out-test.true, c.skip-m.ensures.some.0), omega (arith, c.paired.ensures.on c.loop-out-test.true, c.loop-out.invariant.0, c.loop-out.invariant.1, c.loop-out.invariant.2, c.requires.places, c.skip-m.ensures.some.1)), omega (arith, c.paired.ensures.on c.loop-out-test.true, c.loop-out.invariant.0, c.loop-out.invariant.1, c.loop-out.invariant.2, c.requires.places, c.requires.room, c.skip-n.ensures.some.1, c.skip-m.ensures.some.1, c.skip-n.ensures.some.0, c.skip-m.ensures.some.0)))
-
-pub recover_row-overflow_add-i-else-word-eq0-2 : goal.recover_row-overflow_add-i-else-word-eq0-2
-recover_row-overflow_add-i-else-word-eq0-2 t c = omega (arith, c.paired.ensures.on c.loop-out-test.true, c.loop-out.invariant.0, c.loop-out.invariant.1, c.loop-out.invariant.2, c.requires.places, c.skip-n.ensures.some.1)
-
-pub recover_row-overflow_add-j-else-word-eq0-2 : goal.recover_row-overflow_add-j-else-word-eq0-2
-recover_row-overflow_add-j-else-word-eq0-2 t c = omega (arith, c.paired.ensures.on c.loop-out-test.true, c.loop-out.invariant.0, c.loop-out.invariant.1, c.loop-out.invariant.2, c.requires.places, c.skip-m.ensures.some.1)
-
-pub recover_row-loop-out-smaller : goal.recover_row-loop-out-smaller
-recover_row-loop-out-smaller t c = omega (arith, c.paired.ensures.on c.loop-out-test.true, c.loop-out.invariant.0, c.loop-out.invariant.1, c.loop-out.invariant.2, c.requires.places, c.skip-n.ensures.some.0, c.skip-n.ensures.some.1)
 
 pub recover_row-loop-out-preserved : goal.recover_row-loop-out-preserved
 recover_row-loop-out-preserved t c = (
@@ -86,93 +38,45 @@ recover_row-loop-out-preserved t c = (
       recover_both _ _ _ _ _ _ _ _ _ _ _ _ x (c.paired.ensures.on c.loop-out-test.true).left c.requires.places.1 (c.paired.ensures.on c.loop-out-test.true).right y _ _ n m _ _ (c.recover_term-to.ensures.put y.t y.u (held_one _ _ _ _ y.t y.held_left n) (held_one _ _ _ _ y.u y.held_right m) y.formed_left y.formed_right),
 )
 
-pub recover_row-overflow_sub-pe-2 : goal.recover_row-overflow_sub-pe-2
-recover_row-overflow_sub-pe-2 t c = omega (arith, c.loop-out.invariant.0, c.loop-out.invariant.1, c.loop-out.invariant.2)
+pub recover_row-returns-clause-put : goal.recover_row-returns-clause-put
+recover_row-returns-clause-put t c = λ k ps qs hp hq fp fq e.
+    let x = c.loop-out.invariant.3 k ps qs hp hq fp fq e in
+    recover_stays _ _ _ _ _ _ _ _ _ _ _ _ x (stays_parted _ _ _ _ _ _ _ _ _ _ _ _ x c.requires.places.1 (c.paired.ensures.off c.loop-out-test.false)) _ _ c.put_run.ensures.next c.put_run.ensures.put
 
-pub recover_row-put_run-requires : goal.recover_row-put_run-requires
-recover_row-put_run-requires t c = record { run = (omega (arith, c.loop-out.invariant.0, c.loop-out.invariant.1, c.loop-out.invariant.2, c.requires.places), omega (arith, c.loop-out.invariant.0, c.loop-out.invariant.1, c.loop-out.invariant.2, c.requires.places)); room = omega (arith, c.loop-out.invariant.0, c.loop-out.invariant.1, c.loop-out.invariant.2, c.requires.places, c.requires.room) }
+pub recover_term-returns-then-stays-clause-put : goal.recover_term-returns-then-stays-clause-put
+recover_term-returns-then-stays-clause-put t c = λ t u ht hu ft fu.
+    let a = c.args in
+    let ks = c.args.tokens.now.kinds.now in
+    let vs = c.args.tokens.now.vals.now in
+    let x = tag_told _ _ _ _ t ht _ _ c.word.ensures c.tag_of-k.ensures in
+    let y = tag_told _ _ _ _ u hu _ _ c.word-2.ensures c.tag_of.ensures in
+    let h = ap (λ (n : ℕ). recovery n || eqb (tag t) 1) (sym y) ∙ ap (λ (n : ℕ). recovery c.tag_of.result || eqb n 1) (sym x) ∙ sym c.stays.ensures ∙ c.if-stays.true in
+    put_same a.out.now _ a.at c.put_run.result (spelt ks vs a.p (a.pe - a.p)) (bytes (recover_from t u)) (whole_bytes ks vs a.p a.pe t ht ∙ ap bytes (sym (stays_first t u ft h))) (put_one a.out.now _ a.at c.put_run.result (spelt ks vs a.p (a.pe - a.p)) c.put_run.ensures.next c.put_run.ensures.put)
 
-pub recover_row-shape_of-out : goal.recover_row-shape_of-out
-recover_row-shape_of-out t c = omega (arith, c.loop-out.invariant.0, c.loop-out.invariant.1, c.loop-out.invariant.2, c.put_run.auto)
+pub recover_term-returns-then-is_hole-clause-put : goal.recover_term-returns-then-is_hole-clause-put
+recover_term-returns-then-is_hole-clause-put t c = λ t u ht hu ft fu.
+    let a = c.args in
+    let ks = c.args.tokens.now.kinds.now in
+    let vs = c.args.tokens.now.vals.now in
+    let x = tag_told _ _ _ _ t ht _ _ c.word.ensures c.tag_of-k.ensures in
+    let y = tag_told _ _ _ _ u hu _ _ c.word-2.ensures c.tag_of.ensures in
+    let h = ap (λ (n : ℕ). recovery n || eqb (tag t) 1) (sym y) ∙ ap (λ (n : ℕ). recovery c.tag_of.result || eqb n 1) (sym x) ∙ sym c.stays.ensures ∙ c.if-stays.false in
+    let n = stays_not t u h in
+    let g = ap recovery (sym x) ∙ sym c.is_hole.ensures ∙ c.if-is_hole.true in
+    put_same a.out.now _ a.at c.put_run-then-is_hole.result (spelt ks vs a.q (a.qe - a.q)) (bytes (recover_from t u)) (whole_bytes ks vs a.q a.qe u hu ∙ ap bytes (sym (hole_left t u n.0 n.1 g))) (put_one a.out.now _ a.at c.put_run-then-is_hole.result (spelt ks vs a.q (a.qe - a.q)) c.put_run-then-is_hole.ensures.next c.put_run-then-is_hole.ensures.put)
 
-pub recover_row-returns : goal.recover_row-returns
-recover_row-returns t c = record {
-  bound = omega (arith, c.put_run.ensures.bound, c.loop-out.invariant.0, c.loop-out.invariant.1, c.loop-out.invariant.2, c.requires.places);
-  put = λ k ps qs hp hq fp fq e.
-      let x = c.loop-out.invariant.3 k ps qs hp hq fp fq e in
-      recover_stays _ _ _ _ _ _ _ _ _ _ _ _ x (stays_parted _ _ _ _ _ _ _ _ _ _ _ _ x c.requires.places.1 (c.paired.ensures.off c.loop-out-test.false)) _ _ c.put_run.ensures.next c.put_run.ensures.put;
-}
-
-pub recover_term-overflow_sub-pe : goal.recover_term-overflow_sub-pe
-recover_term-overflow_sub-pe t c = omega (arith, c.requires.places)
-
-pub recover_term-put_run-requires : goal.recover_term-put_run-requires
-recover_term-put_run-requires t c = record { run = (omega (arith, c.requires.places), omega (arith, c.requires.places)); room = omega (arith, c.requires.places, c.requires.room) }
-
-pub recover_term-returns-then-stays : goal.recover_term-returns-then-stays
-recover_term-returns-then-stays t c = record {
-  bound = omega (arith, c.put_run.ensures.bound, c.requires.places);
-  put = λ t u ht hu ft fu.
-      let a = c.args in
-      let ks = c.args.tokens.now.kinds.now in
-      let vs = c.args.tokens.now.vals.now in
-      let x = tag_told _ _ _ _ t ht _ _ c.word.ensures c.tag_of-k.ensures in
-      let y = tag_told _ _ _ _ u hu _ _ c.word-2.ensures c.tag_of.ensures in
-      let h = ap (λ (n : ℕ). recovery n || eqb (tag t) 1) (sym y) ∙ ap (λ (n : ℕ). recovery c.tag_of.result || eqb n 1) (sym x) ∙ sym c.stays.ensures ∙ c.if-stays.true in
-      put_same a.out.now _ a.at c.put_run.result (spelt ks vs a.p (a.pe - a.p)) (bytes (recover_from t u)) (whole_bytes ks vs a.p a.pe t ht ∙ ap bytes (sym (stays_first t u ft h))) (put_one a.out.now _ a.at c.put_run.result (spelt ks vs a.p (a.pe - a.p)) c.put_run.ensures.next c.put_run.ensures.put);
-}
-
-pub recover_term-overflow_sub-qe : goal.recover_term-overflow_sub-qe
-recover_term-overflow_sub-qe t c = omega (arith, c.requires.places)
-
-pub recover_term-put_run-requires-then-is_hole : goal.recover_term-put_run-requires-then-is_hole
-recover_term-put_run-requires-then-is_hole t c = record { run = (omega (arith, c.requires.places), omega (arith, c.requires.places)); room = omega (arith, c.requires.places, c.requires.room) }
-
-pub recover_term-returns-then-is_hole : goal.recover_term-returns-then-is_hole
-recover_term-returns-then-is_hole t c = record {
-  bound = omega (arith, c.put_run-then-is_hole.ensures.bound, c.requires.places);
-  put = λ t u ht hu ft fu.
-      let a = c.args in
-      let ks = c.args.tokens.now.kinds.now in
-      let vs = c.args.tokens.now.vals.now in
-      let x = tag_told _ _ _ _ t ht _ _ c.word.ensures c.tag_of-k.ensures in
-      let y = tag_told _ _ _ _ u hu _ _ c.word-2.ensures c.tag_of.ensures in
-      let h = ap (λ (n : ℕ). recovery n || eqb (tag t) 1) (sym y) ∙ ap (λ (n : ℕ). recovery c.tag_of.result || eqb n 1) (sym x) ∙ sym c.stays.ensures ∙ c.if-stays.false in
-      let n = stays_not t u h in
-      let g = ap recovery (sym x) ∙ sym c.is_hole.ensures ∙ c.if-is_hole.true in
-      put_same a.out.now _ a.at c.put_run-then-is_hole.result (spelt ks vs a.q (a.qe - a.q)) (bytes (recover_from t u)) (whole_bytes ks vs a.q a.qe u hu ∙ ap bytes (sym (hole_left t u n.0 n.1 g))) (put_one a.out.now _ a.at c.put_run-then-is_hole.result (spelt ks vs a.q (a.qe - a.q)) c.put_run-then-is_hole.ensures.next c.put_run-then-is_hole.ensures.put);
-}
-
-pub recover_term-reach_end-stop-requires : goal.recover_term-reach_end-stop-requires
-recover_term-reach_end-stop-requires t c = c.requires.places
-
-pub recover_term-put_run-next-requires : goal.recover_term-put_run-next-requires
-recover_term-put_run-next-requires t c = record { run = (omega (arith, c.requires.places), omega (arith, c.requires.places)); room = omega (arith, c.requires.places, c.requires.room) }
-
-pub recover_term-overflow_add-p : goal.recover_term-overflow_add-p
-recover_term-overflow_add-p t c = omega (arith, c.requires.places)
-
-pub recover_term-overflow_add-q : goal.recover_term-overflow_add-q
-recover_term-overflow_add-q t c = omega (arith, c.requires.places)
-
-pub recover_term-recover_row-requires : goal.recover_term-recover_row-requires
-recover_term-recover_row-requires t c = (omega (arith, c.requires.places), ((omega (arith, c.reach_end-stop.ensures.within), omega (arith, c.reach_end-stop.ensures.within), c.requires.places.1, omega (arith, c.requires.places), c.requires.places.3), omega (arith, c.put_run-next.ensures.bound, c.requires.places, c.requires.room)))
-
-pub recover_term-returns : goal.recover_term-returns
-recover_term-returns t c = record {
-  bound = omega (arith, c.put_run-next.ensures.bound, c.recover_row.ensures.bound, c.requires.places);
-  put = λ t u ht hu ft fu.
-      let a = c.args in
-      let ks = c.args.tokens.now.kinds.now in
-      let vs = c.args.tokens.now.vals.now in
-      let x = tag_told _ _ _ _ t ht _ _ c.word.ensures c.tag_of-k.ensures in
-      let y = tag_told _ _ _ _ u hu _ _ c.word-2.ensures c.tag_of.ensures in
-      let h = ap (λ (n : ℕ). recovery n || eqb (tag t) 1) (sym y) ∙ ap (λ (n : ℕ). recovery c.tag_of.result || eqb n 1) (sym x) ∙ sym c.stays.ensures ∙ c.if-stays.false in
-      let n = stays_not t u h in
-      let g = ap recovery (sym x) ∙ sym c.is_hole.ensures ∙ c.if-is_hole.false in
-      let d : tag t ≡ 1 → ⊥ = n.1 in
-      let z = put_one a.out.now _ a.at c.put_run-next.result (spelt ks vs a.p 1) c.put_run-next.ensures.next c.put_run-next.ensures.put in
-      let w = c.recover_row.ensures.put (reach t u) (row t) (row u) (row_any ks vs a.p a.pe t ht) (row_any ks vs a.q a.qe u hu) (row_formed t ft) (row_formed u fu) (c.reach_end-stop.ensures.reached t u ht hu ft fu) in
-      put_same _ _ _ _ _ _ (sym (entered_term t u n.0 d g)) (put_then a.out.now _ _ a.at c.put_run-next.result c.recover_row.result ((tag t % 256) ∷ []) (part_bytes (recover_row (row t) (reach t u) (row u)))
-      (put_same a.out.now _ a.at c.put_run-next.result (spelt ks vs a.p 1) ((tag t % 256) ∷ []) (head_byte ks vs a.p a.pe t ht d) z) w);
-}
+pub recover_term-returns-clause-put : goal.recover_term-returns-clause-put
+recover_term-returns-clause-put t c = λ t u ht hu ft fu.
+    let a = c.args in
+    let ks = c.args.tokens.now.kinds.now in
+    let vs = c.args.tokens.now.vals.now in
+    let x = tag_told _ _ _ _ t ht _ _ c.word.ensures c.tag_of-k.ensures in
+    let y = tag_told _ _ _ _ u hu _ _ c.word-2.ensures c.tag_of.ensures in
+    let h = ap (λ (n : ℕ). recovery n || eqb (tag t) 1) (sym y) ∙ ap (λ (n : ℕ). recovery c.tag_of.result || eqb n 1) (sym x) ∙ sym c.stays.ensures ∙ c.if-stays.false in
+    let n = stays_not t u h in
+    let g = ap recovery (sym x) ∙ sym c.is_hole.ensures ∙ c.if-is_hole.false in
+    let d : tag t ≡ 1 → ⊥ = n.1 in
+    let z = put_one a.out.now _ a.at c.put_run-next.result (spelt ks vs a.p 1) c.put_run-next.ensures.next c.put_run-next.ensures.put in
+    let w = c.recover_row.ensures.put (reach t u) (row t) (row u) (row_any ks vs a.p a.pe t ht) (row_any ks vs a.q a.qe u hu) (row_formed t ft) (row_formed u fu) (c.reach_end-stop.ensures.reached t u ht hu ft fu) in
+    put_same _ _ _ _ _ _ (sym (entered_term t u n.0 d g)) (put_then a.out.now _ _ a.at c.put_run-next.result c.recover_row.result ((tag t % 256) ∷ []) (part_bytes (recover_row (row t) (reach t u) (row u)))
+    (put_same a.out.now _ a.at c.put_run-next.result (spelt ks vs a.p 1) ((tag t % 256) ∷ []) (head_byte ks vs a.p a.pe t ht d) z) w)

@@ -1,12 +1,6 @@
 use native.Mathlib.Omega.{arith}
-use Rattle.terms.proofs.Laws.Normalising.ScanLaws.{Counted, walk_start, over_here, over_width, walk_child, walk_number, child_over, child_number, child_next, child_found, counted_start}
+use Rattle.terms.proofs.Laws.Normalising.ScanLaws.{over_here, over_width, walk_child, walk_number, child_over, child_number, child_next, child_found}
 use Rattle.terms.proofs.rows.child_at.Goals as goal
-
-pub loop-q-init : goal.loop-q-init
-loop-q-init c =
-    let a = c.args in
-    let e = c.walk_row-q-items.ensures in
-    (rw c.into_iter-q-iterator.ensures.into_iter_gives (walk_start a.seen.now a.x.head c.walk_row-q-items.result (Counted 0) e.row e.seen counted_start), omega arith, omega arith)
 
 pub returns-then-n-i : goal.returns-then-n-i
 returns-then-n-i c =

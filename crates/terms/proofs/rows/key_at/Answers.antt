@@ -1,13 +1,7 @@
 use native.Mathlib.Omega.{arith}
 use Rattle.terms.proofs.rows.key_at.Goals.{then-y-x+else-k-ge3, else-y-x}
-use Rattle.terms.proofs.Laws.Normalising.ScanLaws.{Passed, walk_start, over_here, over_width, walk_child, walk_number, key_over, key_here, key_next, key_pass, passed_start}
+use Rattle.terms.proofs.Laws.Normalising.ScanLaws.{over_here, over_width, walk_child, walk_number, key_over, key_here, key_next, key_pass}
 use Rattle.terms.proofs.rows.key_at.Goals as goal
-
-pub loop-y-init : goal.loop-y-init
-loop-y-init c =
-    let a = c.args in
-    let e = c.walk_row-y-items.ensures in
-    (rw c.into_iter-y-iterator.ensures.into_iter_gives (walk_start a.seen.now a.h c.walk_row-y-items.result (Passed a.x 0) e.row e.seen (passed_start a.x)), omega arith)
 
 pub returns-then-k-ge3 : goal.returns-then-k-ge3
 returns-then-k-ge3 c =

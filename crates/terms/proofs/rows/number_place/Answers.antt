@@ -1,14 +1,7 @@
 use native.Mathlib.Omega.{arith}
-use mathlib.Core.Path.{refl}
 use Rattle.terms.proofs.Laws.Normalising.VirtualTokenLaws.{few_kinds, few_vals}
-use Rattle.terms.proofs.Laws.Normalising.ScanLaws.{Wanted, walk_start, over_here, over_width, walk_child, walk_number, number_over, number_here, number_next, number_pass}
+use Rattle.terms.proofs.Laws.Normalising.ScanLaws.{over_here, over_width, walk_child, walk_number, number_over, number_here, number_next, number_pass}
 use Rattle.terms.proofs.rows.number_place.Goals as goal
-
-pub loop-q-init : goal.loop-q-init
-loop-q-init c =
-    let a = c.args in
-    let e = c.walk_row-q-items.ensures in
-    rw c.into_iter-q-iterator.ensures.into_iter_gives (walk_start a.seen.now a.h c.walk_row-q-items.result (Wanted a.i a.i) e.row e.seen (λ w. refl))
 
 pub returns-then-left-eq0 : goal.returns-then-left-eq0
 returns-then-left-eq0 c =

@@ -21,7 +21,7 @@ show_row-loop-q-preserved-then-y-eq0 t c =
     let o = c.next.new.self in
     let m = over_here _ _ i.1 _ _ o s in
     let e = c.show_token-i.ensures in (
-      rw (over_number _ _ i.1 _ _ o s c.if-y-eq0.true) at (row_number (view a.seen.now.tokens.kinds.now a.seen.now.tokens.vals.now a.seen.now.given) a.heads.now a.kids.now a.on a.out.now a.at a.c a.fuel _ _ _ _ i.0
+      rw (over_number _ _ i.1 _ _ o s c.if-y-eq0.true) at (row_number _ _ _ _ _ _ _ _ _ _ _ _ i.0
           (omega (arith, c.if-out-i.false, i.0.kept.long)) (rw i.2 at m.1) m.2 m.3 _ _ e.kept c.if-y-eq0.true e.shows),
       over_on _ _ i.1 _ _ o s,
       s.1 ∙ i.2,
@@ -36,7 +36,7 @@ show_row-loop-q-preserved t c =
     let m = over_here _ _ i.1 _ _ o s in
     let h = c.child_here-z.ensures in
     let e = c.show_tree-i.ensures in (
-      rw (over_child _ _ i.1 _ _ o s) at (row_child (view a.seen.now.tokens.kinds.now a.seen.now.tokens.vals.now a.seen.now.given) a.heads.now a.kids.now a.on a.out.now a.at a.c a.fuel _ _ _ _ i.0
+      rw (over_child _ _ i.1 _ _ o s) at (row_child _ _ _ _ _ _ _ _ _ _ _ _ i.0
           (omega (arith, c.if-out-i.false, i.0.kept.long)) (rw i.2 at m.1) m.2 m.3 _ _ e.kept c.if-y-eq0.false _ (rw (m.0) at h.head) h.kids _
           (over_width _ _ i.1 _ _ o s) (omega (arith, s.0.4)) e.shows),
       over_on _ _ i.1 _ _ o s,
@@ -47,14 +47,7 @@ pub show_row-returns-clause-shows : goal.show_row-returns-clause-shows
 show_row-returns-clause-shows t c =
     let a = c.args in
     let i = c.loop-q.invariant in
-    row_done (view a.seen.now.tokens.kinds.now a.seen.now.tokens.vals.now a.seen.now.given) a.heads.now a.kids.now a.on a.out.now a.at a.c a.fuel _ _ _ _ i.0 (rw i.2 at c.in-None.ensures.steps.0.0)
-
-pub show_tree-show_run-requires : goal.show_tree-show_run-requires
-show_tree-show_run-requires t c =
-    record { small = (omega arith, omega (arith, c.step.ensures.some)); room = c.requires.room }
-
-pub show_tree-shape_of-out-then-x-eq0 : goal.show_tree-shape_of-out-then-x-eq0
-show_tree-shape_of-out-then-x-eq0 t c = c.show_run.ensures.kept.long
+    row_done _ _ _ _ _ _ _ _ _ _ _ _ i.0 (rw i.2 at c.in-None.ensures.steps.0.0)
 
 pub show_tree-returns-then-x-eq0 : goal.show_tree-returns-then-x-eq0
 show_tree-returns-then-x-eq0 t c =
@@ -64,23 +57,13 @@ show_tree-returns-then-x-eq0 t c =
     record {
       kept = show-run'.ensures.kept;
       shows = λ S t w d.
-          let e = tree_flat (view c.args.seen.now.tokens.kinds.now c.args.seen.now.tokens.vals.now c.args.seen.now.given) c.args.heads.now c.args.kids.now
-          S w c.if-x-eq0.true c.args.x.head step'.result refl
-          (token-at'.ensures.kind ∙ ap (λ (i : ℕ). get_or (view c.args.seen.now.tokens.kinds.now c.args.seen.now.tokens.vals.now c.args.seen.now.given).kinds i 0)
-          refl)
-          (token-at'.ensures.value ∙ ap (λ (i : ℕ). get_or (view c.args.seen.now.tokens.kinds.now c.args.seen.now.tokens.vals.now c.args.seen.now.given).vals i 0)
-          refl) step'.ensures.span in
+          let e = tree_flat _ _ _ S w c.if-x-eq0.true c.args.x.head step'.result refl
+          token-at'.ensures.kind token-at'.ensures.value step'.ensures.span in
           rw (← e) show-run'.ensures.shows;
     }
 
 pub show_tree-returns-then-fuel-eq0 : goal.show_tree-returns-then-fuel-eq0
 show_tree-returns-then-fuel-eq0 t c = record { kept = kept_at _ _ _ _ (omega (arith, c.requires.room)); shows = λ S t w d. absurd (omega (arith, d (omega (arith, c.if-x-eq0.false)), depth_some t)) }
-
-pub show_tree-show_token-i-requires : goal.show_tree-show_token-i-requires
-show_tree-show_token-i-requires t c = c.requires.room
-
-pub show_tree-shape_of-out-then-out-i : goal.show_tree-shape_of-out-then-out-i
-show_tree-shape_of-out-then-out-i t c = c.show_token-i.ensures.kept.long
 
 pub show_tree-returns-then-out-i : goal.show_tree-returns-then-out-i
 show_tree-returns-then-out-i t c =
@@ -90,21 +73,11 @@ show_tree-returns-then-out-i t c =
     record {
       kept = show-token'.ensures.kept;
       shows = λ S t w d. shows_first a.on a.out.now c.show_token-i.new.out a.at (plain token-at'.result.kind token-at'.result.value) (part_bytes (row t)) (bytes t) c.requires.room
-          (tree_bytes (view a.seen.now.tokens.kinds.now a.seen.now.tokens.vals.now a.seen.now.given) a.heads.now a.kids.now S w
-          token-at'.ensures.kind
+          (tree_bytes _ _ _ S w token-at'.ensures.kind
           token-at'.ensures.value)
           _ show-token'.ensures.kept.long show-token'.ensures.shows
           (omega (arith, c.if-out-i.true, show-token'.ensures.kept.long));
     }
-
-pub show_tree-overflow_sub-fuel : goal.show_tree-overflow_sub-fuel
-show_tree-overflow_sub-fuel t c = omega (arith, c.if-fuel-eq0.false)
-
-pub show_tree-show_row-requires : goal.show_tree-show_row-requires
-show_tree-show_row-requires t c = (omega (arith, c.if-fuel-eq0.false), (c.cursor-c.ensures.cut, omega (arith, c.if-out-i.false)))
-
-pub show_tree-shape_of-out : goal.show_tree-shape_of-out
-show_tree-shape_of-out t c = c.show_row.ensures.kept.long ∙ c.show_token-i.ensures.kept.long
 
 pub show_tree-returns : goal.show_tree-returns
 show_tree-returns t c =
@@ -115,8 +88,7 @@ show_tree-returns t c =
     record {
       kept = kept_then _ _ _ _ _ _ _ show-token'.ensures.kept show-row'.ensures.kept;
       shows = λ S t w d. shows_then a.on a.out.now c.show_token-i.new.out a.at (plain token-at'.result.kind token-at'.result.value) (part_bytes (row t)) (bytes t) c.requires.room
-          (tree_bytes (view a.seen.now.tokens.kinds.now a.seen.now.tokens.vals.now a.seen.now.given) a.heads.now a.kids.now S w
-          token-at'.ensures.kind
+          (tree_bytes _ _ _ S w token-at'.ensures.kind
           token-at'.ensures.value)
           _ show-token'.ensures.kept.long show-token'.ensures.shows
           (omega (arith, c.if-out-i.false, show-token'.ensures.kept.long)) _ show-row'.result show-row'.ensures.kept.long
