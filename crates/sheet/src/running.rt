@@ -12,7 +12,7 @@ use super::dispatch::serve_order;
 use super::splitting::{next_order, order_at};
 use super::starting::lay_fresh;
 use super::{Closed, Report};
-use solver::{Solver, clear};
+use solver::Solver;
 
 // What a run returns, and the solver that it leaves.
 fn closed(reason: u32, orders: u64, bytes: usize, solver: Solver) -> Closed
@@ -124,10 +124,10 @@ fn run_within(
         &mut c[..words],
         &mut d[..words],
     );
-    clear(&mut a[words..]);
-    clear(&mut b[words..]);
-    clear(&mut c[words..]);
-    clear(&mut d[words..]);
+    a[words..].fill(0);
+    b[words..].fill(0);
+    c[words..].fill(0);
+    d[words..].fill(0);
     r
 }
 

@@ -4,7 +4,7 @@ ghost use Rattle.solver.specs.Session.{fresh};
 ghost use Rattle.solver.specs.Words.SessionsContract.{counters, FreshRoom};
 ghost use Rattle.sheet.specs.Words.SessionInAreas.{areas, RepresentsInAreas};
 
-use solver::{Solver, clear};
+use solver::Solver;
 
 // A fresh session, whatever the areas held.
 pub fn lay_fresh(
@@ -19,7 +19,7 @@ pub fn lay_fresh(
     requires { (half ≤ length c.old) × FreshRoom variables (length a.old) (length b.old) (length (drop half c.old)) }
     ensures { (result ≡ counters variables nodes) × RepresentsInAreas result half (areas a.new b.new c.new d.new) fresh }
 {
-    clear(&mut c[..half]);
-    clear(d);
+    c[..half].fill(0);
+    d.fill(0);
     Solver::fresh(variables, nodes, a, b, &mut c[half..])
 }

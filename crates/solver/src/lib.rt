@@ -19,7 +19,6 @@ mod variables;
 pub use answers::{refusal_number, variable_len, write_variable};
 pub use ranges::{plain_request, range_request};
 pub use rule_words::put_rule;
-pub use sessions::clear;
 pub use substitution::{context, family, instantiation, self_only};
 
 // Functions and types of the terms that are handed on to the sheet, which names this crate alone.

@@ -7,13 +7,6 @@ ghost use Rattle.solver.specs.Words.SessionsContract.{Holds, counters, FreshRoom
 use super::resolving::clear_words;
 use super::{Solver, Standing};
 
-// Sets every word to 0.
-pub fn clear(words: &mut [u32])
-    ensures { words.new ≡ replicate (length words.old) 0 }
-{
-    words.fill(0);
-}
-
 // Stores the 32 builtins, two tokens each.
 fn store_builtins(a: &mut [u32], b: &mut [u32])
     requires { (length a.old ≡ 64) × (length b.old ≡ 64) }
@@ -42,9 +35,9 @@ impl Solver {
         ensures counters { result ≡ counters variables nodes }
         ensures holds { Holds (counters variables nodes) a.new b.new tables.new fresh }
     {
-        clear(a);
-        clear(b);
-        clear(tables);
+        a.fill(0);
+        b.fill(0);
+        tables.fill(0);
         store_builtins(&mut a[..64], &mut b[..64]);
         Solver {
             variables,

@@ -7,6 +7,5 @@ use Rattle.sheet.proofs.starting.lay_fresh.Goals as goal
 pub returns : goal.returns
 returns c =
     let a = c.args in
-    let f = c.clear in
     let e = c.fresh.ensures in
-    (e.counters, lays_fresh a.half a.c.now c.clear.new.words c.requires.0 f.ensures _ _ _ _ _ _ _ e.counters (zero_cleared c.clear-2.new.words (length a.d.now) c.clear-2.ensures) e.holds)
+    (e.counters, lays_fresh a.half a.c.now c.fill.new.self c.requires.0 (c.fill.ensures.after (λ y h. h)) _ _ _ _ _ _ _ e.counters (zero_cleared c.fill-2.new.self (length a.d.now) (c.fill-2.ensures.after (λ y h. h))) e.holds)
