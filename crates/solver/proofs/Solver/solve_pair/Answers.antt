@@ -16,49 +16,49 @@ pub clear_pairs-requires : goal.clear_pairs-requires
 clear_pairs-requires c =
     let a = c.args in
     let l = c.loop-count in
-    loop_room (notion (strict_of a.access)) (notion_codes (strict_of a.access)) a.self a.tokens.now.kinds.now a.tokens.now.vals.now _ _ _ _ _ l.self l.tables l.work l.left l.count l.ok l.invariant
+    loop_room (notion (strict_of a.access)) (notion_codes (strict_of a.access)) _ _ _ _ _ _ _ _ _ _ _ _ _ _ l.invariant
 
 pub returns-then-left-eq0-clause-solved : goal.returns-then-left-eq0-clause-solved
 returns-then-left-eq0-clause-solved c =
     let a = c.args in
     let l = c.loop-count in
-    λ s t u o L kp kq. going_cancel (notion (strict_of a.access)) a.self a.tokens.now.kinds.now a.tokens.now.vals.now a.tables.now s _ l.self l.tables l.left l.count l.ok (l.invariant.carries s (constrain (notion (strict_of a.access)) a.k s.solver t u) (going_start (notion (strict_of a.access)) a.self a.tokens.now.kinds.now a.tokens.now.vals.now a.tables.now s o L c.requires.room.1 a.p a.q t u kp kq _ c.put_pair-count.auto.tables _ c.put_pair-count.ensures a.k)) (counted_start a.self l.self _ _ a.tables.now _ l.tables _ c.put_pair-count.auto.tables c.put_pair-count.ensures l.invariant.counted) c.if-left-eq0.true c.loop-count-test.true _ c.clear_pairs.auto.tables c.clear_pairs.ensures
+    λ s t u o L kp kq. going_cancel (notion (strict_of a.access)) _ _ _ _ _ _ _ _ _ _ _ (l.invariant.carries s (constrain (notion (strict_of a.access)) a.k s.solver t u) (going_start (notion (strict_of a.access)) _ _ _ _ _ o L c.requires.room.1 _ _ _ _ kp kq _ c.put_pair-count.auto.tables _ c.put_pair-count.ensures a.k)) (counted_start _ _ _ _ _ _ _ _ c.put_pair-count.auto.tables c.put_pair-count.ensures l.invariant.counted) c.if-left-eq0.true c.loop-count-test.true _ c.clear_pairs.auto.tables c.clear_pairs.ensures
 
 pub take_pair-pair-requires : goal.take_pair-pair-requires
 take_pair-pair-requires c =
     let a = c.args in
     let l = c.loop-count in
-    omega (arith, loop_room (notion (strict_of a.access)) (notion_codes (strict_of a.access)) a.self a.tokens.now.kinds.now a.tokens.now.vals.now _ _ _ _ _ l.self l.tables l.work l.left l.count l.ok l.invariant)
+    omega (arith, loop_room (notion (strict_of a.access)) (notion_codes (strict_of a.access)) _ _ _ _ _ _ _ _ _ _ _ _ _ _ l.invariant)
 
 pub check_pair-r-requires : goal.check_pair-r-requires
 check_pair-r-requires c =
     let a = c.args in
     let l = c.loop-count in
     record {
-      due = loop_due (notion (strict_of a.access)) (notion_codes (strict_of a.access)) a.self a.tokens.now.kinds.now a.tokens.now.vals.now _ _ _ _ _ l.self l.tables l.work l.left l.count l.ok l.invariant _ _ _ c.if-left-eq0.false c.loop-count-test.true c.take_pair-pair.auto.tables c.take_pair-pair.ensures;
-      room = loop_scratch (notion (strict_of a.access)) (notion_codes (strict_of a.access)) a.self a.tokens.now.kinds.now a.tokens.now.vals.now _ _ _ _ _ l.self l.tables l.work l.left l.count l.ok l.invariant _ _ _ c.if-left-eq0.false c.loop-count-test.true c.take_pair-pair.auto.tables c.take_pair-pair.ensures;
+      due = loop_due (notion (strict_of a.access)) (notion_codes (strict_of a.access)) _ _ _ _ _ _ _ _ _ _ _ _ _ _ l.invariant _ _ _ c.if-left-eq0.false c.loop-count-test.true c.take_pair-pair.auto.tables c.take_pair-pair.ensures;
+      room = loop_scratch (notion (strict_of a.access)) (notion_codes (strict_of a.access)) _ _ _ _ _ _ _ _ _ _ _ _ _ _ l.invariant _ _ _ c.if-left-eq0.false c.loop-count-test.true c.take_pair-pair.auto.tables c.take_pair-pair.ensures;
     }
 
 pub loop-count-preserved-then-not-good : goal.loop-count-preserved-then-not-good
 loop-count-preserved-then-not-good c =
     let a = c.args in
     let l = c.loop-count in
-    loop_next (notion (strict_of a.access)) (notion_codes (strict_of a.access)) a.self a.tokens.now.kinds.now a.tokens.now.vals.now _ _ _ _ _ l.self l.tables l.work l.left l.count l.ok l.invariant _ _ _ c.if-left-eq0.false c.loop-count-test.true c.take_pair-pair.auto.tables c.take_pair-pair.ensures _ _ _ c.check_pair-r.auto.tables c.check_pair-r.auto.work c.check_pair-r.ensures.clear c.check_pair-r.ensures.after false (and-false l.ok _ c.if-not-good.true)
+    loop_next (notion (strict_of a.access)) (notion_codes (strict_of a.access)) _ _ _ _ _ _ _ _ _ _ _ _ _ _ l.invariant _ _ _ c.if-left-eq0.false c.loop-count-test.true c.take_pair-pair.auto.tables c.take_pair-pair.ensures _ _ _ c.check_pair-r.auto.tables c.check_pair-r.auto.work c.check_pair-r.ensures.clear c.check_pair-r.ensures.after false (and-false l.ok _ c.if-not-good.true)
 
 pub loop-count-preserved : goal.loop-count-preserved
 loop-count-preserved c =
     let a = c.args in
     let l = c.loop-count in
-    loop_next (notion (strict_of a.access)) (notion_codes (strict_of a.access)) a.self a.tokens.now.kinds.now a.tokens.now.vals.now _ _ _ _ _ l.self l.tables l.work l.left l.count l.ok l.invariant _ _ _ c.if-left-eq0.false c.loop-count-test.true c.take_pair-pair.auto.tables c.take_pair-pair.ensures _ _ _ c.check_pair-r.auto.tables c.check_pair-r.auto.work c.check_pair-r.ensures.clear c.check_pair-r.ensures.after l.ok (and-true l.ok _ c.if-not-good.false)
+    loop_next (notion (strict_of a.access)) (notion_codes (strict_of a.access)) _ _ _ _ _ _ _ _ _ _ _ _ _ _ l.invariant _ _ _ c.if-left-eq0.false c.loop-count-test.true c.take_pair-pair.auto.tables c.take_pair-pair.ensures _ _ _ c.check_pair-r.auto.tables c.check_pair-r.auto.work c.check_pair-r.ensures.clear c.check_pair-r.ensures.after l.ok (and-true l.ok _ c.if-not-good.false)
 
 pub returns-then-ok-clause-solved : goal.returns-then-ok-clause-solved
 returns-then-ok-clause-solved c =
     let a = c.args in
     let l = c.loop-count in
-    λ s t u o L kp kq. going_end (notion (strict_of a.access)) a.self a.tokens.now.kinds.now a.tokens.now.vals.now a.tables.now s _ l.self l.tables l.left l.count true (told_so (l.invariant.carries s (constrain (notion (strict_of a.access)) a.k s.solver t u) (going_start (notion (strict_of a.access)) a.self a.tokens.now.kinds.now a.tokens.now.vals.now a.tables.now s o L c.requires.room.1 a.p a.q t u kp kq _ c.put_pair-count.auto.tables _ c.put_pair-count.ensures a.k)) c.if-ok.true) (counted_start a.self l.self _ _ a.tables.now _ l.tables _ c.put_pair-count.auto.tables c.put_pair-count.ensures l.invariant.counted) (omega (arith, c.loop-count-test.false))
+    λ s t u o L kp kq. going_end (notion (strict_of a.access)) _ _ _ _ _ _ _ _ _ _ true (told_so (l.invariant.carries s (constrain (notion (strict_of a.access)) a.k s.solver t u) (going_start (notion (strict_of a.access)) _ _ _ _ _ o L c.requires.room.1 _ _ _ _ kp kq _ c.put_pair-count.auto.tables _ c.put_pair-count.ensures a.k)) c.if-ok.true) (counted_start _ _ _ _ _ _ _ _ c.put_pair-count.auto.tables c.put_pair-count.ensures l.invariant.counted) (omega (arith, c.loop-count-test.false))
 
 pub returns-clause-solved : goal.returns-clause-solved
 returns-clause-solved c =
     let a = c.args in
     let l = c.loop-count in
-    λ s t u o L kp kq. going_end (notion (strict_of a.access)) a.self a.tokens.now.kinds.now a.tokens.now.vals.now a.tables.now s _ l.self l.tables l.left l.count false (told_so (l.invariant.carries s (constrain (notion (strict_of a.access)) a.k s.solver t u) (going_start (notion (strict_of a.access)) a.self a.tokens.now.kinds.now a.tokens.now.vals.now a.tables.now s o L c.requires.room.1 a.p a.q t u kp kq _ c.put_pair-count.auto.tables _ c.put_pair-count.ensures a.k)) c.if-ok.false) (counted_start a.self l.self _ _ a.tables.now _ l.tables _ c.put_pair-count.auto.tables c.put_pair-count.ensures l.invariant.counted) (omega (arith, c.loop-count-test.false))
+    λ s t u o L kp kq. going_end (notion (strict_of a.access)) _ _ _ _ _ _ _ _ _ _ false (told_so (l.invariant.carries s (constrain (notion (strict_of a.access)) a.k s.solver t u) (going_start (notion (strict_of a.access)) _ _ _ _ _ o L c.requires.room.1 _ _ _ _ kp kq _ c.put_pair-count.auto.tables _ c.put_pair-count.ensures a.k)) c.if-ok.false) (counted_start _ _ _ _ _ _ _ _ c.put_pair-count.auto.tables c.put_pair-count.ensures l.invariant.counted) (omega (arith, c.loop-count-test.false))

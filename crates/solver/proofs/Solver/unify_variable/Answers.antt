@@ -6,24 +6,24 @@ use Rattle.solver.proofs.Solver.unify_variable.Goals as goal
 pub returns-then-recovers-clause-after : goal.returns-then-recovers-clause-after
 returns-then-recovers-clause-after c =
     let a = c.args in
-    λ s t x y ps F W. assign_recovers a.self a.tokens.now.kinds.now a.tokens.now.vals.now a.tables.now s a.v a.q t F a.count ps W x y (sym (c.recovers.ensures.term t s.solver.bindings s.solver.revision F.known.held F.represents.bindings F.steady) ∙ c.if-recovers.true)
+    λ s t x y ps F W. assign_recovers _ _ _ _ _ _ _ _ F _ _ W x y (sym (c.recovers.ensures.term t s.solver.bindings s.solver.revision F.known.held F.represents.bindings F.steady) ∙ c.if-recovers.true)
 
 pub admissible-requires : goal.admissible-requires
 admissible-requires c =
     let a = c.args in
-    (c.requires.faces.2.represents.room, facing_place a.self a.tokens.now.kinds.now a.tokens.now.vals.now a.tables.now c.requires.faces.0 a.v a.q c.requires.faces.1 c.requires.faces.2)
+    (c.requires.faces.2.represents.room, facing_place _ _ _ _ _ _ _ _ c.requires.faces.2)
 
 pub returns-then-not-admissible-clause-after : goal.returns-then-not-admissible-clause-after
 returns-then-not-admissible-clause-after c =
     let a = c.args in
-    λ s t x y ps F W. assign_refused a.self a.tokens.now.kinds.now a.tokens.now.vals.now a.tables.now s a.v a.q t F a.count ps W x y
+    λ s t x y ps F W. assign_refused _ _ _ _ _ _ _ _ F _ _ W x y
     (sym (c.recovers.ensures.term t s.solver.bindings s.solver.revision F.known.held F.represents.bindings F.steady) ∙ c.if-recovers.false)
     (sym (c.admissible.ensures t s.solver.requests F.represents.requests F.known.held) ∙ c.if-not-admissible.true)
 
 pub returns-then-occurs-clause-after : goal.returns-then-occurs-clause-after
 returns-then-occurs-clause-after c =
     let a = c.args in
-    λ s t x y ps F W. assign_occurs a.self a.tokens.now.kinds.now a.tokens.now.vals.now a.tables.now s a.v a.q t F a.count ps W x y
+    λ s t x y ps F W. assign_occurs _ _ _ _ _ _ _ _ F _ _ W x y
     (sym (c.recovers.ensures.term t s.solver.bindings s.solver.revision F.known.held F.represents.bindings F.steady) ∙ c.if-recovers.false)
     (sym (c.occurs.ensures.term t s.solver.bindings s.solver.revision F.known.held F.represents.bindings F.steady F.free) ∙ c.if-occurs.true)
 
@@ -32,14 +32,14 @@ bind-next-requires-clause-areas c =
     let a = c.args in
     let s = c.requires.faces.0 in
     let t = c.requires.faces.1 in
-    let f = facing_bind a.self a.tokens.now.kinds.now a.tokens.now.vals.now a.tables.now s a.v a.q t c.requires.faces.2 in
+    let f = facing_bind _ _ _ _ _ _ _ _ c.requires.faces.2 in
     (f.0, f.1, f.3, f.4)
 
 pub returns-clause-after : goal.returns-clause-after
 returns-clause-after c =
     let a = c.args in
     let b = c.bind-next.ensures in
-    λ s t x y ps F W. assign_bound a.self a.tokens.now.kinds.now a.tokens.now.vals.now a.tables.now s a.v a.q t F a.count ps W x y
+    λ s t x y ps F W. assign_bound _ _ _ _ _ _ _ _ F _ _ W x y
     (sym (c.recovers.ensures.term t s.solver.bindings s.solver.revision F.known.held F.represents.bindings F.steady) ∙ c.if-recovers.false)
     (sym (c.admissible.ensures t s.solver.requests F.represents.requests F.known.held) ∙ c.if-not-admissible.false)
     (sym (c.occurs.ensures.term t s.solver.bindings s.solver.revision F.known.held F.represents.bindings F.steady F.free) ∙ c.if-occurs.false)

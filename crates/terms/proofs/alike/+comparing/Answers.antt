@@ -12,61 +12,45 @@ same_rows-returns-then-x-p t c = meeting_short _ _ _ _ _ _ _ _ _ _ c.loop-q.inva
 
 pub same_rows-returns-then-s-ne0 : goal.same_rows-returns-then-s-ne0
 same_rows-returns-then-s-ne0 t c =
-    let token-at' = c.token_at-s in
-    let token-at2' = c.token_at-t in
     meeting_child _ _ _ _ _ _ _ _ _ _ c.loop-q.invariant c.loop-q-test.true
-    c.if-x-p.false token-at'.ensures.kind token-at'.ensures.value token-at2'.ensures.kind token-at2'.ensures.value
+    c.if-x-p.false c.token_at-s.ensures.kind c.token_at-s.ensures.value c.token_at-t.ensures.kind c.token_at-t.ensures.value
     c.if-t-eq0.true c.if-s-ne0.true
 
 pub same_rows-returns-then-s-t : goal.same_rows-returns-then-s-t
 same_rows-returns-then-s-t t c =
-    let token-at' = c.token_at-s in
-    let token-at2' = c.token_at-t in
     meeting_apart _ _ _ _ _ _ _ _ _ _ c.loop-q.invariant
     c.loop-q-test.true c.if-x-p.false
-    token-at'.ensures.kind token-at'.ensures.value token-at2'.ensures.kind token-at2'.ensures.value c.if-t-eq0.true
+    c.token_at-s.ensures.kind c.token_at-s.ensures.value c.token_at-t.ensures.kind c.token_at-t.ensures.value c.if-t-eq0.true
     c.if-s-ne0.false c.if-s-t.true
 
 pub same_rows-loop-q-preserved-then-t-eq0 : goal.same_rows-loop-q-preserved-then-t-eq0
 same_rows-loop-q-preserved-then-t-eq0 t c =
-    let token-at' = c.token_at-s in
-    let token-at2' = c.token_at-t in
     meeting_number _ _ _ _ _ _ _ _ _ _ c.loop-q.invariant
     c.loop-q-test.true c.if-x-p.false
-    token-at'.ensures.kind token-at'.ensures.value token-at2'.ensures.kind token-at2'.ensures.value c.if-t-eq0.true
+    c.token_at-s.ensures.kind c.token_at-s.ensures.value c.token_at-t.ensures.kind c.token_at-t.ensures.value c.if-t-eq0.true
     c.if-s-ne0.false c.if-s-t.false
 
 pub same_rows-returns-then-s-eq0 : goal.same_rows-returns-then-s-eq0
 same_rows-returns-then-s-eq0 t c =
-    let token-at' = c.token_at-s in
-    let token-at2' = c.token_at-t in
     meeting_other _ _ _ _ _ _ _ _ _ _ c.loop-q.invariant c.loop-q-test.true
-    c.if-x-p.false token-at'.ensures.kind token-at'.ensures.value token-at2'.ensures.kind token-at2'.ensures.value
+    c.if-x-p.false c.token_at-s.ensures.kind c.token_at-s.ensures.value c.token_at-t.ensures.kind c.token_at-t.ensures.value
     c.if-t-eq0.false c.if-s-eq0.true
 
 pub same_rows-returns-then-not-same_trees : goal.same_rows-returns-then-not-same_trees
 same_rows-returns-then-not-same_trees t c =
-    let token-at' = c.token_at-s in
-    let token-at2' = c.token_at-t in
-    let child-here' = c.child_here-a in
-    let child-here2' = c.child_here-b in
     meeting_differ _ _ _ _ _ _ _ _ _ _ c.loop-q.invariant
     c.loop-q-test.true c.if-x-p.false
-    token-at'.ensures.kind token-at'.ensures.value token-at2'.ensures.kind token-at2'.ensures.value c.if-t-eq0.false
-    c.if-s-eq0.false _ _ child-here'.ensures.head child-here'.ensures.kids child-here2'.ensures.head child-here2'.ensures.kids
+    c.token_at-s.ensures.kind c.token_at-s.ensures.value c.token_at-t.ensures.kind c.token_at-t.ensures.value c.if-t-eq0.false
+    c.if-s-eq0.false _ _ c.child_here-a.ensures.head c.child_here-a.ensures.kids c.child_here-b.ensures.head c.child_here-b.ensures.kids
     _ c.same_trees.ensures (not-true _ c.if-not-same_trees.true-raw)
 
 pub same_rows-loop-q-preserved : goal.same_rows-loop-q-preserved
 same_rows-loop-q-preserved t c =
-    let token-at' = c.token_at-s in
-    let token-at2' = c.token_at-t in
-    let child-here' = c.child_here-a in
-    let child-here2' = c.child_here-b in
     meeting_same _ _ _ _ _ _ _ _ _ _ c.loop-q.invariant
     c.loop-q-test.true c.if-x-p.false
-    token-at'.ensures.kind token-at'.ensures.value token-at2'.ensures.kind token-at2'.ensures.value c.if-t-eq0.false
-    c.if-s-eq0.false _ _ child-here'.ensures.head child-here'.ensures.kids child-here2'.ensures.head
-    child-here2'.ensures.kids _ c.same_trees.ensures (not-false _ c.if-not-same_trees.false-raw)
+    c.token_at-s.ensures.kind c.token_at-s.ensures.value c.token_at-t.ensures.kind c.token_at-t.ensures.value c.if-t-eq0.false
+    c.if-s-eq0.false _ _ c.child_here-a.ensures.head c.child_here-a.ensures.kids c.child_here-b.ensures.head
+    c.child_here-b.ensures.kids _ c.same_trees.ensures (not-false _ c.if-not-same_trees.false-raw)
     _ _ c.step-p.ensures.span c.step-q.ensures.span c.step-p.ensures.some.0 c.step-q.ensures.some.0
 
 pub same_rows-returns : goal.same_rows-returns
@@ -77,47 +61,39 @@ same_trees-returns-then-fuel-eq0 t c = alike_none _ _ _ _ _ _ c.if-fuel-eq0.true
 
 pub same_trees-returns-then-s-t : goal.same_trees-returns-then-s-t
 same_trees-returns-then-s-t t c =
-    let token-at' = c.token_at-s in
-    let token-at2' = c.token_at-t in
     alike_kinds _ _ _ _ _ _ _ _ refl refl
-    token-at'.ensures.kind token-at'.ensures.value token-at2'.ensures.kind token-at2'.ensures.value c.if-s-t.true
+    c.token_at-s.ensures.kind c.token_at-s.ensures.value c.token_at-t.ensures.kind c.token_at-t.ensures.value c.if-s-t.true
 
 pub same_trees-returns-then-s-eq1 : goal.same_trees-returns-then-s-eq1
 same_trees-returns-then-s-eq1 t c =
-    let token-at' = c.token_at-s in
-    let token-at2' = c.token_at-t in
     alike_vars _ _ _ _ _ _ _ _ refl refl
-    token-at'.ensures.kind token-at'.ensures.value token-at2'.ensures.kind token-at2'.ensures.value c.if-s-t.false c.if-s-eq1.true
+    c.token_at-s.ensures.kind c.token_at-s.ensures.value c.token_at-t.ensures.kind c.token_at-t.ensures.value c.if-s-t.false c.if-s-eq1.true
 
 pub same_trees-same_term-requires : goal.same_trees-same_term-requires
 same_trees-same_term-requires t c =
-    let l = lent_true c.args.seen.now.tokens.kinds.now c.args.seen.now.tokens.vals.now c.args.x _ c.is_lent.ensures c.if-is_lent.true in
-    let m = lent_true c.args.seen.now.tokens.kinds.now c.args.seen.now.tokens.vals.now c.args.y _ c.is_lent-then-is_lent.ensures c.if-is_lent-2.true in
-    (lent_first c.args.seen.now.tokens.kinds.now c.args.seen.now.tokens.vals.now c.args.x.head l.1, lent_first c.args.seen.now.tokens.kinds.now c.args.seen.now.tokens.vals.now c.args.y.head m.1)
+    let l = lent_true _ _ _ _ c.is_lent.ensures c.if-is_lent.true in
+    let m = lent_true _ _ _ _ c.is_lent-then-is_lent.ensures c.if-is_lent-2.true in
+    (lent_first _ _ _ l.1, lent_first _ _ _ m.1)
 
 pub same_trees-returns-then-is_lent-2 : goal.same_trees-returns-then-is_lent-2
 same_trees-returns-then-is_lent-2 t c =
-    alike_lent c.args.seen.now.tokens.kinds.now c.args.seen.now.tokens.vals.now c.args.seen.now.given c.args.seen.now.sight c.args.heads.now c.args.kids.now c.args.x c.args.y c.args.fuel _ _
-    refl refl (lent_true c.args.seen.now.tokens.kinds.now c.args.seen.now.tokens.vals.now c.args.x _ c.is_lent.ensures c.if-is_lent.true) (lent_true c.args.seen.now.tokens.kinds.now c.args.seen.now.tokens.vals.now c.args.y _ c.is_lent-then-is_lent.ensures c.if-is_lent-2.true)
+    alike_lent _ _ _ c.args.seen.now.sight _ _ _ _ _ _ _
+    refl refl (lent_true _ _ _ _ c.is_lent.ensures c.if-is_lent.true) (lent_true _ _ _ _ c.is_lent-then-is_lent.ensures c.if-is_lent-2.true)
     _ c.same_term.ensures
 
 pub same_trees-returns-in_default : goal.same_trees-returns-in_default
 same_trees-returns-in_default t c =
-    let token-at' = c.token_at-s in
-    let token-at2' = c.token_at-t in
     alike_rows _ _ _ _ _ _ _ _ refl
-    refl token-at'.ensures.kind token-at'.ensures.value
-    token-at2'.ensures.kind token-at2'.ensures.value c.if-s-t.false c.if-s-eq1.false
+    refl c.token_at-s.ensures.kind c.token_at-s.ensures.value
+    c.token_at-t.ensures.kind c.token_at-t.ensures.value c.if-s-t.false c.if-s-eq1.false
     _ _ c.cursor-a.ensures c.cursor-b.ensures _ (omega (arith, c.if-fuel-eq0.false))
     (rw c.in_default.is at c.same_rows-m.ensures)
 
 pub same_trees-returns : goal.same_trees-returns
 same_trees-returns t c =
-    let token-at' = c.token_at-s in
-    let token-at2' = c.token_at-t in
     alike_ends _ _ _ _ _ _ _ _ refl
-    refl token-at'.ensures.kind
-    token-at'.ensures.value token-at2'.ensures.kind token-at2'.ensures.value c.if-s-t.false
+    refl c.token_at-s.ensures.kind
+    c.token_at-s.ensures.value c.token_at-t.ensures.kind c.token_at-t.ensures.value c.if-s-t.false
     c.if-s-eq1.false _ _ c.cursor-a.ensures c.cursor-b.ensures
     _ (omega (arith, c.if-fuel-eq0.false))
     _ _ (rw c.in-Some.is at c.same_rows-m.ensures)

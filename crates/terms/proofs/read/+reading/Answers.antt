@@ -78,30 +78,10 @@ pub read_nominal-returns-in_err-read_value : goal.read_nominal-returns-in_err-re
 read_nominal-returns-in_err-read_value t c = rw (handed_on _ _ c.from_residual.ensures.1) (number_no _ _ c.args.place.now _ _ shape.definition (shape.terms (shape.members shape.done)) _ c.in_err-read_value.ensures)
 
 pub read_nominal-returns-in_err-arguments : goal.read_nominal-returns-in_err-arguments
-read_nominal-returns-in_err-arguments t c =
-    let a = c.args in
-    let s = a.s.now in
-    let p = a.place.now in
-    let r = term s a.issued a.levels in
-    let d = area a.kinds.now a.vals.now in
-    let e = area c.read_value.new.kinds c.read_value.new.vals in
-    let f = area c.read_value-2.new.kinds c.read_value-2.new.vals in
-    let q = c.read_value.new.place in
-    rw (handed_on _ _ c.from_residual-in_err-arguments.ensures.1) (number_yes s r p d e shape.definition (shape.terms (shape.members shape.done)) _ q c.in_ok-read_value.ensures f (Stopped _) (terms_no s r q e f (shape.members shape.done) _ (listed_no s r q e f refl _ c.in_err-arguments.ensures)))
+read_nominal-returns-in_err-arguments t c = rw (handed_on _ _ c.from_residual-in_err-arguments.ensures.1) (number_yes _ (term _ c.args.issued c.args.levels) c.args.place.now _ _ shape.definition (shape.terms (shape.members shape.done)) _ c.read_value.new.place c.in_ok-read_value.ensures _ (Stopped _) (terms_no _ _ c.read_value.new.place _ _ (shape.members shape.done) _ (listed_no _ _ c.read_value.new.place _ _ refl _ c.in_err-arguments.ensures)))
 
 pub read_nominal-returns-in_err-read_terms : goal.read_nominal-returns-in_err-read_terms
-read_nominal-returns-in_err-read_terms t c =
-    let a = c.args in
-    let s = a.s.now in
-    let p = a.place.now in
-    let r = term s a.issued a.levels in
-    let d = area a.kinds.now a.vals.now in
-    let e = area c.read_value.new.kinds c.read_value.new.vals in
-    let f = area c.read_value-2.new.kinds c.read_value-2.new.vals in
-    let g = area c.read_terms.new.kinds c.read_terms.new.vals in
-    let q = c.read_value.new.place in
-    let u = c.read_value-2.new.place in
-    rw (handed_on _ _ c.from_residual-in_err-read_terms.ensures.1) (number_yes s r p d e shape.definition (shape.terms (shape.members shape.done)) _ q c.in_ok-read_value.ensures g (Stopped _) (terms_no s r q e g (shape.members shape.done) _ (listed_yes s r q e f refl _ u c.in_ok-arguments.ensures g (Stopped _) c.in_err-read_terms.ensures)))
+read_nominal-returns-in_err-read_terms t c = rw (handed_on _ _ c.from_residual-in_err-read_terms.ensures.1) (number_yes _ (term _ c.args.issued c.args.levels) c.args.place.now _ _ shape.definition (shape.terms (shape.members shape.done)) _ c.read_value.new.place c.in_ok-read_value.ensures _ (Stopped _) (terms_no _ _ c.read_value.new.place _ _ (shape.members shape.done) _ (listed_yes _ _ c.read_value.new.place _ _ refl _ c.read_value-2.new.place c.in_ok-arguments.ensures _ (Stopped _) c.in_err-read_terms.ensures)))
 
 -- where the members begin: what was read so far
 nominal_begun : (t : ℕ) (c : read_nominal-Joined-arguments-ne0 t) →
@@ -131,18 +111,7 @@ nominal_begun t c =
     ]
 
 pub read_nominal-returns-in_err-members : goal.read_nominal-returns-in_err-members
-read_nominal-returns-in_err-members t c =
-    let a = c.args in
-    let s = a.s.now in
-    let p = a.place.now in
-    let r = term s a.issued a.levels in
-    let d = area a.kinds.now a.vals.now in
-    let o = c.if-arguments-ne0 in
-    let f = area o.kinds o.vals in
-    let g = area c.read_value-3.new.kinds c.read_value-3.new.vals in
-    let u = o.place in
-    let w = c.read_value-3.new.place in
-    rw (handed_on _ _ c.from_residual-in_err-members.ensures.1) (so_far_done s (row s r (shape.nominal shape.done) p.at) p d (row s r (shape.members shape.done) u.at) f u (nominal_begun t (goal.at.read_nominal-returns-in_err-members t c).Joined-arguments-ne0) g (Stopped _) (members_no s r u f g _ c.in_err-members.ensures))
+read_nominal-returns-in_err-members t c = rw (handed_on _ _ c.from_residual-in_err-members.ensures.1) (so_far_done _ _ _ _ _ _ _ (nominal_begun t (goal.at.read_nominal-returns-in_err-members t c).Joined-arguments-ne0) _ (Stopped _) (members_no _ (term _ c.args.issued c.args.levels) c.if-arguments-ne0.place _ _ _ c.in_err-members.ensures))
 
 pub read_nominal-returns-then-members-eq0 : goal.read_nominal-returns-then-members-eq0
 read_nominal-returns-then-members-eq0 t c =
@@ -167,48 +136,13 @@ pub read_projection-returns-in_err-read_term : goal.read_projection-returns-in_e
 read_projection-returns-in_err-read_term t c = rw (handed_on _ _ c.from_residual.ensures.1) (term_no _ _ c.args.place.now _ _ (shape.nominal (shape.number shape.definition (shape.terms shape.done))) _ c.in_err-read_term.ensures)
 
 pub read_projection-returns-in_err-read_nominal : goal.read_projection-returns-in_err-read_nominal
-read_projection-returns-in_err-read_nominal t c =
-    let a = c.args in
-    let s = a.s.now in
-    let p = a.place.now in
-    let r = term s a.issued a.levels in
-    let d = area a.kinds.now a.vals.now in
-    let e = area c.read_term.new.kinds c.read_term.new.vals in
-    let f = area c.read_nominal.new.kinds c.read_nominal.new.vals in
-    let q = c.read_term.new.place in
-    let u = c.read_nominal.new.place in
-    rw (handed_on _ _ c.from_residual-in_err-read_nominal.ensures.1) (term_yes s r p d e (shape.nominal (shape.number shape.definition (shape.terms shape.done))) q c.in_ok-read_term.ensures f (Stopped _) (interface_no s r q e f (shape.number shape.definition (shape.terms shape.done)) _ c.in_err-read_nominal.ensures))
+read_projection-returns-in_err-read_nominal t c = rw (handed_on _ _ c.from_residual-in_err-read_nominal.ensures.1) (term_yes _ (term _ c.args.issued c.args.levels) c.args.place.now _ _ (shape.nominal (shape.number shape.definition (shape.terms shape.done))) c.read_term.new.place c.in_ok-read_term.ensures _ (Stopped _) (interface_no _ _ c.read_term.new.place _ _ (shape.number shape.definition (shape.terms shape.done)) _ c.in_err-read_nominal.ensures))
 
 pub read_projection-returns-in_err-read_value : goal.read_projection-returns-in_err-read_value
-read_projection-returns-in_err-read_value t c =
-    let a = c.args in
-    let s = a.s.now in
-    let p = a.place.now in
-    let r = term s a.issued a.levels in
-    let d = area a.kinds.now a.vals.now in
-    let e = area c.read_term.new.kinds c.read_term.new.vals in
-    let f = area c.read_nominal.new.kinds c.read_nominal.new.vals in
-    let q = c.read_term.new.place in
-    let u = c.read_nominal.new.place in
-    let g = area c.read_value.new.kinds c.read_value.new.vals in
-    rw (handed_on _ _ c.from_residual-in_err-read_value.ensures.1) (term_yes s r p d e (shape.nominal (shape.number shape.definition (shape.terms shape.done))) q c.in_ok-read_term.ensures g (Stopped _) (interface_yes s r q e f (shape.number shape.definition (shape.terms shape.done)) u c.in_ok-read_nominal.ensures g (Stopped _) (number_no s r u f g shape.definition (shape.terms shape.done) _ c.in_err-read_value.ensures)))
+read_projection-returns-in_err-read_value t c = rw (handed_on _ _ c.from_residual-in_err-read_value.ensures.1) (term_yes _ (term _ c.args.issued c.args.levels) c.args.place.now _ _ (shape.nominal (shape.number shape.definition (shape.terms shape.done))) c.read_term.new.place c.in_ok-read_term.ensures _ (Stopped _) (interface_yes _ _ c.read_term.new.place _ _ (shape.number shape.definition (shape.terms shape.done)) c.read_nominal.new.place c.in_ok-read_nominal.ensures _ (Stopped _) (number_no _ _ c.read_nominal.new.place _ _ shape.definition (shape.terms shape.done) _ c.in_err-read_value.ensures)))
 
 pub read_projection-returns-in_err-arguments : goal.read_projection-returns-in_err-arguments
-read_projection-returns-in_err-arguments t c =
-    let a = c.args in
-    let s = a.s.now in
-    let p = a.place.now in
-    let r = term s a.issued a.levels in
-    let d = area a.kinds.now a.vals.now in
-    let e = area c.read_term.new.kinds c.read_term.new.vals in
-    let f = area c.read_nominal.new.kinds c.read_nominal.new.vals in
-    let q = c.read_term.new.place in
-    let u = c.read_nominal.new.place in
-    let g = area c.read_value.new.kinds c.read_value.new.vals in
-    let h = area c.read_value-2.new.kinds c.read_value-2.new.vals in
-    let w = c.read_value.new.place in
-    let v = c.read_value-2.new.place in
-    rw (handed_on _ _ c.from_residual-in_err-arguments.ensures.1) (term_yes s r p d e (shape.nominal (shape.number shape.definition (shape.terms shape.done))) q c.in_ok-read_term.ensures h (Stopped _) (interface_yes s r q e f (shape.number shape.definition (shape.terms shape.done)) u c.in_ok-read_nominal.ensures h (Stopped _) (number_yes s r u f g shape.definition (shape.terms shape.done) _ w c.in_ok-read_value.ensures h (Stopped _) (terms_last s r w g h (Stopped _) (listed_no s r w g h refl _ c.in_err-arguments.ensures)))))
+read_projection-returns-in_err-arguments t c = rw (handed_on _ _ c.from_residual-in_err-arguments.ensures.1) (term_yes _ (term _ c.args.issued c.args.levels) c.args.place.now _ _ (shape.nominal (shape.number shape.definition (shape.terms shape.done))) c.read_term.new.place c.in_ok-read_term.ensures _ (Stopped _) (interface_yes _ _ c.read_term.new.place _ _ (shape.number shape.definition (shape.terms shape.done)) c.read_nominal.new.place c.in_ok-read_nominal.ensures _ (Stopped _) (number_yes _ _ c.read_nominal.new.place _ _ shape.definition (shape.terms shape.done) _ c.read_value.new.place c.in_ok-read_value.ensures _ (Stopped _) (terms_last _ _ c.read_value.new.place _ _ (Stopped _) (listed_no _ _ c.read_value.new.place _ _ refl _ c.in_err-arguments.ensures)))))
 
 pub read_projection-returns : goal.read_projection-returns
 read_projection-returns t c = term_yes _ _ _ _ _ (shape.nominal (shape.number shape.definition (shape.terms shape.done))) _ c.in_ok-read_term.ensures _ _ (interface_yes _ _ _ _ _ (shape.number shape.definition (shape.terms shape.done)) _ c.in_ok-read_nominal.ensures _ _ (number_yes _ _ _ _ _ shape.definition (shape.terms shape.done) _ _ c.in_ok-read_value.ensures _ _ (terms_last _ _ _ _ _ _ (listed_yes _ _ _ _ _ refl _ _ c.in_ok-arguments.ensures _ _ c.read_terms.ensures))))

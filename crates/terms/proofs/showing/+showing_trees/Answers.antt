@@ -15,7 +15,6 @@ use Rattle.terms.proofs.showing.+showing_trees.Goals as goal
 
 pub show_row-loop-q-preserved-then-y-eq0 : goal.show_row-loop-q-preserved-then-y-eq0
 show_row-loop-q-preserved-then-y-eq0 t c =
-    let a = c.args in
     let i = c.loop-q.invariant in
     let s = c.in-Some.ensures.steps in
     let o = c.next.new.self in
@@ -29,7 +28,6 @@ show_row-loop-q-preserved-then-y-eq0 t c =
 
 pub show_row-loop-q-preserved : goal.show_row-loop-q-preserved
 show_row-loop-q-preserved t c =
-    let a = c.args in
     let i = c.loop-q.invariant in
     let s = c.in-Some.ensures.steps in
     let o = c.next.new.self in
@@ -45,7 +43,6 @@ show_row-loop-q-preserved t c =
 
 pub show_row-returns-clause-shows : goal.show_row-returns-clause-shows
 show_row-returns-clause-shows t c =
-    let a = c.args in
     let i = c.loop-q.invariant in
     row_done _ _ _ _ _ _ _ _ _ _ _ _ i.0 (rw i.2 at c.in-None.ensures.steps.0.0)
 
