@@ -18,7 +18,7 @@ pub use running::run_sheet;
 use solver::{Defaulted, Solver};
 
 // What an order does: it is told to the session, or it leaves the session as it was.
-#[derive(Clone, Copy)]
+#[derive(Clone, Copy, Debug, PartialEq, Eq)]
 pub enum Class {
     Session,
     Operation,
@@ -43,7 +43,7 @@ pub enum Sort {
 
 // A field of an order: a number or count, the place of its first token (of parameters: their position in the bytes), and the token after
 // its last.
-#[derive(Clone, Copy)]
+#[derive(Clone, Copy, Default)]
 pub struct FieldSpot {
     pub value: u64,
     pub place: usize,
@@ -52,7 +52,7 @@ pub struct FieldSpot {
 
 // An order that was read: its kind, at most five fields, the token after the last one, and the nodes kept with those of the order.
 // The fields have names and are no array: what answers an order speaks of each by its name, and `o.fields[3].place` is no plainer than `o.fourth.place`.
-#[derive(Clone, Copy)]
+#[derive(Clone, Copy, Default)]
 pub struct Order {
     pub kind: u8,
     pub first: FieldSpot,

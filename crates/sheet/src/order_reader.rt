@@ -10,7 +10,7 @@ ghost use Rattle.sheet.specs.Words.FieldsContract.{field_of};
 ghost use Rattle.sheet.specs.Words.OrderReaderContract.{OrderRoom, OrderDone};
 
 use super::fields::{next_number, read_plain};
-use super::order_table::{known_of, no_fields, put_spot, row_of};
+use super::order_table::{known_of, put_spot, row_of};
 use super::rules::read_rules;
 use super::{Class, FieldSpot, Order, Sort};
 use solver::{Place, Refusal, clear_tokens};
@@ -115,7 +115,7 @@ fn read_fields(
         nodes: kept,
         limit,
     };
-    let mut o = no_fields();
+    let mut o = Order::default();
     for (i, sort) in sorts.iter().enumerate() {
         let last = place.top;
         match read_field(s, kinds, vals, rules, &mut place, *sort, known) {

@@ -2,7 +2,7 @@
 ghost use Rattle.std.specs.Prelude.{◌≡◌};
 ghost use Rattle.sheet.specs.OrderTable.{row_in};
 ghost use Rattle.sheet.specs.Sheet.{table};
-ghost use Rattle.sheet.specs.Words.FieldLayout.{row_said, row_words, known_for, is_operation, put_spot, no_spot, no_fields};
+ghost use Rattle.sheet.specs.Words.FieldLayout.{row_said, row_words, known_for, is_operation, put_spot};
 
 use super::Sort::{
     Arguments, Bound, Code, Entries, Nominal, Number, Parameters, Receiver, Receivers, Rules, Term,
@@ -64,33 +64,6 @@ pub fn is_operation(kind: u8) -> bool
     match class {
         Class::Session => false,
         Class::Operation => true,
-    }
-}
-
-fn no_spot() -> FieldSpot
-    ensures { result ≡ no_spot }
-{
-    FieldSpot {
-        value: 0,
-        place: 0,
-        end: 0,
-    }
-}
-
-// An order without fields.
-pub fn no_fields() -> Order
-    ensures { result ≡ no_fields }
-{
-    let x = no_spot();
-    Order {
-        kind: 0,
-        first: x,
-        second: x,
-        third: x,
-        fourth: x,
-        fifth: x,
-        top: 0,
-        nodes: 0,
     }
 }
 

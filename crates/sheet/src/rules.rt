@@ -8,7 +8,7 @@ ghost use Rattle.sheet.specs.Fields.{rule, rule_list};
 ghost use Rattle.sheet.specs.Words.FieldLayout.{Free, Ample, rule_from, WordsFit, RuleDone, RulesDone};
 
 use super::fields::read_plain;
-use super::order_table::{no_fields, put_spot};
+use super::order_table::put_spot;
 use super::{Order, Sort};
 use solver::{Place, Refusal, Rule, clear_tokens, put_rule};
 
@@ -56,7 +56,7 @@ fn read_rule(
         (step_of result place.new) }
 {
     let first = place.top;
-    let mut o = no_fields();
+    let mut o = Order::default();
     for (i, sort) in RULE.iter().enumerate() {
         let last = place.top;
         match read_plain(s, kinds, vals, place, *sort, issued) {

@@ -1,11 +1,12 @@
-use mathlib.Core.Path.{refl, sym, ap, ◌∙◌}
+use mathlib.Core.Path.{◌≡◌, refl, sym, ap, ◌∙◌}
 use Prim.Native.Nat.{ℕ}
 use native.Mathlib.Omega.{arith}
+use Rattle.std.proofs.Common.{rules}
 use Rattle.solver.specs.Terms.Tokens.{area}
 use Rattle.solver.specs.TermTypes.{Place}
 use Rattle.solver.proofs.Terms.Shortest.{octets}
 use Rattle.sheet.specs.Fields.{fields}
-use Rattle.sheet.specs.Words.FieldLayout.{sorts_of, known_for}
+use Rattle.sheet.specs.Words.FieldLayout.{sorts_of, known_for, no_fields}
 use Rattle.sheet.proofs.Laws.Reading.FieldLoopLaws.{through_more, through_stop, through_all, through_undo}
 use Rattle.sheet.proofs.Laws.Reading.OrderLaws.{order_start, order_refused, order_longer, order_done, here_as, ample_start}
 use Rattle.sheet.proofs.order_reader.read_fields.Goals as goal
@@ -17,7 +18,8 @@ loop-i-init c =
     let p : Place = record { at = 1; top = a.first; nodes = a.kept; limit = a.limit } in
     let d = area a.kinds.now a.vals.now in
     let room = c.requires.room in
-    (order_start s a.rules.now c.known_of-known.result a.kind a.class a.sorts.now c.requires.row p d room.free (ample_start s a.kinds.now a.vals.now a.rules.now a.first a.kept a.limit room c.requires.tagged) c.no_fields-o.result c.no_fields-o.ensures, refl)
+    let o : c.default-o.result ≡ no_fields = search rules in
+    (order_start s a.rules.now c.known_of-known.result a.kind a.class a.sorts.now c.requires.row p d room.free (ample_start s a.kinds.now a.vals.now a.rules.now a.first a.kept a.limit room c.requires.tagged) c.default-o.result o, refl)
 
 pub returns-in-Err : goal.returns-in-Err
 returns-in-Err c =

@@ -1,10 +1,12 @@
-use mathlib.Core.Path.{refl, ap, ◌∙◌}
+use mathlib.Core.Path.{◌≡◌, refl, ap, ◌∙◌}
 use mathlib.Core.List.{[]}
 use native.Mathlib.Omega.{arith}
+use Rattle.std.proofs.Common.{rules}
 use Rattle.solver.specs.Terms.Tokens.{area}
 use Rattle.solver.specs.TermTypes.{Rule}
 use Rattle.solver.proofs.Terms.Shortest.{octets}
 use Rattle.solver.specs.Terms.Lookup.{put_rule}
+use Rattle.sheet.specs.Words.FieldLayout.{no_fields}
 use Rattle.sheet.proofs.Laws.Reading.FieldLoopLaws.{rule_start, rule_parts, rule_plain, rule_all, rule_stop, plain_more, plain_stop, through_undo}
 use Rattle.sheet.proofs.Laws.Reading.RuleReading.{rule_here, rule_refused}
 use Rattle.sheet.proofs.rules.read_rule.Goals as goal
@@ -15,7 +17,8 @@ loop-i-init c =
     let s = c.args.s.now in
     let p = a.place.now in
     let d = area a.kinds.now a.vals.now in
-    rule_start s a.issued p d c.requires.free c.requires.ample c.no_fields-o.result c.no_fields-o.ensures
+    let o : c.default-o.result ≡ no_fields = search rules in
+    rule_start s a.issued p d c.requires.free c.requires.ample c.default-o.result o
 
 pub returns-in-Err : goal.returns-in-Err
 returns-in-Err c =
