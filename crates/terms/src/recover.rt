@@ -116,27 +116,6 @@ fn nominal_reach(tokens: &Tokens, p: usize, pe: usize, q: usize, qe: usize) -> u
     i
 }
 
-// Whether the whole row of a term is recovered, by its tag: Iter, Array, Map and Set.
-fn is_container(tag: u32) -> bool
-    ensures { result ≡ among tag (7 ∷ 9 ∷ 10 ∷ 11 ∷ []) }
-{
-    matches!(tag, 7 | 9 | 10 | 11)
-}
-
-// Whether it is where the first numbers agree: Reference, Tuple, Function and Range.
-fn has_first_number(tag: u32) -> bool
-    ensures { result ≡ among tag (0 ∷ 5 ∷ 6 ∷ 8 ∷ []) }
-{
-    matches!(tag, 0 | 5 | 6 | 8)
-}
-
-// Whether a term is a nominal, by its tag.
-fn is_nominal(tag: u32) -> bool
-    ensures { result ≡ among tag (12 ∷ 13 ∷ 14 ∷ 15 ∷ []) }
-{
-    matches!(tag, 12..=15)
-}
-
 // How far the row of the term at p is recovered from the one at q, as a place.
 fn reach_end(tokens: &Tokens, p: usize, pe: usize, q: usize, qe: usize) -> usize
     requires { (p < pe) × (pe ≤ length tokens.now.kinds.now) × (q < qe) × (qe ≤ length tokens.now.kinds.now) }
@@ -152,16 +131,12 @@ fn reach_end(tokens: &Tokens, p: usize, pe: usize, q: usize, qe: usize) -> usize
     if k != tag_of(word(tokens.kinds, q)) {
         return p + 1;
     }
-    if is_container(k) {
-        return pe;
+    match k {
+        7 | 9 | 10 | 11 => pe,
+        0 | 5 | 6 | 8 => first_reach(tokens.vals, p, pe, q, qe),
+        12..=15 => nominal_reach(tokens, p, pe, q, qe),
+        _ => p + 1,
     }
-    if has_first_number(k) {
-        return first_reach(tokens.vals, p, pe, q, qe);
-    }
-    if is_nominal(k) {
-        return nominal_reach(tokens, p, pe, q, qe);
-    }
-    p + 1
 }
 
 // The whole row where the first numbers agree.
