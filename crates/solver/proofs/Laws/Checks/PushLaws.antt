@@ -360,8 +360,6 @@ pub laid_pair : {base count : ℕ} {ts ts' : List ℕ} {r : ℕ} (ls rs : List �
     → Laid ls rs base count ts ts' r
 laid_pair ls rs x y e f l = rw (e, f) l
 
--- ---- a pair taken off, and all of them
-
 -- ---- what `push_children` does
 
 turned_plain : (c n : ℕ) (l : List ℕ) → (c ≡ 1 → ⊥) → turned c n l ≡ l

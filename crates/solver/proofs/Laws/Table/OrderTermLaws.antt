@@ -136,8 +136,6 @@ module _ (x : Solver) (ks vs : List ℕ) (z : Session) (t : Term) (begun : Start
 pub wrote_as : (w w' : List ℕ) (to : ℕ) (o out : List ℕ) (r : ℕ) → w ≡ w' → (r ≡ to + length w) × (out ≡ sets o to w) → (r ≡ to + length w') × (out ≡ sets o to w')
 wrote_as w w' to o out r e h = subst (λ (l : List ℕ). (r ≡ to + length l) × (out ≡ sets o to l)) e h
 
--- ---- frames
-
 -- ---- the bytes of a variable
 
 pub var_size : (n v : ℕ) → n ≡ length (shortest v) → n + 1 ≡ length (bytes (var v))

@@ -15,7 +15,7 @@ use Rattle.terms.specs.Words.Tokens.{Area}
 use Rattle.terms.specs.Words.Held.{span}
 use Rattle.terms.specs.Words.TokenBytes.{plain, spelt}
 use Rattle.terms.specs.Words.Arena.{own, own_nums, OwnAt, RowAt, Tree, variable, branch}
-use Rattle.terms.proofs.Laws.Format.WriteLaws.{plain_short, spelt_short, held_bytes}
+use Rattle.terms.proofs.Laws.Format.WriteLaws.{plain_short, held_bytes}
 use Rattle.terms.proofs.Laws.Held.SameLaws.{span_held}
 use Rattle.terms.proofs.Laws.Normalising.ScanLaws.{Scan, scan_start, scan_over, scan_number, scan_child}
 use Rattle.terms.proofs.Laws.Normalising.DepthLaws.{less}

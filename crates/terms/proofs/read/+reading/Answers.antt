@@ -1,5 +1,5 @@
 -- What each reader leaves, from what its parts leave.
-use Rattle.std.proofs.Common.{◌+◌, ◌-◌, ◌≤◌, ℕ, true, refl, sym, ◌∙◌, arith, get_or}
+use Rattle.std.proofs.Common.{◌+◌, ◌≤◌, ℕ, refl, sym, ◌∙◌, arith}
 use Rattle.terms.specs.Words.Tokens.{area}
 use Rattle.terms.specs.Shape as shape
 use Rattle.terms.specs.Shape.{plain}

@@ -1,15 +1,12 @@
 -- `show_row`. Invariant: the parts that are left, and the bytes shown so far.
 -- `show_tree`. As it stands in the source, or its first token and then its row.
-use Prim.Native.Nat.{ℕ}
 use Rattle.terms.proofs.Laws.Normalising.AlikeLaws.{depth_some, depth_row}
 use Rattle.terms.proofs.Laws.Normalising.ScanLaws.{over_here, over_on, over_width, over_child, over_number}
 use Rattle.terms.proofs.Laws.Normalising.ShowLaws.{row_done, row_number, row_child, tree_flat, tree_bytes, shows_first, shows_then, kept_at, kept_then}
 use Rattle.terms.specs.Term.{bytes, part_bytes}
 use Rattle.terms.specs.Tree.{row}
 use Rattle.terms.specs.Words.TokenBytes.{plain}
-use Rattle.terms.specs.Words.VirtualTokens.{view}
-use lib.ListN.{get_or}
-use mathlib.Core.Path.{refl, ap, ◌∙◌}
+use mathlib.Core.Path.{refl, ◌∙◌}
 use native.Mathlib.Omega.{arith}
 use Rattle.terms.proofs.showing.+showing_trees.Goals as goal
 
