@@ -3,7 +3,7 @@ use mathlib.Core.Path.{◌≡◌, refl, sym, ap, subst, ◌∙◌}
 use mathlib.Core.List.{List}
 use mathlib.Core.Bool.{Bool, true, false}
 use mathlib.Core.Logic.{◌⊎◌, inl, inr}
-use Prim.Native.Nat.{ℕ, zero, suc, ◌+◌, ◌-◌, ◌*◌, ◌^◌, ◌≤◌, ◌<◌}
+use Prim.Native.Nat.{ℕ, zero, suc, ◌+◌, ◌*◌, ◌≤◌, ◌<◌}
 use native.Mathlib.Omega.{arith}
 use borrow.Author.Tests.{lt-ltb, le-ltb}
 use lib.ListN.{length, get_or}
@@ -36,12 +36,6 @@ use Rattle.sheet.specs.Words.FieldLayout.{sort_of, plain_of, part_of, listing_of
 use Rattle.sheet.specs.Words.FieldsContract.{NumberRead}
 use Rattle.sheet.proofs.Laws.Reading.StoredLaws.{stored_none, stored_kept}
 use Rattle.sheet.proofs.Laws.Reading.FieldLaws.{parts_of, same_value, parameters_found}
-
-pub room_of : (s : List ℕ) (p : Place) → Ample s p → Room s p
-room_of s p a = record { inside = a.inside; tokens = omega (arith, a.tokens); counts = omega (arith, a.counts) }
-
-pub space_of : (s : List ℕ) (p : Place) → Ample s p → p.top + 1 + (length s - p.at) < 2 ^ 32
-space_of s p a = omega (arith, a.tokens)
 
 -- ---- how many
 
