@@ -253,9 +253,6 @@ ample_moved s p n at a e =
     let b = number_bounds (ceiling shape.ordinary) s p.at n at a.inside (sym e) in
     record { inside = b.inside; tokens = omega (arith, a.tokens, b.after); counts = omega (arith, a.counts, b.after) }
 
-pub list_refused : (s : List ℕ) (issued : ℕ) (a : Sort) (at c : ℕ) → refused c ≡ number s (ceiling shape.ordinary) at → list_field s issued a at ≡ refused c
-list_refused s issued a at c e = rw (← e)
-
 module _ (s : List ℕ) (p q : Place) (v : ℕ) (x : NumberRead s p (Ok v) q) where
   pub number_small : p.at ≤ length s → (v ≤ 4294967295) × (q.at ≤ length s)
   number_small inside = let b = number_bounds (ceiling shape.ordinary) s p.at v q.at inside (sym x.is) in (b.small, b.inside)
