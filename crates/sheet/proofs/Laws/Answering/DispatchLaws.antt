@@ -8,10 +8,9 @@ use Prim.Native.Nat.{ℕ, zero, suc, ◌^◌, ◌+◌, ◌-◌, ◌*◌, ◌≤�
 use native.Mathlib.Decide.{ℕ_discrete}
 use native.Mathlib.Omega.{arith}
 use borrow.Author.Tests.{ne_eqb, le-ltb}
-use lib.Dec.{eqb, ltb}
-use lib.ListN.{length, length-append, length-drop, get_or, take, drop, take-append-drop, get_or-eq_default}
+use lib.ListN.{length, length-append, length-drop, get_or, take, drop, take-append-drop}
 use lib.Seq.{length-take-le, get_or-take, take-take}
-use Rattle.solver.specs.Terms.Result.{Result, refused}
+use Rattle.solver.specs.Terms.Result.{Result}
 use Rattle.solver.specs.Terms.Tokens.{Narrow, Item, Area, area, blank, toks}
 use Rattle.solver.specs.Terms.Term.{Term, items, size, Held, AllVars, sub, end}
 use Rattle.solver.specs.Terms.Held.{HeldParts}
@@ -26,7 +25,7 @@ use Rattle.solver.specs.Shapes.{notion}
 use Rattle.solver.specs.Constrain.{constrain}
 use Rattle.solver.specs.Orders.{Command, solver_of, keeps, order}
 use Rattle.solver.specs.Words.Worklist.{Zero}
-use Rattle.solver.specs.Words.ConstrainContract.{Scratch, pending_from}
+use Rattle.solver.specs.Words.ConstrainContract.{Scratch}
 use Rattle.solver.specs.Invariant.{InOrder}
 use Rattle.solver.specs.Words.SessionRepresentation.{Represents, limits_of}
 use Rattle.solver.proofs.Laws.Definition.SolverInvariantLaws.{within_known}
@@ -68,9 +67,6 @@ narrow_upto (suc n) (x ∷ xs) f (suc i) = narrow_upto n xs (λ j. f (suc j)) i
 pub taken_narrow : (n : ℕ) (ws : List ℕ) → ((i : ℕ) → get_or ws i 0 < 2 ^ 32) → Narrow (take n ws)
 taken_narrow n ws f = record { fits = narrow_upto n ws f }
 
-pub taken_pairs : (n : ℕ) (ks vs : List ℕ) → n ≤ length ks → n ≤ length vs → length (take n vs) ≡ length (take n ks)
-taken_pairs n ks vs a b = length-take-le n vs b ∙ sym (length-take-le n ks a)
-
 -- ---- the rows that pose a pair
 
 abbrev pair_row_lem : Bool → Row
@@ -110,18 +106,6 @@ ready_room x half s a b c d ws R h w =
       free = zero_free x.top (area a b) L.kinds L.vals;
     }
 
--- an order may have rules where its first byte is 20
-pub no_rules : (s : List ℕ) → length s ≡ 0 → false ≡ eqb (get_or s 0 0) 20
-no_rules [] h = refl
-no_rules (x ∷ s) h = absurd (omega arith)
-
-pub rules_never : {A : Type 0} (s : List ℕ) (r : Bool) → r ≡ eqb (get_or s 0 0) 20 → r ≡ false → get_or s 0 0 ≡ 20 → A
-rules_never s r e f h = let z : true ≡ false = sym (ap (λ (n : ℕ). eqb n 20) h) ∙ sym e ∙ f in let i : ◌≡◌ {A = ℕ} 0 1 = cc in absurd (omega arith)
-
--- few rules: the byte that begins their count, where there is one, is below 64
-pub few_short : (s : List ℕ) → length s < 2 → true ≡ ltb (get_or s 1 0) 64
-few_short s h = let z : get_or s 1 0 ≡ 0 = get_or-eq_default s 0 (omega arith) in rw z
-
 -- ---- answers
 
 -- in areas that are the same
@@ -144,15 +128,6 @@ answers_same Z answer w v F =
 -- the step is another name for one that is answered
 step_as : {x y : Solver} {half : ℕ} {m : Areas} {z : Session} {st st' : Step} {w v : Output} → st ≡ st' → Answers y half m z st' w v x → Answers y half m z st w v x
 step_as {x = x} {y = y} {half = half} {m = m} {z = z} {w = w} {v = v} e A = subst (λ (u : Step). Answers y half m z u w v x) (sym e) A
-
--- reading refused
-pub serves_refused : (x : Solver) (half : ℕ) (s : List ℕ) (m : Areas) (a b : List ℕ) (code : ℕ) → read_order s x.issued ≡ refused code → area a b ≡ area m.a m.b
-    → (w v : Output) → Framed (refusal code) w.bytes w.at v.bytes v.at → Serves x x half s m (areas a b m.c m.d) w v
-serves_refused x half s m a b code e E w v F z A Z =
-    let st : order_of (limits_of x) z s ≡ record { session = z; answer = refusal code } =
-    ap (λ (q : Result Read). step_read (limits_of x) z q) (ap (λ (n : ℕ). read_order s n) (sym Z.represents.issued) ∙ e)
-    in
-    answers_at E (step_as st (answers_same Z (refusal code) w v F))
 
 -- ---- an order taken
 
@@ -220,6 +195,15 @@ module _ {x : Solver} {half : ℕ} {s : List ℕ} {m : Areas} {ts : Area} {ws : 
 
     pub taken_b : o.top ≤ length ts.vals
     taken_b = omega (arith, taken_a, a_long, b_long)
+
+    long_a : length (take o.top ts.kinds) ≡ o.top
+    long_a = length-take-le o.top ts.kinds taken_a
+
+    pub long_b : length (take o.top ts.vals) ≡ o.top
+    long_b = length-take-le o.top ts.vals taken_b
+
+    pub taken_pairs : length (take o.top ts.vals) ≡ length (take o.top ts.kinds)
+    taken_pairs = long_b ∙ sym long_a
 
     -- what was read, as it is given to the function that answers it
     given : Given ts.kinds ts.vals s ws (rows.known T.whole.read.kind x.issued) T.whole.read.kind o T.whole.read.fields
@@ -326,26 +310,20 @@ module _ {x : Solver} {half : ℕ} {s : List ℕ} {m : Areas} {ts : Area} {ws : 
     cut_b : take x.top (take o.top ts.vals) ≡ take x.top m.b
     cut_b = take-take x.top o.top ts.vals taken_after ∙ ap (λ (u : Area). u.vals) T.whole.same
 
-    long_a : length (take o.top ts.kinds) ≡ o.top
-    long_a = length-take-le o.top ts.kinds taken_a
-
-    long_b : length (take o.top ts.vals) ≡ o.top
-    long_b = length-take-le o.top ts.vals taken_b
-
     behind : (z : Session) → InOrder (issued z) z.solver → RepresentsInAreas x half m z → Behind x (take o.top ts.kinds) (take o.top ts.vals) (drop half m.c) z
     behind z A Z =
         record {
           ordered = A;
           represents = rw (cut_a, cut_b) Z.represents;
           inside = omega (arith, long_a, taken_after);
-          pairs = long_b ∙ sym long_a;
+          pairs = taken_pairs;
           short = omega (arith, long_a, T.whole.small);
         }
 
     abbrev fs : List Field
     fs = T.whole.read.fields
 
-    module _ (t : Term) (is : fs ≡ tree t ∷ []) (all : rows.known T.whole.read.kind x.issued ≡ x.issued) where
+    module _ {t : Term} (is : fs ≡ tree t ∷ []) (all : rows.known T.whole.read.kind x.issued ≡ x.issued) where
       one_items : all_items fs ≡ items t
       unfolding all_items field_items
       one_items = ap all_items is ∙ append-nil (items t)
@@ -389,9 +367,9 @@ module _ {x : Solver} {half : ℕ} {s : List ℕ} {m : Areas} {ts : Area} {ws : 
     unfolding rows.known row_in table session_orders
     defer_known h = rw (kind_as 3 rows.defer_never h refl) refl
 
-    pub defer_step : (h : o.kind ≡ 3) (z : Session) → RepresentsInAreas x half m z → (t : Term) → fs ≡ tree t ∷ [] → order_of (limits_of x) z s ≡ solve (limits_of x) z (orders.defer t)
+    pub defer_step : (h : o.kind ≡ 3) (z : Session) {t : Term} → RepresentsInAreas x half m z → fs ≡ tree t ∷ [] → order_of (limits_of x) z s ≡ solve (limits_of x) z (orders.defer t)
     unfolding step nth term_of row_in table session_orders
-    defer_step h z Z t e = step_is z Z ∙ rw (kind_as 3 rows.defer_never h refl, e) refl
+    defer_step h z Z e = step_is z Z ∙ rw (kind_as 3 rows.defer_never h refl, e) refl
 
     -- order 5
     pub resolve_term : o.kind ≡ 5 → (t : Term) × (fs ≡ tree t ∷ [])
@@ -402,9 +380,9 @@ module _ {x : Solver} {half : ℕ} {s : List ℕ} {m : Areas} {ts : Area} {ws : 
     unfolding rows.known row_in table session_orders
     resolve_known h = rw (kind_as 5 rows.resolve h refl) refl
 
-    pub resolve_step : (h : o.kind ≡ 5) (z : Session) → RepresentsInAreas x half m z → (t : Term) → fs ≡ tree t ∷ [] → order_of (limits_of x) z s ≡ solve (limits_of x) z (orders.resolving t)
+    pub resolve_step : (h : o.kind ≡ 5) (z : Session) {t : Term} → RepresentsInAreas x half m z → fs ≡ tree t ∷ [] → order_of (limits_of x) z s ≡ solve (limits_of x) z (orders.resolving t)
     unfolding step nth term_of row_in table session_orders
-    resolve_step h z Z t e = step_is z Z ∙ rw (kind_as 5 rows.resolve h refl, e) refl
+    resolve_step h z Z e = step_is z Z ∙ rw (kind_as 5 rows.resolve h refl, e) refl
 
     -- orders 4 and, strict, 22
     module _ (d : Bool) (h : o.kind ≡ pair_number d) where
@@ -419,7 +397,25 @@ module _ {x : Solver} {half : ℕ} {s : List ℕ} {m : Areas} {ts : Area} {ws : 
       pub pair_terms : (n : ℕ) × (t : Term) × (u : Term) × (fs ≡ value n ∷ tree t ∷ tree u ∷ [])
       pair_terms = two_terms fs (subst (λ (l : List FieldSort). FitsLayout l fs) (ap layout kind_pair ∙ pair_layout d) T.whole.fitting)
 
-      module _ (n : ℕ) (t u : Term) (is : fs ≡ value n ∷ tree t ∷ tree u ∷ []) where
+      pair_few : o.top ≤ 64 + 6 * o.nodes
+      unfolding spares spare
+      pair_few =
+          let g : length (all_items fs) ≤ 6 * all_nodes fs + 0
+          = subst (λ (l : List FieldSort). length (all_items fs) ≤ 6 * all_nodes fs + spares l) (ap layout kind_pair ∙ pair_layout d) T.whole.room in
+          omega (arith, T.whole.tokens, T.whole.counts, T.ready.in_areas.few)
+
+      pub pair_scratch : Scratch x (take o.top ts.kinds) (drop half m.c) m.d
+      pair_scratch =
+          let R = T.ready.roomy in
+          record {
+            pairs = omega (arith, length-drop half m.c, R.table, R.c_size);
+            short = omega (arith, length-drop half m.c, R.few, R.c_size);
+            links = omega (arith, long_a, pair_few, W, R.links, R.d_size);
+            marks = omega (arith, R.marks, R.d_size);
+            clear = T.ready.in_areas.work;
+          }
+
+      module _ {n : ℕ} {t u : Term} (is : fs ≡ value n ∷ tree t ∷ tree u ∷ []) where
         pair_items : all_items fs ≡ items t ++ items u
         unfolding all_items field_items
         pair_items = ap all_items is ∙ ap (λ (l : List Item). items t ++ l) (append-nil (items u))
@@ -471,27 +467,6 @@ module _ {x : Solver} {half : ℕ} {s : List ℕ} {m : Areas} {ts : Area} {ws : 
         pair_step z Z =
             step_is z Z ∙ ap (λ (r : Row). step (limits_of x) z r fs) kind_pair ∙ ap (λ (l : List Field). step (limits_of x) z (pair_row_lem d) l) is
             ∙ pair_steps d (limits_of x) z n t u
-
-        pair_few : o.top ≤ 64 + 6 * o.nodes
-        unfolding spares spare
-        pair_few =
-            let g : length (all_items fs) ≤ 6 * all_nodes fs + 0
-            = subst (λ (l : List FieldSort). length (all_items fs) ≤ 6 * all_nodes fs + spares l) (ap layout kind_pair ∙ pair_layout d) T.whole.room in
-            omega (arith, T.whole.tokens, T.whole.counts, T.ready.in_areas.few)
-
-        pub pair_scratch : Scratch x (take o.top ts.kinds) (drop half m.c) m.d
-        pair_scratch =
-            let R = T.ready.roomy in
-            record {
-              pairs = omega (arith, length-drop half m.c, R.table, R.c_size);
-              short = omega (arith, length-drop half m.c, R.few, R.c_size);
-              links = omega (arith, long_a, pair_few, W, R.links, R.d_size);
-              marks = omega (arith, R.marks, R.d_size);
-              clear = T.ready.in_areas.work;
-            }
-
-        pub pair_blank : Zero (drop (pending_from x) (drop half m.c))
-        pair_blank = T.ready.in_areas.blank
 
         -- where a variable was bound all of its nodes are kept
         pair_kept : (z : Session) → InOrder (issued z) z.solver → RepresentsInAreas x half m z

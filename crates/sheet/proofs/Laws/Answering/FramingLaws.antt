@@ -149,6 +149,3 @@ begun n out₀ to out i h p q =
       fits = λ k. (omega (arith, p, l), q ∙ ap (λ (j : ℕ). sets (sets out₀ to (shortest (suc n))) j (0 ∷ [])) p ∙ sym (sets_append (shortest (suc n)) (0 ∷ []) out₀ to));
       over = λ k. absurd (omega (arith, l));
     }
-
-pub unbegun : (n : ℕ) (out₀ : List ℕ) (to : ℕ) → length out₀ < to + length (shortest (suc n)) + 1 + n → Begun n out₀ to out₀ (length out₀ + 1)
-unbegun n out₀ to h = let l = opening_length n in record { fits = λ k. absurd (omega (arith, l)); over = λ k. (refl, refl) }

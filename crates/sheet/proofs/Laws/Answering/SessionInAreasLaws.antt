@@ -180,18 +180,18 @@ module _ (half : ℕ) (c : List ℕ) where
       drop_at (take half c) (us ++ post_of half (length c - half) c) half (length-take-le half c h)
       ∙ ap (λ (l : List ℕ). us ++ l) (Post-is half (length c) c h ∙ drop-length c) ∙ append-nil us
 
-  pub lent_tail : (x : Solver) (ks vs : List ℕ) (z : Session) → Represents x ks vs (drop half c) z → Represents x ks vs (take (length c - half) (drop half c)) z
-  lent_tail x ks vs z L = subst (λ (l : List ℕ). Represents x ks vs l z) (sym tail_all) L
+  pub lent_tail : {x : Solver} {ks vs : List ℕ} {z : Session} → Represents x ks vs (drop half c) z → Represents x ks vs (take (length c - half) (drop half c)) z
+  lent_tail {x} {ks} {vs} {z} L = subst (λ (l : List ℕ). Represents x ks vs l z) (sym tail_all) L
 
-  pub poses_tail : (x : Solver) (ks vs : List ℕ) (z : Session) (t : Term) → Poses x ks vs (drop half c) z t → Poses x ks vs (take (length c - half) (drop half c)) z t
-  poses_tail x ks vs z t P = subst (λ (l : List ℕ). Poses x ks vs l z t) (sym tail_all) P
+  pub poses_tail : {x : Solver} {ks vs : List ℕ} {z : Session} {t : Term} → Poses x ks vs (drop half c) z t → Poses x ks vs (take (length c - half) (drop half c)) z t
+  poses_tail {x} {ks} {vs} {z} {t} P = subst (λ (l : List ℕ). Poses x ks vs l z t) (sym tail_all) P
 
-  pub pair_tail : (x : Solver) (ks vs : List ℕ) (z : Session) (q : ℕ) (t u : Term) → PosesPair x ks vs (drop half c) z q t u
+  pub pair_tail : {x : Solver} {ks vs : List ℕ} {z : Session} {q : ℕ} {t u : Term} → PosesPair x ks vs (drop half c) z q t u
       → PosesPair x ks vs (take (length c - half) (drop half c)) z q t u
-  pair_tail x ks vs z q t u P = subst (λ (l : List ℕ). PosesPair x ks vs l z q t u) (sym tail_all) P
+  pair_tail {x} {ks} {vs} {z} {q} {t} {u} P = subst (λ (l : List ℕ). PosesPair x ks vs l z q t u) (sym tail_all) P
 
-  pub scratch_tail : (x : Solver) (ks work : List ℕ) → Scratch x ks (drop half c) work → Scratch x ks (take (length c - half) (drop half c)) work
-  scratch_tail x ks work S = subst (λ (l : List ℕ). Scratch x ks l work) (sym tail_all) S
+  pub scratch_tail : {x : Solver} {ks work : List ℕ} → Scratch x ks (drop half c) work → Scratch x ks (take (length c - half) (drop half c)) work
+  scratch_tail {x} {ks} {work} S = subst (λ (l : List ℕ). Scratch x ks l work) (sym tail_all) S
 
   pub blank_tail : (m : ℕ) → Zero (drop m (drop half c)) → Zero (drop m (take (length c - half) (drop half c)))
   blank_tail m z = subst (λ (l : List ℕ). Zero (drop m l)) (sym tail_all) z

@@ -5,7 +5,7 @@ use mathlib.Core.List.{List, [], ◌∷◌, ◌++◌}
 use mathlib.Core.Option.{Option, none, some}
 use Prim.Native.Nat.{ℕ, ◌+◌, ◌-◌, ◌≤◌, ◌<◌}
 use native.Mathlib.Omega.{arith}
-use borrow.Author.Tests.{leb-true, eq-eqb, ne_eqb}
+use borrow.Author.Tests.{leb-true}
 use lib.Dec.{eqb}
 use lib.ListN.{length, length-append}
 use Rattle.solver.specs.Terms.Number.{shortest}
@@ -216,12 +216,6 @@ long_over v out₀ to h =
     frame_over (outcome v) (opening (length v) ++ v) (value_frame v) out₀ to out₀ (length out₀ + 1) (omega (arith, length-append (opening (length v)) v)) refl refl
 
 -- ---- bytes of the revision
-
-pub changed_same : (old new : ℕ) → new ≡ old → 0 ≡ bit (not (eqb new old))
-changed_same old new e = rw (eq-eqb new old e) refl
-
-pub changed_other : (old new : ℕ) → (new ≡ old → ⊥) → 1 ≡ bit (not (eqb new old))
-changed_other old new e = rw (ne_eqb new old e) refl
 
 -- ---- orders 0 to 2 and 21: by the variable that the place has or would be given
 

@@ -87,7 +87,7 @@ unfolding plain_of sort_of Plain
 plain_same sorts.Rules h = absurd h
 plain_same a h = refl
 
-module _ (s : List ℕ) (octets : Octets s) (ws us : List ℕ) (issued : ℕ) (c : List Sort) (p : Place) (d e : Area) (i : ℕ) (o : Order) (q : Place)
+module _ {s : List ℕ} (octets : Octets s) {ws : List ℕ} (us : List ℕ) {issued : ℕ} (c : List Sort) {p : Place} {d e : Area} {i : ℕ} {o : Order} {q : Place}
     (x : Through s ws issued (sorts_of c) p d e i o q) (h : i < length c) where
   abbrev here_sort : FieldSort
   here_sort = get_or (sorts_of c) i fields.ordinary
@@ -155,7 +155,7 @@ module _ (s : List ℕ) (octets : Octets s) (ws us : List ℕ) (issued : ℕ) (c
   plain_stop k = through_refused (plain_of met) (plain_is k)
 
 -- the end: nothing is left
-module _ (s ws : List ℕ) (issued : ℕ) (c : List Sort) (p : Place) (d e : Area) (i : ℕ) (o : Order) (q : Place) (x : Through s ws issued (sorts_of c) p d e i o q) where
+module _ {s ws : List ℕ} {issued : ℕ} (c : List Sort) {p : Place} {d e : Area} {i : ℕ} {o : Order} {q : Place} (x : Through s ws issued (sorts_of c) p d e i o q) where
   pub through_all : length c ≤ i → FieldsHere s ws (fields.fields s issued (sorts_of c) p.at) p d e o q
   unfolding fields.fields
   through_all h =
@@ -179,17 +179,17 @@ pub rule_plain : Plains (sorts_of rule_parts)
 unfolding sort_of Plains Plain
 rule_plain = (tt, (tt, (tt, (tt, (tt, tt)))))
 
-pub rule_start : (s : List ℕ) (issued : ℕ) (p : Place) (d : Area) → Free p.top d → Ample s p → (o : Order) → o ≡ no_fields
+pub rule_start : {s : List ℕ} {issued : ℕ} (p : Place) (d : Area) {o : Order} → Free p.top d → Ample s p → o ≡ no_fields
     → Through s [] issued (sorts_of rule_parts) p d d 0 o p
 unfolding sort_of Leading Plains Plain
-rule_start s issued p d f a o e =
+rule_start {s} {issued} p d f a e =
     rw e (through_start s [] issued (sorts_of rule_parts) p d (omega arith) (tt, (tt, (tt, (tt, tt)))) f a)
 
-pub rule_all : (s : List ℕ) (issued : ℕ) (p : Place) (d e : Area) (i : ℕ) (o : Order) (q : Place) → Through s [] issued (sorts_of rule_parts) p d e i o q → 5 ≤ i
+pub rule_all : {s : List ℕ} {issued : ℕ} {p : Place} {d e : Area} {i : ℕ} {o : Order} {q : Place} → Through s [] issued (sorts_of rule_parts) p d e i o q → 5 ≤ i
     → FieldsHere s [] (fields.fields s issued rule_sorts p.at) p d e o q
 unfolding sort_of
-rule_all s issued p d e i o q x h = through_all s [] issued rule_parts p d e i o q x h
+rule_all x h = through_all rule_parts x h
 
-pub rule_stop : (s : List ℕ) (issued : ℕ) (p : Place) (c : ℕ) → fields.fields s issued (sorts_of rule_parts) p.at ≡ refused c → fields.fields s issued rule_sorts p.at ≡ refused c
+pub rule_stop : (s : List ℕ) (issued at : ℕ) {c : ℕ} → fields.fields s issued (sorts_of rule_parts) at ≡ refused c → fields.fields s issued rule_sorts at ≡ refused c
 unfolding sort_of
-rule_stop s issued p c h = h
+rule_stop s issued at h = h

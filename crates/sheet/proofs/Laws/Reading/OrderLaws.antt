@@ -107,9 +107,9 @@ not_plain a e h = absurd (rw e at h)
 
 -- ---- the fields of a kind
 
-pub order_start : (s ws : List ℕ) (issued k : ℕ) (c : Class) (l : List Sort) → RowIs k c l → (p : Place) (d : Area) → Free p.top d → Ample s p → (o : Order) → o ≡ no_fields
+pub order_start : {s ws : List ℕ} {issued : ℕ} (k : ℕ) {c : Class} (l : List Sort) → RowIs k c l → (p : Place) (d : Area) {o : Order} → Free p.top d → Ample s p → o ≡ no_fields
     → Through s ws issued (sorts_of l) p d d 0 o p
-order_start s ws issued k c l h p d f a o eo =
+order_start {s} {ws} {issued} k {c} l h p d f a eo =
     let x = row_of k c l h in
     rw (eo, x.3) (through_start s ws issued (layout x.0) p d (layout_short k x.0 x.1) (layout_leading k x.0 x.1) f a)
 
@@ -133,7 +133,7 @@ module _ (s : List ℕ) (issued : ℕ) where
         go none e h = order_row none e
         go (some r) e h = let z : ◌≡◌ {A = ℕ} 0 1 = cc in absurd (omega arith)
 
-    module _ (k : ℕ) (e : k ≡ get_or s 0 0) (c : Class) (n : List Sort) (is : RowIs k c n) where
+    module _ {k : ℕ} (e : k ≡ get_or s 0 0) {c : Class} (n : List Sort) (is : RowIs k c n) where
       abbrev r : Row
       r = (row_of k c n is).0
 
@@ -149,21 +149,21 @@ module _ (s : List ℕ) (issued : ℕ) where
       unfolding kinded_order
       order_is = order_row (some r) (rw (← e) listed) ∙ ap (λ (x : Result (List Field)). bind x (λ fs. last s (record { kind = r; fields = fs }))) (sym fields_are)
 
-      pub order_refused : (a : ℕ) → fields.fields s (known_for c issued) (sorts_of n) 1 ≡ refused a → read_order s issued ≡ refused a
-      order_refused a h =
+      pub order_refused : {a : ℕ} → fields.fields s (known_for c issued) (sorts_of n) 1 ≡ refused a → read_order s issued ≡ refused a
+      order_refused h =
           order_is ∙ ap (λ (x : Result (List Field)). bind x (λ fs. last s (record { kind = r; fields = fs }))) h
 
       after : (fs : List Field) (m : ℕ) → fields.fields s (known_for c issued) (sorts_of n) 1 ≡ got fs m → read_order s issued ≡ last s (record { kind = r; fields = fs }) m
       after fs m h = order_is ∙ ap (λ (x : Result (List Field)). bind x (λ fs. last s (record { kind = r; fields = fs }))) h
 
-      pub order_longer : (fs : List Field) (m : ℕ) → fields.fields s (known_for c issued) (sorts_of n) 1 ≡ got fs m → m < length s → read_order s issued ≡ refused 1
-      order_longer fs m h l = after fs m h ∙ rw (lt-ltb m (length s) l)
+      pub order_longer : {fs : List Field} {m : ℕ} → fields.fields s (known_for c issued) (sorts_of n) 1 ≡ got fs m → m < length s → read_order s issued ≡ refused 1
+      order_longer {fs} {m} h l = after fs m h ∙ rw (lt-ltb m (length s) l)
 
       order_whole : (fs : List Field) (m : ℕ) → fields.fields s (known_for c issued) (sorts_of n) 1 ≡ got fs m → length s ≤ m → read_order s issued ≡ got (record { kind = r; fields = fs }) m
       order_whole fs m h l = after fs m h ∙ rw (le-ltb m (length s) l)
 
       -- an order that is whole
-      module _ (octets : Octets s) (us ws : List ℕ) (top kept limit : ℕ) (d e' : Area) (room : OrderRoom s d.kinds d.vals us top kept limit) (long : length ws ≡ length us) (o : Order) (q : Place) where
+      module _ (octets : Octets s) {us : List ℕ} (ws : List ℕ) {top kept limit : ℕ} (d e' : Area) (room : OrderRoom s d.kinds d.vals us top kept limit) (long : length ws ≡ length us) (o : Order) (q : Place) where
         abbrev start : Place
         start = record { at = 1; top = top; nodes = kept; limit = limit }
 
@@ -218,12 +218,12 @@ module _ (s : List ℕ) (issued : ℕ) where
             }
 
 -- what is known below, told another way
-pub here_as : (s ws : List ℕ) (n m : ℕ) (l : List FieldSort) (at : ℕ) (p : Place) (d e : Area) (o : Order) (q : Place) → n ≡ m → FieldsHere s ws (fields.fields s n l at) p d e o q → FieldsHere s ws (fields.fields s m l at) p d e o q
-here_as s ws n m l at p d e o q h x = rw (← h) x
+pub here_as : {s ws : List ℕ} {n m : ℕ} (l : List FieldSort) (at : ℕ) {p : Place} {d e : Area} {o : Order} {q : Place} → n ≡ m → FieldsHere s ws (fields.fields s n l at) p d e o q → FieldsHere s ws (fields.fields s m l at) p d e o q
+here_as l at h x = rw (← h) x
 
 -- the place where an order's fields begin
-pub ample_start : (s ks vs ws : List ℕ) (top kept limit : ℕ) → OrderRoom s ks vs ws top kept limit → 0 < length s → Ample s (record { at = 1; top = top; nodes = kept; limit = limit })
-ample_start s ks vs ws top kept limit x h = record {
+pub ample_start : {s ks vs ws : List ℕ} {top kept limit : ℕ} → OrderRoom s ks vs ws top kept limit → 0 < length s → Ample s (record { at = 1; top = top; nodes = kept; limit = limit })
+ample_start x h = record {
   inside = omega arith;
   tokens = omega (arith, x.bytes, x.tokens, x.short);
   counts = omega (arith, x.bytes, x.within, x.few);

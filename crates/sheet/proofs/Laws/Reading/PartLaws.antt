@@ -3,7 +3,7 @@ use mathlib.Core.Path.{◌≡◌, refl, sym, ap, subst, ◌∙◌}
 use mathlib.Core.List.{List}
 use mathlib.Core.Bool.{Bool, true, false}
 use mathlib.Core.Logic.{◌⊎◌, inl, inr}
-use Prim.Native.Nat.{ℕ, zero, suc, ◌+◌, ◌-◌, ◌*◌, ◌^◌, ◌≤◌, ◌<◌}
+use Prim.Native.Nat.{ℕ, zero, suc, ◌+◌, ◌*◌, ◌≤◌, ◌<◌}
 use native.Mathlib.Omega.{arith}
 use borrow.Author.Tests.{lt-ltb, le-ltb}
 use lib.ListN.{length, get_or}
@@ -36,12 +36,6 @@ use Rattle.sheet.specs.Words.FieldLayout.{sort_of, plain_of, part_of, listing_of
 use Rattle.sheet.specs.Words.FieldsContract.{NumberRead}
 use Rattle.sheet.proofs.Laws.Reading.StoredLaws.{stored_none, stored_kept}
 use Rattle.sheet.proofs.Laws.Reading.FieldLaws.{parts_of, same_value, parameters_found}
-
-pub room_of : (s : List ℕ) (p : Place) → Ample s p → Room s p
-room_of s p a = record { inside = a.inside; tokens = omega (arith, a.tokens); counts = omega (arith, a.counts) }
-
-pub space_of : (s : List ℕ) (p : Place) → Ample s p → p.top + 1 + (length s - p.at) < 2 ^ 32
-space_of s p a = omega (arith, a.tokens)
 
 -- ---- how many
 
@@ -258,9 +252,6 @@ pub ample_moved : (s : List ℕ) (p : Place) (n at : ℕ) → Ample s p → got 
 ample_moved s p n at a e =
     let b = number_bounds (ceiling shape.ordinary) s p.at n at a.inside (sym e) in
     record { inside = b.inside; tokens = omega (arith, a.tokens, b.after); counts = omega (arith, a.counts, b.after) }
-
-pub list_refused : (s : List ℕ) (issued : ℕ) (a : Sort) (at c : ℕ) → refused c ≡ number s (ceiling shape.ordinary) at → list_field s issued a at ≡ refused c
-list_refused s issued a at c e = rw (← e)
 
 module _ (s : List ℕ) (p q : Place) (v : ℕ) (x : NumberRead s p (Ok v) q) where
   pub number_small : p.at ≤ length s → (v ≤ 4294967295) × (q.at ≤ length s)

@@ -94,7 +94,7 @@ pub record RuleHere (s : List ℕ) (issued : ℕ) (p : Place) (d e : Area) (o : 
   pub words : rule_from o ≡ rule_words p.top rule
   pub fits : WordsFit o
 
-module _ (s ws : List ℕ) (octets : Octets s) (issued : ℕ) (p : Place) (d e : Area) (ample : Ample s p) where
+module _ {s : List ℕ} (ws : List ℕ) (octets : Octets s) {issued : ℕ} {p : Place} {d e : Area} (ample : Ample s p) where
   rule_made : (x : Pattern) (o : Order) (q : Place) → fields.fields s issued rule_sorts p.at ≡ got (rule_fields x) q.at → fields.rule s issued p.at ≡ got x q.at
       → Stored p q d e (all_items (rule_fields x)) (all_nodes (rule_fields x)) → Spots s ws p.top o (rule_fields x) → q.at ≤ length s → RuleHere s issued p d e o q
   unfolding spot_at nth start_at field_items all_items FormedFields
@@ -134,8 +134,8 @@ module _ (s ws : List ℕ) (octets : Octets s) (issued : ℕ) (p : Place) (d e :
         };
       }
 
-  pub rule_here : (o : Order) (q : Place) → FieldsHere s ws (fields.fields s issued rule_sorts p.at) p d e o q → RuleHere s issued p d e o q
-  rule_here o q z =
+  pub rule_here : {o : Order} {q : Place} → FieldsHere s ws (fields.fields s issued rule_sorts p.at) p d e o q → RuleHere s issued p d e o q
+  rule_here {o} {q} z =
       let y = parts_of (fields.rule s issued p.at) (λ x m. got (rule_fields x) m) z.read q.at (sym (rule_read s issued p.at) ∙ z.is) in
       go y.0 y.1 y.2 (same_value y.3) (same_next y.3)
     where
@@ -143,8 +143,8 @@ module _ (s ws : List ℕ) (octets : Octets s) (issued : ℕ) (p : Place) (d e :
       go x m h is next =
           rule_made x o q (rw (← is) at z.is) (rw next at h) (stored_as p q d e _ _ _ _ (ap all_items (sym is)) (ap all_nodes (sym is)) z.stored) (λ j k. rw is (z.spots j k)) z.inside
 
-  pub rule_refused : (c : ℕ) → fields.fields s issued rule_sorts p.at ≡ refused c → fields.rule s issued p.at ≡ refused c
-  rule_refused c e = refused_from (fields.rule s issued p.at) rule_fields c (sym (rule_read s issued p.at) ∙ e)
+pub rule_refused : (s : List ℕ) (issued at : ℕ) {c : ℕ} → fields.fields s issued rule_sorts at ≡ refused c → fields.rule s issued at ≡ refused c
+rule_refused s issued at {c} e = refused_from (fields.rule s issued at) rule_fields c (sym (rule_read s issued at) ∙ e)
 
 -- ---- the words stored
 
@@ -236,9 +236,9 @@ pub record RulesThrough (s : List ℕ) (issued n : ℕ) (p : Place) (d e : Area)
   pub long : length us ≡ length ws
   pub ample : Ample s q
 
-pub rules_start : (s : List ℕ) (issued n : ℕ) (p : Place) (d : Area) (ws : List ℕ) → Free p.top d → Ample s p → RulesThrough s issued n p d d ws ws 0 p
+pub rules_start : {s : List ℕ} {issued n : ℕ} (p : Place) (d : Area) {ws : List ℕ} → Free p.top d → Ample s p → RulesThrough s issued n p d d ws ws 0 p
 unfolding rule_items rule_nodes RulesAt
-rules_start s issued n p d ws f a = record {
+rules_start {s} {issued} {n} p d f a = record {
   read = [];
   count = refl;
   within = omega arith;
@@ -249,7 +249,7 @@ rules_start s issued n p d ws f a = record {
   ample = a;
 }
 
-module _ (s : List ℕ) (octets : Octets s) (issued n : ℕ) (p : Place) (d e : Area) (ws us : List ℕ) (r : ℕ) (q : Place) (x : RulesThrough s issued n p d e ws us r q) where
+module _ {s : List ℕ} (octets : Octets s) {issued n : ℕ} {p : Place} {d e : Area} {ws us : List ℕ} {r : ℕ} {q : Place} (x : RulesThrough s issued n p d e ws us r q) where
   whole_split : r < n → fields.rule_list s issued n p.at
       ≡ bind (bind (fields.rule s issued q.at) (λ y m. bind (fields.rule_list s issued (n - (r + 1)) m) (λ ys j. got (y ∷ ys) j))) (λ gs m. got (x.read ++ gs) m)
   unfolding fields.rule_list

@@ -118,10 +118,6 @@ pub front_zero : (n : ℕ) (l v : List ℕ) → n ≤ length l → Zero (take n 
     → Zero (put_mid n (length l - n) l v)
 front_zero n l v h z e = zero_cleared (put_mid n (length l - n) l v) (length l) (tail_cleared n l v h (λ j p. sym (get_or-take n l j 0 p) ∙ z j) e)
 
--- a front part that was lent and came back is as long as it was
-pub part_inside : (n : ℕ) (area part : List ℕ) → n ≤ length area → length part ≡ length (take n area) → n ≤ length (part ++ drop n area)
-part_inside n area part h e = omega (arith, length_front area part n e)
-
 -- an area of which a front part was lent and came back all 0, and whose rest was cleared then
 pub area_cleared : (n : ℕ) (area part v : List ℕ) → n ≤ length area → length part ≡ length (take n area) → Zero part
     → v ≡ replicate (length (take (length (part ++ drop n area) - n) (drop n (part ++ drop n area)))) 0

@@ -1,11 +1,11 @@
 -- What a length says of the sheet.
-use mathlib.Core.Path.{◌≡◌, refl, sym, ap, ◌∙◌}
+use mathlib.Core.Path.{◌≡◌, refl, sym, ap}
 use mathlib.Core.Bool.{Bool, true, false}
 use mathlib.Core.List.{List}
 use Prim.Native.Nat.{ℕ, ◌+◌, ◌-◌, ◌≤◌, ◌<◌}
 use native.Mathlib.Decide.{dec_le}
 use native.Mathlib.Omega.{arith}
-use borrow.Author.Tests.{lt-ltb, le-ltb, ltb-false}
+use borrow.Author.Tests.{ltb-false}
 use lib.Dec.{ltb}
 use lib.ListN.{length, take, drop, drop_of_length-le}
 use Rattle.solver.specs.Terms.Result.{Result, got, refused, pick}
@@ -30,21 +30,6 @@ number_inside most s at v n e = go (dec_le at (length s))
         let o : number most s at ≡ refused 1 = past_end most s at (omega arith) in
         let z : ◌≡◌ {A = ℕ} 0 1 = cc in
         absurd (omega arith)
-
--- ---- what framing answers
-
-pub frame_short : (s : List ℕ) (at size from : ℕ) → got size from ≡ number (ceiling shape.ordinary) s at → length s - from < size
-    → refused 10 ≡ next_order s at
-frame_short s at size from e h =
-    ap {B = Result (List ℕ)} (λ b. pick b (refused 10) (got (take size (drop from s)) (from + size))) (sym (lt-ltb (length s - from) size h)) ∙ ap (part s) e
-
-pub frame_whole : (s : List ℕ) (at size from : ℕ) → got size from ≡ number (ceiling shape.ordinary) s at → size ≤ length s - from
-    → got (take size (drop from s)) (from + size) ≡ next_order s at
-frame_whole s at size from e h =
-    ap {B = Result (List ℕ)} (λ b. pick b (refused 10) (got (take size (drop from s)) (from + size))) (sym (le-ltb (length s - from) size h)) ∙ ap (part s) e
-
-pub frame_none : (s : List ℕ) (at c : ℕ) → refused c ≡ number (ceiling shape.ordinary) s at → refused 10 ≡ next_order s at
-frame_none s at c e = ap (part s) e
 
 -- ---- the order that comes next lies after the position, and within the sheet
 

@@ -1,5 +1,5 @@
 -- A fresh session laid in the four areas, and the session that a run leaves there.
-use mathlib.Core.Path.{◌≡◌, sym, ap, subst, ◌∙◌}
+use mathlib.Core.Path.{◌≡◌, ap, ◌∙◌}
 use mathlib.Core.List.{List, ◌++◌}
 use Prim.Native.Nat.{ℕ, ◌-◌, ◌≤◌}
 use native.Mathlib.Omega.{arith}
@@ -7,12 +7,12 @@ use lib.ListN.{length, take, drop, replicate, length-replicate}
 use lib.Seq.{length_front, length-take-le, take_at, drop_at}
 use borrow.Rule.Slice.PartMut.{put_mid, take_put}
 use Rattle.solver.specs.declared.Solver.{Solver}
-use Rattle.solver.specs.Session.{Session, fresh}
+use Rattle.solver.specs.Session.{fresh}
 use Rattle.solver.specs.Words.SessionsContract.{Holds, counters}
 use Rattle.solver.specs.Words.Worklist.{Zero}
 use Rattle.solver.proofs.Laws.Table.SessionsLaws.{zero_cleared}
 use Rattle.sheet.specs.Words.SessionInAreas.{areas, RepresentsInAreas}
-use Rattle.sheet.proofs.Laws.Answering.SessionInAreasLaws.{tail_all, tail_back}
+use Rattle.sheet.proofs.Laws.Answering.SessionInAreasLaws.{tail_back}
 
 -- the front of c was cleared
 module _ (half : ℕ) (c f : List ℕ) (inside : half ≤ length c) (cleared : f ≡ replicate (length (take half c)) 0) where
@@ -39,8 +39,3 @@ module _ (half : ℕ) (c f : List ℕ) (inside : half ≤ length c) (cleared : f
         work = w;
         few = omega arith;
       })
-
--- a session in the four areas, as the solver finds it
-pub lays_holds : (x : Solver) (half : ℕ) (a b c d : List ℕ) (z : Session) → RepresentsInAreas x half (areas a b c d) z → Holds x a b (take (length c - half) (drop half c)) z
-lays_holds x half a b c d z L =
-    subst (λ (l : List ℕ). Holds x a b l z) (sym (tail_all half c)) (record { represents = L.represents; kinds = L.kinds; vals = L.vals; blank = L.blank })

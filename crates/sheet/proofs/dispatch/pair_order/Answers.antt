@@ -3,53 +3,46 @@ use native.Mathlib.Omega.{arith}
 use mathlib.Core.Path.{sym}
 use Prim.Native.Nat.{◌*◌, ◌-◌}
 use lib.ListN.{length}
-use lib.Seq.{length-take-le}
 use borrow.Rule.Slice.PartMut.{take_put}
 use Rattle.solver.specs.Words.PendingContract.{strict_of}
 use Rattle.sheet.proofs.Laws.Answering.SessionInAreasLaws.{pair_tail, scratch_tail, blank_tail, pair_does_tail}
-use Rattle.sheet.proofs.Laws.Answering.DispatchLaws.{taken_half, taken_b, pair_terms, pair_k, poses_pair, pair_nodes, pair_scratch, pair_blank, pair_answered, taken_a, taken_narrow, taken_pairs}
+use Rattle.sheet.proofs.Laws.Answering.DispatchLaws.{taken_half, long_b, pair_terms, pair_k, poses_pair, pair_nodes, pair_scratch, pair_answered, taken_narrow, taken_pairs}
 use Rattle.sheet.proofs.dispatch.pair_order.Goals as goal
 
 pub invariant_of-constrain_order : goal.invariant_of-constrain_order
 invariant_of-constrain_order c =
-    let T = c.requires.taken.4 in
-    let W = c.requires.within in
-    record { pairs = taken_pairs _ _ _ (taken_a T W) (taken_b T W); narrow = taken_narrow _ _ (λ i. omega (arith, c.type_inv.b i)) }
+    record { pairs = taken_pairs c.requires.taken.4 c.requires.within; narrow = taken_narrow _ _ (λ i. omega (arith, c.type_inv.b i)) }
 
 pub overflow_cast-k : goal.overflow_cast-k
 overflow_cast-k c =
-    let a = c.args in
     let p = c.requires in
-    let T = c.requires.taken.4 in
-    let q = pair_terms T p.within (strict_of a.access) p.kind in
-    let k = pair_k T p.within (strict_of a.access) p.kind q.0 q.1 q.2 q.3 in
+    let d = strict_of c.args.access in
+    let k = pair_k p.taken.4 p.within d p.kind (pair_terms p.taken.4 p.within d p.kind).3 in
     omega (arith, k.0, k.1)
 
 pub slice_bounds-constrain_order-end-2 : goal.slice_bounds-constrain_order-end-2
-slice_bounds-constrain_order-end-2 c =
-    sym (length-take-le _ _ (taken_b c.requires.taken.4 c.requires.within))
+slice_bounds-constrain_order-end-2 c = sym (long_b c.requires.taken.4 c.requires.within)
 
 pub constrain_order-requires : goal.constrain_order-requires
 constrain_order-requires c =
     let a = c.args in
     let p = c.requires in
     let T = c.requires.taken.4 in
-    let W = c.requires.within in
-    let h = c.requires.kind in
-    let q = pair_terms T W (strict_of a.access) h in
-    let R = c.requires.taken.4.ready in
-    record { held = (R.session, q.1, q.2, pair_tail a.half a.c.now _ _ _ _ _ _ _ (poses_pair T W (strict_of a.access) h q.0 q.1 q.2 q.3 R.session R.ordered R.in_areas), pair_nodes T W (strict_of a.access) h q.0 q.1 q.2 q.3 R.session R.in_areas); areas = (scratch_tail a.half a.c.now _ _ _ (pair_scratch T W (strict_of a.access) h q.0 q.1 q.2 q.3), blank_tail a.half a.c.now (7 * a.x.variables) (pair_blank T W (strict_of a.access) h q.0 q.1 q.2 q.3)); room = p.room }
+    let R = T.ready in
+    let d = strict_of a.access in
+    let q = pair_terms T p.within d p.kind in
+    record { held = (R.session, q.1, q.2, pair_tail a.half a.c.now (poses_pair T p.within d p.kind q.3 R.session R.ordered R.in_areas), pair_nodes T p.within d p.kind q.3 R.session R.in_areas); areas = (scratch_tail a.half a.c.now (pair_scratch T p.within d p.kind), blank_tail a.half a.c.now (7 * a.x.variables) R.in_areas.blank); room = p.room }
 
 pub returns : goal.returns
 returns c =
     let a = c.args in
     let W = c.requires.within in
     let h = c.requires.kind in
+    let d = strict_of a.access in
     let e = c.constrain_order.ensures in
     let w = c.constrain_order.new.tables in
     λ s a₀ b₀ ws T.
     let i = taken_half T in
-    let q = pair_terms T W (strict_of a.access) h in
-    let k = pair_k T W (strict_of a.access) h q.0 q.1 q.2 q.3 in
-    pair_answered T W (strict_of a.access) h q.0 q.1 q.2 q.3 _ _ _ _ _ (take_put a.half (length a.c.now - a.half) a.c.now w i) e.clear a.o.first.value k.0
-    (λ z P n. pair_does_tail a.half a.c.now a.x _ _ _ z _ _ _ _ _ w i (e.does z q.1 q.2 (pair_tail a.half a.c.now _ _ _ _ _ _ _ P) n))
+    let q = pair_terms T W d h in
+    pair_answered T W d h q.3 _ _ _ _ _ (take_put a.half (length a.c.now - a.half) a.c.now w i) e.clear a.o.first.value (pair_k T W d h q.3).0
+    (λ z P n. pair_does_tail a.half a.c.now a.x _ _ _ z _ _ _ _ _ w i (e.does z q.1 q.2 (pair_tail a.half a.c.now P) n))

@@ -2,9 +2,6 @@
 use Rattle.sheet.proofs.Laws.Reading.OrderLaws.{not_plain, sort_plain}
 use Rattle.sheet.proofs.order_reader.read_field.Goals as goal
 
-pub returns-in-Rules-clause-done : goal.returns-in-Rules-clause-done
-returns-in-Rules-clause-done c = rw c.in-Rules.is c.rules_field.ensures
-
 pub returns-in-Rules-clause-words : goal.returns-in-Rules-clause-words
 returns-in-Rules-clause-words c = not_plain c.args.sort c.in-Rules.is
 
