@@ -1,5 +1,5 @@
 -- What the functions that answer orders 9 to 20 ask and promise.
-use Rattle.std.specs.Prelude.{◌≡◌, false, List, [], ◌∷◌, ◌⊎◌, ℕ, ◌≤◌, length}
+use Rattle.std.specs.Prelude.{◌≡◌, false, List, [], ◌∷◌, ◌⊎◌, ℕ, length}
 use Rattle.std.proofs.Math.Option.{some}
 use Rattle.solver.specs.TermTypes.{Binders, Parameter}
 use Rattle.solver.specs.Terms.Term.{Term, Parts, node, Held}
