@@ -1,5 +1,5 @@
-// The questions that look for a term of some kind: one walk over the tokens, told by a question number. Linear in the tokens looked at; a Generic
-// of question 7 is looked for among the parameters.
+// The questions that look for a term of some kind: one walk over the tokens, told by the question. Linear in the tokens looked at; a Generic
+// of `IsResolvedIn` is looked for among the parameters.
 ghost use Rattle.std.specs.Prelude.{◌≡◌, Bool, List, ℕ, ◌≤◌, ◌<◌, length};
 ghost use Rattle.terms.specs.Parser.{got};
 ghost use Rattle.terms.specs.Term.{Term};
