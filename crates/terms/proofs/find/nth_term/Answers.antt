@@ -1,22 +1,13 @@
 use Rattle.terms.proofs.Laws.General.Options.{sub_step}
-use Rattle.terms.proofs.Laws.Replacing.FindLaws.{clip_within, nth_here, nth_out, nth_more}
+use Rattle.terms.proofs.Laws.Replacing.FindLaws.{nth_here, nth_out, nth_more}
 use mathlib.Core.Path.{ap, ◌∙◌}
 use Prim.Native.Nat.{ℕ, ◌+◌, ◌-◌}
 use native.Mathlib.Omega.{arith}
-use lib.ListN.{get_or, length}
-use Rattle.terms.specs.Words.Held.{span}
 use Rattle.terms.specs.Words.FindContract.{nth_at}
 use Rattle.terms.proofs.find.nth_term.Goals as goal
 
 pub returns-then-tokens-i : goal.returns-then-tokens-i
 returns-then-tokens-i c = nth_out _ _ _ _ c.if-tokens-i.true ∙ c.loop-k.invariant
-
-pub overflow_add-i : goal.overflow_add-i
-overflow_add-i c =
-    let a = c.args in
-    let i = c.loop-k.i in
-    let room = length a.tokens.now.kinds.now - i in
-    omega (arith, c.skip-i.ensures.is, clip_within room (span (get_or a.tokens.now.kinds.now i 0) (get_or a.tokens.now.vals.now i 0)) (omega arith))
 
 pub loop-k-preserved : goal.loop-k-preserved
 loop-k-preserved c =

@@ -2,19 +2,13 @@
 use Rattle.std.proofs.Common.{◌∙◌, ap, arith, refl, List, ℕ, Bor}
 use Rattle.terms.specs.Words.Tokens.{area}
 use Rattle.terms.proofs.Laws.General.Options.{handed_on, sub_step}
-use Rattle.terms.proofs.Laws.Format.ListReaderLaws.{along_start, along_room, along_next, along_stop, along_end}
+use Rattle.terms.proofs.Laws.Format.ListReaderLaws.{along_start, along_next, along_stop, along_end}
 use Rattle.terms.proofs.lists.read_records.Goals as goal
 
 pub loop-i-init : goal.loop-i-init
 loop-i-init c =
     let a = c.args in
     record { bytes = refl; along = along_start a.s.now a.w a.count a.place.now (area a.kinds.now a.vals.now) c.requires }
-
-pub next_record-requires : goal.next_record-requires
-next_record-requires c =
-    let a = c.args in
-    let l = c.loop-i in
-    rw l.invariant.bytes (along_room a.s.now a.w a.count a.place.now (area a.kinds.now a.vals.now) c.requires l.i l.reader.place (area l.kinds l.vals) l.invariant.along)
 
 pub loop-i-preserved : goal.loop-i-preserved
 loop-i-preserved c =

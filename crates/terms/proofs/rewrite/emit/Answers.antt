@@ -3,20 +3,18 @@ use mathlib.Core.Path.{refl}
 use mathlib.Core.List.{[], ◌∷◌}
 use lib.Seq.{sets}
 use native.Mathlib.Omega.{arith}
-use Rattle.terms.proofs.Laws.Replacing.RewriteLaws.{pick_yes, pick_no, keep_piece, by_piece, unknown_piece, stride_in, inside_by, retold, respaced}
+use Rattle.terms.proofs.Laws.Replacing.RewriteLaws.{pick_yes, pick_no, keep_piece, by_piece, unknown_piece, retold, respaced}
 use Rattle.terms.proofs.rewrite.emit.Goals as goal
 
-pub emit_run-requires : goal.emit_run-requires
-emit_run-requires c =
+pub emit_run-requires-clause-space : goal.emit_run-requires-clause-space
+emit_run-requires-clause-space c =
     let a = c.args in
-    record { run = (omega arith, omega arith); space = respaced _ a.out.now _ _ _ (keep_piece a.tokens.now.kinds.now a.tokens.now.vals.now a.p a.c c.in-Keep.is) _ c.requires.space }
+    respaced _ a.out.now _ _ _ (keep_piece a.tokens.now.kinds.now a.tokens.now.vals.now a.p a.c c.in-Keep.is) _ c.requires.space
 
-pub emit_run-requires-in-By : goal.emit_run-requires-in-By
-emit_run-requires-in-By c =
+pub emit_run-requires-in-By-clause-space : goal.emit_run-requires-in-By-clause-space
+emit_run-requires-in-By-clause-space c =
     let a = c.args in
-    let h = inside_by a.tokens.now.kinds.now a.tokens.now.vals.now a.p a.c _ c.in-By.is c.requires.areas.1 in
-    let l = stride_in a.tokens.now.kinds.now a.tokens.now.vals.now a.p _ _ h c.skip-n.ensures.is in
-    record { run = (l, omega (arith, c.args.tokens.now.pairs)); space = respaced _ a.out.now _ _ _ (by_piece a.tokens.now.kinds.now a.tokens.now.vals.now a.p a.c _ _ c.in-By.is c.skip-n.ensures.is) _ c.requires.space }
+    respaced _ a.out.now _ _ _ (by_piece a.tokens.now.kinds.now a.tokens.now.vals.now a.p a.c _ _ c.in-By.is c.skip-n.ensures.is) _ c.requires.space
 
 pub bounds-out-i : goal.bounds-out-i
 bounds-out-i c =
