@@ -169,42 +169,47 @@ output_known owner i m u e = rw e
 pub output_made : (owner : Term) (i : Parts) (m : ℕ) → member_from 0 m i ≡ none → output owner i m ≡ made owner i m
 output_made owner i m e = rw e
 
+-- the projection t has no arguments, and d and e are its declaration and the interface's
+pub record Declared (t : Term) (i : Parts) (d e : ℕ) : Type 0 where
+  pub bare : no_terms (arguments_of (row t)) ≡ true
+  pub here : d ≡ get_or (nums (row t)) 0 0
+  pub there : e ≡ get_or (nums i) 0 0
+
 module _ (t : Term) (i : Parts) (owner : Term) where
   pub through_argument : no_terms (arguments_of (row t)) ≡ false → through i owner (row t) ≡ none
   unfolding through
   through_argument e = rw e
 
-  module _ (p : no_terms (arguments_of (row t)) ≡ true) where
-    pub through_other : (d e : ℕ) → d ≡ get_or (nums (row t)) 0 0 → e ≡ get_or (nums i) 0 0 → (d ≡ e → ⊥) → through i owner (row t) ≡ none
+  module _ {d e : ℕ} (y : Declared t i d e) where
+    pub through_other : (d ≡ e → ⊥) → through i owner (row t) ≡ none
     unfolding through
-    through_other d e x y n = rw (p, ne_eqb (get_or (nums (row t)) 0 0) (get_or (nums i) 0 0) (λ z. n (x ∙ z ∙ sym y)))
+    through_other n = rw (y.bare, ne_eqb (get_or (nums (row t)) 0 0) (get_or (nums i) 0 0) (λ z. n (y.here ∙ z ∙ sym y.there)))
 
-    module _ (d e : ℕ) (x : d ≡ get_or (nums (row t)) 0 0) (y : e ≡ get_or (nums i) 0 0) (q : d ≡ e) where
+    module _ (q : d ≡ e) where
       declared : eqb (get_or (nums (row t)) 0 0) (get_or (nums i) 0 0) ≡ true
-      declared = eq-eqb _ _ (sym x ∙ q ∙ y)
+      declared = eq-eqb _ _ (sym y.here ∙ q ∙ y.there)
 
       pub through_bare : get_elem? (children t) 0 ≡ none → through i owner (row t) ≡ none
       unfolding through
-      through_bare z = rw (p, declared, children_row t, z)
+      through_bare z = rw (y.bare, declared, children_row t, z)
 
-      module _ (u : Term) (r : get_elem? (children t) 0 ≡ some u) where
-        pub receiver_low : (fuel : ℕ) → depth t ≤ fuel + 1 → depth u ≤ fuel
-        receiver_low fuel low = omega (arith, elem_low (row t) 0 u (rw (children_row t) r), depth_row t)
-
+      module _ {u : Term} (r : get_elem? (children t) 0 ≡ some u) where
         pub through_stranger : (u ≡ owner → ⊥) → through i owner (row t) ≡ none
         unfolding through
-        through_stranger n = rw (p, declared, children_row t, r, not_same u owner n)
+        through_stranger n = rw (y.bare, declared, children_row t, r, not_same u owner n)
 
-        module _ (o : u ≡ owner) (k : tag t ≡ 18) (v : Term) (ev : v ≡ output owner i (member_of (row t))) where
-          through_is : through i owner (row t) ≡ unless t v
-          unfolding through
-          through_is = rw (p, declared, children_row t, r, o, same_refl owner, node_is t k, ev)
+        pub through_is : u ≡ owner → tag t ≡ 18 → through i owner (row t) ≡ unless t (output owner i (member_of (row t)))
+        unfolding through
+        through_is o k = rw (y.bare, declared, children_row t, r, o, same_refl owner, node_is t k)
 
-          pub through_same : t ≡ v → through i owner (row t) ≡ none
-          through_same z = through_is ∙ rw (← z, same_refl t)
+pub receiver_low : (t u : Term) (fuel : ℕ) → get_elem? (children t) 0 ≡ some u → depth t ≤ fuel + 1 → depth u ≤ fuel
+receiver_low t u fuel r low = omega (arith, elem_low (row t) 0 u (rw (children_row t) r), depth_row t)
 
-          pub through_found : (t ≡ v → ⊥) → through i owner (row t) ≡ some v
-          through_found z = through_is ∙ rw (not_same v t (λ q. z (sym q)))
+pub unless_same : (t v : Term) → t ≡ v → unless t v ≡ none
+unless_same t v z = rw (← z, same_refl t)
+
+pub unless_found : (t v : Term) → (t ≡ v → ⊥) → unless t v ≡ some v
+unless_found t v z = rw (not_same v t (λ q. z (sym q)))
 
 -- ---- the given terms as contents
 

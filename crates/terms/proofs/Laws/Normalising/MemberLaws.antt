@@ -1,6 +1,6 @@
 -- A member looked up by its place, and a projection's own member by cases.
 use mathlib.Core.Path.{◌≡◌, refl, sym, ap, ◌∙◌}
-use mathlib.Core.Bool.{true, false}
+use mathlib.Core.Bool.{Bool, true, false}
 use mathlib.Core.List.{List, [], ◌∷◌}
 use mathlib.Core.Option.{Option, none, some}
 use Prim.Native.Nat.{ℕ, zero, suc, min, ◌+◌, ◌-◌, ◌≤◌, ◌<◌}
@@ -15,7 +15,8 @@ use Rattle.terms.specs.Substitution.{or_else}
 use Rattle.terms.specs.Normal.{member_from, trait_member, own_member, replacement}
 use Rattle.terms.specs.declared.Origin.{Origin}
 use Rattle.terms.specs.Lookup.{Pattern, by_patterns, through, Look, rules, interface, look_by, Ruled, HeldGiven, Looks}
-use Rattle.terms.specs.Words.Arena.{Keyed}
+use Rattle.terms.specs.Words.Tokens.{Area}
+use Rattle.terms.specs.Words.Arena.{Keyed, Tree, Counts, KeyOf, ValueAt}
 use Rattle.terms.proofs.Laws.Normalising.ScanLaws.{children_row}
 use Rattle.std.specs.Prelude.{Some, None}
 
@@ -74,8 +75,8 @@ module _ (b x : ℕ) (ps : Parts) (n m : ℕ) (en : n ≡ get_or (nums ps) 1 0) 
       (omega arith, omega arith, get_or-take m (drop 3 (nums ps)) j 0 (omega arith) ∙ get_or-drop 3 (nums ps) j 0)
 
   module _ (i : ℕ) (k : Keyed x (nums ps) (Some i)) where
-    pub member_found : i < m → member_from b x ps ≡ get_elem? (subs ps) (b + n + i)
-    member_found lt =
+    found : i < m → member_from b x ps ≡ get_elem? (subs ps) (b + n + i)
+    found lt =
         let l : length keys ≡ min m (length (nums ps) - 3) = simp (length-take, length-drop) in
         let in-keys : i < length keys = omega (arith, k.0) in
         member_is
@@ -84,14 +85,14 @@ module _ (b x : ℕ) (ps : Parts) (n m : ℕ) (en : n ≡ get_or (nums ps) 1 0) 
         ∙ elem_take m i (drop (b + n) (subs ps)) lt
         ∙ elem_drop (b + n) i (subs ps)
 
-    pub member_late : m ≤ i → member_from b x ps ≡ none
-    member_late le =
+    late : m ≤ i → member_from b x ps ≡ none
+    late le =
         member_is ∙ look_none x keys _ (λ j h e. let y = key_at j h in k.2 j (omega (arith, y.0)) (sym y.2 ∙ e))
 
-  pub member_none : Keyed x (nums ps) None → member_from b x ps ≡ none
-  member_none k = member_is ∙ look_none x keys _ (λ j h e. let y = key_at j h in k j y.1 (sym y.2 ∙ e))
+  missing : Keyed x (nums ps) None → member_from b x ps ≡ none
+  missing k = member_is ∙ look_none x keys _ (λ j h e. let y = key_at j h in k j y.1 (sym y.2 ∙ e))
 
--- ---- a projection's own member
+-- ---- what the numbers and children of a term say of its members
 
 is_none : (l : List Term) → length l ≡ 0 → no_terms l ≡ true
 is_none [] e = refl
@@ -123,8 +124,25 @@ tag_error : tag error ≡ 3
 unfolding tag
 tag_error = refl
 
--- the numbers and children of t, as the code has read them
-module _ (t : Term) (n m : ℕ) (en : n ≡ get_or (nums (row t)) 1 0) (em : m ≡ get_or (nums (row t)) 2 0) where
+-- n and m are the counts that the code read
+module _ {a : Area} {hs cs : List ℕ} {S : ℕ → Bool} {h c : ℕ} {t : Term} {n m : ℕ} (counts : Counts a h n m) (w : Tree a hs cs S h c t) where
+  en : n ≡ get_or (nums (row t)) 1 0
+  en = counts.arguments.is hs cs S c t w
+
+  em : m ≡ get_or (nums (row t)) 2 0
+  em = counts.members.is hs cs S c t w
+
+  module _ (b : ℕ) {x : ℕ} where
+    pub member_found : {i : ℕ} → KeyOf a h x (Some i) → i < m → member_from b x (row t) ≡ get_elem? (subs (row t)) (b + n + i)
+    member_found k = found b x (row t) n m en em _ (k.is hs cs S c t w)
+
+    pub member_late : {i : ℕ} → KeyOf a h x (Some i) → m ≤ i → member_from b x (row t) ≡ none
+    member_late k = late b x (row t) n m en em _ (k.is hs cs S c t w)
+
+    pub member_none : KeyOf a h x None → member_from b x (row t) ≡ none
+    member_none k = missing b x (row t) n m en em (k.is hs cs S c t w)
+
+  -- ---- a projection's own member
   arguments_long : length (arguments_of (row t)) ≡ length (children t) - (1 + n + m)
   unfolding arguments_of
   arguments_long = rw (en, em, ← children_row t) (length-drop (1 + get_or (nums (row t)) 1 0 + get_or (nums (row t)) 2 0) (subs (row t)))
@@ -140,15 +158,15 @@ module _ (t : Term) (n m : ℕ) (en : n ≡ get_or (nums (row t)) 1 0) (em : m �
   unfolding own_member
   own_stop e = rw e
 
-  module _ (x : ℕ) (ex : x ≡ get_or (nums (row t)) (3 + m) 0) where
-    pub member_here : x ≡ member_of (row t)
-    unfolding member_of
-    member_here = ex ∙ ap (λ (i : ℕ). get_or (nums (row t)) (3 + i) 0) em
+  pub member_here : get_or (nums (row t)) (3 + m) 0 ≡ member_of (row t)
+  unfolding member_of
+  member_here = ap (λ (i : ℕ). get_or (nums (row t)) (3 + i) 0) em
 
+  module _ {x : ℕ} (ex : ValueAt a h (3 + m) x) where
     module _ (p : no_terms (arguments_of (row t)) ≡ true) where
       own_both : own_member (row t) ≡ or_else (member_from 1 x (row t)) (trait_member (receiver_of (row t)) x)
       unfolding own_member
-      own_both = rw (p, member_here)
+      own_both = rw (p, ex.is hs cs S c t w ∙ member_here)
 
       pub own_found : (u : Term) → member_from 1 x (row t) ≡ some u → own_member (row t) ≡ some u
       own_found u e = own_both ∙ or_some _ _ u e
@@ -160,16 +178,16 @@ module _ (t : Term) (n m : ℕ) (en : n ≡ get_or (nums (row t)) 1 0) (em : m �
             let l = no_child (subs (row t)) (ap length (children_row t) ∙ omega (arith, elem_past (children t) 0 z)) in
             own_both ∙ or-none _ _ e ∙ trait_no (receiver_of (row t)) x (λ q. omega (arith, tag_error, ap tag l))
 
-        module _ (u : Term) (r : get_elem? (children t) 0 ≡ some u) where
+        module _ {u : Term} (r : get_elem? (children t) 0 ≡ some u) where
           receiver_here : receiver_of (row t) ≡ u
           unfolding receiver_of
           receiver_here = ap (λ (l : List Term). get_or l 0 error) (children_row t) ∙ (elem_get (children t) 0 u r).1
 
-          pub own_other : (k : ℕ) → k ≡ tag u → (k ≡ 15 → ⊥) → own_member (row t) ≡ none
-          own_other k z q = own_both ∙ or-none _ _ e ∙ trait_no (receiver_of (row t)) x (λ y. q (z ∙ ap tag (sym receiver_here) ∙ y))
+          pub own_other : {k : ℕ} → k ≡ tag u → (k ≡ 15 → ⊥) → own_member (row t) ≡ none
+          own_other z q = own_both ∙ or-none _ _ e ∙ trait_no (receiver_of (row t)) x (λ y. q (z ∙ ap tag (sym receiver_here) ∙ y))
 
-          pub own_trait : (k : ℕ) → k ≡ tag u → k ≡ 15 → own_member (row t) ≡ member_from 0 x (row u)
-          own_trait k z q =
+          pub own_trait : {k : ℕ} → k ≡ tag u → k ≡ 15 → own_member (row t) ≡ member_from 0 x (row u)
+          own_trait z q =
               own_both ∙ or-none _ _ e ∙ trait_yes (receiver_of (row t)) x (ap tag receiver_here ∙ sym z ∙ q) ∙ ap (λ (y : Term). member_from 0 x (row y)) receiver_here
 
 -- ---- what a term is replaced by

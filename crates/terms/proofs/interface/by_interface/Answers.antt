@@ -1,95 +1,75 @@
 -- `by_interface`. By its tests.
-use Rattle.terms.proofs.Laws.General.Options.{nothing, something}
-use mathlib.Core.Path.{refl, sym, ap, ◌∙◌}
+use mathlib.Core.Bool.{Bool}
+use mathlib.Core.Option.{some}
+use mathlib.Core.Path.{◌≡◌, refl, sym, ap, ◌∙◌}
+use Prim.Native.Nat.{ℕ, ◌+◌, ◌≤◌}
 use borrow.Author.Tests.{not-true, not-false}
-use lib.ListN.{get_or}
-use Rattle.terms.specs.Term.{Parts}
-use Rattle.terms.specs.Tree.{nums}
-use Rattle.terms.specs.Lookup.{output}
+use lib.ListN.{get_elem?, get_or}
+use Rattle.terms.specs.Term.{Term, Parts, depth}
+use Rattle.terms.specs.Tree.{nums, children, row, tag}
+use Rattle.terms.specs.Lookup.{HeldGiven, output, through, unless}
+use Rattle.terms.specs.Words.Arena.{Tree}
+use Rattle.terms.specs.Words.Lent.{shown}
+use Rattle.terms.proofs.Laws.General.Options.{nothing, something}
 use Rattle.terms.proofs.Laws.Normalising.MemberLaws.{own_args, own_plain, member_here}
-use Rattle.terms.proofs.Laws.Normalising.InterfaceLaws.{row_node, interface_tree, owner_tree, receiver_low, through_argument, through_other, through_bare, through_stranger, through_same, through_found}
+use Rattle.terms.proofs.Laws.Normalising.InterfaceLaws.{Declared, row_node, interface_tree, owner_tree, receiver_low, through_argument, through_other, through_bare, through_stranger, through_is, unless_same, unless_found}
 use Rattle.terms.proofs.interface.by_interface.Goals as goal
+use Rattle.terms.proofs.interface.by_interface.Goals.{After-number_at-2, After-output-value}
+
+-- the declarations as they are read
+declared : (c : After-number_at-2) (S : ℕ → Bool) (t : Term) (i : Parts) (owner : Term) → Tree (shown c.args.seen.now) c.args.heads.now c.args.kids.now S c.args.x.head c.args.x.kids t
+    → HeldGiven c.args.seen.now.tokens.kinds.now c.args.seen.now.tokens.vals.now c.args.seen.now.given i owner → Declared t i c.number_at.result c.number_at-2.result
+declared c S t i owner w h = record {
+  bare = own_plain c.requires.counts w (rw (nothing _ (sym c.is_some.ensures ∙ c.if-is_some.false)) at (c.child_at-argument.ensures S t w));
+  here = c.number_at.ensures.value.is _ _ S _ t w;
+  there = c.number_at-2.ensures.value.is c.args.heads.now c.args.kids.now S 0 _ (interface_tree _ _ _ c.args.seen.now.sight i owner h _ _ S _ _ refl refl)
+      ∙ ap (λ (j : Parts). get_or (nums j) 0 0) (row_node 20 i);
+}
 
 pub returns-then-is_some : goal.returns-then-is_some
 returns-then-is_some c =
     λ S t i owner w k d h.
-    let a = c.args in
     let r = rw (something _ (sym c.is_some.ensures ∙ c.if-is_some.true)).1 at (c.child_at-argument.ensures S t w) in
-    through_argument t i owner (own_args t _ _ (c.requires.counts.arguments.is a.heads.now a.kids.now S a.x.kids t w) (c.requires.counts.members.is a.heads.now a.kids.now S a.x.kids t w) r.0 r.1)
+    through_argument t i owner (own_args c.requires.counts w r.0 r.1)
 
 pub returns-then-number_at : goal.returns-then-number_at
 returns-then-number_at c =
-    λ S t i owner w k d h.
-    let a = c.args in
-    let v = a.seen.now in
-    let z = own_plain t _ _ (c.requires.counts.arguments.is a.heads.now a.kids.now S a.x.kids t w) (c.requires.counts.members.is a.heads.now a.kids.now S a.x.kids t w)
-    (rw (nothing _ (sym c.is_some.ensures ∙ c.if-is_some.false)) at (c.child_at-argument.ensures S t w)) in
-    let n = c.number_at.ensures.value.is a.heads.now a.kids.now S a.x.kids t w in
-    let m = c.number_at-2.ensures.value.is a.heads.now a.kids.now S 0 _ (interface_tree v.tokens.kinds.now v.tokens.vals.now v.given v.sight i owner h a.heads.now a.kids.now S _ _ refl refl)
-    ∙ ap (λ (j : Parts). get_or (nums j) 0 0) (row_node 20 i) in
-    through_other t i owner z _ _ n m c.if-number_at.true
+    λ S t i owner w k d h. through_other t i owner (declared (goal.at.returns-then-number_at c).After-number_at-2 S t i owner w h) c.if-number_at.true
 
 pub returns-in_err-y : goal.returns-in_err-y
 returns-in_err-y c =
     λ S t i owner w k d h.
-    let a = c.args in
-    let v = a.seen.now in
-    let z = own_plain t _ _ (c.requires.counts.arguments.is a.heads.now a.kids.now S a.x.kids t w) (c.requires.counts.members.is a.heads.now a.kids.now S a.x.kids t w)
-    (rw (nothing _ (sym c.is_some.ensures ∙ c.if-is_some.false)) at (c.child_at-argument.ensures S t w)) in
-    let n = c.number_at.ensures.value.is a.heads.now a.kids.now S a.x.kids t w in
-    let m = c.number_at-2.ensures.value.is a.heads.now a.kids.now S 0 _ (interface_tree v.tokens.kinds.now v.tokens.vals.now v.given v.sight i owner h a.heads.now a.kids.now S _ _ refl refl)
-    ∙ ap (λ (j : Parts). get_or (nums j) 0 0) (row_node 20 i) in
-    rw c.from_residual.ensures (through_bare t i owner z _ _ n m c.if-number_at.false (c.in_err-y.ensures S t w))
+    rw c.from_residual.ensures (through_bare t i owner (declared (goal.at.returns-in_err-y c).After-number_at-2 S t i owner w h) c.if-number_at.false (c.in_err-y.ensures S t w))
 
 pub returns-then-not-same_trees : goal.returns-then-not-same_trees
 returns-then-not-same_trees c =
     λ S t i owner w k d h.
-    let a = c.args in
-    let v = a.seen.now in
-    let z = own_plain t _ _ (c.requires.counts.arguments.is a.heads.now a.kids.now S a.x.kids t w) (c.requires.counts.members.is a.heads.now a.kids.now S a.x.kids t w)
-    (rw (nothing _ (sym c.is_some.ensures ∙ c.if-is_some.false)) at (c.child_at-argument.ensures S t w)) in
-    let n = c.number_at.ensures.value.is a.heads.now a.kids.now S a.x.kids t w in
-    let m = c.number_at-2.ensures.value.is a.heads.now a.kids.now S 0 _ (interface_tree v.tokens.kinds.now v.tokens.vals.now v.given v.sight i owner h a.heads.now a.kids.now S _ _ refl refl)
-    ∙ ap (λ (j : Parts). get_or (nums j) 0 0) (row_node 20 i) in
     let r = c.in_ok-y.ensures S t w in
-    let u = owner_tree v.tokens.kinds.now v.tokens.vals.now v.given v.sight i owner h a.heads.now a.kids.now S _ _ c.source.ensures.0 c.source.ensures.1 in
-    let l = receiver_low t i owner z _ _ n m c.if-number_at.false r.0 r.1 _ d in
-    through_stranger t i owner z _ _ n m c.if-number_at.false r.0 r.1 (c.same_trees.ensures.no (not-true _ c.if-not-same_trees.true-raw) S S _ _ r.2 u l)
+    let u = owner_tree _ _ _ c.args.seen.now.sight i owner h _ _ S _ _ c.source.ensures.0 c.source.ensures.1 in
+    through_stranger t i owner (declared (goal.at.returns-then-not-same_trees c).After-number_at-2 S t i owner w h) c.if-number_at.false r.1
+    (c.same_trees.ensures.no (not-true _ c.if-not-same_trees.true-raw) S S _ _ r.2 u (receiver_low t r.0 _ r.1 d))
+
+-- what the last test is about
+unless_is : (c : After-output-value) (S : ℕ → Bool) (t : Term) (i : Parts) (owner : Term) → Tree (shown c.args.seen.now) c.args.heads.now c.args.kids.now S c.args.x.head c.args.x.kids t
+    → tag t ≡ 18 → depth t ≤ c.args.fuel + 1 → HeldGiven c.args.seen.now.tokens.kinds.now c.args.seen.now.tokens.vals.now c.args.seen.now.given i owner
+    → Declared t i c.number_at.result c.number_at-2.result → through i owner (row t) ≡ unless t (output owner i (get_or (shown c.args.seen.now).vals c.number_place-p.result 0))
+unless_is c S t i owner w k d h y =
+    let r = c.in_ok-y.ensures S t w in
+    let u = owner_tree _ _ _ c.args.seen.now.sight i owner h _ _ S _ _ c.source.ensures.0 c.source.ensures.1 in
+    let o = c.same_trees.ensures.yes (not-false _ c.if-not-same_trees.false-raw) S S _ _ r.2 u (receiver_low t r.0 _ r.1 d) in
+    through_is t i owner y c.if-number_at.false r.1 o k
+    ∙ ap (λ (n : ℕ). unless t (output owner i n)) (sym (c.number_place-p.ensures.is _ _ S _ t w ∙ member_here c.requires.counts w))
 
 pub returns-then-same_trees : goal.returns-then-same_trees
 returns-then-same_trees c =
     λ S t i owner w k d h.
-    let a = c.args in
-    let v = a.seen.now in
-    let z = own_plain t _ _ (c.requires.counts.arguments.is a.heads.now a.kids.now S a.x.kids t w) (c.requires.counts.members.is a.heads.now a.kids.now S a.x.kids t w)
-    (rw (nothing _ (sym c.is_some.ensures ∙ c.if-is_some.false)) at (c.child_at-argument.ensures S t w)) in
-    let n = c.number_at.ensures.value.is a.heads.now a.kids.now S a.x.kids t w in
-    let m = c.number_at-2.ensures.value.is a.heads.now a.kids.now S 0 _ (interface_tree v.tokens.kinds.now v.tokens.vals.now v.given v.sight i owner h a.heads.now a.kids.now S _ _ refl refl)
-    ∙ ap (λ (j : Parts). get_or (nums j) 0 0) (row_node 20 i) in
-    let r = c.in_ok-y.ensures S t w in
-    let u = owner_tree v.tokens.kinds.now v.tokens.vals.now v.given v.sight i owner h a.heads.now a.kids.now S _ _ c.source.ensures.0 c.source.ensures.1 in
-    let l = receiver_low t i owner z _ _ n m c.if-number_at.false r.0 r.1 _ d in
-    let o = c.same_trees.ensures.yes (not-false _ c.if-not-same_trees.false-raw) S S _ _ r.2 u l in
-    let f = c.output-value.ensures S i owner h c.number_place-p.ensures.kind in
-    let e = ap (output owner i) (c.number_place-p.ensures.is a.heads.now a.kids.now S a.x.kids t w
-    ∙ member_here t _ _ (c.requires.counts.arguments.is a.heads.now a.kids.now S a.x.kids t w) (c.requires.counts.members.is a.heads.now a.kids.now S a.x.kids t w) _ refl) in
-    through_same t i owner z _ _ n m c.if-number_at.false r.0 r.1 o k _ e (c.same_trees-2.ensures.yes c.if-same_trees.true S S _ _ w f d)
+    let y = declared (goal.at.returns-then-same_trees c).After-number_at-2 S t i owner w h in
+    unless_is (goal.at.returns-then-same_trees c).After-output-value S t i owner w k d h y
+    ∙ unless_same t _ (c.same_trees-2.ensures.yes c.if-same_trees.true S S _ _ w (c.output-value.ensures S i owner h c.number_place-p.ensures.kind) d)
 
 pub returns : goal.returns
 returns c =
     λ S t i owner w k d h.
-    let a = c.args in
-    let v = a.seen.now in
-    let z = own_plain t _ _ (c.requires.counts.arguments.is a.heads.now a.kids.now S a.x.kids t w) (c.requires.counts.members.is a.heads.now a.kids.now S a.x.kids t w)
-    (rw (nothing _ (sym c.is_some.ensures ∙ c.if-is_some.false)) at (c.child_at-argument.ensures S t w)) in
-    let n = c.number_at.ensures.value.is a.heads.now a.kids.now S a.x.kids t w in
-    let m = c.number_at-2.ensures.value.is a.heads.now a.kids.now S 0 _ (interface_tree v.tokens.kinds.now v.tokens.vals.now v.given v.sight i owner h a.heads.now a.kids.now S _ _ refl refl)
-    ∙ ap (λ (j : Parts). get_or (nums j) 0 0) (row_node 20 i) in
-    let r = c.in_ok-y.ensures S t w in
-    let u = owner_tree v.tokens.kinds.now v.tokens.vals.now v.given v.sight i owner h a.heads.now a.kids.now S _ _ c.source.ensures.0 c.source.ensures.1 in
-    let l = receiver_low t i owner z _ _ n m c.if-number_at.false r.0 r.1 _ d in
-    let o = c.same_trees.ensures.yes (not-false _ c.if-not-same_trees.false-raw) S S _ _ r.2 u l in
+    let y = declared (goal.at.returns c).After-number_at-2 S t i owner w h in
     let f = c.output-value.ensures S i owner h c.number_place-p.ensures.kind in
-    let e = ap (output owner i) (c.number_place-p.ensures.is a.heads.now a.kids.now S a.x.kids t w
-    ∙ member_here t _ _ (c.requires.counts.arguments.is a.heads.now a.kids.now S a.x.kids t w) (c.requires.counts.members.is a.heads.now a.kids.now S a.x.kids t w) _ refl) in
-    (_, through_found t i owner z _ _ n m c.if-number_at.false r.0 r.1 o k _ e (c.same_trees-2.ensures.no c.if-same_trees.false S S _ _ w f d), f)
+    (_, unless_is (goal.at.returns c).After-output-value S t i owner w k d h y ∙ unless_found t _ (c.same_trees-2.ensures.no c.if-same_trees.false S S _ _ w f d), f)

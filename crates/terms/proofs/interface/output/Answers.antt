@@ -8,24 +8,17 @@ use Rattle.terms.proofs.interface.output.Goals as goal
 
 pub returns-in-Some : goal.returns-in-Some
 returns-in-Some c =
-    let source' = c.source in
-    let token-at' = c.token_at-x in
     λ S i owner h k.
-    let r = rw c.in-Some.is at (c.member_of-known.ensures S _ (interface_tree c.args.seen.now.tokens.kinds.now c.args.seen.now.tokens.vals.now
-    c.args.seen.now.given c.args.seen.now.sight i owner h c.args.heads.now c.args.kids.now S _ _ source'.ensures.0 source'.ensures.1)) in
-    let e = ap (λ (j : Parts). member_from 0 token-at'.result.value j) (sym (row_node 20 i)) ∙ r.1 in
-    rw (← token-at'.ensures.value, output_known owner i _ r.0 e) r.2
+    let x = c.token_at-x in
+    let r = rw c.in-Some.is at (c.member_of-known.ensures S _ (interface_tree _ _ _ c.args.seen.now.sight i owner h _ _ S _ _ c.source.ensures.0 c.source.ensures.1)) in
+    let e = ap (λ (j : Parts). member_from 0 x.result.value j) (sym (row_node 20 i)) ∙ r.1 in
+    rw (← x.ensures.value, output_known owner i _ r.0 e) r.2
 
 pub returns : goal.returns
 returns c =
-    let source' = c.source in
-    let token-at' = c.token_at-x in
-    let lent-place' = c.lent_place-t in
     λ S i owner h k.
-    let r = rw c.in_default.is at (c.member_of-known.ensures S _ (interface_tree c.args.seen.now.tokens.kinds.now c.args.seen.now.tokens.vals.now c.args.seen.now.given c.args.seen.now.sight i owner h c.args.heads.now c.args.kids.now S _ _
-    source'.ensures.0 source'.ensures.1)) in
-    let e = ap (λ (j : Parts). member_from 0 token-at'.result.value j) (sym (row_node 20 i)) ∙ r in
-    let z = ap (λ (n : ℕ). member_from 0 n i) (sym token-at'.ensures.value) ∙ e in
-    rw (output_made owner i _ z) (made_tree c.args.seen.now.tokens.kinds.now c.args.seen.now.tokens.vals.now c.args.seen.now.given c.args.seen.now.sight i owner h c.args.heads.now
-    c.args.kids.now S _ _ _ _ lent-place'.ensures k
-    c.source-2.ensures.0 c.source-2.ensures.1)
+    let x = c.token_at-x in
+    let r = rw c.in_default.is at (c.member_of-known.ensures S _ (interface_tree _ _ _ c.args.seen.now.sight i owner h _ _ S _ _ c.source.ensures.0 c.source.ensures.1)) in
+    let e = ap (λ (j : Parts). member_from 0 x.result.value j) (sym (row_node 20 i)) ∙ r in
+    let z = ap (λ (n : ℕ). member_from 0 n i) (sym x.ensures.value) ∙ e in
+    rw (output_made owner i _ z) (made_tree _ _ _ c.args.seen.now.sight i owner h _ _ S _ _ _ _ c.lent_place-t.ensures k c.source-2.ensures.0 c.source-2.ensures.1)
