@@ -190,7 +190,7 @@ pub record Terms (ks vs : List ℕ) (i ae j be : ℕ) (whole : Bool) : Type 0 wh
   pub fit_right : Fit shape qs
   pub same : whole ≡ (conflicts_with t u || rows_conflict ps qs)
 
-module _ (ks vs : List ℕ) (i ae j be : ℕ) (whole : Bool) (x : Rows ks vs i ae j be whole) (hi : i < ae) (hj : j < be) where
+module _ {ks vs : List ℕ} {i ae j be : ℕ} {whole : Bool} (x : Rows ks vs i ae j be whole) (hi : i < ae) (hj : j < be) where
   pub number_term_clash : get_or ks i 0 ≡ 0 → (get_or ks j 0 ≡ 0 → ⊥) → whole ≡ true
   unfolding conflicts_with
   number_term_clash p q =
@@ -233,11 +233,13 @@ module _ (ks vs : List ℕ) (i ae j be : ℕ) (whole : Bool) (x : Rows ks vs i a
             ∙ or-false (not (eqb a.0 b.0)) (rows_conflict a.1 b.1) (ap not (eq-eqb a.0 b.0 n));
       }
 
-  pub next_terms : (get_or ks i 0 ≡ 0 → ⊥) → (get_or ks j 0 ≡ 0 → ⊥) → Terms ks vs i ae j be whole
+module _ {ks vs : List ℕ} {i ae j be : ℕ} {whole : Bool} (x : Rows ks vs i ae j be whole)
+    (r : (i < ae) × (ae ≤ length ks) × (j < be) × (be ≤ length ks) × (0 < get_or ks i 0) × (0 < get_or ks j 0)) where
+  pub next_terms : Terms ks vs i ae j be whole
   unfolding conflicts_with Fit
-  next_terms p q =
-      let a = row_sub ks vs i ae x.left x.held_left hi p in
-      let b = row_sub ks vs j be x.right x.held_right hj q in
+  next_terms =
+      let a = row_sub ks vs i ae x.left x.held_left r.0 (λ e. omega (arith, r.4)) in
+      let b = row_sub ks vs j be x.right x.held_right r.2 (λ e. omega (arith, r.5)) in
       let f = subst (λ (y : Parts). Fit x.shape y) a.2 x.fit_left in
       let g = subst (λ (y : Parts). Fit x.shape y) b.2 x.fit_right in
       record {
@@ -282,12 +284,16 @@ rows_short ks vs i ae j be whole x h k = go x.left x.held_left (x.same ∙ ap (�
     go (num n q) hq e = e
     go (sub u q) hq e = e
 
-module _ (ks vs : List ℕ) (i ae j be : ℕ) (whole : Bool) (x : Terms ks vs i ae j be whole) where
-  kind_left : head_kind x.t ≡ get_or ks i 0
-  kind_left = sym (held_first ks vs i x.t x.held_left).0
+-- the rows go on past the two terms
+abbrev pub Past : (ks vs : List ℕ) (i ae j be : ℕ) → Option (ℕ × ℕ) → Type 0
+Past ks vs i ae j be r = (t u : Term) (ps qs : Parts) → HeldParts ks vs i ae (sub t ps) → HeldParts ks vs j be (sub u qs) → Passed ks vs ae ps be qs r
 
-  kind_right : head_kind x.u ≡ get_or ks j 0
-  kind_right = sym (held_first ks vs j x.u x.held_right).0
+module _ {ks vs : List ℕ} {i ae j be : ℕ} {whole : Bool} (x : Terms ks vs i ae j be whole) {m n : ℕ} (em : m ≡ get_or ks i 0) (en : n ≡ get_or ks j 0) where
+  kind_left : head_kind x.t ≡ m
+  kind_left = sym (em ∙ (held_first ks vs i x.t x.held_left).0)
+
+  kind_right : head_kind x.u ≡ n
+  kind_right = sym (en ∙ (held_first ks vs j x.u x.held_right).0)
 
   -- the terms conflict
   clash : conflicts_with x.t x.u ≡ true → whole ≡ true
@@ -306,36 +312,39 @@ module _ (ks vs : List ℕ) (i ae j be : ℕ) (whole : Bool) (x : Terms ks vs i 
     same = x.same ∙ or-false (conflicts_with x.t x.u) (rows_conflict x.ps x.qs) h;
   }
 
-  firm_left : among (get_or ks i 0) (1 ∷ 4 ∷ 5 ∷ []) ≡ false → Firm x.t
+  firm_left : among (m) (1 ∷ 4 ∷ 5 ∷ []) ≡ false → Firm x.t
   firm_left a = firm x.t (ap (λ (k : ℕ). among k (1 ∷ 4 ∷ 5 ∷ [])) kind_left ∙ a)
 
-  firm_right : among (get_or ks j 0) (1 ∷ 4 ∷ 5 ∷ []) ≡ false → Firm x.u
+  firm_right : among (n) (1 ∷ 4 ∷ 5 ∷ []) ≡ false → Firm x.u
   firm_right a = firm x.u (ap (λ (k : ℕ). among k (1 ∷ 4 ∷ 5 ∷ [])) kind_right ∙ a)
 
-  pub step_left : among (get_or ks i 0) (1 ∷ 4 ∷ 5 ∷ []) ≡ true → (r : Option (ℕ × ℕ)) → Passed ks vs ae x.ps be x.qs r → Stepped ks vs ae be whole r
-  step_left a None p = absurd p
-  step_left a (Some (k, l)) p = onward k l p.0 p.1 (yields_left x.t x.u (ap (λ (k : ℕ). among k (1 ∷ 4 ∷ 5 ∷ [])) kind_left ∙ a))
+  here : (r : Option (ℕ × ℕ)) → Past ks vs i ae j be r → Passed ks vs ae x.ps be x.qs r
+  here r f = f x.t x.u x.ps x.qs x.row_left x.row_right
 
-  pub step_right : among (get_or ks j 0) (1 ∷ 4 ∷ 5 ∷ []) ≡ true → (r : Option (ℕ × ℕ)) → Passed ks vs ae x.ps be x.qs r → Stepped ks vs ae be whole r
-  step_right a None p = absurd p
-  step_right a (Some (k, l)) p = onward k l p.0 p.1 (yields_right x.t x.u (ap (λ (k : ℕ). among k (1 ∷ 4 ∷ 5 ∷ [])) kind_right ∙ a))
+  pub step_left : among (m) (1 ∷ 4 ∷ 5 ∷ []) ≡ true → (r : Option (ℕ × ℕ)) → Past ks vs i ae j be r → Stepped ks vs ae be whole r
+  step_left a None f = absurd (here None f)
+  step_left a (Some (k, l)) f = onward k l (here (Some (k, l)) f).0 (here (Some (k, l)) f).1 (yields_left x.t x.u (ap (λ (k : ℕ). among k (1 ∷ 4 ∷ 5 ∷ [])) kind_left ∙ a))
 
-  module _ (a : among (get_or ks i 0) (1 ∷ 4 ∷ 5 ∷ []) ≡ false) (b : among (get_or ks j 0) (1 ∷ 4 ∷ 5 ∷ []) ≡ false) where
-    pub step_kinds : (get_or ks i 0 ≡ get_or ks j 0 → ⊥) → whole ≡ true
+  pub step_right : among (n) (1 ∷ 4 ∷ 5 ∷ []) ≡ true → (r : Option (ℕ × ℕ)) → Past ks vs i ae j be r → Stepped ks vs ae be whole r
+  step_right a None f = absurd (here None f)
+  step_right a (Some (k, l)) f = onward k l (here (Some (k, l)) f).0 (here (Some (k, l)) f).1 (yields_right x.t x.u (ap (λ (k : ℕ). among k (1 ∷ 4 ∷ 5 ∷ [])) kind_right ∙ a))
+
+  module _ (a : among (m) (1 ∷ 4 ∷ 5 ∷ []) ≡ false) (b : among (n) (1 ∷ 4 ∷ 5 ∷ []) ≡ false) where
+    pub step_kinds : (m ≡ n → ⊥) → whole ≡ true
     step_kinds d = clash (kinds_differ x.t x.u (firm_left a) (firm_right b) (λ e. d (sym kind_left ∙ e ∙ kind_right)))
 
-    module _ (e : get_or ks i 0 ≡ get_or ks j 0) where
+    module _ (e : m ≡ n) where
       same_kind : head_kind x.t ≡ head_kind x.u
       same_kind = kind_left ∙ e ∙ sym kind_right
 
-      pub step_projections : get_or ks i 0 ≡ 20 → same x.t x.u ≡ false → whole ≡ true
+      pub step_projections : m ≡ 20 → same x.t x.u ≡ false → whole ≡ true
       step_projections p h = clash (projections x.t x.u (firm_left a) (firm_right b) same_kind (kind_left ∙ p) ∙ ap not h)
 
-      pub step_whole : get_or ks i 0 ≡ 20 → same x.t x.u ≡ true → (r : Option (ℕ × ℕ)) → Passed ks vs ae x.ps be x.qs r → Stepped ks vs ae be whole r
-      step_whole p h None q = absurd q
-      step_whole p h (Some (k, l)) q = onward k l q.0 q.1 (projections x.t x.u (firm_left a) (firm_right b) same_kind (kind_left ∙ p) ∙ ap not h)
+      pub step_whole : m ≡ 20 → same x.t x.u ≡ true → (r : Option (ℕ × ℕ)) → Past ks vs i ae j be r → Stepped ks vs ae be whole r
+      step_whole p h None f = absurd (here None f)
+      step_whole p h (Some (k, l)) f = onward k l (here (Some (k, l)) f).0 (here (Some (k, l)) f).1 (projections x.t x.u (firm_left a) (firm_right b) same_kind (kind_left ∙ p) ∙ ap not h)
 
-      pub step_enter : (get_or ks i 0 ≡ 20 → ⊥) → Rows ks vs (i + 1) ae (j + 1) be whole
+      pub step_enter : (m ≡ 20 → ⊥) → Rows ks vs (i + 1) ae (j + 1) be whole
       unfolding Formed
       step_enter p =
           let f = firm_left a in

@@ -4,7 +4,7 @@ use mathlib.Core.Bool.{Bool, true, false, not, ◌&&◌, ◌||◌}
 use mathlib.Core.List.{List, [], ◌∷◌}
 use mathlib.Core.Logic.{◌⊎◌, inl, inr}
 use mathlib.Core.Option.{none, some}
-use Prim.Native.Nat.{ℕ, zero, suc, ◌+◌, ◌<◌}
+use Prim.Native.Nat.{ℕ, zero, suc, ◌+◌, ◌-◌, ◌≤◌, ◌<◌}
 use native.Mathlib.Decide.{ℕ_discrete}
 use native.Mathlib.Omega.{arith}
 use borrow.Author.Tests.{eq-eqb, ne_eqb}
@@ -12,7 +12,7 @@ use lib.Dec.{eqb}
 use lib.ListN.{length, get_or}
 use Rattle.terms.specs.Result.{pick}
 use Rattle.terms.specs.Term.{Term, Parts, var, node, end, num, sub, items, part_items}
-use Rattle.terms.specs.Words.Held.{Held, HeldParts}
+use Rattle.terms.specs.Words.Held.{Held, HeldParts, span}
 use Rattle.terms.specs.Shape as shape
 use Rattle.terms.specs.Shape.{Shape, layout}
 use Rattle.terms.specs.Formed.{Formed, Fit, TakesTerm, after_number}
@@ -21,7 +21,8 @@ use Rattle.terms.specs.Questions.{first, among}
 use Rattle.terms.specs.Comparison.{conflicts_with, rows_conflict, collection_access, read_only_view, with_first, agrees, is, can_weaken_to}
 use Rattle.terms.specs.Words.CompareContract.{Rows}
 use Rattle.terms.proofs.Laws.General.Bools.{never_true, and-false}
-use Rattle.terms.proofs.Laws.Held.HeldLaws.{head_kind, held_node, held_num}
+use Rattle.terms.proofs.Laws.Held.HeldLaws.{head_kind, held_first, held_node, held_num}
+use Rattle.terms.proofs.Laws.Held.SameLaws.{told}
 use Rattle.terms.proofs.Laws.Format.ShapeLaws.{More, some_done}
 use Rattle.terms.proofs.Laws.Asking.ConflictLaws.{among_three, not_among}
 
@@ -65,7 +66,7 @@ access_tag k h = go (among_three (suc (suc k)) 2 12 13 h)
     go (inr (inl e)) = inr (inl (omega arith))
     go (inr (inr e)) = inr (inr (omega arith))
 
-pub without_access : (t u : Term) → among (head_kind t) (2 ∷ 12 ∷ 13 ∷ []) ≡ false → false ≡ can_weaken_to t u
+without_access : (t u : Term) → among (head_kind t) (2 ∷ 12 ∷ 13 ∷ []) ≡ false → false ≡ can_weaken_to t u
 unfolding can_weaken_to collection_access tag head_kind among
 without_access (var v) u h = refl
 without_access (node k ps) u h =
@@ -107,7 +108,7 @@ module _ (k j : ℕ) (ps qs : Parts) (d : k ≡ j → ⊥) where
       go (no a) (yes b) (no c) (no e) = rw (not_collection j c e) (ap (λ (x : Bool). x && agrees (pick (among k (0 ∷ 10 ∷ 11 ∷ [])) (some (node k (with_first 0 ps))) none) (node j qs)) (and-false (is (pick (among k (10 ∷ 11 ∷ [])) (some (first (node k ps))) none) 1)))
       go (no a) (no b) c e = rw (not_collection k a b)
 
-pub kinds_apart : (t u : Term) → (head_kind t ≡ head_kind u → ⊥) → false ≡ can_weaken_to t u
+kinds_apart : (t u : Term) → (head_kind t ≡ head_kind u → ⊥) → false ≡ can_weaken_to t u
 unfolding can_weaken_to collection_access tag head_kind among
 kinds_apart (var v) u d = refl
 kinds_apart (node k ps) (var w) d =
@@ -142,7 +143,7 @@ row_marked k end w f = let c = coded k w in absurd (some_done (shape.code 2 c.0)
 row_marked k (num m ps) w f = (m, ps, refl, f.1)
 row_marked k (sub t ps) w f = let c = coded k w in absurd (subst (λ (r : Shape). TakesTerm r) c.1 f.0)
 
-pub marked : (t : Term) → Formed t → among (head_kind t) (2 ∷ 12 ∷ 13 ∷ []) ≡ true → Marked t
+marked : (t : Term) → Formed t → among (head_kind t) (2 ∷ 12 ∷ 13 ∷ []) ≡ true → Marked t
 unfolding Formed head_kind among
 marked (var v) f h = never_true h
 marked (node k ps) f h =
@@ -158,16 +159,16 @@ module _ (ks vs : List ℕ) (p n : ℕ) (t : Term) (h : Held ks vs p t) (m : Mar
   unfolding items
   marked_length = e ∙ ap (λ (x : Term). length (items x)) m.is
 
-  pub marked_long : n < 2 → ⊥
+  marked_long : n < 2 → ⊥
   marked_long l = omega (arith, marked_length)
 
   behind : HeldParts ks vs (p + 1) (p + length (items (node m.tag (num m.mark m.rest)))) (num m.mark m.rest)
   behind = held_node ks vs p m.tag (num m.mark m.rest) here
 
-  pub mark_at : get_or vs (p + 1) 0 ≡ m.mark
+  mark_at : get_or vs (p + 1) 0 ≡ m.mark
   mark_at = (held_num ks vs (p + 1) _ m.mark m.rest behind).1
 
-  pub rest_at : HeldParts ks vs (p + 2) (p + n) m.rest
+  rest_at : HeldParts ks vs (p + 2) (p + n) m.rest
   rest_at =
       let r = (held_num ks vs (p + 1) _ m.mark m.rest behind).2 in
       let a : p + 1 + 1 ≡ p + 2 = omega arith in
@@ -184,17 +185,17 @@ module _ (t u : Term) (a : Marked t) (b : Marked u) (e : head_kind t ≡ head_ki
       ∙ ap (λ (x : Term). can_weaken_to (node a.tag (num a.mark a.rest)) x) (b.is ∙ ap (λ (k : ℕ). node k (num b.mark b.rest)) (sym same_tag))
       ∙ same_kind a.tag a.mark b.mark a.rest b.rest a.which
 
-  pub not_mutable : (a.mark ≡ 1 → ⊥) → false ≡ can_weaken_to t u
-  not_mutable d = sym (weakened ∙ rw (ne_eqb a.mark 1 d))
+  unmutable : (a.mark ≡ 1 → ⊥) → false ≡ can_weaken_to t u
+  unmutable d = sym (weakened ∙ rw (ne_eqb a.mark 1 d))
 
-  pub not_shared : a.mark ≡ 1 → (b.mark ≡ 0 → ⊥) → false ≡ can_weaken_to t u
-  not_shared p d = sym (weakened ∙ rw (eq-eqb a.mark 1 p, ne_eqb b.mark 0 d))
+  unshared : a.mark ≡ 1 → (b.mark ≡ 0 → ⊥) → false ≡ can_weaken_to t u
+  unshared p d = sym (weakened ∙ rw (eq-eqb a.mark 1 p, ne_eqb b.mark 0 d))
 
-  pub by_rest : a.mark ≡ 1 → b.mark ≡ 0 → can_weaken_to t u ≡ not (rows_conflict a.rest b.rest)
-  by_rest p q = weakened ∙ rw (eq-eqb a.mark 1 p, eq-eqb b.mark 0 q)
+  rests : a.mark ≡ 1 → b.mark ≡ 0 → can_weaken_to t u ≡ not (rows_conflict a.rest b.rest)
+  rests p q = weakened ∙ rw (eq-eqb a.mark 1 p, eq-eqb b.mark 0 q)
 
   -- what stands after the marks, as two rows
-  pub rest_rows : (ks vs : List ℕ) (i ae j be : ℕ) → HeldParts ks vs i ae a.rest → HeldParts ks vs j be b.rest → Rows ks vs i ae j be (rows_conflict a.rest b.rest)
+  rest_rows : (ks vs : List ℕ) (i ae j be : ℕ) → HeldParts ks vs i ae a.rest → HeldParts ks vs j be b.rest → Rows ks vs i ae j be (rows_conflict a.rest b.rest)
   unfolding after_number
   rest_rows ks vs i ae j be hl hr =
       let c = coded a.tag a.which in
@@ -208,3 +209,77 @@ module _ (t u : Term) (a : Marked t) (b : Marked u) (e : head_kind t ≡ head_ki
         fit_right = subst (λ (r : Shape). Fit (after_number r b.mark) b.rest) (ap layout (sym same_tag) ∙ c.1) b.fit;
         same = refl;
       }
+
+-- ---- the two terms as they are held
+
+-- two terms of one kind with marks, of n and m tokens
+pub record Two (ks vs : List ℕ) (p q n m : ℕ) (t u : Term) : Type 0 where
+  pub left : Marked t
+  pub right : Marked u
+  pub kinds : head_kind t ≡ head_kind u
+  pub held_left : Held ks vs p t
+  pub held_right : Held ks vs q u
+  pub size_left : n ≡ length (items t)
+  pub size_right : m ≡ length (items u)
+
+-- what `skip` tells of the term at a
+abbrev Told : (ks vs : List ℕ) (a n : ℕ) → Type 0
+Told ks vs a n = 1 ≤ span (get_or ks a 0) (get_or vs a 0) → span (get_or ks a 0) (get_or vs a 0) ≤ length ks - a → n ≡ span (get_or ks a 0) (get_or vs a 0)
+
+module _ {ks vs : List ℕ} {p q : ℕ} (t u : Term) (ht : Held ks vs p t) (hu : Held ks vs q u) {k l : ℕ} (ek : k ≡ get_or ks p 0) (el : l ≡ get_or ks q 0) where
+  kind_left : k ≡ head_kind t
+  kind_left = ek ∙ (held_first ks vs p t ht).0
+
+  kind_right : l ≡ head_kind u
+  kind_right = el ∙ (held_first ks vs q u hu).0
+
+  pub held_apart : (k ≡ l → ⊥) → false ≡ can_weaken_to t u
+  held_apart d = kinds_apart t u (λ e. d (kind_left ∙ e ∙ sym kind_right))
+
+  module _ {r : Bool} (er : r ≡ among k (2 ∷ 12 ∷ 13 ∷ [])) where
+    access : among (head_kind t) (2 ∷ 12 ∷ 13 ∷ []) ≡ r
+    access = sym (er ∙ ap (λ (x : ℕ). among x (2 ∷ 12 ∷ 13 ∷ [])) kind_left)
+
+    pub held_without : r ≡ false → false ≡ can_weaken_to t u
+    held_without e = without_access t u (access ∙ e)
+
+    -- both have marks
+    pub two : k ≡ l → r ≡ true → Formed t → Formed u → {n m : ℕ} → Told ks vs p n → Told ks vs q m → Two ks vs p q n m t u
+    two e y ft fu a b =
+        let k = sym kind_left ∙ e ∙ kind_right in
+        record {
+          left = marked t ft (access ∙ y);
+          right = marked u fu (ap (λ (x : ℕ). among x (2 ∷ 12 ∷ 13 ∷ [])) (sym k) ∙ access ∙ y);
+          kinds = k;
+          held_left = ht;
+          held_right = hu;
+          size_left = told ks vs p _ t ht a;
+          size_right = told ks vs q _ u hu b;
+        }
+
+module _ {ks vs : List ℕ} {p q n m : ℕ} {t u : Term} (x : Two ks vs p q n m t u) where
+  pub left_long : n < 2 → ⊥
+  left_long = marked_long ks vs p n t x.held_left x.left x.size_left
+
+  pub right_long : m < 2 → ⊥
+  right_long = marked_long ks vs q m u x.held_right x.right x.size_right
+
+  module _ {v : ℕ} (ev : v ≡ get_or vs (p + 1) 0) where
+    mark_left : v ≡ x.left.mark
+    mark_left = ev ∙ mark_at ks vs p n t x.held_left x.left x.size_left
+
+    pub not_mutable : (v ≡ 1 → ⊥) → false ≡ can_weaken_to t u
+    not_mutable d = unmutable t u x.left x.right x.kinds (λ e. d (mark_left ∙ e))
+
+    module _ (one : v ≡ 1) {w : ℕ} (ew : w ≡ get_or vs (q + 1) 0) where
+      mark_right : w ≡ x.right.mark
+      mark_right = ew ∙ mark_at ks vs q m u x.held_right x.right x.size_right
+
+      pub not_shared : (w ≡ 0 → ⊥) → false ≡ can_weaken_to t u
+      not_shared d = unshared t u x.left x.right x.kinds (sym mark_left ∙ one) (λ e. d (mark_right ∙ e))
+
+      -- r says whether what stands after the marks conflicts
+      pub by_rest : w ≡ 0 → {r : Bool} → ((whole : Bool) → Rows ks vs (p + 2) (p + n) (q + 2) (q + m) whole → r ≡ whole) → not r ≡ can_weaken_to t u
+      by_rest z f =
+          ap not (f _ (rest_rows t u x.left x.right x.kinds ks vs (p + 2) (p + n) (q + 2) (q + m) (rest_at ks vs p n t x.held_left x.left x.size_left) (rest_at ks vs q m u x.held_right x.right x.size_right)))
+          ∙ sym (rests t u x.left x.right x.kinds (sym mark_left ∙ one) (sym mark_right ∙ z))

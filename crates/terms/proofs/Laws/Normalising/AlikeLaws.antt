@@ -83,108 +83,108 @@ module _ (a : Area) (hs cs : List ℕ) (x y : Cursor) (fuel : ℕ) where
     is = λ S T ps qs f g d. record { l = ps; m = qs; left = f; right = g; low = d; to = λ r e. e; from = λ r e. e };
   }
 
-  module _ (p i q j : ℕ) (w : Meeting p i q j) where
-    pub meeting_done : y.end ≤ q → Begins a hs cs x y fuel (Some (p, i))
-    meeting_done le = (
-      w.first,
-      λ S T ps qs f g d.
-          let b = w.is S T ps qs f g d in
-          let e = parted_over a hs cs T b.right le in
-          (b.l, b.from b.l (ap (λ (r : Parts). r +++ b.l) (sym e)), b.left),
-    )
-
-    -- the first row ends before
-    pub meeting_short : q < y.end → x.end ≤ p → Begins a hs cs x y fuel None
-    meeting_short lt le S T ps qs f g d rest e =
+module _ {a : Area} {hs cs : List ℕ} {x y : Cursor} {fuel p i q j : ℕ} (w : Meeting a hs cs x y fuel p i q j) where
+  pub meeting_done : y.end ≤ q → Begins a hs cs x y fuel (Some (p, i))
+  meeting_done le = (
+    w.first,
+    λ S T ps qs f g d.
         let b = w.is S T ps qs f g d in
-        no_end b.m rest (parted_more a hs cs T b.right lt) (sym (parted_over a hs cs S b.left le) ∙ b.to rest e)
+        let e = parted_over a hs cs T b.right le in
+        (b.l, b.from b.l (ap (λ (r : Parts). r +++ b.l) (sym e)), b.left),
+  )
 
-    module _ (lq : q < y.end) (lp : p < x.end) {k v n z : ℕ} (ek : k ≡ get_or a.kinds p 0) (ev : v ≡ get_or a.vals p 0)
-        (en : n ≡ get_or a.kinds q 0) (ez : z ≡ get_or a.vals q 0) where
-      module _ (o : n ≡ 0) where
-        -- a number meets a child
-        pub meeting_child : (k ≡ 0 → ⊥) → Begins a hs cs x y fuel None
-        meeting_child c S T ps qs f g d rest e =
+  -- the first row ends before
+  pub meeting_short : q < y.end → x.end ≤ p → Begins a hs cs x y fuel None
+  meeting_short lt le S T ps qs f g d rest e =
+      let b = w.is S T ps qs f g d in
+      no_end b.m rest (parted_more a hs cs T b.right lt) (sym (parted_over a hs cs S b.left le) ∙ b.to rest e)
+
+  module _ (lq : q < y.end) (lp : p < x.end) {k v n z : ℕ} (ek : k ≡ get_or a.kinds p 0) (ev : v ≡ get_or a.vals p 0)
+      (en : n ≡ get_or a.kinds q 0) (ez : z ≡ get_or a.vals q 0) where
+    module _ (o : n ≡ 0) where
+      -- a number meets a child
+      pub meeting_child : (k ≡ 0 → ⊥) → Begins a hs cs x y fuel None
+      meeting_child c S T ps qs f g d rest e =
+          let b = w.is S T ps qs f g d in
+          let u = parted_child a hs cs S b.left lp ek ev c in
+          let s = parted_number a hs cs T b.right lq en ez o in
+          let h : sub u.term u.rest ≡ num z (s.rest +++ rest) = sym u.is ∙ b.to rest e ∙ ap (λ (r : Parts). r +++ rest) s.is in
+          clash (cc)
+
+      pub meeting_apart : k ≡ 0 → (v ≡ z → ⊥) → Begins a hs cs x y fuel None
+      meeting_apart c ne S T ps qs f g d rest e =
+          let b = w.is S T ps qs f g d in
+          let u = parted_number a hs cs S b.left lp ek ev c in
+          let s = parted_number a hs cs T b.right lq en ez o in
+          let h : num v u.rest ≡ num z (s.rest +++ rest) = sym u.is ∙ b.to rest e ∙ ap (λ (r : Parts). r +++ rest) s.is in
+          ne (cc)
+
+      pub meeting_number : k ≡ 0 → v ≡ z → Meeting a hs cs x y fuel (p + 1) i (q + 1) j
+      meeting_number c eq = record {
+        first = omega (arith, w.first);
+        second = omega (arith, w.second);
+        is = λ S T ps qs f g d.
+            let b = w.is S T ps qs f g d in
+            let u = parted_number a hs cs S b.left lp ek ev c in
+            let s = parted_number a hs cs T b.right lq en ez o in
+            record {
+              l = u.rest;
+              m = s.rest;
+              left = u.behind;
+              right = s.behind;
+              low = omega (arith, b.low, ap depths u.is, depths_num v u.rest);
+              to = λ rest e.
+                  let h : num v u.rest ≡ num z (s.rest +++ rest) = sym u.is ∙ b.to rest e ∙ ap (λ (r : Parts). r +++ rest) s.is in
+                  cc;
+              from = λ rest e. b.from rest (u.is ∙ ap₂ num eq e ∙ ap (λ (r : Parts). r +++ rest) (sym s.is));
+            };
+      }
+
+    module _ (o : n ≡ 0 → ⊥) where
+      -- a child meets a number
+      pub meeting_other : k ≡ 0 → Begins a hs cs x y fuel None
+      meeting_other c S T ps qs f g d rest e =
+          let b = w.is S T ps qs f g d in
+          let u = parted_number a hs cs S b.left lp ek ev c in
+          let s = parted_child a hs cs T b.right lq en ez o in
+          let h : num v u.rest ≡ sub s.term (s.rest +++ rest) = sym u.is ∙ b.to rest e ∙ ap (λ (r : Parts). r +++ rest) s.is in
+          clash (cc)
+
+      -- two children, compared
+      module _ (c : k ≡ 0 → ⊥) (s t : Content) (sh : s.head ≡ head_of hs x.kids p i) (sk : s.kids ≡ kids_of cs x.kids i)
+          (th : t.head ≡ head_of hs y.kids q j) (tk : t.kids ≡ kids_of cs y.kids j) (r : Bool) (al : Alike a hs cs s t fuel r) where
+        pub meeting_differ : r ≡ false → Begins a hs cs x y fuel None
+        meeting_differ fl S T ps qs f g d rest e =
             let b = w.is S T ps qs f g d in
             let u = parted_child a hs cs S b.left lp ek ev c in
-            let s = parted_number a hs cs T b.right lq en ez o in
-            let h : sub u.term u.rest ≡ num z (s.rest +++ rest) = sym u.is ∙ b.to rest e ∙ ap (λ (r : Parts). r +++ rest) s.is in
-            clash (cc)
+            let z = parted_child a hs cs T b.right lq en ez o in
+            let h : sub u.term u.rest ≡ sub z.term (z.rest +++ rest) = sym u.is ∙ b.to rest e ∙ ap (λ (y : Parts). y +++ rest) z.is in
+            al.no fl S T u.term z.term (rw (sh, sk) u.tree) (rw (th, tk) z.tree)
+            (omega (arith, b.low, ap depths u.is, depths_sub u.term u.rest)) (cc)
 
-        pub meeting_apart : k ≡ 0 → (v ≡ z → ⊥) → Begins a hs cs x y fuel None
-        meeting_apart c ne S T ps qs f g d rest e =
-            let b = w.is S T ps qs f g d in
-            let u = parted_number a hs cs S b.left lp ek ev c in
-            let s = parted_number a hs cs T b.right lq en ez o in
-            let h : num v u.rest ≡ num z (s.rest +++ rest) = sym u.is ∙ b.to rest e ∙ ap (λ (r : Parts). r +++ rest) s.is in
-            ne (cc)
-
-        pub meeting_number : k ≡ 0 → v ≡ z → Meeting (p + 1) i (q + 1) j
-        meeting_number c eq = record {
+        pub meeting_same : r ≡ true → (b d : ℕ) → (1 ≤ span k v → b ≡ span k v) → (1 ≤ span n z → d ≡ span n z) → 1 ≤ b → 1 ≤ d → Meeting a hs cs x y fuel (p + b) (i + 1) (q + d) (j + 1)
+        meeting_same tr b d eb ed b1 d1 = record {
           first = omega (arith, w.first);
           second = omega (arith, w.second);
-          is = λ S T ps qs f g d.
-              let b = w.is S T ps qs f g d in
-              let u = parted_number a hs cs S b.left lp ek ev c in
-              let s = parted_number a hs cs T b.right lq en ez o in
+          is = λ S T ps qs f g low.
+              let m = w.is S T ps qs f g low in
+              let u = parted_child a hs cs S m.left lp ek ev c in
+              let z = parted_child a hs cs T m.right lq en ez o in
+              let dl = depths_sub u.term u.rest in
+              let eq : u.term ≡ z.term
+              = al.yes tr S T u.term z.term (rw (sh, sk) u.tree) (rw (th, tk) z.tree) (omega (arith, m.low, ap depths u.is, dl)) in
               record {
                 l = u.rest;
-                m = s.rest;
-                left = u.behind;
-                right = s.behind;
-                low = omega (arith, b.low, ap depths u.is, depths_num v u.rest);
+                m = z.rest;
+                left = rw (eb u.some) u.behind;
+                right = rw (ed z.some) z.behind;
+                low = omega (arith, m.low, ap depths u.is, dl);
                 to = λ rest e.
-                    let h : num v u.rest ≡ num z (s.rest +++ rest) = sym u.is ∙ b.to rest e ∙ ap (λ (r : Parts). r +++ rest) s.is in
+                    let h : sub u.term u.rest ≡ sub z.term (z.rest +++ rest) = sym u.is ∙ m.to rest e ∙ ap (λ (y : Parts). y +++ rest) z.is in
                     cc;
-                from = λ rest e. b.from rest (u.is ∙ ap₂ num eq e ∙ ap (λ (r : Parts). r +++ rest) (sym s.is));
+                from = λ rest e. m.from rest (u.is ∙ ap₂ sub eq e ∙ ap (λ (y : Parts). y +++ rest) (sym z.is));
               };
         }
-
-      module _ (o : n ≡ 0 → ⊥) where
-        -- a child meets a number
-        pub meeting_other : k ≡ 0 → Begins a hs cs x y fuel None
-        meeting_other c S T ps qs f g d rest e =
-            let b = w.is S T ps qs f g d in
-            let u = parted_number a hs cs S b.left lp ek ev c in
-            let s = parted_child a hs cs T b.right lq en ez o in
-            let h : num v u.rest ≡ sub s.term (s.rest +++ rest) = sym u.is ∙ b.to rest e ∙ ap (λ (r : Parts). r +++ rest) s.is in
-            clash (cc)
-
-        -- two children, compared
-        module _ (c : k ≡ 0 → ⊥) (s t : Content) (sh : s.head ≡ head_of hs x.kids p i) (sk : s.kids ≡ kids_of cs x.kids i)
-            (th : t.head ≡ head_of hs y.kids q j) (tk : t.kids ≡ kids_of cs y.kids j) (r : Bool) (al : Alike a hs cs s t fuel r) where
-          pub meeting_differ : r ≡ false → Begins a hs cs x y fuel None
-          meeting_differ fl S T ps qs f g d rest e =
-              let b = w.is S T ps qs f g d in
-              let u = parted_child a hs cs S b.left lp ek ev c in
-              let z = parted_child a hs cs T b.right lq en ez o in
-              let h : sub u.term u.rest ≡ sub z.term (z.rest +++ rest) = sym u.is ∙ b.to rest e ∙ ap (λ (y : Parts). y +++ rest) z.is in
-              al.no fl S T u.term z.term (rw (sh, sk) u.tree) (rw (th, tk) z.tree)
-              (omega (arith, b.low, ap depths u.is, depths_sub u.term u.rest)) (cc)
-
-          pub meeting_same : r ≡ true → (b d : ℕ) → (1 ≤ span k v → b ≡ span k v) → (1 ≤ span n z → d ≡ span n z) → 1 ≤ b → 1 ≤ d → Meeting (p + b) (i + 1) (q + d) (j + 1)
-          meeting_same tr b d eb ed b1 d1 = record {
-            first = omega (arith, w.first);
-            second = omega (arith, w.second);
-            is = λ S T ps qs f g low.
-                let m = w.is S T ps qs f g low in
-                let u = parted_child a hs cs S m.left lp ek ev c in
-                let z = parted_child a hs cs T m.right lq en ez o in
-                let dl = depths_sub u.term u.rest in
-                let eq : u.term ≡ z.term
-                = al.yes tr S T u.term z.term (rw (sh, sk) u.tree) (rw (th, tk) z.tree) (omega (arith, m.low, ap depths u.is, dl)) in
-                record {
-                  l = u.rest;
-                  m = z.rest;
-                  left = rw (eb u.some) u.behind;
-                  right = rw (ed z.some) z.behind;
-                  low = omega (arith, m.low, ap depths u.is, dl);
-                  to = λ rest e.
-                      let h : sub u.term u.rest ≡ sub z.term (z.rest +++ rest) = sym u.is ∙ m.to rest e ∙ ap (λ (y : Parts). y +++ rest) z.is in
-                      cc;
-                  from = λ rest e. m.from rest (u.is ∙ ap₂ sub eq e ∙ ap (λ (y : Parts). y +++ rest) (sym z.is));
-                };
-          }
 
 -- ---- two trees
 
@@ -198,47 +198,40 @@ node_same (var v) u e n r = absurd (n refl)
 node_same (node k ps) (var w) e n r = absurd (n e)
 node_same (node k ps) (node j qs) e n r = ap₂ node (omega arith) r
 
-module _ (a : Area) (hs cs : List ℕ) (x y : Content) (fuel : ℕ) where
+var_of : {a : Area} {hs cs : List ℕ} {S : ℕ → Bool} {h c : ℕ} (t : Term) → Tree a hs cs S h c t → head_kind t ≡ 1 → t ≡ var (get_or a.vals h 0)
+unfolding head_kind
+var_of t (variable e f l) o = ap var (sym f)
+var_of t (branch e f o l w) q = absurd (omega arith)
+
+module _ {a : Area} {hs cs : List ℕ} {x y : Content} {fuel : ℕ} where
   pub alike_none : fuel ≡ 0 → Alike a hs cs x y fuel false
   alike_none z = record {
     yes = λ e. never_true e;
     no = λ e S T t u f g d q. omega (arith, depth_some t);
   }
 
-  module _ (p q : ℕ) {k v n z : ℕ} (ep : p ≡ x.head) (eq : q ≡ y.head) (ek : k ≡ get_or a.kinds p 0) (ev : v ≡ get_or a.vals p 0)
-      (en : n ≡ get_or a.kinds q 0) (ez : z ≡ get_or a.vals q 0) where
-    first_kind : (S : ℕ → Bool) (t : Term) → Tree a hs cs S x.head x.kids t → k ≡ head_kind t
-    first_kind S t w = tree_kind a hs cs S w (ek ∙ ap (λ (i : ℕ). get_or a.kinds i 0) ep)
-
-    second_kind : (T : ℕ → Bool) (u : Term) → Tree a hs cs T y.head y.kids u → n ≡ head_kind u
-    second_kind T u w = tree_kind a hs cs T w (en ∙ ap (λ (i : ℕ). get_or a.kinds i 0) eq)
-
+  module _ {k v n z : ℕ} (ek : k ≡ get_or a.kinds x.head 0) (ev : v ≡ get_or a.vals x.head 0) (en : n ≡ get_or a.kinds y.head 0) (ez : z ≡ get_or a.vals y.head 0) where
     pub alike_kinds : (k ≡ n → ⊥) → Alike a hs cs x y fuel false
     alike_kinds ne = record {
       yes = λ e. never_true e;
-      no = λ e S T t u f g d o. ne (first_kind S t f ∙ ap head_kind o ∙ sym (second_kind T u g));
+      no = λ e S T t u f g d o. ne (tree_kind a hs cs S f ek ∙ ap head_kind o ∙ sym (tree_kind a hs cs T g en));
     }
 
     module _ (kn : k ≡ n) where
-      var_of : (S : ℕ → Bool) {h c : ℕ} (t : Term) → Tree a hs cs S h c t → head_kind t ≡ 1 → t ≡ var (get_or a.vals h 0)
-      unfolding head_kind
-      var_of S t (variable e f l) o = ap var (sym f)
-      var_of S t (branch e f o l w) q = absurd (omega arith)
-
       pub alike_vars : k ≡ 1 → Alike a hs cs x y fuel (eqb v z)
       alike_vars o = record {
         yes = λ e S T t u f g d.
             let eq' : get_or a.vals x.head 0 ≡ get_or a.vals y.head 0
-            = sym (ev ∙ ap (λ (i : ℕ). get_or a.vals i 0) ep) ∙ eqb-true v z e ∙ ez ∙ ap (λ (i : ℕ). get_or a.vals i 0) eq in
-            var_of S t f (sym (first_kind S t f) ∙ o) ∙ ap var eq' ∙ sym (var_of T u g (sym (second_kind T u g) ∙ sym kn ∙ o));
+            = sym ev ∙ eqb-true v z e ∙ ez in
+            var_of t f (sym (tree_kind a hs cs S f ek) ∙ o) ∙ ap var eq' ∙ sym (var_of u g (sym (tree_kind a hs cs T g en) ∙ sym kn ∙ o));
         no = λ e S T t u f g d i.
             let h : var (get_or a.vals x.head 0) ≡ var (get_or a.vals y.head 0)
-            = sym (var_of S t f (sym (first_kind S t f) ∙ o)) ∙ i ∙ var_of T u g (sym (second_kind T u g) ∙ sym kn ∙ o) in
+            = sym (var_of t f (sym (tree_kind a hs cs S f ek) ∙ o)) ∙ i ∙ var_of u g (sym (tree_kind a hs cs T g en) ∙ sym kn ∙ o) in
             let j : get_or a.vals x.head 0 ≡ get_or a.vals y.head 0 = cc in
-            eqb-false v z e (ev ∙ ap (λ (i : ℕ). get_or a.vals i 0) ep ∙ j ∙ sym (ez ∙ ap (λ (i : ℕ). get_or a.vals i 0) eq));
+            eqb-false v z e (ev ∙ j ∙ sym ez);
       }
 
-      module _ (o : k ≡ 1 → ⊥) (c d : Cursor) (sc : Starts a x c) (sd : Starts a y d) (less : ℕ) (el : less + 1 ≡ fuel) where
+      module _ (o : k ≡ 1 → ⊥) {c d : Cursor} (sc : Starts a x c) (sd : Starts a y d) (less : ℕ) (el : less + 1 ≡ fuel) where
         pub alike_rows : Begins a hs cs c d less None → Alike a hs cs x y fuel false
         alike_rows b = record {
           yes = λ e. never_true e;
@@ -251,7 +244,7 @@ module _ (a : Area) (hs cs : List ℕ) (x y : Content) (fuel : ℕ) where
           yes = λ e S T t u f g low.
               let m = b.1 S T (row t) (row u) (sc.is hs cs S t f) (sd.is hs cs T u g) (omega (arith, depth_row t)) in
               let z = parted_over a hs cs S m.2 (leb-true c.end at e) in
-              node_same t u (sym (first_kind S t f) ∙ kn ∙ second_kind T u g) (λ h. o (first_kind S t f ∙ h)) (m.1 ∙ ap (λ (r : Parts). row u +++ r) z ∙ behind_end (row u));
+              node_same t u (sym (tree_kind a hs cs S f ek) ∙ kn ∙ tree_kind a hs cs T g en) (λ h. o (tree_kind a hs cs S f ek ∙ h)) (m.1 ∙ ap (λ (r : Parts). row u +++ r) z ∙ behind_end (row u));
           no = λ e S T t u f g low i.
               let m = b.1 S T (row t) (row u) (sc.is hs cs S t f) (sd.is hs cs T u g) (omega (arith, depth_row t)) in
               parted_more a hs cs S m.2 (leb-false c.end at e) (rest_end (row u) m.0 (sym (ap row i) ∙ m.1));
@@ -272,17 +265,17 @@ Lent ks vs x = (x.kids ≡ 0) × (x.head + span (get_or ks x.head 0) (get_or vs 
 pub lent_true : (ks vs : List ℕ) (x : Content) (r : Bool) → r ≡ (eqb x.kids 0 && leb (x.head + span (get_or ks x.head 0) (get_or vs x.head 0)) (length ks)) → r ≡ true → Lent ks vs x
 lent_true ks vs x r e t = let b = both _ _ (sym e ∙ t) in (eqb-true x.kids 0 b.0, leb-true _ _ b.1)
 
-module _ (ks vs : List ℕ) (g : Origin) (s : Sight ks vs g) (hs cs : List ℕ) (x y : Content) (fuel : ℕ) where
+module _ {ks vs : List ℕ} {g : Origin} (s : Sight ks vs g) {hs cs : List ℕ} {x y : Content} {fuel : ℕ} where
   -- r says whether the terms at p and q are the same
-  pub alike_lent : (p q : ℕ) → p ≡ x.head → q ≡ y.head → Lent ks vs x → Lent ks vs y → (r : Bool) → ((t u : Term) → Held ks vs p t → Held ks vs q u → r ≡ same t u)
+  pub alike_lent : Lent ks vs x → Lent ks vs y → {r : Bool} → ((t u : Term) → Held ks vs x.head t → Held ks vs y.head u → r ≡ same t u)
       → Alike (view ks vs g) hs cs x y fuel r
-  alike_lent p q ep eq lx ly r f = record {
+  alike_lent lx ly {r} f = record {
     yes = λ e S T t u w z d. same_true t u (sym (is S T t u w z) ∙ e);
     no = λ e S T t u w z d i. never_true (sym e ∙ is S T t u w z ∙ ap (same t) (sym i) ∙ same_refl t);
   }
     where
-      held : (h : Content) (i : ℕ) → i ≡ h.head → Lent ks vs h → (S : ℕ → Bool) (t : Term) → Tree (view ks vs g) hs cs S h.head h.kids t → Held ks vs i t
-      held h i e l S t w = rw e (tree_held ks vs g s hs cs S h.head t l.1 (rw l.0 at w))
+      held : (h : Content) → Lent ks vs h → (S : ℕ → Bool) (t : Term) → Tree (view ks vs g) hs cs S h.head h.kids t → Held ks vs h.head t
+      held h l S t w = tree_held ks vs g s hs cs S h.head t l.1 (rw l.0 at w)
 
       is : (S T : ℕ → Bool) (t u : Term) → Tree (view ks vs g) hs cs S x.head x.kids t → Tree (view ks vs g) hs cs T y.head y.kids u → r ≡ same t u
-      is S T t u w z = f t u (held x p ep lx S t w) (held y q eq ly T u z)
+      is S T t u w z = f t u (held x lx S t w) (held y ly T u z)
