@@ -21,7 +21,7 @@ use Rattle.terms.specs.declared.Question.TheVariants.{IsNever, IsInteger, IsConc
 use Rattle.terms.specs.Parameters.{parameter, parameters, index_in, is_found}
 use Rattle.terms.specs.Words.QuestionsContract.{tag_of, word, Asking}
 use Rattle.terms.proofs.Laws.General.Bools.{or-true, or_right, or-none, or_assoc, or-false}
-use Rattle.terms.proofs.Laws.Held.HeldLaws.{head_kind, held_num, held_sub, row_num, row_sub, row_end}
+use Rattle.terms.proofs.Laws.Held.HeldLaws.{held_first, head_kind, held_num, held_sub, row_num, row_sub, row_end}
 use Rattle.terms.proofs.Laws.Held.FlatLaws.{held_enter, held_one}
 use Rattle.terms.proofs.Laws.Format.ShapeLaws.{More, some_done}
 use Rattle.terms.proofs.Laws.Format.ParameterLaws.{found_contains}
@@ -255,80 +255,89 @@ module _ (C E : Term → Bool) where
   subs_append (num n ps) qs r f s = subs_append ps qs (after_number r n) f.1 s
   subs_append (sub t ps) qs r f s = (f.1, subs_append ps qs (after_term r) f.2 s)
 
-  module _ (ks vs : List ℕ) (p e : ℕ) (whole : Bool) (x : Asking ks vs p e C E whole) where
-    pub ask_number : p < e → get_or ks p 0 ≡ 0 → Asking ks vs (p + 1) e C E whole
-    unfolding meets Subs
-    ask_number h k =
-        let a = row_num ks vs p e x.row x.held h k in
-        record {
-          row = a.1;
-          held = a.4;
-          formed = subst (λ (y : Parts). Subs Formed y) a.2 x.formed;
-          same = x.same ∙ ap (λ (y : Parts). meets_row C E y) a.2;
-        }
+module _ {ks vs : List ℕ} {p e : ℕ} {C E : Term → Bool} {whole : Bool} (x : Asking ks vs p e C E whole) where
+  pub ask_number : p < e → get_or ks p 0 ≡ 0 → Asking ks vs (p + 1) e C E whole
+  unfolding meets Subs
+  ask_number h k =
+      let a = row_num ks vs p e x.row x.held h k in
+      record {
+        row = a.1;
+        held = a.4;
+        formed = subst (λ (y : Parts). Subs Formed y) a.2 x.formed;
+        same = x.same ∙ ap (λ (y : Parts). meets_row C E y) a.2;
+      }
 
-    pub ask_end : e ≤ p → false ≡ whole
-    unfolding meets
-    ask_end h = sym (x.same ∙ ap (λ (y : Parts). meets_row C E y) (row_end ks vs p e x.row x.held h))
+  pub ask_end : e ≤ p → false ≡ whole
+  unfolding meets
+  ask_end h = sym (x.same ∙ ap (λ (y : Parts). meets_row C E y) (row_end ks vs p e x.row x.held h))
 
-  -- a term comes next
-  pub record Term-next (ks vs : List ℕ) (p e : ℕ) (whole : Bool) : Type 0 where
-    pub term : Term
-    pub rest : Parts
-    pub held : HeldParts ks vs p e (sub term rest)
-    pub here : Held ks vs p term
-    pub formed : Formed term
-    pub others : Subs Formed rest
-    pub same : whole ≡ (meets C E term || meets_row C E rest)
+-- a term comes next
+pub record Term-next (ks vs : List ℕ) (p e : ℕ) (C E : Term → Bool) (whole : Bool) : Type 0 where
+  pub term : Term
+  pub rest : Parts
+  pub held : HeldParts ks vs p e (sub term rest)
+  pub here : Held ks vs p term
+  pub formed : Formed term
+  pub others : Subs Formed rest
+  pub same : whole ≡ (meets C E term || meets_row C E rest)
 
-  module _ (ks vs : List ℕ) (p e : ℕ) (whole : Bool) where
-    enter : (t : Term) (rest : Parts) → HeldParts ks vs p e (sub t rest) → Formed t → Subs Formed rest → whole ≡ (meets C E t || meets_row C E rest)
-        → C t ≡ false → E t ≡ true → Asking ks vs (p + 1) e C E whole
-    unfolding meets Formed items
-    enter (var v) rest h f s same c n = record {
-      row = rest;
-      held = (held_sub ks vs p e (var v) rest h).1;
-      formed = s;
-      same = same ∙ or-false (C (var v)) (meets_row C E rest) c;
-    }
-    enter (node k ps) rest h f s same c n = record {
-      row = ps +++ rest;
-      held = held_enter ks vs p e k ps rest h;
-      formed = subs_append ps rest (layout k) f.1 s;
-      same = same ∙ rw (c, n) (sym (meets_append ps rest));
-    }
+module _ {ks vs : List ℕ} {p e : ℕ} {C E : Term → Bool} {whole : Bool} where
+  enter : (t : Term) (rest : Parts) → HeldParts ks vs p e (sub t rest) → Formed t → Subs Formed rest → whole ≡ (meets C E t || meets_row C E rest)
+      → C t ≡ false → E t ≡ true → Asking ks vs (p + 1) e C E whole
+  unfolding meets Formed items
+  enter (var v) rest h f s same c n = record {
+    row = rest;
+    held = (held_sub ks vs p e (var v) rest h).1;
+    formed = s;
+    same = same ∙ or-false (C (var v)) (meets_row C E rest) c;
+  }
+  enter (node k ps) rest h f s same c n = record {
+    row = ps +++ rest;
+    held = held_enter ks vs p e k ps rest h;
+    formed = subs_append C E ps rest (layout k) f.1 s;
+    same = same ∙ rw (c, n) (sym (meets_append C E ps rest));
+  }
 
-    pub ask_term : Asking ks vs p e C E whole → p < e → (get_or ks p 0 ≡ 0 → ⊥) → Term-next ks vs p e whole
-    unfolding meets Subs
-    ask_term x h k =
-        let a = row_sub ks vs p e x.row x.held h k in
-        let f = subst (λ (y : Parts). Subs Formed y) a.2 x.formed in
-        record {
-          term = a.0;
-          rest = a.1;
-          held = subst (λ (y : Parts). HeldParts ks vs p e y) a.2 x.held;
-          here = a.3;
-          formed = f.0;
-          others = f.1;
-          same = x.same ∙ ap (λ (y : Parts). meets_row C E y) a.2;
-        }
+  pub ask_term : Asking ks vs p e C E whole → p < e → (get_or ks p 0 ≡ 0 → ⊥) → Term-next ks vs p e C E whole
+  unfolding meets Subs
+  ask_term x h k =
+      let a = row_sub ks vs p e x.row x.held h k in
+      let f = subst (λ (y : Parts). Subs Formed y) a.2 x.formed in
+      record {
+        term = a.0;
+        rest = a.1;
+        held = subst (λ (y : Parts). HeldParts ks vs p e y) a.2 x.held;
+        here = a.3;
+        formed = f.0;
+        others = f.1;
+        same = x.same ∙ ap (λ (y : Parts). meets_row C E y) a.2;
+      }
 
-    pub ask_counts : (x : Term-next ks vs p e whole) → C x.term ≡ true → true ≡ whole
-    ask_counts x c = sym (x.same ∙ or-true (meets C E x.term) (meets_row C E x.rest) (meets_counts x.term c))
+  pub ask_counts : (x : Term-next ks vs p e C E whole) → C x.term ≡ true → true ≡ whole
+  ask_counts x c = sym (x.same ∙ or-true (meets C E x.term) (meets_row C E x.rest) (meets_counts C E x.term c))
 
-    -- it does not count, and its row is entered
-    pub ask_enter : (x : Term-next ks vs p e whole) → C x.term ≡ false → E x.term ≡ true → Asking ks vs (p + 1) e C E whole
-    ask_enter x c n = enter x.term x.rest x.held x.formed x.others x.same c n
+  -- it does not count, and its row is entered
+  pub ask_enter : (x : Term-next ks vs p e C E whole) → C x.term ≡ false → E x.term ≡ true → Asking ks vs (p + 1) e C E whole
+  ask_enter x c n = enter x.term x.rest x.held x.formed x.others x.same c n
 
-    -- it does not count, and is passed over
-    pub ask_pass : (x : Term-next ks vs p e whole) (n : ℕ) → C x.term ≡ false → E x.term ≡ false
-        → (1 ≤ span (get_or ks p 0) (get_or vs p 0) → span (get_or ks p 0) (get_or vs p 0) ≤ e - p → n ≡ span (get_or ks p 0) (get_or vs p 0)) → Asking ks vs (p + n) e C E whole
-    ask_pass x n c m s = record {
-      row = x.rest;
-      held = passed ks vs p e n x.term x.rest x.held s;
-      formed = x.others;
-      same = x.same ∙ or-false (meets C E x.term) (meets_row C E x.rest) (meets_passed x.term c m);
-    }
+  -- it does not count, and is passed over
+  pub ask_pass : (x : Term-next ks vs p e C E whole) {n : ℕ} → C x.term ≡ false → E x.term ≡ false
+      → (1 ≤ span (get_or ks p 0) (get_or vs p 0) → span (get_or ks p 0) (get_or vs p 0) ≤ e - p → n ≡ span (get_or ks p 0) (get_or vs p 0)) → Asking ks vs (p + n) e C E whole
+  ask_pass x {n} c m s = record {
+    row = x.rest;
+    held = passed ks vs p e n x.term x.rest x.held s;
+    formed = x.others;
+    same = x.same ∙ or-false (meets C E x.term) (meets_row C E x.rest) (meets_passed C E x.term c m);
+  }
+
+  -- the tag that was told of its head
+  pub head_tag : (x : Term-next ks vs p e C E whole) {k : ℕ} → k ≡ tag_of (get_or ks p 0) → k ≡ tag x.term
+  head_tag x h = h ∙ ap tag_of (held_first ks vs p x.term x.here).0 ∙ tag_kind x.term
+
+-- r says whether the term counts, by its tag and the two words after its head
+pub counts_told : {ks vs : List ℕ} {p e : ℕ} (qs : List Parameter) (q : ℕ) {E : Term → Bool} {whole : Bool} (x : Term-next ks vs p e (counted qs q) E whole) {k a b : ℕ} {r : Bool}
+    → k ≡ tag_of (get_or ks p 0) → a ≡ word vs (p + 1) e → b ≡ word vs (p + 2) e → r ≡ counted_by qs q k a b → counted qs q x.term ≡ r
+counts_told {ks} {vs} {p} {e} qs q x h f g i = sym (told_counts ks vs p e x.rest qs q x.term x.formed x.held) ∙ rw (← head_tag x h, ← f, ← g) (sym i)
 
 -- a term as a row
 pub ask_one : (C E : Term → Bool) (ks vs : List ℕ) (p n : ℕ) (t : Term) → Held ks vs p t → n ≡ length (items t) → Formed t → Asking ks vs p (p + n) C E (meets C E t)

@@ -43,8 +43,8 @@ module _ (out : List ℕ) (at : ℕ) (bs : List ℕ) (n : ℕ) (e : n ≡ length
   put_long h = rw (lt-leb (at + length bs) (length out) (omega arith))
 
 -- one piece
-pub put_one : (out₀ out : List ℕ) (at r : ℕ) (bs : List ℕ) → r ≡ at + length bs → out ≡ put_if out₀ at bs → Put out₀ out at r bs
-put_one out₀ out at r bs n w = record {
+pub put_one : {out₀ out : List ℕ} {at r : ℕ} (bs : List ℕ) → r ≡ at + length bs → out ≡ put_if out₀ at bs → Put out₀ out at r bs
+put_one {out₀} {out} {at} {r} bs n w = record {
   next = n;
   wrote = λ h. w ∙ rw (le-leb (at + length bs) (length out₀) h);
   long = ap length w ∙ go (leb (at + length bs) (length out₀));
@@ -55,8 +55,8 @@ put_one out₀ out at r bs n w = record {
     go false = refl
 
 -- one piece and the next
-pub put_then : (out₀ out₁ out₂ : List ℕ) (at r s : ℕ) (bs cs : List ℕ) → Put out₀ out₁ at r bs → Put out₁ out₂ r s cs → Put out₀ out₂ at s (bs ++ cs)
-put_then out₀ out₁ out₂ at r s bs cs x y = record {
+pub put_then : {out₀ out₁ out₂ : List ℕ} {at r s : ℕ} {bs cs : List ℕ} → Put out₀ out₁ at r bs → Put out₁ out₂ r s cs → Put out₀ out₂ at s (bs ++ cs)
+put_then {out₀} {out₁} {out₂} {at} {r} {s} {bs} {cs} x y = record {
   next = omega (arith, x.next, y.next, length-append bs cs);
   wrote = λ h.
       let l = length-append bs cs in
@@ -69,8 +69,8 @@ pub put_none : (out : List ℕ) (at : ℕ) → Put out out at at []
 put_none out at = record { next = omega arith; wrote = λ h. refl; long = refl }
 
 -- bytes told another way
-pub put_same : (out₀ out : List ℕ) (at r : ℕ) (bs cs : List ℕ) → bs ≡ cs → Put out₀ out at r bs → Put out₀ out at r cs
-put_same out₀ out at r bs cs e x = subst (λ (l : List ℕ). Put out₀ out at r l) e x
+pub put_same : {out₀ out : List ℕ} {at r : ℕ} {bs cs : List ℕ} → bs ≡ cs → Put out₀ out at r bs → Put out₀ out at r cs
+put_same {out₀} {out} {at} {r} e x = subst (λ (l : List ℕ). Put out₀ out at r l) e x
 
 -- ---- rows that stay as they are
 
@@ -386,7 +386,7 @@ module _ (ps qs : Parts) (a : NominalRow ps) (b : NominalRow qs) where
       ap members_of x.is ∙ ap (λ (l : List ℕ). take (get_or l 0 0) (drop 1 l)) (fit_drop x.count (shape.members shape.done) x.rest x.fit).1
 
   -- the numbers of what is left after the arguments tell whether the members are the same
-  pub members_alike : alike (drop_parts a.count a.rest) (drop_parts b.count b.rest) ≡ same_numbers (members_of ps) (members_of qs)
+  members_alike : alike (drop_parts a.count a.rest) (drop_parts b.count b.rest) ≡ same_numbers (members_of ps) (members_of qs)
   members_alike =
       alike_keys (drop_parts a.count a.rest) (drop_parts b.count b.rest) (fit_drop a.count (shape.members shape.done) a.rest a.fit).0 (fit_drop b.count (shape.members shape.done) b.rest b.fit).0
       ∙ ap (λ (l : List ℕ). same_numbers l (keys (drop_parts b.count b.rest))) (sym (members_keys ps a)) ∙ ap (λ (l : List ℕ). same_numbers (members_of ps) l) (sym (members_keys qs b))
@@ -403,20 +403,20 @@ module _ (ps qs : Parts) (a : NominalRow ps) (b : NominalRow qs) where
       go x y e f = rw (e, f)
 
   module _ (p : ℕ) where
-    pub reach_declaration : (a.declaration ≡ b.declaration → ⊥) → p + 1 ≡ p + 1 + upto (nominal_reach ps qs) ps
+    reach_declaration : (a.declaration ≡ b.declaration → ⊥) → p + 1 ≡ p + 1 + upto (nominal_reach ps qs) ps
     reach_declaration d = none_reached p (nominal_reach ps qs) ps (reached ∙ fails_first (eqb a.declaration b.declaration) (eqb a.count b.count) _ (ne_eqb a.declaration b.declaration d))
 
-    pub reach_count : (a.count ≡ b.count → ⊥) → p + 1 ≡ p + 1 + upto (nominal_reach ps qs) ps
+    reach_count : (a.count ≡ b.count → ⊥) → p + 1 ≡ p + 1 + upto (nominal_reach ps qs) ps
     reach_count d = none_reached p (nominal_reach ps qs) ps (reached ∙ fails_second (eqb a.declaration b.declaration) (eqb a.count b.count) _ (ne_eqb a.count b.count d))
 
     module _ (e : a.declaration ≡ b.declaration) (f : a.count ≡ b.count) where
       told : (m : Bool) → same_numbers (members_of ps) (members_of qs) ≡ m → nominal_reach ps qs ≡ pick m (parts ps) (2 + a.count)
       told m h = reached ∙ rw (eq-eqb a.declaration b.declaration e, eq-eqb a.count b.count f, h)
 
-      pub reach_all : (pe : ℕ) → same_numbers (members_of ps) (members_of qs) ≡ true → p + 1 + length (part_items ps) ≡ pe → pe ≡ p + 1 + upto (nominal_reach ps qs) ps
+      reach_all : (pe : ℕ) → same_numbers (members_of ps) (members_of qs) ≡ true → p + 1 + length (part_items ps) ≡ pe → pe ≡ p + 1 + upto (nominal_reach ps qs) ps
       reach_all pe h g = sym (ap (λ (c : ℕ). p + 1 + upto c ps) (told true h) ∙ ap (λ (c : ℕ). p + 1 + c) (upto_all ps) ∙ g)
 
-      pub reach_arguments : (i : ℕ) → same_numbers (members_of ps) (members_of qs) ≡ false → i ≡ p + 3 + upto a.count a.rest → i ≡ p + 1 + upto (nominal_reach ps qs) ps
+      reach_arguments : (i : ℕ) → same_numbers (members_of ps) (members_of qs) ≡ false → i ≡ p + 3 + upto a.count a.rest → i ≡ p + 1 + upto (nominal_reach ps qs) ps
       unfolding upto
       reach_arguments i h g =
           let u : upto (2 + a.count) ps ≡ 2 + upto a.count a.rest = ap (λ (x : Parts). upto (2 + a.count) x) a.is ∙ two a.declaration a.count a.rest ∙ omega arith in
@@ -485,9 +485,13 @@ pub record NominalAt (ks vs : List ℕ) (p pe : ℕ) (ps : Parts) : Type 0 where
   pub rest : HeldParts ks vs (p + 3) pe row.rest
   pub ends : p + 1 + length (part_items ps) ≡ pe
 
-pub nominal_at : (ks vs : List ℕ) (p pe k : ℕ) (ps : Parts) → HeldParts ks vs p pe (sub (node k ps) end) → (k ≡ 1 → ⊥) → Fit (nominal shape.done) ps → NominalAt ks vs p pe ps
+-- i is behind n terms from p on
+abbrev pub BehindTerms : (ks vs : List ℕ) (p e n i : ℕ) → Type 0
+BehindTerms ks vs p e n i = (s : Shape) (ps : Parts) → HeldParts ks vs p e ps → Fit (many_terms n s) ps → i ≡ p + upto n ps
+
+pub nominal_at : {ks vs : List ℕ} {p pe k : ℕ} {ps : Parts} → HeldParts ks vs p pe (sub (node k ps) end) → (k ≡ 1 → ⊥) → Fit (nominal shape.done) ps → NominalAt ks vs p pe ps
 unfolding tag row
-nominal_at ks vs p pe k ps h d f =
+nominal_at {ks} {vs} {p} {pe} {k} {ps} h d f =
     let r = nominal_row ps f in
     let q = row_held ks vs p pe (node k ps) h d in
     let a = first_word ks vs p pe r.declaration (num r.count r.rest) (subst (λ (x : Parts). HeldParts ks vs (p + 1) pe x) r.is q) in
@@ -499,6 +503,46 @@ nominal_at ks vs p pe k ps h d f =
       rest = subst (λ (i : ℕ). HeldParts ks vs i pe r.rest) (omega arith) b.1;
       ends = q.ends;
     }
+
+-- ---- what `nominal_reach` answers
+
+module _ {ks vs : List ℕ} {p pe q qe : ℕ} {ps qs : Parts} (a : NominalAt ks vs p pe ps) (b : NominalAt ks vs q qe qs) where
+  module _ {m n : ℕ} (em : m ≡ word vs (p + 1) pe) (en : n ≡ word vs (q + 1) qe) where
+    pub declarations_differ : (m ≡ n → ⊥) → p + 1 ≡ p + 1 + upto (nominal_reach ps qs) ps
+    declarations_differ d = reach_declaration ps qs a.row b.row p (λ z. d (em ∙ a.first ∙ z ∙ sym (en ∙ b.first)))
+
+    module _ {r s : ℕ} (er : r ≡ word vs (p + 2) pe) (es : s ≡ word vs (q + 2) qe) where
+      pub counts_differ : (r ≡ s → ⊥) → p + 1 ≡ p + 1 + upto (nominal_reach ps qs) ps
+      counts_differ d = reach_count ps qs a.row b.row p (λ z. d (er ∙ a.second ∙ z ∙ sym (es ∙ b.second)))
+
+      -- i and j are behind the arguments
+      module _ (e : m ≡ n) (f : r ≡ s) {i j : ℕ} (bi : BehindTerms ks vs (p + 3) pe r i) (bj : BehindTerms ks vs (q + 3) qe r j)
+          {x : Bool} (al : (y z : Parts) → HeldParts ks vs i pe y → HeldParts ks vs j qe z → x ≡ alike y z) where
+        count_left : r ≡ a.row.count
+        count_left = er ∙ a.second
+
+        count_right : r ≡ b.row.count
+        count_right = f ∙ es ∙ b.second
+
+        left_is : i ≡ p + 3 + upto a.row.count a.row.rest
+        left_is = rw count_left at bi (shape.members shape.done) a.row.rest a.rest a.row.fit
+
+        right_is : j ≡ q + 3 + upto b.row.count b.row.rest
+        right_is = rw count_right at bj (shape.members shape.done) b.row.rest b.rest b.row.fit
+
+        same_members : x ≡ same_numbers (members_of ps) (members_of qs)
+        same_members =
+            al _ _ (rw left_is (held_drop ks vs a.row.count (p + 3) pe a.row.rest a.rest)) (rw right_is (held_drop ks vs b.row.count (q + 3) qe b.row.rest b.rest))
+            ∙ members_alike ps qs a.row b.row
+
+        same_declaration : a.row.declaration ≡ b.row.declaration
+        same_declaration = sym (em ∙ a.first) ∙ e ∙ en ∙ b.first
+
+        pub members_same : x ≡ true → pe ≡ p + 1 + upto (nominal_reach ps qs) ps
+        members_same h = reach_all ps qs a.row b.row p same_declaration (sym count_left ∙ count_right) pe (sym same_members ∙ h) a.ends
+
+        pub members_differ : x ≡ false → i ≡ p + 1 + upto (nominal_reach ps qs) ps
+        members_differ h = reach_arguments ps qs a.row b.row p same_declaration (sym count_left ∙ count_right) i (sym same_members ∙ h) left_is
 
 -- ---- what `reach_end` answers
 
@@ -527,8 +571,13 @@ tag_held : (ks vs : List ℕ) (p pe : ℕ) (t : Term) → HeldParts ks vs p pe (
 tag_held ks vs p pe t h = ap tag_of (held_first ks vs p t (held_sub ks vs p pe t end h).0).0 ∙ tag_kind t
 
 -- a tag that was told of the word there
-pub tag_told : (ks vs : List ℕ) (p pe : ℕ) (t : Term) → HeldParts ks vs p pe (sub t end) → (w k : ℕ) → w ≡ get_or ks p 0 → k ≡ tag_of w → k ≡ tag t
-tag_told ks vs p pe t h w k e f = f ∙ ap tag_of e ∙ tag_held ks vs p pe t h
+pub tag_told : {ks vs : List ℕ} {p pe : ℕ} {t : Term} → HeldParts ks vs p pe (sub t end) → {w k : ℕ} → w ≡ get_or ks p 0 → k ≡ tag_of w → k ≡ tag t
+tag_told {ks} {vs} {p} {pe} {t} h e f = f ∙ ap tag_of e ∙ tag_held ks vs p pe t h
+
+-- the tags of two terms that are told alike
+pub same_tags : {ks vs : List ℕ} {p pe q qe : ℕ} {t u : Term} → HeldParts ks vs p pe (sub t end) → HeldParts ks vs q qe (sub u end) → {w v k l : ℕ}
+    → w ≡ get_or ks p 0 → k ≡ tag_of w → v ≡ get_or ks q 0 → l ≡ tag_of v → k ≡ l → (k ≡ tag t) × (tag t ≡ tag u)
+same_tags ht hu a b c d e = let x = tag_told ht a b in (x, sym x ∙ e ∙ tag_told hu c d)
 
 -- a tag of a list that has no 1
 pub not_variable : (t : Term) (a b c d : ℕ) → among 1 (a ∷ b ∷ c ∷ d ∷ []) ≡ false → among (tag t) (a ∷ b ∷ c ∷ d ∷ []) ≡ true → tag t ≡ 1 → ⊥
@@ -610,23 +659,29 @@ first_told ks vs p pe (node k ps) h f w =
     let q = row_held ks vs p pe (node k ps) h (first_node (node k ps) w) in
     (first_word ks vs p pe r.0 r.1 (subst (λ (x : Parts). HeldParts ks vs (p + 1) pe x) r.2 q)).0 ∙ ap (λ (x : Parts). get_or (nums x) 0 0) (sym r.2)
 
-module _ (ks vs : List ℕ) (p pe q qe : ℕ) (t u : Term) (ht : HeldParts ks vs p pe (sub t end)) (hu : HeldParts ks vs q qe (sub u end)) (ft : Formed t) (fu : Formed u) (e : tag t ≡ tag u) where
-  pub place_first : among (tag t) (0 ∷ 5 ∷ 6 ∷ 8 ∷ []) ≡ true → reach t u ≡ pick (eqb (first t) (first u)) (parts (row t)) 0
+-- the whole row
+pub place_all : {ks vs : List ℕ} {p pe : ℕ} {t : Term} (u : Term) → HeldParts ks vs p pe (sub t end) → tag t ≡ tag u → among (tag t) (7 ∷ 9 ∷ 10 ∷ 11 ∷ []) ≡ true
+    → pe ≡ p + 1 + upto (reach t u) (row t)
+place_all {ks} {vs} {p} {pe} {t} u ht e w = place_whole ks vs p pe t (reach t u) ht (whole_node t w) (reach_whole t u e w)
+
+module _ {ks vs : List ℕ} {p pe q qe : ℕ} {t u : Term} (ht : HeldParts ks vs p pe (sub t end)) (hu : HeldParts ks vs q qe (sub u end)) (ft : Formed t) (fu : Formed u) (e : tag t ≡ tag u)
+    (a : among (tag t) (7 ∷ 9 ∷ 10 ∷ 11 ∷ []) ≡ false) where
+  pub place_first : among (tag t) (0 ∷ 5 ∷ 6 ∷ 8 ∷ []) ≡ true
       → pick (eqb (word vs (p + 1) pe) (word vs (q + 1) qe)) pe (p + 1) ≡ p + 1 + upto (reach t u) (row t)
-  place_first w r =
+  place_first w =
       ap (λ (x : ℕ). pick (eqb x (word vs (q + 1) qe)) pe (p + 1)) (first_told ks vs p pe t ht ft w)
       ∙ ap (λ (x : ℕ). pick (eqb (first t) x) pe (p + 1)) (first_told ks vs q qe u hu fu (ap (λ (n : ℕ). among n (0 ∷ 5 ∷ 6 ∷ 8 ∷ [])) (sym e) ∙ w))
-      ∙ go (eqb (first t) (first u)) r
+      ∙ go (eqb (first t) (first u)) (reach_first t u e a w)
     where
       go : (b : Bool) → reach t u ≡ pick b (parts (row t)) 0 → pick b pe (p + 1) ≡ p + 1 + upto (reach t u) (row t)
       go true h = place_whole ks vs p pe t (reach t u) ht (first_node t w) h
       go false h = place_none p (reach t u) (row t) h
 
-  pub place_nominal : (x : ℕ) → among (tag t) (12 ∷ 13 ∷ 14 ∷ 15 ∷ []) ≡ true
+  pub place_nominal : {x : ℕ} → among (tag t) (0 ∷ 5 ∷ 6 ∷ 8 ∷ []) ≡ false → among (tag t) (12 ∷ 13 ∷ 14 ∷ 15 ∷ []) ≡ true
       → ((k j : ℕ) (ps qs : Parts) → (k ≡ 1 → ⊥) → (j ≡ 1 → ⊥) → HeldParts ks vs p pe (sub (node k ps) end) → HeldParts ks vs q qe (sub (node j qs) end) → Fit (nominal shape.done) ps → Fit (nominal shape.done) qs → x ≡ p + 1 + upto (nominal_reach ps qs) ps)
-      → reach t u ≡ nominal_reach (row t) (row u) → x ≡ p + 1 + upto (reach t u) (row t)
+      → x ≡ p + 1 + upto (reach t u) (row t)
   unfolding row
-  place_nominal x w h r = go t u ht hu ft fu e w ∙ ap (λ (c : ℕ). p + 1 + upto c (row t)) (sym r)
+  place_nominal {x} b w h = go t u ht hu ft fu e w ∙ ap (λ (c : ℕ). p + 1 + upto c (row t)) (sym (reach_nominals t u e a b w))
     where
       go : (t u : Term) → HeldParts ks vs p pe (sub t end) → HeldParts ks vs q qe (sub u end) → Formed t → Formed u → tag t ≡ tag u → among (tag t) (12 ∷ 13 ∷ 14 ∷ 15 ∷ []) ≡ true
           → x ≡ p + 1 + upto (nominal_reach (row t) (row u)) (row t)
@@ -642,9 +697,9 @@ module _ (ks vs : List ℕ) (p pe q qe : ℕ) (t u : Term) (ht : HeldParts ks vs
 -- ---- one term
 
 -- the tokens of a term that fills a part of the areas write its bytes
-pub whole_bytes : (ks vs : List ℕ) (p pe : ℕ) (t : Term) → HeldParts ks vs p pe (sub t end) → spelt ks vs p (pe - p) ≡ bytes t
+pub whole_bytes : {ks vs : List ℕ} {p pe : ℕ} {t : Term} → HeldParts ks vs p pe (sub t end) → spelt ks vs p (pe - p) ≡ bytes t
 unfolding items
-whole_bytes ks vs p pe t h =
+whole_bytes {ks} {vs} {p} {pe} {t} h =
     let q = held_sub ks vs p pe t end h in
     let e : pe - p ≡ length (items t) = omega (arith, h.ends, length-append (items t) []) in
     ap (λ (n : ℕ). spelt ks vs p n) e ∙ held_bytes ks vs p t q.0
@@ -710,18 +765,18 @@ entered_term (var v) u n d h = absurd (d refl)
 entered_term (node k ps) u n d h = rw (n, h)
 
 -- the head's byte
-pub head_byte : (ks vs : List ℕ) (p pe : ℕ) (t : Term) → HeldParts ks vs p pe (sub t end) → (tag t ≡ 1 → ⊥) → spelt ks vs p 1 ≡ (tag t % 256) ∷ []
+pub head_byte : {ks vs : List ℕ} {p pe : ℕ} {t : Term} → HeldParts ks vs p pe (sub t end) → (tag t ≡ 1 → ⊥) → spelt ks vs p 1 ≡ (tag t % 256) ∷ []
 unfolding spell plain tag head_kind
-head_byte ks vs p pe (var v) h d = absurd (d refl)
-head_byte ks vs p pe (node k ps) h d =
+head_byte {ks} {vs} {p} {pe} {t = var v} h d = absurd (d refl)
+head_byte {ks} {vs} {p} {pe} {t = node k ps} h d =
     let f = held_first ks vs p (node k ps) (held_sub ks vs p pe (node k ps) end h).0 in
     ap (λ (n : ℕ). plain n (get_or vs p 0) ++ []) f.0
 
 -- the row of a variable is none
-pub row_any : (ks vs : List ℕ) (p pe : ℕ) (t : Term) → HeldParts ks vs p pe (sub t end) → HeldParts ks vs (p + 1) pe (row t)
+pub row_any : {ks vs : List ℕ} {p pe : ℕ} {t : Term} → HeldParts ks vs p pe (sub t end) → HeldParts ks vs (p + 1) pe (row t)
 unfolding row items
-row_any ks vs p pe (var v) h = (held_sub ks vs p pe (var v) end h).1
-row_any ks vs p pe (node k ps) h =
+row_any {ks} {vs} {p} {pe} {t = var v} h = (held_sub ks vs p pe (var v) end h).1
+row_any {ks} {vs} {p} {pe} {t = node k ps} h =
     let q = held_sub ks vs p pe (node k ps) end h in
     let r = held_node ks vs p k ps q.0 in
     let e : p + suc (length (part_items ps)) ≡ pe = omega (arith, h.ends, length-append (items (node k ps)) []) in
@@ -753,14 +808,14 @@ pub record Recovering (ks vs : List ℕ) (i pe stop j qe : ℕ) (out₀ out : Li
   pub put : Put out₀ out at to done
   pub same : whole ≡ done ++ part_bytes (recover_row left count right)
 
-module _ (ks vs : List ℕ) (i pe stop j qe : ℕ) (out₀ out : List ℕ) (at to : ℕ) (whole : List ℕ) (x : Recovering ks vs i pe stop j qe out₀ out at to whole) where
+module _ {ks vs : List ℕ} {i pe stop j qe : ℕ} {out₀ out : List ℕ} {at to : ℕ} {whole : List ℕ} (x : Recovering ks vs i pe stop j qe out₀ out at to whole) where
   -- what is left stays as it is
-  pub recover_stays : recover_row x.left x.count x.right ≡ x.left → (out' : List ℕ) (r : ℕ)
+  pub recover_stays : recover_row x.left x.count x.right ≡ x.left → {out' : List ℕ} {r : ℕ}
       → r ≡ to + length (spelt ks vs i (pe - i)) → out' ≡ put_if out to (spelt ks vs i (pe - i)) → Put out₀ out' at r whole
-  recover_stays e out' r n w =
+  recover_stays e n w =
       let b = row_bytes ks vs i pe x.left x.held_left in
-      put_same out₀ out' at r (x.done ++ spelt ks vs i (pe - i)) whole (ap (λ (l : List ℕ). x.done ++ l) (b ∙ ap part_bytes (sym e)) ∙ sym x.same)
-      (put_then out₀ out out' at to r x.done (spelt ks vs i (pe - i)) x.put (put_one out out' to r (spelt ks vs i (pe - i)) n w))
+      put_same (ap (λ (l : List ℕ). x.done ++ l) (b ∙ ap part_bytes (sym e)) ∙ sym x.same)
+      (put_then x.put (put_one (spelt ks vs i (pe - i)) n w))
 
   pub stays_no_right : qe ≤ j → recover_row x.left x.count x.right ≡ x.left
   stays_no_right h = ap (λ (q : Parts). recover_row x.left x.count q) (row_end ks vs j qe x.right x.held_right h) ∙ stays_short x.left x.count
@@ -787,10 +842,10 @@ module _ (ks vs : List ℕ) (i pe stop j qe : ℕ) (out₀ out : List ℕ) (at t
     some_count (suc d) e = (d, refl)
 
     -- numbers in both rows: the first one's is written
-    pub recover_number : get_or ks i 0 ≡ 0 → get_or ks j 0 ≡ 0 → (out' : List ℕ) (r : ℕ)
+    pub recover_number : get_or ks i 0 ≡ 0 → get_or ks j 0 ≡ 0 → {out' : List ℕ} {r : ℕ}
         → r ≡ to + length (spelt ks vs i 1) → out' ≡ put_if out to (spelt ks vs i 1) → Recovering ks vs (i + 1) pe stop (j + 1) qe out₀ out' at r whole
     unfolding upto Subs recover_from bytes spell plain
-    recover_number p q out' r n w =
+    recover_number p q n w =
         let a = row_num ks vs i pe x.left x.held_left (omega arith) p in
         let b = row_num ks vs j qe x.right x.held_right hj q in
         let c = some_count x.count x.stops in
@@ -806,7 +861,7 @@ module _ (ks vs : List ℕ) (i pe stop j qe : ℕ) (out₀ out : List ℕ) (at t
           formed_right = subst (λ (l : Parts). Subs Formed l) b.2 x.formed_right;
           stops = omega arith;
           done = x.done ++ spelt ks vs i 1;
-          put = put_then out₀ out out' at to r x.done (spelt ks vs i 1) x.put (put_one out out' to r (spelt ks vs i 1) n w);
+          put = put_then x.put (put_one (spelt ks vs i 1) n w);
           same =
               x.same
               ∙ ap (λ (l : Parts). x.done ++ part_bytes (recover_row l x.count x.right)) a.2
@@ -835,11 +890,11 @@ module _ (ks vs : List ℕ) (i pe stop j qe : ℕ) (out₀ out : List ℕ) (at t
       pub rest_left : Subs Formed ps
       pub rest_right : Subs Formed qs
 
-    pub both_terms : (get_or ks i 0 ≡ 0 → ⊥) → (get_or ks j 0 ≡ 0 → ⊥) → Both
+    pub both_terms : (get_or ks i 0 ≡ 0 → ⊥) → ((get_or ks i 0 ≡ 0 → ⊥) → get_or ks j 0 ≡ 0 → ⊥) → Both
     unfolding Subs
     both_terms p q =
         let a = row_sub ks vs i pe x.left x.held_left (omega arith) p in
-        let b = row_sub ks vs j qe x.right x.held_right hj q in
+        let b = row_sub ks vs j qe x.right x.held_right hj (q p) in
         let c = some_count x.count x.stops in
         let f = subst (λ (l : Parts). Subs Formed l) a.2 x.formed_left in
         let g = subst (λ (l : Parts). Subs Formed l) b.2 x.formed_right in
@@ -863,10 +918,10 @@ module _ (ks vs : List ℕ) (i pe stop j qe : ℕ) (out₀ out : List ℕ) (at t
         }
 
     -- the first term recovered from the second, written
-    pub recover_both : (y : Both) (n m : ℕ) → n ≡ length (items y.t) → m ≡ length (items y.u) → (out' : List ℕ) (r : ℕ)
+    pub recover_both : (y : Both) {n m : ℕ} → n ≡ length (items y.t) → m ≡ length (items y.u) → {out' : List ℕ} {r : ℕ}
         → Put out out' to r (bytes (recover_from y.t y.u)) → Recovering ks vs (i + n) pe stop (j + m) qe out₀ out' at r whole
     unfolding upto recover_from bytes
-    recover_both y n m en em out' r w =
+    recover_both y {n} {m} en em w =
         let s : stop ≡ i + upto (suc y.count) (sub y.t y.ps) = x.stops ∙ ap (λ (k : ℕ). i + upto k x.left) y.counts ∙ ap (λ (l : Parts). i + upto (suc y.count) l) y.is_left in
         let hl = (held_sub ks vs i pe y.t y.ps y.row_left).1 in
         let hr = (held_sub ks vs j qe y.u y.qs y.row_right).1 in
@@ -881,7 +936,7 @@ module _ (ks vs : List ℕ) (i pe stop j qe : ℕ) (out₀ out : List ℕ) (at t
           formed_right = y.rest_right;
           stops = omega arith;
           done = x.done ++ z;
-          put = put_then out₀ out out' at to r x.done z x.put w;
+          put = put_then x.put w;
           same =
               x.same
               ∙ ap (λ (l : Parts). x.done ++ part_bytes (recover_row l x.count x.right)) y.is_left
@@ -898,9 +953,9 @@ module _ (ks vs : List ℕ) (i pe stop j qe : ℕ) (out₀ out : List ℕ) (at t
   stays_parted hp (term_number h k p q) = stays_terms h hp k p q
 
 -- what `skip` tells of the term that comes next
-pub told_row : (ks vs : List ℕ) (i e n : ℕ) (t : Term) (ps : Parts) → HeldParts ks vs i e (sub t ps)
+pub told_row : {ks vs : List ℕ} {i e n : ℕ} {t : Term} {ps : Parts} → HeldParts ks vs i e (sub t ps)
     → (1 ≤ span (get_or ks i 0) (get_or vs i 0) → span (get_or ks i 0) (get_or vs i 0) ≤ e - i → n ≡ span (get_or ks i 0) (get_or vs i 0)) → n ≡ length (items t)
-told_row ks vs i e n t ps h k =
+told_row {ks} {vs} {i} {e} {n} {t} {ps} h k =
     let q = held_sub ks vs i e t ps h in
     let b = row_long ks vs i e t ps h in
     let s = span_held ks vs i t q.0 in
