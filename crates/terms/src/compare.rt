@@ -6,10 +6,11 @@ ghost use Rattle.terms.specs.Formed.{Formed};
 ghost use Rattle.terms.specs.Words.TermsAtPlaces.{FormedAt};
 ghost use Rattle.terms.specs.Questions.{among};
 ghost use Rattle.terms.specs.Comparison.{conflicts_with, can_weaken_to};
+ghost use Rattle.terms.specs.Words.Lent.{Inside, NotEmpty};
 ghost use Rattle.terms.specs.Words.CompareContract.{Rows, Forward, Stepped, Passed};
 
-use super::Tokens;
 use super::runs::{same_term, skip, word};
+use super::{Part, Tokens};
 
 // Whether a term conflicts with nothing, by the kind of its first token: Inference, Unknown and Error.
 fn yields(kind: u32) -> bool
@@ -26,95 +27,90 @@ fn has_access(kind: u32) -> bool
 }
 
 // One step through two rows: a number, or a term that yields or a projection as a whole, or a node's head.
-fn pair_step(tokens: &Tokens, i: usize, ae: usize, j: usize, be: usize) -> Option<(usize, usize)>
-    requires { (i < ae) × (ae ≤ length tokens.now.kinds.now) × (j < be) × (be ≤ length tokens.now.kinds.now) }
-    ensures forward { Forward i ae j be result }
-    ensures stepped { (whole : Bool) → Rows tokens.now.kinds.now tokens.now.vals.now i ae j be whole
-        → Stepped tokens.now.kinds.now tokens.now.vals.now ae be whole result }
+fn pair_step(tokens: &Tokens, a: Part, b: Part) -> Option<(usize, usize)>
+    requires { NotEmpty tokens.now.kinds.now a × NotEmpty tokens.now.kinds.now b }
+    ensures forward { Forward a.from a.end b.from b.end result }
+    ensures stepped { (whole : Bool) → Rows tokens.now.kinds.now tokens.now.vals.now a.from a.end b.from b.end whole
+        → Stepped tokens.now.kinds.now tokens.now.vals.now a.end b.end whole result }
 {
-    let k = word(tokens.kinds, i);
-    let l = word(tokens.kinds, j);
+    let k = word(tokens.kinds, a.from);
+    let l = word(tokens.kinds, b.from);
     if k == 0 {
         if l != 0 {
             return None;
         }
-        if word(tokens.vals, i) != word(tokens.vals, j) {
+        if word(tokens.vals, a.from) != word(tokens.vals, b.from) {
             return None;
         }
-        return Some((i + 1, j + 1));
+        return Some((a.from + 1, b.from + 1));
     }
     if l == 0 {
         return None;
     }
-    pair_terms(tokens, i, ae, j, be)
+    pair_terms(tokens, a, b)
 }
 
 // The same where a term comes next in both rows.
-fn pair_terms(tokens: &Tokens, i: usize, ae: usize, j: usize, be: usize) -> Option<(usize, usize)>
-    requires { (i < ae) × (ae ≤ length tokens.now.kinds.now) × (j < be) × (be ≤ length tokens.now.kinds.now) × (0 < get_or tokens.now.kinds.now i 0)
-        × (0 < get_or tokens.now.kinds.now j 0) }
-    ensures forward { Forward i ae j be result }
-    ensures stepped { (whole : Bool) → Rows tokens.now.kinds.now tokens.now.vals.now i ae j be whole
-        → Stepped tokens.now.kinds.now tokens.now.vals.now ae be whole result }
+fn pair_terms(tokens: &Tokens, a: Part, b: Part) -> Option<(usize, usize)>
+    requires parts { NotEmpty tokens.now.kinds.now a × NotEmpty tokens.now.kinds.now b }
+    requires terms { (0 < get_or tokens.now.kinds.now a.from 0) × (0 < get_or tokens.now.kinds.now b.from 0) }
+    ensures forward { Forward a.from a.end b.from b.end result }
+    ensures stepped { (whole : Bool) → Rows tokens.now.kinds.now tokens.now.vals.now a.from a.end b.from b.end whole
+        → Stepped tokens.now.kinds.now tokens.now.vals.now a.end b.end whole result }
 {
-    let k = word(tokens.kinds, i);
-    let l = word(tokens.kinds, j);
+    let k = word(tokens.kinds, a.from);
+    let l = word(tokens.kinds, b.from);
     if yields(k) {
-        return past(tokens, i, ae, j, be);
+        return past(tokens, a, b);
     }
     if yields(l) {
-        return past(tokens, i, ae, j, be);
+        return past(tokens, a, b);
     }
     if k != l {
         return None;
     }
     if k == 20 {
-        if !same_term(tokens, i, j) {
+        if !same_term(tokens, a.from, b.from) {
             return None;
         }
-        return past(tokens, i, ae, j, be);
+        return past(tokens, a, b);
     }
-    Some((i + 1, j + 1))
+    Some((a.from + 1, b.from + 1))
 }
 
 // Past the terms that come next.
-fn past(tokens: &Tokens, i: usize, ae: usize, j: usize, be: usize) -> Option<(usize, usize)>
-    requires { (i < ae) × (ae ≤ length tokens.now.kinds.now) × (j < be) × (be ≤ length tokens.now.kinds.now) }
-    ensures forward { Forward i ae j be result }
+fn past(tokens: &Tokens, a: Part, b: Part) -> Option<(usize, usize)>
+    requires { NotEmpty tokens.now.kinds.now a × NotEmpty tokens.now.kinds.now b }
+    ensures forward { Forward a.from a.end b.from b.end result }
     ensures passed { (t u : Term) (ps qs : Parts)
-        → HeldParts tokens.now.kinds.now tokens.now.vals.now i ae (sub t ps)
-        → HeldParts tokens.now.kinds.now tokens.now.vals.now j be (sub u qs)
-        → Passed tokens.now.kinds.now tokens.now.vals.now ae ps be qs result }
+        → HeldParts tokens.now.kinds.now tokens.now.vals.now a.from a.end (sub t ps)
+        → HeldParts tokens.now.kinds.now tokens.now.vals.now b.from b.end (sub u qs)
+        → Passed tokens.now.kinds.now tokens.now.vals.now a.end ps b.end qs result }
 {
-    let n = skip(tokens, i, ae - i);
-    let m = skip(tokens, j, be - j);
-    Some((i + n, j + m))
+    let n = skip(tokens, a.from, a.end - a.from);
+    let m = skip(tokens, b.from, b.end - b.from);
+    Some((a.from + n, b.from + m))
 }
 
 // Whether two rows conflict.
-fn rows_conflict(tokens: &Tokens, a: usize, ae: usize, b: usize, be: usize) -> bool
-    requires { (a ≤ ae) × (ae ≤ length tokens.now.kinds.now) × (b ≤ be) × (be ≤ length tokens.now.kinds.now) }
-    ensures { (whole : Bool) → Rows tokens.now.kinds.now tokens.now.vals.now a ae b be whole → result ≡ whole }
+fn rows_conflict(tokens: &Tokens, a: Part, b: Part) -> bool
+    requires { Inside tokens.now.kinds.now a × Inside tokens.now.kinds.now b }
+    ensures { (whole : Bool) → Rows tokens.now.kinds.now tokens.now.vals.now a.from a.end b.from b.end whole → result ≡ whole }
 {
-    let mut i = a;
-    let mut j = b;
+    let mut x = a;
+    let mut y = b;
     // Both rows go on by the width of their own parts, so no range is counted.
-    while i < ae {
-        if be <= j {
+    while x.from < x.end {
+        if y.end <= y.from {
             return true;
         }
-        let r = pair_step(tokens, i, ae, j, be);
-        match r {
-            None => {
-                return true;
-            }
-            Some((k, l)) => {
-                i = k;
-                j = l;
-            }
-        }
+        let Some((k, l)) = pair_step(tokens, x, y) else {
+            return true;
+        };
+        x.from = k;
+        y.from = l;
     }
-    j < be
+    y.from < y.end
 }
 
 // `conflicts_with` of the terms at a and b.
@@ -130,7 +126,17 @@ pub fn conflicts_with(tokens: &Tokens, a: usize, b: usize) -> bool
 {
     let n = skip(tokens, a, tokens.kinds.len() - a);
     let m = skip(tokens, b, tokens.kinds.len() - b);
-    rows_conflict(tokens, a, a + n, b, b + m)
+    rows_conflict(
+        tokens,
+        Part {
+            from: a,
+            end: a + n,
+        },
+        Part {
+            from: b,
+            end: b + m,
+        },
+    )
 }
 
 // `can_weaken_to` of the terms at a and b: a Mutable access against one that is not, and the rest does not conflict.
@@ -165,5 +171,15 @@ pub fn can_weaken_to(tokens: &Tokens, a: usize, b: usize) -> bool
     if word(tokens.vals, b + 1) != 0 {
         return false;
     }
-    !rows_conflict(tokens, a + 2, a + n, b + 2, b + m)
+    !rows_conflict(
+        tokens,
+        Part {
+            from: a + 2,
+            end: a + n,
+        },
+        Part {
+            from: b + 2,
+            end: b + m,
+        },
+    )
 }

@@ -12,143 +12,169 @@ ghost use Rattle.terms.specs.Formed.{Formed, Fit};
 ghost use Rattle.terms.specs.Words.TermsAtPlaces.{FormedAt, RecoversAt};
 ghost use Rattle.terms.specs.Tree.{row};
 ghost use Rattle.terms.specs.Recovery.{recover_from, recover_row, reach, nominal_reach};
+ghost use Rattle.terms.specs.Words.Lent.{Inside, NotEmpty};
 ghost use Rattle.terms.specs.Words.RecoverContract.{Put, upto, alike, Paired, Parted};
 
-use super::Tokens;
 use super::questions::{tag_of, word_at};
 use super::runs::{skip, word};
 use super::write::put_run;
+use super::{Part, Tokens};
 
-// The place after n terms from i on, at most e.
-fn behind_terms(tokens: &Tokens, i: usize, e: usize, n: u32) -> usize
-    requires { (i ≤ e) × (e ≤ length tokens.now.kinds.now) }
-    ensures within { (i ≤ result) × (result ≤ e) }
-    ensures behind { (s : Shape) (ps : Parts) → HeldParts tokens.now.kinds.now tokens.now.vals.now i e ps → Fit (many_terms n s) ps → result ≡ i + upto n ps }
+// The place after the first n terms of a part, at most its end.
+fn behind_terms(tokens: &Tokens, a: Part, n: u32) -> usize
+    requires { Inside tokens.now.kinds.now a }
+    ensures within { (a.from ≤ result) × (result ≤ a.end) }
+    ensures behind { (s : Shape) (ps : Parts)
+        → HeldParts tokens.now.kinds.now tokens.now.vals.now a.from a.end ps → Fit (many_terms n s) ps → result ≡ a.from + upto n ps }
 {
-    let mut p = i;
+    let mut p = a.from;
     for k in 0..n {
-        if e <= p {
+        if a.end <= p {
             return p;
         }
-        p += skip(tokens, p, e - p);
+        p += skip(tokens, p, a.end - p);
     }
     p
 }
 
-// Whether the rows from i up to ae and from j up to be both go on with a number, or both with a term.
-fn paired(kinds: &[u32], i: usize, ae: usize, j: usize, be: usize) -> bool
-    requires { (ae ≤ length kinds.now) × (be ≤ length kinds.now) }
-    ensures on { result ≡ true → Paired kinds.now i ae j be }
-    ensures off { result ≡ false → Parted kinds.now i ae j be }
+// Whether two rows both go on with a number, or both with a term.
+fn paired(kinds: &[u32], a: Part, b: Part) -> bool
+    requires { (a.end ≤ length kinds.now) × (b.end ≤ length kinds.now) }
+    ensures on { result ≡ true → Paired kinds.now a.from a.end b.from b.end }
+    ensures off { result ≡ false → Parted kinds.now a.from a.end b.from b.end }
 {
-    if ae <= i {
+    if a.end <= a.from {
         return false;
     }
-    if be <= j {
+    if b.end <= b.from {
         return false;
     }
-    if word(kinds, i) == 0 {
-        return word(kinds, j) == 0;
+    if word(kinds, a.from) == 0 {
+        return word(kinds, b.from) == 0;
     }
-    word(kinds, j) != 0
+    word(kinds, b.from) != 0
 }
 
 // Whether two rows have the same numbers at the same places.
-fn alike_rows(tokens: &Tokens, a: usize, ae: usize, b: usize, be: usize) -> bool
-    requires { (a ≤ ae) × (ae ≤ length tokens.now.kinds.now) × (b ≤ be) × (be ≤ length tokens.now.kinds.now) }
+fn alike_rows(tokens: &Tokens, a: Part, b: Part) -> bool
+    requires { Inside tokens.now.kinds.now a × Inside tokens.now.kinds.now b }
     ensures { (ps qs : Parts)
-        → HeldParts tokens.now.kinds.now tokens.now.vals.now a ae ps
-        → HeldParts tokens.now.kinds.now tokens.now.vals.now b be qs
+        → HeldParts tokens.now.kinds.now tokens.now.vals.now a.from a.end ps
+        → HeldParts tokens.now.kinds.now tokens.now.vals.now b.from b.end qs
         → result ≡ alike ps qs }
 {
-    let mut i = a;
-    let mut j = b;
+    let mut x = a;
+    let mut y = b;
     // Both rows go on by the width of their own parts, so no range is counted.
-    while paired(tokens.kinds, i, ae, j, be) {
-        if word(tokens.kinds, i) == 0 {
-            if word(tokens.vals, i) != word(tokens.vals, j) {
+    while paired(tokens.kinds, x, y) {
+        if word(tokens.kinds, x.from) == 0 {
+            if word(tokens.vals, x.from) != word(tokens.vals, y.from) {
                 return false;
             }
-            i += 1;
-            j += 1;
+            x.from += 1;
+            y.from += 1;
         } else {
-            i += skip(tokens, i, ae - i);
-            j += skip(tokens, j, be - j);
+            x.from += skip(tokens, x.from, x.end - x.from);
+            y.from += skip(tokens, y.from, y.end - y.from);
         }
     }
-    if i < ae {
+    if x.from < x.end {
         return false;
     }
-    be <= j
+    y.end <= y.from
 }
 
-// How far the row of the nominal at p is recovered from the one at q, as a place.
-fn nominal_reach(tokens: &Tokens, p: usize, pe: usize, q: usize, qe: usize) -> usize
-    requires { (p < pe) × (pe ≤ length tokens.now.kinds.now) × (q < qe) × (qe ≤ length tokens.now.kinds.now) }
-    ensures within { (p < result) × (result ≤ pe) }
+// How far the row of a nominal is recovered from another, as a place.
+fn nominal_reach(tokens: &Tokens, a: Part, b: Part) -> usize
+    requires { NotEmpty tokens.now.kinds.now a × NotEmpty tokens.now.kinds.now b }
+    ensures within { (a.from < result) × (result ≤ a.end) }
     ensures reached { (k j : ℕ) (ps qs : Parts)
         → (k ≡ 1 → ⊥)
         → (j ≡ 1 → ⊥)
-        → HeldParts tokens.now.kinds.now tokens.now.vals.now p pe (sub (node k ps) end)
-        → HeldParts tokens.now.kinds.now tokens.now.vals.now q qe (sub (node j qs) end)
+        → HeldParts tokens.now.kinds.now tokens.now.vals.now a.from a.end (sub (node k ps) end)
+        → HeldParts tokens.now.kinds.now tokens.now.vals.now b.from b.end (sub (node j qs) end)
         → Fit (nominal done) ps
         → Fit (nominal done) qs
-        → result ≡ p + 1 + upto (nominal_reach ps qs) ps }
+        → result ≡ a.from + 1 + upto (nominal_reach ps qs) ps }
 {
-    if word_at(tokens.vals, p + 1, pe) != word_at(tokens.vals, q + 1, qe) {
-        return p + 1;
+    if word_at(tokens.vals, a.from + 1, a.end) != word_at(tokens.vals, b.from + 1, b.end) {
+        return a.from + 1;
     }
-    let n = word_at(tokens.vals, p + 2, pe);
-    if n != word_at(tokens.vals, q + 2, qe) {
-        return p + 1;
+    let n = word_at(tokens.vals, a.from + 2, a.end);
+    if n != word_at(tokens.vals, b.from + 2, b.end) {
+        return a.from + 1;
     }
-    if pe - p < 3 {
-        return p + 1;
+    if a.end - a.from < 3 {
+        return a.from + 1;
     }
-    if qe - q < 3 {
-        return p + 1;
+    if b.end - b.from < 3 {
+        return a.from + 1;
     }
-    let i = behind_terms(tokens, p + 3, pe, n);
-    let j = behind_terms(tokens, q + 3, qe, n);
-    if alike_rows(tokens, i, pe, j, qe) {
-        return pe;
+    let i = behind_terms(
+        tokens,
+        Part {
+            from: a.from + 3,
+            end: a.end,
+        },
+        n,
+    );
+    let j = behind_terms(
+        tokens,
+        Part {
+            from: b.from + 3,
+            end: b.end,
+        },
+        n,
+    );
+    if alike_rows(
+        tokens,
+        Part {
+            from: i,
+            end: a.end,
+        },
+        Part {
+            from: j,
+            end: b.end,
+        },
+    ) {
+        return a.end;
     }
     i
 }
 
-// How far the row of the term at p is recovered from the one at q, as a place.
-fn reach_end(tokens: &Tokens, p: usize, pe: usize, q: usize, qe: usize) -> usize
-    requires { (p < pe) × (pe ≤ length tokens.now.kinds.now) × (q < qe) × (qe ≤ length tokens.now.kinds.now) }
-    ensures within { (p < result) × (result ≤ pe) }
+// How far the row of a term is recovered from another, as a place.
+fn reach_end(tokens: &Tokens, a: Part, b: Part) -> usize
+    requires { NotEmpty tokens.now.kinds.now a × NotEmpty tokens.now.kinds.now b }
+    ensures within { (a.from < result) × (result ≤ a.end) }
     ensures reached { (t u : Term)
-        → HeldParts tokens.now.kinds.now tokens.now.vals.now p pe (sub t end)
-        → HeldParts tokens.now.kinds.now tokens.now.vals.now q qe (sub u end)
+        → HeldParts tokens.now.kinds.now tokens.now.vals.now a.from a.end (sub t end)
+        → HeldParts tokens.now.kinds.now tokens.now.vals.now b.from b.end (sub u end)
         → Formed t
         → Formed u
-        → result ≡ p + 1 + upto (reach t u) (row t) }
+        → result ≡ a.from + 1 + upto (reach t u) (row t) }
 {
-    let k = tag_of(word(tokens.kinds, p));
-    if k != tag_of(word(tokens.kinds, q)) {
-        return p + 1;
+    let k = tag_of(word(tokens.kinds, a.from));
+    if k != tag_of(word(tokens.kinds, b.from)) {
+        return a.from + 1;
     }
     match k {
-        7 | 9 | 10 | 11 => pe,
-        0 | 5 | 6 | 8 => first_reach(tokens.vals, p, pe, q, qe),
-        12..=15 => nominal_reach(tokens, p, pe, q, qe),
-        _ => p + 1,
+        7 | 9 | 10 | 11 => a.end,
+        0 | 5 | 6 | 8 => first_reach(tokens.vals, a, b),
+        12..=15 => nominal_reach(tokens, a, b),
+        _ => a.from + 1,
     }
 }
 
 // The whole row where the first numbers agree.
-fn first_reach(vals: &[u32], p: usize, pe: usize, q: usize, qe: usize) -> usize
-    requires { (p < pe) × (pe ≤ length vals.now) × (q < qe) × (qe ≤ length vals.now) }
-    ensures within { (p < result) × (result ≤ pe) }
-    ensures told { result ≡ pick (eqb (word vals.now (p + 1) pe) (word vals.now (q + 1) qe)) pe (p + 1) }
+fn first_reach(vals: &[u32], a: Part, b: Part) -> usize
+    requires { NotEmpty vals.now a × NotEmpty vals.now b }
+    ensures within { (a.from < result) × (result ≤ a.end) }
+    ensures told { result ≡ pick (eqb (word vals.now (a.from + 1) a.end) (word vals.now (b.from + 1) b.end)) a.end (a.from + 1) }
 {
-    if word_at(vals, p + 1, pe) == word_at(vals, q + 1, qe) {
-        return pe;
+    if word_at(vals, a.from + 1, a.end) == word_at(vals, b.from + 1, b.end) {
+        return a.end;
     }
-    p + 1
+    a.from + 1
 }
 
 // Whether a term is filled from another, by its tag: Unknown and Error.
@@ -165,80 +191,87 @@ fn stays(k: u32, l: u32) -> bool
     is_hole(l) || k == 1
 }
 
-// Writes the term at p with its holes filled from the term at q where it fits, and returns the position after it.
+// Writes a term with its holes filled from another where it fits, and returns the position after it.
 #[cycle(recovering)]
-fn recover_term(
-    tokens: &Tokens,
-    p: usize,
-    pe: usize,
-    q: usize,
-    qe: usize,
-    out: &mut [u8],
-    at: usize,
-) -> usize
-    requires places { (p < pe) × (pe ≤ length tokens.now.kinds.now) × (q < qe) × (qe ≤ length tokens.now.kinds.now) }
-    requires room { at + 6 * (pe - p) + 6 * (qe - q) < 2 ^ 64 }
-    ensures bound { (at ≤ result) × (result ≤ at + 6 * (pe - p) + 6 * (qe - q)) }
+fn recover_term(tokens: &Tokens, a: Part, b: Part, out: &mut [u8], at: usize) -> usize
+    requires places { NotEmpty tokens.now.kinds.now a × NotEmpty tokens.now.kinds.now b }
+    requires room { at + 6 * (a.end - a.from) + 6 * (b.end - b.from) < 2 ^ 64 }
+    ensures bound { (at ≤ result) × (result ≤ at + 6 * (a.end - a.from) + 6 * (b.end - b.from)) }
     ensures put { (t u : Term)
-        → HeldParts tokens.now.kinds.now tokens.now.vals.now p pe (sub t end)
-        → HeldParts tokens.now.kinds.now tokens.now.vals.now q qe (sub u end)
+        → HeldParts tokens.now.kinds.now tokens.now.vals.now a.from a.end (sub t end)
+        → HeldParts tokens.now.kinds.now tokens.now.vals.now b.from b.end (sub u end)
         → Formed t
         → Formed u
         → Put out.old out.new at result (bytes (recover_from t u)) }
 {
-    let k = tag_of(word(tokens.kinds, p));
-    if stays(k, tag_of(word(tokens.kinds, q))) {
-        return put_run(tokens.kinds, tokens.vals, p, pe - p, out, at);
+    let k = tag_of(word(tokens.kinds, a.from));
+    if stays(k, tag_of(word(tokens.kinds, b.from))) {
+        return put_run(tokens.kinds, tokens.vals, a.from, a.end - a.from, out, at);
     }
     if is_hole(k) {
-        return put_run(tokens.kinds, tokens.vals, q, qe - q, out, at);
+        return put_run(tokens.kinds, tokens.vals, b.from, b.end - b.from, out, at);
     }
-    let stop = reach_end(tokens, p, pe, q, qe);
-    let next = put_run(tokens.kinds, tokens.vals, p, 1, out, at);
-    recover_row(tokens, p + 1, pe, stop, q + 1, qe, out, next)
+    let stop = reach_end(tokens, a, b);
+    let next = put_run(tokens.kinds, tokens.vals, a.from, 1, out, at);
+    recover_row(
+        tokens,
+        Part {
+            from: a.from + 1,
+            end: a.end,
+        },
+        stop,
+        Part {
+            from: b.from + 1,
+            end: b.end,
+        },
+        out,
+        next,
+    )
 }
 
-// The same of the row from p up to pe, as far as `stop`, from the row at q; the rest is written as it stands.
+// The same of a row as far as `stop`, from another row; the rest is written as it stands.
 #[cycle(recovering)]
-fn recover_row(
-    tokens: &Tokens,
-    p: usize,
-    pe: usize,
-    stop: usize,
-    q: usize,
-    qe: usize,
-    out: &mut [u8],
-    at: usize,
-) -> usize
-    requires places { (p ≤ stop) × (stop ≤ pe) × (pe ≤ length tokens.now.kinds.now) × (q ≤ qe) × (qe ≤ length tokens.now.kinds.now) }
-    requires room { at + 6 * (pe - p) + 6 * (qe - q) < 2 ^ 64 }
-    ensures bound { (at ≤ result) × (result ≤ at + 6 * (pe - p) + 6 * (qe - q)) }
+fn recover_row(tokens: &Tokens, a: Part, stop: usize, b: Part, out: &mut [u8], at: usize) -> usize
+    requires places { (a.from ≤ stop) × (stop ≤ a.end) × (a.end ≤ length tokens.now.kinds.now) × Inside tokens.now.kinds.now b }
+    requires room { at + 6 * (a.end - a.from) + 6 * (b.end - b.from) < 2 ^ 64 }
+    ensures bound { (at ≤ result) × (result ≤ at + 6 * (a.end - a.from) + 6 * (b.end - b.from)) }
     ensures put { (c : ℕ) (ps qs : Parts)
-        → HeldParts tokens.now.kinds.now tokens.now.vals.now p pe ps
-        → HeldParts tokens.now.kinds.now tokens.now.vals.now q qe qs
+        → HeldParts tokens.now.kinds.now tokens.now.vals.now a.from a.end ps
+        → HeldParts tokens.now.kinds.now tokens.now.vals.now b.from b.end qs
         → Subs Formed ps
         → Subs Formed qs
-        → stop ≡ p + upto c ps
+        → stop ≡ a.from + upto c ps
         → Put out.old out.new at result (part_bytes (recover_row ps c qs)) }
 {
-    let mut i = p;
-    let mut j = q;
+    let mut x = Part {
+        from: a.from,
+        end: stop,
+    };
+    let mut y = b;
     let mut to = at;
     // Both rows go on by the width of their own parts, so no range is counted.
-    while paired(tokens.kinds, i, stop, j, qe) {
-        if word(tokens.kinds, i) == 0 {
-            to = put_run(tokens.kinds, tokens.vals, i, 1, out, to);
-            i += 1;
-            j += 1;
+    while paired(tokens.kinds, x, y) {
+        if word(tokens.kinds, x.from) == 0 {
+            to = put_run(tokens.kinds, tokens.vals, x.from, 1, out, to);
+            x.from += 1;
+            y.from += 1;
         } else {
-            let n = skip(tokens, i, pe - i);
-            let m = skip(tokens, j, qe - j);
-            to = recover_term(tokens, i, i + n, j, j + m, out, to);
-            i += n;
-            j += m;
+            let n = skip(tokens, x.from, a.end - x.from);
+            let m = skip(tokens, y.from, y.end - y.from);
+            let t = Part {
+                from: x.from,
+                end: x.from + n,
+            };
+            let u = Part {
+                from: y.from,
+                end: y.from + m,
+            };
+            to = recover_term(tokens, t, u, out, to);
+            x.from += n;
+            y.from += m;
         }
     }
-    put_run(tokens.kinds, tokens.vals, i, pe - i, out, to)
+    put_run(tokens.kinds, tokens.vals, x.from, a.end - x.from, out, to)
 }
 
 // How many bytes `recover_from` of the terms at a and b has: where writing from 0 on ends, on an output of one byte.
@@ -256,7 +289,19 @@ pub fn recovered_len(tokens: &Tokens, a: usize, b: usize) -> usize
     let n = skip(tokens, a, tokens.kinds.len() - a);
     let m = skip(tokens, b, tokens.kinds.len() - b);
     let mut none = [0u8; 1];
-    recover_term(tokens, a, a + n, b, b + m, &mut none, 0)
+    recover_term(
+        tokens,
+        Part {
+            from: a,
+            end: a + n,
+        },
+        Part {
+            from: b,
+            end: b + m,
+        },
+        &mut none,
+        0,
+    )
 }
 
 // Writes `recover_from` of the terms at a and b, for which there is room, and returns the position after it.
@@ -273,5 +318,17 @@ pub fn write_recovered(tokens: &Tokens, a: usize, b: usize, out: &mut [u8], at: 
 {
     let n = skip(tokens, a, tokens.kinds.len() - a);
     let m = skip(tokens, b, tokens.kinds.len() - b);
-    recover_term(tokens, a, a + n, b, b + m, out, at)
+    recover_term(
+        tokens,
+        Part {
+            from: a,
+            end: a + n,
+        },
+        Part {
+            from: b,
+            end: b + m,
+        },
+        out,
+        at,
+    )
 }

@@ -234,12 +234,12 @@ module _ {ks vs : List ℕ} {i ae j be : ℕ} {whole : Bool} (x : Rows ks vs i a
       }
 
 module _ {ks vs : List ℕ} {i ae j be : ℕ} {whole : Bool} (x : Rows ks vs i ae j be whole)
-    (r : (i < ae) × (ae ≤ length ks) × (j < be) × (be ≤ length ks) × (0 < get_or ks i 0) × (0 < get_or ks j 0)) where
+    (m : i < ae) (n : j < be) (r : (0 < get_or ks i 0) × (0 < get_or ks j 0)) where
   pub next_terms : Terms ks vs i ae j be whole
   unfolding conflicts_with Fit
   next_terms =
-      let a = row_sub ks vs i ae x.left x.held_left r.0 (λ e. omega (arith, r.4)) in
-      let b = row_sub ks vs j be x.right x.held_right r.2 (λ e. omega (arith, r.5)) in
+      let a = row_sub ks vs i ae x.left x.held_left m (λ e. omega (arith, r.0)) in
+      let b = row_sub ks vs j be x.right x.held_right n (λ e. omega (arith, r.1)) in
       let f = subst (λ (y : Parts). Fit x.shape y) a.2 x.fit_left in
       let g = subst (λ (y : Parts). Fit x.shape y) b.2 x.fit_right in
       record {

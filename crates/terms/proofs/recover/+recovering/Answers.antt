@@ -10,39 +10,40 @@ use mathlib.Core.Path.{sym, ◌∙◌, ap}
 use native.Mathlib.Omega.{arith}
 use Rattle.terms.proofs.recover.+recovering.Goals as goal
 
-pub recover_row-loop-out-preserved-then-word-eq0 : goal.recover_row-loop-out-preserved-then-word-eq0
-recover_row-loop-out-preserved-then-word-eq0 t c =
-    let i = c.loop-out.invariant in
-    let on = c.paired.ensures.on c.loop-out-test.true in
+pub recover_row-loop-y-preserved-then-word-eq0 : goal.recover_row-loop-y-preserved-then-word-eq0
+recover_row-loop-y-preserved-then-word-eq0 t c =
+    let i = c.loop-y.invariant in
+    let on = c.paired.ensures.on c.loop-y-test.true in
     let zero = sym c.word.ensures ∙ c.if-word-eq0.true in (
       omega (arith, on, i.0, i.1, i.2, c.requires.places),
       omega (arith, on, i.0, i.1, i.2, c.requires.places),
       omega (arith, on, c.put_run-to.ensures.bound, i.0, i.1, i.2),
       λ k ps qs hp hq fp fq e.
-          recover_number (i.3 k ps qs hp hq fp fq e) on.left c.requires.places.1 on.right zero (on.number zero) c.put_run-to.ensures.next c.put_run-to.ensures.put,
+          recover_number (i.3 k ps qs hp hq fp fq e) on.left i.0.2 on.right zero (on.number zero) c.put_run-to.ensures.next c.put_run-to.ensures.put,
     )
 
-pub recover_row-loop-out-preserved : goal.recover_row-loop-out-preserved
-recover_row-loop-out-preserved t c =
-    let i = c.loop-out.invariant in
-    let on = c.paired.ensures.on c.loop-out-test.true in (
+pub recover_row-loop-y-preserved : goal.recover_row-loop-y-preserved
+recover_row-loop-y-preserved t c =
+    let i = c.loop-y.invariant in
+    let on = c.paired.ensures.on c.loop-y-test.true in (
       omega (arith, on, i.0, i.1, i.2, c.requires.places, c.skip-n.ensures.some.0, c.skip-n.ensures.some.1),
       omega (arith, on, i.0, i.1, i.2, c.requires.places, c.skip-m.ensures.some.0, c.skip-m.ensures.some.1),
       omega (arith, on, i.0, i.1, i.2, c.recover_term-to.ensures.bound, c.skip-n.ensures.some.0, c.skip-m.ensures.some.0),
       λ k ps qs hp hq fp fq e.
           let x = i.3 k ps qs hp hq fp fq e in
-          let y = both_terms x on.left c.requires.places.1 on.right (λ z. c.if-word-eq0.false (c.word.ensures ∙ z)) on.term in
+          let y = both_terms x on.left i.0.2 on.right (λ z. c.if-word-eq0.false (c.word.ensures ∙ z)) on.term in
           let n = told_row y.row_left c.skip-n.ensures.span in
           let m = told_row y.row_right c.skip-m.ensures.span in
-          recover_both x on.left c.requires.places.1 on.right y n m
+          recover_both x on.left i.0.2 on.right y n m
           (c.recover_term-to.ensures.put y.t y.u (held_one _ _ _ _ y.t y.held_left n) (held_one _ _ _ _ y.u y.held_right m) y.formed_left y.formed_right),
     )
 
 pub recover_row-returns-clause-put : goal.recover_row-returns-clause-put
 recover_row-returns-clause-put t c =
     λ k ps qs hp hq fp fq e.
-    let x = c.loop-out.invariant.3 k ps qs hp hq fp fq e in
-    recover_stays x (stays_parted x c.requires.places.1 (c.paired.ensures.off c.loop-out-test.false)) c.put_run.ensures.next c.put_run.ensures.put
+    let i = c.loop-y.invariant in
+    let x = i.3 k ps qs hp hq fp fq e in
+    recover_stays x (stays_parted x i.0.2 (c.paired.ensures.off c.loop-y-test.false)) c.put_run.ensures.next c.put_run.ensures.put
 
 pub recover_term-returns-then-stays-clause-put : goal.recover_term-returns-then-stays-clause-put
 recover_term-returns-then-stays-clause-put t c =

@@ -10,15 +10,15 @@ use mathlib.Core.Path.{◌≡◌}
 use Rattle.terms.proofs.recover.+recovering.Given as goal
 
 abbrev pub decreases-recover_row : goal.decreases-recover_row
-decreases-recover_row l = 2 * (l.pe - l.p) + 1
+decreases-recover_row l = 2 * (l.a.end - l.a.from) + 1
 
 abbrev pub decreases-recover_term : goal.decreases-recover_term
-decreases-recover_term l = 2 * (l.pe - l.p)
+decreases-recover_term l = 2 * (l.a.end - l.a.from)
 
-abbrev pub invariant-recover_row-loop-out : goal.invariant-recover_row-loop-out
-invariant-recover_row-loop-out l =
-    ((l.p ≤ l.i) × (l.i ≤ l.pe)) × ((l.q ≤ l.j) × (l.j ≤ l.qe)) × ((l.at ≤ l.to) × (l.to + 6 * l.p + 6 * l.q ≤ l.at + 6 * l.i + 6 * l.j) × (length l.out ≡ length l.initial.out))
-    × ((k : ℕ) (ps qs : Parts) → HeldParts l.tokens.kinds.now l.tokens.vals.now l.p l.pe ps → HeldParts l.tokens.kinds.now l.tokens.vals.now l.q l.qe qs → Subs Formed ps → Subs Formed qs → l.stop ≡ l.p + upto k ps → Recovering l.tokens.kinds.now l.tokens.vals.now l.i l.pe l.stop l.j l.qe l.initial.out l.out l.at l.to (part_bytes (recover_row ps k qs)))
+abbrev pub invariant-recover_row-loop-y : goal.invariant-recover_row-loop-y
+invariant-recover_row-loop-y l =
+    ((l.a.from ≤ l.x.from) × (l.x.from ≤ l.a.end) × (l.x.end ≤ l.a.end)) × ((l.fn.b.from ≤ l.y.from) × (l.y.from ≤ l.y.end) × (l.y.end ≤ l.fn.b.end)) × ((l.fn.at ≤ l.to) × (l.to + 6 * l.a.from + 6 * l.fn.b.from ≤ l.fn.at + 6 * l.x.from + 6 * l.y.from) × (length l.out ≡ length l.initial.out))
+    × ((k : ℕ) (ps qs : Parts) → HeldParts l.tokens.kinds.now l.tokens.vals.now l.a.from l.a.end ps → HeldParts l.tokens.kinds.now l.tokens.vals.now l.fn.b.from l.fn.b.end qs → Subs Formed ps → Subs Formed qs → l.fn.stop ≡ l.a.from + upto k ps → Recovering l.tokens.kinds.now l.tokens.vals.now l.x.from l.a.end l.x.end l.y.from l.y.end l.initial.out l.out l.fn.at l.to (part_bytes (recover_row ps k qs)))
 
-abbrev pub decreases-recover_row-loop-out : goal.decreases-recover_row-loop-out
-decreases-recover_row-loop-out l = l.pe - l.i
+abbrev pub decreases-recover_row-loop-y : goal.decreases-recover_row-loop-y
+decreases-recover_row-loop-y l = l.a.end - l.x.from

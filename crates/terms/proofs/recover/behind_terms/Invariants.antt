@@ -10,4 +10,4 @@ use Rattle.terms.proofs.recover.behind_terms.Given as goal
 
 abbrev pub invariant-loop-k : goal.invariant-loop-k
 invariant-loop-k l =
-    (l.i ≤ l.p) × (l.p ≤ l.e) × ((s : Shape) (ps : Parts) → HeldParts l.tokens.kinds.now l.tokens.vals.now l.i l.e ps → Fit (many_terms l.n s) ps → Behind l.tokens.kinds.now l.tokens.vals.now l.p l.e (l.n - l.k) s (l.i + upto l.n ps))
+    (l.a.from ≤ l.p) × (l.p ≤ l.a.end) × ((s : Shape) (ps : Parts) → HeldParts l.tokens.kinds.now l.tokens.vals.now l.a.from l.a.end ps → Fit (many_terms l.n s) ps → Behind l.tokens.kinds.now l.tokens.vals.now l.p l.a.end (l.n - l.k) s (l.a.from + upto l.n ps))

@@ -13,17 +13,17 @@ returns-then-n-word_at-clause-reached c =
     λ k j ps qs d e hp hq f g.
     counts_differ (nominal_at hp d f) (nominal_at hq e g) c.word_at.ensures c.word_at-2.ensures c.word_at-n.ensures c.word_at-3.ensures c.if-n-word_at.true
 
-pub returns-then-pe-p-lt3-clause-reached : goal.returns-then-pe-p-lt3-clause-reached
-returns-then-pe-p-lt3-clause-reached c =
+pub returns-then-a-lt3-clause-reached : goal.returns-then-a-lt3-clause-reached
+returns-then-a-lt3-clause-reached c =
     λ k j ps qs d e hp hq f g.
     let a = nominal_at hp d f in
-    absurd (omega (arith, a.rest.ends, a.rest.within, c.if-pe-p-lt3.true))
+    absurd (omega (arith, a.rest.ends, a.rest.within, c.if-a-lt3.true))
 
-pub returns-then-qe-q-lt3-clause-reached : goal.returns-then-qe-q-lt3-clause-reached
-returns-then-qe-q-lt3-clause-reached c =
+pub returns-then-b-lt3-clause-reached : goal.returns-then-b-lt3-clause-reached
+returns-then-b-lt3-clause-reached c =
     λ k j ps qs d e hp hq f g.
     let b = nominal_at hq e g in
-    absurd (omega (arith, b.rest.ends, b.rest.within, c.if-qe-q-lt3.true))
+    absurd (omega (arith, b.rest.ends, b.rest.within, c.if-b-lt3.true))
 
 pub returns-then-alike_rows-clause-reached : goal.returns-then-alike_rows-clause-reached
 returns-then-alike_rows-clause-reached c =
