@@ -43,14 +43,13 @@ returns-in_err-w-clause-walks t c =
     rw c.from_residual-in_err-w.ensures
     (λ S t look b w z.
     let o = c.in_ok-o.ensures.opens.done S t b w in
-    walking_over _ _ _ _ _ _ _ _ _ _ _ _ _ _ _ _ _ _ _ _ _ c.loop-j.invariant c.loop-j-test.true _ c.slot.ensures.0 c.slot.ensures.1 c.in_err-w.ensures.walks
-    S t look b o (order-of _ _ c.args.rules.now _ _ _ _ _ S c.args.x _ _ _ _ _ t w o c.in_ok-o.ensures.ordered) z (omega (arith, c.if-levels-eq0.false)))
+    walking_over c.loop-j.invariant c.loop-j-test.true c.slot.ensures.0 c.slot.ensures.1 c.in_err-w.ensures.walks
+    S t look b o (order-of c.args.x w o c.in_ok-o.ensures.ordered) z (omega (arith, c.if-levels-eq0.false)))
 
 pub loop-j-preserved : goal.loop-j-preserved
 loop-j-preserved t c =
     let walk' = c.in_ok-w in
-    walking_next _ _ _ _ _ _ _ _ _ _ _ _ _ _ _ _ _ _ _ _ _ c.loop-j.invariant
-    c.loop-j-test.true _ c.slot.ensures.0 c.slot.ensures.1
+    walking_next c.loop-j.invariant c.loop-j-test.true c.slot.ensures.0 c.slot.ensures.1
     (omega (arith, c.requires.room.heads, c.in_ok-o.ensures.opens.frames.heads.long, c.loop-j.invariant.frames.heads.long)) (omega (
       arith,
       c.requires.room.kids,
@@ -60,28 +59,26 @@ loop-j-preserved t c =
 
 pub returns-then-o-ne18-clause-walks : goal.returns-then-o-ne18-clause-walks
 returns-then-o-ne18-clause-walks t c =
-    walks_kept _ _ _ _ c.args.heads.now c.args.kids.now _ _ _ _ c.args.x _ _ _ _ _ _ _ _ _ _ _ _ _ c.loop-j.invariant c.loop-j-test.false (omega (arith,
-    c.if-levels-eq0.false)) c.own_len-size.ensures.own (omega (arith, c.own_len-size.ensures.bound, c.in_ok-o.ensures.opens.bound, c.requires.room.small))
-    c.in_ok-o.ensures.opens.done c.in_ok-o.ensures.ordered _ refl (λ S t look w d z. replace_other (look_by look) t (λ e. c.if-o-ne18.true
-    (c.in_ok-o.ensures.tagged.is _ _ S _ t w ∙ e))) _ c.result-then-o-ne18.ensures
+    walks_kept c.args.x c.loop-j.invariant c.loop-j-test.false (omega (arith, c.if-levels-eq0.false)) c.own_len-size.ensures.own
+    (omega (arith, c.own_len-size.ensures.bound, c.in_ok-o.ensures.opens.bound, c.requires.room.small)) c.in_ok-o.ensures.opens.done c.in_ok-o.ensures.ordered _
+    refl (λ S t look w d z. replace_other (look_by look) t (λ e. c.if-o-ne18.true (c.in_ok-o.ensures.tagged.is _ _ S _ t w ∙ e))) _ c.result-then-o-ne18.ensures
 
 pub returns-in_default-clause-walks : goal.returns-in_default-clause-walks
 returns-in_default-clause-walks t c =
-    walks_kept _ _ _ _ c.args.heads.now c.args.kids.now _ _ _ _ c.args.x _ _ _ _ _ _ _ _ _ _ _ _ _ c.loop-j.invariant c.loop-j-test.false (omega (arith,
-    c.if-levels-eq0.false)) c.own_len-size.ensures.own (omega (arith, c.own_len-size.ensures.bound, c.in_ok-o.ensures.opens.bound, c.requires.room.small))
-    c.in_ok-o.ensures.opens.done c.in_ok-o.ensures.ordered _ refl (λ S t look w d z. rw c.in_default.is at (c.replace-f.ensures S t look w d z)) _
-    c.result-in_default.ensures
+    walks_kept c.args.x c.loop-j.invariant c.loop-j-test.false (omega (arith, c.if-levels-eq0.false)) c.own_len-size.ensures.own
+    (omega (arith, c.own_len-size.ensures.bound, c.in_ok-o.ensures.opens.bound, c.requires.room.small)) c.in_ok-o.ensures.opens.done c.in_ok-o.ensures.ordered _
+    refl (λ S t look w d z. rw c.in_default.is at (c.replace-f.ensures S t look w d z)) _ c.result-in_default.ensures
 
 pub returns-then-same_trees-clause-walks : goal.returns-then-same_trees-clause-walks
 returns-then-same_trees-clause-walks t c =
-    walks_itself _ _ _ _ c.args.heads.now c.args.kids.now _ _ _ _ c.args.x _ _ _ _ _ _ _ _ _ _ _ _ _ c.loop-j.invariant c.loop-j-test.false (omega (arith,
-    c.if-levels-eq0.false)) c.own_len-size.ensures.own (omega (arith, c.own_len-size.ensures.bound, c.in_ok-o.ensures.opens.bound, c.requires.room.small))
-    c.in_ok-o.ensures.opens.done c.in_ok-o.ensures.ordered _ refl _ (λ S t look w d z. rw c.in-Some.is at (c.replace-f.ensures S t look w d z))
-    c.requires.room.sight (c.same_trees.ensures.yes c.if-same_trees.true) _ refl refl _ c.result-then-same_trees.ensures
+    walks_itself c.args.x c.loop-j.invariant c.loop-j-test.false (omega (arith, c.if-levels-eq0.false)) c.own_len-size.ensures.own
+    (omega (arith, c.own_len-size.ensures.bound, c.in_ok-o.ensures.opens.bound, c.requires.room.small)) c.in_ok-o.ensures.opens.done c.in_ok-o.ensures.ordered _
+    refl _ (λ S t look w d z. rw c.in-Some.is at (c.replace-f.ensures S t look w d z)) c.requires.room.sight (c.same_trees.ensures.yes c.if-same_trees.true) _
+    refl refl _ c.result-then-same_trees.ensures
 
 pub returns-clause-walks : goal.returns-clause-walks
 returns-clause-walks t c =
-    walks_followed _ _ _ _ c.args.heads.now c.args.kids.now _ _ _ _ c.args.x _ _ _ _ _ _ _ _ _ _ _ _ _ c.loop-j.invariant c.loop-j-test.false (omega (arith,
-    c.if-levels-eq0.false)) c.own_len-size.ensures.own (omega (arith, c.own_len-size.ensures.bound, c.in_ok-o.ensures.opens.bound, c.requires.room.small))
-    c.in_ok-o.ensures.opens.done c.in_ok-o.ensures.ordered _ refl _ (λ S t look w d z. rw c.in-Some.is at (c.replace-f.ensures S t look w d z))
-    (c.same_trees.ensures.no c.if-same_trees.false) _ _ c.walk-2.result c.walk-2.ensures.walks 
+    walks_followed c.args.x c.loop-j.invariant c.loop-j-test.false (omega (arith, c.if-levels-eq0.false)) c.own_len-size.ensures.own
+    (omega (arith, c.own_len-size.ensures.bound, c.in_ok-o.ensures.opens.bound, c.requires.room.small)) c.in_ok-o.ensures.opens.done c.in_ok-o.ensures.ordered _
+    refl _ (λ S t look w d z. rw c.in-Some.is at (c.replace-f.ensures S t look w d z)) (c.same_trees.ensures.no c.if-same_trees.false) _ _ c.walk-2.result
+    c.walk-2.ensures.walks
