@@ -28,7 +28,7 @@ use Rattle.std.specs.Result.{result_ok}
 
 -- ---- pairs of a member and a term
 
-module _ {A : Type 0} (ks vs : List ℕ) (p n e : ℕ) (rest : Parts) (f : List ℕ → List Term → A) (whole : A) where
+module _ {A : Type 0} {ks vs : List ℕ} {p n e : ℕ} {rest : Parts} {f : List ℕ → List Term → A} {whole : A} where
   pub next_pair : Pairs ks vs p n e rest f whole → 0 < n → Next-pair ks vs p n e rest f whole
   unfolding put_members Subs
   next_pair x h = go x.members x.values x.held x.formed x.many x.paired x.same
@@ -72,8 +72,8 @@ module _ {A : Type 0} (ks vs : List ℕ) (p n e : ℕ) (rest : Parts) (f : List 
     pair_inside = omega (arith, x.here.within, items_some x.value)
 
     -- what is left after it tells the same
-    pub pair_passed : (k : ℕ) → k ≡ p + 1 + length (items x.value) → whole ≡ f x.members x.values → Pairs ks vs k (n - 1) e rest f whole
-    pair_passed k h s = record {
+    pub pair_passed : {k : ℕ} → k ≡ p + 1 + length (items x.value) → whole ≡ f x.members x.values → Pairs ks vs k (n - 1) e rest f whole
+    pair_passed h s = record {
       members = x.members;
       values = x.values;
       held = subst (λ (i : ℕ). HeldParts ks vs i e (put_members x.members x.values rest)) (sym h) x.behind;
@@ -85,25 +85,25 @@ module _ {A : Type 0} (ks vs : List ℕ) (p n e : ℕ) (rest : Parts) (f : List 
 
 -- ---- a member is looked up
 
-module _ (ks vs : List ℕ) (p n e : ℕ) (rest : Parts) (m : ℕ) (whole : math.Option Term) where
+module _ {ks vs : List ℕ} {p n e : ℕ} {rest : Parts} (m : ℕ) {whole : math.Option Term} where
   pub look_found : Next-pair ks vs p n e rest (look_up m) whole → get_or vs p 0 ≡ m → Looked ks vs whole (Some (p + 1))
   unfolding look_up
   look_found x h = (x.value, x.here, x.same ∙ rw (eq-eqb x.member m (sym x.word ∙ h)))
 
-  pub look_next : (x : Next-pair ks vs p n e rest (look_up m) whole) (k : ℕ) → (get_or vs p 0 ≡ m → ⊥) → k ≡ p + 1 + length (items x.value)
+  pub look_next : (x : Next-pair ks vs p n e rest (look_up m) whole) {k : ℕ} → (get_or vs p 0 ≡ m → ⊥) → k ≡ p + 1 + length (items x.value)
       → Pairs ks vs k (n - 1) e rest (look_up m) whole
   unfolding look_up
-  look_next x k d h = pair_passed ks vs p n e rest (look_up m) whole x k h (x.same ∙ rw (ne_eqb x.member m (λ z. d (x.word ∙ z))))
+  look_next x d h = pair_passed x h (x.same ∙ rw (ne_eqb x.member m (λ z. d (x.word ∙ z))))
 
   pub look_none : Pairs ks vs p n e rest (look_up m) whole → n ≡ 0 → Looked ks vs whole None
   unfolding look_up
-  look_none x h = (pairs_over ks vs p n e rest (look_up m) whole x h).0
+  look_none x h = (pairs_over x h).0
 
 -- the pairs of a list of members
-pub listed_pairs : {A : Type 0} (ks vs : List ℕ) (x n e : ℕ) (gs : List ℕ) (hs : List Term) (rest : Parts) (f : List ℕ → List Term → A)
+pub listed_pairs : {A : Type 0} {ks vs : List ℕ} {x n e : ℕ} {gs : List ℕ} {hs : List Term} {rest : Parts} (f : List ℕ → List Term → A)
     → Listed ks vs x e gs hs rest → n ≡ get_or vs x 0 → Pairs ks vs (x + 1) n e rest f (f gs hs)
 unfolding Subs
-listed_pairs ks vs x n e gs hs rest f l h =
+listed_pairs {ks} {vs} {x} {e} {gs} {hs} {rest} f l h =
     let a = held_num ks vs x e (length gs) (put_members gs hs rest) l.held in
     record {
       members = gs;
@@ -117,12 +117,12 @@ listed_pairs ks vs x n e gs hs rest f l h =
 
 -- ---- required members
 
-module _ (ks vs : List ℕ) (p n e : ℕ) (rest : Parts) (f : ℕ → Term → Bool) (whole : Bool) where
+module _ {ks vs : List ℕ} {p n e : ℕ} {rest : Parts} (f : ℕ → Term → Bool) {whole : Bool} where
   -- the test of the one that comes next
-  pub every_next : (x : Next-pair ks vs p n e rest (every f) whole) (k : ℕ) → f x.member x.value ≡ true → k ≡ p + 1 + length (items x.value)
+  pub every_next : (x : Next-pair ks vs p n e rest (every f) whole) {k : ℕ} → f x.member x.value ≡ true → k ≡ p + 1 + length (items x.value)
       → Pairs ks vs k (n - 1) e rest (every f) whole
   unfolding every
-  every_next x k t h = pair_passed ks vs p n e rest (every f) whole x k h (x.same ∙ rw t)
+  every_next x t h = pair_passed x h (x.same ∙ rw t)
 
   pub every_fails : (x : Next-pair ks vs p n e rest (every f) whole) → f x.member x.value ≡ false → whole ≡ false
   unfolding every
@@ -130,15 +130,15 @@ module _ (ks vs : List ℕ) (p n e : ℕ) (rest : Parts) (f : ℕ → Term → B
 
   pub every_over : Pairs ks vs p n e rest (every f) whole → n ≡ 0 → (whole ≡ true) × HeldParts ks vs p e rest
   unfolding every
-  every_over x h = pairs_over ks vs p n e rest (every f) whole x h
+  every_over x h = pairs_over x h
 
-  module _ (gs : List ℕ) (hs : List Term) (x : Next-pair ks vs p n e rest (every f) whole) (r : Bool) (told : r ≡ same_option (look_up (get_or vs p 0) gs hs) x.value) where
+  module _ (gs : List ℕ) (hs : List Term) (x : Next-pair ks vs p n e rest (every f) whole) {r : Bool} (told : r ≡ same_option (look_up (get_or vs p 0) gs hs) x.value) where
     told_of : r ≡ same_option (look_up x.member gs hs) x.value
     told_of = told ∙ ap (λ (m : ℕ). same_option (look_up m gs hs) x.value) x.word
 
     -- it is given, or not
-    pub given_next : (k : ℕ) → Passes gs hs f → not r ≡ false → k ≡ p + 1 + length (items x.value) → Pairs ks vs k (n - 1) e rest (every f) whole
-    given_next k h t = every_next x k (h x.member x.value (sym told_of ∙ not-false r t))
+    pub given_next : {k : ℕ} → Passes gs hs f → not r ≡ false → k ≡ p + 1 + length (items x.value) → Pairs ks vs k (n - 1) e rest (every f) whole
+    given_next h t = every_next x (h x.member x.value (sym told_of ∙ not-false r t))
 
     pub not_given : not r ≡ true → Gave ks vs e rest gs hs f whole (Err (p, n))
     not_given t = (x, sym told_of ∙ not-true r t)
@@ -159,7 +159,7 @@ pub record Next-terms (ks vs : List ℕ) (n i d : ℕ) (rest : Parts) (j e : ℕ
   pub many_right : length right + 1 ≡ n
   pub same : whole ≡ (same t u && same_terms left right)
 
-module _ (ks vs : List ℕ) (n i d : ℕ) (rest : Parts) (j e : ℕ) (more : Parts) (whole : Bool) where
+module _ {ks vs : List ℕ} {n i d : ℕ} {rest : Parts} {j e : ℕ} {more : Parts} {whole : Bool} where
   pub next_arguments : Lists ks vs n i d rest j e more whole → 0 < n → Next-terms ks vs n i d rest j e more whole
   unfolding put_terms same_terms
   next_arguments x h = go x.left x.right x.held_left x.held_right x.many_left x.many_right x.same
@@ -202,12 +202,12 @@ module _ (ks vs : List ℕ) (n i d : ℕ) (rest : Parts) (j e : ℕ) (more : Par
     pub argument_right : j < length ks
     argument_right = omega (arith, x.here_right.within, items_some x.u)
 
-    pub arguments_differ : (r : Bool) → r ≡ same x.t x.u → not r ≡ true → whole ≡ false
-    arguments_differ r h t = x.same ∙ rw (sym h ∙ not-true r t)
+    pub arguments_differ : {r : Bool} → r ≡ same x.t x.u → not r ≡ true → whole ≡ false
+    arguments_differ {r} h t = x.same ∙ rw (sym h ∙ not-true r t)
 
-    pub arguments_next : (r : Bool) (k l : ℕ) → r ≡ same x.t x.u → not r ≡ false → k ≡ i + length (items x.t) → l ≡ j + length (items x.u)
+    pub arguments_next : {r : Bool} {k l : ℕ} → r ≡ same x.t x.u → not r ≡ false → k ≡ i + length (items x.t) → l ≡ j + length (items x.u)
         → Lists ks vs (n - 1) k d rest l e more whole
-    arguments_next r k l h t p q = record {
+    arguments_next {r} h t p q = record {
       left = x.left;
       right = x.right;
       held_left = subst (λ (a : ℕ). HeldParts ks vs a d (put_terms x.left rest)) (sym p) x.behind_left;
@@ -239,8 +239,8 @@ pub record Words (ks vs : List ℕ) (p e : ℕ) (a : Nominal) (rest : Parts) : T
   pub second : get_or vs (p + 1) 0 ≡ length a.arguments
   pub behind : HeldParts ks vs (p + 2) e (put_terms a.arguments (pairing a.members a.values rest))
 
-pub laid_words : (ks vs : List ℕ) (p e : ℕ) (a : Nominal) (rest : Parts) → Laid ks vs p e a rest → Words ks vs p e a rest
-laid_words ks vs p e a rest x =
+pub laid_words : {ks vs : List ℕ} {p e : ℕ} {a : Nominal} {rest : Parts} → Laid ks vs p e a rest → Words ks vs p e a rest
+laid_words {ks} {vs} {p} {e} {a} {rest} x =
     let s = held_num ks vs p e a.declaration _ x.held in
     let t = held_num ks vs (p + 1) e (length a.arguments) _ s.2 in
     let two : p + 1 + 1 ≡ p + 2 = omega arith in
@@ -251,27 +251,27 @@ laid_words ks vs p e a rest x =
       behind = subst (λ (i : ℕ). HeldParts ks vs i e (put_terms a.arguments (pairing a.members a.values rest))) two t.2;
     }
 
-module _ (ks vs : List ℕ) (p d : ℕ) (a : Nominal) (rest : Parts) (q e : ℕ) (b : Nominal) (more : Parts) (x : Laid ks vs p d a rest) (y : Laid ks vs q e b more) where
+module _ {ks vs : List ℕ} {p d : ℕ} {a : Nominal} {rest : Parts} {q e : ℕ} {b : Nominal} {more : Parts} (x : Laid ks vs p d a rest) (y : Laid ks vs q e b more) where
   pub declarations_differ : (get_or vs p 0 ≡ get_or vs q 0 → ⊥) → agree a b ≡ false
   unfolding agree
   declarations_differ h =
-      let s = laid_words ks vs p d a rest x in
-      let t = laid_words ks vs q e b more y in
+      let s = laid_words x in
+      let t = laid_words y in
       rw (ne_eqb a.declaration b.declaration (λ z. h (s.first ∙ z ∙ sym t.first)))
 
   pub counts_differ : (get_or vs (p + 1) 0 ≡ get_or vs (q + 1) 0 → ⊥) → agree a b ≡ false
   unfolding agree
   counts_differ h =
-      let s = laid_words ks vs p d a rest x in
-      let t = laid_words ks vs q e b more y in
+      let s = laid_words x in
+      let t = laid_words y in
       rw (lengths_apart a.arguments b.arguments (λ z. h (s.second ∙ z ∙ sym t.second))) (and-false (eqb a.declaration b.declaration))
 
   -- the counts are the same: the two lists
-  pub headed_lists : (n : ℕ) → n ≡ get_or vs (p + 1) 0 → get_or vs (p + 1) 0 ≡ get_or vs (q + 1) 0
+  pub headed_lists : {n : ℕ} → n ≡ get_or vs (p + 1) 0 → get_or vs (p + 1) 0 ≡ get_or vs (q + 1) 0
       → Lists ks vs n (p + 2) d (pairing a.members a.values rest) (q + 2) e (pairing b.members b.values more) (same_terms a.arguments b.arguments)
-  headed_lists n h k =
-      let s = laid_words ks vs p d a rest x in
-      let t = laid_words ks vs q e b more y in
+  headed_lists h k =
+      let s = laid_words x in
+      let t = laid_words y in
       record {
         left = a.arguments;
         right = b.arguments;
@@ -288,8 +288,8 @@ module _ (ks vs : List ℕ) (p d : ℕ) (a : Nominal) (rest : Parts) (q e : ℕ)
   unfolding agree Subs
   headed h None g = rw g (and-false (eqb a.declaration b.declaration))
   headed h (Some (i, j)) g =
-      let s = laid_words ks vs p d a rest x in
-      let t = laid_words ks vs q e b more y in (
+      let s = laid_words x in
+      let t = laid_words y in (
         rw (eq-eqb a.declaration b.declaration (sym s.first ∙ h ∙ t.first)) g.0,
         record { held = g.1; formed = behind_terms a.arguments _ x.formed; paired = x.paired },
         record { held = g.2; formed = behind_terms b.arguments _ y.formed; paired = y.paired },
@@ -332,7 +332,7 @@ module _ (ks vs : List ℕ) (a b : Nominal) (e : ℕ) (more : Parts) (h : agree 
 
   pub satisfied_lacking : (j l : ℕ) → Gave ks vs e more a.members a.values (has a) (every (has a) b.members b.values) (Err (j, l)) → satisfies a b ≡ false
   unfolding has
-  satisfied_lacking j l g = bounded_members (has a) a b h ∙ every_fails ks vs j l e more (has a) (every (has a) b.members b.values) g.0 g.1
+  satisfied_lacking j l g = bounded_members (has a) a b h ∙ every_fails (has a) g.0 g.1
 
   -- whichever it is
   pub satisfied_row : (r : rust.Result ℕ (ℕ × ℕ)) → Gave ks vs e more a.members a.values (has a) (every (has a) b.members b.values) r → Satisfied ks vs e more (satisfies a b) (result_ok r)
@@ -351,24 +351,24 @@ whole_is ks vs e more whole None h = sym h
 
 -- a member that is not given, in `satisfies_for`
 module _ (ks vs : List ℕ) (a : Nominal) (w : Term) (j l e : ℕ) (more : Parts) (whole : Bool) (g : Gave ks vs e more a.members a.values (covers a w) whole (Err (j, l)))
-    (r : Bool) (told : r ≡ reflexive a w (get_or vs j 0) g.0.value) where
+    {r : Bool} (told : r ≡ reflexive a w (get_or vs j 0) g.0.value) where
   covers_as : covers a w g.0.member g.0.value ≡ r
   unfolding has
   covers_as =
       or-false (same_option (look_up g.0.member a.members a.values) g.0.value) (reflexive a w g.0.member g.0.value) g.1
       ∙ ap (λ (m : ℕ). reflexive a w m g.0.value) (sym g.0.word) ∙ sym told
 
-  pub covered_next : (k : ℕ) → not r ≡ false → k ≡ j + 1 + length (items g.0.value) → Pairs ks vs k (l - 1) e more (every (covers a w)) whole
-  covered_next k h = every_next ks vs j l e more (covers a w) whole g.0 k (covers_as ∙ not-false r h)
+  pub covered_next : {k : ℕ} → not r ≡ false → k ≡ j + 1 + length (items g.0.value) → Pairs ks vs k (l - 1) e more (every (covers a w)) whole
+  covered_next h = every_next (covers a w) g.0 (covers_as ∙ not-false r h)
 
   pub not_covered : not r ≡ true → whole ≡ false
-  not_covered h = every_fails ks vs j l e more (covers a w) whole g.0 (covers_as ∙ not-true r h)
+  not_covered h = every_fails (covers a w) g.0 (covers_as ∙ not-true r h)
 
 -- ---- `reflexive`, test by test
 
-module _ (a : Nominal) (w : Term) (m : ℕ) (u : Term) (x : Projected u) where
-  pub other_receiver : (r : Bool) → r ≡ same x.receiver w → not r ≡ true → false ≡ reflexive a w m u
-  other_receiver r h t = sym (reflexive_parts a w m u x ∙ rw (sym h ∙ not-true r t))
+module _ (a : Nominal) (w : Term) (m : ℕ) {u : Term} (x : Projected u) where
+  pub other_receiver : {r : Bool} → r ≡ same x.receiver w → not r ≡ true → false ≡ reflexive a w m u
+  other_receiver {r} h t = sym (reflexive_parts a w m u x ∙ rw (sym h ∙ not-true r t))
 
   pub not_satisfied : satisfies a x.interface ≡ false → false ≡ reflexive a w m u
   not_satisfied h = sym (reflexive_parts a w m u x ∙ rw h (none (same x.receiver w) (eqb x.member m) (eqb (length x.arguments) 0)))
@@ -382,8 +382,8 @@ module _ (a : Nominal) (w : Term) (m : ℕ) (u : Term) (x : Projected u) where
   pub other_member : (x.member ≡ m → ⊥) → false ≡ reflexive a w m u
   other_member h = sym (reflexive_parts a w m u x ∙ rw (ne_eqb x.member m h) (and-false (same x.receiver w)))
 
-  pub by_arguments : (r : Bool) (n : ℕ) → r ≡ same x.receiver w → not r ≡ false → satisfies a x.interface ≡ true → x.member ≡ m → n ≡ length x.arguments → eqb n 0 ≡ reflexive a w m u
-  by_arguments r n h t s e k = sym (reflexive_parts a w m u x ∙ rw (sym h ∙ not-false r t, eq-eqb x.member m e, s, ← k) (and-true (eqb n 0)))
+  pub by_arguments : {r : Bool} {n : ℕ} → r ≡ same x.receiver w → not r ≡ false → satisfies a x.interface ≡ true → x.member ≡ m → n ≡ length x.arguments → eqb n 0 ≡ reflexive a w m u
+  by_arguments {r} {n} h t s e k = sym (reflexive_parts a w m u x ∙ rw (sym h ∙ not-false r t, eq-eqb x.member m e, s, ← k) (and-true (eqb n 0)))
 
 -- ---- `satisfies` is an order, and `satisfies_for` admits what it admits
 

@@ -17,7 +17,7 @@ use Rattle.terms.specs.Formed.{Formed, Fit, TakesNumber, TakesTerm, after_number
 use Rattle.terms.specs.Tree.{nums, subs, row, tag, same, Nominal, nominal_of, interface_of, receiver_of, member_of, arguments_of, put_terms, put_members}
 use Rattle.terms.specs.Comparison.{no_terms, satisfies, reflexive}
 use Rattle.terms.specs.Words.SatisfyContract.{heading, pairing, nominal_row, Laid}
-use Rattle.terms.proofs.Laws.Held.HeldLaws.{head_kind, held_num, held_sub, held_node}
+use Rattle.terms.proofs.Laws.Held.HeldLaws.{head_kind, held_first, held_num, held_sub, held_node}
 use Rattle.terms.proofs.Laws.Format.ShapeLaws.{More, some_done}
 
 -- ---- the numbers and the terms of a row
@@ -258,11 +258,14 @@ reflexive_parts a w m u x = ap (λ (v : Term). reflexive a w m v) x.is ∙ refle
 
 -- ---- in the areas
 
-module _ (ks vs : List ℕ) where
+pub projected_at : {ks vs : List ℕ} {p : ℕ} {u : Term} → Held ks vs p u → Formed u → get_or ks p 0 ≡ 20 → Projected u
+projected_at {ks} {vs} {p} {u} h f e = projected u f (sym (held_first ks vs p u h).0 ∙ e)
+
+module _ {ks vs : List ℕ} where
   -- a bare nominal, after its head
-  pub laid_bare : (p : ℕ) (ps : Parts) → Held ks vs p (node 20 ps) → Fit (nominal shape.done) ps
+  pub laid_bare : {p : ℕ} (ps : Parts) → Held ks vs p (node 20 ps) → Fit (nominal shape.done) ps
       → (rest : Parts) × Laid ks vs (p + 1) (p + length (items (node 20 ps))) (nominal_of ps) rest
-  laid_bare p ps h f =
+  laid_bare {p} ps h f =
       let s = split shape.done ps f in
       let e : nominal_of ps ≡ s.name = ap nominal_of s.is ∙ nominal_is s.name s.rest s.paired in (
         s.rest,
@@ -275,7 +278,7 @@ module _ (ks vs : List ℕ) where
       )
 
   -- the receiver of a projection, and its interface
-  module _ (t : ℕ) (u : Term) (h : Held ks vs t u) (x : Projected u) where
+  module _ {t : ℕ} {u : Term} (h : Held ks vs t u) (x : Projected u) where
     abbrev inner : Term
     inner = node 18 (sub x.receiver (nominal_row x.interface (called x.member x.arguments)))
 
@@ -287,10 +290,10 @@ module _ (ks vs : List ℕ) where
     pub receiver_held : Held ks vs (t + 1) x.receiver
     receiver_held = inner_held.0
 
-    pub interface_laid : (k : ℕ) → k ≡ t + 1 + length (items x.receiver) → Formed u
+    pub interface_laid : {k : ℕ} → k ≡ t + 1 + length (items x.receiver) → Formed u
         → (e : ℕ) × Laid ks vs k e x.interface (called x.member x.arguments)
     unfolding Formed Subs
-    interface_laid k j f = (
+    interface_laid j f = (
       t + length (items inner),
       record {
         held = subst (λ (i : ℕ). HeldParts ks vs i (t + length (items inner)) (nominal_row x.interface (called x.member x.arguments))) (sym j) inner_held.1;
@@ -300,7 +303,7 @@ module _ (ks vs : List ℕ) where
     )
 
   -- the words after the interface
-  pub called_words : (z e m : ℕ) (ts : List Term) → HeldParts ks vs z e (called m ts) → (get_or vs z 0 ≡ m) × (get_or vs (z + 1) 0 ≡ length ts)
-  called_words z e m ts h =
+  pub called_words : {z e : ℕ} (m : ℕ) (ts : List Term) → HeldParts ks vs z e (called m ts) → (get_or vs z 0 ≡ m) × (get_or vs (z + 1) 0 ≡ length ts)
+  called_words {z} {e} m ts h =
       let a = held_num ks vs z e m (num (length ts) (put_terms ts end)) h in
       (a.1, (held_num ks vs (z + 1) e (length ts) (put_terms ts end) a.2).1)

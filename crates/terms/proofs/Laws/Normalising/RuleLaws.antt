@@ -336,90 +336,90 @@ module _ (ks vs : List ℕ) (g : Origin) (hs cs : List ℕ) (x : Cursor) (fuel :
           )
   arguing_start w None q eq f = record { is = λ S ps p h d k e. f S ps p h d k (put_terms p.arguments end) e }
 
-  module _ (u : Rule) (c n q l : ℕ) (w : ArguedBehind ks vs g hs cs x fuel u c n q l) where
-    pub argued_done : l ≡ 0 → x.end ≤ c → Hit ks vs g hs cs x fuel u
-    argued_done z le = record {
-      is = λ S ps p h d k.
-          let t = w.is S ps p h d k in
-          t.from (parted_over (view ks vs g) hs cs S t.there le ∙ sym (ap (λ (us : List Term). put_terms us end) (empty t.arguments (sym t.count ∙ z)) ∙ terms_none));
-    }
+module _ {ks vs : List ℕ} {g : Origin} {hs cs : List ℕ} {x : Cursor} {fuel : ℕ} {u : Rule} {c n q l : ℕ} (w : ArguedBehind ks vs g hs cs x fuel u c n q l) where
+  pub argued_done : l ≡ 0 → x.end ≤ c → Hit ks vs g hs cs x fuel u
+  argued_done z le = record {
+    is = λ S ps p h d k.
+        let t = w.is S ps p h d k in
+        t.from (parted_over (view ks vs g) hs cs S t.there le ∙ sym (ap (λ (us : List Term). put_terms us end) (empty t.arguments (sym t.count ∙ z)) ∙ terms_none));
+  }
 
-    pub argued_more : l ≡ 0 → c < x.end → Missed ks vs g hs cs x fuel u
-    argued_more z lt = record {
-      is = λ S ps p h d k e.
-          let t = w.is S ps p h d k in
-          parted_more (view ks vs g) hs cs S t.there lt (t.to e ∙ ap (λ (us : List Term). put_terms us end) (empty t.arguments (sym t.count ∙ z)) ∙ terms_none);
-    }
+  pub argued_more : l ≡ 0 → c < x.end → Missed ks vs g hs cs x fuel u
+  argued_more z lt = record {
+    is = λ S ps p h d k e.
+        let t = w.is S ps p h d k in
+        parted_more (view ks vs g) hs cs S t.there lt (t.to e ∙ ap (λ (us : List Term). put_terms us end) (empty t.arguments (sym t.count ∙ z)) ∙ terms_none);
+  }
 
-    -- one argument more
-    module _ (some : l ≡ 0 → ⊥) (tc : Cursor) (ts : TermStarts (view ks vs g) q tc) where
-      pub record Next (S : ℕ → Bool) (ps : Parts) (p : Pattern) : Type 0 where
-        pub old : ArguingAt ks vs g hs cs x fuel c n q l S ps p
-        pub term : Term
-        pub terms : List Term
-        pub is : old.arguments ≡ term ∷ terms
-        pub there : From (view ks vs g) hs cs nothing tc (sub term end)
-        pub held : HeldParts (view ks vs g).kinds (view ks vs g).vals tc.end old.ends (put_terms terms end)
+  -- one argument more
+  module _ (some : l ≡ 0 → ⊥) {tc : Cursor} (ts : TermStarts (view ks vs g) q tc) where
+    pub record Next (S : ℕ → Bool) (ps : Parts) (p : Pattern) : Type 0 where
+      pub old : ArguingAt ks vs g hs cs x fuel c n q l S ps p
+      pub term : Term
+      pub terms : List Term
+      pub is : old.arguments ≡ term ∷ terms
+      pub there : From (view ks vs g) hs cs nothing tc (sub term end)
+      pub held : HeldParts (view ks vs g).kinds (view ks vs g).vals tc.end old.ends (put_terms terms end)
 
-      next : (S : ℕ → Bool) (ps : Parts) (p : Pattern) → From (view ks vs g) hs cs S x ps → depths ps ≤ fuel → HeldRule ks vs u p → Next S ps p
-      next S ps p h d k = let t = w.is S ps p h d k in go t t.arguments refl
-        where
-          go : (t : ArguingAt ks vs g hs cs x fuel c n q l S ps p) (us : List Term) → t.arguments ≡ us → Next S ps p
-          go t [] e = absurd (some (t.count ∙ ap length e))
-          go t (u ∷ us) e =
-              let h : HeldParts (view ks vs g).kinds (view ks vs g).vals q t.ends (sub u (put_terms us end)) = rw (e, terms_cons u us) at t.held in
-              let y = held_sub (view ks vs g).kinds (view ks vs g).vals q t.ends u (put_terms us end) h in
-              record {
-                old = t;
-                term = u;
-                terms = us;
-                is = e;
-                there = ts.is hs cs nothing u (held_tree (view ks vs g) hs cs nothing u q y.0);
-                held = rw (ts.ends u y.0) y.1;
-              }
-
-      pub argued_next : (m : Option (ℕ × ℕ)) → Begins (view ks vs g) hs cs (further x c n) tc fuel m → Arguing ks vs g hs cs x fuel u m tc.end (l - 1)
-      argued_next (Some (c', n')) b = record {
-        few = b.0;
-        is = λ S ps p h d k.
-            let y = next S ps p h d k in
-            let t = y.old in
-            let z = b.1 S nothing t.rest (sub y.term end) t.there y.there t.low in
-            let o = ap (λ (us : List Term). put_terms us end) y.is ∙ terms_cons y.term y.terms in
+    next : (S : ℕ → Bool) (ps : Parts) (p : Pattern) → From (view ks vs g) hs cs S x ps → depths ps ≤ fuel → HeldRule ks vs u p → Next S ps p
+    next S ps p h d k = let t = w.is S ps p h d k in go t t.arguments refl
+      where
+        go : (t : ArguingAt ks vs g hs cs x fuel c n q l S ps p) (us : List Term) → t.arguments ≡ us → Next S ps p
+        go t [] e = absurd (some (t.count ∙ ap length e))
+        go t (u ∷ us) e =
+            let h : HeldParts (view ks vs g).kinds (view ks vs g).vals q t.ends (sub u (put_terms us end)) = rw (e, terms_cons u us) at t.held in
+            let y = held_sub (view ks vs g).kinds (view ks vs g).vals q t.ends u (put_terms us end) h in
             record {
-              rest = z.0;
-              arguments = y.terms;
-              ends = t.ends;
-              there = z.2;
-              low = omega (arith, t.low, ap depths z.1, depths_behind (sub y.term end) z.0);
-              held = y.held;
-              count = omega (arith, t.count, ap length y.is);
-              to = λ e. let v : sub y.term z.0 ≡ sub y.term (put_terms y.terms end) = sym z.1 ∙ t.to e ∙ o in cc;
-              from = λ e. t.from (z.1 ∙ ap (sub y.term) e ∙ sym o);
-            };
-      }
-      argued_next None b = record {
-        is = λ S ps p h d k e.
-            let y = next S ps p h d k in
-            let t = y.old in
-            b S nothing t.rest (sub y.term end) t.there y.there t.low (put_terms y.terms end)
-            (t.to e ∙ ap (λ (us : List Term). put_terms us end) y.is ∙ terms_cons y.term y.terms);
-      }
+              old = t;
+              term = u;
+              terms = us;
+              is = e;
+              there = ts.is hs cs nothing u (held_tree (view ks vs g) hs cs nothing u q y.0);
+              held = rw (ts.ends u y.0) y.1;
+            }
 
-  module _ (w : Rule) where
-    -- a rule with another member than the row's is not the row's
-    pub replaces_other : (m : ℕ) → MemberIn (view ks vs g) x m → (w.member ≡ m → ⊥) → Missed ks vs g hs cs x fuel w
-    replaces_other m h ne = record {
-      is = λ S ps p f d k e. ne (k.member ∙ sym (h.is hs cs S ps f ∙ ap (λ (l : Parts). last_but_one 0 0 (nums l)) e ∙ left_member 0 0 p));
+    pub argued_next : (m : Option (ℕ × ℕ)) → Begins (view ks vs g) hs cs (further x c n) tc fuel m → Arguing ks vs g hs cs x fuel u m tc.end (l - 1)
+    argued_next (Some (c', n')) b = record {
+      few = b.0;
+      is = λ S ps p h d k.
+          let y = next S ps p h d k in
+          let t = y.old in
+          let z = b.1 S nothing t.rest (sub y.term end) t.there y.there t.low in
+          let o = ap (λ (us : List Term). put_terms us end) y.is ∙ terms_cons y.term y.terms in
+          record {
+            rest = z.0;
+            arguments = y.terms;
+            ends = t.ends;
+            there = z.2;
+            low = omega (arith, t.low, ap depths z.1, depths_behind (sub y.term end) z.0);
+            held = y.held;
+            count = omega (arith, t.count, ap length y.is);
+            to = λ e. let v : sub y.term z.0 ≡ sub y.term (put_terms y.terms end) = sym z.1 ∙ t.to e ∙ o in cc;
+            from = λ e. t.from (z.1 ∙ ap (sub y.term) e ∙ sym o);
+          };
     }
+    argued_next None b = record {
+      is = λ S ps p h d k e.
+          let y = next S ps p h d k in
+          let t = y.old in
+          b S nothing t.rest (sub y.term end) t.there y.there t.low (put_terms y.terms end)
+          (t.to e ∙ ap (λ (us : List Term). put_terms us end) y.is ∙ terms_cons y.term y.terms);
+    }
+
+module _ {ks vs : List ℕ} {g : Origin} {x : Cursor} {m : ℕ} (hs cs : List ℕ) (fuel : ℕ) (w : Rule) (h : MemberIn (view ks vs g) x m) where
+  -- a rule with another member than the row's is not the row's
+  replaces_other : (w.member ≡ m → ⊥) → Missed ks vs g hs cs x fuel w
+  replaces_other ne = record {
+    is = λ S ps p f d k e. ne (k.member ∙ sym (h.is hs cs S ps f ∙ ap (λ (l : Parts). last_but_one 0 0 (nums l)) e ∙ left_member 0 0 p));
+  }
 
 -- r rules have been passed
 pub record Searching (ks vs ws : List ℕ) (g : Origin) (hs cs : List ℕ) (x : Cursor) (fuel r : ℕ) : Type 0 where
   pub is : (S : ℕ → Bool) (ps : Parts) (rs : List Pattern) → From (view ks vs g) hs cs S x ps → depths ps ≤ fuel → Ruled ks vs ws 0 rs
       → (qs : List Pattern) × Ruled ks vs ws r qs × (by_patterns rs ps ≡ by_patterns qs ps)
 
-module _ (ks vs ws : List ℕ) (g : Origin) (hs cs : List ℕ) (x : Cursor) (fuel : ℕ) (s : Sight ks vs g) where
-  module _ (r : ℕ) (w : Searching ks vs ws g hs cs x fuel r) where
+module _ {ks vs ws : List ℕ} {g : Origin} {hs cs : List ℕ} {x : Cursor} {fuel : ℕ} where
+  module _ {r : ℕ} (w : Searching ks vs ws g hs cs x fuel r) where
     pub searching_next : r < rule_count ws → Missed ks vs g hs cs x fuel (rule_at ws r) → Searching ks vs ws g hs cs x fuel (r + 1)
     searching_next lt m = record { is = λ S ps rs h d k. let t = w.is S ps rs h d k in go S ps rs h d t.0 t.1 t.2 }
       where
@@ -437,9 +437,9 @@ module _ (ks vs ws : List ℕ) (g : Origin) (hs cs : List ℕ) (x : Cursor) (fue
         go [] k = refl
         go (p ∷ qs) k = absurd (omega (arith, k.0))
 
-    pub searching_hit : r < rule_count ws → Hit ks vs g hs cs x fuel (rule_at ws r) → (S : ℕ → Bool) (ps : Parts) (rs : List Pattern) → From (view ks vs g) hs cs S x ps → depths ps ≤ fuel → Ruled ks vs ws 0 rs
+    pub searching_hit : Sight ks vs g → r < rule_count ws → Hit ks vs g hs cs x fuel (rule_at ws r) → (S : ℕ → Bool) (ps : Parts) (rs : List Pattern) → From (view ks vs g) hs cs S x ps → depths ps ≤ fuel → Ruled ks vs ws 0 rs
         → (u : Term) × (by_patterns rs ps ≡ some u) × Tree (view ks vs g) hs cs S (rule_at ws r).value 0 u
-    searching_hit lt m S ps rs h d k = let t = w.is S ps rs h d k in go t.0 t.1 t.2
+    searching_hit s lt m S ps rs h d k = let t = w.is S ps rs h d k in go t.0 t.1 t.2
       where
         go : (qs : List Pattern) → Ruled ks vs ws r qs → by_patterns rs ps ≡ by_patterns qs ps → (u : Term) × (by_patterns rs ps ≡ some u) × Tree (view ks vs g) hs cs S (rule_at ws r).value 0 u
         go [] k e = absurd (omega (arith, k))
@@ -450,14 +450,14 @@ module _ (ks vs ws : List ℕ) (g : Origin) (hs cs : List ℕ) (x : Cursor) (fue
         )
 
   -- the rules that the scan passes have another member than the row
-  past : (m : ℕ) → MemberIn (view ks vs g) x m → (k r : ℕ) → r + k ≤ rule_count ws → NoneFrom ws r m (r + k) → Searching ks vs ws g hs cs x fuel r → Searching ks vs ws g hs cs x fuel (r + k)
-  past m h zero r le f w = let e : r + 0 ≡ r = omega arith in rw e w
-  past m h (suc k) r le f w =
+  past : {m : ℕ} → MemberIn (view ks vs g) x m → (k r : ℕ) → r + k ≤ rule_count ws → NoneFrom ws r m (r + k) → Searching ks vs ws g hs cs x fuel r → Searching ks vs ws g hs cs x fuel (r + k)
+  past h zero r le f w = let e : r + 0 ≡ r = omega arith in rw e w
+  past h (suc k) r le f w =
       let e : r + 1 + k ≡ r + suc k = omega arith in
-      let one = searching_next r w (omega arith) (replaces_other ks vs g hs cs x fuel s (rule_at ws r) m h (f r (omega arith) (omega arith))) in
-      rw e at (past m h k (r + 1) (omega arith) (λ i a b. f i (omega arith) (omega arith)) one)
+      let one = searching_next w (omega arith) (replaces_other hs cs fuel (rule_at ws r) h (f r (omega arith) (omega arith))) in
+      rw e at (past h k (r + 1) (omega arith) (λ i a b. f i (omega arith) (omega arith)) one)
 
-  pub searching_to : (m : ℕ) → MemberIn (view ks vs g) x m → (r n : ℕ) → NextWith ws r m n → Searching ks vs ws g hs cs x fuel r → (t : ℕ) → r ≤ t → t ≤ n → t ≤ rule_count ws → Searching ks vs ws g hs cs x fuel t
-  searching_to m h r n f w t a b c =
+  pub searching_to : {m : ℕ} → MemberIn (view ks vs g) x m → {r n : ℕ} → NextWith ws r m n → Searching ks vs ws g hs cs x fuel r → (t : ℕ) → r ≤ t → t ≤ n → t ≤ rule_count ws → Searching ks vs ws g hs cs x fuel t
+  searching_to h {r} f w t a b c =
       let e : r + (t - r) ≡ t = omega arith in
-      rw e at (past m h (t - r) r (omega arith) (λ i y z. f.none i y (omega arith)) w)
+      rw e at (past h (t - r) r (omega arith) (λ i y z. f.none i y (omega arith)) w)

@@ -77,24 +77,24 @@ module _ (ks vs : List ℕ) (on : Bool) (o₀ : List ℕ) (at from count : ℕ) 
     pub ends : e ≡ from + count
     pub rest : Showing on o₀ at (spelt ks vs from count) o i (spelt ks vs q (e - q))
 
-  module _ (o : List ℕ) (i q e : ℕ) (w : Running o i q e) where
-    module _ (lt : q < e) {k v : ℕ} (ek : k ≡ get_or ks q 0) (ev : v ≡ get_or vs q 0) (o' : List ℕ) (d : ℕ) (f : Kept on o o' i d) (s : Shows on o o' i (plain k v) d) where
-      next : Showing on o₀ at (spelt ks vs from count) o' d (spelt ks vs (q + 1) (e - (q + 1)))
-      next =
-          show_step on o₀ at (spelt ks vs from count) o i (spelt ks vs q (e - q)) w.rest w.within (plain k v) (spelt ks vs (q + 1) (e - (q + 1)))
-          (spell_step plain ks vs q e lt ∙ rw (ek, ev)) o' d f.long s
+module _ {ks vs : List ℕ} {on : Bool} {o₀ : List ℕ} {at from count : ℕ} {o : List ℕ} {i q e : ℕ} (w : Running ks vs on o₀ at from count o i q e) where
+  module _ (lt : q < e) {k v : ℕ} (ek : k ≡ get_or ks q 0) (ev : v ≡ get_or vs q 0) {o' : List ℕ} {d : ℕ} (f : Kept on o o' i d) (s : Shows on o o' i (plain k v) d) where
+    next : Showing on o₀ at (spelt ks vs from count) o' d (spelt ks vs (q + 1) (e - (q + 1)))
+    next =
+        show_step on o₀ at (spelt ks vs from count) o i (spelt ks vs q (e - q)) w.rest w.within (plain k v) (spelt ks vs (q + 1) (e - (q + 1)))
+        (spell_step plain ks vs q e lt ∙ rw (ek, ev)) o' d f.long s
 
-      pub running_next : d ≤ length o₀ → Running o' d (q + 1) e
-      running_next le = record { kept = kept_then on o₀ o o' at i d w.kept f; within = le; ends = w.ends; rest = next }
+    pub running_next : d ≤ length o₀ → Running ks vs on o₀ at from count o' d (q + 1) e
+    running_next le = record { kept = kept_then on o₀ o o' at i d w.kept f; within = le; ends = w.ends; rest = next }
 
-      pub running_full : length o₀ < d → Kept on o₀ o' at d × Shows on o₀ o' at (spelt ks vs from count) d
-      running_full h = (
-        kept_then on o₀ o o' at i d w.kept f,
-        show_end on o₀ at (spelt ks vs from count) o' d (spelt ks vs (q + 1) (e - (q + 1))) next (λ le. absurd (omega arith)),
-      )
+    pub running_full : length o₀ < d → Kept on o₀ o' at d × Shows on o₀ o' at (spelt ks vs from count) d
+    running_full h = (
+      kept_then on o₀ o o' at i d w.kept f,
+      show_end on o₀ at (spelt ks vs from count) o' d (spelt ks vs (q + 1) (e - (q + 1))) next (λ le. absurd (omega arith)),
+    )
 
-    pub running_done : e ≤ q → Shows on o₀ o at (spelt ks vs from count) i
-    running_done le = show_end on o₀ at (spelt ks vs from count) o i (spelt ks vs q (e - q)) w.rest (λ h. spell_none plain ks vs q (e - q) (omega arith))
+  pub running_done : e ≤ q → Shows on o₀ o at (spelt ks vs from count) i
+  running_done le = show_end on o₀ at (spelt ks vs from count) o i (spelt ks vs q (e - q)) w.rest (λ h. spell_none plain ks vs q (e - q) (omega arith))
 
 -- ---- the bytes of a tree: its first token, and its row
 

@@ -146,15 +146,15 @@ module _ (a : Area) (f : Term → ℕ → ℕ → Out) (S : ℕ → Bool) (next 
 abbrev pub finds : Look → Term → Option Term
 finds look = replacement (look_by look)
 
+-- the places in which the children of t come, by the tag k and the counts m, l of arguments and members
+abbrev pub Order : (k m l n : ℕ) → Term → Type 0
+Order k m l n t = (j : ℕ) → slot_by (class k) m l n j ≡ slot t j
+
+pub order-of : {a : Area} {hs₁ cs₁ hs cs : List ℕ} {S : ℕ → Bool} (x : Content) {k m l next n : ℕ} {t : Term} → Tree a hs₁ cs₁ S x.head x.kids t → Opened a hs cs S next n t
+    → Ordered a x.head k m l → Order k m l n t
+order-of {hs₁} {cs₁} {S} x {k} {m} {l} {t} w o od i = ap (λ (c : ℕ). slot_by (class k) m l c i) o.count ∙ od.is hs₁ cs₁ S x.kids t w i
+
 module _ (ks vs ws : List ℕ) (g : Origin) where
-  -- the places in which the children of t come, by the tag k and the counts m, l of arguments and members
-  abbrev pub Order : (k m l n : ℕ) → Term → Type 0
-  Order k m l n t = (j : ℕ) → slot_by (class k) m l n j ≡ slot t j
-
-  pub order-of : (hs₁ cs₁ hs cs : List ℕ) (S : ℕ → Bool) (x : Content) (k m l next n : ℕ) (t : Term) → Tree (view ks vs g) hs₁ cs₁ S x.head x.kids t
-      → Opened (view ks vs g) hs cs S next n t → Ordered (view ks vs g) x.head k m l → Order k m l n t
-  order-of hs₁ cs₁ hs cs S x k m l next n t w o od i = ap (λ (c : ℕ). slot_by (class k) m l c i) o.count ∙ od.is hs₁ cs₁ S x.kids t w i
-
   -- hs₀, cs₀ have the n opened children; j of them have been visited
   pub record Walking (hs₀ cs₀ hs cs : List ℕ) (k m l next n levels visits most base j at left size : ℕ) : Type 0 where
     pub upto : j ≤ n
@@ -180,49 +180,49 @@ module _ (ks vs ws : List ℕ) (g : Origin) where
         (ap (λ (c : ℕ). record { terms = children t; visits = visits - 1; count = c }) (ap (λ (x : ℕ). next + x) (sym o.count)));
   }
 
-  module _ (hs₀ cs₀ hs cs : List ℕ) (k m l next n levels visits most base j at left size : ℕ) (w : Walking hs₀ cs₀ hs cs k m l next n levels visits most base j at left size) (lt : j < n)
-      (i : ℕ) (ei : i ≡ slot_by (class k) m l n j) (in_row : i < n) where
-    abbrev marks : (ℕ → Bool) → ℕ → Bool
-    marks S = grow S (next + n) at
+module _ {ks vs ws : List ℕ} {g : Origin} {hs₀ cs₀ hs cs : List ℕ} {k m l next n levels visits most base j at left size : ℕ} (w : Walking ks vs ws g hs₀ cs₀ hs cs k m l next n levels visits most base j at left size) (lt : j < n)
+    {i : ℕ} (ei : i ≡ slot_by (class k) m l n j) (in_row : i < n) where
+  abbrev marks : (ℕ → Bool) → ℕ → Bool
+  marks S = grow S (next + n) at
 
-    -- the child that is visited
-    visited : (S : ℕ → Bool) (t : Term) (look : Look) (b : Below S next) (o : Opened (view ks vs g) hs₀ cs₀ S next n t) (q : Order k m l n t) (z : Looks ks vs ws g look)
-        → Below (marks S) at × Tree (view ks vs g) hs cs (marks S) (get_or hs (next + i) 0) (get_or cs (next + i) 0) (get_or (w.is S t look b o q z).terms i error)
-    visited S t look b o q z = (grow_below S next (next + n) at b (omega (arith, w.low)), (w.is S t look b o q z).each i in_row)
+  -- the child that is visited
+  visited : (S : ℕ → Bool) (t : Term) (look : Look) (b : Below S next) (o : Opened (view ks vs g) hs₀ cs₀ S next n t) (q : Order k m l n t) (z : Looks ks vs ws g look)
+      → Below (marks S) at × Tree (view ks vs g) hs cs (marks S) (get_or hs (next + i) 0) (get_or cs (next + i) 0) (get_or (w.is S t look b o q z).terms i error)
+  visited S t look b o q z = (grow_below S next (next + n) at b (omega (arith, w.low)), (w.is S t look b o q z).each i in_row)
 
-    pub walking_next : most ≤ length hs → most ≤ length cs → (hs' cs' : List ℕ) (r : Walked)
-        → Went ks vs ws g hs cs hs' cs' (record { head = get_or hs (next + i) 0; kids = get_or cs (next + i) 0 }) at (levels - 1) left most r → Frames hs cs hs' cs' at r.next
-        → Walking hs₀ cs₀ (set hs' (next + i) r.head) (set cs' (next + i) r.kids) k m l next n levels visits most base (j + 1) r.next r.visits (size + r.size)
-    walking_next lh lc hs' cs' r walks fr = record {
-      upto = omega arith;
-      bounded = omega (arith, w.bounded, w.fewer, walks.fewer, walks.bounded);
-      low = omega (arith, w.low, walks.later);
-      high = walks.within;
-      fewer = omega (arith, w.fewer, walks.fewer);
-      frames =
-          frames_set hs₀ cs₀ hs' cs' next r.next r.next (next + i) r.head r.kids
-          (frames_then hs₀ cs₀ hs cs hs' cs' next at at r.next next r.next w.frames fr (omega arith) (omega (arith, w.low)) walks.later (omega arith))
-          (omega arith) (omega (arith, w.low, walks.later)) (omega arith);
-      is = λ S t look b o q z.
-          let u = w.is S t look b o q z in
-          let v = visited S t look b o q z in
-          visit_next (view ks vs g) (walk_by (finds look) (levels - 1)) S next n t (first (finds look) t visits next) hs cs hs' cs' j at left base size i r.head r.kids r.next r.visits r.size
-          b u lt o.count (ei ∙ q j) in_row w.low fr (omega (arith, w.low, w.high)) (omega (arith, w.low, w.high)) walks.later
-          (walks.done (marks S) (get_or u.terms i error) look v.0 v.1 z);
-    }
-
-    pub walking_over : Overrun ks vs ws g hs cs (record { head = get_or hs (next + i) 0; kids = get_or cs (next + i) 0 }) at (levels - 1) left most → (S : ℕ → Bool) (t : Term) (look : Look) → Below S next → Opened (view ks vs g) hs₀ cs₀ S next n t → Order k m l n t → Looks ks vs ws g look
-        → 0 < levels → most < (walk_by (finds look) levels t visits next).count
-    walking_over walks S t look b o q z hl =
+  pub walking_next : most ≤ length hs → most ≤ length cs → (hs' cs' : List ℕ) (r : Walked)
+      → Went ks vs ws g hs cs hs' cs' (record { head = get_or hs (next + i) 0; kids = get_or cs (next + i) 0 }) at (levels - 1) left most r → Frames hs cs hs' cs' at r.next
+      → Walking ks vs ws g hs₀ cs₀ (set hs' (next + i) r.head) (set cs' (next + i) r.kids) k m l next n levels visits most base (j + 1) r.next r.visits (size + r.size)
+  walking_next lh lc hs' cs' r walks fr = record {
+    upto = omega arith;
+    bounded = omega (arith, w.bounded, w.fewer, walks.fewer, walks.bounded);
+    low = omega (arith, w.low, walks.later);
+    high = walks.within;
+    fewer = omega (arith, w.fewer, walks.fewer);
+    frames =
+        frames_set hs₀ cs₀ hs' cs' next r.next r.next (next + i) r.head r.kids
+        (frames_then hs₀ cs₀ hs cs hs' cs' next at at r.next next r.next w.frames fr (omega arith) (omega (arith, w.low)) walks.later (omega arith))
+        (omega arith) (omega (arith, w.low, walks.later)) (omega arith);
+    is = λ S t look b o q z.
         let u = w.is S t look b o q z in
         let v = visited S t look b o q z in
-        over_visit most (finds look) levels t visits next n hl (omega (arith, w.fewer)) o.count
-        (visit_over (view ks vs g) (walk_by (finds look) (levels - 1)) S next n t (first (finds look) t visits next) hs cs j at left base size i
-        u lt (ei ∙ q j) (walk_count (finds look) (levels - 1)) most (walks (marks S) (get_or u.terms i error) look v.0 v.1 z))
+        visit_next (view ks vs g) (walk_by (finds look) (levels - 1)) S next n t (first (finds look) t visits next) hs cs hs' cs' j at left base size i r.head r.kids r.next r.visits r.size
+        b u lt o.count (ei ∙ q j) in_row w.low fr (omega (arith, w.low, w.high)) (omega (arith, w.low, w.high)) walks.later
+        (walks.done (marks S) (get_or u.terms i error) look v.0 v.1 z);
+  }
+
+  pub walking_over : Overrun ks vs ws g hs cs (record { head = get_or hs (next + i) 0; kids = get_or cs (next + i) 0 }) at (levels - 1) left most → (S : ℕ → Bool) (t : Term) (look : Look) → Below S next → Opened (view ks vs g) hs₀ cs₀ S next n t → Order k m l n t → Looks ks vs ws g look
+      → 0 < levels → most < (walk_by (finds look) levels t visits next).count
+  walking_over walks S t look b o q z hl =
+      let u = w.is S t look b o q z in
+      let v = visited S t look b o q z in
+      over_visit most (finds look) levels t visits next n hl (omega (arith, w.fewer)) o.count
+      (visit_over (view ks vs g) (walk_by (finds look) (levels - 1)) S next n t (first (finds look) t visits next) hs cs j at left base size i
+      u lt (ei ∙ q j) (walk_count (finds look) (levels - 1)) most (walks (marks S) (get_or u.terms i error) look v.0 v.1 z))
 
 -- ---- the node, when its children have been visited
 
-module _ (ks vs ws : List ℕ) (g : Origin) (hs₁ cs₁ hs₀ cs₀ hs cs : List ℕ) (x : Content) (k m l next n levels visits most base j at left size : ℕ)
+module _ {ks vs ws : List ℕ} {g : Origin} {hs₁ cs₁ hs₀ cs₀ hs cs : List ℕ} (x : Content) {k m l next n levels visits most base j at left size : ℕ}
     (w : Walking ks vs ws g hs₀ cs₀ hs cs k m l next n levels visits most base j at left size) (over : n ≤ j) (hl : 0 < levels) (ow : OwnAt (view ks vs g) x.head base)
     (hb : base + n ≤ 68719476736)
     (op : (S : ℕ → Bool) (t : Term) → Below S next → Tree (view ks vs g) hs₁ cs₁ S x.head x.kids t → Opened (view ks vs g) hs₀ cs₀ S next n t)
@@ -239,7 +239,7 @@ module _ (ks vs ws : List ℕ) (g : Origin) (hs₁ cs₁ hs₀ cs₀ hs cs : Lis
   node_at S t look b tr z =
       let f = walk_by (finds look) (levels - 1) in
       let o = op S t b tr in
-      let q = order-of ks vs ws g hs₁ cs₁ hs₀ cs₀ S x k m l next n t tr o od in
+      let q = order-of x tr o od in
       let u = w.is S t look b o q z in
       let e : visit_kids f (slot t) (length (children t)) 0 (first (finds look) t visits next) ≡ record { terms = u.terms; visits = left; count = at }
       = ap (λ (c : ℕ). visit_kids f (slot t) c 0 (first (finds look) t visits next)) (sym o.count)

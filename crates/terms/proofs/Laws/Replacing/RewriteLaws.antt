@@ -279,15 +279,15 @@ module _ (on : Bool) (out₀ : List ℕ) (at : ℕ) (whole : List ℕ) where
         all false = refl
 
 -- one step, at p
-module _ (ks vs : List ℕ) (f : ℕ → Choice) (on : Bool) (out₀ : List ℕ) (at : ℕ) (whole out : List ℕ) (i p e : ℕ) (h : p < e)
-    (g : Going on out₀ at whole out i (pieces ks vs f (e - p) p e)) (c : Choice) (k : c ≡ f p) where
+module _ (ks vs : List ℕ) (f : ℕ → Choice) {on : Bool} {out₀ : List ℕ} {at : ℕ} {whole out : List ℕ} {i : ℕ} (p e : ℕ) (h : p < e)
+    (g : Going on out₀ at whole out i (pieces ks vs f (e - p) p e)) {c : Choice} (k : c ≡ f p) where
   pub step_space : Space on at (length whole) (length out₀) → Space on i (length (piece ks vs p c)) (length out)
   step_space =
       going_space on out₀ at whole out i _ g (piece ks vs p c) (pieces ks vs f (e - (p + pace ks vs p e c)) (p + pace ks vs p e c) e) (pieces_step ks vs f p e h c k _ refl)
 
-  pub step_on : (n : ℕ) → n ≡ pace ks vs p e c → (j : ℕ) → j ≡ i + length (piece ks vs p c) → (out' : List ℕ) → out' ≡ pick on (sets out i (piece ks vs p c)) out
+  pub step_on : {n : ℕ} → n ≡ pace ks vs p e c → {j : ℕ} → j ≡ i + length (piece ks vs p c) → {out' : List ℕ} → out' ≡ pick on (sets out i (piece ks vs p c)) out
       → Going on out₀ at whole out' j (pieces ks vs f (e - (p + n)) (p + n) e)
-  step_on n m j ej out' eo = going_on on out₀ at whole out i _ g (piece ks vs p c) _ out' j (pieces_step ks vs f p e h c k n m) ej eo
+  step_on {n} m {j} ej {out'} eo = going_on on out₀ at whole out i _ g (piece ks vs p c) _ out' j (pieces_step ks vs f p e h c k n m) ej eo
 
 -- ---- a whole term
 

@@ -64,8 +64,8 @@ same_trees-same_term-requires t c =
 
 pub same_trees-returns-then-is_lent-2 : goal.same_trees-returns-then-is_lent-2
 same_trees-returns-then-is_lent-2 t c =
-    alike_lent c.args.seen.now.sight (lent_true _ _ _ _ c.is_lent.ensures c.if-is_lent.true) (lent_true _ _ _ _ c.is_lent-then-is_lent.ensures
-    c.if-is_lent-2.true) c.same_term.ensures
+    alike_lent c.args.seen.now.sight (lent_true _ _ _ _ c.is_lent.ensures c.if-is_lent.true)
+    (lent_true _ _ _ _ c.is_lent-then-is_lent.ensures c.if-is_lent-2.true) c.same_term.ensures
 
 pub same_trees-returns-in_default : goal.same_trees-returns-in_default
 same_trees-returns-in_default t c =
@@ -75,4 +75,4 @@ same_trees-returns-in_default t c =
 pub same_trees-returns : goal.same_trees-returns
 same_trees-returns t c =
     alike_ends c.token_at-s.ensures.kind c.token_at-s.ensures.value c.token_at-t.ensures.kind c.token_at-t.ensures.value c.if-s-t.false c.if-s-eq1.false
-    c.cursor-a.ensures c.cursor-b.ensures _ (omega (arith, c.if-fuel-eq0.false)) _ _ (rw c.in-Some.is at c.same_rows-m.ensures) 
+    c.cursor-a.ensures c.cursor-b.ensures _ (omega (arith, c.if-fuel-eq0.false)) _ _ (rw c.in-Some.is at c.same_rows-m.ensures)

@@ -3,7 +3,5 @@ use mathlib.Core.Path.{refl}
 use Rattle.terms.specs.Lookup.{rules as listed}
 use Rattle.terms.proofs.normal.normalise.Goals as goal
 
-pub returns : goal.returns
-returns c =
-    let run' = c.run in
-    record { out = run'.ensures.out; leaves = run'.ensures.leaves; answers = λ t rs h k. run'.ensures.answers t (listed rs) h (refl, k) }
+pub returns-clause-answers : goal.returns-clause-answers
+returns-clause-answers c = λ t rs h k. c.run.ensures.answers t (listed rs) h (refl, k)

@@ -14,10 +14,10 @@ returns-then-not-has_projection c =
     let plain' = c.size_up-plain in
     rw c.ok_or.ensures.value (record {
       out = plain'.ensures.out;
-      leaves = plain_leaves a.seen.now.tokens.kinds.now a.seen.now.tokens.vals.now a.seen.now.given s a.heads.now a.kids.now _ _ _ a.out.now a.at a.levels a.most _ y.0 y.1 plain'.result plain'.ensures.sized;
+      leaves = plain_leaves _ _ _ s _ _ _ _ _ _ _ a.levels a.most _ y.0 y.1 plain'.result plain'.ensures.sized;
       answers = λ t look h k.
           let e = normalise_plain a.levels a.visits (look_by look) t (sym (c.has_projection.ensures t h) ∙ not-true _ c.if-not-has_projection.true-raw) in
-          plain_answers a.seen.now.tokens.kinds.now a.seen.now.tokens.vals.now a.seen.now.given s a.heads.now a.kids.now _ _ _ a.out.now a.at a.levels a.most _ y.0 y.1 t _ h (ap (λ (o : Out). o.term) e) (ap (λ (o : Out). o.count) e)
+          plain_answers _ _ _ s _ _ _ _ _ _ _ a.levels a.most _ y.0 y.1 t _ h (ap (λ (o : Out). o.term) e) (ap (λ (o : Out). o.count) e)
           plain'.result plain'.ensures.sized;
     })
 
@@ -30,9 +30,9 @@ returns-in_default c =
     let fr = rw c.in_default.is at c.walk-walked.ensures.frames in
     record {
       out = refl;
-      leaves = over_leaves a.seen.now.tokens.kinds.now a.seen.now.tokens.vals.now a.heads.now a.kids.now _ _ a.most _ _ fr c.requires.zero.0 c.requires.zero.1 c.clear_tokens.ensures;
+      leaves = over_leaves _ _ _ _ _ _ a.most _ _ fr c.requires.zero.0 c.requires.zero.1 c.clear_tokens.ensures;
       answers = λ t look h k.
-          over_answers a.seen.now.tokens.kinds.now a.seen.now.tokens.vals.now a.heads.now a.kids.now c.clear_tokens.new.kinds c.clear_tokens.new.vals a.most a.rules.now a.seen.now.given s _ a.levels a.visits w _ y.0 y.1 t look _ h k
+          over_answers _ _ _ _ _ _ a.most _ _ s _ a.levels a.visits w _ y.0 y.1 t look _ h k
           (normalise_walked a.levels a.visits (look_by look) t (sym (c.has_projection.ensures t h) ∙ not-false _ c.if-not-has_projection.false-raw)) a.out.now a.at;
     }
 
@@ -46,9 +46,9 @@ returns c =
     let fr = rw c.in-Some.is at c.walk-walked.ensures.frames in
     rw c.ok_or-2.ensures.value (record {
       out = refl;
-      leaves = walked_leaves a.seen.now.tokens.kinds.now a.seen.now.tokens.vals.now a.seen.now.given s a.heads.now a.kids.now _ _ _ a.out.now a.at a.levels a.most a.rules.now _ _ _ a.visits _ w fr c.requires.zero.0 c.requires.zero.1 refl refl c.requires.place
+      leaves = walked_leaves _ _ _ s _ _ _ _ _ _ _ a.levels a.most _ _ _ _ a.visits _ w fr c.requires.zero.0 c.requires.zero.1 refl refl c.requires.place
           kept'.result kept'.ensures.fitted;
       answers = λ t look h k.
-          walked_answers a.seen.now.tokens.kinds.now a.seen.now.tokens.vals.now a.seen.now.given s a.heads.now a.kids.now _ _ _ a.out.now a.at a.levels a.most a.rules.now _ _ _ a.visits _ w fr c.requires.zero.0 c.requires.zero.1 refl refl c.requires.place
+          walked_answers _ _ _ s _ _ _ _ _ _ _ a.levels a.most _ _ _ _ a.visits _ w fr c.requires.zero.0 c.requires.zero.1 refl refl c.requires.place
           _ y.0 y.1 t look _ h k (normalise_walked a.levels a.visits (look_by look) t (sym (c.has_projection.ensures t h) ∙ not-false _ c.if-not-has_projection.false-raw)) kept'.result kept'.ensures.fitted;
     })

@@ -1,5 +1,4 @@
 use native.Mathlib.Omega.{arith}
-use Rattle.terms.specs.Words.VirtualTokens.{view}
 use Rattle.terms.proofs.Laws.Normalising.ScanLaws.{over_here, over_on, over_width, over_child, over_number}
 use Rattle.terms.proofs.Laws.Normalising.SumLaws.{token_few, owning_start, owning_number, owning_child, owning_done}
 use Rattle.terms.proofs.opening.own_len.Goals as goal
@@ -37,10 +36,6 @@ loop-y-preserved c =
       over_on _ _ i.1 _ _ t s,
     )
 
-pub returns : goal.returns
-returns c =
-    let a = view c.args.seen.now.tokens.kinds.now c.args.seen.now.tokens.vals.now c.args.seen.now.given in
-    let token-at' = c.token_at-x in
-    let z = owning_done a c.args.h _ _ _ _ c.loop-y.invariant.0 c.in-None.ensures.steps.0.0 token-at'.ensures.kind
-    token-at'.ensures.value c.token_len-n.ensures in
-    record { bound = z.1; own = z.0 }
+pub returns-clause-own : goal.returns-clause-own
+returns-clause-own c =
+    (owning_done _ c.args.h _ _ _ _ c.loop-y.invariant.0 c.in-None.ensures.steps.0.0 c.token_at-x.ensures.kind c.token_at-x.ensures.value c.token_len-n.ensures).0

@@ -25,47 +25,47 @@ returns-else-tag-eq4-2 c = λ ps n h. rw (c.in-IsInteger.is, ne_eqb _ 4 c.if-tag
 
 pub returns-in-1 : goal.returns-in-1
 unfolding counted_by
-returns-in-1 c = λ ps n h. rw c.in-IsConcrete.is (sym (among_in _ (1 ∷ 2 ∷ 3 ∷ 17 ∷ 18 ∷ 19 ∷ []) (λ x. omega (arith, x))))
+returns-in-1 c = λ ps n h. rw c.in-IsConcrete.is (sym (among_in _ _ (λ x. omega (arith, x))))
 
 pub returns-in-1-2 : goal.returns-in-1-2
 unfolding counted_by
-returns-in-1-2 c = λ ps n h. rw c.in-IsConcrete.is (sym (among_in _ (1 ∷ 2 ∷ 3 ∷ 17 ∷ 18 ∷ 19 ∷ []) (λ x. omega (arith, x))))
+returns-in-1-2 c = λ ps n h. rw c.in-IsConcrete.is (sym (among_in _ _ (λ x. omega (arith, x))))
 
 pub returns-in_default : goal.returns-in_default
 unfolding counted_by
-returns-in_default c = λ ps n h. rw c.in-IsConcrete.is (sym (among_out _ (1 ∷ 2 ∷ 3 ∷ 17 ∷ 18 ∷ 19 ∷ []) (λ x. omega (arith, x))))
+returns-in_default c = λ ps n h. rw c.in-IsConcrete.is (sym (among_out _ _ (λ x. omega (arith, x))))
 
 pub returns-in_default-2 : goal.returns-in_default-2
 unfolding counted_by
-returns-in_default-2 c = λ ps n h. rw c.in-IsConcrete.is (sym (among_out _ (1 ∷ 2 ∷ 3 ∷ 17 ∷ 18 ∷ 19 ∷ []) (λ x. omega (arith, x))))
+returns-in_default-2 c = λ ps n h. rw c.in-IsConcrete.is (sym (among_out _ _ (λ x. omega (arith, x))))
 
 pub returns-in_default-3 : goal.returns-in_default-3
 unfolding counted_by
-returns-in_default-3 c = λ ps n h. rw c.in-IsConcrete.is (sym (among_out _ (1 ∷ 2 ∷ 3 ∷ 17 ∷ 18 ∷ 19 ∷ []) (λ x. omega (arith, x))))
+returns-in_default-3 c = λ ps n h. rw c.in-IsConcrete.is (sym (among_out _ _ (λ x. omega (arith, x))))
 
 pub returns-in-1-matches : goal.returns-in-1-matches
 unfolding counted_by
-returns-in-1-matches c = λ ps n h. rw c.in-IsUnresolved.is (sym (among_in _ (1 ∷ 2 ∷ 3 ∷ []) (λ x. omega (arith, x))))
+returns-in-1-matches c = λ ps n h. rw c.in-IsUnresolved.is (sym (among_in _ _ (λ x. omega (arith, x))))
 
 pub returns-in_default-matches : goal.returns-in_default-matches
 unfolding counted_by
-returns-in_default-matches c = λ ps n h. rw c.in-IsUnresolved.is (sym (among_out _ (1 ∷ 2 ∷ 3 ∷ []) (λ x. omega (arith, x))))
+returns-in_default-matches c = λ ps n h. rw c.in-IsUnresolved.is (sym (among_out _ _ (λ x. omega (arith, x))))
 
 pub returns-in_default-matches-3 : goal.returns-in_default-matches-3
 unfolding counted_by
-returns-in_default-matches-3 c = λ ps n h. rw c.in-IsUnresolved.is (sym (among_out _ (1 ∷ 2 ∷ 3 ∷ []) (λ x. omega (arith, x))))
+returns-in_default-matches-3 c = λ ps n h. rw c.in-IsUnresolved.is (sym (among_out _ _ (λ x. omega (arith, x))))
 
 pub returns-in-1-matches-2 : goal.returns-in-1-matches-2
 unfolding counted_by
-returns-in-1-matches-2 c = λ ps n h. rw c.in-ContainsUnknown.is (sym (among_in _ (1 ∷ 2 ∷ []) (λ x. omega (arith, x))))
+returns-in-1-matches-2 c = λ ps n h. rw c.in-ContainsUnknown.is (sym (among_in _ _ (λ x. omega (arith, x))))
 
 pub returns-in_default-matches-2 : goal.returns-in_default-matches-2
 unfolding counted_by
-returns-in_default-matches-2 c = λ ps n h. rw c.in-ContainsUnknown.is (sym (among_out _ (1 ∷ 2 ∷ []) (λ x. omega (arith, x))))
+returns-in_default-matches-2 c = λ ps n h. rw c.in-ContainsUnknown.is (sym (among_out _ _ (λ x. omega (arith, x))))
 
 pub returns-in_default-matches-2-2 : goal.returns-in_default-matches-2-2
 unfolding counted_by
-returns-in_default-matches-2-2 c = λ ps n h. rw c.in-ContainsUnknown.is (sym (among_out _ (1 ∷ 2 ∷ []) (λ x. omega (arith, x))))
+returns-in_default-matches-2-2 c = λ ps n h. rw c.in-ContainsUnknown.is (sym (among_out _ _ (λ x. omega (arith, x))))
 
 pub returns-in-ContainsSelfType : goal.returns-in-ContainsSelfType
 unfolding counted_by

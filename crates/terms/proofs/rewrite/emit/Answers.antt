@@ -9,17 +9,17 @@ use Rattle.terms.proofs.rewrite.emit.Goals as goal
 pub emit_run-requires-clause-space : goal.emit_run-requires-clause-space
 emit_run-requires-clause-space c =
     let a = c.args in
-    respaced _ a.out.now _ _ _ (keep_piece a.tokens.now.kinds.now a.tokens.now.vals.now a.p a.c c.in-Keep.is) _ c.requires.space
+    respaced _ a.out.now _ _ _ (keep_piece _ _ _ _ c.in-Keep.is) _ c.requires.space
 
 pub emit_run-requires-in-By-clause-space : goal.emit_run-requires-in-By-clause-space
 emit_run-requires-in-By-clause-space c =
     let a = c.args in
-    respaced _ a.out.now _ _ _ (by_piece a.tokens.now.kinds.now a.tokens.now.vals.now a.p a.c _ _ c.in-By.is c.skip-n.ensures.is) _ c.requires.space
+    respaced _ a.out.now _ _ _ (by_piece _ _ _ _ _ _ c.in-By.is c.skip-n.ensures.is) _ c.requires.space
 
 pub bounds-out-i : goal.bounds-out-i
 bounds-out-i c =
     let a = c.args in
-    let h = respaced _ a.out.now _ _ _ (unknown_piece a.tokens.now.kinds.now a.tokens.now.vals.now a.p a.c c.in-Unknown.is) _ c.requires.space in
+    let h = respaced _ a.out.now _ _ _ (unknown_piece _ _ _ _ c.in-Unknown.is) _ c.requires.space in
     omega (arith, h.fits c.if-on.true)
 
 pub returns-then-on : goal.returns-then-on
@@ -30,7 +30,7 @@ returns-then-on c =
 pub overflow_add-result-in-Unknown : goal.overflow_add-result-in-Unknown
 overflow_add-result-in-Unknown c =
     let a = c.args in
-    let h = respaced _ a.out.now _ _ _ (unknown_piece a.tokens.now.kinds.now a.tokens.now.vals.now a.p a.c c.in-Unknown.is) _ c.requires.space in
+    let h = respaced _ a.out.now _ _ _ (unknown_piece _ _ _ _ c.in-Unknown.is) _ c.requires.space in
     omega (arith, h.counts)
 
 pub returns-in-Keep : goal.returns-in-Keep

@@ -1,38 +1,42 @@
 use mathlib.Core.Path.{refl}
-use Prim.Native.Nat.{◌+◌}
+use Prim.Native.Nat.{◌+◌, ◌≤◌}
 use native.Mathlib.Omega.{arith}
 use Rattle.terms.specs.Words.RewriteContract.{chosen}
 use Rattle.terms.proofs.Laws.Replacing.RewriteLaws.{chosen_inside, pieces_end, pace_within, going_end, step_space, step_on}
 use Rattle.terms.proofs.rewrite.rewrite_run.Goals as goal
+use Rattle.terms.proofs.rewrite.rewrite_run.Goals.{After-pace-p}
 
-pub emit-i-requires : goal.emit-i-requires
-emit-i-requires c =
+-- a step goes on, and not past the end
+stride : (c : After-pace-p) → (1 ≤ c.pace-p.result) × (c.loop-p.p + c.pace-p.result ≤ c.args.from + c.args.count)
+stride c =
     let a = c.args in
-    let l = c.loop-p in record { areas = (omega arith, rw c.replaced_at-c.ensures (chosen_inside a.tokens.now.kinds.now a.tokens.now.vals.now a.s.now a.b c.requires.areas l.p)); space = step_space a.tokens.now.kinds.now a.tokens.now.vals.now (chosen a.tokens.now.kinds.now a.tokens.now.vals.now a.s.now a.b) a.on a.out.now a.at _ l.out l.i l.p (a.from + a.count) (omega arith) l.invariant.2 _ c.replaced_at-c.ensures c.requires.space }
+    pace_within _ _ (chosen a.tokens.now.kinds.now a.tokens.now.vals.now a.s.now a.b) _ _ (omega (arith, c.loop-p-test.true, c.loop-p.invariant.1)) _ _ c.pace-p.ensures
+
+pub emit-i-requires-clause-areas : goal.emit-i-requires-clause-areas
+emit-i-requires-clause-areas c = (omega arith, rw c.replaced_at-c.ensures (chosen_inside _ _ c.args.s.now c.args.b c.requires.areas c.loop-p.p))
+
+pub emit-i-requires-clause-space : goal.emit-i-requires-clause-space
+emit-i-requires-clause-space c =
+    let a = c.args in
+    step_space a.tokens.now.kinds.now a.tokens.now.vals.now _ c.loop-p.p (a.from + a.count) (omega arith) c.loop-p.invariant.2 c.replaced_at-c.ensures c.requires.space
 
 pub overflow_add-p : goal.overflow_add-p
-overflow_add-p c =
-    let a = c.args in
-    let l = c.loop-p in
-    omega (arith, pace_within a.tokens.now.kinds.now a.tokens.now.vals.now (chosen a.tokens.now.kinds.now a.tokens.now.vals.now a.s.now a.b) l.p (a.from + a.count) (omega arith) _ _ c.pace-p.ensures)
+overflow_add-p c = omega (arith, stride (goal.at.overflow_add-p c).After-pace-p)
 
 pub loop-p-smaller : goal.loop-p-smaller
-loop-p-smaller c =
-    let a = c.args in
-    let l = c.loop-p in
-    omega (arith, pace_within a.tokens.now.kinds.now a.tokens.now.vals.now (chosen a.tokens.now.kinds.now a.tokens.now.vals.now a.s.now a.b) l.p (a.from + a.count) (omega arith) _ _ c.pace-p.ensures)
+loop-p-smaller c = omega (arith, stride (goal.at.loop-p-smaller c).After-pace-p)
 
 pub loop-p-preserved : goal.loop-p-preserved
 loop-p-preserved c =
-    let a = c.args in
-    let l = c.loop-p in (
-      omega (arith, pace_within a.tokens.now.kinds.now a.tokens.now.vals.now (chosen a.tokens.now.kinds.now a.tokens.now.vals.now a.s.now a.b) l.p (a.from + a.count) (omega arith) _ _ c.pace-p.ensures),
+    let a = c.args in (
+      omega (arith, stride (goal.at.loop-p-preserved c).After-pace-p),
       refl,
-      step_on a.tokens.now.kinds.now a.tokens.now.vals.now (chosen a.tokens.now.kinds.now a.tokens.now.vals.now a.s.now a.b) a.on a.out.now a.at _ l.out l.i l.p (a.from + a.count) (omega arith) l.invariant.2 _ c.replaced_at-c.ensures _ c.pace-p.ensures _ c.emit-i.ensures.next _ c.emit-i.ensures.wrote,
+      step_on a.tokens.now.kinds.now a.tokens.now.vals.now _ c.loop-p.p (a.from + a.count) (omega arith) c.loop-p.invariant.2 c.replaced_at-c.ensures c.pace-p.ensures c.emit-i.ensures.next
+      c.emit-i.ensures.wrote,
     )
 
 pub returns : goal.returns
 returns c =
     let a = c.args in
-    let l = c.loop-p in
-    let both = going_end _ _ _ _ _ _ _ l.invariant.2 (pieces_end a.tokens.now.kinds.now a.tokens.now.vals.now (chosen a.tokens.now.kinds.now a.tokens.now.vals.now a.s.now a.b) l.p (a.from + a.count) (omega arith)) in record { next = both.0; wrote = both.1 }
+    let both = going_end _ _ _ _ _ _ _ c.loop-p.invariant.2 (pieces_end a.tokens.now.kinds.now a.tokens.now.vals.now _ c.loop-p.p (a.from + a.count) (omega arith)) in
+    record { next = both.0; wrote = both.1 }

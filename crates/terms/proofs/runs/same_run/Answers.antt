@@ -2,20 +2,19 @@ use native.Mathlib.Omega.{arith}
 use Prim.Native.Nat.{◌+◌, ◌-◌}
 use mathlib.Core.Path.{sym, ◌∙◌}
 use Rattle.terms.specs.Words.Tokens.{one}
-use Rattle.terms.proofs.Laws.General.Bools.{never_true, never_false}
 use Rattle.terms.proofs.Laws.Held.HeldLaws.{toks_join, toks_split}
 use Rattle.terms.proofs.Laws.Format.WriteLaws.{spell_none}
 use Rattle.terms.proofs.runs.same_run.Goals as goal
 
-pub returns-then-kinds-a : goal.returns-then-kinds-a
-returns-then-kinds-a c =
+pub returns-then-kinds-a-clause-no : goal.returns-then-kinds-a-clause-no
+returns-then-kinds-a-clause-no c =
     let a = c.args in
-    let l = c.loop-i in record { yes = never_true; no = λ _ h. c.if-kinds-a.true (toks_split a.kinds.now a.vals.now a.a a.b l.i a.count (omega arith) (l.invariant.2 h)).0 }
+    λ _ h. c.if-kinds-a.true (toks_split a.kinds.now a.vals.now a.a a.b c.loop-i.i a.count (omega arith) (c.loop-i.invariant.2 h)).0
 
-pub returns-then-vals-a : goal.returns-then-vals-a
-returns-then-vals-a c =
+pub returns-then-vals-a-clause-no : goal.returns-then-vals-a-clause-no
+returns-then-vals-a-clause-no c =
     let a = c.args in
-    let l = c.loop-i in record { yes = never_true; no = λ _ h. c.if-vals-a.true (toks_split a.kinds.now a.vals.now a.a a.b l.i a.count (omega arith) (l.invariant.2 h)).1 }
+    λ _ h. c.if-vals-a.true (toks_split a.kinds.now a.vals.now a.a a.b c.loop-i.i a.count (omega arith) (c.loop-i.invariant.2 h)).1
 
 pub loop-i-preserved : goal.loop-i-preserved
 loop-i-preserved c =
@@ -26,8 +25,9 @@ loop-i-preserved c =
       λ h. (toks_split a.kinds.now a.vals.now a.a a.b l.i a.count (omega arith) (l.invariant.2 h)).2,
     )
 
-pub returns : goal.returns
-returns c =
+pub returns-clause-yes : goal.returns-clause-yes
+returns-clause-yes c =
     let a = c.args in
     let l = c.loop-i in
-    let s = spell_none one a.kinds.now a.vals.now in record { yes = λ _. l.invariant.1 (s (a.a + l.i) (a.count - l.i) (omega arith) ∙ sym (s (a.b + l.i) (a.count - l.i) (omega arith))); no = never_false }
+    let s = spell_none one a.kinds.now a.vals.now in
+    λ _. l.invariant.1 (s (a.a + l.i) (a.count - l.i) (omega arith) ∙ sym (s (a.b + l.i) (a.count - l.i) (omega arith)))

@@ -1,9 +1,8 @@
 -- `behind`: by the span of the term.
-use native.Mathlib.Omega.{arith}
 use mathlib.Core.Path.{ap}
 use Prim.Native.Nat.{ℕ, ◌+◌}
 use Rattle.terms.proofs.Laws.Held.SameLaws.{told}
 use Rattle.terms.proofs.satisfy.behind.Goals as goal
 
-pub returns : goal.returns
-returns c = record { forward = omega arith; passed = λ t h. ap (λ (n : ℕ). c.args.i + n) (told _ _ _ _ t h c.skip.ensures.span) }
+pub returns-clause-passed : goal.returns-clause-passed
+returns-clause-passed c = λ t h. ap (λ (n : ℕ). c.args.i + n) (told _ _ _ _ t h c.skip.ensures.span)

@@ -2,7 +2,7 @@
 -- `show_tree`. As it stands in the source, or its first token and then its row.
 use Rattle.terms.proofs.Laws.Normalising.AlikeLaws.{depth_some, depth_row}
 use Rattle.terms.proofs.Laws.Normalising.ScanLaws.{over_here, over_on, over_width, over_child, over_number}
-use Rattle.terms.proofs.Laws.Normalising.ShowLaws.{row_done, row_number, row_child, tree_flat, tree_bytes, shows_first, shows_then, kept_at, kept_then}
+use Rattle.terms.proofs.Laws.Normalising.ShowLaws.{row_done, row_number, row_child, tree_flat, tree_bytes, shows_first, shows_then}
 use Rattle.terms.specs.Term.{bytes, part_bytes}
 use Rattle.terms.specs.Tree.{row}
 use Rattle.terms.specs.Words.TokenBytes.{plain}
@@ -43,49 +43,26 @@ show_row-returns-clause-shows t c =
     let i = c.loop-q.invariant in
     row_done _ _ _ _ _ _ _ _ _ _ _ _ i.0 (rw i.2 at c.in-None.ensures.steps.0.0)
 
-pub show_tree-returns-then-x-eq0 : goal.show_tree-returns-then-x-eq0
-show_tree-returns-then-x-eq0 t c =
-    let show-run' = c.show_run in
-    let step' = c.step in
-    let token-at' = c.token_at-h in
-    record {
-      kept = show-run'.ensures.kept;
-      shows = λ S t w d.
-          let e = tree_flat _ _ _ S w c.if-x-eq0.true c.args.x.head step'.result refl
-          token-at'.ensures.kind token-at'.ensures.value step'.ensures.span in
-          rw (← e) show-run'.ensures.shows;
-    }
+pub show_tree-returns-then-x-eq0-clause-shows : goal.show_tree-returns-then-x-eq0-clause-shows
+show_tree-returns-then-x-eq0-clause-shows t c =
+    λ S t w d.
+    rw (← tree_flat _ _ _ S w c.if-x-eq0.true c.args.x.head c.step.result refl c.token_at-h.ensures.kind c.token_at-h.ensures.value c.step.ensures.span) c.show_run.ensures.shows
 
-pub show_tree-returns-then-fuel-eq0 : goal.show_tree-returns-then-fuel-eq0
-show_tree-returns-then-fuel-eq0 t c = record { kept = kept_at _ _ _ _ (omega (arith, c.requires.room)); shows = λ S t w d. absurd (omega (arith, d (omega (arith, c.if-x-eq0.false)), depth_some t)) }
+pub show_tree-returns-then-fuel-eq0-clause-shows : goal.show_tree-returns-then-fuel-eq0-clause-shows
+show_tree-returns-then-fuel-eq0-clause-shows t c = λ S t w d. absurd (omega (arith, d (omega (arith, c.if-x-eq0.false)), depth_some t))
 
-pub show_tree-returns-then-out-i : goal.show_tree-returns-then-out-i
-show_tree-returns-then-out-i t c =
-    let a = c.args in
-    let show-token' = c.show_token-i in
-    let token-at' = c.token_at-h in
-    record {
-      kept = show-token'.ensures.kept;
-      shows = λ S t w d. shows_first a.on a.out.now c.show_token-i.new.out a.at (plain token-at'.result.kind token-at'.result.value) (part_bytes (row t)) (bytes t) c.requires.room
-          (tree_bytes _ _ _ S w token-at'.ensures.kind
-          token-at'.ensures.value)
-          _ show-token'.ensures.kept.long show-token'.ensures.shows
-          (omega (arith, c.if-out-i.true, show-token'.ensures.kept.long));
-    }
+pub show_tree-returns-then-out-i-clause-shows : goal.show_tree-returns-then-out-i-clause-shows
+show_tree-returns-then-out-i-clause-shows t c =
+    λ S t w d.
+    let s = c.show_token-i.ensures in
+    shows_first _ _ _ _ (plain c.token_at-h.result.kind c.token_at-h.result.value) (part_bytes (row t)) (bytes t) c.requires.room
+    (tree_bytes _ _ _ S w c.token_at-h.ensures.kind c.token_at-h.ensures.value) _ s.kept.long s.shows (omega (arith, c.if-out-i.true, s.kept.long))
 
-pub show_tree-returns : goal.show_tree-returns
-show_tree-returns t c =
-    let a = c.args in
-    let show-token' = c.show_token-i in
-    let show-row' = c.show_row in
-    let token-at' = c.token_at-h in
-    record {
-      kept = kept_then _ _ _ _ _ _ _ show-token'.ensures.kept show-row'.ensures.kept;
-      shows = λ S t w d. shows_then a.on a.out.now c.show_token-i.new.out a.at (plain token-at'.result.kind token-at'.result.value) (part_bytes (row t)) (bytes t) c.requires.room
-          (tree_bytes _ _ _ S w token-at'.ensures.kind
-          token-at'.ensures.value)
-          _ show-token'.ensures.kept.long show-token'.ensures.shows
-          (omega (arith, c.if-out-i.false, show-token'.ensures.kept.long)) _ show-row'.result show-row'.ensures.kept.long
-          (show-row'.ensures.shows S (row t) (c.cursor-c.ensures.is a.heads.now a.kids.now S t w)
-          (omega (arith, d (omega (arith, c.if-x-eq0.false)), depth_row t, c.if-fuel-eq0.false)));
-    }
+pub show_tree-returns-clause-shows : goal.show_tree-returns-clause-shows
+show_tree-returns-clause-shows t c =
+    λ S t w d.
+    let s = c.show_token-i.ensures in
+    let r = c.show_row.ensures in
+    shows_then _ _ _ _ (plain c.token_at-h.result.kind c.token_at-h.result.value) (part_bytes (row t)) (bytes t) c.requires.room
+    (tree_bytes _ _ _ S w c.token_at-h.ensures.kind c.token_at-h.ensures.value) _ s.kept.long s.shows (omega (arith, c.if-out-i.false, s.kept.long)) _ c.show_row.result r.kept.long
+    (r.shows S (row t) (c.cursor-c.ensures.is _ _ S t w) (omega (arith, d (omega (arith, c.if-x-eq0.false)), depth_row t, c.if-fuel-eq0.false)))

@@ -18,16 +18,10 @@ pub loop-q-preserved : goal.loop-q-preserved
 loop-q-preserved c =
     counting_next _ _ _ _ _ _ _ c.loop-q.invariant c.loop-q-test.true refl c.if-k-eq20.false c.first_of_node-n.ensures
 
-pub returns : goal.returns
-returns c =
-    let l = c.loop-q in
-    let step' = c.step-span in
-    let word' = c.word.ensures in
-    let word'' = c.word-2.ensures in record {
-      few = (omega (arith, c.if-most-n.false), omega (arith, l.invariant.low, l.invariant.high, c.if-span-gt-TRIED.false));
-      fixed = λ some. record {
-        source = c.if-x-ne0.false;
-        lent = lent_span c.args.tokens.now.kinds.now c.args.tokens.now.vals.now _ _ _ refl word' word'' step'.ensures.span (omega (arith, c.if-tokens-end.false));
-        is = λ t h. counting_done _ _ _ _ _ _ _ l.invariant (omega (arith, c.loop-q-test.false)) t h;
-      };
+pub returns-clause-fixed : goal.returns-clause-fixed
+returns-clause-fixed c =
+    λ some. record {
+      source = c.if-x-ne0.false;
+      lent = lent_span c.args.tokens.now.kinds.now c.args.tokens.now.vals.now _ _ _ refl c.word.ensures c.word-2.ensures c.step-span.ensures.span (omega (arith, c.if-tokens-end.false));
+      is = counting_done _ _ _ _ _ _ _ c.loop-q.invariant (omega (arith, c.loop-q-test.false));
     }
