@@ -1,6 +1,4 @@
 -- `can_weaken_to`: the kinds, the two accesses, and what stands after them.
-use mathlib.Core.Path.{◌≡◌}
-use mathlib.Core.Bool.{true}
 use Rattle.terms.specs.Term.{Term}
 use Rattle.terms.specs.Formed.{Formed}
 use Rattle.terms.specs.Words.Held.{Held}

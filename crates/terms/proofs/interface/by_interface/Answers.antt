@@ -1,12 +1,11 @@
 -- `by_interface`. By its tests.
 use mathlib.Core.Bool.{Bool}
-use mathlib.Core.Option.{some}
 use mathlib.Core.Path.{◌≡◌, refl, sym, ap, ◌∙◌}
 use Prim.Native.Nat.{ℕ, ◌+◌, ◌≤◌}
 use borrow.Author.Tests.{not-true, not-false}
-use lib.ListN.{get_elem?, get_or}
+use lib.ListN.{get_or}
 use Rattle.terms.specs.Term.{Term, Parts, depth}
-use Rattle.terms.specs.Tree.{nums, children, row, tag}
+use Rattle.terms.specs.Tree.{nums, row, tag}
 use Rattle.terms.specs.Lookup.{HeldGiven, output, through, unless}
 use Rattle.terms.specs.Words.Arena.{Tree}
 use Rattle.terms.specs.Words.Lent.{shown}

@@ -1,5 +1,4 @@
 -- The numbers, and then the term.
-use Rattle.terms.specs.Words.Tokens.{area}
 use Rattle.terms.specs.Reading.{term}
 use Rattle.terms.specs.Rows.{keys}
 use Rattle.terms.specs.Words.ReadContract.{Next, Stopped}

@@ -32,7 +32,7 @@ loop-p-preserved c =
       omega (arith, stride (goal.at.loop-p-preserved c).After-pace-p),
       refl,
       step_on a.tokens.now.kinds.now a.tokens.now.vals.now _ c.loop-p.p (a.from + a.count) (omega arith) c.loop-p.invariant.2 c.replaced_at-c.ensures c.pace-p.ensures c.emit-i.ensures.next
-      c.emit-i.ensures.wrote,
+          c.emit-i.ensures.wrote,
     )
 
 pub returns : goal.returns

@@ -1,11 +1,9 @@
 -- `walk`. What each case answers.
 use Rattle.terms.proofs.Laws.Normalising.FixedLaws.{fixed_kept}
 use Rattle.terms.proofs.Laws.Normalising.MemberLaws.{replace_other}
-use Rattle.terms.proofs.Laws.Normalising.OpenLaws.{frames_same, frames_then, frames_next}
 use Rattle.terms.proofs.Laws.Normalising.VisitLaws.{walk-levels, walk_visits, over_start}
-use Rattle.terms.proofs.Laws.Normalising.WalkLaws.{finds, order-of, walking_start, walking_next, walking_over, walks_kept, walks_itself, walks_followed, walks_failed, used_later}
+use Rattle.terms.proofs.Laws.Normalising.WalkLaws.{finds, order-of, walking_start, walking_next, walking_over, walks_kept, walks_itself, walks_followed, walks_failed}
 use Rattle.terms.specs.Lookup.{look_by}
-use Rattle.terms.specs.Words.WalkingContract.{used}
 use mathlib.Core.Path.{refl, ◌∙◌}
 use native.Mathlib.Omega.{arith}
 use Rattle.terms.proofs.walking.+walk.Goals as goal
