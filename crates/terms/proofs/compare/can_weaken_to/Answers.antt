@@ -1,6 +1,4 @@
 -- `can_weaken_to`: the kinds, the two accesses, and what stands after them.
-use mathlib.Core.Path.{◌≡◌}
-use mathlib.Core.Bool.{true}
 use Rattle.terms.specs.Term.{Term}
 use Rattle.terms.specs.Formed.{Formed}
 use Rattle.terms.specs.Words.Held.{Held}
@@ -10,10 +8,12 @@ use Rattle.terms.proofs.compare.can_weaken_to.Goals as goal
 use Rattle.terms.proofs.compare.can_weaken_to.Goals.{After-skip-m}
 
 -- both have marks
-marks : (c : After-skip-m) (t u : Term) → Held c.args.tokens.now.kinds.now c.args.tokens.now.vals.now c.args.a t → Held c.args.tokens.now.kinds.now c.args.tokens.now.vals.now c.args.b u
+marks : (c : After-skip-m) (t u : Term) → Held c.args.tokens.now.kinds.now c.args.tokens.now.vals.now c.args.a t
+    → Held c.args.tokens.now.kinds.now c.args.tokens.now.vals.now c.args.b u
     → Formed t → Formed u → Two c.args.tokens.now.kinds.now c.args.tokens.now.vals.now c.args.a c.args.b c.skip-n.result c.skip-m.result t u
 marks c t u ht hu ft fu =
-    two t u ht hu c.word-k.ensures c.word.ensures c.has_access.ensures c.if-k-word.false (not-false _ c.if-not-has_access.false-raw) ft fu c.skip-n.ensures.span c.skip-m.ensures.span
+    two t u ht hu c.word-k.ensures c.word.ensures c.has_access.ensures c.if-k-word.false (not-false _ c.if-not-has_access.false-raw) ft fu
+    c.skip-n.ensures.span c.skip-m.ensures.span
 
 pub returns-then-k-word : goal.returns-then-k-word
 returns-then-k-word c = λ t u ht hu ft fu. held_apart t u ht hu c.word-k.ensures c.word.ensures c.if-k-word.true
@@ -40,4 +40,5 @@ returns-then-word-ne0 c =
 pub returns : goal.returns
 returns c =
     λ t u ht hu ft fu.
-    by_rest (marks (goal.at.returns c).After-skip-m t u ht hu ft fu) c.word-2.ensures c.if-word-ne1.false c.word-3.ensures c.if-word-ne0.false c.rows_conflict.ensures
+    by_rest (marks (goal.at.returns c).After-skip-m t u ht hu ft fu) c.word-2.ensures c.if-word-ne1.false c.word-3.ensures c.if-word-ne0.false
+    c.rows_conflict.ensures

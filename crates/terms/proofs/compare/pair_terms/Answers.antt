@@ -17,14 +17,16 @@ returns-then-yields-2-clause-stepped c =
 pub returns-then-k-l-clause-stepped : goal.returns-then-k-l-clause-stepped
 returns-then-k-l-clause-stepped c =
     λ w x.
-    step_kinds (next_terms x c.requires.parts.0.0 c.requires.parts.1.0 c.requires.terms) c.word-k.ensures c.word-l.ensures (sym c.yields.ensures ∙ c.if-yields.false) (sym c.yields-2.ensures ∙ c.if-yields-2.false)
+    step_kinds (next_terms x c.requires.parts.0.0 c.requires.parts.1.0 c.requires.terms) c.word-k.ensures c.word-l.ensures (sym c.yields.ensures ∙ c.if-yields.false)
+    (sym c.yields-2.ensures ∙ c.if-yields-2.false)
     c.if-k-l.true
 
 pub returns-then-not-same_term-clause-stepped : goal.returns-then-not-same_term-clause-stepped
 returns-then-not-same_term-clause-stepped c =
     λ w x.
     let n = next_terms x c.requires.parts.0.0 c.requires.parts.1.0 c.requires.terms in
-    step_projections n c.word-k.ensures c.word-l.ensures (sym c.yields.ensures ∙ c.if-yields.false) (sym c.yields-2.ensures ∙ c.if-yields-2.false) c.if-k-l.false
+    step_projections n c.word-k.ensures c.word-l.ensures (sym c.yields.ensures ∙ c.if-yields.false) (sym c.yields-2.ensures ∙ c.if-yields-2.false)
+    c.if-k-l.false
     c.if-k-eq20.true (sym (c.same_term.ensures n.t n.u n.held_left n.held_right) ∙ not-true _ c.if-not-same_term.true-raw)
 
 pub returns-then-k-eq20-clause-stepped : goal.returns-then-k-eq20-clause-stepped
@@ -38,5 +40,6 @@ returns-then-k-eq20-clause-stepped c =
 pub returns-clause-stepped : goal.returns-clause-stepped
 returns-clause-stepped c =
     λ w x.
-    step_enter (next_terms x c.requires.parts.0.0 c.requires.parts.1.0 c.requires.terms) c.word-k.ensures c.word-l.ensures (sym c.yields.ensures ∙ c.if-yields.false) (sym c.yields-2.ensures ∙ c.if-yields-2.false)
+    step_enter (next_terms x c.requires.parts.0.0 c.requires.parts.1.0 c.requires.terms) c.word-k.ensures c.word-l.ensures (sym c.yields.ensures ∙ c.if-yields.false)
+    (sym c.yields-2.ensures ∙ c.if-yields-2.false)
     c.if-k-l.false c.if-k-eq20.false

@@ -1,6 +1,5 @@
 -- `yields`: by the ranges of the kind.
 use mathlib.Core.Path.{sym}
-use mathlib.Core.List.{[], ◌∷◌}
 use native.Mathlib.Omega.{arith}
 use Rattle.terms.proofs.Laws.Asking.QuestionLaws.{among_in, among_out}
 use Rattle.terms.proofs.compare.yields.Goals as goal

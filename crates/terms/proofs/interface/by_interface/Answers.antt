@@ -1,12 +1,11 @@
 -- `by_interface`. By its tests.
 use mathlib.Core.Bool.{Bool}
-use mathlib.Core.Option.{some}
 use mathlib.Core.Path.{◌≡◌, refl, sym, ap, ◌∙◌}
 use Prim.Native.Nat.{ℕ, ◌+◌, ◌≤◌}
 use borrow.Author.Tests.{not-true, not-false}
-use lib.ListN.{get_elem?, get_or}
+use lib.ListN.{get_or}
 use Rattle.terms.specs.Term.{Term, Parts, depth}
-use Rattle.terms.specs.Tree.{nums, children, row, tag}
+use Rattle.terms.specs.Tree.{nums, row, tag}
 use Rattle.terms.specs.Lookup.{HeldGiven, output, through, unless}
 use Rattle.terms.specs.Words.Arena.{Tree}
 use Rattle.terms.specs.Words.Lent.{shown}
@@ -17,8 +16,10 @@ use Rattle.terms.proofs.interface.by_interface.Goals as goal
 use Rattle.terms.proofs.interface.by_interface.Goals.{After-number_at-2, After-output-value}
 
 -- the declarations as they are read
-declared : (c : After-number_at-2) (S : ℕ → Bool) (t : Term) (i : Parts) (owner : Term) → Tree (shown c.args.seen.now) c.args.heads.now c.args.kids.now S c.args.x.head c.args.x.kids t
-    → HeldGiven c.args.seen.now.tokens.kinds.now c.args.seen.now.tokens.vals.now c.args.seen.now.given i owner → Declared t i c.number_at.result c.number_at-2.result
+declared : (c : After-number_at-2) (S : ℕ → Bool) (t : Term) (i : Parts) (owner : Term)
+    → Tree (shown c.args.seen.now) c.args.heads.now c.args.kids.now S c.args.x.head c.args.x.kids t
+    → HeldGiven c.args.seen.now.tokens.kinds.now c.args.seen.now.tokens.vals.now c.args.seen.now.given i owner
+    → Declared t i c.number_at.result c.number_at-2.result
 declared c S t i owner w h = record {
   bare = own_plain c.requires.counts w (rw (nothing _ (sym c.is_some.ensures ∙ c.if-is_some.false)) at (c.child_at-argument.ensures S t w));
   here = c.number_at.ensures.value.is _ _ S _ t w;
@@ -39,7 +40,8 @@ returns-then-number_at c =
 pub returns-in_err-y : goal.returns-in_err-y
 returns-in_err-y c =
     λ S t i owner w k d h.
-    rw c.from_residual.ensures (through_bare t i owner (declared (goal.at.returns-in_err-y c).After-number_at-2 S t i owner w h) c.if-number_at.false (c.in_err-y.ensures S t w))
+    rw c.from_residual.ensures (through_bare t i owner (declared (goal.at.returns-in_err-y c).After-number_at-2 S t i owner w h) c.if-number_at.false
+    (c.in_err-y.ensures S t w))
 
 pub returns-then-not-same_trees : goal.returns-then-not-same_trees
 returns-then-not-same_trees c =
@@ -50,9 +52,11 @@ returns-then-not-same_trees c =
     (c.same_trees.ensures.no (not-true _ c.if-not-same_trees.true-raw) S S _ _ r.2 u (receiver_low t r.0 _ r.1 d))
 
 -- what the last test is about
-unless_is : (c : After-output-value) (S : ℕ → Bool) (t : Term) (i : Parts) (owner : Term) → Tree (shown c.args.seen.now) c.args.heads.now c.args.kids.now S c.args.x.head c.args.x.kids t
+unless_is : (c : After-output-value) (S : ℕ → Bool) (t : Term) (i : Parts) (owner : Term)
+    → Tree (shown c.args.seen.now) c.args.heads.now c.args.kids.now S c.args.x.head c.args.x.kids t
     → tag t ≡ 18 → depth t ≤ c.args.fuel + 1 → HeldGiven c.args.seen.now.tokens.kinds.now c.args.seen.now.tokens.vals.now c.args.seen.now.given i owner
-    → Declared t i c.number_at.result c.number_at-2.result → through i owner (row t) ≡ unless t (output owner i (get_or (shown c.args.seen.now).vals c.number_place-p.result 0))
+    → Declared t i c.number_at.result c.number_at-2.result
+    → through i owner (row t) ≡ unless t (output owner i (get_or (shown c.args.seen.now).vals c.number_place-p.result 0))
 unless_is c S t i owner w k d h y =
     let r = c.in_ok-y.ensures S t w in
     let u = owner_tree _ _ _ c.args.seen.now.sight i owner h _ _ S _ _ c.source.ensures.0 c.source.ensures.1 in
@@ -71,5 +75,9 @@ pub returns : goal.returns
 returns c =
     λ S t i owner w k d h.
     let y = declared (goal.at.returns c).After-number_at-2 S t i owner w h in
-    let f = c.output-value.ensures S i owner h c.number_place-p.ensures.kind in
-    (_, unless_is (goal.at.returns c).After-output-value S t i owner w k d h y ∙ unless_found t _ (c.same_trees-2.ensures.no c.if-same_trees.false S S _ _ w f d), f)
+    let f = c.output-value.ensures S i owner h c.number_place-p.ensures.kind in (
+      _,
+      unless_is (goal.at.returns c).After-output-value S t i owner w k d h y ∙ unless_found t _
+          (c.same_trees-2.ensures.no c.if-same_trees.false S S _ _ w f d),
+      f,
+    )

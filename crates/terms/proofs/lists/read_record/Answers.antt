@@ -1,5 +1,4 @@
 -- The numbers, and then the term.
-use Rattle.terms.specs.Words.Tokens.{area}
 use Rattle.terms.specs.Reading.{term}
 use Rattle.terms.specs.Rows.{keys}
 use Rattle.terms.specs.Words.ReadContract.{Next, Stopped}
@@ -19,10 +18,12 @@ returns-in_err-read_id-2 c =
     let a = c.args in
     let w = a.w in
     rw (handed_on _ _ c.from_residual-in_err-read_id-2.ensures.1)
-    (single_no _ (term _ w.issued w.levels) (keys w.first w.second) a.place.now _ _ _ (keys_yes _ w.first w.second _ _ _ _ c.in_ok-read_id.ensures _ (Stopped _) c.in_err-read_id-2.ensures))
+    (single_no _ (term _ w.issued w.levels) (keys w.first w.second) a.place.now _ _ _ (keys_yes _ w.first w.second _ _ _ _ c.in_ok-read_id.ensures _
+    (Stopped _) c.in_err-read_id-2.ensures))
 
 pub returns : goal.returns
 returns c =
     let w = c.args.w in
     let u = c.read_id-2.new.place in
-    single_yes _ (term _ w.issued w.levels) (keys w.first w.second) _ _ _ u (keys_yes _ w.first w.second _ _ _ _ c.in_ok-read_id.ensures _ (Next u) c.in_ok-read_id-2.ensures) _ _ c.read_term.ensures
+    single_yes _ (term _ w.issued w.levels) (keys w.first w.second) _ _ _ u (keys_yes _ w.first w.second _ _ _ _ c.in_ok-read_id.ensures _ (Next u)
+    c.in_ok-read_id-2.ensures) _ _ c.read_term.ensures

@@ -11,7 +11,8 @@ use Rattle.terms.proofs.members.own_member.Goals as goal
 use Rattle.terms.proofs.members.own_member.Goals.{Else-is_some}
 
 -- there are no arguments
-plain : (c : Else-is_some) (S : ℕ → Bool) (t : Term) → Tree (shown c.args.seen.now) c.args.heads.now c.args.kids.now S c.args.x.head c.args.x.kids t → no_terms (arguments_of (row t)) ≡ true
+plain : (c : Else-is_some) (S : ℕ → Bool) (t : Term) → Tree (shown c.args.seen.now) c.args.heads.now c.args.kids.now S c.args.x.head c.args.x.kids t
+    → no_terms (arguments_of (row t)) ≡ true
 plain c S t w = own_plain c.requires.counts w (rw (nothing _ (sym c.is_some.ensures ∙ c.if-is_some.false)) at (c.child_at-argument.ensures S t w))
 
 pub returns-then-is_some : goal.returns-then-is_some
@@ -31,18 +32,21 @@ pub returns-in_err-y : goal.returns-in_err-y
 returns-in_err-y c =
     λ S t w.
     let e = rw (nothing _ (sym c.is_some-2.ensures ∙ c.if-is_some-2.false)) at (c.member_of-own.ensures S t w) in
-    rw c.from_residual.ensures (own_empty c.requires.counts w c.number_at-key.ensures.value (plain (goal.at.returns-in_err-y c).Else-is_some S t w) e (c.in_err-y.ensures S t w))
+    rw c.from_residual.ensures (own_empty c.requires.counts w c.number_at-key.ensures.value (plain (goal.at.returns-in_err-y c).Else-is_some S t w) e
+    (c.in_err-y.ensures S t w))
 
 pub returns-then-tag_at-ne15 : goal.returns-then-tag_at-ne15
 returns-then-tag_at-ne15 c =
     λ S t w.
     let r = c.in_ok-y.ensures S t w in
     let e = rw (nothing _ (sym c.is_some-2.ensures ∙ c.if-is_some-2.false)) at (c.member_of-own.ensures S t w) in
-    own_other c.requires.counts w c.number_at-key.ensures.value (plain (goal.at.returns-then-tag_at-ne15 c).Else-is_some S t w) e r.1 (c.tag_at.ensures.is _ _ S _ r.0 r.2) c.if-tag_at-ne15.true
+    own_other c.requires.counts w c.number_at-key.ensures.value (plain (goal.at.returns-then-tag_at-ne15 c).Else-is_some S t w) e r.1
+    (c.tag_at.ensures.is _ _ S _ r.0 r.2) c.if-tag_at-ne15.true
 
 pub returns : goal.returns
 returns c =
     λ S t w.
     let r = c.in_ok-y.ensures S t w in
     let e = rw (nothing _ (sym c.is_some-2.ensures ∙ c.if-is_some-2.false)) at (c.member_of-own.ensures S t w) in
-    rw (own_trait c.requires.counts w c.number_at-key.ensures.value (plain (goal.at.returns c).Else-is_some S t w) e r.1 (c.tag_at.ensures.is _ _ S _ r.0 r.2) c.if-tag_at-ne15.false) (c.member_of.ensures S r.0 r.2)
+    rw (own_trait c.requires.counts w c.number_at-key.ensures.value (plain (goal.at.returns c).Else-is_some S t w) e r.1 (c.tag_at.ensures.is _ _ S _ r.0 r.2)
+    c.if-tag_at-ne15.false) (c.member_of.ensures S r.0 r.2)

@@ -33,7 +33,8 @@ returns-in_default c =
       leaves = over_leaves _ _ _ _ _ _ a.most _ _ fr c.requires.zero.0 c.requires.zero.1 c.clear_tokens.ensures;
       answers = λ t look h k.
           over_answers _ _ _ _ _ _ a.most _ _ s _ a.levels a.visits w _ y.0 y.1 t look _ h k
-          (normalise_walked a.levels a.visits (look_by look) t (sym (c.has_projection.ensures t h) ∙ not-false _ c.if-not-has_projection.false-raw)) a.out.now a.at;
+          (normalise_walked a.levels a.visits (look_by look) t (sym (c.has_projection.ensures t h) ∙ not-false _ c.if-not-has_projection.false-raw)) a.out.now
+          a.at;
     }
 
 pub returns : goal.returns
@@ -50,5 +51,6 @@ returns c =
           kept'.result kept'.ensures.fitted;
       answers = λ t look h k.
           walked_answers _ _ _ s _ _ _ _ _ _ _ a.levels a.most _ _ _ _ a.visits _ w fr c.requires.zero.0 c.requires.zero.1 refl refl c.requires.place
-          _ y.0 y.1 t look _ h k (normalise_walked a.levels a.visits (look_by look) t (sym (c.has_projection.ensures t h) ∙ not-false _ c.if-not-has_projection.false-raw)) kept'.result kept'.ensures.fitted;
+          _ y.0 y.1 t look _ h k (normalise_walked a.levels a.visits (look_by look) t (sym (c.has_projection.ensures t h) ∙ not-false _
+          c.if-not-has_projection.false-raw)) kept'.result kept'.ensures.fitted;
     })

@@ -22,7 +22,8 @@ loop-y-preserved-then-y-eq0 c =
     let s = c.in-Some.ensures.steps in
     let t = c.next.new.self in
     let m = over_here _ _ i.1 _ _ t s in (
-      rw (s.1) (rw (over_number _ _ i.1 _ _ t s c.if-y-eq0.true) at (owning_number _ _ _ _ _ _ i.0 m.1 m.2 m.3 c.if-y-eq0.true (omega arith) c.token_len-n-then-y-eq0.ensures)),
+      rw (s.1) (rw (over_number _ _ i.1 _ _ t s c.if-y-eq0.true) at (owning_number _ _ _ _ _ _ i.0 m.1 m.2 m.3 c.if-y-eq0.true (omega arith)
+          c.token_len-n-then-y-eq0.ensures)),
       over_on _ _ i.1 _ _ t s,
     )
 
@@ -38,4 +39,5 @@ loop-y-preserved c =
 
 pub returns-clause-own : goal.returns-clause-own
 returns-clause-own c =
-    (owning_done _ c.args.h _ _ _ _ c.loop-y.invariant.0 c.in-None.ensures.steps.0.0 c.token_at-x.ensures.kind c.token_at-x.ensures.value c.token_len-n.ensures).0
+    (owning_done _ c.args.h _ _ _ _ c.loop-y.invariant.0 c.in-None.ensures.steps.0.0 c.token_at-x.ensures.kind c.token_at-x.ensures.value
+    c.token_len-n.ensures).0

@@ -28,7 +28,8 @@ loop-p-preserved c = (
   λ qs n h w y.
       let x = ask_term (c.loop-p.invariant.1 qs n h w y) c.loop-p-test.true c.if-k-eq0.false in
       ask_pass x (counts_told qs _ x c.tag_of-tag.ensures c.word_at-x.ensures c.word_at-y.ensures (c.counts.ensures qs n h) ∙ c.if-counts.false)
-      (ap (entered_by (number_of_question c.args.question)) (sym (head_tag x c.tag_of-tag.ensures)) ∙ sym c.enters.ensures ∙ c.if-enters.false) c.skip-p.ensures.span,
+      (ap (entered_by (number_of_question c.args.question)) (sym (head_tag x c.tag_of-tag.ensures)) ∙ sym c.enters.ensures ∙ c.if-enters.false)
+      c.skip-p.ensures.span,
 )
 
 pub returns : goal.returns

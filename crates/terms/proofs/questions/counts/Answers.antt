@@ -1,6 +1,5 @@
 -- `counts`: question by question.
 use mathlib.Core.Path.{refl, sym}
-use mathlib.Core.List.{[], ◌∷◌}
 use native.Mathlib.Omega.{arith}
 use borrow.Author.Tests.{eq-eqb, ne_eqb}
 use Rattle.terms.specs.Questions.{counted_by}

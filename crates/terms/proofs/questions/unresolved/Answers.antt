@@ -1,6 +1,5 @@
 -- `unresolved`: by the tag.
 use mathlib.Core.Path.{sym, ◌∙◌}
-use mathlib.Core.List.{[], ◌∷◌}
 use native.Mathlib.Omega.{arith}
 use Rattle.terms.proofs.Laws.Asking.QuestionLaws.{among_in, among_out, failing, projected, binder, known, no_parameters, absent}
 use Rattle.terms.proofs.questions.unresolved.Goals as goal

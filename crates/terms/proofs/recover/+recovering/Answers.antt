@@ -19,7 +19,8 @@ recover_row-loop-y-preserved-then-word-eq0 t c =
       omega (arith, on, i.0, i.1, i.2, c.requires.places),
       omega (arith, on, c.put_run-to.ensures.bound, i.0, i.1, i.2),
       λ k ps qs hp hq fp fq e.
-          recover_number (i.3 k ps qs hp hq fp fq e) on.left i.0.2 on.right zero (on.number zero) c.put_run-to.ensures.next c.put_run-to.ensures.put,
+          recover_number (i.3 k ps qs hp hq fp fq e) on.left i.0.2 on.right zero (on.number zero) c.put_run-to.ensures.next
+          c.put_run-to.ensures.put,
     )
 
 pub recover_row-loop-y-preserved : goal.recover_row-loop-y-preserved
@@ -50,7 +51,8 @@ recover_term-returns-then-stays-clause-put t c =
     λ t u ht hu ft fu.
     let x = tag_told ht c.word.ensures c.tag_of-k.ensures in
     let y = tag_told hu c.word-2.ensures c.tag_of.ensures in
-    put_same (whole_bytes ht ∙ ap bytes (sym (stays_first t u ft (rw (← x, ← y) (sym c.stays.ensures ∙ c.if-stays.true))))) (put_one _ c.put_run.ensures.next c.put_run.ensures.put)
+    put_same (whole_bytes ht ∙ ap bytes (sym (stays_first t u ft (rw (← x, ← y) (sym c.stays.ensures ∙ c.if-stays.true)))))
+    (put_one _ c.put_run.ensures.next c.put_run.ensures.put)
 
 pub recover_term-returns-then-is_hole-clause-put : goal.recover_term-returns-then-is_hole-clause-put
 recover_term-returns-then-is_hole-clause-put t c =
@@ -68,5 +70,6 @@ recover_term-returns-clause-put t c =
     let y = tag_told hu c.word-2.ensures c.tag_of.ensures in
     let n = stays_not t u (rw (← x, ← y) (sym c.stays.ensures ∙ c.if-stays.false)) in
     let g = ap recovery (sym x) ∙ sym c.is_hole.ensures ∙ c.if-is_hole.false in
-    let w = c.recover_row.ensures.put (reach t u) (row t) (row u) (row_any ht) (row_any hu) (row_formed t ft) (row_formed u fu) (c.reach_end-stop.ensures.reached t u ht hu ft fu) in
+    let w = c.recover_row.ensures.put (reach t u) (row t) (row u) (row_any ht) (row_any hu) (row_formed t ft) (row_formed u fu)
+    (c.reach_end-stop.ensures.reached t u ht hu ft fu) in
     put_same (sym (entered_term t u n.0 n.1 g)) (put_then (put_same (head_byte ht n.1) (put_one _ c.put_run-next.ensures.next c.put_run-next.ensures.put)) w)

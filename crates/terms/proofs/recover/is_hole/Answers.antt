@@ -1,6 +1,5 @@
 -- `is_hole`: by the ranges of the tag.
 use mathlib.Core.Path.{sym}
-use mathlib.Core.List.{[], ◌∷◌}
 use native.Mathlib.Omega.{arith}
 use Rattle.terms.proofs.Laws.Asking.QuestionLaws.{among_in, among_out}
 use Rattle.terms.proofs.recover.is_hole.Goals as goal

@@ -8,7 +8,8 @@ use Rattle.terms.proofs.recover.reach_end.Goals as goal
 pub returns-then-k-tag_of-clause-reached : goal.returns-then-k-tag_of-clause-reached
 returns-then-k-tag_of-clause-reached c =
     λ t u ht hu ft fu.
-    place_none _ _ _ (reach_differ t u (λ e. c.if-k-tag_of.true (tag_told ht c.word.ensures c.tag_of-k.ensures ∙ e ∙ sym (tag_told hu c.word-2.ensures c.tag_of.ensures))))
+    place_none _ _ _ (reach_differ t u (λ e. c.if-k-tag_of.true (tag_told ht c.word.ensures c.tag_of-k.ensures ∙ e ∙ sym
+    (tag_told hu c.word-2.ensures c.tag_of.ensures))))
 
 pub returns-in-7-clause-reached : goal.returns-in-7-clause-reached
 returns-in-7-clause-reached c =
@@ -39,4 +40,5 @@ pub returns-in_default-clause-reached : goal.returns-in_default-clause-reached
 returns-in_default-clause-reached c =
     λ t u ht hu ft fu.
     let x = same_tags ht hu c.word.ensures c.tag_of-k.ensures c.word-2.ensures c.tag_of.ensures c.if-k-tag_of.false in
-    place_none _ _ _ (reach_none t u x.1 (among_out _ _ (λ d. grind (arith, x.0, d))) (among_out _ _ (λ d. grind (arith, x.0, d))) (among_out _ _ (λ d. grind (arith, x.0, d))))
+    place_none _ _ _ (reach_none t u x.1 (among_out _ _ (λ d. grind (arith, x.0, d))) (among_out _ _ (λ d. grind (arith, x.0, d)))
+    (among_out _ _ (λ d. grind (arith, x.0, d))))

@@ -25,7 +25,9 @@ bounds-out-i c =
 pub returns-then-on : goal.returns-then-on
 returns-then-on c =
     let a = c.args in
-    let both = retold a.on a.out.now a.i _ _ (unknown_piece a.tokens.now.kinds.now a.tokens.now.vals.now a.p a.c c.in-Unknown.is) _ _ refl (pick_yes a.on (sets a.out.now a.i (2 ∷ [])) a.out.now c.if-on.true) in record { next = both.0; wrote = both.1 }
+    let both = retold a.on a.out.now a.i _ _ (unknown_piece a.tokens.now.kinds.now a.tokens.now.vals.now a.p a.c c.in-Unknown.is) _ _ refl
+    (pick_yes a.on (sets a.out.now a.i (2 ∷ [])) a.out.now c.if-on.true) in
+    record { next = both.0; wrote = both.1 }
 
 pub overflow_add-result-in-Unknown : goal.overflow_add-result-in-Unknown
 overflow_add-result-in-Unknown c =
@@ -36,14 +38,19 @@ overflow_add-result-in-Unknown c =
 pub returns-in-Keep : goal.returns-in-Keep
 returns-in-Keep c =
     let a = c.args in
-    let both = retold a.on a.out.now a.i _ _ (keep_piece a.tokens.now.kinds.now a.tokens.now.vals.now a.p a.c c.in-Keep.is) _ _ c.emit_run.ensures.next c.emit_run.ensures.wrote in record { next = both.0; wrote = both.1 }
+    let both = retold a.on a.out.now a.i _ _ (keep_piece a.tokens.now.kinds.now a.tokens.now.vals.now a.p a.c c.in-Keep.is)
+    _ _ c.emit_run.ensures.next c.emit_run.ensures.wrote in
+    record { next = both.0; wrote = both.1 }
 
 pub returns-in-By : goal.returns-in-By
 returns-in-By c =
     let a = c.args in
-    let both = retold a.on a.out.now a.i _ _ (by_piece a.tokens.now.kinds.now a.tokens.now.vals.now a.p a.c _ _ c.in-By.is c.skip-n.ensures.is) _ _ c.emit_run-in-By.ensures.next c.emit_run-in-By.ensures.wrote in record { next = both.0; wrote = both.1 }
+    let both = retold a.on a.out.now a.i _ _ (by_piece a.tokens.now.kinds.now a.tokens.now.vals.now a.p a.c _ _ c.in-By.is c.skip-n.ensures.is)
+    _ _ c.emit_run-in-By.ensures.next c.emit_run-in-By.ensures.wrote in
+    record { next = both.0; wrote = both.1 }
 
-pub returns-else-on : goal.returns-else-on
-returns-else-on c =
+pub returns-else-on-clause-next : goal.returns-else-on-clause-next
+returns-else-on-clause-next c =
     let a = c.args in
-    let both = retold a.on a.out.now a.i _ _ (unknown_piece a.tokens.now.kinds.now a.tokens.now.vals.now a.p a.c c.in-Unknown.is) _ _ refl (pick_no a.on (sets a.out.now a.i (2 ∷ [])) a.out.now c.if-on.false) in record { next = both.0; wrote = both.1 }
+    (retold a.on a.out.now a.i _ _ (unknown_piece a.tokens.now.kinds.now a.tokens.now.vals.now a.p a.c c.in-Unknown.is) _ _ refl
+    (pick_no a.on (sets a.out.now a.i (2 ∷ [])) a.out.now c.if-on.false)).0

@@ -10,7 +10,8 @@ use Rattle.terms.proofs.rewrite.rewrite_run.Goals.{After-pace-p}
 stride : (c : After-pace-p) → (1 ≤ c.pace-p.result) × (c.loop-p.p + c.pace-p.result ≤ c.args.from + c.args.count)
 stride c =
     let a = c.args in
-    pace_within _ _ (chosen a.tokens.now.kinds.now a.tokens.now.vals.now a.s.now a.b) _ _ (omega (arith, c.loop-p-test.true, c.loop-p.invariant.1)) _ _ c.pace-p.ensures
+    pace_within _ _ (chosen a.tokens.now.kinds.now a.tokens.now.vals.now a.s.now a.b) _ _ (omega (arith, c.loop-p-test.true, c.loop-p.invariant.1)) _ _
+    c.pace-p.ensures
 
 pub emit-i-requires-clause-areas : goal.emit-i-requires-clause-areas
 emit-i-requires-clause-areas c = (omega arith, rw c.replaced_at-c.ensures (chosen_inside _ _ c.args.s.now c.args.b c.requires.areas c.loop-p.p))
@@ -18,7 +19,8 @@ emit-i-requires-clause-areas c = (omega arith, rw c.replaced_at-c.ensures (chose
 pub emit-i-requires-clause-space : goal.emit-i-requires-clause-space
 emit-i-requires-clause-space c =
     let a = c.args in
-    step_space a.tokens.now.kinds.now a.tokens.now.vals.now _ c.loop-p.p (a.from + a.count) (omega arith) c.loop-p.invariant.2 c.replaced_at-c.ensures c.requires.space
+    step_space a.tokens.now.kinds.now a.tokens.now.vals.now _ c.loop-p.p (a.from + a.count) (omega arith) c.loop-p.invariant.2 c.replaced_at-c.ensures
+    c.requires.space
 
 pub overflow_add-p : goal.overflow_add-p
 overflow_add-p c = omega (arith, stride (goal.at.overflow_add-p c).After-pace-p)
@@ -31,12 +33,14 @@ loop-p-preserved c =
     let a = c.args in (
       omega (arith, stride (goal.at.loop-p-preserved c).After-pace-p),
       refl,
-      step_on a.tokens.now.kinds.now a.tokens.now.vals.now _ c.loop-p.p (a.from + a.count) (omega arith) c.loop-p.invariant.2 c.replaced_at-c.ensures c.pace-p.ensures c.emit-i.ensures.next
-      c.emit-i.ensures.wrote,
+      step_on a.tokens.now.kinds.now a.tokens.now.vals.now _ c.loop-p.p (a.from + a.count) (omega arith) c.loop-p.invariant.2 c.replaced_at-c.ensures
+          c.pace-p.ensures c.emit-i.ensures.next
+          c.emit-i.ensures.wrote,
     )
 
 pub returns : goal.returns
 returns c =
     let a = c.args in
-    let both = going_end _ _ _ _ _ _ _ c.loop-p.invariant.2 (pieces_end a.tokens.now.kinds.now a.tokens.now.vals.now _ c.loop-p.p (a.from + a.count) (omega arith)) in
+    let both = going_end _ _ _ _ _ _ _ c.loop-p.invariant.2 (pieces_end a.tokens.now.kinds.now a.tokens.now.vals.now _ c.loop-p.p (a.from + a.count)
+    (omega arith)) in
     record { next = both.0; wrote = both.1 }

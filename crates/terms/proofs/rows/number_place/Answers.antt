@@ -25,7 +25,7 @@ loop-q-preserved c =
 
 pub returns : goal.returns
 returns c =
-    let f = few_kinds c.args.seen.now.tokens.kinds.now c.args.seen.now.tokens.vals.now c.args.seen.now.given c.args.seen.now.sight in
-    let g = few_vals c.args.seen.now.tokens.kinds.now c.args.seen.now.tokens.vals.now c.args.seen.now.given c.args.seen.now.sight in
+    let f = few_kinds _ _ _ c.args.seen.now.sight in
+    let g = few_vals _ _ _ c.args.seen.now.sight in
     let w = c.loop-q.invariant in
     number_over _ _ _ _ _ _ w.scan _ (omega arith) (omega arith) c.in-None.ensures.steps.0.0

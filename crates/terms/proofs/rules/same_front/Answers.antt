@@ -6,7 +6,8 @@ use Rattle.terms.proofs.rules.same_front.Goals as goal
 pub returns-in_err-p : goal.returns-in_err-p
 returns-in_err-p c =
     let a = c.args in
-    rw c.from_residual.ensures (front_receiver _ _ _ a.seen.now.sight a.heads.now a.kids.now a.x a.rule a.fuel _ _ refl c.term_cursor-receiver.ensures c.in_err-p.ensures)
+    rw c.from_residual.ensures (front_receiver _ _ _ a.seen.now.sight a.heads.now a.kids.now a.x a.rule a.fuel _ _ refl c.term_cursor-receiver.ensures
+    c.in_err-p.ensures)
 
 pub returns-in_err-q : goal.returns-in_err-q
 returns-in_err-q c =
@@ -19,4 +20,5 @@ pub returns : goal.returns
 returns c =
     let a = c.args in
     front_numbers _ _ _ a.seen.now.sight a.heads.now a.kids.now a.x a.rule a.fuel _ _ refl c.term_cursor-receiver.ensures _ _ c.in_ok-p.ensures
-    _ _ c.source.ensures.0 c.source.ensures.1 c.cursor-interface.ensures _ _ (rw c.moved.ensures at c.in_ok-q.ensures) c.two_numbers.result (rw c.moved-2.ensures at c.two_numbers.ensures)
+    _ _ c.source.ensures.0 c.source.ensures.1 c.cursor-interface.ensures _ _ (rw c.moved.ensures at c.in_ok-q.ensures) c.two_numbers.result
+    (rw c.moved-2.ensures at c.two_numbers.ensures)

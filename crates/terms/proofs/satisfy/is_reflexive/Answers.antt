@@ -38,7 +38,8 @@ returns-else-word-member c =
     let l = interface_laid hu y (c.behind-i.ensures.passed y.receiver h) f in
     let g = rw c.in-Some.is at (c.satisfies_row-r.ensures.satisfied d n rest l.0 y.interface (called y.member y.arguments) x l.1) in
     let v = called_words y.member y.arguments g.1 in
-    by_arguments n w _ y (c.same_term.ensures y.receiver w h hw) c.if-not-same_term.false-raw g.0 (sym v.0 ∙ sym c.word.ensures ∙ c.if-word-member.false) (c.word-in-Some.ensures ∙ v.1)
+    by_arguments n w _ y (c.same_term.ensures y.receiver w h hw) c.if-not-same_term.false-raw g.0 (sym v.0 ∙ sym c.word.ensures ∙ c.if-word-member.false)
+    (c.word-in-Some.ensures ∙ v.1)
 
 pub returns-in-None : goal.returns-in-None
 returns-in-None c =

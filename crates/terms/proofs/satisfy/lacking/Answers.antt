@@ -19,7 +19,7 @@ loop-k-preserved c = (
   λ d gs hs other f e rest w l h x.
       let y = next_pair (c.loop-k.invariant.1 d gs hs other f e rest w l h x) (omega arith) in
       rw (sub_step c.args.count c.loop-k.k) (given_next f gs hs y (c.gives.ensures d gs hs other y.value l y.here) h c.if-not-gives.false-raw
-          (c.behind-i.ensures.passed y.value y.here)),
+      (c.behind-i.ensures.passed y.value y.here)),
 )
 
 pub returns-clause-gave : goal.returns-clause-gave

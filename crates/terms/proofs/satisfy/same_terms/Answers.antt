@@ -24,7 +24,7 @@ loop-k-preserved c = (
   λ d rest e more w x.
       let y = next_arguments (c.loop-k.invariant.2 d rest e more w x) (omega arith) in
       rw (sub_step c.args.count c.loop-k.k) (arguments_next y (c.same_term.ensures y.t y.u y.here_left y.here_right) c.if-not-same_term.false-raw
-          (c.behind-i.ensures.passed y.t y.here_left) (c.behind-j.ensures.passed y.u y.here_right)),
+      (c.behind-i.ensures.passed y.t y.here_left) (c.behind-j.ensures.passed y.u y.here_right)),
 )
 
 pub returns-clause-agreed : goal.returns-clause-agreed

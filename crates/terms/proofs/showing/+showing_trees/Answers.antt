@@ -46,7 +46,8 @@ show_row-returns-clause-shows t c =
 pub show_tree-returns-then-x-eq0-clause-shows : goal.show_tree-returns-then-x-eq0-clause-shows
 show_tree-returns-then-x-eq0-clause-shows t c =
     λ S t w d.
-    rw (← tree_flat _ _ _ S w c.if-x-eq0.true c.args.x.head c.step.result refl c.token_at-h.ensures.kind c.token_at-h.ensures.value c.step.ensures.span) c.show_run.ensures.shows
+    rw (← tree_flat _ _ _ S w c.if-x-eq0.true c.args.x.head c.step.result refl c.token_at-h.ensures.kind c.token_at-h.ensures.value c.step.ensures.span)
+    c.show_run.ensures.shows
 
 pub show_tree-returns-then-fuel-eq0-clause-shows : goal.show_tree-returns-then-fuel-eq0-clause-shows
 show_tree-returns-then-fuel-eq0-clause-shows t c = λ S t w d. absurd (omega (arith, d (omega (arith, c.if-x-eq0.false)), depth_some t))
@@ -64,5 +65,6 @@ show_tree-returns-clause-shows t c =
     let s = c.show_token-i.ensures in
     let r = c.show_row.ensures in
     shows_then _ _ _ _ (plain c.token_at-h.result.kind c.token_at-h.result.value) (part_bytes (row t)) (bytes t) c.requires.room
-    (tree_bytes _ _ _ S w c.token_at-h.ensures.kind c.token_at-h.ensures.value) _ s.kept.long s.shows (omega (arith, c.if-out-i.false, s.kept.long)) _ c.show_row.result r.kept.long
+    (tree_bytes _ _ _ S w c.token_at-h.ensures.kind c.token_at-h.ensures.value) _ s.kept.long s.shows (omega (arith, c.if-out-i.false, s.kept.long)) _
+    c.show_row.result r.kept.long
     (r.shows S (row t) (c.cursor-c.ensures.is _ _ S t w) (omega (arith, d (omega (arith, c.if-x-eq0.false)), depth_row t, c.if-fuel-eq0.false)))

@@ -10,13 +10,15 @@ pub returns-then-out-i-clause-shows : goal.returns-then-out-i-clause-shows
 returns-then-out-i-clause-shows c =
     let i = c.loop-q.invariant in
     let s = c.show_token-i.ensures in
-    (running_full i c.loop-q-test.true c.token_at.ensures.kind c.token_at.ensures.value s.kept s.shows (omega (arith, c.if-out-i.true, s.kept.long, i.kept.long))).1
+    (running_full i c.loop-q-test.true c.token_at.ensures.kind c.token_at.ensures.value s.kept s.shows
+    (omega (arith, c.if-out-i.true, s.kept.long, i.kept.long))).1
 
 pub loop-q-preserved : goal.loop-q-preserved
 loop-q-preserved c =
     let i = c.loop-q.invariant in
     let s = c.show_token-i.ensures in
-    running_next i c.loop-q-test.true c.token_at.ensures.kind c.token_at.ensures.value s.kept s.shows (omega (arith, c.if-out-i.false, s.kept.long, i.kept.long))
+    running_next i c.loop-q-test.true c.token_at.ensures.kind c.token_at.ensures.value s.kept s.shows
+    (omega (arith, c.if-out-i.false, s.kept.long, i.kept.long))
 
 pub returns-clause-shows : goal.returns-clause-shows
 returns-clause-shows c = running_done c.loop-q.invariant c.loop-q-test.false

@@ -1,11 +1,9 @@
 -- `walk`. What each case answers.
 use Rattle.terms.proofs.Laws.Normalising.FixedLaws.{fixed_kept}
 use Rattle.terms.proofs.Laws.Normalising.MemberLaws.{replace_other}
-use Rattle.terms.proofs.Laws.Normalising.OpenLaws.{frames_same, frames_then, frames_next}
 use Rattle.terms.proofs.Laws.Normalising.VisitLaws.{walk-levels, walk_visits, over_start}
-use Rattle.terms.proofs.Laws.Normalising.WalkLaws.{finds, order-of, walking_start, walking_next, walking_over, walks_kept, walks_itself, walks_followed, walks_failed, used_later}
+use Rattle.terms.proofs.Laws.Normalising.WalkLaws.{finds, order-of, walking_start, walking_next, walking_over, walks_kept, walks_itself, walks_followed, walks_failed}
 use Rattle.terms.specs.Lookup.{look_by}
-use Rattle.terms.specs.Words.WalkingContract.{used}
 use mathlib.Core.Path.{refl, ◌∙◌}
 use native.Mathlib.Omega.{arith}
 use Rattle.terms.proofs.walking.+walk.Goals as goal
@@ -26,12 +24,14 @@ returns-then-same-gt0-clause-walks t c =
     let least' = c.min.ensures in
     let len' = c.fixed_len-size.ensures in
     (fixed_kept _ _ _ _ c.requires.room.sight c.args.heads.now c.args.kids.now c.args.x c.args.next c.args.levels c.args.visits c.args.most _ _
-    (nodes'.fixed c.if-same-gt0.true) len'.bytes len'.bound c.if-same-gt0.true (omega (arith, nodes'.few.0, least')) (omega (arith, nodes'.few.0, least')) _ c.kept.ensures.fits c.kept.ensures.stops).0
+    (nodes'.fixed c.if-same-gt0.true) len'.bytes len'.bound c.if-same-gt0.true (omega (arith, nodes'.few.0, least')) (omega (arith, nodes'.few.0, least')) _
+    c.kept.ensures.fits c.kept.ensures.stops).0
 
 pub returns-in_err-o-clause-walks : goal.returns-in_err-o-clause-walks
 returns-in_err-o-clause-walks t c =
     rw c.from_residual.ensures
-    (λ S t look b w z. over_start _ (finds look) _ t _ _ (omega (arith, c.if-levels-eq0.false)) (omega (arith, c.if-visits-eq0.false)) (c.in_err-o.ensures.stopped S t b w))
+    (λ S t look b w z. over_start _ (finds look) _ t _ _ (omega (arith, c.if-levels-eq0.false)) (omega (arith, c.if-visits-eq0.false))
+    (c.in_err-o.ensures.stopped S t b w))
 
 pub loop-j-init : goal.loop-j-init
 loop-j-init t c =

@@ -22,6 +22,7 @@ pub returns-clause-fixed : goal.returns-clause-fixed
 returns-clause-fixed c =
     λ some. record {
       source = c.if-x-ne0.false;
-      lent = lent_span c.args.tokens.now.kinds.now c.args.tokens.now.vals.now _ _ _ refl c.word.ensures c.word-2.ensures c.step-span.ensures.span (omega (arith, c.if-tokens-end.false));
+      lent = lent_span c.args.tokens.now.kinds.now c.args.tokens.now.vals.now _ _ _ refl c.word.ensures c.word-2.ensures c.step-span.ensures.span
+          (omega (arith, c.if-tokens-end.false));
       is = counting_done _ _ _ _ _ _ _ c.loop-q.invariant (omega (arith, c.loop-q-test.false));
     }
