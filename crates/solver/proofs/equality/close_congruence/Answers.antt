@@ -23,12 +23,6 @@ bounds-work-n c =
     let l = c.loop-done in
     omega (arith, queue_fits c.args.tokens.now.kinds.now l.work l.top l.invariant.1.wired, top_below _ _ _ _ l.invariant.1.wired)
 
-pub bounds-work-x : goal.bounds-work-x
-bounds-work-x c =
-    let l = c.loop-done in
-    let t = taken_entry c.args.tokens.now.kinds.now l.work l.top l.invariant.1.wired l.done (omega arith) _ refl in
-    omega (arith, t.0, queue_fits c.args.tokens.now.kinds.now l.work l.top l.invariant.1.wired, top_below _ _ _ _ l.invariant.1.wired)
-
 pub overflow_sub-y : goal.overflow_sub-y
 overflow_sub-y c =
     let l = c.loop-done in

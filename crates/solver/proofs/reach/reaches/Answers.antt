@@ -55,9 +55,6 @@ offset_bounds-work-n c = omega (arith, lens (goal.at.offset_bounds-work-n c).At-
 pub bounds-work-n : goal.bounds-work-n
 bounds-work-n c = omega (arith, lens (goal.at.bounds-work-n c).At-loop-hit, c.if-done-top.true)
 
-pub bounds-bound-w : goal.bounds-bound-w
-bounds-bound-w c = entry (goal.at.bounds-bound-w c).Then-done-top
-
 pub overflow_add-done : goal.overflow_add-done
 overflow_add-done c = omega (arith, lens (goal.at.overflow_add-done c).At-loop-hit, c.if-done-top.true, c.well_formed)
 

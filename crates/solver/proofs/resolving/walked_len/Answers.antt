@@ -9,12 +9,6 @@ use Rattle.solver.proofs.Laws.Resolving.OverLaws.{over_none, over_length, spelt_
 use Rattle.solver.proofs.Laws.Resolving.FrameLaws.{left_start, turn}
 use Rattle.solver.proofs.resolving.walked_len.Goals as goal
 
-pub overflow_add-n : goal.overflow_add-n
-overflow_add-n c =
-    let a = c.args in
-    let l = c.loop-c in
-    omega (arith, c.run_len-n.ensures.bound, l.invariant.1, c.requires.room)
-
 pub returns-then-limit-n-clause-len : goal.returns-then-limit-n-clause-len
 returns-then-limit-n-clause-len c =
     let a = c.args in

@@ -5,11 +5,6 @@ use Rattle.solver.specs.Constrain.{follow}
 use Rattle.solver.proofs.Laws.Resolving.TopLaws.{follow_none, follow_stop, follow_step}
 use Rattle.solver.proofs.top.shallow_resolve.Goals as goal
 
-pub loop-init : goal.loop-init
-loop-init c =
-    let m : c.args.most ≡ c.args.most - 0 = omega arith in
-    (c.requires, λ t b ht hb. (t, ht, ap (λ (n : ℕ). follow n b t) m))
-
 pub returns-then-r-eq0-clause-term : goal.returns-then-r-eq0-clause-term
 returns-then-r-eq0-clause-term c =
     let a = c.args in
