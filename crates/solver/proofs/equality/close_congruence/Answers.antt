@@ -36,7 +36,10 @@ returns-then-not-union_parts c =
     let d = c.union_parts.ensures in
     record {
       advanced = advanced_on l.invariant.1 d.advanced;
-      terms = λ b e fa. going_no (l.invariant.2 b e fa) l.invariant.1.wired d.advanced (omega arith) t.2 (omega (arith, t.1, t.3)) (λ k j ps qs hx hy. d.terms b k j ps qs e hx hy (l.invariant.2 b e fa).fair) c.if-not-union_parts.true;
+      terms = λ b e fa.
+          let g = l.invariant.2 b e fa in
+          going_no g l.invariant.1.wired d.advanced (omega arith) t.2 (omega (arith, t.1, t.3)) (λ k j ps qs hx hy. d.terms b k j ps qs e hx hy g.fair)
+          c.if-not-union_parts.true;
     }
 
 pub loop-done-smaller : goal.loop-done-smaller
@@ -52,11 +55,12 @@ loop-done-preserved c =
     let d = c.union_parts.ensures in (
       omega (arith, d.advanced.more),
       advanced_on l.invariant.1 d.advanced,
-      λ b e fa. going_on (l.invariant.2 b e fa) l.invariant.1.wired d.advanced (omega arith) t.2 (omega (arith, t.1, t.3)) (λ k j ps qs hx hy. d.terms b k j ps qs e hx hy (l.invariant.2 b e fa).fair) c.if-not-union_parts.false,
+      λ b e fa.
+          let g = l.invariant.2 b e fa in
+          going_on g l.invariant.1.wired d.advanced (omega arith) t.2 (omega (arith, t.1, t.3)) (λ k j ps qs hx hy. d.terms b k j ps qs e hx hy g.fair)
+          c.if-not-union_parts.false,
       search rules,
     )
 
 pub returns-clause-terms : goal.returns-clause-terms
-returns-clause-terms c =
-    let l = c.loop-done in
-    λ b e fa. going_yes (l.invariant.2 b e fa) l.invariant.1.wired (omega arith)
+returns-clause-terms c = λ b e fa. going_yes (c.loop-done.invariant.2 b e fa) c.loop-done.invariant.1.wired (omega arith)
