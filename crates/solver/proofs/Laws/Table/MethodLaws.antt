@@ -187,12 +187,14 @@ module _ (kind site slot m : ℕ) (ts : List ℕ) (d : ℕ) where
       search_none n (omega arith) (λ v h. f v (omega arith))
       ∙ sym (match_on kind site slot (place_words m ts) (site_words m ts) (slot_words m ts) d n (sym (in_columns n (omega arith)) ∙ match_none kind site slot _ _ _ (f n (omega arith))))
 
-  pub search_answer : (r : ℕ) → r ≡ Last d → (p : VariablePlace) (ps : List VariablePlace) → HeldPlace p kind site slot → length ps ≡ d
-      → HeldPlaces (place_words m ts) (site_words m ts) (slot_words m ts) ps → r ≡ found d (find p ps)
-  search_answer r e p ps h l g = e ∙ ap Last (sym l) ∙ match_found p kind site slot h (place_words m ts) (site_words m ts) (slot_words m ts) d ps g
-
 abbrev pub LastOf : Site → ℕ → List ℕ → ℕ → ℕ → ℕ
 LastOf w m ts d n = Last (kind_word w) (site_word w) (slot_word w) m ts d n
+
+-- what was found by words is the place's variable
+pub search_answer : (w : Site) (m : ℕ) (ts : List ℕ) (d : ℕ) {r : ℕ} → r ≡ LastOf w m ts d d → (ps : List VariablePlace) → length ps ≡ d
+    → HeldPlaces (place_words m ts) (site_words m ts) (slot_words m ts) ps → r ≡ found d (find (place_of w) ps)
+search_answer w m ts d e ps l g =
+    e ∙ ap (LastOf w m ts d) (sym l) ∙ match_found (place_of w) _ _ _ (place_held w _ _ _ refl refl refl) (place_words m ts) (site_words m ts) (slot_words m ts) d ps g
 
 -- the words of a variable that is not issued are written
 pub places_other : (ks ss is : List ℕ) (j a b c : ℕ) (ps : List VariablePlace) → length ps ≤ j → HeldPlaces ks ss is ps → HeldPlaces (set ks j a) (set ss j b) (set is j c) ps

@@ -11,7 +11,7 @@ returns-then-tokens-p-ne1 c =
     let a = c.args in
     record {
       shut = λ _. refl;
-      size = λ _. sym (inner_other a.tokens.now.kinds.now a.tokens.now.vals.now a.bound.now (get_or a.tokens.now.kinds.now a.p 0) (get_or a.tokens.now.vals.now a.p 0) c.if-tokens-p-ne1.true);
+      size = λ _. sym (inner_other _ _ _ _ _ c.if-tokens-p-ne1.true);
       place = omega arith;
       within = omega arith;
     }
@@ -22,7 +22,7 @@ returns-then-bound-v c =
     let z = get_or-eq_default a.bound.now 0 {n = get_or a.tokens.now.vals.now a.p 0} (omega arith) in
     record {
       shut = λ _. refl;
-      size = λ _. sym (inner_var a.tokens.now.kinds.now a.tokens.now.vals.now a.bound.now (get_or a.tokens.now.kinds.now a.p 0) (get_or a.tokens.now.vals.now a.p 0) (omega arith)
+      size = λ _. sym (inner_var _ _ _ _ _ (omega arith)
           ∙ ap (run_len a.tokens.now.kinds.now a.tokens.now.vals.now) z ∙ run_none a.tokens.now.kinds.now a.tokens.now.vals.now);
       place = omega arith;
       within = omega arith;
@@ -34,7 +34,7 @@ returns c =
     let b = c.named_run.ensures in
     record {
       shut = λ z. absurd (omega (arith, c.if-left-eq0.false));
-      size = λ _. b.size ∙ sym (inner_var a.tokens.now.kinds.now a.tokens.now.vals.now a.bound.now (get_or a.tokens.now.kinds.now a.p 0) (get_or a.tokens.now.vals.now a.p 0) (omega arith));
+      size = λ _. b.size ∙ sym (inner_var _ _ _ _ _ (omega arith));
       place = b.place;
       within = b.within;
     }

@@ -15,7 +15,7 @@ pub returns-then-word-eq0 : goal.returns-then-word-eq0
 returns-then-word-eq0 c =
     let a = c.args in
     record {
-      size = sym (ap (run_len a.tokens.now.kinds.now a.tokens.now.vals.now) c.if-word-eq0.true ∙ run_none a.tokens.now.kinds.now a.tokens.now.vals.now);
+      size = rw c.if-word-eq0.true (sym (run_none _ _));
       place = omega arith;
       within = omega arith;
     }
@@ -26,7 +26,7 @@ returns-then-tokens-at c =
     let p = a.word - 1 in
     let z = get_or-eq_default a.tokens.now.kinds.now 0 {n = p} c.if-tokens-at.true in
     record {
-      size = sym (run_past a.tokens.now.kinds.now a.tokens.now.vals.now a.word p (omega arith) (omega (arith, span_one (get_or a.tokens.now.kinds.now p 0) (get_or a.tokens.now.vals.now p 0) (omega arith))));
+      size = sym (run_past _ _ a.word p (omega arith) (omega (arith, span_one (get_or a.tokens.now.kinds.now p 0) (get_or a.tokens.now.vals.now p 0) (omega arith))));
       place = omega arith;
       within = omega arith;
     }
@@ -46,7 +46,7 @@ returns-then-tokens-at-2 c =
     let a = c.args in
     let p = a.word - 1 in
     record {
-      size = sym (run_past a.tokens.now.kinds.now a.tokens.now.vals.now a.word p (omega arith) (omega (arith, len_is (goal.at.returns-then-tokens-at-2 c).Joined-tokens-at-ge2)));
+      size = sym (run_past _ _ a.word p (omega arith) (omega (arith, len_is (goal.at.returns-then-tokens-at-2 c).Joined-tokens-at-ge2)));
       place = omega arith;
       within = omega arith;
     }
@@ -56,7 +56,7 @@ returns c =
     let a = c.args in
     let p = a.word - 1 in
     record {
-      size = len_is (goal.at.returns c).Joined-tokens-at-ge2 ∙ sym (run_at a.tokens.now.kinds.now a.tokens.now.vals.now a.word p (omega arith) (omega (arith, len_is (goal.at.returns c).Joined-tokens-at-ge2)));
+      size = len_is (goal.at.returns c).Joined-tokens-at-ge2 ∙ sym (run_at _ _ a.word p (omega arith) (omega (arith, len_is (goal.at.returns c).Joined-tokens-at-ge2)));
       place = λ _. omega arith;
       within = omega arith;
     }
