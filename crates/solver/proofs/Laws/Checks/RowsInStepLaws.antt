@@ -221,15 +221,6 @@ like_more ks vs i ae j be f ps qs hp hq l h = go (dec_lt j be)
 
 -- ---- the walk of `same_shape`
 
-pub part_end_over : {ks vs : List ℕ} {i e : ℕ} → i < e → e < i + span (get_or ks i 0) (get_or vs i 0) → PartEnd ks vs i e e
-part_end_over l h = record { past = l; within = omega arith; is = λ _ w. absurd (omega arith) }
-
-pub part_end_none : {ks vs : List ℕ} {i e : ℕ} → i < e → span (get_or ks i 0) (get_or vs i 0) ≡ 0 → PartEnd ks vs i e e
-part_end_none l h = record { past = l; within = omega arith; is = λ w _. absurd (omega arith) }
-
-pub part_end_at : {ks vs : List ℕ} {i e r : ℕ} → i < r → r ≤ e → r ≡ i + span (get_or ks i 0) (get_or vs i 0) → PartEnd ks vs i e r
-part_end_at l h x = record { past = l; within = h; is = λ _ _. x }
-
 -- what is left of two rows decides
 pub record Walking (ks vs : List ℕ) (i ae j be : ℕ) (f₀ : Bool) (ps qs : Parts) (f : Bool) : Type 0 where
   pub left : Parts

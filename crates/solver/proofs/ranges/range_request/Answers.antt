@@ -4,7 +4,7 @@ use Rattle.std.proofs.lemmas.Grind.{common_steps}
 use Rattle.solver.specs.Families.{request_of}
 use mathlib.Core.Path.{sym, ◌∙◌}
 use Rattle.solver.specs.Words.MethodContract.{bound_of}
-use Rattle.solver.proofs.Laws.Table.RequestWordLaws.{range_above, range_none, range_held}
+use Rattle.solver.proofs.Laws.Table.RequestWordLaws.{range_none, range_held}
 use Rattle.solver.proofs.ranges.range_request.Goals as goal
 
 pub returns-then-not-at_most : goal.returns-then-not-at_most

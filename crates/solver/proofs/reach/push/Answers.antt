@@ -1,4 +1,5 @@
 -- `push`. By the token's kind, the table and the mark.
+use Rattle.std.proofs.lemmas.Grind.{common_steps}
 use mathlib.Core.Path.{◌≡◌, refl, sym, ap, ◌∙◌}
 use mathlib.Core.Bool.{true}
 use Prim.Native.Nat.{ℕ, suc, ◌<◌}
@@ -21,14 +22,12 @@ room c =
     (lt, omega (arith, l, room_left c.requires.0 x (omega arith) z), z)
 
 pub returns-then-kind-ne1 : goal.returns-then-kind-ne1
-returns-then-kind-ne1 c =
-    grown_none c.requires.0 _ (λ u l i. absurd (c.if-kind-ne1.true (token_is _ _ _ i).0))
+unfolding counts
+returns-then-kind-ne1 c = grind (arith, common_steps)
 
 pub returns-then-n-at : goal.returns-then-n-at
-returns-then-n-at c =
-    let n = (parts_long c.args.n c.args.work.now c.requires.1).0 in
-    grown_none c.requires.0 _
-    (λ u l i. absurd (omega (arith, (token_is _ _ _ i).1, c.if-n-at.true)))
+unfolding counts
+returns-then-n-at c = grind (arith, common_steps)
 
 pub returns-then-work-at-ne0 : goal.returns-then-work-at-ne0
 returns-then-work-at-ne0 c =
