@@ -13,10 +13,8 @@ returns-then-not-at_most c = grind (arith, common_steps)
 
 pub returns-then-mask-eq0 : goal.returns-then-mask-eq0
 returns-then-mask-eq0 c =
-    let a = c.args in
-    range_none a.fallback (bound_of a.low) (bound_of a.high) _ (sym c.at_most.ensures ∙ c.if-not-at_most.false) c.range_mask-mask.ensures.0 c.if-mask-eq0.true
+    range_none _ _ _ _ (sym c.at_most.ensures ∙ c.if-not-at_most.false) c.range_mask-mask.ensures.0 c.if-mask-eq0.true
 
 pub returns : goal.returns
 returns c =
-    let a = c.args in
-    range_held a.fallback (bound_of a.low) (bound_of a.high) _ c.requires (sym c.at_most.ensures ∙ c.if-not-at_most.false) c.range_mask-mask.ensures.0 c.if-mask-eq0.false
+    range_held _ _ _ _ c.requires (sym c.at_most.ensures ∙ c.if-not-at_most.false) c.range_mask-mask.ensures.0 c.if-mask-eq0.false

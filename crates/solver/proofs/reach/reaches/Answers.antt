@@ -44,7 +44,7 @@ pub loop-hit-init : goal.loop-hit-init
 loop-hit-init c =
     let n = length c.args.bound.now in
     let m = c.scan-hit in
-    going_start (zero_take n c.args.work.now c.requires.scratch.1) (parts_long n _ (omega (arith, m.auto.work, c.requires.scratch.0))).0 _ (named_run_of c.args.tokens.now.kinds.now c.args.tokens.now.vals.now (c.args.p + 1) _ _ c.named_run.ensures) m.ensures.hit m.ensures.grown
+    going_start (zero_take n c.args.work.now c.requires.scratch.1) (parts_long n _ (omega (arith, m.auto.work, c.requires.scratch.0))).0 _ (named_run_of _ _ (c.args.p + 1) _ _ c.named_run.ensures) m.ensures.hit m.ensures.grown
 
 pub overflow_add-w : goal.overflow_add-w
 overflow_add-w c = omega (arith, lens (goal.at.overflow_add-w c).At-loop-hit, c.if-done-top.true, c.well_formed)
@@ -79,4 +79,4 @@ returns-clause-told c = told (goal.at.returns-clause-told c).Left-loop-hit
 pub returns-clause-term : goal.returns-clause-term
 returns-clause-term c =
     let a = c.args in
-    told_asked a.tokens.now.kinds.now a.tokens.now.vals.now a.bound.now a.p a.want _ (told (goal.at.returns-clause-term c).Left-loop-hit)
+    told_asked _ _ _ a.p a.want _ (told (goal.at.returns-clause-term c).Left-loop-hit)

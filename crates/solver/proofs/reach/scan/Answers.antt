@@ -14,8 +14,8 @@ use Rattle.solver.proofs.reach.scan.Goals as goal
 pub loop-i-init : goal.loop-i-init
 loop-i-init c = (
   omega arith,
-  sym (has_start c.args.want c.args.tokens.now.kinds.now c.args.tokens.now.vals.now c.args.run.at),
-  grown_none c.requires.work.0 _ (λ u l i. never_true (sym (has_start (suc u) c.args.tokens.now.kinds.now c.args.tokens.now.vals.now c.args.run.at) ∙ i)),
+  sym (has_start c.args.want _ _ c.args.run.at),
+  grown_none c.requires.work.0 _ (λ u l i. never_true (sym (has_start (suc u) _ _ c.args.run.at) ∙ i)),
   refl,
 )
 
