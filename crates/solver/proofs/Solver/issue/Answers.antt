@@ -8,13 +8,11 @@ use Rattle.solver.proofs.Solver.issue.Goals as goal
 
 pub returns-then-v-issued-clause-held : goal.returns-then-v-issued-clause-held
 returns-then-v-issued-clause-held c =
-    let a = c.args in
     let f = c.find_place-v in
     λ ks vs s L. issued_found _ ks vs _ s L _ _ (f.ensures.place s.places (sym L.issued) L.places) c.if-v-issued.true
 
 pub returns-then-m-issued-clause-held : goal.returns-then-m-issued-clause-held
 returns-then-m-issued-clause-held c =
-    let a = c.args in
     let f = c.find_place-v in
     λ ks vs s L. issued_full _ ks vs _ s L _ _ (f.ensures.place s.places (sym L.issued) L.places) c.if-v-issued.false c.if-m-issued.true
 

@@ -7,9 +7,7 @@ use Rattle.solver.proofs.Laws.Table.RequestWordLaws.{taken_plain, taken_fallback
 use Rattle.solver.proofs.defaults.default_code.Goals as goal
 
 pub returns-then-own-last-lt64 : goal.returns-then-own-last-lt64
-returns-then-own-last-lt64 c =
-    let a = c.args in
-    (λ o W h. taken_plain _ _ o W h c.if-own-last-lt64.true, omega arith)
+returns-then-own-last-lt64 c = (λ o W h. taken_plain _ _ o W h c.if-own-last-lt64.true, omega arith)
 
 pub returns-then-has : goal.returns-then-has
 returns-then-has c =

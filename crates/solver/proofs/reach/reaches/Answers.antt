@@ -15,8 +15,7 @@ use Rattle.solver.proofs.reach.reaches.Goals.{At-loop-hit, Then-done-top, Left-l
 -- the scratch is as long as it was, and the queue is no longer than the table
 lens : (c : At-loop-hit) → (length c.args.bound.now + length c.args.bound.now ≤ length c.loop-hit.work)
     × (c.loop-hit.top ≤ length c.args.bound.now)
-lens c =
-    omega (arith, c.loop-hit.invariant.size, c.loop-hit.auto.work, c.scan-hit.auto.work, c.requires.scratch.0, top-le c.loop-hit.invariant.work)
+lens c = omega (arith, c.loop-hit.invariant.size, c.loop-hit.auto.work, c.scan-hit.auto.work, c.requires.scratch.0, top-le c.loop-hit.invariant.work)
 
 -- the entry of the queue that is taken is a number of the table
 entry : (c : Then-done-top) → get_or c.loop-hit.work (length c.args.bound.now + c.loop-hit.done) 0 < length c.args.bound.now

@@ -20,7 +20,6 @@ returns-then-c-eq0 c =
 
 pub loop-c-smaller-then-c : goal.loop-c-smaller-then-c
 loop-c-smaller-then-c c =
-    let a = c.args in
     let l = c.loop-c in
     steps_pop _ _ _ _ l.frames l.c.at l.c.end l.c.depth (omega arith) (omega arith)
 
@@ -37,7 +36,6 @@ loop-c-preserved-then-c c =
 
 pub returns-then-r-eq0 : goal.returns-then-r-eq0
 returns-then-r-eq0 c =
-    let a = c.args in
     let l = c.loop-c in
     let i = c.enter-r.ensures in
     record {
@@ -54,7 +52,6 @@ returns-then-r-eq0 c =
 
 pub loop-c-smaller : goal.loop-c-smaller
 loop-c-smaller c =
-    let a = c.args in
     let l = c.loop-c in
     let o = entered_open _ _ _ _ _ _ _ c.enter-r.ensures (omega arith) in
     steps_into _ _ _ _ l.frames l.c.at l.c.end l.c.depth _ _ (omega (arith, l.invariant)) c.enter-r.ensures (omega arith) (omega (arith, l.invariant))
