@@ -12,7 +12,12 @@ pub returns-then-c-eq0 : goal.returns-then-c-eq0
 returns-then-c-eq0 c =
     let l = c.loop-c in
     record {
-      ready = record { sound = l.invariant.0; head = λ h. absurd (omega arith); over = λ _. rw c.if-c-eq0.true (rest_over _ _ _ _ _ l.c.at l.c.end (omega arith)); alone = λ _. c.if-c-eq0.true };
+      ready = record {
+        sound = l.invariant.0;
+        head = λ h. absurd (omega arith);
+        over = λ _. rw c.if-c-eq0.true (rest_over _ _ _ _ _ l.c.at l.c.end (omega arith));
+        alone = λ _. c.if-c-eq0.true;
+      };
       same = l.invariant.1;
       apart = l.invariant.3;
       bare = l.invariant.4;
