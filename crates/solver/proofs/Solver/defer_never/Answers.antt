@@ -12,14 +12,15 @@ pub returns-then-v-m-clause-held : goal.returns-then-v-m-clause-held
 returns-then-v-m-clause-held c =
     let t = c.shallow_resolve-q.ensures in
     λ s u P.
-    deferred_some P.behind.ordered P.behind.represents u (t.term u s.solver.bindings P.held (behind_bindings P.behind)) refl c.if-tokens-q-eq1.true c.if-v-m.true
+    deferred_some P.behind.ordered P.behind.represents u (t.term u s.solver.bindings P.held (behind_bindings P.behind)) refl
+    c.if-tokens-q-eq1.true c.if-v-m.true
 
 pub returns-else-v-m-clause-held : goal.returns-else-v-m-clause-held
 returns-else-v-m-clause-held c =
     let t = c.shallow_resolve-q.ensures in
     λ s u P.
-    let far = deferred_far P.behind.ordered P.behind.represents u (t.term u s.solver.bindings P.held (behind_bindings P.behind)) P.within c.if-tokens-q-eq1.true in
-    absurd (omega (arith, far, c.if-v-m.false))
+    let h = t.term u s.solver.bindings P.held (behind_bindings P.behind) in
+    absurd (omega (arith, deferred_far P.behind.ordered P.behind.represents u h P.within c.if-tokens-q-eq1.true, c.if-v-m.false))
 
 pub returns-else-tokens-q-eq1-clause-held : goal.returns-else-tokens-q-eq1-clause-held
 returns-else-tokens-q-eq1-clause-held c =

@@ -27,5 +27,6 @@ loop-v-preserved c =
 pub returns : goal.returns
 returns c =
     let a = c.args in
-    let w : a.issued ≡ LastOf a.site a.m a.tables.now a.issued a.issued = search_over _ _ _ a.m a.tables.now _ _ c.loop-v.v c.loop-v.invariant.0 (omega arith) in
+    let w : a.issued ≡ LastOf a.site a.m a.tables.now a.issued a.issued =
+        search_over _ _ _ a.m a.tables.now _ _ c.loop-v.v c.loop-v.invariant.0 (omega arith) in
     record { word = w; place = search_answer a.site a.m a.tables.now a.issued w }
