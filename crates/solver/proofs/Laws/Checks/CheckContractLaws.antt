@@ -42,7 +42,7 @@ within_most N m l (node k ps) w = tt
 
 -- ---- a variable meets a term
 
-module _ (x : Solver) (ks vs ts : List ℕ) (s : Session) (v q : ℕ) (t : Term) (F : Facing x ks vs ts s v q t) where
+module _ {x : Solver} {ks vs ts : List ℕ} {s : Session} {v q : ℕ} {t : Term} (F : Facing x ks vs ts s v q t) where
   pub facing_place : q < length ks
   facing_place = held_place ks vs q t F.known.held
 
@@ -60,7 +60,7 @@ some_of : (o : Option Requests) → is_some o ≡ true → (rs : Requests) × (o
 some_of none e = absurd (let z : ◌≡◌ {A = ℕ} 0 1 = cc in omega arith)
 some_of (some rs) e = (rs, refl)
 
-module _ (x : Solver) (ks vs ts : List ℕ) (s : Session) (v q : ℕ) (t : Term) (F : Facing x ks vs ts s v q t) (count : ℕ) (ps : List Pair) (W : Waiting x ks vs ts count ps) (a b : Term) where
+module _ {x : Solver} {ks vs ts : List ℕ} {s : Session} {v q : ℕ} {t : Term} (F : Facing x ks vs ts s v q t) {count : ℕ} {ps : List Pair} (W : Waiting x ks vs ts count ps) {a b : Term} where
   pub assign_recovers : recovers (resolved s.solver t) ≡ true → After x ks vs ts ts s a b count (bind s.solver v t ps) (record { solver = x; good = true; count = count })
   assign_recovers e = after_passed x ks vs ts s count ps F.represents W a b (bind_recovers s.solver v t ps e)
 
@@ -74,10 +74,10 @@ module _ (x : Solver) (ks vs ts : List ℕ) (s : Session) (v q : ℕ) (t : Term)
   assign_occurs e f = after_failed x ks vs ts s count ps F.represents W a b (bind_occurs s.solver v t ps e f)
 
   pub assign_bound : recovers (resolved s.solver t) ≡ false → is_some (admit s.solver.requests (s.solver.requests v) t) ≡ true → occurs v (resolved s.solver t) ≡ false
-      → (y : Solver) (us : List ℕ)
+      → {y : Solver} {us : List ℕ}
       → ((rs : Requests) → at_most x.variables t → admit s.solver.requests (s.solver.requests v) t ≡ some rs → Represents y ks vs us (with_solver s (bound_to s.solver v t rs)))
       → Beside x y ts us → After x ks vs ts us s a b count (bind s.solver v t ps) (record { solver = y; good = true; count = count })
-  assign_bound e f g y us l d =
+  assign_bound e f g {y} {us} l d =
       let r = some_of (admit s.solver.requests (s.solver.requests v) t) f in
       let low = within_most (issued s) x.variables F.represents.fits.variables t F.known.within in
       after_bound x ks vs ts s count ps F.represents W a b (bound_to s.solver v t r.0) (bind_bound s.solver v t ps r.0 e r.1 g) refl y us (l r.0 low r.1)
@@ -109,7 +109,8 @@ pub kind_projects : (ks vs : List ℕ) (p k : ℕ) (ps : Parts) → Held ks vs p
 unfolding projects head_kind
 kind_projects ks vs p k ps h = ap (λ (i : ℕ). eqb i 20) (held_first ks vs p (node k ps) h).0 ∙ two_more k 18
 
-module _ (n : Notion) (x : Solver) (ks vs ts : List ℕ) (s : Session) (i j count : ℕ) (t u : Term) (L : Represents x ks vs ts s) (N : Nodes x ks vs i j count t u) (ps : List Pair) (W : Waiting x ks vs ts count ps) where
+module _ (n : Notion) {x : Solver} {ks vs ts : List ℕ} {s : Session} {i j count : ℕ} {t u : Term} (L : Represents x ks vs ts s) (N : Nodes x ks vs i j count t u) {ps : List Pair}
+    (W : Waiting x ks vs ts count ps) where
   abbrev goal : solving.Check
   goal = decompose s.solver t u ps (recovery t || recovery u) (projects t) (same_shape n t u)
 
@@ -150,8 +151,8 @@ module _ (n : Notion) (x : Solver) (ks vs ts : List ℕ) (s : Session) (i j coun
       ap₂ (same_shape n) N.left N.right
       ∙ sym (h N.tag N.other N.row N.behind (subst (λ (y : Term). Held ks vs i y) N.left N.at_left) (subst (λ (y : Term). Held ks vs j y) N.right N.at_right))
 
-  pub apart_unlike : soft ≡ false → eqb (get_or ks i 0) 20 ≡ false → (r : Bool) → r ≡ false → Shapes r → After x ks vs ts ts s t u count goal (record { solver = x; good = false; count = count })
-  apart_unlike e f r g h =
+  pub apart_unlike : soft ≡ false → eqb (get_or ks i 0) 20 ≡ false → {r : Bool} → r ≡ false → Shapes r → After x ks vs ts ts s t u count goal (record { solver = x; good = false; count = count })
+  apart_unlike e f {r} g h =
       after_failed x ks vs ts s count ps L W t u
       (opened e f ∙ ap (λ (b : Bool). decompose s.solver t u ps false false b) (shapes r h ∙ g) ∙ part_unlike s.solver t u ps)
 
@@ -159,25 +160,25 @@ module _ (n : Notion) (x : Solver) (ks vs ts : List ℕ) (s : Session) (i j coun
   abbrev Pushed : List ℕ → ℕ → Type 0
   Pushed us top = (k l : ℕ) (rs qs : Parts) → Held ks vs i (node k rs) → Held ks vs j (node l qs) → PushedPairs ks vs i j (node k rs) (node l qs) (pending_from x) count ts us top
 
-  pub apart_pushes : soft ≡ false → eqb (get_or ks i 0) 20 ≡ false → (r : Bool) → r ≡ true → Shapes r → (us : List ℕ) (top : ℕ) → length us ≡ length ts → Pushed us top
+  pub apart_pushes : soft ≡ false → eqb (get_or ks i 0) 20 ≡ false → {r : Bool} → r ≡ true → Shapes r → {us : List ℕ} {top : ℕ} → length us ≡ length ts → Pushed us top
       → After x ks vs ts us s t u count goal (record { solver = x; good = true; count = top })
-  apart_pushes e f r g h us top l p =
+  apart_pushes e f {r} g h {us} {top} l p =
       after_pushed x ks vs ts s count ps L W t u
       (opened e f ∙ ap (λ (b : Bool). decompose s.solver t u ps false false b) (shapes r h ∙ g) ∙ part_pushes s.solver t u ps) i j N us top l
       (subst (λ (y : Term). PushedPairs ks vs i j y u (pending_from x) count ts us top) (sym N.left)
       (subst (λ (y : Term). PushedPairs ks vs i j (node N.tag N.row) y (pending_from x) count ts us top) (sym N.right)
       (p N.tag N.other N.row N.behind (subst (λ (y : Term). Held ks vs i y) N.left N.at_left) (subst (λ (y : Term). Held ks vs j y) N.right N.at_right))))
 
-module _ (n : Notion) (x : Solver) (ks vs : List ℕ) (i j count : ℕ) (t u : Term) (N : Nodes x ks vs i j count t u) where
+module _ {x : Solver} {ks vs : List ℕ} {i j count : ℕ} {t u : Term} (N : Nodes x ks vs i j count t u) where
   pub nodes_places : (i < length ks) × (j < length ks)
   nodes_places = (held_place ks vs i t N.at_left, held_place ks vs j u N.at_right)
 
   -- two nodes whose shapes agree, and the room for their children
-  pub nodes_twins : (r : Bool) → r ≡ true → ((k l : ℕ) (rs qs : Parts) → Held ks vs i (node k rs) → Held ks vs j (node l qs) → r ≡ same_shape n (node k rs) (node l qs))
-      → (size : ℕ) → pending_from x + 2 * (32 + x.nodes) ≤ size
+  pub nodes_twins : (n : Notion) {r : Bool} → r ≡ true → ((k l : ℕ) (rs qs : Parts) → Held ks vs i (node k rs) → Held ks vs j (node l qs) → r ≡ same_shape n (node k rs) (node l qs))
+      → {size : ℕ} → pending_from x + 2 * (32 + x.nodes) ≤ size
       → (w : Twins ks vs i j) × (pending_from x + 2 * (count + length (children (node w.tag w.left))) ≤ size)
   unfolding children
-  nodes_twins r g h size l =
+  nodes_twins n {r} g h {size} l =
       let a = subst (λ (y : Term). Held ks vs i y) N.left N.at_left in
       let b = subst (λ (y : Term). Held ks vs j y) N.right N.at_right in (
         record {
@@ -195,7 +196,7 @@ module _ (n : Notion) (x : Solver) (ks vs : List ℕ) (i j count : ℕ) (t u : T
 
 -- ---- a pair is due
 
-module _ (n : Notion) (x : Solver) (ks vs ts : List ℕ) (s : Session) (i j count : ℕ) (t u : Term) (D : Due x ks vs ts s i j count t u) where
+module _ {x : Solver} {ks vs ts : List ℕ} {s : Session} {i j count : ℕ} {t u : Term} (D : Due x ks vs ts s i j count t u) where
   abbrev z : solving.Solver
   z = s.solver
 
@@ -210,26 +211,37 @@ module _ (n : Notion) (x : Solver) (ks vs ts : List ℕ) (s : Session) (i j coun
   due_places = (held_place ks vs i t D.left.held, held_place ks vs j u D.right.held)
 
   -- what `same_terms` answers
-  pub due_same : (r : Bool)
+  pub due_same : {r : Bool}
       → ((t u : Term) (b : ℕ → Option Term) → Held ks vs i t → Held ks vs j u → HeldBindings ks vs (binding_words x.variables ts) b → Steady x.revision b → Topped x.revision b → r ≡ same (resolve x.revision b t) (resolve x.revision b u))
       → same (resolved z t) (resolved z u) ≡ r
-  due_same r f =
+  due_same f =
       let e = D.represents.revision in
       sym (f t u z.bindings D.left.held D.right.held D.represents.bindings (subst (λ (k : ℕ). Steady k z.bindings) (sym e) due_steady)
       (subst (λ (k : ℕ). Topped k z.bindings) (sym e) (ordered_topped (issued s) z order))
       ∙ ap (λ (k : ℕ). same (resolve k z.bindings t) (resolve k z.bindings u)) e)
 
-  -- what `shallow_resolve` finds
-  pub due_top : (p a : ℕ) (y : Term) → Held ks vs p y
-      → ((t : Term) (b : ℕ → Option Term) → Held ks vs p t → HeldBindings ks vs (binding_words x.variables ts) b → Held ks vs a (follow x.revision b t)) → Held ks vs a (top z y)
-  due_top p a y h f = subst (λ (k : ℕ). Held ks vs a (follow k z.bindings y)) D.represents.revision (f y z.bindings h D.represents.bindings)
-
-  pub turned_same : (ps : List Pair) → Waiting x ks vs ts count ps → same (resolved z t) (resolved z u) ≡ true
+  pub turned_same : (n : Notion) {ps : List Pair} → Waiting x ks vs ts count ps → same (resolved z t) (resolved z u) ≡ true
       → After x ks vs ts ts s (top z t) (top z u) count (check_pair n z t u ps) (record { solver = x; good = true; count = count })
-  turned_same ps W e = after_passed x ks vs ts s count ps D.represents W (top z t) (top z u) (turn_same n z t u ps e)
+  turned_same n {ps} W e = after_passed x ks vs ts s count ps D.represents W (top z t) (top z u) (turn_same n z t u ps e)
+
+  -- what `shallow_resolve` finds of the place p
+  abbrev Finds : ℕ → ℕ → Type 0
+  Finds p a = (t : Term) (b : ℕ → Option Term) → Held ks vs p t → HeldBindings ks vs (binding_words x.variables ts) b → Held ks vs a (follow x.revision b t)
+
+  found : (p a : ℕ) (y : Term) → Held ks vs p y → Finds p a → Held ks vs a (top z y)
+  found p a y h f = subst (λ (k : ℕ). Held ks vs a (follow k z.bindings y)) D.represents.revision (f y z.bindings h D.represents.bindings)
+
+  abbrev Left : List ℕ → Checked → solving.Check → Type 0
+  Left us r w = After x ks vs ts us s (top z t) (top z u) count w r
 
   -- the tops of the two terms stand at a and b
-  module _ (a b : ℕ) (at_a : Held ks vs a (top z t)) (at_b : Held ks vs b (top z u)) where
+  module _ {a b : ℕ} (top_i : Finds i a) (top_j : Finds j b) where
+    at_a : Held ks vs a (top z t)
+    at_a = found i a t D.left.held top_i
+
+    at_b : Held ks vs b (top z u)
+    at_b = found j b u D.right.held top_j
+
     pub due_left : get_or ks a 0 ≡ 1 → Facing x ks vs ts s (get_or vs a 0) b (top z u)
     due_left e =
         let p = as_var ks vs a (top z t) at_a (omega arith) in
@@ -277,21 +289,18 @@ module _ (n : Notion) (x : Solver) (ks vs ts : List ℕ) (s : Session) (i j coun
         }
 
     -- what the definition does
-    module _ (ps : List Pair) (us : List ℕ) (r : Checked) (differ : same (resolved z t) (resolved z u) ≡ false) where
-      abbrev Left : solving.Check → Type 0
-      Left w = After x ks vs ts us s (top z t) (top z u) count w r
+    module _ (n : Notion) (ps : List Pair) {us : List ℕ} {r : Checked} (differ : same (resolved z t) (resolved z u) ≡ false) where
+      pub turned_left : get_or ks a 0 ≡ 1 → Left us r (bind z (get_or vs a 0) (top z u) ps) → Left us r (check_pair n z t u ps)
+      turned_left e h = subst (Left us r) (sym (turn_left n z t u ps (get_or vs a 0) differ (as_var ks vs a (top z t) at_a (omega arith)))) h
 
-      pub turned_left : get_or ks a 0 ≡ 1 → Left (bind z (get_or vs a 0) (top z u) ps) → Left (check_pair n z t u ps)
-      turned_left e h = subst Left (sym (turn_left n z t u ps (get_or vs a 0) differ (as_var ks vs a (top z t) at_a (omega arith)))) h
-
-      pub turned_right : (get_or ks a 0 ≡ 1 → ⊥) → get_or ks b 0 ≡ 1 → Left (bind z (get_or vs b 0) (top z t) ps) → Left (check_pair n z t u ps)
+      pub turned_right : (get_or ks a 0 ≡ 1 → ⊥) → get_or ks b 0 ≡ 1 → Left us r (bind z (get_or vs b 0) (top z t) ps) → Left us r (check_pair n z t u ps)
       turned_right e f h =
           let p = head_node a (top z t) at_a e in
-          subst Left (sym (turn_right n z t u ps p.0 p.1 (get_or vs b 0) differ p.2 (as_var ks vs b (top z u) at_b (omega arith)))) h
+          subst (Left us r) (sym (turn_right n z t u ps p.0 p.1 (get_or vs b 0) differ p.2 (as_var ks vs b (top z u) at_b (omega arith)))) h
 
       pub turned_nodes : (get_or ks a 0 ≡ 1 → ⊥) → (get_or ks b 0 ≡ 1 → ⊥)
-          → Left (decompose z (top z t) (top z u) ps (recovery (top z t) || recovery (top z u)) (projects (top z t)) (same_shape n (top z t) (top z u))) → Left (check_pair n z t u ps)
+          → Left us r (decompose z (top z t) (top z u) ps (recovery (top z t) || recovery (top z u)) (projects (top z t)) (same_shape n (top z t) (top z u))) → Left us r (check_pair n z t u ps)
       turned_nodes e f h =
           let p = head_node a (top z t) at_a e in
           let q = head_node b (top z u) at_b f in
-          subst Left (sym (turn_nodes n z t u ps p.0 q.0 p.1 q.1 differ p.2 q.2)) h
+          subst (Left us r) (sym (turn_nodes n z t u ps p.0 q.0 p.1 q.1 differ p.2 q.2)) h

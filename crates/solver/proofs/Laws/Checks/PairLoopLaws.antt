@@ -62,11 +62,11 @@ pub record Going (n : Notion) (x₀ : Solver) (ks vs : List ℕ) (s : Session) (
 
 -- ---- the start
 
-module _ (n : Notion) (x : Solver) (ks vs ts : List ℕ) (s : Session) (ordered : InOrder (issued s) s.solver) (lent : Represents x ks vs ts s) (zero_rest : Zero (drop (pending_from x) ts))
-    (p q : ℕ) (t u : Term) (left : Known ks vs s p t) (right : Known ks vs s q u) (us : List ℕ) (size : length us ≡ length ts) (count : ℕ) (laid : Laid (p ∷ []) (q ∷ []) (pending_from x) 0 ts us count) where
+module _ {n : Notion} {x : Solver} {ks vs ts : List ℕ} {s : Session} (ordered : InOrder (issued s) s.solver) (lent : Represents x ks vs ts s) (zero_rest : Zero (drop (pending_from x) ts))
+    {p q : ℕ} {t u : Term} (left : Known ks vs s p t) (right : Known ks vs s q u) {us : List ℕ} (size : length us ≡ length ts) {count : ℕ} (laid : Laid (p ∷ []) (q ∷ []) (pending_from x) 0 ts us count) where
   -- the pair that `constrain` was given is the only one
-  pub going_start : (k : ℕ) → Going n x ks vs s (constrain n k s.solver t u) x us k count true
-  going_start k = record {
+  pub going_start : {k : ℕ} → Going n x ks vs s (constrain n k s.solver t u) x us k count true
+  going_start {k} = record {
     solver = s.solver;
     pairs = (t, u) ∷ [];
     represents = lent_scratch x ks vs ts us s lent (same_start base ts us (sym size) (λ i h. sym (laid.below i (omega arith)))) (omega (arith, lent.room));
@@ -217,7 +217,7 @@ abbrev pub told : Bool → Verdict
 told true = Compatible
 told false = Incompatible
 
-module _ (n : Notion) (x₀ : Solver) (ks vs ts₀ : List ℕ) (s : Session) (goal : Out solving.Solver) (x : Solver) (ts : List ℕ) (left count : ℕ) (ok : Bool)
+module _ {n : Notion} {x₀ : Solver} {ks vs ts₀ : List ℕ} {s : Session} {goal : Out solving.Solver} {x : Solver} {ts : List ℕ} {left count : ℕ} {ok : Bool}
     (G : Going n x₀ ks vs s goal x ts left count ok) (C : ChangesCounted x₀ x ts₀ ts) where
   settled_none : (k : ℕ) (ps : List Pair) → ps ≡ [] → settles n k G.solver ok ps ≡ done G.solver ok
   unfolding settles
@@ -261,10 +261,10 @@ module _ (n : Notion) (x₀ : Solver) (ks vs ts₀ : List ℕ) (s : Session) (go
           ap (λ (m : ℕ). get_or us m 0) e ∙ w.inside (i - pending_from x₀) (omega arith)
       go (no l) = w.above i (omega arith) ∙ G.blank i (omega arith)
 
-  pub going_cancel : left ≡ 0 → 0 < count → (us : List ℕ) → length us ≡ length ts → Wiped (pending_from x₀) count ts us
+  pub going_cancel : left ≡ 0 → 0 < count → {us : List ℕ} → length us ≡ length ts → Wiped (pending_from x₀) count ts us
       → Constrained x₀ ks vs ts₀ us s goal (record { solver = x; verdict = Cancelled })
   unfolding solver_of verdict_code
-  going_cancel e l us a w =
+  going_cancel e l {us} a w =
       let b : take (pending_from x₀) us ≡ take (pending_from x₀) ts = same_start (pending_from x₀) us ts a (λ i h. w.below i h) in
       let h : Zero (drop (pending_from x₀) us) = rest_zero (pending_from x₀) us (wiped_blank us w) in
       let p = stack_some ks vs l G.stack in
@@ -290,9 +290,9 @@ pub record Loop (n : Notion) (x₀ : Solver) (ks vs ts₀ work₀ : List ℕ) (l
   pub long : length work ≡ length work₀
   pub counted : ChangesCounted x₀ x ts₀ ts
 
-pub loop_start : (n : Notion) (x₀ : Solver) (ks vs ts₁ ts work : List ℕ) (left count : ℕ) (ok : Bool) (s : Session) (goal : Out solving.Solver)
+pub loop_start : {n : Notion} {x₀ : Solver} {ks vs ts₁ ts work : List ℕ} {left count : ℕ} {ok : Bool} {s : Session} {goal : Out solving.Solver}
     → Going n x₀ ks vs s goal x₀ ts left count ok → Scratch x₀ ks ts₁ work → length ts ≡ length ts₁ → Loop n x₀ ks vs ts work left count ok x₀ ts work left count ok
-loop_start n x₀ ks vs ts₁ ts work left count ok s goal g S e = record {
+loop_start {s = s} {goal = goal} g S e = record {
   carries = λ s goal g. g;
   some = (s, goal, g);
   room = record { pairs = omega (arith, S.pairs); short = omega (arith, S.short); links = S.links; marks = S.marks; clear = S.clear };
@@ -301,7 +301,7 @@ loop_start n x₀ ks vs ts₁ ts work left count ok s goal g S e = record {
   counted = record { rises = omega arith; quiet = λ e. refl };
 }
 
-module _ (n : Notion) (codes_count : n 4 ≡ false) (x₀ : Solver) (ks vs ts₀ work₀ : List ℕ) (left₀ count₀ : ℕ) (ok₀ : Bool) (x : Solver) (ts work : List ℕ) (left count : ℕ) (ok : Bool)
+module _ {n : Notion} {x₀ : Solver} {ks vs ts₀ work₀ : List ℕ} {left₀ count₀ : ℕ} {ok₀ : Bool} {x : Solver} {ts work : List ℕ} {left count : ℕ} {ok : Bool}
     (L : Loop n x₀ ks vs ts₀ work₀ left₀ count₀ ok₀ x ts work left count ok) where
   present : Going n x₀ ks vs L.some.0 L.some.1 x ts left count ok
   present = L.carries L.some.0 L.some.1 L.some.2
@@ -314,7 +314,7 @@ module _ (n : Notion) (codes_count : n 4 ≡ false) (x₀ : Solver) (ks vs ts₀
       omega (arith, G.represents.begun, G.represents.fits.nodes, G.nodes, L.room.pairs)
 
   -- a pair is taken off
-  module _ (us : List ℕ) (i j : ℕ) (more : left ≡ 0 → ⊥) (pending : 0 < count) (size : length us ≡ length ts) (off : Taken (pending_from x₀) (count - 1) ts us i j) where
+  module _ {us : List ℕ} {i j : ℕ} (more : left ≡ 0 → ⊥) (pending : 0 < count) (size : length us ≡ length ts) (off : Taken (pending_from x₀) (count - 1) ts us i j) where
     pick : (s : Session) (goal : Out solving.Solver) → Going n x₀ ks vs s goal x₀ ts₀ left₀ count₀ ok₀ → Picked n x₀ ks vs s goal x ts us (left - 1) (count - 1) ok i j
     pick s goal g =
         going_picked n x₀ ks vs s goal x ts us (left - 1) (count - 1) ok i j
@@ -346,11 +346,11 @@ module _ (n : Notion) (codes_count : n 4 ≡ false) (x₀ : Solver) (ks vs ts₀
         }
 
     -- and checked
-    pub loop_next : (ws after : List ℕ) (r : Checked) → length ws ≡ length us → length after ≡ length work → Zero after
+    pub loop_next : n 4 ≡ false → {ws after : List ℕ} {r : Checked} → length ws ≡ length us → length after ≡ length work → Zero after
         → ((s : Session) (t u : Term) (ps : List Pair) → Due x ks vs us s i j (count - 1) t u → Waiting x ks vs us (count - 1) ps
         → After x ks vs us ws s (top s.solver t) (top s.solver u) (count - 1) (check_pair n s.solver t u ps) r)
         → (next : Bool) → next ≡ (ok && r.good) → Loop n x₀ ks vs ts₀ work₀ left₀ count₀ ok₀ r.solver ws after (left - 1) r.count next
-    loop_next ws after r e f z A next q =
+    loop_next codes_count {ws} {after} {r} e f z A next q =
         let S = L.room in
         record {
           carries = λ s goal g.
@@ -367,8 +367,8 @@ module _ (n : Notion) (codes_count : n 4 ≡ false) (x₀ : Solver) (ks vs ts₀
         }
 
 -- the pair was put after the columns
-pub counted_start : (x y : Solver) (ls rs ts₀ us ts : List ℕ) (count : ℕ) → length us ≡ length ts₀ → Laid ls rs (pending_from x) 0 ts₀ us count → ChangesCounted x y us ts → ChangesCounted x y ts₀ ts
-counted_start x y ls rs ts₀ us ts count size laid C = record {
+pub counted_start : {x y : Solver} {ls rs ts₀ us ts : List ℕ} {count : ℕ} → length us ≡ length ts₀ → Laid ls rs (pending_from x) 0 ts₀ us count → ChangesCounted x y us ts → ChangesCounted x y ts₀ ts
+counted_start {x = x} {ts₀ = ts₀} {us = us} size laid C = record {
   rises = C.rises;
   quiet = λ e. C.quiet e ∙ same_start (pending_from x) us ts₀ size (λ i h. laid.below i (omega arith));
 }

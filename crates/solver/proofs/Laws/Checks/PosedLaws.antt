@@ -27,8 +27,8 @@ use Rattle.solver.proofs.Laws.Table.ColumnLaws.{rest_read}
 abbrev widened : Solver → ℕ → ℕ → Solver
 widened x nodes top = record { variables = x.variables; nodes = x.nodes; issued = x.issued; revision = x.revision; kept = nodes; top = top }
 
-module _ (n : Notion) (x : Solver) (ks vs ts₀ ts : List ℕ) (s : Session) (q : ℕ) (t u : Term) (P : PosesPair x ks vs ts₀ s q t u) (zero_rest : Zero (drop (pending_from x) ts₀)) (long : length ts ≡ length ts₀)
-    (k nodes : ℕ) (y : Solver) (v : Verdict)
+module _ (n : Notion) {x : Solver} {ks vs ts₀ ts : List ℕ} {s : Session} {q : ℕ} {t u : Term} (P : PosesPair x ks vs ts₀ s q t u) (zero_rest : Zero (drop (pending_from x) ts₀)) (long : length ts ≡ length ts₀)
+    (k : ℕ) {nodes : ℕ} {y : Solver} {v : Verdict}
     (C : Constrained (widened x nodes (length ks)) ks vs ts₀ ts (keep s s.solver (size t + size u)) (solving.constrain n k s.solver t u) (record { solver = y; verdict = v })) where
   abbrev goal : Out solving.Solver
   goal = solving.constrain n k s.solver t u

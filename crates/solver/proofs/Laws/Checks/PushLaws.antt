@@ -130,14 +130,6 @@ window_take n c (x ∷ l) = go (window_take n (suc c) l) (dec_lt c n)
 
 -- ---- one part
 
-pub here_number : (k i : ℕ) → k ≡ 0 → here k i ≡ []
-unfolding here
-here_number k i e = rw e
-
-pub here_term : (k i : ℕ) → (k ≡ 0 → ⊥) → here k i ≡ i ∷ []
-unfolding here
-here_term k i e = rw (ne_eqb k 0 e)
-
 here_size : (k i j : ℕ) → length (here k i) ≡ length (here k j)
 unfolding here
 here_size k i j = go (eqb k 0)
@@ -157,18 +149,6 @@ here_few k i = go (eqb k 0)
 nothing : (lo hi c i : ℕ) → window lo hi c (places i end) ≡ []
 unfolding places
 nothing lo hi c i = window_none lo hi c
-
-pub window_number : (lo hi c k i : ℕ) → k ≡ 0 → window lo hi c (here k i) ≡ []
-window_number lo hi c k i e = ap (window lo hi c) (here_number k i e) ∙ window_none lo hi c
-
-pub window_before : (lo hi c k i : ℕ) → (k ≡ 0 → ⊥) → c < lo → window lo hi c (here k i) ≡ []
-window_before lo hi c k i e h = ap (window lo hi c) (here_term k i e) ∙ window_low lo hi c i [] h ∙ window_none lo hi (suc c)
-
-pub window_behind : (lo hi c k i : ℕ) → (k ≡ 0 → ⊥) → hi ≤ c → window lo hi c (here k i) ≡ []
-window_behind lo hi c k i e h = ap (window lo hi c) (here_term k i e) ∙ window_high lo hi c i [] h ∙ window_none lo hi (suc c)
-
-pub window-here : (lo hi c k i : ℕ) → (k ≡ 0 → ⊥) → lo ≤ c → c < hi → window lo hi c (here k i) ≡ i ∷ []
-window-here lo hi c k i e a h = ap (window lo hi c) (here_term k i e) ∙ window_in lo hi c i [] a h ∙ ap (λ (y : List ℕ). i ∷ y) (window_none lo hi (suc c))
 
 -- ---- the walk of `push_range`
 
@@ -350,15 +330,6 @@ module _ (ks vs : List ℕ) (a e : ℕ) (we : PartEnd ks vs a (length ks) e) whe
         let x = (f ps (node_row ks vs a e k ps we h)).some l in
         let y = (g x.0 x.1).some m in
         sym (ap (λ (z : List ℕ). get_or z 1 0) x.2 ∙ ap (λ (z : List ℕ). get_or z 0 0) y.2)
-
--- ---- what `push_part` does
-
-pub laid_nothing : {base count : ℕ} {ts : List ℕ} (ls rs : List ℕ) → ls ≡ [] → rs ≡ [] → Laid ls rs base count ts ts count
-laid_nothing ls rs e f = rw (e, f) laid_none
-
-pub laid_pair : {base count : ℕ} {ts ts' : List ℕ} {r : ℕ} (ls rs : List ℕ) (x y : ℕ) → ls ≡ x ∷ [] → rs ≡ y ∷ [] → Laid (x ∷ []) (y ∷ []) base count ts ts' r
-    → Laid ls rs base count ts ts' r
-laid_pair ls rs x y e f l = rw (e, f) l
 
 -- ---- what `push_children` does
 

@@ -221,15 +221,6 @@ like_more ks vs i ae j be f ps qs hp hq l h = go (dec_lt j be)
 
 -- ---- the walk of `same_shape`
 
-pub part_end_over : (ks vs : List ℕ) (i e : ℕ) → i < e → e < i + span (get_or ks i 0) (get_or vs i 0) → PartEnd ks vs i e e
-part_end_over ks vs i e l h = record { past = l; within = omega arith; is = λ _ w. absurd (omega arith) }
-
-pub part_end_none : (ks vs : List ℕ) (i e : ℕ) → i < e → span (get_or ks i 0) (get_or vs i 0) ≡ 0 → PartEnd ks vs i e e
-part_end_none ks vs i e l h = record { past = l; within = omega arith; is = λ w _. absurd (omega arith) }
-
-pub part_end_at : (ks vs : List ℕ) (i e r : ℕ) → i < r → r ≤ e → r ≡ i + span (get_or ks i 0) (get_or vs i 0) → PartEnd ks vs i e r
-part_end_at ks vs i e r l h x = record { past = l; within = h; is = λ _ _. x }
-
 -- what is left of two rows decides
 pub record Walking (ks vs : List ℕ) (i ae j be : ℕ) (f₀ : Bool) (ps qs : Parts) (f : Bool) : Type 0 where
   pub left : Parts
@@ -245,13 +236,13 @@ Walks ks vs a ae b be f₀ i j f = (ps qs : Parts) → HeldParts ks vs (a + 1) a
 abbrev pub Tells : (ks vs : List ℕ) (a ae b be : ℕ) (f₀ r : Bool) → Type 0
 Tells ks vs a ae b be f₀ r = (ps qs : Parts) → HeldParts ks vs (a + 1) ae ps → HeldParts ks vs (b + 1) be qs → r ≡ like_rows f₀ ps qs
 
-module _ (ks vs : List ℕ) (a ae b be : ℕ) (f₀ : Bool) where
-  module _ (i j : ℕ) (f : Bool) (w : Walks ks vs a ae b be f₀ i j f) where
+module _ {ks vs : List ℕ} (a : ℕ) {ae : ℕ} (b : ℕ) {be : ℕ} {f₀ : Bool} where
+  module _ {i j : ℕ} {f : Bool} (w : Walks ks vs a ae b be f₀ i j f) where
     goes_on : (h e : ℕ) (ps : Parts) → HeldParts ks vs h e ps → h < e → ps ≡ end → ⊥
     goes_on h e ps x l z = omega (arith, end_ends ks vs h e (rw z at x))
 
-    pub walks_over : ae ≤ i → (r : Bool) → (be ≤ j → r ≡ true) → (j < be → r ≡ false) → Tells ks vs a ae b be f₀ r
-    walks_over h r y n ps qs hp hq =
+    pub walks_over : ae ≤ i → {r : Bool} → (be ≤ j → r ≡ true) → (j < be → r ≡ false) → Tells ks vs a ae b be f₀ r
+    walks_over h {r} y n ps qs hp hq =
         let x = w ps qs hp hq in
         let e = row_end ks vs i ae x.left x.held_left h in
         go x (x.like ∙ ap (λ (l : Parts). like_rows f l x.right) e) (dec_le be j)
@@ -274,9 +265,9 @@ module _ (ks vs : List ℕ) (a ae b be : ℕ) (f₀ : Bool) where
             let q = row_part ks vs j be x.right x.held_right lj in
             sym (x.like ∙ like_step ks vs i ae j be f x.left x.right p q ∙ ap (λ (b : Bool). b && like_rows false p.rest q.rest) h)
 
-        pub walks_step : agree f (get_or ks i 0) (get_or vs i 0) (get_or ks j 0) (get_or vs j 0) ≡ true → (i' j' : ℕ) → PartEnd ks vs i ae i' → PartEnd ks vs j be j'
+        pub walks_step : agree f (get_or ks i 0) (get_or vs i 0) (get_or ks j 0) (get_or vs j 0) ≡ true → {i' j' : ℕ} → PartEnd ks vs i ae i' → PartEnd ks vs j be j'
             → Walks ks vs a ae b be f₀ i' j' false
-        walks_step h i' j' ei ej ps qs hp hq =
+        walks_step h {i'} {j'} ei ej ps qs hp hq =
             let x = w ps qs hp hq in
             let p = row_part ks vs i ae x.left x.held_left li in
             let q = row_part ks vs j be x.right x.held_right lj in
@@ -299,38 +290,17 @@ pub node_kind : (ks vs : List ℕ) (a k : ℕ) (ps : Parts) → Held ks vs a (no
 unfolding head_kind
 node_kind ks vs a k ps h = (held_first ks vs a (node k ps) h).0
 
-module _ (ks vs : List ℕ) (a b : ℕ) (strict : Bool) where
-  abbrev pub Shaped : Bool → Type 0
-  Shaped r = (k j : ℕ) (ps qs : Parts) → Held ks vs a (node k ps) → Held ks vs b (node j qs) → r ≡ same_shape (notion strict) (node k ps) (node j qs)
+abbrev pub Shaped : (ks vs : List ℕ) (a b : ℕ) (strict r : Bool) → Type 0
+Shaped ks vs a b strict r = (k j : ℕ) (ps qs : Parts) → Held ks vs a (node k ps) → Held ks vs b (node j qs) → r ≡ same_shape (notion strict) (node k ps) (node j qs)
 
-  pub heads_differ : (get_or ks a 0 ≡ get_or ks b 0 → ⊥) → Shaped false
+module _ {ks vs : List ℕ} {a b : ℕ} (strict : Bool) where
+  pub heads_differ : (get_or ks a 0 ≡ get_or ks b 0 → ⊥) → Shaped ks vs a b strict false
   heads_differ h k j ps qs ha hb = sym (shape_other (notion strict) k j ps qs (λ e. h (node_kind ks vs a k ps ha ∙ ap (λ (x : ℕ). suc (suc x)) e ∙ sym (node_kind ks vs b j qs hb))))
 
-  pub shape_told : get_or ks a 0 ≡ get_or ks b 0 → (ae be : ℕ) → PartEnd ks vs a (length ks) ae → PartEnd ks vs b (length ks) be → (f₀ : Bool)
-      → f₀ ≡ (not strict && (eqb (get_or ks a 0) 12 || eqb (get_or ks a 0) 13)) → (r : Bool) → Tells ks vs a ae b be f₀ r → Shaped r
-  shape_told h ae be ea eb f₀ ef r t k j ps qs ha hb =
+  pub shape_told : get_or ks a 0 ≡ get_or ks b 0 → {ae be : ℕ} → PartEnd ks vs a (length ks) ae → PartEnd ks vs b (length ks) be → {f₀ : Bool}
+      → f₀ ≡ (not strict && (eqb (get_or ks a 0) 12 || eqb (get_or ks a 0) 13)) → {r : Bool} → Tells ks vs a ae b be f₀ r → Shaped ks vs a b strict r
+  shape_told h {ae} {be} ea eb {f₀} ef {r} t k j ps qs ha hb =
       let ek : k ≡ j = omega (arith, node_kind ks vs a k ps ha, node_kind ks vs b j qs hb) in
       let e : f₀ ≡ notion strict k = ef ∙ free_is strict k (get_or ks a 0) (node_kind ks vs a k ps ha) in
       t ps qs (node_row ks vs a ae k ps ea ha) (node_row ks vs b be j qs eb hb)
       ∙ ap (λ (x : Bool). like_rows x ps qs) e ∙ sym (shape_node (notion strict) k ps qs) ∙ ap (λ (x : ℕ). same_shape (notion strict) (node k ps) (node x qs)) ek
-
--- ---- two parts by their tokens
-
-module _ (f : Bool) (k v j w : ℕ) where
-  pub agree_term : (k ≡ 0 → ⊥) → not (eqb j 0) ≡ agree f k v j w
-  unfolding agree
-  agree_term h = rw (ne_eqb k 0 h)
-
-  module _ (h : k ≡ 0) where
-    pub agree_mixed : (j ≡ 0 → ⊥) → false ≡ agree f k v j w
-    unfolding agree
-    agree_mixed g = rw (h, ne_eqb j 0 g)
-
-    module _ (g : j ≡ 0) where
-      pub agree_free : f ≡ true → true ≡ agree f k v j w
-      unfolding agree
-      agree_free e = rw (h, g, e)
-
-      pub agree_number : f ≡ false → eqb v w ≡ agree f k v j w
-      unfolding agree
-      agree_number e = rw (h, g, e)

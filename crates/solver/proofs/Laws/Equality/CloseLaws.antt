@@ -27,9 +27,9 @@ pub record Going (ks vs : List ℕ) (σ : ℕ → Term) (τ : Term → Term) (pa
 pub going_start : (ks vs : List ℕ) (σ : ℕ → Term) (τ : Term → Term) (par queue : List ℕ) → Fair ks vs par → Going ks vs σ τ par par queue 0
 going_start ks vs σ τ par queue f = record { fair = f; rows = λ i h. absurd (omega arith); honest = λ h. h }
 
-module _ (ks vs : List ℕ) (σ : ℕ → Term) (τ : Term → Term) (par₀ par queue par' queue' : List ℕ) (top top' done x y : ℕ)
+module _ {ks vs : List ℕ} {σ : ℕ → Term} {τ : Term → Term} {par₀ par queue par' queue' : List ℕ} {top top' done x y : ℕ}
     (g : Going ks vs σ τ par₀ par queue done) (w : Wired ks par queue top) (m : Advanced ks par queue top par' queue' top') (below : done < top)
-    (ex : x ≡ get_or queue done 0) (ey : get_or par x 0 ≡ y + 1) (same : Bool)
+    (ex : x ≡ get_or queue done 0) (ey : get_or par x 0 ≡ y + 1) {same : Bool}
     (told : (k l : ℕ) (ps qs : Parts) → Held ks vs x (node k ps) → Held ks vs y (node l qs)
     → Outcome ks vs σ par par' same (Pairwise (Linked ks vs τ par') ps qs) (CoincideRow σ ps qs)) where
   tells : (e : Edge ks vs x y) → Outcome ks vs σ par par' same (Pairwise (Linked ks vs τ par') e.left e.right) (CoincideRow σ e.left e.right)
@@ -72,9 +72,9 @@ module _ (ks vs : List ℕ) (σ : ℕ → Term) (τ : Term → Term) (par₀ par
   }
 
 -- no place is left
-pub going_yes : (ks vs : List ℕ) (σ : ℕ → Term) (τ : Term → Term) (par₀ par queue : List ℕ) (top done : ℕ) → Going ks vs σ τ par₀ par queue done → Wired ks par queue top → top ≤ done
+pub going_yes : {ks vs : List ℕ} {σ : ℕ → Term} {τ : Term → Term} {par₀ par queue : List ℕ} {top done : ℕ} → Going ks vs σ τ par₀ par queue done → Wired ks par queue top → top ≤ done
     → Closed ks vs σ τ par₀ par true
-going_yes ks vs σ τ par₀ par queue top done g w h = record {
+going_yes g w h = record {
   yes = λ _ x y e. let q = w.cover x (omega arith) in rw q.2 at (g.rows q.0 (omega (arith, q.1)) y (rw q.2 e));
   honest = λ _. refl;
 }

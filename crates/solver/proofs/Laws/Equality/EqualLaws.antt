@@ -17,7 +17,7 @@ use Rattle.solver.specs.Words.ReachContract.{Steady, Topped}
 use Rattle.solver.specs.Words.SessionRepresentation.{begins}
 use Rattle.solver.specs.Words.CongruenceClasses.{link_words, queue_words, WiredIn, AdvancedIn, Clearing, Up, stands_for, Standing, Coincide, Linked, Fair, Outcome}
 use Rattle.solver.proofs.Laws.Resolving.ReachLaws.{by_variable}
-use Rattle.solver.proofs.Laws.Equality.LinkLaws.{up_node, top_less, advanced_link, clear_step, told_class, told_left, told_right}
+use Rattle.solver.proofs.Laws.Equality.LinkLaws.{up_node, top_below, top_less, advanced_link, clear_step, told_class, told_left, told_right}
 
 -- ---- one area
 
@@ -30,12 +30,16 @@ module _ (n : ℕ) (work : List ℕ) (x k a c : ℕ) (h : x < n) where
   stored_queue = drop-set-add n (set work x a) k c ∙ ap (λ (l : List ℕ). set l k c) (drop-set-lt n work x a h)
 
 -- the area has a word for each place, and one for each token that begins a term
-module _ (ks work : List ℕ) (top : ℕ) (w : WiredIn ks work top) where
+module _ {ks : List ℕ} (work : List ℕ) {top : ℕ} (w : WiredIn ks work top) where
   pub links_fit : length ks ≤ length work
   links_fit = omega (arith, w.size, length-take (length ks) work)
 
   pub queue_fits : length ks + begins ks ≤ length work
   queue_fits = omega (arith, links_fit, w.room, length-drop (length ks) work)
+
+  -- the area has a word for each place, and one for each that is listed
+  pub listed_fit : length ks + top ≤ length work
+  listed_fit = omega (arith, queue_fits, top_below _ _ _ _ w)
 
   -- the words that are read
   pub link_read : (x : ℕ) → x < length ks → get_or work x 0 ≡ get_or (link_words ks work) x 0
@@ -45,7 +49,7 @@ module _ (ks work : List ℕ) (top : ℕ) (w : WiredIn ks work top) where
   queue_read i = sym (get_or-drop (length ks) work i 0)
 
   -- an entry of the queue is taken: the place x that it lists, and the link of x
-  module _ (done : ℕ) (h : done < top) (x : ℕ) (e : x ≡ get_or work (length ks + done) 0) where
+  module _ (done : ℕ) (h : done < top) {x : ℕ} (e : x ≡ get_or work (length ks + done) 0) where
     taken_at : x ≡ get_or (queue_words ks work) done 0
     taken_at = e ∙ queue_read done
 
@@ -97,8 +101,8 @@ module _ (n : ℕ) (work : List ℕ) (k : ℕ) (w : Clearing (take n work) (drop
 
 -- ---- bindings
 
-pub steady_standing : (n : ℕ) (b : ℕ → Option Term) → Steady n b → Topped n b → Standing (stands_for n b) (follow n b)
-steady_standing n b s w = record {
+pub steady_standing : {n : ℕ} {b : ℕ → Option Term} → Steady n b → Topped n b → Standing (stands_for n b) (follow n b)
+steady_standing {n} {b} s w = record {
   tops = λ t. by_variable n b (follow n b t) ∙ w.tops t ∙ sym (by_variable n b t);
   plain = λ t v e. s.free v (w.topped t v e);
 }
@@ -114,7 +118,7 @@ module _ (n : ℕ) (b : ℕ → Option Term) (t u : Term) where
 
 -- ---- one class from two: x heads that of a, and y that of b
 
-module _ (ks work : List ℕ) (top : ℕ) (w : WiredIn ks work top) (a b x y : ℕ) (ka : 2 ≤ get_or ks a 0) (kb : get_or ks a 0 ≡ get_or ks b 0)
+module _ {ks : List ℕ} (work : List ℕ) {top : ℕ} (w : WiredIn ks work top) {a b x y : ℕ} (ka : 2 ≤ get_or ks a 0) (kb : get_or ks a 0 ≡ get_or ks b 0)
     (ux : Up (link_words ks work) a x) (uy : Up (link_words ks work) b y) where
   node_x : 2 ≤ get_or ks x 0
   node_x = up_node ks (link_words ks work) (queue_words ks work) top w ux ka

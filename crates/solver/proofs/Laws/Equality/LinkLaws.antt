@@ -123,8 +123,8 @@ module _ (ks par queue : List ℕ) (top : ℕ) (w : Wired ks par queue top) wher
       front = queue_front;
     }
 
-pub advanced_on : (ks p q p' q' p'' q'' : List ℕ) (t t' t'' : ℕ) → Advanced ks p q t p' q' t' → Advanced ks p' q' t' p'' q'' t'' → Advanced ks p q t p'' q'' t''
-advanced_on ks p q p' q' p'' q'' t t' t'' m w = record {
+pub advanced_on : {ks p q p' q' p'' q'' : List ℕ} {t t' t'' : ℕ} → Advanced ks p q t p' q' t' → Advanced ks p' q' t' p'' q'' t'' → Advanced ks p q t p'' q'' t''
+advanced_on m w = record {
   wired = w.wired;
   keeps = λ x y e. w.keeps x y (m.keeps x y e);
   more = omega (arith, m.more, w.more);

@@ -78,7 +78,7 @@ module _ (ks vs : List ℕ) (σ : ℕ → Term) (τ : Term → Term) where
   not_end i e ps h m (yes k) l = let p = row_num ks vs i e ps h m k in num_end p.0 p.1 (rw p.2 at l)
   not_end i e ps h m (no k) l = let p = row_sub ks vs i e ps h m k in sub_end p.0 p.1 (rw p.2 at l)
 
-  module _ (ae be : ℕ) (ps qs : Parts) (par₀ : List ℕ) (i j : ℕ) (par : List ℕ) (w : RowWalk ae be ps qs par₀ i j par) where
+  module _ {ae be : ℕ} {ps qs : Parts} {par₀ : List ℕ} {i j : ℕ} {par : List ℕ} (w : RowWalk ae be ps qs par₀ i j par) where
     abbrev Tells : List ℕ → Bool → Type 0
     Tells par' same = Outcome ks vs σ par₀ par' same (Pairwise (Linked ks vs τ par') ps qs) (CoincideRow σ ps qs)
 
@@ -127,7 +127,7 @@ module _ (ks vs : List ℕ) (σ : ℕ → Term) (τ : Term → Term) where
         }
 
     -- two terms have been joined, from par to par'
-    module _ (par' : List ℕ) (keeps : Keeps par par') (hi : i < ae) (hj : j < be) (ki : get_or ks i 0 ≡ 0 → ⊥) (kj : get_or ks j 0 ≡ 0 → ⊥) (same : Bool)
+    module _ {par' : List ℕ} (keeps : Keeps par par') (hi : i < ae) (hj : j < be) (ki : get_or ks i 0 ≡ 0 → ⊥) (kj : get_or ks j 0 ≡ 0 → ⊥) {same : Bool}
         (told : (t u : Term) → Held ks vs i t → Held ks vs j u → Outcome ks vs σ par par' same (Linked ks vs τ par' t u) (Coincide σ t u)) where
       pub no_join : same ≡ false → Tells par' false
       no_join f =
@@ -139,12 +139,12 @@ module _ (ks vs : List ℕ) (σ : ℕ → Term) (τ : Term → Term) where
             honest = λ h e. never_true (sym f ∙ (d.honest (w.honest h e) (sub_apart p.0 q.0 p.1 q.1 (rw (p.2, q.2) at (w.level e))).0).0);
           }
 
-      pub walk_join : same ≡ true → (r s : ℕ)
+      pub walk_join : same ≡ true → {r s : ℕ}
           → (1 ≤ span (get_or ks i 0) (get_or vs i 0) → i + span (get_or ks i 0) (get_or vs i 0) ≤ ae → r ≡ span (get_or ks i 0) (get_or vs i 0))
           → (1 ≤ span (get_or ks j 0) (get_or vs j 0) → j + span (get_or ks j 0) (get_or vs j 0) ≤ be → s ≡ span (get_or ks j 0) (get_or vs j 0))
           → RowWalk ae be ps qs par₀ (i + r) (j + s) par'
       unfolding Pairwise
-      walk_join f r s er es =
+      walk_join f {r} {s} er es =
           let p = row_sub ks vs i ae w.psr w.hp hi ki in
           let q = row_sub ks vs j be w.qsr w.hq hj kj in
           let d = told p.0 q.0 p.3 q.3 in

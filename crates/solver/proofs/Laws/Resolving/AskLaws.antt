@@ -177,25 +177,7 @@ module _ (f : ℕ → Term) where
 pub unasked : (q w : ℕ) (t : Term) → asked q t ≡ false → asked (suc w) t ≡ true → asked q (var w) ≡ false
 unasked q w t e o = not_yes (asked q (var w)) (λ h. never_false (sym (through q var w h t o) ∙ ap (asked q) (replace_var t) ∙ e))
 
--- ---- one token, as the code tests it
-
-pub counts_unknown : (q k x : ℕ) → q ≡ 0 → k ≡ 4 → true ≡ counts q k x
-unfolding counts
-counts_unknown q k x e h = rw (e, h)
-
-pub counts_error : (q k x : ℕ) → q ≡ 0 → (k ≡ 4 → ⊥) → eqb k 5 ≡ counts q k x
-unfolding counts
-counts_error q k x e h = rw (e, ne_eqb k 4 h)
-
-pub counts_other : (q k x : ℕ) → (q ≡ 0 → ⊥) → (k ≡ 1 → ⊥) → false ≡ counts q k x
-unfolding counts
-counts_other zero k x e h = absurd (e refl)
-counts_other (suc v) k x e h = rw (ne_eqb k 1 h)
-
-pub counts_same : (q k x : ℕ) → (q ≡ 0 → ⊥) → k ≡ 1 → eqb (q - 1) x ≡ counts q k x
-unfolding counts
-counts_same zero k x e h = absurd (e refl)
-counts_same (suc v) k x e h = let m : suc v - 1 ≡ v = omega arith in rw (m, eq-eqb k 1 h)
+-- ---- one token
 
 -- the token is the variable u
 pub token_is : (u k x : ℕ) → counts (suc u) k x ≡ true → (k ≡ 1) × (u ≡ x)

@@ -139,11 +139,11 @@ module _ (ks vs bs : List ℕ) (b : ℕ → Option Term) (held : HeldBindings ks
       ap (λ (c : ℕ). flat_bytes (walked ks vs bs n p c)) e ∙ run_writes n (deep_var n) p t h
 
 -- the bytes of the run that is named for the term at p
-pub named_bytes : (ks vs bs : List ℕ) (n p at len : ℕ) → Named ks vs (p + 1) at len → flat_bytes (walked ks vs bs n at len) ≡ resolved_bytes ks vs bs n p
-named_bytes ks vs bs n p at zero h =
+pub named_bytes : {ks vs : List ℕ} (bs : List ℕ) (n p : ℕ) {at len : ℕ} → Named ks vs (p + 1) at len → flat_bytes (walked ks vs bs n at len) ≡ resolved_bytes ks vs bs n p
+named_bytes {ks = ks} {vs = vs} bs n p {at = at} {len = zero} h =
     let e : run_len ks vs (suc p) ≡ 0 = ap (run_len ks vs) (sym (add-one p)) ∙ sym h.size in
     ap flat_bytes (spell_none (walk one [] ks vs bs n) ks vs at 0 refl ∙ sym (spell_none (walk one [] ks vs bs n) ks vs p (run_len ks vs (suc p)) e))
-named_bytes ks vs bs n p at (suc len) h =
+named_bytes {ks = ks} {vs = vs} bs n p {at = at} {len = suc len} h =
     let e : suc len ≡ run_len ks vs (suc p) = h.size ∙ ap (run_len ks vs) (add-one p) in
     let q : at ≡ p = omega (arith, h.place (omega arith)) in
     ap (λ (c : ℕ). flat_bytes (walked ks vs bs n at c)) e ∙ ap (λ (a : ℕ). flat_bytes (walked ks vs bs n a (run_len ks vs (suc p)))) q

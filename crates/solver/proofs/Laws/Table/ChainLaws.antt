@@ -330,7 +330,7 @@ module _ (n : ℕ) (b : ℕ → Option Term) (S : Steady n b) (T : Topped n b) (
       let x = node_stays n k ps in
       (x.0, sym (T.tops t) ∙ ap (resolve n b) e ∙ x.1)
 
-module _ (x : Solver) (ks₀ vs₀ ts : List ℕ) (s : Session) (A : InOrder (issued s) s.solver) (L : Represents x ks₀ vs₀ ts s) where
+module _ {x : Solver} {ks₀ vs₀ ts : List ℕ} {s : Session} (A : InOrder (issued s) s.solver) (L : Represents x ks₀ vs₀ ts s) where
   -- every binding that is a variable is one of the table
   pub in_order_low : Low x.variables s.solver.bindings
   in_order_low v t e = go t (ordered_within (issued s) s.solver (in_order_ordered (issued s) s.solver A) v t e)
@@ -340,7 +340,7 @@ module _ (x : Solver) (ks₀ vs₀ ts : List ℕ) (s : Session) (A : InOrder (is
       go (node k ps) h = tt
 
   -- the term t, whose top is at q of areas that may be longer
-  module _ (ks vs : List ℕ) (t : Term) (q : ℕ) (h : Held ks vs q (follow x.revision s.solver.bindings t)) where
+  module _ {ks vs : List ℕ} (t : Term) {q : ℕ} (h : Held ks vs q (follow x.revision s.solver.bindings t)) where
     atop : Held ks vs q (top s.solver t)
     atop = subst (λ (m : ℕ). Held ks vs q (follow m s.solver.bindings t)) L.revision h
 
@@ -368,8 +368,8 @@ module _ (x : Solver) (ks₀ vs₀ ts : List ℕ) (s : Session) (A : InOrder (is
         go (var w) f = f ∙ ap var (sym (held_first ks vs q (var w) (subst (λ (y : Term). Held ks vs q y) f atop)).1)
         go (node k ps) f = absurd (omega (arith, (held_first ks vs q (node k ps) (subst (λ (y : Term). Held ks vs q y) f atop)).0))
 
-    pub deferred_some : (v : ℕ) → v ≡ get_or vs q 0 → get_or ks q 0 ≡ 1 → v < x.variables → Represents x ks₀ vs₀ (set ts (5 * x.variables + v) 1) (deferring s (resolved s.solver t))
-    deferred_some v g e l =
+    pub deferred_some : {v : ℕ} → v ≡ get_or vs q 0 → get_or ks q 0 ≡ 1 → v < x.variables → Represents x ks₀ vs₀ (set ts (5 * x.variables + v) 1) (deferring s (resolved s.solver t))
+    deferred_some {v} g e l =
         rw (resolves_variable s.solver.revision s.solver.bindings S T t v (top_variable e ∙ ap var (sym g))) (lent_defer x ks₀ vs₀ ts s L v l)
 
     pub deferred_far : Within (issued s) t → get_or ks q 0 ≡ 1 → get_or vs q 0 < x.variables

@@ -5,6 +5,7 @@ use mathlib.Core.List.{List, [], ◌∷◌}
 use mathlib.Core.Option.{Option, none, some}
 use Prim.Native.Nat.{ℕ, zero, suc, ◌+◌, ◌*◌, ◌-◌, ◌^◌, ◌≤◌, ◌<◌}
 use native.Mathlib.Omega.{arith}
+use Rattle.std.proofs.lemmas.Grind.{common_steps}
 use native.Mathlib.Decide.{ℕ_discrete}
 use borrow.Author.Tests.{le-leb, lt-leb, leb-true, leb-false, lt-ltb, le-ltb, ltb-true, eq-eqb, ne_eqb}
 use lib.Dec.{eqb, ltb}
@@ -119,40 +120,10 @@ pub place_held : (w : Site) (k s i : ℕ) → k ≡ kind_word w → s ≡ site_w
 place_held (Slot a b) k s i e f g = (e, f, g)
 place_held (Hole a) k s i e f g = (e, f, g)
 
--- by tests
-module _ (kind site slot k s i : ℕ) where
-  pub match_kind : (k ≡ kind → ⊥) → false ≡ matches kind site slot k s i
-  unfolding matches
-  match_kind e = rw (ne_eqb kind k (λ f. e (sym f)))
-
-  pub match_site : k ≡ kind → (s ≡ site → ⊥) → false ≡ matches kind site slot k s i
-  unfolding matches
-  match_site e f = rw (eq-eqb kind k (sym e), ne_eqb site s (λ g. f (sym g)))
-
-  -- another site, whatever the kind
-  match_none : (s ≡ site → ⊥) → matches kind site slot k s i ≡ false
-  match_none f = go (ℕ_discrete k kind)
-    where
-      go : Dec (k ≡ kind) → matches kind site slot k s i ≡ false
-      go (yes h) = sym (match_site h f)
-      go (no h) = sym (match_kind h)
-
-  pub match_hole : k ≡ kind → s ≡ site → kind ≡ 2 → true ≡ matches kind site slot k s i
-  unfolding matches
-  match_hole e f g = rw (eq-eqb kind k (sym e), eq-eqb site s (sym f), eq-eqb kind 2 g)
-
-  pub match_slot : k ≡ kind → s ≡ site → (kind ≡ 2 → ⊥) → eqb i slot ≡ matches kind site slot k s i
-  unfolding matches
-  match_slot e f g = rw (eq-eqb kind k (sym e), eq-eqb site s (sym f), ne_eqb kind 2 g) (go (ℕ_discrete i slot))
-    where
-      go : Dec (i ≡ slot) → eqb i slot ≡ eqb slot i
-      go (yes h) = eq-eqb i slot h ∙ sym (eq-eqb slot i (sym h))
-      go (no h) = ne_eqb i slot h ∙ sym (ne_eqb slot i (λ x. h (sym x)))
-
-  -- the words asked for are those of a place
-  pub match_place : (w : Site) → kind ≡ kind_word w → site ≡ site_word w → slot ≡ slot_word w → matches kind site slot k s i ≡ matches (kind_word w) (site_word w) (slot_word w) k s i
-  match_place w e f g =
-      ap (λ (x : ℕ). matches x site slot k s i) e ∙ ap (λ (x : ℕ). matches (kind_word w) x slot k s i) f ∙ ap (λ (x : ℕ). matches (kind_word w) (site_word w) x k s i) g
+-- another site, whatever the kind
+match_none : (kind site slot k s i : ℕ) → (s ≡ site → ⊥) → matches kind site slot k s i ≡ false
+unfolding matches
+match_none kind site slot k s i f = grind (arith, common_steps)
 
 -- one variable more was looked at
 module _ (kind site slot : ℕ) (ks ss is : List ℕ) (d n : ℕ) where
@@ -216,12 +187,14 @@ module _ (kind site slot m : ℕ) (ts : List ℕ) (d : ℕ) where
       search_none n (omega arith) (λ v h. f v (omega arith))
       ∙ sym (match_on kind site slot (place_words m ts) (site_words m ts) (slot_words m ts) d n (sym (in_columns n (omega arith)) ∙ match_none kind site slot _ _ _ (f n (omega arith))))
 
-  pub search_answer : (r : ℕ) → r ≡ Last d → (p : VariablePlace) (ps : List VariablePlace) → HeldPlace p kind site slot → length ps ≡ d
-      → HeldPlaces (place_words m ts) (site_words m ts) (slot_words m ts) ps → r ≡ found d (find p ps)
-  search_answer r e p ps h l g = e ∙ ap Last (sym l) ∙ match_found p kind site slot h (place_words m ts) (site_words m ts) (slot_words m ts) d ps g
-
 abbrev pub LastOf : Site → ℕ → List ℕ → ℕ → ℕ → ℕ
 LastOf w m ts d n = Last (kind_word w) (site_word w) (slot_word w) m ts d n
+
+-- what was found by words is the place's variable
+pub search_answer : (w : Site) (m : ℕ) (ts : List ℕ) (d : ℕ) {r : ℕ} → r ≡ LastOf w m ts d d → (ps : List VariablePlace) → length ps ≡ d
+    → HeldPlaces (place_words m ts) (site_words m ts) (slot_words m ts) ps → r ≡ found d (find (place_of w) ps)
+search_answer w m ts d e ps l g =
+    e ∙ ap (LastOf w m ts d) (sym l) ∙ match_found (place_of w) _ _ _ (place_held w _ _ _ refl refl refl) (place_words m ts) (site_words m ts) (slot_words m ts) d ps g
 
 -- the words of a variable that is not issued are written
 pub places_other : (ks ss is : List ℕ) (j a b c : ℕ) (ps : List VariablePlace) → length ps ≤ j → HeldPlaces ks ss is ps → HeldPlaces (set ks j a) (set ss j b) (set is j c) ps
@@ -574,30 +547,3 @@ module _ (m v kind val : ℕ) (ts : List ℕ) where
         size = length-set ts (m + val) word;
         rest = drop-set-lt (7 * m) ts (m + val) word (omega arith);
       }
-
--- ---- words that defaults go by
-
-module _ (which : Defaulted) (m : ℕ) (ts : List ℕ) (v : ℕ) where
-  pub default_none : which ≡ Deferred → get_or ts (5 * m + v) 0 ≡ 0 → 0 ≡ default_word which m ts v
-  unfolding default_word never_word
-  default_none b e = rw (b, e)
-
-  pub default_never : which ≡ Deferred → (get_or ts (5 * m + v) 0 ≡ 0 → ⊥) → 11 ≡ default_word which m ts v
-  unfolding default_word never_word
-  default_never b e = rw b (go (get_or ts (5 * m + v) 0) e)
-    where
-      go : (d : ℕ) → (d ≡ 0 → ⊥) → 11 ≡ never_word d
-      go zero n = absurd (n refl)
-      go (suc d) n = refl
-
-  pub default_request : which ≡ Requested → get_or ts (m + v) 0 ≡ default_word which m ts v
-  unfolding default_word
-  default_request b = rw b
-
-  pub end_never : which ≡ Deferred → 0 ≡ end_word which m ts v
-  unfolding end_word
-  end_never b = rw b
-
-  pub end_request : which ≡ Requested → get_or ts (m + v) 0 ≡ end_word which m ts v
-  unfolding end_word
-  end_request b = rw b

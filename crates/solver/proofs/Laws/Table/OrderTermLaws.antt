@@ -34,7 +34,7 @@ pub record Fitted (x : Solver) (ks vs ts : List ℕ) (z : Session) : Type 0 wher
 
 -- ---- the bindings hold over all of the tokens
 
-module _ (x : Solver) (ks vs ts : List ℕ) (z : Session) (B : Behind x ks vs ts z) where
+module _ {x : Solver} {ks vs ts : List ℕ} {z : Session} (B : Behind x ks vs ts z) where
   pub behind_longer : Longer (take x.top ks) (take x.top vs) ks vs
   behind_longer = longer_take ks vs x.top B.inside
 
@@ -42,8 +42,8 @@ module _ (x : Solver) (ks vs ts : List ℕ) (z : Session) (B : Behind x ks vs ts
   behind_bindings = bindings_longer behind_longer (binding_words x.variables ts) z.solver.bindings B.represents.bindings
 
 -- the term has a token
-pub poses_inside : (x : Solver) (ks vs ts : List ℕ) (z : Session) (t : Term) → Poses x ks vs ts z t → x.top < length ks
-poses_inside x ks vs ts z t P = omega (arith, P.held.within, items_some t)
+pub poses_inside : {x : Solver} {ks vs ts : List ℕ} {z : Session} {t : Term} → Poses x ks vs ts z t → x.top < length ks
+poses_inside {t = t} P = omega (arith, P.held.within, items_some t)
 
 -- ---- what a variable resolves to
 
@@ -124,17 +124,17 @@ module _ (x : Solver) (ts : List ℕ) (what : Subject) where
 module _ (x : Solver) (ks vs ts : List ℕ) (z : Session) (t : Term) where
   pub asked_areas : (what : Subject) → Asked x ks vs ts what z t → Fitted x ks vs ts z
   asked_areas Follows P =
-      record { pairs = P.behind.pairs; short = P.behind.short; room = P.behind.represents.room; bindings = behind_bindings x ks vs ts z P.behind }
+      record { pairs = P.behind.pairs; short = P.behind.short; room = P.behind.represents.room; bindings = behind_bindings P.behind }
   asked_areas (Id v) a = record { pairs = a.0.vals; short = a.0.short; room = a.0.room; bindings = a.0.bindings }
 
 -- ---- what is resolved from where it begins
 
-module _ (x : Solver) (ks vs : List ℕ) (z : Session) (t : Term) (begun : Start) (s : Starts x ks vs z t begun) where
-  pub begins_at : (p m : ℕ) → begun ≡ Begins p m → (u : Term) × Held ks vs p u × (resolved z.solver t ≡ resolve m z.solver.bindings u) × (m ≤ x.revision) × (p < 2 ^ 32)
-  begins_at p m e = subst (λ (b : Start). Starts x ks vs z t b) e s
+module _ (x : Solver) {ks vs : List ℕ} (z : Session) (t : Term) {begun : Start} (s : Starts x ks vs z t begun) where
+  pub begins_at : {p m : ℕ} → begun ≡ Begins p m → (u : Term) × Held ks vs p u × (resolved z.solver t ≡ resolve m z.solver.bindings u) × (m ≤ x.revision) × (p < 2 ^ 32)
+  begins_at e = subst (λ (b : Start). Starts x ks vs z t b) e s
 
-pub wrote_as : (w w' : List ℕ) (to : ℕ) (o out : List ℕ) (r : ℕ) → w ≡ w' → (r ≡ to + length w) × (out ≡ sets o to w) → (r ≡ to + length w') × (out ≡ sets o to w')
-wrote_as w w' to o out r e h = subst (λ (l : List ℕ). (r ≡ to + length l) × (out ≡ sets o to l)) e h
+pub wrote_as : {w w' : List ℕ} (to : ℕ) (o : List ℕ) {out : List ℕ} {r : ℕ} → w ≡ w' → (r ≡ to + length w) × (out ≡ sets o to w) → (r ≡ to + length w') × (out ≡ sets o to w')
+wrote_as to o {out} {r} e h = subst (λ (l : List ℕ). (r ≡ to + length l) × (out ≡ sets o to l)) e h
 
 -- ---- the bytes of a variable
 
@@ -148,15 +148,15 @@ var_stored o i v out e = e ∙ ap (λ (k : ℕ). sets (set o i 1) k (shortest v)
 
 -- ---- orders 4 and 22: the counters with its nodes and tokens
 
-module _ (x : Solver) (ks vs ts : List ℕ) (z : Session) (q : ℕ) (t u : Term) (P : PosesPair x ks vs ts z q t u) where
+module _ {x : Solver} {ks vs ts : List ℕ} {z : Session} {q : ℕ} {t u : Term} (P : PosesPair x ks vs ts z q t u) where
   front : length (take x.top ks) ≡ x.top
   front = sym P.behind.represents.top
 
   -- with the tokens of the order the session with its nodes kept is held
-  pub pair_lent : (nodes : ℕ) → nodes ≡ z.kept + (size t + size u)
+  pub pair_lent : {nodes : ℕ} → nodes ≡ z.kept + (size t + size u)
       → Represents (record { variables = x.variables; nodes = x.nodes; issued = x.issued; revision = x.revision; kept = nodes; top = length ks }) ks vs ts (keep z z.solver (size t + size u))
-  pair_lent nodes e =
-      let G = behind_longer x ks vs ts z P.behind in
+  pair_lent {nodes} e =
+      let G = behind_longer P.behind in
       let b = begins_pair G t u (subst (λ (i : ℕ). Held ks vs i t) (sym front) P.left) (subst (λ (i : ℕ). Held ks vs (i + length (items t)) u) (sym front) P.right) (P.all ∙ ap (λ (i : ℕ). i + length (items t) + length (items u)) (sym front)) in
       let l = lent_more G P.behind.represents (size t + size u) P.behind.pairs P.behind.short b P.few in
       let k : x.kept + (size t + size u) ≡ nodes = omega (arith, P.behind.represents.kept, e) in

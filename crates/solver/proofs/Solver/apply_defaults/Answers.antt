@@ -10,7 +10,7 @@ loop-v-preserved c =
     let a = c.args in
     let l = c.loop-v in
     let e = c.bind_default-self.ensures in
-    applied_step a.which a.self a.tokens.now.kinds.now a.tokens.now.vals.now a.tables.now l.v l.self _ l.tables _ l.invariant c.requires.shape.issued
+    applied_step a.which _ _ _ _ l.v l.self _ l.tables _ l.invariant c.requires.shape.issued
     c.loop-v-test.true e.held e.beside e.steps.1 e.steps.0
 
 pub returns-clause-held : goal.returns-clause-held

@@ -8,4 +8,4 @@ returns-clause-held c =
     let a = c.args in
     let p = c.requires in
     let H = c.propagate_request.ensures in
-    bound_held a.self _ a.tokens.now.kinds.now a.tokens.now.vals.now a.tables.now _ a.v _ a.q refl p.areas.0 H refl refl refl refl refl refl
+    bound_held a.self _ _ _ a.tables.now _ a.v _ a.q refl p.areas.0 H refl refl refl refl refl refl

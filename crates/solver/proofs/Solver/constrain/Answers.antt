@@ -2,37 +2,26 @@
 -- given back.
 use Prim.Native.Nat.{◌+◌}
 use Rattle.terms.specs.Term.{size}
-use Rattle.solver.specs.Words.PendingContract.{strict_of}
 use Rattle.solver.specs.Session.{keep}
-use Rattle.solver.specs.Shapes.{notion}
 use Rattle.solver.proofs.Laws.Table.OrderTermLaws.{pair_lent, pair_ordered, pair_left, pair_right}
 use Rattle.solver.proofs.Laws.Checks.PosedLaws.{posed_still, posed_bound}
 use Rattle.solver.proofs.Solver.constrain.Goals as goal
 
 pub solve_pair-r-requires-clause-held : goal.solve_pair-r-requires-clause-held
 solve_pair-r-requires-clause-held c =
-    let a = c.args in
-    let p = c.requires in
-    let z = c.requires.held.0 in
-    let t = c.requires.held.1 in
-    let u = c.requires.held.2 in
-    let P = c.requires.held.3 in
-    (keep z z.solver (size t + size u), t, u, pair_ordered a.self _ _ _ z a.q t u P, pair_lent a.self _ _ _ z a.q t u P a.nodes p.held.4, pair_left a.self _ _ _ z a.q t u P, pair_right a.self _ _ _ z a.q t u P)
+    let h = c.requires.held in
+    (keep h.0 h.0.solver (size h.1 + size h.2), h.1, h.2, pair_ordered h.3, pair_lent h.3 h.4, pair_left h.3, pair_right h.3)
 
 pub returns-then-self-revision-clause-solved : goal.returns-then-self-revision-clause-solved
 returns-then-self-revision-clause-solved c =
-    let a = c.args in
-    let n = notion (strict_of a.access) in
-    let e = c.solve_pair-r.ensures in
+    let r = c.solve_pair-r in
     λ z t u P k.
-    posed_still n a.self a.tokens.now.kinds.now a.tokens.now.vals.now a.tables.now _ z a.q t u P c.requires.room.1 c.solve_pair-r.auto.tables a.k a.nodes _ _
-    (e.solved (keep z z.solver (size t + size u)) t u (pair_ordered a.self _ _ _ z a.q t u P) (pair_lent a.self _ _ _ z a.q t u P a.nodes k) (pair_left a.self _ _ _ z a.q t u P) (pair_right a.self _ _ _ z a.q t u P)) c.if-self-revision.true
+    posed_still _ P c.requires.room.1 r.auto.tables _
+    (r.ensures.solved (keep z z.solver (size t + size u)) t u (pair_ordered P) (pair_lent P k) (pair_left P) (pair_right P)) c.if-self-revision.true
 
 pub returns-else-self-revision-clause-solved : goal.returns-else-self-revision-clause-solved
 returns-else-self-revision-clause-solved c =
-    let a = c.args in
-    let n = notion (strict_of a.access) in
-    let e = c.solve_pair-r.ensures in
+    let r = c.solve_pair-r in
     λ z t u P k.
-    posed_bound n a.self a.tokens.now.kinds.now a.tokens.now.vals.now a.tables.now _ z a.q t u P c.requires.room.1 c.solve_pair-r.auto.tables a.k a.nodes _ _
-    (e.solved (keep z z.solver (size t + size u)) t u (pair_ordered a.self _ _ _ z a.q t u P) (pair_lent a.self _ _ _ z a.q t u P a.nodes k) (pair_left a.self _ _ _ z a.q t u P) (pair_right a.self _ _ _ z a.q t u P)) c.if-self-revision.false
+    posed_bound _ P c.requires.room.1 r.auto.tables _
+    (r.ensures.solved (keep z z.solver (size t + size u)) t u (pair_ordered P) (pair_lent P k) (pair_left P) (pair_right P)) c.if-self-revision.false

@@ -8,6 +8,6 @@ pub returns : goal.returns
 returns c =
     let a = c.args in
     record {
-      placed = λ ks vs s L. c.named_below.ensures ∙ placed_below a.self ks vs a.tables.now s L (place_of a.site) _ (c.find_place-v.ensures.place s.places (sym L.issued) L.places);
+      placed = λ ks vs s L. c.named_below.ensures ∙ placed_below _ ks vs _ s L _ _ (c.find_place-v.ensures.place s.places (sym L.issued) L.places);
       low = named_low _ _ _ c.named_below.ensures;
     }

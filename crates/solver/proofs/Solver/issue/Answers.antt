@@ -8,15 +8,13 @@ use Rattle.solver.proofs.Solver.issue.Goals as goal
 
 pub returns-then-v-issued-clause-held : goal.returns-then-v-issued-clause-held
 returns-then-v-issued-clause-held c =
-    let a = c.args in
     let f = c.find_place-v in
-    λ ks vs s L. issued_found a.self ks vs a.tables.now s L (place_of a.site) f.result (f.ensures.place s.places (sym L.issued) L.places) c.if-v-issued.true
+    λ ks vs s L. issued_found _ ks vs _ s L _ _ (f.ensures.place s.places (sym L.issued) L.places) c.if-v-issued.true
 
 pub returns-then-m-issued-clause-held : goal.returns-then-m-issued-clause-held
 returns-then-m-issued-clause-held c =
-    let a = c.args in
     let f = c.find_place-v in
-    λ ks vs s L. issued_full a.self ks vs a.tables.now s L (place_of a.site) f.result (f.ensures.place s.places (sym L.issued) L.places) c.if-v-issued.false c.if-m-issued.true
+    λ ks vs s L. issued_full _ ks vs _ s L _ _ (f.ensures.place s.places (sym L.issued) L.places) c.if-v-issued.false c.if-m-issued.true
 
 pub returns-clause-held : goal.returns-clause-held
 returns-clause-held c =
@@ -28,4 +26,4 @@ returns-clause-held c =
     let w = c.words_of-kind in
     let e = w.ensures in
     let B = beside_set x _ ts _ (4 * x.variables + x.issued) w.result.2 (beside_set x _ ts _ (3 * x.variables + x.issued) w.result.1 (beside_set x _ ts _ (2 * x.variables + x.issued) w.result.0 (record { variables = refl; nodes = refl; top = refl; size = refl; rest = refl }) (omega arith)) (omega arith)) (omega arith) in
-    λ ks vs s L. issued_new x ks vs ts s L (place_of a.site) f.result (f.ensures.place s.places (sym L.issued) L.places) _ _ _ (place_held a.site _ _ _ e.0 e.1 e.2) c.if-v-issued.false l _ B refl refl refl
+    λ ks vs s L. issued_new _ ks vs _ s L _ _ (f.ensures.place s.places (sym L.issued) L.places) _ _ _ (place_held a.site _ _ _ e.0 e.1 e.2) c.if-v-issued.false l _ B refl refl refl

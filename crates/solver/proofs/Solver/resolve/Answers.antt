@@ -12,8 +12,8 @@ write_resolved-requires-clause-room c =
     let a = c.args in
     let p = c.requires.held in
     let F = asked_areas a.self _ _ _ p.0 p.1 a.what p.2 in
-    let B = begins_at a.self _ _ p.0 p.1 _ (c.start-begun.ensures _ _ p.0 p.1 p.2) _ _ c.in-Begins.is in
-    let l = resolved_bytes_lem a.tokens.now.kinds.now a.tokens.now.vals.now (take a.self.variables a.tables.now) p.0.solver.bindings F.bindings c.in-Begins.most c.in-Begins.p B.0 B.1 ∙ ap bytes (sym B.2) in
+    let B = begins_at a.self p.0 _ (c.start-begun.ensures _ _ p.0 p.1 p.2) c.in-Begins.is in
+    let l = resolved_bytes_lem _ _ (take a.self.variables a.tables.now) p.0.solver.bindings F.bindings c.in-Begins.most c.in-Begins.p B.0 B.1 ∙ ap bytes (sym B.2) in
     (B.4, omega (arith, p.3, ap length l))
 
 pub returns-in-Begins-clause-wrote : goal.returns-in-Begins-clause-wrote
@@ -21,5 +21,5 @@ returns-in-Begins-clause-wrote c =
     let a = c.args in
     let e = c.write_resolved.ensures in
     λ z t A.
-    let B = begins_at a.self _ _ z t _ (c.start-begun.ensures _ _ z t A) _ _ c.in-Begins.is in
-    wrote_as _ _ a.to a.out.now _ _ (ap bytes (sym B.2)) (e.term B.0 z.solver.bindings B.1 (asked_areas a.self _ _ _ z t a.what A).bindings)
+    let B = begins_at a.self z _ (c.start-begun.ensures _ _ z t A) c.in-Begins.is in
+    wrote_as _ _ (ap bytes (sym B.2)) (e.term B.0 z.solver.bindings B.1 (asked_areas a.self _ _ _ z t a.what A).bindings)

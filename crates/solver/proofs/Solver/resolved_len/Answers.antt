@@ -11,7 +11,7 @@ returns-then-limit-size-clause-len c =
     let a = c.args in
     let e = c.resolved_len-size.ensures in
     λ z t A.
-    let B = begins_at a.self _ _ z t _ (c.start-begun.ensures _ _ z t A) _ _ c.in-Begins.is in
+    let B = begins_at a.self z _ (c.start-begun.ensures _ _ z t A) c.in-Begins.is in
     e.term B.0 z.solver.bindings B.1 (asked_areas a.self _ _ _ z t a.what A).bindings ∙ ap (λ (w : Term). min (a.limit + 1) (length (bytes w))) (sym B.2)
 
 pub returns-else-limit-size-clause-len : goal.returns-else-limit-size-clause-len
@@ -19,5 +19,5 @@ returns-else-limit-size-clause-len c =
     let a = c.args in
     let e = c.resolved_len-size.ensures in
     λ z t A.
-    let B = begins_at a.self _ _ z t _ (c.start-begun.ensures _ _ z t A) _ _ c.in-Begins.is in
+    let B = begins_at a.self z _ (c.start-begun.ensures _ _ z t A) c.in-Begins.is in
     e.term B.0 z.solver.bindings B.1 (asked_areas a.self _ _ _ z t a.what A).bindings ∙ ap (λ (w : Term). min (a.limit + 1) (length (bytes w))) (sym B.2)

@@ -7,21 +7,19 @@ use Rattle.solver.proofs.Laws.Table.RequestWordLaws.{taken_plain, taken_fallback
 use Rattle.solver.proofs.defaults.default_code.Goals as goal
 
 pub returns-then-own-last-lt64 : goal.returns-then-own-last-lt64
-returns-then-own-last-lt64 c =
-    let a = c.args in
-    (λ o W h. taken_plain a.own c.args.last o W h c.if-own-last-lt64.true, omega arith)
+returns-then-own-last-lt64 c = (λ o W h. taken_plain _ _ o W h c.if-own-last-lt64.true, omega arith)
 
 pub returns-then-has : goal.returns-then-has
 returns-then-has c =
     let a = c.args in
     let b = ap (λ (m : ℕ). bit m ((a.own - 1) % 32)) (sym c.end_mask-mask.ensures) ∙ sym c.has.ensures ∙ c.if-has.true in
-    (λ o W h. taken_fallback a.own c.args.last o W h c.if-own-last-lt64.false b, omega arith)
+    (λ o W h. taken_fallback _ _ o W h c.if-own-last-lt64.false b, omega arith)
 
 pub returns : goal.returns
 returns c =
     let a = c.args in
     let e = c.end_mask-mask.ensures in
     let b = ap (λ (m : ℕ). bit m ((a.own - 1) % 32)) (sym e) ∙ sym c.has.ensures ∙ c.if-has.false in (
-      λ o W h. taken_first a.own c.args.last o W h _ c.if-own-last-lt64.false b (λ f g. c.first_of.ensures.0 f (λ d. g d ∙ ap (λ (m : ℕ). bit m d) (sym e))),
+      λ o W h. taken_first _ _ o W h _ c.if-own-last-lt64.false b (λ f g. c.first_of.ensures.0 f (λ d. g d ∙ ap (λ (m : ℕ). bit m d) (sym e))),
       c.first_of.ensures.1,
     )

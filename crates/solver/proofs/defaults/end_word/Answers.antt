@@ -1,13 +1,13 @@
 -- `end_word`. By the flag.
-use Rattle.solver.proofs.Laws.Table.MethodLaws.{end_never, end_request}
+use native.Mathlib.Omega.{arith}
+use Rattle.std.proofs.lemmas.Grind.{common_steps}
+use Rattle.solver.specs.Words.MethodContract.{end_word}
 use Rattle.solver.proofs.defaults.end_word.Goals as goal
 
 pub returns-in-Deferred : goal.returns-in-Deferred
-returns-in-Deferred c =
-    let a = c.args in
-    end_never a.which a.m a.tables.now a.w c.in-Deferred.is
+unfolding end_word
+returns-in-Deferred c = grind (arith, common_steps)
 
 pub returns-in-Requested : goal.returns-in-Requested
-returns-in-Requested c =
-    let a = c.args in
-    end_request a.which a.m a.tables.now a.w c.in-Requested.is
+unfolding end_word
+returns-in-Requested c = grind (arith, common_steps)

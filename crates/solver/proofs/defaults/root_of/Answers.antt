@@ -16,30 +16,20 @@ ended : (c : After-shallow_resolve-q) (b : ℕ → Option Term) → HeldBindings
     → Held c.args.tokens.now.kinds.now c.args.tokens.now.vals.now c.shallow_resolve-q.result (follow c.args.most b (var c.args.v))
 ended c b h =
     let a = c.args in
-    let x = end_bound a.tokens.now.kinds.now a.tokens.now.vals.now a.bound.now b h a.most a.v _ _ c.named_run-run.ensures c.if-most-eq0.false c.if-len-eq0.false in
-    subst (λ (t : Term). Held a.tokens.now.kinds.now a.tokens.now.vals.now c.shallow_resolve-q.result t) (sym x.2) (c.shallow_resolve-q.ensures.term x.0 b x.1 h)
+    let x = end_bound _ _ _ b h a.most a.v _ _ c.named_run-run.ensures c.if-most-eq0.false c.if-len-eq0.false in
+    rw x.2 (c.shallow_resolve-q.ensures.term x.0 b x.1 h)
 
 pub returns-then-most-eq0 : goal.returns-then-most-eq0
-returns-then-most-eq0 c =
-    let a = c.args in
-    λ b h. end_none a.most b (length a.bound.now) a.v c.if-most-eq0.true
+returns-then-most-eq0 c = λ b h. end_none _ _ _ _ c.if-most-eq0.true
 
 pub returns-then-len-eq0 : goal.returns-then-len-eq0
-returns-then-len-eq0 c =
-    let a = c.args in
-    λ b h. end_free a.tokens.now.kinds.now a.tokens.now.vals.now a.bound.now b h a.most a.v _ _ c.named_run-run.ensures (length a.bound.now) c.if-most-eq0.false c.if-len-eq0.true
+returns-then-len-eq0 c = λ b h. end_free _ _ _ _ h _ _ _ _ c.named_run-run.ensures _ c.if-most-eq0.false c.if-len-eq0.true
 
 pub returns-then-tokens-q-ne1 : goal.returns-then-tokens-q-ne1
-returns-then-tokens-q-ne1 c =
-    let a = c.args in
-    λ b h. ends_node a.tokens.now.kinds.now a.tokens.now.vals.now c.shallow_resolve-q.result (length a.bound.now) (follow a.most b (var a.v)) (ended (goal.at.returns-then-tokens-q-ne1 c).After-shallow_resolve-q b h) c.if-tokens-q-ne1.true
+returns-then-tokens-q-ne1 c = λ b h. ends_node _ _ _ _ _ (ended (goal.at.returns-then-tokens-q-ne1 c).After-shallow_resolve-q b h) c.if-tokens-q-ne1.true
 
 pub returns-then-bound-w : goal.returns-then-bound-w
-returns-then-bound-w c =
-    let a = c.args in
-    λ b h. ends_far a.tokens.now.kinds.now a.tokens.now.vals.now c.shallow_resolve-q.result (length a.bound.now) (follow a.most b (var a.v)) (ended (goal.at.returns-then-bound-w c).After-shallow_resolve-q b h) (omega (arith, c.if-bound-w.true))
+returns-then-bound-w c = λ b h. ends_far _ _ _ _ _ (ended (goal.at.returns-then-bound-w c).After-shallow_resolve-q b h) (omega (arith, c.if-bound-w.true))
 
 pub returns : goal.returns
-returns c =
-    let a = c.args in
-    λ b h. ends_near a.tokens.now.kinds.now a.tokens.now.vals.now c.shallow_resolve-q.result (length a.bound.now) (follow a.most b (var a.v)) (ended (goal.at.returns c).After-shallow_resolve-q b h) c.if-tokens-q-ne1.false
+returns c = λ b h. ends_near _ _ _ _ _ (ended (goal.at.returns c).After-shallow_resolve-q b h) c.if-tokens-q-ne1.false

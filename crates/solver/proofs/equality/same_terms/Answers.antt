@@ -22,7 +22,7 @@ linked c =
 pub clear-requires : goal.clear-requires
 clear-requires c =
     let w = linked (goal.at.clear-requires c).Joined-union_terms in
-    (links_fit _ _ _ w, clear_start c.args.tokens.now.kinds.now _ _ _ w)
+    (links_fit _ w, clear_start c.args.tokens.now.kinds.now _ _ _ w)
 
 pub returns-clause-term : goal.returns-clause-term
 returns-clause-term c =
@@ -32,7 +32,7 @@ returns-clause-term c =
     let d = c.union_terms.ensures in
     λ t u b ht hu h S T.
     let e : HeldSteady a.tokens.now.kinds.now a.tokens.now.vals.now a.bound.now a.most b = record { held = h; steady = S; topped = T } in
-    let s = steady_standing a.most b S T in
+    let s = steady_standing S T in
     let j = d.terms b t u e ht hu (zero_fair _ _ w z) in
     elim c.if-union_terms.branch [
       | then-union_terms x ↦

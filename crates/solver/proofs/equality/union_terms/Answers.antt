@@ -9,23 +9,25 @@ pub returns-then-tokens-a-clause-terms : goal.returns-then-tokens-a-clause-terms
 returns-then-tokens-a-clause-terms c =
     let f = c.shallow_resolve-a.ensures in
     let g = c.shallow_resolve-b.ensures in
-    λ b t u e ht hu fa. told_kinds (stands_for c.args.most b) (follow c.args.most b) (steady_standing c.args.most b e.steady e.topped) _ _ _ fa t u _ _ (f.term t b ht e.held) (g.term u b hu e.held) c.if-tokens-a.true
+    λ b t u e ht hu fa.
+    told_kinds _ _ (steady_standing e.steady e.topped) _ _ _ fa t u _ _ (f.term t b ht e.held) (g.term u b hu e.held) c.if-tokens-a.true
 
 pub returns-then-tokens-a-2-clause-terms : goal.returns-then-tokens-a-2-clause-terms
 returns-then-tokens-a-2-clause-terms c =
     let f = c.shallow_resolve-a.ensures in
     let g = c.shallow_resolve-b.ensures in
-    λ b t u e ht hu fa. told_apart (stands_for c.args.most b) (follow c.args.most b) (steady_standing c.args.most b e.steady e.topped) _ _ _ fa t u _ _ (f.term t b ht e.held) (g.term u b hu e.held) c.if-tokens-a-lt2.true c.if-tokens-a-2.true
+    λ b t u e ht hu fa.
+    told_apart _ _ (steady_standing e.steady e.topped) _ _ _ fa t u _ _ (f.term t b ht e.held) (g.term u b hu e.held) c.if-tokens-a-lt2.true c.if-tokens-a-2.true
 
 pub returns-then-tokens-a-lt2-clause-terms : goal.returns-then-tokens-a-lt2-clause-terms
 returns-then-tokens-a-lt2-clause-terms c =
     let f = c.shallow_resolve-a.ensures in
     let g = c.shallow_resolve-b.ensures in
-    λ b t u e ht hu fa. told_var (stands_for c.args.most b) (follow c.args.most b) (steady_standing c.args.most b e.steady e.topped) _ _ _ fa t u _ _ (f.term t b ht e.held) (g.term u b hu e.held) c.if-tokens-a-lt2.true c.if-tokens-a.false c.if-tokens-a-2.false
+    λ b t u e ht hu fa.
+    told_var _ _ (steady_standing e.steady e.topped) _ _ _ fa t u _ _ (f.term t b ht e.held) (g.term u b hu e.held) c.if-tokens-a-lt2.true c.if-tokens-a.false c.if-tokens-a-2.false
 
 pub returns-clause-terms : goal.returns-clause-terms
 returns-clause-terms c =
     let f = c.shallow_resolve-a.ensures in
     let g = c.shallow_resolve-b.ensures in
-    let z = c.union_classes.ensures in
-    λ b t u e ht hu fa. z.terms c.args.tokens.now.vals.now (stands_for c.args.most b) (follow c.args.most b) t u (steady_standing c.args.most b e.steady e.topped) (f.term t b ht e.held) (g.term u b hu e.held) fa
+    λ b t u e ht hu fa. c.union_classes.ensures.terms _ _ _ t u (steady_standing e.steady e.topped) (f.term t b ht e.held) (g.term u b hu e.held) fa

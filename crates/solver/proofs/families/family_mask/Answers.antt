@@ -1,12 +1,17 @@
 -- `family_mask`. By the three sorts of words.
-use Rattle.solver.proofs.Laws.Table.RequestWordLaws.{mask_ranged, mask_floats, mask_integers}
+use native.Mathlib.Omega.{arith}
+use Rattle.std.proofs.lemmas.Grind.{common_steps}
+use Rattle.solver.specs.Words.MethodContract.{mask_in}
 use Rattle.solver.proofs.families.family_mask.Goals as goal
 
 pub returns-then-word-gt32 : goal.returns-then-word-gt32
-returns-then-word-gt32 c = mask_ranged c.args.word c.if-word-gt32.true
+unfolding mask_in
+returns-then-word-gt32 c = grind (arith, common_steps)
 
 pub returns-then-word-eq10 : goal.returns-then-word-eq10
-returns-then-word-eq10 c = mask_floats c.args.word c.if-word-gt32.false c.if-word-eq10.true
+unfolding mask_in
+returns-then-word-eq10 c = grind (arith, common_steps)
 
 pub returns : goal.returns
-returns c = mask_integers c.args.word c.if-word-gt32.false c.if-word-eq10.false
+unfolding mask_in
+returns c = grind (arith, common_steps)

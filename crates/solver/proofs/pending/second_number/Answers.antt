@@ -5,23 +5,20 @@ use Rattle.solver.proofs.pending.second_number.Goals as goal
 
 pub returns-then-end-p : goal.returns-then-end-p
 returns-then-end-p c =
-    let a = c.args in
-    let e = c.part_end-end in
-    let p = c.number_from-p in
-    second_none a.tokens.now.kinds.now a.tokens.now.vals.now a.a e.result e.ensures p.result p.ensures.number c.if-end-p.true
+    let e = c.part_end-end.ensures in
+    let p = c.number_from-p.ensures in
+    second_none _ _ _ _ e _ p.number c.if-end-p.true
 
 pub returns-then-end-q : goal.returns-then-end-q
 returns-then-end-q c =
-    let a = c.args in
-    let e = c.part_end-end in
-    let p = c.number_from-p in
-    let q = c.number_from-q in
-    second_one a.tokens.now.kinds.now a.tokens.now.vals.now a.a e.result e.ensures p.result q.result p.ensures.number (omega (arith, c.if-end-p.false)) q.ensures.number c.if-end-q.true
+    let e = c.part_end-end.ensures in
+    let p = c.number_from-p.ensures in
+    let q = c.number_from-q.ensures in
+    second_one _ _ _ _ e _ _ p.number (omega (arith, c.if-end-p.false)) q.number c.if-end-q.true
 
 pub returns : goal.returns
 returns c =
-    let a = c.args in
-    let e = c.part_end-end in
-    let p = c.number_from-p in
-    let q = c.number_from-q in
-    λ k ps h. second_some a.tokens.now.kinds.now a.tokens.now.vals.now a.a e.result e.ensures p.result q.result p.ensures.number (omega (arith, c.if-end-p.false)) q.ensures.number (omega (arith, c.if-end-q.false)) k ps h
+    let e = c.part_end-end.ensures in
+    let p = c.number_from-p.ensures in
+    let q = c.number_from-q.ensures in
+    λ k ps h. second_some _ _ _ _ e _ _ p.number (omega (arith, c.if-end-p.false)) q.number (omega (arith, c.if-end-q.false)) k ps h

@@ -1,20 +1,19 @@
 -- `range_request`. By the two refusals.
+use native.Mathlib.Omega.{arith}
+use Rattle.std.proofs.lemmas.Grind.{common_steps}
+use Rattle.solver.specs.Families.{request_of}
 use mathlib.Core.Path.{sym, ◌∙◌}
 use Rattle.solver.specs.Words.MethodContract.{bound_of}
-use Rattle.solver.proofs.Laws.Table.RequestWordLaws.{range_above, range_none, range_held}
+use Rattle.solver.proofs.Laws.Table.RequestWordLaws.{range_none, range_held}
 use Rattle.solver.proofs.ranges.range_request.Goals as goal
 
 pub returns-then-not-at_most : goal.returns-then-not-at_most
-returns-then-not-at_most c =
-    let a = c.args in
-    range_above a.fallback (bound_of a.low) (bound_of a.high) (sym c.at_most.ensures ∙ c.if-not-at_most.true)
+unfolding request_of
+returns-then-not-at_most c = grind (arith, common_steps)
 
 pub returns-then-mask-eq0 : goal.returns-then-mask-eq0
-returns-then-mask-eq0 c =
-    let a = c.args in
-    range_none a.fallback (bound_of a.low) (bound_of a.high) _ (sym c.at_most.ensures ∙ c.if-not-at_most.false) c.range_mask-mask.ensures.0 c.if-mask-eq0.true
+returns-then-mask-eq0 c = range_none _ _ _ _ (sym c.at_most.ensures ∙ c.if-not-at_most.false) c.range_mask-mask.ensures.0 c.if-mask-eq0.true
 
 pub returns : goal.returns
 returns c =
-    let a = c.args in
-    range_held a.fallback (bound_of a.low) (bound_of a.high) _ c.requires (sym c.at_most.ensures ∙ c.if-not-at_most.false) c.range_mask-mask.ensures.0 c.if-mask-eq0.false
+    range_held _ _ _ _ c.requires (sym c.at_most.ensures ∙ c.if-not-at_most.false) c.range_mask-mask.ensures.0 c.if-mask-eq0.false

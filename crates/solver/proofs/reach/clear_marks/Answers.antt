@@ -20,11 +20,7 @@ turn c =
     ((parts_long n l.work h).1, h, e, omega (arith, l.invariant.0.inside (l.k - 1) (omega arith), e, (parts_long n l.work h).0))
 
 pub loop-k-init : goal.loop-k-init
-loop-k-init c =
-    (clearing_start c.requires.0, omega (arith, top-le c.requires.0, (parts_long c.args.n c.args.work.now c.requires.1).0), refl)
-
-pub bounds-work-v : goal.bounds-work-v
-bounds-work-v c = omega (arith, (turn (goal.at.bounds-work-v c).In-loop-k).3, c.loop-k.invariant.2, c.requires.1, length-set c.loop-k.work (c.args.n + (c.loop-k.k - 1)) 0)
+loop-k-init c = (clearing_start c.requires.0, omega (arith, top-le c.requires.0, (parts_long c.args.n c.args.work.now c.requires.1).0), refl)
 
 pub loop-k-preserved : goal.loop-k-preserved
 loop-k-preserved c =

@@ -1,4 +1,5 @@
 -- `push`. By the token's kind, the table and the mark.
+use Rattle.std.proofs.lemmas.Grind.{common_steps}
 use mathlib.Core.Path.{◌≡◌, refl, sym, ap, ◌∙◌}
 use mathlib.Core.Bool.{true}
 use Prim.Native.Nat.{ℕ, suc, ◌<◌}
@@ -21,22 +22,20 @@ room c =
     (lt, omega (arith, l, room_left c.requires.0 x (omega arith) z), z)
 
 pub returns-then-kind-ne1 : goal.returns-then-kind-ne1
-returns-then-kind-ne1 c =
-    grown_none c.requires.0 (λ (u : ℕ). counts (suc u) c.args.kind c.args.val ≡ true) (λ u l i. absurd (c.if-kind-ne1.true (token_is u c.args.kind c.args.val i).0))
+unfolding counts
+returns-then-kind-ne1 c = grind (arith, common_steps)
 
 pub returns-then-n-at : goal.returns-then-n-at
-returns-then-n-at c =
-    let n = (parts_long c.args.n c.args.work.now c.requires.1).0 in
-    grown_none c.requires.0 (λ (u : ℕ). counts (suc u) c.args.kind c.args.val ≡ true)
-    (λ u l i. absurd (omega (arith, (token_is u c.args.kind c.args.val i).1, c.if-n-at.true)))
+unfolding counts
+returns-then-n-at c = grind (arith, common_steps)
 
 pub returns-then-work-at-ne0 : goal.returns-then-work-at-ne0
 returns-then-work-at-ne0 c =
     let x = c.args.val in
     let e = get_or-take c.args.n c.args.work.now x 0 (omega (arith, c.if-n-at.false)) in
     let m = marked c.requires.0 x (λ q. c.if-work-at-ne0.true (sym e ∙ q)) in
-    grown_none c.requires.0 (λ (u : ℕ). counts (suc u) c.args.kind c.args.val ≡ true)
-    (λ u l i. ap (λ (y : ℕ). get_or (take c.args.n c.args.work.now) y 0) (token_is u c.args.kind c.args.val i).1 ∙ m)
+    grown_none c.requires.0 _
+    (λ u l i. ap (λ (y : ℕ). get_or (take c.args.n c.args.work.now) y 0) (token_is _ _ _ i).1 ∙ m)
 
 pub overflow_add-work : goal.overflow_add-work
 overflow_add-work c = omega (arith, (room (goal.at.overflow_add-work c).Else-work-at-ne0).1, c.requires.1, c.well_formed)
@@ -58,5 +57,4 @@ returns c =
     let r = room (goal.at.returns c).Else-work-at-ne0 in
     let l = parts_long n w c.requires.1 in
     rw (take_marked n w x c.args.top.now 1 x r.0, drop_marked n w x c.args.top.now 1 x r.0)
-    (grown_new c.requires.0 x (omega (arith, r.0, l.0)) r.2 (omega (arith, r.1, l.1, c.requires.1)) (λ (u : ℕ). counts (suc u) c.args.kind x ≡ true)
-    (is_token x c.args.kind x c.if-kind-ne1.false refl) (λ u i. (token_is u c.args.kind x i).1))
+    (grown_new c.requires.0 x (omega (arith, r.0, l.0)) r.2 (omega (arith, r.1, l.1, c.requires.1)) _ (is_token _ _ _ c.if-kind-ne1.false refl) (λ u i. (token_is _ _ _ i).1))

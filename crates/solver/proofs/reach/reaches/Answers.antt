@@ -6,27 +6,20 @@ use lib.ListN.{length, get_or}
 use lib.Seq.{get_or-drop}
 use Rattle.terms.proofs.Laws.General.Bools.{never_true}
 use Rattle.solver.specs.Words.ReachContract.{run_of, Told}
-use Rattle.solver.proofs.Laws.Resolving.WorklistLaws.{work_none, top-le, entry_in, zero_take, zero_drop, parts_long}
+use Rattle.solver.proofs.Laws.Resolving.WorklistLaws.{work_none, top-le, zero_take, zero_drop, parts_long}
 use Rattle.solver.proofs.Laws.Resolving.ReachLaws.{going_start, going_step, going_end, named_run_of, told_asked}
 use Rattle.solver.proofs.reach.reaches.Goals.{then-loop-hit-test+else-done-top, else-loop-hit-test}
 use Rattle.solver.proofs.reach.reaches.Goals as goal
-use Rattle.solver.proofs.reach.reaches.Goals.{At-loop-hit, Then-done-top, Left-loop-hit}
+use Rattle.solver.proofs.reach.reaches.Goals.{At-loop-hit, Left-loop-hit}
 
 -- the scratch is as long as it was, and the queue is no longer than the table
 lens : (c : At-loop-hit) → (length c.args.bound.now + length c.args.bound.now ≤ length c.loop-hit.work)
     × (c.loop-hit.top ≤ length c.args.bound.now)
-lens c =
-    omega (arith, c.loop-hit.invariant.size, c.loop-hit.auto.work, c.scan-hit.auto.work, c.requires.scratch.0, top-le c.loop-hit.invariant.work)
-
--- the entry of the queue that is taken is a number of the table
-entry : (c : Then-done-top) → get_or c.loop-hit.work (length c.args.bound.now + c.loop-hit.done) 0 < length c.args.bound.now
-entry c =
-    let l = c.loop-hit in
-    let n = length c.args.bound.now in
-    omega (arith, get_or-drop n l.work l.done 0, entry_in l.invariant.work l.done c.if-done-top.true, (parts_long n l.work (omega (arith, l.auto.work, c.scan-hit.auto.work, c.requires.scratch.0))).0)
+lens c = omega (arith, c.loop-hit.invariant.size, c.loop-hit.auto.work, c.scan-hit.auto.work, c.requires.scratch.0, top-le c.loop-hit.invariant.work)
 
 -- the answer, where the loop ends
-told : (c : Left-loop-hit) → Told c.args.tokens.now.kinds.now c.args.tokens.now.vals.now c.args.bound.now (run_of c.args.tokens.now.kinds.now c.args.tokens.now.vals.now (c.args.p + 1)) c.args.want c.loop-hit.hit
+told : (c : Left-loop-hit) → Told c.args.tokens.now.kinds.now c.args.tokens.now.vals.now c.args.bound.now
+    (run_of c.args.tokens.now.kinds.now c.args.tokens.now.vals.now (c.args.p + 1)) c.args.want c.loop-hit.hit
 told c =
     let i = c.loop-hit.invariant in
     elim c.loop-hit-test.branch [
@@ -44,7 +37,7 @@ pub loop-hit-init : goal.loop-hit-init
 loop-hit-init c =
     let n = length c.args.bound.now in
     let m = c.scan-hit in
-    going_start (zero_take n c.args.work.now c.requires.scratch.1) (parts_long n _ (omega (arith, m.auto.work, c.requires.scratch.0))).0 _ (named_run_of c.args.tokens.now.kinds.now c.args.tokens.now.vals.now (c.args.p + 1) _ _ c.named_run.ensures) m.ensures.hit m.ensures.grown
+    going_start (zero_take n c.args.work.now c.requires.scratch.1) (parts_long n _ (omega (arith, m.auto.work, c.requires.scratch.0))).0 _ (named_run_of _ _ (c.args.p + 1) _ _ c.named_run.ensures) m.ensures.hit m.ensures.grown
 
 pub overflow_add-w : goal.overflow_add-w
 overflow_add-w c = omega (arith, lens (goal.at.overflow_add-w c).At-loop-hit, c.if-done-top.true, c.well_formed)
@@ -54,9 +47,6 @@ offset_bounds-work-n c = omega (arith, lens (goal.at.offset_bounds-work-n c).At-
 
 pub bounds-work-n : goal.bounds-work-n
 bounds-work-n c = omega (arith, lens (goal.at.bounds-work-n c).At-loop-hit, c.if-done-top.true)
-
-pub bounds-bound-w : goal.bounds-bound-w
-bounds-bound-w c = entry (goal.at.bounds-bound-w c).Then-done-top
 
 pub overflow_add-done : goal.overflow_add-done
 overflow_add-done c = omega (arith, lens (goal.at.overflow_add-done c).At-loop-hit, c.if-done-top.true, c.well_formed)
@@ -82,4 +72,4 @@ returns-clause-told c = told (goal.at.returns-clause-told c).Left-loop-hit
 pub returns-clause-term : goal.returns-clause-term
 returns-clause-term c =
     let a = c.args in
-    told_asked a.tokens.now.kinds.now a.tokens.now.vals.now a.bound.now a.p a.want _ (told (goal.at.returns-clause-term c).Left-loop-hit)
+    told_asked _ _ _ a.p a.want _ (told (goal.at.returns-clause-term c).Left-loop-hit)

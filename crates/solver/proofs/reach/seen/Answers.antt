@@ -1,25 +1,21 @@
 -- `seen`. By the question and the token's kind.
-use mathlib.Core.Path.{sym, ◌∙◌}
-use Rattle.terms.proofs.Laws.General.Bools.{or-false}
-use Rattle.solver.proofs.Laws.Resolving.AskLaws.{counts_unknown, counts_error, counts_other, counts_same}
+use native.Mathlib.Omega.{arith}
+use Rattle.std.proofs.lemmas.Grind.{common_steps}
+use Rattle.solver.specs.Words.ReachContract.{counts}
 use Rattle.solver.proofs.reach.seen.Goals as goal
 
 pub returns-then-kind-eq4 : goal.returns-then-kind-eq4
-returns-then-kind-eq4 c =
-    let a = c.args in
-    counts_unknown a.want a.kind a.val c.if-want-eq0.true c.if-kind-eq4.true ∙ sym (or-false a.before _ c.if-before.false)
+unfolding counts
+returns-then-kind-eq4 c = grind (arith, common_steps)
 
 pub returns-then-want-eq0 : goal.returns-then-want-eq0
-returns-then-want-eq0 c =
-    let a = c.args in
-    counts_error a.want a.kind a.val c.if-want-eq0.true c.if-kind-eq4.false ∙ sym (or-false a.before _ c.if-before.false)
+unfolding counts
+returns-then-want-eq0 c = grind (arith, common_steps)
 
 pub returns-then-kind-ne1 : goal.returns-then-kind-ne1
-returns-then-kind-ne1 c =
-    let a = c.args in
-    counts_other a.want a.kind a.val c.if-want-eq0.false c.if-kind-ne1.true ∙ sym (or-false a.before _ c.if-before.false)
+unfolding counts
+returns-then-kind-ne1 c = grind (arith, common_steps)
 
 pub returns : goal.returns
-returns c =
-    let a = c.args in
-    counts_same a.want a.kind a.val c.if-want-eq0.false c.if-kind-ne1.false ∙ sym (or-false a.before _ c.if-before.false)
+unfolding counts
+returns c = grind (arith, common_steps)

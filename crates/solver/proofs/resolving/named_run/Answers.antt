@@ -2,6 +2,7 @@
 use mathlib.Core.Path.{◌≡◌, sym, ap, ◌∙◌}
 use Prim.Native.Nat.{◌-◌}
 use native.Mathlib.Omega.{arith}
+use Rattle.std.proofs.lemmas.Grind.{common_steps}
 use lib.ListN.{get_or, get_or-eq_default}
 use Rattle.terms.specs.Words.Held.{span}
 use Rattle.terms.proofs.Laws.Held.HeldLaws.{span_one, span_node}
@@ -12,24 +13,12 @@ use Rattle.solver.proofs.resolving.named_run.Goals as goal
 use Rattle.solver.proofs.resolving.named_run.Goals.{Joined-tokens-at-ge2}
 
 pub returns-then-word-eq0 : goal.returns-then-word-eq0
-returns-then-word-eq0 c =
-    let a = c.args in
-    record {
-      size = sym (ap (run_len a.tokens.now.kinds.now a.tokens.now.vals.now) c.if-word-eq0.true ∙ run_none a.tokens.now.kinds.now a.tokens.now.vals.now);
-      place = omega arith;
-      within = omega arith;
-    }
+unfolding run_len
+returns-then-word-eq0 c = grind (arith, common_steps)
 
 pub returns-then-tokens-at : goal.returns-then-tokens-at
-returns-then-tokens-at c =
-    let a = c.args in
-    let p = a.word - 1 in
-    let z = get_or-eq_default a.tokens.now.kinds.now 0 {n = p} c.if-tokens-at.true in
-    record {
-      size = sym (run_past a.tokens.now.kinds.now a.tokens.now.vals.now a.word p (omega arith) (omega (arith, span_one (get_or a.tokens.now.kinds.now p 0) (get_or a.tokens.now.vals.now p 0) (omega arith))));
-      place = omega arith;
-      within = omega arith;
-    }
+unfolding run_len
+returns-then-tokens-at c = grind (arith, common_steps)
 
 -- the length read is the term's span
 len_is : (c : Joined-tokens-at-ge2) → c.if-tokens-at-ge2.len
@@ -46,7 +35,7 @@ returns-then-tokens-at-2 c =
     let a = c.args in
     let p = a.word - 1 in
     record {
-      size = sym (run_past a.tokens.now.kinds.now a.tokens.now.vals.now a.word p (omega arith) (omega (arith, len_is (goal.at.returns-then-tokens-at-2 c).Joined-tokens-at-ge2)));
+      size = sym (run_past _ _ a.word p (omega arith) (omega (arith, len_is (goal.at.returns-then-tokens-at-2 c).Joined-tokens-at-ge2)));
       place = omega arith;
       within = omega arith;
     }
@@ -56,7 +45,7 @@ returns c =
     let a = c.args in
     let p = a.word - 1 in
     record {
-      size = len_is (goal.at.returns c).Joined-tokens-at-ge2 ∙ sym (run_at a.tokens.now.kinds.now a.tokens.now.vals.now a.word p (omega arith) (omega (arith, len_is (goal.at.returns c).Joined-tokens-at-ge2)));
+      size = len_is (goal.at.returns c).Joined-tokens-at-ge2 ∙ sym (run_at _ _ a.word p (omega arith) (omega (arith, len_is (goal.at.returns c).Joined-tokens-at-ge2)));
       place = λ _. omega arith;
       within = omega arith;
     }

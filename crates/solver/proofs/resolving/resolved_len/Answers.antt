@@ -1,21 +1,11 @@
 -- `resolved_len`.
-use mathlib.Core.List.{List}
-use mathlib.Core.Path.{ap, ◌∙◌}
-use Prim.Native.Nat.{ℕ, min, ◌+◌}
-use lib.ListN.{length}
+use mathlib.Core.Path.{◌∙◌}
 use Rattle.solver.proofs.Laws.Resolving.ResolvedLaws.{named_bytes, resolved_bytes_lem}
 use Rattle.solver.proofs.resolving.resolved_len.Goals as goal
 
 pub returns-clause-len : goal.returns-clause-len
-returns-clause-len c =
-    let a = c.args in
-    let w = c.walked_len.ensures in
-    let e = named_bytes a.tokens.now.kinds.now a.tokens.now.vals.now a.bound.now a.most a.p _ _ c.named_run-run.ensures in
-    w.len ∙ ap (λ (l : List ℕ). min (a.limit + 1) (length l)) e
+returns-clause-len c = rw (named_bytes _ _ c.args.p c.named_run-run.ensures) at c.walked_len.ensures.len
 
 pub returns-clause-term : goal.returns-clause-term
 returns-clause-term c =
-    let a = c.args in
-    let w = c.walked_len.ensures in
-    let e = named_bytes a.tokens.now.kinds.now a.tokens.now.vals.now a.bound.now a.most a.p _ _ c.named_run-run.ensures in
-    λ t b h g. w.len ∙ ap (λ (l : List ℕ). min (a.limit + 1) (length l)) (e ∙ resolved_bytes_lem a.tokens.now.kinds.now a.tokens.now.vals.now a.bound.now b g a.most a.p t h)
+    λ t b h g. rw (named_bytes c.args.bound.now c.args.most c.args.p c.named_run-run.ensures ∙ resolved_bytes_lem _ _ _ b g _ _ t h) at c.walked_len.ensures.len

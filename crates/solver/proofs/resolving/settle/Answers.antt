@@ -10,11 +10,14 @@ use Rattle.solver.proofs.resolving.settle.Goals as goal
 
 pub returns-then-c-eq0 : goal.returns-then-c-eq0
 returns-then-c-eq0 c =
-    let a = c.args in
     let l = c.loop-c in
-    let o = rest_over (walk one [] a.tokens.now.kinds.now a.tokens.now.vals.now a.bound.now) a.most a.tokens.now.kinds.now a.tokens.now.vals.now l.frames l.c.at l.c.end (omega arith) in
     record {
-      ready = record { sound = l.invariant.0; head = λ h. absurd (omega arith); over = λ _. rw c.if-c-eq0.true o; alone = λ _. c.if-c-eq0.true };
+      ready = record {
+        sound = l.invariant.0;
+        head = λ h. absurd (omega arith);
+        over = λ _. rw c.if-c-eq0.true (rest_over _ _ _ _ _ l.c.at l.c.end (omega arith));
+        alone = λ _. c.if-c-eq0.true;
+      };
       same = l.invariant.1;
       apart = l.invariant.3;
       bare = l.invariant.4;
@@ -22,16 +25,15 @@ returns-then-c-eq0 c =
 
 pub loop-c-smaller-then-c : goal.loop-c-smaller-then-c
 loop-c-smaller-then-c c =
-    let a = c.args in
     let l = c.loop-c in
-    (steps_pop a.tokens.now.kinds.now a.tokens.now.vals.now a.bound.now a.most l.frames l.c.at l.c.end l.c.depth (omega arith) (omega arith))
+    steps_pop _ _ _ _ l.frames l.c.at l.c.end l.c.depth (omega arith) (omega arith)
 
 pub loop-c-preserved-then-c : goal.loop-c-preserved-then-c
 loop-c-preserved-then-c c =
     let a = c.args in
     let l = c.loop-c in (
       sound_pop _ _ _ _ _ _ l.invariant.0 (omega arith),
-      sym (rest_pop (walk one [] a.tokens.now.kinds.now a.tokens.now.vals.now a.bound.now) a.most a.tokens.now.kinds.now a.tokens.now.vals.now l.frames l.c.at l.c.end l.c.depth (omega arith) (omega arith)) ∙ l.invariant.1,
+      sym (rest_pop _ _ _ _ l.frames l.c.at l.c.end l.c.depth (omega arith) (omega arith)) ∙ l.invariant.1,
       simp length-set l.invariant.2,
       apart_push a.most a.frames.now l.frames (l.c.depth - 1) 0 0 l.invariant.3 (omega (arith, l.invariant.0.depth)),
       λ b. bare_pop l.frames l.c.depth (omega arith) (omega (arith, l.invariant.0.depth, l.invariant.0.room)) (l.invariant.4 b),
@@ -39,13 +41,12 @@ loop-c-preserved-then-c c =
 
 pub returns-then-r-eq0 : goal.returns-then-r-eq0
 returns-then-r-eq0 c =
-    let a = c.args in
     let l = c.loop-c in
     let i = c.enter-r.ensures in
     record {
       ready = record {
         sound = l.invariant.0;
-        head = λ h. rest_leaf one [] a.tokens.now.kinds.now a.tokens.now.vals.now a.bound.now a.most l.frames l.c.at l.c.end l.c.depth _ _ h i c.if-r-eq0.true;
+        head = λ h. rest_leaf _ _ _ _ _ _ _ _ _ _ _ _ h i c.if-r-eq0.true;
         over = λ h. absurd (omega (arith, l.invariant.0.order));
         alone = λ h. absurd (omega (arith, l.invariant.0.order));
       };
@@ -56,10 +57,9 @@ returns-then-r-eq0 c =
 
 pub loop-c-smaller : goal.loop-c-smaller
 loop-c-smaller c =
-    let a = c.args in
     let l = c.loop-c in
     let o = entered_open _ _ _ _ _ _ _ c.enter-r.ensures (omega arith) in
-    steps_into a.tokens.now.kinds.now a.tokens.now.vals.now a.bound.now a.most l.frames l.c.at l.c.end l.c.depth _ _ (omega (arith, l.invariant)) c.enter-r.ensures (omega arith) (omega (arith, l.invariant))
+    steps_into _ _ _ _ l.frames l.c.at l.c.end l.c.depth _ _ (omega (arith, l.invariant)) c.enter-r.ensures (omega arith) (omega (arith, l.invariant))
 
 pub loop-c-preserved : goal.loop-c-preserved
 loop-c-preserved c =
@@ -68,7 +68,7 @@ loop-c-preserved c =
     let i = c.enter-r.ensures in
     let o = entered_open _ _ _ _ _ _ _ c.enter-r.ensures (omega arith) in (
       sound_push _ _ _ _ _ _ _ _ l.invariant.0 (omega (arith, l.invariant)) (omega arith) i.within,
-      sym (rest_into one [] a.tokens.now.kinds.now a.tokens.now.vals.now a.bound.now a.most l.frames l.c.at l.c.end l.c.depth _ _ (omega (arith, l.invariant)) i (omega arith) (omega (arith, l.invariant))) ∙ l.invariant.1,
+      sym (rest_into _ _ _ _ _ _ l.frames l.c.at l.c.end l.c.depth _ _ (omega (arith, l.invariant)) i (omega arith) (omega (arith, l.invariant))) ∙ l.invariant.1,
       simp length-set l.invariant.2,
       apart_push a.most a.frames.now l.frames l.c.depth (l.c.at + 1) l.c.end l.invariant.3 (omega arith),
       λ b. bare_push l.frames l.c.depth (l.c.at + 1) l.c.end (l.invariant.4 b),

@@ -9,19 +9,12 @@ use Rattle.solver.proofs.Laws.Resolving.OverLaws.{over_none, over_length, spelt_
 use Rattle.solver.proofs.Laws.Resolving.FrameLaws.{left_start, turn}
 use Rattle.solver.proofs.resolving.walked_len.Goals as goal
 
-pub overflow_add-n : goal.overflow_add-n
-overflow_add-n c =
-    let a = c.args in
-    let l = c.loop-c in
-    omega (arith, c.run_len-n.ensures.bound, l.invariant.1, c.requires.room)
-
 pub returns-then-limit-n-clause-len : goal.returns-then-limit-n-clause-len
 returns-then-limit-n-clause-len c =
     let a = c.args in
     let l = c.loop-c in
-    let b = c.begin-c in
     let e = over_length plain _ _ _ _ (l.invariant.0.head (omega arith)) in
-    let w = ap (λ (m : List Item). length (flat_bytes m)) (left_start a.tokens.now.kinds.now a.tokens.now.vals.now a.bound.now a.most a.frames.now a.run.at a.run.len _ _ b.ensures) in
+    let w = ap (λ (m : List Item). length (flat_bytes m)) (left_start _ _ _ _ _ a.run.at a.run.len _ _ c.begin-c.ensures) in
     omega (arith, e, w, l.invariant.2, l.invariant.1, c.run_len-n.ensures.len, ap length (spelt_one a.tokens.now.kinds.now a.tokens.now.vals.now l.c.at), c.if-limit-n.true)
 
 pub loop-c-preserved : goal.loop-c-preserved
@@ -31,7 +24,7 @@ loop-c-preserved c =
     let s = c.next-c in (
       s.ensures.ready,
       omega arith,
-      omega (arith, over_length plain _ _ _ _ (turn a.tokens.now.kinds.now a.tokens.now.vals.now a.bound.now a.most l.frames l.c _ _ l.invariant.0 (omega arith) s.ensures), l.invariant.2, c.run_len-n.ensures.len, ap length (spelt_one a.tokens.now.kinds.now a.tokens.now.vals.now l.c.at)),
+      omega (arith, over_length plain _ _ _ _ (turn _ _ _ _ _ _ _ _ l.invariant.0 (omega arith) s.ensures), l.invariant.2, c.run_len-n.ensures.len, ap length (spelt_one a.tokens.now.kinds.now a.tokens.now.vals.now l.c.at)),
       c.next-c.auto.frames ∙ l.invariant.3,
       (λ j h. s.ensures.apart j h ∙ l.invariant.4 j h),
       λ b. s.ensures.bare (l.invariant.5 b),
@@ -41,6 +34,5 @@ pub returns-clause-len : goal.returns-clause-len
 returns-clause-len c =
     let a = c.args in
     let l = c.loop-c in
-    let b = c.begin-c in
-    let w = ap (λ (m : List Item). length (flat_bytes m)) (left_start a.tokens.now.kinds.now a.tokens.now.vals.now a.bound.now a.most a.frames.now a.run.at a.run.len _ _ b.ensures) in
+    let w = ap (λ (m : List Item). length (flat_bytes m)) (left_start _ _ _ _ _ a.run.at a.run.len _ _ c.begin-c.ensures) in
     omega (arith, ap length (over_none plain _ (l.invariant.0.over (omega arith))), w, l.invariant.2, l.invariant.1)

@@ -14,9 +14,8 @@ pub write_run-i-requires-clause-room : goal.write_run-i-requires-clause-room
 write_run-i-requires-clause-room c =
     let a = c.args in
     let l = c.loop-c in
-    let b = c.begin-c in
     let e = over_length plain _ _ _ _ (l.invariant.0.head (omega arith)) in
-    let w = ap (λ (m : List Item). length (flat_bytes m)) (left_start a.tokens.now.kinds.now a.tokens.now.vals.now a.bound.now a.most a.frames.now a.run.at a.run.len _ _ b.ensures) in
+    let w = ap (λ (m : List Item). length (flat_bytes m)) (left_start _ _ _ _ _ a.run.at a.run.len _ _ c.begin-c.ensures) in
     let o = ap length (spelt_one a.tokens.now.kinds.now a.tokens.now.vals.now l.c.at) in
     omega (arith, e, w, o, l.invariant.1.place, l.invariant.1.long, c.requires.room)
 
@@ -28,7 +27,7 @@ loop-c-preserved c =
     let w = c.write_run-i.ensures in
     let o = spelt_one a.tokens.now.kinds.now a.tokens.now.vals.now l.c.at in (
       s.ensures.ready,
-      advance _ _ _ _ _ _ (spelt a.tokens.now.kinds.now a.tokens.now.vals.now l.c.at 1) _ _ _ l.invariant.1 (rw o (over_cons plain _ _ _ _ (turn a.tokens.now.kinds.now a.tokens.now.vals.now a.bound.now a.most l.frames l.c _ _ l.invariant.0 (omega arith) s.ensures))) w.next w.wrote,
+      advance _ _ _ _ _ _ (spelt a.tokens.now.kinds.now a.tokens.now.vals.now l.c.at 1) _ _ _ l.invariant.1 (rw o (over_cons plain _ _ _ _ (turn _ _ _ _ _ _ _ _ l.invariant.0 (omega arith) s.ensures))) w.next w.wrote,
       c.next-c.auto.frames ∙ l.invariant.2,
       (λ j h. s.ensures.apart j h ∙ l.invariant.3 j h),
       λ b. s.ensures.bare (l.invariant.4 b),
@@ -38,8 +37,7 @@ pub returns-clause-next : goal.returns-clause-next
 returns-clause-next c =
     let a = c.args in
     let l = c.loop-c in
-    let b = c.begin-c in
-    let w = ap flat_bytes (left_start a.tokens.now.kinds.now a.tokens.now.vals.now a.bound.now a.most a.frames.now a.run.at a.run.len _ _ b.ensures) in
+    let w = ap flat_bytes (left_start _ _ _ _ _ a.run.at a.run.len _ _ c.begin-c.ensures) in
     let r = written _ _ _ _ _ _ l.invariant.1 (over_none plain _ (l.invariant.0.over (omega arith))) in
     r.0 ∙ rw w
 
@@ -47,7 +45,6 @@ pub returns-clause-wrote : goal.returns-clause-wrote
 returns-clause-wrote c =
     let a = c.args in
     let l = c.loop-c in
-    let b = c.begin-c in
-    let w = ap flat_bytes (left_start a.tokens.now.kinds.now a.tokens.now.vals.now a.bound.now a.most a.frames.now a.run.at a.run.len _ _ b.ensures) in
+    let w = ap flat_bytes (left_start _ _ _ _ _ a.run.at a.run.len _ _ c.begin-c.ensures) in
     let r = written _ _ _ _ _ _ l.invariant.1 (over_none plain _ (l.invariant.0.over (omega arith))) in
     r.1 ∙ rw w

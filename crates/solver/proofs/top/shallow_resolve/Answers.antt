@@ -5,18 +5,13 @@ use Rattle.solver.specs.Constrain.{follow}
 use Rattle.solver.proofs.Laws.Resolving.TopLaws.{follow_none, follow_stop, follow_step}
 use Rattle.solver.proofs.top.shallow_resolve.Goals as goal
 
-pub loop-init : goal.loop-init
-loop-init c =
-    let m : c.args.most ≡ c.args.most - 0 = omega arith in
-    (c.requires, λ t b ht hb. (t, ht, ap (λ (n : ℕ). follow n b t) m))
-
 pub returns-then-r-eq0-clause-term : goal.returns-then-r-eq0-clause-term
 returns-then-r-eq0-clause-term c =
     let a = c.args in
     let l = c.loop in
     λ t b ht hb.
     let w = l.invariant.1 t b ht hb in
-    rw (w.2 ∙ follow_stop a.tokens.now.kinds.now a.tokens.now.vals.now a.bound.now b hb l.q _ _ c.enter-r.ensures (a.most - l.counter) w.0 w.1 c.if-r-eq0.true) w.1
+    rw (w.2 ∙ follow_stop _ _ _ b hb l.q _ _ c.enter-r.ensures (a.most - l.counter) w.0 w.1 c.if-r-eq0.true) w.1
 
 pub loop-preserved : goal.loop-preserved
 loop-preserved c =
@@ -27,7 +22,7 @@ loop-preserved c =
       omega (arith, i.within),
       λ t b ht hb.
           let w = l.invariant.1 t b ht hb in
-          let s = follow_step a.tokens.now.kinds.now a.tokens.now.vals.now a.bound.now b hb l.q _ _ i (a.most - (l.counter + 1)) w.0 w.1 (omega arith) in
+          let s = follow_step _ _ _ b hb l.q _ _ i (a.most - (l.counter + 1)) w.0 w.1 (omega arith) in
           (s.0, s.1, w.2 ∙ ap (λ (n : ℕ). follow n b w.0) m ∙ s.2),
     )
 
