@@ -40,18 +40,23 @@ use Rattle.sheet.specs.Words.OperationsContract.{Among, Asks, Replies, Two, Appl
 some_same : {k l : Row} → some k ≡ some l → k ≡ l
 some_same e = cc
 
-module _ (ks vs s ws : List ℕ) (o : Order) (n : ℕ) (k : Row) (at : row_in table n ≡ some k) (is : o.kind ≡ n) where
-  pub asks_as : (ns : List ℕ) → Asks ks vs s ws ns o → (known : ℕ) × (fs : List Field) × Given ks vs s ws known k o fs
-  asks_as ns x =
-      let e : x.kind ≡ k = some_same (sym x.numbered ∙ ap (λ (m : ℕ). row_in table m) is ∙ at) in
-      (x.known, x.fields, rw e at x.given)
+-- what an order of one kind says: its fields are held, and w is its answer
+pub record Kind (ks vs s ws : List ℕ) (o : Order) (Says : Answer → Type 0) : Type 1 where
+  pub asked : (ns : List ℕ) → Asks ks vs s ws ns o → (w : Answer) × Says w
+  pub replied : (W : Answer → Type 0) → ((w : Answer) → Says w → W w) → Replies ks vs s ws o W
 
-  pub replies_as : (W : Answer → Type 0) → ((known : ℕ) (fs : List Field) → Given ks vs s ws known k o fs → W (operation k fs)) → Replies ks vs s ws o W
-  replies_as W f = record {
+kind_of : (ks vs s ws : List ℕ) (o : Order) (Says : Answer → Type 0) (n : ℕ) (k : Row) → row_in table n ≡ some k → o.kind ≡ n
+    → ((known : ℕ) (fs : List Field) → Given ks vs s ws known k o fs → Says (operation k fs)) → Kind ks vs s ws o Says
+kind_of ks vs s ws o Says n k at is f = record {
+  asked = λ ns x.
+      let e : x.kind ≡ k = some_same (sym x.numbered ∙ ap (λ (m : ℕ). row_in table m) is ∙ at) in
+      (operation k x.fields, f x.known x.fields (rw e at x.given));
+  replied = λ W g. record {
     says = λ known k' fs h x.
         let e : k' ≡ k = some_same (sym h ∙ ap (λ (m : ℕ). row_in table m) is ∙ at) in
-        rw e (f known fs (rw e at x));
-  }
+        rw e (g (operation k fs) (f known fs (rw e at x)));
+  };
+}
 
 pub asks_among : (ks vs s ws : List ℕ) (o : Order) (ns ms : List ℕ) → Asks ks vs s ws ns o → Among ms o.kind → Asks ks vs s ws ms o
 asks_among ks vs s ws o ns ms x a = record { known = x.known; kind = x.kind; fields = x.fields; numbered = x.numbered; given = x.given; among = a }
@@ -174,127 +179,216 @@ module _ (ks vs s : List ℕ) (b b' : Binders) (e : b ≡ b') where
       → Applies ks vs s b' given a t es rs ps ts → Applies ks vs s b given a t es rs ps ts
   applies_as given a t es rs ps ts x = rw e x
 
--- ---- each kind: where the fields are held, and what the answer is
+-- ---- each kind: what its fields are, where they are held, and what its answer is
 
-module _ (ks vs s ws : List ℕ) (known : ℕ) (o : Order) (fs : List Field) where
-  two_terms : (k : Row) → layout k ≡ fields.term ∷ fields.term ∷ [] → Given ks vs s ws known k o fs
-      → (t : Term) × (u : Term) × (fs ≡ tree t ∷ tree u ∷ []) × Two ks vs o.first.place o.second.place t u
-  unfolding nth FormedFields
-  two_terms k l x =
+-- orders 9, 10 and 11
+pub record Pair (ks vs : List ℕ) (o : Order) (says : Term → Term → Answer) (w : Answer) : Type 0 where
+  pub left : Term
+  pub right : Term
+  pub answer : w ≡ says left right
+  pub both : Two ks vs o.first.place o.second.place left right
+
+-- order 12
+pub record Instance (ks vs s : List ℕ) (o : Order) (w : Answer) : Type 0 where
+  pub entries : List Entry
+  pub receivers : List Receiver
+  pub term : Term
+  pub answer : w ≡ outcome (bytes (substitution.instantiate (record { parameters = entries; receivers = receivers }) term))
+  pub binders : HeldBinders ks vs s (for_instance o.first.place o.second.place o.second.end) entries receivers []
+  pub held : Held ks vs o.third.place term
+  pub formed : Formed term
+
+-- order 13
+pub record Context (ks vs s : List ℕ) (o : Order) (w : Answer) : Type 0 where
+  pub entries : List Entry
+  pub names : List Parameter
+  pub term : Term
+  pub answer : w ≡ outcome (bytes (substitution.argument_context (record { parameters = entries; receivers = [] }) names term))
+  pub binders : HeldBinders ks vs s (for_context o.first.place o.second.place o.third.place o.third.value) entries [] names
+  pub held : Held ks vs o.fourth.place term
+  pub formed : Formed term
+
+-- order 14
+pub record SelfOnly (ks vs s : List ℕ) (o : Order) (w : Answer) : Type 0 where
+  pub receiver : Receiver
+  pub term : Term
+  pub answer : w ≡ outcome (bytes (substitution.with_self receiver.owner receiver.term term))
+  pub binders : HeldBinders ks vs s (for_instance o.first.place o.first.place o.first.end) [] (receiver ∷ []) []
+  pub held : Held ks vs o.second.place term
+  pub formed : Formed term
+
+-- order 15
+pub record Questions (ks vs : List ℕ) (o : Order) (w : Answer) : Type 0 where
+  pub term : Term
+  pub answer : w ≡ outcome (seven term)
+  pub held : Held ks vs o.first.place term
+  pub formed : Formed term
+
+-- order 16
+pub record ResolvedIn (ks vs s : List ℕ) (o : Order) (w : Answer) : Type 0 where
+  pub names : List Parameter
+  pub term : Term
+  pub answer : w ≡ outcome (bit (is_resolved_in names term) ∷ [])
+  pub after : ℕ
+  pub read : parameters s o.first.value o.first.place ≡ got names after
+  pub held : Held ks vs o.second.place term
+  pub formed : Formed term
+
+-- order 17
+pub record Satisfied (ks vs : List ℕ) (o : Order) (w : Answer) : Type 0 where
+  pub has : Parts
+  pub needs : Parts
+  pub receiver : Term
+  pub answer : w ≡ outcome (bit (satisfies (nominal_of has) (nominal_of needs)) ∷ bit (satisfies_for (nominal_of has) (nominal_of needs) receiver) ∷ [])
+  pub first : Held ks vs o.first.place (node 20 has)
+  pub second : Held ks vs o.second.place (node 20 needs)
+  pub third : Held ks vs o.third.place receiver
+  pub first_fit : Fit (shape.nominal shape.done) has
+  pub second_fit : Fit (shape.nominal shape.done) needs
+
+-- order 18
+pub record Family (ks vs s : List ℕ) (o : Order) (w : Answer) : Type 0 where
+  pub names : List Parameter
+  pub term : Term
+  pub entries : List Entry
+  pub receivers : List Receiver
+  pub arguments : List Term
+  pub answer : w ≡ outcome (perhaps (apply names term (record { parameters = entries; receivers = receivers }) arguments))
+  pub applies : Applies ks vs s (for_family o.third.place o.fourth.place o.fourth.end o.first.place o.first.value o.fifth.place) o.fifth.value o.second.place term entries receivers names arguments
+
+-- order 19
+pub record Associated (ks vs : List ℕ) (o : Order) (w : Answer) : Type 0 where
+  pub term : Term
+  pub row : Parts
+  pub owner : Term
+  pub answer : w ≡ settled (with_associated_types term (nominal_of row) owner)
+  pub associates : Associates ks vs o.first.place o.second.place o.third.place term row owner
+
+-- order 20
+pub record Ruling (ks vs ws : List ℕ) (o : Order) (w : Answer) : Type 0 where
+  pub patterns : List Pattern
+  pub term : Term
+  pub answer : w ≡ settled (normalize (map rule_of patterns) term)
+  pub normalises : Normalises ks vs (take (6 * o.first.value) ws) o.second.place patterns term
+  pub enough : 6 * o.first.value ≤ length ws
+
+module _ (ks vs s ws : List ℕ) (o : Order) where
+  -- a kind whose fields are two terms
+  pair : (says : Term → Term → Answer) (n : ℕ) (k : Row) → row_in table n ≡ some k → o.kind ≡ n → layout k ≡ fields.term ∷ fields.term ∷ []
+      → ((t u : Term) → operation k (tree t ∷ tree u ∷ []) ≡ says t u) → Kind ks vs s ws o (Pair ks vs o says)
+  unfolding FormedFields nth
+  pair says n k at is l answers = kind_of ks vs s ws o _ n k at is (λ known fs x.
       let f = fits_two_terms fs (rw l at x.fits) in
       let h : HeldFields ks vs s ws o (tree f.0 ∷ tree f.1 ∷ []) = rw f.2 at x.held in
       let g : FormedFields known (tree f.0 ∷ tree f.1 ∷ []) = rw f.2 at x.formed in
-      (f.0, f.1, f.2, record { left = h.first; right = h.second; left_formed = g.0.formed; right_formed = g.1.0.formed })
+      record { left = f.0; right = f.1; answer = ap (operation k) f.2 ∙ answers f.0 f.1; both = record { left = h.first; right = h.second; left_formed = g.0.formed; right_formed = g.1.0.formed } })
 
-  conflicts_view : Given ks vs s ws known operations.conflicts o fs
-      → (t : Term) × (u : Term) × (operation operations.conflicts fs ≡ outcome (bit (conflicts_with t u) ∷ [])) × Two ks vs o.first.place o.second.place t u
-  unfolding operation nth term_of layout
-  conflicts_view x = let f = two_terms operations.conflicts refl x in (f.0, f.1, ap (operation operations.conflicts) f.2, f.3)
+  pub conflicts : o.kind ≡ 9 → Kind ks vs s ws o (Pair ks vs o (λ t u. outcome (bit (conflicts_with t u) ∷ [])))
+  unfolding row_in table session_orders operations.operations operation nth term_of layout
+  conflicts is = pair _ 9 operations.conflicts refl is refl (λ t u. refl)
 
-  weakens_view : Given ks vs s ws known operations.weakens o fs
-      → (t : Term) × (u : Term) × (operation operations.weakens fs ≡ outcome (bit (can_weaken_to t u) ∷ [])) × Two ks vs o.first.place o.second.place t u
-  unfolding operation nth term_of layout
-  weakens_view x = let f = two_terms operations.weakens refl x in (f.0, f.1, ap (operation operations.weakens) f.2, f.3)
+  pub weakens : o.kind ≡ 10 → Kind ks vs s ws o (Pair ks vs o (λ t u. outcome (bit (can_weaken_to t u) ∷ [])))
+  unfolding row_in table session_orders operations.operations operation nth term_of layout
+  weakens is = pair _ 10 operations.weakens refl is refl (λ t u. refl)
 
-  recover_view : Given ks vs s ws known operations.recover o fs
-      → (t : Term) × (u : Term) × (operation operations.recover fs ≡ outcome (bytes (recover_from t u))) × Two ks vs o.first.place o.second.place t u
-  unfolding operation nth term_of layout
-  recover_view x = let f = two_terms operations.recover refl x in (f.0, f.1, ap (operation operations.recover) f.2, f.3)
+  pub recovers : o.kind ≡ 11 → Kind ks vs s ws o (Pair ks vs o (λ t u. outcome (bytes (recover_from t u))))
+  unfolding row_in table session_orders operations.operations operation nth term_of layout
+  recovers is = pair _ 11 operations.recover refl is refl (λ t u. refl)
 
-  instance_view : Given ks vs s ws known operations.instantiate o fs
-      → (es : List Entry) × (rs : List Receiver) × (t : Term) × (operation operations.instantiate fs ≡ outcome (bytes (substitution.instantiate (record { parameters = es; receivers = rs }) t)))
-      × HeldBinders ks vs s (for_instance o.first.place o.second.place o.second.end) es rs [] × Held ks vs o.third.place t × Formed t
-  unfolding operation nth term_of entries_of receivers_of layout FormedFields parameters
-  instance_view x =
+  pub instance : o.kind ≡ 12 → Kind ks vs s ws o (Instance ks vs s o)
+  unfolding row_in table session_orders operations.operations operation nth term_of entries_of receivers_of layout FormedFields parameters
+  instance is = kind_of ks vs s ws o _ 12 operations.instantiate refl is (λ known fs x.
       let f = fits_instance fs x.fits in
       let h : HeldFields ks vs s ws o (entered f.0 ∷ received f.1 ∷ tree f.2 ∷ []) = rw f.3 at x.held in
       let g : FormedFields known (entered f.0 ∷ received f.1 ∷ tree f.2 ∷ []) = rw f.3 at x.formed in
-      let e : HeldParts ks vs o.first.place o.second.place (entry_row f.0) = rw h.second_follows at h.first.1 in
-      (f.0, f.1, f.2, ap (operation operations.instantiate) f.3, record { entries = e; receivers = h.second.1; after = 0; parameters = refl }, h.third, g.1.1.0.formed)
+      let e : HeldParts ks vs o.first.place o.second.place (entry_row f.0) = rw h.second_follows at h.first.1 in record {
+        entries = f.0;
+        receivers = f.1;
+        term = f.2;
+        answer = ap (operation operations.instantiate) f.3;
+        binders = record { entries = e; receivers = h.second.1; after = 0; parameters = refl };
+        held = h.third;
+        formed = g.1.1.0.formed;
+      })
 
-  context_view : Given ks vs s ws known operations.argument_context o fs
-      → (es : List Entry) × (ps : List Parameter) × (t : Term) × (operation operations.argument_context fs ≡ outcome (bytes (substitution.argument_context (record { parameters = es; receivers = [] }) ps t)))
-      × HeldBinders ks vs s (for_context o.first.place o.second.place o.third.place o.third.value) es [] ps × Held ks vs o.fourth.place t × Formed t
-  unfolding operation nth term_of entries_of receivers_of parameters_of layout FormedFields contextual receiver_row
-  context_view x =
+  pub in_context : o.kind ≡ 13 → Kind ks vs s ws o (Context ks vs s o)
+  unfolding row_in table session_orders operations.operations operation nth term_of entries_of receivers_of parameters_of layout FormedFields contextual receiver_row
+  in_context is = kind_of ks vs s ws o _ 13 operations.argument_context refl is (λ known fs x.
       let f = fits_context fs x.fits in
       let h : HeldFields ks vs s ws o (entered f.0 ∷ received f.1 ∷ named f.2 ∷ tree f.3 ∷ []) = rw f.4 at x.held in
       let g : FormedFields known (entered f.0 ∷ received f.1 ∷ named f.2 ∷ tree f.3 ∷ []) = rw f.4 at x.formed in
-      let e : HeldParts ks vs o.first.place o.second.place (entry_row f.0) = rw h.second_follows at h.first.1 in (
-        f.0,
-        f.2,
-        f.3,
-        ap (operation operations.argument_context) f.4,
-        record { entries = e; receivers = no_row ks vs o.second.place e.within; after = h.third.1.0; parameters = h.third.1.1 },
-        h.fourth,
-        g.1.1.1.0.formed,
-      )
+      let e : HeldParts ks vs o.first.place o.second.place (entry_row f.0) = rw h.second_follows at h.first.1 in record {
+        entries = f.0;
+        names = f.2;
+        term = f.3;
+        answer = ap (operation operations.argument_context) f.4;
+        binders = record { entries = e; receivers = no_row ks vs o.second.place e.within; after = h.third.1.0; parameters = h.third.1.1 };
+        held = h.fourth;
+        formed = g.1.1.1.0.formed;
+      })
 
-  self_view : Given ks vs s ws known operations.with_self o fs
-      → (r : Receiver) × (t : Term) × (operation operations.with_self fs ≡ outcome (bytes (substitution.with_self r.owner r.term t)))
-      × HeldBinders ks vs s (for_instance o.first.place o.first.place o.first.end) [] (r ∷ []) [] × Held ks vs o.second.place t × Formed t
-  unfolding operation nth term_of receivers_of operations.by_receiver layout FormedFields parameters entry_row
-  self_view x =
+  pub self_only : o.kind ≡ 14 → Kind ks vs s ws o (SelfOnly ks vs s o)
+  unfolding row_in table session_orders operations.operations operation nth term_of receivers_of operations.by_receiver layout FormedFields parameters entry_row
+  self_only is = kind_of ks vs s ws o _ 14 operations.with_self refl is (λ known fs x.
       let f = fits_self fs x.fits in
       let h : HeldFields ks vs s ws o (received (f.0 ∷ []) ∷ tree f.1 ∷ []) = rw f.2 at x.held in
       let g : FormedFields known (received (f.0 ∷ []) ∷ tree f.1 ∷ []) = rw f.2 at x.formed in
-      let r = h.first.1 in (
-        f.0,
-        f.1,
-        ap (operation operations.with_self) f.2,
-        record { entries = no_row ks vs o.first.place (omega (arith, r.ends, r.within)); receivers = r; after = 0; parameters = refl },
-        h.second,
-        g.1.0.formed,
-      )
+      let r = h.first.1 in record {
+        receiver = f.0;
+        term = f.1;
+        answer = ap (operation operations.with_self) f.2;
+        binders = record { entries = no_row ks vs o.first.place (omega (arith, r.ends, r.within)); receivers = r; after = 0; parameters = refl };
+        held = h.second;
+        formed = g.1.0.formed;
+      })
 
-  questions_view : Given ks vs s ws known operations.questions o fs
-      → (t : Term) × (operation operations.questions fs ≡ outcome (seven t)) × Held ks vs o.first.place t × Formed t
-  unfolding operation nth term_of layout FormedFields
-  questions_view x =
+  pub questions : o.kind ≡ 15 → Kind ks vs s ws o (Questions ks vs o)
+  unfolding row_in table session_orders operations.operations operation nth term_of layout FormedFields
+  questions is = kind_of ks vs s ws o _ 15 operations.questions refl is (λ known fs x.
       let f = fits_one_term fs x.fits in
       let h : HeldFields ks vs s ws o (tree f.0 ∷ []) = rw f.1 at x.held in
       let g : FormedFields known (tree f.0 ∷ []) = rw f.1 at x.formed in
-      (f.0, ap (operation operations.questions) f.1, h.first, g.0.formed)
+      record { term = f.0; answer = ap (operation operations.questions) f.1; held = h.first; formed = g.0.formed })
 
-  resolved_view : Given ks vs s ws known operations.resolved_in o fs
-      → (ps : List Parameter) × (t : Term) × (operation operations.resolved_in fs ≡ outcome (bit (is_resolved_in ps t) ∷ []))
-      × ((after : ℕ) × (parameters s o.first.value o.first.place ≡ got ps after)) × Held ks vs o.second.place t × Formed t
-  unfolding operation nth term_of parameters_of layout FormedFields
-  resolved_view x =
+  pub resolved_in : o.kind ≡ 16 → Kind ks vs s ws o (ResolvedIn ks vs s o)
+  unfolding row_in table session_orders operations.operations operation nth term_of parameters_of layout FormedFields
+  resolved_in is = kind_of ks vs s ws o _ 16 operations.resolved_in refl is (λ known fs x.
       let f = fits_resolved fs x.fits in
       let h : HeldFields ks vs s ws o (named f.0 ∷ tree f.1 ∷ []) = rw f.2 at x.held in
       let g : FormedFields known (named f.0 ∷ tree f.1 ∷ []) = rw f.2 at x.formed in
-      (f.0, f.1, ap (operation operations.resolved_in) f.2, h.first.1, h.second, g.1.0.formed)
+      record { names = f.0; term = f.1; answer = ap (operation operations.resolved_in) f.2; after = h.first.1.0; read = h.first.1.1; held = h.second; formed = g.1.0.formed })
 
-  satisfied_view : Given ks vs s ws known operations.satisfied o fs
-      → (ps : Parts) × (qs : Parts) × (t : Term)
-      × (operation operations.satisfied fs ≡ outcome (bit (satisfies (nominal_of ps) (nominal_of qs)) ∷ bit (satisfies_for (nominal_of ps) (nominal_of qs) t) ∷ []))
-      × Held ks vs o.first.place (node 20 ps) × Held ks vs o.second.place (node 20 qs) × Held ks vs o.third.place t
-      × Fit (shape.nominal shape.done) ps × Fit (shape.nominal shape.done) qs
-  unfolding operation nth term_of row_of bits layout FormedFields
-  satisfied_view x =
+  pub satisfied : o.kind ≡ 17 → Kind ks vs s ws o (Satisfied ks vs o)
+  unfolding row_in table session_orders operations.operations operation nth term_of row_of bits layout FormedFields
+  satisfied is = kind_of ks vs s ws o _ 17 operations.satisfied refl is (λ known fs x.
       let f = fits_satisfied fs x.fits in
       let h : HeldFields ks vs s ws o (bare f.0 ∷ bare f.1 ∷ tree f.2 ∷ []) = rw f.3 at x.held in
-      let g : FormedFields known (bare f.0 ∷ bare f.1 ∷ tree f.2 ∷ []) = rw f.3 at x.formed in
-      (f.0, f.1, f.2, ap (operation operations.satisfied) f.3, h.first, h.second, h.third, g.0.fit, g.1.0.fit)
+      let g : FormedFields known (bare f.0 ∷ bare f.1 ∷ tree f.2 ∷ []) = rw f.3 at x.formed in record {
+        has = f.0;
+        needs = f.1;
+        receiver = f.2;
+        answer = ap (operation operations.satisfied) f.3;
+        first = h.first;
+        second = h.second;
+        third = h.third;
+        first_fit = g.0.fit;
+        second_fit = g.1.0.fit;
+      })
 
-  family_view : Given ks vs s ws known operations.family o fs
-      → (ps : List Parameter) × (t : Term) × (es : List Entry) × (rs : List Receiver) × (ts : List Term)
-      × (operation operations.family fs ≡ outcome (perhaps (apply ps t (record { parameters = es; receivers = rs }) ts)))
-      × Applies ks vs s (for_family o.third.place o.fourth.place o.fourth.end o.first.place o.first.value o.fifth.place) o.fifth.value o.second.place t es rs ps ts
-  unfolding operation nth term_of parameters_of entries_of receivers_of arguments_of layout FormedFields
-  family_view x =
+  pub family : o.kind ≡ 18 → Kind ks vs s ws o (Family ks vs s o)
+  unfolding row_in table session_orders operations.operations operation nth term_of parameters_of entries_of receivers_of arguments_of layout FormedFields
+  family is = kind_of ks vs s ws o _ 18 operations.family refl is (λ known fs x.
       let f = fits_family fs x.fits in
       let h : HeldFields ks vs s ws o (named f.0 ∷ tree f.1 ∷ entered f.2 ∷ received f.3 ∷ listed f.4 ∷ []) = rw f.5 at x.held in
       let g : FormedFields known (named f.0 ∷ tree f.1 ∷ entered f.2 ∷ received f.3 ∷ listed f.4 ∷ []) = rw f.5 at x.formed in
-      let e : HeldParts ks vs o.third.place o.fourth.place (entry_row f.2) = rw h.fourth_follows at h.third.1 in (
-        f.0,
-        f.1,
-        f.2,
-        f.3,
-        f.4,
-        ap (operation operations.family) f.5,
-        record {
+      let e : HeldParts ks vs o.third.place o.fourth.place (entry_row f.2) = rw h.fourth_follows at h.third.1 in record {
+        names = f.0;
+        term = f.1;
+        entries = f.2;
+        receivers = f.3;
+        arguments = f.4;
+        answer = ap (operation operations.family) f.5;
+        applies = record {
           held = h.second;
           formed = g.1.0.formed;
           binders = record { entries = e; receivers = h.fourth.1; after = h.first.1.0; parameters = h.first.1.1 };
@@ -303,184 +397,31 @@ module _ (ks vs s ws : List ℕ) (known : ℕ) (o : Order) (fs : List Field) whe
           plain = refl;
           many = h.fifth.0;
           parameters = h.first.0;
-        },
-      )
+        };
+      })
 
-  associated_view : Given ks vs s ws known operations.with_associated_types o fs
-      → (t : Term) × (ps : Parts) × (u : Term) × (operation operations.with_associated_types fs ≡ settled (with_associated_types t (nominal_of ps) u))
-      × Associates ks vs o.first.place o.second.place o.third.place t ps u
-  unfolding operation nth term_of row_of layout FormedFields
-  associated_view x =
+  pub associated : o.kind ≡ 19 → Kind ks vs s ws o (Associated ks vs o)
+  unfolding row_in table session_orders operations.operations operation nth term_of row_of layout FormedFields
+  associated is = kind_of ks vs s ws o _ 19 operations.with_associated_types refl is (λ known fs x.
       let f = fits_associated fs x.fits in
       let h : HeldFields ks vs s ws o (tree f.0 ∷ bare f.1 ∷ tree f.2 ∷ []) = rw f.3 at x.held in
-      let g : FormedFields known (tree f.0 ∷ bare f.1 ∷ tree f.2 ∷ []) = rw f.3 at x.formed in
-      (f.0, f.1, f.2, ap (operation operations.with_associated_types) f.3, record { term = h.first; interface = h.second; owns = h.third; term_formed = g.0.formed; interface_fit = g.1.0.fit; owner_formed = g.1.1.0.formed })
+      let g : FormedFields known (tree f.0 ∷ bare f.1 ∷ tree f.2 ∷ []) = rw f.3 at x.formed in record {
+        term = f.0;
+        row = f.1;
+        owner = f.2;
+        answer = ap (operation operations.with_associated_types) f.3;
+        associates = record { term = h.first; interface = h.second; owns = h.third; term_formed = g.0.formed; interface_fit = g.1.0.fit; owner_formed = g.1.1.0.formed };
+      })
 
-  rules_view : Given ks vs s ws known operations.normalise o fs
-      → (rs : List Pattern) × (t : Term) × (operation operations.normalise fs ≡ settled (normalize (map rule_of rs) t))
-      × Normalises ks vs (take (6 * o.first.value) ws) o.second.place rs t × (6 * o.first.value ≤ length ws)
-  unfolding operation nth term_of rules_of layout FormedFields
-  rules_view x =
+  pub ruling : o.kind ≡ 20 → Kind ks vs s ws o (Ruling ks vs ws o)
+  unfolding row_in table session_orders operations.operations operation nth term_of rules_of layout FormedFields
+  ruling is = kind_of ks vs s ws o _ 20 operations.normalise refl is (λ known fs x.
       let f = fits_rules fs x.fits in
       let h : HeldFields ks vs s ws o (ruled f.0 ∷ tree f.1 ∷ []) = rw f.2 at x.held in
-      let g : FormedFields known (ruled f.0 ∷ tree f.1 ∷ []) = rw f.2 at x.formed in
-      (f.0, f.1, ap (operation operations.normalise) f.2, record { rules = h.first.2; term = h.second; rules_formed = formed_patterns known f.0 g.0; term_formed = g.1.0.formed }, h.first.1)
-
--- ---- by number
-
-module _ (ks vs s ws : List ℕ) (o : Order) where
-  -- order 9
-  pub conflicts_asks : (ns : List ℕ) → o.kind ≡ 9 → Asks ks vs s ws ns o → (t : Term) × (u : Term) × Two ks vs o.first.place o.second.place t u
-  unfolding row_in table session_orders operations.operations
-  conflicts_asks ns is x =
-      let g = asks_as ks vs s ws o 9 operations.conflicts refl is ns x in
-      let f = conflicts_view ks vs s ws g.0 o g.1 g.2 in
-      (f.0, f.1, f.3)
-
-  pub conflicts_replies : o.kind ≡ 9 → (W : Answer → Type 0) → ((t : Term) (u : Term) → Two ks vs o.first.place o.second.place t u → W (outcome (bit (conflicts_with t u) ∷ []))) → Replies ks vs s ws o W
-  unfolding row_in table session_orders operations.operations
-  conflicts_replies is W h =
-      replies_as ks vs s ws o 9 operations.conflicts refl is W (λ known fs x. let f = conflicts_view ks vs s ws known o fs x in rw f.2 (h f.0 f.1 f.3))
-
-  -- order 10
-  pub weakens_asks : (ns : List ℕ) → o.kind ≡ 10 → Asks ks vs s ws ns o → (t : Term) × (u : Term) × Two ks vs o.first.place o.second.place t u
-  unfolding row_in table session_orders operations.operations
-  weakens_asks ns is x =
-      let g = asks_as ks vs s ws o 10 operations.weakens refl is ns x in
-      let f = weakens_view ks vs s ws g.0 o g.1 g.2 in
-      (f.0, f.1, f.3)
-
-  pub weakens_replies : o.kind ≡ 10 → (W : Answer → Type 0) → ((t : Term) (u : Term) → Two ks vs o.first.place o.second.place t u → W (outcome (bit (can_weaken_to t u) ∷ []))) → Replies ks vs s ws o W
-  unfolding row_in table session_orders operations.operations
-  weakens_replies is W h =
-      replies_as ks vs s ws o 10 operations.weakens refl is W (λ known fs x. let f = weakens_view ks vs s ws known o fs x in rw f.2 (h f.0 f.1 f.3))
-
-  -- order 11
-  pub recover_asks : (ns : List ℕ) → o.kind ≡ 11 → Asks ks vs s ws ns o → (t : Term) × (u : Term) × Two ks vs o.first.place o.second.place t u
-  unfolding row_in table session_orders operations.operations
-  recover_asks ns is x =
-      let g = asks_as ks vs s ws o 11 operations.recover refl is ns x in
-      let f = recover_view ks vs s ws g.0 o g.1 g.2 in
-      (f.0, f.1, f.3)
-
-  pub recover_replies : o.kind ≡ 11 → (W : Answer → Type 0) → ((t : Term) (u : Term) → Two ks vs o.first.place o.second.place t u → W (outcome (bytes (recover_from t u)))) → Replies ks vs s ws o W
-  unfolding row_in table session_orders operations.operations
-  recover_replies is W h =
-      replies_as ks vs s ws o 11 operations.recover refl is W (λ known fs x. let f = recover_view ks vs s ws known o fs x in rw f.2 (h f.0 f.1 f.3))
-
-  -- order 12
-  pub instance_asks : (ns : List ℕ) → o.kind ≡ 12 → Asks ks vs s ws ns o → (es : List Entry) × (rs : List Receiver) × (t : Term) × HeldBinders ks vs s (for_instance o.first.place o.second.place o.second.end) es rs [] × Held ks vs o.third.place t × Formed t
-  unfolding row_in table session_orders operations.operations
-  instance_asks ns is x =
-      let g = asks_as ks vs s ws o 12 operations.instantiate refl is ns x in
-      let f = instance_view ks vs s ws g.0 o g.1 g.2 in
-      (f.0, f.1, f.2, f.4, f.5, f.6)
-
-  pub instance_replies : o.kind ≡ 12 → (W : Answer → Type 0) → ((es : List Entry) (rs : List Receiver) (t : Term) → HeldBinders ks vs s (for_instance o.first.place o.second.place o.second.end) es rs [] → Held ks vs o.third.place t → Formed t → W (outcome (bytes (substitution.instantiate (record { parameters = es; receivers = rs }) t)))) → Replies ks vs s ws o W
-  unfolding row_in table session_orders operations.operations
-  instance_replies is W h =
-      replies_as ks vs s ws o 12 operations.instantiate refl is W (λ known fs x. let f = instance_view ks vs s ws known o fs x in rw f.3 (h f.0 f.1 f.2 f.4 f.5 f.6))
-
-  -- order 13
-  pub context_asks : (ns : List ℕ) → o.kind ≡ 13 → Asks ks vs s ws ns o → (es : List Entry) × (ps : List Parameter) × (t : Term) × HeldBinders ks vs s (for_context o.first.place o.second.place o.third.place o.third.value) es [] ps × Held ks vs o.fourth.place t × Formed t
-  unfolding row_in table session_orders operations.operations
-  context_asks ns is x =
-      let g = asks_as ks vs s ws o 13 operations.argument_context refl is ns x in
-      let f = context_view ks vs s ws g.0 o g.1 g.2 in
-      (f.0, f.1, f.2, f.4, f.5, f.6)
-
-  pub context_replies : o.kind ≡ 13 → (W : Answer → Type 0) → ((es : List Entry) (ps : List Parameter) (t : Term) → HeldBinders ks vs s (for_context o.first.place o.second.place o.third.place o.third.value) es [] ps → Held ks vs o.fourth.place t → Formed t → W (outcome (bytes (substitution.argument_context (record { parameters = es; receivers = [] }) ps t)))) → Replies ks vs s ws o W
-  unfolding row_in table session_orders operations.operations
-  context_replies is W h =
-      replies_as ks vs s ws o 13 operations.argument_context refl is W (λ known fs x. let f = context_view ks vs s ws known o fs x in rw f.3 (h f.0 f.1 f.2 f.4 f.5 f.6))
-
-  -- order 14
-  pub self_asks : (ns : List ℕ) → o.kind ≡ 14 → Asks ks vs s ws ns o → (r : Receiver) × (t : Term) × HeldBinders ks vs s (for_instance o.first.place o.first.place o.first.end) [] (r ∷ []) [] × Held ks vs o.second.place t × Formed t
-  unfolding row_in table session_orders operations.operations
-  self_asks ns is x =
-      let g = asks_as ks vs s ws o 14 operations.with_self refl is ns x in
-      let f = self_view ks vs s ws g.0 o g.1 g.2 in
-      (f.0, f.1, f.3, f.4, f.5)
-
-  pub self_replies : o.kind ≡ 14 → (W : Answer → Type 0) → ((r : Receiver) (t : Term) → HeldBinders ks vs s (for_instance o.first.place o.first.place o.first.end) [] (r ∷ []) [] → Held ks vs o.second.place t → Formed t → W (outcome (bytes (substitution.with_self r.owner r.term t)))) → Replies ks vs s ws o W
-  unfolding row_in table session_orders operations.operations
-  self_replies is W h =
-      replies_as ks vs s ws o 14 operations.with_self refl is W (λ known fs x. let f = self_view ks vs s ws known o fs x in rw f.2 (h f.0 f.1 f.3 f.4 f.5))
-
-  -- order 15
-  pub questions_asks : (ns : List ℕ) → o.kind ≡ 15 → Asks ks vs s ws ns o → (t : Term) × Held ks vs o.first.place t × Formed t
-  unfolding row_in table session_orders operations.operations
-  questions_asks ns is x =
-      let g = asks_as ks vs s ws o 15 operations.questions refl is ns x in
-      let f = questions_view ks vs s ws g.0 o g.1 g.2 in
-      (f.0, f.2, f.3)
-
-  pub questions_replies : o.kind ≡ 15 → (W : Answer → Type 0) → ((t : Term) → Held ks vs o.first.place t → Formed t → W (outcome (seven t))) → Replies ks vs s ws o W
-  unfolding row_in table session_orders operations.operations
-  questions_replies is W h =
-      replies_as ks vs s ws o 15 operations.questions refl is W (λ known fs x. let f = questions_view ks vs s ws known o fs x in rw f.1 (h f.0 f.2 f.3))
-
-  -- order 16
-  pub resolved_asks : (ns : List ℕ) → o.kind ≡ 16 → Asks ks vs s ws ns o → (ps : List Parameter) × (t : Term) × ((after : ℕ) × (parameters s o.first.value o.first.place ≡ got ps after)) × Held ks vs o.second.place t × Formed t
-  unfolding row_in table session_orders operations.operations
-  resolved_asks ns is x =
-      let g = asks_as ks vs s ws o 16 operations.resolved_in refl is ns x in
-      let f = resolved_view ks vs s ws g.0 o g.1 g.2 in
-      (f.0, f.1, f.3, f.4, f.5)
-
-  pub resolved_replies : o.kind ≡ 16 → (W : Answer → Type 0) → ((ps : List Parameter) (t : Term) → ((after : ℕ) × (parameters s o.first.value o.first.place ≡ got ps after)) → Held ks vs o.second.place t → Formed t → W (outcome (bit (is_resolved_in ps t) ∷ []))) → Replies ks vs s ws o W
-  unfolding row_in table session_orders operations.operations
-  resolved_replies is W h =
-      replies_as ks vs s ws o 16 operations.resolved_in refl is W (λ known fs x. let f = resolved_view ks vs s ws known o fs x in rw f.2 (h f.0 f.1 f.3 f.4 f.5))
-
-  -- order 17
-  pub satisfied_asks : (ns : List ℕ) → o.kind ≡ 17 → Asks ks vs s ws ns o → (ps : Parts) × (qs : Parts) × (t : Term) × Held ks vs o.first.place (node 20 ps) × Held ks vs o.second.place (node 20 qs) × Held ks vs o.third.place t × Fit (shape.nominal shape.done) ps × Fit (shape.nominal shape.done) qs
-  unfolding row_in table session_orders operations.operations
-  satisfied_asks ns is x =
-      let g = asks_as ks vs s ws o 17 operations.satisfied refl is ns x in
-      let f = satisfied_view ks vs s ws g.0 o g.1 g.2 in
-      (f.0, f.1, f.2, f.4, f.5, f.6, f.7, f.8)
-
-  pub satisfied_replies : o.kind ≡ 17 → (W : Answer → Type 0) → ((ps : Parts) (qs : Parts) (t : Term) → Held ks vs o.first.place (node 20 ps) → Held ks vs o.second.place (node 20 qs) → Held ks vs o.third.place t → Fit (shape.nominal shape.done) ps → Fit (shape.nominal shape.done) qs → W (outcome (bit (satisfies (nominal_of ps) (nominal_of qs)) ∷ bit (satisfies_for (nominal_of ps) (nominal_of qs) t) ∷ []))) → Replies ks vs s ws o W
-  unfolding row_in table session_orders operations.operations
-  satisfied_replies is W h =
-      replies_as ks vs s ws o 17 operations.satisfied refl is W (λ known fs x. let f = satisfied_view ks vs s ws known o fs x in rw f.3 (h f.0 f.1 f.2 f.4 f.5 f.6 f.7 f.8))
-
-  -- order 18
-  pub family_asks : (ns : List ℕ) → o.kind ≡ 18 → Asks ks vs s ws ns o → (ps : List Parameter) × (t : Term) × (es : List Entry) × (rs : List Receiver) × (ts : List Term) × Applies ks vs s (for_family o.third.place o.fourth.place o.fourth.end o.first.place o.first.value o.fifth.place) o.fifth.value o.second.place t es rs ps ts
-  unfolding row_in table session_orders operations.operations
-  family_asks ns is x =
-      let g = asks_as ks vs s ws o 18 operations.family refl is ns x in
-      let f = family_view ks vs s ws g.0 o g.1 g.2 in
-      (f.0, f.1, f.2, f.3, f.4, f.6)
-
-  pub family_replies : o.kind ≡ 18 → (W : Answer → Type 0) → ((ps : List Parameter) (t : Term) (es : List Entry) (rs : List Receiver) (ts : List Term) → Applies ks vs s (for_family o.third.place o.fourth.place o.fourth.end o.first.place o.first.value o.fifth.place) o.fifth.value o.second.place t es rs ps ts → W (outcome (perhaps (apply ps t (record { parameters = es; receivers = rs }) ts)))) → Replies ks vs s ws o W
-  unfolding row_in table session_orders operations.operations
-  family_replies is W h =
-      replies_as ks vs s ws o 18 operations.family refl is W (λ known fs x. let f = family_view ks vs s ws known o fs x in rw f.5 (h f.0 f.1 f.2 f.3 f.4 f.6))
-
-  -- order 19
-  pub associated_asks : (ns : List ℕ) → o.kind ≡ 19 → Asks ks vs s ws ns o → (t : Term) × (ps : Parts) × (u : Term) × Associates ks vs o.first.place o.second.place o.third.place t ps u
-  unfolding row_in table session_orders operations.operations
-  associated_asks ns is x =
-      let g = asks_as ks vs s ws o 19 operations.with_associated_types refl is ns x in
-      let f = associated_view ks vs s ws g.0 o g.1 g.2 in
-      (f.0, f.1, f.2, f.4)
-
-  pub associated_replies : o.kind ≡ 19 → (W : Answer → Type 0) → ((t : Term) (ps : Parts) (u : Term) → Associates ks vs o.first.place o.second.place o.third.place t ps u → W (settled (with_associated_types t (nominal_of ps) u))) → Replies ks vs s ws o W
-  unfolding row_in table session_orders operations.operations
-  associated_replies is W h =
-      replies_as ks vs s ws o 19 operations.with_associated_types refl is W (λ known fs x. let f = associated_view ks vs s ws known o fs x in rw f.3 (h f.0 f.1 f.2 f.4))
-
-  -- order 20
-  pub rules_asks : (ns : List ℕ) → o.kind ≡ 20 → Asks ks vs s ws ns o → (rs : List Pattern) × (t : Term) × Normalises ks vs (take (6 * o.first.value) ws) o.second.place rs t × (6 * o.first.value ≤ length ws)
-  unfolding row_in table session_orders operations.operations
-  rules_asks ns is x =
-      let g = asks_as ks vs s ws o 20 operations.normalise refl is ns x in
-      let f = rules_view ks vs s ws g.0 o g.1 g.2 in
-      (f.0, f.1, f.3, f.4)
-
-  pub rules_replies : o.kind ≡ 20 → (W : Answer → Type 0) → ((rs : List Pattern) (t : Term) → Normalises ks vs (take (6 * o.first.value) ws) o.second.place rs t → (6 * o.first.value ≤ length ws) → W (settled (normalize (map rule_of rs) t))) → Replies ks vs s ws o W
-  unfolding row_in table session_orders operations.operations
-  rules_replies is W h =
-      replies_as ks vs s ws o 20 operations.normalise refl is W (λ known fs x. let f = rules_view ks vs s ws known o fs x in rw f.2 (h f.0 f.1 f.3 f.4))
+      let g : FormedFields known (ruled f.0 ∷ tree f.1 ∷ []) = rw f.2 at x.formed in record {
+        patterns = f.0;
+        term = f.1;
+        answer = ap (operation operations.normalise) f.2;
+        normalises = record { rules = h.first.2; term = h.second; rules_formed = formed_patterns known f.0 g.0; term_formed = g.1.0.formed };
+        enough = h.first.1;
+      })
