@@ -7,7 +7,7 @@ use Prim.Native.Nat.{ℕ, zero, suc, ◌+◌, ◌*◌, ◌-◌, ◌^◌, ◌≤�
 use native.Mathlib.Omega.{arith}
 use Rattle.std.proofs.lemmas.Grind.{common_steps}
 use native.Mathlib.Decide.{ℕ_discrete}
-use borrow.Author.Tests.{le-leb, lt-leb, leb-true, leb-false, lt-ltb, le-ltb, ltb-true, eq-eqb, ne_eqb}
+use borrow.Author.Tests.{le-leb, lt-leb, leb-true, leb-false, lt-ltb, le-ltb, ltb-true, eq-eqb}
 use lib.Dec.{eqb, ltb}
 use lib.ListN.{length, get_or, drop, set, length-set}
 use lib.Seq.{length-take-le, take-set-le, take-set-lt, drop-set-lt, get_or-set_same, get_or-set_other}
@@ -16,8 +16,6 @@ use Rattle.terms.specs.Term.{Term, var, Held}
 use Rattle.unify.specs.Solver.{put, put_same, put_other}
 use Rattle.unify.specs.Term.{clash}
 use Rattle.solver.specs.declared.Solver.{Solver}
-use Rattle.solver.specs.declared.Defaulted.{Defaulted}
-use Rattle.solver.specs.declared.Defaulted.TheVariants.{Requested, Deferred}
 use Rattle.std.specs.Prelude.{Some, None}
 use Rattle.std.specs.declared.option.Option as rust
 use Rattle.solver.specs.declared.Site.{Site}
@@ -29,7 +27,7 @@ use Rattle.solver.specs.Invariant.{WithinLimits}
 use Rattle.solver.specs.Words.Bindings.{HeldBindings}
 use Rattle.solver.specs.Words.Worklist.{Zero}
 use Rattle.solver.specs.Words.SessionRepresentation.{limits_of, binding_words, request_words, place_words, site_words, slot_words, deferral_words, HeldRequest, HeldPlace, HeldPlaces, Unplaced, flag, free_words, Represents}
-use Rattle.solver.specs.Words.MethodContract.{Beside, matches, last_match, found, placing, placed, named_of, named_below, Issued, Replied, reply_of, resolved_reply, joined_word, Handed, never_word, default_word, end_word}
+use Rattle.solver.specs.Words.MethodContract.{Beside, matches, last_match, found, placing, placed, named_of, named_below, Issued, Replied, reply_of, resolved_reply, joined_word, Handed}
 use Rattle.solver.specs.Words.OrderTerms.{place_of, kind_word, site_word, slot_word}
 use Rattle.solver.proofs.Laws.Definition.InOrderLaws.{find_issued}
 use Rattle.solver.proofs.Laws.Resolving.BindingLaws.{bind_held}

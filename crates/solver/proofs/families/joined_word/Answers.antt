@@ -1,11 +1,9 @@
 -- `joined_word`.
-use mathlib.Core.Path.{ap₂, ◌∙◌}
-use Prim.Native.Nat.{ℕ, ◌+◌, ◌-◌, ◌*◌, ◌%◌}
 use native.Mathlib.Omega.{arith}
 use Rattle.std.proofs.lemmas.Grind.{common_steps}
 use Rattle.solver.specs.Words.MethodContract.{joined_word}
-use lib.Bits.{bit_and, and_le_l}
-use Rattle.solver.proofs.Laws.Table.RequestWordLaws.{mask_low, joined_plain, joined_ranged}
+use lib.Bits.{and_le_l}
+use Rattle.solver.proofs.Laws.Table.RequestWordLaws.{mask_low}
 use Rattle.solver.proofs.families.joined_word.Goals as goal
 
 pub returns-then-word-other-lt64 : goal.returns-then-word-other-lt64

@@ -8,7 +8,7 @@ pub returns-then-not-has_word : goal.returns-then-not-has_word
 returns-then-not-has_word c =
     let a = c.args in
     let w : a.issued ≡ LastOf a.site a.m a.tables.now a.issued a.issued =
-        search_none _ _ _ _ _ _ _ (omega arith) (λ v h e. c.has_word.ensures.none c.if-not-has_word.true v h (e ∙ sym c.words_of-words.ensures.1)) in
+    search_none _ _ _ _ _ _ _ (omega arith) (λ v h e. c.has_word.ensures.none c.if-not-has_word.true v h (e ∙ sym c.words_of-words.ensures.1)) in
     record { word = w; place = search_answer a.site a.m a.tables.now a.issued w }
 
 pub returns-then-is_place : goal.returns-then-is_place
@@ -16,7 +16,7 @@ returns-then-is_place c =
     let a = c.args in
     let l = c.loop-v in
     let w : l.v - 1 ≡ LastOf a.site a.m a.tables.now a.issued a.issued =
-        search_hit _ _ _ _ _ _ _ l.v l.invariant.0 (omega arith) (omega arith) (sym c.is_place.ensures ∙ c.if-is_place.true) in
+    search_hit _ _ _ _ _ _ _ l.v l.invariant.0 (omega arith) (omega arith) (sym c.is_place.ensures ∙ c.if-is_place.true) in
     record { word = w; place = search_answer a.site a.m a.tables.now a.issued w }
 
 pub loop-v-preserved : goal.loop-v-preserved
@@ -28,5 +28,5 @@ pub returns : goal.returns
 returns c =
     let a = c.args in
     let w : a.issued ≡ LastOf a.site a.m a.tables.now a.issued a.issued =
-        search_over _ _ _ a.m a.tables.now _ _ c.loop-v.v c.loop-v.invariant.0 (omega arith) in
+    search_over _ _ _ a.m a.tables.now _ _ c.loop-v.v c.loop-v.invariant.0 (omega arith) in
     record { word = w; place = search_answer a.site a.m a.tables.now a.issued w }
