@@ -28,7 +28,7 @@ use Rattle.solver.specs.Invariant.{WithinLimits}
 use Rattle.solver.specs.Words.Bindings.{HeldBindings}
 use Rattle.solver.specs.Words.Worklist.{Zero}
 use Rattle.solver.specs.Words.SessionRepresentation.{limits_of, binding_words, request_words, place_words, site_words, slot_words, deferral_words, HeldRequest, HeldPlace, HeldPlaces, Unplaced, flag, free_words, Represents}
-use Rattle.solver.specs.Words.MethodContract.{Beside, matches, last_match, found, placing, placed, named_of, named_below, Issued, Replied, reply_of, resolved_reply, joined_word, Handed, never_word, default_word, end_word}
+use Rattle.solver.specs.Words.MethodContract.{Beside, matches, last_match, found, placing, placed, named_of, named_below, Issued, Replied, reply_of, resolved_reply, joined_word, Handed, never_word, default_word}
 use Rattle.solver.specs.Words.OrderTerms.{place_of, kind_word, site_word, slot_word}
 use Rattle.solver.proofs.Laws.Definition.InOrderLaws.{find_issued}
 use Rattle.solver.proofs.Laws.Resolving.BindingLaws.{bind_held}
