@@ -304,3 +304,24 @@ module _ {ks vs : List ℕ} {a b : ℕ} (strict : Bool) where
       let e : f₀ ≡ notion strict k = ef ∙ free_is strict k (get_or ks a 0) (node_kind ks vs a k ps ha) in
       t ps qs (node_row ks vs a ae k ps ea ha) (node_row ks vs b be j qs eb hb)
       ∙ ap (λ (x : Bool). like_rows x ps qs) e ∙ sym (shape_node (notion strict) k ps qs) ∙ ap (λ (x : ℕ). same_shape (notion strict) (node k ps) (node x qs)) ek
+
+-- ---- two parts by their tokens
+
+module _ (f : Bool) (k v j w : ℕ) where
+  pub agree_term : (k ≡ 0 → ⊥) → not (eqb j 0) ≡ agree f k v j w
+  unfolding agree
+  agree_term h = rw (ne_eqb k 0 h)
+
+  module _ (h : k ≡ 0) where
+    pub agree_mixed : (j ≡ 0 → ⊥) → false ≡ agree f k v j w
+    unfolding agree
+    agree_mixed g = rw (h, ne_eqb j 0 g)
+
+    module _ (g : j ≡ 0) where
+      pub agree_free : f ≡ true → true ≡ agree f k v j w
+      unfolding agree
+      agree_free e = rw (h, g, e)
+
+      pub agree_number : f ≡ false → eqb v w ≡ agree f k v j w
+      unfolding agree
+      agree_number e = rw (h, g, e)

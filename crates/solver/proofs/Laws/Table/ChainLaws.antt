@@ -330,7 +330,7 @@ module _ (n : ℕ) (b : ℕ → Option Term) (S : Steady n b) (T : Topped n b) (
       let x = node_stays n k ps in
       (x.0, sym (T.tops t) ∙ ap (resolve n b) e ∙ x.1)
 
-module _ {x : Solver} {ks₀ vs₀ ts : List ℕ} {s : Session} (A : InOrder (issued s) s.solver) (L : Represents x ks₀ vs₀ ts s) where
+module _ (x : Solver) (ks₀ vs₀ ts : List ℕ) (s : Session) (A : InOrder (issued s) s.solver) (L : Represents x ks₀ vs₀ ts s) where
   -- every binding that is a variable is one of the table
   pub in_order_low : Low x.variables s.solver.bindings
   in_order_low v t e = go t (ordered_within (issued s) s.solver (in_order_ordered (issued s) s.solver A) v t e)
@@ -339,7 +339,8 @@ module _ {x : Solver} {ks₀ vs₀ ts : List ℕ} {s : Session} (A : InOrder (is
       go (var w) h = let f = L.fits.variables in omega (arith, var_within (issued s) w h)
       go (node k ps) h = tt
 
-  -- the term t, whose top is at q of areas that may be longer
+-- the term t, whose top is at q of areas that may be longer
+module _ {x : Solver} {ks₀ vs₀ ts : List ℕ} {s : Session} (A : InOrder (issued s) s.solver) (L : Represents x ks₀ vs₀ ts s) where
   module _ {ks vs : List ℕ} (t : Term) {q : ℕ} (h : Held ks vs q (follow x.revision s.solver.bindings t)) where
     atop : Held ks vs q (top s.solver t)
     atop = subst (λ (m : ℕ). Held ks vs q (follow m s.solver.bindings t)) L.revision h

@@ -5,7 +5,6 @@ use mathlib.Core.List.{List, [], ◌∷◌}
 use mathlib.Core.Option.{Option, none, some}
 use Prim.Native.Nat.{ℕ, zero, suc, ◌+◌, ◌*◌, ◌-◌, ◌^◌, ◌≤◌, ◌<◌}
 use native.Mathlib.Omega.{arith}
-use Rattle.std.proofs.lemmas.Grind.{common_steps}
 use native.Mathlib.Decide.{ℕ_discrete}
 use borrow.Author.Tests.{le-leb, lt-leb, leb-true, leb-false, lt-ltb, le-ltb, ltb-true, eq-eqb, ne_eqb}
 use lib.Dec.{eqb, ltb}
@@ -29,7 +28,7 @@ use Rattle.solver.specs.Invariant.{WithinLimits}
 use Rattle.solver.specs.Words.Bindings.{HeldBindings}
 use Rattle.solver.specs.Words.Worklist.{Zero}
 use Rattle.solver.specs.Words.SessionRepresentation.{limits_of, binding_words, request_words, place_words, site_words, slot_words, deferral_words, HeldRequest, HeldPlace, HeldPlaces, Unplaced, flag, free_words, Represents}
-use Rattle.solver.specs.Words.MethodContract.{Beside, matches, last_match, found, placing, placed, named_of, named_below, Issued, Replied, reply_of, resolved_reply, joined_word, Handed, never_word, default_word, end_word}
+use Rattle.solver.specs.Words.MethodContract.{Beside, matches, last_match, found, placing, placed, named_of, named_below, Issued, Replied, reply_of, resolved_reply, joined_word, Handed, never_word, default_word}
 use Rattle.solver.specs.Words.OrderTerms.{place_of, kind_word, site_word, slot_word}
 use Rattle.solver.proofs.Laws.Definition.InOrderLaws.{find_issued}
 use Rattle.solver.proofs.Laws.Resolving.BindingLaws.{bind_held}
@@ -120,10 +119,40 @@ pub place_held : (w : Site) (k s i : ℕ) → k ≡ kind_word w → s ≡ site_w
 place_held (Slot a b) k s i e f g = (e, f, g)
 place_held (Hole a) k s i e f g = (e, f, g)
 
--- another site, whatever the kind
-match_none : (kind site slot k s i : ℕ) → (s ≡ site → ⊥) → matches kind site slot k s i ≡ false
-unfolding matches
-match_none kind site slot k s i f = grind (arith, common_steps)
+-- by tests
+module _ (kind site slot k s i : ℕ) where
+  pub match_kind : (k ≡ kind → ⊥) → false ≡ matches kind site slot k s i
+  unfolding matches
+  match_kind e = rw (ne_eqb kind k (λ f. e (sym f)))
+
+  pub match_site : k ≡ kind → (s ≡ site → ⊥) → false ≡ matches kind site slot k s i
+  unfolding matches
+  match_site e f = rw (eq-eqb kind k (sym e), ne_eqb site s (λ g. f (sym g)))
+
+  -- another site, whatever the kind
+  match_none : (s ≡ site → ⊥) → matches kind site slot k s i ≡ false
+  match_none f = go (ℕ_discrete k kind)
+    where
+      go : Dec (k ≡ kind) → matches kind site slot k s i ≡ false
+      go (yes h) = sym (match_site h f)
+      go (no h) = sym (match_kind h)
+
+  pub match_hole : k ≡ kind → s ≡ site → kind ≡ 2 → true ≡ matches kind site slot k s i
+  unfolding matches
+  match_hole e f g = rw (eq-eqb kind k (sym e), eq-eqb site s (sym f), eq-eqb kind 2 g)
+
+  pub match_slot : k ≡ kind → s ≡ site → (kind ≡ 2 → ⊥) → eqb i slot ≡ matches kind site slot k s i
+  unfolding matches
+  match_slot e f g = rw (eq-eqb kind k (sym e), eq-eqb site s (sym f), ne_eqb kind 2 g) (go (ℕ_discrete i slot))
+    where
+      go : Dec (i ≡ slot) → eqb i slot ≡ eqb slot i
+      go (yes h) = eq-eqb i slot h ∙ sym (eq-eqb slot i (sym h))
+      go (no h) = ne_eqb i slot h ∙ sym (ne_eqb slot i (λ x. h (sym x)))
+
+  -- the words asked for are those of a place
+  pub match_place : (w : Site) → kind ≡ kind_word w → site ≡ site_word w → slot ≡ slot_word w → matches kind site slot k s i ≡ matches (kind_word w) (site_word w) (slot_word w) k s i
+  match_place w e f g =
+      ap (λ (x : ℕ). matches x site slot k s i) e ∙ ap (λ (x : ℕ). matches (kind_word w) x slot k s i) f ∙ ap (λ (x : ℕ). matches (kind_word w) (site_word w) x k s i) g
 
 -- one variable more was looked at
 module _ (kind site slot : ℕ) (ks ss is : List ℕ) (d n : ℕ) where
@@ -547,3 +576,22 @@ module _ (m v kind val : ℕ) (ts : List ℕ) where
         size = length-set ts (m + val) word;
         rest = drop-set-lt (7 * m) ts (m + val) word (omega arith);
       }
+
+-- ---- words that defaults go by
+
+module _ (which : Defaulted) (m : ℕ) (ts : List ℕ) (v : ℕ) where
+  pub default_none : which ≡ Deferred → get_or ts (5 * m + v) 0 ≡ 0 → 0 ≡ default_word which m ts v
+  unfolding default_word never_word
+  default_none b e = rw (b, e)
+
+  pub default_never : which ≡ Deferred → (get_or ts (5 * m + v) 0 ≡ 0 → ⊥) → 11 ≡ default_word which m ts v
+  unfolding default_word never_word
+  default_never b e = rw b (go (get_or ts (5 * m + v) 0) e)
+    where
+      go : (d : ℕ) → (d ≡ 0 → ⊥) → 11 ≡ never_word d
+      go zero n = absurd (n refl)
+      go (suc d) n = refl
+
+  pub default_request : which ≡ Requested → get_or ts (m + v) 0 ≡ default_word which m ts v
+  unfolding default_word
+  default_request b = rw b

@@ -348,6 +348,14 @@ put_held rs ws v word r h l a w = go (ℕ_discrete w v)
         subst (λ (x : Option Request). HeldRequest x (get_or (set ws v word) w 0)) (sym (put_other rs v (some r) w e))
         (subst (λ (x : ℕ). HeldRequest (rs w) x) (sym (get_or-set_other ws v w word 0 e)) (h w))
 
+-- order 1
+pub plain_held : (c : ℕ) → c < 32 → HeldRequest (some (requested c)) (c + 1)
+unfolding request_in
+plain_held c l = (
+  record { some = omega arith; mask = λ k. omega arith; most = omega arith },
+  rw (le-ltb 32 (c + 1) (omega arith)) (ap requested (let e : c ≡ c + 1 - 1 = omega arith in e)),
+)
+
 -- ---- order 21
 
 bit_first : (b : Bool) (m : ℕ) → bit (flag b + 2 * m) 0 ≡ b

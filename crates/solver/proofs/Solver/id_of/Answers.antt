@@ -1,6 +1,5 @@
 -- `Solver::id_of`. By the search.
 use mathlib.Core.Path.{sym, ◌∙◌}
-use Rattle.solver.specs.Words.OrderTerms.{place_of}
 use Rattle.solver.proofs.Laws.Table.MethodLaws.{placed_below, named_low}
 use Rattle.solver.proofs.Solver.id_of.Goals as goal
 

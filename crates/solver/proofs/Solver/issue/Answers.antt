@@ -2,7 +2,6 @@
 use mathlib.Core.Path.{refl, sym}
 use Prim.Native.Nat.{◌+◌, ◌*◌}
 use native.Mathlib.Omega.{arith}
-use Rattle.solver.specs.Words.OrderTerms.{place_of}
 use Rattle.solver.proofs.Laws.Table.MethodLaws.{place_held, beside_set, issued_found, issued_full, issued_new}
 use Rattle.solver.proofs.Solver.issue.Goals as goal
 

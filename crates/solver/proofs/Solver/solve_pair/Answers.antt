@@ -54,7 +54,7 @@ returns-then-ok-clause-solved c =
     let i = c.loop-count.invariant in
     let p = c.put_pair-count in
     λ s t u o L kp kq.
-    going_end (told_so (i.carries s _ (going_start o L c.requires.room.1 kp kq p.auto.tables p.ensures)) c.if-ok.true)
+    going_end (told_so {b = true} (i.carries s _ (going_start o L c.requires.room.1 kp kq p.auto.tables p.ensures)) c.if-ok.true)
     (counted_start p.auto.tables p.ensures i.counted) (omega (arith, c.loop-count-test.false))
 
 pub returns-clause-solved : goal.returns-clause-solved

@@ -1,17 +1,18 @@
 -- `default_word`. By the flag, and by the word of the deferral.
-use native.Mathlib.Omega.{arith}
-use Rattle.std.proofs.lemmas.Grind.{common_steps}
-use Rattle.solver.specs.Words.MethodContract.{default_word, never_word}
+use Rattle.solver.proofs.Laws.Table.MethodLaws.{default_none, default_never, default_request}
 use Rattle.solver.proofs.defaults.default_word.Goals as goal
 
 pub returns-then-tables-m-eq0 : goal.returns-then-tables-m-eq0
-unfolding default_word never_word
-returns-then-tables-m-eq0 c = grind (arith, common_steps)
+returns-then-tables-m-eq0 c =
+    let a = c.args in
+    default_none a.which a.m a.tables.now a.v c.in-Deferred.is c.if-tables-m-eq0.true
 
 pub returns-else-tables-m-eq0 : goal.returns-else-tables-m-eq0
-unfolding default_word never_word
-returns-else-tables-m-eq0 c = grind (arith, common_steps)
+returns-else-tables-m-eq0 c =
+    let a = c.args in
+    default_never a.which a.m a.tables.now a.v c.in-Deferred.is c.if-tables-m-eq0.false
 
 pub returns-in-Requested : goal.returns-in-Requested
-unfolding default_word never_word
-returns-in-Requested c = grind (arith, common_steps)
+returns-in-Requested c =
+    let a = c.args in
+    default_request a.which a.m a.tables.now a.v c.in-Requested.is

@@ -1,4 +1,5 @@
 -- `first_of`. By the tests up to the first that is met.
+use mathlib.Core.Path.{sym, ◌∙◌}
 use native.Mathlib.Omega.{arith}
 use Rattle.std.proofs.lemmas.Grind.{common_steps}
 use Rattle.solver.specs.Families.{code, first_of}
@@ -6,7 +7,7 @@ use Rattle.solver.proofs.defaults.first_of.Goals as goal
 
 pub returns-then-has : goal.returns-then-has
 unfolding code first_of
-returns-then-has c = grind (arith, common_steps)
+returns-then-has c = (λ f h. rw (h 2 ∙ sym c.has.ensures ∙ c.if-has.true), omega arith)
 
 pub returns-then-has-2 : goal.returns-then-has-2
 unfolding code first_of

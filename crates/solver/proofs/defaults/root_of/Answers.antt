@@ -1,9 +1,7 @@
 -- `root_of`. By whether the variable is bound, and by the token at the end of the chain.
-use mathlib.Core.Path.{sym, subst}
 use Prim.Native.Nat.{ℕ}
 use native.Mathlib.Omega.{arith}
 use mathlib.Core.Option.{Option}
-use lib.ListN.{length}
 use Rattle.terms.specs.Term.{Term, var, Held}
 use Rattle.solver.specs.Constrain.{follow}
 use Rattle.solver.specs.Words.Bindings.{HeldBindings}

@@ -1,17 +1,12 @@
 -- `family_mask`. By the three sorts of words.
-use native.Mathlib.Omega.{arith}
-use Rattle.std.proofs.lemmas.Grind.{common_steps}
-use Rattle.solver.specs.Words.MethodContract.{mask_in}
+use Rattle.solver.proofs.Laws.Table.RequestWordLaws.{mask_ranged, mask_floats, mask_integers}
 use Rattle.solver.proofs.families.family_mask.Goals as goal
 
 pub returns-then-word-gt32 : goal.returns-then-word-gt32
-unfolding mask_in
-returns-then-word-gt32 c = grind (arith, common_steps)
+returns-then-word-gt32 c = mask_ranged c.args.word c.if-word-gt32.true
 
 pub returns-then-word-eq10 : goal.returns-then-word-eq10
-unfolding mask_in
-returns-then-word-eq10 c = grind (arith, common_steps)
+returns-then-word-eq10 c = mask_floats c.args.word c.if-word-gt32.false c.if-word-eq10.true
 
 pub returns : goal.returns
-unfolding mask_in
-returns c = grind (arith, common_steps)
+returns c = mask_integers c.args.word c.if-word-gt32.false c.if-word-eq10.false

@@ -1,21 +1,15 @@
 -- `parts_agree`. By the kinds of the two tokens.
-use native.Mathlib.Omega.{arith}
-use Rattle.std.proofs.lemmas.Grind.{common_steps}
-use Rattle.solver.specs.Words.PendingContract.{agree}
+use Rattle.solver.proofs.Laws.Checks.RowsInStepLaws.{agree_term, agree_mixed, agree_free, agree_number}
 use Rattle.solver.proofs.pending.parts_agree.Goals as goal
 
 pub returns-then-tokens-i-ne0 : goal.returns-then-tokens-i-ne0
-unfolding agree
-returns-then-tokens-i-ne0 c = grind (arith, common_steps)
+returns-then-tokens-i-ne0 c = agree_term _ _ _ _ _ c.if-tokens-i-ne0.true
 
 pub returns-then-tokens-j-ne0 : goal.returns-then-tokens-j-ne0
-unfolding agree
-returns-then-tokens-j-ne0 c = grind (arith, common_steps)
+returns-then-tokens-j-ne0 c = agree_mixed _ _ _ _ _ c.if-tokens-i-ne0.false c.if-tokens-j-ne0.true
 
 pub returns-then-free : goal.returns-then-free
-unfolding agree
-returns-then-free c = grind (arith, common_steps)
+returns-then-free c = agree_free _ _ _ _ _ c.if-tokens-i-ne0.false c.if-tokens-j-ne0.false c.if-free.true
 
 pub returns : goal.returns
-unfolding agree
-returns c = grind (arith, common_steps)
+returns c = agree_number _ _ _ _ _ c.if-tokens-i-ne0.false c.if-tokens-j-ne0.false c.if-free.false

@@ -1,6 +1,5 @@
 -- `push_children`. Once, or for a nominal twice.
 use native.Mathlib.Omega.{arith}
-use lib.ListN.{length}
 use Rattle.solver.proofs.Laws.Checks.PushLaws.{room_all, room_drop, room_take, pushed_once, pushed_twice}
 use Rattle.solver.proofs.pending.push_children.Goals as goal
 

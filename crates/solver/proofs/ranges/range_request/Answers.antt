@@ -3,7 +3,6 @@ use native.Mathlib.Omega.{arith}
 use Rattle.std.proofs.lemmas.Grind.{common_steps}
 use Rattle.solver.specs.Families.{request_of}
 use mathlib.Core.Path.{sym, ◌∙◌}
-use Rattle.solver.specs.Words.MethodContract.{bound_of}
 use Rattle.solver.proofs.Laws.Table.RequestWordLaws.{range_none, range_held}
 use Rattle.solver.proofs.ranges.range_request.Goals as goal
 

@@ -4,8 +4,7 @@ use mathlib.Core.Bool.{Bool, ◌||◌}
 use Prim.Native.Nat.{suc, ◌+◌}
 use native.Mathlib.Omega.{arith}
 use lib.ListN.{get_or}
-use Rattle.terms.specs.Words.Tokens.{toks}
-use Rattle.solver.specs.Words.ReachContract.{counts, has}
+use Rattle.solver.specs.Words.ReachContract.{counts}
 use Rattle.solver.proofs.Laws.Resolving.WorklistLaws.{grown_none, grown_then, parts_long}
 use Rattle.solver.proofs.Laws.Resolving.AskLaws.{has_snoc, has_start}
 use Rattle.solver.proofs.Laws.Theory.TheoryView.{either}

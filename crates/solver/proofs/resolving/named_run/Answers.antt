@@ -1,13 +1,13 @@
 -- `named_run`. The length read is the term's span (`len_is`), where the arms of the test meet.
-use mathlib.Core.Path.{◌≡◌, sym, ap, ◌∙◌}
+use mathlib.Core.Path.{◌≡◌, sym, ◌∙◌}
 use Prim.Native.Nat.{◌-◌}
 use native.Mathlib.Omega.{arith}
 use Rattle.std.proofs.lemmas.Grind.{common_steps}
-use lib.ListN.{get_or, get_or-eq_default}
+use lib.ListN.{get_or}
 use Rattle.terms.specs.Words.Held.{span}
 use Rattle.terms.proofs.Laws.Held.HeldLaws.{span_one, span_node}
 use Rattle.solver.specs.Words.ResolveWalk.{run_len}
-use Rattle.solver.proofs.Laws.Resolving.FrameLaws.{run_none, run_at, run_past}
+use Rattle.solver.proofs.Laws.Resolving.FrameLaws.{run_at, run_past}
 use Rattle.solver.proofs.resolving.named_run.Goals.{then-tokens-at-ge2, else-tokens-at-ge2}
 use Rattle.solver.proofs.resolving.named_run.Goals as goal
 use Rattle.solver.proofs.resolving.named_run.Goals.{Joined-tokens-at-ge2}

@@ -1,10 +1,7 @@
-use mathlib.Core.List.{[]}
 use mathlib.Core.Path.{sym, ◌∙◌}
 use Prim.Native.Nat.{◌+◌, ◌-◌}
 use native.Mathlib.Omega.{arith}
 use lib.ListN.{length-set}
-use Rattle.terms.specs.Words.Tokens.{one}
-use Rattle.solver.specs.Words.ResolveWalk.{walk}
 use Rattle.solver.proofs.Laws.Resolving.FrameLaws.{entered_open, steps_pop, steps_into, rest_pop, rest_over, rest_leaf, rest_into, sound_push, sound_pop, apart_push, bare_push, bare_pop}
 use Rattle.solver.proofs.resolving.settle.Goals as goal
 

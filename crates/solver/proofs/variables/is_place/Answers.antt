@@ -1,21 +1,28 @@
 -- `is_place`. By tests.
-use native.Mathlib.Omega.{arith}
-use Rattle.std.proofs.lemmas.Grind.{common_steps}
-use Rattle.solver.specs.Words.MethodContract.{matches}
+use mathlib.Core.Path.{◌∙◌}
+use Rattle.solver.proofs.Laws.Table.MethodLaws.{match_kind, match_site, match_hole, match_slot, match_place}
 use Rattle.solver.proofs.variables.is_place.Goals as goal
 
 pub returns-then-k-kind : goal.returns-then-k-kind
-unfolding matches
-returns-then-k-kind c = grind (arith, common_steps)
+returns-then-k-kind c =
+    let a = c.args in
+    let w = c.words_of-kind.ensures in
+    match_kind _ _ _ a.k a.s a.i c.if-k-kind.true ∙ match_place _ _ _ a.k a.s a.i a.site w.0 w.1 w.2
 
 pub returns-then-s-of : goal.returns-then-s-of
-unfolding matches
-returns-then-s-of c = grind (arith, common_steps)
+returns-then-s-of c =
+    let a = c.args in
+    let w = c.words_of-kind.ensures in
+    match_site _ _ _ a.k a.s a.i c.if-k-kind.false c.if-s-of.true ∙ match_place _ _ _ a.k a.s a.i a.site w.0 w.1 w.2
 
 pub returns-then-kind-eq2 : goal.returns-then-kind-eq2
-unfolding matches
-returns-then-kind-eq2 c = grind (arith, common_steps)
+returns-then-kind-eq2 c =
+    let a = c.args in
+    let w = c.words_of-kind.ensures in
+    match_hole _ _ _ a.k a.s a.i c.if-k-kind.false c.if-s-of.false c.if-kind-eq2.true ∙ match_place _ _ _ a.k a.s a.i a.site w.0 w.1 w.2
 
 pub returns : goal.returns
-unfolding matches
-returns c = grind (arith, common_steps)
+returns c =
+    let a = c.args in
+    let w = c.words_of-kind.ensures in
+    match_slot _ _ _ a.k a.s a.i c.if-k-kind.false c.if-s-of.false c.if-kind-eq2.false ∙ match_place _ _ _ a.k a.s a.i a.site w.0 w.1 w.2
