@@ -82,11 +82,11 @@ pub enum TermlessOrder {
     NoType,
 }
 
-// The counters after an order, and the position after its answer: past the end of the output where it does not fit.
+// The counters after an order, and the position after its answer: None where it does not fit.
 #[derive(Clone, Copy)]
 pub struct AfterOrder {
     pub solver: Solver,
-    pub next: usize,
+    pub next: Option<usize>,
 }
 
 // What a run returns: why it ended, how many orders it answered, and how many bytes it wrote.

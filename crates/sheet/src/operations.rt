@@ -34,7 +34,7 @@ fn bit(b: bool) -> u8
 }
 
 // Order 11.
-fn recovered(tokens: &Tokens, a: usize, b: usize, out: &mut [u8], to: usize) -> usize
+fn recovered(tokens: &Tokens, a: usize, b: usize, out: &mut [u8], to: usize) -> Option<usize>
     requires areas { length tokens.now.kinds.now ≤ 32768 }
     requires terms { (t : Term) × (u : Term) × Two tokens.now.kinds.now tokens.now.vals.now a b t u }
     requires room { OutputRoom out.old to }
@@ -42,15 +42,19 @@ fn recovered(tokens: &Tokens, a: usize, b: usize, out: &mut [u8], to: usize) -> 
         → Framed (outcome (bytes (recover_from t u))) out.old to out.new result }
 {
     let size = recovered_len(tokens, a, b);
-    let at = begin_answer(out, to, size);
-    if out.len() < at {
-        return at;
-    }
-    write_recovered(tokens, a, b, out, at)
+    let at = begin_answer(out, to, size)?;
+    Some(write_recovered(tokens, a, b, out, at))
 }
 
 // Orders 12, 13 and 14: the term with its binders replaced.
-fn rewritten(s: &[u8], tokens: &Tokens, b: Binders, from: usize, out: &mut [u8], to: usize) -> usize
+fn rewritten(
+    s: &[u8],
+    tokens: &Tokens,
+    b: Binders,
+    from: usize,
+    out: &mut [u8],
+    to: usize,
+) -> Option<usize>
     requires areas { length tokens.now.kinds.now ≤ 32768 }
     requires ready { Ready tokens.now.kinds.now tokens.now.vals.now b }
     requires place { from < length tokens.now.kinds.now }
@@ -59,11 +63,8 @@ fn rewritten(s: &[u8], tokens: &Tokens, b: Binders, from: usize, out: &mut [u8],
         (λ x. Framed (outcome x) out.old to out.new result) }
 {
     let size = write_term(tokens, s, b, from, out, 0, false);
-    let at = begin_answer(out, to, size);
-    if out.len() < at {
-        return at;
-    }
-    write_term(tokens, s, b, from, out, at, true)
+    let at = begin_answer(out, to, size)?;
+    Some(write_term(tokens, s, b, from, out, at, true))
 }
 
 // Order 18: the same after a 1; or a 0, where the arguments are not as many as the parameters.
@@ -75,7 +76,7 @@ fn applied(
     from: usize,
     out: &mut [u8],
     to: usize,
-) -> usize
+) -> Option<usize>
     requires areas { length tokens.now.kinds.now ≤ 32768 }
     requires ready { Ready tokens.now.kinds.now tokens.now.vals.now b }
     requires place { from < length tokens.now.kinds.now }
@@ -88,12 +89,9 @@ fn applied(
         return write_byte_answer(out, to, 0);
     }
     let size = write_term(tokens, s, b, from, out, 0, false);
-    let at = begin_answer(out, to, size + 1);
-    if out.len() < at {
-        return at;
-    }
+    let at = begin_answer(out, to, size + 1)?;
     out[at] = 1;
-    write_term(tokens, s, b, from, out, at + 1, true)
+    Some(write_term(tokens, s, b, from, out, at + 1, true))
 }
 
 // One of the seven questions; a term is concrete where the question finds nothing.
@@ -110,7 +108,7 @@ fn question(s: &[u8], tokens: &Tokens, p: usize, q: Question) -> u8
 }
 
 // Order 15: the seven questions.
-fn asked(s: &[u8], tokens: &Tokens, p: usize, out: &mut [u8], to: usize) -> usize
+fn asked(s: &[u8], tokens: &Tokens, p: usize, out: &mut [u8], to: usize) -> Option<usize>
     requires place { p < length tokens.now.kinds.now }
     requires term { FormedAt tokens.now.kinds.now tokens.now.vals.now p }
     requires room { OutputRoom out.old to }
@@ -136,7 +134,7 @@ fn settled(
     r: Result<solver::Ready, Unfinished>,
     out: &mut [u8],
     to: usize,
-) -> usize
+) -> Option<usize>
     requires room { OutputRoom out.old to }
     requires leaves { (hs : List ℕ) × (cs : List ℕ) × Leaves tokens.now.kinds.now tokens.now.vals.now hs cs heads.old kids.old most r }
     requires answers { (o : Out) × Answers tokens.now.kinds.now tokens.now.vals.now heads.old kids.old out.old to levels most o r }
@@ -148,15 +146,14 @@ fn settled(
 {
     match r {
         Err(Unfinished::TooMany) => write_refusal(out, to, 9),
-        Err(Unfinished::TooLong) => out.len() + 1,
+        Err(Unfinished::TooLong) => None,
         Ok(w) => {
             let size = w.size;
-            let at = begin_answer(out, to, size);
-            if out.len() < at {
+            let Some(at) = begin_answer(out, to, size) else {
                 clear_tokens(heads, kids, 0, w.next);
-                return at;
-            }
-            write_normalised(tokens, heads, kids, w, out, at)
+                return None;
+            };
+            Some(write_normalised(tokens, heads, kids, w, out, at))
         }
     }
 }
@@ -171,7 +168,7 @@ fn associated(
     owner: usize,
     out: &mut [u8],
     to: usize,
-) -> usize
+) -> Option<usize>
     requires lends { Lends tokens.now.kinds.now tokens.now.vals.now heads.old kids.old most }
     requires places { (p < length tokens.now.kinds.now) × (interface < length tokens.now.kinds.now) × (owner < length tokens.now.kinds.now) }
     requires room { OutputRoom out.old to }
@@ -202,7 +199,7 @@ fn normalised(
     p: usize,
     out: &mut [u8],
     to: usize,
-) -> usize
+) -> Option<usize>
     requires lends { Lends tokens.now.kinds.now tokens.now.vals.now heads.old kids.old most }
     requires place { p < length tokens.now.kinds.now }
     requires few { length rules.now < 4294967296 }
@@ -217,7 +214,7 @@ fn normalised(
 }
 
 // Orders 9, 10 and 11: two terms.
-fn compare(tokens: &Tokens, o: Order, out: &mut [u8], to: usize) -> usize
+fn compare(tokens: &Tokens, o: Order, out: &mut [u8], to: usize) -> Option<usize>
     requires areas { length tokens.now.kinds.now ≤ 32768 }
     requires asks { (s : List ℕ) × (ws : List ℕ) × Asks tokens.now.kinds.now tokens.now.vals.now s ws (9 ∷ 10 ∷ 11 ∷ []) o }
     requires room { OutputRoom out.old to }
@@ -237,7 +234,7 @@ fn compare(tokens: &Tokens, o: Order, out: &mut [u8], to: usize) -> usize
 }
 
 // Orders 12, 13 and 14: a term and what takes the place of its binders.
-fn substitute(s: &[u8], tokens: &Tokens, o: Order, out: &mut [u8], to: usize) -> usize
+fn substitute(s: &[u8], tokens: &Tokens, o: Order, out: &mut [u8], to: usize) -> Option<usize>
     requires areas { length tokens.now.kinds.now ≤ 32768 }
     requires asks { (ws : List ℕ) × Asks tokens.now.kinds.now tokens.now.vals.now s.now ws (12 ∷ 13 ∷ 14 ∷ []) o }
     requires room { OutputRoom out.old to }
@@ -261,7 +258,7 @@ fn substitute(s: &[u8], tokens: &Tokens, o: Order, out: &mut [u8], to: usize) ->
 }
 
 // Orders 15, 16 and 17: questions.
-fn inquire(s: &[u8], tokens: &Tokens, o: Order, out: &mut [u8], to: usize) -> usize
+fn inquire(s: &[u8], tokens: &Tokens, o: Order, out: &mut [u8], to: usize) -> Option<usize>
     requires areas { length tokens.now.kinds.now ≤ 32768 }
     requires asks { (ws : List ℕ) × Asks tokens.now.kinds.now tokens.now.vals.now s.now ws (15 ∷ 16 ∷ 17 ∷ []) o }
     requires room { OutputRoom out.old to }
@@ -285,7 +282,7 @@ fn inquire(s: &[u8], tokens: &Tokens, o: Order, out: &mut [u8], to: usize) -> us
 }
 
 // Order 18: a family's value, for a substitution and arguments.
-fn apply_family(s: &[u8], tokens: &Tokens, o: Order, out: &mut [u8], to: usize) -> usize
+fn apply_family(s: &[u8], tokens: &Tokens, o: Order, out: &mut [u8], to: usize) -> Option<usize>
     requires areas { length tokens.now.kinds.now ≤ 32768 }
     requires asks { (ws : List ℕ) × Asks tokens.now.kinds.now tokens.now.vals.now s.now ws (18 ∷ []) o }
     requires room { OutputRoom out.old to }
@@ -310,7 +307,7 @@ fn reduce(
     o: Order,
     out: &mut [u8],
     to: usize,
-) -> usize
+) -> Option<usize>
     requires lends { Lends tokens.now.kinds.now tokens.now.vals.now heads.old kids.old most }
     requires asks { (s : List ℕ) × Asks tokens.now.kinds.now tokens.now.vals.now s rules.now (19 ∷ 20 ∷ []) o }
     requires few { length rules.now < 4294967296 }
@@ -339,7 +336,7 @@ pub fn operate(
     o: Order,
     out: &mut [u8],
     to: usize,
-) -> usize
+) -> Option<usize>
     requires lends { Lends tokens.now.kinds.now tokens.now.vals.now heads.old kids.old most }
     requires asks { Asks tokens.now.kinds.now tokens.now.vals.now s.now rules.now (numbers_of operations) o }
     requires few { length rules.now < 4294967296 }

@@ -57,11 +57,11 @@ fn answer_orders(
         };
         let bytes = order_at(s, from, size);
         let r = serve_order(x, half, bytes, a, b, c, d, out, to);
-        if out.len() < r.next {
+        let Some(next) = r.next else {
             return closed(11, orders, to, r.solver);
-        }
+        };
         x = r.solver;
-        to = r.next;
+        to = next;
         orders += 1;
         at = from + size;
     }

@@ -25,7 +25,7 @@ use Rattle.solver.proofs.Terms.NormalLaws.{refused_number, few_number, long_numb
 use Rattle.solver.specs.declared.Ready.{Ready}
 use Rattle.solver.specs.declared.Unfinished.{Unfinished}
 use Rattle.solver.specs.declared.Unfinished.TheVariants.{TooMany, TooLong}
-use Rattle.std.specs.Prelude.{Result, Ok, Err}
+use Rattle.std.specs.Prelude.{Option, Some, None, Result, Ok, Err}
 use Rattle.sheet.specs.OrderTable.{Answer, refusal, outcome}
 use Rattle.sheet.specs.Operations.{bit, bits, seven, perhaps, settled}
 use Rattle.sheet.specs.Words.FramingContract.{Framed, opening, Begun}
@@ -34,10 +34,10 @@ use Rattle.sheet.proofs.Laws.Answering.FramingLaws.{value_frame, frame_over, val
 
 -- ---- in the places of equals
 
-pub frame_as : (a b : Answer) → a ≡ b → (out₀ : List ℕ) (to : ℕ) (out : List ℕ) (r : ℕ) → Framed a out₀ to out r → Framed b out₀ to out r
+pub frame_as : (a b : Answer) → a ≡ b → (out₀ : List ℕ) (to : ℕ) (out : List ℕ) (r : Option ℕ) → Framed a out₀ to out r → Framed b out₀ to out r
 frame_as a b e out₀ to out r x = rw e at x
 
-pub frame_from : (a : Answer) (out₁ out₀ : List ℕ) → out₁ ≡ out₀ → (to : ℕ) (out : List ℕ) (r : ℕ) → Framed a out₁ to out r → Framed a out₀ to out r
+pub frame_from : (a : Answer) (out₁ out₀ : List ℕ) → out₁ ≡ out₀ → (to : ℕ) (out : List ℕ) (r : Option ℕ) → Framed a out₁ to out r → Framed a out₀ to out r
 frame_from a out₁ out₀ e to out r x = rw e at x
 
 pub one_byte : (a b : ℕ) → a ≡ b → outcome (a ∷ []) ≡ outcome (b ∷ [])
@@ -75,28 +75,29 @@ module _ (ks vs s : List ℕ) (b : Binders) (a : ℕ) where
   }
 
 -- x was counted, an opening made for it, and it was written or did not fit
-module _ (out₀ out₁ : List ℕ) (n to : ℕ) (out₂ : List ℕ) (at : ℕ) (x : List ℕ) (c : Writes false out₀ 0 n out₁ x) where
-  pub counted_over : Begun n out₁ to out₂ at → length out₁ < at → Framed (outcome x) out₀ to out₂ at
-  counted_over y h =
+module _ (out₀ out₁ : List ℕ) (n to : ℕ) (out₂ : List ℕ) (x : List ℕ) (c : Writes false out₀ 0 n out₁ x) where
+  pub counted_over : Begun n out₁ to out₂ None → Framed (outcome x) out₀ to out₂ None
+  counted_over y =
       let e : out₁ ≡ out₀ = c.wrote in
-      frame_from (outcome x) out₁ out₀ e to out₂ at (value_over x n (omega (arith, c.next)) out₁ to out₂ at y h)
+      frame_from (outcome x) out₁ out₀ e to out₂ None (value_over x n (omega (arith, c.next)) out₁ to out₂ y)
 
-  pub counted_in : Begun n out₁ to out₂ at → at ≤ length out₁ → (out : List ℕ) (r : ℕ) → Writes true out₂ at r out x → Framed (outcome x) out₀ to out r
-  counted_in y h out r w =
+  pub counted_in : (at : ℕ) → Begun n out₁ to out₂ (Some at) → (out : List ℕ) (r : ℕ) → Writes true out₂ at r out x → Framed (outcome x) out₀ to out (Some r)
+  counted_in at y out r w =
       let e : out₁ ≡ out₀ = c.wrote in
-      frame_from (outcome x) out₁ out₀ e to out r (value_in x n (omega (arith, c.next)) out₁ to out₂ at y h out r w.next w.wrote)
+      frame_from (outcome x) out₁ out₀ e to out (Some r) (value_in x n (omega (arith, c.next)) out₁ to out₂ at y out r w.next w.wrote)
 
   -- the same after a 1
-  pub one_over : Begun (n + 1) out₁ to out₂ at → length out₁ < at → Framed (outcome (1 ∷ x)) out₀ to out₂ at
-  one_over y h =
+  pub one_over : Begun (n + 1) out₁ to out₂ None → Framed (outcome (1 ∷ x)) out₀ to out₂ None
+  one_over y =
       let e : out₁ ≡ out₀ = c.wrote in
-      frame_from (outcome (1 ∷ x)) out₁ out₀ e to out₂ at (value_over (1 ∷ x) (n + 1) (omega (arith, c.next)) out₁ to out₂ at y h)
+      frame_from (outcome (1 ∷ x)) out₁ out₀ e to out₂ None (value_over (1 ∷ x) (n + 1) (omega (arith, c.next)) out₁ to out₂ y)
 
-  pub one_in : Begun (n + 1) out₁ to out₂ at → at ≤ length out₁ → (out : List ℕ) (r : ℕ) → Writes true (set out₂ at 1) (at + 1) r out x → Framed (outcome (1 ∷ x)) out₀ to out r
-  one_in y h out r w =
+  pub one_in : (at : ℕ) → Begun (n + 1) out₁ to out₂ (Some at) → (out : List ℕ) (r : ℕ) → Writes true (set out₂ at 1) (at + 1) r out x
+      → Framed (outcome (1 ∷ x)) out₀ to out (Some r)
+  one_in at y out r w =
       let e : out₁ ≡ out₀ = c.wrote in
       let f : out ≡ sets out₂ at (1 ∷ x) = w.wrote ∙ ap (λ (k : ℕ). sets (set out₂ at 1) k x) (add-one at) in
-      frame_from (outcome (1 ∷ x)) out₁ out₀ e to out r (value_in (1 ∷ x) (n + 1) (omega (arith, c.next)) out₁ to out₂ at y h out r (omega (arith, w.next)) f)
+      frame_from (outcome (1 ∷ x)) out₁ out₀ e to out (Some r) (value_in (1 ∷ x) (n + 1) (omega (arith, c.next)) out₁ to out₂ at y out r (omega (arith, w.next)) f)
 
 -- whether there is a term
 pub apply_none : (ps : List Parameter) (t : Term) (es : List Entry) (rs : List Receiver) (ts : List Term) → (length ts ≡ length ps → ⊥) → perhaps (apply ps t (record { parameters = es; receivers = rs }) ts) ≡ 0 ∷ []
@@ -154,9 +155,9 @@ unfolding settled
 settled_term o h = rw (le-ltb most o.count h)
 
 -- a value that alone does not fit
-pub value_long : (v out : List ℕ) (to : ℕ) → length out < to + length v → Framed (outcome v) out to out (length out + 1)
+pub value_long : (v out : List ℕ) (to : ℕ) → length out < to + length v → Framed (outcome v) out to out None
 value_long v out to h =
-    frame_over (outcome v) (opening (length v) ++ v) (value_frame v) out to out (length out + 1) (omega (arith, length-append (opening (length v)) v)) refl refl
+    frame_over (outcome v) (opening (length v) ++ v) (value_frame v) out to out (omega (arith, length-append (opening (length v)) v)) refl
 
 -- the answers
 module _ (ks vs hs cs out₀ : List ℕ) (to : ℕ) (r : Result Ready Unfinished) (o : Out) (x : Answers ks vs hs cs out₀ to levels most o r) where
@@ -169,10 +170,10 @@ module _ (ks vs hs cs out₀ : List ℕ) (to : ℕ) (r : Result Ready Unfinished
   pub answers_many : r ≡ Err TooMany → refusal 9 ≡ settled o
   answers_many e = settled_refused o (refused_number most (length out₀) to o (number_is 9 (ap answer_number e)))
 
-  pub answers_long : r ≡ Err TooLong → Framed (settled o) out₀ to out₀ (length out₀ + 1)
+  pub answers_long : r ≡ Err TooLong → Framed (settled o) out₀ to out₀ None
   answers_long e =
       let l = long_number most (length out₀) to o (number_is 11 (ap answer_number e)) in
-      frame_as (outcome (bytes o.term)) (settled o) (settled_term o (few_as 11 (ap answer_number e) (eqb-false 9 11 refl))) out₀ to out₀ (length out₀ + 1) (value_long (bytes o.term) out₀ to l)
+      frame_as (outcome (bytes o.term)) (settled o) (settled_term o (few_as 11 (ap answer_number e) (eqb-false 9 11 refl))) out₀ to out₀ None (value_long (bytes o.term) out₀ to l)
 
   pub answers_done : (w : Ready) → r ≡ Ok w → (o.count ≤ most) × (w.size ≡ length (bytes o.term)) × Stands ks vs hs cs w levels o.term
   answers_done w e =

@@ -8,7 +8,7 @@ use Rattle.sheet.proofs.framing.write_refusal.Goals as goal
 pub returns-then-out-to-lt2 : goal.returns-then-out-to-lt2
 returns-then-out-to-lt2 c =
     let a = c.args in
-    frame_over (refusal a.c) _ (refusal_frame a.c) a.out.now a.to _ _ (omega arith) refl refl
+    frame_over (refusal a.c) _ (refusal_frame a.c) a.out.now a.to _ (omega arith) refl
 
 pub returns : goal.returns
 returns c =
