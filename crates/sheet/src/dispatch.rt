@@ -21,8 +21,8 @@ use super::order_reader::{clear_order, read_order};
 use super::order_table::is_operation;
 use super::plain_orders::{termless_of, termless_order};
 use super::term_orders::{constrain_order, defer_term, resolve_term};
-use super::{AfterOrder, Order};
-use solver::{Access, Solver, Tokens, refusal_number};
+use super::{AfterOrder, Order, OrderRefusal};
+use solver::{Access, Refusal, Solver, Tokens};
 
 // Orders 9 to 20: the session stays as it was.
 fn operate_order(
@@ -240,7 +240,7 @@ fn answer_order(
 {
     let n = x.standing();
     if n.nodes < o.nodes {
-        let next = write_refusal(out, to, 7);
+        let next = write_refusal(out, to, OrderRefusal::Common(Refusal::Nodes));
         return AfterOrder { solver: x, next };
     }
     let k = o.kind;
@@ -289,7 +289,7 @@ fn serve_with(
             w
         }
         Err(refusal) => {
-            let next = write_refusal(out, to, refusal_number(refusal));
+            let next = write_refusal(out, to, OrderRefusal::Common(refusal));
             AfterOrder { solver: x, next }
         }
     }

@@ -3,20 +3,21 @@
 ghost use Rattle.std.specs.Prelude.{length, [], ◌∷◌};
 ghost use Rattle.solver.specs.Terms.Number.{shortest};
 ghost use Rattle.sheet.specs.OrderTable.{refusal, outcome};
-ghost use Rattle.sheet.specs.Words.FramingContract.{OutputRoom, Framed, Begun};
+ghost use Rattle.sheet.specs.Words.FramingContract.{OutputRoom, Framed, Begun, order_refusal};
 
+use super::OrderRefusal;
 use solver::{number_len, write_number};
 
 // A refusal.
-pub fn write_refusal(out: &mut [u8], to: usize, c: u8) -> Option<usize>
+pub fn write_refusal(out: &mut [u8], to: usize, why: OrderRefusal) -> Option<usize>
     requires { OutputRoom out.old to }
-    ensures { Framed (refusal c) out.old to out.new result }
+    ensures { Framed (refusal (order_refusal why)) out.old to out.new result }
 {
     if out.len() - to < 2 {
         return None;
     }
     out[to] = 1;
-    out[to + 1] = c;
+    out[to + 1] = u8::from(why);
     Some(to + 2)
 }
 

@@ -15,7 +15,7 @@ mod starting;
 mod term_orders;
 
 pub use running::run_sheet;
-use solver::{Defaulted, Solver};
+use solver::{Defaulted, Refusal, Solver, refusal_number};
 
 // What an order does: it is told to the session, or it leaves the session as it was.
 #[derive(Clone, Copy, Debug, PartialEq, Eq)]
@@ -80,6 +80,27 @@ pub enum TermlessOrder {
     Defaults(Defaulted),
     Revision,
     NoType,
+}
+
+// Why an order is refused: as the terms and the solver refuse it, or because no type lies within its bounds.
+#[derive(Clone, Copy, Debug, PartialEq, Eq)]
+pub enum OrderRefusal {
+    Common(Refusal),
+    NoType,
+}
+
+impl From<OrderRefusal> for u8 {
+    ghost use Rattle.std.specs.Prelude.{◌≡◌};
+    ghost use Rattle.sheet.specs.Words.FramingContract.{order_refusal};
+
+    ghost from_gives = { λ why number. number ≡ order_refusal why };
+
+    fn from(why: OrderRefusal) -> u8 {
+        match why {
+            OrderRefusal::Common(common) => refusal_number(common),
+            OrderRefusal::NoType => 13,
+        }
+    }
 }
 
 // The counters after an order, and the position after its answer: None where it does not fit.

@@ -18,12 +18,12 @@ ghost use Rattle.sheet.specs.Operations.{bit, seven, perhaps, settled, rule_of, 
 ghost use Rattle.sheet.specs.Words.FramingContract.{OutputRoom, Framed};
 ghost use Rattle.sheet.specs.Words.OperationsContract.{numbers_of, Asks, Replies, Two, Applies, Associates, Normalises};
 
-use super::Order;
 use super::framing::{begin_answer, write_byte_answer, write_bytes_answer, write_refusal};
+use super::{Order, OrderRefusal};
 use solver::{
-    Binders, Question, Tokens, Unfinished, ask, can_weaken_to, clear_tokens, conflicts_with,
-    context, family, instantiation, normalise, recovered_len, satisfies, satisfies_for, self_only,
-    with_associated_types, write_normalised, write_recovered, write_term,
+    Binders, Question, Refusal, Tokens, Unfinished, ask, can_weaken_to, clear_tokens,
+    conflicts_with, context, family, instantiation, normalise, recovered_len, satisfies,
+    satisfies_for, self_only, with_associated_types, write_normalised, write_recovered, write_term,
 };
 
 // The byte of a truth value.
@@ -145,7 +145,7 @@ fn settled(
         out.old to levels most o r → Framed (settled o) out.old to out.new result }
 {
     match r {
-        Err(Unfinished::TooMany) => write_refusal(out, to, 9),
+        Err(Unfinished::TooMany) => write_refusal(out, to, OrderRefusal::Common(Refusal::Children)),
         Err(Unfinished::TooLong) => None,
         Ok(w) => {
             let size = w.size;

@@ -20,10 +20,10 @@ ghost use Rattle.sheet.specs.Words.SessionOrdersContract.{lent, Does, Says, vari
 ghost use Rattle.sheet.specs.Words.SessionOrdersContract.{variable_answer, termless_command, TermlessTold};
 
 use super::framing::{begin_answer, write_byte_answer, write_number_answer, write_refusal};
-use super::{AfterOrder, FieldSpot, Order, TermlessOrder, VariableOrder};
+use super::{AfterOrder, FieldSpot, Order, OrderRefusal, TermlessOrder, VariableOrder};
 use solver::{
-    Bound, Defaulted, Site, Solver, Subject, Tokens, plain_request, range_request, variable_len,
-    write_variable,
+    Bound, Defaulted, Refusal, Site, Solver, Subject, Tokens, plain_request, range_request,
+    variable_len, write_variable,
 };
 
 // Whether the revision is another, as a byte.
@@ -188,7 +188,7 @@ fn variable_order(
         (solve (limits_of x) z (variable_command wanted)) (output_at out.old to) (written_to out.new result.next) }
 {
     let Some(v) = x.id_of(tables, site_of(wanted)) else {
-        let next = write_refusal(out, to, 8);
+        let next = write_refusal(out, to, OrderRefusal::Common(Refusal::Variables));
         return AfterOrder { solver: x, next };
     };
     let next = answer_variable(x, tokens, tables, frames, wanted, v, out, to);
@@ -296,7 +296,7 @@ pub fn termless_order(
         TermlessOrder::Defaults(which) => default_order(x, which, tokens, tables, out, to),
         TermlessOrder::Revision => revision_order(x, out, to),
         TermlessOrder::NoType => {
-            let next = write_refusal(out, to, 13);
+            let next = write_refusal(out, to, OrderRefusal::NoType);
             AfterOrder { solver: x, next }
         }
     }

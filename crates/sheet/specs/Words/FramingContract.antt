@@ -2,6 +2,9 @@
 use Rattle.std.specs.Prelude.{Option, Some, None, ◌≡◌, List, [], ◌∷◌, ◌++◌, ℕ, suc, ◌+◌, ◌≤◌, ◌<◌, length}
 use Rattle.std.proofs.lemmas.List.Edits.{sets}
 use Rattle.solver.specs.Terms.Number.{shortest}
+use Rattle.solver.specs.Terms.Result.{number_of}
+use Rattle.sheet.specs.declared.OrderRefusal.{OrderRefusal}
+use Rattle.sheet.specs.declared.OrderRefusal.TheVariants.{Common, NoType}
 use Rattle.sheet.specs.OrderTable.{Answer}
 use Rattle.sheet.specs.Sheet.{framed}
 
@@ -31,6 +34,11 @@ pub record OutputRoom (out : List ℕ) (to : ℕ) : Type 0 where
 pub record Written (x out₀ : List ℕ) (to : ℕ) (out : List ℕ) (r : Option ℕ) : Type 0 where
   pub fits : to + length x ≤ length out₀ → (r ≡ Some (to + length x)) × (out ≡ sets out₀ to x)
   pub over : length out₀ < to + length x → (r ≡ None) × (out ≡ out₀)
+
+-- document 01's number for why an order is refused
+abbrev pub order_refusal : OrderRefusal → ℕ
+order_refusal (Common why) = number_of why
+order_refusal NoType = 13
 
 -- an answer
 abbrev pub Framed : Answer → (out₀ : List ℕ) (to : ℕ) (out : List ℕ) (r : Option ℕ) → Type 0
