@@ -14,7 +14,7 @@ ghost use Rattle.solver.specs.Terms.Lookup.{Pattern};
 ghost use Rattle.solver.specs.Terms.Normal.{Out, normalize, with_associated_types, levels, most};
 ghost use Rattle.solver.specs.Terms.NormalContract.{Answers, Leaves, Lends, RuledAt, OwnedAt};
 ghost use Rattle.sheet.specs.OrderTable.{outcome};
-ghost use Rattle.sheet.specs.Operations.{bit, seven, perhaps, settled, rule_of, operations};
+ghost use Rattle.sheet.specs.Operations.{seven, perhaps, settled, rule_of, operations};
 ghost use Rattle.sheet.specs.Words.FramingContract.{OutputRoom, Framed};
 ghost use Rattle.sheet.specs.Words.OperationsContract.{numbers_of, Asks, Replies, Two, Applies, Associates, Normalises};
 
@@ -25,13 +25,6 @@ use solver::{
     conflicts_with, context, family, instantiation, normalise, recovered_len, satisfies,
     satisfies_for, self_only, with_associated_types, write_normalised, write_recovered, write_term,
 };
-
-// The byte of a truth value.
-fn bit(b: bool) -> u8
-    ensures { result ≡ bit b }
-{
-    u8::from(b)
-}
 
 // Order 11.
 fn recovered(tokens: &Tokens, a: usize, b: usize, out: &mut [u8], to: usize) -> Option<usize>
@@ -95,15 +88,15 @@ fn applied(
 }
 
 // One of the seven questions; a term is concrete where the question finds nothing.
-fn question(s: &[u8], tokens: &Tokens, p: usize, q: Question) -> u8
+fn question(s: &[u8], tokens: &Tokens, p: usize, q: Question) -> bool
     requires place { p < length tokens.now.kinds.now }
     requires term { FormedAt tokens.now.kinds.now tokens.now.vals.now p }
-    ensures { (t : Term) → Held tokens.now.kinds.now tokens.now.vals.now p t → Formed t → result ≡ bit (answered (number_of_question q) t) }
+    ensures { (t : Term) → Held tokens.now.kinds.now tokens.now.vals.now p t → Formed t → result ≡ answered (number_of_question q) t }
 {
     let r = ask(tokens, p, q, s, 0, 0);
     match q {
-        Question::IsConcrete => bit(!r),
-        _ => bit(r),
+        Question::IsConcrete => !r,
+        _ => r,
     }
 }
 
@@ -115,14 +108,16 @@ fn asked(s: &[u8], tokens: &Tokens, p: usize, out: &mut [u8], to: usize) -> Opti
     ensures { (t : Term) → Held tokens.now.kinds.now tokens.now.vals.now p t → Formed t
         → Framed (outcome (seven t)) out.old to out.new result }
 {
-    let a = question(s, tokens, p, Question::IsNever);
-    let b = question(s, tokens, p, Question::IsInteger);
-    let c = question(s, tokens, p, Question::IsConcrete);
-    let d = question(s, tokens, p, Question::IsUnresolved);
-    let e = question(s, tokens, p, Question::ContainsUnknown);
-    let f = question(s, tokens, p, Question::ContainsSelfType);
-    let g = question(s, tokens, p, Question::ContainsProjection);
-    let v = [a, b, c, d, e, f, g];
+    let v = [
+        Question::IsNever,
+        Question::IsInteger,
+        Question::IsConcrete,
+        Question::IsUnresolved,
+        Question::ContainsUnknown,
+        Question::ContainsSelfType,
+        Question::ContainsProjection,
+    ]
+    .map(|q| u8::from(question(s, tokens, p, q)));
     write_bytes_answer(out, to, &v)
 }
 
@@ -224,11 +219,11 @@ fn compare(tokens: &Tokens, o: Order, out: &mut [u8], to: usize) -> Option<usize
     let b = o.second;
     if o.kind == 9 {
         let r = conflicts_with(tokens, a.place, b.place);
-        return write_byte_answer(out, to, bit(r));
+        return write_byte_answer(out, to, u8::from(r));
     }
     if o.kind == 10 {
         let r = can_weaken_to(tokens, a.place, b.place);
-        return write_byte_answer(out, to, bit(r));
+        return write_byte_answer(out, to, u8::from(r));
     }
     recovered(tokens, a.place, b.place, out, to)
 }
@@ -273,11 +268,11 @@ fn inquire(s: &[u8], tokens: &Tokens, o: Order, out: &mut [u8], to: usize) -> Op
     }
     if o.kind == 16 {
         let r = ask(tokens, b.place, Question::IsResolvedIn, s, a.place, a.value);
-        return write_byte_answer(out, to, bit(!r));
+        return write_byte_answer(out, to, u8::from(!r));
     }
     let x = satisfies(tokens, a.place, b.place);
     let y = satisfies_for(tokens, a.place, b.place, t.place);
-    let v = [bit(x), bit(y)];
+    let v = [u8::from(x), u8::from(y)];
     write_bytes_answer(out, to, &v)
 }
 

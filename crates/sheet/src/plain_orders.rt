@@ -1,5 +1,5 @@
 // Orders 0, 1, 2, 6, 7, 8 and 21 on what the solver is lent: the tokens, the table, and the work area, all 0.
-ghost use Rattle.std.specs.Prelude.{◌≡◌, not, List, ℕ, ◌<◌, eqb};
+ghost use Rattle.std.specs.Prelude.{◌≡◌, List, ℕ, ◌<◌};
 ghost use Rattle.std.proofs.Math.Option.{Option, some};
 ghost use Rattle.solver.specs.Terms.Term.{Term, var, bytes};
 ghost use Rattle.solver.specs.Families.{Request, requested};
@@ -11,7 +11,6 @@ ghost use Rattle.solver.specs.Words.SessionRepresentation.{HeldRequest, Represen
 ghost use Rattle.solver.specs.Words.MethodContract.{Beside, defaults_by};
 ghost use Rattle.solver.specs.Words.OrderTerms.{Asked, Frames, resolved_to};
 ghost use Rattle.sheet.specs.OrderTable.{outcome, between, asking};
-ghost use Rattle.sheet.specs.Operations.{bit};
 ghost use Rattle.sheet.specs.Sheet.{solve};
 ghost use Rattle.sheet.specs.Words.FieldLayout.{spot_bound};
 ghost use Rattle.sheet.specs.Words.OperationsContract.{plain_orders, Asks};
@@ -25,13 +24,6 @@ use solver::{
     Bound, Defaulted, Refusal, Site, Solver, Subject, Tokens, plain_request, range_request,
     variable_len, write_variable,
 };
-
-// Whether the revision is another, as a byte.
-fn changed_byte(old: usize, new: usize) -> u8
-    ensures { result ≡ bit (not (eqb new old)) }
-{
-    u8::from(new != old)
-}
 
 // Order 8.
 fn revision_order(x: Solver, out: &mut [u8], to: usize) -> AfterOrder
@@ -68,8 +60,7 @@ fn default_order(
     }
     let old = x.revision();
     let y = x.apply_defaults(tokens, tables, which);
-    let a = changed_byte(old, y.revision());
-    let next = write_byte_answer(out, to, a);
+    let next = write_byte_answer(out, to, u8::from(y.revision() != old));
     AfterOrder { solver: y, next }
 }
 

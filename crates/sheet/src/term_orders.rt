@@ -60,7 +60,8 @@ pub fn resolve_term(
     AfterOrder { solver: x, next }
 }
 
-// A verdict as a byte.
+// A verdict as a byte. It is a function, for with the cast in its place the proof of `constrain_order` has to name what Rattle makes of the enum, which
+// may change.
 fn verdict_number(v: Verdict) -> u8
     ensures { result ≡ verdict_number v }
 {

@@ -1,14 +1,18 @@
 -- What the functions that answer are told by those of crate terms, as answers in the output.
-use mathlib.Core.Path.{◌≡◌, refl, sym, ap, ◌∙◌}
+use mathlib.Core.Path.{◌≡◌, refl, sym, ap, ap₂, subst, ◌∙◌}
 use mathlib.Core.Bool.{Bool, true, false, not}
 use mathlib.Core.List.{List, [], ◌∷◌, ◌++◌}
 use mathlib.Core.Option.{some}
-use Prim.Native.Nat.{ℕ, ◌+◌, ◌≤◌, ◌<◌}
+use denote.Param.Members.{Mut, Called}
+use Rattle.std.specs.Iterator.{ActsAs}
+use Rattle.std.specs.Array.{MapsFrom, IsMapOf}
+use Rattle.std.specs.Prelude.{map}
+use Prim.Native.Nat.{ℕ, zero, suc, ◌+◌, ◌≤◌, ◌<◌}
 use native.Mathlib.Omega.{arith}
 use native.Mathlib.Numerals.{add-one}
 use borrow.Author.Tests.{lt-ltb, le-ltb, eq-eqb, ne_eqb, eqb-false}
-use lib.ListN.{length, length-append, set}
-use lib.Seq.{sets}
+use lib.ListN.{length, length-append, set, drop, drop_of_length-le}
+use lib.Seq.{sets, drop-cons}
 use Rattle.solver.specs.TermTypes.{Binders, Parameter}
 use Rattle.solver.specs.Terms.Result.{got}
 use Rattle.solver.specs.Terms.Parameters.{parameters}
@@ -27,7 +31,7 @@ use Rattle.solver.specs.declared.Unfinished.{Unfinished}
 use Rattle.solver.specs.declared.Unfinished.TheVariants.{TooMany, TooLong}
 use Rattle.std.specs.Prelude.{Option, Some, None, Result, Ok, Err}
 use Rattle.sheet.specs.OrderTable.{Answer, refusal, outcome}
-use Rattle.sheet.specs.Operations.{bit, bits, seven, perhaps, settled}
+use Rattle.sheet.specs.Operations.{perhaps, settled}
 use Rattle.sheet.specs.Words.FramingContract.{Framed, opening, Begun}
 use Rattle.sheet.specs.Words.OperationsContract.{Two}
 use Rattle.sheet.proofs.Laws.Answering.FramingLaws.{value_frame, frame_over, value_in, value_over}
@@ -120,11 +124,11 @@ pub no_parameters : (s : List ℕ) → parameters s 0 0 ≡ got [] 0
 unfolding parameters
 no_parameters s = refl
 
-pub contrary : (q : Question) (t : Term) (b : Bool) → q ≡ IsConcrete → b ≡ asked [] (number_of_question q) t → bit (not b) ≡ bit (answered (number_of_question q) t)
+pub contrary : (q : Question) (t : Term) (b : Bool) → q ≡ IsConcrete → b ≡ asked [] (number_of_question q) t → not b ≡ answered (number_of_question q) t
 unfolding answered
 contrary q t b e h = rw (h, eq-eqb (number_of_question q) 2 (ap number_of_question e))
 
-pub plainly : (q : Question) (t : Term) (b : Bool) → (q ≡ IsConcrete → ⊥) → b ≡ asked [] (number_of_question q) t → bit b ≡ bit (answered (number_of_question q) t)
+pub plainly : (q : Question) (t : Term) (b : Bool) → (q ≡ IsConcrete → ⊥) → b ≡ asked [] (number_of_question q) t → b ≡ answered (number_of_question q) t
 unfolding answered
 plainly q t b e h = rw (h, ne_eqb (number_of_question q) 2 (other q e))
   where
@@ -138,11 +142,18 @@ plainly q t b e h = rw (h, ne_eqb (number_of_question q) 2 (other q e))
     other ContainsProjection d z = absurd (omega (arith, z))
     other IsResolvedIn d z = absurd (omega (arith, z))
 
-pub all_seven : (t : Term) (a b c d e f g : ℕ)
-    → a ≡ bit (answered 0 t) → b ≡ bit (answered 1 t) → c ≡ bit (answered 2 t) → d ≡ bit (answered 3 t) → e ≡ bit (answered 4 t) → f ≡ bit (answered 5 t) → g ≡ bit (answered 6 t)
-    → outcome (a ∷ b ∷ c ∷ d ∷ e ∷ f ∷ g ∷ []) ≡ outcome (seven t)
-unfolding bits
-all_seven t a b c d e f g p q r s u v w = rw (p, q, r, s, u, v, w)
+-- what `map` gives of an array, where each call gives what h gives and leaves the function as it was
+pub maps_all : {F A : Type 0} (g : Mut F (A × Unit {0}) ℕ) (s : F) (xs : List A) (ys : List ℕ) → IsMapOf g s xs ys (length xs) → (h : A → ℕ) → ActsAs g s h → ys ≡ map h xs
+maps_all {F} {A} g s xs ys M h acts = go (length xs) 0 s refl (omega arith) M.each
+  where
+    go : (n i : ℕ) (f : F) → f ≡ s → i + n ≡ length xs → MapsFrom g f xs ys i n → drop i ys ≡ map h (drop i xs)
+    go zero i f e l m = drop_of_length-le ys {i = i} (omega (arith, M.long)) ∙ ap (map h) (sym (drop_of_length-le xs {i = i} (omega arith)))
+    go (suc n) i f e l m =
+        let c = acts m.1 m.2 m.0 (subst (λ (z : F). Called g z (m.1, tt) m.2 m.0) e m.5) in
+        let rest : drop (suc i) ys ≡ map h (drop (suc i) xs) = go n (suc i) m.0 c.0 (omega arith) (rw (add-one i) at m.6) in
+        drop-cons ys i 0 (omega (arith, M.long))
+        ∙ ap₂ (λ (y : ℕ) (zs : List ℕ). y ∷ zs) (m.4.1 0 ∙ c.1) rest
+        ∙ ap (map h) (ap (λ (x : A). x ∷ drop (suc i) xs) (sym m.3.0) ∙ sym (drop-cons xs i m.1 (omega arith)))
 
 -- ---- orders 19 and 20
 
