@@ -110,10 +110,30 @@ pub struct AfterOrder {
     pub next: Option<usize>,
 }
 
+// Why a run ended: the sheet is used up; a length is faulty; an answer does not fit; the sheet or the output is too long or an area too short.
+#[derive(Clone, Copy, Debug, PartialEq, Eq)]
+pub enum Reason {
+    UsedUp = 0,
+    Length = 10,
+    Room = 11,
+    Sizes = 12,
+}
+
+impl From<Reason> for u32 {
+    ghost use Rattle.std.specs.Prelude.{◌≡◌};
+    ghost use Rattle.sheet.specs.Entry.{number_of_reason};
+
+    ghost from_gives = { λ reason number. number ≡ number_of_reason reason };
+
+    fn from(reason: Reason) -> u32 {
+        reason as u32
+    }
+}
+
 // What a run returns: why it ended, how many orders it answered, and how many bytes it wrote.
 #[derive(Clone, Copy)]
 pub struct Report {
-    pub reason: u32,
+    pub reason: Reason,
     pub orders: u64,
     pub bytes: usize,
 }
