@@ -27,5 +27,5 @@ pub extern "C" fn sheet_run(
     let r = run_sheet(sheet, out, a, b, c, d);
     *orders = r.orders;
     *bytes = r.bytes as u64;
-    r.reason
+    u32::from(r.reason)
 }

@@ -1,17 +1,14 @@
 // A sheet, what it is run in, and the run.
 ghost use Rattle.std.specs.Prelude.{◌≡◌, ◌≤◌, ◌%◌, ◌==◌, length, drop, replicate, take};
 ghost use Rattle.std.specs.List.{list_all};
-ghost use Rattle.sheet.specs.Entry.{document_limits, entry_result, finished};
+ghost use Rattle.sheet.specs.Entry.{document_limits, entry_result, finished, number_of_reason};
 ghost use Rattle.harness.specs.Run.{left_in, is_left, run_in};
 
 use crate::{Head, ROOM, WORDS};
 use frames::{all_are, low_byte, read_part};
-use sheet::{Report, run_sheet};
+use sheet::{Reason, Report, run_sheet};
 
-// The reason of a run that does not take the sheet, since the output or an area does not suit.
-const NOT_TAKEN: u32 = 12;
-
-/// What a run returns, and whether it has left the output after its answers and the areas as it must.
+/// What a run returns, its reason by the number that frames tell, and whether it has left the output after its answers and the areas as it must.
 #[derive(Clone, Copy)]
 pub struct Outcome {
     pub reason: u32,
@@ -79,10 +76,10 @@ impl Bench {
 }
 
 // What the areas hold after a run: what they were filled with where nothing was run, and else 0.
-fn left_in(reason: u32, fill: u32) -> u32
-    ensures { result ≡ left_in reason fill }
+fn left_in(reason: Reason, fill: u32) -> u32
+    ensures { result ≡ left_in (number_of_reason reason) fill }
 {
-    if reason == NOT_TAKEN { fill } else { 0 }
+    if reason == Reason::Sizes { fill } else { 0 }
 }
 
 // Whether all words of some areas are `x`.
@@ -102,7 +99,7 @@ fn run_inside(
     d: &mut [u32],
 ) -> Report
     ensures within { result.bytes ≤ length out.new }
-    ensures run { finished result.reason result.orders result.bytes out.new a.new b.new c.new d.new
+    ensures run { finished (number_of_reason result.reason) result.orders result.bytes out.new a.new b.new c.new d.new
         ≡ entry_result document_limits 16384 sheet.now out.old a.old b.old c.old d.old }
 {
     run_sheet(sheet, out, a, b, c, d)
@@ -133,7 +130,7 @@ fn run_filled(
     let left = left_in(ran.reason, fill);
     let good = all_are(&out[ran.bytes..], low_byte(fill)) && areas_are(&[a, b, c, d], left);
     Outcome {
-        reason: ran.reason,
+        reason: u32::from(ran.reason),
         orders: ran.orders,
         bytes: ran.bytes,
         good,

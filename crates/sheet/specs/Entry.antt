@@ -7,6 +7,8 @@ use Rattle.solver.specs.Invariant.{InOrder}
 -- the limits, handed on to the crates that name this one alone
 pub use Rattle.solver.specs.Session.{document_limits}
 use Rattle.sheet.specs.Sheet.{Run, run_of}
+use Rattle.sheet.specs.declared.Reason.{Reason}
+use Rattle.sheet.specs.declared.Reason.TheVariants.{UsedUp, Length, Room, Sizes}
 use Rattle.sheet.specs.Words.SessionInAreas.{Areas, RepresentsInAreas, AreasSuffice}
 
 -- where framing says that the next order lies, as that part of the sheet and the position after it; 10 where a length is faulty
@@ -22,6 +24,13 @@ pub record AreasReady (x : Solver) (half : ℕ) (m : Areas) : Type 0 where
   pub in_areas : RepresentsInAreas x half m session
 
 -- ---- the run
+
+-- document 01's number for why a run ended
+abbrev pub number_of_reason : Reason → ℕ
+number_of_reason UsedUp = 0
+number_of_reason Length = 10
+number_of_reason Room = 11
+number_of_reason Sizes = 12
 
 -- A run of the sheet s ended: reason, orders and bytes are those of the definition, and the output is its answers and then the old bytes.
 pub record Ended (lim : Limits) (s out₀ : List ℕ) (r n m : ℕ) (out : List ℕ) : Type 0 where

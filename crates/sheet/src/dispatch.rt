@@ -10,7 +10,7 @@ ghost use Rattle.sheet.specs.Words.FieldLayout.{is_operation};
 ghost use Rattle.solver.specs.Terms.Tokens.{area};
 ghost use Rattle.sheet.specs.Words.SessionInAreas.{areas, RepresentsInAreas, Served};
 ghost use Rattle.sheet.specs.Entry.{AreasReady};
-ghost use Rattle.sheet.specs.Words.FramingContract.{OutputRoom, output_at};
+ghost use Rattle.sheet.specs.Words.FramingContract.{OutputRoom, output_at, written_to};
 ghost use Rattle.sheet.specs.Words.SessionOrdersContract.{pair_number};
 ghost use Rattle.sheet.specs.Words.OrderReaderContract.{RulesRoom};
 ghost use Rattle.sheet.specs.Words.DispatchContract.{OrderTaken, Serves, Answered};
@@ -21,8 +21,8 @@ use super::order_reader::{clear_order, read_order};
 use super::order_table::is_operation;
 use super::plain_orders::{termless_of, termless_order};
 use super::term_orders::{constrain_order, defer_term, resolve_term};
-use super::{AfterOrder, Order};
-use solver::{Access, Solver, Tokens, refusal_number};
+use super::{AfterOrder, Order, OrderRefusal};
+use solver::{Access, Refusal, Solver, Tokens};
 
 // Orders 9 to 20: the session stays as it was.
 fn operate_order(
@@ -46,7 +46,7 @@ fn operate_order(
     ensures { (a₀ b₀ : List ℕ)
         → OrderTaken x half s.now (areas a₀ b₀ c.old d.old) (area a.now b.now) rules.now o
         → Answered x result.solver half s.now (areas a₀ b₀ c.old d.old) (area a.now b.now) o
-        c.new d.new (output_at out.old to) (output_at out.new result.next) }
+        c.new d.new (output_at out.old to) (written_to out.new result.next) }
 {
     let next = operate(
         s,
@@ -78,7 +78,7 @@ fn defer_order(
     requires room { OutputRoom out.old to }
     ensures { (s a₀ b₀ d ws : List ℕ) → OrderTaken x half s (areas a₀ b₀ c.old d) (area a.now b.now) ws o
         → Answered x result.solver half s (areas a₀ b₀ c.old d) (area a.now b.now) o c.new d
-        (output_at out.old to) (output_at out.new result.next) }
+        (output_at out.old to) (written_to out.new result.next) }
 {
     let top = o.top;
     defer_term(
@@ -111,7 +111,7 @@ fn resolve_order(
     requires room { OutputRoom out.old to }
     ensures { (s a₀ b₀ ws : List ℕ) → OrderTaken x half s (areas a₀ b₀ c.now d.old) (area a.now b.now) ws o
         → Answered x result.solver half s (areas a₀ b₀ c.now d.old) (area a.now b.now) o c.now
-        d.new (output_at out.old to) (output_at out.new result.next) }
+        d.new (output_at out.old to) (written_to out.new result.next) }
 {
     let top = o.top;
     resolve_term(
@@ -157,7 +157,7 @@ fn pair_order(
     requires room { OutputRoom out.old to }
     ensures { (s a₀ b₀ ws : List ℕ) → OrderTaken x half s (areas a₀ b₀ c.old d.old) (area a.now b.now) ws o
         → Answered x result.solver half s (areas a₀ b₀ c.old d.old) (area a.now b.now) o c.new
-        d.new (output_at out.old to) (output_at out.new result.next) }
+        d.new (output_at out.old to) (written_to out.new result.next) }
 {
     let k = o.first.value as u32;
     let q = o.third.place;
@@ -198,7 +198,7 @@ fn plain_order(
     requires room { OutputRoom out.old to }
     ensures { (s a₀ b₀ ws : List ℕ) → OrderTaken x half s (areas a₀ b₀ c.old d.old) (area a.now b.now) ws o
         → Answered x result.solver half s (areas a₀ b₀ c.old d.old) (area a.now b.now) o c.new
-        d.new (output_at out.old to) (output_at out.new result.next) }
+        d.new (output_at out.old to) (written_to out.new result.next) }
 {
     let what = termless_of(o);
     let top = o.top;
@@ -236,11 +236,11 @@ fn answer_order(
     ensures { (a₀ b₀ : List ℕ)
         → OrderTaken x half s.now (areas a₀ b₀ c.old d.old) (area a.now b.now) rules.now o
         → Answered x result.solver half s.now (areas a₀ b₀ c.old d.old) (area a.now b.now) o
-        c.new d.new (output_at out.old to) (output_at out.new result.next) }
+        c.new d.new (output_at out.old to) (written_to out.new result.next) }
 {
     let n = x.standing();
     if n.nodes < o.nodes {
-        let next = write_refusal(out, to, 7);
+        let next = write_refusal(out, to, OrderRefusal::Common(Refusal::Nodes));
         return AfterOrder { solver: x, next };
     }
     let k = o.kind;
@@ -276,7 +276,7 @@ fn serve_with(
     requires words { (get_or s.now 0 0 ≡ 20 → RulesRoom s.now rules.old 2048) × (length rules.old < 4294967296) }
     requires room { (length s.now ≤ 16777216) × (to ≤ length out.old) × (length out.old ≤ 16777216) }
     ensures { Serves x result.solver half s.now (areas a.old b.old c.old d.old)
-        (areas a.new b.new c.new d.new) (output_at out.old to) (output_at out.new result.next) }
+        (areas a.new b.new c.new d.new) (output_at out.old to) (written_to out.new result.next) }
 {
     let n = x.standing();
     let r = read_order(s, a, b, rules, n.issued as u64, n.top, n.kept, n.nodes);
@@ -289,7 +289,7 @@ fn serve_with(
             w
         }
         Err(refusal) => {
-            let next = write_refusal(out, to, refusal_number(refusal));
+            let next = write_refusal(out, to, OrderRefusal::Common(refusal));
             AfterOrder { solver: x, next }
         }
     }
@@ -330,7 +330,7 @@ fn serve_rules(
     requires held { AreasReady x half (areas a.old b.old c.old d.old) }
     requires room { (length s.now ≤ 16777216) × (to ≤ length out.old) × (length out.old ≤ 16777216) }
     ensures { Serves x result.solver half s.now (areas a.old b.old c.old d.old)
-        (areas a.new b.new c.new d.new) (output_at out.old to) (output_at out.new result.next) }
+        (areas a.new b.new c.new d.new) (output_at out.old to) (written_to out.new result.next) }
 {
     if few_rules(s) {
         let mut few = [0u32; 384];
@@ -356,7 +356,7 @@ pub fn serve_order(
     requires room { (length s.now ≤ 16777216) × (to ≤ length out.old) × (length out.old ≤ 16777216) }
     ensures { (z : Session) → InOrder (issued z) z.solver → RepresentsInAreas x half (areas a.old b.old c.old d.old) z
         → Served result.solver half (areas a.new b.new c.new d.new) z s.now (output_at out.old to)
-        (output_at out.new result.next) x }
+        (written_to out.new result.next) x }
 {
     if has_rules(s) {
         return serve_rules(x, half, s, a, b, c, d, out, to);

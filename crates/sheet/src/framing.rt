@@ -1,58 +1,59 @@
-// Answers in the output: a length, an outcome byte, and on 0 the value. An answer is written whole or not at all: where it does not fit, the
-// position that comes back is past the end.
+// Answers in the output: a length, an outcome byte, and on 0 the value. An answer is written whole, and the position after it comes back, or not at
+// all: None where it does not fit.
 ghost use Rattle.std.specs.Prelude.{length, [], ◌∷◌};
 ghost use Rattle.solver.specs.Terms.Number.{shortest};
 ghost use Rattle.sheet.specs.OrderTable.{refusal, outcome};
-ghost use Rattle.sheet.specs.Words.FramingContract.{OutputRoom, Framed, Begun};
+ghost use Rattle.sheet.specs.Words.FramingContract.{OutputRoom, Framed, Begun, order_refusal};
 
+use super::OrderRefusal;
 use solver::{number_len, write_number};
 
 // A refusal.
-pub fn write_refusal(out: &mut [u8], to: usize, c: u8) -> usize
+pub fn write_refusal(out: &mut [u8], to: usize, why: OrderRefusal) -> Option<usize>
     requires { OutputRoom out.old to }
-    ensures { Framed (refusal c) out.old to out.new result }
+    ensures { Framed (refusal (order_refusal why)) out.old to out.new result }
 {
     if out.len() - to < 2 {
-        return out.len() + 1;
+        return None;
     }
     out[to] = 1;
-    out[to + 1] = c;
-    to + 2
+    out[to + 1] = u8::from(why);
+    Some(to + 2)
 }
 
 // Outcome 0 and a value of one byte.
-pub fn write_byte_answer(out: &mut [u8], to: usize, a: u8) -> usize
+pub fn write_byte_answer(out: &mut [u8], to: usize, a: u8) -> Option<usize>
     requires { OutputRoom out.old to }
     ensures { Framed (outcome (a ∷ [])) out.old to out.new result }
 {
     if out.len() - to < 3 {
-        return out.len() + 1;
+        return None;
     }
     out[to] = 2;
     out[to + 1] = 0;
     out[to + 2] = a;
-    to + 3
+    Some(to + 3)
 }
 
 // The length and outcome 0, where a value of so many bytes fits after them: the position of the value.
-pub fn begin_answer(out: &mut [u8], to: usize, size: usize) -> usize
+pub fn begin_answer(out: &mut [u8], to: usize, size: usize) -> Option<usize>
     requires { OutputRoom out.old to }
     ensures { Begun size out.old to out.new result }
 {
     if out.len() - to < size {
-        return out.len() + 1;
+        return None;
     }
     let n = number_len(size as u64 + 1);
     if out.len() - to < n + 1 + size {
-        return out.len() + 1;
+        return None;
     }
     let i = write_number(out, to, size as u64 + 1);
     out[i] = 0;
-    i + 1
+    Some(i + 1)
 }
 
 // Outcome 0 and no value.
-pub fn write_empty_answer(out: &mut [u8], to: usize) -> usize
+pub fn write_empty_answer(out: &mut [u8], to: usize) -> Option<usize>
     requires { OutputRoom out.old to }
     ensures { Framed (outcome []) out.old to out.new result }
 {
@@ -60,30 +61,22 @@ pub fn write_empty_answer(out: &mut [u8], to: usize) -> usize
 }
 
 // A number as the value.
-pub fn write_number_answer(out: &mut [u8], to: usize, n: u64) -> usize
+pub fn write_number_answer(out: &mut [u8], to: usize, n: u64) -> Option<usize>
     requires { OutputRoom out.old to }
     ensures { Framed (outcome (shortest n)) out.old to out.new result }
 {
     let size = number_len(n);
-    let at = begin_answer(out, to, size);
-    if out.len() < at {
-        return at;
-    }
-    write_number(out, at, n)
+    let at = begin_answer(out, to, size)?;
+    Some(write_number(out, at, n))
 }
 
 // Outcome 0 and a value of some bytes.
-pub fn write_bytes_answer(out: &mut [u8], to: usize, v: &[u8]) -> usize
+pub fn write_bytes_answer(out: &mut [u8], to: usize, v: &[u8]) -> Option<usize>
     requires { OutputRoom out.old to }
     ensures { Framed (outcome v.now) out.old to out.new result }
 {
     let n = v.len();
-    let at = begin_answer(out, to, n);
-    if out.len() < at {
-        return at;
-    }
-    for i in 0..n {
-        out[at + i] = v[i];
-    }
-    at + n
+    let at = begin_answer(out, to, n)?;
+    out[at..at + n].copy_from_slice(v);
+    Some(at + n)
 }

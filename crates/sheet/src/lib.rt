@@ -15,7 +15,7 @@ mod starting;
 mod term_orders;
 
 pub use running::run_sheet;
-use solver::{Defaulted, Solver};
+use solver::{Defaulted, Refusal, Solver, refusal_number};
 
 // What an order does: it is told to the session, or it leaves the session as it was.
 #[derive(Clone, Copy, Debug, PartialEq, Eq)]
@@ -82,17 +82,58 @@ pub enum TermlessOrder {
     NoType,
 }
 
-// The counters after an order, and the position after its answer: past the end of the output where it does not fit.
+// Why an order is refused: as the terms and the solver refuse it, or because no type lies within its bounds.
+#[derive(Clone, Copy, Debug, PartialEq, Eq)]
+pub enum OrderRefusal {
+    Common(Refusal),
+    NoType,
+}
+
+impl From<OrderRefusal> for u8 {
+    ghost use Rattle.std.specs.Prelude.{◌≡◌};
+    ghost use Rattle.sheet.specs.Words.FramingContract.{order_refusal};
+
+    ghost from_gives = { λ why number. number ≡ order_refusal why };
+
+    fn from(why: OrderRefusal) -> u8 {
+        match why {
+            OrderRefusal::Common(common) => refusal_number(common),
+            OrderRefusal::NoType => 13,
+        }
+    }
+}
+
+// The counters after an order, and the position after its answer: None where it does not fit.
 #[derive(Clone, Copy)]
 pub struct AfterOrder {
     pub solver: Solver,
-    pub next: usize,
+    pub next: Option<usize>,
+}
+
+// Why a run ended: the sheet is used up; a length is faulty; an answer does not fit; the sheet or the output is too long or an area too short.
+#[derive(Clone, Copy, Debug, PartialEq, Eq)]
+pub enum Reason {
+    UsedUp = 0,
+    Length = 10,
+    Room = 11,
+    Sizes = 12,
+}
+
+impl From<Reason> for u32 {
+    ghost use Rattle.std.specs.Prelude.{◌≡◌};
+    ghost use Rattle.sheet.specs.Entry.{number_of_reason};
+
+    ghost from_gives = { λ reason number. number ≡ number_of_reason reason };
+
+    fn from(reason: Reason) -> u32 {
+        reason as u32
+    }
 }
 
 // What a run returns: why it ended, how many orders it answered, and how many bytes it wrote.
 #[derive(Clone, Copy)]
 pub struct Report {
-    pub reason: u32,
+    pub reason: Reason,
     pub orders: u64,
     pub bytes: usize,
 }

@@ -14,27 +14,20 @@ ghost use Rattle.solver.specs.Terms.Lookup.{Pattern};
 ghost use Rattle.solver.specs.Terms.Normal.{Out, normalize, with_associated_types, levels, most};
 ghost use Rattle.solver.specs.Terms.NormalContract.{Answers, Leaves, Lends, RuledAt, OwnedAt};
 ghost use Rattle.sheet.specs.OrderTable.{outcome};
-ghost use Rattle.sheet.specs.Operations.{bit, seven, perhaps, settled, rule_of, operations};
+ghost use Rattle.sheet.specs.Operations.{seven, perhaps, settled, rule_of, operations};
 ghost use Rattle.sheet.specs.Words.FramingContract.{OutputRoom, Framed};
 ghost use Rattle.sheet.specs.Words.OperationsContract.{numbers_of, Asks, Replies, Two, Applies, Associates, Normalises};
 
-use super::Order;
 use super::framing::{begin_answer, write_byte_answer, write_bytes_answer, write_refusal};
+use super::{Order, OrderRefusal};
 use solver::{
-    Binders, Question, Tokens, Unfinished, ask, can_weaken_to, clear_tokens, conflicts_with,
-    context, family, instantiation, normalise, recovered_len, satisfies, satisfies_for, self_only,
-    with_associated_types, write_normalised, write_recovered, write_term,
+    Binders, Question, Refusal, Tokens, Unfinished, ask, can_weaken_to, clear_tokens,
+    conflicts_with, context, family, instantiation, normalise, recovered_len, satisfies,
+    satisfies_for, self_only, with_associated_types, write_normalised, write_recovered, write_term,
 };
 
-// The byte of a truth value.
-fn bit(b: bool) -> u8
-    ensures { result ≡ bit b }
-{
-    u8::from(b)
-}
-
 // Order 11.
-fn recovered(tokens: &Tokens, a: usize, b: usize, out: &mut [u8], to: usize) -> usize
+fn recovered(tokens: &Tokens, a: usize, b: usize, out: &mut [u8], to: usize) -> Option<usize>
     requires areas { length tokens.now.kinds.now ≤ 32768 }
     requires terms { (t : Term) × (u : Term) × Two tokens.now.kinds.now tokens.now.vals.now a b t u }
     requires room { OutputRoom out.old to }
@@ -42,15 +35,19 @@ fn recovered(tokens: &Tokens, a: usize, b: usize, out: &mut [u8], to: usize) -> 
         → Framed (outcome (bytes (recover_from t u))) out.old to out.new result }
 {
     let size = recovered_len(tokens, a, b);
-    let at = begin_answer(out, to, size);
-    if out.len() < at {
-        return at;
-    }
-    write_recovered(tokens, a, b, out, at)
+    let at = begin_answer(out, to, size)?;
+    Some(write_recovered(tokens, a, b, out, at))
 }
 
 // Orders 12, 13 and 14: the term with its binders replaced.
-fn rewritten(s: &[u8], tokens: &Tokens, b: Binders, from: usize, out: &mut [u8], to: usize) -> usize
+fn rewritten(
+    s: &[u8],
+    tokens: &Tokens,
+    b: Binders,
+    from: usize,
+    out: &mut [u8],
+    to: usize,
+) -> Option<usize>
     requires areas { length tokens.now.kinds.now ≤ 32768 }
     requires ready { Ready tokens.now.kinds.now tokens.now.vals.now b }
     requires place { from < length tokens.now.kinds.now }
@@ -59,11 +56,8 @@ fn rewritten(s: &[u8], tokens: &Tokens, b: Binders, from: usize, out: &mut [u8],
         (λ x. Framed (outcome x) out.old to out.new result) }
 {
     let size = write_term(tokens, s, b, from, out, 0, false);
-    let at = begin_answer(out, to, size);
-    if out.len() < at {
-        return at;
-    }
-    write_term(tokens, s, b, from, out, at, true)
+    let at = begin_answer(out, to, size)?;
+    Some(write_term(tokens, s, b, from, out, at, true))
 }
 
 // Order 18: the same after a 1; or a 0, where the arguments are not as many as the parameters.
@@ -75,7 +69,7 @@ fn applied(
     from: usize,
     out: &mut [u8],
     to: usize,
-) -> usize
+) -> Option<usize>
     requires areas { length tokens.now.kinds.now ≤ 32768 }
     requires ready { Ready tokens.now.kinds.now tokens.now.vals.now b }
     requires place { from < length tokens.now.kinds.now }
@@ -88,43 +82,42 @@ fn applied(
         return write_byte_answer(out, to, 0);
     }
     let size = write_term(tokens, s, b, from, out, 0, false);
-    let at = begin_answer(out, to, size + 1);
-    if out.len() < at {
-        return at;
-    }
+    let at = begin_answer(out, to, size + 1)?;
     out[at] = 1;
-    write_term(tokens, s, b, from, out, at + 1, true)
+    Some(write_term(tokens, s, b, from, out, at + 1, true))
 }
 
 // One of the seven questions; a term is concrete where the question finds nothing.
-fn question(s: &[u8], tokens: &Tokens, p: usize, q: Question) -> u8
+fn question(s: &[u8], tokens: &Tokens, p: usize, q: Question) -> bool
     requires place { p < length tokens.now.kinds.now }
     requires term { FormedAt tokens.now.kinds.now tokens.now.vals.now p }
-    ensures { (t : Term) → Held tokens.now.kinds.now tokens.now.vals.now p t → Formed t → result ≡ bit (answered (number_of_question q) t) }
+    ensures { (t : Term) → Held tokens.now.kinds.now tokens.now.vals.now p t → Formed t → result ≡ answered (number_of_question q) t }
 {
     let r = ask(tokens, p, q, s, 0, 0);
     match q {
-        Question::IsConcrete => bit(!r),
-        _ => bit(r),
+        Question::IsConcrete => !r,
+        _ => r,
     }
 }
 
 // Order 15: the seven questions.
-fn asked(s: &[u8], tokens: &Tokens, p: usize, out: &mut [u8], to: usize) -> usize
+fn asked(s: &[u8], tokens: &Tokens, p: usize, out: &mut [u8], to: usize) -> Option<usize>
     requires place { p < length tokens.now.kinds.now }
     requires term { FormedAt tokens.now.kinds.now tokens.now.vals.now p }
     requires room { OutputRoom out.old to }
     ensures { (t : Term) → Held tokens.now.kinds.now tokens.now.vals.now p t → Formed t
         → Framed (outcome (seven t)) out.old to out.new result }
 {
-    let a = question(s, tokens, p, Question::IsNever);
-    let b = question(s, tokens, p, Question::IsInteger);
-    let c = question(s, tokens, p, Question::IsConcrete);
-    let d = question(s, tokens, p, Question::IsUnresolved);
-    let e = question(s, tokens, p, Question::ContainsUnknown);
-    let f = question(s, tokens, p, Question::ContainsSelfType);
-    let g = question(s, tokens, p, Question::ContainsProjection);
-    let v = [a, b, c, d, e, f, g];
+    let v = [
+        Question::IsNever,
+        Question::IsInteger,
+        Question::IsConcrete,
+        Question::IsUnresolved,
+        Question::ContainsUnknown,
+        Question::ContainsSelfType,
+        Question::ContainsProjection,
+    ]
+    .map(|q| u8::from(question(s, tokens, p, q)));
     write_bytes_answer(out, to, &v)
 }
 
@@ -136,7 +129,7 @@ fn settled(
     r: Result<solver::Ready, Unfinished>,
     out: &mut [u8],
     to: usize,
-) -> usize
+) -> Option<usize>
     requires room { OutputRoom out.old to }
     requires leaves { (hs : List ℕ) × (cs : List ℕ) × Leaves tokens.now.kinds.now tokens.now.vals.now hs cs heads.old kids.old most r }
     requires answers { (o : Out) × Answers tokens.now.kinds.now tokens.now.vals.now heads.old kids.old out.old to levels most o r }
@@ -147,16 +140,15 @@ fn settled(
         out.old to levels most o r → Framed (settled o) out.old to out.new result }
 {
     match r {
-        Err(Unfinished::TooMany) => write_refusal(out, to, 9),
-        Err(Unfinished::TooLong) => out.len() + 1,
+        Err(Unfinished::TooMany) => write_refusal(out, to, OrderRefusal::Common(Refusal::Children)),
+        Err(Unfinished::TooLong) => None,
         Ok(w) => {
             let size = w.size;
-            let at = begin_answer(out, to, size);
-            if out.len() < at {
+            let Some(at) = begin_answer(out, to, size) else {
                 clear_tokens(heads, kids, 0, w.next);
-                return at;
-            }
-            write_normalised(tokens, heads, kids, w, out, at)
+                return None;
+            };
+            Some(write_normalised(tokens, heads, kids, w, out, at))
         }
     }
 }
@@ -171,7 +163,7 @@ fn associated(
     owner: usize,
     out: &mut [u8],
     to: usize,
-) -> usize
+) -> Option<usize>
     requires lends { Lends tokens.now.kinds.now tokens.now.vals.now heads.old kids.old most }
     requires places { (p < length tokens.now.kinds.now) × (interface < length tokens.now.kinds.now) × (owner < length tokens.now.kinds.now) }
     requires room { OutputRoom out.old to }
@@ -202,7 +194,7 @@ fn normalised(
     p: usize,
     out: &mut [u8],
     to: usize,
-) -> usize
+) -> Option<usize>
     requires lends { Lends tokens.now.kinds.now tokens.now.vals.now heads.old kids.old most }
     requires place { p < length tokens.now.kinds.now }
     requires few { length rules.now < 4294967296 }
@@ -217,7 +209,7 @@ fn normalised(
 }
 
 // Orders 9, 10 and 11: two terms.
-fn compare(tokens: &Tokens, o: Order, out: &mut [u8], to: usize) -> usize
+fn compare(tokens: &Tokens, o: Order, out: &mut [u8], to: usize) -> Option<usize>
     requires areas { length tokens.now.kinds.now ≤ 32768 }
     requires asks { (s : List ℕ) × (ws : List ℕ) × Asks tokens.now.kinds.now tokens.now.vals.now s ws (9 ∷ 10 ∷ 11 ∷ []) o }
     requires room { OutputRoom out.old to }
@@ -227,17 +219,17 @@ fn compare(tokens: &Tokens, o: Order, out: &mut [u8], to: usize) -> usize
     let b = o.second;
     if o.kind == 9 {
         let r = conflicts_with(tokens, a.place, b.place);
-        return write_byte_answer(out, to, bit(r));
+        return write_byte_answer(out, to, u8::from(r));
     }
     if o.kind == 10 {
         let r = can_weaken_to(tokens, a.place, b.place);
-        return write_byte_answer(out, to, bit(r));
+        return write_byte_answer(out, to, u8::from(r));
     }
     recovered(tokens, a.place, b.place, out, to)
 }
 
 // Orders 12, 13 and 14: a term and what takes the place of its binders.
-fn substitute(s: &[u8], tokens: &Tokens, o: Order, out: &mut [u8], to: usize) -> usize
+fn substitute(s: &[u8], tokens: &Tokens, o: Order, out: &mut [u8], to: usize) -> Option<usize>
     requires areas { length tokens.now.kinds.now ≤ 32768 }
     requires asks { (ws : List ℕ) × Asks tokens.now.kinds.now tokens.now.vals.now s.now ws (12 ∷ 13 ∷ 14 ∷ []) o }
     requires room { OutputRoom out.old to }
@@ -261,7 +253,7 @@ fn substitute(s: &[u8], tokens: &Tokens, o: Order, out: &mut [u8], to: usize) ->
 }
 
 // Orders 15, 16 and 17: questions.
-fn inquire(s: &[u8], tokens: &Tokens, o: Order, out: &mut [u8], to: usize) -> usize
+fn inquire(s: &[u8], tokens: &Tokens, o: Order, out: &mut [u8], to: usize) -> Option<usize>
     requires areas { length tokens.now.kinds.now ≤ 32768 }
     requires asks { (ws : List ℕ) × Asks tokens.now.kinds.now tokens.now.vals.now s.now ws (15 ∷ 16 ∷ 17 ∷ []) o }
     requires room { OutputRoom out.old to }
@@ -276,16 +268,16 @@ fn inquire(s: &[u8], tokens: &Tokens, o: Order, out: &mut [u8], to: usize) -> us
     }
     if o.kind == 16 {
         let r = ask(tokens, b.place, Question::IsResolvedIn, s, a.place, a.value);
-        return write_byte_answer(out, to, bit(!r));
+        return write_byte_answer(out, to, u8::from(!r));
     }
     let x = satisfies(tokens, a.place, b.place);
     let y = satisfies_for(tokens, a.place, b.place, t.place);
-    let v = [bit(x), bit(y)];
+    let v = [u8::from(x), u8::from(y)];
     write_bytes_answer(out, to, &v)
 }
 
 // Order 18: a family's value, for a substitution and arguments.
-fn apply_family(s: &[u8], tokens: &Tokens, o: Order, out: &mut [u8], to: usize) -> usize
+fn apply_family(s: &[u8], tokens: &Tokens, o: Order, out: &mut [u8], to: usize) -> Option<usize>
     requires areas { length tokens.now.kinds.now ≤ 32768 }
     requires asks { (ws : List ℕ) × Asks tokens.now.kinds.now tokens.now.vals.now s.now ws (18 ∷ []) o }
     requires room { OutputRoom out.old to }
@@ -310,7 +302,7 @@ fn reduce(
     o: Order,
     out: &mut [u8],
     to: usize,
-) -> usize
+) -> Option<usize>
     requires lends { Lends tokens.now.kinds.now tokens.now.vals.now heads.old kids.old most }
     requires asks { (s : List ℕ) × Asks tokens.now.kinds.now tokens.now.vals.now s rules.now (19 ∷ 20 ∷ []) o }
     requires few { length rules.now < 4294967296 }
@@ -339,7 +331,7 @@ pub fn operate(
     o: Order,
     out: &mut [u8],
     to: usize,
-) -> usize
+) -> Option<usize>
     requires lends { Lends tokens.now.kinds.now tokens.now.vals.now heads.old kids.old most }
     requires asks { Asks tokens.now.kinds.now tokens.now.vals.now s.now rules.now (numbers_of operations) o }
     requires few { length rules.now < 4294967296 }

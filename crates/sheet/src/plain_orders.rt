@@ -1,5 +1,5 @@
 // Orders 0, 1, 2, 6, 7, 8 and 21 on what the solver is lent: the tokens, the table, and the work area, all 0.
-ghost use Rattle.std.specs.Prelude.{◌≡◌, not, List, ℕ, ◌<◌, eqb};
+ghost use Rattle.std.specs.Prelude.{◌≡◌, List, ℕ, ◌<◌};
 ghost use Rattle.std.proofs.Math.Option.{Option, some};
 ghost use Rattle.solver.specs.Terms.Term.{Term, var, bytes};
 ghost use Rattle.solver.specs.Families.{Request, requested};
@@ -11,34 +11,26 @@ ghost use Rattle.solver.specs.Words.SessionRepresentation.{HeldRequest, Represen
 ghost use Rattle.solver.specs.Words.MethodContract.{Beside, defaults_by};
 ghost use Rattle.solver.specs.Words.OrderTerms.{Asked, Frames, resolved_to};
 ghost use Rattle.sheet.specs.OrderTable.{outcome, between, asking};
-ghost use Rattle.sheet.specs.Operations.{bit};
 ghost use Rattle.sheet.specs.Sheet.{solve};
 ghost use Rattle.sheet.specs.Words.FieldLayout.{spot_bound};
 ghost use Rattle.sheet.specs.Words.OperationsContract.{plain_orders, Asks};
-ghost use Rattle.sheet.specs.Words.FramingContract.{OutputRoom, output_at, Framed};
+ghost use Rattle.sheet.specs.Words.FramingContract.{OutputRoom, output_at, written_to, Framed};
 ghost use Rattle.sheet.specs.Words.SessionOrdersContract.{lent, Does, Says, variable_command, site_of, RequestTold};
 ghost use Rattle.sheet.specs.Words.SessionOrdersContract.{variable_answer, termless_command, TermlessTold};
 
 use super::framing::{begin_answer, write_byte_answer, write_number_answer, write_refusal};
-use super::{AfterOrder, FieldSpot, Order, TermlessOrder, VariableOrder};
+use super::{AfterOrder, FieldSpot, Order, OrderRefusal, TermlessOrder, VariableOrder};
 use solver::{
-    Bound, Defaulted, Site, Solver, Subject, Tokens, plain_request, range_request, variable_len,
-    write_variable,
+    Bound, Defaulted, Refusal, Site, Solver, Subject, Tokens, plain_request, range_request,
+    variable_len, write_variable,
 };
-
-// Whether the revision is another, as a byte.
-fn changed_byte(old: usize, new: usize) -> u8
-    ensures { result ≡ bit (not (eqb new old)) }
-{
-    u8::from(new != old)
-}
 
 // Order 8.
 fn revision_order(x: Solver, out: &mut [u8], to: usize) -> AfterOrder
     requires { OutputRoom out.old to }
     ensures { (ks vs ts : List ℕ) (z : Session) → Represents x ks vs ts z
         → Does (lent x ks vs ts) result.solver ts z (solve (limits_of x) z orders.revision) (output_at out.old to)
-        (output_at out.new result.next) }
+        (written_to out.new result.next) }
 {
     let n = x.revision();
     let next = write_number_answer(out, to, n as u64);
@@ -58,30 +50,28 @@ fn default_order(
     requires room { OutputRoom out.old to }
     ensures { (z : Session) → InOrder (issued z) z.solver → Represents x tokens.now.kinds.now tokens.now.vals.now tables.old z
         → Does (lent x tokens.now.kinds.now tokens.now.vals.now tables.old) result.solver tables.new z
-        (solve (limits_of x) z (defaults_by which)) (output_at out.old to) (output_at out.new result.next) }
+        (solve (limits_of x) z (defaults_by which)) (output_at out.old to) (written_to out.new result.next) }
 {
     if out.len() - to < 3 {
-        let next = out.len() + 1;
-        return AfterOrder { solver: x, next };
+        return AfterOrder {
+            solver: x,
+            next: None,
+        };
     }
     let old = x.revision();
     let y = x.apply_defaults(tokens, tables, which);
-    let a = changed_byte(old, y.revision());
-    let next = write_byte_answer(out, to, a);
+    let next = write_byte_answer(out, to, u8::from(y.revision() != old));
     AfterOrder { solver: y, next }
 }
 
 // A variable as the answer.
-fn write_variable_answer(out: &mut [u8], to: usize, v: u32) -> usize
+fn write_variable_answer(out: &mut [u8], to: usize, v: u32) -> Option<usize>
     requires { OutputRoom out.old to }
     ensures { Framed (outcome (bytes (var v))) out.old to out.new result }
 {
     let size = variable_len(v);
-    let at = begin_answer(out, to, size);
-    if out.len() < at {
-        return at;
-    }
-    write_variable(out, at, v)
+    let at = begin_answer(out, to, size)?;
+    Some(write_variable(out, at, v))
 }
 
 // What a term or a variable resolves to, as the answer.
@@ -93,7 +83,7 @@ pub fn resolved(
     what: Subject,
     out: &mut [u8],
     to: usize,
-) -> usize
+) -> Option<usize>
     requires held { (z : Session) × (t : Term) × Asked x tokens.now.kinds.now tokens.now.vals.now tables.now what z t }
     requires areas { Frames x frames.old }
     requires room { OutputRoom out.old to }
@@ -104,13 +94,10 @@ pub fn resolved(
     let limit = out.len();
     let size = x.resolved_len(tokens, tables, frames, what, limit);
     if limit < size {
-        return limit + 1;
+        return None;
     }
-    let at = begin_answer(out, to, size);
-    if limit < at {
-        return at;
-    }
-    x.resolve(tokens, tables, frames, what, out, at)
+    let at = begin_answer(out, to, size)?;
+    Some(x.resolve(tokens, tables, frames, what, out, at))
 }
 
 // The place of an order's variable.
@@ -134,7 +121,7 @@ fn answer_variable(
     v: u32,
     out: &mut [u8],
     to: usize,
-) -> usize
+) -> Option<usize>
     requires held { (z : Session) × Represents x tokens.now.kinds.now tokens.now.vals.now tables.now z }
     requires areas { (v < x.variables) × Frames x frames.old }
     requires room { OutputRoom out.old to }
@@ -189,14 +176,14 @@ fn variable_order(
     ensures clear { Zero frames.new }
     ensures does { (z : Session) → Represents x tokens.now.kinds.now tokens.now.vals.now tables.old z
         → Does (lent x tokens.now.kinds.now tokens.now.vals.now tables.old) result.solver tables.new z
-        (solve (limits_of x) z (variable_command wanted)) (output_at out.old to) (output_at out.new result.next) }
+        (solve (limits_of x) z (variable_command wanted)) (output_at out.old to) (written_to out.new result.next) }
 {
     let Some(v) = x.id_of(tables, site_of(wanted)) else {
-        let next = write_refusal(out, to, 8);
+        let next = write_refusal(out, to, OrderRefusal::Common(Refusal::Variables));
         return AfterOrder { solver: x, next };
     };
     let next = answer_variable(x, tokens, tables, frames, wanted, v, out, to);
-    if out.len() < next {
+    if next.is_none() {
         return AfterOrder { solver: x, next };
     }
     let y = issue_variable(x, tables, wanted);
@@ -291,7 +278,7 @@ pub fn termless_order(
     ensures clear { Zero frames.new }
     ensures does { (z : Session) → InOrder (issued z) z.solver → Represents x tokens.now.kinds.now tokens.now.vals.now tables.old z
         → Does (lent x tokens.now.kinds.now tokens.now.vals.now tables.old) result.solver tables.new z
-        (solve (limits_of x) z (termless_command what)) (output_at out.old to) (output_at out.new result.next) }
+        (solve (limits_of x) z (termless_command what)) (output_at out.old to) (written_to out.new result.next) }
 {
     match what {
         TermlessOrder::Variable(wanted) => {
@@ -300,7 +287,7 @@ pub fn termless_order(
         TermlessOrder::Defaults(which) => default_order(x, which, tokens, tables, out, to),
         TermlessOrder::Revision => revision_order(x, out, to),
         TermlessOrder::NoType => {
-            let next = write_refusal(out, to, 13);
+            let next = write_refusal(out, to, OrderRefusal::NoType);
             AfterOrder { solver: x, next }
         }
     }

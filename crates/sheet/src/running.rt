@@ -6,16 +6,16 @@ ghost use Rattle.sheet.specs.Sheet.{run_of};
 ghost use Rattle.sheet.specs.Words.SessionInAreas.{areas, RepresentsInAreas, AreasSuffice};
 ghost use Rattle.solver.specs.Words.SessionsContract.{counters};
 ghost use Rattle.solver.specs.Words.Worklist.{Zero};
-ghost use Rattle.sheet.specs.Entry.{Ended, Left, sizes_accepted, finished, entry_result, state_after_run};
+ghost use Rattle.sheet.specs.Entry.{Ended, Left, sizes_accepted, finished, entry_result, state_after_run, number_of_reason};
 
 use super::dispatch::serve_order;
 use super::splitting::{next_order, order_at};
 use super::starting::lay_fresh;
-use super::{Closed, Report};
+use super::{Closed, Reason, Report};
 use solver::Solver;
 
 // What a run returns, and the solver that it leaves.
-fn closed(reason: u32, orders: u64, bytes: usize, solver: Solver) -> Closed
+fn closed(reason: Reason, orders: u64, bytes: usize, solver: Solver) -> Closed
     ensures { (result.report.reason ≡ reason) × (result.report.orders ≡ orders) × (result.report.bytes ≡ bytes) × (result.solver ≡ solver) }
 {
     Closed {
@@ -28,7 +28,7 @@ fn closed(reason: u32, orders: u64, bytes: usize, solver: Solver) -> Closed
     }
 }
 
-// Answers orders one after another, until the sheet is used up (0), a length is faulty (10) or an answer does not fit (11).
+// Answers orders one after another, until the sheet is used up, a length is faulty or an answer does not fit.
 fn answer_orders(
     first: Solver,
     half: usize,
@@ -42,7 +42,7 @@ fn answer_orders(
     requires held { RepresentsInAreas first half (areas a.old b.old c.old d.old) fresh
         × AreasSuffice first half (length a.old) (areas a.old b.old c.old d.old) }
     requires room { (length s.now ≤ 16777216) × (length out.old ≤ 16777216) }
-    ensures run { Ended (limits_of first) s.now out.old result.report.reason result.report.orders result.report.bytes
+    ensures run { Ended (limits_of first) s.now out.old (number_of_reason result.report.reason) result.report.orders result.report.bytes
         out.new }
     ensures left { Left result.solver half (areas a.new b.new c.new d.new) }
 {
@@ -53,19 +53,19 @@ fn answer_orders(
     // A step is as wide as what stands there, so no range is counted.
     while at < s.len() {
         let Some((from, size)) = next_order(s, at) else {
-            return closed(10, orders, to, x);
+            return closed(Reason::Length, orders, to, x);
         };
         let bytes = order_at(s, from, size);
         let r = serve_order(x, half, bytes, a, b, c, d, out, to);
-        if out.len() < r.next {
-            return closed(11, orders, to, r.solver);
-        }
+        let Some(next) = r.next else {
+            return closed(Reason::Room, orders, to, r.solver);
+        };
         x = r.solver;
-        to = r.next;
+        to = next;
         orders += 1;
         at = from + size;
     }
-    closed(0, orders, to, x)
+    closed(Reason::UsedUp, orders, to, x)
 }
 
 // The run in areas of just the words that a session has, within limits; their words are all 0 at the end.
@@ -82,7 +82,7 @@ fn run_in(
 ) -> Report
     requires areas { AreasSuffice (counters variables nodes) half (length a.old) (areas a.old b.old c.old d.old) }
     requires room { (length s.now ≤ 16777216) × (length out.old ≤ 16777216) }
-    ensures run { Ended (limits_of (counters variables nodes)) s.now out.old result.reason result.orders result.bytes
+    ensures run { Ended (limits_of (counters variables nodes)) s.now out.old (number_of_reason result.reason) result.orders result.bytes
         out.new }
     ensures clear { Zero a.new × Zero b.new × Zero c.new × Zero d.new }
 {
@@ -109,7 +109,7 @@ fn run_within(
     requires areas { (words ≤ length a.old) × (words ≤ length b.old) × (words ≤ length c.old) × (words ≤ length d.old)
         × AreasSuffice (counters variables nodes) half words (areas (take words a.old) (take words b.old) (take words c.old) (take words d.old)) }
     requires room { (length s.now ≤ 16777216) × (length out.old ≤ 16777216) }
-    ensures { finished result.reason result.orders result.bytes out.new a.new b.new c.new
+    ensures { finished (number_of_reason result.reason) result.orders result.bytes out.new a.new b.new c.new
         d.new ≡ state_after_run (run_of (limits_of (counters variables nodes)) s.now (length out.old)) out.old
         a.old b.old c.old d.old }
 {
@@ -153,7 +153,7 @@ fn within_bounds(sheet: usize, out: usize, a: usize, b: usize, c: usize, d: usiz
     16384 <= d
 }
 
-// The run of a sheet, in areas of any length: 12 where the sheet or the output is too long or an area too short.
+// The run of a sheet, in areas of any length: nothing is run where the sheet or the output is too long or an area too short.
 pub fn run_sheet(
     sheet: &[u8],
     out: &mut [u8],
@@ -162,13 +162,13 @@ pub fn run_sheet(
     c: &mut [u32],
     d: &mut [u32],
 ) -> Report
-    ensures { finished result.reason result.orders result.bytes out.new a.new b.new c.new
+    ensures { finished (number_of_reason result.reason) result.orders result.bytes out.new a.new b.new c.new
         d.new ≡ entry_result document_limits 16384 sheet.now out.old a.old b.old c.old
         d.old }
 {
     if !within_bounds(sheet.len(), out.len(), a.len(), b.len(), c.len(), d.len()) {
         return Report {
-            reason: 12,
+            reason: Reason::Sizes,
             orders: 0,
             bytes: 0,
         };

@@ -8,7 +8,7 @@ ghost use Rattle.solver.specs.Words.PendingContract.{strict_of};
 ghost use Rattle.solver.specs.Words.ConstrainContract.{Scratch, pending_from};
 ghost use Rattle.solver.specs.Words.SessionRepresentation.{limits_of, verdict_number};
 ghost use Rattle.sheet.specs.Sheet.{solve};
-ghost use Rattle.sheet.specs.Words.FramingContract.{OutputRoom, output_at};
+ghost use Rattle.sheet.specs.Words.FramingContract.{OutputRoom, output_at, written_to};
 ghost use Rattle.solver.specs.Words.OrderTerms.{Poses, PosesPair, Frames};
 ghost use Rattle.sheet.specs.Words.SessionOrdersContract.{lent, Does, DoesPair};
 
@@ -29,10 +29,10 @@ pub fn defer_term(
     requires room { OutputRoom out.old to }
     ensures { (z : Session) (t : Term) → Poses x tokens.now.kinds.now tokens.now.vals.now tables.old z t
         → Does (lent x (take x.top tokens.now.kinds.now) (take x.top tokens.now.vals.now) tables.old) result.solver tables.new z
-        (solve (limits_of x) z (orders.defer t)) (output_at out.old to) (output_at out.new result.next) }
+        (solve (limits_of x) z (orders.defer t)) (output_at out.old to) (written_to out.new result.next) }
 {
     let next = write_empty_answer(out, to);
-    if out.len() < next {
+    if next.is_none() {
         return AfterOrder { solver: x, next };
     }
     let y = x.defer_never(tokens, tables);
@@ -54,13 +54,14 @@ pub fn resolve_term(
     ensures clear { Zero frames.new }
     ensures does { (z : Session) (t : Term) → Poses x tokens.now.kinds.now tokens.now.vals.now tables.now z t
         → Does (lent x (take x.top tokens.now.kinds.now) (take x.top tokens.now.vals.now) tables.now) result.solver tables.now z
-        (solve (limits_of x) z (orders.resolving t)) (output_at out.old to) (output_at out.new result.next) }
+        (solve (limits_of x) z (orders.resolving t)) (output_at out.old to) (written_to out.new result.next) }
 {
     let next = resolved(x, tokens, tables, frames, Subject::Follows, out, to);
     AfterOrder { solver: x, next }
 }
 
-// A verdict as a byte.
+// A verdict as a byte. It is a function, for with the cast in its place the proof of `constrain_order` has to name what Rattle makes of the enum, which
+// may change.
 fn verdict_number(v: Verdict) -> u8
     ensures { result ≡ verdict_number v }
 {
@@ -88,11 +89,13 @@ pub fn constrain_order(
     ensures does { (z : Session) (t u : Term) → PosesPair x tokens.now.kinds.now tokens.now.vals.now tables.old z q t u
         → nodes ≡ z.kept + (size t + size u)
         → DoesPair (lent x tokens.now.kinds.now tokens.now.vals.now tables.old) result.solver tables.new z
-        (solve (limits_of x) z (orders.pair (strict_of access) k t u)) (output_at out.old to) (output_at out.new result.next) }
+        (solve (limits_of x) z (orders.pair (strict_of access) k t u)) (output_at out.old to) (written_to out.new result.next) }
 {
     if out.len() - to < 3 {
-        let next = out.len() + 1;
-        return AfterOrder { solver: x, next };
+        return AfterOrder {
+            solver: x,
+            next: None,
+        };
     }
     let r = x.constrain(tokens, tables, work, q, k, nodes, access);
     let solver = r.solver;

@@ -1,5 +1,5 @@
 -- A session in the four work areas, and an order answered there.
-use Rattle.std.specs.Prelude.{List, ◌≡◌, ℕ, ◌+◌, ◌*◌, ◌≤◌, ◌<◌, length, take, drop}
+use Rattle.std.specs.Prelude.{Some, None, List, ◌≡◌, ℕ, ◌+◌, ◌*◌, ◌≤◌, ◌<◌, length, take, drop}
 use Rattle.std.proofs.lemmas.List.Edits.{sets}
 use Rattle.solver.specs.declared.Solver.{Solver}
 use Rattle.solver.specs.Session.{Session}
@@ -8,7 +8,7 @@ use Rattle.solver.specs.Words.Worklist.{Zero}
 use Rattle.solver.specs.Words.ConstrainContract.{pending_from}
 use Rattle.solver.specs.Words.SessionsContract.{table_words}
 use Rattle.sheet.specs.Sheet.{Step, order_of, framed}
-use Rattle.sheet.specs.Words.FramingContract.{Output}
+use Rattle.sheet.specs.Words.FramingContract.{Output, Wrote}
 
 -- the words of the four areas
 pub record Areas : Type 0 where
@@ -48,15 +48,15 @@ pub record AreasSuffice (x : Solver) (half words : ℕ) (m : Areas) : Type 0 whe
   pub marks : x.variables + x.variables ≤ words
   pub rules : x.nodes ≤ 2048
 
--- A step of the definition taken, with the output w before it and v after it: its answer whole, with its effect, or nothing at all. v is written
--- up to the end of the answer, or past the end of the output.
-pub record Answers (x : Solver) (half : ℕ) (m : Areas) (s : Session) (st : Step) (w v : Output) (old : Solver) : Type 0 where
+-- A step of the definition taken, with the output w before it and v after it: its answer whole, with its effect, or nothing at all. The position
+-- after the answer is returned, or none.
+pub record Answers (x : Solver) (half : ℕ) (m : Areas) (s : Session) (st : Step) (w : Output) (v : Wrote) (old : Solver) : Type 0 where
   pub fits : w.at + length (framed st.answer) ≤ length w.bytes
-      → (v.at ≡ w.at + length (framed st.answer)) × (v.bytes ≡ sets w.bytes w.at (framed st.answer)) × RepresentsInAreas x half m st.session
-  pub long : length w.bytes < w.at + length (framed st.answer) → (v.at ≡ length w.bytes + 1) × (v.bytes ≡ w.bytes) × RepresentsInAreas x half m s
+      → (v.next ≡ Some (w.at + length (framed st.answer))) × (v.bytes ≡ sets w.bytes w.at (framed st.answer)) × RepresentsInAreas x half m st.session
+  pub long : length w.bytes < w.at + length (framed st.answer) → (v.next ≡ None) × (v.bytes ≡ w.bytes) × RepresentsInAreas x half m s
   pub variables : x.variables ≡ old.variables
   pub nodes : x.nodes ≡ old.nodes
 
 -- an order answered: the step is the one that its bytes say
-abbrev pub Served : (x : Solver) (half : ℕ) (m : Areas) (s : Session) (order : List ℕ) (w v : Output) (old : Solver) → Type 0
+abbrev pub Served : (x : Solver) (half : ℕ) (m : Areas) (s : Session) (order : List ℕ) (w : Output) (v : Wrote) (old : Solver) → Type 0
 Served x half m s order w v old = Answers x half m s (order_of (limits_of old) s order) w v old

@@ -20,7 +20,7 @@ use Rattle.sheet.specs.declared.Order.{Order}
 use Rattle.sheet.specs.Fields.{Field}
 use Rattle.sheet.specs.OrderTable.{Row, row_in, command_of}
 use Rattle.sheet.specs.Sheet.{Step, table, framed}
-use Rattle.sheet.specs.Words.FramingContract.{Output, Framed}
+use Rattle.sheet.specs.Words.FramingContract.{Output, Wrote, Framed}
 use Rattle.sheet.specs.Words.OrderGiven.{Given}
 
 -- what the solver is lent: its counters, the tokens and the table
@@ -35,8 +35,8 @@ lent x ks vs ts = record { counters = x; kinds = ks; vals = vs; table = ts }
 
 -- A step of the definition done on what is lent, with the output w before it and v after it: its answer is written and the session after it is
 -- held, or the answer does not fit and the session is held that was. y and us are the counters and the table after it.
-pub record Does (m : Lent) (y : Solver) (us : List ℕ) (z : Session) (st : Step) (w v : Output) : Type 0 where
-  pub answer : Framed st.answer w.bytes w.at v.bytes v.at
+pub record Does (m : Lent) (y : Solver) (us : List ℕ) (z : Session) (st : Step) (w : Output) (v : Wrote) : Type 0 where
+  pub answer : Framed st.answer w.bytes w.at v.bytes v.next
   pub whole : w.at + length (framed st.answer) ≤ length w.bytes → Represents y m.kinds m.vals us st.session
   pub long : length w.bytes < w.at + length (framed st.answer) → Represents y m.kinds m.vals us z
   pub beside : Beside m.counters y m.table us
@@ -89,8 +89,8 @@ pair_number true = 22
 
 -- Such an order done. Where a variable was bound, the session after it is held by all of the tokens. Else the counters and the table are as they were: nothing was
 -- bound, and the session is the same, or the answer does not fit.
-pub record DoesPair (m : Lent) (y : Solver) (us : List ℕ) (z : Session) (st : Step) (w v : Output) : Type 0 where
-  pub answer : Framed st.answer w.bytes w.at v.bytes v.at
+pub record DoesPair (m : Lent) (y : Solver) (us : List ℕ) (z : Session) (st : Step) (w : Output) (v : Wrote) : Type 0 where
+  pub answer : Framed st.answer w.bytes w.at v.bytes v.next
   pub bound : (y.revision ≡ m.counters.revision → ⊥) → Represents y m.kinds m.vals us st.session
   pub quiet : y.revision ≡ m.counters.revision → (y ≡ m.counters) × (us ≡ m.table)
   pub same : y.revision ≡ m.counters.revision → w.at + length (framed st.answer) ≤ length w.bytes → st.session ≡ z

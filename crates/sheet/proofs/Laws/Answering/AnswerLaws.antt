@@ -1,14 +1,18 @@
 -- What the functions that answer are told by those of crate terms, as answers in the output.
-use mathlib.Core.Path.{◌≡◌, refl, sym, ap, ◌∙◌}
+use mathlib.Core.Path.{◌≡◌, refl, sym, ap, ap₂, subst, ◌∙◌}
 use mathlib.Core.Bool.{Bool, true, false, not}
 use mathlib.Core.List.{List, [], ◌∷◌, ◌++◌}
 use mathlib.Core.Option.{some}
-use Prim.Native.Nat.{ℕ, ◌+◌, ◌≤◌, ◌<◌}
+use denote.Param.Members.{Mut, Called}
+use Rattle.std.specs.Iterator.{ActsAs}
+use Rattle.std.specs.Array.{MapsFrom, IsMapOf}
+use Rattle.std.specs.Prelude.{map}
+use Prim.Native.Nat.{ℕ, zero, suc, ◌+◌, ◌≤◌, ◌<◌}
 use native.Mathlib.Omega.{arith}
 use native.Mathlib.Numerals.{add-one}
 use borrow.Author.Tests.{lt-ltb, le-ltb, eq-eqb, ne_eqb, eqb-false}
-use lib.ListN.{length, length-append, set}
-use lib.Seq.{sets}
+use lib.ListN.{length, length-append, set, drop, drop_of_length-le}
+use lib.Seq.{sets, drop-cons}
 use Rattle.solver.specs.TermTypes.{Binders, Parameter}
 use Rattle.solver.specs.Terms.Result.{got}
 use Rattle.solver.specs.Terms.Parameters.{parameters}
@@ -25,19 +29,19 @@ use Rattle.solver.proofs.Terms.NormalLaws.{refused_number, few_number, long_numb
 use Rattle.solver.specs.declared.Ready.{Ready}
 use Rattle.solver.specs.declared.Unfinished.{Unfinished}
 use Rattle.solver.specs.declared.Unfinished.TheVariants.{TooMany, TooLong}
-use Rattle.std.specs.Prelude.{Result, Ok, Err}
+use Rattle.std.specs.Prelude.{Option, Some, None, Result, Ok, Err}
 use Rattle.sheet.specs.OrderTable.{Answer, refusal, outcome}
-use Rattle.sheet.specs.Operations.{bit, bits, seven, perhaps, settled}
+use Rattle.sheet.specs.Operations.{perhaps, settled}
 use Rattle.sheet.specs.Words.FramingContract.{Framed, opening, Begun}
 use Rattle.sheet.specs.Words.OperationsContract.{Two}
 use Rattle.sheet.proofs.Laws.Answering.FramingLaws.{value_frame, frame_over, value_in, value_over}
 
 -- ---- in the places of equals
 
-pub frame_as : (a b : Answer) → a ≡ b → (out₀ : List ℕ) (to : ℕ) (out : List ℕ) (r : ℕ) → Framed a out₀ to out r → Framed b out₀ to out r
+pub frame_as : (a b : Answer) → a ≡ b → (out₀ : List ℕ) (to : ℕ) (out : List ℕ) (r : Option ℕ) → Framed a out₀ to out r → Framed b out₀ to out r
 frame_as a b e out₀ to out r x = rw e at x
 
-pub frame_from : (a : Answer) (out₁ out₀ : List ℕ) → out₁ ≡ out₀ → (to : ℕ) (out : List ℕ) (r : ℕ) → Framed a out₁ to out r → Framed a out₀ to out r
+pub frame_from : (a : Answer) (out₁ out₀ : List ℕ) → out₁ ≡ out₀ → (to : ℕ) (out : List ℕ) (r : Option ℕ) → Framed a out₁ to out r → Framed a out₀ to out r
 frame_from a out₁ out₀ e to out r x = rw e at x
 
 pub one_byte : (a b : ℕ) → a ≡ b → outcome (a ∷ []) ≡ outcome (b ∷ [])
@@ -75,28 +79,29 @@ module _ (ks vs s : List ℕ) (b : Binders) (a : ℕ) where
   }
 
 -- x was counted, an opening made for it, and it was written or did not fit
-module _ (out₀ out₁ : List ℕ) (n to : ℕ) (out₂ : List ℕ) (at : ℕ) (x : List ℕ) (c : Writes false out₀ 0 n out₁ x) where
-  pub counted_over : Begun n out₁ to out₂ at → length out₁ < at → Framed (outcome x) out₀ to out₂ at
-  counted_over y h =
+module _ (out₀ out₁ : List ℕ) (n to : ℕ) (out₂ : List ℕ) (x : List ℕ) (c : Writes false out₀ 0 n out₁ x) where
+  pub counted_over : Begun n out₁ to out₂ None → Framed (outcome x) out₀ to out₂ None
+  counted_over y =
       let e : out₁ ≡ out₀ = c.wrote in
-      frame_from (outcome x) out₁ out₀ e to out₂ at (value_over x n (omega (arith, c.next)) out₁ to out₂ at y h)
+      frame_from (outcome x) out₁ out₀ e to out₂ None (value_over x n (omega (arith, c.next)) out₁ to out₂ y)
 
-  pub counted_in : Begun n out₁ to out₂ at → at ≤ length out₁ → (out : List ℕ) (r : ℕ) → Writes true out₂ at r out x → Framed (outcome x) out₀ to out r
-  counted_in y h out r w =
+  pub counted_in : (at : ℕ) → Begun n out₁ to out₂ (Some at) → (out : List ℕ) (r : ℕ) → Writes true out₂ at r out x → Framed (outcome x) out₀ to out (Some r)
+  counted_in at y out r w =
       let e : out₁ ≡ out₀ = c.wrote in
-      frame_from (outcome x) out₁ out₀ e to out r (value_in x n (omega (arith, c.next)) out₁ to out₂ at y h out r w.next w.wrote)
+      frame_from (outcome x) out₁ out₀ e to out (Some r) (value_in x n (omega (arith, c.next)) out₁ to out₂ at y out r w.next w.wrote)
 
   -- the same after a 1
-  pub one_over : Begun (n + 1) out₁ to out₂ at → length out₁ < at → Framed (outcome (1 ∷ x)) out₀ to out₂ at
-  one_over y h =
+  pub one_over : Begun (n + 1) out₁ to out₂ None → Framed (outcome (1 ∷ x)) out₀ to out₂ None
+  one_over y =
       let e : out₁ ≡ out₀ = c.wrote in
-      frame_from (outcome (1 ∷ x)) out₁ out₀ e to out₂ at (value_over (1 ∷ x) (n + 1) (omega (arith, c.next)) out₁ to out₂ at y h)
+      frame_from (outcome (1 ∷ x)) out₁ out₀ e to out₂ None (value_over (1 ∷ x) (n + 1) (omega (arith, c.next)) out₁ to out₂ y)
 
-  pub one_in : Begun (n + 1) out₁ to out₂ at → at ≤ length out₁ → (out : List ℕ) (r : ℕ) → Writes true (set out₂ at 1) (at + 1) r out x → Framed (outcome (1 ∷ x)) out₀ to out r
-  one_in y h out r w =
+  pub one_in : (at : ℕ) → Begun (n + 1) out₁ to out₂ (Some at) → (out : List ℕ) (r : ℕ) → Writes true (set out₂ at 1) (at + 1) r out x
+      → Framed (outcome (1 ∷ x)) out₀ to out (Some r)
+  one_in at y out r w =
       let e : out₁ ≡ out₀ = c.wrote in
       let f : out ≡ sets out₂ at (1 ∷ x) = w.wrote ∙ ap (λ (k : ℕ). sets (set out₂ at 1) k x) (add-one at) in
-      frame_from (outcome (1 ∷ x)) out₁ out₀ e to out r (value_in (1 ∷ x) (n + 1) (omega (arith, c.next)) out₁ to out₂ at y h out r (omega (arith, w.next)) f)
+      frame_from (outcome (1 ∷ x)) out₁ out₀ e to out (Some r) (value_in (1 ∷ x) (n + 1) (omega (arith, c.next)) out₁ to out₂ at y out r (omega (arith, w.next)) f)
 
 -- whether there is a term
 pub apply_none : (ps : List Parameter) (t : Term) (es : List Entry) (rs : List Receiver) (ts : List Term) → (length ts ≡ length ps → ⊥) → perhaps (apply ps t (record { parameters = es; receivers = rs }) ts) ≡ 0 ∷ []
@@ -119,11 +124,11 @@ pub no_parameters : (s : List ℕ) → parameters s 0 0 ≡ got [] 0
 unfolding parameters
 no_parameters s = refl
 
-pub contrary : (q : Question) (t : Term) (b : Bool) → q ≡ IsConcrete → b ≡ asked [] (number_of_question q) t → bit (not b) ≡ bit (answered (number_of_question q) t)
+pub contrary : (q : Question) (t : Term) (b : Bool) → q ≡ IsConcrete → b ≡ asked [] (number_of_question q) t → not b ≡ answered (number_of_question q) t
 unfolding answered
 contrary q t b e h = rw (h, eq-eqb (number_of_question q) 2 (ap number_of_question e))
 
-pub plainly : (q : Question) (t : Term) (b : Bool) → (q ≡ IsConcrete → ⊥) → b ≡ asked [] (number_of_question q) t → bit b ≡ bit (answered (number_of_question q) t)
+pub plainly : (q : Question) (t : Term) (b : Bool) → (q ≡ IsConcrete → ⊥) → b ≡ asked [] (number_of_question q) t → b ≡ answered (number_of_question q) t
 unfolding answered
 plainly q t b e h = rw (h, ne_eqb (number_of_question q) 2 (other q e))
   where
@@ -137,11 +142,18 @@ plainly q t b e h = rw (h, ne_eqb (number_of_question q) 2 (other q e))
     other ContainsProjection d z = absurd (omega (arith, z))
     other IsResolvedIn d z = absurd (omega (arith, z))
 
-pub all_seven : (t : Term) (a b c d e f g : ℕ)
-    → a ≡ bit (answered 0 t) → b ≡ bit (answered 1 t) → c ≡ bit (answered 2 t) → d ≡ bit (answered 3 t) → e ≡ bit (answered 4 t) → f ≡ bit (answered 5 t) → g ≡ bit (answered 6 t)
-    → outcome (a ∷ b ∷ c ∷ d ∷ e ∷ f ∷ g ∷ []) ≡ outcome (seven t)
-unfolding bits
-all_seven t a b c d e f g p q r s u v w = rw (p, q, r, s, u, v, w)
+-- what `map` gives of an array, where each call gives what h gives and leaves the function as it was
+pub maps_all : {F A : Type 0} (g : Mut F (A × Unit {0}) ℕ) (s : F) (xs : List A) (ys : List ℕ) → IsMapOf g s xs ys (length xs) → (h : A → ℕ) → ActsAs g s h → ys ≡ map h xs
+maps_all {F} {A} g s xs ys M h acts = go (length xs) 0 s refl (omega arith) M.each
+  where
+    go : (n i : ℕ) (f : F) → f ≡ s → i + n ≡ length xs → MapsFrom g f xs ys i n → drop i ys ≡ map h (drop i xs)
+    go zero i f e l m = drop_of_length-le ys {i = i} (omega (arith, M.long)) ∙ ap (map h) (sym (drop_of_length-le xs {i = i} (omega arith)))
+    go (suc n) i f e l m =
+        let c = acts m.1 m.2 m.0 (subst (λ (z : F). Called g z (m.1, tt) m.2 m.0) e m.5) in
+        let rest : drop (suc i) ys ≡ map h (drop (suc i) xs) = go n (suc i) m.0 c.0 (omega arith) (rw (add-one i) at m.6) in
+        drop-cons ys i 0 (omega (arith, M.long))
+        ∙ ap₂ (λ (y : ℕ) (zs : List ℕ). y ∷ zs) (m.4.1 0 ∙ c.1) rest
+        ∙ ap (map h) (ap (λ (x : A). x ∷ drop (suc i) xs) (sym m.3.0) ∙ sym (drop-cons xs i m.1 (omega arith)))
 
 -- ---- orders 19 and 20
 
@@ -154,9 +166,9 @@ unfolding settled
 settled_term o h = rw (le-ltb most o.count h)
 
 -- a value that alone does not fit
-pub value_long : (v out : List ℕ) (to : ℕ) → length out < to + length v → Framed (outcome v) out to out (length out + 1)
+pub value_long : (v out : List ℕ) (to : ℕ) → length out < to + length v → Framed (outcome v) out to out None
 value_long v out to h =
-    frame_over (outcome v) (opening (length v) ++ v) (value_frame v) out to out (length out + 1) (omega (arith, length-append (opening (length v)) v)) refl refl
+    frame_over (outcome v) (opening (length v) ++ v) (value_frame v) out to out (omega (arith, length-append (opening (length v)) v)) refl
 
 -- the answers
 module _ (ks vs hs cs out₀ : List ℕ) (to : ℕ) (r : Result Ready Unfinished) (o : Out) (x : Answers ks vs hs cs out₀ to levels most o r) where
@@ -169,10 +181,10 @@ module _ (ks vs hs cs out₀ : List ℕ) (to : ℕ) (r : Result Ready Unfinished
   pub answers_many : r ≡ Err TooMany → refusal 9 ≡ settled o
   answers_many e = settled_refused o (refused_number most (length out₀) to o (number_is 9 (ap answer_number e)))
 
-  pub answers_long : r ≡ Err TooLong → Framed (settled o) out₀ to out₀ (length out₀ + 1)
+  pub answers_long : r ≡ Err TooLong → Framed (settled o) out₀ to out₀ None
   answers_long e =
       let l = long_number most (length out₀) to o (number_is 11 (ap answer_number e)) in
-      frame_as (outcome (bytes o.term)) (settled o) (settled_term o (few_as 11 (ap answer_number e) (eqb-false 9 11 refl))) out₀ to out₀ (length out₀ + 1) (value_long (bytes o.term) out₀ to l)
+      frame_as (outcome (bytes o.term)) (settled o) (settled_term o (few_as 11 (ap answer_number e) (eqb-false 9 11 refl))) out₀ to out₀ None (value_long (bytes o.term) out₀ to l)
 
   pub answers_done : (w : Ready) → r ≡ Ok w → (o.count ≤ most) × (w.size ≡ length (bytes o.term)) × Stands ks vs hs cs w levels o.term
   answers_done w e =

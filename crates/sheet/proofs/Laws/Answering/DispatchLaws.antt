@@ -40,7 +40,7 @@ use Rattle.sheet.specs.Words.FieldsFormed.{FormedFields}
 use Rattle.sheet.specs.Words.OrderGiven.{FitsLayout, Given}
 use Rattle.sheet.specs.Words.FieldLayout.{is_operation, SpotOf, field_items, all_items, spare, spares, spot_at, start_at}
 use Rattle.sheet.specs.Words.OrderReaderContract.{RulesRoom, OrderRoom}
-use Rattle.sheet.specs.Words.FramingContract.{Output, Framed}
+use Rattle.sheet.specs.Words.FramingContract.{Output, Wrote, Framed}
 use Rattle.sheet.specs.Words.OperationsContract.{numbers_of, Asks, Replies, plain_orders}
 use Rattle.sheet.specs.Words.SessionInAreas.{Areas, areas, RepresentsInAreas, Answers}
 use Rattle.sheet.specs.Entry.{AreasReady}
@@ -109,13 +109,13 @@ ready_room x half s a b c d ws R h w =
 -- ---- answers
 
 -- in areas that are the same
-answers_at : {x y : Solver} {half : ℕ} {a b a₀ b₀ c d : List ℕ} {z : Session} {st : Step} {w v : Output} → area a b ≡ area a₀ b₀
+answers_at : {x y : Solver} {half : ℕ} {a b a₀ b₀ c d : List ℕ} {z : Session} {st : Step} {w : Output} {v : Wrote} → area a b ≡ area a₀ b₀
     → Answers y half (areas a₀ b₀ c d) z st w v x → Answers y half (areas a b c d) z st w v x
 answers_at {x = x} {y = y} {half = half} {c = c} {d = d} {z = z} {st = st} {w = w} {v = v} e A =
     subst (λ (u : Area). Answers y half (areas u.kinds u.vals c d) z st w v x) (sym e) A
 
 -- that leave the session as it was
-answers_same : {x : Solver} {half : ℕ} {m : Areas} {z : Session} → RepresentsInAreas x half m z → (answer : Answer) (w v : Output) → Framed answer w.bytes w.at v.bytes v.at
+answers_same : {x : Solver} {half : ℕ} {m : Areas} {z : Session} → RepresentsInAreas x half m z → (answer : Answer) (w : Output) (v : Wrote) → Framed answer w.bytes w.at v.bytes v.next
     → Answers x half m z (record { session = z; answer = answer }) w v x
 answers_same Z answer w v F =
     record {
@@ -126,7 +126,7 @@ answers_same Z answer w v F =
     }
 
 -- the step is another name for one that is answered
-step_as : {x y : Solver} {half : ℕ} {m : Areas} {z : Session} {st st' : Step} {w v : Output} → st ≡ st' → Answers y half m z st' w v x → Answers y half m z st w v x
+step_as : {x y : Solver} {half : ℕ} {m : Areas} {z : Session} {st st' : Step} {w : Output} {v : Wrote} → st ≡ st' → Answers y half m z st' w v x → Answers y half m z st w v x
 step_as {x = x} {y = y} {half = half} {m = m} {z = z} {w = w} {v = v} e A = subst (λ (u : Step). Answers y half m z u w v x) (sym e) A
 
 -- ---- an order taken
@@ -158,7 +158,7 @@ module _ {x : Solver} {half : ℕ} {s : List ℕ} {m : Areas} {ts : Area} {ws : 
   step_is z Z = ap (λ (q : Result Read). step_read (limits_of x) z q) (ap (λ (n : ℕ). read_order s n) (sym Z.represents.issued) ∙ T.whole.is)
 
   -- served in the areas that there were: with the tokens of the order cleared they are those
-  answered : (y : Solver) → y.top ≡ x.top → (c' d' : List ℕ) (w v : Output) → Serves x y half s m (areas m.a m.b c' d') w v
+  answered : (y : Solver) → y.top ≡ x.top → (c' d' : List ℕ) (w : Output) (v : Wrote) → Serves x y half s m (areas m.a m.b c' d') w v
       → Answered x y half s m ts o c' d' w v
   answered y e c' d' w v S =
       record {
@@ -167,7 +167,7 @@ module _ {x : Solver} {half : ℕ} {s : List ℕ} {m : Areas} {ts : Area} {ws : 
       }
 
   -- too many nodes
-  pub crowded : x.nodes < o.nodes → (w v : Output) → Framed (refusal 7) w.bytes w.at v.bytes v.at → Answered x x half s m ts o m.c m.d w v
+  pub crowded : x.nodes < o.nodes → (w : Output) (v : Wrote) → Framed (refusal 7) w.bytes w.at v.bytes v.next → Answered x x half s m ts o m.c m.d w v
   crowded h w v F =
       answered x refl m.c m.d w v
       (λ z A Z.
@@ -179,7 +179,7 @@ module _ {x : Solver} {half : ℕ} {s : List ℕ} {m : Areas} {ts : Area} {ws : 
 
   -- a command done on what is lent, other than order 4
   told : (k : Command) → ((z : Session) → RepresentsInAreas x half m z → order_of (limits_of x) z s ≡ solve (limits_of x) z k)
-      → (y : Solver) (c' d' : List ℕ) (w v : Output) → take half c' ≡ take half m.c → Zero d'
+      → (y : Solver) (c' d' : List ℕ) (w : Output) (v : Wrote) → take half c' ≡ take half m.c → Zero d'
       → ((z : Session) → InOrder (issued z) z.solver → RepresentsInAreas x half m z
       → Does (lent x (take x.top m.a) (take x.top m.b) (drop half m.c)) y (drop half c') z (solve (limits_of x) z k) w v)
       → Answered x y half s m ts o c' d' w v
@@ -235,7 +235,7 @@ module _ {x : Solver} {half : ℕ} {s : List ℕ} {m : Areas} {ts : Area} {ws : 
           among = operations_among o.kind T.whole.read.kind T.whole.kind h;
         }
 
-    pub operated : true ≡ is_operation (row_in table o.kind) → (w v : Output) → Replies ts.kinds ts.vals s ws o (λ y. Framed y w.bytes w.at v.bytes v.at)
+    pub operated : true ≡ is_operation (row_in table o.kind) → (w : Output) (v : Wrote) → Replies ts.kinds ts.vals s ws o (λ y. Framed y w.bytes w.at v.bytes v.next)
         → (hs cs : List ℕ) → area hs cs ≡ area (take half m.c) m.d → Answered x x half s m ts o (hs ++ drop half m.c) cs w v
     operated h w v R hs cs e =
         answered x refl (hs ++ drop half m.c) cs w v
@@ -294,7 +294,7 @@ module _ {x : Solver} {half : ℕ} {s : List ℕ} {m : Areas} {ts : Area} {ws : 
       plain_lent z Z = subst (λ (u : Area). Represents x u.kinds u.vals (drop half m.c) z) (sym plain_areas) Z.represents
 
       pub plain_answered : (c : Command) → Says ts.kinds ts.vals s ws o c
-          → (y : Solver) (c' d' : List ℕ) (w v : Output) → take half c' ≡ take half m.c → Zero d'
+          → (y : Solver) (c' d' : List ℕ) (w : Output) (v : Wrote) → take half c' ≡ take half m.c → Zero d'
           → ((z : Session) → InOrder (issued z) z.solver → Represents x (take o.top ts.kinds) (take o.top ts.vals) (drop half m.c) z
           → Does (lent x (take o.top ts.kinds) (take o.top ts.vals) (drop half m.c)) y (drop half c') z (solve (limits_of x) z c) w v)
           → Answered x y half s m ts o c' d' w v
@@ -351,7 +351,7 @@ module _ {x : Solver} {half : ℕ} {s : List ℕ} {m : Areas} {ts : Area} {ws : 
           }
 
       pub posed : (k : Command) → ((z : Session) → RepresentsInAreas x half m z → order_of (limits_of x) z s ≡ solve (limits_of x) z k)
-          → (y : Solver) (c' d' : List ℕ) (w v : Output) → take half c' ≡ take half m.c → Zero d'
+          → (y : Solver) (c' d' : List ℕ) (w : Output) (v : Wrote) → take half c' ≡ take half m.c → Zero d'
           → ((z : Session) → Poses x (take o.top ts.kinds) (take o.top ts.vals) (drop half m.c) z t
           → Does (lent x (take x.top (take o.top ts.kinds)) (take x.top (take o.top ts.vals)) (drop half m.c)) y (drop half c') z (solve (limits_of x) z k) w v)
           → Answered x y half s m ts o c' d' w v
@@ -481,7 +481,7 @@ module _ {x : Solver} {half : ℕ} {s : List ℕ} {m : Areas} {ts : Area} {ws : 
             ∙ ap (λ (b : Bool). z.kept + keeps (not b) (size t + size u)) (ne_eqb (solver_of g).revision z.solver.revision other) in
             omega (arith, pair_few, pair_nodes z Z)
 
-        module _ (y : Solver) (c' d' : List ℕ) (w v : Output) (front : take half c' ≡ take half m.c) (clear : Zero d') (k : ℕ) (ek : k ≡ n)
+        module _ (y : Solver) (c' d' : List ℕ) (w : Output) (v : Wrote) (front : take half c' ≡ take half m.c) (clear : Zero d') (k : ℕ) (ek : k ≡ n)
             (E : (z : Session) → PosesPair x (take o.top ts.kinds) (take o.top ts.vals) (drop half m.c) z o.third.place t u → o.nodes ≡ z.kept + (size t + size u)
             → DoesPair (lent x (take o.top ts.kinds) (take o.top ts.vals) (drop half m.c)) y (drop half c') z (solve (limits_of x) z (orders.pair d k t u)) w v) where
           does : (z : Session) → InOrder (issued z) z.solver → RepresentsInAreas x half m z

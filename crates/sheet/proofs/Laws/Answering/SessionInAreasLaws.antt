@@ -3,6 +3,7 @@ use mathlib.Core.Path.{◌≡◌, sym, ap, subst, ◌∙◌}
 use mathlib.Core.Bool.{Bool, true, false, ◌&&◌}
 use mathlib.Core.Option.{Option, none, some}
 use mathlib.Core.List.{List, ◌++◌, append-nil}
+use Rattle.std.specs.declared.option.Option as rust
 use Prim.Native.Nat.{ℕ, ◌+◌, ◌-◌, ◌*◌, ◌≤◌}
 use native.Mathlib.Omega.{arith}
 use lib.ListN.{length, take, drop, length-drop}
@@ -25,7 +26,7 @@ use Rattle.sheet.specs.Words.SessionInAreas.{Areas, areas, RepresentsInAreas, An
 use Rattle.sheet.specs.Entry.{AreasReady}
 use Rattle.solver.specs.Words.OrderTerms.{Poses, PosesPair, Frames}
 use Rattle.sheet.specs.Words.SessionOrdersContract.{lent, Does, DoesPair}
-use Rattle.sheet.specs.Words.FramingContract.{Output, output_at}
+use Rattle.sheet.specs.Words.FramingContract.{Output, Wrote, output_at, written_to}
 use Rattle.sheet.proofs.Laws.Answering.SessionOrderLaws.{lent_revision}
 
 -- ---- room
@@ -102,7 +103,7 @@ module _ {x : Solver} {half : ℕ} {m : Areas} {z : Session} (Z : RepresentsInAr
       }
 
   -- AN ORDER DONE ON WHAT IS LENT IS ANSWERED IN THE AREAS
-  pub answers_does : (y : Solver) (c' d' : List ℕ) (st : Step) (w v : Output)
+  pub answers_does : (y : Solver) (c' d' : List ℕ) (st : Step) (w : Output) (v : Wrote)
       → Does (lent x (take x.top m.a) (take x.top m.b) (drop half m.c)) y (drop half c') z st w v → z.kept ≤ st.session.kept → Zero (take half c') → Zero d'
       → Answers y half (areas m.a m.b c' d') z st w v x
   answers_does y c' d' st w v D more f clear =
@@ -132,7 +133,7 @@ module _ {x : Solver} {half : ℕ} {m : Areas} {z : Session} (Z : RepresentsInAr
         few = omega (arith, L.kept);
       }
 
-  module _ (y : Solver) (c' d' : List ℕ) (st : Step) (w v : Output) (D : DoesPair (lent x (take top a) (take top b) (drop half m.c)) y (drop half c') z st w v)
+  module _ (y : Solver) (c' d' : List ℕ) (st : Step) (w : Output) (v : Wrote) (D : DoesPair (lent x (take top a) (take top b) (drop half m.c)) y (drop half c') z st w v)
       (front : Zero (take half c')) (clear : Zero d') where
     -- a variable was bound: the tokens stay
     pub answers_bound : (y.revision ≡ x.revision → ⊥) → top ≤ 64 + 6 * st.session.kept → Answers y half (areas a b c' d') z st w v x
@@ -196,19 +197,19 @@ module _ (half : ℕ) (c : List ℕ) where
   pub blank_tail : (m : ℕ) → Zero (drop m (drop half c)) → Zero (drop m (take (length c - half) (drop half c)))
   blank_tail m z = subst (λ (l : List ℕ). Zero (drop m l)) (sym tail_all) z
 
-  module _ (x y : Solver) (ks vs : List ℕ) (z : Session) (st : Step) (out₀ : List ℕ) (to : ℕ) (out : List ℕ) (r : ℕ) where
+  module _ (x y : Solver) (ks vs : List ℕ) (z : Session) (st : Step) (out₀ : List ℕ) (to : ℕ) (out : List ℕ) (r : rust.Option ℕ) where
     -- read only
-    pub does_part : Does (lent x ks vs (take (length c - half) (drop half c))) y (take (length c - half) (drop half c)) z st (output_at out₀ to) (output_at out r)
-        → Does (lent x ks vs (drop half c)) y (drop half c) z st (output_at out₀ to) (output_at out r)
-    does_part D = subst (λ (l : List ℕ). Does (lent x ks vs l) y l z st (output_at out₀ to) (output_at out r)) tail_all D
+    pub does_part : Does (lent x ks vs (take (length c - half) (drop half c))) y (take (length c - half) (drop half c)) z st (output_at out₀ to) (written_to out r)
+        → Does (lent x ks vs (drop half c)) y (drop half c) z st (output_at out₀ to) (written_to out r)
+    does_part D = subst (λ (l : List ℕ). Does (lent x ks vs l) y l z st (output_at out₀ to) (written_to out r)) tail_all D
 
     -- written
-    pub does_tail : (us : List ℕ) → half ≤ length c → Does (lent x ks vs (take (length c - half) (drop half c))) y us z st (output_at out₀ to) (output_at out r)
-        → Does (lent x ks vs (drop half c)) y (drop half (put_mid half (length c - half) c us)) z st (output_at out₀ to) (output_at out r)
+    pub does_tail : (us : List ℕ) → half ≤ length c → Does (lent x ks vs (take (length c - half) (drop half c))) y us z st (output_at out₀ to) (written_to out r)
+        → Does (lent x ks vs (drop half c)) y (drop half (put_mid half (length c - half) c us)) z st (output_at out₀ to) (written_to out r)
     does_tail us h D =
-        subst (λ (l : List ℕ). Does (lent x ks vs (drop half c)) y l z st (output_at out₀ to) (output_at out r)) (sym (tail_back us h)) (subst (λ (l : List ℕ). Does (lent x ks vs l) y us z st (output_at out₀ to) (output_at out r)) tail_all D)
+        subst (λ (l : List ℕ). Does (lent x ks vs (drop half c)) y l z st (output_at out₀ to) (written_to out r)) (sym (tail_back us h)) (subst (λ (l : List ℕ). Does (lent x ks vs l) y us z st (output_at out₀ to) (written_to out r)) tail_all D)
 
-    pub pair_does_tail : (us : List ℕ) → half ≤ length c → DoesPair (lent x ks vs (take (length c - half) (drop half c))) y us z st (output_at out₀ to) (output_at out r)
-        → DoesPair (lent x ks vs (drop half c)) y (drop half (put_mid half (length c - half) c us)) z st (output_at out₀ to) (output_at out r)
+    pub pair_does_tail : (us : List ℕ) → half ≤ length c → DoesPair (lent x ks vs (take (length c - half) (drop half c))) y us z st (output_at out₀ to) (written_to out r)
+        → DoesPair (lent x ks vs (drop half c)) y (drop half (put_mid half (length c - half) c us)) z st (output_at out₀ to) (written_to out r)
     pair_does_tail us h D =
-        subst (λ (l : List ℕ). DoesPair (lent x ks vs (drop half c)) y l z st (output_at out₀ to) (output_at out r)) (sym (tail_back us h)) (subst (λ (l : List ℕ). DoesPair (lent x ks vs l) y us z st (output_at out₀ to) (output_at out r)) tail_all D)
+        subst (λ (l : List ℕ). DoesPair (lent x ks vs (drop half c)) y l z st (output_at out₀ to) (written_to out r)) (sym (tail_back us h)) (subst (λ (l : List ℕ). DoesPair (lent x ks vs l) y us z st (output_at out₀ to) (written_to out r)) tail_all D)

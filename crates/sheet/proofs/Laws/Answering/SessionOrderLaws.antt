@@ -13,7 +13,7 @@ use Rattle.solver.specs.Terms.Term.{var, bytes}
 use Rattle.solver.specs.declared.Solver.{Solver}
 use Rattle.solver.specs.declared.Defaulted.{Defaulted}
 use Rattle.solver.specs.declared.Defaulted.TheVariants.{Requested, Deferred}
-use Rattle.std.specs.Prelude.{Some, None}
+use Rattle.std.specs.Prelude.{Some, None, is_some}
 use Rattle.std.specs.declared.option.Option as rust
 use Rattle.sheet.specs.declared.VariableOrder.{VariableOrder}
 use Rattle.sheet.specs.declared.VariableOrder.TheVariants.{Slot, Number, Hole}
@@ -33,7 +33,7 @@ use Rattle.solver.proofs.Laws.Table.MethodLaws.{beside_same, named_next, named_n
 use Rattle.sheet.specs.OrderTable.{Answer, refusal, outcome}
 use Rattle.sheet.specs.Operations.{bit}
 use Rattle.sheet.specs.Sheet.{Step, solve, answer_of, framed}
-use Rattle.sheet.specs.Words.FramingContract.{output_at, Framed, opening}
+use Rattle.sheet.specs.Words.FramingContract.{output_at, written_to, Framed, opening}
 use Rattle.sheet.specs.Words.SessionOrdersContract.{lent, Does, variable_command, site_of, variable_answer, termless_command}
 use Rattle.sheet.proofs.Laws.Answering.FramingLaws.{one_frame, frame_over, value_frame}
 
@@ -41,7 +41,7 @@ use Rattle.sheet.proofs.Laws.Answering.FramingLaws.{one_frame, frame_over, value
 
 module _ {x : Solver} {ks vs ts : List ℕ} {z : Session} (L : Represents x ks vs ts z) (st : Step) (out₀ : List ℕ) (to : ℕ) where
   -- the answer does not fit
-  pub does_not : length out₀ < to + length (framed st.answer) → Does (lent x ks vs ts) x ts z st (output_at out₀ to) (output_at out₀ (length out₀ + 1))
+  pub does_not : length out₀ < to + length (framed st.answer) → Does (lent x ks vs ts) x ts z st (output_at out₀ to) (written_to out₀ None)
   does_not h =
       record {
         answer = record { fits = λ k. absurd (omega arith); over = λ k. (refl, refl) };
@@ -50,18 +50,19 @@ module _ {x : Solver} {ks vs ts : List ℕ} {z : Session} (L : Represents x ks v
         beside = beside_same x ts;
       }
 
-  -- and so a position past the end tells
-  pub does_over : (out : List ℕ) (r : ℕ) → Framed st.answer out₀ to out r → length out₀ < r → Does (lent x ks vs ts) x ts z st (output_at out₀ to) (output_at out r)
-  does_over out r f h =
+  -- and so it is where no position is told
+  pub does_over : (out : List ℕ) (r : rust.Option ℕ) → Framed st.answer out₀ to out r → is_some r ≡ false → Does (lent x ks vs ts) x ts z st (output_at out₀ to) (written_to out r)
+  does_over out (Some n) f h = absurd (cc)
+  does_over out None f h =
       record {
         answer = f;
-        whole = λ k. absurd (omega (arith, (f.fits k).0));
+        whole = λ k. let p = (f.fits k).0 in absurd (cc);
         long = λ k. L;
         beside = beside_same x ts;
       }
 
   -- the session stays as it is
-  pub does_same : (out : List ℕ) (r : ℕ) → st.session ≡ z → Framed st.answer out₀ to out r → Does (lent x ks vs ts) x ts z st (output_at out₀ to) (output_at out r)
+  pub does_same : (out : List ℕ) (r : rust.Option ℕ) → st.session ≡ z → Framed st.answer out₀ to out r → Does (lent x ks vs ts) x ts z st (output_at out₀ to) (written_to out r)
   does_same out r e f =
       record {
         answer = f;
@@ -71,13 +72,14 @@ module _ {x : Solver} {ks vs ts : List ℕ} {z : Session} (L : Represents x ks v
       }
 
   -- the answer fits
-  pub does_whole : (y : Solver) (us out : List ℕ) (r : ℕ) → Framed st.answer out₀ to out r → r ≤ length out₀
-      → Represents y ks vs us st.session → Beside x y ts us → Does (lent x ks vs ts) y us z st (output_at out₀ to) (output_at out r)
-  does_whole y us out r f h M B =
+  pub does_whole : (y : Solver) (us out : List ℕ) (r : rust.Option ℕ) → Framed st.answer out₀ to out r → is_some r ≡ true
+      → Represents y ks vs us st.session → Beside x y ts us → Does (lent x ks vs ts) y us z st (output_at out₀ to) (written_to out r)
+  does_whole y us out None f h M B = absurd (cc)
+  does_whole y us out (Some n) f h M B =
       record {
         answer = f;
         whole = λ k. M;
-        long = λ k. absurd (omega (arith, (f.over k).0));
+        long = λ k. let p = (f.over k).0 in absurd (cc);
         beside = B;
       }
 
@@ -90,8 +92,8 @@ in_order_revision z A = ordered_revision (issued z) z.solver (in_order_ordered (
 pub lent_revision : (x : Solver) (ks vs ts : List ℕ) (z : Session) → InOrder (issued z) z.solver → Represents x ks vs ts z → x.revision ≤ x.variables
 lent_revision x ks vs ts z A L = omega (arith, in_order_revision z A, L.revision, L.fits.variables)
 
-pub revision_does : (x : Solver) (ks vs ts : List ℕ) (z : Session) → Represents x ks vs ts z → (n : ℕ) → n ≡ x.revision → (out₀ : List ℕ) (to : ℕ) (out : List ℕ) (r : ℕ)
-    → Framed (outcome (shortest n)) out₀ to out r → Does (lent x ks vs ts) x ts z (solve (limits_of x) z orders.revision) (output_at out₀ to) (output_at out r)
+pub revision_does : (x : Solver) (ks vs ts : List ℕ) (z : Session) → Represents x ks vs ts z → (n : ℕ) → n ≡ x.revision → (out₀ : List ℕ) (to : ℕ) (out : List ℕ) (r : rust.Option ℕ)
+    → Framed (outcome (shortest n)) out₀ to out r → Does (lent x ks vs ts) x ts z (solve (limits_of x) z orders.revision) (output_at out₀ to) (written_to out r)
 unfolding order answer_of
 revision_does x ks vs ts z L n e out₀ to out r f =
     does_same L (solve (limits_of x) z orders.revision) out₀ to out r refl
@@ -112,16 +114,16 @@ module _ {x : Solver} {ks vs ts : List ℕ} {z : Session} (L : Represents x ks v
   size : length (framed st.answer) ≡ 3
   size = ap (λ a. length (framed a)) e ∙ ap length (one_frame (bit (not (eqb st.session.solver.revision z.solver.revision))))
 
-  pub defaults_not : length out₀ - to < 3 → Does (lent x ks vs ts) x ts z st (output_at out₀ to) (output_at out₀ (length out₀ + 1))
+  pub defaults_not : length out₀ - to < 3 → Does (lent x ks vs ts) x ts z st (output_at out₀ to) (written_to out₀ None)
   defaults_not h = does_not L st out₀ to (omega (arith, size))
 
-  pub defaults_done : (y : Solver) (us out : List ℕ) (r a : ℕ) → 3 ≤ length out₀ - to → Represents y ks vs us st.session → Beside x y ts us
-      → a ≡ bit (not (eqb y.revision x.revision)) → Framed (outcome (a ∷ [])) out₀ to out r → Does (lent x ks vs ts) y us z st (output_at out₀ to) (output_at out r)
+  pub defaults_done : (y : Solver) (us out : List ℕ) (r : rust.Option ℕ) (a : ℕ) → 3 ≤ length out₀ - to → Represents y ks vs us st.session → Beside x y ts us
+      → a ≡ bit (not (eqb y.revision x.revision)) → Framed (outcome (a ∷ [])) out₀ to out r → Does (lent x ks vs ts) y us z st (output_at out₀ to) (written_to out r)
   defaults_done y us out r a h M B p f =
       let q : a ≡ bit (not (eqb st.session.solver.revision z.solver.revision)) = p ∙ rw (M.revision, L.revision) refl in
       let g : Framed st.answer out₀ to out r
       = subst (λ b. Framed b out₀ to out r) (ap (λ (n : ℕ). outcome (n ∷ [])) q ∙ sym e) f in
-      does_whole L st out₀ to y us out r g (omega (arith, (g.fits (omega (arith, size))).0, size)) M B
+      does_whole L st out₀ to y us out r g (ap is_some (g.fits (omega (arith, size))).0) M B
 
 -- ---- the variable of a place
 
@@ -196,24 +198,24 @@ module _ (lim : Limits) (z : Session) where
 
 -- refusal 8, whatever the order
 pub full_does : (x : Solver) (ks vs ts : List ℕ) (z : Session) → Represents x ks vs ts z → (c : orders.Command) → order (limits_of x) z c ≡ (z gives refused 8)
-    → (out₀ : List ℕ) (to : ℕ) (out : List ℕ) (r : ℕ) → Framed (refusal 8) out₀ to out r → Does (lent x ks vs ts) x ts z (solve (limits_of x) z c) (output_at out₀ to) (output_at out r)
+    → (out₀ : List ℕ) (to : ℕ) (out : List ℕ) (r : rust.Option ℕ) → Framed (refusal 8) out₀ to out r → Does (lent x ks vs ts) x ts z (solve (limits_of x) z c) (output_at out₀ to) (written_to out r)
 unfolding answer_of
 full_does x ks vs ts z L c e out₀ to out r f =
     does_same L (solve (limits_of x) z c) out₀ to out r (ap (λ (s : orders.Step). s.session) e)
     (subst (λ a. Framed a out₀ to out r) (sym (ap (λ (s : orders.Step). answer_of s.reply) e)) f)
 
 -- any other refusal
-pub refusal_does : (x : Solver) (ks vs ts : List ℕ) (z : Session) → Represents x ks vs ts z → (c : ℕ) (out₀ : List ℕ) (to : ℕ) (out : List ℕ) (r : ℕ) → Framed (refusal c) out₀ to out r
-    → Does (lent x ks vs ts) x ts z (solve (limits_of x) z (orders.unread c)) (output_at out₀ to) (output_at out r)
+pub refusal_does : (x : Solver) (ks vs ts : List ℕ) (z : Session) → Represents x ks vs ts z → (c : ℕ) (out₀ : List ℕ) (to : ℕ) (out : List ℕ) (r : rust.Option ℕ) → Framed (refusal c) out₀ to out r
+    → Does (lent x ks vs ts) x ts z (solve (limits_of x) z (orders.unread c)) (output_at out₀ to) (written_to out r)
 unfolding order answer_of
 refusal_does x ks vs ts z L c out₀ to out r f = does_same L (solve (limits_of x) z (orders.unread c)) out₀ to out r refl f
 
 -- ---- answers that are terms
 
 -- a value longer than the output does not fit
-pub long_over : (v out₀ : List ℕ) (to : ℕ) → length out₀ < length v → Framed (outcome v) out₀ to out₀ (length out₀ + 1)
+pub long_over : (v out₀ : List ℕ) (to : ℕ) → length out₀ < length v → Framed (outcome v) out₀ to out₀ None
 long_over v out₀ to h =
-    frame_over (outcome v) (opening (length v) ++ v) (value_frame v) out₀ to out₀ (length out₀ + 1) (omega (arith, length-append (opening (length v)) v)) refl refl
+    frame_over (outcome v) (opening (length v) ++ v) (value_frame v) out₀ to out₀ (omega (arith, length-append (opening (length v)) v)) refl
 
 -- ---- bytes of the revision
 
@@ -222,8 +224,8 @@ long_over v out₀ to h =
 module _ (x : Solver) (ks vs ts : List ℕ) (z : Session) (L : Represents x ks vs ts z) (c : orders.Command) (p : VariablePlace) (w : ℕ → List ℕ)
     (answers : next_of z p < x.variables → (solve (limits_of x) z c).answer ≡ outcome (w (next_of z p)))
     (fullness : find p z.places ≡ none → full (limits_of x) z ≡ true → order (limits_of x) z c ≡ (z gives refused 8))
-    (a : rust.Option ℕ) (e : a ≡ named_of (placed (limits_of x) z p).variable) (out₀ : List ℕ) (to : ℕ) (out : List ℕ) (r : ℕ) where
-  pub place_refused : a ≡ None → Framed (refusal 8) out₀ to out r → Does (lent x ks vs ts) x ts z (solve (limits_of x) z c) (output_at out₀ to) (output_at out r)
+    (a : rust.Option ℕ) (e : a ≡ named_of (placed (limits_of x) z p).variable) (out₀ : List ℕ) (to : ℕ) (out : List ℕ) (r : rust.Option ℕ) where
+  pub place_refused : a ≡ None → Framed (refusal 8) out₀ to out r → Does (lent x ks vs ts) x ts z (solve (limits_of x) z c) (output_at out₀ to) (written_to out r)
   place_refused f g =
       let n = named_none (limits_of x) z p L.fits (sym f ∙ e) in
       full_does x ks vs ts z L c (fullness n.0 n.1) out₀ to out r g
@@ -234,17 +236,17 @@ module _ (x : Solver) (ks vs ts : List ℕ) (z : Session) (L : Represents x ks v
         let n = named_next (limits_of x) z p L.fits v (sym f ∙ e) in
         subst (λ (b : Answer). Framed b out₀ to out r) (ap (λ (i : ℕ). outcome (w i)) n.0 ∙ sym (answers (omega (arith, n.0, n.1)))) g
 
-    pub place_over : length out₀ < r → Does (lent x ks vs ts) x ts z (solve (limits_of x) z c) (output_at out₀ to) (output_at out r)
+    pub place_over : is_some r ≡ false → Does (lent x ks vs ts) x ts z (solve (limits_of x) z c) (output_at out₀ to) (written_to out r)
     place_over l = does_over L (solve (limits_of x) z c) out₀ to out r says l
 
-    pub place_done : r ≤ length out₀ → (y : Solver) (us : List ℕ) → Represents y ks vs us (order (limits_of x) z c).session → Beside x y ts us
-        → Does (lent x ks vs ts) y us z (solve (limits_of x) z c) (output_at out₀ to) (output_at out r)
+    pub place_done : is_some r ≡ true → (y : Solver) (us : List ℕ) → Represents y ks vs us (order (limits_of x) z c).session → Beside x y ts us
+        → Does (lent x ks vs ts) y us z (solve (limits_of x) z c) (output_at out₀ to) (written_to out r)
     place_done l y us M B = does_whole L (solve (limits_of x) z c) out₀ to y us out r says l M B
 
 -- ---- orders without terms, by their commands
 
-pub does_termless : (x y : Solver) (ks vs ts us : List ℕ) (z : Session) (c d : TermlessOrder) → c ≡ d → (out₀ : List ℕ) (to : ℕ) (out : List ℕ) (r : ℕ)
-    → Does (lent x ks vs ts) y us z (solve (limits_of x) z (termless_command c)) (output_at out₀ to) (output_at out r)
-    → Does (lent x ks vs ts) y us z (solve (limits_of x) z (termless_command d)) (output_at out₀ to) (output_at out r)
+pub does_termless : (x y : Solver) (ks vs ts us : List ℕ) (z : Session) (c d : TermlessOrder) → c ≡ d → (out₀ : List ℕ) (to : ℕ) (out : List ℕ) (r : rust.Option ℕ)
+    → Does (lent x ks vs ts) y us z (solve (limits_of x) z (termless_command c)) (output_at out₀ to) (written_to out r)
+    → Does (lent x ks vs ts) y us z (solve (limits_of x) z (termless_command d)) (output_at out₀ to) (written_to out r)
 does_termless x y ks vs ts us z c d e out₀ to out r h =
-    subst (λ (o : TermlessOrder). Does (lent x ks vs ts) y us z (solve (limits_of x) z (termless_command o)) (output_at out₀ to) (output_at out r)) e h
+    subst (λ (o : TermlessOrder). Does (lent x ks vs ts) y us z (solve (limits_of x) z (termless_command o)) (output_at out₀ to) (written_to out r)) e h

@@ -2,6 +2,7 @@
 use mathlib.Core.Path.{◌≡◌, refl, sym, ap, subst, ◌∙◌}
 use mathlib.Core.Bool.{Bool, true, false}
 use mathlib.Core.List.{List, [], ◌∷◌}
+use Rattle.std.specs.Prelude.{Option, None, is_some}
 use Prim.Native.Nat.{ℕ, ◌+◌, ◌-◌, ◌≤◌, ◌<◌}
 use native.Mathlib.Omega.{arith}
 use borrow.Author.Tests.{ltb-true}
@@ -26,7 +27,7 @@ use Rattle.solver.proofs.Laws.Definition.SolverInvariantLaws.{within_known}
 use Rattle.solver.proofs.Laws.Definition.QuietLaws.{quiet_pair}
 use Rattle.sheet.specs.OrderTable.{Answer, outcome}
 use Rattle.sheet.specs.Sheet.{Step, solve, answer_of, framed}
-use Rattle.sheet.specs.Words.FramingContract.{output_at, Framed}
+use Rattle.sheet.specs.Words.FramingContract.{output_at, written_to, Framed}
 use Rattle.sheet.specs.Words.SessionOrdersContract.{lent, Does, DoesPair}
 use Rattle.sheet.proofs.Laws.Answering.FramingLaws.{one_frame}
 use Rattle.sheet.proofs.Laws.Answering.SessionOrderLaws.{does_over, does_same, does_whole}
@@ -85,20 +86,20 @@ module _ (x : Solver) (ks vs ts : List ℕ) (z : Session) (t : Term) (P : Poses 
   defer_session = session_of lim z (orders.defer t) _ (defer_step lim z t knows P.few)
 
   -- it does not fit
-  pub defer_over : (out : List ℕ) (r : ℕ) → Framed (outcome []) out₀ to out r → length out₀ < r
-      → Does (lent x (take x.top ks) (take x.top vs) ts) x ts z (solve (limits_of x) z (orders.defer t)) (output_at out₀ to) (output_at out r)
+  pub defer_over : (out : List ℕ) (r : Option ℕ) → Framed (outcome []) out₀ to out r → is_some r ≡ false
+      → Does (lent x (take x.top ks) (take x.top vs) ts) x ts z (solve (limits_of x) z (orders.defer t)) (output_at out₀ to) (written_to out r)
   defer_over out r f h = does_over L deferred out₀ to out r (subst (λ (a : Answer). Framed a out₀ to out r) defer_answer f) h
 
-  pub defer_done : (y : Solver) (us out : List ℕ) (r : ℕ) → Framed (outcome []) out₀ to out r → r ≤ length out₀
+  pub defer_done : (y : Solver) (us out : List ℕ) (r : Option ℕ) → Framed (outcome []) out₀ to out r → is_some r ≡ true
       → Represents y (take x.top ks) (take x.top vs) us (deferring z (resolved z.solver t)) → Beside x y ts us
-      → Does (lent x (take x.top ks) (take x.top vs) ts) y us z (solve (limits_of x) z (orders.defer t)) (output_at out₀ to) (output_at out r)
+      → Does (lent x (take x.top ks) (take x.top vs) ts) y us z (solve (limits_of x) z (orders.defer t)) (output_at out₀ to) (written_to out r)
   defer_done y us out r f h M B =
       does_whole L deferred out₀ to y us out r (subst (λ (a : Answer). Framed a out₀ to out r) defer_answer f) h
       (subst (λ (s : Session). Represents y (take x.top ks) (take x.top vs) us s) (sym defer_session) M) B
 
   -- order 5
-  pub resolving_does : (out : List ℕ) (r : ℕ) → Framed (outcome (resolved_to z t)) out₀ to out r
-      → Does (lent x (take x.top ks) (take x.top vs) ts) x ts z (solve (limits_of x) z (orders.resolving t)) (output_at out₀ to) (output_at out r)
+  pub resolving_does : (out : List ℕ) (r : Option ℕ) → Framed (outcome (resolved_to z t)) out₀ to out r
+      → Does (lent x (take x.top ks) (take x.top vs) ts) x ts z (solve (limits_of x) z (orders.resolving t)) (output_at out₀ to) (written_to out r)
   unfolding answer_of
   resolving_does out r f =
       let e = resolving_step lim z t knows P.few in
@@ -121,7 +122,7 @@ module _ (x : Solver) (ks vs ts : List ℕ) (d : Bool) (z : Session) (q : ℕ) (
     pair_size : length (framed done.answer) ≡ 3
     pair_size = ap (λ (a : Answer). length (framed a)) pair_answer ∙ ap length (one_frame (verdict_code (solving.constrain (notion d) k z.solver t u)))
 
-    pub pair_not : length out₀ - to < 3 → Zero (drop (pending_from x) ts) → DoesPair (lent x ks vs ts) x ts z done (output_at out₀ to) (output_at out₀ (length out₀ + 1))
+    pub pair_not : length out₀ - to < 3 → Zero (drop (pending_from x) ts) → DoesPair (lent x ks vs ts) x ts z done (output_at out₀ to) (written_to out₀ None)
     pair_not h b =
         record {
           answer = record { fits = λ i. absurd (omega (arith, pair_size)); over = λ i. (refl, refl) };
@@ -135,8 +136,8 @@ module _ (x : Solver) (ks vs ts : List ℕ) (d : Bool) (z : Session) (q : ℕ) (
         }
 
     pub pair_done : (us : List ℕ) (s : Solved) → Posed x ks vs ts us z (size t + size u) (solving.constrain (notion d) k z.solver t u) s
-        → (out : List ℕ) (r a : ℕ) → 3 ≤ length out₀ - to → a ≡ verdict_number s.verdict → Framed (outcome (a ∷ [])) out₀ to out r
-        → DoesPair (lent x ks vs ts) s.solver us z done (output_at out₀ to) (output_at out r)
+        → (out : List ℕ) (r : Option ℕ) (a : ℕ) → 3 ≤ length out₀ - to → a ≡ verdict_number s.verdict → Framed (outcome (a ∷ [])) out₀ to out r
+        → DoesPair (lent x ks vs ts) s.solver us z done (output_at out₀ to) (written_to out r)
     pair_done us s C out r a h e f =
         let after = session_of (limits_of x) z (orders.pair d k t u) _ posed in
         let held : Represents s.solver (take s.solver.top ks) (take s.solver.top vs) us done.session

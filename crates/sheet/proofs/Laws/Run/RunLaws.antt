@@ -2,6 +2,7 @@
 use mathlib.Core.Path.{◌≡◌, refl, sym, ap, ap₂, subst, ◌∙◌}
 use mathlib.Core.Bool.{Bool}
 use mathlib.Core.List.{List, [], ◌∷◌, ◌++◌, append_assoc, append-nil}
+use Rattle.std.specs.Prelude.{Some, None}
 use Prim.Native.Nat.{ℕ, zero, suc, ◌+◌, ◌-◌, ◌≤◌, ◌<◌}
 use native.Mathlib.Decide.{dec_le}
 use native.Mathlib.Omega.{arith}
@@ -19,7 +20,7 @@ use Rattle.sheet.specs.Fields.{Field}
 use Rattle.sheet.specs.OrderTable.{Act, tells, answers, Read}
 use Rattle.sheet.specs.Sheet.{read_order, Run, perform, step, step_read, order_of, framed, ends, answering, next_order, answered, run_from, run_of}
 use Rattle.sheet.specs.Words.SessionInAreas.{Areas, RepresentsInAreas, AreasSuffice, Served}
-use Rattle.sheet.specs.Words.FramingContract.{Output, output_at}
+use Rattle.sheet.specs.Words.FramingContract.{Output, Wrote, output_at}
 use Rattle.sheet.specs.Entry.{AreasReady, Ended, Left}
 use Rattle.sheet.specs.Words.DispatchContract.{Serves}
 use Rattle.sheet.proofs.Laws.Run.EntryLaws.{roomy_same}
@@ -200,27 +201,27 @@ module _ {lim : Limits} {half : ℕ} {s out₀ : List ℕ} {x : Solver} {m : Are
   )
 
   -- what came of the order in the session that there is
-  module _ (y : Solver) (m' : Areas) (v : Output) (b₀ : List ℕ) (next : ℕ) (f : Serves x y half b₀ m m' u v) where
+  module _ (y : Solver) (m' : Areas) (v : Wrote) (b₀ : List ℕ) (next : ℕ) (f : Serves x y half b₀ m m' u v) where
     served : Served y half m' g.session b₀ u v x
     served = f g.session (past_in_order (limits_of x) g.session g.past) g.in_areas
 
     a₀ : List ℕ
     a₀ = framed (order_of (limits_of x) g.session b₀).answer
 
-    fits : v.at ≤ length u.bytes → u.at + length a₀ ≤ length u.bytes
+    fits : (to : ℕ) → v.next ≡ Some to → u.at + length a₀ ≤ length u.bytes
     unfolding a₀
-    fits h = go (dec_le (u.at + length a₀) (length u.bytes))
+    fits to h = go (dec_le (u.at + length a₀) (length u.bytes))
       where
         go : Dec (u.at + length a₀ ≤ length u.bytes) → u.at + length a₀ ≤ length u.bytes
         go (yes l) = l
-        go (no l) = let q = served.long (omega arith) in absurd (omega (arith, q.0))
+        go (no l) = let q = (served.long (omega arith)).0 in absurd (cc)
 
-    over : length u.bytes < v.at → length u.bytes < u.at + length a₀
+    over : v.next ≡ None → length u.bytes < u.at + length a₀
     unfolding a₀
     over h = go (dec_le (u.at + length a₀) (length u.bytes))
       where
         go : Dec (u.at + length a₀ ≤ length u.bytes) → length u.bytes < u.at + length a₀
-        go (yes l) = let q = served.fits l in absurd (omega (arith, q.0))
+        go (yes l) = let q = (served.fits l).0 in absurd (cc)
         go (no l) = omega arith
 
     -- an order keeps the limits
@@ -228,7 +229,7 @@ module _ {lim : Limits} {half : ℕ} {s out₀ : List ℕ} {x : Solver} {m : Are
     same_limits = ap₂ {C = Limits} (λ v k. record { variables = v; nodes = k }) served.variables served.nodes
 
     -- an answer does not fit
-    pub ends_long : at < length s → got b₀ next ≡ next_order s at → length u.bytes < v.at → Ended lim s out₀ 11 n u.at v.bytes × Left y half m'
+    pub ends_long : at < length s → got b₀ next ≡ next_order s at → v.next ≡ None → Ended lim s out₀ 11 n u.at v.bytes × Left y half m'
     unfolding a₀
     ends_long h e l =
         let t : length u.bytes < u.at + length (framed (order_of (limits_of x) g.session b₀).answer) = over l in
@@ -240,23 +241,23 @@ module _ {lim : Limits} {half : ℕ} {s out₀ : List ℕ} {x : Solver} {m : Are
         )
 
     -- an order more
-    pub going_on : at < length s → got b₀ next ≡ next_order s at → v.at ≤ length u.bytes
+    pub going_on : at < length s → got b₀ next ≡ next_order s at → (to : ℕ) → v.next ≡ Some to
         → length m'.a ≡ length m.a → length m'.b ≡ length m.b → length m'.c ≡ length m.c → length m'.d ≡ length m.d
-        → Going lim half s out₀ y m' v next (n + 1)
+        → Going lim half s out₀ y m' (output_at v.bytes to) next (n + 1)
     unfolding a₀
-    going_on h e l la lb lc ld = go g.fuel g.enough g.whole
+    going_on h e to l la lb lc ld = go g.fuel g.enough g.whole
       where
         w : List ℕ
         w = g.written
 
         t : u.at + length (framed (order_of (limits_of x) g.session b₀).answer) ≤ length u.bytes
-        t = fits l
+        t = fits to l
 
         z' : Session
         z' = (order_of (limits_of x) g.session b₀).session
 
-        q : (v.at ≡ u.at + length a₀) × (v.bytes ≡ sets u.bytes u.at a₀) × RepresentsInAreas y half m' z'
-        q = served.fits t
+        q : (to ≡ u.at + length a₀) × (v.bytes ≡ sets u.bytes u.at a₀) × RepresentsInAreas y half m' z'
+        q = let x = served.fits t in let p = x.0 in (cc, x.1, x.2)
 
         ahead : Ahead at next (length s)
         ahead = next_ahead s at b₀ next e
@@ -264,10 +265,10 @@ module _ {lim : Limits} {half : ℕ} {s out₀ : List ℕ} {x : Solver} {m : Are
         roomy : AreasSuffice y half (length m'.a) m'
         roomy = roomy_same served.variables served.nodes la lb lc ld g.roomy
 
-        wide : length (w ++ a₀) ≡ v.at
+        wide : length (w ++ a₀) ≡ to
         wide = length-append w a₀ ∙ ap (λ (k : ℕ). k + length a₀) g.sized ∙ sym q.0
 
-        rest : drop (u.at + length a₀) u.bytes ≡ drop v.at out₀
+        rest : drop (u.at + length a₀) u.bytes ≡ drop to out₀
         rest =
             ap (λ (k : ℕ). drop (k + length a₀) u.bytes) (sym g.sized) ∙ ap (drop (length w + length a₀)) g.output ∙ drop-append-add w (drop u.at out₀) (length a₀)
             ∙ drop-drop (length a₀) u.at out₀ ∙ ap (λ (k : ℕ). drop k out₀) (sym q.0)
@@ -275,16 +276,16 @@ module _ {lim : Limits} {half : ℕ} {s out₀ : List ℕ} {x : Solver} {m : Are
         front : take u.at u.bytes ≡ w
         front = ap (take u.at) g.output ∙ take_at w (drop u.at out₀) u.at g.sized
 
-        output : v.bytes ≡ (w ++ a₀) ++ drop v.at out₀
+        output : v.bytes ≡ (w ++ a₀) ++ drop to out₀
         output =
             q.1 ∙ sets-eq a₀ u.bytes u.at t
             ∙ ap₂ (λ (k l : List ℕ). k ++ a₀ ++ l) front rest
 
-        space : length out₀ - u.at - length a₀ ≡ length out₀ - v.at
+        space : length out₀ - u.at - length a₀ ≡ length out₀ - to
         space = omega (arith, q.0)
 
         go : (fuel : ℕ) → length s < at + fuel → run_of (limits_of x) s (length out₀) ≡ after n w (run_from (limits_of x) s fuel g.session at (length out₀ - u.at))
-            → Going lim half s out₀ y m' v next (n + 1)
+            → Going lim half s out₀ y m' (output_at v.bytes to) next (n + 1)
         go zero k e' = absurd (omega arith)
         go (suc fuel) k e' =
             let turn = run_turn (limits_of x) s fuel g.session at (length out₀ - u.at) b₀ next h e (omega (arith, g.long, g.room, t)) in
@@ -296,7 +297,7 @@ module _ {lim : Limits} {half : ℕ} {s out₀ : List ℕ} {x : Solver} {m : Are
               roomy = roomy;
               inside = ahead.inside;
               few = omega (arith, g.few, ahead.after);
-              room = omega (arith, g.long);
+              room = omega (arith, g.long, q.0, t);
               long = ap length q.1 ∙ length-sets u.bytes u.at a₀ ∙ g.long;
               written = w ++ a₀;
               sized = wide;
@@ -304,7 +305,7 @@ module _ {lim : Limits} {half : ℕ} {s out₀ : List ℕ} {x : Solver} {m : Are
               fuel = fuel;
               enough = omega (arith, ahead.after);
               whole =
-                  subst (λ (i : Limits). run_of i s (length out₀) ≡ after (n + 1) (w ++ a₀) (run_from i s fuel z' next (length out₀ - v.at))) (sym same_limits)
+                  subst (λ (i : Limits). run_of i s (length out₀) ≡ after (n + 1) (w ++ a₀) (run_from i s fuel z' next (length out₀ - to))) (sym same_limits)
                   (e' ∙ ap (after n w) turn ∙ after_one n w a₀ _
                   ∙ ap (λ (k : ℕ). after (n + 1) (w ++ a₀) (run_from (limits_of x) s fuel z' next k)) space);
             }

@@ -9,7 +9,7 @@ use Rattle.sheet.proofs.framing.write_byte_answer.Goals as goal
 pub returns-then-out-to-lt3 : goal.returns-then-out-to-lt3
 returns-then-out-to-lt3 c =
     let a = c.args in
-    frame_over (outcome (a.a ∷ [])) _ (one_frame a.a) a.out.now a.to _ _ (omega arith) refl refl
+    frame_over (outcome (a.a ∷ [])) _ (one_frame a.a) a.out.now a.to _ (omega arith) refl
 
 pub returns : goal.returns
 returns c =

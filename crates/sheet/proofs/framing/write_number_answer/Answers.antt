@@ -1,17 +1,14 @@
 -- `write_number_answer`: the number after its opening.
-use native.Mathlib.Omega.{arith}
 use Rattle.solver.specs.Terms.Number.{shortest}
-use Rattle.sheet.proofs.Laws.Answering.FramingLaws.{value_in, value_over, begun_long}
+use Rattle.sheet.proofs.Laws.Answering.FramingLaws.{value_in, value_over}
 use Rattle.sheet.proofs.framing.write_number_answer.Goals as goal
 
-pub returns-then-out-at : goal.returns-then-out-at
-returns-then-out-at c =
+pub returns-in_err-at : goal.returns-in_err-at
+returns-in_err-at c =
     let a = c.args in
-    let l = begun_long _ a.out.now a.to _ _ c.begin_answer-at.ensures in
-    value_over (shortest a.n) _ c.number_len-size.ensures a.out.now a.to _ _ c.begin_answer-at.ensures (omega (arith, l))
+    rw c.from_residual.ensures (value_over (shortest a.n) _ c.number_len-size.ensures a.out.now a.to _ c.in_err-at.ensures)
 
 pub returns : goal.returns
 returns c =
     let a = c.args in
-    let l = begun_long _ a.out.now a.to _ _ c.begin_answer-at.ensures in
-    value_in (shortest a.n) _ c.number_len-size.ensures a.out.now a.to _ _ c.begin_answer-at.ensures (omega (arith, l)) _ _ c.write_number.ensures.next c.write_number.ensures.wrote
+    value_in (shortest a.n) _ c.number_len-size.ensures a.out.now a.to _ _ c.in_ok-at.ensures _ _ c.write_number.ensures.next c.write_number.ensures.wrote

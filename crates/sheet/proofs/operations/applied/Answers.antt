@@ -6,7 +6,6 @@ use Rattle.sheet.specs.OrderTable.{outcome}
 use Rattle.solver.proofs.Terms.Bools.{never_true}
 use Rattle.solver.proofs.Terms.RewriteLaws.{counted_term}
 use Rattle.sheet.proofs.Laws.Answering.AnswerLaws.{frame_as, apply_none, apply_some, perhaps_some, one_over, one_in}
-use Rattle.sheet.proofs.Laws.Answering.FramingLaws.{begun_long}
 use Rattle.sheet.proofs.operations.applied.Goals as goal
 
 pub returns-then-b-given : goal.returns-then-b-given
@@ -28,18 +27,16 @@ overflow_add-size c =
     let n = counted_term a.tokens.now.kinds.now a.tokens.now.vals.now (λ i. omega (arith, c.args.tokens.now.narrow.fits i)) a.s.now a.b p.ready a.from p.place (omega (arith, p.areas)) in
     omega (arith, n, c.write_term-size.ensures.words.next)
 
-pub returns-then-out-at : goal.returns-then-out-at
-returns-then-out-at c =
+pub returns-in_err-at : goal.returns-in_err-at
+returns-in_err-at c =
     λ t es rs ps ts x.
     let a = c.args in
-    let l = begun_long _ _ a.to _ _ c.begin_answer-at.ensures in
     let q = apply_some ps t es rs ts (sym x.many ∙ sym c.if-b-given.false ∙ x.parameters) in
-    frame_as _ _ (perhaps_some ps t es rs ts q.0 q.1) _ _ _ _ (one_over a.out.now _ _ a.to _ _ (bytes q.0) (c.write_term-size.ensures.trees.applied t es rs ps ts x.end q.0 x.formed x.held x.binders x.arguments x.plain q.1) c.begin_answer-at.ensures (omega (arith, l)))
+    rw c.from_residual.ensures (frame_as _ _ (perhaps_some ps t es rs ts q.0 q.1) _ _ _ _ (one_over a.out.now _ _ a.to _ (bytes q.0) (c.write_term-size.ensures.trees.applied t es rs ps ts x.end q.0 x.formed x.held x.binders x.arguments x.plain q.1) c.in_err-at.ensures))
 
 pub returns : goal.returns
 returns c =
     λ t es rs ps ts x.
     let a = c.args in
-    let l = begun_long _ _ a.to _ _ c.begin_answer-at.ensures in
     let q = apply_some ps t es rs ts (sym x.many ∙ sym c.if-b-given.false ∙ x.parameters) in
-    frame_as _ _ (perhaps_some ps t es rs ts q.0 q.1) _ _ _ _ (one_in a.out.now _ _ a.to _ _ (bytes q.0) (c.write_term-size.ensures.trees.applied t es rs ps ts x.end q.0 x.formed x.held x.binders x.arguments x.plain q.1) c.begin_answer-at.ensures (omega (arith, l, c.if-out-at.false)) _ _ (c.write_term.ensures.trees.applied t es rs ps ts x.end q.0 x.formed x.held x.binders x.arguments x.plain q.1))
+    frame_as _ _ (perhaps_some ps t es rs ts q.0 q.1) _ _ _ _ (one_in a.out.now _ _ a.to _ (bytes q.0) (c.write_term-size.ensures.trees.applied t es rs ps ts x.end q.0 x.formed x.held x.binders x.arguments x.plain q.1) _ c.in_ok-at.ensures _ _ (c.write_term.ensures.trees.applied t es rs ps ts x.end q.0 x.formed x.held x.binders x.arguments x.plain q.1))

@@ -1,8 +1,16 @@
 -- `asked`: a question after the other.
-use Rattle.sheet.proofs.Laws.Answering.AnswerLaws.{frame_as, all_seven}
+use Rattle.std.proofs.Common.{rules}
+use mathlib.Core.Path.{ap}
+use Rattle.sheet.specs.OrderTable.{outcome}
+use Rattle.sheet.specs.Operations.{bit, bits}
+use Rattle.solver.specs.Terms.Questions.{answered, number_of_question}
+use Rattle.solver.specs.TermTypes.{Question}
+use Rattle.sheet.proofs.Laws.Answering.AnswerLaws.{frame_as, maps_all}
 use Rattle.sheet.proofs.operations.asked.Goals as goal
 
 pub returns : goal.returns
+unfolding bits
 returns c =
     λ t h f.
-    frame_as _ _ (all_seven t _ _ _ _ _ _ _ (c.question-a.ensures t h f) (c.question-b.ensures t h f) (c.question-c.ensures t h f) (c.question-d.ensures t h f) (c.question-e.ensures t h f) (c.question-f.ensures t h f) (c.question-g.ensures t h f)) _ _ _ _ c.write_bytes_answer.ensures
+    let e = maps_all _ _ _ c.map-v.result c.map-v.ensures.items (λ (q : Question). bit (answered (number_of_question q) t)) (λ q b u k. let x = k.met in (search rules, search rules)) in
+    frame_as _ _ (ap outcome e) _ _ _ _ c.write_bytes_answer.ensures

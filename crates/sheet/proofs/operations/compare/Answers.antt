@@ -21,7 +21,7 @@ returns-then-o-eq9 c =
     λ s ws.
     (conflicts _ _ s ws c.args.o c.if-o-eq9.true).replied _ (λ w y.
     let x = y.both in
-    rw y.answer (frame_as _ _ (one_byte _ _ (c.bit.ensures ∙ ap bit (c.conflicts_with-r.ensures _ _ x.left x.right x.left_formed x.right_formed))) _ _ _ _ c.write_byte_answer.ensures))
+    rw y.answer (frame_as _ _ (one_byte _ _ (c.from.ensures ∙ ap bit (c.conflicts_with-r.ensures _ _ x.left x.right x.left_formed x.right_formed))) _ _ _ _ c.write_byte_answer.ensures))
 
 pub can_weaken_to-r-requires : goal.can_weaken_to-r-requires
 can_weaken_to-r-requires c =
@@ -33,7 +33,7 @@ returns-then-o-eq10 c =
     λ s ws.
     (weakens _ _ s ws c.args.o c.if-o-eq10.true).replied _ (λ w y.
     let x = y.both in
-    rw y.answer (frame_as _ _ (one_byte _ _ (c.bit-then-o-eq10.ensures ∙ ap bit (c.can_weaken_to-r.ensures _ _ x.left x.right x.left_formed x.right_formed))) _ _ _ _ c.write_byte_answer-then-o-eq10.ensures))
+    rw y.answer (frame_as _ _ (one_byte _ _ (c.from-then-o-eq10.ensures ∙ ap bit (c.can_weaken_to-r.ensures _ _ x.left x.right x.left_formed x.right_formed))) _ _ _ _ c.write_byte_answer-then-o-eq10.ensures))
 
 pub recovered-requires-clause-terms : goal.recovered-requires-clause-terms
 recovered-requires-clause-terms c =

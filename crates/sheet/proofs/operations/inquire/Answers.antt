@@ -44,7 +44,7 @@ pub returns-then-o-eq16 : goal.returns-then-o-eq16
 returns-then-o-eq16 c =
     λ ws.
     (resolved_in _ _ _ ws c.args.o c.if-o-eq16.true).replied _ (λ w x.
-    rw x.answer (frame_as _ _ (one_byte _ _ (c.bit.ensures ∙ ap (λ (b : Bool). bit (not b)) (c.ask-r.ensures x.names x.after x.read x.term x.held x.formed))) _ _ _ _ c.write_byte_answer.ensures))
+    rw x.answer (frame_as _ _ (one_byte _ _ (c.from.ensures ∙ ap (λ (b : Bool). bit (not b)) (c.ask-r.ensures x.names x.after x.read x.term x.held x.formed))) _ _ _ _ c.write_byte_answer.ensures))
 
 pub satisfies-x-requires : goal.satisfies-x-requires
 satisfies-x-requires c =
@@ -60,4 +60,4 @@ pub returns : goal.returns
 returns c =
     λ ws.
     (satisfied _ _ _ ws c.args.o (is_17 (goal.at.returns c).Else-o-eq16)).replied _ (λ w x.
-    rw x.answer (frame_as _ _ (two_bytes _ _ _ _ (c.bit-2.ensures ∙ ap bit (c.satisfies-x.ensures _ _ x.first x.second x.first_fit x.second_fit)) (c.bit-3.ensures ∙ ap bit (c.satisfies_for-y.ensures _ _ _ x.first x.second x.third x.first_fit x.second_fit))) _ _ _ _ c.write_bytes_answer.ensures))
+    rw x.answer (frame_as _ _ (two_bytes _ _ _ _ (c.from-2.ensures ∙ ap bit (c.satisfies-x.ensures _ _ x.first x.second x.first_fit x.second_fit)) (c.from-3.ensures ∙ ap bit (c.satisfies_for-y.ensures _ _ _ x.first x.second x.third x.first_fit x.second_fit))) _ _ _ _ c.write_bytes_answer.ensures))

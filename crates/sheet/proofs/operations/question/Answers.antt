@@ -1,5 +1,4 @@
 -- `question`: as it is asked, or its contrary.
-use mathlib.Core.Path.{◌∙◌}
 use mathlib.Core.List.{[]}
 use Rattle.sheet.proofs.Laws.Answering.AnswerLaws.{no_parameters, contrary, plainly}
 use Rattle.sheet.proofs.operations.question.Goals as goal
@@ -11,11 +10,9 @@ ask-r-requires-clause-parameters c =
 pub returns-in-IsConcrete : goal.returns-in-IsConcrete
 returns-in-IsConcrete c =
     λ t h f.
-    let a = c.args in
-    c.bit.ensures ∙ contrary a.q t _ c.in-IsConcrete.is (c.ask-r.ensures [] 0 (no_parameters _) t h f)
+    contrary c.args.q t _ c.in-IsConcrete.is (c.ask-r.ensures [] 0 (no_parameters _) t h f)
 
 pub returns-in_default : goal.returns-in_default
 returns-in_default c =
     λ t h f.
-    let a = c.args in
-    c.bit-in_default.ensures ∙ plainly a.q t _ c.in_default.not-IsConcrete (c.ask-r.ensures [] 0 (no_parameters _) t h f)
+    plainly c.args.q t _ c.in_default.not-IsConcrete (c.ask-r.ensures [] 0 (no_parameters _) t h f)

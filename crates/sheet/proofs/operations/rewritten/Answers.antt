@@ -3,7 +3,6 @@ use native.Mathlib.Omega.{arith}
 use Rattle.solver.proofs.Terms.Bools.{never_true}
 use Rattle.solver.proofs.Terms.RewriteLaws.{counted_term}
 use Rattle.sheet.proofs.Laws.Answering.AnswerLaws.{rewrites_one, rewrites_two, counted_over, counted_in}
-use Rattle.sheet.proofs.Laws.Answering.FramingLaws.{begun_long}
 use Rattle.sheet.proofs.operations.rewritten.Goals as goal
 
 pub write_term-size-requires-clause-space : goal.write_term-size-requires-clause-space
@@ -13,14 +12,12 @@ write_term-size-requires-clause-space c =
     let n = counted_term a.tokens.now.kinds.now a.tokens.now.vals.now (λ i. omega (arith, c.args.tokens.now.narrow.fits i)) a.s.now a.b p.ready a.from p.place (omega (arith, p.areas)) in
     record { counts = omega (arith, n); fits = λ h. never_true h }
 
-pub returns-then-out-at : goal.returns-then-out-at
-returns-then-out-at c =
+pub returns-in_err-at : goal.returns-in_err-at
+returns-in_err-at c =
     let a = c.args in
-    let l = begun_long _ _ a.to _ _ c.begin_answer-at.ensures in
-    rewrites_one a.tokens.now.kinds.now a.tokens.now.vals.now a.s.now a.b a.from _ _ (λ x w. counted_over a.out.now _ _ a.to _ _ x w c.begin_answer-at.ensures (omega (arith, l))) c.write_term-size.ensures.trees
+    rw c.from_residual.ensures (rewrites_one a.tokens.now.kinds.now a.tokens.now.vals.now a.s.now a.b a.from _ _ (λ x w. counted_over a.out.now _ _ a.to _ x w c.in_err-at.ensures) c.write_term-size.ensures.trees)
 
 pub returns : goal.returns
 returns c =
     let a = c.args in
-    let l = begun_long _ _ a.to _ _ c.begin_answer-at.ensures in
-    rewrites_two a.tokens.now.kinds.now a.tokens.now.vals.now a.s.now a.b a.from _ _ _ (λ x u w. counted_in a.out.now _ _ a.to _ _ x u c.begin_answer-at.ensures (omega (arith, l, c.if-out-at.false)) _ _ w) c.write_term-size.ensures.trees c.write_term.ensures.trees
+    rewrites_two a.tokens.now.kinds.now a.tokens.now.vals.now a.s.now a.b a.from _ _ _ (λ x u w. counted_in a.out.now _ _ a.to _ x u _ c.in_ok-at.ensures _ _ w) c.write_term-size.ensures.trees c.write_term.ensures.trees

@@ -4,16 +4,15 @@ use native.Mathlib.Omega.{arith}
 use Rattle.std.specs.Prelude.{Err}
 use Rattle.solver.specs.Terms.Term.{bytes}
 use Rattle.sheet.proofs.Laws.Answering.AnswerLaws.{frame_as, answers_many, answers_long, answers_done, settled_term}
-use Rattle.sheet.proofs.Laws.Answering.FramingLaws.{begun_long, begun_room, value_in, value_over}
+use Rattle.sheet.proofs.Laws.Answering.FramingLaws.{begun_room, value_in, value_over}
 use Rattle.sheet.proofs.operations.settled.Goals as goal
 
-pub returns-then-out-at-clause-says : goal.returns-then-out-at-clause-says
-returns-then-out-at-clause-says c =
+pub returns-in_default-clause-says : goal.returns-in_default-clause-says
+returns-in_default-clause-says c =
     let a = c.args in
-    let l = begun_long _ _ a.to _ _ c.begin_answer-at.ensures in
     λ o x.
     let y = answers_done a.tokens.now.kinds.now a.tokens.now.vals.now a.heads.now a.kids.now a.out.now a.to a.r o x _ c.in-Ok.is in
-    frame_as _ _ (settled_term o y.0) _ _ _ _ (value_over (bytes o.term) _ y.1 a.out.now a.to _ _ c.begin_answer-at.ensures (omega (arith, l, c.if-out-at.true)))
+    frame_as _ _ (settled_term o y.0) _ _ _ _ (value_over (bytes o.term) _ y.1 a.out.now a.to _ (rw c.in_default.is at c.begin_answer.ensures))
 
 pub returns-in-Err-TooMany-clause-says : goal.returns-in-Err-TooMany-clause-says
 returns-in-Err-TooMany-clause-says c =
@@ -25,12 +24,12 @@ returns-in-Err-TooLong-clause-says c =
     let a = c.args in
     λ o x. answers_long a.tokens.now.kinds.now a.tokens.now.vals.now a.heads.now a.kids.now a.out.now a.to a.r o x (c.in-Err-TooLong.is ∙ ap Err (rw c.in-Err-TooLong.is at c.in-Err-TooLong.field-0-is))
 
-pub returns-else-out-at-clause-says : goal.returns-else-out-at-clause-says
-returns-else-out-at-clause-says c =
+pub returns-in-Some-clause-says : goal.returns-in-Some-clause-says
+returns-in-Some-clause-says c =
     let a = c.args in
-    let l = begun_long _ _ a.to _ _ c.begin_answer-at.ensures in
-    let m = begun_room _ _ a.to _ _ c.begin_answer-at.ensures (omega (arith, l, c.if-out-at.false)) in
+    let b = rw c.in-Some.is at c.begin_answer.ensures in
+    let m = begun_room _ _ a.to _ _ b in
     λ o x.
     let y = answers_done a.tokens.now.kinds.now a.tokens.now.vals.now a.heads.now a.kids.now a.out.now a.to a.r o x _ c.in-Ok.is in
     let z = c.write_normalised.ensures.wrote o.term y.2 (omega (arith, m, y.1)) in
-    frame_as _ _ (settled_term o y.0) _ _ _ _ (value_in (bytes o.term) _ y.1 a.out.now a.to _ _ c.begin_answer-at.ensures (omega (arith, l, c.if-out-at.false)) _ _ z.0 z.1)
+    frame_as _ _ (settled_term o y.0) _ _ _ _ (value_in (bytes o.term) _ y.1 a.out.now a.to _ _ b _ _ z.0 z.1)

@@ -21,4 +21,4 @@ pub returns : goal.returns
 returns c =
     let a = c.args in
     let e = c.apply_defaults-y.ensures in
-    λ z A L. defaults_done L (solve (limits_of a.x) z (defaults_by a.which)) (defaults_tell a.which (limits_of a.x) z) a.out.now a.to c.requires.room.inside _ _ _ _ _ (omega (arith, c.if-out-to-lt3.false)) (e.held z L (in_order_low _ _ _ _ z A L)) e.beside (rw (c.revision-old.ensures.count, c.revision.ensures.count) at c.changed_byte-a.ensures) c.write_byte_answer-next.ensures
+    λ z A L. defaults_done L (solve (limits_of a.x) z (defaults_by a.which)) (defaults_tell a.which (limits_of a.x) z) a.out.now a.to c.requires.room.inside _ _ _ _ _ (omega (arith, c.if-out-to-lt3.false)) (e.held z L (in_order_low _ _ _ _ z A L)) e.beside (rw (c.revision-old.ensures.count, c.revision.ensures.count) at c.from.ensures) c.write_byte_answer-next.ensures

@@ -11,15 +11,15 @@ returns-then-limit-size-clause-term c =
     let e = c.resolved_len-size.ensures in
     λ z t A. long_over (resolved_to z t) a.out.now a.to (omega (arith, e.len z t A, c.if-limit-size.true))
 
-pub returns-then-limit-at-clause-term : goal.returns-then-limit-at-clause-term
-returns-then-limit-at-clause-term c =
+pub returns-in_err-at-clause-term : goal.returns-in_err-at-clause-term
+returns-in_err-at-clause-term c =
     let a = c.args in
     let e = c.resolved_len-size.ensures in
-    λ z t A. value_over (resolved_to z t) _ (omega (arith, e.len z t A, c.if-limit-size.false)) a.out.now a.to _ _ c.begin_answer-at.ensures c.if-limit-at.true
+    λ z t A. rw c.from_residual.ensures (value_over (resolved_to z t) _ (omega (arith, e.len z t A, c.if-limit-size.false)) a.out.now a.to _ c.in_err-at.ensures)
 
 pub returns-clause-term : goal.returns-clause-term
 returns-clause-term c =
     let a = c.args in
     let e = c.resolved_len-size.ensures in
     let w = c.resolve.ensures in
-    λ z t A. value_in (resolved_to z t) _ (omega (arith, e.len z t A, c.if-limit-size.false)) a.out.now a.to _ _ c.begin_answer-at.ensures (omega (arith, c.if-limit-at.false)) _ _ (w.wrote z t A).0 (w.wrote z t A).1
+    λ z t A. value_in (resolved_to z t) _ (omega (arith, e.len z t A, c.if-limit-size.false)) a.out.now a.to _ _ c.in_ok-at.ensures _ _ (w.wrote z t A).0 (w.wrote z t A).1

@@ -34,11 +34,10 @@ order_at-bytes-requires c = (ahead (goal.at.order_at-bytes-requires c).In-Some).
 pub serve_order-r-requires-clause-held : goal.serve_order-r-requires-clause-held
 serve_order-r-requires-clause-held c = going_ready c.loop-at.invariant.0
 
-pub returns-then-out-r : goal.returns-then-out-r
-returns-then-out-r c =
-    let e = c.closed-then-out-r.ensures in
-    let both = ends_long c.loop-at.invariant.0 _ _ _ _ _ c.serve_order-r.ensures c.loop-at-test.true (told (goal.at.returns-then-out-r c).After-order_at-bytes)
-    (omega (arith, c.if-out-r.true, c.serve_order-r.auto.out)) in
+pub returns-in_default-next : goal.returns-in_default-next
+returns-in_default-next c =
+    let e = c.closed-in_default-next.ensures in
+    let both = ends_long c.loop-at.invariant.0 _ _ _ _ _ c.serve_order-r.ensures c.loop-at-test.true (told (goal.at.returns-in_default-next c).After-order_at-bytes) c.in_default-next.is in
     record { run = rw (e.0, e.1, e.2) both.0; left = rw e.3 both.1 }
 
 pub overflow_add-at : goal.overflow_add-at
@@ -50,8 +49,7 @@ loop-at-smaller c = omega (arith, (ahead (goal.at.loop-at-smaller c).In-Some).in
 pub loop-at-preserved : goal.loop-at-preserved
 loop-at-preserved c =
     let i = c.loop-at.invariant in
-    let n = c.serve_order-r.auto.out in
-    (going_on i.0 _ _ _ _ _ c.serve_order-r.ensures c.loop-at-test.true (told (goal.at.loop-at-preserved c).After-order_at-bytes) (omega (arith, c.if-out-r.false, n)) c.serve_order-r.auto.a c.serve_order-r.auto.b c.serve_order-r.auto.c c.serve_order-r.auto.d, c.serve_order-r.auto.a ∙ i.1, c.serve_order-r.auto.b ∙ i.2, c.serve_order-r.auto.c ∙ i.3, c.serve_order-r.auto.d ∙ i.4)
+    (going_on i.0 _ _ _ _ _ c.serve_order-r.ensures c.loop-at-test.true (told (goal.at.loop-at-preserved c).After-order_at-bytes) _ c.in-Some-next.is c.serve_order-r.auto.a c.serve_order-r.auto.b c.serve_order-r.auto.c c.serve_order-r.auto.d, c.serve_order-r.auto.a ∙ i.1, c.serve_order-r.auto.b ∙ i.2, c.serve_order-r.auto.c ∙ i.3, c.serve_order-r.auto.d ∙ i.4)
 
 pub returns-clause-run : goal.returns-clause-run
 returns-clause-run c =
