@@ -25,16 +25,7 @@ use terms::Tokens;
 pub fn either_recovers(left: u32, right: u32) -> bool
     ensures { result ≡ ((eqb left 4 || eqb left 5) || (eqb right 4 || eqb right 5)) }
 {
-    if left == 4 {
-        return true;
-    }
-    if left == 5 {
-        return true;
-    }
-    if right == 4 {
-        return true;
-    }
-    right == 5
+    matches!(left, 4 | 5) || matches!(right, 4 | 5)
 }
 
 impl Solver {

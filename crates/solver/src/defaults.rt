@@ -76,31 +76,11 @@ fn first_of(mask: u32, fallback: u32) -> u32
     requires { fallback < 32 }
     ensures { ((f : Family) → ((c : ℕ) → admits f c ≡ bit mask c) → result ≡ first_of fallback f preference) × (result < 32) }
 {
-    if has(mask, 2) {
-        return 2;
-    }
-    if has(mask, 3) {
-        return 3;
-    }
-    if has(mask, 6) {
-        return 6;
-    }
-    if has(mask, 7) {
-        return 7;
-    }
-    if has(mask, 0) {
-        return 0;
-    }
-    if has(mask, 4) {
-        return 4;
-    }
-    if has(mask, 1) {
-        return 1;
-    }
-    if has(mask, 5) {
-        return 5;
-    }
-    fallback
+    [2, 3, 6, 7, 0, 4, 1, 5]
+        .iter()
+        .copied()
+        .find(|&c| has(mask, c))
+        .unwrap_or(fallback)
 }
 
 // What is admitted at the end of a chain: by its word, or by the own one where it has none.

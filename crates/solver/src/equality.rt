@@ -13,10 +13,11 @@ ghost use Rattle.solver.specs.Words.Bindings.{HeldBindings};
 ghost use Rattle.solver.specs.Words.Worklist.{Zero};
 ghost use Rattle.solver.specs.Words.ReachContract.{Steady, Topped};
 ghost use Rattle.solver.specs.Words.SessionRepresentation.{begins};
-ghost use Rattle.solver.specs.Words.CongruenceClasses.{link_words, WiredIn, AdvancedIn, Clearing, Up, HeldSteady, stands_for, Standing, Coincide, Linked};
+ghost use Rattle.solver.specs.Words.CongruenceClasses.{link_words, WiredIn, AdvancedIn, Up, HeldSteady, stands_for, Standing, Coincide, Linked};
 ghost use Rattle.solver.specs.Words.CongruenceClasses.{Fair, Outcome};
 ghost use Rattle.solver.specs.Words.CongruenceClasses.{Closed, TermsJoined, RowsJoined};
 
+use super::reach::clear_queue;
 use super::top::shallow_resolve;
 use terms::{Tokens, skip};
 
@@ -212,18 +213,6 @@ fn close_congruence(
     true
 }
 
-// Sets the links of the places that are linked, and the queue, back to 0.
-fn clear(n: usize, work: &mut [u32], top: usize)
-    requires { (n ≤ length work.old) × Clearing (take n work.old) (drop n work.old) top }
-    ensures { Zero work.new }
-{
-    for k in (0..top).rev() {
-        let x = work[n + k] as usize;
-        work[x] = 0;
-        work[n + k] = 0;
-    }
-}
-
 // Whether the terms at p and q are the same, bound variables replaced: they are joined, and all that follows from it. The words of
 // the area are 0 before and after.
 pub fn same_terms(
@@ -248,6 +237,6 @@ pub fn same_terms(
     let mut top = 0;
     let equal = union_terms(tokens, bound, most, p, q, work, &mut top)
         && close_congruence(tokens, bound, most, work, &mut top);
-    clear(tokens.kinds.len(), work, top);
+    clear_queue(work, tokens.kinds.len(), top);
     equal
 }

@@ -8,24 +8,14 @@ ghost use Rattle.solver.specs.Shapes.{notion, same_shape};
 ghost use Rattle.solver.specs.Words.PendingContract.{strict_of, Laid, Taken, Wiped, places, PushedPairs, Twins, agree, here, window, PartEnd, NumberAt};
 
 use super::{Access, Counted, PairAt};
-use terms::Tokens;
+use terms::{Tokens, skip};
 
 // Where the part at i ends, or end where it would go past it.
 pub fn part_end(tokens: &Tokens, i: usize, end: usize) -> usize
     requires { (i < end) × (end ≤ length tokens.now.kinds.now) }
     ensures { PartEnd tokens.now.kinds.now tokens.now.vals.now i end result }
 {
-    if tokens.kinds[i] < 2 {
-        return i + 1;
-    }
-    let len = tokens.vals[i] as usize;
-    if len == 0 {
-        return end;
-    }
-    if end - i < len {
-        return end;
-    }
-    i + len
+    i + skip(tokens, i, end - i)
 }
 
 // Whether the parts at i and j agree, but for the terms that they are.
@@ -51,7 +41,7 @@ pub fn access_free(kind: u32, access: Access) -> bool
     ensures { result ≡ (not (strict_of access) && (eqb kind 12 || eqb kind 13)) }
 {
     match access {
-        Access::Ignored => kind == 12 || kind == 13,
+        Access::Ignored => matches!(kind, 12 | 13),
         Access::Compared => false,
     }
 }

@@ -3,7 +3,7 @@ use mathlib.Core.Bool.{Bool, true, false, ◌&&◌, ◌||◌}
 use mathlib.Core.List.{List, [], ◌∷◌, ◌++◌}
 use mathlib.Core.Logic.{⊎_elim}
 use mathlib.Core.Path.{◌≡◌, refl, sym, ap, ap₂, subst, ◌∙◌}
-use Prim.Native.Nat.{ℕ, zero, suc, ◌+◌, ◌-◌}
+use Prim.Native.Nat.{ℕ, zero, suc, ◌+◌}
 use native.Mathlib.Decide.{ℕ_discrete}
 use native.Mathlib.Omega.{arith}
 use borrow.Author.Tests.{eq-eqb, ne_eqb, eqb-true}
@@ -178,24 +178,6 @@ pub unasked : (q w : ℕ) (t : Term) → asked q t ≡ false → asked (suc w) t
 unasked q w t e o = not_yes (asked q (var w)) (λ h. never_false (sym (through q var w h t o) ∙ ap (asked q) (replace_var t) ∙ e))
 
 -- ---- one token, as the code tests it
-
-pub counts_unknown : (q k x : ℕ) → q ≡ 0 → k ≡ 4 → true ≡ counts q k x
-unfolding counts
-counts_unknown q k x e h = rw (e, h)
-
-pub counts_error : (q k x : ℕ) → q ≡ 0 → (k ≡ 4 → ⊥) → eqb k 5 ≡ counts q k x
-unfolding counts
-counts_error q k x e h = rw (e, ne_eqb k 4 h)
-
-pub counts_other : (q k x : ℕ) → (q ≡ 0 → ⊥) → (k ≡ 1 → ⊥) → false ≡ counts q k x
-unfolding counts
-counts_other zero k x e h = absurd (e refl)
-counts_other (suc v) k x e h = rw (ne_eqb k 1 h)
-
-pub counts_same : (q k x : ℕ) → (q ≡ 0 → ⊥) → k ≡ 1 → eqb (q - 1) x ≡ counts q k x
-unfolding counts
-counts_same zero k x e h = absurd (e refl)
-counts_same (suc v) k x e h = let m : suc v - 1 ≡ v = omega arith in rw (m, eq-eqb k 1 h)
 
 -- the token is the variable u
 pub token_is : (u k x : ℕ) → counts (suc u) k x ≡ true → (k ≡ 1) × (u ≡ x)

@@ -1,4 +1,4 @@
-use mathlib.Core.Bool.{true, false}
+use mathlib.Core.Bool.{false}
 use native.Mathlib.Omega.{arith}
 use Rattle.solver.proofs.Laws.Definition.NotionLaws.{notion_codes}
 use Rattle.solver.proofs.Laws.Checks.PairLoopLaws.{going_start, loop_start, loop_room, loop_due, loop_scratch, loop_next, told_so, and-false, and-true, counted_start, going_end, going_cancel}

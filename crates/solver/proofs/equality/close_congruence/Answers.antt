@@ -1,7 +1,5 @@
 use mathlib.Core.Path.{refl}
 use native.Mathlib.Omega.{arith}
-use Rattle.solver.specs.Constrain.{follow}
-use Rattle.solver.specs.Words.CongruenceClasses.{stands_for}
 use Rattle.solver.proofs.Laws.Equality.LinkLaws.{advanced_on, top_below}
 use Rattle.solver.proofs.Laws.Equality.CloseLaws.{going_on, going_no, going_yes}
 use Rattle.solver.proofs.Laws.Equality.EqualLaws.{listed_fit, taken_entry}

@@ -1,6 +1,4 @@
 use native.Mathlib.Omega.{arith}
-use Rattle.solver.specs.Constrain.{follow}
-use Rattle.solver.specs.Words.CongruenceClasses.{stands_for}
 use Rattle.solver.proofs.Laws.Equality.LinkLaws.{advanced_on}
 use Rattle.solver.proofs.Laws.Equality.UnionRowLaws.{walk_number, walk_join, walk_yes, no_short, no_long, no_term, no_number, no_value, no_join}
 use borrow.Author.Rules.{rules}

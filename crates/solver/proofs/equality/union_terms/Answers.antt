@@ -1,6 +1,4 @@
 -- `union_terms`. By the tops: each outcome is a law of `LinkLaws` (`told-..`), or `union_classes` tells it.
-use Rattle.solver.specs.Constrain.{follow}
-use Rattle.solver.specs.Words.CongruenceClasses.{stands_for}
 use Rattle.solver.proofs.Laws.Equality.LinkLaws.{told_kinds, told_apart, told_var}
 use Rattle.solver.proofs.Laws.Equality.EqualLaws.{steady_standing}
 use Rattle.solver.proofs.equality.union_terms.Goals as goal

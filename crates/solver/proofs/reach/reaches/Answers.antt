@@ -5,8 +5,8 @@ use native.Mathlib.Omega.{arith}
 use lib.ListN.{length, get_or}
 use lib.Seq.{get_or-drop}
 use Rattle.terms.proofs.Laws.General.Bools.{never_true}
-use Rattle.solver.specs.Words.ReachContract.{run_of, Told}
-use Rattle.solver.proofs.Laws.Resolving.WorklistLaws.{work_none, top-le, entry_in, zero_take, zero_drop, parts_long}
+use Rattle.solver.specs.Words.ReachContract.{question_of, run_of, Told}
+use Rattle.solver.proofs.Laws.Resolving.WorklistLaws.{clearing, work_none, top-le, entry_in, zero_take, zero_drop, parts_long}
 use Rattle.solver.proofs.Laws.Resolving.ReachLaws.{going_start, going_step, going_end, named_run_of, told_asked}
 use Rattle.solver.proofs.reach.reaches.Goals.{then-loop-hit-test+else-done-top, else-loop-hit-test}
 use Rattle.solver.proofs.reach.reaches.Goals as goal
@@ -26,7 +26,7 @@ entry c =
     omega (arith, get_or-drop n l.work l.done 0, entry_in l.invariant.work l.done c.if-done-top.true, (parts_long n l.work (omega (arith, l.auto.work, c.scan-hit.auto.work, c.requires.scratch.0))).0)
 
 -- the answer, where the loop ends
-told : (c : Left-loop-hit) → Told c.args.tokens.now.kinds.now c.args.tokens.now.vals.now c.args.bound.now (run_of c.args.tokens.now.kinds.now c.args.tokens.now.vals.now (c.args.p + 1)) c.args.want c.loop-hit.hit
+told : (c : Left-loop-hit) → Told c.args.tokens.now.kinds.now c.args.tokens.now.vals.now c.args.bound.now (run_of c.args.tokens.now.kinds.now c.args.tokens.now.vals.now (c.args.p + 1)) (question_of c.args.want) c.loop-hit.hit
 told c =
     let i = c.loop-hit.invariant in
     elim c.loop-hit-test.branch [
@@ -73,10 +73,17 @@ loop-hit-preserved c =
     let le = (lens (goal.at.loop-hit-preserved c).At-loop-hit).0 in
     going_step l.invariant c.loop-hit-test.true c.if-done-top.true _ e ((parts_long n _ (omega (arith, m.auto.work, le))).0 ∙ sym (parts_long n l.work le).0) m.ensures.hit m.ensures.grown
 
+pub clear_queue-requires : goal.clear_queue-requires
+clear_queue-requires c =
+    let w = c.loop-hit.invariant.work in
+    let l = lens (goal.at.clear_queue-requires c).At-loop-hit in
+    let p = parts_long (length c.args.bound.now) c.loop-hit.work l.0 in
+    (omega (arith, l.0), clearing w (omega (arith, top-le w, p.0, p.1, l.0)))
+
 pub returns-clause-told : goal.returns-clause-told
 returns-clause-told c = told (goal.at.returns-clause-told c).Left-loop-hit
 
 pub returns-clause-term : goal.returns-clause-term
 returns-clause-term c =
     let a = c.args in
-    told_asked a.tokens.now.kinds.now a.tokens.now.vals.now a.bound.now a.p a.want _ (told (goal.at.returns-clause-term c).Left-loop-hit)
+    told_asked a.tokens.now.kinds.now a.tokens.now.vals.now a.bound.now a.p (question_of a.want) _ (told (goal.at.returns-clause-term c).Left-loop-hit)

@@ -5,7 +5,7 @@ use Prim.Native.Nat.{suc, ◌+◌}
 use native.Mathlib.Omega.{arith}
 use lib.ListN.{get_or}
 use Rattle.terms.specs.Words.Tokens.{toks}
-use Rattle.solver.specs.Words.ReachContract.{counts, has}
+use Rattle.solver.specs.Words.ReachContract.{question_of, counts, has}
 use Rattle.solver.proofs.Laws.Resolving.WorklistLaws.{grown_none, grown_then, parts_long}
 use Rattle.solver.proofs.Laws.Resolving.AskLaws.{has_snoc, has_start}
 use Rattle.solver.proofs.Laws.Theory.TheoryView.{either}
@@ -14,7 +14,7 @@ use Rattle.solver.proofs.reach.scan.Goals as goal
 pub loop-i-init : goal.loop-i-init
 loop-i-init c = (
   omega arith,
-  sym (has_start c.args.want c.args.tokens.now.kinds.now c.args.tokens.now.vals.now c.args.run.at),
+  sym (has_start (question_of c.args.want) c.args.tokens.now.kinds.now c.args.tokens.now.vals.now c.args.run.at),
   grown_none c.requires.work.0 _ (λ u l i. never_true (sym (has_start (suc u) c.args.tokens.now.kinds.now c.args.tokens.now.vals.now c.args.run.at) ∙ i)),
   refl,
 )
@@ -29,7 +29,7 @@ loop-i-preserved c =
     let a = c.args.run.at in
     let e = c.push.auto.work ∙ l.invariant.3 in (
       omega arith,
-      c.seen-hit.ensures ∙ ap (λ (b : Bool). b || counts c.args.want (get_or ks (a + l.i) 0) (get_or vs (a + l.i) 0)) l.invariant.1 ∙ sym (has_snoc c.args.want ks vs a l.i),
+      c.seen-hit.ensures ∙ ap (λ (b : Bool). b || counts (question_of c.args.want) (get_or ks (a + l.i) 0) (get_or vs (a + l.i) 0)) l.invariant.1 ∙ sym (has_snoc (question_of c.args.want) ks vs a l.i),
       grown_then _ _ _ l.invariant.2 m.ensures ((parts_long n _ (omega (arith, e, c.requires.work.1))).0 ∙ sym (parts_long n l.work (omega (arith, l.invariant.3, c.requires.work.1))).0)
           (λ u r. either (has (suc u) (toks ks vs a l.i)) (counts (suc u) (get_or ks (a + l.i) 0) (get_or vs (a + l.i) 0)) (sym (has_snoc (suc u) ks vs a l.i) ∙ r))
           (λ u p. has_snoc (suc u) ks vs a l.i ∙ or-true (has (suc u) (toks ks vs a l.i)) (counts (suc u) (get_or ks (a + l.i) 0) (get_or vs (a + l.i) 0)) p)
