@@ -193,7 +193,7 @@ impl Solver {
         let base = 7 * self.variables;
         let mut count = put_pair(tables, base, 0, p, q);
         let mut left = k;
-        let mut ok = true;
+        let mut verdict = Verdict::Compatible;
         // It goes on until nothing is pending, and a step may add to that.
         while 0 < count {
             if left == 0 {
@@ -213,20 +213,15 @@ impl Solver {
             count = r.count;
             let good = r.good;
             if !good {
-                ok = false;
+                verdict = Verdict::Incompatible;
             }
-        }
-        if ok {
-            return Solved {
-                solver: self,
-                verdict: Verdict::Compatible,
-            };
         }
         Solved {
             solver: self,
-            verdict: Verdict::Incompatible,
+            verdict,
         }
     }
+
     // Orders 4 and 22: the two terms after the session's tokens, the second at q, are constrained to be equal, with k checks; `nodes` counts the kept
     // nodes and theirs. Where a variable was bound their tokens are the session's from now on; else they are given back, and no node is kept.
     pub fn constrain(
