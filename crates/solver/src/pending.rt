@@ -1,6 +1,6 @@
 // The pending pairs of `constrain`: whether two nodes have the same shape, and their children put on in pairs. Pair j stands in the words
 // base + 2j and base + 2j + 1 of a table.
-ghost use Rattle.std.specs.Prelude.{◌≡◌, [], ◌∷◌, not, ◌&&◌, ◌||◌, ℕ, ◌+◌, ◌*◌, ◌^◌, ◌≤◌, ◌<◌, eqb, length, get_or};
+ghost use Rattle.std.specs.Prelude.{Some, unwrap_or, ◌≡◌, [], ◌∷◌, not, ◌&&◌, ◌||◌, ℕ, ◌+◌, ◌*◌, ◌^◌, ◌≤◌, ◌<◌, eqb, length, get_or};
 ghost use Rattle.terms.specs.Term.{Parts, node, Held};
 ghost use Rattle.terms.specs.Words.Held.{HeldParts};
 ghost use Rattle.terms.specs.Tree.{nums, children};
@@ -77,39 +77,34 @@ pub fn same_shape(tokens: &Tokens, a: usize, b: usize, access: Access) -> bool
     be <= j
 }
 
-// Where the first number of a row stands that begins at from and ends before end; end where it has none.
-pub fn number_from(tokens: &Tokens, from: usize, end: usize) -> usize
+// Where the first number of a row stands that begins at from and ends before end.
+pub fn number_from(tokens: &Tokens, from: usize, end: usize) -> Option<usize>
     requires { (from ≤ end) × (end ≤ length tokens.now.kinds.now) }
-    ensures place { result ≤ end }
+    ensures place { (i : ℕ) → result ≡ Some i → i < end }
     ensures number { (ps : Parts) → HeldParts tokens.now.kinds.now tokens.now.vals.now from end ps
-        → NumberAt tokens.now.kinds.now tokens.now.vals.now result end ps }
+        → NumberAt tokens.now.kinds.now tokens.now.vals.now (unwrap_or result end) end ps }
 {
     let mut i = from;
     // A step is as wide as what stands there, so no range is counted.
     while i < end {
         if tokens.kinds[i] == 0 {
-            return i;
+            return Some(i);
         }
         i = part_end(tokens, i, end);
     }
-    end
+    None
 }
 
-// The second number of the row of the node at a, 0 where it has not so many: of a nominal, how many arguments it has.
-pub fn second_number(tokens: &Tokens, a: usize) -> usize
+// The second number of the row of the node at a: of a nominal, how many arguments it has.
+pub fn second_number(tokens: &Tokens, a: usize) -> Option<usize>
     requires { a < length tokens.now.kinds.now }
-    ensures { (k : ℕ) (ps : Parts) → Held tokens.now.kinds.now tokens.now.vals.now a (node k ps) → result ≡ get_or (nums ps) 1 0 }
+    ensures { (k : ℕ) (ps : Parts) → Held tokens.now.kinds.now tokens.now.vals.now a (node k ps)
+        → unwrap_or result 0 ≡ get_or (nums ps) 1 0 }
 {
     let end = part_end(tokens, a, tokens.kinds.len());
-    let p = number_from(tokens, a + 1, end);
-    if end <= p {
-        return 0;
-    }
-    let q = number_from(tokens, p + 1, end);
-    if end <= q {
-        return 0;
-    }
-    tokens.vals[q] as usize
+    let p = number_from(tokens, a + 1, end)?;
+    let q = number_from(tokens, p + 1, end)?;
+    Some(tokens.vals[q] as usize)
 }
 
 // Puts a pair on top of the pending ones, and returns how many there are then.
@@ -247,7 +242,7 @@ pub fn push_children(
     if 17 < tokens.kinds[a] {
         return push_range(tokens, a, b, 0, all, tables, base, count);
     }
-    let n = second_number(tokens, a);
+    let n = second_number(tokens, a).unwrap_or(0);
     let top = push_range(tokens, a, b, n, all, tables, base, count);
     push_range(tokens, a, b, 0, n, tables, base, top)
 }

@@ -110,12 +110,19 @@ pub fn reaches(tokens: &Tokens, bound: &[u32], p: usize, want: Wanted, work: &mu
 {
     let n = bound.len();
     let mut top = 0;
-    let mut hit = scan(tokens, named_run(tokens, p + 1), want, work, n, &mut top);
+    let mut hit = scan(
+        tokens,
+        named_run(tokens, p + 1).unwrap_or_default(),
+        want,
+        work,
+        n,
+        &mut top,
+    );
     let mut done = 0;
     // It goes on until nothing is pending, and a step may add to that.
     while !hit && done < top {
         let w = work[n + done] as usize;
-        let next = named_run(tokens, bound[w] as usize);
+        let next = named_run(tokens, bound[w] as usize).unwrap_or_default();
         hit = scan(tokens, next, want, work, n, &mut top);
         done += 1;
     }

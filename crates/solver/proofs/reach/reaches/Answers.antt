@@ -8,6 +8,7 @@ use Rattle.terms.proofs.Laws.General.Bools.{never_true}
 use Rattle.solver.specs.Words.ReachContract.{question_of, run_of, Told}
 use Rattle.solver.proofs.Laws.Resolving.WorklistLaws.{clearing, work_none, top-le, entry_in, zero_take, zero_drop, parts_long}
 use Rattle.solver.proofs.Laws.Resolving.ReachLaws.{going_start, going_step, going_end, named_run_of, told_asked}
+use Rattle.solver.proofs.Laws.Resolving.ResolvedLaws.{named_or_empty}
 use Rattle.solver.proofs.reach.reaches.Goals.{then-loop-hit-test+else-done-top, else-loop-hit-test}
 use Rattle.solver.proofs.reach.reaches.Goals as goal
 use Rattle.solver.proofs.reach.reaches.Goals.{At-loop-hit, Then-done-top, Left-loop-hit}
@@ -44,7 +45,7 @@ pub loop-hit-init : goal.loop-hit-init
 loop-hit-init c =
     let n = length c.args.bound.now in
     let m = c.scan-hit in
-    going_start (zero_take n c.args.work.now c.requires.scratch.1) (parts_long n _ (omega (arith, m.auto.work, c.requires.scratch.0))).0 _ (named_run_of c.args.tokens.now.kinds.now c.args.tokens.now.vals.now (c.args.p + 1) _ _ c.named_run.ensures) m.ensures.hit m.ensures.grown
+    going_start (zero_take n c.args.work.now c.requires.scratch.1) (parts_long n _ (omega (arith, m.auto.work, c.requires.scratch.0))).0 _ (named_run_of c.args.tokens.now.kinds.now c.args.tokens.now.vals.now (c.args.p + 1) _ _ (named_or_empty _ _ c.named_run.ensures.named c.unwrap_or_default.ensures)) m.ensures.hit m.ensures.grown
 
 pub overflow_add-w : goal.overflow_add-w
 overflow_add-w c = omega (arith, lens (goal.at.overflow_add-w c).At-loop-hit, c.if-done-top.true, c.well_formed)
@@ -69,7 +70,7 @@ loop-hit-preserved c =
     let ks = c.args.tokens.now.kinds.now in
     let vs = c.args.tokens.now.vals.now in
     let q = get_or-drop n l.work l.done 0 in
-    let e = named_run_of ks vs _ _ _ c.named_run-next.ensures ∙ ap (λ (i : ℕ). run_of ks vs (get_or c.args.bound.now i 0)) (sym q) in
+    let e = named_run_of ks vs _ _ _ (named_or_empty _ _ c.named_run-in-loop-hit.ensures.named c.unwrap_or_default-next.ensures) ∙ ap (λ (i : ℕ). run_of ks vs (get_or c.args.bound.now i 0)) (sym q) in
     let le = (lens (goal.at.loop-hit-preserved c).At-loop-hit).0 in
     going_step l.invariant c.loop-hit-test.true c.if-done-top.true _ e ((parts_long n _ (omega (arith, m.auto.work, le))).0 ∙ sym (parts_long n l.work le).0) m.ensures.hit m.ensures.grown
 

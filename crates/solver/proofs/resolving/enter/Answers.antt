@@ -6,8 +6,8 @@ use Rattle.solver.specs.Words.ResolveWalk.{run_len}
 use Rattle.solver.proofs.Laws.Resolving.FrameLaws.{run_none, inner_var, inner_other}
 use Rattle.solver.proofs.resolving.enter.Goals as goal
 
-pub returns-then-tokens-p-ne1 : goal.returns-then-tokens-p-ne1
-returns-then-tokens-p-ne1 c =
+pub returns-then-tokens-p-ne1-clause-entered : goal.returns-then-tokens-p-ne1-clause-entered
+returns-then-tokens-p-ne1-clause-entered c =
     let a = c.args in
     record {
       shut = λ _. refl;
@@ -16,8 +16,8 @@ returns-then-tokens-p-ne1 c =
       within = omega arith;
     }
 
-pub returns-then-bound-v : goal.returns-then-bound-v
-returns-then-bound-v c =
+pub returns-then-bound-v-clause-entered : goal.returns-then-bound-v-clause-entered
+returns-then-bound-v-clause-entered c =
     let a = c.args in
     let z = get_or-eq_default a.bound.now 0 {n = get_or a.tokens.now.vals.now a.p 0} (omega arith) in
     record {
@@ -28,10 +28,10 @@ returns-then-bound-v c =
       within = omega arith;
     }
 
-pub returns : goal.returns
-returns c =
+pub returns-clause-entered : goal.returns-clause-entered
+returns-clause-entered c =
     let a = c.args in
-    let b = c.named_run.ensures in
+    let b = c.named_run.ensures.named in
     record {
       shut = λ z. absurd (omega (arith, c.if-left-eq0.false));
       size = λ _. b.size ∙ sym (inner_var a.tokens.now.kinds.now a.tokens.now.vals.now a.bound.now (get_or a.tokens.now.kinds.now a.p 0) (get_or a.tokens.now.vals.now a.p 0) (omega arith));
