@@ -1,4 +1,5 @@
-// Orders 3, 6 and 7: deferrals and defaults. The builtin with the code c stands at 2 * c of the areas.
+// Orders 3, 6 and 7: deferrals and defaults. The builtin with the code c stands at 2 * c of the areas. Kinds are numbers: a kind is a word of the
+// format.
 ghost use Rattle.std.specs.Prelude.{Some, unwrap_or, ◌≡◌, ℕ, ◌+◌, ◌*◌, ◌^◌, ◌≤◌, ◌<◌, length, take};
 ghost use Rattle.std.proofs.Math.Option.{Option};
 ghost use Rattle.terms.specs.Term.{Term, var};

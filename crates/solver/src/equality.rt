@@ -2,7 +2,8 @@
 // a lower one. A place is linked once, and only nodes are linked, so there are fewer links than nodes; the row of each place that is linked is walked once.
 // The area `work` has a word for each place first, 0 where it heads its class and else y + 1 for the place y that it is linked to; then the
 // places that are linked, in the order in which that happened. The area and the number of links are lent side by side, as in the search for a variable: `Wired`
-// does not hold between the two writes of `link`, so it cannot be the invariant of a struct that holds the area.
+// does not hold between the two writes of `link`, so it cannot be the invariant of a struct that holds the area; without one each clause would name it as now,
+// of three fields. Kinds are numbers: a kind is a word of the format.
 ghost use Rattle.std.specs.Prelude.{true, false, List, ◌≡◌, ℕ, ◌+◌, ◌^◌, ◌≤◌, ◌<◌, length, get_or, set, take, drop};
 ghost use Rattle.std.proofs.Math.Option.{Option};
 ghost use Rattle.terms.specs.Term.{Term, Parts, node};
@@ -127,7 +128,7 @@ fn union_rows(
 {
     let mut i = a;
     let mut j = b;
-    // Both rows go on by the width of their own parts, so no range is counted.
+    // Both rows go on by the width of their own parts. `zip` of two walks would end with the shorter row and not say whether the other is over.
     while i < ae {
         if be <= j {
             return false;

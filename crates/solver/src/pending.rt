@@ -1,5 +1,6 @@
 // The pending pairs of `constrain`: whether two nodes have the same shape, and their children put on in pairs. Pair j stands in the words
-// base + 2j and base + 2j + 1 of a table.
+// base + 2j and base + 2j + 1 of a table. Table, base and count are lent side by side: `store.rt` of terms says why no struct holds a `&mut`
+// that is lent on, and no clause ties `base` and `count` alone. Kinds are numbers: a kind is a word of the format.
 ghost use Rattle.std.specs.Prelude.{Some, unwrap_or, ◌≡◌, [], ◌∷◌, not, ◌&&◌, ◌||◌, ℕ, ◌+◌, ◌*◌, ◌^◌, ◌≤◌, ◌<◌, eqb, length, get_or};
 ghost use Rattle.terms.specs.Term.{Parts, node, Held};
 ghost use Rattle.terms.specs.Words.Held.{HeldParts};
@@ -62,7 +63,7 @@ pub fn same_shape(tokens: &Tokens, a: usize, b: usize, access: Access) -> bool
     let mut i = a + 1;
     let mut j = b + 1;
     let mut free = access_free(tokens.kinds[a], access);
-    // Both rows go on by the width of their own parts, so no range is counted.
+    // Both rows go on by the width of their own parts. `zip` of two walks would end with the shorter row and not say whether the other is over.
     while i < ae {
         if be <= j {
             return false;
@@ -85,7 +86,7 @@ pub fn number_from(tokens: &Tokens, from: usize, end: usize) -> Option<usize>
         → NumberAt tokens.now.kinds.now tokens.now.vals.now (unwrap_or result end) end ps }
 {
     let mut i = from;
-    // A step is as wide as what stands there, so no range is counted.
+    // A step is as wide as what stands there. A `RowWalk` goes over a `Seen`, tokens with an origin, which these are not.
     while i < end {
         if tokens.kinds[i] == 0 {
             return Some(i);
@@ -208,7 +209,7 @@ pub fn push_range(
         child: 0,
         top: count,
     };
-    // Both rows go on by the width of their own parts, so no range is counted.
+    // Both rows go on by the width of their own parts. Two `RowWalk`s in a `zip` would each need a `Seen`, tokens with an origin, which these are not.
     while i < ae {
         c = push_part(tables, base, c, tokens.kinds[i], i, j, lo, hi);
         i = part_end(tokens, i, ae);

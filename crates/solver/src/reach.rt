@@ -1,7 +1,8 @@
 // Whether a term has, bound variables replaced, a variable, or an Unknown or Error: one worklist over variables, so that the run of each
-// bound variable is scanned once. One area of words is the scratch: its first n words, n being the number of variables in the table, are the marks, the words from n on the queue. A variable's
-// mark is 1 once it stands in the queue. The scratch, n and the length of the queue are lent side by side: a struct with `Work` for its
-// invariant was tried, and the check asks for the invariant between the two writes of `push`, where the queue has no entry yet.
+// bound variable is scanned once. One area of words is the scratch: its first n words, n being the number of variables in the table, are the
+// marks, the words from n on the queue. A variable's mark is 1 once it stands in the queue. The scratch, n and the length of the queue are lent side by side: a struct with `Work` for its
+// invariant was tried, and the check asks for the invariant between the two writes of `push`, where the queue has no entry yet; without
+// one each clause would name `Work` as now, of three fields. Kinds are numbers: a kind is a word of the format.
 ghost use Rattle.std.specs.Prelude.{◌≡◌, true, ◌||◌, ℕ, suc, ◌+◌, ◌^◌, ◌≤◌, ◌<◌, length, take, drop};
 ghost use Rattle.std.proofs.Math.Option.{Option, none};
 ghost use Rattle.terms.specs.Words.Tokens.{toks};

@@ -1,5 +1,5 @@
 // A term with its bound variables replaced: sized and written without being built. A variable's word in `bound` is 0 where it is
-// unbound, and p + 1 where it is bound to the term at p.
+// unbound, and p + 1 where it is bound to the term at p. Kinds are numbers: a kind is a word of the format.
 ghost use Rattle.std.specs.Prelude.{◌≡◌, ℕ, min, ◌+◌, ◌^◌, ◌≤◌, ◌<◌, length};
 ghost use Rattle.std.proofs.Math.Option.{Option};
 ghost use Rattle.std.proofs.lemmas.List.Edits.{sets};
@@ -135,7 +135,7 @@ pub fn walked_len(
 {
     let mut c = begin(tokens, bound, most, frames, run);
     let mut n = 0;
-    // A step is as wide as what stands there, so no range is counted.
+    // `next` goes on by one token, into bound variables and out of them through `frames`. An iterator would hold these by `&mut` (`store.rt` of terms says why not).
     while c.at < c.end {
         n += run_len(tokens.kinds, tokens.vals, c.at, 1);
         if limit < n {
@@ -167,7 +167,7 @@ pub fn write_walked(
 {
     let mut c = begin(tokens, bound, most, frames, run);
     let mut i = to;
-    // A step is as wide as what stands there, so no range is counted.
+    // `next` goes on by one token, into bound variables and out of them through `frames`. An iterator would hold these by `&mut` (`store.rt` of terms says why not).
     while c.at < c.end {
         i = write_run(tokens.kinds, tokens.vals, c.at, 1, out, i);
         c = next(tokens, bound, most, frames, c);
