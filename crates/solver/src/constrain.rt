@@ -1,5 +1,5 @@
 // `constrain`: the Rust's loop over pending pairs, a check each. The pairs stand after the columns of the table, two places a pair; the last
-// is taken first.
+// is taken first. Kinds are numbers: a kind is a word of the format.
 ghost use Rattle.std.specs.Prelude.{◌≡◌, ◌||◌, List, ◌+◌, ◌*◌, ◌≤◌, ◌<◌, eqb, length, drop};
 ghost use Rattle.terms.specs.Term.{Term, size};
 ghost use Rattle.solver.specs.Shapes.{notion, same_shape};
@@ -25,16 +25,7 @@ use terms::Tokens;
 pub fn either_recovers(left: u32, right: u32) -> bool
     ensures { result ≡ ((eqb left 4 || eqb left 5) || (eqb right 4 || eqb right 5)) }
 {
-    if left == 4 {
-        return true;
-    }
-    if left == 5 {
-        return true;
-    }
-    if right == 4 {
-        return true;
-    }
-    right == 5
+    matches!(left, 4 | 5) || matches!(right, 4 | 5)
 }
 
 impl Solver {
@@ -202,7 +193,7 @@ impl Solver {
         let base = 7 * self.variables;
         let mut count = put_pair(tables, base, 0, p, q);
         let mut left = k;
-        let mut ok = true;
+        let mut verdict = Verdict::Compatible;
         // It goes on until nothing is pending, and a step may add to that.
         while 0 < count {
             if left == 0 {
@@ -222,20 +213,15 @@ impl Solver {
             count = r.count;
             let good = r.good;
             if !good {
-                ok = false;
+                verdict = Verdict::Incompatible;
             }
-        }
-        if ok {
-            return Solved {
-                solver: self,
-                verdict: Verdict::Compatible,
-            };
         }
         Solved {
             solver: self,
-            verdict: Verdict::Incompatible,
+            verdict,
         }
     }
+
     // Orders 4 and 22: the two terms after the session's tokens, the second at q, are constrained to be equal, with k checks; `nodes` counts the kept
     // nodes and theirs. Where a variable was bound their tokens are the session's from now on; else they are given back, and no node is kept.
     pub fn constrain(

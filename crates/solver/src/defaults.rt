@@ -1,5 +1,6 @@
-// Orders 3, 6 and 7: deferrals and defaults. The builtin with the code c stands at 2 * c of the areas.
-ghost use Rattle.std.specs.Prelude.{◌≡◌, ℕ, ◌+◌, ◌*◌, ◌^◌, ◌≤◌, ◌<◌, length, take};
+// Orders 3, 6 and 7: deferrals and defaults. The builtin with the code c stands at 2 * c of the areas. Kinds are numbers: a kind is a word of the
+// format.
+ghost use Rattle.std.specs.Prelude.{Some, unwrap_or, ◌≡◌, ℕ, ◌+◌, ◌*◌, ◌^◌, ◌≤◌, ◌<◌, length, take};
 ghost use Rattle.std.proofs.Math.Option.{Option};
 ghost use Rattle.terms.specs.Term.{Term, var};
 ghost use Rattle.solver.specs.Families.{Family, admits, Request, preference, first_of, taken};
@@ -17,31 +18,26 @@ use super::top::shallow_resolve;
 use super::{Defaulted, Solver};
 use terms::Tokens;
 
-// The variable at the end of the chain of bindings from v on, or the length of the table where the chain ends at no variable of the table.
-pub fn root_of(tokens: &Tokens, bound: &[u32], most: usize, v: usize) -> usize
+// The variable at the end of the chain of bindings from v on; none where the chain ends at no variable of the table.
+pub fn root_of(tokens: &Tokens, bound: &[u32], most: usize, v: usize) -> Option<usize>
     requires { v < length bound.now }
-    ensures { (b : ℕ → Option Term)
+    ensures ends { (b : ℕ → Option Term)
         → HeldBindings tokens.now.kinds.now tokens.now.vals.now bound.now b
-        → EndsAt (length bound.now) (follow most b (var v)) result }
+        → EndsAt (length bound.now) (follow most b (var v)) (unwrap_or result (length bound.now)) }
+    ensures low { (w : ℕ) → result ≡ Some w → w < length bound.now }
 {
     if most == 0 {
-        return v;
+        return Some(v);
     }
-    let run = named_run(tokens, bound[v] as usize);
-    let len = run.len;
-    let at = run.at;
-    if len == 0 {
-        return v;
-    }
-    let q = shallow_resolve(tokens, bound, most - 1, at);
+    let Some(run) = named_run(tokens, bound[v] as usize) else {
+        return Some(v);
+    };
+    let q = shallow_resolve(tokens, bound, most - 1, run.at);
     if tokens.kinds[q] != 1 {
-        return bound.len();
+        return None;
     }
     let w = tokens.vals[q] as usize;
-    if bound.len() <= w {
-        return bound.len();
-    }
-    w
+    (w < bound.len()).then_some(w)
 }
 
 // The word that the default of the variable v goes by: its request's, or that of Never, if v is deferred.
@@ -76,31 +72,11 @@ fn first_of(mask: u32, fallback: u32) -> u32
     requires { fallback < 32 }
     ensures { ((f : Family) → ((c : ℕ) → admits f c ≡ bit mask c) → result ≡ first_of fallback f preference) × (result < 32) }
 {
-    if has(mask, 2) {
-        return 2;
-    }
-    if has(mask, 3) {
-        return 3;
-    }
-    if has(mask, 6) {
-        return 6;
-    }
-    if has(mask, 7) {
-        return 7;
-    }
-    if has(mask, 0) {
-        return 0;
-    }
-    if has(mask, 4) {
-        return 4;
-    }
-    if has(mask, 1) {
-        return 1;
-    }
-    if has(mask, 5) {
-        return 5;
-    }
-    fallback
+    [2, 3, 6, 7, 0, 4, 1, 5]
+        .iter()
+        .copied()
+        .find(|&c| has(mask, c))
+        .unwrap_or(fallback)
 }
 
 // What is admitted at the end of a chain: by its word, or by the own one where it has none.
@@ -175,10 +151,9 @@ impl Solver {
             return self;
         }
         let most = self.revision;
-        let w = root_of(tokens, &tables[..m], most, v);
-        if m <= w {
+        let Some(w) = root_of(tokens, &tables[..m], most, v) else {
             return self;
-        }
+        };
         let code = default_code(word, end_word(tables, m, w, which));
         tables[w] = 2 * code + 1;
         self.revision = most + 1;

@@ -2,7 +2,8 @@
 // a lower one. A place is linked once, and only nodes are linked, so there are fewer links than nodes; the row of each place that is linked is walked once.
 // The area `work` has a word for each place first, 0 where it heads its class and else y + 1 for the place y that it is linked to; then the
 // places that are linked, in the order in which that happened. The area and the number of links are lent side by side, as in the search for a variable: `Wired`
-// does not hold between the two writes of `link`, so it cannot be the invariant of a struct that holds the area.
+// does not hold between the two writes of `link`, so it cannot be the invariant of a struct that holds the area; without one each clause would name it as now,
+// of three fields. Kinds are numbers: a kind is a word of the format.
 ghost use Rattle.std.specs.Prelude.{true, false, List, ◌≡◌, ℕ, ◌+◌, ◌^◌, ◌≤◌, ◌<◌, length, get_or, set, take, drop};
 ghost use Rattle.std.proofs.Math.Option.{Option};
 ghost use Rattle.terms.specs.Term.{Term, Parts, node};
@@ -13,10 +14,11 @@ ghost use Rattle.solver.specs.Words.Bindings.{HeldBindings};
 ghost use Rattle.solver.specs.Words.Worklist.{Zero};
 ghost use Rattle.solver.specs.Words.ReachContract.{Steady, Topped};
 ghost use Rattle.solver.specs.Words.SessionRepresentation.{begins};
-ghost use Rattle.solver.specs.Words.CongruenceClasses.{link_words, WiredIn, AdvancedIn, Clearing, Up, HeldSteady, stands_for, Standing, Coincide, Linked};
+ghost use Rattle.solver.specs.Words.CongruenceClasses.{link_words, WiredIn, AdvancedIn, Up, HeldSteady, stands_for, Standing, Coincide, Linked};
 ghost use Rattle.solver.specs.Words.CongruenceClasses.{Fair, Outcome};
 ghost use Rattle.solver.specs.Words.CongruenceClasses.{Closed, TermsJoined, RowsJoined};
 
+use super::reach::clear_queue;
 use super::top::shallow_resolve;
 use terms::{Tokens, skip};
 
@@ -126,7 +128,7 @@ fn union_rows(
 {
     let mut i = a;
     let mut j = b;
-    // Both rows go on by the width of their own parts, so no range is counted.
+    // Both rows go on by the width of their own parts. `zip` of two walks would end with the shorter row and not say whether the other is over.
     while i < ae {
         if be <= j {
             return false;
@@ -212,18 +214,6 @@ fn close_congruence(
     true
 }
 
-// Sets the links of the places that are linked, and the queue, back to 0.
-fn clear(n: usize, work: &mut [u32], top: usize)
-    requires { (n ≤ length work.old) × Clearing (take n work.old) (drop n work.old) top }
-    ensures { Zero work.new }
-{
-    for k in (0..top).rev() {
-        let x = work[n + k] as usize;
-        work[x] = 0;
-        work[n + k] = 0;
-    }
-}
-
 // Whether the terms at p and q are the same, bound variables replaced: they are joined, and all that follows from it. The words of
 // the area are 0 before and after.
 pub fn same_terms(
@@ -248,6 +238,6 @@ pub fn same_terms(
     let mut top = 0;
     let equal = union_terms(tokens, bound, most, p, q, work, &mut top)
         && close_congruence(tokens, bound, most, work, &mut top);
-    clear(tokens.kinds.len(), work, top);
+    clear_queue(work, tokens.kinds.len(), top);
     equal
 }

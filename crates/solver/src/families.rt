@@ -1,4 +1,4 @@
-// What a number variable may be bound to, and a binding made.
+// What a number variable may be bound to, and a binding made. Kinds are numbers: a kind is a word of the format.
 ghost use Rattle.std.specs.Prelude.{◌≡◌, false, ℕ, ◌+◌, ◌*◌, ◌^◌, ◌≤◌, ◌<◌, length, get_or};
 ghost use Rattle.std.proofs.Math.Option.{some};
 ghost use Rattle.terms.specs.Term.{Term, Held};

@@ -30,7 +30,7 @@ pub use terms::{
 };
 
 // A run of tokens: len of them, from at on.
-#[derive(Clone, Copy)]
+#[derive(Clone, Copy, Default)]
 pub struct Run {
     pub at: usize,
     pub len: usize,

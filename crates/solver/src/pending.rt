@@ -1,6 +1,7 @@
 // The pending pairs of `constrain`: whether two nodes have the same shape, and their children put on in pairs. Pair j stands in the words
-// base + 2j and base + 2j + 1 of a table.
-ghost use Rattle.std.specs.Prelude.{◌≡◌, [], ◌∷◌, not, ◌&&◌, ◌||◌, ℕ, ◌+◌, ◌*◌, ◌^◌, ◌≤◌, ◌<◌, eqb, length, get_or};
+// base + 2j and base + 2j + 1 of a table. Table, base and count are lent side by side: `store.rt` of terms says why no struct holds a `&mut`
+// that is lent on, and no clause ties `base` and `count` alone. Kinds are numbers: a kind is a word of the format.
+ghost use Rattle.std.specs.Prelude.{Some, unwrap_or, ◌≡◌, [], ◌∷◌, not, ◌&&◌, ◌||◌, ℕ, ◌+◌, ◌*◌, ◌^◌, ◌≤◌, ◌<◌, eqb, length, get_or};
 ghost use Rattle.terms.specs.Term.{Parts, node, Held};
 ghost use Rattle.terms.specs.Words.Held.{HeldParts};
 ghost use Rattle.terms.specs.Tree.{nums, children};
@@ -8,24 +9,14 @@ ghost use Rattle.solver.specs.Shapes.{notion, same_shape};
 ghost use Rattle.solver.specs.Words.PendingContract.{strict_of, Laid, Taken, Wiped, places, PushedPairs, Twins, agree, here, window, PartEnd, NumberAt};
 
 use super::{Access, Counted, PairAt};
-use terms::Tokens;
+use terms::{Tokens, skip};
 
 // Where the part at i ends, or end where it would go past it.
 pub fn part_end(tokens: &Tokens, i: usize, end: usize) -> usize
     requires { (i < end) × (end ≤ length tokens.now.kinds.now) }
     ensures { PartEnd tokens.now.kinds.now tokens.now.vals.now i end result }
 {
-    if tokens.kinds[i] < 2 {
-        return i + 1;
-    }
-    let len = tokens.vals[i] as usize;
-    if len == 0 {
-        return end;
-    }
-    if end - i < len {
-        return end;
-    }
-    i + len
+    i + skip(tokens, i, end - i)
 }
 
 // Whether the parts at i and j agree, but for the terms that they are.
@@ -51,7 +42,7 @@ pub fn access_free(kind: u32, access: Access) -> bool
     ensures { result ≡ (not (strict_of access) && (eqb kind 12 || eqb kind 13)) }
 {
     match access {
-        Access::Ignored => kind == 12 || kind == 13,
+        Access::Ignored => matches!(kind, 12 | 13),
         Access::Compared => false,
     }
 }
@@ -72,7 +63,7 @@ pub fn same_shape(tokens: &Tokens, a: usize, b: usize, access: Access) -> bool
     let mut i = a + 1;
     let mut j = b + 1;
     let mut free = access_free(tokens.kinds[a], access);
-    // Both rows go on by the width of their own parts, so no range is counted.
+    // Both rows go on by the width of their own parts. `zip` of two walks would end with the shorter row and not say whether the other is over.
     while i < ae {
         if be <= j {
             return false;
@@ -87,39 +78,34 @@ pub fn same_shape(tokens: &Tokens, a: usize, b: usize, access: Access) -> bool
     be <= j
 }
 
-// Where the first number of a row stands that begins at from and ends before end; end where it has none.
-pub fn number_from(tokens: &Tokens, from: usize, end: usize) -> usize
+// Where the first number of a row stands that begins at from and ends before end.
+pub fn number_from(tokens: &Tokens, from: usize, end: usize) -> Option<usize>
     requires { (from ≤ end) × (end ≤ length tokens.now.kinds.now) }
-    ensures place { result ≤ end }
+    ensures place { (i : ℕ) → result ≡ Some i → i < end }
     ensures number { (ps : Parts) → HeldParts tokens.now.kinds.now tokens.now.vals.now from end ps
-        → NumberAt tokens.now.kinds.now tokens.now.vals.now result end ps }
+        → NumberAt tokens.now.kinds.now tokens.now.vals.now (unwrap_or result end) end ps }
 {
     let mut i = from;
-    // A step is as wide as what stands there, so no range is counted.
+    // A step is as wide as what stands there. A `RowWalk` goes over a `Seen`, tokens with an origin, which these are not.
     while i < end {
         if tokens.kinds[i] == 0 {
-            return i;
+            return Some(i);
         }
         i = part_end(tokens, i, end);
     }
-    end
+    None
 }
 
-// The second number of the row of the node at a, 0 where it has not so many: of a nominal, how many arguments it has.
-pub fn second_number(tokens: &Tokens, a: usize) -> usize
+// The second number of the row of the node at a: of a nominal, how many arguments it has.
+pub fn second_number(tokens: &Tokens, a: usize) -> Option<usize>
     requires { a < length tokens.now.kinds.now }
-    ensures { (k : ℕ) (ps : Parts) → Held tokens.now.kinds.now tokens.now.vals.now a (node k ps) → result ≡ get_or (nums ps) 1 0 }
+    ensures { (k : ℕ) (ps : Parts) → Held tokens.now.kinds.now tokens.now.vals.now a (node k ps)
+        → unwrap_or result 0 ≡ get_or (nums ps) 1 0 }
 {
     let end = part_end(tokens, a, tokens.kinds.len());
-    let p = number_from(tokens, a + 1, end);
-    if end <= p {
-        return 0;
-    }
-    let q = number_from(tokens, p + 1, end);
-    if end <= q {
-        return 0;
-    }
-    tokens.vals[q] as usize
+    let p = number_from(tokens, a + 1, end)?;
+    let q = number_from(tokens, p + 1, end)?;
+    Some(tokens.vals[q] as usize)
 }
 
 // Puts a pair on top of the pending ones, and returns how many there are then.
@@ -223,7 +209,7 @@ pub fn push_range(
         child: 0,
         top: count,
     };
-    // Both rows go on by the width of their own parts, so no range is counted.
+    // Both rows go on by the width of their own parts. Two `RowWalk`s in a `zip` would each need a `Seen`, tokens with an origin, which these are not.
     while i < ae {
         c = push_part(tables, base, c, tokens.kinds[i], i, j, lo, hi);
         i = part_end(tokens, i, ae);
@@ -257,7 +243,7 @@ pub fn push_children(
     if 17 < tokens.kinds[a] {
         return push_range(tokens, a, b, 0, all, tables, base, count);
     }
-    let n = second_number(tokens, a);
+    let n = second_number(tokens, a).unwrap_or(0);
     let top = push_range(tokens, a, b, n, all, tables, base, count);
     push_range(tokens, a, b, 0, n, tables, base, top)
 }

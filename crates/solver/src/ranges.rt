@@ -21,15 +21,17 @@ impl Bound {
     }
 }
 
-// Whether the type with a sign, and with this greatest value, holds both bounds.
-fn signed_holds(greatest: u64, low: Bound, high: Bound) -> bool
-    requires { greatest < 9223372036854775808 }
-    ensures { result ≡ (below true (greatest + 1) low.minus low.size && below high.minus high.size false greatest) }
+// The bound that is minus this size.
+fn below_zero(size: u64) -> Bound
+    ensures { (result.minus ≡ true) × (result.size ≡ size) }
 {
-    let least = Bound {
-        minus: true,
-        size: greatest + 1,
-    };
+    Bound { minus: true, size }
+}
+
+// Whether the type with these least and greatest values holds both bounds.
+fn holds(least: Bound, greatest: u64, low: Bound, high: Bound) -> bool
+    ensures { result ≡ (below least.minus least.size low.minus low.size && below high.minus high.size false greatest) }
+{
     let most = Bound {
         minus: false,
         size: greatest,
@@ -37,33 +39,22 @@ fn signed_holds(greatest: u64, low: Bound, high: Bound) -> bool
     least.at_most(low) && high.at_most(most)
 }
 
-// The same of the type without a sign.
-fn unsigned_holds(greatest: u64, low: Bound, high: Bound) -> bool
-    ensures { result ≡ (below false 0 low.minus low.size && below high.minus high.size false greatest) }
-{
-    let least = Bound {
-        minus: false,
-        size: 0,
-    };
-    let most = Bound {
-        minus: false,
-        size: greatest,
-    };
-    least.at_most(low) && high.at_most(most)
-}
-
-// The integer types that hold both bounds, as a mask. In a table each type would have its sign, its greatest value and its weight, which is these lines again.
+// The integer types that hold both bounds, as a mask. In a table each type would have its bounds and its weight, which is these lines again.
 fn range_mask(low: Bound, high: Bound) -> u32
     ensures { (result ≡ mask_of (holds (bound_of low) (bound_of high))) × (result ≤ 255) }
 {
-    let a = u32::from(signed_holds(i8::MAX as u64, low, high));
-    let b = u32::from(signed_holds(i16::MAX as u64, low, high));
-    let c = u32::from(signed_holds(i32::MAX as u64, low, high));
-    let d = u32::from(signed_holds(i64::MAX as u64, low, high));
-    let e = u32::from(unsigned_holds(u8::MAX as u64, low, high));
-    let f = u32::from(unsigned_holds(u16::MAX as u64, low, high));
-    let g = u32::from(unsigned_holds(u32::MAX as u64, low, high));
-    let h = u32::from(unsigned_holds(u64::MAX, low, high));
+    let zero = Bound {
+        minus: false,
+        size: 0,
+    };
+    let a = u32::from(holds(below_zero(1 << 7), i8::MAX as u64, low, high));
+    let b = u32::from(holds(below_zero(1 << 15), i16::MAX as u64, low, high));
+    let c = u32::from(holds(below_zero(1 << 31), i32::MAX as u64, low, high));
+    let d = u32::from(holds(below_zero(1 << 63), i64::MAX as u64, low, high));
+    let e = u32::from(holds(zero, u8::MAX as u64, low, high));
+    let f = u32::from(holds(zero, u16::MAX as u64, low, high));
+    let g = u32::from(holds(zero, u32::MAX as u64, low, high));
+    let h = u32::from(holds(zero, u64::MAX, low, high));
     a + 2 * b + 4 * c + 8 * d + 16 * e + 32 * f + 64 * g + 128 * h
 }
 

@@ -1,8 +1,8 @@
 // Whether a term has, bound variables replaced, a variable, or an Unknown or Error: one worklist over variables, so that the run of each
-// bound variable is scanned once. Question v + 1 asks for the variable v, question 0 for an Unknown or Error. One area of words is the
-// scratch: its first n words, n being the number of variables in the table, are the marks, the words from n on the queue. A variable's
-// mark is 1 once it stands in the queue. The scratch, n and the length of the queue are lent side by side: a struct with `Work` for its
-// invariant was tried, and the check asks for the invariant between the two writes of `push`, where the queue has no entry yet.
+// bound variable is scanned once. One area of words is the scratch: its first n words, n being the number of variables in the table, are the
+// marks, the words from n on the queue. A variable's mark is 1 once it stands in the queue. The scratch, n and the length of the queue are lent side by side: a struct with `Work` for its
+// invariant was tried, and the check asks for the invariant between the two writes of `push`, where the queue has no entry yet; without
+// one each clause would name `Work` as now, of three fields. Kinds are numbers: a kind is a word of the format.
 ghost use Rattle.std.specs.Prelude.{◌≡◌, true, ◌||◌, ℕ, suc, ◌+◌, ◌^◌, ◌≤◌, ◌<◌, length, take, drop};
 ghost use Rattle.std.proofs.Math.Option.{Option, none};
 ghost use Rattle.terms.specs.Words.Tokens.{toks};
@@ -11,29 +11,30 @@ ghost use Rattle.solver.specs.Constrain.{resolve};
 ghost use Rattle.solver.specs.Constrain as solving;
 ghost use Rattle.solver.specs.Words.Bindings.{HeldBindings};
 ghost use Rattle.solver.specs.Words.Worklist.{Zero, Work, Grown};
-ghost use Rattle.solver.specs.Words.ReachContract.{counts, has, run_of, Told, asked, Steady, Free};
+ghost use Rattle.solver.specs.Words.ReachContract.{question_of, counts, has, run_of, Told, asked, Steady, Free};
+ghost use Rattle.solver.specs.Words.CongruenceClasses.{Clearing};
 
 use super::Run;
 use super::resolving::named_run;
 use terms::Tokens;
 
+// What is asked for: an Unknown or Error, or a variable.
+#[derive(Clone, Copy, Debug, PartialEq, Eq)]
+pub enum Wanted {
+    Recovery,
+    Variable(u32),
+}
+
 // Whether a token is what is asked for, or one before it was.
-pub fn seen(kind: u32, val: u32, want: usize, before: bool) -> bool
-    ensures { result ≡ (before || counts want kind val) }
+#[tactic(auto, unfolding(crate::specs::Words::ReachContract::counts))]
+pub fn seen(kind: u32, val: u32, want: Wanted, before: bool) -> bool
+    ensures { result ≡ (before || counts (question_of want) kind val) }
 {
-    if before {
-        return true;
-    }
-    if want == 0 {
-        if kind == 4 {
-            return true;
+    before
+        || match want {
+            Wanted::Recovery => matches!(kind, 4 | 5),
+            Wanted::Variable(v) => kind == 1 && v == val,
         }
-        return kind == 5;
-    }
-    if kind != 1 {
-        return false;
-    }
-    want - 1 == val as usize
 }
 
 // Marks the variable of a token and puts it into the queue, if the token is one, the table has it, and it was not marked.
@@ -61,14 +62,14 @@ pub fn push(work: &mut [u32], n: usize, top: &mut usize, kind: u32, val: u32)
 pub fn scan(
     tokens: &Tokens,
     run: Run,
-    want: usize,
+    want: Wanted,
     work: &mut [u32],
     n: usize,
     top: &mut usize,
 ) -> bool
     requires areas { run.at + run.len ≤ length tokens.now.kinds.now }
     requires work { Work (take n work.old) (drop n work.old) top.old × (n + n ≤ length work.old) }
-    ensures hit { result ≡ has want (toks tokens.now.kinds.now tokens.now.vals.now run.at run.len) }
+    ensures hit { result ≡ has (question_of want) (toks tokens.now.kinds.now tokens.now.vals.now run.at run.len) }
     ensures grown { Grown (λ (u : ℕ). has (suc u) (toks tokens.now.kinds.now tokens.now.vals.now run.at run.len) ≡ true) (take n work.old)
         (drop n work.old) top.old (take n work.new) (drop n work.new) top.new }
 {
@@ -82,44 +83,51 @@ pub fn scan(
     hit
 }
 
-// Sets the marks of the variables in the queue, and the queue, back to 0.
-pub fn clear_marks(work: &mut [u32], n: usize, top: usize)
-    requires { Work (take n work.old) (drop n work.old) top × (n + n ≤ length work.old) }
+// Sets the words of the places that stand in the queue, and the queue, back to 0.
+pub fn clear_queue(work: &mut [u32], n: usize, top: usize)
+    requires { (n ≤ length work.old) × Clearing (take n work.old) (drop n work.old) top }
     ensures { Zero work.new }
 {
     for k in (0..top).rev() {
-        let v = work[n + k] as usize;
+        let x = work[n + k] as usize;
+        work[x] = 0;
         work[n + k] = 0;
-        work[v] = 0;
     }
 }
 
 // Whether the term at p has what is asked for, bound variables replaced: it and what its variables are bound to are looked at, each once, until what is
 // asked for is met. The scratch is all 0 before and after.
-pub fn reaches(tokens: &Tokens, bound: &[u32], p: usize, want: usize, work: &mut [u32]) -> bool
+pub fn reaches(tokens: &Tokens, bound: &[u32], p: usize, want: Wanted, work: &mut [u32]) -> bool
     requires areas { p < 2 ^ 32 }
     requires scratch { (length bound.now + length bound.now ≤ length work.old) × Zero work.old }
-    ensures told { Told tokens.now.kinds.now tokens.now.vals.now bound.now (run_of tokens.now.kinds.now tokens.now.vals.now (p + 1)) want result }
+    ensures told { Told tokens.now.kinds.now tokens.now.vals.now bound.now (run_of tokens.now.kinds.now tokens.now.vals.now (p + 1)) (question_of want) result }
     ensures term { (t : Term) (b : ℕ → Option Term) (n : ℕ)
         → Held tokens.now.kinds.now tokens.now.vals.now p t
         → HeldBindings tokens.now.kinds.now tokens.now.vals.now bound.now b
         → Steady n b
-        → Free want b
-        → result ≡ asked want (resolve n b t) }
+        → Free (question_of want) b
+        → result ≡ asked (question_of want) (resolve n b t) }
     ensures clear { Zero work.new }
 {
     let n = bound.len();
     let mut top = 0;
-    let mut hit = scan(tokens, named_run(tokens, p + 1), want, work, n, &mut top);
+    let mut hit = scan(
+        tokens,
+        named_run(tokens, p + 1).unwrap_or_default(),
+        want,
+        work,
+        n,
+        &mut top,
+    );
     let mut done = 0;
     // It goes on until nothing is pending, and a step may add to that.
     while !hit && done < top {
         let w = work[n + done] as usize;
-        let next = named_run(tokens, bound[w] as usize);
+        let next = named_run(tokens, bound[w] as usize).unwrap_or_default();
         hit = scan(tokens, next, want, work, n, &mut top);
         done += 1;
     }
-    clear_marks(work, n, top);
+    clear_queue(work, n, top);
     hit
 }
 
@@ -135,8 +143,7 @@ pub fn occurs(tokens: &Tokens, bound: &[u32], p: usize, v: u32, work: &mut [u32]
         → result ≡ solving.occurs v (resolve n b t) }
     ensures clear { Zero work.new }
 {
-    let want = v as usize + 1;
-    reaches(tokens, bound, p, want, work)
+    reaches(tokens, bound, p, Wanted::Variable(v), work)
 }
 
 // Whether an Unknown or Error is in the term at p, bound variables replaced.
@@ -150,5 +157,5 @@ pub fn recovers(tokens: &Tokens, bound: &[u32], p: usize, work: &mut [u32]) -> b
         → result ≡ solving.recovers (resolve n b t) }
     ensures clear { Zero work.new }
 {
-    reaches(tokens, bound, p, 0, work)
+    reaches(tokens, bound, p, Wanted::Recovery, work)
 }

@@ -1,53 +1,56 @@
 // A term with its bound variables replaced: sized and written without being built. A variable's word in `bound` is 0 where it is
-// unbound, and p + 1 where it is bound to the term at p.
+// unbound, and p + 1 where it is bound to the term at p. Kinds are numbers: a kind is a word of the format.
 ghost use Rattle.std.specs.Prelude.{◌≡◌, ℕ, min, ◌+◌, ◌^◌, ◌≤◌, ◌<◌, length};
 ghost use Rattle.std.proofs.Math.Option.{Option};
 ghost use Rattle.std.proofs.lemmas.List.Edits.{sets};
 ghost use Rattle.terms.specs.Term.{Term, Held, bytes};
 ghost use Rattle.solver.specs.Constrain.{resolve};
-ghost use Rattle.solver.specs.Words.ResolveWalk.{Named, Entered, walked, flat_bytes, resolved_bytes};
+ghost use Rattle.solver.specs.Words.ResolveWalk.{run_in, Filled, Named, Entered, walked, flat_bytes, resolved_bytes};
 ghost use Rattle.solver.specs.Words.ResolveFrames.{stand, Sound, Settled, Apart, Cleared};
 ghost use Rattle.solver.specs.Words.Bindings.{HeldBindings};
 ghost use Rattle.solver.specs.Words.Worklist.{Zero};
 
 use super::{Run, Stand};
-use terms::{Tokens, run_len, write_run};
+use terms::{Token, Tokens, run_len, write_run};
 
-// The run that a word of the table names, of len 0 where it names none.
-pub fn named_run(tokens: &Tokens, word: usize) -> Run
-    ensures { Named tokens.now.kinds.now tokens.now.vals.now word result.at result.len }
+// The run that a word of the table names, if it names one.
+pub fn named_run(tokens: &Tokens, word: usize) -> Option<Run>
+    ensures named { Named tokens.now.kinds.now tokens.now.vals.now word (run_in result).at (run_in result).len }
+    ensures filled { Filled result }
 {
     if word == 0 {
-        return Run { at: 0, len: 0 };
+        return None;
     }
     let at = word - 1;
     if tokens.kinds.len() <= at {
-        return Run { at: 0, len: 0 };
+        return None;
     }
-    let mut len = 1;
-    if 2 <= tokens.kinds[at] {
-        len = tokens.vals[at] as usize;
+    let head = Token {
+        kind: tokens.kinds[at],
+        value: tokens.vals[at],
+    };
+    let len = head.span();
+    if len == 0 || tokens.kinds.len() - at < len {
+        return None;
     }
-    if tokens.kinds.len() - at < len {
-        return Run { at: 0, len: 0 };
-    }
-    Run { at, len }
+    Some(Run { at, len })
 }
 
-// The run that takes the place of the token at p, of len 0 where it stands for itself: with nothing left to enter, every token does.
-pub fn enter(tokens: &Tokens, bound: &[u32], p: usize, left: usize) -> Run
+// The run that takes the place of the token at p; none where it stands for itself: with nothing left to enter, every token does.
+pub fn enter(tokens: &Tokens, bound: &[u32], p: usize, left: usize) -> Option<Run>
     requires { p < length tokens.now.kinds.now }
-    ensures { Entered tokens.now.kinds.now tokens.now.vals.now bound.now p left result.at result.len }
+    ensures entered { Entered tokens.now.kinds.now tokens.now.vals.now bound.now p left (run_in result).at (run_in result).len }
+    ensures filled { Filled result }
 {
     if left == 0 {
-        return Run { at: 0, len: 0 };
+        return None;
     }
     if tokens.kinds[p] != 1 {
-        return Run { at: 0, len: 0 };
+        return None;
     }
     let v = tokens.vals[p] as usize;
     if bound.len() <= v {
-        return Run { at: 0, len: 0 };
+        return None;
     }
     named_run(tokens, bound[v] as usize)
 }
@@ -72,10 +75,9 @@ pub fn settle(tokens: &Tokens, bound: &[u32], most: usize, frames: &mut [u32], f
             frames[i] = 0;
             frames[i + 1] = 0;
         } else {
-            let r = enter(tokens, bound, c.at, most - c.depth);
-            if r.len == 0 {
+            let Some(r) = enter(tokens, bound, c.at, most - c.depth) else {
                 return c;
-            }
+            };
             let i = c.depth + c.depth;
             frames[i] = (c.at + 1) as u32;
             frames[i + 1] = c.end as u32;
@@ -133,7 +135,7 @@ pub fn walked_len(
 {
     let mut c = begin(tokens, bound, most, frames, run);
     let mut n = 0;
-    // A step is as wide as what stands there, so no range is counted.
+    // `next` goes on by one token, into bound variables and out of them through `frames`. An iterator would hold these by `&mut` (`store.rt` of terms says why not).
     while c.at < c.end {
         n += run_len(tokens.kinds, tokens.vals, c.at, 1);
         if limit < n {
@@ -165,7 +167,7 @@ pub fn write_walked(
 {
     let mut c = begin(tokens, bound, most, frames, run);
     let mut i = to;
-    // A step is as wide as what stands there, so no range is counted.
+    // `next` goes on by one token, into bound variables and out of them through `frames`. An iterator would hold these by `&mut` (`store.rt` of terms says why not).
     while c.at < c.end {
         i = write_run(tokens.kinds, tokens.vals, c.at, 1, out, i);
         c = next(tokens, bound, most, frames, c);
@@ -192,7 +194,7 @@ pub fn resolved_len(
     ensures apart { Apart most frames.old frames.new }
     ensures bare { Zero frames.old → result ≤ limit → Zero frames.new }
 {
-    let run = named_run(tokens, p + 1);
+    let run = named_run(tokens, p + 1).unwrap_or_default();
     walked_len(tokens, bound, most, frames, run, limit)
 }
 
@@ -217,7 +219,7 @@ pub fn write_resolved(
     ensures apart { Apart most frames.old frames.new }
     ensures bare { Zero frames.old → Zero frames.new }
 {
-    let run = named_run(tokens, p + 1);
+    let run = named_run(tokens, p + 1).unwrap_or_default();
     write_walked(tokens, bound, most, frames, run, out, to)
 }
 

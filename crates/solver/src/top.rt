@@ -19,10 +19,9 @@ pub fn shallow_resolve(tokens: &Tokens, bound: &[u32], most: usize, p: usize) ->
 {
     let mut q = p;
     for _ in 0..most {
-        let r = enter(tokens, bound, q, 1);
-        if r.len == 0 {
+        let Some(r) = enter(tokens, bound, q, 1) else {
             return q;
-        }
+        };
         q = r.at;
     }
     q

@@ -1,10 +1,10 @@
 // Orders 0 to 2: the variable of a place. A variable's words in the table say what it is the variable of: 1, a site and a slot, or 2 and
 // the site of a hole.
-ghost use Rattle.std.specs.Prelude.{Some, ◌≡◌, true, false, List, ℕ, ◌+◌, ◌*◌, ◌^◌, ◌≤◌, ◌<◌, length, get_or};
+ghost use Rattle.std.specs.Prelude.{Some, unwrap_or, ◌≡◌, true, false, List, ℕ, ◌+◌, ◌*◌, ◌^◌, ◌≤◌, ◌<◌, length, get_or};
 ghost use Rattle.solver.specs.Session.{VariablePlace, at, gap, Session, find};
 ghost use Rattle.solver.specs.Orders as orders;
 ghost use Rattle.solver.specs.Words.SessionRepresentation.{limits_of, place_words, site_words, slot_words, RequestWord, request_in, HeldPlaces, Represents};
-ghost use Rattle.solver.specs.Words.MethodContract.{matches, last_match, found, Shaped, Beside, placed, named_of, named_below, Issued, Replied, reply_of};
+ghost use Rattle.solver.specs.Words.MethodContract.{matches, last_match, Shaped, Beside, placed, named_of, Issued, Replied, reply_of};
 ghost use Rattle.solver.specs.Words.MethodContract.{resolved_reply};
 ghost use Rattle.solver.specs.Words.OrderTerms.{place_of, kind_word, site_word, slot_word};
 
@@ -20,70 +20,38 @@ fn words_of(site: Site) -> (u32, u32, u32)
     }
 }
 
-// Whether a variable's words are those of the place: a hole has no slot.
+// Whether a variable's words are those of the place: a hole has no slot. The words are compared, and no `Site` is made of them: the third word of a hole
+// does not count, whatever it is, and the words of no variable are no site.
+#[tactic(auto, unfolding(crate::specs::Words::MethodContract::matches))]
 pub fn is_place(site: Site, k: u32, s: u32, i: u32) -> bool
     ensures { result ≡ matches (kind_word site) (site_word site) (slot_word site) k s i }
 {
     let (kind, of, slot) = words_of(site);
-    if k != kind {
-        return false;
-    }
-    if s != of {
-        return false;
-    }
-    if kind == 2 {
-        return true;
-    }
-    i == slot
+    k == kind && s == of && (kind == 2 || i == slot)
 }
 
-// Whether one of `count` words from `from` on is x. It looks at all of them, so that many are compared at once.
-fn has_word(words: &[u32], from: usize, count: usize, x: u32) -> bool
-    requires { from + count ≤ length words.now }
-    ensures some { result ≡ true → (i : ℕ) × (i < count) × (get_or words.now (from + i) 0 ≡ x) }
-    ensures none { result ≡ false → (i : ℕ) → i < count → get_or words.now (from + i) 0 ≡ x → ⊥ }
-{
-    let mut found = false;
-    for i in 0..count {
-        if words[from + i] == x {
-            found = true;
-        }
-    }
-    found
-}
-
-// The last variable whose words are those of the place, or issued. Where no variable has the site there is none.
-pub fn find_place(tables: &[u32], m: usize, issued: usize, site: Site) -> usize
+// The last variable whose words are those of the place. Where no variable has the site there is none.
+pub fn find_place(tables: &[u32], m: usize, issued: usize, site: Site) -> Option<usize>
     requires { (issued ≤ m) × (7 * m ≤ length tables.now) }
-    ensures word { result ≡ last_match (kind_word site) (site_word site) (slot_word site) (place_words m tables.now)
+    ensures word { unwrap_or result issued ≡ last_match (kind_word site) (site_word site) (slot_word site) (place_words m tables.now)
         (site_words m tables.now) (slot_words m tables.now) issued issued }
+    ensures low { (v : ℕ) → result ≡ Some v → v < issued }
     ensures place { (ps : List VariablePlace)
         → length ps ≡ issued
         → HeldPlaces (place_words m tables.now) (site_words m tables.now) (slot_words m tables.now) ps
-        → result ≡ found issued (find (place_of site) ps) }
+        → result ≡ named_of (find (place_of site) ps) }
 {
-    let words = words_of(site);
-    if !has_word(tables, 3 * m, issued, words.1) {
-        return issued;
+    let (_, of, _) = words_of(site);
+    if !tables[3 * m..3 * m + issued].contains(&of) {
+        return None;
     }
     for v in (0..issued).rev() {
         let k = tables[2 * m + v];
         let s = tables[3 * m + v];
         let i = tables[4 * m + v];
         if is_place(site, k, s, i) {
-            return v;
+            return Some(v);
         }
-    }
-    issued
-}
-
-// A variable below m by its name; no other may be issued.
-fn named_below(v: usize, m: usize) -> Option<u32>
-    requires { m < 2 ^ 32 }
-    ensures { result ≡ named_below v m }
-{
-    if v < m {
-        return Some(v as u32);
     }
     None
 }
@@ -97,8 +65,8 @@ impl Solver {
         ensures low { (v : ℕ) → result ≡ Some v → v < self.variables }
     {
         let m = self.variables;
-        let v = find_place(tables, m, self.issued, site);
-        named_below(v, m)
+        let v = find_place(tables, m, self.issued, site).unwrap_or(self.issued);
+        (v < m).then_some(v as u32)
     }
 
     // The variable of a place: the one that it has, or a new one.
@@ -112,8 +80,7 @@ impl Solver {
     {
         let m = self.variables;
         let issued = self.issued;
-        let v = find_place(tables, m, issued, site);
-        if v < issued {
+        if let Some(v) = find_place(tables, m, issued, site) {
             return Issue {
                 solver: self,
                 answer: Some(v as u32),

@@ -48,7 +48,7 @@ WiredIn ks work top = Wired ks (link_words ks work) (queue_words ks work) top
 abbrev pub AdvancedIn : List ℕ → List ℕ → ℕ → List ℕ → ℕ → Type 0
 AdvancedIn ks work top work' top' = Advanced ks (link_words ks work) (queue_words ks work) top (link_words ks work') (queue_words ks work') top'
 
--- while the words are cleared: the places that are still linked are listed before k
+-- while words are cleared: the places whose words are not 0 are listed before k
 pub record Clearing (par queue : List ℕ) (k : ℕ) : Type 0 where
   pub fits : k ≤ length queue
   pub inside : (i : ℕ) → i < k → get_or queue i 0 < length par

@@ -66,10 +66,6 @@ abbrev pub named_of : Option ℕ → rust.Option ℕ
 named_of none = None
 named_of (some v) = Some v
 
--- a variable below m; no other may be issued
-unfoldable pub named_below : ℕ → ℕ → rust.Option ℕ
-named_below v m = pick (ltb v m) (Some v) None
-
 -- where the variable of an answer stands
 abbrev pub Located : VariablePlace → Session → rust.Option ℕ → Type 0
 Located p s (Some v) = (find p s.places ≡ some v) × (v < issued s)

@@ -5,8 +5,15 @@ use Rattle.std.proofs.Math.Option.{Option, none, some}
 use Rattle.terms.specs.Words.Tokens.{Item, item, toks}
 use Rattle.terms.specs.Term.{Term, var}
 use Rattle.terms.specs.Questions.{meets}
+use Rattle.solver.specs.declared.reach.Wanted.{Wanted}
+use Rattle.solver.specs.declared.reach.Wanted.TheVariants.{Recovery, Variable}
 use Rattle.solver.specs.Constrain.{resolve, follow, recovery, is, always}
 use Rattle.solver.specs.Words.ResolveWalk.{run_len}
+
+-- the number of a question
+abbrev pub question_of : Wanted → ℕ
+question_of Recovery = 0
+question_of (Variable v) = suc v
 
 -- ---- of tokens
 

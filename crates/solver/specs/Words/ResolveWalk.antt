@@ -1,6 +1,9 @@
 -- The walk over a term that the areas hold, bound variables replaced: total on any words. The table of bindings has a word for each
 -- variable, 0 where it is unbound and p + 1 where it is bound to the term at p.
 use Rattle.std.specs.Prelude.{ℕ, zero, suc, pred, ◌+◌, ◌≤◌, ◌<◌, ◌≡◌, List, [], ◌∷◌, ◌++◌, leb, length, get_or}
+use Rattle.std.specs.declared.option.Option as rust
+use Rattle.std.specs.Prelude.{Some, None}
+use Rattle.solver.specs.declared.Run.{Run}
 use Rattle.terms.specs.Result.{pick}
 use Rattle.terms.specs.Words.Tokens.{Item, item, spell, one}
 use Rattle.terms.specs.Words.Held.{span}
@@ -16,6 +19,15 @@ unfoldable pub inner : List ℕ → List ℕ → List ℕ → ℕ → ℕ → �
 inner ks vs bs zero v = 0
 inner ks vs bs (suc zero) v = run_len ks vs (get_or bs v 0)
 inner ks vs bs (suc (suc k)) s = 0
+
+-- the run of an answer; none is an empty one
+abbrev pub run_in : rust.Option Run → Run
+run_in (Some r) = r
+run_in None = record { at = 0; len = 0 }
+
+-- an answer is no run without tokens
+abbrev pub Filled : rust.Option Run → Type 0
+Filled o = (r : Run) → o ≡ Some r → 0 < r.len
 
 -- at and len give the run that a word names
 pub record Named (ks vs : List ℕ) (word at len : ℕ) : Type 0 where

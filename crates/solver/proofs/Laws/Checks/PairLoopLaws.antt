@@ -217,6 +217,12 @@ abbrev pub told : Bool → Verdict
 told true = Compatible
 told false = Incompatible
 
+-- whether no pair was found incompatible so far
+abbrev pub agreed : Verdict → Bool
+agreed Compatible = true
+agreed Incompatible = false
+agreed Cancelled = false
+
 module _ {n : Notion} {x₀ : Solver} {ks vs ts₀ : List ℕ} {s : Session} {goal : Out solving.Solver} {x : Solver} {ts : List ℕ} {left count : ℕ} {ok : Bool}
     (G : Going n x₀ ks vs s goal x ts left count ok) (C : ChangesCounted x₀ x ts₀ ts) where
   settled_none : (k : ℕ) (ps : List Pair) → ps ≡ [] → settles n k G.solver ok ps ≡ done G.solver ok
@@ -380,7 +386,3 @@ and-false false b e = refl
 pub and-true : (a b : Bool) → b ≡ true → a ≡ (a && b)
 and-true true b e = sym e
 and-true false b e = refl
-
-pub told_so : {n : Notion} {x₀ : Solver} {ks vs : List ℕ} {s : Session} {goal : Out solving.Solver} {x : Solver} {ts : List ℕ} {left count : ℕ} {ok b : Bool}
-    → Going n x₀ ks vs s goal x ts left count ok → ok ≡ b → Going n x₀ ks vs s goal x ts left count b
-told_so {n} {x₀} {ks} {vs} {s} {goal} {x} {ts} {left} {count} g e = subst (λ (b : Bool). Going n x₀ ks vs s goal x ts left count b) e g

@@ -177,7 +177,7 @@ module _ (f : ℕ → Term) where
 pub unasked : (q w : ℕ) (t : Term) → asked q t ≡ false → asked (suc w) t ≡ true → asked q (var w) ≡ false
 unasked q w t e o = not_yes (asked q (var w)) (λ h. never_false (sym (through q var w h t o) ∙ ap (asked q) (replace_var t) ∙ e))
 
--- ---- one token
+-- ---- one token, as the code tests it
 
 -- the token is the variable u
 pub token_is : (u k x : ℕ) → counts (suc u) k x ≡ true → (k ≡ 1) × (u ≡ x)

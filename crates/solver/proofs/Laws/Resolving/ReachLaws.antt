@@ -6,7 +6,6 @@ use mathlib.Core.Option.{Option, none, some}
 use mathlib.Core.Path.{◌≡◌, refl, sym, ap, subst, ◌∙◌}
 use Prim.Native.Nat.{ℕ, zero, suc, pred, ◌+◌, ◌<◌, ◌≤◌}
 use native.Mathlib.Decide.{dec_lt}
-use native.Mathlib.Numerals.{add-one}
 use native.Mathlib.Omega.{arith}
 use lib.ListN.{length, get_or, get_or-eq_default}
 use Rattle.terms.specs.Words.Tokens.{Item, spell, toks}
@@ -204,12 +203,9 @@ told_asked ks vs bs p q hit T t b n h g S f = told_root ks vs bs b g n S q f t (
 
 -- ---- the two questions
 
-pub asks_variable : (q v : ℕ) → q ≡ v + 1 → (t : Term) → asked q t ≡ occurs v t
+pub asks_variable : (v : ℕ) (t : Term) → asked (suc v) t ≡ occurs v t
 unfolding wanted
-asks_variable q v e t = ap (λ (x : ℕ). asked x t) (e ∙ add-one v)
-
-pub free_variable : (b : ℕ → Option Term) (q v : ℕ) → q ≡ v + 1 → b v ≡ none → Free q b
-free_variable b q v e h = subst (λ (x : ℕ). Free x b) (sym (e ∙ add-one v)) h
+asks_variable v t = refl
 
 pub asks_recovery : (t : Term) → asked 0 t ≡ recovers t
 unfolding wanted

@@ -13,8 +13,12 @@ use Rattle.terms.specs.Words.Held.{span}
 use Rattle.terms.specs.Words.TokenBytes.{plain}
 use Rattle.terms.proofs.Laws.Format.WriteLaws.{spell_none}
 use Rattle.terms.proofs.Laws.Held.HeldLaws.{span_is, items_some, held_first}
+use Rattle.std.specs.declared.option.Option as rust
+use Rattle.std.specs.Prelude.{Some, None}
+use Rattle.std.specs.Option.{UnwrapsOrElse}
+use Rattle.solver.specs.declared.Run.{Run}
 use Rattle.solver.specs.Constrain.{replace, replace_row, followed, resolve}
-use Rattle.solver.specs.Words.ResolveWalk.{run_len, inner, Named, walk, walked, over, flat_bytes, resolved_bytes}
+use Rattle.solver.specs.Words.ResolveWalk.{run_in, run_len, inner, Named, walk, walked, over, flat_bytes, resolved_bytes}
 use Rattle.solver.specs.Words.Bindings.{HeldBinding, HeldBindings}
 use Rattle.solver.proofs.Laws.Resolving.OverLaws.{over-append, over-over, spell_over}
 use Rattle.solver.proofs.Laws.Resolving.FrameLaws.{run_none, run_at, inner_var, walk_leaf, walk_into}
@@ -147,3 +151,9 @@ named_bytes {ks = ks} {vs = vs} bs n p {at = at} {len = suc len} h =
     let e : suc len ≡ run_len ks vs (suc p) = h.size ∙ ap (run_len ks vs) (add-one p) in
     let q : at ≡ p = omega (arith, h.place (omega arith)) in
     ap (λ (c : ℕ). flat_bytes (walked ks vs bs n at c)) e ∙ ap (λ (a : ℕ). flat_bytes (walked ks vs bs n a (run_len ks vs (suc p)))) q
+
+-- the run of an answer, or the empty one
+pub named_or_empty : {ks vs : List ℕ} {word : ℕ} (o : rust.Option Run) (r : Run) → Named ks vs word (run_in o).at (run_in o).len
+    → UnwrapsOrElse o (Rattle.solver.specs.contracts.RunDefault.TheImpl.is_default-value).it r → Named ks vs word r.at r.len
+named_or_empty (Some x) r h e = rw e h
+named_or_empty None r h e = let x : r.at ≡ 0 = cc in let y : r.len ≡ 0 = cc in rw (x, y) h

@@ -18,6 +18,7 @@ use lib.Seq.{
   drop-set-add,
 }
 use Rattle.solver.specs.Words.Worklist.{sum, Zero, Work, Grown}
+use Rattle.solver.specs.Words.CongruenceClasses.{Clearing}
 
 sum_set : (l : List ℕ) (i : ℕ) → i < length l → get_or l i 0 ≡ 0 → sum (set l i 1) ≡ sum l + 1
 unfolding sum
@@ -139,44 +140,15 @@ grown_then P Q R G H l split left right =
       only = λ u m. ⊎_elim (λ n. ⊎_elim (λ o. inl o) (λ p. inr (left u p)) (G.only u n)) (λ q. inr (right u q)) (H.only u m);
     }
 
--- ---- clearing: the marks that are left are those of the first k words of the queue
-pub record Clearing (marks queue : List ℕ) (k : ℕ) : Type 0 where
-  pub inside : (j : ℕ) → j < k → get_or queue j 0 < length marks
-  pub left : (v : ℕ) → (get_or marks v 0 ≡ 0) ⊎ ((j : ℕ) × (j < k) × (get_or queue j 0 ≡ v))
-  pub blank : (j : ℕ) → k ≤ j → get_or queue j 0 ≡ 0
-
-pub clearing_start : {marks queue : List ℕ} {top : ℕ} → Work marks queue top → Clearing marks queue top
-clearing_start {marks} {queue} {top} W =
-    record { inside = entry_in W; left = λ v. go v (ℕ_discrete (get_or marks v 0) 0); blank = W.blank }
-  where
-    go : (v : ℕ) → Dec (get_or marks v 0 ≡ 0) → (get_or marks v 0 ≡ 0) ⊎ ((j : ℕ) × (j < top) × (get_or queue j 0 ≡ v))
-    go v (yes p) = inl p
-    go v (no p) = inr (W.found v (marked W v p))
-
-module _ {marks queue : List ℕ} {k : ℕ} (C : Clearing marks queue k) (n : ℕ) (e : k ≡ n + 1) (r : n < length queue) where
-  pub clearing_step : Clearing (set marks (get_or queue n 0) 0) (set queue n 0) n
-  clearing_step =
-      record {
-        inside = λ j l. rw (get_or-set_other queue n j 0 0 (λ x. omega arith), length-set marks (get_or queue n 0) 0) (C.inside j (omega arith));
-        left = λ v. go v (ℕ_discrete v (get_or queue n 0));
-        blank = λ j l. wiped j l (ℕ_discrete j n);
-      }
-    where
-      at : (v : ℕ) → (j : ℕ) → j < k → get_or queue j 0 ≡ v → (v ≡ get_or queue n 0 → ⊥) → Dec (j ≡ n)
-          → (i : ℕ) × (i < n) × (get_or (set queue n 0) i 0 ≡ v)
-      at v j l q p (yes x) = absurd (p (sym q ∙ ap (λ (i : ℕ). get_or queue i 0) x))
-      at v j l q p (no x) = (j, omega arith, get_or-set_other queue n j 0 0 x ∙ q)
-
-      go : (v : ℕ) → Dec (v ≡ get_or queue n 0) → (get_or (set marks (get_or queue n 0) 0) v 0 ≡ 0) ⊎ ((j : ℕ) × (j < n) × (get_or (set queue n 0) j 0 ≡ v))
-      go v (yes p) = inl (rw p (get_or-set_same marks (get_or queue n 0) 0 0 (C.inside n (omega arith))))
-      go v (no p) = ⊎_elim (λ z. inl (get_or-set_other marks (get_or queue n 0) v 0 0 p ∙ z)) (λ f. inr (at v f.0 f.1 f.2 p (ℕ_discrete f.0 n))) (C.left v)
-
-      wiped : (j : ℕ) → n ≤ j → Dec (j ≡ n) → get_or (set queue n 0) j 0 ≡ 0
-      wiped j l (yes p) = rw p (get_or-set_same queue n 0 0 r)
-      wiped j l (no p) = get_or-set_other queue n j 0 0 p ∙ C.blank j (omega arith)
-
-pub clearing_end : {marks queue : List ℕ} {k : ℕ} → Clearing marks queue k → k ≤ 0 → Zero marks × Zero queue
-clearing_end C z = ((λ v. ⊎_elim (λ e. e) (λ f. let l = f.1 in absurd (omega arith)) (C.left v)), λ j. C.blank j (omega arith))
+-- marks and a queue can be cleared
+pub clearing : {marks queue : List ℕ} {top : ℕ} → Work marks queue top → top ≤ length queue → Clearing marks queue top
+clearing {marks} W f =
+    record {
+      fits = f;
+      inside = entry_in W;
+      hung = λ v l. W.found v (marked W v (λ (e : get_or marks v 0 ≡ 0). omega (arith, e)));
+      gone = W.blank;
+    }
 
 -- ---- both in one area: its first n words are the marks, the others the queue
 
@@ -210,9 +182,3 @@ module _ (n : ℕ) (w : List ℕ) where
 
     pub drop_marked : drop n (set (set w v x) (n + k) y) ≡ set (drop n w) k y
     drop_marked = drop-set-add n (set w v x) k y ∙ ap (λ (l : List ℕ). set l k y) (drop-set-lt n w v x lt)
-
-    pub take_cleared : take n (set (set w (n + k) y) v x) ≡ set (take n w) v x
-    take_cleared = take-set-lt n (set w (n + k) y) v x lt ∙ ap (λ (l : List ℕ). set l v x) (take-set-le n w (n + k) y (omega arith))
-
-    pub drop_cleared : drop n (set (set w (n + k) y) v x) ≡ set (drop n w) k y
-    drop_cleared = drop-set-lt n (set w (n + k) y) v x lt ∙ drop-set-add n w k y

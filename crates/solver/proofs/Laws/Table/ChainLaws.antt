@@ -8,7 +8,11 @@ use native.Mathlib.Nat.{zero-add, add-zero}
 use native.Mathlib.Numerals.{add-one}
 use native.Mathlib.Omega.{arith}
 use native.Mathlib.Decide.{ℕ_discrete}
+use borrow.Author.Tests.{ltb-false}
+use lib.Dec.{ltb}
 use lib.ListN.{length, get_or, take, set}
+use Rattle.std.specs.Option.{unwrap_or}
+use Rattle.std.specs.Bool.{then_some}
 use lib.Seq.{length-take-le}
 use Rattle.terms.specs.Term.{Term, Parts, var, node, num, end, Held}
 use Rattle.terms.proofs.Laws.Held.HeldLaws.{head_kind, head_value, held_first, items_some}
@@ -377,3 +381,11 @@ module _ {x : Solver} {ks₀ vs₀ ts : List ℕ} {s : Session} (A : InOrder (is
     deferred_far k e =
         let f = L.fits.variables in
         omega (arith, top_low (issued s) s.solver (in_order_ordered (issued s) s.solver A) t (get_or vs q 0) k (top_variable e))
+
+-- where a number is answered if it is below m, or else m
+pub end_below : (m v : ℕ) (t : Term) → EndsAt m t v → (m ≤ v → EndsAt m t m) → EndsAt m t (unwrap_or (then_some (ltb v m) v) m)
+end_below m v t near far = go (ltb v m) refl
+  where
+    go : (b : Bool) → ltb v m ≡ b → EndsAt m t (unwrap_or (then_some b v) m)
+    go true e = near
+    go false e = far (ltb-false v m e)

@@ -17,7 +17,8 @@ use Rattle.unify.specs.Term.{clash}
 use Rattle.solver.specs.declared.Solver.{Solver}
 use Rattle.solver.specs.declared.Defaulted.{Defaulted}
 use Rattle.solver.specs.declared.Defaulted.TheVariants.{Requested, Deferred}
-use Rattle.std.specs.Prelude.{Some, None}
+use Rattle.std.specs.Prelude.{Some, None, unwrap_or}
+use Rattle.std.specs.Bool.{then_some}
 use Rattle.std.specs.declared.option.Option as rust
 use Rattle.solver.specs.declared.Site.{Site}
 use Rattle.solver.specs.declared.Site.TheVariants.{Slot, Hole}
@@ -28,7 +29,7 @@ use Rattle.solver.specs.Invariant.{WithinLimits}
 use Rattle.solver.specs.Words.Bindings.{HeldBindings}
 use Rattle.solver.specs.Words.Worklist.{Zero}
 use Rattle.solver.specs.Words.SessionRepresentation.{limits_of, binding_words, request_words, place_words, site_words, slot_words, deferral_words, HeldRequest, HeldPlace, HeldPlaces, Unplaced, flag, free_words, Represents}
-use Rattle.solver.specs.Words.MethodContract.{Beside, matches, last_match, found, placing, placed, named_of, named_below, Issued, Replied, reply_of, resolved_reply, joined_word, Handed, never_word, default_word}
+use Rattle.solver.specs.Words.MethodContract.{Beside, matches, last_match, found, placing, placed, named_of, Issued, Replied, reply_of, resolved_reply, joined_word, Handed, never_word, default_word, end_word}
 use Rattle.solver.specs.Words.OrderTerms.{place_of, kind_word, site_word, slot_word}
 use Rattle.solver.proofs.Laws.Definition.InOrderLaws.{find_issued}
 use Rattle.solver.proofs.Laws.Resolving.BindingLaws.{bind_held}
@@ -216,14 +217,12 @@ module _ (kind site slot m : ℕ) (ts : List ℕ) (d : ℕ) where
       search_none n (omega arith) (λ v h. f v (omega arith))
       ∙ sym (match_on kind site slot (place_words m ts) (site_words m ts) (slot_words m ts) d n (sym (in_columns n (omega arith)) ∙ match_none kind site slot _ _ _ (f n (omega arith))))
 
+  pub search_answer : (r : ℕ) → r ≡ Last d → (p : VariablePlace) (ps : List VariablePlace) → HeldPlace p kind site slot → length ps ≡ d
+      → HeldPlaces (place_words m ts) (site_words m ts) (slot_words m ts) ps → r ≡ found d (find p ps)
+  search_answer r e p ps h l g = e ∙ ap Last (sym l) ∙ match_found p kind site slot h (place_words m ts) (site_words m ts) (slot_words m ts) d ps g
+
 abbrev pub LastOf : Site → ℕ → List ℕ → ℕ → ℕ → ℕ
 LastOf w m ts d n = Last (kind_word w) (site_word w) (slot_word w) m ts d n
-
--- what was found by words is the place's variable
-pub search_answer : (w : Site) (m : ℕ) (ts : List ℕ) (d : ℕ) {r : ℕ} → r ≡ LastOf w m ts d d → (ps : List VariablePlace) → length ps ≡ d
-    → HeldPlaces (place_words m ts) (site_words m ts) (slot_words m ts) ps → r ≡ found d (find (place_of w) ps)
-search_answer w m ts d e ps l g =
-    e ∙ ap (LastOf w m ts d) (sym l) ∙ match_found (place_of w) _ _ _ (place_held w _ _ _ refl refl refl) (place_words m ts) (site_words m ts) (slot_words m ts) d ps g
 
 -- the words of a variable that is not issued are written
 pub places_other : (ks ss is : List ℕ) (j a b c : ℕ) (ps : List VariablePlace) → length ps ≤ j → HeldPlaces ks ss is ps → HeldPlaces (set ks j a) (set ss j b) (set is j c) ps
@@ -424,12 +423,12 @@ module _ (x : Solver) (ks vs ts : List ℕ) (s : Session) (L : Represents x ks v
       go (some w) q f = ap some (sym f)
 
   -- without issuing it: none where that is past the limit
-  pub placed_below : named_below v x.variables ≡ named_of (placed (limits_of x) s p).variable
-  unfolding placing named_below
+  pub placed_below : then_some (ltb v x.variables) v ≡ named_of (placed (limits_of x) s p).variable
+  unfolding placing
   placed_below = go (find p s.places) refl e (full (limits_of x) s) refl
     where
       go : (o : Option ℕ) → find p s.places ≡ o → v ≡ found x.issued o → (b : Bool) → full (limits_of x) s ≡ b
-          → pick (ltb v x.variables) (Some v) None ≡ named_of (placing s p o b).variable
+          → then_some (ltb v x.variables) v ≡ named_of (placing s p o b).variable
       go (some w) q f b g = rw (lt-ltb v x.variables (omega (arith, find_issued p s.places w q, L.issued, L.fits.variables))) (ap Some f)
       go none q f true g = rw (le-ltb v x.variables (omega (arith, leb-true x.variables (length s.places) g, L.issued))) refl
       go none q f false g = rw (lt-ltb v x.variables (omega (arith, leb-false x.variables (length s.places) g, L.issued))) (ap Some (f ∙ L.issued))
@@ -461,15 +460,32 @@ module _ (x : Solver) (ks vs ts : List ℕ) (s : Session) (L : Represents x ks v
         located = (rw (same_self p, L.issued), omega (arith, L.issued));
       })
 
-pub named_low : (v m : ℕ) (r : rust.Option ℕ) → r ≡ named_below v m → (w : ℕ) → r ≡ Some w → w < m
-unfolding named_below
-named_low v m r e w f = go (ltb v m) refl (sym f ∙ e)
+-- a number that is answered where it is below m
+pub then_below : (v m : ℕ) (r : rust.Option ℕ) → r ≡ then_some (ltb v m) v → (w : ℕ) → r ≡ Some w → w < m
+then_below v m r e w f = go (ltb v m) refl (sym f ∙ e)
   where
-    go : (b : Bool) → ltb v m ≡ b → Some w ≡ pick b (Some v) None → w < m
+    go : (b : Bool) → ltb v m ≡ b → Some w ≡ then_some b v → w < m
     go true g h =
         let i : w ≡ v = cc in
         omega (arith, ltb-true v m g)
     go false g h = clash cc
+
+-- what a search finds, as an answer and as a number
+pub found_number : (r : rust.Option ℕ) (o : Option ℕ) (d : ℕ) → r ≡ named_of o → unwrap_or r d ≡ found d o
+found_number r none d e = rw e
+found_number r (some v) d e = rw e
+
+pub found_low : (r : rust.Option ℕ) (d : ℕ) → ((v : ℕ) → r ≡ Some v → v < d) → unwrap_or r d ≤ d
+found_low None d l = omega arith
+found_low (Some v) d l = omega (arith, l v refl)
+
+pub found_named : (v d : ℕ) (o : Option ℕ) → v ≡ found d o → v < d → Some v ≡ named_of o
+found_named v d none e l = absurd (omega arith)
+found_named v d (some w) e l = ap Some e
+
+pub none_named : (d : ℕ) (o : Option ℕ) → d ≡ found d o → ((w : ℕ) → o ≡ some w → w < d) → None ≡ named_of o
+none_named d none e l = refl
+none_named d (some w) e l = absurd (omega (arith, l w refl))
 
 -- the variable that a place has or would be given, told by its name
 module _ (lim : Limits) (s : Session) (p : VariablePlace) (fits : WithinLimits lim s) where
@@ -595,3 +611,11 @@ module _ (which : Defaulted) (m : ℕ) (ts : List ℕ) (v : ℕ) where
   pub default_request : which ≡ Requested → get_or ts (m + v) 0 ≡ default_word which m ts v
   unfolding default_word
   default_request b = rw b
+
+  pub end_never : which ≡ Deferred → 0 ≡ end_word which m ts v
+  unfolding end_word
+  end_never b = rw b
+
+  pub end_request : which ≡ Requested → get_or ts (m + v) 0 ≡ end_word which m ts v
+  unfolding end_word
+  end_request b = rw b

@@ -1,12 +1,19 @@
 -- `Solver::id_of`. By the search.
 use mathlib.Core.Path.{sym, ◌∙◌}
-use Rattle.solver.proofs.Laws.Table.MethodLaws.{placed_below, named_low}
+use native.Mathlib.Omega.{arith}
+use Rattle.solver.specs.Words.OrderTerms.{place_of}
+use Rattle.solver.proofs.Laws.Table.MethodLaws.{placed_below, found_number, found_low, then_below}
 use Rattle.solver.proofs.Solver.id_of.Goals as goal
 
-pub returns : goal.returns
-returns c =
+pub overflow_cast-v : goal.overflow_cast-v
+overflow_cast-v c =
+    let L = c.requires.3 in
+    omega (arith, c.unwrap_or-v.ensures, found_low _ _ c.find_place.ensures.low, L.fits.variables, L.issued, L.narrow)
+
+pub returns-clause-placed : goal.returns-clause-placed
+returns-clause-placed c =
     let a = c.args in
-    record {
-      placed = λ ks vs s L. c.named_below.ensures ∙ placed_below _ ks vs _ s L _ _ (c.find_place-v.ensures.place s.places (sym L.issued) L.places);
-      low = named_low _ _ _ c.named_below.ensures;
-    }
+    λ ks vs s L. c.then_some.ensures ∙ placed_below a.self ks vs a.tables.now s L (place_of a.site) _ (c.unwrap_or-v.ensures ∙ found_number _ _ _ (c.find_place.ensures.place s.places (sym L.issued) L.places))
+
+pub returns-clause-low : goal.returns-clause-low
+returns-clause-low c = then_below _ _ _ c.then_some.ensures

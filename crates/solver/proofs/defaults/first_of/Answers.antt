@@ -1,42 +1,46 @@
--- `first_of`. By the tests up to the first that is met.
-use mathlib.Core.Path.{sym, ◌∙◌}
-use native.Mathlib.Omega.{arith}
-use Rattle.std.proofs.lemmas.Grind.{common_steps}
-use Rattle.solver.specs.Families.{code, first_of}
+-- `first_of`. The first of the codes that the test takes is that of the first of the preferences that the family admits.
+use mathlib.Core.Bool.{Bool, true, false}
+use mathlib.Core.List.{List, [], ◌∷◌, map}
+use mathlib.Core.Path.{◌≡◌, refl, sym, ap, ◌∙◌}
+use Prim.Native.Nat.{ℕ, ◌<◌}
+use Rattle.std.proofs.Common.{rules, tests}
+use Rattle.std.proofs.lemmas.Iterator.{YieldsList-from_slice}
+use Rattle.std.proofs.lemmas.Iterator.Consumers.{YieldsList-from_copied}
+use Rattle.std.proofs.lemmas.Iterator.Search.{find_from_yields_List}
+use Rattle.std.specs.List.{find}
+use Rattle.std.specs.Slice.Iter.{iter_rest}
+use Rattle.std.specs.Option.{option_map, unwrap_or}
+use Rattle.std.specs.Prelude.{Option, Some, None}
+use Rattle.solver.specs.Words.SessionRepresentation.{bit}
+use Rattle.solver.specs.Families.{Numeric, Family, admits, code, first_of, preference}
 use Rattle.solver.proofs.defaults.first_of.Goals as goal
 
-pub returns-then-has : goal.returns-then-has
-unfolding code first_of
-returns-then-has c = (λ f h. rw (h 2 ∙ sym c.has.ensures ∙ c.if-has.true), omega arith)
+-- an option mapped to itself gives the same value
+same_value : (r : Option ℕ) (d : ℕ) → unwrap_or (option_map (λ (x : ℕ). x) r) d ≡ unwrap_or r d
+same_value (Some x) d = refl
+same_value None d = refl
 
-pub returns-then-has-2 : goal.returns-then-has-2
-unfolding code first_of
-returns-then-has-2 c = grind (arith, common_steps)
+-- the first code of a list that a test takes is that of the first type that is admitted
+first_code : (f : Family) (test : ℕ → Bool) → ((c : ℕ) → admits f c ≡ test c) → (d : ℕ) (l : List Numeric) → unwrap_or (find test (map code l)) d ≡ first_of d f l
+unfolding first_of
+first_code f test h d [] = refl
+first_code f test h d (x ∷ l) = go (test (code x)) refl (first_code f test h d l)
+  where
+    go : (b : Bool) → test (code x) ≡ b → unwrap_or (find test (map code l)) d ≡ first_of d f l
+        → unwrap_or (find test (map code (x ∷ l))) d ≡ first_of d f (x ∷ l)
+    go true e i = rw (e, h (code x) ∙ e)
+    go false e i = rw (e, h (code x) ∙ e) i
 
-pub returns-then-has-3 : goal.returns-then-has-3
-unfolding code first_of
-returns-then-has-3 c = grind (arith, common_steps)
-
-pub returns-then-has-4 : goal.returns-then-has-4
-unfolding code first_of
-returns-then-has-4 c = grind (arith, common_steps)
-
-pub returns-then-has-5 : goal.returns-then-has-5
-unfolding code first_of
-returns-then-has-5 c = grind (arith, common_steps)
-
-pub returns-then-has-6 : goal.returns-then-has-6
-unfolding code first_of
-returns-then-has-6 c = grind (arith, common_steps)
-
-pub returns-then-has-7 : goal.returns-then-has-7
-unfolding code first_of
-returns-then-has-7 c = grind (arith, common_steps)
-
-pub returns-then-has-8 : goal.returns-then-has-8
-unfolding code first_of
-returns-then-has-8 c = grind (arith, common_steps)
+-- the code that is found is below 32
+found_small : (test : ℕ → Bool) (d : ℕ) → d < 32 → unwrap_or (find test (map code preference)) d < 32
+unfolding code
+found_small test d h = search (rules, tests)
 
 pub returns : goal.returns
-unfolding code first_of
-returns c = grind (arith, common_steps)
+unfolding code
+returns c =
+    let t = λ (x : ℕ). bit c.args.mask x in
+    let d = c.args.fallback in
+    let e = find_from_yields_List t _ _ _ c.find.ensures.ran (YieldsList-from_copied (YieldsList-from_slice _ (ap iter_rest c.copied.ensures.source ∙ c.iter.ensures.rest))) (λ x b q k. search (rules, tests)) in
+    let r : c.unwrap_or.result ≡ unwrap_or (find t (map code preference)) d = c.unwrap_or.ensures ∙ sym (same_value c.find.result d) ∙ ap (λ (o : Option ℕ). unwrap_or o d) e in
+    (λ f h. r ∙ first_code f t h d preference, rw r (found_small t d c.requires))

@@ -19,9 +19,9 @@ linked c =
       | else-union_terms w ↦ rw (w.work-is, w.top-is) c.union_terms.ensures.advanced.wired
     ]
 
-pub clear-requires : goal.clear-requires
-clear-requires c =
-    let w = linked (goal.at.clear-requires c).Joined-union_terms in
+pub clear_queue-requires : goal.clear_queue-requires
+clear_queue-requires c =
+    let w = linked (goal.at.clear_queue-requires c).Joined-union_terms in
     (links_fit _ w, clear_start c.args.tokens.now.kinds.now _ _ _ w)
 
 pub returns-clause-term : goal.returns-clause-term

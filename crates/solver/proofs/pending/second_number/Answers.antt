@@ -1,24 +1,26 @@
 -- `second_number`. By whether the row has a number, and another after it.
+use mathlib.Core.Path.{refl}
 use native.Mathlib.Omega.{arith}
 use Rattle.solver.proofs.Laws.Checks.PushLaws.{second_none, second_one, second_some}
 use Rattle.solver.proofs.pending.second_number.Goals as goal
 
-pub returns-then-end-p : goal.returns-then-end-p
-returns-then-end-p c =
-    let e = c.part_end-end.ensures in
-    let p = c.number_from-p.ensures in
-    second_none _ _ _ _ e _ p.number c.if-end-p.true
+pub returns-in_err-p : goal.returns-in_err-p
+returns-in_err-p c =
+    let t = c.args.tokens.now in
+    let e = c.part_end-end in
+    λ k ps h. rw c.from_residual.ensures (second_none t.kinds.now t.vals.now c.args.a e.result e.ensures _ c.in_err-p.ensures.number (omega arith) k ps h)
 
-pub returns-then-end-q : goal.returns-then-end-q
-returns-then-end-q c =
-    let e = c.part_end-end.ensures in
-    let p = c.number_from-p.ensures in
-    let q = c.number_from-q.ensures in
-    second_one _ _ _ _ e _ _ p.number (omega (arith, c.if-end-p.false)) q.number c.if-end-q.true
+pub returns-in_err-q : goal.returns-in_err-q
+returns-in_err-q c =
+    let t = c.args.tokens.now in
+    let e = c.part_end-end in
+    let p = c.in_ok-p.ensures in
+    λ k ps h. rw c.from_residual-in_err-q.ensures (second_one t.kinds.now t.vals.now c.args.a e.result e.ensures _ _ p.number (p.place _ refl) c.in_err-q.ensures.number (omega arith) k ps h)
 
 pub returns : goal.returns
 returns c =
-    let e = c.part_end-end.ensures in
-    let p = c.number_from-p.ensures in
-    let q = c.number_from-q.ensures in
-    λ k ps h. second_some _ _ _ _ e _ _ p.number (omega (arith, c.if-end-p.false)) q.number (omega (arith, c.if-end-q.false)) k ps h
+    let t = c.args.tokens.now in
+    let e = c.part_end-end in
+    let p = c.in_ok-p.ensures in
+    let q = c.in_ok-q.ensures in
+    second_some t.kinds.now t.vals.now c.args.a e.result e.ensures _ _ p.number (p.place _ refl) q.number (q.place _ refl)

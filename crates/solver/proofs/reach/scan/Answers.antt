@@ -4,7 +4,8 @@ use mathlib.Core.Bool.{Bool, ◌||◌}
 use Prim.Native.Nat.{suc, ◌+◌}
 use native.Mathlib.Omega.{arith}
 use lib.ListN.{get_or}
-use Rattle.solver.specs.Words.ReachContract.{counts}
+use Rattle.terms.specs.Words.Tokens.{toks}
+use Rattle.solver.specs.Words.ReachContract.{question_of, counts, has}
 use Rattle.solver.proofs.Laws.Resolving.WorklistLaws.{grown_none, grown_then, parts_long}
 use Rattle.solver.proofs.Laws.Resolving.AskLaws.{has_snoc, has_start}
 use Rattle.solver.proofs.Laws.Theory.TheoryView.{either}
@@ -13,8 +14,8 @@ use Rattle.solver.proofs.reach.scan.Goals as goal
 pub loop-i-init : goal.loop-i-init
 loop-i-init c = (
   omega arith,
-  sym (has_start c.args.want _ _ c.args.run.at),
-  grown_none c.requires.work.0 _ (λ u l i. never_true (sym (has_start (suc u) _ _ c.args.run.at) ∙ i)),
+  sym (has_start (question_of c.args.want) c.args.tokens.now.kinds.now c.args.tokens.now.vals.now c.args.run.at),
+  grown_none c.requires.work.0 _ (λ u l i. never_true (sym (has_start (suc u) c.args.tokens.now.kinds.now c.args.tokens.now.vals.now c.args.run.at) ∙ i)),
   refl,
 )
 
@@ -28,10 +29,10 @@ loop-i-preserved c =
     let a = c.args.run.at in
     let e = c.push.auto.work ∙ l.invariant.3 in (
       omega arith,
-      c.seen-hit.ensures ∙ ap (λ (b : Bool). b || counts c.args.want (get_or ks (a + l.i) 0) (get_or vs (a + l.i) 0)) l.invariant.1 ∙ sym (has_snoc c.args.want ks vs a l.i),
+      c.seen-hit.ensures ∙ ap (λ (b : Bool). b || counts (question_of c.args.want) (get_or ks (a + l.i) 0) (get_or vs (a + l.i) 0)) l.invariant.1 ∙ sym (has_snoc (question_of c.args.want) ks vs a l.i),
       grown_then _ _ _ l.invariant.2 m.ensures ((parts_long n _ (omega (arith, e, c.requires.work.1))).0 ∙ sym (parts_long n l.work (omega (arith, l.invariant.3, c.requires.work.1))).0)
-          (λ u r. either _ _ (sym (has_snoc (suc u) ks vs a l.i) ∙ r))
-          (λ u p. has_snoc (suc u) ks vs a l.i ∙ or-true _ _ p)
-          (λ u p. has_snoc (suc u) ks vs a l.i ∙ or_right _ _ p),
+          (λ u r. either (has (suc u) (toks ks vs a l.i)) (counts (suc u) (get_or ks (a + l.i) 0) (get_or vs (a + l.i) 0)) (sym (has_snoc (suc u) ks vs a l.i) ∙ r))
+          (λ u p. has_snoc (suc u) ks vs a l.i ∙ or-true (has (suc u) (toks ks vs a l.i)) (counts (suc u) (get_or ks (a + l.i) 0) (get_or vs (a + l.i) 0)) p)
+          (λ u p. has_snoc (suc u) ks vs a l.i ∙ or_right (has (suc u) (toks ks vs a l.i)) (counts (suc u) (get_or ks (a + l.i) 0) (get_or vs (a + l.i) 0)) p),
       e,
     )

@@ -1,17 +1,40 @@
 -- `enter`. By the token's kind and the variable's word.
+use mathlib.Core.Path.{refl, sym, ap, ◌∙◌}
 use native.Mathlib.Omega.{arith}
-use Rattle.std.proofs.lemmas.Grind.{common_steps}
-use Rattle.solver.specs.Words.ResolveWalk.{inner, run_len}
+use lib.ListN.{get_or, get_or-eq_default}
+use Rattle.solver.specs.Words.ResolveWalk.{run_len}
+use Rattle.solver.proofs.Laws.Resolving.FrameLaws.{run_none, inner_var, inner_other}
 use Rattle.solver.proofs.resolving.enter.Goals as goal
 
-pub returns-then-tokens-p-ne1 : goal.returns-then-tokens-p-ne1
-unfolding inner run_len
-returns-then-tokens-p-ne1 c = grind (arith, common_steps)
+pub returns-then-tokens-p-ne1-clause-entered : goal.returns-then-tokens-p-ne1-clause-entered
+returns-then-tokens-p-ne1-clause-entered c =
+    let a = c.args in
+    record {
+      shut = λ _. refl;
+      size = λ _. sym (inner_other a.tokens.now.kinds.now a.tokens.now.vals.now a.bound.now (get_or a.tokens.now.kinds.now a.p 0) (get_or a.tokens.now.vals.now a.p 0) c.if-tokens-p-ne1.true);
+      place = omega arith;
+      within = omega arith;
+    }
 
-pub returns-then-bound-v : goal.returns-then-bound-v
-unfolding inner run_len
-returns-then-bound-v c = grind (arith, common_steps)
+pub returns-then-bound-v-clause-entered : goal.returns-then-bound-v-clause-entered
+returns-then-bound-v-clause-entered c =
+    let a = c.args in
+    let z = get_or-eq_default a.bound.now 0 {n = get_or a.tokens.now.vals.now a.p 0} (omega arith) in
+    record {
+      shut = λ _. refl;
+      size = λ _. sym (inner_var a.tokens.now.kinds.now a.tokens.now.vals.now a.bound.now (get_or a.tokens.now.kinds.now a.p 0) (get_or a.tokens.now.vals.now a.p 0) (omega arith)
+          ∙ ap (run_len a.tokens.now.kinds.now a.tokens.now.vals.now) z ∙ run_none a.tokens.now.kinds.now a.tokens.now.vals.now);
+      place = omega arith;
+      within = omega arith;
+    }
 
-pub returns : goal.returns
-unfolding inner run_len
-returns c = grind (arith, common_steps)
+pub returns-clause-entered : goal.returns-clause-entered
+returns-clause-entered c =
+    let a = c.args in
+    let b = c.named_run.ensures.named in
+    record {
+      shut = λ z. absurd (omega (arith, c.if-left-eq0.false));
+      size = λ _. b.size ∙ sym (inner_var a.tokens.now.kinds.now a.tokens.now.vals.now a.bound.now (get_or a.tokens.now.kinds.now a.p 0) (get_or a.tokens.now.vals.now a.p 0) (omega arith));
+      place = b.place;
+      within = b.within;
+    }

@@ -1,51 +1,49 @@
--- `named_run`. The length read is the term's span (`len_is`), where the arms of the test meet.
-use mathlib.Core.Path.{◌≡◌, sym, ◌∙◌}
+-- `named_run`. By the word, the place and the span.
+use mathlib.Core.Path.{sym, ap, ◌∙◌}
 use Prim.Native.Nat.{◌-◌}
 use native.Mathlib.Omega.{arith}
-use Rattle.std.proofs.lemmas.Grind.{common_steps}
-use lib.ListN.{get_or}
-use Rattle.terms.specs.Words.Held.{span}
-use Rattle.terms.proofs.Laws.Held.HeldLaws.{span_one, span_node}
+use lib.ListN.{get_or, get_or-eq_default}
+use Rattle.terms.proofs.Laws.Held.HeldLaws.{span_one}
 use Rattle.solver.specs.Words.ResolveWalk.{run_len}
-use Rattle.solver.proofs.Laws.Resolving.FrameLaws.{run_at, run_past}
-use Rattle.solver.proofs.resolving.named_run.Goals.{then-tokens-at-ge2, else-tokens-at-ge2}
+use Rattle.solver.proofs.Laws.Resolving.FrameLaws.{run_none, run_at, run_past}
+use Rattle.solver.proofs.resolving.named_run.Goals.{then-len-eq0-via-then-len-eq0, then-len-eq0-via-else-len-eq0+then-tokens-at-2}
 use Rattle.solver.proofs.resolving.named_run.Goals as goal
-use Rattle.solver.proofs.resolving.named_run.Goals.{Joined-tokens-at-ge2}
 
-pub returns-then-word-eq0 : goal.returns-then-word-eq0
-unfolding run_len
-returns-then-word-eq0 c = grind (arith, common_steps)
+pub returns-then-word-eq0-clause-named : goal.returns-then-word-eq0-clause-named
+returns-then-word-eq0-clause-named c =
+    let t = c.args.tokens.now in
+    record { size = sym (ap (run_len t.kinds.now t.vals.now) c.if-word-eq0.true ∙ run_none t.kinds.now t.vals.now); place = omega arith; within = omega arith }
 
-pub returns-then-tokens-at : goal.returns-then-tokens-at
-unfolding run_len
-returns-then-tokens-at c = grind (arith, common_steps)
-
--- the length read is the term's span
-len_is : (c : Joined-tokens-at-ge2) → c.if-tokens-at-ge2.len
-    ≡ span (get_or c.args.tokens.now.kinds.now (c.args.word - 1) 0)
-    (get_or c.args.tokens.now.vals.now (c.args.word - 1) 0)
-len_is c =
-    elim c.if-tokens-at-ge2.branch [
-      | then-tokens-at-ge2 w ↦ w.len-is ∙ sym (span_node _ _ w.if-tokens-at-ge2.true)
-      | else-tokens-at-ge2 w ↦ w.len-is ∙ sym (span_one _ _ (omega (arith, w.if-tokens-at-ge2.false)))
-    ]
-
-pub returns-then-tokens-at-2 : goal.returns-then-tokens-at-2
-returns-then-tokens-at-2 c =
-    let a = c.args in
-    let p = a.word - 1 in
+pub returns-then-tokens-at-clause-named : goal.returns-then-tokens-at-clause-named
+returns-then-tokens-at-clause-named c =
+    let t = c.args.tokens.now in
+    let p = c.args.word - 1 in
+    let z = get_or-eq_default t.kinds.now 0 {n = p} c.if-tokens-at.true in
     record {
-      size = sym (run_past _ _ a.word p (omega arith) (omega (arith, len_is (goal.at.returns-then-tokens-at-2 c).Joined-tokens-at-ge2)));
+      size = sym (run_past t.kinds.now t.vals.now c.args.word p (omega arith) (omega (arith, span_one (get_or t.kinds.now p 0) (get_or t.vals.now p 0) (omega arith))));
       place = omega arith;
       within = omega arith;
     }
 
-pub returns : goal.returns
-returns c =
-    let a = c.args in
-    let p = a.word - 1 in
+pub returns-then-len-eq0-clause-named : goal.returns-then-len-eq0-clause-named
+returns-then-len-eq0-clause-named c =
+    let t = c.args.tokens.now in
+    let p = c.args.word - 1 in
+    let s = c.span-len.ensures in
     record {
-      size = len_is (goal.at.returns c).Joined-tokens-at-ge2 ∙ sym (run_at _ _ a.word p (omega arith) (omega (arith, len_is (goal.at.returns c).Joined-tokens-at-ge2)));
+      size = elim c.then-len-eq0.branch [
+        | then-len-eq0-via-then-len-eq0 w ↦ sym (run_at t.kinds.now t.vals.now c.args.word p (omega arith) (omega arith) ∙ sym s ∙ w.if-len-eq0.true)
+        | then-len-eq0-via-else-len-eq0+then-tokens-at-2 w ↦ sym (run_past t.kinds.now t.vals.now c.args.word p (omega arith) (omega arith))
+      ];
+      place = omega arith;
+      within = omega arith;
+    }
+
+pub returns-clause-named : goal.returns-clause-named
+returns-clause-named c =
+    let t = c.args.tokens.now in
+    record {
+      size = c.span-len.ensures ∙ sym (run_at t.kinds.now t.vals.now c.args.word (c.args.word - 1) (omega arith) (omega arith));
       place = λ _. omega arith;
       within = omega arith;
     }

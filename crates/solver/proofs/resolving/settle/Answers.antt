@@ -1,7 +1,9 @@
-use mathlib.Core.Path.{sym, ◌∙◌}
+use mathlib.Core.List.{[]}
+use mathlib.Core.Path.{refl, sym, ◌∙◌}
 use Prim.Native.Nat.{◌+◌, ◌-◌}
 use native.Mathlib.Omega.{arith}
 use lib.ListN.{length-set}
+use Rattle.terms.specs.Words.Tokens.{one}
 use Rattle.solver.proofs.Laws.Resolving.FrameLaws.{entered_open, steps_pop, steps_into, rest_pop, rest_over, rest_leaf, rest_into, sound_push, sound_pop, apart_push, bare_push, bare_pop}
 use Rattle.solver.proofs.resolving.settle.Goals as goal
 
@@ -36,14 +38,14 @@ loop-c-preserved-then-c c =
       λ b. bare_pop l.frames l.c.depth (omega arith) (omega (arith, l.invariant.0.depth, l.invariant.0.room)) (l.invariant.4 b),
     )
 
-pub returns-then-r-eq0 : goal.returns-then-r-eq0
-returns-then-r-eq0 c =
+pub returns-in_default : goal.returns-in_default
+returns-in_default c =
+    let a = c.args in
     let l = c.loop-c in
-    let i = c.enter-r.ensures in
     record {
       ready = record {
         sound = l.invariant.0;
-        head = λ h. rest_leaf _ _ _ _ _ _ _ _ _ _ _ _ h i c.if-r-eq0.true;
+        head = λ h. rest_leaf one [] a.tokens.now.kinds.now a.tokens.now.vals.now a.bound.now a.most l.frames l.c.at l.c.end l.c.depth _ _ h c.in_default.ensures.entered refl;
         over = λ h. absurd (omega (arith, l.invariant.0.order));
         alone = λ h. absurd (omega (arith, l.invariant.0.order));
       };
@@ -54,18 +56,22 @@ returns-then-r-eq0 c =
 
 pub loop-c-smaller : goal.loop-c-smaller
 loop-c-smaller c =
+    let a = c.args in
     let l = c.loop-c in
-    let o = entered_open _ _ _ _ _ _ _ c.enter-r.ensures (omega arith) in
-    steps_into _ _ _ _ l.frames l.c.at l.c.end l.c.depth _ _ (omega (arith, l.invariant)) c.enter-r.ensures (omega arith) (omega (arith, l.invariant))
+    let f = c.in-Some.ensures.filled _ refl in
+    let i = c.in-Some.ensures.entered in
+    let o = entered_open _ _ _ _ _ _ _ i f in
+    steps_into a.tokens.now.kinds.now a.tokens.now.vals.now a.bound.now a.most l.frames l.c.at l.c.end l.c.depth _ _ (omega (arith, l.invariant)) i f (omega (arith, l.invariant))
 
 pub loop-c-preserved : goal.loop-c-preserved
 loop-c-preserved c =
     let a = c.args in
     let l = c.loop-c in
-    let i = c.enter-r.ensures in
-    let o = entered_open _ _ _ _ _ _ _ c.enter-r.ensures (omega arith) in (
+    let f = c.in-Some.ensures.filled _ refl in
+    let i = c.in-Some.ensures.entered in
+    let o = entered_open _ _ _ _ _ _ _ i f in (
       sound_push _ _ _ _ _ _ _ _ l.invariant.0 (omega (arith, l.invariant)) (omega arith) i.within,
-      sym (rest_into _ _ _ _ _ _ l.frames l.c.at l.c.end l.c.depth _ _ (omega (arith, l.invariant)) i (omega arith) (omega (arith, l.invariant))) ∙ l.invariant.1,
+      sym (rest_into one [] a.tokens.now.kinds.now a.tokens.now.vals.now a.bound.now a.most l.frames l.c.at l.c.end l.c.depth _ _ (omega (arith, l.invariant)) i f (omega (arith, l.invariant))) ∙ l.invariant.1,
       simp length-set l.invariant.2,
       apart_push a.most a.frames.now l.frames l.c.depth (l.c.at + 1) l.c.end l.invariant.3 (omega arith),
       λ b. bare_push l.frames l.c.depth (l.c.at + 1) l.c.end (l.invariant.4 b),

@@ -1,8 +1,8 @@
--- `clear`. Invariant: `Clearing`, the places that are still linked are listed before k. Measure: k.
+-- `clear_queue`. Invariant: `Clearing`, the places whose words are not 0 are listed before k. Measure: k.
 use lib.ListN.{length, take, drop}
 use mathlib.Core.Path.{◌≡◌}
 use Rattle.solver.specs.Words.CongruenceClasses.{Clearing}
-use Rattle.solver.proofs.equality.clear.Given as goal
+use Rattle.solver.proofs.reach.clear_queue.Given as goal
 
 abbrev pub invariant-loop-k : goal.invariant-loop-k
 invariant-loop-k l =

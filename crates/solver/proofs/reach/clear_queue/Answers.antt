@@ -4,7 +4,7 @@ use native.Mathlib.Omega.{arith}
 use Prim.Native.Nat.{◌+◌, ◌-◌}
 use Rattle.solver.proofs.Laws.Equality.LinkLaws.{clear_end}
 use Rattle.solver.proofs.Laws.Equality.EqualLaws.{clear_turn, zero_area}
-use Rattle.solver.proofs.equality.clear.Goals as goal
+use Rattle.solver.proofs.reach.clear_queue.Goals as goal
 
 pub loop-k-preserved : goal.loop-k-preserved
 loop-k-preserved c =
