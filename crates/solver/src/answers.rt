@@ -84,18 +84,12 @@ impl Solver {
         match begun {
             Start::Begins(p, most) => {
                 let size = resolved_len(tokens, &tables[..m], most, work, p, limit);
-                if limit < size {
+                if size.is_none() {
                     clear_words(work, most + most);
                 }
-                size
+                size.unwrap_or(limit + 1)
             }
-            Start::Free(v) => {
-                let size = variable_len(v);
-                if limit < size {
-                    return limit + 1;
-                }
-                size
-            }
+            Start::Free(v) => variable_len(v).min(limit + 1),
         }
     }
 

@@ -1,6 +1,6 @@
 // A term with its bound variables replaced: sized and written without being built. A variable's word in `bound` is 0 where it is
 // unbound, and p + 1 where it is bound to the term at p. Kinds are numbers: a kind is a word of the format.
-ghost use Rattle.std.specs.Prelude.{◌≡◌, ℕ, min, ◌+◌, ◌^◌, ◌≤◌, ◌<◌, length};
+ghost use Rattle.std.specs.Prelude.{Some, unwrap_or, ◌≡◌, ℕ, min, ◌+◌, ◌^◌, ◌≤◌, ◌<◌, length};
 ghost use Rattle.std.proofs.Math.Option.{Option};
 ghost use Rattle.std.proofs.lemmas.List.Edits.{sets};
 ghost use Rattle.terms.specs.Term.{Term, Held, bytes};
@@ -117,7 +117,7 @@ pub fn next(tokens: &Tokens, bound: &[u32], most: usize, frames: &mut [u32], fro
     settle(tokens, bound, most, frames, c)
 }
 
-// How many bytes a run has with bound variables replaced, or limit + 1 where those are more than limit.
+// How many bytes a run has with bound variables replaced; none where those are more than limit.
 pub fn walked_len(
     tokens: &Tokens,
     bound: &[u32],
@@ -125,13 +125,15 @@ pub fn walked_len(
     frames: &mut [u32],
     run: Run,
     limit: usize,
-) -> usize
+) -> Option<usize>
     requires areas { (length tokens.now.kinds.now < 2 ^ 32) × (run.at + run.len ≤ length tokens.now.kinds.now)
         × (most + most ≤ length frames.old) }
     requires room { limit < 2 ^ 32 }
-    ensures len { result ≡ min (limit + 1) (length (flat_bytes (walked tokens.now.kinds.now tokens.now.vals.now bound.now most run.at run.len))) }
+    ensures len { unwrap_or result (limit + 1)
+        ≡ min (limit + 1) (length (flat_bytes (walked tokens.now.kinds.now tokens.now.vals.now bound.now most run.at run.len))) }
+    ensures fits { (n : ℕ) → result ≡ Some n → n ≤ limit }
     ensures apart { Apart most frames.old frames.new }
-    ensures bare { Zero frames.old → result ≤ limit → Zero frames.new }
+    ensures bare { (n : ℕ) → result ≡ Some n → Zero frames.old → Zero frames.new }
 {
     let mut c = begin(tokens, bound, most, frames, run);
     let mut n = 0;
@@ -139,11 +141,11 @@ pub fn walked_len(
     while c.at < c.end {
         n += run_len(tokens.kinds, tokens.vals, c.at, 1);
         if limit < n {
-            return limit + 1;
+            return None;
         }
         c = next(tokens, bound, most, frames, c);
     }
-    n
+    Some(n)
 }
 
 // Writes a run at a position of out, bound variables replaced, and returns the position after it.
@@ -175,7 +177,7 @@ pub fn write_walked(
     i
 }
 
-// How many bytes the term at p has with bound variables replaced, or limit + 1 where those are more than limit.
+// How many bytes the term at p has with bound variables replaced; none where those are more than limit.
 pub fn resolved_len(
     tokens: &Tokens,
     bound: &[u32],
@@ -183,16 +185,17 @@ pub fn resolved_len(
     frames: &mut [u32],
     p: usize,
     limit: usize,
-) -> usize
+) -> Option<usize>
     requires areas { (length tokens.now.kinds.now < 2 ^ 32) × (most + most ≤ length frames.old) }
     requires room { (p < 2 ^ 32) × (limit < 2 ^ 32) }
-    ensures len { result ≡ min (limit + 1) (length (resolved_bytes tokens.now.kinds.now tokens.now.vals.now bound.now most p)) }
+    ensures len { unwrap_or result (limit + 1) ≡ min (limit + 1) (length (resolved_bytes tokens.now.kinds.now tokens.now.vals.now bound.now most p)) }
     ensures term { (t : Term) (b : ℕ → Option Term)
         → Held tokens.now.kinds.now tokens.now.vals.now p t
         → HeldBindings tokens.now.kinds.now tokens.now.vals.now bound.now b
-        → result ≡ min (limit + 1) (length (bytes (resolve most b t))) }
+        → unwrap_or result (limit + 1) ≡ min (limit + 1) (length (bytes (resolve most b t))) }
+    ensures fits { (n : ℕ) → result ≡ Some n → n ≤ limit }
     ensures apart { Apart most frames.old frames.new }
-    ensures bare { Zero frames.old → result ≤ limit → Zero frames.new }
+    ensures bare { (n : ℕ) → result ≡ Some n → Zero frames.old → Zero frames.new }
 {
     let run = named_run(tokens, p + 1).unwrap_or_default();
     walked_len(tokens, bound, most, frames, run, limit)
