@@ -52,7 +52,7 @@ def functions(lines):
     of the body. What a trait asks has no body."""
     within = None
     for at, line in enumerate(lines):
-        block, start = re.match(r"impl (?:(\w+) for )?(\w+)", line), FUNCTION.match(line)
+        block, start = re.match(r"impl(?:<[^>]*>)? (?:(\w+) for )?(\w+)", line), FUNCTION.match(line)
         within = None if line == "}" else within if not block else "/" + block.group(2) + block.group(1) if block.group(1) else block.group(2)
         if not start:
             continue
@@ -99,7 +99,8 @@ def proof_places():
     for crate, path, lines in sources():
         module = os.path.splitext(path)[0][len("src/"):]
         for owner, name, _, _ in functions(lines):
-            owner = module + owner if owner and owner.startswith("/") else owner
+            if owner and owner.startswith("/"):
+                owner = owner[1:] if module in ("lib", "main") else module + owner
             found.setdefault(crate, {})["/".join([owner or module, name] if owner or module not in ("lib", "main") else [name])] = path
         # A cycle of calls has a name of its own, and its folder begins with a +.
         for name in re.findall(r"#\[cycle\((\w+)\)\]", "\n".join(lines)):
