@@ -127,6 +127,7 @@ fn refused_answer(out: &mut [u8], at: usize, c: u8) -> Option<usize>
 }
 
 // A number.
+#[tactic(auto, using(crate::proofs::ShortLaws::short_number))]
 fn number_answer(out: &mut [u8], at: usize, v: u64) -> Option<usize>
     requires { at ≤ length out.old }
     ensures { IfSome result (λ next. next ≤ length out.new) }
@@ -142,6 +143,7 @@ fn number_answer(out: &mut [u8], at: usize, v: u64) -> Option<usize>
 
 // The nodes, the tokens and the bytes of what is kept. Kinds and values are two slices, as `run_len` and `write_run` take them: each holds as many tokens as were
 // read, and nothing asks that the slices are as long as one another.
+#[tactic(auto, using(crate::proofs::ShortLaws::short_number))]
 fn kept_answer(
     kinds: &[u32],
     vals: &[u32],

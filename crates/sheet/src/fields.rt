@@ -70,7 +70,7 @@ fn bound_field(s: &[u8], place: &mut Place) -> Result<FieldSpot, Refusal>
     if s.len() <= i {
         return Err(Refusal::Length);
     }
-    let sign = s[i] as usize;
+    let sign = usize::from(s[i]);
     place.at = i + 1;
     let high = next_number(s, place)?;
     let low = next_number(s, place)?;
