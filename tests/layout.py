@@ -48,20 +48,22 @@ def files(*endings):
 
 
 def functions(lines):
-    """The functions of a source file: the type of the impl block or None, the name, the lines of the contract and the size of the body."""
+    """The functions of a source file: the type of the impl block or None, of a trait's the folder of its proofs, the name, the lines of the contract and the size
+    of the body. What a trait asks has no body."""
     within = None
     for at, line in enumerate(lines):
-        block, start = re.match(r"impl (\w+)", line), FUNCTION.match(line)
-        within = block.group(1) if block else None if line == "}" else within
+        block, start = re.match(r"impl(?:<[^>]*>)? (?:(\w+) for )?(\w+)", line), FUNCTION.match(line)
+        within = None if line == "}" else within if not block else "/" + block.group(2) + block.group(1) if block.group(1) else block.group(2)
         if not start:
             continue
         indent = start.group(1)
         # The body opens on a line of its own behind a contract, and else at the end of the head.
         opens = re.compile(r"%s\{|%s\).*\{|.*\bfn .*\{" % (indent, indent))
-        end = next(number for number in range(at, len(lines)) if opens.fullmatch(lines[number]))
-        last = next(number for number in range(end, len(lines)) if lines[number] == indent + "}")
-        clauses = [number for number in range(at, end) if CLAUSE.match(lines[number])]
-        yield within, start.group(2), range(clauses[0], end) if clauses else range(0), last - end - 1
+        end = next(number for number in range(at, len(lines)) if opens.fullmatch(lines[number]) or lines[number].endswith(";"))
+        last = end if lines[end].endswith(";") else next(number for number in range(end, len(lines)) if lines[number] == indent + "}")
+        contract = range(at, end + 1 if last == end else end)
+        clauses = [number for number in contract if CLAUSE.match(lines[number])]
+        yield within, start.group(2), range(clauses[0], contract.stop) if clauses else range(0), max(last - end - 1, 0)
 
 
 def assumed():
@@ -97,6 +99,8 @@ def proof_places():
     for crate, path, lines in sources():
         module = os.path.splitext(path)[0][len("src/"):]
         for owner, name, _, _ in functions(lines):
+            if owner and owner.startswith("/"):
+                owner = owner[1:] if module in ("lib", "main") else module + owner
             found.setdefault(crate, {})["/".join([owner or module, name] if owner or module not in ("lib", "main") else [name])] = path
         # A cycle of calls has a name of its own, and its folder begins with a +.
         for name in re.findall(r"#\[cycle\((\w+)\)\]", "\n".join(lines)):

@@ -5,8 +5,9 @@
 // run ends, as it does at a faulty length and where an answer does not fit.
 #![tactic(auto)]
 
-ghost use Rattle.std.specs.Prelude.{◌≡◌, ◌+◌, ◌≤◌, ◌<◌, length};
-ghost use Rattle.reread.specs.Frame.{Sound, Lies, Inside};
+ghost use Rattle.std.specs.Prelude.{◌≡◌, ◌+◌, ◌-◌, ◌≤◌, ◌<◌, length, IfSome};
+ghost use Rattle.std.specs.Iterator.{at_most};
+ghost use Rattle.reread.specs.Frame.{Sound, Lies, Passes};
 
 use frames::all_are;
 use terms::{
@@ -112,34 +113,37 @@ fn read_frame(s: &[u8], kinds: &mut [u32], vals: &mut [u32]) -> Result<Frame, Re
     Ok(Frame::Number(v))
 }
 
-// A refusal.
-fn refused_answer(out: &mut [u8], at: usize, c: u8) -> usize
+// A refusal. Each function that answers returns the position after the answer, or nothing where it does not fit.
+fn refused_answer(out: &mut [u8], at: usize, c: u8) -> Option<usize>
     requires { at ≤ length out.old }
-    ensures { result ≤ length out.new }
+    ensures { IfSome result (λ next. next ≤ length out.new) }
 {
     if out.len() - at < 2 {
-        return at;
+        return None;
     }
     out[at] = 1;
     out[at + 1] = c;
-    at + 2
+    Some(at + 2)
 }
 
 // A number.
-fn number_answer(out: &mut [u8], at: usize, v: u64) -> usize
+#[tactic(auto, using(crate::proofs::ShortLaws::short_number))]
+fn number_answer(out: &mut [u8], at: usize, v: u64) -> Option<usize>
     requires { at ≤ length out.old }
-    ensures { result ≤ length out.new }
+    ensures { IfSome result (λ next. next ≤ length out.new) }
 {
     let n = number_len(v);
     if out.len() - at < n + 2 {
-        return at;
+        return None;
     }
     out[at] = (n % 128 + 1) as u8;
     out[at + 1] = 0;
-    write_number(out, at + 2, v)
+    Some(write_number(out, at + 2, v))
 }
 
-// The nodes, the tokens and the bytes of what is kept.
+// The nodes, the tokens and the bytes of what is kept. Kinds and values are two slices, as `run_len` and `write_run` take them: each holds as many tokens as were
+// read, and nothing asks that the slices are as long as one another.
+#[tactic(auto, using(crate::proofs::ShortLaws::short_number))]
 fn kept_answer(
     kinds: &[u32],
     vals: &[u32],
@@ -148,95 +152,105 @@ fn kept_answer(
     first: usize,
     out: &mut [u8],
     at: usize,
-) -> usize
+) -> Option<usize>
     requires place { at ≤ length out.old }
     requires run { (first ≤ tokens) × (tokens ≤ length kinds.now) × (tokens ≤ length vals.now) }
-    ensures { result ≤ length out.new }
+    ensures { IfSome result (λ next. next ≤ length out.new) }
 {
     let run = run_len(kinds, vals, first, tokens - first);
     if out.len() - at < run {
-        return at;
+        return None;
     }
     let size = 1 + number_len(nodes as u64) + number_len(tokens as u64) + run;
     if out.len() - at < number_len(size as u64) + size {
-        return at;
+        return None;
     }
     let i = write_number(out, at, size as u64);
     out[i] = 0;
     let j = write_number(out, i + 1, nodes as u64);
     let k = write_number(out, j, tokens as u64);
-    write_run(kinds, vals, first, tokens - first, out, k)
+    Some(write_run(kinds, vals, first, tokens - first, out, k))
 }
 
-// Writes the answer to a frame and clears its tokens. Returns the position after the answer, or `at` where it does not fit.
+// The answer to a frame, whose tokens are cleared.
 fn answer(
     kinds: &mut [u32],
     vals: &mut [u32],
     f: Result<Frame, Refusal>,
     out: &mut [u8],
     at: usize,
-) -> usize
+) -> Option<usize>
     requires place { at ≤ length out.old }
     requires sound { Sound (length kinds.old) (length vals.old) f }
-    ensures { result ≤ length out.new }
+    ensures { IfSome result (λ next. next ≤ length out.new) }
 {
     match f {
         Err(refusal) => refused_answer(out, at, u8::from(refusal)),
         Ok(Frame::Number(v)) => number_answer(out, at, v),
         Ok(Frame::Kept(nodes, tokens, first)) => {
-            let r = kept_answer(kinds, vals, nodes, tokens, first, out, at);
+            let next = kept_answer(kinds, vals, nodes, tokens, first, out, at);
             clear_tokens(kinds, vals, 0, tokens);
-            r
+            next
         }
     }
 }
 
-// Where the frame at a position lies: its first byte and the place after its last; nothing where it does not lie in `s`.
-fn part_at(s: &[u8], at: usize) -> Option<(usize, usize)>
-    requires { (at ≤ length s.now) × (length s.now < 65536) }
-    ensures { Inside at (length s.now) result }
-{
-    let (size, from) = read_number(s, at, MOST).ok()?;
-    if ((s.len() - from) as u64) < size {
-        return None;
-    }
-    Some((from, from + size as usize))
-}
-
-// Answers a frame at a position of `out`. Returns the position after the answer, or `to` where it does not fit or something remains in an area.
-fn answer_frame(s: &[u8], kinds: &mut [u32], vals: &mut [u32], out: &mut [u8], to: usize) -> usize
+// Answers a frame at a position of `out`. Returns the position after the answer, or nothing where it does not fit or something remains in an area.
+fn answer_frame(
+    s: &[u8],
+    kinds: &mut [u32],
+    vals: &mut [u32],
+    out: &mut [u8],
+    to: usize,
+) -> Option<usize>
     requires { (length s.now < 65536) × (to ≤ length out.old) }
-    ensures { result ≤ length out.new }
+    ensures { IfSome result (λ next. next ≤ length out.new) }
 {
     let f = read_frame(s, kinds, vals);
-    let next = answer(kinds, vals, f, out, to);
-    if !all_are(kinds, 0) {
-        return to;
-    }
-    if !all_are(vals, 0) {
-        return to;
-    }
-    next
+    let next = answer(kinds, vals, f, out, to)?;
+    (all_are(kinds, 0) && all_are(vals, 0)).then_some(next)
 }
 
-// Answers frames until the input is used up, a length is faulty or an answer is not there.
+// The frames from a position of the input on, until it is used up or a length is faulty. A number and a comparison are all that it shares with `next_order` of
+// `sheet`: the sheet names the solver alone, so `terms` and `solver` would have to offer what a frame is, which neither needs.
+#[derive(Clone, Copy, Drop)]
+pub struct Frames<'a> {
+    pub input: &'a [u8],
+    pub at: usize,
+}
+
+impl<'a> Iterator for Frames<'a> {
+    type Item = &'a [u8];
+
+    ghost can_next = { λ s. s.at ≤ length s.input.now };
+
+    ghost next_gives = { Passes };
+
+    ghost remaining = { λ s. at_most (length s.input.now - s.at) };
+
+    fn next(&mut self) -> Option<&'a [u8]> {
+        let input = self.input;
+        let (size, from) = read_number(input, self.at, MOST).ok()?;
+        if ((input.len() - from) as u64) < size {
+            return None;
+        }
+        let end = from + size as usize;
+        self.at = end;
+        Some(&input[from..end])
+    }
+}
+
+// Answers frames until there are no more or an answer is not there.
 fn run(s: &[u8], kinds: &mut [u32], vals: &mut [u32], out: &mut [u8]) -> usize
     requires { length s.now < 65536 }
     ensures { result ≤ length out.new }
 {
-    let mut at = 0;
     let mut to = 0;
-    // A step is as wide as what stands there, so no range is counted.
-    while at < s.len() {
-        let Some((from, end)) = part_at(s, at) else {
+    for frame in (Frames { input: s, at: 0 }) {
+        let Some(next) = answer_frame(frame, kinds, vals, out, to) else {
             return to;
         };
-        let next = answer_frame(&s[from..end], kinds, vals, out, to);
-        if next == to {
-            return to;
-        }
         to = next;
-        at = end;
     }
     to
 }

@@ -7,6 +7,7 @@ ghost use Rattle.sheet.specs.Fields.{field, ordinary, code, bound, parameters};
 ghost use Rattle.sheet.specs.Words.FieldLayout.{plain_of, part_of, listing_of, Free, Ample, PartDone, PlainDone, ReadOnly, list_field};
 ghost use Rattle.sheet.specs.Words.FieldsContract.{field_of, NumberRead};
 
+use super::layout::FieldReader;
 use super::{FieldSpot, Sort};
 use solver::{Listing, Place, Refusal, keep_list, part_at, read_number, skip_parameters};
 
@@ -69,7 +70,7 @@ fn bound_field(s: &[u8], place: &mut Place) -> Result<FieldSpot, Refusal>
     if s.len() <= i {
         return Err(Refusal::Length);
     }
-    let sign = s[i] as usize;
+    let sign = usize::from(s[i]);
     place.at = i + 1;
     let high = next_number(s, place)?;
     let low = next_number(s, place)?;
@@ -185,29 +186,31 @@ fn list_field(
 }
 
 // A field of a sort other than rules; these would be taken for receivers.
-pub fn read_plain(
-    s: &[u8],
-    kinds: &mut [u32],
-    vals: &mut [u32],
-    place: &mut Place,
-    sort: Sort,
-    issued: u64,
-) -> Result<FieldSpot, Refusal>
-    requires ample { Ample s.now place.old }
-    requires free { Free place.old.top (area kinds.old vals.old) }
-    ensures { PlainDone s.now (field s.now issued (plain_of sort) place.old.at) place.old
-        (area kinds.old vals.old) (area kinds.new vals.new) (field_of result place.new) }
-{
-    match sort {
-        Sort::Number => number_field(s, place),
-        Sort::Code => code_field(s, place),
-        Sort::Bound => bound_field(s, place),
-        Sort::Parameters => parameters_field(s, place),
-        Sort::Term | Sort::Nominal | Sort::Receiver => {
-            tree_field(s, kinds, vals, place, sort, issued, 1)
-        }
-        Sort::Entries | Sort::Receivers | Sort::Arguments | Sort::Rules => {
-            list_field(s, kinds, vals, place, sort, issued)
+pub struct PlainField;
+
+impl FieldReader for PlainField {
+    ghost read_as = { plain_of };
+
+    fn read(
+        s: &[u8],
+        kinds: &mut [u32],
+        vals: &mut [u32],
+        rules: &mut [u32],
+        place: &mut Place,
+        sort: Sort,
+        issued: u64,
+    ) -> Result<FieldSpot, Refusal> {
+        match sort {
+            Sort::Number => number_field(s, place),
+            Sort::Code => code_field(s, place),
+            Sort::Bound => bound_field(s, place),
+            Sort::Parameters => parameters_field(s, place),
+            Sort::Term | Sort::Nominal | Sort::Receiver => {
+                tree_field(s, kinds, vals, place, sort, issued, 1)
+            }
+            Sort::Entries | Sort::Receivers | Sort::Arguments | Sort::Rules => {
+                list_field(s, kinds, vals, place, sort, issued)
+            }
         }
     }
 }

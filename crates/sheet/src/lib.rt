@@ -4,6 +4,7 @@
 mod dispatch;
 mod fields;
 mod framing;
+mod layout;
 mod operations;
 mod order_reader;
 mod order_table;

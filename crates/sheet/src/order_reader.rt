@@ -2,15 +2,15 @@
 // the field's spot; where they refuse, the place is of no use.
 ghost use Rattle.std.specs.Prelude.{◌≡◌, ◌-◌, ◌<◌, ◌≤◌, length, get_or};
 ghost use Rattle.solver.specs.Terms.Tokens.{area, blank};
-ghost use Rattle.solver.specs.Terms.Result.{number_of};
 ghost use Rattle.sheet.specs.declared.Sort.TheVariants.{Rules};
 ghost use Rattle.sheet.specs.Fields.{field};
-ghost use Rattle.sheet.specs.Words.FieldLayout.{RowIs, sort_of, Plain, Free, Ample, FieldDone, finished_order};
+ghost use Rattle.sheet.specs.Words.FieldLayout.{RowIs, sort_of, Free, Ample, FieldDone, finished_order};
 ghost use Rattle.sheet.specs.Words.FieldsContract.{field_of};
 ghost use Rattle.sheet.specs.Words.OrderReaderContract.{OrderRoom, OrderDone};
 
-use super::fields::{next_number, read_plain};
-use super::order_table::{known_of, put_spot, row_of};
+use super::fields::{PlainField, next_number};
+use super::layout::{FieldReader, read_layout};
+use super::order_table::{known_of, row_of};
 use super::rules::read_rules;
 use super::{Class, FieldSpot, Order, Sort};
 use solver::{Place, Refusal, clear_tokens};
@@ -40,24 +40,24 @@ fn rules_field(
 }
 
 // A field of any sort.
-fn read_field(
-    s: &[u8],
-    kinds: &mut [u32],
-    vals: &mut [u32],
-    rules: &mut [u32],
-    place: &mut Place,
-    sort: Sort,
-    issued: u64,
-) -> Result<FieldSpot, Refusal>
-    requires ample { Ample s.now place.old }
-    requires free { Free place.old.top (area kinds.old vals.old) }
-    ensures done { FieldDone s.now rules.new (field s.now issued (sort_of sort) place.old.at) place.old
-        (area kinds.old vals.old) (area kinds.new vals.new) (field_of result place.new) }
-    ensures words { Plain (sort_of sort) → rules.new ≡ rules.old }
-{
-    match sort {
-        Sort::Rules => rules_field(s, kinds, vals, rules, place, issued),
-        _ => read_plain(s, kinds, vals, place, sort, issued),
+pub struct AnyField;
+
+impl FieldReader for AnyField {
+    ghost read_as = { sort_of };
+
+    fn read(
+        s: &[u8],
+        kinds: &mut [u32],
+        vals: &mut [u32],
+        rules: &mut [u32],
+        place: &mut Place,
+        sort: Sort,
+        issued: u64,
+    ) -> Result<FieldSpot, Refusal> {
+        match sort {
+            Sort::Rules => rules_field(s, kinds, vals, rules, place, issued),
+            _ => PlainField::read(s, kinds, vals, rules, place, sort, issued),
+        }
     }
 }
 
@@ -69,22 +69,6 @@ fn finished(mut o: Order, kind: u8, top: usize, nodes: usize) -> Order
     o.top = top;
     o.nodes = nodes;
     o
-}
-
-// The refusal, with the tokens from `first` up to `last` cleared.
-fn undone(
-    kinds: &mut [u32],
-    vals: &mut [u32],
-    first: usize,
-    last: usize,
-    refusal: Refusal,
-) -> Result<Order, Refusal>
-    requires { first ≤ last }
-    ensures refusal { result ≡ Err refusal }
-    ensures areas { area kinds.new vals.new ≡ blank (area kinds.old vals.old) first (last - first) }
-{
-    clear_tokens(kinds, vals, first, last - first);
-    Err(refusal)
 }
 
 // Reads the fields of an order of a kind, as `read_order` tells it.
@@ -108,27 +92,17 @@ fn read_fields(
     ensures { OrderDone s.now issued first kept limit (area kinds.old vals.old)
         (area kinds.new vals.new) rules.new result }
 {
-    let known = known_of(class, issued);
     let mut place = Place {
         at: 1,
         top: first,
         nodes: kept,
         limit,
     };
-    let mut o = Order::default();
-    for (i, sort) in sorts.iter().enumerate() {
-        let last = place.top;
-        match read_field(s, kinds, vals, rules, &mut place, *sort, known) {
-            Ok(spot) => {
-                o = put_spot(o, i, spot);
-            }
-            Err(refusal) => {
-                return undone(kinds, vals, first, last, refusal);
-            }
-        }
-    }
+    let known = known_of(class, issued);
+    let o = read_layout::<AnyField>(s, kinds, vals, rules, &mut place, sorts, known)?;
     if place.at < s.len() {
-        return undone(kinds, vals, first, place.top, Refusal::Length);
+        clear_tokens(kinds, vals, first, place.top - first);
+        return Err(Refusal::Length);
     }
     Ok(finished(o, kind, place.top, place.nodes))
 }

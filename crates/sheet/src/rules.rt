@@ -7,8 +7,8 @@ ghost use Rattle.solver.specs.Terms.Lookup.{put_rule};
 ghost use Rattle.sheet.specs.Fields.{rule, rule_list};
 ghost use Rattle.sheet.specs.Words.FieldLayout.{Free, Ample, rule_from, WordsFit, RuleDone, RulesDone};
 
-use super::fields::read_plain;
-use super::order_table::put_spot;
+use super::fields::PlainField;
+use super::layout::read_layout;
 use super::{Order, Sort};
 use solver::{Place, Refusal, Rule, clear_tokens, put_rule};
 
@@ -55,20 +55,7 @@ fn read_rule(
         (area kinds.old vals.old) (area kinds.new vals.new) r rules.old rules.new
         (step_of result place.new) }
 {
-    let first = place.top;
-    let mut o = Order::default();
-    for (i, sort) in RULE.iter().enumerate() {
-        let last = place.top;
-        match read_plain(s, kinds, vals, place, *sort, issued) {
-            Ok(spot) => {
-                o = put_spot(o, i, spot);
-            }
-            Err(refusal) => {
-                clear_tokens(kinds, vals, first, last - first);
-                return Err(refusal);
-            }
-        }
-    }
+    let o = read_layout::<PlainField>(s, kinds, vals, rules, place, &RULE, issued)?;
     keep_rule(rules, r, o);
     Ok(())
 }

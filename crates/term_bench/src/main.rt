@@ -2,7 +2,7 @@
 // byte first, and the bytes of a term. What is printed, the tokens read and the bytes written of all turns, shows that the work was done.
 #![tactic(auto)]
 
-ghost use Rattle.std.specs.Prelude.{◌<◌, ◌≤◌, length};
+ghost use Rattle.std.specs.Prelude.{◌<◌, ◌≤◌, length, IfSome};
 
 use frames::number_at;
 use terms::{Place, clear_tokens, keep_term, run_len, write_run};
@@ -11,10 +11,10 @@ const LEVELS: u32 = 200;
 
 const NODES: usize = 2048;
 
-// Reads the term. Returns how many tokens stand in the areas: none where it is refused, or has more than there is space for.
-fn read_once(s: &[u8], kinds: &mut [u32], vals: &mut [u32]) -> usize
+// Reads the term. Returns how many tokens stand in the areas, or nothing where it is refused, or has more than there is space for.
+fn read_once(s: &[u8], kinds: &mut [u32], vals: &mut [u32]) -> Option<usize>
     requires { length s.now < 65536 }
-    ensures { (result ≤ length kinds.new) × (result ≤ length vals.new) }
+    ensures { IfSome result (λ tokens. (tokens ≤ length kinds.new) × (tokens ≤ length vals.new)) }
 {
     let mut place = Place {
         at: 0,
@@ -22,24 +22,23 @@ fn read_once(s: &[u8], kinds: &mut [u32], vals: &mut [u32]) -> usize
         nodes: 0,
         limit: NODES,
     };
-    if keep_term(s, kinds, vals, &mut place, LEVELS, 0).is_err() {
-        return 0;
-    }
+    keep_term(s, kinds, vals, &mut place, LEVELS, 0).ok()?;
     if kinds.len().min(vals.len()) < place.top {
-        return 0;
+        return None;
     }
-    place.top
+    Some(place.top)
 }
 
-// Writes the tokens. Returns how many bytes they have, or 0 where there is no space for them.
-fn write_once(kinds: &[u32], vals: &[u32], tokens: usize, out: &mut [u8]) -> usize
+// Writes the tokens. Returns how many bytes they have, or nothing where there is no space for them. Kinds and values are two slices, as `run_len` and `write_run`
+// take them: each holds as many tokens as were read, and nothing asks that the slices are as long as one another.
+fn write_once(kinds: &[u32], vals: &[u32], tokens: usize, out: &mut [u8]) -> Option<usize>
     requires { (tokens ≤ length kinds.now) × (tokens ≤ length vals.now) }
 {
     let size = run_len(kinds, vals, 0, tokens);
     if out.len() < size {
-        return 0;
+        return None;
     }
-    write_run(kinds, vals, 0, tokens, out, 0)
+    Some(write_run(kinds, vals, 0, tokens, out, 0))
 }
 
 // Reads the term `count` times, and clears what was read each time.
@@ -48,9 +47,10 @@ fn reads(s: &[u8], kinds: &mut [u32], vals: &mut [u32], count: u32) -> u64
 {
     let mut sum: u64 = 0;
     for _ in 0..count {
-        let tokens = read_once(s, kinds, vals);
-        clear_tokens(kinds, vals, 0, tokens);
-        sum = sum.wrapping_add(tokens as u64);
+        if let Some(tokens) = read_once(s, kinds, vals) {
+            clear_tokens(kinds, vals, 0, tokens);
+            sum = sum.wrapping_add(tokens as u64);
+        }
     }
     sum
 }
@@ -61,8 +61,9 @@ fn writes(kinds: &[u32], vals: &[u32], tokens: usize, out: &mut [u8], count: u32
 {
     let mut sum: u64 = 0;
     for _ in 0..count {
-        let size = write_once(kinds, vals, tokens, out);
-        sum = sum.wrapping_add(size as u64);
+        if let Some(size) = write_once(kinds, vals, tokens, out) {
+            sum = sum.wrapping_add(size as u64);
+        }
     }
     sum
 }
@@ -85,7 +86,9 @@ fn measure(s: &[u8], kinds: &mut [u32], vals: &mut [u32], out: &mut [u8]) -> u64
         return 0;
     }
     let read = reads(&s[5..], kinds, vals, turns(s, 2));
-    let tokens = read_once(&s[5..], kinds, vals);
+    let Some(tokens) = read_once(&s[5..], kinds, vals) else {
+        return read;
+    };
     let written = writes(kinds, vals, tokens, out, turns(s, 1));
     read.wrapping_add(written)
 }

@@ -46,10 +46,13 @@ unfoldable pub plain_of : Sort → FieldSort
 plain_of sorts.Rules = fields.receivers
 plain_of a = sort_of a
 
--- a layout
+-- a layout, by what each sort is read as; and as it stands
+abbrev pub sorts_by : (Sort → FieldSort) → List Sort → List FieldSort
+sorts_by f [] = []
+sorts_by f (a ∷ l) = f a ∷ sorts_by f l
+
 abbrev pub sorts_of : List Sort → List FieldSort
-sorts_of [] = []
-sorts_of (a ∷ l) = sort_of a ∷ sorts_of l
+sorts_of = sorts_by sort_of
 
 -- numbers and codes; those alone among the first n fields
 unfoldable pub is_number : FieldSort → Bool
@@ -120,6 +123,15 @@ Plain fields.rules = ⊥
 unfoldable pub Plains : List FieldSort → Type 0
 Plains [] = Unit {0}
 Plains (a ∷ l) = Plain a × Plains l
+
+unfoldable pub Leading : List FieldSort → Type 0
+Leading [] = Unit {0}
+Leading (a ∷ l) = Plains l
+
+-- a layout has five fields at most
+pub record IsLayout (l : List FieldSort) : Type 0 where
+  pub few : length l ≤ 5
+  pub leading : Leading l
 
 -- a rule's parts are fields
 abbrev pub rule_sorts : List FieldSort
@@ -301,6 +313,14 @@ start_at a (suc i) (f ∷ fs) = start_at (a + length (field_items f)) i fs
 
 abbrev pub Spots : (s ws : List ℕ) → ℕ → Order → List Field → Type 0
 Spots s ws a o fs = (i : ℕ) → i < 5 → SpotOf s ws (start_at a i fs) (spot_at i o) (nth i fs)
+
+-- the fields of a layout, all read and stored, and their spots
+pub record FieldsHere (s ws : List ℕ) (found : Result (List Field)) (p : Place) (d e : Area) (o : Order) (q : Place) : Type 0 where
+  pub read : List Field
+  pub is : found ≡ got read q.at
+  pub stored : Stored p q d e (all_items read) (all_nodes read)
+  pub inside : q.at ≤ length s
+  pub spots : Spots s ws p.top o read
 
 -- ---- what the reading functions answer and leave: d are the areas at entry and e at exit
 

@@ -29,7 +29,7 @@ use Rattle.sheet.specs.Fields as fields
 use Rattle.sheet.specs.Fields.{Field, FieldSort, ruled, nodes, all_nodes, last, nth}
 use Rattle.sheet.specs.OrderTable.{Row, row_in, layout, known, kinded_order, read_by}
 use Rattle.sheet.specs.Sheet.{table, read_order}
-use Rattle.sheet.specs.Words.FieldLayout.{row_words, RowIs, sorts_of, known_for, sort_of, plain_of, Plain, Plains, field_items, all_items, Free, Ample, no_fields, Spots, finished_order, FieldDone, RulesDone, Spotted, Unread}
+use Rattle.sheet.specs.Words.FieldLayout.{row_words, RowIs, sorts_of, known_for, sort_of, plain_of, Plain, Plains, field_items, all_items, Ample, IsLayout, Spots, finished_order, FieldsHere, FieldDone, RulesDone, Spotted, Unread}
 use Rattle.sheet.specs.Words.FieldsContract.{NumberRead}
 use Rattle.sheet.specs.Words.OrderReaderContract.{OrderRoom, WholeOrder}
 use Rattle.sheet.proofs.Laws.Reading.StoredLaws.{stored_kinds, stored_before, stored_undo}
@@ -37,7 +37,6 @@ use Rattle.sheet.proofs.Laws.Reading.FieldLaws.{parts_of, same_value, rules_foun
 use Rattle.sheet.proofs.Laws.Reading.OrderTableLaws.{row_of, known_class, layout_short, layout_leading, layout_plain, layout_ruled, spares_few}
 use Rattle.sheet.proofs.Laws.Reading.SpotLaws.{RulesFit, plain_fit, rules_room, fields_followed, spots_held, spot_kept}
 use Rattle.sheet.proofs.Laws.Reading.FitLaws.{fields_fit}
-use Rattle.sheet.proofs.Laws.Reading.FieldLoopLaws.{Through, FieldsHere, through_start}
 
 -- ---- a field of any sort
 
@@ -107,11 +106,11 @@ not_plain a e h = absurd (rw e at h)
 
 -- ---- the fields of a kind
 
-pub order_start : {s ws : List ℕ} {issued : ℕ} (k : ℕ) {c : Class} (l : List Sort) → RowIs k c l → (p : Place) (d : Area) {o : Order} → Free p.top d → Ample s p → o ≡ no_fields
-    → Through s ws issued (sorts_of l) p d d 0 o p
-order_start {s} {ws} {issued} k {c} l h p d f a eo =
+-- a row of the table is a layout
+pub row_layout : (k : ℕ) {c : Class} (l : List Sort) → RowIs k c l → IsLayout (sorts_of l)
+row_layout k {c} l h =
     let x = row_of k c l h in
-    rw (eo, x.3) (through_start s ws issued (layout x.0) p d (layout_short k x.0 x.1) (layout_leading k x.0 x.1) f a)
+    rw x.3 (record { few = layout_short k x.0 x.1; leading = layout_leading k x.0 x.1 })
 
 -- ---- the whole order
 

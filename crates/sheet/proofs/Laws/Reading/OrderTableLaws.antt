@@ -23,7 +23,7 @@ use Rattle.solver.specs.Orders.{Command}
 use Rattle.sheet.specs.OrderTable.{Answer, Act, tells, answers, Row, session_orders, row_in, layout, known_by, known}
 use Rattle.sheet.specs.Operations.{operations}
 use Rattle.sheet.specs.Sheet.{table}
-use Rattle.sheet.specs.Words.FieldLayout.{sorts_of, is_number, numeric, is_tokenless, tokenless, class_by, row_words, RowIs, answers_by, is_operation, known_for, Plain, Plains, spares, spare}
+use Rattle.sheet.specs.Words.FieldLayout.{sorts_of, is_number, numeric, is_tokenless, tokenless, class_by, row_words, RowIs, answers_by, is_operation, known_for, Plain, Plains, Leading, spares, spare}
 use Rattle.sheet.specs.Words.OperationsContract.{Among, numbers_of, plain_orders}
 
 -- ---- rows
@@ -127,10 +127,6 @@ plain_sorts [] h = tt
 plain_sorts (a ∷ l) h = let t = both_true (plain_sort_lem a) (plain_sorts_lem l) h in (plain_sort a t.0, plain_sorts l t.1)
 
 -- rules stand first where they stand
-unfoldable pub Leading : List FieldSort → Type 0
-Leading [] = Unit {0}
-Leading (a ∷ l) = Plains l
-
 unfoldable leading : List FieldSort → Bool
 leading [] = true
 leading (a ∷ l) = plain_sorts_lem l

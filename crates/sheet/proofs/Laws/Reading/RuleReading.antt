@@ -24,9 +24,8 @@ use Rattle.sheet.specs.declared.Order.{Order}
 use Rattle.sheet.specs.Fields as fields
 use Rattle.sheet.specs.Fields.{Field, value, tree, bare, listed, levels, nodes, all_nodes, rule_nodes, nth}
 use Rattle.sheet.specs.Words.FieldsFormed.{FormedFields}
-use Rattle.sheet.specs.Words.FieldLayout.{rule_sorts, rule_fields, rule_items, field_items, all_items, Free, Stored, Ample, rule_words, RulesAt, spot_at, start_at, Spots, RuleDone, RulesDone, rule_from, WordsFit}
+use Rattle.sheet.specs.Words.FieldLayout.{rule_sorts, rule_fields, rule_items, field_items, all_items, Free, Stored, Ample, rule_words, RulesAt, spot_at, start_at, Spots, RuleDone, RulesDone, rule_from, WordsFit, FieldsHere}
 use Rattle.sheet.proofs.Laws.Reading.StoredLaws.{stored_none, stored_then, stored_as, stored_undo, ample_after}
-use Rattle.sheet.proofs.Laws.Reading.FieldLoopLaws.{FieldsHere}
 use Rattle.sheet.proofs.Laws.Reading.FieldLaws.{never, parts_of, same_value, same_next, fields_found}
 
 -- ---- a rule as fields

@@ -31,4 +31,4 @@ pub returns : goal.returns
 returns c =
     let x = c.in_ok-high.ensures in
     let y = c.in_ok-low.ensures in
-    read_moved _ _ _ _ _ _ (moved_twice c.args.place.now c.next_number.new.place c.next_number-2.new.place (c.args.place.now.at + 1) x.place y.place) (bound_yes c.args.s.now c.args.place.now c.requires c.if-s-i.false _ _ x.is _ _ _ y.is refl refl)
+    read_moved _ _ _ _ _ _ (moved_twice c.args.place.now c.next_number.new.place c.next_number-2.new.place (c.args.place.now.at + 1) x.place y.place) (bound_yes c.args.s.now c.args.place.now c.requires c.if-s-i.false _ _ x.is _ _ _ y.is refl c.from-sign.ensures)
