@@ -117,15 +117,11 @@ pub fn nth_term(tokens: &Tokens, from: usize, n: usize) -> Option<usize>
     ensures { result ≡ nth_at tokens.now.kinds.now tokens.now.vals.now n from }
 {
     let mut i = from;
-    for k in 0..n {
+    for _ in 0..n {
         if tokens.kinds.len() <= i {
             return None;
         }
         i += skip(tokens, i, tokens.kinds.len() - i);
     }
-    if i < tokens.kinds.len() {
-        Some(i)
-    } else {
-        None
-    }
+    (i < tokens.kinds.len()).then_some(i)
 }

@@ -46,7 +46,7 @@ fn read_records(
         bytes: s,
         place: *place,
     };
-    for i in 0..count {
+    for _ in 0..count {
         reader.next_record(kinds, vals, w)?;
     }
     *place = reader.place;

@@ -26,7 +26,7 @@ fn behind_terms(tokens: &Tokens, i: usize, e: usize, n: u32) -> usize
     ensures behind { (s : Shape) (ps : Parts) → HeldParts tokens.now.kinds.now tokens.now.vals.now i e ps → Fit (many_terms n s) ps → result ≡ i + upto n ps }
 {
     let mut p = i;
-    for k in 0..n {
+    for _ in 0..n {
         if e <= p {
             return p;
         }

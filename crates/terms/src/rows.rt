@@ -14,7 +14,7 @@ use super::virtual_tokens::token_at;
 use super::{Content, Origin, Part, RowWalk, Seen, Token};
 
 // A place past all tokens.
-const NOWHERE: usize = 4294967295;
+pub const NOWHERE: usize = 4294967295;
 
 // The row of the term whose first token stands at h.
 #[inline(always)]
@@ -23,13 +23,10 @@ pub fn row_of(seen: &Seen, h: u32) -> Part
 {
     let p = h as usize;
     let end = p + token_at(seen, p).step();
-    if NOWHERE < end {
-        return Part {
-            from: p + 1,
-            end: NOWHERE,
-        };
+    Part {
+        from: p + 1,
+        end: end.min(NOWHERE),
     }
-    Part { from: p + 1, end }
 }
 
 impl<'a> Iterator for RowWalk<'a> {

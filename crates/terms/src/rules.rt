@@ -8,12 +8,10 @@ ghost use Rattle.terms.specs.Words.Arena.{Tree, Cut, Fetched};
 ghost use Rattle.terms.specs.Words.RulesContract.{TermStarts, Numbers, Fronted, MemberIn};
 
 use super::alike::{cursor, moved, same_rows};
+use super::rows::NOWHERE;
 use super::rule_list::{next_rule, rule_at};
 use super::virtual_tokens::token_at;
 use super::{Content, Cursor, Origin, RowWalk, Rule, Seen};
-
-// A place past all tokens.
-const NOWHERE: usize = 4294967295;
 
 // A term as it stands in the source.
 pub fn source(p: u32) -> Content
@@ -28,17 +26,9 @@ fn term_cursor(seen: &Seen, p: usize) -> Cursor
     ensures { TermStarts (shown seen.now) p result }
 {
     let end = p + token_at(seen, p).step();
-    if NOWHERE < end {
-        return Cursor {
-            at: p,
-            end: NOWHERE,
-            child: 0,
-            kids: 0,
-        };
-    }
     Cursor {
         at: p,
-        end,
+        end: end.min(NOWHERE),
         child: 0,
         kids: 0,
     }

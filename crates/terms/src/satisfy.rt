@@ -34,7 +34,7 @@ fn member_at(tokens: &Tokens, p: usize, count: usize, member: u32) -> Option<usi
         → Looked tokens.now.kinds.now tokens.now.vals.now whole result }
 {
     let mut i = p;
-    for k in 0..count {
+    for _ in 0..count {
         if tokens.kinds.len() <= i + 1 {
             return None;
         }
@@ -95,7 +95,7 @@ fn same_terms(tokens: &Tokens, a: usize, b: usize, count: usize) -> Option<(usiz
 {
     let mut i = a;
     let mut j = b;
-    for k in 0..count {
+    for _ in 0..count {
         if tokens.kinds.len() <= i {
             return None;
         }

@@ -89,10 +89,7 @@ fn kept(
 fn first_of_node(kind: u32) -> usize
     ensures { result ≡ node_first kind }
 {
-    if kind == 0 {
-        return 0;
-    }
-    1
+    usize::from(kind != 0)
 }
 
 // Contents of more tokens are not tried.

@@ -17,7 +17,7 @@ use Rattle.terms.specs.Tree.{error, nums, subs, children, row}
 use Rattle.terms.specs.Words.Arena.{head_of, kids_of, Tree, Parted, RowAt, NumberAt, KeyOf}
 use Rattle.terms.proofs.Laws.Held.HeldLaws.{span_one}
 use Rattle.terms.proofs.Laws.Normalising.ArenaLaws.{parted_over, parted_number, parted_child, tree_row}
-use Rattle.std.specs.Prelude.{Some, None}
+use Rattle.std.specs.Prelude.{Some, None, min}
 use Rattle.terms.specs.declared.Seen.{Seen}
 use Rattle.terms.specs.Words.Lent.{shown}
 
@@ -31,12 +31,15 @@ module _ (a : Area) (h p l : ℕ) {k v : ℕ} (ep : p ≡ h) (ek : k ≡ get_or 
       let z = el r.0 in
       rw z (r.1, r.2)
 
-  pub row_is : p + l < 4294967296 → RowAt a h (p + 1) (p + l)
-  row_is s = record { small = s; is = λ hs cs S c t w. (whole hs cs S c t w).1 }
-
-  -- no term ends past the tokens
-  pub row_cut : (e : ℕ) → e < 4294967296 → length a.kinds < 4294967296 → 4294967295 < p + l → RowAt a h (p + 1) e
-  row_cut e s f o = record { small = s; is = λ hs cs S c t w. let x = (whole hs cs S c t w).0 in absurd (omega arith) }
+  -- no term ends past the tokens, so a row that is cut is whole
+  pub row_is : (e : ℕ) → length a.kinds < 4294967296 → e ≡ min (p + l) 4294967295 → RowAt a h (p + 1) e
+  row_is e f o = record {
+    small = omega arith;
+    is = λ hs cs S c t w.
+        let x = whole hs cs S c t w in
+        let i : p + l ≡ e = omega (arith, x.0) in
+        rw i at x.1;
+  }
 
 -- ---- the scan
 

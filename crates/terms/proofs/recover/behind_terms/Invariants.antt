@@ -8,6 +8,6 @@ use Rattle.terms.specs.Words.RecoverContract.{upto}
 use Rattle.terms.proofs.Laws.Replacing.RecoverLaws.{Behind}
 use Rattle.terms.proofs.recover.behind_terms.Given as goal
 
-abbrev pub invariant-loop-k : goal.invariant-loop-k
-invariant-loop-k l =
-    (l.i ≤ l.p) × (l.p ≤ l.e) × ((s : Shape) (ps : Parts) → HeldParts l.tokens.kinds.now l.tokens.vals.now l.i l.e ps → Fit (many_terms l.n s) ps → Behind l.tokens.kinds.now l.tokens.vals.now l.p l.e (l.n - l.k) s (l.i + upto l.n ps))
+abbrev pub invariant-loop : goal.invariant-loop
+invariant-loop l =
+    (l.i ≤ l.p) × (l.p ≤ l.e) × ((s : Shape) (ps : Parts) → HeldParts l.tokens.kinds.now l.tokens.vals.now l.i l.e ps → Fit (many_terms l.n s) ps → Behind l.tokens.kinds.now l.tokens.vals.now l.p l.e (l.n - l.counter) s (l.i + upto l.n ps))
