@@ -130,14 +130,10 @@ pub fn find_rule(
 {
     let s = cursor(seen, x);
     let member = member_in(seen, s);
-    let count = rules.len() / 6;
     let mut r = 0;
     // Rules are skipped to the next with the member, and arguments are as wide as they say; both are left at the match (document 01).
     'rules: loop {
-        r = next_rule(rules, r, member);
-        if count <= r {
-            return None;
-        }
+        r = next_rule(rules, r, member)?;
         let rule = rule_at(rules, r);
         let mut m = same_front(seen, heads, kids, s, rule, fuel);
         let mut a = rule.arguments as usize;

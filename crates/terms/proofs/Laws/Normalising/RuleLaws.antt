@@ -17,10 +17,9 @@ use Rattle.terms.specs.declared.Content.{Content}
 use Rattle.terms.specs.Result.{pick}
 use Rattle.terms.specs.Words.VirtualTokens.{view, Sight}
 use Rattle.terms.specs.Lookup.{Pattern, front, left, by_patterns, rule_at, rule_count, HeldRule, Ruled}
-use Rattle.terms.specs.Words.RuleListContract.{NextWith}
+use Rattle.terms.specs.Words.RuleListContract.{NoneFrom}
 use Rattle.terms.specs.Words.Arena.{Tree, Parted, over, number, child, From, further, Begins, Starts}
 use Rattle.terms.specs.Words.RulesContract.{TermStarts, Numbers, Fronted, last_but_one, MemberIn}
-use Rattle.terms.proofs.Laws.Normalising.RuleListLaws.{NoneFrom}
 use Rattle.terms.proofs.Laws.Held.HeldLaws.{kind_some, items_some, held_sub}
 use Rattle.terms.proofs.Laws.Held.SameLaws.{span_held, rows_refl, rows_true}
 use Rattle.terms.proofs.Laws.Normalising.VirtualTokenLaws.{view_held, view_parts}
@@ -453,7 +452,7 @@ module _ {ks vs ws : List ℕ} {g : Origin} {hs cs : List ℕ} {x : Cursor} {fue
       let one = searching_next w (omega arith) (replaces_other hs cs fuel (rule_at ws r) h (f r (omega arith) (omega arith))) in
       rw e at (past h k (r + 1) (omega arith) (λ i a b. f i (omega arith) (omega arith)) one)
 
-  pub searching_to : {m : ℕ} → MemberIn (view ks vs g) x m → {r n : ℕ} → NextWith ws r m n → Searching ks vs ws g hs cs x fuel r → (t : ℕ) → r ≤ t → t ≤ n → t ≤ rule_count ws → Searching ks vs ws g hs cs x fuel t
-  searching_to h {r} f w t a b c =
+  pub searching_to : {m : ℕ} → MemberIn (view ks vs g) x m → {r : ℕ} (t : ℕ) → r ≤ t → t ≤ rule_count ws → NoneFrom ws r m t → Searching ks vs ws g hs cs x fuel r → Searching ks vs ws g hs cs x fuel t
+  searching_to h {r} t a c f w =
       let e : r + (t - r) ≡ t = omega arith in
-      rw e at (past h (t - r) r (omega arith) (λ i y z. f.none i y (omega arith)) w)
+      rw e at (past h (t - r) r (omega arith) (λ i y z. f i y (omega arith)) w)
