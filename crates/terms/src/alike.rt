@@ -5,9 +5,9 @@ ghost use Rattle.terms.specs.Words.Held.{span};
 ghost use Rattle.terms.specs.Words.Arena.{Cut, further, Alike, Begins, Starts};
 
 use super::rows::{child_here, row_of};
-use super::runs::{same_term, word};
+use super::runs::same_term;
 use super::virtual_tokens::token_at;
-use super::{Content, Cursor, Origin, Seen, Token, Tokens};
+use super::{Content, Cursor, Origin, Seen, Tokens};
 
 // The start of a content's row.
 pub fn cursor(seen: &Seen, x: Content) -> Cursor
@@ -43,11 +43,7 @@ fn is_lent(tokens: &Tokens, x: Content) -> bool
         return false;
     }
     let p = x.head as usize;
-    let head = Token {
-        kind: word(tokens.kinds, p),
-        value: word(tokens.vals, p),
-    };
-    p + head.span() <= tokens.kinds.len()
+    p + tokens.token(p).span() <= tokens.kinds.len()
 }
 
 // Whether the parts at x begin with all that are at y; the children at x have at most `fuel` levels.

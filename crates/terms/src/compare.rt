@@ -9,7 +9,7 @@ ghost use Rattle.terms.specs.Comparison.{conflicts_with, can_weaken_to};
 ghost use Rattle.terms.specs.Words.CompareContract.{Rows, Forward, Stepped, Passed};
 
 use super::Tokens;
-use super::runs::{same_term, skip, word};
+use super::runs::{same_term, skip, width_at, word};
 
 // Whether a term conflicts with nothing, by the kind of its first token: Inference, Unknown and Error.
 fn yields(kind: u32) -> bool
@@ -128,8 +128,8 @@ pub fn conflicts_with(tokens: &Tokens, a: usize, b: usize) -> bool
         → Formed u
         → result ≡ conflicts_with t u }
 {
-    let n = skip(tokens, a, tokens.kinds.len() - a);
-    let m = skip(tokens, b, tokens.kinds.len() - b);
+    let n = width_at(tokens, a);
+    let m = width_at(tokens, b);
     rows_conflict(tokens, a, a + n, b, b + m)
 }
 
@@ -151,8 +151,8 @@ pub fn can_weaken_to(tokens: &Tokens, a: usize, b: usize) -> bool
     if !has_access(k) {
         return false;
     }
-    let n = skip(tokens, a, tokens.kinds.len() - a);
-    let m = skip(tokens, b, tokens.kinds.len() - b);
+    let n = width_at(tokens, a);
+    let m = width_at(tokens, b);
     if n < 2 {
         return false;
     }

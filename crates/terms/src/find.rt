@@ -5,7 +5,7 @@ ghost use Rattle.terms.specs.Parameters.{parameter, parameters, passed, past, sk
 ghost use Rattle.terms.specs.Words.FindContract.{last_at, entry_at, receiver_at, nth_at};
 
 use super::numbers::read_number;
-use super::runs::{skip, word};
+use super::runs::{skip, width_at, word};
 use super::values::{DEFINITION, ORDINARY};
 use super::{Parameter, Refusal, Tokens};
 
@@ -121,7 +121,7 @@ pub fn nth_term(tokens: &Tokens, from: usize, n: usize) -> Option<usize>
         if tokens.kinds.len() <= i {
             return None;
         }
-        i += skip(tokens, i, tokens.kinds.len() - i);
+        i += width_at(tokens, i);
     }
     (i < tokens.kinds.len()).then_some(i)
 }

@@ -11,7 +11,7 @@ ghost use Rattle.terms.specs.Words.TermsAtPlaces.{FormedAt, ParametersAt};
 ghost use Rattle.terms.specs.Words.QuestionsContract.{tag_of, word, Asking};
 
 use super::find::find_parameter;
-use super::runs::skip;
+use super::runs::{skip, width_at};
 use super::{Parameter, Question, Tokens, runs};
 
 // The tag of the term whose first token has this kind.
@@ -132,6 +132,6 @@ pub fn ask(tokens: &Tokens, p: usize, question: Question, s: &[u8], at: usize, p
         → Formed t
         → result ≡ asked qs (number_of_question question) t }
 {
-    let n = skip(tokens, p, tokens.kinds.len() - p);
+    let n = width_at(tokens, p);
     ask_row(tokens, p, p + n, question, s, at, params)
 }

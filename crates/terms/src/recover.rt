@@ -16,7 +16,7 @@ ghost use Rattle.terms.specs.Words.RecoverContract.{Put, upto, alike, Paired, Pa
 
 use super::Tokens;
 use super::questions::{tag_of, word_at};
-use super::runs::{skip, word};
+use super::runs::{skip, width_at, word};
 use super::write::put_run;
 
 // The place after n terms from i on, at most e.
@@ -253,8 +253,8 @@ pub fn recovered_len(tokens: &Tokens, a: usize, b: usize) -> usize
         → Formed u
         → result ≡ length (bytes (recover_from t u)) }
 {
-    let n = skip(tokens, a, tokens.kinds.len() - a);
-    let m = skip(tokens, b, tokens.kinds.len() - b);
+    let n = width_at(tokens, a);
+    let m = width_at(tokens, b);
     let mut none = [0u8; 1];
     recover_term(tokens, a, a + n, b, b + m, &mut none, 0)
 }
@@ -271,7 +271,7 @@ pub fn write_recovered(tokens: &Tokens, a: usize, b: usize, out: &mut [u8], at: 
         → Formed u
         → Put out.old out.new at result (bytes (recover_from t u)) }
 {
-    let n = skip(tokens, a, tokens.kinds.len() - a);
-    let m = skip(tokens, b, tokens.kinds.len() - b);
+    let n = width_at(tokens, a);
+    let m = width_at(tokens, b);
     recover_term(tokens, a, a + n, b, b + m, out, at)
 }

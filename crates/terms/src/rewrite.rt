@@ -10,7 +10,7 @@ ghost use Rattle.terms.specs.Words.RewriteContract.{by, index, generic, in_conte
 ghost use Rattle.terms.specs.Words.RewriteContract.{Writes, Rewrites};
 
 use super::find::{find_entry, find_parameter, find_receiver, nth_term};
-use super::runs::{skip, word};
+use super::runs::{skip, width_at, word};
 use super::write::{run_len, write_run};
 use super::{Binders, Choice, Parameter, Tokens};
 
@@ -125,7 +125,7 @@ fn emit(tokens: &Tokens, c: Choice, p: usize, out: &mut [u8], i: usize, on: bool
     match c {
         Choice::Keep => emit_run(tokens, p, 1, out, i, on),
         Choice::By(q) => {
-            let n = skip(tokens, q, tokens.kinds.len() - q);
+            let n = width_at(tokens, q);
             emit_run(tokens, q, n, out, i, on)
         }
         Choice::Unknown => {
@@ -198,6 +198,6 @@ pub fn write_term(
     ensures words { Writes on out.old at result out.new (written tokens.now.kinds.now tokens.now.vals.now s.now b from) }
     ensures trees { Rewrites tokens.now.kinds.now tokens.now.vals.now s.now b from (Writes on out.old at result out.new) }
 {
-    let n = skip(tokens, from, tokens.kinds.len() - from);
+    let n = width_at(tokens, from);
     rewrite_run(tokens, s, b, from, n, out, at, on)
 }

@@ -65,19 +65,19 @@ pub fn walk_row<'a>(seen: &Seen<'a>, h: u32) -> RowWalk<'a>
 }
 
 // Where the i-th number of the row stands.
-pub fn number_place(seen: &Seen, h: u32, i: usize) -> usize
+pub fn number_place(seen: &Seen, h: u32, i: usize) -> Option<usize>
     ensures { NumberAt (shown seen.now) h i result }
 {
     let mut left = i;
     for (q, x) in walk_row(seen, h) {
         if x.kind == 0 {
             if left == 0 {
-                return q;
+                return Some(q);
             }
             left -= 1;
         }
     }
-    NOWHERE
+    None
 }
 
 // The i-th number of the row, 0 where it has not so many.
@@ -85,9 +85,10 @@ pub fn number_at(seen: &Seen, h: u32, i: usize) -> usize
     ensures small { result < 4294967296 }
     ensures value { ValueAt (shown seen.now) h i result }
 {
-    let p = number_place(seen, h, i);
-    let x = token_at(seen, p);
-    x.value as usize
+    match number_place(seen, h, i) {
+        Some(p) => token_at(seen, p).value as usize,
+        None => 0,
+    }
 }
 
 // Which number from the third on is x, counted from there.

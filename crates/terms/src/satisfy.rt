@@ -14,7 +14,7 @@ ghost use Rattle.terms.specs.Words.SatisfyContract.{Laid, Listed, Lists, Near, A
 ghost use Rattle.terms.specs.Words.SatisfyContract.{Satisfied, covers};
 
 use super::Tokens;
-use super::runs::{same_term, skip, word};
+use super::runs::{same_term, width_at, word};
 
 // The place after the term at i.
 fn behind(tokens: &Tokens, i: usize) -> usize
@@ -22,7 +22,7 @@ fn behind(tokens: &Tokens, i: usize) -> usize
     ensures forward { (i < result) × (result ≤ length tokens.now.kinds.now) }
     ensures passed { (t : Term) → Held tokens.now.kinds.now tokens.now.vals.now i t → result ≡ i + length (items t) }
 {
-    i + skip(tokens, i, tokens.kinds.len() - i)
+    i + width_at(tokens, i)
 }
 
 // The place of the term of a member, among `count` pairs of a member and a term from p on.

@@ -13,7 +13,7 @@ pub loop-preserved : goal.loop-preserved
 loop-preserved c =
     let a = c.args in
     let l = c.loop in
-    rw (sub_step a.n l.counter) (ap (λ (x : ℕ). nth_at a.tokens.now.kinds.now a.tokens.now.vals.now (a.n - l.counter - 1) (l.i + x)) c.skip-i.ensures.is ∙ nth_more a.tokens.now.kinds.now a.tokens.now.vals.now (a.n - l.counter) l.i (omega arith) c.if-tokens-i.false ∙ l.invariant)
+    rw (sub_step a.n l.counter) (ap (λ (x : ℕ). nth_at a.tokens.now.kinds.now a.tokens.now.vals.now (a.n - l.counter - 1) (l.i + x)) c.width_at-i.ensures.is ∙ nth_more a.tokens.now.kinds.now a.tokens.now.vals.now (a.n - l.counter) l.i (omega arith) c.if-tokens-i.false ∙ l.invariant)
 
 pub returns : goal.returns
 returns c =
