@@ -12,7 +12,7 @@ use super::read::read_term;
 use super::values::{DEFINITION, ORDINARY, read_id};
 use super::{Listing, Place, RecordRequest, Refusal, TermReader};
 
-// Reads a record: an owner and a position, where they are wanted, and a term.
+// Reads a record: an owner and a position, where the list has them, and a term.
 pub fn read_record(
     s: &[u8],
     kinds: &mut [u32],
@@ -24,8 +24,8 @@ pub fn read_record(
     ensures { PartsDone s.now (one_at s.now w place.old.at) place.old
         (area kinds.old vals.old) (area kinds.new vals.new) (step_of result place.new) }
 {
-    read_id(s, kinds, vals, place, DEFINITION, w.first)?;
-    read_id(s, kinds, vals, place, ORDINARY, w.second)?;
+    read_id(s, kinds, vals, place, DEFINITION, w.listing.has_owner())?;
+    read_id(s, kinds, vals, place, ORDINARY, w.listing.has_position())?;
     read_term(s, kinds, vals, place, w.levels, w.issued)
 }
 
@@ -91,14 +91,8 @@ pub fn keep_list(
     ensures room { Room s.now place.new }
     ensures back { OnErr result (place.new ≡ place.old) }
 {
-    let (first, second) = match listing {
-        Listing::Arguments => (false, false),
-        Listing::Receivers => (true, false),
-        Listing::Entries => (true, true),
-    };
     let w = RecordRequest {
-        first,
-        second,
+        listing,
         levels,
         issued,
     };
