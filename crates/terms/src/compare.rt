@@ -1,4 +1,5 @@
 // Comparing two terms without building anything: `conflicts_with` and `can_weaken_to`.
+// Kinds and tags are matched by number: a tag is a byte of the format (document 01: a match on the tag byte), and a node's kind is its tag and 2.
 ghost use Rattle.std.specs.Prelude.{◌≡◌, Bool, ◌≤◌, ◌<◌, length, get_or, [], ◌∷◌};
 ghost use Rattle.terms.specs.Term.{Term, Parts, sub};
 ghost use Rattle.terms.specs.Words.Held.{Held, HeldParts};
@@ -98,7 +99,7 @@ fn rows_conflict(tokens: &Tokens, a: usize, ae: usize, b: usize, be: usize) -> b
 {
     let mut i = a;
     let mut j = b;
-    // Both rows go on by the width of their own parts, so no range is counted.
+    // A step goes into a node that both rows have, and past what yields, so it is not from part to part of a row, as two zipped walks would go.
     while i < ae {
         if be <= j {
             return true;

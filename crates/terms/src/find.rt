@@ -74,7 +74,7 @@ fn find_record(
 {
     let mut best = None;
     let mut i = from;
-    // A step is as wide as what stands there, so no range is counted.
+    // A record is so many numbers and a term, which is as wide as it says: no row of one term, and no range is counted.
     while i < end {
         if end - i <= width {
             return best;

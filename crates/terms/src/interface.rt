@@ -1,4 +1,5 @@
 // Order 19: a projection is looked up in the given interface, or made anew through it.
+// Heads and kids are lent as two slices; the line in rows.rt says why.
 ghost use Rattle.terms.specs.Words.Lent.{shown};
 ghost use Rattle.std.specs.Prelude.{◌≡◌, Bool, ℕ, ◌+◌, ◌≤◌, ◌<◌, length, get_or, unwrap_or, IfSome};
 ghost use Rattle.terms.specs.Words.VirtualTokens.{LentAt};

@@ -1,5 +1,6 @@
 // `recover_from`: the holes of a term are filled from another, straight to the output. The recursion goes down both terms together, so it is at most
 // as deep as the first has levels; the work is linear in the tokens of both.
+// Kinds and tags are matched by number: a tag is a byte of the format (document 01: a match on the tag byte), and a node's kind is its tag and 2.
 ghost use Rattle.std.specs.Prelude.{◌≡◌, true, false, ◌||◌, ℕ, ◌+◌, ◌-◌, ◌*◌, ◌^◌, ◌≤◌, ◌<◌, eqb, length, [], ◌∷◌};
 ghost use Rattle.terms.specs.Result.{pick};
 ghost use Rattle.terms.specs.Words.QuestionsContract.{word};
@@ -63,7 +64,7 @@ fn alike_rows(tokens: &Tokens, a: usize, ae: usize, b: usize, be: usize) -> bool
 {
     let mut i = a;
     let mut j = b;
-    // Both rows go on by the width of their own parts, so no range is counted.
+    // Both rows go on by the width of their own parts. Two zipped walks would not tell, at their end, whether one of the rows goes on.
     while paired(tokens.kinds, i, ae, j, be) {
         if word(tokens.kinds, i) == 0 {
             if word(tokens.vals, i) != word(tokens.vals, j) {
@@ -224,7 +225,7 @@ fn recover_row(
     let mut i = p;
     let mut j = q;
     let mut to = at;
-    // Both rows go on by the width of their own parts, so no range is counted.
+    // Both rows go on by the width of their own parts. Two zipped walks would not tell, at their end, where the rest stands that is written.
     while paired(tokens.kinds, i, stop, j, qe) {
         if word(tokens.kinds, i) == 0 {
             to = put_run(tokens.kinds, tokens.vals, i, 1, out, to);

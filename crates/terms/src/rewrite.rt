@@ -1,6 +1,7 @@
 // A term is written with its binders replaced. The replaced terms are written as they stand, straight from the areas: nothing is built, and an
 // inserted term is not looked into. Each Generic and each SelfType costs a search through the rows and the parameters; all else is linear in the
 // tokens read and the bytes written.
+// Kinds and tags are matched by number: a tag is a byte of the format (document 01: a match on the tag byte), and a node's kind is its tag and 2.
 ghost use Rattle.std.specs.Prelude.{◌≡◌, ◌+◌, ◌-◌, ◌≤◌, ◌<◌, length};
 ghost use Rattle.std.proofs.lemmas.List.Edits.{sets};
 ghost use Rattle.terms.specs.Result.{pick};
@@ -173,7 +174,7 @@ pub fn rewrite_run(
     let end = from + count;
     let mut i = at;
     let mut p = from;
-    // A step is as wide as what stands there, so no range is counted.
+    // A step is one token, or a term where that is replaced: what is gone through is a run of tokens, no row of one term, and no range is counted.
     while p < end {
         let c = replaced_at(tokens, s, b, p);
         i = emit(tokens, c, p, out, i, on);
