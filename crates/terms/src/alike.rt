@@ -1,13 +1,15 @@
 // Whether two contents stand for the same tree, each as in the source or built.
+// Kinds and tags are matched by number: a tag is a byte of the format (document 01: a match on the tag byte), and a node's kind is its tag and 2.
+// Heads and kids are lent as two slices; the line in rows.rt says why.
 ghost use Rattle.terms.specs.Words.Lent.{shown};
 ghost use Rattle.std.specs.Prelude.{◌≡◌, ◌&&◌, ◌+◌, eqb, leb, length, get_or};
 ghost use Rattle.terms.specs.Words.Held.{span};
 ghost use Rattle.terms.specs.Words.Arena.{Cut, further, Alike, Begins, Starts};
 
 use super::rows::{child_here, row_of};
-use super::runs::{same_term, word};
+use super::runs::same_term;
 use super::virtual_tokens::token_at;
-use super::{Content, Cursor, Origin, Seen, Token, Tokens};
+use super::{Content, Cursor, Origin, Seen, Tokens};
 
 // The start of a content's row.
 pub fn cursor(seen: &Seen, x: Content) -> Cursor
@@ -43,11 +45,7 @@ fn is_lent(tokens: &Tokens, x: Content) -> bool
         return false;
     }
     let p = x.head as usize;
-    let head = Token {
-        kind: word(tokens.kinds, p),
-        value: word(tokens.vals, p),
-    };
-    p + head.span() <= tokens.kinds.len()
+    p + tokens.token(p).span() <= tokens.kinds.len()
 }
 
 // Whether the parts at x begin with all that are at y; the children at x have at most `fuel` levels.

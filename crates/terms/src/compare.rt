@@ -1,4 +1,5 @@
 // Comparing two terms without building anything: `conflicts_with` and `can_weaken_to`.
+// Kinds and tags are matched by number: a tag is a byte of the format (document 01: a match on the tag byte), and a node's kind is its tag and 2.
 ghost use Rattle.std.specs.Prelude.{◌≡◌, Bool, ◌≤◌, ◌<◌, length, get_or, [], ◌∷◌};
 ghost use Rattle.terms.specs.Term.{Term, Parts, sub};
 ghost use Rattle.terms.specs.Words.Held.{Held, HeldParts};
@@ -9,7 +10,7 @@ ghost use Rattle.terms.specs.Comparison.{conflicts_with, can_weaken_to};
 ghost use Rattle.terms.specs.Words.Lent.{Inside, NotEmpty};
 ghost use Rattle.terms.specs.Words.CompareContract.{Rows, Forward, Stepped, Passed};
 
-use super::runs::{same_term, skip, word};
+use super::runs::{same_term, skip, width_at, word};
 use super::{Part, Tokens};
 
 // Whether a term conflicts with nothing, by the kind of its first token: Inference, Unknown and Error.
@@ -99,7 +100,7 @@ fn rows_conflict(tokens: &Tokens, a: Part, b: Part) -> bool
 {
     let mut x = a;
     let mut y = b;
-    // Both rows go on by the width of their own parts, so no range is counted.
+    // A step goes into a node that both rows have, and past what yields, so it is not from part to part of a row, as two zipped walks would go.
     while x.from < x.end {
         if y.end <= y.from {
             return true;
@@ -124,8 +125,8 @@ pub fn conflicts_with(tokens: &Tokens, a: usize, b: usize) -> bool
         → Formed u
         → result ≡ conflicts_with t u }
 {
-    let n = skip(tokens, a, tokens.kinds.len() - a);
-    let m = skip(tokens, b, tokens.kinds.len() - b);
+    let n = width_at(tokens, a);
+    let m = width_at(tokens, b);
     rows_conflict(
         tokens,
         Part {
@@ -157,8 +158,8 @@ pub fn can_weaken_to(tokens: &Tokens, a: usize, b: usize) -> bool
     if !has_access(k) {
         return false;
     }
-    let n = skip(tokens, a, tokens.kinds.len() - a);
-    let m = skip(tokens, b, tokens.kinds.len() - b);
+    let n = width_at(tokens, a);
+    let m = width_at(tokens, b);
     if n < 2 {
         return false;
     }

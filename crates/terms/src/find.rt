@@ -5,7 +5,7 @@ ghost use Rattle.terms.specs.Parameters.{parameter, parameters, passed, past, sk
 ghost use Rattle.terms.specs.Words.FindContract.{last_at, entry_at, receiver_at, nth_at};
 
 use super::numbers::read_number;
-use super::runs::{skip, word};
+use super::runs::{skip, width_at, word};
 use super::values::{DEFINITION, ORDINARY};
 use super::{Parameter, Refusal, Tokens};
 
@@ -74,7 +74,7 @@ fn find_record(
 {
     let mut best = None;
     let mut i = from;
-    // A step is as wide as what stands there, so no range is counted.
+    // A record is so many numbers and a term, which is as wide as it says: no row of one term, and no range is counted.
     while i < end {
         if end - i <= width {
             return best;
@@ -117,15 +117,11 @@ pub fn nth_term(tokens: &Tokens, from: usize, n: usize) -> Option<usize>
     ensures { result ≡ nth_at tokens.now.kinds.now tokens.now.vals.now n from }
 {
     let mut i = from;
-    for k in 0..n {
+    for _ in 0..n {
         if tokens.kinds.len() <= i {
             return None;
         }
-        i += skip(tokens, i, tokens.kinds.len() - i);
+        i += width_at(tokens, i);
     }
-    if i < tokens.kinds.len() {
-        Some(i)
-    } else {
-        None
-    }
+    (i < tokens.kinds.len()).then_some(i)
 }

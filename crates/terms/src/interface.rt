@@ -1,6 +1,7 @@
 // Order 19: a projection is looked up in the given interface, or made anew through it.
+// Heads and kids are lent as two slices; the line in rows.rt says why.
 ghost use Rattle.terms.specs.Words.Lent.{shown};
-ghost use Rattle.std.specs.Prelude.{◌≡◌, Bool, ℕ, ◌+◌, ◌≤◌, ◌<◌, get_or};
+ghost use Rattle.std.specs.Prelude.{◌≡◌, Bool, ℕ, ◌+◌, ◌≤◌, ◌<◌, length, get_or, unwrap_or, IfSome};
 ghost use Rattle.terms.specs.Words.VirtualTokens.{LentAt};
 ghost use Rattle.terms.specs.Term.{Term, Parts, depth};
 ghost use Rattle.terms.specs.Tree.{row, tag};
@@ -9,28 +10,21 @@ ghost use Rattle.terms.specs.Words.Arena.{Tree, Counts, Fetched};
 
 use super::alike::same_trees;
 use super::members::member_of;
-use super::rows::{child_at, number_at, number_place};
+use super::rows::{NOWHERE, child_at, number_at, number_place};
 use super::rules::source;
 use super::virtual_tokens::{locate, token_at};
 use super::{Content, Origin, Seen, Spot};
 
-// The lent token whose value the number at p has.
-fn lent_place(seen: &Seen, p: usize) -> usize
-    ensures { LentAt seen.now.tokens.kinds.now seen.now.tokens.vals.now seen.now.given p result }
+// The lent token whose value the number at p has; where it has none's, the number is 0.
+fn lent_place(seen: &Seen, p: usize) -> Option<usize>
+    ensures within { IfSome result (λ q. q < length seen.now.tokens.kinds.now) }
+    ensures at { LentAt seen.now.tokens.kinds.now seen.now.tokens.vals.now seen.now.given p (unwrap_or result (length seen.now.tokens.kinds.now)) }
 {
     let len = seen.tokens.kinds.len();
-    let s = locate(seen.given, len, p);
-    match s {
-        Spot::Lent(q) => {
-            if q < len {
-                return q;
-            }
-            len
-        }
-        Spot::Error => len,
-        Spot::Head => len,
-        Spot::Nowhere => len,
-    }
+    let Spot::Lent(q) = locate(seen.given, len, p) else {
+        return None;
+    };
+    (q < len).then_some(q)
 }
 
 // The interface's term for the member at p, or the projection made anew.
@@ -57,8 +51,9 @@ fn output(seen: &Seen, heads: &[u32], kids: &[u32], p: usize) -> Content
     if let Some(y) = known {
         return y;
     }
-    let t = lent_place(seen, p);
-    source((seen.tokens.kinds.len() + 1 + t * seen.given.size as usize) as u32)
+    let len = seen.tokens.kinds.len();
+    let t = lent_place(seen, p).unwrap_or(len);
+    source((len + 1 + t * seen.given.size as usize) as u32)
 }
 
 // What the given interface has for a projection with the counts n and m; its children have at most `fuel` levels.
@@ -91,7 +86,7 @@ pub fn by_interface(
     if !same_trees(seen, heads, kids, y, source(seen.given.owner), fuel) {
         return None;
     }
-    let p = number_place(seen, x.head, 3 + m);
+    let p = number_place(seen, x.head, 3 + m).unwrap_or(NOWHERE);
     let value = output(seen, heads, kids, p);
     if same_trees(seen, heads, kids, x, value, fuel + 1) {
         return None;

@@ -1,4 +1,5 @@
 // A term, or a bare nominal, is read and kept whole, or nothing of it remains.
+// Kinds and values that are written are lent as two slices; the lines at the head of store.rt say why.
 ghost use Rattle.std.specs.Prelude.{◌≡◌, ◌+◌, ◌-◌, ◌^◌, ◌<◌, length, OnErr};
 ghost use Rattle.terms.specs.Words.Tokens.{area};
 ghost use Rattle.terms.specs.Term.{size};
@@ -61,6 +62,9 @@ pub fn keep_term(
     settle(kinds, vals, first, s.len() - first.at, outcome, place)
 }
 
+// `keep_term` and this differ in the reader alone, and what both do besides is `settle`; a function over either would take a closure that borrows the areas,
+// or the flag that `next_part` has.
+//
 // Reads a bare nominal, whose contents have `levels` levels left; it stands under a head with the tag 20.
 pub fn keep_nominal(
     s: &[u8],

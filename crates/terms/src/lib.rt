@@ -141,12 +141,35 @@ pub enum Listing {
     Entries,
 }
 
-// What a term reader is asked for in a list: an owner where `first` and a position where `second`, and then a term, with the levels left and the number that
-// its variables are below.
+impl Listing {
+    ghost use Rattle.std.specs.Prelude.{◌≡◌};
+    ghost use Rattle.terms.specs.Words.ListsContract.{owned, placed};
+
+    // Whether its records begin with an owner.
+    fn has_owner(self) -> bool
+        ensures { result ≡ owned self }
+    {
+        match self {
+            Listing::Arguments => false,
+            Listing::Receivers | Listing::Entries => true,
+        }
+    }
+
+    // Whether they have a position after it.
+    fn has_position(self) -> bool
+        ensures { result ≡ placed self }
+    {
+        match self {
+            Listing::Arguments | Listing::Receivers => false,
+            Listing::Entries => true,
+        }
+    }
+}
+
+// What a term reader is asked for: a record of a list, with the levels left for its term and the number that its variables are below.
 #[derive(Clone, Copy)]
 pub struct RecordRequest {
-    pub first: bool,
-    pub second: bool,
+    pub listing: Listing,
     pub levels: u32,
     pub issued: u64,
 }

@@ -1,5 +1,6 @@
 // The lists of an order that are stored: entries, receivers and arguments. A term reader goes from record to record; each list is kept whole, or nothing
 // of it remains.
+// Kinds and values that are written are lent as two slices; the lines at the head of store.rt say why.
 ghost use Rattle.std.specs.Prelude.{◌≡◌, OnErr};
 ghost use Rattle.terms.specs.Words.Tokens.{area};
 ghost use Rattle.terms.specs.Words.ReadContract.{Room, PartsDone};
@@ -12,7 +13,7 @@ use super::read::read_term;
 use super::values::{DEFINITION, ORDINARY, read_id};
 use super::{Listing, Place, RecordRequest, Refusal, TermReader};
 
-// Reads a record: an owner and a position, where they are wanted, and a term.
+// Reads a record: an owner and a position, where the list has them, and a term.
 pub fn read_record(
     s: &[u8],
     kinds: &mut [u32],
@@ -24,8 +25,8 @@ pub fn read_record(
     ensures { PartsDone s.now (one_at s.now w place.old.at) place.old
         (area kinds.old vals.old) (area kinds.new vals.new) (step_of result place.new) }
 {
-    read_id(s, kinds, vals, place, DEFINITION, w.first)?;
-    read_id(s, kinds, vals, place, ORDINARY, w.second)?;
+    read_id(s, kinds, vals, place, DEFINITION, w.listing.has_owner())?;
+    read_id(s, kinds, vals, place, ORDINARY, w.listing.has_position())?;
     read_term(s, kinds, vals, place, w.levels, w.issued)
 }
 
@@ -46,7 +47,7 @@ fn read_records(
         bytes: s,
         place: *place,
     };
-    for i in 0..count {
+    for _ in 0..count {
         reader.next_record(kinds, vals, w)?;
     }
     *place = reader.place;
@@ -91,14 +92,8 @@ pub fn keep_list(
     ensures room { Room s.now place.new }
     ensures back { OnErr result (place.new ≡ place.old) }
 {
-    let (first, second) = match listing {
-        Listing::Arguments => (false, false),
-        Listing::Receivers => (true, false),
-        Listing::Entries => (true, true),
-    };
     let w = RecordRequest {
-        first,
-        second,
+        listing,
         levels,
         issued,
     };

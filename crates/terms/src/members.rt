@@ -1,4 +1,6 @@
 // What a projection is replaced by before the rules: a member of its own.
+// Kinds and tags are matched by number: a tag is a byte of the format (document 01: a match on the tag byte), and a node's kind is its tag and 2.
+// Heads and kids are lent as two slices; the line in rows.rt says why.
 ghost use Rattle.terms.specs.Words.Lent.{shown};
 ghost use Rattle.std.specs.Prelude.{Bool, ℕ, ◌≤◌};
 ghost use Rattle.terms.specs.Term.{Term};

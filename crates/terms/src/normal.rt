@@ -1,4 +1,6 @@
 // `normalize` and `with_associated_types`: a term is walked and sized, and then written.
+// Kinds and tags are matched by number: a tag is a byte of the format (document 01: a match on the tag byte), and a node's kind is its tag and 2.
+// Heads and kids are lent as two slices; the line in rows.rt says why.
 ghost use Rattle.std.specs.Prelude.{◌≡◌, ◌+◌, ◌≤◌, ◌<◌, List, length};
 ghost use Rattle.std.proofs.lemmas.List.Edits.{sets};
 ghost use Rattle.terms.specs.Words.VirtualTokens.{Sight};
@@ -15,18 +17,14 @@ use super::runs::word;
 use super::showing::show_tree;
 use super::store::clear_tokens;
 use super::walking::walk;
-use super::{Content, Origin, Ready, Seen, Token, Tokens, Unfinished};
+use super::{Content, Origin, Ready, Seen, Tokens, Unfinished};
 
 // Whether the term at p has a projection.
 fn has_projection(tokens: &Tokens, p: u32) -> bool
     ensures { (t : Term) → Held tokens.now.kinds.now tokens.now.vals.now p t → result ≡ contains_projection t }
 {
     let from = p as usize;
-    let head = Token {
-        kind: word(tokens.kinds, from),
-        value: word(tokens.vals, from),
-    };
-    let end = from + head.step();
+    let end = from + tokens.token(from).step();
     for q in from..end {
         if word(tokens.kinds, q) == 20 {
             return true;
@@ -52,17 +50,7 @@ fn size_up(
         out.old at result }
 {
     let e = show_tree(seen, heads, kids, x, fuel, out, at, false);
-    if out.len() < e {
-        clear_tokens(heads, kids, 0, next);
-        return None;
-    }
-    Some(Ready {
-        head: x.head,
-        kids: x.kids,
-        next,
-        size: e - at,
-        given: seen.given,
-    })
+    fit_up(heads, kids, seen.given, x, next, e - at, out.len() - at)
 }
 
 // Keeps a content of `size` bytes, whose records are `next`, where there is room for them, else clears its records.
@@ -144,12 +132,7 @@ fn span_at(tokens: &Tokens, p: u32, len: usize) -> usize
     ensures bound { result ≤ len }
     ensures span { (t : Term) → Held tokens.now.kinds.now tokens.now.vals.now p t → length (items t) ≤ len → result ≡ length (items t) }
 {
-    let from = p as usize;
-    let head = Token {
-        kind: word(tokens.kinds, from),
-        value: word(tokens.vals, from),
-    };
-    head.step().min(len)
+    tokens.token(p as usize).step().min(len)
 }
 
 // What order 19 looks up by: the places of a bare nominal and of the owner.

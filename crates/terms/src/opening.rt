@@ -1,4 +1,6 @@
 // The children of a content are put into records of their own.
+// Kinds and tags are matched by number: a tag is a byte of the format (document 01: a match on the tag byte), and a node's kind is its tag and 2.
+// Heads and kids are lent as two slices; the line in rows.rt says why.
 ghost use Rattle.terms.specs.Words.Lent.{shown};
 ghost use Rattle.std.specs.Prelude.{◌<◌};
 ghost use Rattle.terms.specs.Words.Arena.{TagAt, OwnAt, RecordRoom, Opens, Prepares};

@@ -1,5 +1,6 @@
 // The questions that look for a term of some kind: one walk over the tokens, told by the question. Linear in the tokens looked at; a Generic
 // of `IsResolvedIn` is looked for among the parameters.
+// Kinds and tags are matched by number: a tag is a byte of the format (document 01: a match on the tag byte), and a node's kind is its tag and 2.
 ghost use Rattle.std.specs.Prelude.{◌≡◌, Bool, List, ℕ, ◌≤◌, ◌<◌, length};
 ghost use Rattle.terms.specs.Parser.{got};
 ghost use Rattle.terms.specs.Term.{Term};
@@ -11,7 +12,7 @@ ghost use Rattle.terms.specs.Words.TermsAtPlaces.{FormedAt, ParametersAt};
 ghost use Rattle.terms.specs.Words.QuestionsContract.{tag_of, word, Asking};
 
 use super::find::find_parameter;
-use super::runs::skip;
+use super::runs::{skip, width_at};
 use super::{Parameter, Question, Tokens, runs};
 
 // The tag of the term whose first token has this kind.
@@ -132,6 +133,6 @@ pub fn ask(tokens: &Tokens, p: usize, question: Question, s: &[u8], at: usize, p
         → Formed t
         → result ≡ asked qs (number_of_question question) t }
 {
-    let n = skip(tokens, p, tokens.kinds.len() - p);
+    let n = width_at(tokens, p);
     ask_row(tokens, p, p + n, question, s, at, params)
 }

@@ -1,5 +1,6 @@
 // `recover_from`: the holes of a term are filled from another, straight to the output. The recursion goes down both terms together, so it is at most
 // as deep as the first has levels; the work is linear in the tokens of both.
+// Kinds and tags are matched by number: a tag is a byte of the format (document 01: a match on the tag byte), and a node's kind is its tag and 2.
 ghost use Rattle.std.specs.Prelude.{◌≡◌, true, false, ◌||◌, ℕ, ◌+◌, ◌-◌, ◌*◌, ◌^◌, ◌≤◌, ◌<◌, eqb, length, [], ◌∷◌};
 ghost use Rattle.terms.specs.Result.{pick};
 ghost use Rattle.terms.specs.Words.QuestionsContract.{word};
@@ -16,7 +17,7 @@ ghost use Rattle.terms.specs.Words.Lent.{Inside, NotEmpty};
 ghost use Rattle.terms.specs.Words.RecoverContract.{Put, upto, alike, Paired, Parted};
 
 use super::questions::{tag_of, word_at};
-use super::runs::{skip, word};
+use super::runs::{skip, width_at, word};
 use super::write::put_run;
 use super::{Part, Tokens};
 
@@ -28,7 +29,7 @@ fn behind_terms(tokens: &Tokens, a: Part, n: u32) -> usize
         → HeldParts tokens.now.kinds.now tokens.now.vals.now a.from a.end ps → Fit (many_terms n s) ps → result ≡ a.from + upto n ps }
 {
     let mut p = a.from;
-    for k in 0..n {
+    for _ in 0..n {
         if a.end <= p {
             return p;
         }
@@ -65,7 +66,7 @@ fn alike_rows(tokens: &Tokens, a: Part, b: Part) -> bool
 {
     let mut x = a;
     let mut y = b;
-    // Both rows go on by the width of their own parts, so no range is counted.
+    // Both rows go on by the width of their own parts. Two zipped walks would not tell, at their end, whether one of the rows goes on.
     while paired(tokens.kinds, x, y) {
         if word(tokens.kinds, x.from) == 0 {
             if word(tokens.vals, x.from) != word(tokens.vals, y.from) {
@@ -249,7 +250,7 @@ fn recover_row(tokens: &Tokens, a: Part, stop: usize, b: Part, out: &mut [u8], a
     };
     let mut y = b;
     let mut to = at;
-    // Both rows go on by the width of their own parts, so no range is counted.
+    // Both rows go on by the width of their own parts. Two zipped walks would not tell, at their end, where the rest stands that is written.
     while paired(tokens.kinds, x, y) {
         if word(tokens.kinds, x.from) == 0 {
             to = put_run(tokens.kinds, tokens.vals, x.from, 1, out, to);
@@ -286,8 +287,8 @@ pub fn recovered_len(tokens: &Tokens, a: usize, b: usize) -> usize
         → Formed u
         → result ≡ length (bytes (recover_from t u)) }
 {
-    let n = skip(tokens, a, tokens.kinds.len() - a);
-    let m = skip(tokens, b, tokens.kinds.len() - b);
+    let n = width_at(tokens, a);
+    let m = width_at(tokens, b);
     let mut none = [0u8; 1];
     recover_term(
         tokens,
@@ -316,8 +317,8 @@ pub fn write_recovered(tokens: &Tokens, a: usize, b: usize, out: &mut [u8], at: 
         → Formed u
         → Put out.old out.new at result (bytes (recover_from t u)) }
 {
-    let n = skip(tokens, a, tokens.kinds.len() - a);
-    let m = skip(tokens, b, tokens.kinds.len() - b);
+    let n = width_at(tokens, a);
+    let m = width_at(tokens, b);
     recover_term(
         tokens,
         Part {

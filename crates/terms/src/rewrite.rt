@@ -1,6 +1,7 @@
 // A term is written with its binders replaced. The replaced terms are written as they stand, straight from the areas: nothing is built, and an
 // inserted term is not looked into. Each Generic and each SelfType costs a search through the rows and the parameters; all else is linear in the
 // tokens read and the bytes written.
+// Kinds and tags are matched by number: a tag is a byte of the format (document 01: a match on the tag byte), and a node's kind is its tag and 2.
 ghost use Rattle.std.specs.Prelude.{◌≡◌, ◌+◌, ◌-◌, ◌≤◌, ◌<◌, length};
 ghost use Rattle.std.proofs.lemmas.List.Edits.{sets};
 ghost use Rattle.terms.specs.Result.{pick};
@@ -10,7 +11,7 @@ ghost use Rattle.terms.specs.Words.RewriteContract.{by, index, generic, in_conte
 ghost use Rattle.terms.specs.Words.RewriteContract.{Writes, Rewrites};
 
 use super::find::{find_entry, find_parameter, find_receiver, nth_term};
-use super::runs::{skip, word};
+use super::runs::{skip, width_at, word};
 use super::write::{run_len, write_run};
 use super::{Binders, Choice, Parameter, Tokens};
 
@@ -125,7 +126,7 @@ fn emit(tokens: &Tokens, c: Choice, p: usize, out: &mut [u8], i: usize, on: bool
     match c {
         Choice::Keep => emit_run(tokens, p, 1, out, i, on),
         Choice::By(q) => {
-            let n = skip(tokens, q, tokens.kinds.len() - q);
+            let n = width_at(tokens, q);
             emit_run(tokens, q, n, out, i, on)
         }
         Choice::Unknown => {
@@ -173,7 +174,7 @@ pub fn rewrite_run(
     let end = from + count;
     let mut i = at;
     let mut p = from;
-    // A step is as wide as what stands there, so no range is counted.
+    // A step is one token, or a term where that is replaced: what is gone through is a run of tokens, no row of one term, and no range is counted.
     while p < end {
         let c = replaced_at(tokens, s, b, p);
         i = emit(tokens, c, p, out, i, on);
@@ -198,6 +199,6 @@ pub fn write_term(
     ensures words { Writes on out.old at result out.new (written tokens.now.kinds.now tokens.now.vals.now s.now b from) }
     ensures trees { Rewrites tokens.now.kinds.now tokens.now.vals.now s.now b from (Writes on out.old at result out.new) }
 {
-    let n = skip(tokens, from, tokens.kinds.len() - from);
+    let n = width_at(tokens, from);
     rewrite_run(tokens, s, b, from, n, out, at, on)
 }

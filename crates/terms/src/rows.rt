@@ -1,4 +1,5 @@
 // The row of a node by place: its numbers, its members' keys, its children.
+// Kinds and tags are matched by number: a tag is a byte of the format (document 01: a match on the tag byte), and a node's kind is its tag and 2.
 ghost use Rattle.terms.specs.Words.Lent.{shown};
 ghost use Rattle.std.specs.Prelude.{◌≡◌, Bool, ℕ, ◌-◌, ◌<◌, get_or};
 ghost use Rattle.std.specs.Iterator.{at_most};
@@ -14,7 +15,7 @@ use super::virtual_tokens::token_at;
 use super::{Content, Origin, Part, RowWalk, Seen, Token};
 
 // A place past all tokens.
-const NOWHERE: usize = 4294967295;
+pub const NOWHERE: usize = 4294967295;
 
 // The row of the term whose first token stands at h.
 #[inline(always)]
@@ -23,13 +24,10 @@ pub fn row_of(seen: &Seen, h: u32) -> Part
 {
     let p = h as usize;
     let end = p + token_at(seen, p).step();
-    if NOWHERE < end {
-        return Part {
-            from: p + 1,
-            end: NOWHERE,
-        };
+    Part {
+        from: p + 1,
+        end: end.min(NOWHERE),
     }
-    Part { from: p + 1, end }
 }
 
 impl<'a> Iterator for RowWalk<'a> {
@@ -68,19 +66,19 @@ pub fn walk_row<'a>(seen: &Seen<'a>, h: u32) -> RowWalk<'a>
 }
 
 // Where the i-th number of the row stands.
-pub fn number_place(seen: &Seen, h: u32, i: usize) -> usize
+pub fn number_place(seen: &Seen, h: u32, i: usize) -> Option<usize>
     ensures { NumberAt (shown seen.now) h i result }
 {
     let mut left = i;
     for (q, x) in walk_row(seen, h) {
         if x.kind == 0 {
             if left == 0 {
-                return q;
+                return Some(q);
             }
             left -= 1;
         }
     }
-    NOWHERE
+    None
 }
 
 // The i-th number of the row, 0 where it has not so many.
@@ -88,9 +86,10 @@ pub fn number_at(seen: &Seen, h: u32, i: usize) -> usize
     ensures small { result < 4294967296 }
     ensures value { ValueAt (shown seen.now) h i result }
 {
-    let p = number_place(seen, h, i);
-    let x = token_at(seen, p);
-    x.value as usize
+    match number_place(seen, h, i) {
+        Some(p) => token_at(seen, p).value as usize,
+        None => 0,
+    }
 }
 
 // Which number from the third on is x, counted from there.

@@ -29,16 +29,11 @@ fn has_member(rule: Rule, member: u32) -> bool
     rule.member == member
 }
 
-// How many rules come before the first that has the member; all of them, if none has.
-fn first_with(rules: &[Rule], member: u32) -> usize
+// The index of the first rule that has the member.
+fn first_with(rules: &[Rule], member: u32) -> Option<usize>
     ensures { result ≡ first_with rules.now member }
 {
-    for (i, rule) in rules.iter().enumerate() {
-        if has_member(*rule, member) {
-            return i;
-        }
-    }
-    rules.len()
+    rules.iter().position(|rule| has_member(*rule, member))
 }
 
 // Four rules from the r-th on; past the last, words are 0.
@@ -54,8 +49,8 @@ fn rules_from(rules: &[u32], r: usize) -> [Rule; 4]
     ]
 }
 
-// How many of the four rules come before the first that has the member; 4, if none has. Lends the list.
-fn passed_from(rules: &[u32], r: usize, member: u32) -> usize
+// The index, among four rules, of the first that has the member. Lends the list.
+fn passed_from(rules: &[u32], r: usize, member: u32) -> Option<usize>
     requires { r < 4294967292 }
     ensures { result ≡ first_with (rules_from rules.now r) member }
 {
@@ -63,20 +58,18 @@ fn passed_from(rules: &[u32], r: usize, member: u32) -> usize
     first_with(&list, member)
 }
 
-// The first rule from a number on that has the member; past the last, if none has.
-pub fn next_rule(rules: &[u32], from: usize, member: u32) -> usize
+// The first rule from a number on that has the member.
+pub fn next_rule(rules: &[u32], from: usize, member: u32) -> Option<usize>
     requires { length rules.now < 4294967296 }
     ensures { NextWith rules.now from member result }
 {
     let count = rules.len() / 6;
-    let mut r = from;
-    // Four rules are looked at at a time, and it stops in the middle of them.
-    while r < count {
-        let n = passed_from(rules, r, member);
-        r += n;
-        if n < 4 {
-            return r;
+    for r in (from..count).step_by(4) {
+        if let Some(n) = passed_from(rules, r, member) {
+            if r + n < count {
+                return Some(r + n);
+            }
         }
     }
-    r
+    None
 }

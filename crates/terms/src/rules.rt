@@ -1,4 +1,6 @@
 // The rules of order 20.
+// Kinds and tags are matched by number: a tag is a byte of the format (document 01: a match on the tag byte), and a node's kind is its tag and 2.
+// Heads and kids are lent as two slices; the line in rows.rt says why.
 ghost use Rattle.terms.specs.Words.Lent.{shown};
 ghost use Rattle.std.specs.Prelude.{◌≡◌, Bool, true, false, List, ℕ, ◌+◌, ◌*◌, ◌≤◌, ◌<◌, length, get_or};
 ghost use Rattle.terms.specs.Term.{Term, depths};
@@ -8,12 +10,10 @@ ghost use Rattle.terms.specs.Words.Arena.{Tree, Cut, Fetched};
 ghost use Rattle.terms.specs.Words.RulesContract.{TermStarts, Numbers, Fronted, MemberIn};
 
 use super::alike::{cursor, moved, same_rows};
+use super::rows::NOWHERE;
 use super::rule_list::{next_rule, rule_at};
 use super::virtual_tokens::token_at;
 use super::{Content, Cursor, Origin, RowWalk, Rule, Seen};
-
-// A place past all tokens.
-const NOWHERE: usize = 4294967295;
 
 // A term as it stands in the source.
 pub fn source(p: u32) -> Content
@@ -28,17 +28,9 @@ fn term_cursor(seen: &Seen, p: usize) -> Cursor
     ensures { TermStarts (shown seen.now) p result }
 {
     let end = p + token_at(seen, p).step();
-    if NOWHERE < end {
-        return Cursor {
-            at: p,
-            end: NOWHERE,
-            child: 0,
-            kids: 0,
-        };
-    }
     Cursor {
         at: p,
-        end,
+        end: end.min(NOWHERE),
         child: 0,
         kids: 0,
     }
@@ -140,14 +132,10 @@ pub fn find_rule(
 {
     let s = cursor(seen, x);
     let member = member_in(seen, s);
-    let count = rules.len() / 6;
     let mut r = 0;
     // Rules are skipped to the next with the member, and arguments are as wide as they say; both are left at the match (document 01).
     'rules: loop {
-        r = next_rule(rules, r, member);
-        if count <= r {
-            return None;
-        }
+        r = next_rule(rules, r, member)?;
         let rule = rule_at(rules, r);
         let mut m = same_front(seen, heads, kids, s, rule, fuel);
         let mut a = rule.arguments as usize;

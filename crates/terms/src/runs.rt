@@ -1,5 +1,6 @@
 // Runs of tokens: how long a term is, and whether two are the same.
-ghost use Rattle.std.specs.Prelude.{◌≡◌, true, false, ◌+◌, ◌≤◌, ◌<◌, length, get_or};
+// Kinds and tags are matched by number: a tag is a byte of the format (document 01: a match on the tag byte), and a node's kind is its tag and 2.
+ghost use Rattle.std.specs.Prelude.{◌≡◌, true, false, ◌+◌, ◌-◌, ◌≤◌, ◌<◌, length, get_or};
 ghost use Rattle.terms.specs.Words.Tokens.{toks};
 ghost use Rattle.terms.specs.Term.{Term};
 ghost use Rattle.terms.specs.Words.Held.{Held, span};
@@ -17,6 +18,20 @@ pub fn word(words: &[u32], i: usize) -> u32
         return words[i];
     }
     0
+}
+
+impl<'a> Tokens<'a> {
+    // The token at i, a number 0 past the end.
+    #[inline(always)]
+    pub fn token(&self, i: usize) -> Token
+        ensures kind { result.kind ≡ get_or self.now.kinds.now i 0 }
+        ensures value { result.value ≡ get_or self.now.vals.now i 0 }
+    {
+        Token {
+            kind: word(self.kinds, i),
+            value: word(self.vals, i),
+        }
+    }
 }
 
 impl Token {
@@ -58,6 +73,19 @@ pub fn skip(tokens: &Tokens, i: usize, room: usize) -> usize
     head.span().clamp(1, room)
 }
 
+// How many tokens the term at i has, at least 1 and at most as many as there are from i on.
+#[inline(always)]
+pub fn width_at(tokens: &Tokens, i: usize) -> usize
+    requires { i < length tokens.now.kinds.now }
+    ensures some { (1 ≤ result) × (result ≤ length tokens.now.kinds.now - i) }
+    ensures span { 1 ≤ span (get_or tokens.now.kinds.now i 0) (get_or tokens.now.vals.now i 0)
+        → span (get_or tokens.now.kinds.now i 0) (get_or tokens.now.vals.now i 0) ≤ length tokens.now.kinds.now - i
+        → result ≡ span (get_or tokens.now.kinds.now i 0) (get_or tokens.now.vals.now i 0) }
+    ensures is { result ≡ stride tokens.now.kinds.now tokens.now.vals.now i (length tokens.now.kinds.now - i) }
+{
+    skip(tokens, i, tokens.kinds.len() - i)
+}
+
 // Whether the two runs of `count` tokens are the same, token by token.
 pub fn same_run(kinds: &[u32], vals: &[u32], a: usize, b: usize, count: usize) -> bool
     requires first { (a + count ≤ length kinds.now) × (a + count ≤ length vals.now) }
@@ -81,8 +109,8 @@ pub fn same_term(tokens: &Tokens, a: usize, b: usize) -> bool
     requires { (a < length tokens.now.kinds.now) × (b < length tokens.now.kinds.now) }
     ensures { (t u : Term) → Held tokens.now.kinds.now tokens.now.vals.now a t → Held tokens.now.kinds.now tokens.now.vals.now b u → result ≡ same t u }
 {
-    let n = skip(tokens, a, tokens.kinds.len() - a);
-    let m = skip(tokens, b, tokens.kinds.len() - b);
+    let n = width_at(tokens, a);
+    let m = width_at(tokens, b);
     if n != m {
         return false;
     }

@@ -1,6 +1,7 @@
 // What a bound satisfies, on the tokens of bare nominals. Each required member is looked for among the given ones, and the tokens of two terms are
 // compared: at most as many steps as members required times members given, and the tokens compared. `satisfies_for` does the same once more for the
 // interface of each projection that is not given.
+// Kinds and tags are matched by number: a tag is a byte of the format (document 01: a match on the tag byte), and a node's kind is its tag and 2.
 ghost use Rattle.std.specs.Prelude.{◌≡◌, Bool, List, ℕ, ◌+◌, ◌≤◌, ◌<◌, length};
 ghost use Rattle.std.proofs.Math.Option.{Option};
 ghost use Rattle.terms.specs.Term.{Term, Parts, node, items};
@@ -14,7 +15,7 @@ ghost use Rattle.terms.specs.Words.SatisfyContract.{Laid, Listed, Lists, Near, A
 ghost use Rattle.terms.specs.Words.SatisfyContract.{Satisfied, covers};
 
 use super::Tokens;
-use super::runs::{same_term, skip, word};
+use super::runs::{same_term, width_at, word};
 
 // The place after the term at i.
 fn behind(tokens: &Tokens, i: usize) -> usize
@@ -22,7 +23,7 @@ fn behind(tokens: &Tokens, i: usize) -> usize
     ensures forward { (i < result) × (result ≤ length tokens.now.kinds.now) }
     ensures passed { (t : Term) → Held tokens.now.kinds.now tokens.now.vals.now i t → result ≡ i + length (items t) }
 {
-    i + skip(tokens, i, tokens.kinds.len() - i)
+    i + width_at(tokens, i)
 }
 
 // The place of the term of a member, among `count` pairs of a member and a term from p on.
@@ -34,7 +35,7 @@ fn member_at(tokens: &Tokens, p: usize, count: usize, member: u32) -> Option<usi
         → Looked tokens.now.kinds.now tokens.now.vals.now whole result }
 {
     let mut i = p;
-    for k in 0..count {
+    for _ in 0..count {
         if tokens.kinds.len() <= i + 1 {
             return None;
         }
@@ -95,7 +96,7 @@ fn same_terms(tokens: &Tokens, a: usize, b: usize, count: usize) -> Option<(usiz
 {
     let mut i = a;
     let mut j = b;
-    for k in 0..count {
+    for _ in 0..count {
         if tokens.kinds.len() <= i {
             return None;
         }

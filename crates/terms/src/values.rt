@@ -1,8 +1,9 @@
 // Codes and numbers, which are stored as tokens of kind 0, and variables, of kind 1. The place that is lent goes on after what was read; on a refusal
 // it stays.
-ghost use Rattle.std.specs.Prelude.{◌≡◌, ◌+◌, ◌≤◌, ◌<◌, ◌^◌, length};
+// Kinds and values that are written are lent as two slices; the lines at the head of store.rt say why.
+ghost use Rattle.std.specs.Prelude.{◌≡◌, ◌+◌, ◌≤◌, ◌<◌, ◌^◌, leb, length};
 ghost use Rattle.terms.specs.Result.{said};
-ghost use Rattle.terms.specs.Words.Tokens.{area};
+ghost use Rattle.terms.specs.Words.Tokens.{area, put_if};
 ghost use Rattle.terms.specs.Reading.{code, rising, variable};
 ghost use Rattle.terms.specs.Words.RowPieces.{coded, numbered, fields};
 ghost use Rattle.terms.specs.Words.ReadContract.{Within, Room, ValueDone, TermDone, PartsDone};
@@ -47,6 +48,34 @@ fn number_at(s: &[u8], at: usize, most: u64, least: u64) -> Result<(u64, usize),
     Ok((v, next))
 }
 
+// Stores a number, which was read, as a token of the kind; reading goes on at `next`.
+#[inline(always)]
+fn keep_number(
+    kinds: &mut [u32],
+    vals: &mut [u32],
+    place: &mut Place,
+    kind: u32,
+    v: u64,
+    next: usize,
+)
+    requires narrow { v < 2 ^ 32 }
+    requires room { place.old.top + 1 < 2 ^ 64 }
+    ensures place { place.new ≡ record place.old { at = next; top = place.old.top + 1 } }
+    ensures areas { area kinds.new vals.new
+        ≡ put_if (leb place.old.nodes place.old.limit) (area kinds.old vals.old) place.old.top kind v }
+{
+    put_token(
+        kinds,
+        vals,
+        place.nodes <= place.limit,
+        place.top,
+        kind,
+        v as u32,
+    );
+    place.at = next;
+    place.top += 1;
+}
+
 // Reads a number of `least` to `most` and stores it.
 #[inline(always)]
 pub fn read_value(
@@ -63,16 +92,7 @@ pub fn read_value(
         (area kinds.old vals.old) (area kinds.new vals.new) (value_of result place.new) }
 {
     let (v, next) = number_at(s, place.at, most, least)?;
-    put_token(
-        kinds,
-        vals,
-        place.nodes <= place.limit,
-        place.top,
-        0,
-        v as u32,
-    );
-    place.at = next;
-    place.top += 1;
+    keep_number(kinds, vals, place, 0, v, next);
     Ok(v)
 }
 
@@ -93,16 +113,7 @@ fn read_code(
         return Ok(());
     }
     let (v, next) = code_at(s, place.at, codes)?;
-    put_token(
-        kinds,
-        vals,
-        place.nodes <= place.limit,
-        place.top,
-        0,
-        v as u32,
-    );
-    place.at = next;
-    place.top += 1;
+    keep_number(kinds, vals, place, 0, v, next);
     Ok(())
 }
 
@@ -163,15 +174,6 @@ pub fn read_variable(
         return Err(Refusal::Variable);
     }
     place.nodes += 1;
-    put_token(
-        kinds,
-        vals,
-        place.nodes <= place.limit,
-        place.top,
-        1,
-        v as u32,
-    );
-    place.at = next;
-    place.top += 1;
+    keep_number(kinds, vals, place, 1, v, next);
     Ok(())
 }

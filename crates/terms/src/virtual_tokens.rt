@@ -3,7 +3,6 @@ ghost use Rattle.terms.specs.Words.Lent.{shown};
 ghost use Rattle.std.specs.Prelude.{◌≡◌, ◌+◌, ◌≤◌, ◌<◌, get_or};
 ghost use Rattle.terms.specs.Words.VirtualTokens.{copied, Located};
 
-use super::runs::word;
 use super::{Origin, Seen, Spot, Token};
 
 // Which lent token stands r-th after the head of the projection for the token t.
@@ -59,10 +58,7 @@ fn located_token(seen: &Seen, q: usize) -> Token
 {
     let s = locate(seen.given, seen.tokens.kinds.len(), q);
     match s {
-        Spot::Lent(p) => Token {
-            kind: word(seen.tokens.kinds, p),
-            value: word(seen.tokens.vals, p),
-        },
+        Spot::Lent(p) => seen.tokens.token(p),
         Spot::Error => Token { kind: 5, value: 1 },
         Spot::Head => Token {
             kind: 20,

@@ -1,6 +1,8 @@
 // `walk` of `normalize`: every term is visited, and projections are replaced.
+// Kinds and tags are matched by number: a tag is a byte of the format (document 01: a match on the tag byte), and a node's kind is its tag and 2.
+// Heads and kids are lent as two slices; the line in rows.rt says why.
 ghost use Rattle.terms.specs.Words.Lent.{shown};
-ghost use Rattle.std.specs.Prelude.{◌≡◌, Bool, Some, None, ℕ, ◌+◌, ◌-◌, ◌≤◌, ◌<◌, length, get_or};
+ghost use Rattle.std.specs.Prelude.{◌≡◌, Bool, Some, None, ℕ, ◌+◌, ◌-◌, ◌≤◌, ◌<◌, length, get_or, IfSome};
 ghost use Rattle.terms.specs.Term.{Term, depth, bytes, Held};
 ghost use Rattle.terms.specs.Normal.{replacement};
 ghost use Rattle.terms.specs.Lookup.{Look, look_by, Looks};
@@ -13,10 +15,9 @@ use super::interface::by_interface;
 use super::members::own_member;
 use super::opening::{begin, own_len};
 use super::rules::find_rule;
-use super::runs::word;
 use super::slots::slot;
 use super::write::run_len;
-use super::{Content, Origin, Seen, Token, Tokens, Walked};
+use super::{Content, Origin, Seen, Tokens, Walked};
 
 // What a projection with the counts n and m is replaced by; its children have at most `fuel` levels.
 fn replace(
@@ -89,49 +90,42 @@ fn kept(
 fn first_of_node(kind: u32) -> usize
     ensures { result ≡ node_first kind }
 {
-    if kind == 0 {
-        return 0;
-    }
-    1
+    usize::from(kind != 0)
 }
 
 // Contents of more tokens are not tried.
 const TRIED: usize = 24;
 
-// How many nodes a content has that the walk leaves as it is: as in the source, of lent tokens alone, without a projection. 0 where it is another content,
-// or has more than `most` nodes, or too many tokens to be tried.
-fn fixed_nodes(tokens: &Tokens, x: Content, most: usize) -> usize
-    ensures few { (result ≤ most) × (result < 4294967296) }
-    ensures fixed { 0 < result → Fixed tokens.now.kinds.now tokens.now.vals.now x result }
+// How many nodes a content has that the walk leaves as it is: as in the source, of lent tokens alone, without a projection. None where it is another
+// content, or has more than `most` nodes, or too many tokens to be tried.
+fn fixed_nodes(tokens: &Tokens, x: Content, most: usize) -> Option<usize>
+    ensures few { IfSome result (λ r. (0 < r) × (r ≤ most) × (r < 4294967296)) }
+    ensures fixed { IfSome result (λ r. Fixed tokens.now.kinds.now tokens.now.vals.now x r) }
 {
     if x.kids != 0 {
-        return 0;
+        return None;
     }
     let from = x.head as usize;
-    let head = Token {
-        kind: word(tokens.kinds, from),
-        value: word(tokens.vals, from),
-    };
-    let span = head.step();
+    let span = tokens.token(from).step();
     if TRIED < span {
-        return 0;
+        return None;
     }
     let end = from + span;
     if tokens.kinds.len() < end {
-        return 0;
+        return None;
     }
     let mut n = 0;
     for q in from..end {
         let k = tokens.kinds[q];
         if k == 20 {
-            return 0;
+            return None;
         }
         n += first_of_node(k);
     }
     if most < n {
-        return 0;
+        return None;
     }
-    n
+    (0 < n).then_some(n)
 }
 
 // How many bytes a content has that the walk leaves as it is.
@@ -142,11 +136,7 @@ fn fixed_len(tokens: &Tokens, x: Content) -> usize
     ensures bytes { (t : Term) → Held tokens.now.kinds.now tokens.now.vals.now x.head t → result ≡ length (bytes t) }
 {
     let from = x.head as usize;
-    let head = Token {
-        kind: word(tokens.kinds, from),
-        value: word(tokens.vals, from),
-    };
-    run_len(tokens.kinds, tokens.vals, from, head.span())
+    run_len(tokens.kinds, tokens.vals, from, tokens.token(from).span())
 }
 
 // Visits the content x, with `levels` levels and `visits` visits left. The records of the result stand from `next` on, at most `most` in all.
@@ -179,8 +169,7 @@ pub fn walk(
     if visits == 0 {
         return Some(result(error, next, visits, 1));
     }
-    let same = fixed_nodes(&seen.tokens, x, levels.min(visits));
-    if 0 < same {
+    if let Some(same) = fixed_nodes(&seen.tokens, x, levels.min(visits)) {
         let size = fixed_len(&seen.tokens, x);
         return kept(x, same, size, next, visits, most);
     }

@@ -1,4 +1,5 @@
 // Tokens are written as they stand: sized first, then written.
+// Kinds and tags are matched by number: a tag is a byte of the format (document 01: a match on the tag byte), and a node's kind is its tag and 2.
 ghost use Rattle.std.specs.Prelude.{◌≡◌, ◌+◌, ◌*◌, ◌^◌, ◌≤◌, ◌<◌, length};
 ghost use Rattle.std.proofs.lemmas.List.Edits.{sets};
 ghost use Rattle.terms.specs.Words.TokenBytes.{plain, spelt};
@@ -11,10 +12,10 @@ pub fn token_len(k: u32, v: u32) -> usize
     ensures { result ≡ length (plain k v) }
 {
     if k == 0 {
-        return number_len(v as u64);
+        return number_len(u64::from(v));
     }
     if k == 1 {
-        return number_len(v as u64) + 1;
+        return number_len(u64::from(v)) + 1;
     }
     1
 }
@@ -26,11 +27,11 @@ pub fn write_token(out: &mut [u8], at: usize, k: u32, v: u32) -> usize
     ensures wrote { out.new ≡ sets out.old at (plain k v) }
 {
     if k == 0 {
-        return write_number(out, at, v as u64);
+        return write_number(out, at, u64::from(v));
     }
     if k == 1 {
         out[at] = 1;
-        return write_number(out, at + 1, v as u64);
+        return write_number(out, at + 1, u64::from(v));
     }
     out[at] = ((k - 2) % 256) as u8;
     at + 1

@@ -7,7 +7,6 @@
 --   OpenLaws          the children of a content put into records, one after the other
 --   MemberLaws        a member looked up by its place, and a projection's own member by cases
 --   AlikeLaws         two rows read in step
---   RuleListLaws      the scan of a list of rules, and of four rules at a time
 --   RuleLaws          the search of a rule
 --   InterfaceLaws     order 19
 --   DepthLaws         a result has at most one level more than the levels that its visit was given
@@ -29,7 +28,6 @@ pub mod SlotLaws
 pub mod OpenLaws
 pub mod MemberLaws
 pub mod AlikeLaws
-pub mod RuleListLaws
 pub mod RuleLaws
 pub mod InterfaceLaws
 pub mod DepthLaws

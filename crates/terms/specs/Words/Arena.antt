@@ -58,10 +58,15 @@ pub record RowAt (a : Area) (h from e : ℕ) : Type 0 where
   pub small : e < 4294967296
   pub is : (hs cs : List ℕ) (S : ℕ → Bool) (c : ℕ) (t : Term) → Tree a hs cs S h c t → Parted a hs cs S c e from 0 (row t)
 
--- the i-th number of the row of the term at h stands at p, or p is past all tokens and there are not so many
-pub record NumberAt (a : Area) (h i p : ℕ) : Type 0 where
+-- the i-th number of the row of the term at h stands at p
+pub record NumberHere (a : Area) (h i p : ℕ) : Type 0 where
   pub kind : get_or a.kinds p 0 ≡ 0
   pub is : (hs cs : List ℕ) (S : ℕ → Bool) (c : ℕ) (t : Term) → Tree a hs cs S h c t → get_or a.vals p 0 ≡ get_or (nums (row t)) i 0
+
+-- it stands at the place that is found; where none is, there are not so many, and it is taken for 0
+abbrev pub NumberAt : (a : Area) (h i : ℕ) → Option ℕ → Type 0
+NumberAt a h i (Some p) = NumberHere a h i p
+NumberAt a h i None = (hs cs : List ℕ) (S : ℕ → Bool) (c : ℕ) (t : Term) → Tree a hs cs S h c t → get_or (nums (row t)) i 0 ≡ 0
 
 pub record ValueAt (a : Area) (h i r : ℕ) : Type 0 where
   pub is : (hs cs : List ℕ) (S : ℕ → Bool) (c : ℕ) (t : Term) → Tree a hs cs S h c t → r ≡ get_or (nums (row t)) i 0

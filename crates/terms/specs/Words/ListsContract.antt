@@ -1,5 +1,5 @@
 -- What the term reader does in a list of an order: it goes on from record to record, and the list is kept as its row, or nothing of it.
-use Rattle.std.specs.Prelude.{◌≡◌, List, ℕ}
+use Rattle.std.specs.Prelude.{◌≡◌, Bool, true, false, List, ℕ}
 use Rattle.terms.specs.declared.Listing.{Listing}
 use Rattle.terms.specs.declared.Listing.TheVariants.{Arguments, Receivers, Entries}
 use Rattle.terms.specs.declared.Place.{Place}
@@ -11,12 +11,23 @@ use Rattle.terms.specs.Reading.{term}
 use Rattle.terms.specs.Words.ReadContract.{Step}
 use Rattle.terms.specs.Rows.{keys, single, records, entries, receivers, arguments, entry_row, receiver_row, argument_row, answer_of, kept_of}
 
+-- whether an owner and a position come before the terms of a list
+abbrev pub owned : Listing → Bool
+owned Arguments = false
+owned Receivers = true
+owned Entries = true
+
+abbrev pub placed : Listing → Bool
+placed Arguments = false
+placed Receivers = false
+placed Entries = true
+
 -- what the definition finds at a position: one record, and n of them
 abbrev pub one_at : List ℕ → RecordRequest → ℕ → Result Parts
-one_at s w at = single s (term s w.issued w.levels) (keys w.first w.second) at
+one_at s w at = single s (term s w.issued w.levels) (keys (owned w.listing) (placed w.listing)) at
 
 abbrev pub list_at : List ℕ → RecordRequest → (n at : ℕ) → Result Parts
-list_at s w n at = records s (term s w.issued w.levels) (keys w.first w.second) n at
+list_at s w n at = records s (term s w.issued w.levels) (keys (owned w.listing) (placed w.listing)) n at
 
 -- a list, whose row is kept: the areas are d before and e after
 pub record RowKept {A : Type 0} (row : A → Parts) (found : Result A) (s : List ℕ) (p : Place) (d e : Area) (r : Step) : Type 0 where

@@ -275,15 +275,6 @@ mutual
   sizes_nodes (num n ps) = sizes_nodes ps ∙ omega arith
   sizes_nodes (sub t ps) = omega (arith, size_nodes t, sizes_nodes ps, nodes_append (items t) (part_items ps))
 
-pub node_number : (k : ℕ) → k ≡ 0 → 0 ≡ node_first k
-unfolding node_first
-node_number k e = rw e
-
-pub node_other : (k : ℕ) → (k ≡ 0 → ⊥) → 1 ≡ node_first k
-unfolding node_first
-node_other zero e = absurd (e refl)
-node_other (suc k) e = refl
-
 node_few : (k : ℕ) → node_first k ≤ 1
 unfolding node_first
 node_few zero = omega arith

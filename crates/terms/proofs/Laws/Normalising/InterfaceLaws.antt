@@ -7,8 +7,11 @@ use Prim.Native.Nat.{ℕ, zero, suc, ◌+◌, ◌-◌, ◌*◌, ◌/◌, ◌%◌
 use native.Mathlib.Nat.{mul-add-div_right, mul-add-mod_self_right, mod-eq_of_lt, div-eq_of_lt, mul-le-mul_right, suc-mul}
 use native.Mathlib.Numerals.{add-one}
 use native.Mathlib.Omega.{arith}
-use borrow.Author.Tests.{eq-eqb, ne_eqb}
-use lib.Dec.{eqb}
+use borrow.Author.Tests.{eq-eqb, ne_eqb, lt-ltb, le-ltb}
+use lib.Dec.{eqb, ltb}
+use native.Mathlib.Decide.{dec_lt}
+use Rattle.std.specs.Bool.{then_some}
+use Rattle.std.specs.Prelude.{unwrap_or}
 use lib.ListN.{length, get_or, length-append, get_or-eq_default, get_elem?}
 use Rattle.terms.specs.declared.Origin.{Origin}
 use Rattle.terms.specs.declared.Spot.{Spot}
@@ -36,24 +39,29 @@ module _ (ks vs : List ℕ) (g : Origin) (s : Sight ks vs g) (p : ℕ) where
   word_of : (sp : Spot) → Located g (length ks) p sp → (get_or (view ks vs g).kinds p 0 ≡ word_at ks 5 20 sp) × (get_or (view ks vs g).vals p 0 ≡ word_at vs 1 g.size sp)
   word_of sp l = (spot_word ks g 5 20 (length ks) p sp l refl, spot_word vs g 1 g.size (length ks) p sp l s.pairs)
 
-  pub lent_here : (q : ℕ) → Located g (length ks) p (Lent q) → q < length ks → LentAt ks vs g p q
-  lent_here q l lt = let w = word_of (Lent q) l in record { within = omega arith; same = λ z. (sym w.0 ∙ z, sym w.1) }
-
   -- past the lent tokens every word is 0
   past : (i : ℕ) → length ks ≤ i → (get_or ks i 0 ≡ 0) × (get_or vs i 0 ≡ 0)
   past i le = (get_or-eq_default ks 0 le, get_or-eq_default vs 0 (omega (arith, s.pairs)))
 
-  pub lent_past : (q : ℕ) → Located g (length ks) p (Lent q) → length ks ≤ q → LentAt ks vs g p (length ks)
-  lent_past q l le = let w = word_of (Lent q) l in record { within = omega arith; same = λ z. ((past (length ks) (omega arith)).0, (past (length ks) (omega arith)).1 ∙ sym (w.1 ∙ (past q le).1)) }
+  pub lent_here : (q : ℕ) → Located g (length ks) p (Lent q) → LentAt ks vs g p (unwrap_or (then_some (ltb q (length ks)) q) (length ks))
+  lent_here q l = go (dec_lt q (length ks))
+    where
+      w : (get_or (view ks vs g).kinds p 0 ≡ word_at ks 5 20 (Lent q)) × (get_or (view ks vs g).vals p 0 ≡ word_at vs 1 g.size (Lent q))
+      w = word_of (Lent q) l
 
-  pub lent_nowhere : Located g (length ks) p Nowhere → LentAt ks vs g p (length ks)
-  lent_nowhere l = let w = word_of Nowhere l in record { within = omega arith; same = λ z. ((past (length ks) (omega arith)).0, (past (length ks) (omega arith)).1 ∙ sym w.1) }
+      go : Dec (q < length ks) → LentAt ks vs g p (unwrap_or (then_some (ltb q (length ks)) q) (length ks))
+      go (yes lt) = rw (lt-ltb q (length ks) lt) (record { within = omega arith; same = λ z. (sym w.0 ∙ z, sym w.1) })
+      go (no le) = rw (le-ltb q (length ks) (omega arith)) (record {
+        within = omega arith;
+        same = λ z. ((past (length ks) (omega arith)).0, (past (length ks) (omega arith)).1 ∙ sym (w.1 ∙ (past q (omega arith)).1));
+      })
 
-  pub lent_error : Located g (length ks) p Error → LentAt ks vs g p (length ks)
-  lent_error l = let w = word_of Error l in record { within = omega arith; same = λ z. absurd (omega (arith, w.0)) }
-
-  pub lent_head : Located g (length ks) p Head → LentAt ks vs g p (length ks)
-  lent_head l = let w = word_of Head l in record { within = omega arith; same = λ z. absurd (omega (arith, w.0)) }
+  -- what is not lent has no lent token's value
+  pub lent_none : (sp : Spot) → ((q : ℕ) → sp ≡ Lent q → ⊥) → Located g (length ks) p sp → LentAt ks vs g p (length ks)
+  lent_none (Lent q) n l = absurd (n q refl)
+  lent_none Error n l = let w = word_of Error l in record { within = omega arith; same = λ z. absurd (omega (arith, w.0)) }
+  lent_none Head n l = let w = word_of Head l in record { within = omega arith; same = λ z. absurd (omega (arith, w.0)) }
+  lent_none Nowhere n l = let w = word_of Nowhere l in record { within = omega arith; same = λ z. ((past (length ks) (omega arith)).0, (past (length ks) (omega arith)).1 ∙ sym w.1) }
 
 -- ---- the projection for the token t
 

@@ -3,7 +3,7 @@ use mathlib.Core.Path.{◌≡◌, refl, sym, ap, ap₂, ◌∙◌}
 use mathlib.Core.Bool.{Bool, true, false}
 use mathlib.Core.List.{List, [], ◌∷◌}
 use mathlib.Core.Option.{none, some}
-use Prim.Native.Nat.{ℕ, zero, suc, ◌+◌, ◌-◌, ◌≤◌, ◌<◌}
+use Prim.Native.Nat.{ℕ, zero, suc, ◌+◌, ◌-◌, ◌≤◌, ◌<◌, min}
 use native.Mathlib.Omega.{arith}
 use lib.ListN.{length, get_or}
 use Rattle.terms.specs.Words.Tokens.{Area}
@@ -17,10 +17,9 @@ use Rattle.terms.specs.declared.Content.{Content}
 use Rattle.terms.specs.Result.{pick}
 use Rattle.terms.specs.Words.VirtualTokens.{view, Sight}
 use Rattle.terms.specs.Lookup.{Pattern, front, left, by_patterns, rule_at, rule_count, HeldRule, Ruled}
-use Rattle.terms.specs.Words.RuleListContract.{NextWith}
+use Rattle.terms.specs.Words.RuleListContract.{NoneFrom}
 use Rattle.terms.specs.Words.Arena.{Tree, Parted, over, number, child, From, further, Begins, Starts}
 use Rattle.terms.specs.Words.RulesContract.{TermStarts, Numbers, Fronted, last_but_one, MemberIn}
-use Rattle.terms.proofs.Laws.Normalising.RuleListLaws.{NoneFrom}
 use Rattle.terms.proofs.Laws.Held.HeldLaws.{kind_some, items_some, held_sub}
 use Rattle.terms.proofs.Laws.Held.SameLaws.{span_held, rows_refl, rows_true}
 use Rattle.terms.proofs.Laws.Normalising.VirtualTokenLaws.{view_held, view_parts}
@@ -33,23 +32,19 @@ clash e = absurd (omega arith)
 -- ---- a term as a row of its own
 
 module _ (a : Area) (p l : ℕ) {k v : ℕ} (ek : k ≡ get_or a.kinds p 0) (ev : v ≡ get_or a.vals p 0) (el : 1 ≤ span k v → l ≡ span k v) where
-  pub term_starts : p + l < 4294967296 → TermStarts a p (record { at = p; end = p + l; child = 0; kids = 0 })
-  term_starts s = record {
-    cut = record { small = s; few = omega arith };
+  -- no term ends past the tokens, so one that is cut is whole
+  pub term_starts : (e : ℕ) → length a.kinds < 4294967296 → e ≡ min (p + l) 4294967295 → TermStarts a p (record { at = p; end = e; child = 0; kids = 0 })
+  term_starts e f o = record {
+    cut = record { small = omega arith; few = omega arith };
     is = λ hs cs S t w.
         let r = tree_row a hs cs S w ek ev in
         let z = el r.0 in
-        child {c = 0} {e = p + l} {q = p} {n = 0} {l = l} {t = t} (omega arith) (λ y. omega (arith, tree_kind a hs cs S w ek, kind_some t)) (ap₂ span (sym ek) (sym ev) ∙ sym z) (omega arith) tt w
-        (over refl);
-    ends = λ t h. let u = ap₂ span ek ev ∙ span_held a.kinds a.vals p t h in ap (λ (n : ℕ). p + n) (el (omega (arith, items_some t)) ∙ u);
-  }
-
-  -- no term ends past the tokens
-  pub term_cut : (e : ℕ) → e < 4294967296 → length a.kinds < 4294967296 → 4294967295 < p + l → TermStarts a p (record { at = p; end = e; child = 0; kids = 0 })
-  term_cut e s f o = record {
-    cut = record { small = s; few = omega arith };
-    is = λ hs cs S t w. let r = tree_row a hs cs S w ek ev in absurd (omega (arith, el r.0, r.1));
-    ends = λ t h. let u = ap₂ span ek ev ∙ span_held a.kinds a.vals p t h in absurd (omega (arith, el (omega (arith, items_some t)), h.within));
+        let i : p + l ≡ e = omega (arith, z, r.1) in
+        child {c = 0} {e = e} {q = p} {n = 0} {l = l} {t = t} (omega arith) (λ y. omega (arith, tree_kind a hs cs S w ek, kind_some t)) (ap₂ span (sym ek) (sym ev) ∙ sym z) (omega arith) tt w
+        (over i);
+    ends = λ t h.
+        let u = ap₂ span ek ev ∙ span_held a.kinds a.vals p t h in
+        omega (arith, el (omega (arith, items_some t)), u, h.within);
   }
 
 -- ---- two numbers
@@ -457,7 +452,7 @@ module _ {ks vs ws : List ℕ} {g : Origin} {hs cs : List ℕ} {x : Cursor} {fue
       let one = searching_next w (omega arith) (replaces_other hs cs fuel (rule_at ws r) h (f r (omega arith) (omega arith))) in
       rw e at (past h k (r + 1) (omega arith) (λ i a b. f i (omega arith) (omega arith)) one)
 
-  pub searching_to : {m : ℕ} → MemberIn (view ks vs g) x m → {r n : ℕ} → NextWith ws r m n → Searching ks vs ws g hs cs x fuel r → (t : ℕ) → r ≤ t → t ≤ n → t ≤ rule_count ws → Searching ks vs ws g hs cs x fuel t
-  searching_to h {r} f w t a b c =
+  pub searching_to : {m : ℕ} → MemberIn (view ks vs g) x m → {r : ℕ} (t : ℕ) → r ≤ t → t ≤ rule_count ws → NoneFrom ws r m t → Searching ks vs ws g hs cs x fuel r → Searching ks vs ws g hs cs x fuel t
+  searching_to h {r} t a c f w =
       let e : r + (t - r) ≡ t = omega arith in
-      rw e at (past h (t - r) r (omega arith) (λ i y z. f.none i y (omega arith)) w)
+      rw e at (past h (t - r) r (omega arith) (λ i y z. f i y (omega arith)) w)

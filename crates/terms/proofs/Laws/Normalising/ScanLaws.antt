@@ -14,10 +14,10 @@ use Rattle.terms.specs.Term.{Term, Parts, var, node, end, num, sub}
 use Rattle.terms.specs.Words.Held.{span}
 use Rattle.terms.specs.Words.RowsContract.{Moves}
 use Rattle.terms.specs.Tree.{error, nums, subs, children, row}
-use Rattle.terms.specs.Words.Arena.{head_of, kids_of, Tree, Parted, RowAt, NumberAt, KeyOf}
+use Rattle.terms.specs.Words.Arena.{head_of, kids_of, Tree, Parted, RowAt, NumberHere, NumberAt, KeyOf}
 use Rattle.terms.proofs.Laws.Held.HeldLaws.{span_one}
 use Rattle.terms.proofs.Laws.Normalising.ArenaLaws.{parted_over, parted_number, parted_child, tree_row}
-use Rattle.std.specs.Prelude.{Some, None}
+use Rattle.std.specs.Prelude.{Option, Some, None, min, unwrap_or}
 use Rattle.terms.specs.declared.Seen.{Seen}
 use Rattle.terms.specs.Words.Lent.{shown}
 
@@ -31,12 +31,15 @@ module _ (a : Area) (h p l : ℕ) {k v : ℕ} (ep : p ≡ h) (ek : k ≡ get_or 
       let z = el r.0 in
       rw z (r.1, r.2)
 
-  pub row_is : p + l < 4294967296 → RowAt a h (p + 1) (p + l)
-  row_is s = record { small = s; is = λ hs cs S c t w. (whole hs cs S c t w).1 }
-
-  -- no term ends past the tokens
-  pub row_cut : (e : ℕ) → e < 4294967296 → length a.kinds < 4294967296 → 4294967295 < p + l → RowAt a h (p + 1) e
-  row_cut e s f o = record { small = s; is = λ hs cs S c t w. let x = (whole hs cs S c t w).0 in absurd (omega arith) }
+  -- no term ends past the tokens, so a row that is cut is whole
+  pub row_is : (e : ℕ) → length a.kinds < 4294967296 → e ≡ min (p + l) 4294967295 → RowAt a h (p + 1) e
+  row_is e f o = record {
+    small = omega arith;
+    is = λ hs cs S c t w.
+        let x = whole hs cs S c t w in
+        let i : p + l ≡ e = omega (arith, x.0) in
+        rw i at x.1;
+  }
 
 -- ---- the scan
 
@@ -151,16 +154,13 @@ unfolding nums
 nums_end = refl
 
 module _ (a : Area) (h e q i left : ℕ) (s : Scan a h e q (Wanted i left)) where
-  pub number_over : (p : ℕ) → length a.kinds ≤ p → length a.vals ≤ p → e ≤ q → NumberAt a h i p
-  number_over p lk lv le = record {
-    kind = get_or-eq_default a.kinds 0 lk;
-    is = λ hs cs S c t w.
-        let x = scan_over a h e q (Wanted i left) s le hs cs S c t w in
-        get_or-eq_default a.vals 0 lv ∙ sym (x.1 ∙ ap (λ (l : List ℕ). get_or l left 0) nums_end);
-  }
+  pub number_over : e ≤ q → NumberAt a h i None
+  number_over le = λ hs cs S c t w.
+      let x = scan_over a h e q (Wanted i left) s le hs cs S c t w in
+      x.1 ∙ ap (λ (l : List ℕ). get_or l left 0) nums_end
 
   module _ (lt : q < e) {k v : ℕ} (ek : k ≡ get_or a.kinds q 0) (ev : v ≡ get_or a.vals q 0) where
-    pub number_here : k ≡ 0 → left ≡ 0 → NumberAt a h i q
+    pub number_here : k ≡ 0 → left ≡ 0 → NumberHere a h i q
     number_here z zl = record {
       kind = sym ek ∙ z;
       is = λ hs cs S c t w.
@@ -175,6 +175,14 @@ module _ (a : Area) (h e q i left : ℕ) (s : Scan a h e q (Wanted i left)) wher
 
     pub number_pass : (k ≡ 0 → ⊥) → (l : ℕ) → (1 ≤ span k v → l ≡ span k v) → Scan a h e (q + l) (Wanted i left)
     number_pass z l el = scan_child a h e q (Wanted i left) s lt ek ev z l el (Wanted i left) (λ n w u r x. x ∙ ap (λ (l : List ℕ). get_or l left 0) (nums_sub u r))
+
+-- a place past all tokens stands for the number that there is not
+pub number_from : (a : Area) (h i : ℕ) (r : Option ℕ) (p d : ℕ) → p ≡ unwrap_or r d → length a.kinds ≤ d → length a.vals ≤ d → NumberAt a h i r → NumberHere a h i p
+number_from a h i (Some q) p d e lk lv n = rw e n
+number_from a h i None p d e lk lv n = record {
+  kind = get_or-eq_default a.kinds 0 (omega (arith, e));
+  is = λ hs cs S c t w. get_or-eq_default a.vals 0 (omega (arith, e)) ∙ sym (n hs cs S c t w);
+}
 
 -- ---- a key: k numbers have been passed, and none from the third on was x
 

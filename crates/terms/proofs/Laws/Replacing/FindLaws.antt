@@ -23,6 +23,7 @@ use Rattle.terms.proofs.Laws.Held.HeldLaws.{held_num, held_sub, items_some}
 use Rattle.terms.proofs.Laws.Held.SameLaws.{span_held}
 use Rattle.terms.proofs.Laws.Replacing.SubstitutionLaws.{else_else, else_none}
 use Rattle.std.specs.Prelude.{Option, Some, None}
+use Rattle.std.specs.Bool.{then_some}
 
 -- ---- `stride`
 
@@ -102,6 +103,15 @@ module _ (ks vs : List ℕ) where
   unfolding nth_at
   nth_here zero i z h = rw (lt-ltb i (length ks) h)
   nth_here (suc n) i z h = absurd (omega arith)
+
+  -- no term is left to be passed
+  pub nth_told : (i : ℕ) → then_some (ltb i (length ks)) i ≡ nth_at ks vs 0 i
+  unfolding nth_at
+  nth_told i = go (ltb i (length ks))
+    where
+      go : (b : Bool) → then_some b i ≡ pick b (Some i) None
+      go true = refl
+      go false = refl
 
   pub nth_out : (n i : ℕ) → length ks ≤ i → None ≡ nth_at ks vs n i
   unfolding nth_at

@@ -5,4 +5,4 @@ use Rattle.terms.proofs.alike.is_lent.Goals as goal
 
 pub overflow_add-result : goal.overflow_add-result
 overflow_add-result c =
-    omega (arith, c.span.ensures, span_small c.word.result c.word-2.result 4294967296 (omega (arith, c.word-2.type_inv)) (omega arith))
+    omega (arith, c.span.ensures, span_small c.token.result.kind c.token.result.value 4294967296 (omega arith) (omega arith))

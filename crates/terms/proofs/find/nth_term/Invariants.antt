@@ -4,5 +4,5 @@ use Prim.Native.Nat.{◌-◌}
 use Rattle.terms.specs.Words.FindContract.{nth_at}
 use Rattle.terms.proofs.find.nth_term.Given as goal
 
-abbrev pub invariant-loop-k : goal.invariant-loop-k
-invariant-loop-k l = nth_at l.tokens.kinds.now l.tokens.vals.now (l.n - l.k) l.i ≡ nth_at l.tokens.kinds.now l.tokens.vals.now l.n l.from
+abbrev pub invariant-loop : goal.invariant-loop
+invariant-loop l = nth_at l.tokens.kinds.now l.tokens.vals.now (l.n - l.counter) l.i ≡ nth_at l.tokens.kinds.now l.tokens.vals.now l.n l.from

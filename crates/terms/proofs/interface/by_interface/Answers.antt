@@ -7,7 +7,10 @@ use lib.ListN.{get_or}
 use Rattle.terms.specs.Term.{Term, Parts, depth}
 use Rattle.terms.specs.Tree.{nums, row, tag}
 use Rattle.terms.specs.Lookup.{HeldGiven, output, through, unless}
-use Rattle.terms.specs.Words.Arena.{Tree}
+use Rattle.terms.specs.Words.Arena.{Tree, NumberHere}
+use Rattle.terms.proofs.Laws.Normalising.VirtualTokenLaws.{few_kinds, few_vals}
+use Rattle.terms.proofs.Laws.Normalising.ScanLaws.{number_from}
+use native.Mathlib.Omega.{arith}
 use Rattle.terms.specs.Words.Lent.{shown}
 use Rattle.terms.proofs.Laws.General.Options.{nothing, something}
 use Rattle.terms.proofs.Laws.Normalising.MemberLaws.{own_args, own_plain, member_here}
@@ -51,31 +54,41 @@ returns-then-not-same_trees c =
     through_stranger t i owner (declared (goal.at.returns-then-not-same_trees c).After-number_at-2 S t i owner w h) c.if-number_at.false r.1
     (c.same_trees.ensures.no (not-true _ c.if-not-same_trees.true-raw) S S _ _ r.2 u (receiver_low t r.0 _ r.1 d))
 
+-- where the member is, or a place past all tokens
+member_place : (c : After-output-value) → NumberHere (shown c.args.seen.now) c.args.x.head (3 + c.args.m) c.unwrap_or-p.result
+member_place c =
+    let x = c.args.seen.now in
+    let f = few_kinds _ _ _ x.sight in
+    let g = few_vals _ _ _ x.sight in
+    number_from (shown x) _ _ _ _ _ c.unwrap_or-p.ensures (omega arith) (omega arith) c.number_place.ensures
+
 -- what the last test is about
 unless_is : (c : After-output-value) (S : ℕ → Bool) (t : Term) (i : Parts) (owner : Term)
     → Tree (shown c.args.seen.now) c.args.heads.now c.args.kids.now S c.args.x.head c.args.x.kids t
     → tag t ≡ 18 → depth t ≤ c.args.fuel + 1 → HeldGiven c.args.seen.now.tokens.kinds.now c.args.seen.now.tokens.vals.now c.args.seen.now.given i owner
     → Declared t i c.number_at.result c.number_at-2.result
-    → through i owner (row t) ≡ unless t (output owner i (get_or (shown c.args.seen.now).vals c.number_place-p.result 0))
+    → through i owner (row t) ≡ unless t (output owner i (get_or (shown c.args.seen.now).vals c.unwrap_or-p.result 0))
 unless_is c S t i owner w k d h y =
     let r = c.in_ok-y.ensures S t w in
     let u = owner_tree _ _ _ c.args.seen.now.sight i owner h _ _ S _ _ c.source.ensures.0 c.source.ensures.1 in
     let o = c.same_trees.ensures.yes (not-false _ c.if-not-same_trees.false-raw) S S _ _ r.2 u (receiver_low t r.0 _ r.1 d) in
     through_is t i owner y c.if-number_at.false r.1 o k
-    ∙ ap (λ (n : ℕ). unless t (output owner i n)) (sym (c.number_place-p.ensures.is _ _ S _ t w ∙ member_here c.requires.counts w))
+    ∙ ap (λ (n : ℕ). unless t (output owner i n)) (sym ((member_place c).is _ _ S _ t w ∙ member_here c.requires.counts w))
 
 pub returns-then-same_trees : goal.returns-then-same_trees
 returns-then-same_trees c =
     λ S t i owner w k d h.
+    let n = member_place (goal.at.returns-then-same_trees c).After-output-value in
     let y = declared (goal.at.returns-then-same_trees c).After-number_at-2 S t i owner w h in
     unless_is (goal.at.returns-then-same_trees c).After-output-value S t i owner w k d h y
-    ∙ unless_same t _ (c.same_trees-2.ensures.yes c.if-same_trees.true S S _ _ w (c.output-value.ensures S i owner h c.number_place-p.ensures.kind) d)
+    ∙ unless_same t _ (c.same_trees-2.ensures.yes c.if-same_trees.true S S _ _ w (c.output-value.ensures S i owner h n.kind) d)
 
 pub returns : goal.returns
 returns c =
     λ S t i owner w k d h.
+    let n = member_place (goal.at.returns c).After-output-value in
     let y = declared (goal.at.returns c).After-number_at-2 S t i owner w h in
-    let f = c.output-value.ensures S i owner h c.number_place-p.ensures.kind in (
+    let f = c.output-value.ensures S i owner h n.kind in (
       _,
       unless_is (goal.at.returns c).After-output-value S t i owner w k d h y ∙ unless_found t _
           (c.same_trees-2.ensures.no c.if-same_trees.false S S _ _ w f d),

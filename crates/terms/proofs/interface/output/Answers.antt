@@ -23,5 +23,5 @@ returns c =
     c.source.ensures.1)) in
     let e = ap (λ (j : Parts). member_from 0 x.result.value j) (sym (row_node 20 i)) ∙ r in
     let z = ap (λ (n : ℕ). member_from 0 n i) (sym x.ensures.value) ∙ e in
-    rw (output_made owner i _ z) (made_tree _ _ _ c.args.seen.now.sight i owner h _ _ S _ _ _ _ c.lent_place-t.ensures k c.source-2.ensures.0
+    rw (output_made owner i _ z) (made_tree _ _ _ c.args.seen.now.sight i owner h _ _ S _ _ _ _ (rw (← c.unwrap_or-t.ensures) at c.lent_place.ensures.at) k c.source-2.ensures.0
     c.source-2.ensures.1)

@@ -5,4 +5,4 @@ use Rattle.terms.proofs.Laws.Asking.QuestionLaws.{ask_one}
 use Rattle.terms.proofs.questions.ask.Goals as goal
 
 pub returns : goal.returns
-returns c = λ qs n h t ht f. c.ask_row.ensures qs n h _ (ask_one (counted qs (number_of_question c.args.question)) (entered (number_of_question c.args.question)) _ _ _ _ t ht (told _ _ _ _ t ht c.skip-n.ensures.span) f)
+returns c = λ qs n h t ht f. c.ask_row.ensures qs n h _ (ask_one (counted qs (number_of_question c.args.question)) (entered (number_of_question c.args.question)) _ _ _ _ t ht (told _ _ _ _ t ht c.width_at-n.ensures.span) f)

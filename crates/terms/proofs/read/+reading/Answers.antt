@@ -1,5 +1,5 @@
 -- What each reader leaves, from what its parts leave.
-use Rattle.std.proofs.Common.{◌+◌, ◌≤◌, ℕ, refl, sym, ◌∙◌, arith}
+use Rattle.std.proofs.Common.{◌+◌, ◌≤◌, ℕ, get_or, refl, sym, ◌∙◌, arith}
 use Rattle.terms.specs.Words.Tokens.{area}
 use Rattle.terms.specs.Shape as shape
 use Rattle.terms.specs.Shape.{plain}
@@ -12,36 +12,36 @@ use Rattle.terms.proofs.read.+reading.Goals as goal
 use Rattle.terms.proofs.read.+reading.Goals.{read_plain-Joined-f, read_plain-then-f+in_ok-n, read_plain-else-f, read_nominal-Joined-arguments-ne0, read_nominal-then-arguments-ne0+in_ok-read_terms, read_nominal-else-arguments-ne0}
 use native.Mathlib.Nat.{sub-zero}
 
-pub read_terms-loop-i-init : goal.read_terms-loop-i-init
-read_terms-loop-i-init t c =
+pub read_terms-loop-init : goal.read_terms-loop-init
+read_terms-loop-init t c =
     rw (sub-zero c.args.count) (so_far_start _ _ _ _ c.requires.inside)
 
 pub read_terms-returns-in_err-read_term : goal.read_terms-returns-in_err-read_term
-read_terms-returns-in_err-read_term t c = rw (handed_on _ _ c.from_residual.ensures.1) (terms_stop _ _ _ _ _ _ _ _ (omega arith) c.loop-i.invariant _ _ c.in_err-read_term.ensures)
+read_terms-returns-in_err-read_term t c = rw (handed_on _ _ c.from_residual.ensures.1) (terms_stop _ _ _ _ _ _ _ _ (omega arith) c.loop.invariant _ _ c.in_err-read_term.ensures)
 
-pub read_terms-loop-i-preserved : goal.read_terms-loop-i-preserved
-read_terms-loop-i-preserved t c =
-    rw (sub_step c.args.count c.loop-i.i) (terms_more _ _ _ _ _ _ _ _ (omega arith) c.loop-i.invariant _ _ c.in_ok-read_term.ensures)
+pub read_terms-loop-preserved : goal.read_terms-loop-preserved
+read_terms-loop-preserved t c =
+    rw (sub_step c.args.count c.loop.counter) (terms_more _ _ _ _ _ _ _ _ (omega arith) c.loop.invariant _ _ c.in_ok-read_term.ensures)
 
 pub read_terms-returns : goal.read_terms-returns
-read_terms-returns t c = terms_end _ _ _ _ _ _ _ _ (omega arith) c.loop-i.invariant
+read_terms-returns t c = terms_end _ _ _ _ _ _ _ _ (omega arith) c.loop.invariant
 
-pub read_pairs-loop-i-init : goal.read_pairs-loop-i-init
-read_pairs-loop-i-init t c =
+pub read_pairs-loop-init : goal.read_pairs-loop-init
+read_pairs-loop-init t c =
     rw (sub-zero c.args.count) (so_far_start _ _ _ _ c.requires.inside)
 
 pub read_pairs-returns-in_err-member : goal.read_pairs-returns-in_err-member
-read_pairs-returns-in_err-member t c = rw (handed_on _ _ c.from_residual.ensures.1) (pairs_no _ _ _ _ _ _ _ _ _ (omega arith) c.loop-i.invariant _ _ c.in_err-member.ensures)
+read_pairs-returns-in_err-member t c = rw (handed_on _ _ c.from_residual.ensures.1) (pairs_no _ _ _ _ _ _ _ _ _ (omega arith) c.loop.invariant _ _ c.in_err-member.ensures)
 
 pub read_pairs-returns-in_err-read_term : goal.read_pairs-returns-in_err-read_term
-read_pairs-returns-in_err-read_term t c = rw (handed_on _ _ c.from_residual-in_err-read_term.ensures.1) (pairs_stop _ _ _ _ _ _ _ _ _ _ _ c.in_ok-member.ensures _ (omega arith) c.loop-i.invariant _ _ c.in_err-read_term.ensures)
+read_pairs-returns-in_err-read_term t c = rw (handed_on _ _ c.from_residual-in_err-read_term.ensures.1) (pairs_stop _ _ _ _ _ _ _ _ _ _ _ c.in_ok-member.ensures _ (omega arith) c.loop.invariant _ _ c.in_err-read_term.ensures)
 
-pub read_pairs-loop-i-preserved : goal.read_pairs-loop-i-preserved
-read_pairs-loop-i-preserved t c =
-    rw (sub_step c.args.count c.loop-i.i) (pairs_more _ _ _ _ _ _ _ _ _ _ _ c.in_ok-member.ensures _ (omega arith) c.loop-i.invariant _ _ c.in_ok-read_term.ensures)
+pub read_pairs-loop-preserved : goal.read_pairs-loop-preserved
+read_pairs-loop-preserved t c =
+    rw (sub_step c.args.count c.loop.counter) (pairs_more _ _ _ _ _ _ _ _ _ _ _ c.in_ok-member.ensures _ (omega arith) c.loop.invariant _ _ c.in_ok-read_term.ensures)
 
 pub read_pairs-returns : goal.read_pairs-returns
-read_pairs-returns t c = pairs_end _ _ _ _ _ _ _ _ _ (omega arith) c.loop-i.invariant
+read_pairs-returns t c = pairs_end _ _ _ _ _ _ _ _ _ (omega arith) c.loop.invariant
 
 pub read_plain-returns-in_err-read_fields : goal.read_plain-returns-in_err-read_fields
 read_plain-returns-in_err-read_fields t c = rw (handed_on _ _ c.from_residual.ensures.1) (plain_no _ _ c.args.place.now _ _ _ _ c.in_err-read_fields.ensures)
@@ -72,7 +72,7 @@ plain_begun t c =
     ]
 
 pub read_plain-returns : goal.read_plain-returns
-read_plain-returns t c = so_far_done _ _ _ _ _ _ _ (plain_begun t (goal.at.read_plain-returns t c).Joined-f).0 _ _ c.read_terms.ensures
+read_plain-returns t c = so_far_done _ _ _ _ _ _ _ (plain_begun t (goal.at.read_plain-returns t c).Joined-f).0 _ _ (rw c.from.ensures at c.read_terms.ensures)
 
 pub read_nominal-returns-in_err-read_value : goal.read_nominal-returns-in_err-read_value
 read_nominal-returns-in_err-read_value t c = rw (handed_on _ _ c.from_residual.ensures.1) (number_no _ _ c.args.place.now _ _ shape.definition (shape.terms (shape.members shape.done)) _ c.in_err-read_value.ensures)
@@ -163,4 +163,4 @@ pub read_term-returns-in_err-read_row-in-Node : goal.read_term-returns-in_err-re
 read_term-returns-in_err-read_row-in-Node t c = rw ((handed_on _ _ c.from_residual.ensures.1), term_row _ _ _ _ c.if-levels-eq0.false c.if-s-here.false _ (rw c.in-Node.is at c.kind_of-kind.ensures)) (node_done _ c.args.place.now _ _ _ _ _ (Stopped _) c.if-s-here.false c.in_err-read_row-in-Node.ensures refl)
 
 pub read_term-returns-in_ok-read_row-in-Node : goal.read_term-returns-in_ok-read_row-in-Node
-read_term-returns-in_ok-read_row-in-Node t c = rw (term_row _ _ _ _ c.if-levels-eq0.false c.if-s-here.false _ (rw c.in-Node.is at c.kind_of-kind.ensures)) (node_done _ c.args.place.now _ _ _ _ _ (Next c.read_row.new.place) c.if-s-here.false c.in_ok-read_row-in-Node.ensures c.close_node.ensures)
+read_term-returns-in_ok-read_row-in-Node t c = rw (term_row _ _ _ _ c.if-levels-eq0.false c.if-s-here.false _ (rw c.in-Node.is at c.kind_of-kind.ensures)) (node_done _ c.args.place.now _ _ (area c.close_node.new.kinds c.close_node.new.vals) (get_or c.args.s.now c.args.place.now.at 0) _ (Next c.read_row.new.place) c.if-s-here.false c.in_ok-read_row-in-Node.ensures (rw c.from.ensures at c.close_node.ensures))

@@ -27,12 +27,12 @@ decreases-read_term l = 8 * l.levels
 abbrev pub decreases-read_terms : goal.decreases-read_terms
 decreases-read_terms l = 8 * l.levels + 1
 
-abbrev pub invariant-read_terms-loop-i : goal.invariant-read_terms-loop-i
-invariant-read_terms-loop-i l =
-    SoFar l.s (many l.s (term l.s l.issued l.levels) l.count l.initial.place.at) (many l.s (term l.s l.issued l.levels) (l.count - l.i) l.place.at) l.initial.place
+abbrev pub invariant-read_terms-loop : goal.invariant-read_terms-loop
+invariant-read_terms-loop l =
+    SoFar l.s (many l.s (term l.s l.issued l.levels) l.count l.initial.place.at) (many l.s (term l.s l.issued l.levels) (l.count - l.counter) l.place.at) l.initial.place
     (area l.initial.kinds l.initial.vals) (area l.kinds l.vals) l.place
 
-abbrev pub invariant-read_pairs-loop-i : goal.invariant-read_pairs-loop-i
-invariant-read_pairs-loop-i l =
-    SoFar l.s (pairs l.s (term l.s l.issued l.levels) l.count 0 l.initial.place.at) (pairs l.s (term l.s l.issued l.levels) (l.count - l.i) l.least l.place.at) l.initial.place
+abbrev pub invariant-read_pairs-loop : goal.invariant-read_pairs-loop
+invariant-read_pairs-loop l =
+    SoFar l.s (pairs l.s (term l.s l.issued l.levels) l.count 0 l.initial.place.at) (pairs l.s (term l.s l.issued l.levels) (l.count - l.counter) l.least l.place.at) l.initial.place
     (area l.initial.kinds l.initial.vals) (area l.kinds l.vals) l.place

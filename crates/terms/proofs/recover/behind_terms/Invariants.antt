@@ -8,6 +8,6 @@ use Rattle.terms.specs.Words.RecoverContract.{upto}
 use Rattle.terms.proofs.Laws.Replacing.RecoverLaws.{Behind}
 use Rattle.terms.proofs.recover.behind_terms.Given as goal
 
-abbrev pub invariant-loop-k : goal.invariant-loop-k
-invariant-loop-k l =
-    (l.a.from ≤ l.p) × (l.p ≤ l.a.end) × ((s : Shape) (ps : Parts) → HeldParts l.tokens.kinds.now l.tokens.vals.now l.a.from l.a.end ps → Fit (many_terms l.n s) ps → Behind l.tokens.kinds.now l.tokens.vals.now l.p l.a.end (l.n - l.k) s (l.a.from + upto l.n ps))
+abbrev pub invariant-loop : goal.invariant-loop
+invariant-loop l =
+    (l.a.from ≤ l.p) × (l.p ≤ l.a.end) × ((s : Shape) (ps : Parts) → HeldParts l.tokens.kinds.now l.tokens.vals.now l.a.from l.a.end ps → Fit (many_terms l.n s) ps → Behind l.tokens.kinds.now l.tokens.vals.now l.p l.a.end (l.n - l.counter) s (l.a.from + upto l.n ps))

@@ -7,7 +7,7 @@ use Rattle.terms.proofs.recover.recovered_len.Goals as goal
 pub returns : goal.returns
 returns c =
     λ t u ht hu ft fu.
-    let n = told _ _ _ _ t ht c.skip-n.ensures.span in
-    let m = told _ _ _ _ u hu c.skip-m.ensures.span in
+    let n = told _ _ _ _ t ht c.width_at-n.ensures.span in
+    let m = told _ _ _ _ u hu c.width_at-m.ensures.span in
     let z = c.recover_term.ensures.put t u (held_one _ _ _ _ t ht n) (held_one _ _ _ _ u hu m) ft fu in
     omega (arith, z.next)

@@ -6,5 +6,5 @@ use Rattle.terms.proofs.rewrite.write_term.Goals as goal
 pub returns-clause-trees : goal.returns-clause-trees
 returns-clause-trees c =
     let a = c.args in
-    let w = whole_writes a.tokens.now.kinds.now a.tokens.now.vals.now a.s.now a.b a.from _ c.skip-n.ensures.is a.on a.out.now a.at _ _ c.rewrite_run.ensures.next c.rewrite_run.ensures.wrote in
+    let w = whole_writes a.tokens.now.kinds.now a.tokens.now.vals.now a.s.now a.b a.from _ c.width_at-n.ensures.is a.on a.out.now a.at _ _ c.rewrite_run.ensures.next c.rewrite_run.ensures.wrote in
     rewrites a.tokens.now.kinds.now a.tokens.now.vals.now a.s.now a.b a.from _ w

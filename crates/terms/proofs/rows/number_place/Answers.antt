@@ -1,5 +1,4 @@
 use native.Mathlib.Omega.{arith}
-use Rattle.terms.proofs.Laws.Normalising.VirtualTokenLaws.{few_kinds, few_vals}
 use Rattle.terms.proofs.Laws.Normalising.ScanLaws.{over_here, over_width, walk_child, walk_number, number_over, number_here, number_next, number_pass}
 use Rattle.terms.proofs.rows.number_place.Goals as goal
 
@@ -25,7 +24,5 @@ loop-q-preserved c =
 
 pub returns : goal.returns
 returns c =
-    let f = few_kinds _ _ _ c.args.seen.now.sight in
-    let g = few_vals _ _ _ c.args.seen.now.sight in
     let w = c.loop-q.invariant in
-    number_over _ _ _ _ _ _ w.scan _ (omega arith) (omega arith) c.in-None.ensures.steps.0.0
+    number_over _ _ _ _ _ _ w.scan c.in-None.ensures.steps.0.0

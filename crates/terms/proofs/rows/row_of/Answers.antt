@@ -1,20 +1,12 @@
 -- `row_of`. A row is cut where no token can stand.
 use mathlib.Core.Path.{refl}
-use native.Mathlib.Omega.{arith}
 use Rattle.terms.specs.Words.VirtualTokens.{view}
 use Rattle.terms.proofs.Laws.Normalising.VirtualTokenLaws.{few_kinds}
-use Rattle.terms.proofs.Laws.Normalising.ScanLaws.{row_is, row_cut}
+use Rattle.terms.proofs.Laws.Normalising.ScanLaws.{row_is}
 use Rattle.terms.proofs.rows.row_of.Goals as goal
-
-pub returns-then-end-gt-NOWHERE : goal.returns-then-end-gt-NOWHERE
-returns-then-end-gt-NOWHERE c =
-    let token-at' = c.token_at in
-    row_cut (view c.args.seen.now.tokens.kinds.now c.args.seen.now.tokens.vals.now c.args.seen.now.given) _ _ _ refl token-at'.ensures.kind
-    token-at'.ensures.value c.step.ensures.span _ (omega arith) (few_kinds c.args.seen.now.tokens.kinds.now c.args.seen.now.tokens.vals.now c.args.seen.now.given
-    c.args.seen.now.sight) c.if-end-gt-NOWHERE.true
 
 pub returns : goal.returns
 returns c =
-    let token-at' = c.token_at in
-    row_is (view c.args.seen.now.tokens.kinds.now c.args.seen.now.tokens.vals.now c.args.seen.now.given) _ _ _ refl token-at'.ensures.kind
-    token-at'.ensures.value c.step.ensures.span (omega arith)
+    let x = c.args.seen.now in
+    let t = c.token_at.ensures in
+    row_is (view x.tokens.kinds.now x.tokens.vals.now x.given) _ _ _ refl t.kind t.value c.step.ensures.span _ (few_kinds x.tokens.kinds.now x.tokens.vals.now x.given x.sight) c.min.ensures

@@ -1,6 +1,5 @@
 -- `find_rule`. The outer invariant: no rule passed is the row's. The inner: what is left of the row decides, with the arguments that are left.
 use Prim.Native.Nat.{◌-◌, ◌≤◌, ◌<◌}
-use mathlib.Core.Path.{◌≡◌}
 use Rattle.terms.specs.Lookup.{rule_at, rule_count}
 use Rattle.terms.proofs.Laws.Normalising.RuleLaws.{Arguing, Searching}
 use Rattle.terms.proofs.rules.find_rule.Given as goal
@@ -12,7 +11,7 @@ abbrev pub decreases-loop-m : goal.decreases-loop-m
 decreases-loop-m l = l.left
 
 abbrev pub invariant-rules : goal.invariant-rules
-invariant-rules l = Searching l.seen.tokens.kinds.now l.seen.tokens.vals.now l.rules l.seen.given l.heads l.kids l.s l.fuel l.r × (l.r ≤ l.count) × (l.count ≡ rule_count l.rules)
+invariant-rules l = Searching l.seen.tokens.kinds.now l.seen.tokens.vals.now l.rules l.seen.given l.heads l.kids l.s l.fuel l.r × (l.r ≤ rule_count l.rules)
 
 abbrev pub decreases-rules : goal.decreases-rules
-decreases-rules l = l.count - l.r
+decreases-rules l = rule_count l.rules - l.r

@@ -5,4 +5,4 @@ use Rattle.terms.proofs.Laws.Held.SameLaws.{told}
 use Rattle.terms.proofs.satisfy.behind.Goals as goal
 
 pub returns-clause-passed : goal.returns-clause-passed
-returns-clause-passed c = λ t h. ap (λ (n : ℕ). c.args.i + n) (told _ _ _ _ t h c.skip.ensures.span)
+returns-clause-passed c = λ t h. ap (λ (n : ℕ). c.args.i + n) (told _ _ _ _ t h c.width_at.ensures.span)

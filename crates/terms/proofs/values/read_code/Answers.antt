@@ -26,4 +26,5 @@ returns c =
     let s = a.s.now in
     let p = a.place.now in
     let d = area a.kinds.now a.vals.now in
-    coded_yes s p d (area c.put_token.new.kinds c.put_token.new.vals) a.codes _ _ c.if-codes-eq0.false c.in_ok-v.ensures.found c.in_ok-v.ensures.within c.put_token.ensures
+    rw c.keep_number.ensures.place
+    (coded_yes s p d (area c.keep_number.new.kinds c.keep_number.new.vals) a.codes _ _ c.if-codes-eq0.false c.in_ok-v.ensures.found c.in_ok-v.ensures.within c.keep_number.ensures.areas)

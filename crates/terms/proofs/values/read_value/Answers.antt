@@ -9,4 +9,5 @@ returns c =
     let s = a.s.now in
     let p = a.place.now in
     let d = area a.kinds.now a.vals.now in
-    value_yes s p d (area c.put_token.new.kinds c.put_token.new.vals) a.most _ _ _ c.in_ok-v.ensures.found c.in_ok-v.ensures.within c.put_token.ensures
+    rw c.keep_number.ensures.place
+    (value_yes s p d (area c.keep_number.new.kinds c.keep_number.new.vals) a.most _ _ _ c.in_ok-v.ensures.found c.in_ok-v.ensures.within c.keep_number.ensures.areas)

@@ -27,4 +27,5 @@ returns c =
     let p = a.place.now in
     let d = area a.kinds.now a.vals.now in
     let w = c.in_ok-v.ensures.within in
-    variable_yes s p d (area c.put_token.new.kinds c.put_token.new.vals) a.issued _ _ c.in_ok-v.ensures.found c.if-issued-v.false w.1 w.2 c.put_token.ensures
+    rw c.keep_number.ensures.place
+    (variable_yes s p d (area c.keep_number.new.kinds c.keep_number.new.vals) a.issued _ _ c.in_ok-v.ensures.found c.if-issued-v.false w.1 w.2 c.keep_number.ensures.areas)

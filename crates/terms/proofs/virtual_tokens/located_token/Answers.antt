@@ -7,8 +7,8 @@ use Rattle.terms.proofs.virtual_tokens.located_token.Goals as goal
 pub returns-in-Lent : goal.returns-in-Lent
 returns-in-Lent c =
     let l = rw c.in-Lent.is at c.locate-s.ensures in record {
-      kind = c.word.ensures ∙ sym (spot_word _ _ 5 20 _ _ (Lent c.in-Lent.p) l refl);
-      value = c.word-in-Lent.ensures ∙ sym (spot_word _ _ 1 _ _ _ (Lent c.in-Lent.p) l c.args.seen.now.tokens.pairs);
+      kind = c.token.ensures.kind ∙ sym (spot_word _ _ 5 20 _ _ (Lent c.in-Lent.p) l refl);
+      value = c.token.ensures.value ∙ sym (spot_word _ _ 1 _ _ _ (Lent c.in-Lent.p) l c.args.seen.now.tokens.pairs);
     }
 
 pub returns-in-Error : goal.returns-in-Error

@@ -18,13 +18,14 @@ returns-then-visits-eq0-clause-walks t c =
     walks_failed _ _ _ _ c.requires.room.sight c.args.heads.now c.args.kids.now c.args.x c.args.next c.args.levels c.args.visits c.args.most
     c.requires.room.within (λ look t. walk_visits (finds look) _ t _ _ c.if-visits-eq0.true) _ refl refl _ c.result-then-visits-eq0.ensures
 
-pub returns-then-same-gt0-clause-walks : goal.returns-then-same-gt0-clause-walks
-returns-then-same-gt0-clause-walks t c =
-    let nodes' = c.fixed_nodes-same.ensures in
+pub returns-in-Some-clause-walks : goal.returns-in-Some-clause-walks
+returns-in-Some-clause-walks t c =
+    let few' = (rw c.in-Some.is at c.fixed_nodes.ensures).few in
+    let fixed' = (rw c.in-Some.is at c.fixed_nodes.ensures).fixed in
     let least' = c.min.ensures in
     let len' = c.fixed_len-size.ensures in
     (fixed_kept _ _ _ _ c.requires.room.sight c.args.heads.now c.args.kids.now c.args.x c.args.next c.args.levels c.args.visits c.args.most _ _
-    (nodes'.fixed c.if-same-gt0.true) len'.bytes len'.bound c.if-same-gt0.true (omega (arith, nodes'.few.0, least')) (omega (arith, nodes'.few.0, least')) _
+    fixed' len'.bytes len'.bound few'.0 (omega (arith, few'.1, least')) (omega (arith, few'.1, least')) _
     c.kept.ensures.fits c.kept.ensures.stops).0
 
 pub returns-in_err-o-clause-walks : goal.returns-in_err-o-clause-walks
@@ -63,22 +64,22 @@ returns-then-o-ne18-clause-walks t c =
     (omega (arith, c.own_len-size.ensures.bound, c.in_ok-o.ensures.opens.bound, c.requires.room.small)) c.in_ok-o.ensures.opens.done c.in_ok-o.ensures.ordered _
     refl (λ S t look w d z. replace_other (look_by look) t (λ e. c.if-o-ne18.true (c.in_ok-o.ensures.tagged.is _ _ S _ t w ∙ e))) _ c.result-then-o-ne18.ensures
 
-pub returns-in_default-clause-walks : goal.returns-in_default-clause-walks
-returns-in_default-clause-walks t c =
+pub returns-in_default-f-clause-walks : goal.returns-in_default-f-clause-walks
+returns-in_default-f-clause-walks t c =
     walks_kept c.args.x c.loop-j.invariant c.loop-j-test.false (omega (arith, c.if-levels-eq0.false)) c.own_len-size.ensures.own
     (omega (arith, c.own_len-size.ensures.bound, c.in_ok-o.ensures.opens.bound, c.requires.room.small)) c.in_ok-o.ensures.opens.done c.in_ok-o.ensures.ordered _
-    refl (λ S t look w d z. rw c.in_default.is at (c.replace-f.ensures S t look w d z)) _ c.result-in_default.ensures
+    refl (λ S t look w d z. rw c.in_default-f.is at (c.replace-f.ensures S t look w d z)) _ c.result-in_default-f.ensures
 
 pub returns-then-same_trees-clause-walks : goal.returns-then-same_trees-clause-walks
 returns-then-same_trees-clause-walks t c =
     walks_itself c.args.x c.loop-j.invariant c.loop-j-test.false (omega (arith, c.if-levels-eq0.false)) c.own_len-size.ensures.own
     (omega (arith, c.own_len-size.ensures.bound, c.in_ok-o.ensures.opens.bound, c.requires.room.small)) c.in_ok-o.ensures.opens.done c.in_ok-o.ensures.ordered _
-    refl _ (λ S t look w d z. rw c.in-Some.is at (c.replace-f.ensures S t look w d z)) c.requires.room.sight (c.same_trees.ensures.yes c.if-same_trees.true) _
+    refl _ (λ S t look w d z. rw c.in-Some-f.is at (c.replace-f.ensures S t look w d z)) c.requires.room.sight (c.same_trees.ensures.yes c.if-same_trees.true) _
     refl refl _ c.result-then-same_trees.ensures
 
 pub returns-clause-walks : goal.returns-clause-walks
 returns-clause-walks t c =
     walks_followed c.args.x c.loop-j.invariant c.loop-j-test.false (omega (arith, c.if-levels-eq0.false)) c.own_len-size.ensures.own
     (omega (arith, c.own_len-size.ensures.bound, c.in_ok-o.ensures.opens.bound, c.requires.room.small)) c.in_ok-o.ensures.opens.done c.in_ok-o.ensures.ordered _
-    refl _ (λ S t look w d z. rw c.in-Some.is at (c.replace-f.ensures S t look w d z)) (c.same_trees.ensures.no c.if-same_trees.false) _ _ c.walk-2.result
+    refl _ (λ S t look w d z. rw c.in-Some-f.is at (c.replace-f.ensures S t look w d z)) (c.same_trees.ensures.no c.if-same_trees.false) _ _ c.walk-2.result
     c.walk-2.ensures.walks

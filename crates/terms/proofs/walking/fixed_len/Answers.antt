@@ -4,4 +4,4 @@ use Rattle.terms.proofs.Laws.Normalising.SumLaws.{lent_bytes}
 use Rattle.terms.proofs.walking.fixed_len.Goals as goal
 
 pub returns-clause-bytes : goal.returns-clause-bytes
-returns-clause-bytes c = λ t h. c.run_len.ensures.len ∙ lent_bytes _ _ _ _ _ refl c.word.ensures c.word-2.ensures c.span.ensures t h
+returns-clause-bytes c = λ t h. c.run_len.ensures.len ∙ lent_bytes _ _ _ _ _ refl c.token.ensures.kind c.token.ensures.value c.span.ensures t h

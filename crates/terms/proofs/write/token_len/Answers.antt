@@ -5,13 +5,14 @@ use Rattle.terms.proofs.Laws.Format.WriteLaws.{short_word}
 use Rattle.terms.proofs.write.token_len.Goals as goal
 
 pub returns-then-k-eq0 : goal.returns-then-k-eq0
-returns-then-k-eq0 c = rw (plain_number _ c.args.v c.if-k-eq0.true) c.number_len.ensures
+returns-then-k-eq0 c = rw (plain_number _ c.args.v c.if-k-eq0.true) (rw c.from.ensures at c.number_len.ensures)
 
 pub overflow_add-result : goal.overflow_add-result
-overflow_add-result c = omega (arith, short_word c.args.v (omega (arith, c.ranges.v)))
+overflow_add-result c = let n = rw c.from-then-k-eq1.ensures at c.number_len-then-k-eq1.ensures in
+    omega (arith, short_word c.args.v (omega (arith, c.ranges.v)), n)
 
 pub returns-then-k-eq1 : goal.returns-then-k-eq1
-returns-then-k-eq1 c = rw (plain_var _ c.args.v c.if-k-eq1.true) (omega (arith, c.number_len-then-k-eq1.ensures))
+returns-then-k-eq1 c = rw (plain_var _ c.args.v c.if-k-eq1.true) (omega (arith, rw c.from-then-k-eq1.ensures at c.number_len-then-k-eq1.ensures))
 
 pub returns : goal.returns
 returns c = rw (plain_head c.args.k c.args.v (omega arith))
