@@ -89,7 +89,8 @@ fn areas_are(areas: &[&[u32]], x: u32) -> bool
     areas.iter().all(|area| all_are(area, x))
 }
 
-// Runs a sheet. The answers lie in the output.
+// Runs a sheet. The answers lie in the output. Output and areas are slices, as `run_sheet` takes them: with arrays of arrays or `&mut self.out[..n]` the borrow
+// checker does not cover them (docs/DESIGN-PASS.md, point 5).
 fn run_inside(
     sheet: &[u8],
     out: &mut [u8],
@@ -105,7 +106,7 @@ fn run_inside(
     run_sheet(sheet, out, a, b, c, d)
 }
 
-// Runs a sheet in an output and areas that it fills.
+// Runs a sheet in an output and areas that it fills; they are slices, as `run_inside` has them (docs/DESIGN-PASS.md, point 5).
 fn run_filled(
     sheet: &[u8],
     out: &mut [u8],
@@ -137,7 +138,8 @@ fn run_filled(
     }
 }
 
-// Runs a sheet in as much of the output and of the areas as a head says.
+// Runs a sheet in as much of the output and of the areas as a head says. These are lent one by one, and not with the `Bench` that holds them, since parts of its
+// fields are lent on (docs/DESIGN-PASS.md, point 5).
 fn run_part(
     sheet: &[u8],
     out: &mut [u8; ROOM],

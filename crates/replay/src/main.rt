@@ -81,7 +81,7 @@ fn replay(bench: &mut Bench, answers: &mut [u8; ROOM]) -> Tally {
     tally
 }
 
-// Writes a name and a number of ten digits.
+// Writes a name and a number of ten digits, by hand: `decimal` of the kit's `io`, by which these programs write, has no leading zeros.
 fn write_line(name: &[u8], n: u32) {
     let mut line = [b'\n'; 11];
     let mut rest = n;

@@ -107,8 +107,8 @@ fn listing_of(sort: Sort) -> Listing
     }
 }
 
-// The tokens of a term, of a nominal, or of `count` entries, receivers or arguments. Terms and nominals share a call: with one for each, reading
-// took 2% longer.
+// The tokens of a term, of a nominal, or of `count` entries, receivers or arguments. Terms and nominals share a call, which is taken in: with one for each, order
+// 11 on small terms, which is at the bar of twice the Rust's speed, took 1.1% more instructions, and the bar's session 2.6%.
 #[inline(never)]
 fn keep_part(
     s: &[u8],

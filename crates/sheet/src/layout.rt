@@ -31,7 +31,8 @@ pub trait FieldReader {
         ensures words { Plain (read_as sort) → rules.new ≡ rules.old };
 }
 
-// The fields of a layout; on a refusal nothing of them remains in the areas.
+// The fields of a layout; on a refusal nothing of them remains in the areas. It is taken into its two callers: apart, short scripts took 2% more instructions.
+#[inline(always)]
 pub fn read_layout<R: FieldReader>(
     s: &[u8],
     kinds: &mut [u32],
