@@ -111,36 +111,16 @@ fn nominal_reach(tokens: &Tokens, a: Part, b: Part) -> usize
     if b.end - b.from < 3 {
         return a.from + 1;
     }
-    let i = behind_terms(
-        tokens,
-        Part {
-            from: a.from + 3,
-            end: a.end,
-        },
-        n,
-    );
-    let j = behind_terms(
-        tokens,
-        Part {
-            from: b.from + 3,
-            end: b.end,
-        },
-        n,
-    );
-    if alike_rows(
-        tokens,
-        Part {
-            from: i,
-            end: a.end,
-        },
-        Part {
-            from: j,
-            end: b.end,
-        },
-    ) {
+    let mut x = a;
+    let mut y = b;
+    x.from += 3;
+    y.from += 3;
+    x.from = behind_terms(tokens, x, n);
+    y.from = behind_terms(tokens, y, n);
+    if alike_rows(tokens, x, y) {
         return a.end;
     }
-    i
+    x.from
 }
 
 // How far the row of a term is recovered from another, as a place.

@@ -30,11 +30,11 @@ returns-then-alike_rows-clause-reached c =
     λ k j ps qs d e hp hq f g.
     members_same (nominal_at hp d f) (nominal_at hq e g) c.word_at.ensures c.word_at-2.ensures c.word_at-n.ensures c.word_at-3.ensures c.if-word_at.false
     c.if-n-word_at.false
-    c.behind_terms-i.ensures.behind c.behind_terms-j.ensures.behind c.alike_rows.ensures c.if-alike_rows.true
+    c.behind_terms.ensures.behind c.behind_terms-2.ensures.behind c.alike_rows.ensures c.if-alike_rows.true
 
 pub returns-clause-reached : goal.returns-clause-reached
 returns-clause-reached c =
     λ k j ps qs d e hp hq f g.
     members_differ (nominal_at hp d f) (nominal_at hq e g) c.word_at.ensures c.word_at-2.ensures c.word_at-n.ensures c.word_at-3.ensures c.if-word_at.false
     c.if-n-word_at.false
-    c.behind_terms-i.ensures.behind c.behind_terms-j.ensures.behind c.alike_rows.ensures c.if-alike_rows.false
+    c.behind_terms.ensures.behind c.behind_terms-2.ensures.behind c.alike_rows.ensures c.if-alike_rows.false
