@@ -7,7 +7,7 @@ ghost use Rattle.terms.specs.Formed.{Formed};
 ghost use Rattle.terms.specs.Words.TermsAtPlaces.{FormedAt};
 ghost use Rattle.terms.specs.Questions.{among};
 ghost use Rattle.terms.specs.Comparison.{conflicts_with, can_weaken_to};
-ghost use Rattle.terms.specs.Words.Lent.{Inside, NotEmpty};
+ghost use Rattle.terms.specs.Words.Lent.{PartOf, NotEmpty};
 ghost use Rattle.terms.specs.Words.CompareContract.{Rows, Forward, Stepped, Passed};
 
 use super::runs::{same_term, skip, width_at, word};
@@ -95,7 +95,7 @@ fn past(tokens: &Tokens, a: Part, b: Part) -> Option<(usize, usize)>
 
 // Whether two rows conflict.
 fn rows_conflict(tokens: &Tokens, a: Part, b: Part) -> bool
-    requires { Inside tokens.now.kinds.now a × Inside tokens.now.kinds.now b }
+    requires { PartOf tokens.now.kinds.now a × PartOf tokens.now.kinds.now b }
     ensures { (whole : Bool) → Rows tokens.now.kinds.now tokens.now.vals.now a.from a.end b.from b.end whole → result ≡ whole }
 {
     let mut x = a;

@@ -13,7 +13,7 @@ ghost use Rattle.terms.specs.Formed.{Formed, Fit};
 ghost use Rattle.terms.specs.Words.TermsAtPlaces.{FormedAt, RecoversAt};
 ghost use Rattle.terms.specs.Tree.{row};
 ghost use Rattle.terms.specs.Recovery.{recover_from, recover_row, reach, nominal_reach};
-ghost use Rattle.terms.specs.Words.Lent.{Inside, NotEmpty};
+ghost use Rattle.terms.specs.Words.Lent.{PartOf, NotEmpty};
 ghost use Rattle.terms.specs.Words.RecoverContract.{Put, upto, alike, Paired, Parted};
 
 use super::questions::{tag_of, word_at};
@@ -23,7 +23,7 @@ use super::{Part, Tokens};
 
 // The place after the first n terms of a part, at most its end.
 fn behind_terms(tokens: &Tokens, a: Part, n: u32) -> usize
-    requires { Inside tokens.now.kinds.now a }
+    requires { PartOf tokens.now.kinds.now a }
     ensures within { (a.from ≤ result) × (result ≤ a.end) }
     ensures behind { (s : Shape) (ps : Parts)
         → HeldParts tokens.now.kinds.now tokens.now.vals.now a.from a.end ps → Fit (many_terms n s) ps → result ≡ a.from + upto n ps }
@@ -58,7 +58,7 @@ fn paired(kinds: &[u32], a: Part, b: Part) -> bool
 
 // Whether two rows have the same numbers at the same places.
 fn alike_rows(tokens: &Tokens, a: Part, b: Part) -> bool
-    requires { Inside tokens.now.kinds.now a × Inside tokens.now.kinds.now b }
+    requires { PartOf tokens.now.kinds.now a × PartOf tokens.now.kinds.now b }
     ensures { (ps qs : Parts)
         → HeldParts tokens.now.kinds.now tokens.now.vals.now a.from a.end ps
         → HeldParts tokens.now.kinds.now tokens.now.vals.now b.from b.end qs
@@ -213,7 +213,7 @@ fn recover_term(tokens: &Tokens, a: Part, b: Part, out: &mut [u8], at: usize) ->
 // The same of a row as far as `stop`, from another row; the rest is written as it stands.
 #[cycle(recovering)]
 fn recover_row(tokens: &Tokens, a: Part, stop: usize, b: Part, out: &mut [u8], at: usize) -> usize
-    requires places { (a.from ≤ stop) × (stop ≤ a.end) × (a.end ≤ length tokens.now.kinds.now) × Inside tokens.now.kinds.now b }
+    requires places { (a.from ≤ stop) × (stop ≤ a.end) × (a.end ≤ length tokens.now.kinds.now) × PartOf tokens.now.kinds.now b }
     requires room { at + 6 * (a.end - a.from) + 6 * (b.end - b.from) < 2 ^ 64 }
     ensures bound { (at ≤ result) × (result ≤ at + 6 * (a.end - a.from) + 6 * (b.end - b.from)) }
     ensures put { (c : ℕ) (ps qs : Parts)

@@ -10,8 +10,8 @@ abbrev pub shown : Seen → Area
 shown x = view x.tokens.kinds.now x.tokens.vals.now x.given
 
 -- a part of so many tokens, and one that is not empty
-abbrev pub Inside : List ℕ → Part → Type 0
-Inside ks p = (p.from ≤ p.end) × (p.end ≤ length ks)
+abbrev pub PartOf : List ℕ → Part → Type 0
+PartOf ks p = (p.from ≤ p.end) × (p.end ≤ length ks)
 
 abbrev pub NotEmpty : List ℕ → Part → Type 0
 NotEmpty ks p = (p.from < p.end) × (p.end ≤ length ks)
