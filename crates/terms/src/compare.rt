@@ -1,5 +1,5 @@
 // Comparing two terms without building anything: `conflicts_with` and `can_weaken_to`.
-// Kinds and tags are matched by number: a tag is a byte of the format (document 01: a match on the tag byte), and a node's kind is its tag and 2.
+// Kinds and tags are matched by number; the line in kinds.rt says why.
 ghost use Rattle.std.specs.Prelude.{◌≡◌, Bool, ◌≤◌, ◌<◌, length, get_or, [], ◌∷◌};
 ghost use Rattle.terms.specs.Term.{Term, Parts, sub};
 ghost use Rattle.terms.specs.Words.Held.{Held, HeldParts};

@@ -1,6 +1,6 @@
 // The questions that look for a term of some kind: one walk over the tokens, told by the question. Linear in the tokens looked at; a Generic
 // of `IsResolvedIn` is looked for among the parameters.
-// Kinds and tags are matched by number: a tag is a byte of the format (document 01: a match on the tag byte), and a node's kind is its tag and 2.
+// Kinds and tags are matched by number; the line in kinds.rt says why.
 ghost use Rattle.std.specs.Prelude.{◌≡◌, Bool, List, ℕ, ◌≤◌, ◌<◌, length};
 ghost use Rattle.terms.specs.Parser.{got};
 ghost use Rattle.terms.specs.Term.{Term};

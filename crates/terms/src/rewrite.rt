@@ -1,7 +1,7 @@
 // A term is written with its binders replaced. The replaced terms are written as they stand, straight from the areas: nothing is built, and an
 // inserted term is not looked into. Each Generic and each SelfType costs a search through the rows and the parameters; all else is linear in the
 // tokens read and the bytes written.
-// Kinds and tags are matched by number: a tag is a byte of the format (document 01: a match on the tag byte), and a node's kind is its tag and 2.
+// Kinds and tags are matched by number; the line in kinds.rt says why.
 ghost use Rattle.std.specs.Prelude.{◌≡◌, ◌+◌, ◌-◌, ◌≤◌, ◌<◌, length};
 ghost use Rattle.std.proofs.lemmas.List.Edits.{sets};
 ghost use Rattle.terms.specs.Result.{pick};

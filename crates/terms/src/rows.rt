@@ -1,5 +1,5 @@
 // The row of a node by place: its numbers, its members' keys, its children.
-// Kinds and tags are matched by number: a tag is a byte of the format (document 01: a match on the tag byte), and a node's kind is its tag and 2.
+// Kinds and tags are matched by number; the line in kinds.rt says why.
 ghost use Rattle.terms.specs.Words.Lent.{shown};
 ghost use Rattle.std.specs.Prelude.{◌≡◌, Bool, ℕ, ◌-◌, ◌<◌, get_or};
 ghost use Rattle.std.specs.Iterator.{at_most};

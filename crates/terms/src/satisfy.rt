@@ -1,7 +1,7 @@
 // What a bound satisfies, on the tokens of bare nominals. Each required member is looked for among the given ones, and the tokens of two terms are
 // compared: at most as many steps as members required times members given, and the tokens compared. `satisfies_for` does the same once more for the
 // interface of each projection that is not given.
-// Kinds and tags are matched by number: a tag is a byte of the format (document 01: a match on the tag byte), and a node's kind is its tag and 2.
+// Kinds and tags are matched by number; the line in kinds.rt says why.
 ghost use Rattle.std.specs.Prelude.{◌≡◌, Bool, List, ℕ, ◌+◌, ◌≤◌, ◌<◌, length};
 ghost use Rattle.std.proofs.Math.Option.{Option};
 ghost use Rattle.terms.specs.Term.{Term, Parts, node, items};

@@ -1,5 +1,5 @@
 // The order in which `map_children` comes to the children of a node.
-// Kinds and tags are matched by number: a tag is a byte of the format (document 01: a match on the tag byte), and a node's kind is its tag and 2.
+// Kinds and tags are matched by number; the line in kinds.rt says why.
 ghost use Rattle.std.specs.Prelude.{◌≡◌, ◌+◌, ◌-◌, ◌≤◌, ◌<◌};
 ghost use Rattle.terms.specs.Tree.{class, nominal_slot, projection_slot, slot_by};
 ghost use Rattle.terms.specs.Words.SlotsContract.{class_number};
