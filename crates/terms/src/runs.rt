@@ -1,7 +1,7 @@
 // Runs of tokens: how long a term is, and whether two are the same.
 // Kinds and tags are matched by number; the line in kinds.rt says why.
-ghost use Rattle.std.specs.Prelude.{◌≡◌, true, false, ◌+◌, ◌-◌, ◌≤◌, ◌<◌, length, get_or};
-ghost use Rattle.terms.specs.Words.Tokens.{toks};
+ghost use Rattle.std.specs.Prelude.{◌≡◌, ◌↔◌, IsTrue, true, false, ◌+◌, ◌-◌, ◌≤◌, ◌<◌, length, get_or};
+ghost use Rattle.terms.specs.Words.Tokens.{toks, Agree};
 ghost use Rattle.terms.specs.Term.{Term};
 ghost use Rattle.terms.specs.Words.Held.{Held, span};
 ghost use Rattle.terms.specs.Tree.{same};
@@ -86,22 +86,22 @@ pub fn width_at(tokens: &Tokens, i: usize) -> usize
     skip(tokens, i, tokens.kinds.len() - i)
 }
 
-// Whether the two runs of `count` tokens are the same, token by token.
+// Whether two runs of `count` words are the same.
+fn same_words(words: &[u32], a: usize, b: usize, count: usize) -> bool
+    requires { (a + count ≤ length words.now) × (b + count ≤ length words.now) }
+    ensures { IsTrue result ↔ Agree words.now a b count }
+{
+    words[a..a + count] == words[b..b + count]
+}
+
+// Whether the two runs of `count` tokens are the same.
 pub fn same_run(kinds: &[u32], vals: &[u32], a: usize, b: usize, count: usize) -> bool
     requires first { (a + count ≤ length kinds.now) × (a + count ≤ length vals.now) }
     requires second { (b + count ≤ length kinds.now) × (b + count ≤ length vals.now) }
     ensures yes { result ≡ true → toks kinds.now vals.now a count ≡ toks kinds.now vals.now b count }
     ensures no { result ≡ false → toks kinds.now vals.now a count ≡ toks kinds.now vals.now b count → ⊥ }
 {
-    for i in 0..count {
-        if kinds[a + i] != kinds[b + i] {
-            return false;
-        }
-        if vals[a + i] != vals[b + i] {
-            return false;
-        }
-    }
-    true
+    same_words(kinds, a, b, count) && same_words(vals, a, b, count)
 }
 
 // Whether the terms at a and b are the same.

@@ -1,7 +1,7 @@
 -- The token areas. Token i is the pair of its kind, at i of `kinds`, and its value, at i of `vals`. Kind 0 is a number of the byte
 -- form, kind 1 a variable, and kind k + 2 the head of a node with the tag k, whose value is the node's span: how many tokens it has,
 -- itself included.
-use Rattle.std.specs.Prelude.{◌^◌, ◌<◌, ℕ, zero, suc, Bool, List, [], ◌∷◌, ◌++◌, get_or, set, take}
+use Rattle.std.specs.Prelude.{◌≡◌, ◌+◌, ◌^◌, ◌<◌, ℕ, zero, suc, Bool, List, [], ◌∷◌, ◌++◌, get_or, set, take}
 use Rattle.terms.specs.Result.{pick}
 
 pub data Item : Type 0 where
@@ -18,6 +18,10 @@ area ks vs = record { kinds = ks; vals = vs }
 -- words of 32 bits
 pub record Narrow (ws : List ℕ) : Type 0 where
   pub fits : (i : ℕ) → get_or ws i 0 < 2 ^ 32
+
+-- the n words from a on are those from b on
+abbrev pub Agree : List ℕ → (a b n : ℕ) → Type 0
+Agree ws a b n = (i : ℕ) → i < n → get_or ws (a + i) 0 ≡ get_or ws (b + i) 0
 
 -- one token stored; past the end of an area nothing is stored there
 abbrev pub put : Area → ℕ → ℕ → ℕ → Area

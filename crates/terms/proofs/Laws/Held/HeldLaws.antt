@@ -1,15 +1,14 @@
 -- Terms and rows in the areas, taken apart token by token; and the tokens tell the term.
 use mathlib.Core.Path.{◌≡◌, refl, sym, ap, ◌∙◌}
 use mathlib.Core.List.{List, [], ◌∷◌, ◌++◌}
-use Prim.Native.Nat.{ℕ, zero, suc, pred, ◌+◌, ◌-◌, ◌≤◌, ◌<◌}
+use Prim.Native.Nat.{ℕ, zero, suc, pred, ◌+◌, ◌≤◌, ◌<◌}
 use native.Mathlib.Nat.{add-zero, add-suc, suc-add, zero-add}
 use native.Mathlib.Numerals.{add-one}
 use native.Mathlib.Omega.{arith}
 use lib.ListN.{length, get_or, length-append}
-use Rattle.terms.specs.Words.Tokens.{Item, item, spell, one, toks}
+use Rattle.terms.specs.Words.Tokens.{Agree, Item, item, spell, toks}
 use Rattle.terms.specs.Term.{Term, Parts, var, node, end, num, sub, items, part_items}
 use Rattle.terms.specs.Words.Held.{Held, HeldParts, span}
-use Rattle.terms.proofs.Laws.Format.WriteLaws.{spell_more}
 
 -- ---- spans
 
@@ -185,15 +184,42 @@ module _ (ks vs : List ℕ) where
 
 -- ---- two runs
 
--- two runs agree where their first tokens and what follows agree
-module _ (ks vs : List ℕ) (a b i c : ℕ) (h : i < c) where
-  pub toks_join : get_or ks (a + i) 0 ≡ get_or ks (b + i) 0 → get_or vs (a + i) 0 ≡ get_or vs (b + i) 0
-      → toks ks vs (a + (i + 1)) (c - (i + 1)) ≡ toks ks vs (b + (i + 1)) (c - (i + 1)) → toks ks vs (a + i) (c - i) ≡ toks ks vs (b + i) (c - i)
-  toks_join ek ev et = rw (spell_more one ks vs a i c h, spell_more one ks vs b i c h, ek, ev, et)
+agree_first : (ws : List ℕ) (a b c : ℕ) → Agree ws a b (suc c) → get_or ws a 0 ≡ get_or ws b 0
+agree_first ws a b c f =
+    let p : a + 0 ≡ a = omega arith in
+    let q : b + 0 ≡ b = omega arith in
+    rw (p, q) at (f 0 (omega arith))
 
-  pub toks_split : toks ks vs (a + i) (c - i) ≡ toks ks vs (b + i) (c - i)
-      → (get_or ks (a + i) 0 ≡ get_or ks (b + i) 0) × (get_or vs (a + i) 0 ≡ get_or vs (b + i) 0)
-      × (toks ks vs (a + (i + 1)) (c - (i + 1)) ≡ toks ks vs (b + (i + 1)) (c - (i + 1)))
-  toks_split e =
-      let q = sym (spell_more one ks vs a i c h) ∙ e ∙ spell_more one ks vs b i c h in
-      (cc, cc, cc)
+agree_rest : (ws : List ℕ) (a b c : ℕ) → Agree ws a b (suc c) → Agree ws (suc a) (suc b) c
+agree_rest ws a b c f i lt =
+    let p : suc a + i ≡ a + suc i = omega arith in
+    let q : suc b + i ≡ b + suc i = omega arith in
+    rw (p, q) (f (suc i) (omega arith))
+
+agree_more : (ws : List ℕ) (a b c : ℕ) → get_or ws a 0 ≡ get_or ws b 0 → Agree ws (suc a) (suc b) c → Agree ws a b (suc c)
+agree_more ws a b c e f zero lt =
+    let p : a + 0 ≡ a = omega arith in
+    let q : b + 0 ≡ b = omega arith in
+    rw (p, q) e
+agree_more ws a b c e f (suc i) lt =
+    let p : a + suc i ≡ suc a + i = omega arith in
+    let q : b + suc i ≡ suc b + i = omega arith in
+    rw (p, q) (f i (omega arith))
+
+module _ (ks vs : List ℕ) where
+  -- two runs are the same where their kinds and their values are
+  pub toks_agree : (a b c : ℕ) → Agree ks a b c → Agree vs a b c → toks ks vs a c ≡ toks ks vs b c
+  unfolding spell
+  toks_agree a b zero k v = refl
+  toks_agree a b (suc c) k v =
+      let x = agree_first ks a b c k in
+      let y = agree_first vs a b c v in
+      let z = toks_agree (suc a) (suc b) c (agree_rest ks a b c k) (agree_rest vs a b c v) in
+      cc
+
+  pub agree_toks : (a b c : ℕ) → toks ks vs a c ≡ toks ks vs b c → Agree ks a b c × Agree vs a b c
+  unfolding spell
+  agree_toks a b zero e = (λ i lt. absurd (omega arith), λ i lt. absurd (omega arith))
+  agree_toks a b (suc c) e =
+      let r = agree_toks (suc a) (suc b) c (cc) in
+      (agree_more ks a b c (cc) r.0, agree_more vs a b c (cc) r.1)
