@@ -297,16 +297,21 @@ def stop(*_):
     sys.exit(1)
 
 
+# What rt check notes of a linked program, in a file that it writes into.
+WRITTEN_INTO = "linked-compared"
+
+
 def link_tree(source, to):
-    """The files of a directory in another one, by links where that can be."""
+    """The files of a directory in another one, by links where that can be, and by copies of those that rt check writes into."""
     for directory, _, files in os.walk(source):
         there = os.path.join(to, os.path.relpath(directory, source))
         os.makedirs(there, exist_ok=True)
         for file in files:
+            old, new = os.path.join(directory, file), os.path.join(there, file)
             try:
-                os.link(os.path.join(directory, file), os.path.join(there, file))
+                (shutil.copy2 if file == WRITTEN_INTO else os.link)(old, new)
             except OSError:
-                shutil.copy2(os.path.join(directory, file), os.path.join(there, file))
+                shutil.copy2(old, new)
 
 
 def manifest(directory):
@@ -348,6 +353,8 @@ class Copy:
         for file, (node, size, _) in now.items():
             if file not in kept:
                 os.unlink(self.out(crate, "incremental", file))
+            elif os.path.basename(file) == WRITTEN_INTO:
+                shutil.copy2(os.path.join(self.directory, "kept", crate, file), self.out(crate, "incremental", file))
             elif node == kept[file][0] and now[file] != kept[file] and size and "-offers" not in file:
                 raise RuntimeError("rt check wrote into %s in place: it cannot be put back" % file)
         for file, (node, _, _) in kept.items():
