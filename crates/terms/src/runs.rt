@@ -92,6 +92,7 @@ pub fn width_at(tokens: &Tokens, i: usize) -> usize
 pub fn term_part(tokens: &Tokens, a: usize) -> Part
     requires { a < length tokens.now.kinds.now }
     ensures part { (result.from ≡ a) × NotEmpty tokens.now.kinds.now result }
+    ensures ends { result.end ≡ a + stride tokens.now.kinds.now tokens.now.vals.now a (length tokens.now.kinds.now - a) }
     ensures term { (t : Term) → Held tokens.now.kinds.now tokens.now.vals.now a t → result.end ≡ a + length (items t) }
 {
     Part {
