@@ -44,7 +44,7 @@ pub use questions::ask;
 pub use reader::part_at;
 pub use recover::{recovered_len, write_recovered};
 pub use rewrite::write_term;
-pub use runs::skip;
+pub use runs::{skip, term_part};
 pub use satisfy::{satisfies, satisfies_for};
 pub use store::clear_tokens;
 pub use write::{run_len, write_run};

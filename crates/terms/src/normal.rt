@@ -1,7 +1,8 @@
 // `normalize` and `with_associated_types`: a term is walked and sized, and then written.
 // Kinds and tags are matched by number; the line in kinds.rt says why.
 // Heads and kids are lent as two slices; the line in rows.rt says why.
-ghost use Rattle.std.specs.Prelude.{◌≡◌, ◌+◌, ◌≤◌, ◌<◌, List, length};
+ghost use Rattle.std.specs.Prelude.{◌≡◌, ◌+◌, ◌≤◌, ◌<◌, List, length, nat_eq};
+ghost use Rattle.std.specs.List.{list_any};
 ghost use Rattle.std.proofs.lemmas.List.Edits.{sets};
 ghost use Rattle.terms.specs.Words.VirtualTokens.{Sight};
 ghost use Rattle.terms.specs.Term.{Term, Parts, node, items, bytes, Held};
@@ -13,11 +14,17 @@ ghost use Rattle.terms.specs.Words.Arena.{RecordRoom};
 ghost use Rattle.terms.specs.Words.NormalContract.{Zero, Lends, Stands, Sized, Fitted, Answers, Leaves, RuledAt, OwnedAt, KeptAt};
 
 use super::rules::source;
-use super::runs::word;
 use super::showing::show_tree;
 use super::store::clear_tokens;
 use super::walking::walk;
 use super::{Content, Origin, Ready, Seen, Tokens, Unfinished};
+
+// Whether one of the kinds is a projection's.
+fn any_projection(kinds: &[u32]) -> bool
+    ensures { result ≡ list_any (λ k. nat_eq k 20) kinds.now }
+{
+    kinds.iter().any(|k| *k == 20)
+}
 
 // Whether the term at p has a projection.
 fn has_projection(tokens: &Tokens, p: u32) -> bool
@@ -25,12 +32,7 @@ fn has_projection(tokens: &Tokens, p: u32) -> bool
 {
     let from = p as usize;
     let end = from + tokens.token(from).step();
-    for q in from..end {
-        if word(tokens.kinds, q) == 20 {
-            return true;
-        }
-    }
-    false
+    end <= tokens.kinds.len() && any_projection(&tokens.kinds[from..end])
 }
 
 // Sizes a content, whose records are `next`, and keeps it where it fits from `at` on, else clears its records.
