@@ -22,7 +22,7 @@ ghost use Rattle.solver.specs.Words.CongruenceClasses.{Closed, TermsJoined, Rows
 use super::Bindings;
 use super::reach::clear_queue;
 use super::top::shallow_resolve;
-use terms::{Part, skip};
+use terms::{Part, skip, term_part};
 
 // The root of the class of a, of the n places.
 fn find(n: usize, work: &[u32], a: usize) -> usize
@@ -155,15 +155,10 @@ fn union_parts(bindings: &Bindings, x: usize, y: usize, work: &mut [u32], top: &
         → HeldBy bindings.now y (node l qs)
         → RowsJoined bindings.now b work.old work.new result ps qs }
 {
-    let tokens = &bindings.tokens;
-    let a = Part {
-        from: x + 1,
-        end: x + skip(tokens, x, tokens.kinds.len() - x),
-    };
-    let b = Part {
-        from: y + 1,
-        end: y + skip(tokens, y, tokens.kinds.len() - y),
-    };
+    let mut a = term_part(&bindings.tokens, x);
+    let mut b = term_part(&bindings.tokens, y);
+    a.from += 1;
+    b.from += 1;
     union_rows(bindings, a, b, work, top)
 }
 
