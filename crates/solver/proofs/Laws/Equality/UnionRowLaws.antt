@@ -6,7 +6,7 @@ use Prim.Native.Nat.{ℕ, ◌+◌, ◌≤◌, ◌<◌}
 use native.Mathlib.Omega.{arith}
 use native.Mathlib.Decide.{ℕ_discrete}
 use lib.ListN.{length, get_or}
-use Rattle.terms.specs.Term.{Term, Parts, node, end, num, sub, items, Held}
+use Rattle.terms.specs.Term.{Term, Parts, end, num, sub, items, Held}
 use Rattle.terms.specs.Words.Held.{HeldParts, span}
 use Rattle.terms.proofs.Laws.General.Bools.{never_true}
 use Rattle.terms.proofs.Laws.Held.HeldLaws.{held_first, span_is, items_some, row_end, row_num, row_sub}
