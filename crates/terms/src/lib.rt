@@ -126,6 +126,17 @@ pub struct Place {
     pub limit: usize,
 }
 
+impl Place {
+    ghost use Rattle.std.specs.Prelude.{◌≡◌, leb};
+
+    // Whether tokens are stored: the nodes that were read are within the limit.
+    fn within_limit(self) -> bool
+        ensures { result ≡ leb self.nodes self.limit }
+    {
+        self.nodes <= self.limit
+    }
+}
+
 // A term reader: the bytes of an order, and where it stands in them.
 #[derive(Clone, Copy)]
 pub struct TermReader<'a> {

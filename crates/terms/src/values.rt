@@ -64,14 +64,9 @@ fn keep_number(
     ensures areas { area kinds.new vals.new
         ≡ put_if (leb place.old.nodes place.old.limit) (area kinds.old vals.old) place.old.top kind v }
 {
-    put_token(
-        kinds,
-        vals,
-        place.nodes <= place.limit,
-        place.top,
-        kind,
-        v as u32,
-    );
+    if place.within_limit() {
+        put_token(kinds, vals, place.top, kind, v as u32);
+    }
     place.at = next;
     place.top += 1;
 }
