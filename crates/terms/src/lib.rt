@@ -185,11 +185,10 @@ pub struct RecordRequest {
     pub issued: u64,
 }
 
-// What follows the tag of a plain kind: a code below `codes` where that is not 0, at most two numbers, a count with as many terms, and
-// `terms` terms.
+// What follows the tag of a plain kind: a code below `codes`, where there is one, at most two numbers, a count with as many terms, and `terms` terms.
 #[derive(Clone, Copy)]
 pub struct Fields {
-    pub codes: u32,
+    pub codes: Option<u32>,
     pub first: bool,
     pub second: bool,
     pub counted: bool,
