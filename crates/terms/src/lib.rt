@@ -126,6 +126,17 @@ pub struct Place {
     pub limit: usize,
 }
 
+impl Place {
+    ghost use Rattle.std.specs.Prelude.{◌≡◌, leb};
+
+    // Whether tokens are stored: the nodes that were read are within the limit.
+    fn within_limit(self) -> bool
+        ensures { result ≡ leb self.nodes self.limit }
+    {
+        self.nodes <= self.limit
+    }
+}
+
 // A term reader: the bytes of an order, and where it stands in them.
 #[derive(Clone, Copy)]
 pub struct TermReader<'a> {
@@ -174,11 +185,10 @@ pub struct RecordRequest {
     pub issued: u64,
 }
 
-// What follows the tag of a plain kind: a code below `codes` where that is not 0, at most two numbers, a count with as many terms, and
-// `terms` terms.
+// What follows the tag of a plain kind: a code below `codes`, where there is one, at most two numbers, a count with as many terms, and `terms` terms.
 #[derive(Clone, Copy)]
 pub struct Fields {
-    pub codes: u32,
+    pub codes: Option<u32>,
     pub first: bool,
     pub second: bool,
     pub counted: bool,
