@@ -326,7 +326,7 @@ pub struct Cursor {
 
 // A rule of order 20: the places of its interface and its receiver, its member, the place of its arguments and how many they are, and the place of its
 // value.
-#[derive(Clone, Copy)]
+#[derive(Clone, Copy, Default)]
 pub struct Rule {
     pub interface: u32,
     pub receiver: u32,
