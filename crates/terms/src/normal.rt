@@ -17,7 +17,7 @@ use super::rules::source;
 use super::showing::show_tree;
 use super::store::clear_tokens;
 use super::walking::walk;
-use super::{Content, Origin, Ready, Rule, Seen, Tokens, Unfinished};
+use super::{Content, Origin, Pass, Ready, Rule, Seen, Tokens, Unfinished};
 
 // Whether one of the kinds is a projection's.
 fn any_projection(kinds: &[u32]) -> bool
@@ -51,7 +51,7 @@ fn size_up(
     ensures sized { Sized seen.now.tokens.kinds.now seen.now.tokens.vals.now heads.old kids.old heads.new kids.new seen.now.given x next fuel
         out.old at result }
 {
-    let e = show_tree(seen, heads, kids, x, fuel, out, at, false);
+    let e = show_tree(seen, heads, kids, x, fuel, out, at, Pass::Count);
     fit_up(heads, kids, seen.given, x, next, e - at, out.len() - at)
 }
 
@@ -260,7 +260,7 @@ pub fn write_normalised(
         head: w.head,
         kids: w.kids,
     };
-    let e = show_tree(&seen, heads, kids, x, LEVELS + 1, out, at, true);
+    let e = show_tree(&seen, heads, kids, x, LEVELS + 1, out, at, Pass::Write);
     clear_tokens(heads, kids, 0, w.next);
     if out.len() < e {
         return at;
