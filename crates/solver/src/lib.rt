@@ -10,7 +10,6 @@ mod pending;
 mod ranges;
 mod reach;
 mod resolving;
-mod rule_words;
 mod sessions;
 mod substitution;
 mod top;
@@ -18,7 +17,6 @@ mod variables;
 
 pub use answers::{refusal_number, variable_len, write_variable};
 pub use ranges::{plain_request, range_request};
-pub use rule_words::put_rule;
 pub use substitution::{context, family, instantiation, self_only};
 
 // Functions and types of the terms that are handed on to the sheet, which names this crate alone.

@@ -43,7 +43,7 @@ pub use numbers::{number_len, read_number, write_number};
 pub use questions::ask;
 pub use reader::part_at;
 pub use recover::{recovered_len, write_recovered};
-pub use runs::skip;
+pub use runs::{skip, term_part};
 pub use satisfy::{satisfies, satisfies_for};
 pub use store::clear_tokens;
 pub use write::{run_len, write_run};
@@ -125,6 +125,17 @@ pub struct Place {
     pub limit: usize,
 }
 
+impl Place {
+    ghost use Rattle.std.specs.Prelude.{◌≡◌, leb};
+
+    // Whether tokens are stored: the nodes that were read are within the limit.
+    fn within_limit(self) -> bool
+        ensures { result ≡ leb self.nodes self.limit }
+    {
+        self.nodes <= self.limit
+    }
+}
+
 // A term reader: the bytes of an order, and where it stands in them.
 #[derive(Clone, Copy)]
 pub struct TermReader<'a> {
@@ -173,11 +184,10 @@ pub struct RecordRequest {
     pub issued: u64,
 }
 
-// What follows the tag of a plain kind: a code below `codes` where that is not 0, at most two numbers, a count with as many terms, and
-// `terms` terms.
+// What follows the tag of a plain kind: a code below `codes`, where there is one, at most two numbers, a count with as many terms, and `terms` terms.
 #[derive(Clone, Copy)]
 pub struct Fields {
-    pub codes: u32,
+    pub codes: Option<u32>,
     pub first: bool,
     pub second: bool,
     pub counted: bool,
@@ -343,7 +353,7 @@ pub struct Cursor {
 
 // A rule of order 20: the places of its interface and its receiver, its member, the place of its arguments and how many they are, and the place of its
 // value.
-#[derive(Clone, Copy)]
+#[derive(Clone, Copy, Default)]
 pub struct Rule {
     pub interface: u32,
     pub receiver: u32,
