@@ -6,15 +6,16 @@ ghost use Rattle.std.specs.Prelude.{◌≡◌, ◌+◌, ◌-◌, ◌≤◌, ◌<
 ghost use Rattle.std.proofs.lemmas.List.Edits.{sets};
 ghost use Rattle.terms.specs.Result.{pick};
 ghost use Rattle.terms.specs.Words.TokenBytes.{spelt};
-ghost use Rattle.terms.specs.Words.FindContract.{stride, argument_for};
+ghost use Rattle.terms.specs.Words.FindContract.{argument_for};
+ghost use Rattle.terms.specs.Words.Lent.{PartOf};
 ghost use Rattle.terms.specs.Words.RewriteContract.{by, index, entry_for, generic, in_context_of, generic_for, self_for, chosen, piece, pace, Space, Inside};
 ghost use Rattle.terms.specs.Words.RewriteContract.{rewritten, written, Writes, Rewrites};
 ghost use Rattle.terms.specs.Words.ShowingContract.{writes};
 
 use super::find::{find_entry, find_receiver, nth_term};
-use super::runs::{skip, width_at, word};
+use super::runs::{skip, term_part, width_at, word};
 use super::write::{run_len, write_run};
-use super::{Choice, Parameter, Parameters, Pass, Purpose, Rewriter, Tokens};
+use super::{Choice, Parameter, Parameters, Part, Pass, Purpose, Rewriter, Tokens};
 
 // What was found, or the term itself.
 fn taken(found: Option<usize>) -> Choice
@@ -81,15 +82,6 @@ fn pace(tokens: &Tokens, c: Choice, p: usize, end: usize) -> usize
         Choice::By(_) => skip(tokens, p, end - p),
         Choice::Unknown => skip(tokens, p, end - p),
     }
-}
-
-// Where the term at a place ends.
-fn end_at(tokens: &Tokens, from: usize) -> usize
-    requires { from < length tokens.now.kinds.now }
-    ensures within { (from ≤ result) × (result ≤ length tokens.now.kinds.now) }
-    ensures is { result ≡ from + stride tokens.now.kinds.now tokens.now.vals.now from (length tokens.now.kinds.now - from) }
-{
-    from + width_at(tokens, from)
 }
 
 impl<'a> Rewriter<'a> {
@@ -187,19 +179,20 @@ impl<'a> Rewriter<'a> {
         Choice::Keep
     }
 
-    // Writes the tokens from `from` up to `end` at a position of `out`, with the binders replaced, and returns the position after them; or only counts.
-    fn rewrite_run(&self, from: usize, end: usize, out: &mut [u8], at: usize, pass: Pass) -> usize
-        requires run { (from ≤ end) × (end ≤ length self.now.tokens.kinds.now) }
+    // Writes the tokens of a part at a position of `out`, with the binders replaced, and returns the position after them; or only counts.
+    fn rewrite_run(&self, part: Part, out: &mut [u8], at: usize, pass: Pass) -> usize
+        requires part { PartOf self.now.tokens.kinds.now part }
         requires space { Space (writes pass) at
-            (length (rewritten self.now.tokens.kinds.now self.now.tokens.vals.now self.now.binders from end)) (length out.old) }
-        ensures next { result ≡ at + length (rewritten self.now.tokens.kinds.now self.now.tokens.vals.now self.now.binders from end) }
+            (length (rewritten self.now.tokens.kinds.now self.now.tokens.vals.now self.now.binders part)) (length out.old) }
+        ensures next { result ≡ at + length (rewritten self.now.tokens.kinds.now self.now.tokens.vals.now self.now.binders part) }
         ensures wrote { out.new
-            ≡ pick (writes pass)
-            (sets out.old at (rewritten self.now.tokens.kinds.now self.now.tokens.vals.now self.now.binders from end)) out.old }
+            ≡ pick (writes pass) (sets out.old at (rewritten self.now.tokens.kinds.now self.now.tokens.vals.now self.now.binders part))
+            out.old }
     {
         let tokens = &self.tokens;
         let mut i = at;
-        let mut p = from;
+        let end = part.end;
+        let mut p = part.from;
         // A step is one token, or a term where that is replaced: what is gone through is a run of tokens, no row of one term, and no range is counted.
         while p < end {
             let c = self.replaced_at(p);
@@ -219,7 +212,6 @@ impl<'a> Rewriter<'a> {
         ensures trees { Rewrites self.now.tokens.kinds.now self.now.tokens.vals.now self.now.binders from
             (Writes (writes pass) out.old at result out.new) }
     {
-        let end = end_at(&self.tokens, from);
-        self.rewrite_run(from, end, out, at, pass)
+        self.rewrite_run(term_part(&self.tokens, from), out, at, pass)
     }
 }

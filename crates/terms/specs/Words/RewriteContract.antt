@@ -13,6 +13,7 @@ use Rattle.terms.specs.Words.Held.{Held, HeldParts}
 use Rattle.terms.specs.Tree.{unknown}
 use Rattle.terms.specs.Words.TokenBytes.{spelt}
 use Rattle.terms.specs.declared.Parameters.{Parameters}
+use Rattle.terms.specs.declared.Part.{Part}
 use Rattle.terms.specs.declared.Purpose.{Purpose}
 use Rattle.terms.specs.declared.Purpose.TheVariants.{Instance, Context, Family}
 use Rattle.terms.specs.Questions.{Parameter}
@@ -89,9 +90,9 @@ module _ (ks vs : List ℕ) where
   pieces f zero p e = []
   pieces f (suc fuel) p e = pick (ltb p e) (piece p (f p) ++ pieces f fuel (p + pace p e (f p)) e) []
 
--- the tokens from a up to e
-abbrev pub rewritten : (ks vs : List ℕ) → Binders → ℕ → ℕ → List ℕ
-rewritten ks vs b a e = pieces ks vs (chosen ks vs b) (e - a) a e
+-- the tokens of a part
+abbrev pub rewritten : (ks vs : List ℕ) → Binders → Part → List ℕ
+rewritten ks vs b p = pieces ks vs (chosen ks vs b) (p.end - p.from) p.from p.end
 
 -- ---- contracts
 
@@ -132,7 +133,7 @@ pub record HeldBinders (ks vs : List ℕ) (b : Binders) (es : List Entry) (rs : 
 
 -- the term at a place
 abbrev pub written : (ks vs : List ℕ) → Binders → ℕ → List ℕ
-written ks vs b a = rewritten ks vs b a (a + stride ks vs a (length ks - a))
+written ks vs b a = rewritten ks vs b (record { from = a; end = a + stride ks vs a (length ks - a) })
 
 -- The bytes x were written at a position, or counted: the position after them, and what was written.
 pub record Writes (on : Bool) (out : List ℕ) (at r : ℕ) (out' : List ℕ) (x : List ℕ) : Type 0 where

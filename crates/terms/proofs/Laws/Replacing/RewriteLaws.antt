@@ -11,6 +11,7 @@ use lib.ListN.{length, get_or, length-append}
 use lib.Seq.{sets, length-sets}
 use Rattle.terms.specs.declared.Binders.{Binders}
 use Rattle.terms.specs.declared.Parameters.{Parameters}
+use Rattle.terms.specs.declared.Part.{Part}
 use Rattle.terms.specs.declared.Purpose.{Purpose}
 use Rattle.terms.specs.declared.Purpose.TheVariants.{Instance, Context, Family}
 use Rattle.terms.specs.declared.Choice.{Choice}
@@ -19,7 +20,7 @@ use Rattle.terms.specs.Result.{pick}
 use Rattle.terms.specs.Words.TokenBytes.{spelt}
 use Rattle.terms.specs.Parameters.{is_found}
 use Rattle.terms.specs.Words.Held.{span}
-use Rattle.terms.specs.Words.FindContract.{stride, last_at, nth_at, entry_at, receiver_at, argument_for}
+use Rattle.terms.specs.Words.FindContract.{stride, last_at, nth_at, receiver_at, argument_for}
 use Rattle.terms.specs.Questions.{Parameter}
 use Rattle.terms.specs.Words.RewriteContract.{by, index, is_context, self_for, entry_for, generic, in_context_of, generic_for, named_at, chosen, piece, pace, pieces, rewritten, written, RowsWithin, Space, Inside, Writes}
 use Rattle.terms.proofs.Laws.Format.WriteLaws.{sets_append, spelt_short}
@@ -301,13 +302,16 @@ module _ (ks vs : List ℕ) (f : ℕ → Choice) {on : Bool} {out₀ : List ℕ}
 
 -- ---- a whole term
 
-module _ (ks vs : List ℕ) (b : Binders) (a n : ℕ) (e : n ≡ a + stride ks vs a (length ks - a)) where
-  pub whole_space : (on : Bool) (at size : ℕ) → Space on at (length (written ks vs b a)) size → Space on at (length (rewritten ks vs b a n)) size
-  whole_space on at size h = rw e h
+module _ (ks vs : List ℕ) (b : Binders) (a : ℕ) (p : Part) (f : p.from ≡ a) (e : p.end ≡ a + stride ks vs a (length ks - a)) where
+  whole : written ks vs b a ≡ rewritten ks vs b p
+  whole = λ i. rewritten ks vs b (record { from = sym f i; end = sym e i })
 
-  pub whole_writes : (on : Bool) (out : List ℕ) (at r : ℕ) (out' : List ℕ) → r ≡ at + length (rewritten ks vs b a n) → out' ≡ pick on (sets out at (rewritten ks vs b a n)) out
+  pub whole_space : (on : Bool) (at size : ℕ) → Space on at (length (written ks vs b a)) size → Space on at (length (rewritten ks vs b p)) size
+  whole_space on at size h = rw whole at h
+
+  pub whole_writes : (on : Bool) (out : List ℕ) (at r : ℕ) (out' : List ℕ) → r ≡ at + length (rewritten ks vs b p) → out' ≡ pick on (sets out at (rewritten ks vs b p)) out
       → Writes on out at r out' (written ks vs b a)
-  whole_writes on out at r out' h k = record { next = rw e at h; wrote = rw e at k }
+  whole_writes on out at r out' h k = record { next = rw (← whole) at h; wrote = rw (← whole) at k }
 
 -- ---- how long it can be
 
@@ -332,13 +336,13 @@ module _ (ks vs : List ℕ) (words : (i : ℕ) → get_or vs i 0 < 2 ^ 32) where
       go false q ih = omega arith
 
   -- in areas of at most 2 ^ 24 words the bytes can be counted
-  pub counted : (b : Binders) → RowsWithin ks vs b → (a c : ℕ) → a + c ≤ length ks → length ks ≤ 2 ^ 24 → length (rewritten ks vs b a (a + c)) ≤ 2 ^ 51
-  counted b r a c h l =
-      let m = pieces_short (chosen ks vs b) (chosen_inside ks vs b r) (a + c - a) a (a + c) h in
-      let x : a + c - a ≤ 2 ^ 24 = omega arith in
+  pub counted : (b : Binders) → RowsWithin ks vs b → (p : Part) → p.end ≤ length ks → length ks ≤ 2 ^ 24 → length (rewritten ks vs b p) ≤ 2 ^ 51
+  counted b r p h l =
+      let m = pieces_short (chosen ks vs b) (chosen_inside ks vs b r) (p.end - p.from) p.from p.end h in
+      let x : p.end - p.from ≤ 2 ^ 24 = omega arith in
       let y : 6 * length ks ≤ 6 * 2 ^ 24 = omega arith in
-      let n : (a + c - a) * (6 * length ks) ≤ 2 ^ 24 * (6 * 2 ^ 24) = mul-le-mul {n₂ = 2 ^ 24} {m₂ = 6 * 2 ^ 24} x y in
+      let n : (p.end - p.from) * (6 * length ks) ≤ 2 ^ 24 * (6 * 2 ^ 24) = mul-le-mul {n₂ = 2 ^ 24} {m₂ = 6 * 2 ^ 24} x y in
       omega arith
 
   pub counted_term : (b : Binders) → RowsWithin ks vs b → (a : ℕ) → a < length ks → length ks ≤ 2 ^ 24 → length (written ks vs b a) ≤ 2 ^ 51
-  counted_term b r a h l = counted b r a _ (stride_in ks vs a a _ h refl) l
+  counted_term b r a h l = counted b r _ (stride_in ks vs a a _ h refl) l

@@ -25,9 +25,9 @@ use Rattle.terms.specs.Formed.{Formed, Fit, TakesNumber, after_number, TakesTerm
 use Rattle.terms.specs.Tree.{tag, row, nums, unknown}
 use Rattle.terms.specs.Questions.{Parameter, contains, first, second}
 use Rattle.terms.specs.Substitution.{or_else, substitute_once, Entry, Receiver, TypeSubstitution, get, receiver, extend, instantiated, instantiate, contextual, argument_context, zipped}
-use Rattle.terms.specs.Parameters.{is_found, last_from, last_index, parameters, listed}
+use Rattle.terms.specs.Parameters.{is_found, last_from, last_index, listed}
 use Rattle.terms.specs.Rows.{entry_row, receiver_row}
-use Rattle.terms.specs.Words.FindContract.{Finds, entry_at, receiver_at, argument_for}
+use Rattle.terms.specs.Words.FindContract.{Finds, receiver_at, argument_for}
 use Rattle.terms.specs.Words.RewriteContract.{by, index, is_context, entry_for, generic, in_context_of, generic_for, chosen, written, Agrees, Named, HeldBinders, Rewrites, for_instance, for_context, for_family}
 use Rattle.terms.proofs.Laws.Held.HeldLaws.{held_first, held_node, held_num, head_kind}
 use Rattle.terms.proofs.Laws.Format.ParameterLaws.{found_contains}
