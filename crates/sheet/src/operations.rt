@@ -5,7 +5,7 @@ ghost use Rattle.solver.specs.Terms.Tokens.{area};
 ghost use Rattle.solver.specs.Terms.Formed.{Formed};
 ghost use Rattle.solver.specs.Terms.TermsAtPlaces.{FormedAt};
 ghost use Rattle.solver.specs.Terms.Tree.{nominal_of};
-ghost use Rattle.solver.specs.TermTypes.{Parameter};
+ghost use Rattle.solver.specs.TermTypes.{Parameter, Rule};
 ghost use Rattle.solver.specs.Terms.Questions.{answered, number_of_question};
 ghost use Rattle.solver.specs.Terms.Recovery.{recover_from};
 ghost use Rattle.solver.specs.Terms.Substitution.{Entry, Receiver, apply};
@@ -21,7 +21,7 @@ ghost use Rattle.sheet.specs.Words.OperationsContract.{numbers_of, Asks, Replies
 use super::framing::{begin_answer, write_byte_answer, write_bytes_answer, write_refusal};
 use super::{Order, OrderRefusal};
 use solver::{
-    Binders, Question, Refusal, Tokens, Unfinished, ask, can_weaken_to, clear_tokens,
+    Binders, Question, Refusal, Rule, Tokens, Unfinished, ask, can_weaken_to, clear_tokens,
     conflicts_with, context, family, instantiation, normalise, recovered_len, satisfies,
     satisfies_for, self_only, with_associated_types, write_normalised, write_recovered, write_term,
 };
@@ -190,14 +190,13 @@ fn normalised(
     tokens: &Tokens,
     heads: &mut [u32],
     kids: &mut [u32],
-    rules: &[u32],
+    rules: &[Rule],
     p: usize,
     out: &mut [u8],
     to: usize,
 ) -> Option<usize>
     requires lends { Lends tokens.now.kinds.now tokens.now.vals.now heads.old kids.old most }
     requires place { p < length tokens.now.kinds.now }
-    requires few { length rules.now < 4294967296 }
     requires room { OutputRoom out.old to }
     requires terms { RuledAt tokens.now.kinds.now tokens.now.vals.now rules.now p }
     ensures clear { area heads.new kids.new ≡ area heads.old kids.old }
@@ -211,9 +210,9 @@ fn normalised(
 // Orders 9, 10 and 11: two terms.
 fn compare(tokens: &Tokens, o: Order, out: &mut [u8], to: usize) -> Option<usize>
     requires areas { length tokens.now.kinds.now ≤ 32768 }
-    requires asks { (s : List ℕ) × (ws : List ℕ) × Asks tokens.now.kinds.now tokens.now.vals.now s ws (9 ∷ 10 ∷ 11 ∷ []) o }
+    requires asks { (s : List ℕ) × (ws : List Rule) × Asks tokens.now.kinds.now tokens.now.vals.now s ws (9 ∷ 10 ∷ 11 ∷ []) o }
     requires room { OutputRoom out.old to }
-    ensures { (s ws : List ℕ) → Replies tokens.now.kinds.now tokens.now.vals.now s ws o (λ x. Framed x out.old to out.new result) }
+    ensures { (s : List ℕ) (ws : List Rule) → Replies tokens.now.kinds.now tokens.now.vals.now s ws o (λ x. Framed x out.old to out.new result) }
 {
     let a = o.first;
     let b = o.second;
@@ -231,9 +230,9 @@ fn compare(tokens: &Tokens, o: Order, out: &mut [u8], to: usize) -> Option<usize
 // Orders 12, 13 and 14: a term and what takes the place of its binders.
 fn substitute(s: &[u8], tokens: &Tokens, o: Order, out: &mut [u8], to: usize) -> Option<usize>
     requires areas { length tokens.now.kinds.now ≤ 32768 }
-    requires asks { (ws : List ℕ) × Asks tokens.now.kinds.now tokens.now.vals.now s.now ws (12 ∷ 13 ∷ 14 ∷ []) o }
+    requires asks { (ws : List Rule) × Asks tokens.now.kinds.now tokens.now.vals.now s.now ws (12 ∷ 13 ∷ 14 ∷ []) o }
     requires room { OutputRoom out.old to }
-    ensures { (ws : List ℕ)
+    ensures { (ws : List Rule)
         → Replies tokens.now.kinds.now tokens.now.vals.now s.now ws o (λ x. Framed x out.old to out.new result) }
 {
     let e = o.first;
@@ -255,9 +254,9 @@ fn substitute(s: &[u8], tokens: &Tokens, o: Order, out: &mut [u8], to: usize) ->
 // Orders 15, 16 and 17: questions.
 fn inquire(s: &[u8], tokens: &Tokens, o: Order, out: &mut [u8], to: usize) -> Option<usize>
     requires areas { length tokens.now.kinds.now ≤ 32768 }
-    requires asks { (ws : List ℕ) × Asks tokens.now.kinds.now tokens.now.vals.now s.now ws (15 ∷ 16 ∷ 17 ∷ []) o }
+    requires asks { (ws : List Rule) × Asks tokens.now.kinds.now tokens.now.vals.now s.now ws (15 ∷ 16 ∷ 17 ∷ []) o }
     requires room { OutputRoom out.old to }
-    ensures { (ws : List ℕ)
+    ensures { (ws : List Rule)
         → Replies tokens.now.kinds.now tokens.now.vals.now s.now ws o (λ x. Framed x out.old to out.new result) }
 {
     let a = o.first;
@@ -279,9 +278,9 @@ fn inquire(s: &[u8], tokens: &Tokens, o: Order, out: &mut [u8], to: usize) -> Op
 // Order 18: a family's value, for a substitution and arguments.
 fn apply_family(s: &[u8], tokens: &Tokens, o: Order, out: &mut [u8], to: usize) -> Option<usize>
     requires areas { length tokens.now.kinds.now ≤ 32768 }
-    requires asks { (ws : List ℕ) × Asks tokens.now.kinds.now tokens.now.vals.now s.now ws (18 ∷ []) o }
+    requires asks { (ws : List Rule) × Asks tokens.now.kinds.now tokens.now.vals.now s.now ws (18 ∷ []) o }
     requires room { OutputRoom out.old to }
-    ensures { (ws : List ℕ)
+    ensures { (ws : List Rule)
         → Replies tokens.now.kinds.now tokens.now.vals.now s.now ws o (λ x. Framed x out.old to out.new result) }
 {
     let p = o.first;
@@ -298,14 +297,13 @@ fn reduce(
     tokens: &Tokens,
     heads: &mut [u32],
     kids: &mut [u32],
-    rules: &[u32],
+    rules: &[Rule],
     o: Order,
     out: &mut [u8],
     to: usize,
 ) -> Option<usize>
     requires lends { Lends tokens.now.kinds.now tokens.now.vals.now heads.old kids.old most }
     requires asks { (s : List ℕ) × Asks tokens.now.kinds.now tokens.now.vals.now s rules.now (19 ∷ 20 ∷ []) o }
-    requires few { length rules.now < 4294967296 }
     requires room { OutputRoom out.old to }
     ensures clear { area heads.new kids.new ≡ area heads.old kids.old }
     ensures says { (s : List ℕ)
@@ -317,7 +315,7 @@ fn reduce(
     if o.kind == 19 {
         return associated(tokens, heads, kids, a.place, b.place, t.place, out, to);
     }
-    let n = 6 * a.value as usize;
+    let n = a.value as usize;
     normalised(tokens, heads, kids, &rules[..n], b.place, out, to)
 }
 
@@ -327,14 +325,13 @@ pub fn operate(
     tokens: &Tokens,
     heads: &mut [u32],
     kids: &mut [u32],
-    rules: &[u32],
+    rules: &[Rule],
     o: Order,
     out: &mut [u8],
     to: usize,
 ) -> Option<usize>
     requires lends { Lends tokens.now.kinds.now tokens.now.vals.now heads.old kids.old most }
     requires asks { Asks tokens.now.kinds.now tokens.now.vals.now s.now rules.now (numbers_of operations) o }
-    requires few { length rules.now < 4294967296 }
     requires room { OutputRoom out.old to }
     ensures clear { area heads.new kids.new ≡ area heads.old kids.old }
     ensures says { Replies tokens.now.kinds.now tokens.now.vals.now s.now rules.now o

@@ -10,6 +10,7 @@ ghost use Rattle.solver.specs.Words.Worklist.{Zero};
 ghost use Rattle.solver.specs.Words.SessionRepresentation.{HeldRequest, Represents, limits_of};
 ghost use Rattle.solver.specs.Words.MethodContract.{Beside, defaults_by};
 ghost use Rattle.solver.specs.Words.OrderTerms.{Asked, Frames, resolved_to};
+ghost use Rattle.solver.specs.TermTypes.{Rule};
 ghost use Rattle.sheet.specs.OrderTable.{outcome, between, asking};
 ghost use Rattle.sheet.specs.Sheet.{solve};
 ghost use Rattle.sheet.specs.Words.FieldLayout.{spot_bound};
@@ -237,8 +238,8 @@ fn number_order(site: u32, word: u32) -> TermlessOrder
 
 // What an order without terms says.
 pub fn termless_of(o: Order) -> TermlessOrder
-    requires { (ks vs s ws : List ℕ) × Asks ks vs s ws plain_orders o }
-    ensures command { (ks vs s ws : List ℕ) → Says ks vs s ws o (termless_command result) }
+    requires { (ks vs s : List ℕ) × (ws : List Rule) × Asks ks vs s ws plain_orders o }
+    ensures command { (ks vs s : List ℕ) (ws : List Rule) → Says ks vs s ws o (termless_command result) }
     ensures told { TermlessTold result }
 {
     let kind = o.kind;

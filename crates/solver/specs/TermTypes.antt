@@ -10,6 +10,11 @@ pub use Rattle.terms.specs.declared.Question.TheVariants.{IsNever, IsInteger, Is
 pub use Rattle.terms.specs.declared.Rule.{Rule}
 pub use Rattle.terms.specs.declared.Binders.{Binders}
 pub use Rattle.terms.specs.declared.Parameter.{Parameter}
+pub use Rattle.terms.specs.declared.Parameters.{Parameters}
+pub use Rattle.terms.specs.declared.Pass.{Pass}
+pub use Rattle.terms.specs.declared.Pass.TheVariants.{Count, Write}
+pub use Rattle.terms.specs.declared.Purpose.{Purpose}
+pub use Rattle.terms.specs.declared.Purpose.TheVariants.{Instance, Context, Family}
 pub use Rattle.terms.specs.declared.Ready.{Ready}
 pub use Rattle.terms.specs.declared.Unfinished.{Unfinished}
 pub use Rattle.terms.specs.declared.Unfinished.TheVariants.{TooMany, TooLong}

@@ -12,7 +12,6 @@ mod pending;
 mod ranges;
 mod reach;
 mod resolving;
-mod rule_words;
 mod sessions;
 mod substitution;
 mod top;
@@ -20,15 +19,14 @@ mod variables;
 
 pub use answers::{refusal_number, variable_len, write_variable};
 pub use ranges::{plain_request, range_request};
-pub use rule_words::put_rule;
 pub use substitution::{context, family, instantiation, self_only};
 
 // Functions and types of the terms that are handed on to the sheet, which names this crate alone.
 pub use terms::{
-    Binders, Listing, Parameter, Place, Question, Ready, Refusal, Rule, Tokens, Unfinished, ask,
-    can_weaken_to, clear_tokens, conflicts_with, keep_list, normalise, number_len, part_at,
-    read_number, recovered_len, satisfies, satisfies_for, skip_parameters, with_associated_types,
-    write_normalised, write_number, write_recovered, write_term,
+    Binders, Listing, Parameter, Parameters, Pass, Place, Question, Ready, Refusal, Rewriter, Rule,
+    Tokens, Unfinished, ask, can_weaken_to, clear_tokens, conflicts_with, keep_list, normalise,
+    number_len, part_at, read_number, recovered_len, satisfies, satisfies_for,
+    with_associated_types, write_normalised, write_number, write_recovered,
 };
 
 // A run of tokens: len of them, from at on.

@@ -1,7 +1,7 @@
 -- What the functions that answer orders 9 to 20 ask and promise.
 use Rattle.std.specs.Prelude.{◌≡◌, false, List, [], ◌∷◌, ◌⊎◌, ℕ, length}
 use Rattle.std.proofs.Math.Option.{some}
-use Rattle.solver.specs.TermTypes.{Binders, Parameter}
+use Rattle.solver.specs.TermTypes.{Binders, Parameter, Rule}
 use Rattle.solver.specs.Terms.Term.{Term, Parts, node, Held}
 use Rattle.solver.specs.Terms.Held.{HeldParts}
 use Rattle.solver.specs.Terms.Shape as shape
@@ -33,7 +33,7 @@ numbers_of [] = []
 numbers_of (r ∷ rs) = r.number ∷ numbers_of rs
 
 -- an order is given, of one of the kinds ns
-pub record Asks (ks vs s ws ns : List ℕ) (o : Order) : Type 0 where
+pub record Asks (ks vs s : List ℕ) (ws : List Rule) (ns : List ℕ) (o : Order) : Type 0 where
   pub known : ℕ
   pub kind : Row
   pub fields : List Field
@@ -42,7 +42,7 @@ pub record Asks (ks vs s ws ns : List ℕ) (o : Order) : Type 0 where
   pub among : Among ns o.kind
 
 -- whatever it is given as, W holds of its answer
-pub record Replies (ks vs s ws : List ℕ) (o : Order) (W : Answer → Type 0) : Type 0 where
+pub record Replies (ks vs s : List ℕ) (ws : List Rule) (o : Order) (W : Answer → Type 0) : Type 0 where
   pub says : (known : ℕ) (k : Row) (fs : List Field) → row_in table o.kind ≡ some k → Given ks vs s ws known k o fs → W (operation k fs)
 
 -- ---- terms at places
@@ -75,8 +75,8 @@ pub record Associates (ks vs : List ℕ) (p i o : ℕ) (t : Term) (ps : Parts) (
   pub owner_formed : Formed owner
 
 -- order 20: rules and a term
-pub record Normalises (ks vs ws : List ℕ) (p : ℕ) (rs : List Pattern) (t : Term) : Type 0 where
-  pub rules : Ruled ks vs ws 0 rs
+pub record Normalises (ks vs : List ℕ) (ws : List Rule) (p : ℕ) (rs : List Pattern) (t : Term) : Type 0 where
+  pub rules : Ruled ks vs ws rs
   pub term : Held ks vs p t
   pub rules_formed : FormedPatterns rs
   pub term_formed : Formed t

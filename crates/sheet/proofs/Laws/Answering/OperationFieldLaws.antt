@@ -2,10 +2,10 @@
 use mathlib.Core.Path.{◌≡◌, refl, sym, ap, ◌∙◌}
 use mathlib.Core.List.{List, [], ◌∷◌, map}
 use mathlib.Core.Option.{some}
-use Prim.Native.Nat.{ℕ, ◌*◌, ◌≤◌}
+use Prim.Native.Nat.{ℕ, ◌≤◌}
 use native.Mathlib.Omega.{arith}
 use lib.ListN.{length, take}
-use Rattle.solver.specs.TermTypes.{Binders, Parameter}
+use Rattle.solver.specs.TermTypes.{Binders, Parameter, Rule}
 use Rattle.solver.specs.Terms.Result.{got}
 use Rattle.solver.specs.Terms.Tokens.{spell}
 use Rattle.solver.specs.Terms.Term.{Term, Parts, node, end, part_items, Held, bytes}
@@ -41,11 +41,11 @@ some_same : {k l : Row} → some k ≡ some l → k ≡ l
 some_same e = cc
 
 -- what an order of one kind says: its fields are held, and w is its answer
-pub record Kind (ks vs s ws : List ℕ) (o : Order) (Says : Answer → Type 0) : Type 1 where
+pub record Kind (ks vs s : List ℕ) (ws : List Rule) (o : Order) (Says : Answer → Type 0) : Type 1 where
   pub asked : (ns : List ℕ) → Asks ks vs s ws ns o → (w : Answer) × Says w
   pub replied : (W : Answer → Type 0) → ((w : Answer) → Says w → W w) → Replies ks vs s ws o W
 
-kind_of : (ks vs s ws : List ℕ) (o : Order) (Says : Answer → Type 0) (n : ℕ) (k : Row) → row_in table n ≡ some k → o.kind ≡ n
+kind_of : (ks vs s : List ℕ) (ws : List Rule) (o : Order) (Says : Answer → Type 0) (n : ℕ) (k : Row) → row_in table n ≡ some k → o.kind ≡ n
     → ((known : ℕ) (fs : List Field) → Given ks vs s ws known k o fs → Says (operation k fs)) → Kind ks vs s ws o Says
 kind_of ks vs s ws o Says n k at is f = record {
   asked = λ ns x.
@@ -58,7 +58,7 @@ kind_of ks vs s ws o Says n k at is f = record {
   };
 }
 
-pub asks_among : (ks vs s ws : List ℕ) (o : Order) (ns ms : List ℕ) → Asks ks vs s ws ns o → Among ms o.kind → Asks ks vs s ws ms o
+pub asks_among : (ks vs s : List ℕ) (ws : List Rule) (o : Order) (ns ms : List ℕ) → Asks ks vs s ws ns o → Among ms o.kind → Asks ks vs s ws ms o
 asks_among ks vs s ws o ns ms x a = record { known = x.known; kind = x.kind; fields = x.fields; numbered = x.numbered; given = x.given; among = a }
 
 -- ---- the fields of each layout
@@ -265,14 +265,14 @@ pub record Associated (ks vs : List ℕ) (o : Order) (w : Answer) : Type 0 where
   pub associates : Associates ks vs o.first.place o.second.place o.third.place term row owner
 
 -- order 20
-pub record Ruling (ks vs ws : List ℕ) (o : Order) (w : Answer) : Type 0 where
+pub record Ruling (ks vs : List ℕ) (ws : List Rule) (o : Order) (w : Answer) : Type 0 where
   pub patterns : List Pattern
   pub term : Term
   pub answer : w ≡ settled (normalize (map rule_of patterns) term)
-  pub normalises : Normalises ks vs (take (6 * o.first.value) ws) o.second.place patterns term
-  pub enough : 6 * o.first.value ≤ length ws
+  pub normalises : Normalises ks vs (take o.first.value ws) o.second.place patterns term
+  pub enough : o.first.value ≤ length ws
 
-module _ (ks vs s ws : List ℕ) (o : Order) where
+module _ (ks vs s : List ℕ) (ws : List Rule) (o : Order) where
   -- a kind whose fields are two terms
   pair : (says : Term → Term → Answer) (n : ℕ) (k : Row) → row_in table n ≡ some k → o.kind ≡ n → layout k ≡ fields.term ∷ fields.term ∷ []
       → ((t u : Term) → operation k (tree t ∷ tree u ∷ []) ≡ says t u) → Kind ks vs s ws o (Pair ks vs o says)

@@ -12,6 +12,7 @@ use Rattle.solver.specs.Terms.Result.{pick}
 use Rattle.solver.specs.Families.{Request, requested, request_of}
 use Rattle.solver.specs.Orders as orders
 use Rattle.solver.specs.Words.SessionRepresentation.{RequestWord, request_in, HeldRequest}
+use Rattle.solver.specs.TermTypes.{Rule}
 use Rattle.sheet.specs.declared.FieldSpot.{FieldSpot}
 use Rattle.sheet.specs.declared.Order.{Order}
 use Rattle.sheet.specs.Fields as fields
@@ -29,7 +30,7 @@ use Rattle.sheet.proofs.Laws.Reading.OrderTableLaws.{plain_numeric, among_past, 
 use Rattle.sheet.proofs.Laws.Answering.SessionRowLaws.{numbers_are, second_code}
 
 -- the spot of a number
-number_spot : (ks vs s ws : List ℕ) (x : FieldSpot) (f : Field) (known n : ℕ) → f ≡ value n → HeldField ks vs s ws x f → FormedField known f → (x.value ≡ number_of f) × (x.value ≤ 4294967295)
+number_spot : (ks vs s : List ℕ) (ws : List Rule) (x : FieldSpot) (f : Field) (known n : ℕ) → f ≡ value n → HeldField ks vs s ws x f → FormedField known f → (x.value ≡ number_of f) × (x.value ≤ 4294967295)
 unfolding number_of
 number_spot ks vs s ws x f known n e h g =
     let v : x.value ≡ n = rw e at h in
@@ -37,7 +38,7 @@ number_spot ks vs s ws x f known n e h g =
     (rw e v, omega arith)
 
 -- the spot of a bound
-bound_spot : (ks vs s ws : List ℕ) (x : FieldSpot) (f : Field) (b n : ℕ) → f ≡ bounded b n → HeldField ks vs s ws x f → spot_bound x ≡ bound_of f
+bound_spot : (ks vs s : List ℕ) (ws : List Rule) (x : FieldSpot) (f : Field) (b n : ℕ) → f ≡ bounded b n → HeldField ks vs s ws x f → spot_bound x ≡ bound_of f
 unfolding bound_of
 bound_spot ks vs s ws x f b n e h = let g : (x.value ≡ n) × (x.place ≡ b) = rw e at h in rw (e, g.0, g.1) refl
 
@@ -92,7 +93,7 @@ range_fields (f ∷ (g ∷ (i ∷ (j ∷ fs)))) h =
     let u = h.1.1.1.0 in
     record { low = l.0; down = l.1; third = l.2; high = u.0; up = u.1; fourth = u.2 }
 
-module _ (ks vs s ws : List ℕ) (o : Order) (known : ℕ) (k : Row) (fs : List Field) (e : row_in table o.kind ≡ some k) (G : Given ks vs s ws known k o fs) where
+module _ (ks vs s : List ℕ) (ws : List Rule) (o : Order) (known : ℕ) (k : Row) (fs : List Field) (e : row_in table o.kind ≡ some k) (G : Given ks vs s ws known k o fs) where
   -- which order it is
   kind_as : (n : ℕ) (r : Row) → o.kind ≡ n → row_in table n ≡ some r → k ≡ r
   kind_as n r p h = let f : some k ≡ some r = sym e ∙ ap (λ (i : ℕ). row_in table i) p ∙ h in cc

@@ -9,7 +9,7 @@ use borrow.Author.Tests.{lt-ltb, le-ltb}
 use lib.ListN.{length, get_or}
 use Rattle.std.specs.Prelude.{⊤, Ok, Err}
 use Rattle.std.specs.declared.result.Result as rust
-use Rattle.solver.specs.TermTypes.{Place, Refusal, Step, Parameter}
+use Rattle.solver.specs.TermTypes.{Place, Refusal, Step, Parameter, Rule}
 use Rattle.solver.specs.Terms.Outcomes.{step_of}
 use Rattle.solver.specs.Terms.ListsContract.{ListKept}
 use Rattle.solver.specs.Terms.Parser.{Result, Parser, got, refused, bind, number}
@@ -69,7 +69,7 @@ module _ (s : List ℕ) (t : Parser Term) where
 
 -- ---- tokens that are kept
 
-module _ (s ws : List ℕ) (issued : ℕ) (p : Place) (d e : Area) (f : Free p.top d) (n : ℕ) (r : Step) (room : RoomAfter s r) where
+module _ (s : List ℕ) (ws : List Rule) (issued : ℕ) (p : Place) (d e : Area) (f : Free p.top d) (n : ℕ) (r : Step) (room : RoomAfter s r) where
   term_part : r ≡ answer p (reading.term s issued levels p.at) size → e ≡ kept s p (reading.term s issued levels p.at) size d
       → PartDone s ws n (part_of s issued sorts.Term n p.at) p d e r
   unfolding part_of fields.field field_items nodes
@@ -132,7 +132,7 @@ module _ (s ws : List ℕ) (issued : ℕ) (p : Place) (d e : Area) (f : Free p.t
       go (refused c) h er ee = rw er (refl, ee ∙ f _)
 
 -- a list, told by its sort
-module _ (s ws : List ℕ) (issued : ℕ) (p : Place) (d e : Area) (f : Free p.top d) (n : ℕ) (r : Step) (room : RoomAfter s r) where
+module _ (s : List ℕ) (ws : List Rule) (issued : ℕ) (p : Place) (d e : Area) (f : Free p.top d) (n : ℕ) (r : Step) (room : RoomAfter s r) where
   pub list_part : (a : Sort) → (a ≡ sorts.Term → ⊥) → (a ≡ sorts.Nominal → ⊥) → ListKept (listing_of a) s issued levels n p d e r → PartDone s ws n (part_of s issued a n p.at) p d e r
   unfolding part_of
   list_part sorts.Term g h x = absurd (g refl)
@@ -147,7 +147,7 @@ room_after s (Ok u) p h = h
 room_after s (Err e) p h = tt
 
 -- a list after its count
-pub list_field_lem : (s ws : List ℕ) (at : ℕ) (found whole : Result Field) (p : Place) (d e : Area) (r : FieldRead) → whole ≡ found → FieldDone s ws found (moved p at) d e r
+pub list_field_lem : (s : List ℕ) (ws : List Rule) (at : ℕ) (found whole : Result Field) (p : Place) (d e : Area) (r : FieldRead) → whole ≡ found → FieldDone s ws found (moved p at) d e r
     → FieldDone s ws whole p d e r
 list_field_lem s ws at found whole p d e (Spotted z q) h (f, is, y, inside, laid) =
     (f, h ∙ is, record { whole = y.whole; only = y.only; free = y.free; limit = y.limit; tokens = y.tokens; counts = y.counts }, inside, laid)
@@ -260,7 +260,7 @@ module _ (s : List ℕ) (p q : Place) (v : ℕ) (x : NumberRead s p (Ok v) q) wh
   pub ample_after : Ample s p → Ample s q
   ample_after a = subst (Ample s) (sym x.place) (ample_moved s p v q.at a x.is)
 
-  pub list_after : (ws : List ℕ) (issued : ℕ) (k : Sort) (d e : Area) (r : FieldRead) → FieldDone s ws (part_of s issued k v q.at) q d e r → FieldDone s ws (list_field s issued k p.at) p d e r
+  pub list_after : (ws : List Rule) (issued : ℕ) (k : Sort) (d e : Area) (r : FieldRead) → FieldDone s ws (part_of s issued k v q.at) q d e r → FieldDone s ws (list_field s issued k p.at) p d e r
   list_after ws issued k d e r y =
       list_field_lem s ws q.at (part_of s issued k v q.at) (list_field s issued k p.at) p d e r (rw (← x.is))
       (subst (λ (z : Place). FieldDone s ws (part_of s issued k v q.at) z d e r) x.place y)

@@ -1,7 +1,5 @@
 -- `reduce`: by the kind.
 use mathlib.Core.Path.{◌≡◌, sym}
-use native.Mathlib.Omega.{arith}
-use lib.ListN.{length-take}
 use lib.Seq.{length-take-le}
 use Rattle.sheet.specs.OrderTable.{Answer}
 use Rattle.sheet.proofs.Laws.Answering.AnswerLaws.{held_in}
@@ -33,9 +31,6 @@ returns-then-o-eq19-clause-says c =
     λ s.
     (associated _ _ s _ c.args.o c.if-o-eq19.true).replied _ (λ w x. rw x.answer (c.associated.ensures.says _ _ _ x.associates))
 
-pub overflow_mul-n : goal.overflow_mul-n
-overflow_mul-n c = omega (arith, (fields (goal.at.overflow_mul-n c).Else-o-eq19).1.enough, c.requires.few)
-
 pub slice_bounds-normalised-end : goal.slice_bounds-normalised-end
 slice_bounds-normalised-end c = sym (length-take-le _ _ (fields (goal.at.slice_bounds-normalised-end c).Else-o-eq19).1.enough)
 
@@ -45,7 +40,6 @@ normalised-requires c =
     let x = f.normalises in record {
       lends = c.requires.lends;
       place = held_in _ _ _ _ x.term;
-      few = simp length-take (omega (arith, c.requires.few));
       room = c.requires.room;
       terms = record { term = f.term; patterns = f.patterns; held = x.term; ruled = x.rules };
     }

@@ -28,6 +28,7 @@ use Rattle.terms.specs.Tree.{tag}
 use Rattle.terms.specs.Questions.{meets, meets_row, counted, counted_by, entered, entered_by, contains_projection}
 use Rattle.terms.specs.Words.VirtualTokens.{view, Sight}
 use Rattle.terms.specs.Normal.{Out, replacement, walk_by, normalise}
+use Rattle.terms.specs.declared.Rule.{Rule}
 use Rattle.terms.specs.Lookup.{Look, look_by, Looks, HeldGiven}
 use Rattle.terms.specs.Words.Arena.{Tree, grow, Frame, Frames}
 use Rattle.terms.specs.Words.WalkingContract.{Visited, Overrun, Went}
@@ -269,7 +270,7 @@ module _ (ks vs : List ℕ) (g : Origin) (s : Sight ks vs g) (hs₀ cs₀ hs cs 
             }
 
   -- a term that is walked: w is what the walk gave, in the areas hs₁, cs₁
-  module _ (ws hs₁ cs₁ : List ℕ) (y : Content) (visits : ℕ) (w : Walked) (walks : Went ks vs ws g hs₀ cs₀ hs₁ cs₁ y 0 levels visits most w) (fr : Frames hs₀ cs₀ hs₁ cs₁ 0 w.next)
+  module _ (ws : List Rule) (hs₁ cs₁ : List ℕ) (y : Content) (visits : ℕ) (w : Walked) (walks : Went ks vs ws g hs₀ cs₀ hs₁ cs₁ y 0 levels visits most w) (fr : Frames hs₀ cs₀ hs₁ cs₁ 0 w.next)
       (zh : Zero hs₀ most) (zc : Zero cs₀ most) (eh : x.head ≡ w.head) (ek : x.kids ≡ w.kids) (le : at ≤ length out) where
     back : blank (area hs₁ cs₁) 0 w.next ≡ area hs₀ cs₀
     back = blank_back hs₀ cs₀ hs₁ cs₁ w.next most fr zh zc walks.within
@@ -319,7 +320,7 @@ module _ (ks vs hs₀ cs₀ hs cs : List ℕ) (most : ℕ) where
     records = tt;
   }
 
-  module _ (ws : List ℕ) (g : Origin) (s : Sight ks vs g) (y : Content) (levels visits : ℕ) where
+  module _ (ws : List Rule) (g : Origin) (s : Sight ks vs g) (y : Content) (levels visits : ℕ) where
     pub over_answers : Overrun ks vs ws g hs₀ cs₀ y 0 levels visits most → (p : ℕ) → y.head ≡ p → y.kids ≡ 0 → (t : Term) (look : Look) (o : Out) → Held ks vs p t → Looks ks vs ws g look
         → o ≡ walk_by (replacement (look_by look)) levels t visits 0 → (out : List ℕ) (at : ℕ) → Answers ks vs hs cs out at levels most o (Err TooMany)
     over_answers walks p yh yk t look o h k eo out at = record { number = number_refused most (length out) at o many; values = tt }
