@@ -75,12 +75,8 @@ pub fn settle(bindings: &Bindings, frames: &mut [u32], from: Stand) -> Stand
             frames[i] = 0;
             frames[i + 1] = 0;
         } else {
-            let Some(r) = enter(
-                &bindings.tokens,
-                bindings.bound,
-                c.at,
-                bindings.most - c.depth,
-            ) else {
+            let left = bindings.most - c.depth;
+            let Some(r) = enter(&bindings.tokens, bindings.bound, c.at, left) else {
                 return c;
             };
             let i = c.depth + c.depth;
