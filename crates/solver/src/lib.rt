@@ -23,7 +23,7 @@ pub use substitution::{context, family, instantiation, self_only};
 
 // Functions and types of the terms that are handed on to the sheet, which names this crate alone.
 pub use terms::{
-    Binders, Listing, Parameter, Place, Question, Ready, Refusal, Rule, Tokens, Unfinished, ask,
+    Binders, Listing, Parameter, PartKind, Place, Question, Ready, Refusal, Rule, Tokens, Unfinished, ask,
     can_weaken_to, clear_tokens, conflicts_with, keep_list, normalise, number_len, part_at,
     read_number, recovered_len, satisfies, satisfies_for, skip_parameters, with_associated_types,
     write_normalised, write_number, write_recovered, write_term,
