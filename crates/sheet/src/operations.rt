@@ -111,14 +111,8 @@ fn question(posed: &Posed, q: Question) -> bool
     ensures { (t : Term) → Held posed.now.tokens.kinds.now posed.now.tokens.vals.now posed.now.fields.first.place t → Formed t
         → result ≡ answered (number_of_question q) t }
 {
-    let r = ask(
-        &posed.tokens,
-        posed.fields.first.place,
-        q,
-        posed.bytes,
-        0,
-        0,
-    );
+    let p = posed.fields.first.place;
+    let r = ask(&posed.tokens, p, q, posed.bytes, 0, 0);
     match q {
         Question::IsConcrete => !r,
         _ => r,
@@ -177,7 +171,7 @@ fn satisfied(posed: &Posed, out: &mut [u8], to: usize) -> Option<usize>
     write_bytes_answer(out, to, &v)
 }
 
-// Order 18: the same after a 1; or a 0, where the arguments are not as many as the parameters.
+// Order 18: the term with its binders replaced, after a 1; or a 0, where the arguments are not as many as the parameters.
 fn applied(
     posed: &Posed,
     b: Binders,
