@@ -1,6 +1,8 @@
 // The solver: its counters by value, its tables lent. Variables, deferrals, defaults, constrain, resolving, and what a resolved term has.
 #![tactic(auto)]
 
+ghost use Rattle.std.specs.Prelude.{◌^◌, ◌<◌, length};
+
 mod answers;
 mod constrain;
 mod defaults;
@@ -40,6 +42,15 @@ pub struct Stand {
     pub at: usize,
     pub end: usize,
     pub depth: usize,
+}
+
+// The bindings as they are: the tokens, the words of the variables in the table, and how many bindings a walk may go through.
+#[derive(Clone, Copy)]
+pub struct Bindings<'a> {
+    pub tokens: Tokens<'a>,
+    pub bound: &'a [u32],
+    pub most: usize,
+    ghost narrow: { length tokens.kinds.now < 2 ^ 32 },
 }
 
 // A pending pair: the places of its two terms.

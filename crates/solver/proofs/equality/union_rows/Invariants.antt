@@ -12,12 +12,12 @@ use Rattle.solver.proofs.equality.union_rows.Given as goal
 
 abbrev pub invariant-loop-i : goal.invariant-loop-i
 invariant-loop-i l =
-    (l.i ≤ l.ae)
-    × (l.j ≤ l.be)
-    × AdvancedIn l.tokens.kinds.now l.initial.work l.initial.top l.work l.top
-    × ((h : ℕ → Option Term) (ps qs : Parts) → HeldSteady l.tokens.kinds.now l.tokens.vals.now l.bound l.most h → HeldParts l.tokens.kinds.now l.tokens.vals.now l.a l.ae ps → HeldParts l.tokens.kinds.now l.tokens.vals.now l.b l.be qs
-    → Fair l.tokens.kinds.now l.tokens.vals.now (link_words l.tokens.kinds.now l.initial.work) → RowWalk l.tokens.kinds.now l.tokens.vals.now (stands_for l.most h) (follow l.most h) l.ae l.be ps qs (link_words l.tokens.kinds.now l.initial.work) l.i l.j (link_words l.tokens.kinds.now l.work))
+    (l.i ≤ l.a.end)
+    × (l.j ≤ l.b.end)
+    × AdvancedIn l.bindings.tokens.kinds.now l.initial.work l.initial.top l.work l.top
+    × ((h : ℕ → Option Term) (ps qs : Parts) → HeldSteady l.bindings h → HeldParts l.bindings.tokens.kinds.now l.bindings.tokens.vals.now l.a.from l.a.end ps → HeldParts l.bindings.tokens.kinds.now l.bindings.tokens.vals.now l.b.from l.b.end qs
+    → Fair l.bindings.tokens.kinds.now l.bindings.tokens.vals.now (link_words l.bindings.tokens.kinds.now l.initial.work) → RowWalk l.bindings.tokens.kinds.now l.bindings.tokens.vals.now (stands_for l.bindings.most h) (follow l.bindings.most h) l.a.end l.b.end ps qs (link_words l.bindings.tokens.kinds.now l.initial.work) l.i l.j (link_words l.bindings.tokens.kinds.now l.work))
     × (length l.work ≡ length l.initial.work)
 
 abbrev pub decreases-loop-i : goal.decreases-loop-i
-decreases-loop-i l = l.ae - l.i
+decreases-loop-i l = l.a.end - l.i
