@@ -13,13 +13,16 @@ ghost use Rattle.solver.specs.Words.OrderTerms.{Asked, Frames, resolved_to};
 ghost use Rattle.sheet.specs.OrderTable.{outcome, between, asking};
 ghost use Rattle.sheet.specs.Sheet.{solve};
 ghost use Rattle.sheet.specs.Words.FieldLayout.{spot_bound};
-ghost use Rattle.sheet.specs.Words.OperationsContract.{plain_orders, Asks};
+ghost use Rattle.sheet.specs.Words.OrderKinds.{termless_row};
+ghost use Rattle.sheet.specs.Words.OperationsContract.{Asks};
 ghost use Rattle.sheet.specs.Words.FramingContract.{OutputRoom, output_at, written_to, Framed};
 ghost use Rattle.sheet.specs.Words.SessionOrdersContract.{lent, Does, Says, variable_command, site_of, RequestTold};
 ghost use Rattle.sheet.specs.Words.SessionOrdersContract.{variable_answer, termless_command, TermlessTold};
 
 use super::framing::{begin_answer, write_byte_answer, write_number_answer, write_refusal};
-use super::{AfterOrder, FieldSpot, Order, OrderRefusal, TermlessOrder, VariableOrder};
+use super::{
+    AfterOrder, FieldSpot, FieldSpots, OrderRefusal, TermlessKind, TermlessOrder, VariableOrder,
+};
 use solver::{
     Bound, Defaulted, Refusal, Site, Solver, Subject, Tokens, plain_request, range_request,
     variable_len, write_variable,
@@ -212,18 +215,6 @@ fn range_word(fallback: u32, low: FieldSpot, high: FieldSpot) -> u32
     range_request(fallback, least, greatest)
 }
 
-// The word of what an order 1 or 21 requests: 0 where it is refused.
-fn request_word(o: Order, fallback: u32) -> u32
-    requires { fallback < 32 }
-    ensures plain { o.kind ≡ 1 → HeldRequest (some (requested fallback)) result }
-    ensures range { (o.kind ≡ 1 → ⊥) → HeldRequest (between fallback (spot_bound o.third) (spot_bound o.fourth)) result }
-{
-    if o.kind == 1 {
-        return plain_request(fallback);
-    }
-    range_word(fallback, o.third, o.fourth)
-}
-
 // An order for the number variable of a site, or the refusal 13.
 fn number_order(site: u32, word: u32) -> TermlessOrder
     ensures command { (q : Option Request) → HeldRequest q word → termless_command result ≡ asking site q }
@@ -236,30 +227,24 @@ fn number_order(site: u32, word: u32) -> TermlessOrder
 }
 
 // What an order without terms says.
-pub fn termless_of(o: Order) -> TermlessOrder
-    requires { (ks vs s ws : List ℕ) × Asks ks vs s ws plain_orders o }
-    ensures command { (ks vs s ws : List ℕ) → Says ks vs s ws o (termless_command result) }
+pub fn termless_of(kind: TermlessKind, o: FieldSpots) -> TermlessOrder
+    requires { (ks vs s ws : List ℕ) × Asks ks vs s ws (termless_row kind) o }
+    ensures command { (ks vs s ws : List ℕ) → Says ks vs s ws (termless_row kind) o (termless_command result) }
     ensures told { TermlessTold result }
 {
-    let kind = o.kind;
     let first = o.first.value as u32;
     let second = o.second.value as u32;
-    if kind == 0 {
-        return TermlessOrder::Variable(VariableOrder::Slot(first, second));
+    match kind {
+        TermlessKind::Variable => TermlessOrder::Variable(VariableOrder::Slot(first, second)),
+        TermlessKind::NumberVariable => number_order(first, plain_request(second)),
+        TermlessKind::AnnotationHole => TermlessOrder::Variable(VariableOrder::Hole(first)),
+        TermlessKind::NumericDefaults => TermlessOrder::Defaults(Defaulted::Requested),
+        TermlessKind::NeverDefaults => TermlessOrder::Defaults(Defaulted::Deferred),
+        TermlessKind::Revision => TermlessOrder::Revision,
+        TermlessKind::RangeVariable => {
+            number_order(first, range_word(second, o.third, o.fourth))
+        }
     }
-    if kind == 2 {
-        return TermlessOrder::Variable(VariableOrder::Hole(first));
-    }
-    if kind == 6 {
-        return TermlessOrder::Defaults(Defaulted::Requested);
-    }
-    if kind == 7 {
-        return TermlessOrder::Defaults(Defaulted::Deferred);
-    }
-    if kind == 8 {
-        return TermlessOrder::Revision;
-    }
-    number_order(first, request_word(o, second))
 }
 
 // Orders 0, 1, 2, 6, 7, 8 and 21.

@@ -1,57 +1,60 @@
 -- `termless_of`: by the kind.
-use mathlib.Core.Path.{sym, ap, ◌∙◌}
 use mathlib.Core.Option.{some}
 use native.Mathlib.Omega.{arith}
-use Rattle.sheet.proofs.Laws.Answering.TermlessLaws.{first_number, second_number, fallback_code, variable_told, hole_told, numbers_told, nevers_told, revision_told, request_told}
+use Rattle.solver.specs.Families.{requested}
+use Rattle.sheet.specs.OrderTable.{between}
+use Rattle.sheet.specs.Words.FieldLayout.{spot_bound}
+use Rattle.sheet.proofs.Laws.Answering.TermlessLaws.{first_number, second_number, number_code, range_code, variable_told, hole_told, numbers_told, nevers_told, revision_told, number_told, range_told, says_as}
 use Rattle.sheet.proofs.plain_orders.termless_of.Goals as goal
 
 pub overflow_cast-first : goal.overflow_cast-first
 overflow_cast-first c =
     let p = c.requires in
-    let A = c.requires.4 in
-    omega (arith, (first_number p.0 p.1 p.2 p.3 c.args.o A.known A.kind A.fields A.numbered A.given A.among).1)
+    omega (arith, (first_number p.0 p.1 p.2 p.3 c.args.o p.4.known c.args.kind p.4.fields p.4.given).1)
 
 pub overflow_cast-second : goal.overflow_cast-second
 overflow_cast-second c =
     let p = c.requires in
-    let A = c.requires.4 in
-    omega (arith, (second_number p.0 p.1 p.2 p.3 c.args.o A.known A.kind A.fields A.numbered A.given A.among).1)
+    omega (arith, (second_number p.0 p.1 p.2 p.3 c.args.o p.4.known c.args.kind p.4.fields p.4.given).1)
 
-pub returns-then-kind-eq0-clause-command : goal.returns-then-kind-eq0-clause-command
-returns-then-kind-eq0-clause-command c = λ ks vs s ws. record { says = λ known k fs e G. variable_told ks vs s ws c.args.o known k fs e G c.requires.4.among c.if-kind-eq0.true }
+pub returns-in-Variable-clause-command : goal.returns-in-Variable-clause-command
+returns-in-Variable-clause-command c = rw c.in-Variable.is (λ ks vs s ws. variable_told ks vs s ws c.args.o)
 
-pub returns-then-kind-eq2-clause-command : goal.returns-then-kind-eq2-clause-command
-returns-then-kind-eq2-clause-command c = λ ks vs s ws. record { says = λ known k fs e G. hole_told ks vs s ws c.args.o known k fs e G c.requires.4.among c.if-kind-eq2.true }
-
-pub returns-then-kind-eq6-clause-command : goal.returns-then-kind-eq6-clause-command
-returns-then-kind-eq6-clause-command c = λ ks vs s ws. record { says = λ known k fs e G. numbers_told ks vs s ws c.args.o known k fs e G c.requires.4.among c.if-kind-eq6.true }
-
-pub returns-then-kind-eq7-clause-command : goal.returns-then-kind-eq7-clause-command
-returns-then-kind-eq7-clause-command c = λ ks vs s ws. record { says = λ known k fs e G. nevers_told ks vs s ws c.args.o known k fs e G c.requires.4.among c.if-kind-eq7.true }
-
-pub returns-then-kind-eq8-clause-command : goal.returns-then-kind-eq8-clause-command
-returns-then-kind-eq8-clause-command c = λ ks vs s ws. record { says = λ known k fs e G. revision_told ks vs s ws c.args.o known k fs e G c.requires.4.among c.if-kind-eq8.true }
-
-pub request_word-requires : goal.request_word-requires
-request_word-requires c =
+pub plain_request-requires : goal.plain_request-requires
+plain_request-requires c =
     let p = c.requires in
-    let A = c.requires.4 in
-    fallback_code p.0 p.1 p.2 p.3 c.args.o A.known A.kind A.fields A.numbered A.given A.among
-    c.if-kind-eq0.false c.if-kind-eq2.false c.if-kind-eq6.false c.if-kind-eq7.false c.if-kind-eq8.false
+    number_code p.0 p.1 p.2 p.3 c.args.o (rw c.in-NumberVariable.is at p.4)
 
-pub returns : goal.returns
-returns c =
-    let p = c.requires in
-    let A = c.requires.4 in
-    let o = c.args.o in
-    let w = c.request_word in
+pub returns-in-NumberVariable : goal.returns-in-NumberVariable
+returns-in-NumberVariable c =
     let n = c.number_order.ensures in
-    let q = request_told p.0 p.1 p.2 p.3 o A.known A.kind A.fields A.numbered A.given A.among
-    c.if-kind-eq0.false c.if-kind-eq2.false c.if-kind-eq6.false c.if-kind-eq7.false c.if-kind-eq8.false w.result w.ensures.plain w.ensures.range in record {
-      command = λ ks vs s ws. record {
-        says = λ known k fs e G.
-            let r = request_told ks vs s ws o known k fs e G A.among c.if-kind-eq0.false c.if-kind-eq2.false c.if-kind-eq6.false c.if-kind-eq7.false c.if-kind-eq8.false w.result w.ensures.plain w.ensures.range in
-            r.2 ∙ ap some (sym (n.command r.0 r.1));
-      };
-      told = n.told q.0 q.1;
+    let q = some (requested c.args.o.second.value) in record {
+      command = rw c.in-NumberVariable.is (λ ks vs s ws. says_as (n.command q c.plain_request.ensures) (number_told ks vs s ws c.args.o));
+      told = n.told q c.plain_request.ensures;
+    }
+
+pub returns-in-AnnotationHole-clause-command : goal.returns-in-AnnotationHole-clause-command
+returns-in-AnnotationHole-clause-command c = rw c.in-AnnotationHole.is (λ ks vs s ws. hole_told ks vs s ws c.args.o)
+
+pub returns-in-NumericDefaults-clause-command : goal.returns-in-NumericDefaults-clause-command
+returns-in-NumericDefaults-clause-command c = rw c.in-NumericDefaults.is (λ ks vs s ws. numbers_told ks vs s ws c.args.o)
+
+pub returns-in-NeverDefaults-clause-command : goal.returns-in-NeverDefaults-clause-command
+returns-in-NeverDefaults-clause-command c = rw c.in-NeverDefaults.is (λ ks vs s ws. nevers_told ks vs s ws c.args.o)
+
+pub returns-in-Revision-clause-command : goal.returns-in-Revision-clause-command
+returns-in-Revision-clause-command c = rw c.in-Revision.is (λ ks vs s ws. revision_told ks vs s ws c.args.o)
+
+pub range_word-requires : goal.range_word-requires
+range_word-requires c =
+    let p = c.requires in
+    range_code p.0 p.1 p.2 p.3 c.args.o (rw c.in-RangeVariable.is at p.4)
+
+pub returns-in-RangeVariable : goal.returns-in-RangeVariable
+returns-in-RangeVariable c =
+    let n = c.number_order-in-RangeVariable.ensures in
+    let o = c.args.o in
+    let q = between o.second.value (spot_bound o.third) (spot_bound o.fourth) in record {
+      command = rw c.in-RangeVariable.is (λ ks vs s ws. says_as (n.command q c.range_word.ensures) (range_told ks vs s ws c.args.o));
+      told = n.told q c.range_word.ensures;
     }
