@@ -16,7 +16,7 @@ mod starting;
 mod term_orders;
 
 pub use running::run_sheet;
-use solver::{Defaulted, Refusal, Solver, refusal_number};
+use solver::{Defaulted, NumberRequest, Refusal, Solver, refusal_number};
 
 // What an order does: it is told to the session, or it leaves the session as it was.
 #[derive(Clone, Copy, Debug, PartialEq, Eq)]
@@ -65,11 +65,11 @@ pub struct Order {
     pub nodes: usize,
 }
 
-// An order for a variable: that of a site and a slot (order 0), a number variable of a site with the word of its request (1 and 21), a hole of a site (2).
+// An order for a variable: that of a site and a slot (order 0), a number variable of a site with its request (1 and 21), a hole of a site (2).
 #[derive(Clone, Copy)]
 pub enum VariableOrder {
     Slot(u32, u32),
-    Number(u32, u32),
+    Number(u32, NumberRequest),
     Hole(u32),
 }
 

@@ -1,17 +1,14 @@
 -- Orders without terms: what their spots say, and the commands that they tell.
 use mathlib.Core.Path.{◌≡◌, refl, sym, ap, subst, ◌∙◌}
-use mathlib.Core.Bool.{Bool, true, false}
 use mathlib.Core.List.{List, [], ◌∷◌}
 use mathlib.Core.Option.{Option, none, some}
 use Prim.Native.Nat.{ℕ, ◌≤◌, ◌<◌}
 use native.Mathlib.Decide.{ℕ_discrete}
 use native.Mathlib.Omega.{arith}
 use borrow.Author.Tests.{le-leb, lt-leb}
-use lib.Dec.{eqb, leb}
-use Rattle.solver.specs.Terms.Result.{pick}
-use Rattle.solver.specs.Families.{Request, requested, request_of}
+use lib.Dec.{eqb}
+use Rattle.solver.specs.Families.{Bound, Request, requested, request_of}
 use Rattle.solver.specs.Orders as orders
-use Rattle.solver.specs.Words.SessionRepresentation.{RequestWord, request_in, HeldRequest}
 use Rattle.sheet.specs.declared.FieldSpot.{FieldSpot}
 use Rattle.sheet.specs.declared.Order.{Order}
 use Rattle.sheet.specs.Fields as fields
@@ -41,36 +38,29 @@ bound_spot : (ks vs s ws : List ℕ) (x : FieldSpot) (f : Field) (b n : ℕ) →
 unfolding bound_of
 bound_spot ks vs s ws x f b n e h = let g : (x.value ≡ n) × (x.place ≡ b) = rw e at h in rw (e, g.0, g.1) refl
 
--- ---- the words of requests
+-- ---- the bounds of a range
 
-pub asked_none : (site word : ℕ) → word ≡ 0 → (q : Option Request) → HeldRequest q word → (orders.unread 13 ≡ asking site q) × Unit {0}
-unfolding asking
-asked_none site word e none h = (refl, tt)
-asked_none site word e (some r) h = absurd (omega (arith, h.0.some))
+pub no_sign : (x : FieldSpot) → 1 < x.place → spot_bound x ≡ none
+unfolding signed
+no_sign x h = rw (lt-leb x.place 1 h)
 
-pub asked_some : (site word : ℕ) → (word ≡ 0 → ⊥) → (q : Option Request) → HeldRequest q word → (orders.number site (request_in word) ≡ asking site q) × RequestWord word
-unfolding asking
-asked_some site word e none h = absurd (e h)
-asked_some site word e (some r) h = (ap (orders.number site) (sym h.1), h.0)
+pub with_sign : (x : FieldSpot) → x.place ≤ 1 → spot_bound x ≡ some (record { minus = eqb x.place 1; size = x.value })
+unfolding signed
+with_sign x h = rw (le-leb x.place 1 h)
 
--- the two bounds of a range
-module _ (c : ℕ) (low high : FieldSpot) where
-  pub low_sign : 1 < low.place → HeldRequest (between c (spot_bound low) (spot_bound high)) 0
-  unfolding signed between
-  low_sign h = rw (lt-leb low.place 1 h) refl
+-- without either of them nothing is requested
+pub no_low : (c : ℕ) (low high : Option Bound) → low ≡ none → none ≡ between c low high
+unfolding between
+no_low c low high e = rw e
 
-  pub high_sign : 1 < high.place → HeldRequest (between c (spot_bound low) (spot_bound high)) 0
-  unfolding signed between
-  high_sign h = rw (lt-leb high.place 1 h) (go (leb low.place 1))
-    where
-      go : (b : Bool) → HeldRequest (between c (pick b (some (record { minus = eqb low.place 1; size = low.value })) none) none) 0
-      go true = refl
-      go false = refl
+pub no_high : (c : ℕ) (low high : Option Bound) → high ≡ none → none ≡ between c low high
+unfolding between
+no_high c none high e = refl
+no_high c (some l) high e = rw e
 
-  pub both_signs : low.place ≤ 1 → high.place ≤ 1
-      → between c (spot_bound low) (spot_bound high) ≡ request_of c (record { minus = eqb low.place 1; size = low.value }) (record { minus = eqb high.place 1; size = high.value })
-  unfolding signed between
-  both_signs h i = rw (le-leb low.place 1 h, le-leb high.place 1 i) refl
+pub with_both : (c : ℕ) (low high : Option Bound) (l h : Bound) → low ≡ some l → high ≡ some h → request_of c l h ≡ between c low high
+unfolding between
+with_both c low high l h e f = rw (e, f)
 
 -- the fields of a range
 record RangeFields (fs : List Field) : Type 0 where
@@ -170,12 +160,12 @@ module _ (ks vs s ws : List ℕ) (o : Order) (known : ℕ) (k : Row) (fs : List 
                 second_code (fields.bound ∷ fields.bound ∷ []) fs (subst (λ (r : Row). FitsLayout (layout r) fs) (kind_as 21 rows.range_variable (last h) refl) G.fits),
               )
 
-      -- a word that holds what is requested
-      pub request_told : (word : ℕ) → (o.kind ≡ 1 → HeldRequest (some (requested o.second.value)) word)
-          → ((o.kind ≡ 1 → ⊥) → HeldRequest (between o.second.value (spot_bound o.third) (spot_bound o.fourth)) word)
-          → (q : Option Request) × HeldRequest q word × (command_of k fs ≡ some (asking o.first.value q))
-      request_told word p r = go (ℕ_discrete o.kind 1)
+      -- what is requested
+      pub request_told : (q : Option Request) → (o.kind ≡ 1 → q ≡ some (requested o.second.value))
+          → ((o.kind ≡ 1 → ⊥) → q ≡ between o.second.value (spot_bound o.third) (spot_bound o.fourth))
+          → command_of k fs ≡ some (asking o.first.value q)
+      request_told q p r = go (ℕ_discrete o.kind 1)
         where
-          go : Dec (o.kind ≡ 1) → (q : Option Request) × HeldRequest q word × (command_of k fs ≡ some (asking o.first.value q))
-          go (yes h) = (some (requested o.second.value), p h, number_told h)
-          go (no h) = (between o.second.value (spot_bound o.third) (spot_bound o.fourth), r h, range_told (last h))
+          go : Dec (o.kind ≡ 1) → command_of k fs ≡ some (asking o.first.value q)
+          go (yes h) = rw (p h) (number_told h)
+          go (no h) = rw (r h) (range_told (last h))

@@ -17,41 +17,36 @@ overflow_cast-second c =
     let A = c.requires.4 in
     omega (arith, (second_number p.0 p.1 p.2 p.3 c.args.o A.known A.kind A.fields A.numbered A.given A.among).1)
 
-pub returns-then-kind-eq0-clause-command : goal.returns-then-kind-eq0-clause-command
-returns-then-kind-eq0-clause-command c = λ ks vs s ws. record { says = λ known k fs e G. variable_told ks vs s ws c.args.o known k fs e G c.requires.4.among c.if-kind-eq0.true }
+pub returns-then-kind-eq0 : goal.returns-then-kind-eq0
+returns-then-kind-eq0 c = λ ks vs s ws. record { says = λ known k fs e G. variable_told ks vs s ws c.args.o known k fs e G c.requires.4.among c.if-kind-eq0.true }
 
-pub returns-then-kind-eq2-clause-command : goal.returns-then-kind-eq2-clause-command
-returns-then-kind-eq2-clause-command c = λ ks vs s ws. record { says = λ known k fs e G. hole_told ks vs s ws c.args.o known k fs e G c.requires.4.among c.if-kind-eq2.true }
+pub returns-then-kind-eq2 : goal.returns-then-kind-eq2
+returns-then-kind-eq2 c = λ ks vs s ws. record { says = λ known k fs e G. hole_told ks vs s ws c.args.o known k fs e G c.requires.4.among c.if-kind-eq2.true }
 
-pub returns-then-kind-eq6-clause-command : goal.returns-then-kind-eq6-clause-command
-returns-then-kind-eq6-clause-command c = λ ks vs s ws. record { says = λ known k fs e G. numbers_told ks vs s ws c.args.o known k fs e G c.requires.4.among c.if-kind-eq6.true }
+pub returns-then-kind-eq6 : goal.returns-then-kind-eq6
+returns-then-kind-eq6 c = λ ks vs s ws. record { says = λ known k fs e G. numbers_told ks vs s ws c.args.o known k fs e G c.requires.4.among c.if-kind-eq6.true }
 
-pub returns-then-kind-eq7-clause-command : goal.returns-then-kind-eq7-clause-command
-returns-then-kind-eq7-clause-command c = λ ks vs s ws. record { says = λ known k fs e G. nevers_told ks vs s ws c.args.o known k fs e G c.requires.4.among c.if-kind-eq7.true }
+pub returns-then-kind-eq7 : goal.returns-then-kind-eq7
+returns-then-kind-eq7 c = λ ks vs s ws. record { says = λ known k fs e G. nevers_told ks vs s ws c.args.o known k fs e G c.requires.4.among c.if-kind-eq7.true }
 
-pub returns-then-kind-eq8-clause-command : goal.returns-then-kind-eq8-clause-command
-returns-then-kind-eq8-clause-command c = λ ks vs s ws. record { says = λ known k fs e G. revision_told ks vs s ws c.args.o known k fs e G c.requires.4.among c.if-kind-eq8.true }
+pub returns-then-kind-eq8 : goal.returns-then-kind-eq8
+returns-then-kind-eq8 c = λ ks vs s ws. record { says = λ known k fs e G. revision_told ks vs s ws c.args.o known k fs e G c.requires.4.among c.if-kind-eq8.true }
 
-pub request_word-requires : goal.request_word-requires
-request_word-requires c =
+pub invariant_of-fallback : goal.invariant_of-fallback
+invariant_of-fallback c =
     let p = c.requires in
     let A = c.requires.4 in
-    fallback_code p.0 p.1 p.2 p.3 c.args.o A.known A.kind A.fields A.numbered A.given A.among
-    c.if-kind-eq0.false c.if-kind-eq2.false c.if-kind-eq6.false c.if-kind-eq7.false c.if-kind-eq8.false
+    record {
+      listed = fallback_code p.0 p.1 p.2 p.3 c.args.o A.known A.kind A.fields A.numbered A.given A.among
+          c.if-kind-eq0.false c.if-kind-eq2.false c.if-kind-eq6.false c.if-kind-eq7.false c.if-kind-eq8.false;
+    }
 
 pub returns : goal.returns
 returns c =
-    let p = c.requires in
     let A = c.requires.4 in
-    let o = c.args.o in
-    let w = c.request_word in
-    let n = c.number_order.ensures in
-    let q = request_told p.0 p.1 p.2 p.3 o A.known A.kind A.fields A.numbered A.given A.among
-    c.if-kind-eq0.false c.if-kind-eq2.false c.if-kind-eq6.false c.if-kind-eq7.false c.if-kind-eq8.false w.result w.ensures.plain w.ensures.range in record {
-      command = λ ks vs s ws. record {
-        says = λ known k fs e G.
-            let r = request_told ks vs s ws o known k fs e G A.among c.if-kind-eq0.false c.if-kind-eq2.false c.if-kind-eq6.false c.if-kind-eq7.false c.if-kind-eq8.false w.result w.ensures.plain w.ensures.range in
-            r.2 ∙ ap some (sym (n.command r.0 r.1));
-      };
-      told = n.told q.0 q.1;
+    let q = c.requested_by in
+    λ ks vs s ws. record {
+      says = λ known k fs e G.
+          request_told ks vs s ws c.args.o known k fs e G A.among c.if-kind-eq0.false c.if-kind-eq2.false c.if-kind-eq6.false c.if-kind-eq7.false c.if-kind-eq8.false _ q.ensures.plain q.ensures.range
+          ∙ ap some (sym c.number_order.ensures);
     }
