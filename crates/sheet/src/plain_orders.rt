@@ -8,7 +8,7 @@ ghost use Rattle.solver.specs.Invariant.{InOrder};
 ghost use Rattle.solver.specs.Orders as orders;
 ghost use Rattle.solver.specs.Words.Worklist.{Zero};
 ghost use Rattle.solver.specs.Words.SessionRepresentation.{Represents, limits_of};
-ghost use Rattle.solver.specs.Words.MethodContract.{Beside, bound_of, stands_for, defaults_by};
+ghost use Rattle.solver.specs.Words.MethodContract.{Beside, bound_of, request_held, defaults_by};
 ghost use Rattle.solver.specs.Words.OrderTerms.{Asked, Frames, resolved_to};
 ghost use Rattle.sheet.specs.OrderTable.{outcome, between, asking};
 ghost use Rattle.sheet.specs.Sheet.{solve};
@@ -204,7 +204,7 @@ fn bound_at(spot: FieldSpot) -> Option<Bound>
 
 // What an order 21 requests, by its fallback and the spots of its bounds; none where it is refused.
 fn requested_range(fallback: Builtin, low: FieldSpot, high: FieldSpot) -> Option<NumberRequest>
-    ensures { stands_for result ≡ between fallback.code (spot_bound low) (spot_bound high) }
+    ensures { request_held result ≡ between fallback.code (spot_bound low) (spot_bound high) }
 {
     let least = bound_at(low)?;
     let greatest = bound_at(high)?;
@@ -213,8 +213,8 @@ fn requested_range(fallback: Builtin, low: FieldSpot, high: FieldSpot) -> Option
 
 // What an order 1 or 21 requests; none where it is refused.
 fn requested_by(o: Order, fallback: Builtin) -> Option<NumberRequest>
-    ensures plain { o.kind ≡ 1 → stands_for result ≡ some (requested fallback.code) }
-    ensures range { (o.kind ≡ 1 → ⊥) → stands_for result ≡ between fallback.code (spot_bound o.third) (spot_bound o.fourth) }
+    ensures plain { o.kind ≡ 1 → request_held result ≡ some (requested fallback.code) }
+    ensures range { (o.kind ≡ 1 → ⊥) → request_held result ≡ between fallback.code (spot_bound o.third) (spot_bound o.fourth) }
 {
     if o.kind == 1 {
         return Some(plain_request(fallback));
@@ -224,7 +224,7 @@ fn requested_by(o: Order, fallback: Builtin) -> Option<NumberRequest>
 
 // An order for the number variable of a site, or the refusal 13.
 fn number_order(site: u32, request: Option<NumberRequest>) -> TermlessOrder
-    ensures { termless_command result ≡ asking site (stands_for request) }
+    ensures { termless_command result ≡ asking site (request_held request) }
 {
     let Some(request) = request else {
         return TermlessOrder::NoType;

@@ -14,7 +14,7 @@ use std::num::NonZeroU32;
 use terms::Tokens;
 
 // The word of a variable's request. The column has 0 for none.
-fn request_word(tables: &[u32], m: usize, v: u32) -> Option<NonZeroU32>
+pub fn request_word(tables: &[u32], m: usize, v: u32) -> Option<NonZeroU32>
     requires { 7 * m ≤ length tables.now }
     ensures { word_of result ≡ get_or (request_words m tables.now) v 0 }
 {
@@ -48,7 +48,7 @@ pub fn has(mask: u32, c: u32) -> bool
 }
 
 // Whether the term at q is a builtin that a request's word admits.
-fn in_family(tokens: &Tokens, q: usize, word: NonZeroU32) -> bool
+pub fn in_family(tokens: &Tokens, q: usize, word: NonZeroU32) -> bool
     requires { q < length tokens.now.kinds.now }
     ensures { (t : Term) → RequestWord (non_zero_u32_get word) → Held tokens.now.kinds.now tokens.now.vals.now q t
         → result ≡ belongs (request_in (non_zero_u32_get word)).family t }

@@ -2,7 +2,7 @@
 ghost use Rattle.std.specs.Prelude.{◌≡◌, true, false, ◌&&◌, ◌+◌, ◌≤◌, ◌<◌};
 ghost use Rattle.solver.specs.Families.{at_most, below, holds, requested, request_of};
 ghost use Rattle.solver.specs.Words.SessionRepresentation.{request_in};
-ghost use Rattle.solver.specs.Words.MethodContract.{bound_of, mask_of, stands_for};
+ghost use Rattle.solver.specs.Words.MethodContract.{bound_of, mask_of, request_held};
 
 use super::{Bound, Builtin, NumberRequest};
 
@@ -68,7 +68,7 @@ pub fn plain_request(fallback: Builtin) -> NumberRequest
 
 // The request for the integer types that hold both bounds; none where low is above high, or no type holds them.
 pub fn range_request(fallback: Builtin, low: Bound, high: Bound) -> Option<NumberRequest>
-    ensures { stands_for result ≡ request_of fallback.code (bound_of low) (bound_of high) }
+    ensures { request_held result ≡ request_of fallback.code (bound_of low) (bound_of high) }
 {
     if !low.at_most(high) {
         return None;

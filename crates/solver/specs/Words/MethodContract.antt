@@ -149,9 +149,9 @@ pub record Handed (m v kind val : ℕ) (ts us : List ℕ) : Type 0 where
 -- ---- ranges
 
 -- what is requested
-abbrev pub stands_for : rust.Option NumberRequest → Option families.Request
-stands_for None = none
-stands_for (Some r) = some (request_in r.word)
+abbrev pub request_held : rust.Option NumberRequest → Option families.Request
+request_held None = none
+request_held (Some r) = some (request_in r.word)
 
 -- a bound as the definition has it
 abbrev pub bound_of : Bound → families.Bound
