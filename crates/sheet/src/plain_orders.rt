@@ -13,13 +13,16 @@ ghost use Rattle.solver.specs.Words.OrderTerms.{Asked, Frames, resolved_to};
 ghost use Rattle.sheet.specs.OrderTable.{outcome, between, asking};
 ghost use Rattle.sheet.specs.Sheet.{solve};
 ghost use Rattle.sheet.specs.Words.FieldLayout.{spot_bound};
-ghost use Rattle.sheet.specs.Words.OperationsContract.{plain_orders, Asks};
+ghost use Rattle.sheet.specs.Words.OrderKinds.{termless_row};
+ghost use Rattle.sheet.specs.Words.OperationsContract.{Asks};
 ghost use Rattle.sheet.specs.Words.FramingContract.{OutputRoom, output_at, written_to, Framed};
 ghost use Rattle.sheet.specs.Words.SessionOrdersContract.{lent, Does, Says, variable_command, site_of};
 ghost use Rattle.sheet.specs.Words.SessionOrdersContract.{variable_answer, termless_command};
 
 use super::framing::{begin_answer, write_byte_answer, write_number_answer, write_refusal};
-use super::{AfterOrder, FieldSpot, Order, OrderRefusal, TermlessOrder, VariableOrder};
+use super::{
+    AfterOrder, FieldSpot, FieldSpots, OrderRefusal, TermlessKind, TermlessOrder, VariableOrder,
+};
 use solver::{
     Bound, Builtin, Defaulted, NumberRequest, Refusal, Site, Solver, Subject, Tokens,
     plain_request, range_request, variable_len, write_variable,
@@ -211,17 +214,6 @@ fn requested_range(fallback: Builtin, low: FieldSpot, high: FieldSpot) -> Option
     range_request(fallback, least, greatest)
 }
 
-// What an order 1 or 21 requests; none where it is refused.
-fn requested_by(o: Order, fallback: Builtin) -> Option<NumberRequest>
-    ensures plain { o.kind ≡ 1 → request_held result ≡ some (requested fallback.code) }
-    ensures range { (o.kind ≡ 1 → ⊥) → request_held result ≡ between fallback.code (spot_bound o.third) (spot_bound o.fourth) }
-{
-    if o.kind == 1 {
-        return Some(plain_request(fallback));
-    }
-    requested_range(fallback, o.third, o.fourth)
-}
-
 // An order for the number variable of a site, or the refusal 13.
 fn number_order(site: u32, request: Option<NumberRequest>) -> TermlessOrder
     ensures { termless_command result ≡ asking site (request_held request) }
@@ -233,30 +225,27 @@ fn number_order(site: u32, request: Option<NumberRequest>) -> TermlessOrder
 }
 
 // What an order without terms says.
-pub fn termless_of(o: Order) -> TermlessOrder
-    requires { (ks vs s ws : List ℕ) × Asks ks vs s ws plain_orders o }
-    ensures { (ks vs s ws : List ℕ) → Says ks vs s ws o (termless_command result) }
+pub fn termless_of(kind: TermlessKind, o: FieldSpots) -> TermlessOrder
+    requires { (ks vs s ws : List ℕ) × Asks ks vs s ws (termless_row kind) o }
+    ensures { (ks vs s ws : List ℕ) → Says ks vs s ws (termless_row kind) o (termless_command result) }
 {
-    let kind = o.kind;
     let first = o.first.value as u32;
     let second = o.second.value as u32;
-    if kind == 0 {
-        return TermlessOrder::Variable(VariableOrder::Slot(first, second));
+    match kind {
+        TermlessKind::Variable => TermlessOrder::Variable(VariableOrder::Slot(first, second)),
+        TermlessKind::NumberVariable => {
+            let fallback = Builtin { code: second };
+            TermlessOrder::Variable(VariableOrder::Number(first, plain_request(fallback)))
+        }
+        TermlessKind::AnnotationHole => TermlessOrder::Variable(VariableOrder::Hole(first)),
+        TermlessKind::NumericDefaults => TermlessOrder::Defaults(Defaulted::Requested),
+        TermlessKind::NeverDefaults => TermlessOrder::Defaults(Defaulted::Deferred),
+        TermlessKind::Revision => TermlessOrder::Revision,
+        TermlessKind::RangeVariable => {
+            let fallback = Builtin { code: second };
+            number_order(first, requested_range(fallback, o.third, o.fourth))
+        }
     }
-    if kind == 2 {
-        return TermlessOrder::Variable(VariableOrder::Hole(first));
-    }
-    if kind == 6 {
-        return TermlessOrder::Defaults(Defaulted::Requested);
-    }
-    if kind == 7 {
-        return TermlessOrder::Defaults(Defaulted::Deferred);
-    }
-    if kind == 8 {
-        return TermlessOrder::Revision;
-    }
-    let fallback = Builtin { code: second };
-    number_order(first, requested_by(o, fallback))
 }
 
 // Orders 0, 1, 2, 6, 7, 8 and 21.

@@ -9,7 +9,7 @@ ghost use Rattle.sheet.specs.Words.FieldLayout.{Free, Ample, rule_from, WordsFit
 
 use super::fields::PlainField;
 use super::layout::read_layout;
-use super::{Order, Sort};
+use super::{FieldSpots, Sort};
 use solver::{Place, Refusal, Rule, clear_tokens, put_rule};
 
 // The layout of a rule: interface, receiver, the number of a member, arguments and value.
@@ -22,7 +22,7 @@ const RULE: [Sort; 5] = [
 ];
 
 // Stores the words of the r-th rule, from its spots.
-fn keep_rule(rules: &mut [u32], r: u64, o: Order)
+fn keep_rule(rules: &mut [u32], r: u64, o: FieldSpots)
     requires words { WordsFit o }
     requires few { r < 4294967296 }
     ensures { rules.new ≡ put_rule rules.old r (rule_from o) }

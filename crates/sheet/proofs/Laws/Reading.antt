@@ -2,6 +2,7 @@
 --   StoredLaws        tokens stored one run after the other, and cleared
 --   FieldLaws         what is read is formed, and how many tokens it has
 --   OrderTableLaws    the table of orders: tests computed over it
+--   OrderKindLaws     the orders as the code has them, and their rows
 --   FitLaws           what is read is of the sorts of its kind
 --   SpotLaws          where the fields stand, and that they are held there
 --   FieldLoopLaws     the loop over a layout
@@ -12,6 +13,7 @@
 pub mod StoredLaws
 pub mod FieldLaws
 pub mod OrderTableLaws
+pub mod OrderKindLaws
 pub mod FitLaws
 pub mod SpotLaws
 pub mod FieldLoopLaws

@@ -1,5 +1,5 @@
 -- Orders 0 to 8, 21 and 22 on the counters, the tokens and the table that the solver is lent.
-use Rattle.std.specs.Prelude.{Bool, true, false, List, ◌≡◌, ℕ, ◌+◌, ◌≤◌, ◌<◌, length, drop}
+use Rattle.std.specs.Prelude.{List, ◌≡◌, ℕ, ◌+◌, ◌≤◌, ◌<◌, length, drop}
 use Rattle.std.proofs.Math.Option.{some}
 use Rattle.solver.specs.declared.Solver.{Solver}
 use Rattle.solver.specs.declared.Site.{Site}
@@ -16,10 +16,10 @@ use Rattle.solver.specs.Words.SessionRepresentation.{request_in, Represents}
 use Rattle.solver.specs.Words.ConstrainContract.{pending_from}
 use Rattle.solver.specs.Words.Worklist.{Zero}
 use Rattle.solver.specs.Words.MethodContract.{Beside, defaults_by}
-use Rattle.sheet.specs.declared.Order.{Order}
+use Rattle.sheet.specs.declared.FieldSpots.{FieldSpots}
 use Rattle.sheet.specs.Fields.{Field}
-use Rattle.sheet.specs.OrderTable.{Row, row_in, command_of}
-use Rattle.sheet.specs.Sheet.{Step, table, framed}
+use Rattle.sheet.specs.OrderTable.{Row, command_of}
+use Rattle.sheet.specs.Sheet.{Step, framed}
 use Rattle.sheet.specs.Words.FramingContract.{Output, Wrote, Framed}
 use Rattle.sheet.specs.Words.OrderGiven.{Given}
 
@@ -41,9 +41,9 @@ pub record Does (m : Lent) (y : Solver) (us : List ℕ) (z : Session) (st : Step
   pub long : length w.bytes < w.at + length (framed st.answer) → Represents y m.kinds m.vals us z
   pub beside : Beside m.counters y m.table us
 
--- whatever an order is given as, it tells the session the command c
-pub record Says (ks vs s ws : List ℕ) (o : Order) (c : Command) : Type 0 where
-  pub says : (known : ℕ) (k : Row) (fs : List Field) → row_in table o.kind ≡ some k → Given ks vs s ws known k o fs → command_of k fs ≡ some c
+-- whatever an order whose row is k is given as, it tells the session the command c
+pub record Says (ks vs s ws : List ℕ) (k : Row) (o : FieldSpots) (c : Command) : Type 0 where
+  pub says : (known : ℕ) (fs : List Field) → Given ks vs s ws known k o fs → command_of k fs ≡ some c
 
 -- orders 0, 1, 2 and 21: their commands
 abbrev pub variable_command : VariableOrder → Command
@@ -70,12 +70,7 @@ termless_command (Defaults b) = defaults_by b
 termless_command Revision = revision
 termless_command NoType = unread 13
 
--- the number of an order that poses a pair, strictly or not
-abbrev pub pair_number : Bool → ℕ
-pair_number false = 4
-pair_number true = 22
-
--- Such an order done. Where a variable was bound, the session after it is held by all of the tokens. Else the counters and the table are as they were: nothing was
+-- An order that poses a pair done. Where a variable was bound, the session after it is held by all of the tokens. Else the counters and the table are as they were: nothing was
 -- bound, and the session is the same, or the answer does not fit.
 pub record DoesPair (m : Lent) (y : Solver) (us : List ℕ) (z : Session) (st : Step) (w : Output) (v : Wrote) : Type 0 where
   pub answer : Framed st.answer w.bytes w.at v.bytes v.next

@@ -5,17 +5,12 @@ use lib.ListN.{length}
 use borrow.Rule.Slice.PartMut.{take_put}
 use native.Mathlib.Omega.{arith}
 use Rattle.sheet.proofs.Laws.Answering.SessionInAreasLaws.{ready_frames, lent_tail, does_tail}
-use Rattle.sheet.proofs.Laws.Answering.DispatchLaws.{taken_half, long_b, plain_asks, plain_lent, plain_answered, taken_narrow, taken_pairs}
+use Rattle.sheet.proofs.Laws.Answering.DispatchLaws.{taken_half, long_b, plain_lent, plain_answered, taken_narrow, taken_pairs}
 use Rattle.sheet.proofs.dispatch.plain_order.Goals as goal
 
 pub invariant_of-termless_order : goal.invariant_of-termless_order
 invariant_of-termless_order c =
     record { pairs = taken_pairs c.requires.taken.4 c.requires.within; narrow = taken_narrow _ _ (λ i. omega (arith, c.type_inv.b i)) }
-
-pub termless_of-what-requires : goal.termless_of-what-requires
-termless_of-what-requires c =
-    let p = c.requires in
-    (_, _, p.taken.0, p.taken.3, plain_asks p.taken.4 p.within p.kind)
 
 pub slice_bounds-termless_order-end-2 : goal.slice_bounds-termless_order-end-2
 slice_bounds-termless_order-end-2 c = sym (long_b c.requires.taken.4 c.requires.within)

@@ -17,14 +17,14 @@ pub write_term-size-requires-clause-space : goal.write_term-size-requires-clause
 write_term-size-requires-clause-space c =
     let p = c.requires in
     let a = c.args in
-    let n = counted_term a.tokens.now.kinds.now a.tokens.now.vals.now (λ i. omega (arith, c.args.tokens.now.narrow.fits i)) a.s.now a.b p.ready a.from p.place (omega (arith, p.areas)) in
+    let n = counted_term a.posed.now.tokens.kinds.now a.posed.now.tokens.vals.now (λ i. omega (arith, a.posed.now.tokens.narrow.fits i)) a.posed.now.bytes.now a.b p.ready a.from p.place (omega (arith, a.posed.now.few)) in
     record { counts = omega (arith, n); fits = λ h. never_true h }
 
 pub overflow_add-size : goal.overflow_add-size
 overflow_add-size c =
     let p = c.requires in
     let a = c.args in
-    let n = counted_term a.tokens.now.kinds.now a.tokens.now.vals.now (λ i. omega (arith, c.args.tokens.now.narrow.fits i)) a.s.now a.b p.ready a.from p.place (omega (arith, p.areas)) in
+    let n = counted_term a.posed.now.tokens.kinds.now a.posed.now.tokens.vals.now (λ i. omega (arith, a.posed.now.tokens.narrow.fits i)) a.posed.now.bytes.now a.b p.ready a.from p.place (omega (arith, a.posed.now.few)) in
     omega (arith, n, c.write_term-size.ensures.words.next)
 
 pub returns-in_err-at : goal.returns-in_err-at

@@ -1,11 +1,13 @@
 -- `question`: as it is asked, or its contrary.
 use mathlib.Core.List.{[]}
-use Rattle.sheet.proofs.Laws.Answering.AnswerLaws.{no_parameters, contrary, plainly}
+use Rattle.sheet.proofs.Laws.Answering.AnswerLaws.{held_in, no_parameters, contrary, plainly}
+use Rattle.sheet.proofs.Laws.Answering.OperationFieldLaws.{questions}
 use Rattle.sheet.proofs.operations.question.Goals as goal
 
-pub ask-r-requires-clause-parameters : goal.ask-r-requires-clause-parameters
-ask-r-requires-clause-parameters c =
-    record { list = []; next = 0; read = no_parameters _ }
+pub ask-r-requires : goal.ask-r-requires
+ask-r-requires c =
+    let x = ((questions _ _ _ _ _).asked c.requires.1).1 in
+    record { place = held_in _ _ _ _ x.held; term = record { term = x.term; held = x.held; formed = x.formed }; parameters = record { list = []; next = 0; read = no_parameters _ } }
 
 pub returns-in-IsConcrete : goal.returns-in-IsConcrete
 returns-in-IsConcrete c =
