@@ -4,6 +4,7 @@ ghost use Rattle.solver.specs.Session.{Session, issued};
 ghost use Rattle.solver.specs.Invariant.{InOrder};
 ghost use Rattle.solver.specs.Words.SessionRepresentation.{limits_of};
 ghost use Rattle.sheet.specs.declared.OrderKind.TheVariants as kinds;
+ghost use Rattle.solver.specs.TermTypes.{Rule};
 ghost use Rattle.solver.specs.Terms.Tokens.{area};
 ghost use Rattle.sheet.specs.Words.SessionInAreas.{areas, RepresentsInAreas, Served};
 ghost use Rattle.sheet.specs.Entry.{AreasReady};
@@ -17,7 +18,7 @@ use super::order_reader::{clear_order, read_order};
 use super::plain_orders::{termless_of, termless_order};
 use super::term_orders::{constrain_order, defer_term, resolve_term};
 use super::{AfterOrder, Operation, Order, OrderKind, OrderRefusal, Posed, TermlessKind};
-use solver::{Access, Refusal, Solver, Tokens};
+use solver::{Access, Refusal, Rule, Solver, Tokens};
 
 // Orders 9 to 20: the session stays as it was.
 fn operate_order<'a>(
@@ -28,7 +29,7 @@ fn operate_order<'a>(
     b: &'a [u32],
     c: &mut [u32],
     d: &mut [u32],
-    rules: &[u32],
+    rules: &[Rule],
     o: Order,
     what: Operation,
     out: &mut [u8],
@@ -37,7 +38,6 @@ fn operate_order<'a>(
     requires taken { (a₀ b₀ : List ℕ) × OrderTaken x half s.now (areas a₀ b₀ c.old d.old) (area a.now b.now) rules.now o }
     requires within { o.nodes ≤ x.nodes }
     requires kind { o.kind ≡ kinds.Operation what }
-    requires words { length rules.now < 4294967296 }
     requires room { OutputRoom out.old to }
     ensures { (a₀ b₀ : List ℕ)
         → OrderTaken x half s.now (areas a₀ b₀ c.old d.old) (area a.now b.now) rules.now o
@@ -64,11 +64,11 @@ fn defer_order(
     out: &mut [u8],
     to: usize,
 ) -> AfterOrder
-    requires taken { (s a₀ b₀ d ws : List ℕ) × OrderTaken x half s (areas a₀ b₀ c.old d) (area a.now b.now) ws o }
+    requires taken { (s a₀ b₀ d : List ℕ) × (ws : List Rule) × OrderTaken x half s (areas a₀ b₀ c.old d) (area a.now b.now) ws o }
     requires within { o.nodes ≤ x.nodes }
     requires kind { o.kind ≡ kinds.DeferNever }
     requires room { OutputRoom out.old to }
-    ensures { (s a₀ b₀ d ws : List ℕ) → OrderTaken x half s (areas a₀ b₀ c.old d) (area a.now b.now) ws o
+    ensures { (s a₀ b₀ d : List ℕ) (ws : List Rule) → OrderTaken x half s (areas a₀ b₀ c.old d) (area a.now b.now) ws o
         → Answered x result.solver half s (areas a₀ b₀ c.old d) (area a.now b.now) o c.new d
         (output_at out.old to) (written_to out.new result.next) }
 {
@@ -97,11 +97,11 @@ fn resolve_order(
     out: &mut [u8],
     to: usize,
 ) -> AfterOrder
-    requires taken { (s a₀ b₀ ws : List ℕ) × OrderTaken x half s (areas a₀ b₀ c.now d.old) (area a.now b.now) ws o }
+    requires taken { (s a₀ b₀ : List ℕ) × (ws : List Rule) × OrderTaken x half s (areas a₀ b₀ c.now d.old) (area a.now b.now) ws o }
     requires within { o.nodes ≤ x.nodes }
     requires kind { o.kind ≡ kinds.Resolve }
     requires room { OutputRoom out.old to }
-    ensures { (s a₀ b₀ ws : List ℕ) → OrderTaken x half s (areas a₀ b₀ c.now d.old) (area a.now b.now) ws o
+    ensures { (s a₀ b₀ : List ℕ) (ws : List Rule) → OrderTaken x half s (areas a₀ b₀ c.now d.old) (area a.now b.now) ws o
         → Answered x result.solver half s (areas a₀ b₀ c.now d.old) (area a.now b.now) o c.now
         d.new (output_at out.old to) (written_to out.new result.next) }
 {
@@ -132,11 +132,11 @@ fn pair_order(
     out: &mut [u8],
     to: usize,
 ) -> AfterOrder
-    requires taken { (s a₀ b₀ ws : List ℕ) × OrderTaken x half s (areas a₀ b₀ c.old d.old) (area a.now b.now) ws o }
+    requires taken { (s a₀ b₀ : List ℕ) × (ws : List Rule) × OrderTaken x half s (areas a₀ b₀ c.old d.old) (area a.now b.now) ws o }
     requires within { o.nodes ≤ x.nodes }
     requires kind { o.kind ≡ kinds.Constrain access }
     requires room { OutputRoom out.old to }
-    ensures { (s a₀ b₀ ws : List ℕ) → OrderTaken x half s (areas a₀ b₀ c.old d.old) (area a.now b.now) ws o
+    ensures { (s a₀ b₀ : List ℕ) (ws : List Rule) → OrderTaken x half s (areas a₀ b₀ c.old d.old) (area a.now b.now) ws o
         → Answered x result.solver half s (areas a₀ b₀ c.old d.old) (area a.now b.now) o c.new
         d.new (output_at out.old to) (written_to out.new result.next) }
 {
@@ -173,11 +173,11 @@ fn plain_order(
     out: &mut [u8],
     to: usize,
 ) -> AfterOrder
-    requires taken { (s a₀ b₀ ws : List ℕ) × OrderTaken x half s (areas a₀ b₀ c.old d.old) (area a.now b.now) ws o }
+    requires taken { (s a₀ b₀ : List ℕ) × (ws : List Rule) × OrderTaken x half s (areas a₀ b₀ c.old d.old) (area a.now b.now) ws o }
     requires within { o.nodes ≤ x.nodes }
     requires kind { o.kind ≡ kinds.Termless kind }
     requires room { OutputRoom out.old to }
-    ensures { (s a₀ b₀ ws : List ℕ) → OrderTaken x half s (areas a₀ b₀ c.old d.old) (area a.now b.now) ws o
+    ensures { (s a₀ b₀ : List ℕ) (ws : List Rule) → OrderTaken x half s (areas a₀ b₀ c.old d.old) (area a.now b.now) ws o
         → Answered x result.solver half s (areas a₀ b₀ c.old d.old) (area a.now b.now) o c.new
         d.new (output_at out.old to) (written_to out.new result.next) }
 {
@@ -206,13 +206,12 @@ fn answer_order(
     b: &[u32],
     c: &mut [u32],
     d: &mut [u32],
-    rules: &[u32],
+    rules: &[Rule],
     o: Order,
     out: &mut [u8],
     to: usize,
 ) -> AfterOrder
     requires taken { (a₀ b₀ : List ℕ) × OrderTaken x half s.now (areas a₀ b₀ c.old d.old) (area a.now b.now) rules.now o }
-    requires words { length rules.now < 4294967296 }
     requires room { OutputRoom out.old to }
     ensures { (a₀ b₀ : List ℕ)
         → OrderTaken x half s.now (areas a₀ b₀ c.old d.old) (area a.now b.now) rules.now o
@@ -235,7 +234,7 @@ fn answer_order(
     }
 }
 
-// Reads an order, with words for its rules, and answers it.
+// Reads an order, with room for its rules, and answers it.
 fn serve_with(
     x: Solver,
     half: usize,
@@ -244,12 +243,12 @@ fn serve_with(
     b: &mut [u32],
     c: &mut [u32],
     d: &mut [u32],
-    rules: &mut [u32],
+    rules: &mut [Rule],
     out: &mut [u8],
     to: usize,
 ) -> AfterOrder
     requires held { AreasReady x half (areas a.old b.old c.old d.old) }
-    requires words { (get_or s.now 0 0 ≡ 20 → RulesRoom s.now rules.old 2048) × (length rules.old < 4294967296) }
+    requires rules { get_or s.now 0 0 ≡ 20 → RulesRoom s.now rules.old 2048 }
     requires room { (length s.now ≤ 16777216) × (to ≤ length out.old) × (length out.old ≤ 16777216) }
     ensures { Serves x result.solver half s.now (areas a.old b.old c.old d.old)
         (areas a.new b.new c.new d.new) (output_at out.old to) (written_to out.new result.next) }
@@ -291,7 +290,7 @@ fn few_rules(s: &[u8]) -> bool
     s[1] < 64
 }
 
-// An order that may have rules: six words for each, of fewer than 64 or of at most 1,024.
+// An order that may have rules: fewer than 64, or at most 1,024.
 fn serve_rules(
     x: Solver,
     half: usize,
@@ -309,10 +308,10 @@ fn serve_rules(
         (areas a.new b.new c.new d.new) (output_at out.old to) (written_to out.new result.next) }
 {
     if few_rules(s) {
-        let mut few = [0u32; 384];
+        let mut few = [Rule::default(); 64];
         return serve_with(x, half, s, a, b, c, d, &mut few, out, to);
     }
-    let mut rules = [0u32; 6144];
+    let mut rules = [Rule::default(); 1024];
     serve_with(x, half, s, a, b, c, d, &mut rules, out, to)
 }
 
@@ -337,6 +336,5 @@ pub fn serve_order(
     if has_rules(s) {
         return serve_rules(x, half, s, a, b, c, d, out, to);
     }
-    let mut none = [0u32; 1];
-    serve_with(x, half, s, a, b, c, d, &mut none, out, to)
+    serve_with(x, half, s, a, b, c, d, &mut [], out, to)
 }

@@ -1,6 +1,7 @@
 // The fields of an order, rules aside: each is read and its tokens kept. A reading function is lent the place and answers the field's spot; where it refuses,
 // the place is of no use.
 ghost use Rattle.std.specs.Prelude.{◌≡◌, List, ℕ, ◌≤◌, length};
+ghost use Rattle.solver.specs.TermTypes.{Rule};
 ghost use Rattle.solver.specs.Terms.Tokens.{area};
 ghost use Rattle.solver.specs.Terms.Outcomes.{step_of};
 ghost use Rattle.sheet.specs.Fields.{field, ordinary, code, bound, parameters};
@@ -9,7 +10,7 @@ ghost use Rattle.sheet.specs.Words.FieldsContract.{field_of, NumberRead};
 
 use super::layout::FieldReader;
 use super::{FieldSpot, Sort};
-use solver::{Listing, Place, Refusal, keep_list, part_at, read_number, skip_parameters};
+use solver::{Listing, PartKind, Place, Refusal, keep_list, part_at, read_number, skip_parameters, Rule};
 
 const ORDINARY: u64 = 4294967295;
 
@@ -121,26 +122,19 @@ fn keep_part(
 ) -> Result<(), Refusal>
     requires ample { Ample s.now place.old }
     requires free { Free place.old.top (area kinds.old vals.old) }
-    ensures { (ws : List ℕ)
+    ensures { (ws : List Rule)
         → PartDone s.now ws count (part_of s.now issued sort count place.old.at) place.old
         (area kinds.old vals.old) (area kinds.new vals.new) (step_of result place.new) }
 {
-    match sort {
-        Sort::Term | Sort::Nominal => {
-            let bare = sort == Sort::Nominal;
-            part_at(s, kinds, vals, place, bare, LEVELS, issued)
+    let wanted = match sort {
+        Sort::Term => PartKind::Term,
+        Sort::Nominal => PartKind::BareNominal,
+        _ => {
+            let listing = listing_of(sort);
+            return keep_list(s, kinds, vals, place, listing, LEVELS, issued, count);
         }
-        _ => keep_list(
-            s,
-            kinds,
-            vals,
-            place,
-            listing_of(sort),
-            LEVELS,
-            issued,
-            count,
-        ),
-    }
+    };
+    part_at(s, kinds, vals, place, wanted, LEVELS, issued)
 }
 
 // What `keep_part` keeps, with its spot.
@@ -195,7 +189,7 @@ impl FieldReader for PlainField {
         s: &[u8],
         kinds: &mut [u32],
         vals: &mut [u32],
-        rules: &mut [u32],
+        rules: &mut [Rule],
         place: &mut Place,
         sort: Sort,
         issued: u64,

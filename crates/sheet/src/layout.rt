@@ -8,9 +8,9 @@ ghost use Rattle.sheet.specs.Words.FieldsContract.{field_of, LayoutDone};
 
 use super::order_table::put_spot;
 use super::{FieldSpot, FieldSpots, Sort};
-use solver::{Place, Refusal, clear_tokens};
+use solver::{Place, Refusal, Rule, clear_tokens};
 
-// A way to read a field by its sort. Rules alone have words besides.
+// A way to read a field by its sort. Rules alone are stored besides.
 pub trait FieldReader {
     // What is read for a sort.
     ghost read_as: { Sort → FieldSort };
@@ -19,7 +19,7 @@ pub trait FieldReader {
         s: &[u8],
         kinds: &mut [u32],
         vals: &mut [u32],
-        rules: &mut [u32],
+        rules: &mut [Rule],
         place: &mut Place,
         sort: Sort,
         issued: u64,
@@ -28,7 +28,7 @@ pub trait FieldReader {
         requires free { Free place.old.top (area kinds.old vals.old) }
         ensures done { FieldDone s.now rules.new (field s.now issued (read_as sort) place.old.at) place.old
             (area kinds.old vals.old) (area kinds.new vals.new) (field_of result place.new) }
-        ensures words { Plain (read_as sort) → rules.new ≡ rules.old };
+        ensures same { Plain (read_as sort) → rules.new ≡ rules.old };
 }
 
 // The fields of a layout; on a refusal nothing of them remains in the areas. It is taken into its two callers: apart, short scripts took 2% more instructions.
@@ -37,7 +37,7 @@ pub fn read_layout<R: FieldReader>(
     s: &[u8],
     kinds: &mut [u32],
     vals: &mut [u32],
-    rules: &mut [u32],
+    rules: &mut [Rule],
     place: &mut Place,
     sorts: &[Sort],
     issued: u64,
@@ -47,7 +47,7 @@ pub fn read_layout<R: FieldReader>(
     requires layout { IsLayout (sorts_by R.read_as sorts.now) }
     ensures done { LayoutDone s.now rules.new (fields s.now issued (sorts_by R.read_as sorts.now) place.old.at) place.old
         (area kinds.old vals.old) (area kinds.new vals.new) result place.new }
-    ensures words { Plains (sorts_by R.read_as sorts.now) → rules.new ≡ rules.old }
+    ensures same { Plains (sorts_by R.read_as sorts.now) → rules.new ≡ rules.old }
 {
     let first = place.top;
     let mut o = FieldSpots::default();

@@ -3,7 +3,7 @@ ghost use Rattle.std.specs.Prelude.{◌≡◌, List, ℕ, ◌<◌, length};
 ghost use Rattle.solver.specs.Terms.Term.{Term, Held};
 ghost use Rattle.solver.specs.Terms.Tokens.{area};
 ghost use Rattle.solver.specs.Terms.Formed.{Formed};
-ghost use Rattle.solver.specs.TermTypes.{Parameter};
+ghost use Rattle.solver.specs.TermTypes.{Parameter, Rule};
 ghost use Rattle.solver.specs.Terms.Questions.{answered, number_of_question};
 ghost use Rattle.solver.specs.Terms.Substitution.{Entry, Receiver, apply};
 ghost use Rattle.solver.specs.Terms.RewriteContract.{Ready, Rewrites};
@@ -19,16 +19,16 @@ ghost use Rattle.sheet.specs.Words.OperationsContract.{IsPosed, RepliesTo, Appli
 use super::framing::{begin_answer, write_byte_answer, write_bytes_answer, write_refusal};
 use super::{Operation, OrderRefusal, Posed};
 use solver::{
-    Binders, Question, Refusal, Tokens, Unfinished, ask, can_weaken_to, clear_tokens,
+    Binders, Question, Refusal, Rule, Tokens, Unfinished, ask, can_weaken_to, clear_tokens,
     conflicts_with, context, family, instantiation, normalise, recovered_len, satisfies,
     satisfies_for, self_only, with_associated_types, write_normalised, write_recovered, write_term,
 };
 
 // Order 9.
 fn conflicts(posed: &Posed, out: &mut [u8], to: usize) -> Option<usize>
-    requires asks { (ws : List ℕ) × IsPosed posed.now ws rows.conflicts }
+    requires asks { (ws : List Rule) × IsPosed posed.now ws rows.conflicts }
     requires room { OutputRoom out.old to }
-    ensures { (ws : List ℕ) → RepliesTo posed.now ws rows.conflicts (λ x. Framed x out.old to out.new result) }
+    ensures { (ws : List Rule) → RepliesTo posed.now ws rows.conflicts (λ x. Framed x out.old to out.new result) }
 {
     let o = posed.fields;
     let r = conflicts_with(&posed.tokens, o.first.place, o.second.place);
@@ -37,9 +37,9 @@ fn conflicts(posed: &Posed, out: &mut [u8], to: usize) -> Option<usize>
 
 // Order 10.
 fn weakens(posed: &Posed, out: &mut [u8], to: usize) -> Option<usize>
-    requires asks { (ws : List ℕ) × IsPosed posed.now ws rows.weakens }
+    requires asks { (ws : List Rule) × IsPosed posed.now ws rows.weakens }
     requires room { OutputRoom out.old to }
-    ensures { (ws : List ℕ) → RepliesTo posed.now ws rows.weakens (λ x. Framed x out.old to out.new result) }
+    ensures { (ws : List Rule) → RepliesTo posed.now ws rows.weakens (λ x. Framed x out.old to out.new result) }
 {
     let o = posed.fields;
     let r = can_weaken_to(&posed.tokens, o.first.place, o.second.place);
@@ -48,9 +48,9 @@ fn weakens(posed: &Posed, out: &mut [u8], to: usize) -> Option<usize>
 
 // Order 11.
 fn recovered(posed: &Posed, out: &mut [u8], to: usize) -> Option<usize>
-    requires asks { (ws : List ℕ) × IsPosed posed.now ws rows.recover }
+    requires asks { (ws : List Rule) × IsPosed posed.now ws rows.recover }
     requires room { OutputRoom out.old to }
-    ensures { (ws : List ℕ) → RepliesTo posed.now ws rows.recover (λ x. Framed x out.old to out.new result) }
+    ensures { (ws : List Rule) → RepliesTo posed.now ws rows.recover (λ x. Framed x out.old to out.new result) }
 {
     let a = posed.fields.first.place;
     let b = posed.fields.second.place;
@@ -74,9 +74,9 @@ fn rewritten(posed: &Posed, b: Binders, from: usize, out: &mut [u8], to: usize) 
 
 // Order 12.
 fn instantiated(posed: &Posed, out: &mut [u8], to: usize) -> Option<usize>
-    requires asks { (ws : List ℕ) × IsPosed posed.now ws rows.instantiate }
+    requires asks { (ws : List Rule) × IsPosed posed.now ws rows.instantiate }
     requires room { OutputRoom out.old to }
-    ensures { (ws : List ℕ) → RepliesTo posed.now ws rows.instantiate (λ x. Framed x out.old to out.new result) }
+    ensures { (ws : List Rule) → RepliesTo posed.now ws rows.instantiate (λ x. Framed x out.old to out.new result) }
 {
     let o = posed.fields;
     let b = instantiation(o.first.place, o.second.place, o.second.end);
@@ -85,9 +85,9 @@ fn instantiated(posed: &Posed, out: &mut [u8], to: usize) -> Option<usize>
 
 // Order 13.
 fn in_context(posed: &Posed, out: &mut [u8], to: usize) -> Option<usize>
-    requires asks { (ws : List ℕ) × IsPosed posed.now ws rows.argument_context }
+    requires asks { (ws : List Rule) × IsPosed posed.now ws rows.argument_context }
     requires room { OutputRoom out.old to }
-    ensures { (ws : List ℕ) → RepliesTo posed.now ws rows.argument_context (λ x. Framed x out.old to out.new result) }
+    ensures { (ws : List Rule) → RepliesTo posed.now ws rows.argument_context (λ x. Framed x out.old to out.new result) }
 {
     let o = posed.fields;
     let b = context(o.first.place, o.second.place, o.third.place, o.third.value);
@@ -96,9 +96,9 @@ fn in_context(posed: &Posed, out: &mut [u8], to: usize) -> Option<usize>
 
 // Order 14.
 fn by_receiver(posed: &Posed, out: &mut [u8], to: usize) -> Option<usize>
-    requires asks { (ws : List ℕ) × IsPosed posed.now ws rows.with_self }
+    requires asks { (ws : List Rule) × IsPosed posed.now ws rows.with_self }
     requires room { OutputRoom out.old to }
-    ensures { (ws : List ℕ) → RepliesTo posed.now ws rows.with_self (λ x. Framed x out.old to out.new result) }
+    ensures { (ws : List Rule) → RepliesTo posed.now ws rows.with_self (λ x. Framed x out.old to out.new result) }
 {
     let o = posed.fields;
     let b = self_only(o.first.place, o.first.end);
@@ -107,7 +107,7 @@ fn by_receiver(posed: &Posed, out: &mut [u8], to: usize) -> Option<usize>
 
 // One of the seven questions; a term is concrete where the question finds nothing.
 fn question(posed: &Posed, q: Question) -> bool
-    requires { (ws : List ℕ) × IsPosed posed.now ws rows.questions }
+    requires { (ws : List Rule) × IsPosed posed.now ws rows.questions }
     ensures { (t : Term) → Held posed.now.tokens.kinds.now posed.now.tokens.vals.now posed.now.fields.first.place t → Formed t
         → result ≡ answered (number_of_question q) t }
 {
@@ -127,9 +127,9 @@ fn question(posed: &Posed, q: Question) -> bool
 
 // Order 15: the seven questions.
 fn asked(posed: &Posed, out: &mut [u8], to: usize) -> Option<usize>
-    requires asks { (ws : List ℕ) × IsPosed posed.now ws rows.questions }
+    requires asks { (ws : List Rule) × IsPosed posed.now ws rows.questions }
     requires room { OutputRoom out.old to }
-    ensures { (ws : List ℕ) → RepliesTo posed.now ws rows.questions (λ x. Framed x out.old to out.new result) }
+    ensures { (ws : List Rule) → RepliesTo posed.now ws rows.questions (λ x. Framed x out.old to out.new result) }
 {
     let v = [
         Question::IsNever,
@@ -146,9 +146,9 @@ fn asked(posed: &Posed, out: &mut [u8], to: usize) -> Option<usize>
 
 // Order 16.
 fn resolved_in(posed: &Posed, out: &mut [u8], to: usize) -> Option<usize>
-    requires asks { (ws : List ℕ) × IsPosed posed.now ws rows.resolved_in }
+    requires asks { (ws : List Rule) × IsPosed posed.now ws rows.resolved_in }
     requires room { OutputRoom out.old to }
-    ensures { (ws : List ℕ) → RepliesTo posed.now ws rows.resolved_in (λ x. Framed x out.old to out.new result) }
+    ensures { (ws : List Rule) → RepliesTo posed.now ws rows.resolved_in (λ x. Framed x out.old to out.new result) }
 {
     let a = posed.fields.first;
     let p = posed.fields.second.place;
@@ -165,9 +165,9 @@ fn resolved_in(posed: &Posed, out: &mut [u8], to: usize) -> Option<usize>
 
 // Order 17.
 fn satisfied(posed: &Posed, out: &mut [u8], to: usize) -> Option<usize>
-    requires asks { (ws : List ℕ) × IsPosed posed.now ws rows.satisfied }
+    requires asks { (ws : List Rule) × IsPosed posed.now ws rows.satisfied }
     requires room { OutputRoom out.old to }
-    ensures { (ws : List ℕ) → RepliesTo posed.now ws rows.satisfied (λ x. Framed x out.old to out.new result) }
+    ensures { (ws : List Rule) → RepliesTo posed.now ws rows.satisfied (λ x. Framed x out.old to out.new result) }
 {
     let a = posed.fields.first.place;
     let b = posed.fields.second.place;
@@ -204,9 +204,9 @@ fn applied(
 
 // Order 18: a family's value, for a substitution and arguments.
 fn apply_family(posed: &Posed, out: &mut [u8], to: usize) -> Option<usize>
-    requires asks { (ws : List ℕ) × IsPosed posed.now ws rows.family }
+    requires asks { (ws : List Rule) × IsPosed posed.now ws rows.family }
     requires room { OutputRoom out.old to }
-    ensures { (ws : List ℕ) → RepliesTo posed.now ws rows.family (λ x. Framed x out.old to out.new result) }
+    ensures { (ws : List Rule) → RepliesTo posed.now ws rows.family (λ x. Framed x out.old to out.new result) }
 {
     let o = posed.fields;
     let p = o.first;
@@ -258,10 +258,10 @@ fn associated(
     to: usize,
 ) -> Option<usize>
     requires lends { Lends posed.now.tokens.kinds.now posed.now.tokens.vals.now heads.old kids.old most }
-    requires asks { (ws : List ℕ) × IsPosed posed.now ws rows.with_associated_types }
+    requires asks { (ws : List Rule) × IsPosed posed.now ws rows.with_associated_types }
     requires room { OutputRoom out.old to }
     ensures clear { area heads.new kids.new ≡ area heads.old kids.old }
-    ensures says { (ws : List ℕ) → RepliesTo posed.now ws rows.with_associated_types (λ x. Framed x out.old to out.new result) }
+    ensures says { (ws : List Rule) → RepliesTo posed.now ws rows.with_associated_types (λ x. Framed x out.old to out.new result) }
 {
     let tokens = &posed.tokens;
     let p = posed.fields.first.place as u32;
@@ -276,20 +276,19 @@ fn normalised(
     posed: &Posed,
     heads: &mut [u32],
     kids: &mut [u32],
-    rules: &[u32],
+    rules: &[Rule],
     out: &mut [u8],
     to: usize,
 ) -> Option<usize>
     requires lends { Lends posed.now.tokens.kinds.now posed.now.tokens.vals.now heads.old kids.old most }
     requires asks { IsPosed posed.now rules.now rows.normalise }
-    requires few { length rules.now < 4294967296 }
     requires room { OutputRoom out.old to }
     ensures clear { area heads.new kids.new ≡ area heads.old kids.old }
     ensures says { RepliesTo posed.now rules.now rows.normalise (λ x. Framed x out.old to out.new result) }
 {
     let tokens = &posed.tokens;
     let p = posed.fields.second.place as u32;
-    let n = 6 * posed.fields.first.value as usize;
+    let n = posed.fields.first.value as usize;
     let r = normalise(tokens, &rules[..n], heads, kids, p, out, to);
     settled(tokens, heads, kids, r, out, to)
 }
@@ -300,13 +299,12 @@ pub fn operate(
     what: Operation,
     heads: &mut [u32],
     kids: &mut [u32],
-    rules: &[u32],
+    rules: &[Rule],
     out: &mut [u8],
     to: usize,
 ) -> Option<usize>
     requires lends { Lends posed.now.tokens.kinds.now posed.now.tokens.vals.now heads.old kids.old most }
     requires asks { IsPosed posed.now rules.now (operation_row what) }
-    requires few { length rules.now < 4294967296 }
     requires room { OutputRoom out.old to }
     ensures clear { area heads.new kids.new ≡ area heads.old kids.old }
     ensures says { RepliesTo posed.now rules.now (operation_row what) (λ x. Framed x out.old to out.new result) }

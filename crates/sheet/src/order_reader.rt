@@ -17,14 +17,14 @@ use super::layout::{FieldReader, read_layout};
 use super::order_table::{known_of, layout_of};
 use super::rules::read_rules;
 use super::{FieldSpot, Order, OrderKind, Sort};
-use solver::{Place, Refusal, clear_tokens};
+use solver::{Place, Refusal, Rule, clear_tokens};
 
 // A count and so many rules.
 fn rules_field(
     s: &[u8],
     kinds: &mut [u32],
     vals: &mut [u32],
-    rules: &mut [u32],
+    rules: &mut [Rule],
     place: &mut Place,
     issued: u64,
 ) -> Result<FieldSpot, Refusal>
@@ -53,7 +53,7 @@ impl FieldReader for AnyField {
         s: &[u8],
         kinds: &mut [u32],
         vals: &mut [u32],
-        rules: &mut [u32],
+        rules: &mut [Rule],
         place: &mut Place,
         sort: Sort,
         issued: u64,
@@ -70,7 +70,7 @@ fn read_fields(
     s: &[u8],
     kinds: &mut [u32],
     vals: &mut [u32],
-    rules: &mut [u32],
+    rules: &mut [Rule],
     kind: OrderKind,
     issued: u64,
     first: usize,
@@ -104,13 +104,13 @@ fn read_fields(
     })
 }
 
-// Reads an order, which is all of `s`. Its tokens stand from `top` on where its nodes with those `kept` are within the limit, and the words of its rules
-// in `rules`. On a refusal nothing of it remains in the areas.
+// Reads an order, which is all of `s`. Its tokens stand from `top` on where its nodes with those `kept` are within the limit, and its rules in `rules`.
+// On a refusal nothing of it remains in the areas.
 pub fn read_order(
     s: &[u8],
     kinds: &mut [u32],
     vals: &mut [u32],
-    rules: &mut [u32],
+    rules: &mut [Rule],
     issued: u64,
     top: usize,
     kept: usize,

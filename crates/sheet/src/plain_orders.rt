@@ -10,6 +10,7 @@ ghost use Rattle.solver.specs.Words.Worklist.{Zero};
 ghost use Rattle.solver.specs.Words.SessionRepresentation.{Represents, limits_of};
 ghost use Rattle.solver.specs.Words.MethodContract.{Beside, bound_of, request_held, defaults_by};
 ghost use Rattle.solver.specs.Words.OrderTerms.{Asked, Frames, resolved_to};
+ghost use Rattle.solver.specs.TermTypes.{Rule};
 ghost use Rattle.sheet.specs.OrderTable.{outcome, between, asking};
 ghost use Rattle.sheet.specs.Sheet.{solve};
 ghost use Rattle.sheet.specs.Words.FieldLayout.{spot_bound};
@@ -226,8 +227,8 @@ fn number_order(site: u32, request: Option<NumberRequest>) -> TermlessOrder
 
 // What an order without terms says.
 pub fn termless_of(kind: TermlessKind, o: FieldSpots) -> TermlessOrder
-    requires { (ks vs s ws : List ℕ) × Asks ks vs s ws (termless_row kind) o }
-    ensures { (ks vs s ws : List ℕ) → Says ks vs s ws (termless_row kind) o (termless_command result) }
+    requires { (ks vs s : List ℕ) × (ws : List Rule) × Asks ks vs s ws (termless_row kind) o }
+    ensures { (ks vs s : List ℕ) (ws : List Rule) → Says ks vs s ws (termless_row kind) o (termless_command result) }
 {
     let first = o.first.value as u32;
     let second = o.second.value as u32;

@@ -1,16 +1,15 @@
-// Rules: each is five fields that are read by a layout of their own, and six words that tell where these stand. The reading functions are lent
+// Rules: each is five fields that are read by a layout of their own, and a record that tells where these stand. The reading functions are lent
 // the place; where they refuse it is of no use.
-ghost use Rattle.std.specs.Prelude.{◌≡◌, ◌<◌};
+ghost use Rattle.std.specs.Prelude.{◌≡◌, set};
 ghost use Rattle.solver.specs.Terms.Tokens.{area};
 ghost use Rattle.solver.specs.Terms.Outcomes.{step_of};
-ghost use Rattle.solver.specs.Terms.Lookup.{put_rule};
 ghost use Rattle.sheet.specs.Fields.{rule, rule_list};
 ghost use Rattle.sheet.specs.Words.FieldLayout.{Free, Ample, rule_from, WordsFit, RuleDone, RulesDone};
 
 use super::fields::PlainField;
 use super::layout::read_layout;
 use super::{FieldSpots, Sort};
-use solver::{Place, Refusal, Rule, clear_tokens, put_rule};
+use solver::{Place, Refusal, Rule, clear_tokens};
 
 // The layout of a rule: interface, receiver, the number of a member, arguments and value.
 const RULE: [Sort; 5] = [
@@ -21,21 +20,22 @@ const RULE: [Sort; 5] = [
     Sort::Term,
 ];
 
-// Stores the words of the r-th rule, from its spots.
-fn keep_rule(rules: &mut [u32], r: u64, o: FieldSpots)
-    requires words { WordsFit o }
-    requires few { r < 4294967296 }
-    ensures { rules.new ≡ put_rule rules.old r (rule_from o) }
+// Stores the r-th rule, from its spots, where there is room.
+fn keep_rule(rules: &mut [Rule], r: u64, o: FieldSpots)
+    requires { WordsFit o }
+    ensures { rules.new ≡ set rules.old r (rule_from o) }
 {
-    let rule = Rule {
-        interface: o.first.place as u32,
-        receiver: o.second.place as u32,
-        member: o.third.value as u32,
-        arguments: o.fourth.place as u32,
-        count: o.fourth.value as u32,
-        value: o.fifth.place as u32,
-    };
-    put_rule(rules, r, rule);
+    let i = r as usize;
+    if i < rules.len() {
+        rules[i] = Rule {
+            interface: o.first.place as u32,
+            receiver: o.second.place as u32,
+            member: o.third.value as u32,
+            arguments: o.fourth.place as u32,
+            count: o.fourth.value as u32,
+            value: o.fifth.place as u32,
+        };
+    }
 }
 
 // The r-th rule; on a refusal nothing of it remains in the areas.
@@ -43,14 +43,13 @@ fn read_rule(
     s: &[u8],
     kinds: &mut [u32],
     vals: &mut [u32],
-    rules: &mut [u32],
+    rules: &mut [Rule],
     place: &mut Place,
     r: u64,
     issued: u64,
 ) -> Result<(), Refusal>
     requires ample { Ample s.now place.old }
     requires free { Free place.old.top (area kinds.old vals.old) }
-    requires few { r < 4294967296 }
     ensures { RuleDone (rule s.now issued place.old.at) s.now place.old
         (area kinds.old vals.old) (area kinds.new vals.new) r rules.old rules.new
         (step_of result place.new) }
@@ -65,14 +64,13 @@ pub fn read_rules(
     s: &[u8],
     kinds: &mut [u32],
     vals: &mut [u32],
-    rules: &mut [u32],
+    rules: &mut [Rule],
     place: &mut Place,
     count: u64,
     issued: u64,
 ) -> Result<(), Refusal>
     requires ample { Ample s.now place.old }
     requires free { Free place.old.top (area kinds.old vals.old) }
-    requires few { count < 4294967296 }
     ensures { RulesDone (rule_list s.now issued count place.old.at) s.now place.old
         (area kinds.old vals.old) (area kinds.new vals.new) count rules.new
         (step_of result place.new) }

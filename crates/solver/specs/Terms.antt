@@ -21,6 +21,7 @@ pub use Rattle.terms.specs.Parameters
 pub use Rattle.terms.specs.Words.TermsAtPlaces
 pub use Rattle.terms.specs.Rows
 pub use Rattle.terms.specs.Words.RewriteContract
+pub use Rattle.terms.specs.Words.ShowingContract
 pub use Rattle.terms.specs.Normal
 pub use Rattle.terms.specs.Words.VirtualTokens
 pub use Rattle.terms.specs.Lookup

@@ -4,6 +4,7 @@
 --   Bindings               bindings that the areas and a table hold
 --   CongruenceClasses      classes of token places
 --   ConstrainContract      one check of `constrain` on what is lent
+--   Lent                   what lent bindings say
 --   MethodContract         what the methods say of the counters and the table
 --   OrderTerms             terms that follow the tokens of a session; what is resolved
 --   PendingContract        pending pairs as words, places of children, rows in step
@@ -16,6 +17,7 @@
 pub mod Bindings
 pub mod CongruenceClasses
 pub mod ConstrainContract
+pub mod Lent
 pub mod MethodContract
 pub mod OrderTerms
 pub mod PendingContract

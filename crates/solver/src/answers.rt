@@ -10,7 +10,7 @@ ghost use Rattle.solver.specs.Words.SessionRepresentation.{limits_of, Represents
 ghost use Rattle.solver.specs.Words.OrderTerms.{Asked, Starts, Frames, resolved_to};
 
 use super::resolving::{clear_words, resolved_len, write_resolved};
-use super::{Solver, Start, Subject};
+use super::{Bindings, Solver, Start, Subject};
 use terms::{Refusal, Tokens, number_len, write_number};
 
 // How many bytes a variable has.
@@ -79,11 +79,15 @@ impl Solver {
             → result ≡ min (limit + 1) (length (resolved_to s t)) }
         ensures clear { Zero work.new }
     {
-        let m = self.variables;
         let begun = self.start(tables, what);
         match begun {
             Start::Begins(p, most) => {
-                let size = resolved_len(tokens, &tables[..m], most, work, p, limit);
+                let bindings = Bindings {
+                    tokens: *tokens,
+                    bound: &tables[..self.variables],
+                    most,
+                };
+                let size = resolved_len(&bindings, work, p, limit);
                 if size.is_none() {
                     clear_words(work, most + most);
                 }
@@ -111,11 +115,15 @@ impl Solver {
             → (result ≡ to + length (resolved_to s t)) × (out.new ≡ sets out.old to (resolved_to s t)) }
         ensures clear { Zero work.new }
     {
-        let m = self.variables;
         let begun = self.start(tables, what);
         match begun {
             Start::Begins(p, most) => {
-                write_resolved(tokens, &tables[..m], most, work, p, out, to)
+                let bindings = Bindings {
+                    tokens: *tokens,
+                    bound: &tables[..self.variables],
+                    most,
+                };
+                write_resolved(&bindings, work, p, out, to)
             }
             Start::Free(v) => write_variable(out, to, v),
         }

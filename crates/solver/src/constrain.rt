@@ -18,7 +18,7 @@ use super::families::admissible;
 use super::pending::{clear_pairs, push_children, put_pair, same_shape, take_pair};
 use super::reach::{occurs, recovers};
 use super::top::shallow_resolve;
-use super::{Access, Checked, Solved, Solver, Verdict};
+use super::{Access, Bindings, Checked, Solved, Solver, Verdict};
 use terms::Tokens;
 
 // Whether a token is the head of an Unknown or Error, or another is.
@@ -48,21 +48,28 @@ impl Solver {
         ensures clear { Zero work.new }
     {
         let m = self.variables;
-        if recovers(tokens, &tables[..m], q, work) {
+        // Both are lent from one borrow: the borrow checker does not cover a slice that is lent whole where a part of it is lent.
+        let lent = &tables[..];
+        let bindings = Bindings {
+            tokens: *tokens,
+            bound: &lent[..m],
+            most: self.revision,
+        };
+        if recovers(&bindings, q, work) {
             return Checked {
                 solver: self,
                 good: true,
                 count,
             };
         }
-        if !admissible(tokens, tables, m, v, q) {
+        if !admissible(tokens, lent, m, v, q) {
             return Checked {
                 solver: self,
                 good: false,
                 count,
             };
         }
-        if occurs(tokens, &tables[..m], q, v, work) {
+        if occurs(&bindings, q, v, work) {
             return Checked {
                 solver: self,
                 good: false,
@@ -147,17 +154,20 @@ impl Solver {
             (solving.top s.solver u) count (solving.check_pair (notion (strict_of access)) s.solver t u ps) result }
         ensures clear { Zero work.new }
     {
-        let m = self.variables;
-        let most = self.revision;
-        if same_terms(tokens, &tables[..m], most, i, j, work) {
+        let bindings = Bindings {
+            tokens: *tokens,
+            bound: &tables[..self.variables],
+            most: self.revision,
+        };
+        if same_terms(&bindings, i, j, work) {
             return Checked {
                 solver: self,
                 good: true,
                 count,
             };
         }
-        let a = shallow_resolve(tokens, &tables[..m], most, i);
-        let b = shallow_resolve(tokens, &tables[..m], most, j);
+        let a = shallow_resolve(tokens, bindings.bound, bindings.most, i);
+        let b = shallow_resolve(tokens, bindings.bound, bindings.most, j);
         if tokens.kinds[a] == 1 {
             return self.unify_variable(tokens, tables, work, tokens.vals[a], b, count);
         }

@@ -20,7 +20,8 @@ use super::{Builtin, Defaulted, Solver};
 use std::num::NonZeroU32;
 use terms::Tokens;
 
-// The variable at the end of the chain of bindings from v on; none where the chain ends at no variable of the table.
+// The variable at the end of the chain of bindings from v on; none where the chain ends at no variable of the table. The bindings are lent in three:
+// what `apply_defaults` asks for does not say that the tokens are fewer than 2 ^ 32, as a `Bindings` does.
 pub fn root_of(tokens: &Tokens, bound: &[u32], most: usize, v: usize) -> Option<usize>
     requires { v < length bound.now }
     ensures ends { (b : ℕ → Option Term)

@@ -7,10 +7,11 @@
 ghost use Rattle.std.specs.Prelude.{true, false, List, ◌≡◌, ℕ, ◌+◌, ◌^◌, ◌≤◌, ◌<◌, length, get_or, set, take, drop};
 ghost use Rattle.std.proofs.Math.Option.{Option};
 ghost use Rattle.terms.specs.Term.{Term, Parts, node};
-ghost use Rattle.terms.specs.Words.Held.{Held, HeldParts, span};
+ghost use Rattle.terms.specs.Words.Held.{Held};
+ghost use Rattle.terms.specs.Words.Lent.{PartOf};
 ghost use Rattle.terms.specs.Tree.{same};
 ghost use Rattle.solver.specs.Constrain.{resolve, follow};
-ghost use Rattle.solver.specs.Words.Bindings.{HeldBindings};
+ghost use Rattle.solver.specs.Words.Lent.{HeldBy, RowBy, Binds};
 ghost use Rattle.solver.specs.Words.Worklist.{Zero};
 ghost use Rattle.solver.specs.Words.ReachContract.{Steady, Topped};
 ghost use Rattle.solver.specs.Words.SessionRepresentation.{begins};
@@ -18,9 +19,10 @@ ghost use Rattle.solver.specs.Words.CongruenceClasses.{link_words, WiredIn, Adva
 ghost use Rattle.solver.specs.Words.CongruenceClasses.{Fair, Outcome};
 ghost use Rattle.solver.specs.Words.CongruenceClasses.{Closed, TermsJoined, RowsJoined};
 
+use super::Bindings;
 use super::reach::clear_queue;
 use super::top::shallow_resolve;
-use terms::{Tokens, skip};
+use terms::{Part, skip, term_part};
 
 // The root of the class of a, of the n places.
 fn find(n: usize, work: &[u32], a: usize) -> usize
@@ -71,26 +73,19 @@ fn union_classes(kinds: &[u32], a: usize, b: usize, work: &mut [u32], top: &mut 
 }
 
 // Puts the terms at i and j into one class, unless their tops differ.
-fn union_terms(
-    tokens: &Tokens,
-    bound: &[u32],
-    most: usize,
-    i: usize,
-    j: usize,
-    work: &mut [u32],
-    top: &mut usize,
-) -> bool
-    requires places { (i < length tokens.now.kinds.now) × (j < length tokens.now.kinds.now) × (length tokens.now.kinds.now < 2 ^ 32) }
-    requires wired { WiredIn tokens.now.kinds.now work.old top.old }
-    ensures advanced { AdvancedIn tokens.now.kinds.now work.old top.old work.new top.new }
+fn union_terms(bindings: &Bindings, i: usize, j: usize, work: &mut [u32], top: &mut usize) -> bool
+    requires places { (i < length bindings.now.tokens.kinds.now) × (j < length bindings.now.tokens.kinds.now) }
+    requires wired { WiredIn bindings.now.tokens.kinds.now work.old top.old }
+    ensures advanced { AdvancedIn bindings.now.tokens.kinds.now work.old top.old work.new top.new }
     ensures terms { (b : ℕ → Option Term) (t u : Term)
-        → HeldSteady tokens.now.kinds.now tokens.now.vals.now bound.now most b
-        → Held tokens.now.kinds.now tokens.now.vals.now i t
-        → Held tokens.now.kinds.now tokens.now.vals.now j u
-        → TermsJoined tokens.now.kinds.now tokens.now.vals.now most b work.old work.new result t u }
+        → HeldSteady bindings.now b
+        → HeldBy bindings.now i t
+        → HeldBy bindings.now j u
+        → TermsJoined bindings.now b work.old work.new result t u }
 {
-    let a = shallow_resolve(tokens, bound, most, i);
-    let b = shallow_resolve(tokens, bound, most, j);
+    let tokens = &bindings.tokens;
+    let a = shallow_resolve(tokens, bindings.bound, bindings.most, i);
+    let b = shallow_resolve(tokens, bindings.bound, bindings.most, j);
     if tokens.kinds[a] != tokens.kinds[b] {
         return false;
     }
@@ -105,32 +100,22 @@ fn union_terms(
 }
 
 // Joins the terms of two rows of parts, one after the other, unless the rows differ in a number or in where their terms stand.
-fn union_rows(
-    tokens: &Tokens,
-    bound: &[u32],
-    most: usize,
-    a: usize,
-    ae: usize,
-    b: usize,
-    be: usize,
-    work: &mut [u32],
-    top: &mut usize,
-) -> bool
-    requires places { (a ≤ ae) × (ae ≤ length tokens.now.kinds.now) × (b ≤ be) × (be ≤ length tokens.now.kinds.now)
-        × (length tokens.now.kinds.now < 2 ^ 32) }
-    requires wired { WiredIn tokens.now.kinds.now work.old top.old }
-    ensures advanced { AdvancedIn tokens.now.kinds.now work.old top.old work.new top.new }
+fn union_rows(bindings: &Bindings, a: Part, b: Part, work: &mut [u32], top: &mut usize) -> bool
+    requires places { PartOf bindings.now.tokens.kinds.now a × PartOf bindings.now.tokens.kinds.now b }
+    requires wired { WiredIn bindings.now.tokens.kinds.now work.old top.old }
+    ensures advanced { AdvancedIn bindings.now.tokens.kinds.now work.old top.old work.new top.new }
     ensures terms { (h : ℕ → Option Term) (ps qs : Parts)
-        → HeldSteady tokens.now.kinds.now tokens.now.vals.now bound.now most h
-        → HeldParts tokens.now.kinds.now tokens.now.vals.now a ae ps
-        → HeldParts tokens.now.kinds.now tokens.now.vals.now b be qs
-        → RowsJoined tokens.now.kinds.now tokens.now.vals.now most h work.old work.new result ps qs }
+        → HeldSteady bindings.now h
+        → RowBy bindings.now a ps
+        → RowBy bindings.now b qs
+        → RowsJoined bindings.now h work.old work.new result ps qs }
 {
-    let mut i = a;
-    let mut j = b;
+    let tokens = &bindings.tokens;
+    let mut i = a.from;
+    let mut j = b.from;
     // Both rows go on by the width of their own parts. `zip` of two walks would end with the shorter row and not say whether the other is over.
-    while i < ae {
-        if be <= j {
+    while i < a.end {
+        if b.end <= j {
             return false;
         }
         if tokens.kinds[i] == 0 {
@@ -146,67 +131,54 @@ fn union_rows(
             if tokens.kinds[j] == 0 {
                 return false;
             }
-            if !union_terms(tokens, bound, most, i, j, work, top) {
+            if !union_terms(bindings, i, j, work, top) {
                 return false;
             }
-            i += skip(tokens, i, ae - i);
-            j += skip(tokens, j, be - j);
+            i += skip(tokens, i, a.end - i);
+            j += skip(tokens, j, b.end - j);
         }
     }
-    if j < be {
+    if j < b.end {
         return false;
     }
     true
 }
 
 // Joins the parts of the nodes at x and y.
-fn union_parts(
-    tokens: &Tokens,
-    bound: &[u32],
-    most: usize,
-    x: usize,
-    y: usize,
-    work: &mut [u32],
-    top: &mut usize,
-) -> bool
-    requires places { (x < length tokens.now.kinds.now) × (y < length tokens.now.kinds.now) × (length tokens.now.kinds.now < 2 ^ 32) }
-    requires wired { WiredIn tokens.now.kinds.now work.old top.old }
-    ensures advanced { AdvancedIn tokens.now.kinds.now work.old top.old work.new top.new }
+fn union_parts(bindings: &Bindings, x: usize, y: usize, work: &mut [u32], top: &mut usize) -> bool
+    requires places { (x < length bindings.now.tokens.kinds.now) × (y < length bindings.now.tokens.kinds.now) }
+    requires wired { WiredIn bindings.now.tokens.kinds.now work.old top.old }
+    ensures advanced { AdvancedIn bindings.now.tokens.kinds.now work.old top.old work.new top.new }
     ensures terms { (b : ℕ → Option Term) (k l : ℕ) (ps qs : Parts)
-        → HeldSteady tokens.now.kinds.now tokens.now.vals.now bound.now most b
-        → Held tokens.now.kinds.now tokens.now.vals.now x (node k ps)
-        → Held tokens.now.kinds.now tokens.now.vals.now y (node l qs)
-        → RowsJoined tokens.now.kinds.now tokens.now.vals.now most b work.old work.new result ps qs }
+        → HeldSteady bindings.now b
+        → HeldBy bindings.now x (node k ps)
+        → HeldBy bindings.now y (node l qs)
+        → RowsJoined bindings.now b work.old work.new result ps qs }
 {
-    let n = skip(tokens, x, tokens.kinds.len() - x);
-    let m = skip(tokens, y, tokens.kinds.len() - y);
-    union_rows(tokens, bound, most, x + 1, x + n, y + 1, y + m, work, top)
+    let mut a = term_part(&bindings.tokens, x);
+    let mut b = term_part(&bindings.tokens, y);
+    a.from += 1;
+    b.from += 1;
+    union_rows(bindings, a, b, work, top)
 }
 
 // Joins the parts of every place that is linked, those that come to be linked on the way too, until a difference shows.
-fn close_congruence(
-    tokens: &Tokens,
-    bound: &[u32],
-    most: usize,
-    work: &mut [u32],
-    top: &mut usize,
-) -> bool
-    requires areas { length tokens.now.kinds.now < 2 ^ 32 }
-    requires wired { WiredIn tokens.now.kinds.now work.old top.old }
-    ensures advanced { AdvancedIn tokens.now.kinds.now work.old top.old work.new top.new }
+fn close_congruence(bindings: &Bindings, work: &mut [u32], top: &mut usize) -> bool
+    requires wired { WiredIn bindings.now.tokens.kinds.now work.old top.old }
+    ensures advanced { AdvancedIn bindings.now.tokens.kinds.now work.old top.old work.new top.new }
     ensures terms { (b : ℕ → Option Term)
-        → HeldSteady tokens.now.kinds.now tokens.now.vals.now bound.now most b
-        → Fair tokens.now.kinds.now tokens.now.vals.now (link_words tokens.now.kinds.now work.old)
-        → Closed tokens.now.kinds.now tokens.now.vals.now (stands_for most b) (follow most b) (link_words tokens.now.kinds.now work.old)
-        (link_words tokens.now.kinds.now work.new) result }
+        → HeldSteady bindings.now b
+        → Fair bindings.now.tokens.kinds.now bindings.now.tokens.vals.now (link_words bindings.now.tokens.kinds.now work.old)
+        → Closed bindings.now.tokens.kinds.now bindings.now.tokens.vals.now (stands_for bindings.now.most b) (follow bindings.now.most b)
+        (link_words bindings.now.tokens.kinds.now work.old) (link_words bindings.now.tokens.kinds.now work.new) result }
 {
-    let n = tokens.kinds.len();
+    let n = bindings.tokens.kinds.len();
     let mut done = 0;
     // It goes on until nothing is pending, and a step may add to that.
     while done < *top {
         let x = work[n + done] as usize;
         let y = work[x] as usize - 1;
-        if !union_parts(tokens, bound, most, x, y, work, top) {
+        if !union_parts(bindings, x, y, work, top) {
             return false;
         }
         done += 1;
@@ -216,28 +188,21 @@ fn close_congruence(
 
 // Whether the terms at p and q are the same, bound variables replaced: they are joined, and all that follows from it. The words of
 // the area are 0 before and after.
-pub fn same_terms(
-    tokens: &Tokens,
-    bound: &[u32],
-    most: usize,
-    p: usize,
-    q: usize,
-    work: &mut [u32],
-) -> bool
-    requires places { (p < length tokens.now.kinds.now) × (q < length tokens.now.kinds.now) × (length tokens.now.kinds.now < 2 ^ 32) }
-    requires room { (length tokens.now.kinds.now + begins tokens.now.kinds.now ≤ length work.old) × Zero work.old }
+pub fn same_terms(bindings: &Bindings, p: usize, q: usize, work: &mut [u32]) -> bool
+    requires places { (p < length bindings.now.tokens.kinds.now) × (q < length bindings.now.tokens.kinds.now) }
+    requires room { (length bindings.now.tokens.kinds.now + begins bindings.now.tokens.kinds.now ≤ length work.old) × Zero work.old }
     ensures clear { Zero work.new }
     ensures term { (t u : Term) (b : ℕ → Option Term)
-        → Held tokens.now.kinds.now tokens.now.vals.now p t
-        → Held tokens.now.kinds.now tokens.now.vals.now q u
-        → HeldBindings tokens.now.kinds.now tokens.now.vals.now bound.now b
-        → Steady most b
-        → Topped most b
-        → result ≡ same (resolve most b t) (resolve most b u) }
+        → HeldBy bindings.now p t
+        → HeldBy bindings.now q u
+        → Binds bindings.now b
+        → Steady bindings.now.most b
+        → Topped bindings.now.most b
+        → result ≡ same (resolve bindings.now.most b t) (resolve bindings.now.most b u) }
 {
     let mut top = 0;
-    let equal = union_terms(tokens, bound, most, p, q, work, &mut top)
-        && close_congruence(tokens, bound, most, work, &mut top);
-    clear_queue(work, tokens.kinds.len(), top);
+    let equal = union_terms(bindings, p, q, work, &mut top)
+        && close_congruence(bindings, work, &mut top);
+    clear_queue(work, bindings.tokens.kinds.len(), top);
     equal
 }

@@ -1,7 +1,7 @@
 // The solver: its counters by value, its tables lent. Variables, deferrals, defaults, constrain, resolving, and what a resolved term has.
 #![tactic(auto)]
 
-ghost use Rattle.std.specs.Prelude.{◌<◌};
+ghost use Rattle.std.specs.Prelude.{◌^◌, ◌<◌, length};
 ghost use Rattle.solver.specs.Words.SessionRepresentation.{RequestWord};
 
 mod answers;
@@ -13,7 +13,6 @@ mod pending;
 mod ranges;
 mod reach;
 mod resolving;
-mod rule_words;
 mod sessions;
 mod substitution;
 mod top;
@@ -21,15 +20,14 @@ mod variables;
 
 pub use answers::{refusal_number, variable_len, write_variable};
 pub use ranges::{plain_request, range_request};
-pub use rule_words::put_rule;
 pub use substitution::{context, family, instantiation, self_only};
 
 // Functions and types of the terms that are handed on to the sheet, which names this crate alone.
 pub use terms::{
-    Binders, Listing, Parameter, Place, Question, Ready, Refusal, Rule, Tokens, Unfinished, ask,
-    can_weaken_to, clear_tokens, conflicts_with, keep_list, normalise, number_len, part_at,
-    read_number, recovered_len, satisfies, satisfies_for, skip_parameters, with_associated_types,
-    write_normalised, write_number, write_recovered, write_term,
+    Binders, Listing, Parameter, Parameters, PartKind, Pass, Place, Question, Ready, Refusal,
+    Rewriter, Rule, Tokens, Unfinished, ask, can_weaken_to, clear_tokens, conflicts_with,
+    keep_list, normalise, number_len, part_at, read_number, recovered_len, satisfies,
+    satisfies_for, with_associated_types, write_normalised, write_number, write_recovered,
 };
 
 // A run of tokens: len of them, from at on.
@@ -45,6 +43,15 @@ pub struct Stand {
     pub at: usize,
     pub end: usize,
     pub depth: usize,
+}
+
+// The bindings as they are: the tokens, the words of the variables in the table, and how many bindings a walk may go through.
+#[derive(Clone, Copy)]
+pub struct Bindings<'a> {
+    pub tokens: Tokens<'a>,
+    pub bound: &'a [u32],
+    pub most: usize,
+    ghost narrow: { length tokens.kinds.now < 2 ^ 32 },
 }
 
 // A pending pair: the places of its two terms.

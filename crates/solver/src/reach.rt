@@ -6,16 +6,16 @@
 ghost use Rattle.std.specs.Prelude.{◌≡◌, true, ◌||◌, ℕ, suc, ◌+◌, ◌^◌, ◌≤◌, ◌<◌, length, take, drop};
 ghost use Rattle.std.proofs.Math.Option.{Option, none};
 ghost use Rattle.terms.specs.Words.Tokens.{toks};
-ghost use Rattle.terms.specs.Term.{Term, Held};
+ghost use Rattle.terms.specs.Term.{Term};
 ghost use Rattle.solver.specs.Constrain.{resolve};
 ghost use Rattle.solver.specs.Constrain as solving;
-ghost use Rattle.solver.specs.Words.Bindings.{HeldBindings};
+ghost use Rattle.solver.specs.Words.Lent.{HeldBy, Binds};
 ghost use Rattle.solver.specs.Words.Worklist.{Zero, Work, Grown};
 ghost use Rattle.solver.specs.Words.ReachContract.{question_of, counts, has, run_of, Told, asked, Steady, Free};
 ghost use Rattle.solver.specs.Words.CongruenceClasses.{Clearing};
 
-use super::Run;
 use super::resolving::named_run;
+use super::{Bindings, Run};
 use terms::Tokens;
 
 // What is asked for: an Unknown or Error, or a variable.
@@ -97,19 +97,21 @@ pub fn clear_queue(work: &mut [u32], n: usize, top: usize)
 
 // Whether the term at p has what is asked for, bound variables replaced: it and what its variables are bound to are looked at, each once, until what is
 // asked for is met. The scratch is all 0 before and after.
-pub fn reaches(tokens: &Tokens, bound: &[u32], p: usize, want: Wanted, work: &mut [u32]) -> bool
+pub fn reaches(bindings: &Bindings, p: usize, want: Wanted, work: &mut [u32]) -> bool
     requires areas { p < 2 ^ 32 }
-    requires scratch { (length bound.now + length bound.now ≤ length work.old) × Zero work.old }
-    ensures told { Told tokens.now.kinds.now tokens.now.vals.now bound.now (run_of tokens.now.kinds.now tokens.now.vals.now (p + 1)) (question_of want) result }
+    requires scratch { (length bindings.now.bound.now + length bindings.now.bound.now ≤ length work.old) × Zero work.old }
+    ensures told { Told bindings.now.tokens.kinds.now bindings.now.tokens.vals.now bindings.now.bound.now
+        (run_of bindings.now.tokens.kinds.now bindings.now.tokens.vals.now (p + 1)) (question_of want) result }
     ensures term { (t : Term) (b : ℕ → Option Term) (n : ℕ)
-        → Held tokens.now.kinds.now tokens.now.vals.now p t
-        → HeldBindings tokens.now.kinds.now tokens.now.vals.now bound.now b
+        → HeldBy bindings.now p t
+        → Binds bindings.now b
         → Steady n b
         → Free (question_of want) b
         → result ≡ asked (question_of want) (resolve n b t) }
     ensures clear { Zero work.new }
 {
-    let n = bound.len();
+    let tokens = &bindings.tokens;
+    let n = bindings.bound.len();
     let mut top = 0;
     let mut hit = scan(
         tokens,
@@ -123,7 +125,7 @@ pub fn reaches(tokens: &Tokens, bound: &[u32], p: usize, want: Wanted, work: &mu
     // It goes on until nothing is pending, and a step may add to that.
     while !hit && done < top {
         let w = work[n + done] as usize;
-        let next = named_run(tokens, bound[w] as usize).unwrap_or_default();
+        let next = named_run(tokens, bindings.bound[w] as usize).unwrap_or_default();
         hit = scan(tokens, next, want, work, n, &mut top);
         done += 1;
     }
@@ -132,30 +134,30 @@ pub fn reaches(tokens: &Tokens, bound: &[u32], p: usize, want: Wanted, work: &mu
 }
 
 // Whether the unbound variable v is in the term at p, bound variables replaced.
-pub fn occurs(tokens: &Tokens, bound: &[u32], p: usize, v: u32, work: &mut [u32]) -> bool
+pub fn occurs(bindings: &Bindings, p: usize, v: u32, work: &mut [u32]) -> bool
     requires areas { p < 2 ^ 32 }
-    requires scratch { (length bound.now + length bound.now ≤ length work.old) × Zero work.old }
+    requires scratch { (length bindings.now.bound.now + length bindings.now.bound.now ≤ length work.old) × Zero work.old }
     ensures term { (t : Term) (b : ℕ → Option Term) (n : ℕ)
-        → Held tokens.now.kinds.now tokens.now.vals.now p t
-        → HeldBindings tokens.now.kinds.now tokens.now.vals.now bound.now b
+        → HeldBy bindings.now p t
+        → Binds bindings.now b
         → Steady n b
         → b v ≡ none
         → result ≡ solving.occurs v (resolve n b t) }
     ensures clear { Zero work.new }
 {
-    reaches(tokens, bound, p, Wanted::Variable(v), work)
+    reaches(bindings, p, Wanted::Variable(v), work)
 }
 
 // Whether an Unknown or Error is in the term at p, bound variables replaced.
-pub fn recovers(tokens: &Tokens, bound: &[u32], p: usize, work: &mut [u32]) -> bool
+pub fn recovers(bindings: &Bindings, p: usize, work: &mut [u32]) -> bool
     requires areas { p < 2 ^ 32 }
-    requires scratch { (length bound.now + length bound.now ≤ length work.old) × Zero work.old }
+    requires scratch { (length bindings.now.bound.now + length bindings.now.bound.now ≤ length work.old) × Zero work.old }
     ensures term { (t : Term) (b : ℕ → Option Term) (n : ℕ)
-        → Held tokens.now.kinds.now tokens.now.vals.now p t
-        → HeldBindings tokens.now.kinds.now tokens.now.vals.now bound.now b
+        → HeldBy bindings.now p t
+        → Binds bindings.now b
         → Steady n b
         → result ≡ solving.recovers (resolve n b t) }
     ensures clear { Zero work.new }
 {
-    reaches(tokens, bound, p, Wanted::Recovery, work)
+    reaches(bindings, p, Wanted::Recovery, work)
 }

@@ -3,14 +3,14 @@
 ghost use Rattle.std.specs.Prelude.{Some, unwrap_or, ◌≡◌, ℕ, min, ◌+◌, ◌^◌, ◌≤◌, ◌<◌, length};
 ghost use Rattle.std.proofs.Math.Option.{Option};
 ghost use Rattle.std.proofs.lemmas.List.Edits.{sets};
-ghost use Rattle.terms.specs.Term.{Term, Held, bytes};
+ghost use Rattle.terms.specs.Term.{Term, bytes};
 ghost use Rattle.solver.specs.Constrain.{resolve};
-ghost use Rattle.solver.specs.Words.ResolveWalk.{run_in, Filled, Named, Entered, walked, flat_bytes, resolved_bytes};
-ghost use Rattle.solver.specs.Words.ResolveFrames.{stand, Sound, Settled, Apart, Cleared};
-ghost use Rattle.solver.specs.Words.Bindings.{HeldBindings};
+ghost use Rattle.solver.specs.Words.ResolveWalk.{run_in, Filled, Named, Entered};
+ghost use Rattle.solver.specs.Words.ResolveFrames.{stand, Sound, Apart, Cleared};
+ghost use Rattle.solver.specs.Words.Lent.{HeldBy, Binds, walked_bytes, resolved_bytes_at, WalkSettled};
 ghost use Rattle.solver.specs.Words.Worklist.{Zero};
 
-use super::{Run, Stand};
+use super::{Bindings, Run, Stand};
 use terms::{Token, Tokens, run_len, write_run};
 
 // The run that a word of the table names, if it names one.
@@ -57,9 +57,9 @@ pub fn enter(tokens: &Tokens, bound: &[u32], p: usize, left: usize) -> Option<Ru
 
 // Goes from a place to the next token that stands for itself, into bound variables and out of runs that are over; at == end says that
 // the walk is over. A frame that it comes out of is 0 again, so that the frames of a walk that is over all are.
-pub fn settle(tokens: &Tokens, bound: &[u32], most: usize, frames: &mut [u32], from: Stand) -> Stand
-    requires { (length tokens.now.kinds.now < 2 ^ 32) × Sound tokens.now.kinds.now most frames.old from }
-    ensures { Settled tokens.now.kinds.now tokens.now.vals.now bound.now most frames.old from frames.new result }
+pub fn settle(bindings: &Bindings, frames: &mut [u32], from: Stand) -> Stand
+    requires { Sound bindings.now.tokens.kinds.now bindings.now.most frames.old from }
+    ensures { WalkSettled bindings.now frames.old from frames.new result }
 {
     let mut c = from;
     // It goes into bound variables and out of runs until a token stands for itself.
@@ -75,7 +75,8 @@ pub fn settle(tokens: &Tokens, bound: &[u32], most: usize, frames: &mut [u32], f
             frames[i] = 0;
             frames[i + 1] = 0;
         } else {
-            let Some(r) = enter(tokens, bound, c.at, most - c.depth) else {
+            let left = bindings.most - c.depth;
+            let Some(r) = enter(&bindings.tokens, bindings.bound, c.at, left) else {
                 return c;
             };
             let i = c.depth + c.depth;
@@ -89,141 +90,121 @@ pub fn settle(tokens: &Tokens, bound: &[u32], most: usize, frames: &mut [u32], f
 }
 
 // The first place of a walk over a run.
-pub fn begin(tokens: &Tokens, bound: &[u32], most: usize, frames: &mut [u32], run: Run) -> Stand
-    requires { (length tokens.now.kinds.now < 2 ^ 32) × (run.at + run.len ≤ length tokens.now.kinds.now)
-        × (most + most ≤ length frames.old) }
-    ensures { Settled tokens.now.kinds.now tokens.now.vals.now bound.now most frames.old (stand run.at (run.at + run.len) 0)
-        frames.new result }
+pub fn begin(bindings: &Bindings, frames: &mut [u32], run: Run) -> Stand
+    requires { (run.at + run.len ≤ length bindings.now.tokens.kinds.now) × (bindings.now.most + bindings.now.most ≤ length frames.old) }
+    ensures { WalkSettled bindings.now frames.old (stand run.at (run.at + run.len) 0) frames.new result }
 {
     let c = Stand {
         at: run.at,
         end: run.at + run.len,
         depth: 0,
     };
-    settle(tokens, bound, most, frames, c)
+    settle(bindings, frames, c)
 }
 
 // The place after a token that stands for itself.
-pub fn next(tokens: &Tokens, bound: &[u32], most: usize, frames: &mut [u32], from: Stand) -> Stand
-    requires { (length tokens.now.kinds.now < 2 ^ 32) × (from.at < from.end) × Sound tokens.now.kinds.now most frames.old from }
-    ensures { Settled tokens.now.kinds.now tokens.now.vals.now bound.now most frames.old (stand (from.at + 1) from.end from.depth)
-        frames.new result }
+pub fn next(bindings: &Bindings, frames: &mut [u32], from: Stand) -> Stand
+    requires { (from.at < from.end) × Sound bindings.now.tokens.kinds.now bindings.now.most frames.old from }
+    ensures { WalkSettled bindings.now frames.old (stand (from.at + 1) from.end from.depth) frames.new result }
 {
     let c = Stand {
         at: from.at + 1,
         end: from.end,
         depth: from.depth,
     };
-    settle(tokens, bound, most, frames, c)
+    settle(bindings, frames, c)
 }
 
 // How many bytes a run has with bound variables replaced; none where those are more than limit.
-pub fn walked_len(
-    tokens: &Tokens,
-    bound: &[u32],
-    most: usize,
-    frames: &mut [u32],
-    run: Run,
-    limit: usize,
-) -> Option<usize>
-    requires areas { (length tokens.now.kinds.now < 2 ^ 32) × (run.at + run.len ≤ length tokens.now.kinds.now)
-        × (most + most ≤ length frames.old) }
+pub fn walked_len(bindings: &Bindings, frames: &mut [u32], run: Run, limit: usize) -> Option<usize>
+    requires areas { (run.at + run.len ≤ length bindings.now.tokens.kinds.now) × (bindings.now.most + bindings.now.most ≤ length frames.old) }
     requires room { limit < 2 ^ 32 }
-    ensures len { unwrap_or result (limit + 1)
-        ≡ min (limit + 1) (length (flat_bytes (walked tokens.now.kinds.now tokens.now.vals.now bound.now most run.at run.len))) }
+    ensures len { unwrap_or result (limit + 1) ≡ min (limit + 1) (length (walked_bytes bindings.now run)) }
     ensures fits { (n : ℕ) → result ≡ Some n → n ≤ limit }
-    ensures apart { Apart most frames.old frames.new }
+    ensures apart { Apart bindings.now.most frames.old frames.new }
     ensures bare { (n : ℕ) → result ≡ Some n → Zero frames.old → Zero frames.new }
 {
-    let mut c = begin(tokens, bound, most, frames, run);
+    let mut c = begin(bindings, frames, run);
     let mut n = 0;
     // `next` goes on by one token, into bound variables and out of them through `frames`. An iterator would hold these by `&mut` (`store.rt` of terms says why not).
     while c.at < c.end {
-        n += run_len(tokens.kinds, tokens.vals, c.at, 1);
+        n += run_len(bindings.tokens.kinds, bindings.tokens.vals, c.at, 1);
         if limit < n {
             return None;
         }
-        c = next(tokens, bound, most, frames, c);
+        c = next(bindings, frames, c);
     }
     Some(n)
 }
 
 // Writes a run at a position of out, bound variables replaced, and returns the position after it.
 pub fn write_walked(
-    tokens: &Tokens,
-    bound: &[u32],
-    most: usize,
+    bindings: &Bindings,
     frames: &mut [u32],
     run: Run,
     out: &mut [u8],
     to: usize,
 ) -> usize
-    requires areas { (length tokens.now.kinds.now < 2 ^ 32) × (run.at + run.len ≤ length tokens.now.kinds.now)
-        × (most + most ≤ length frames.old) }
-    requires room { to + length (flat_bytes (walked tokens.now.kinds.now tokens.now.vals.now bound.now most run.at run.len)) ≤ length out.old }
-    ensures next { result ≡ to + length (flat_bytes (walked tokens.now.kinds.now tokens.now.vals.now bound.now most run.at run.len)) }
-    ensures wrote { out.new
-        ≡ sets out.old to (flat_bytes (walked tokens.now.kinds.now tokens.now.vals.now bound.now most run.at run.len)) }
-    ensures apart { Apart most frames.old frames.new }
+    requires areas { (run.at + run.len ≤ length bindings.now.tokens.kinds.now) × (bindings.now.most + bindings.now.most ≤ length frames.old) }
+    requires room { to + length (walked_bytes bindings.now run) ≤ length out.old }
+    ensures next { result ≡ to + length (walked_bytes bindings.now run) }
+    ensures wrote { out.new ≡ sets out.old to (walked_bytes bindings.now run) }
+    ensures apart { Apart bindings.now.most frames.old frames.new }
     ensures bare { Zero frames.old → Zero frames.new }
 {
-    let mut c = begin(tokens, bound, most, frames, run);
+    let mut c = begin(bindings, frames, run);
     let mut i = to;
     // `next` goes on by one token, into bound variables and out of them through `frames`. An iterator would hold these by `&mut` (`store.rt` of terms says why not).
     while c.at < c.end {
-        i = write_run(tokens.kinds, tokens.vals, c.at, 1, out, i);
-        c = next(tokens, bound, most, frames, c);
+        i = write_run(bindings.tokens.kinds, bindings.tokens.vals, c.at, 1, out, i);
+        c = next(bindings, frames, c);
     }
     i
 }
 
 // How many bytes the term at p has with bound variables replaced; none where those are more than limit.
 pub fn resolved_len(
-    tokens: &Tokens,
-    bound: &[u32],
-    most: usize,
+    bindings: &Bindings,
     frames: &mut [u32],
     p: usize,
     limit: usize,
 ) -> Option<usize>
-    requires areas { (length tokens.now.kinds.now < 2 ^ 32) × (most + most ≤ length frames.old) }
+    requires areas { bindings.now.most + bindings.now.most ≤ length frames.old }
     requires room { (p < 2 ^ 32) × (limit < 2 ^ 32) }
-    ensures len { unwrap_or result (limit + 1) ≡ min (limit + 1) (length (resolved_bytes tokens.now.kinds.now tokens.now.vals.now bound.now most p)) }
+    ensures len { unwrap_or result (limit + 1) ≡ min (limit + 1) (length (resolved_bytes_at bindings.now p)) }
     ensures term { (t : Term) (b : ℕ → Option Term)
-        → Held tokens.now.kinds.now tokens.now.vals.now p t
-        → HeldBindings tokens.now.kinds.now tokens.now.vals.now bound.now b
-        → unwrap_or result (limit + 1) ≡ min (limit + 1) (length (bytes (resolve most b t))) }
+        → HeldBy bindings.now p t
+        → Binds bindings.now b
+        → unwrap_or result (limit + 1) ≡ min (limit + 1) (length (bytes (resolve bindings.now.most b t))) }
     ensures fits { (n : ℕ) → result ≡ Some n → n ≤ limit }
-    ensures apart { Apart most frames.old frames.new }
+    ensures apart { Apart bindings.now.most frames.old frames.new }
     ensures bare { (n : ℕ) → result ≡ Some n → Zero frames.old → Zero frames.new }
 {
-    let run = named_run(tokens, p + 1).unwrap_or_default();
-    walked_len(tokens, bound, most, frames, run, limit)
+    let run = named_run(&bindings.tokens, p + 1).unwrap_or_default();
+    walked_len(bindings, frames, run, limit)
 }
 
 // Writes the term at p at a position of out, bound variables replaced, and returns the position after it.
 pub fn write_resolved(
-    tokens: &Tokens,
-    bound: &[u32],
-    most: usize,
+    bindings: &Bindings,
     frames: &mut [u32],
     p: usize,
     out: &mut [u8],
     to: usize,
 ) -> usize
-    requires areas { (length tokens.now.kinds.now < 2 ^ 32) × (most + most ≤ length frames.old) }
-    requires room { (p < 2 ^ 32) × (to + length (resolved_bytes tokens.now.kinds.now tokens.now.vals.now bound.now most p) ≤ length out.old) }
-    ensures next { result ≡ to + length (resolved_bytes tokens.now.kinds.now tokens.now.vals.now bound.now most p) }
-    ensures wrote { out.new ≡ sets out.old to (resolved_bytes tokens.now.kinds.now tokens.now.vals.now bound.now most p) }
+    requires areas { bindings.now.most + bindings.now.most ≤ length frames.old }
+    requires room { (p < 2 ^ 32) × (to + length (resolved_bytes_at bindings.now p) ≤ length out.old) }
+    ensures next { result ≡ to + length (resolved_bytes_at bindings.now p) }
+    ensures wrote { out.new ≡ sets out.old to (resolved_bytes_at bindings.now p) }
     ensures term { (t : Term) (b : ℕ → Option Term)
-        → Held tokens.now.kinds.now tokens.now.vals.now p t
-        → HeldBindings tokens.now.kinds.now tokens.now.vals.now bound.now b
-        → (result ≡ to + length (bytes (resolve most b t))) × (out.new ≡ sets out.old to (bytes (resolve most b t))) }
-    ensures apart { Apart most frames.old frames.new }
+        → HeldBy bindings.now p t
+        → Binds bindings.now b
+        → (result ≡ to + length (bytes (resolve bindings.now.most b t))) × (out.new ≡ sets out.old to (bytes (resolve bindings.now.most b t))) }
+    ensures apart { Apart bindings.now.most frames.old frames.new }
     ensures bare { Zero frames.old → Zero frames.new }
 {
-    let run = named_run(tokens, p + 1).unwrap_or_default();
-    write_walked(tokens, bound, most, frames, run, out, to)
+    let run = named_run(&bindings.tokens, p + 1).unwrap_or_default();
+    write_walked(bindings, frames, run, out, to)
 }
 
 // Sets the words before count to 0.

@@ -2,63 +2,53 @@
 ghost use Rattle.std.specs.Prelude.{◌≡◌};
 ghost use Rattle.terms.specs.Words.RewriteContract.{for_instance, for_context, for_family};
 
-use terms::Binders;
+use terms::{Binders, Parameters, Purpose};
 
 // What takes the place of binders in `instantiate`.
-pub fn instantiation(entries: usize, receivers: usize, finish: usize) -> Binders
+pub fn instantiation<'a>(entries: usize, receivers: usize, finish: usize) -> Binders<'a>
     ensures { result ≡ for_instance entries receivers finish }
 {
     Binders {
-        context: false,
         entries,
         receivers,
         finish,
-        parameters: 0,
-        count: 0,
-        arguments: 0,
+        purpose: Purpose::Instance,
     }
 }
 
 // The same in `argument_context`.
-pub fn context(entries: usize, receivers: usize, parameters: usize, count: u64) -> Binders
-    ensures { result ≡ for_context entries receivers parameters count }
+pub fn context<'a>(entries: usize, receivers: usize, parameters: &Parameters<'a>) -> Binders<'a>
+    ensures { result ≡ for_context entries receivers parameters.now }
 {
     Binders {
-        context: true,
         entries,
         receivers,
         finish: receivers,
-        parameters,
-        count,
-        arguments: 0,
+        purpose: Purpose::Context(*parameters),
     }
 }
 
 // The same in `with_self`: the owner and the replacement are the one receiver.
-pub fn self_only(receivers: usize, finish: usize) -> Binders
+pub fn self_only<'a>(receivers: usize, finish: usize) -> Binders<'a>
     ensures { result ≡ for_instance receivers receivers finish }
 {
     instantiation(receivers, receivers, finish)
 }
 
 // The same in `apply`.
-pub fn family(
+pub fn family<'a>(
     entries: usize,
     receivers: usize,
     finish: usize,
-    parameters: usize,
-    count: u64,
+    parameters: &Parameters<'a>,
     arguments: usize,
-) -> Binders
-    ensures { result ≡ for_family entries receivers finish parameters count arguments }
+) -> Binders<'a>
+    ensures { result ≡ for_family entries receivers finish parameters.now arguments }
 {
     Binders {
-        context: false,
         entries,
         receivers,
         finish,
-        parameters,
-        count,
-        arguments,
+        purpose: Purpose::Family(*parameters, arguments),
     }
 }

@@ -8,7 +8,8 @@ ghost use Rattle.solver.specs.Words.Bindings.{HeldBindings};
 use super::resolving::enter;
 use terms::Tokens;
 
-// The place of the term that the term at p stands for: where it is a bound variable, its term, and so on, at most `most` times.
+// The place of the term that the term at p stands for: where it is a bound variable, its term, and so on, at most `most` times. The bindings are lent
+// in three: for `root_of` it is not known that the tokens are fewer than 2 ^ 32, as a `Bindings` says.
 pub fn shallow_resolve(tokens: &Tokens, bound: &[u32], most: usize, p: usize) -> usize
     requires { p < length tokens.now.kinds.now }
     ensures place { result < length tokens.now.kinds.now }

@@ -1,9 +1,8 @@
 -- What a projection is replaced by, looked up in rows as they stand: a rule's four parts in the order of a projection's row, and order 19's interface as
 -- its row. Of terms that keep to their tags' layouts these find what `by_rules` and `by_interface` find.
-use Rattle.std.specs.Prelude.{◌≡◌, ◌&&◌, List, [], ◌∷◌, ℕ, ◌+◌, ◌*◌, ◌/◌, ◌≤◌, ◌<◌, eqb, leb, length, get_or}
+use Rattle.std.specs.Prelude.{◌≡◌, ◌&&◌, List, [], ◌∷◌, ℕ, ◌+◌, eqb, length, get_or}
 use Rattle.std.proofs.Math.Option.{Option, none, some}
 use Rattle.std.proofs.Math.ListN.{get_elem?}
-use Rattle.std.proofs.lemmas.List.Edits.{sets}
 use Rattle.terms.specs.declared.Origin.{Origin}
 use Rattle.terms.specs.declared.Rule.{Rule}
 use Rattle.terms.specs.Result.{pick}
@@ -78,28 +77,10 @@ abbrev pub look_by : Look → Parts → Option Term
 look_by (rules rs) ps = by_patterns rs ps
 look_by (interface i owner) ps = through i owner ps
 
--- ---- in words
+-- ---- held
 
--- A rule is six words: the places of its interface, which stands under a head with the tag 20, and of its receiver, its member, the place of its
--- arguments, which stand one after the other, and how many they are, and the place of its value.
-abbrev pub rule_at : List ℕ → ℕ → Rule
-rule_at ws r = record {
-  interface = get_or ws (6 * r) 0;
-  receiver = get_or ws (6 * r + 1) 0;
-  member = get_or ws (6 * r + 2) 0;
-  arguments = get_or ws (6 * r + 3) 0;
-  count = get_or ws (6 * r + 4) 0;
-  value = get_or ws (6 * r + 5) 0;
-}
-
--- the r-th rule stored, where it fits whole
-abbrev pub put_rule : List ℕ → ℕ → Rule → List ℕ
-put_rule ws r x =
-    pick (leb (6 * r + 6) (length ws)) (sets ws (6 * r) (x.interface ∷ x.receiver ∷ x.member ∷ x.arguments ∷ x.count ∷ x.value ∷ [])) ws
-
-abbrev pub rule_count : List ℕ → ℕ
-rule_count ws = length ws / 6
-
+-- A rule tells the places of its interface, which stands under a head with the tag 20, and of its receiver, its member, the place of its arguments, which
+-- stand one after the other, and how many they are, and the place of its value.
 pub record HeldRule (ks vs : List ℕ) (w : Rule) (p : Pattern) : Type 0 where
   pub interface : Held ks vs w.interface (node 20 p.interface)
   pub receiver : Held ks vs w.receiver p.receiver
@@ -109,10 +90,12 @@ pub record HeldRule (ks vs : List ℕ) (w : Rule) (p : Pattern) : Type 0 where
   pub count : w.count ≡ length p.arguments
   pub value : Held ks vs w.value p.value
 
--- the rules from the r-th on
-abbrev pub Ruled : (ks vs ws : List ℕ) → ℕ → List Pattern → Type 0
-Ruled ks vs ws r [] = rule_count ws ≤ r
-Ruled ks vs ws r (p ∷ rs) = (r < rule_count ws) × HeldRule ks vs (rule_at ws r) p × Ruled ks vs ws (r + 1) rs
+-- as many rules, one after the other
+abbrev pub Ruled : (ks vs : List ℕ) → List Rule → List Pattern → Type 0
+Ruled ks vs [] [] = Unit {0}
+Ruled ks vs [] (p ∷ rs) = ⊥
+Ruled ks vs (w ∷ ws) [] = ⊥
+Ruled ks vs (w ∷ ws) (p ∷ rs) = HeldRule ks vs w p × Ruled ks vs ws rs
 
 -- order 19: the owner and the interface, and the sizes of their tokens
 pub record HeldGiven (ks vs : List ℕ) (g : Origin) (i : Parts) (owner : Term) : Type 0 where
@@ -122,7 +105,7 @@ pub record HeldGiven (ks vs : List ℕ) (g : Origin) (i : Parts) (owner : Term) 
   pub row_is : g.row ≡ length (part_items i)
   pub size_is : g.size ≡ g.span + g.row + 3
 
--- what the words say is to be looked up
-abbrev pub Looks : (ks vs ws : List ℕ) (g : Origin) → Look → Type 0
-Looks ks vs ws g (rules rs) = (g.size ≡ 0) × Ruled ks vs ws 0 rs
+-- what is to be looked up
+abbrev pub Looks : (ks vs : List ℕ) (ws : List Rule) (g : Origin) → Look → Type 0
+Looks ks vs ws g (rules rs) = (g.size ≡ 0) × Ruled ks vs ws rs
 Looks ks vs ws g (interface i owner) = HeldGiven ks vs g i owner

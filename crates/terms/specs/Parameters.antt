@@ -2,6 +2,7 @@
 -- for where they stand.
 use Rattle.std.specs.Prelude.{Bool, true, false, List, [], ◌∷◌, ℕ, zero, suc, ◌+◌, Option, Some, None, Ok, Err}
 use Rattle.std.specs.declared.result.Result as rust
+use Rattle.terms.specs.declared.Parameters.{Parameters}
 use Rattle.terms.specs.declared.Refusal.{Refusal}
 use Rattle.terms.specs.Result.{number_of}
 use Rattle.terms.specs.Parser.{Result, Parser, got, refused, pick, ◌>>=◌, return, number}
@@ -23,6 +24,10 @@ module _ (s : List ℕ) where
     p ← parameter
     ps ← parameters n
     return (p ∷ ps)
+
+-- those that are told of
+abbrev pub listed : Parameters → Result (List Parameter)
+listed l = parameters l.bytes.now l.count l.at
 
 -- the index of the last one that equals p, where the first has the index n and `best` was found before
 unfoldable pub last_from : ℕ → Option ℕ → List Parameter → Parameter → Option ℕ

@@ -1,6 +1,6 @@
 -- The lists that a substitution and a family have in an order's bytes: entries as owner, position, term; receivers as owner, term; arguments as terms.
 -- In the areas each list is a row of parts, in byte order.
-use Rattle.std.specs.Prelude.{Bool, false, List, [], ◌∷◌, ℕ, zero, suc, ◌+◌, ◌-◌, leb, length}
+use Rattle.std.specs.Prelude.{Bool, false, None, List, [], ◌∷◌, ℕ, zero, suc, ◌+◌, ◌-◌, leb, length}
 use Rattle.terms.specs.declared.Fields.{Fields}
 use Rattle.terms.specs.declared.Place.{Place}
 use Rattle.terms.specs.Parser.{Parser, Result, got, refused, pick, ◌>>=◌, return, number}
@@ -57,7 +57,7 @@ argument_row (t ∷ ts) = sub t (argument_row ts)
 
 -- which numbers an entry, a receiver and an argument have before their term
 abbrev pub keys : Bool → Bool → Fields
-keys first second = record { codes = 0; first = first; second = second; counted = false; terms = 0 }
+keys first second = record { codes = None; first = first; second = second; counted = false; terms = 0 }
 
 module _ (s : List ℕ) (term : Parser Term) (f : Fields) where
   unfoldable pub single : Parser Parts

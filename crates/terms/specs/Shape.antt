@@ -1,5 +1,5 @@
 -- Which numbers and terms follow each tag: the table of the twenty kinds.
-use Rattle.std.specs.Prelude.{ℕ, zero, suc, Bool, true, false, List, [], ◌∷◌, get_or, ltb, eqb}
+use Rattle.std.specs.Prelude.{ℕ, zero, suc, Bool, true, false, Option, Some, None, List, [], ◌∷◌, get_or, ltb, eqb}
 use Rattle.terms.specs.Result.{pick}
 use Rattle.terms.specs.declared.Fields.{Fields}
 use Rattle.terms.specs.declared.Row.{Row}
@@ -74,11 +74,11 @@ pub data Meaning : Type 0 where
 unfoldable pub kind_of : ℕ → Meaning
 kind_of tag = pick (eqb tag 1) variable (pick (ltb tag 20) (row (layout tag)) unlisted)
 
--- What the code's own table says of a tag, as a shape: a code below `codes` where that is not 0, then at most two numbers, a count with
+-- What the code's own table says of a tag, as a shape: a code below `codes`, where there is one, then at most two numbers, a count with
 -- as many terms, and `terms` terms. The first number names a definition, the second is ordinary.
-abbrev pub with_code : ℕ → Shape → Shape
-with_code zero s = s
-with_code (suc n) s = code (suc n) s
+abbrev pub with_code : Option ℕ → Shape → Shape
+with_code None s = s
+with_code (Some limit) s = code limit s
 
 abbrev pub with_number : Sort → Bool → Shape → Shape
 with_number f true s = number f s

@@ -10,7 +10,7 @@ ghost use Rattle.terms.specs.Comparison.{conflicts_with, can_weaken_to};
 ghost use Rattle.terms.specs.Words.Lent.{PartOf, NotEmpty};
 ghost use Rattle.terms.specs.Words.CompareContract.{Rows, Forward, Stepped, Passed};
 
-use super::runs::{same_term, skip, width_at, word};
+use super::runs::{same_term, skip, term_part, word};
 use super::{Part, Tokens};
 
 // Whether a term conflicts with nothing, by the kind of its first token: Inference, Unknown and Error.
@@ -125,19 +125,7 @@ pub fn conflicts_with(tokens: &Tokens, a: usize, b: usize) -> bool
         → Formed u
         → result ≡ conflicts_with t u }
 {
-    let n = width_at(tokens, a);
-    let m = width_at(tokens, b);
-    rows_conflict(
-        tokens,
-        Part {
-            from: a,
-            end: a + n,
-        },
-        Part {
-            from: b,
-            end: b + m,
-        },
-    )
+    rows_conflict(tokens, term_part(tokens, a), term_part(tokens, b))
 }
 
 // `can_weaken_to` of the terms at a and b: a Mutable access against one that is not, and the rest does not conflict.
@@ -158,12 +146,12 @@ pub fn can_weaken_to(tokens: &Tokens, a: usize, b: usize) -> bool
     if !has_access(k) {
         return false;
     }
-    let n = width_at(tokens, a);
-    let m = width_at(tokens, b);
-    if n < 2 {
+    let mut x = term_part(tokens, a);
+    let mut y = term_part(tokens, b);
+    if x.end - a < 2 {
         return false;
     }
-    if m < 2 {
+    if y.end - b < 2 {
         return false;
     }
     if word(tokens.vals, a + 1) != 1 {
@@ -172,15 +160,7 @@ pub fn can_weaken_to(tokens: &Tokens, a: usize, b: usize) -> bool
     if word(tokens.vals, b + 1) != 0 {
         return false;
     }
-    !rows_conflict(
-        tokens,
-        Part {
-            from: a + 2,
-            end: a + n,
-        },
-        Part {
-            from: b + 2,
-            end: b + m,
-        },
-    )
+    x.from = a + 2;
+    y.from = b + 2;
+    !rows_conflict(tokens, x, y)
 }

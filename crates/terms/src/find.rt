@@ -1,13 +1,13 @@
 // Searches: a parameter in an order's bytes, the entry of a substitution in the areas. The last one counts.
 ghost use Rattle.std.specs.Prelude.{◌≡◌, ◌-◌, ◌≤◌, ◌<◌, length};
 ghost use Rattle.terms.specs.Result.{said};
-ghost use Rattle.terms.specs.Parameters.{parameter, parameters, passed, past, skipped, index_in};
+ghost use Rattle.terms.specs.Parameters.{parameter, listed, passed, past, skipped, index_in};
 ghost use Rattle.terms.specs.Words.FindContract.{last_at, entry_at, receiver_at, nth_at};
 
 use super::numbers::read_number;
 use super::runs::{skip, width_at, word};
 use super::values::{DEFINITION, ORDINARY};
-use super::{Parameter, Refusal, Tokens};
+use super::{Parameter, Parameters, Refusal, Tokens};
 
 // Reads a parameter: an owner and a position.
 fn parameter_at(s: &[u8], at: usize) -> Result<(Parameter, usize), Refusal>
@@ -18,45 +18,53 @@ fn parameter_at(s: &[u8], at: usize) -> Result<(Parameter, usize), Refusal>
     Ok((Parameter { owner, position }, end))
 }
 
-// Goes through `count` parameters and looks for the last one that is wanted: its index, and the position after them. Linear in their bytes.
-pub fn pass_parameters(
-    s: &[u8],
-    at: usize,
-    count: u64,
-    wanted: Parameter,
-) -> Result<(Option<usize>, usize), Refusal>
-    ensures { said result ≡ passed 0 None (parameters s.now count at) wanted }
-{
-    let mut best = None;
-    let mut i = at;
-    for n in 0..count {
-        let (read, next) = parameter_at(s, i)?;
-        if read == wanted {
-            best = Some(n as usize);
+impl<'a> Parameters<'a> {
+    // No parameters.
+    pub fn none() -> Parameters<'a>
+        ensures { result.count ≡ 0 }
+    {
+        Parameters {
+            bytes: &[],
+            at: 0,
+            count: 0,
         }
-        i = next;
     }
-    Ok((best, i))
-}
 
-// Goes past `count` parameters, which are read and not kept: the position after them.
-pub fn skip_parameters(s: &[u8], at: usize, count: u64) -> Result<usize, Refusal>
-    ensures { skipped count result ≡ past count (parameters s.now count at) }
-{
-    let nobody = Parameter {
-        owner: 0,
-        position: 0,
-    };
-    let (_, next) = pass_parameters(s, at, count, nobody)?;
-    Ok(next)
-}
+    // Goes through them and looks for the last one that is wanted: its index, and the position after them. Linear in their bytes.
+    fn scan(&self, wanted: Parameter) -> Result<(Option<usize>, usize), Refusal>
+        ensures { said result ≡ passed 0 None (listed self.now) wanted }
+    {
+        let mut best = None;
+        let mut i = self.at;
+        for n in 0..self.count {
+            let (read, next) = parameter_at(self.bytes, i)?;
+            if read == wanted {
+                best = Some(n as usize);
+            }
+            i = next;
+        }
+        Ok((best, i))
+    }
 
-// The index of the last of `count` parameters that is the wanted one.
-pub fn find_parameter(s: &[u8], at: usize, count: u64, wanted: Parameter) -> Option<usize>
-    ensures { result ≡ index_in (parameters s.now count at) wanted }
-{
-    let (best, _) = pass_parameters(s, at, count, wanted).ok()?;
-    best
+    // Goes past them, which are read and not kept: the position after them.
+    pub fn skip(&self) -> Result<usize, Refusal>
+        ensures { skipped self.now.count result ≡ past self.now.count (listed self.now) }
+    {
+        let nobody = Parameter {
+            owner: 0,
+            position: 0,
+        };
+        let (_, next) = self.scan(nobody)?;
+        Ok(next)
+    }
+
+    // The index of the last one that is the wanted one.
+    pub fn find(&self, wanted: Parameter) -> Option<usize>
+        ensures { result ≡ index_in (listed self.now) wanted }
+    {
+        let (best, _) = self.scan(wanted).ok()?;
+        best
+    }
 }
 
 // Looks in a row of records, each of `width` numbers and a term, for the last one whose first number is the owner that is wanted and whose last is the

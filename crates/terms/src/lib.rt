@@ -2,6 +2,7 @@
 #![tactic(auto)]
 
 ghost use Rattle.std.specs.Prelude.{◌≡◌, length};
+ghost use Rattle.terms.specs.Words.RewriteContract.{RowsWithin};
 ghost use Rattle.terms.specs.Words.Tokens.{Narrow};
 ghost use Rattle.terms.specs.Words.VirtualTokens.{Sight};
 
@@ -35,7 +36,6 @@ mod walking;
 mod write;
 
 pub use compare::{can_weaken_to, conflicts_with};
-pub use find::skip_parameters;
 pub use keep::{keep_nominal, keep_term};
 pub use lists::keep_list;
 pub use normal::{normalise, with_associated_types, write_normalised};
@@ -43,8 +43,7 @@ pub use numbers::{number_len, read_number, write_number};
 pub use questions::ask;
 pub use reader::part_at;
 pub use recover::{recovered_len, write_recovered};
-pub use rewrite::write_term;
-pub use runs::skip;
+pub use runs::{skip, term_part};
 pub use satisfy::{satisfies, satisfies_for};
 pub use store::clear_tokens;
 pub use write::{run_len, write_run};
@@ -126,6 +125,24 @@ pub struct Place {
     pub limit: usize,
 }
 
+impl Place {
+    ghost use Rattle.std.specs.Prelude.{◌≡◌, leb};
+
+    // Whether tokens are stored: the nodes that were read are within the limit.
+    fn within_limit(self) -> bool
+        ensures { result ≡ leb self.nodes self.limit }
+    {
+        self.nodes <= self.limit
+    }
+}
+
+// What a term reader is asked for: a term, or a bare nominal.
+#[derive(Clone, Copy, Debug, PartialEq, Eq)]
+pub enum PartKind {
+    Term,
+    BareNominal,
+}
+
 // A term reader: the bytes of an order, and where it stands in them.
 #[derive(Clone, Copy)]
 pub struct TermReader<'a> {
@@ -174,11 +191,10 @@ pub struct RecordRequest {
     pub issued: u64,
 }
 
-// What follows the tag of a plain kind: a code below `codes` where that is not 0, at most two numbers, a count with as many terms, and
-// `terms` terms.
+// What follows the tag of a plain kind: a code below `codes`, where there is one, at most two numbers, a count with as many terms, and `terms` terms.
 #[derive(Clone, Copy)]
 pub struct Fields {
-    pub codes: u32,
+    pub codes: Option<u32>,
     pub first: bool,
     pub second: bool,
     pub counted: bool,
@@ -200,18 +216,46 @@ pub enum Kind {
     Unlisted,
 }
 
-// What takes the place of binders. A substitution is two rows in the areas: its entries from `entries` up to `receivers`, its receivers from there up
-// to `finish`. `count` parameters stand at a position of the order's bytes, and their arguments from `arguments` on in the areas. In a `context` the
-// parameters have no arguments: one that the substitution does not have becomes Unknown, and receivers are not looked at.
+// Parameters that stand in the bytes of an order, each an owner and a position: from where on, and how many.
 #[derive(Clone, Copy)]
-pub struct Binders {
-    pub context: bool,
+pub struct Parameters<'a> {
+    pub bytes: &'a [u8],
+    pub at: usize,
+    pub count: u64,
+}
+
+// What binders are replaced for: an instance, without parameters; a context, where a parameter that the substitution does not have becomes Unknown, and
+// receivers are not looked at; or a family, where the arguments of the parameters stand at a place of the areas and the places after it.
+#[derive(Clone, Copy)]
+pub enum Purpose<'a> {
+    Instance,
+    Context(Parameters<'a>),
+    Family(Parameters<'a>, usize),
+}
+
+// What takes the place of binders. A substitution is two rows in the areas: its entries from `entries` up to `receivers`, its receivers from there up
+// to `finish`.
+#[derive(Clone, Copy)]
+pub struct Binders<'a> {
     pub entries: usize,
     pub receivers: usize,
     pub finish: usize,
-    pub parameters: usize,
-    pub count: u64,
-    pub arguments: usize,
+    pub purpose: Purpose<'a>,
+}
+
+// What writes terms with their binders replaced: the tokens, and what takes the place of binders.
+#[derive(Clone, Copy)]
+pub struct Rewriter<'a> {
+    pub tokens: Tokens<'a>,
+    pub binders: Binders<'a>,
+    ghost within: { RowsWithin tokens.kinds.now tokens.vals.now binders },
+}
+
+// What is done with bytes: they are only counted, or written too.
+#[derive(Clone, Copy, Debug, PartialEq, Eq)]
+pub enum Pass {
+    Count,
+    Write,
 }
 
 // What takes the place of a term: the term itself, the one at a place, or Unknown.
@@ -316,7 +360,7 @@ pub struct Cursor {
 
 // A rule of order 20: the places of its interface and its receiver, its member, the place of its arguments and how many they are, and the place of its
 // value.
-#[derive(Clone, Copy)]
+#[derive(Clone, Copy, Default)]
 pub struct Rule {
     pub interface: u32,
     pub receiver: u32,

@@ -10,7 +10,7 @@ ghost use Rattle.terms.specs.Rows.{answer_of, kept_of};
 
 use super::keep::settle;
 use super::read::read_term;
-use super::values::{DEFINITION, ORDINARY, read_id};
+use super::values::{DEFINITION, ORDINARY, read_value};
 use super::{Listing, Place, RecordRequest, Refusal, TermReader};
 
 // Reads a record: an owner and a position, where the list has them, and a term.
@@ -25,8 +25,12 @@ pub fn read_record(
     ensures { PartsDone s.now (one_at s.now w place.old.at) place.old
         (area kinds.old vals.old) (area kinds.new vals.new) (step_of result place.new) }
 {
-    read_id(s, kinds, vals, place, DEFINITION, w.listing.has_owner())?;
-    read_id(s, kinds, vals, place, ORDINARY, w.listing.has_position())?;
+    if w.listing.has_owner() {
+        read_value(s, kinds, vals, place, DEFINITION, 0)?;
+    }
+    if w.listing.has_position() {
+        read_value(s, kinds, vals, place, ORDINARY, 0)?;
+    }
     read_term(s, kinds, vals, place, w.levels, w.issued)
 }
 

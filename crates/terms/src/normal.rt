@@ -1,7 +1,8 @@
 // `normalize` and `with_associated_types`: a term is walked and sized, and then written.
 // Kinds and tags are matched by number; the line in kinds.rt says why.
 // Heads and kids are lent as two slices; the line in rows.rt says why.
-ghost use Rattle.std.specs.Prelude.{◌≡◌, ◌+◌, ◌≤◌, ◌<◌, List, length};
+ghost use Rattle.std.specs.Prelude.{◌≡◌, ◌+◌, ◌≤◌, ◌<◌, List, length, nat_eq};
+ghost use Rattle.std.specs.List.{list_any};
 ghost use Rattle.std.proofs.lemmas.List.Edits.{sets};
 ghost use Rattle.terms.specs.Words.VirtualTokens.{Sight};
 ghost use Rattle.terms.specs.Term.{Term, Parts, node, items, bytes, Held};
@@ -13,11 +14,17 @@ ghost use Rattle.terms.specs.Words.Arena.{RecordRoom};
 ghost use Rattle.terms.specs.Words.NormalContract.{Zero, Lends, Stands, Sized, Fitted, Answers, Leaves, RuledAt, OwnedAt, KeptAt};
 
 use super::rules::source;
-use super::runs::word;
 use super::showing::show_tree;
 use super::store::clear_tokens;
 use super::walking::walk;
-use super::{Content, Origin, Ready, Seen, Tokens, Unfinished};
+use super::{Content, Origin, Pass, Ready, Rule, Seen, Tokens, Unfinished};
+
+// Whether one of the kinds is a projection's.
+fn any_projection(kinds: &[u32]) -> bool
+    ensures { result ≡ list_any (λ k. nat_eq k 20) kinds.now }
+{
+    kinds.iter().any(|k| *k == 20)
+}
 
 // Whether the term at p has a projection.
 fn has_projection(tokens: &Tokens, p: u32) -> bool
@@ -25,12 +32,7 @@ fn has_projection(tokens: &Tokens, p: u32) -> bool
 {
     let from = p as usize;
     let end = from + tokens.token(from).step();
-    for q in from..end {
-        if word(tokens.kinds, q) == 20 {
-            return true;
-        }
-    }
-    false
+    end <= tokens.kinds.len() && any_projection(&tokens.kinds[from..end])
 }
 
 // Sizes a content, whose records are `next`, and keeps it where it fits from `at` on, else clears its records.
@@ -49,7 +51,7 @@ fn size_up(
     ensures sized { Sized seen.now.tokens.kinds.now seen.now.tokens.vals.now heads.old kids.old heads.new kids.new seen.now.given x next fuel
         out.old at result }
 {
-    let e = show_tree(seen, heads, kids, x, fuel, out, at, false);
+    let e = show_tree(seen, heads, kids, x, fuel, out, at, Pass::Count);
     fit_up(heads, kids, seen.given, x, next, e - at, out.len() - at)
 }
 
@@ -81,7 +83,7 @@ fn fit_up(
 // Normalises the term at p, by what g and the rules say is to be looked up.
 fn run(
     seen: &Seen,
-    rules: &[u32],
+    rules: &[Rule],
     heads: &mut [u32],
     kids: &mut [u32],
     p: u32,
@@ -92,7 +94,7 @@ fn run(
     at: usize,
 ) -> Result<Ready, Unfinished>
     requires room { RecordRoom seen.now.tokens.kinds.now seen.now.tokens.vals.now heads.old kids.old seen.now.given 0 most }
-    requires few { (length rules.now < 4294967296) × (levels < 4294967295) × (visits < 134217728) }
+    requires few { (levels < 4294967295) × (visits < 134217728) }
     requires zero { Zero heads.old most × Zero kids.old most }
     requires place { at ≤ length out.old }
     ensures out { out.new ≡ out.old }
@@ -166,10 +168,10 @@ fn given(tokens: &Tokens, interface: u32, owner: u32) -> Origin
     }
 }
 
-// Order 20, `normalize`: the term at p is walked by the rules and sized. The rules are lent six words each.
+// Order 20, `normalize`: the term at p is walked by the rules and sized.
 pub fn normalise(
     tokens: &Tokens,
-    rules: &[u32],
+    rules: &[Rule],
     heads: &mut [u32],
     kids: &mut [u32],
     p: u32,
@@ -177,14 +179,13 @@ pub fn normalise(
     at: usize,
 ) -> Result<Ready, Unfinished>
     requires lends { Lends tokens.now.kinds.now tokens.now.vals.now heads.old kids.old most }
-    requires few { length rules.now < 4294967296 }
     requires place { at ≤ length out.old }
     requires terms { RuledAt tokens.now.kinds.now tokens.now.vals.now rules.now p }
     ensures out { out.new ≡ out.old }
     ensures leaves { Leaves tokens.now.kinds.now tokens.now.vals.now heads.old kids.old heads.new kids.new most result }
     ensures answers { (t : Term) (rs : List Pattern)
         → Held tokens.now.kinds.now tokens.now.vals.now p t
-        → Ruled tokens.now.kinds.now tokens.now.vals.now rules.now 0 rs
+        → Ruled tokens.now.kinds.now tokens.now.vals.now rules.now rs
         → Answers tokens.now.kinds.now tokens.now.vals.now heads.new kids.new out.old at levels most
         (normalise levels visits (by_patterns rs) t) result }
 {
@@ -230,18 +231,7 @@ pub fn with_associated_types(
         tokens: *tokens,
         given: g,
     };
-    run(
-        &seen,
-        &tokens.kinds[..0],
-        heads,
-        kids,
-        p,
-        LEVELS,
-        VISITS,
-        MOST,
-        out,
-        at,
-    )
+    run(&seen, &[], heads, kids, p, LEVELS, VISITS, MOST, out, at)
 }
 
 // Writes what `normalise` or `with_associated_types` has kept at a position, clears its records, and returns the position after it.
@@ -270,7 +260,7 @@ pub fn write_normalised(
         head: w.head,
         kids: w.kids,
     };
-    let e = show_tree(&seen, heads, kids, x, LEVELS + 1, out, at, true);
+    let e = show_tree(&seen, heads, kids, x, LEVELS + 1, out, at, Pass::Write);
     clear_tokens(heads, kids, 0, w.next);
     if out.len() < e {
         return at;

@@ -7,13 +7,12 @@ ghost use Rattle.terms.specs.Term.{Term};
 ghost use Rattle.terms.specs.Words.Held.{Held};
 ghost use Rattle.terms.specs.Formed.{Formed};
 ghost use Rattle.terms.specs.Questions.{Parameter, counted_by, entered_by, counted, entered, asked, number_of_question};
-ghost use Rattle.terms.specs.Parameters.{parameters};
+ghost use Rattle.terms.specs.Parameters.{listed};
 ghost use Rattle.terms.specs.Words.TermsAtPlaces.{FormedAt, ParametersAt};
 ghost use Rattle.terms.specs.Words.QuestionsContract.{tag_of, word, Asking};
 
-use super::find::find_parameter;
 use super::runs::{skip, width_at};
-use super::{Parameter, Question, Tokens, runs};
+use super::{Parameter, Parameters, Question, Tokens, runs};
 
 // The tag of the term whose first token has this kind.
 pub fn tag_of(k: u32) -> u32
@@ -26,26 +25,26 @@ pub fn tag_of(k: u32) -> u32
 }
 
 // Whether a term counts for question 7, by its tag and its first two numbers.
-fn unresolved(tag: u32, a: u32, b: u32, s: &[u8], at: usize, params: u64) -> bool
-    ensures { (ps : List Parameter) (n : ℕ) → parameters s.now params at ≡ got ps n → result ≡ counted_by ps 7 tag a b }
+fn unresolved(tag: u32, a: u32, b: u32, parameters: &Parameters) -> bool
+    ensures { (ps : List Parameter) (n : ℕ) → listed parameters.now ≡ got ps n → result ≡ counted_by ps 7 tag a b }
 {
     match tag {
         1 | 2 | 3 | 19 => true,
-        18 => params == 0,
+        18 => parameters.count == 0,
         17 => {
             let wanted = Parameter {
                 owner: u64::from(a),
                 position: u64::from(b),
             };
-            find_parameter(s, at, params, wanted).is_none()
+            parameters.find(wanted).is_none()
         }
         _ => false,
     }
 }
 
 // Whether a term counts for a question, by its tag and its first two numbers.
-fn counts(question: Question, tag: u32, a: u32, b: u32, s: &[u8], at: usize, params: u64) -> bool
-    ensures { (ps : List Parameter) (n : ℕ) → parameters s.now params at ≡ got ps n → result ≡ counted_by ps (number_of_question question) tag a b }
+fn counts(question: Question, tag: u32, a: u32, b: u32, parameters: &Parameters) -> bool
+    ensures { (ps : List Parameter) (n : ℕ) → listed parameters.now ≡ got ps n → result ≡ counted_by ps (number_of_question question) tag a b }
 {
     match question {
         Question::IsNever => tag == 4 && a == 10,
@@ -55,7 +54,7 @@ fn counts(question: Question, tag: u32, a: u32, b: u32, s: &[u8], at: usize, par
         Question::ContainsUnknown => matches!(tag, 1 | 2),
         Question::ContainsSelfType => tag == 19,
         Question::ContainsProjection => tag == 18,
-        Question::IsResolvedIn => unresolved(tag, a, b, s, at, params),
+        Question::IsResolvedIn => unresolved(tag, a, b, parameters),
     }
 }
 
@@ -82,18 +81,10 @@ pub fn word_at(vals: &[u32], i: usize, end: usize) -> u32
 }
 
 // Whether a term that counts is among those that the question enters, in the row from a up to e.
-fn ask_row(
-    tokens: &Tokens,
-    a: usize,
-    e: usize,
-    question: Question,
-    s: &[u8],
-    at: usize,
-    params: u64,
-) -> bool
+fn ask_row(tokens: &Tokens, a: usize, e: usize, question: Question, parameters: &Parameters) -> bool
     requires { (a ≤ e) × (e ≤ length tokens.now.kinds.now) }
     ensures { (qs : List Parameter) (n : ℕ)
-        → parameters s.now params at ≡ got qs n
+        → listed parameters.now ≡ got qs n
         → (whole : Bool)
         → Asking tokens.now.kinds.now tokens.now.vals.now a e (counted qs (number_of_question question)) (entered (number_of_question question)) whole
         → result ≡ whole }
@@ -108,7 +99,7 @@ fn ask_row(
             let tag = tag_of(k);
             let x = word_at(tokens.vals, p + 1, e);
             let y = word_at(tokens.vals, p + 2, e);
-            if counts(question, tag, x, y, s, at, params) {
+            if counts(question, tag, x, y, parameters) {
                 return true;
             }
             if enters(question, tag) {
@@ -121,18 +112,18 @@ fn ask_row(
     false
 }
 
-// The same of the term at p. The parameters stand in the bytes, from `at` on; questions 0 to 6 look at none.
-pub fn ask(tokens: &Tokens, p: usize, question: Question, s: &[u8], at: usize, params: u64) -> bool
+// The same of the term at p. Questions 0 to 6 look at no parameters.
+pub fn ask(tokens: &Tokens, p: usize, question: Question, parameters: &Parameters) -> bool
     requires place { p < length tokens.now.kinds.now }
     requires term { FormedAt tokens.now.kinds.now tokens.now.vals.now p }
-    requires parameters { ParametersAt s.now params at }
+    requires parameters { ParametersAt parameters.now }
     ensures { (qs : List Parameter) (n : ℕ)
-        → parameters s.now params at ≡ got qs n
+        → listed parameters.now ≡ got qs n
         → (t : Term)
         → Held tokens.now.kinds.now tokens.now.vals.now p t
         → Formed t
         → result ≡ asked qs (number_of_question question) t }
 {
     let n = width_at(tokens, p);
-    ask_row(tokens, p, p + n, question, s, at, params)
+    ask_row(tokens, p, p + n, question, parameters)
 }

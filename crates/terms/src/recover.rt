@@ -17,7 +17,7 @@ ghost use Rattle.terms.specs.Words.Lent.{PartOf, NotEmpty};
 ghost use Rattle.terms.specs.Words.RecoverContract.{Put, upto, alike, Paired, Parted};
 
 use super::questions::{tag_of, word_at};
-use super::runs::{skip, width_at, word};
+use super::runs::{skip, term_part, word};
 use super::write::put_run;
 use super::{Part, Tokens};
 
@@ -267,22 +267,10 @@ pub fn recovered_len(tokens: &Tokens, a: usize, b: usize) -> usize
         → Formed u
         → result ≡ length (bytes (recover_from t u)) }
 {
-    let n = width_at(tokens, a);
-    let m = width_at(tokens, b);
+    let x = term_part(tokens, a);
+    let y = term_part(tokens, b);
     let mut none = [0u8; 1];
-    recover_term(
-        tokens,
-        Part {
-            from: a,
-            end: a + n,
-        },
-        Part {
-            from: b,
-            end: b + m,
-        },
-        &mut none,
-        0,
-    )
+    recover_term(tokens, x, y, &mut none, 0)
 }
 
 // Writes `recover_from` of the terms at a and b, for which there is room, and returns the position after it.
@@ -297,19 +285,7 @@ pub fn write_recovered(tokens: &Tokens, a: usize, b: usize, out: &mut [u8], at: 
         → Formed u
         → Put out.old out.new at result (bytes (recover_from t u)) }
 {
-    let n = width_at(tokens, a);
-    let m = width_at(tokens, b);
-    recover_term(
-        tokens,
-        Part {
-            from: a,
-            end: a + n,
-        },
-        Part {
-            from: b,
-            end: b + m,
-        },
-        out,
-        at,
-    )
+    let x = term_part(tokens, a);
+    let y = term_part(tokens, b);
+    recover_term(tokens, x, y, out, at)
 }

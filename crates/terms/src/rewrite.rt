@@ -7,13 +7,15 @@ ghost use Rattle.std.proofs.lemmas.List.Edits.{sets};
 ghost use Rattle.terms.specs.Result.{pick};
 ghost use Rattle.terms.specs.Words.TokenBytes.{spelt};
 ghost use Rattle.terms.specs.Words.FindContract.{argument_for};
-ghost use Rattle.terms.specs.Words.RewriteContract.{by, index, generic, in_context_of, self, chosen, piece, pace, rewritten, written, Ready, Space, Inside};
-ghost use Rattle.terms.specs.Words.RewriteContract.{Writes, Rewrites};
+ghost use Rattle.terms.specs.Words.Lent.{PartOf};
+ghost use Rattle.terms.specs.Words.RewriteContract.{by, index, entry_for, generic, in_context_of, generic_for, self_for, chosen, piece, pace, Space, Inside};
+ghost use Rattle.terms.specs.Words.RewriteContract.{rewritten, written, Writes, Rewrites};
+ghost use Rattle.terms.specs.Words.ShowingContract.{writes};
 
-use super::find::{find_entry, find_parameter, find_receiver, nth_term};
-use super::runs::{skip, width_at, word};
+use super::find::{find_entry, find_receiver, nth_term};
+use super::runs::{skip, term_part, width_at, word};
 use super::write::{run_len, write_run};
-use super::{Binders, Choice, Parameter, Tokens};
+use super::{Choice, Parameter, Parameters, Part, Pass, Purpose, Rewriter, Tokens};
 
 // What was found, or the term itself.
 fn taken(found: Option<usize>) -> Choice
@@ -22,117 +24,47 @@ fn taken(found: Option<usize>) -> Choice
     found.map_or(Choice::Keep, Choice::By)
 }
 
-// The argument for a parameter, where it is one.
-fn argument_for(tokens: &Tokens, s: &[u8], b: Binders, wanted: Parameter) -> Option<usize>
-    ensures { result ≡ argument_for tokens.now.kinds.now tokens.now.vals.now b.arguments (index s.now b wanted) }
-{
-    let k = find_parameter(s, b.parameters, b.count, wanted)?;
-    nth_term(tokens, b.arguments, k)
-}
-
-// What takes the place of a Generic: the argument for a parameter, or an entry's term.
-fn generic_at(tokens: &Tokens, s: &[u8], b: Binders, wanted: Parameter) -> Choice
-    requires { Ready tokens.now.kinds.now tokens.now.vals.now b }
-    ensures { result ≡ generic tokens.now.kinds.now tokens.now.vals.now s.now b wanted }
-{
-    let a = argument_for(tokens, s, b, wanted);
-    match a {
-        Some(q) => Choice::By(q),
-        None => {
-            let e = find_entry(tokens, b.entries, b.receivers, wanted);
-            taken(e)
-        }
-    }
-}
-
-// In a context: an entry's term, or Unknown for a parameter.
-fn context_at(tokens: &Tokens, s: &[u8], b: Binders, wanted: Parameter) -> Choice
-    requires { Ready tokens.now.kinds.now tokens.now.vals.now b }
-    ensures { result ≡ in_context_of tokens.now.kinds.now tokens.now.vals.now s.now b wanted }
-{
-    let e = find_entry(tokens, b.entries, b.receivers, wanted);
-    match e {
-        Some(q) => Choice::By(q),
-        None => {
-            if find_parameter(s, b.parameters, b.count, wanted).is_some() {
-                Choice::Unknown
-            } else {
-                Choice::Keep
-            }
-        }
-    }
-}
-
-// What takes the place of a SelfType.
-fn self_at(tokens: &Tokens, b: Binders, owner: u64) -> Choice
-    requires { Ready tokens.now.kinds.now tokens.now.vals.now b }
-    ensures { result ≡ self tokens.now.kinds.now tokens.now.vals.now b owner }
-{
-    if b.context {
-        return Choice::Keep;
-    }
-    let e = find_receiver(tokens, b.receivers, b.finish, owner);
-    taken(e)
-}
-
-// What takes the place of the term at p. Only the heads of Generic and SelfType are looked up.
+// Writes a run of tokens, or only counts its bytes. A trait with a sink that writes and one that counts is no plainer: its laws say of each what
+// `pick (writes pass)` says of both, and each function up to the orders would take a type for `pass`.
 #[inline(always)]
-fn replaced_at(tokens: &Tokens, s: &[u8], b: Binders, p: usize) -> Choice
-    requires areas { Ready tokens.now.kinds.now tokens.now.vals.now b }
-    requires place { p < length tokens.now.kinds.now }
-    ensures { result ≡ chosen tokens.now.kinds.now tokens.now.vals.now s.now b p }
-{
-    let k = tokens.kinds[p];
-    if k == 19 {
-        let wanted = Parameter {
-            owner: u64::from(word(tokens.vals, p + 1)),
-            position: u64::from(word(tokens.vals, p + 2)),
-        };
-        if b.context {
-            return context_at(tokens, s, b, wanted);
-        }
-        return generic_at(tokens, s, b, wanted);
-    }
-    if k == 21 {
-        let owner = u64::from(word(tokens.vals, p + 1));
-        return self_at(tokens, b, owner);
-    }
-    Choice::Keep
-}
-
-// Writes a run of tokens, or only counts its bytes. A trait with a sink that writes and one that counts is no plainer: its laws say of each what `pick on` says
-// of both, and each function up to the orders would take a type for `on`.
-#[inline(always)]
-fn emit_run(tokens: &Tokens, from: usize, count: usize, out: &mut [u8], i: usize, on: bool) -> usize
+fn emit_run(
+    tokens: &Tokens,
+    from: usize,
+    count: usize,
+    out: &mut [u8],
+    i: usize,
+    pass: Pass,
+) -> usize
     requires run { (from + count ≤ length tokens.now.kinds.now) × (from + count ≤ length tokens.now.vals.now) }
-    requires space { Space on i (length (spelt tokens.now.kinds.now tokens.now.vals.now from count)) (length out.old) }
+    requires space { Space (writes pass) i (length (spelt tokens.now.kinds.now tokens.now.vals.now from count)) (length out.old) }
     ensures next { result ≡ i + length (spelt tokens.now.kinds.now tokens.now.vals.now from count) }
-    ensures wrote { out.new ≡ pick on (sets out.old i (spelt tokens.now.kinds.now tokens.now.vals.now from count)) out.old }
+    ensures wrote { out.new
+        ≡ pick (writes pass) (sets out.old i (spelt tokens.now.kinds.now tokens.now.vals.now from count)) out.old }
 {
-    if on {
-        return write_run(tokens.kinds, tokens.vals, from, count, out, i);
+    match pass {
+        Pass::Count => i + run_len(tokens.kinds, tokens.vals, from, count),
+        Pass::Write => write_run(tokens.kinds, tokens.vals, from, count, out, i),
     }
-    i + run_len(tokens.kinds, tokens.vals, from, count)
 }
 
 // Writes what takes the place of the term at p, or only counts its bytes.
 #[inline(always)]
-fn emit(tokens: &Tokens, c: Choice, p: usize, out: &mut [u8], i: usize, on: bool) -> usize
+fn emit(tokens: &Tokens, c: Choice, p: usize, out: &mut [u8], i: usize, pass: Pass) -> usize
     requires areas { (p < length tokens.now.kinds.now) × Inside tokens.now.kinds.now c }
-    requires space { Space on i (length (piece tokens.now.kinds.now tokens.now.vals.now p c)) (length out.old) }
+    requires space { Space (writes pass) i (length (piece tokens.now.kinds.now tokens.now.vals.now p c)) (length out.old) }
     ensures next { result ≡ i + length (piece tokens.now.kinds.now tokens.now.vals.now p c) }
-    ensures wrote { out.new ≡ pick on (sets out.old i (piece tokens.now.kinds.now tokens.now.vals.now p c)) out.old }
+    ensures wrote { out.new ≡ pick (writes pass) (sets out.old i (piece tokens.now.kinds.now tokens.now.vals.now p c)) out.old }
 {
     match c {
-        Choice::Keep => emit_run(tokens, p, 1, out, i, on),
+        Choice::Keep => emit_run(tokens, p, 1, out, i, pass),
         Choice::By(q) => {
             let n = width_at(tokens, q);
-            emit_run(tokens, q, n, out, i, on)
+            emit_run(tokens, q, n, out, i, pass)
         }
         Choice::Unknown => {
-            if on {
-                out[i] = 2;
-                return i + 1;
+            match pass {
+                Pass::Count => {}
+                Pass::Write => out[i] = 2,
             }
             i + 1
         }
@@ -152,53 +84,134 @@ fn pace(tokens: &Tokens, c: Choice, p: usize, end: usize) -> usize
     }
 }
 
-// Writes the `count` tokens from `from` on at a position of `out`, with the binders replaced, and returns the position after them; or, where it is not
-// `on`, only counts.
-pub fn rewrite_run(
-    tokens: &Tokens,
-    s: &[u8],
-    b: Binders,
-    from: usize,
-    count: usize,
-    out: &mut [u8],
-    at: usize,
-    on: bool,
-) -> usize
-    requires areas { Ready tokens.now.kinds.now tokens.now.vals.now b }
-    requires run { from + count ≤ length tokens.now.kinds.now }
-    requires space { Space on at (length (rewritten tokens.now.kinds.now tokens.now.vals.now s.now b from count)) (length out.old) }
-    ensures next { result ≡ at + length (rewritten tokens.now.kinds.now tokens.now.vals.now s.now b from count) }
-    ensures wrote { out.new
-        ≡ pick on (sets out.old at (rewritten tokens.now.kinds.now tokens.now.vals.now s.now b from count)) out.old }
-{
-    let end = from + count;
-    let mut i = at;
-    let mut p = from;
-    // A step is one token, or a term where that is replaced: what is gone through is a run of tokens, no row of one term, and no range is counted.
-    while p < end {
-        let c = replaced_at(tokens, s, b, p);
-        i = emit(tokens, c, p, out, i, on);
-        p += pace(tokens, c, p, end);
+impl<'a> Rewriter<'a> {
+    // Of a family, whose arguments stand from a place on, the one for a parameter, where it is one.
+    fn argument_for(
+        &self,
+        parameters: &Parameters,
+        arguments: usize,
+        wanted: Parameter,
+    ) -> Option<usize>
+        ensures { result ≡ argument_for self.now.tokens.kinds.now self.now.tokens.vals.now arguments (index parameters.now wanted) }
+    {
+        let k = parameters.find(wanted)?;
+        nth_term(&self.tokens, arguments, k)
     }
-    i
-}
 
-// Writes the term at a place at a position of `out`, with the binders replaced, and returns the position after it; or, where it is not `on`, only counts.
-pub fn write_term(
-    tokens: &Tokens,
-    s: &[u8],
-    b: Binders,
-    from: usize,
-    out: &mut [u8],
-    at: usize,
-    on: bool,
-) -> usize
-    requires areas { Ready tokens.now.kinds.now tokens.now.vals.now b }
-    requires place { from < length tokens.now.kinds.now }
-    requires space { Space on at (length (written tokens.now.kinds.now tokens.now.vals.now s.now b from)) (length out.old) }
-    ensures words { Writes on out.old at result out.new (written tokens.now.kinds.now tokens.now.vals.now s.now b from) }
-    ensures trees { Rewrites tokens.now.kinds.now tokens.now.vals.now s.now b from (Writes on out.old at result out.new) }
-{
-    let n = width_at(tokens, from);
-    rewrite_run(tokens, s, b, from, n, out, at, on)
+    // The term of an entry.
+    fn entry_for(&self, wanted: Parameter) -> Option<usize>
+        ensures { result ≡ entry_for self.now.tokens.kinds.now self.now.tokens.vals.now self.now.binders wanted }
+    {
+        let b = self.binders;
+        find_entry(&self.tokens, b.entries, b.receivers, wanted)
+    }
+
+    // What takes the place of a Generic in a family: the argument for a parameter, or an entry's term.
+    fn generic_at(&self, parameters: &Parameters, arguments: usize, wanted: Parameter) -> Choice
+        ensures { result ≡ generic self.now.tokens.kinds.now self.now.tokens.vals.now self.now.binders parameters.now arguments wanted }
+    {
+        match self.argument_for(parameters, arguments, wanted) {
+            Some(q) => Choice::By(q),
+            None => taken(self.entry_for(wanted)),
+        }
+    }
+
+    // In a context: an entry's term, or Unknown for a parameter.
+    fn context_at(&self, parameters: &Parameters, wanted: Parameter) -> Choice
+        ensures { result ≡ in_context_of self.now.tokens.kinds.now self.now.tokens.vals.now self.now.binders parameters.now wanted }
+    {
+        match self.entry_for(wanted) {
+            Some(q) => Choice::By(q),
+            None => {
+                if parameters.find(wanted).is_some() {
+                    Choice::Unknown
+                } else {
+                    Choice::Keep
+                }
+            }
+        }
+    }
+
+    // What takes the place of a Generic.
+    fn generic_for(&self, wanted: Parameter) -> Choice
+        ensures { result ≡ generic_for self.now.tokens.kinds.now self.now.tokens.vals.now self.now.binders self.now.binders.purpose wanted }
+    {
+        match &self.binders.purpose {
+            Purpose::Instance => taken(self.entry_for(wanted)),
+            Purpose::Context(parameters) => self.context_at(parameters, wanted),
+            Purpose::Family(parameters, arguments) => {
+                self.generic_at(parameters, *arguments, wanted)
+            }
+        }
+    }
+
+    // What takes the place of a SelfType.
+    fn self_at(&self, owner: u64) -> Choice
+        ensures { result ≡ self_for self.now.tokens.kinds.now self.now.tokens.vals.now self.now.binders owner }
+    {
+        let b = self.binders;
+        match b.purpose {
+            Purpose::Context(_) => Choice::Keep,
+            Purpose::Instance | Purpose::Family(_, _) => {
+                taken(find_receiver(&self.tokens, b.receivers, b.finish, owner))
+            }
+        }
+    }
+
+    // What takes the place of the term at p. Only the heads of Generic and SelfType are looked up.
+    #[inline(always)]
+    fn replaced_at(&self, p: usize) -> Choice
+        requires { p < length self.now.tokens.kinds.now }
+        ensures { result ≡ chosen self.now.tokens.kinds.now self.now.tokens.vals.now self.now.binders p }
+    {
+        let vals = self.tokens.vals;
+        let k = self.tokens.kinds[p];
+        if k == 19 {
+            let wanted = Parameter {
+                owner: u64::from(word(vals, p + 1)),
+                position: u64::from(word(vals, p + 2)),
+            };
+            return self.generic_for(wanted);
+        }
+        if k == 21 {
+            return self.self_at(u64::from(word(vals, p + 1)));
+        }
+        Choice::Keep
+    }
+
+    // Writes the tokens of a part at a position of `out`, with the binders replaced, and returns the position after them; or only counts.
+    fn rewrite_run(&self, part: Part, out: &mut [u8], at: usize, pass: Pass) -> usize
+        requires part { PartOf self.now.tokens.kinds.now part }
+        requires space { Space (writes pass) at
+            (length (rewritten self.now.tokens.kinds.now self.now.tokens.vals.now self.now.binders part)) (length out.old) }
+        ensures next { result ≡ at + length (rewritten self.now.tokens.kinds.now self.now.tokens.vals.now self.now.binders part) }
+        ensures wrote { out.new
+            ≡ pick (writes pass) (sets out.old at (rewritten self.now.tokens.kinds.now self.now.tokens.vals.now self.now.binders part))
+            out.old }
+    {
+        let tokens = &self.tokens;
+        let mut i = at;
+        let end = part.end;
+        let mut p = part.from;
+        // A step is one token, or a term where that is replaced: what is gone through is a run of tokens, no row of one term, and no range is counted.
+        while p < end {
+            let c = self.replaced_at(p);
+            i = emit(tokens, c, p, out, i, pass);
+            p += pace(tokens, c, p, end);
+        }
+        i
+    }
+
+    // Writes the term at a place at a position of `out`, with the binders replaced, and returns the position after it; or only counts.
+    pub fn write_term(&self, from: usize, out: &mut [u8], at: usize, pass: Pass) -> usize
+        requires place { from < length self.now.tokens.kinds.now }
+        requires space { Space (writes pass) at
+            (length (written self.now.tokens.kinds.now self.now.tokens.vals.now self.now.binders from)) (length out.old) }
+        ensures words { Writes (writes pass) out.old at result out.new
+            (written self.now.tokens.kinds.now self.now.tokens.vals.now self.now.binders from) }
+        ensures trees { Rewrites self.now.tokens.kinds.now self.now.tokens.vals.now self.now.binders from
+            (Writes (writes pass) out.old at result out.new) }
+    {
+        self.rewrite_run(term_part(&self.tokens, from), out, at, pass)
+    }
 }

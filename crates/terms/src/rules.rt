@@ -11,7 +11,7 @@ ghost use Rattle.terms.specs.Words.RulesContract.{TermStarts, Numbers, Fronted, 
 
 use super::alike::{cursor, moved, same_rows};
 use super::rows::NOWHERE;
-use super::rule_list::{next_rule, rule_at};
+use super::rule_list::first_with;
 use super::virtual_tokens::token_at;
 use super::{Content, Cursor, Origin, RowWalk, Rule, Seen};
 
@@ -117,17 +117,16 @@ fn member_in(seen: &Seen, x: Cursor) -> u32
 // looked for first, in the list of the rules; rule and argument walk are left together at the match.
 pub fn find_rule(
     seen: &Seen,
-    rules: &[u32],
+    rules: &[Rule],
     heads: &[u32],
     kids: &[u32],
     x: Content,
     fuel: usize,
 ) -> Option<Content>
-    requires few { length rules.now < 4294967296 }
     ensures { (S : ℕ → Bool) (t : Term) (rs : List Pattern)
         → Tree (shown seen.now) heads.now kids.now S x.head x.kids t
         → depths (row t) ≤ fuel
-        → Ruled seen.now.tokens.kinds.now seen.now.tokens.vals.now rules.now 0 rs
+        → Ruled seen.now.tokens.kinds.now seen.now.tokens.vals.now rules.now rs
         → Fetched (shown seen.now) heads.now kids.now S (by_patterns rs (row t)) result }
 {
     let s = cursor(seen, x);
@@ -135,10 +134,10 @@ pub fn find_rule(
     let mut r = 0;
     // Rules are skipped to the next with the member, and arguments are as wide as they say; both are left at the match (document 01).
     'rules: loop {
-        r = next_rule(rules, r, member)?;
-        let rule = rule_at(rules, r);
+        r += first_with(&rules[r..], member)?;
+        let rule = rules[r];
         let mut m = same_front(seen, heads, kids, s, rule, fuel);
-        let mut a = rule.arguments as usize;
+        let mut a = rule.arguments;
         let mut left = rule.count;
         loop {
             let Some((p, i)) = m else {
@@ -150,13 +149,12 @@ pub fn find_rule(
                 }
                 break;
             }
-            let argument = term_cursor(seen, a);
+            let argument = term_cursor(seen, a as usize);
             m = same_rows(seen, heads, kids, moved(s, p, i), argument, fuel);
-            a = argument.end;
+            a = argument.end as u32;
             left -= 1;
         }
         r += 1;
     }
-    let rule = rule_at(rules, r);
-    Some(source(rule.value))
+    Some(source(rules[r].value))
 }

@@ -2,12 +2,13 @@
 // Kinds and tags are matched by number; the line in kinds.rt says why.
 ghost use Rattle.std.specs.Prelude.{◌≡◌, ◌↔◌, IsTrue, true, false, ◌+◌, ◌-◌, ◌≤◌, ◌<◌, length, get_or};
 ghost use Rattle.terms.specs.Words.Tokens.{toks, Agree};
-ghost use Rattle.terms.specs.Term.{Term};
+ghost use Rattle.terms.specs.Term.{Term, items};
 ghost use Rattle.terms.specs.Words.Held.{Held, span};
+ghost use Rattle.terms.specs.Words.Lent.{NotEmpty};
 ghost use Rattle.terms.specs.Tree.{same};
 ghost use Rattle.terms.specs.Words.FindContract.{stride};
 
-use super::{Token, Tokens};
+use super::{Part, Token, Tokens};
 
 // The word at i, 0 past the end.
 #[inline(always)]
@@ -84,6 +85,20 @@ pub fn width_at(tokens: &Tokens, i: usize) -> usize
     ensures is { result ≡ stride tokens.now.kinds.now tokens.now.vals.now i (length tokens.now.kinds.now - i) }
 {
     skip(tokens, i, tokens.kinds.len() - i)
+}
+
+// The tokens of the term at a.
+#[inline(always)]
+pub fn term_part(tokens: &Tokens, a: usize) -> Part
+    requires { a < length tokens.now.kinds.now }
+    ensures part { (result.from ≡ a) × NotEmpty tokens.now.kinds.now result }
+    ensures ends { result.end ≡ a + stride tokens.now.kinds.now tokens.now.vals.now a (length tokens.now.kinds.now - a) }
+    ensures term { (t : Term) → Held tokens.now.kinds.now tokens.now.vals.now a t → result.end ≡ a + length (items t) }
+{
+    Part {
+        from: a,
+        end: a + width_at(tokens, a),
+    }
 }
 
 // Whether two runs of `count` words are the same.

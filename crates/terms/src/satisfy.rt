@@ -2,7 +2,7 @@
 // compared: at most as many steps as members required times members given, and the tokens compared. `satisfies_for` does the same once more for the
 // interface of each projection that is not given.
 // Kinds and tags are matched by number; the line in kinds.rt says why.
-ghost use Rattle.std.specs.Prelude.{◌≡◌, Bool, List, ℕ, ◌+◌, ◌≤◌, ◌<◌, length};
+ghost use Rattle.std.specs.Prelude.{◌≡◌, Bool, List, ℕ, ◌+◌, ◌≤◌, ◌<◌, length, get_or};
 ghost use Rattle.std.proofs.Math.Option.{Option};
 ghost use Rattle.terms.specs.Term.{Term, Parts, node, items};
 ghost use Rattle.terms.specs.Words.Held.{Held};
@@ -11,7 +11,7 @@ ghost use Rattle.terms.specs.Formed.{Formed, Fit};
 ghost use Rattle.terms.specs.Words.TermsAtPlaces.{BareAt};
 ghost use Rattle.terms.specs.Tree.{Nominal, look_up, nominal_of};
 ghost use Rattle.terms.specs.Comparison.{same_option, every, satisfies, reflexive, satisfies_for};
-ghost use Rattle.terms.specs.Words.SatisfyContract.{Laid, Listed, Lists, Near, Agreed, Headed, Pairs, Inside, Looked, Short, Passes, Gave, Ended};
+ghost use Rattle.terms.specs.Words.SatisfyContract.{Laid, Listed, Lists, Near, Agreed, Headed, Pairs, Inside, Looked, given, Ended};
 ghost use Rattle.terms.specs.Words.SatisfyContract.{Satisfied, covers};
 
 use super::Tokens;
@@ -63,27 +63,26 @@ fn gives(tokens: &Tokens, x: usize, member: u32, t: usize) -> bool
     }
 }
 
-// The first of `count` required members from p on that the members listed at x do not give.
-fn lacking(tokens: &Tokens, x: usize, p: usize, count: usize) -> Result<usize, (usize, usize)>
+// The place after `count` required members from p on, where the members listed at x give each of them.
+fn all_given(tokens: &Tokens, x: usize, p: usize, count: usize) -> Option<usize>
     requires { (x ≤ length tokens.now.kinds.now) × (p ≤ length tokens.now.kinds.now + 1) }
-    ensures within { Short (length tokens.now.kinds.now) count result }
-    ensures gave { (d : ℕ) (gs : List ℕ) (hs : List Term) (other : Parts) (f : ℕ → Term → Bool) (e : ℕ) (rest : Parts) (whole : Bool)
+    ensures within { Ended (length tokens.now.kinds.now) result }
+    ensures given { (d : ℕ) (gs : List ℕ) (hs : List Term) (other : Parts) (e : ℕ) (rest : Parts) (whole : Bool)
         → Listed tokens.now.kinds.now tokens.now.vals.now x d gs hs other
-        → Passes gs hs f
-        → Pairs tokens.now.kinds.now tokens.now.vals.now p count e rest (every f) whole
-        → Gave tokens.now.kinds.now tokens.now.vals.now e rest gs hs f whole result }
+        → Pairs tokens.now.kinds.now tokens.now.vals.now p count e rest (every (given gs hs)) whole
+        → Satisfied tokens.now.kinds.now tokens.now.vals.now e rest whole result }
 {
     let mut i = p;
-    for k in 0..count {
+    for _ in 0..count {
         if tokens.kinds.len() <= i + 1 {
-            return Ok(i);
+            return None;
         }
         if !gives(tokens, x, tokens.vals[i], i + 1) {
-            return Err((i, count - k));
+            return None;
         }
         i = behind(tokens, i + 1);
     }
-    Ok(i)
+    Some(i)
 }
 
 // The places after `count` terms from a on and as many from b on, where they are the same.
@@ -149,7 +148,7 @@ fn satisfies_row(tokens: &Tokens, a: usize, b: usize) -> Option<usize>
 {
     let (x, y) = heads(tokens, a, b)?;
     let count = word(tokens.vals, y) as usize;
-    lacking(tokens, x, y + 1, count).ok()
+    all_given(tokens, x, y + 1, count)
 }
 
 // Whether the term at t is the projection of a member of the receiver, without arguments, whose interface the nominal at a satisfies.
@@ -184,6 +183,22 @@ fn is_reflexive(tokens: &Tokens, a: usize, receiver: usize, member: u32, t: usiz
     }
 }
 
+// Whether the member whose number stands at i, and its term after it, is given at x, or a reflexive projection for the nominal whose row stands at a.
+fn covers(tokens: &Tokens, a: usize, x: usize, receiver: usize, i: usize) -> bool
+    requires { (a ≤ length tokens.now.kinds.now) × (x ≤ length tokens.now.kinds.now) × (receiver < length tokens.now.kinds.now)
+        × (i + 1 < length tokens.now.kinds.now) }
+    ensures { (d : ℕ) (n : Nominal) (rest : Parts) (w u : Term)
+        → Laid tokens.now.kinds.now tokens.now.vals.now a d n rest
+        → Listed tokens.now.kinds.now tokens.now.vals.now x d n.members n.values rest
+        → Held tokens.now.kinds.now tokens.now.vals.now receiver w
+        → Held tokens.now.kinds.now tokens.now.vals.now (i + 1) u
+        → Formed u
+        → result ≡ covers n w (get_or tokens.now.vals.now i 0) u }
+{
+    let member = tokens.vals[i];
+    gives(tokens, x, member, i + 1) || is_reflexive(tokens, a, receiver, member, i + 1)
+}
+
 // Whether each of `count` required members from p on is given at x, or a reflexive projection for the nominal whose row stands at a.
 fn covered(tokens: &Tokens, a: usize, x: usize, p: usize, count: usize, receiver: usize) -> bool
     requires { (a ≤ length tokens.now.kinds.now) × (x ≤ length tokens.now.kinds.now) × (p ≤ length tokens.now.kinds.now + 1)
@@ -196,22 +211,14 @@ fn covered(tokens: &Tokens, a: usize, x: usize, p: usize, count: usize, receiver
         → result ≡ whole }
 {
     let mut i = p;
-    let mut left = count;
-    // Those that are given are passed several at a time, so no range is counted.
-    while left > 0 {
-        let g = lacking(tokens, x, i, left);
-        match g {
-            Ok(z) => {
-                return true;
-            }
-            Err((j, l)) => {
-                if !is_reflexive(tokens, a, receiver, tokens.vals[j], j + 1) {
-                    return false;
-                }
-                i = behind(tokens, j + 1);
-                left = l - 1;
-            }
+    for _ in 0..count {
+        if tokens.kinds.len() <= i + 1 {
+            return false;
         }
+        if !covers(tokens, a, x, receiver, i) {
+            return false;
+        }
+        i = behind(tokens, i + 1);
     }
     true
 }

@@ -1,4 +1,4 @@
-// Tokens and contents are sized, or written where `on`. What is returned is the position after them, or, where they do not fit, one past the end of `out`.
+// Tokens and contents are sized, or written too. What is returned is the position after them, or, where they do not fit, one past the end of `out`.
 // Kinds and tags are matched by number; the line in kinds.rt says why.
 // Heads and kids are lent as two slices; the line in rows.rt says why.
 ghost use Rattle.terms.specs.Words.Lent.{shown};
@@ -6,28 +6,28 @@ ghost use Rattle.std.specs.Prelude.{◌≡◌, Bool, ℕ, ◌+◌, ◌≤◌, �
 ghost use Rattle.terms.specs.Words.TokenBytes.{plain, spelt};
 ghost use Rattle.terms.specs.Term.{Term, Parts, depth, depths, bytes, part_bytes};
 ghost use Rattle.terms.specs.Words.Arena.{Tree, From, Cut};
-ghost use Rattle.terms.specs.Words.ShowingContract.{Shows, Kept};
+ghost use Rattle.terms.specs.Words.ShowingContract.{writes, Shows, Kept};
 
 use super::alike::cursor;
 use super::rows::child_here;
 use super::virtual_tokens::token_at;
 use super::write::{run_len, token_len, write_run, write_token};
-use super::{Content, Cursor, Origin, RowWalk, Seen, Token};
+use super::{Content, Cursor, Origin, Pass, RowWalk, Seen, Token};
 
-// One token. `on` is a flag and no type, as in `emit_run`: what is sized and what is written are the same but for the last step.
-fn show_token(out: &mut [u8], at: usize, x: Token, on: bool) -> usize
+// One token. The pass is a value and no type, as in `emit_run`: what is sized and what is written are the same but for the last step.
+fn show_token(out: &mut [u8], at: usize, x: Token, pass: Pass) -> usize
     requires { at ≤ length out.old }
-    ensures kept { Kept on out.old out.new at result }
-    ensures shows { Shows on out.old out.new at (plain x.kind x.value) result }
+    ensures kept { Kept (writes pass) out.old out.new at result }
+    ensures shows { Shows (writes pass) out.old out.new at (plain x.kind x.value) result }
 {
     let n = token_len(x.kind, x.value);
     if out.len() - at < n {
         return out.len() + 1;
     }
-    if on {
-        return write_token(out, at, x.kind, x.value);
+    match pass {
+        Pass::Count => at + n,
+        Pass::Write => write_token(out, at, x.kind, x.value),
     }
-    at + n
 }
 
 // The `count` lent tokens from `from` on; a token has at most 6 bytes.
@@ -38,35 +38,33 @@ fn show_flat(
     count: usize,
     out: &mut [u8],
     at: usize,
-    on: bool,
+    pass: Pass,
 ) -> usize
     requires run { (from + count ≤ length kinds.now) × (from + count ≤ length vals.now) }
     requires small { count < 4294967296 }
     requires room { at ≤ length out.old }
-    ensures kept { Kept on out.old out.new at result }
-    ensures shows { Shows on out.old out.new at (spelt kinds.now vals.now from count) result }
+    ensures kept { Kept (writes pass) out.old out.new at result }
+    ensures shows { Shows (writes pass) out.old out.new at (spelt kinds.now vals.now from count) result }
 {
-    if on {
-        if 6 * count <= out.len() - at {
-            return write_run(kinds, vals, from, count, out, at);
-        }
+    if pass == Pass::Write && 6 * count <= out.len() - at {
+        return write_run(kinds, vals, from, count, out, at);
     }
     let n = run_len(kinds, vals, from, count);
     if out.len() - at < n {
         return out.len() + 1;
     }
-    if on {
-        return write_run(kinds, vals, from, count, out, at);
+    match pass {
+        Pass::Count => at + n,
+        Pass::Write => write_run(kinds, vals, from, count, out, at),
     }
-    at + n
 }
 
 // The `count` tokens from `from` on, by `show_flat` where all are lent.
-fn show_run(seen: &Seen, from: usize, count: usize, out: &mut [u8], at: usize, on: bool) -> usize
+fn show_run(seen: &Seen, from: usize, count: usize, out: &mut [u8], at: usize, pass: Pass) -> usize
     requires small { (from < 4294967296) × (count < 4294967296) }
     requires room { at ≤ length out.old }
-    ensures kept { Kept on out.old out.new at result }
-    ensures shows { Shows on out.old out.new at
+    ensures kept { Kept (writes pass) out.old out.new at result }
+    ensures shows { Shows (writes pass) out.old out.new at
         (spelt (shown seen.now).kinds (shown seen.now).vals from count) result }
 {
     let end = from + count;
@@ -78,12 +76,12 @@ fn show_run(seen: &Seen, from: usize, count: usize, out: &mut [u8], at: usize, o
             count,
             out,
             at,
-            on,
+            pass,
         );
     }
     let mut i = at;
     for q in from..end {
-        i = show_token(out, i, token_at(seen, q), on);
+        i = show_token(out, i, token_at(seen, q), pass);
         if out.len() < i {
             return i;
         }
@@ -101,15 +99,15 @@ fn show_row(
     fuel: usize,
     out: &mut [u8],
     at: usize,
-    on: bool,
+    pass: Pass,
 ) -> usize
     requires cut { Cut c }
     requires room { at ≤ length out.old }
-    ensures kept { Kept on out.old out.new at result }
+    ensures kept { Kept (writes pass) out.old out.new at result }
     ensures shows { (S : ℕ → Bool) (ps : Parts)
         → From (shown seen.now) heads.now kids.now S c ps
         → depths ps ≤ fuel
-        → Shows on out.old out.new at (part_bytes ps) result }
+        → Shows (writes pass) out.old out.new at (part_bytes ps) result }
 {
     let row = RowWalk {
         seen: *seen,
@@ -123,10 +121,10 @@ fn show_row(
             return i;
         }
         if y.kind == 0 {
-            i = show_token(out, i, y, on);
+            i = show_token(out, i, y, pass);
         } else {
             let z = child_here(heads, kids, c.kids, q, n);
-            i = show_tree(seen, heads, kids, z, fuel, out, i, on);
+            i = show_tree(seen, heads, kids, z, fuel, out, i, pass);
             n += 1;
         }
     }
@@ -143,26 +141,26 @@ pub fn show_tree(
     fuel: usize,
     out: &mut [u8],
     at: usize,
-    on: bool,
+    pass: Pass,
 ) -> usize
     requires room { at ≤ length out.old }
-    ensures kept { Kept on out.old out.new at result }
+    ensures kept { Kept (writes pass) out.old out.new at result }
     ensures shows { (S : ℕ → Bool) (t : Term)
         → Tree (shown seen.now) heads.now kids.now S x.head x.kids t
         → (0 < x.kids → depth t ≤ fuel)
-        → Shows on out.old out.new at (bytes t) result }
+        → Shows (writes pass) out.old out.new at (bytes t) result }
 {
     let h = token_at(seen, x.head as usize);
     if x.kids == 0 {
-        return show_run(seen, x.head as usize, h.step(), out, at, on);
+        return show_run(seen, x.head as usize, h.step(), out, at, pass);
     }
     if fuel == 0 {
         return out.len() + 1;
     }
     let c = cursor(seen, x);
-    let i = show_token(out, at, h, on);
+    let i = show_token(out, at, h, pass);
     if out.len() < i {
         return i;
     }
-    show_row(seen, heads, kids, c, fuel - 1, out, i, on)
+    show_row(seen, heads, kids, c, fuel - 1, out, i, pass)
 }

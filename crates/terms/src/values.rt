@@ -5,7 +5,7 @@ ghost use Rattle.std.specs.Prelude.{◌≡◌, ◌+◌, ◌≤◌, ◌<◌, ◌^
 ghost use Rattle.terms.specs.Result.{said};
 ghost use Rattle.terms.specs.Words.Tokens.{area, put_if};
 ghost use Rattle.terms.specs.Reading.{code, rising, variable};
-ghost use Rattle.terms.specs.Words.RowPieces.{coded, numbered, fields};
+ghost use Rattle.terms.specs.Words.RowPieces.{fields};
 ghost use Rattle.terms.specs.Words.ReadContract.{Within, Room, ValueDone, TermDone, PartsDone};
 ghost use Rattle.terms.specs.Words.Outcomes.{step_of, value_of};
 
@@ -64,14 +64,9 @@ fn keep_number(
     ensures areas { area kinds.new vals.new
         ≡ put_if (leb place.old.nodes place.old.limit) (area kinds.old vals.old) place.old.top kind v }
 {
-    put_token(
-        kinds,
-        vals,
-        place.nodes <= place.limit,
-        place.top,
-        kind,
-        v as u32,
-    );
+    if place.within_limit() {
+        put_token(kinds, vals, place.top, kind, v as u32);
+    }
     place.at = next;
     place.top += 1;
 }
@@ -96,7 +91,7 @@ pub fn read_value(
     Ok(v)
 }
 
-// Reads a code below `codes`, or nothing where that is 0.
+// Reads a code below `codes` and stores it.
 #[inline(always)]
 fn read_code(
     s: &[u8],
@@ -104,38 +99,14 @@ fn read_code(
     vals: &mut [u32],
     place: &mut Place,
     codes: u32,
-) -> Result<(), Refusal>
+) -> Result<u64, Refusal>
     requires { Room s.now place.old }
-    ensures { PartsDone s.now (coded s.now codes place.old.at) place.old
-        (area kinds.old vals.old) (area kinds.new vals.new) (step_of result place.new) }
+    ensures { ValueDone 255 s.now (code s.now codes place.old.at) place.old
+        (area kinds.old vals.old) (area kinds.new vals.new) (value_of result place.new) }
 {
-    if codes == 0 {
-        return Ok(());
-    }
     let (v, next) = code_at(s, place.at, codes)?;
     keep_number(kinds, vals, place, 0, v, next);
-    Ok(())
-}
-
-// Reads a number of at most `most` where one is wanted.
-#[inline(always)]
-pub fn read_id(
-    s: &[u8],
-    kinds: &mut [u32],
-    vals: &mut [u32],
-    place: &mut Place,
-    most: u64,
-    wanted: bool,
-) -> Result<(), Refusal>
-    requires room { Room s.now place.old }
-    requires narrow { most < 2 ^ 32 }
-    ensures { PartsDone s.now (numbered s.now most wanted place.old.at) place.old
-        (area kinds.old vals.old) (area kinds.new vals.new) (step_of result place.new) }
-{
-    if wanted {
-        read_value(s, kinds, vals, place, most, 0)?;
-    }
-    Ok(())
+    Ok(v)
 }
 
 // Reads what stands before the terms of a plain row.
@@ -151,9 +122,16 @@ pub fn read_fields(
     ensures { PartsDone s.now (fields s.now f place.old.at) place.old
         (area kinds.old vals.old) (area kinds.new vals.new) (step_of result place.new) }
 {
-    read_code(s, kinds, vals, place, f.codes)?;
-    read_id(s, kinds, vals, place, DEFINITION, f.first)?;
-    read_id(s, kinds, vals, place, ORDINARY, f.second)
+    if let Some(codes) = f.codes {
+        read_code(s, kinds, vals, place, codes)?;
+    }
+    if f.first {
+        read_value(s, kinds, vals, place, DEFINITION, 0)?;
+    }
+    if f.second {
+        read_value(s, kinds, vals, place, ORDINARY, 0)?;
+    }
+    Ok(())
 }
 
 // Reads the id of a variable, whose tag is at the position, and stores it as a token of kind 1.

@@ -17,12 +17,12 @@ use super::opening::{begin, own_len};
 use super::rules::find_rule;
 use super::slots::slot;
 use super::write::run_len;
-use super::{Content, Origin, Seen, Tokens, Walked};
+use super::{Content, Origin, Rule, Seen, Tokens, Walked};
 
 // What a projection with the counts n and m is replaced by; its children have at most `fuel` levels.
 fn replace(
     seen: &Seen,
-    rules: &[u32],
+    rules: &[Rule],
     heads: &[u32],
     kids: &[u32],
     x: Content,
@@ -32,7 +32,6 @@ fn replace(
 ) -> Option<Content>
     requires tagged { TagAt (shown seen.now) x.head 18 }
     requires counts { Counts (shown seen.now) x.head n m }
-    requires few { length rules.now < 4294967296 }
     requires low { fuel < 4294967296 }
     ensures { (S : ℕ → Bool) (t : Term) (look : Look)
         → Tree (shown seen.now) heads.now kids.now S x.head x.kids t
@@ -143,7 +142,7 @@ fn fixed_len(tokens: &Tokens, x: Content) -> usize
 // None where the children are too many.
 pub fn walk(
     seen: &Seen,
-    rules: &[u32],
+    rules: &[Rule],
     heads: &mut [u32],
     kids: &mut [u32],
     x: Content,
@@ -153,7 +152,6 @@ pub fn walk(
     most: usize,
 ) -> Option<Walked>
     requires room { RecordRoom seen.now.tokens.kinds.now seen.now.tokens.vals.now heads.old kids.old seen.now.given next most }
-    requires few { length rules.now < 4294967296 }
     requires low { (levels < 4294967296) × (visits < 134217728) }
     ensures walks { Walks seen.now.tokens.kinds.now seen.now.tokens.vals.now rules.now seen.now.given heads.old kids.old heads.new kids.new x
         next levels visits most result }

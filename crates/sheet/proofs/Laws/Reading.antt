@@ -7,7 +7,7 @@
 --   SpotLaws          where the fields stand, and that they are held there
 --   FieldLoopLaws     the loop over a layout
 --   PartLaws          one field read and kept, and its spot
---   RuleReading       rules as fields, and their words
+--   RuleReading       rules as fields, and their records
 --   OrderLaws         the whole order
 --   ReadOrderUseLaws  what a caller has of an order that was read
 pub mod StoredLaws

@@ -4,14 +4,15 @@ use Rattle.solver.specs.Terms.Tokens.{Area, area, blank}
 use Rattle.solver.specs.declared.Solver.{Solver}
 use Rattle.solver.specs.Session.{Session, issued}
 use Rattle.solver.specs.Invariant.{InOrder}
+use Rattle.solver.specs.TermTypes.{Rule}
 use Rattle.sheet.specs.declared.Order.{Order}
 use Rattle.sheet.specs.Words.SessionInAreas.{Areas, areas, RepresentsInAreas, Served}
 use Rattle.sheet.specs.Words.FramingContract.{Output, Wrote}
 use Rattle.sheet.specs.Entry.{AreasReady}
 use Rattle.sheet.specs.Words.OrderReaderContract.{WholeOrder}
 
--- The areas m held a session; e is their a and b with the tokens of the order s after it, and ws the words of its rules.
-pub record OrderTaken (x : Solver) (half : ℕ) (s : List ℕ) (m : Areas) (e : Area) (ws : List ℕ) (o : Order) : Type 0 where
+-- The areas m held a session; e is their a and b with the tokens of the order s after it, and ws its rules.
+pub record OrderTaken (x : Solver) (half : ℕ) (s : List ℕ) (m : Areas) (e : Area) (ws : List Rule) (o : Order) : Type 0 where
   pub ready : AreasReady x half m
   pub whole : WholeOrder s x.issued x.top x.kept x.nodes (area m.a m.b) e ws o
 

@@ -1,5 +1,5 @@
 -- How the fields of an order are laid out: their sorts as the code has them, their tokens, and the spots that tell where they stand.
-use Rattle.std.specs.Prelude.{Bool, true, false, ◌&&◌, List, [], ◌∷◌, ◌++◌, ◌≡◌, ℕ, zero, suc, ◌+◌, ◌-◌, ◌*◌, ◌^◌, ◌≤◌, ◌<◌, eqb, length}
+use Rattle.std.specs.Prelude.{Bool, true, false, ◌&&◌, List, [], ◌∷◌, ◌++◌, ◌≡◌, ℕ, zero, suc, ◌+◌, ◌-◌, ◌*◌, ◌^◌, ◌≤◌, ◌<◌, eqb, length, take, set}
 use Rattle.std.proofs.Math.Option.{Option}
 use Rattle.solver.specs.TermTypes.{Place, Rule, Listing, Arguments, Receivers, Entries, Step, Next, Stopped}
 use Rattle.solver.specs.Terms.Parser.{Parser, Result, got, refused, pick, ◌>>=◌, return, number}
@@ -10,7 +10,7 @@ use Rattle.solver.specs.Terms.Shape as shape
 use Rattle.solver.specs.Terms.Shape.{ceiling}
 use Rattle.solver.specs.Terms.Rows.{entry_row, receiver_row, argument_row}
 use Rattle.solver.specs.Terms.Parameters.{parameters}
-use Rattle.solver.specs.Terms.Lookup.{Pattern, rule_at, put_rule}
+use Rattle.solver.specs.Terms.Lookup.{Pattern}
 use Rattle.solver.specs.Terms.ReadContract.{Only}
 use Rattle.solver.specs.Families.{Bound}
 use Rattle.sheet.specs.declared.FieldSpot.{FieldSpot}
@@ -185,9 +185,9 @@ pub record Ample (s : List ℕ) (p : Place) : Type 0 where
 
 -- ---- spots
 
--- the words of a rule whose tokens begin at a
-abbrev pub rule_words : ℕ → Pattern → Rule
-rule_words a p = record {
+-- the rule whose tokens begin at a
+abbrev pub placed_rule : ℕ → Pattern → Rule
+placed_rule a p = record {
   interface = a;
   receiver = a + length (items (node 20 p.interface));
   member = p.member;
@@ -196,7 +196,7 @@ rule_words a p = record {
   value = a + length (items (node 20 p.interface)) + length (items p.receiver) + length (part_items (argument_row p.arguments));
 }
 
--- a rule's words from the spots of its five fields, and that they have 32 bits
+-- a rule from the spots of its five fields, and that its numbers have 32 bits
 abbrev pub rule_from : FieldSpots → Rule
 rule_from o = record {
   interface = o.first.place;
@@ -215,17 +215,17 @@ pub record WordsFit (o : FieldSpots) : Type 0 where
   pub count : o.fourth.value < 4294967296
   pub fifth : o.fifth.place < 4294967296
 
--- the words of the rules from the r-th on, whose tokens begin at a
-unfoldable pub RulesAt : (ws : List ℕ) → ℕ → ℕ → List Pattern → Type 0
-RulesAt ws r a [] = Unit {0}
-RulesAt ws r a (p ∷ rs) = (rule_at ws r ≡ rule_words a p) × RulesAt ws (suc r) (a + length (rule_items (p ∷ []))) rs
+-- rules one after the other, whose tokens begin at a
+unfoldable pub placed_rules : ℕ → List Pattern → List Rule
+placed_rules a [] = []
+placed_rules a (p ∷ rs) = placed_rule a p ∷ placed_rules (a + length (rule_items (p ∷ []))) rs
 
 -- what a spot says of a bound
 abbrev pub spot_bound : FieldSpot → Option Bound
 spot_bound x = signed x.place x.value
 
--- the spot of a field whose tokens begin at a; ws are the words of rules
-abbrev pub SpotOf : (s ws : List ℕ) → ℕ → FieldSpot → Field → Type 0
+-- the spot of a field whose tokens begin at a; ws are the rules stored
+abbrev pub SpotOf : (s : List ℕ) (ws : List Rule) → ℕ → FieldSpot → Field → Type 0
 SpotOf s ws a x (value n) = x.value ≡ n
 SpotOf s ws a x (bounded b n) = (x.value ≡ n) × (x.place ≡ b)
 SpotOf s ws a x (tree t) = x.place ≡ a
@@ -234,7 +234,7 @@ SpotOf s ws a x (entered es) = (x.value ≡ length es) × (x.place ≡ a) × (x.
 SpotOf s ws a x (received rs) = (x.value ≡ length rs) × (x.place ≡ a) × (x.end ≡ a + length (part_items (receiver_row rs)))
 SpotOf s ws a x (named ps) = (x.value ≡ length ps) × ((after : ℕ) × (parameters s x.value x.place ≡ got ps after))
 SpotOf s ws a x (listed ts) = (x.value ≡ length ts) × (x.place ≡ a) × (x.end ≡ a + length (part_items (argument_row ts)))
-SpotOf s ws a x (ruled rs) = (x.value ≡ length rs) × (6 * length rs ≤ length ws → RulesAt ws 0 a rs)
+SpotOf s ws a x (ruled rs) = (x.value ≡ length rs) × (length rs ≤ length ws → take (length rs) ws ≡ placed_rules a rs)
 
 -- the spot of the i-th field, and the spots with another there
 unfoldable pub spot_at : ℕ → FieldSpots → FieldSpot
@@ -266,11 +266,11 @@ start_at a i [] = a
 start_at a zero (f ∷ fs) = a
 start_at a (suc i) (f ∷ fs) = start_at (a + length (field_items f)) i fs
 
-abbrev pub Spots : (s ws : List ℕ) → ℕ → FieldSpots → List Field → Type 0
+abbrev pub Spots : (s : List ℕ) (ws : List Rule) → ℕ → FieldSpots → List Field → Type 0
 Spots s ws a o fs = (i : ℕ) → i < 5 → SpotOf s ws (start_at a i fs) (spot_at i o) (nth i fs)
 
 -- the fields of a layout, all read and stored, and their spots
-pub record FieldsHere (s ws : List ℕ) (found : Result (List Field)) (p : Place) (d e : Area) (o : FieldSpots) (q : Place) : Type 0 where
+pub record FieldsHere (s : List ℕ) (ws : List Rule) (found : Result (List Field)) (p : Place) (d e : Area) (o : FieldSpots) (q : Place) : Type 0 where
   pub read : List Field
   pub is : found ≡ got read q.at
   pub stored : Stored p q d e (all_items read) (all_nodes read)
@@ -280,7 +280,7 @@ pub record FieldsHere (s ws : List ℕ) (found : Result (List Field)) (p : Place
 -- ---- what the reading functions answer and leave: d are the areas at entry and e at exit
 
 -- tokens that are a field's
-abbrev pub PartDone : (s ws : List ℕ) (count : ℕ) (found : Result Field) (p : Place) (d e : Area) → Step → Type 0
+abbrev pub PartDone : (s : List ℕ) (ws : List Rule) (count : ℕ) (found : Result Field) (p : Place) (d e : Area) → Step → Type 0
 PartDone s ws count found p d e (Next q) =
     (f : Field) × (found ≡ got f q.at) × Stored p q d e (field_items f) (nodes f) × (q.at ≤ length s) × SpotOf s ws p.top (record { value = count; place = p.top; end = q.top }) f
 PartDone s ws count found p d e (Stopped c) = (found ≡ refused c) × (e ≡ d)
@@ -290,17 +290,17 @@ pub data FieldRead : Type 0 where
   Spotted : FieldSpot → Place → FieldRead
   Unread : ℕ → FieldRead
 
-abbrev pub FieldDone : (s ws : List ℕ) (found : Result Field) (p : Place) (d e : Area) → FieldRead → Type 0
+abbrev pub FieldDone : (s : List ℕ) (ws : List Rule) (found : Result Field) (p : Place) (d e : Area) → FieldRead → Type 0
 FieldDone s ws found p d e (Spotted x q) =
     (f : Field) × (found ≡ got f q.at) × Stored p q d e (field_items f) (nodes f) × (q.at ≤ length s) × SpotOf s ws p.top x f
 FieldDone s ws found p d e (Unread c) = (found ≡ refused c) × (e ≡ d)
 
--- a field without tokens, and any but rules: whatever the areas, or the words of rules, are
+-- a field without tokens, and any but rules: whatever the areas, or the rules stored, are
 abbrev pub ReadOnly : (s : List ℕ) (found : Result Field) (p : Place) → FieldRead → Type 0
-ReadOnly s found p r = (ws : List ℕ) (d : Area) → Free p.top d → FieldDone s ws found p d d r
+ReadOnly s found p r = (ws : List Rule) (d : Area) → Free p.top d → FieldDone s ws found p d d r
 
 abbrev pub PlainDone : (s : List ℕ) (found : Result Field) (p : Place) (d e : Area) → FieldRead → Type 0
-PlainDone s found p d e r = (ws : List ℕ) → FieldDone s ws found p d e r
+PlainDone s found p d e r = (ws : List Rule) → FieldDone s ws found p d e r
 
 -- a number as a field
 abbrev pub value_field : (s : List ℕ) (most : ℕ) → Parser Field
@@ -310,13 +310,13 @@ value_field s most = number s most >>= λ n. return (value n)
 abbrev pub list_field : (s : List ℕ) (issued : ℕ) → Sort → Parser Field
 list_field s issued a = number s (ceiling shape.ordinary) >>= λ n. part_of s issued a n
 
--- a rule, and rules: ws are the words
-abbrev pub RuleDone : (found : Result Pattern) (s : List ℕ) (p : Place) (d e : Area) (r : ℕ) (ws us : List ℕ) → Step → Type 0
+-- a rule, and rules: ws are those stored at entry, us at exit
+abbrev pub RuleDone : (found : Result Pattern) (s : List ℕ) (p : Place) (d e : Area) (r : ℕ) (ws us : List Rule) → Step → Type 0
 RuleDone found s p d e r ws us (Next q) =
-    (x : Pattern) × (found ≡ got x q.at) × Stored p q d e (all_items (rule_fields x)) (all_nodes (rule_fields x)) × (q.at ≤ length s) × (us ≡ put_rule ws r (rule_words p.top x))
+    (x : Pattern) × (found ≡ got x q.at) × Stored p q d e (all_items (rule_fields x)) (all_nodes (rule_fields x)) × (q.at ≤ length s) × (us ≡ set ws r (placed_rule p.top x))
 RuleDone found s p d e r ws us (Stopped c) = (found ≡ refused c) × (e ≡ d)
 
-abbrev pub RulesDone : (found : Result (List Pattern)) (s : List ℕ) (p : Place) (d e : Area) (n : ℕ) (us : List ℕ) → Step → Type 0
+abbrev pub RulesDone : (found : Result (List Pattern)) (s : List ℕ) (p : Place) (d e : Area) (n : ℕ) (us : List Rule) → Step → Type 0
 RulesDone found s p d e n us (Next q) =
-    (rs : List Pattern) × (found ≡ got rs q.at) × Stored p q d e (rule_items rs) (rule_nodes rs) × (q.at ≤ length s) × (length rs ≡ n) × (6 * n ≤ length us → RulesAt us 0 p.top rs)
+    (rs : List Pattern) × (found ≡ got rs q.at) × Stored p q d e (rule_items rs) (rule_nodes rs) × (q.at ≤ length s) × (length rs ≡ n) × (length rs ≤ length us → take (length rs) us ≡ placed_rules p.top rs)
 RulesDone found s p d e n us (Stopped c) = (found ≡ refused c) × (e ≡ d)

@@ -1,7 +1,7 @@
 -- The answers of the functions that are lent a place, and what a number is: where there was something to read, the place is after it; else they give the refusal.
 use Rattle.std.specs.Prelude.{◌≡◌, List, ℕ, Ok, Err}
 use Rattle.std.specs.declared.result.Result as rust
-use Rattle.solver.specs.TermTypes.{Place, Refusal}
+use Rattle.solver.specs.TermTypes.{Place, Refusal, Rule}
 use Rattle.solver.specs.Terms.Result.{Result, got, refused, number_of}
 use Rattle.solver.specs.Terms.Number.{number}
 use Rattle.solver.specs.Terms.Shape as shape
@@ -18,7 +18,7 @@ field_of (Ok x) p = Spotted x p
 field_of (Err e) p = Unread (number_of e)
 
 -- the fields of a layout, or the refusal, and then the areas are as they were
-abbrev pub LayoutDone : (s ws : List ℕ) (found : Result (List Field)) (p : Place) (d e : Area) → rust.Result FieldSpots Refusal → Place → Type 0
+abbrev pub LayoutDone : (s : List ℕ) (ws : List Rule) (found : Result (List Field)) (p : Place) (d e : Area) → rust.Result FieldSpots Refusal → Place → Type 0
 LayoutDone s ws found p d e (Ok o) q = FieldsHere s ws found p d e o q
 LayoutDone s ws found p d e (Err r) q = (found ≡ refused (number_of r)) × (e ≡ d)
 

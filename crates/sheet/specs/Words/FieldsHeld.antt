@@ -1,17 +1,18 @@
--- The fields of an order as the areas, the order's bytes and the words of its rules hold them.
-use Rattle.std.specs.Prelude.{List, ◌≡◌, ℕ, ◌*◌, ◌≤◌, length, take}
+-- The fields of an order as the areas, the order's bytes and its rules hold them.
+use Rattle.std.specs.Prelude.{List, ◌≡◌, ℕ, ◌≤◌, length, take}
 use Rattle.solver.specs.Terms.Result.{got}
 use Rattle.solver.specs.Terms.Term.{node, Held}
 use Rattle.solver.specs.Terms.Held.{HeldParts}
 use Rattle.solver.specs.Terms.Rows.{entry_row, receiver_row, argument_row}
 use Rattle.solver.specs.Terms.Parameters.{parameters}
 use Rattle.solver.specs.Terms.Lookup.{Ruled}
+use Rattle.solver.specs.TermTypes.{Rule}
 use Rattle.sheet.specs.declared.FieldSpot.{FieldSpot}
 use Rattle.sheet.specs.declared.FieldSpots.{FieldSpots}
 use Rattle.sheet.specs.Fields.{Field, value, bounded, tree, bare, entered, received, named, listed, ruled, nth}
 
--- s is the order's bytes, ws the words of its rules, six a rule
-abbrev pub HeldField : (ks vs s ws : List ℕ) → FieldSpot → Field → Type 0
+-- s is the order's bytes, ws are its rules
+abbrev pub HeldField : (ks vs s : List ℕ) (ws : List Rule) → FieldSpot → Field → Type 0
 HeldField ks vs s ws x (value n) = x.value ≡ n
 HeldField ks vs s ws x (bounded b n) = (x.value ≡ n) × (x.place ≡ b)
 HeldField ks vs s ws x (tree t) = Held ks vs x.place t
@@ -20,7 +21,7 @@ HeldField ks vs s ws x (entered es) = (x.value ≡ length es) × HeldParts ks vs
 HeldField ks vs s ws x (received rs) = (x.value ≡ length rs) × HeldParts ks vs x.place x.end (receiver_row rs)
 HeldField ks vs s ws x (named ps) = (x.value ≡ length ps) × ((after : ℕ) × (parameters s x.value x.place ≡ got ps after))
 HeldField ks vs s ws x (listed ts) = (x.value ≡ length ts) × HeldParts ks vs x.place x.end (argument_row ts)
-HeldField ks vs s ws x (ruled rs) = (x.value ≡ length rs) × (6 * x.value ≤ length ws) × Ruled ks vs (take (6 * x.value) ws) 0 rs
+HeldField ks vs s ws x (ruled rs) = (x.value ≡ length rs) × (x.value ≤ length ws) × Ruled ks vs (take x.value ws) rs
 
 -- what stands after entries, their receivers, begins where they end
 abbrev pub Follows : Field → FieldSpot → FieldSpot → Type 0
@@ -35,7 +36,7 @@ Follows (listed ts) x y = Unit {0}
 Follows (ruled rs) x y = Unit {0}
 
 -- fields that an order has not are value 0, and so are their spots
-pub record HeldFields (ks vs s ws : List ℕ) (o : FieldSpots) (fs : List Field) : Type 0 where
+pub record HeldFields (ks vs s : List ℕ) (ws : List Rule) (o : FieldSpots) (fs : List Field) : Type 0 where
   pub first : HeldField ks vs s ws o.first (nth 0 fs)
   pub second : HeldField ks vs s ws o.second (nth 1 fs)
   pub third : HeldField ks vs s ws o.third (nth 2 fs)

@@ -1,6 +1,6 @@
 -- What the functions that answer orders 9 to 20 ask and promise.
 use Rattle.std.specs.Prelude.{◌≡◌, false, List, ℕ, length}
-use Rattle.solver.specs.TermTypes.{Binders, Parameter}
+use Rattle.solver.specs.TermTypes.{Binders, Parameter, Rule}
 use Rattle.solver.specs.Terms.Term.{Term, Parts, node, Held}
 use Rattle.solver.specs.Terms.Held.{HeldParts}
 use Rattle.solver.specs.Terms.Shape as shape
@@ -19,20 +19,20 @@ use Rattle.sheet.specs.Words.OrderGiven.{Given}
 -- ---- an order
 
 -- an order is given, whose row is k
-pub record Asks (ks vs s ws : List ℕ) (k : Row) (o : FieldSpots) : Type 0 where
+pub record Asks (ks vs s : List ℕ) (ws : List Rule) (k : Row) (o : FieldSpots) : Type 0 where
   pub known : ℕ
   pub fields : List Field
   pub given : Given ks vs s ws known k o fields
 
 -- whatever it is given as, W holds of its answer
-pub record Replies (ks vs s ws : List ℕ) (k : Row) (o : FieldSpots) (W : Answer → Type 0) : Type 0 where
+pub record Replies (ks vs s : List ℕ) (ws : List Rule) (k : Row) (o : FieldSpots) (W : Answer → Type 0) : Type 0 where
   pub says : (known : ℕ) (fs : List Field) → Given ks vs s ws known k o fs → W (operation k fs)
 
--- the same of what is posed; ws are the words of its rules
-abbrev pub IsPosed : Posed → List ℕ → Row → Type 0
+-- the same of what is posed; ws are its rules
+abbrev pub IsPosed : Posed → List Rule → Row → Type 0
 IsPosed p ws k = Asks p.tokens.kinds.now p.tokens.vals.now p.bytes.now ws k p.fields
 
-abbrev pub RepliesTo : Posed → List ℕ → Row → (Answer → Type 0) → Type 0
+abbrev pub RepliesTo : Posed → List Rule → Row → (Answer → Type 0) → Type 0
 RepliesTo p ws k W = Replies p.tokens.kinds.now p.tokens.vals.now p.bytes.now ws k p.fields W
 
 -- ---- terms at places
@@ -65,8 +65,8 @@ pub record Associates (ks vs : List ℕ) (p i o : ℕ) (t : Term) (ps : Parts) (
   pub owner_formed : Formed owner
 
 -- order 20: rules and a term
-pub record Normalises (ks vs ws : List ℕ) (p : ℕ) (rs : List Pattern) (t : Term) : Type 0 where
-  pub rules : Ruled ks vs ws 0 rs
+pub record Normalises (ks vs : List ℕ) (ws : List Rule) (p : ℕ) (rs : List Pattern) (t : Term) : Type 0 where
+  pub rules : Ruled ks vs ws rs
   pub term : Held ks vs p t
   pub rules_formed : FormedPatterns rs
   pub term_formed : Formed t

@@ -1,6 +1,6 @@
 -- An order that was read: its fields are of the sorts that its kind asks, their terms are formed, and all of them are held.
 use Rattle.std.specs.Prelude.{◌≡◌, List, [], ◌∷◌, ℕ, ◌<◌}
-use Rattle.solver.specs.TermTypes.{Parameter}
+use Rattle.solver.specs.TermTypes.{Parameter, Rule}
 use Rattle.solver.specs.Terms.Term.{Term, Parts}
 use Rattle.solver.specs.Terms.Substitution.{Entry, Receiver}
 use Rattle.solver.specs.Terms.Lookup.{Pattern}
@@ -33,7 +33,7 @@ FitsLayout (a ∷ l) [] = ⊥
 FitsLayout (a ∷ l) (f ∷ fs) = OfSort a f × FitsLayout l fs
 
 -- an order whose row is k and whose variables are below `known`
-pub record Given (ks vs s ws : List ℕ) (known : ℕ) (k : Row) (o : FieldSpots) (fs : List Field) : Type 0 where
+pub record Given (ks vs s : List ℕ) (ws : List Rule) (known : ℕ) (k : Row) (o : FieldSpots) (fs : List Field) : Type 0 where
   pub held : HeldFields ks vs s ws o fs
   pub formed : FormedFields known fs
   pub fits : FitsLayout (layout k) fs

@@ -2,7 +2,7 @@
 use Rattle.std.specs.Prelude.{Ok, Err, List, ◌⊎◌, ◌≡◌, ℕ, ◌+◌, ◌-◌, ◌*◌, ◌^◌, ◌≤◌, ◌<◌, length, get_or}
 use Rattle.std.specs.declared.result.Result as rust
 use Rattle.std.proofs.Math.Option.{some}
-use Rattle.solver.specs.TermTypes.{Refusal}
+use Rattle.solver.specs.TermTypes.{Refusal, Rule}
 use Rattle.solver.specs.Terms.Result.{got, refused, number_of}
 use Rattle.solver.specs.Terms.Tokens.{Area, area, puts, blank, before, toks}
 use Rattle.sheet.specs.declared.Order.{Order}
@@ -15,25 +15,25 @@ use Rattle.sheet.specs.Words.FieldsHeld.{HeldFields}
 use Rattle.sheet.specs.Words.OrderGiven.{FitsLayout}
 use Rattle.sheet.specs.Words.FieldLayout.{all_items, Free, Spots, spares}
 
--- the words have room for the rules of an order: three for each of n nodes, or six for each rule where one byte says how many there are
-abbrev pub RulesRoom : (s ws : List ℕ) → ℕ → Type 0
-RulesRoom s ws n = (3 * n ≤ length ws) ⊎ ((get_or s 1 0 < 128) × (6 * get_or s 1 0 ≤ length ws))
+-- there is room for the rules of an order: one for two of n nodes, or as many as there are where one byte says how many
+abbrev pub RulesRoom : (s : List ℕ) (ws : List Rule) → ℕ → Type 0
+RulesRoom s ws n = (n ≤ 2 * length ws) ⊎ ((get_or s 1 0 < 128) × (get_or s 1 0 ≤ length ws))
 
 -- The bytes are not too many, and the areas hold nothing from `top` on. `kept` nodes are kept; for each more, up to the limit, there is room for six tokens,
 -- and for eight in all besides, and where the order may have rules (its first byte is 20)
--- for the words of them.
-pub record OrderRoom (s ks vs ws : List ℕ) (top kept limit : ℕ) : Type 0 where
+-- for these.
+pub record OrderRoom (s ks vs : List ℕ) (ws : List Rule) (top kept limit : ℕ) : Type 0 where
   pub bytes : length s ≤ 16777216
   pub within : kept ≤ limit
   pub tokens : top + 6 * (limit - kept) + 8 ≤ length ks
   pub paired : length vs ≡ length ks
-  pub words : get_or s 0 0 ≡ 20 → RulesRoom s ws (limit - kept)
+  pub rules : get_or s 0 0 ≡ 20 → RulesRoom s ws (limit - kept)
   pub short : length ks ≤ 2147483648
   pub few : limit ≤ 2147483648
   pub free : Free top (area ks vs)
 
 -- d are the areas before, e after, and ws the words of rules after
-pub record WholeOrder (s : List ℕ) (issued top kept limit : ℕ) (d e : Area) (ws : List ℕ) (o : Order) : Type 0 where
+pub record WholeOrder (s : List ℕ) (issued top kept limit : ℕ) (d e : Area) (ws : List Rule) (o : Order) : Type 0 where
   -- its number is that of its kind
   pub numbered : row_in table (get_or s 0 0) ≡ some (kind_row o.kind)
   -- what it says
@@ -59,6 +59,6 @@ pub record WholeOrder (s : List ℕ) (issued top kept limit : ℕ) (d e : Area) 
   pub free : Free o.top e
   pub cleared : blank e top (o.top - top) ≡ d
 
-abbrev pub OrderDone : (s : List ℕ) (issued top kept limit : ℕ) (d e : Area) (ws : List ℕ) → rust.Result Order Refusal → Type 0
+abbrev pub OrderDone : (s : List ℕ) (issued top kept limit : ℕ) (d e : Area) (ws : List Rule) → rust.Result Order Refusal → Type 0
 OrderDone s issued top kept limit d e ws (Ok o) = WholeOrder s issued top kept limit d e ws o
 OrderDone s issued top kept limit d e ws (Err r) = (read_order s issued ≡ refused (number_of r)) × (e ≡ d)

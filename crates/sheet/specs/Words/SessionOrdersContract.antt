@@ -4,6 +4,7 @@ use Rattle.std.proofs.Math.Option.{some}
 use Rattle.solver.specs.declared.Solver.{Solver}
 use Rattle.solver.specs.declared.Site.{Site}
 use Rattle.solver.specs.declared.Site.TheVariants as place
+use Rattle.solver.specs.TermTypes.{Rule}
 use Rattle.sheet.specs.declared.VariableOrder.{VariableOrder}
 use Rattle.sheet.specs.declared.VariableOrder.TheVariants.{Slot, Number, Hole}
 use Rattle.sheet.specs.declared.TermlessOrder.{TermlessOrder}
@@ -42,7 +43,7 @@ pub record Does (m : Lent) (y : Solver) (us : List ℕ) (z : Session) (st : Step
   pub beside : Beside m.counters y m.table us
 
 -- whatever an order whose row is k is given as, it tells the session the command c
-pub record Says (ks vs s ws : List ℕ) (k : Row) (o : FieldSpots) (c : Command) : Type 0 where
+pub record Says (ks vs s : List ℕ) (ws : List Rule) (k : Row) (o : FieldSpots) (c : Command) : Type 0 where
   pub says : (known : ℕ) (fs : List Field) → Given ks vs s ws known k o fs → command_of k fs ≡ some c
 
 -- orders 0, 1, 2 and 21: their commands

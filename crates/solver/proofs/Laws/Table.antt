@@ -7,7 +7,6 @@
 --   AdmitLaws           what a number variable may be bound to, by tokens and words; a binding made
 --   OrderTermLaws       terms after the tokens of a session; where resolving begins
 --   SessionsLaws        a session alone in its areas: fresh, and cleared
---   RuleWordLaws        the words of a rule, stored
 pub mod ColumnLaws
 pub mod RequestWordLaws
 pub mod RepresentationLaws
@@ -16,4 +15,3 @@ pub mod ChainLaws
 pub mod AdmitLaws
 pub mod OrderTermLaws
 pub mod SessionsLaws
-pub mod RuleWordLaws

@@ -3,8 +3,9 @@
 use Rattle.std.specs.Prelude.{Bool, true, List, ◌≡◌, ℕ, ◌+◌, ◌≤◌, ◌<◌, length, get_or, take, drop}
 use Rattle.std.proofs.Math.Option.{Option}
 use Rattle.terms.specs.Term.{Term, Parts, var, node, end, num, sub, Held}
+use Rattle.solver.specs.declared.Bindings.{Bindings}
 use Rattle.solver.specs.Constrain.{replace, replace_row, resolve, follow}
-use Rattle.solver.specs.Words.Bindings.{HeldBindings}
+use Rattle.solver.specs.Words.Lent.{Binds}
 use Rattle.solver.specs.Words.ReachContract.{Steady, Topped}
 use Rattle.solver.specs.Words.SessionRepresentation.{begins}
 
@@ -62,11 +63,11 @@ pub data Up (par : List ℕ) : ℕ → ℕ → Type 0 where
 
 -- ---- what the words say of the terms
 
--- the areas and the table hold bindings that n steps follow to the end
-pub record HeldSteady (ks vs bs : List ℕ) (n : ℕ) (b : ℕ → Option Term) : Type 0 where
-  pub held : HeldBindings ks vs bs b
-  pub steady : Steady n b
-  pub topped : Topped n b
+-- the lent bindings are b, and their number of steps follows b to the end
+pub record HeldSteady (x : Bindings) (b : ℕ → Option Term) : Type 0 where
+  pub held : Binds x b
+  pub steady : Steady x.most b
+  pub topped : Topped x.most b
 
 -- what a variable resolves to
 abbrev pub stands_for : ℕ → (ℕ → Option Term) → ℕ → Term
@@ -122,18 +123,22 @@ pub record Outcome (ks vs : List ℕ) (σ : ℕ → Term) (par par' : List ℕ) 
   pub yes : equal ≡ true → J
   pub honest : Honest ks vs σ par → E → (equal ≡ true) × Honest ks vs σ par'
 
--- what a join tells where n steps follow the bindings b to the end, the links being in an area that was `work`: of two terms, and of two rows
-abbrev pub TermsJoined : (ks vs : List ℕ) (n : ℕ) (b : ℕ → Option Term) (work work' : List ℕ) (equal : Bool) (t u : Term) → Type 0
-TermsJoined ks vs n b work work' equal t u =
+-- what a join tells by the lent bindings, which are b, the links being in an area that was `work`: of two terms, and of two rows
+abbrev pub TermsJoined : (x : Bindings) (b : ℕ → Option Term) (work work' : List ℕ) (equal : Bool) (t u : Term) → Type 0
+TermsJoined x b work work' equal t u =
+    let ks = x.tokens.kinds.now in
+    let vs = x.tokens.vals.now in
     Fair ks vs (link_words ks work)
-    → Outcome ks vs (stands_for n b) (link_words ks work) (link_words ks work') equal (Linked ks vs (follow n b) (link_words ks work') t u)
-    (Coincide (stands_for n b) t u)
+    → Outcome ks vs (stands_for x.most b) (link_words ks work) (link_words ks work') equal (Linked ks vs (follow x.most b) (link_words ks work') t u)
+    (Coincide (stands_for x.most b) t u)
 
-abbrev pub RowsJoined : (ks vs : List ℕ) (n : ℕ) (b : ℕ → Option Term) (work work' : List ℕ) (equal : Bool) (ps qs : Parts) → Type 0
-RowsJoined ks vs n b work work' equal ps qs =
+abbrev pub RowsJoined : (x : Bindings) (b : ℕ → Option Term) (work work' : List ℕ) (equal : Bool) (ps qs : Parts) → Type 0
+RowsJoined x b work work' equal ps qs =
+    let ks = x.tokens.kinds.now in
+    let vs = x.tokens.vals.now in
     Fair ks vs (link_words ks work)
-    → Outcome ks vs (stands_for n b) (link_words ks work) (link_words ks work') equal (Pairwise (Linked ks vs (follow n b) (link_words ks work')) ps qs)
-    (CoincideRow (stands_for n b) ps qs)
+    → Outcome ks vs (stands_for x.most b) (link_words ks work) (link_words ks work') equal
+    (Pairwise (Linked ks vs (follow x.most b) (link_words ks work')) ps qs) (CoincideRow (stands_for x.most b) ps qs)
 
 -- the parts of the nodes at x and y have been joined
 pub record Matched (ks vs : List ℕ) (τ : Term → Term) (par : List ℕ) (x y : ℕ) : Type 0 where

@@ -10,11 +10,12 @@ use Rattle.terms.specs.Words.Held.{span}
 use Rattle.terms.specs.Words.TokenBytes.{plain}
 use Rattle.terms.specs.Shape.{kind_of}
 use Rattle.terms.specs.Reading.{code, row, kinded, term}
+use Rattle.terms.specs.declared.Parameters.{Parameters}
 use Rattle.terms.specs.Questions.{same_parameter}
-use Rattle.terms.specs.Parameters.{parameter, parameters, last_from, last_index}
+use Rattle.terms.specs.Parameters.{parameter, parameters, listed, last_from, last_index}
 use Rattle.terms.specs.Rows.{entries, entry_row, receiver_row}
 use Rattle.terms.specs.Words.FindContract.{clip, last_at, nth_at}
-use Rattle.terms.specs.Words.RewriteContract.{self, generic, in_context_of, chosen, piece, pace, pieces, written, for_instance, for_context, for_family}
+use Rattle.terms.specs.Words.RewriteContract.{self_for, generic, generic_for, in_context_of, chosen, piece, pace, pieces, written, for_instance, for_context, for_family}
 use Rattle.std.specs.Prelude.{Some, None}
 
 abbrev i32 : Term
@@ -70,17 +71,23 @@ vals [] = []
 vals (item k v ∷ l) = v ∷ vals l
 
 -- the entries stand from 0 to 9, the receivers from there to 12, the term after them
-instantiated : written (kinds held) (vals held) [] (for_instance 0 9 12) 12 ≡ bytes (pair (generic' 1 1) i32)
-unfolding kinds vals items entry_row receiver_row bytes plain shortest digits spell clip span last_at nth_at parameters last_from self generic in_context_of chosen piece pace pieces
+instantiated : written (kinds held) (vals held) (for_instance 0 9 12) 12 ≡ bytes (pair (generic' 1 1) i32)
+unfolding kinds vals items entry_row receiver_row bytes plain shortest digits spell clip span last_at nth_at self_for generic_for chosen piece pace pieces
 instantiated = refl
 
--- in a context the receivers are not looked at; a parameter that has no entry becomes Unknown
-in_context : (written (kinds held) (vals held) (1 ∷ 0 ∷ []) (for_context 0 9 0 1) 12 ≡ bytes (pair (generic' 1 1) (self' 5)))
-    × (written (kinds held) (vals held) (1 ∷ 0 ∷ []) (for_context 0 0 0 1) 12 ≡ bytes (pair (node 2 end) (self' 5)))
-unfolding kinds vals items entry_row receiver_row bytes plain shortest digits spell clip span last_at nth_at parameters parameter groups last_from same_parameter self generic in_context_of chosen piece pace pieces
-in_context = (refl, refl)
+-- the bytes have the parameter (1, 0)
+one_parameter : parameters (1 ∷ 0 ∷ []) 1 0 ≡ got (record { owner = 1; position = 0 } ∷ []) 2
+unfolding parameters parameter groups
+one_parameter = refl
 
--- a family's argument, here the I32 at 10, comes before the entries
-applied : written (kinds held) (vals held) (1 ∷ 0 ∷ []) (for_family 0 9 12 0 1 10) 12 ≡ bytes (pair i32 i32)
-unfolding kinds vals items entry_row receiver_row bytes plain shortest digits spell clip span last_at nth_at parameters parameter groups last_from same_parameter self generic in_context_of chosen piece pace pieces
-applied = refl
+module _ (l : Parameters) (e : listed l ≡ got (record { owner = 1; position = 0 } ∷ []) 2) where
+  -- in a context the receivers are not looked at; a parameter that has no entry becomes Unknown
+  in_context : (written (kinds held) (vals held) (for_context 0 9 l) 12 ≡ bytes (pair (generic' 1 1) (self' 5)))
+      × (written (kinds held) (vals held) (for_context 0 0 l) 12 ≡ bytes (pair (node 2 end) (self' 5)))
+  unfolding kinds vals items entry_row receiver_row bytes plain shortest digits spell clip span last_at nth_at parameters parameter groups last_from same_parameter self_for generic_for in_context_of chosen piece pace pieces
+  in_context = (refl, rw e refl)
+
+  -- a family's argument, here the I32 at 10, comes before the entries
+  applied : written (kinds held) (vals held) (for_family 0 9 12 l 10) 12 ≡ bytes (pair i32 i32)
+  unfolding kinds vals items entry_row receiver_row bytes plain shortest digits spell clip span last_at nth_at parameters parameter groups last_from same_parameter self_for generic_for generic chosen piece pace pieces
+  applied = rw e refl

@@ -3,6 +3,7 @@ use Rattle.std.specs.Prelude.{◌≡◌, Bool, List, ℕ, ◌+◌, ◌≤◌, �
 use Rattle.terms.specs.declared.Origin.{Origin}
 use Rattle.terms.specs.declared.Content.{Content}
 use Rattle.terms.specs.declared.Ready.{Ready}
+use Rattle.terms.specs.declared.Rule.{Rule}
 use Rattle.terms.specs.declared.Unfinished.{Unfinished}
 use Rattle.terms.specs.declared.Unfinished.TheVariants.{TooMany, TooLong}
 use Rattle.terms.specs.Result.{pick}
@@ -54,12 +55,12 @@ pub record Leaves (ks vs hs₀ cs₀ hs cs : List ℕ) (most : ℕ) (r : Result 
   pub same : (answer_number r ≡ 0 → ⊥) → (hs ≡ hs₀) × (cs ≡ cs₀)
   pub records : Records ks vs hs₀ cs₀ hs cs most r
 
--- order 20: a term at p, and rules in words
-pub record RuledAt (ks vs ws : List ℕ) (p : ℕ) : Type 0 where
+-- order 20: a term at p, and rules
+pub record RuledAt (ks vs : List ℕ) (ws : List Rule) (p : ℕ) : Type 0 where
   pub term : Term
   pub patterns : List Pattern
   pub held : Held ks vs p term
-  pub ruled : Ruled ks vs ws 0 patterns
+  pub ruled : Ruled ks vs ws patterns
 
 -- order 19: a term at p, an interface at i and an owner at o
 pub record OwnedAt (ks vs : List ℕ) (p i o : ℕ) : Type 0 where

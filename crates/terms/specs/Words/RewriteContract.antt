@@ -12,10 +12,14 @@ use Rattle.terms.specs.Formed.{Formed}
 use Rattle.terms.specs.Words.Held.{Held, HeldParts}
 use Rattle.terms.specs.Tree.{unknown}
 use Rattle.terms.specs.Words.TokenBytes.{spelt}
+use Rattle.terms.specs.declared.Parameters.{Parameters}
+use Rattle.terms.specs.declared.Part.{Part}
+use Rattle.terms.specs.declared.Purpose.{Purpose}
+use Rattle.terms.specs.declared.Purpose.TheVariants.{Instance, Context, Family}
 use Rattle.terms.specs.Questions.{Parameter}
 use Rattle.terms.specs.Substitution.{Entry, Receiver, instantiate, argument_context, with_self, apply}
 use Rattle.terms.specs.Rows.{entry_row, receiver_row, argument_row}
-use Rattle.terms.specs.Parameters.{parameters, index_in, is_found}
+use Rattle.terms.specs.Parameters.{listed, index_in, is_found}
 use Rattle.terms.specs.Words.FindContract.{stride, entry_at, receiver_at, argument_for}
 
 -- ---- what takes the place of the term at p
@@ -25,21 +29,37 @@ by (Some q) c = By q
 by None c = c
 
 -- the index of a parameter
-abbrev pub index : List ℕ → Binders → Parameter → Option ℕ
-index s b p = index_in (parameters s b.count b.parameters) p
+abbrev pub index : Parameters → Parameter → Option ℕ
+index l p = index_in (listed l) p
 
--- a SelfType: by a receiver, but in `argument_context` by nothing
-unfoldable pub self : List ℕ → List ℕ → Binders → ℕ → Choice
-self ks vs b o = pick b.context Keep (by (receiver_at ks vs b.receivers b.finish o) Keep)
+-- whether it is `argument_context`
+abbrev pub is_context : Purpose → Bool
+is_context Instance = false
+is_context (Context l) = true
+is_context (Family l a) = false
 
-module _ (ks vs s : List ℕ) (b : Binders) where
-  -- a Generic in `instantiate` and in `apply`: an argument for a parameter comes before an entry
-  unfoldable pub generic : Parameter → Choice
-  generic p = by (argument_for ks vs b.arguments (index s b p)) (by (entry_at ks vs b.entries b.receivers p.owner p.position) Keep)
+module _ (ks vs : List ℕ) (b : Binders) where
+  -- a SelfType: by a receiver, but in `argument_context` by nothing
+  unfoldable pub self_for : ℕ → Choice
+  self_for o = pick (is_context b.purpose) Keep (by (receiver_at ks vs b.receivers b.finish o) Keep)
+
+  -- the term of an entry
+  abbrev pub entry_for : Parameter → Option ℕ
+  entry_for p = entry_at ks vs b.entries b.receivers p.owner p.position
+
+  -- a Generic in `apply`, with the arguments from a place on: an argument for a parameter comes before an entry
+  unfoldable pub generic : Parameters → ℕ → Parameter → Choice
+  generic l a p = by (argument_for ks vs a (index l p)) (by (entry_for p) Keep)
 
   -- a Generic in `argument_context`: an entry, else Unknown for a parameter
-  unfoldable pub in_context_of : Parameter → Choice
-  in_context_of p = by (entry_at ks vs b.entries b.receivers p.owner p.position) (pick (is_found (index s b p)) Unknown Keep)
+  unfoldable pub in_context_of : Parameters → Parameter → Choice
+  in_context_of l p = by (entry_for p) (pick (is_found (index l p)) Unknown Keep)
+
+  -- a Generic, in `instantiate` too: an entry
+  unfoldable pub generic_for : Purpose → Parameter → Choice
+  generic_for Instance p = by (entry_for p) Keep
+  generic_for (Context l) p = in_context_of l p
+  generic_for (Family l a) p = generic l a p
 
   -- the parameter that a Generic names
   abbrev pub named_at : ℕ → Parameter
@@ -48,8 +68,7 @@ module _ (ks vs s : List ℕ) (b : Binders) where
   -- the head of a Generic has the kind 19, that of a SelfType 21
   unfoldable pub chosen : ℕ → Choice
   chosen p =
-      pick (eqb (get_or ks p 0) 19) (pick b.context (in_context_of (named_at p)) (generic (named_at p)))
-      (pick (eqb (get_or ks p 0) 21) (self ks vs b (get_or vs (p + 1) 0)) Keep)
+      pick (eqb (get_or ks p 0) 19) (generic_for b.purpose (named_at p)) (pick (eqb (get_or ks p 0) 21) (self_for (get_or vs (p + 1) 0)) Keep)
 
 -- ---- what is written
 
@@ -71,14 +90,14 @@ module _ (ks vs : List ℕ) where
   pieces f zero p e = []
   pieces f (suc fuel) p e = pick (ltb p e) (piece p (f p) ++ pieces f fuel (p + pace p e (f p)) e) []
 
--- the c tokens from a on
-abbrev pub rewritten : (ks vs s : List ℕ) → Binders → ℕ → ℕ → List ℕ
-rewritten ks vs s b a c = pieces ks vs (chosen ks vs s b) (a + c - a) a (a + c)
+-- the tokens of a part
+abbrev pub rewritten : (ks vs : List ℕ) → Binders → Part → List ℕ
+rewritten ks vs b p = pieces ks vs (chosen ks vs b) (p.end - p.from) p.from p.end
 
 -- ---- contracts
 
 -- the rows are within the areas, which have as many values as kinds
-pub record Ready (ks vs : List ℕ) (b : Binders) : Type 0 where
+pub record RowsWithin (ks vs : List ℕ) (b : Binders) : Type 0 where
   pub entries : b.receivers ≤ length ks
   pub receivers : b.finish ≤ length ks
   pub long : length vs ≡ length ks
@@ -100,16 +119,21 @@ Agrees ks vs Keep o = o ≡ none
 Agrees ks vs (By q) o = (u : Term) × (o ≡ some u) × Held ks vs q u
 Agrees ks vs Unknown o = o ≡ some unknown
 
+-- the parameters ps stand in the bytes
+abbrev pub Named : Purpose → List Parameter → Type 0
+Named Instance ps = ps ≡ []
+Named (Context l) ps = (n : ℕ) × (listed l ≡ got ps n)
+Named (Family l a) ps = (n : ℕ) × (listed l ≡ got ps n)
+
 -- The areas hold the rows of a substitution with the entries es and the receivers rs, and the bytes the parameters ps.
-pub record HeldBinders (ks vs s : List ℕ) (b : Binders) (es : List Entry) (rs : List Receiver) (ps : List Parameter) : Type 0 where
+pub record HeldBinders (ks vs : List ℕ) (b : Binders) (es : List Entry) (rs : List Receiver) (ps : List Parameter) : Type 0 where
   pub entries : HeldParts ks vs b.entries b.receivers (entry_row es)
   pub receivers : HeldParts ks vs b.receivers b.finish (receiver_row rs)
-  pub after : ℕ
-  pub parameters : parameters s b.count b.parameters ≡ got ps after
+  pub parameters : Named b.purpose ps
 
 -- the term at a place
-abbrev pub written : (ks vs s : List ℕ) → Binders → ℕ → List ℕ
-written ks vs s b a = rewritten ks vs s b a (stride ks vs a (length ks - a))
+abbrev pub written : (ks vs : List ℕ) → Binders → ℕ → List ℕ
+written ks vs b a = rewritten ks vs b (record { from = a; end = a + stride ks vs a (length ks - a) })
 
 -- The bytes x were written at a position, or counted: the position after them, and what was written.
 pub record Writes (on : Bool) (out : List ℕ) (at r : ℕ) (out' : List ℕ) (x : List ℕ) : Type 0 where
@@ -118,25 +142,26 @@ pub record Writes (on : Bool) (out : List ℕ) (at r : ℕ) (out' : List ℕ) (x
 
 -- The uses, on trees. Where the areas hold a formed term t at a place, and the binders, W holds of the bytes of t after the operation. For `apply` that is
 -- where it gives a term: where the arguments are not as many as the parameters, nothing is to be written.
-pub record Rewrites (ks vs s : List ℕ) (b : Binders) (a : ℕ) (W : List ℕ → Type 0) : Type 0 where
-  pub instantiated : (t : Term) (es : List Entry) (rs : List Receiver) → Formed t → Held ks vs a t → HeldBinders ks vs s b es rs [] → b.context ≡ false
+pub record Rewrites (ks vs : List ℕ) (b : Binders) (a : ℕ) (W : List ℕ → Type 0) : Type 0 where
+  pub instantiated : (t : Term) (es : List Entry) (rs : List Receiver) → Formed t → Held ks vs a t → HeldBinders ks vs b es rs [] → is_context b.purpose ≡ false
       → W (bytes (instantiate (record { parameters = es; receivers = rs }) t))
-  pub in_context : (t : Term) (es : List Entry) (rs : List Receiver) (ps : List Parameter) → Formed t → Held ks vs a t → HeldBinders ks vs s b es rs ps → b.context ≡ true
-      → W (bytes (argument_context (record { parameters = es; receivers = rs }) ps t))
-  pub with_self : (t : Term) (owner : ℕ) (u : Term) → Formed t → Held ks vs a t → HeldBinders ks vs s b [] (record { owner = owner; term = u } ∷ []) [] → b.context ≡ false
-      → W (bytes (with_self owner u t))
-  pub applied : (t : Term) (es : List Entry) (rs : List Receiver) (ps : List Parameter) (ts : List Term) (e : ℕ) (u : Term) → Formed t → Held ks vs a t → HeldBinders ks vs s b es rs ps
-      → HeldParts ks vs b.arguments e (argument_row ts) → b.context ≡ false → apply ps t (record { parameters = es; receivers = rs }) ts ≡ some u → W (bytes u)
+  pub in_context : (t : Term) (es : List Entry) (rs : List Receiver) (ps : List Parameter) → Formed t → Held ks vs a t → HeldBinders ks vs b es rs ps
+      → is_context b.purpose ≡ true → W (bytes (argument_context (record { parameters = es; receivers = rs }) ps t))
+  pub with_self : (t : Term) (owner : ℕ) (u : Term) → Formed t → Held ks vs a t → HeldBinders ks vs b [] (record { owner = owner; term = u } ∷ []) []
+      → is_context b.purpose ≡ false → W (bytes (with_self owner u t))
+  pub applied : (t : Term) (es : List Entry) (rs : List Receiver) (ps : List Parameter) (ts : List Term) (l : Parameters) (i e : ℕ) (u : Term) → Formed t → Held ks vs a t
+      → HeldBinders ks vs b es rs ps → HeldParts ks vs i e (argument_row ts) → b.purpose ≡ Family l i
+      → apply ps t (record { parameters = es; receivers = rs }) ts ≡ some u → W (bytes u)
 
 -- ---- the binders of each use
 
-abbrev pub for_family : (entries receivers finish parameters count arguments : ℕ) → Binders
-for_family e r f p n a = record { context = false; entries = e; receivers = r; finish = f; parameters = p; count = n; arguments = a }
+abbrev pub for_family : (entries receivers finish : ℕ) → Parameters → (arguments : ℕ) → Binders
+for_family e r f l a = record { entries = e; receivers = r; finish = f; purpose = Family l a }
 
 -- no parameters
 abbrev pub for_instance : (entries receivers finish : ℕ) → Binders
-for_instance e r f = for_family e r f 0 0 0
+for_instance e r f = record { entries = e; receivers = r; finish = f; purpose = Instance }
 
 -- no receivers
-abbrev pub for_context : (entries receivers parameters count : ℕ) → Binders
-for_context e r p n = record { context = true; entries = e; receivers = r; finish = r; parameters = p; count = n; arguments = 0 }
+abbrev pub for_context : (entries receivers : ℕ) → Parameters → Binders
+for_context e r l = record { entries = e; receivers = r; finish = r; purpose = Context l }

@@ -1,5 +1,5 @@
 -- The pieces in which the code reads a plain row: the laws say that the pieces one after another are the row.
-use Rattle.std.specs.Prelude.{ℕ, zero, suc, Bool, not, ◌&&◌, List, eqb}
+use Rattle.std.specs.Prelude.{ℕ, Bool, Option, Some, None, not, ◌&&◌, List, eqb}
 use Rattle.terms.specs.declared.Fields.{Fields}
 use Rattle.terms.specs.Parser.{Parser, pick, ◌>>=◌, return, number}
 use Rattle.terms.specs.Term.{Term, Parts, end, num}
@@ -11,10 +11,10 @@ abbrev pub termless : Fields → Bool
 termless f = not f.counted && eqb f.terms 0
 
 module _ (s : List ℕ) where
-  -- a code below `codes`, or nothing where that is 0
-  unfoldable pub coded : ℕ → Parser Parts
-  coded zero = return end
-  coded (suc n) = code s (suc n) >>= λ c. return (num c end)
+  -- a code below a limit, where there is one
+  unfoldable pub coded : Option ℕ → Parser Parts
+  coded None = return end
+  coded (Some limit) = code s limit >>= λ c. return (num c end)
 
   -- a number of at most `most` where one is wanted
   unfoldable pub numbered : ℕ → Bool → Parser Parts

@@ -1,13 +1,12 @@
 -- What the functions that test a bound hand on.
-use Rattle.std.specs.Prelude.{◌≡◌, Bool, true, false, ◌&&◌, ◌||◌, List, ◌∷◌, ℕ, ◌+◌, ◌≤◌, ◌<◌, eqb, length, get_or, Option, Some, None, Ok, Err}
+use Rattle.std.specs.Prelude.{◌≡◌, Bool, true, false, ◌&&◌, ◌||◌, List, ◌∷◌, ℕ, ◌+◌, ◌≤◌, ◌<◌, eqb, length, get_or, Option, Some, None}
 use Rattle.std.proofs.Math.Option as math
 use Rattle.std.proofs.Math.Option.{none, some}
-use Rattle.std.specs.declared.result.Result as rust
 use Rattle.terms.specs.Term.{Term, Parts, num, items, Subs}
 use Rattle.terms.specs.Words.Held.{Held, HeldParts}
 use Rattle.terms.specs.Formed.{Formed}
 use Rattle.terms.specs.Tree.{Nominal, look_up, put_terms, put_members, same_terms}
-use Rattle.terms.specs.Comparison.{same_option, has, reflexive, every}
+use Rattle.terms.specs.Comparison.{same_option, has, reflexive}
 
 -- the row of a nominal in two parts, and then more: its declaration and its arguments; its members with their terms
 abbrev pub heading : ℕ → List Term → Parts → Parts
@@ -101,20 +100,9 @@ Looked ks vs whole None = whole ≡ none
 
 -- ---- required members
 
--- a member that is lacking has a term within the areas, and is one of those asked for
-abbrev pub Short : (n count : ℕ) → rust.Result ℕ (ℕ × ℕ) → Type 0
-Short n count (Ok z) = z ≤ n + 1
-Short n count (Err (j, l)) = (j + 1 < n) × (0 < l) × (l ≤ count)
-
--- a test passes each member that is given with its term
-abbrev pub Passes : (gs : List ℕ) (hs : List Term) (f : ℕ → Term → Bool) → Type 0
-Passes gs hs f = (m : ℕ) (t : Term) → same_option (look_up m gs hs) t ≡ true → f m t ≡ true
-
--- all pass and the row goes on after them, or one is not given, and what is left from it on passes as the whole does
-abbrev pub Gave : (ks vs : List ℕ) (e : ℕ) (rest : Parts) (gs : List ℕ) (hs : List Term) (f : ℕ → Term → Bool) (whole : Bool) → rust.Result ℕ (ℕ × ℕ) → Type 0
-Gave ks vs e rest gs hs f whole (Ok z) = (whole ≡ true) × HeldParts ks vs z e rest
-Gave ks vs e rest gs hs f whole (Err (j, l)) =
-    (x : Next-pair ks vs j l e rest (every f) whole) × (same_option (look_up x.member gs hs) x.value ≡ false)
+-- a member is given with its term
+abbrev pub given : (gs : List ℕ) (hs : List Term) → ℕ → Term → Bool
+given gs hs m t = same_option (look_up m gs hs) t
 
 -- the bound is satisfied and the row of what is required ends there, or it is not
 abbrev pub Ended : ℕ → Option ℕ → Type 0

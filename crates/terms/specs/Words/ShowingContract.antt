@@ -1,7 +1,14 @@
 -- Bytes sized, or written: what is shown of `bs` from a position on, and the position that is returned.
-use Rattle.std.specs.Prelude.{◌≡◌, Bool, false, List, ℕ, ◌+◌, ◌≤◌, ◌<◌, length}
+use Rattle.std.specs.Prelude.{◌≡◌, Bool, true, false, List, ℕ, ◌+◌, ◌≤◌, ◌<◌, length}
 use Rattle.std.proofs.lemmas.List.Edits.{sets}
+use Rattle.terms.specs.declared.Pass.{Pass}
+use Rattle.terms.specs.declared.Pass.TheVariants.{Count, Write}
 use Rattle.terms.specs.Result.{pick}
+
+-- whether bytes are written, or only counted
+abbrev pub writes : Pass → Bool
+writes Count = false
+writes Write = true
 
 -- a position within the output is the one after them, and they are written where `on`; one past its end says that they do not fit
 pub record Shows (on : Bool) (o₀ o : List ℕ) (at : ℕ) (bs : List ℕ) (r : ℕ) : Type 0 where

@@ -5,8 +5,9 @@ use Rattle.terms.specs.Term.{Term, Parts, node, bytes}
 use Rattle.terms.specs.Words.Held.{Held}
 use Rattle.terms.specs.Shape.{nominal, done}
 use Rattle.terms.specs.Formed.{Formed, Fit}
+use Rattle.terms.specs.declared.Parameters.{Parameters}
 use Rattle.terms.specs.Questions.{Parameter}
-use Rattle.terms.specs.Parameters.{parameters}
+use Rattle.terms.specs.Parameters.{listed}
 use Rattle.terms.specs.Recovery.{recover_from}
 
 -- a formed term
@@ -22,10 +23,10 @@ pub record BareAt (ks vs : List ℕ) (p : ℕ) : Type 0 where
   pub fit : Fit (nominal done) row
 
 -- so many parameters, in the bytes
-pub record ParametersAt (s : List ℕ) (count at : ℕ) : Type 0 where
+pub record ParametersAt (l : Parameters) : Type 0 where
   pub list : List Parameter
   pub next : ℕ
-  pub read : parameters s count at ≡ got list next
+  pub read : listed l ≡ got list next
 
 -- two formed terms, and the first with its holes filled from the second has room in the output from a position on
 pub record RecoversAt (ks vs : List ℕ) (a b : ℕ) (out : List ℕ) (at : ℕ) : Type 0 where

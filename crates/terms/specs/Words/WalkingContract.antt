@@ -2,6 +2,7 @@
 use Rattle.std.specs.Prelude.{◌≡◌, Bool, false, List, ℕ, zero, suc, ◌+◌, ◌-◌, ◌*◌, ◌≤◌, ◌<◌, length, get_or, Option, Some, None}
 use Rattle.terms.specs.declared.Origin.{Origin}
 use Rattle.terms.specs.declared.Content.{Content}
+use Rattle.terms.specs.declared.Rule.{Rule}
 use Rattle.terms.specs.declared.Walked.{Walked}
 use Rattle.terms.specs.Words.Tokens.{Area}
 use Rattle.terms.specs.Term.{Term, bytes, size, Held}
@@ -30,14 +31,14 @@ pub record Fixed (ks vs : List ℕ) (x : Content) (r : ℕ) : Type 0 where
   pub lent : x.head + span (get_or ks x.head 0) (get_or vs x.head 0) ≤ length ks
   pub is : (t : Term) → Held ks vs x.head t → (contains_projection t ≡ false) × (r ≡ size t)
 
--- by `walk` of the definition, with what the words say is to be looked up, the children are too many: the count is over `most`
-abbrev pub Overrun : (ks vs ws : List ℕ) (g : Origin) (hs₀ cs₀ : List ℕ) (x : Content) (next levels visits most : ℕ) → Type 0
+-- by `walk` of the definition, with what is to be looked up, the children are too many: the count is over `most`
+abbrev pub Overrun : (ks vs : List ℕ) (ws : List Rule) (g : Origin) (hs₀ cs₀ : List ℕ) (x : Content) (next levels visits most : ℕ) → Type 0
 Overrun ks vs ws g hs₀ cs₀ x next levels visits most =
     (S : ℕ → Bool) (t : Term) (look : Look) → Below S next → Tree (view ks vs g) hs₀ cs₀ S x.head x.kids t → Looks ks vs ws g look
     → most < (walk_by (replacement (look_by look)) levels t visits next).count
 
 -- what the visit of a term leaves: its result by `walk` of the definition, or that the children are too many
-module _ (ks vs ws : List ℕ) (g : Origin) (hs₀ cs₀ hs cs : List ℕ) (x : Content) (next levels visits most : ℕ) where
+module _ (ks vs : List ℕ) (ws : List Rule) (g : Origin) (hs₀ cs₀ hs cs : List ℕ) (x : Content) (next levels visits most : ℕ) where
   pub record Went (r : Walked) : Type 0 where
     pub later : next ≤ r.next
     pub within : r.next ≤ most

@@ -23,6 +23,7 @@ use Rattle.solver.specs.Session.{Limits, Session, issued}
 use Rattle.solver.specs.Orders as orders
 use Rattle.solver.specs.Shapes.{notion}
 use Rattle.solver.specs.Constrain.{constrain}
+use Rattle.solver.specs.TermTypes.{Rule}
 use Rattle.solver.specs.Orders.{Command, solver_of, keeps, order}
 use Rattle.solver.specs.Words.Worklist.{Zero}
 use Rattle.solver.specs.Words.ConstrainContract.{Scratch}
@@ -96,7 +97,7 @@ pair_steps Compared lim z n t u = refl
 
 -- ---- room to read
 
-pub ready_room : (x : Solver) (half : ℕ) (s a b c d ws : List ℕ) → AreasReady x half (areas a b c d) → length s ≤ 16777216 → (get_or s 0 0 ≡ 20 → RulesRoom s ws 2048)
+pub ready_room : (x : Solver) (half : ℕ) (s a b c d : List ℕ) (ws : List Rule) → AreasReady x half (areas a b c d) → length s ≤ 16777216 → (get_or s 0 0 ≡ 20 → RulesRoom s ws 2048)
     → OrderRoom s a b ws x.top x.kept x.nodes
 ready_room x half s a b c d ws R h w =
     let Y = R.roomy in
@@ -106,7 +107,7 @@ ready_room x half s a b c d ws R h w =
       within = omega (arith, L.represents.fits.nodes, L.represents.kept);
       tokens = omega (arith, Y.tokens, L.few, L.represents.fits.nodes, L.represents.kept);
       paired = Y.b_size;
-      words = λ e. ⊎_elim (λ v. inl (omega (arith, Y.rules))) inr (w e);
+      rules = λ e. ⊎_elim (λ v. inl (omega (arith, Y.rules))) inr (w e);
       short = omega (arith, Y.few);
       few = omega (arith, Y.rules);
       free = zero_free x.top (area a b) L.kinds L.vals;
@@ -146,7 +147,7 @@ held_cut ks vs n p t h k x =
       within = omega (arith, length-take-le n ks h);
     }
 
-module _ {x : Solver} {half : ℕ} {s : List ℕ} {m : Areas} {ts : Area} {ws : List ℕ} {o : Order} (T : OrderTaken x half s m ts ws o) where
+module _ {x : Solver} {half : ℕ} {s : List ℕ} {m : Areas} {ts : Area} {ws : List Rule} {o : Order} (T : OrderTaken x half s m ts ws o) where
   pub taken_after : x.top ≤ o.top
   taken_after = omega (arith, T.whole.tokens)
 

@@ -1,10 +1,10 @@
 -- An order that is given, kind by kind: what its fields are, where they are held, and what its answer is.
 use mathlib.Core.Path.{◌≡◌, refl, ap, ◌∙◌}
 use mathlib.Core.List.{List, [], ◌∷◌, map}
-use Prim.Native.Nat.{ℕ, ◌*◌, ◌≤◌}
+use Prim.Native.Nat.{ℕ, ◌≤◌}
 use native.Mathlib.Omega.{arith}
 use lib.ListN.{length, take}
-use Rattle.solver.specs.TermTypes.{Binders, Parameter}
+use Rattle.solver.specs.TermTypes.{Binders, Parameter, Rule}
 use Rattle.solver.specs.Terms.Result.{got}
 use Rattle.solver.specs.Terms.Tokens.{spell}
 use Rattle.solver.specs.Terms.Term.{Term, Parts, node, end, part_items, Held, bytes}
@@ -34,11 +34,11 @@ use Rattle.sheet.specs.Words.OrderGiven.{FitsLayout, Given}
 use Rattle.sheet.specs.Words.OperationsContract.{Asks, Replies, Two, Applies, Associates, Normalises}
 
 -- what an order with a row says: its fields are held, and w is its answer
-pub record Kind (ks vs s ws : List ℕ) (k : Row) (o : FieldSpots) (Says : Answer → Type 0) : Type 1 where
+pub record Kind (ks vs s : List ℕ) (ws : List Rule) (k : Row) (o : FieldSpots) (Says : Answer → Type 0) : Type 1 where
   pub asked : Asks ks vs s ws k o → (w : Answer) × Says w
   pub replied : (W : Answer → Type 0) → ((w : Answer) → Says w → W w) → Replies ks vs s ws k o W
 
-kind_of : (ks vs s ws : List ℕ) (k : Row) (o : FieldSpots) (Says : Answer → Type 0)
+kind_of : (ks vs s : List ℕ) (ws : List Rule) (k : Row) (o : FieldSpots) (Says : Answer → Type 0)
     → ((known : ℕ) (fs : List Field) → Given ks vs s ws known k o fs → Says (operation k fs)) → Kind ks vs s ws k o Says
 kind_of ks vs s ws k o Says f = record {
   asked = λ x. (operation k x.fields, f x.known x.fields x.given);
@@ -249,14 +249,14 @@ pub record Associated (ks vs : List ℕ) (o : FieldSpots) (w : Answer) : Type 0 
   pub associates : Associates ks vs o.first.place o.second.place o.third.place term row owner
 
 -- order 20
-pub record Ruling (ks vs ws : List ℕ) (o : FieldSpots) (w : Answer) : Type 0 where
+pub record Ruling (ks vs : List ℕ) (ws : List Rule) (o : FieldSpots) (w : Answer) : Type 0 where
   pub patterns : List Pattern
   pub term : Term
   pub answer : w ≡ settled (normalize (map rule_of patterns) term)
-  pub normalises : Normalises ks vs (take (6 * o.first.value) ws) o.second.place patterns term
-  pub enough : 6 * o.first.value ≤ length ws
+  pub normalises : Normalises ks vs (take o.first.value ws) o.second.place patterns term
+  pub enough : o.first.value ≤ length ws
 
-module _ (ks vs s ws : List ℕ) (o : FieldSpots) where
+module _ (ks vs s : List ℕ) (ws : List Rule) (o : FieldSpots) where
   -- a kind whose fields are two terms
   pair : (says : Term → Term → Answer) (k : Row) → layout k ≡ fields.term ∷ fields.term ∷ []
       → ((t u : Term) → operation k (tree t ∷ tree u ∷ []) ≡ says t u) → Kind ks vs s ws k o (Pair ks vs o says)

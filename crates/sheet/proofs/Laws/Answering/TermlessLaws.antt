@@ -10,6 +10,7 @@ use lib.Dec.{eqb}
 use Rattle.solver.specs.Families.{Bound, Request, requested, request_of}
 use Rattle.solver.specs.Orders as orders
 use Rattle.solver.specs.Orders.{Command}
+use Rattle.solver.specs.TermTypes.{Rule}
 use Rattle.sheet.specs.declared.FieldSpot.{FieldSpot}
 use Rattle.sheet.specs.declared.FieldSpots.{FieldSpots}
 use Rattle.sheet.specs.declared.TermlessKind.{TermlessKind}
@@ -30,7 +31,7 @@ use Rattle.sheet.proofs.Laws.Reading.OrderKindLaws.{termless_numeric}
 use Rattle.sheet.proofs.Laws.Answering.SessionRowLaws.{numbers_are, second_code}
 
 -- the spot of a number
-number_spot : (ks vs s ws : List ℕ) (x : FieldSpot) (f : Field) (known n : ℕ) → f ≡ value n → HeldField ks vs s ws x f → FormedField known f → (x.value ≡ number_of f) × (x.value ≤ 4294967295)
+number_spot : (ks vs s : List ℕ) (ws : List Rule) (x : FieldSpot) (f : Field) (known n : ℕ) → f ≡ value n → HeldField ks vs s ws x f → FormedField known f → (x.value ≡ number_of f) × (x.value ≤ 4294967295)
 unfolding number_of
 number_spot ks vs s ws x f known n e h g =
     let v : x.value ≡ n = rw e at h in
@@ -38,7 +39,7 @@ number_spot ks vs s ws x f known n e h g =
     (rw e v, omega arith)
 
 -- the spot of a bound
-bound_spot : (ks vs s ws : List ℕ) (x : FieldSpot) (f : Field) (b n : ℕ) → f ≡ bounded b n → HeldField ks vs s ws x f → spot_bound x ≡ bound_of f
+bound_spot : (ks vs s : List ℕ) (ws : List Rule) (x : FieldSpot) (f : Field) (b n : ℕ) → f ≡ bounded b n → HeldField ks vs s ws x f → spot_bound x ≡ bound_of f
 unfolding bound_of
 bound_spot ks vs s ws x f b n e h = let g : (x.value ≡ n) × (x.place ≡ b) = rw e at h in rw (e, g.0, g.1) refl
 
@@ -87,7 +88,7 @@ range_fields (f ∷ (g ∷ (i ∷ (j ∷ fs)))) h =
     record { low = l.0; down = l.1; third = l.2; high = u.0; up = u.1; fourth = u.2 }
 
 -- the first two fields are numbers
-module _ (ks vs s ws : List ℕ) (o : FieldSpots) (known : ℕ) (k : TermlessKind) (fs : List Field) (G : Given ks vs s ws known (termless_row k) o fs) where
+module _ (ks vs s : List ℕ) (ws : List Rule) (o : FieldSpots) (known : ℕ) (k : TermlessKind) (fs : List Field) (G : Given ks vs s ws known (termless_row k) o fs) where
   pub first_number : (o.first.value ≡ number_at 0 fs) × (o.first.value ≤ 4294967295)
   first_number =
       let v = numbers_are 2 (layout (termless_row k)) fs (termless_numeric k) G.fits 0 (omega arith) in
@@ -99,7 +100,7 @@ module _ (ks vs s ws : List ℕ) (o : FieldSpots) (known : ℕ) (k : TermlessKin
       number_spot ks vs s ws o.second (nth 1 fs) known v.0 v.1 G.held.second (nth_formed known fs 1 G.formed)
 
 -- what each of them tells
-module _ (ks vs s ws : List ℕ) (o : FieldSpots) where
+module _ (ks vs s : List ℕ) (ws : List Rule) (o : FieldSpots) where
   pub variable_told : Says ks vs s ws rows.variable o (orders.variable o.first.value o.second.value)
   unfolding command_of
   variable_told = record { says = λ known fs G. rw ((first_number ks vs s ws o known plain.Variable fs G).0, (second_number ks vs s ws o known plain.Variable fs G).0) refl }
@@ -147,5 +148,5 @@ module _ (ks vs s ws : List ℕ) (o : FieldSpots) where
   range_code A = omega (arith, (second_number ks vs s ws o A.known plain.RangeVariable A.fields A.given).0, second_code (fields.bound ∷ fields.bound ∷ []) A.fields A.given.fits)
 
 -- what is told, by another name
-pub says_as : {ks vs s ws : List ℕ} {k : Row} {o : FieldSpots} {c d : Command} → d ≡ c → Says ks vs s ws k o c → Says ks vs s ws k o d
+pub says_as : {ks vs s : List ℕ} {ws : List Rule} {k : Row} {o : FieldSpots} {c d : Command} → d ≡ c → Says ks vs s ws k o c → Says ks vs s ws k o d
 says_as e x = rw e x

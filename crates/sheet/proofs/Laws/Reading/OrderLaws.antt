@@ -3,13 +3,13 @@ use mathlib.Core.Path.{◌≡◌, refl, sym, ap, subst, ◌∙◌}
 use mathlib.Core.List.{List, [], ◌∷◌}
 use mathlib.Core.Logic.{⊎_elim}
 use mathlib.Core.Option.{Option, none, some}
-use Prim.Native.Nat.{ℕ, zero, suc, ◌+◌, ◌-◌, ◌*◌, ◌≤◌, ◌<◌}
+use Prim.Native.Nat.{ℕ, zero, suc, ◌+◌, ◌-◌, ◌≤◌, ◌<◌}
 use native.Mathlib.Decide.{dec_lt, ℕ_discrete}
 use native.Mathlib.Omega.{arith}
 use borrow.Author.Tests.{lt-ltb, le-ltb}
 use lib.ListN.{length, get_or, drop}
 use Rattle.std.specs.Prelude.{Ok}
-use Rattle.solver.specs.TermTypes.{Place, Next, Stopped}
+use Rattle.solver.specs.TermTypes.{Place, Next, Stopped, Rule}
 use Rattle.solver.specs.Terms.Parser.{Result, got, refused, bind, number}
 use Rattle.solver.specs.Terms.Shape as shape
 use Rattle.solver.specs.Terms.Shape.{ceiling}
@@ -17,7 +17,6 @@ use Rattle.solver.specs.Terms.Reading as reading
 use Rattle.solver.specs.Terms.Lookup.{Pattern}
 use Rattle.solver.specs.Terms.Tokens.{Area, toks}
 use Rattle.solver.proofs.Terms.KeepTermLaws.{stored_at}
-use Rattle.solver.proofs.Terms.NumberBoundLaws.{number_bounds}
 use Rattle.solver.proofs.Terms.NumberStepLaws.{one_group, at_byte, at-end}
 use Rattle.solver.proofs.Terms.Shortest.{Octets}
 use Rattle.sheet.specs.declared.FieldSpot.{FieldSpot}
@@ -46,10 +45,7 @@ unfolding plain_of
 sort_plain sorts.Rules h = absurd (h refl)
 sort_plain a h = refl
 
-pub rules_small : (s : List ℕ) (at n m : ℕ) → at ≤ length s → got n m ≡ number s (ceiling shape.ordinary) at → n < 4294967296
-rules_small s at n m h e = omega (arith, (number_bounds (ceiling shape.ordinary) s at n m h (sym e)).small)
-
-module _ (s us : List ℕ) (issued : ℕ) (p : Place) (d e : Area) where
+module _ (s : List ℕ) (us : List Rule) (issued : ℕ) (p : Place) (d e : Area) where
   pub rules_refused : (c : ℕ) → refused c ≡ number s (ceiling shape.ordinary) p.at → fields.field s issued fields.rules p.at ≡ refused c
   unfolding fields.field
   rules_refused c h = rw (← h)
@@ -64,7 +60,7 @@ module _ (s us : List ℕ) (issued : ℕ) (p : Place) (d e : Area) where
           rw (← x.is) (ap (λ (x : Result (List _)). bind x (λ rs j. got (ruled rs) j)) found),
           record { whole = y.whole; only = y.only; free = y.free; limit = y.limit; tokens = y.tokens; counts = y.counts },
           inside,
-          (v ∙ sym count, λ k. words (omega (arith, count, k))),
+          (v ∙ sym count, words),
         )
 
     pub rules_none : (c : ℕ) → RulesDone (fields.rule_list s issued n q.at) s q d e n us (Stopped c) → FieldDone s us (fields.field s issued fields.rules p.at) p d e (Unread c)
@@ -80,14 +76,14 @@ number_one s at v m e l = go (dec_lt at (length s))
     go (no h) = absurd (let r = at-end s (ceiling shape.ordinary) 0 1 at (omega arith) in let z : ◌≡◌ {A = ℕ} 0 1 = cc in omega arith)
 
 -- rules that have room, before fields that do
-rules_first : (ws : List ℕ) (rs : List Pattern) (fs : List Field) → 6 * length rs ≤ length ws → ((i : ℕ) → RulesFit ws (nth i fs)) → (i : ℕ) → RulesFit ws (nth i (ruled rs ∷ fs))
+rules_first : (ws : List Rule) (rs : List Pattern) (fs : List Field) → length rs ≤ length ws → ((i : ℕ) → RulesFit ws (nth i fs)) → (i : ℕ) → RulesFit ws (nth i (ruled rs ∷ fs))
 unfolding nth
 rules_first ws rs fs h f zero = h
 rules_first ws rs fs h f (suc i) = f i
 
--- rules whose count is one byte have room where the words are six for each
-rules_few : (s : List ℕ) → Octets s → (issued : ℕ) (ws : List ℕ) (l : List FieldSort) → Plains l → (at : ℕ) (fs : List Field) (n : ℕ)
-    → fields.fields s issued (fields.rules ∷ l) at ≡ got fs n → get_or s at 0 < 128 → 6 * get_or s at 0 ≤ length ws → (i : ℕ) → RulesFit ws (nth i fs)
+-- rules whose count is one byte have room where there is room for so many
+rules_few : (s : List ℕ) → Octets s → (issued : ℕ) (ws : List Rule) (l : List FieldSort) → Plains l → (at : ℕ) (fs : List Field) (n : ℕ)
+    → fields.fields s issued (fields.rules ∷ l) at ≡ got fs n → get_or s at 0 < 128 → get_or s at 0 ≤ length ws → (i : ℕ) → RulesFit ws (nth i fs)
 unfolding fields.fields fields.field
 rules_few s octets issued ws l p at fs n e b h =
     let x = parts_of (fields.field s issued fields.rules at) _ fs n e in
@@ -153,7 +149,7 @@ module _ (s : List ℕ) (issued : ℕ) where
       order_whole fs m h le = after fs m h ∙ rw (le-ltb m (length s) le)
 
       -- an order that is whole
-      module _ (octets : Octets s) {us : List ℕ} (ws : List ℕ) {top kept limit : ℕ} (d e' : Area) (room : OrderRoom s d.kinds d.vals us top kept limit) (long : length ws ≡ length us) (o : FieldSpots) (q : Place) where
+      module _ (octets : Octets s) {us : List Rule} (ws : List Rule) {top kept limit : ℕ} (d e' : Area) (room : OrderRoom s d.kinds d.vals us top kept limit) (long : length ws ≡ length us) (o : FieldSpots) (q : Place) where
         abbrev start : Place
         start = record { at = 1; top = top; nodes = kept; limit = limit }
 
@@ -166,7 +162,7 @@ module _ (s : List ℕ) (issued : ℕ) where
             go (no l) = plain_fit ws (layout r) fs (layout_plain _ r listed l) (fields_fit s (known r issued) (layout r) 1 fs m found)
             go (yes l) =
                 let told = rw (layout_ruled _ r listed l) at found in
-                ⊎_elim (λ w. rules_room ws fs (omega arith)) (λ w. rules_few s octets (known r issued) ws (fields.term ∷ []) (tt, tt) 1 fs m told w.0 (omega arith)) (room.words l)
+                ⊎_elim (λ w. rules_room ws fs (omega arith)) (λ w. rules_few s octets (known r issued) ws (fields.term ∷ []) (tt, tt) 1 fs m told w.0 (omega arith)) (room.rules l)
 
         pub order_done : FieldsHere s ws (fields.fields s (known r issued) l 1) start d e' o q → length s ≤ q.at
             → WholeOrder s issued top kept limit d e' ws (record { kind = kind; fields = o; top = q.top; nodes = q.nodes })
@@ -206,11 +202,11 @@ module _ (s : List ℕ) (issued : ℕ) where
             }
 
 -- what is known below, told another way
-pub here_as : {s ws : List ℕ} {n m : ℕ} (l : List FieldSort) (at : ℕ) {p : Place} {d e : Area} {o : FieldSpots} {q : Place} → n ≡ m → FieldsHere s ws (fields.fields s n l at) p d e o q → FieldsHere s ws (fields.fields s m l at) p d e o q
+pub here_as : {s : List ℕ} {ws : List Rule} {n m : ℕ} (l : List FieldSort) (at : ℕ) {p : Place} {d e : Area} {o : FieldSpots} {q : Place} → n ≡ m → FieldsHere s ws (fields.fields s n l at) p d e o q → FieldsHere s ws (fields.fields s m l at) p d e o q
 here_as l at h x = rw (← h) x
 
 -- the place where an order's fields begin
-pub ample_start : {s ks vs ws : List ℕ} {top kept limit : ℕ} → OrderRoom s ks vs ws top kept limit → 0 < length s → Ample s (record { at = 1; top = top; nodes = kept; limit = limit })
+pub ample_start : {s ks vs : List ℕ} {ws : List Rule} {top kept limit : ℕ} → OrderRoom s ks vs ws top kept limit → 0 < length s → Ample s (record { at = 1; top = top; nodes = kept; limit = limit })
 ample_start x h = record {
   inside = omega arith;
   tokens = omega (arith, x.bytes, x.tokens, x.short);

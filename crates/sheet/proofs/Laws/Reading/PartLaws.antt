@@ -1,7 +1,6 @@
 -- One field: what is read and kept of it, and its spot.
 use mathlib.Core.Path.{◌≡◌, refl, sym, ap, subst, ◌∙◌}
 use mathlib.Core.List.{List}
-use mathlib.Core.Bool.{Bool, true, false}
 use mathlib.Core.Logic.{◌⊎◌, inl, inr}
 use Prim.Native.Nat.{ℕ, zero, suc, ◌+◌, ◌*◌, ◌≤◌, ◌<◌}
 use native.Mathlib.Omega.{arith}
@@ -9,7 +8,8 @@ use borrow.Author.Tests.{lt-ltb, le-ltb}
 use lib.ListN.{length, get_or}
 use Rattle.std.specs.Prelude.{⊤, Ok, Err}
 use Rattle.std.specs.declared.result.Result as rust
-use Rattle.solver.specs.TermTypes.{Place, Refusal, Step, Parameter}
+use Rattle.solver.specs.TermTypes as kinds
+use Rattle.solver.specs.TermTypes.{PartKind, Place, Refusal, Step, Parameter, Rule}
 use Rattle.solver.specs.Terms.Outcomes.{step_of}
 use Rattle.solver.specs.Terms.ListsContract.{ListKept}
 use Rattle.solver.specs.Terms.Parser.{Result, Parser, got, refused, bind, number}
@@ -69,7 +69,7 @@ module _ (s : List ℕ) (t : Parser Term) where
 
 -- ---- tokens that are kept
 
-module _ (s ws : List ℕ) (issued : ℕ) (p : Place) (d e : Area) (f : Free p.top d) (n : ℕ) (r : Step) (room : RoomAfter s r) where
+module _ (s : List ℕ) (ws : List Rule) (issued : ℕ) (p : Place) (d e : Area) (f : Free p.top d) (n : ℕ) (r : Step) (room : RoomAfter s r) where
   term_part : r ≡ answer p (reading.term s issued levels p.at) size → e ≡ kept s p (reading.term s issued levels p.at) size d
       → PartDone s ws n (part_of s issued sorts.Term n p.at) p d e r
   unfolding part_of fields.field field_items nodes
@@ -89,11 +89,11 @@ module _ (s ws : List ℕ) (issued : ℕ) (p : Place) (d e : Area) (f : Free p.t
       go (got ps m) er ee = let q = rw er at room in rw er (bare ps, refl, stored_kept p _ d f e (items (node 20 ps)) (sizes ps) refl refl refl ee, q.inside, refl)
       go (refused c) er ee = rw er (refl, ee ∙ f _)
 
-  -- a term or a nominal, told by the flag
-  pub either_part : (a : Sort) (b : Bool) → (a ≡ sorts.Term) ⊎ (a ≡ sorts.Nominal) → (a ≡ sorts.Term → b ≡ false) → (a ≡ sorts.Nominal → b ≡ true)
+  -- a term or a nominal, as the reader was asked
+  pub either_part : (a : Sort) (b : PartKind) → ((a ≡ sorts.Term) × (b ≡ kinds.Term)) ⊎ ((a ≡ sorts.Nominal) × (b ≡ kinds.BareNominal))
       → r ≡ answer p (part b s issued levels p.at) (nodes_of b) → e ≡ kept s p (part b s issued levels p.at) (nodes_of b) d → PartDone s ws n (part_of s issued a n p.at) p d e r
-  either_part a b (inl x) f g er ee = let z = f x in rw x (term_part (rw z at er) (rw z at ee))
-  either_part a b (inr x) f g er ee = let z = g x in rw x (nominal_part (rw z at er) (rw z at ee))
+  either_part a b (inl x) er ee = rw x.0 (term_part (rw x.1 at er) (rw x.1 at ee))
+  either_part a b (inr x) er ee = rw x.0 (nominal_part (rw x.1 at er) (rw x.1 at ee))
 
   entries_part : r ≡ answer_of entry_row p (rows.entries s (reading.term s issued levels) n p.at) → e ≡ kept_of entry_row s p (rows.entries s (reading.term s issued levels) n p.at) d
       → PartDone s ws n (part_of s issued sorts.Entries n p.at) p d e r
@@ -132,7 +132,7 @@ module _ (s ws : List ℕ) (issued : ℕ) (p : Place) (d e : Area) (f : Free p.t
       go (refused c) h er ee = rw er (refl, ee ∙ f _)
 
 -- a list, told by its sort
-module _ (s ws : List ℕ) (issued : ℕ) (p : Place) (d e : Area) (f : Free p.top d) (n : ℕ) (r : Step) (room : RoomAfter s r) where
+module _ (s : List ℕ) (ws : List Rule) (issued : ℕ) (p : Place) (d e : Area) (f : Free p.top d) (n : ℕ) (r : Step) (room : RoomAfter s r) where
   pub list_part : (a : Sort) → (a ≡ sorts.Term → ⊥) → (a ≡ sorts.Nominal → ⊥) → ListKept (listing_of a) s issued levels n p d e r → PartDone s ws n (part_of s issued a n p.at) p d e r
   unfolding part_of
   list_part sorts.Term g h x = absurd (g refl)
@@ -147,7 +147,7 @@ room_after s (Ok u) p h = h
 room_after s (Err e) p h = tt
 
 -- a list after its count
-pub list_field_lem : (s ws : List ℕ) (at : ℕ) (found whole : Result Field) (p : Place) (d e : Area) (r : FieldRead) → whole ≡ found → FieldDone s ws found (moved p at) d e r
+pub list_field_lem : (s : List ℕ) (ws : List Rule) (at : ℕ) (found whole : Result Field) (p : Place) (d e : Area) (r : FieldRead) → whole ≡ found → FieldDone s ws found (moved p at) d e r
     → FieldDone s ws whole p d e r
 list_field_lem s ws at found whole p d e (Spotted z q) h (f, is, y, inside, laid) =
     (f, h ∙ is, record { whole = y.whole; only = y.only; free = y.free; limit = y.limit; tokens = y.tokens; counts = y.counts }, inside, laid)
@@ -260,7 +260,7 @@ module _ (s : List ℕ) (p q : Place) (v : ℕ) (x : NumberRead s p (Ok v) q) wh
   pub ample_after : Ample s p → Ample s q
   ample_after a = subst (Ample s) (sym x.place) (ample_moved s p v q.at a x.is)
 
-  pub list_after : (ws : List ℕ) (issued : ℕ) (k : Sort) (d e : Area) (r : FieldRead) → FieldDone s ws (part_of s issued k v q.at) q d e r → FieldDone s ws (list_field s issued k p.at) p d e r
+  pub list_after : (ws : List Rule) (issued : ℕ) (k : Sort) (d e : Area) (r : FieldRead) → FieldDone s ws (part_of s issued k v q.at) q d e r → FieldDone s ws (list_field s issued k p.at) p d e r
   list_after ws issued k d e r y =
       list_field_lem s ws q.at (part_of s issued k v q.at) (list_field s issued k p.at) p d e r (rw (← x.is))
       (subst (λ (z : Place). FieldDone s ws (part_of s issued k v q.at) z d e r) x.place y)

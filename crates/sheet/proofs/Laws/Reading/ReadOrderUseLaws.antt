@@ -13,6 +13,7 @@ use Rattle.solver.specs.Terms.Term.{Term, Parts, var, node, end, num, sub, items
 use Rattle.solver.specs.Terms.Held.{HeldParts}
 use Rattle.solver.proofs.Terms.StoreLaws.{length_kinds, length_vals}
 use Rattle.solver.specs.Words.SessionRepresentation.{begins}
+use Rattle.solver.specs.TermTypes.{Rule}
 use Rattle.sheet.specs.declared.Order.{Order}
 use Rattle.sheet.specs.Fields.{Field, value, tree, nth}
 use Rattle.sheet.specs.Words.FieldsFormed.{FormedField, FormedFields}
@@ -69,7 +70,7 @@ mutual
 
 -- ---- an order, and one within the limit
 
-module _ (s : List ℕ) (issued top kept limit : ℕ) (d e : Area) (ws : List ℕ) (o : Order) (x : WholeOrder s issued top kept limit d e ws o) where
+module _ (s : List ℕ) (issued top kept limit : ℕ) (d e : Area) (ws : List Rule) (o : Order) (x : WholeOrder s issued top kept limit d e ws o) where
   -- the areas are as long as they were
   pub order_long : (length e.kinds ≡ length d.kinds) × (length e.vals ≡ length d.vals)
   order_long = (
@@ -77,7 +78,7 @@ module _ (s : List ℕ) (issued top kept limit : ℕ) (d e : Area) (ws : List �
     sym (length_vals (zeros (o.top - top)) e top) ∙ ap (λ (y : Area). length y.vals) x.cleared,
   )
 
-module _ (s : List ℕ) (issued top kept limit : ℕ) (d e : Area) (ws : List ℕ) (o : Order) (x : WholeOrder s issued top kept limit d e ws o) (h : o.nodes ≤ limit) where
+module _ (s : List ℕ) (issued top kept limit : ℕ) (d e : Area) (ws : List Rule) (o : Order) (x : WholeOrder s issued top kept limit d e ws o) (h : o.nodes ≤ limit) where
   -- two terms after a number: order 4
   pub pair_row : (n : ℕ) (t u : Term) → x.said ≡ value n ∷ tree t ∷ tree u ∷ [] → HeldParts e.kinds e.vals top o.top (sub t (sub u end))
   unfolding all_items field_items items

@@ -1,15 +1,12 @@
--- Rules: a rule is five fields, its six words tell where they stand, and rules are read one after the other.
+-- Rules: a rule is five fields, its record tells where they stand, and rules are read one after the other.
 use mathlib.Core.Path.{◌≡◌, refl, sym, ap, ◌∙◌}
-use mathlib.Core.Bool.{Bool, true, false}
 use mathlib.Core.List.{List, [], ◌∷◌, ◌++◌, append_assoc}
-use Prim.Native.Nat.{ℕ, zero, suc, ◌+◌, ◌-◌, ◌*◌, ◌≤◌, ◌<◌}
+use Prim.Native.Nat.{ℕ, suc, ◌+◌, ◌-◌, ◌*◌, ◌≤◌, ◌<◌}
 use native.Mathlib.Omega.{arith}
-use borrow.Author.Tests.{le-leb}
-use lib.Dec.{leb}
-use lib.ListN.{length, length-append, length-set, get_or, set}
-use lib.Seq.{sets, length-sets, get_or-set_same, get_or-set_other}
+use lib.ListN.{length, length-append, length-set, take, set}
+use Rattle.std.proofs.lemmas.List.{take_more_set}
 use Rattle.solver.specs.TermTypes.{Place, Rule, Next, Stopped}
-use Rattle.solver.specs.Terms.Parser.{Result, Parser, got, refused, bind, pick, number}
+use Rattle.solver.specs.Terms.Parser.{Result, Parser, got, refused, bind, number}
 use Rattle.solver.specs.Terms.Tokens.{Item, Area, blank}
 use Rattle.solver.specs.Terms.Term.{Term, Parts, node, items, part_items}
 use Rattle.solver.specs.Terms.Shape as shape
@@ -17,14 +14,14 @@ use Rattle.solver.specs.Terms.Shape.{ceiling}
 use Rattle.solver.specs.Terms.Reading as reading
 use Rattle.solver.specs.Terms.Rows as rows
 use Rattle.solver.specs.Terms.Rows.{argument_row}
-use Rattle.solver.specs.Terms.Lookup.{Pattern, rule_at, put_rule}
+use Rattle.solver.specs.Terms.Lookup.{Pattern}
 use Rattle.solver.proofs.Terms.HeldLaws.{items_some}
 use Rattle.solver.proofs.Terms.Shortest.{Octets}
 use Rattle.sheet.specs.declared.FieldSpots.{FieldSpots}
 use Rattle.sheet.specs.Fields as fields
 use Rattle.sheet.specs.Fields.{Field, value, tree, bare, listed, levels, nodes, all_nodes, rule_nodes, nth}
 use Rattle.sheet.specs.Words.FieldsFormed.{FormedFields}
-use Rattle.sheet.specs.Words.FieldLayout.{rule_sorts, rule_fields, rule_items, field_items, all_items, Free, Stored, Ample, rule_words, RulesAt, spot_at, start_at, Spots, RuleDone, RulesDone, rule_from, WordsFit, FieldsHere}
+use Rattle.sheet.specs.Words.FieldLayout.{rule_sorts, rule_fields, rule_items, field_items, all_items, Free, Stored, Ample, placed_rule, placed_rules, spot_at, start_at, Spots, RuleDone, RulesDone, rule_from, WordsFit, FieldsHere}
 use Rattle.sheet.proofs.Laws.Reading.StoredLaws.{stored_none, stored_then, stored_as, stored_undo, ample_after}
 use Rattle.sheet.proofs.Laws.Reading.FieldLaws.{never, parts_of, same_value, same_next, fields_found}
 
@@ -74,7 +71,7 @@ refused_from : {A B : Type 0} (r : Result A) (k : A → B) (c : ℕ) → bind r 
 refused_from (got a n) k c e = never c (k a) n (sym e)
 refused_from (refused b) k c e = let z : b ≡ c = cc in rw z
 
--- ---- a rule's words
+-- ---- a rule's record
 
 terms_many : (ts : List Term) → length ts ≤ length (part_items (argument_row ts))
 unfolding argument_row items
@@ -90,10 +87,10 @@ pub record RuleHere (s : List ℕ) (issued : ℕ) (p : Place) (d e : Area) (o : 
   pub found : fields.rule s issued p.at ≡ got rule q.at
   pub stored : Stored p q d e (all_items (rule_fields rule)) (all_nodes (rule_fields rule))
   pub inside : q.at ≤ length s
-  pub words : rule_from o ≡ rule_words p.top rule
+  pub is : rule_from o ≡ placed_rule p.top rule
   pub fits : WordsFit o
 
-module _ {s : List ℕ} (ws : List ℕ) (octets : Octets s) {issued : ℕ} {p : Place} {d e : Area} (ample : Ample s p) where
+module _ {s : List ℕ} (ws : List Rule) (octets : Octets s) {issued : ℕ} {p : Place} {d e : Area} (ample : Ample s p) where
   rule_made : (x : Pattern) (o : FieldSpots) (q : Place) → fields.fields s issued rule_sorts p.at ≡ got (rule_fields x) q.at → fields.rule s issued p.at ≡ got x q.at
       → Stored p q d e (all_items (rule_fields x)) (all_nodes (rule_fields x)) → Spots s ws p.top o (rule_fields x) → q.at ≤ length s → RuleHere s issued p d e o q
   unfolding spot_at nth start_at field_items all_items FormedFields
@@ -122,7 +119,7 @@ module _ {s : List ℕ} (ws : List ℕ) (octets : Octets s) {issued : ℕ} {p : 
         found = found;
         stored = st;
         inside = inside;
-        words = same_rule _ _ s0 s1 s2 (omega arith) s3v (omega arith);
+        is = same_rule _ _ s0 s1 s2 (omega arith) s3v (omega arith);
         fits = record {
           first = omega (arith, ample.tokens);
           second = omega (arith, ample.tokens);
@@ -145,67 +142,6 @@ module _ {s : List ℕ} (ws : List ℕ) (octets : Octets s) {issued : ℕ} {p : 
 pub rule_refused : (s : List ℕ) (issued at : ℕ) {c : ℕ} → fields.fields s issued rule_sorts at ≡ refused c → fields.rule s issued at ≡ refused c
 rule_refused s issued at {c} e = refused_from (fields.rule s issued at) rule_fields c (sym (rule_read s issued at) ∙ e)
 
--- ---- the words stored
-
-sets_before : (vs l : List ℕ) (i j : ℕ) → j < i → get_or (sets l i vs) j 0 ≡ get_or l j 0
-sets_before [] l i j h = refl
-sets_before (v ∷ vs) l i j h = sets_before vs (set l i v) (suc i) j (omega arith) ∙ get_or-set_other l i j v 0 (λ e. omega arith)
-
-sets_at : (vs l : List ℕ) (i k n : ℕ) → n ≡ i + k → i + length vs ≤ length l → k < length vs → get_or (sets l i vs) n 0 ≡ get_or vs k 0
-sets_at [] l i k n e h m = absurd (omega arith)
-sets_at (v ∷ vs) l i zero n e h m =
-    let z : n ≡ i = omega arith in
-    rw z (sets_before vs (set l i v) (suc i) i (omega arith) ∙ get_or-set_same l i v 0 (omega arith))
-sets_at (v ∷ vs) l i (suc k) n e h m = sets_at vs (set l i v) (suc i) k n (omega arith) (omega (arith, length-set l i v)) (omega arith)
-
-abbrev words_of : Rule → List ℕ
-words_of x = x.interface ∷ x.receiver ∷ x.member ∷ x.arguments ∷ x.count ∷ x.value ∷ []
-
-pub put_length : (ws : List ℕ) (r : ℕ) (x : Rule) → length (put_rule ws r x) ≡ length ws
-put_length ws r x = go (leb (6 * r + 6) (length ws))
-  where
-    go : (b : Bool) → length (pick b (sets ws (6 * r) (words_of x)) ws) ≡ length ws
-    go true = length-sets ws (6 * r) (words_of x)
-    go false = refl
-
-put_same : (ws : List ℕ) (r : ℕ) (x : Rule) → 6 * r + 6 ≤ length ws → rule_at (put_rule ws r x) r ≡ x
-put_same ws r x h =
-    rw (le-leb (6 * r + 6) (length ws) h)
-    (same_rule _ x
-    (sets_at (words_of x) ws (6 * r) 0 (6 * r) (omega arith) h (omega arith))
-    (sets_at (words_of x) ws (6 * r) 1 (6 * r + 1) refl h (omega arith))
-    (sets_at (words_of x) ws (6 * r) 2 (6 * r + 2) refl h (omega arith))
-    (sets_at (words_of x) ws (6 * r) 3 (6 * r + 3) refl h (omega arith))
-    (sets_at (words_of x) ws (6 * r) 4 (6 * r + 4) refl h (omega arith))
-    (sets_at (words_of x) ws (6 * r) 5 (6 * r + 5) refl h (omega arith)))
-
-put_before : (ws : List ℕ) (r : ℕ) (x : Rule) (j : ℕ) → j < r → rule_at (put_rule ws r x) j ≡ rule_at ws j
-put_before ws r x j h = go (leb (6 * r + 6) (length ws))
-  where
-    go : (b : Bool) → rule_at (pick b (sets ws (6 * r) (words_of x)) ws) j ≡ rule_at ws j
-    go true =
-        same_rule _ _
-        (sets_before (words_of x) ws (6 * r) (6 * j) (omega arith))
-        (sets_before (words_of x) ws (6 * r) (6 * j + 1) (omega arith))
-        (sets_before (words_of x) ws (6 * r) (6 * j + 2) (omega arith))
-        (sets_before (words_of x) ws (6 * r) (6 * j + 3) (omega arith))
-        (sets_before (words_of x) ws (6 * r) (6 * j + 4) (omega arith))
-        (sets_before (words_of x) ws (6 * r) (6 * j + 5) (omega arith))
-    go false = refl
-
-rules_at_more : (ws : List ℕ) (r a i b : ℕ) (ps : List Pattern) (x : Pattern) → r ≡ i + length ps → b ≡ a + length (rule_items ps) → 6 * r + 6 ≤ length ws → RulesAt ws i a ps
-    → RulesAt (put_rule ws r (rule_words b x)) i a (ps ++ (x ∷ []))
-unfolding RulesAt rule_items
-rules_at_more ws r a i b [] x er eb h y =
-    let z : i ≡ r = omega arith in
-    let w : a ≡ b = omega arith in
-    (rw (z, w) (put_same ws r (rule_words b x) h), tt)
-rules_at_more ws r a i b (p ∷ ps) x er eb h y =
-    let one = items (node 20 p.interface) ++ (items p.receiver ++ (part_items (argument_row p.arguments) ++ (items p.value ++ []))) in
-    let l1 = length-append one (rule_items ps) in
-    let l2 = length-append one [] in
-    (put_before ws r (rule_words b x) i (omega arith) ∙ y.0, rules_at_more ws r (a + length (one ++ [])) (suc i) b ps x (omega arith) (omega arith) h y.1)
-
 -- ---- one rule more
 
 append-nil : (l : List Item) → l ++ [] ≡ l
@@ -224,31 +160,46 @@ unfolding rule_nodes all_nodes nodes
 rule_nodes_lem [] x = omega arith
 rule_nodes_lem (p ∷ ps) x = omega (arith, rule_nodes_lem ps x)
 
--- `read` are the first r of n rules; us are the words
-pub record RulesThrough (s : List ℕ) (issued n : ℕ) (p : Place) (d e : Area) (ws us : List ℕ) (r : ℕ) (q : Place) : Type 0 where
+placed_more : (ps : List Pattern) (a : ℕ) (x : Pattern) → placed_rules a (ps ++ (x ∷ [])) ≡ placed_rules a ps ++ (placed_rule (a + length (rule_items ps)) x ∷ [])
+unfolding placed_rules rule_items
+placed_more [] a x = let z : a + 0 ≡ a = omega arith in rw z refl
+placed_more (p ∷ ps) a x =
+    let one = items (node 20 p.interface) ++ (items p.receiver ++ (part_items (argument_row p.arguments) ++ (items p.value ++ []))) in
+    let z : a + length (one ++ []) + length (rule_items ps) ≡ a + length (one ++ rule_items ps) = omega (arith, length-append one (rule_items ps), length-append one []) in
+    ap (λ (l : List Rule). placed_rule a p ∷ l) (placed_more ps (a + length (one ++ [])) x ∙ rw z refl)
+
+-- a rule stored after those before it
+placed_stored : (us : List Rule) (ps : List Pattern) (a r b : ℕ) (x : Pattern) → r ≡ length ps → b ≡ a + length (rule_items ps) → r < length us
+    → take (length ps) us ≡ placed_rules a ps → take (length (ps ++ (x ∷ []))) (set us r (placed_rule b x)) ≡ placed_rules a (ps ++ (x ∷ []))
+placed_stored us ps a r b x er eb lt e =
+    let n : length (ps ++ (x ∷ [])) ≡ r + 1 = omega (arith, length-append ps (x ∷ [])) in
+    rw (n, placed_more ps a x, ← eb) (take_more_set us r (placed_rule b x) lt ∙ ap (λ (l : List Rule). l ++ (placed_rule b x ∷ [])) (rw er e))
+
+-- `read` are the first r of n rules; us are those stored
+pub record RulesThrough (s : List ℕ) (issued n : ℕ) (p : Place) (d e : Area) (ws us : List Rule) (r : ℕ) (q : Place) : Type 0 where
   pub read : List Pattern
   pub count : r ≡ length read
   pub within : r ≤ n
   pub whole : fields.rule_list s issued n p.at ≡ bind (fields.rule_list s issued (n - r) q.at) (λ gs m. got (read ++ gs) m)
   pub stored : Stored p q d e (rule_items read) (rule_nodes read)
-  pub words : 6 * r ≤ length us → RulesAt us 0 p.top read
+  pub placed : length read ≤ length us → take (length read) us ≡ placed_rules p.top read
   pub long : length us ≡ length ws
   pub ample : Ample s q
 
-pub rules_start : {s : List ℕ} {issued n : ℕ} (p : Place) (d : Area) {ws : List ℕ} → Free p.top d → Ample s p → RulesThrough s issued n p d d ws ws 0 p
-unfolding rule_items rule_nodes RulesAt
+pub rules_start : {s : List ℕ} {issued n : ℕ} (p : Place) (d : Area) {ws : List Rule} → Free p.top d → Ample s p → RulesThrough s issued n p d d ws ws 0 p
+unfolding rule_items rule_nodes placed_rules
 rules_start {s} {issued} {n} p d f a = record {
   read = [];
   count = refl;
   within = omega arith;
   whole = let z : n - 0 ≡ n = omega arith in rw z (bind_got (fields.rule_list s issued n p.at));
   stored = stored_none p p d f refl refl refl;
-  words = λ h. tt;
+  placed = λ h. refl;
   long = refl;
   ample = a;
 }
 
-module _ {s : List ℕ} (octets : Octets s) {issued n : ℕ} {p : Place} {d e : Area} {ws us : List ℕ} {r : ℕ} {q : Place} (x : RulesThrough s issued n p d e ws us r q) where
+module _ {s : List ℕ} (octets : Octets s) {issued n : ℕ} {p : Place} {d e : Area} {ws us : List Rule} {r : ℕ} {q : Place} (x : RulesThrough s issued n p d e ws us r q) where
   whole_split : r < n → fields.rule_list s issued n p.at
       ≡ bind (bind (fields.rule s issued q.at) (λ y m. bind (fields.rule_list s issued (n - (r + 1)) m) (λ ys j. got (y ∷ ys) j))) (λ gs m. got (x.read ++ gs) m)
   unfolding fields.rule_list
@@ -262,7 +213,7 @@ module _ {s : List ℕ} (octets : Octets s) {issued n : ℕ} {p : Place} {d e : 
       let good = fields_found s octets issued rule_sorts q.at (rule_fields y) m here in
       (good.tokens, good.counts)
 
-  pub rules_more : r < n → (u : Place) (g : Area) (vs : List ℕ) → RuleDone (fields.rule s issued q.at) s q e g r us vs (Next u) → RulesThrough s issued n p d g ws vs (r + 1) u
+  pub rules_more : r < n → (u : Place) (g : Area) (vs : List Rule) → RuleDone (fields.rule s issued q.at) s q e g r us vs (Next u) → RulesThrough s issued n p d g ws vs (r + 1) u
   rules_more h u g vs (y, found, stored, inside, put) =
       let both = stored_then p q u d e g (rule_items x.read) (all_items (rule_fields y)) (rule_nodes x.read) (all_nodes (rule_fields y)) x.stored stored in
       let pace = rule_pace y u.at found in
@@ -272,11 +223,10 @@ module _ {s : List ℕ} (octets : Octets s) {issued n : ℕ} {p : Place} {d e : 
         within = omega arith;
         whole = whole_split h ∙ ap (λ (z : Result Pattern). bind (bind z (λ y m. bind (fields.rule_list s issued (n - (r + 1)) m) (λ ys j. got (y ∷ ys) j))) (λ gs m. got (x.read ++ gs) m)) found ∙ join x.read y (fields.rule_list s issued (n - (r + 1)) u.at);
         stored = stored_as p u d g _ _ _ _ (sym (rule_items_lem x.read y)) (sym (rule_nodes_lem x.read y)) both;
-        words = λ k.
-            let l = put_length us r (rule_words q.top y) in
-            let long : length vs ≡ length us = ap length put ∙ l in
-            rw put (rules_at_more us r p.top 0 q.top x.read y (omega (arith, x.count)) x.stored.tokens (omega arith) (x.words (omega arith)));
-        long = ap length put ∙ put_length us r (rule_words q.top y) ∙ x.long;
+        placed = λ k.
+            let long : length vs ≡ length us = ap length put ∙ length-set us r (placed_rule q.top y) in
+            rw put (placed_stored us x.read p.top r q.top y x.count x.stored.tokens (omega (arith, length-append x.read (y ∷ []), x.count)) (x.placed (omega (arith, length-append x.read (y ∷ [])))));
+        long = ap length put ∙ length-set us r (placed_rule q.top y) ∙ x.long;
         ample = ample_after q u e g (all_items (rule_fields y)) (all_nodes (rule_fields y)) stored s x.ample pace.0 pace.1 inside;
       }
     where
@@ -284,7 +234,7 @@ module _ {s : List ℕ} (octets : Octets s) {issued n : ℕ} {p : Place} {d e : 
       join ps y (got gs m) = ap (λ (k : List Pattern). got k m) (sym (append_assoc ps (y ∷ []) gs))
       join ps y (refused c) = refl
 
-  pub rules_stop : r < n → (c : ℕ) (g : Area) (vs : List ℕ) → RuleDone (fields.rule s issued q.at) s q e g r us vs (Stopped c) → fields.rule_list s issued n p.at ≡ refused c
+  pub rules_stop : r < n → (c : ℕ) (g : Area) (vs : List Rule) → RuleDone (fields.rule s issued q.at) s q e g r us vs (Stopped c) → fields.rule_list s issued n p.at ≡ refused c
   rules_stop h c g vs y =
       whole_split h ∙ ap (λ (z : Result Pattern). bind (bind z (λ y m. bind (fields.rule_list s issued (n - (r + 1)) m) (λ ys j. got (y ∷ ys) j))) (λ gs m. got (x.read ++ gs) m)) y.0
 
@@ -302,7 +252,7 @@ module _ {s : List ℕ} (octets : Octets s) {issued n : ℕ} {p : Place} {d e : 
         x.stored,
         x.ample.inside,
         omega (arith, x.count),
-        λ k. x.words (omega arith),
+        x.placed,
       )
     where
       nil : (k : List Pattern) → k ++ [] ≡ k

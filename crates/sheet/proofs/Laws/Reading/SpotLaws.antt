@@ -7,16 +7,16 @@ use Prim.Native.Nat.{ℕ, zero, suc, ◌+◌, ◌*◌, ◌≤◌, ◌<◌}
 use native.Mathlib.Decide.{dec_lt}
 use native.Mathlib.Omega.{arith}
 use borrow.Author.Tests.{ne_eqb}
-use lib.ListN.{length, length-append, get_or, take}
-use lib.Seq.{get_or-take, length-take-le}
+use lib.ListN.{length, length-append, get_or}
 use Rattle.solver.specs.Terms.Tokens.{Item, item, spell, toks}
 use Rattle.solver.specs.Terms.Term.{Term, var, node, end, sub, items, part_items, size}
 use Rattle.solver.specs.Terms.Tree.{put_terms}
 use Rattle.solver.specs.Terms.Rows.{argument_row}
 use Rattle.solver.specs.Terms.Substitution.{Receiver}
-use Rattle.solver.specs.Terms.Lookup.{Pattern, rule_at, HeldRule, Ruled}
+use Rattle.solver.specs.Terms.Lookup.{Pattern, HeldRule, Ruled}
 use Rattle.solver.proofs.Terms.Bools.{never_true}
 use Rattle.solver.proofs.Terms.KindTableLaws.{both_true}
+use Rattle.solver.specs.TermTypes.{Rule}
 use Rattle.sheet.specs.declared.FieldSpot.{FieldSpot}
 use Rattle.sheet.specs.declared.FieldSpots.{FieldSpots}
 use Rattle.sheet.specs.Fields as fields
@@ -26,7 +26,7 @@ use Rattle.sheet.specs.Operations.{operations}
 use Rattle.sheet.specs.Sheet.{table}
 use Rattle.sheet.specs.Words.FieldsHeld.{HeldField, HeldFields, Follows}
 use Rattle.sheet.specs.Words.OrderGiven.{OfSort, FitsLayout}
-use Rattle.sheet.specs.Words.FieldLayout.{Plain, Plains, rule_items, field_items, all_items, rule_words, RulesAt, SpotOf, spot_at, put_spot, no_fields, start_at, Spots}
+use Rattle.sheet.specs.Words.FieldLayout.{Plain, Plains, rule_items, field_items, all_items, placed_rule, placed_rules, SpotOf, spot_at, put_spot, no_fields, start_at, Spots}
 use Rattle.sheet.proofs.Laws.Reading.OrderTableLaws.{all, every_row}
 
 -- ---- one field more
@@ -92,7 +92,7 @@ nodes_more [] f = omega arith
 nodes_more (g ∷ fs) f = omega (arith, nodes_more fs f)
 
 -- no field, no spot
-pub spots_none : (s ws : List ℕ) (a : ℕ) → Spots s ws a no_fields []
+pub spots_none : (s : List ℕ) (ws : List Rule) (a : ℕ) → Spots s ws a no_fields []
 unfolding spot_at nth
 spots_none s ws a zero h = refl
 spots_none s ws a (suc zero) h = refl
@@ -101,7 +101,7 @@ spots_none s ws a (suc (suc (suc zero))) h = refl
 spots_none s ws a (suc (suc (suc (suc i)))) h = refl
 
 -- one field more, at the next spot; the words may change where it is the first
-pub spots_more : (s ws us : List ℕ) (a : ℕ) (o : FieldSpots) (fs : List Field) (i : ℕ) (x : FieldSpot) (f : Field) → i ≡ length fs → i < 5 → (0 < i → us ≡ ws)
+pub spots_more : (s : List ℕ) (ws us : List Rule) (a : ℕ) (o : FieldSpots) (fs : List Field) (i : ℕ) (x : FieldSpot) (f : Field) → i ≡ length fs → i < 5 → (0 < i → us ≡ ws)
     → Spots s ws a o fs → SpotOf s us (a + length (all_items fs)) x f → Spots s us a (put_spot i x o) (fs ++ (f ∷ []))
 spots_more s ws us a o fs i x f e h w y l j k = go (dec_lt j i) (dec_lt i j)
   where
@@ -148,20 +148,9 @@ unfolding put_terms argument_row
 terms_row [] = refl
 terms_row (t ∷ ts) = ap (sub t) (terms_row ts)
 
-module _ (ks vs ws : List ℕ) (n : ℕ) (long : 6 * n ≤ length ws) where
-  rule_cut : (r : ℕ) → r < n → rule_at (take (6 * n) ws) r ≡ rule_at ws r
-  rule_cut r h =
-      rw (
-        get_or-take (6 * n) ws (6 * r) 0 (omega arith),
-        get_or-take (6 * n) ws (6 * r + 1) 0 (omega arith),
-        get_or-take (6 * n) ws (6 * r + 2) 0 (omega arith),
-        get_or-take (6 * n) ws (6 * r + 3) 0 (omega arith),
-        get_or-take (6 * n) ws (6 * r + 4) 0 (omega arith),
-        get_or-take (6 * n) ws (6 * r + 5) 0 (omega arith),
-      )
-
+module _ (ks vs : List ℕ) where
   rule_held : (a : ℕ) (p : Pattern) (rs : List Pattern) → toks ks vs a (length (rule_items (p ∷ rs))) ≡ rule_items (p ∷ rs) → a + length (rule_items (p ∷ rs)) ≤ length ks
-      → HeldRule ks vs (rule_words a p) p × (toks ks vs (a + length (rule_items (p ∷ []))) (length (rule_items rs)) ≡ rule_items rs)
+      → HeldRule ks vs (placed_rule a p) p × (toks ks vs (a + length (rule_items (p ∷ []))) (length (rule_items rs)) ≡ rule_items rs)
       × (a + length (rule_items (p ∷ [])) + length (rule_items rs) ≤ length ks)
   unfolding rule_items
   rule_held a p rs e w =
@@ -195,20 +184,17 @@ module _ (ks vs ws : List ℕ) (n : ℕ) (long : 6 * n ≤ length ws) where
         omega arith,
       )
 
-  rules_held : (r a : ℕ) (rs : List Pattern) → r + length rs ≡ n → RulesAt ws r a rs → toks ks vs a (length (rule_items rs)) ≡ rule_items rs → a + length (rule_items rs) ≤ length ks
-      → Ruled ks vs (take (6 * n) ws) r rs
-  unfolding RulesAt
-  rules_held r a [] e x t w = omega (arith, length-take-le (6 * n) ws long)
-  rules_held r a (p ∷ rs) e x t w =
+  rules_held : (a : ℕ) (rs : List Pattern) → toks ks vs a (length (rule_items rs)) ≡ rule_items rs → a + length (rule_items rs) ≤ length ks → Ruled ks vs (placed_rules a rs) rs
+  unfolding placed_rules
+  rules_held a [] t w = tt
+  rules_held a (p ∷ rs) t w =
       let h = rule_held a p rs t w in
-      let same : rule_at (take (6 * n) ws) r ≡ rule_words a p = rule_cut r (omega arith) ∙ x.0 in
-      let next : r + 1 ≡ suc r = omega arith in
-      (omega (arith, length-take-le (6 * n) ws long), rw same h.0, rw next (rules_held (suc r) (a + length (rule_items (p ∷ []))) rs (omega arith) x.1 h.1 h.2))
+      (h.0, rules_held (a + length (rule_items (p ∷ []))) rs h.1 h.2)
 
 -- ---- fields, held
 
--- the words have room for the rules
-abbrev pub RulesFit : List ℕ → Field → Type 0
+-- there is room for the rules
+abbrev pub RulesFit : List Rule → Field → Type 0
 RulesFit ws (value n) = Unit {0}
 RulesFit ws (bounded b n) = Unit {0}
 RulesFit ws (tree t) = Unit {0}
@@ -217,9 +203,9 @@ RulesFit ws (entered es) = Unit {0}
 RulesFit ws (received rs) = Unit {0}
 RulesFit ws (named ps) = Unit {0}
 RulesFit ws (listed ts) = Unit {0}
-RulesFit ws (ruled rs) = 6 * length rs ≤ length ws
+RulesFit ws (ruled rs) = length rs ≤ length ws
 
-rules_fit : (ws : List ℕ) (f : Field) → 3 * nodes f ≤ length ws → RulesFit ws f
+rules_fit : (ws : List Rule) (f : Field) → nodes f ≤ 2 * length ws → RulesFit ws f
 unfolding nodes
 rules_fit ws (value n) h = tt
 rules_fit ws (bounded b n) h = tt
@@ -231,7 +217,7 @@ rules_fit ws (named ps) h = tt
 rules_fit ws (listed ts) h = tt
 rules_fit ws (ruled rs) h = omega (arith, rule_nodes_lem rs)
 
-field_held : (ks vs s ws : List ℕ) (a : ℕ) (x : FieldSpot) (f : Field) → SpotOf s ws a x f → RulesFit ws f → toks ks vs a (length (field_items f)) ≡ field_items f → a + length (field_items f) ≤ length ks
+field_held : (ks vs s : List ℕ) (ws : List Rule) (a : ℕ) (x : FieldSpot) (f : Field) → SpotOf s ws a x f → RulesFit ws f → toks ks vs a (length (field_items f)) ≡ field_items f → a + length (field_items f) ≤ length ks
     → HeldField ks vs s ws x f
 unfolding field_items
 field_held ks vs s ws a x (value n) l r t w = l
@@ -242,7 +228,7 @@ field_held ks vs s ws a x (entered es) l r t w = (l.0, rw (l.1, l.2) (record { t
 field_held ks vs s ws a x (received rs) l r t w = (l.0, rw (l.1, l.2) (record { tokens = t; ends = refl; within = w }))
 field_held ks vs s ws a x (named ps) l r t w = l
 field_held ks vs s ws a x (listed ts) l r t w = (l.0, rw (l.1, l.2) (record { tokens = t; ends = refl; within = w }))
-field_held ks vs s ws a x (ruled rs) l r t w = (l.0, rw l.0 r, rw l.0 (rules_held ks vs ws (length rs) r 0 a rs (omega arith) (l.1 r) t w))
+field_held ks vs s ws a x (ruled rs) l r t w = (l.0, rw l.0 r, rw (l.0, l.1 r) (rules_held ks vs a rs t w))
 
 -- the tokens of the i-th field
 start_toks : (ks vs : List ℕ) (fs : List Field) (a i : ℕ) → toks ks vs a (length (all_items fs)) ≡ all_items fs → a + length (all_items fs) ≤ length ks
@@ -342,7 +328,7 @@ start_next (f ∷ []) a zero = refl
 start_next (f ∷ (g ∷ fs)) a zero = refl
 start_next (f ∷ fs) a (suc i) = start_next fs (a + length (field_items f)) i
 
-laid_follows : (s ws : List ℕ) (a : ℕ) (x y : FieldSpot) (f g : Field) → FollowedBy f g → SpotOf s ws a x f → SpotOf s ws (a + length (field_items f)) y g → Follows f x y
+laid_follows : (s : List ℕ) (ws : List Rule) (a : ℕ) (x y : FieldSpot) (f g : Field) → FollowedBy f g → SpotOf s ws a x f → SpotOf s ws (a + length (field_items f)) y g → Follows f x y
 unfolding field_items
 laid_follows s ws a x y (value n) g h l m = tt
 laid_follows s ws a x y (bounded b n) g h l m = tt
@@ -354,8 +340,8 @@ laid_follows s ws a x y (named ps) g h l m = tt
 laid_follows s ws a x y (listed ts) g h l m = tt
 laid_follows s ws a x y (ruled rs) g h l m = tt
 
--- rules have room: there are none, or the words are many
-rules_none : (ws : List ℕ) (a : FieldSort) (f : Field) → Plain a → OfSort a f → RulesFit ws f
+-- rules have room: there are none, or room for many
+rules_none : (ws : List Rule) (a : FieldSort) (f : Field) → Plain a → OfSort a f → RulesFit ws f
 unfolding Plain
 rules_none ws fields.ordinary f h x = rw x.1 tt
 rules_none ws fields.code f h x = rw x.1 tt
@@ -369,7 +355,7 @@ rules_none ws fields.parameters f h x = rw x.1 tt
 rules_none ws fields.arguments f h x = rw x.1 tt
 rules_none ws fields.rules f h x = absurd h
 
-pub plain_fit : (ws : List ℕ) (l : List FieldSort) (fs : List Field) → Plains l → FitsLayout l fs → (i : ℕ) → RulesFit ws (nth i fs)
+pub plain_fit : (ws : List Rule) (l : List FieldSort) (fs : List Field) → Plains l → FitsLayout l fs → (i : ℕ) → RulesFit ws (nth i fs)
 unfolding FitsLayout nth Plains
 plain_fit ws [] [] p h i = tt
 plain_fit ws [] (f ∷ fs) p h i = absurd h
@@ -377,10 +363,10 @@ plain_fit ws (a ∷ l) [] p h i = absurd h
 plain_fit ws (a ∷ l) (f ∷ fs) p h zero = rules_none ws a f p.0 h.0
 plain_fit ws (a ∷ l) (f ∷ fs) p h (suc i) = plain_fit ws l fs p.1 h.1 i
 
-pub rules_room : (ws : List ℕ) (fs : List Field) → 3 * all_nodes fs ≤ length ws → (i : ℕ) → RulesFit ws (nth i fs)
+pub rules_room : (ws : List Rule) (fs : List Field) → all_nodes fs ≤ 2 * length ws → (i : ℕ) → RulesFit ws (nth i fs)
 rules_room ws fs h i = rules_fit ws (nth i fs) (omega (arith, nth_nodes fs i))
 
-pub spots_held : (ks vs s ws : List ℕ) (a : ℕ) (o : FieldSpots) (fs : List Field) → Spots s ws a o fs → ((i : ℕ) → RulesFit ws (nth i fs)) → ((i : ℕ) → FollowedBy (nth i fs) (nth (suc i) fs))
+pub spots_held : (ks vs s : List ℕ) (ws : List Rule) (a : ℕ) (o : FieldSpots) (fs : List Field) → Spots s ws a o fs → ((i : ℕ) → RulesFit ws (nth i fs)) → ((i : ℕ) → FollowedBy (nth i fs) (nth (suc i) fs))
     → toks ks vs a (length (all_items fs)) ≡ all_items fs → a + length (all_items fs) ≤ length ks → HeldFields ks vs s ws o fs
 unfolding spot_at
 spots_held ks vs s ws a o fs y r n t w =

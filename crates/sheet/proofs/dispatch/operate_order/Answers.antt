@@ -16,7 +16,7 @@ invariant_of-posed-2 c =
 pub operate-next-requires : goal.operate-next-requires
 operate-next-requires c =
     let p = c.requires in
-    record { lends = taken_lends p.taken.2 p.within; asks = taken_asks p.taken.2 p.within p.kind; few = p.words; room = p.room }
+    record { lends = taken_lends p.taken.2 p.within; asks = taken_asks p.taken.2 p.within p.kind; room = p.room }
 
 pub returns : goal.returns
 returns c =

@@ -11,7 +11,7 @@ pub loop-i-init : goal.loop-i-init
 loop-i-init g c =
     let a = c.args in
     let o : c.default-o.result ≡ no_fields = search rules in
-    record { through = through_start _ _ _ _ a.place.now (area a.kinds.now a.vals.now) c.requires.layout c.requires.free c.requires.ample o; words = λ h. refl }
+    record { through = through_start _ _ _ _ a.place.now (area a.kinds.now a.vals.now) c.requires.layout c.requires.free c.requires.ample o; same = λ h. refl }
 
 pub returns-in-Err-clause-done : goal.returns-in-Err-clause-done
 returns-in-Err-clause-done g c =
@@ -21,9 +21,9 @@ returns-in-Err-clause-done g c =
     let y = rw c.in-Err.is at c.read.ensures.done in
     (through_stop oct c.read.new.rules _ c.args.sorts.now l.invariant.through c.loop-i-test.true _ e y, through_undo _ c.args.sorts.now l.invariant.through e _ _ c.requires.free y.1 refl c.clear_tokens.ensures)
 
-pub returns-in-Err-clause-words : goal.returns-in-Err-clause-words
-returns-in-Err-clause-words g c = λ h.
-    c.read.ensures.words (plain_here (octets c.args.s.now (λ i. omega (arith, c.type_inv.s i))) c.read.new.rules _ c.args.sorts.now c.loop-i.invariant.through c.loop-i-test.true h) ∙ c.loop-i.invariant.words h
+pub returns-in-Err-clause-same : goal.returns-in-Err-clause-same
+returns-in-Err-clause-same g c = λ h.
+    c.read.ensures.same (plain_here (octets c.args.s.now (λ i. omega (arith, c.type_inv.s i))) c.read.new.rules _ c.args.sorts.now c.loop-i.invariant.through c.loop-i-test.true h) ∙ c.loop-i.invariant.same h
 
 pub loop-i-preserved : goal.loop-i-preserved
 loop-i-preserved g c =
@@ -31,8 +31,8 @@ loop-i-preserved g c =
     let m = c.read in
     let oct = octets c.args.s.now (λ i. omega (arith, c.type_inv.s i)) in
     rw c.put_spot-o.ensures record {
-      through = through_more oct m.new.rules _ c.args.sorts.now l.invariant.through c.loop-i-test.true m.ensures.words _ _ (area m.new.kinds m.new.vals) (rw c.in-Ok.is at m.ensures.done);
-      words = λ h. m.ensures.words (plain_here oct m.new.rules _ c.args.sorts.now l.invariant.through c.loop-i-test.true h) ∙ l.invariant.words h;
+      through = through_more oct m.new.rules _ c.args.sorts.now l.invariant.through c.loop-i-test.true m.ensures.same _ _ (area m.new.kinds m.new.vals) (rw c.in-Ok.is at m.ensures.done);
+      same = λ h. m.ensures.same (plain_here oct m.new.rules _ c.args.sorts.now l.invariant.through c.loop-i-test.true h) ∙ l.invariant.same h;
     }
 
 pub returns-clause-done : goal.returns-clause-done

@@ -1,7 +1,6 @@
 -- `normalised`: normalised by the rules, then settled.
 use mathlib.Core.Path.{sym, ap}
 use native.Mathlib.Omega.{arith}
-use lib.ListN.{length-take}
 use lib.Seq.{length-take-le}
 use Rattle.sheet.specs.Operations.{settled}
 use Rattle.solver.specs.Terms.Lookup.{by_patterns}
@@ -16,9 +15,6 @@ overflow_cast-p c =
     let x = ((ruling _ _ _ _ _).asked c.requires.asks).1.normalises in
     omega (arith, held_in _ _ _ _ x.term, c.args.posed.now.few)
 
-pub overflow_mul-n : goal.overflow_mul-n
-overflow_mul-n c = omega (arith, ((ruling _ _ _ _ _).asked c.requires.asks).1.enough, c.requires.few)
-
 pub slice_bounds-normalise-end : goal.slice_bounds-normalise-end
 slice_bounds-normalise-end c = sym (length-take-le _ _ ((ruling _ _ _ _ _).asked c.requires.asks).1.enough)
 
@@ -28,7 +24,6 @@ normalise-r-requires c =
     let x = f.normalises in record {
       lends = c.requires.lends;
       place = c.requires.room.inside;
-      few = simp length-take (omega (arith, c.requires.few));
       terms = record { term = f.term; patterns = f.patterns; held = x.term; ruled = x.rules };
     }
 

@@ -4,7 +4,7 @@ use Rattle.solver.proofs.Terms.Options.{handed_on}
 use Rattle.solver.specs.Terms.Tokens.{area}
 use Rattle.sheet.specs.Words.FieldLayout.{sort_of}
 use Rattle.sheet.proofs.Laws.Reading.PartLaws.{ample_after}
-use Rattle.sheet.proofs.Laws.Reading.OrderLaws.{rules_small, rules_refused, rules_field, rules_none}
+use Rattle.sheet.proofs.Laws.Reading.OrderLaws.{rules_refused, rules_field, rules_none}
 use Rattle.sheet.proofs.order_reader.rules_field.Goals as goal
 
 pub returns-in_err-value : goal.returns-in_err-value
@@ -21,7 +21,6 @@ read_rules-requires c =
     record {
       ample = ample_after a.s.now a.place.now _ _ x c.requires.ample;
       free = rw x.place c.requires.free;
-      few = rules_small a.s.now a.place.now.at _ _ c.requires.ample.inside x.is;
     }
 
 pub returns-in_err-read_rules : goal.returns-in_err-read_rules

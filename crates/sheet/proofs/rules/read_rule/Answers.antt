@@ -1,9 +1,8 @@
 use mathlib.Core.Path.{ap₂, ◌∙◌}
 use mathlib.Core.List.{List}
-use Prim.Native.Nat.{ℕ}
+use lib.ListN.{set}
 use native.Mathlib.Omega.{arith}
 use Rattle.solver.specs.Terms.Tokens.{area}
-use Rattle.solver.specs.Terms.Lookup.{put_rule}
 use Rattle.solver.specs.TermTypes.{Rule}
 use Rattle.solver.proofs.Terms.Options.{handed_on}
 use Rattle.solver.proofs.Terms.Shortest.{octets}
@@ -25,12 +24,12 @@ pub returns-in_err-o : goal.returns-in_err-o
 unfolding plain_of sort_of
 returns-in_err-o c = rw (handed_on _ _ c.from_residual.ensures.1) (rule_refused _ _ _ c.in_err-o.ensures.done.0, c.in_err-o.ensures.done.1)
 
-pub keep_rule-requires-clause-words : goal.keep_rule-requires-clause-words
-keep_rule-requires-clause-words c = (here (goal.at.keep_rule-requires-clause-words c).In_ok-o).fits
+pub keep_rule-requires : goal.keep_rule-requires
+keep_rule-requires c = (here (goal.at.keep_rule-requires c).In_ok-o).fits
 
 pub returns : goal.returns
 unfolding plain_of sort_of Plain Plains
 returns c =
     let x = here (goal.at.returns c).In_ok-o in
-    let same = c.in_ok-o.ensures.words (tt, (tt, (tt, (tt, (tt, tt))))) in
-    (x.rule, x.found, x.stored, x.inside, c.keep_rule.ensures ∙ ap₂ (λ (ws : List ℕ) (z : Rule). put_rule ws c.args.r z) same x.words)
+    let same = c.in_ok-o.ensures.same (tt, (tt, (tt, (tt, (tt, tt))))) in
+    (x.rule, x.found, x.stored, x.inside, c.keep_rule.ensures ∙ ap₂ (λ (ws : List Rule) (z : Rule). set ws c.args.r z) same x.is)

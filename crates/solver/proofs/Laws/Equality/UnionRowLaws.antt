@@ -6,10 +6,10 @@ use Prim.Native.Nat.{ℕ, ◌+◌, ◌≤◌, ◌<◌}
 use native.Mathlib.Omega.{arith}
 use native.Mathlib.Decide.{ℕ_discrete}
 use lib.ListN.{length, get_or}
-use Rattle.terms.specs.Term.{Term, Parts, node, end, num, sub, items, Held}
+use Rattle.terms.specs.Term.{Term, Parts, end, num, sub, items, Held}
 use Rattle.terms.specs.Words.Held.{HeldParts, span}
 use Rattle.terms.proofs.Laws.General.Bools.{never_true}
-use Rattle.terms.proofs.Laws.Held.HeldLaws.{held_first, span_is, items_some, row_end, row_num, row_sub, held_node}
+use Rattle.terms.proofs.Laws.Held.HeldLaws.{held_first, span_is, items_some, row_end, row_num, row_sub}
 use Rattle.solver.specs.Constrain.{replace, replace_row}
 use Rattle.solver.specs.Words.CongruenceClasses.{Keeps, Coincide, CoincideRow, Pairwise, Linked, Fair, Honest, Outcome}
 use Rattle.solver.proofs.Laws.Equality.LinkLaws.{linked_keeps}
@@ -21,12 +21,6 @@ skip_is ks vs k e r t h b f =
     let q = held_first ks vs k t h in
     let s : span (get_or ks k 0) (get_or vs k 0) ≡ length (items t) = rw (q.0, q.1) (span_is t) in
     f (omega (arith, items_some t)) (omega arith) ∙ s
-
--- the row of the node at p, where `skip` says n
-pub row_of : (ks vs : List ℕ) (p n k : ℕ) (ps : Parts) → Held ks vs p (node k ps)
-    → (1 ≤ span (get_or ks p 0) (get_or vs p 0) → p + span (get_or ks p 0) (get_or vs p 0) ≤ length ks → n ≡ span (get_or ks p 0) (get_or vs p 0))
-    → HeldParts ks vs (p + 1) (p + n) ps
-row_of ks vs p n k ps h f = rw (skip_is ks vs p (length ks) n (node k ps) h h.within f) (held_node ks vs p k ps h)
 
 module _ (ks vs : List ℕ) (σ : ℕ → Term) (τ : Term → Term) where
   -- the walk at i and j: what is left of both rows; if that joins, so do the rows, and if the rows are the same, so is that

@@ -5,10 +5,7 @@ use Rattle.solver.proofs.Laws.Checks.CheckContractLaws.{due_places, due_same, du
 use Rattle.solver.proofs.Solver.check_pair.Goals as goal
 
 pub same_terms-requires-clause-places : goal.same_terms-requires-clause-places
-same_terms-requires-clause-places c =
-    let D = c.requires.due.3 in
-    let p = due_places D in
-    (p.0, p.1, D.represents.short)
+same_terms-requires-clause-places c = due_places c.requires.due.3
 
 pub returns-then-same_terms-clause-after : goal.returns-then-same_terms-clause-after
 returns-then-same_terms-clause-after c = λ s t u ps D W. turned_same D _ W (due_same D c.same_terms.ensures.term ∙ c.if-same_terms.true)

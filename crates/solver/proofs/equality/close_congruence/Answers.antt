@@ -25,7 +25,7 @@ pub union_parts-requires-clause-places : goal.union_parts-requires-clause-places
 union_parts-requires-clause-places c =
     let l = c.loop-done in
     let t = taken_entry _ l.invariant.1.wired l.done (omega arith) refl in
-    (t.0, omega (arith, t.0, t.1, t.3, t.4), c.requires.areas)
+    (t.0, omega (arith, t.0, t.1, t.3, t.4))
 
 pub returns-then-not-union_parts : goal.returns-then-not-union_parts
 returns-then-not-union_parts c =

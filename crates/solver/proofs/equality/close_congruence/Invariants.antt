@@ -13,10 +13,10 @@ use Rattle.solver.proofs.equality.close_congruence.Given as goal
 abbrev pub invariant-loop-done : goal.invariant-loop-done
 invariant-loop-done l =
     (l.done ≤ l.top)
-    × AdvancedIn l.tokens.kinds.now l.initial.work l.initial.top l.work l.top
-    × ((b : ℕ → Option Term) → HeldSteady l.tokens.kinds.now l.tokens.vals.now l.bound l.most b → Fair l.tokens.kinds.now l.tokens.vals.now (link_words l.tokens.kinds.now l.initial.work)
-    → Going l.tokens.kinds.now l.tokens.vals.now (stands_for l.most b) (follow l.most b) (link_words l.tokens.kinds.now l.initial.work) (link_words l.tokens.kinds.now l.work) (queue_words l.tokens.kinds.now l.work) l.done)
+    × AdvancedIn l.bindings.tokens.kinds.now l.initial.work l.initial.top l.work l.top
+    × ((b : ℕ → Option Term) → HeldSteady l.bindings b → Fair l.bindings.tokens.kinds.now l.bindings.tokens.vals.now (link_words l.bindings.tokens.kinds.now l.initial.work)
+    → Going l.bindings.tokens.kinds.now l.bindings.tokens.vals.now (stands_for l.bindings.most b) (follow l.bindings.most b) (link_words l.bindings.tokens.kinds.now l.initial.work) (link_words l.bindings.tokens.kinds.now l.work) (queue_words l.bindings.tokens.kinds.now l.work) l.done)
     × (length l.work ≡ length l.initial.work)
 
 abbrev pub decreases-loop-done : goal.decreases-loop-done
-decreases-loop-done l = begins l.tokens.kinds.now - l.done
+decreases-loop-done l = begins l.bindings.tokens.kinds.now - l.done

@@ -12,7 +12,7 @@ use Rattle.solver.proofs.equality.same_terms.Goals as goal
 use Rattle.solver.proofs.equality.same_terms.Goals.{Joined-union_terms}
 
 -- the words are wired, whether or not the two terms were joined
-linked : (c : Joined-union_terms) → WiredIn c.args.tokens.now.kinds.now c.if-union_terms.work c.if-union_terms.top
+linked : (c : Joined-union_terms) → WiredIn c.args.bindings.now.tokens.kinds.now c.if-union_terms.work c.if-union_terms.top
 linked c =
     elim c.if-union_terms.branch [
       | then-union_terms w ↦ rw (w.work-is, w.top-is) w.close_congruence-equal.ensures.advanced.wired
@@ -22,25 +22,25 @@ linked c =
 pub clear_queue-requires : goal.clear_queue-requires
 clear_queue-requires c =
     let w = linked (goal.at.clear_queue-requires c).Joined-union_terms in
-    (links_fit _ w, clear_start c.args.tokens.now.kinds.now _ _ _ w)
+    (links_fit _ w, clear_start c.args.bindings.now.tokens.kinds.now _ _ _ w)
 
 pub returns-clause-term : goal.returns-clause-term
 returns-clause-term c =
     let a = c.args in
-    let w = link_words a.tokens.now.kinds.now a.work.now in
-    let z = zero_links (length a.tokens.now.kinds.now) a.work.now c.requires.room.1 in
+    let w = link_words a.bindings.now.tokens.kinds.now a.work.now in
+    let z = zero_links (length a.bindings.now.tokens.kinds.now) a.work.now c.requires.room.1 in
     let d = c.union_terms.ensures in
     λ t u b ht hu h S T.
-    let e : HeldSteady a.tokens.now.kinds.now a.tokens.now.vals.now a.bound.now a.most b = record { held = h; steady = S; topped = T } in
+    let e : HeldSteady a.bindings.now b = record { held = h; steady = S; topped = T } in
     let s = steady_standing S T in
     let j = d.terms b t u e ht hu (zero_fair _ _ w z) in
     elim c.if-union_terms.branch [
       | then-union_terms x ↦
           let k = x.close_congruence-equal.ensures in
           let g = k.terms b e j.fair in
-          x.equal-is ∙ answer a.most b t u _
-          (decide_yes _ _ (stands_for a.most b) (follow a.most b) s w z _ _ t u j _ k.advanced.keeps _ g x.if-union_terms.true)
-          (decide_apart _ _ (stands_for a.most b) (follow a.most b) s w z _ _ t u j _ k.advanced.keeps _ g x.if-union_terms.true)
+          x.equal-is ∙ answer a.bindings.now.most b t u _
+          (decide_yes _ _ (stands_for a.bindings.now.most b) (follow a.bindings.now.most b) s w z _ _ t u j _ k.advanced.keeps _ g x.if-union_terms.true)
+          (decide_apart _ _ (stands_for a.bindings.now.most b) (follow a.bindings.now.most b) s w z _ _ t u j _ k.advanced.keeps _ g x.if-union_terms.true)
       | else-union_terms x ↦
-          x.equal-is ∙ x.if-union_terms.false ∙ answer a.most b t u _ never_true (λ _. decide_no _ _ (stands_for a.most b) (follow a.most b) s w z _ _ t u j x.if-union_terms.false)
+          x.equal-is ∙ x.if-union_terms.false ∙ answer a.bindings.now.most b t u _ never_true (λ _. decide_no _ _ (stands_for a.bindings.now.most b) (follow a.bindings.now.most b) s w z _ _ t u j x.if-union_terms.false)
     ]

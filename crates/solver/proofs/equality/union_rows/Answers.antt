@@ -4,8 +4,8 @@ use Rattle.solver.proofs.Laws.Equality.UnionRowLaws.{walk_number, walk_join, wal
 use borrow.Author.Rules.{rules}
 use Rattle.solver.proofs.equality.union_rows.Goals as goal
 
-pub returns-then-be-j-clause-terms : goal.returns-then-be-j-clause-terms
-returns-then-be-j-clause-terms c = λ h ps qs e hp hq fa. no_short _ _ _ _ (c.loop-i.invariant.3 h ps qs e hp hq fa) (omega arith) c.if-be-j.true
+pub returns-then-b-j-clause-terms : goal.returns-then-b-j-clause-terms
+returns-then-b-j-clause-terms c = λ h ps qs e hp hq fa. no_short _ _ _ _ (c.loop-i.invariant.3 h ps qs e hp hq fa) (omega arith) c.if-b-j.true
 
 pub returns-then-tokens-j-ne0-clause-terms : goal.returns-then-tokens-j-ne0-clause-terms
 returns-then-tokens-j-ne0-clause-terms c = λ h ps qs e hp hq fa.
@@ -58,8 +58,8 @@ loop-i-preserved c =
       search rules,
     )
 
-pub returns-then-j-be-clause-terms : goal.returns-then-j-be-clause-terms
-returns-then-j-be-clause-terms c = λ h ps qs e hp hq fa. no_long _ _ _ _ (c.loop-i.invariant.3 h ps qs e hp hq fa) (omega arith) c.if-j-be.true
+pub returns-then-j-b-clause-terms : goal.returns-then-j-b-clause-terms
+returns-then-j-b-clause-terms c = λ h ps qs e hp hq fa. no_long _ _ _ _ (c.loop-i.invariant.3 h ps qs e hp hq fa) (omega arith) c.if-j-b.true
 
 pub returns-clause-terms : goal.returns-clause-terms
-returns-clause-terms c = λ h ps qs e hp hq fa. walk_yes _ _ _ _ (c.loop-i.invariant.3 h ps qs e hp hq fa) (omega arith) c.if-j-be.false
+returns-clause-terms c = λ h ps qs e hp hq fa. walk_yes _ _ _ _ (c.loop-i.invariant.3 h ps qs e hp hq fa) (omega arith) c.if-j-b.false

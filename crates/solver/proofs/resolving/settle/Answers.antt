@@ -34,7 +34,7 @@ loop-c-preserved-then-c c =
       sound_pop _ _ _ _ _ _ l.invariant.0 (omega arith),
       sym (rest_pop _ _ _ _ l.frames l.c.at l.c.end l.c.depth (omega arith) (omega arith)) ∙ l.invariant.1,
       simp length-set l.invariant.2,
-      apart_push a.most a.frames.now l.frames (l.c.depth - 1) 0 0 l.invariant.3 (omega (arith, l.invariant.0.depth)),
+      apart_push a.bindings.now.most a.frames.now l.frames (l.c.depth - 1) 0 0 l.invariant.3 (omega (arith, l.invariant.0.depth)),
       λ b. bare_pop l.frames l.c.depth (omega arith) (omega (arith, l.invariant.0.depth, l.invariant.0.room)) (l.invariant.4 b),
     )
 
@@ -45,7 +45,7 @@ returns-in_default c =
     record {
       ready = record {
         sound = l.invariant.0;
-        head = λ h. rest_leaf one [] a.tokens.now.kinds.now a.tokens.now.vals.now a.bound.now a.most l.frames l.c.at l.c.end l.c.depth _ _ h c.in_default.ensures.entered refl;
+        head = λ h. rest_leaf one [] a.bindings.now.tokens.kinds.now a.bindings.now.tokens.vals.now a.bindings.now.bound.now a.bindings.now.most l.frames l.c.at l.c.end l.c.depth _ _ h c.in_default.ensures.entered refl;
         over = λ h. absurd (omega (arith, l.invariant.0.order));
         alone = λ h. absurd (omega (arith, l.invariant.0.order));
       };
@@ -61,7 +61,7 @@ loop-c-smaller c =
     let f = c.in-Some.ensures.filled _ refl in
     let i = c.in-Some.ensures.entered in
     let o = entered_open _ _ _ _ _ _ _ i f in
-    steps_into a.tokens.now.kinds.now a.tokens.now.vals.now a.bound.now a.most l.frames l.c.at l.c.end l.c.depth _ _ (omega (arith, l.invariant)) i f (omega (arith, l.invariant))
+    steps_into a.bindings.now.tokens.kinds.now a.bindings.now.tokens.vals.now a.bindings.now.bound.now a.bindings.now.most l.frames l.c.at l.c.end l.c.depth _ _ (omega (arith, l.invariant)) i f (omega (arith, l.invariant))
 
 pub loop-c-preserved : goal.loop-c-preserved
 loop-c-preserved c =
@@ -71,8 +71,8 @@ loop-c-preserved c =
     let i = c.in-Some.ensures.entered in
     let o = entered_open _ _ _ _ _ _ _ i f in (
       sound_push _ _ _ _ _ _ _ _ l.invariant.0 (omega (arith, l.invariant)) (omega arith) i.within,
-      sym (rest_into one [] a.tokens.now.kinds.now a.tokens.now.vals.now a.bound.now a.most l.frames l.c.at l.c.end l.c.depth _ _ (omega (arith, l.invariant)) i f (omega (arith, l.invariant))) ∙ l.invariant.1,
+      sym (rest_into one [] a.bindings.now.tokens.kinds.now a.bindings.now.tokens.vals.now a.bindings.now.bound.now a.bindings.now.most l.frames l.c.at l.c.end l.c.depth _ _ (omega (arith, l.invariant)) i f (omega (arith, l.invariant))) ∙ l.invariant.1,
       simp length-set l.invariant.2,
-      apart_push a.most a.frames.now l.frames l.c.depth (l.c.at + 1) l.c.end l.invariant.3 (omega arith),
+      apart_push a.bindings.now.most a.frames.now l.frames l.c.depth (l.c.at + 1) l.c.end l.invariant.3 (omega arith),
       λ b. bare_push l.frames l.c.depth (l.c.at + 1) l.c.end (l.invariant.4 b),
     )

@@ -9,11 +9,11 @@ use Rattle.solver.proofs.resolving.settle.Given as goal
 
 abbrev pub invariant-loop-c : goal.invariant-loop-c
 invariant-loop-c l =
-    Sound l.tokens.kinds.now l.most l.frames l.c
-    × (left l.tokens.kinds.now l.tokens.vals.now l.bound l.most l.frames l.c ≡ left l.tokens.kinds.now l.tokens.vals.now l.bound l.most l.initial.frames l.initial.c)
+    Sound l.bindings.tokens.kinds.now l.bindings.most l.frames l.c
+    × (left l.bindings.tokens.kinds.now l.bindings.tokens.vals.now l.bindings.bound.now l.bindings.most l.frames l.c ≡ left l.bindings.tokens.kinds.now l.bindings.tokens.vals.now l.bindings.bound.now l.bindings.most l.initial.frames l.initial.c)
     × (length l.frames ≡ length l.initial.frames)
-    × Apart l.most l.initial.frames l.frames
+    × Apart l.bindings.most l.initial.frames l.frames
     × (Bare (l.initial.c.depth + l.initial.c.depth) l.initial.frames → Bare (l.c.depth + l.c.depth) l.frames)
 
 abbrev pub decreases-loop-c : goal.decreases-loop-c
-decreases-loop-c l = steps l.tokens.kinds.now l.tokens.vals.now l.bound l.most l.frames l.c.at l.c.end l.c.depth
+decreases-loop-c l = steps l.bindings.tokens.kinds.now l.bindings.tokens.vals.now l.bindings.bound.now l.bindings.most l.frames l.c.at l.c.end l.c.depth

@@ -15,7 +15,7 @@ returns-then-limit-n-clause-len c =
     let l = c.loop-c in
     let e = over_length plain _ _ _ _ (l.invariant.0.head (omega arith)) in
     let w = ap (λ (m : List Item). length (flat_bytes m)) (left_start _ _ _ _ _ a.run.at a.run.len _ _ c.begin-c.ensures) in
-    omega (arith, e, w, l.invariant.2, l.invariant.1, c.run_len-n.ensures.len, ap length (spelt_one a.tokens.now.kinds.now a.tokens.now.vals.now l.c.at), c.if-limit-n.true)
+    omega (arith, e, w, l.invariant.2, l.invariant.1, c.run_len-n.ensures.len, ap length (spelt_one a.bindings.now.tokens.kinds.now a.bindings.now.tokens.vals.now l.c.at), c.if-limit-n.true)
 
 pub loop-c-preserved : goal.loop-c-preserved
 loop-c-preserved c =
@@ -24,7 +24,7 @@ loop-c-preserved c =
     let s = c.next-c in (
       s.ensures.ready,
       omega arith,
-      omega (arith, over_length plain _ _ _ _ (turn _ _ _ _ _ _ _ _ l.invariant.0 (omega arith) s.ensures), l.invariant.2, c.run_len-n.ensures.len, ap length (spelt_one a.tokens.now.kinds.now a.tokens.now.vals.now l.c.at)),
+      omega (arith, over_length plain _ _ _ _ (turn _ _ _ _ _ _ _ _ l.invariant.0 (omega arith) s.ensures), l.invariant.2, c.run_len-n.ensures.len, ap length (spelt_one a.bindings.now.tokens.kinds.now a.bindings.now.tokens.vals.now l.c.at)),
       c.next-c.auto.frames ∙ l.invariant.3,
       (λ j h. s.ensures.apart j h ∙ l.invariant.4 j h),
       λ b. s.ensures.bare (l.invariant.5 b),

@@ -16,5 +16,5 @@ pub returns-clause-term : goal.returns-clause-term
 returns-clause-term c =
     let w = c.write_walked.ensures in
     λ t b h g.
-    let q = named_bytes c.args.bound.now c.args.most c.args.p (named_or_empty _ _ c.named_run.ensures.named c.unwrap_or_default-run.ensures) ∙ resolved_bytes_lem _ _ _ b g _ _ t h in
+    let q = named_bytes c.args.bindings.now.bound.now c.args.bindings.now.most c.args.p (named_or_empty _ _ c.named_run.ensures.named c.unwrap_or_default-run.ensures) ∙ resolved_bytes_lem _ _ _ b g _ _ t h in
     (rw q at w.next, rw q at w.wrote)

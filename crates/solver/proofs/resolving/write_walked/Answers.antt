@@ -16,7 +16,7 @@ write_run-i-requires-clause-room c =
     let l = c.loop-c in
     let e = over_length plain _ _ _ _ (l.invariant.0.head (omega arith)) in
     let w = ap (λ (m : List Item). length (flat_bytes m)) (left_start _ _ _ _ _ a.run.at a.run.len _ _ c.begin-c.ensures) in
-    let o = ap length (spelt_one a.tokens.now.kinds.now a.tokens.now.vals.now l.c.at) in
+    let o = ap length (spelt_one a.bindings.now.tokens.kinds.now a.bindings.now.tokens.vals.now l.c.at) in
     omega (arith, e, w, o, l.invariant.1.place, l.invariant.1.long, c.requires.room)
 
 pub loop-c-preserved : goal.loop-c-preserved
@@ -25,9 +25,9 @@ loop-c-preserved c =
     let l = c.loop-c in
     let s = c.next-c in
     let w = c.write_run-i.ensures in
-    let o = spelt_one a.tokens.now.kinds.now a.tokens.now.vals.now l.c.at in (
+    let o = spelt_one a.bindings.now.tokens.kinds.now a.bindings.now.tokens.vals.now l.c.at in (
       s.ensures.ready,
-      advance _ _ _ _ _ _ (spelt a.tokens.now.kinds.now a.tokens.now.vals.now l.c.at 1) _ _ _ l.invariant.1 (rw o (over_cons plain _ _ _ _ (turn _ _ _ _ _ _ _ _ l.invariant.0 (omega arith) s.ensures))) w.next w.wrote,
+      advance _ _ _ _ _ _ (spelt a.bindings.now.tokens.kinds.now a.bindings.now.tokens.vals.now l.c.at 1) _ _ _ l.invariant.1 (rw o (over_cons plain _ _ _ _ (turn _ _ _ _ _ _ _ _ l.invariant.0 (omega arith) s.ensures))) w.next w.wrote,
       c.next-c.auto.frames ∙ l.invariant.2,
       (λ j h. s.ensures.apart j h ∙ l.invariant.3 j h),
       λ b. s.ensures.bare (l.invariant.4 b),

@@ -9,12 +9,12 @@ use Rattle.solver.proofs.resolving.write_walked.Given as goal
 
 abbrev pub invariant-loop-c : goal.invariant-loop-c
 invariant-loop-c l =
-    Ready l.tokens.kinds.now l.tokens.vals.now l.bound l.most l.frames l.c
-    × Left l.initial.out l.to (flat_bytes (left l.tokens.kinds.now l.tokens.vals.now l.bound l.most l.initial.frames l.initial.c)) l.out l.i
-    (flat_bytes (left l.tokens.kinds.now l.tokens.vals.now l.bound l.most l.frames l.c))
+    Ready l.bindings.tokens.kinds.now l.bindings.tokens.vals.now l.bindings.bound.now l.bindings.most l.frames l.c
+    × Left l.initial.out l.to (flat_bytes (left l.bindings.tokens.kinds.now l.bindings.tokens.vals.now l.bindings.bound.now l.bindings.most l.initial.frames l.initial.c)) l.out l.i
+    (flat_bytes (left l.bindings.tokens.kinds.now l.bindings.tokens.vals.now l.bindings.bound.now l.bindings.most l.frames l.c))
     × (length l.frames ≡ length l.initial.frames)
-    × Apart l.most l.initial.frames l.frames
+    × Apart l.bindings.most l.initial.frames l.frames
     × (Bare (l.initial.c.depth + l.initial.c.depth) l.initial.frames → Bare (l.c.depth + l.c.depth) l.frames)
 
 abbrev pub decreases-loop-c : goal.decreases-loop-c
-decreases-loop-c l = length (left l.tokens.kinds.now l.tokens.vals.now l.bound l.most l.frames l.c)
+decreases-loop-c l = length (left l.bindings.tokens.kinds.now l.bindings.tokens.vals.now l.bindings.bound.now l.bindings.most l.frames l.c)

@@ -17,14 +17,12 @@ use Rattle.terms.specs.Shape.{nominal}
 use Rattle.terms.specs.Formed.{Formed, Fit}
 use Rattle.terms.specs.Tree.{Nominal, nominal_of, look_up, put_terms, put_members, same, same_terms}
 use Rattle.terms.specs.Comparison.{same_option, every, has, bounded, satisfies, reflexive, satisfies_for}
-use Rattle.terms.specs.Words.SatisfyContract.{pairing, Laid, Listed, Lists, Agreed, agree, Headed, Pairs, Next-pair, Looked, Passes, Gave, Short, Ended, Satisfied, covers}
-use Rattle.terms.proofs.Laws.General.Bools.{never_true, or-true, or-false, and-false, not-true, not-false}
+use Rattle.terms.specs.Words.SatisfyContract.{pairing, Laid, Listed, Lists, Agreed, agree, Headed, Pairs, Next-pair, Looked, Satisfied, covers}
+use Rattle.terms.proofs.Laws.General.Bools.{never_true, or-true, and-false, not-true, not-false}
 use Rattle.terms.proofs.Laws.Held.SameLaws.{both, same_refl, same_true}
 use Rattle.terms.proofs.Laws.Held.NominalLaws.{Rising, nominal_is, split, Projected, reflexive_parts}
 use Rattle.terms.proofs.Laws.Held.HeldLaws.{held_num, held_sub, items_some}
-use Rattle.std.specs.Prelude.{Option, Some, None, Ok, Err, is_some}
-use Rattle.std.specs.declared.result.Result as rust
-use Rattle.std.specs.Result.{result_ok}
+use Rattle.std.specs.Prelude.{Option, Some, None, is_some}
 
 -- ---- pairs of a member and a term
 
@@ -132,16 +130,17 @@ module _ {ks vs : List ℕ} {p n e : ℕ} {rest : Parts} (f : ℕ → Term → B
   unfolding every
   every_over x h = pairs_over x h
 
-  module _ (gs : List ℕ) (hs : List Term) (x : Next-pair ks vs p n e rest (every f) whole) {r : Bool} (told : r ≡ same_option (look_up (get_or vs p 0) gs hs) x.value) where
-    told_of : r ≡ same_option (look_up x.member gs hs) x.value
-    told_of = told ∙ ap (λ (m : ℕ). same_option (look_up m gs hs) x.value) x.word
+-- the one that comes next passes a test, as r says, or fails it
+module _ {ks vs : List ℕ} {p n e : ℕ} {rest : Parts} (f : ℕ → Term → Bool) {whole : Bool} (x : Next-pair ks vs p n e rest (every f) whole)
+    {r : Bool} (told : r ≡ f (get_or vs p 0) x.value) where
+  told_of : r ≡ f x.member x.value
+  told_of = told ∙ ap (λ (m : ℕ). f m x.value) x.word
 
-    -- it is given, or not
-    pub given_next : {k : ℕ} → Passes gs hs f → not r ≡ false → k ≡ p + 1 + length (items x.value) → Pairs ks vs k (n - 1) e rest (every f) whole
-    given_next h t = every_next x (h x.member x.value (sym told_of ∙ not-false r t))
+  pub passes_next : {k : ℕ} → not r ≡ false → k ≡ p + 1 + length (items x.value) → Pairs ks vs k (n - 1) e rest (every f) whole
+  passes_next t = every_next f x (sym told_of ∙ not-false r t)
 
-    pub not_given : not r ≡ true → Gave ks vs e rest gs hs f whole (Err (p, n))
-    not_given t = (x, sym told_of ∙ not-true r t)
+  pub fails_next : not r ≡ true → whole ≡ false
+  fails_next t = every_fails f x (sym told_of ∙ not-true r t)
 
 -- ---- arguments
 
@@ -316,53 +315,16 @@ module _ (f : ℕ → Term → Bool) (a b : Nominal) where
   pub bounded_members : agree a b ≡ true → bounded f a b ≡ every f b.members b.values
   bounded_members h = bounded_is ∙ rw h
 
--- what is given passes the tests
-pub passes_has : (a : Nominal) → Passes a.members a.values (has a)
-unfolding has
-passes_has a m t h = h
-
-pub passes_covers : (a : Nominal) (w : Term) → Passes a.members a.values (covers a w)
-unfolding has
-passes_covers a w m t h = or-true (same_option (look_up m a.members a.values) t) (reflexive a w m t) h
-
 -- `satisfies`, where the declarations and the arguments agree
-module _ (ks vs : List ℕ) (a b : Nominal) (e : ℕ) (more : Parts) (h : agree a b ≡ true) where
-  pub satisfied_all : (z : ℕ) → Gave ks vs e more a.members a.values (has a) (every (has a) b.members b.values) (Ok z) → Satisfied ks vs e more (satisfies a b) (Some z)
-  satisfied_all z g = (bounded_members (has a) a b h ∙ g.0, g.1)
-
-  pub satisfied_lacking : (j l : ℕ) → Gave ks vs e more a.members a.values (has a) (every (has a) b.members b.values) (Err (j, l)) → satisfies a b ≡ false
-  unfolding has
-  satisfied_lacking j l g = bounded_members (has a) a b h ∙ every_fails (has a) g.0 g.1
-
-  -- whichever it is
-  pub satisfied_row : (r : rust.Result ℕ (ℕ × ℕ)) → Gave ks vs e more a.members a.values (has a) (every (has a) b.members b.values) r → Satisfied ks vs e more (satisfies a b) (result_ok r)
-  satisfied_row (Ok z) g = satisfied_all z g
-  satisfied_row (Err (j, l)) g = satisfied_lacking j l g
-
--- where the row ends
-pub ended_row : (n count : ℕ) (r : rust.Result ℕ (ℕ × ℕ)) → Short n count r → Ended n (result_ok r)
-ended_row n count (Ok z) h = h
-ended_row n count (Err (j, l)) h = tt
+pub satisfied_row : (ks vs : List ℕ) (a b : Nominal) (e : ℕ) (more : Parts) → agree a b ≡ true → (r : Option ℕ) → Satisfied ks vs e more (every (has a) b.members b.values) r
+    → Satisfied ks vs e more (satisfies a b) r
+satisfied_row ks vs a b e more h (Some z) g = (bounded_members (has a) a b h ∙ g.0, g.1)
+satisfied_row ks vs a b e more h None g = bounded_members (has a) a b h ∙ g
 
 -- whether it is satisfied
 pub whole_is : (ks vs : List ℕ) (e : ℕ) (more : Parts) (whole : Bool) (o : Option ℕ) → Satisfied ks vs e more whole o → is_some o ≡ whole
 whole_is ks vs e more whole (Some z) h = sym h.0
 whole_is ks vs e more whole None h = sym h
-
--- a member that is not given, in `satisfies_for`
-module _ (ks vs : List ℕ) (a : Nominal) (w : Term) (j l e : ℕ) (more : Parts) (whole : Bool) (g : Gave ks vs e more a.members a.values (covers a w) whole (Err (j, l)))
-    {r : Bool} (told : r ≡ reflexive a w (get_or vs j 0) g.0.value) where
-  covers_as : covers a w g.0.member g.0.value ≡ r
-  unfolding has
-  covers_as =
-      or-false (same_option (look_up g.0.member a.members a.values) g.0.value) (reflexive a w g.0.member g.0.value) g.1
-      ∙ ap (λ (m : ℕ). reflexive a w m g.0.value) (sym g.0.word) ∙ sym told
-
-  pub covered_next : {k : ℕ} → not r ≡ false → k ≡ j + 1 + length (items g.0.value) → Pairs ks vs k (l - 1) e more (every (covers a w)) whole
-  covered_next h = every_next (covers a w) g.0 (covers_as ∙ not-false r h)
-
-  pub not_covered : not r ≡ true → whole ≡ false
-  not_covered h = every_fails (covers a w) g.0 (covers_as ∙ not-true r h)
 
 -- ---- `reflexive`, test by test
 

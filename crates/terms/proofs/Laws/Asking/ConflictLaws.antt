@@ -21,7 +21,7 @@ use Rattle.terms.specs.Comparison.{recovery, conflicts_with, rows_conflict}
 use Rattle.terms.specs.Words.CompareContract.{Rows, Passed, Stepped}
 use Rattle.terms.proofs.Laws.General.Bools.{never_true, never_false, or-true, or_right, or_assoc, or-false, or-none}
 use Rattle.terms.proofs.Laws.Held.HeldLaws.{held_first, head_kind, row_num, row_sub, row_end, end_ends, held_sub, items_some}
-use Rattle.terms.proofs.Laws.Held.FlatLaws.{join, fit_append, held_enter, held_one}
+use Rattle.terms.proofs.Laws.Held.FlatLaws.{join, fit_append, held_enter, held_whole}
 use Rattle.terms.proofs.Laws.Held.SameLaws.{span_held}
 use Rattle.std.specs.Prelude.{Option, Some, None}
 
@@ -378,15 +378,15 @@ passed ks vs i ae n t ps h p =
     subst (λ (k : ℕ). HeldParts ks vs (i + k) ae ps) (sym e) q.1
 
 -- two terms as rows
-pub terms_rows : (ks vs : List ℕ) (a b n m : ℕ) (t u : Term) → Held ks vs a t → Held ks vs b u → Formed t → Formed u → n ≡ length (items t) → m ≡ length (items u)
-    → Rows ks vs a (a + n) b (b + m) (conflicts_with t u)
+pub terms_rows : {ks vs : List ℕ} {a b i ie j je : ℕ} (t u : Term) → Held ks vs a t → Held ks vs b u → Formed t → Formed u → i ≡ a → ie ≡ a + length (items t)
+    → j ≡ b → je ≡ b + length (items u) → Rows ks vs i ie j je (conflicts_with t u)
 unfolding conflicts_with Fit TakesTerm after_term
-terms_rows ks vs a b n m t u ht hu ft fu en em = record {
+terms_rows {ks} {vs} t u ht hu ft fu ei en ej em = record {
   shape = shape.term shape.done;
   left = sub t end;
   right = sub u end;
-  held_left = held_one ks vs a n t ht en;
-  held_right = held_one ks vs b m u hu em;
+  held_left = held_whole ks vs t ei en ht;
+  held_right = held_whole ks vs u ej em hu;
   fit_left = (tt, ft, refl);
   fit_right = (tt, fu, refl);
   same = sym (or-none (conflicts_with t u));

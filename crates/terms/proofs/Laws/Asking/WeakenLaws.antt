@@ -4,7 +4,7 @@ use mathlib.Core.Bool.{Bool, true, false, not, ◌&&◌, ◌||◌}
 use mathlib.Core.List.{List, [], ◌∷◌}
 use mathlib.Core.Logic.{◌⊎◌, inl, inr}
 use mathlib.Core.Option.{none, some}
-use Prim.Native.Nat.{ℕ, zero, suc, ◌+◌, ◌-◌, ◌≤◌, ◌<◌}
+use Prim.Native.Nat.{ℕ, zero, suc, ◌+◌, ◌-◌, ◌<◌}
 use native.Mathlib.Decide.{ℕ_discrete}
 use native.Mathlib.Omega.{arith}
 use borrow.Author.Tests.{eq-eqb, ne_eqb}
@@ -12,7 +12,7 @@ use lib.Dec.{eqb}
 use lib.ListN.{length, get_or}
 use Rattle.terms.specs.Result.{pick}
 use Rattle.terms.specs.Term.{Term, Parts, var, node, end, num, sub, items, part_items}
-use Rattle.terms.specs.Words.Held.{Held, HeldParts, span}
+use Rattle.terms.specs.Words.Held.{Held, HeldParts}
 use Rattle.terms.specs.Shape as shape
 use Rattle.terms.specs.Shape.{Shape, layout}
 use Rattle.terms.specs.Formed.{Formed, Fit, TakesTerm, after_number}
@@ -22,7 +22,6 @@ use Rattle.terms.specs.Comparison.{conflicts_with, rows_conflict, collection_acc
 use Rattle.terms.specs.Words.CompareContract.{Rows}
 use Rattle.terms.proofs.Laws.General.Bools.{never_true, and-false}
 use Rattle.terms.proofs.Laws.Held.HeldLaws.{head_kind, held_first, held_node, held_num}
-use Rattle.terms.proofs.Laws.Held.SameLaws.{told}
 use Rattle.terms.proofs.Laws.Format.ShapeLaws.{More, some_done}
 use Rattle.terms.proofs.Laws.Asking.ConflictLaws.{among_three, not_among}
 
@@ -212,19 +211,15 @@ module _ (t u : Term) (a : Marked t) (b : Marked u) (e : head_kind t ≡ head_ki
 
 -- ---- the two terms as they are held
 
--- two terms of one kind with marks, of n and m tokens
-pub record Two (ks vs : List ℕ) (p q n m : ℕ) (t u : Term) : Type 0 where
+-- two terms of one kind with marks, which end at d and e
+pub record Two (ks vs : List ℕ) (p d q e : ℕ) (t u : Term) : Type 0 where
   pub left : Marked t
   pub right : Marked u
   pub kinds : head_kind t ≡ head_kind u
   pub held_left : Held ks vs p t
   pub held_right : Held ks vs q u
-  pub size_left : n ≡ length (items t)
-  pub size_right : m ≡ length (items u)
-
--- what `skip` tells of the term at a
-abbrev Told : (ks vs : List ℕ) (a n : ℕ) → Type 0
-Told ks vs a n = 1 ≤ span (get_or ks a 0) (get_or vs a 0) → span (get_or ks a 0) (get_or vs a 0) ≤ length ks - a → n ≡ span (get_or ks a 0) (get_or vs a 0)
+  pub end_left : d ≡ p + length (items t)
+  pub end_right : e ≡ q + length (items u)
 
 module _ {ks vs : List ℕ} {p q : ℕ} (t u : Term) (ht : Held ks vs p t) (hu : Held ks vs q u) {k l : ℕ} (ek : k ≡ get_or ks p 0) (el : l ≡ get_or ks q 0) where
   kind_left : k ≡ head_kind t
@@ -244,42 +239,49 @@ module _ {ks vs : List ℕ} {p q : ℕ} (t u : Term) (ht : Held ks vs p t) (hu :
     held_without e = without_access t u (access ∙ e)
 
     -- both have marks
-    pub two : k ≡ l → r ≡ true → Formed t → Formed u → {n m : ℕ} → Told ks vs p n → Told ks vs q m → Two ks vs p q n m t u
-    two e y ft fu a b =
-        let k = sym kind_left ∙ e ∙ kind_right in
+    pub two : k ≡ l → r ≡ true → Formed t → Formed u → {d e : ℕ} → d ≡ p + length (items t) → e ≡ q + length (items u) → Two ks vs p d q e t u
+    two same y ft fu a b =
+        let k = sym kind_left ∙ same ∙ kind_right in
         record {
           left = marked t ft (access ∙ y);
           right = marked u fu (ap (λ (x : ℕ). among x (2 ∷ 12 ∷ 13 ∷ [])) (sym k) ∙ access ∙ y);
           kinds = k;
           held_left = ht;
           held_right = hu;
-          size_left = told ks vs p _ t ht a;
-          size_right = told ks vs q _ u hu b;
+          end_left = a;
+          end_right = b;
         }
 
-module _ {ks vs : List ℕ} {p q n m : ℕ} {t u : Term} (x : Two ks vs p q n m t u) where
-  pub left_long : n < 2 → ⊥
-  left_long = marked_long ks vs p n t x.held_left x.left x.size_left
+module _ {ks vs : List ℕ} {p d q e : ℕ} {t u : Term} (x : Two ks vs p d q e t u) where
+  pub left_long : d - p < 2 → ⊥
+  left_long l = marked_long ks vs p (length (items t)) t x.held_left x.left refl (omega (arith, x.end_left, l))
 
-  pub right_long : m < 2 → ⊥
-  right_long = marked_long ks vs q m u x.held_right x.right x.size_right
+  pub right_long : e - q < 2 → ⊥
+  right_long l = marked_long ks vs q (length (items u)) u x.held_right x.right refl (omega (arith, x.end_right, l))
 
   module _ {v : ℕ} (ev : v ≡ get_or vs (p + 1) 0) where
     mark_left : v ≡ x.left.mark
-    mark_left = ev ∙ mark_at ks vs p n t x.held_left x.left x.size_left
+    mark_left = ev ∙ mark_at ks vs p (length (items t)) t x.held_left x.left refl
 
     pub not_mutable : (v ≡ 1 → ⊥) → false ≡ can_weaken_to t u
-    not_mutable d = unmutable t u x.left x.right x.kinds (λ e. d (mark_left ∙ e))
+    not_mutable n = unmutable t u x.left x.right x.kinds (λ z. n (mark_left ∙ z))
 
     module _ (one : v ≡ 1) {w : ℕ} (ew : w ≡ get_or vs (q + 1) 0) where
       mark_right : w ≡ x.right.mark
-      mark_right = ew ∙ mark_at ks vs q m u x.held_right x.right x.size_right
+      mark_right = ew ∙ mark_at ks vs q (length (items u)) u x.held_right x.right refl
 
       pub not_shared : (w ≡ 0 → ⊥) → false ≡ can_weaken_to t u
-      not_shared d = unshared t u x.left x.right x.kinds (sym mark_left ∙ one) (λ e. d (mark_right ∙ e))
+      not_shared n = unshared t u x.left x.right x.kinds (sym mark_left ∙ one) (λ z. n (mark_right ∙ z))
 
-      -- r says whether what stands after the marks conflicts
-      pub by_rest : w ≡ 0 → {r : Bool} → ((whole : Bool) → Rows ks vs (p + 2) (p + n) (q + 2) (q + m) whole → r ≡ whole) → not r ≡ can_weaken_to t u
+      -- what stands after the marks
+      rest_left : HeldParts ks vs (p + 2) d x.left.rest
+      rest_left = subst (λ (i : ℕ). HeldParts ks vs (p + 2) i x.left.rest) (sym x.end_left) (rest_at ks vs p (length (items t)) t x.held_left x.left refl)
+
+      rest_right : HeldParts ks vs (q + 2) e x.right.rest
+      rest_right = subst (λ (i : ℕ). HeldParts ks vs (q + 2) i x.right.rest) (sym x.end_right) (rest_at ks vs q (length (items u)) u x.held_right x.right refl)
+
+      -- r says whether that conflicts
+      pub by_rest : w ≡ 0 → {r : Bool} → ((whole : Bool) → Rows ks vs (p + 2) d (q + 2) e whole → r ≡ whole) → not r ≡ can_weaken_to t u
       by_rest z f =
-          ap not (f _ (rest_rows t u x.left x.right x.kinds ks vs (p + 2) (p + n) (q + 2) (q + m) (rest_at ks vs p n t x.held_left x.left x.size_left) (rest_at ks vs q m u x.held_right x.right x.size_right)))
+          ap not (f _ (rest_rows t u x.left x.right x.kinds ks vs (p + 2) d (q + 2) e rest_left rest_right))
           ∙ sym (rests t u x.left x.right x.kinds (sym mark_left ∙ one) (sym mark_right ∙ z))

@@ -3,7 +3,6 @@ use mathlib.Core.Path.{◌≡◌, refl, sym, ap, ◌∙◌}
 use mathlib.Core.Bool.{Bool, true, false}
 use mathlib.Core.List.{List, ◌∷◌}
 use Prim.Native.Nat.{ℕ, zero, suc, ◌-◌, ◌≤◌, ◌<◌}
-use native.Mathlib.Numerals.{sub-one}
 use native.Mathlib.Omega.{arith}
 use lib.ListN.{length}
 use Rattle.terms.specs.declared.Fields.{Fields}
@@ -15,65 +14,48 @@ use Rattle.terms.specs.Words.Tokens.{Area}
 use Rattle.terms.specs.Term.{Term, Parts, end, num, sub, part_items, sizes, ◌+++◌}
 use Rattle.terms.specs.Shape.{definition, ordinary, ceiling}
 use Rattle.terms.specs.Words.RowPieces.{coded, numbered, fields}
-use Rattle.terms.specs.Words.ReadContract.{TermDone, PartsDone, Cleared, after, seq}
+use Rattle.terms.specs.Words.ReadContract.{TermDone, PartsDone, Cleared, after, seq, onto}
 use Rattle.terms.specs.Substitution.{Entry, Receiver}
 use Rattle.terms.specs.Rows.{entries, receivers, arguments, entry_row, receiver_row, argument_row, keys, single, records, answer_of, kept_of}
 use Rattle.terms.proofs.Laws.Format.KeepTermLaws.{done_next, done_stop}
-use Rattle.terms.proofs.Laws.Format.ReadSequenceLaws.{wrote_sub, none_done, seq_stop, seq_next}
-use Rattle.terms.proofs.Laws.Format.RowPieceLaws.{after_end}
-use Rattle.terms.proofs.Laws.Format.ReadLaws.{SoFar, so_far_done, so_far_more}
+use Rattle.terms.proofs.Laws.Format.RowPieceLaws.{after_end, seq_seq}
+use Rattle.terms.proofs.Laws.Format.ReadLaws.{SoFar, so_far_start, so_far_end, seq_read, seq_refused, onto_read, onto_refused}
 
--- ---- one record
+-- ---- one record: its numbers, and then its term
 
-module _ (s : List ℕ) (first second : Bool) (p : Place) (d e : Area) where
-  -- the fields of a record are its numbers
-  fields_keys : fields s (keys first second) p.at ≡ seq (numbered s (ceiling definition) first p.at) (numbered s (ceiling ordinary) second)
-  unfolding fields coded
-  fields_keys = sym (after_end (seq (numbered s (ceiling definition) first p.at) (numbered s (ceiling ordinary) second)))
+pub record_start : {s : List ℕ} (t : Parser Term) (first second : Bool) (p : Place) {d : Area} → p.at ≤ length s
+    → SoFar s (single s t (keys first second) p.at) (seq (numbered s (ceiling definition) first p.at) (λ n. seq (numbered s (ceiling ordinary) second n) (λ m. onto (t m) (got end)))) p d d p
+unfolding single fields coded
+record_start {s} t first second p h =
+    let one : Parser Parts = numbered s (ceiling definition) first in
+    let two : Parser Parts = numbered s (ceiling ordinary) second in
+    let last : Parser Parts = λ m. onto (t m) (got end) in
+    let e : single s t (keys first second) p.at ≡ seq (one p.at) (λ n. seq (two n) last) =
+    ap (λ (r : Result Parts). seq r last) (sym (after_end (seq (one p.at) two))) ∙ seq_seq (one p.at) two last in
+    rw (← e) (so_far_start h)
 
-  -- the first is refused
-  pub keys_no : (c : ℕ) → PartsDone s (numbered s (ceiling definition) first p.at) p d e (Stopped c) → PartsDone s (fields s (keys first second) p.at) p d e (Stopped c)
-  keys_no c x = rw fields_keys (seq_stop s p d e (numbered s (ceiling definition) first p.at) (numbered s (ceiling ordinary) second) c x)
-
-  -- the first is read, and then the second
-  pub keys_yes : (q : Place) → PartsDone s (numbered s (ceiling definition) first p.at) p d e (Next q)
-      → (g : Area) (r : Step) → PartsDone s (numbered s (ceiling ordinary) second q.at) q e g r → PartsDone s (fields s (keys first second) p.at) p d g r
-  keys_yes q x g r y = rw fields_keys (seq_next s p d e (numbered s (ceiling definition) first p.at) (numbered s (ceiling ordinary) second) q x g r y)
-
-module _ (s : List ℕ) (t : Parser Term) (f : Fields) (p : Place) (d e : Area) where
-  -- a term alone, as a row
-  alone : (r : Step) → TermDone s (t p.at) p d e r → PartsDone s (bind (t p.at) (λ u n. got (sub u end) n)) p d e r
-  alone (Next q) x = (sub x.0 end, simp x.1, wrote_sub s p d e x.0 q x.2)
-  alone (Stopped c) x = (simp x.0, x.1)
-
-module _ (s : List ℕ) (t : Parser Term) (f : Fields) (p : Place) (d e : Area) where
-  pub single_no : (c : ℕ) → PartsDone s (fields s f p.at) p d e (Stopped c) → PartsDone s (single s t f p.at) p d e (Stopped c)
-  unfolding single
-  single_no c x = seq_stop s p d e (fields s f p.at) (λ n. bind (t n) (λ u m. got (sub u end) m)) c x
-
-  pub single_yes : (q : Place) → PartsDone s (fields s f p.at) p d e (Next q) → (g : Area) (r : Step) → TermDone s (t q.at) q e g r → PartsDone s (single s t f p.at) p d g r
-  unfolding single
-  single_yes q x g r y = seq_next s p d e (fields s f p.at) (λ n. bind (t n) (λ u m. got (sub u end) m)) q x g r (alone s t f q e g r y)
+pub record_term : {s : List ℕ} (t : Parser Term) {whole : Result Parts} {p q : Place} {d e : Area} → SoFar s whole (onto (t q.at) (got end)) p d e q
+    → (f : Area) (r : Step) → TermDone s (t q.at) q e f r → PartsDone s whole p d f r
+record_term t {q = q} x f (Next u) y = so_far_end (onto_read (t q.at) (got end) x y)
+record_term t {q = q} x f (Stopped c) y = onto_refused (t q.at) (got end) x f y
 
 -- ---- the loop: `left` more records
 
-module _ (s : List ℕ) (t : Parser Term) (f : Fields) (whole : Result Parts) (p : Place) (d e : Area) (q : Place) where
-  pub records_end : (left : ℕ) → left ≤ 0 → SoFar s whole (records s t f left q.at) p d e q → PartsDone s whole p d e (Next q)
+module _ {s : List ℕ} (t : Parser Term) (f : Fields) (left : ℕ) {whole : Result Parts} {p q : Place} {d e : Area} (x : SoFar s whole (records s t f left q.at) p d e q) where
+  pub records_end : left ≤ 0 → PartsDone s whole p d e (Next q)
   unfolding records
-  records_end zero z x = so_far_done s whole p d _ e q x e (Next q) (none_done s q e e x.wrote.inside)
-  records_end (suc k) z x = absurd (omega arith)
+  records_end h = let z : left ≡ 0 = omega arith in so_far_end (rw z at x)
 
-  pub records_stop : (left : ℕ) → 0 < left → SoFar s whole (records s t f left q.at) p d e q
-      → (g : Area) (c : ℕ) → PartsDone s (single s t f q.at) q e g (Stopped c) → PartsDone s whole p d g (Stopped c)
+  -- one of them
+  a_record : 0 < left → SoFar s whole (seq (single s t f q.at) (records s t f (left - 1))) p d e q
   unfolding records
-  records_stop zero z x g c y = absurd (omega arith)
-  records_stop (suc k) z x g c y = so_far_done s whole p d _ e q x g (Stopped c) (seq_stop s q e g (single s t f q.at) (records s t f k) c y)
+  a_record h = let z : left ≡ suc (left - 1) = omega arith in rw z at x
 
-  pub records_more : (left : ℕ) → 0 < left → SoFar s whole (records s t f left q.at) p d e q
-      → (g : Area) (u : Place) → PartsDone s (single s t f q.at) q e g (Next u) → SoFar s whole (records s t f (left - 1) u.at) p d g u
-  unfolding records
-  records_more zero z x g u y = absurd (omega arith)
-  records_more (suc k) z x g u y = simp sub-one (so_far_more s whole p d (records s t f k u.at) e q y.0 (rw y.1 at x) g u y.2)
+  pub records_read : 0 < left → {g : Area} {u : Place} → PartsDone s (single s t f q.at) q e g (Next u) → SoFar s whole (records s t f (left - 1) u.at) p d g u
+  records_read h y = seq_read (single s t f q.at) (records s t f (left - 1)) (a_record h) y
+
+  pub records_refused : 0 < left → (g : Area) {c : ℕ} → PartsDone s (single s t f q.at) q e g (Stopped c) → PartsDone s whole p d g (Stopped c)
+  records_refused h g y = seq_refused (single s t f q.at) (records s t f (left - 1)) g (a_record h) y
 
 -- ---- a row kept, or nothing
 

@@ -9,84 +9,74 @@ use native.Mathlib.Omega.{arith}
 use borrow.Author.Tests.{eqb-true, lt-ltb, le-ltb}
 use lib.Dec.{eqb}
 use lib.ListN.{length, get_or}
+use Rattle.std.specs.Prelude.{Option, Some, None}
 use Rattle.terms.specs.declared.Fields.{Fields}
 use Rattle.terms.specs.declared.Place.{Place}
 use Rattle.terms.specs.Words.ReadContract.{Step}
 use Rattle.terms.specs.Words.ReadContract.{Next, Stopped}
-use Rattle.terms.specs.Parser.{Result, Parser, refused, number}
+use Rattle.terms.specs.Parser.{Result, Parser, got, refused, number}
 use Rattle.terms.specs.Words.Tokens.{Area}
 use Rattle.terms.specs.Term.{Term, Parts, end, num, sub, ◌+++◌, items, part_items, size, sizes}
 use Rattle.terms.specs.Shape as shape
 use Rattle.terms.specs.Shape.{Shape, Sort, Meaning, kind_of, nominal, plain, ceiling, definition, ordinary}
-use Rattle.terms.specs.Reading.{count, rising, variable, many, pairs, row, kinded, term, bare}
-use Rattle.terms.specs.Words.RowPieces.{termless, fields, listed}
+use Rattle.terms.specs.Reading.{code, count, rising, variable, many, pairs, row, kinded, term, bare}
+use Rattle.terms.specs.Words.RowPieces.{termless, coded, numbered, fields, listed}
 use Rattle.terms.specs.Words.ReadContract.{Wrote, TermDone, PartsDone, ValueDone, after, seq, into, onto, Valued, Unvalued}
 use Rattle.terms.proofs.Laws.General.Bools.{never_true}
 use Rattle.terms.proofs.Laws.Format.ValueLaws.{value_plain}
-use Rattle.terms.proofs.Laws.Format.ReadSequenceLaws.{wrote_none, wrote_num, wrote_sub, then_wrote, items_append, sizes_append, after_done, none_done, seq_stop, seq_next, into_stop, into_next, onto_stop, onto_next, noded}
-use Rattle.terms.proofs.Laws.Format.RowPieceLaws.{after_end, after_after, after_seq, seq_end, seq_ext, seq_seq, into_ext, into_seq, row_terms, many_more, row_plain}
+use Rattle.terms.proofs.Laws.Format.ReadSequenceLaws.{wrote_none, wrote_num, wrote_sub, then_wrote, items_append, sizes_append, after_done, none_done, noded}
+use Rattle.terms.proofs.Laws.Format.RowPieceLaws.{after_end, after_after, seq_end, seq_ext, seq_seq, into_ext, into_seq, one_seq, row_terms, many_more, row_plain}
 
--- a number, and then a row that it decides
-module _ (s : List ℕ) (p : Place) (d e : Area) (most : ℕ) where
-  pub value_stop : (k : ℕ → Parser Parts) (c : ℕ) → ValueDone most s (rising s most 0 p.at) p d e (Unvalued c) → PartsDone s (into (number s most p.at) k) p d e (Stopped c)
-  value_stop k c x = into_stop s p d e most (number s most p.at) k c (value_plain s p d e most most (Unvalued c) x)
+-- ---- what was read so far is stored, and the rest is still to come
 
-  pub value_next : (k : ℕ → Parser Parts) (v : ℕ) (q : Place) → ValueDone most s (rising s most 0 p.at) p d e (Valued v q)
-      → (f : Area) (u : Step) → PartsDone s (k v q.at) q e f u → PartsDone s (into (number s most p.at) k) p d f u
-  value_next k v q x f u y = into_next s p d e most (number s most p.at) k v q (value_plain s p d e most most (Valued v q) x) f u y
+pub record SoFar (s : List ℕ) (whole rest : Result Parts) (p : Place) (d e : Area) (q : Place) : Type 0 where
+  pub parts : Parts
+  pub found : whole ≡ after parts rest
+  pub wrote : Wrote s p d e (part_items parts) (sizes parts) q
 
-module _ (s : List ℕ) (t : Parser Term) (p : Place) (d e : Area) where
-  -- ---- a count and its terms
+pub so_far_start : {s : List ℕ} {whole : Result Parts} {p : Place} {d : Area} → p.at ≤ length s → SoFar s whole whole p d d p
+unfolding items size
+so_far_start {s} {whole} {p} {d} h = record { parts = end; found = after_end whole; wrote = wrote_none s p d h }
 
-  module _ {wanted : Bool} where
-    pub listed_no : wanted ≡ true → (c : ℕ) → ValueDone (ceiling ordinary) s (rising s (ceiling ordinary) 0 p.at) p d e (Unvalued c) → PartsDone s (listed s t wanted p.at) p d e (Stopped c)
-    unfolding listed
-    listed_no z c x = rw z (value_stop s p d e (ceiling ordinary) (many s t) c x)
+module _ {s : List ℕ} {whole rest : Result Parts} {p q : Place} {d e : Area} where
+  pub so_far_done : SoFar s whole rest p d e q → (f : Area) (r : Step) → PartsDone s rest q e f r → PartsDone s whole p d f r
+  so_far_done x f r y = rw x.found (after_done s p d e x.parts q x.wrote f rest r y)
 
-    pub listed_yes : wanted ≡ true → (n : ℕ) (q : Place) → ValueDone (ceiling ordinary) s (rising s (ceiling ordinary) 0 p.at) p d e (Valued n q)
-        → (f : Area) (r : Step) → PartsDone s (many s t n q.at) q e f r → PartsDone s (listed s t wanted p.at) p d f r
-    unfolding listed
-    listed_yes z n q x f r y = rw z (value_next s p d e (ceiling ordinary) (many s t) n q x f r y)
+  -- a further row ps
+  so_far_more : (ps : Parts) {f : Area} {u : Place} → SoFar s whole (after ps rest) p d e q → Wrote s q e f (part_items ps) (sizes ps) u → SoFar s whole rest p d f u
+  so_far_more ps {f} {u} x w = record {
+    parts = x.parts +++ ps;
+    found = x.found ∙ sym (after_after x.parts ps rest);
+    wrote = rw (items_append x.parts ps, sizes_append x.parts ps) (then_wrote s p d e _ _ q x.wrote f _ _ u w);
+  }
 
-  -- ---- a nominal: declaration, arguments, members
+module _ {s : List ℕ} {whole : Result Parts} {p q : Place} {d e : Area} where
+  -- nothing is left
+  pub so_far_end : SoFar s whole (got end q.at) p d e q → PartsDone s whole p d e (Next q)
+  so_far_end x = so_far_done x e (Next q) (none_done s q e x.wrote.inside)
 
-  pub number_no : (b : Sort) (r : Shape) (c : ℕ) → ValueDone (ceiling b) s (rising s (ceiling b) 0 p.at) p d e (Unvalued c) → PartsDone s (row s t (shape.number b r) p.at) p d e (Stopped c)
-  unfolding row
-  number_no b r c x = value_stop s p d e (ceiling b) (λ v. row s t r) c x
+  -- a part of the rest, and what follows it
+  pub seq_read : (r : Result Parts) (k : Parser Parts) {f : Area} {u : Place} → SoFar s whole (seq r k) p d e q → PartsDone s r q e f (Next u) → SoFar s whole (k u.at) p d f u
+  seq_read r k x y = so_far_more y.0 (rw y.1 at x) y.2
 
-  pub number_yes : (b : Sort) (r : Shape) (v : ℕ) (q : Place) → ValueDone (ceiling b) s (rising s (ceiling b) 0 p.at) p d e (Valued v q)
-      → (f : Area) (u : Step) → PartsDone s (row s t r q.at) q e f u → PartsDone s (row s t (shape.number b r) p.at) p d f u
-  unfolding row
-  number_yes b r v q x f u y = value_next s p d e (ceiling b) (λ v. row s t r) v q x f u y
+  pub seq_refused : (r : Result Parts) (k : Parser Parts) (f : Area) {c : ℕ} → SoFar s whole (seq r k) p d e q → PartsDone s r q e f (Stopped c) → PartsDone s whole p d f (Stopped c)
+  seq_refused r k f {c} x y = so_far_done x f (Stopped c) (simp y.0, y.1)
 
-  pub terms_no : (r : Shape) (c : ℕ) → PartsDone s (listed s t true p.at) p d e (Stopped c) → PartsDone s (row s t (shape.terms r) p.at) p d e (Stopped c)
-  terms_no r c x = rw (row_terms s t r p.at) (seq_stop s p d e (listed s t true p.at) (row s t r) c x)
+  -- a number
+  module _ (most : ℕ) (r : Result ℕ) (k : ℕ → Parser Parts) (x : SoFar s whole (into r k) p d e q) where
+    into_read : {f : Area} {v : ℕ} {u : Place} → ValueDone most s r q e f (Valued v u) → SoFar s whole (k v u.at) p d f u
+    into_read {f} {v} {u} y = so_far_more (num v end) (rw y.0 at x) (wrote_num s q e f v u y.2)
 
-  -- the last part of a row
-  pub terms_last : (u : Step) → PartsDone s (listed s t true p.at) p d e u → PartsDone s (row s t (shape.terms shape.done) p.at) p d e u
-  unfolding row
-  terms_last u x = rw (row_terms s t shape.done p.at, seq_end (listed s t true p.at)) x
+    into_refused : (f : Area) {c : ℕ} → ValueDone most s r q e f (Unvalued c) → PartsDone s whole p d f (Stopped c)
+    into_refused f {c} y = so_far_done x f (Stopped c) (simp y.0, y.1)
 
-  pub members_no : (c : ℕ) → ValueDone (ceiling ordinary) s (rising s (ceiling ordinary) 0 p.at) p d e (Unvalued c) → PartsDone s (row s t (shape.members shape.done) p.at) p d e (Stopped c)
-  unfolding row
-  members_no c x = value_stop s p d e (ceiling ordinary) (λ v n. seq (pairs s t v 0 n) (row s t shape.done)) c x
+  -- a term
+  module _ (r : Result Term) (k : Parser Parts) (x : SoFar s whole (onto r k) p d e q) where
+    pub onto_read : {f : Area} {u : Place} → TermDone s r q e f (Next u) → SoFar s whole (k u.at) p d f u
+    onto_read {f} {u} y = so_far_more (sub y.0 end) (rw y.1 at x) (wrote_sub s q e f y.0 u y.2)
 
-  pub members_last : (v : ℕ) (q : Place) → ValueDone (ceiling ordinary) s (rising s (ceiling ordinary) 0 p.at) p d e (Valued v q)
-      → (f : Area) (u : Step) → PartsDone s (pairs s t v 0 q.at) q e f u → PartsDone s (row s t (shape.members shape.done) p.at) p d f u
-  unfolding row
-  members_last v q x f u y =
-      value_next s p d e (ceiling ordinary) (λ v n. seq (pairs s t v 0 n) (row s t shape.done)) v q x f u (rw (seq_end (pairs s t v 0 q.at)) y)
-
-  -- ---- a term in a row
-
-  pub term_no : (r : Shape) (c : ℕ) → TermDone s (t p.at) p d e (Stopped c) → PartsDone s (row s t (shape.term r) p.at) p d e (Stopped c)
-  unfolding row
-  term_no r c x = onto_stop s p d e (t p.at) (row s t r) c x
-
-  pub term_yes : (r : Shape) (q : Place) → TermDone s (t p.at) p d e (Next q)
-      → (f : Area) (u : Step) → PartsDone s (row s t r q.at) q e f u → PartsDone s (row s t (shape.term r) p.at) p d f u
-  unfolding row
-  term_yes r q x f u y = onto_next s p d e (t p.at) (row s t r) q x f u y
+    pub onto_refused : (f : Area) {c : ℕ} → TermDone s r q e f (Stopped c) → PartsDone s whole p d f (Stopped c)
+    onto_refused f {c} y = so_far_done x f (Stopped c) (simp y.0, y.1)
 
 -- a nominal inside a longer row is the nominal and then the rest
 pub row_nominal : (s : List ℕ) (t : Parser Term) (r : Shape) (at : ℕ) → row s t (nominal r) at ≡ seq (row s t (nominal shape.done) at) (row s t r)
@@ -102,112 +92,169 @@ row_nominal s t r at =
     ∙ ap (λ (x : Result Parts). seq x (row s t r)) (sym (row_terms s t (shape.members shape.done) n)))
     ∙ sym (into_seq (number s (ceiling definition) at) (λ v. row s t (shape.terms (shape.members shape.done))) (row s t r))
 
--- ---- a projection: receiver, interface, member, arguments
+-- ---- the parts of a row, each read or refused
 
-module _ (s : List ℕ) (t : Parser Term) (p : Place) (d e : Area) (r : Shape) where
-  pub interface_no : (c : ℕ) → PartsDone s (row s t (nominal shape.done) p.at) p d e (Stopped c) → PartsDone s (row s t (nominal r) p.at) p d e (Stopped c)
-  interface_no c x = rw (row_nominal s t r p.at) (seq_stop s p d e (row s t (nominal shape.done) p.at) (row s t r) c x)
+module _ {s : List ℕ} (t : Parser Term) (r : Shape) {whole : Result Parts} {p q : Place} {d e : Area} where
+  -- a number
+  module _ (b : Sort) (x : SoFar s whole (row s t (shape.number b r) q.at) p d e q) where
+    pub number_read : {f : Area} {v : ℕ} {u : Place} → ValueDone (ceiling b) s (rising s (ceiling b) 0 q.at) q e f (Valued v u) → SoFar s whole (row s t r u.at) p d f u
+    unfolding row
+    number_read {f} {v} {u} y = into_read (ceiling b) (number s (ceiling b) q.at) (λ v. row s t r) x (value_plain s q e f (ceiling b) (Valued v u) y)
 
-  pub interface_yes : (q : Place) → PartsDone s (row s t (nominal shape.done) p.at) p d e (Next q)
-      → (f : Area) (u : Step) → PartsDone s (row s t r q.at) q e f u → PartsDone s (row s t (nominal r) p.at) p d f u
-  interface_yes q x f u y = rw (row_nominal s t r p.at) (seq_next s p d e (row s t (nominal shape.done) p.at) (row s t r) q x f u y)
+    pub number_refused : (f : Area) {c : ℕ} → ValueDone (ceiling b) s (rising s (ceiling b) 0 q.at) q e f (Unvalued c) → PartsDone s whole p d f (Stopped c)
+    unfolding row
+    number_refused f {c} y = into_refused (ceiling b) (number s (ceiling b) q.at) (λ v. row s t r) x f (value_plain s q e f (ceiling b) (Unvalued c) y)
+
+  -- a term
+  module _ (x : SoFar s whole (row s t (shape.term r) q.at) p d e q) where
+    pub term_read : {f : Area} {u : Place} → TermDone s (t q.at) q e f (Next u) → SoFar s whole (row s t r u.at) p d f u
+    unfolding row
+    term_read y = onto_read (t q.at) (row s t r) x y
+
+    pub term_refused : (f : Area) {c : ℕ} → TermDone s (t q.at) q e f (Stopped c) → PartsDone s whole p d f (Stopped c)
+    unfolding row
+    term_refused f y = onto_refused (t q.at) (row s t r) x f y
+
+  -- a nominal
+  module _ (x : SoFar s whole (row s t (nominal r) q.at) p d e q) where
+    pub nominal_read : {f : Area} {u : Place} → PartsDone s (row s t (nominal shape.done) q.at) q e f (Next u) → SoFar s whole (row s t r u.at) p d f u
+    nominal_read y = seq_read (row s t (nominal shape.done) q.at) (row s t r) (rw (row_nominal s t r q.at) at x) y
+
+    pub nominal_refused : (f : Area) {c : ℕ} → PartsDone s (row s t (nominal shape.done) q.at) q e f (Stopped c) → PartsDone s whole p d f (Stopped c)
+    nominal_refused f y = seq_refused (row s t (nominal shape.done) q.at) (row s t r) f (rw (row_nominal s t r q.at) at x) y
+
+  -- a count
+  module _ (x : SoFar s whole (row s t (shape.terms r) q.at) p d e q) where
+    pub count_read : {f : Area} {n : ℕ} {u : Place} → ValueDone (ceiling ordinary) s (rising s (ceiling ordinary) 0 q.at) q e f (Valued n u)
+        → SoFar s whole (seq (many s t n u.at) (row s t r)) p d f u
+    unfolding row
+    count_read {f} {n} {u} y = into_read (ceiling ordinary) (count s q.at) (λ n m. seq (many s t n m) (row s t r)) x (value_plain s q e f (ceiling ordinary) (Valued n u) y)
+
+    pub count_refused : (f : Area) {c : ℕ} → ValueDone (ceiling ordinary) s (rising s (ceiling ordinary) 0 q.at) q e f (Unvalued c) → PartsDone s whole p d f (Stopped c)
+    unfolding row
+    count_refused f {c} y = into_refused (ceiling ordinary) (count s q.at) (λ n m. seq (many s t n m) (row s t r)) x f (value_plain s q e f (ceiling ordinary) (Unvalued c) y)
+
+  -- as many terms as were counted
+  module _ (n : ℕ) (x : SoFar s whole (seq (many s t n q.at) (row s t r)) p d e q) where
+    pub many_read : {f : Area} {u : Place} → PartsDone s (many s t n q.at) q e f (Next u) → SoFar s whole (row s t r u.at) p d f u
+    many_read y = seq_read (many s t n q.at) (row s t r) x y
+
+    pub many_refused : (f : Area) {c : ℕ} → PartsDone s (many s t n q.at) q e f (Stopped c) → PartsDone s whole p d f (Stopped c)
+    many_refused f y = seq_refused (many s t n q.at) (row s t r) f x y
+
+    pub many_none : n ≤ 0 → SoFar s whole (row s t r q.at) p d e q
+    unfolding many
+    many_none h = let z : n ≡ 0 = omega arith in rw (after_end (row s t r q.at)) (rw z at x)
+
+-- the last part of a row
+module _ {s : List ℕ} (t : Parser Term) {whole : Result Parts} {p q : Place} {d e : Area} where
+  pub many_last : (n : ℕ) → SoFar s whole (seq (many s t n q.at) (row s t shape.done)) p d e q → (f : Area) (r : Step) → PartsDone s (many s t n q.at) q e f r → PartsDone s whole p d f r
+  unfolding row
+  many_last n x f r y = so_far_done (rw (seq_end (many s t n q.at)) at x) f r y
+
+  module _ (x : SoFar s whole (row s t (shape.members shape.done) q.at) p d e q) where
+    pub members_read : {f : Area} {n : ℕ} {u : Place} → ValueDone (ceiling ordinary) s (rising s (ceiling ordinary) 0 q.at) q e f (Valued n u) → SoFar s whole (pairs s t n 0 u.at) p d f u
+    unfolding row
+    members_read {f} {n} {u} y =
+        rw (seq_end (pairs s t n 0 u.at)) at (into_read (ceiling ordinary) (count s q.at) (λ n m. seq (pairs s t n 0 m) (row s t shape.done)) x (value_plain s q e f (ceiling ordinary) (Valued n u) y))
+
+    pub members_refused : (f : Area) {c : ℕ} → ValueDone (ceiling ordinary) s (rising s (ceiling ordinary) 0 q.at) q e f (Unvalued c) → PartsDone s whole p d f (Stopped c)
+    unfolding row
+    members_refused f {c} y = into_refused (ceiling ordinary) (count s q.at) (λ n m. seq (pairs s t n 0 m) (row s t shape.done)) x f (value_plain s q e f (ceiling ordinary) (Unvalued c) y)
 
 -- ---- the loops
 
--- at a loop's head, and where the terms of a plain row or the members of a nominal begin: what was read so far is stored, and the rest is
--- still to come
-pub record SoFar (s : List ℕ) (whole rest : Result Parts) (p : Place) (d e : Area) (q : Place) : Type 0 where
-  pub parts : Parts
-  pub found : whole ≡ after parts rest
-  pub wrote : Wrote s p d e (part_items parts) (sizes parts) q
-
-module _ (s : List ℕ) (whole : Result Parts) (p : Place) (d : Area) where
-  pub so_far_start : p.at ≤ length s → SoFar s whole whole p d d p
-  unfolding items size
-  so_far_start h = record { parts = end; found = after_end whole; wrote = wrote_none s p d h }
-
-  module _ (rest : Result Parts) (e : Area) (q : Place) (x : SoFar s whole rest p d e q) where
-    pub so_far_done : (f : Area) (r : Step) → PartsDone s rest q e f r → PartsDone s whole p d f r
-    so_far_done f r y = rw x.found (after_done s p d e x.parts q x.wrote f rest r y)
-
-  -- a further row ps
-  pub so_far_more : (rest : Result Parts) (e : Area) (q : Place) (ps : Parts) → SoFar s whole (after ps rest) p d e q
-      → (f : Area) (u : Place) → Wrote s q e f (part_items ps) (sizes ps) u → SoFar s whole rest p d f u
-  so_far_more rest e q ps x f u w = record {
-    parts = x.parts +++ ps;
-    found = x.found ∙ sym (after_after x.parts ps rest);
-    wrote = rw (items_append x.parts ps, sizes_append x.parts ps) (then_wrote s p d e _ _ q x.wrote f _ _ u w);
-  }
-
--- a row that begins with a number, after the number
-module _ (s : List ℕ) (t : Parser Term) (p : Place) (d e : Area) where
-  pub number_start : (b : Sort) (r : Shape) (v : ℕ) (q : Place) → ValueDone (ceiling b) s (rising s (ceiling b) 0 p.at) p d e (Valued v q)
-      → SoFar s (row s t (shape.number b r) p.at) (row s t r q.at) p d e q
-  unfolding row
-  number_start b r v q x =
-      let y = value_plain s p d e (ceiling b) (ceiling b) (Valued v q) x in
-      record { parts = num v end; found = rw y.0; wrote = wrote_num s p d e v q y.2 }
-
--- a count and its terms, and then the rest of the row
-module _ (s : List ℕ) (t : Parser Term) (whole : Result Parts) (p : Place) (d e : Area) (q : Place) where
-  pub terms_next : (r : Shape) → SoFar s whole (row s t (shape.terms r) q.at) p d e q
-      → (f : Area) (u : Place) → PartsDone s (listed s t true q.at) q e f (Next u) → SoFar s whole (row s t r u.at) p d f u
-  terms_next r x f u y = so_far_more s whole p d (row s t r u.at) e q y.0 (rw (row_terms s t r q.at, y.1) at x) f u y.2
-
 -- `left` more terms
-module _ (s : List ℕ) (t : Parser Term) (whole : Result Parts) (p : Place) (d e : Area) (q : Place) where
-  pub terms_end : (left : ℕ) → left ≤ 0 → SoFar s whole (many s t left q.at) p d e q → PartsDone s whole p d e (Next q)
+module _ {s : List ℕ} (t : Parser Term) (left : ℕ) {whole : Result Parts} {p q : Place} {d e : Area} (x : SoFar s whole (many s t left q.at) p d e q) where
+  pub terms_end : left ≤ 0 → PartsDone s whole p d e (Next q)
   unfolding many
-  terms_end zero z x = so_far_done s whole p d _ e q x e (Next q) (none_done s q e e x.wrote.inside)
-  terms_end (suc k) z x = absurd (omega arith)
+  terms_end h = let z : left ≡ 0 = omega arith in so_far_end (rw z at x)
 
-  pub terms_stop : (left : ℕ) → 0 < left → SoFar s whole (many s t left q.at) p d e q
-      → (f : Area) (c : ℕ) → TermDone s (t q.at) q e f (Stopped c) → PartsDone s whole p d f (Stopped c)
+  -- one of them
+  a_term : 0 < left → SoFar s whole (onto (t q.at) (many s t (left - 1))) p d e q
   unfolding many
-  terms_stop zero z x f c y = absurd (omega arith)
-  terms_stop (suc k) z x f c y = so_far_done s whole p d _ e q x f (Stopped c) (onto_stop s q e f (t q.at) (many s t k) c y)
+  a_term h = let z : left ≡ suc (left - 1) = omega arith in rw z at x
 
-  pub terms_more : (left : ℕ) → 0 < left → SoFar s whole (many s t left q.at) p d e q
-      → (f : Area) (u : Place) → TermDone s (t q.at) q e f (Next u) → SoFar s whole (many s t (left - 1) u.at) p d f u
-  unfolding many
-  terms_more zero z x f u y = absurd (omega arith)
-  terms_more (suc k) z x f u y =
-      simp sub-one (so_far_more s whole p d (many s t k u.at) e q (sub y.0 end) (rw y.1 at x) f u (wrote_sub s q e f y.0 u y.2))
+  pub terms_read : 0 < left → {f : Area} {u : Place} → TermDone s (t q.at) q e f (Next u) → SoFar s whole (many s t (left - 1) u.at) p d f u
+  terms_read h y = onto_read (t q.at) (many s t (left - 1)) (a_term h) y
+
+  pub terms_refused : 0 < left → (f : Area) {c : ℕ} → TermDone s (t q.at) q e f (Stopped c) → PartsDone s whole p d f (Stopped c)
+  terms_refused h f y = onto_refused (t q.at) (many s t (left - 1)) (a_term h) f y
+
+-- what follows a member's number
+abbrev after_member : (s : List ℕ) → Parser Term → ℕ → ℕ → Parser Parts
+after_member s t left m n = onto (t n) (pairs s t (left - 1) (m + 1))
 
 -- `left` more members, of `least` at least
-module _ (s : List ℕ) (t : Parser Term) (whole : Result Parts) (p : Place) (d e : Area) (q : Place) (least : ℕ) where
-  -- what follows a member's number
-  abbrev after_member : ℕ → ℕ → Parser Parts
-  after_member k m n = onto (t n) (pairs s t k (m + 1))
-
-  pub pairs_end : (left : ℕ) → left ≤ 0 → SoFar s whole (pairs s t left least q.at) p d e q → PartsDone s whole p d e (Next q)
+module _ {s : List ℕ} (t : Parser Term) (least left : ℕ) {whole : Result Parts} {p q : Place} {d e : Area} (x : SoFar s whole (pairs s t left least q.at) p d e q) where
+  pub pairs_end : left ≤ 0 → PartsDone s whole p d e (Next q)
   unfolding pairs
-  pairs_end zero z x = so_far_done s whole p d _ e q x e (Next q) (none_done s q e e x.wrote.inside)
-  pairs_end (suc k) z x = absurd (omega arith)
+  pairs_end h = let z : left ≡ 0 = omega arith in so_far_end (rw z at x)
 
-  pub pairs_no : (left : ℕ) → 0 < left → SoFar s whole (pairs s t left least q.at) p d e q
-      → (f : Area) (c : ℕ) → ValueDone (ceiling definition) s (rising s (ceiling definition) least q.at) q e f (Unvalued c) → PartsDone s whole p d f (Stopped c)
+  -- a member: its number, and then its term
+  a_member : 0 < left → SoFar s whole (into (rising s (ceiling definition) least q.at) (after_member s t left)) p d e q
   unfolding pairs
-  pairs_no zero z x f c y = absurd (omega arith)
-  pairs_no (suc k) z x f c y = so_far_done s whole p d _ e q x f (Stopped c) (into_stop s q e f (ceiling definition) (rising s (ceiling definition) least q.at) (after_member k) c y)
+  a_member h = let z : left ≡ suc (left - 1) = omega arith in rw z at x
 
-  module _ (f : Area) (m : ℕ) (u : Place) (y : ValueDone (ceiling definition) s (rising s (ceiling definition) least q.at) q e f (Valued m u)) where
-    -- the member's number is read
-    named : (k : ℕ) → SoFar s whole (pairs s t (suc k) least q.at) p d e q → SoFar s whole (after_member k m u.at) p d f u
-    unfolding pairs
-    named k x = so_far_more s whole p d (after_member k m u.at) e q (num m end) (rw y.0 at x) f u (wrote_num s q e f m u y.2)
+  pub member_refused : 0 < left → (f : Area) {c : ℕ} → ValueDone (ceiling definition) s (rising s (ceiling definition) least q.at) q e f (Unvalued c) → PartsDone s whole p d f (Stopped c)
+  member_refused h f y = into_refused (ceiling definition) (rising s (ceiling definition) least q.at) (after_member s t left) (a_member h) f y
 
-    pub pairs_stop : (left : ℕ) → 0 < left → SoFar s whole (pairs s t left least q.at) p d e q
-        → (g : Area) (c : ℕ) → TermDone s (t u.at) u f g (Stopped c) → PartsDone s whole p d g (Stopped c)
-    pairs_stop zero z x g c v = absurd (omega arith)
-    pairs_stop (suc k) z x g c v = so_far_done s whole p d _ f u (named k x) g (Stopped c) (onto_stop s u f g (t u.at) (pairs s t k (m + 1)) c v)
+  module _ (h : 0 < left) {f : Area} {m : ℕ} {u : Place} (y : ValueDone (ceiling definition) s (rising s (ceiling definition) least q.at) q e f (Valued m u)) where
+    named : SoFar s whole (onto (t u.at) (pairs s t (left - 1) (m + 1))) p d f u
+    named = into_read (ceiling definition) (rising s (ceiling definition) least q.at) (after_member s t left) (a_member h) y
 
-    pub pairs_more : (left : ℕ) → 0 < left → SoFar s whole (pairs s t left least q.at) p d e q
-        → (g : Area) (w : Place) → TermDone s (t u.at) u f g (Next w) → SoFar s whole (pairs s t (left - 1) (m + 1) w.at) p d g w
-    pairs_more zero z x g w v = absurd (omega arith)
-    pairs_more (suc k) z x g w v =
-        simp sub-one
-        (so_far_more s whole p d (pairs s t k (m + 1) w.at) f u (sub v.0 end) (rw v.1 at (named k x)) g w (wrote_sub s u f g v.0 w v.2))
+    pub pairs_read : {g : Area} {w : Place} → TermDone s (t u.at) u f g (Next w) → SoFar s whole (pairs s t (left - 1) (m + 1) w.at) p d g w
+    pairs_read v = onto_read (t u.at) (pairs s t (left - 1) (m + 1)) named v
+
+    pub pairs_refused : (g : Area) {c : ℕ} → TermDone s (t u.at) u f g (Stopped c) → PartsDone s whole p d g (Stopped c)
+    pairs_refused g v = onto_refused (t u.at) (pairs s t (left - 1) (m + 1)) named g v
+
+-- ---- the fields of a plain row
+
+module _ {s : List ℕ} (k : Parser Parts) {whole : Result Parts} {p q : Place} {d e : Area} where
+  -- a code, where there is one
+  module _ (codes : Option ℕ) (x : SoFar s whole (seq (coded s codes q.at) k) p d e q) where
+    pub code_none : codes ≡ None → SoFar s whole (k q.at) p d e q
+    unfolding coded
+    code_none z = rw (after_end (k q.at)) (rw z at x)
+
+    module _ {limit : ℕ} (z : codes ≡ Some limit) where
+      here : SoFar s whole (into (code s limit q.at) (λ v. k)) p d e q
+      unfolding coded
+      here = rw (← one_seq (code s limit q.at) k) (rw z at x)
+
+      pub code_read : {f : Area} {v : ℕ} {u : Place} → ValueDone 255 s (code s limit q.at) q e f (Valued v u) → SoFar s whole (k u.at) p d f u
+      code_read y = into_read 255 (code s limit q.at) (λ v. k) here y
+
+      pub code_refused : (f : Area) {c : ℕ} → ValueDone 255 s (code s limit q.at) q e f (Unvalued c) → PartsDone s whole p d f (Stopped c)
+      code_refused f y = into_refused 255 (code s limit q.at) (λ v. k) here f y
+
+  -- a number, where it is wanted
+  module _ (most : ℕ) (wanted : Bool) (x : SoFar s whole (seq (numbered s most wanted q.at) k) p d e q) where
+    pub numbered_none : wanted ≡ false → SoFar s whole (k q.at) p d e q
+    unfolding numbered
+    numbered_none z = rw (after_end (k q.at)) (rw z at x)
+
+    module _ (z : wanted ≡ true) where
+      there : SoFar s whole (into (number s most q.at) (λ v. k)) p d e q
+      unfolding numbered
+      there = rw (← one_seq (number s most q.at) k) (rw z at x)
+
+      pub numbered_read : {f : Area} {v : ℕ} {u : Place} → ValueDone most s (rising s most 0 q.at) q e f (Valued v u) → SoFar s whole (k u.at) p d f u
+      numbered_read {f} {v} {u} y = into_read most (number s most q.at) (λ v. k) there (value_plain s q e f most (Valued v u) y)
+
+      pub numbered_refused : (f : Area) {c : ℕ} → ValueDone most s (rising s most 0 q.at) q e f (Unvalued c) → PartsDone s whole p d f (Stopped c)
+      numbered_refused f {c} y = into_refused most (number s most q.at) (λ v. k) there f (value_plain s q e f most (Unvalued c) y)
+
+-- the fields are a code and two numbers
+pub fields_start : {s : List ℕ} (k : Fields) (p : Place) {d : Area} → p.at ≤ length s
+    → SoFar s (fields s k p.at) (seq (coded s k.codes p.at) (λ n. seq (numbered s (ceiling definition) k.first n) (λ m. seq (numbered s (ceiling ordinary) k.second m) (λ i. got end i)))) p d d p
+unfolding fields
+fields_start {s} k p h =
+    let two : Parser Parts = numbered s (ceiling ordinary) k.second in
+    let one : Parser Parts = numbered s (ceiling definition) k.first in
+    rw (seq_ext (coded s k.codes p.at) (λ n. seq (one n) (λ m. seq (two m) (λ i. got end i))) (λ n. seq (one n) two) (λ n. seq_ext (one n) (λ m. seq (two m) (λ i. got end i)) two (λ m. seq_end (two m))))
+    (so_far_start h)
 
 -- ---- a plain row: fields, and then terms
 
@@ -221,43 +268,41 @@ module _ (s : List ℕ) (t : Parser Term) (k : Fields) where
   abbrev rest : Parser Parts
   rest n = seq (listed s t k.counted n) (many s t k.terms)
 
-module _ (s : List ℕ) (t : Parser Term) (p : Place) (d e : Area) (k : Fields) where
-  pub plain_no : (c : ℕ) → PartsDone s (fields s k p.at) p d e (Stopped c) → PartsDone s (row s t (plain k) p.at) p d e (Stopped c)
-  plain_no c x = rw (row_plain s t k p.at) (seq_stop s p d e (fields s k p.at) (rest s t k) c x)
+  pub plain_no : (p : Place) (d e : Area) {c : ℕ} → PartsDone s (fields s k p.at) p d e (Stopped c) → PartsDone s (row s t (plain k) p.at) p d e (Stopped c)
+  plain_no p d e {c} x = rw (row_plain s t k p.at) (simp x.0, x.1)
 
-  module _ (q : Place) (x : PartsDone s (fields s k p.at) p d e (Next q)) where
+  module _ {p q : Place} {d e : Area} (x : PartsDone s (fields s k p.at) p d e (Next q)) where
     -- the fields are read
-    plain-start : SoFar s (row s t (plain k) p.at) (rest s t k q.at) p d e q
-    plain-start = record { parts = x.0; found = rw (row_plain s t k p.at, x.1); wrote = x.2 }
+    after_fields : SoFar s (row s t (plain k) p.at) (rest q.at) p d e q
+    after_fields = record { parts = x.0; found = rw (row_plain s t k p.at, x.1); wrote = x.2 }
 
     -- no count: the terms are still to come
     pub plain_uncounted : k.counted ≡ false → SoFar s (row s t (plain k) p.at) (many s t (0 + k.terms) q.at) p d e q
     unfolding listed
     plain_uncounted z =
         let m : 0 + k.terms ≡ k.terms = omega arith in
-        let h : rest s t k q.at ≡ many s t (0 + k.terms) q.at = rw (z, m) (sym (after_end (many s t k.terms q.at))) in
-        rw h at plain-start
+        let h : rest q.at ≡ many s t (0 + k.terms) q.at = rw (z, m) (sym (after_end (many s t k.terms q.at))) in
+        rw h at after_fields
 
-    -- the count is refused
-    pub plain_stop : k.counted ≡ true → (f : Area) (c : ℕ) → ValueDone (ceiling ordinary) s (rising s (ceiling ordinary) 0 q.at) q e f (Unvalued c) → PartsDone s (row s t (plain k) p.at) p d f (Stopped c)
-    plain_stop z f c y =
-        so_far_done s _ p d (rest s t k q.at) e q plain-start f (Stopped c) (seq_stop s q e f (listed s t k.counted q.at) (many s t k.terms) c (listed_no s t q e f z c y))
-
-    -- the count is read: as many terms and the others are still to come
-    pub plain_counted : k.counted ≡ true → (f : Area) (n : ℕ) (u : Place) → ValueDone (ceiling ordinary) s (rising s (ceiling ordinary) 0 q.at) q e f (Valued n u)
-        → SoFar s (row s t (plain k) p.at) (many s t (n + k.terms) u.at) p d f u
+    -- a count, and then as many terms and the others
+    counted : k.counted ≡ true → SoFar s (row s t (plain k) p.at) (into (count s q.at) (λ n. many s t (n + k.terms))) p d e q
     unfolding listed
-    plain_counted z f n u y =
-        let v = value_plain s q e f (ceiling ordinary) (ceiling ordinary) (Valued n u) y in
-        let h : rest s t k q.at ≡ after (num n end) (many s t (n + k.terms) u.at) = rw (z, v.0, many_more s t n k.terms u.at) (after_seq (num n end) (many s t n u.at) (many s t k.terms)) in
-        so_far_more s _ p d (many s t (n + k.terms) u.at) e q (num n end) (rw h at plain-start) f u (wrote_num s q e f n u v.2)
+    counted z =
+        let h : rest q.at ≡ into (count s q.at) (λ n. many s t (n + k.terms)) =
+        rw z (into_seq (count s q.at) (many s t) (many s t k.terms) ∙ into_ext (count s q.at) (λ v n. seq (many s t v n) (many s t k.terms)) (λ n. many s t (n + k.terms)) (λ v n. sym (many_more s t v k.terms n))) in
+        rw h at after_fields
+
+    pub plain_counted : k.counted ≡ true → {f : Area} {n : ℕ} {u : Place} → ValueDone (ceiling ordinary) s (rising s (ceiling ordinary) 0 q.at) q e f (Valued n u)
+        → SoFar s (row s t (plain k) p.at) (many s t (n + k.terms) u.at) p d f u
+    plain_counted z {f} {n} {u} y = into_read (ceiling ordinary) (count s q.at) (λ n. many s t (n + k.terms)) (counted z) (value_plain s q e f (ceiling ordinary) (Valued n u) y)
+
+    pub plain_stop : k.counted ≡ true → (f : Area) {c : ℕ} → ValueDone (ceiling ordinary) s (rising s (ceiling ordinary) 0 q.at) q e f (Unvalued c) → PartsDone s (row s t (plain k) p.at) p d f (Stopped c)
+    plain_stop z f {c} y = into_refused (ceiling ordinary) (count s q.at) (λ n. many s t (n + k.terms)) (counted z) f (value_plain s q e f (ceiling ordinary) (Unvalued c) y)
 
     -- a plain row without terms is its fields
     pub plain_fields : termless k ≡ true → PartsDone s (row s t (plain k) p.at) p d e (Next q)
     unfolding many
-    plain_fields z =
-        let y = termless_parts k.counted k.terms z in
-        so_far_done s _ p d (many s t (0 + k.terms) q.at) e q (plain_uncounted y.0) e (Next q) (rw y.1 (none_done s q e e x.2.inside))
+    plain_fields z = let y = termless_parts k.counted k.terms z in terms_end t (0 + k.terms) (plain_uncounted y.0) (omega (arith, y.1))
 
 -- ---- a term: what its tag stands for
 

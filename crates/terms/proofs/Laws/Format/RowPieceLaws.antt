@@ -4,6 +4,7 @@ use mathlib.Core.Bool.{Bool, true, false}
 use mathlib.Core.List.{List}
 use Prim.Native.Nat.{ℕ, zero, suc, ◌+◌}
 use native.Mathlib.Omega.{arith}
+use Rattle.std.specs.Prelude.{Option, Some, None}
 use Rattle.terms.specs.declared.Fields.{Fields}
 use Rattle.terms.specs.Parser.{Result, Parser, got, refused, bind, number}
 use Rattle.terms.specs.Term.{Term, Parts, end, num, sub, ◌+++◌}
@@ -74,7 +75,7 @@ pub pairs_seq : (r : Result ℕ) (p : Parser Term) (k : ℕ → Parser Parts) (l
 pairs_seq r p k l = into_seq r (λ v n. onto (p n) (k v)) l ∙ into_ext r (λ v n. seq (onto (p n) (k v)) l) (λ v n. onto (p n) (λ m. seq (k v m) l)) (λ v n. onto_seq (p n) (k v) l)
 
 -- a number alone, and then a row
-one_seq : (r : Result ℕ) (l : Parser Parts) → seq (bind r (λ v n. got (num v end) n)) l ≡ into r (λ v. l)
+pub one_seq : (r : Result ℕ) (l : Parser Parts) → seq (bind r (λ v n. got (num v end) n)) l ≡ into r (λ v. l)
 one_seq (got v n) l = refl
 one_seq (refused c) l = refl
 
@@ -91,10 +92,10 @@ module _ (s : List ℕ) (p : Parser Term) (r : Shape) (at : ℕ) where
 
   -- ---- plain rows
 
-  pub row_code : (codes : ℕ) → row s p (with_code codes r) at ≡ seq (coded s codes at) (row s p r)
+  pub row_code : (codes : Option ℕ) → row s p (with_code codes r) at ≡ seq (coded s codes at) (row s p r)
   unfolding row coded
-  row_code zero = after_end (row s p r at)
-  row_code (suc n) = sym (one_seq (code s (suc n) at) (row s p r))
+  row_code None = after_end (row s p r at)
+  row_code (Some limit) = sym (one_seq (code s limit at) (row s p r))
 
   pub row_id : (f : Sort) (wanted : Bool) → row s p (with_number f wanted r) at ≡ seq (numbered s (ceiling f) wanted at) (row s p r)
   unfolding row numbered

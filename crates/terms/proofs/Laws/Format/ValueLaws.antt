@@ -1,8 +1,7 @@
 -- What the readers of codes and numbers answer, on plain values.
 use mathlib.Core.Path.{◌≡◌, refl, sym, ◌∙◌}
-use mathlib.Core.Bool.{Bool, true, false}
 use mathlib.Core.List.{List, [], ◌∷◌}
-use Prim.Native.Nat.{ℕ, zero, suc, ◌+◌, ◌≤◌, ◌<◌}
+use Prim.Native.Nat.{ℕ, ◌+◌, ◌≤◌, ◌<◌}
 use native.Mathlib.Omega.{arith}
 use borrow.Author.Tests.{le-leb}
 use lib.Dec.{leb}
@@ -12,16 +11,15 @@ use Rattle.terms.specs.declared.Place.{Place}
 use Rattle.terms.specs.Words.ReadContract.{Next, Stopped}
 use Rattle.terms.specs.Parser.{Result, got, refused, number}
 use Rattle.terms.specs.Words.Tokens.{item, Area, puts, put_if}
-use Rattle.terms.specs.Term.{var, end, num, items, size}
+use Rattle.terms.specs.Term.{var, items, size}
 use Rattle.terms.specs.Shape.{ceiling, ordinary}
-use Rattle.terms.specs.Reading.{code, rising, variable}
-use Rattle.terms.specs.Words.RowPieces.{coded, numbered}
-use Rattle.terms.specs.Words.ReadContract.{Within, Wrote, TermDone, PartsDone, ValueDone, ValueRead, Valued, Unvalued}
+use Rattle.terms.specs.Reading.{rising, variable}
+use Rattle.terms.specs.Words.ReadContract.{Within, Wrote, TermDone, ValueDone, ValueRead, Valued}
 use Rattle.terms.proofs.Laws.Format.FieldLaws.{rising_any, variable_refused, variable_unissued, variable_got}
 use Rattle.terms.proofs.Laws.Format.StoreLaws.{only_one}
-use Rattle.terms.proofs.Laws.Format.ReadSequenceLaws.{on, none_done, wrote_num}
+use Rattle.terms.proofs.Laws.Format.ReadSequenceLaws.{on}
 
-module _ (s : List ℕ) (p : Place) (d e : Area) where
+module _ {s : List ℕ} {p : Place} {d e : Area} where
   -- one token stored, after which there are n nodes more, each with a byte of its own before the value
   wrote_one : (k v next n : ℕ) → p.at + n < next → next ≤ length s → e ≡ put_if (leb (p.nodes + n) p.limit) d p.top k v
       → Wrote s p d e (item k v ∷ []) n (record { at = next; top = p.top + 1; nodes = p.nodes + n; limit = p.limit })
@@ -52,57 +50,28 @@ module _ (s : List ℕ) (p : Place) (d e : Area) where
     inside = b;
   }
 
-  pub value_yes : (most v next : ℕ) (found : Result ℕ) → got v next ≡ found → Within s p.at most (Ok (v, next)) → e ≡ put_if (leb p.nodes p.limit) d p.top 0 v
+  pub value_yes : {most v next : ℕ} {found : Result ℕ} → got v next ≡ found → Within s p.at most (Ok (v, next)) → e ≡ put_if (leb p.nodes p.limit) d p.top 0 v
       → ValueDone most s found p d e (Valued v (record { at = next; top = p.top + 1; nodes = p.nodes; limit = p.limit }))
-  value_yes most v next found g w h = (sym g, w.0, wrote_value v next w.1 w.2 h)
-
-  -- with nothing to rise above, a value is a number
-  pub value_plain : (most m : ℕ) (r : ValueRead) → ValueDone most s (rising s m 0 p.at) p d e r → ValueDone most s (number s m p.at) p d e r
-  value_plain most m r x = rw (← rising_any s m p.at) x
-
-  -- ---- a code
-
-  pub coded_none : (codes : ℕ) → codes ≡ 0 → p.at ≤ length s → PartsDone s (coded s codes p.at) p d d (Next p)
-  unfolding coded
-  coded_none codes z h = rw z (none_done s p d d h)
-
-  pub coded_yes : (codes v next : ℕ) → (codes ≡ 0 → ⊥) → got v next ≡ code s codes p.at → Within s p.at 255 (Ok (v, next)) → e ≡ put_if (leb p.nodes p.limit) d p.top 0 v
-      → PartsDone s (coded s codes p.at) p d e (Next (record { at = next; top = p.top + 1; nodes = p.nodes; limit = p.limit }))
-  unfolding coded
-  coded_yes zero v next z g w h = absurd (z refl)
-  coded_yes (suc n) v next z g w h = (num v end, simp (← g), wrote_num s p d e v _ (wrote_value v next w.1 w.2 h))
-
-  pub coded_no : (codes c : ℕ) → (codes ≡ 0 → ⊥) → refused c ≡ code s codes p.at → PartsDone s (coded s codes p.at) p d d (Stopped c)
-  unfolding coded
-  coded_no zero c z g = absurd (z refl)
-  coded_no (suc n) c z g = (simp (← g), refl)
-
-  -- ---- a number
-
-  module _ (most : ℕ) {wanted : Bool} where
-    pub numbered_none : wanted ≡ false → p.at ≤ length s → PartsDone s (numbered s most wanted p.at) p d d (Next p)
-    unfolding numbered
-    numbered_none z h = rw z (none_done s p d d h)
-
-    pub numbered_yes : wanted ≡ true → (v : ℕ) (q : Place) → ValueDone most s (rising s most 0 p.at) p d e (Valued v q) → PartsDone s (numbered s most wanted p.at) p d e (Next q)
-    unfolding numbered
-    numbered_yes z v q x = let y = value_plain most most (Valued v q) x in rw z (num v end, simp y.0, wrote_num s p d e v q y.2)
-
-    pub numbered_no : wanted ≡ true → (c : ℕ) → ValueDone most s (rising s most 0 p.at) p d e (Unvalued c) → PartsDone s (numbered s most wanted p.at) p d e (Stopped c)
-    unfolding numbered
-    numbered_no z c x = let y = value_plain most most (Unvalued c) x in rw z (simp y.0, y.1)
+  value_yes {most} {v} {next} g w h = (sym g, w.0, wrote_value v next w.1 w.2 h)
 
   -- ---- a variable, whose tag is at the place
 
-  pub variable_yes : (issued v next : ℕ) → got v next ≡ rising s (ceiling ordinary) 0 (p.at + 1) → v < issued → p.at + 1 < next → next ≤ length s
+  pub variable_yes : {issued v next : ℕ} → got v next ≡ rising s (ceiling ordinary) 0 (p.at + 1) → v < issued → p.at + 1 < next → next ≤ length s
       → e ≡ put_if (leb (p.nodes + 1) p.limit) d p.top 1 v
       → TermDone s (variable s issued (p.at + 1)) p d e (Next (record { at = next; top = p.top + 1; nodes = p.nodes + 1; limit = p.limit }))
   unfolding items size
-  variable_yes issued v next g k a b h = (var v, sym (variable_got s issued (p.at + 1) v next g k), wrote_one 1 v next 1 a b h)
+  variable_yes {issued} {v} {next} g k a b h = (var v, sym (variable_got s issued (p.at + 1) v next g k), wrote_one 1 v next 1 a b h)
+
+-- ---- what is not read
+
+module _ (s : List ℕ) (p : Place) (d e : Area) where
+  -- with nothing to rise above, a value is a number
+  pub value_plain : (most : ℕ) (r : ValueRead) → ValueDone most s (rising s most 0 p.at) p d e r → ValueDone most s (number s most p.at) p d e r
+  value_plain most r x = rw (← rising_any s most p.at) x
 
 module _ (s : List ℕ) (p : Place) (d : Area) where
-  pub variable_high : (issued v next : ℕ) → got v next ≡ rising s (ceiling ordinary) 0 (p.at + 1) → issued ≤ v → TermDone s (variable s issued (p.at + 1)) p d d (Stopped 6)
-  variable_high issued v next g k = (sym (variable_unissued s issued (p.at + 1) v next g k), refl)
+  pub variable_high : {issued v next : ℕ} → got v next ≡ rising s (ceiling ordinary) 0 (p.at + 1) → issued ≤ v → TermDone s (variable s issued (p.at + 1)) p d d (Stopped 6)
+  variable_high {issued} {v} {next} g k = (sym (variable_unissued s issued (p.at + 1) v next g k), refl)
 
-  pub variable_no : (issued c : ℕ) → refused c ≡ rising s (ceiling ordinary) 0 (p.at + 1) → TermDone s (variable s issued (p.at + 1)) p d d (Stopped c)
-  variable_no issued c g = (sym (variable_refused s issued (p.at + 1) c g), refl)
+  pub variable_no : (issued : ℕ) {c : ℕ} → refused c ≡ rising s (ceiling ordinary) 0 (p.at + 1) → TermDone s (variable s issued (p.at + 1)) p d d (Stopped c)
+  variable_no issued {c} g = (sym (variable_refused s issued (p.at + 1) c g), refl)

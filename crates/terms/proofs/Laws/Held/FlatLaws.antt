@@ -103,3 +103,7 @@ module _ (ks vs : List ℕ) where
   held_one p n t h e =
       let l = length-append (items t) [] in
       record { tokens = rw append-nil h.tokens; ends = omega arith; within = omega (arith, h.within) }
+
+  -- the same, by where it ends
+  pub held_whole : {i p e : ℕ} (t : Term) → i ≡ p → e ≡ p + length (items t) → Held ks vs p t → HeldParts ks vs i e (sub t end)
+  held_whole {i} {p} {e} t a b h = rw (a, b) (held_one p (length (items t)) t h refl)

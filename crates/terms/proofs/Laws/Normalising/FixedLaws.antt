@@ -14,6 +14,7 @@ use lib.ListN.{length, get_or, set}
 use lib.Seq.{set-get_or}
 use Rattle.terms.specs.declared.Origin.{Origin}
 use Rattle.terms.specs.declared.Content.{Content}
+use Rattle.terms.specs.declared.Rule.{Rule}
 use Rattle.terms.specs.declared.Walked.{Walked}
 use Rattle.terms.specs.Words.Tokens.{Item, item, spell, toks}
 use Rattle.terms.specs.Term.{Term, Parts, var, node, end, num, sub, items, part_items, bytes, size, sizes, Held}
@@ -337,7 +338,7 @@ module _ (ks vs : List ℕ) (p : ℕ) where
 
 -- ---- the visit of a content that stays
 
-module _ (ks vs ws : List ℕ) (g : Origin) (s : Sight ks vs g) (hs cs : List ℕ) (x : Content) (next levels visits most r m : ℕ)
+module _ (ks vs : List ℕ) (ws : List Rule) (g : Origin) (s : Sight ks vs g) (hs cs : List ℕ) (x : Content) (next levels visits most r m : ℕ)
     (f : Fixed ks vs x r) (len : (t : Term) → Held ks vs x.head t → m ≡ length (bytes t)) (hm : m < 68719476736) (some : 0 < r) (hl : r ≤ levels) (hv : r ≤ visits) where
   walked : (S : ℕ → Bool) (t : Term) (look : Look) → Tree (view ks vs g) hs cs S x.head x.kids t
       → (walk_by (finds look) levels t visits next ≡ stays t visits next) × (r ≡ size t) × (m ≡ length (bytes t))

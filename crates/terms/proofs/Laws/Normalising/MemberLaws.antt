@@ -14,6 +14,7 @@ use Rattle.terms.specs.Comparison.{no_terms}
 use Rattle.terms.specs.Substitution.{or_else}
 use Rattle.terms.specs.Normal.{member_from, trait_member, own_member, replacement}
 use Rattle.terms.specs.declared.Origin.{Origin}
+use Rattle.terms.specs.declared.Rule.{Rule}
 use Rattle.terms.specs.Lookup.{Pattern, by_patterns, through, Look, rules, interface, look_by, Ruled, HeldGiven, Looks}
 use Rattle.terms.specs.Words.Tokens.{Area}
 use Rattle.terms.specs.Words.Arena.{Keyed, Tree, Counts, KeyOf, ValueAt}
@@ -205,13 +206,13 @@ module _ (look : Parts → Option Term) (t : Term) where
   unfolding replacement
   replace_look e o = rw (eq-eqb (tag t) 18 e, o)
 
--- the words say rules, or an interface
-pub looked_rules : (ks vs ws : List ℕ) (g : Origin) (P : Option Term → Type 0) (ps : Parts) (look : Look) → Looks ks vs ws g look → g.size ≡ 0
-    → ((rs : List Pattern) → Ruled ks vs ws 0 rs → P (by_patterns rs ps)) → P (look_by look ps)
+-- rules are to be looked up, or an interface
+pub looked_rules : (ks vs : List ℕ) (ws : List Rule) (g : Origin) (P : Option Term → Type 0) (ps : Parts) (look : Look) → Looks ks vs ws g look → g.size ≡ 0
+    → ((rs : List Pattern) → Ruled ks vs ws rs → P (by_patterns rs ps)) → P (look_by look ps)
 looked_rules ks vs ws g P ps (rules rs) k z f = f rs k.1
 looked_rules ks vs ws g P ps (interface i owner) k z f = absurd (omega (arith, k.size_is))
 
-pub looked_through : (ks vs ws : List ℕ) (g : Origin) (P : Option Term → Type 0) (ps : Parts) (look : Look) → Looks ks vs ws g look → (g.size ≡ 0 → ⊥)
+pub looked_through : (ks vs : List ℕ) (ws : List Rule) (g : Origin) (P : Option Term → Type 0) (ps : Parts) (look : Look) → Looks ks vs ws g look → (g.size ≡ 0 → ⊥)
     → ((i : Parts) (owner : Term) → HeldGiven ks vs g i owner → P (through i owner ps)) → P (look_by look ps)
 looked_through ks vs ws g P ps (rules rs) k z f = absurd (z k.0)
 looked_through ks vs ws g P ps (interface i owner) k z f = f i owner k

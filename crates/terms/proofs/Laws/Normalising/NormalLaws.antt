@@ -17,7 +17,9 @@ use Rattle.terms.specs.declared.Walked.{Walked}
 use Rattle.terms.specs.declared.Ready.{Ready}
 use Rattle.terms.specs.declared.Unfinished.TheVariants.{TooMany, TooLong}
 use Rattle.std.specs.declared.option.Option as rust
-use Rattle.std.specs.Prelude.{Some, None, Err, ok_or}
+use Rattle.std.specs.Prelude.{Some, None, Err, ok_or, nat_eq, take, drop}
+use Rattle.std.specs.List.{list_any}
+use Rattle.std.proofs.lemmas.List.{drop_more}
 use Rattle.terms.specs.Result.{pick}
 use Rattle.terms.specs.Words.Tokens.{Item, item, Area, area, put, puts, zeros, blank, spell, toks}
 use Rattle.terms.specs.Term.{Term, Parts, var, node, end, num, sub, items, part_items, bytes, depth, Held}
@@ -26,6 +28,7 @@ use Rattle.terms.specs.Tree.{tag}
 use Rattle.terms.specs.Questions.{meets, meets_row, counted, counted_by, entered, entered_by, contains_projection}
 use Rattle.terms.specs.Words.VirtualTokens.{view, Sight}
 use Rattle.terms.specs.Normal.{Out, replacement, walk_by, normalise}
+use Rattle.terms.specs.declared.Rule.{Rule}
 use Rattle.terms.specs.Lookup.{Look, look_by, Looks, HeldGiven}
 use Rattle.terms.specs.Words.Arena.{Tree, grow, Frame, Frames}
 use Rattle.terms.specs.Words.WalkingContract.{Visited, Overrun, Went}
@@ -117,6 +120,32 @@ mutual
   has_parts (num n ps) = has_parts ps
   has_parts (sub t ps) = rw (has_append 20 (items t) (part_items ps)) (ap₂ ◌||◌ (has_term t) (has_parts ps))
 
+-- the kinds tell
+any_kind : (ks vs : List ℕ) (q n : ℕ) → q + n ≤ length ks → list_any (λ k. nat_eq k 20) (take n (drop q ks)) ≡ has_kind 20 (toks ks vs q n)
+unfolding has_kind spell
+any_kind ks vs q zero h = refl
+any_kind ks vs q (suc n) h =
+    let r = any_kind ks vs (suc q) n (omega arith) in
+    let m : q + 1 ≡ suc q = omega arith in
+    rw (drop_more ks q 0 (omega arith), m, r) refl
+
+module _ (ks vs : List ℕ) (p from l : ℕ) {k v : ℕ} (ep : from ≡ p) (ek : k ≡ get_or ks from 0) (ev : v ≡ get_or vs from 0) (el : 1 ≤ span k v → l ≡ span k v) where
+  whole : (t : Term) → Held ks vs p t → (l ≡ length (items t)) × Held ks vs from t
+  whole t h =
+      let h' : Held ks vs from t = rw ep h in
+      let s = ap₂ span ek ev ∙ span_held ks vs from t h' in
+      (omega (arith, el (omega (arith, items_some t)), s), h')
+
+  pub kinds_tell : (e : ℕ) → e ≡ from + l → (r : Bool) → r ≡ list_any (λ k. nat_eq k 20) (take (e - from) (drop from ks)) → e ≤ length ks
+      → (t : Term) → Held ks vs p t → r ≡ contains_projection t
+  kinds_tell e z r y f t h =
+      let w = whole t h in
+      let n : e - from ≡ length (items t) = omega (arith, w.0) in
+      y ∙ any_kind ks vs from (e - from) (omega arith) ∙ ap (λ (c : ℕ). has_kind 20 (toks ks vs from c)) n ∙ ap (has_kind 20) w.1.tokens ∙ sym (has_term t)
+
+  pub kinds_out : length ks < from + l → (t : Term) → Held ks vs p t → ⊥
+  kinds_out o t h = let w = whole t h in omega (arith, w.0, w.1.within)
+
 -- the loop: what is left decides
 module _ (ks vs : List ℕ) (p : ℕ) where
   pub record Scanning (q e : ℕ) : Type 0 where
@@ -144,9 +173,6 @@ module _ (ks vs : List ℕ) (p : ℕ) where
       first =
           ap (has_kind 20) (toks_cons ks vs q (e - q) (omega arith))
           ∙ rw (← ek) (ap₂ (λ (i n : ℕ). eqb k 20 || has_kind 20 (toks ks vs i n)) (omega arith) (omega arith))
-
-      pub scanning_found : k ≡ 20 → (t : Term) → Held ks vs p t → true ≡ contains_projection t
-      scanning_found z t h = sym (w.is t h ∙ first ∙ ap (λ (b : Bool). b || has_kind 20 (toks ks vs (q + 1) (e - (q + 1)))) (eq-eqb k 20 z))
 
       pub scanning_next : (k ≡ 20 → ⊥) → Scanning (q + 1) e
       scanning_next z = record {
@@ -244,7 +270,7 @@ module _ (ks vs : List ℕ) (g : Origin) (s : Sight ks vs g) (hs₀ cs₀ hs cs 
             }
 
   -- a term that is walked: w is what the walk gave, in the areas hs₁, cs₁
-  module _ (ws hs₁ cs₁ : List ℕ) (y : Content) (visits : ℕ) (w : Walked) (walks : Went ks vs ws g hs₀ cs₀ hs₁ cs₁ y 0 levels visits most w) (fr : Frames hs₀ cs₀ hs₁ cs₁ 0 w.next)
+  module _ (ws : List Rule) (hs₁ cs₁ : List ℕ) (y : Content) (visits : ℕ) (w : Walked) (walks : Went ks vs ws g hs₀ cs₀ hs₁ cs₁ y 0 levels visits most w) (fr : Frames hs₀ cs₀ hs₁ cs₁ 0 w.next)
       (zh : Zero hs₀ most) (zc : Zero cs₀ most) (eh : x.head ≡ w.head) (ek : x.kids ≡ w.kids) (le : at ≤ length out) where
     back : blank (area hs₁ cs₁) 0 w.next ≡ area hs₀ cs₀
     back = blank_back hs₀ cs₀ hs₁ cs₁ w.next most fr zh zc walks.within
@@ -294,7 +320,7 @@ module _ (ks vs hs₀ cs₀ hs cs : List ℕ) (most : ℕ) where
     records = tt;
   }
 
-  module _ (ws : List ℕ) (g : Origin) (s : Sight ks vs g) (y : Content) (levels visits : ℕ) where
+  module _ (ws : List Rule) (g : Origin) (s : Sight ks vs g) (y : Content) (levels visits : ℕ) where
     pub over_answers : Overrun ks vs ws g hs₀ cs₀ y 0 levels visits most → (p : ℕ) → y.head ≡ p → y.kids ≡ 0 → (t : Term) (look : Look) (o : Out) → Held ks vs p t → Looks ks vs ws g look
         → o ≡ walk_by (replacement (look_by look)) levels t visits 0 → (out : List ℕ) (at : ℕ) → Answers ks vs hs cs out at levels most o (Err TooMany)
     over_answers walks p yh yk t look o h k eo out at = record { number = number_refused most (length out) at o many; values = tt }

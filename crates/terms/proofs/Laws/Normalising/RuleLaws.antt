@@ -5,7 +5,15 @@ use mathlib.Core.List.{List, [], ◌∷◌}
 use mathlib.Core.Option.{none, some}
 use Prim.Native.Nat.{ℕ, zero, suc, ◌+◌, ◌-◌, ◌≤◌, ◌<◌, min}
 use native.Mathlib.Omega.{arith}
-use lib.ListN.{length, get_or}
+use borrow.Rule.Slice.PartAt.{part_to_end}
+use lib.ListN.{length, get_or, take, drop}
+use Rattle.std.proofs.lemmas.List.{drop_more, drop_all, length-drop}
+use Rattle.std.proofs.lemmas.List.Quantifiers.{position-Some}
+use Rattle.std.proofs.lemmas.List.Sums.{fails_before_first}
+use Rattle.std.proofs.lemmas.Grind.{common_steps}
+use Rattle.std.specs.List.{position}
+use borrow.Author.Tests.{eq-eqb}
+use Rattle.terms.proofs.Laws.General.Bools.{never_true}
 use Rattle.terms.specs.Words.Tokens.{Area}
 use Rattle.terms.specs.Term.{Term, Parts, node, end, num, sub, ◌+++◌, depth, depths}
 use Rattle.terms.specs.Words.Held.{Held, HeldParts, span}
@@ -16,8 +24,8 @@ use Rattle.terms.specs.declared.Cursor.{Cursor}
 use Rattle.terms.specs.declared.Content.{Content}
 use Rattle.terms.specs.Result.{pick}
 use Rattle.terms.specs.Words.VirtualTokens.{view, Sight}
-use Rattle.terms.specs.Lookup.{Pattern, front, left, by_patterns, rule_at, rule_count, HeldRule, Ruled}
-use Rattle.terms.specs.Words.RuleListContract.{NoneFrom}
+use Rattle.terms.specs.Lookup.{Pattern, front, left, by_patterns, HeldRule, Ruled}
+use Rattle.terms.specs.Words.RuleListContract.{has_member, first_with}
 use Rattle.terms.specs.Words.Arena.{Tree, Parted, over, number, child, From, further, Begins, Starts}
 use Rattle.terms.specs.Words.RulesContract.{TermStarts, Numbers, Fronted, last_but_one, MemberIn}
 use Rattle.terms.proofs.Laws.Held.HeldLaws.{kind_some, items_some, held_sub}
@@ -408,51 +416,84 @@ module _ {ks vs : List ℕ} {g : Origin} {x : Cursor} {m : ℕ} (hs cs : List �
     is = λ S ps p f d k e. ne (k.member ∙ sym (h.is hs cs S ps f ∙ ap (λ (l : Parts). last_but_one 0 0 (nums l)) e ∙ left_member 0 0 p));
   }
 
+-- where no rule has the member, each has another
+position_none : (p : Rule → Bool) (ws : List Rule) → position p ws ≡ None → (i : ℕ) (d : Rule) → i < length ws → p (get_or ws i d) ≡ false
+position_none p ws e i d lt = fails_before_first p ws i d (grind (arith, common_steps))
+
 -- r rules have been passed
-pub record Searching (ks vs ws : List ℕ) (g : Origin) (hs cs : List ℕ) (x : Cursor) (fuel r : ℕ) : Type 0 where
-  pub is : (S : ℕ → Bool) (ps : Parts) (rs : List Pattern) → From (view ks vs g) hs cs S x ps → depths ps ≤ fuel → Ruled ks vs ws 0 rs
-      → (qs : List Pattern) × Ruled ks vs ws r qs × (by_patterns rs ps ≡ by_patterns qs ps)
+pub record Searching (ks vs : List ℕ) (ws : List Rule) (g : Origin) (hs cs : List ℕ) (x : Cursor) (fuel r : ℕ) : Type 0 where
+  pub is : (S : ℕ → Bool) (ps : Parts) (rs : List Pattern) → From (view ks vs g) hs cs S x ps → depths ps ≤ fuel → Ruled ks vs ws rs
+      → (qs : List Pattern) × Ruled ks vs (drop r ws) qs × (by_patterns rs ps ≡ by_patterns qs ps)
 
-module _ {ks vs ws : List ℕ} {g : Origin} {hs cs : List ℕ} {x : Cursor} {fuel : ℕ} where
+abbrev no_rule : Rule
+no_rule = record { interface = 0; receiver = 0; member = 0; arguments = 0; count = 0; value = 0 }
+
+-- the r-th rule, and those after it
+abbrev pub rule_at : List Rule → ℕ → Rule
+rule_at ws r = get_or ws r no_rule
+
+rules_split : (ws : List Rule) (r : ℕ) → r < length ws → drop r ws ≡ rule_at ws r ∷ drop (r + 1) ws
+rules_split ws r lt = drop_more ws r _ lt
+
+module _ {ks vs : List ℕ} {ws : List Rule} {g : Origin} {hs cs : List ℕ} {x : Cursor} {fuel : ℕ} where
   module _ {r : ℕ} (w : Searching ks vs ws g hs cs x fuel r) where
-    pub searching_next : r < rule_count ws → Missed ks vs g hs cs x fuel (rule_at ws r) → Searching ks vs ws g hs cs x fuel (r + 1)
-    searching_next lt m = record { is = λ S ps rs h d k. let t = w.is S ps rs h d k in go S ps rs h d t.0 t.1 t.2 }
+    pub searching_next : r < length ws → Missed ks vs g hs cs x fuel (rule_at ws r) → Searching ks vs ws g hs cs x fuel (r + 1)
+    searching_next lt m = record { is = λ S ps rs h d k. let t = w.is S ps rs h d k in go S ps rs h d t.0 (rw (rules_split ws r lt) at t.1) t.2 }
       where
-        go : (S : ℕ → Bool) (ps : Parts) (rs : List Pattern) → From (view ks vs g) hs cs S x ps → depths ps ≤ fuel → (qs : List Pattern) → Ruled ks vs ws r qs
-            → by_patterns rs ps ≡ by_patterns qs ps → (qs : List Pattern) × Ruled ks vs ws (r + 1) qs × (by_patterns rs ps ≡ by_patterns qs ps)
-        go S ps rs h d [] k e = absurd (omega (arith, k))
-        go S ps rs h d (p ∷ qs) k e = (qs, k.2, e ∙ pattern_no p qs ps (m.is S ps p h d k.1))
+        go : (S : ℕ → Bool) (ps : Parts) (rs : List Pattern) → From (view ks vs g) hs cs S x ps → depths ps ≤ fuel → (qs : List Pattern)
+            → Ruled ks vs (rule_at ws r ∷ drop (r + 1) ws) qs → by_patterns rs ps ≡ by_patterns qs ps
+            → (qs : List Pattern) × Ruled ks vs (drop (r + 1) ws) qs × (by_patterns rs ps ≡ by_patterns qs ps)
+        go S ps rs h d [] k e = absurd k
+        go S ps rs h d (p ∷ qs) k e = (qs, k.1, e ∙ pattern_no p qs ps (m.is S ps p h d k.0))
 
-    pub searching_none : rule_count ws ≤ r → (S : ℕ → Bool) (ps : Parts) (rs : List Pattern) → From (view ks vs g) hs cs S x ps → depths ps ≤ fuel → Ruled ks vs ws 0 rs
+    pub searching_none : length ws ≤ r → (S : ℕ → Bool) (ps : Parts) (rs : List Pattern) → From (view ks vs g) hs cs S x ps → depths ps ≤ fuel → Ruled ks vs ws rs
         → by_patterns rs ps ≡ none
     unfolding by_patterns
-    searching_none le S ps rs h d k = let t = w.is S ps rs h d k in t.2 ∙ go t.0 t.1
+    searching_none le S ps rs h d k = let t = w.is S ps rs h d k in t.2 ∙ go t.0 (rw (drop_all r ws le) at t.1)
       where
-        go : (qs : List Pattern) → Ruled ks vs ws r qs → by_patterns qs ps ≡ none
+        go : (qs : List Pattern) → Ruled ks vs [] qs → by_patterns qs ps ≡ none
         go [] k = refl
-        go (p ∷ qs) k = absurd (omega (arith, k.0))
+        go (p ∷ qs) k = absurd k
 
-    pub searching_hit : Sight ks vs g → r < rule_count ws → Hit ks vs g hs cs x fuel (rule_at ws r) → (S : ℕ → Bool) (ps : Parts) (rs : List Pattern) → From (view ks vs g) hs cs S x ps → depths ps ≤ fuel → Ruled ks vs ws 0 rs
+    pub searching_hit : Sight ks vs g → r < length ws → Hit ks vs g hs cs x fuel (rule_at ws r) → (S : ℕ → Bool) (ps : Parts) (rs : List Pattern) → From (view ks vs g) hs cs S x ps → depths ps ≤ fuel → Ruled ks vs ws rs
         → (u : Term) × (by_patterns rs ps ≡ some u) × Tree (view ks vs g) hs cs S (rule_at ws r).value 0 u
-    searching_hit s lt m S ps rs h d k = let t = w.is S ps rs h d k in go t.0 t.1 t.2
+    searching_hit s lt m S ps rs h d k = let t = w.is S ps rs h d k in go t.0 (rw (rules_split ws r lt) at t.1) t.2
       where
-        go : (qs : List Pattern) → Ruled ks vs ws r qs → by_patterns rs ps ≡ by_patterns qs ps → (u : Term) × (by_patterns rs ps ≡ some u) × Tree (view ks vs g) hs cs S (rule_at ws r).value 0 u
-        go [] k e = absurd (omega (arith, k))
+        go : (qs : List Pattern) → Ruled ks vs (rule_at ws r ∷ drop (r + 1) ws) qs → by_patterns rs ps ≡ by_patterns qs ps
+            → (u : Term) × (by_patterns rs ps ≡ some u) × Tree (view ks vs g) hs cs S (rule_at ws r).value 0 u
+        go [] k e = absurd k
         go (p ∷ qs) k e = (
           p.value,
-          e ∙ pattern_yes p qs ps (m.is S ps p h d k.1),
-          held_tree (view ks vs g) hs cs S p.value (rule_at ws r).value (view_held ks vs g s (rule_at ws r).value p.value k.1.value),
+          e ∙ pattern_yes p qs ps (m.is S ps p h d k.0),
+          held_tree (view ks vs g) hs cs S p.value (rule_at ws r).value (view_held ks vs g s (rule_at ws r).value p.value k.0.value),
         )
 
   -- the rules that the scan passes have another member than the row
-  past : {m : ℕ} → MemberIn (view ks vs g) x m → (k r : ℕ) → r + k ≤ rule_count ws → NoneFrom ws r m (r + k) → Searching ks vs ws g hs cs x fuel r → Searching ks vs ws g hs cs x fuel (r + k)
+  past : {m : ℕ} → MemberIn (view ks vs g) x m → (k r : ℕ) → r + k ≤ length ws → ((i : ℕ) → i < k → has_member (rule_at (drop r ws) i) m ≡ false)
+      → Searching ks vs ws g hs cs x fuel r → Searching ks vs ws g hs cs x fuel (r + k)
   past h zero r le f w = let e : r + 0 ≡ r = omega arith in rw e w
-  past h (suc k) r le f w =
+  past {m} h (suc k) r le f w =
       let e : r + 1 + k ≡ r + suc k = omega arith in
-      let one = searching_next w (omega arith) (replaces_other hs cs fuel (rule_at ws r) h (f r (omega arith) (omega arith))) in
-      rw e at (past h k (r + 1) (omega arith) (λ i a b. f i (omega arith) (omega arith)) one)
+      let split = rules_split ws r (omega arith) in
+      let other : has_member (rule_at ws r) m ≡ false = rw split at (f 0 (omega arith)) in
+      let one = searching_next w (omega arith) (replaces_other hs cs fuel (rule_at ws r) h (λ z. never_true (sym other ∙ eq-eqb _ _ z))) in
+      rw e at (past h k (r + 1) (omega arith) (λ i b. rw split at (f (suc i) (omega arith))) one)
 
-  pub searching_to : {m : ℕ} → MemberIn (view ks vs g) x m → {r : ℕ} (t : ℕ) → r ≤ t → t ≤ rule_count ws → NoneFrom ws r m t → Searching ks vs ws g hs cs x fuel r → Searching ks vs ws g hs cs x fuel t
-  searching_to h {r} t a c f w =
-      let e : r + (t - r) ≡ t = omega arith in
-      rw e at (past h (t - r) r (omega arith) (λ i y z. f i y (omega arith)) w)
+  -- the scan of the rules from the r-th on: the first with the member, or none
+  module _ {m r : ℕ} (h : MemberIn (view ks vs g) x m) (w : Searching ks vs ws g hs cs x fuel r) (within : r ≤ length ws) where
+    abbrev scan : Option ℕ
+    scan = first_with (take (length ws - r) (drop r ws)) m
+
+    scan_is : scan ≡ first_with (drop r ws) m
+    scan_is = ap (λ (l : List Rule). first_with l m) (part_to_end ws r)
+
+    pub searching_to : {n : ℕ} → scan ≡ Some n → (r + n < length ws) × Searching ks vs ws g hs cs x fuel (r + n)
+    searching_to {n} e =
+        let at = position-Some (λ u. has_member u m) (drop r ws) n no_rule (sym scan_is ∙ e) in
+        let lt : r + n < length ws = omega (arith, at.0, length-drop r ws) in
+        (lt, past h n r (omega arith) at.2 w)
+
+    pub searching_past : scan ≡ None → Searching ks vs ws g hs cs x fuel (length ws)
+    searching_past e =
+        let z : r + (length ws - r) ≡ length ws = omega arith in
+        rw z at (past h (length ws - r) r (omega arith) (λ i lt. position_none (λ u. has_member u m) (drop r ws) (sym scan_is ∙ e) i no_rule (omega (arith, length-drop r ws))) w)

@@ -19,6 +19,7 @@ use Rattle.terms.specs.Term.{Term, depth, bytes}
 use Rattle.terms.specs.Tree.{error, nums, row, tag, children, with_kids, class, slot_by, slot, same}
 use Rattle.terms.specs.Words.VirtualTokens.{view, Sight}
 use Rattle.terms.specs.Normal.{Out, Row, failed, visit_kids, follow, settle, rebuilt, replacement, walk_by}
+use Rattle.terms.specs.declared.Rule.{Rule}
 use Rattle.terms.specs.Lookup.{Look, look_by, Looks}
 use Rattle.terms.specs.Words.Arena.{Tree, OwnAt, Below, grow, Frames, Opened, Ordered}
 use Rattle.terms.specs.Words.WalkingContract.{Visited, Overrun, Went, Walks, used}
@@ -154,7 +155,7 @@ pub order-of : {a : Area} {hs₁ cs₁ hs cs : List ℕ} {S : ℕ → Bool} (x :
     → Ordered a x.head k m l → Order k m l n t
 order-of {hs₁} {cs₁} {S} x {k} {m} {l} {t} w o od i = ap (λ (c : ℕ). slot_by (class k) m l c i) o.count ∙ od.is hs₁ cs₁ S x.kids t w i
 
-module _ (ks vs ws : List ℕ) (g : Origin) where
+module _ (ks vs : List ℕ) (ws : List Rule) (g : Origin) where
   -- hs₀, cs₀ have the n opened children; j of them have been visited
   pub record Walking (hs₀ cs₀ hs cs : List ℕ) (k m l next n levels visits most base j at left size : ℕ) : Type 0 where
     pub upto : j ≤ n
@@ -180,7 +181,7 @@ module _ (ks vs ws : List ℕ) (g : Origin) where
         (ap (λ (c : ℕ). record { terms = children t; visits = visits - 1; count = c }) (ap (λ (x : ℕ). next + x) (sym o.count)));
   }
 
-module _ {ks vs ws : List ℕ} {g : Origin} {hs₀ cs₀ hs cs : List ℕ} {k m l next n levels visits most base j at left size : ℕ} (w : Walking ks vs ws g hs₀ cs₀ hs cs k m l next n levels visits most base j at left size) (lt : j < n)
+module _ {ks vs : List ℕ} {ws : List Rule} {g : Origin} {hs₀ cs₀ hs cs : List ℕ} {k m l next n levels visits most base j at left size : ℕ} (w : Walking ks vs ws g hs₀ cs₀ hs cs k m l next n levels visits most base j at left size) (lt : j < n)
     {i : ℕ} (ei : i ≡ slot_by (class k) m l n j) (in_row : i < n) where
   abbrev marks : (ℕ → Bool) → ℕ → Bool
   marks S = grow S (next + n) at
@@ -222,7 +223,7 @@ module _ {ks vs ws : List ℕ} {g : Origin} {hs₀ cs₀ hs cs : List ℕ} {k m 
 
 -- ---- the node, when its children have been visited
 
-module _ {ks vs ws : List ℕ} {g : Origin} {hs₁ cs₁ hs₀ cs₀ hs cs : List ℕ} (x : Content) {k m l next n levels visits most base j at left size : ℕ}
+module _ {ks vs : List ℕ} {ws : List Rule} {g : Origin} {hs₁ cs₁ hs₀ cs₀ hs cs : List ℕ} (x : Content) {k m l next n levels visits most base j at left size : ℕ}
     (w : Walking ks vs ws g hs₀ cs₀ hs cs k m l next n levels visits most base j at left size) (over : n ≤ j) (hl : 0 < levels) (ow : OwnAt (view ks vs g) x.head base)
     (hb : base + n ≤ 68719476736)
     (op : (S : ℕ → Bool) (t : Term) → Below S next → Tree (view ks vs g) hs₁ cs₁ S x.head x.kids t → Opened (view ks vs g) hs₀ cs₀ S next n t)
@@ -372,7 +373,7 @@ module _ {ks vs ws : List ℕ} {g : Origin} {hs₁ cs₁ hs₀ cs₀ hs cs : Lis
 
 -- ---- a visit that is not made
 
-module _ (ks vs ws : List ℕ) (g : Origin) (s : Sight ks vs g) (hs cs : List ℕ) (x : Content) (next levels visits most : ℕ) (le : next ≤ most) where
+module _ (ks vs : List ℕ) (ws : List Rule) (g : Origin) (s : Sight ks vs g) (hs cs : List ℕ) (x : Content) (next levels visits most : ℕ) (le : next ≤ most) where
   pub walks_failed : ((look : Look) (t : Term) → walk_by (finds look) levels t visits next ≡ failed visits next)
       → (e : Content) → e.head ≡ length ks → e.kids ≡ 0 → (r : Walked) → r ≡ record { head = e.head; kids = e.kids; next = next; visits = visits; size = 1 }
       → Went ks vs ws g hs cs hs cs x next levels visits most r
@@ -386,7 +387,7 @@ module _ (ks vs ws : List ℕ) (g : Origin) (s : Sight ks vs g) (hs cs : List �
   })
 
 -- what is used comes after what was
-pub used_later : (ks vs ws : List ℕ) (g : Origin) (hs₀ cs₀ hs cs : List ℕ) (x : Content) (next levels visits most : ℕ) → next ≤ most → (r : rust.Option Walked)
+pub used_later : (ks vs : List ℕ) (ws : List Rule) (g : Origin) (hs₀ cs₀ hs cs : List ℕ) (x : Content) (next levels visits most : ℕ) → next ≤ most → (r : rust.Option Walked)
     → Walks ks vs ws g hs₀ cs₀ hs cs x next levels visits most r → next ≤ used most r
 used_later ks vs ws g hs₀ cs₀ hs cs x next levels visits most le (Some r) w = w.later
 used_later ks vs ws g hs₀ cs₀ hs cs x next levels visits most le None w = le

@@ -10,15 +10,19 @@ use lib.Dec.{eqb, ltb}
 use lib.ListN.{length, get_or, length-append}
 use lib.Seq.{sets, length-sets}
 use Rattle.terms.specs.declared.Binders.{Binders}
+use Rattle.terms.specs.declared.Parameters.{Parameters}
+use Rattle.terms.specs.declared.Part.{Part}
+use Rattle.terms.specs.declared.Purpose.{Purpose}
+use Rattle.terms.specs.declared.Purpose.TheVariants.{Instance, Context, Family}
 use Rattle.terms.specs.declared.Choice.{Choice}
 use Rattle.terms.specs.declared.Choice.TheVariants.{Keep, By, Unknown}
 use Rattle.terms.specs.Result.{pick}
 use Rattle.terms.specs.Words.TokenBytes.{spelt}
 use Rattle.terms.specs.Parameters.{is_found}
 use Rattle.terms.specs.Words.Held.{span}
-use Rattle.terms.specs.Words.FindContract.{stride, last_at, nth_at, entry_at, receiver_at, argument_for}
+use Rattle.terms.specs.Words.FindContract.{stride, last_at, nth_at, receiver_at, argument_for}
 use Rattle.terms.specs.Questions.{Parameter}
-use Rattle.terms.specs.Words.RewriteContract.{by, index, self, generic, in_context_of, named_at, chosen, piece, pace, pieces, rewritten, written, Ready, Space, Inside, Writes}
+use Rattle.terms.specs.Words.RewriteContract.{by, index, is_context, self_for, entry_for, generic, in_context_of, generic_for, named_at, chosen, piece, pace, pieces, rewritten, written, RowsWithin, Space, Inside, Writes}
 use Rattle.terms.proofs.Laws.Format.WriteLaws.{sets_append, spelt_short}
 use Rattle.terms.proofs.Laws.Replacing.FindLaws.{clip_within}
 use Rattle.std.specs.Prelude.{Option, Some, None}
@@ -31,58 +35,64 @@ pick_no t x y e = rw e
 
 -- ---- what is chosen
 
-module _ (ks vs s : List ℕ) (b : Binders) (w : Parameter) where
-  pub generic_argument : (p : ℕ) → Some p ≡ argument_for ks vs b.arguments (index s b w) → By p ≡ generic ks vs s b w
+module _ (ks vs : List ℕ) (b : Binders) (l : Parameters) (w : Parameter) where
+  pub generic_argument : (a p : ℕ) → Some p ≡ argument_for ks vs a (index l w) → By p ≡ generic ks vs b l a w
   unfolding generic
-  generic_argument p e = rw (← e)
+  generic_argument a p e = rw (← e)
 
-  pub generic_entry : (r : Choice) (e : Option ℕ) → None ≡ argument_for ks vs b.arguments (index s b w) → e ≡ entry_at ks vs b.entries b.receivers w.owner w.position → r ≡ by e Keep → r ≡ generic ks vs s b w
+  pub generic_entry : (a : ℕ) (r : Choice) (e : Option ℕ) → None ≡ argument_for ks vs a (index l w) → e ≡ entry_for ks vs b w → r ≡ by e Keep → r ≡ generic ks vs b l a w
   unfolding generic
-  generic_entry r e n f h = h ∙ rw (← n, f)
+  generic_entry a r e n f h = h ∙ rw (← n, f)
 
-  pub context_entry : (p : ℕ) → Some p ≡ entry_at ks vs b.entries b.receivers w.owner w.position → By p ≡ in_context_of ks vs s b w
+  pub context_entry : (p : ℕ) → Some p ≡ entry_for ks vs b w → By p ≡ in_context_of ks vs b l w
   unfolding in_context_of
   context_entry p e = rw (← e)
 
-  pub context_parameter : (k : ℕ) → None ≡ entry_at ks vs b.entries b.receivers w.owner w.position → Some k ≡ index s b w → Unknown ≡ in_context_of ks vs s b w
+  pub context_parameter : (k : ℕ) → None ≡ entry_for ks vs b w → Some k ≡ index l w → Unknown ≡ in_context_of ks vs b l w
   unfolding in_context_of
   context_parameter k e n = rw (← e, ← n)
 
-  pub context_none : None ≡ entry_at ks vs b.entries b.receivers w.owner w.position → None ≡ index s b w → Keep ≡ in_context_of ks vs s b w
+  pub context_none : None ≡ entry_for ks vs b w → None ≡ index l w → Keep ≡ in_context_of ks vs b l w
   unfolding in_context_of
   context_none e n = rw (← e, ← n)
 
+module _ (ks vs : List ℕ) (b : Binders) (w : Parameter) {u : Purpose} where
+  pub in_instance : u ≡ Instance → (r : Choice) (e : Option ℕ) → e ≡ entry_for ks vs b w → r ≡ by e Keep → r ≡ generic_for ks vs b u w
+  unfolding generic_for
+  in_instance c r e f h = rw c (h ∙ rw f)
+
+  pub in_context : {l : Parameters} → u ≡ Context l → {r : Choice} → r ≡ in_context_of ks vs b l w → r ≡ generic_for ks vs b u w
+  unfolding generic_for
+  in_context c h = rw c h
+
+  pub in_family : {l : Parameters} {a : ℕ} → u ≡ Family l a → {r : Choice} → r ≡ generic ks vs b l a w → r ≡ generic_for ks vs b u w
+  unfolding generic_for
+  in_family c h = rw c h
+
 module _ (ks vs : List ℕ) (b : Binders) (o : ℕ) where
-  pub self_context : b.context ≡ true → Keep ≡ self ks vs b o
-  unfolding self
+  pub self_context : is_context b.purpose ≡ true → Keep ≡ self_for ks vs b o
+  unfolding self_for
   self_context e = rw e
 
-  pub self_receiver : b.context ≡ false → (r : Choice) (e : Option ℕ) → e ≡ receiver_at ks vs b.receivers b.finish o → r ≡ by e Keep → r ≡ self ks vs b o
-  unfolding self
+  pub self_receiver : is_context b.purpose ≡ false → (r : Choice) (e : Option ℕ) → e ≡ receiver_at ks vs b.receivers b.finish o → r ≡ by e Keep → r ≡ self_for ks vs b o
+  unfolding self_for
   self_receiver c r e f h = rw c (h ∙ rw f)
 
 -- the parameter whose owner and position stand there
-named_is : (ks vs s : List ℕ) (b : Binders) (w : Parameter) (p : ℕ) → w.owner ≡ get_or vs (p + 1) 0 → w.position ≡ get_or vs (p + 2) 0 → w ≡ named_at ks vs s b p
-named_is ks vs s b w p e f = λ i. record { owner = e i; position = f i }
+named_is : (ks vs : List ℕ) (b : Binders) (w : Parameter) (p : ℕ) → w.owner ≡ get_or vs (p + 1) 0 → w.position ≡ get_or vs (p + 2) 0 → w ≡ named_at ks vs b p
+named_is ks vs b w p e f = λ i. record { owner = e i; position = f i }
 
-module _ (ks vs s : List ℕ) (b : Binders) (p : ℕ) where
-  pub chosen_context : get_or ks p 0 ≡ 19 → b.context ≡ true → (r : Choice) (w : Parameter) → w.owner ≡ get_or vs (p + 1) 0 → w.position ≡ get_or vs (p + 2) 0 → r ≡ in_context_of ks vs s b w → r ≡ chosen ks vs s b p
+module _ (ks vs : List ℕ) (b : Binders) (p : ℕ) where
+  pub chosen_generic : get_or ks p 0 ≡ 19 → (r : Choice) (w : Parameter) → w.owner ≡ get_or vs (p + 1) 0 → w.position ≡ get_or vs (p + 2) 0 → r ≡ generic_for ks vs b b.purpose w → r ≡ chosen ks vs b p
   unfolding chosen
-  chosen_context k c r w e f h =
-      let z : in_context_of ks vs s b w ≡ in_context_of ks vs s b (named_at ks vs s b p) = ap (in_context_of ks vs s b) (named_is ks vs s b w p e f) in
-      h ∙ z ∙ pick_yes b.context _ _ c ∙ pick_yes (eqb (get_or ks p 0) 19) _ _ (eq-eqb (get_or ks p 0) 19 k)
+  chosen_generic k r w e f h =
+      h ∙ ap (generic_for ks vs b b.purpose) (named_is ks vs b w p e f) ∙ pick_yes (eqb (get_or ks p 0) 19) _ _ (eq-eqb (get_or ks p 0) 19 k)
 
-  pub chosen_generic : get_or ks p 0 ≡ 19 → b.context ≡ false → (r : Choice) (w : Parameter) → w.owner ≡ get_or vs (p + 1) 0 → w.position ≡ get_or vs (p + 2) 0 → r ≡ generic ks vs s b w → r ≡ chosen ks vs s b p
-  unfolding chosen
-  chosen_generic k c r w e f h =
-      let z : generic ks vs s b w ≡ generic ks vs s b (named_at ks vs s b p) = ap (generic ks vs s b) (named_is ks vs s b w p e f) in
-      h ∙ z ∙ pick_no b.context _ _ c ∙ pick_yes (eqb (get_or ks p 0) 19) _ _ (eq-eqb (get_or ks p 0) 19 k)
-
-  pub chosen_self : (get_or ks p 0 ≡ 19 → ⊥) → get_or ks p 0 ≡ 21 → (r : Choice) (o : ℕ) → o ≡ get_or vs (p + 1) 0 → r ≡ self ks vs b o → r ≡ chosen ks vs s b p
+  pub chosen_self : (get_or ks p 0 ≡ 19 → ⊥) → get_or ks p 0 ≡ 21 → (r : Choice) (o : ℕ) → o ≡ get_or vs (p + 1) 0 → r ≡ self_for ks vs b o → r ≡ chosen ks vs b p
   unfolding chosen
   chosen_self n k r o e h = rw (ne_eqb (get_or ks p 0) 19 n, eq-eqb (get_or ks p 0) 21 k) (h ∙ rw e)
 
-  pub chosen_keep : (get_or ks p 0 ≡ 19 → ⊥) → (get_or ks p 0 ≡ 21 → ⊥) → Keep ≡ chosen ks vs s b p
+  pub chosen_keep : (get_or ks p 0 ≡ 19 → ⊥) → (get_or ks p 0 ≡ 21 → ⊥) → Keep ≡ chosen ks vs b p
   unfolding chosen
   chosen_keep n k = rw (ne_eqb (get_or ks p 0) 19 n, ne_eqb (get_or ks p 0) 21 k)
 
@@ -181,22 +191,23 @@ module _ (ks vs : List ℕ) where
   inside_pick true c d h k = h
   inside_pick false c d h k = k
 
-  pub chosen_inside : (s : List ℕ) (b : Binders) → Ready ks vs b → (p : ℕ) → Inside ks (chosen ks vs s b p)
-  unfolding chosen generic in_context_of self Below
-  chosen_inside s b r p =
+  pub chosen_inside : (b : Binders) → RowsWithin ks vs b → (p : ℕ) → Inside ks (chosen ks vs b p)
+  unfolding chosen generic_for generic in_context_of self_for Below
+  chosen_inside b r p =
       let o = get_or vs (p + 1) 0 in
-      let q = get_or vs (p + 2) 0 in
-      let w = named_at ks vs s b p in
-      let entry = entry_at ks vs b.entries b.receivers o q in
-      let e = last_below 2 o q (b.receivers - b.entries) b.entries b.receivers None tt in
+      let w = named_at ks vs b p in
       let f = last_below 1 o o (b.finish - b.receivers) b.receivers b.finish None tt in
-      inside_pick (eqb (get_or ks p 0) 19) _ _
-      (inside_pick b.context (in_context_of ks vs s b w) (generic ks vs s b w)
-      (below_by b.receivers r.entries entry (pick (is_found (index s b w)) Unknown Keep) e (inside_pick (is_found (index s b w)) Unknown Keep tt tt))
-      (below_by (length ks) (omega arith) (argument_for ks vs b.arguments (index s b w)) (by entry Keep) (argument_below b.arguments (index s b w))
-      (below_by b.receivers r.entries entry Keep e tt)))
-      (inside_pick (eqb (get_or ks p 0) 21) (self ks vs b o) Keep
-      (inside_pick b.context Keep _ tt (below_by b.finish r.receivers (receiver_at ks vs b.receivers b.finish o) Keep f tt)) tt)
+      inside_pick (eqb (get_or ks p 0) 19) _ _ (bound w b.purpose)
+      (inside_pick (eqb (get_or ks p 0) 21) (self_for ks vs b o) Keep
+      (inside_pick (is_context b.purpose) Keep _ tt (below_by b.finish r.receivers (receiver_at ks vs b.receivers b.finish o) Keep f tt)) tt)
+    where
+      by_entry : (w : Parameter) (c : Choice) → Inside ks c → Inside ks (by (entry_for ks vs b w) c)
+      by_entry w c k = below_by b.receivers r.entries (entry_for ks vs b w) c (last_below 2 w.owner w.position (b.receivers - b.entries) b.entries b.receivers None tt) k
+
+      bound : (w : Parameter) (u : Purpose) → Inside ks (generic_for ks vs b u w)
+      bound w Instance = by_entry w Keep tt
+      bound w (Context l) = by_entry w _ (inside_pick (is_found (index l w)) Unknown Keep tt tt)
+      bound w (Family l a) = below_by (length ks) (omega arith) (argument_for ks vs a (index l w)) (by (entry_for ks vs b w) Keep) (argument_below a (index l w)) (by_entry w Keep tt)
 
 -- ---- the writer's steps
 
@@ -291,13 +302,16 @@ module _ (ks vs : List ℕ) (f : ℕ → Choice) {on : Bool} {out₀ : List ℕ}
 
 -- ---- a whole term
 
-module _ (ks vs s : List ℕ) (b : Binders) (a n : ℕ) (e : n ≡ stride ks vs a (length ks - a)) where
-  pub whole_space : (on : Bool) (at size : ℕ) → Space on at (length (written ks vs s b a)) size → Space on at (length (rewritten ks vs s b a n)) size
-  whole_space on at size h = rw e h
+module _ (ks vs : List ℕ) (b : Binders) (a : ℕ) (p : Part) (f : p.from ≡ a) (e : p.end ≡ a + stride ks vs a (length ks - a)) where
+  whole : written ks vs b a ≡ rewritten ks vs b p
+  whole = λ i. rewritten ks vs b (record { from = sym f i; end = sym e i })
 
-  pub whole_writes : (on : Bool) (out : List ℕ) (at r : ℕ) (out' : List ℕ) → r ≡ at + length (rewritten ks vs s b a n) → out' ≡ pick on (sets out at (rewritten ks vs s b a n)) out
-      → Writes on out at r out' (written ks vs s b a)
-  whole_writes on out at r out' h k = record { next = rw e at h; wrote = rw e at k }
+  pub whole_space : (on : Bool) (at size : ℕ) → Space on at (length (written ks vs b a)) size → Space on at (length (rewritten ks vs b p)) size
+  whole_space on at size h = rw whole at h
+
+  pub whole_writes : (on : Bool) (out : List ℕ) (at r : ℕ) (out' : List ℕ) → r ≡ at + length (rewritten ks vs b p) → out' ≡ pick on (sets out at (rewritten ks vs b p)) out
+      → Writes on out at r out' (written ks vs b a)
+  whole_writes on out at r out' h k = record { next = rw (← whole) at h; wrote = rw (← whole) at k }
 
 -- ---- how long it can be
 
@@ -322,13 +336,13 @@ module _ (ks vs : List ℕ) (words : (i : ℕ) → get_or vs i 0 < 2 ^ 32) where
       go false q ih = omega arith
 
   -- in areas of at most 2 ^ 24 words the bytes can be counted
-  pub counted : (s : List ℕ) (b : Binders) → Ready ks vs b → (a c : ℕ) → a + c ≤ length ks → length ks ≤ 2 ^ 24 → length (rewritten ks vs s b a c) ≤ 2 ^ 51
-  counted s b r a c h l =
-      let m = pieces_short (chosen ks vs s b) (chosen_inside ks vs s b r) (a + c - a) a (a + c) h in
-      let x : a + c - a ≤ 2 ^ 24 = omega arith in
+  pub counted : (b : Binders) → RowsWithin ks vs b → (p : Part) → p.end ≤ length ks → length ks ≤ 2 ^ 24 → length (rewritten ks vs b p) ≤ 2 ^ 51
+  counted b r p h l =
+      let m = pieces_short (chosen ks vs b) (chosen_inside ks vs b r) (p.end - p.from) p.from p.end h in
+      let x : p.end - p.from ≤ 2 ^ 24 = omega arith in
       let y : 6 * length ks ≤ 6 * 2 ^ 24 = omega arith in
-      let n : (a + c - a) * (6 * length ks) ≤ 2 ^ 24 * (6 * 2 ^ 24) = mul-le-mul {n₂ = 2 ^ 24} {m₂ = 6 * 2 ^ 24} x y in
+      let n : (p.end - p.from) * (6 * length ks) ≤ 2 ^ 24 * (6 * 2 ^ 24) = mul-le-mul {n₂ = 2 ^ 24} {m₂ = 6 * 2 ^ 24} x y in
       omega arith
 
-  pub counted_term : (s : List ℕ) (b : Binders) → Ready ks vs b → (a : ℕ) → a < length ks → length ks ≤ 2 ^ 24 → length (written ks vs s b a) ≤ 2 ^ 51
-  counted_term s b r a h l = counted s b r a _ (stride_in ks vs a a _ h refl) l
+  pub counted_term : (b : Binders) → RowsWithin ks vs b → (a : ℕ) → a < length ks → length ks ≤ 2 ^ 24 → length (written ks vs b a) ≤ 2 ^ 51
+  counted_term b r a h l = counted b r _ (stride_in ks vs a a _ h refl) l

@@ -1,35 +1,26 @@
--- The laws of `Along`, at the reader's place; the bytes stay those of the slice.
+-- What holds where the reader stands goes on from record to record; the bytes stay those of the slice.
 use Rattle.std.proofs.Common.{◌∙◌, ap, arith, refl, List, ℕ, Bor}
-use Rattle.terms.specs.Words.Tokens.{area}
 use Rattle.terms.proofs.Laws.General.Options.{handed_on, sub_step}
-use Rattle.terms.proofs.Laws.Format.ListReaderLaws.{along_start, along_next, along_stop, along_end}
+use Rattle.terms.proofs.Laws.Format.ReadLaws.{so_far_start}
+use Rattle.terms.proofs.Laws.Format.ListLaws.{records_end, records_read, records_refused}
 use Rattle.terms.proofs.lists.read_records.Goals as goal
+use native.Mathlib.Nat.{sub-zero}
 
 pub loop-init : goal.loop-init
-loop-init c =
-    let a = c.args in
-    record { bytes = refl; along = along_start a.s.now a.w a.count a.place.now (area a.kinds.now a.vals.now) c.requires }
+loop-init c = record { bytes = refl; along = rw (sub-zero c.args.count) (so_far_start c.requires.inside) }
 
 pub loop-preserved : goal.loop-preserved
 loop-preserved c =
-    let a = c.args in
     let l = c.loop in
-    let x = rw l.invariant.bytes at c.in_ok-next_record.ensures.done in
     record {
       bytes = ap (λ (b : Bor (List ℕ)). b.now) c.next_record.ensures.bytes ∙ l.invariant.bytes;
-      along = rw (sub_step a.count l.counter) (along_next a.s.now a.w a.count a.place.now (area a.kinds.now a.vals.now) c.requires l.counter l.reader.place (area l.kinds l.vals) l.invariant.along c.loop-test.true (area c.next_record.new.kinds c.next_record.new.vals) c.next_record.new.self.place x);
+      along = rw (sub_step c.args.count l.counter) (records_read _ _ _ l.invariant.along (omega arith) (rw l.invariant.bytes at c.in_ok-next_record.ensures.done));
     }
 
 pub returns-in_err-next_record : goal.returns-in_err-next_record
 returns-in_err-next_record c =
-    let a = c.args in
     let l = c.loop in
-    let x = rw l.invariant.bytes at c.in_err-next_record.ensures.done in
-    rw (handed_on _ _ c.from_residual.ensures.1)
-    (along_stop a.s.now a.w a.count a.place.now (area a.kinds.now a.vals.now) c.requires l.counter l.reader.place (area l.kinds l.vals) l.invariant.along c.loop-test.true (area c.next_record.new.kinds c.next_record.new.vals) _ x)
+    rw (handed_on _ _ c.from_residual.ensures.1) (records_refused _ _ _ l.invariant.along (omega arith) _ (rw l.invariant.bytes at c.in_err-next_record.ensures.done))
 
 pub returns : goal.returns
-returns c =
-    let a = c.args in
-    let l = c.loop in
-    along_end a.s.now a.w a.count a.place.now (area a.kinds.now a.vals.now) c.requires l.counter l.reader.place (area l.kinds l.vals) l.invariant.along (omega arith)
+returns c = records_end _ _ _ c.loop.invariant.along (omega arith)

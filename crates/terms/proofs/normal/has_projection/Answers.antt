@@ -1,18 +1,14 @@
-use mathlib.Core.Path.{refl}
-use native.Mathlib.Omega.{arith}
-use Rattle.terms.proofs.Laws.Normalising.NormalLaws.{scanning_start, scanning_none, scanning_found, scanning_next}
+-- The kinds of the term tell; no term ends past the tokens.
+use Rattle.std.proofs.Common.{refl, arith}
+use Rattle.terms.proofs.Laws.Normalising.NormalLaws.{kinds_tell, kinds_out}
 use Rattle.terms.proofs.normal.has_projection.Goals as goal
 
-pub loop-q-init : goal.loop-q-init
-loop-q-init c =
-    scanning_start _ _ _ _ _ refl (omega arith) (omega (arith, c.step.ensures.some)) c.token.ensures.kind c.token.ensures.value
-    c.step.ensures.span
+pub returns-then-end-tokens : goal.returns-then-end-tokens
+returns-then-end-tokens c =
+    let x = c.token.ensures in
+    kinds_tell _ _ _ _ _ refl x.kind x.value c.step.ensures.span _ refl _ c.any_projection.ensures c.if-end-tokens.true
 
-pub returns-then-word-eq20 : goal.returns-then-word-eq20
-returns-then-word-eq20 c = scanning_found _ _ _ _ _ c.loop-q.invariant c.loop-q-test.true c.word.ensures c.if-word-eq20.true
-
-pub loop-q-preserved : goal.loop-q-preserved
-loop-q-preserved c = scanning_next _ _ _ _ _ c.loop-q.invariant c.loop-q-test.true c.word.ensures c.if-word-eq20.false
-
-pub returns : goal.returns
-returns c = scanning_none _ _ _ _ _ c.loop-q.invariant c.loop-q-test.false
+pub returns-else-end-tokens : goal.returns-else-end-tokens
+returns-else-end-tokens c =
+    let x = c.token.ensures in
+    λ t h. absurd (kinds_out _ _ _ _ _ refl x.kind x.value c.step.ensures.span (omega (arith, c.if-end-tokens.false)) t h)

@@ -1,11 +1,10 @@
 -- `write_recovered`: the term at a is filled from the one at b.
-use Rattle.terms.proofs.Laws.Held.SameLaws.{told}
-use Rattle.terms.proofs.Laws.Held.FlatLaws.{held_one}
+use Rattle.terms.proofs.Laws.Held.FlatLaws.{held_whole}
 use Rattle.terms.proofs.recover.write_recovered.Goals as goal
 
 pub returns : goal.returns
 returns c =
     λ t u ht hu ft fu.
-    let n = told _ _ _ _ t ht c.width_at-n.ensures.span in
-    let m = told _ _ _ _ u hu c.width_at-m.ensures.span in
-    c.recover_term.ensures.put t u (held_one _ _ _ _ t ht n) (held_one _ _ _ _ u hu m) ft fu
+    let x = held_whole _ _ t c.term_part-x.ensures.part.0 (c.term_part-x.ensures.term t ht) ht in
+    let y = held_whole _ _ u c.term_part-y.ensures.part.0 (c.term_part-y.ensures.term u hu) hu in
+    c.recover_term.ensures.put t u x y ft fu

@@ -1,6 +1,7 @@
 use mathlib.Core.Path.{◌≡◌}
 use Prim.Native.Nat.{◌+◌, ◌*◌}
 use Rattle.terms.proofs.Laws.Normalising.ShowLaws.{RowShowing}
+use Rattle.terms.specs.Words.ShowingContract.{writes}
 use Rattle.terms.specs.Words.VirtualTokens.{view}
 use Rattle.terms.proofs.showing.+showing_trees.Given as goal
 
@@ -12,5 +13,5 @@ decreases-show_tree l = 2 * l.fuel
 
 abbrev pub invariant-show_row-loop-q : goal.invariant-show_row-loop-q
 invariant-show_row-loop-q l =
-    RowShowing (view l.seen.tokens.kinds.now l.seen.tokens.vals.now l.fn.seen.given) l.heads l.kids l.on l.initial.out l.at l.fn.c l.fuel l.out l.i l.q-iterator.at l.n
+    RowShowing (view l.seen.tokens.kinds.now l.seen.tokens.vals.now l.fn.seen.given) l.heads l.kids (writes l.pass) l.initial.out l.at l.fn.c l.fuel l.out l.i l.q-iterator.at l.n
     × (l.q-iterator.seen ≡ l.seen) × (l.q-iterator.end ≡ l.fn.c.end)
