@@ -10,7 +10,9 @@ ghost use Rattle.sheet.specs.Words.FieldsContract.{field_of, NumberRead};
 
 use super::layout::FieldReader;
 use super::{FieldSpot, Sort};
-use solver::{Listing, PartKind, Place, Refusal, keep_list, part_at, read_number, skip_parameters, Rule};
+use solver::{
+    Listing, Parameters, PartKind, Place, Refusal, Rule, keep_list, part_at, read_number,
+};
 
 const ORDINARY: u64 = 4294967295;
 
@@ -89,7 +91,12 @@ fn parameters_field(s: &[u8], place: &mut Place) -> Result<FieldSpot, Refusal>
 {
     let value = next_number(s, place)?;
     let start = place.at;
-    place.at = skip_parameters(s, start, value)?;
+    let parameters = Parameters {
+        bytes: s,
+        at: start,
+        count: value,
+    };
+    place.at = parameters.skip()?;
     Ok(FieldSpot {
         value,
         place: start,

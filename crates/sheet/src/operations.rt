@@ -1,27 +1,26 @@
 // The answers of orders 9 to 20, from an order whose fields are held.
-ghost use Rattle.std.specs.Prelude.{◌≡◌, List, ℕ, ◌<◌, length};
+ghost use Rattle.std.specs.Prelude.{◌≡◌, List, ◌∷◌, ℕ, ◌≤◌, ◌<◌, length};
 ghost use Rattle.solver.specs.Terms.Term.{Term, Held};
 ghost use Rattle.solver.specs.Terms.Tokens.{area};
 ghost use Rattle.solver.specs.Terms.Formed.{Formed};
-ghost use Rattle.solver.specs.TermTypes.{Parameter, Rule};
+ghost use Rattle.solver.specs.TermTypes.{Rule};
 ghost use Rattle.solver.specs.Terms.Questions.{answered, number_of_question};
-ghost use Rattle.solver.specs.Terms.Substitution.{Entry, Receiver, apply};
-ghost use Rattle.solver.specs.Terms.RewriteContract.{Ready, Rewrites};
+ghost use Rattle.solver.specs.Terms.RewriteContract.{Rewrites};
 ghost use Rattle.solver.specs.Terms.Normal.{Out, levels, most};
 ghost use Rattle.solver.specs.Terms.NormalContract.{Answers, Leaves, Lends};
 ghost use Rattle.sheet.specs.OrderTable.{outcome};
 ghost use Rattle.sheet.specs.Operations as rows;
-ghost use Rattle.sheet.specs.Operations.{perhaps, settled};
+ghost use Rattle.sheet.specs.Operations.{settled};
 ghost use Rattle.sheet.specs.Words.OrderKinds.{operation_row};
 ghost use Rattle.sheet.specs.Words.FramingContract.{OutputRoom, Framed};
-ghost use Rattle.sheet.specs.Words.OperationsContract.{IsPosed, RepliesTo, Applies};
+ghost use Rattle.sheet.specs.Words.OperationsContract.{IsPosed, RepliesTo, parameters_at};
 
 use super::framing::{begin_answer, write_byte_answer, write_bytes_answer, write_refusal};
-use super::{Operation, OrderRefusal, Posed};
+use super::{FieldSpot, Operation, OrderRefusal, Posed};
 use solver::{
-    Binders, Question, Refusal, Rule, Tokens, Unfinished, ask, can_weaken_to, clear_tokens,
-    conflicts_with, context, family, instantiation, normalise, recovered_len, satisfies,
-    satisfies_for, self_only, with_associated_types, write_normalised, write_recovered, write_term,
+    Parameters, Pass, Question, Refusal, Rewriter, Rule, Tokens, Unfinished, ask, can_weaken_to,
+    clear_tokens, conflicts_with, context, family, instantiation, normalise, recovered_len,
+    satisfies, satisfies_for, self_only, with_associated_types, write_normalised, write_recovered,
 };
 
 // Order 9.
@@ -59,17 +58,28 @@ fn recovered(posed: &Posed, out: &mut [u8], to: usize) -> Option<usize>
     Some(write_recovered(&posed.tokens, a, b, out, at))
 }
 
+// The parameters that a field has, which stand in the bytes.
+fn parameters_at<'a>(posed: &Posed<'a>, spot: FieldSpot) -> Parameters<'a>
+    ensures { result ≡ parameters_at posed.now spot }
+{
+    Parameters {
+        bytes: posed.bytes,
+        at: spot.place,
+        count: spot.value,
+    }
+}
+
 // Orders 12, 13 and 14: the term with its binders replaced.
-fn rewritten(posed: &Posed, b: Binders, from: usize, out: &mut [u8], to: usize) -> Option<usize>
-    requires ready { Ready posed.now.tokens.kinds.now posed.now.tokens.vals.now b }
-    requires place { from < length posed.now.tokens.kinds.now }
+fn rewritten(rewriter: &Rewriter, from: usize, out: &mut [u8], to: usize) -> Option<usize>
+    requires few { length rewriter.now.tokens.kinds.now ≤ 32768 }
+    requires place { from < length rewriter.now.tokens.kinds.now }
     requires room { OutputRoom out.old to }
-    ensures { Rewrites posed.now.tokens.kinds.now posed.now.tokens.vals.now posed.now.bytes.now b from
+    ensures { Rewrites rewriter.now.tokens.kinds.now rewriter.now.tokens.vals.now rewriter.now.binders from
         (λ x. Framed (outcome x) out.old to out.new result) }
 {
-    let size = write_term(&posed.tokens, posed.bytes, b, from, out, 0, false);
+    let size = rewriter.write_term(from, out, 0, Pass::Count);
     let at = begin_answer(out, to, size)?;
-    Some(write_term(&posed.tokens, posed.bytes, b, from, out, at, true))
+    Some(rewriter.write_term(from, out, at, Pass::Write))
 }
 
 // Order 12.
@@ -79,8 +89,11 @@ fn instantiated(posed: &Posed, out: &mut [u8], to: usize) -> Option<usize>
     ensures { (ws : List Rule) → RepliesTo posed.now ws rows.instantiate (λ x. Framed x out.old to out.new result) }
 {
     let o = posed.fields;
-    let b = instantiation(o.first.place, o.second.place, o.second.end);
-    rewritten(posed, b, o.third.place, out, to)
+    let rewriter = Rewriter {
+        tokens: posed.tokens,
+        binders: instantiation(o.first.place, o.second.place, o.second.end),
+    };
+    rewritten(&rewriter, o.third.place, out, to)
 }
 
 // Order 13.
@@ -90,8 +103,12 @@ fn in_context(posed: &Posed, out: &mut [u8], to: usize) -> Option<usize>
     ensures { (ws : List Rule) → RepliesTo posed.now ws rows.argument_context (λ x. Framed x out.old to out.new result) }
 {
     let o = posed.fields;
-    let b = context(o.first.place, o.second.place, o.third.place, o.third.value);
-    rewritten(posed, b, o.fourth.place, out, to)
+    let parameters = parameters_at(posed, o.third);
+    let rewriter = Rewriter {
+        tokens: posed.tokens,
+        binders: context(o.first.place, o.second.place, &parameters),
+    };
+    rewritten(&rewriter, o.fourth.place, out, to)
 }
 
 // Order 14.
@@ -101,8 +118,11 @@ fn by_receiver(posed: &Posed, out: &mut [u8], to: usize) -> Option<usize>
     ensures { (ws : List Rule) → RepliesTo posed.now ws rows.with_self (λ x. Framed x out.old to out.new result) }
 {
     let o = posed.fields;
-    let b = self_only(o.first.place, o.first.end);
-    rewritten(posed, b, o.second.place, out, to)
+    let rewriter = Rewriter {
+        tokens: posed.tokens,
+        binders: self_only(o.first.place, o.first.end),
+    };
+    rewritten(&rewriter, o.second.place, out, to)
 }
 
 // One of the seven questions; a term is concrete where the question finds nothing.
@@ -111,14 +131,8 @@ fn question(posed: &Posed, q: Question) -> bool
     ensures { (t : Term) → Held posed.now.tokens.kinds.now posed.now.tokens.vals.now posed.now.fields.first.place t → Formed t
         → result ≡ answered (number_of_question q) t }
 {
-    let r = ask(
-        &posed.tokens,
-        posed.fields.first.place,
-        q,
-        posed.bytes,
-        0,
-        0,
-    );
+    let p = posed.fields.first.place;
+    let r = ask(&posed.tokens, p, q, &Parameters::none());
     match q {
         Question::IsConcrete => !r,
         _ => r,
@@ -150,16 +164,9 @@ fn resolved_in(posed: &Posed, out: &mut [u8], to: usize) -> Option<usize>
     requires room { OutputRoom out.old to }
     ensures { (ws : List Rule) → RepliesTo posed.now ws rows.resolved_in (λ x. Framed x out.old to out.new result) }
 {
-    let a = posed.fields.first;
+    let parameters = parameters_at(posed, posed.fields.first);
     let p = posed.fields.second.place;
-    let r = ask(
-        &posed.tokens,
-        p,
-        Question::IsResolvedIn,
-        posed.bytes,
-        a.place,
-        a.value,
-    );
+    let r = ask(&posed.tokens, p, Question::IsResolvedIn, &parameters);
     write_byte_answer(out, to, u8::from(!r))
 }
 
@@ -177,44 +184,38 @@ fn satisfied(posed: &Posed, out: &mut [u8], to: usize) -> Option<usize>
     write_bytes_answer(out, to, &v)
 }
 
-// Order 18: the same after a 1; or a 0, where the arguments are not as many as the parameters.
-fn applied(
-    posed: &Posed,
-    b: Binders,
-    given: u64,
-    from: usize,
-    out: &mut [u8],
-    to: usize,
-) -> Option<usize>
-    requires ready { Ready posed.now.tokens.kinds.now posed.now.tokens.vals.now b }
-    requires place { from < length posed.now.tokens.kinds.now }
+// The same after a 1.
+fn applied(rewriter: &Rewriter, from: usize, out: &mut [u8], to: usize) -> Option<usize>
+    requires few { length rewriter.now.tokens.kinds.now ≤ 32768 }
+    requires place { from < length rewriter.now.tokens.kinds.now }
     requires room { OutputRoom out.old to }
-    ensures { (t : Term) (es : List Entry) (rs : List Receiver) (ps : List Parameter) (ts : List Term)
-        → Applies posed.now.tokens.kinds.now posed.now.tokens.vals.now posed.now.bytes.now b given from t es rs ps ts
-        → Framed (outcome (perhaps (apply ps t (record { parameters = es; receivers = rs }) ts))) out.old to out.new result }
+    ensures { Rewrites rewriter.now.tokens.kinds.now rewriter.now.tokens.vals.now rewriter.now.binders from
+        (λ x. Framed (outcome (1 ∷ x)) out.old to out.new result) }
 {
-    if b.count != given {
-        return write_byte_answer(out, to, 0);
-    }
-    let size = write_term(&posed.tokens, posed.bytes, b, from, out, 0, false);
+    let size = rewriter.write_term(from, out, 0, Pass::Count);
     let at = begin_answer(out, to, size + 1)?;
     out[at] = 1;
-    Some(write_term(&posed.tokens, posed.bytes, b, from, out, at + 1, true))
+    Some(rewriter.write_term(from, out, at + 1, Pass::Write))
 }
 
-// Order 18: a family's value, for a substitution and arguments.
+// Order 18: a family's value, for a substitution and arguments; or a 0, where the arguments are not as many as the parameters.
 fn apply_family(posed: &Posed, out: &mut [u8], to: usize) -> Option<usize>
     requires asks { (ws : List Rule) × IsPosed posed.now ws rows.family }
     requires room { OutputRoom out.old to }
     ensures { (ws : List Rule) → RepliesTo posed.now ws rows.family (λ x. Framed x out.old to out.new result) }
 {
     let o = posed.fields;
-    let p = o.first;
-    let e = o.third;
+    if o.first.value != o.fifth.value {
+        return write_byte_answer(out, to, 0);
+    }
+    let parameters = parameters_at(posed, o.first);
+    let e = o.third.place;
     let r = o.fourth;
-    let l = o.fifth;
-    let b = family(e.place, r.place, r.end, p.place, p.value, l.place);
-    applied(posed, b, l.value, o.second.place, out, to)
+    let rewriter = Rewriter {
+        tokens: posed.tokens,
+        binders: family(e, r.place, r.end, &parameters, o.fifth.place),
+    };
+    applied(&rewriter, o.second.place, out, to)
 }
 
 // A normalised term, or refusal 9; what normalising has left in the areas is cleared.

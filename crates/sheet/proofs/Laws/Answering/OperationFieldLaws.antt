@@ -4,7 +4,7 @@ use mathlib.Core.List.{List, [], ◌∷◌, map}
 use Prim.Native.Nat.{ℕ, ◌≤◌}
 use native.Mathlib.Omega.{arith}
 use lib.ListN.{length, take}
-use Rattle.solver.specs.TermTypes.{Binders, Parameter, Rule}
+use Rattle.solver.specs.TermTypes.{Binders, Parameter, Parameters, Rule}
 use Rattle.solver.specs.Terms.Result.{got}
 use Rattle.solver.specs.Terms.Tokens.{spell}
 use Rattle.solver.specs.Terms.Term.{Term, Parts, node, end, part_items, Held, bytes}
@@ -15,11 +15,11 @@ use Rattle.solver.specs.Terms.Tree.{nominal_of}
 use Rattle.solver.specs.Terms.Questions.{is_resolved_in}
 use Rattle.solver.specs.Terms.Comparison.{conflicts_with, can_weaken_to, satisfies, satisfies_for}
 use Rattle.solver.specs.Terms.Recovery.{recover_from}
-use Rattle.solver.specs.Terms.Parameters.{parameters}
+use Rattle.solver.specs.Terms.Parameters.{parameters, listed as in_bytes}
 use Rattle.solver.specs.Terms.Substitution as substitution
 use Rattle.solver.specs.Terms.Substitution.{Entry, Receiver, apply, contextual}
 use Rattle.solver.specs.Terms.Rows.{entry_row, receiver_row}
-use Rattle.solver.specs.Terms.RewriteContract.{Ready, HeldBinders, for_instance, for_context, for_family}
+use Rattle.solver.specs.Terms.RewriteContract.{RowsWithin, HeldBinders, for_instance, for_context, for_family}
 use Rattle.solver.specs.Terms.Lookup.{Pattern, FormedPatterns}
 use Rattle.solver.specs.Terms.Normal.{normalize, with_associated_types}
 use Rattle.sheet.specs.declared.FieldSpots.{FieldSpots}
@@ -148,20 +148,20 @@ formed_patterns known (r ∷ rs) x = (
 )
 
 -- binders that are held can be looked up
-pub binders_ready : (ks vs s : List ℕ) (b : Binders) (es : List Entry) (rs : List Receiver) (ps : List Parameter) → HeldBinders ks vs s b es rs ps → length vs ≡ length ks → Ready ks vs b
-binders_ready ks vs s b es rs ps x e = record { entries = x.entries.within; receivers = x.receivers.within; long = e }
+pub binders_within : (ks vs : List ℕ) (b : Binders) (es : List Entry) (rs : List Receiver) (ps : List Parameter) → HeldBinders ks vs b es rs ps → length vs ≡ length ks → RowsWithin ks vs b
+binders_within ks vs b es rs ps x e = record { entries = x.entries.within; receivers = x.receivers.within; long = e }
 
 -- binders that are told
-module _ (ks vs s : List ℕ) (b b' : Binders) (e : b ≡ b') where
-  pub ready_as : Ready ks vs b' → Ready ks vs b
-  ready_as x = rw e x
+module _ (ks vs : List ℕ) (b b' : Binders) (e : b ≡ b') where
+  pub within_as : RowsWithin ks vs b' → RowsWithin ks vs b
+  within_as x = rw e x
 
-  pub held_as : (es : List Entry) (rs : List Receiver) (ps : List Parameter) → HeldBinders ks vs s b' es rs ps → HeldBinders ks vs s b es rs ps
+  pub held_as : (es : List Entry) (rs : List Receiver) (ps : List Parameter) → HeldBinders ks vs b' es rs ps → HeldBinders ks vs b es rs ps
   held_as es rs ps x = rw e x
 
-  pub applies_as : (given a : ℕ) (t : Term) (es : List Entry) (rs : List Receiver) (ps : List Parameter) (ts : List Term)
-      → Applies ks vs s b' given a t es rs ps ts → Applies ks vs s b given a t es rs ps ts
-  applies_as given a t es rs ps ts x = rw e x
+  pub applies_as : (l : Parameters) (given a : ℕ) (t : Term) (es : List Entry) (rs : List Receiver) (ps : List Parameter) (ts : List Term)
+      → Applies ks vs b' l given a t es rs ps ts → Applies ks vs b l given a t es rs ps ts
+  applies_as l given a t es rs ps ts x = rw e x
 
 -- ---- each kind: what its fields are, where they are held, and what its answer is
 
@@ -178,7 +178,7 @@ pub record Instance (ks vs s : List ℕ) (o : FieldSpots) (w : Answer) : Type 0 
   pub receivers : List Receiver
   pub term : Term
   pub answer : w ≡ outcome (bytes (substitution.instantiate (record { parameters = entries; receivers = receivers }) term))
-  pub binders : HeldBinders ks vs s (for_instance o.first.place o.second.place o.second.end) entries receivers []
+  pub binders : HeldBinders ks vs (for_instance o.first.place o.second.place o.second.end) entries receivers []
   pub held : Held ks vs o.third.place term
   pub formed : Formed term
 
@@ -188,7 +188,7 @@ pub record Context (ks vs s : List ℕ) (o : FieldSpots) (w : Answer) : Type 0 w
   pub names : List Parameter
   pub term : Term
   pub answer : w ≡ outcome (bytes (substitution.argument_context (record { parameters = entries; receivers = [] }) names term))
-  pub binders : HeldBinders ks vs s (for_context o.first.place o.second.place o.third.place o.third.value) entries [] names
+  pub binders : (l : Parameters) → in_bytes l ≡ parameters s o.third.value o.third.place → HeldBinders ks vs (for_context o.first.place o.second.place l) entries [] names
   pub held : Held ks vs o.fourth.place term
   pub formed : Formed term
 
@@ -197,7 +197,7 @@ pub record SelfOnly (ks vs s : List ℕ) (o : FieldSpots) (w : Answer) : Type 0 
   pub receiver : Receiver
   pub term : Term
   pub answer : w ≡ outcome (bytes (substitution.with_self receiver.owner receiver.term term))
-  pub binders : HeldBinders ks vs s (for_instance o.first.place o.first.place o.first.end) [] (receiver ∷ []) []
+  pub binders : HeldBinders ks vs (for_instance o.first.place o.first.place o.first.end) [] (receiver ∷ []) []
   pub held : Held ks vs o.second.place term
   pub formed : Formed term
 
@@ -238,7 +238,8 @@ pub record Family (ks vs s : List ℕ) (o : FieldSpots) (w : Answer) : Type 0 wh
   pub receivers : List Receiver
   pub arguments : List Term
   pub answer : w ≡ outcome (perhaps (apply names term (record { parameters = entries; receivers = receivers }) arguments))
-  pub applies : Applies ks vs s (for_family o.third.place o.fourth.place o.fourth.end o.first.place o.first.value o.fifth.place) o.fifth.value o.second.place term entries receivers names arguments
+  pub applies : (l : Parameters) → l.count ≡ o.first.value → in_bytes l ≡ parameters s o.first.value o.first.place
+      → Applies ks vs (for_family o.third.place o.fourth.place o.fourth.end l o.fifth.place) l o.fifth.value o.second.place term entries receivers names arguments
 
 -- order 19
 pub record Associated (ks vs : List ℕ) (o : FieldSpots) (w : Answer) : Type 0 where
@@ -290,7 +291,7 @@ module _ (ks vs s : List ℕ) (ws : List Rule) (o : FieldSpots) where
         receivers = f.1;
         term = f.2;
         answer = ap (operation operations.instantiate) f.3;
-        binders = record { entries = e; receivers = h.second.1; after = 0; parameters = refl };
+        binders = record { entries = e; receivers = h.second.1; parameters = refl };
         held = h.third;
         formed = g.1.1.0.formed;
       })
@@ -306,7 +307,7 @@ module _ (ks vs s : List ℕ) (ws : List Rule) (o : FieldSpots) where
         names = f.2;
         term = f.3;
         answer = ap (operation operations.argument_context) f.4;
-        binders = record { entries = e; receivers = no_row ks vs o.second.place e.within; after = h.third.1.0; parameters = h.third.1.1 };
+        binders = λ l z. record { entries = e; receivers = no_row ks vs o.second.place e.within; parameters = (h.third.1.0, z ∙ h.third.1.1) };
         held = h.fourth;
         formed = g.1.1.1.0.formed;
       })
@@ -321,7 +322,7 @@ module _ (ks vs s : List ℕ) (ws : List Rule) (o : FieldSpots) where
         receiver = f.0;
         term = f.1;
         answer = ap (operation operations.with_self) f.2;
-        binders = record { entries = no_row ks vs o.first.place (omega (arith, r.ends, r.within)); receivers = r; after = 0; parameters = refl };
+        binders = record { entries = no_row ks vs o.first.place (omega (arith, r.ends, r.within)); receivers = r; parameters = refl };
         held = h.second;
         formed = g.1.0.formed;
       })
@@ -372,15 +373,16 @@ module _ (ks vs s : List ℕ) (ws : List Rule) (o : FieldSpots) where
         receivers = f.3;
         arguments = f.4;
         answer = ap (operation operations.family) f.5;
-        applies = record {
+        applies = λ l c z. record {
           held = h.second;
           formed = g.1.0.formed;
-          binders = record { entries = e; receivers = h.fourth.1; after = h.first.1.0; parameters = h.first.1.1 };
+          binders = record { entries = e; receivers = h.fourth.1; parameters = (h.first.1.0, z ∙ h.first.1.1) };
+          from = o.fifth.place;
           end = o.fifth.end;
           arguments = h.fifth.1;
-          plain = refl;
+          family = refl;
           many = h.fifth.0;
-          parameters = h.first.0;
+          parameters = c ∙ h.first.0;
         };
       })
 
