@@ -13,6 +13,7 @@ use super::{PartKind, Place, RecordRequest, Refusal, TermReader};
 
 impl<'a> TermReader<'a> {
     // Reads a part of the wanted kind; then the reader stands after it, or where it is refused as it stood.
+    #[inline(always)]
     fn next_part(
         &mut self,
         kinds: &mut [u32],
