@@ -14,6 +14,7 @@ use std::num::NonZeroU32;
 use terms::Tokens;
 
 // The word of a variable's request. The column has 0 for none.
+// It is no `NumberRequest`: only a session's table is known to hold requests, and what defaults and bindings require is of any table.
 pub fn request_word(tables: &[u32], m: usize, v: u32) -> Option<NonZeroU32>
     requires { 7 * m ≤ length tables.now }
     ensures { word_of result ≡ get_or (request_words m tables.now) v 0 }

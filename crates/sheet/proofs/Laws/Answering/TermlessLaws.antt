@@ -1,13 +1,12 @@
 -- Orders without terms: what their spots say, and the commands that they tell.
-use mathlib.Core.Path.{◌≡◌, refl, sym, ap}
-use mathlib.Core.Bool.{Bool, true, false}
+use mathlib.Core.Path.{◌≡◌, refl}
 use mathlib.Core.List.{List, [], ◌∷◌}
 use mathlib.Core.Option.{Option, none, some}
 use Prim.Native.Nat.{ℕ, ◌≤◌, ◌<◌}
 use native.Mathlib.Omega.{arith}
 use borrow.Author.Tests.{le-leb, lt-leb}
 use lib.Dec.{eqb}
-use Rattle.solver.specs.Families.{Bound, Request, requested, request_of}
+use Rattle.solver.specs.Families.{Bound, requested, request_of}
 use Rattle.solver.specs.Orders as orders
 use Rattle.solver.specs.Orders.{Command}
 use Rattle.solver.specs.TermTypes.{Rule}
