@@ -13,6 +13,7 @@
 --   OrderReaderContract    an order read into the areas
 --   SessionInAreas         a session in the four areas, and an order answered there
 --   SessionOrdersContract  orders 0 to 8, 21 and 22 on what the solver is lent
+--   SplittingContract      the orders of a sheet, one after another
 pub mod DispatchContract
 pub mod FieldLayout
 pub mod FieldsContract
@@ -25,3 +26,4 @@ pub mod OrderKinds
 pub mod OrderReaderContract
 pub mod SessionInAreas
 pub mod SessionOrdersContract
+pub mod SplittingContract

@@ -62,6 +62,7 @@ impl<'a> TermReader<'a> {
 
 // Reads a term with `levels` levels left, whose variables are below `issued`; or where that is wanted a bare nominal, whose contents have as many left and
 // which stands under a head with the tag 20. Where it is refused the place stays.
+#[inline(always)]
 pub fn part_at(
     s: &[u8],
     kinds: &mut [u32],

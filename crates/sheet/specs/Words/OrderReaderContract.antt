@@ -20,8 +20,7 @@ abbrev pub RulesRoom : (s : List ℕ) (ws : List Rule) → ℕ → Type 0
 RulesRoom s ws n = (n ≤ 2 * length ws) ⊎ ((get_or s 1 0 < 128) × (get_or s 1 0 ≤ length ws))
 
 -- The bytes are not too many, and the areas hold nothing from `top` on. `kept` nodes are kept; for each more, up to the limit, there is room for six tokens,
--- and for eight in all besides, and where the order may have rules (its first byte is 20)
--- for these.
+-- and for eight in all besides, and for its rules where it may have some (its first byte is 20).
 pub record OrderRoom (s ks vs : List ℕ) (ws : List Rule) (top kept limit : ℕ) : Type 0 where
   pub bytes : length s ≤ 16777216
   pub within : kept ≤ limit
@@ -32,7 +31,7 @@ pub record OrderRoom (s ks vs : List ℕ) (ws : List Rule) (top kept limit : ℕ
   pub few : limit ≤ 2147483648
   pub free : Free top (area ks vs)
 
--- d are the areas before, e after, and ws the words of rules after
+-- d are the areas before, e after, and ws the rules after
 pub record WholeOrder (s : List ℕ) (issued top kept limit : ℕ) (d e : Area) (ws : List Rule) (o : Order) : Type 0 where
   -- its number is that of its kind
   pub numbered : row_in table (get_or s 0 0) ≡ some (kind_row o.kind)

@@ -21,7 +21,7 @@ termless_order-requires c =
     let p = c.requires in
     let T = c.requires.taken.4 in
     let R = T.ready in
-    record { held = (R.session, R.ordered, lent_tail a.half a.c.now (plain_lent T p.within p.kind R.session R.in_areas)); areas = (c.termless_of-what.ensures.told, ready_frames R); room = p.room }
+    record { held = (R.session, R.ordered, lent_tail a.half a.c.now (plain_lent T p.within p.kind R.session R.in_areas)); areas = ready_frames R; room = p.room }
 
 pub returns : goal.returns
 returns c =
@@ -31,5 +31,5 @@ returns c =
     let w = c.termless_order.new.tables in
     λ s a₀ b₀ ws T.
     let i = taken_half T in
-    plain_answered T p.within p.kind _ (c.termless_of-what.ensures.command _ _ s ws) _ _ _ _ _ (take_put a.half (length a.c.now - a.half) a.c.now w i) e.clear
+    plain_answered T p.within p.kind _ (c.termless_of-what.ensures _ _ s ws) _ _ _ _ _ (take_put a.half (length a.c.now - a.half) a.c.now w i) e.clear
     (λ z A L. does_tail a.half a.c.now a.x _ _ _ z _ _ _ _ _ w i (e.does z A (lent_tail a.half a.c.now L)))

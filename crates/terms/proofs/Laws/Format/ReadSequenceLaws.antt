@@ -10,10 +10,10 @@ use lib.ListN.{length, length-append}
 use Rattle.terms.specs.declared.Place.{Place}
 use Rattle.terms.specs.Words.ReadContract.{Step}
 use Rattle.terms.specs.Words.ReadContract.{Next, Stopped}
-use Rattle.terms.specs.Parser.{Result, Parser, got, bind}
+use Rattle.terms.specs.Parser.{Result, got, bind}
 use Rattle.terms.specs.Words.Tokens.{put_if, Item, item, Area, put, puts}
 use Rattle.terms.specs.Term.{Term, Parts, node, end, num, sub, ◌+++◌, items, part_items, size, sizes}
-use Rattle.terms.specs.Words.ReadContract.{Room, Wrote, Only, Left, TermDone, PartsDone, BareDone, ValueDone, after, seq, into, onto, Closed, Valued, Unvalued}
+use Rattle.terms.specs.Words.ReadContract.{Room, Wrote, Only, Left, TermDone, PartsDone, BareDone, after, Closed}
 use Rattle.terms.proofs.Laws.Format.StoreLaws.{head_last, puts_append, only_wider, only_one}
 
 -- ---- rows
