@@ -5,7 +5,7 @@ ghost use Rattle.terms.specs.Parameters.{parameter, listed, passed, past, skippe
 ghost use Rattle.terms.specs.Words.FindContract.{last_at, entry_at, receiver_at, nth_at};
 
 use super::numbers::read_number;
-use super::runs::{skip, width_at, word};
+use super::runs::{skip, width_at};
 use super::values::{DEFINITION, ORDINARY};
 use super::{Parameter, Parameters, Refusal, Tokens};
 
@@ -89,8 +89,8 @@ fn find_record(
         }
         let t = i + width;
         let here = Parameter {
-            owner: u64::from(word(tokens.vals, i)),
-            position: u64::from(word(tokens.vals, t - 1)),
+            owner: u64::from(tokens.vals[i]),
+            position: u64::from(tokens.vals[t - 1]),
         };
         if here == wanted {
             best = Some(t);

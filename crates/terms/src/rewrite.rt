@@ -133,6 +133,7 @@ impl<'a> Rewriter<'a> {
     }
 
     // What takes the place of a Generic.
+    #[inline(never)]
     fn generic_for(&self, wanted: Parameter) -> Choice
         ensures { result ≡ generic_for self.now.tokens.kinds.now self.now.tokens.vals.now self.now.binders self.now.binders.purpose wanted }
     {
@@ -146,6 +147,7 @@ impl<'a> Rewriter<'a> {
     }
 
     // What takes the place of a SelfType.
+    #[inline(never)]
     fn self_at(&self, owner: u64) -> Choice
         ensures { result ≡ self_for self.now.tokens.kinds.now self.now.tokens.vals.now self.now.binders owner }
     {
@@ -164,9 +166,9 @@ impl<'a> Rewriter<'a> {
         requires { p < length self.now.tokens.kinds.now }
         ensures { result ≡ chosen self.now.tokens.kinds.now self.now.tokens.vals.now self.now.binders p }
     {
-        let vals = self.tokens.vals;
         let k = self.tokens.kinds[p];
         if k == 19 {
+            let vals = self.tokens.vals;
             let wanted = Parameter {
                 owner: u64::from(word(vals, p + 1)),
                 position: u64::from(word(vals, p + 2)),
@@ -174,7 +176,7 @@ impl<'a> Rewriter<'a> {
             return self.generic_for(wanted);
         }
         if k == 21 {
-            return self.self_at(u64::from(word(vals, p + 1)));
+            return self.self_at(u64::from(word(self.tokens.vals, p + 1)));
         }
         Choice::Keep
     }
