@@ -113,6 +113,7 @@ fn ask_row(tokens: &Tokens, a: usize, e: usize, question: Question, parameters: 
 }
 
 // The same of the term at p. Questions 0 to 6 look at no parameters.
+// They are no part of `IsResolvedIn`, which alone needs them: `Question::from` makes each question from its number, where no bytes are at hand.
 pub fn ask(tokens: &Tokens, p: usize, question: Question, parameters: &Parameters) -> bool
     requires place { p < length tokens.now.kinds.now }
     requires term { FormedAt tokens.now.kinds.now tokens.now.vals.now p }
