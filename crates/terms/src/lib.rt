@@ -366,8 +366,7 @@ pub struct Rule {
 // What a visit gives: a content, how many records are used, the visits left, and how many bytes the content has.
 #[derive(Clone, Copy)]
 pub struct Walked {
-    pub head: u32,
-    pub kids: u32,
+    pub content: Content,
     pub next: usize,
     pub visits: usize,
     pub size: usize,
@@ -376,8 +375,7 @@ pub struct Walked {
 // A normalised term: its content, the records used, its bytes, and what it was looked up by.
 #[derive(Clone, Copy)]
 pub struct Ready {
-    pub head: u32,
-    pub kids: u32,
+    pub content: Content,
     pub next: usize,
     pub size: usize,
     pub given: Origin,

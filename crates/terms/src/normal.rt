@@ -11,13 +11,13 @@ ghost use Rattle.terms.specs.Words.Tokens.{area, blank};
 ghost use Rattle.terms.specs.Normal.{normalise, levels, visits, most};
 ghost use Rattle.terms.specs.Lookup.{Look, Pattern, look_by, Looks, Ruled, HeldGiven, by_patterns, through};
 ghost use Rattle.terms.specs.Words.Arena.{RecordRoom};
-ghost use Rattle.terms.specs.Words.NormalContract.{Zero, Lends, Stands, Sized, Fitted, Answers, Leaves, RuledAt, OwnedAt, KeptAt};
+ghost use Rattle.terms.specs.Words.NormalContract.{Zero, Lends, Stands, Sized, Answers, Leaves, RuledAt, OwnedAt, KeptAt};
 
 use super::rules::source;
 use super::showing::show_tree;
 use super::store::clear_tokens;
 use super::walking::walk;
-use super::{Content, Origin, Pass, Ready, Rule, Seen, Tokens, Unfinished};
+use super::{Origin, Pass, Ready, Rule, Seen, Tokens, Unfinished, Walked};
 
 // Whether one of the kinds is a projection's.
 fn any_projection(kinds: &[u32]) -> bool
@@ -35,48 +35,19 @@ fn has_projection(tokens: &Tokens, p: u32) -> bool
     end <= tokens.kinds.len() && any_projection(&tokens.kinds[from..end])
 }
 
-// Sizes a content, whose records are `next`, and keeps it where it fits from `at` on, else clears its records.
-fn size_up(
-    seen: &Seen,
-    heads: &mut [u32],
-    kids: &mut [u32],
-    x: Content,
-    next: usize,
-    fuel: usize,
-    out: &mut [u8],
-    at: usize,
-) -> Option<Ready>
+// The term at p as it stands, sized. None where its bytes do not fit from `at` on.
+fn size_up(seen: &Seen, p: u32, out: &mut [u8], at: usize) -> Option<Ready>
     requires place { at ≤ length out.old }
     ensures out { out.new ≡ out.old }
-    ensures sized { Sized seen.now.tokens.kinds.now seen.now.tokens.vals.now heads.old kids.old heads.new kids.new seen.now.given x next fuel
-        out.old at result }
+    ensures sized { Sized seen.now.tokens.kinds.now seen.now.tokens.vals.now seen.now.given p out.old at result }
 {
-    let e = show_tree(seen, heads, kids, x, fuel, out, at, Pass::Count);
-    fit_up(heads, kids, seen.given, x, next, e - at, out.len() - at)
-}
-
-// Keeps a content of `size` bytes, whose records are `next`, where there is room for them, else clears its records.
-fn fit_up(
-    heads: &mut [u32],
-    kids: &mut [u32],
-    g: Origin,
-    x: Content,
-    next: usize,
-    size: usize,
-    room: usize,
-) -> Option<Ready>
-    ensures fitted { Fitted heads.old kids.old heads.new kids.new g x next size room result }
-{
-    if room < size {
-        clear_tokens(heads, kids, 0, next);
-        return None;
-    }
+    let content = source(p);
+    let end = show_tree(seen, &[], &[], content, 0, out, at, Pass::Count)?;
     Some(Ready {
-        head: x.head,
-        kids: x.kids,
-        next,
-        size,
-        given: g,
+        content,
+        next: 0,
+        size: end - at,
+        given: seen.given,
     })
 }
 
@@ -106,20 +77,31 @@ fn run(
         (normalise levels visits (look_by look) t) result }
 {
     if !has_projection(&seen.tokens, p) {
-        let plain = size_up(seen, heads, kids, source(p), 0, 0, out, at);
-        return plain.ok_or(Unfinished::TooLong);
+        return size_up(seen, p, out, at).ok_or(Unfinished::TooLong);
     }
     let walked = walk(seen, rules, heads, kids, source(p), 0, levels, visits, most);
-    let Some(w) = walked else {
+    let Some(
+        Walked {
+            content,
+            next,
+            size,
+            ..
+        },
+    ) = walked
+    else {
         clear_tokens(heads, kids, 0, most);
         return Err(Unfinished::TooMany);
     };
-    let x = Content {
-        head: w.head,
-        kids: w.kids,
-    };
-    let kept = fit_up(heads, kids, seen.given, x, w.next, w.size, out.len() - at);
-    kept.ok_or(Unfinished::TooLong)
+    if out.len() - at < size {
+        clear_tokens(heads, kids, 0, next);
+        return Err(Unfinished::TooLong);
+    }
+    Ok(Ready {
+        content,
+        next,
+        size,
+        given: seen.given,
+    })
 }
 
 // Depth 0 to 64; 8192 visits; refusal 9 for more children than these.
@@ -256,14 +238,16 @@ pub fn write_normalised(
         tokens: *tokens,
         given: w.given,
     };
-    let x = Content {
-        head: w.head,
-        kids: w.kids,
-    };
-    let e = show_tree(&seen, heads, kids, x, LEVELS + 1, out, at, Pass::Write);
+    let end = show_tree(
+        &seen,
+        heads,
+        kids,
+        w.content,
+        LEVELS + 1,
+        out,
+        at,
+        Pass::Write,
+    );
     clear_tokens(heads, kids, 0, w.next);
-    if out.len() < e {
-        return at;
-    }
-    e
+    end.unwrap_or(at)
 }

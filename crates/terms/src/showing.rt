@@ -1,4 +1,4 @@
-// Tokens and contents are sized, or written too. What is returned is the position after them, or, where they do not fit, one past the end of `out`.
+// Tokens and contents are sized, or written too. What is returned is the position after them; None where they do not fit.
 // Kinds and tags are matched by number; the line in kinds.rt says why.
 // Heads and kids are lent as two slices; the line in rows.rt says why.
 ghost use Rattle.terms.specs.Words.Lent.{shown};
@@ -15,18 +15,18 @@ use super::write::{run_len, token_len, write_run, write_token};
 use super::{Content, Cursor, Origin, Pass, RowWalk, Seen, Token};
 
 // One token. The pass is a value and no type, as in `emit_run`: what is sized and what is written are the same but for the last step.
-fn show_token(out: &mut [u8], at: usize, x: Token, pass: Pass) -> usize
+fn show_token(out: &mut [u8], at: usize, x: Token, pass: Pass) -> Option<usize>
     requires { at ≤ length out.old }
     ensures kept { Kept (writes pass) out.old out.new at result }
     ensures shows { Shows (writes pass) out.old out.new at (plain x.kind x.value) result }
 {
     let n = token_len(x.kind, x.value);
     if out.len() - at < n {
-        return out.len() + 1;
+        return None;
     }
     match pass {
-        Pass::Count => at + n,
-        Pass::Write => write_token(out, at, x.kind, x.value),
+        Pass::Count => Some(at + n),
+        Pass::Write => Some(write_token(out, at, x.kind, x.value)),
     }
 }
 
@@ -39,7 +39,7 @@ fn show_flat(
     out: &mut [u8],
     at: usize,
     pass: Pass,
-) -> usize
+) -> Option<usize>
     requires run { (from + count ≤ length kinds.now) × (from + count ≤ length vals.now) }
     requires small { count < 4294967296 }
     requires room { at ≤ length out.old }
@@ -47,20 +47,27 @@ fn show_flat(
     ensures shows { Shows (writes pass) out.old out.new at (spelt kinds.now vals.now from count) result }
 {
     if pass == Pass::Write && 6 * count <= out.len() - at {
-        return write_run(kinds, vals, from, count, out, at);
+        return Some(write_run(kinds, vals, from, count, out, at));
     }
     let n = run_len(kinds, vals, from, count);
     if out.len() - at < n {
-        return out.len() + 1;
+        return None;
     }
     match pass {
-        Pass::Count => at + n,
-        Pass::Write => write_run(kinds, vals, from, count, out, at),
+        Pass::Count => Some(at + n),
+        Pass::Write => Some(write_run(kinds, vals, from, count, out, at)),
     }
 }
 
 // The `count` tokens from `from` on, by `show_flat` where all are lent.
-fn show_run(seen: &Seen, from: usize, count: usize, out: &mut [u8], at: usize, pass: Pass) -> usize
+fn show_run(
+    seen: &Seen,
+    from: usize,
+    count: usize,
+    out: &mut [u8],
+    at: usize,
+    pass: Pass,
+) -> Option<usize>
     requires small { (from < 4294967296) × (count < 4294967296) }
     requires room { at ≤ length out.old }
     ensures kept { Kept (writes pass) out.old out.new at result }
@@ -81,12 +88,9 @@ fn show_run(seen: &Seen, from: usize, count: usize, out: &mut [u8], at: usize, p
     }
     let mut i = at;
     for q in from..end {
-        i = show_token(out, i, token_at(seen, q), pass);
-        if out.len() < i {
-            return i;
-        }
+        i = show_token(out, i, token_at(seen, q), pass)?;
     }
-    i
+    Some(i)
 }
 
 // The parts of a row from a place on; its children have at most `fuel` levels.
@@ -100,7 +104,7 @@ fn show_row(
     out: &mut [u8],
     at: usize,
     pass: Pass,
-) -> usize
+) -> Option<usize>
     requires cut { Cut c }
     requires room { at ≤ length out.old }
     ensures kept { Kept (writes pass) out.old out.new at result }
@@ -117,18 +121,15 @@ fn show_row(
     let mut i = at;
     let mut n = c.child;
     for (q, y) in row {
-        if out.len() < i {
-            return i;
-        }
         if y.kind == 0 {
-            i = show_token(out, i, y, pass);
+            i = show_token(out, i, y, pass)?;
         } else {
             let z = child_here(heads, kids, c.kids, q, n);
-            i = show_tree(seen, heads, kids, z, fuel, out, i, pass);
+            i = show_tree(seen, heads, kids, z, fuel, out, i, pass)?;
             n += 1;
         }
     }
-    i
+    Some(i)
 }
 
 // The tree that a content stands for; where it is built it has at most `fuel` levels.
@@ -142,7 +143,7 @@ pub fn show_tree(
     out: &mut [u8],
     at: usize,
     pass: Pass,
-) -> usize
+) -> Option<usize>
     requires room { at ≤ length out.old }
     ensures kept { Kept (writes pass) out.old out.new at result }
     ensures shows { (S : ℕ → Bool) (t : Term)
@@ -155,12 +156,9 @@ pub fn show_tree(
         return show_run(seen, x.head as usize, h.step(), out, at, pass);
     }
     if fuel == 0 {
-        return out.len() + 1;
+        return None;
     }
     let c = cursor(seen, x);
-    let i = show_token(out, at, h, pass);
-    if out.len() < i {
-        return i;
-    }
+    let i = show_token(out, at, h, pass)?;
     show_row(seen, heads, kids, c, fuel - 1, out, i, pass)
 }

@@ -51,11 +51,10 @@ fn replace(
 
 // A result, of so many bytes.
 fn result(x: Content, next: usize, visits: usize, size: usize) -> Walked
-    ensures { result ≡ record { head = x.head; kids = x.kids; next = next; visits = visits; size = size } }
+    ensures { result ≡ record { content = x; next = next; visits = visits; size = size } }
 {
     Walked {
-        head: x.head,
-        kids: x.kids,
+        content: x,
         next,
         visits,
         size,
@@ -75,7 +74,7 @@ fn kept(
     requires some { (0 < nodes) × (nodes ≤ visits) × (nodes < 4294967296) }
     requires room { next < 4294967296 }
     ensures fits { next + (nodes - 1) ≤ most
-        → result ≡ Some (record { head = x.head; kids = x.kids; next = next + (nodes - 1); visits = visits - nodes; size = size }) }
+        → result ≡ Some (record { content = x; next = next + (nodes - 1); visits = visits - nodes; size = size }) }
     ensures stops { most < next + (nodes - 1) → result ≡ None }
 {
     let last = next + (nodes - 1);
@@ -183,8 +182,8 @@ pub fn walk(
             kids: kids[i],
         };
         let w = walk(seen, rules, heads, kids, y, at, levels - 1, left, most)?;
-        heads[i] = w.head;
-        kids[i] = w.kids;
+        heads[i] = w.content.head;
+        kids[i] = w.content.kids;
         at = w.next;
         left = w.visits;
         size += w.size;

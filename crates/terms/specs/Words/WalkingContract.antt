@@ -46,7 +46,7 @@ module _ (ks vs : List ℕ) (ws : List Rule) (g : Origin) (hs₀ cs₀ hs cs : L
     -- a visit adds less than 2 ^ 36 bytes
     pub bounded : r.size ≤ 68719476736 * (visits - r.visits) + 1
     pub done : (S : ℕ → Bool) (t : Term) (look : Look) → Below S next → Tree (view ks vs g) hs₀ cs₀ S x.head x.kids t → Looks ks vs ws g look
-        → Visited (view ks vs g) hs cs S next r.head r.kids r.next r.visits r.size (walk_by (replacement (look_by look)) levels t visits next)
+        → Visited (view ks vs g) hs cs S next r.content.head r.content.kids r.next r.visits r.size (walk_by (replacement (look_by look)) levels t visits next)
 
   abbrev pub Walks : Option Walked → Type 0
   Walks (Some r) = Went r

@@ -348,7 +348,7 @@ module _ (ks vs : List ℕ) (ws : List Rule) (g : Origin) (s : Sight ks vs g) (h
       let y = f.is t h in
       (fixed_walk (look_by look) levels t visits next y.0 (omega (arith, y.1)) (omega (arith, y.1)), y.1, len t h)
 
-  walks_fixed : next + (r - 1) ≤ most → (w : Walked) → w ≡ record { head = x.head; kids = x.kids; next = next + (r - 1); visits = visits - r; size = m }
+  walks_fixed : next + (r - 1) ≤ most → (w : Walked) → w ≡ record { content = x; next = next + (r - 1); visits = visits - r; size = m }
       → Went ks vs ws g hs cs hs cs x next levels visits most w
   walks_fixed le w e = rw e (record {
     later = omega arith;
@@ -367,12 +367,12 @@ module _ (ks vs : List ℕ) (ws : List Rule) (g : Origin) (s : Sight ks vs g) (h
 
   -- either way, and the records stay
   pub fixed_kept : (w : rust.Option Walked)
-      → (next + (r - 1) ≤ most → w ≡ Some (record { head = x.head; kids = x.kids; next = next + (r - 1); visits = visits - r; size = m }))
+      → (next + (r - 1) ≤ most → w ≡ Some (record { content = x; next = next + (r - 1); visits = visits - r; size = m }))
       → (most < next + (r - 1) → w ≡ None)
       → Walks ks vs ws g hs cs hs cs x next levels visits most w × Frames hs cs hs cs next (used most w)
   fixed_kept w fits stops = (go w fits stops (dec_lt most (next + (r - 1))), frames_same hs cs next (used most w))
     where
-      go : (w : rust.Option Walked) → (next + (r - 1) ≤ most → w ≡ Some (record { head = x.head; kids = x.kids; next = next + (r - 1); visits = visits - r; size = m }))
+      go : (w : rust.Option Walked) → (next + (r - 1) ≤ most → w ≡ Some (record { content = x; next = next + (r - 1); visits = visits - r; size = m }))
           → (most < next + (r - 1) → w ≡ None) → Dec (most < next + (r - 1)) → Walks ks vs ws g hs cs hs cs x next levels visits most w
       go w fits stops (yes m') = rw (stops m') (λ S t look b tr z. let y = walked S t look tr in rw y.0 (omega (arith, m', y.1)))
       go w fits stops (no m') = rw (fits (omega arith)) (walks_fixed (omega arith) _ refl)

@@ -193,7 +193,7 @@ module _ {ks vs : List ℕ} {ws : List Rule} {g : Origin} {hs₀ cs₀ hs cs : L
 
   pub walking_next : most ≤ length hs → most ≤ length cs → (hs' cs' : List ℕ) (r : Walked)
       → Went ks vs ws g hs cs hs' cs' (record { head = get_or hs (next + i) 0; kids = get_or cs (next + i) 0 }) at (levels - 1) left most r → Frames hs cs hs' cs' at r.next
-      → Walking ks vs ws g hs₀ cs₀ (set hs' (next + i) r.head) (set cs' (next + i) r.kids) k m l next n levels visits most base (j + 1) r.next r.visits (size + r.size)
+      → Walking ks vs ws g hs₀ cs₀ (set hs' (next + i) r.content.head) (set cs' (next + i) r.content.kids) k m l next n levels visits most base (j + 1) r.next r.visits (size + r.size)
   walking_next lh lc hs' cs' r walks fr = record {
     upto = omega arith;
     bounded = omega (arith, w.bounded, w.fewer, walks.fewer, walks.bounded);
@@ -201,13 +201,13 @@ module _ {ks vs : List ℕ} {ws : List Rule} {g : Origin} {hs₀ cs₀ hs cs : L
     high = walks.within;
     fewer = omega (arith, w.fewer, walks.fewer);
     frames =
-        frames_set hs₀ cs₀ hs' cs' next r.next r.next (next + i) r.head r.kids
+        frames_set hs₀ cs₀ hs' cs' next r.next r.next (next + i) r.content.head r.content.kids
         (frames_then hs₀ cs₀ hs cs hs' cs' next at at r.next next r.next w.frames fr (omega arith) (omega (arith, w.low)) walks.later (omega arith))
         (omega arith) (omega (arith, w.low, walks.later)) (omega arith);
     is = λ S t look b o q z.
         let u = w.is S t look b o q z in
         let v = visited S t look b o q z in
-        visit_next (view ks vs g) (walk_by (finds look) (levels - 1)) S next n t (first (finds look) t visits next) hs cs hs' cs' j at left base size i r.head r.kids r.next r.visits r.size
+        visit_next (view ks vs g) (walk_by (finds look) (levels - 1)) S next n t (first (finds look) t visits next) hs cs hs' cs' j at left base size i r.content.head r.content.kids r.next r.visits r.size
         b u lt o.count (ei ∙ q j) in_row w.low fr (omega (arith, w.low, w.high)) (omega (arith, w.low, w.high)) walks.later
         (walks.done (marks S) (get_or u.terms i error) look v.0 v.1 z);
   }
@@ -283,7 +283,7 @@ module _ {ks vs : List ℕ} {ws : List Rule} {g : Origin} {hs₁ cs₁ hs₀ cs�
   -- it is not replaced
   pub walks_kept : (c : ℕ) → c ≡ next + 1
       → ((S : ℕ → Bool) (t : Term) (look : Look) → Tree (view ks vs g) hs cs S x.head c t → depth t ≤ levels + 1 → Looks ks vs ws g look → finds look t ≡ none)
-      → (r : Walked) → r ≡ record { head = x.head; kids = c; next = at; visits = left; size = size } → Went ks vs ws g hs₁ cs₁ hs cs x next levels visits most r
+      → (r : Walked) → r ≡ record { content = record { head = x.head; kids = c }; next = at; visits = left; size = size } → Went ks vs ws g hs₁ cs₁ hs cs x next levels visits most r
   walks_kept c ec f r e = rw e (record {
     later = bounds_low;
     within = w.high;
@@ -324,7 +324,7 @@ module _ {ks vs : List ℕ} {ws : List Rule} {g : Origin} {hs₁ cs₁ hs₀ cs�
 
     -- by itself
     pub walks_itself : Sight ks vs g → ((S T : ℕ → Bool) (t u : Term) → Tree (view ks vs g) hs cs S x.head c t → Tree (view ks vs g) hs cs T y.head y.kids u → depth t ≤ levels + 1 → t ≡ u)
-        → (e : Content) → e.head ≡ length ks → e.kids ≡ 0 → (r : Walked) → r ≡ record { head = e.head; kids = e.kids; next = at; visits = left; size = 1 }
+        → (e : Content) → e.head ≡ length ks → e.kids ≡ 0 → (r : Walked) → r ≡ record { content = e; next = at; visits = left; size = 1 }
         → Went ks vs ws g hs₁ cs₁ hs cs x next levels visits most r
     walks_itself s q e eh ek r er = rw er (record {
       later = bounds_low;
@@ -375,7 +375,7 @@ module _ {ks vs : List ℕ} {ws : List Rule} {g : Origin} {hs₁ cs₁ hs₀ cs�
 
 module _ (ks vs : List ℕ) (ws : List Rule) (g : Origin) (s : Sight ks vs g) (hs cs : List ℕ) (x : Content) (next levels visits most : ℕ) (le : next ≤ most) where
   pub walks_failed : ((look : Look) (t : Term) → walk_by (finds look) levels t visits next ≡ failed visits next)
-      → (e : Content) → e.head ≡ length ks → e.kids ≡ 0 → (r : Walked) → r ≡ record { head = e.head; kids = e.kids; next = next; visits = visits; size = 1 }
+      → (e : Content) → e.head ≡ length ks → e.kids ≡ 0 → (r : Walked) → r ≡ record { content = e; next = next; visits = visits; size = 1 }
       → Went ks vs ws g hs cs hs cs x next levels visits most r
   walks_failed f e eh ek r er = rw er (record {
     later = omega arith;
