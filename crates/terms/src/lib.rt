@@ -4,7 +4,7 @@
 ghost use Rattle.std.specs.Prelude.{◌≡◌, length};
 ghost use Rattle.terms.specs.Words.RewriteContract.{RowsWithin};
 ghost use Rattle.terms.specs.Words.Tokens.{Narrow};
-ghost use Rattle.terms.specs.Words.VirtualTokens.{Sight};
+ghost use Rattle.terms.specs.Words.VirtualTokens.{Sight, given_of};
 
 mod alike;
 mod compare;
@@ -276,11 +276,11 @@ pub struct Tokens<'a> {
     ghost narrow: { Narrow vals.now },
 }
 
-// The tokens that normalising sees: the lent ones, and those that order 19 makes anew.
+// The tokens that normalising sees: the lent ones, and those that order 19 makes anew from what it is given.
 #[derive(Clone, Copy)]
 pub struct Seen<'a> {
     pub tokens: Tokens<'a>,
-    pub given: Origin,
+    pub given: Option<Origin>,
     ghost sight: { Sight tokens.kinds.now tokens.vals.now given },
 }
 
@@ -291,24 +291,50 @@ pub struct Token {
     pub value: u32,
 }
 
-// Where a token that is seen is from: a lent one, Error, the head of a projection made anew, or nowhere.
-#[derive(Clone, Copy)]
+// Where a token that is seen is from: a lent one, Error, the head of a projection made anew and of so many tokens, or nowhere.
+#[derive(Clone, Copy, Debug, PartialEq, Eq)]
 pub enum Spot {
     Lent(usize),
     Error,
-    Head,
+    Head(usize),
     Nowhere,
 }
 
-// What order 19 makes projections from: the place of the owner and its tokens, the place of the interface and the tokens of its row, and how many
-// tokens a projection has that is made anew; 0 in order 20.
+// What order 19 makes projections from: the place of the owner and its tokens, the place of the interface and the tokens of its row.
 #[derive(Clone, Copy)]
 pub struct Origin {
     pub owner: u32,
     pub span: u32,
     pub interface: u32,
     pub row: u32,
-    pub size: u32,
+}
+
+impl Origin {
+    ghost use Rattle.std.specs.Prelude.{◌≡◌, ◌<◌};
+    ghost use Rattle.terms.specs.Words.VirtualTokens.{width};
+
+    // How many tokens a projection has that is made anew: its head, the owner's, those of the interface's row, its member, and the number of its arguments.
+    fn width(self) -> usize
+        ensures width { result ≡ width self }
+        ensures bound { (0 < result) × (result < 17179869184) }
+    {
+        self.span as usize + self.row as usize + 3
+    }
+}
+
+// What a projection is looked up in: the rules of order 20, or what order 19 is given.
+#[derive(Clone, Copy)]
+pub enum LookUp<'a> {
+    Rules(&'a [Rule]),
+    Given(Origin),
+}
+
+// What normalises terms: the tokens that are seen, and what projections are looked up in.
+#[derive(Clone, Copy)]
+pub struct Normaliser<'a> {
+    pub seen: Seen<'a>,
+    pub lookup: LookUp<'a>,
+    ghost agree: { seen.given ≡ given_of lookup },
 }
 
 // The tokens from `from` up to `end`.
@@ -378,7 +404,7 @@ pub struct Ready {
     pub content: Content,
     pub next: usize,
     pub size: usize,
-    pub given: Origin,
+    pub given: Option<Origin>,
 }
 
 // Why normalising gives no term: its children are too many, refusal 9; or its bytes are more than there is room for.

@@ -1,7 +1,7 @@
 // `normalize` and `with_associated_types`: a term is walked and sized, and then written.
 // Kinds and tags are matched by number; the line in kinds.rt says why.
 // Heads and kids are lent as two slices; the line in rows.rt says why.
-ghost use Rattle.std.specs.Prelude.{◌≡◌, ◌+◌, ◌≤◌, ◌<◌, List, length, nat_eq};
+ghost use Rattle.std.specs.Prelude.{◌≡◌, Some, ◌+◌, ◌≤◌, ◌<◌, List, length, nat_eq};
 ghost use Rattle.std.specs.List.{list_any};
 ghost use Rattle.std.proofs.lemmas.List.Edits.{sets};
 ghost use Rattle.terms.specs.Words.VirtualTokens.{Sight};
@@ -17,7 +17,7 @@ use super::rules::source;
 use super::showing::show_tree;
 use super::store::clear_tokens;
 use super::walking::walk;
-use super::{Origin, Pass, Ready, Rule, Seen, Tokens, Unfinished, Walked};
+use super::{LookUp, Normaliser, Origin, Pass, Ready, Rule, Seen, Tokens, Unfinished, Walked};
 
 // Whether one of the kinds is a projection's.
 fn any_projection(kinds: &[u32]) -> bool
@@ -51,10 +51,9 @@ fn size_up(seen: &Seen, p: u32, out: &mut [u8], at: usize) -> Option<Ready>
     })
 }
 
-// Normalises the term at p, by what g and the rules say is to be looked up.
+// Normalises the term at p, whose projections are looked up.
 fn run(
-    seen: &Seen,
-    rules: &[Rule],
+    by: &Normaliser,
     heads: &mut [u32],
     kids: &mut [u32],
     p: u32,
@@ -64,22 +63,22 @@ fn run(
     out: &mut [u8],
     at: usize,
 ) -> Result<Ready, Unfinished>
-    requires room { RecordRoom seen.now.tokens.kinds.now seen.now.tokens.vals.now heads.old kids.old seen.now.given 0 most }
+    requires room { RecordRoom by.now.seen.tokens.kinds.now by.now.seen.tokens.vals.now heads.old kids.old by.now.seen.given 0 most }
     requires few { (levels < 4294967295) × (visits < 134217728) }
     requires zero { Zero heads.old most × Zero kids.old most }
     requires place { at ≤ length out.old }
     ensures out { out.new ≡ out.old }
-    ensures leaves { Leaves seen.now.tokens.kinds.now seen.now.tokens.vals.now heads.old kids.old heads.new kids.new most result }
+    ensures leaves { Leaves by.now.seen.tokens.kinds.now by.now.seen.tokens.vals.now heads.old kids.old heads.new kids.new most result }
     ensures answers { (t : Term) (look : Look)
-        → Held seen.now.tokens.kinds.now seen.now.tokens.vals.now p t
-        → Looks seen.now.tokens.kinds.now seen.now.tokens.vals.now rules.now seen.now.given look
-        → Answers seen.now.tokens.kinds.now seen.now.tokens.vals.now heads.new kids.new out.old at levels most
+        → Held by.now.seen.tokens.kinds.now by.now.seen.tokens.vals.now p t
+        → Looks by.now.seen.tokens.kinds.now by.now.seen.tokens.vals.now by.now.lookup look
+        → Answers by.now.seen.tokens.kinds.now by.now.seen.tokens.vals.now heads.new kids.new out.old at levels most
         (normalise levels visits (look_by look) t) result }
 {
-    if !has_projection(&seen.tokens, p) {
-        return size_up(seen, p, out, at).ok_or(Unfinished::TooLong);
+    if !has_projection(&by.seen.tokens, p) {
+        return size_up(&by.seen, p, out, at).ok_or(Unfinished::TooLong);
     }
-    let walked = walk(seen, rules, heads, kids, source(p), 0, levels, visits, most);
+    let walked = walk(by, heads, kids, source(p), 0, levels, visits, most);
     let Some(
         Walked {
             content,
@@ -100,7 +99,7 @@ fn run(
         content,
         next,
         size,
-        given: seen.given,
+        given: by.seen.given,
     })
 }
 
@@ -122,7 +121,7 @@ fn span_at(tokens: &Tokens, p: u32, len: usize) -> usize
 // What order 19 looks up by: the places of a bare nominal and of the owner.
 fn given(tokens: &Tokens, interface: u32, owner: u32) -> Origin
     requires { length tokens.now.kinds.now ≤ 32768 }
-    ensures sight { Sight tokens.now.kinds.now tokens.now.vals.now result }
+    ensures sight { Sight tokens.now.kinds.now tokens.now.vals.now (Some result) }
     ensures given { (i : Parts) (o : Term)
         → Held tokens.now.kinds.now tokens.now.vals.now owner o
         → Held tokens.now.kinds.now tokens.now.vals.now interface (node 20 i)
@@ -137,7 +136,6 @@ fn given(tokens: &Tokens, interface: u32, owner: u32) -> Origin
             span: 0,
             interface,
             row: 0,
-            size: 3,
         };
     }
     let row = whole - 1;
@@ -146,14 +144,13 @@ fn given(tokens: &Tokens, interface: u32, owner: u32) -> Origin
         span: span as u32,
         interface,
         row: row as u32,
-        size: (span + row + 3) as u32,
     }
 }
 
 // Order 20, `normalize`: the term at p is walked by the rules and sized.
-pub fn normalise(
-    tokens: &Tokens,
-    rules: &[Rule],
+pub fn normalise<'a>(
+    tokens: &Tokens<'a>,
+    rules: &'a [Rule],
     heads: &mut [u32],
     kids: &mut [u32],
     p: u32,
@@ -171,18 +168,15 @@ pub fn normalise(
         → Answers tokens.now.kinds.now tokens.now.vals.now heads.new kids.new out.old at levels most
         (normalise levels visits (by_patterns rs) t) result }
 {
-    let g = Origin {
-        owner: 0,
-        span: 0,
-        interface: 0,
-        row: 0,
-        size: 0,
-    };
     let seen = Seen {
         tokens: *tokens,
-        given: g,
+        given: None,
     };
-    run(&seen, rules, heads, kids, p, LEVELS, VISITS, MOST, out, at)
+    let by = Normaliser {
+        seen,
+        lookup: LookUp::Rules(rules),
+    };
+    run(&by, heads, kids, p, LEVELS, VISITS, MOST, out, at)
 }
 
 // Order 19, `with_associated_types`: the term at p is walked by the interface and the owner, and sized.
@@ -211,9 +205,13 @@ pub fn with_associated_types(
     let g = given(tokens, interface, owner);
     let seen = Seen {
         tokens: *tokens,
-        given: g,
+        given: Some(g),
     };
-    run(&seen, &[], heads, kids, p, LEVELS, VISITS, MOST, out, at)
+    let by = Normaliser {
+        seen,
+        lookup: LookUp::Given(g),
+    };
+    run(&by, heads, kids, p, LEVELS, VISITS, MOST, out, at)
 }
 
 // Writes what `normalise` or `with_associated_types` has kept at a position, clears its records, and returns the position after it.

@@ -122,7 +122,7 @@ pub record Frames (hs₀ cs₀ hs cs : List ℕ) (a b : ℕ) : Type 0 where
   pub kids : Frame cs₀ cs a b
 
 -- the arena has room for `most` records, of which `next` are used
-pub record RecordRoom (ks vs hs cs : List ℕ) (g : Origin) (next most : ℕ) : Type 0 where
+pub record RecordRoom (ks vs hs cs : List ℕ) (g : Option Origin) (next most : ℕ) : Type 0 where
   pub sight : Sight ks vs g
   pub heads : most ≤ length hs
   pub kids : most ≤ length cs

@@ -86,7 +86,7 @@ pub record Lends (ks vs hs cs : List ℕ) (most : ℕ) : Type 0 where
   pub kids_zero : Zero cs most
 
 -- a term at p, sized as it stands
-abbrev pub Sized : (ks vs : List ℕ) (g : Origin) (p : ℕ) (out : List ℕ) (at : ℕ) → Option Ready → Type 0
+abbrev pub Sized : (ks vs : List ℕ) (g : Option Origin) (p : ℕ) (out : List ℕ) (at : ℕ) → Option Ready → Type 0
 Sized ks vs g p out at None = (t : Term) → Held ks vs p t → length out < at + length (bytes t)
 Sized ks vs g p out at (Some w) =
     (w.content.head ≡ p) × (w.content.kids ≡ 0) × (w.next ≡ 0) × (w.given ≡ g)

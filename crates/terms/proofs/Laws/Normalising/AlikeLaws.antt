@@ -12,6 +12,7 @@ use Rattle.terms.specs.Term.{Term, Parts, var, node, end, num, sub, ◌+++◌, d
 use Rattle.terms.specs.Words.Held.{Held, span}
 use Rattle.terms.specs.Tree.{row, same}
 use Rattle.terms.specs.Words.VirtualTokens.{view, Sight}
+use Rattle.std.specs.declared.option.Option as rust
 use Rattle.terms.specs.declared.Origin.{Origin}
 use Rattle.terms.specs.declared.Content.{Content}
 use Rattle.terms.specs.declared.Cursor.{Cursor}
@@ -265,7 +266,7 @@ Lent ks vs x = (x.kids ≡ 0) × (x.head + span (get_or ks x.head 0) (get_or vs 
 pub lent_true : (ks vs : List ℕ) (x : Content) (r : Bool) → r ≡ (eqb x.kids 0 && leb (x.head + span (get_or ks x.head 0) (get_or vs x.head 0)) (length ks)) → r ≡ true → Lent ks vs x
 lent_true ks vs x r e t = let b = both _ _ (sym e ∙ t) in (eqb-true x.kids 0 b.0, leb-true _ _ b.1)
 
-module _ {ks vs : List ℕ} {g : Origin} (s : Sight ks vs g) {hs cs : List ℕ} {x y : Content} {fuel : ℕ} where
+module _ {ks vs : List ℕ} {g : rust.Option Origin} (s : Sight ks vs g) {hs cs : List ℕ} {x y : Content} {fuel : ℕ} where
   -- r says whether the terms at p and q are the same
   pub alike_lent : Lent ks vs x → Lent ks vs y → {r : Bool} → ((t u : Term) → Held ks vs x.head t → Held ks vs y.head u → r ≡ same t u)
       → Alike (view ks vs g) hs cs x y fuel r

@@ -26,15 +26,15 @@ use Rattle.terms.specs.Term.{Term, Parts, var, node, end, num, sub, items, part_
 use Rattle.terms.specs.Words.Held.{span}
 use Rattle.terms.specs.Tree.{tag}
 use Rattle.terms.specs.Questions.{meets, meets_row, counted, counted_by, entered, entered_by, contains_projection}
-use Rattle.terms.specs.Words.VirtualTokens.{view, Sight}
+use Rattle.terms.specs.Words.VirtualTokens.{width, view, Sight}
 use Rattle.terms.specs.Normal.{Out, replacement, walk_by, normalise}
-use Rattle.terms.specs.declared.Rule.{Rule}
+use Rattle.terms.specs.declared.LookUp.{LookUp}
 use Rattle.terms.specs.Lookup.{Look, look_by, Looks, HeldGiven}
 use Rattle.terms.specs.Words.Arena.{grow, Frame, Frames}
 use Rattle.terms.specs.Words.WalkingContract.{Visited, Overrun, Went}
 use Rattle.terms.specs.Words.NormalContract.{Zero, Sized, number_for, Answers, Leaves}
 use Rattle.terms.proofs.Laws.General.Bools.{never_true, or_assoc}
-use Rattle.terms.proofs.Laws.Normalising.VirtualTokenLaws.{view_held}
+use Rattle.terms.proofs.Laws.Normalising.VirtualTokenLaws.{width_is, view_held}
 use Rattle.terms.proofs.Laws.Normalising.ArenaLaws.{held_tree}
 use Rattle.terms.proofs.Laws.Normalising.DepthLaws.{walk_depth}
 use Rattle.terms.proofs.Laws.Held.HeldLaws.{toks_cons, items_some}
@@ -240,7 +240,7 @@ areas_same : (hs cs js bs : List ℕ) → area hs cs ≡ area js bs → (hs ≡ 
 areas_same hs cs js bs e = (ap (λ (d : Area). d.kinds) e, ap (λ (d : Area). d.vals) e)
 
 -- a term that is not walked
-module _ (ks vs : List ℕ) (g : Origin) (s : Sight ks vs g) (hs cs : List ℕ) (p : ℕ) (out : List ℕ) (at levels most : ℕ) where
+module _ (ks vs : List ℕ) (g : rust.Option Origin) (s : Sight ks vs g) (hs cs : List ℕ) (p : ℕ) (out : List ℕ) (at levels most : ℕ) where
   pub plain_leaves : (r : rust.Option Ready) → Sized ks vs g p out at r → Leaves ks vs hs cs hs cs most (ok_or r TooLong)
   plain_leaves None z = record { same = λ n. (refl, refl); records = tt }
   plain_leaves (Some w) z = record {
@@ -267,8 +267,8 @@ module _ (ks vs : List ℕ) (g : Origin) (s : Sight ks vs g) (hs cs : List ℕ) 
       }
 
 -- a term that is walked: w is what the walk gave
-module _ (ks vs : List ℕ) (g : Origin) (s : Sight ks vs g) (hs₀ cs₀ : List ℕ) (levels most : ℕ) (ws : List Rule) (hs cs : List ℕ) (y : Content) (visits : ℕ) (w : Walked)
-    (walks : Went ks vs ws g hs₀ cs₀ hs cs y 0 levels visits most w) (fr : Frames hs₀ cs₀ hs cs 0 w.next) (zh : Zero hs₀ most) (zc : Zero cs₀ most) where
+module _ (ks vs : List ℕ) (g : rust.Option Origin) (s : Sight ks vs g) (hs₀ cs₀ : List ℕ) (levels most : ℕ) (lookup : LookUp) (hs cs : List ℕ) (y : Content) (visits : ℕ) (w : Walked)
+    (walks : Went ks vs lookup g hs₀ cs₀ hs cs y 0 levels visits most w) (fr : Frames hs₀ cs₀ hs cs 0 w.next) (zh : Zero hs₀ most) (zc : Zero cs₀ most) where
   back : blank (area hs cs) 0 w.next ≡ area hs₀ cs₀
   back = blank_back hs₀ cs₀ hs cs w.next most fr zh zc walks.within
 
@@ -278,7 +278,7 @@ module _ (ks vs : List ℕ) (g : Origin) (s : Sight ks vs g) (hs₀ cs₀ : List
   pub walked_leaves : Leaves ks vs hs₀ cs₀ hs cs most (Ok (record { content = w.content; next = w.next; size = w.size; given = g }))
   walked_leaves = record { same = λ n. absurd (n refl); records = (walks.within, back, s) }
 
-  module _ (p : ℕ) (yh : y.head ≡ p) (yk : y.kids ≡ 0) (t : Term) (look : Look) (o : Out) (h : Held ks vs p t) (k : Looks ks vs ws g look)
+  module _ (p : ℕ) (yh : y.head ≡ p) (yk : y.kids ≡ 0) (t : Term) (look : Look) (o : Out) (h : Held ks vs p t) (k : Looks ks vs lookup look)
       (eo : o ≡ walk_by (replacement (look_by look)) levels t visits 0) (out : List ℕ) (at : ℕ) (le : at ≤ length out) where
     v : Visited (view ks vs g) hs cs (λ i. false) 0 w.content.head w.content.kids w.next w.visits w.size (walk_by (replacement (look_by look)) levels t visits 0)
     v =
@@ -316,8 +316,8 @@ module _ (ks vs hs₀ cs₀ hs cs : List ℕ) (most : ℕ) where
     records = tt;
   }
 
-  module _ (ws : List Rule) (g : Origin) (s : Sight ks vs g) (y : Content) (levels visits : ℕ) where
-    pub over_answers : Overrun ks vs ws g hs₀ cs₀ y 0 levels visits most → (p : ℕ) → y.head ≡ p → y.kids ≡ 0 → (t : Term) (look : Look) (o : Out) → Held ks vs p t → Looks ks vs ws g look
+  module _ (lookup : LookUp) (g : rust.Option Origin) (s : Sight ks vs g) (y : Content) (levels visits : ℕ) where
+    pub over_answers : Overrun ks vs lookup g hs₀ cs₀ y 0 levels visits most → (p : ℕ) → y.head ≡ p → y.kids ≡ 0 → (t : Term) (look : Look) (o : Out) → Held ks vs p t → Looks ks vs lookup look
         → o ≡ walk_by (replacement (look_by look)) levels t visits 0 → (out : List ℕ) (at : ℕ) → Answers ks vs hs cs out at levels most o (Err TooMany)
     over_answers walks p yh yk t look o h k eo out at = record { number = number_refused most (length out) at o many; values = tt }
       where
@@ -328,9 +328,9 @@ module _ (ks vs hs₀ cs₀ hs cs : List ℕ) (most : ℕ) where
 
 -- ---- what order 19 looks up by
 
-pub given_sight : (ks vs : List ℕ) (g : Origin) → length vs ≡ length ks → length ks ≤ 32768 → g.size ≤ 65539 → Sight ks vs g
+pub given_sight : (ks vs : List ℕ) (g : Origin) → length vs ≡ length ks → length ks ≤ 32768 → g.span + g.row ≤ 65536 → Sight ks vs (Some g)
 given_sight ks vs g e le s =
-    let m = mul-le-mul {n₁ = length ks + 1} {m₁ = g.size} {n₂ = 32769} {m₂ = 65539} (omega arith) s in
+    let m = mul-le-mul {n₁ = length ks + 1} {m₁ = width g} {n₂ = 32769} {m₂ = 65539} (omega arith) (omega (arith, width_is g)) in
     record { pairs = e; few = omega arith }
 
 -- the tokens of a term, as `span_at` tells
@@ -346,14 +346,13 @@ unfolding items
 row_length k i = refl
 
 pub given_held : (ks vs : List ℕ) (g : Origin) (whole : ℕ) → ((t : Term) → Held ks vs g.owner t → length (items t) ≤ length ks → g.span ≡ length (items t))
-    → ((t : Term) → Held ks vs g.interface t → length (items t) ≤ length ks → whole ≡ length (items t)) → g.row ≡ whole - 1 → g.size ≡ g.span + g.row + 3
+    → ((t : Term) → Held ks vs g.interface t → length (items t) ≤ length ks → whole ≡ length (items t)) → g.row ≡ whole - 1
     → (i : Parts) (o : Term) → Held ks vs g.owner o → Held ks vs g.interface (node 20 i) → HeldGiven ks vs g i o
-given_held ks vs g whole fo fi er es i o ho hi = record {
+given_held ks vs g whole fo fi er i o ho hi = record {
   owner_held = ho;
   interface_held = hi;
   span_is = fo o ho (omega (arith, ho.within));
   row_is = omega (arith, fi (node 20 i) hi (omega (arith, hi.within)), row_length 20 i);
-  size_is = es;
 }
 
 -- a bare nominal has a token

@@ -116,7 +116,7 @@ behind_cancel end l m e = e
 behind_cancel (num n qs) l m e = behind_cancel qs l m (cc)
 behind_cancel (sub t qs) l m e = behind_cancel qs l m (cc)
 
-module _ (ks vs : List ℕ) (g : Origin) (s : Sight ks vs g) (hs cs : List ℕ) where
+module _ (ks vs : List ℕ) (g : Option Origin) (s : Sight ks vs g) (hs cs : List ℕ) where
   abbrev area : Area
   area = view ks vs g
 
@@ -279,7 +279,7 @@ pattern_no p rs ps n = go (same_rows (left p) ps) refl
     go true h = absurd (n (sym (rows_true (left p) ps h)))
     go false h = refl
 
-module _ (ks vs : List ℕ) (g : Origin) (hs cs : List ℕ) (x : Cursor) (fuel : ℕ) where
+module _ (ks vs : List ℕ) (g : Option Origin) (hs cs : List ℕ) (x : Cursor) (fuel : ℕ) where
   abbrev seen : Area
   seen = view ks vs g
 
@@ -310,7 +310,7 @@ module _ (ks vs : List ℕ) (g : Origin) (hs cs : List ℕ) (x : Cursor) (fuel :
   Arguing w (Some (c, n)) q l = ArguedBehind w c n q l
   Arguing w None q l = Missed w
 
-module _ (ks vs : List ℕ) (g : Origin) (hs cs : List ℕ) (x : Cursor) (fuel : ℕ) (s : Sight ks vs g) where
+module _ (ks vs : List ℕ) (g : Option Origin) (hs cs : List ℕ) (x : Cursor) (fuel : ℕ) (s : Sight ks vs g) where
   pub arguing_start : (w : Rule) (m : Option (ℕ × ℕ)) (q : ℕ) → q ≡ w.arguments → Fronted ks vs (view ks vs g) hs cs x w fuel m → Arguing ks vs g hs cs x fuel w m q w.count
   arguing_start w (Some (c, n)) q eq f = record {
     few = f.0;
@@ -339,7 +339,7 @@ module _ (ks vs : List ℕ) (g : Origin) (hs cs : List ℕ) (x : Cursor) (fuel :
           )
   arguing_start w None q eq f = record { is = λ S ps p h d k e. f S ps p h d k (put_terms p.arguments end) e }
 
-module _ {ks vs : List ℕ} {g : Origin} {hs cs : List ℕ} {x : Cursor} {fuel : ℕ} {u : Rule} {c n q l : ℕ} (w : ArguedBehind ks vs g hs cs x fuel u c n q l) where
+module _ {ks vs : List ℕ} {g : Option Origin} {hs cs : List ℕ} {x : Cursor} {fuel : ℕ} {u : Rule} {c n q l : ℕ} (w : ArguedBehind ks vs g hs cs x fuel u c n q l) where
   pub argued_done : l ≡ 0 → x.end ≤ c → Hit ks vs g hs cs x fuel u
   argued_done z le = record {
     is = λ S ps p h d k.
@@ -409,7 +409,7 @@ module _ {ks vs : List ℕ} {g : Origin} {hs cs : List ℕ} {x : Cursor} {fuel :
           (t.to e ∙ ap (λ (us : List Term). put_terms us end) y.is ∙ terms_cons y.term y.terms);
     }
 
-module _ {ks vs : List ℕ} {g : Origin} {x : Cursor} {m : ℕ} (hs cs : List ℕ) (fuel : ℕ) (w : Rule) (h : MemberIn (view ks vs g) x m) where
+module _ {ks vs : List ℕ} {g : Option Origin} {x : Cursor} {m : ℕ} (hs cs : List ℕ) (fuel : ℕ) (w : Rule) (h : MemberIn (view ks vs g) x m) where
   -- a rule with another member than the row's is not the row's
   replaces_other : (w.member ≡ m → ⊥) → Missed ks vs g hs cs x fuel w
   replaces_other ne = record {
@@ -421,7 +421,7 @@ position_none : (p : Rule → Bool) (ws : List Rule) → position p ws ≡ None 
 position_none p ws e i d lt = fails_before_first p ws i d (grind (arith, common_steps))
 
 -- r rules have been passed
-pub record Searching (ks vs : List ℕ) (ws : List Rule) (g : Origin) (hs cs : List ℕ) (x : Cursor) (fuel r : ℕ) : Type 0 where
+pub record Searching (ks vs : List ℕ) (ws : List Rule) (g : Option Origin) (hs cs : List ℕ) (x : Cursor) (fuel r : ℕ) : Type 0 where
   pub is : (S : ℕ → Bool) (ps : Parts) (rs : List Pattern) → From (view ks vs g) hs cs S x ps → depths ps ≤ fuel → Ruled ks vs ws rs
       → (qs : List Pattern) × Ruled ks vs (drop r ws) qs × (by_patterns rs ps ≡ by_patterns qs ps)
 
@@ -435,7 +435,7 @@ rule_at ws r = get_or ws r no_rule
 rules_split : (ws : List Rule) (r : ℕ) → r < length ws → drop r ws ≡ rule_at ws r ∷ drop (r + 1) ws
 rules_split ws r lt = drop_more ws r _ lt
 
-module _ {ks vs : List ℕ} {ws : List Rule} {g : Origin} {hs cs : List ℕ} {x : Cursor} {fuel : ℕ} where
+module _ {ks vs : List ℕ} {ws : List Rule} {g : Option Origin} {hs cs : List ℕ} {x : Cursor} {fuel : ℕ} where
   module _ {r : ℕ} (w : Searching ks vs ws g hs cs x fuel r) where
     pub searching_next : r < length ws → Missed ks vs g hs cs x fuel (rule_at ws r) → Searching ks vs ws g hs cs x fuel (r + 1)
     searching_next lt m = record { is = λ S ps rs h d k. let t = w.is S ps rs h d k in go S ps rs h d t.0 (rw (rules_split ws r lt) at t.1) t.2 }
