@@ -9,9 +9,11 @@
 --   FramingContract        answers in the output
 --   OperationsContract     what the functions that answer ask and promise
 --   OrderGiven             an order that was read: held, formed, of the sorts of its kind
+--   OrderKinds             the orders as the code has them: the row of each, and which order has a number
 --   OrderReaderContract    an order read into the areas
 --   SessionInAreas         a session in the four areas, and an order answered there
 --   SessionOrdersContract  orders 0 to 8, 21 and 22 on what the solver is lent
+--   SplittingContract      the orders of a sheet, one after another
 pub mod DispatchContract
 pub mod FieldLayout
 pub mod FieldsContract
@@ -20,6 +22,8 @@ pub mod FieldsHeld
 pub mod FramingContract
 pub mod OperationsContract
 pub mod OrderGiven
+pub mod OrderKinds
 pub mod OrderReaderContract
 pub mod SessionInAreas
 pub mod SessionOrdersContract
+pub mod SplittingContract

@@ -1,63 +1,55 @@
 // An order answered on the session that the areas hold. The four areas are lent as C hands them over: for a struct of `&mut` see `store.rt` of terms.
-ghost use Rattle.std.specs.Prelude.{◌≡◌, true, false, ◌||◌, List, ℕ, ◌≤◌, ◌<◌, eqb, ltb, length, get_or, MatchOption};
+ghost use Rattle.std.specs.Prelude.{◌≡◌, List, ℕ, ◌≤◌, ◌<◌, eqb, ltb, length, get_or};
 ghost use Rattle.solver.specs.Session.{Session, issued};
 ghost use Rattle.solver.specs.Invariant.{InOrder};
 ghost use Rattle.solver.specs.Words.SessionRepresentation.{limits_of};
-ghost use Rattle.solver.specs.Words.PendingContract.{strict_of};
-ghost use Rattle.sheet.specs.OrderTable.{row_in};
-ghost use Rattle.sheet.specs.Sheet.{table};
-ghost use Rattle.sheet.specs.Words.FieldLayout.{is_operation};
+ghost use Rattle.sheet.specs.declared.OrderKind.TheVariants as kinds;
 ghost use Rattle.solver.specs.TermTypes.{Rule};
 ghost use Rattle.solver.specs.Terms.Tokens.{area};
 ghost use Rattle.sheet.specs.Words.SessionInAreas.{areas, RepresentsInAreas, Served};
 ghost use Rattle.sheet.specs.Entry.{AreasReady};
 ghost use Rattle.sheet.specs.Words.FramingContract.{OutputRoom, output_at, written_to};
-ghost use Rattle.sheet.specs.Words.SessionOrdersContract.{pair_number};
 ghost use Rattle.sheet.specs.Words.OrderReaderContract.{RulesRoom};
 ghost use Rattle.sheet.specs.Words.DispatchContract.{OrderTaken, Serves, Answered};
 
 use super::framing::write_refusal;
 use super::operations::operate;
 use super::order_reader::{clear_order, read_order};
-use super::order_table::is_operation;
 use super::plain_orders::{termless_of, termless_order};
 use super::term_orders::{constrain_order, defer_term, resolve_term};
-use super::{AfterOrder, Order, OrderRefusal};
+use super::{AfterOrder, Operation, Order, OrderKind, OrderRefusal, Posed, TermlessKind};
 use solver::{Access, Refusal, Rule, Solver, Tokens};
 
 // Orders 9 to 20: the session stays as it was.
-fn operate_order(
+fn operate_order<'a>(
     x: Solver,
     half: usize,
-    s: &[u8],
-    a: &[u32],
-    b: &[u32],
+    s: &'a [u8],
+    a: &'a [u32],
+    b: &'a [u32],
     c: &mut [u32],
     d: &mut [u32],
     rules: &[Rule],
     o: Order,
+    what: Operation,
     out: &mut [u8],
     to: usize,
 ) -> AfterOrder
     requires taken { (a₀ b₀ : List ℕ) × OrderTaken x half s.now (areas a₀ b₀ c.old d.old) (area a.now b.now) rules.now o }
     requires within { o.nodes ≤ x.nodes }
-    requires kind { true ≡ is_operation (row_in table o.kind) }
+    requires kind { o.kind ≡ kinds.Operation what }
     requires room { OutputRoom out.old to }
     ensures { (a₀ b₀ : List ℕ)
         → OrderTaken x half s.now (areas a₀ b₀ c.old d.old) (area a.now b.now) rules.now o
         → Answered x result.solver half s.now (areas a₀ b₀ c.old d.old) (area a.now b.now) o
         c.new d.new (output_at out.old to) (written_to out.new result.next) }
 {
-    let next = operate(
-        s,
-        &Tokens { kinds: a, vals: b },
-        &mut c[..half],
-        d,
-        rules,
-        o,
-        out,
-        to,
-    );
+    let posed = Posed {
+        bytes: s,
+        tokens: Tokens { kinds: a, vals: b },
+        fields: o.fields,
+    };
+    let next = operate(&posed, what, &mut c[..half], d, rules, out, to);
     AfterOrder { solver: x, next }
 }
 
@@ -74,7 +66,7 @@ fn defer_order(
 ) -> AfterOrder
     requires taken { (s a₀ b₀ d : List ℕ) × (ws : List Rule) × OrderTaken x half s (areas a₀ b₀ c.old d) (area a.now b.now) ws o }
     requires within { o.nodes ≤ x.nodes }
-    requires kind { o.kind ≡ 3 }
+    requires kind { o.kind ≡ kinds.DeferNever }
     requires room { OutputRoom out.old to }
     ensures { (s a₀ b₀ d : List ℕ) (ws : List Rule) → OrderTaken x half s (areas a₀ b₀ c.old d) (area a.now b.now) ws o
         → Answered x result.solver half s (areas a₀ b₀ c.old d) (area a.now b.now) o c.new d
@@ -107,7 +99,7 @@ fn resolve_order(
 ) -> AfterOrder
     requires taken { (s a₀ b₀ : List ℕ) × (ws : List Rule) × OrderTaken x half s (areas a₀ b₀ c.now d.old) (area a.now b.now) ws o }
     requires within { o.nodes ≤ x.nodes }
-    requires kind { o.kind ≡ 5 }
+    requires kind { o.kind ≡ kinds.Resolve }
     requires room { OutputRoom out.old to }
     ensures { (s a₀ b₀ : List ℕ) (ws : List Rule) → OrderTaken x half s (areas a₀ b₀ c.now d.old) (area a.now b.now) ws o
         → Answered x result.solver half s (areas a₀ b₀ c.now d.old) (area a.now b.now) o c.now
@@ -127,17 +119,6 @@ fn resolve_order(
     )
 }
 
-// How an order poses a pair, if it does: 4, and 22 with access compared.
-fn posed_access(kind: u8) -> Option<Access>
-    ensures { MatchOption result ((eqb kind 4 || eqb kind 22) ≡ false) (λ a. kind ≡ pair_number (strict_of a)) }
-{
-    match kind {
-        4 => Some(Access::Ignored),
-        22 => Some(Access::Compared),
-        _ => None,
-    }
-}
-
 // Orders 4 and 22: where it bound a variable, its tokens are those of the session.
 fn pair_order(
     x: Solver,
@@ -153,14 +134,14 @@ fn pair_order(
 ) -> AfterOrder
     requires taken { (s a₀ b₀ : List ℕ) × (ws : List Rule) × OrderTaken x half s (areas a₀ b₀ c.old d.old) (area a.now b.now) ws o }
     requires within { o.nodes ≤ x.nodes }
-    requires kind { o.kind ≡ pair_number (strict_of access) }
+    requires kind { o.kind ≡ kinds.Constrain access }
     requires room { OutputRoom out.old to }
     ensures { (s a₀ b₀ : List ℕ) (ws : List Rule) → OrderTaken x half s (areas a₀ b₀ c.old d.old) (area a.now b.now) ws o
         → Answered x result.solver half s (areas a₀ b₀ c.old d.old) (area a.now b.now) o c.new
         d.new (output_at out.old to) (written_to out.new result.next) }
 {
-    let k = o.first.value as u32;
-    let q = o.third.place;
+    let k = o.fields.first.value as u32;
+    let q = o.fields.third.place;
     let top = o.top;
     constrain_order(
         x,
@@ -188,19 +169,19 @@ fn plain_order(
     c: &mut [u32],
     d: &mut [u32],
     o: Order,
+    kind: TermlessKind,
     out: &mut [u8],
     to: usize,
 ) -> AfterOrder
     requires taken { (s a₀ b₀ : List ℕ) × (ws : List Rule) × OrderTaken x half s (areas a₀ b₀ c.old d.old) (area a.now b.now) ws o }
     requires within { o.nodes ≤ x.nodes }
-    requires kind { (false ≡ is_operation (row_in table o.kind)) × ((o.kind ≡ 3) → ⊥) × ((eqb o.kind 4 || eqb o.kind 22) ≡ false)
-        × ((o.kind ≡ 5) → ⊥) }
+    requires kind { o.kind ≡ kinds.Termless kind }
     requires room { OutputRoom out.old to }
     ensures { (s a₀ b₀ : List ℕ) (ws : List Rule) → OrderTaken x half s (areas a₀ b₀ c.old d.old) (area a.now b.now) ws o
         → Answered x result.solver half s (areas a₀ b₀ c.old d.old) (area a.now b.now) o c.new
         d.new (output_at out.old to) (written_to out.new result.next) }
 {
-    let what = termless_of(o);
+    let what = termless_of(kind, o.fields);
     let top = o.top;
     termless_order(
         x,
@@ -216,7 +197,7 @@ fn plain_order(
     )
 }
 
-// An order that was read, by its class; refusal 7 where it has too many nodes.
+// An order that was read, by its kind; refusal 7 where it has too many nodes.
 fn answer_order(
     x: Solver,
     half: usize,
@@ -242,20 +223,15 @@ fn answer_order(
         let next = write_refusal(out, to, OrderRefusal::Common(Refusal::Nodes));
         return AfterOrder { solver: x, next };
     }
-    let k = o.kind;
-    if is_operation(k) {
-        return operate_order(x, half, s, a, b, c, d, rules, o, out, to);
+    match o.kind {
+        OrderKind::Termless(kind) => plain_order(x, half, a, b, c, d, o, kind, out, to),
+        OrderKind::DeferNever => defer_order(x, half, a, b, c, o, out, to),
+        OrderKind::Constrain(access) => pair_order(x, half, a, b, c, d, o, access, out, to),
+        OrderKind::Resolve => resolve_order(x, half, a, b, c, d, o, out, to),
+        OrderKind::Operation(what) => {
+            operate_order(x, half, s, a, b, c, d, rules, o, what, out, to)
+        }
     }
-    if k == 3 {
-        return defer_order(x, half, a, b, c, o, out, to);
-    }
-    if let Some(access) = posed_access(k) {
-        return pair_order(x, half, a, b, c, d, o, access, out, to);
-    }
-    if k == 5 {
-        return resolve_order(x, half, a, b, c, d, o, out, to);
-    }
-    plain_order(x, half, a, b, c, d, o, out, to)
 }
 
 // Reads an order, with room for its rules, and answers it.

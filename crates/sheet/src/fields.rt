@@ -10,7 +10,9 @@ ghost use Rattle.sheet.specs.Words.FieldsContract.{field_of, NumberRead};
 
 use super::layout::FieldReader;
 use super::{FieldSpot, Sort};
-use solver::{Listing, Place, Refusal, Rule, keep_list, part_at, read_number, skip_parameters};
+use solver::{
+    Listing, Parameters, PartKind, Place, Refusal, Rule, keep_list, part_at, read_number,
+};
 
 const ORDINARY: u64 = 4294967295;
 
@@ -89,7 +91,12 @@ fn parameters_field(s: &[u8], place: &mut Place) -> Result<FieldSpot, Refusal>
 {
     let value = next_number(s, place)?;
     let start = place.at;
-    place.at = skip_parameters(s, start, value)?;
+    let parameters = Parameters {
+        bytes: s,
+        at: start,
+        count: value,
+    };
+    place.at = parameters.skip()?;
     Ok(FieldSpot {
         value,
         place: start,
@@ -126,22 +133,15 @@ fn keep_part(
         → PartDone s.now ws count (part_of s.now issued sort count place.old.at) place.old
         (area kinds.old vals.old) (area kinds.new vals.new) (step_of result place.new) }
 {
-    match sort {
-        Sort::Term | Sort::Nominal => {
-            let bare = sort == Sort::Nominal;
-            part_at(s, kinds, vals, place, bare, LEVELS, issued)
+    let wanted = match sort {
+        Sort::Term => PartKind::Term,
+        Sort::Nominal => PartKind::BareNominal,
+        _ => {
+            let listing = listing_of(sort);
+            return keep_list(s, kinds, vals, place, listing, LEVELS, issued, count);
         }
-        _ => keep_list(
-            s,
-            kinds,
-            vals,
-            place,
-            listing_of(sort),
-            LEVELS,
-            issued,
-            count,
-        ),
-    }
+    };
+    part_at(s, kinds, vals, place, wanted, LEVELS, issued)
 }
 
 // What `keep_part` keeps, with its spot.

@@ -7,7 +7,7 @@ ghost use Rattle.sheet.specs.Words.FieldLayout.{Free, Ample, Plain, Plains, IsLa
 ghost use Rattle.sheet.specs.Words.FieldsContract.{field_of, LayoutDone};
 
 use super::order_table::put_spot;
-use super::{FieldSpot, Order, Sort};
+use super::{FieldSpot, FieldSpots, Sort};
 use solver::{Place, Refusal, Rule, clear_tokens};
 
 // A way to read a field by its sort. Rules alone are stored besides.
@@ -41,7 +41,7 @@ pub fn read_layout<R: FieldReader>(
     place: &mut Place,
     sorts: &[Sort],
     issued: u64,
-) -> Result<Order, Refusal>
+) -> Result<FieldSpots, Refusal>
     requires ample { Ample s.now place.old }
     requires free { Free place.old.top (area kinds.old vals.old) }
     requires layout { IsLayout (sorts_by R.read_as sorts.now) }
@@ -50,7 +50,7 @@ pub fn read_layout<R: FieldReader>(
     ensures same { Plains (sorts_by R.read_as sorts.now) → rules.new ≡ rules.old }
 {
     let first = place.top;
-    let mut o = Order::default();
+    let mut o = FieldSpots::default();
     for (i, sort) in sorts.iter().enumerate() {
         let last = place.top;
         match R::read(s, kinds, vals, rules, place, *sort, issued) {

@@ -1,6 +1,8 @@
 // The sheet: orders read, answered and framed; the run.
 #![tactic(auto)]
 
+ghost use Rattle.std.specs.Prelude.{◌≤◌, length};
+
 mod dispatch;
 mod fields;
 mod framing;
@@ -16,13 +18,45 @@ mod starting;
 mod term_orders;
 
 pub use running::run_sheet;
-use solver::{Defaulted, Refusal, Solver, refusal_number};
+use solver::{Access, Defaulted, NumberRequest, Refusal, Solver, Tokens, refusal_number};
 
-// What an order does: it is told to the session, or it leaves the session as it was.
+// Which order it is, by what answers it; `try_from` of order_table.rt has the numbers. Orders 9 to 20 are operations, which leave the session as it was.
 #[derive(Clone, Copy, Debug, PartialEq, Eq)]
-pub enum Class {
-    Session,
-    Operation,
+pub enum OrderKind {
+    Termless(TermlessKind),
+    DeferNever,
+    Constrain(Access),
+    Resolve,
+    Operation(Operation),
+}
+
+// The orders of the session that have no terms: 0, 1, 2, 6, 7, 8 and 21.
+#[derive(Clone, Copy, Debug, PartialEq, Eq)]
+pub enum TermlessKind {
+    Variable,
+    NumberVariable,
+    AnnotationHole,
+    NumericDefaults,
+    NeverDefaults,
+    Revision,
+    RangeVariable,
+}
+
+// The orders that leave the session as it was: 9 to 20.
+#[derive(Clone, Copy, Debug, PartialEq, Eq)]
+pub enum Operation {
+    Conflicts,
+    Weakens,
+    Recover,
+    Instantiate,
+    ArgumentContext,
+    WithSelf,
+    Questions,
+    ResolvedIn,
+    Satisfied,
+    Family,
+    WithAssociatedTypes,
+    Normalise,
 }
 
 // What a field of an order is, as `sort_of` tells it: a number; a builtin's code; a bound of a range; a term; a bare nominal; an owner and a term; or a count
@@ -51,25 +85,40 @@ pub struct FieldSpot {
     pub end: usize,
 }
 
-// An order that was read: its kind, at most five fields, the token after the last one, and the nodes kept with those of the order.
-// The fields have names and are no array: what answers an order speaks of each by its name, and `o.fields[3].place` is no plainer than `o.fourth.place`.
+// The fields of an order, at most five.
+// They have names and are no array: what answers an order speaks of each by its name, and `o[3].place` is no plainer than `o.fourth.place`.
 #[derive(Clone, Copy, Default)]
-pub struct Order {
-    pub kind: u8,
+pub struct FieldSpots {
     pub first: FieldSpot,
     pub second: FieldSpot,
     pub third: FieldSpot,
     pub fourth: FieldSpot,
     pub fifth: FieldSpot,
+}
+
+// An order that was read: which it is, its fields, the token after the last one, and the nodes kept with those of the order.
+#[derive(Clone, Copy)]
+pub struct Order {
+    pub kind: OrderKind,
+    pub fields: FieldSpots,
     pub top: usize,
     pub nodes: usize,
 }
 
-// An order for a variable: that of a site and a slot (order 0), a number variable of a site with the word of its request (1 and 21), a hole of a site (2).
+// The fields of an order that was read, with the order's bytes and the tokens, in which they stand.
+#[derive(Clone, Copy)]
+pub struct Posed<'a> {
+    pub bytes: &'a [u8],
+    pub tokens: Tokens<'a>,
+    pub fields: FieldSpots,
+    ghost few: { length tokens.kinds.now ≤ 32768 },
+}
+
+// An order for a variable: that of a site and a slot (order 0), a number variable of a site with its request (1 and 21), a hole of a site (2).
 #[derive(Clone, Copy)]
 pub enum VariableOrder {
     Slot(u32, u32),
-    Number(u32, u32),
+    Number(u32, NumberRequest),
     Hole(u32),
 }
 

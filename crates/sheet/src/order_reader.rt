@@ -1,18 +1,22 @@
-// An order read: its kind, and its fields by the layout of the kind. The functions that read a field are lent the place and answer
+// An order read: which it is, and its fields by its layout. The functions that read a field are lent the place and answer
 // the field's spot; where they refuse, the place is of no use.
 ghost use Rattle.std.specs.Prelude.{◌≡◌, ◌-◌, ◌<◌, ◌≤◌, length, get_or};
 ghost use Rattle.solver.specs.Terms.Tokens.{area, blank};
+ghost use Rattle.std.proofs.Math.Option.{some};
 ghost use Rattle.sheet.specs.declared.Sort.TheVariants.{Rules};
 ghost use Rattle.sheet.specs.Fields.{field};
-ghost use Rattle.sheet.specs.Words.FieldLayout.{RowIs, sort_of, Free, Ample, FieldDone, finished_order};
+ghost use Rattle.sheet.specs.OrderTable.{row_in};
+ghost use Rattle.sheet.specs.Sheet.{table};
+ghost use Rattle.sheet.specs.Words.OrderKinds.{kind_row};
+ghost use Rattle.sheet.specs.Words.FieldLayout.{sort_of, Free, Ample, FieldDone};
 ghost use Rattle.sheet.specs.Words.FieldsContract.{field_of};
 ghost use Rattle.sheet.specs.Words.OrderReaderContract.{OrderRoom, OrderDone};
 
 use super::fields::{PlainField, next_number};
 use super::layout::{FieldReader, read_layout};
-use super::order_table::{known_of, row_of};
+use super::order_table::{known_of, layout_of};
 use super::rules::read_rules;
-use super::{Class, FieldSpot, Order, Sort};
+use super::{FieldSpot, Order, OrderKind, Sort};
 use solver::{Place, Refusal, Rule, clear_tokens};
 
 // A count and so many rules.
@@ -61,25 +65,13 @@ impl FieldReader for AnyField {
     }
 }
 
-// The fields as an order of a kind, with the token after the last one and the nodes.
-fn finished(mut o: Order, kind: u8, top: usize, nodes: usize) -> Order
-    ensures { result ≡ finished_order o kind top nodes }
-{
-    o.kind = kind;
-    o.top = top;
-    o.nodes = nodes;
-    o
-}
-
-// Reads the fields of an order of a kind, as `read_order` tells it.
+// Reads the fields of an order, as `read_order` tells it.
 fn read_fields(
     s: &[u8],
     kinds: &mut [u32],
     vals: &mut [u32],
     rules: &mut [Rule],
-    kind: u8,
-    class: Class,
-    sorts: &[Sort],
+    kind: OrderKind,
     issued: u64,
     first: usize,
     kept: usize,
@@ -87,8 +79,7 @@ fn read_fields(
 ) -> Result<Order, Refusal>
     requires room { OrderRoom s.now kinds.old vals.old rules.old first kept limit }
     requires tagged { 0 < length s.now }
-    requires kinded { kind ≡ get_or s.now 0 0 }
-    requires row { RowIs kind class sorts.now }
+    requires kinded { row_in table (get_or s.now 0 0) ≡ some (kind_row kind) }
     ensures { OrderDone s.now issued first kept limit (area kinds.old vals.old)
         (area kinds.new vals.new) rules.new result }
 {
@@ -98,13 +89,19 @@ fn read_fields(
         nodes: kept,
         limit,
     };
-    let known = known_of(class, issued);
-    let o = read_layout::<AnyField>(s, kinds, vals, rules, &mut place, sorts, known)?;
+    let sorts = layout_of(kind);
+    let known = known_of(kind, issued);
+    let fields = read_layout::<AnyField>(s, kinds, vals, rules, &mut place, sorts, known)?;
     if place.at < s.len() {
         clear_tokens(kinds, vals, first, place.top - first);
         return Err(Refusal::Length);
     }
-    Ok(finished(o, kind, place.top, place.nodes))
+    Ok(Order {
+        kind,
+        fields,
+        top: place.top,
+        nodes: place.nodes,
+    })
 }
 
 // Reads an order, which is all of `s`. Its tokens stand from `top` on where its nodes with those `kept` are within the limit, and its rules in `rules`.
@@ -126,13 +123,8 @@ pub fn read_order(
     if s.len() == 0 {
         return Err(Refusal::Length);
     }
-    let kind = s[0];
-    let Some((class, sorts)) = row_of(kind) else {
-        return Err(Refusal::Code);
-    };
-    read_fields(
-        s, kinds, vals, rules, kind, class, sorts, issued, top, kept, limit,
-    )
+    let kind = OrderKind::try_from(s[0])?;
+    read_fields(s, kinds, vals, rules, kind, issued, top, kept, limit)
 }
 
 // Clears the tokens of an order that was read from `top` on.

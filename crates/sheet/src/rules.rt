@@ -8,7 +8,7 @@ ghost use Rattle.sheet.specs.Words.FieldLayout.{Free, Ample, rule_from, WordsFit
 
 use super::fields::PlainField;
 use super::layout::read_layout;
-use super::{Order, Sort};
+use super::{FieldSpots, Sort};
 use solver::{Place, Refusal, Rule, clear_tokens};
 
 // The layout of a rule: interface, receiver, the number of a member, arguments and value.
@@ -21,7 +21,7 @@ const RULE: [Sort; 5] = [
 ];
 
 // Stores the r-th rule, from its spots, where there is room.
-fn keep_rule(rules: &mut [Rule], r: u64, o: Order)
+fn keep_rule(rules: &mut [Rule], r: u64, o: FieldSpots)
     requires { WordsFit o }
     ensures { rules.new ≡ set rules.old r (rule_from o) }
 {

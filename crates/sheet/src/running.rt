@@ -9,7 +9,7 @@ ghost use Rattle.solver.specs.Words.Worklist.{Zero};
 ghost use Rattle.sheet.specs.Entry.{Ended, Left, sizes_accepted, finished, entry_result, state_after_run, number_of_reason};
 
 use super::dispatch::serve_order;
-use super::splitting::{next_order, order_at};
+use super::splitting::Orders;
 use super::starting::lay_fresh;
 use super::{Closed, Reason, Report};
 use solver::Solver;
@@ -47,15 +47,13 @@ fn answer_orders(
     ensures left { Left result.solver half (areas a.new b.new c.new d.new) }
 {
     let mut x = first;
-    let mut at = 0;
     let mut to = 0;
     let mut orders: u64 = 0;
-    // A step is as wide as what stands there, so no range is counted.
-    while at < s.len() {
-        let Some((from, size)) = next_order(s, at) else {
-            return closed(Reason::Length, orders, to, x);
+    for order in (Orders { sheet: s, at: 0 }) {
+        let bytes = match order {
+            Ok(bytes) => bytes,
+            Err(reason) => return closed(reason, orders, to, x),
         };
-        let bytes = order_at(s, from, size);
         let r = serve_order(x, half, bytes, a, b, c, d, out, to);
         let Some(next) = r.next else {
             return closed(Reason::Room, orders, to, r.solver);
@@ -63,7 +61,6 @@ fn answer_orders(
         x = r.solver;
         to = next;
         orders += 1;
-        at = from + size;
     }
     closed(Reason::UsedUp, orders, to, x)
 }

@@ -4,6 +4,8 @@ pub use Rattle.terms.specs.declared.Refusal.{Refusal}
 pub use Rattle.terms.specs.declared.Refusal.TheVariants.{Length, Code, Number, Depth, Order, Variable, Nodes, Variables, Children}
 pub use Rattle.terms.specs.declared.Listing.{Listing}
 pub use Rattle.terms.specs.declared.Listing.TheVariants.{Arguments, Receivers, Entries}
+pub use Rattle.terms.specs.declared.PartKind.{PartKind}
+pub use Rattle.terms.specs.declared.PartKind.TheVariants.{Term, BareNominal}
 pub use Rattle.terms.specs.Words.ReadContract.{Step, Next, Stopped}
 pub use Rattle.terms.specs.declared.Question.{Question}
 pub use Rattle.terms.specs.declared.Question.TheVariants.{IsNever, IsInteger, IsConcrete, IsUnresolved, ContainsUnknown, ContainsSelfType, ContainsProjection, IsResolvedIn}

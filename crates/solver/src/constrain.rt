@@ -48,6 +48,7 @@ impl Solver {
         ensures clear { Zero work.new }
     {
         let m = self.variables;
+        // Both are lent from one borrow: the borrow checker does not cover a slice that is lent whole where a part of it is lent.
         let lent = &tables[..];
         let bindings = Bindings {
             tokens: *tokens,

@@ -2,6 +2,7 @@
 #![tactic(auto)]
 
 ghost use Rattle.std.specs.Prelude.{◌^◌, ◌<◌, length};
+ghost use Rattle.solver.specs.Words.SessionRepresentation.{RequestWord};
 
 mod answers;
 mod constrain;
@@ -23,10 +24,10 @@ pub use substitution::{context, family, instantiation, self_only};
 
 // Functions and types of the terms that are handed on to the sheet, which names this crate alone.
 pub use terms::{
-    Binders, Listing, Parameter, Parameters, Pass, Place, Question, Ready, Refusal, Rewriter, Rule,
-    Tokens, Unfinished, ask, can_weaken_to, clear_tokens, conflicts_with, keep_list, normalise,
-    number_len, part_at, read_number, recovered_len, satisfies, satisfies_for,
-    with_associated_types, write_normalised, write_number, write_recovered,
+    Binders, Listing, Parameter, Parameters, PartKind, Pass, Place, Question, Ready, Refusal,
+    Rewriter, Rule, Tokens, Unfinished, ask, can_weaken_to, clear_tokens, conflicts_with,
+    keep_list, normalise, number_len, part_at, read_number, recovered_len, satisfies,
+    satisfies_for, with_associated_types, write_normalised, write_number, write_recovered,
 };
 
 // A run of tokens: len of them, from at on.
@@ -123,7 +124,22 @@ pub enum Defaulted {
     Deferred,
 }
 
+// A builtin type, by its code.
+#[derive(Clone, Copy)]
+pub struct Builtin {
+    pub code: u32,
+    ghost listed: { code < 32 },
+}
+
+// What is requested of a number variable, by the word that the table has for it.
+#[derive(Clone, Copy)]
+pub struct NumberRequest {
+    pub word: u32,
+    ghost formed: { RequestWord word },
+}
+
 // A bound of a range: its size, or with `minus` minus its size.
+// Both are always there, so an enum would say no more; and i128 has no minus 0, which the sheet may write and which is a bound of the definition, too.
 #[derive(Clone, Copy, Debug, PartialEq, Eq)]
 pub struct Bound {
     pub minus: bool,

@@ -7,7 +7,7 @@ ghost use Rattle.terms.specs.Term.{Term, bytes};
 ghost use Rattle.solver.specs.Constrain.{resolve};
 ghost use Rattle.solver.specs.Words.ResolveWalk.{run_in, Filled, Named, Entered};
 ghost use Rattle.solver.specs.Words.ResolveFrames.{stand, Sound, Apart, Cleared};
-ghost use Rattle.solver.specs.Words.Lent.{HeldBy, Binds, run_bytes, term_bytes, SettledBy};
+ghost use Rattle.solver.specs.Words.Lent.{HeldBy, Binds, walked_bytes, resolved_bytes_at, WalkSettled};
 ghost use Rattle.solver.specs.Words.Worklist.{Zero};
 
 use super::{Bindings, Run, Stand};
@@ -59,7 +59,7 @@ pub fn enter(tokens: &Tokens, bound: &[u32], p: usize, left: usize) -> Option<Ru
 // the walk is over. A frame that it comes out of is 0 again, so that the frames of a walk that is over all are.
 pub fn settle(bindings: &Bindings, frames: &mut [u32], from: Stand) -> Stand
     requires { Sound bindings.now.tokens.kinds.now bindings.now.most frames.old from }
-    ensures { SettledBy bindings.now frames.old from frames.new result }
+    ensures { WalkSettled bindings.now frames.old from frames.new result }
 {
     let mut c = from;
     // It goes into bound variables and out of runs until a token stands for itself.
@@ -75,12 +75,8 @@ pub fn settle(bindings: &Bindings, frames: &mut [u32], from: Stand) -> Stand
             frames[i] = 0;
             frames[i + 1] = 0;
         } else {
-            let Some(r) = enter(
-                &bindings.tokens,
-                bindings.bound,
-                c.at,
-                bindings.most - c.depth,
-            ) else {
+            let left = bindings.most - c.depth;
+            let Some(r) = enter(&bindings.tokens, bindings.bound, c.at, left) else {
                 return c;
             };
             let i = c.depth + c.depth;
@@ -96,7 +92,7 @@ pub fn settle(bindings: &Bindings, frames: &mut [u32], from: Stand) -> Stand
 // The first place of a walk over a run.
 pub fn begin(bindings: &Bindings, frames: &mut [u32], run: Run) -> Stand
     requires { (run.at + run.len ≤ length bindings.now.tokens.kinds.now) × (bindings.now.most + bindings.now.most ≤ length frames.old) }
-    ensures { SettledBy bindings.now frames.old (stand run.at (run.at + run.len) 0) frames.new result }
+    ensures { WalkSettled bindings.now frames.old (stand run.at (run.at + run.len) 0) frames.new result }
 {
     let c = Stand {
         at: run.at,
@@ -109,7 +105,7 @@ pub fn begin(bindings: &Bindings, frames: &mut [u32], run: Run) -> Stand
 // The place after a token that stands for itself.
 pub fn next(bindings: &Bindings, frames: &mut [u32], from: Stand) -> Stand
     requires { (from.at < from.end) × Sound bindings.now.tokens.kinds.now bindings.now.most frames.old from }
-    ensures { SettledBy bindings.now frames.old (stand (from.at + 1) from.end from.depth) frames.new result }
+    ensures { WalkSettled bindings.now frames.old (stand (from.at + 1) from.end from.depth) frames.new result }
 {
     let c = Stand {
         at: from.at + 1,
@@ -123,7 +119,7 @@ pub fn next(bindings: &Bindings, frames: &mut [u32], from: Stand) -> Stand
 pub fn walked_len(bindings: &Bindings, frames: &mut [u32], run: Run, limit: usize) -> Option<usize>
     requires areas { (run.at + run.len ≤ length bindings.now.tokens.kinds.now) × (bindings.now.most + bindings.now.most ≤ length frames.old) }
     requires room { limit < 2 ^ 32 }
-    ensures len { unwrap_or result (limit + 1) ≡ min (limit + 1) (length (run_bytes bindings.now run)) }
+    ensures len { unwrap_or result (limit + 1) ≡ min (limit + 1) (length (walked_bytes bindings.now run)) }
     ensures fits { (n : ℕ) → result ≡ Some n → n ≤ limit }
     ensures apart { Apart bindings.now.most frames.old frames.new }
     ensures bare { (n : ℕ) → result ≡ Some n → Zero frames.old → Zero frames.new }
@@ -150,9 +146,9 @@ pub fn write_walked(
     to: usize,
 ) -> usize
     requires areas { (run.at + run.len ≤ length bindings.now.tokens.kinds.now) × (bindings.now.most + bindings.now.most ≤ length frames.old) }
-    requires room { to + length (run_bytes bindings.now run) ≤ length out.old }
-    ensures next { result ≡ to + length (run_bytes bindings.now run) }
-    ensures wrote { out.new ≡ sets out.old to (run_bytes bindings.now run) }
+    requires room { to + length (walked_bytes bindings.now run) ≤ length out.old }
+    ensures next { result ≡ to + length (walked_bytes bindings.now run) }
+    ensures wrote { out.new ≡ sets out.old to (walked_bytes bindings.now run) }
     ensures apart { Apart bindings.now.most frames.old frames.new }
     ensures bare { Zero frames.old → Zero frames.new }
 {
@@ -175,7 +171,7 @@ pub fn resolved_len(
 ) -> Option<usize>
     requires areas { bindings.now.most + bindings.now.most ≤ length frames.old }
     requires room { (p < 2 ^ 32) × (limit < 2 ^ 32) }
-    ensures len { unwrap_or result (limit + 1) ≡ min (limit + 1) (length (term_bytes bindings.now p)) }
+    ensures len { unwrap_or result (limit + 1) ≡ min (limit + 1) (length (resolved_bytes_at bindings.now p)) }
     ensures term { (t : Term) (b : ℕ → Option Term)
         → HeldBy bindings.now p t
         → Binds bindings.now b
@@ -197,9 +193,9 @@ pub fn write_resolved(
     to: usize,
 ) -> usize
     requires areas { bindings.now.most + bindings.now.most ≤ length frames.old }
-    requires room { (p < 2 ^ 32) × (to + length (term_bytes bindings.now p) ≤ length out.old) }
-    ensures next { result ≡ to + length (term_bytes bindings.now p) }
-    ensures wrote { out.new ≡ sets out.old to (term_bytes bindings.now p) }
+    requires room { (p < 2 ^ 32) × (to + length (resolved_bytes_at bindings.now p) ≤ length out.old) }
+    ensures next { result ≡ to + length (resolved_bytes_at bindings.now p) }
+    ensures wrote { out.new ≡ sets out.old to (resolved_bytes_at bindings.now p) }
     ensures term { (t : Term) (b : ℕ → Option Term)
         → HeldBy bindings.now p t
         → Binds bindings.now b

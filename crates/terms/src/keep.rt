@@ -63,7 +63,7 @@ pub fn keep_term(
 }
 
 // `keep_term` and this differ in the reader alone, and what both do besides is `settle`; a function over either would take a closure that borrows the areas,
-// or the flag that `next_part` has.
+// or the kind that `next_part` has.
 //
 // Reads a bare nominal, whose contents have `levels` levels left; it stands under a head with the tag 20.
 pub fn keep_nominal(

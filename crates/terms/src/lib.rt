@@ -136,6 +136,13 @@ impl Place {
     }
 }
 
+// What a term reader is asked for: a term, or a bare nominal.
+#[derive(Clone, Copy, Debug, PartialEq, Eq)]
+pub enum PartKind {
+    Term,
+    BareNominal,
+}
+
 // A term reader: the bytes of an order, and where it stands in them.
 #[derive(Clone, Copy)]
 pub struct TermReader<'a> {

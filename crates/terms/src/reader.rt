@@ -9,32 +9,38 @@ ghost use Rattle.terms.specs.Words.Outcomes.{step_of};
 
 use super::keep::{keep_nominal, keep_term};
 use super::lists::read_record;
-use super::{Place, RecordRequest, Refusal, TermReader};
+use super::{PartKind, Place, RecordRequest, Refusal, TermReader};
 
 impl<'a> TermReader<'a> {
-    // Reads a term, or where `bare` a bare nominal; then the reader stands after it, or where it is refused as it stood.
+    // Reads a part of the wanted kind; then the reader stands after it, or where it is refused as it stood.
     fn next_part(
         &mut self,
         kinds: &mut [u32],
         vals: &mut [u32],
-        bare: bool,
+        wanted: PartKind,
         levels: u32,
         issued: u64,
     ) -> Result<(), Refusal>
         requires room { Room self.old.bytes.now self.old.place }
-        requires space { Space bare self.old.bytes.now self.old.place }
+        requires space { Space wanted self.old.bytes.now self.old.place }
         ensures answer { step_of result self.new.place
-            ≡ answer self.old.place (part bare self.old.bytes.now issued levels self.old.place.at) (nodes_of bare) }
+            ≡ answer self.old.place (part wanted self.old.bytes.now issued levels self.old.place.at) (nodes_of wanted) }
         ensures areas { area kinds.new vals.new
-            ≡ kept self.old.bytes.now self.old.place (part bare self.old.bytes.now issued levels self.old.place.at) (nodes_of bare)
+            ≡ kept self.old.bytes.now self.old.place (part wanted self.old.bytes.now issued levels self.old.place.at) (nodes_of wanted)
             (area kinds.old vals.old) }
         ensures room { Room self.old.bytes.now self.new.place }
         ensures back { OnErr result (self.new.place ≡ self.old.place) }
     {
-        if bare {
-            keep_nominal(self.bytes, kinds, vals, &mut self.place, levels, issued)
-        } else {
-            keep_term(self.bytes, kinds, vals, &mut self.place, levels, issued)
+        match wanted {
+            PartKind::Term => keep_term(self.bytes, kinds, vals, &mut self.place, levels, issued),
+            PartKind::BareNominal => keep_nominal(
+                self.bytes,
+                kinds,
+                vals,
+                &mut self.place,
+                levels,
+                issued,
+            ),
         }
     }
 
@@ -54,22 +60,23 @@ impl<'a> TermReader<'a> {
     }
 }
 
-// Reads a term with `levels` levels left, whose variables are below `issued`; or where `bare` a bare nominal, whose contents have as many left and which
-// stands under a head with the tag 20. Where it is refused the place stays.
+// Reads a term with `levels` levels left, whose variables are below `issued`; or where that is wanted a bare nominal, whose contents have as many left and
+// which stands under a head with the tag 20. Where it is refused the place stays.
+#[inline(always)]
 pub fn part_at(
     s: &[u8],
     kinds: &mut [u32],
     vals: &mut [u32],
     place: &mut Place,
-    bare: bool,
+    wanted: PartKind,
     levels: u32,
     issued: u64,
 ) -> Result<(), Refusal>
     requires room { Room s.now place.old }
-    requires space { Space bare s.now place.old }
-    ensures answer { step_of result place.new ≡ answer place.old (part bare s.now issued levels place.old.at) (nodes_of bare) }
+    requires space { Space wanted s.now place.old }
+    ensures answer { step_of result place.new ≡ answer place.old (part wanted s.now issued levels place.old.at) (nodes_of wanted) }
     ensures areas { area kinds.new vals.new
-        ≡ kept s.now place.old (part bare s.now issued levels place.old.at) (nodes_of bare) (area kinds.old vals.old) }
+        ≡ kept s.now place.old (part wanted s.now issued levels place.old.at) (nodes_of wanted) (area kinds.old vals.old) }
     ensures room { Room s.now place.new }
     ensures back { OnErr result (place.new ≡ place.old) }
 {
@@ -77,7 +84,7 @@ pub fn part_at(
         bytes: s,
         place: *place,
     };
-    let outcome = reader.next_part(kinds, vals, bare, levels, issued);
+    let outcome = reader.next_part(kinds, vals, wanted, levels, issued);
     *place = reader.place;
     outcome
 }

@@ -1,6 +1,6 @@
 -- How the fields of an order are laid out: their sorts as the code has them, their tokens, and the spots that tell where they stand.
-use Rattle.std.specs.Prelude.{Some, None, Bool, true, false, ◌&&◌, List, [], ◌∷◌, ◌++◌, ◌≡◌, ℕ, zero, suc, ◌+◌, ◌-◌, ◌*◌, ◌^◌, ◌≤◌, ◌<◌, eqb, length, take, set}
-use Rattle.std.proofs.Math.Option.{Option, none, some}
+use Rattle.std.specs.Prelude.{Bool, true, false, ◌&&◌, List, [], ◌∷◌, ◌++◌, ◌≡◌, ℕ, zero, suc, ◌+◌, ◌-◌, ◌*◌, ◌^◌, ◌≤◌, ◌<◌, eqb, length, take, set}
+use Rattle.std.proofs.Math.Option.{Option}
 use Rattle.solver.specs.TermTypes.{Place, Rule, Listing, Arguments, Receivers, Entries, Step, Next, Stopped}
 use Rattle.solver.specs.Terms.Parser.{Parser, Result, got, refused, pick, ◌>>=◌, return, number}
 use Rattle.solver.specs.Terms.Tokens.{Item, Area, puts, blank}
@@ -14,19 +14,13 @@ use Rattle.solver.specs.Terms.Lookup.{Pattern}
 use Rattle.solver.specs.Terms.ReadContract.{Only}
 use Rattle.solver.specs.Families.{Bound}
 use Rattle.sheet.specs.declared.FieldSpot.{FieldSpot}
-use Rattle.sheet.specs.declared.Order.{Order}
-use Rattle.sheet.specs.declared.Class.{Class}
+use Rattle.sheet.specs.declared.FieldSpots.{FieldSpots}
 use Rattle.sheet.specs.declared.Sort.{Sort}
 use Rattle.sheet.specs.declared.Sort.TheVariants as sorts
-use Rattle.std.specs.Borrow.{Bor}
-use Rattle.std.specs.declared.option.Option as rust
-use Rattle.sheet.specs.declared.Class.TheVariants.{Session, Operation}
-use Rattle.sheet.specs.OrderTable.{Act, tells, answers, Row, row_in, layout}
-use Rattle.sheet.specs.Sheet.{table}
 use Rattle.sheet.specs.Fields as fields
 use Rattle.sheet.specs.Fields.{FieldSort, Field, signed, value, bounded, tree, bare, entered, received, named, listed, ruled, nodes, all_nodes, rule_nodes, nth}
 
--- ---- the table as the code has it
+-- ---- the sorts as the code has them
 
 unfoldable pub sort_of : Sort → FieldSort
 sort_of sorts.Number = fields.ordinary
@@ -73,38 +67,6 @@ is_tokenless a = is_number a
 unfoldable pub tokenless : List FieldSort → Bool
 tokenless [] = true
 tokenless (a ∷ l) = is_tokenless a && tokenless l
-
--- what an order does, as the code has it
-abbrev pub class_by : Act → Class
-class_by (tells f) = Session
-class_by (answers f) = Operation
-
--- a row of the table: its class and its layout; and what the code answers of it
-abbrev pub row_words : Option Row → rust.Option (Class × List FieldSort)
-row_words none = None
-row_words (some r) = Some (class_by r.act, layout r)
-
-abbrev pub row_said : rust.Option (Class × Bor (List Sort)) → rust.Option (Class × List FieldSort)
-row_said None = None
-row_said (Some (c, l)) = Some (c, sorts_of l.now)
-
--- the order with a number is listed, of a class and with these sorts
-abbrev pub RowIs : ℕ → Class → List Sort → Type 0
-RowIs k c l = row_words (row_in table k) ≡ Some (c, sorts_of l)
-
--- it is listed, and leaves the session as it was
-abbrev pub answers_by : Act → Bool
-answers_by (tells f) = false
-answers_by (answers f) = true
-
-abbrev pub is_operation : Option Row → Bool
-is_operation none = false
-is_operation (some r) = answers_by r.act
-
--- below what the variables of an order of a class are
-abbrev pub known_for : Class → ℕ → ℕ
-known_for Session n = n
-known_for Operation n = ceiling shape.ordinary + 1
 
 -- a sort other than rules; rules stand first where they stand
 unfoldable pub Plain : FieldSort → Type 0
@@ -235,7 +197,7 @@ placed_rule a p = record {
 }
 
 -- a rule from the spots of its five fields, and that its numbers have 32 bits
-abbrev pub rule_from : Order → Rule
+abbrev pub rule_from : FieldSpots → Rule
 rule_from o = record {
   interface = o.first.place;
   receiver = o.second.place;
@@ -245,7 +207,7 @@ rule_from o = record {
   value = o.fifth.place;
 }
 
-pub record WordsFit (o : Order) : Type 0 where
+pub record WordsFit (o : FieldSpots) : Type 0 where
   pub first : o.first.place < 4294967296
   pub second : o.second.place < 4294967296
   pub third : o.third.value < 4294967296
@@ -274,36 +236,29 @@ SpotOf s ws a x (named ps) = (x.value ≡ length ps) × ((after : ℕ) × (param
 SpotOf s ws a x (listed ts) = (x.value ≡ length ts) × (x.place ≡ a) × (x.end ≡ a + length (part_items (argument_row ts)))
 SpotOf s ws a x (ruled rs) = (x.value ≡ length rs) × (length rs ≤ length ws → take (length rs) ws ≡ placed_rules a rs)
 
--- the spot of the i-th field, and an order with another there
-unfoldable pub spot_at : ℕ → Order → FieldSpot
+-- the spot of the i-th field, and the spots with another there
+unfoldable pub spot_at : ℕ → FieldSpots → FieldSpot
 spot_at zero o = o.first
 spot_at (suc zero) o = o.second
 spot_at (suc (suc zero)) o = o.third
 spot_at (suc (suc (suc zero))) o = o.fourth
 spot_at (suc (suc (suc (suc i)))) o = o.fifth
 
-abbrev pub put_spot : ℕ → FieldSpot → Order → Order
+abbrev pub put_spot : ℕ → FieldSpot → FieldSpots → FieldSpots
 put_spot i x o = record {
-  kind = o.kind;
   first = pick (eqb i 0) x o.first;
   second = pick (eqb i 1) x o.second;
   third = pick (eqb i 2) x o.third;
   fourth = pick (eqb i 3) x o.fourth;
   fifth = pick (eqb i 4) x o.fifth;
-  top = o.top;
-  nodes = o.nodes;
 }
 
 abbrev pub no_spot : FieldSpot
 no_spot = record { value = 0; place = 0; end = 0 }
 
 -- no field yet
-abbrev pub no_fields : Order
-no_fields = record { kind = 0; first = no_spot; second = no_spot; third = no_spot; fourth = no_spot; fifth = no_spot; top = 0; nodes = 0 }
-
--- the fields read, as an order of a kind, with the token after the last one and the nodes
-abbrev pub finished_order : Order → (kind top nodes : ℕ) → Order
-finished_order o kind top nodes = record { kind = kind; first = o.first; second = o.second; third = o.third; fourth = o.fourth; fifth = o.fifth; top = top; nodes = nodes }
+abbrev pub no_fields : FieldSpots
+no_fields = record { first = no_spot; second = no_spot; third = no_spot; fourth = no_spot; fifth = no_spot }
 
 -- where the tokens of the i-th field begin, where those of the first do at a
 unfoldable pub start_at : ℕ → ℕ → List Field → ℕ
@@ -311,11 +266,11 @@ start_at a i [] = a
 start_at a zero (f ∷ fs) = a
 start_at a (suc i) (f ∷ fs) = start_at (a + length (field_items f)) i fs
 
-abbrev pub Spots : (s : List ℕ) (ws : List Rule) → ℕ → Order → List Field → Type 0
+abbrev pub Spots : (s : List ℕ) (ws : List Rule) → ℕ → FieldSpots → List Field → Type 0
 Spots s ws a o fs = (i : ℕ) → i < 5 → SpotOf s ws (start_at a i fs) (spot_at i o) (nth i fs)
 
 -- the fields of a layout, all read and stored, and their spots
-pub record FieldsHere (s : List ℕ) (ws : List Rule) (found : Result (List Field)) (p : Place) (d e : Area) (o : Order) (q : Place) : Type 0 where
+pub record FieldsHere (s : List ℕ) (ws : List Rule) (found : Result (List Field)) (p : Place) (d e : Area) (o : FieldSpots) (q : Place) : Type 0 where
   pub read : List Field
   pub is : found ≡ got read q.at
   pub stored : Stored p q d e (all_items read) (all_nodes read)

@@ -8,7 +8,7 @@ use Rattle.solver.specs.Terms.Shape as shape
 use Rattle.solver.specs.Terms.Shape.{ceiling}
 use Rattle.solver.specs.Terms.Tokens.{Area}
 use Rattle.sheet.specs.declared.FieldSpot.{FieldSpot}
-use Rattle.sheet.specs.declared.Order.{Order}
+use Rattle.sheet.specs.declared.FieldSpots.{FieldSpots}
 use Rattle.sheet.specs.Fields.{Field}
 use Rattle.sheet.specs.Words.FieldLayout.{FieldRead, FieldsHere, Spotted, Unread, moved}
 
@@ -18,7 +18,7 @@ field_of (Ok x) p = Spotted x p
 field_of (Err e) p = Unread (number_of e)
 
 -- the fields of a layout, or the refusal, and then the areas are as they were
-abbrev pub LayoutDone : (s : List ℕ) (ws : List Rule) (found : Result (List Field)) (p : Place) (d e : Area) → rust.Result Order Refusal → Place → Type 0
+abbrev pub LayoutDone : (s : List ℕ) (ws : List Rule) (found : Result (List Field)) (p : Place) (d e : Area) → rust.Result FieldSpots Refusal → Place → Type 0
 LayoutDone s ws found p d e (Ok o) q = FieldsHere s ws found p d e o q
 LayoutDone s ws found p d e (Err r) q = (found ≡ refused (number_of r)) × (e ≡ d)
 

@@ -8,7 +8,7 @@ use Rattle.solver.specs.Terms.Parameters.{parameters}
 use Rattle.solver.specs.Terms.Lookup.{Ruled}
 use Rattle.solver.specs.TermTypes.{Rule}
 use Rattle.sheet.specs.declared.FieldSpot.{FieldSpot}
-use Rattle.sheet.specs.declared.Order.{Order}
+use Rattle.sheet.specs.declared.FieldSpots.{FieldSpots}
 use Rattle.sheet.specs.Fields.{Field, value, bounded, tree, bare, entered, received, named, listed, ruled, nth}
 
 -- s is the order's bytes, ws are its rules
@@ -36,7 +36,7 @@ Follows (listed ts) x y = Unit {0}
 Follows (ruled rs) x y = Unit {0}
 
 -- fields that an order has not are value 0, and so are their spots
-pub record HeldFields (ks vs s : List ℕ) (ws : List Rule) (o : Order) (fs : List Field) : Type 0 where
+pub record HeldFields (ks vs s : List ℕ) (ws : List Rule) (o : FieldSpots) (fs : List Field) : Type 0 where
   pub first : HeldField ks vs s ws o.first (nth 0 fs)
   pub second : HeldField ks vs s ws o.second (nth 1 fs)
   pub third : HeldField ks vs s ws o.third (nth 2 fs)

@@ -1,7 +1,6 @@
 -- What the functions that answer orders 9 to 20 ask and promise.
-use Rattle.std.specs.Prelude.{◌≡◌, false, List, [], ◌∷◌, ◌⊎◌, ℕ, length}
-use Rattle.std.proofs.Math.Option.{some}
-use Rattle.solver.specs.TermTypes.{Binders, Parameter, Rule}
+use Rattle.std.specs.Prelude.{◌≡◌, List, ℕ, length}
+use Rattle.solver.specs.TermTypes.{Binders, Parameter, Parameters, Family, Rule}
 use Rattle.solver.specs.Terms.Term.{Term, Parts, node, Held}
 use Rattle.solver.specs.Terms.Held.{HeldParts}
 use Rattle.solver.specs.Terms.Shape as shape
@@ -10,40 +9,36 @@ use Rattle.solver.specs.Terms.Substitution.{Entry, Receiver}
 use Rattle.solver.specs.Terms.Rows.{argument_row}
 use Rattle.solver.specs.Terms.RewriteContract.{HeldBinders}
 use Rattle.solver.specs.Terms.Lookup.{Pattern, FormedPatterns, Ruled}
-use Rattle.sheet.specs.declared.Order.{Order}
+use Rattle.sheet.specs.declared.FieldSpot.{FieldSpot}
+use Rattle.sheet.specs.declared.FieldSpots.{FieldSpots}
+use Rattle.sheet.specs.declared.Posed.{Posed}
 use Rattle.sheet.specs.Fields.{Field}
-use Rattle.sheet.specs.OrderTable.{Answer, Row, row_in}
+use Rattle.sheet.specs.OrderTable.{Answer, Row}
 use Rattle.sheet.specs.Operations.{operation}
-use Rattle.sheet.specs.Sheet.{table}
 use Rattle.sheet.specs.Words.OrderGiven.{Given}
 
 -- ---- an order
 
--- one of some numbers
-abbrev pub Among : List ℕ → ℕ → Type 0
-Among [] k = ⊥
-Among (n ∷ ns) k = (k ≡ n) ⊎ Among ns k
-
--- the orders of the session that have no tokens
-abbrev pub plain_orders : List ℕ
-plain_orders = 0 ∷ 1 ∷ 2 ∷ 6 ∷ 7 ∷ 8 ∷ 21 ∷ []
-
-abbrev pub numbers_of : List Row → List ℕ
-numbers_of [] = []
-numbers_of (r ∷ rs) = r.number ∷ numbers_of rs
-
--- an order is given, of one of the kinds ns
-pub record Asks (ks vs s : List ℕ) (ws : List Rule) (ns : List ℕ) (o : Order) : Type 0 where
+-- an order is given, whose row is k
+pub record Asks (ks vs s : List ℕ) (ws : List Rule) (k : Row) (o : FieldSpots) : Type 0 where
   pub known : ℕ
-  pub kind : Row
   pub fields : List Field
-  pub numbered : row_in table o.kind ≡ some kind
-  pub given : Given ks vs s ws known kind o fields
-  pub among : Among ns o.kind
+  pub given : Given ks vs s ws known k o fields
 
 -- whatever it is given as, W holds of its answer
-pub record Replies (ks vs s : List ℕ) (ws : List Rule) (o : Order) (W : Answer → Type 0) : Type 0 where
-  pub says : (known : ℕ) (k : Row) (fs : List Field) → row_in table o.kind ≡ some k → Given ks vs s ws known k o fs → W (operation k fs)
+pub record Replies (ks vs s : List ℕ) (ws : List Rule) (k : Row) (o : FieldSpots) (W : Answer → Type 0) : Type 0 where
+  pub says : (known : ℕ) (fs : List Field) → Given ks vs s ws known k o fs → W (operation k fs)
+
+-- the same of what is posed; ws are its rules
+abbrev pub IsPosed : Posed → List Rule → Row → Type 0
+IsPosed p ws k = Asks p.tokens.kinds.now p.tokens.vals.now p.bytes.now ws k p.fields
+
+abbrev pub RepliesTo : Posed → List Rule → Row → (Answer → Type 0) → Type 0
+RepliesTo p ws k W = Replies p.tokens.kinds.now p.tokens.vals.now p.bytes.now ws k p.fields W
+
+-- the parameters that a field has
+abbrev pub parameters_at : Posed → FieldSpot → Parameters
+parameters_at p x = record { bytes = p.bytes; at = x.place; count = x.value }
 
 -- ---- terms at places
 
@@ -55,15 +50,16 @@ pub record Two (ks vs : List ℕ) (a b : ℕ) (t u : Term) : Type 0 where
   pub right_formed : Formed u
 
 -- order 18: a term, its binders, and so many arguments
-pub record Applies (ks vs s : List ℕ) (b : Binders) (given a : ℕ) (t : Term) (es : List Entry) (rs : List Receiver) (ps : List Parameter) (ts : List Term) : Type 0 where
+pub record Applies (ks vs : List ℕ) (b : Binders) (l : Parameters) (given a : ℕ) (t : Term) (es : List Entry) (rs : List Receiver) (ps : List Parameter) (ts : List Term) : Type 0 where
   pub held : Held ks vs a t
   pub formed : Formed t
-  pub binders : HeldBinders ks vs s b es rs ps
+  pub binders : HeldBinders ks vs b es rs ps
+  pub from : ℕ
   pub end : ℕ
-  pub arguments : HeldParts ks vs b.arguments end (argument_row ts)
-  pub plain : b.context ≡ false
+  pub arguments : HeldParts ks vs from end (argument_row ts)
+  pub family : b.purpose ≡ Family l from
   pub many : given ≡ length ts
-  pub parameters : b.count ≡ length ps
+  pub parameters : l.count ≡ length ps
 
 -- order 19: a term, an interface and the owner
 pub record Associates (ks vs : List ℕ) (p i o : ℕ) (t : Term) (ps : Parts) (owner : Term) : Type 0 where

@@ -4,7 +4,7 @@ use Rattle.solver.specs.TermTypes.{Parameter, Rule}
 use Rattle.solver.specs.Terms.Term.{Term, Parts}
 use Rattle.solver.specs.Terms.Substitution.{Entry, Receiver}
 use Rattle.solver.specs.Terms.Lookup.{Pattern}
-use Rattle.sheet.specs.declared.Order.{Order}
+use Rattle.sheet.specs.declared.FieldSpots.{FieldSpots}
 use Rattle.sheet.specs.Fields as fields
 use Rattle.sheet.specs.Fields.{FieldSort, Field, value, bounded, tree, bare, entered, received, named, listed, ruled}
 use Rattle.sheet.specs.OrderTable.{Row, layout}
@@ -32,8 +32,8 @@ FitsLayout [] (f ∷ fs) = ⊥
 FitsLayout (a ∷ l) [] = ⊥
 FitsLayout (a ∷ l) (f ∷ fs) = OfSort a f × FitsLayout l fs
 
--- an order of a kind, whose variables are below `known`
-pub record Given (ks vs s : List ℕ) (ws : List Rule) (known : ℕ) (k : Row) (o : Order) (fs : List Field) : Type 0 where
+-- an order whose row is k and whose variables are below `known`
+pub record Given (ks vs s : List ℕ) (ws : List Rule) (known : ℕ) (k : Row) (o : FieldSpots) (fs : List Field) : Type 0 where
   pub held : HeldFields ks vs s ws o fs
   pub formed : FormedFields known fs
   pub fits : FitsLayout (layout k) fs

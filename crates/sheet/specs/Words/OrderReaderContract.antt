@@ -6,9 +6,10 @@ use Rattle.solver.specs.TermTypes.{Refusal, Rule}
 use Rattle.solver.specs.Terms.Result.{got, refused, number_of}
 use Rattle.solver.specs.Terms.Tokens.{Area, area, puts, blank, before, toks}
 use Rattle.sheet.specs.declared.Order.{Order}
-use Rattle.sheet.specs.Fields.{fields, all_nodes}
-use Rattle.sheet.specs.OrderTable.{Read, row_in, layout, known}
+use Rattle.sheet.specs.Fields.{Field, fields, all_nodes}
+use Rattle.sheet.specs.OrderTable.{row_in, layout, known}
 use Rattle.sheet.specs.Sheet.{table, read_order}
+use Rattle.sheet.specs.Words.OrderKinds.{kind_row}
 use Rattle.sheet.specs.Words.FieldsFormed.{FormedFields}
 use Rattle.sheet.specs.Words.FieldsHeld.{HeldFields}
 use Rattle.sheet.specs.Words.OrderGiven.{FitsLayout}
@@ -19,8 +20,7 @@ abbrev pub RulesRoom : (s : List ℕ) (ws : List Rule) → ℕ → Type 0
 RulesRoom s ws n = (n ≤ 2 * length ws) ⊎ ((get_or s 1 0 < 128) × (get_or s 1 0 ≤ length ws))
 
 -- The bytes are not too many, and the areas hold nothing from `top` on. `kept` nodes are kept; for each more, up to the limit, there is room for six tokens,
--- and for eight in all besides, and where the order may have rules (its first byte is 20)
--- for these.
+-- and for eight in all besides, and for its rules where it may have some (its first byte is 20).
 pub record OrderRoom (s ks vs : List ℕ) (ws : List Rule) (top kept limit : ℕ) : Type 0 where
   pub bytes : length s ≤ 16777216
   pub within : kept ≤ limit
@@ -33,24 +33,25 @@ pub record OrderRoom (s ks vs : List ℕ) (ws : List Rule) (top kept limit : ℕ
 
 -- d are the areas before, e after, and ws the rules after
 pub record WholeOrder (s : List ℕ) (issued top kept limit : ℕ) (d e : Area) (ws : List Rule) (o : Order) : Type 0 where
-  -- what the order says
-  pub read : Read
+  -- its number is that of its kind
+  pub numbered : row_in table (get_or s 0 0) ≡ some (kind_row o.kind)
+  -- what it says
+  pub said : List Field
   pub next : ℕ
-  pub is : read_order s issued ≡ got read next
-  pub kind : row_in table o.kind ≡ some read.kind
-  pub formed : FormedFields (known read.kind issued) read.fields
-  pub fitting : FitsLayout (layout read.kind) read.fields
-  pub found : fields s (known read.kind issued) (layout read.kind) 1 ≡ got read.fields next
-  pub spots : Spots s ws top o read.fields
-  pub counts : o.nodes ≡ kept + all_nodes read.fields
-  pub tokens : o.top ≡ top + length (all_items read.fields)
+  pub is : read_order s issued ≡ got (record { kind = kind_row o.kind; fields = said }) next
+  pub formed : FormedFields (known (kind_row o.kind) issued) said
+  pub fitting : FitsLayout (layout (kind_row o.kind)) said
+  pub found : fields s (known (kind_row o.kind) issued) (layout (kind_row o.kind)) 1 ≡ got said next
+  pub spots : Spots s ws top o.fields said
+  pub counts : o.nodes ≡ kept + all_nodes said
+  pub tokens : o.top ≡ top + length (all_items said)
   -- six tokens a node, and four for each bare nominal besides
-  pub room : length (all_items read.fields) ≤ 6 * all_nodes read.fields + spares (layout read.kind)
+  pub room : length (all_items said) ≤ 6 * all_nodes said + spares (layout (kind_row o.kind))
   pub small : o.top < 2 ^ 32
   -- within the limit its tokens stand from `top` on, and nothing else changed
-  pub held : o.nodes ≤ limit → HeldFields e.kinds e.vals s ws o read.fields
-  pub stored : o.nodes ≤ limit → e ≡ puts d top (all_items read.fields)
-  pub run : o.nodes ≤ limit → toks e.kinds e.vals top (length (all_items read.fields)) ≡ all_items read.fields
+  pub held : o.nodes ≤ limit → HeldFields e.kinds e.vals s ws o.fields said
+  pub stored : o.nodes ≤ limit → e ≡ puts d top (all_items said)
+  pub run : o.nodes ≤ limit → toks e.kinds e.vals top (length (all_items said)) ≡ all_items said
   pub fits : o.nodes ≤ limit → o.top ≤ length e.kinds
   -- in any case nothing before `top` changed, nothing is held after, and with its tokens cleared the areas are as they were
   pub same : before top e ≡ before top d

@@ -1,5 +1,5 @@
 -- Orders 0 to 8, 21 and 22 on the counters, the tokens and the table that the solver is lent.
-use Rattle.std.specs.Prelude.{Bool, true, false, List, ◌≡◌, ℕ, ◌+◌, ◌≤◌, ◌<◌, length, drop}
+use Rattle.std.specs.Prelude.{List, ◌≡◌, ℕ, ◌+◌, ◌≤◌, ◌<◌, length, drop}
 use Rattle.std.proofs.Math.Option.{some}
 use Rattle.solver.specs.declared.Solver.{Solver}
 use Rattle.solver.specs.declared.Site.{Site}
@@ -13,14 +13,14 @@ use Rattle.solver.specs.Terms.Term.{Term, var}
 use Rattle.solver.specs.Constrain.{resolved}
 use Rattle.solver.specs.Session.{Session}
 use Rattle.solver.specs.Orders.{Command, variable, number, hole, revision, unread}
-use Rattle.solver.specs.Words.SessionRepresentation.{RequestWord, request_in, Represents}
+use Rattle.solver.specs.Words.SessionRepresentation.{request_in, Represents}
 use Rattle.solver.specs.Words.ConstrainContract.{pending_from}
 use Rattle.solver.specs.Words.Worklist.{Zero}
 use Rattle.solver.specs.Words.MethodContract.{Beside, defaults_by}
-use Rattle.sheet.specs.declared.Order.{Order}
+use Rattle.sheet.specs.declared.FieldSpots.{FieldSpots}
 use Rattle.sheet.specs.Fields.{Field}
-use Rattle.sheet.specs.OrderTable.{Row, row_in, command_of}
-use Rattle.sheet.specs.Sheet.{Step, table, framed}
+use Rattle.sheet.specs.OrderTable.{Row, command_of}
+use Rattle.sheet.specs.Sheet.{Step, framed}
 use Rattle.sheet.specs.Words.FramingContract.{Output, Wrote, Framed}
 use Rattle.sheet.specs.Words.OrderGiven.{Given}
 
@@ -42,32 +42,26 @@ pub record Does (m : Lent) (y : Solver) (us : List ℕ) (z : Session) (st : Step
   pub long : length w.bytes < w.at + length (framed st.answer) → Represents y m.kinds m.vals us z
   pub beside : Beside m.counters y m.table us
 
--- whatever an order is given as, it tells the session the command c
-pub record Says (ks vs s : List ℕ) (ws : List Rule) (o : Order) (c : Command) : Type 0 where
-  pub says : (known : ℕ) (k : Row) (fs : List Field) → row_in table o.kind ≡ some k → Given ks vs s ws known k o fs → command_of k fs ≡ some c
+-- whatever an order whose row is k is given as, it tells the session the command c
+pub record Says (ks vs s : List ℕ) (ws : List Rule) (k : Row) (o : FieldSpots) (c : Command) : Type 0 where
+  pub says : (known : ℕ) (fs : List Field) → Given ks vs s ws known k o fs → command_of k fs ≡ some c
 
 -- orders 0, 1, 2 and 21: their commands
 abbrev pub variable_command : VariableOrder → Command
 variable_command (Slot s i) = variable s i
-variable_command (Number s w) = number s (request_in w)
+variable_command (Number s r) = number s (request_in r.word)
 variable_command (Hole s) = hole s
 
 -- the place of the variable: that of a number variable is slot 1 of its site
 abbrev pub site_of : VariableOrder → Site
 site_of (Slot s i) = place.Slot s i
-site_of (Number s w) = place.Slot s 1
+site_of (Number s r) = place.Slot s 1
 site_of (Hole s) = place.Hole s
-
--- what is requested is told by a word as the table has it
-abbrev pub RequestTold : VariableOrder → Type 0
-RequestTold (Slot s i) = Unit {0}
-RequestTold (Number s w) = RequestWord w
-RequestTold (Hole s) = Unit {0}
 
 -- what is answered for the variable v: itself, or what it resolves to
 abbrev pub variable_answer : Session → VariableOrder → ℕ → Term
 variable_answer z (Slot s i) v = var v
-variable_answer z (Number s w) v = resolved z.solver (var v)
+variable_answer z (Number s r) v = resolved z.solver (var v)
 variable_answer z (Hole s) v = resolved z.solver (var v)
 
 -- orders 0, 1, 2, 6, 7, 8 and 21
@@ -77,18 +71,7 @@ termless_command (Defaults b) = defaults_by b
 termless_command Revision = revision
 termless_command NoType = unread 13
 
-abbrev pub TermlessTold : TermlessOrder → Type 0
-TermlessTold (Variable o) = RequestTold o
-TermlessTold (Defaults b) = Unit {0}
-TermlessTold Revision = Unit {0}
-TermlessTold NoType = Unit {0}
-
--- the number of an order that poses a pair, strictly or not
-abbrev pub pair_number : Bool → ℕ
-pair_number false = 4
-pair_number true = 22
-
--- Such an order done. Where a variable was bound, the session after it is held by all of the tokens. Else the counters and the table are as they were: nothing was
+-- An order that poses a pair done. Where a variable was bound, the session after it is held by all of the tokens. Else the counters and the table are as they were: nothing was
 -- bound, and the session is the same, or the answer does not fit.
 pub record DoesPair (m : Lent) (y : Solver) (us : List ℕ) (z : Session) (st : Step) (w : Output) (v : Wrote) : Type 0 where
   pub answer : Framed st.answer w.bytes w.at v.bytes v.next

@@ -23,12 +23,12 @@ abbrev pub Binds : Bindings → (ℕ → Option Term) → Type 0
 Binds x b = HeldBindings x.tokens.kinds.now x.tokens.vals.now x.bound.now b
 
 -- the bytes of a run, and of the term at p, bound variables replaced
-abbrev pub run_bytes : Bindings → Run → List ℕ
-run_bytes x r = flat_bytes (walked x.tokens.kinds.now x.tokens.vals.now x.bound.now x.most r.at r.len)
+abbrev pub walked_bytes : Bindings → Run → List ℕ
+walked_bytes x r = flat_bytes (walked x.tokens.kinds.now x.tokens.vals.now x.bound.now x.most r.at r.len)
 
-abbrev pub term_bytes : Bindings → ℕ → List ℕ
-term_bytes x p = resolved_bytes x.tokens.kinds.now x.tokens.vals.now x.bound.now x.most p
+abbrev pub resolved_bytes_at : Bindings → ℕ → List ℕ
+resolved_bytes_at x p = resolved_bytes x.tokens.kinds.now x.tokens.vals.now x.bound.now x.most p
 
 -- after `settle`, from the frames and the place of before
-abbrev pub SettledBy : Bindings → (st₀ : List ℕ) → Stand → (st : List ℕ) → Stand → Type 0
-SettledBy x st₀ from st to = Settled x.tokens.kinds.now x.tokens.vals.now x.bound.now x.most st₀ from st to
+abbrev pub WalkSettled : Bindings → (st₀ : List ℕ) → Stand → (st : List ℕ) → Stand → Type 0
+WalkSettled x st₀ from st to = Settled x.tokens.kinds.now x.tokens.vals.now x.bound.now x.most st₀ from st to

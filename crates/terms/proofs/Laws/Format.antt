@@ -15,7 +15,6 @@
 --   WriteLaws         laws of writing
 --   KeepTermLaws      what is offered of reading, from what the reading functions leave
 --   ListLaws          lists read record by record and kept as rows
---   ReaderLaws        what is wanted of a reader, by the flag
 --   ListReaderLaws    the term reader goes from record to record
 --   KeepSequenceLaws  what is kept stays
 --   ParameterLaws     parameters in the bytes
@@ -34,7 +33,6 @@ pub mod RoundTrip
 pub mod WriteLaws
 pub mod KeepTermLaws
 pub mod ListLaws
-pub mod ReaderLaws
 pub mod ListReaderLaws
 pub mod KeepSequenceLaws
 pub mod ParameterLaws

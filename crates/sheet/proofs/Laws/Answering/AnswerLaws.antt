@@ -13,9 +13,9 @@ use native.Mathlib.Numerals.{add-one}
 use borrow.Author.Tests.{lt-ltb, le-ltb, eq-eqb, ne_eqb, eqb-false}
 use lib.ListN.{length, length-append, set, drop, drop_of_length-le}
 use lib.Seq.{sets, drop-cons}
-use Rattle.solver.specs.TermTypes.{Binders, Parameter}
+use Rattle.solver.specs.TermTypes.{Binders, Parameter, Parameters}
 use Rattle.solver.specs.Terms.Result.{got}
-use Rattle.solver.specs.Terms.Parameters.{parameters}
+use Rattle.solver.specs.Terms.Parameters.{parameters, listed}
 use Rattle.solver.proofs.Terms.HeldLaws.{items_some}
 use Rattle.solver.specs.Terms.Term.{Term, bytes, Held}
 use Rattle.solver.specs.Terms.TermsAtPlaces.{FormedAt}
@@ -60,22 +60,22 @@ formed_both ks vs a b t u x = (record { term = t; held = x.left; formed = x.left
 
 -- ---- orders 12, 13, 14 and 18
 
-module _ (ks vs s : List ℕ) (b : Binders) (a : ℕ) where
+module _ (ks vs : List ℕ) (b : Binders) (a : ℕ) where
   -- what holds of the bytes by one writing or by two
-  pub rewrites_one : (P Q : List ℕ → Type 0) → ((x : List ℕ) → P x → Q x) → Rewrites ks vs s b a P → Rewrites ks vs s b a Q
+  pub rewrites_one : (P Q : List ℕ → Type 0) → ((x : List ℕ) → P x → Q x) → Rewrites ks vs b a P → Rewrites ks vs b a Q
   rewrites_one P Q f r = record {
     instantiated = λ t es rs x h k e. f _ (r.instantiated t es rs x h k e);
     in_context = λ t es rs ps x h k e. f _ (r.in_context t es rs ps x h k e);
     with_self = λ t o u x h k e. f _ (r.with_self t o u x h k e);
-    applied = λ t es rs ps ts e u x h k l c d. f _ (r.applied t es rs ps ts e u x h k l c d);
+    applied = λ t es rs ps ts l i e u x h k g c d. f _ (r.applied t es rs ps ts l i e u x h k g c d);
   }
 
-  pub rewrites_two : (P Q R : List ℕ → Type 0) → ((x : List ℕ) → P x → Q x → R x) → Rewrites ks vs s b a P → Rewrites ks vs s b a Q → Rewrites ks vs s b a R
+  pub rewrites_two : (P Q R : List ℕ → Type 0) → ((x : List ℕ) → P x → Q x → R x) → Rewrites ks vs b a P → Rewrites ks vs b a Q → Rewrites ks vs b a R
   rewrites_two P Q R f q r = record {
     instantiated = λ t es rs x h k e. f _ (q.instantiated t es rs x h k e) (r.instantiated t es rs x h k e);
     in_context = λ t es rs ps x h k e. f _ (q.in_context t es rs ps x h k e) (r.in_context t es rs ps x h k e);
     with_self = λ t o u x h k e. f _ (q.with_self t o u x h k e) (r.with_self t o u x h k e);
-    applied = λ t es rs ps ts e u x h k l c d. f _ (q.applied t es rs ps ts e u x h k l c d) (r.applied t es rs ps ts e u x h k l c d);
+    applied = λ t es rs ps ts l i e u x h k g c d. f _ (q.applied t es rs ps ts l i e u x h k g c d) (r.applied t es rs ps ts l i e u x h k g c d);
   }
 
 -- x was counted, an opening made for it, and it was written or did not fit
@@ -120,9 +120,9 @@ perhaps_some ps t es rs ts u e = rw e
 
 -- ---- order 15
 
-pub no_parameters : (s : List ℕ) → parameters s 0 0 ≡ got [] 0
+pub no_parameters : (l : Parameters) → l.count ≡ 0 → listed l ≡ got [] l.at
 unfolding parameters
-no_parameters s = refl
+no_parameters l e = rw e refl
 
 pub contrary : (q : Question) (t : Term) (b : Bool) → q ≡ IsConcrete → b ≡ asked [] (number_of_question q) t → not b ≡ answered (number_of_question q) t
 unfolding answered

@@ -1,6 +1,6 @@
 -- An order answered in the areas: from the session and what was read to what each function asks, and back to the areas.
 use mathlib.Core.Path.{◌≡◌, refl, sym, ap, subst, ◌∙◌}
-use mathlib.Core.Bool.{Bool, true, false, not}
+use mathlib.Core.Bool.{Bool, not}
 use mathlib.Core.List.{List, [], ◌∷◌, ◌++◌, append-nil}
 use mathlib.Core.Logic.{inl, inr, ⊎_elim}
 use mathlib.Core.Option.{some}
@@ -23,33 +23,42 @@ use Rattle.solver.specs.Session.{Limits, Session, issued}
 use Rattle.solver.specs.Orders as orders
 use Rattle.solver.specs.Shapes.{notion}
 use Rattle.solver.specs.Constrain.{constrain}
+use Rattle.solver.specs.TermTypes.{Rule}
 use Rattle.solver.specs.Orders.{Command, solver_of, keeps, order}
 use Rattle.solver.specs.Words.Worklist.{Zero}
 use Rattle.solver.specs.Words.ConstrainContract.{Scratch}
 use Rattle.solver.specs.Invariant.{InOrder}
 use Rattle.solver.specs.Words.SessionRepresentation.{Represents, limits_of}
 use Rattle.solver.proofs.Laws.Definition.SolverInvariantLaws.{within_known}
-use Rattle.solver.specs.TermTypes.{Rule}
+use Rattle.solver.specs.declared.Access.{Access}
+use Rattle.solver.specs.declared.Access.TheVariants.{Ignored, Compared}
+use Rattle.solver.specs.Words.PendingContract.{strict_of}
 use Rattle.sheet.specs.declared.Order.{Order}
+use Rattle.sheet.specs.declared.OrderKind.{OrderKind}
+use Rattle.sheet.specs.declared.OrderKind.TheVariants as kinds
+use Rattle.sheet.specs.declared.OrderKind.TheVariants.{Termless, DeferNever, Constrain, Resolve}
+use Rattle.sheet.specs.declared.TermlessKind.{TermlessKind}
+use Rattle.sheet.specs.declared.Operation.{Operation}
 use Rattle.sheet.specs.Fields as fields
 use Rattle.sheet.specs.Fields.{FieldSort, Field, value, tree, all_nodes, nodes, nth, term_of, number_of, number_at}
 use Rattle.sheet.specs.OrderTable as rows
-use Rattle.sheet.specs.OrderTable.{Answer, refusal, Act, Row, session_orders, row_in, layout, command_by, command_of, Read}
-use Rattle.sheet.specs.Operations.{operations, operation}
-use Rattle.sheet.specs.Sheet.{table, read_order, Step, solve, perform, step, step_read, order_of}
+use Rattle.sheet.specs.OrderTable.{Answer, refusal, Act, Row, layout, command_by, command_of, Read}
+use Rattle.sheet.specs.Operations.{operation}
+use Rattle.sheet.specs.Sheet.{read_order, Step, solve, perform, step, step_read, order_of}
 use Rattle.sheet.specs.Words.FieldsFormed.{FormedFields}
 use Rattle.sheet.specs.Words.OrderGiven.{FitsLayout, Given}
-use Rattle.sheet.specs.Words.FieldLayout.{is_operation, SpotOf, field_items, all_items, spare, spares, spot_at, start_at}
+use Rattle.sheet.specs.Words.FieldLayout.{SpotOf, field_items, all_items, spare, spares, spot_at, start_at}
 use Rattle.sheet.specs.Words.OrderReaderContract.{RulesRoom, OrderRoom}
 use Rattle.sheet.specs.Words.FramingContract.{Output, Wrote, Framed}
-use Rattle.sheet.specs.Words.OperationsContract.{numbers_of, Asks, Replies, plain_orders}
+use Rattle.sheet.specs.Words.OrderKinds.{termless_row, operation_row, kind_row}
+use Rattle.sheet.specs.Words.OperationsContract.{Asks, Replies}
 use Rattle.sheet.specs.Words.SessionInAreas.{Areas, areas, RepresentsInAreas, Answers}
 use Rattle.sheet.specs.Entry.{AreasReady}
 use Rattle.solver.specs.Words.OrderTerms.{Behind, Poses, PosesPair}
-use Rattle.sheet.specs.Words.SessionOrdersContract.{lent, Does, Says, pair_number, DoesPair}
+use Rattle.sheet.specs.Words.SessionOrdersContract.{lent, Does, Says, DoesPair}
 use Rattle.sheet.specs.Words.DispatchContract.{OrderTaken, Serves, Answered}
 use Rattle.sheet.proofs.Laws.Reading.StoredLaws.{zero_free, free_kinds, free_vals}
-use Rattle.sheet.proofs.Laws.Reading.OrderTableLaws.{Plainly, plain_act, plain_among, operations_among}
+use Rattle.sheet.proofs.Laws.Reading.OrderKindLaws.{termless_act, termless_tokenless}
 use Rattle.sheet.proofs.Laws.Answering.SessionRowLaws.{crowds, tokenless_none, one_term, two_terms}
 use Rattle.sheet.proofs.Laws.Reading.ReadOrderUseLaws as use-laws
 use Rattle.sheet.proofs.Laws.Reading.ReadOrderUseLaws.{order_long}
@@ -70,24 +79,21 @@ taken_narrow n ws f = record { fits = narrow_upto n ws f }
 
 -- ---- the rows that pose a pair
 
-abbrev pair_row_lem : Bool → Row
-pair_row_lem false = rows.constrain
-pair_row_lem true = rows.constrain_strictly
-
-pair_layout : (d : Bool) → layout (pair_row_lem d) ≡ fields.ordinary ∷ fields.term ∷ fields.term ∷ []
+pair_layout : (w : Access) → layout (kind_row (Constrain w)) ≡ fields.ordinary ∷ fields.term ∷ fields.term ∷ []
 unfolding layout
-pair_layout false = refl
-pair_layout true = refl
+pair_layout Ignored = refl
+pair_layout Compared = refl
 
-pair_known : (d : Bool) (n : ℕ) → rows.known (pair_row_lem d) n ≡ n
+pair_known : (w : Access) (n : ℕ) → rows.known (kind_row (Constrain w)) n ≡ n
 unfolding rows.known
-pair_known false n = refl
-pair_known true n = refl
+pair_known Ignored n = refl
+pair_known Compared n = refl
 
-pair_steps : (d : Bool) (lim : Limits) (z : Session) (n : ℕ) (t u : Term) → step lim z (pair_row_lem d) (value n ∷ tree t ∷ tree u ∷ []) ≡ solve lim z (orders.pair d n t u)
+pair_steps : (w : Access) (lim : Limits) (z : Session) (n : ℕ) (t u : Term)
+    → step lim z (kind_row (Constrain w)) (value n ∷ tree t ∷ tree u ∷ []) ≡ solve lim z (orders.pair (strict_of w) n t u)
 unfolding step nth term_of number_of
-pair_steps false lim z n t u = refl
-pair_steps true lim z n t u = refl
+pair_steps Ignored lim z n t u = refl
+pair_steps Compared lim z n t u = refl
 
 -- ---- room to read
 
@@ -155,8 +161,11 @@ module _ {x : Solver} {half : ℕ} {s : List ℕ} {m : Areas} {ts : Area} {ws : 
   b_long = (order_long s x.issued x.top x.kept x.nodes (area m.a m.b) ts ws o T.whole).1 ∙ T.ready.roomy.b_size
 
   -- what the bytes say, on any session that the areas held
-  step_is : (z : Session) → RepresentsInAreas x half m z → order_of (limits_of x) z s ≡ step (limits_of x) z T.whole.read.kind T.whole.read.fields
+  step_is : (z : Session) → RepresentsInAreas x half m z → order_of (limits_of x) z s ≡ step (limits_of x) z (kind_row o.kind) T.whole.said
   step_is z Z = ap (λ (q : Result Read). step_read (limits_of x) z q) (ap (λ (n : ℕ). read_order s n) (sym Z.represents.issued) ∙ T.whole.is)
+
+  step_as_kind : (z : Session) → RepresentsInAreas x half m z → {k : OrderKind} → o.kind ≡ k → order_of (limits_of x) z s ≡ step (limits_of x) z (kind_row k) T.whole.said
+  step_as_kind z Z h = step_is z Z ∙ ap (λ (k : OrderKind). step (limits_of x) z (kind_row k) T.whole.said) h
 
   -- served in the areas that there were: with the tokens of the order cleared they are those
   answered : (y : Solver) → y.top ≡ x.top → (c' d' : List ℕ) (w : Output) (v : Wrote) → Serves x y half s m (areas m.a m.b c' d') w v
@@ -172,10 +181,10 @@ module _ {x : Solver} {half : ℕ} {s : List ℕ} {m : Areas} {ts : Area} {ws : 
   crowded h w v F =
       answered x refl m.c m.d w v
       (λ z A Z.
-      let k = T.whole.read.kind in
-      let fs = T.whole.read.fields in
+      let k = kind_row o.kind in
+      let fs = T.whole.said in
       let formed = subst (λ (n : ℕ). FormedFields (rows.known k n) fs) Z.represents.issued T.whole.formed in
-      let seven = crowds (limits_of x) z o.kind k T.whole.kind Z.represents.fits.nodes fs T.whole.fitting formed (omega (arith, T.whole.counts, Z.represents.kept)) in
+      let seven = crowds (limits_of x) z _ k T.whole.numbered Z.represents.fits.nodes fs T.whole.fitting formed (omega (arith, T.whole.counts, Z.represents.kept)) in
       step_as (step_is z Z ∙ seven) (answers_same Z (refusal 7) w v F))
 
   -- a command done on what is lent, other than order 4
@@ -207,7 +216,7 @@ module _ {x : Solver} {half : ℕ} {s : List ℕ} {m : Areas} {ts : Area} {ws : 
     taken_pairs = long_b ∙ sym long_a
 
     -- what was read, as it is given to the function that answers it
-    given : Given ts.kinds ts.vals s ws (rows.known T.whole.read.kind x.issued) T.whole.read.kind o T.whole.read.fields
+    given : Given ts.kinds ts.vals s ws (rows.known (kind_row o.kind) x.issued) (kind_row o.kind) o.fields T.whole.said
     given = record { held = T.whole.held W; formed = T.whole.formed; fits = T.whole.fitting }
 
     -- ---- orders 9 to 20
@@ -225,65 +234,40 @@ module _ {x : Solver} {half : ℕ} {s : List ℕ} {m : Areas} {ts : Area} {ws : 
           kids_zero = record { is = λ i h. L.work i };
         }
 
-    pub taken_asks : true ≡ is_operation (row_in table o.kind) → Asks ts.kinds ts.vals s ws (numbers_of operations) o
-    taken_asks h =
-        record {
-          known = rows.known T.whole.read.kind x.issued;
-          kind = T.whole.read.kind;
-          fields = T.whole.read.fields;
-          numbered = T.whole.kind;
-          given = given;
-          among = operations_among o.kind T.whole.read.kind T.whole.kind h;
-        }
+    pub taken_asks : {k : OrderKind} → o.kind ≡ k → Asks ts.kinds ts.vals s ws (kind_row k) o.fields
+    taken_asks h = rw (← h) (record { known = rows.known (kind_row o.kind) x.issued; fields = T.whole.said; given = given })
 
-    pub operated : true ≡ is_operation (row_in table o.kind) → (w : Output) (v : Wrote) → Replies ts.kinds ts.vals s ws o (λ y. Framed y w.bytes w.at v.bytes v.next)
+    pub operated : {k : Operation} → o.kind ≡ kinds.Operation k → (w : Output) (v : Wrote) → Replies ts.kinds ts.vals s ws (operation_row k) o.fields (λ y. Framed y w.bytes w.at v.bytes v.next)
         → (hs cs : List ℕ) → area hs cs ≡ area (take half m.c) m.d → Answered x x half s m ts o (hs ++ drop half m.c) cs w v
-    operated h w v R hs cs e =
+    operated {k} h w v R hs cs e =
         answered x refl (hs ++ drop half m.c) cs w v
         (λ z A Z.
-        let k = T.whole.read.kind in
-        let fs = T.whole.read.fields in
-        let F = R.says (rows.known k x.issued) k fs T.whole.kind given in
+        let fs = T.whole.said in
+        let F = R.says (rows.known (operation_row k) x.issued) fs (rw h at given) in
         let few : z.kept + all_nodes fs ≤ x.nodes = omega (arith, T.whole.counts, W, Z.represents.kept) in
-        let st : order_of (limits_of x) z s ≡ record { session = z; answer = operation k fs } =
-        step_is z Z ∙ operation_step (limits_of x) z o.kind k fs T.whole.kind h ∙ rw (le-ltb x.nodes (z.kept + all_nodes fs) few) refl
+        let st : order_of (limits_of x) z s ≡ record { session = z; answer = operation (operation_row k) fs } =
+        step_as_kind z Z h ∙ operation_step (limits_of x) z k fs ∙ rw (le-ltb x.nodes (z.kept + all_nodes fs) few) refl
         in
         let hc : hs ++ drop half m.c ≡ m.c = ap (λ (u : Area). u.kinds ++ drop half m.c) e ∙ take-append-drop half m.c in
         let dc : cs ≡ m.d = ap (λ (u : Area). u.vals) e in
-        step_as st (rw (hc, dc) (answers_same Z (operation k fs) w v F)))
-
-    -- which order it is
-    kind_as : (n : ℕ) (r : Row) → o.kind ≡ n → row_in table n ≡ some r → T.whole.read.kind ≡ r
-    kind_as n r e h = let f : some T.whole.read.kind ≡ some r = sym T.whole.kind ∙ ap (λ (i : ℕ). row_in table i) e ∙ h in cc
+        step_as st (rw (hc, dc) (answers_same Z (operation (operation_row k) fs) w v F)))
 
     -- ---- orders without terms
 
-    module _ (P : Plainly o.kind) where
-      pub plain_asks : Asks ts.kinds ts.vals s ws plain_orders o
-      plain_asks =
-          record {
-            known = rows.known T.whole.read.kind x.issued;
-            kind = T.whole.read.kind;
-            fields = T.whole.read.fields;
-            numbered = T.whole.kind;
-            given = given;
-            among = plain_among o.kind T.whole.read.kind T.whole.kind P;
-          }
-
-      plain_step : (c : Command) → Says ts.kinds ts.vals s ws o c → (z : Session) → RepresentsInAreas x half m z → order_of (limits_of x) z s ≡ solve (limits_of x) z c
+    module _ {k : TermlessKind} (P : o.kind ≡ Termless k) where
+      plain_step : (c : Command) → Says ts.kinds ts.vals s ws (termless_row k) o.fields c → (z : Session) → RepresentsInAreas x half m z → order_of (limits_of x) z s ≡ solve (limits_of x) z c
       unfolding step command_of
       plain_step c S z Z =
-          let k = T.whole.read.kind in
-          let fs = T.whole.read.fields in
-          let t = plain_act o.kind k T.whole.kind P in
+          let fs = T.whole.said in
+          let t = termless_act k in
           let f = t.0 in
-          let told : some (f fs) ≡ some c = ap (λ (a : Act). command_by a fs) (sym t.1) ∙ S.says (rows.known k x.issued) k fs T.whole.kind given in
+          let told : some (f fs) ≡ some c = ap (λ (a : Act). command_by a fs) (sym t.1) ∙ S.says (rows.known (termless_row k) x.issued) fs (rw P at given) in
           let same : f fs ≡ c = cc in
-          step_is z Z ∙ ap (λ (a : Act). perform (limits_of x) z fs a) t.1 ∙ ap (λ (d : Command). solve (limits_of x) z d) same
+          step_as_kind z Z P ∙ ap (λ (a : Act). perform (limits_of x) z fs a) t.1 ∙ ap (λ (d : Command). solve (limits_of x) z d) same
 
       -- it has no tokens
-      no_items : all_items T.whole.read.fields ≡ []
-      no_items = (tokenless_none (layout T.whole.read.kind) T.whole.read.fields (plain_act o.kind T.whole.read.kind T.whole.kind P).2 T.whole.fitting).1
+      no_items : all_items T.whole.said ≡ []
+      no_items = (tokenless_none (layout (termless_row k)) T.whole.said (termless_tokenless k) (rw P at T.whole.fitting)).1
 
       plain_top : o.top ≡ x.top
       plain_top = omega (arith, T.whole.tokens, ap length no_items)
@@ -294,7 +278,7 @@ module _ {x : Solver} {half : ℕ} {s : List ℕ} {m : Areas} {ts : Area} {ws : 
       pub plain_lent : (z : Session) → RepresentsInAreas x half m z → Represents x (take o.top ts.kinds) (take o.top ts.vals) (drop half m.c) z
       plain_lent z Z = subst (λ (u : Area). Represents x u.kinds u.vals (drop half m.c) z) (sym plain_areas) Z.represents
 
-      pub plain_answered : (c : Command) → Says ts.kinds ts.vals s ws o c
+      pub plain_answered : (c : Command) → Says ts.kinds ts.vals s ws (termless_row k) o.fields c
           → (y : Solver) (c' d' : List ℕ) (w : Output) (v : Wrote) → take half c' ≡ take half m.c → Zero d'
           → ((z : Session) → InOrder (issued z) z.solver → Represents x (take o.top ts.kinds) (take o.top ts.vals) (drop half m.c) z
           → Does (lent x (take o.top ts.kinds) (take o.top ts.vals) (drop half m.c)) y (drop half c') z (solve (limits_of x) z c) w v)
@@ -322,9 +306,9 @@ module _ {x : Solver} {half : ℕ} {s : List ℕ} {m : Areas} {ts : Area} {ws : 
         }
 
     abbrev fs : List Field
-    fs = T.whole.read.fields
+    fs = T.whole.said
 
-    module _ {t : Term} (is : fs ≡ tree t ∷ []) (all : rows.known T.whole.read.kind x.issued ≡ x.issued) where
+    module _ {t : Term} (is : fs ≡ tree t ∷ []) (all : rows.known (kind_row o.kind) x.issued ≡ x.issued) where
       one_items : all_items fs ≡ items t
       unfolding all_items field_items
       one_items = ap all_items is ∙ append-nil (items t)
@@ -336,7 +320,7 @@ module _ {x : Solver} {half : ℕ} {s : List ℕ} {m : Areas} {ts : Area} {ws : 
       one_below : AllVars (λ v. v < x.issued) t
       unfolding FormedFields
       one_below =
-          let g = subst (λ (l : List Field). FormedFields (rows.known T.whole.read.kind x.issued) l) is T.whole.formed in
+          let g = subst (λ (l : List Field). FormedFields (rows.known (kind_row o.kind) x.issued) l) is T.whole.formed in
           subst (λ (n : ℕ). AllVars (λ v. v < n) t) all g.0.below
 
       pub poses : (z : Session) → InOrder (issued z) z.solver → RepresentsInAreas x half m z → Poses x (take o.top ts.kinds) (take o.top ts.vals) (drop half m.c) z t
@@ -360,49 +344,47 @@ module _ {x : Solver} {half : ℕ} {s : List ℕ} {m : Areas} {ts : Area} {ws : 
           told k same y c' d' w v front clear (λ z A Z. rw (cut_a, cut_b) at (D z (poses z A Z)))
 
     -- order 3
-    pub defer_term : o.kind ≡ 3 → (t : Term) × (fs ≡ tree t ∷ [])
-    unfolding layout row_in table session_orders
-    defer_term h = one_term fs (subst (λ (r : Row). FitsLayout (layout r) fs) (kind_as 3 rows.defer_never h refl) T.whole.fitting)
+    pub defer_term : o.kind ≡ DeferNever → (t : Term) × (fs ≡ tree t ∷ [])
+    unfolding layout
+    defer_term h = one_term fs (rw h at T.whole.fitting)
 
-    pub defer_known : o.kind ≡ 3 → rows.known T.whole.read.kind x.issued ≡ x.issued
-    unfolding rows.known row_in table session_orders
-    defer_known h = rw (kind_as 3 rows.defer_never h refl) refl
+    pub defer_known : o.kind ≡ DeferNever → rows.known (kind_row o.kind) x.issued ≡ x.issued
+    unfolding rows.known
+    defer_known h = rw h refl
 
-    pub defer_step : (h : o.kind ≡ 3) (z : Session) {t : Term} → RepresentsInAreas x half m z → fs ≡ tree t ∷ [] → order_of (limits_of x) z s ≡ solve (limits_of x) z (orders.defer t)
-    unfolding step nth term_of row_in table session_orders
-    defer_step h z Z e = step_is z Z ∙ rw (kind_as 3 rows.defer_never h refl, e) refl
+    pub defer_step : (h : o.kind ≡ DeferNever) (z : Session) {t : Term} → RepresentsInAreas x half m z → fs ≡ tree t ∷ [] → order_of (limits_of x) z s ≡ solve (limits_of x) z (orders.defer t)
+    unfolding step nth term_of
+    defer_step h z Z e = step_is z Z ∙ rw (h, e) refl
 
     -- order 5
-    pub resolve_term : o.kind ≡ 5 → (t : Term) × (fs ≡ tree t ∷ [])
-    unfolding layout row_in table session_orders
-    resolve_term h = one_term fs (subst (λ (r : Row). FitsLayout (layout r) fs) (kind_as 5 rows.resolve h refl) T.whole.fitting)
+    pub resolve_term : o.kind ≡ Resolve → (t : Term) × (fs ≡ tree t ∷ [])
+    unfolding layout
+    resolve_term h = one_term fs (rw h at T.whole.fitting)
 
-    pub resolve_known : o.kind ≡ 5 → rows.known T.whole.read.kind x.issued ≡ x.issued
-    unfolding rows.known row_in table session_orders
-    resolve_known h = rw (kind_as 5 rows.resolve h refl) refl
+    pub resolve_known : o.kind ≡ Resolve → rows.known (kind_row o.kind) x.issued ≡ x.issued
+    unfolding rows.known
+    resolve_known h = rw h refl
 
-    pub resolve_step : (h : o.kind ≡ 5) (z : Session) {t : Term} → RepresentsInAreas x half m z → fs ≡ tree t ∷ [] → order_of (limits_of x) z s ≡ solve (limits_of x) z (orders.resolving t)
-    unfolding step nth term_of row_in table session_orders
-    resolve_step h z Z e = step_is z Z ∙ rw (kind_as 5 rows.resolve h refl, e) refl
+    pub resolve_step : (h : o.kind ≡ Resolve) (z : Session) {t : Term} → RepresentsInAreas x half m z → fs ≡ tree t ∷ [] → order_of (limits_of x) z s ≡ solve (limits_of x) z (orders.resolving t)
+    unfolding step nth term_of
+    resolve_step h z Z e = step_is z Z ∙ rw (h, e) refl
 
     -- orders 4 and, strict, 22
-    module _ (d : Bool) (h : o.kind ≡ pair_number d) where
-      kind_pair : T.whole.read.kind ≡ pair_row_lem d
-      unfolding row_in table session_orders
-      kind_pair = go d h
-        where
-          go : (d : Bool) → o.kind ≡ pair_number d → T.whole.read.kind ≡ pair_row_lem d
-          go false h = kind_as 4 rows.constrain h refl
-          go true h = kind_as 22 rows.constrain_strictly h refl
+    module _ (access : Access) (h : o.kind ≡ Constrain access) where
+      abbrev d : Bool
+      d = strict_of access
+
+      kind_pair : kind_row o.kind ≡ kind_row (Constrain access)
+      kind_pair = ap kind_row h
 
       pub pair_terms : (n : ℕ) × (t : Term) × (u : Term) × (fs ≡ value n ∷ tree t ∷ tree u ∷ [])
-      pair_terms = two_terms fs (subst (λ (l : List FieldSort). FitsLayout l fs) (ap layout kind_pair ∙ pair_layout d) T.whole.fitting)
+      pair_terms = two_terms fs (subst (λ (l : List FieldSort). FitsLayout l fs) (ap layout kind_pair ∙ pair_layout access) T.whole.fitting)
 
       pair_few : o.top ≤ 64 + 6 * o.nodes
       unfolding spares spare
       pair_few =
           let g : length (all_items fs) ≤ 6 * all_nodes fs + 0
-          = subst (λ (l : List FieldSort). length (all_items fs) ≤ 6 * all_nodes fs + spares l) (ap layout kind_pair ∙ pair_layout d) T.whole.room in
+          = subst (λ (l : List FieldSort). length (all_items fs) ≤ 6 * all_nodes fs + spares l) (ap layout kind_pair ∙ pair_layout access) T.whole.room in
           omega (arith, T.whole.tokens, T.whole.counts, T.ready.in_areas.few)
 
       pub pair_scratch : Scratch x (take o.top ts.kinds) (drop half m.c) m.d
@@ -428,15 +410,15 @@ module _ {x : Solver} {half : ℕ} {s : List ℕ} {m : Areas} {ts : Area} {ws : 
         pair_formed : FormedFields x.issued (value n ∷ tree t ∷ tree u ∷ [])
         pair_formed =
             subst (λ (l : List Field). FormedFields x.issued l) is
-            (subst (λ (i : ℕ). FormedFields i fs) (ap (λ (r : Row). rows.known r x.issued) kind_pair ∙ pair_known d x.issued) T.whole.formed)
+            (subst (λ (i : ℕ). FormedFields i fs) (ap (λ (r : Row). rows.known r x.issued) kind_pair ∙ pair_known access x.issued) T.whole.formed)
 
-        pub pair_k : (o.first.value ≡ n) × (n ≤ 4294967295)
+        pub pair_k : (o.fields.first.value ≡ n) × (n ≤ 4294967295)
         unfolding spot_at nth FormedFields
-        pair_k = (subst (λ (l : List Field). SpotOf s ws (start_at x.top 0 l) (spot_at 0 o) (nth 0 l)) is (T.whole.spots 0 (omega arith)), pair_formed.0)
+        pair_k = (subst (λ (l : List Field). SpotOf s ws (start_at x.top 0 l) (spot_at 0 o.fields) (nth 0 l)) is (T.whole.spots 0 (omega arith)), pair_formed.0)
 
-        pair_place : o.third.place ≡ x.top + length (items t)
+        pair_place : o.fields.third.place ≡ x.top + length (items t)
         unfolding spot_at nth start_at field_items
-        pair_place = let p : o.third.place ≡ x.top + 0 + length (items t) = subst (λ (l : List Field). SpotOf s ws (start_at x.top 2 l) (spot_at 2 o) (nth 2 l)) is (T.whole.spots 2 (omega arith)) in omega arith
+        pair_place = let p : o.fields.third.place ≡ x.top + 0 + length (items t) = subst (λ (l : List Field). SpotOf s ws (start_at x.top 2 l) (spot_at 2 o.fields) (nth 2 l)) is (T.whole.spots 2 (omega arith)) in omega arith
 
         pair_top : o.top ≡ x.top + length (items t) + length (items u)
         pair_top = omega (arith, T.whole.tokens, ap length pair_items, length-append (items t) (items u))
@@ -445,7 +427,7 @@ module _ {x : Solver} {half : ℕ} {s : List ℕ} {m : Areas} {ts : Area} {ws : 
         pair_row = use-laws.pair_row s x.issued x.top x.kept x.nodes (area m.a m.b) ts ws o T.whole W n t u is
 
         pub poses_pair : (z : Session) → InOrder (issued z) z.solver → RepresentsInAreas x half m z
-            → PosesPair x (take o.top ts.kinds) (take o.top ts.vals) (drop half m.c) z o.third.place t u
+            → PosesPair x (take o.top ts.kinds) (take o.top ts.vals) (drop half m.c) z o.fields.third.place t u
         unfolding FormedFields
         poses_pair z A Z =
             let l = held_sub ts.kinds ts.vals x.top o.top t (sub u end) pair_row in
@@ -466,8 +448,8 @@ module _ {x : Solver} {half : ℕ} {s : List ℕ} {m : Areas} {ts : Area} {ws : 
 
         pair_step : (z : Session) → RepresentsInAreas x half m z → order_of (limits_of x) z s ≡ solve (limits_of x) z (orders.pair d n t u)
         pair_step z Z =
-            step_is z Z ∙ ap (λ (r : Row). step (limits_of x) z r fs) kind_pair ∙ ap (λ (l : List Field). step (limits_of x) z (pair_row_lem d) l) is
-            ∙ pair_steps d (limits_of x) z n t u
+            step_is z Z ∙ ap (λ (r : Row). step (limits_of x) z r fs) kind_pair ∙ ap (λ (l : List Field). step (limits_of x) z (kind_row (Constrain access)) l) is
+            ∙ pair_steps access (limits_of x) z n t u
 
         -- where a variable was bound all of its nodes are kept
         pair_kept : (z : Session) → InOrder (issued z) z.solver → RepresentsInAreas x half m z
@@ -483,7 +465,7 @@ module _ {x : Solver} {half : ℕ} {s : List ℕ} {m : Areas} {ts : Area} {ws : 
             omega (arith, pair_few, pair_nodes z Z)
 
         module _ (y : Solver) (c' d' : List ℕ) (w : Output) (v : Wrote) (front : take half c' ≡ take half m.c) (clear : Zero d') (k : ℕ) (ek : k ≡ n)
-            (E : (z : Session) → PosesPair x (take o.top ts.kinds) (take o.top ts.vals) (drop half m.c) z o.third.place t u → o.nodes ≡ z.kept + (size t + size u)
+            (E : (z : Session) → PosesPair x (take o.top ts.kinds) (take o.top ts.vals) (drop half m.c) z o.fields.third.place t u → o.nodes ≡ z.kept + (size t + size u)
             → DoesPair (lent x (take o.top ts.kinds) (take o.top ts.vals) (drop half m.c)) y (drop half c') z (solve (limits_of x) z (orders.pair d k t u)) w v) where
           does : (z : Session) → InOrder (issued z) z.solver → RepresentsInAreas x half m z
               → DoesPair (lent x (take o.top ts.kinds) (take o.top ts.vals) (drop half m.c)) y (drop half c') z (solve (limits_of x) z (orders.pair d n t u)) w v

@@ -1,11 +1,10 @@
 -- An order that is given, kind by kind: what its fields are, where they are held, and what its answer is.
-use mathlib.Core.Path.{◌≡◌, refl, sym, ap, ◌∙◌}
+use mathlib.Core.Path.{◌≡◌, refl, ap, ◌∙◌}
 use mathlib.Core.List.{List, [], ◌∷◌, map}
-use mathlib.Core.Option.{some}
 use Prim.Native.Nat.{ℕ, ◌≤◌}
 use native.Mathlib.Omega.{arith}
 use lib.ListN.{length, take}
-use Rattle.solver.specs.TermTypes.{Binders, Parameter, Rule}
+use Rattle.solver.specs.TermTypes.{Binders, Parameter, Parameters, Rule}
 use Rattle.solver.specs.Terms.Result.{got}
 use Rattle.solver.specs.Terms.Tokens.{spell}
 use Rattle.solver.specs.Terms.Term.{Term, Parts, node, end, part_items, Held, bytes}
@@ -16,50 +15,35 @@ use Rattle.solver.specs.Terms.Tree.{nominal_of}
 use Rattle.solver.specs.Terms.Questions.{is_resolved_in}
 use Rattle.solver.specs.Terms.Comparison.{conflicts_with, can_weaken_to, satisfies, satisfies_for}
 use Rattle.solver.specs.Terms.Recovery.{recover_from}
-use Rattle.solver.specs.Terms.Parameters.{parameters}
+use Rattle.solver.specs.Terms.Parameters.{parameters, listed as in_bytes}
 use Rattle.solver.specs.Terms.Substitution as substitution
 use Rattle.solver.specs.Terms.Substitution.{Entry, Receiver, apply, contextual}
 use Rattle.solver.specs.Terms.Rows.{entry_row, receiver_row}
-use Rattle.solver.specs.Terms.RewriteContract.{Ready, HeldBinders, for_instance, for_context, for_family}
+use Rattle.solver.specs.Terms.RewriteContract.{RowsWithin, HeldBinders, for_instance, for_context, for_family}
 use Rattle.solver.specs.Terms.Lookup.{Pattern, FormedPatterns}
 use Rattle.solver.specs.Terms.Normal.{normalize, with_associated_types}
-use Rattle.sheet.specs.declared.Order.{Order}
+use Rattle.sheet.specs.declared.FieldSpots.{FieldSpots}
 use Rattle.sheet.specs.Fields as fields
 use Rattle.sheet.specs.Fields.{Field, tree, bare, entered, received, named, listed, ruled, nth, term_of, row_of, entries_of, receivers_of, parameters_of, arguments_of, rules_of}
-use Rattle.sheet.specs.OrderTable.{Answer, outcome, Row, session_orders, row_in, layout}
+use Rattle.sheet.specs.OrderTable.{Answer, outcome, Row, layout}
 use Rattle.sheet.specs.Operations.{bit, bits, seven, perhaps, settled, rule_of, operation}
-use Rattle.sheet.specs.Sheet.{table}
 use Rattle.sheet.specs.Operations as operations
 use Rattle.sheet.specs.Words.FieldsFormed.{FormedTrees, FormedRules, FormedFields}
 use Rattle.sheet.specs.Words.FieldsHeld.{HeldFields}
 use Rattle.sheet.specs.Words.OrderGiven.{FitsLayout, Given}
-use Rattle.sheet.specs.Words.OperationsContract.{Among, Asks, Replies, Two, Applies, Associates, Normalises}
+use Rattle.sheet.specs.Words.OperationsContract.{Asks, Replies, Two, Applies, Associates, Normalises}
 
--- ---- which kind it is
+-- what an order with a row says: its fields are held, and w is its answer
+pub record Kind (ks vs s : List ℕ) (ws : List Rule) (k : Row) (o : FieldSpots) (Says : Answer → Type 0) : Type 1 where
+  pub asked : Asks ks vs s ws k o → (w : Answer) × Says w
+  pub replied : (W : Answer → Type 0) → ((w : Answer) → Says w → W w) → Replies ks vs s ws k o W
 
-some_same : {k l : Row} → some k ≡ some l → k ≡ l
-some_same e = cc
-
--- what an order of one kind says: its fields are held, and w is its answer
-pub record Kind (ks vs s : List ℕ) (ws : List Rule) (o : Order) (Says : Answer → Type 0) : Type 1 where
-  pub asked : (ns : List ℕ) → Asks ks vs s ws ns o → (w : Answer) × Says w
-  pub replied : (W : Answer → Type 0) → ((w : Answer) → Says w → W w) → Replies ks vs s ws o W
-
-kind_of : (ks vs s : List ℕ) (ws : List Rule) (o : Order) (Says : Answer → Type 0) (n : ℕ) (k : Row) → row_in table n ≡ some k → o.kind ≡ n
-    → ((known : ℕ) (fs : List Field) → Given ks vs s ws known k o fs → Says (operation k fs)) → Kind ks vs s ws o Says
-kind_of ks vs s ws o Says n k at is f = record {
-  asked = λ ns x.
-      let e : x.kind ≡ k = some_same (sym x.numbered ∙ ap (λ (m : ℕ). row_in table m) is ∙ at) in
-      (operation k x.fields, f x.known x.fields (rw e at x.given));
-  replied = λ W g. record {
-    says = λ known k' fs h x.
-        let e : k' ≡ k = some_same (sym h ∙ ap (λ (m : ℕ). row_in table m) is ∙ at) in
-        rw e (g (operation k fs) (f known fs (rw e at x)));
-  };
+kind_of : (ks vs s : List ℕ) (ws : List Rule) (k : Row) (o : FieldSpots) (Says : Answer → Type 0)
+    → ((known : ℕ) (fs : List Field) → Given ks vs s ws known k o fs → Says (operation k fs)) → Kind ks vs s ws k o Says
+kind_of ks vs s ws k o Says f = record {
+  asked = λ x. (operation k x.fields, f x.known x.fields x.given);
+  replied = λ W g. record { says = λ known fs x. g (operation k fs) (f known fs x) };
 }
-
-pub asks_among : (ks vs s : List ℕ) (ws : List Rule) (o : Order) (ns ms : List ℕ) → Asks ks vs s ws ns o → Among ms o.kind → Asks ks vs s ws ms o
-asks_among ks vs s ws o ns ms x a = record { known = x.known; kind = x.kind; fields = x.fields; numbered = x.numbered; given = x.given; among = a }
 
 -- ---- the fields of each layout
 
@@ -164,68 +148,68 @@ formed_patterns known (r ∷ rs) x = (
 )
 
 -- binders that are held can be looked up
-pub binders_ready : (ks vs s : List ℕ) (b : Binders) (es : List Entry) (rs : List Receiver) (ps : List Parameter) → HeldBinders ks vs s b es rs ps → length vs ≡ length ks → Ready ks vs b
-binders_ready ks vs s b es rs ps x e = record { entries = x.entries.within; receivers = x.receivers.within; long = e }
+pub binders_within : (ks vs : List ℕ) (b : Binders) (es : List Entry) (rs : List Receiver) (ps : List Parameter) → HeldBinders ks vs b es rs ps → length vs ≡ length ks → RowsWithin ks vs b
+binders_within ks vs b es rs ps x e = record { entries = x.entries.within; receivers = x.receivers.within; long = e }
 
 -- binders that are told
-module _ (ks vs s : List ℕ) (b b' : Binders) (e : b ≡ b') where
-  pub ready_as : Ready ks vs b' → Ready ks vs b
-  ready_as x = rw e x
+module _ (ks vs : List ℕ) (b b' : Binders) (e : b ≡ b') where
+  pub within_as : RowsWithin ks vs b' → RowsWithin ks vs b
+  within_as x = rw e x
 
-  pub held_as : (es : List Entry) (rs : List Receiver) (ps : List Parameter) → HeldBinders ks vs s b' es rs ps → HeldBinders ks vs s b es rs ps
+  pub held_as : (es : List Entry) (rs : List Receiver) (ps : List Parameter) → HeldBinders ks vs b' es rs ps → HeldBinders ks vs b es rs ps
   held_as es rs ps x = rw e x
 
-  pub applies_as : (given a : ℕ) (t : Term) (es : List Entry) (rs : List Receiver) (ps : List Parameter) (ts : List Term)
-      → Applies ks vs s b' given a t es rs ps ts → Applies ks vs s b given a t es rs ps ts
-  applies_as given a t es rs ps ts x = rw e x
+  pub applies_as : (l : Parameters) (given a : ℕ) (t : Term) (es : List Entry) (rs : List Receiver) (ps : List Parameter) (ts : List Term)
+      → Applies ks vs b' l given a t es rs ps ts → Applies ks vs b l given a t es rs ps ts
+  applies_as l given a t es rs ps ts x = rw e x
 
 -- ---- each kind: what its fields are, where they are held, and what its answer is
 
 -- orders 9, 10 and 11
-pub record Pair (ks vs : List ℕ) (o : Order) (says : Term → Term → Answer) (w : Answer) : Type 0 where
+pub record Pair (ks vs : List ℕ) (o : FieldSpots) (says : Term → Term → Answer) (w : Answer) : Type 0 where
   pub left : Term
   pub right : Term
   pub answer : w ≡ says left right
   pub both : Two ks vs o.first.place o.second.place left right
 
 -- order 12
-pub record Instance (ks vs s : List ℕ) (o : Order) (w : Answer) : Type 0 where
+pub record Instance (ks vs s : List ℕ) (o : FieldSpots) (w : Answer) : Type 0 where
   pub entries : List Entry
   pub receivers : List Receiver
   pub term : Term
   pub answer : w ≡ outcome (bytes (substitution.instantiate (record { parameters = entries; receivers = receivers }) term))
-  pub binders : HeldBinders ks vs s (for_instance o.first.place o.second.place o.second.end) entries receivers []
+  pub binders : HeldBinders ks vs (for_instance o.first.place o.second.place o.second.end) entries receivers []
   pub held : Held ks vs o.third.place term
   pub formed : Formed term
 
 -- order 13
-pub record Context (ks vs s : List ℕ) (o : Order) (w : Answer) : Type 0 where
+pub record Context (ks vs s : List ℕ) (o : FieldSpots) (w : Answer) : Type 0 where
   pub entries : List Entry
   pub names : List Parameter
   pub term : Term
   pub answer : w ≡ outcome (bytes (substitution.argument_context (record { parameters = entries; receivers = [] }) names term))
-  pub binders : HeldBinders ks vs s (for_context o.first.place o.second.place o.third.place o.third.value) entries [] names
+  pub binders : (l : Parameters) → in_bytes l ≡ parameters s o.third.value o.third.place → HeldBinders ks vs (for_context o.first.place o.second.place l) entries [] names
   pub held : Held ks vs o.fourth.place term
   pub formed : Formed term
 
 -- order 14
-pub record SelfOnly (ks vs s : List ℕ) (o : Order) (w : Answer) : Type 0 where
+pub record SelfOnly (ks vs s : List ℕ) (o : FieldSpots) (w : Answer) : Type 0 where
   pub receiver : Receiver
   pub term : Term
   pub answer : w ≡ outcome (bytes (substitution.with_self receiver.owner receiver.term term))
-  pub binders : HeldBinders ks vs s (for_instance o.first.place o.first.place o.first.end) [] (receiver ∷ []) []
+  pub binders : HeldBinders ks vs (for_instance o.first.place o.first.place o.first.end) [] (receiver ∷ []) []
   pub held : Held ks vs o.second.place term
   pub formed : Formed term
 
 -- order 15
-pub record Questions (ks vs : List ℕ) (o : Order) (w : Answer) : Type 0 where
+pub record Questions (ks vs : List ℕ) (o : FieldSpots) (w : Answer) : Type 0 where
   pub term : Term
   pub answer : w ≡ outcome (seven term)
   pub held : Held ks vs o.first.place term
   pub formed : Formed term
 
 -- order 16
-pub record ResolvedIn (ks vs s : List ℕ) (o : Order) (w : Answer) : Type 0 where
+pub record ResolvedIn (ks vs s : List ℕ) (o : FieldSpots) (w : Answer) : Type 0 where
   pub names : List Parameter
   pub term : Term
   pub answer : w ≡ outcome (bit (is_resolved_in names term) ∷ [])
@@ -235,7 +219,7 @@ pub record ResolvedIn (ks vs s : List ℕ) (o : Order) (w : Answer) : Type 0 whe
   pub formed : Formed term
 
 -- order 17
-pub record Satisfied (ks vs : List ℕ) (o : Order) (w : Answer) : Type 0 where
+pub record Satisfied (ks vs : List ℕ) (o : FieldSpots) (w : Answer) : Type 0 where
   pub has : Parts
   pub needs : Parts
   pub receiver : Term
@@ -247,17 +231,18 @@ pub record Satisfied (ks vs : List ℕ) (o : Order) (w : Answer) : Type 0 where
   pub second_fit : Fit (shape.nominal shape.done) needs
 
 -- order 18
-pub record Family (ks vs s : List ℕ) (o : Order) (w : Answer) : Type 0 where
+pub record Family (ks vs s : List ℕ) (o : FieldSpots) (w : Answer) : Type 0 where
   pub names : List Parameter
   pub term : Term
   pub entries : List Entry
   pub receivers : List Receiver
   pub arguments : List Term
   pub answer : w ≡ outcome (perhaps (apply names term (record { parameters = entries; receivers = receivers }) arguments))
-  pub applies : Applies ks vs s (for_family o.third.place o.fourth.place o.fourth.end o.first.place o.first.value o.fifth.place) o.fifth.value o.second.place term entries receivers names arguments
+  pub applies : (l : Parameters) → l.count ≡ o.first.value → in_bytes l ≡ parameters s o.first.value o.first.place
+      → Applies ks vs (for_family o.third.place o.fourth.place o.fourth.end l o.fifth.place) l o.fifth.value o.second.place term entries receivers names arguments
 
 -- order 19
-pub record Associated (ks vs : List ℕ) (o : Order) (w : Answer) : Type 0 where
+pub record Associated (ks vs : List ℕ) (o : FieldSpots) (w : Answer) : Type 0 where
   pub term : Term
   pub row : Parts
   pub owner : Term
@@ -265,39 +250,39 @@ pub record Associated (ks vs : List ℕ) (o : Order) (w : Answer) : Type 0 where
   pub associates : Associates ks vs o.first.place o.second.place o.third.place term row owner
 
 -- order 20
-pub record Ruling (ks vs : List ℕ) (ws : List Rule) (o : Order) (w : Answer) : Type 0 where
+pub record Ruling (ks vs : List ℕ) (ws : List Rule) (o : FieldSpots) (w : Answer) : Type 0 where
   pub patterns : List Pattern
   pub term : Term
   pub answer : w ≡ settled (normalize (map rule_of patterns) term)
   pub normalises : Normalises ks vs (take o.first.value ws) o.second.place patterns term
   pub enough : o.first.value ≤ length ws
 
-module _ (ks vs s : List ℕ) (ws : List Rule) (o : Order) where
+module _ (ks vs s : List ℕ) (ws : List Rule) (o : FieldSpots) where
   -- a kind whose fields are two terms
-  pair : (says : Term → Term → Answer) (n : ℕ) (k : Row) → row_in table n ≡ some k → o.kind ≡ n → layout k ≡ fields.term ∷ fields.term ∷ []
-      → ((t u : Term) → operation k (tree t ∷ tree u ∷ []) ≡ says t u) → Kind ks vs s ws o (Pair ks vs o says)
+  pair : (says : Term → Term → Answer) (k : Row) → layout k ≡ fields.term ∷ fields.term ∷ []
+      → ((t u : Term) → operation k (tree t ∷ tree u ∷ []) ≡ says t u) → Kind ks vs s ws k o (Pair ks vs o says)
   unfolding FormedFields nth
-  pair says n k at is l answers = kind_of ks vs s ws o _ n k at is (λ known fs x.
+  pair says k l answers = kind_of ks vs s ws k o _ (λ known fs x.
       let f = fits_two_terms fs (rw l at x.fits) in
       let h : HeldFields ks vs s ws o (tree f.0 ∷ tree f.1 ∷ []) = rw f.2 at x.held in
       let g : FormedFields known (tree f.0 ∷ tree f.1 ∷ []) = rw f.2 at x.formed in
       record { left = f.0; right = f.1; answer = ap (operation k) f.2 ∙ answers f.0 f.1; both = record { left = h.first; right = h.second; left_formed = g.0.formed; right_formed = g.1.0.formed } })
 
-  pub conflicts : o.kind ≡ 9 → Kind ks vs s ws o (Pair ks vs o (λ t u. outcome (bit (conflicts_with t u) ∷ [])))
-  unfolding row_in table session_orders operations.operations operation nth term_of layout
-  conflicts is = pair _ 9 operations.conflicts refl is refl (λ t u. refl)
+  pub conflicts : Kind ks vs s ws operations.conflicts o (Pair ks vs o (λ t u. outcome (bit (conflicts_with t u) ∷ [])))
+  unfolding operation nth term_of layout
+  conflicts = pair _ operations.conflicts refl (λ t u. refl)
 
-  pub weakens : o.kind ≡ 10 → Kind ks vs s ws o (Pair ks vs o (λ t u. outcome (bit (can_weaken_to t u) ∷ [])))
-  unfolding row_in table session_orders operations.operations operation nth term_of layout
-  weakens is = pair _ 10 operations.weakens refl is refl (λ t u. refl)
+  pub weakens : Kind ks vs s ws operations.weakens o (Pair ks vs o (λ t u. outcome (bit (can_weaken_to t u) ∷ [])))
+  unfolding operation nth term_of layout
+  weakens = pair _ operations.weakens refl (λ t u. refl)
 
-  pub recovers : o.kind ≡ 11 → Kind ks vs s ws o (Pair ks vs o (λ t u. outcome (bytes (recover_from t u))))
-  unfolding row_in table session_orders operations.operations operation nth term_of layout
-  recovers is = pair _ 11 operations.recover refl is refl (λ t u. refl)
+  pub recovers : Kind ks vs s ws operations.recover o (Pair ks vs o (λ t u. outcome (bytes (recover_from t u))))
+  unfolding operation nth term_of layout
+  recovers = pair _ operations.recover refl (λ t u. refl)
 
-  pub instance : o.kind ≡ 12 → Kind ks vs s ws o (Instance ks vs s o)
-  unfolding row_in table session_orders operations.operations operation nth term_of entries_of receivers_of layout FormedFields parameters
-  instance is = kind_of ks vs s ws o _ 12 operations.instantiate refl is (λ known fs x.
+  pub instance : Kind ks vs s ws operations.instantiate o (Instance ks vs s o)
+  unfolding operation nth term_of entries_of receivers_of layout FormedFields parameters
+  instance = kind_of ks vs s ws operations.instantiate o _ (λ known fs x.
       let f = fits_instance fs x.fits in
       let h : HeldFields ks vs s ws o (entered f.0 ∷ received f.1 ∷ tree f.2 ∷ []) = rw f.3 at x.held in
       let g : FormedFields known (entered f.0 ∷ received f.1 ∷ tree f.2 ∷ []) = rw f.3 at x.formed in
@@ -306,14 +291,14 @@ module _ (ks vs s : List ℕ) (ws : List Rule) (o : Order) where
         receivers = f.1;
         term = f.2;
         answer = ap (operation operations.instantiate) f.3;
-        binders = record { entries = e; receivers = h.second.1; after = 0; parameters = refl };
+        binders = record { entries = e; receivers = h.second.1; parameters = refl };
         held = h.third;
         formed = g.1.1.0.formed;
       })
 
-  pub in_context : o.kind ≡ 13 → Kind ks vs s ws o (Context ks vs s o)
-  unfolding row_in table session_orders operations.operations operation nth term_of entries_of receivers_of parameters_of layout FormedFields contextual receiver_row
-  in_context is = kind_of ks vs s ws o _ 13 operations.argument_context refl is (λ known fs x.
+  pub in_context : Kind ks vs s ws operations.argument_context o (Context ks vs s o)
+  unfolding operation nth term_of entries_of receivers_of parameters_of layout FormedFields contextual receiver_row
+  in_context = kind_of ks vs s ws operations.argument_context o _ (λ known fs x.
       let f = fits_context fs x.fits in
       let h : HeldFields ks vs s ws o (entered f.0 ∷ received f.1 ∷ named f.2 ∷ tree f.3 ∷ []) = rw f.4 at x.held in
       let g : FormedFields known (entered f.0 ∷ received f.1 ∷ named f.2 ∷ tree f.3 ∷ []) = rw f.4 at x.formed in
@@ -322,14 +307,14 @@ module _ (ks vs s : List ℕ) (ws : List Rule) (o : Order) where
         names = f.2;
         term = f.3;
         answer = ap (operation operations.argument_context) f.4;
-        binders = record { entries = e; receivers = no_row ks vs o.second.place e.within; after = h.third.1.0; parameters = h.third.1.1 };
+        binders = λ l z. record { entries = e; receivers = no_row ks vs o.second.place e.within; parameters = (h.third.1.0, z ∙ h.third.1.1) };
         held = h.fourth;
         formed = g.1.1.1.0.formed;
       })
 
-  pub self_only : o.kind ≡ 14 → Kind ks vs s ws o (SelfOnly ks vs s o)
-  unfolding row_in table session_orders operations.operations operation nth term_of receivers_of operations.by_receiver layout FormedFields parameters entry_row
-  self_only is = kind_of ks vs s ws o _ 14 operations.with_self refl is (λ known fs x.
+  pub self_only : Kind ks vs s ws operations.with_self o (SelfOnly ks vs s o)
+  unfolding operation nth term_of receivers_of operations.by_receiver layout FormedFields parameters entry_row
+  self_only = kind_of ks vs s ws operations.with_self o _ (λ known fs x.
       let f = fits_self fs x.fits in
       let h : HeldFields ks vs s ws o (received (f.0 ∷ []) ∷ tree f.1 ∷ []) = rw f.2 at x.held in
       let g : FormedFields known (received (f.0 ∷ []) ∷ tree f.1 ∷ []) = rw f.2 at x.formed in
@@ -337,30 +322,30 @@ module _ (ks vs s : List ℕ) (ws : List Rule) (o : Order) where
         receiver = f.0;
         term = f.1;
         answer = ap (operation operations.with_self) f.2;
-        binders = record { entries = no_row ks vs o.first.place (omega (arith, r.ends, r.within)); receivers = r; after = 0; parameters = refl };
+        binders = record { entries = no_row ks vs o.first.place (omega (arith, r.ends, r.within)); receivers = r; parameters = refl };
         held = h.second;
         formed = g.1.0.formed;
       })
 
-  pub questions : o.kind ≡ 15 → Kind ks vs s ws o (Questions ks vs o)
-  unfolding row_in table session_orders operations.operations operation nth term_of layout FormedFields
-  questions is = kind_of ks vs s ws o _ 15 operations.questions refl is (λ known fs x.
+  pub questions : Kind ks vs s ws operations.questions o (Questions ks vs o)
+  unfolding operation nth term_of layout FormedFields
+  questions = kind_of ks vs s ws operations.questions o _ (λ known fs x.
       let f = fits_one_term fs x.fits in
       let h : HeldFields ks vs s ws o (tree f.0 ∷ []) = rw f.1 at x.held in
       let g : FormedFields known (tree f.0 ∷ []) = rw f.1 at x.formed in
       record { term = f.0; answer = ap (operation operations.questions) f.1; held = h.first; formed = g.0.formed })
 
-  pub resolved_in : o.kind ≡ 16 → Kind ks vs s ws o (ResolvedIn ks vs s o)
-  unfolding row_in table session_orders operations.operations operation nth term_of parameters_of layout FormedFields
-  resolved_in is = kind_of ks vs s ws o _ 16 operations.resolved_in refl is (λ known fs x.
+  pub resolved_in : Kind ks vs s ws operations.resolved_in o (ResolvedIn ks vs s o)
+  unfolding operation nth term_of parameters_of layout FormedFields
+  resolved_in = kind_of ks vs s ws operations.resolved_in o _ (λ known fs x.
       let f = fits_resolved fs x.fits in
       let h : HeldFields ks vs s ws o (named f.0 ∷ tree f.1 ∷ []) = rw f.2 at x.held in
       let g : FormedFields known (named f.0 ∷ tree f.1 ∷ []) = rw f.2 at x.formed in
       record { names = f.0; term = f.1; answer = ap (operation operations.resolved_in) f.2; after = h.first.1.0; read = h.first.1.1; held = h.second; formed = g.1.0.formed })
 
-  pub satisfied : o.kind ≡ 17 → Kind ks vs s ws o (Satisfied ks vs o)
-  unfolding row_in table session_orders operations.operations operation nth term_of row_of bits layout FormedFields
-  satisfied is = kind_of ks vs s ws o _ 17 operations.satisfied refl is (λ known fs x.
+  pub satisfied : Kind ks vs s ws operations.satisfied o (Satisfied ks vs o)
+  unfolding operation nth term_of row_of bits layout FormedFields
+  satisfied = kind_of ks vs s ws operations.satisfied o _ (λ known fs x.
       let f = fits_satisfied fs x.fits in
       let h : HeldFields ks vs s ws o (bare f.0 ∷ bare f.1 ∷ tree f.2 ∷ []) = rw f.3 at x.held in
       let g : FormedFields known (bare f.0 ∷ bare f.1 ∷ tree f.2 ∷ []) = rw f.3 at x.formed in record {
@@ -375,9 +360,9 @@ module _ (ks vs s : List ℕ) (ws : List Rule) (o : Order) where
         second_fit = g.1.0.fit;
       })
 
-  pub family : o.kind ≡ 18 → Kind ks vs s ws o (Family ks vs s o)
-  unfolding row_in table session_orders operations.operations operation nth term_of parameters_of entries_of receivers_of arguments_of layout FormedFields
-  family is = kind_of ks vs s ws o _ 18 operations.family refl is (λ known fs x.
+  pub family : Kind ks vs s ws operations.family o (Family ks vs s o)
+  unfolding operation nth term_of parameters_of entries_of receivers_of arguments_of layout FormedFields
+  family = kind_of ks vs s ws operations.family o _ (λ known fs x.
       let f = fits_family fs x.fits in
       let h : HeldFields ks vs s ws o (named f.0 ∷ tree f.1 ∷ entered f.2 ∷ received f.3 ∷ listed f.4 ∷ []) = rw f.5 at x.held in
       let g : FormedFields known (named f.0 ∷ tree f.1 ∷ entered f.2 ∷ received f.3 ∷ listed f.4 ∷ []) = rw f.5 at x.formed in
@@ -388,21 +373,22 @@ module _ (ks vs s : List ℕ) (ws : List Rule) (o : Order) where
         receivers = f.3;
         arguments = f.4;
         answer = ap (operation operations.family) f.5;
-        applies = record {
+        applies = λ l c z. record {
           held = h.second;
           formed = g.1.0.formed;
-          binders = record { entries = e; receivers = h.fourth.1; after = h.first.1.0; parameters = h.first.1.1 };
+          binders = record { entries = e; receivers = h.fourth.1; parameters = (h.first.1.0, z ∙ h.first.1.1) };
+          from = o.fifth.place;
           end = o.fifth.end;
           arguments = h.fifth.1;
-          plain = refl;
+          family = refl;
           many = h.fifth.0;
-          parameters = h.first.0;
+          parameters = c ∙ h.first.0;
         };
       })
 
-  pub associated : o.kind ≡ 19 → Kind ks vs s ws o (Associated ks vs o)
-  unfolding row_in table session_orders operations.operations operation nth term_of row_of layout FormedFields
-  associated is = kind_of ks vs s ws o _ 19 operations.with_associated_types refl is (λ known fs x.
+  pub associated : Kind ks vs s ws operations.with_associated_types o (Associated ks vs o)
+  unfolding operation nth term_of row_of layout FormedFields
+  associated = kind_of ks vs s ws operations.with_associated_types o _ (λ known fs x.
       let f = fits_associated fs x.fits in
       let h : HeldFields ks vs s ws o (tree f.0 ∷ bare f.1 ∷ tree f.2 ∷ []) = rw f.3 at x.held in
       let g : FormedFields known (tree f.0 ∷ bare f.1 ∷ tree f.2 ∷ []) = rw f.3 at x.formed in record {
@@ -413,9 +399,9 @@ module _ (ks vs s : List ℕ) (ws : List Rule) (o : Order) where
         associates = record { term = h.first; interface = h.second; owns = h.third; term_formed = g.0.formed; interface_fit = g.1.0.fit; owner_formed = g.1.1.0.formed };
       })
 
-  pub ruling : o.kind ≡ 20 → Kind ks vs s ws o (Ruling ks vs ws o)
-  unfolding row_in table session_orders operations.operations operation nth term_of rules_of layout FormedFields
-  ruling is = kind_of ks vs s ws o _ 20 operations.normalise refl is (λ known fs x.
+  pub ruling : Kind ks vs s ws operations.normalise o (Ruling ks vs ws o)
+  unfolding operation nth term_of rules_of layout FormedFields
+  ruling = kind_of ks vs s ws operations.normalise o _ (λ known fs x.
       let f = fits_rules fs x.fits in
       let h : HeldFields ks vs s ws o (ruled f.0 ∷ tree f.1 ∷ []) = rw f.2 at x.held in
       let g : FormedFields known (ruled f.0 ∷ tree f.1 ∷ []) = rw f.2 at x.formed in record {

@@ -1,17 +1,14 @@
 -- An order that answers, on a session: its operation is its answer.
 use mathlib.Core.Path.{◌≡◌, refl}
-use mathlib.Core.Bool.{true}
 use mathlib.Core.List.{List}
-use mathlib.Core.Option.{some}
-use Prim.Native.Nat.{ℕ}
 use Rattle.solver.specs.Session.{Limits, Session}
+use Rattle.sheet.specs.declared.Operation.{Operation}
 use Rattle.sheet.specs.Fields.{Field}
-use Rattle.sheet.specs.OrderTable.{Row, row_in}
 use Rattle.sheet.specs.Operations.{operation}
-use Rattle.sheet.specs.Sheet.{table, step, operate}
-use Rattle.sheet.specs.Words.FieldLayout.{is_operation}
-use Rattle.sheet.proofs.Laws.Reading.OrderTableLaws.{operation_act}
+use Rattle.sheet.specs.Sheet.{step, operate}
+use Rattle.sheet.specs.Words.OrderKinds.{operation_row}
+use Rattle.sheet.proofs.Laws.Reading.OrderKindLaws.{operation_act}
 
-pub operation_step : (lim : Limits) (z : Session) (k : ℕ) (r : Row) (fs : List Field) → row_in table k ≡ some r → true ≡ is_operation (row_in table k) → step lim z r fs ≡ operate lim z fs (operation r fs)
+pub operation_step : (lim : Limits) (z : Session) (k : Operation) (fs : List Field) → step lim z (operation_row k) fs ≡ operate lim z fs (operation (operation_row k) fs)
 unfolding step operation
-operation_step lim z k r fs e h = rw (operation_act k r e h).1 refl
+operation_step lim z k fs = rw (operation_act k).1 refl

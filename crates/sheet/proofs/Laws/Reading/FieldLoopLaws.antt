@@ -10,7 +10,7 @@ use Rattle.solver.specs.Terms.Parser.{Result, got, refused, bind}
 use Rattle.solver.specs.Terms.Tokens.{Area, blank}
 use Rattle.solver.proofs.Terms.Shortest.{Octets}
 use Rattle.sheet.specs.declared.FieldSpot.{FieldSpot}
-use Rattle.sheet.specs.declared.Order.{Order}
+use Rattle.sheet.specs.declared.FieldSpots.{FieldSpots}
 use Rattle.sheet.specs.declared.Sort.{Sort}
 use Rattle.sheet.specs.declared.Sort.TheVariants as sorts
 use Rattle.sheet.specs.Fields as fields
@@ -21,7 +21,7 @@ use Rattle.sheet.proofs.Laws.Reading.FieldLaws.{field_found}
 use Rattle.sheet.proofs.Laws.Reading.SpotLaws.{items_more, nodes_more, spots_none, spots_more}
 
 -- `read` are the fields read so far, the i first of the layout l. d are the areas at the start.
-pub record Through (s : List ℕ) (ws : List Rule) (issued : ℕ) (l : List FieldSort) (p : Place) (d e : Area) (i : ℕ) (o : Order) (q : Place) : Type 0 where
+pub record Through (s : List ℕ) (ws : List Rule) (issued : ℕ) (l : List FieldSort) (p : Place) (d e : Area) (i : ℕ) (o : FieldSpots) (q : Place) : Type 0 where
   pub read : List Field
   pub count : i ≡ length read
   pub layout : IsLayout l
@@ -34,7 +34,7 @@ bind_got : {A : Type 0} (r : Result A) → r ≡ bind r (λ x n. got x n)
 bind_got (got x n) = refl
 bind_got (refused c) = refl
 
-pub through_start : (s : List ℕ) (ws : List Rule) (issued : ℕ) (l : List FieldSort) (p : Place) (d : Area) {o : Order} → IsLayout l → Free p.top d → Ample s p → o ≡ no_fields
+pub through_start : (s : List ℕ) (ws : List Rule) (issued : ℕ) (l : List FieldSort) (p : Place) (d : Area) {o : FieldSpots} → IsLayout l → Free p.top d → Ample s p → o ≡ no_fields
     → Through s ws issued l p d d 0 o p
 unfolding all_items all_nodes
 through_start s ws issued l p d h f a e = rw e (record {
@@ -70,7 +70,7 @@ sort_at f [] i h = absurd (omega arith)
 sort_at f (a ∷ l) zero h = refl
 sort_at f (a ∷ l) (suc i) h = sort_at f l i (omega arith)
 
-module _ {s : List ℕ} (octets : Octets s) {ws : List Rule} (us : List Rule) {issued : ℕ} (f : Sort → FieldSort) (c : List Sort) {p : Place} {d e : Area} {i : ℕ} {o : Order} {q : Place}
+module _ {s : List ℕ} (octets : Octets s) {ws : List Rule} (us : List Rule) {issued : ℕ} (f : Sort → FieldSort) (c : List Sort) {p : Place} {d e : Area} {i : ℕ} {o : FieldSpots} {q : Place}
     (x : Through s ws issued (sorts_by f c) p d e i o q) (h : i < length c) where
   abbrev l : List FieldSort
   l = sorts_by f c
@@ -122,7 +122,7 @@ module _ {s : List ℕ} (octets : Octets s) {ws : List Rule} (us : List Rule) {i
       whole_split ∙ ap (λ (y : Result Field). bind (bind y (λ f n. bind (fields.fields s issued others n) (λ fs m. got (f ∷ fs) m))) (λ gs n. got (x.read ++ gs) n)) y.0
 
 -- the end: nothing is left
-module _ {s : List ℕ} {ws : List Rule} {issued : ℕ} (f : Sort → FieldSort) (c : List Sort) {p : Place} {d e : Area} {i : ℕ} {o : Order} {q : Place} (x : Through s ws issued (sorts_by f c) p d e i o q) where
+module _ {s : List ℕ} {ws : List Rule} {issued : ℕ} (f : Sort → FieldSort) (c : List Sort) {p : Place} {d e : Area} {i : ℕ} {o : FieldSpots} {q : Place} (x : Through s ws issued (sorts_by f c) p d e i o q) where
   pub through_all : length c ≤ i → FieldsHere s ws (fields.fields s issued (sorts_by f c) p.at) p d e o q
   unfolding fields.fields
   through_all h =

@@ -1,5 +1,5 @@
 -- An order: its kind, its fields and nothing after them; and what its reading leaves.
-use mathlib.Core.Path.{◌≡◌, refl, sym, ap, ap₂, subst, ◌∙◌}
+use mathlib.Core.Path.{◌≡◌, refl, sym, ap, subst, ◌∙◌}
 use mathlib.Core.List.{List, [], ◌∷◌}
 use mathlib.Core.Logic.{⊎_elim}
 use mathlib.Core.Option.{Option, none, some}
@@ -8,7 +8,7 @@ use native.Mathlib.Decide.{dec_lt, ℕ_discrete}
 use native.Mathlib.Omega.{arith}
 use borrow.Author.Tests.{lt-ltb, le-ltb}
 use lib.ListN.{length, get_or, drop}
-use Rattle.std.specs.Prelude.{None, Ok}
+use Rattle.std.specs.Prelude.{Ok}
 use Rattle.solver.specs.TermTypes.{Place, Next, Stopped, Rule}
 use Rattle.solver.specs.Terms.Parser.{Result, got, refused, bind, number}
 use Rattle.solver.specs.Terms.Shape as shape
@@ -20,21 +20,22 @@ use Rattle.solver.proofs.Terms.KeepTermLaws.{stored_at}
 use Rattle.solver.proofs.Terms.NumberStepLaws.{one_group, at_byte, at-end}
 use Rattle.solver.proofs.Terms.Shortest.{Octets}
 use Rattle.sheet.specs.declared.FieldSpot.{FieldSpot}
-use Rattle.sheet.specs.declared.Order.{Order}
-use Rattle.sheet.specs.declared.Class.{Class}
+use Rattle.sheet.specs.declared.FieldSpots.{FieldSpots}
+use Rattle.sheet.specs.declared.OrderKind.{OrderKind}
 use Rattle.sheet.specs.declared.Sort.{Sort}
 use Rattle.sheet.specs.declared.Sort.TheVariants as sorts
 use Rattle.sheet.specs.Fields as fields
 use Rattle.sheet.specs.Fields.{Field, FieldSort, ruled, nodes, all_nodes, last, nth}
 use Rattle.sheet.specs.OrderTable.{Row, row_in, layout, known, kinded_order, read_by}
 use Rattle.sheet.specs.Sheet.{table, read_order}
-use Rattle.sheet.specs.Words.FieldLayout.{row_words, RowIs, sorts_of, known_for, sort_of, plain_of, Plain, Plains, field_items, all_items, Ample, IsLayout, Spots, finished_order, FieldsHere, FieldDone, RulesDone, Spotted, Unread}
+use Rattle.sheet.specs.Words.FieldLayout.{sort_of, plain_of, Plain, Plains, field_items, all_items, Ample, IsLayout, FieldsHere, FieldDone, RulesDone, Spotted, Unread}
 use Rattle.sheet.specs.Words.FieldsContract.{NumberRead}
+use Rattle.sheet.specs.Words.OrderKinds.{kind_row}
 use Rattle.sheet.specs.Words.OrderReaderContract.{OrderRoom, WholeOrder}
 use Rattle.sheet.proofs.Laws.Reading.StoredLaws.{stored_kinds, stored_before, stored_undo}
 use Rattle.sheet.proofs.Laws.Reading.FieldLaws.{parts_of, same_value, rules_found, fields_found}
-use Rattle.sheet.proofs.Laws.Reading.OrderTableLaws.{row_of, known_class, layout_short, layout_leading, layout_plain, layout_ruled, spares_few}
-use Rattle.sheet.proofs.Laws.Reading.SpotLaws.{RulesFit, plain_fit, rules_room, fields_followed, spots_held, spot_kept}
+use Rattle.sheet.proofs.Laws.Reading.OrderTableLaws.{layout_short, layout_leading, layout_plain, layout_ruled, spares_few}
+use Rattle.sheet.proofs.Laws.Reading.SpotLaws.{RulesFit, plain_fit, rules_room, fields_followed, spots_held}
 use Rattle.sheet.proofs.Laws.Reading.FitLaws.{fields_fit}
 
 -- ---- a field of any sort
@@ -103,10 +104,8 @@ not_plain a e h = absurd (rw e at h)
 -- ---- the fields of a kind
 
 -- a row of the table is a layout
-pub row_layout : (k : ℕ) {c : Class} (l : List Sort) → RowIs k c l → IsLayout (sorts_of l)
-row_layout k {c} l h =
-    let x = row_of k c l h in
-    rw x.3 (record { few = layout_short k x.0 x.1; leading = layout_leading k x.0 x.1 })
+pub row_layout : (k : ℕ) (r : Row) → row_in table k ≡ some r → (l : List FieldSort) → l ≡ layout r → IsLayout l
+row_layout k r h l e = rw e (record { few = layout_short k r h; leading = layout_leading k r h })
 
 -- ---- the whole order
 
@@ -120,100 +119,90 @@ module _ (s : List ℕ) (issued : ℕ) where
     unfolding read_order read_by
     order_row o h = rw (lt-ltb 0 (length s) some_bytes, h)
 
-    pub order_unlisted : row_words (row_in table (get_or s 0 0)) ≡ None → read_order s issued ≡ refused 2
+    pub order_unlisted : row_in table (get_or s 0 0) ≡ none → read_order s issued ≡ refused 2
     unfolding kinded_order
-    order_unlisted h = go (row_in table (get_or s 0 0)) refl h
-      where
-        go : (o : Option Row) → row_in table (get_or s 0 0) ≡ o → row_words o ≡ None → read_order s issued ≡ refused 2
-        go none e h = order_row none e
-        go (some r) e h = let z : ◌≡◌ {A = ℕ} 0 1 = cc in absurd (omega arith)
+    order_unlisted h = order_row none h
 
-    module _ {k : ℕ} (e : k ≡ get_or s 0 0) {c : Class} (n : List Sort) (is : RowIs k c n) where
+    module _ (kind : OrderKind) (listed : row_in table (get_or s 0 0) ≡ some (kind_row kind)) {l : List FieldSort} (is : l ≡ layout (kind_row kind)) where
       abbrev r : Row
-      r = (row_of k c n is).0
-
-      listed : row_in table k ≡ some r
-      listed = (row_of k c n is).1
+      r = kind_row kind
 
       -- the fields of the kind
-      fields_are : fields.fields s (known_for c issued) (sorts_of n) 1 ≡ fields.fields s (known r issued) (layout r) 1
-      fields_are =
-          ap₂ (λ (m : ℕ) (l : List FieldSort). fields.fields s m l 1) (ap (λ (d : Class). known_for d issued) (row_of k c n is).2 ∙ sym (known_class r issued)) (row_of k c n is).3
+      fields_are : fields.fields s (known r issued) l 1 ≡ fields.fields s (known r issued) (layout r) 1
+      fields_are = ap (λ (l : List FieldSort). fields.fields s (known r issued) l 1) is
 
-      order_is : read_order s issued ≡ bind (fields.fields s (known_for c issued) (sorts_of n) 1) (λ fs. last s (record { kind = r; fields = fs }))
+      order_is : read_order s issued ≡ bind (fields.fields s (known r issued) l 1) (λ fs. last s (record { kind = r; fields = fs }))
       unfolding kinded_order
-      order_is = order_row (some r) (rw (← e) listed) ∙ ap (λ (x : Result (List Field)). bind x (λ fs. last s (record { kind = r; fields = fs }))) (sym fields_are)
+      order_is = order_row (some r) listed ∙ ap (λ (x : Result (List Field)). bind x (λ fs. last s (record { kind = r; fields = fs }))) (sym fields_are)
 
-      pub order_refused : {a : ℕ} → fields.fields s (known_for c issued) (sorts_of n) 1 ≡ refused a → read_order s issued ≡ refused a
+      pub order_refused : {a : ℕ} → fields.fields s (known r issued) l 1 ≡ refused a → read_order s issued ≡ refused a
       order_refused h =
           order_is ∙ ap (λ (x : Result (List Field)). bind x (λ fs. last s (record { kind = r; fields = fs }))) h
 
-      after : (fs : List Field) (m : ℕ) → fields.fields s (known_for c issued) (sorts_of n) 1 ≡ got fs m → read_order s issued ≡ last s (record { kind = r; fields = fs }) m
+      after : (fs : List Field) (m : ℕ) → fields.fields s (known r issued) l 1 ≡ got fs m → read_order s issued ≡ last s (record { kind = r; fields = fs }) m
       after fs m h = order_is ∙ ap (λ (x : Result (List Field)). bind x (λ fs. last s (record { kind = r; fields = fs }))) h
 
-      pub order_longer : {fs : List Field} {m : ℕ} → fields.fields s (known_for c issued) (sorts_of n) 1 ≡ got fs m → m < length s → read_order s issued ≡ refused 1
-      order_longer {fs} {m} h l = after fs m h ∙ rw (lt-ltb m (length s) l)
+      pub order_longer : {fs : List Field} {m : ℕ} → fields.fields s (known r issued) l 1 ≡ got fs m → m < length s → read_order s issued ≡ refused 1
+      order_longer {fs} {m} h lt = after fs m h ∙ rw (lt-ltb m (length s) lt)
 
-      order_whole : (fs : List Field) (m : ℕ) → fields.fields s (known_for c issued) (sorts_of n) 1 ≡ got fs m → length s ≤ m → read_order s issued ≡ got (record { kind = r; fields = fs }) m
-      order_whole fs m h l = after fs m h ∙ rw (le-ltb m (length s) l)
+      order_whole : (fs : List Field) (m : ℕ) → fields.fields s (known r issued) l 1 ≡ got fs m → length s ≤ m → read_order s issued ≡ got (record { kind = r; fields = fs }) m
+      order_whole fs m h le = after fs m h ∙ rw (le-ltb m (length s) le)
 
       -- an order that is whole
-      module _ (octets : Octets s) {us : List Rule} (ws : List Rule) {top kept limit : ℕ} (d e' : Area) (room : OrderRoom s d.kinds d.vals us top kept limit) (long : length ws ≡ length us) (o : Order) (q : Place) where
+      module _ (octets : Octets s) {us : List Rule} (ws : List Rule) {top kept limit : ℕ} (d e' : Area) (room : OrderRoom s d.kinds d.vals us top kept limit) (long : length ws ≡ length us) (o : FieldSpots) (q : Place) where
         abbrev start : Place
         start = record { at = 1; top = top; nodes = kept; limit = limit }
 
         -- only order 20 has rules, and for those there is room
         rules_held : (fs : List Field) (m : ℕ) → fields.fields s (known r issued) (layout r) 1 ≡ got fs m → kept + all_nodes fs ≤ limit → (i : ℕ) → RulesFit ws (nth i fs)
         unfolding Plains Plain
-        rules_held fs m found h = go (ℕ_discrete k 20)
+        rules_held fs m found h = go (ℕ_discrete (get_or s 0 0) 20)
           where
-            go : Dec (k ≡ 20) → (i : ℕ) → RulesFit ws (nth i fs)
-            go (no l) = plain_fit ws (layout r) fs (layout_plain k r listed l) (fields_fit s (known r issued) (layout r) 1 fs m found)
+            go : Dec (get_or s 0 0 ≡ 20) → (i : ℕ) → RulesFit ws (nth i fs)
+            go (no l) = plain_fit ws (layout r) fs (layout_plain _ r listed l) (fields_fit s (known r issued) (layout r) 1 fs m found)
             go (yes l) =
-                let told = rw (layout_ruled k r listed l) at found in
-                ⊎_elim (λ w. rules_room ws fs (omega arith)) (λ w. rules_few s octets (known r issued) ws (fields.term ∷ []) (tt, tt) 1 fs m told w.0 (omega arith)) (room.rules (sym e ∙ l))
+                let told = rw (layout_ruled _ r listed l) at found in
+                ⊎_elim (λ w. rules_room ws fs (omega arith)) (λ w. rules_few s octets (known r issued) ws (fields.term ∷ []) (tt, tt) 1 fs m told w.0 (omega arith)) (room.rules l)
 
-        pub order_done : FieldsHere s ws (fields.fields s (known_for c issued) (sorts_of n) 1) start d e' o q → length s ≤ q.at
-            → WholeOrder s issued top kept limit d e' ws (finished_order o k q.top q.nodes)
-        order_done x l =
+        pub order_done : FieldsHere s ws (fields.fields s (known r issued) l 1) start d e' o q → length s ≤ q.at
+            → WholeOrder s issued top kept limit d e' ws (record { kind = kind; fields = o; top = q.top; nodes = q.nodes })
+        order_done x le =
             let fs = x.read in
             let found = sym fields_are ∙ x.is in
             let stored = x.stored in
-            let u = finished_order o k q.top q.nodes in
-            let spots : Spots s ws top u fs = λ i h. rw (spot_kept i o u refl refl refl refl refl) (x.spots i h) in
             let good = fields_found s octets (known r issued) (layout r) 1 fs q.at found in
             let items = good.room in
             let fit = fields_fit s (known r issued) (layout r) 1 fs q.at found in
-            let few = spares_few k r listed in
-            let fits : u.nodes ≤ limit → top + length (all_items fs) ≤ length d.kinds = λ h. omega (arith, stored.counts, room.tokens, room.within) in
-            let run : u.nodes ≤ limit → toks e'.kinds e'.vals top (length (all_items fs)) ≡ all_items fs = λ h.
+            let few = spares_few _ r listed in
+            let fits : q.nodes ≤ limit → top + length (all_items fs) ≤ length d.kinds = λ h. omega (arith, stored.counts, room.tokens, room.within) in
+            let run : q.nodes ≤ limit → toks e'.kinds e'.vals top (length (all_items fs)) ≡ all_items fs = λ h.
             rw (stored.whole (omega arith)) (stored_at (all_items fs) d top (fits h) (omega (arith, fits h, room.paired)))
             in
             let kindsLong = stored_kinds start q d e' (all_items fs) (all_nodes fs) stored in
             record {
-              read = record { kind = r; fields = fs };
+              numbered = listed;
+              said = fs;
               next = q.at;
-              is = order_whole fs q.at x.is l;
-              kind = listed;
+              is = order_whole fs q.at x.is le;
               formed = good.formed;
               counts = omega (arith, stored.counts);
               tokens = omega (arith, stored.tokens);
               small = omega (arith, stored.tokens, good.tokens, room.bytes, room.tokens, room.short);
-              held = λ h. spots_held e'.kinds e'.vals s ws top u fs spots (rules_held fs q.at found (omega (arith, stored.counts, room.within))) (fields_followed k r listed fs fit) (run h) (omega (arith, fits h));
+              held = λ h. spots_held e'.kinds e'.vals s ws top o fs x.spots (rules_held fs q.at found (omega (arith, stored.counts, room.within))) (fields_followed _ r listed fs fit) (run h) (omega (arith, fits h));
               fitting = fit;
               found = found;
-              spots = spots;
+              spots = x.spots;
               room = good.room;
               stored = λ h. stored.whole (omega arith);
               run = run;
               fits = λ h. omega (arith, fits h, stored.tokens);
               same = stored_before start q d e' (all_items fs) (all_nodes fs) stored;
               free = stored.free;
-              cleared = stored_undo start q d room.free e' (all_items fs) (all_nodes fs) (u.top - top) stored (omega arith);
+              cleared = stored_undo start q d room.free e' (all_items fs) (all_nodes fs) (q.top - top) stored (omega arith);
             }
 
 -- what is known below, told another way
-pub here_as : {s : List ℕ} {ws : List Rule} {n m : ℕ} (l : List FieldSort) (at : ℕ) {p : Place} {d e : Area} {o : Order} {q : Place} → n ≡ m → FieldsHere s ws (fields.fields s n l at) p d e o q → FieldsHere s ws (fields.fields s m l at) p d e o q
+pub here_as : {s : List ℕ} {ws : List Rule} {n m : ℕ} (l : List FieldSort) (at : ℕ) {p : Place} {d e : Area} {o : FieldSpots} {q : Place} → n ≡ m → FieldsHere s ws (fields.fields s n l at) p d e o q → FieldsHere s ws (fields.fields s m l at) p d e o q
 here_as l at h x = rw (← h) x
 
 -- the place where an order's fields begin

@@ -1,7 +1,6 @@
 -- One field: what is read and kept of it, and its spot.
 use mathlib.Core.Path.{◌≡◌, refl, sym, ap, subst, ◌∙◌}
 use mathlib.Core.List.{List}
-use mathlib.Core.Bool.{Bool, true, false}
 use mathlib.Core.Logic.{◌⊎◌, inl, inr}
 use Prim.Native.Nat.{ℕ, zero, suc, ◌+◌, ◌*◌, ◌≤◌, ◌<◌}
 use native.Mathlib.Omega.{arith}
@@ -9,7 +8,8 @@ use borrow.Author.Tests.{lt-ltb, le-ltb}
 use lib.ListN.{length, get_or}
 use Rattle.std.specs.Prelude.{⊤, Ok, Err}
 use Rattle.std.specs.declared.result.Result as rust
-use Rattle.solver.specs.TermTypes.{Place, Refusal, Step, Parameter, Rule}
+use Rattle.solver.specs.TermTypes as kinds
+use Rattle.solver.specs.TermTypes.{PartKind, Place, Refusal, Step, Parameter, Rule}
 use Rattle.solver.specs.Terms.Outcomes.{step_of}
 use Rattle.solver.specs.Terms.ListsContract.{ListKept}
 use Rattle.solver.specs.Terms.Parser.{Result, Parser, got, refused, bind, number}
@@ -89,11 +89,11 @@ module _ (s : List ℕ) (ws : List Rule) (issued : ℕ) (p : Place) (d e : Area)
       go (got ps m) er ee = let q = rw er at room in rw er (bare ps, refl, stored_kept p _ d f e (items (node 20 ps)) (sizes ps) refl refl refl ee, q.inside, refl)
       go (refused c) er ee = rw er (refl, ee ∙ f _)
 
-  -- a term or a nominal, told by the flag
-  pub either_part : (a : Sort) (b : Bool) → (a ≡ sorts.Term) ⊎ (a ≡ sorts.Nominal) → (a ≡ sorts.Term → b ≡ false) → (a ≡ sorts.Nominal → b ≡ true)
+  -- a term or a nominal, as the reader was asked
+  pub either_part : (a : Sort) (b : PartKind) → ((a ≡ sorts.Term) × (b ≡ kinds.Term)) ⊎ ((a ≡ sorts.Nominal) × (b ≡ kinds.BareNominal))
       → r ≡ answer p (part b s issued levels p.at) (nodes_of b) → e ≡ kept s p (part b s issued levels p.at) (nodes_of b) d → PartDone s ws n (part_of s issued a n p.at) p d e r
-  either_part a b (inl x) f g er ee = let z = f x in rw x (term_part (rw z at er) (rw z at ee))
-  either_part a b (inr x) f g er ee = let z = g x in rw x (nominal_part (rw z at er) (rw z at ee))
+  either_part a b (inl x) er ee = rw x.0 (term_part (rw x.1 at er) (rw x.1 at ee))
+  either_part a b (inr x) er ee = rw x.0 (nominal_part (rw x.1 at er) (rw x.1 at ee))
 
   entries_part : r ≡ answer_of entry_row p (rows.entries s (reading.term s issued levels) n p.at) → e ≡ kept_of entry_row s p (rows.entries s (reading.term s issued levels) n p.at) d
       → PartDone s ws n (part_of s issued sorts.Entries n p.at) p d e r

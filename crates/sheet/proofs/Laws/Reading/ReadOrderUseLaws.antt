@@ -80,8 +80,8 @@ module _ (s : List ℕ) (issued top kept limit : ℕ) (d e : Area) (ws : List Ru
 
 module _ (s : List ℕ) (issued top kept limit : ℕ) (d e : Area) (ws : List Rule) (o : Order) (x : WholeOrder s issued top kept limit d e ws o) (h : o.nodes ≤ limit) where
   -- two terms after a number: order 4
-  pub pair_row : (n : ℕ) (t u : Term) → x.read.fields ≡ value n ∷ tree t ∷ tree u ∷ [] → HeldParts e.kinds e.vals top o.top (sub t (sub u end))
+  pub pair_row : (n : ℕ) (t u : Term) → x.said ≡ value n ∷ tree t ∷ tree u ∷ [] → HeldParts e.kinds e.vals top o.top (sub t (sub u end))
   unfolding all_items field_items items
   pair_row n t u is =
-      let same : all_items x.read.fields ≡ items t ++ (items u ++ []) = ap all_items is in
+      let same : all_items x.said ≡ items t ++ (items u ++ []) = ap all_items is in
       record { tokens = rw same at (x.run h); ends = sym (rw same at x.tokens); within = x.fits h }

@@ -17,7 +17,7 @@ use Rattle.solver.specs.Terms.Rows.{argument_row}
 use Rattle.solver.specs.Terms.Lookup.{Pattern}
 use Rattle.solver.proofs.Terms.HeldLaws.{items_some}
 use Rattle.solver.proofs.Terms.Shortest.{Octets}
-use Rattle.sheet.specs.declared.Order.{Order}
+use Rattle.sheet.specs.declared.FieldSpots.{FieldSpots}
 use Rattle.sheet.specs.Fields as fields
 use Rattle.sheet.specs.Fields.{Field, value, tree, bare, listed, levels, nodes, all_nodes, rule_nodes, nth}
 use Rattle.sheet.specs.Words.FieldsFormed.{FormedFields}
@@ -82,7 +82,7 @@ same_rule : (a b : Rule) → a.interface ≡ b.interface → a.receiver ≡ b.re
 same_rule a b i r m l c v = let e : record { interface = a.interface; receiver = a.receiver; member = a.member; arguments = a.arguments; count = a.count; value = a.value } ≡ b = rw (i, r, m, l, c, v) in e
 
 -- what was read of a rule
-pub record RuleHere (s : List ℕ) (issued : ℕ) (p : Place) (d e : Area) (o : Order) (q : Place) : Type 0 where
+pub record RuleHere (s : List ℕ) (issued : ℕ) (p : Place) (d e : Area) (o : FieldSpots) (q : Place) : Type 0 where
   pub rule : Pattern
   pub found : fields.rule s issued p.at ≡ got rule q.at
   pub stored : Stored p q d e (all_items (rule_fields rule)) (all_nodes (rule_fields rule))
@@ -91,7 +91,7 @@ pub record RuleHere (s : List ℕ) (issued : ℕ) (p : Place) (d e : Area) (o : 
   pub fits : WordsFit o
 
 module _ {s : List ℕ} (ws : List Rule) (octets : Octets s) {issued : ℕ} {p : Place} {d e : Area} (ample : Ample s p) where
-  rule_made : (x : Pattern) (o : Order) (q : Place) → fields.fields s issued rule_sorts p.at ≡ got (rule_fields x) q.at → fields.rule s issued p.at ≡ got x q.at
+  rule_made : (x : Pattern) (o : FieldSpots) (q : Place) → fields.fields s issued rule_sorts p.at ≡ got (rule_fields x) q.at → fields.rule s issued p.at ≡ got x q.at
       → Stored p q d e (all_items (rule_fields x)) (all_nodes (rule_fields x)) → Spots s ws p.top o (rule_fields x) → q.at ≤ length s → RuleHere s issued p d e o q
   unfolding spot_at nth start_at field_items all_items FormedFields
   rule_made x o q read found st sp inside =
@@ -130,7 +130,7 @@ module _ {s : List ℕ} (ws : List Rule) (octets : Octets s) {issued : ℕ} {p :
         };
       }
 
-  pub rule_here : {o : Order} {q : Place} → FieldsHere s ws (fields.fields s issued rule_sorts p.at) p d e o q → RuleHere s issued p d e o q
+  pub rule_here : {o : FieldSpots} {q : Place} → FieldsHere s ws (fields.fields s issued rule_sorts p.at) p d e o q → RuleHere s issued p d e o q
   rule_here {o} {q} z =
       let y = parts_of (fields.rule s issued p.at) (λ x m. got (rule_fields x) m) z.read q.at (sym (rule_read s issued p.at) ∙ z.is) in
       go y.0 y.1 y.2 (same_value y.3) (same_next y.3)

@@ -18,7 +18,7 @@ use Rattle.solver.proofs.Terms.Bools.{never_true}
 use Rattle.solver.proofs.Terms.KindTableLaws.{both_true}
 use Rattle.solver.specs.TermTypes.{Rule}
 use Rattle.sheet.specs.declared.FieldSpot.{FieldSpot}
-use Rattle.sheet.specs.declared.Order.{Order}
+use Rattle.sheet.specs.declared.FieldSpots.{FieldSpots}
 use Rattle.sheet.specs.Fields as fields
 use Rattle.sheet.specs.Fields.{FieldSort, Field, value, bounded, tree, bare, entered, received, named, listed, ruled, nodes, all_nodes, rule_nodes, nth}
 use Rattle.sheet.specs.OrderTable.{Row, session_orders, row_in, layout}
@@ -31,7 +31,7 @@ use Rattle.sheet.proofs.Laws.Reading.OrderTableLaws.{all, every_row}
 
 -- ---- one field more
 
-spot_same : (i : ℕ) (x : FieldSpot) (o : Order) → i < 5 → spot_at i (put_spot i x o) ≡ x
+spot_same : (i : ℕ) (x : FieldSpot) (o : FieldSpots) → i < 5 → spot_at i (put_spot i x o) ≡ x
 unfolding spot_at
 spot_same zero x o h = refl
 spot_same (suc zero) x o h = refl
@@ -40,7 +40,7 @@ spot_same (suc (suc (suc zero))) x o h = refl
 spot_same (suc (suc (suc (suc zero)))) x o h = refl
 spot_same (suc (suc (suc (suc (suc i))))) x o h = absurd (omega arith)
 
-spot_other : (j i : ℕ) (x : FieldSpot) (o : Order) → j < 5 → (i ≡ j → ⊥) → spot_at j (put_spot i x o) ≡ spot_at j o
+spot_other : (j i : ℕ) (x : FieldSpot) (o : FieldSpots) → j < 5 → (i ≡ j → ⊥) → spot_at j (put_spot i x o) ≡ spot_at j o
 unfolding spot_at
 spot_other zero i x o h n = rw (ne_eqb i 0 n)
 spot_other (suc zero) i x o h n = rw (ne_eqb i 1 n)
@@ -100,8 +100,8 @@ spots_none s ws a (suc (suc zero)) h = refl
 spots_none s ws a (suc (suc (suc zero))) h = refl
 spots_none s ws a (suc (suc (suc (suc i)))) h = refl
 
--- one field more, at the next spot; the rules may change where it is the first
-pub spots_more : (s : List ℕ) (ws us : List Rule) (a : ℕ) (o : Order) (fs : List Field) (i : ℕ) (x : FieldSpot) (f : Field) → i ≡ length fs → i < 5 → (0 < i → us ≡ ws)
+-- one field more, at the next spot; the words may change where it is the first
+pub spots_more : (s : List ℕ) (ws us : List Rule) (a : ℕ) (o : FieldSpots) (fs : List Field) (i : ℕ) (x : FieldSpot) (f : Field) → i ≡ length fs → i < 5 → (0 < i → us ≡ ws)
     → Spots s ws a o fs → SpotOf s us (a + length (all_items fs)) x f → Spots s us a (put_spot i x o) (fs ++ (f ∷ []))
 spots_more s ws us a o fs i x f e h w y l j k = go (dec_lt j i) (dec_lt i j)
   where
@@ -117,15 +117,6 @@ spots_more s ws us a o fs i x f e h w y l j k = go (dec_lt j i) (dec_lt i j)
         let q : j ≡ length fs = omega arith in
         let r : i ≡ j = omega arith in
         rw (r, spot_same j x o k, q, nth_last fs f, start_last fs f a) l
-
--- spots do not tell the kind, the end and the nodes
-pub spot_kept : (i : ℕ) (o u : Order) → u.first ≡ o.first → u.second ≡ o.second → u.third ≡ o.third → u.fourth ≡ o.fourth → u.fifth ≡ o.fifth → spot_at i u ≡ spot_at i o
-unfolding spot_at
-spot_kept zero o u a b c d e = a
-spot_kept (suc zero) o u a b c d e = b
-spot_kept (suc (suc zero)) o u a b c d e = c
-spot_kept (suc (suc (suc zero))) o u a b c d e = d
-spot_kept (suc (suc (suc (suc i)))) o u a b c d e = e
 
 -- ---- held
 
@@ -375,7 +366,7 @@ plain_fit ws (a ∷ l) (f ∷ fs) p h (suc i) = plain_fit ws l fs p.1 h.1 i
 pub rules_room : (ws : List Rule) (fs : List Field) → all_nodes fs ≤ 2 * length ws → (i : ℕ) → RulesFit ws (nth i fs)
 rules_room ws fs h i = rules_fit ws (nth i fs) (omega (arith, nth_nodes fs i))
 
-pub spots_held : (ks vs s : List ℕ) (ws : List Rule) (a : ℕ) (o : Order) (fs : List Field) → Spots s ws a o fs → ((i : ℕ) → RulesFit ws (nth i fs)) → ((i : ℕ) → FollowedBy (nth i fs) (nth (suc i) fs))
+pub spots_held : (ks vs s : List ℕ) (ws : List Rule) (a : ℕ) (o : FieldSpots) (fs : List Field) → Spots s ws a o fs → ((i : ℕ) → RulesFit ws (nth i fs)) → ((i : ℕ) → FollowedBy (nth i fs) (nth (suc i) fs))
     → toks ks vs a (length (all_items fs)) ≡ all_items fs → a + length (all_items fs) ≤ length ks → HeldFields ks vs s ws o fs
 unfolding spot_at
 spots_held ks vs s ws a o fs y r n t w =

@@ -10,22 +10,22 @@ returns-then-n-o c =
     let n = ap (λ (x : Standing). x.nodes) c.standing-n.ensures in
     λ a₀ b₀ T. crowded T (omega (arith, n, c.if-n-o.true)) _ _ c.write_refusal-next.ensures
 
-pub returns-then-k-eq3 : goal.returns-then-k-eq3
-returns-then-k-eq3 c =
+pub returns-in-DeferNever : goal.returns-in-DeferNever
+returns-in-DeferNever c =
     let a = c.args in
     λ a₀ b₀ T. c.defer_order.ensures a.s.now a₀ b₀ a.d.now a.rules.now T
 
-pub returns-in-Some : goal.returns-in-Some
-returns-in-Some c =
+pub returns-in-Constrain : goal.returns-in-Constrain
+returns-in-Constrain c =
     let a = c.args in
     λ a₀ b₀ T. c.pair_order.ensures a.s.now a₀ b₀ a.rules.now T
 
-pub returns-then-k-eq5 : goal.returns-then-k-eq5
-returns-then-k-eq5 c =
+pub returns-in-Resolve : goal.returns-in-Resolve
+returns-in-Resolve c =
     let a = c.args in
     λ a₀ b₀ T. c.resolve_order.ensures a.s.now a₀ b₀ a.rules.now T
 
-pub returns : goal.returns
-returns c =
+pub returns-in-Termless : goal.returns-in-Termless
+returns-in-Termless c =
     let a = c.args in
     λ a₀ b₀ T. c.plain_order.ensures a.s.now a₀ b₀ a.rules.now T

@@ -1,42 +1,30 @@
--- `applied`: a 0, or the term after a 1.
-use mathlib.Core.Path.{sym, ap, ◌∙◌}
+-- `applied`: counted first, then written after a 1.
 use native.Mathlib.Omega.{arith}
-use Rattle.solver.specs.Terms.Term.{bytes}
-use Rattle.sheet.specs.OrderTable.{outcome}
 use Rattle.solver.proofs.Terms.Bools.{never_true}
 use Rattle.solver.proofs.Terms.RewriteLaws.{counted_term}
-use Rattle.sheet.proofs.Laws.Answering.AnswerLaws.{frame_as, apply_none, apply_some, perhaps_some, one_over, one_in}
+use Rattle.sheet.proofs.Laws.Answering.AnswerLaws.{rewrites_one, rewrites_two, one_over, one_in}
 use Rattle.sheet.proofs.operations.applied.Goals as goal
-
-pub returns-then-b-given : goal.returns-then-b-given
-returns-then-b-given c =
-    λ t es rs ps ts x.
-    frame_as _ _ (ap outcome (sym (apply_none ps t es rs ts (λ h. c.if-b-given.true (x.parameters ∙ sym h ∙ sym x.many))))) _ _ _ _ c.write_byte_answer.ensures
 
 pub write_term-size-requires-clause-space : goal.write_term-size-requires-clause-space
 write_term-size-requires-clause-space c =
-    let p = c.requires in
     let a = c.args in
-    let n = counted_term a.tokens.now.kinds.now a.tokens.now.vals.now (λ i. omega (arith, c.args.tokens.now.narrow.fits i)) a.s.now a.b p.ready a.from p.place (omega (arith, p.areas)) in
+    let r = a.rewriter.now in
+    let n = counted_term r.tokens.kinds.now r.tokens.vals.now (λ i. omega (arith, r.tokens.narrow.fits i)) r.binders r.within a.from c.requires.place (omega (arith, c.requires.few)) in
     record { counts = omega (arith, n); fits = λ h. never_true h }
 
 pub overflow_add-size : goal.overflow_add-size
 overflow_add-size c =
-    let p = c.requires in
     let a = c.args in
-    let n = counted_term a.tokens.now.kinds.now a.tokens.now.vals.now (λ i. omega (arith, c.args.tokens.now.narrow.fits i)) a.s.now a.b p.ready a.from p.place (omega (arith, p.areas)) in
+    let r = a.rewriter.now in
+    let n = counted_term r.tokens.kinds.now r.tokens.vals.now (λ i. omega (arith, r.tokens.narrow.fits i)) r.binders r.within a.from c.requires.place (omega (arith, c.requires.few)) in
     omega (arith, n, c.write_term-size.ensures.words.next)
 
 pub returns-in_err-at : goal.returns-in_err-at
 returns-in_err-at c =
-    λ t es rs ps ts x.
     let a = c.args in
-    let q = apply_some ps t es rs ts (sym x.many ∙ sym c.if-b-given.false ∙ x.parameters) in
-    rw c.from_residual.ensures (frame_as _ _ (perhaps_some ps t es rs ts q.0 q.1) _ _ _ _ (one_over a.out.now _ _ a.to _ (bytes q.0) (c.write_term-size.ensures.trees.applied t es rs ps ts x.end q.0 x.formed x.held x.binders x.arguments x.plain q.1) c.in_err-at.ensures))
+    rw c.from_residual.ensures (rewrites_one _ _ a.rewriter.now.binders a.from _ _ (λ x w. one_over a.out.now _ _ a.to _ x w c.in_err-at.ensures) c.write_term-size.ensures.trees)
 
 pub returns : goal.returns
 returns c =
-    λ t es rs ps ts x.
     let a = c.args in
-    let q = apply_some ps t es rs ts (sym x.many ∙ sym c.if-b-given.false ∙ x.parameters) in
-    frame_as _ _ (perhaps_some ps t es rs ts q.0 q.1) _ _ _ _ (one_in a.out.now _ _ a.to _ (bytes q.0) (c.write_term-size.ensures.trees.applied t es rs ps ts x.end q.0 x.formed x.held x.binders x.arguments x.plain q.1) _ c.in_ok-at.ensures _ _ (c.write_term.ensures.trees.applied t es rs ps ts x.end q.0 x.formed x.held x.binders x.arguments x.plain q.1))
+    rewrites_two _ _ a.rewriter.now.binders a.from _ _ _ (λ x u w. one_in a.out.now _ _ a.to _ x u _ c.in_ok-at.ensures _ _ w) c.write_term-size.ensures.trees c.write_term.ensures.trees

@@ -6,11 +6,13 @@ use Rattle.sheet.specs.Operations.{bit, bits}
 use Rattle.solver.specs.Terms.Questions.{answered, number_of_question}
 use Rattle.solver.specs.TermTypes.{Question}
 use Rattle.sheet.proofs.Laws.Answering.AnswerLaws.{frame_as, maps_all}
+use Rattle.sheet.proofs.Laws.Answering.OperationFieldLaws.{questions}
 use Rattle.sheet.proofs.operations.asked.Goals as goal
 
 pub returns : goal.returns
 unfolding bits
 returns c =
-    λ t h f.
-    let e = maps_all _ _ _ c.map-v.result c.map-v.ensures.items (λ (q : Question). bit (answered (number_of_question q) t)) (λ q b u k. let x = k.met in (search rules, search rules)) in
-    frame_as _ _ (ap outcome e) _ _ _ _ c.write_bytes_answer.ensures
+    λ ws.
+    (questions _ _ _ ws _).replied _ (λ w x.
+    let e = maps_all _ _ _ c.map-v.result c.map-v.ensures.items (λ (q : Question). bit (answered (number_of_question q) x.term)) (λ q b u k. let h = k.met in let i = x.held in let j = x.formed in (search rules, search rules)) in
+    rw x.answer (frame_as _ _ (ap outcome e) _ _ _ _ c.write_bytes_answer.ensures))

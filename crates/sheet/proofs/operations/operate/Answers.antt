@@ -1,32 +1,35 @@
--- `operate`: by the kind.
-use native.Mathlib.Omega.{arith}
-use Rattle.sheet.proofs.Laws.Reading.OrderTableLaws.{two, three, operations_within}
-use Rattle.sheet.proofs.Laws.Answering.OperationFieldLaws.{asks_among}
+-- `operate`: each order is that of its row.
 use Rattle.sheet.proofs.operations.operate.Goals as goal
 
-pub compare-requires-clause-asks : goal.compare-requires-clause-asks
-compare-requires-clause-asks c =
-    let p = c.requires in
-    let a = c.args in
-    (_, _, asks_among _ _ _ _ a.o _ _ p.asks (three 9 a.o.kind (operations_within a.o.kind p.asks.among).0 (omega arith)))
+pub returns-in-Conflicts-clause-says : goal.returns-in-Conflicts-clause-says
+returns-in-Conflicts-clause-says c = rw c.in-Conflicts.is (c.conflicts.ensures _)
 
-pub returns-then-k-lt12-clause-says : goal.returns-then-k-lt12-clause-says
-returns-then-k-lt12-clause-says c = c.compare.ensures _ _
+pub returns-in-Weakens-clause-says : goal.returns-in-Weakens-clause-says
+returns-in-Weakens-clause-says c = rw c.in-Weakens.is (c.weakens.ensures _)
 
-pub returns-then-k-lt15-clause-says : goal.returns-then-k-lt15-clause-says
-returns-then-k-lt15-clause-says c = c.substitute.ensures _
+pub returns-in-Recover-clause-says : goal.returns-in-Recover-clause-says
+returns-in-Recover-clause-says c = rw c.in-Recover.is (c.recovered.ensures _)
 
-pub returns-then-k-lt18-clause-says : goal.returns-then-k-lt18-clause-says
-returns-then-k-lt18-clause-says c = c.inquire.ensures _
+pub returns-in-Instantiate-clause-says : goal.returns-in-Instantiate-clause-says
+returns-in-Instantiate-clause-says c = rw c.in-Instantiate.is (c.instantiated.ensures _)
 
-pub returns-then-k-eq18-clause-says : goal.returns-then-k-eq18-clause-says
-returns-then-k-eq18-clause-says c = c.apply_family.ensures _
+pub returns-in-ArgumentContext-clause-says : goal.returns-in-ArgumentContext-clause-says
+returns-in-ArgumentContext-clause-says c = rw c.in-ArgumentContext.is (c.in_context.ensures _)
 
-pub reduce-requires-clause-asks : goal.reduce-requires-clause-asks
-reduce-requires-clause-asks c =
-    let p = c.requires in
-    let a = c.args in
-    (_, asks_among _ _ _ _ a.o _ _ p.asks (two 19 a.o.kind (omega arith) (omega (arith, (operations_within a.o.kind p.asks.among).1))))
+pub returns-in-WithSelf-clause-says : goal.returns-in-WithSelf-clause-says
+returns-in-WithSelf-clause-says c = rw c.in-WithSelf.is (c.by_receiver.ensures _)
 
-pub returns-clause-says : goal.returns-clause-says
-returns-clause-says c = c.reduce.ensures.says _
+pub returns-in-Questions-clause-says : goal.returns-in-Questions-clause-says
+returns-in-Questions-clause-says c = rw c.in-Questions.is (c.asked.ensures _)
+
+pub returns-in-ResolvedIn-clause-says : goal.returns-in-ResolvedIn-clause-says
+returns-in-ResolvedIn-clause-says c = rw c.in-ResolvedIn.is (c.resolved_in.ensures _)
+
+pub returns-in-Satisfied-clause-says : goal.returns-in-Satisfied-clause-says
+returns-in-Satisfied-clause-says c = rw c.in-Satisfied.is (c.satisfied.ensures _)
+
+pub returns-in-Family-clause-says : goal.returns-in-Family-clause-says
+returns-in-Family-clause-says c = rw c.in-Family.is (c.apply_family.ensures _)
+
+pub returns-in-WithAssociatedTypes-clause-says : goal.returns-in-WithAssociatedTypes-clause-says
+returns-in-WithAssociatedTypes-clause-says c = rw c.in-WithAssociatedTypes.is (c.associated.ensures.says _)

@@ -1,4 +1,4 @@
--- `read_rules`. Invariant: what was read so far is stored, its words too, and so many more rules give the rest (`RulesThrough`).
+-- `read_rules`. Invariant: what was read so far is stored, its records too, and so many more rules give the rest (`RulesThrough`).
 use Prim.Native.Nat.{◌-◌}
 use Rattle.solver.specs.Terms.Tokens.{area}
 use Rattle.sheet.proofs.Laws.Reading.RuleReading.{RulesThrough}

@@ -1,6 +1,5 @@
 -- `answer_orders`: what is left of the run makes the whole.
 use mathlib.Core.Path.{◌≡◌}
-use Prim.Native.Nat.{◌-◌}
 use lib.ListN.{length}
 use Rattle.solver.specs.Words.SessionRepresentation.{limits_of}
 use Rattle.sheet.specs.Words.SessionInAreas.{areas}
@@ -8,9 +7,6 @@ use Rattle.sheet.specs.Words.FramingContract.{output_at}
 use Rattle.sheet.proofs.Laws.Run.RunLaws.{Going}
 use Rattle.sheet.proofs.running.answer_orders.Given as goal
 
-abbrev pub invariant-loop-at : goal.invariant-loop-at
-invariant-loop-at l =
-    Going (limits_of l.initial.x) l.half l.s l.initial.out l.x (areas l.a l.b l.c l.d) (output_at l.out l.to) l.at l.orders × (length l.a ≡ length l.initial.a) × (length l.b ≡ length l.initial.b) × (length l.c ≡ length l.initial.c) × (length l.d ≡ length l.initial.d)
-
-abbrev pub decreases-loop-at : goal.decreases-loop-at
-decreases-loop-at l = length l.s - l.at
+abbrev pub invariant-loop-order : goal.invariant-loop-order
+invariant-loop-order l =
+    Going (limits_of l.initial.x) l.half l.s l.initial.out l.x (areas l.a l.b l.c l.d) (output_at l.out l.to) l.order-iterator.at l.orders × (length l.a ≡ length l.initial.a) × (length l.b ≡ length l.initial.b) × (length l.c ≡ length l.initial.c) × (length l.d ≡ length l.initial.d) × (l.order-iterator.sheet.now ≡ l.s)

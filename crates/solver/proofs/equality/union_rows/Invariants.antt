@@ -4,8 +4,8 @@ use mathlib.Core.Option.{Option}
 use mathlib.Core.Path.{◌≡◌}
 use Prim.Native.Nat.{ℕ, ◌-◌, ◌≤◌}
 use Rattle.terms.specs.Term.{Term, Parts}
-use Rattle.terms.specs.Words.Held.{HeldParts}
 use Rattle.solver.specs.Constrain.{follow}
+use Rattle.solver.specs.Words.Lent.{RowBy}
 use Rattle.solver.specs.Words.CongruenceClasses.{link_words, AdvancedIn, HeldSteady, stands_for, Fair}
 use Rattle.solver.proofs.Laws.Equality.UnionRowLaws.{RowWalk}
 use Rattle.solver.proofs.equality.union_rows.Given as goal
@@ -15,7 +15,7 @@ invariant-loop-i l =
     (l.i ≤ l.a.end)
     × (l.j ≤ l.b.end)
     × AdvancedIn l.bindings.tokens.kinds.now l.initial.work l.initial.top l.work l.top
-    × ((h : ℕ → Option Term) (ps qs : Parts) → HeldSteady l.bindings h → HeldParts l.bindings.tokens.kinds.now l.bindings.tokens.vals.now l.a.from l.a.end ps → HeldParts l.bindings.tokens.kinds.now l.bindings.tokens.vals.now l.b.from l.b.end qs
+    × ((h : ℕ → Option Term) (ps qs : Parts) → HeldSteady l.bindings h → RowBy l.bindings l.a ps → RowBy l.bindings l.b qs
     → Fair l.bindings.tokens.kinds.now l.bindings.tokens.vals.now (link_words l.bindings.tokens.kinds.now l.initial.work) → RowWalk l.bindings.tokens.kinds.now l.bindings.tokens.vals.now (stands_for l.bindings.most h) (follow l.bindings.most h) l.a.end l.b.end ps qs (link_words l.bindings.tokens.kinds.now l.initial.work) l.i l.j (link_words l.bindings.tokens.kinds.now l.work))
     × (length l.work ≡ length l.initial.work)
 

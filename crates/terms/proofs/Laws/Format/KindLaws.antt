@@ -1,7 +1,7 @@
 -- The tags that ranges cover.
 use mathlib.Core.Path.{◌≡◌}
 use mathlib.Core.Logic.{⊎_elim}
-use Prim.Native.Nat.{ℕ, ◌+◌, ◌≤◌, ◌<◌}
+use Prim.Native.Nat.{ℕ, ◌≤◌, ◌<◌}
 use native.Mathlib.Nat.{eq-or-lt_of_le}
 use native.Mathlib.Omega.{arith}
 use borrow.Author.Tests.{le-ltb, ne_eqb}
@@ -18,7 +18,3 @@ unfolding kind_of
 unlisted_tag t h =
     let e : t ≡ 1 → ⊥ = λ e. omega arith in
     simp (ne_eqb t 1 e, le-ltb t 20 h)
-
--- a number that is not n either
-pub past : (n t : ℕ) → n ≤ t → (t ≡ n → ⊥) → n + 1 ≤ t
-past n t h k = omega arith

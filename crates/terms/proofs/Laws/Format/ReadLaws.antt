@@ -24,7 +24,7 @@ use Rattle.terms.specs.Words.RowPieces.{termless, coded, numbered, fields, liste
 use Rattle.terms.specs.Words.ReadContract.{Wrote, TermDone, PartsDone, ValueDone, after, seq, into, onto, Valued, Unvalued}
 use Rattle.terms.proofs.Laws.General.Bools.{never_true}
 use Rattle.terms.proofs.Laws.Format.ValueLaws.{value_plain}
-use Rattle.terms.proofs.Laws.Format.ReadSequenceLaws.{wrote_none, wrote_num, wrote_sub, then_wrote, items_append, sizes_append, after_done, none_done, seq_stop, into_stop, onto_stop, noded}
+use Rattle.terms.proofs.Laws.Format.ReadSequenceLaws.{wrote_none, wrote_num, wrote_sub, then_wrote, items_append, sizes_append, after_done, none_done, noded}
 use Rattle.terms.proofs.Laws.Format.RowPieceLaws.{after_end, after_after, seq_end, seq_ext, seq_seq, into_ext, into_seq, one_seq, row_terms, many_more, row_plain}
 
 -- ---- what was read so far is stored, and the rest is still to come
@@ -50,21 +50,17 @@ module _ {s : List ℕ} {whole rest : Result Parts} {p q : Place} {d e : Area} w
     wrote = rw (items_append x.parts ps, sizes_append x.parts ps) (then_wrote s p d e _ _ q x.wrote f _ _ u w);
   }
 
-  -- the same with nothing after it
-  so_far_last : SoFar s whole rest p d e q → SoFar s whole (seq rest (λ n. got end n)) p d e q
-  so_far_last x = rw (seq_end rest) x
-
 module _ {s : List ℕ} {whole : Result Parts} {p q : Place} {d e : Area} where
   -- nothing is left
   pub so_far_end : SoFar s whole (got end q.at) p d e q → PartsDone s whole p d e (Next q)
-  so_far_end x = so_far_done x e (Next q) (none_done s q e e x.wrote.inside)
+  so_far_end x = so_far_done x e (Next q) (none_done s q e x.wrote.inside)
 
   -- a part of the rest, and what follows it
   pub seq_read : (r : Result Parts) (k : Parser Parts) {f : Area} {u : Place} → SoFar s whole (seq r k) p d e q → PartsDone s r q e f (Next u) → SoFar s whole (k u.at) p d f u
   seq_read r k x y = so_far_more y.0 (rw y.1 at x) y.2
 
   pub seq_refused : (r : Result Parts) (k : Parser Parts) (f : Area) {c : ℕ} → SoFar s whole (seq r k) p d e q → PartsDone s r q e f (Stopped c) → PartsDone s whole p d f (Stopped c)
-  seq_refused r k f {c} x y = so_far_done x f (Stopped c) (seq_stop s q e f r k c y)
+  seq_refused r k f {c} x y = so_far_done x f (Stopped c) (simp y.0, y.1)
 
   -- a number
   module _ (most : ℕ) (r : Result ℕ) (k : ℕ → Parser Parts) (x : SoFar s whole (into r k) p d e q) where
@@ -72,7 +68,7 @@ module _ {s : List ℕ} {whole : Result Parts} {p q : Place} {d e : Area} where
     into_read {f} {v} {u} y = so_far_more (num v end) (rw y.0 at x) (wrote_num s q e f v u y.2)
 
     into_refused : (f : Area) {c : ℕ} → ValueDone most s r q e f (Unvalued c) → PartsDone s whole p d f (Stopped c)
-    into_refused f {c} y = so_far_done x f (Stopped c) (into_stop s q e f most r k c y)
+    into_refused f {c} y = so_far_done x f (Stopped c) (simp y.0, y.1)
 
   -- a term
   module _ (r : Result Term) (k : Parser Parts) (x : SoFar s whole (onto r k) p d e q) where
@@ -80,7 +76,7 @@ module _ {s : List ℕ} {whole : Result Parts} {p q : Place} {d e : Area} where
     onto_read {f} {u} y = so_far_more (sub y.0 end) (rw y.1 at x) (wrote_sub s q e f y.0 u y.2)
 
     pub onto_refused : (f : Area) {c : ℕ} → TermDone s r q e f (Stopped c) → PartsDone s whole p d f (Stopped c)
-    onto_refused f {c} y = so_far_done x f (Stopped c) (onto_stop s q e f r k c y)
+    onto_refused f {c} y = so_far_done x f (Stopped c) (simp y.0, y.1)
 
 -- a nominal inside a longer row is the nominal and then the rest
 pub row_nominal : (s : List ℕ) (t : Parser Term) (r : Shape) (at : ℕ) → row s t (nominal r) at ≡ seq (row s t (nominal shape.done) at) (row s t r)
@@ -273,7 +269,7 @@ module _ (s : List ℕ) (t : Parser Term) (k : Fields) where
   rest n = seq (listed s t k.counted n) (many s t k.terms)
 
   pub plain_no : (p : Place) (d e : Area) {c : ℕ} → PartsDone s (fields s k p.at) p d e (Stopped c) → PartsDone s (row s t (plain k) p.at) p d e (Stopped c)
-  plain_no p d e {c} x = rw (row_plain s t k p.at) (seq_stop s p d e (fields s k p.at) rest c x)
+  plain_no p d e {c} x = rw (row_plain s t k p.at) (simp x.0, x.1)
 
   module _ {p q : Place} {d e : Area} (x : PartsDone s (fields s k p.at) p d e (Next q)) where
     -- the fields are read

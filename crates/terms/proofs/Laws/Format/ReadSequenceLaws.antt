@@ -10,10 +10,10 @@ use lib.ListN.{length, length-append}
 use Rattle.terms.specs.declared.Place.{Place}
 use Rattle.terms.specs.Words.ReadContract.{Step}
 use Rattle.terms.specs.Words.ReadContract.{Next, Stopped}
-use Rattle.terms.specs.Parser.{Result, Parser, got, bind}
+use Rattle.terms.specs.Parser.{Result, got, bind}
 use Rattle.terms.specs.Words.Tokens.{put_if, Item, item, Area, put, puts}
 use Rattle.terms.specs.Term.{Term, Parts, node, end, num, sub, ◌+++◌, items, part_items, size, sizes}
-use Rattle.terms.specs.Words.ReadContract.{Room, Wrote, Only, Left, TermDone, PartsDone, BareDone, ValueDone, after, seq, into, onto, Closed, Valued, Unvalued}
+use Rattle.terms.specs.Words.ReadContract.{Room, Wrote, Only, Left, TermDone, PartsDone, BareDone, after, Closed}
 use Rattle.terms.proofs.Laws.Format.StoreLaws.{head_last, puts_append, only_wider, only_one}
 
 -- ---- rows
@@ -97,38 +97,10 @@ wrote_sub s p d e t q w = record {
   inside = w.inside;
 }
 
-module _ (s : List ℕ) (p : Place) (d e : Area) where
-  -- nothing read, as a row
-  pub none_done : p.at ≤ length s → PartsDone s (got end p.at) p d d (Next p)
-  unfolding items size
-  none_done h = (end, refl, wrote_none s p d h)
-
-  -- ---- a row, and then another
-
-  pub seq_stop : (r : Result Parts) (k : Parser Parts) (c : ℕ) → PartsDone s r p d e (Stopped c) → PartsDone s (seq r k) p d e (Stopped c)
-  seq_stop r k c x = (simp x.0, x.1)
-
-  pub seq_next : (r : Result Parts) (k : Parser Parts) (q : Place) → PartsDone s r p d e (Next q)
-      → (f : Area) (u : Step) → PartsDone s (k q.at) q e f u → PartsDone s (seq r k) p d f u
-  seq_next r k q x f u y = rw x.1 (after_done s p d e x.0 q x.2 f (k q.at) u y)
-
-  -- ---- a number, and then a row that it decides
-
-  pub into_stop : (most : ℕ) (r : Result ℕ) (k : ℕ → Parser Parts) (c : ℕ) → ValueDone most s r p d e (Unvalued c) → PartsDone s (into r k) p d e (Stopped c)
-  into_stop most r k c x = (simp x.0, x.1)
-
-  pub into_next : (most : ℕ) (r : Result ℕ) (k : ℕ → Parser Parts) (v : ℕ) (q : Place) → ValueDone most s r p d e (Valued v q)
-      → (f : Area) (u : Step) → PartsDone s (k v q.at) q e f u → PartsDone s (into r k) p d f u
-  into_next most r k v q x f u y = rw x.0 (after_done s p d e (num v end) q (wrote_num s p d e v q x.2) f (k v q.at) u y)
-
-  -- ---- a term, and then a row
-
-  pub onto_stop : (r : Result Term) (k : Parser Parts) (c : ℕ) → TermDone s r p d e (Stopped c) → PartsDone s (onto r k) p d e (Stopped c)
-  onto_stop r k c x = (simp x.0, x.1)
-
-  pub onto_next : (r : Result Term) (k : Parser Parts) (q : Place) → TermDone s r p d e (Next q)
-      → (f : Area) (u : Step) → PartsDone s (k q.at) q e f u → PartsDone s (onto r k) p d f u
-  onto_next r k q x f u y = rw x.1 (after_done s p d e (sub x.0 end) q (wrote_sub s p d e x.0 q x.2) f (k q.at) u y)
+-- nothing read, as a row
+pub none_done : (s : List ℕ) (p : Place) (d : Area) → p.at ≤ length s → PartsDone s (got end p.at) p d d (Next p)
+unfolding items size
+none_done s p d h = (end, refl, wrote_none s p d h)
 
 -- ---- a node's head, stored after its parts
 

@@ -11,12 +11,11 @@ use lib.Seq.{get_or-set_same, get_or-set_other}
 use Rattle.terms.specs.Words.Tokens.{Area}
 use Rattle.terms.specs.Term.{Term, Parts}
 use Rattle.terms.specs.Words.QuestionsContract.{tag_of}
-use Rattle.terms.specs.Words.Held.{span}
 use Rattle.terms.specs.Tree.{error, subs, children, row, class, slot_by}
 use Rattle.terms.specs.Words.Arena.{head_of, kids_of, Tree, Parted, Below, RowAt, TagAt, ValueAt, Counts, Frame, Frames, Filled, Overfull, Ordered}
 use Rattle.terms.proofs.Laws.Asking.QuestionLaws.{tag_kind}
 use Rattle.terms.proofs.Laws.Normalising.ArenaLaws.{Keeps, tree_kept, parted_kept, parted_over, parted_number, parted_child, tree_kind}
-use Rattle.terms.proofs.Laws.Normalising.ScanLaws.{drop_next, subs_num, subs_sub, subs_end, children_row}
+use Rattle.terms.proofs.Laws.Normalising.ScanLaws.{Came, came_number, drop_next, subs_num, subs_sub, subs_end, children_row}
 
 -- ---- frames
 
@@ -73,23 +72,23 @@ keeps_below hs cs hs' cs' S next b l f = record {
 
 -- ---- the loop
 
-module _ (a : Area) (hs₀ cs₀ : List ℕ) (h c e next : ℕ) where
-  -- n children stand in records, and those of `left` are to come
-  pub record OpeningAt (hs cs : List ℕ) (S : ℕ → Bool) (t : Term) (q n : ℕ) : Type 0 where
-    pub left : Parts
-    pub rest : Parted a hs cs S c e q n left
-    pub order : drop n (children t) ≡ subs left
-    pub total : n + length (subs left) ≡ length (children t)
-    pub each : (j : ℕ) → j < n → Tree a hs cs S (get_or hs (next + j) 0) (get_or cs (next + j) 0) (get_or (children t) j error)
+-- n children stand in records, and those of `left` are to come
+pub record OpeningAt (a : Area) (c e next : ℕ) (hs cs : List ℕ) (S : ℕ → Bool) (t : Term) (q n : ℕ) : Type 0 where
+  pub left : Parts
+  pub rest : Parted a hs cs S c e q n left
+  pub order : drop n (children t) ≡ subs left
+  pub total : n + length (subs left) ≡ length (children t)
+  pub each : (j : ℕ) → j < n → Tree a hs cs S (get_or hs (next + j) 0) (get_or cs (next + j) 0) (get_or (children t) j error)
 
-  pub record Opening (hs cs : List ℕ) (q n : ℕ) : Type 0 where
-    pub small : e < 4294967296
-    pub few : n ≤ q
-    pub frames : Frames hs₀ cs₀ hs cs next (next + n)
-    pub is : (S : ℕ → Bool) (t : Term) → Below S next → Tree a hs₀ cs₀ S h c t → OpeningAt hs cs S t q n
+pub record Opening (a : Area) (hs₀ cs₀ : List ℕ) (h c e next : ℕ) (hs cs : List ℕ) (q n : ℕ) : Type 0 where
+  pub small : e < 4294967296
+  pub few : n ≤ q
+  pub frames : Frames hs₀ cs₀ hs cs next (next + n)
+  pub is : (S : ℕ → Bool) (t : Term) → Below S next → Tree a hs₀ cs₀ S h c t → OpeningAt a c e next hs cs S t q n
 
-  pub opening_start : (q : ℕ) → RowAt a h q e → Opening hs₀ cs₀ q 0
-  opening_start q r = record {
+module _ {a : Area} {hs₀ cs₀ : List ℕ} {h c e next q : ℕ} where
+  pub opening_start : RowAt a h q e → Opening a hs₀ cs₀ h c e next hs₀ cs₀ q 0
+  opening_start r = record {
     small = r.small;
     few = omega arith;
     frames = frames_same hs₀ cs₀ next (next + 0);
@@ -102,9 +101,9 @@ module _ (a : Area) (hs₀ cs₀ : List ℕ) (h c e next : ℕ) where
     };
   }
 
-  module _ (hs cs : List ℕ) (q n : ℕ) (o : Opening hs cs q n) where
-    pub opening_done : e ≤ q → (most : ℕ) → next + n ≤ most → Filled a hs₀ cs₀ hs cs h c next most n
-    opening_done le most fits = record {
+  module _ {hs cs : List ℕ} {n : ℕ} (o : Opening a hs₀ cs₀ h c e next hs cs q n) where
+    pub opening_done : e ≤ q → {most : ℕ} → next + n ≤ most → Filled a hs₀ cs₀ hs cs h c next most n
+    opening_done le fits = record {
       bound = fits;
       frames = o.frames;
       done = λ S t b w.
@@ -112,54 +111,54 @@ module _ (a : Area) (hs₀ cs₀ : List ℕ) (h c e next : ℕ) where
           record { count = omega (arith, x.total, ap (λ (r : Parts). length (subs r)) (parted_over a hs cs S x.rest le), ap length subs_end); each = x.each };
     }
 
-    module _ (lt : q < e) {k v : ℕ} (ek : k ≡ get_or a.kinds q 0) (ev : v ≡ get_or a.vals q 0) where
-      pub opening_number : k ≡ 0 → Opening hs cs (q + 1) n
+    module _ {k v r : ℕ} (m : Came a e q k v r) where
+      pub opening_number : k ≡ 0 → Opening a hs₀ cs₀ h c e next hs cs r n
       opening_number z = record {
         small = o.small;
-        few = omega (arith, o.few);
+        few = omega (arith, o.few, m.rises);
         frames = o.frames;
         is = λ S t b w.
             let x = o.is S t b w in
-            let y = parted_number a hs cs S x.rest lt ek ev z in
-            let q = ap subs y.is ∙ subs_num v y.rest in
-            record { left = y.rest; rest = y.behind; order = x.order ∙ q; total = omega (arith, x.total, ap length q); each = x.each };
+            let y = parted_number a hs cs S x.rest m.before m.kind m.value z in
+            let u = ap subs y.is ∙ subs_num v y.rest in
+            record { left = y.rest; rest = rw (came_number m z) y.behind; order = x.order ∙ u; total = omega (arith, x.total, ap length u); each = x.each };
       }
 
       module _ (z : k ≡ 0 → ⊥) where
         -- one child more than there is room for
-        pub opening_stop : (most : ℕ) → most ≤ next + n → next + n ≤ most → Overfull a hs₀ cs₀ hs cs h c next most
-        opening_stop most le fits = record {
+        pub opening_stop : {most : ℕ} → most ≤ next + n → next + n ≤ most → Overfull a hs₀ cs₀ hs cs h c next most
+        opening_stop {most} le fits = record {
           frames = frames_wider hs₀ cs₀ hs cs next (next + n) most o.frames fits;
           stopped = λ S t b w.
               let x = o.is S t b w in
-              let d = parted_child a hs cs S x.rest lt ek ev z in
-              let m = drop_next error n (children t) d.term (subs d.rest) (x.order ∙ ap subs d.is ∙ subs_sub d.term d.rest) in
-              omega (arith, m.0);
+              let d = parted_child a hs cs S x.rest m.before m.kind m.value z in
+              let u = drop_next error n (children t) d.term (subs d.rest) (x.order ∙ ap subs d.is ∙ subs_sub d.term d.rest) in
+              omega (arith, u.0);
         }
 
-        pub opening_child : (x y l : ℕ) → x ≡ head_of hs c q n → y ≡ kids_of cs c n → (1 ≤ span k v → l ≡ span k v) → 1 ≤ l → next + n < length hs → next + n < length cs
-            → Opening (set hs (next + n) x) (set cs (next + n) y) (q + l) (n + 1)
-        opening_child x y l ex ey el l1 lh lc = record {
+        pub opening_child : {x y : ℕ} → x ≡ head_of hs c q n → y ≡ kids_of cs c n → next + n < length hs → next + n < length cs
+            → Opening a hs₀ cs₀ h c e next (set hs (next + n) x) (set cs (next + n) y) r (n + 1)
+        opening_child {x} {y} ex ey lh lc = record {
           small = o.small;
-          few = omega (arith, o.few);
+          few = omega (arith, o.few, m.rises);
           frames = frames_set hs₀ cs₀ hs cs next (next + n) (next + (n + 1)) (next + n) x y o.frames (omega arith) (omega arith) (omega arith);
           is = λ S t b w.
               let p = o.is S t b w in
-              let d = parted_child a hs cs S p.rest lt ek ev z in
+              let d = parted_child a hs cs S p.rest m.before m.kind m.value z in
               let u = ap subs d.is ∙ subs_sub d.term d.rest in
-              let m = drop_next error n (children t) d.term (subs d.rest) (p.order ∙ u) in
+              let f = drop_next error n (children t) d.term (subs d.rest) (p.order ∙ u) in
               let tr : Tree a hs cs S x y d.term = rw (ex, ey) d.tree in
               let kp = keeps_below hs cs (set hs (next + n) x) (set cs (next + n) y) S next (next + n + 1) b
               (frames_set hs cs hs cs next (next + n) (next + n + 1) (next + n) x y (frames_same hs cs next (next + n)) (omega arith) (omega arith) (omega arith)) in
               record {
                 left = d.rest;
-                rest = rw (el d.some) (parted_kept a hs cs S (set hs (next + n) x) (set cs (next + n) y) S kp d.behind);
-                order = m.2;
+                rest = rw (m.behind d.some) (parted_kept a hs cs S (set hs (next + n) x) (set cs (next + n) y) S kp d.behind);
+                order = f.2;
                 total = omega (arith, p.total, ap length u);
                 each = below_more _ _
                     (λ j i. rw (get_or-set_other hs (next + n) (next + j) x 0 (λ u. omega arith), get_or-set_other cs (next + n) (next + j) y 0 (λ u. omega arith))
                     (tree_kept a hs cs S (set hs (next + n) x) (set cs (next + n) y) S kp (p.each j i)))
-                    (rw (get_or-set_same hs (next + n) x 0 lh, get_or-set_same cs (next + n) y 0 lc, m.1)
+                    (rw (get_or-set_same hs (next + n) x 0 lh, get_or-set_same cs (next + n) y 0 lc, f.1)
                     (tree_kept a hs cs S (set hs (next + n) x) (set cs (next + n) y) S kp tr));
               };
         }

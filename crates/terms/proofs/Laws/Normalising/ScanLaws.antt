@@ -54,47 +54,68 @@ pub record Scan (a : Area) (h e q : ℕ) (P : ℕ → Parts → Parts → Type 0
   pub small : e < 4294967296
   pub is : (hs cs : List ℕ) (S : ℕ → Bool) (c : ℕ) (t : Term) → Tree a hs cs S h c t → Scanned a hs cs S c e q (row t) P
 
-pub scan_start : (a : Area) (h e q : ℕ) (P : ℕ → Parts → Parts → Type 0) → RowAt a h q e → ((w : Parts) → P 0 w w) → Scan a h e q P
-scan_start a h e q P r f =
-    record { small = r.small; is = λ hs cs S c t w. record { passed = 0; left = row t; rest = r.is hs cs S c t w; so = f (row t) } }
+pub scan_start : {a : Area} {h e q : ℕ} {P : ℕ → Parts → Parts → Type 0} → RowAt a h q e → ((w : Parts) → P 0 w w) → Scan a h e q P
+scan_start r f = record { small = r.small; is = λ hs cs S c t w. record { passed = 0; left = row t; rest = r.is hs cs S c t w; so = f (row t) } }
 
-module _ (a : Area) (h e q : ℕ) (P : ℕ → Parts → Parts → Type 0) (s : Scan a h e q P) where
+-- in a row that ends at e a walk came to the token k, v at q, and goes on at r
+pub record Came (a : Area) (e q k v r : ℕ) : Type 0 where
+  pub before : q < e
+  pub kind : k ≡ get_or a.kinds q 0
+  pub value : v ≡ get_or a.vals q 0
+  pub rises : q < r
+  pub behind : 1 ≤ span k v → r ≡ q + span k v
+
+-- a number is one token
+pub came_number : {a : Area} {e q k v r : ℕ} → Came a e q k v r → k ≡ 0 → r ≡ q + 1
+came_number {k = k} {v = v} m z =
+    let n = span_one k v (omega (arith, z)) in
+    omega (arith, m.behind (omega (arith, n)), n)
+
+module _ {a : Area} {h e q : ℕ} {P : ℕ → Parts → Parts → Type 0} (s : Scan a h e q P) where
   -- the row is used up
   pub scan_over : e ≤ q → (hs cs : List ℕ) (S : ℕ → Bool) (c : ℕ) (t : Term) → Tree a hs cs S h c t → (n : ℕ) × P n (row t) end
   scan_over le hs cs S c t w = let x = s.is hs cs S c t w in (x.passed, rw (parted_over a hs cs S x.rest le) at x.so)
 
-  module _ (lt : q < e) {k v : ℕ} (ek : k ≡ get_or a.kinds q 0) (ev : v ≡ get_or a.vals q 0) where
+  module _ {k v r : ℕ} (m : Came a e q k v r) where
     pub scan_here : k ≡ 0 → (hs cs : List ℕ) (S : ℕ → Bool) (c : ℕ) (t : Term) → Tree a hs cs S h c t → (n : ℕ) × (r : Parts) × P n (row t) (num v r)
     scan_here z hs cs S c t w =
         let x = s.is hs cs S c t w in
-        let y = parted_number a hs cs S x.rest lt ek ev z in
+        let y = parted_number a hs cs S x.rest m.before m.kind m.value z in
         (x.passed, y.rest, rw y.is at x.so)
 
-    pub scan_number : k ≡ 0 → (Q : ℕ → Parts → Parts → Type 0) → ((n : ℕ) (w r : Parts) → P n w (num v r) → Q n w r) → Scan a h e (q + 1) Q
+    pub scan_number : k ≡ 0 → (Q : ℕ → Parts → Parts → Type 0) → ((n : ℕ) (w r : Parts) → P n w (num v r) → Q n w r) → Scan a h e r Q
     scan_number z Q f = record {
       small = s.small;
       is = λ hs cs S c t w.
           let x = s.is hs cs S c t w in
-          let y = parted_number a hs cs S x.rest lt ek ev z in
-          record { passed = x.passed; left = y.rest; rest = y.behind; so = f x.passed (row t) y.rest (rw y.is at x.so) };
+          let y = parted_number a hs cs S x.rest m.before m.kind m.value z in
+          record { passed = x.passed; left = y.rest; rest = rw (came_number m z) y.behind; so = f x.passed (row t) y.rest (rw y.is at x.so) };
     }
 
-    pub scan_child : (k ≡ 0 → ⊥) → (l : ℕ) → (1 ≤ span k v → l ≡ span k v) → (Q : ℕ → Parts → Parts → Type 0)
-        → ((n : ℕ) (w : Parts) (u : Term) (r : Parts) → P n w (sub u r) → Q (n + 1) w r) → Scan a h e (q + l) Q
-    scan_child z l el Q f = record {
+    pub scan_child : (k ≡ 0 → ⊥) → (Q : ℕ → Parts → Parts → Type 0) → ((n : ℕ) (w : Parts) (u : Term) (r : Parts) → P n w (sub u r) → Q (n + 1) w r) → Scan a h e r Q
+    scan_child z Q f = record {
       small = s.small;
       is = λ hs cs S c t w.
           let x = s.is hs cs S c t w in
-          let y = parted_child a hs cs S x.rest lt ek ev z in
+          let y = parted_child a hs cs S x.rest m.before m.kind m.value z in
           record {
             passed = x.passed + 1;
             left = y.rest;
-            rest = rw (el y.some) y.behind;
+            rest = rw (m.behind y.some) y.behind;
             so = f x.passed (row t) y.term y.rest (rw y.is at x.so);
           };
     }
 
 -- ---- a walk over the tokens that are seen
+
+pub came : (x : Seen) (s : RowWalk) → s.seen ≡ x → (q : ℕ) (y : Token) (t : RowWalk) → Moves s (Some (q, y)) t → Came (shown x) s.end s.at y.kind y.value t.at
+came x s w q y t m = record {
+  before = m.0.1;
+  kind = m.0.2 ∙ ap (λ (e : Seen). get_or (shown e).kinds s.at 0) w;
+  value = m.0.3 ∙ ap (λ (e : Seen). get_or (shown e).vals s.at 0) w;
+  rises = m.0.4;
+  behind = m.0.5;
+}
 
 module _ (x : Seen) (s : RowWalk) (w : s.seen ≡ x) (q : ℕ) (y : Token) (t : RowWalk) (m : Moves s (Some (q, y)) t) where
   pub over_here : (q ≡ s.at) × (s.at < s.end) × (y.kind ≡ get_or (shown x).kinds s.at 0) × (y.value ≡ get_or (shown x).vals s.at 0)
@@ -121,20 +142,12 @@ pub record Walking (x : Seen) (h : ℕ) (s : RowWalk) (P : ℕ → Parts → Par
   pub scan : Scan (shown x) h s.end s.at P
   pub over : s.seen ≡ x
 
-module _ (x : Seen) (h : ℕ) (s : RowWalk) (P : ℕ → Parts → Parts → Type 0) where
-  pub walk_start : RowAt (shown x) h s.at s.end → s.seen ≡ x → ((w : Parts) → P 0 w w) → Walking x h s P
-  walk_start r e f = record { scan = scan_start (shown x) h s.end s.at P r f; over = e }
+pub walk_start : {x : Seen} {h : ℕ} {s : RowWalk} {P : ℕ → Parts → Parts → Type 0} → RowAt (shown x) h s.at s.end → s.seen ≡ x → ((w : Parts) → P 0 w w) → Walking x h s P
+walk_start r e f = record { scan = scan_start r f; over = e }
 
-  module _ (w : Walking x h s P) (q : ℕ) (y : Token) (t : RowWalk) (m : Moves s (Some (q, y)) t) where
-    pub walk_child : (Q : ℕ → Parts → Parts → Type 0) → Scan (shown x) h s.end (s.at + (t.at - s.at)) Q → Walking x h t Q
-    walk_child Q d =
-        let e = over_child x s w.over q y t m in
-        record { scan = rw (m.1) (rw e at d); over = over_on x s w.over q y t m }
-
-    pub walk_number : y.kind ≡ 0 → (Q : ℕ → Parts → Parts → Type 0) → Scan (shown x) h s.end (s.at + 1) Q → Walking x h t Q
-    walk_number z Q d =
-        let e = over_number x s w.over q y t m z in
-        record { scan = rw (m.1) (rw e at d); over = over_on x s w.over q y t m }
+pub walk_on : {x : Seen} {h : ℕ} {s : RowWalk} {P Q : ℕ → Parts → Parts → Type 0} → Walking x h s P → (q : ℕ) (y : Token) (t : RowWalk) → Moves s (Some (q, y)) t
+    → Scan (shown x) h s.end t.at Q → Walking x h t Q
+walk_on w q y t m d = record { scan = rw (m.1) d; over = m.2 ∙ w.over }
 
 -- ---- the i-th number: the left-th of what is left
 
@@ -153,28 +166,27 @@ nums_end : nums end ≡ []
 unfolding nums
 nums_end = refl
 
-module _ (a : Area) (h e q i left : ℕ) (s : Scan a h e q (Wanted i left)) where
+module _ (i left : ℕ) {a : Area} {h e q : ℕ} (s : Scan a h e q (Wanted i left)) where
   pub number_over : e ≤ q → NumberAt a h i None
   number_over le = λ hs cs S c t w.
-      let x = scan_over a h e q (Wanted i left) s le hs cs S c t w in
+      let x = scan_over s le hs cs S c t w in
       x.1 ∙ ap (λ (l : List ℕ). get_or l left 0) nums_end
 
-  module _ (lt : q < e) {k v : ℕ} (ek : k ≡ get_or a.kinds q 0) (ev : v ≡ get_or a.vals q 0) where
+  module _ {k v r : ℕ} (m : Came a e q k v r) where
     pub number_here : k ≡ 0 → left ≡ 0 → NumberHere a h i q
     number_here z zl = record {
-      kind = sym ek ∙ z;
+      kind = sym m.kind ∙ z;
       is = λ hs cs S c t w.
-          let x = scan_here a h e q (Wanted i left) s lt ek ev z hs cs S c t w in
-          sym ev ∙ sym (x.2 ∙ ap (λ (j : ℕ). get_or (nums (num v x.1)) j 0) zl ∙ ap (λ (l : List ℕ). get_or l 0 0) (nums_num v x.1));
+          let x = scan_here s m z hs cs S c t w in
+          sym m.value ∙ sym (x.2 ∙ ap (λ (j : ℕ). get_or (nums (num v x.1)) j 0) zl ∙ ap (λ (l : List ℕ). get_or l 0 0) (nums_num v x.1));
     }
 
-    pub number_next : k ≡ 0 → (m : ℕ) → left ≡ suc m → Scan a h e (q + 1) (Wanted i m)
-    number_next z m em =
-        scan_number a h e q (Wanted i left) s lt ek ev z (Wanted i m) (λ n w r x.
-        x ∙ ap (λ (j : ℕ). get_or (nums (num v r)) j 0) em ∙ ap (λ (l : List ℕ). get_or l (suc m) 0) (nums_num v r))
+    pub number_next : k ≡ 0 → {n : ℕ} → left ≡ suc n → Scan a h e r (Wanted i n)
+    number_next z {n} en =
+        scan_number s m z (Wanted i n) (λ l w r x. x ∙ ap (λ (j : ℕ). get_or (nums (num v r)) j 0) en ∙ ap (λ (l : List ℕ). get_or l (suc n) 0) (nums_num v r))
 
-    pub number_pass : (k ≡ 0 → ⊥) → (l : ℕ) → (1 ≤ span k v → l ≡ span k v) → Scan a h e (q + l) (Wanted i left)
-    number_pass z l el = scan_child a h e q (Wanted i left) s lt ek ev z l el (Wanted i left) (λ n w u r x. x ∙ ap (λ (l : List ℕ). get_or l left 0) (nums_sub u r))
+    pub number_pass : (k ≡ 0 → ⊥) → Scan a h e r (Wanted i left)
+    number_pass z = scan_child s m z (Wanted i left) (λ n w u r x. x ∙ ap (λ (l : List ℕ). get_or l left 0) (nums_sub u r))
 
 -- a place past all tokens stands for the number that there is not
 pub number_from : (a : Area) (h i : ℕ) (r : Option ℕ) (p d : ℕ) → p ≡ unwrap_or r d → length a.kinds ≤ d → length a.vals ≤ d → NumberAt a h i r → NumberHere a h i p
@@ -218,31 +230,30 @@ passed_next x k n w v r ne p =
         let o : 3 + j ≡ k = omega arith in
         ne (omega arith) (sym (passed_num x k n w v r p).1 ∙ ap (λ (i : ℕ). get_or (nums w) i 0) (sym o) ∙ z)
 
-module _ (a : Area) (h e q x k : ℕ) (s : Scan a h e q (Passed x k)) where
+module _ {a : Area} {h e q x k : ℕ} (s : Scan a h e q (Passed x k)) where
   pub key_over : e ≤ q → KeyOf a h x None
   key_over le = record {
     is = λ hs cs S c t w j lt z.
-        let y = scan_over a h e q (Passed x k) s le hs cs S c t w in
+        let y = scan_over s le hs cs S c t w in
         let l = length-drop k (nums (row t)) in
         y.1.none j (omega (arith, ap length (y.1.left ∙ nums_end))) z;
   }
 
-  module _ (lt : q < e) {j v : ℕ} (ek : j ≡ get_or a.kinds q 0) (ev : v ≡ get_or a.vals q 0) where
+  module _ {j v r : ℕ} (m : Came a e q j v r) where
     pub key_here : j ≡ 0 → v ≡ x → 3 ≤ k → KeyOf a h x (Some (k - 3))
     key_here z vx k3 = record {
       is = λ hs cs S c t w.
-          let y = scan_here a h e q (Passed x k) s lt ek ev z hs cs S c t w in
+          let y = scan_here s m z hs cs S c t w in
           let p = passed_num x k y.0 (row t) v y.1 y.2 in
           let o : 3 + (k - 3) ≡ k = omega arith in
           (rw o p.0, rw o (p.1 ∙ vx), λ i li. y.2.none i (omega arith));
     }
 
-    pub key_next : j ≡ 0 → (3 ≤ k → v ≡ x → ⊥) → Scan a h e (q + 1) (Passed x (k + 1))
-    key_next z ne = scan_number a h e q (Passed x k) s lt ek ev z (Passed x (k + 1)) (λ n w r p. passed_next x k n w v r ne p)
+    pub key_next : j ≡ 0 → (3 ≤ k → v ≡ x → ⊥) → Scan a h e r (Passed x (k + 1))
+    key_next z ne = scan_number s m z (Passed x (k + 1)) (λ n w r p. passed_next x k n w v r ne p)
 
-    pub key_pass : (j ≡ 0 → ⊥) → (l : ℕ) → (1 ≤ span j v → l ≡ span j v) → Scan a h e (q + l) (Passed x k)
-    key_pass z l el =
-        scan_child a h e q (Passed x k) s lt ek ev z l el (Passed x k) (λ n w u r p. record { left = p.left ∙ nums_sub u r; none = p.none })
+    pub key_pass : (j ≡ 0 → ⊥) → Scan a h e r (Passed x k)
+    key_pass z = scan_child s m z (Passed x k) (λ n w u r p. record { left = p.left ∙ nums_sub u r; none = p.none })
 
 -- ---- the i-th child: n children have been passed
 
@@ -275,31 +286,29 @@ elem_none i [] h = refl
 elem_none zero (x ∷ l) h = absurd (omega arith)
 elem_none (suc i) (x ∷ l) h = elem_none i l (omega arith)
 
-module _ (a : Area) (h e q m : ℕ) (s : Scan a h e q (Counted m)) where
-  pub child_over : (i : ℕ) → m ≤ i → e ≤ q → (hs cs : List ℕ) (S : ℕ → Bool) (c : ℕ) (t : Term) → Tree a hs cs S h c t → get_elem? (children t) i ≡ none
-  child_over i mi le hs cs S c t w =
-      let y = scan_over a h e q (Counted m) s le hs cs S c t w in
-      let l = length-drop m (subs (row t)) in
-      elem_none i (children t) (omega (arith, ap length (y.1.left ∙ subs_end), ap length (children_row t)))
+module _ {a : Area} {h e q i : ℕ} (s : Scan a h e q (Counted i)) where
+  pub child_over : (j : ℕ) → i ≤ j → e ≤ q → (hs cs : List ℕ) (S : ℕ → Bool) (c : ℕ) (t : Term) → Tree a hs cs S h c t → get_elem? (children t) j ≡ none
+  child_over j ij le hs cs S c t w =
+      let y = scan_over s le hs cs S c t w in
+      let l = length-drop i (subs (row t)) in
+      elem_none j (children t) (omega (arith, ap length (y.1.left ∙ subs_end), ap length (children_row t)))
 
-  module _ (lt : q < e) {k v : ℕ} (ek : k ≡ get_or a.kinds q 0) (ev : v ≡ get_or a.vals q 0) where
-    pub child_number : k ≡ 0 → Scan a h e (q + 1) (Counted m)
-    child_number z =
-        scan_number a h e q (Counted m) s lt ek ev z (Counted m) (λ n w r p. record { count = p.count; left = p.left ∙ subs_num v r })
+  module _ {k v r : ℕ} (m : Came a e q k v r) where
+    pub child_number : k ≡ 0 → Scan a h e r (Counted i)
+    child_number z = scan_number s m z (Counted i) (λ n w r p. record { count = p.count; left = p.left ∙ subs_num v r })
 
     module _ (z : k ≡ 0 → ⊥) where
-      pub child_next : (l : ℕ) → (1 ≤ span k v → l ≡ span k v) → Scan a h e (q + l) (Counted (m + 1))
-      child_next l el =
-          scan_child a h e q (Counted m) s lt ek ev z l el (Counted (m + 1)) (λ n w u r p.
-          record { count = ap (λ (i : ℕ). i + 1) p.count; left = (drop_next error m (subs w) u (subs r) (p.left ∙ subs_sub u r)).2 })
+      pub child_next : Scan a h e r (Counted (i + 1))
+      child_next = scan_child s m z (Counted (i + 1)) (λ n w u r p.
+          record { count = ap (λ (j : ℕ). j + 1) p.count; left = (drop_next error i (subs w) u (subs r) (p.left ∙ subs_sub u r)).2 })
 
-      pub child_found : (hs cs : List ℕ) (S : ℕ → Bool) (c : ℕ) (t : Term) → Tree a hs cs S h c t → (x y : ℕ) → x ≡ head_of hs c q m → y ≡ kids_of cs c m
-          → (u : Term) × (get_elem? (children t) m ≡ some u) × Tree a hs cs S x y u
-      child_found hs cs S c t w x y ex ey =
+      pub child_found : (hs cs : List ℕ) (S : ℕ → Bool) (c : ℕ) (t : Term) → Tree a hs cs S h c t → {x y : ℕ} → x ≡ head_of hs c q i → y ≡ kids_of cs c i
+          → (u : Term) × (get_elem? (children t) i ≡ some u) × Tree a hs cs S x y u
+      child_found hs cs S c t w ex ey =
           let b = s.is hs cs S c t w in
-          let d = parted_child a hs cs S b.rest lt ek ev z in (
+          let d = parted_child a hs cs S b.rest m.before m.kind m.value z in (
             d.term,
-            ap (λ (l : List Term). get_elem? l m) (sym (children_row t))
-                ∙ (drop_next error m (subs (row t)) d.term (subs d.rest) (b.so.left ∙ ap subs d.is ∙ subs_sub d.term d.rest)).3,
+            ap (λ (l : List Term). get_elem? l i) (sym (children_row t))
+                ∙ (drop_next error i (subs (row t)) d.term (subs d.rest) (b.so.left ∙ ap subs d.is ∙ subs_sub d.term d.rest)).3,
             rw (ex, ey, ← b.so.count) d.tree,
           )

@@ -17,7 +17,7 @@ use Rattle.terms.specs.Words.TokenBytes.{plain, spelt}
 use Rattle.terms.specs.Words.Arena.{own, own_nums, OwnAt, RowAt, Tree, variable, branch}
 use Rattle.terms.proofs.Laws.Format.WriteLaws.{plain_short, held_bytes}
 use Rattle.terms.proofs.Laws.Held.SameLaws.{span_held}
-use Rattle.terms.proofs.Laws.Normalising.ScanLaws.{Scan, scan_start, scan_over, scan_number, scan_child}
+use Rattle.terms.proofs.Laws.Normalising.ScanLaws.{Scan, Came, came_number, scan_start, scan_over, scan_number, scan_child}
 use Rattle.terms.proofs.Laws.Normalising.DepthLaws.{less}
 use Rattle.terms.proofs.Laws.Normalising.SlotLaws.{nominal_member, nominal_argument, projection_argument, projection_receiver, projection_member, projection_interface}
 
@@ -278,39 +278,37 @@ end_bytes : own_nums end ≡ 0
 unfolding own_nums
 end_bytes = refl
 
-module _ (a : Area) (h b : ℕ) where
-  pub record Owning (e q n : ℕ) : Type 0 where
-    pub scan : Scan a h e q (Counted b n)
-    -- six bytes a token at most
-    pub few : n + 6 * (e - q) ≤ 6 * (e + 1)
+pub record Owning (a : Area) (h b e q n : ℕ) : Type 0 where
+  pub scan : Scan a h e q (Counted b n)
+  -- six bytes a token at most
+  pub few : n + 6 * (e - q) ≤ 6 * (e + 1)
 
-  pub owning_start : (e q : ℕ) → RowAt a h q e → b ≤ 6 → Owning e q b
-  owning_start e q r f = record { scan = scan_start a h e q (Counted b b) r (λ w. refl); few = omega arith }
+module _ {a : Area} {h b e q : ℕ} where
+  pub owning_start : RowAt a h q e → b ≤ 6 → Owning a h b e q b
+  owning_start r f = record { scan = scan_start r (λ w. refl); few = omega arith }
 
-  module _ (e q n : ℕ) (s : Owning e q n) (lt : q < e) {k v : ℕ} (ek : k ≡ get_or a.kinds q 0) (ev : v ≡ get_or a.vals q 0) where
-    pub owning_number : k ≡ 0 → v < 2 ^ 32 → {m : ℕ} → m ≡ length (plain k v) → Owning e (q + 1) (n + m)
-    owning_number z f {m = m} em = record {
-      scan = scan_number a h e q (Counted b n) s.scan lt ek ev z (Counted b (n + m)) (λ i w r x. omega (arith, x, nums_bytes k v r z, em));
-      few = omega (arith, s.few, plain_short k v f, em);
-    }
+  module _ {n : ℕ} (s : Owning a h b e q n) where
+    module _ {k v r : ℕ} (m : Came a e q k v r) where
+      pub owning_number : k ≡ 0 → v < 2 ^ 32 → {l : ℕ} → l ≡ length (plain k v) → Owning a h b e r (n + l)
+      owning_number z f {l} el = record {
+        scan = scan_number s.scan m z (Counted b (n + l)) (λ i w r x. omega (arith, x, nums_bytes k v r z, el));
+        few = omega (arith, s.few, m.before, came_number m z, plain_short k v f, el);
+      }
 
-    pub owning_child : (k ≡ 0 → ⊥) → (l : ℕ) → (1 ≤ span k v → l ≡ span k v) → Owning e (q + l) n
-    owning_child z l el = record {
-      scan = scan_child a h e q (Counted b n) s.scan lt ek ev z l el (Counted b n) (λ i w u r x. omega (arith, x, subs_bytes u r));
-      few = omega (arith, s.few);
-    }
+      pub owning_child : (k ≡ 0 → ⊥) → Owning a h b e r n
+      owning_child z = record { scan = scan_child s.scan m z (Counted b n) (λ i w u r x. omega (arith, x, subs_bytes u r)); few = omega (arith, s.few, m.rises) }
 
-  pub owning_done : (e q n : ℕ) → Owning e q n → e ≤ q → {k v : ℕ} → k ≡ get_or a.kinds h 0 → v ≡ get_or a.vals h 0 → b ≡ length (plain k v) → OwnAt a h n × (n < 34359738368)
-  owning_done e q n s le {k = k} {v = v} ek ev eb = (
-    record {
-      is = λ hs cs S c t w.
-          let x = scan_over a h e q (Counted b n) s.scan le hs cs S c t w in
-          let y = own_tree a hs cs S w in
-          let z : length (plain k v) ≡ length (plain (get_or a.kinds h 0) (get_or a.vals h 0)) = rw (ek, ev) in
-          omega (arith, x.1, y, z, eb, end_bytes);
-    },
-    omega (arith, s.few, s.scan.small),
-  )
+    pub owning_done : e ≤ q → {k v : ℕ} → k ≡ get_or a.kinds h 0 → v ≡ get_or a.vals h 0 → b ≡ length (plain k v) → OwnAt a h n × (n < 34359738368)
+    owning_done le {k = k} {v = v} ek ev eb = (
+      record {
+        is = λ hs cs S c t w.
+            let x = scan_over s.scan le hs cs S c t w in
+            let y = own_tree a hs cs S w in
+            let z : length (plain k v) ≡ length (plain (get_or a.kinds h 0) (get_or a.vals h 0)) = rw (ek, ev) in
+            omega (arith, x.1, y, z, eb, end_bytes);
+      },
+      omega (arith, s.few, s.scan.small),
+    )
 
 -- ---- a term that the lent tokens hold
 

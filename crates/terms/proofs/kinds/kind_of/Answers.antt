@@ -1,7 +1,7 @@
 -- `kind_of`: each single tag by computation on the table, the two ranges by `nominal_tag` and `unlisted_tag`.
-use Prim.Native.Nat.{zero-le}
+use native.Mathlib.Omega.{arith}
 use Rattle.terms.specs.Shape.{kind_of, many_terms}
-use Rattle.terms.proofs.Laws.Format.KindLaws.{nominal_tag, unlisted_tag, past}
+use Rattle.terms.proofs.Laws.Format.KindLaws.{nominal_tag, unlisted_tag}
 use Rattle.terms.proofs.kinds.kind_of.Goals as goal
 
 pub returns-in-0 : goal.returns-in-0
@@ -69,11 +69,7 @@ unfolding kind_of many_terms
 returns-in-19 c = rw c.in-19.is c.plain-in-19.ensures
 
 pub returns-in-12-to-15 : goal.returns-in-12-to-15
-returns-in-12-to-15 c =
-    let n = c.in-12-to-15.in_default-own.rest in
-    nominal_tag _ (past 11 _ (past 10 _ (past 9 _ (past 8 _ (past 7 _ (past 6 _ (past 5 _ (past 4 _ (past 3 _ (past 2 _ (past 1 _ (past 0 _ zero-le n.0.0.0.0.0.0.0.0.0.0.0.0.0.0.0.1) n.0.0.0.0.0.0.0.0.0.0.0.0.0.0.1) n.0.0.0.0.0.0.0.0.0.0.0.0.0.1) n.0.0.0.0.0.0.0.0.0.0.0.0.1) n.0.0.0.0.0.0.0.0.0.0.0.1) n.0.0.0.0.0.0.0.0.0.0.1) n.0.0.0.0.0.0.0.0.0.1) n.0.0.0.0.0.0.0.0.1) n.0.0.0.0.0.0.0.1) n.0.0.0.0.0.0.1) n.0.0.0.0.0.1) n.0.0.0.0.1) c.in-12-to-15.if-tag-lt16-own.true
+returns-in-12-to-15 c = nominal_tag _ (omega arith) (omega arith)
 
 pub returns-in-20-to-255 : goal.returns-in-20-to-255
-returns-in-20-to-255 c =
-    let n = c.in-20-to-255.in_default-own.rest in
-    unlisted_tag _ (past 19 _ (past 18 _ (past 17 _ (past 16 _ c.in-20-to-255.if-tag-lt16-own.false n.0.0.0.1) n.0.0.1) n.0.1) n.1)
+returns-in-20-to-255 c = unlisted_tag _ (omega arith)

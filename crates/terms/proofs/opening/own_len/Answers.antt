@@ -1,15 +1,13 @@
 use native.Mathlib.Omega.{arith}
-use Rattle.terms.proofs.Laws.Normalising.ScanLaws.{over_here, over_on, over_width, over_child, over_number}
+use Rattle.terms.proofs.Laws.Normalising.ScanLaws.{came}
 use Rattle.terms.proofs.Laws.Normalising.SumLaws.{token_few, owning_start, owning_number, owning_child, owning_done}
 use Rattle.terms.proofs.opening.own_len.Goals as goal
+use mathlib.Core.Path.{◌∙◌}
 
 pub loop-y-init : goal.loop-y-init
 loop-y-init c =
     let e = c.walk_row-y-items.ensures in
-    rw c.into_iter-y-iterator.ensures.into_iter_gives (
-      owning_start _ _ _ _ _ e.row (token_few _ _ _ c.token_len-n.ensures (omega arith)),
-      e.seen,
-    )
+    rw c.into_iter-y-iterator.ensures.into_iter_gives (owning_start e.row (token_few _ _ _ c.token_len-n.ensures (omega arith)), e.seen)
 
 pub overflow_add-n : goal.overflow_add-n
 overflow_add-n c =
@@ -20,24 +18,13 @@ pub loop-y-preserved-then-y-eq0 : goal.loop-y-preserved-then-y-eq0
 loop-y-preserved-then-y-eq0 c =
     let i = c.loop-y.invariant in
     let s = c.in-Some.ensures.steps in
-    let t = c.next.new.self in
-    let m = over_here _ _ i.1 _ _ t s in (
-      rw (s.1) (rw (over_number _ _ i.1 _ _ t s c.if-y-eq0.true) at (owning_number _ _ _ _ _ _ i.0 m.1 m.2 m.3 c.if-y-eq0.true (omega arith)
-          c.token_len-n-then-y-eq0.ensures)),
-      over_on _ _ i.1 _ _ t s,
-    )
+    (rw (s.1) (owning_number i.0 (came _ _ i.1 _ _ c.next.new.self s) c.if-y-eq0.true (omega arith) c.token_len-n-then-y-eq0.ensures), s.2 ∙ i.1)
 
 pub loop-y-preserved : goal.loop-y-preserved
 loop-y-preserved c =
     let i = c.loop-y.invariant in
     let s = c.in-Some.ensures.steps in
-    let t = c.next.new.self in
-    let m = over_here _ _ i.1 _ _ t s in (
-      rw (s.1) (rw (over_child _ _ i.1 _ _ t s) at (owning_child _ _ _ _ _ _ i.0 m.1 m.2 m.3 c.if-y-eq0.false _ (over_width _ _ i.1 _ _ t s))),
-      over_on _ _ i.1 _ _ t s,
-    )
+    (rw (s.1) (owning_child i.0 (came _ _ i.1 _ _ c.next.new.self s) c.if-y-eq0.false), s.2 ∙ i.1)
 
 pub returns-clause-own : goal.returns-clause-own
-returns-clause-own c =
-    (owning_done _ c.args.h _ _ _ _ c.loop-y.invariant.0 c.in-None.ensures.steps.0.0 c.token_at-x.ensures.kind c.token_at-x.ensures.value
-    c.token_len-n.ensures).0
+returns-clause-own c = (owning_done c.loop-y.invariant.0 c.in-None.ensures.steps.0.0 c.token_at-x.ensures.kind c.token_at-x.ensures.value c.token_len-n.ensures).0
