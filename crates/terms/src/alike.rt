@@ -4,7 +4,7 @@
 ghost use Rattle.terms.specs.Words.Lent.{shown};
 ghost use Rattle.std.specs.Prelude.{◌≡◌, ◌&&◌, ◌+◌, eqb, leb, length, get_or};
 ghost use Rattle.terms.specs.Words.Held.{span};
-ghost use Rattle.terms.specs.Words.Arena.{Cut, further, Alike, Begins, Starts};
+ghost use Rattle.terms.specs.Words.Arena.{Alike, Begins, Starts};
 
 use super::rows::{child_here, row_of};
 use super::runs::same_term;
@@ -24,18 +24,6 @@ pub fn cursor(seen: &Seen, x: Content) -> Cursor
     }
 }
 
-// A further place in the same row.
-pub fn moved(x: Cursor, at: usize, child: usize) -> Cursor
-    ensures { result ≡ further x at child }
-{
-    Cursor {
-        at,
-        end: x.end,
-        child,
-        kids: x.kids,
-    }
-}
-
 // Whether a content is as in the source and all its tokens are lent.
 fn is_lent(tokens: &Tokens, x: Content) -> bool
     ensures { result
@@ -48,7 +36,7 @@ fn is_lent(tokens: &Tokens, x: Content) -> bool
     p + tokens.token(p).span() <= tokens.kinds.len()
 }
 
-// Whether the parts at x begin with all that are at y; the children at x have at most `fuel` levels.
+// The place in x after all the parts that are at y, where those at x begin with them; the children at x have at most `fuel` levels.
 #[cycle(comparing)]
 pub fn same_rows(
     seen: &Seen,
@@ -57,8 +45,7 @@ pub fn same_rows(
     x: Cursor,
     y: Cursor,
     fuel: usize,
-) -> Option<(usize, usize)>
-    requires cut { Cut x × Cut y }
+) -> Option<Cursor>
     ensures { Begins (shown seen.now) heads.now kids.now x y fuel result }
 {
     // two rows are walked at once, and the first is left where the second ends, so no `RowWalk` stands for either
@@ -96,7 +83,12 @@ pub fn same_rows(
             q += t.step();
         }
     }
-    Some((p, i))
+    Some(Cursor {
+        at: p,
+        end: x.end,
+        child: i,
+        kids: x.kids,
+    })
 }
 
 // Whether two contents stand for the same tree; the first has at most `fuel` levels. Lent ones are compared token by token.
@@ -129,9 +121,9 @@ pub fn same_trees(
     }
     let a = cursor(seen, x);
     let b = cursor(seen, y);
-    let m = same_rows(seen, heads, kids, a, b, fuel - 1);
-    let Some((at, _)) = m else {
+    // no `is_some_and`: in a cycle of calls what a closure answers is out of the proof's reach
+    let Some(z) = same_rows(seen, heads, kids, a, b, fuel - 1) else {
         return false;
     };
-    a.end <= at
+    z.end <= z.at
 }

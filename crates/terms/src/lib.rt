@@ -1,7 +1,7 @@
 // Terms: numbers; terms read into two lent areas as runs of tokens, and written again; the operations on them.
 #![tactic(auto)]
 
-ghost use Rattle.std.specs.Prelude.{◌≡◌, length};
+ghost use Rattle.std.specs.Prelude.{◌≡◌, ◌≤◌, ◌<◌, length};
 ghost use Rattle.terms.specs.Words.RewriteContract.{RowsWithin};
 ghost use Rattle.terms.specs.Words.Tokens.{Narrow};
 ghost use Rattle.terms.specs.Words.VirtualTokens.{Sight, given_of};
@@ -375,13 +375,15 @@ pub struct Begun {
     pub members: usize,
 }
 
-// A place in the row of a content: the next token, the row's end, how many children were passed, and the content's child word.
+// A place in the row of a content: the next token, the row's end, how many children were passed, and the content's child word. Places and counts are words.
 #[derive(Clone, Copy)]
 pub struct Cursor {
     pub at: usize,
     pub end: usize,
     pub child: usize,
     pub kids: u32,
+    ghost small: { end < 4294967296 },
+    ghost few: { child ≤ at },
 }
 
 // A rule of order 20: the places of its interface and its receiver, its member, the place of its arguments and how many they are, and the place of its

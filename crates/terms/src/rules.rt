@@ -6,10 +6,10 @@ ghost use Rattle.std.specs.Prelude.{◌≡◌, Bool, true, false, List, ℕ, ◌
 ghost use Rattle.terms.specs.Term.{Term, depths};
 ghost use Rattle.terms.specs.Tree.{row};
 ghost use Rattle.terms.specs.Lookup.{Pattern, by_patterns, Ruled};
-ghost use Rattle.terms.specs.Words.Arena.{Tree, Cut, Fetched};
+ghost use Rattle.terms.specs.Words.Arena.{Tree, Fetched};
 ghost use Rattle.terms.specs.Words.RulesContract.{TermStarts, Numbers, Fronted, MemberIn};
 
-use super::alike::{cursor, moved, same_rows};
+use super::alike::{cursor, same_rows};
 use super::rows::NOWHERE;
 use super::rule_list::first_with;
 use super::virtual_tokens::token_at;
@@ -58,8 +58,7 @@ fn number_next(seen: &Seen, at: usize, end: usize, m: u32) -> bool
 }
 
 // Whether two numbers come next in a row, and the place after them.
-fn two_numbers(seen: &Seen, x: Cursor, m: u32, n: u32) -> Option<(usize, usize)>
-    requires cut { Cut x }
+fn two_numbers(seen: &Seen, x: Cursor, m: u32, n: u32) -> Option<Cursor>
     ensures { Numbers (shown seen.now) x m n result }
 {
     let at = x.at;
@@ -69,7 +68,12 @@ fn two_numbers(seen: &Seen, x: Cursor, m: u32, n: u32) -> Option<(usize, usize)>
     if !number_next(seen, at + 1, x.end, n) {
         return None;
     }
-    Some((at + 2, x.child))
+    Some(Cursor {
+        at: at + 2,
+        end: x.end,
+        child: x.child,
+        kids: x.kids,
+    })
 }
 
 // Whether a row begins with what a rule has before its arguments, and the place after that.
@@ -80,21 +84,19 @@ fn same_front(
     x: Cursor,
     rule: Rule,
     fuel: usize,
-) -> Option<(usize, usize)>
-    requires cut { Cut x }
+) -> Option<Cursor>
     ensures { Fronted seen.now.tokens.kinds.now seen.now.tokens.vals.now (shown seen.now) heads.now kids.now x rule fuel
         result }
 {
     let receiver = term_cursor(seen, rule.receiver as usize);
-    let (p, i) = same_rows(seen, heads, kids, x, receiver, fuel)?;
+    let x = same_rows(seen, heads, kids, x, receiver, fuel)?;
     let interface = cursor(seen, source(rule.interface));
-    let (q, j) = same_rows(seen, heads, kids, moved(x, p, i), interface, fuel)?;
-    two_numbers(seen, moved(x, q, j), rule.member, rule.count)
+    let x = same_rows(seen, heads, kids, x, interface, fuel)?;
+    two_numbers(seen, x, rule.member, rule.count)
 }
 
 // The last number but one of a row: of a projection's, its member.
 fn member_in(seen: &Seen, x: Cursor) -> u32
-    requires cut { Cut x }
     ensures { MemberIn (shown seen.now) x result }
 {
     let row = RowWalk {
@@ -139,18 +141,15 @@ pub fn find_rule(
         let mut m = same_front(seen, heads, kids, s, rule, fuel);
         let mut a = rule.arguments;
         let mut left = rule.count;
-        loop {
-            let Some((p, i)) = m else {
-                break;
-            };
+        while let Some(z) = m {
             if left == 0 {
-                if s.end <= p {
+                if z.end <= z.at {
                     break 'rules;
                 }
                 break;
             }
             let argument = term_cursor(seen, a as usize);
-            m = same_rows(seen, heads, kids, moved(s, p, i), argument, fuel);
+            m = same_rows(seen, heads, kids, z, argument, fuel);
             a = argument.end as u32;
             left -= 1;
         }

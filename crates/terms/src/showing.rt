@@ -5,7 +5,7 @@ ghost use Rattle.terms.specs.Words.Lent.{shown};
 ghost use Rattle.std.specs.Prelude.{◌≡◌, Bool, ℕ, ◌+◌, ◌≤◌, ◌<◌, length};
 ghost use Rattle.terms.specs.Words.TokenBytes.{plain, spelt};
 ghost use Rattle.terms.specs.Term.{Term, Parts, depth, depths, bytes, part_bytes};
-ghost use Rattle.terms.specs.Words.Arena.{Tree, From, Cut};
+ghost use Rattle.terms.specs.Words.Arena.{Tree, From};
 ghost use Rattle.terms.specs.Words.ShowingContract.{writes, Shows, Kept};
 
 use super::alike::cursor;
@@ -105,7 +105,6 @@ fn show_row(
     at: usize,
     pass: Pass,
 ) -> Option<usize>
-    requires cut { Cut c }
     requires room { at ≤ length out.old }
     ensures kept { Kept (writes pass) out.old out.new at result }
     ensures shows { (S : ℕ → Bool) (ps : Parts)
