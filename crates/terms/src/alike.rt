@@ -1,6 +1,5 @@
 // Whether two contents stand for the same tree, each as in the source or built.
 // Kinds and tags are matched by number; the line in kinds.rt says why.
-// Heads and kids are lent as two slices; the line in rows.rt says why.
 ghost use Rattle.terms.specs.Words.Lent.{shown};
 ghost use Rattle.std.specs.Prelude.{◌≡◌, ◌&&◌, ◌+◌, eqb, leb, length, get_or};
 ghost use Rattle.terms.specs.Words.Held.{span};
@@ -9,7 +8,7 @@ ghost use Rattle.terms.specs.Words.Arena.{Alike, Begins, Starts};
 use super::rows::{child_here, row_of};
 use super::runs::same_term;
 use super::virtual_tokens::token_at;
-use super::{Content, Cursor, Origin, Seen, Tokens};
+use super::{Content, Cursor, Origin, Records, Seen, Tokens};
 
 // The start of a content's row.
 pub fn cursor(seen: &Seen, x: Content) -> Cursor
@@ -38,15 +37,8 @@ fn is_lent(tokens: &Tokens, x: Content) -> bool
 
 // The place in x after all the parts that are at y, where those at x begin with them; the children at x have at most `fuel` levels.
 #[cycle(comparing)]
-pub fn same_rows(
-    seen: &Seen,
-    heads: &[u32],
-    kids: &[u32],
-    x: Cursor,
-    y: Cursor,
-    fuel: usize,
-) -> Option<Cursor>
-    ensures { Begins (shown seen.now) heads.now kids.now x y fuel result }
+pub fn same_rows(records: &Records, x: Cursor, y: Cursor, fuel: usize) -> Option<Cursor>
+    ensures { Begins (shown records.now.seen.now) records.now.heads.now records.now.kids.now x y fuel result }
 {
     // two rows are walked at once, and the first is left where the second ends, so no `RowWalk` stands for either
     let mut p = x.at;
@@ -57,8 +49,8 @@ pub fn same_rows(
         if x.end <= p {
             return None;
         }
-        let s = token_at(seen, p);
-        let t = token_at(seen, q);
+        let s = token_at(records.seen, p);
+        let t = token_at(records.seen, q);
         if t.kind == 0 {
             if s.kind != 0 {
                 return None;
@@ -72,9 +64,9 @@ pub fn same_rows(
             if s.kind == 0 {
                 return None;
             }
-            let a = child_here(heads, kids, x.kids, p, i);
-            let b = child_here(heads, kids, y.kids, q, j);
-            if !same_trees(seen, heads, kids, a, b, fuel) {
+            let a = child_here(records.heads, records.kids, x.kids, p, i);
+            let b = child_here(records.heads, records.kids, y.kids, q, j);
+            if !same_trees(records, a, b, fuel) {
                 return None;
             }
             i += 1;
@@ -93,36 +85,29 @@ pub fn same_rows(
 
 // Whether two contents stand for the same tree; the first has at most `fuel` levels. Lent ones are compared token by token.
 #[cycle(comparing)]
-pub fn same_trees(
-    seen: &Seen,
-    heads: &[u32],
-    kids: &[u32],
-    x: Content,
-    y: Content,
-    fuel: usize,
-) -> bool
-    ensures { Alike (shown seen.now) heads.now kids.now x y fuel result }
+pub fn same_trees(records: &Records, x: Content, y: Content, fuel: usize) -> bool
+    ensures { Alike (shown records.now.seen.now) records.now.heads.now records.now.kids.now x y fuel result }
 {
     if fuel == 0 {
         return false;
     }
-    let s = token_at(seen, x.head as usize);
-    let t = token_at(seen, y.head as usize);
+    let s = token_at(records.seen, x.head as usize);
+    let t = token_at(records.seen, y.head as usize);
     if s.kind != t.kind {
         return false;
     }
     if s.kind == 1 {
         return s.value == t.value;
     }
-    if is_lent(&seen.tokens, x) {
-        if is_lent(&seen.tokens, y) {
-            return same_term(&seen.tokens, x.head as usize, y.head as usize);
+    if is_lent(&records.seen.tokens, x) {
+        if is_lent(&records.seen.tokens, y) {
+            return same_term(&records.seen.tokens, x.head as usize, y.head as usize);
         }
     }
-    let a = cursor(seen, x);
-    let b = cursor(seen, y);
+    let a = cursor(records.seen, x);
+    let b = cursor(records.seen, y);
     // no `is_some_and`: in a cycle of calls what a closure answers is out of the proof's reach
-    let Some(z) = same_rows(seen, heads, kids, a, b, fuel - 1) else {
+    let Some(z) = same_rows(records, a, b, fuel - 1) else {
         return false;
     };
     z.end <= z.at

@@ -366,6 +366,14 @@ pub struct Content {
     pub kids: u32,
 }
 
+// What contents are looked at with: the tokens that are seen, and the records, whose heads and kids are two slices.
+#[derive(Clone, Copy)]
+pub struct Records<'a> {
+    pub seen: &'a Seen<'a>,
+    pub heads: &'a [u32],
+    pub kids: &'a [u32],
+}
+
 // A node whose children are in records: how many, its tag, its counts of arguments and members.
 #[derive(Clone, Copy)]
 pub struct Begun {

@@ -17,7 +17,9 @@ use super::rules::source;
 use super::showing::show_tree;
 use super::store::clear_tokens;
 use super::walking::walk;
-use super::{LookUp, Normaliser, Origin, Pass, Ready, Rule, Seen, Tokens, Unfinished, Walked};
+use super::{
+    LookUp, Normaliser, Origin, Pass, Ready, Records, Rule, Seen, Tokens, Unfinished, Walked,
+};
 
 // Whether one of the kinds is a projection's.
 fn any_projection(kinds: &[u32]) -> bool
@@ -42,7 +44,12 @@ fn size_up(seen: &Seen, p: u32, out: &mut [u8], at: usize) -> Option<Ready>
     ensures sized { Sized seen.now.tokens.kinds.now seen.now.tokens.vals.now seen.now.given p out.old at result }
 {
     let content = source(p);
-    let end = show_tree(seen, &[], &[], content, 0, out, at, Pass::Count)?;
+    let records = Records {
+        seen,
+        heads: &[],
+        kids: &[],
+    };
+    let end = show_tree(&records, content, 0, out, at, Pass::Count)?;
     Some(Ready {
         content,
         next: 0,
@@ -236,16 +243,12 @@ pub fn write_normalised(
         tokens: *tokens,
         given: w.given,
     };
-    let end = show_tree(
-        &seen,
+    let records = Records {
+        seen: &seen,
         heads,
         kids,
-        w.content,
-        LEVELS + 1,
-        out,
-        at,
-        Pass::Write,
-    );
+    };
+    let end = show_tree(&records, w.content, LEVELS + 1, out, at, Pass::Write);
     clear_tokens(heads, kids, 0, w.next);
     end.unwrap_or(at)
 }

@@ -1,7 +1,6 @@
 // The rules of order 20.
 // Kinds and tags are matched by number; the line in kinds.rt says why.
-// Heads and kids are lent as two slices; the line in rows.rt says why.
-ghost use Rattle.terms.specs.Words.Lent.{shown};
+ghost use Rattle.terms.specs.Words.Lent.{shown, StandsFor, Finds};
 ghost use Rattle.std.specs.Prelude.{◌≡◌, Bool, true, false, List, ℕ, ◌+◌, ◌*◌, ◌≤◌, ◌<◌, length, get_or};
 ghost use Rattle.terms.specs.Term.{Term, depths};
 ghost use Rattle.terms.specs.Tree.{row};
@@ -13,7 +12,7 @@ use super::alike::{cursor, same_rows};
 use super::rows::NOWHERE;
 use super::rule_list::first_with;
 use super::virtual_tokens::token_at;
-use super::{Content, Cursor, Origin, RowWalk, Rule, Seen};
+use super::{Content, Cursor, Origin, Records, RowWalk, Rule, Seen};
 
 // A term as it stands in the source.
 pub fn source(p: u32) -> Content
@@ -77,22 +76,15 @@ fn two_numbers(seen: &Seen, x: Cursor, m: u32, n: u32) -> Option<Cursor>
 }
 
 // Whether a row begins with what a rule has before its arguments, and the place after that.
-fn same_front(
-    seen: &Seen,
-    heads: &[u32],
-    kids: &[u32],
-    x: Cursor,
-    rule: Rule,
-    fuel: usize,
-) -> Option<Cursor>
-    ensures { Fronted seen.now.tokens.kinds.now seen.now.tokens.vals.now (shown seen.now) heads.now kids.now x rule fuel
-        result }
+fn same_front(records: &Records, x: Cursor, rule: Rule, fuel: usize) -> Option<Cursor>
+    ensures { Fronted records.now.seen.now.tokens.kinds.now records.now.seen.now.tokens.vals.now (shown records.now.seen.now) records.now.heads.now
+        records.now.kids.now x rule fuel result }
 {
-    let receiver = term_cursor(seen, rule.receiver as usize);
-    let x = same_rows(seen, heads, kids, x, receiver, fuel)?;
-    let interface = cursor(seen, source(rule.interface));
-    let x = same_rows(seen, heads, kids, x, interface, fuel)?;
-    two_numbers(seen, x, rule.member, rule.count)
+    let receiver = term_cursor(records.seen, rule.receiver as usize);
+    let x = same_rows(records, x, receiver, fuel)?;
+    let interface = cursor(records.seen, source(rule.interface));
+    let x = same_rows(records, x, interface, fuel)?;
+    two_numbers(records.seen, x, rule.member, rule.count)
 }
 
 // The last number but one of a row: of a projection's, its member.
@@ -117,28 +109,21 @@ fn member_in(seen: &Seen, x: Cursor) -> u32
 
 // The value of the first rule whose four parts equal those of a projection; its children have at most `fuel` levels. The member is
 // looked for first, in the list of the rules; rule and argument walk are left together at the match.
-pub fn find_rule(
-    seen: &Seen,
-    rules: &[Rule],
-    heads: &[u32],
-    kids: &[u32],
-    x: Content,
-    fuel: usize,
-) -> Option<Content>
+pub fn find_rule(records: &Records, rules: &[Rule], x: Content, fuel: usize) -> Option<Content>
     ensures { (S : ℕ → Bool) (t : Term) (rs : List Pattern)
-        → Tree (shown seen.now) heads.now kids.now S x.head x.kids t
+        → StandsFor records.now S x t
         → depths (row t) ≤ fuel
-        → Ruled seen.now.tokens.kinds.now seen.now.tokens.vals.now rules.now rs
-        → Fetched (shown seen.now) heads.now kids.now S (by_patterns rs (row t)) result }
+        → Ruled records.now.seen.now.tokens.kinds.now records.now.seen.now.tokens.vals.now rules.now rs
+        → Finds records.now S (by_patterns rs (row t)) result }
 {
-    let s = cursor(seen, x);
-    let member = member_in(seen, s);
+    let s = cursor(records.seen, x);
+    let member = member_in(records.seen, s);
     let mut r = 0;
     // Rules are skipped to the next with the member, and arguments are as wide as they say; both are left at the match (document 01).
     'rules: loop {
         r += first_with(&rules[r..], member)?;
         let rule = rules[r];
-        let mut m = same_front(seen, heads, kids, s, rule, fuel);
+        let mut m = same_front(records, s, rule, fuel);
         let mut a = rule.arguments;
         let mut left = rule.count;
         while let Some(z) = m {
@@ -148,8 +133,8 @@ pub fn find_rule(
                 }
                 break;
             }
-            let argument = term_cursor(seen, a as usize);
-            m = same_rows(seen, heads, kids, z, argument, fuel);
+            let argument = term_cursor(records.seen, a as usize);
+            m = same_rows(records, z, argument, fuel);
             a = argument.end as u32;
             left -= 1;
         }

@@ -1,7 +1,6 @@
 // Tokens and contents are sized, or written too. What is returned is the position after them; None where they do not fit.
 // Kinds and tags are matched by number; the line in kinds.rt says why.
-// Heads and kids are lent as two slices; the line in rows.rt says why.
-ghost use Rattle.terms.specs.Words.Lent.{shown};
+ghost use Rattle.terms.specs.Words.Lent.{shown, StandsFor};
 ghost use Rattle.std.specs.Prelude.{◌≡◌, Bool, ℕ, ◌+◌, ◌≤◌, ◌<◌, length};
 ghost use Rattle.terms.specs.Words.TokenBytes.{plain, spelt};
 ghost use Rattle.terms.specs.Term.{Term, Parts, depth, depths, bytes, part_bytes};
@@ -12,7 +11,7 @@ use super::alike::cursor;
 use super::rows::child_here;
 use super::virtual_tokens::token_at;
 use super::write::{run_len, token_len, write_run, write_token};
-use super::{Content, Cursor, Origin, Pass, RowWalk, Seen, Token};
+use super::{Content, Cursor, Origin, Pass, Records, RowWalk, Seen, Token};
 
 // One token. The pass is a value and no type, as in `emit_run`: what is sized and what is written are the same but for the last step.
 fn show_token(out: &mut [u8], at: usize, x: Token, pass: Pass) -> Option<usize>
@@ -96,9 +95,7 @@ fn show_run(
 // The parts of a row from a place on; its children have at most `fuel` levels.
 #[cycle(showing_trees)]
 fn show_row(
-    seen: &Seen,
-    heads: &[u32],
-    kids: &[u32],
+    records: &Records,
     c: Cursor,
     fuel: usize,
     out: &mut [u8],
@@ -108,12 +105,12 @@ fn show_row(
     requires room { at ≤ length out.old }
     ensures kept { Kept (writes pass) out.old out.new at result }
     ensures shows { (S : ℕ → Bool) (ps : Parts)
-        → From (shown seen.now) heads.now kids.now S c ps
+        → From (shown records.now.seen.now) records.now.heads.now records.now.kids.now S c ps
         → depths ps ≤ fuel
         → Shows (writes pass) out.old out.new at (part_bytes ps) result }
 {
     let row = RowWalk {
-        seen: *seen,
+        seen: *records.seen,
         at: c.at,
         end: c.end,
     };
@@ -123,8 +120,8 @@ fn show_row(
         if y.kind == 0 {
             i = show_token(out, i, y, pass)?;
         } else {
-            let z = child_here(heads, kids, c.kids, q, n);
-            i = show_tree(seen, heads, kids, z, fuel, out, i, pass)?;
+            let z = child_here(records.heads, records.kids, c.kids, q, n);
+            i = show_tree(records, z, fuel, out, i, pass)?;
             n += 1;
         }
     }
@@ -134,9 +131,7 @@ fn show_row(
 // The tree that a content stands for; where it is built it has at most `fuel` levels.
 #[cycle(showing_trees)]
 pub fn show_tree(
-    seen: &Seen,
-    heads: &[u32],
-    kids: &[u32],
+    records: &Records,
     x: Content,
     fuel: usize,
     out: &mut [u8],
@@ -146,18 +141,18 @@ pub fn show_tree(
     requires room { at ≤ length out.old }
     ensures kept { Kept (writes pass) out.old out.new at result }
     ensures shows { (S : ℕ → Bool) (t : Term)
-        → Tree (shown seen.now) heads.now kids.now S x.head x.kids t
+        → StandsFor records.now S x t
         → (0 < x.kids → depth t ≤ fuel)
         → Shows (writes pass) out.old out.new at (bytes t) result }
 {
-    let h = token_at(seen, x.head as usize);
+    let h = token_at(records.seen, x.head as usize);
     if x.kids == 0 {
-        return show_run(seen, x.head as usize, h.step(), out, at, pass);
+        return show_run(records.seen, x.head as usize, h.step(), out, at, pass);
     }
     if fuel == 0 {
         return None;
     }
-    let c = cursor(seen, x);
+    let c = cursor(records.seen, x);
     let i = show_token(out, at, h, pass)?;
-    show_row(seen, heads, kids, c, fuel - 1, out, i, pass)
+    show_row(records, c, fuel - 1, out, i, pass)
 }

@@ -17,7 +17,7 @@ use super::opening::{begin, own_len};
 use super::rules::find_rule;
 use super::slots::slot;
 use super::write::run_len;
-use super::{Content, LookUp, Normaliser, Origin, Tokens, Walked};
+use super::{Content, LookUp, Normaliser, Origin, Records, Tokens, Walked};
 
 // What a projection with the counts n and m is replaced by; its children have at most `fuel` levels.
 fn replace(
@@ -38,13 +38,18 @@ fn replace(
         → Looks by.now.seen.tokens.kinds.now by.now.seen.tokens.vals.now by.now.lookup look
         → Fetched (shown by.now.seen) heads.now kids.now S (replacement (look_by look) t) result }
 {
-    let own = own_member(&by.seen, heads, kids, x, n, m);
+    let records = Records {
+        seen: &by.seen,
+        heads,
+        kids,
+    };
+    let own = own_member(&records, x, n, m);
     if own.is_some() {
         return own;
     }
     match by.lookup {
-        LookUp::Rules(rules) => find_rule(&by.seen, rules, heads, kids, x, fuel),
-        LookUp::Given(given) => by_interface(&by.seen, given, heads, kids, x, n, m, fuel),
+        LookUp::Rules(rules) => find_rule(&records, rules, x, fuel),
+        LookUp::Given(given) => by_interface(&records, given, x, n, m, fuel),
     }
 }
 
@@ -198,7 +203,8 @@ pub fn walk(
     let Some(v) = f else {
         return Some(result(z, at, left, size));
     };
-    if same_trees(seen, heads, kids, z, v, levels + 1) {
+    let records = Records { seen, heads, kids };
+    if same_trees(&records, z, v, levels + 1) {
         return Some(result(error, at, left, 1));
     }
     walk(by, heads, kids, v, at, levels - 1, left, most)

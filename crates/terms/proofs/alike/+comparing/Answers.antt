@@ -67,7 +67,7 @@ same_trees-same_term-requires t c =
 
 pub same_trees-returns-then-is_lent-2 : goal.same_trees-returns-then-is_lent-2
 same_trees-returns-then-is_lent-2 t c =
-    alike_lent c.args.seen.now.sight (lent_true _ _ _ _ c.is_lent.ensures c.if-is_lent.true)
+    alike_lent c.args.records.now.seen.now.sight (lent_true _ _ _ _ c.is_lent.ensures c.if-is_lent.true)
     (lent_true _ _ _ _ c.is_lent-then-is_lent.ensures c.if-is_lent-2.true) c.same_term.ensures
 
 pub same_trees-returns-in_default : goal.same_trees-returns-in_default
