@@ -1,8 +1,10 @@
 -- What a projection is replaced by, looked up in rows as they stand: a rule's four parts in the order of a projection's row, and order 19's interface as
 -- its row. Of terms that keep to their tags' layouts these find what `by_rules` and `by_interface` find.
-use Rattle.std.specs.Prelude.{◌≡◌, ◌&&◌, List, [], ◌∷◌, ℕ, ◌+◌, eqb, length, get_or}
+use Rattle.std.specs.Prelude.{◌≡◌, ◌&&◌, List, [], ◌∷◌, ℕ, eqb, length, get_or}
 use Rattle.std.proofs.Math.Option.{Option, none, some}
 use Rattle.std.proofs.Math.ListN.{get_elem?}
+use Rattle.terms.specs.declared.LookUp.{LookUp}
+use Rattle.terms.specs.declared.LookUp.TheVariants.{Rules, Given}
 use Rattle.terms.specs.declared.Origin.{Origin}
 use Rattle.terms.specs.declared.Rule.{Rule}
 use Rattle.terms.specs.Result.{pick}
@@ -97,15 +99,16 @@ Ruled ks vs [] (p ∷ rs) = ⊥
 Ruled ks vs (w ∷ ws) [] = ⊥
 Ruled ks vs (w ∷ ws) (p ∷ rs) = HeldRule ks vs w p × Ruled ks vs ws rs
 
--- order 19: the owner and the interface, and the sizes of their tokens
+-- order 19: the owner and the interface, and how many tokens they have
 pub record HeldGiven (ks vs : List ℕ) (g : Origin) (i : Parts) (owner : Term) : Type 0 where
   pub owner_held : Held ks vs g.owner owner
   pub interface_held : Held ks vs g.interface (node 20 i)
   pub span_is : g.span ≡ length (items owner)
   pub row_is : g.row ≡ length (part_items i)
-  pub size_is : g.size ≡ g.span + g.row + 3
 
 -- what is to be looked up
-abbrev pub Looks : (ks vs : List ℕ) (ws : List Rule) (g : Origin) → Look → Type 0
-Looks ks vs ws g (rules rs) = (g.size ≡ 0) × Ruled ks vs ws rs
-Looks ks vs ws g (interface i owner) = HeldGiven ks vs g i owner
+abbrev pub Looks : (ks vs : List ℕ) → LookUp → Look → Type 0
+Looks ks vs (Rules ws) (rules rs) = Ruled ks vs ws.now rs
+Looks ks vs (Given g) (interface i owner) = HeldGiven ks vs g i owner
+Looks ks vs (Rules ws) (interface i owner) = ⊥
+Looks ks vs (Given g) (rules rs) = ⊥

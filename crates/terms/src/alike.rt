@@ -1,15 +1,14 @@
 // Whether two contents stand for the same tree, each as in the source or built.
 // Kinds and tags are matched by number; the line in kinds.rt says why.
-// Heads and kids are lent as two slices; the line in rows.rt says why.
 ghost use Rattle.terms.specs.Words.Lent.{shown};
 ghost use Rattle.std.specs.Prelude.{◌≡◌, ◌&&◌, ◌+◌, eqb, leb, length, get_or};
 ghost use Rattle.terms.specs.Words.Held.{span};
-ghost use Rattle.terms.specs.Words.Arena.{Cut, further, Alike, Begins, Starts};
+ghost use Rattle.terms.specs.Words.Arena.{Alike, Begins, Starts};
 
 use super::rows::{child_here, row_of};
 use super::runs::same_term;
 use super::virtual_tokens::token_at;
-use super::{Content, Cursor, Origin, Seen, Tokens};
+use super::{Content, Cursor, Origin, Records, Seen, Tokens};
 
 // The start of a content's row.
 pub fn cursor(seen: &Seen, x: Content) -> Cursor
@@ -20,18 +19,6 @@ pub fn cursor(seen: &Seen, x: Content) -> Cursor
         at: part.from,
         end: part.end,
         child: 0,
-        kids: x.kids,
-    }
-}
-
-// A further place in the same row.
-pub fn moved(x: Cursor, at: usize, child: usize) -> Cursor
-    ensures { result ≡ further x at child }
-{
-    Cursor {
-        at,
-        end: x.end,
-        child,
         kids: x.kids,
     }
 }
@@ -48,18 +35,10 @@ fn is_lent(tokens: &Tokens, x: Content) -> bool
     p + tokens.token(p).span() <= tokens.kinds.len()
 }
 
-// Whether the parts at x begin with all that are at y; the children at x have at most `fuel` levels.
+// The place in x after all the parts that are at y, where those at x begin with them; the children at x have at most `fuel` levels.
 #[cycle(comparing)]
-pub fn same_rows(
-    seen: &Seen,
-    heads: &[u32],
-    kids: &[u32],
-    x: Cursor,
-    y: Cursor,
-    fuel: usize,
-) -> Option<(usize, usize)>
-    requires cut { Cut x × Cut y }
-    ensures { Begins (shown seen.now) heads.now kids.now x y fuel result }
+pub fn same_rows(records: &Records, x: Cursor, y: Cursor, fuel: usize) -> Option<Cursor>
+    ensures { Begins (shown records.now.seen.now) records.now.heads.now records.now.kids.now x y fuel result }
 {
     // two rows are walked at once, and the first is left where the second ends, so no `RowWalk` stands for either
     let mut p = x.at;
@@ -70,8 +49,8 @@ pub fn same_rows(
         if x.end <= p {
             return None;
         }
-        let s = token_at(seen, p);
-        let t = token_at(seen, q);
+        let s = token_at(records.seen, p);
+        let t = token_at(records.seen, q);
         if t.kind == 0 {
             if s.kind != 0 {
                 return None;
@@ -85,9 +64,9 @@ pub fn same_rows(
             if s.kind == 0 {
                 return None;
             }
-            let a = child_here(heads, kids, x.kids, p, i);
-            let b = child_here(heads, kids, y.kids, q, j);
-            if !same_trees(seen, heads, kids, a, b, fuel) {
+            let a = child_here(records.heads, records.kids, x.kids, p, i);
+            let b = child_here(records.heads, records.kids, y.kids, q, j);
+            if !same_trees(records, a, b, fuel) {
                 return None;
             }
             i += 1;
@@ -96,42 +75,40 @@ pub fn same_rows(
             q += t.step();
         }
     }
-    Some((p, i))
+    Some(Cursor {
+        at: p,
+        end: x.end,
+        child: i,
+        kids: x.kids,
+    })
 }
 
 // Whether two contents stand for the same tree; the first has at most `fuel` levels. Lent ones are compared token by token.
 #[cycle(comparing)]
-pub fn same_trees(
-    seen: &Seen,
-    heads: &[u32],
-    kids: &[u32],
-    x: Content,
-    y: Content,
-    fuel: usize,
-) -> bool
-    ensures { Alike (shown seen.now) heads.now kids.now x y fuel result }
+pub fn same_trees(records: &Records, x: Content, y: Content, fuel: usize) -> bool
+    ensures { Alike (shown records.now.seen.now) records.now.heads.now records.now.kids.now x y fuel result }
 {
     if fuel == 0 {
         return false;
     }
-    let s = token_at(seen, x.head as usize);
-    let t = token_at(seen, y.head as usize);
+    let s = token_at(records.seen, x.head as usize);
+    let t = token_at(records.seen, y.head as usize);
     if s.kind != t.kind {
         return false;
     }
     if s.kind == 1 {
         return s.value == t.value;
     }
-    if is_lent(&seen.tokens, x) {
-        if is_lent(&seen.tokens, y) {
-            return same_term(&seen.tokens, x.head as usize, y.head as usize);
+    if is_lent(&records.seen.tokens, x) {
+        if is_lent(&records.seen.tokens, y) {
+            return same_term(&records.seen.tokens, x.head as usize, y.head as usize);
         }
     }
-    let a = cursor(seen, x);
-    let b = cursor(seen, y);
-    let m = same_rows(seen, heads, kids, a, b, fuel - 1);
-    let Some((at, _)) = m else {
+    let a = cursor(records.seen, x);
+    let b = cursor(records.seen, y);
+    // no `is_some_and`: in a cycle of calls what a closure answers is out of the proof's reach
+    let Some(z) = same_rows(records, a, b, fuel - 1) else {
         return false;
     };
-    a.end <= at
+    z.end <= z.at
 }

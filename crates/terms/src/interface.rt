@@ -1,7 +1,6 @@
 // Order 19: a projection is looked up in the given interface, or made anew through it.
-// Heads and kids are lent as two slices; the line in rows.rt says why.
-ghost use Rattle.terms.specs.Words.Lent.{shown};
-ghost use Rattle.std.specs.Prelude.{◌≡◌, Bool, ℕ, ◌+◌, ◌≤◌, ◌<◌, length, get_or, unwrap_or, IfSome};
+ghost use Rattle.terms.specs.Words.Lent.{shown, StandsFor, Finds};
+ghost use Rattle.std.specs.Prelude.{◌≡◌, Bool, Some, ℕ, ◌+◌, ◌≤◌, ◌<◌, length, get_or, unwrap_or, IfSome};
 ghost use Rattle.terms.specs.Words.VirtualTokens.{LentAt};
 ghost use Rattle.terms.specs.Term.{Term, Parts, depth};
 ghost use Rattle.terms.specs.Tree.{row, tag};
@@ -13,7 +12,7 @@ use super::members::member_of;
 use super::rows::{NOWHERE, child_at, number_at, number_place};
 use super::rules::source;
 use super::virtual_tokens::{locate, token_at};
-use super::{Content, Origin, Seen, Spot};
+use super::{Content, Origin, Records, Seen, Spot};
 
 // The lent token whose value the number at p has; where it has none's, the number is 0.
 fn lent_place(seen: &Seen, p: usize) -> Option<usize>
@@ -28,67 +27,60 @@ fn lent_place(seen: &Seen, p: usize) -> Option<usize>
 }
 
 // The interface's term for the member at p, or the projection made anew.
-fn output(seen: &Seen, heads: &[u32], kids: &[u32], p: usize) -> Content
+fn output(records: &Records, given: Origin, p: usize) -> Content
+    requires given { records.now.seen.now.given ≡ Some given }
     ensures { (S : ℕ → Bool) (i : Parts) (owner : Term)
-        → HeldGiven seen.now.tokens.kinds.now seen.now.tokens.vals.now seen.now.given i owner
-        → get_or (shown seen.now).kinds p 0 ≡ 0
-        → Tree (shown seen.now) heads.now kids.now S result.head result.kids
-        (output owner i (get_or (shown seen.now).vals p 0)) }
+        → HeldGiven records.now.seen.now.tokens.kinds.now records.now.seen.now.tokens.vals.now given i owner
+        → get_or (shown records.now.seen.now).kinds p 0 ≡ 0
+        → StandsFor records.now S result
+        (output owner i (get_or (shown records.now.seen.now).vals p 0)) }
 {
+    let seen = records.seen;
     let x = token_at(seen, p);
-    let a = number_at(seen, seen.given.interface, 1);
-    let b = number_at(seen, seen.given.interface, 2);
-    let known = member_of(
-        seen,
-        heads,
-        kids,
-        source(seen.given.interface),
-        a,
-        b,
-        0,
-        x.value,
-    );
+    let a = number_at(seen, given.interface, 1);
+    let b = number_at(seen, given.interface, 2);
+    let known = member_of(records, source(given.interface), a, b, 0, x.value);
     if let Some(y) = known {
         return y;
     }
     let len = seen.tokens.kinds.len();
     let t = lent_place(seen, p).unwrap_or(len);
-    source((len + 1 + t * seen.given.size as usize) as u32)
+    source((len + 1 + t * given.width()) as u32)
 }
 
 // What the given interface has for a projection with the counts n and m; its children have at most `fuel` levels.
 pub fn by_interface(
-    seen: &Seen,
-    heads: &[u32],
-    kids: &[u32],
+    records: &Records,
+    given: Origin,
     x: Content,
     n: usize,
     m: usize,
     fuel: usize,
 ) -> Option<Content>
-    requires counts { Counts (shown seen.now) x.head n m }
+    requires given { records.now.seen.now.given ≡ Some given }
+    requires counts { Counts (shown records.now.seen.now) x.head n m }
     requires low { fuel < 4294967296 }
     ensures { (S : ℕ → Bool) (t : Term) (i : Parts) (owner : Term)
-        → Tree (shown seen.now) heads.now kids.now S x.head x.kids t
+        → StandsFor records.now S x t
         → tag t ≡ 18
         → depth t ≤ fuel + 1
-        → HeldGiven seen.now.tokens.kinds.now seen.now.tokens.vals.now seen.now.given i owner
-        → Fetched (shown seen.now) heads.now kids.now S (through i owner (row t)) result }
+        → HeldGiven records.now.seen.now.tokens.kinds.now records.now.seen.now.tokens.vals.now given i owner
+        → Finds records.now S (through i owner (row t)) result }
 {
-    let argument = child_at(seen, heads, kids, x, 1 + n + m);
+    let argument = child_at(records, x, 1 + n + m);
     if argument.is_some() {
         return None;
     }
-    if number_at(seen, x.head, 0) != number_at(seen, seen.given.interface, 0) {
+    if number_at(records.seen, x.head, 0) != number_at(records.seen, given.interface, 0) {
         return None;
     }
-    let y = child_at(seen, heads, kids, x, 0)?;
-    if !same_trees(seen, heads, kids, y, source(seen.given.owner), fuel) {
+    let y = child_at(records, x, 0)?;
+    if !same_trees(records, y, source(given.owner), fuel) {
         return None;
     }
-    let p = number_place(seen, x.head, 3 + m).unwrap_or(NOWHERE);
-    let value = output(seen, heads, kids, p);
-    if same_trees(seen, heads, kids, x, value, fuel + 1) {
+    let p = number_place(records.seen, x.head, 3 + m).unwrap_or(NOWHERE);
+    let value = output(records, given, p);
+    if same_trees(records, x, value, fuel + 1) {
         return None;
     }
     Some(value)

@@ -1,10 +1,10 @@
 // Terms: numbers; terms read into two lent areas as runs of tokens, and written again; the operations on them.
 #![tactic(auto)]
 
-ghost use Rattle.std.specs.Prelude.{◌≡◌, length};
+ghost use Rattle.std.specs.Prelude.{◌≡◌, ◌≤◌, ◌<◌, length};
 ghost use Rattle.terms.specs.Words.RewriteContract.{RowsWithin};
 ghost use Rattle.terms.specs.Words.Tokens.{Narrow};
-ghost use Rattle.terms.specs.Words.VirtualTokens.{Sight};
+ghost use Rattle.terms.specs.Words.VirtualTokens.{Sight, given_of};
 
 mod alike;
 mod compare;
@@ -283,11 +283,11 @@ pub struct Tokens<'a> {
     ghost narrow: { Narrow vals.now },
 }
 
-// The tokens that normalising sees: the lent ones, and those that order 19 makes anew.
+// The tokens that normalising sees: the lent ones, and those that order 19 makes anew from what it is given.
 #[derive(Clone, Copy)]
 pub struct Seen<'a> {
     pub tokens: Tokens<'a>,
-    pub given: Origin,
+    pub given: Option<Origin>,
     ghost sight: { Sight tokens.kinds.now tokens.vals.now given },
 }
 
@@ -298,24 +298,50 @@ pub struct Token {
     pub value: u32,
 }
 
-// Where a token that is seen is from: a lent one, Error, the head of a projection made anew, or nowhere.
-#[derive(Clone, Copy)]
+// Where a token that is seen is from: a lent one, Error, the head of a projection made anew and of so many tokens, or nowhere.
+#[derive(Clone, Copy, Debug, PartialEq, Eq)]
 pub enum Spot {
     Lent(usize),
     Error,
-    Head,
+    Head(usize),
     Nowhere,
 }
 
-// What order 19 makes projections from: the place of the owner and its tokens, the place of the interface and the tokens of its row, and how many
-// tokens a projection has that is made anew; 0 in order 20.
+// What order 19 makes projections from: the place of the owner and its tokens, the place of the interface and the tokens of its row.
 #[derive(Clone, Copy)]
 pub struct Origin {
     pub owner: u32,
     pub span: u32,
     pub interface: u32,
     pub row: u32,
-    pub size: u32,
+}
+
+impl Origin {
+    ghost use Rattle.std.specs.Prelude.{◌≡◌, ◌<◌};
+    ghost use Rattle.terms.specs.Words.VirtualTokens.{width};
+
+    // How many tokens a projection has that is made anew: its head, the owner's, those of the interface's row, its member, and the number of its arguments.
+    fn width(self) -> usize
+        ensures width { result ≡ width self }
+        ensures bound { (0 < result) × (result < 17179869184) }
+    {
+        self.span as usize + self.row as usize + 3
+    }
+}
+
+// What a projection is looked up in: the rules of order 20, or what order 19 is given.
+#[derive(Clone, Copy)]
+pub enum LookUp<'a> {
+    Rules(&'a [Rule]),
+    Given(Origin),
+}
+
+// What normalises terms: the tokens that are seen, and what projections are looked up in.
+#[derive(Clone, Copy)]
+pub struct Normaliser<'a> {
+    pub seen: Seen<'a>,
+    pub lookup: LookUp<'a>,
+    ghost agree: { seen.given ≡ given_of lookup },
 }
 
 // The tokens from `from` up to `end`.
@@ -340,6 +366,14 @@ pub struct Content {
     pub kids: u32,
 }
 
+// What contents are looked at with: the tokens that are seen, and the records, whose heads and kids are two slices.
+#[derive(Clone, Copy)]
+pub struct Records<'a> {
+    pub seen: &'a Seen<'a>,
+    pub heads: &'a [u32],
+    pub kids: &'a [u32],
+}
+
 // A node whose children are in records: how many, its tag, its counts of arguments and members.
 #[derive(Clone, Copy)]
 pub struct Begun {
@@ -349,13 +383,15 @@ pub struct Begun {
     pub members: usize,
 }
 
-// A place in the row of a content: the next token, the row's end, how many children were passed, and the content's child word.
+// A place in the row of a content: the next token, the row's end, how many children were passed, and the content's child word. Places and counts are words.
 #[derive(Clone, Copy)]
 pub struct Cursor {
     pub at: usize,
     pub end: usize,
     pub child: usize,
     pub kids: u32,
+    ghost small: { end < 4294967296 },
+    ghost few: { child ≤ at },
 }
 
 // A rule of order 20: the places of its interface and its receiver, its member, the place of its arguments and how many they are, and the place of its
@@ -373,8 +409,7 @@ pub struct Rule {
 // What a visit gives: a content, how many records are used, the visits left, and how many bytes the content has.
 #[derive(Clone, Copy)]
 pub struct Walked {
-    pub head: u32,
-    pub kids: u32,
+    pub content: Content,
     pub next: usize,
     pub visits: usize,
     pub size: usize,
@@ -383,11 +418,10 @@ pub struct Walked {
 // A normalised term: its content, the records used, its bytes, and what it was looked up by.
 #[derive(Clone, Copy)]
 pub struct Ready {
-    pub head: u32,
-    pub kids: u32,
+    pub content: Content,
     pub next: usize,
     pub size: usize,
-    pub given: Origin,
+    pub given: Option<Origin>,
 }
 
 // Why normalising gives no term: its children are too many, refusal 9; or its bytes are more than there is room for.

@@ -1,7 +1,7 @@
 // `normalize` and `with_associated_types`: a term is walked and sized, and then written.
 // Kinds and tags are matched by number; the line in kinds.rt says why.
 // Heads and kids are lent as two slices; the line in rows.rt says why.
-ghost use Rattle.std.specs.Prelude.{◌≡◌, ◌+◌, ◌≤◌, ◌<◌, List, length, nat_eq};
+ghost use Rattle.std.specs.Prelude.{◌≡◌, Some, ◌+◌, ◌≤◌, ◌<◌, List, length, nat_eq};
 ghost use Rattle.std.specs.List.{list_any};
 ghost use Rattle.std.proofs.lemmas.List.Edits.{sets};
 ghost use Rattle.terms.specs.Words.VirtualTokens.{Sight};
@@ -11,13 +11,15 @@ ghost use Rattle.terms.specs.Words.Tokens.{area, blank};
 ghost use Rattle.terms.specs.Normal.{normalise, levels, visits, most};
 ghost use Rattle.terms.specs.Lookup.{Look, Pattern, look_by, Looks, Ruled, HeldGiven, by_patterns, through};
 ghost use Rattle.terms.specs.Words.Arena.{RecordRoom};
-ghost use Rattle.terms.specs.Words.NormalContract.{Zero, Lends, Stands, Sized, Fitted, Answers, Leaves, RuledAt, OwnedAt, KeptAt};
+ghost use Rattle.terms.specs.Words.NormalContract.{Zero, Lends, Stands, Sized, Answers, Leaves, RuledAt, OwnedAt, KeptAt};
 
 use super::rules::source;
 use super::showing::show_tree;
 use super::store::clear_tokens;
 use super::walking::walk;
-use super::{Content, Origin, Pass, Ready, Rule, Seen, Tokens, Unfinished};
+use super::{
+    LookUp, Normaliser, Origin, Pass, Ready, Records, Rule, Seen, Tokens, Unfinished, Walked,
+};
 
 // Whether one of the kinds is a projection's.
 fn any_projection(kinds: &[u32]) -> bool
@@ -35,55 +37,30 @@ fn has_projection(tokens: &Tokens, p: u32) -> bool
     end <= tokens.kinds.len() && any_projection(&tokens.kinds[from..end])
 }
 
-// Sizes a content, whose records are `next`, and keeps it where it fits from `at` on, else clears its records.
-fn size_up(
-    seen: &Seen,
-    heads: &mut [u32],
-    kids: &mut [u32],
-    x: Content,
-    next: usize,
-    fuel: usize,
-    out: &mut [u8],
-    at: usize,
-) -> Option<Ready>
+// The term at p as it stands, sized. None where its bytes do not fit from `at` on.
+fn size_up(seen: &Seen, p: u32, out: &mut [u8], at: usize) -> Option<Ready>
     requires place { at ≤ length out.old }
     ensures out { out.new ≡ out.old }
-    ensures sized { Sized seen.now.tokens.kinds.now seen.now.tokens.vals.now heads.old kids.old heads.new kids.new seen.now.given x next fuel
-        out.old at result }
+    ensures sized { Sized seen.now.tokens.kinds.now seen.now.tokens.vals.now seen.now.given p out.old at result }
 {
-    let e = show_tree(seen, heads, kids, x, fuel, out, at, Pass::Count);
-    fit_up(heads, kids, seen.given, x, next, e - at, out.len() - at)
-}
-
-// Keeps a content of `size` bytes, whose records are `next`, where there is room for them, else clears its records.
-fn fit_up(
-    heads: &mut [u32],
-    kids: &mut [u32],
-    g: Origin,
-    x: Content,
-    next: usize,
-    size: usize,
-    room: usize,
-) -> Option<Ready>
-    ensures fitted { Fitted heads.old kids.old heads.new kids.new g x next size room result }
-{
-    if room < size {
-        clear_tokens(heads, kids, 0, next);
-        return None;
-    }
+    let content = source(p);
+    let records = Records {
+        seen,
+        heads: &[],
+        kids: &[],
+    };
+    let end = show_tree(&records, content, 0, out, at, Pass::Count)?;
     Some(Ready {
-        head: x.head,
-        kids: x.kids,
-        next,
-        size,
-        given: g,
+        content,
+        next: 0,
+        size: end - at,
+        given: seen.given,
     })
 }
 
-// Normalises the term at p, by what g and the rules say is to be looked up.
+// Normalises the term at p, whose projections are looked up.
 fn run(
-    seen: &Seen,
-    rules: &[Rule],
+    by: &Normaliser,
     heads: &mut [u32],
     kids: &mut [u32],
     p: u32,
@@ -93,33 +70,44 @@ fn run(
     out: &mut [u8],
     at: usize,
 ) -> Result<Ready, Unfinished>
-    requires room { RecordRoom seen.now.tokens.kinds.now seen.now.tokens.vals.now heads.old kids.old seen.now.given 0 most }
+    requires room { RecordRoom by.now.seen.tokens.kinds.now by.now.seen.tokens.vals.now heads.old kids.old by.now.seen.given 0 most }
     requires few { (levels < 4294967295) × (visits < 134217728) }
     requires zero { Zero heads.old most × Zero kids.old most }
     requires place { at ≤ length out.old }
     ensures out { out.new ≡ out.old }
-    ensures leaves { Leaves seen.now.tokens.kinds.now seen.now.tokens.vals.now heads.old kids.old heads.new kids.new most result }
+    ensures leaves { Leaves by.now.seen.tokens.kinds.now by.now.seen.tokens.vals.now heads.old kids.old heads.new kids.new most result }
     ensures answers { (t : Term) (look : Look)
-        → Held seen.now.tokens.kinds.now seen.now.tokens.vals.now p t
-        → Looks seen.now.tokens.kinds.now seen.now.tokens.vals.now rules.now seen.now.given look
-        → Answers seen.now.tokens.kinds.now seen.now.tokens.vals.now heads.new kids.new out.old at levels most
+        → Held by.now.seen.tokens.kinds.now by.now.seen.tokens.vals.now p t
+        → Looks by.now.seen.tokens.kinds.now by.now.seen.tokens.vals.now by.now.lookup look
+        → Answers by.now.seen.tokens.kinds.now by.now.seen.tokens.vals.now heads.new kids.new out.old at levels most
         (normalise levels visits (look_by look) t) result }
 {
-    if !has_projection(&seen.tokens, p) {
-        let plain = size_up(seen, heads, kids, source(p), 0, 0, out, at);
-        return plain.ok_or(Unfinished::TooLong);
+    if !has_projection(&by.seen.tokens, p) {
+        return size_up(&by.seen, p, out, at).ok_or(Unfinished::TooLong);
     }
-    let walked = walk(seen, rules, heads, kids, source(p), 0, levels, visits, most);
-    let Some(w) = walked else {
+    let walked = walk(by, heads, kids, source(p), 0, levels, visits, most);
+    let Some(
+        Walked {
+            content,
+            next,
+            size,
+            ..
+        },
+    ) = walked
+    else {
         clear_tokens(heads, kids, 0, most);
         return Err(Unfinished::TooMany);
     };
-    let x = Content {
-        head: w.head,
-        kids: w.kids,
-    };
-    let kept = fit_up(heads, kids, seen.given, x, w.next, w.size, out.len() - at);
-    kept.ok_or(Unfinished::TooLong)
+    if out.len() - at < size {
+        clear_tokens(heads, kids, 0, next);
+        return Err(Unfinished::TooLong);
+    }
+    Ok(Ready {
+        content,
+        next,
+        size,
+        given: by.seen.given,
+    })
 }
 
 // Depth 0 to 64; 8192 visits; refusal 9 for more children than these.
@@ -140,7 +128,7 @@ fn span_at(tokens: &Tokens, p: u32, len: usize) -> usize
 // What order 19 looks up by: the places of a bare nominal and of the owner.
 fn given(tokens: &Tokens, interface: u32, owner: u32) -> Origin
     requires { length tokens.now.kinds.now ≤ 32768 }
-    ensures sight { Sight tokens.now.kinds.now tokens.now.vals.now result }
+    ensures sight { Sight tokens.now.kinds.now tokens.now.vals.now (Some result) }
     ensures given { (i : Parts) (o : Term)
         → Held tokens.now.kinds.now tokens.now.vals.now owner o
         → Held tokens.now.kinds.now tokens.now.vals.now interface (node 20 i)
@@ -155,7 +143,6 @@ fn given(tokens: &Tokens, interface: u32, owner: u32) -> Origin
             span: 0,
             interface,
             row: 0,
-            size: 3,
         };
     }
     let row = whole - 1;
@@ -164,14 +151,13 @@ fn given(tokens: &Tokens, interface: u32, owner: u32) -> Origin
         span: span as u32,
         interface,
         row: row as u32,
-        size: (span + row + 3) as u32,
     }
 }
 
 // Order 20, `normalize`: the term at p is walked by the rules and sized.
-pub fn normalise(
-    tokens: &Tokens,
-    rules: &[Rule],
+pub fn normalise<'a>(
+    tokens: &Tokens<'a>,
+    rules: &'a [Rule],
     heads: &mut [u32],
     kids: &mut [u32],
     p: u32,
@@ -189,18 +175,15 @@ pub fn normalise(
         → Answers tokens.now.kinds.now tokens.now.vals.now heads.new kids.new out.old at levels most
         (normalise levels visits (by_patterns rs) t) result }
 {
-    let g = Origin {
-        owner: 0,
-        span: 0,
-        interface: 0,
-        row: 0,
-        size: 0,
-    };
     let seen = Seen {
         tokens: *tokens,
-        given: g,
+        given: None,
     };
-    run(&seen, rules, heads, kids, p, LEVELS, VISITS, MOST, out, at)
+    let by = Normaliser {
+        seen,
+        lookup: LookUp::Rules(rules),
+    };
+    run(&by, heads, kids, p, LEVELS, VISITS, MOST, out, at)
 }
 
 // Order 19, `with_associated_types`: the term at p is walked by the interface and the owner, and sized.
@@ -229,9 +212,13 @@ pub fn with_associated_types(
     let g = given(tokens, interface, owner);
     let seen = Seen {
         tokens: *tokens,
-        given: g,
+        given: Some(g),
     };
-    run(&seen, &[], heads, kids, p, LEVELS, VISITS, MOST, out, at)
+    let by = Normaliser {
+        seen,
+        lookup: LookUp::Given(g),
+    };
+    run(&by, heads, kids, p, LEVELS, VISITS, MOST, out, at)
 }
 
 // Writes what `normalise` or `with_associated_types` has kept at a position, clears its records, and returns the position after it.
@@ -256,14 +243,12 @@ pub fn write_normalised(
         tokens: *tokens,
         given: w.given,
     };
-    let x = Content {
-        head: w.head,
-        kids: w.kids,
+    let records = Records {
+        seen: &seen,
+        heads,
+        kids,
     };
-    let e = show_tree(&seen, heads, kids, x, LEVELS + 1, out, at, Pass::Write);
+    let end = show_tree(&records, w.content, LEVELS + 1, out, at, Pass::Write);
     clear_tokens(heads, kids, 0, w.next);
-    if out.len() < e {
-        return at;
-    }
-    e
+    end.unwrap_or(at)
 }

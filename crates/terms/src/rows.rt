@@ -1,6 +1,6 @@
 // The row of a node by place: its numbers, its members' keys, its children.
 // Kinds and tags are matched by number; the line in kinds.rt says why.
-ghost use Rattle.terms.specs.Words.Lent.{shown};
+ghost use Rattle.terms.specs.Words.Lent.{shown, StandsFor, Finds};
 ghost use Rattle.std.specs.Prelude.{◌≡◌, Bool, ℕ, ◌-◌, ◌<◌, get_or};
 ghost use Rattle.std.specs.Iterator.{at_most};
 ghost use Rattle.std.proofs.Math.ListN.{get_elem?};
@@ -12,7 +12,7 @@ ghost use Rattle.terms.specs.Words.RowsContract.{Moves};
 
 use super::runs::word;
 use super::virtual_tokens::token_at;
-use super::{Content, Origin, Part, RowWalk, Seen, Token};
+use super::{Content, Origin, Part, Records, RowWalk, Seen, Token};
 
 // A place past all tokens.
 pub const NOWHERE: usize = 4294967295;
@@ -110,8 +110,8 @@ pub fn key_at(seen: &Seen, h: u32, x: u32) -> Option<usize>
     None
 }
 
-// Heads and kids are two slices everywhere: the walk writes them between two looks, so a struct of both would be made for each call, and no contract ties their
-// lengths.
+// Where heads and kids are written they are lent as two slices: the walk writes them between two looks, so a struct of both would be made for each call, and
+// no contract ties their lengths. What only looks takes `Records`.
 //
 // The content of a child that is the i-th of its node, whose child word is c, and stands at q where it is as in the source.
 #[inline(always)]
@@ -134,16 +134,16 @@ pub fn child_here(heads: &[u32], kids: &[u32], c: u32, q: usize, i: usize) -> Co
 }
 
 // The content of the i-th child, in byte order.
-pub fn child_at(seen: &Seen, heads: &[u32], kids: &[u32], x: Content, i: usize) -> Option<Content>
+pub fn child_at(records: &Records, x: Content, i: usize) -> Option<Content>
     ensures { (S : ℕ → Bool) (t : Term)
-        → Tree (shown seen.now) heads.now kids.now S x.head x.kids t
-        → Fetched (shown seen.now) heads.now kids.now S (get_elem? (children t) i) result }
+        → StandsFor records.now S x t
+        → Finds records.now S (get_elem? (children t) i) result }
 {
     let mut n = 0;
-    for (q, y) in walk_row(seen, x.head) {
+    for (q, y) in walk_row(records.seen, x.head) {
         if y.kind != 0 {
             if n == i {
-                return Some(child_here(heads, kids, x.kids, q, n));
+                return Some(child_here(records.heads, records.kids, x.kids, q, n));
             }
             n += 1;
         }

@@ -1,19 +1,18 @@
 // The rules of order 20.
 // Kinds and tags are matched by number; the line in kinds.rt says why.
-// Heads and kids are lent as two slices; the line in rows.rt says why.
-ghost use Rattle.terms.specs.Words.Lent.{shown};
+ghost use Rattle.terms.specs.Words.Lent.{shown, StandsFor, Finds};
 ghost use Rattle.std.specs.Prelude.{◌≡◌, Bool, true, false, List, ℕ, ◌+◌, ◌*◌, ◌≤◌, ◌<◌, length, get_or};
 ghost use Rattle.terms.specs.Term.{Term, depths};
 ghost use Rattle.terms.specs.Tree.{row};
 ghost use Rattle.terms.specs.Lookup.{Pattern, by_patterns, Ruled};
-ghost use Rattle.terms.specs.Words.Arena.{Tree, Cut, Fetched};
+ghost use Rattle.terms.specs.Words.Arena.{Tree, Fetched};
 ghost use Rattle.terms.specs.Words.RulesContract.{TermStarts, Numbers, Fronted, MemberIn};
 
-use super::alike::{cursor, moved, same_rows};
+use super::alike::{cursor, same_rows};
 use super::rows::NOWHERE;
 use super::rule_list::first_with;
 use super::virtual_tokens::token_at;
-use super::{Content, Cursor, Origin, RowWalk, Rule, Seen};
+use super::{Content, Cursor, Origin, Records, RowWalk, Rule, Seen};
 
 // A term as it stands in the source.
 pub fn source(p: u32) -> Content
@@ -58,8 +57,7 @@ fn number_next(seen: &Seen, at: usize, end: usize, m: u32) -> bool
 }
 
 // Whether two numbers come next in a row, and the place after them.
-fn two_numbers(seen: &Seen, x: Cursor, m: u32, n: u32) -> Option<(usize, usize)>
-    requires cut { Cut x }
+fn two_numbers(seen: &Seen, x: Cursor, m: u32, n: u32) -> Option<Cursor>
     ensures { Numbers (shown seen.now) x m n result }
 {
     let at = x.at;
@@ -69,32 +67,28 @@ fn two_numbers(seen: &Seen, x: Cursor, m: u32, n: u32) -> Option<(usize, usize)>
     if !number_next(seen, at + 1, x.end, n) {
         return None;
     }
-    Some((at + 2, x.child))
+    Some(Cursor {
+        at: at + 2,
+        end: x.end,
+        child: x.child,
+        kids: x.kids,
+    })
 }
 
 // Whether a row begins with what a rule has before its arguments, and the place after that.
-fn same_front(
-    seen: &Seen,
-    heads: &[u32],
-    kids: &[u32],
-    x: Cursor,
-    rule: Rule,
-    fuel: usize,
-) -> Option<(usize, usize)>
-    requires cut { Cut x }
-    ensures { Fronted seen.now.tokens.kinds.now seen.now.tokens.vals.now (shown seen.now) heads.now kids.now x rule fuel
-        result }
+fn same_front(records: &Records, x: Cursor, rule: Rule, fuel: usize) -> Option<Cursor>
+    ensures { Fronted records.now.seen.now.tokens.kinds.now records.now.seen.now.tokens.vals.now (shown records.now.seen.now) records.now.heads.now
+        records.now.kids.now x rule fuel result }
 {
-    let receiver = term_cursor(seen, rule.receiver as usize);
-    let (p, i) = same_rows(seen, heads, kids, x, receiver, fuel)?;
-    let interface = cursor(seen, source(rule.interface));
-    let (q, j) = same_rows(seen, heads, kids, moved(x, p, i), interface, fuel)?;
-    two_numbers(seen, moved(x, q, j), rule.member, rule.count)
+    let receiver = term_cursor(records.seen, rule.receiver as usize);
+    let x = same_rows(records, x, receiver, fuel)?;
+    let interface = cursor(records.seen, source(rule.interface));
+    let x = same_rows(records, x, interface, fuel)?;
+    two_numbers(records.seen, x, rule.member, rule.count)
 }
 
 // The last number but one of a row: of a projection's, its member.
 fn member_in(seen: &Seen, x: Cursor) -> u32
-    requires cut { Cut x }
     ensures { MemberIn (shown seen.now) x result }
 {
     let row = RowWalk {
@@ -115,42 +109,32 @@ fn member_in(seen: &Seen, x: Cursor) -> u32
 
 // The value of the first rule whose four parts equal those of a projection; its children have at most `fuel` levels. The member is
 // looked for first, in the list of the rules; rule and argument walk are left together at the match.
-pub fn find_rule(
-    seen: &Seen,
-    rules: &[Rule],
-    heads: &[u32],
-    kids: &[u32],
-    x: Content,
-    fuel: usize,
-) -> Option<Content>
+pub fn find_rule(records: &Records, rules: &[Rule], x: Content, fuel: usize) -> Option<Content>
     ensures { (S : ℕ → Bool) (t : Term) (rs : List Pattern)
-        → Tree (shown seen.now) heads.now kids.now S x.head x.kids t
+        → StandsFor records.now S x t
         → depths (row t) ≤ fuel
-        → Ruled seen.now.tokens.kinds.now seen.now.tokens.vals.now rules.now rs
-        → Fetched (shown seen.now) heads.now kids.now S (by_patterns rs (row t)) result }
+        → Ruled records.now.seen.now.tokens.kinds.now records.now.seen.now.tokens.vals.now rules.now rs
+        → Finds records.now S (by_patterns rs (row t)) result }
 {
-    let s = cursor(seen, x);
-    let member = member_in(seen, s);
+    let s = cursor(records.seen, x);
+    let member = member_in(records.seen, s);
     let mut r = 0;
     // Rules are skipped to the next with the member, and arguments are as wide as they say; both are left at the match (document 01).
     'rules: loop {
         r += first_with(&rules[r..], member)?;
         let rule = rules[r];
-        let mut m = same_front(seen, heads, kids, s, rule, fuel);
+        let mut m = same_front(records, s, rule, fuel);
         let mut a = rule.arguments;
         let mut left = rule.count;
-        loop {
-            let Some((p, i)) = m else {
-                break;
-            };
+        while let Some(z) = m {
             if left == 0 {
-                if s.end <= p {
+                if z.end <= z.at {
                     break 'rules;
                 }
                 break;
             }
-            let argument = term_cursor(seen, a as usize);
-            m = same_rows(seen, heads, kids, moved(s, p, i), argument, fuel);
+            let argument = term_cursor(records.seen, a as usize);
+            m = same_rows(records, z, argument, fuel);
             a = argument.end as u32;
             left -= 1;
         }

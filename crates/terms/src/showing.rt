@@ -1,32 +1,31 @@
-// Tokens and contents are sized, or written too. What is returned is the position after them, or, where they do not fit, one past the end of `out`.
+// Tokens and contents are sized, or written too. What is returned is the position after them; None where they do not fit.
 // Kinds and tags are matched by number; the line in kinds.rt says why.
-// Heads and kids are lent as two slices; the line in rows.rt says why.
-ghost use Rattle.terms.specs.Words.Lent.{shown};
+ghost use Rattle.terms.specs.Words.Lent.{shown, StandsFor};
 ghost use Rattle.std.specs.Prelude.{◌≡◌, Bool, ℕ, ◌+◌, ◌≤◌, ◌<◌, length};
 ghost use Rattle.terms.specs.Words.TokenBytes.{plain, spelt};
 ghost use Rattle.terms.specs.Term.{Term, Parts, depth, depths, bytes, part_bytes};
-ghost use Rattle.terms.specs.Words.Arena.{Tree, From, Cut};
+ghost use Rattle.terms.specs.Words.Arena.{Tree, From};
 ghost use Rattle.terms.specs.Words.ShowingContract.{writes, Shows, Kept};
 
 use super::alike::cursor;
 use super::rows::child_here;
 use super::virtual_tokens::token_at;
 use super::write::{run_len, token_len, write_run, write_token};
-use super::{Content, Cursor, Origin, Pass, RowWalk, Seen, Token};
+use super::{Content, Cursor, Origin, Pass, Records, RowWalk, Seen, Token};
 
 // One token. The pass is a value and no type, as in `emit_run`: what is sized and what is written are the same but for the last step.
-fn show_token(out: &mut [u8], at: usize, x: Token, pass: Pass) -> usize
+fn show_token(out: &mut [u8], at: usize, x: Token, pass: Pass) -> Option<usize>
     requires { at ≤ length out.old }
     ensures kept { Kept (writes pass) out.old out.new at result }
     ensures shows { Shows (writes pass) out.old out.new at (plain x.kind x.value) result }
 {
     let n = token_len(x.kind, x.value);
     if out.len() - at < n {
-        return out.len() + 1;
+        return None;
     }
     match pass {
-        Pass::Count => at + n,
-        Pass::Write => write_token(out, at, x.kind, x.value),
+        Pass::Count => Some(at + n),
+        Pass::Write => Some(write_token(out, at, x.kind, x.value)),
     }
 }
 
@@ -39,7 +38,7 @@ fn show_flat(
     out: &mut [u8],
     at: usize,
     pass: Pass,
-) -> usize
+) -> Option<usize>
     requires run { (from + count ≤ length kinds.now) × (from + count ≤ length vals.now) }
     requires small { count < 4294967296 }
     requires room { at ≤ length out.old }
@@ -47,20 +46,27 @@ fn show_flat(
     ensures shows { Shows (writes pass) out.old out.new at (spelt kinds.now vals.now from count) result }
 {
     if pass == Pass::Write && 6 * count <= out.len() - at {
-        return write_run(kinds, vals, from, count, out, at);
+        return Some(write_run(kinds, vals, from, count, out, at));
     }
     let n = run_len(kinds, vals, from, count);
     if out.len() - at < n {
-        return out.len() + 1;
+        return None;
     }
     match pass {
-        Pass::Count => at + n,
-        Pass::Write => write_run(kinds, vals, from, count, out, at),
+        Pass::Count => Some(at + n),
+        Pass::Write => Some(write_run(kinds, vals, from, count, out, at)),
     }
 }
 
 // The `count` tokens from `from` on, by `show_flat` where all are lent.
-fn show_run(seen: &Seen, from: usize, count: usize, out: &mut [u8], at: usize, pass: Pass) -> usize
+fn show_run(
+    seen: &Seen,
+    from: usize,
+    count: usize,
+    out: &mut [u8],
+    at: usize,
+    pass: Pass,
+) -> Option<usize>
     requires small { (from < 4294967296) × (count < 4294967296) }
     requires room { at ≤ length out.old }
     ensures kept { Kept (writes pass) out.old out.new at result }
@@ -81,86 +87,72 @@ fn show_run(seen: &Seen, from: usize, count: usize, out: &mut [u8], at: usize, p
     }
     let mut i = at;
     for q in from..end {
-        i = show_token(out, i, token_at(seen, q), pass);
-        if out.len() < i {
-            return i;
-        }
+        i = show_token(out, i, token_at(seen, q), pass)?;
     }
-    i
+    Some(i)
 }
 
 // The parts of a row from a place on; its children have at most `fuel` levels.
 #[cycle(showing_trees)]
 fn show_row(
-    seen: &Seen,
-    heads: &[u32],
-    kids: &[u32],
+    records: &Records,
     c: Cursor,
     fuel: usize,
     out: &mut [u8],
     at: usize,
     pass: Pass,
-) -> usize
-    requires cut { Cut c }
+) -> Option<usize>
     requires room { at ≤ length out.old }
     ensures kept { Kept (writes pass) out.old out.new at result }
     ensures shows { (S : ℕ → Bool) (ps : Parts)
-        → From (shown seen.now) heads.now kids.now S c ps
+        → From (shown records.now.seen.now) records.now.heads.now records.now.kids.now S c ps
         → depths ps ≤ fuel
         → Shows (writes pass) out.old out.new at (part_bytes ps) result }
 {
     let row = RowWalk {
-        seen: *seen,
+        seen: *records.seen,
         at: c.at,
         end: c.end,
     };
     let mut i = at;
     let mut n = c.child;
     for (q, y) in row {
-        if out.len() < i {
-            return i;
-        }
         if y.kind == 0 {
-            i = show_token(out, i, y, pass);
+            i = show_token(out, i, y, pass)?;
         } else {
-            let z = child_here(heads, kids, c.kids, q, n);
-            i = show_tree(seen, heads, kids, z, fuel, out, i, pass);
+            let z = child_here(records.heads, records.kids, c.kids, q, n);
+            i = show_tree(records, z, fuel, out, i, pass)?;
             n += 1;
         }
     }
-    i
+    Some(i)
 }
 
 // The tree that a content stands for; where it is built it has at most `fuel` levels.
 #[cycle(showing_trees)]
 pub fn show_tree(
-    seen: &Seen,
-    heads: &[u32],
-    kids: &[u32],
+    records: &Records,
     x: Content,
     fuel: usize,
     out: &mut [u8],
     at: usize,
     pass: Pass,
-) -> usize
+) -> Option<usize>
     requires room { at ≤ length out.old }
     ensures kept { Kept (writes pass) out.old out.new at result }
     ensures shows { (S : ℕ → Bool) (t : Term)
-        → Tree (shown seen.now) heads.now kids.now S x.head x.kids t
+        → StandsFor records.now S x t
         → (0 < x.kids → depth t ≤ fuel)
         → Shows (writes pass) out.old out.new at (bytes t) result }
 {
-    let h = token_at(seen, x.head as usize);
+    let h = token_at(records.seen, x.head as usize);
     if x.kids == 0 {
-        return show_run(seen, x.head as usize, h.step(), out, at, pass);
+        return show_run(records.seen, x.head as usize, h.step(), out, at, pass);
     }
     if fuel == 0 {
-        return out.len() + 1;
+        return None;
     }
-    let c = cursor(seen, x);
-    let i = show_token(out, at, h, pass);
-    if out.len() < i {
-        return i;
-    }
-    show_row(seen, heads, kids, c, fuel - 1, out, i, pass)
+    let c = cursor(records.seen, x);
+    let i = show_token(out, at, h, pass)?;
+    show_row(records, c, fuel - 1, out, i, pass)
 }

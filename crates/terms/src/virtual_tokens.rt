@@ -7,7 +7,7 @@ use super::{Origin, Seen, Spot, Token};
 
 // Which lent token stands r-th after the head of the projection for the token t.
 fn copied(g: Origin, len: usize, r: usize, t: usize) -> usize
-    requires { (1 ≤ r) × (r < 4294967296) }
+    requires { (1 ≤ r) × (r < 17179869184) }
     ensures { result ≡ copied g len r t }
 {
     let span = g.span as usize;
@@ -25,9 +25,9 @@ fn copied(g: Origin, len: usize, r: usize, t: usize) -> usize
 }
 
 // Where the q-th token that is seen is from, with `len` lent ones.
-pub fn locate(g: Origin, len: usize, q: usize) -> Spot
+pub fn locate(given: Option<Origin>, len: usize, q: usize) -> Spot
     requires { len < 9223372036854775808 }
-    ensures { Located g len q result }
+    ensures { Located given len q result }
 {
     if q < len {
         return Spot::Lent(q);
@@ -35,17 +35,17 @@ pub fn locate(g: Origin, len: usize, q: usize) -> Spot
     if q == len {
         return Spot::Error;
     }
-    let size = g.size as usize;
-    if size == 0 {
+    let Some(g) = given else {
         return Spot::Nowhere;
-    }
+    };
+    let size = g.width();
     let r = (q - (len + 1)) % size;
     let t = (q - (len + 1)) / size;
     if len < t {
         return Spot::Nowhere;
     }
     if r == 0 {
-        return Spot::Head;
+        return Spot::Head(size);
     }
     Spot::Lent(copied(g, len, r, t))
 }
@@ -60,9 +60,9 @@ fn located_token(seen: &Seen, q: usize) -> Token
     match s {
         Spot::Lent(p) => seen.tokens.token(p),
         Spot::Error => Token { kind: 5, value: 1 },
-        Spot::Head => Token {
+        Spot::Head(size) => Token {
             kind: 20,
-            value: seen.given.size,
+            value: size as u32,
         },
         Spot::Nowhere => Token { kind: 0, value: 0 },
     }

@@ -17,12 +17,11 @@ use super::opening::{begin, own_len};
 use super::rules::find_rule;
 use super::slots::slot;
 use super::write::run_len;
-use super::{Content, Origin, Rule, Seen, Tokens, Walked};
+use super::{Content, LookUp, Normaliser, Origin, Records, Tokens, Walked};
 
 // What a projection with the counts n and m is replaced by; its children have at most `fuel` levels.
 fn replace(
-    seen: &Seen,
-    rules: &[Rule],
+    by: &Normaliser,
     heads: &[u32],
     kids: &[u32],
     x: Content,
@@ -30,32 +29,36 @@ fn replace(
     m: usize,
     fuel: usize,
 ) -> Option<Content>
-    requires tagged { TagAt (shown seen.now) x.head 18 }
-    requires counts { Counts (shown seen.now) x.head n m }
+    requires tagged { TagAt (shown by.now.seen) x.head 18 }
+    requires counts { Counts (shown by.now.seen) x.head n m }
     requires low { fuel < 4294967296 }
     ensures { (S : ℕ → Bool) (t : Term) (look : Look)
-        → Tree (shown seen.now) heads.now kids.now S x.head x.kids t
+        → Tree (shown by.now.seen) heads.now kids.now S x.head x.kids t
         → depth t ≤ fuel + 1
-        → Looks seen.now.tokens.kinds.now seen.now.tokens.vals.now rules.now seen.now.given look
-        → Fetched (shown seen.now) heads.now kids.now S (replacement (look_by look) t) result }
+        → Looks by.now.seen.tokens.kinds.now by.now.seen.tokens.vals.now by.now.lookup look
+        → Fetched (shown by.now.seen) heads.now kids.now S (replacement (look_by look) t) result }
 {
-    let own = own_member(seen, heads, kids, x, n, m);
+    let records = Records {
+        seen: &by.seen,
+        heads,
+        kids,
+    };
+    let own = own_member(&records, x, n, m);
     if own.is_some() {
         return own;
     }
-    if seen.given.size == 0 {
-        return find_rule(seen, rules, heads, kids, x, fuel);
+    match by.lookup {
+        LookUp::Rules(rules) => find_rule(&records, rules, x, fuel),
+        LookUp::Given(given) => by_interface(&records, given, x, n, m, fuel),
     }
-    by_interface(seen, heads, kids, x, n, m, fuel)
 }
 
 // A result, of so many bytes.
 fn result(x: Content, next: usize, visits: usize, size: usize) -> Walked
-    ensures { result ≡ record { head = x.head; kids = x.kids; next = next; visits = visits; size = size } }
+    ensures { result ≡ record { content = x; next = next; visits = visits; size = size } }
 {
     Walked {
-        head: x.head,
-        kids: x.kids,
+        content: x,
         next,
         visits,
         size,
@@ -75,7 +78,7 @@ fn kept(
     requires some { (0 < nodes) × (nodes ≤ visits) × (nodes < 4294967296) }
     requires room { next < 4294967296 }
     ensures fits { next + (nodes - 1) ≤ most
-        → result ≡ Some (record { head = x.head; kids = x.kids; next = next + (nodes - 1); visits = visits - nodes; size = size }) }
+        → result ≡ Some (record { content = x; next = next + (nodes - 1); visits = visits - nodes; size = size }) }
     ensures stops { most < next + (nodes - 1) → result ≡ None }
 {
     let last = next + (nodes - 1);
@@ -141,8 +144,7 @@ fn fixed_len(tokens: &Tokens, x: Content) -> usize
 // Visits the content x, with `levels` levels and `visits` visits left. The records of the result stand from `next` on, at most `most` in all.
 // None where the children are too many.
 pub fn walk(
-    seen: &Seen,
-    rules: &[Rule],
+    by: &Normaliser,
     heads: &mut [u32],
     kids: &mut [u32],
     x: Content,
@@ -151,12 +153,13 @@ pub fn walk(
     visits: usize,
     most: usize,
 ) -> Option<Walked>
-    requires room { RecordRoom seen.now.tokens.kinds.now seen.now.tokens.vals.now heads.old kids.old seen.now.given next most }
+    requires room { RecordRoom by.now.seen.tokens.kinds.now by.now.seen.tokens.vals.now heads.old kids.old by.now.seen.given next most }
     requires low { (levels < 4294967296) × (visits < 134217728) }
-    ensures walks { Walks seen.now.tokens.kinds.now seen.now.tokens.vals.now rules.now seen.now.given heads.old kids.old heads.new kids.new x
+    ensures walks { Walks by.now.seen.tokens.kinds.now by.now.seen.tokens.vals.now by.now.lookup by.now.seen.given heads.old kids.old heads.new kids.new x
         next levels visits most result }
     ensures frames { Frames heads.old kids.old heads.new kids.new next (used most result) }
 {
+    let seen = &by.seen;
     let error = Content {
         head: seen.tokens.kinds.len() as u32,
         kids: 0,
@@ -182,9 +185,9 @@ pub fn walk(
             head: heads[i],
             kids: kids[i],
         };
-        let w = walk(seen, rules, heads, kids, y, at, levels - 1, left, most)?;
-        heads[i] = w.head;
-        kids[i] = w.kids;
+        let w = walk(by, heads, kids, y, at, levels - 1, left, most)?;
+        heads[i] = w.content.head;
+        kids[i] = w.content.kids;
         at = w.next;
         left = w.visits;
         size += w.size;
@@ -196,12 +199,13 @@ pub fn walk(
     if o.tag != 18 {
         return Some(result(z, at, left, size));
     }
-    let f = replace(seen, rules, heads, kids, z, o.arguments, o.members, levels);
+    let f = replace(by, heads, kids, z, o.arguments, o.members, levels);
     let Some(v) = f else {
         return Some(result(z, at, left, size));
     };
-    if same_trees(seen, heads, kids, z, v, levels + 1) {
+    let records = Records { seen, heads, kids };
+    if same_trees(&records, z, v, levels + 1) {
         return Some(result(error, at, left, 1));
     }
-    walk(seen, rules, heads, kids, v, at, levels - 1, left, most)
+    walk(by, heads, kids, v, at, levels - 1, left, most)
 }

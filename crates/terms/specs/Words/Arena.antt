@@ -122,7 +122,7 @@ pub record Frames (hs₀ cs₀ hs cs : List ℕ) (a b : ℕ) : Type 0 where
   pub kids : Frame cs₀ cs a b
 
 -- the arena has room for `most` records, of which `next` are used
-pub record RecordRoom (ks vs hs cs : List ℕ) (g : Origin) (next most : ℕ) : Type 0 where
+pub record RecordRoom (ks vs hs cs : List ℕ) (g : Option Origin) (next most : ℕ) : Type 0 where
   pub sight : Sight ks vs g
   pub heads : most ≤ length hs
   pub kids : most ≤ length cs
@@ -171,30 +171,19 @@ Prepares a hs₀ cs₀ hs cs h c next most None = Overfull a hs₀ cs₀ hs cs h
 abbrev pub From : (a : Area) (hs cs : List ℕ) (S : ℕ → Bool) → Cursor → Parts → Type 0
 From a hs cs S x ps = Parted a hs cs S x.kids x.end x.at x.child ps
 
--- a further place in the same row
-abbrev pub further : Cursor → (at n : ℕ) → Cursor
-further x at n = record { at = at; end = x.end; child = n; kids = x.kids }
-
--- its numbers are words
-pub record Cut (x : Cursor) : Type 0 where
-  pub small : x.end < 4294967296
-  pub few : x.child ≤ x.at
-
 -- whether two contents stand for the same tree, the first of at most `fuel` levels
 pub record Alike (a : Area) (hs cs : List ℕ) (x y : Content) (fuel : ℕ) (r : Bool) : Type 0 where
   pub yes : r ≡ true → (S T : ℕ → Bool) (t u : Term) → Tree a hs cs S x.head x.kids t → Tree a hs cs T y.head y.kids u → depth t ≤ fuel → t ≡ u
   pub no : r ≡ false → (S T : ℕ → Bool) (t u : Term) → Tree a hs cs S x.head x.kids t → Tree a hs cs T y.head y.kids u → depth t ≤ fuel → t ≡ u → ⊥
 
 -- whether the parts at one cursor, of at most `fuel` levels, begin with those at another, and the place after them
-abbrev pub Begins : (a : Area) (hs cs : List ℕ) (x y : Cursor) (fuel : ℕ) → Option (ℕ × ℕ) → Type 0
-Begins a hs cs x y fuel (Some (at, n)) =
-    (n ≤ at)
-    × ((S T : ℕ → Bool) (ps qs : Parts) → From a hs cs S x ps → From a hs cs T y qs → depths ps ≤ fuel
-    → (rest : Parts) × (ps ≡ qs +++ rest) × Parted a hs cs S x.kids x.end at n rest)
+abbrev pub Begins : (a : Area) (hs cs : List ℕ) (x y : Cursor) (fuel : ℕ) → Option Cursor → Type 0
+Begins a hs cs x y fuel (Some z) =
+    (S T : ℕ → Bool) (ps qs : Parts) → From a hs cs S x ps → From a hs cs T y qs → depths ps ≤ fuel
+    → (rest : Parts) × (ps ≡ qs +++ rest) × From a hs cs S z rest
 Begins a hs cs x y fuel None =
     (S T : ℕ → Bool) (ps qs : Parts) → From a hs cs S x ps → From a hs cs T y qs → depths ps ≤ fuel → (rest : Parts) → ps ≡ qs +++ rest → ⊥
 
 -- a cursor at the start of a content's row
 pub record Starts (a : Area) (x : Content) (r : Cursor) : Type 0 where
-  pub cut : Cut r
   pub is : (hs cs : List ℕ) (S : ℕ → Bool) (t : Term) → Tree a hs cs S x.head x.kids t → From a hs cs S r (row t)

@@ -1,13 +1,25 @@
 -- What a lent value says.
-use Rattle.std.specs.Prelude.{List, ℕ, ◌≤◌, ◌<◌, length}
+use Rattle.std.specs.Prelude.{Bool, Option, List, ℕ, ◌≤◌, ◌<◌, length}
 use Rattle.terms.specs.declared.Part.{Part}
+use Rattle.terms.specs.declared.Content.{Content}
+use Rattle.terms.specs.declared.Records.{Records}
 use Rattle.terms.specs.declared.Seen.{Seen}
+use Rattle.std.proofs.Math.Option as math
+use Rattle.terms.specs.Term.{Term}
+use Rattle.terms.specs.Words.Arena.{Tree, Fetched}
 use Rattle.terms.specs.Words.Tokens.{Area}
 use Rattle.terms.specs.Words.VirtualTokens.{view}
 
 -- the tokens that normalising sees
 abbrev pub shown : Seen → Area
 shown x = view x.tokens.kinds.now x.tokens.vals.now x.given
+
+-- the tree that a content stands for, and what is found, by the records
+abbrev pub StandsFor : Records → (ℕ → Bool) → Content → Term → Type 0
+StandsFor r S x t = Tree (shown r.seen.now) r.heads.now r.kids.now S x.head x.kids t
+
+abbrev pub Finds : Records → (ℕ → Bool) → math.Option Term → Option Content → Type 0
+Finds r S o x = Fetched (shown r.seen.now) r.heads.now r.kids.now S o x
 
 -- a part of so many tokens, and one that is not empty
 abbrev pub PartOf : List ℕ → Part → Type 0

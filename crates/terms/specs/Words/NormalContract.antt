@@ -1,7 +1,6 @@
 -- What normalising answers, and what it leaves in the record areas.
 use Rattle.std.specs.Prelude.{◌≡◌, Bool, List, ℕ, ◌+◌, ◌≤◌, ◌<◌, ltb, length, get_or, Option, Some, None, Result, Ok, Err}
 use Rattle.terms.specs.declared.Origin.{Origin}
-use Rattle.terms.specs.declared.Content.{Content}
 use Rattle.terms.specs.declared.Ready.{Ready}
 use Rattle.terms.specs.declared.Rule.{Rule}
 use Rattle.terms.specs.declared.Unfinished.{Unfinished}
@@ -32,8 +31,8 @@ pub record Zero (l : List ℕ) (n : ℕ) : Type 0 where
 -- the records hold the term u: what is written from them is u, and clearing them gives back the areas as they were
 pub record Stands (ks vs hs cs : List ℕ) (w : Ready) (levels : ℕ) (u : Term) : Type 0 where
   pub marks : ℕ → Bool
-  pub tree : Tree (view ks vs w.given) hs cs marks w.head w.kids u
-  pub low : 0 < w.kids → depth u ≤ levels + 1
+  pub tree : Tree (view ks vs w.given) hs cs marks w.content.head w.content.kids u
+  pub low : 0 < w.content.kids → depth u ≤ levels + 1
 
 -- the values of each case: the bytes that the term u has, and records that hold it. Which words these are is the program's choice.
 abbrev pub Values : (ks vs hs cs : List ℕ) (levels : ℕ) → Term → Result Ready Unfinished → Type 0
@@ -86,18 +85,9 @@ pub record Lends (ks vs hs cs : List ℕ) (most : ℕ) : Type 0 where
   pub heads_zero : Zero hs most
   pub kids_zero : Zero cs most
 
--- a content whose records are `next`, sized: it is kept where it fits, else its records are cleared
-abbrev pub Sized : (ks vs hs₀ cs₀ hs cs : List ℕ) (g : Origin) (x : Content) (next fuel : ℕ) (out : List ℕ) (at : ℕ) → Option Ready → Type 0
-Sized ks vs hs₀ cs₀ hs cs g x next fuel out at None =
-    (area hs cs ≡ blank (area hs₀ cs₀) 0 next)
-    × ((S : ℕ → Bool) (t : Term) → Tree (view ks vs g) hs₀ cs₀ S x.head x.kids t → (0 < x.kids → depth t ≤ fuel) → length out < at + length (bytes t))
-Sized ks vs hs₀ cs₀ hs cs g x next fuel out at (Some w) =
-    (hs ≡ hs₀) × (cs ≡ cs₀) × (w.head ≡ x.head) × (w.kids ≡ x.kids) × (w.next ≡ next) × (w.given ≡ g)
-    × ((S : ℕ → Bool) (t : Term) → Tree (view ks vs g) hs₀ cs₀ S x.head x.kids t → (0 < x.kids → depth t ≤ fuel)
-    → (w.size ≡ length (bytes t)) × (at + w.size ≤ length out))
-
--- a content of `size` bytes, kept where there is room for them, else its records are cleared
-abbrev pub Fitted : (hs₀ cs₀ hs cs : List ℕ) (g : Origin) (x : Content) (next size room : ℕ) → Option Ready → Type 0
-Fitted hs₀ cs₀ hs cs g x next size room None = (area hs cs ≡ blank (area hs₀ cs₀) 0 next) × (room < size)
-Fitted hs₀ cs₀ hs cs g x next size room (Some w) =
-    (hs ≡ hs₀) × (cs ≡ cs₀) × (w.head ≡ x.head) × (w.kids ≡ x.kids) × (w.next ≡ next) × (w.given ≡ g) × (w.size ≡ size) × (size ≤ room)
+-- a term at p, sized as it stands
+abbrev pub Sized : (ks vs : List ℕ) (g : Option Origin) (p : ℕ) (out : List ℕ) (at : ℕ) → Option Ready → Type 0
+Sized ks vs g p out at None = (t : Term) → Held ks vs p t → length out < at + length (bytes t)
+Sized ks vs g p out at (Some w) =
+    (w.content.head ≡ p) × (w.content.kids ≡ 0) × (w.next ≡ 0) × (w.given ≡ g)
+    × ((t : Term) → Held ks vs p t → (w.size ≡ length (bytes t)) × (at + w.size ≤ length out))

@@ -2,7 +2,7 @@
 use Rattle.std.specs.Prelude.{◌≡◌, Bool, false, List, ℕ, zero, suc, ◌+◌, ◌-◌, ◌*◌, ◌≤◌, ◌<◌, length, get_or, Option, Some, None}
 use Rattle.terms.specs.declared.Origin.{Origin}
 use Rattle.terms.specs.declared.Content.{Content}
-use Rattle.terms.specs.declared.Rule.{Rule}
+use Rattle.terms.specs.declared.LookUp.{LookUp}
 use Rattle.terms.specs.declared.Walked.{Walked}
 use Rattle.terms.specs.Words.Tokens.{Area}
 use Rattle.terms.specs.Term.{Term, bytes, size, Held}
@@ -32,25 +32,25 @@ pub record Fixed (ks vs : List ℕ) (x : Content) (r : ℕ) : Type 0 where
   pub is : (t : Term) → Held ks vs x.head t → (contains_projection t ≡ false) × (r ≡ size t)
 
 -- by `walk` of the definition, with what is to be looked up, the children are too many: the count is over `most`
-abbrev pub Overrun : (ks vs : List ℕ) (ws : List Rule) (g : Origin) (hs₀ cs₀ : List ℕ) (x : Content) (next levels visits most : ℕ) → Type 0
-Overrun ks vs ws g hs₀ cs₀ x next levels visits most =
-    (S : ℕ → Bool) (t : Term) (look : Look) → Below S next → Tree (view ks vs g) hs₀ cs₀ S x.head x.kids t → Looks ks vs ws g look
+abbrev pub Overrun : (ks vs : List ℕ) (lookup : LookUp) (g : Option Origin) (hs₀ cs₀ : List ℕ) (x : Content) (next levels visits most : ℕ) → Type 0
+Overrun ks vs lookup g hs₀ cs₀ x next levels visits most =
+    (S : ℕ → Bool) (t : Term) (look : Look) → Below S next → Tree (view ks vs g) hs₀ cs₀ S x.head x.kids t → Looks ks vs lookup look
     → most < (walk_by (replacement (look_by look)) levels t visits next).count
 
 -- what the visit of a term leaves: its result by `walk` of the definition, or that the children are too many
-module _ (ks vs : List ℕ) (ws : List Rule) (g : Origin) (hs₀ cs₀ hs cs : List ℕ) (x : Content) (next levels visits most : ℕ) where
+module _ (ks vs : List ℕ) (lookup : LookUp) (g : Option Origin) (hs₀ cs₀ hs cs : List ℕ) (x : Content) (next levels visits most : ℕ) where
   pub record Went (r : Walked) : Type 0 where
     pub later : next ≤ r.next
     pub within : r.next ≤ most
     pub fewer : r.visits ≤ visits
     -- a visit adds less than 2 ^ 36 bytes
     pub bounded : r.size ≤ 68719476736 * (visits - r.visits) + 1
-    pub done : (S : ℕ → Bool) (t : Term) (look : Look) → Below S next → Tree (view ks vs g) hs₀ cs₀ S x.head x.kids t → Looks ks vs ws g look
-        → Visited (view ks vs g) hs cs S next r.head r.kids r.next r.visits r.size (walk_by (replacement (look_by look)) levels t visits next)
+    pub done : (S : ℕ → Bool) (t : Term) (look : Look) → Below S next → Tree (view ks vs g) hs₀ cs₀ S x.head x.kids t → Looks ks vs lookup look
+        → Visited (view ks vs g) hs cs S next r.content.head r.content.kids r.next r.visits r.size (walk_by (replacement (look_by look)) levels t visits next)
 
   abbrev pub Walks : Option Walked → Type 0
   Walks (Some r) = Went r
-  Walks None = Overrun ks vs ws g hs₀ cs₀ x next levels visits most
+  Walks None = Overrun ks vs lookup g hs₀ cs₀ x next levels visits most
 
 -- the records up to here may be changed: all of them, where the children are too many
 abbrev pub used : (most : ℕ) → Option Walked → ℕ

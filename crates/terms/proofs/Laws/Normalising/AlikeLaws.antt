@@ -12,16 +12,17 @@ use Rattle.terms.specs.Term.{Term, Parts, var, node, end, num, sub, ◌+++◌, d
 use Rattle.terms.specs.Words.Held.{Held, span}
 use Rattle.terms.specs.Tree.{row, same}
 use Rattle.terms.specs.Words.VirtualTokens.{view, Sight}
+use Rattle.std.specs.declared.option.Option as rust
 use Rattle.terms.specs.declared.Origin.{Origin}
 use Rattle.terms.specs.declared.Content.{Content}
 use Rattle.terms.specs.declared.Cursor.{Cursor}
-use Rattle.terms.specs.Words.Arena.{head_of, kids_of, Tree, variable, branch, Parted, RowAt, From, Cut, Alike, Begins, Starts}
+use Rattle.terms.specs.Words.Arena.{head_of, kids_of, Tree, variable, branch, Parted, RowAt, From, Alike, Begins, Starts}
 use Rattle.terms.proofs.Laws.General.Bools.{never_true}
 use Rattle.terms.proofs.Laws.Held.HeldLaws.{head_kind}
 use Rattle.terms.proofs.Laws.Held.SameLaws.{both, same_refl, same_true}
 use Rattle.terms.proofs.Laws.Normalising.SourceLaws.{tree_held}
 use Rattle.terms.proofs.Laws.Normalising.ArenaLaws.{parted_over, parted_more, parted_number, parted_child, tree_kind}
-use Rattle.std.specs.Prelude.{Some, None}
+use Rattle.std.specs.Prelude.{MatchOption, Some, None}
 
 clash : {A : Type 0} → ◌≡◌ {A = ℕ} 0 1 → A
 clash e = absurd (omega arith)
@@ -76,22 +77,20 @@ module _ (a : Area) (hs cs : List ℕ) (x y : Cursor) (fuel : ℕ) where
     pub second : j ≤ q
     pub is : (S T : ℕ → Bool) (ps qs : Parts) → From a hs cs S x ps → From a hs cs T y qs → depths ps ≤ fuel → MeetAt S T ps qs p i q j
 
-  pub meeting_start : Cut x → Cut y → Meeting x.at x.child y.at y.child
-  meeting_start cx cy = record {
-    first = cx.few;
-    second = cy.few;
+  pub meeting_start : Meeting x.at x.child y.at y.child
+  meeting_start = record {
+    first = x.few;
+    second = y.few;
     is = λ S T ps qs f g d. record { l = ps; m = qs; left = f; right = g; low = d; to = λ r e. e; from = λ r e. e };
   }
 
 module _ {a : Area} {hs cs : List ℕ} {x y : Cursor} {fuel p i q j : ℕ} (w : Meeting a hs cs x y fuel p i q j) where
-  pub meeting_done : y.end ≤ q → Begins a hs cs x y fuel (Some (p, i))
-  meeting_done le = (
-    w.first,
-    λ S T ps qs f g d.
-        let b = w.is S T ps qs f g d in
-        let e = parted_over a hs cs T b.right le in
-        (b.l, b.from b.l (ap (λ (r : Parts). r +++ b.l) (sym e)), b.left),
-  )
+  pub meeting_done : y.end ≤ q → (small : x.end < 4294967296) (few : i ≤ p)
+      → Begins a hs cs x y fuel (Some (record { at = p; end = x.end; child = i; kids = x.kids; small = small; few = few }))
+  meeting_done le small few S T ps qs f g d =
+      let b = w.is S T ps qs f g d in
+      let e = parted_over a hs cs T b.right le in
+      (b.l, b.from b.l (ap (λ (r : Parts). r +++ b.l) (sym e)), b.left)
 
   -- the first row ends before
   pub meeting_short : q < y.end → x.end ≤ p → Begins a hs cs x y fuel None
@@ -188,8 +187,8 @@ module _ {a : Area} {hs cs : List ℕ} {x y : Cursor} {fuel p i q j : ℕ} (w : 
 
 -- ---- two trees
 
-pub starts : (a : Area) (x : Content) (from e : ℕ) → RowAt a x.head from e → Starts a x (record { at = from; end = e; child = 0; kids = x.kids })
-starts a x from e r = record { cut = record { small = r.small; few = omega arith }; is = λ hs cs S t w. r.is hs cs S x.kids t w }
+pub starts : (a : Area) (x : Content) (r : Cursor) → RowAt a x.head r.at r.end → r.child ≡ 0 → r.kids ≡ x.kids → Starts a x r
+starts a x r w ec ek = record { is = λ hs cs S t f. rw (ec, ek) (w.is hs cs S x.kids t f) }
 
 -- equal rows under equal heads
 node_same : (t u : Term) → head_kind t ≡ head_kind u → (head_kind t ≡ 1 → ⊥) → row t ≡ row u → t ≡ u
@@ -231,23 +230,22 @@ module _ {a : Area} {hs cs : List ℕ} {x y : Content} {fuel : ℕ} where
             eqb-false v z e (ev ∙ j ∙ sym ez);
       }
 
-      module _ (o : k ≡ 1 → ⊥) {c d : Cursor} (sc : Starts a x c) (sd : Starts a y d) (less : ℕ) (el : less + 1 ≡ fuel) where
-        pub alike_rows : Begins a hs cs c d less None → Alike a hs cs x y fuel false
-        alike_rows b = record {
-          yes = λ e. never_true e;
+      module _ (o' : k ≡ 1 → ⊥) {c d : Cursor} (sc : Starts a x c) (sd : Starts a y d) (less : ℕ) (el : less + 1 ≡ fuel) where
+        -- the other row ends where this one does, or not
+        pub alike_rows : (m : rust.Option Cursor) → Begins a hs cs c d less m → (r : Bool) → MatchOption m (r ≡ false) (λ z. r ≡ leb z.end z.at) → Alike a hs cs x y fuel r
+        alike_rows None b r er = record {
+          yes = λ e. never_true (sym er ∙ e);
           no = λ e S T t u f g low i.
               b S T (row t) (row u) (sc.is hs cs S t f) (sd.is hs cs T u g) (omega (arith, depth_row t)) end (ap row i ∙ sym (behind_end (row u)));
         }
-
-        pub alike_ends : (at n : ℕ) → Begins a hs cs c d less (Some (at, n)) → Alike a hs cs x y fuel (leb c.end at)
-        alike_ends at n b = record {
+        alike_rows (Some z) b r er = record {
           yes = λ e S T t u f g low.
-              let m = b.1 S T (row t) (row u) (sc.is hs cs S t f) (sd.is hs cs T u g) (omega (arith, depth_row t)) in
-              let z = parted_over a hs cs S m.2 (leb-true c.end at e) in
-              node_same t u (sym (tree_kind a hs cs S f ek) ∙ kn ∙ tree_kind a hs cs T g en) (λ h. o (tree_kind a hs cs S f ek ∙ h)) (m.1 ∙ ap (λ (r : Parts). row u +++ r) z ∙ behind_end (row u));
+              let m = b S T (row t) (row u) (sc.is hs cs S t f) (sd.is hs cs T u g) (omega (arith, depth_row t)) in
+              let o = parted_over a hs cs S m.2 (leb-true z.end z.at (sym er ∙ e)) in
+              node_same t u (sym (tree_kind a hs cs S f ek) ∙ kn ∙ tree_kind a hs cs T g en) (λ h. o' (tree_kind a hs cs S f ek ∙ h)) (m.1 ∙ ap (λ (r : Parts). row u +++ r) o ∙ behind_end (row u));
           no = λ e S T t u f g low i.
-              let m = b.1 S T (row t) (row u) (sc.is hs cs S t f) (sd.is hs cs T u g) (omega (arith, depth_row t)) in
-              parted_more a hs cs S m.2 (leb-false c.end at e) (rest_end (row u) m.0 (sym (ap row i) ∙ m.1));
+              let m = b S T (row t) (row u) (sc.is hs cs S t f) (sd.is hs cs T u g) (omega (arith, depth_row t)) in
+              parted_more a hs cs S m.2 (leb-false z.end z.at (sym er ∙ e)) (rest_end (row u) m.0 (sym (ap row i) ∙ m.1));
         }
           where
             rest_end : (ps rest : Parts) → ps ≡ ps +++ rest → rest ≡ end
@@ -265,7 +263,7 @@ Lent ks vs x = (x.kids ≡ 0) × (x.head + span (get_or ks x.head 0) (get_or vs 
 pub lent_true : (ks vs : List ℕ) (x : Content) (r : Bool) → r ≡ (eqb x.kids 0 && leb (x.head + span (get_or ks x.head 0) (get_or vs x.head 0)) (length ks)) → r ≡ true → Lent ks vs x
 lent_true ks vs x r e t = let b = both _ _ (sym e ∙ t) in (eqb-true x.kids 0 b.0, leb-true _ _ b.1)
 
-module _ {ks vs : List ℕ} {g : Origin} (s : Sight ks vs g) {hs cs : List ℕ} {x y : Content} {fuel : ℕ} where
+module _ {ks vs : List ℕ} {g : rust.Option Origin} (s : Sight ks vs g) {hs cs : List ℕ} {x y : Content} {fuel : ℕ} where
   -- r says whether the terms at p and q are the same
   pub alike_lent : Lent ks vs x → Lent ks vs y → {r : Bool} → ((t u : Term) → Held ks vs x.head t → Held ks vs y.head u → r ≡ same t u)
       → Alike (view ks vs g) hs cs x y fuel r

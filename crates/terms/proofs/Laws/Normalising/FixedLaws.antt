@@ -14,7 +14,7 @@ use lib.ListN.{length, get_or, set}
 use lib.Seq.{set-get_or}
 use Rattle.terms.specs.declared.Origin.{Origin}
 use Rattle.terms.specs.declared.Content.{Content}
-use Rattle.terms.specs.declared.Rule.{Rule}
+use Rattle.terms.specs.declared.LookUp.{LookUp}
 use Rattle.terms.specs.declared.Walked.{Walked}
 use Rattle.terms.specs.Words.Tokens.{Item, item, spell, toks}
 use Rattle.terms.specs.Term.{Term, Parts, var, node, end, num, sub, items, part_items, bytes, size, sizes, Held}
@@ -338,7 +338,7 @@ module _ (ks vs : List ℕ) (p : ℕ) where
 
 -- ---- the visit of a content that stays
 
-module _ (ks vs : List ℕ) (ws : List Rule) (g : Origin) (s : Sight ks vs g) (hs cs : List ℕ) (x : Content) (next levels visits most r m : ℕ)
+module _ (ks vs : List ℕ) (lookup : LookUp) (g : rust.Option Origin) (s : Sight ks vs g) (hs cs : List ℕ) (x : Content) (next levels visits most r m : ℕ)
     (f : Fixed ks vs x r) (len : (t : Term) → Held ks vs x.head t → m ≡ length (bytes t)) (hm : m < 68719476736) (some : 0 < r) (hl : r ≤ levels) (hv : r ≤ visits) where
   walked : (S : ℕ → Bool) (t : Term) (look : Look) → Tree (view ks vs g) hs cs S x.head x.kids t
       → (walk_by (finds look) levels t visits next ≡ stays t visits next) × (r ≡ size t) × (m ≡ length (bytes t))
@@ -348,8 +348,8 @@ module _ (ks vs : List ℕ) (ws : List Rule) (g : Origin) (s : Sight ks vs g) (h
       let y = f.is t h in
       (fixed_walk (look_by look) levels t visits next y.0 (omega (arith, y.1)) (omega (arith, y.1)), y.1, len t h)
 
-  walks_fixed : next + (r - 1) ≤ most → (w : Walked) → w ≡ record { head = x.head; kids = x.kids; next = next + (r - 1); visits = visits - r; size = m }
-      → Went ks vs ws g hs cs hs cs x next levels visits most w
+  walks_fixed : next + (r - 1) ≤ most → (w : Walked) → w ≡ record { content = x; next = next + (r - 1); visits = visits - r; size = m }
+      → Went ks vs lookup g hs cs hs cs x next levels visits most w
   walks_fixed le w e = rw e (record {
     later = omega arith;
     within = le;
@@ -367,12 +367,12 @@ module _ (ks vs : List ℕ) (ws : List Rule) (g : Origin) (s : Sight ks vs g) (h
 
   -- either way, and the records stay
   pub fixed_kept : (w : rust.Option Walked)
-      → (next + (r - 1) ≤ most → w ≡ Some (record { head = x.head; kids = x.kids; next = next + (r - 1); visits = visits - r; size = m }))
+      → (next + (r - 1) ≤ most → w ≡ Some (record { content = x; next = next + (r - 1); visits = visits - r; size = m }))
       → (most < next + (r - 1) → w ≡ None)
-      → Walks ks vs ws g hs cs hs cs x next levels visits most w × Frames hs cs hs cs next (used most w)
+      → Walks ks vs lookup g hs cs hs cs x next levels visits most w × Frames hs cs hs cs next (used most w)
   fixed_kept w fits stops = (go w fits stops (dec_lt most (next + (r - 1))), frames_same hs cs next (used most w))
     where
-      go : (w : rust.Option Walked) → (next + (r - 1) ≤ most → w ≡ Some (record { head = x.head; kids = x.kids; next = next + (r - 1); visits = visits - r; size = m }))
-          → (most < next + (r - 1) → w ≡ None) → Dec (most < next + (r - 1)) → Walks ks vs ws g hs cs hs cs x next levels visits most w
+      go : (w : rust.Option Walked) → (next + (r - 1) ≤ most → w ≡ Some (record { content = x; next = next + (r - 1); visits = visits - r; size = m }))
+          → (most < next + (r - 1) → w ≡ None) → Dec (most < next + (r - 1)) → Walks ks vs lookup g hs cs hs cs x next levels visits most w
       go w fits stops (yes m') = rw (stops m') (λ S t look b tr z. let y = walked S t look tr in rw y.0 (omega (arith, m', y.1)))
       go w fits stops (no m') = rw (fits (omega arith)) (walks_fixed (omega arith) _ refl)

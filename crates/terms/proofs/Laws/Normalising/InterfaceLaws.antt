@@ -13,13 +13,14 @@ use native.Mathlib.Decide.{dec_lt}
 use Rattle.std.specs.Bool.{then_some}
 use Rattle.std.specs.Prelude.{unwrap_or}
 use lib.ListN.{length, get_or, length-append, get_or-eq_default, get_elem?}
+use Rattle.std.specs.Prelude.{Option, Some}
 use Rattle.terms.specs.declared.Origin.{Origin}
 use Rattle.terms.specs.declared.Spot.{Spot}
 use Rattle.terms.specs.declared.Spot.TheVariants.{Lent, Error, Head, Nowhere}
 use Rattle.terms.specs.Words.Tokens.{Area, Item, item, spell, toks}
 use Rattle.terms.specs.Term.{Term, Parts, var, node, end, num, sub, ◌+++◌, items, part_items, depth, depths}
 use Rattle.terms.specs.Words.Held.{Held}
-use Rattle.terms.specs.Words.VirtualTokens.{copied, word_at, count, view, Sight, Located, LentAt}
+use Rattle.terms.specs.Words.VirtualTokens.{width, size_of, copied, word_at, count, view, Sight, Located, LentAt}
 use Rattle.terms.specs.Tree.{nums, subs, children, row, tag, member_of, arguments_of}
 use Rattle.terms.specs.Comparison.{no_terms}
 use Rattle.terms.specs.Normal.{member_from}
@@ -31,13 +32,13 @@ use Rattle.terms.proofs.Laws.Normalising.ScanLaws.{children_row}
 use Rattle.terms.specs.Words.Arena.{Tree}
 use Rattle.terms.proofs.Laws.Normalising.ArenaLaws.{held_tree}
 use Rattle.terms.proofs.Laws.Format.ReadSequenceLaws.{items_append}
-use Rattle.terms.proofs.Laws.Normalising.VirtualTokenLaws.{seen_length, toks_same, spot_word, located_head, located_copy, copied_owner, copied_interface, copied_member, copied_last, view_held}
+use Rattle.terms.proofs.Laws.Normalising.VirtualTokenLaws.{width_is, width_some, seen_length, toks_same, spot_word, located_head, located_copy, copied_owner, copied_interface, copied_member, copied_last, view_held}
 
 -- ---- the lent token of a number
 
-module _ (ks vs : List ℕ) (g : Origin) (s : Sight ks vs g) (p : ℕ) where
-  word_of : (sp : Spot) → Located g (length ks) p sp → (get_or (view ks vs g).kinds p 0 ≡ word_at ks 5 20 sp) × (get_or (view ks vs g).vals p 0 ≡ word_at vs 1 g.size sp)
-  word_of sp l = (spot_word ks g 5 20 (length ks) p sp l refl, spot_word vs g 1 g.size (length ks) p sp l s.pairs)
+module _ (ks vs : List ℕ) (g : Option Origin) (s : Sight ks vs g) (p : ℕ) where
+  word_of : (sp : Spot) → Located g (length ks) p sp → (get_or (view ks vs g).kinds p 0 ≡ word_at ks 5 20 sp) × (get_or (view ks vs g).vals p 0 ≡ word_at vs 1 (size_of g) sp)
+  word_of sp l = (spot_word ks g 5 20 (length ks) p sp l refl, spot_word vs g 1 (size_of g) (length ks) p sp l s.pairs)
 
   -- past the lent tokens every word is 0
   past : (i : ℕ) → length ks ≤ i → (get_or ks i 0 ≡ 0) × (get_or vs i 0 ≡ 0)
@@ -46,7 +47,7 @@ module _ (ks vs : List ℕ) (g : Origin) (s : Sight ks vs g) (p : ℕ) where
   pub lent_here : (q : ℕ) → Located g (length ks) p (Lent q) → LentAt ks vs g p (unwrap_or (then_some (ltb q (length ks)) q) (length ks))
   lent_here q l = go (dec_lt q (length ks))
     where
-      w : (get_or (view ks vs g).kinds p 0 ≡ word_at ks 5 20 (Lent q)) × (get_or (view ks vs g).vals p 0 ≡ word_at vs 1 g.size (Lent q))
+      w : (get_or (view ks vs g).kinds p 0 ≡ word_at ks 5 20 (Lent q)) × (get_or (view ks vs g).vals p 0 ≡ word_at vs 1 (size_of g) (Lent q))
       w = word_of (Lent q) l
 
       go : Dec (q < length ks) → LentAt ks vs g p (unwrap_or (then_some (ltb q (length ks)) q) (length ks))
@@ -60,61 +61,61 @@ module _ (ks vs : List ℕ) (g : Origin) (s : Sight ks vs g) (p : ℕ) where
   pub lent_none : (sp : Spot) → ((q : ℕ) → sp ≡ Lent q → ⊥) → Located g (length ks) p sp → LentAt ks vs g p (length ks)
   lent_none (Lent q) n l = absurd (n q refl)
   lent_none Error n l = let w = word_of Error l in record { within = omega arith; same = λ z. absurd (omega (arith, w.0)) }
-  lent_none Head n l = let w = word_of Head l in record { within = omega arith; same = λ z. absurd (omega (arith, w.0)) }
+  lent_none (Head m) n l = let w = word_of (Head m) l in record { within = omega arith; same = λ z. absurd (omega (arith, w.0)) }
   lent_none Nowhere n l = let w = word_of Nowhere l in record { within = omega arith; same = λ z. ((past (length ks) (omega arith)).0, (past (length ks) (omega arith)).1 ∙ sym w.1) }
 
 -- ---- the projection for the token t
 
 module _ (g : Origin) (len t : ℕ) (le : t ≤ len) where
   -- it stands within the tokens that are seen
-  pub made_within : len + 1 + t * g.size + g.size ≤ count len g
+  pub made_within : len + 1 + t * (width g) + (width g) ≤ count len (Some g)
   made_within =
-      let a = mul-le-mul_right g.size le in
-      let b : (len + 1) * g.size ≡ len * g.size + g.size = rw add-one (suc-mul len g.size) in
+      let a = mul-le-mul_right (width g) le in
+      let b : (len + 1) * (width g) ≡ len * (width g) + (width g) = rw add-one (suc-mul len (width g)) in
       omega arith
 
   -- its r-th token is a copy
-  pub made_spot : (r : ℕ) → r < g.size → (q : ℕ) → q ≡ len + 1 + t * g.size + r → (r ≡ 0 → Located g len q Head) × ((r ≡ 0 → ⊥) → (p : ℕ) → p ≡ copied g len r t → Located g len q (Lent p))
+  pub made_spot : (r : ℕ) → r < (width g) → (q : ℕ) → q ≡ len + 1 + t * (width g) + r → (r ≡ 0 → Located (Some g) len q (Head (width g))) × ((r ≡ 0 → ⊥) → (p : ℕ) → p ≡ copied g len r t → Located (Some g) len q (Lent p))
   made_spot r lt q e =
-      let d : q - (len + 1) ≡ t * g.size + r = omega arith in
-      let z : 0 < g.size = omega arith in
-      let m : r ≡ (q - (len + 1)) % g.size = sym (rw d (mul-add-mod_self_right t g.size r ∙ mod-eq_of_lt lt)) in
-      let v : t ≡ (q - (len + 1)) / g.size = sym (rw d (mul-add-div_right z t r ∙ ap (λ (n : ℕ). t + n) (div-eq_of_lt lt) ∙ omega arith)) in
-      (λ o. located_head g len q (omega arith) (λ y. omega arith) r t m v le o, λ o p ep. located_copy g len q (omega arith) (λ y. omega arith) r t m v le o p ep)
+      let d : q - (len + 1) ≡ t * (width g) + r = omega arith in
+      let z = width_some g in
+      let m : r ≡ (q - (len + 1)) % (width g) = sym (rw d (mul-add-mod_self_right t (width g) r ∙ mod-eq_of_lt lt)) in
+      let v : t ≡ (q - (len + 1)) / (width g) = sym (rw d (mul-add-div_right z t r ∙ ap (λ (n : ℕ). t + n) (div-eq_of_lt lt) ∙ omega arith)) in
+      (λ o. located_head g len q (omega arith) r t m v le o (width g) refl, λ o p ep. located_copy g len q (omega arith) r t m v le o p ep)
 
-module _ (ks vs : List ℕ) (g : Origin) (s : Sight ks vs g) (i : Parts) (owner : Term) (h : HeldGiven ks vs g i owner) (t : ℕ) (le : t ≤ length ks) where
+module _ (ks vs : List ℕ) (g : Origin) (s : Sight ks vs (Some g)) (i : Parts) (owner : Term) (h : HeldGiven ks vs g i owner) (t : ℕ) (le : t ≤ length ks) where
   abbrev area : Area
-  area = view ks vs g
+  area = view ks vs (Some g)
 
   abbrev base : ℕ
-  base = length ks + 1 + t * g.size
+  base = length ks + 1 + t * (width g)
 
   -- the two words of a copy
-  copy : (r q p : ℕ) → r < g.size → (r ≡ 0 → ⊥) → q ≡ base + r → p ≡ copied g (length ks) r t → (get_or area.kinds q 0 ≡ get_or ks p 0) × (get_or area.vals q 0 ≡ get_or vs p 0)
-  copy r q p lt o e c = word_of ks vs g s q (Lent p) ((made_spot g (length ks) t le r lt q e).1 o p c)
+  copy : (r q p : ℕ) → r < (width g) → (r ≡ 0 → ⊥) → q ≡ base + r → p ≡ copied g (length ks) r t → (get_or area.kinds q 0 ≡ get_or ks p 0) × (get_or area.vals q 0 ≡ get_or vs p 0)
+  copy r q p lt o e c = word_of ks vs (Some g) s q (Lent p) ((made_spot g (length ks) t le r lt q e).1 o p c)
 
-  head_word : (get_or area.kinds base 0 ≡ 20) × (get_or area.vals base 0 ≡ g.size)
-  head_word = word_of ks vs g s base Head ((made_spot g (length ks) t le 0 (omega (arith, h.size_is)) base (omega arith)).0 refl)
+  head_word : (get_or area.kinds base 0 ≡ 20) × (get_or area.vals base 0 ≡ (width g))
+  head_word = word_of ks vs (Some g) s base (Head (width g)) ((made_spot g (length ks) t le 0 (omega (arith, width_is g)) base (omega arith)).0 refl)
 
   owner_word : (j : ℕ) → j < g.span → (get_or area.kinds (suc base + j) 0 ≡ get_or ks (g.owner + j) 0) × (get_or area.vals (suc base + j) 0 ≡ get_or vs (g.owner + j) 0)
   owner_word j lt =
-      copy (1 + j) (suc base + j) (g.owner + j) (omega (arith, h.size_is)) (λ z. omega arith) (omega arith)
+      copy (1 + j) (suc base + j) (g.owner + j) (omega (arith, width_is g)) (λ z. omega arith) (omega arith)
       (copied_owner g (length ks) (1 + j) t (g.owner + j) (omega arith) (omega arith))
 
   interface_word : (j : ℕ) → j < g.row
       → (get_or area.kinds (suc base + g.span + j) 0 ≡ get_or ks (g.interface + 1 + j) 0) × (get_or area.vals (suc base + g.span + j) 0 ≡ get_or vs (g.interface + 1 + j) 0)
   interface_word j lt =
-      copy (1 + g.span + j) (suc base + g.span + j) (g.interface + 1 + j) (omega (arith, h.size_is)) (λ z. omega arith) (omega arith)
+      copy (1 + g.span + j) (suc base + g.span + j) (g.interface + 1 + j) (omega (arith, width_is g)) (λ z. omega arith) (omega arith)
       (copied_interface g (length ks) (1 + g.span + j) t (g.interface + 1 + j) (omega arith) (omega arith) (omega arith))
 
   member_word : (get_or area.kinds (suc base + g.span + g.row) 0 ≡ get_or ks t 0) × (get_or area.vals (suc base + g.span + g.row) 0 ≡ get_or vs t 0)
   member_word =
-      copy (1 + g.span + g.row) (suc base + g.span + g.row) t (omega (arith, h.size_is)) (λ z. omega arith) (omega arith)
+      copy (1 + g.span + g.row) (suc base + g.span + g.row) t (omega (arith, width_is g)) (λ z. omega arith) (omega arith)
       (copied_member g (length ks) (1 + g.span + g.row) t t (omega arith) (omega arith) (omega arith) refl)
 
   last_word : (get_or area.kinds (suc (suc base + g.span + g.row)) 0 ≡ get_or ks (length ks) 0) × (get_or area.vals (suc (suc base + g.span + g.row)) 0 ≡ get_or vs (length ks) 0)
   last_word =
-      copy (2 + g.span + g.row) (suc (suc base + g.span + g.row)) (length ks) (omega (arith, h.size_is)) (λ z. omega arith) (omega arith)
+      copy (2 + g.span + g.row) (suc (suc base + g.span + g.row)) (length ks) (omega (arith, width_is g)) (λ z. omega arith) (omega arith)
       (copied_last g (length ks) (2 + g.span + g.row) t (length ks) (omega arith) (omega arith) (λ z. omega arith) refl)
 
   owner_toks : toks area.kinds area.vals (suc base) g.span ≡ items owner
@@ -132,7 +133,7 @@ module _ (ks vs : List ℕ) (g : Origin) (s : Sight ks vs g) (i : Parts) (owner 
     number_toks : toks area.kinds area.vals (suc base + g.span + g.row) 2 ≡ item 0 m ∷ item 0 0 ∷ []
     unfolding spell
     number_toks =
-        let o = past ks vs g s base (length ks) (omega arith) in
+        let o = past ks vs (Some g) s base (length ks) (omega arith) in
         rw (member_word.0, member_word.1, last_word.0, last_word.1, k0, em, o.0, o.1)
 
     row_toks : toks area.kinds area.vals (suc base) (g.span + (g.row + 2)) ≡ items owner ++ (part_items i ++ (item 0 m ∷ item 0 0 ∷ []))
@@ -152,8 +153,8 @@ module _ (ks vs : List ℕ) (g : Origin) (s : Sight ks vs g) (i : Parts) (owner 
     pub made_held : Held area.kinds area.vals base (made owner i m)
     unfolding items spell
     made_held = record {
-      tokens = rw (row_long, head_word.0, head_word.1, row_toks, row_items) (ap {B = List Item} (λ n. item 20 n ∷ (items owner ++ (part_items i ++ (item 0 m ∷ item 0 0 ∷ [])))) (omega (arith, h.size_is)));
-      within = omega (arith, row_long, made_within g (length ks) t le, h.size_is, seen_length ks g 5 20);
+      tokens = rw (row_long, head_word.0, head_word.1, row_toks, row_items) (ap {B = List Item} (λ n. item 20 n ∷ (items owner ++ (part_items i ++ (item 0 m ∷ item 0 0 ∷ [])))) (omega (arith, width_is g)));
+      within = omega (arith, row_long, made_within g (length ks) t le, width_is g, seen_length ks (Some g) 5 20);
     }
 
 -- ---- what is found, by the tests
@@ -225,17 +226,18 @@ pub row_node : (k : ℕ) (ps : Parts) → row (node k ps) ≡ ps
 unfolding row
 row_node k ps = refl
 
-module _ (ks vs : List ℕ) (g : Origin) (s : Sight ks vs g) (i : Parts) (owner : Term) (h : HeldGiven ks vs g i owner) (hs cs : List ℕ) (S : ℕ → Bool) where
-  pub interface_tree : (x c : ℕ) → x ≡ g.interface → c ≡ 0 → Tree (view ks vs g) hs cs S x c (node 20 i)
-  interface_tree x c e z = rw (e, z) (held_tree (view ks vs g) hs cs S (node 20 i) g.interface (view_held ks vs g s g.interface (node 20 i) h.interface_held))
+module _ (ks vs : List ℕ) (o : Option Origin) (s : Sight ks vs o) (g : Origin) (eg : o ≡ Some g) (i : Parts) (owner : Term) (h : HeldGiven ks vs g i owner) (hs cs : List ℕ) (S : ℕ → Bool) where
+  pub interface_tree : (x c : ℕ) → x ≡ g.interface → c ≡ 0 → Tree (view ks vs o) hs cs S x c (node 20 i)
+  interface_tree x c e z = rw (e, z) (held_tree (view ks vs o) hs cs S (node 20 i) g.interface (view_held ks vs o s g.interface (node 20 i) h.interface_held))
 
-  pub owner_tree : (x c : ℕ) → x ≡ g.owner → c ≡ 0 → Tree (view ks vs g) hs cs S x c owner
-  owner_tree x c e z = rw (e, z) (held_tree (view ks vs g) hs cs S owner g.owner (view_held ks vs g s g.owner owner h.owner_held))
+  pub owner_tree : (x c : ℕ) → x ≡ g.owner → c ≡ 0 → Tree (view ks vs o) hs cs S x c owner
+  owner_tree x c e z = rw (e, z) (held_tree (view ks vs o) hs cs S owner g.owner (view_held ks vs o s g.owner owner h.owner_held))
 
   -- the projection for the number at p
-  pub made_tree : (p t x c : ℕ) → LentAt ks vs g p t → get_or (view ks vs g).kinds p 0 ≡ 0 → x ≡ length ks + 1 + t * g.size → c ≡ 0
-      → Tree (view ks vs g) hs cs S x c (made owner i (get_or (view ks vs g).vals p 0))
+  pub made_tree : (p t x c : ℕ) → LentAt ks vs o p t → get_or (view ks vs o).kinds p 0 ≡ 0 → x ≡ length ks + 1 + t * width g → c ≡ 0
+      → Tree (view ks vs o) hs cs S x c (made owner i (get_or (view ks vs o).vals p 0))
   made_tree p t x c l k e z =
       let w = l.same k in
-      rw (e, z) (held_tree (view ks vs g) hs cs S (made owner i (get_or (view ks vs g).vals p 0)) (length ks + 1 + t * g.size)
-      (made_held ks vs g s i owner h t l.within w.0 (get_or (view ks vs g).vals p 0) w.1))
+      let u : Held (view ks vs o).kinds (view ks vs o).vals (length ks + 1 + t * width g) (made owner i (get_or (view ks vs o).vals p 0))
+      = rw eg (made_held ks vs g (rw eg at s) i owner h t l.within w.0 (get_or (view ks vs (Some g)).vals p 0) (rw eg at w.1)) in
+      rw (e, z) (held_tree (view ks vs o) hs cs S (made owner i (get_or (view ks vs o).vals p 0)) (length ks + 1 + t * width g) u)

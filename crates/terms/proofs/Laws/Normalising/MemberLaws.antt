@@ -13,7 +13,10 @@ use Rattle.terms.specs.Tree.{error, nums, subs, children, row, tag, look_up, rec
 use Rattle.terms.specs.Comparison.{no_terms}
 use Rattle.terms.specs.Substitution.{or_else}
 use Rattle.terms.specs.Normal.{member_from, trait_member, own_member, replacement}
+use Rattle.std.proofs.Common.{Bor}
 use Rattle.terms.specs.declared.Origin.{Origin}
+use Rattle.terms.specs.declared.LookUp.{LookUp}
+use Rattle.terms.specs.declared.LookUp.TheVariants.{Rules, Given}
 use Rattle.terms.specs.declared.Rule.{Rule}
 use Rattle.terms.specs.Lookup.{Pattern, by_patterns, through, Look, rules, interface, look_by, Ruled, HeldGiven, Looks}
 use Rattle.terms.specs.Words.Tokens.{Area}
@@ -207,12 +210,19 @@ module _ (look : Parts → Option Term) (t : Term) where
   replace_look e o = rw (eq-eqb (tag t) 18 e, o)
 
 -- rules are to be looked up, or an interface
-pub looked_rules : (ks vs : List ℕ) (ws : List Rule) (g : Origin) (P : Option Term → Type 0) (ps : Parts) (look : Look) → Looks ks vs ws g look → g.size ≡ 0
-    → ((rs : List Pattern) → Ruled ks vs ws rs → P (by_patterns rs ps)) → P (look_by look ps)
-looked_rules ks vs ws g P ps (rules rs) k z f = f rs k.1
-looked_rules ks vs ws g P ps (interface i owner) k z f = absurd (omega (arith, k.size_is))
+module _ (ks vs : List ℕ) (P : Option Term → Type 0) (ps : Parts) where
+  pub looked_rules : (l : LookUp) (ws : Bor (List Rule)) (look : Look) → l ≡ Rules ws → Looks ks vs l look → ((rs : List Pattern) → Ruled ks vs ws.now rs → P (by_patterns rs ps))
+      → P (look_by look ps)
+  looked_rules l ws look e k f = go look (rw e at k)
+    where
+      go : (look : Look) → Looks ks vs (Rules ws) look → P (look_by look ps)
+      go (rules rs) k = f rs k
+      go (interface i owner) k = absurd k
 
-pub looked_through : (ks vs : List ℕ) (ws : List Rule) (g : Origin) (P : Option Term → Type 0) (ps : Parts) (look : Look) → Looks ks vs ws g look → (g.size ≡ 0 → ⊥)
-    → ((i : Parts) (owner : Term) → HeldGiven ks vs g i owner → P (through i owner ps)) → P (look_by look ps)
-looked_through ks vs ws g P ps (rules rs) k z f = absurd (z k.0)
-looked_through ks vs ws g P ps (interface i owner) k z f = f i owner k
+  pub looked_through : (l : LookUp) (g : Origin) (look : Look) → l ≡ Given g → Looks ks vs l look
+      → ((i : Parts) (owner : Term) → HeldGiven ks vs g i owner → P (through i owner ps)) → P (look_by look ps)
+  looked_through l g look e k f = go look (rw e at k)
+    where
+      go : (look : Look) → Looks ks vs (Given g) look → P (look_by look ps)
+      go (rules rs) k = absurd k
+      go (interface i owner) k = f i owner k

@@ -17,24 +17,24 @@ use Rattle.terms.specs.declared.Walked.{Walked}
 use Rattle.terms.specs.declared.Ready.{Ready}
 use Rattle.terms.specs.declared.Unfinished.TheVariants.{TooMany, TooLong}
 use Rattle.std.specs.declared.option.Option as rust
-use Rattle.std.specs.Prelude.{Some, None, Err, ok_or, nat_eq, take, drop}
+use Rattle.std.specs.Prelude.{Some, None, Ok, Err, ok_or, nat_eq, take, drop}
 use Rattle.std.specs.List.{list_any}
 use Rattle.std.proofs.lemmas.List.{drop_more}
 use Rattle.terms.specs.Result.{pick}
 use Rattle.terms.specs.Words.Tokens.{Item, item, Area, area, put, puts, zeros, blank, spell, toks}
-use Rattle.terms.specs.Term.{Term, Parts, var, node, end, num, sub, items, part_items, bytes, depth, Held}
+use Rattle.terms.specs.Term.{Term, Parts, var, node, end, num, sub, items, part_items, bytes, Held}
 use Rattle.terms.specs.Words.Held.{span}
 use Rattle.terms.specs.Tree.{tag}
 use Rattle.terms.specs.Questions.{meets, meets_row, counted, counted_by, entered, entered_by, contains_projection}
-use Rattle.terms.specs.Words.VirtualTokens.{view, Sight}
+use Rattle.terms.specs.Words.VirtualTokens.{width, view, Sight}
 use Rattle.terms.specs.Normal.{Out, replacement, walk_by, normalise}
-use Rattle.terms.specs.declared.Rule.{Rule}
+use Rattle.terms.specs.declared.LookUp.{LookUp}
 use Rattle.terms.specs.Lookup.{Look, look_by, Looks, HeldGiven}
-use Rattle.terms.specs.Words.Arena.{Tree, grow, Frame, Frames}
+use Rattle.terms.specs.Words.Arena.{grow, Frame, Frames}
 use Rattle.terms.specs.Words.WalkingContract.{Visited, Overrun, Went}
-use Rattle.terms.specs.Words.NormalContract.{Zero, Sized, Fitted, number_for, Answers, Leaves}
+use Rattle.terms.specs.Words.NormalContract.{Zero, Sized, number_for, Answers, Leaves}
 use Rattle.terms.proofs.Laws.General.Bools.{never_true, or_assoc}
-use Rattle.terms.proofs.Laws.Normalising.VirtualTokenLaws.{view_held}
+use Rattle.terms.proofs.Laws.Normalising.VirtualTokenLaws.{width_is, view_held}
 use Rattle.terms.proofs.Laws.Normalising.ArenaLaws.{held_tree}
 use Rattle.terms.proofs.Laws.Normalising.DepthLaws.{walk_depth}
 use Rattle.terms.proofs.Laws.Held.HeldLaws.{toks_cons, items_some}
@@ -239,78 +239,74 @@ module _ (levels visits : ℕ) (look : Parts → Option Term) (t : Term) where
 areas_same : (hs cs js bs : List ℕ) → area hs cs ≡ area js bs → (hs ≡ js) × (cs ≡ bs)
 areas_same hs cs js bs e = (ap (λ (d : Area). d.kinds) e, ap (λ (d : Area). d.vals) e)
 
-module _ (ks vs : List ℕ) (g : Origin) (s : Sight ks vs g) (hs₀ cs₀ hs cs : List ℕ) (x : Content) (out : List ℕ) (at levels most : ℕ) where
-  -- a term that is not walked
-  module _ (p : ℕ) (eh : x.head ≡ p) (ek : x.kids ≡ 0) where
-    pub plain_leaves : (r : rust.Option Ready) → Sized ks vs hs₀ cs₀ hs cs g x 0 0 out at r → Leaves ks vs hs₀ cs₀ hs cs most (ok_or r TooLong)
-    plain_leaves None z = record { same = λ n. areas_same hs cs hs₀ cs₀ (z.0 ∙ nothing_blank (area hs₀ cs₀)); records = tt }
-    plain_leaves (Some w) z = record {
-      same = λ n. absurd (n refl);
-      records = (omega (arith, z.4), ap (blank (area hs cs) 0) z.4 ∙ nothing_blank (area hs cs) ∙ ap₂ area z.0 z.1, rw z.5 s);
+-- a term that is not walked
+module _ (ks vs : List ℕ) (g : rust.Option Origin) (s : Sight ks vs g) (hs cs : List ℕ) (p : ℕ) (out : List ℕ) (at levels most : ℕ) where
+  pub plain_leaves : (r : rust.Option Ready) → Sized ks vs g p out at r → Leaves ks vs hs cs hs cs most (ok_or r TooLong)
+  plain_leaves None z = record { same = λ n. (refl, refl); records = tt }
+  plain_leaves (Some w) z = record {
+    same = λ n. absurd (n refl);
+    records = (omega (arith, z.2), ap (blank (area hs cs) 0) z.2 ∙ nothing_blank (area hs cs), rw z.3 s);
+  }
+
+  pub plain_answers : (t : Term) (o : Out) → Held ks vs p t → o.term ≡ t → o.count ≡ 0 → (r : rust.Option Ready) → Sized ks vs g p out at r
+      → Answers ks vs hs cs out at levels most o (ok_or r TooLong)
+  plain_answers t o h et ec None z = record { number = number_long most (length out) at o (omega arith) (rw et (z t h)); values = tt }
+  plain_answers t o h et ec (Some w) z =
+      let y = z.4 t h in
+      let e = y.0 ∙ ap (λ (u : Term). length (bytes u)) (sym et) in
+      record {
+        number = number_done most (length out) at o (omega arith) (omega (arith, e, y.1));
+        values = (
+          e,
+          record {
+            marks = λ i. false;
+            tree = rw (et, z.0, z.1, z.3) (held_tree (view ks vs g) hs cs (λ i. false) t p (view_held ks vs g s p t h));
+            low = λ k. absurd (omega (arith, z.1));
+          },
+        );
+      }
+
+-- a term that is walked: w is what the walk gave
+module _ (ks vs : List ℕ) (g : rust.Option Origin) (s : Sight ks vs g) (hs₀ cs₀ : List ℕ) (levels most : ℕ) (lookup : LookUp) (hs cs : List ℕ) (y : Content) (visits : ℕ) (w : Walked)
+    (walks : Went ks vs lookup g hs₀ cs₀ hs cs y 0 levels visits most w) (fr : Frames hs₀ cs₀ hs cs 0 w.next) (zh : Zero hs₀ most) (zc : Zero cs₀ most) where
+  back : blank (area hs cs) 0 w.next ≡ area hs₀ cs₀
+  back = blank_back hs₀ cs₀ hs cs w.next most fr zh zc walks.within
+
+  pub long_leaves : (hs' cs' : List ℕ) → area hs' cs' ≡ blank (area hs cs) 0 w.next → Leaves ks vs hs₀ cs₀ hs' cs' most (Err TooLong)
+  long_leaves hs' cs' e = record { same = λ n. areas_same hs' cs' hs₀ cs₀ (e ∙ back); records = tt }
+
+  pub walked_leaves : Leaves ks vs hs₀ cs₀ hs cs most (Ok (record { content = w.content; next = w.next; size = w.size; given = g }))
+  walked_leaves = record { same = λ n. absurd (n refl); records = (walks.within, back, s) }
+
+  module _ (p : ℕ) (yh : y.head ≡ p) (yk : y.kids ≡ 0) (t : Term) (look : Look) (o : Out) (h : Held ks vs p t) (k : Looks ks vs lookup look)
+      (eo : o ≡ walk_by (replacement (look_by look)) levels t visits 0) (out : List ℕ) (at : ℕ) (le : at ≤ length out) where
+    v : Visited (view ks vs g) hs cs (λ i. false) 0 w.content.head w.content.kids w.next w.visits w.size (walk_by (replacement (look_by look)) levels t visits 0)
+    v =
+        walks.done (λ i. false) t look (λ i e. never_true e)
+        (rw (yh, yk) (held_tree (view ks vs g) hs₀ cs₀ (λ i. false) t p (view_held ks vs g s p t h))) k
+
+    few : o.count ≤ most
+    few = omega (arith, v.count, ap (λ (q : Out). q.count) eo, walks.within)
+
+    sized : w.size ≡ length (bytes o.term)
+    sized = v.size ∙ ap (λ (q : Out). length (bytes q.term)) (sym eo)
+
+    pub long_answers : length out - at < w.size → (hs' cs' : List ℕ) → Answers ks vs hs' cs' out at levels most o (Err TooLong)
+    long_answers z hs' cs' = record { number = number_long most (length out) at o few (omega (arith, z, sized)); values = tt }
+
+    pub walked_answers : w.size ≤ length out - at
+        → Answers ks vs hs cs out at levels most o (Ok (record { content = w.content; next = w.next; size = w.size; given = g }))
+    walked_answers z = record {
+      number = number_done most (length out) at o few (omega (arith, z, le, sized));
+      values = (
+        sized,
+        record {
+          marks = grow (λ i. false) 0 w.next;
+          tree = rw eo v.tree;
+          low = λ k. rw eo (omega (arith, walk_depth (replacement (look_by look)) levels t visits 0));
+        },
+      );
     }
-
-    pub plain_answers : (t : Term) (o : Out) → Held ks vs p t → o.term ≡ t → o.count ≡ 0 → (r : rust.Option Ready) → Sized ks vs hs₀ cs₀ hs cs g x 0 0 out at r
-        → Answers ks vs hs cs out at levels most o (ok_or r TooLong)
-    plain_answers t o h et ec r z = go r z
-      where
-        there : Tree (view ks vs g) hs₀ cs₀ (λ i. false) x.head x.kids t
-        there = rw (eh, ek) (held_tree (view ks vs g) hs₀ cs₀ (λ i. false) t p (view_held ks vs g s p t h))
-
-        go : (r : rust.Option Ready) → Sized ks vs hs₀ cs₀ hs cs g x 0 0 out at r → Answers ks vs hs cs out at levels most o (ok_or r TooLong)
-        go None z = record {
-          number = number_long most (length out) at o (omega arith) (rw et (z.1 (λ i. false) t there (λ k. absurd (omega arith))));
-          values = tt;
-        }
-        go (Some w) z =
-            let y = z.6 (λ i. false) t there (λ k. absurd (omega arith)) in
-            let e = y.0 ∙ ap (λ (u : Term). length (bytes u)) (sym et) in
-            record {
-              number = number_done most (length out) at o (omega arith) (omega (arith, e, y.1));
-              values = (e, record { marks = λ i. false; tree = rw (et, z.0, z.1, z.2, z.3, z.5) there; low = λ k. absurd (omega (arith, z.3)) });
-            }
-
-  -- a term that is walked: w is what the walk gave, in the areas hs₁, cs₁
-  module _ (ws : List Rule) (hs₁ cs₁ : List ℕ) (y : Content) (visits : ℕ) (w : Walked) (walks : Went ks vs ws g hs₀ cs₀ hs₁ cs₁ y 0 levels visits most w) (fr : Frames hs₀ cs₀ hs₁ cs₁ 0 w.next)
-      (zh : Zero hs₀ most) (zc : Zero cs₀ most) (eh : x.head ≡ w.head) (ek : x.kids ≡ w.kids) (le : at ≤ length out) where
-    back : blank (area hs₁ cs₁) 0 w.next ≡ area hs₀ cs₀
-    back = blank_back hs₀ cs₀ hs₁ cs₁ w.next most fr zh zc walks.within
-
-    pub walked_leaves : (r : rust.Option Ready) → Fitted hs₁ cs₁ hs cs g x w.next w.size (length out - at) r → Leaves ks vs hs₀ cs₀ hs cs most (ok_or r TooLong)
-    walked_leaves None z = record { same = λ n. areas_same hs cs hs₀ cs₀ (z.0 ∙ back); records = tt }
-    walked_leaves (Some v) z = record {
-      same = λ n. absurd (n refl);
-      records =
-          (omega (arith, z.4, walks.within), ap (blank (area hs cs) 0) z.4 ∙ ap (λ (d : Area). blank d 0 w.next) (ap₂ area z.0 z.1) ∙ back, rw z.5 s);
-    }
-
-    pub walked_answers : (p : ℕ) → y.head ≡ p → y.kids ≡ 0 → (t : Term) (look : Look) (o : Out) → Held ks vs p t → Looks ks vs ws g look
-        → o ≡ walk_by (replacement (look_by look)) levels t visits 0 → (r : rust.Option Ready) → Fitted hs₁ cs₁ hs cs g x w.next w.size (length out - at) r
-        → Answers ks vs hs cs out at levels most o (ok_or r TooLong)
-    walked_answers p yh yk t look o h k eo r z = go r z
-      where
-        v : Visited (view ks vs g) hs₁ cs₁ (λ i. false) 0 w.head w.kids w.next w.visits w.size (walk_by (replacement (look_by look)) levels t visits 0)
-        v =
-            walks.done (λ i. false) t look (λ i e. never_true e)
-            (rw (yh, yk) (held_tree (view ks vs g) hs₀ cs₀ (λ i. false) t p (view_held ks vs g s p t h))) k
-
-        there : Tree (view ks vs g) hs₁ cs₁ (grow (λ i. false) 0 w.next) x.head x.kids o.term
-        there = rw (eh, ek, eo) v.tree
-
-        low : depth o.term ≤ levels + 1
-        low = rw eo (omega (arith, walk_depth (replacement (look_by look)) levels t visits 0))
-
-        few : o.count ≤ most
-        few = omega (arith, v.count, ap (λ (q : Out). q.count) eo, walks.within)
-
-        sized : w.size ≡ length (bytes o.term)
-        sized = v.size ∙ ap (λ (q : Out). length (bytes q.term)) (sym eo)
-
-        go : (r : rust.Option Ready) → Fitted hs₁ cs₁ hs cs g x w.next w.size (length out - at) r → Answers ks vs hs cs out at levels most o (ok_or r TooLong)
-        go None z = record { number = number_long most (length out) at o few (omega (arith, z.1, sized)); values = tt }
-        go (Some u) z = record {
-          number = number_done most (length out) at o few (omega (arith, z.6, z.7, sized));
-          values = (z.6 ∙ sized, record { marks = grow (λ i. false) 0 w.next; tree = rw (z.0, z.1, z.2, z.3, z.5) there; low = λ k. low });
-        }
 
 -- the children were too many
 module _ (ks vs hs₀ cs₀ hs cs : List ℕ) (most : ℕ) where
@@ -320,8 +316,8 @@ module _ (ks vs hs₀ cs₀ hs cs : List ℕ) (most : ℕ) where
     records = tt;
   }
 
-  module _ (ws : List Rule) (g : Origin) (s : Sight ks vs g) (y : Content) (levels visits : ℕ) where
-    pub over_answers : Overrun ks vs ws g hs₀ cs₀ y 0 levels visits most → (p : ℕ) → y.head ≡ p → y.kids ≡ 0 → (t : Term) (look : Look) (o : Out) → Held ks vs p t → Looks ks vs ws g look
+  module _ (lookup : LookUp) (g : rust.Option Origin) (s : Sight ks vs g) (y : Content) (levels visits : ℕ) where
+    pub over_answers : Overrun ks vs lookup g hs₀ cs₀ y 0 levels visits most → (p : ℕ) → y.head ≡ p → y.kids ≡ 0 → (t : Term) (look : Look) (o : Out) → Held ks vs p t → Looks ks vs lookup look
         → o ≡ walk_by (replacement (look_by look)) levels t visits 0 → (out : List ℕ) (at : ℕ) → Answers ks vs hs cs out at levels most o (Err TooMany)
     over_answers walks p yh yk t look o h k eo out at = record { number = number_refused most (length out) at o many; values = tt }
       where
@@ -332,9 +328,9 @@ module _ (ks vs hs₀ cs₀ hs cs : List ℕ) (most : ℕ) where
 
 -- ---- what order 19 looks up by
 
-pub given_sight : (ks vs : List ℕ) (g : Origin) → length vs ≡ length ks → length ks ≤ 32768 → g.size ≤ 65539 → Sight ks vs g
+pub given_sight : (ks vs : List ℕ) (g : Origin) → length vs ≡ length ks → length ks ≤ 32768 → g.span + g.row ≤ 65536 → Sight ks vs (Some g)
 given_sight ks vs g e le s =
-    let m = mul-le-mul {n₁ = length ks + 1} {m₁ = g.size} {n₂ = 32769} {m₂ = 65539} (omega arith) s in
+    let m = mul-le-mul {n₁ = length ks + 1} {m₁ = width g} {n₂ = 32769} {m₂ = 65539} (omega arith) (omega (arith, width_is g)) in
     record { pairs = e; few = omega arith }
 
 -- the tokens of a term, as `span_at` tells
@@ -350,14 +346,13 @@ unfolding items
 row_length k i = refl
 
 pub given_held : (ks vs : List ℕ) (g : Origin) (whole : ℕ) → ((t : Term) → Held ks vs g.owner t → length (items t) ≤ length ks → g.span ≡ length (items t))
-    → ((t : Term) → Held ks vs g.interface t → length (items t) ≤ length ks → whole ≡ length (items t)) → g.row ≡ whole - 1 → g.size ≡ g.span + g.row + 3
+    → ((t : Term) → Held ks vs g.interface t → length (items t) ≤ length ks → whole ≡ length (items t)) → g.row ≡ whole - 1
     → (i : Parts) (o : Term) → Held ks vs g.owner o → Held ks vs g.interface (node 20 i) → HeldGiven ks vs g i o
-given_held ks vs g whole fo fi er es i o ho hi = record {
+given_held ks vs g whole fo fi er i o ho hi = record {
   owner_held = ho;
   interface_held = hi;
   span_is = fo o ho (omega (arith, ho.within));
   row_is = omega (arith, fi (node 20 i) hi (omega (arith, hi.within)), row_length 20 i);
-  size_is = es;
 }
 
 -- a bare nominal has a token

@@ -26,7 +26,7 @@ use Rattle.terms.specs.Result.{pick}
 use Rattle.terms.specs.Words.VirtualTokens.{view, Sight}
 use Rattle.terms.specs.Lookup.{Pattern, front, left, by_patterns, HeldRule, Ruled}
 use Rattle.terms.specs.Words.RuleListContract.{has_member, first_with}
-use Rattle.terms.specs.Words.Arena.{Tree, Parted, over, number, child, From, further, Begins, Starts}
+use Rattle.terms.specs.Words.Arena.{Tree, Parted, over, number, child, From, Begins, Starts}
 use Rattle.terms.specs.Words.RulesContract.{TermStarts, Numbers, Fronted, last_but_one, MemberIn}
 use Rattle.terms.proofs.Laws.Held.HeldLaws.{kind_some, items_some, held_sub}
 use Rattle.terms.proofs.Laws.Held.SameLaws.{span_held, rows_refl, rows_true}
@@ -41,15 +41,14 @@ clash e = absurd (omega arith)
 
 module _ (a : Area) (p l : ℕ) {k v : ℕ} (ek : k ≡ get_or a.kinds p 0) (ev : v ≡ get_or a.vals p 0) (el : 1 ≤ span k v → l ≡ span k v) where
   -- no term ends past the tokens, so one that is cut is whole
-  pub term_starts : (e : ℕ) → length a.kinds < 4294967296 → e ≡ min (p + l) 4294967295 → TermStarts a p (record { at = p; end = e; child = 0; kids = 0 })
-  term_starts e f o = record {
-    cut = record { small = omega arith; few = omega arith };
+  pub term_starts : (x : Cursor) → x.at ≡ p → x.child ≡ 0 → x.kids ≡ 0 → length a.kinds < 4294967296 → x.end ≡ min (p + l) 4294967295 → TermStarts a p x
+  term_starts x ea ec ez f o = record {
     is = λ hs cs S t w.
         let r = tree_row a hs cs S w ek ev in
         let z = el r.0 in
-        let i : p + l ≡ e = omega (arith, z, r.1) in
-        child {c = 0} {e = e} {q = p} {n = 0} {l = l} {t = t} (omega arith) (λ y. omega (arith, tree_kind a hs cs S w ek, kind_some t)) (ap₂ span (sym ek) (sym ev) ∙ sym z) (omega arith) tt w
-        (over i);
+        let i : p + l ≡ x.end = omega (arith, z, r.1) in
+        rw (ea, ec, ez) (child {c = 0} {e = x.end} {q = p} {n = 0} {l = l} {t = t} (omega arith) (λ y. omega (arith, tree_kind a hs cs S w ek, kind_some t)) (ap₂ span (sym ek) (sym ev) ∙ sym z) (omega arith) tt w
+        (over i));
     ends = λ t h.
         let u = ap₂ span ek ev ∙ span_held a.kinds a.vals p t h in
         omega (arith, el (omega (arith, items_some t)), u, h.within);
@@ -82,15 +81,12 @@ module _ (a : Area) (x : Cursor) (m n : ℕ) where
   pub numbers_apart : (NumbersAre → ⊥) → Numbers a x m n None
   numbers_apart f hs cs S ps g rest e = f (numbers_are hs cs S ps rest g e)
 
-  pub numbers_met : NumbersAre → x.child ≤ x.at → (at : ℕ) → at ≡ x.at + 2 → Numbers a x m n (Some (at, x.child))
-  numbers_met w few at z = (
-    omega arith,
-    λ hs cs S ps f.
-        let b = parted_number a hs cs S f w.first (sym w.kind) (sym w.value) refl in
-        let d = parted_number a hs cs S b.behind w.second (sym w.kind2) (sym w.value2) refl in
-        let o : x.at + 1 + 1 ≡ at = omega arith in
-        (d.rest, b.is ∙ ap (num m) d.is, rw o at d.behind),
-  )
+  pub numbers_met : NumbersAre → (z : Cursor) → z.at ≡ x.at + 2 → z.end ≡ x.end → z.child ≡ x.child → z.kids ≡ x.kids → Numbers a x m n (Some z)
+  numbers_met w z ea ee ec ez hs cs S ps f =
+      let b = parted_number a hs cs S f w.first (sym w.kind) (sym w.value) refl in
+      let d = parted_number a hs cs S b.behind w.second (sym w.kind2) (sym w.value2) refl in
+      let o : x.at + 1 + 1 ≡ z.at = omega arith in
+      (d.rest, b.is ∙ ap (num m) d.is, rw (ee, ec, ez) (rw o at d.behind))
 
 -- ---- what a rule has before its arguments
 
@@ -116,7 +112,7 @@ behind_cancel end l m e = e
 behind_cancel (num n qs) l m e = behind_cancel qs l m (cc)
 behind_cancel (sub t qs) l m e = behind_cancel qs l m (cc)
 
-module _ (ks vs : List ℕ) (g : Origin) (s : Sight ks vs g) (hs cs : List ℕ) where
+module _ (ks vs : List ℕ) (g : Option Origin) (s : Sight ks vs g) (hs cs : List ℕ) where
   abbrev area : Area
   area = view ks vs g
 
@@ -135,48 +131,45 @@ module _ (ks vs : List ℕ) (g : Origin) (s : Sight ks vs g) (hs cs : List ℕ) 
     front_receiver b S ps p f d h rest q =
         b S nothing ps (sub p.receiver end) f (source_from w.receiver at p.receiver rc h.receiver e tr) d _ (q ∙ front_is p rest)
 
-    module _ (c n : ℕ) (b : Begins area hs cs x rc fuel (Some (c, n))) (y : Content) (ic : Cursor) (yh : y.head ≡ w.interface) (yk : y.kids ≡ 0) (st : Starts area y ic) where
+    module _ (x₁ : Cursor) (b : Begins area hs cs x rc fuel (Some x₁)) (y : Content) (ic : Cursor) (yh : y.head ≡ w.interface) (yk : y.kids ≡ 0) (st : Starts area y ic) where
       -- after the receiver
       pub record First (S : ℕ → Bool) (ps : Parts) (p : Pattern) : Type 0 where
         pub rest : Parts
         pub is : ps ≡ sub p.receiver rest
-        pub there : From area hs cs S (further x c n) rest
+        pub there : From area hs cs S x₁ rest
         pub low : depths rest ≤ fuel
 
       first : (S : ℕ → Bool) (ps : Parts) (p : Pattern) → From area hs cs S x ps → depths ps ≤ fuel → HeldRule ks vs w p → First S ps p
       first S ps p f d h =
-          let r = b.1 S nothing ps (sub p.receiver end) f (source_from w.receiver at p.receiver rc h.receiver e tr) d in
+          let r = b S nothing ps (sub p.receiver end) f (source_from w.receiver at p.receiver rc h.receiver e tr) d in
           record { rest = r.0; is = r.1; there = r.2; low = omega (arith, depths_behind (sub p.receiver end) r.0, ap depths r.1) }
 
-      pub front_interface : Begins area hs cs (further x c n) ic fuel None → Fronted ks vs area hs cs x w fuel None
+      pub front_interface : Begins area hs cs x₁ ic fuel None → Fronted ks vs area hs cs x w fuel None
       front_interface b2 S ps p f d h rest q =
           let r = first S ps p f d h in
           let z : sub p.receiver r.rest ≡ sub p.receiver (p.interface +++ num p.member (num (length p.arguments) rest)) = sym r.is ∙ q ∙ front_is p rest in
           b2 S nothing r.rest p.interface r.there (nominal_from w.interface p.interface y ic h.interface yh yk st) r.low
           (num p.member (num (length p.arguments) rest)) (cc)
 
-      module _ (o m : ℕ) (b2 : Begins area hs cs (further x c n) ic fuel (Some (o, m))) where
+      module _ (x₂ : Cursor) (b2 : Begins area hs cs x₁ ic fuel (Some x₂)) where
         -- after the interface
         pub record Second (S : ℕ → Bool) (ps : Parts) (p : Pattern) : Type 0 where
           pub rest : Parts
           pub is : ps ≡ sub p.receiver (p.interface +++ rest)
-          pub there : From area hs cs S (further x o m) rest
+          pub there : From area hs cs S x₂ rest
 
         second : (S : ℕ → Bool) (ps : Parts) (p : Pattern) → From area hs cs S x ps → depths ps ≤ fuel → HeldRule ks vs w p → Second S ps p
         second S ps p f d h =
             let r = first S ps p f d h in
-            let t = b2.1 S nothing r.rest p.interface r.there (nominal_from w.interface p.interface y ic h.interface yh yk st) r.low in
+            let t = b2 S nothing r.rest p.interface r.there (nominal_from w.interface p.interface y ic h.interface yh yk st) r.low in
             record { rest = t.0; is = r.is ∙ ap (sub p.receiver) t.1; there = t.2 }
 
-        pub front_numbers : (r : Option (ℕ × ℕ)) → Numbers area (further x o m) w.member w.count r → Fronted ks vs area hs cs x w fuel r
-        front_numbers (Some (q, i)) z = (
-          z.0,
-          λ S ps p f d h.
-              let r = second S ps p f d h in
-              let t = z.1 hs cs S r.rest r.there in
-              let u = ap₂ (λ (i j : ℕ). num i (num j t.0)) h.member h.count in
-              (t.0, r.is ∙ ap (λ (l : Parts). sub p.receiver (p.interface +++ l)) (t.1 ∙ u) ∙ sym (front_is p t.0), t.2),
-        )
+        pub front_numbers : (r : Option Cursor) → Numbers area x₂ w.member w.count r → Fronted ks vs area hs cs x w fuel r
+        front_numbers (Some x₃) z = λ S ps p f d h.
+            let r = second S ps p f d h in
+            let t = z hs cs S r.rest r.there in
+            let u = ap₂ (λ (i j : ℕ). num i (num j t.0)) h.member h.count in
+            (t.0, r.is ∙ ap (λ (l : Parts). sub p.receiver (p.interface +++ l)) (t.1 ∙ u) ∙ sym (front_is p t.0), t.2)
         front_numbers None z = λ S ps p f d h rest q.
             let r = second S ps p f d h in
             let v : sub p.receiver (p.interface +++ r.rest) ≡ sub p.receiver (p.interface +++ num p.member (num (length p.arguments) rest)) = sym r.is ∙ q ∙ front_is p rest in
@@ -279,7 +272,7 @@ pattern_no p rs ps n = go (same_rows (left p) ps) refl
     go true h = absurd (n (sym (rows_true (left p) ps h)))
     go false h = refl
 
-module _ (ks vs : List ℕ) (g : Origin) (hs cs : List ℕ) (x : Cursor) (fuel : ℕ) where
+module _ (ks vs : List ℕ) (g : Option Origin) (hs cs : List ℕ) (x : Cursor) (fuel : ℕ) where
   abbrev seen : Area
   seen = view ks vs g
 
@@ -290,32 +283,30 @@ module _ (ks vs : List ℕ) (g : Origin) (hs cs : List ℕ) (x : Cursor) (fuel :
   pub record Hit (w : Rule) : Type 0 where
     pub is : (S : ℕ → Bool) (ps : Parts) (p : Pattern) → From seen hs cs S x ps → depths ps ≤ fuel → HeldRule ks vs w p → ps ≡ left p
 
-  -- what is left of the row at c, n decides, with the arguments from the token q on
-  pub record ArguingAt (c n q l : ℕ) (S : ℕ → Bool) (ps : Parts) (p : Pattern) : Type 0 where
+  -- what is left of the row at z decides, with the arguments from the token q on
+  pub record ArguingAt (z : Cursor) (q l : ℕ) (S : ℕ → Bool) (ps : Parts) (p : Pattern) : Type 0 where
     pub rest : Parts
     pub arguments : List Term
     pub ends : ℕ
-    pub there : From seen hs cs S (further x c n) rest
+    pub there : From seen hs cs S z rest
     pub low : depths rest ≤ fuel
     pub held : HeldParts seen.kinds seen.vals q ends (put_terms arguments end)
     pub count : l ≡ length arguments
     pub to : ps ≡ left p → rest ≡ put_terms arguments end
     pub from : rest ≡ put_terms arguments end → ps ≡ left p
 
-  pub record ArguedBehind (w : Rule) (c n q l : ℕ) : Type 0 where
-    pub few : n ≤ c
-    pub is : (S : ℕ → Bool) (ps : Parts) (p : Pattern) → From seen hs cs S x ps → depths ps ≤ fuel → HeldRule ks vs w p → ArguingAt c n q l S ps p
+  pub record ArguedBehind (w : Rule) (z : Cursor) (q l : ℕ) : Type 0 where
+    pub is : (S : ℕ → Bool) (ps : Parts) (p : Pattern) → From seen hs cs S x ps → depths ps ≤ fuel → HeldRule ks vs w p → ArguingAt z q l S ps p
 
-  abbrev pub Arguing : (w : Rule) → Option (ℕ × ℕ) → (q l : ℕ) → Type 0
-  Arguing w (Some (c, n)) q l = ArguedBehind w c n q l
+  abbrev pub Arguing : (w : Rule) → Option Cursor → (q l : ℕ) → Type 0
+  Arguing w (Some z) q l = ArguedBehind w z q l
   Arguing w None q l = Missed w
 
-module _ (ks vs : List ℕ) (g : Origin) (hs cs : List ℕ) (x : Cursor) (fuel : ℕ) (s : Sight ks vs g) where
-  pub arguing_start : (w : Rule) (m : Option (ℕ × ℕ)) (q : ℕ) → q ≡ w.arguments → Fronted ks vs (view ks vs g) hs cs x w fuel m → Arguing ks vs g hs cs x fuel w m q w.count
-  arguing_start w (Some (c, n)) q eq f = record {
-    few = f.0;
+module _ (ks vs : List ℕ) (g : Option Origin) (hs cs : List ℕ) (x : Cursor) (fuel : ℕ) (s : Sight ks vs g) where
+  pub arguing_start : (w : Rule) (m : Option Cursor) (q : ℕ) → q ≡ w.arguments → Fronted ks vs (view ks vs g) hs cs x w fuel m → Arguing ks vs g hs cs x fuel w m q w.count
+  arguing_start w (Some z) q eq f = record {
     is = λ S ps p h d k.
-        let t = f.1 S ps p h d k in
+        let t = f S ps p h d k in
         record {
           rest = t.0;
           arguments = p.arguments;
@@ -339,15 +330,15 @@ module _ (ks vs : List ℕ) (g : Origin) (hs cs : List ℕ) (x : Cursor) (fuel :
           )
   arguing_start w None q eq f = record { is = λ S ps p h d k e. f S ps p h d k (put_terms p.arguments end) e }
 
-module _ {ks vs : List ℕ} {g : Origin} {hs cs : List ℕ} {x : Cursor} {fuel : ℕ} {u : Rule} {c n q l : ℕ} (w : ArguedBehind ks vs g hs cs x fuel u c n q l) where
-  pub argued_done : l ≡ 0 → x.end ≤ c → Hit ks vs g hs cs x fuel u
+module _ {ks vs : List ℕ} {g : Option Origin} {hs cs : List ℕ} {x : Cursor} {fuel : ℕ} {u : Rule} {r : Cursor} {q l : ℕ} (w : ArguedBehind ks vs g hs cs x fuel u r q l) where
+  pub argued_done : l ≡ 0 → r.end ≤ r.at → Hit ks vs g hs cs x fuel u
   argued_done z le = record {
     is = λ S ps p h d k.
         let t = w.is S ps p h d k in
         t.from (parted_over (view ks vs g) hs cs S t.there le ∙ sym (ap (λ (us : List Term). put_terms us end) (empty t.arguments (sym t.count ∙ z)) ∙ terms_none));
   }
 
-  pub argued_more : l ≡ 0 → c < x.end → Missed ks vs g hs cs x fuel u
+  pub argued_more : l ≡ 0 → r.at < r.end → Missed ks vs g hs cs x fuel u
   argued_more z lt = record {
     is = λ S ps p h d k e.
         let t = w.is S ps p h d k in
@@ -357,7 +348,7 @@ module _ {ks vs : List ℕ} {g : Origin} {hs cs : List ℕ} {x : Cursor} {fuel :
   -- one argument more
   module _ (some : l ≡ 0 → ⊥) {tc : Cursor} (ts : TermStarts (view ks vs g) q tc) where
     pub record Next (S : ℕ → Bool) (ps : Parts) (p : Pattern) : Type 0 where
-      pub old : ArguingAt ks vs g hs cs x fuel c n q l S ps p
+      pub old : ArguingAt ks vs g hs cs x fuel r q l S ps p
       pub term : Term
       pub terms : List Term
       pub is : old.arguments ≡ term ∷ terms
@@ -367,7 +358,7 @@ module _ {ks vs : List ℕ} {g : Origin} {hs cs : List ℕ} {x : Cursor} {fuel :
     next : (S : ℕ → Bool) (ps : Parts) (p : Pattern) → From (view ks vs g) hs cs S x ps → depths ps ≤ fuel → HeldRule ks vs u p → Next S ps p
     next S ps p h d k = let t = w.is S ps p h d k in go t t.arguments refl
       where
-        go : (t : ArguingAt ks vs g hs cs x fuel c n q l S ps p) (us : List Term) → t.arguments ≡ us → Next S ps p
+        go : (t : ArguingAt ks vs g hs cs x fuel r q l S ps p) (us : List Term) → t.arguments ≡ us → Next S ps p
         go t [] e = absurd (some (t.count ∙ ap length e))
         go t (u ∷ us) e =
             let h : HeldParts (view ks vs g).kinds (view ks vs g).vals q t.ends (sub u (put_terms us end)) = rw (e, terms_cons u us) at t.held in
@@ -381,13 +372,12 @@ module _ {ks vs : List ℕ} {g : Origin} {hs cs : List ℕ} {x : Cursor} {fuel :
               held = rw (ts.ends u y.0) y.1;
             }
 
-    pub argued_next : (m : Option (ℕ × ℕ)) → Begins (view ks vs g) hs cs (further x c n) tc fuel m → Arguing ks vs g hs cs x fuel u m tc.end (l - 1)
-    argued_next (Some (c', n')) b = record {
-      few = b.0;
+    pub argued_next : (m : Option Cursor) → Begins (view ks vs g) hs cs r tc fuel m → Arguing ks vs g hs cs x fuel u m tc.end (l - 1)
+    argued_next (Some r') b = record {
       is = λ S ps p h d k.
           let y = next S ps p h d k in
           let t = y.old in
-          let z = b.1 S nothing t.rest (sub y.term end) t.there y.there t.low in
+          let z = b S nothing t.rest (sub y.term end) t.there y.there t.low in
           let o = ap (λ (us : List Term). put_terms us end) y.is ∙ terms_cons y.term y.terms in
           record {
             rest = z.0;
@@ -409,7 +399,7 @@ module _ {ks vs : List ℕ} {g : Origin} {hs cs : List ℕ} {x : Cursor} {fuel :
           (t.to e ∙ ap (λ (us : List Term). put_terms us end) y.is ∙ terms_cons y.term y.terms);
     }
 
-module _ {ks vs : List ℕ} {g : Origin} {x : Cursor} {m : ℕ} (hs cs : List ℕ) (fuel : ℕ) (w : Rule) (h : MemberIn (view ks vs g) x m) where
+module _ {ks vs : List ℕ} {g : Option Origin} {x : Cursor} {m : ℕ} (hs cs : List ℕ) (fuel : ℕ) (w : Rule) (h : MemberIn (view ks vs g) x m) where
   -- a rule with another member than the row's is not the row's
   replaces_other : (w.member ≡ m → ⊥) → Missed ks vs g hs cs x fuel w
   replaces_other ne = record {
@@ -421,7 +411,7 @@ position_none : (p : Rule → Bool) (ws : List Rule) → position p ws ≡ None 
 position_none p ws e i d lt = fails_before_first p ws i d (grind (arith, common_steps))
 
 -- r rules have been passed
-pub record Searching (ks vs : List ℕ) (ws : List Rule) (g : Origin) (hs cs : List ℕ) (x : Cursor) (fuel r : ℕ) : Type 0 where
+pub record Searching (ks vs : List ℕ) (ws : List Rule) (g : Option Origin) (hs cs : List ℕ) (x : Cursor) (fuel r : ℕ) : Type 0 where
   pub is : (S : ℕ → Bool) (ps : Parts) (rs : List Pattern) → From (view ks vs g) hs cs S x ps → depths ps ≤ fuel → Ruled ks vs ws rs
       → (qs : List Pattern) × Ruled ks vs (drop r ws) qs × (by_patterns rs ps ≡ by_patterns qs ps)
 
@@ -435,7 +425,7 @@ rule_at ws r = get_or ws r no_rule
 rules_split : (ws : List Rule) (r : ℕ) → r < length ws → drop r ws ≡ rule_at ws r ∷ drop (r + 1) ws
 rules_split ws r lt = drop_more ws r _ lt
 
-module _ {ks vs : List ℕ} {ws : List Rule} {g : Origin} {hs cs : List ℕ} {x : Cursor} {fuel : ℕ} where
+module _ {ks vs : List ℕ} {ws : List Rule} {g : Option Origin} {hs cs : List ℕ} {x : Cursor} {fuel : ℕ} where
   module _ {r : ℕ} (w : Searching ks vs ws g hs cs x fuel r) where
     pub searching_next : r < length ws → Missed ks vs g hs cs x fuel (rule_at ws r) → Searching ks vs ws g hs cs x fuel (r + 1)
     searching_next lt m = record { is = λ S ps rs h d k. let t = w.is S ps rs h d k in go S ps rs h d t.0 (rw (rules_split ws r lt) at t.1) t.2 }

@@ -10,8 +10,9 @@ use lib.ListN.{length, get_or, length-append, get_or-eq_default}
 use Rattle.terms.specs.Words.Tokens.{Area, Item, item, spell}
 use Rattle.terms.specs.Term.{Term, Parts, node, num, sub, items, part_items}
 use Rattle.terms.specs.Words.Held.{Held, HeldParts, span}
+use Rattle.std.specs.declared.option.Option as rust
 use Rattle.terms.specs.declared.Origin.{Origin}
-use Rattle.terms.specs.Words.VirtualTokens.{view, Sight}
+use Rattle.terms.specs.Words.VirtualTokens.{size_of, view, Sight}
 use Rattle.terms.specs.Words.Arena.{Tree, variable, branch, Parted, over, number, child}
 use Rattle.terms.proofs.Laws.Held.HeldLaws.{span_one, toks_add}
 use Rattle.terms.proofs.Laws.Held.SameLaws.{span_held}
@@ -71,13 +72,13 @@ lent_first ks vs h le = go (dec_lt h (length ks))
         omega (arith, span_one (get_or ks h 0) (get_or vs h 0) (omega (arith, k)))
 
 -- the lent areas hold a tree whose child word is 0 and whose tokens are lent
-pub tree_held : (ks vs : List ℕ) (g : Origin) → Sight ks vs g → (hs cs : List ℕ) (S : ℕ → Bool) (h : ℕ) (t : Term) → h + span (get_or ks h 0) (get_or vs h 0) ≤ length ks
+pub tree_held : (ks vs : List ℕ) (g : rust.Option Origin) → Sight ks vs g → (hs cs : List ℕ) (S : ℕ → Bool) (h : ℕ) (t : Term) → h + span (get_or ks h 0) (get_or vs h 0) ≤ length ks
     → Tree (view ks vs g) hs cs S h 0 t → Held ks vs h t
 tree_held ks vs g s hs cs S h t le w =
     let f = tree_flat (view ks vs g) hs cs S w refl in
     let lt = lent_first ks vs h le in
     let k = seen_lent ks g 5 20 h lt in
-    let v = seen_lent vs g 1 g.size h (omega (arith, s.pairs)) in
+    let v = seen_lent vs g 1 (size_of g) h (omega (arith, s.pairs)) in
     let n : span (get_or ks h 0) (get_or vs h 0) ≡ length (items t) = rw (k, v) at (span_held (view ks vs g).kinds (view ks vs g).vals h t f) in
     record { tokens = sym (seen_toks ks vs g s h (length (items t)) (omega arith)) ∙ f.tokens; within = omega arith }
 

@@ -3,10 +3,12 @@ use mathlib.Core.Path.{◌≡◌, refl, sym, ap, ◌∙◌}
 use mathlib.Core.List.{List}
 use Prim.Native.Nat.{ℕ, zero, suc, ◌+◌, ◌-◌, ◌*◌, ◌/◌, ◌%◌, ◌≤◌, ◌<◌}
 use native.Mathlib.Decide.{dec_lt}
-use native.Mathlib.Nat.{le-div_iff_mul-le}
+use native.Mathlib.Nat.{le-div_iff_mul-le, suc-mul}
+use native.Mathlib.Numerals.{add-one}
 use native.Mathlib.Omega.{arith}
 use borrow.Author.Tests.{lt-ltb, le-ltb, le-leb, lt-leb, eq-eqb, ne_eqb}
 use lib.ListN.{length, get_or, get_or-eq_default}
+use Rattle.std.specs.Prelude.{Option, Some, None}
 use Rattle.terms.specs.declared.Origin.{Origin}
 use Rattle.terms.specs.declared.Spot.{Spot}
 use Rattle.terms.specs.declared.Spot.TheVariants.{Lent, Error, Head, Nowhere}
@@ -15,7 +17,7 @@ use Rattle.terms.specs.Term.{Term, Parts, items, part_items}
 use Rattle.terms.specs.Words.Held.{Held, HeldParts}
 use Rattle.terms.specs.Tree.{error}
 use Rattle.terms.specs.Words.TokenBytes.{spelt}
-use Rattle.terms.specs.Words.VirtualTokens.{tabulate, copied, made_token, seen_at, word_at, Located, count, seen, view, Sight}
+use Rattle.terms.specs.Words.VirtualTokens.{tabulate, width, size_of, copied, made_token, made_at, seen_at, word_at, Located, count, seen, view, Sight}
 use Rattle.terms.proofs.Laws.Format.WriteLaws.{spelt_toks}
 
 -- ---- tables
@@ -49,7 +51,14 @@ module _ (g : Origin) (len r t p : ℕ) where
 
 -- ---- the words
 
-module _ (ws : List ℕ) (g : Origin) (e f : ℕ) where
+pub width_is : (g : Origin) → width g ≡ g.span + g.row + 3
+unfolding width
+width_is g = refl
+
+pub width_some : (g : Origin) → 0 < width g
+width_some g = omega (arith, width_is g)
+
+module _ (ws : List ℕ) (g : Option Origin) (e f : ℕ) where
   pub seen_length : length (seen ws g e f) ≡ count (length ws) g
   unfolding seen
   seen_length = tabulate_length (seen_at ws g e f) 0 (count (length ws) g)
@@ -63,25 +72,18 @@ module _ (ws : List ℕ) (g : Origin) (e f : ℕ) where
     unfolding seen_at
     at_error h = rw (le-ltb q (length ws) (omega arith), eq-eqb q (length ws) h)
 
-    module _ (h : length ws < q) where
-      at_none : g.size ≡ 0 → seen_at ws g e f q ≡ 0
-      unfolding seen_at
-      at_none z = rw (le-ltb q (length ws) (omega arith), ne_eqb q (length ws) (omega arith), eq-eqb g.size 0 z)
-
-      at_made : (g.size ≡ 0 → ⊥) → (r t : ℕ) → r ≡ (q - (length ws + 1)) % g.size → t ≡ (q - (length ws + 1)) / g.size → seen_at ws g e f q ≡ made_token ws g f r t
-      unfolding seen_at
-      at_made z r t er et = rw (le-ltb q (length ws) (omega arith), ne_eqb q (length ws) (omega arith), ne_eqb g.size 0 z, er, et)
+    at_made : length ws < q → seen_at ws g e f q ≡ made_at ws g f (q - (length ws + 1))
+    unfolding seen_at
+    at_made h = rw (le-ltb q (length ws) (omega arith), ne_eqb q (length ws) (omega arith))
 
   past : (q : ℕ) → count (length ws) g ≤ q → seen_at ws g e f q ≡ 0
-  past q h = go g.size refl
+  past q h = at_made q (omega arith) ∙ go g (q - (length ws + 1)) (omega arith)
     where
-      go : (n : ℕ) → g.size ≡ n → seen_at ws g e f q ≡ 0
-      go zero z = at_none q (omega arith) z
-      go (suc n) z =
-          let d = q - (length ws + 1) in
-          let le : (length ws + 1) * g.size ≤ d = omega arith in
-          let far : length ws + 1 ≤ d / g.size = (le-div_iff_mul-le {k = g.size} (omega arith)).1 le in
-          at_made q (omega arith) (λ y. omega arith) _ _ refl refl ∙ rw (lt-ltb (length ws) (d / g.size) (omega arith))
+      go : (g : Option Origin) (d : ℕ) → (length ws + 1) * size_of g ≤ d → made_at ws g f d ≡ 0
+      go None d le = refl
+      go (Some o) d le =
+          let far : length ws + 1 ≤ d / width o = (le-div_iff_mul-le {k = width o} (width_some o)).1 le in
+          rw (lt-ltb (length ws) (d / width o) (omega arith))
 
   -- a word past the end is 0 in both
   pub seen_at_lem : (q : ℕ) → get_or (seen ws g e f) q 0 ≡ seen_at ws g e f q
@@ -100,41 +102,46 @@ module _ (ws : List ℕ) (g : Origin) (e f : ℕ) where
 
 -- ---- where a token is from, by the tests of `locate`
 
-module _ (g : Origin) (len q : ℕ) where
+module _ (g : Option Origin) (len q : ℕ) where
   pub located_lent : q < len → Located g len q (Lent q)
-  located_lent h = record { is = λ ws e f l. at_lent ws g e f q (omega arith) }
+  located_lent h = record { width = tt; is = λ ws e f l. at_lent ws g e f q (omega arith) }
 
   pub located_error : q ≡ len → Located g len q Error
-  located_error h = record { is = λ ws e f l. at_error ws g e f q (omega arith) }
+  located_error h = record { width = tt; is = λ ws e f l. at_error ws g e f q (omega arith) }
 
-  module _ (h : len < q) where
-    pub located_none : g.size ≡ 0 → Located g len q Nowhere
-    located_none z = record { is = λ ws e f l. at_none ws g e f q (omega arith) z }
+pub located_none : (len q : ℕ) → len < q → Located None len q Nowhere
+located_none len q h = record { width = tt; is = λ ws e f l. at_made ws None e f q (omega arith) }
 
-    module _ (z : g.size ≡ 0 → ⊥) (i t : ℕ) (ei : i ≡ (q - (len + 1)) % g.size) (et : t ≡ (q - (len + 1)) / g.size) where
-      made_at : (ws : List ℕ) (e f : ℕ) → length ws ≡ len → seen_at ws g e f q ≡ made_token ws g f i t
-      made_at ws e f l = at_made ws g e f q (omega arith) z i t (rw l ei) (rw l et)
+module _ (g : Origin) (len q : ℕ) (h : len < q) (i t : ℕ) (ei : i ≡ (q - (len + 1)) % width g) (et : t ≡ (q - (len + 1)) / width g) where
+  made : (ws : List ℕ) (e f : ℕ) → length ws ≡ len → seen_at ws (Some g) e f q ≡ made_token ws g f i t
+  made ws e f l = at_made ws (Some g) e f q (omega arith) ∙ rw (ei, et, l) refl
 
-      pub located_past : len < t → Located g len q Nowhere
-      located_past b = record { is = λ ws e f l. made_at ws e f l ∙ rw (lt-ltb (length ws) t (omega arith)) }
+  pub located_past : len < t → Located (Some g) len q Nowhere
+  located_past b = record { width = tt; is = λ ws e f l. made ws e f l ∙ rw (lt-ltb (length ws) t (omega arith)) }
 
-      pub located_head : t ≤ len → i ≡ 0 → Located g len q Head
-      located_head b o = record { is = λ ws e f l. made_at ws e f l ∙ rw (le-ltb (length ws) t (omega arith), eq-eqb i 0 o) }
+  pub located_head : t ≤ len → i ≡ 0 → (n : ℕ) → n ≡ width g → Located (Some g) len q (Head n)
+  located_head b o n w = record { width = w; is = λ ws e f l. made ws e f l ∙ rw (le-ltb (length ws) t (omega arith), eq-eqb i 0 o) }
 
-      pub located_copy : t ≤ len → (i ≡ 0 → ⊥) → (p : ℕ) → p ≡ copied g len i t → Located g len q (Lent p)
-      located_copy b o p e = record { is = λ ws e' f l. made_at ws e' f l ∙ rw (le-ltb (length ws) t (omega arith), ne_eqb i 0 o, l, e) }
+  pub located_copy : t ≤ len → (i ≡ 0 → ⊥) → (p : ℕ) → p ≡ copied g len i t → Located (Some g) len q (Lent p)
+  located_copy b o p e = record { width = tt; is = λ ws e' f l. made ws e' f l ∙ rw (le-ltb (length ws) t (omega arith), ne_eqb i 0 o, l, e) }
 
 -- a word as the spot says
-pub spot_word : (ws : List ℕ) (g : Origin) (e f len q : ℕ) (s : Spot) → Located g len q s → length ws ≡ len → get_or (seen ws g e f) q 0 ≡ word_at ws e f s
+pub spot_word : (ws : List ℕ) (g : Option Origin) (e f len q : ℕ) (s : Spot) → Located g len q s → length ws ≡ len → get_or (seen ws g e f) q 0 ≡ word_at ws e f s
 spot_word ws g e f len q s w l = seen_at_lem ws g e f q ∙ w.is ws e f l
 
 -- the places of all tokens are words
-module _ (ks vs : List ℕ) (g : Origin) (s : Sight ks vs g) where
+module _ (ks vs : List ℕ) (g : Option Origin) (s : Sight ks vs g) where
   pub few_kinds : length (view ks vs g).kinds < 4294967296
   few_kinds = rw (seen_length ks g 5 20) s.few
 
   pub few_vals : length (view ks vs g).vals < 4294967296
-  few_vals = rw (seen_length vs g 1 g.size, s.pairs) s.few
+  few_vals = rw (seen_length vs g 1 (size_of g), s.pairs) s.few
+
+-- so is the width of a projection
+pub few_width : (ks vs : List ℕ) (g : Option Origin) → Sight ks vs g → size_of g < 4294967296
+few_width ks vs g s =
+    let b : (length ks + 1) * size_of g ≡ length ks * size_of g + size_of g = rw add-one (suc-mul (length ks) (size_of g)) in
+    omega (arith, s.few, b)
 
 -- ---- terms that the lent areas hold are seen where they stand
 
@@ -150,12 +157,12 @@ toks_same ks vs js us a b (suc c) f g =
     (λ i lt. ap (λ (j : ℕ). get_or vs j 0) (omega arith) ∙ g (suc i) (omega arith) ∙ ap (λ (j : ℕ). get_or us j 0) (omega arith)) in
     rw (e, d, r)
 
-module _ (ks vs : List ℕ) (g : Origin) (s : Sight ks vs g) where
+module _ (ks vs : List ℕ) (g : Option Origin) (s : Sight ks vs g) where
   pub seen_toks : (a c : ℕ) → a + c ≤ length ks → toks (view ks vs g).kinds (view ks vs g).vals a c ≡ toks ks vs a c
   seen_toks a c le =
       toks_same (view ks vs g).kinds (view ks vs g).vals ks vs a a c
       (λ i lt. seen_lent ks g 5 20 (a + i) (omega arith))
-      (λ i lt. seen_lent vs g 1 g.size (a + i) (omega (arith, s.pairs)))
+      (λ i lt. seen_lent vs g 1 (size_of g) (a + i) (omega (arith, s.pairs)))
 
   -- lent tokens write the same
   pub view_spelt : (a c : ℕ) → a + c ≤ length ks → spelt (view ks vs g).kinds (view ks vs g).vals a c ≡ spelt ks vs a c
@@ -178,6 +185,6 @@ module _ (ks vs : List ℕ) (g : Origin) (s : Sight ks vs g) where
   pub view_error : Held (view ks vs g).kinds (view ks vs g).vals (length ks) error
   unfolding items spell
   view_error = record {
-    tokens = rw (seen_error ks g 5 20 (length ks) refl, seen_error vs g 1 g.size (length ks) (sym s.pairs));
+    tokens = rw (seen_error ks g 5 20 (length ks) refl, seen_error vs g 1 (size_of g) (length ks) (sym s.pairs));
     within = omega (arith, seen_length ks g 5 20);
   }

@@ -19,7 +19,7 @@ use Rattle.terms.specs.Term.{Term, depth, bytes}
 use Rattle.terms.specs.Tree.{error, nums, row, tag, children, with_kids, class, slot_by, slot, same}
 use Rattle.terms.specs.Words.VirtualTokens.{view, Sight}
 use Rattle.terms.specs.Normal.{Out, Row, failed, visit_kids, follow, settle, rebuilt, replacement, walk_by}
-use Rattle.terms.specs.declared.Rule.{Rule}
+use Rattle.terms.specs.declared.LookUp.{LookUp}
 use Rattle.terms.specs.Lookup.{Look, look_by, Looks}
 use Rattle.terms.specs.Words.Arena.{Tree, OwnAt, Below, grow, Frames, Opened, Ordered}
 use Rattle.terms.specs.Words.WalkingContract.{Visited, Overrun, Went, Walks, used}
@@ -155,7 +155,7 @@ pub order-of : {a : Area} {hs₁ cs₁ hs cs : List ℕ} {S : ℕ → Bool} (x :
     → Ordered a x.head k m l → Order k m l n t
 order-of {hs₁} {cs₁} {S} x {k} {m} {l} {t} w o od i = ap (λ (c : ℕ). slot_by (class k) m l c i) o.count ∙ od.is hs₁ cs₁ S x.kids t w i
 
-module _ (ks vs : List ℕ) (ws : List Rule) (g : Origin) where
+module _ (ks vs : List ℕ) (lookup : LookUp) (g : rust.Option Origin) where
   -- hs₀, cs₀ have the n opened children; j of them have been visited
   pub record Walking (hs₀ cs₀ hs cs : List ℕ) (k m l next n levels visits most base j at left size : ℕ) : Type 0 where
     pub upto : j ≤ n
@@ -164,7 +164,7 @@ module _ (ks vs : List ℕ) (ws : List Rule) (g : Origin) where
     pub high : at ≤ most
     pub fewer : left < visits
     pub frames : Frames hs₀ cs₀ hs cs next at
-    pub is : (S : ℕ → Bool) (t : Term) (look : Look) → Below S next → Opened (view ks vs g) hs₀ cs₀ S next n t → Order k m l n t → Looks ks vs ws g look
+    pub is : (S : ℕ → Bool) (t : Term) (look : Look) → Below S next → Opened (view ks vs g) hs₀ cs₀ S next n t → Order k m l n t → Looks ks vs lookup look
         → VisitAt (view ks vs g) (walk_by (finds look) (levels - 1)) S next n t (first (finds look) t visits next) hs cs j at left base size
 
   pub walking_start : (hs cs : List ℕ) (k m l next n levels visits most base : ℕ) → next + n ≤ most → 0 < visits
@@ -181,19 +181,19 @@ module _ (ks vs : List ℕ) (ws : List Rule) (g : Origin) where
         (ap (λ (c : ℕ). record { terms = children t; visits = visits - 1; count = c }) (ap (λ (x : ℕ). next + x) (sym o.count)));
   }
 
-module _ {ks vs : List ℕ} {ws : List Rule} {g : Origin} {hs₀ cs₀ hs cs : List ℕ} {k m l next n levels visits most base j at left size : ℕ} (w : Walking ks vs ws g hs₀ cs₀ hs cs k m l next n levels visits most base j at left size) (lt : j < n)
+module _ {ks vs : List ℕ} {lookup : LookUp} {g : rust.Option Origin} {hs₀ cs₀ hs cs : List ℕ} {k m l next n levels visits most base j at left size : ℕ} (w : Walking ks vs lookup g hs₀ cs₀ hs cs k m l next n levels visits most base j at left size) (lt : j < n)
     {i : ℕ} (ei : i ≡ slot_by (class k) m l n j) (in_row : i < n) where
   abbrev marks : (ℕ → Bool) → ℕ → Bool
   marks S = grow S (next + n) at
 
   -- the child that is visited
-  visited : (S : ℕ → Bool) (t : Term) (look : Look) (b : Below S next) (o : Opened (view ks vs g) hs₀ cs₀ S next n t) (q : Order k m l n t) (z : Looks ks vs ws g look)
+  visited : (S : ℕ → Bool) (t : Term) (look : Look) (b : Below S next) (o : Opened (view ks vs g) hs₀ cs₀ S next n t) (q : Order k m l n t) (z : Looks ks vs lookup look)
       → Below (marks S) at × Tree (view ks vs g) hs cs (marks S) (get_or hs (next + i) 0) (get_or cs (next + i) 0) (get_or (w.is S t look b o q z).terms i error)
   visited S t look b o q z = (grow_below S next (next + n) at b (omega (arith, w.low)), (w.is S t look b o q z).each i in_row)
 
   pub walking_next : most ≤ length hs → most ≤ length cs → (hs' cs' : List ℕ) (r : Walked)
-      → Went ks vs ws g hs cs hs' cs' (record { head = get_or hs (next + i) 0; kids = get_or cs (next + i) 0 }) at (levels - 1) left most r → Frames hs cs hs' cs' at r.next
-      → Walking ks vs ws g hs₀ cs₀ (set hs' (next + i) r.head) (set cs' (next + i) r.kids) k m l next n levels visits most base (j + 1) r.next r.visits (size + r.size)
+      → Went ks vs lookup g hs cs hs' cs' (record { head = get_or hs (next + i) 0; kids = get_or cs (next + i) 0 }) at (levels - 1) left most r → Frames hs cs hs' cs' at r.next
+      → Walking ks vs lookup g hs₀ cs₀ (set hs' (next + i) r.content.head) (set cs' (next + i) r.content.kids) k m l next n levels visits most base (j + 1) r.next r.visits (size + r.size)
   walking_next lh lc hs' cs' r walks fr = record {
     upto = omega arith;
     bounded = omega (arith, w.bounded, w.fewer, walks.fewer, walks.bounded);
@@ -201,18 +201,18 @@ module _ {ks vs : List ℕ} {ws : List Rule} {g : Origin} {hs₀ cs₀ hs cs : L
     high = walks.within;
     fewer = omega (arith, w.fewer, walks.fewer);
     frames =
-        frames_set hs₀ cs₀ hs' cs' next r.next r.next (next + i) r.head r.kids
+        frames_set hs₀ cs₀ hs' cs' next r.next r.next (next + i) r.content.head r.content.kids
         (frames_then hs₀ cs₀ hs cs hs' cs' next at at r.next next r.next w.frames fr (omega arith) (omega (arith, w.low)) walks.later (omega arith))
         (omega arith) (omega (arith, w.low, walks.later)) (omega arith);
     is = λ S t look b o q z.
         let u = w.is S t look b o q z in
         let v = visited S t look b o q z in
-        visit_next (view ks vs g) (walk_by (finds look) (levels - 1)) S next n t (first (finds look) t visits next) hs cs hs' cs' j at left base size i r.head r.kids r.next r.visits r.size
+        visit_next (view ks vs g) (walk_by (finds look) (levels - 1)) S next n t (first (finds look) t visits next) hs cs hs' cs' j at left base size i r.content.head r.content.kids r.next r.visits r.size
         b u lt o.count (ei ∙ q j) in_row w.low fr (omega (arith, w.low, w.high)) (omega (arith, w.low, w.high)) walks.later
         (walks.done (marks S) (get_or u.terms i error) look v.0 v.1 z);
   }
 
-  pub walking_over : Overrun ks vs ws g hs cs (record { head = get_or hs (next + i) 0; kids = get_or cs (next + i) 0 }) at (levels - 1) left most → (S : ℕ → Bool) (t : Term) (look : Look) → Below S next → Opened (view ks vs g) hs₀ cs₀ S next n t → Order k m l n t → Looks ks vs ws g look
+  pub walking_over : Overrun ks vs lookup g hs cs (record { head = get_or hs (next + i) 0; kids = get_or cs (next + i) 0 }) at (levels - 1) left most → (S : ℕ → Bool) (t : Term) (look : Look) → Below S next → Opened (view ks vs g) hs₀ cs₀ S next n t → Order k m l n t → Looks ks vs lookup look
       → 0 < levels → most < (walk_by (finds look) levels t visits next).count
   walking_over walks S t look b o q z hl =
       let u = w.is S t look b o q z in
@@ -223,8 +223,8 @@ module _ {ks vs : List ℕ} {ws : List Rule} {g : Origin} {hs₀ cs₀ hs cs : L
 
 -- ---- the node, when its children have been visited
 
-module _ {ks vs : List ℕ} {ws : List Rule} {g : Origin} {hs₁ cs₁ hs₀ cs₀ hs cs : List ℕ} (x : Content) {k m l next n levels visits most base j at left size : ℕ}
-    (w : Walking ks vs ws g hs₀ cs₀ hs cs k m l next n levels visits most base j at left size) (over : n ≤ j) (hl : 0 < levels) (ow : OwnAt (view ks vs g) x.head base)
+module _ {ks vs : List ℕ} {lookup : LookUp} {g : rust.Option Origin} {hs₁ cs₁ hs₀ cs₀ hs cs : List ℕ} (x : Content) {k m l next n levels visits most base j at left size : ℕ}
+    (w : Walking ks vs lookup g hs₀ cs₀ hs cs k m l next n levels visits most base j at left size) (over : n ≤ j) (hl : 0 < levels) (ow : OwnAt (view ks vs g) x.head base)
     (hb : base + n ≤ 68719476736)
     (op : (S : ℕ → Bool) (t : Term) → Below S next → Tree (view ks vs g) hs₁ cs₁ S x.head x.kids t → Opened (view ks vs g) hs₀ cs₀ S next n t)
     (od : Ordered (view ks vs g) x.head k m l) where
@@ -236,7 +236,7 @@ module _ {ks vs : List ℕ} {ws : List Rule} {g : Origin} {hs₁ cs₁ hs₀ cs�
     pub is : walk_by (finds look) levels t visits next ≡ settle (walk_by (finds look) (levels - 1)) node (finds look node) left at
     pub sized : size ≡ length (bytes node)
 
-  pub node_at : (S : ℕ → Bool) (t : Term) (look : Look) → Below S next → Tree (view ks vs g) hs₁ cs₁ S x.head x.kids t → Looks ks vs ws g look → NodeAt S t look
+  pub node_at : (S : ℕ → Bool) (t : Term) (look : Look) → Below S next → Tree (view ks vs g) hs₁ cs₁ S x.head x.kids t → Looks ks vs lookup look → NodeAt S t look
   node_at S t look b tr z =
       let f = walk_by (finds look) (levels - 1) in
       let o = op S t b tr in
@@ -282,8 +282,8 @@ module _ {ks vs : List ℕ} {ws : List Rule} {g : Origin} {hs₁ cs₁ hs₀ cs�
 
   -- it is not replaced
   pub walks_kept : (c : ℕ) → c ≡ next + 1
-      → ((S : ℕ → Bool) (t : Term) (look : Look) → Tree (view ks vs g) hs cs S x.head c t → depth t ≤ levels + 1 → Looks ks vs ws g look → finds look t ≡ none)
-      → (r : Walked) → r ≡ record { head = x.head; kids = c; next = at; visits = left; size = size } → Went ks vs ws g hs₁ cs₁ hs cs x next levels visits most r
+      → ((S : ℕ → Bool) (t : Term) (look : Look) → Tree (view ks vs g) hs cs S x.head c t → depth t ≤ levels + 1 → Looks ks vs lookup look → finds look t ≡ none)
+      → (r : Walked) → r ≡ record { content = record { head = x.head; kids = c }; next = at; visits = left; size = size } → Went ks vs lookup g hs₁ cs₁ hs cs x next levels visits most r
   walks_kept c ec f r e = rw e (record {
     later = bounds_low;
     within = w.high;
@@ -298,7 +298,7 @@ module _ {ks vs : List ℕ} {ws : List Rule} {g : Origin} {hs₁ cs₁ hs₀ cs�
 
   -- it is replaced by what stands at y
   module _ (c : ℕ) (ec : c ≡ next + 1) (y : Content)
-      (f : (S : ℕ → Bool) (t : Term) (look : Look) → Tree (view ks vs g) hs cs S x.head c t → depth t ≤ levels + 1 → Looks ks vs ws g look
+      (f : (S : ℕ → Bool) (t : Term) (look : Look) → Tree (view ks vs g) hs cs S x.head c t → depth t ≤ levels + 1 → Looks ks vs lookup look
       → (u : Term) × (finds look t ≡ some u) × Tree (view ks vs g) hs cs S y.head y.kids u) where
     pub record Replaced (S : ℕ → Bool) (t : Term) (look : Look) : Type 0 where
       pub node : Term
@@ -308,7 +308,7 @@ module _ {ks vs : List ℕ} {ws : List Rule} {g : Origin} {hs₁ cs₁ hs₀ cs�
       pub other : Tree (view ks vs g) hs cs (grow S next at) y.head y.kids value
       pub is : walk_by (finds look) levels t visits next ≡ follow (walk_by (finds look) (levels - 1)) (same value node) value left at
 
-    pub replaced : (S : ℕ → Bool) (t : Term) (look : Look) → Below S next → Tree (view ks vs g) hs₁ cs₁ S x.head x.kids t → Looks ks vs ws g look → Replaced S t look
+    pub replaced : (S : ℕ → Bool) (t : Term) (look : Look) → Below S next → Tree (view ks vs g) hs₁ cs₁ S x.head x.kids t → Looks ks vs lookup look → Replaced S t look
     replaced S t look b tr z =
         let v = node_at S t look b tr z in
         let tr' : Tree (view ks vs g) hs cs (grow S next at) x.head c v.node = rw ec v.tree in
@@ -324,8 +324,8 @@ module _ {ks vs : List ℕ} {ws : List Rule} {g : Origin} {hs₁ cs₁ hs₀ cs�
 
     -- by itself
     pub walks_itself : Sight ks vs g → ((S T : ℕ → Bool) (t u : Term) → Tree (view ks vs g) hs cs S x.head c t → Tree (view ks vs g) hs cs T y.head y.kids u → depth t ≤ levels + 1 → t ≡ u)
-        → (e : Content) → e.head ≡ length ks → e.kids ≡ 0 → (r : Walked) → r ≡ record { head = e.head; kids = e.kids; next = at; visits = left; size = 1 }
-        → Went ks vs ws g hs₁ cs₁ hs cs x next levels visits most r
+        → (e : Content) → e.head ≡ length ks → e.kids ≡ 0 → (r : Walked) → r ≡ record { content = e; next = at; visits = left; size = 1 }
+        → Went ks vs lookup g hs₁ cs₁ hs cs x next levels visits most r
     walks_itself s q e eh ek r er = rw er (record {
       later = bounds_low;
       within = w.high;
@@ -347,7 +347,7 @@ module _ {ks vs : List ℕ} {ws : List Rule} {g : Origin} {hs₁ cs₁ hs₀ cs�
           let j = not_same v.value v.node (λ e. q (grow S next at) (grow S next at) v.node v.value v.tree v.other v.low (sym e)) in
           v.is ∙ ap (λ (d : Bool). follow (walk_by (finds look) (levels - 1)) d v.value left at) j
 
-      pub walks_followed : (r : rust.Option Walked) → Walks ks vs ws g hs cs hs' cs' y at (levels - 1) left most r → Walks ks vs ws g hs₁ cs₁ hs' cs' x next levels visits most r
+      pub walks_followed : (r : rust.Option Walked) → Walks ks vs lookup g hs cs hs' cs' y at (levels - 1) left most r → Walks ks vs lookup g hs₁ cs₁ hs' cs' x next levels visits most r
       walks_followed (Some r) walks = record {
         later = omega (arith, bounds_low, walks.later);
         within = walks.within;
@@ -373,10 +373,10 @@ module _ {ks vs : List ℕ} {ws : List Rule} {g : Origin} {hs₁ cs₁ hs₀ cs�
 
 -- ---- a visit that is not made
 
-module _ (ks vs : List ℕ) (ws : List Rule) (g : Origin) (s : Sight ks vs g) (hs cs : List ℕ) (x : Content) (next levels visits most : ℕ) (le : next ≤ most) where
+module _ (ks vs : List ℕ) (lookup : LookUp) (g : rust.Option Origin) (s : Sight ks vs g) (hs cs : List ℕ) (x : Content) (next levels visits most : ℕ) (le : next ≤ most) where
   pub walks_failed : ((look : Look) (t : Term) → walk_by (finds look) levels t visits next ≡ failed visits next)
-      → (e : Content) → e.head ≡ length ks → e.kids ≡ 0 → (r : Walked) → r ≡ record { head = e.head; kids = e.kids; next = next; visits = visits; size = 1 }
-      → Went ks vs ws g hs cs hs cs x next levels visits most r
+      → (e : Content) → e.head ≡ length ks → e.kids ≡ 0 → (r : Walked) → r ≡ record { content = e; next = next; visits = visits; size = 1 }
+      → Went ks vs lookup g hs cs hs cs x next levels visits most r
   walks_failed f e eh ek r er = rw er (record {
     later = omega arith;
     within = le;
@@ -387,7 +387,7 @@ module _ (ks vs : List ℕ) (ws : List Rule) (g : Origin) (s : Sight ks vs g) (h
   })
 
 -- what is used comes after what was
-pub used_later : (ks vs : List ℕ) (ws : List Rule) (g : Origin) (hs₀ cs₀ hs cs : List ℕ) (x : Content) (next levels visits most : ℕ) → next ≤ most → (r : rust.Option Walked)
-    → Walks ks vs ws g hs₀ cs₀ hs cs x next levels visits most r → next ≤ used most r
-used_later ks vs ws g hs₀ cs₀ hs cs x next levels visits most le (Some r) w = w.later
-used_later ks vs ws g hs₀ cs₀ hs cs x next levels visits most le None w = le
+pub used_later : (ks vs : List ℕ) (lookup : LookUp) (g : rust.Option Origin) (hs₀ cs₀ hs cs : List ℕ) (x : Content) (next levels visits most : ℕ) → next ≤ most → (r : rust.Option Walked)
+    → Walks ks vs lookup g hs₀ cs₀ hs cs x next levels visits most r → next ≤ used most r
+used_later ks vs lookup g hs₀ cs₀ hs cs x next levels visits most le (Some r) w = w.later
+used_later ks vs lookup g hs₀ cs₀ hs cs x next levels visits most le None w = le

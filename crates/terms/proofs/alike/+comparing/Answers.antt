@@ -1,8 +1,11 @@
 -- `same_rows`. Invariant: the whole begins with the other where what is left does.
 -- `same_trees`. By the first tokens, and then all tokens, or the rows.
-use Rattle.terms.proofs.Laws.Normalising.AlikeLaws.{meeting_done, meeting_short, meeting_child, meeting_apart, meeting_number, meeting_other, meeting_differ, meeting_same, alike_none, alike_kinds, alike_vars, lent_true, alike_lent, alike_rows, alike_ends}
+use Rattle.terms.proofs.Laws.Normalising.AlikeLaws.{meeting_done, meeting_short, meeting_child, meeting_apart, meeting_number, meeting_other, meeting_differ, meeting_same, alike_none, alike_kinds, alike_vars, lent_true, alike_lent, alike_rows}
 use Rattle.terms.proofs.Laws.Normalising.SourceLaws.{lent_first}
 use borrow.Author.Tests.{not-true, not-false}
+use mathlib.Core.Bool.{false}
+use mathlib.Core.Path.{refl}
+use Rattle.std.specs.Prelude.{Some, None}
 use native.Mathlib.Omega.{arith}
 use Rattle.terms.proofs.alike.+comparing.Goals as goal
 
@@ -43,7 +46,7 @@ same_rows-loop-q-preserved t c =
     c.step-p.ensures.some.0 c.step-q.ensures.some.0
 
 pub same_rows-returns : goal.same_rows-returns
-same_rows-returns t c = meeting_done c.loop-q.invariant c.loop-q-test.false
+same_rows-returns t c = meeting_done c.loop-q.invariant c.loop-q-test.false c.args.x.small c.loop-q.invariant.first
 
 pub same_trees-returns-then-fuel-eq0 : goal.same_trees-returns-then-fuel-eq0
 same_trees-returns-then-fuel-eq0 t c = alike_none c.if-fuel-eq0.true
@@ -64,15 +67,15 @@ same_trees-same_term-requires t c =
 
 pub same_trees-returns-then-is_lent-2 : goal.same_trees-returns-then-is_lent-2
 same_trees-returns-then-is_lent-2 t c =
-    alike_lent c.args.seen.now.sight (lent_true _ _ _ _ c.is_lent.ensures c.if-is_lent.true)
+    alike_lent c.args.records.now.seen.now.sight (lent_true _ _ _ _ c.is_lent.ensures c.if-is_lent.true)
     (lent_true _ _ _ _ c.is_lent-then-is_lent.ensures c.if-is_lent-2.true) c.same_term.ensures
 
 pub same_trees-returns-in_default : goal.same_trees-returns-in_default
 same_trees-returns-in_default t c =
     alike_rows c.token_at-s.ensures.kind c.token_at-s.ensures.value c.token_at-t.ensures.kind c.token_at-t.ensures.value c.if-s-t.false c.if-s-eq1.false
-    c.cursor-a.ensures c.cursor-b.ensures _ (omega (arith, c.if-fuel-eq0.false)) (rw c.in_default.is at c.same_rows-m.ensures)
+    c.cursor-a.ensures c.cursor-b.ensures _ (omega (arith, c.if-fuel-eq0.false)) None (rw c.in_default.is at c.same_rows.ensures) false refl
 
 pub same_trees-returns : goal.same_trees-returns
 same_trees-returns t c =
-    alike_ends c.token_at-s.ensures.kind c.token_at-s.ensures.value c.token_at-t.ensures.kind c.token_at-t.ensures.value c.if-s-t.false c.if-s-eq1.false
-    c.cursor-a.ensures c.cursor-b.ensures _ (omega (arith, c.if-fuel-eq0.false)) _ _ (rw c.in-Some.is at c.same_rows-m.ensures)
+    alike_rows c.token_at-s.ensures.kind c.token_at-s.ensures.value c.token_at-t.ensures.kind c.token_at-t.ensures.value c.if-s-t.false c.if-s-eq1.false
+    c.cursor-a.ensures c.cursor-b.ensures _ (omega (arith, c.if-fuel-eq0.false)) (Some c.in-Some.z) (rw c.in-Some.is at c.same_rows.ensures) _ refl

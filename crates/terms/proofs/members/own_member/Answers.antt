@@ -11,7 +11,7 @@ use Rattle.terms.proofs.members.own_member.Goals as goal
 use Rattle.terms.proofs.members.own_member.Goals.{Else-is_some}
 
 -- there are no arguments
-plain : (c : Else-is_some) (S : ℕ → Bool) (t : Term) → Tree (shown c.args.seen.now) c.args.heads.now c.args.kids.now S c.args.x.head c.args.x.kids t
+plain : (c : Else-is_some) (S : ℕ → Bool) (t : Term) → Tree (shown c.args.records.now.seen.now) c.args.records.now.heads.now c.args.records.now.kids.now S c.args.x.head c.args.x.kids t
     → no_terms (arguments_of (row t)) ≡ true
 plain c S t w = own_plain c.requires.counts w (rw (nothing _ (sym c.is_some.ensures ∙ c.if-is_some.false)) at (c.child_at-argument.ensures S t w))
 

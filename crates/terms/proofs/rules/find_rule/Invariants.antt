@@ -5,13 +5,13 @@ use Rattle.terms.proofs.Laws.Normalising.RuleLaws.{Arguing, Searching, rule_at}
 use Rattle.terms.proofs.rules.find_rule.Given as goal
 
 abbrev pub invariant-loop-m : goal.invariant-loop-m
-invariant-loop-m l = Arguing l.seen.tokens.kinds.now l.seen.tokens.vals.now l.seen.given l.heads l.kids l.s l.fuel (rule_at l.rules l.r) l.m l.a l.left
+invariant-loop-m l = Arguing l.records.seen.now.tokens.kinds.now l.records.seen.now.tokens.vals.now l.records.seen.now.given l.records.heads.now l.records.kids.now l.s l.fuel (rule_at l.rules l.r) l.m l.a l.left
 
 abbrev pub decreases-loop-m : goal.decreases-loop-m
 decreases-loop-m l = l.left
 
 abbrev pub invariant-rules : goal.invariant-rules
-invariant-rules l = Searching l.seen.tokens.kinds.now l.seen.tokens.vals.now l.rules l.seen.given l.heads l.kids l.s l.fuel l.r × (l.r ≤ length l.rules)
+invariant-rules l = Searching l.records.seen.now.tokens.kinds.now l.records.seen.now.tokens.vals.now l.rules l.records.seen.now.given l.records.heads.now l.records.kids.now l.s l.fuel l.r × (l.r ≤ length l.rules)
 
 abbrev pub decreases-rules : goal.decreases-rules
 decreases-rules l = length l.rules - l.r

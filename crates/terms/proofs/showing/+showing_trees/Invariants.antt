@@ -13,5 +13,5 @@ decreases-show_tree l = 2 * l.fuel
 
 abbrev pub invariant-show_row-loop-q : goal.invariant-show_row-loop-q
 invariant-show_row-loop-q l =
-    RowShowing (view l.seen.tokens.kinds.now l.seen.tokens.vals.now l.fn.seen.given) l.heads l.kids (writes l.pass) l.initial.out l.at l.fn.c l.fuel l.out l.i l.q-iterator.at l.n
-    × (l.q-iterator.seen ≡ l.seen) × (l.q-iterator.end ≡ l.fn.c.end)
+    RowShowing (view l.records.seen.now.tokens.kinds.now l.records.seen.now.tokens.vals.now l.fn.records.seen.now.given) l.records.heads.now l.records.kids.now (writes l.pass) l.initial.out l.at l.fn.c l.fuel l.out l.i l.q-iterator.at l.n
+    × (l.q-iterator.seen ≡ l.records.seen.now) × (l.q-iterator.end ≡ l.fn.c.end)

@@ -1,5 +1,5 @@
 -- `show_flat`. By its tests.
-use native.Mathlib.Omega.{arith}
+use Rattle.std.proofs.Common.{rules, arith}
 use Rattle.terms.proofs.Laws.Format.WriteLaws.{spelt_short}
 use Rattle.terms.proofs.showing.show_flat.Goals as goal
 
@@ -7,3 +7,14 @@ pub write_run-requires-clause-room : goal.write_run-requires-clause-room
 write_run-requires-clause-room c =
     let a = c.args in
     omega (arith, c.requires.room, c.if-count-out.true, spelt_short a.kinds.now a.vals.now (λ i. omega (arith, c.shared_slice_known-2-1.given i)) a.from a.count)
+
+pub returns-then-count-out-clause-kept : goal.returns-then-count-out-clause-kept
+returns-then-count-out-clause-kept c =
+    let a = c.args in
+    let w = c.write_run.ensures in
+    record {
+      long = search rules;
+      same = search rules;
+      within =
+          (omega (arith, w.next), omega (arith, w.next, c.requires.room, c.if-count-out.true, spelt_short a.kinds.now a.vals.now (λ i. omega (arith, c.shared_slice_known-2-1.given i)) a.from a.count));
+    }

@@ -1,7 +1,9 @@
 -- `located_token`. By the spot.
+use native.Mathlib.Omega.{arith}
+use Rattle.terms.specs.Words.VirtualTokens.{size_of}
 use mathlib.Core.Path.{refl, sym, ◌∙◌}
 use Rattle.terms.specs.declared.Spot.TheVariants.{Lent, Error, Head, Nowhere}
-use Rattle.terms.proofs.Laws.Normalising.VirtualTokenLaws.{spot_word}
+use Rattle.terms.proofs.Laws.Normalising.VirtualTokenLaws.{few_width, spot_word}
 use Rattle.terms.proofs.virtual_tokens.located_token.Goals as goal
 
 pub returns-in-Lent : goal.returns-in-Lent
@@ -18,8 +20,11 @@ returns-in-Error c =
 
 pub returns-in-Head : goal.returns-in-Head
 returns-in-Head c =
-    let l = rw c.in-Head.is at c.locate-s.ensures in
-    record { kind = sym (spot_word _ _ 5 20 _ _ Head l refl); value = sym (spot_word _ _ 1 _ _ _ Head l c.args.seen.now.tokens.pairs) }
+    let x = c.args.seen.now in
+    let l = rw c.in-Head.is at c.locate-s.ensures in record {
+      kind = sym (spot_word _ _ 5 20 _ _ (Head c.in-Head.size) l refl);
+      value = omega (arith, l.width, few_width _ _ _ x.sight, spot_word x.tokens.vals.now x.given 1 (size_of x.given) _ _ (Head c.in-Head.size) l x.tokens.pairs);
+    }
 
 pub returns-in-Nowhere : goal.returns-in-Nowhere
 returns-in-Nowhere c =

@@ -1,6 +1,7 @@
 -- `token_at`. A lent token.
 use mathlib.Core.Path.{refl, sym}
 use lib.ListN.{length}
+use Rattle.terms.specs.Words.VirtualTokens.{size_of}
 use Rattle.terms.specs.declared.Spot.TheVariants.{Lent}
 use Rattle.terms.proofs.Laws.Normalising.VirtualTokenLaws.{spot_word, located_lent}
 use Rattle.terms.proofs.virtual_tokens.token_at.Goals as goal
@@ -13,5 +14,5 @@ returns-then-q-tokens c =
     let l = located_lent x.given (length ks) c.args.q c.if-q-tokens.true in
     record {
       kind = sym (spot_word ks x.given 5 20 (length ks) c.args.q (Lent c.args.q) l refl);
-      value = sym (spot_word vs x.given 1 x.given.size (length ks) c.args.q (Lent c.args.q) l x.tokens.pairs);
+      value = sym (spot_word vs x.given 1 (size_of x.given) (length ks) c.args.q (Lent c.args.q) l x.tokens.pairs);
     }

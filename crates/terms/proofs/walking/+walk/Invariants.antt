@@ -7,4 +7,4 @@ abbrev pub decreases-walk : goal.decreases-walk
 decreases-walk l = l.levels + l.visits
 
 abbrev pub invariant-loop-j : goal.invariant-loop-j
-invariant-loop-j l = Walking l.seen.tokens.kinds.now l.seen.tokens.vals.now l.rules l.seen.given l.initial.heads l.initial.kids l.heads l.kids l.o.tag l.o.arguments l.o.members l.next l.n l.levels l.visits l.most l.initial.size l.j l.at l.left l.size
+invariant-loop-j l = Walking l.by.seen.tokens.kinds.now l.by.seen.tokens.vals.now l.by.lookup l.by.seen.given l.initial.heads l.initial.kids l.heads l.kids l.o.tag l.o.arguments l.o.members l.next l.n l.levels l.visits l.most l.initial.size l.j l.at l.left l.size

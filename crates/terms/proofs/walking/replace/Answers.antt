@@ -5,7 +5,7 @@ use mathlib.Core.Option.{Option}
 use native.Mathlib.Omega.{arith}
 use Rattle.terms.specs.Term.{Term}
 use Rattle.terms.specs.Tree.{row}
-use Rattle.terms.specs.Words.VirtualTokens.{view}
+use Rattle.terms.specs.Words.Lent.{shown}
 use Rattle.terms.specs.Lookup.{look_by}
 use Rattle.terms.specs.Words.Arena.{Fetched}
 use Rattle.terms.proofs.Laws.Normalising.AlikeLaws.{depth_row}
@@ -19,26 +19,20 @@ returns-then-is_some c =
     let r = rw (something _ (sym c.is_some.ensures ∙ c.if-is_some.true)).1 at (c.own_member-own.ensures S t w) in
     rw (something _ (sym c.is_some.ensures ∙ c.if-is_some.true)).1 (r.0, replace_own (look_by look) t e r.0 r.1, r.2)
 
-pub returns-then-seen-eq0 : goal.returns-then-seen-eq0
-returns-then-seen-eq0 c =
+pub returns-in-Rules : goal.returns-in-Rules
+returns-in-Rules c =
     λ S t look w d k.
-    let e = sym (c.requires.tagged.is c.args.heads.now c.args.kids.now S _ t
-    w) in
+    let e = sym (c.requires.tagged.is c.args.heads.now c.args.kids.now S _ t w) in
     let o = rw (nothing _ (sym c.is_some.ensures ∙ c.if-is_some.false)) at (c.own_member-own.ensures S t w) in
     rw (replace_look (look_by look) t e o)
-    (looked_rules c.args.seen.now.tokens.kinds.now c.args.seen.now.tokens.vals.now c.args.rules.now c.args.seen.now.given
-    (λ (q : Option Term). Fetched (view c.args.seen.now.tokens.kinds.now c.args.seen.now.tokens.vals.now c.args.seen.now.given) c.args.heads.now c.args.kids.now
-    S q c.find_rule.result)
-    (row t) look k c.if-seen-eq0.true (λ rs h. c.find_rule.ensures S t rs w (omega (arith, depth_row t)) h))
+    (looked_rules _ _ (λ (q : Option Term). Fetched (shown c.args.by.now.seen) c.args.heads.now c.args.kids.now S q c.find_rule.result)
+    (row t) c.args.by.now.lookup _ look c.in-Rules.is k (λ rs h. c.find_rule.ensures S t rs w (omega (arith, depth_row t)) h))
 
-pub returns : goal.returns
-returns c =
+pub returns-in-Given : goal.returns-in-Given
+returns-in-Given c =
     λ S t look w d k.
-    let e = sym (c.requires.tagged.is c.args.heads.now c.args.kids.now S _ t
-    w) in
+    let e = sym (c.requires.tagged.is c.args.heads.now c.args.kids.now S _ t w) in
     let o = rw (nothing _ (sym c.is_some.ensures ∙ c.if-is_some.false)) at (c.own_member-own.ensures S t w) in
     rw (replace_look (look_by look) t e o)
-    (looked_through c.args.seen.now.tokens.kinds.now c.args.seen.now.tokens.vals.now c.args.rules.now c.args.seen.now.given
-    (λ (q : Option Term). Fetched (view c.args.seen.now.tokens.kinds.now c.args.seen.now.tokens.vals.now c.args.seen.now.given) c.args.heads.now c.args.kids.now
-    S q c.by_interface.result)
-    (row t) look k c.if-seen-eq0.false (λ i owner h. c.by_interface.ensures S t i owner w e d h))
+    (looked_through _ _ (λ (q : Option Term). Fetched (shown c.args.by.now.seen) c.args.heads.now c.args.kids.now S q c.by_interface.result)
+    (row t) c.args.by.now.lookup _ look c.in-Given.is k (λ i owner h. c.by_interface.ensures S t i owner w e d h))
