@@ -228,13 +228,11 @@ pub enum Purpose<'a> {
     Family(Parameters<'a>, usize),
 }
 
-// What takes the place of binders. A substitution is two rows in the areas: its entries from `entries` up to `receivers`, its receivers from there up
-// to `finish`.
+// What takes the place of binders. A substitution is two rows in the areas: its entries and its receivers.
 #[derive(Clone, Copy)]
 pub struct Binders<'a> {
-    pub entries: usize,
-    pub receivers: usize,
-    pub finish: usize,
+    pub entries: Part,
+    pub receivers: Part,
     pub purpose: Purpose<'a>,
 }
 
