@@ -40,7 +40,7 @@ pub use compare::{can_weaken_to, conflicts_with};
 pub use keep::{keep_nominal, keep_term};
 pub use lists::keep_list;
 pub use normal::{normalise, with_associated_types, write_normalised};
-pub use numbers::{number_len, read_number, write_number};
+pub use numbers::{byte_at, number_len, read_number, write_number};
 pub use pairs::walk_pair;
 pub use questions::ask;
 pub use reader::part_at;

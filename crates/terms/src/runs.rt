@@ -14,10 +14,7 @@ use super::{Part, Token, Tokens};
 pub fn word(words: &[u32], i: usize) -> u32
     ensures { result ≡ get_or words.now i 0 }
 {
-    if i < words.len() {
-        return words[i];
-    }
-    0
+    words.get(i).copied().unwrap_or(0)
 }
 
 impl<'a> Tokens<'a> {

@@ -54,7 +54,8 @@ fn gives(tokens: &Tokens, x: usize, member: u32, t: usize) -> bool
     }
 }
 
-// The place after `count` required members from p on, where the members listed at x give each of them.
+// The place after `count` required members from p on, where the members listed at x give each of them. `covered` has the same loop with another test: a closure
+// for the test would need clauses of its own, in each of the two, that are longer than the loop.
 fn all_given(tokens: &Tokens, x: usize, p: usize, count: usize) -> Option<usize>
     requires { (x ≤ length tokens.now.kinds.now) × (p ≤ length tokens.now.kinds.now + 1) }
     ensures within { Ended (length tokens.now.kinds.now) result }

@@ -10,8 +10,8 @@ returns-then-tokens-i-clause-given c =
     λ d gs hs other e rest w l x.
     let y = next_pair (c.loop.invariant.1 d gs hs other e rest w l x) (omega arith) in
     elim c.then-tokens-i.branch [
-      then-tokens-i-via-then-tokens-i v ↦ absurd (omega (arith, pair_inside y, v.if-tokens-i.true))
-    | then-tokens-i-via-else-tokens-i+then-not-gives v ↦ fails_next (given gs hs) y (v.gives.ensures d gs hs other y.value l y.here) v.if-not-gives.true-raw
+      | then-tokens-i-via-then-tokens-i v ↦ absurd (omega (arith, pair_inside y, v.if-tokens-i.true))
+      | then-tokens-i-via-else-tokens-i+then-not-gives v ↦ fails_next (given gs hs) y (v.gives.ensures d gs hs other y.value l y.here) v.if-not-gives.true-raw
     ]
 
 pub loop-preserved : goal.loop-preserved

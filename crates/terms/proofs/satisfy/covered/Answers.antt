@@ -11,9 +11,9 @@ returns-then-tokens-i c =
     λ d n rest w e more o x l h y.
     let z = next_pair (c.loop.invariant.1 d n rest w e more o x l h y) (omega arith) in
     elim c.then-tokens-i.branch [
-      then-tokens-i-via-then-tokens-i v ↦ absurd (omega (arith, pair_inside z, v.if-tokens-i.true))
-    | then-tokens-i-via-else-tokens-i+then-not-covers v ↦
-        sym (fails_next (covers n w) z (v.covers.ensures d n rest w z.value x l h z.here z.formed) v.if-not-covers.true-raw)
+      | then-tokens-i-via-then-tokens-i v ↦ absurd (omega (arith, pair_inside z, v.if-tokens-i.true))
+      | then-tokens-i-via-else-tokens-i+then-not-covers v ↦
+          sym (fails_next (covers n w) z (v.covers.ensures d n rest w z.value x l h z.here z.formed) v.if-not-covers.true-raw)
     ]
 
 pub loop-preserved : goal.loop-preserved

@@ -9,12 +9,12 @@ pub returns-then-tokens-a-clause-headed : goal.returns-then-tokens-a-clause-head
 returns-then-tokens-a-clause-headed c =
     λ d n rest e m more x y.
     elim c.then-tokens-a.branch [
-      then-tokens-a-via-then-tokens-a w ↦ absurd (omega (arith, (laid_words x).inside, w.if-tokens-a.true))
-    | then-tokens-a-via-else-tokens-a+then-tokens-b w ↦ absurd (omega (arith, (laid_words y).inside, w.if-tokens-b.true))
-    | then-tokens-a-via-else-tokens-a+else-tokens-b+then-word w ↦
-        declarations_differ x y (λ z. w.if-word.true (w.word.ensures ∙ z ∙ sym w.word-else-tokens-b.ensures))
-    | then-tokens-a-via-else-tokens-a+else-tokens-b+else-word+then-n-word w ↦
-        counts_differ x y (λ z. w.if-n-word.true (c.word-n.ensures ∙ z ∙ sym w.word-else-word.ensures))
+      | then-tokens-a-via-then-tokens-a w ↦ absurd (omega (arith, (laid_words x).inside, w.if-tokens-a.true))
+      | then-tokens-a-via-else-tokens-a+then-tokens-b w ↦ absurd (omega (arith, (laid_words y).inside, w.if-tokens-b.true))
+      | then-tokens-a-via-else-tokens-a+else-tokens-b+then-word w ↦
+          declarations_differ x y (λ z. w.if-word.true (w.word.ensures ∙ z ∙ sym w.word-else-tokens-b.ensures))
+      | then-tokens-a-via-else-tokens-a+else-tokens-b+else-word+then-n-word w ↦
+          counts_differ x y (λ z. w.if-n-word.true (c.word-n.ensures ∙ z ∙ sym w.word-else-word.ensures))
     ]
 
 pub returns-clause-headed : goal.returns-clause-headed

@@ -12,13 +12,13 @@ pub returns-then-tokens-t-ne20 : goal.returns-then-tokens-t-ne20
 returns-then-tokens-t-ne20 c =
     λ d n rest w u x hw hu f.
     elim c.then-tokens-t-ne20.branch [
-      then-tokens-t-ne20-via-then-tokens-t-ne20 v ↦ sym (not_projected n w _ u (λ e. v.if-tokens-t-ne20.true ((held_first _ _ _ u hu).0 ∙ e)))
-    | then-tokens-t-ne20-via-else-tokens-t-ne20+then-tokens-t v ↦
-        let y = projected_at hu f v.if-tokens-t-ne20.false in
-        absurd (omega (arith, (receiver_held hu y).within, items_some y.receiver, v.if-tokens-t.true))
-    | then-tokens-t-ne20-via-else-tokens-t-ne20+else-tokens-t+then-not-same_term v ↦
-        let y = projected_at hu f v.if-tokens-t-ne20.false in
-        other_receiver n w _ y (v.same_term.ensures y.receiver w (receiver_held hu y) hw) v.if-not-same_term.true-raw
+      | then-tokens-t-ne20-via-then-tokens-t-ne20 v ↦ sym (not_projected n w _ u (λ e. v.if-tokens-t-ne20.true ((held_first _ _ _ u hu).0 ∙ e)))
+      | then-tokens-t-ne20-via-else-tokens-t-ne20+then-tokens-t v ↦
+          let y = projected_at hu f v.if-tokens-t-ne20.false in
+          absurd (omega (arith, (receiver_held hu y).within, items_some y.receiver, v.if-tokens-t.true))
+      | then-tokens-t-ne20-via-else-tokens-t-ne20+else-tokens-t+then-not-same_term v ↦
+          let y = projected_at hu f v.if-tokens-t-ne20.false in
+          other_receiver n w _ y (v.same_term.ensures y.receiver w (receiver_held hu y) hw) v.if-not-same_term.true-raw
     ]
 
 pub returns-then-word-member : goal.returns-then-word-member

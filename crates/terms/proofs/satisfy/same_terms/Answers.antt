@@ -9,10 +9,10 @@ returns-then-tokens-i-clause-agreed c =
     λ d rest e more w x.
     let y = next_arguments (c.loop.invariant.2 d rest e more w x) (omega arith) in
     elim c.then-tokens-i.branch [
-      then-tokens-i-via-then-tokens-i v ↦ absurd (omega (arith, argument_left y, v.if-tokens-i.true))
-    | then-tokens-i-via-else-tokens-i+then-tokens-j v ↦ absurd (omega (arith, argument_right y, v.if-tokens-j.true))
-    | then-tokens-i-via-else-tokens-i+else-tokens-j+then-not-same_term v ↦
-        arguments_differ y (v.same_term.ensures y.t y.u y.here_left y.here_right) v.if-not-same_term.true-raw
+      | then-tokens-i-via-then-tokens-i v ↦ absurd (omega (arith, argument_left y, v.if-tokens-i.true))
+      | then-tokens-i-via-else-tokens-i+then-tokens-j v ↦ absurd (omega (arith, argument_right y, v.if-tokens-j.true))
+      | then-tokens-i-via-else-tokens-i+else-tokens-j+then-not-same_term v ↦
+          arguments_differ y (v.same_term.ensures y.t y.u y.here_left y.here_right) v.if-not-same_term.true-raw
     ]
 
 pub loop-preserved : goal.loop-preserved
