@@ -25,7 +25,7 @@ pub use substitution::{context, family, instantiation, self_only};
 // Functions and types of the terms that are handed on to the sheet, which names this crate alone.
 pub use terms::{
     Binders, Listing, Parameter, Parameters, PartKind, Pass, Place, Question, Ready, Refusal,
-    Rewriter, Rule, Tokens, Unfinished, ask, can_weaken_to, clear_tokens, conflicts_with,
+    Rewriter, Rule, Tokens, Unfinished, ask, byte_at, can_weaken_to, clear_tokens, conflicts_with,
     keep_list, normalise, number_len, part_at, read_number, recovered_len, satisfies,
     satisfies_for, with_associated_types, write_normalised, write_number, write_recovered,
 };

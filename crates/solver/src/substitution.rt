@@ -2,16 +2,22 @@
 ghost use Rattle.std.specs.Prelude.{◌≡◌};
 ghost use Rattle.terms.specs.Words.RewriteContract.{for_instance, for_context, for_family};
 
-use terms::{Binders, Parameters, Purpose};
+use terms::{Binders, Parameters, Part, Purpose};
+
+// The tokens from a place up to another.
+fn row(from: usize, end: usize) -> Part
+    ensures { (result.from ≡ from) × (result.end ≡ end) }
+{
+    Part { from, end }
+}
 
 // What takes the place of binders in `instantiate`.
 pub fn instantiation<'a>(entries: usize, receivers: usize, finish: usize) -> Binders<'a>
     ensures { result ≡ for_instance entries receivers finish }
 {
     Binders {
-        entries,
-        receivers,
-        finish,
+        entries: row(entries, receivers),
+        receivers: row(receivers, finish),
         purpose: Purpose::Instance,
     }
 }
@@ -21,9 +27,8 @@ pub fn context<'a>(entries: usize, receivers: usize, parameters: &Parameters<'a>
     ensures { result ≡ for_context entries receivers parameters.now }
 {
     Binders {
-        entries,
-        receivers,
-        finish: receivers,
+        entries: row(entries, receivers),
+        receivers: row(receivers, receivers),
         purpose: Purpose::Context(*parameters),
     }
 }
@@ -46,9 +51,8 @@ pub fn family<'a>(
     ensures { result ≡ for_family entries receivers finish parameters.now arguments }
 {
     Binders {
-        entries,
-        receivers,
-        finish,
+        entries: row(entries, receivers),
+        receivers: row(receivers, finish),
         purpose: Purpose::Family(*parameters, arguments),
     }
 }

@@ -1,6 +1,6 @@
 // Comparing two terms without building anything: `conflicts_with` and `can_weaken_to`.
 // Kinds and tags are matched by number; the line in kinds.rt says why.
-ghost use Rattle.std.specs.Prelude.{◌≡◌, Bool, ◌≤◌, ◌<◌, length, get_or, [], ◌∷◌};
+ghost use Rattle.std.specs.Prelude.{◌≡◌, Bool, ◌≤◌, ◌<◌, length, get_or, [], ◌∷◌, Some};
 ghost use Rattle.terms.specs.Term.{Term, Parts, sub};
 ghost use Rattle.terms.specs.Words.Held.{Held, HeldParts};
 ghost use Rattle.terms.specs.Formed.{Formed};
@@ -8,7 +8,7 @@ ghost use Rattle.terms.specs.Words.TermsAtPlaces.{FormedAt};
 ghost use Rattle.terms.specs.Questions.{among};
 ghost use Rattle.terms.specs.Comparison.{conflicts_with, can_weaken_to};
 ghost use Rattle.terms.specs.Words.Lent.{PartOf, NotEmpty};
-ghost use Rattle.terms.specs.Words.CompareContract.{Rows, Forward, Stepped, Passed};
+ghost use Rattle.terms.specs.Words.CompareContract.{Rows, Forward, Stepped};
 
 use super::runs::{same_term, skip, term_part, word};
 use super::{Part, Tokens};
@@ -36,19 +36,13 @@ fn pair_step(tokens: &Tokens, a: Part, b: Part) -> Option<(usize, usize)>
 {
     let k = word(tokens.kinds, a.from);
     let l = word(tokens.kinds, b.from);
-    if k == 0 {
-        if l != 0 {
-            return None;
-        }
-        if word(tokens.vals, a.from) != word(tokens.vals, b.from) {
-            return None;
-        }
-        return Some((a.from + 1, b.from + 1));
+    if k != 0 && l != 0 {
+        return pair_terms(tokens, a, b);
     }
-    if l == 0 {
+    if k != l || word(tokens.vals, a.from) != word(tokens.vals, b.from) {
         return None;
     }
-    pair_terms(tokens, a, b)
+    Some((a.from + 1, b.from + 1))
 }
 
 // The same where a term comes next in both rows.
@@ -61,36 +55,30 @@ fn pair_terms(tokens: &Tokens, a: Part, b: Part) -> Option<(usize, usize)>
 {
     let k = word(tokens.kinds, a.from);
     let l = word(tokens.kinds, b.from);
-    if yields(k) {
-        return past(tokens, a, b);
-    }
-    if yields(l) {
-        return past(tokens, a, b);
+    if yields(k) || yields(l) {
+        return Some(past(tokens, a, b));
     }
     if k != l {
         return None;
     }
     if k == 20 {
-        if !same_term(tokens, a.from, b.from) {
-            return None;
-        }
-        return past(tokens, a, b);
+        return same_term(tokens, a.from, b.from).then_some(past(tokens, a, b));
     }
     Some((a.from + 1, b.from + 1))
 }
 
 // Past the terms that come next.
-fn past(tokens: &Tokens, a: Part, b: Part) -> Option<(usize, usize)>
+fn past(tokens: &Tokens, a: Part, b: Part) -> (usize, usize)
     requires { NotEmpty tokens.now.kinds.now a × NotEmpty tokens.now.kinds.now b }
-    ensures forward { Forward a.from a.end b.from b.end result }
+    ensures forward { Forward a.from a.end b.from b.end (Some result) }
     ensures passed { (t u : Term) (ps qs : Parts)
         → HeldParts tokens.now.kinds.now tokens.now.vals.now a.from a.end (sub t ps)
         → HeldParts tokens.now.kinds.now tokens.now.vals.now b.from b.end (sub u qs)
-        → Passed tokens.now.kinds.now tokens.now.vals.now a.end ps b.end qs result }
+        → HeldParts tokens.now.kinds.now tokens.now.vals.now result.0 a.end ps × HeldParts tokens.now.kinds.now tokens.now.vals.now result.1 b.end qs }
 {
     let n = skip(tokens, a.from, a.end - a.from);
     let m = skip(tokens, b.from, b.end - b.from);
-    Some((a.from + n, b.from + m))
+    (a.from + n, b.from + m)
 }
 
 // Whether two rows conflict.
@@ -100,7 +88,7 @@ fn rows_conflict(tokens: &Tokens, a: Part, b: Part) -> bool
 {
     let mut x = a;
     let mut y = b;
-    // A step goes into a node that both rows have, and past what yields, so it is not from part to part of a row, as two zipped walks would go.
+    // A step goes into a node that both rows have, and past what yields, so it is not from part to part of a row, as a `PairWalk` goes.
     while x.from < x.end {
         if y.end <= y.from {
             return true;
@@ -140,24 +128,15 @@ pub fn can_weaken_to(tokens: &Tokens, a: usize, b: usize) -> bool
         → result ≡ can_weaken_to t u }
 {
     let k = word(tokens.kinds, a);
-    if k != word(tokens.kinds, b) {
-        return false;
-    }
-    if !has_access(k) {
-        return false;
-    }
     let mut x = term_part(tokens, a);
     let mut y = term_part(tokens, b);
-    if x.end - a < 2 {
-        return false;
-    }
-    if y.end - b < 2 {
-        return false;
-    }
-    if word(tokens.vals, a + 1) != 1 {
-        return false;
-    }
-    if word(tokens.vals, b + 1) != 0 {
+    if k != word(tokens.kinds, b)
+        || !has_access(k)
+        || x.end - a < 2
+        || y.end - b < 2
+        || word(tokens.vals, a + 1) != 1
+        || word(tokens.vals, b + 1) != 0
+    {
         return false;
     }
     x.from = a + 2;

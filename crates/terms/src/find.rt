@@ -7,7 +7,7 @@ ghost use Rattle.terms.specs.Words.FindContract.{last_at, entry_at, receiver_at,
 use super::numbers::read_number;
 use super::runs::{skip, width_at};
 use super::values::{DEFINITION, ORDINARY};
-use super::{Parameter, Parameters, Refusal, Tokens};
+use super::{Parameter, Parameters, Part, Refusal, Tokens};
 
 // Reads a parameter: an owner and a position.
 fn parameter_at(s: &[u8], at: usize) -> Result<(Parameter, usize), Refusal>
@@ -69,22 +69,16 @@ impl<'a> Parameters<'a> {
 
 // Looks in a row of records, each of `width` numbers and a term, for the last one whose first number is the owner that is wanted and whose last is the
 // position. Linear in the records.
-fn find_record(
-    tokens: &Tokens,
-    from: usize,
-    end: usize,
-    width: usize,
-    wanted: Parameter,
-) -> Option<usize>
-    requires areas { end ≤ length tokens.now.kinds.now }
+fn find_record(tokens: &Tokens, row: Part, width: usize, wanted: Parameter) -> Option<usize>
+    requires areas { row.end ≤ length tokens.now.kinds.now }
     requires width { (1 ≤ width) × (width ≤ 2) }
-    ensures { result ≡ last_at tokens.now.kinds.now tokens.now.vals.now width wanted.owner wanted.position (end - from) from end None }
+    ensures { result ≡ last_at tokens.now.kinds.now tokens.now.vals.now width wanted.owner wanted.position (row.end - row.from) row.from row.end None }
 {
     let mut best = None;
-    let mut i = from;
+    let mut i = row.from;
     // A record is so many numbers and a term, which is as wide as it says: no row of one term, and no range is counted.
-    while i < end {
-        if end - i <= width {
+    while i < row.end {
+        if row.end - i <= width {
             return best;
         }
         let t = i + width;
@@ -95,29 +89,29 @@ fn find_record(
         if here == wanted {
             best = Some(t);
         }
-        i = t + skip(tokens, t, end - t);
+        i = t + skip(tokens, t, row.end - t);
     }
     best
 }
 
 // The place of the last entry's term for a parameter, in a row of entries.
-pub fn find_entry(tokens: &Tokens, from: usize, end: usize, wanted: Parameter) -> Option<usize>
-    requires { end ≤ length tokens.now.kinds.now }
-    ensures { result ≡ entry_at tokens.now.kinds.now tokens.now.vals.now from end wanted.owner wanted.position }
+pub fn find_entry(tokens: &Tokens, row: Part, wanted: Parameter) -> Option<usize>
+    requires { row.end ≤ length tokens.now.kinds.now }
+    ensures { result ≡ entry_at tokens.now.kinds.now tokens.now.vals.now row.from row.end wanted.owner wanted.position }
 {
-    find_record(tokens, from, end, 2, wanted)
+    find_record(tokens, row, 2, wanted)
 }
 
 // The place of the last receiver's term for an owner, in a row of receivers.
-pub fn find_receiver(tokens: &Tokens, from: usize, end: usize, owner: u64) -> Option<usize>
-    requires { end ≤ length tokens.now.kinds.now }
-    ensures { result ≡ receiver_at tokens.now.kinds.now tokens.now.vals.now from end owner }
+pub fn find_receiver(tokens: &Tokens, row: Part, owner: u64) -> Option<usize>
+    requires { row.end ≤ length tokens.now.kinds.now }
+    ensures { result ≡ receiver_at tokens.now.kinds.now tokens.now.vals.now row.from row.end owner }
 {
     let wanted = Parameter {
         owner,
         position: owner,
     };
-    find_record(tokens, from, end, 1, wanted)
+    find_record(tokens, row, 1, wanted)
 }
 
 // The place of the n-th term from a place on.

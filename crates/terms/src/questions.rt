@@ -9,10 +9,11 @@ ghost use Rattle.terms.specs.Formed.{Formed};
 ghost use Rattle.terms.specs.Questions.{Parameter, counted_by, entered_by, counted, entered, asked, number_of_question};
 ghost use Rattle.terms.specs.Parameters.{listed};
 ghost use Rattle.terms.specs.Words.TermsAtPlaces.{FormedAt, ParametersAt};
+ghost use Rattle.terms.specs.Words.Lent.{PartOf};
 ghost use Rattle.terms.specs.Words.QuestionsContract.{tag_of, word, Asking};
 
-use super::runs::{skip, width_at};
-use super::{Parameter, Parameters, Question, Tokens, runs};
+use super::runs::{skip, term_part};
+use super::{Parameter, Parameters, Part, Question, Tokens, runs};
 
 // The tag of the term whose first token has this kind.
 pub fn tag_of(k: u32) -> u32
@@ -80,32 +81,33 @@ pub fn word_at(vals: &[u32], i: usize, end: usize) -> u32
     0
 }
 
-// Whether a term that counts is among those that the question enters, in the row from a up to e.
-fn ask_row(tokens: &Tokens, a: usize, e: usize, question: Question, parameters: &Parameters) -> bool
-    requires { (a ≤ e) × (e ≤ length tokens.now.kinds.now) }
+// Whether a term that counts is among those that the question enters, in a row.
+fn ask_row(tokens: &Tokens, row: Part, question: Question, parameters: &Parameters) -> bool
+    requires { PartOf tokens.now.kinds.now row }
     ensures { (qs : List Parameter) (n : ℕ)
         → listed parameters.now ≡ got qs n
         → (whole : Bool)
-        → Asking tokens.now.kinds.now tokens.now.vals.now a e (counted qs (number_of_question question)) (entered (number_of_question question)) whole
+        → Asking tokens.now.kinds.now tokens.now.vals.now row.from row.end (counted qs (number_of_question question)) (entered (number_of_question question))
+        whole
         → result ≡ whole }
 {
-    let mut p = a;
+    let mut p = row.from;
     // A step is as wide as what stands there where that is not entered, and 1 where it is.
-    while p < e {
+    while p < row.end {
         let k = tokens.kinds[p];
         if k == 0 {
             p += 1;
         } else {
             let tag = tag_of(k);
-            let x = word_at(tokens.vals, p + 1, e);
-            let y = word_at(tokens.vals, p + 2, e);
+            let x = word_at(tokens.vals, p + 1, row.end);
+            let y = word_at(tokens.vals, p + 2, row.end);
             if counts(question, tag, x, y, parameters) {
                 return true;
             }
             if enters(question, tag) {
                 p += 1;
             } else {
-                p += skip(tokens, p, e - p);
+                p += skip(tokens, p, row.end - p);
             }
         }
     }
@@ -125,6 +127,5 @@ pub fn ask(tokens: &Tokens, p: usize, question: Question, parameters: &Parameter
         → Formed t
         → result ≡ asked qs (number_of_question question) t }
 {
-    let n = width_at(tokens, p);
-    ask_row(tokens, p, p + n, question, parameters)
+    ask_row(tokens, term_part(tokens, p), question, parameters)
 }

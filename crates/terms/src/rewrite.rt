@@ -79,8 +79,7 @@ fn pace(tokens: &Tokens, c: Choice, p: usize, end: usize) -> usize
 {
     match c {
         Choice::Keep => 1,
-        Choice::By(_) => skip(tokens, p, end - p),
-        Choice::Unknown => skip(tokens, p, end - p),
+        Choice::By(_) | Choice::Unknown => skip(tokens, p, end - p),
     }
 }
 
@@ -102,14 +101,14 @@ impl<'a> Rewriter<'a> {
     fn entry_for(&self, wanted: Parameter) -> Option<usize>
         ensures { result ≡ entry_for self.now.tokens.kinds.now self.now.tokens.vals.now self.now.binders wanted }
     {
-        let b = self.binders;
-        find_entry(&self.tokens, b.entries, b.receivers, wanted)
+        find_entry(&self.tokens, self.binders.entries, wanted)
     }
 
     // What takes the place of a Generic in a family: the argument for a parameter, or an entry's term.
     fn generic_at(&self, parameters: &Parameters, arguments: usize, wanted: Parameter) -> Choice
         ensures { result ≡ generic self.now.tokens.kinds.now self.now.tokens.vals.now self.now.binders parameters.now arguments wanted }
     {
+        // By `match`: what `entry_for` ensures would not come out of a closure that `or_else` is given, without clauses of its own.
         match self.argument_for(parameters, arguments, wanted) {
             Some(q) => Choice::By(q),
             None => taken(self.entry_for(wanted)),
@@ -122,13 +121,8 @@ impl<'a> Rewriter<'a> {
     {
         match self.entry_for(wanted) {
             Some(q) => Choice::By(q),
-            None => {
-                if parameters.find(wanted).is_some() {
-                    Choice::Unknown
-                } else {
-                    Choice::Keep
-                }
-            }
+            None if parameters.find(wanted).is_some() => Choice::Unknown,
+            None => Choice::Keep,
         }
     }
 
@@ -151,11 +145,10 @@ impl<'a> Rewriter<'a> {
     fn self_at(&self, owner: u64) -> Choice
         ensures { result ≡ self_for self.now.tokens.kinds.now self.now.tokens.vals.now self.now.binders owner }
     {
-        let b = self.binders;
-        match b.purpose {
+        match self.binders.purpose {
             Purpose::Context(_) => Choice::Keep,
             Purpose::Instance | Purpose::Family(_, _) => {
-                taken(find_receiver(&self.tokens, b.receivers, b.finish, owner))
+                taken(find_receiver(&self.tokens, self.binders.receivers, owner))
             }
         }
     }

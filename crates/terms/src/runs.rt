@@ -1,10 +1,9 @@
 // Runs of tokens: how long a term is, and whether two are the same.
 // Kinds and tags are matched by number; the line in kinds.rt says why.
 ghost use Rattle.std.specs.Prelude.{◌≡◌, ◌↔◌, IsTrue, true, false, ◌+◌, ◌-◌, ◌≤◌, ◌<◌, length, get_or};
-ghost use Rattle.terms.specs.Words.Tokens.{toks, Agree};
+ghost use Rattle.terms.specs.Words.Lent.{PartOf, NotEmpty, AgreeIn, toks_in};
 ghost use Rattle.terms.specs.Term.{Term, items};
 ghost use Rattle.terms.specs.Words.Held.{Held, span};
-ghost use Rattle.terms.specs.Words.Lent.{NotEmpty};
 ghost use Rattle.terms.specs.Tree.{same};
 ghost use Rattle.terms.specs.Words.FindContract.{stride};
 
@@ -15,10 +14,7 @@ use super::{Part, Token, Tokens};
 pub fn word(words: &[u32], i: usize) -> u32
     ensures { result ≡ get_or words.now i 0 }
 {
-    if i < words.len() {
-        return words[i];
-    }
-    0
+    words.get(i).copied().unwrap_or(0)
 }
 
 impl<'a> Tokens<'a> {
@@ -101,22 +97,21 @@ pub fn term_part(tokens: &Tokens, a: usize) -> Part
     }
 }
 
-// Whether two runs of `count` words are the same.
-fn same_words(words: &[u32], a: usize, b: usize, count: usize) -> bool
-    requires { (a + count ≤ length words.now) × (b + count ≤ length words.now) }
-    ensures { IsTrue result ↔ Agree words.now a b count }
+// Whether two parts have the same words.
+fn same_words(words: &[u32], a: Part, b: Part) -> bool
+    requires { PartOf words.now a × PartOf words.now b }
+    ensures { IsTrue result ↔ AgreeIn words.now a b }
 {
-    words[a..a + count] == words[b..b + count]
+    words[a.from..a.end] == words[b.from..b.end]
 }
 
-// Whether the two runs of `count` tokens are the same.
-pub fn same_run(kinds: &[u32], vals: &[u32], a: usize, b: usize, count: usize) -> bool
-    requires first { (a + count ≤ length kinds.now) × (a + count ≤ length vals.now) }
-    requires second { (b + count ≤ length kinds.now) × (b + count ≤ length vals.now) }
-    ensures yes { result ≡ true → toks kinds.now vals.now a count ≡ toks kinds.now vals.now b count }
-    ensures no { result ≡ false → toks kinds.now vals.now a count ≡ toks kinds.now vals.now b count → ⊥ }
+// Whether two parts have the same tokens.
+pub fn same_run(tokens: &Tokens, a: Part, b: Part) -> bool
+    requires { PartOf tokens.now.kinds.now a × PartOf tokens.now.kinds.now b }
+    ensures yes { result ≡ true → toks_in tokens.now.kinds.now tokens.now.vals.now a ≡ toks_in tokens.now.kinds.now tokens.now.vals.now b }
+    ensures no { result ≡ false → toks_in tokens.now.kinds.now tokens.now.vals.now a ≡ toks_in tokens.now.kinds.now tokens.now.vals.now b → ⊥ }
 {
-    same_words(kinds, a, b, count) && same_words(vals, a, b, count)
+    same_words(tokens.kinds, a, b) && same_words(tokens.vals, a, b)
 }
 
 // Whether the terms at a and b are the same.
@@ -124,10 +119,5 @@ pub fn same_term(tokens: &Tokens, a: usize, b: usize) -> bool
     requires { (a < length tokens.now.kinds.now) × (b < length tokens.now.kinds.now) }
     ensures { (t u : Term) → Held tokens.now.kinds.now tokens.now.vals.now a t → Held tokens.now.kinds.now tokens.now.vals.now b u → result ≡ same t u }
 {
-    let n = width_at(tokens, a);
-    let m = width_at(tokens, b);
-    if n != m {
-        return false;
-    }
-    same_run(tokens.kinds, tokens.vals, a, b, n)
+    same_run(tokens, term_part(tokens, a), term_part(tokens, b))
 }

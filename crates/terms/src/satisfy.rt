@@ -4,7 +4,7 @@
 // Kinds and tags are matched by number; the line in kinds.rt says why.
 ghost use Rattle.std.specs.Prelude.{◌≡◌, Bool, List, ℕ, ◌+◌, ◌≤◌, ◌<◌, length, get_or};
 ghost use Rattle.std.proofs.Math.Option.{Option};
-ghost use Rattle.terms.specs.Term.{Term, Parts, node, items};
+ghost use Rattle.terms.specs.Term.{Term, Parts, node};
 ghost use Rattle.terms.specs.Words.Held.{Held};
 ghost use Rattle.terms.specs.Shape.{nominal, done};
 ghost use Rattle.terms.specs.Formed.{Formed, Fit};
@@ -15,16 +15,7 @@ ghost use Rattle.terms.specs.Words.SatisfyContract.{Laid, Listed, Lists, Near, A
 ghost use Rattle.terms.specs.Words.SatisfyContract.{Satisfied, covers};
 
 use super::Tokens;
-use super::runs::{same_term, width_at, word};
-
-// The place after the term at i.
-fn behind(tokens: &Tokens, i: usize) -> usize
-    requires { i < length tokens.now.kinds.now }
-    ensures forward { (i < result) × (result ≤ length tokens.now.kinds.now) }
-    ensures passed { (t : Term) → Held tokens.now.kinds.now tokens.now.vals.now i t → result ≡ i + length (items t) }
-{
-    i + width_at(tokens, i)
-}
+use super::runs::{same_term, term_part, word};
 
 // The place of the term of a member, among `count` pairs of a member and a term from p on.
 fn member_at(tokens: &Tokens, p: usize, count: usize, member: u32) -> Option<usize>
@@ -42,7 +33,7 @@ fn member_at(tokens: &Tokens, p: usize, count: usize, member: u32) -> Option<usi
         if tokens.vals[i] == member {
             return Some(i + 1);
         }
-        i = behind(tokens, i + 1);
+        i = term_part(tokens, i + 1).end;
     }
     None
 }
@@ -56,14 +47,15 @@ fn gives(tokens: &Tokens, x: usize, member: u32, t: usize) -> bool
         → result ≡ same_option (look_up member gs hs) u }
 {
     let count = word(tokens.vals, x) as usize;
-    let r = member_at(tokens, x + 1, count, member);
-    match r {
+    // By `match`: of a closure without clauses of its own, `is_some_and` does not hand on what `same_term` ensures.
+    match member_at(tokens, x + 1, count, member) {
         Some(i) => same_term(tokens, i, t),
         None => false,
     }
 }
 
-// The place after `count` required members from p on, where the members listed at x give each of them.
+// The place after `count` required members from p on, where the members listed at x give each of them. `covered` has the same loop with another test: a closure
+// for the test would need clauses of its own, in each of the two, that are longer than the loop.
 fn all_given(tokens: &Tokens, x: usize, p: usize, count: usize) -> Option<usize>
     requires { (x ≤ length tokens.now.kinds.now) × (p ≤ length tokens.now.kinds.now + 1) }
     ensures within { Ended (length tokens.now.kinds.now) result }
@@ -74,13 +66,10 @@ fn all_given(tokens: &Tokens, x: usize, p: usize, count: usize) -> Option<usize>
 {
     let mut i = p;
     for _ in 0..count {
-        if tokens.kinds.len() <= i + 1 {
+        if tokens.kinds.len() <= i + 1 || !gives(tokens, x, tokens.vals[i], i + 1) {
             return None;
         }
-        if !gives(tokens, x, tokens.vals[i], i + 1) {
-            return None;
-        }
-        i = behind(tokens, i + 1);
+        i = term_part(tokens, i + 1).end;
     }
     Some(i)
 }
@@ -96,17 +85,11 @@ fn same_terms(tokens: &Tokens, a: usize, b: usize, count: usize) -> Option<(usiz
     let mut i = a;
     let mut j = b;
     for _ in 0..count {
-        if tokens.kinds.len() <= i {
+        if tokens.kinds.len() <= i || tokens.kinds.len() <= j || !same_term(tokens, i, j) {
             return None;
         }
-        if tokens.kinds.len() <= j {
-            return None;
-        }
-        if !same_term(tokens, i, j) {
-            return None;
-        }
-        i = behind(tokens, i);
-        j = behind(tokens, j);
+        i = term_part(tokens, i).end;
+        j = term_part(tokens, j).end;
     }
     Some((i, j))
 }
@@ -120,21 +103,15 @@ fn heads(tokens: &Tokens, a: usize, b: usize) -> Option<(usize, usize)>
         → Laid tokens.now.kinds.now tokens.now.vals.now b e m more
         → Headed tokens.now.kinds.now tokens.now.vals.now d n rest e m more result }
 {
-    if tokens.kinds.len() <= a + 1 {
-        return None;
-    }
-    if tokens.kinds.len() <= b + 1 {
-        return None;
-    }
-    if word(tokens.vals, a) != word(tokens.vals, b) {
-        return None;
-    }
     let n = word(tokens.vals, a + 1);
-    if n != word(tokens.vals, b + 1) {
+    if tokens.kinds.len() <= a + 1
+        || tokens.kinds.len() <= b + 1
+        || word(tokens.vals, a) != word(tokens.vals, b)
+        || n != word(tokens.vals, b + 1)
+    {
         return None;
     }
-    let count = n as usize;
-    same_terms(tokens, a + 2, b + 2, count)
+    same_terms(tokens, a + 2, b + 2, n as usize)
 }
 
 // Whether the nominal whose row stands at a satisfies the one at b: where it does, the place after that one.
@@ -161,26 +138,14 @@ fn is_reflexive(tokens: &Tokens, a: usize, receiver: usize, member: u32, t: usiz
         → Formed u
         → result ≡ reflexive n w member u }
 {
-    if tokens.kinds[t] != 20 {
+    if tokens.kinds[t] != 20 || tokens.kinds.len() <= t + 1 || !same_term(tokens, t + 1, receiver) {
         return false;
     }
-    if tokens.kinds.len() <= t + 1 {
+    let interface = term_part(tokens, t + 1).end;
+    let Some(z) = satisfies_row(tokens, a, interface) else {
         return false;
-    }
-    if !same_term(tokens, t + 1, receiver) {
-        return false;
-    }
-    let i = behind(tokens, t + 1);
-    let r = satisfies_row(tokens, a, i);
-    match r {
-        Some(z) => {
-            if word(tokens.vals, z) != member {
-                return false;
-            }
-            word(tokens.vals, z + 1) == 0
-        }
-        None => false,
-    }
+    };
+    word(tokens.vals, z) == member && word(tokens.vals, z + 1) == 0
 }
 
 // Whether the member whose number stands at i, and its term after it, is given at x, or a reflexive projection for the nominal whose row stands at a.
@@ -212,13 +177,10 @@ fn covered(tokens: &Tokens, a: usize, x: usize, p: usize, count: usize, receiver
 {
     let mut i = p;
     for _ in 0..count {
-        if tokens.kinds.len() <= i + 1 {
+        if tokens.kinds.len() <= i + 1 || !covers(tokens, a, x, receiver, i) {
             return false;
         }
-        if !covers(tokens, a, x, receiver, i) {
-            return false;
-        }
-        i = behind(tokens, i + 1);
+        i = term_part(tokens, i + 1).end;
     }
     true
 }
@@ -250,12 +212,9 @@ pub fn satisfies_for(tokens: &Tokens, a: usize, b: usize, receiver: usize) -> bo
         → Fit (nominal done) qs
         → result ≡ satisfies_for (nominal_of ps) (nominal_of qs) t }
 {
-    let h = heads(tokens, a + 1, b + 1);
-    match h {
-        None => false,
-        Some((x, y)) => {
-            let count = word(tokens.vals, y) as usize;
-            covered(tokens, a + 1, x, y + 1, count, receiver)
-        }
-    }
+    let Some((x, y)) = heads(tokens, a + 1, b + 1) else {
+        return false;
+    };
+    let count = word(tokens.vals, y) as usize;
+    covered(tokens, a + 1, x, y + 1, count, receiver)
 }

@@ -26,8 +26,3 @@ Forward i ae j be (Some (k, l)) = (i < k) × (k ≤ ae) × (j < l) × (l ≤ be)
 abbrev pub Stepped : (ks vs : List ℕ) (ae be : ℕ) (whole : Bool) → Option (ℕ × ℕ) → Type 0
 Stepped ks vs ae be whole None = whole ≡ true
 Stepped ks vs ae be whole (Some (k, l)) = Rows ks vs k ae l be whole
-
--- both rows go on after the terms that came next
-abbrev pub Passed : (ks vs : List ℕ) (ae : ℕ) (ps : Parts) (be : ℕ) (qs : Parts) → Option (ℕ × ℕ) → Type 0
-Passed ks vs ae ps be qs None = ⊥
-Passed ks vs ae ps be qs (Some (k, l)) = HeldParts ks vs k ae ps × HeldParts ks vs l be qs

@@ -1,5 +1,5 @@
 -- What a lent value says.
-use Rattle.std.specs.Prelude.{Bool, Option, List, ℕ, ◌≤◌, ◌<◌, length}
+use Rattle.std.specs.Prelude.{◌≡◌, Bool, Option, List, ℕ, ◌-◌, ◌≤◌, ◌<◌, length}
 use Rattle.terms.specs.declared.Part.{Part}
 use Rattle.terms.specs.declared.Content.{Content}
 use Rattle.terms.specs.declared.Records.{Records}
@@ -7,7 +7,7 @@ use Rattle.terms.specs.declared.Seen.{Seen}
 use Rattle.std.proofs.Math.Option as math
 use Rattle.terms.specs.Term.{Term}
 use Rattle.terms.specs.Words.Arena.{Tree, Fetched}
-use Rattle.terms.specs.Words.Tokens.{Area}
+use Rattle.terms.specs.Words.Tokens.{Area, Item, Agree, toks}
 use Rattle.terms.specs.Words.VirtualTokens.{view}
 
 -- the tokens that normalising sees
@@ -27,3 +27,11 @@ PartOf ks p = (p.from ≤ p.end) × (p.end ≤ length ks)
 
 abbrev pub NotEmpty : List ℕ → Part → Type 0
 NotEmpty ks p = (p.from < p.end) × (p.end ≤ length ks)
+
+-- two parts have the same words
+abbrev pub AgreeIn : List ℕ → (a b : Part) → Type 0
+AgreeIn ws a b = (a.end - a.from ≡ b.end - b.from) × Agree ws a.from b.from (a.end - a.from)
+
+-- the tokens of a part
+abbrev pub toks_in : (ks vs : List ℕ) → Part → List Item
+toks_in ks vs a = toks ks vs a.from (a.end - a.from)

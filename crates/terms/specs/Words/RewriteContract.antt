@@ -41,11 +41,11 @@ is_context (Family l a) = false
 module _ (ks vs : List ℕ) (b : Binders) where
   -- a SelfType: by a receiver, but in `argument_context` by nothing
   unfoldable pub self_for : ℕ → Choice
-  self_for o = pick (is_context b.purpose) Keep (by (receiver_at ks vs b.receivers b.finish o) Keep)
+  self_for o = pick (is_context b.purpose) Keep (by (receiver_at ks vs b.receivers.from b.receivers.end o) Keep)
 
   -- the term of an entry
   abbrev pub entry_for : Parameter → Option ℕ
-  entry_for p = entry_at ks vs b.entries b.receivers p.owner p.position
+  entry_for p = entry_at ks vs b.entries.from b.entries.end p.owner p.position
 
   -- a Generic in `apply`, with the arguments from a place on: an argument for a parameter comes before an entry
   unfoldable pub generic : Parameters → ℕ → Parameter → Choice
@@ -98,8 +98,8 @@ rewritten ks vs b p = pieces ks vs (chosen ks vs b) (p.end - p.from) p.from p.en
 
 -- the rows are within the areas, which have as many values as kinds
 pub record RowsWithin (ks vs : List ℕ) (b : Binders) : Type 0 where
-  pub entries : b.receivers ≤ length ks
-  pub receivers : b.finish ≤ length ks
+  pub entries : b.entries.end ≤ length ks
+  pub receivers : b.receivers.end ≤ length ks
   pub long : length vs ≡ length ks
 
 -- n bytes can be counted from i on and, where they are written, fit
@@ -127,8 +127,8 @@ Named (Family l a) ps = (n : ℕ) × (listed l ≡ got ps n)
 
 -- The areas hold the rows of a substitution with the entries es and the receivers rs, and the bytes the parameters ps.
 pub record HeldBinders (ks vs : List ℕ) (b : Binders) (es : List Entry) (rs : List Receiver) (ps : List Parameter) : Type 0 where
-  pub entries : HeldParts ks vs b.entries b.receivers (entry_row es)
-  pub receivers : HeldParts ks vs b.receivers b.finish (receiver_row rs)
+  pub entries : HeldParts ks vs b.entries.from b.entries.end (entry_row es)
+  pub receivers : HeldParts ks vs b.receivers.from b.receivers.end (receiver_row rs)
   pub parameters : Named b.purpose ps
 
 -- the term at a place
@@ -155,13 +155,16 @@ pub record Rewrites (ks vs : List ℕ) (b : Binders) (a : ℕ) (W : List ℕ →
 
 -- ---- the binders of each use
 
+abbrev row : ℕ → ℕ → Part
+row i e = record { from = i; end = e }
+
 abbrev pub for_family : (entries receivers finish : ℕ) → Parameters → (arguments : ℕ) → Binders
-for_family e r f l a = record { entries = e; receivers = r; finish = f; purpose = Family l a }
+for_family e r f l a = record { entries = row e r; receivers = row r f; purpose = Family l a }
 
 -- no parameters
 abbrev pub for_instance : (entries receivers finish : ℕ) → Binders
-for_instance e r f = record { entries = e; receivers = r; finish = f; purpose = Instance }
+for_instance e r f = record { entries = row e r; receivers = row r f; purpose = Instance }
 
 -- no receivers
 abbrev pub for_context : (entries receivers : ℕ) → Parameters → Binders
-for_context e r l = record { entries = e; receivers = r; finish = r; purpose = Context l }
+for_context e r l = record { entries = row e r; receivers = row r r; purpose = Context l }

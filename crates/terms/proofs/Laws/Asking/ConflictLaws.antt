@@ -18,12 +18,13 @@ use Rattle.terms.specs.Formed.{Formed, Fit, TakesNumber, TakesTerm, after_number
 use Rattle.terms.specs.Tree.{same, same_rows}
 use Rattle.terms.specs.Questions.{among}
 use Rattle.terms.specs.Comparison.{recovery, conflicts_with, rows_conflict}
-use Rattle.terms.specs.Words.CompareContract.{Rows, Passed, Stepped}
+use Rattle.std.specs.Bool.{then_some}
+use Rattle.terms.specs.Words.CompareContract.{Rows, Stepped}
 use Rattle.terms.proofs.Laws.General.Bools.{never_true, never_false, or-true, or_right, or_assoc, or-false, or-none}
 use Rattle.terms.proofs.Laws.Held.HeldLaws.{held_first, head_kind, row_num, row_sub, row_end, end_ends, held_sub, items_some}
 use Rattle.terms.proofs.Laws.Held.FlatLaws.{join, fit_append, held_enter, held_whole}
 use Rattle.terms.proofs.Laws.Held.SameLaws.{span_held}
-use Rattle.std.specs.Prelude.{Option, Some, None}
+use Rattle.std.specs.Prelude.{Option}
 
 -- ---- the definition
 
@@ -285,8 +286,8 @@ rows_short ks vs i ae j be whole x h k = go x.left x.held_left (x.same ∙ ap (�
     go (sub u q) hq e = e
 
 -- the rows go on past the two terms
-abbrev pub Past : (ks vs : List ℕ) (i ae j be : ℕ) → Option (ℕ × ℕ) → Type 0
-Past ks vs i ae j be r = (t u : Term) (ps qs : Parts) → HeldParts ks vs i ae (sub t ps) → HeldParts ks vs j be (sub u qs) → Passed ks vs ae ps be qs r
+abbrev pub Past : (ks vs : List ℕ) (i ae j be : ℕ) → ℕ × ℕ → Type 0
+Past ks vs i ae j be p = (t u : Term) (ps qs : Parts) → HeldParts ks vs i ae (sub t ps) → HeldParts ks vs j be (sub u qs) → HeldParts ks vs p.0 ae ps × HeldParts ks vs p.1 be qs
 
 module _ {ks vs : List ℕ} {i ae j be : ℕ} {whole : Bool} (x : Terms ks vs i ae j be whole) {m n : ℕ} (em : m ≡ get_or ks i 0) (en : n ≡ get_or ks j 0) where
   kind_left : head_kind x.t ≡ m
@@ -318,16 +319,15 @@ module _ {ks vs : List ℕ} {i ae j be : ℕ} {whole : Bool} (x : Terms ks vs i 
   firm_right : among (n) (1 ∷ 4 ∷ 5 ∷ []) ≡ false → Firm x.u
   firm_right a = firm x.u (ap (λ (k : ℕ). among k (1 ∷ 4 ∷ 5 ∷ [])) kind_right ∙ a)
 
-  here : (r : Option (ℕ × ℕ)) → Past ks vs i ae j be r → Passed ks vs ae x.ps be x.qs r
-  here r f = f x.t x.u x.ps x.qs x.row_left x.row_right
+  -- they do not, and the rows go on past them
+  beyond : (p : ℕ × ℕ) → Past ks vs i ae j be p → conflicts_with x.t x.u ≡ false → Rows ks vs p.0 ae p.1 be whole
+  beyond p f = let h = f x.t x.u x.ps x.qs x.row_left x.row_right in onward p.0 p.1 h.0 h.1
 
-  pub step_left : among (m) (1 ∷ 4 ∷ 5 ∷ []) ≡ true → (r : Option (ℕ × ℕ)) → Past ks vs i ae j be r → Stepped ks vs ae be whole r
-  step_left a None f = absurd (here None f)
-  step_left a (Some (k, l)) f = onward k l (here (Some (k, l)) f).0 (here (Some (k, l)) f).1 (yields_left x.t x.u (ap (λ (k : ℕ). among k (1 ∷ 4 ∷ 5 ∷ [])) kind_left ∙ a))
+  pub step_left : among (m) (1 ∷ 4 ∷ 5 ∷ []) ≡ true → (p : ℕ × ℕ) → Past ks vs i ae j be p → Rows ks vs p.0 ae p.1 be whole
+  step_left a p f = beyond p f (yields_left x.t x.u (ap (λ (k : ℕ). among k (1 ∷ 4 ∷ 5 ∷ [])) kind_left ∙ a))
 
-  pub step_right : among (n) (1 ∷ 4 ∷ 5 ∷ []) ≡ true → (r : Option (ℕ × ℕ)) → Past ks vs i ae j be r → Stepped ks vs ae be whole r
-  step_right a None f = absurd (here None f)
-  step_right a (Some (k, l)) f = onward k l (here (Some (k, l)) f).0 (here (Some (k, l)) f).1 (yields_right x.t x.u (ap (λ (k : ℕ). among k (1 ∷ 4 ∷ 5 ∷ [])) kind_right ∙ a))
+  pub step_right : among (n) (1 ∷ 4 ∷ 5 ∷ []) ≡ true → (p : ℕ × ℕ) → Past ks vs i ae j be p → Rows ks vs p.0 ae p.1 be whole
+  step_right a p f = beyond p f (yields_right x.t x.u (ap (λ (k : ℕ). among k (1 ∷ 4 ∷ 5 ∷ [])) kind_right ∙ a))
 
   module _ (a : among (m) (1 ∷ 4 ∷ 5 ∷ []) ≡ false) (b : among (n) (1 ∷ 4 ∷ 5 ∷ []) ≡ false) where
     pub step_kinds : (m ≡ n → ⊥) → whole ≡ true
@@ -337,12 +337,16 @@ module _ {ks vs : List ℕ} {i ae j be : ℕ} {whole : Bool} (x : Terms ks vs i 
       same_kind : head_kind x.t ≡ head_kind x.u
       same_kind = kind_left ∙ e ∙ sym kind_right
 
-      pub step_projections : m ≡ 20 → same x.t x.u ≡ false → whole ≡ true
-      step_projections p h = clash (projections x.t x.u (firm_left a) (firm_right b) same_kind (kind_left ∙ p) ∙ ap not h)
+      -- projections: they conflict unless they are the same
+      pub step_projection : m ≡ 20 → {r : Bool} → r ≡ same x.t x.u → (p : ℕ × ℕ) → Past ks vs i ae j be p → {o : Option (ℕ × ℕ)} → o ≡ then_some r p → Stepped ks vs ae be whole o
+      step_projection q {r} h p f {o} e = go r h o e
+        where
+          told : conflicts_with x.t x.u ≡ not (same x.t x.u)
+          told = projections x.t x.u (firm_left a) (firm_right b) same_kind (kind_left ∙ q)
 
-      pub step_whole : m ≡ 20 → same x.t x.u ≡ true → (r : Option (ℕ × ℕ)) → Past ks vs i ae j be r → Stepped ks vs ae be whole r
-      step_whole p h None f = absurd (here None f)
-      step_whole p h (Some (k, l)) f = onward k l (here (Some (k, l)) f).0 (here (Some (k, l)) f).1 (projections x.t x.u (firm_left a) (firm_right b) same_kind (kind_left ∙ p) ∙ ap not h)
+          go : (r : Bool) → r ≡ same x.t x.u → (o : Option (ℕ × ℕ)) → o ≡ then_some r p → Stepped ks vs ae be whole o
+          go true h o e = rw e (beyond p f (told ∙ ap not (sym h)))
+          go false h o e = rw e (clash (told ∙ ap not (sym h)))
 
       pub step_enter : (m ≡ 20 → ⊥) → Rows ks vs (i + 1) ae (j + 1) be whole
       unfolding Formed

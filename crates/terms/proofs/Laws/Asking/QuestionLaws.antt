@@ -22,7 +22,7 @@ use Rattle.terms.specs.Parameters.{parameter, parameters, index_in, is_found}
 use Rattle.terms.specs.Words.QuestionsContract.{tag_of, word, Asking}
 use Rattle.terms.proofs.Laws.General.Bools.{or-true, or_right, or-none, or_assoc, or-false}
 use Rattle.terms.proofs.Laws.Held.HeldLaws.{held_first, head_kind, held_num, held_sub, row_num, row_sub, row_end}
-use Rattle.terms.proofs.Laws.Held.FlatLaws.{held_enter, held_one}
+use Rattle.terms.proofs.Laws.Held.FlatLaws.{held_enter, held_whole}
 use Rattle.terms.proofs.Laws.Format.ShapeLaws.{More, some_done}
 use Rattle.terms.proofs.Laws.Format.ParameterLaws.{found_contains}
 use Rattle.terms.proofs.Laws.Asking.ConflictLaws.{passed}
@@ -340,9 +340,9 @@ pub counts_told : {ks vs : List ℕ} {p e : ℕ} (qs : List Parameter) (q : ℕ)
 counts_told {ks} {vs} {p} {e} qs q x h f g i = sym (told_counts ks vs p e x.rest qs q x.term x.formed x.held) ∙ rw (← head_tag x h, ← f, ← g) (sym i)
 
 -- a term as a row
-pub ask_one : (C E : Term → Bool) (ks vs : List ℕ) (p n : ℕ) (t : Term) → Held ks vs p t → n ≡ length (items t) → Formed t → Asking ks vs p (p + n) C E (meets C E t)
+pub ask_one : (C E : Term → Bool) {ks vs : List ℕ} {i p e : ℕ} (t : Term) → Held ks vs p t → i ≡ p → e ≡ p + length (items t) → Formed t → Asking ks vs i e C E (meets C E t)
 unfolding meets Subs
-ask_one C E ks vs p n t h e f = record { row = sub t end; held = held_one ks vs p n t h e; formed = (f, tt); same = sym (or-none (meets C E t)) }
+ask_one C E {ks} {vs} t h f g w = record { row = sub t end; held = held_whole ks vs t f g h; formed = (w, tt); same = sym (or-none (meets C E t)) }
 
 -- ---- `is_concrete` is `is_resolved_in` of nothing
 

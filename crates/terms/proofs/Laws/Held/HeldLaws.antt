@@ -1,11 +1,13 @@
 -- Terms and rows in the areas, taken apart token by token; and the tokens tell the term.
 use mathlib.Core.Path.{◌≡◌, refl, sym, ap, ◌∙◌}
 use mathlib.Core.List.{List, [], ◌∷◌, ◌++◌}
-use Prim.Native.Nat.{ℕ, zero, suc, pred, ◌+◌, ◌≤◌, ◌<◌}
+use Prim.Native.Nat.{ℕ, zero, suc, pred, ◌+◌, ◌-◌, ◌≤◌, ◌<◌}
 use native.Mathlib.Nat.{add-zero, add-suc, suc-add, zero-add}
 use native.Mathlib.Numerals.{add-one}
 use native.Mathlib.Omega.{arith}
 use lib.ListN.{length, get_or, length-append}
+use Rattle.terms.specs.declared.Part.{Part}
+use Rattle.terms.specs.Words.Lent.{AgreeIn, toks_in}
 use Rattle.terms.specs.Words.Tokens.{Agree, Item, item, spell, toks}
 use Rattle.terms.specs.Term.{Term, Parts, var, node, end, num, sub, items, part_items}
 use Rattle.terms.specs.Words.Held.{Held, HeldParts, span}
@@ -223,3 +225,13 @@ module _ (ks vs : List ℕ) where
   agree_toks a b (suc c) e =
       let r = agree_toks (suc a) (suc b) c (cc) in
       (agree_more ks a b c (cc) r.0, agree_more vs a b c (cc) r.1)
+
+  -- two parts are the same where their kinds and their values are
+  pub parts_agree : (a b : Part) → AgreeIn ks a b → AgreeIn vs a b → toks_in ks vs a ≡ toks_in ks vs b
+  parts_agree a b k v = toks_agree a.from b.from (a.end - a.from) k.1 v.1 ∙ ap (toks ks vs b.from) k.0
+
+  pub agree_parts : (a b : Part) → toks_in ks vs a ≡ toks_in ks vs b → AgreeIn ks a b × AgreeIn vs a b
+  agree_parts a b e =
+      let n : a.end - a.from ≡ b.end - b.from = sym (toks_length ks vs a.from (a.end - a.from)) ∙ ap length e ∙ toks_length ks vs b.from (b.end - b.from) in
+      let x = agree_toks a.from b.from (a.end - a.from) (e ∙ ap (toks ks vs b.from) (sym n)) in
+      ((n, x.0), (n, x.1))

@@ -2,12 +2,14 @@
 use mathlib.Core.Path.{◌≡◌, refl, sym, ap, ◌∙◌}
 use mathlib.Core.Bool.{Bool, true, false, ◌&&◌}
 use mathlib.Core.List.{List}
-use Prim.Native.Nat.{ℕ, ◌-◌, ◌≤◌}
+use Prim.Native.Nat.{ℕ, ◌+◌, ◌-◌, ◌≤◌}
 use native.Mathlib.Omega.{arith}
 use borrow.Author.Tests.{eq-eqb, eqb-true}
 use lib.Dec.{eqb}
 use lib.ListN.{length, get_or}
+use Rattle.terms.specs.declared.Part.{Part}
 use Rattle.terms.specs.Words.Tokens.{toks}
+use Rattle.terms.specs.Words.Lent.{toks_in}
 use Rattle.terms.specs.Term.{Term, Parts, var, node, end, num, sub, items}
 use Rattle.terms.specs.Words.Held.{Held, span}
 use Rattle.terms.specs.Tree.{same, same_rows}
@@ -69,25 +71,16 @@ told ks vs a n t h p =
     let e = span_held ks vs a t h in
     p (omega (arith, items_some t)) (omega (arith, h.within)) ∙ e
 
-module _ (ks vs : List ℕ) (a b : ℕ) (t u : Term) (ht : Held ks vs a t) (hu : Held ks vs b u) where
-  -- the tokens tell whether the terms are the same
-  pub same-tokens : (n : ℕ) → n ≡ length (items t) → n ≡ length (items u) → toks ks vs a n ≡ toks ks vs b n → t ≡ u
-  same-tokens n e f h =
-      items_injective t u (sym ht.tokens ∙ ap (toks ks vs a) (sym e) ∙ h ∙ ap (toks ks vs b) f ∙ hu.tokens)
+-- the tokens of a part that has those of a term
+pub part_tokens : {ks vs : List ℕ} {p : ℕ} {t : Term} {x : Part} → Held ks vs p t → x.from ≡ p → x.end ≡ p + length (items t) → toks_in ks vs x ≡ items t
+part_tokens {ks} {vs} {p} {t} {x} h f e =
+    let n : x.end - x.from ≡ length (items t) = omega (arith, f, e) in
+    ap (λ (k : ℕ). toks ks vs k (x.end - x.from)) f ∙ ap (toks ks vs p) n ∙ h.tokens
 
-  pub tokens_same : (n : ℕ) → n ≡ length (items t) → t ≡ u → toks ks vs a n ≡ toks ks vs b n
-  tokens_same n e h = ap (toks ks vs a) e ∙ ht.tokens ∙ ap items h ∙ sym hu.tokens ∙ ap (λ (x : Term). toks ks vs b (length (items x))) (sym h) ∙ ap (toks ks vs b) (sym e)
-
-  -- what `same_term` answers: the lengths n and m that were told, and the runs compared
-  pub differ_length : (n m : ℕ) → (1 ≤ span (get_or ks a 0) (get_or vs a 0) → span (get_or ks a 0) (get_or vs a 0) ≤ length ks - a → n ≡ span (get_or ks a 0) (get_or vs a 0))
-      → (1 ≤ span (get_or ks b 0) (get_or vs b 0) → span (get_or ks b 0) (get_or vs b 0) ≤ length ks - b → m ≡ span (get_or ks b 0) (get_or vs b 0)) → (n ≡ m → ⊥) → false ≡ same t u
-  differ_length n m p q d =
-      sym (not_same t u (λ e. d (told ks vs a n t ht p ∙ ap (λ (x : Term). length (items x)) e ∙ sym (told ks vs b m u hu q))))
-
-  pub compared : (r : Bool) (n m : ℕ) → (1 ≤ span (get_or ks a 0) (get_or vs a 0) → span (get_or ks a 0) (get_or vs a 0) ≤ length ks - a → n ≡ span (get_or ks a 0) (get_or vs a 0))
-      → (1 ≤ span (get_or ks b 0) (get_or vs b 0) → span (get_or ks b 0) (get_or vs b 0) ≤ length ks - b → m ≡ span (get_or ks b 0) (get_or vs b 0)) → n ≡ m
-      → (r ≡ true → toks ks vs a n ≡ toks ks vs b n) → (r ≡ false → toks ks vs a n ≡ toks ks vs b n → ⊥) → r ≡ same t u
-  compared true n m p q e on off =
-      let h = same-tokens n (told ks vs a n t ht p) (e ∙ told ks vs b m u hu q) (on refl) in
-      sym (ap (λ (x : Term). same t x) (sym h) ∙ same_refl t)
-  compared false n m p q e on off = sym (not_same t u (λ h. off refl (tokens_same n (told ks vs a n t ht p) h)))
+-- the tokens tell whether the terms are the same
+pub compared : (ks vs : List ℕ) (t u : Term) (x y : Part) → toks_in ks vs x ≡ items t → toks_in ks vs y ≡ items u → (r : Bool)
+    → (r ≡ true → toks_in ks vs x ≡ toks_in ks vs y) → (r ≡ false → toks_in ks vs x ≡ toks_in ks vs y → ⊥) → r ≡ same t u
+compared ks vs t u x y e f true on off =
+    let h = items_injective t u (sym e ∙ on refl ∙ f) in
+    sym (ap (λ (v : Term). same t v) (sym h) ∙ same_refl t)
+compared ks vs t u x y e f false on off = sym (not_same t u (λ h. off refl (e ∙ ap items h ∙ sym f)))

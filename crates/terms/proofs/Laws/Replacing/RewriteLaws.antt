@@ -74,7 +74,7 @@ module _ (ks vs : List ℕ) (b : Binders) (o : ℕ) where
   unfolding self_for
   self_context e = rw e
 
-  pub self_receiver : is_context b.purpose ≡ false → (r : Choice) (e : Option ℕ) → e ≡ receiver_at ks vs b.receivers b.finish o → r ≡ by e Keep → r ≡ self_for ks vs b o
+  pub self_receiver : is_context b.purpose ≡ false → (r : Choice) (e : Option ℕ) → e ≡ receiver_at ks vs b.receivers.from b.receivers.end o → r ≡ by e Keep → r ≡ self_for ks vs b o
   unfolding self_for
   self_receiver c r e f h = rw c (h ∙ rw f)
 
@@ -196,13 +196,13 @@ module _ (ks vs : List ℕ) where
   chosen_inside b r p =
       let o = get_or vs (p + 1) 0 in
       let w = named_at ks vs b p in
-      let f = last_below 1 o o (b.finish - b.receivers) b.receivers b.finish None tt in
+      let f = last_below 1 o o (b.receivers.end - b.receivers.from) b.receivers.from b.receivers.end None tt in
       inside_pick (eqb (get_or ks p 0) 19) _ _ (bound w b.purpose)
       (inside_pick (eqb (get_or ks p 0) 21) (self_for ks vs b o) Keep
-      (inside_pick (is_context b.purpose) Keep _ tt (below_by b.finish r.receivers (receiver_at ks vs b.receivers b.finish o) Keep f tt)) tt)
+      (inside_pick (is_context b.purpose) Keep _ tt (below_by b.receivers.end r.receivers (receiver_at ks vs b.receivers.from b.receivers.end o) Keep f tt)) tt)
     where
       by_entry : (w : Parameter) (c : Choice) → Inside ks c → Inside ks (by (entry_for ks vs b w) c)
-      by_entry w c k = below_by b.receivers r.entries (entry_for ks vs b w) c (last_below 2 w.owner w.position (b.receivers - b.entries) b.entries b.receivers None tt) k
+      by_entry w c k = below_by b.entries.end r.entries (entry_for ks vs b w) c (last_below 2 w.owner w.position (b.entries.end - b.entries.from) b.entries.from b.entries.end None tt) k
 
       bound : (w : Parameter) (u : Purpose) → Inside ks (generic_for ks vs b u w)
       bound w Instance = by_entry w Keep tt

@@ -132,7 +132,7 @@ module _ (ks vs : List ℕ) (b : Binders) (es : List Entry) (rs : List Receiver)
   index_is l n e p = rw e
 
   entry_finds : (p : Parameter) → Finds ks vs (entry_for ks vs b p) (get es p)
-  entry_finds p = entry_held ks vs es b.entries b.receivers p h.entries
+  entry_finds p = entry_held ks vs es b.entries.from b.entries.end p h.entries
 
   -- an entry's term, or what the rest gives
   entry_agrees : (p : Parameter) (c : Choice) (o : math.Option Term) → Agrees ks vs c o → Agrees ks vs (by (entry_for ks vs b p) c) (or_else (get es p) o)
@@ -181,11 +181,11 @@ module _ (ks vs : List ℕ) (b : Binders) (es : List Entry) (rs : List Receiver)
         (get_append es (zipped ps ts) p ∙ ap (λ (x : math.Option Term). or_else (get (zipped ps ts) p) x) (sym (else_none (get es p))))
         (agrees_by ks vs (argument_for ks vs i (index l p)) (by (entry_for ks vs b p) Keep) (get (zipped ps ts) p) _ g (entry_agrees p Keep none refl))
 
-    self_agrees : (o : ℕ) → Agrees ks vs (by (receiver_at ks vs b.receivers b.finish o) Keep) (receiver rs o)
+    self_agrees : (o : ℕ) → Agrees ks vs (by (receiver_at ks vs b.receivers.from b.receivers.end o) Keep) (receiver rs o)
     self_agrees o =
-        let r = receiver_at ks vs b.receivers b.finish o in
+        let r = receiver_at ks vs b.receivers.from b.receivers.end o in
         agrees_is ks vs (by r Keep) _ _ _ refl (sym (else_none (receiver rs o)))
-        (agrees_by ks vs r Keep (receiver rs o) none (receiver_held ks vs rs b.receivers b.finish o h.receivers) refl)
+        (agrees_by ks vs r Keep (receiver rs o) none (receiver_held ks vs rs b.receivers.from b.receivers.end o h.receivers) refl)
 
     instantly : (p : ℕ) (t : Term) → Held ks vs p t → Formed t → Agrees ks vs (chosen ks vs b p) (instantiated whole t)
     unfolding instantiated
@@ -197,7 +197,7 @@ module _ (ks vs : List ℕ) (b : Binders) (es : List Entry) (rs : List Receiver)
             agrees_is ks vs (generic_for ks vs b b.purpose w) _ _ _ (sym (chosen_generic ks vs b p y _ w (sym u) (sym v) refl)) (rw (eq-eqb (tag t) 17 x))
             (generic_agrees b.purpose h.parameters c a w)
         go (owner x y u) =
-            agrees_is ks vs (by (receiver_at ks vs b.receivers b.finish (first t)) Keep) _ _ _
+            agrees_is ks vs (by (receiver_at ks vs b.receivers.from b.receivers.end (first t)) Keep) _ _ _
             (sym (chosen_self ks vs b p (λ z. omega arith) y _ (first t) (sym u) (self_receiver ks vs b (first t) c _ _ refl refl)))
             (rw (ne_eqb (tag t) 17 (λ z. omega arith), eq-eqb (tag t) 19 x)) (self_agrees (first t))
         go (other x y u v) =

@@ -5,14 +5,14 @@ use native.Mathlib.Omega.{arith}
 use Rattle.terms.proofs.find.find_record.Goals as goal
 use Rattle.terms.proofs.find.find_record.Goals.{then-eq, else-eq}
 
-pub returns-then-end-i : goal.returns-then-end-i
-returns-then-end-i c = search_end _ _ _ _ _ (omega arith) _ _ _ c.if-end-i.true ∙ c.loop-i.invariant
+pub returns-then-row-i : goal.returns-then-row-i
+returns-then-row-i c = search_end _ _ _ _ _ (omega arith) _ _ _ c.if-row-i.true ∙ c.loop-i.invariant
 
 pub loop-i-preserved : goal.loop-i-preserved
 loop-i-preserved c =
     let a = c.args in
     let l = c.loop-i in
-    let more = λ (better : c.if-eq.best ≡ _). search_more a.tokens.now.kinds.now a.tokens.now.vals.now a.width a.wanted.owner a.wanted.position (omega arith) l.i a.end l.best (omega arith) c.if-eq.best better _ (ap (λ (x : ℕ). l.i + a.width + x) c.skip.ensures.is) in
+    let more = λ (better : c.if-eq.best ≡ _). search_more a.tokens.now.kinds.now a.tokens.now.vals.now a.width a.wanted.owner a.wanted.position (omega arith) l.i a.row.end l.best (omega arith) c.if-eq.best better _ (ap (λ (x : ℕ). l.i + a.width + x) c.skip.ensures.is) in
     elim c.if-eq.branch [
       | then-eq w ↦ more (let e = rw (c.from.ensures, c.from-in-loop-i.ensures) at (w.if-eq.ensures {u = tt}) in rw (w.best-is, ← e) refl) ∙ l.invariant
       | else-eq w ↦ more (let e = rw (c.from.ensures, c.from-in-loop-i.ensures) at (w.if-eq.ensures {u = tt}) in rw (w.best-is, ← e) refl) ∙ l.invariant

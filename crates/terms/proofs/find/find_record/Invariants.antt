@@ -7,7 +7,7 @@ use Rattle.std.specs.Prelude.{None}
 
 abbrev pub invariant-loop-i : goal.invariant-loop-i
 invariant-loop-i l =
-    last_at l.tokens.kinds.now l.tokens.vals.now l.width l.wanted.owner l.wanted.position (l.end - l.i) l.i l.end l.best ≡ last_at l.tokens.kinds.now l.tokens.vals.now l.width l.wanted.owner l.wanted.position (l.end - l.from) l.from l.end None
+    last_at l.tokens.kinds.now l.tokens.vals.now l.width l.wanted.owner l.wanted.position (l.row.end - l.i) l.i l.row.end l.best ≡ last_at l.tokens.kinds.now l.tokens.vals.now l.width l.wanted.owner l.wanted.position (l.row.end - l.row.from) l.row.from l.row.end None
 
 abbrev pub decreases-loop-i : goal.decreases-loop-i
-decreases-loop-i l = l.end - l.i
+decreases-loop-i l = l.row.end - l.i

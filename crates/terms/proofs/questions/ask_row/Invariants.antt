@@ -11,7 +11,7 @@ use Rattle.terms.proofs.questions.ask_row.Given as goal
 
 abbrev pub invariant-loop-p : goal.invariant-loop-p
 invariant-loop-p l =
-    (l.p ≤ l.e) × ((qs : List Parameter) (n : ℕ) → listed l.parameters ≡ got qs n → (w : Bool) → Asking l.tokens.kinds.now l.tokens.vals.now l.a l.e (counted qs (number_of_question l.question)) (entered (number_of_question l.question)) w → Asking l.tokens.kinds.now l.tokens.vals.now l.p l.e (counted qs (number_of_question l.question)) (entered (number_of_question l.question)) w)
+    (l.p ≤ l.row.end) × ((qs : List Parameter) (n : ℕ) → listed l.parameters ≡ got qs n → (w : Bool) → Asking l.tokens.kinds.now l.tokens.vals.now l.row.from l.row.end (counted qs (number_of_question l.question)) (entered (number_of_question l.question)) w → Asking l.tokens.kinds.now l.tokens.vals.now l.p l.row.end (counted qs (number_of_question l.question)) (entered (number_of_question l.question)) w)
 
 abbrev pub decreases-loop-p : goal.decreases-loop-p
-decreases-loop-p l = l.e - l.p
+decreases-loop-p l = l.row.end - l.p

@@ -1,9 +1,9 @@
--- `same_term`: the lengths, and then the tokens.
-use Rattle.terms.proofs.Laws.Held.SameLaws.{differ_length, compared}
+-- `same_term`: the tokens of both.
+use Rattle.terms.proofs.Laws.Held.SameLaws.{part_tokens, compared}
 use Rattle.terms.proofs.runs.same_term.Goals as goal
 
-pub returns-then-n-m : goal.returns-then-n-m
-returns-then-n-m c = λ t u ht hu. differ_length _ _ _ _ t u ht hu _ _ c.width_at-n.ensures.span c.width_at-m.ensures.span c.if-n-m.true
-
 pub returns : goal.returns
-returns c = λ t u ht hu. compared _ _ _ _ t u ht hu _ _ _ c.width_at-n.ensures.span c.width_at-m.ensures.span c.if-n-m.false c.same_run.ensures.yes c.same_run.ensures.no
+returns c =
+    λ t u ht hu.
+    compared _ _ t u _ _ (part_tokens ht c.term_part.ensures.part.0 (c.term_part.ensures.term t ht))
+    (part_tokens hu c.term_part-2.ensures.part.0 (c.term_part-2.ensures.term u hu)) _ c.same_run.ensures.yes c.same_run.ensures.no

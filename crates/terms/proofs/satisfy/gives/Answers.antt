@@ -9,11 +9,11 @@ use Rattle.terms.proofs.satisfy.gives.Goals as goal
 pub returns-in-Some : goal.returns-in-Some
 returns-in-Some c =
     λ e gs hs rest u x h.
-    let l = rw c.in-Some.is at (c.member_at-r.ensures.looked e rest _ (listed_pairs _ x c.word-count.ensures)) in
+    let l = rw c.in-Some.is at (c.member_at.ensures.looked e rest _ (listed_pairs _ x c.word-count.ensures)) in
     c.same_term.ensures l.0 u l.1 h ∙ ap (λ (o : Option Term). same_option o u) (sym l.2)
 
 pub returns-in-None : goal.returns-in-None
 returns-in-None c =
     λ e gs hs rest u x h.
-    let l = rw c.in-None.is at (c.member_at-r.ensures.looked e rest _ (listed_pairs _ x c.word-count.ensures)) in
+    let l = rw c.in-None.is at (c.member_at.ensures.looked e rest _ (listed_pairs _ x c.word-count.ensures)) in
     ap (λ (o : Option Term). same_option o u) (sym l)

@@ -14,7 +14,7 @@ loop-preserved c = (
   omega arith,
   λ e rest w x.
       let y = next_pair (c.loop.invariant.1 e rest w x) (omega arith) in
-      rw (sub_step c.args.count c.loop.counter) (look_next _ y c.if-tokens-i-2.false (c.behind-i.ensures.passed y.value y.here)),
+      rw (sub_step c.args.count c.loop.counter) (look_next _ y c.if-tokens-i-2.false (c.term_part-i.ensures.term y.value y.here)),
 )
 
 pub returns-clause-looked : goal.returns-clause-looked
