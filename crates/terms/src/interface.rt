@@ -78,6 +78,7 @@ pub fn by_interface(
     if !same_trees(records, y, source(given.owner), fuel) {
         return None;
     }
+    // a projection that has no such number is looked up by 0, as in the definition: a place past all tokens has it
     let p = number_place(records.seen, x.head, 3 + m).unwrap_or(NOWHERE);
     let value = output(records, given, p);
     if same_trees(records, x, value, fuel + 1) {

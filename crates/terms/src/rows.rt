@@ -65,6 +65,9 @@ pub fn walk_row<'a>(seen: &Seen<'a>, h: u32) -> RowWalk<'a>
     }
 }
 
+// Numbers and children are counted by hand: `filter(..).nth(i)` over a `RowWalk` was tried, and is taken; but what it ensures is told of runs of `filter_steps`,
+// where the laws of a row go token by token.
+//
 // Where the i-th number of the row stands.
 pub fn number_place(seen: &Seen, h: u32, i: usize) -> Option<usize>
     ensures { NumberAt (shown seen.now) h i result }
@@ -86,6 +89,7 @@ pub fn number_at(seen: &Seen, h: u32, i: usize) -> usize
     ensures small { result < 4294967296 }
     ensures value { ValueAt (shown seen.now) h i result }
 {
+    // a match, for the check proves it alone; with `map_or` a law by the cases of the place is wanted
     match number_place(seen, h, i) {
         Some(p) => token_at(seen, p).value as usize,
         None => 0,

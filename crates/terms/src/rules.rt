@@ -46,14 +46,8 @@ fn number_next(seen: &Seen, at: usize, end: usize, m: u32) -> bool
         → get_or (shown seen.now).vals at 0 ≡ m
         → ⊥ }
 {
-    if end <= at {
-        return false;
-    }
     let a = token_at(seen, at);
-    if a.kind != 0 {
-        return false;
-    }
-    a.value == m
+    at < end && a.kind == 0 && a.value == m
 }
 
 // Whether two numbers come next in a row, and the place after them.
