@@ -49,10 +49,7 @@ pub fn same_rows(records: &Records, x: Cursor, y: Cursor, fuel: usize) -> Option
         let s = token_at(records.seen, p);
         let t = token_at(records.seen, q);
         if t.kind == 0 {
-            if s.kind != 0 {
-                return None;
-            }
-            if s.value != t.value {
+            if s.kind != 0 || s.value != t.value {
                 return None;
             }
             p += 1;

@@ -103,10 +103,8 @@ pub fn key_at(seen: &Seen, h: u32, x: u32) -> Option<usize>
     let mut k = 0;
     for (_, y) in walk_row(seen, h) {
         if y.kind == 0 {
-            if y.value == x {
-                if 3 <= k {
-                    return Some(k - 3);
-                }
+            if y.value == x && 3 <= k {
+                return Some(k - 3);
             }
             k += 1;
         }
