@@ -1,6 +1,6 @@
 // The row of a node by place: its numbers, its members' keys, its children.
 // Kinds and tags are matched by number; the line in kinds.rt says why.
-ghost use Rattle.terms.specs.Words.Lent.{shown, StandsFor, Finds};
+ghost use Rattle.terms.specs.Words.Lent.{shown, StandsFor, Fetches};
 ghost use Rattle.std.specs.Prelude.{◌≡◌, Bool, ℕ, ◌-◌, ◌<◌, get_or};
 ghost use Rattle.std.specs.Iterator.{at_most};
 ghost use Rattle.std.proofs.Math.ListN.{get_elem?};
@@ -139,7 +139,7 @@ pub fn child_here(heads: &[u32], kids: &[u32], c: u32, q: usize, i: usize) -> Co
 pub fn child_at(records: &Records, x: Content, i: usize) -> Option<Content>
     ensures { (S : ℕ → Bool) (t : Term)
         → StandsFor records.now S x t
-        → Finds records.now S (get_elem? (children t) i) result }
+        → Fetches records.now S (get_elem? (children t) i) result }
 {
     let mut n = 0;
     for (q, y) in walk_row(records.seen, x.head) {
