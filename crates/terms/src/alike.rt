@@ -28,11 +28,8 @@ fn is_lent(tokens: &Tokens, x: Content) -> bool
     ensures { result
         ≡ (eqb x.kids 0 && leb (x.head + span (get_or tokens.now.kinds.now x.head 0) (get_or tokens.now.vals.now x.head 0)) (length tokens.now.kinds.now)) }
 {
-    if x.kids != 0 {
-        return false;
-    }
     let p = x.head as usize;
-    p + tokens.token(p).span() <= tokens.kinds.len()
+    x.kids == 0 && p + tokens.token(p).span() <= tokens.kinds.len()
 }
 
 // The place in x after all the parts that are at y, where those at x begin with them; the children at x have at most `fuel` levels.
@@ -52,10 +49,7 @@ pub fn same_rows(records: &Records, x: Cursor, y: Cursor, fuel: usize) -> Option
         let s = token_at(records.seen, p);
         let t = token_at(records.seen, q);
         if t.kind == 0 {
-            if s.kind != 0 {
-                return None;
-            }
-            if s.value != t.value {
+            if s.kind != 0 || s.value != t.value {
                 return None;
             }
             p += 1;

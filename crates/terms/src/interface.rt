@@ -1,5 +1,5 @@
 // Order 19: a projection is looked up in the given interface, or made anew through it.
-ghost use Rattle.terms.specs.Words.Lent.{shown, StandsFor, Finds};
+ghost use Rattle.terms.specs.Words.Lent.{shown, StandsFor, Fetches};
 ghost use Rattle.std.specs.Prelude.{◌≡◌, Bool, Some, ℕ, ◌+◌, ◌≤◌, ◌<◌, length, get_or, unwrap_or, IfSome};
 ghost use Rattle.terms.specs.Words.VirtualTokens.{LentAt};
 ghost use Rattle.terms.specs.Term.{Term, Parts, depth};
@@ -65,7 +65,7 @@ pub fn by_interface(
         → tag t ≡ 18
         → depth t ≤ fuel + 1
         → HeldGiven records.now.seen.now.tokens.kinds.now records.now.seen.now.tokens.vals.now given i owner
-        → Finds records.now S (through i owner (row t)) result }
+        → Fetches records.now S (through i owner (row t)) result }
 {
     let argument = child_at(records, x, 1 + n + m);
     if argument.is_some() {
@@ -78,6 +78,7 @@ pub fn by_interface(
     if !same_trees(records, y, source(given.owner), fuel) {
         return None;
     }
+    // a projection that has no such number is looked up by 0, as in the definition: a place past all tokens has it
     let p = number_place(records.seen, x.head, 3 + m).unwrap_or(NOWHERE);
     let value = output(records, given, p);
     if same_trees(records, x, value, fuel + 1) {

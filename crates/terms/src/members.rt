@@ -1,6 +1,6 @@
 // What a projection is replaced by before the rules: a member of its own.
 // Kinds and tags are matched by number; the line in kinds.rt says why.
-ghost use Rattle.terms.specs.Words.Lent.{shown, StandsFor, Finds};
+ghost use Rattle.terms.specs.Words.Lent.{shown, StandsFor, Fetches};
 ghost use Rattle.std.specs.Prelude.{Bool, ℕ, ◌≤◌};
 ghost use Rattle.terms.specs.Term.{Term};
 ghost use Rattle.terms.specs.Tree.{row};
@@ -24,7 +24,7 @@ pub fn member_of(
     requires start { b ≤ 1 }
     ensures { (S : ℕ → Bool) (t : Term)
         → StandsFor records.now S x t
-        → Finds records.now S (member_from b key (row t)) result }
+        → Fetches records.now S (member_from b key (row t)) result }
 {
     let i = key_at(records.seen, x.head, key)?;
     if m <= i {
@@ -38,7 +38,7 @@ pub fn own_member(records: &Records, x: Content, n: usize, m: usize) -> Option<C
     requires counts { Counts (shown records.now.seen.now) x.head n m }
     ensures { (S : ℕ → Bool) (t : Term)
         → StandsFor records.now S x t
-        → Finds records.now S (own_member (row t)) result }
+        → Fetches records.now S (own_member (row t)) result }
 {
     let key = number_at(records.seen, x.head, 3 + m) as u32;
     let argument = child_at(records, x, 1 + n + m);

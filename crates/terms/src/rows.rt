@@ -1,6 +1,6 @@
 // The row of a node by place: its numbers, its members' keys, its children.
 // Kinds and tags are matched by number; the line in kinds.rt says why.
-ghost use Rattle.terms.specs.Words.Lent.{shown, StandsFor, Finds};
+ghost use Rattle.terms.specs.Words.Lent.{shown, StandsFor, Fetches};
 ghost use Rattle.std.specs.Prelude.{◌≡◌, Bool, ℕ, ◌-◌, ◌<◌, get_or};
 ghost use Rattle.std.specs.Iterator.{at_most};
 ghost use Rattle.std.proofs.Math.ListN.{get_elem?};
@@ -65,6 +65,9 @@ pub fn walk_row<'a>(seen: &Seen<'a>, h: u32) -> RowWalk<'a>
     }
 }
 
+// Numbers and children are counted by hand: `filter(..).nth(i)` over a `RowWalk` was tried, and is taken; but what it ensures is told of runs of `filter_steps`,
+// where the laws of a row go token by token.
+//
 // Where the i-th number of the row stands.
 pub fn number_place(seen: &Seen, h: u32, i: usize) -> Option<usize>
     ensures { NumberAt (shown seen.now) h i result }
@@ -86,6 +89,7 @@ pub fn number_at(seen: &Seen, h: u32, i: usize) -> usize
     ensures small { result < 4294967296 }
     ensures value { ValueAt (shown seen.now) h i result }
 {
+    // a match, for the check proves it alone; with `map_or` a law by the cases of the place is wanted
     match number_place(seen, h, i) {
         Some(p) => token_at(seen, p).value as usize,
         None => 0,
@@ -99,10 +103,8 @@ pub fn key_at(seen: &Seen, h: u32, x: u32) -> Option<usize>
     let mut k = 0;
     for (_, y) in walk_row(seen, h) {
         if y.kind == 0 {
-            if y.value == x {
-                if 3 <= k {
-                    return Some(k - 3);
-                }
+            if y.value == x && 3 <= k {
+                return Some(k - 3);
             }
             k += 1;
         }
@@ -137,7 +139,7 @@ pub fn child_here(heads: &[u32], kids: &[u32], c: u32, q: usize, i: usize) -> Co
 pub fn child_at(records: &Records, x: Content, i: usize) -> Option<Content>
     ensures { (S : ℕ → Bool) (t : Term)
         → StandsFor records.now S x t
-        → Finds records.now S (get_elem? (children t) i) result }
+        → Fetches records.now S (get_elem? (children t) i) result }
 {
     let mut n = 0;
     for (q, y) in walk_row(records.seen, x.head) {

@@ -1,6 +1,6 @@
 // The rules of order 20.
 // Kinds and tags are matched by number; the line in kinds.rt says why.
-ghost use Rattle.terms.specs.Words.Lent.{shown, StandsFor, Finds};
+ghost use Rattle.terms.specs.Words.Lent.{shown, StandsFor, Fetches};
 ghost use Rattle.std.specs.Prelude.{◌≡◌, Bool, true, false, List, ℕ, ◌+◌, ◌*◌, ◌≤◌, ◌<◌, length, get_or};
 ghost use Rattle.terms.specs.Term.{Term, depths};
 ghost use Rattle.terms.specs.Tree.{row};
@@ -46,14 +46,8 @@ fn number_next(seen: &Seen, at: usize, end: usize, m: u32) -> bool
         → get_or (shown seen.now).vals at 0 ≡ m
         → ⊥ }
 {
-    if end <= at {
-        return false;
-    }
     let a = token_at(seen, at);
-    if a.kind != 0 {
-        return false;
-    }
-    a.value == m
+    at < end && a.kind == 0 && a.value == m
 }
 
 // Whether two numbers come next in a row, and the place after them.
@@ -114,7 +108,7 @@ pub fn find_rule(records: &Records, rules: &[Rule], x: Content, fuel: usize) -> 
         → StandsFor records.now S x t
         → depths (row t) ≤ fuel
         → Ruled records.now.seen.now.tokens.kinds.now records.now.seen.now.tokens.vals.now rules.now rs
-        → Finds records.now S (by_patterns rs (row t)) result }
+        → Fetches records.now S (by_patterns rs (row t)) result }
 {
     let s = cursor(records.seen, x);
     let member = member_in(records.seen, s);

@@ -4,7 +4,7 @@ ghost use Rattle.std.specs.Prelude.{◌≡◌, ◌+◌, ◌-◌, ◌≤◌, ◌<
 ghost use Rattle.terms.specs.Tree.{class, nominal_slot, projection_slot, slot_by};
 ghost use Rattle.terms.specs.Words.SlotsContract.{class_number};
 
-use super::Class;
+use super::{Begun, Class};
 
 // The class of a tag.
 fn class_of(k: u32) -> Class
@@ -47,17 +47,19 @@ fn projection_slot(n: usize, m: usize, c: usize, j: usize) -> usize
     j + 1 - (c - n)
 }
 
-// Which of c children comes j-th, as a place in byte order; k is the tag, n and m are the counts of arguments and members.
-pub fn slot(k: u32, n: usize, m: usize, c: usize, j: usize) -> usize
-    requires { (c < 4294967296) × (j < c) }
-    ensures { (result ≡ slot_by (class k) n m c j) × (result < c) }
-{
-    match class_of(k) {
-        Class::Plain => j,
-        Class::Nominal => nominal_slot(n.min(c), c, j),
-        Class::Projection => {
-            let a = n.min(c - 1);
-            projection_slot(a, m.min(c - 1 - a), c, j)
+impl Begun {
+    // Which of its children comes j-th, as a place in byte order.
+    pub fn slot(self, j: usize) -> usize
+        requires { (self.n < 4294967296) × (j < self.n) }
+        ensures { (result ≡ slot_by (class self.tag) self.arguments self.members self.n j) × (result < self.n) }
+    {
+        match class_of(self.tag) {
+            Class::Plain => j,
+            Class::Nominal => nominal_slot(self.arguments.min(self.n), self.n, j),
+            Class::Projection => {
+                let a = self.arguments.min(self.n - 1);
+                projection_slot(a, self.members.min(self.n - 1 - a), self.n, j)
+            }
         }
     }
 }

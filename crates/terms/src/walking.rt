@@ -15,7 +15,6 @@ use super::interface::by_interface;
 use super::members::own_member;
 use super::opening::{begin, own_len};
 use super::rules::find_rule;
-use super::slots::slot;
 use super::write::run_len;
 use super::{Content, LookUp, Normaliser, Origin, Records, Tokens, Walked};
 
@@ -164,10 +163,7 @@ pub fn walk(
         head: seen.tokens.kinds.len() as u32,
         kids: 0,
     };
-    if levels == 0 {
-        return Some(result(error, next, visits, 1));
-    }
-    if visits == 0 {
+    if levels == 0 || visits == 0 {
         return Some(result(error, next, visits, 1));
     }
     if let Some(same) = fixed_nodes(&seen.tokens, x, levels.min(visits)) {
@@ -180,7 +176,7 @@ pub fn walk(
     let mut at = next + n;
     let mut left = visits - 1;
     for j in 0..n {
-        let i = next + slot(o.tag, o.arguments, o.members, n, j);
+        let i = next + o.slot(j);
         let y = Content {
             head: heads[i],
             kids: kids[i],

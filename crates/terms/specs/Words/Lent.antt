@@ -18,8 +18,8 @@ shown x = view x.tokens.kinds.now x.tokens.vals.now x.given
 abbrev pub StandsFor : Records → (ℕ → Bool) → Content → Term → Type 0
 StandsFor r S x t = Tree (shown r.seen.now) r.heads.now r.kids.now S x.head x.kids t
 
-abbrev pub Finds : Records → (ℕ → Bool) → math.Option Term → Option Content → Type 0
-Finds r S o x = Fetched (shown r.seen.now) r.heads.now r.kids.now S o x
+abbrev pub Fetches : Records → (ℕ → Bool) → math.Option Term → Option Content → Type 0
+Fetches r S o x = Fetched (shown r.seen.now) r.heads.now r.kids.now S o x
 
 -- a part of so many tokens, and one that is not empty
 abbrev pub PartOf : List ℕ → Part → Type 0

@@ -8,19 +8,20 @@ use mathlib.Core.Path.{refl}
 use Rattle.std.specs.Prelude.{Some, None}
 use native.Mathlib.Omega.{arith}
 use Rattle.terms.proofs.alike.+comparing.Goals as goal
+use Rattle.terms.proofs.alike.+comparing.Goals.{same_rows-then-s-ne0-via-then-s-ne0, same_rows-then-s-ne0-via-else-s-ne0+then-s-t}
 
 pub same_rows-returns-then-x-p : goal.same_rows-returns-then-x-p
 same_rows-returns-then-x-p t c = meeting_short c.loop-q.invariant c.loop-q-test.true c.if-x-p.true
 
 pub same_rows-returns-then-s-ne0 : goal.same_rows-returns-then-s-ne0
 same_rows-returns-then-s-ne0 t c =
-    meeting_child c.loop-q.invariant c.loop-q-test.true c.if-x-p.false c.token_at-s.ensures.kind c.token_at-s.ensures.value c.token_at-t.ensures.kind
-    c.token_at-t.ensures.value c.if-t-eq0.true c.if-s-ne0.true
-
-pub same_rows-returns-then-s-t : goal.same_rows-returns-then-s-t
-same_rows-returns-then-s-t t c =
-    meeting_apart c.loop-q.invariant c.loop-q-test.true c.if-x-p.false c.token_at-s.ensures.kind c.token_at-s.ensures.value c.token_at-t.ensures.kind
-    c.token_at-t.ensures.value c.if-t-eq0.true c.if-s-ne0.false c.if-s-t.true
+    let v = c.loop-q.invariant in
+    elim c.then-s-ne0.branch [
+      | same_rows-then-s-ne0-via-then-s-ne0 w ↦ meeting_child v c.loop-q-test.true c.if-x-p.false c.token_at-s.ensures.kind c.token_at-s.ensures.value
+          c.token_at-t.ensures.kind c.token_at-t.ensures.value c.if-t-eq0.true w.if-s-ne0.true
+      | same_rows-then-s-ne0-via-else-s-ne0+then-s-t w ↦ meeting_apart v c.loop-q-test.true c.if-x-p.false c.token_at-s.ensures.kind c.token_at-s.ensures.value
+          c.token_at-t.ensures.kind c.token_at-t.ensures.value c.if-t-eq0.true w.if-s-ne0.false w.if-s-t.true
+    ]
 
 pub same_rows-loop-q-preserved-then-t-eq0 : goal.same_rows-loop-q-preserved-then-t-eq0
 same_rows-loop-q-preserved-then-t-eq0 t c =

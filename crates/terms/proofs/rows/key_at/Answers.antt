@@ -1,5 +1,5 @@
 use native.Mathlib.Omega.{arith}
-use Rattle.terms.proofs.rows.key_at.Goals.{then-y-x+else-k-ge3, else-y-x}
+use Rattle.terms.proofs.rows.key_at.Goals.{else-y-x-via-then-y-x+else-k-ge3, else-y-x-via-else-y-x}
 use Rattle.terms.proofs.Laws.Normalising.ScanLaws.{came, walk_on, key_over, key_here, key_next, key_pass}
 use Rattle.terms.proofs.rows.key_at.Goals as goal
 
@@ -13,7 +13,7 @@ loop-y-preserved-then-y-eq0 c =
     let w = c.loop-y.invariant.0 in
     let s = c.in-Some.ensures.steps in
     let m = came _ _ w.over _ _ c.next.new.self s in (
-      walk_on w _ _ _ s (key_next w.scan m c.if-y-eq0.true (λ k e. elim c.if-y-x.branch [ then-y-x+else-k-ge3 w ↦ omega (arith, w.if-k-ge3.false) | else-y-x w ↦ w.if-y-x.false e ])),
+      walk_on w _ _ _ s (key_next w.scan m c.if-y-eq0.true (λ k e. elim c.else-y-x.branch [ else-y-x-via-then-y-x+else-k-ge3 w ↦ omega (arith, w.if-k-ge3.false) | else-y-x-via-else-y-x w ↦ w.if-y-x.false e ])),
       omega (arith, c.loop-y.invariant.1, m.rises),
     )
 

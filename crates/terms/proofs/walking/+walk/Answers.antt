@@ -3,20 +3,24 @@ use Rattle.terms.proofs.Laws.Normalising.FixedLaws.{fixed_kept}
 use Rattle.terms.proofs.Laws.Normalising.MemberLaws.{replace_other}
 use Rattle.terms.proofs.Laws.Normalising.VisitLaws.{walk-levels, walk_visits, over_start}
 use Rattle.terms.proofs.Laws.Normalising.WalkLaws.{finds, order-of, walking_start, walking_next, walking_over, walks_kept, walks_itself, walks_followed, walks_failed}
-use Rattle.terms.specs.Lookup.{look_by}
-use mathlib.Core.Path.{refl, ◌∙◌}
+use Rattle.terms.specs.Lookup.{Look, look_by}
+use Rattle.terms.specs.Normal.{walk_by, failed}
+use Rattle.terms.specs.Term.{Term}
+use mathlib.Core.Path.{◌≡◌, refl, ◌∙◌}
 use native.Mathlib.Omega.{arith}
 use Rattle.terms.proofs.walking.+walk.Goals as goal
+use Rattle.terms.proofs.walking.+walk.Goals.{then-levels-eq0-via-then-levels-eq0, then-levels-eq0-via-else-levels-eq0+then-visits-eq0}
 
 pub returns-then-levels-eq0-clause-walks : goal.returns-then-levels-eq0-clause-walks
 returns-then-levels-eq0-clause-walks t c =
-    walks_failed _ _ _ _ c.requires.room.sight c.args.heads.now c.args.kids.now c.args.x c.args.next c.args.levels c.args.visits c.args.most
-    c.requires.room.within (λ look t. walk-levels (finds look) _ t _ _ c.if-levels-eq0.true) _ refl refl _ c.result.ensures
-
-pub returns-then-visits-eq0-clause-walks : goal.returns-then-visits-eq0-clause-walks
-returns-then-visits-eq0-clause-walks t c =
-    walks_failed _ _ _ _ c.requires.room.sight c.args.heads.now c.args.kids.now c.args.x c.args.next c.args.levels c.args.visits c.args.most
-    c.requires.room.within (λ look t. walk_visits (finds look) _ t _ _ c.if-visits-eq0.true) _ refl refl _ c.result-then-visits-eq0.ensures
+    let a = c.args in
+    let stopped : (look : Look) (t : Term) → walk_by (finds look) a.levels t a.visits a.next ≡ failed a.visits a.next =
+    elim c.then-levels-eq0.branch [
+      | then-levels-eq0-via-then-levels-eq0 w ↦ λ look t. walk-levels (finds look) _ t _ _ w.if-levels-eq0.true
+      | then-levels-eq0-via-else-levels-eq0+then-visits-eq0 w ↦ λ look t. walk_visits (finds look) _ t _ _ w.if-visits-eq0.true
+    ] in
+    walks_failed _ _ _ _ c.requires.room.sight a.heads.now a.kids.now a.x a.next a.levels a.visits a.most c.requires.room.within stopped _ refl refl _
+    c.result.ensures
 
 pub returns-in-Some-clause-walks : goal.returns-in-Some-clause-walks
 returns-in-Some-clause-walks t c =
