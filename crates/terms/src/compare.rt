@@ -62,7 +62,10 @@ fn pair_terms(tokens: &Tokens, a: Part, b: Part) -> Option<(usize, usize)>
         return None;
     }
     if k == 20 {
-        return same_term(tokens, a.from, b.from).then_some(past(tokens, a, b));
+        if !same_term(tokens, a.from, b.from) {
+            return None;
+        }
+        return Some(past(tokens, a, b));
     }
     Some((a.from + 1, b.from + 1))
 }

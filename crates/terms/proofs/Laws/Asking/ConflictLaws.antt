@@ -18,8 +18,7 @@ use Rattle.terms.specs.Formed.{Formed, Fit, TakesNumber, TakesTerm, after_number
 use Rattle.terms.specs.Tree.{same, same_rows}
 use Rattle.terms.specs.Questions.{among}
 use Rattle.terms.specs.Comparison.{recovery, conflicts_with, rows_conflict}
-use Rattle.std.specs.Bool.{then_some}
-use Rattle.terms.specs.Words.CompareContract.{Rows, Stepped}
+use Rattle.terms.specs.Words.CompareContract.{Rows}
 use Rattle.terms.proofs.Laws.General.Bools.{never_true, never_false, or-true, or_right, or_assoc, or-false, or-none}
 use Rattle.terms.proofs.Laws.Held.HeldLaws.{held_first, head_kind, row_num, row_sub, row_end, end_ends, held_sub, items_some}
 use Rattle.terms.proofs.Laws.Held.FlatLaws.{join, fit_append, held_enter, held_whole}
@@ -337,16 +336,11 @@ module _ {ks vs : List ℕ} {i ae j be : ℕ} {whole : Bool} (x : Terms ks vs i 
       same_kind : head_kind x.t ≡ head_kind x.u
       same_kind = kind_left ∙ e ∙ sym kind_right
 
-      -- projections: they conflict unless they are the same
-      pub step_projection : m ≡ 20 → {r : Bool} → r ≡ same x.t x.u → (p : ℕ × ℕ) → Past ks vs i ae j be p → {o : Option (ℕ × ℕ)} → o ≡ then_some r p → Stepped ks vs ae be whole o
-      step_projection q {r} h p f {o} e = go r h o e
-        where
-          told : conflicts_with x.t x.u ≡ not (same x.t x.u)
-          told = projections x.t x.u (firm_left a) (firm_right b) same_kind (kind_left ∙ q)
+      pub step_projections : m ≡ 20 → same x.t x.u ≡ false → whole ≡ true
+      step_projections p h = clash (projections x.t x.u (firm_left a) (firm_right b) same_kind (kind_left ∙ p) ∙ ap not h)
 
-          go : (r : Bool) → r ≡ same x.t x.u → (o : Option (ℕ × ℕ)) → o ≡ then_some r p → Stepped ks vs ae be whole o
-          go true h o e = rw e (beyond p f (told ∙ ap not (sym h)))
-          go false h o e = rw e (clash (told ∙ ap not (sym h)))
+      pub step_whole : m ≡ 20 → same x.t x.u ≡ true → (p : ℕ × ℕ) → Past ks vs i ae j be p → Rows ks vs p.0 ae p.1 be whole
+      step_whole q h p f = beyond p f (projections x.t x.u (firm_left a) (firm_right b) same_kind (kind_left ∙ q) ∙ ap not h)
 
       pub step_enter : (m ≡ 20 → ⊥) → Rows ks vs (i + 1) ae (j + 1) be whole
       unfolding Formed
