@@ -1,6 +1,6 @@
-// `constrain`: the Rust's loop over pending pairs, a check each. The pairs stand after the columns of the table, two places a pair; the last
-// is taken first. Kinds are numbers: a kind is a word of the format.
-ghost use Rattle.std.specs.Prelude.{◌≡◌, ◌||◌, List, ◌+◌, ◌*◌, ◌≤◌, ◌<◌, eqb, length, drop};
+// `constrain`: the Rust's loop over pending pairs, a check each. The pairs stand after the columns of the table, which is cut in two there; two
+// places a pair, the last is taken first. Kinds are numbers: a kind is a word of the format.
+ghost use Rattle.std.specs.Prelude.{◌≡◌, ◌||◌, List, ℕ, ◌+◌, ◌*◌, ◌≤◌, ◌<◌, eqb, length, drop};
 ghost use Rattle.terms.specs.Term.{Term, size};
 ghost use Rattle.solver.specs.Shapes.{notion, same_shape};
 ghost use Rattle.solver.specs.Constrain as solving;
@@ -11,14 +11,14 @@ ghost use Rattle.solver.specs.Words.Worklist.{Zero};
 ghost use Rattle.solver.specs.Words.SessionRepresentation.{Represents};
 ghost use Rattle.solver.specs.Words.OrderTerms.{PosesPair};
 ghost use Rattle.solver.specs.Words.PendingContract.{strict_of};
-ghost use Rattle.solver.specs.Words.ConstrainContract.{Waiting, Known, Scratch, Facing, Nodes, Due, After, Constrained, Posed, pending_from};
+ghost use Rattle.solver.specs.Words.ConstrainContract.{Waiting, Known, Scratch, CheckRoom, Facing, Nodes, Due, After, Constrained, Posed, pending_from};
 
 use super::equality::same_terms;
 use super::families::admissible;
 use super::pending::{clear_pairs, push_children, put_pair, same_shape, take_pair};
 use super::reach::{occurs, recovers};
 use super::top::shallow_resolve;
-use super::{Access, Bindings, Checked, Solved, Solver, Verdict};
+use super::{Access, Bindings, Checked, PairAt, Solved, Solver, Verdict};
 use terms::Tokens;
 
 // Whether a token is the head of an Unknown or Error, or another is.
@@ -29,152 +29,118 @@ pub fn either_recovers(left: u32, right: u32) -> bool
 }
 
 impl Solver {
+    // What a check leaves: the solver, whether the pair is compatible so far, and how many pairs are pending.
+    fn checked(self, good: bool, count: usize) -> Checked
+        ensures { result ≡ record { solver = self; good = good; count = count } }
+    {
+        Checked {
+            solver: self,
+            good,
+            count,
+        }
+    }
+
     // The unbound variable v meets the term at q, which is a top: recovery, then the family, then whether the variable occurs.
     pub fn unify_variable(
         self,
         tokens: &Tokens,
-        tables: &mut [u32],
+        table: &mut [u32],
         work: &mut [u32],
         v: u32,
         q: usize,
         count: usize,
     ) -> Checked
-        requires faces { (s : Session) × (t : Term) × Facing self tokens.now.kinds.now tokens.now.vals.now tables.old s v q t }
-        requires room { Scratch self tokens.now.kinds.now tables.old work.old }
-        ensures after { (s : Session) (t a b : Term) (ps : List Pair)
-            → Facing self tokens.now.kinds.now tokens.now.vals.now tables.old s v q t
-            → Waiting self tokens.now.kinds.now tokens.now.vals.now tables.old count ps
-            → After self tokens.now.kinds.now tokens.now.vals.now tables.old tables.new s a b count (solving.bind s.solver v t ps) result }
+        requires faces { (s : Session) × (t : Term) × Facing self tokens.now.kinds.now tokens.now.vals.now table.old s v q t }
+        requires room { (self.variables + self.variables ≤ length work.old) × Zero work.old }
+        ensures after { (s : Session) (t a b : Term) (ps : List Pair) (st : List ℕ)
+            → Facing self tokens.now.kinds.now tokens.now.vals.now table.old s v q t
+            → Waiting tokens.now.kinds.now tokens.now.vals.now st count ps
+            → After self tokens.now.kinds.now tokens.now.vals.now table.old table.new st st s a b count (solving.bind s.solver v t ps) result }
         ensures clear { Zero work.new }
     {
         let m = self.variables;
         // Both are lent from one borrow: the borrow checker does not cover a slice that is lent whole where a part of it is lent.
-        let lent = &tables[..];
+        let lent = &table[..];
         let bindings = Bindings {
             tokens: *tokens,
             bound: &lent[..m],
             most: self.revision,
         };
         if recovers(&bindings, q, work) {
-            return Checked {
-                solver: self,
-                good: true,
-                count,
-            };
+            return self.checked(true, count);
         }
-        if !admissible(tokens, lent, m, v, q) {
-            return Checked {
-                solver: self,
-                good: false,
-                count,
-            };
+        if !admissible(tokens, lent, m, v, q) || occurs(&bindings, q, v, work) {
+            return self.checked(false, count);
         }
-        if occurs(&bindings, q, v, work) {
-            return Checked {
-                solver: self,
-                good: false,
-                count,
-            };
-        }
-        let next = self.bind(tokens, tables, v, q);
-        Checked {
-            solver: next,
-            good: true,
-            count,
-        }
+        self.bind(tokens, table, v, q).checked(true, count)
     }
 
     // The nodes at a and b: recovery, then projections, then the shapes.
     pub fn decompose(
         self,
         tokens: &Tokens,
-        tables: &mut [u32],
+        pending: &mut [u32],
         a: usize,
         b: usize,
         access: Access,
         count: usize,
     ) -> Checked
         requires nodes { (t u : Term) × Nodes self tokens.now.kinds.now tokens.now.vals.now a b count t u }
-        requires room { (pending_from self + 2 * (32 + self.nodes) ≤ length tables.old) × (length tokens.now.kinds.now < 4294967296)
-            × (length tables.old < 4294967296) }
-        ensures after { (s : Session) (t u : Term) (ps : List Pair)
-            → Represents self tokens.now.kinds.now tokens.now.vals.now tables.old s
+        requires room { (2 * (32 + self.nodes) ≤ length pending.old) × (length tokens.now.kinds.now < 4294967296) }
+        ensures after { (s : Session) (t u : Term) (ps : List Pair) (ts : List ℕ)
+            → Represents self tokens.now.kinds.now tokens.now.vals.now ts s
             → Nodes self tokens.now.kinds.now tokens.now.vals.now a b count t u
-            → Waiting self tokens.now.kinds.now tokens.now.vals.now tables.old count ps
-            → After self tokens.now.kinds.now tokens.now.vals.now tables.old tables.new s t u count
+            → Waiting tokens.now.kinds.now tokens.now.vals.now pending.old count ps
+            → After self tokens.now.kinds.now tokens.now.vals.now ts ts pending.old pending.new s t u count
             (decompose s.solver t u ps (recovery t || recovery u) (projects t) (same_shape (notion (strict_of access)) t u)) result }
     {
         if either_recovers(tokens.kinds[a], tokens.kinds[b]) {
-            return Checked {
-                solver: self,
-                good: true,
-                count,
-            };
+            return self.checked(true, count);
         }
-        if tokens.kinds[a] == 20 {
-            return Checked {
-                solver: self,
-                good: false,
-                count,
-            };
+        if tokens.kinds[a] == 20 || !same_shape(tokens, a, b, access) {
+            return self.checked(false, count);
         }
-        if !same_shape(tokens, a, b, access) {
-            return Checked {
-                solver: self,
-                good: false,
-                count,
-            };
-        }
-        let base = 7 * self.variables;
-        let top = push_children(tokens, a, b, tables, base, count);
-        Checked {
-            solver: self,
-            good: true,
-            count: top,
-        }
+        let top = push_children(tokens, a, b, pending, count);
+        self.checked(true, top)
     }
 
-    // One check: the pair at i and j, with `count` pairs pending below it.
+    // One check: a pair, with `count` pairs pending below it.
     pub fn check_pair(
         self,
         tokens: &Tokens,
-        tables: &mut [u32],
+        table: &mut [u32],
+        pending: &mut [u32],
         work: &mut [u32],
-        i: usize,
-        j: usize,
+        pair: PairAt,
         access: Access,
         count: usize,
     ) -> Checked
-        requires due { (s : Session) × (t u : Term) × Due self tokens.now.kinds.now tokens.now.vals.now tables.old s i j count t u }
-        requires room { Scratch self tokens.now.kinds.now tables.old work.old }
+        requires due { (s : Session) × (t u : Term) × Due self tokens.now.kinds.now tokens.now.vals.now table.old s pair.left pair.right count t u }
+        requires room { CheckRoom self tokens.now.kinds.now pending.old work.old }
         ensures after { (s : Session) (t u : Term) (ps : List Pair)
-            → Due self tokens.now.kinds.now tokens.now.vals.now tables.old s i j count t u
-            → Waiting self tokens.now.kinds.now tokens.now.vals.now tables.old count ps
-            → After self tokens.now.kinds.now tokens.now.vals.now tables.old tables.new s (solving.top s.solver t)
+            → Due self tokens.now.kinds.now tokens.now.vals.now table.old s pair.left pair.right count t u
+            → Waiting tokens.now.kinds.now tokens.now.vals.now pending.old count ps
+            → After self tokens.now.kinds.now tokens.now.vals.now table.old table.new pending.old pending.new s (solving.top s.solver t)
             (solving.top s.solver u) count (solving.check_pair (notion (strict_of access)) s.solver t u ps) result }
         ensures clear { Zero work.new }
     {
         let bindings = Bindings {
             tokens: *tokens,
-            bound: &tables[..self.variables],
+            bound: &table[..self.variables],
             most: self.revision,
         };
-        if same_terms(&bindings, i, j, work) {
-            return Checked {
-                solver: self,
-                good: true,
-                count,
-            };
+        if same_terms(&bindings, pair.left, pair.right, work) {
+            return self.checked(true, count);
         }
-        let a = shallow_resolve(tokens, bindings.bound, bindings.most, i);
-        let b = shallow_resolve(tokens, bindings.bound, bindings.most, j);
+        let a = shallow_resolve(tokens, bindings.bound, bindings.most, pair.left);
+        let b = shallow_resolve(tokens, bindings.bound, bindings.most, pair.right);
         if tokens.kinds[a] == 1 {
-            return self.unify_variable(tokens, tables, work, tokens.vals[a], b, count);
+            return self.unify_variable(tokens, table, work, tokens.vals[a], b, count);
         }
         if tokens.kinds[b] == 1 {
-            return self.unify_variable(tokens, tables, work, tokens.vals[b], a, count);
+            return self.unify_variable(tokens, table, work, tokens.vals[b], a, count);
         }
-        self.decompose(tokens, tables, a, b, access, count)
+        self.decompose(tokens, pending, a, b, access, count)
     }
 
     // The loop: the terms at p and q are constrained to be equal, with k checks.
@@ -200,14 +166,14 @@ impl Solver {
             (solving.constrain (notion (strict_of access)) k s.solver t u) result }
         ensures clear { Zero work.new }
     {
-        let base = 7 * self.variables;
-        let mut count = put_pair(tables, base, 0, p, q);
+        let (table, pending) = tables.split_at_mut(7 * self.variables);
+        let mut count = put_pair(pending, 0, p, q);
         let mut left = k;
         let mut verdict = Verdict::Compatible;
         // It goes on until nothing is pending, and a step may add to that.
         while 0 < count {
             if left == 0 {
-                clear_pairs(tables, base, count);
+                clear_pairs(pending, count);
                 return Solved {
                     solver: self,
                     verdict: Verdict::Cancelled,
@@ -215,14 +181,11 @@ impl Solver {
             }
             left -= 1;
             count -= 1;
-            let pair = take_pair(tables, base, count);
-            let i = pair.left;
-            let j = pair.right;
-            let r = self.check_pair(tokens, tables, work, i, j, access, count);
+            let pair = take_pair(pending, count);
+            let r = self.check_pair(tokens, table, pending, work, pair, access, count);
             self = r.solver;
             count = r.count;
-            let good = r.good;
-            if !good {
+            if !r.good {
                 verdict = Verdict::Incompatible;
             }
         }

@@ -1,6 +1,6 @@
 // The pending pairs of `constrain`: whether two nodes have the same shape, and their children put on in pairs. Pair j stands in the words
-// base + 2j and base + 2j + 1 of a table. Table, base and count are lent side by side: `store.rt` of terms says why no struct holds a `&mut`
-// that is lent on, and no clause ties `base` and `count` alone. Kinds are numbers: a kind is a word of the format.
+// 2j and 2j + 1. The words and the count are lent side by side: `store.rt` of terms says why no struct holds a `&mut` that is lent on.
+// Kinds are numbers: a kind is a word of the format.
 ghost use Rattle.std.specs.Prelude.{Some, unwrap_or, ◌≡◌, [], ◌∷◌, not, ◌&&◌, ◌||◌, ℕ, ◌+◌, ◌*◌, ◌^◌, ◌≤◌, ◌<◌, eqb, length, get_or};
 ghost use Rattle.terms.specs.Term.{Parts, node, Held};
 ghost use Rattle.terms.specs.Words.Held.{HeldParts};
@@ -19,10 +19,10 @@ pub fn part_end(tokens: &Tokens, i: usize, end: usize) -> usize
     i + skip(tokens, i, end - i)
 }
 
-// Whether the parts at i and j agree, but for the terms that they are.
-pub fn parts_agree(tokens: &Tokens, i: usize, j: usize, free: bool) -> bool
+// Whether the parts at i and j agree, but for the terms that they are, and for the access where it is ignored.
+pub fn parts_agree(tokens: &Tokens, i: usize, j: usize, access: Access) -> bool
     requires { (i < length tokens.now.kinds.now) × (j < length tokens.now.kinds.now) }
-    ensures { result ≡ agree free (get_or tokens.now.kinds.now i 0) (get_or tokens.now.vals.now i 0)
+    ensures { result ≡ agree (not (strict_of access)) (get_or tokens.now.kinds.now i 0) (get_or tokens.now.vals.now i 0)
         (get_or tokens.now.kinds.now j 0) (get_or tokens.now.vals.now j 0) }
 {
     if tokens.kinds[i] != 0 {
@@ -31,19 +31,19 @@ pub fn parts_agree(tokens: &Tokens, i: usize, j: usize, free: bool) -> bool
     if tokens.kinds[j] != 0 {
         return false;
     }
-    if free {
-        return true;
+    match access {
+        Access::Ignored => true,
+        Access::Compared => tokens.vals[i] == tokens.vals[j],
     }
-    tokens.vals[i] == tokens.vals[j]
 }
 
-// Whether the access of a head does not count: that of a Map or a Set, unless every access counts.
-pub fn access_free(kind: u32, access: Access) -> bool
-    ensures { result ≡ (not (strict_of access) && (eqb kind 12 || eqb kind 13)) }
+// What counts of a head: that of a Map or a Set is an access, that of another counts in any case.
+pub fn access_of(kind: u32, access: Access) -> Access
+    ensures { not (strict_of result) ≡ (not (strict_of access) && (eqb kind 12 || eqb kind 13)) }
 {
-    match access {
-        Access::Ignored => matches!(kind, 12 | 13),
-        Access::Compared => false,
+    match kind {
+        12 | 13 => access,
+        _ => Access::Compared,
     }
 }
 
@@ -62,18 +62,18 @@ pub fn same_shape(tokens: &Tokens, a: usize, b: usize, access: Access) -> bool
     let be = part_end(tokens, b, tokens.kinds.len());
     let mut i = a + 1;
     let mut j = b + 1;
-    let mut free = access_free(tokens.kinds[a], access);
+    let mut counts = access_of(tokens.kinds[a], access);
     // Both rows go on by the width of their own parts. `zip` of two walks would end with the shorter row and not say whether the other is over.
     while i < ae {
         if be <= j {
             return false;
         }
-        if !parts_agree(tokens, i, j, free) {
+        if !parts_agree(tokens, i, j, counts) {
             return false;
         }
         i = part_end(tokens, i, ae);
         j = part_end(tokens, j, be);
-        free = false;
+        counts = Access::Compared;
     }
     be <= j
 }
@@ -109,42 +109,41 @@ pub fn second_number(tokens: &Tokens, a: usize) -> Option<usize>
 }
 
 // Puts a pair on top of the pending ones, and returns how many there are then.
-pub fn put_pair(tables: &mut [u32], base: usize, top: usize, i: usize, j: usize) -> usize
-    requires room { base + 2 * (top + 1) ≤ length tables.old }
+pub fn put_pair(pending: &mut [u32], top: usize, i: usize, j: usize) -> usize
+    requires room { 2 * (top + 1) ≤ length pending.old }
     requires small { (i < 2 ^ 32) × (j < 2 ^ 32) }
-    ensures { Laid (i ∷ []) (j ∷ []) base top tables.old tables.new result }
+    ensures { Laid (i ∷ []) (j ∷ []) top pending.old pending.new result }
 {
-    let w = base + top + top;
-    tables[w] = i as u32;
-    tables[w + 1] = j as u32;
+    let w = top + top;
+    pending[w] = i as u32;
+    pending[w + 1] = j as u32;
     top + 1
 }
 
 // Takes pair m off, and sets its words to 0.
-pub fn take_pair(tables: &mut [u32], base: usize, m: usize) -> PairAt
-    requires { base + 2 * (m + 1) ≤ length tables.old }
-    ensures { Taken base m tables.old tables.new result.left result.right }
+pub fn take_pair(pending: &mut [u32], m: usize) -> PairAt
+    requires { 2 * (m + 1) ≤ length pending.old }
+    ensures { Taken m pending.old pending.new result.left result.right }
 {
-    let w = base + m + m;
-    let left = tables[w] as usize;
-    let right = tables[w + 1] as usize;
-    tables[w] = 0;
-    tables[w + 1] = 0;
+    let w = m + m;
+    let left = pending[w] as usize;
+    let right = pending[w + 1] as usize;
+    pending[w] = 0;
+    pending[w + 1] = 0;
     PairAt { left, right }
 }
 
 // Sets the words of the pending pairs to 0.
-pub fn clear_pairs(tables: &mut [u32], base: usize, count: usize)
-    requires { base + 2 * count ≤ length tables.old }
-    ensures { Wiped base count tables.old tables.new }
+pub fn clear_pairs(pending: &mut [u32], count: usize)
+    requires { 2 * count ≤ length pending.old }
+    ensures { Wiped count pending.old pending.new }
 {
-    tables[base..base + 2 * count].fill(0);
+    pending[..2 * count].fill(0);
 }
 
 // Puts the parts at i and j on as a pair, if they are terms and their index is from lo up to hi.
 pub fn push_part(
-    tables: &mut [u32],
-    base: usize,
+    pending: &mut [u32],
     from: Counted,
     kind: u32,
     i: usize,
@@ -152,33 +151,22 @@ pub fn push_part(
     lo: usize,
     hi: usize,
 ) -> Counted
-    requires room { base + 2 * (from.top + length (window lo hi from.child (here kind i))) ≤ length tables.old }
+    requires room { 2 * (from.top + length (window lo hi from.child (here kind i))) ≤ length pending.old }
     requires small { (from.child < 2 ^ 32) × (i < 2 ^ 32) × (j < 2 ^ 32) }
     ensures child { result.child ≡ from.child + length (here kind i) }
-    ensures laid { Laid (window lo hi from.child (here kind i)) (window lo hi from.child (here kind j)) base from.top tables.old tables.new
+    ensures laid { Laid (window lo hi from.child (here kind i)) (window lo hi from.child (here kind j)) from.top pending.old pending.new
         result.top }
 {
-    let child = from.child;
-    let top = from.top;
     if kind == 0 {
-        return Counted { child, top };
+        return from;
     }
-    if child < lo {
-        return Counted {
-            child: child + 1,
-            top,
-        };
+    let mut top = from.top;
+    if lo <= from.child && from.child < hi {
+        top = put_pair(pending, top, i, j);
     }
-    if hi <= child {
-        return Counted {
-            child: child + 1,
-            top,
-        };
-    }
-    let next = put_pair(tables, base, top, i, j);
     Counted {
-        child: child + 1,
-        top: next,
+        child: from.child + 1,
+        top,
     }
 }
 
@@ -189,17 +177,16 @@ pub fn push_range(
     b: usize,
     lo: usize,
     hi: usize,
-    tables: &mut [u32],
-    base: usize,
+    pending: &mut [u32],
     count: usize,
 ) -> usize
     requires areas { (a < length tokens.now.kinds.now) × (b < length tokens.now.kinds.now) × (length tokens.now.kinds.now < 2 ^ 32) }
     requires room { (w : Twins tokens.now.kinds.now tokens.now.vals.now a b)
-        × (base + 2 * (count + length (window lo hi 0 (places (a + 1) w.left))) ≤ length tables.old) }
+        × (2 * (count + length (window lo hi 0 (places (a + 1) w.left))) ≤ length pending.old) }
     ensures { (k j : ℕ) (ps qs : Parts)
         → Held tokens.now.kinds.now tokens.now.vals.now a (node k ps)
         → Held tokens.now.kinds.now tokens.now.vals.now b (node j qs)
-        → Laid (window lo hi 0 (places (a + 1) ps)) (window lo hi 0 (places (b + 1) qs)) base count tables.old tables.new result }
+        → Laid (window lo hi 0 (places (a + 1) ps)) (window lo hi 0 (places (b + 1) qs)) count pending.old pending.new result }
 {
     let ae = part_end(tokens, a, tokens.kinds.len());
     let be = part_end(tokens, b, tokens.kinds.len());
@@ -211,7 +198,7 @@ pub fn push_range(
     };
     // Both rows go on by the width of their own parts. Two `RowWalk`s in a `zip` would each need a `Seen`, tokens with an origin, which these are not.
     while i < ae {
-        c = push_part(tables, base, c, tokens.kinds[i], i, j, lo, hi);
+        c = push_part(pending, c, tokens.kinds[i], i, j, lo, hi);
         i = part_end(tokens, i, ae);
         j = part_end(tokens, j, be);
     }
@@ -224,26 +211,24 @@ pub fn push_children(
     tokens: &Tokens,
     a: usize,
     b: usize,
-    tables: &mut [u32],
-    base: usize,
+    pending: &mut [u32],
     count: usize,
 ) -> usize
     requires areas { (a < length tokens.now.kinds.now) × (b < length tokens.now.kinds.now) × (length tokens.now.kinds.now < 2 ^ 32) }
     requires room { (w : Twins tokens.now.kinds.now tokens.now.vals.now a b)
-        × (base + 2 * (count + length (children (node w.tag w.left))) ≤ length tables.old) }
+        × (2 * (count + length (children (node w.tag w.left))) ≤ length pending.old) }
     ensures { (k j : ℕ) (ps qs : Parts)
         → Held tokens.now.kinds.now tokens.now.vals.now a (node k ps)
         → Held tokens.now.kinds.now tokens.now.vals.now b (node j qs)
-        → PushedPairs tokens.now.kinds.now tokens.now.vals.now a b (node k ps) (node j qs) base count tables.old tables.new result }
+        → PushedPairs tokens.now.kinds.now tokens.now.vals.now a b (node k ps) (node j qs) count pending.old pending.new result }
 {
     let all = tokens.kinds.len();
-    if tokens.kinds[a] < 14 {
-        return push_range(tokens, a, b, 0, all, tables, base, count);
+    match tokens.kinds[a] {
+        14..=17 => {
+            let n = second_number(tokens, a).unwrap_or(0);
+            let top = push_range(tokens, a, b, n, all, pending, count);
+            push_range(tokens, a, b, 0, n, pending, top)
+        }
+        _ => push_range(tokens, a, b, 0, all, pending, count),
     }
-    if 17 < tokens.kinds[a] {
-        return push_range(tokens, a, b, 0, all, tables, base, count);
-    }
-    let n = second_number(tokens, a).unwrap_or(0);
-    let top = push_range(tokens, a, b, n, all, tables, base, count);
-    push_range(tokens, a, b, 0, n, tables, base, top)
 }

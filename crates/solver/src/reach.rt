@@ -1,9 +1,8 @@
 // Whether a term has, bound variables replaced, a variable, or an Unknown or Error: one worklist over variables, so that the run of each
-// bound variable is scanned once. One area of words is the scratch: its first n words, n being the number of variables in the table, are the
-// marks, the words from n on the queue. A variable's mark is 1 once it stands in the queue. The scratch, n and the length of the queue are lent side by side: a struct with `Work` for its
-// invariant was tried, and the check asks for the invariant between the two writes of `push`, where the queue has no entry yet; without
-// one each clause would name `Work` as now, of three fields. Kinds are numbers: a kind is a word of the format.
-ghost use Rattle.std.specs.Prelude.{◌≡◌, true, ◌||◌, ℕ, suc, ◌+◌, ◌^◌, ◌≤◌, ◌<◌, length, take, drop};
+// bound variable is scanned once. The scratch is cut in two: a mark for each variable of the table, and the queue of the marked ones. Marks, queue
+// and the queue's length are lent side by side: a struct with `Work` for its invariant was tried, and the check asks for the invariant between
+// the two writes of `push`, where the queue has no entry yet. Kinds are numbers: a kind is a word of the format.
+ghost use Rattle.std.specs.Prelude.{◌≡◌, true, ℕ, suc, ◌+◌, ◌^◌, ◌≤◌, ◌<◌, length};
 ghost use Rattle.std.proofs.Math.Option.{Option, none};
 ghost use Rattle.terms.specs.Words.Tokens.{toks};
 ghost use Rattle.terms.specs.Term.{Term};
@@ -25,37 +24,30 @@ pub enum Wanted {
     Variable(u32),
 }
 
-// Whether a token is what is asked for, or one before it was.
-#[tactic(auto, unfolding(crate::specs::Words::ReachContract::counts))]
-pub fn seen(kind: u32, val: u32, want: Wanted, before: bool) -> bool
-    ensures { result ≡ (before || counts (question_of want) kind val) }
-{
-    before
-        || match want {
+impl Wanted {
+    // Whether a token is what is asked for.
+    #[tactic(auto, unfolding(crate::specs::Words::ReachContract::counts))]
+    pub fn is_met(self, kind: u32, val: u32) -> bool
+        ensures { result ≡ counts (question_of self) kind val }
+    {
+        match self {
             Wanted::Recovery => matches!(kind, 4 | 5),
             Wanted::Variable(v) => kind == 1 && v == val,
         }
+    }
 }
 
 // Marks the variable of a token and puts it into the queue, if the token is one, the table has it, and it was not marked.
-pub fn push(work: &mut [u32], n: usize, top: &mut usize, kind: u32, val: u32)
-    requires { Work (take n work.old) (drop n work.old) top.old × (n + n ≤ length work.old) }
-    ensures { Grown (λ (u : ℕ). counts (suc u) kind val ≡ true) (take n work.old) (drop n work.old) top.old (take n work.new)
-        (drop n work.new) top.new }
+pub fn push(marks: &mut [u32], queue: &mut [u32], top: &mut usize, kind: u32, val: u32)
+    requires { Work marks.old queue.old top.old × (length marks.old ≤ length queue.old) }
+    ensures { Grown (λ (u : ℕ). counts (suc u) kind val ≡ true) marks.old queue.old top.old marks.new queue.new top.new }
 {
-    if kind != 1 {
-        return;
-    }
     let at = val as usize;
-    if n <= at {
-        return;
+    if kind == 1 && at < marks.len() && marks[at] == 0 {
+        marks[at] = 1;
+        queue[*top] = val;
+        *top += 1;
     }
-    if work[at] != 0 {
-        return;
-    }
-    work[at] = 1;
-    work[n + *top] = val;
-    *top += 1;
 }
 
 // Looks at the tokens of a run for what is asked for, and marks its variables.
@@ -63,35 +55,35 @@ pub fn scan(
     tokens: &Tokens,
     run: Run,
     want: Wanted,
-    work: &mut [u32],
-    n: usize,
+    marks: &mut [u32],
+    queue: &mut [u32],
     top: &mut usize,
 ) -> bool
     requires areas { run.at + run.len ≤ length tokens.now.kinds.now }
-    requires work { Work (take n work.old) (drop n work.old) top.old × (n + n ≤ length work.old) }
+    requires work { Work marks.old queue.old top.old × (length marks.old ≤ length queue.old) }
     ensures hit { result ≡ has (question_of want) (toks tokens.now.kinds.now tokens.now.vals.now run.at run.len) }
-    ensures grown { Grown (λ (u : ℕ). has (suc u) (toks tokens.now.kinds.now tokens.now.vals.now run.at run.len) ≡ true) (take n work.old)
-        (drop n work.old) top.old (take n work.new) (drop n work.new) top.new }
+    ensures grown { Grown (λ (u : ℕ). has (suc u) (toks tokens.now.kinds.now tokens.now.vals.now run.at run.len) ≡ true)
+        marks.old queue.old top.old marks.new queue.new top.new }
 {
     let mut hit = false;
     for i in 0..run.len {
         let k = tokens.kinds[run.at + i];
         let v = tokens.vals[run.at + i];
-        hit = seen(k, v, want, hit);
-        push(work, n, top, k, v);
+        hit |= want.is_met(k, v);
+        push(marks, queue, top, k, v);
     }
     hit
 }
 
 // Sets the words of the places that stand in the queue, and the queue, back to 0.
-pub fn clear_queue(work: &mut [u32], n: usize, top: usize)
-    requires { (n ≤ length work.old) × Clearing (take n work.old) (drop n work.old) top }
-    ensures { Zero work.new }
+pub fn clear_queue(marks: &mut [u32], queue: &mut [u32], top: usize)
+    requires { Clearing marks.old queue.old top }
+    ensures { Zero marks.new × Zero queue.new }
 {
     for k in (0..top).rev() {
-        let x = work[n + k] as usize;
-        work[x] = 0;
-        work[n + k] = 0;
+        let x = queue[k] as usize;
+        marks[x] = 0;
+        queue[k] = 0;
     }
 }
 
@@ -111,25 +103,19 @@ pub fn reaches(bindings: &Bindings, p: usize, want: Wanted, work: &mut [u32]) ->
     ensures clear { Zero work.new }
 {
     let tokens = &bindings.tokens;
-    let n = bindings.bound.len();
+    let (marks, queue) = work.split_at_mut(bindings.bound.len());
     let mut top = 0;
-    let mut hit = scan(
-        tokens,
-        named_run(tokens, p + 1).unwrap_or_default(),
-        want,
-        work,
-        n,
-        &mut top,
-    );
+    let run = named_run(tokens, p + 1).unwrap_or_default();
+    let mut hit = scan(tokens, run, want, marks, queue, &mut top);
     let mut done = 0;
     // It goes on until nothing is pending, and a step may add to that.
     while !hit && done < top {
-        let w = work[n + done] as usize;
+        let w = queue[done] as usize;
         let next = named_run(tokens, bindings.bound[w] as usize).unwrap_or_default();
-        hit = scan(tokens, next, want, work, n, &mut top);
+        hit = scan(tokens, next, want, marks, queue, &mut top);
         done += 1;
     }
-    clear_queue(work, n, top);
+    clear_queue(marks, queue, top);
     hit
 }
 

@@ -4,7 +4,7 @@
 --   LinkLaws         one join: the links and the queue, and what its outcomes tell
 --   UnionRowLaws     the joins of two rows
 --   CloseLaws        the joins followed to the end
---   EqualLaws        links and queue in one area, and the answer of `same_terms`
+--   EqualLaws        nothing linked yet, the entry that is taken, one class from two, and the answer of `same_terms`
 pub mod Pigeonhole
 pub mod ClassesCoincide
 pub mod LinkLaws

@@ -1,6 +1,6 @@
 -- Classes of token places, as `same_terms` keeps them: a word for each place, 0 where the place heads its class, and else y + 1 for a lower
 -- place y of the same class; and a queue of the places that have been linked below another, in the order in which that happened.
-use Rattle.std.specs.Prelude.{Bool, true, List, ◌≡◌, ℕ, ◌+◌, ◌≤◌, ◌<◌, length, get_or, take, drop}
+use Rattle.std.specs.Prelude.{Bool, true, List, ◌≡◌, ℕ, ◌+◌, ◌≤◌, ◌<◌, length, get_or}
 use Rattle.std.proofs.Math.Option.{Option}
 use Rattle.terms.specs.Term.{Term, Parts, var, node, end, num, sub, Held}
 use Rattle.solver.specs.declared.Bindings.{Bindings}
@@ -10,13 +10,6 @@ use Rattle.solver.specs.Words.ReachContract.{Steady, Topped}
 use Rattle.solver.specs.Words.SessionRepresentation.{begins}
 
 -- ---- the words, whatever the tokens are
-
--- the links and the queue lie in one area
-abbrev pub link_words : List ℕ → List ℕ → List ℕ
-link_words ks work = take (length ks) work
-
-abbrev pub queue_words : List ℕ → List ℕ → List ℕ
-queue_words ks work = drop (length ks) work
 
 pub record Wired (ks par queue : List ℕ) (top : ℕ) : Type 0 where
   pub size : length par ≡ length ks
@@ -41,13 +34,6 @@ pub record Advanced (ks par queue : List ℕ) (top : ℕ) (par' queue' : List �
   pub keeps : Keeps par par'
   pub more : top ≤ top'
   pub front : (i : ℕ) → i < top → get_or queue' i 0 ≡ get_or queue i 0
-
--- the same of the one area
-abbrev pub WiredIn : List ℕ → List ℕ → ℕ → Type 0
-WiredIn ks work top = Wired ks (link_words ks work) (queue_words ks work) top
-
-abbrev pub AdvancedIn : List ℕ → List ℕ → ℕ → List ℕ → ℕ → Type 0
-AdvancedIn ks work top work' top' = Advanced ks (link_words ks work) (queue_words ks work) top (link_words ks work') (queue_words ks work') top'
 
 -- while words are cleared: the places whose words are not 0 are listed before k
 pub record Clearing (par queue : List ℕ) (k : ℕ) : Type 0 where
@@ -123,22 +109,22 @@ pub record Outcome (ks vs : List ℕ) (σ : ℕ → Term) (par par' : List ℕ) 
   pub yes : equal ≡ true → J
   pub honest : Honest ks vs σ par → E → (equal ≡ true) × Honest ks vs σ par'
 
--- what a join tells by the lent bindings, which are b, the links being in an area that was `work`: of two terms, and of two rows
-abbrev pub TermsJoined : (x : Bindings) (b : ℕ → Option Term) (work work' : List ℕ) (equal : Bool) (t u : Term) → Type 0
-TermsJoined x b work work' equal t u =
+-- what a join tells by the lent bindings, which are b, from the links par to par': of two terms, and of two rows
+abbrev pub TermsJoined : (x : Bindings) (b : ℕ → Option Term) (par par' : List ℕ) (equal : Bool) (t u : Term) → Type 0
+TermsJoined x b par par' equal t u =
     let ks = x.tokens.kinds.now in
     let vs = x.tokens.vals.now in
-    Fair ks vs (link_words ks work)
-    → Outcome ks vs (stands_for x.most b) (link_words ks work) (link_words ks work') equal (Linked ks vs (follow x.most b) (link_words ks work') t u)
+    Fair ks vs par
+    → Outcome ks vs (stands_for x.most b) par par' equal (Linked ks vs (follow x.most b) par' t u)
     (Coincide (stands_for x.most b) t u)
 
-abbrev pub RowsJoined : (x : Bindings) (b : ℕ → Option Term) (work work' : List ℕ) (equal : Bool) (ps qs : Parts) → Type 0
-RowsJoined x b work work' equal ps qs =
+abbrev pub RowsJoined : (x : Bindings) (b : ℕ → Option Term) (par par' : List ℕ) (equal : Bool) (ps qs : Parts) → Type 0
+RowsJoined x b par par' equal ps qs =
     let ks = x.tokens.kinds.now in
     let vs = x.tokens.vals.now in
-    Fair ks vs (link_words ks work)
-    → Outcome ks vs (stands_for x.most b) (link_words ks work) (link_words ks work') equal
-    (Pairwise (Linked ks vs (follow x.most b) (link_words ks work')) ps qs) (CoincideRow (stands_for x.most b) ps qs)
+    Fair ks vs par
+    → Outcome ks vs (stands_for x.most b) par par' equal
+    (Pairwise (Linked ks vs (follow x.most b) par') ps qs) (CoincideRow (stands_for x.most b) ps qs)
 
 -- the parts of the nodes at x and y have been joined
 pub record Matched (ks vs : List ℕ) (τ : Term → Term) (par : List ℕ) (x y : ℕ) : Type 0 where

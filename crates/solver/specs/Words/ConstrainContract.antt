@@ -29,10 +29,10 @@ AllWithin N (p ∷ ps) = Within N p.0 × Within N p.1 × AllWithin N ps
 abbrev pub pending_from : Solver → ℕ
 pending_from x = 7 * x.variables
 
--- `count` pairs are pending, ps, and no other word after the columns is in use
-pub record Waiting (x : Solver) (ks vs ts : List ℕ) (count : ℕ) (ps : List Pair) : Type 0 where
-  pub pairs : HeldPairs ks vs (drop (pending_from x) ts) count ps
-  pub blank : (i : ℕ) → pending_from x + (count + count) ≤ i → get_or ts i 0 ≡ 0
+-- `count` pairs are pending, ps, and no other word of the pending pairs is in use
+pub record Waiting (ks vs st : List ℕ) (count : ℕ) (ps : List Pair) : Type 0 where
+  pub pairs : HeldPairs ks vs st count ps
+  pub blank : (i : ℕ) → count + count ≤ i → get_or st i 0 ≡ 0
 
 -- a term at a place, its variables issued
 pub record Known (ks vs : List ℕ) (s : Session) (i : ℕ) (t : Term) : Type 0 where
@@ -43,6 +43,13 @@ pub record Known (ks vs : List ℕ) (s : Session) (i : ℕ) (t : Term) : Type 0 
 pub record Scratch (x : Solver) (ks ts work : List ℕ) : Type 0 where
   pub pairs : pending_from x + 2 * (32 + x.nodes) ≤ length ts
   pub short : length ts < 4294967296
+  pub links : length ks + (32 + x.nodes) ≤ length work
+  pub marks : x.variables + x.variables ≤ length work
+  pub clear : Zero work
+
+-- the same room for a check, the pending pairs being st
+pub record CheckRoom (x : Solver) (ks st work : List ℕ) : Type 0 where
+  pub pairs : 2 * (32 + x.nodes) ≤ length st
   pub links : length ks + (32 + x.nodes) ≤ length work
   pub marks : x.variables + x.variables ≤ length work
   pub clear : Zero work
@@ -77,30 +84,29 @@ pub record Due (x : Solver) (ks vs ts : List ℕ) (s : Session) (i j count : ℕ
   pub room : (k : ℕ) (row : Parts) → top s.solver t ≡ node k row → count + length (subs row) ≤ 32 + x.nodes
 
 -- what is pending after a check: what was, or the pairs of the children of two nodes as well
-abbrev pub Stays : Solver → (ts₀ ts : List ℕ) (count r : ℕ) → Type 0
-Stays x ts₀ ts count r = (r ≡ count) × (drop (pending_from x) ts ≡ drop (pending_from x) ts₀)
+abbrev pub Stays : (st₀ st : List ℕ) (count r : ℕ) → Type 0
+Stays st₀ st count r = (r ≡ count) × (st ≡ st₀)
 
-pub record Pushes (x : Solver) (ks vs : List ℕ) (t u : Term) (ts₀ ts : List ℕ) (count r : ℕ) : Type 0 where
+pub record Pushes (x : Solver) (ks vs : List ℕ) (t u : Term) (st₀ st : List ℕ) (count r : ℕ) : Type 0 where
   pub left : ℕ
   pub right : ℕ
   pub nodes : Nodes x ks vs left right count t u
-  pub pushed : PushedPairs ks vs left right t u (pending_from x) count ts₀ ts r
+  pub pushed : PushedPairs ks vs left right t u count st₀ st r
 
 -- Every change of the columns is counted: the revision does not fall, and where it is the same the columns have the words that they had.
 pub record ChangesCounted (x y : Solver) (ts₀ ts : List ℕ) : Type 0 where
   pub rises : x.revision ≤ y.revision
   pub quiet : y.revision ≡ x.revision → take (pending_from x) ts ≡ take (pending_from x) ts₀
 
--- What a check leaves, where the definition leaves w: the solver, whether the pair is compatible so far, the pending pairs. t and u are the
--- nodes whose children were pushed, if any were.
-pub record After (x : Solver) (ks vs ts₀ ts : List ℕ) (s : Session) (t u : Term) (count : ℕ) (w : solving.Check) (r : Checked) : Type 0 where
+-- What a check leaves, where the definition leaves w: the solver, whether the pair is compatible so far, the pending pairs, in the words st.
+-- t and u are the nodes whose children were pushed, if any were.
+pub record After (x : Solver) (ks vs ts₀ ts st₀ st : List ℕ) (s : Session) (t u : Term) (count : ℕ) (w : solving.Check) (r : Checked) : Type 0 where
   pub represents : Represents r.solver ks vs ts (with_solver s w.state)
   pub good : r.good ≡ w.good
-  pub waiting : Waiting x ks vs ts r.count w.todo
-  pub stack : Stays x ts₀ ts count r.count ⊎ Pushes x ks vs t u ts₀ ts count r.count
+  pub waiting : Waiting ks vs st r.count w.todo
+  pub stack : Stays st₀ st count r.count ⊎ Pushes x ks vs t u st₀ st count r.count
   pub variables : r.solver.variables ≡ x.variables
   pub nodes : r.solver.nodes ≡ x.nodes
-  pub size : length ts ≡ length ts₀
   pub counted : ChangesCounted x r.solver ts₀ ts
 
 -- What `solve_pair` leaves, where the definition ends with `goal`: the session with the definition's solver, its verdict, and no pair pending.

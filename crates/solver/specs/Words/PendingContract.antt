@@ -1,6 +1,6 @@
 -- The pending pairs of `constrain` as words: two places a pair, the last pair to be taken first; the places of a node's children, in the
 -- order in which they are pushed; and two rows walked in step.
-use Rattle.std.specs.Prelude.{Bool, true, false, not, ◌&&◌, ◌||◌, List, [], ◌∷◌, ◌++◌, ◌≡◌, ℕ, zero, suc, ◌+◌, ◌≤◌, ◌<◌, eqb, leb, ltb, length, get_or, drop}
+use Rattle.std.specs.Prelude.{Bool, true, false, not, ◌&&◌, ◌||◌, List, [], ◌∷◌, ◌++◌, ◌≡◌, ℕ, zero, suc, ◌+◌, ◌≤◌, ◌<◌, eqb, leb, ltb, length, get_or}
 use Rattle.terms.specs.Result.{pick}
 use Rattle.terms.specs.Term.{Term, Parts, node, end, num, sub, items, Held}
 use Rattle.terms.specs.Words.Held.{HeldParts, span}
@@ -24,30 +24,28 @@ HeldPairs ks vs st zero (p ∷ ps) = ⊥
 HeldPairs ks vs st (suc j) [] = ⊥
 HeldPairs ks vs st (suc j) (p ∷ ps) = Held ks vs (get_or st (j + j) 0) p.0 × Held ks vs (get_or st (j + j + 1) 0) p.1 × HeldPairs ks vs st j ps
 
--- the places of ls and of rs were put on, in pairs, on top of the `count` pairs that stand from the word base on; r is the number of
--- pairs after it
-pub record Laid (ls rs : List ℕ) (base count : ℕ) (ts₀ ts : List ℕ) (r : ℕ) : Type 0 where
+-- the places of ls and of rs were put on, in pairs, on top of the `count` pairs of the words st₀; r is the number of pairs after it
+pub record Laid (ls rs : List ℕ) (count : ℕ) (st₀ st : List ℕ) (r : ℕ) : Type 0 where
   pub even : length rs ≡ length ls
   pub size : r ≡ count + length ls
-  pub lefts : (j : ℕ) → j < length ls → get_or ts (base + ((count + j) + (count + j))) 0 ≡ get_or ls j 0
-  pub rights : (j : ℕ) → j < length ls → get_or ts (base + ((count + j) + (count + j) + 1)) 0 ≡ get_or rs j 0
-  pub below : (i : ℕ) → i < base + (count + count) → get_or ts i 0 ≡ get_or ts₀ i 0
-  pub above : (i : ℕ) → base + (r + r) ≤ i → get_or ts i 0 ≡ get_or ts₀ i 0
+  pub lefts : (j : ℕ) → j < length ls → get_or st ((count + j) + (count + j)) 0 ≡ get_or ls j 0
+  pub rights : (j : ℕ) → j < length ls → get_or st ((count + j) + (count + j) + 1) 0 ≡ get_or rs j 0
+  pub below : (i : ℕ) → i < count + count → get_or st i 0 ≡ get_or st₀ i 0
+  pub above : (i : ℕ) → r + r ≤ i → get_or st i 0 ≡ get_or st₀ i 0
 
 -- pair m was taken off, and its words set to 0
-pub record Taken (base m : ℕ) (ts₀ ts : List ℕ) (x y : ℕ) : Type 0 where
-  pub left : x ≡ get_or (drop base ts₀) (m + m) 0
-  pub right : y ≡ get_or (drop base ts₀) (m + m + 1) 0
-  pub first : get_or ts (base + (m + m)) 0 ≡ 0
-  pub second : get_or ts (base + (m + m + 1)) 0 ≡ 0
-  pub below : (i : ℕ) → i < base + (m + m) → get_or ts i 0 ≡ get_or ts₀ i 0
-  pub above : (i : ℕ) → base + (m + m + 2) ≤ i → get_or ts i 0 ≡ get_or ts₀ i 0
+pub record Taken (m : ℕ) (st₀ st : List ℕ) (x y : ℕ) : Type 0 where
+  pub left : x ≡ get_or st₀ (m + m) 0
+  pub right : y ≡ get_or st₀ (m + m + 1) 0
+  pub first : get_or st (m + m) 0 ≡ 0
+  pub second : get_or st (m + m + 1) 0 ≡ 0
+  pub below : (i : ℕ) → i < m + m → get_or st i 0 ≡ get_or st₀ i 0
+  pub above : (i : ℕ) → m + m + 2 ≤ i → get_or st i 0 ≡ get_or st₀ i 0
 
 -- the words of `count` pairs were set to 0
-pub record Wiped (base count : ℕ) (ts₀ ts : List ℕ) : Type 0 where
-  pub inside : (i : ℕ) → i < count + count → get_or ts (base + i) 0 ≡ 0
-  pub below : (i : ℕ) → i < base → get_or ts i 0 ≡ get_or ts₀ i 0
-  pub above : (i : ℕ) → base + (count + count) ≤ i → get_or ts i 0 ≡ get_or ts₀ i 0
+pub record Wiped (count : ℕ) (st₀ st : List ℕ) : Type 0 where
+  pub inside : (i : ℕ) → i < count + count → get_or st i 0 ≡ 0
+  pub above : (i : ℕ) → count + count ≤ i → get_or st i 0 ≡ get_or st₀ i 0
 
 -- ---- the places of children
 
@@ -62,10 +60,10 @@ abbrev pub pushed_places : ℕ → Term → List ℕ
 pushed_places a t = turned (class (tag t)) (get_or (nums (row t)) 1 0) (places (a + 1) (row t))
 
 -- what is pushed for the nodes t at a and u at b: their children in pairs
-pub record PushedPairs (ks vs : List ℕ) (a b : ℕ) (t u : Term) (base count : ℕ) (ts₀ ts : List ℕ) (r : ℕ) : Type 0 where
-  pub laid : Laid (pushed_places a t) (pushed_places b u) base count ts₀ ts r
+pub record PushedPairs (ks vs : List ℕ) (a b : ℕ) (t u : Term) (count : ℕ) (st₀ st : List ℕ) (r : ℕ) : Type 0 where
+  pub laid : Laid (pushed_places a t) (pushed_places b u) count st₀ st r
   pub size : r ≡ count + length (children t)
-  pub pairs : (ps : List Pair) → HeldPairs ks vs (drop base ts₀) count ps → HeldPairs ks vs (drop base ts) r (zip_on (pushed t) (pushed u) ps)
+  pub pairs : (ps : List Pair) → HeldPairs ks vs st₀ count ps → HeldPairs ks vs st r (zip_on (pushed t) (pushed u) ps)
 
 -- two nodes of one shape
 pub record Twins (ks vs : List ℕ) (a b : ℕ) : Type 0 where

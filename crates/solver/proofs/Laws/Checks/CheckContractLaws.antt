@@ -23,7 +23,7 @@ use Rattle.solver.specs.Words.Bindings.{HeldBindings}
 use Rattle.solver.specs.Words.SessionRepresentation.{binding_words, Represents}
 use Rattle.solver.specs.Words.MethodContract.{Beside, is_some, bound_to, at_most}
 use Rattle.solver.specs.Words.PendingContract.{PushedPairs, Twins}
-use Rattle.solver.specs.Words.ConstrainContract.{Within, pending_from, Waiting, Facing, Nodes, Due, After}
+use Rattle.solver.specs.Words.ConstrainContract.{Within, Waiting, Facing, Nodes, Due, After}
 use Rattle.solver.proofs.Laws.Definition.InOrderLaws.{in_order_ordered}
 use Rattle.solver.proofs.Laws.Definition.SolverInvariantLaws.{Ordered, ordered_steady, ordered_topped, ordered_revision, top_within, top_low, top_free}
 use Rattle.solver.proofs.Laws.Definition.CheckStepLaws.{turn_same, turn_left, turn_right, turn_nodes, bind_recovers, bind_refused, bind_occurs, bind_bound, part_recovers, part_projects, part_pushes, part_unlike}
@@ -60,28 +60,28 @@ some_of : (o : Option Requests) → is_some o ≡ true → (rs : Requests) × (o
 some_of none e = absurd (let z : ◌≡◌ {A = ℕ} 0 1 = cc in omega arith)
 some_of (some rs) e = (rs, refl)
 
-module _ {x : Solver} {ks vs ts : List ℕ} {s : Session} {v q : ℕ} {t : Term} (F : Facing x ks vs ts s v q t) {count : ℕ} {ps : List Pair} (W : Waiting x ks vs ts count ps) {a b : Term} where
-  pub assign_recovers : recovers (resolved s.solver t) ≡ true → After x ks vs ts ts s a b count (bind s.solver v t ps) (record { solver = x; good = true; count = count })
-  assign_recovers e = after_passed x ks vs ts s count ps F.represents W a b (bind_recovers s.solver v t ps e)
+module _ {x : Solver} {ks vs ts : List ℕ} {s : Session} {v q : ℕ} {t : Term} (F : Facing x ks vs ts s v q t) {st : List ℕ} {count : ℕ} {ps : List Pair} (W : Waiting ks vs st count ps) {a b : Term} where
+  pub assign_recovers : recovers (resolved s.solver t) ≡ true → After x ks vs ts ts st st s a b count (bind s.solver v t ps) (record { solver = x; good = true; count = count })
+  assign_recovers e = after_passed x ks vs ts st s count ps F.represents W a b (bind_recovers s.solver v t ps e)
 
   pub assign_refused : recovers (resolved s.solver t) ≡ false → is_some (admit s.solver.requests (s.solver.requests v) t) ≡ false
-      → After x ks vs ts ts s a b count (bind s.solver v t ps) (record { solver = x; good = false; count = count })
+      → After x ks vs ts ts st st s a b count (bind s.solver v t ps) (record { solver = x; good = false; count = count })
   assign_refused e f =
-      after_failed x ks vs ts s count ps F.represents W a b (bind_refused s.solver v t ps e (none_of (admit s.solver.requests (s.solver.requests v) t) f))
+      after_failed x ks vs ts st s count ps F.represents W a b (bind_refused s.solver v t ps e (none_of (admit s.solver.requests (s.solver.requests v) t) f))
 
   pub assign_occurs : recovers (resolved s.solver t) ≡ false → occurs v (resolved s.solver t) ≡ true
-      → After x ks vs ts ts s a b count (bind s.solver v t ps) (record { solver = x; good = false; count = count })
-  assign_occurs e f = after_failed x ks vs ts s count ps F.represents W a b (bind_occurs s.solver v t ps e f)
+      → After x ks vs ts ts st st s a b count (bind s.solver v t ps) (record { solver = x; good = false; count = count })
+  assign_occurs e f = after_failed x ks vs ts st s count ps F.represents W a b (bind_occurs s.solver v t ps e f)
 
   pub assign_bound : recovers (resolved s.solver t) ≡ false → is_some (admit s.solver.requests (s.solver.requests v) t) ≡ true → occurs v (resolved s.solver t) ≡ false
       → {y : Solver} {us : List ℕ}
       → ((rs : Requests) → at_most x.variables t → admit s.solver.requests (s.solver.requests v) t ≡ some rs → Represents y ks vs us (with_solver s (bound_to s.solver v t rs)))
-      → Beside x y ts us → After x ks vs ts us s a b count (bind s.solver v t ps) (record { solver = y; good = true; count = count })
+      → Beside x y ts us → After x ks vs ts us st st s a b count (bind s.solver v t ps) (record { solver = y; good = true; count = count })
   assign_bound e f g {y} {us} l d =
       let r = some_of (admit s.solver.requests (s.solver.requests v) t) f in
       let low = within_most (issued s) x.variables F.represents.fits.variables t F.known.within in
-      after_bound x ks vs ts s count ps F.represents W a b (bound_to s.solver v t r.0) (bind_bound s.solver v t ps r.0 e r.1 g) refl y us (l r.0 low r.1)
-      d.variables d.nodes d.size d.rest
+      after_bound x ks vs ts st s count ps F.represents W a b (bound_to s.solver v t r.0) (bind_bound s.solver v t ps r.0 e r.1 g) refl y us (l r.0 low r.1)
+      d.variables d.nodes
 
 -- ---- two nodes
 
@@ -109,8 +109,8 @@ pub kind_projects : (ks vs : List ℕ) (p k : ℕ) (ps : Parts) → Held ks vs p
 unfolding projects head_kind
 kind_projects ks vs p k ps h = ap (λ (i : ℕ). eqb i 20) (held_first ks vs p (node k ps) h).0 ∙ two_more k 18
 
-module _ (n : Notion) {x : Solver} {ks vs ts : List ℕ} {s : Session} {i j count : ℕ} {t u : Term} (L : Represents x ks vs ts s) (N : Nodes x ks vs i j count t u) {ps : List Pair}
-    (W : Waiting x ks vs ts count ps) where
+module _ (n : Notion) {x : Solver} {ks vs ts : List ℕ} {s : Session} {i j count : ℕ} {t u : Term} (L : Represents x ks vs ts s) (N : Nodes x ks vs i j count t u) {st : List ℕ} {ps : List Pair}
+    (W : Waiting ks vs st count ps) where
   abbrev goal : solving.Check
   goal = decompose s.solver t u ps (recovery t || recovery u) (projects t) (same_shape n t u)
 
@@ -126,14 +126,14 @@ module _ (n : Notion) {x : Solver} {ks vs ts : List ℕ} {s : Session} {i j coun
   enters : eqb (get_or ks i 0) 20 ≡ projects t
   enters = kind_projects ks vs i N.tag N.row (subst (λ (y : Term). Held ks vs i y) N.left N.at_left) ∙ ap projects (sym N.left)
 
-  pub apart_recovers : soft ≡ true → After x ks vs ts ts s t u count goal (record { solver = x; good = true; count = count })
+  pub apart_recovers : soft ≡ true → After x ks vs ts ts st st s t u count goal (record { solver = x; good = true; count = count })
   apart_recovers e =
-      after_passed x ks vs ts s count ps L W t u
+      after_passed x ks vs ts st s count ps L W t u
       (ap (λ (b : Bool). decompose s.solver t u ps b (projects t) (same_shape n t u)) (sym heads ∙ e) ∙ part_recovers s.solver t u ps (projects t) (same_shape n t u))
 
-  pub apart_projects : soft ≡ false → eqb (get_or ks i 0) 20 ≡ true → After x ks vs ts ts s t u count goal (record { solver = x; good = false; count = count })
+  pub apart_projects : soft ≡ false → eqb (get_or ks i 0) 20 ≡ true → After x ks vs ts ts st st s t u count goal (record { solver = x; good = false; count = count })
   apart_projects e f =
-      after_failed x ks vs ts s count ps L W t u
+      after_failed x ks vs ts st s count ps L W t u
       (ap (λ (b : Bool). decompose s.solver t u ps b (projects t) (same_shape n t u)) (sym heads ∙ e)
       ∙ ap (λ (b : Bool). decompose s.solver t u ps false b (same_shape n t u)) (sym enters ∙ f) ∙ part_projects s.solver t u ps (same_shape n t u))
 
@@ -151,22 +151,22 @@ module _ (n : Notion) {x : Solver} {ks vs ts : List ℕ} {s : Session} {i j coun
       ap₂ (same_shape n) N.left N.right
       ∙ sym (h N.tag N.other N.row N.behind (subst (λ (y : Term). Held ks vs i y) N.left N.at_left) (subst (λ (y : Term). Held ks vs j y) N.right N.at_right))
 
-  pub apart_unlike : soft ≡ false → eqb (get_or ks i 0) 20 ≡ false → {r : Bool} → r ≡ false → Shapes r → After x ks vs ts ts s t u count goal (record { solver = x; good = false; count = count })
+  pub apart_unlike : soft ≡ false → eqb (get_or ks i 0) 20 ≡ false → {r : Bool} → r ≡ false → Shapes r → After x ks vs ts ts st st s t u count goal (record { solver = x; good = false; count = count })
   apart_unlike e f {r} g h =
-      after_failed x ks vs ts s count ps L W t u
+      after_failed x ks vs ts st s count ps L W t u
       (opened e f ∙ ap (λ (b : Bool). decompose s.solver t u ps false false b) (shapes r h ∙ g) ∙ part_unlike s.solver t u ps)
 
   -- the children pushed, as two held nodes have them
   abbrev Pushed : List ℕ → ℕ → Type 0
-  Pushed us top = (k l : ℕ) (rs qs : Parts) → Held ks vs i (node k rs) → Held ks vs j (node l qs) → PushedPairs ks vs i j (node k rs) (node l qs) (pending_from x) count ts us top
+  Pushed st' top = (k l : ℕ) (rs qs : Parts) → Held ks vs i (node k rs) → Held ks vs j (node l qs) → PushedPairs ks vs i j (node k rs) (node l qs) count st st' top
 
-  pub apart_pushes : soft ≡ false → eqb (get_or ks i 0) 20 ≡ false → {r : Bool} → r ≡ true → Shapes r → {us : List ℕ} {top : ℕ} → length us ≡ length ts → Pushed us top
-      → After x ks vs ts us s t u count goal (record { solver = x; good = true; count = top })
-  apart_pushes e f {r} g h {us} {top} l p =
-      after_pushed x ks vs ts s count ps L W t u
-      (opened e f ∙ ap (λ (b : Bool). decompose s.solver t u ps false false b) (shapes r h ∙ g) ∙ part_pushes s.solver t u ps) i j N us top l
-      (subst (λ (y : Term). PushedPairs ks vs i j y u (pending_from x) count ts us top) (sym N.left)
-      (subst (λ (y : Term). PushedPairs ks vs i j (node N.tag N.row) y (pending_from x) count ts us top) (sym N.right)
+  pub apart_pushes : soft ≡ false → eqb (get_or ks i 0) 20 ≡ false → {r : Bool} → r ≡ true → Shapes r → {st' : List ℕ} {top : ℕ} → Pushed st' top
+      → After x ks vs ts ts st st' s t u count goal (record { solver = x; good = true; count = top })
+  apart_pushes e f {r} g h {st'} {top} p =
+      after_pushed x ks vs ts st s count ps L W t u
+      (opened e f ∙ ap (λ (b : Bool). decompose s.solver t u ps false false b) (shapes r h ∙ g) ∙ part_pushes s.solver t u ps) i j N st' top
+      (subst (λ (y : Term). PushedPairs ks vs i j y u count st st' top) (sym N.left)
+      (subst (λ (y : Term). PushedPairs ks vs i j (node N.tag N.row) y count st st' top) (sym N.right)
       (p N.tag N.other N.row N.behind (subst (λ (y : Term). Held ks vs i y) N.left N.at_left) (subst (λ (y : Term). Held ks vs j y) N.right N.at_right))))
 
 module _ {x : Solver} {ks vs : List ℕ} {i j count : ℕ} {t u : Term} (N : Nodes x ks vs i j count t u) where
@@ -175,8 +175,8 @@ module _ {x : Solver} {ks vs : List ℕ} {i j count : ℕ} {t u : Term} (N : Nod
 
   -- two nodes whose shapes agree, and the room for their children
   pub nodes_twins : (n : Notion) {r : Bool} → r ≡ true → ((k l : ℕ) (rs qs : Parts) → Held ks vs i (node k rs) → Held ks vs j (node l qs) → r ≡ same_shape n (node k rs) (node l qs))
-      → {size : ℕ} → pending_from x + 2 * (32 + x.nodes) ≤ size
-      → (w : Twins ks vs i j) × (pending_from x + 2 * (count + length (children (node w.tag w.left))) ≤ size)
+      → {size : ℕ} → 2 * (32 + x.nodes) ≤ size
+      → (w : Twins ks vs i j) × (2 * (count + length (children (node w.tag w.left))) ≤ size)
   unfolding children
   nodes_twins n {r} g h {size} l =
       let a = subst (λ (y : Term). Held ks vs i y) N.left N.at_left in
@@ -220,9 +220,9 @@ module _ {x : Solver} {ks vs ts : List ℕ} {s : Session} {i j count : ℕ} {t u
       (subst (λ (k : ℕ). Topped k z.bindings) (sym e) (ordered_topped (issued s) z order))
       ∙ ap (λ (k : ℕ). same (resolve k z.bindings t) (resolve k z.bindings u)) e)
 
-  pub turned_same : (n : Notion) {ps : List Pair} → Waiting x ks vs ts count ps → same (resolved z t) (resolved z u) ≡ true
-      → After x ks vs ts ts s (top z t) (top z u) count (check_pair n z t u ps) (record { solver = x; good = true; count = count })
-  turned_same n {ps} W e = after_passed x ks vs ts s count ps D.represents W (top z t) (top z u) (turn_same n z t u ps e)
+  pub turned_same : (n : Notion) {st : List ℕ} {ps : List Pair} → Waiting ks vs st count ps → same (resolved z t) (resolved z u) ≡ true
+      → After x ks vs ts ts st st s (top z t) (top z u) count (check_pair n z t u ps) (record { solver = x; good = true; count = count })
+  turned_same n {st} {ps} W e = after_passed x ks vs ts st s count ps D.represents W (top z t) (top z u) (turn_same n z t u ps e)
 
   -- what `shallow_resolve` finds of the place p
   abbrev Finds : ℕ → ℕ → Type 0
@@ -231,8 +231,8 @@ module _ {x : Solver} {ks vs ts : List ℕ} {s : Session} {i j count : ℕ} {t u
   found : (p a : ℕ) (y : Term) → Held ks vs p y → Finds p a → Held ks vs a (top z y)
   found p a y h f = subst (λ (k : ℕ). Held ks vs a (follow k z.bindings y)) D.represents.revision (f y z.bindings h D.represents.bindings)
 
-  abbrev Left : List ℕ → Checked → solving.Check → Type 0
-  Left us r w = After x ks vs ts us s (top z t) (top z u) count w r
+  abbrev Left : (us st₀ st : List ℕ) → Checked → solving.Check → Type 0
+  Left us st₀ st r w = After x ks vs ts us st₀ st s (top z t) (top z u) count w r
 
   -- the tops of the two terms stand at a and b
   module _ {a b : ℕ} (top_i : Finds i a) (top_j : Finds j b) where
@@ -289,18 +289,18 @@ module _ {x : Solver} {ks vs ts : List ℕ} {s : Session} {i j count : ℕ} {t u
         }
 
     -- what the definition does
-    module _ (n : Notion) (ps : List Pair) {us : List ℕ} {r : Checked} (differ : same (resolved z t) (resolved z u) ≡ false) where
-      pub turned_left : get_or ks a 0 ≡ 1 → Left us r (bind z (get_or vs a 0) (top z u) ps) → Left us r (check_pair n z t u ps)
-      turned_left e h = subst (Left us r) (sym (turn_left n z t u ps (get_or vs a 0) differ (as_var ks vs a (top z t) at_a (omega arith)))) h
+    module _ (n : Notion) (ps : List Pair) {us st₀ st : List ℕ} {r : Checked} (differ : same (resolved z t) (resolved z u) ≡ false) where
+      pub turned_left : get_or ks a 0 ≡ 1 → Left us st₀ st r (bind z (get_or vs a 0) (top z u) ps) → Left us st₀ st r (check_pair n z t u ps)
+      turned_left e h = subst (Left us st₀ st r) (sym (turn_left n z t u ps (get_or vs a 0) differ (as_var ks vs a (top z t) at_a (omega arith)))) h
 
-      pub turned_right : (get_or ks a 0 ≡ 1 → ⊥) → get_or ks b 0 ≡ 1 → Left us r (bind z (get_or vs b 0) (top z t) ps) → Left us r (check_pair n z t u ps)
+      pub turned_right : (get_or ks a 0 ≡ 1 → ⊥) → get_or ks b 0 ≡ 1 → Left us st₀ st r (bind z (get_or vs b 0) (top z t) ps) → Left us st₀ st r (check_pair n z t u ps)
       turned_right e f h =
           let p = head_node a (top z t) at_a e in
-          subst (Left us r) (sym (turn_right n z t u ps p.0 p.1 (get_or vs b 0) differ p.2 (as_var ks vs b (top z u) at_b (omega arith)))) h
+          subst (Left us st₀ st r) (sym (turn_right n z t u ps p.0 p.1 (get_or vs b 0) differ p.2 (as_var ks vs b (top z u) at_b (omega arith)))) h
 
       pub turned_nodes : (get_or ks a 0 ≡ 1 → ⊥) → (get_or ks b 0 ≡ 1 → ⊥)
-          → Left us r (decompose z (top z t) (top z u) ps (recovery (top z t) || recovery (top z u)) (projects (top z t)) (same_shape n (top z t) (top z u))) → Left us r (check_pair n z t u ps)
+          → Left us st₀ st r (decompose z (top z t) (top z u) ps (recovery (top z t) || recovery (top z u)) (projects (top z t)) (same_shape n (top z t) (top z u))) → Left us st₀ st r (check_pair n z t u ps)
       turned_nodes e f h =
           let p = head_node a (top z t) at_a e in
           let q = head_node b (top z u) at_b f in
-          subst (Left us r) (sym (turn_nodes n z t u ps p.0 q.0 p.1 q.1 differ p.2 q.2)) h
+          subst (Left us st₀ st r) (sym (turn_nodes n z t u ps p.0 q.0 p.1 q.1 differ p.2 q.2)) h

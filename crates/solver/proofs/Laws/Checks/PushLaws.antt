@@ -26,8 +26,8 @@ use Rattle.solver.proofs.Laws.Checks.RowsInStepLaws.{like_rows, shape_like, like
 
 -- ---- one run of pairs after another
 
-module _ {base count : ℕ} {ts₀ : List ℕ} where
-  pub laid_none : Laid [] [] base count ts₀ ts₀ count
+module _ {count : ℕ} {ts₀ : List ℕ} where
+  pub laid_none : Laid [] [] count ts₀ ts₀ count
   laid_none = record {
     even = refl;
     size = omega arith;
@@ -37,7 +37,7 @@ module _ {base count : ℕ} {ts₀ : List ℕ} where
     above = λ i h. refl;
   }
 
-  pub laid_then : {ls rs ls' rs' ts ts' : List ℕ} {r r' : ℕ} → Laid ls rs base count ts₀ ts r → Laid ls' rs' base r ts ts' r' → Laid (ls ++ ls') (rs ++ rs') base count ts₀ ts' r'
+  pub laid_then : {ls rs ls' rs' ts ts' : List ℕ} {r r' : ℕ} → Laid ls rs count ts₀ ts r → Laid ls' rs' r ts ts' r' → Laid (ls ++ ls') (rs ++ rs') count ts₀ ts' r'
   laid_then {ls} {rs} {ls'} {rs'} {ts} {ts'} {r} {r'} p q =
       let a = length-append ls ls' in
       let ps = p.size in
@@ -51,19 +51,19 @@ module _ {base count : ℕ} {ts₀ : List ℕ} where
         above = λ i h. q.above i h ∙ p.above i (omega arith);
       }
     where
-      left : (j : ℕ) → j < length (ls ++ ls') → Dec (j < length ls) → get_or ts' (base + ((count + j) + (count + j))) 0 ≡ get_or (ls ++ ls') j 0
-      left j h (yes l) = q.below (base + ((count + j) + (count + j))) (omega (arith, p.size)) ∙ p.lefts j l ∙ sym (get_or-append ls ls' 0 j l)
+      left : (j : ℕ) → j < length (ls ++ ls') → Dec (j < length ls) → get_or ts' ((count + j) + (count + j)) 0 ≡ get_or (ls ++ ls') j 0
+      left j h (yes l) = q.below ((count + j) + (count + j)) (omega (arith, p.size)) ∙ p.lefts j l ∙ sym (get_or-append ls ls' 0 j l)
       left j h (no l) =
           let i = j - length ls in
-          let e : base + ((count + j) + (count + j)) ≡ base + ((r + i) + (r + i)) = omega (arith, p.size) in
+          let e : (count + j) + (count + j) ≡ (r + i) + (r + i) = omega (arith, p.size) in
           let z : length ls + i ≡ j = omega arith in
           ap (λ (x : ℕ). get_or ts' x 0) e ∙ q.lefts i (omega (arith, length-append ls ls')) ∙ sym (get_or-append-add ls ls' i 0) ∙ ap (λ (x : ℕ). get_or (ls ++ ls') x 0) z
 
-      right : (j : ℕ) → j < length (ls ++ ls') → Dec (j < length ls) → get_or ts' (base + ((count + j) + (count + j) + 1)) 0 ≡ get_or (rs ++ rs') j 0
-      right j h (yes l) = q.below (base + ((count + j) + (count + j) + 1)) (omega (arith, p.size)) ∙ p.rights j l ∙ sym (get_or-append rs rs' 0 j (omega (arith, p.even)))
+      right : (j : ℕ) → j < length (ls ++ ls') → Dec (j < length ls) → get_or ts' ((count + j) + (count + j) + 1) 0 ≡ get_or (rs ++ rs') j 0
+      right j h (yes l) = q.below ((count + j) + (count + j) + 1) (omega (arith, p.size)) ∙ p.rights j l ∙ sym (get_or-append rs rs' 0 j (omega (arith, p.even)))
       right j h (no l) =
           let i = j - length ls in
-          let e : base + ((count + j) + (count + j) + 1) ≡ base + ((r + i) + (r + i) + 1) = omega (arith, p.size) in
+          let e : (count + j) + (count + j) + 1 ≡ (r + i) + (r + i) + 1 = omega (arith, p.size) in
           let z : length rs + i ≡ j = omega (arith, p.even) in
           ap (λ (x : ℕ). get_or ts' x 0) e ∙ q.rights i (omega (arith, length-append ls ls')) ∙ sym (get_or-append-add rs rs' i 0) ∙ ap (λ (x : ℕ). get_or (rs ++ rs') x 0) z
 
@@ -160,9 +160,9 @@ places_few ks vs i e (num n ps) h = omega (arith, places_few ks vs (i + 1) e ps 
 places_few ks vs i e (sub t ps) h = omega (arith, places_few ks vs (i + length (items t)) e ps (held_sub ks vs i e t ps h).1, items_some t)
 
 -- the pairs done, and the rows that are left
-pub record Pushing (ks vs : List ℕ) (a ae b be lo hi base count : ℕ) (ts₀ ts : List ℕ) (i j child top : ℕ) : Type 0 where
+pub record Pushing (ks vs : List ℕ) (a ae b be lo hi count : ℕ) (ts₀ ts : List ℕ) (i j child top : ℕ) : Type 0 where
   pub given : Twins ks vs a b
-  pub room : base + 2 * (count + length (window lo hi 0 (places (a + 1) given.left))) ≤ length ts₀
+  pub room : 2 * (count + length (window lo hi 0 (places (a + 1) given.left))) ≤ length ts₀
   pub left : Parts
   pub right : Parts
   pub free : Bool
@@ -171,14 +171,14 @@ pub record Pushing (ks vs : List ℕ) (a ae b be lo hi base count : ℕ) (ts₀ 
   pub like : like_rows free left right ≡ true
   pub done_left : List ℕ
   pub done_right : List ℕ
-  pub laid : Laid done_left done_right base count ts₀ ts top
+  pub laid : Laid done_left done_right count ts₀ ts top
   pub split_left : window lo hi 0 (places (a + 1) given.left) ≡ done_left ++ window lo hi child (places i left)
   pub split_right : window lo hi 0 (places (b + 1) given.right) ≡ done_right ++ window lo hi child (places j right)
   pub few : child ≤ i
 
-module _ {ks vs : List ℕ} {a ae b be lo hi base count : ℕ} {ts₀ : List ℕ} where
-  pub pushing_start : (w : Twins ks vs a b) → base + 2 * (count + length (window lo hi 0 (places (a + 1) w.left))) ≤ length ts₀
-      → PartEnd ks vs a (length ks) ae → PartEnd ks vs b (length ks) be → Pushing ks vs a ae b be lo hi base count ts₀ ts₀ (a + 1) (b + 1) 0 count
+module _ {ks vs : List ℕ} {a ae b be lo hi count : ℕ} {ts₀ : List ℕ} where
+  pub pushing_start : (w : Twins ks vs a b) → 2 * (count + length (window lo hi 0 (places (a + 1) w.left))) ≤ length ts₀
+      → PartEnd ks vs a (length ks) ae → PartEnd ks vs b (length ks) be → Pushing ks vs a ae b be lo hi count ts₀ ts₀ (a + 1) (b + 1) 0 count
   pushing_start w r ea eb = record {
     given = w;
     room = r;
@@ -196,7 +196,7 @@ module _ {ks vs : List ℕ} {a ae b be lo hi base count : ℕ} {ts₀ : List ℕ
     few = omega arith;
   }
 
-  module _ {ts : List ℕ} {i j child top : ℕ} (w : Pushing ks vs a ae b be lo hi base count ts₀ ts i j child top) where
+  module _ {ts : List ℕ} {i j child top : ℕ} (w : Pushing ks vs a ae b be lo hi count ts₀ ts i j child top) where
     module _ (li : i < ae) where
       pub pushing_more : j < be
       pushing_more = like_more ks vs i ae j be w.free w.left w.right w.held_left w.held_right li w.like
@@ -221,7 +221,7 @@ module _ {ks vs : List ℕ} {a ae b be lo hi base count : ℕ} {ts₀ : List ℕ
           ∙ ap (λ (n : ℕ). window lo hi child (here (get_or ks i 0) j) ++ window lo hi (child + n) (places (j + span (get_or ks j 0) (get_or vs j 0)) right_part.rest)) (here_size (get_or ks i 0) j i)
 
       -- there is room for the part
-      pub pushing_room : base + 2 * (top + length (window lo hi child (here (get_or ks i 0) i))) ≤ length ts₀
+      pub pushing_room : 2 * (top + length (window lo hi child (here (get_or ks i 0) i))) ≤ length ts₀
       pushing_room =
           omega (
             arith,
@@ -234,8 +234,8 @@ module _ {ks vs : List ℕ} {a ae b be lo hi base count : ℕ} {ts₀ : List ℕ
           )
 
       pub pushing_step : (ts' : List ℕ) (i' j' child' top' : ℕ) → child' ≡ child + length (here (get_or ks i 0) i)
-          → Laid (window lo hi child (here (get_or ks i 0) i)) (window lo hi child (here (get_or ks i 0) j)) base top ts ts' top'
-          → PartEnd ks vs i ae i' → PartEnd ks vs j be j' → Pushing ks vs a ae b be lo hi base count ts₀ ts' i' j' child' top'
+          → Laid (window lo hi child (here (get_or ks i 0) i)) (window lo hi child (here (get_or ks i 0) j)) top ts ts' top'
+          → PartEnd ks vs i ae i' → PartEnd ks vs j be j' → Pushing ks vs a ae b be lo hi count ts₀ ts' i' j' child' top'
       pushing_step ts' i' j' child' top' ec l ei ej =
           let p = left_part in
           let q = right_part in
@@ -260,7 +260,7 @@ module _ {ks vs : List ℕ} {a ae b be lo hi base count : ℕ} {ts₀ : List ℕ
 
     -- the rows are over
     pub pushing_end : ae ≤ i → j ≤ be → (k l : ℕ) (ps qs : Parts) → Held ks vs a (node k ps) → Held ks vs b (node l qs)
-        → Laid (window lo hi 0 (places (a + 1) ps)) (window lo hi 0 (places (b + 1) qs)) base count ts₀ ts top
+        → Laid (window lo hi 0 (places (a + 1) ps)) (window lo hi 0 (places (b + 1) qs)) count ts₀ ts top
     pushing_end li lj k l ps qs ha hb =
         let el : w.left ≡ end = row_end ks vs i ae w.left w.held_left li in
         let er : w.right ≡ end = over_too el in
@@ -369,17 +369,17 @@ module _ {ks vs : List ℕ} {a b : ℕ} (w : Twins ks vs a b) where
   left_few = omega (arith, places_few ks vs (a + 1) _ w.left (held_node ks vs a w.tag w.left w.held_left), w.held_left.within)
 
   -- room for all, for those from n on, and for those before n
-  module _ (base count size : ℕ) (room : base + 2 * (count + length (children (node w.tag w.left))) ≤ size) where
-    pub room_all : base + 2 * (count + length (window 0 (length ks) 0 (places (a + 1) w.left))) ≤ size
+  module _ (count size : ℕ) (room : 2 * (count + length (children (node w.tag w.left))) ≤ size) where
+    pub room_all : 2 * (count + length (window 0 (length ks) 0 (places (a + 1) w.left))) ≤ size
     room_all =
         omega (arith, room, children_places a w.tag w.left, ap length (window_all 0 (length ks) 0 (places (a + 1) w.left) (omega arith) (omega (arith, left_few))))
 
-    pub room_drop : (n : ℕ) → base + 2 * (count + length (window n (length ks) 0 (places (a + 1) w.left))) ≤ size
+    pub room_drop : (n : ℕ) → 2 * (count + length (window n (length ks) 0 (places (a + 1) w.left))) ≤ size
     room_drop n =
         omega (arith, room, children_places a w.tag w.left, ap length (window_drop n (length ks) 0 (places (a + 1) w.left) (omega (arith, left_few))), length-drop (n - 0) (places (a + 1) w.left))
 
     pub room_take : (n top : ℕ) → top ≡ count + length (window n (length ks) 0 (places (a + 1) w.left))
-        → base + 2 * (top + length (window 0 n 0 (places (a + 1) w.left))) ≤ size
+        → 2 * (top + length (window 0 n 0 (places (a + 1) w.left))) ≤ size
     room_take n top e =
         omega (
           arith,
@@ -408,24 +408,24 @@ module _ {ks vs : List ℕ} {a b : ℕ} (w : Twins ks vs a b) where
     few_right : length (places (b + 1) qs) ≤ length ks
     few_right = omega (arith, places_few ks vs (b + 1) _ qs (held_node ks vs b j qs hb), hb.within)
 
-    module _ {base count : ℕ} {ts₀ ts : List ℕ} {r : ℕ} where
+    module _ {count : ℕ} {ts₀ ts : List ℕ} {r : ℕ} where
       -- other nodes
       pub pushed_once : (14 ≤ get_or ks a 0 → 17 < get_or ks a 0)
-          → Laid (window 0 (length ks) 0 (places (a + 1) ps)) (window 0 (length ks) 0 (places (b + 1) qs)) base count ts₀ ts r
-          → PushedPairs ks vs a b (node k ps) (node j qs) base count ts₀ ts r
+          → Laid (window 0 (length ks) 0 (places (a + 1) ps)) (window 0 (length ks) 0 (places (b + 1) qs)) count ts₀ ts r
+          → PushedPairs ks vs a b (node k ps) (node j qs) count ts₀ ts r
       pushed_once h l =
           let e = node_kind ks vs a k ps ha in
           let o = class_plain k (λ g. let z = h (omega arith) in omega arith) in
           let oj : class j ≡ 1 → ⊥ = λ z. o (ap class twins_like.0 ∙ z) in
           let x = window_all 0 (length ks) 0 (places (a + 1) ps) (omega arith) (omega (arith, few_left)) ∙ sym (pushed_plain a k ps o) in
           let y = window_all 0 (length ks) 0 (places (b + 1) qs) (omega arith) (omega (arith, few_right)) ∙ sym (pushed_plain b j qs oj) in
-          pushed_pairs ks vs a b k j ps qs ha hb same_children base count ts₀ ts r (rw (x, y) at l)
+          pushed_pairs ks vs a b k j ps qs ha hb same_children count ts₀ ts r (rw (x, y) at l)
 
       -- a nominal: those from n on, and then those before n
       pub pushed_twice : 14 ≤ get_or ks a 0 → get_or ks a 0 ≤ 17 → (n : ℕ) → n ≡ get_or (nums ps) 1 0 → (ts₁ : List ℕ) (top : ℕ)
-          → Laid (window n (length ks) 0 (places (a + 1) ps)) (window n (length ks) 0 (places (b + 1) qs)) base count ts₀ ts₁ top
-          → Laid (window 0 n 0 (places (a + 1) ps)) (window 0 n 0 (places (b + 1) qs)) base top ts₁ ts r
-          → PushedPairs ks vs a b (node k ps) (node j qs) base count ts₀ ts r
+          → Laid (window n (length ks) 0 (places (a + 1) ps)) (window n (length ks) 0 (places (b + 1) qs)) count ts₀ ts₁ top
+          → Laid (window 0 n 0 (places (a + 1) ps)) (window 0 n 0 (places (b + 1) qs)) top ts₁ ts r
+          → PushedPairs ks vs a b (node k ps) (node j qs) count ts₀ ts r
       pushed_twice lo hi n en ts₁ top p q =
           let e = node_kind ks vs a k ps ha in
           let o : class k ≡ 1 = sym (class_nominal k (λ z. omega arith) (omega arith) (omega arith)) in
@@ -433,7 +433,7 @@ module _ {ks vs : List ℕ} {a b : ℕ} (w : Twins ks vs a b) where
           let m : n ≡ get_or (nums qs) 1 0 = en ∙ like_second (w.notion k) ps qs twins_like.1 in
           let x = ap₂ ◌++◌ (window_drop n (length ks) 0 (places (a + 1) ps) (omega (arith, few_left))) (window_take n 0 (places (a + 1) ps)) ∙ both (places (a + 1) ps) en ∙ sym (pushed_nominal a k ps o) in
           let y = ap₂ ◌++◌ (window_drop n (length ks) 0 (places (b + 1) qs) (omega (arith, few_right))) (window_take n 0 (places (b + 1) qs)) ∙ both (places (b + 1) qs) m ∙ sym (pushed_nominal b j qs oj) in
-          pushed_pairs ks vs a b k j ps qs ha hb same_children base count ts₀ ts r (rw (x, y) at (laid_then p q))
+          pushed_pairs ks vs a b k j ps qs ha hb same_children count ts₀ ts r (rw (x, y) at (laid_then p q))
         where
           both : (l : List ℕ) {z : ℕ} → n ≡ z → drop (n - 0) l ++ take (n - 0) l ≡ drop z l ++ take z l
           both l {z} e = let s : n - 0 ≡ z = omega arith in ap (λ (y : ℕ). drop y l ++ take y l) s

@@ -7,8 +7,7 @@ use Prim.Native.Nat.{ℕ, zero, suc, ◌+◌, ◌-◌, ◌≤◌, ◌<◌}
 use native.Mathlib.Decide.{dec_lt}
 use native.Mathlib.Nat.{add-zero}
 use native.Mathlib.Omega.{arith}
-use lib.ListN.{length, get_or, drop}
-use lib.Seq.{get_or-drop}
+use lib.ListN.{length, get_or}
 use Rattle.terms.specs.Term.{Term, Parts, node, Held}
 use Rattle.terms.specs.Tree.{nums, row, tag, class, children, subs}
 use Rattle.terms.proofs.Laws.Held.HeldLaws.{held_node}
@@ -81,17 +80,16 @@ pushed_held ks vs a k ps h = all_turned ks vs (class (tag (node k ps))) (get_or 
 
 -- what `push_children` leaves, from the places that it put on
 module _ (ks vs : List ℕ) (a b k j : ℕ) (ps qs : Parts) (ha : Held ks vs a (node k ps)) (hb : Held ks vs b (node j qs)) (same : length (children (node k ps)) ≡ length (children (node j qs)))
-    (base count : ℕ) (ts₀ ts : List ℕ) (r : ℕ) (w : Laid (pushed_places a (node k ps)) (pushed_places b (node j qs)) base count ts₀ ts r) where
-  pub pushed_pairs : PushedPairs ks vs a b (node k ps) (node j qs) base count ts₀ ts r
+    (count : ℕ) (st₀ st : List ℕ) (r : ℕ) (w : Laid (pushed_places a (node k ps)) (pushed_places b (node j qs)) count st₀ st r) where
+  pub pushed_pairs : PushedPairs ks vs a b (node k ps) (node j qs) count st₀ st r
   unfolding Puts
   pushed_pairs = record {
     laid = w;
     size = omega (arith, w.size, pushed_length a k ps);
-    pairs = λ l h. subst (λ (n : ℕ). HeldPairs ks vs (drop base ts) n (zip_on (pushed (node k ps)) (pushed (node j qs)) l)) (sym w.size)
-        (held_zip ks vs (drop base ts) (pushed_places a (node k ps)) (pushed_places b (node j qs)) (pushed (node k ps)) (pushed (node j qs)) count l
+    pairs = λ l h. subst (λ (n : ℕ). HeldPairs ks vs st n (zip_on (pushed (node k ps)) (pushed (node j qs)) l)) (sym w.size)
+        (held_zip ks vs st (pushed_places a (node k ps)) (pushed_places b (node j qs)) (pushed (node k ps)) (pushed (node j qs)) count l
         (pushed_held ks vs a k ps ha) (pushed_held ks vs b j qs hb) (omega (arith, pushed_length a k ps, pushed_length b j qs))
-        (λ i g. (get_or-drop base ts ((count + i) + (count + i)) 0 ∙ w.lefts i g, get_or-drop base ts ((count + i) + (count + i) + 1) 0 ∙ w.rights i g))
-        (pairs_agree ks vs (drop base ts₀) (drop base ts) count l (λ i g. get_or-drop base ts i 0 ∙ w.below (base + i) (omega arith) ∙ sym (get_or-drop base ts₀ i 0)) h));
+        (λ i g. (w.lefts i g, w.rights i g)) (pairs_agree ks vs st₀ st count l w.below h));
   }
 
 -- ---- what is carried
@@ -186,18 +184,17 @@ module _ (ks vs : List ℕ) where
                 (expanded new (pushed_drawn a k row) (λ i. joint new i (dec_lt i m)) (λ i h. joint_old new i (dec_lt i m) h) (λ j h. joint_new new j (dec_lt (m + j) m))),
           )
 
-  -- ONE TURN: the last pair is taken off and the children of what it stands for are put on. old is the table before the pair was taken off.
-  pub stack_push : {b : ℕ → Option Term} {base m : ℕ} {p : Pair} {ps : List Pair} (old ts₀ : List ℕ) → Stack ks vs b (drop base old) (suc m) (p ∷ ps)
-      → ((i : ℕ) → i < m + m → get_or (drop base ts₀) i 0 ≡ get_or (drop base old) i 0)
+  -- ONE TURN: the last pair is taken off and the children of what it stands for are put on. old has the words before the pair was taken off.
+  pub stack_push : {b : ℕ → Option Term} {m : ℕ} {p : Pair} {ps : List Pair} (old st₀ : List ℕ) → Stack ks vs b old (suc m) (p ∷ ps)
+      → ((i : ℕ) → i < m + m → get_or st₀ i 0 ≡ get_or old i 0)
       → (most a c k : ℕ) (row : Parts) (u : Term) → follow most b p.0 ≡ node k row → Held ks vs a (node k row)
-      → (ts : List ℕ) (r : ℕ) → PushedPairs ks vs a c (node k row) u base m ts₀ ts r → Stack ks vs b (drop base ts) r (zip_on (pushed (node k row)) (pushed u) ps)
+      → (st : List ℕ) (r : ℕ) → PushedPairs ks vs a c (node k row) u m st₀ st r → Stack ks vs b st r (zip_on (pushed (node k row)) (pushed u) ps)
   unfolding f
-  stack_push {b} {base} {m} {p} {ps} old ts₀ s same most a c k row u top ha ts r w = record {
-    held = w.pairs ps (pairs_agree ks vs (drop base old) (drop base ts₀) m ps same s.held.2);
-    few = inr (subst (λ (n : ℕ). Stacked ks vs b (λ i. get_or (drop base ts) (i + i) 0) n) (sym w.laid.size)
-        (expanded s most a k row top ha (pushed_places a (node k row)) (pushed_drawn a k row) (λ i. get_or (drop base ts) (i + i) 0)
-        (λ i h. get_or-drop base ts (i + i) 0 ∙ w.laid.below (base + (i + i)) (omega arith) ∙ sym (get_or-drop base ts₀ (i + i) 0) ∙ same (i + i) (omega arith))
-        (λ j h. get_or-drop base ts ((m + j) + (m + j)) 0 ∙ w.laid.lefts j h)));
+  stack_push {b} {m} {p} {ps} old st₀ s same most a c k row u top ha st r w = record {
+    held = w.pairs ps (pairs_agree ks vs old st₀ m ps same s.held.2);
+    few = inr (subst (λ (n : ℕ). Stacked ks vs b (λ i. get_or st (i + i) 0) n) (sym w.laid.size)
+        (expanded s most a k row top ha (pushed_places a (node k row)) (pushed_drawn a k row) (λ i. get_or st (i + i) 0)
+        (λ i h. w.laid.below (i + i) (omega arith) ∙ same (i + i) (omega arith)) (λ j h. w.laid.lefts j h)));
   }
 
   -- there are never more pairs than tokens begin a term

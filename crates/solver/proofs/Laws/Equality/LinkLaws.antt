@@ -6,7 +6,9 @@ use mathlib.Core.Path.{◌≡◌, refl, sym, ap, ◌∙◌}
 use Prim.Native.Nat.{ℕ, zero, suc, ◌+◌, ◌-◌, ◌≤◌, ◌<◌}
 use native.Mathlib.Omega.{arith}
 use native.Mathlib.Decide.{ℕ_discrete}
+use lib.Dec.{eqb}
 use lib.ListN.{length, get_or, set, length-set}
+use borrow.Author.Tests.{eq-eqb, ne_eqb}
 use lib.Seq.{get_or-set_same, get_or-set_other}
 use Rattle.terms.specs.Term.{Term, Parts, var, node, Held}
 use Rattle.terms.proofs.Laws.General.Bools.{never_true}
@@ -212,15 +214,22 @@ module _ (σ : ℕ → Term) (τ : Term → Term) (s : Standing σ τ) where
     pub told_kinds : (get_or ks a 0 ≡ get_or ks b 0 → ⊥) → Says par false
     told_kinds h = record { fair = fair; yes = never_true; honest = λ ho e. absurd (h (alike_at e).0) }
 
-    pub told_apart : get_or ks a 0 < 2 → (get_or vs a 0 ≡ get_or vs b 0 → ⊥) → Says par false
+    told_apart : get_or ks a 0 < 2 → (get_or vs a 0 ≡ get_or vs b 0 → ⊥) → Says par false
     told_apart k h = record { fair = fair; yes = never_true; honest = λ ho e. absurd (h ((alike_at e).1 k)) }
 
-    pub told_var : get_or ks a 0 < 2 → get_or ks a 0 ≡ get_or ks b 0 → get_or vs a 0 ≡ get_or vs b 0 → Says par true
+    told_var : get_or ks a 0 < 2 → get_or ks a 0 ≡ get_or ks b 0 → get_or vs a 0 ≡ get_or vs b 0 → Says par true
     told_var k l h = record {
       fair = fair;
       yes = λ _. same_var (get_or vs a 0) (as_var ks vs a (τ t) ha k) (as_var ks vs b (τ u) hb (omega arith) ∙ ap var (sym h));
       honest = λ ho e. (refl, ho);
     }
+
+    pub told_values : get_or ks a 0 < 2 → get_or ks a 0 ≡ get_or ks b 0 → Says par (eqb (get_or vs a 0) (get_or vs b 0))
+    told_values k l = go (ℕ_discrete (get_or vs a 0) (get_or vs b 0))
+      where
+        go : Dec (get_or vs a 0 ≡ get_or vs b 0) → Says par (eqb (get_or vs a 0) (get_or vs b 0))
+        go (yes h) = rw (eq-eqb _ _ h) (told_var k l h)
+        go (no h) = rw (ne_eqb _ _ h) (told_apart k h)
 
     module _ (p q : ℕ) (pa : Up par a p) (qb : Up par b q) where
       pub told_class : p ≡ q → Says par true

@@ -4,8 +4,10 @@ use mathlib.Core.List.{List}
 use mathlib.Core.Path.{◌≡◌, refl, sym, ap, ◌∙◌}
 use Prim.Native.Nat.{ℕ, ◌+◌, ◌≤◌, ◌<◌}
 use native.Mathlib.Omega.{arith}
-use native.Mathlib.Decide.{ℕ_discrete}
+use native.Mathlib.Decide.{ℕ_discrete, dec_lt}
+use lib.Dec.{leb}
 use lib.ListN.{length, get_or}
+use borrow.Author.Tests.{le-leb, lt-leb}
 use Rattle.terms.specs.Term.{Term, Parts, end, num, sub, items, Held}
 use Rattle.terms.specs.Words.Held.{HeldParts, span}
 use Rattle.terms.proofs.Laws.General.Bools.{never_true}
@@ -82,7 +84,7 @@ module _ (ks vs : List ℕ) (σ : ℕ → Term) (τ : Term → Term) where
     pub no_short : i < ae → be ≤ j → Tells par false
     no_short hi hj = differ (λ e. not_end i ae w.psr w.hp hi (ℕ_discrete (get_or ks i 0) 0) (e ∙ ap (replace_row σ) (row_end ks vs j be w.qsr w.hq hj)))
 
-    pub no_long : ae ≤ i → j < be → Tells par false
+    no_long : ae ≤ i → j < be → Tells par false
     no_long hi hj = differ (λ e. not_end j be w.qsr w.hq hj (ℕ_discrete (get_or ks j 0) 0) (sym e ∙ ap (replace_row σ) (row_end ks vs i ae w.psr w.hp hi)))
 
     pub no_term : i < ae → j < be → get_or ks i 0 ≡ 0 → (get_or ks j 0 ≡ 0 → ⊥) → Tells par false
@@ -155,10 +157,18 @@ module _ (ks vs : List ℕ) (σ : ℕ → Term) (τ : Term → Term) where
             honest = λ h e. (d.honest (w.honest h e) (sub_apart p.0 q.0 p.1 q.1 (rw (p.2, q.2) at (w.level e))).0).1;
           }
 
-    pub walk_yes : ae ≤ i → be ≤ j → Tells par true
+    walk_yes : ae ≤ i → be ≤ j → Tells par true
     unfolding Pairwise
     walk_yes hi hj = record {
       fair = w.fair;
       yes = λ _. w.joins par (λ a b e. e) (rw (row_end ks vs i ae w.psr w.hp hi, row_end ks vs j be w.qsr w.hq hj) tt);
       honest = λ h e. (refl, w.honest h e);
     }
+
+    -- the first row is over
+    pub walk_over : ae ≤ i → Tells par (leb be j)
+    walk_over hi = go (dec_lt j be)
+      where
+        go : Dec (j < be) → Tells par (leb be j)
+        go (yes h) = rw (lt-leb be j h) (no_long hi h)
+        go (no h) = rw (le-leb be j (omega arith)) (walk_yes hi (omega arith))

@@ -1,22 +1,12 @@
 -- Laws of marks and queue.
-use mathlib.Core.List.{List, [], ◌∷◌}
+use mathlib.Core.List.{List, [], ◌∷◌, ◌++◌}
 use mathlib.Core.Logic.{◌⊎◌, inl, inr, ⊎_elim}
-use mathlib.Core.Path.{◌≡◌, refl, sym, ap, subst, ◌∙◌}
-use Prim.Native.Nat.{ℕ, zero, suc, ◌+◌, ◌-◌, ◌<◌, ◌≤◌}
+use mathlib.Core.Path.{◌≡◌, refl, sym, subst, ◌∙◌}
+use Prim.Native.Nat.{ℕ, zero, suc, ◌+◌, ◌<◌, ◌≤◌}
 use native.Mathlib.Omega.{arith}
-use native.Mathlib.Decide.{ℕ_discrete, dec_lt}
-use lib.ListN.{length, get_or, set, take, drop, length-set, length-drop}
-use lib.Seq.{
-  get_or-set_same,
-  get_or-set_other,
-  get_or-take,
-  get_or-drop,
-  length-take-le,
-  take-set-lt,
-  take-set-le,
-  drop-set-lt,
-  drop-set-add,
-}
+use native.Mathlib.Decide.{ℕ_discrete}
+use lib.ListN.{length, get_or, set, take, drop, length-set}
+use lib.Seq.{get_or-set_same, get_or-set_other, get_or-drop}
 use Rattle.solver.specs.Words.Worklist.{sum, Zero, Work, Grown}
 use Rattle.solver.specs.Words.CongruenceClasses.{Clearing}
 
@@ -150,7 +140,7 @@ clearing {marks} W f =
       gone = W.blank;
     }
 
--- ---- both in one area: its first n words are the marks, the others the queue
+-- ---- words that are 0, cut in two and joined
 
 pub zero_take : (n : ℕ) (w : List ℕ) → Zero w → Zero (take n w)
 zero_take zero w z i = refl
@@ -158,27 +148,10 @@ zero_take (suc n) [] z i = refl
 zero_take (suc n) (x ∷ xs) z zero = z 0
 zero_take (suc n) (x ∷ xs) z (suc i) = zero_take n xs (λ j. z (suc j)) i
 
-module _ (n : ℕ) (w : List ℕ) where
-  pub zero_drop : Zero w → Zero (drop n w)
-  zero_drop z i = get_or-drop n w i 0 ∙ z (n + i)
+pub zero_drop : (n : ℕ) (w : List ℕ) → Zero w → Zero (drop n w)
+zero_drop n w z i = get_or-drop n w i 0 ∙ z (n + i)
 
-  pub zero_join : Zero (take n w) → Zero (drop n w) → Zero w
-  zero_join y z i = go (dec_lt i n)
-    where
-      go : Dec (i < n) → get_or w i 0 ≡ 0
-      go (yes p) = sym (get_or-take n w i 0 p) ∙ y i
-      go (no p) =
-          let e : i ≡ n + (i - n) = omega arith in
-          ap (λ (j : ℕ). get_or w j 0) e ∙ sym (get_or-drop n w (i - n) 0) ∙ z (i - n)
-
-  -- how long the two are
-  pub parts_long : n + n ≤ length w → (length (take n w) ≡ n) × (length (drop n w) ≡ length w - n)
-  parts_long h = (length-take-le n w (omega arith), length-drop n w)
-
-  -- a mark and a word of the queue are stored, in either order
-  module _ (v k x y : ℕ) (lt : v < n) where
-    pub take_marked : take n (set (set w v x) (n + k) y) ≡ set (take n w) v x
-    take_marked = take-set-le n (set w v x) (n + k) y (omega arith) ∙ take-set-lt n w v x lt
-
-    pub drop_marked : drop n (set (set w v x) (n + k) y) ≡ set (drop n w) k y
-    drop_marked = drop-set-add n (set w v x) k y ∙ ap (λ (l : List ℕ). set l k y) (drop-set-lt n w v x lt)
+pub zero_joined : (v w : List ℕ) → Zero v → Zero w → Zero (v ++ w)
+zero_joined [] w y z i = z i
+zero_joined (x ∷ xs) w y z zero = y 0
+zero_joined (x ∷ xs) w y z (suc i) = zero_joined xs w (λ j. y (suc j)) z i

@@ -60,6 +60,3 @@ module _ (k : ℕ) (ts : List ℕ) where
   rest_read z i h =
       let e : i ≡ k + (i - k) = omega arith in
       ap (λ (n : ℕ). get_or ts n 0) e ∙ sym (get_or-drop k ts (i - k) 0) ∙ z (i - k)
-
-  pub rest_zero : ((i : ℕ) → k ≤ i → get_or ts i 0 ≡ 0) → Zero (drop k ts)
-  rest_zero f j = get_or-drop k ts j 0 ∙ f (k + j) (omega arith)

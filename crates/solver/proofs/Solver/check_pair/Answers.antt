@@ -8,7 +8,7 @@ pub same_terms-requires-clause-places : goal.same_terms-requires-clause-places
 same_terms-requires-clause-places c = due_places c.requires.due.3
 
 pub returns-then-same_terms-clause-after : goal.returns-then-same_terms-clause-after
-returns-then-same_terms-clause-after c = λ s t u ps D W. turned_same D _ W (due_same D c.same_terms.ensures.term ∙ c.if-same_terms.true)
+returns-then-same_terms-clause-after c = λ s t u ps D W. rw c.checked.ensures (turned_same D _ W (due_same D c.same_terms.ensures.term ∙ c.if-same_terms.true))
 
 pub shallow_resolve-a-requires : goal.shallow_resolve-a-requires
 shallow_resolve-a-requires c = (due_places c.requires.due.3).0
@@ -27,7 +27,7 @@ returns-then-tokens-a-eq1-clause-after c =
     let g = c.shallow_resolve-b.ensures.term in
     λ s t u ps D W.
     turned_left D f g _ _ (due_same D c.same_terms.ensures.term ∙ c.if-same_terms.false) c.if-tokens-a-eq1.true
-    (c.unify_variable.ensures.after s (top s.solver u) (top s.solver t) (top s.solver u) ps (due_left D f g c.if-tokens-a-eq1.true) W)
+    (c.unify_variable.ensures.after s (top s.solver u) (top s.solver t) (top s.solver u) ps _ (due_left D f g c.if-tokens-a-eq1.true) W)
 
 pub unify_variable-requires-then-tokens-b-eq1-clause-faces : goal.unify_variable-requires-then-tokens-b-eq1-clause-faces
 unify_variable-requires-then-tokens-b-eq1-clause-faces c =
@@ -40,7 +40,7 @@ returns-then-tokens-b-eq1-clause-after c =
     let g = c.shallow_resolve-b.ensures.term in
     λ s t u ps D W.
     turned_right D f g _ _ (due_same D c.same_terms.ensures.term ∙ c.if-same_terms.false) c.if-tokens-a-eq1.false c.if-tokens-b-eq1.true
-    (c.unify_variable-then-tokens-b-eq1.ensures.after s (top s.solver t) (top s.solver t) (top s.solver u) ps (due_right D f g c.if-tokens-b-eq1.true) W)
+    (c.unify_variable-then-tokens-b-eq1.ensures.after s (top s.solver t) (top s.solver t) (top s.solver u) ps _ (due_right D f g c.if-tokens-b-eq1.true) W)
 
 pub decompose-requires-clause-nodes : goal.decompose-requires-clause-nodes
 decompose-requires-clause-nodes c =
@@ -55,4 +55,4 @@ returns-clause-after c =
     λ s t u ps D W.
     let N = due_nodes D f g c.if-tokens-a-eq1.false c.if-tokens-b-eq1.false in
     turned_nodes D f g _ _ (due_same D c.same_terms.ensures.term ∙ c.if-same_terms.false) c.if-tokens-a-eq1.false c.if-tokens-b-eq1.false
-    (c.decompose.ensures.after s (top s.solver t) (top s.solver u) ps D.represents N W)
+    (c.decompose.ensures.after s (top s.solver t) (top s.solver u) ps _ D.represents N W)

@@ -1,42 +1,26 @@
-use mathlib.Core.Path.{refl}
 use native.Mathlib.Omega.{arith}
 use Rattle.solver.proofs.Laws.Equality.LinkLaws.{advanced_on, top_below}
 use Rattle.solver.proofs.Laws.Equality.CloseLaws.{going_on, going_no, going_yes}
-use Rattle.solver.proofs.Laws.Equality.EqualLaws.{listed_fit, taken_entry}
-use borrow.Author.Rules.{rules}
+use Rattle.solver.proofs.Laws.Equality.EqualLaws.{taken_entry}
+use mathlib.Core.Path.{refl}
 use Rattle.solver.proofs.equality.close_congruence.Goals as goal
 
-pub overflow_add-x : goal.overflow_add-x
-overflow_add-x c = omega (arith, listed_fit _ c.loop-done.invariant.1.wired, c.loop-done.invariant.3, c.well_formed)
+pub offset_bounds-queue-done : goal.offset_bounds-queue-done
+offset_bounds-queue-done c = omega (arith, top_below _ _ _ _ c.loop-done.invariant.1.wired, c.loop-done.invariant.1.wired.room, c.well_formed)
 
-pub offset_bounds-work-n : goal.offset_bounds-work-n
-offset_bounds-work-n c = omega (arith, listed_fit _ c.loop-done.invariant.1.wired, c.loop-done.invariant.3, c.well_formed)
-
-pub bounds-work-n : goal.bounds-work-n
-bounds-work-n c = omega (arith, listed_fit _ c.loop-done.invariant.1.wired)
-
-pub overflow_sub-y : goal.overflow_sub-y
-overflow_sub-y c =
-    let l = c.loop-done in
-    let t = taken_entry _ l.invariant.1.wired l.done (omega arith) refl in
-    omega (arith, t.1, t.3)
-
-pub union_parts-requires-clause-places : goal.union_parts-requires-clause-places
-union_parts-requires-clause-places c =
-    let l = c.loop-done in
-    let t = taken_entry _ l.invariant.1.wired l.done (omega arith) refl in
-    (t.0, omega (arith, t.0, t.1, t.3, t.4))
+pub bounds-queue-done : goal.bounds-queue-done
+bounds-queue-done c = omega (arith, top_below _ _ _ _ c.loop-done.invariant.1.wired, c.loop-done.invariant.1.wired.room)
 
 pub returns-then-not-union_parts : goal.returns-then-not-union_parts
 returns-then-not-union_parts c =
     let l = c.loop-done in
-    let t = taken_entry _ l.invariant.1.wired l.done (omega arith) refl in
+    let t = taken_entry l.invariant.1.wired l.done (omega arith) in
     let d = c.union_parts.ensures in
     record {
       advanced = advanced_on l.invariant.1 d.advanced;
       terms = λ b e fa.
           let g = l.invariant.2 b e fa in
-          going_no g l.invariant.1.wired d.advanced (omega arith) t.2 (omega (arith, t.1, t.3)) (λ k j ps qs hx hy. d.terms b k j ps qs e hx hy g.fair)
+          going_no g l.invariant.1.wired d.advanced (omega arith) refl (omega (arith, t.1)) (λ k j ps qs hx hy. d.terms b k j ps qs e hx hy g.fair)
           c.if-not-union_parts.true;
     }
 
@@ -44,20 +28,19 @@ pub loop-done-smaller : goal.loop-done-smaller
 loop-done-smaller c = omega (arith, top_below _ _ _ _ c.loop-done.invariant.1.wired)
 
 pub overflow_add-done : goal.overflow_add-done
-overflow_add-done c = omega (arith, listed_fit _ c.loop-done.invariant.1.wired, c.loop-done.invariant.3, c.well_formed)
+overflow_add-done c = omega (arith, top_below _ _ _ _ c.loop-done.invariant.1.wired, c.loop-done.invariant.1.wired.room, c.well_formed)
 
 pub loop-done-preserved : goal.loop-done-preserved
 loop-done-preserved c =
     let l = c.loop-done in
-    let t = taken_entry _ l.invariant.1.wired l.done (omega arith) refl in
+    let t = taken_entry l.invariant.1.wired l.done (omega arith) in
     let d = c.union_parts.ensures in (
       omega (arith, d.advanced.more),
       advanced_on l.invariant.1 d.advanced,
       λ b e fa.
           let g = l.invariant.2 b e fa in
-          going_on g l.invariant.1.wired d.advanced (omega arith) t.2 (omega (arith, t.1, t.3)) (λ k j ps qs hx hy. d.terms b k j ps qs e hx hy g.fair)
+          going_on g l.invariant.1.wired d.advanced (omega arith) refl (omega (arith, t.1)) (λ k j ps qs hx hy. d.terms b k j ps qs e hx hy g.fair)
           c.if-not-union_parts.false,
-      search rules,
     )
 
 pub returns-clause-terms : goal.returns-clause-terms

@@ -1,5 +1,4 @@
-use lib.ListN.{get_or, take}
-use lib.Seq.{get_or-take}
+use lib.ListN.{get_or}
 use native.Mathlib.Omega.{arith}
 use Prim.Native.Nat.{◌-◌}
 use Rattle.solver.specs.Words.CongruenceClasses.{here}
@@ -13,5 +12,4 @@ pub loop-r-preserved : goal.loop-r-preserved
 loop-r-preserved c =
     let l = c.loop-r in
     let a = c.args in
-    let e = get_or-take a.n a.work.now l.r 0 l.invariant.0 in
-    (omega (arith, l.invariant.0, c.loop-r-test.true, c.requires.2 l.r, e), up_snoc (take a.n a.work.now) (get_or a.work.now l.r 0 - 1) l.invariant.1 (omega (arith, e, c.loop-r-test.true)))
+    (omega (arith, l.invariant.0, c.loop-r-test.true, c.requires.1 l.r), up_snoc a.links.now (get_or a.links.now l.r 0 - 1) l.invariant.1 (omega (arith, c.loop-r-test.true)))

@@ -1,12 +1,11 @@
 -- `find`. Invariant: r is reached from a by going up. Measure: r, which falls.
-use lib.ListN.{take}
+use lib.ListN.{length}
 use Prim.Native.Nat.{◌<◌}
 use Rattle.solver.specs.Words.CongruenceClasses.{Up}
 use Rattle.solver.proofs.equality.find.Given as goal
 
 abbrev pub invariant-loop-r : goal.invariant-loop-r
-invariant-loop-r l =
-    (l.r < l.n) × Up (take l.n l.work) l.a l.r
+invariant-loop-r l = (l.r < length l.links) × Up l.links l.a l.r
 
 abbrev pub decreases-loop-r : goal.decreases-loop-r
 decreases-loop-r l = l.r

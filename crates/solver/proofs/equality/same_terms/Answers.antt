@@ -1,34 +1,46 @@
 -- `same_terms`. From the joins to the two terms (`decide_yes`, `decide_no`, `decide_apart`); then the words are cleared.
-use lib.ListN.{length}
+use native.Mathlib.Omega.{arith}
 use mathlib.Core.Path.{◌∙◌}
 use Rattle.terms.proofs.Laws.General.Bools.{never_true}
 use Rattle.solver.specs.Constrain.{follow}
-use Rattle.solver.specs.Words.CongruenceClasses.{link_words, WiredIn, HeldSteady, stands_for}
+use Rattle.solver.specs.Words.Worklist.{Zero}
+use Rattle.solver.specs.Words.CongruenceClasses.{Wired, HeldSteady, stands_for}
+use Rattle.solver.proofs.Laws.Resolving.WorklistLaws.{zero_take, zero_drop, zero_joined}
 use Rattle.solver.proofs.Laws.Equality.LinkLaws.{clear_start}
 use Rattle.solver.proofs.Laws.Equality.CloseLaws.{zero_fair, decide_no, decide_yes, decide_apart}
-use Rattle.solver.proofs.Laws.Equality.EqualLaws.{links_fit, zero_links, steady_standing, answer}
+use Rattle.solver.proofs.Laws.Equality.EqualLaws.{wired_none, steady_standing, answer}
 use Rattle.solver.proofs.equality.same_terms.Goals.{then-union_terms, else-union_terms}
 use Rattle.solver.proofs.equality.same_terms.Goals as goal
 use Rattle.solver.proofs.equality.same_terms.Goals.{Joined-union_terms}
 
 -- the words are wired, whether or not the two terms were joined
-linked : (c : Joined-union_terms) → WiredIn c.args.bindings.now.tokens.kinds.now c.if-union_terms.work c.if-union_terms.top
+linked : (c : Joined-union_terms) → Wired c.args.bindings.now.tokens.kinds.now c.if-union_terms.links c.if-union_terms.queue c.if-union_terms.top
 linked c =
     elim c.if-union_terms.branch [
-      | then-union_terms w ↦ rw (w.work-is, w.top-is) w.close_congruence-equal.ensures.advanced.wired
-      | else-union_terms w ↦ rw (w.work-is, w.top-is) c.union_terms.ensures.advanced.wired
+      | then-union_terms w ↦ rw (w.links-is, w.queue-is, w.top-is) w.close_congruence-equal.ensures.advanced.wired
+      | else-union_terms w ↦ rw (w.links-is, w.queue-is, w.top-is) c.union_terms.ensures.advanced.wired
     ]
 
+pub union_terms-requires-clause-wired : goal.union_terms-requires-clause-wired
+union_terms-requires-clause-wired c =
+    let s = c.split_at_mut-links.ensures in
+    let z = c.requires.room.1 in
+    wired_none _ _ _ s.front_len (omega (arith, s.back_len, c.requires.room.0)) (rw s.front (zero_take _ _ z)) (rw s.back (zero_drop _ _ z))
+
 pub clear_queue-requires : goal.clear_queue-requires
-clear_queue-requires c =
-    let w = linked (goal.at.clear_queue-requires c).Joined-union_terms in
-    (links_fit _ w, clear_start c.args.bindings.now.tokens.kinds.now _ _ _ w)
+clear_queue-requires c = clear_start c.args.bindings.now.tokens.kinds.now _ _ _ (linked (goal.at.clear_queue-requires c).Joined-union_terms)
+
+pub returns-clause-clear : goal.returns-clause-clear
+returns-clause-clear c =
+    let z = c.clear_queue.ensures in
+    zero_joined _ _ z.0 z.1
 
 pub returns-clause-term : goal.returns-clause-term
 returns-clause-term c =
     let a = c.args in
-    let w = link_words a.bindings.now.tokens.kinds.now a.work.now in
-    let z = zero_links (length a.bindings.now.tokens.kinds.now) a.work.now c.requires.room.1 in
+    let s = c.split_at_mut-links.ensures in
+    let w = c.split_at_mut-links.result.0.now in
+    let z : Zero w = rw s.front (zero_take _ _ c.requires.room.1) in
     let d = c.union_terms.ensures in
     λ t u b ht hu h S T.
     let e : HeldSteady a.bindings.now b = record { held = h; steady = S; topped = T } in

@@ -1,7 +1,6 @@
 use native.Mathlib.Omega.{arith}
 use Rattle.solver.proofs.Laws.Equality.LinkLaws.{advanced_on}
-use Rattle.solver.proofs.Laws.Equality.UnionRowLaws.{walk_number, walk_join, walk_yes, no_short, no_long, no_term, no_number, no_value, no_join}
-use borrow.Author.Rules.{rules}
+use Rattle.solver.proofs.Laws.Equality.UnionRowLaws.{walk_number, walk_join, walk_over, no_short, no_term, no_number, no_value, no_join}
 use Rattle.solver.proofs.equality.union_rows.Goals as goal
 
 pub returns-then-b-j-clause-terms : goal.returns-then-b-j-clause-terms
@@ -23,7 +22,6 @@ loop-i-preserved-then-tokens-i-eq0 c =
       i.2,
       λ h ps qs e hp hq fa.
           walk_number _ _ _ _ (i.3 h ps qs e hp hq fa) (omega arith) (omega arith) c.if-tokens-i-eq0.true c.if-tokens-j-ne0.false c.if-tokens-i.false,
-      i.4,
     )
 
 pub returns-then-tokens-j-eq0-clause-terms : goal.returns-then-tokens-j-eq0-clause-terms
@@ -55,11 +53,7 @@ loop-i-preserved c =
           let w = i.3 h ps qs e hp hq fa in
           walk_join _ _ _ _ w d.advanced.keeps (omega arith) (omega arith) c.if-tokens-i-eq0.false c.if-tokens-j-eq0.false
           (λ t u ht hu. d.terms h t u e ht hu w.fair) c.if-not-union_terms.false (λ x y. r.span x (omega arith)) (λ x y. q.span x (omega arith)),
-      search rules,
     )
 
-pub returns-then-j-b-clause-terms : goal.returns-then-j-b-clause-terms
-returns-then-j-b-clause-terms c = λ h ps qs e hp hq fa. no_long _ _ _ _ (c.loop-i.invariant.3 h ps qs e hp hq fa) (omega arith) c.if-j-b.true
-
 pub returns-clause-terms : goal.returns-clause-terms
-returns-clause-terms c = λ h ps qs e hp hq fa. walk_yes _ _ _ _ (c.loop-i.invariant.3 h ps qs e hp hq fa) (omega arith) c.if-j-b.false
+returns-clause-terms c = λ h ps qs e hp hq fa. walk_over _ _ _ _ (c.loop-i.invariant.3 h ps qs e hp hq fa) (omega arith)

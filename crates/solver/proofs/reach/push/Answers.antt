@@ -1,59 +1,39 @@
 -- `push`. By the token's kind, the table and the mark.
-use Rattle.std.proofs.lemmas.Grind.{common_steps}
-use mathlib.Core.Path.{◌≡◌, refl, sym, ap, ◌∙◌}
+use mathlib.Core.Path.{refl, ap, ◌∙◌}
 use Prim.Native.Nat.{ℕ, ◌<◌}
 use native.Mathlib.Omega.{arith}
-use lib.ListN.{get_or, take, length-set}
-use lib.Seq.{get_or-take}
-use Rattle.solver.specs.Words.ReachContract.{counts}
-use Rattle.solver.proofs.Laws.Resolving.WorklistLaws.{room_left, grown_new, grown_none, marked, parts_long, take_marked, drop_marked}
+use lib.ListN.{length, get_or}
+use Rattle.solver.proofs.Laws.Resolving.WorklistLaws.{room_left, grown_new, grown_none, marked}
 use Rattle.solver.proofs.Laws.Resolving.AskLaws.{token_is, is_token}
+use Rattle.solver.proofs.reach.push.Goals.{Then-marks-at-eq0, else-kind-eq1-via-then-kind-eq1+then-at-marks+else-marks-at-eq0, else-kind-eq1-via-then-kind-eq1+else-at-marks, else-kind-eq1-via-else-kind-eq1}
 use Rattle.solver.proofs.reach.push.Goals as goal
-use Rattle.solver.proofs.reach.push.Goals.{Else-work-at-ne0}
 
 -- a variable of the table that is not marked leaves room in the queue
-room : (c : Else-work-at-ne0) → (c.args.val < c.args.n) × (c.args.top.now < c.args.n) × (get_or (take c.args.n c.args.work.now) c.args.val 0 ≡ 0)
-room c =
-    let x = c.args.val in
-    let lt : x < c.args.n = omega (arith, c.if-n-at.false) in
-    let l = (parts_long c.args.n c.args.work.now c.requires.1).0 in
-    let z = get_or-take c.args.n c.args.work.now x 0 lt ∙ c.if-work-at-ne0.false in
-    (lt, omega (arith, l, room_left c.requires.0 x (omega arith) z), z)
+room : (c : Then-marks-at-eq0) → c.args.top.now < length c.args.marks.now
+room c = room_left c.requires.0 c.args.val c.if-at-marks.true c.if-marks-at-eq0.true
 
-pub returns-then-kind-ne1 : goal.returns-then-kind-ne1
-unfolding counts
-returns-then-kind-ne1 c = grind (arith, common_steps)
+pub offset_bounds-queue-top : goal.offset_bounds-queue-top
+offset_bounds-queue-top c = omega (arith, room (goal.at.offset_bounds-queue-top c).Then-marks-at-eq0, c.requires.1, c.well_formed)
 
-pub returns-then-n-at : goal.returns-then-n-at
-unfolding counts
-returns-then-n-at c = grind (arith, common_steps)
-
-pub returns-then-work-at-ne0 : goal.returns-then-work-at-ne0
-returns-then-work-at-ne0 c =
-    let x = c.args.val in
-    let e = get_or-take c.args.n c.args.work.now x 0 (omega (arith, c.if-n-at.false)) in
-    let m = marked c.requires.0 x (λ q. c.if-work-at-ne0.true (sym e ∙ q)) in
-    grown_none c.requires.0 _
-    (λ u l i. ap (λ (y : ℕ). get_or (take c.args.n c.args.work.now) y 0) (token_is _ _ _ i).1 ∙ m)
-
-pub overflow_add-work : goal.overflow_add-work
-overflow_add-work c = omega (arith, (room (goal.at.overflow_add-work c).Else-work-at-ne0).1, c.requires.1, c.well_formed)
-
-pub offset_bounds-work-n : goal.offset_bounds-work-n
-offset_bounds-work-n c = omega (arith, (room (goal.at.offset_bounds-work-n c).Else-work-at-ne0).1, c.requires.1, c.well_formed)
-
-pub bounds-work-n : goal.bounds-work-n
-bounds-work-n c = omega (arith, (room (goal.at.bounds-work-n c).Else-work-at-ne0).1, c.requires.1, length-set c.args.work.now c.args.val 1)
+pub bounds-queue-top : goal.bounds-queue-top
+bounds-queue-top c = omega (arith, room (goal.at.bounds-queue-top c).Then-marks-at-eq0, c.requires.1)
 
 pub overflow_add-top : goal.overflow_add-top
-overflow_add-top c = omega (arith, (room (goal.at.overflow_add-top c).Else-work-at-ne0).1, c.requires.1, c.well_formed)
+overflow_add-top c = omega (arith, room (goal.at.overflow_add-top c).Then-marks-at-eq0, c.requires.1, c.well_formed)
 
-pub returns : goal.returns
-returns c =
-    let n = c.args.n in
-    let w = c.args.work.now in
-    let x = c.args.val in
-    let r = room (goal.at.returns c).Else-work-at-ne0 in
-    let l = parts_long n w c.requires.1 in
-    rw (take_marked n w x c.args.top.now 1 x r.0, drop_marked n w x c.args.top.now 1 x r.0)
-    (grown_new c.requires.0 x (omega (arith, r.0, l.0)) r.2 (omega (arith, r.1, l.1, c.requires.1)) _ (is_token _ _ _ c.if-kind-ne1.false refl) (λ u i. (token_is _ _ _ i).1))
+pub returns-then-marks-at-eq0 : goal.returns-then-marks-at-eq0
+returns-then-marks-at-eq0 c =
+    let r = room (goal.at.returns-then-marks-at-eq0 c).Then-marks-at-eq0 in
+    grown_new c.requires.0 c.args.val c.if-at-marks.true c.if-marks-at-eq0.true (omega (arith, r, c.requires.1)) _ (is_token _ _ _ c.if-kind-eq1.true refl) (λ u i. (token_is _ _ _ i).1)
+
+pub returns-else-kind-eq1 : goal.returns-else-kind-eq1
+returns-else-kind-eq1 c =
+    let v = c.args.val in
+    let ms = c.args.marks.now in
+    elim c.else-kind-eq1.branch [
+      | else-kind-eq1-via-then-kind-eq1+then-at-marks+else-marks-at-eq0 w ↦
+          grown_none c.requires.0 _ (λ u l i. ap (λ (y : ℕ). get_or ms y 0) (token_is _ _ _ i).1 ∙ marked c.requires.0 v w.if-marks-at-eq0.false)
+      | else-kind-eq1-via-then-kind-eq1+else-at-marks w ↦
+          grown_none c.requires.0 _ (λ u l i. absurd (omega (arith, w.if-at-marks.false, (token_is _ _ _ i).1)))
+      | else-kind-eq1-via-else-kind-eq1 w ↦ grown_none c.requires.0 _ (λ u l i. absurd (w.if-kind-eq1.false (token_is _ _ _ i).0))
+    ]
