@@ -1,10 +1,10 @@
 -- What the functions of the program hand on.
-use Rattle.std.specs.Prelude.{◌≡◌, List, ℕ, ◌-◌, ◌≤◌, ◌<◌, Option, Some, None, Ok, Err, ⊤, length, take, drop}
-use Rattle.std.specs.Borrow.{Bor}
+use Rattle.std.specs.Prelude.{◌≡◌, ℕ, ◌-◌, ◌≤◌, ◌<◌, Option, Some, None, Ok, Err, ⊤, length, take, drop}
 use Rattle.std.specs.declared.result.Result as rust
 use Rattle.terms.specs.declared.Refusal.{Refusal}
 use Rattle.reread.specs.declared.Frame.{Frame}
 use Rattle.reread.specs.declared.Frames.{Frames}
+use Rattle.reread.specs.declared.input.Input.{Input}
 use Rattle.reread.specs.declared.Frame.TheVariants.{Number, Kept}
 
 -- tokens from the first up to the last, within two areas of m and n, where there is no refusal
@@ -24,7 +24,7 @@ Inside at n (Some (from, end)) = (at < from) × (from ≤ end) × (end ≤ n)
 Inside at n None = Unit {0}
 
 -- a step over the frames: the bytes of the frame that lies after its length, where there is one, and on behind it
-abbrev pub Passes : Frames → Option (Bor (List ℕ)) → Frames → Type 0
+abbrev pub Passes : Frames → Option Input → Frames → Type 0
 Passes s (Some x) t =
-    (from : ℕ) × Inside s.at (length s.input.now) (Some (from, t.at)) × (x.now ≡ take (t.at - from) (drop from s.input.now)) × (t.input ≡ s.input)
+    (from : ℕ) × Inside s.at (length s.input.bytes.now) (Some (from, t.at)) × (x.bytes.now ≡ take (t.at - from) (drop from s.input.bytes.now)) × (t.input ≡ s.input)
 Passes s None t = Unit {0}

@@ -9,17 +9,24 @@ ghost use Rattle.std.specs.Prelude.{◌≡◌, ◌+◌, ◌-◌, ◌≤◌, ◌<
 ghost use Rattle.std.specs.Iterator.{at_most};
 ghost use Rattle.reread.specs.Frame.{Sound, Lies, Passes};
 
+mod input;
+
 use frames::all_are;
+use input::Input;
 use terms::{
-    Place, Refusal, clear_tokens, keep_nominal, keep_term, number_len, read_number, run_len,
+    PartKind, Place, Refusal, clear_tokens, number_len, part_at, read_number, run_len,
     write_number, write_run,
 };
 
 // What a frame holds: for terms the nodes, the tokens and the first token to write.
-#[derive(Clone, Copy)]
+#[derive(Clone, Copy, Debug, PartialEq, Eq)]
 pub enum Frame {
     Number(u64),
-    Kept(usize, usize, usize),
+    Kept {
+        nodes: usize,
+        tokens: usize,
+        first: usize,
+    },
 }
 
 const MOST: u64 = 4294967295;
@@ -61,56 +68,60 @@ fn settle(
         clear_tokens(kinds, vals, 0, q.top);
         return Err(refusal);
     }
-    Ok(Frame::Kept(q.nodes, q.top, first))
+    Ok(Frame::Kept {
+        nodes: q.nodes,
+        tokens: q.top,
+        first,
+    })
 }
 
-// A term, or a bare nominal, from a position on.
+// A term, or a bare nominal, of a frame: how many variables are issued, and the bytes. A bare nominal is written without its head.
 fn term_frame(
-    s: &[u8],
+    input: Input,
     kinds: &mut [u32],
     vals: &mut [u32],
-    at: usize,
-    issued: u64,
-    bare: bool,
+    wanted: PartKind,
 ) -> Result<Frame, Refusal>
-    requires { (at ≤ length s.now) × (length s.now < 65536) }
     ensures { Sound (length kinds.new) (length vals.new) result }
 {
+    let s = input.bytes;
+    let (issued, at) = read_number(s, 1, MOST)?;
     let mut place = Place {
         at,
         top: 0,
         nodes: 0,
         limit: NODES,
     };
-    if bare {
-        keep_nominal(s, kinds, vals, &mut place, LEVELS, issued)?;
-        settle(kinds, vals, s.len(), 1, place)
-    } else {
-        keep_term(s, kinds, vals, &mut place, LEVELS, issued)?;
-        settle(kinds, vals, s.len(), 0, place)
-    }
+    part_at(s, kinds, vals, &mut place, wanted, LEVELS, issued)?;
+    let first = match wanted {
+        PartKind::Term => 0,
+        PartKind::BareNominal => 1,
+    };
+    settle(kinds, vals, s.len(), first, place)
 }
 
-// Reads a frame.
-fn read_frame(s: &[u8], kinds: &mut [u32], vals: &mut [u32]) -> Result<Frame, Refusal>
-    requires { length s.now < 65536 }
-    ensures { Sound (length kinds.new) (length vals.new) result }
-{
-    if s.len() == 0 {
-        return Err(Refusal::Length);
-    }
-    let kind = s[0];
-    if 2 < kind {
-        return Err(Refusal::Code);
-    }
+// The number of a frame, which is all of its bytes.
+fn whole_number(s: &[u8]) -> Result<u64, Refusal> {
     let (v, next) = read_number(s, 1, MOST)?;
-    if kind < 2 {
-        return term_frame(s, kinds, vals, next, v, kind == 1);
-    }
     if next < s.len() {
         return Err(Refusal::Length);
     }
-    Ok(Frame::Number(v))
+    Ok(v)
+}
+
+// Reads a frame.
+fn read_frame(input: Input, kinds: &mut [u32], vals: &mut [u32]) -> Result<Frame, Refusal>
+    ensures { Sound (length kinds.new) (length vals.new) result }
+{
+    let Some(&kind) = input.bytes.first() else {
+        return Err(Refusal::Length);
+    };
+    match kind {
+        0 => term_frame(input, kinds, vals, PartKind::Term),
+        1 => term_frame(input, kinds, vals, PartKind::BareNominal),
+        2 => Ok(Frame::Number(whole_number(input.bytes)?)),
+        _ => Err(Refusal::Code),
+    }
 }
 
 // A refusal. Each function that answers returns the position after the answer, or nothing where it does not fit.
@@ -187,7 +198,13 @@ fn answer(
     match f {
         Err(refusal) => refused_answer(out, at, u8::from(refusal)),
         Ok(Frame::Number(v)) => number_answer(out, at, v),
-        Ok(Frame::Kept(nodes, tokens, first)) => {
+        Ok(
+            Frame::Kept {
+                nodes,
+                tokens,
+                first,
+            },
+        ) => {
             let next = kept_answer(kinds, vals, nodes, tokens, first, out, at);
             clear_tokens(kinds, vals, 0, tokens);
             next
@@ -197,16 +214,16 @@ fn answer(
 
 // Answers a frame at a position of `out`. Returns the position after the answer, or nothing where it does not fit or something remains in an area.
 fn answer_frame(
-    s: &[u8],
+    input: Input,
     kinds: &mut [u32],
     vals: &mut [u32],
     out: &mut [u8],
     to: usize,
 ) -> Option<usize>
-    requires { (length s.now < 65536) × (to ≤ length out.old) }
+    requires { to ≤ length out.old }
     ensures { IfSome result (λ next. next ≤ length out.new) }
 {
-    let f = read_frame(s, kinds, vals);
+    let f = read_frame(input, kinds, vals);
     let next = answer(kinds, vals, f, out, to)?;
     (all_are(kinds, 0) && all_are(vals, 0)).then_some(next)
 }
@@ -215,38 +232,39 @@ fn answer_frame(
 // `sheet`: the sheet names the solver alone, so `terms` and `solver` would have to offer what a frame is, which neither needs.
 #[derive(Clone, Copy, Drop)]
 pub struct Frames<'a> {
-    pub input: &'a [u8],
+    pub input: Input<'a>,
     pub at: usize,
 }
 
 impl<'a> Iterator for Frames<'a> {
-    type Item = &'a [u8];
+    type Item = Input<'a>;
 
-    ghost can_next = { λ s. s.at ≤ length s.input.now };
+    ghost can_next = { λ s. s.at ≤ length s.input.bytes.now };
 
     ghost next_gives = { Passes };
 
-    ghost remaining = { λ s. at_most (length s.input.now - s.at) };
+    ghost remaining = { λ s. at_most (length s.input.bytes.now - s.at) };
 
-    fn next(&mut self) -> Option<&'a [u8]> {
-        let input = self.input;
+    fn next(&mut self) -> Option<Input<'a>> {
+        let input = self.input.bytes;
         let (size, from) = read_number(input, self.at, MOST).ok()?;
         if ((input.len() - from) as u64) < size {
             return None;
         }
         let end = from + size as usize;
         self.at = end;
-        Some(&input[from..end])
+        Some(Input {
+            bytes: &input[from..end],
+        })
     }
 }
 
 // Answers frames until there are no more or an answer is not there.
-fn run(s: &[u8], kinds: &mut [u32], vals: &mut [u32], out: &mut [u8]) -> usize
-    requires { length s.now < 65536 }
+fn run(input: Input, kinds: &mut [u32], vals: &mut [u32], out: &mut [u8]) -> usize
     ensures { result ≤ length out.new }
 {
     let mut to = 0;
-    for frame in (Frames { input: s, at: 0 }) {
+    for frame in (Frames { input, at: 0 }) {
         let Some(next) = answer_frame(frame, kinds, vals, out, to) else {
             return to;
         };
@@ -261,6 +279,7 @@ fn main() {
     let mut kinds = [0u32; 16384];
     let mut vals = [0u32; 16384];
     let n = io::read_full(0, &mut input);
-    let m = run(&input[..n], &mut kinds, &mut vals, &mut out);
+    let input = Input { bytes: &input[..n] };
+    let m = run(input, &mut kinds, &mut vals, &mut out);
     io::write_all(1, &out[..m]);
 }

@@ -2,9 +2,12 @@
 // byte first, and the bytes of a term. What is printed, the tokens read and the bytes written of all turns, shows that the work was done.
 #![tactic(auto)]
 
-ghost use Rattle.std.specs.Prelude.{◌<◌, ◌≤◌, length, IfSome};
+ghost use Rattle.std.specs.Prelude.{◌≤◌, length, IfSome};
+
+mod input;
 
 use frames::number_at;
+use input::{Input, Mode};
 use terms::{Place, clear_tokens, keep_term, run_len, write_run};
 
 const LEVELS: u32 = 200;
@@ -12,8 +15,7 @@ const LEVELS: u32 = 200;
 const NODES: usize = 2048;
 
 // Reads the term. Returns how many tokens stand in the areas, or nothing where it is refused, or has more than there is space for.
-fn read_once(s: &[u8], kinds: &mut [u32], vals: &mut [u32]) -> Option<usize>
-    requires { length s.now < 65536 }
+fn read_once(input: Input, kinds: &mut [u32], vals: &mut [u32]) -> Option<usize>
     ensures { IfSome result (λ tokens. (tokens ≤ length kinds.new) × (tokens ≤ length vals.new)) }
 {
     let mut place = Place {
@@ -22,7 +24,7 @@ fn read_once(s: &[u8], kinds: &mut [u32], vals: &mut [u32]) -> Option<usize>
         nodes: 0,
         limit: NODES,
     };
-    keep_term(s, kinds, vals, &mut place, LEVELS, 0).ok()?;
+    keep_term(input.bytes, kinds, vals, &mut place, LEVELS, 0).ok()?;
     if kinds.len().min(vals.len()) < place.top {
         return None;
     }
@@ -42,12 +44,10 @@ fn write_once(kinds: &[u32], vals: &[u32], tokens: usize, out: &mut [u8]) -> Opt
 }
 
 // Reads the term `count` times, and clears what was read each time.
-fn reads(s: &[u8], kinds: &mut [u32], vals: &mut [u32], count: u32) -> u64
-    requires { length s.now < 65536 }
-{
+fn reads(input: Input, kinds: &mut [u32], vals: &mut [u32], count: u32) -> u64 {
     let mut sum: u64 = 0;
     for _ in 0..count {
-        if let Some(tokens) = read_once(s, kinds, vals) {
+        if let Some(tokens) = read_once(input, kinds, vals) {
             clear_tokens(kinds, vals, 0, tokens);
             sum = sum.wrapping_add(tokens as u64);
         }
@@ -68,28 +68,26 @@ fn writes(kinds: &[u32], vals: &[u32], tokens: usize, out: &mut [u8], count: u32
     sum
 }
 
-// The repeat count, or 0 where the mode leaves this half out.
-fn turns(s: &[u8], without: u8) -> u32
-    requires { 5 ≤ length s.now }
-{
-    if s[0] == without {
-        return 0;
-    }
-    number_at(s, 1)
-}
-
 // The measurement that the input asks for.
-fn measure(s: &[u8], kinds: &mut [u32], vals: &mut [u32], out: &mut [u8]) -> u64
-    requires { length s.now < 65536 }
-{
+fn measure(input: Input, kinds: &mut [u32], vals: &mut [u32], out: &mut [u8]) -> u64 {
+    let s = input.bytes;
     if s.len() < 5 {
         return 0;
     }
-    let read = reads(&s[5..], kinds, vals, turns(s, 2));
-    let Some(tokens) = read_once(&s[5..], kinds, vals) else {
+    let mode = Mode::from(s[0]);
+    let count = number_at(s, 1);
+    let term = Input { bytes: &s[5..] };
+    let read = match mode {
+        Mode::Write => 0,
+        Mode::Read | Mode::Both => reads(term, kinds, vals, count),
+    };
+    let Some(tokens) = read_once(term, kinds, vals) else {
         return read;
     };
-    let written = writes(kinds, vals, tokens, out, turns(s, 1));
+    let written = match mode {
+        Mode::Read => 0,
+        Mode::Write | Mode::Both => writes(kinds, vals, tokens, out, count),
+    };
     read.wrapping_add(written)
 }
 
@@ -99,6 +97,7 @@ fn main() {
     let mut kinds = [0u32; 16384];
     let mut vals = [0u32; 16384];
     let n = io::read_full(0, &mut input);
-    let sum = measure(&input[..n], &mut kinds, &mut vals, &mut out);
+    let input = Input { bytes: &input[..n] };
+    let sum = measure(input, &mut kinds, &mut vals, &mut out);
     io::print_decimal(1, sum);
 }

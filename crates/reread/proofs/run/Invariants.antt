@@ -8,7 +8,7 @@ abbrev pub invariant-loop-frame : goal.invariant-loop-frame
 invariant-loop-frame l =
     (goal.iterator-loop-frame).can_next l.frame-iterator
     × (goal.iterator-loop-frame).is_finite l.frame-iterator
-    × (length l.frame-iterator.input.now ≡ length l.s)
+    × (length l.frame-iterator.input.bytes.now ≡ length l.input.bytes.now)
     × (l.to ≤ length l.out)
     × (length l.kinds ≡ length l.initial.kinds)
     × (length l.vals ≡ length l.initial.vals)
