@@ -1,5 +1,5 @@
 -- `in_context`: with its binders.
-use mathlib.Core.Path.{ap, ◌∙◌}
+use mathlib.Core.Path.{ap}
 use Rattle.solver.specs.TermTypes.{Binders, Parameters}
 use Rattle.solver.specs.Terms.Parameters.{listed}
 use Rattle.solver.specs.Terms.RewriteContract.{is_context}
