@@ -18,7 +18,7 @@ mod starting;
 mod term_orders;
 
 pub use running::run_sheet;
-use solver::{Access, Defaulted, Refusal, Solver, Tokens, refusal_number};
+use solver::{Access, Defaulted, NumberRequest, Refusal, Solver, Tokens, refusal_number};
 
 // Which order it is, by what answers it; `try_from` of order_table.rt has the numbers. Orders 9 to 20 are operations, which leave the session as it was.
 #[derive(Clone, Copy, Debug, PartialEq, Eq)]
@@ -114,11 +114,11 @@ pub struct Posed<'a> {
     ghost few: { length tokens.kinds.now ≤ 32768 },
 }
 
-// An order for a variable: that of a site and a slot (order 0), a number variable of a site with the word of its request (1 and 21), a hole of a site (2).
+// An order for a variable: that of a site and a slot (order 0), a number variable of a site with its request (1 and 21), a hole of a site (2).
 #[derive(Clone, Copy)]
 pub enum VariableOrder {
     Slot(u32, u32),
-    Number(u32, u32),
+    Number(u32, NumberRequest),
     Hole(u32),
 }
 

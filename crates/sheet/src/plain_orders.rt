@@ -1,14 +1,14 @@
 // Orders 0, 1, 2, 6, 7, 8 and 21 on what the solver is lent: the tokens, the table, and the work area, all 0.
-ghost use Rattle.std.specs.Prelude.{◌≡◌, List, ℕ, ◌<◌};
-ghost use Rattle.std.proofs.Math.Option.{Option, some};
+ghost use Rattle.std.specs.Prelude.{MatchOption, ◌≡◌, List, ℕ, ◌<◌};
+ghost use Rattle.std.proofs.Math.Option.{none, some};
 ghost use Rattle.solver.specs.Terms.Term.{Term, var, bytes};
-ghost use Rattle.solver.specs.Families.{Request, requested};
+ghost use Rattle.solver.specs.Families.{requested};
 ghost use Rattle.solver.specs.Session.{Session, issued};
 ghost use Rattle.solver.specs.Invariant.{InOrder};
 ghost use Rattle.solver.specs.Orders as orders;
 ghost use Rattle.solver.specs.Words.Worklist.{Zero};
-ghost use Rattle.solver.specs.Words.SessionRepresentation.{HeldRequest, Represents, limits_of};
-ghost use Rattle.solver.specs.Words.MethodContract.{Beside, defaults_by};
+ghost use Rattle.solver.specs.Words.SessionRepresentation.{Represents, limits_of};
+ghost use Rattle.solver.specs.Words.MethodContract.{Beside, bound_of, request_held, defaults_by};
 ghost use Rattle.solver.specs.Words.OrderTerms.{Asked, Frames, resolved_to};
 ghost use Rattle.solver.specs.TermTypes.{Rule};
 ghost use Rattle.sheet.specs.OrderTable.{outcome, between, asking};
@@ -17,16 +17,16 @@ ghost use Rattle.sheet.specs.Words.FieldLayout.{spot_bound};
 ghost use Rattle.sheet.specs.Words.OrderKinds.{termless_row};
 ghost use Rattle.sheet.specs.Words.OperationsContract.{Asks};
 ghost use Rattle.sheet.specs.Words.FramingContract.{OutputRoom, output_at, written_to, Framed};
-ghost use Rattle.sheet.specs.Words.SessionOrdersContract.{lent, Does, Says, variable_command, site_of, RequestTold};
-ghost use Rattle.sheet.specs.Words.SessionOrdersContract.{variable_answer, termless_command, TermlessTold};
+ghost use Rattle.sheet.specs.Words.SessionOrdersContract.{lent, Does, Says, variable_command, site_of};
+ghost use Rattle.sheet.specs.Words.SessionOrdersContract.{variable_answer, termless_command};
 
 use super::framing::{begin_answer, write_byte_answer, write_number_answer, write_refusal};
 use super::{
     AfterOrder, FieldSpot, FieldSpots, OrderRefusal, TermlessKind, TermlessOrder, VariableOrder,
 };
 use solver::{
-    Bound, Defaulted, Refusal, Site, Solver, Subject, Tokens, plain_request, range_request,
-    variable_len, write_variable,
+    Bound, Builtin, Defaulted, NumberRequest, Refusal, Site, Solver, Subject, Tokens,
+    plain_request, range_request, variable_len, write_variable,
 };
 
 // Order 8.
@@ -142,8 +142,7 @@ fn answer_variable(
 
 // The variable is issued, where the place has none; a number variable is requested.
 fn issue_variable(x: Solver, tables: &mut [u32], wanted: VariableOrder) -> Solver
-    requires held { (ks vs : List ℕ) × (z : Session) × Represents x ks vs tables.old z }
-    requires fallback { RequestTold wanted }
+    requires { (ks vs : List ℕ) × (z : Session) × Represents x ks vs tables.old z }
     ensures held { (ks vs : List ℕ) (z : Session) → Represents x ks vs tables.old z
         → Represents result ks vs tables.new (solve (limits_of x) z (variable_command wanted)).session }
     ensures beside { Beside x result tables.old tables.new }
@@ -175,7 +174,7 @@ fn variable_order(
     to: usize,
 ) -> AfterOrder
     requires held { (z : Session) × Represents x tokens.now.kinds.now tokens.now.vals.now tables.old z }
-    requires areas { RequestTold wanted × Frames x frames.old }
+    requires areas { Frames x frames.old }
     requires room { OutputRoom out.old to }
     ensures clear { Zero frames.new }
     ensures does { (z : Session) → Represents x tokens.now.kinds.now tokens.now.vals.now tables.old z
@@ -194,56 +193,58 @@ fn variable_order(
     AfterOrder { solver: y, next }
 }
 
-// The word of what an order 21 requests, of its fallback and the spots of its bounds: 0 where it is refused.
-fn range_word(fallback: u32, low: FieldSpot, high: FieldSpot) -> u32
-    requires { fallback < 32 }
-    ensures { HeldRequest (between fallback (spot_bound low) (spot_bound high)) result }
+// The bound that a spot has; none where its sign is neither 0 nor 1.
+fn bound_at(spot: FieldSpot) -> Option<Bound>
+    ensures { MatchOption result (spot_bound spot ≡ none) (λ bound. spot_bound spot ≡ some (bound_of bound)) }
 {
-    if 1 < low.place {
-        return 0;
+    if 1 < spot.place {
+        return None;
     }
-    if 1 < high.place {
-        return 0;
-    }
-    let least = Bound {
-        minus: low.place == 1,
-        size: low.value,
-    };
-    let greatest = Bound {
-        minus: high.place == 1,
-        size: high.value,
-    };
+    Some(Bound {
+        minus: spot.place == 1,
+        size: spot.value,
+    })
+}
+
+// What an order 21 requests, by its fallback and the spots of its bounds; none where it is refused.
+fn requested_range(fallback: Builtin, low: FieldSpot, high: FieldSpot) -> Option<NumberRequest>
+    ensures { request_held result ≡ between fallback.code (spot_bound low) (spot_bound high) }
+{
+    let least = bound_at(low)?;
+    let greatest = bound_at(high)?;
     range_request(fallback, least, greatest)
 }
 
 // An order for the number variable of a site, or the refusal 13.
-fn number_order(site: u32, word: u32) -> TermlessOrder
-    ensures command { (q : Option Request) → HeldRequest q word → termless_command result ≡ asking site q }
-    ensures told { (q : Option Request) → HeldRequest q word → TermlessTold result }
+fn number_order(site: u32, request: Option<NumberRequest>) -> TermlessOrder
+    ensures { termless_command result ≡ asking site (request_held request) }
 {
-    if word == 0 {
+    let Some(request) = request else {
         return TermlessOrder::NoType;
-    }
-    TermlessOrder::Variable(VariableOrder::Number(site, word))
+    };
+    TermlessOrder::Variable(VariableOrder::Number(site, request))
 }
 
 // What an order without terms says.
 pub fn termless_of(kind: TermlessKind, o: FieldSpots) -> TermlessOrder
     requires { (ks vs s : List ℕ) × (ws : List Rule) × Asks ks vs s ws (termless_row kind) o }
-    ensures command { (ks vs s : List ℕ) (ws : List Rule) → Says ks vs s ws (termless_row kind) o (termless_command result) }
-    ensures told { TermlessTold result }
+    ensures { (ks vs s : List ℕ) (ws : List Rule) → Says ks vs s ws (termless_row kind) o (termless_command result) }
 {
     let first = o.first.value as u32;
     let second = o.second.value as u32;
     match kind {
         TermlessKind::Variable => TermlessOrder::Variable(VariableOrder::Slot(first, second)),
-        TermlessKind::NumberVariable => number_order(first, plain_request(second)),
+        TermlessKind::NumberVariable => {
+            let fallback = Builtin { code: second };
+            TermlessOrder::Variable(VariableOrder::Number(first, plain_request(fallback)))
+        }
         TermlessKind::AnnotationHole => TermlessOrder::Variable(VariableOrder::Hole(first)),
         TermlessKind::NumericDefaults => TermlessOrder::Defaults(Defaulted::Requested),
         TermlessKind::NeverDefaults => TermlessOrder::Defaults(Defaulted::Deferred),
         TermlessKind::Revision => TermlessOrder::Revision,
         TermlessKind::RangeVariable => {
-            number_order(first, range_word(second, o.third, o.fourth))
+            let fallback = Builtin { code: second };
+            number_order(first, requested_range(fallback, o.third, o.fourth))
         }
     }
 }
@@ -259,7 +260,7 @@ pub fn termless_order(
     to: usize,
 ) -> AfterOrder
     requires held { (z : Session) × InOrder (issued z) z.solver × Represents x tokens.now.kinds.now tokens.now.vals.now tables.old z }
-    requires areas { TermlessTold what × Frames x frames.old }
+    requires areas { Frames x frames.old }
     requires room { OutputRoom out.old to }
     ensures clear { Zero frames.new }
     ensures does { (z : Session) → InOrder (issued z) z.solver → Represents x tokens.now.kinds.now tokens.now.vals.now tables.old z

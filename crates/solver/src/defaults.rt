@@ -1,6 +1,7 @@
 // Orders 3, 6 and 7: deferrals and defaults. The builtin with the code c stands at 2 * c of the areas. Kinds are numbers: a kind is a word of the
 // format.
 ghost use Rattle.std.specs.Prelude.{Some, unwrap_or, ◌≡◌, ℕ, ◌+◌, ◌*◌, ◌^◌, ◌≤◌, ◌<◌, length, take};
+ghost use Rattle.std.specs.Int.NonZero.{non_zero_u32_get};
 ghost use Rattle.std.proofs.Math.Option.{Option};
 ghost use Rattle.terms.specs.Term.{Term, var};
 ghost use Rattle.solver.specs.Families.{Family, admits, Request, preference, first_of, taken};
@@ -10,12 +11,13 @@ ghost use Rattle.solver.specs.Orders as orders;
 ghost use Rattle.solver.specs.Words.Bindings.{HeldBindings};
 ghost use Rattle.solver.specs.Words.SessionRepresentation.{limits_of, bit, RequestWord, request_in, HeldRequest, Represents};
 ghost use Rattle.solver.specs.Words.OrderTerms.{Poses};
-ghost use Rattle.solver.specs.Words.MethodContract.{Shaped, Beside, Low, EndsAt, default_word, end_word, end_mask, default_at, defaults_by};
+ghost use Rattle.solver.specs.Words.MethodContract.{Shaped, Beside, Low, EndsAt, word_of, default_word, end_word, default_at, defaults_by};
 
 use super::families::{family_mask, has};
 use super::resolving::named_run;
 use super::top::shallow_resolve;
-use super::{Defaulted, Solver};
+use super::{Builtin, Defaulted, Solver};
+use std::num::NonZeroU32;
 use terms::Tokens;
 
 // The variable at the end of the chain of bindings from v on; none where the chain ends at no variable of the table. The bindings are lent in three:
@@ -42,66 +44,59 @@ pub fn root_of(tokens: &Tokens, bound: &[u32], most: usize, v: usize) -> Option<
 }
 
 // The word that the default of the variable v goes by: its request's, or that of Never, if v is deferred.
-fn default_word(tables: &[u32], m: usize, v: usize, which: Defaulted) -> u32
+fn default_word(tables: &[u32], m: usize, v: usize, which: Defaulted) -> Option<NonZeroU32>
     requires { (v < m) × (7 * m ≤ length tables.now) }
-    ensures { result ≡ default_word which m tables.now v }
+    ensures { word_of result ≡ default_word which m tables.now v }
 {
     match which {
-        Defaulted::Requested => tables[m + v],
+        Defaulted::Requested => NonZeroU32::new(tables[m + v]),
         Defaulted::Deferred => {
             if tables[5 * m + v] == 0 {
-                return 0;
+                return None;
             }
-            11
+            NonZeroU32::new(11)
         }
     }
 }
 
 // The word at the end w of its chain: for Never it does not count.
-fn end_word(tables: &[u32], m: usize, w: usize, which: Defaulted) -> u32
+fn end_word(tables: &[u32], m: usize, w: usize, which: Defaulted) -> Option<NonZeroU32>
     requires { (w < m) × (7 * m ≤ length tables.now) }
-    ensures { result ≡ end_word which m tables.now w }
+    ensures { word_of result ≡ end_word which m tables.now w }
 {
     match which {
-        Defaulted::Requested => tables[m + w],
-        Defaulted::Deferred => 0,
+        Defaulted::Requested => NonZeroU32::new(tables[m + w]),
+        Defaulted::Deferred => None,
     }
 }
 
 // The first type of a mask in the order of preference, or the fallback.
-fn first_of(mask: u32, fallback: u32) -> u32
-    requires { fallback < 32 }
-    ensures { ((f : Family) → ((c : ℕ) → admits f c ≡ bit mask c) → result ≡ first_of fallback f preference) × (result < 32) }
+fn first_of(mask: u32, fallback: Builtin) -> Builtin
+    ensures { (f : Family) → ((c : ℕ) → admits f c ≡ bit mask c) → result.code ≡ first_of fallback.code f preference }
 {
-    [2, 3, 6, 7, 0, 4, 1, 5]
+    let code = [2, 3, 6, 7, 0, 4, 1, 5]
         .iter()
         .copied()
         .find(|&c| has(mask, c))
-        .unwrap_or(fallback)
+        .unwrap_or(fallback.code);
+    Builtin { code }
 }
 
-// What is admitted at the end of a chain: by its word, or by the own one where it has none.
-fn end_mask(own: u32, last: u32) -> u32
-    ensures { result ≡ end_mask own last }
+// The builtin that a numeric default takes, by the word of the variable whose turn it is and by that of the end of its chain, or by the own one alone where
+// the end has none. With a range a word is 64 or more.
+fn default_builtin(own: NonZeroU32, last: Option<NonZeroU32>) -> Builtin
+    ensures { (o : Option Request) → RequestWord (non_zero_u32_get own) → HeldRequest o (word_of last)
+        → result.code ≡ taken (request_in (non_zero_u32_get own)) o }
 {
-    if last == 0 {
-        return family_mask(own);
-    }
-    family_mask(last)
-}
-
-// The code that a numeric default takes, by the word of the variable whose turn it is and by that of the end of its chain. With a range a word is 64 or
-// more.
-fn default_code(own: u32, last: u32) -> u32
-    requires { 0 < own }
-    ensures { ((o : Option Request) → RequestWord own → HeldRequest o last → result ≡ taken (request_in own) o) × (result < 32) }
-{
-    let fallback = (own - 1) % 32;
-    if (own | last) < 64 {
+    let fallback = Builtin {
+        code: (own.get() - 1) % 32,
+    };
+    let end = last.unwrap_or(own);
+    if (own.get() | end.get()) < 64 {
         return fallback;
     }
-    let mask = end_mask(own, last);
-    if has(mask, fallback) {
+    let mask = family_mask(end);
+    if has(mask, fallback.code) {
         return fallback;
     }
     first_of(mask, fallback)
@@ -147,16 +142,15 @@ impl Solver {
         ensures beside { Beside self result tables.old tables.new }
     {
         let m = self.variables;
-        let word = default_word(tables, m, v, which);
-        if word == 0 {
+        let Some(word) = default_word(tables, m, v, which) else {
             return self;
-        }
+        };
         let most = self.revision;
         let Some(w) = root_of(tokens, &tables[..m], most, v) else {
             return self;
         };
-        let code = default_code(word, end_word(tables, m, w, which));
-        tables[w] = 2 * code + 1;
+        let taken = default_builtin(word, end_word(tables, m, w, which));
+        tables[w] = 2 * taken.code + 1;
         self.revision = most + 1;
         self
     }

@@ -1,32 +1,35 @@
 // What a number variable may be bound to, and a binding made. Kinds are numbers: a kind is a word of the format.
 ghost use Rattle.std.specs.Prelude.{◌≡◌, false, ℕ, ◌+◌, ◌*◌, ◌^◌, ◌≤◌, ◌<◌, length, get_or};
+ghost use Rattle.std.specs.Int.NonZero.{non_zero_u32_get};
 ghost use Rattle.std.proofs.Math.Option.{some};
 ghost use Rattle.terms.specs.Term.{Term, Held};
 ghost use Rattle.solver.specs.Families.{belongs};
 ghost use Rattle.solver.specs.Constrain.{Requests, admit};
 ghost use Rattle.solver.specs.Session.{Session, with_solver};
 ghost use Rattle.solver.specs.Words.SessionRepresentation.{request_words, bit, RequestWord, request_in, HeldRequest, Represents};
-ghost use Rattle.solver.specs.Words.MethodContract.{Shaped, Beside, is_some, bound_to, at_most, mask_in, joined_word, Handed};
+ghost use Rattle.solver.specs.Words.MethodContract.{Shaped, Beside, is_some, bound_to, at_most, word_of, mask_in, joined_word, Handed};
 
 use super::Solver;
+use std::num::NonZeroU32;
 use terms::Tokens;
 
-// A variable's request: the word of its column, 0 for none.
-pub fn request_word(tables: &[u32], m: usize, v: u32) -> u32
+// The word of a variable's request. The column has 0 for none.
+pub fn request_word(tables: &[u32], m: usize, v: u32) -> Option<NonZeroU32>
     requires { 7 * m ≤ length tables.now }
-    ensures { result ≡ get_or (request_words m tables.now) v 0 }
+    ensures { word_of result ≡ get_or (request_words m tables.now) v 0 }
 {
     let at = v as usize;
     if m <= at {
-        return 0;
+        return None;
     }
-    tables[m + at]
+    NonZeroU32::new(tables[m + at])
 }
 
 // The types that a request's word admits, as a mask.
-pub fn family_mask(word: u32) -> u32
-    ensures { result ≡ mask_in word }
+pub fn family_mask(word: NonZeroU32) -> u32
+    ensures { result ≡ mask_in (non_zero_u32_get word) }
 {
+    let word = word.get();
     if 32 < word {
         return (word - 33) / 32 % 256;
     }
@@ -45,9 +48,10 @@ pub fn has(mask: u32, c: u32) -> bool
 }
 
 // Whether the term at q is a builtin that a request's word admits.
-pub fn in_family(tokens: &Tokens, q: usize, word: u32) -> bool
+pub fn in_family(tokens: &Tokens, q: usize, word: NonZeroU32) -> bool
     requires { q < length tokens.now.kinds.now }
-    ensures { (t : Term) → RequestWord word → Held tokens.now.kinds.now tokens.now.vals.now q t → result ≡ belongs (request_in word).family t }
+    ensures { (t : Term) → RequestWord (non_zero_u32_get word) → Held tokens.now.kinds.now tokens.now.vals.now q t
+        → result ≡ belongs (request_in (non_zero_u32_get word)).family t }
 {
     if tokens.kinds[q] != 6 {
         return false;
@@ -76,29 +80,30 @@ pub fn admissible(tokens: &Tokens, tables: &[u32], m: usize, v: u32, q: usize) -
         → Held tokens.now.kinds.now tokens.now.vals.now q t
         → result ≡ is_some (admit rs (rs v) t) }
 {
-    let word = request_word(tables, m, v);
-    if word == 0 {
+    let Some(word) = request_word(tables, m, v) else {
         return true;
-    }
+    };
     if tokens.kinds[q] != 1 {
         return in_family(tokens, q, word);
     }
-    let other = request_word(tables, m, tokens.vals[q]);
-    if other == 0 {
+    let Some(other) = request_word(tables, m, tokens.vals[q]) else {
         return true;
-    }
+    };
     family_mask(word) & family_mask(other) != 0
 }
 
-// The word of the variable left free where two are joined: `word` is that of the one bound, `other` its own. With a range a word is 64 or more.
-fn joined_word(word: u32, other: u32) -> u32
-    requires { 0 < word }
-    ensures { result ≡ joined_word word other }
+// The word of the variable left free where two are joined: `word` is that of the one bound, `other` its own, if it has one. With a range a word is 64 or
+// more.
+fn joined_word(word: NonZeroU32, other: Option<NonZeroU32>) -> u32
+    ensures { result ≡ joined_word (non_zero_u32_get word) (word_of other) }
 {
-    if (word | other) < 64 {
-        return word;
+    let Some(other) = other else {
+        return word.get();
+    };
+    if (word.get() | other.get()) < 64 {
+        return word.get();
     }
-    33 + (word - 1) % 32 + 32 * (family_mask(word) & family_mask(other))
+    33 + (word.get() - 1) % 32 + 32 * (family_mask(word) & family_mask(other))
 }
 
 // The request of v is joined to that of the variable of a token, if v has one and the token is a variable of the table.
@@ -106,10 +111,9 @@ pub fn propagate_request(tables: &mut [u32], m: usize, v: usize, kind: u32, val:
     requires { (v < m) × (7 * m ≤ length tables.old) }
     ensures { Handed m v kind val tables.old tables.new }
 {
-    let word = tables[m + v];
-    if word == 0 {
+    let Some(word) = NonZeroU32::new(tables[m + v]) else {
         return;
-    }
+    };
     if kind != 1 {
         return;
     }
@@ -117,7 +121,7 @@ pub fn propagate_request(tables: &mut [u32], m: usize, v: usize, kind: u32, val:
     if m <= w {
         return;
     }
-    tables[m + w] = joined_word(word, tables[m + w]);
+    tables[m + w] = joined_word(word, NonZeroU32::new(tables[m + w]));
 }
 
 impl Solver {

@@ -2,6 +2,7 @@
 #![tactic(auto)]
 
 ghost use Rattle.std.specs.Prelude.{◌^◌, ◌<◌, length};
+ghost use Rattle.solver.specs.Words.SessionRepresentation.{RequestWord};
 
 mod answers;
 mod constrain;
@@ -123,7 +124,22 @@ pub enum Defaulted {
     Deferred,
 }
 
+// A builtin type, by its code.
+#[derive(Clone, Copy)]
+pub struct Builtin {
+    pub code: u32,
+    ghost listed: { code < 32 },
+}
+
+// What is requested of a number variable, by the word that the table has for it.
+#[derive(Clone, Copy)]
+pub struct NumberRequest {
+    pub word: u32,
+    ghost formed: { RequestWord word },
+}
+
 // A bound of a range: its size, or with `minus` minus its size.
+// Both are always there, so an enum would say no more; and i128 has no minus 0, which the sheet may write and which is a bound of the definition, too.
 #[derive(Clone, Copy, Debug, PartialEq, Eq)]
 pub struct Bound {
     pub minus: bool,

@@ -1,11 +1,10 @@
 // The words of requests: plain ones, and those of the integer types that hold a range.
 ghost use Rattle.std.specs.Prelude.{◌≡◌, true, false, ◌&&◌, ◌+◌, ◌≤◌, ◌<◌};
-ghost use Rattle.std.proofs.Math.Option.{some};
 ghost use Rattle.solver.specs.Families.{at_most, below, holds, requested, request_of};
-ghost use Rattle.solver.specs.Words.SessionRepresentation.{HeldRequest};
-ghost use Rattle.solver.specs.Words.MethodContract.{bound_of, mask_of};
+ghost use Rattle.solver.specs.Words.SessionRepresentation.{request_in};
+ghost use Rattle.solver.specs.Words.MethodContract.{bound_of, mask_of, request_held};
 
-use super::Bound;
+use super::{Bound, Builtin, NumberRequest};
 
 impl Bound {
     // Whether a bound is at most another.
@@ -58,25 +57,27 @@ fn range_mask(low: Bound, high: Bound) -> u32
     a + 2 * b + 4 * c + 8 * d + 16 * e + 32 * f + 64 * g + 128 * h
 }
 
-// The word of the plain request with this fallback.
-pub fn plain_request(fallback: u32) -> u32
-    requires { fallback < 32 }
-    ensures { HeldRequest (some (requested fallback)) result }
+// The plain request with this fallback.
+pub fn plain_request(fallback: Builtin) -> NumberRequest
+    ensures { request_in result.word ≡ requested fallback.code }
 {
-    fallback + 1
+    NumberRequest {
+        word: fallback.code + 1,
+    }
 }
 
-// The word of the request for the integer types that hold both bounds: 0 where low is above high, or no type holds them.
-pub fn range_request(fallback: u32, low: Bound, high: Bound) -> u32
-    requires { fallback < 32 }
-    ensures { HeldRequest (request_of fallback (bound_of low) (bound_of high)) result }
+// The request for the integer types that hold both bounds; none where low is above high, or no type holds them.
+pub fn range_request(fallback: Builtin, low: Bound, high: Bound) -> Option<NumberRequest>
+    ensures { request_held result ≡ request_of fallback.code (bound_of low) (bound_of high) }
 {
     if !low.at_most(high) {
-        return 0;
+        return None;
     }
     let mask = range_mask(low, high);
     if mask == 0 {
-        return 0;
+        return None;
     }
-    33 + fallback + 32 * mask
+    Some(NumberRequest {
+        word: 33 + fallback.code + 32 * mask,
+    })
 }

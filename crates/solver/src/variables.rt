@@ -3,12 +3,12 @@
 ghost use Rattle.std.specs.Prelude.{Some, unwrap_or, ◌≡◌, true, false, List, ℕ, ◌+◌, ◌*◌, ◌^◌, ◌≤◌, ◌<◌, length, get_or};
 ghost use Rattle.solver.specs.Session.{VariablePlace, at, gap, Session, find};
 ghost use Rattle.solver.specs.Orders as orders;
-ghost use Rattle.solver.specs.Words.SessionRepresentation.{limits_of, place_words, site_words, slot_words, RequestWord, request_in, HeldPlaces, Represents};
+ghost use Rattle.solver.specs.Words.SessionRepresentation.{limits_of, place_words, site_words, slot_words, request_in, HeldPlaces, Represents};
 ghost use Rattle.solver.specs.Words.MethodContract.{matches, last_match, Shaped, Beside, placed, named_of, Issued, Replied, reply_of};
 ghost use Rattle.solver.specs.Words.MethodContract.{resolved_reply};
 ghost use Rattle.solver.specs.Words.OrderTerms.{place_of, kind_word, site_word, slot_word};
 
-use super::{Issue, Site, Solver};
+use super::{Issue, NumberRequest, Site, Solver};
 
 // The words that are written for a place.
 fn words_of(site: Site) -> (u32, u32, u32)
@@ -114,20 +114,25 @@ impl Solver {
         self.issue(tables, Site::Slot(site, slot))
     }
 
-    // Orders 1 and 21: the number variable of a site, with the request of this word from now on.
-    pub fn numeric_variable(mut self, tables: &mut [u32], site: u32, request: u32) -> Issue
-        requires { Shaped self (length tables.old) × RequestWord request × ((ks vs : List ℕ) × (s : Session) × Represents self ks vs tables.old s) }
+    // Orders 1 and 21: the number variable of a site, with this request from now on.
+    pub fn numeric_variable(
+        mut self,
+        tables: &mut [u32],
+        site: u32,
+        request: NumberRequest,
+    ) -> Issue
+        requires { Shaped self (length tables.old) × ((ks vs : List ℕ) × (s : Session) × Represents self ks vs tables.old s) }
         ensures held { (ks vs : List ℕ) (s : Session)
             → Represents self ks vs tables.old s
-            → Replied result.solver ks vs tables.new (at site 1) (orders.order (limits_of self) s (orders.number site (request_in request)))
-            (resolved_reply (orders.order (limits_of self) s (orders.number site (request_in request))).session.solver) result.answer }
+            → Replied result.solver ks vs tables.new (at site 1) (orders.order (limits_of self) s (orders.number site (request_in request.word)))
+            (resolved_reply (orders.order (limits_of self) s (orders.number site (request_in request.word))).session.solver) result.answer }
         ensures beside { Beside self result.solver tables.old tables.new }
     {
         let m = self.variables;
         let c = self.issue(tables, Site::Slot(site, 1));
         if let Some(v) = c.answer {
             let at = m + v as usize;
-            tables[at] = request;
+            tables[at] = request.word;
         }
         c
     }

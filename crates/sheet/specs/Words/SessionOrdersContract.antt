@@ -13,7 +13,7 @@ use Rattle.solver.specs.Terms.Term.{Term, var}
 use Rattle.solver.specs.Constrain.{resolved}
 use Rattle.solver.specs.Session.{Session}
 use Rattle.solver.specs.Orders.{Command, variable, number, hole, revision, unread}
-use Rattle.solver.specs.Words.SessionRepresentation.{RequestWord, request_in, Represents}
+use Rattle.solver.specs.Words.SessionRepresentation.{request_in, Represents}
 use Rattle.solver.specs.Words.ConstrainContract.{pending_from}
 use Rattle.solver.specs.Words.Worklist.{Zero}
 use Rattle.solver.specs.Words.MethodContract.{Beside, defaults_by}
@@ -49,25 +49,19 @@ pub record Says (ks vs s : List ℕ) (ws : List Rule) (k : Row) (o : FieldSpots)
 -- orders 0, 1, 2 and 21: their commands
 abbrev pub variable_command : VariableOrder → Command
 variable_command (Slot s i) = variable s i
-variable_command (Number s w) = number s (request_in w)
+variable_command (Number s r) = number s (request_in r.word)
 variable_command (Hole s) = hole s
 
 -- the place of the variable: that of a number variable is slot 1 of its site
 abbrev pub site_of : VariableOrder → Site
 site_of (Slot s i) = place.Slot s i
-site_of (Number s w) = place.Slot s 1
+site_of (Number s r) = place.Slot s 1
 site_of (Hole s) = place.Hole s
-
--- what is requested is told by a word as the table has it
-abbrev pub RequestTold : VariableOrder → Type 0
-RequestTold (Slot s i) = Unit {0}
-RequestTold (Number s w) = RequestWord w
-RequestTold (Hole s) = Unit {0}
 
 -- what is answered for the variable v: itself, or what it resolves to
 abbrev pub variable_answer : Session → VariableOrder → ℕ → Term
 variable_answer z (Slot s i) v = var v
-variable_answer z (Number s w) v = resolved z.solver (var v)
+variable_answer z (Number s r) v = resolved z.solver (var v)
 variable_answer z (Hole s) v = resolved z.solver (var v)
 
 -- orders 0, 1, 2, 6, 7, 8 and 21
@@ -76,12 +70,6 @@ termless_command (Variable o) = variable_command o
 termless_command (Defaults b) = defaults_by b
 termless_command Revision = revision
 termless_command NoType = unread 13
-
-abbrev pub TermlessTold : TermlessOrder → Type 0
-TermlessTold (Variable o) = RequestTold o
-TermlessTold (Defaults b) = Unit {0}
-TermlessTold Revision = Unit {0}
-TermlessTold NoType = Unit {0}
 
 -- An order that poses a pair done. Where a variable was bound, the session after it is held by all of the tokens. Else the counters and the table are as they were: nothing was
 -- bound, and the session is the same, or the answer does not fit.

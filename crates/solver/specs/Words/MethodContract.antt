@@ -8,6 +8,9 @@ use Rattle.solver.specs.declared.Solver.{Solver}
 use Rattle.solver.specs.declared.Defaulted.{Defaulted}
 use Rattle.solver.specs.declared.Defaulted.TheVariants.{Requested, Deferred}
 use Rattle.solver.specs.declared.Bound.{Bound}
+use Rattle.solver.specs.declared.NumberRequest.{NumberRequest}
+use Rattle.std.specs.declared.num.NonZeroU32.{NonZeroU32}
+use Rattle.std.specs.Int.NonZero.{non_zero_u32_get}
 use Rattle.solver.specs.Families as families
 use Rattle.std.specs.declared.option.Option as rust
 use Rattle.solver.specs.Constrain as solving
@@ -16,7 +19,7 @@ use Rattle.solver.specs.Families.{Numeric, I8, I16, I32, I64, U8, U16, U32, U64}
 use Rattle.solver.specs.Constrain.{resolved, Requests}
 use Rattle.solver.specs.Session.{Limits, VariablePlace, Session, issued, find, issue_at, numeric_at, never_at, numeric_defaults_of, never_defaults_of}
 use Rattle.solver.specs.Orders.{Command, numbers, nevers, Reply, term, refused, Step, full}
-use Rattle.solver.specs.Words.SessionRepresentation.{flag, Represents}
+use Rattle.solver.specs.Words.SessionRepresentation.{request_in, flag, Represents}
 
 -- ---- the words
 
@@ -119,14 +122,20 @@ EndsAt m (node k ps) r = r ≡ m
 abbrev pub bound_to : solving.Solver → ℕ → Term → Requests → solving.Solver
 bound_to z v t rs = record { bindings = put z.bindings v (some t); requests = rs; revision = suc z.revision }
 
+-- the word of a column: 0 where there is none
+abbrev pub word_of : rust.Option NonZeroU32 → ℕ
+word_of None = 0
+word_of (Some w) = non_zero_u32_get w
+
 -- the types that the word of a request admits, as a mask
 unfoldable pub mask_in : ℕ → ℕ
 mask_in word = pick (ltb 32 word) ((word - 33) / 32 % 256) (pick (eqb word 10) 768 255)
 
--- A variable of the first word is bound to one of the second, which then has this word. The words of plain requests, and 0, are below 64: where both are,
--- the first goes on. Else the types of both, with the first's fallback.
+-- A variable of the first word is bound to one of the second, which then has this word. Where it had none, the first goes on; so it does where both are
+-- plain, which are the words below 64. Else the types of both, with the first's fallback.
 unfoldable pub joined_word : ℕ → ℕ → ℕ
-joined_word word other = pick (ltb (bit_or word other) 64) word (33 + (word - 1) % 32 + 32 * bit_and (mask_in word) (mask_in other))
+joined_word word zero = word
+joined_word word (suc n) = pick (ltb (bit_or word (suc n)) 64) word (33 + (word - 1) % 32 + 32 * bit_and (mask_in word) (mask_in (suc n)))
 
 -- the request of v was joined to that of the variable val, if there is one and the kind says that there is a variable
 pub record Handed (m v kind val : ℕ) (ts us : List ℕ) : Type 0 where
@@ -138,6 +147,11 @@ pub record Handed (m v kind val : ℕ) (ts us : List ℕ) : Type 0 where
   pub rest : drop (7 * m) us ≡ drop (7 * m) ts
 
 -- ---- ranges
+
+-- what is requested
+abbrev pub request_held : rust.Option NumberRequest → Option families.Request
+request_held None = none
+request_held (Some r) = some (request_in r.word)
 
 -- a bound as the definition has it
 abbrev pub bound_of : Bound → families.Bound
@@ -165,10 +179,6 @@ default_word Requested m ts v = get_or ts (m + v) 0
 unfoldable pub end_word : Defaulted → ℕ → List ℕ → ℕ → ℕ
 end_word Deferred m ts w = 0
 end_word Requested m ts w = get_or ts (m + w) 0
-
--- what is admitted there, as a mask: where nothing is asked of the end, by the own word
-unfoldable pub end_mask : ℕ → ℕ → ℕ
-end_mask own last = pick (eqb last 0) (mask_in own) (mask_in last)
 
 -- the default of the variable v
 unfoldable pub default_at : Defaulted → Session → ℕ → solving.Solver

@@ -188,12 +188,12 @@ module _ (lim : Limits) (z : Session) where
   pub variable_order_answer : (o : VariableOrder) → next_of z (place_of (site_of o)) < lim.variables
       → (solve lim z (variable_command o)).answer ≡ outcome (bytes (variable_answer z o (next_of z (place_of (site_of o)))))
   variable_order_answer (Slot s i) = variable_answer_lem lim z s i
-  variable_order_answer (Number s w) = number_answer lim z s (request_in w)
+  variable_order_answer (Number s r) = number_answer lim z s (request_in r.word)
   variable_order_answer (Hole s) = hole_answer lim z s
 
   pub variable_order_full : (o : VariableOrder) → find (place_of (site_of o)) z.places ≡ none → full lim z ≡ true → order lim z (variable_command o) ≡ (z gives refused 8)
   variable_order_full (Slot s i) = variable_full lim z s i
-  variable_order_full (Number s w) = number_full lim z s (request_in w)
+  variable_order_full (Number s r) = number_full lim z s (request_in r.word)
   variable_order_full (Hole s) = hole_full lim z s
 
 -- refusal 8, whatever the order

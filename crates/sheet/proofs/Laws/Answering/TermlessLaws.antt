@@ -6,12 +6,10 @@ use mathlib.Core.Option.{Option, none, some}
 use Prim.Native.Nat.{ℕ, ◌≤◌, ◌<◌}
 use native.Mathlib.Omega.{arith}
 use borrow.Author.Tests.{le-leb, lt-leb}
-use lib.Dec.{eqb, leb}
-use Rattle.solver.specs.Terms.Result.{pick}
-use Rattle.solver.specs.Families.{Request, requested, request_of}
+use lib.Dec.{eqb}
+use Rattle.solver.specs.Families.{Bound, Request, requested, request_of}
 use Rattle.solver.specs.Orders as orders
 use Rattle.solver.specs.Orders.{Command}
-use Rattle.solver.specs.Words.SessionRepresentation.{RequestWord, request_in, HeldRequest}
 use Rattle.solver.specs.TermTypes.{Rule}
 use Rattle.sheet.specs.declared.FieldSpot.{FieldSpot}
 use Rattle.sheet.specs.declared.FieldSpots.{FieldSpots}
@@ -45,36 +43,29 @@ bound_spot : (ks vs s : List ℕ) (ws : List Rule) (x : FieldSpot) (f : Field) (
 unfolding bound_of
 bound_spot ks vs s ws x f b n e h = let g : (x.value ≡ n) × (x.place ≡ b) = rw e at h in rw (e, g.0, g.1) refl
 
--- ---- the words of requests
+-- ---- the bounds of a range
 
-pub asked_none : (site word : ℕ) → word ≡ 0 → (q : Option Request) → HeldRequest q word → (orders.unread 13 ≡ asking site q) × Unit {0}
-unfolding asking
-asked_none site word e none h = (refl, tt)
-asked_none site word e (some r) h = absurd (omega (arith, h.0.some))
+pub no_sign : (x : FieldSpot) → 1 < x.place → spot_bound x ≡ none
+unfolding signed
+no_sign x h = rw (lt-leb x.place 1 h)
 
-pub asked_some : (site word : ℕ) → (word ≡ 0 → ⊥) → (q : Option Request) → HeldRequest q word → (orders.number site (request_in word) ≡ asking site q) × RequestWord word
-unfolding asking
-asked_some site word e none h = absurd (e h)
-asked_some site word e (some r) h = (ap (orders.number site) (sym h.1), h.0)
+pub with_sign : (x : FieldSpot) → x.place ≤ 1 → spot_bound x ≡ some (record { minus = eqb x.place 1; size = x.value })
+unfolding signed
+with_sign x h = rw (le-leb x.place 1 h)
 
--- the two bounds of a range
-module _ (c : ℕ) (low high : FieldSpot) where
-  pub low_sign : 1 < low.place → HeldRequest (between c (spot_bound low) (spot_bound high)) 0
-  unfolding signed between
-  low_sign h = rw (lt-leb low.place 1 h) refl
+-- without either of them nothing is requested
+pub no_low : (c : ℕ) (low high : Option Bound) → low ≡ none → none ≡ between c low high
+unfolding between
+no_low c low high e = rw e
 
-  pub high_sign : 1 < high.place → HeldRequest (between c (spot_bound low) (spot_bound high)) 0
-  unfolding signed between
-  high_sign h = rw (lt-leb high.place 1 h) (go (leb low.place 1))
-    where
-      go : (b : Bool) → HeldRequest (between c (pick b (some (record { minus = eqb low.place 1; size = low.value })) none) none) 0
-      go true = refl
-      go false = refl
+pub no_high : (c : ℕ) (low high : Option Bound) → high ≡ none → none ≡ between c low high
+unfolding between
+no_high c none high e = refl
+no_high c (some l) high e = rw e
 
-  pub both_signs : low.place ≤ 1 → high.place ≤ 1
-      → between c (spot_bound low) (spot_bound high) ≡ request_of c (record { minus = eqb low.place 1; size = low.value }) (record { minus = eqb high.place 1; size = high.value })
-  unfolding signed between
-  both_signs h i = rw (le-leb low.place 1 h, le-leb high.place 1 i) refl
+pub with_both : (c : ℕ) (low high : Option Bound) (l h : Bound) → low ≡ some l → high ≡ some h → request_of c l h ≡ between c low high
+unfolding between
+with_both c low high l h e f = rw (e, f)
 
 -- the fields of a range
 record RangeFields (fs : List Field) : Type 0 where

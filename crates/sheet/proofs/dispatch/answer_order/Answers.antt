@@ -38,13 +38,13 @@ termless_order-requires-clause-held c =
     (R.session, R.ordered, plain_lent T W c.in-Termless.is R.session R.in_areas)
 
 pub termless_order-requires-clause-areas : goal.termless_order-requires-clause-areas
-termless_order-requires-clause-areas c = (c.termless_of-what.ensures.told, ready_frames c.requires.taken.2.ready)
+termless_order-requires-clause-areas c = ready_frames c.requires.taken.2.ready
 
 pub returns-in-Termless : goal.returns-in-Termless
 returns-in-Termless c =
     let W = within c.args.x c.standing-n.ensures c.if-n-o.false in
     let e = c.termless_order.ensures in
-    λ a₀ b₀ T. plain_answered T W c.in-Termless.is _ (c.termless_of-what.ensures.command _ _ _ _) _ _ _ _ _ e.clear e.does
+    λ a₀ b₀ T. plain_answered T W c.in-Termless.is _ (c.termless_of-what.ensures _ _ _ _) _ _ _ _ _ e.clear e.does
 
 -- ---- order 3
 

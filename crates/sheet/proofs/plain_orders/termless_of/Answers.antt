@@ -1,9 +1,8 @@
 -- `termless_of`: by the kind.
-use mathlib.Core.Option.{some}
+use mathlib.Core.Path.{ap, ◌∙◌}
 use native.Mathlib.Omega.{arith}
-use Rattle.solver.specs.Families.{requested}
-use Rattle.sheet.specs.OrderTable.{between}
-use Rattle.sheet.specs.Words.FieldLayout.{spot_bound}
+use Rattle.solver.specs.Orders as orders
+use Rattle.sheet.specs.OrderTable.{asking}
 use Rattle.sheet.proofs.Laws.Answering.TermlessLaws.{first_number, second_number, number_code, range_code, variable_told, hole_told, numbers_told, nevers_told, revision_told, number_told, range_told, says_as}
 use Rattle.sheet.proofs.plain_orders.termless_of.Goals as goal
 
@@ -17,44 +16,36 @@ overflow_cast-second c =
     let p = c.requires in
     omega (arith, (second_number p.0 p.1 p.2 p.3 c.args.o p.4.known c.args.kind p.4.fields p.4.given).1)
 
-pub returns-in-Variable-clause-command : goal.returns-in-Variable-clause-command
-returns-in-Variable-clause-command c = rw c.in-Variable.is (λ ks vs s ws. variable_told ks vs s ws c.args.o)
+pub returns-in-Variable : goal.returns-in-Variable
+returns-in-Variable c = rw c.in-Variable.is (λ ks vs s ws. variable_told ks vs s ws c.args.o)
 
-pub plain_request-requires : goal.plain_request-requires
-plain_request-requires c =
+pub invariant_of-fallback : goal.invariant_of-fallback
+invariant_of-fallback c =
     let p = c.requires in
-    number_code p.0 p.1 p.2 p.3 c.args.o (rw c.in-NumberVariable.is at p.4)
+    record { listed = number_code p.0 p.1 p.2 p.3 c.args.o (rw c.in-NumberVariable.is at p.4) }
 
 pub returns-in-NumberVariable : goal.returns-in-NumberVariable
-returns-in-NumberVariable c =
-    let n = c.number_order.ensures in
-    let q = some (requested c.args.o.second.value) in record {
-      command = rw c.in-NumberVariable.is (λ ks vs s ws. says_as (n.command q c.plain_request.ensures) (number_told ks vs s ws c.args.o));
-      told = n.told q c.plain_request.ensures;
-    }
+unfolding asking
+returns-in-NumberVariable c = rw c.in-NumberVariable.is (λ ks vs s ws. says_as (ap (orders.number c.args.o.first.value) c.plain_request.ensures) (number_told ks vs s ws c.args.o))
 
-pub returns-in-AnnotationHole-clause-command : goal.returns-in-AnnotationHole-clause-command
-returns-in-AnnotationHole-clause-command c = rw c.in-AnnotationHole.is (λ ks vs s ws. hole_told ks vs s ws c.args.o)
+pub returns-in-AnnotationHole : goal.returns-in-AnnotationHole
+returns-in-AnnotationHole c = rw c.in-AnnotationHole.is (λ ks vs s ws. hole_told ks vs s ws c.args.o)
 
-pub returns-in-NumericDefaults-clause-command : goal.returns-in-NumericDefaults-clause-command
-returns-in-NumericDefaults-clause-command c = rw c.in-NumericDefaults.is (λ ks vs s ws. numbers_told ks vs s ws c.args.o)
+pub returns-in-NumericDefaults : goal.returns-in-NumericDefaults
+returns-in-NumericDefaults c = rw c.in-NumericDefaults.is (λ ks vs s ws. numbers_told ks vs s ws c.args.o)
 
-pub returns-in-NeverDefaults-clause-command : goal.returns-in-NeverDefaults-clause-command
-returns-in-NeverDefaults-clause-command c = rw c.in-NeverDefaults.is (λ ks vs s ws. nevers_told ks vs s ws c.args.o)
+pub returns-in-NeverDefaults : goal.returns-in-NeverDefaults
+returns-in-NeverDefaults c = rw c.in-NeverDefaults.is (λ ks vs s ws. nevers_told ks vs s ws c.args.o)
 
-pub returns-in-Revision-clause-command : goal.returns-in-Revision-clause-command
-returns-in-Revision-clause-command c = rw c.in-Revision.is (λ ks vs s ws. revision_told ks vs s ws c.args.o)
+pub returns-in-Revision : goal.returns-in-Revision
+returns-in-Revision c = rw c.in-Revision.is (λ ks vs s ws. revision_told ks vs s ws c.args.o)
 
-pub range_word-requires : goal.range_word-requires
-range_word-requires c =
+pub invariant_of-fallback-in-RangeVariable : goal.invariant_of-fallback-in-RangeVariable
+invariant_of-fallback-in-RangeVariable c =
     let p = c.requires in
-    range_code p.0 p.1 p.2 p.3 c.args.o (rw c.in-RangeVariable.is at p.4)
+    record { listed = range_code p.0 p.1 p.2 p.3 c.args.o (rw c.in-RangeVariable.is at p.4) }
 
 pub returns-in-RangeVariable : goal.returns-in-RangeVariable
 returns-in-RangeVariable c =
-    let n = c.number_order-in-RangeVariable.ensures in
-    let o = c.args.o in
-    let q = between o.second.value (spot_bound o.third) (spot_bound o.fourth) in record {
-      command = rw c.in-RangeVariable.is (λ ks vs s ws. says_as (n.command q c.range_word.ensures) (range_told ks vs s ws c.args.o));
-      told = n.told q c.range_word.ensures;
-    }
+    rw c.in-RangeVariable.is
+    (λ ks vs s ws. says_as (c.number_order.ensures ∙ ap (asking c.args.o.first.value) c.requested_range.ensures) (range_told ks vs s ws c.args.o))

@@ -10,19 +10,24 @@ use native.Mathlib.Nat.{div-eq_of_lt, lt_of_lt_of_le, pow-suc, div-one}
 use native.Mathlib.Omega.{arith}
 use native.Mathlib.Decide.{ℕ_discrete, dec_lt}
 use borrow.Author.Tests.{eq-eqb, ne_eqb, eqb-false, lt-ltb, le-ltb}
-use lib.Bits.{bit_and, bit_or, and_shr, and_mod, and_le_l, and_le_r, and_mask, or_add_and, or_lt, or_zero_r}
+use Rattle.std.specs.Prelude.{Some, None, MatchOption, unwrap_or}
+use Rattle.std.specs.declared.option.Option as rust
+use Rattle.std.specs.declared.num.NonZeroU32.{NonZeroU32}
+use Rattle.std.specs.Int.NonZero.{non_zero_u32_get}
+use lib.Bits.{bit_and, bit_or, and_shr, and_mod, and_le_l, and_le_r, or_add_and, or_lt}
 use lib.Pow.{pow_pos, pow_mono, shr-shr}
 use lib.Dec.{eqb, ltb}
 use lib.ListN.{length, get_or, set}
 use lib.Seq.{get_or-set_same, get_or-set_other}
-use Rattle.terms.proofs.Laws.General.Bools.{and-false, or-true, or_right, or-none}
+use Rattle.terms.proofs.Laws.General.Bools.{and-false, or-true, or_right}
+use Rattle.std.proofs.Math.Bool.{or_self}
 use Rattle.unify.specs.Solver.{put, put_same, put_other}
 use Rattle.unify.proofs.RangedLaws.{sieve_among}
 use Rattle.solver.specs.Families.{Numeric, I8, I16, I32, I64, U8, U16, U32, U64, code, among, Family, numerics, admits, integers, family_of, sieve, gathered}
 use Rattle.solver.specs.Families.{Bound, at_most, holds, Request, requested, joined_as, request_of, meet, preference, first_of, chosen, ranged_at, family_at, taken}
 use Rattle.solver.specs.Constrain.{Requests}
 use Rattle.solver.specs.Words.SessionRepresentation.{every_numeric, bit, types_in, family_in, masked_family, RequestWord, request_in, HeldRequest, flag}
-use Rattle.solver.specs.Words.MethodContract.{mask_in, joined_word, mask_of, end_mask}
+use Rattle.solver.specs.Words.MethodContract.{word_of, mask_in, joined_word, mask_of}
 
 -- ---- bits
 
@@ -232,11 +237,13 @@ byte_mask w l = let e = mask_ranged w (omega arith) in omega arith
 
 pub joined_plain : (a b : ℕ) → bit_or a b < 64 → a ≡ joined_word a b
 unfolding joined_word
-joined_plain a b l = rw (lt-ltb (bit_or a b) 64 l)
+joined_plain a zero l = refl
+joined_plain a (suc b) l = rw (lt-ltb (bit_or a (suc b)) 64 l)
 
-pub joined_ranged : (a b : ℕ) → 64 ≤ bit_or a b → 33 + (a - 1) % 32 + 32 * bit_and (mask_in a) (mask_in b) ≡ joined_word a b
+pub joined_ranged : (a b : ℕ) → (b ≡ 0 → ⊥) → 64 ≤ bit_or a b → 33 + (a - 1) % 32 + 32 * bit_and (mask_in a) (mask_in b) ≡ joined_word a b
 unfolding joined_word
-joined_ranged a b l = rw (le-ltb (bit_or a b) 64 l)
+joined_ranged a zero n l = absurd (n refl)
+joined_ranged a (suc b) n l = rw (le-ltb (bit_or a (suc b)) 64 l)
 
 -- the parts of a word with a range
 module _ (c m : ℕ) (low : c < 32) (byte : m < 256) where
@@ -255,18 +262,9 @@ module _ (c m : ℕ) (low : c < 32) (byte : m < 256) where
       ∙ rw (ranged_fallback, ranged_mask, lt-ltb 32 (33 + c + 32 * m) (omega arith))
 
 -- a variable with no request takes the word
-pub joined-none : (a : ℕ) → RequestWord a → joined_word a 0 ≡ a
-joined-none a A = go (dec_lt (bit_or a 0) 64)
-  where
-    go : Dec (bit_or a 0 < 64) → joined_word a 0 ≡ a
-    go (yes l) = sym (joined_plain a 0 l)
-    go (no l) =
-        let o = or_zero_r a in
-        let e = mask_ranged a (omega arith) in
-        let n : bit_and (mask_in a) 255 ≡ mask_in a % 256 = and_mask (mask_in a) 8 in
-        let f : 255 ≡ mask_in 0 = mask_integers 0 (omega arith) (λ q. omega arith) in
-        let p = A.most in
-        sym (joined_ranged a 0 (omega arith)) ∙ rw (← f, n) (omega arith)
+pub joined-none : (a : ℕ) → joined_word a 0 ≡ a
+unfolding joined_word
+joined-none a = refl
 
 module _ (a b : ℕ) (A : RequestWord a) (B : RequestWord b) where
   meet_parts : meet (request_in a) (request_in b) ≡ joined_as ((a - 1) % 32) (ltb 32 a || ltb 32 b) (gathered (types_in (bit_and (mask_in a) (mask_in b))))
@@ -314,7 +312,7 @@ module _ (a b : ℕ) (A : RequestWord a) (B : RequestWord b) where
             let m = bit_and (mask_in a) (mask_in b) in
             let c = (a - 1) % 32 in
             let j = 33 + c + 32 * m in
-            rw (← joined_ranged a b (omega arith))
+            rw (← joined_ranged a b (λ z. omega (arith, B.some)) (omega arith))
             (ranged_word c m (omega arith) (byte o) n, left_is j (ranged_parts c m (omega arith) (byte o) n ∙ rw (marked o)))
           where
             byte : (64 ≤ a) ⊎ (64 ≤ b) → bit_and (mask_in a) (mask_in b) < 256
@@ -349,12 +347,9 @@ put_held rs ws v word r h l a w = go (ℕ_discrete w v)
         (subst (λ (x : ℕ). HeldRequest (rs w) x) (sym (get_or-set_other ws v w word 0 e)) (h w))
 
 -- order 1
-pub plain_held : (c : ℕ) → c < 32 → HeldRequest (some (requested c)) (c + 1)
+pub plain_is : (c : ℕ) → c < 32 → request_in (c + 1) ≡ requested c
 unfolding request_in
-plain_held c l = (
-  record { some = omega arith; mask = λ k. omega arith; most = omega arith },
-  rw (le-ltb 32 (c + 1) (omega arith)) (ap requested (let e : c ≡ c + 1 - 1 = omega arith in e)),
-)
+plain_is c l = rw (le-ltb 32 (c + 1) (omega arith)) (ap requested (let e : c + 1 - 1 ≡ c = omega arith in e))
 
 -- ---- order 21
 
@@ -414,89 +409,74 @@ module _ (c : ℕ) (low high : Bound) where
   unfolding request_of
   gathered_of e = rw (e, types_of (holds low high))
 
-  pub range_none : (m : ℕ) → at_most low high ≡ true → m ≡ range_mask → m ≡ 0 → HeldRequest (request_of c low high) 0
+  pub range_none : (m : ℕ) → at_most low high ≡ true → m ≡ range_mask → m ≡ 0 → none ≡ request_of c low high
   unfolding joined_as gathered sieve bit code
-  range_none m e f z = rw (gathered_of e ∙ ap (λ (n : ℕ). joined_as c true (gathered (types_in n))) (sym f ∙ z)) refl
+  range_none m e f z = sym (gathered_of e ∙ ap (λ (n : ℕ). joined_as c true (gathered (types_in n))) (sym f ∙ z))
 
-  pub range_held : (m : ℕ) → c < 32 → at_most low high ≡ true → m ≡ range_mask → (m ≡ 0 → ⊥) → HeldRequest (request_of c low high) (33 + c + 32 * m)
+  pub range_is : (m : ℕ) → c < 32 → at_most low high ≡ true → m ≡ range_mask → (m ≡ 0 → ⊥) → some (request_in (33 + c + 32 * m)) ≡ request_of c low high
   unfolding joined_as
-  range_held m l e f n =
+  range_is m l e f n =
       let b : m < 256 = omega (arith, byte_of (holds low high)) in
-      subst (λ (o : Option Request). HeldRequest o (33 + c + 32 * m))
-      (sym (gathered_of e ∙ ap (λ (n : ℕ). joined_as c true (gathered (types_in n))) (sym f) ∙ ap (joined_as c true) (types_gathered m (n, omega arith))))
-      (ranged_word c m l b n, sym (ranged_parts c m l b n))
+      ap some (ranged_parts c m l b n)
+      ∙ sym (gathered_of e ∙ ap (λ (n : ℕ). joined_as c true (gathered (types_in n))) (sym f) ∙ ap (joined_as c true) (types_gathered m (n, omega arith)))
+
+-- ---- words that are not 0
+
+-- the word that a number of the table is
+pub word_new : (o : rust.Option NonZeroU32) (n : ℕ) → MatchOption o (n ≡ 0) (λ x. non_zero_u32_get x ≡ n) → word_of o ≡ n
+word_new None n h = sym h
+word_new (Some x) n h = h
 
 -- ---- defaults
 
-pub end_mask_none : (own last : ℕ) → last ≡ 0 → mask_in own ≡ end_mask own last
-unfolding end_mask
-end_mask_none own last e = rw (eq-eqb last 0 e)
+-- the word e is what a default of the word `own` goes by where o is asked of the end of its chain
+pub record AtEnd (own : ℕ) (o : Option Request) (e : ℕ) : Type 0 where
+  pub word : RequestWord e
+  pub family : family_at (request_in own) o ≡ (request_in e).family
+  pub ranged : ranged_at (request_in own) o ≡ ((request_in own).ranged || (request_in e).ranged)
 
-pub end_mask_some : (own last : ℕ) → (last ≡ 0 → ⊥) → mask_in last ≡ end_mask own last
-unfolding end_mask
-end_mask_some own last e = rw (ne_eqb last 0 e)
+-- the word of the end, or the own one where it has none
+pub at_end : (own : NonZeroU32) (last : rust.Option NonZeroU32) (o : Option Request) → RequestWord (non_zero_u32_get own) → HeldRequest o (word_of last)
+    → AtEnd (non_zero_u32_get own) o (non_zero_u32_get (unwrap_or last own))
+unfolding family_at ranged_at
+at_end own None none W h = record { word = W; family = refl; ranged = sym (or_self (request_in (non_zero_u32_get own)).ranged) }
+at_end own None (some r) W h = absurd (omega (arith, h.0.some))
+at_end own (Some x) none W h = absurd (omega (arith, x.ok, h))
+at_end own (Some x) (some r) W h = rw h.1 (record { word = h.0; family = refl; ranged = refl })
 
--- what is asked of the end, by its word
-abbrev At : ℕ → Option Request → Type 0
-At last o = ((last ≡ 0) × (o ≡ none)) ⊎ (((last ≡ 0 → ⊥) × RequestWord last) × (o ≡ some (request_in last)))
-
-at-end : (last : ℕ) (o : Option Request) → HeldRequest o last → At last o
-at-end last o h = go (ℕ_discrete last 0)
-  where
-    go : Dec (last ≡ 0) → At last o
-    go (yes e) = inl (e, held_none o last h e)
-    go (no e) = let k = held_some o last h e in inr ((e, k.0), k.1)
-
-module _ (own last : ℕ) (o : Option Request) (W : RequestWord own) (h : HeldRequest o last) where
-  range_took : ranged_at (request_in own) o ≡ (ltb 32 own || ltb 32 last)
-  unfolding ranged_at
-  range_took = go (at-end last o h)
-    where
-      own_is : (request_in own).ranged ≡ ltb 32 own
-      own_is = ap (λ (r : Request). r.ranged) (in_parts own W)
-
-      go : At last o → ranged_at (request_in own) o ≡ (ltb 32 own || ltb 32 last)
-      go (inl x) = rw (x.1, x.0) (own_is ∙ sym (or-none (ltb 32 own)))
-      go (inr x) = rw x.1 (ap₂ ◌||◌ own_is (ap (λ (r : Request). r.ranged) (in_parts last x.0.1)))
+module _ (own e : ℕ) (o : Option Request) (W : RequestWord own) (E : AtEnd own o e) where
+  range_took : ranged_at (request_in own) o ≡ (ltb 32 own || ltb 32 e)
+  range_took = E.ranged ∙ ap₂ ◌||◌ (ap (λ (r : Request). r.ranged) (in_parts own W)) (ap (λ (r : Request). r.ranged) (in_parts e E.word))
 
   -- what is admitted
-  pub end_admits : (c : ℕ) → admits (family_at (request_in own) o) c ≡ bit (end_mask own last) c
-  unfolding family_at
-  end_admits c = go (at-end last o h)
-    where
-      go : At last o → admits (family_at (request_in own) o) c ≡ bit (end_mask own last) c
-      go (inl x) = rw x.1 (word_admits own W c ∙ ap (λ (m : ℕ). bit m c) (end_mask_none own last x.0))
-      go (inr x) = rw x.1 (word_admits last x.0.1 c ∙ ap (λ (m : ℕ). bit m c) (end_mask_some own last x.0.0))
+  end_admits : (c : ℕ) → admits (family_at (request_in own) o) c ≡ bit (mask_in e) c
+  end_admits c = ap (λ (f : Family). admits f c) E.family ∙ word_admits e E.word c
 
   fallback_is : (request_in own).fallback ≡ (own - 1) % 32
   fallback_is = ap (λ (r : Request). r.fallback) (in_parts own W)
 
   -- where no range took part
-  pub taken_plain : bit_or own last < 64 → (own - 1) % 32 ≡ taken (request_in own) o
+  pub taken_plain : bit_or own e < 64 → (own - 1) % 32 ≡ taken (request_in own) o
   unfolding taken
   taken_plain l =
-      let k = or_plain own last l in
-      sym (rw (range_took, le-ltb 32 own (plain_word own W k.0), le-ltb 32 last (go (at-end last o h) k.1)) fallback_is)
-    where
-      go : At last o → last < 64 → last ≤ 32
-      go (inl x) l = omega (arith, x.0)
-      go (inr x) l = plain_word last x.0.1 l
+      let k = or_plain own e l in
+      sym (rw (range_took, le-ltb 32 own (plain_word own W k.0), le-ltb 32 e (plain_word e E.word k.1)) fallback_is)
 
-  taken_ranged : 64 ≤ bit_or own last
-      → taken (request_in own) o ≡ cond (bit (end_mask own last) ((own - 1) % 32)) ((own - 1) % 32) (first_of ((own - 1) % 32) (family_at (request_in own) o) preference)
+  taken_ranged : 64 ≤ bit_or own e
+      → taken (request_in own) o ≡ cond (bit (mask_in e) ((own - 1) % 32)) ((own - 1) % 32) (first_of ((own - 1) % 32) (family_at (request_in own) o) preference)
   unfolding taken chosen
   taken_ranged l =
-      ap (λ (b : Bool). cond b (chosen (request_in own).fallback (family_at (request_in own) o)) (request_in own).fallback) (range_took ∙ go (or_ranged own last l))
+      ap (λ (b : Bool). cond b (chosen (request_in own).fallback (family_at (request_in own) o)) (request_in own).fallback) (range_took ∙ go (or_ranged own e l))
       ∙ ap (λ (c : ℕ). chosen c (family_at (request_in own) o)) fallback_is
       ∙ ap (λ (b : Bool). cond b ((own - 1) % 32) (first_of ((own - 1) % 32) (family_at (request_in own) o) preference)) (end_admits ((own - 1) % 32))
     where
-      go : (64 ≤ own) ⊎ (64 ≤ last) → (ltb 32 own || ltb 32 last) ≡ true
-      go (inl p) = or-true (ltb 32 own) (ltb 32 last) (lt-ltb 32 own (omega arith))
-      go (inr p) = or_right (ltb 32 own) (ltb 32 last) (lt-ltb 32 last (omega arith))
+      go : (64 ≤ own) ⊎ (64 ≤ e) → (ltb 32 own || ltb 32 e) ≡ true
+      go (inl p) = or-true (ltb 32 own) (ltb 32 e) (lt-ltb 32 own (omega arith))
+      go (inr p) = or_right (ltb 32 own) (ltb 32 e) (lt-ltb 32 e (omega arith))
 
-  pub taken_fallback : 64 ≤ bit_or own last → bit (end_mask own last) ((own - 1) % 32) ≡ true → (own - 1) % 32 ≡ taken (request_in own) o
-  taken_fallback l e = sym (taken_ranged l ∙ rw e)
+  pub taken_fallback : 64 ≤ bit_or own e → bit (mask_in e) ((own - 1) % 32) ≡ true → (own - 1) % 32 ≡ taken (request_in own) o
+  taken_fallback l q = sym (taken_ranged l ∙ rw q)
 
-  pub taken_first : (r : ℕ) → 64 ≤ bit_or own last → bit (end_mask own last) ((own - 1) % 32) ≡ false
-      → ((f : Family) → ((c : ℕ) → admits f c ≡ bit (end_mask own last) c) → r ≡ first_of ((own - 1) % 32) f preference) → r ≡ taken (request_in own) o
-  taken_first r l e h = h (family_at (request_in own) o) end_admits ∙ sym (taken_ranged l ∙ rw e)
+  pub taken_first : (r : ℕ) → 64 ≤ bit_or own e → bit (mask_in e) ((own - 1) % 32) ≡ false
+      → ((f : Family) → ((c : ℕ) → admits f c ≡ bit (mask_in e) c) → r ≡ first_of ((own - 1) % 32) f preference) → r ≡ taken (request_in own) o
+  taken_first r l q h = h (family_at (request_in own) o) end_admits ∙ sym (taken_ranged l ∙ rw q)

@@ -13,12 +13,11 @@ returns-in-Some-clause-held c =
     let a = c.args in
     let i = c.issue-c.ensures in
     let g = c.in-Some.is in
-    let q = c.requires.1 in
-    λ ks vs s L. rw g (number_written _ ks vs _ (limits_of a.self) s (at a.site 1) _ _ a.request _ (request_in a.request) g (i.held ks vs s L) (omega (arith, i.low _ g, i.beside.variables)) (q, refl) (omega (arith, i.low _ g, i.beside.variables)))
+    λ ks vs s L. rw g (number_written _ ks vs _ (limits_of a.self) s (at a.site 1) _ _ a.request.word _ (request_in a.request.word) g (i.held ks vs s L) (omega (arith, i.low _ g, i.beside.variables)) (a.request.formed, refl) (omega (arith, i.low _ g, i.beside.variables)))
 
 pub returns-in_default-clause-held : goal.returns-in_default-clause-held
 unfolding order
 returns-in_default-clause-held c =
     let a = c.args in
     let i = c.issue-c.ensures in
-    λ ks vs s L. rw c.in_default.is (number_none _ ks vs _ (limits_of a.self) s (at a.site 1) _ (request_in a.request) c.in_default.is (i.held ks vs s L))
+    λ ks vs s L. rw c.in_default.is (number_none _ ks vs _ (limits_of a.self) s (at a.site 1) _ (request_in a.request.word) c.in_default.is (i.held ks vs s L))

@@ -1,4 +1,6 @@
 -- `default_word`. By the flag, and by the word of the deferral.
+use mathlib.Core.Path.{◌∙◌}
+use Rattle.solver.proofs.Laws.Table.RequestWordLaws.{word_new}
 use Rattle.solver.proofs.Laws.Table.MethodLaws.{default_none, default_never, default_request}
 use Rattle.solver.proofs.defaults.default_word.Goals as goal
 
@@ -10,9 +12,9 @@ returns-then-tables-m-eq0 c =
 pub returns-else-tables-m-eq0 : goal.returns-else-tables-m-eq0
 returns-else-tables-m-eq0 c =
     let a = c.args in
-    default_never a.which a.m a.tables.now a.v c.in-Deferred.is c.if-tables-m-eq0.false
+    word_new _ _ c.new-in-Deferred.ensures ∙ default_never a.which a.m a.tables.now a.v c.in-Deferred.is c.if-tables-m-eq0.false
 
 pub returns-in-Requested : goal.returns-in-Requested
 returns-in-Requested c =
     let a = c.args in
-    default_request a.which a.m a.tables.now a.v c.in-Requested.is
+    word_new _ _ c.new.ensures ∙ default_request a.which a.m a.tables.now a.v c.in-Requested.is

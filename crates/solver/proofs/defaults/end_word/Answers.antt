@@ -1,13 +1,15 @@
 -- `end_word`. By the flag.
-use native.Mathlib.Omega.{arith}
-use Rattle.std.proofs.lemmas.Grind.{common_steps}
-use Rattle.solver.specs.Words.MethodContract.{end_word}
+use mathlib.Core.Path.{◌∙◌}
+use Rattle.solver.proofs.Laws.Table.RequestWordLaws.{word_new}
+use Rattle.solver.proofs.Laws.Table.MethodLaws.{end_never, end_request}
 use Rattle.solver.proofs.defaults.end_word.Goals as goal
 
 pub returns-in-Deferred : goal.returns-in-Deferred
-unfolding end_word
-returns-in-Deferred c = grind (arith, common_steps)
+returns-in-Deferred c =
+    let a = c.args in
+    end_never a.which a.m a.tables.now a.w c.in-Deferred.is
 
 pub returns-in-Requested : goal.returns-in-Requested
-unfolding end_word
-returns-in-Requested c = grind (arith, common_steps)
+returns-in-Requested c =
+    let a = c.args in
+    word_new _ _ c.new.ensures ∙ end_request a.which a.m a.tables.now a.w c.in-Requested.is

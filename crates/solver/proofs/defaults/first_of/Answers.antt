@@ -40,7 +40,7 @@ pub returns : goal.returns
 unfolding code
 returns c =
     let t = λ (x : ℕ). bit c.args.mask x in
-    let d = c.args.fallback in
+    let d = c.args.fallback.code in
     let e = find_from_yields_List t _ _ _ c.find.ensures.ran (YieldsList-from_copied (YieldsList-from_slice _ (ap iter_rest c.copied.ensures.source ∙ c.iter.ensures.rest))) (λ x b q k. search (rules, tests)) in
-    let r : c.unwrap_or.result ≡ unwrap_or (find t (map code preference)) d = c.unwrap_or.ensures ∙ sym (same_value c.find.result d) ∙ ap (λ (o : Option ℕ). unwrap_or o d) e in
-    (λ f h. r ∙ first_code f t h d preference, rw r (found_small t d c.requires))
+    let r : c.unwrap_or-code.result ≡ unwrap_or (find t (map code preference)) d = c.unwrap_or-code.ensures ∙ sym (same_value c.find.result d) ∙ ap (λ (o : Option ℕ). unwrap_or o d) e in
+    λ f h. r ∙ first_code f t h d preference
