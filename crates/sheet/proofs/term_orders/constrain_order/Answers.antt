@@ -13,4 +13,4 @@ pub returns-clause-does : goal.returns-clause-does
 returns-clause-does c =
     let a = c.args in
     let s = c.constrain-r.ensures in
-    λ z t u P e. pair_done a.x _ _ _ _ z a.q t u P a.k a.out.now a.to c.requires.room.inside _ _ (s.solved z t u P e) _ _ _ (omega (arith, c.if-out-to-lt3.false)) c.verdict_number-a.ensures c.write_byte_answer-next.ensures
+    λ z t u P e. pair_done a.x _ _ _ _ z a.q t u P a.k a.out.now a.to c.requires.room.inside _ _ (s.solved z t u P e) _ _ _ (omega (arith, c.if-out-to-lt3.false)) c.from.ensures c.write_byte_answer-next.ensures
