@@ -13,7 +13,7 @@ ghost use Rattle.solver.specs.Words.OrderTerms.{Poses, PosesPair, Frames};
 ghost use Rattle.sheet.specs.Words.SessionOrdersContract.{lent, Does, DoesPair};
 
 use super::AfterOrder;
-use super::framing::{write_byte_answer, write_empty_answer};
+use super::framing::{BYTE_ANSWER, write_byte_answer, write_empty_answer};
 use super::plain_orders::resolved;
 use solver::{Access, Solver, Subject, Tokens};
 
@@ -83,7 +83,7 @@ pub fn constrain_order(
         → DoesPair (lent x tokens.now.kinds.now tokens.now.vals.now tables.old) result.solver tables.new z
         (solve (limits_of x) z (orders.pair (strict_of access) k t u)) (output_at out.old to) (written_to out.new result.next) }
 {
-    if out.len() - to < 3 {
+    if out.len() - to < BYTE_ANSWER {
         return AfterOrder {
             solver: x,
             next: None,
