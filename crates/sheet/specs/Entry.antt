@@ -17,11 +17,11 @@ framed_part s (Some (from, size)) = got (take size (drop from s)) (from + size)
 framed_part s None = refused 10
 
 -- As an order finds the areas: they are large enough, and hold a session that some list of orders leaves.
-pub record AreasReady (x : Solver) (half : ℕ) (m : Areas) : Type 0 where
-  pub roomy : AreasSuffice x half (length m.a) m
+pub record AreasReady (x : Solver) (m : Areas) : Type 0 where
+  pub roomy : AreasSuffice x (length m.a) m
   pub session : Session
   pub ordered : InOrder (issued session) session.solver
-  pub in_areas : RepresentsInAreas x half m session
+  pub in_areas : RepresentsInAreas x m session
 
 -- ---- the run
 
@@ -40,9 +40,9 @@ pub record Ended (lim : Limits) (s out₀ : List ℕ) (r n m : ℕ) (out : List 
   pub output : out ≡ (run_of lim s (length out₀)).answers ++ drop (length (run_of lim s (length out₀)).answers) out₀
 
 -- the areas that it leaves hold a session
-pub record Left (x : Solver) (half : ℕ) (m : Areas) : Type 0 where
+pub record Left (x : Solver) (m : Areas) : Type 0 where
   pub session : Session
-  pub in_areas : RepresentsInAreas x half m session
+  pub in_areas : RepresentsInAreas x m session
 
 -- what a run hands back, and the end state of all that it was lent
 pub record Finish : Type 0 where

@@ -1,5 +1,5 @@
 // Answers in the output: a length, an outcome byte, and on 0 the value. An answer is written whole, and the position after it comes back, or not at
-// all: None where it does not fit.
+// all: None where it does not fit. `out` and `to` go from hand to hand, and no struct has them both: see `store.rt` of terms.
 ghost use Rattle.std.specs.Prelude.{length, [], ◌∷◌};
 ghost use Rattle.solver.specs.Terms.Number.{shortest};
 ghost use Rattle.sheet.specs.OrderTable.{refusal, outcome};
@@ -7,6 +7,9 @@ ghost use Rattle.sheet.specs.Words.FramingContract.{OutputRoom, Framed, Begun, o
 
 use super::OrderRefusal;
 use solver::{number_len, write_number};
+
+// How many bytes the answer of one byte has: its length, outcome 0 and the byte.
+pub const BYTE_ANSWER: usize = 3;
 
 // A refusal.
 pub fn write_refusal(out: &mut [u8], to: usize, why: OrderRefusal) -> Option<usize>
@@ -26,13 +29,7 @@ pub fn write_byte_answer(out: &mut [u8], to: usize, a: u8) -> Option<usize>
     requires { OutputRoom out.old to }
     ensures { Framed (outcome (a ∷ [])) out.old to out.new result }
 {
-    if out.len() - to < 3 {
-        return None;
-    }
-    out[to] = 2;
-    out[to + 1] = 0;
-    out[to + 2] = a;
-    Some(to + 3)
+    write_bytes_answer(out, to, &[a])
 }
 
 // The length and outcome 0, where a value of so many bytes fits after them: the position of the value.

@@ -18,7 +18,7 @@ mod starting;
 mod term_orders;
 
 pub use running::run_sheet;
-use solver::{Access, Defaulted, NumberRequest, Refusal, Solver, Tokens, refusal_number};
+use solver::{Access, Defaulted, NumberRequest, Refusal, Site, Solver, Tokens, refusal_number};
 
 // Which order it is, by what answers it; `try_from` of order_table.rt has the numbers. Orders 9 to 20 are operations, which leave the session as it was.
 #[derive(Clone, Copy, Debug, PartialEq, Eq)]
@@ -120,6 +120,22 @@ pub enum VariableOrder {
     Slot(u32, u32),
     Number(u32, NumberRequest),
     Hole(u32),
+}
+
+// The place of the variable: that of a number variable is slot 1 of its site.
+impl From<VariableOrder> for Site {
+    ghost use Rattle.std.specs.Prelude.{◌≡◌};
+    ghost use Rattle.sheet.specs.Words.SessionOrdersContract.{site_of};
+
+    ghost from_gives = { λ wanted site. site ≡ site_of wanted };
+
+    fn from(wanted: VariableOrder) -> Site {
+        match wanted {
+            VariableOrder::Slot(site, slot) => Site::Slot(site, slot),
+            VariableOrder::Number(site, _) => Site::Slot(site, 1),
+            VariableOrder::Hole(site) => Site::Hole(site),
+        }
+    }
 }
 
 // An order without terms: for a variable (orders 0, 1, 2 and 21), the defaults of numbers (6) or of deferred variables (7), the revision (8); or that no

@@ -17,10 +17,12 @@ ghost use Rattle.sheet.specs.Words.FieldLayout.{spot_bound};
 ghost use Rattle.sheet.specs.Words.OrderKinds.{termless_row};
 ghost use Rattle.sheet.specs.Words.OperationsContract.{Asks};
 ghost use Rattle.sheet.specs.Words.FramingContract.{OutputRoom, output_at, written_to, Framed};
-ghost use Rattle.sheet.specs.Words.SessionOrdersContract.{lent, Does, Says, variable_command, site_of};
+ghost use Rattle.sheet.specs.Words.SessionOrdersContract.{lent, Does, Says, variable_command};
 ghost use Rattle.sheet.specs.Words.SessionOrdersContract.{variable_answer, termless_command};
 
-use super::framing::{begin_answer, write_byte_answer, write_number_answer, write_refusal};
+use super::framing::{
+    BYTE_ANSWER, begin_answer, write_byte_answer, write_number_answer, write_refusal,
+};
 use super::{
     AfterOrder, FieldSpot, FieldSpots, OrderRefusal, TermlessKind, TermlessOrder, VariableOrder,
 };
@@ -56,7 +58,7 @@ fn default_order(
         → Does (lent x tokens.now.kinds.now tokens.now.vals.now tables.old) result.solver tables.new z
         (solve (limits_of x) z (defaults_by which)) (output_at out.old to) (written_to out.new result.next) }
 {
-    if out.len() - to < 3 {
+    if out.len() - to < BYTE_ANSWER {
         return AfterOrder {
             solver: x,
             next: None,
@@ -95,24 +97,9 @@ pub fn resolved(
     ensures term { (z : Session) (t : Term) → Asked x tokens.now.kinds.now tokens.now.vals.now tables.now what z t
         → Framed (outcome (resolved_to z t)) out.old to out.new result }
 {
-    let limit = out.len();
-    let size = x.resolved_len(tokens, tables, frames, what, limit);
-    if limit < size {
-        return None;
-    }
+    let size = x.resolved_len(tokens, tables, frames, what, out.len())?;
     let at = begin_answer(out, to, size)?;
     Some(x.resolve(tokens, tables, frames, what, out, at))
-}
-
-// The place of an order's variable.
-fn site_of(wanted: VariableOrder) -> Site
-    ensures { result ≡ site_of wanted }
-{
-    match wanted {
-        VariableOrder::Slot(site, slot) => Site::Slot(site, slot),
-        VariableOrder::Number(site, _) => Site::Slot(site, 1),
-        VariableOrder::Hole(site) => Site::Hole(site),
-    }
 }
 
 // The answer for the variable v: order 0 answers the variable itself, the others what it resolves to.
@@ -135,8 +122,9 @@ fn answer_variable(
 {
     match wanted {
         VariableOrder::Slot(_, _) => write_variable_answer(out, to, v),
-        VariableOrder::Number(_, _) => resolved(x, tokens, tables, frames, Subject::Id(v), out, to),
-        VariableOrder::Hole(_) => resolved(x, tokens, tables, frames, Subject::Id(v), out, to),
+        VariableOrder::Number(_, _) | VariableOrder::Hole(_) => {
+            resolved(x, tokens, tables, frames, Subject::Id(v), out, to)
+        }
     }
 }
 
@@ -181,7 +169,7 @@ fn variable_order(
         → Does (lent x tokens.now.kinds.now tokens.now.vals.now tables.old) result.solver tables.new z
         (solve (limits_of x) z (variable_command wanted)) (output_at out.old to) (written_to out.new result.next) }
 {
-    let Some(v) = x.id_of(tables, site_of(wanted)) else {
+    let Some(v) = x.id_of(tables, Site::from(wanted)) else {
         let next = write_refusal(out, to, OrderRefusal::Common(Refusal::Variables));
         return AfterOrder { solver: x, next };
     };

@@ -1,5 +1,5 @@
 // The run of a sheet.
-ghost use Rattle.std.specs.Prelude.{◌≡◌, ◌≤◌, length, take};
+ghost use Rattle.std.specs.Prelude.{◌≡◌, ◌≤◌, length, take, drop};
 ghost use Rattle.solver.specs.Session.{document_limits, fresh};
 ghost use Rattle.solver.specs.Words.SessionRepresentation.{limits_of};
 ghost use Rattle.sheet.specs.Sheet.{run_of};
@@ -31,20 +31,20 @@ fn closed(reason: Reason, orders: u64, bytes: usize, solver: Solver) -> Closed
 // Answers orders one after another, until the sheet is used up, a length is faulty or an answer does not fit.
 fn answer_orders(
     first: Solver,
-    half: usize,
     s: &[u8],
     out: &mut [u8],
     a: &mut [u32],
     b: &mut [u32],
-    c: &mut [u32],
+    records: &mut [u32],
+    table: &mut [u32],
     d: &mut [u32],
 ) -> Closed
-    requires held { RepresentsInAreas first half (areas a.old b.old c.old d.old) fresh
-        × AreasSuffice first half (length a.old) (areas a.old b.old c.old d.old) }
+    requires held { RepresentsInAreas first (areas a.old b.old records.old table.old d.old) fresh
+        × AreasSuffice first (length a.old) (areas a.old b.old records.old table.old d.old) }
     requires room { (length s.now ≤ 16777216) × (length out.old ≤ 16777216) }
     ensures run { Ended (limits_of first) s.now out.old (number_of_reason result.report.reason) result.report.orders result.report.bytes
         out.new }
-    ensures left { Left result.solver half (areas a.new b.new c.new d.new) }
+    ensures left { Left result.solver (areas a.new b.new records.new table.new d.new) }
 {
     let mut x = first;
     let mut to = 0;
@@ -54,7 +54,7 @@ fn answer_orders(
             Ok(bytes) => bytes,
             Err(reason) => return closed(reason, orders, to, x),
         };
-        let r = serve_order(x, half, bytes, a, b, c, d, out, to);
+        let r = serve_order(x, bytes, a, b, records, table, d, out, to);
         let Some(next) = r.next else {
             return closed(Reason::Room, orders, to, r.solver);
         };
@@ -77,16 +77,18 @@ fn run_in(
     c: &mut [u32],
     d: &mut [u32],
 ) -> Report
-    requires areas { AreasSuffice (counters variables nodes) half (length a.old) (areas a.old b.old c.old d.old) }
+    requires areas { (half ≤ length c.old)
+        × AreasSuffice (counters variables nodes) (length a.old) (areas a.old b.old (take half c.old) (drop half c.old) d.old) }
     requires room { (length s.now ≤ 16777216) × (length out.old ≤ 16777216) }
     ensures run { Ended (limits_of (counters variables nodes)) s.now out.old (number_of_reason result.reason) result.orders result.bytes
         out.new }
     ensures clear { Zero a.new × Zero b.new × Zero c.new × Zero d.new }
 {
-    let x = lay_fresh(variables, nodes, half, a, b, c, d);
-    let r = answer_orders(x, half, s, out, a, b, c, d);
+    let (records, table) = c.split_at_mut(half);
+    let x = lay_fresh(variables, nodes, a, b, records, table, d);
+    let r = answer_orders(x, s, out, a, b, records, table, d);
     let y = r.solver;
-    y.clear_session(a, b, &mut c[half..]);
+    y.clear_session(a, b, table);
     r.report
 }
 
@@ -103,8 +105,9 @@ fn run_within(
     c: &mut [u32],
     d: &mut [u32],
 ) -> Report
-    requires areas { (words ≤ length a.old) × (words ≤ length b.old) × (words ≤ length c.old) × (words ≤ length d.old)
-        × AreasSuffice (counters variables nodes) half words (areas (take words a.old) (take words b.old) (take words c.old) (take words d.old)) }
+    requires areas { (half ≤ words) × (words ≤ length a.old) × (words ≤ length b.old) × (words ≤ length c.old) × (words ≤ length d.old)
+        × AreasSuffice (counters variables nodes) words
+        (areas (take words a.old) (take words b.old) (take half (take words c.old)) (drop half (take words c.old)) (take words d.old)) }
     requires room { (length s.now ≤ 16777216) × (length out.old ≤ 16777216) }
     ensures { finished (number_of_reason result.reason) result.orders result.bytes out.new a.new b.new c.new
         d.new ≡ state_after_run (run_of (limits_of (counters variables nodes)) s.now (length out.old)) out.old

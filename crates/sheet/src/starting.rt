@@ -1,5 +1,5 @@
 // The areas cleared, and a fresh session laid in them.
-ghost use Rattle.std.specs.Prelude.{◌≡◌, ◌≤◌, length, drop};
+ghost use Rattle.std.specs.Prelude.{◌≡◌, length};
 ghost use Rattle.solver.specs.Session.{fresh};
 ghost use Rattle.solver.specs.Words.SessionsContract.{counters, FreshRoom};
 ghost use Rattle.sheet.specs.Words.SessionInAreas.{areas, RepresentsInAreas};
@@ -10,16 +10,16 @@ use solver::Solver;
 pub fn lay_fresh(
     variables: usize,
     nodes: usize,
-    half: usize,
     a: &mut [u32],
     b: &mut [u32],
-    c: &mut [u32],
+    records: &mut [u32],
+    table: &mut [u32],
     d: &mut [u32],
 ) -> Solver
-    requires { (half ≤ length c.old) × FreshRoom variables (length a.old) (length b.old) (length (drop half c.old)) }
-    ensures { (result ≡ counters variables nodes) × RepresentsInAreas result half (areas a.new b.new c.new d.new) fresh }
+    requires { FreshRoom variables (length a.old) (length b.old) (length table.old) }
+    ensures { (result ≡ counters variables nodes) × RepresentsInAreas result (areas a.new b.new records.new table.new d.new) fresh }
 {
-    c[..half].fill(0);
+    records.fill(0);
     d.fill(0);
-    Solver::fresh(variables, nodes, a, b, &mut c[half..])
+    Solver::fresh(variables, nodes, a, b, table)
 }

@@ -6,16 +6,16 @@ ghost use Rattle.solver.specs.Orders as orders;
 ghost use Rattle.solver.specs.Words.Worklist.{Zero};
 ghost use Rattle.solver.specs.Words.PendingContract.{strict_of};
 ghost use Rattle.solver.specs.Words.ConstrainContract.{Scratch, pending_from};
-ghost use Rattle.solver.specs.Words.SessionRepresentation.{limits_of, verdict_number};
+ghost use Rattle.solver.specs.Words.SessionRepresentation.{limits_of};
 ghost use Rattle.sheet.specs.Sheet.{solve};
 ghost use Rattle.sheet.specs.Words.FramingContract.{OutputRoom, output_at, written_to};
 ghost use Rattle.solver.specs.Words.OrderTerms.{Poses, PosesPair, Frames};
 ghost use Rattle.sheet.specs.Words.SessionOrdersContract.{lent, Does, DoesPair};
 
 use super::AfterOrder;
-use super::framing::{write_byte_answer, write_empty_answer};
+use super::framing::{BYTE_ANSWER, write_byte_answer, write_empty_answer};
 use super::plain_orders::resolved;
-use solver::{Access, Solver, Subject, Tokens, Verdict};
+use solver::{Access, Solver, Subject, Tokens};
 
 // Order 3: the variable that the term after the session's tokens stands for, if it stands for one, is deferred.
 pub fn defer_term(
@@ -60,14 +60,6 @@ pub fn resolve_term(
     AfterOrder { solver: x, next }
 }
 
-// A verdict as a byte. It is a function, for with the cast in its place the proof of `constrain_order` has to name what Rattle makes of the enum, which
-// may change.
-fn verdict_number(v: Verdict) -> u8
-    ensures { result ≡ verdict_number v }
-{
-    v as u8
-}
-
 // Orders 4 and 22: the two terms after the session's tokens, with k checks; `nodes` counts the kept nodes and theirs.
 pub fn constrain_order(
     x: Solver,
@@ -91,16 +83,16 @@ pub fn constrain_order(
         → DoesPair (lent x tokens.now.kinds.now tokens.now.vals.now tables.old) result.solver tables.new z
         (solve (limits_of x) z (orders.pair (strict_of access) k t u)) (output_at out.old to) (written_to out.new result.next) }
 {
-    if out.len() - to < 3 {
+    if out.len() - to < BYTE_ANSWER {
         return AfterOrder {
             solver: x,
             next: None,
         };
     }
     let r = x.constrain(tokens, tables, work, q, k, nodes, access);
-    let solver = r.solver;
-    let v = r.verdict;
-    let a = verdict_number(v);
-    let next = write_byte_answer(out, to, a);
-    AfterOrder { solver, next }
+    let next = write_byte_answer(out, to, u8::from(r.verdict));
+    AfterOrder {
+        solver: r.solver,
+        next,
+    }
 }

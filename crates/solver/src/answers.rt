@@ -1,5 +1,5 @@
 // Orders 1, 2, 5 and 8: what a term or a variable resolves to, and the revision.
-ghost use Rattle.std.specs.Prelude.{◌≡◌, List, ℕ, min, ◌+◌, ◌^◌, ◌≤◌, ◌<◌, length};
+ghost use Rattle.std.specs.Prelude.{Some, unwrap_or, ◌≡◌, List, ℕ, min, ◌+◌, ◌^◌, ◌≤◌, ◌<◌, length};
 ghost use Rattle.std.proofs.lemmas.List.Edits.{sets};
 ghost use Rattle.terms.specs.Result.{number_of};
 ghost use Rattle.terms.specs.Term.{Term, var, bytes};
@@ -11,13 +11,13 @@ ghost use Rattle.solver.specs.Words.OrderTerms.{Asked, Starts, Frames, resolved_
 
 use super::resolving::{clear_words, resolved_len, write_resolved};
 use super::{Bindings, Solver, Start, Subject};
-use terms::{Refusal, Tokens, number_len, write_number};
+use terms::{Refusal, Tokens, token_len, write_token};
 
 // How many bytes a variable has.
 pub fn variable_len(v: u32) -> usize
     ensures { (result ≡ length (bytes (var v))) × (result ≤ 6) }
 {
-    number_len(v as u64) + 1
+    token_len(1, v)
 }
 
 // Writes a variable at a position of out, and returns the position after it.
@@ -26,8 +26,7 @@ pub fn write_variable(out: &mut [u8], to: usize, v: u32) -> usize
     ensures next { result ≡ to + length (bytes (var v)) }
     ensures wrote { out.new ≡ sets out.old to (bytes (var v)) }
 {
-    out[to] = 1;
-    write_number(out, to + 1, v as u64)
+    write_token(out, to, 1, v)
 }
 
 impl Solver {
@@ -49,21 +48,19 @@ impl Solver {
         match what {
             Subject::Follows => Start::Begins(self.top, self.revision),
             Subject::Id(v) => {
-                let most = self.revision;
-                if most == 0 {
+                let Some(most) = self.revision.checked_sub(1) else {
                     return Start::Free(v);
-                }
-                let i = v as usize;
-                let word = tables[i] as usize;
-                if word == 0 {
+                };
+                let word = tables[v as usize] as usize;
+                let Some(p) = word.checked_sub(1) else {
                     return Start::Free(v);
-                }
-                Start::Begins(word - 1, most - 1)
+                };
+                Start::Begins(p, most)
             }
         }
     }
 
-    // How many bytes the term that is asked for resolves to, or limit + 1 where those are more than limit.
+    // How many bytes the term that is asked for resolves to; none where those are more than limit.
     pub fn resolved_len(
         self,
         tokens: &Tokens,
@@ -71,12 +68,13 @@ impl Solver {
         work: &mut [u32],
         what: Subject,
         limit: usize,
-    ) -> usize
+    ) -> Option<usize>
         requires held { (s : Session) × (t : Term) × Asked self tokens.now.kinds.now tokens.now.vals.now tables.now what s t }
         requires room { Frames self work.old × (limit < 2 ^ 32) }
         ensures len { (s : Session) (t : Term)
             → Asked self tokens.now.kinds.now tokens.now.vals.now tables.now what s t
-            → result ≡ min (limit + 1) (length (resolved_to s t)) }
+            → unwrap_or result (limit + 1) ≡ min (limit + 1) (length (resolved_to s t)) }
+        ensures fits { (n : ℕ) → result ≡ Some n → n ≤ limit }
         ensures clear { Zero work.new }
     {
         let begun = self.start(tables, what);
@@ -91,9 +89,9 @@ impl Solver {
                 if size.is_none() {
                     clear_words(work, most + most);
                 }
-                size.unwrap_or(limit + 1)
+                size
             }
-            Start::Free(v) => variable_len(v).min(limit + 1),
+            Start::Free(v) => Some(variable_len(v)).filter(|n| *n <= limit),
         }
     }
 

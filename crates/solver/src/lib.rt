@@ -154,6 +154,17 @@ pub enum Verdict {
     Cancelled = 2,
 }
 
+impl From<Verdict> for u8 {
+    ghost use Rattle.std.specs.Prelude.{◌≡◌};
+    ghost use Rattle.solver.specs.Words.SessionRepresentation.{verdict_number};
+
+    ghost from_gives = { λ verdict number. number ≡ verdict_number verdict };
+
+    fn from(verdict: Verdict) -> u8 {
+        verdict as u8
+    }
+}
+
 // The solver after a pair, and what came of it. The counters go in and come back by value (document 01), so in this and the next two a part stands beside them.
 #[derive(Clone, Copy)]
 pub struct Solved {

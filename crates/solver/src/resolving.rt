@@ -13,15 +13,11 @@ ghost use Rattle.solver.specs.Words.Worklist.{Zero};
 use super::{Bindings, Run, Stand};
 use terms::{Token, Tokens, run_len, write_run};
 
-// The run that a word of the table names, if it names one.
-pub fn named_run(tokens: &Tokens, word: usize) -> Option<Run>
-    ensures named { Named tokens.now.kinds.now tokens.now.vals.now word (run_in result).at (run_in result).len }
+// The run of the term at a place, if one is there and lies within the tokens.
+pub fn run_at(tokens: &Tokens, at: usize) -> Option<Run>
+    ensures named { Named tokens.now.kinds.now tokens.now.vals.now (at + 1) (run_in result).at (run_in result).len }
     ensures filled { Filled result }
 {
-    if word == 0 {
-        return None;
-    }
-    let at = word - 1;
     if tokens.kinds.len() <= at {
         return None;
     }
@@ -34,6 +30,14 @@ pub fn named_run(tokens: &Tokens, word: usize) -> Option<Run>
         return None;
     }
     Some(Run { at, len })
+}
+
+// The run that a word of the table names, if it names one.
+pub fn named_run(tokens: &Tokens, word: usize) -> Option<Run>
+    ensures named { Named tokens.now.kinds.now tokens.now.vals.now word (run_in result).at (run_in result).len }
+    ensures filled { Filled result }
+{
+    run_at(tokens, word.checked_sub(1)?)
 }
 
 // The run that takes the place of the token at p; none where it stands for itself: with nothing left to enter, every token does.
@@ -170,7 +174,7 @@ pub fn resolved_len(
     limit: usize,
 ) -> Option<usize>
     requires areas { bindings.now.most + bindings.now.most ≤ length frames.old }
-    requires room { (p < 2 ^ 32) × (limit < 2 ^ 32) }
+    requires room { limit < 2 ^ 32 }
     ensures len { unwrap_or result (limit + 1) ≡ min (limit + 1) (length (resolved_bytes_at bindings.now p)) }
     ensures term { (t : Term) (b : ℕ → Option Term)
         → HeldBy bindings.now p t
@@ -180,7 +184,7 @@ pub fn resolved_len(
     ensures apart { Apart bindings.now.most frames.old frames.new }
     ensures bare { (n : ℕ) → result ≡ Some n → Zero frames.old → Zero frames.new }
 {
-    let run = named_run(&bindings.tokens, p + 1).unwrap_or_default();
+    let run = run_at(&bindings.tokens, p).unwrap_or_default();
     walked_len(bindings, frames, run, limit)
 }
 
@@ -193,7 +197,7 @@ pub fn write_resolved(
     to: usize,
 ) -> usize
     requires areas { bindings.now.most + bindings.now.most ≤ length frames.old }
-    requires room { (p < 2 ^ 32) × (to + length (resolved_bytes_at bindings.now p) ≤ length out.old) }
+    requires room { to + length (resolved_bytes_at bindings.now p) ≤ length out.old }
     ensures next { result ≡ to + length (resolved_bytes_at bindings.now p) }
     ensures wrote { out.new ≡ sets out.old to (resolved_bytes_at bindings.now p) }
     ensures term { (t : Term) (b : ℕ → Option Term)
@@ -203,7 +207,7 @@ pub fn write_resolved(
     ensures apart { Apart bindings.now.most frames.old frames.new }
     ensures bare { Zero frames.old → Zero frames.new }
 {
-    let run = named_run(&bindings.tokens, p + 1).unwrap_or_default();
+    let run = run_at(&bindings.tokens, p).unwrap_or_default();
     write_walked(bindings, frames, run, out, to)
 }
 

@@ -48,7 +48,7 @@ pub use recover::{recovered_len, write_recovered};
 pub use runs::{skip, term_part};
 pub use satisfy::{satisfies, satisfies_for};
 pub use store::clear_tokens;
-pub use write::{run_len, write_run};
+pub use write::{run_len, token_len, write_run, write_token};
 
 // Why an order is refused: it ends early or has bytes left over; a tag, a code or a kind that is not listed; a number too large or not in its shortest
 // form; a level too many; members that do not rise; a variable that was not issued; nodes too many; variables too many; children too many.

@@ -8,7 +8,7 @@ use Prim.Native.Nat.{ℕ, zero, suc, ◌^◌, ◌+◌, ◌-◌, ◌*◌, ◌≤�
 use native.Mathlib.Decide.{ℕ_discrete}
 use native.Mathlib.Omega.{arith}
 use borrow.Author.Tests.{ne_eqb, le-ltb}
-use lib.ListN.{length, length-append, length-drop, get_or, take, drop, take-append-drop}
+use lib.ListN.{length, length-append, get_or, take}
 use lib.Seq.{length-take-le, get_or-take, take-take}
 use Rattle.solver.specs.Terms.Result.{Result}
 use Rattle.solver.specs.Terms.Tokens.{Narrow, Item, Area, area, blank, toks}
@@ -64,7 +64,7 @@ use Rattle.sheet.proofs.Laws.Reading.ReadOrderUseLaws as use-laws
 use Rattle.sheet.proofs.Laws.Reading.ReadOrderUseLaws.{order_long}
 use Rattle.sheet.proofs.Laws.Answering.TermOrderLaws as posing
 use Rattle.sheet.proofs.Laws.Answering.OperationStepLaws.{operation_step}
-use Rattle.sheet.proofs.Laws.Answering.SessionInAreasLaws.{ready_half, solve_kept, answers_does, answers_bound, answers_quiet}
+use Rattle.sheet.proofs.Laws.Answering.SessionInAreasLaws.{solve_kept, answers_does, answers_bound, answers_quiet}
 
 -- ---- the tokens up to a place, lent
 
@@ -97,9 +97,9 @@ pair_steps Compared lim z n t u = refl
 
 -- ---- room to read
 
-pub ready_room : (x : Solver) (half : ℕ) (s a b c d : List ℕ) (ws : List Rule) → AreasReady x half (areas a b c d) → length s ≤ 16777216 → (get_or s 0 0 ≡ 20 → RulesRoom s ws 2048)
+pub ready_room : (x : Solver) (s a b r t d : List ℕ) (ws : List Rule) → AreasReady x (areas a b r t d) → length s ≤ 16777216 → (get_or s 0 0 ≡ 20 → RulesRoom s ws 2048)
     → OrderRoom s a b ws x.top x.kept x.nodes
-ready_room x half s a b c d ws R h w =
+ready_room x s a b r t d ws R h w =
     let Y = R.roomy in
     let L = R.in_areas in
     record {
@@ -116,14 +116,14 @@ ready_room x half s a b c d ws R h w =
 -- ---- answers
 
 -- in areas that are the same
-answers_at : {x y : Solver} {half : ℕ} {a b a₀ b₀ c d : List ℕ} {z : Session} {st : Step} {w : Output} {v : Wrote} → area a b ≡ area a₀ b₀
-    → Answers y half (areas a₀ b₀ c d) z st w v x → Answers y half (areas a b c d) z st w v x
-answers_at {x = x} {y = y} {half = half} {c = c} {d = d} {z = z} {st = st} {w = w} {v = v} e A =
-    subst (λ (u : Area). Answers y half (areas u.kinds u.vals c d) z st w v x) (sym e) A
+answers_at : {x y : Solver} {a b a₀ b₀ r t d : List ℕ} {z : Session} {st : Step} {w : Output} {v : Wrote} → area a b ≡ area a₀ b₀
+    → Answers y (areas a₀ b₀ r t d) z st w v x → Answers y (areas a b r t d) z st w v x
+answers_at {x = x} {y = y} {r = r} {t = t} {d = d} {z = z} {st = st} {w = w} {v = v} e A =
+    subst (λ (u : Area). Answers y (areas u.kinds u.vals r t d) z st w v x) (sym e) A
 
 -- that leave the session as it was
-answers_same : {x : Solver} {half : ℕ} {m : Areas} {z : Session} → RepresentsInAreas x half m z → (answer : Answer) (w : Output) (v : Wrote) → Framed answer w.bytes w.at v.bytes v.next
-    → Answers x half m z (record { session = z; answer = answer }) w v x
+answers_same : {x : Solver} {m : Areas} {z : Session} → RepresentsInAreas x m z → (answer : Answer) (w : Output) (v : Wrote) → Framed answer w.bytes w.at v.bytes v.next
+    → Answers x m z (record { session = z; answer = answer }) w v x
 answers_same Z answer w v F =
     record {
       fits = λ k. ((F.fits k).0, (F.fits k).1, Z);
@@ -133,8 +133,8 @@ answers_same Z answer w v F =
     }
 
 -- the step is another name for one that is answered
-step_as : {x y : Solver} {half : ℕ} {m : Areas} {z : Session} {st st' : Step} {w : Output} {v : Wrote} → st ≡ st' → Answers y half m z st' w v x → Answers y half m z st w v x
-step_as {x = x} {y = y} {half = half} {m = m} {z = z} {w = w} {v = v} e A = subst (λ (u : Step). Answers y half m z u w v x) (sym e) A
+step_as : {x y : Solver} {m : Areas} {z : Session} {st st' : Step} {w : Output} {v : Wrote} → st ≡ st' → Answers y m z st' w v x → Answers y m z st w v x
+step_as {x = x} {y = y} {m = m} {z = z} {w = w} {v = v} e A = subst (λ (u : Step). Answers y m z u w v x) (sym e) A
 
 -- ---- an order taken
 
@@ -147,12 +147,9 @@ held_cut ks vs n p t h k x =
       within = omega (arith, length-take-le n ks h);
     }
 
-module _ {x : Solver} {half : ℕ} {s : List ℕ} {m : Areas} {ts : Area} {ws : List Rule} {o : Order} (T : OrderTaken x half s m ts ws o) where
+module _ {x : Solver} {s : List ℕ} {m : Areas} {ts : Area} {ws : List Rule} {o : Order} (T : OrderTaken x s m ts ws o) where
   pub taken_after : x.top ≤ o.top
   taken_after = omega (arith, T.whole.tokens)
-
-  pub taken_half : half ≤ length m.c
-  taken_half = ready_half T.ready
 
   a_long : length ts.kinds ≡ length m.a
   a_long = (order_long s x.issued x.top x.kept x.nodes (area m.a m.b) ts ws o T.whole).0
@@ -161,25 +158,25 @@ module _ {x : Solver} {half : ℕ} {s : List ℕ} {m : Areas} {ts : Area} {ws : 
   b_long = (order_long s x.issued x.top x.kept x.nodes (area m.a m.b) ts ws o T.whole).1 ∙ T.ready.roomy.b_size
 
   -- what the bytes say, on any session that the areas held
-  step_is : (z : Session) → RepresentsInAreas x half m z → order_of (limits_of x) z s ≡ step (limits_of x) z (kind_row o.kind) T.whole.said
+  step_is : (z : Session) → RepresentsInAreas x m z → order_of (limits_of x) z s ≡ step (limits_of x) z (kind_row o.kind) T.whole.said
   step_is z Z = ap (λ (q : Result Read). step_read (limits_of x) z q) (ap (λ (n : ℕ). read_order s n) (sym Z.represents.issued) ∙ T.whole.is)
 
-  step_as_kind : (z : Session) → RepresentsInAreas x half m z → {k : OrderKind} → o.kind ≡ k → order_of (limits_of x) z s ≡ step (limits_of x) z (kind_row k) T.whole.said
+  step_as_kind : (z : Session) → RepresentsInAreas x m z → {k : OrderKind} → o.kind ≡ k → order_of (limits_of x) z s ≡ step (limits_of x) z (kind_row k) T.whole.said
   step_as_kind z Z h = step_is z Z ∙ ap (λ (k : OrderKind). step (limits_of x) z (kind_row k) T.whole.said) h
 
   -- served in the areas that there were: with the tokens of the order cleared they are those
-  answered : (y : Solver) → y.top ≡ x.top → (c' d' : List ℕ) (w : Output) (v : Wrote) → Serves x y half s m (areas m.a m.b c' d') w v
-      → Answered x y half s m ts o c' d' w v
-  answered y e c' d' w v S =
+  answered : (y : Solver) → y.top ≡ x.top → (r' t' d' : List ℕ) (w : Output) (v : Wrote) → Serves x y s m (areas m.a m.b r' t' d') w v
+      → Answered x y s m ts o r' t' d' w v
+  answered y e r' t' d' w v S =
       record {
         inside = omega (arith, taken_after);
         serves = λ a' b' E z A Z. answers_at (E ∙ ap (λ (n : ℕ). blank ts n (o.top - n)) e ∙ T.whole.cleared) (S z A Z);
       }
 
   -- too many nodes
-  pub crowded : x.nodes < o.nodes → (w : Output) (v : Wrote) → Framed (refusal 7) w.bytes w.at v.bytes v.next → Answered x x half s m ts o m.c m.d w v
+  pub crowded : x.nodes < o.nodes → (w : Output) (v : Wrote) → Framed (refusal 7) w.bytes w.at v.bytes v.next → Answered x x s m ts o m.records m.table m.d w v
   crowded h w v F =
-      answered x refl m.c m.d w v
+      answered x refl m.records m.table m.d w v
       (λ z A Z.
       let k = kind_row o.kind in
       let fs = T.whole.said in
@@ -188,16 +185,16 @@ module _ {x : Solver} {half : ℕ} {s : List ℕ} {m : Areas} {ts : Area} {ws : 
       step_as (step_is z Z ∙ seven) (answers_same Z (refusal 7) w v F))
 
   -- a command done on what is lent, other than order 4
-  told : (k : Command) → ((z : Session) → RepresentsInAreas x half m z → order_of (limits_of x) z s ≡ solve (limits_of x) z k)
-      → (y : Solver) (c' d' : List ℕ) (w : Output) (v : Wrote) → take half c' ≡ take half m.c → Zero d'
-      → ((z : Session) → InOrder (issued z) z.solver → RepresentsInAreas x half m z
-      → Does (lent x (take x.top m.a) (take x.top m.b) (drop half m.c)) y (drop half c') z (solve (limits_of x) z k) w v)
-      → Answered x y half s m ts o c' d' w v
-  told k same y c' d' w v front clear D =
+  told : (k : Command) → ((z : Session) → RepresentsInAreas x m z → order_of (limits_of x) z s ≡ solve (limits_of x) z k)
+      → (y : Solver) (t' d' : List ℕ) (w : Output) (v : Wrote) → Zero d'
+      → ((z : Session) → InOrder (issued z) z.solver → RepresentsInAreas x m z
+      → Does (lent x (take x.top m.a) (take x.top m.b) m.table) y t' z (solve (limits_of x) z k) w v)
+      → Answered x y s m ts o m.records t' d' w v
+  told k same y t' d' w v clear D =
       let R = T.ready in
-      answered y (D R.session R.ordered R.in_areas).beside.top c' d' w v
+      answered y (D R.session R.ordered R.in_areas).beside.top m.records t' d' w v
       (λ z A Z.
-      step_as (same z Z) (answers_does Z y c' d' _ w v (D z A Z) (solve_kept (limits_of x) z k) (subst (λ (l : List ℕ). Zero l) (sym front) Z.front) clear))
+      step_as (same z Z) (answers_does Z y t' d' _ w v (D z A Z) (solve_kept (limits_of x) z k) clear))
 
   module _ (W : o.nodes ≤ x.nodes) where
     pub taken_a : o.top ≤ length ts.kinds
@@ -221,15 +218,15 @@ module _ {x : Solver} {half : ℕ} {s : List ℕ} {m : Areas} {ts : Area} {ws : 
 
     -- ---- orders 9 to 20
 
-    pub taken_lends : Lends ts.kinds ts.vals (take half m.c) m.d most
+    pub taken_lends : Lends ts.kinds ts.vals m.records m.d most
     taken_lends =
         let R = T.ready.roomy in
         let L = T.ready.in_areas in
         record {
           pairs = omega (arith, a_long, b_long);
           short = omega (arith, a_long, R.few);
-          heads = omega (arith, length-take-le half m.c taken_half, R.records);
-          kids = omega (arith, R.d_size, R.records, R.table);
+          heads = R.records;
+          kids = omega (arith, R.d_size, R.c_size, R.records);
           heads_zero = record { is = λ i h. L.front i };
           kids_zero = record { is = λ i h. L.work i };
         }
@@ -238,9 +235,9 @@ module _ {x : Solver} {half : ℕ} {s : List ℕ} {m : Areas} {ts : Area} {ws : 
     taken_asks h = rw (← h) (record { known = rows.known (kind_row o.kind) x.issued; fields = T.whole.said; given = given })
 
     pub operated : {k : Operation} → o.kind ≡ kinds.Operation k → (w : Output) (v : Wrote) → Replies ts.kinds ts.vals s ws (operation_row k) o.fields (λ y. Framed y w.bytes w.at v.bytes v.next)
-        → (hs cs : List ℕ) → area hs cs ≡ area (take half m.c) m.d → Answered x x half s m ts o (hs ++ drop half m.c) cs w v
+        → (hs cs : List ℕ) → area hs cs ≡ area m.records m.d → Answered x x s m ts o hs m.table cs w v
     operated {k} h w v R hs cs e =
-        answered x refl (hs ++ drop half m.c) cs w v
+        answered x refl hs m.table cs w v
         (λ z A Z.
         let fs = T.whole.said in
         let F = R.says (rows.known (operation_row k) x.issued) fs (rw h at given) in
@@ -248,14 +245,14 @@ module _ {x : Solver} {half : ℕ} {s : List ℕ} {m : Areas} {ts : Area} {ws : 
         let st : order_of (limits_of x) z s ≡ record { session = z; answer = operation (operation_row k) fs } =
         step_as_kind z Z h ∙ operation_step (limits_of x) z k fs ∙ rw (le-ltb x.nodes (z.kept + all_nodes fs) few) refl
         in
-        let hc : hs ++ drop half m.c ≡ m.c = ap (λ (u : Area). u.kinds ++ drop half m.c) e ∙ take-append-drop half m.c in
+        let hc : hs ≡ m.records = ap (λ (u : Area). u.kinds) e in
         let dc : cs ≡ m.d = ap (λ (u : Area). u.vals) e in
         step_as st (rw (hc, dc) (answers_same Z (operation (operation_row k) fs) w v F)))
 
     -- ---- orders without terms
 
     module _ {k : TermlessKind} (P : o.kind ≡ Termless k) where
-      plain_step : (c : Command) → Says ts.kinds ts.vals s ws (termless_row k) o.fields c → (z : Session) → RepresentsInAreas x half m z → order_of (limits_of x) z s ≡ solve (limits_of x) z c
+      plain_step : (c : Command) → Says ts.kinds ts.vals s ws (termless_row k) o.fields c → (z : Session) → RepresentsInAreas x m z → order_of (limits_of x) z s ≡ solve (limits_of x) z c
       unfolding step command_of
       plain_step c S z Z =
           let fs = T.whole.said in
@@ -275,17 +272,17 @@ module _ {x : Solver} {half : ℕ} {s : List ℕ} {m : Areas} {ts : Area} {ws : 
       plain_areas : area (take o.top ts.kinds) (take o.top ts.vals) ≡ area (take x.top m.a) (take x.top m.b)
       plain_areas = ap (λ (n : ℕ). area (take n ts.kinds) (take n ts.vals)) plain_top ∙ T.whole.same
 
-      pub plain_lent : (z : Session) → RepresentsInAreas x half m z → Represents x (take o.top ts.kinds) (take o.top ts.vals) (drop half m.c) z
-      plain_lent z Z = subst (λ (u : Area). Represents x u.kinds u.vals (drop half m.c) z) (sym plain_areas) Z.represents
+      pub plain_lent : (z : Session) → RepresentsInAreas x m z → Represents x (take o.top ts.kinds) (take o.top ts.vals) m.table z
+      plain_lent z Z = subst (λ (u : Area). Represents x u.kinds u.vals m.table z) (sym plain_areas) Z.represents
 
       pub plain_answered : (c : Command) → Says ts.kinds ts.vals s ws (termless_row k) o.fields c
-          → (y : Solver) (c' d' : List ℕ) (w : Output) (v : Wrote) → take half c' ≡ take half m.c → Zero d'
-          → ((z : Session) → InOrder (issued z) z.solver → Represents x (take o.top ts.kinds) (take o.top ts.vals) (drop half m.c) z
-          → Does (lent x (take o.top ts.kinds) (take o.top ts.vals) (drop half m.c)) y (drop half c') z (solve (limits_of x) z c) w v)
-          → Answered x y half s m ts o c' d' w v
-      plain_answered c S y c' d' w v front clear D =
-          told c (plain_step c S) y c' d' w v front clear
-          (λ z A Z. subst (λ (u : Area). Does (lent x u.kinds u.vals (drop half m.c)) y (drop half c') z (solve (limits_of x) z c) w v) plain_areas (D z A (plain_lent z Z)))
+          → (y : Solver) (t' d' : List ℕ) (w : Output) (v : Wrote) → Zero d'
+          → ((z : Session) → InOrder (issued z) z.solver → Represents x (take o.top ts.kinds) (take o.top ts.vals) m.table z
+          → Does (lent x (take o.top ts.kinds) (take o.top ts.vals) m.table) y t' z (solve (limits_of x) z c) w v)
+          → Answered x y s m ts o m.records t' d' w v
+      plain_answered c S y t' d' w v clear D =
+          told c (plain_step c S) y t' d' w v clear
+          (λ z A Z. subst (λ (u : Area). Does (lent x u.kinds u.vals m.table) y t' z (solve (limits_of x) z c) w v) plain_areas (D z A (plain_lent z Z)))
 
     -- ---- orders 3, 4 and 5
 
@@ -295,7 +292,7 @@ module _ {x : Solver} {half : ℕ} {s : List ℕ} {m : Areas} {ts : Area} {ws : 
     cut_b : take x.top (take o.top ts.vals) ≡ take x.top m.b
     cut_b = take-take x.top o.top ts.vals taken_after ∙ ap (λ (u : Area). u.vals) T.whole.same
 
-    behind : (z : Session) → InOrder (issued z) z.solver → RepresentsInAreas x half m z → Behind x (take o.top ts.kinds) (take o.top ts.vals) (drop half m.c) z
+    behind : (z : Session) → InOrder (issued z) z.solver → RepresentsInAreas x m z → Behind x (take o.top ts.kinds) (take o.top ts.vals) m.table z
     behind z A Z =
         record {
           ordered = A;
@@ -323,7 +320,7 @@ module _ {x : Solver} {half : ℕ} {s : List ℕ} {m : Areas} {ts : Area} {ws : 
           let g = subst (λ (l : List Field). FormedFields (rows.known (kind_row o.kind) x.issued) l) is T.whole.formed in
           subst (λ (n : ℕ). AllVars (λ v. v < n) t) all g.0.below
 
-      pub poses : (z : Session) → InOrder (issued z) z.solver → RepresentsInAreas x half m z → Poses x (take o.top ts.kinds) (take o.top ts.vals) (drop half m.c) z t
+      pub poses : (z : Session) → InOrder (issued z) z.solver → RepresentsInAreas x m z → Poses x (take o.top ts.kinds) (take o.top ts.vals) m.table z t
       poses z A Z =
           let n : length (all_items fs) ≡ length (items t) = ap length one_items in
           record {
@@ -335,13 +332,13 @@ module _ {x : Solver} {half : ℕ} {s : List ℕ} {m : Areas} {ts : Area} {ws : 
             few = omega (arith, T.whole.counts, W, Z.represents.kept, one_size);
           }
 
-      pub posed : (k : Command) → ((z : Session) → RepresentsInAreas x half m z → order_of (limits_of x) z s ≡ solve (limits_of x) z k)
-          → (y : Solver) (c' d' : List ℕ) (w : Output) (v : Wrote) → take half c' ≡ take half m.c → Zero d'
-          → ((z : Session) → Poses x (take o.top ts.kinds) (take o.top ts.vals) (drop half m.c) z t
-          → Does (lent x (take x.top (take o.top ts.kinds)) (take x.top (take o.top ts.vals)) (drop half m.c)) y (drop half c') z (solve (limits_of x) z k) w v)
-          → Answered x y half s m ts o c' d' w v
-      posed k same y c' d' w v front clear D =
-          told k same y c' d' w v front clear (λ z A Z. rw (cut_a, cut_b) at (D z (poses z A Z)))
+      pub posed : (k : Command) → ((z : Session) → RepresentsInAreas x m z → order_of (limits_of x) z s ≡ solve (limits_of x) z k)
+          → (y : Solver) (t' d' : List ℕ) (w : Output) (v : Wrote) → Zero d'
+          → ((z : Session) → Poses x (take o.top ts.kinds) (take o.top ts.vals) m.table z t
+          → Does (lent x (take x.top (take o.top ts.kinds)) (take x.top (take o.top ts.vals)) m.table) y t' z (solve (limits_of x) z k) w v)
+          → Answered x y s m ts o m.records t' d' w v
+      posed k same y t' d' w v clear D =
+          told k same y t' d' w v clear (λ z A Z. rw (cut_a, cut_b) at (D z (poses z A Z)))
 
     -- order 3
     pub defer_term : o.kind ≡ DeferNever → (t : Term) × (fs ≡ tree t ∷ [])
@@ -352,7 +349,7 @@ module _ {x : Solver} {half : ℕ} {s : List ℕ} {m : Areas} {ts : Area} {ws : 
     unfolding rows.known
     defer_known h = rw h refl
 
-    pub defer_step : (h : o.kind ≡ DeferNever) (z : Session) {t : Term} → RepresentsInAreas x half m z → fs ≡ tree t ∷ [] → order_of (limits_of x) z s ≡ solve (limits_of x) z (orders.defer t)
+    pub defer_step : (h : o.kind ≡ DeferNever) (z : Session) {t : Term} → RepresentsInAreas x m z → fs ≡ tree t ∷ [] → order_of (limits_of x) z s ≡ solve (limits_of x) z (orders.defer t)
     unfolding step nth term_of
     defer_step h z Z e = step_is z Z ∙ rw (h, e) refl
 
@@ -365,7 +362,7 @@ module _ {x : Solver} {half : ℕ} {s : List ℕ} {m : Areas} {ts : Area} {ws : 
     unfolding rows.known
     resolve_known h = rw h refl
 
-    pub resolve_step : (h : o.kind ≡ Resolve) (z : Session) {t : Term} → RepresentsInAreas x half m z → fs ≡ tree t ∷ [] → order_of (limits_of x) z s ≡ solve (limits_of x) z (orders.resolving t)
+    pub resolve_step : (h : o.kind ≡ Resolve) (z : Session) {t : Term} → RepresentsInAreas x m z → fs ≡ tree t ∷ [] → order_of (limits_of x) z s ≡ solve (limits_of x) z (orders.resolving t)
     unfolding step nth term_of
     resolve_step h z Z e = step_is z Z ∙ rw (h, e) refl
 
@@ -387,12 +384,12 @@ module _ {x : Solver} {half : ℕ} {s : List ℕ} {m : Areas} {ts : Area} {ws : 
           = subst (λ (l : List FieldSort). length (all_items fs) ≤ 6 * all_nodes fs + spares l) (ap layout kind_pair ∙ pair_layout access) T.whole.room in
           omega (arith, T.whole.tokens, T.whole.counts, T.ready.in_areas.few)
 
-      pub pair_scratch : Scratch x (take o.top ts.kinds) (drop half m.c) m.d
+      pub pair_scratch : Scratch x (take o.top ts.kinds) m.table m.d
       pair_scratch =
           let R = T.ready.roomy in
           record {
-            pairs = omega (arith, length-drop half m.c, R.table, R.c_size);
-            short = omega (arith, length-drop half m.c, R.few, R.c_size);
+            pairs = R.table;
+            short = omega (arith, R.few, R.c_size);
             links = omega (arith, long_a, pair_few, W, R.links, R.d_size);
             marks = omega (arith, R.marks, R.d_size);
             clear = T.ready.in_areas.work;
@@ -426,8 +423,8 @@ module _ {x : Solver} {half : ℕ} {s : List ℕ} {m : Areas} {ts : Area} {ws : 
         pair_row : HeldParts ts.kinds ts.vals x.top o.top (sub t (sub u end))
         pair_row = use-laws.pair_row s x.issued x.top x.kept x.nodes (area m.a m.b) ts ws o T.whole W n t u is
 
-        pub poses_pair : (z : Session) → InOrder (issued z) z.solver → RepresentsInAreas x half m z
-            → PosesPair x (take o.top ts.kinds) (take o.top ts.vals) (drop half m.c) z o.fields.third.place t u
+        pub poses_pair : (z : Session) → InOrder (issued z) z.solver → RepresentsInAreas x m z
+            → PosesPair x (take o.top ts.kinds) (take o.top ts.vals) m.table z o.fields.third.place t u
         unfolding FormedFields
         poses_pair z A Z =
             let l = held_sub ts.kinds ts.vals x.top o.top t (sub u end) pair_row in
@@ -443,16 +440,16 @@ module _ {x : Solver} {half : ℕ} {s : List ℕ} {m : Areas} {ts : Area} {ws : 
               few = omega (arith, T.whole.counts, W, Z.represents.kept, pair_size);
             }
 
-        pub pair_nodes : (z : Session) → RepresentsInAreas x half m z → o.nodes ≡ z.kept + (size t + size u)
+        pub pair_nodes : (z : Session) → RepresentsInAreas x m z → o.nodes ≡ z.kept + (size t + size u)
         pair_nodes z Z = omega (arith, T.whole.counts, Z.represents.kept, pair_size)
 
-        pair_step : (z : Session) → RepresentsInAreas x half m z → order_of (limits_of x) z s ≡ solve (limits_of x) z (orders.pair d n t u)
+        pair_step : (z : Session) → RepresentsInAreas x m z → order_of (limits_of x) z s ≡ solve (limits_of x) z (orders.pair d n t u)
         pair_step z Z =
             step_is z Z ∙ ap (λ (r : Row). step (limits_of x) z r fs) kind_pair ∙ ap (λ (l : List Field). step (limits_of x) z (kind_row (Constrain access)) l) is
             ∙ pair_steps access (limits_of x) z n t u
 
         -- where a variable was bound all of its nodes are kept
-        pair_kept : (z : Session) → InOrder (issued z) z.solver → RepresentsInAreas x half m z
+        pair_kept : (z : Session) → InOrder (issued z) z.solver → RepresentsInAreas x m z
             → ((solve (limits_of x) z (orders.pair d n t u)).session.solver.revision ≡ z.solver.revision → ⊥) → o.top ≤ 64 + 6 * (solve (limits_of x) z (orders.pair d n t u)).session.kept
         pair_kept z A Z h =
             let P = poses_pair z A Z in
@@ -464,41 +461,38 @@ module _ {x : Solver} {half : ℕ} {s : List ℕ} {m : Areas} {ts : Area} {ws : 
             ∙ ap (λ (b : Bool). z.kept + keeps (not b) (size t + size u)) (ne_eqb (solver_of g).revision z.solver.revision other) in
             omega (arith, pair_few, pair_nodes z Z)
 
-        module _ (y : Solver) (c' d' : List ℕ) (w : Output) (v : Wrote) (front : take half c' ≡ take half m.c) (clear : Zero d') (k : ℕ) (ek : k ≡ n)
-            (E : (z : Session) → PosesPair x (take o.top ts.kinds) (take o.top ts.vals) (drop half m.c) z o.fields.third.place t u → o.nodes ≡ z.kept + (size t + size u)
-            → DoesPair (lent x (take o.top ts.kinds) (take o.top ts.vals) (drop half m.c)) y (drop half c') z (solve (limits_of x) z (orders.pair d k t u)) w v) where
-          does : (z : Session) → InOrder (issued z) z.solver → RepresentsInAreas x half m z
-              → DoesPair (lent x (take o.top ts.kinds) (take o.top ts.vals) (drop half m.c)) y (drop half c') z (solve (limits_of x) z (orders.pair d n t u)) w v
+        module _ (y : Solver) (t' d' : List ℕ) (w : Output) (v : Wrote) (clear : Zero d') (k : ℕ) (ek : k ≡ n)
+            (E : (z : Session) → PosesPair x (take o.top ts.kinds) (take o.top ts.vals) m.table z o.fields.third.place t u → o.nodes ≡ z.kept + (size t + size u)
+            → DoesPair (lent x (take o.top ts.kinds) (take o.top ts.vals) m.table) y t' z (solve (limits_of x) z (orders.pair d k t u)) w v) where
+          does : (z : Session) → InOrder (issued z) z.solver → RepresentsInAreas x m z
+              → DoesPair (lent x (take o.top ts.kinds) (take o.top ts.vals) m.table) y t' z (solve (limits_of x) z (orders.pair d n t u)) w v
           does z A Z =
-              subst (λ (i : ℕ). DoesPair (lent x (take o.top ts.kinds) (take o.top ts.vals) (drop half m.c)) y (drop half c') z (solve (limits_of x) z (orders.pair d i t u)) w v) ek
+              subst (λ (i : ℕ). DoesPair (lent x (take o.top ts.kinds) (take o.top ts.vals) m.table) y t' z (solve (limits_of x) z (orders.pair d i t u)) w v) ek
               (E z (poses_pair z A Z) (pair_nodes z Z))
 
-          zero_front : (z : Session) → RepresentsInAreas x half m z → Zero (take half c')
-          zero_front z Z = subst (λ (l : List ℕ). Zero l) (sym front) Z.front
-
-          pair_inside : (z : Session) → DoesPair (lent x (take o.top ts.kinds) (take o.top ts.vals) (drop half m.c)) y (drop half c') z (solve (limits_of x) z (orders.pair d n t u)) w v
+          pair_inside : (z : Session) → DoesPair (lent x (take o.top ts.kinds) (take o.top ts.vals) m.table) y t' z (solve (limits_of x) z (orders.pair d n t u)) w v
               → Dec (y.revision ≡ x.revision) → y.top ≤ o.top
           pair_inside z D (yes e) = omega (arith, taken_after, ap (λ (v : Solver). v.top) (D.quiet e).0)
           pair_inside z D (no e) = omega (arith, (D.bound e).top, long_a)
 
           -- where a variable was bound all of its tokens are the session's; else none is, and they have been cleared
-          pair_serves : (z : Session) → InOrder (issued z) z.solver → RepresentsInAreas x half m z → (a' b' : List ℕ) → area a' b' ≡ blank ts y.top (o.top - y.top)
-              → Dec (y.revision ≡ x.revision) → Answers y half (areas a' b' c' d') z (order_of (limits_of x) z s) w v x
+          pair_serves : (z : Session) → InOrder (issued z) z.solver → RepresentsInAreas x m z → (a' b' : List ℕ) → area a' b' ≡ blank ts y.top (o.top - y.top)
+              → Dec (y.revision ≡ x.revision) → Answers y (areas a' b' m.records t' d') z (order_of (limits_of x) z s) w v x
           pair_serves z A Z a' b' e (yes l) =
               let D = does z A Z in
               answers_at (e ∙ ap (λ (v : Solver). blank ts v.top (o.top - v.top)) (D.quiet l).0 ∙ T.whole.cleared)
               (step_as (pair_step z Z)
-              (answers_quiet Z ts.kinds ts.vals o.top taken_a (free_kinds o.top ts T.whole.free) (free_vals o.top ts T.whole.free) y c' d' _ w v D
-              (zero_front z Z) clear l))
+              (answers_quiet Z ts.kinds ts.vals o.top taken_a (free_kinds o.top ts T.whole.free) (free_vals o.top ts T.whole.free) y t' d' _ w v D
+              clear l))
           pair_serves z A Z a' b' e (no l) =
               let D = does z A Z in
               let all : y.top ≡ o.top = (D.bound l).top ∙ long_a in
               answers_at (e ∙ ap (λ (n : ℕ). blank ts n (o.top - n)) all ∙ T.whole.free (o.top - o.top))
               (step_as (pair_step z Z)
-              (answers_bound Z ts.kinds ts.vals o.top taken_a (free_kinds o.top ts T.whole.free) (free_vals o.top ts T.whole.free) y c' d' _ w v D
-              (zero_front z Z) clear l (pair_kept z A Z (λ i. l ((D.bound l).revision ∙ i ∙ sym Z.represents.revision)))))
+              (answers_bound Z ts.kinds ts.vals o.top taken_a (free_kinds o.top ts T.whole.free) (free_vals o.top ts T.whole.free) y t' d' _ w v D
+              clear l (pair_kept z A Z (λ i. l ((D.bound l).revision ∙ i ∙ sym Z.represents.revision)))))
 
-          pub pair_answered : Answered x y half s m ts o c' d' w v
+          pub pair_answered : Answered x y s m ts o m.records t' d' w v
           pair_answered =
               let R = T.ready in
               record {

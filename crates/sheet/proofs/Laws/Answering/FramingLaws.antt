@@ -36,9 +36,6 @@ value_frame v = sym (append_snoc (shortest (suc (length v))) 0 v)
 pub two_stores : (l : List ℕ) (i a b : ℕ) → set (set l i a) (i + 1) b ≡ sets l i (a ∷ b ∷ [])
 two_stores l i a b = simp unary_clauses refl
 
-pub three_stores : (l : List ℕ) (i a b c : ℕ) → set (set (set l i a) (i + 1) b) (i + 2) c ≡ sets l i (a ∷ b ∷ c ∷ [])
-three_stores l i a b c = simp unary_clauses refl
-
 -- a part that is replaced by as many bytes
 pub put_sets : (l : List ℕ) (at : ℕ) (v : List ℕ) → at + length v ≤ length l → put_mid at (at + length v - at) l v ≡ sets l at v
 put_sets l at v h =

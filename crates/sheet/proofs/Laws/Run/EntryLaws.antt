@@ -1,14 +1,14 @@
 -- The end of a run, and when there is one.
 use mathlib.Core.Path.{◌≡◌, refl, sym, ap, ◌∙◌}
 use mathlib.Core.Bool.{Bool, true, false, ◌&&◌}
-use mathlib.Core.List.{List, ◌++◌}
+use mathlib.Core.List.{List, ◌++◌, append-nil}
 use Prim.Native.Nat.{ℕ, ◌+◌, ◌-◌, ◌≤◌, ◌<◌}
 use native.Mathlib.Decide.{dec_lt}
 use native.Mathlib.Omega.{arith}
 use borrow.Author.Tests.{leb-true}
-use borrow.Rule.Slice.PartMut.{put_mid, same_len_mid, take_put}
-use lib.ListN.{length, get_or, take, drop, replicate, length-append, length-replicate}
-use lib.Seq.{get_or-take, get_or-drop, length_front, length-take-le, take_at}
+use borrow.Rule.Slice.PartMut.{post_of, put_mid, Post-is, same_len_mid, take_put}
+use lib.ListN.{length, get_or, take, drop, replicate, length-append, length-drop, length-replicate}
+use lib.Seq.{get_or-take, get_or-drop, length_front, length-take-le, take_at, drop_at, drop-length}
 use Rattle.solver.specs.Terms.Result.{pick}
 use Rattle.solver.specs.declared.Solver.{Solver}
 use Rattle.solver.specs.Session.{Limits}
@@ -18,24 +18,23 @@ use Rattle.solver.proofs.Laws.Table.SessionsLaws.{all_zero, zero_cleared}
 use Rattle.sheet.specs.Sheet.{run_of}
 use Rattle.sheet.specs.Words.SessionInAreas.{Areas, areas, AreasSuffice}
 use Rattle.sheet.specs.Entry.{Ended, Finish, finished, sizes_accepted, state_after_run, entry_result}
-use Rattle.sheet.proofs.Laws.Answering.SessionInAreasLaws.{tail_back}
 
 -- ---- sizes
 
 -- areas of as many words do for the same limits
-pub roomy_same : {x y : Solver} {half : ℕ} {m n : Areas} → y.variables ≡ x.variables → y.nodes ≡ x.nodes
-    → length n.a ≡ length m.a → length n.b ≡ length m.b → length n.c ≡ length m.c → length n.d ≡ length m.d
-    → AreasSuffice x half (length m.a) m → AreasSuffice y half (length n.a) n
-roomy_same v k la lb lc ld R =
+pub roomy_same : {x y : Solver} {m n : Areas} → y.variables ≡ x.variables → y.nodes ≡ x.nodes
+    → length n.a ≡ length m.a → length n.b ≡ length m.b → length n.records ≡ length m.records → length n.table ≡ length m.table → length n.d ≡ length m.d
+    → AreasSuffice x (length m.a) m → AreasSuffice y (length n.a) n
+roomy_same v k la lb lr lt ld R =
     record {
       a_size = refl;
       b_size = lb ∙ R.b_size ∙ sym la;
-      c_size = lc ∙ R.c_size ∙ sym la;
+      c_size = omega (arith, lr, lt, la, R.c_size);
       d_size = ld ∙ R.d_size ∙ sym la;
       tokens = rw (k, la) R.tokens;
       few = rw la R.few;
-      records = R.records;
-      table = rw (v, k, la) R.table;
+      records = rw lr R.records;
+      table = rw (v, k, lt) R.table;
       links = rw (k, la) R.links;
       marks = rw (v, la) R.marks;
       rules = rw k R.rules;
@@ -43,17 +42,20 @@ roomy_same v k la lb lc ld R =
 
 -- 16,384 words do for 512 variables and 2,048 nodes
 pub roomy_box : (a b c d : List ℕ) → 16384 ≤ length a → 16384 ≤ length b → 16384 ≤ length c → 16384 ≤ length d
-    → AreasSuffice (counters 512 2048) 8192 16384 (areas (take 16384 a) (take 16384 b) (take 16384 c) (take 16384 d))
+    → AreasSuffice (counters 512 2048) 16384 (areas (take 16384 a) (take 16384 b) (take 8192 (take 16384 c)) (drop 8192 (take 16384 c)) (take 16384 d))
 roomy_box a b c d ha hb hc hd =
+    let all : length (take 16384 c) ≡ 16384 = length-take-le 16384 c hc in
+    let front : length (take 8192 (take 16384 c)) ≡ 8192 = length-take-le 8192 (take 16384 c) (omega arith) in
+    let rest : length (drop 8192 (take 16384 c)) ≡ length (take 16384 c) - 8192 = length-drop 8192 (take 16384 c) in
     record {
       a_size = length-take-le 16384 a ha;
       b_size = length-take-le 16384 b hb;
-      c_size = length-take-le 16384 c hc;
+      c_size = omega (arith, front, rest, all);
       d_size = length-take-le 16384 d hd;
       tokens = omega arith;
       few = omega arith;
-      records = omega arith;
-      table = omega arith;
+      records = omega (arith, front);
+      table = omega (arith, rest, all);
       links = omega arith;
       marks = omega arith;
       rules = omega arith;
@@ -97,6 +99,12 @@ at_from l n j h =
     let e : j ≡ n + (j - n) = omega arith in
     ap (λ (i : ℕ). get_or l i 0) e ∙ sym (get_or-drop n l (j - n) 0)
 
+-- the words that were put back from a position on
+tail_back : (n : ℕ) (l us : List ℕ) → n ≤ length l → drop n (put_mid n (length l - n) l us) ≡ us
+tail_back n l us h =
+    drop_at (take n l) (us ++ post_of n (length l - n) l) n (length-take-le n l h)
+    ∙ ap (λ (k : List ℕ). us ++ k) (Post-is n (length l) l h ∙ drop-length l) ∙ append-nil us
+
 -- a list of which the first n words are 0, and the others were cleared
 tail_cleared : (n : ℕ) (l v : List ℕ) → n ≤ length l → ((j : ℕ) → j < n → get_or l j 0 ≡ 0) → v ≡ replicate (length (take (length l - n) (drop n l))) 0
     → put_mid n (length l - n) l v ≡ replicate (length l) 0
@@ -112,11 +120,6 @@ tail_cleared n l v inside z e =
     go j (no p) =
         at_from whole n j (omega arith) ∙ ap (λ (k : List ℕ). get_or k (j - n) 0) (tail_back n l v inside)
         ∙ zero_cleared v (length (take (length l - n) (drop n l))) e (j - n)
-
--- a front that is 0, and the rest cleared: all 0
-pub front_zero : (n : ℕ) (l v : List ℕ) → n ≤ length l → Zero (take n l) → v ≡ replicate (length (take (length l - n) (drop n l))) 0
-    → Zero (put_mid n (length l - n) l v)
-front_zero n l v h z e = zero_cleared (put_mid n (length l - n) l v) (length l) (tail_cleared n l v h (λ j p. sym (get_or-take n l j 0 p) ∙ z j) e)
 
 -- an area of which a front part was lent and came back all 0, and whose rest was cleared then
 pub area_cleared : (n : ℕ) (area part v : List ℕ) → n ≤ length area → length part ≡ length (take n area) → Zero part

@@ -117,12 +117,12 @@ after_none r =
 
 -- With the counters x, the areas m and the output u so, n orders answered from the sheet's first bytes, up to `at`, and the answers in the output's
 -- first bytes.
-pub record Going (lim : Limits) (half : ℕ) (s out₀ : List ℕ) (x : Solver) (m : Areas) (u : Output) (at n : ℕ) : Type 0 where
+pub record Going (lim : Limits) (s out₀ : List ℕ) (x : Solver) (m : Areas) (u : Output) (at n : ℕ) : Type 0 where
   pub limits : limits_of x ≡ lim
   pub session : Session
   pub past : Past (limits_of x) session
-  pub in_areas : RepresentsInAreas x half m session
-  pub roomy : AreasSuffice x half (length m.a) m
+  pub in_areas : RepresentsInAreas x m session
+  pub roomy : AreasSuffice x (length m.a) m
   pub inside : at ≤ length s
   pub few : n ≤ at
   pub room : u.at ≤ length out₀
@@ -134,8 +134,8 @@ pub record Going (lim : Limits) (half : ℕ) (s out₀ : List ℕ) (x : Solver) 
   pub enough : length s < at + fuel
   pub whole : run_of (limits_of x) s (length out₀) ≡ after n written (run_from (limits_of x) s fuel session at (length out₀ - u.at))
 
-pub going_start : {half : ℕ} {s out₀ : List ℕ} {x : Solver} {m : Areas} → RepresentsInAreas x half m fresh → AreasSuffice x half (length m.a) m
-    → Going (limits_of x) half s out₀ x m (output_at out₀ 0) 0 0
+pub going_start : {s out₀ : List ℕ} {x : Solver} {m : Areas} → RepresentsInAreas x m fresh → AreasSuffice x (length m.a) m
+    → Going (limits_of x) s out₀ x m (output_at out₀ 0) 0 0
 going_start {s = s} {out₀ = out₀} {x = x} L R =
     record {
       limits = refl;
@@ -158,13 +158,13 @@ going_start {s = s} {out₀ = out₀} {x = x} L R =
     }
 
 -- as the next order finds the areas
-pub going_ready : {lim : Limits} {half : ℕ} {s out₀ : List ℕ} {x : Solver} {m : Areas} {u : Output} {at n : ℕ} → Going lim half s out₀ x m u at n → AreasReady x half m
+pub going_ready : {lim : Limits} {s out₀ : List ℕ} {x : Solver} {m : Areas} {u : Output} {at n : ℕ} → Going lim s out₀ x m u at n → AreasReady x m
 going_ready {x = x} g =
     record { roomy = g.roomy; session = g.session; ordered = past_in_order (limits_of x) g.session g.past; in_areas = g.in_areas }
 
 -- ---- how it ends
 
-module _ {lim : Limits} {half : ℕ} {s out₀ : List ℕ} {x : Solver} {m : Areas} {u : Output} {at n : ℕ} (g : Going lim half s out₀ x m u at n) where
+module _ {lim : Limits} {s out₀ : List ℕ} {x : Solver} {m : Areas} {u : Output} {at n : ℕ} (g : Going lim s out₀ x m u at n) where
   ending : (r : ℕ) (out' : List ℕ) → run_from (limits_of x) s g.fuel g.session at (length out₀ - u.at) ≡ ends r g.session
       → out' ≡ u.bytes → Ended lim s out₀ r n u.at out'
   ending r out' e o =
@@ -185,24 +185,24 @@ module _ {lim : Limits} {half : ℕ} {s out₀ : List ℕ} {x : Solver} {m : Are
       answers : (run_of (limits_of x) s (length out₀)).answers ≡ g.written
       answers = ap (λ (q : Run). q.answers) total ∙ append-nil g.written
 
-module _ {lim : Limits} {half : ℕ} {s out₀ : List ℕ} {x : Solver} {m : Areas} {u : Output} {at n : ℕ} (g : Going lim half s out₀ x m u at n) where
+module _ {lim : Limits} {s out₀ : List ℕ} {x : Solver} {m : Areas} {u : Output} {at n : ℕ} (g : Going lim s out₀ x m u at n) where
   -- the sheet is used up
-  pub ends_used : length s ≤ at → Ended lim s out₀ 0 n u.at u.bytes × Left x half m
+  pub ends_used : length s ≤ at → Ended lim s out₀ 0 n u.at u.bytes × Left x m
   ends_used h = (
     ending g 0 u.bytes (run_over (limits_of x) s g.fuel g.session at (length out₀ - u.at) h) refl,
     record { session = g.session; in_areas = g.in_areas },
   )
 
   -- a length is faulty
-  pub ends_faulty : at < length s → refused 10 ≡ next_order s at → Ended lim s out₀ 10 n u.at u.bytes × Left x half m
+  pub ends_faulty : at < length s → refused 10 ≡ next_order s at → Ended lim s out₀ 10 n u.at u.bytes × Left x m
   ends_faulty h e = (
     ending g 10 u.bytes (run_faulty (limits_of x) s g.fuel g.session at (length out₀ - u.at) h g.enough e) refl,
     record { session = g.session; in_areas = g.in_areas },
   )
 
   -- what came of the order in the session that there is
-  module _ (y : Solver) (m' : Areas) (v : Wrote) (b₀ : List ℕ) (next : ℕ) (f : Serves x y half b₀ m m' u v) where
-    served : Served y half m' g.session b₀ u v x
+  module _ (y : Solver) (m' : Areas) (v : Wrote) (b₀ : List ℕ) (next : ℕ) (f : Serves x y b₀ m m' u v) where
+    served : Served y m' g.session b₀ u v x
     served = f g.session (past_in_order (limits_of x) g.session g.past) g.in_areas
 
     a₀ : List ℕ
@@ -229,7 +229,7 @@ module _ {lim : Limits} {half : ℕ} {s out₀ : List ℕ} {x : Solver} {m : Are
     same_limits = ap₂ {C = Limits} (λ v k. record { variables = v; nodes = k }) served.variables served.nodes
 
     -- an answer does not fit
-    pub ends_long : at < length s → got b₀ next ≡ next_order s at → v.next ≡ None → Ended lim s out₀ 11 n u.at v.bytes × Left y half m'
+    pub ends_long : at < length s → got b₀ next ≡ next_order s at → v.next ≡ None → Ended lim s out₀ 11 n u.at v.bytes × Left y m'
     unfolding a₀
     ends_long h e l =
         let t : length u.bytes < u.at + length (framed (order_of (limits_of x) g.session b₀).answer) = over l in
@@ -242,10 +242,10 @@ module _ {lim : Limits} {half : ℕ} {s out₀ : List ℕ} {x : Solver} {m : Are
 
     -- an order more
     pub going_on : at < length s → got b₀ next ≡ next_order s at → (to : ℕ) → v.next ≡ Some to
-        → length m'.a ≡ length m.a → length m'.b ≡ length m.b → length m'.c ≡ length m.c → length m'.d ≡ length m.d
-        → Going lim half s out₀ y m' (output_at v.bytes to) next (n + 1)
+        → length m'.a ≡ length m.a → length m'.b ≡ length m.b → length m'.records ≡ length m.records → length m'.table ≡ length m.table → length m'.d ≡ length m.d
+        → Going lim s out₀ y m' (output_at v.bytes to) next (n + 1)
     unfolding a₀
-    going_on h e to l la lb lc ld = go g.fuel g.enough g.whole
+    going_on h e to l la lb lr lt ld = go g.fuel g.enough g.whole
       where
         w : List ℕ
         w = g.written
@@ -256,14 +256,14 @@ module _ {lim : Limits} {half : ℕ} {s out₀ : List ℕ} {x : Solver} {m : Are
         z' : Session
         z' = (order_of (limits_of x) g.session b₀).session
 
-        q : (to ≡ u.at + length a₀) × (v.bytes ≡ sets u.bytes u.at a₀) × RepresentsInAreas y half m' z'
+        q : (to ≡ u.at + length a₀) × (v.bytes ≡ sets u.bytes u.at a₀) × RepresentsInAreas y m' z'
         q = let x = served.fits t in let p = x.0 in (cc, x.1, x.2)
 
         ahead : Ahead at next (length s)
         ahead = next_ahead s at b₀ next e
 
-        roomy : AreasSuffice y half (length m'.a) m'
-        roomy = roomy_same served.variables served.nodes la lb lc ld g.roomy
+        roomy : AreasSuffice y (length m'.a) m'
+        roomy = roomy_same served.variables served.nodes la lb lr lt ld g.roomy
 
         wide : length (w ++ a₀) ≡ to
         wide = length-append w a₀ ∙ ap (λ (k : ℕ). k + length a₀) g.sized ∙ sym q.0
@@ -285,7 +285,7 @@ module _ {lim : Limits} {half : ℕ} {s out₀ : List ℕ} {x : Solver} {m : Are
         space = omega (arith, q.0)
 
         go : (fuel : ℕ) → length s < at + fuel → run_of (limits_of x) s (length out₀) ≡ after n w (run_from (limits_of x) s fuel g.session at (length out₀ - u.at))
-            → Going lim half s out₀ y m' (output_at v.bytes to) next (n + 1)
+            → Going lim s out₀ y m' (output_at v.bytes to) next (n + 1)
         go zero k e' = absurd (omega arith)
         go (suc fuel) k e' =
             let turn = run_turn (limits_of x) s fuel g.session at (length out₀ - u.at) b₀ next h e (omega (arith, g.long, g.room, t)) in

@@ -10,16 +10,16 @@ use Rattle.sheet.proofs.running.answer_orders.Goals.{In-Ok}
 -- the order that comes next in the sheet
 found : (c : In-Ok)
     → (c.loop-order.order-iterator.at < length c.args.s.now) × (got c.in-Ok.bytes.now c.next.new.self.at ≡ next_order c.args.s.now c.loop-order.order-iterator.at) × (c.next.new.self.sheet.now ≡ c.args.s.now)
-found c = rw (c.in-Ok.is, c.loop-order.invariant.5) at c.in-Some.ensures.steps
+found c = rw (c.in-Ok.is, c.loop-order.invariant.6) at c.in-Some.ensures.steps
 
 pub loop-order-init : goal.loop-order-init
-loop-order-init c = rw c.into_iter-order-iterator.ensures.into_iter_gives (going_start c.requires.held.0 c.requires.held.1, refl, refl, refl, refl, refl)
+loop-order-init c = rw c.into_iter-order-iterator.ensures.into_iter_gives (going_start c.requires.held.0 c.requires.held.1, refl, refl, refl, refl, refl, refl)
 
 pub returns-in-Err-clause-run : goal.returns-in-Err-clause-run
 returns-in-Err-clause-run c =
     let e = c.closed.ensures in
     let i = c.loop-order.invariant in
-    let s = rw (c.in-Err.is, i.5) at c.in-Some.ensures.steps in
+    let s = rw (c.in-Err.is, i.6) at c.in-Some.ensures.steps in
     rw (e.0, s.2, e.1, e.2) (ends_faulty i.0 s.0 s.1).0
 
 pub serve_order-r-requires-clause-held : goal.serve_order-r-requires-clause-held
@@ -37,10 +37,10 @@ loop-order-preserved c =
     let i = c.loop-order.invariant in
     let s = found (goal.at.loop-order-preserved c).In-Ok in
     let r = c.serve_order-r.auto in
-    (going_on i.0 _ _ _ _ _ c.serve_order-r.ensures s.0 s.1 _ c.in-Some-next.is r.a r.b r.c r.d, r.a ∙ i.1, r.b ∙ i.2, r.c ∙ i.3, r.d ∙ i.4, s.2)
+    (going_on i.0 _ _ _ _ _ c.serve_order-r.ensures s.0 s.1 _ c.in-Some-next.is r.a r.b r.records r.table r.d, r.a ∙ i.1, r.b ∙ i.2, r.records ∙ i.3, r.table ∙ i.4, r.d ∙ i.5, s.2)
 
 pub returns-clause-run : goal.returns-clause-run
 returns-clause-run c =
     let e = c.closed-2.ensures in
     let i = c.loop-order.invariant in
-    rw (e.0, e.1, e.2) (ends_used i.0 (rw i.5 at c.in-None.ensures.steps)).0
+    rw (e.0, e.1, e.2) (ends_used i.0 (rw i.6 at c.in-None.ensures.steps)).0

@@ -9,4 +9,4 @@ use Rattle.sheet.proofs.running.answer_orders.Given as goal
 
 abbrev pub invariant-loop-order : goal.invariant-loop-order
 invariant-loop-order l =
-    Going (limits_of l.initial.x) l.half l.s l.initial.out l.x (areas l.a l.b l.c l.d) (output_at l.out l.to) l.order-iterator.at l.orders × (length l.a ≡ length l.initial.a) × (length l.b ≡ length l.initial.b) × (length l.c ≡ length l.initial.c) × (length l.d ≡ length l.initial.d) × (l.order-iterator.sheet.now ≡ l.s)
+    Going (limits_of l.initial.x) l.s l.initial.out l.x (areas l.a l.b l.records l.table l.d) (output_at l.out l.to) l.order-iterator.at l.orders × (length l.a ≡ length l.initial.a) × (length l.b ≡ length l.initial.b) × (length l.records ≡ length l.initial.records) × (length l.table ≡ length l.initial.table) × (length l.d ≡ length l.initial.d) × (l.order-iterator.sheet.now ≡ l.s)

@@ -2,13 +2,11 @@
 use mathlib.Core.Path.{◌≡◌, refl, sym, ap, subst, ◌∙◌}
 use mathlib.Core.List.{List}
 use mathlib.Core.Option.{Option, none, some}
-use Prim.Native.Nat.{ℕ, zero, suc, ◌+◌, ◌-◌, ◌*◌, ◌^◌, ◌≤◌, ◌<◌}
-use native.Mathlib.Numerals.{add-one}
+use Prim.Native.Nat.{ℕ, zero, suc, ◌+◌, ◌*◌, ◌^◌, ◌≤◌, ◌<◌}
 use native.Mathlib.Omega.{arith}
-use lib.ListN.{length, get_or, set, take}
+use lib.ListN.{length, get_or, take}
 use lib.Seq.{sets, get_or-take}
-use Rattle.terms.specs.Number.{shortest}
-use Rattle.terms.specs.Term.{Term, var, items, size, bytes, Held}
+use Rattle.terms.specs.Term.{Term, var, items, size, Held}
 use Rattle.terms.proofs.Laws.Held.HeldLaws.{items_some}
 use Rattle.solver.specs.declared.Solver.{Solver}
 use Rattle.solver.specs.declared.Start.{Start}
@@ -57,11 +55,11 @@ unfolding resolve solving.replace solving.followed
 resolved_free zero b v e = refl
 resolved_free (suc n) b v e = rw e refl
 
-resolved_bound : (n : ℕ) (b : ℕ → Option Term) (v : ℕ) (t : Term) → (n ≡ 0 → ⊥) → b v ≡ some t → resolve n b (var v) ≡ resolve (n - 1) b t
+resolved_bound : (n m : ℕ) (b : ℕ → Option Term) (v : ℕ) (t : Term) → n ≡ m + 1 → b v ≡ some t → resolve n b (var v) ≡ resolve m b t
 unfolding resolve solving.replace solving.followed
-resolved_bound zero b v t h e = absurd (h refl)
-resolved_bound (suc n) b v t h e =
-    let p : n ≡ suc n - 1 = omega arith in
+resolved_bound zero m b v t h e = absurd (omega arith)
+resolved_bound (suc n) m b v t h e =
+    let p : n ≡ m = omega arith in
     rw e (ap (λ (k : ℕ). resolve k b t) p)
 
 -- ---- where resolving begins
@@ -83,17 +81,16 @@ module _ (x : Solver) (ks vs ts : List ℕ) (z : Session) (L : Represents x ks v
       go (some t) h = absurd (omega (arith, h.1))
 
   -- it is bound to the term that its word names
-  pub starts_bound : (w : ℕ) → w ≡ get_or ts v 0 → (w ≡ 0 → ⊥) → (x.revision ≡ 0 → ⊥) → w < 2 ^ 32 → Starts x ks vs z (var v) (Begins (w - 1) (x.revision - 1))
-  starts_bound w p e f l = go (z.solver.bindings v) refl word_of
+  pub starts_bound : (w p m : ℕ) → w ≡ get_or ts v 0 → w ≡ p + 1 → x.revision ≡ m + 1 → Starts x ks vs z (var v) (Begins p m)
+  starts_bound w p m g e f = go (z.solver.bindings v) refl word_of
     where
-      go : (o : Option Term) → z.solver.bindings v ≡ o → HeldBinding ks vs o (get_or ts v 0) → Starts x ks vs z (var v) (Begins (w - 1) (x.revision - 1))
-      go none q h = absurd (e (p ∙ h))
+      go : (o : Option Term) → z.solver.bindings v ≡ o → HeldBinding ks vs o (get_or ts v 0) → Starts x ks vs z (var v) (Begins p m)
+      go none q h = absurd (omega (arith, h))
       go (some t) q h =
-          let a : h.0 ≡ w - 1 = omega (arith, h.1) in (
+          let a : h.0 ≡ p = omega (arith, h.1) in (
             t,
             subst (λ (i : ℕ). Held ks vs i t) a h.2,
-            ap (λ (n : ℕ). resolve n z.solver.bindings (var v)) (sym L.revision) ∙ resolved_bound x.revision z.solver.bindings v t f q,
-            omega arith,
+            ap (λ (n : ℕ). resolve n z.solver.bindings (var v)) (sym L.revision) ∙ resolved_bound x.revision m z.solver.bindings v t f q,
             omega arith,
           )
 
@@ -115,10 +112,10 @@ module _ (x : Solver) (ts : List ℕ) (what : Subject) where
         subst (λ (u : Term). Starts x ks vs z u (Free v)) (sym known.1)
         (starts_free x ks vs ts z known.0 v known.2 w (g ∙ ap (λ (j : ℕ). get_or ts j 0) f) h)
 
-    pub start_bound : (i w : ℕ) → i ≡ v → w ≡ get_or ts i 0 → (w ≡ 0 → ⊥) → (x.revision ≡ 0 → ⊥) → w < 2 ^ 32 → Starts x ks vs z t (Begins (w - 1) (x.revision - 1))
-    start_bound i w f g h k l =
-        subst (λ (u : Term). Starts x ks vs z u (Begins (w - 1) (x.revision - 1))) (sym known.1)
-        (starts_bound x ks vs ts z known.0 v known.2 w (g ∙ ap (λ (j : ℕ). get_or ts j 0) f) h k l)
+    pub start_bound : (i w p m : ℕ) → i ≡ v → w ≡ get_or ts i 0 → w ≡ p + 1 → x.revision ≡ m + 1 → Starts x ks vs z t (Begins p m)
+    start_bound i w p m f g h k =
+        subst (λ (u : Term). Starts x ks vs z u (Begins p m)) (sym known.1)
+        (starts_bound x ks vs ts z known.0 v known.2 w p m (g ∙ ap (λ (j : ℕ). get_or ts j 0) f) h k)
 
 -- what the areas hold, and how much room there is, in either case
 module _ (x : Solver) (ks vs ts : List ℕ) (z : Session) (t : Term) where
@@ -130,21 +127,11 @@ module _ (x : Solver) (ks vs ts : List ℕ) (z : Session) (t : Term) where
 -- ---- what is resolved from where it begins
 
 module _ (x : Solver) {ks vs : List ℕ} (z : Session) (t : Term) {begun : Start} (s : Starts x ks vs z t begun) where
-  pub begins_at : {p m : ℕ} → begun ≡ Begins p m → (u : Term) × Held ks vs p u × (resolved z.solver t ≡ resolve m z.solver.bindings u) × (m ≤ x.revision) × (p < 2 ^ 32)
+  pub begins_at : {p m : ℕ} → begun ≡ Begins p m → (u : Term) × Held ks vs p u × (resolved z.solver t ≡ resolve m z.solver.bindings u) × (m ≤ x.revision)
   begins_at e = subst (λ (b : Start). Starts x ks vs z t b) e s
 
 pub wrote_as : {w w' : List ℕ} (to : ℕ) (o : List ℕ) {out : List ℕ} {r : ℕ} → w ≡ w' → (r ≡ to + length w) × (out ≡ sets o to w) → (r ≡ to + length w') × (out ≡ sets o to w')
 wrote_as to o {out} {r} e h = subst (λ (l : List ℕ). (r ≡ to + length l) × (out ≡ sets o to l)) e h
-
--- ---- the bytes of a variable
-
-pub var_size : (n v : ℕ) → n ≡ length (shortest v) → n + 1 ≡ length (bytes (var v))
-unfolding bytes
-var_size n v e = omega (arith, e)
-
-pub var_stored : (o : List ℕ) (i v : ℕ) (out : List ℕ) → out ≡ sets (set o i 1) (i + 1) (shortest v) → out ≡ sets o i (bytes (var v))
-unfolding bytes
-var_stored o i v out e = e ∙ ap (λ (k : ℕ). sets (set o i 1) k (shortest v)) (add-one i)
 
 -- ---- orders 4 and 22: the counters with its nodes and tokens
 

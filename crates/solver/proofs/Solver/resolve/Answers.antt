@@ -14,7 +14,7 @@ write_resolved-requires-clause-room c =
     let F = asked_areas a.self _ _ _ p.0 p.1 a.what p.2 in
     let B = begins_at a.self p.0 _ (c.start-begun.ensures _ _ p.0 p.1 p.2) c.in-Begins.is in
     let l = resolved_bytes_lem _ _ (take a.self.variables a.tables.now) p.0.solver.bindings F.bindings c.in-Begins.most c.in-Begins.p B.0 B.1 ∙ ap bytes (sym B.2) in
-    (B.4, omega (arith, p.3, ap length l))
+    omega (arith, p.3, ap length l)
 
 pub returns-in-Begins-clause-wrote : goal.returns-in-Begins-clause-wrote
 returns-in-Begins-clause-wrote c =

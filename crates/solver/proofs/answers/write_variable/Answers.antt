@@ -1,22 +1,12 @@
--- `write_variable`: a byte and the number.
-use native.Mathlib.Omega.{arith}
-use mathlib.Core.Path.{refl}
-use lib.ListN.{length-set}
-use Rattle.solver.proofs.Laws.Table.OrderTermLaws.{var_size, var_stored}
+-- `write_variable`: a token of kind 1.
+use Rattle.terms.specs.Term.{bytes}
+use Rattle.terms.specs.Words.TokenBytes.{plain}
 use Rattle.solver.proofs.answers.write_variable.Goals as goal
 
-pub bounds-out-to : goal.bounds-out-to
-bounds-out-to c =
-    let a = c.args in
-    omega (arith, c.requires, var_size _ a.v refl)
-
-pub write_number-requires : goal.write_number-requires
-write_number-requires c =
-    let a = c.args in
-    simp length-set (omega (arith, c.requires, var_size _ a.v refl))
+pub write_token-requires : goal.write_token-requires
+unfolding bytes plain
+write_token-requires c = c.requires
 
 pub returns : goal.returns
-returns c =
-    let a = c.args in
-    let e = c.write_number.ensures in
-    record { next = omega (arith, e.next, var_size _ a.v refl); wrote = var_stored _ _ a.v _ e.wrote }
+unfolding bytes plain
+returns c = record { next = c.write_token.ensures.next; wrote = c.write_token.ensures.wrote }

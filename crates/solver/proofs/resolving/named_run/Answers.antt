@@ -1,49 +1,12 @@
--- `named_run`. By the word, the place and the span.
-use mathlib.Core.Path.{sym, ap, ◌∙◌}
-use Prim.Native.Nat.{◌-◌}
+-- `named_run`. A word 0 names none.
+use mathlib.Core.Path.{◌≡◌, sym, ap, ◌∙◌}
 use native.Mathlib.Omega.{arith}
-use lib.ListN.{get_or, get_or-eq_default}
-use Rattle.terms.proofs.Laws.Held.HeldLaws.{span_one}
 use Rattle.solver.specs.Words.ResolveWalk.{run_len}
-use Rattle.solver.proofs.Laws.Resolving.FrameLaws.{run_none, run_at, run_past}
-use Rattle.solver.proofs.resolving.named_run.Goals.{then-len-eq0-via-then-len-eq0, then-len-eq0-via-else-len-eq0+then-tokens-at-2}
+use Rattle.solver.proofs.Laws.Resolving.FrameLaws.{run_none}
 use Rattle.solver.proofs.resolving.named_run.Goals as goal
 
-pub returns-then-word-eq0-clause-named : goal.returns-then-word-eq0-clause-named
-returns-then-word-eq0-clause-named c =
+pub returns-in_err-checked_sub-clause-named : goal.returns-in_err-checked_sub-clause-named
+returns-in_err-checked_sub-clause-named c =
     let t = c.args.tokens.now in
-    record { size = sym (ap (run_len t.kinds.now t.vals.now) c.if-word-eq0.true ∙ run_none t.kinds.now t.vals.now); place = omega arith; within = omega arith }
-
-pub returns-then-tokens-at-clause-named : goal.returns-then-tokens-at-clause-named
-returns-then-tokens-at-clause-named c =
-    let t = c.args.tokens.now in
-    let p = c.args.word - 1 in
-    let z = get_or-eq_default t.kinds.now 0 {n = p} c.if-tokens-at.true in
-    record {
-      size = sym (run_past t.kinds.now t.vals.now c.args.word p (omega arith) (omega (arith, span_one (get_or t.kinds.now p 0) (get_or t.vals.now p 0) (omega arith))));
-      place = omega arith;
-      within = omega arith;
-    }
-
-pub returns-then-len-eq0-clause-named : goal.returns-then-len-eq0-clause-named
-returns-then-len-eq0-clause-named c =
-    let t = c.args.tokens.now in
-    let p = c.args.word - 1 in
-    let s = c.span-len.ensures in
-    record {
-      size = elim c.then-len-eq0.branch [
-        | then-len-eq0-via-then-len-eq0 w ↦ sym (run_at t.kinds.now t.vals.now c.args.word p (omega arith) (omega arith) ∙ sym s ∙ w.if-len-eq0.true)
-        | then-len-eq0-via-else-len-eq0+then-tokens-at-2 w ↦ sym (run_past t.kinds.now t.vals.now c.args.word p (omega arith) (omega arith))
-      ];
-      place = omega arith;
-      within = omega arith;
-    }
-
-pub returns-clause-named : goal.returns-clause-named
-returns-clause-named c =
-    let t = c.args.tokens.now in
-    record {
-      size = c.span-len.ensures ∙ sym (run_at t.kinds.now t.vals.now c.args.word (c.args.word - 1) (omega arith) (omega arith));
-      place = λ _. omega arith;
-      within = omega arith;
-    }
+    let z : c.args.word ≡ 0 = omega (arith, rw c.in_err-checked_sub.was at c.checked_sub.ensures) in
+    rw c.from_residual.ensures (record { size = sym (ap (run_len t.kinds.now t.vals.now) z ∙ run_none t.kinds.now t.vals.now); place = omega arith; within = omega arith })
