@@ -5,10 +5,10 @@ ghost use Rattle.terms.specs.Words.VirtualTokens.{LentAt};
 ghost use Rattle.terms.specs.Term.{Term, Parts, depth};
 ghost use Rattle.terms.specs.Tree.{row, tag};
 ghost use Rattle.terms.specs.Lookup.{output, through, HeldGiven};
-ghost use Rattle.terms.specs.Words.Arena.{Tree, Counts, Fetched};
+ghost use Rattle.terms.specs.Words.Arena.{Tree, Fetched};
 
 use super::alike::same_trees;
-use super::members::member_of;
+use super::members::{Counted, member_of, with_counts};
 use super::rows::{NOWHERE, child_at, number_at, number_place};
 use super::rules::source;
 use super::virtual_tokens::{locate, token_at};
@@ -37,9 +37,8 @@ fn output(records: &Records, given: Origin, p: usize) -> Content
 {
     let seen = records.seen;
     let x = token_at(seen, p);
-    let a = number_at(seen, given.interface, 1);
-    let b = number_at(seen, given.interface, 2);
-    let known = member_of(records, source(given.interface), a, b, 0, x.value);
+    let interface = with_counts(records, source(given.interface));
+    let known = member_of(&interface, 0, x.value);
     if let Some(y) = known {
         return y;
     }
@@ -48,40 +47,33 @@ fn output(records: &Records, given: Origin, p: usize) -> Content
     source((len + 1 + t * given.width()) as u32)
 }
 
-// What the given interface has for a projection with the counts n and m; its children have at most `fuel` levels.
-pub fn by_interface(
-    records: &Records,
-    given: Origin,
-    x: Content,
-    n: usize,
-    m: usize,
-    fuel: usize,
-) -> Option<Content>
-    requires given { records.now.seen.now.given ≡ Some given }
-    requires counts { Counts (shown records.now.seen.now) x.head n m }
+// What the given interface has for a projection with the interface's counts; its children have at most `fuel` levels.
+pub fn by_interface(x: &Counted, given: Origin, fuel: usize) -> Option<Content>
+    requires given { x.now.records.now.seen.now.given ≡ Some given }
     requires low { fuel < 4294967296 }
     ensures { (S : ℕ → Bool) (t : Term) (i : Parts) (owner : Term)
-        → StandsFor records.now S x t
+        → StandsFor x.now.records.now S x.now.content t
         → tag t ≡ 18
         → depth t ≤ fuel + 1
-        → HeldGiven records.now.seen.now.tokens.kinds.now records.now.seen.now.tokens.vals.now given i owner
-        → Fetches records.now S (through i owner (row t)) result }
+        → HeldGiven x.now.records.now.seen.now.tokens.kinds.now x.now.records.now.seen.now.tokens.vals.now given i owner
+        → Fetches x.now.records.now S (through i owner (row t)) result }
 {
-    let argument = child_at(records, x, 1 + n + m);
+    let records = x.records;
+    let argument = child_at(records, x.content, 1 + x.arguments + x.members);
     if argument.is_some() {
         return None;
     }
-    if number_at(records.seen, x.head, 0) != number_at(records.seen, given.interface, 0) {
+    if number_at(records.seen, x.content.head, 0) != number_at(records.seen, given.interface, 0) {
         return None;
     }
-    let y = child_at(records, x, 0)?;
+    let y = child_at(records, x.content, 0)?;
     if !same_trees(records, y, source(given.owner), fuel) {
         return None;
     }
     // a projection that has no such number is looked up by 0, as in the definition: a place past all tokens has it
-    let p = number_place(records.seen, x.head, 3 + m).unwrap_or(NOWHERE);
+    let p = number_place(records.seen, x.content.head, 3 + x.members).unwrap_or(NOWHERE);
     let value = output(records, given, p);
-    if same_trees(records, x, value, fuel + 1) {
+    if same_trees(records, x.content, value, fuel + 1) {
         return None;
     }
     Some(value)

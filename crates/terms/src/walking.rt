@@ -12,7 +12,7 @@ ghost use Rattle.terms.specs.Words.WalkingContract.{node_first, Fixed, Walks, us
 
 use super::alike::same_trees;
 use super::interface::by_interface;
-use super::members::own_member;
+use super::members::{Counted, own_member};
 use super::opening::{begin, own_len};
 use super::rules::find_rule;
 use super::write::run_len;
@@ -42,13 +42,19 @@ fn replace(
         heads,
         kids,
     };
-    let own = own_member(&records, x, n, m);
+    let counted = Counted {
+        records: &records,
+        content: x,
+        arguments: n,
+        members: m,
+    };
+    let own = own_member(&counted);
     if own.is_some() {
         return own;
     }
     match by.lookup {
         LookUp::Rules(rules) => find_rule(&records, rules, x, fuel),
-        LookUp::Given(given) => by_interface(&records, given, x, n, m, fuel),
+        LookUp::Given(given) => by_interface(&counted, given, fuel),
     }
 }
 

@@ -20,13 +20,13 @@ use Rattle.terms.proofs.interface.by_interface.Goals.{After-number_at-2, After-o
 
 -- the declarations as they are read
 declared : (c : After-number_at-2) (S : ℕ → Bool) (t : Term) (i : Parts) (owner : Term)
-    → Tree (shown c.args.records.now.seen.now) c.args.records.now.heads.now c.args.records.now.kids.now S c.args.x.head c.args.x.kids t
-    → HeldGiven c.args.records.now.seen.now.tokens.kinds.now c.args.records.now.seen.now.tokens.vals.now c.args.given i owner
+    → Tree (shown c.args.x.now.records.now.seen.now) c.args.x.now.records.now.heads.now c.args.x.now.records.now.kids.now S c.args.x.now.content.head c.args.x.now.content.kids t
+    → HeldGiven c.args.x.now.records.now.seen.now.tokens.kinds.now c.args.x.now.records.now.seen.now.tokens.vals.now c.args.given i owner
     → Declared t i c.number_at.result c.number_at-2.result
 declared c S t i owner w h = record {
-  bare = own_plain c.requires.counts w (rw (nothing _ (sym c.is_some.ensures ∙ c.if-is_some.false)) at (c.child_at-argument.ensures S t w));
+  bare = own_plain c.args.x.now.counts w (rw (nothing _ (sym c.is_some.ensures ∙ c.if-is_some.false)) at (c.child_at-argument.ensures S t w));
   here = c.number_at.ensures.value.is _ _ S _ t w;
-  there = c.number_at-2.ensures.value.is c.args.records.now.heads.now c.args.records.now.kids.now S 0 _ (interface_tree _ _ _ c.args.records.now.seen.now.sight _ c.requires.given i owner h _ _ S _ _ refl refl)
+  there = c.number_at-2.ensures.value.is c.args.x.now.records.now.heads.now c.args.x.now.records.now.kids.now S 0 _ (interface_tree _ _ _ c.args.x.now.records.now.seen.now.sight _ c.requires.given i owner h _ _ S _ _ refl refl)
       ∙ ap (λ (j : Parts). get_or (nums j) 0 0) (row_node 20 i);
 }
 
@@ -34,7 +34,7 @@ pub returns-then-is_some : goal.returns-then-is_some
 returns-then-is_some c =
     λ S t i owner w k d h.
     let r = rw (something _ (sym c.is_some.ensures ∙ c.if-is_some.true)).1 at (c.child_at-argument.ensures S t w) in
-    through_argument t i owner (own_args c.requires.counts w r.0 r.1)
+    through_argument t i owner (own_args c.args.x.now.counts w r.0 r.1)
 
 pub returns-then-number_at : goal.returns-then-number_at
 returns-then-number_at c =
@@ -50,31 +50,31 @@ pub returns-then-not-same_trees : goal.returns-then-not-same_trees
 returns-then-not-same_trees c =
     λ S t i owner w k d h.
     let r = c.in_ok-y.ensures S t w in
-    let u = owner_tree _ _ _ c.args.records.now.seen.now.sight _ c.requires.given i owner h _ _ S _ _ c.source.ensures.0 c.source.ensures.1 in
+    let u = owner_tree _ _ _ c.args.x.now.records.now.seen.now.sight _ c.requires.given i owner h _ _ S _ _ c.source.ensures.0 c.source.ensures.1 in
     through_stranger t i owner (declared (goal.at.returns-then-not-same_trees c).After-number_at-2 S t i owner w h) c.if-number_at.false r.1
     (c.same_trees.ensures.no (not-true _ c.if-not-same_trees.true-raw) S S _ _ r.2 u (receiver_low t r.0 _ r.1 d))
 
 -- where the member is, or a place past all tokens
-member_place : (c : After-output-value) → NumberHere (shown c.args.records.now.seen.now) c.args.x.head (3 + c.args.m) c.unwrap_or-p.result
+member_place : (c : After-output-value) → NumberHere (shown c.args.x.now.records.now.seen.now) c.args.x.now.content.head (3 + c.args.x.now.members) c.unwrap_or-p.result
 member_place c =
-    let x = c.args.records.now.seen.now in
+    let x = c.args.x.now.records.now.seen.now in
     let f = few_kinds _ _ _ x.sight in
     let v = few_vals _ _ _ x.sight in
     number_from (shown x) _ _ _ _ _ c.unwrap_or-p.ensures (omega arith) (omega arith) c.number_place.ensures
 
 -- what the last test is about
 unless_is : (c : After-output-value) (S : ℕ → Bool) (t : Term) (i : Parts) (owner : Term)
-    → Tree (shown c.args.records.now.seen.now) c.args.records.now.heads.now c.args.records.now.kids.now S c.args.x.head c.args.x.kids t
+    → Tree (shown c.args.x.now.records.now.seen.now) c.args.x.now.records.now.heads.now c.args.x.now.records.now.kids.now S c.args.x.now.content.head c.args.x.now.content.kids t
     → tag t ≡ 18 → depth t ≤ c.args.fuel + 1
-    → HeldGiven c.args.records.now.seen.now.tokens.kinds.now c.args.records.now.seen.now.tokens.vals.now c.args.given i owner
+    → HeldGiven c.args.x.now.records.now.seen.now.tokens.kinds.now c.args.x.now.records.now.seen.now.tokens.vals.now c.args.given i owner
     → Declared t i c.number_at.result c.number_at-2.result
-    → through i owner (row t) ≡ unless t (output owner i (get_or (shown c.args.records.now.seen.now).vals c.unwrap_or-p.result 0))
+    → through i owner (row t) ≡ unless t (output owner i (get_or (shown c.args.x.now.records.now.seen.now).vals c.unwrap_or-p.result 0))
 unless_is c S t i owner w k d h y =
     let r = c.in_ok-y.ensures S t w in
-    let u = owner_tree _ _ _ c.args.records.now.seen.now.sight _ c.requires.given i owner h _ _ S _ _ c.source.ensures.0 c.source.ensures.1 in
+    let u = owner_tree _ _ _ c.args.x.now.records.now.seen.now.sight _ c.requires.given i owner h _ _ S _ _ c.source.ensures.0 c.source.ensures.1 in
     let o = c.same_trees.ensures.yes (not-false _ c.if-not-same_trees.false-raw) S S _ _ r.2 u (receiver_low t r.0 _ r.1 d) in
     through_is t i owner y c.if-number_at.false r.1 o k
-    ∙ ap (λ (n : ℕ). unless t (output owner i n)) (sym ((member_place c).is _ _ S _ t w ∙ member_here c.requires.counts w))
+    ∙ ap (λ (n : ℕ). unless t (output owner i n)) (sym ((member_place c).is _ _ S _ t w ∙ member_here c.args.x.now.counts w))
 
 pub returns-then-same_trees : goal.returns-then-same_trees
 returns-then-same_trees c =

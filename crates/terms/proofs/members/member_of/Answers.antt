@@ -4,10 +4,10 @@ use Rattle.terms.proofs.Laws.Normalising.MemberLaws.{member_found, member_late, 
 use Rattle.terms.proofs.members.member_of.Goals as goal
 
 pub returns-in_err-i : goal.returns-in_err-i
-returns-in_err-i c = λ S t w. rw c.from_residual.ensures (member_none c.requires.counts w c.args.b c.in_err-i.ensures)
+returns-in_err-i c = λ S t w. rw c.from_residual.ensures (member_none c.args.x.now.counts w c.args.b c.in_err-i.ensures)
 
-pub returns-then-m-i : goal.returns-then-m-i
-returns-then-m-i c = λ S t w. member_late c.requires.counts w c.args.b c.in_ok-i.ensures c.if-m-i.true
+pub returns-then-x-i : goal.returns-then-x-i
+returns-then-x-i c = λ S t w. member_late c.args.x.now.counts w c.args.b c.in_ok-i.ensures c.if-x-i.true
 
 pub returns : goal.returns
-returns c = λ S t w. rw (member_found c.requires.counts w c.args.b c.in_ok-i.ensures c.if-m-i.false, children_row t) (c.child_at.ensures S t w)
+returns c = λ S t w. rw (member_found c.args.x.now.counts w c.args.b c.in_ok-i.ensures c.if-x-i.false, children_row t) (c.child_at.ensures S t w)
