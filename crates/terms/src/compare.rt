@@ -34,12 +34,12 @@ fn pair_step(tokens: &Tokens, a: Part, b: Part) -> Option<(usize, usize)>
     ensures stepped { (whole : Bool) → Rows tokens.now.kinds.now tokens.now.vals.now a.from a.end b.from b.end whole
         → Stepped tokens.now.kinds.now tokens.now.vals.now a.end b.end whole result }
 {
-    let k = word(tokens.kinds, a.from);
-    let l = word(tokens.kinds, b.from);
+    let k = tokens.kinds[a.from];
+    let l = tokens.kinds[b.from];
     if k != 0 && l != 0 {
         return pair_terms(tokens, a, b);
     }
-    if k != l || word(tokens.vals, a.from) != word(tokens.vals, b.from) {
+    if k != l || tokens.vals[a.from] != tokens.vals[b.from] {
         return None;
     }
     Some((a.from + 1, b.from + 1))
@@ -53,8 +53,8 @@ fn pair_terms(tokens: &Tokens, a: Part, b: Part) -> Option<(usize, usize)>
     ensures stepped { (whole : Bool) → Rows tokens.now.kinds.now tokens.now.vals.now a.from a.end b.from b.end whole
         → Stepped tokens.now.kinds.now tokens.now.vals.now a.end b.end whole result }
 {
-    let k = word(tokens.kinds, a.from);
-    let l = word(tokens.kinds, b.from);
+    let k = tokens.kinds[a.from];
+    let l = tokens.kinds[b.from];
     if yields(k) || yields(l) {
         return Some(past(tokens, a, b));
     }

@@ -23,7 +23,6 @@ use Rattle.terms.proofs.Laws.General.Bools.{never_true, never_false, or-true, or
 use Rattle.terms.proofs.Laws.Held.HeldLaws.{held_first, head_kind, row_num, row_sub, row_end, end_ends, held_sub, items_some}
 use Rattle.terms.proofs.Laws.Held.FlatLaws.{join, fit_append, held_enter, held_whole}
 use Rattle.terms.proofs.Laws.Held.SameLaws.{span_held}
-use Rattle.std.specs.Prelude.{Option}
 
 -- ---- the definition
 
