@@ -14,6 +14,7 @@
 --   RecoverContract    what the functions that recover a term hand on
 --   RewriteContract    writing a term with its binders replaced
 --   RowPieces          the pieces in which the code reads a plain row
+--   PairsContract      what a walk over two rows comes to
 --   RowsContract       what a walk over a row comes to
 --   RuleListContract   the rules as a list of records, scanned for a member
 --   RulesContract      what the search of a rule answers
@@ -46,6 +47,7 @@ pub mod SatisfyContract
 pub mod ShowingContract
 pub mod SlotsContract
 pub mod Outcomes
+pub mod PairsContract
 pub mod TermsAtPlaces
 pub mod TokenBytes
 pub mod Tokens

@@ -17,6 +17,7 @@ mod members;
 mod normal;
 mod numbers;
 mod opening;
+mod pairs;
 mod questions;
 mod read;
 mod reader;
@@ -40,6 +41,7 @@ pub use keep::{keep_nominal, keep_term};
 pub use lists::keep_list;
 pub use normal::{normalise, with_associated_types, write_normalised};
 pub use numbers::{number_len, read_number, write_number};
+pub use pairs::walk_pair;
 pub use questions::ask;
 pub use reader::part_at;
 pub use recover::{recovered_len, write_recovered};
@@ -319,10 +321,27 @@ pub struct Origin {
 }
 
 // The tokens from `from` up to `end`.
-#[derive(Clone, Copy)]
+#[derive(Clone, Copy, Debug, PartialEq, Eq)]
 pub struct Part {
     pub from: usize,
     pub end: usize,
+}
+
+// A walk over two rows at once: the tokens, and what is left of each row.
+#[derive(Clone, Copy, Drop)]
+pub struct PairWalk<'a> {
+    pub tokens: Tokens<'a>,
+    pub a: Part,
+    pub b: Part,
+}
+
+// What two rows go on with: a number each, by their places; a term each, by their tokens; or one row is over and the other is not, or one has a number and
+// the other a term. Nothing comes after that.
+#[derive(Clone, Copy, Debug, PartialEq, Eq)]
+pub enum PairStep {
+    Numbers(usize, usize),
+    Terms(Part, Part),
+    Apart,
 }
 
 // A walk over a row: the tokens that are seen, where it stands, and where the row ends. It comes to each number and to the first token of each child.

@@ -14,12 +14,13 @@ ghost use Rattle.terms.specs.Words.TermsAtPlaces.{FormedAt, RecoversAt};
 ghost use Rattle.terms.specs.Tree.{row};
 ghost use Rattle.terms.specs.Recovery.{recover_from, recover_row, reach, nominal_reach};
 ghost use Rattle.terms.specs.Words.Lent.{PartOf, NotEmpty};
-ghost use Rattle.terms.specs.Words.RecoverContract.{Put, upto, alike, Paired, Parted};
+ghost use Rattle.terms.specs.Words.RecoverContract.{Put, upto, alike};
 
+use super::pairs::walk_pair;
 use super::questions::{tag_of, word_at};
 use super::runs::{skip, term_part, word};
 use super::write::put_run;
-use super::{Part, Tokens};
+use super::{PairStep, Part, Tokens};
 
 // The place after the first n terms of a part, at most its end.
 fn behind_terms(tokens: &Tokens, a: Part, n: u32) -> usize
@@ -38,24 +39,6 @@ fn behind_terms(tokens: &Tokens, a: Part, n: u32) -> usize
     p
 }
 
-// Whether two rows both go on with a number, or both with a term.
-fn paired(kinds: &[u32], a: Part, b: Part) -> bool
-    requires { (a.end ≤ length kinds.now) × (b.end ≤ length kinds.now) }
-    ensures on { result ≡ true → Paired kinds.now a.from a.end b.from b.end }
-    ensures off { result ≡ false → Parted kinds.now a.from a.end b.from b.end }
-{
-    if a.end <= a.from {
-        return false;
-    }
-    if b.end <= b.from {
-        return false;
-    }
-    if word(kinds, a.from) == 0 {
-        return word(kinds, b.from) == 0;
-    }
-    word(kinds, b.from) != 0
-}
-
 // Whether two rows have the same numbers at the same places.
 fn alike_rows(tokens: &Tokens, a: Part, b: Part) -> bool
     requires { PartOf tokens.now.kinds.now a × PartOf tokens.now.kinds.now b }
@@ -64,25 +47,18 @@ fn alike_rows(tokens: &Tokens, a: Part, b: Part) -> bool
         → HeldParts tokens.now.kinds.now tokens.now.vals.now b.from b.end qs
         → result ≡ alike ps qs }
 {
-    let mut x = a;
-    let mut y = b;
-    // Both rows go on by the width of their own parts. Two zipped walks would not tell, at their end, whether one of the rows goes on.
-    while paired(tokens.kinds, x, y) {
-        if word(tokens.kinds, x.from) == 0 {
-            if word(tokens.vals, x.from) != word(tokens.vals, y.from) {
-                return false;
+    for step in walk_pair(tokens, a, b) {
+        match step {
+            PairStep::Numbers(i, j) => {
+                if tokens.vals[i] != tokens.vals[j] {
+                    return false;
+                }
             }
-            x.from += 1;
-            y.from += 1;
-        } else {
-            x.from += skip(tokens, x.from, x.end - x.from);
-            y.from += skip(tokens, y.from, y.end - y.from);
+            PairStep::Terms(_, _) => {}
+            PairStep::Apart => return false,
         }
     }
-    if x.from < x.end {
-        return false;
-    }
-    y.end <= y.from
+    true
 }
 
 // How far the row of a nominal is recovered from another, as a place.
@@ -98,17 +74,12 @@ fn nominal_reach(tokens: &Tokens, a: Part, b: Part) -> usize
         → Fit (nominal done) qs
         → result ≡ a.from + 1 + upto (nominal_reach ps qs) ps }
 {
-    if word_at(tokens.vals, a.from + 1, a.end) != word_at(tokens.vals, b.from + 1, b.end) {
-        return a.from + 1;
-    }
     let n = word_at(tokens.vals, a.from + 2, a.end);
-    if n != word_at(tokens.vals, b.from + 2, b.end) {
-        return a.from + 1;
-    }
-    if a.end - a.from < 3 {
-        return a.from + 1;
-    }
-    if b.end - b.from < 3 {
+    if word_at(tokens.vals, a.from + 1, a.end) != word_at(tokens.vals, b.from + 1, b.end)
+        || n != word_at(tokens.vals, b.from + 2, b.end)
+        || a.end - a.from < 3
+        || b.end - b.from < 3
+    {
         return a.from + 1;
     }
     let mut x = a;
@@ -118,9 +89,10 @@ fn nominal_reach(tokens: &Tokens, a: Part, b: Part) -> usize
     x.from = behind_terms(tokens, x, n);
     y.from = behind_terms(tokens, y, n);
     if alike_rows(tokens, x, y) {
-        return a.end;
+        a.end
+    } else {
+        x.from
     }
-    x.from
 }
 
 // How far the row of a term is recovered from another, as a place.
@@ -153,9 +125,10 @@ fn first_reach(vals: &[u32], a: Part, b: Part) -> usize
     ensures told { result ≡ pick (eqb (word vals.now (a.from + 1) a.end) (word vals.now (b.from + 1) b.end)) a.end (a.from + 1) }
 {
     if word_at(vals, a.from + 1, a.end) == word_at(vals, b.from + 1, b.end) {
-        return a.end;
+        a.end
+    } else {
+        a.from + 1
     }
-    a.from + 1
 }
 
 // Whether a term is filled from another, by its tag: Unknown and Error.
@@ -187,27 +160,26 @@ fn recover_term(tokens: &Tokens, a: Part, b: Part, out: &mut [u8], at: usize) ->
 {
     let k = tag_of(word(tokens.kinds, a.from));
     if stays(k, tag_of(word(tokens.kinds, b.from))) {
-        return put_run(tokens.kinds, tokens.vals, a.from, a.end - a.from, out, at);
+        return put_run(tokens, a, out, at);
     }
     if is_hole(k) {
-        return put_run(tokens.kinds, tokens.vals, b.from, b.end - b.from, out, at);
+        return put_run(tokens, b, out, at);
     }
     let stop = reach_end(tokens, a, b);
-    let next = put_run(tokens.kinds, tokens.vals, a.from, 1, out, at);
-    recover_row(
-        tokens,
-        Part {
-            from: a.from + 1,
-            end: a.end,
-        },
-        stop,
-        Part {
-            from: b.from + 1,
-            end: b.end,
-        },
-        out,
-        next,
-    )
+    let head = Part {
+        from: a.from,
+        end: a.from + 1,
+    };
+    let next = put_run(tokens, head, out, at);
+    let row = Part {
+        from: head.end,
+        end: a.end,
+    };
+    let other = Part {
+        from: b.from + 1,
+        end: b.end,
+    };
+    recover_row(tokens, row, stop, other, out, next)
 }
 
 // The same of a row as far as `stop`, from another row; the rest is written as it stands.
@@ -224,35 +196,30 @@ fn recover_row(tokens: &Tokens, a: Part, stop: usize, b: Part, out: &mut [u8], a
         → stop ≡ a.from + upto c ps
         → Put out.old out.new at result (part_bytes (recover_row ps c qs)) }
 {
-    let mut x = Part {
+    let mut rest = a;
+    let mut to = at;
+    let first = Part {
         from: a.from,
         end: stop,
     };
-    let mut y = b;
-    let mut to = at;
-    // Both rows go on by the width of their own parts. Two zipped walks would not tell, at their end, where the rest stands that is written.
-    while paired(tokens.kinds, x, y) {
-        if word(tokens.kinds, x.from) == 0 {
-            to = put_run(tokens.kinds, tokens.vals, x.from, 1, out, to);
-            x.from += 1;
-            y.from += 1;
-        } else {
-            let n = skip(tokens, x.from, a.end - x.from);
-            let m = skip(tokens, y.from, y.end - y.from);
-            let t = Part {
-                from: x.from,
-                end: x.from + n,
-            };
-            let u = Part {
-                from: y.from,
-                end: y.from + m,
-            };
-            to = recover_term(tokens, t, u, out, to);
-            x.from += n;
-            y.from += m;
+    for step in walk_pair(tokens, first, b) {
+        match step {
+            PairStep::Numbers(i, _) => {
+                let number = Part {
+                    from: i,
+                    end: i + 1,
+                };
+                to = put_run(tokens, number, out, to);
+                rest.from = i + 1;
+            }
+            PairStep::Terms(t, u) => {
+                to = recover_term(tokens, t, u, out, to);
+                rest.from = t.end;
+            }
+            PairStep::Apart => {}
         }
     }
-    put_run(tokens.kinds, tokens.vals, x.from, a.end - x.from, out, to)
+    put_run(tokens, rest, out, to)
 }
 
 // How many bytes `recover_from` of the terms at a and b has: where writing from 0 on ends, on an output of one byte.

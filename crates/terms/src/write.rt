@@ -1,11 +1,13 @@
 // Tokens are written as they stand: sized first, then written.
 // Kinds and tags are matched by number; the line in kinds.rt says why.
-ghost use Rattle.std.specs.Prelude.{◌≡◌, ◌+◌, ◌*◌, ◌^◌, ◌≤◌, ◌<◌, length};
+ghost use Rattle.std.specs.Prelude.{◌≡◌, ◌+◌, ◌-◌, ◌*◌, ◌^◌, ◌≤◌, ◌<◌, length};
 ghost use Rattle.std.proofs.lemmas.List.Edits.{sets};
 ghost use Rattle.terms.specs.Words.TokenBytes.{plain, spelt};
+ghost use Rattle.terms.specs.Words.Lent.{PartOf};
 ghost use Rattle.terms.specs.Words.RecoverContract.{put_if};
 
 use super::numbers::{number_len, write_number};
+use super::{Part, Tokens};
 
 // How many bytes a token has.
 pub fn token_len(k: u32, v: u32) -> usize
@@ -73,28 +75,22 @@ pub fn write_run(
     i
 }
 
-// The same where the tokens fit; else nothing is written. In either case returns the position after them.
-pub fn put_run(
-    kinds: &[u32],
-    vals: &[u32],
-    from: usize,
-    count: usize,
-    out: &mut [u8],
-    at: usize,
-) -> usize
-    requires run { (from + count ≤ length kinds.now) × (from + count ≤ length vals.now) }
-    requires room { at + 6 * count < 2 ^ 64 }
-    ensures next { result ≡ at + length (spelt kinds.now vals.now from count) }
-    ensures put { out.new ≡ put_if out.old at (spelt kinds.now vals.now from count) }
-    ensures bound { (at ≤ result) × (result ≤ at + 6 * count) }
+// The same of a part where its tokens fit; else nothing is written. In either case returns the position after them.
+pub fn put_run(tokens: &Tokens, run: Part, out: &mut [u8], at: usize) -> usize
+    requires run { PartOf tokens.now.kinds.now run }
+    requires room { at + 6 * (run.end - run.from) < 2 ^ 64 }
+    ensures next { result ≡ at + length (spelt tokens.now.kinds.now tokens.now.vals.now run.from (run.end - run.from)) }
+    ensures put { out.new ≡ put_if out.old at (spelt tokens.now.kinds.now tokens.now.vals.now run.from (run.end - run.from)) }
+    ensures bound { (at ≤ result) × (result ≤ at + 6 * (run.end - run.from)) }
 {
+    let count = run.end - run.from;
     // A token has at most 6 bytes.
     if at + 6 * count <= out.len() {
-        return write_run(kinds, vals, from, count, out, at);
+        return write_run(tokens.kinds, tokens.vals, run.from, count, out, at);
     }
-    let n = run_len(kinds, vals, from, count);
+    let n = run_len(tokens.kinds, tokens.vals, run.from, count);
     if at + n <= out.len() {
-        return write_run(kinds, vals, from, count, out, at);
+        return write_run(tokens.kinds, tokens.vals, run.from, count, out, at);
     }
     at + n
 }

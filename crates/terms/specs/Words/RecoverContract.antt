@@ -1,5 +1,5 @@
 -- What the functions that recover a term hand on.
-use Rattle.std.specs.Prelude.{◌≡◌, Bool, true, false, ◌&&◌, List, ℕ, zero, suc, ◌+◌, ◌≤◌, ◌<◌, eqb, leb, length, get_or}
+use Rattle.std.specs.Prelude.{◌≡◌, Bool, true, false, ◌&&◌, List, ℕ, zero, suc, ◌+◌, ◌≤◌, eqb, leb, length}
 use Rattle.std.proofs.lemmas.List.Edits.{sets}
 use Rattle.terms.specs.Result.{pick}
 use Rattle.terms.specs.Term.{Parts, end, num, sub, items}
@@ -32,17 +32,3 @@ alike (num n ps) (sub u qs) = false
 alike (sub t ps) end = false
 alike (sub t ps) (num m qs) = false
 alike (sub t ps) (sub u qs) = alike ps qs
-
--- rows from i up to ae and from j up to be both go on with a number, or both with a term
-pub record Paired (ks : List ℕ) (i ae j be : ℕ) : Type 0 where
-  pub left : i < ae
-  pub right : j < be
-  pub number : get_or ks i 0 ≡ 0 → get_or ks j 0 ≡ 0
-  pub term : (get_or ks i 0 ≡ 0 → ⊥) → get_or ks j 0 ≡ 0 → ⊥
-
--- they do not: one of them ends, or they have a number and a term
-pub data Parted (ks : List ℕ) (i ae j be : ℕ) : Type 0 where
-  no_left : ae ≤ i → Parted ks i ae j be
-  no_right : i < ae → be ≤ j → Parted ks i ae j be
-  number_term : i < ae → j < be → get_or ks i 0 ≡ 0 → (get_or ks j 0 ≡ 0 → ⊥) → Parted ks i ae j be
-  term_number : i < ae → j < be → (get_or ks i 0 ≡ 0 → ⊥) → get_or ks j 0 ≡ 0 → Parted ks i ae j be

@@ -4,7 +4,7 @@ use mathlib.Core.Bool.{Bool, true, false, ◌&&◌, ◌||◌}
 use mathlib.Core.List.{List, [], ◌∷◌, ◌++◌, append_assoc, append-nil}
 use mathlib.Core.Logic.{◌⊎◌, inl, inr}
 use Prim.Native.Nat.{ℕ, zero, suc, ◌+◌, ◌-◌, ◌%◌, ◌≤◌, ◌<◌}
-use native.Mathlib.Decide.{dec_lt, ℕ_discrete}
+use native.Mathlib.Decide.{ℕ_discrete}
 use native.Mathlib.Omega.{arith}
 use borrow.Author.Tests.{eq-eqb, ne_eqb, eqb-true, eqb-false, le-leb, lt-leb}
 use lib.Dec.{eqb, leb}
@@ -13,7 +13,7 @@ use lib.Seq.{sets, length-sets}
 use Rattle.terms.specs.Result.{pick}
 use Rattle.terms.specs.Number.{shortest}
 use Rattle.terms.specs.Term.{Term, Parts, var, node, end, num, sub, items, part_items, bytes, part_bytes, Subs}
-use Rattle.terms.specs.Words.Held.{Held, HeldParts, span}
+use Rattle.terms.specs.Words.Held.{HeldParts, span}
 use Rattle.terms.specs.Words.TokenBytes.{plain, spelt}
 use Rattle.terms.specs.Tree.{nums, same_numbers, nominal_of, row, tag}
 use Rattle.terms.specs.Questions.{among, first}
@@ -21,7 +21,9 @@ use Rattle.terms.specs.Words.QuestionsContract.{word, tag_of}
 use Rattle.terms.specs.Words.Tokens.{spell}
 use Rattle.terms.specs.Comparison.{recovery}
 use Rattle.terms.specs.Recovery.{recover_from, recover_row, reach, nominal_reach, parts}
-use Rattle.terms.specs.Words.RecoverContract.{put_if, Put, upto, alike, Parted, no_left, no_right, number_term, term_number}
+use Rattle.terms.specs.declared.Part.{Part}
+use Rattle.terms.specs.Words.PairsContract.{NumberFirst, TermFirst, Unlike, no_left, no_right, number_term, term_number}
+use Rattle.terms.specs.Words.RecoverContract.{put_if, Put, upto, alike}
 use Rattle.terms.proofs.Laws.General.Bools.{never_true, never_false, and-false}
 use Rattle.terms.proofs.Laws.Format.WriteLaws.{sets_append, held_bytes, spell_step, spelt_add}
 use Rattle.terms.specs.Shape as shape
@@ -29,6 +31,7 @@ use Rattle.terms.specs.Shape.{Shape, Meaning, kind_of, many_terms, many_members,
 use Rattle.terms.specs.Formed.{Formed, Fit, TakesNumber, TakesTerm, after_number, after_term}
 use Rattle.terms.proofs.Laws.Held.HeldLaws.{head_kind, held_num, held_sub, items_some, held_first, held_node, row_num, row_sub, row_end, end_ends}
 use Rattle.terms.proofs.Laws.Held.SameLaws.{span_held}
+use Rattle.terms.proofs.Laws.Held.PairLaws.{FirstTerm, first_number, first_term, row_term, row_long}
 use Rattle.terms.proofs.Laws.Format.ShapeLaws.{More, some_done}
 use Rattle.terms.proofs.Laws.Asking.ConflictLaws.{passed}
 use Rattle.terms.proofs.Laws.Asking.QuestionLaws.{tag_kind, word_in, number_inside}
@@ -103,11 +106,6 @@ stays_over (sub t ps) (suc c) qs h = absurd (omega (arith, items_some t))
 
 -- ---- after n terms
 
--- the first term of a row lies within it
-pub row_long : (ks vs : List ℕ) (p e : ℕ) (t : Term) (r : Parts) → HeldParts ks vs p e (sub t r) → p + length (items t) ≤ e
-unfolding items
-row_long ks vs p e t r h = omega (arith, h.ends, length-append (items t) (part_items r))
-
 pub record Behind (ks vs : List ℕ) (p e left : ℕ) (s : Shape) (whole : ℕ) : Type 0 where
   pub rest : Parts
   pub held : HeldParts ks vs p e rest
@@ -153,91 +151,74 @@ pub record Alike (ks vs : List ℕ) (i ae j be : ℕ) (whole : Bool) : Type 0 wh
   pub held_right : HeldParts ks vs j be right
   pub same : whole ≡ alike left right
 
-module _ (ks vs : List ℕ) (i ae j be : ℕ) (whole : Bool) (x : Alike ks vs i ae j be whole) where
+module _ {ks vs : List ℕ} {a b : Part} {whole : Bool} (x : Alike ks vs a.from a.end b.from b.end whole) where
   told_alike : (l r : Parts) → x.left ≡ l → x.right ≡ r → whole ≡ alike l r
   told_alike l r e f = x.same ∙ ap (λ (y : Parts). alike y x.right) e ∙ ap (λ (y : Parts). alike l y) f
 
-  pub alike_short : i < ae → be ≤ j → false ≡ whole
+  -- both rows are over
+  pub alike_over : a.end ≤ a.from → b.end ≤ b.from → true ≡ whole
   unfolding alike
-  alike_short h k = sym (go x.left x.held_left (x.same ∙ ap (λ (y : Parts). alike x.left y) (row_end ks vs j be x.right x.held_right k)))
+  alike_over h k = sym (told_alike end end (row_end ks vs a.from a.end x.left x.held_left h) (row_end ks vs b.from b.end x.right x.held_right k))
+
+  -- they do not go on alike
+  pub alike_unlike : Unlike ks a b → false ≡ whole
+  unfolding alike
+  alike_unlike (no_left h k) = sym (go x.right x.held_right (x.same ∙ ap (λ (y : Parts). alike y x.right) (row_end ks vs a.from a.end x.left x.held_left h)))
     where
-      go : (l : Parts) → HeldParts ks vs i ae l → whole ≡ alike l end → whole ≡ false
-      go end hl e = absurd (omega (arith, end_ends ks vs i ae hl))
+      go : (r : Parts) → HeldParts ks vs b.from b.end r → whole ≡ alike end r → whole ≡ false
+      go end hr e = absurd (omega (arith, end_ends ks vs b.from b.end hr))
+      go (num n r) hr e = e
+      go (sub t r) hr e = e
+  alike_unlike (no_right h k) = sym (go x.left x.held_left (x.same ∙ ap (λ (y : Parts). alike x.left y) (row_end ks vs b.from b.end x.right x.held_right k)))
+    where
+      go : (l : Parts) → HeldParts ks vs a.from a.end l → whole ≡ alike l end → whole ≡ false
+      go end hl e = absurd (omega (arith, end_ends ks vs a.from a.end hl))
       go (num n l) hl e = e
       go (sub t l) hl e = e
+  alike_unlike (number_term h k p q) =
+      let l = row_num ks vs a.from a.end x.left x.held_left h p in
+      let r = row_sub ks vs b.from b.end x.right x.held_right k q in
+      sym (told_alike (num l.0 l.1) (sub r.0 r.1) l.2 r.2)
+  alike_unlike (term_number h k p q) =
+      let l = row_sub ks vs a.from a.end x.left x.held_left h p in
+      let r = row_num ks vs b.from b.end x.right x.held_right k q in
+      sym (told_alike (sub l.0 l.1) (num r.0 r.1) l.2 r.2)
 
-  module _ (hi : i < ae) (hj : j < be) where
-    pub alike_number_term : get_or ks i 0 ≡ 0 → (get_or ks j 0 ≡ 0 → ⊥) → false ≡ whole
+  -- numbers that differ, and that do not
+  module _ {i j c d : ℕ} (f : NumberFirst ks a i c) (g : NumberFirst ks b j d) where
+    pub alike_differ : (get_or vs i 0 ≡ get_or vs j 0 → ⊥) → false ≡ whole
     unfolding alike
-    alike_number_term p q =
-        let a = row_num ks vs i ae x.left x.held_left hi p in
-        let b = row_sub ks vs j be x.right x.held_right hj q in
-        sym (told_alike (num a.0 a.1) (sub b.0 b.1) a.2 b.2)
+    alike_differ n =
+        let l = first_number x.held_left (omega arith) f in
+        let r = first_number x.held_right (omega arith) g in
+        sym (told_alike (num l.value l.rest) (num r.value r.rest) l.is r.is
+        ∙ ap (λ (y : Bool). y && alike l.rest r.rest) (ne_eqb l.value r.value (λ e. n (l.reads ∙ e ∙ sym r.reads))))
 
-    pub alike_term_number : (get_or ks i 0 ≡ 0 → ⊥) → get_or ks j 0 ≡ 0 → false ≡ whole
+    pub alike_numbers : get_or vs i 0 ≡ get_or vs j 0 → Alike ks vs c a.end d b.end whole
     unfolding alike
-    alike_term_number p q =
-        let a = row_sub ks vs i ae x.left x.held_left hi p in
-        let b = row_num ks vs j be x.right x.held_right hj q in
-        sym (told_alike (sub a.0 a.1) (num b.0 b.1) a.2 b.2)
-
-    pub alike_differ : get_or ks i 0 ≡ 0 → get_or ks j 0 ≡ 0 → (get_or vs i 0 ≡ get_or vs j 0 → ⊥) → false ≡ whole
-    unfolding alike
-    alike_differ p q d =
-        let a = row_num ks vs i ae x.left x.held_left hi p in
-        let b = row_num ks vs j be x.right x.held_right hj q in
-        sym (told_alike (num a.0 a.1) (num b.0 b.1) a.2 b.2 ∙ ap (λ (y : Bool). y && alike a.1 b.1) (ne_eqb a.0 b.0 (λ e. d (a.3 ∙ e ∙ sym b.3))))
-
-    pub alike_numbers : get_or ks i 0 ≡ 0 → get_or ks j 0 ≡ 0 → get_or vs i 0 ≡ get_or vs j 0 → Alike ks vs (i + 1) ae (j + 1) be whole
-    unfolding alike
-    alike_numbers p q e =
-        let a = row_num ks vs i ae x.left x.held_left hi p in
-        let b = row_num ks vs j be x.right x.held_right hj q in
+    alike_numbers e =
+        let l = first_number x.held_left (omega arith) f in
+        let r = first_number x.held_right (omega arith) g in
         record {
-          left = a.1;
-          right = b.1;
-          held_left = a.4;
-          held_right = b.4;
-          same = told_alike (num a.0 a.1) (num b.0 b.1) a.2 b.2 ∙ ap (λ (y : Bool). y && alike a.1 b.1) (eq-eqb a.0 b.0 (sym a.3 ∙ e ∙ b.3));
+          left = l.rest;
+          right = r.rest;
+          held_left = l.behind;
+          held_right = r.behind;
+          same = told_alike (num l.value l.rest) (num r.value r.rest) l.is r.is ∙ ap (λ (y : Bool). y && alike l.rest r.rest) (eq-eqb l.value r.value (sym l.reads ∙ e ∙ r.reads));
         }
 
-    pub alike_terms : (n m : ℕ) → (get_or ks i 0 ≡ 0 → ⊥) → (get_or ks j 0 ≡ 0 → ⊥)
-        → (1 ≤ span (get_or ks i 0) (get_or vs i 0) → span (get_or ks i 0) (get_or vs i 0) ≤ ae - i → n ≡ span (get_or ks i 0) (get_or vs i 0))
-        → (1 ≤ span (get_or ks j 0) (get_or vs j 0) → span (get_or ks j 0) (get_or vs j 0) ≤ be - j → m ≡ span (get_or ks j 0) (get_or vs j 0)) → Alike ks vs (i + n) ae (j + m) be whole
-    unfolding alike
-    alike_terms n m p q k l =
-        let a = row_sub ks vs i ae x.left x.held_left hi p in
-        let b = row_sub ks vs j be x.right x.held_right hj q in
-        record {
-          left = a.1;
-          right = b.1;
-          held_left = passed ks vs i ae n a.0 a.1 (subst (λ (y : Parts). HeldParts ks vs i ae y) a.2 x.held_left) k;
-          held_right = passed ks vs j be m b.0 b.1 (subst (λ (y : Parts). HeldParts ks vs j be y) b.2 x.held_right) l;
-          same = told_alike (sub a.0 a.1) (sub b.0 b.1) a.2 b.2;
-        }
-
-pub alike_last : (ks vs : List ℕ) (i ae j be : ℕ) (whole : Bool) → Alike ks vs i ae j be whole → ae ≤ i → leb be j ≡ whole
-unfolding alike
-alike_last ks vs i ae j be whole x h = go (dec_lt j be)
-  where
-    over : whole ≡ alike end x.right
-    over = x.same ∙ ap (λ (y : Parts). alike y x.right) (row_end ks vs i ae x.left x.held_left h)
-
-    more : (r : Parts) → HeldParts ks vs j be r → j < be → whole ≡ alike end r → whole ≡ false
-    more end hr k e = absurd (omega (arith, end_ends ks vs j be hr))
-    more (num n r) hr k e = e
-    more (sub t r) hr k e = e
-
-    go : Dec (j < be) → leb be j ≡ whole
-    go (yes k) = lt-leb be j k ∙ sym (more x.right x.held_right k over)
-    go (no k) = le-leb be j (omega arith) ∙ sym (over ∙ ap (λ (y : Parts). alike end y) (row_end ks vs j be x.right x.held_right (omega arith)))
-
--- rows that part before the first one ends
-pub alike_parted : (ks vs : List ℕ) (i ae j be : ℕ) (whole : Bool) → Alike ks vs i ae j be whole → Parted ks i ae j be → i < ae → false ≡ whole
-alike_parted ks vs i ae j be whole x (no_left h) k = absurd (omega arith)
-alike_parted ks vs i ae j be whole x (no_right h l) k = alike_short ks vs i ae j be whole x h l
-alike_parted ks vs i ae j be whole x (number_term h l p q) k = alike_number_term ks vs i ae j be whole x h l p q
-alike_parted ks vs i ae j be whole x (term_number h l p q) k = alike_term_number ks vs i ae j be whole x h l p q
+  pub alike_terms : {t u : Part} {c d : ℕ} → TermFirst ks vs a t c → TermFirst ks vs b u d → Alike ks vs c a.end d b.end whole
+  unfolding alike
+  alike_terms f g =
+      let l = row_term x.held_left f in
+      let r = row_term x.held_right g in
+      record {
+        left = l.rest;
+        right = r.rest;
+        held_left = l.behind;
+        held_right = r.behind;
+        same = told_alike (sub l.term l.rest) (sub r.term r.rest) l.is r.is;
+      }
 
 -- ---- rows by parts
 
@@ -764,13 +745,17 @@ unfolding recover_from tag row bytes
 entered_term (var v) u n d h = absurd (d refl)
 entered_term (node k ps) u n d h = rw (n, h)
 
+-- a part of one token
+pub one_wide : (p : ℕ) → p + 1 - p ≡ 1
+one_wide p = omega arith
+
 -- the head's byte
-pub head_byte : {ks vs : List ℕ} {p pe : ℕ} {t : Term} → HeldParts ks vs p pe (sub t end) → (tag t ≡ 1 → ⊥) → spelt ks vs p 1 ≡ (tag t % 256) ∷ []
+pub head_byte : {ks vs : List ℕ} {p pe : ℕ} {t : Term} → HeldParts ks vs p pe (sub t end) → (tag t ≡ 1 → ⊥) → spelt ks vs p (p + 1 - p) ≡ (tag t % 256) ∷ []
 unfolding spell plain tag head_kind
 head_byte {ks} {vs} {p} {pe} {t = var v} h d = absurd (d refl)
 head_byte {ks} {vs} {p} {pe} {t = node k ps} h d =
     let f = held_first ks vs p (node k ps) (held_sub ks vs p pe (node k ps) end h).0 in
-    ap (λ (n : ℕ). plain n (get_or vs p 0) ++ []) f.0
+    ap (λ (n : ℕ). spelt ks vs p n) (one_wide p) ∙ ap (λ (n : ℕ). plain n (get_or vs p 0) ++ []) f.0
 
 -- the row of a variable is none
 pub row_any : {ks vs : List ℕ} {p pe : ℕ} {t : Term} → HeldParts ks vs p pe (sub t end) → HeldParts ks vs (p + 1) pe (row t)
@@ -823,143 +808,122 @@ module _ {ks vs : List ℕ} {i pe stop j qe : ℕ} {out₀ out : List ℕ} {at t
   pub stays_no_left : stop ≤ i → recover_row x.left x.count x.right ≡ x.left
   stays_no_left h = stays_over x.left x.count x.right (omega (arith, x.stops))
 
-  module _ (hi : i < stop) (hp : stop ≤ pe) (hj : j < qe) where
-    pub stays_numbers : get_or ks i 0 ≡ 0 → (get_or ks j 0 ≡ 0 → ⊥) → recover_row x.left x.count x.right ≡ x.left
-    stays_numbers p q =
-        let a = row_num ks vs i pe x.left x.held_left (omega arith) p in
-        let b = row_sub ks vs j qe x.right x.held_right hj q in
-        ap (λ (l : Parts). recover_row l x.count x.right) a.2 ∙ ap (λ (r : Parts). recover_row (num a.0 a.1) x.count r) b.2 ∙ stays_number a.0 x.count a.1 b.0 b.1 ∙ sym a.2
+some_count : {i stop : ℕ} (left : Parts) → i < stop → (c : ℕ) → stop ≡ i + upto c left → (d : ℕ) × (c ≡ suc d)
+unfolding upto
+some_count left h zero e = absurd (omega arith)
+some_count left h (suc d) e = (d, refl)
 
-    pub stays_terms : (get_or ks i 0 ≡ 0 → ⊥) → get_or ks j 0 ≡ 0 → recover_row x.left x.count x.right ≡ x.left
-    stays_terms p q =
-        let a = row_sub ks vs i pe x.left x.held_left (omega arith) p in
-        let b = row_num ks vs j qe x.right x.held_right hj q in
-        ap (λ (l : Parts). recover_row l x.count x.right) a.2 ∙ ap (λ (r : Parts). recover_row (sub a.0 a.1) x.count r) b.2 ∙ stays_term a.0 x.count a.1 b.0 b.1 ∙ sym a.2
+module _ {ks vs : List ℕ} {pe : ℕ} {a b : Part} {out₀ out : List ℕ} {at to : ℕ} {whole : List ℕ} where
+  -- rows that do not go on alike: the first stays as it is
+  stays_unlike : (x : Recovering ks vs a.from pe a.end b.from b.end out₀ out at to whole) → a.end ≤ pe → Unlike ks a b → recover_row x.left x.count x.right ≡ x.left
+  stays_unlike x hp (no_left h k) = stays_no_left x h
+  stays_unlike x hp (no_right h k) = stays_no_right x k
+  stays_unlike x hp (number_term h k p q) =
+      let l = row_num ks vs a.from pe x.left x.held_left (omega arith) p in
+      let r = row_sub ks vs b.from b.end x.right x.held_right k q in
+      ap (λ (y : Parts). recover_row y x.count x.right) l.2 ∙ ap (λ (y : Parts). recover_row (num l.0 l.1) x.count y) r.2 ∙ stays_number l.0 x.count l.1 r.0 r.1 ∙ sym l.2
+  stays_unlike x hp (term_number h k p q) =
+      let l = row_sub ks vs a.from pe x.left x.held_left (omega arith) p in
+      let r = row_num ks vs b.from b.end x.right x.held_right k q in
+      ap (λ (y : Parts). recover_row y x.count x.right) l.2 ∙ ap (λ (y : Parts). recover_row (sub l.0 l.1) x.count y) r.2 ∙ stays_term l.0 x.count l.1 r.0 r.1 ∙ sym l.2
 
-    some_count : (c : ℕ) → stop ≡ i + upto c x.left → (d : ℕ) × (c ≡ suc d)
-    unfolding upto
-    some_count zero e = absurd (omega arith)
-    some_count (suc d) e = (d, refl)
+  -- and nothing is left to recover it from
+  pub recover_unlike : {i : ℕ} → Recovering ks vs i pe a.end b.from b.end out₀ out at to whole → a.end ≤ pe → (b.from < b.end → a.from ≡ i) → Unlike ks a b
+      → Recovering ks vs i pe a.end b.end b.end out₀ out at to whole
+  unfolding items Subs spell
+  recover_unlike {i} x hp f u = record {
+    count = x.count;
+    left = x.left;
+    right = end;
+    held_left = x.held_left;
+    held_right = record { tokens = refl; ends = omega arith; within = x.held_right.within };
+    formed_left = x.formed_left;
+    formed_right = tt;
+    stops = x.stops;
+    done = x.done;
+    put = x.put;
+    same = x.same ∙ ap (λ (l : Parts). x.done ++ part_bytes l) (go u ∙ sym (stays_short x.left x.count));
+  }
+    where
+      at_left : b.from < b.end → Unlike ks a b → recover_row x.left x.count x.right ≡ x.left
+      at_left h u = let e = f h in stays_unlike (rw e x) hp u
 
+      go : Unlike ks a b → recover_row x.left x.count x.right ≡ x.left
+      go (no_left h k) = at_left k u
+      go (no_right h k) = stays_no_right x k
+      go (number_term h k p q) = at_left k u
+      go (term_number h k p q) = at_left k u
+
+  module _ (x : Recovering ks vs a.from pe a.end b.from b.end out₀ out at to whole) (hp : a.end ≤ pe) where
     -- numbers in both rows: the first one's is written
-    pub recover_number : get_or ks i 0 ≡ 0 → get_or ks j 0 ≡ 0 → {out' : List ℕ} {r : ℕ}
-        → r ≡ to + length (spelt ks vs i 1) → out' ≡ put_if out to (spelt ks vs i 1) → Recovering ks vs (i + 1) pe stop (j + 1) qe out₀ out' at r whole
+    pub recover_number : {i j c d : ℕ} → NumberFirst ks a i c → NumberFirst ks b j d → {out' : List ℕ} {r : ℕ}
+        → r ≡ to + length (spelt ks vs i (i + 1 - i)) → out' ≡ put_if out to (spelt ks vs i (i + 1 - i)) → Recovering ks vs c pe a.end d b.end out₀ out' at r whole
     unfolding upto Subs recover_from bytes spell plain
-    recover_number p q n w =
-        let a = row_num ks vs i pe x.left x.held_left (omega arith) p in
-        let b = row_num ks vs j qe x.right x.held_right hj q in
-        let c = some_count x.count x.stops in
-        let s : stop ≡ i + upto (suc c.0) (num a.0 a.1) = x.stops ∙ ap (λ (k : ℕ). i + upto k x.left) c.1 ∙ ap (λ (l : Parts). i + upto (suc c.0) l) a.2 in
-        let e : spelt ks vs i 1 ≡ shortest a.0 = ap (λ (k : ℕ). plain k (get_or vs i 0) ++ []) p ∙ append-nil (shortest (get_or vs i 0)) ∙ ap shortest a.3 in
+    recover_number {i} {j} {c} {d} f g n w =
+        let l = first_number x.held_left hp f in
+        let r = first_number x.held_right (omega arith) g in
+        let k = some_count x.left (f.1) x.count x.stops in
+        let s : a.end ≡ a.from + upto (suc k.0) (num l.value l.rest) = x.stops ∙ ap (λ (m : ℕ). a.from + upto m x.left) k.1 ∙ ap (λ (y : Parts). a.from + upto (suc k.0) y) l.is in
+        let z : get_or ks i 0 ≡ 0 = ap (λ (m : ℕ). get_or ks m 0) f.0 ∙ f.2 in
+        let e : spelt ks vs i (i + 1 - i) ≡ shortest l.value = ap (λ (m : ℕ). spelt ks vs i m) (one_wide i) ∙ ap (λ (m : ℕ). plain m (get_or vs i 0) ++ []) z ∙ append-nil (shortest (get_or vs i 0)) ∙ ap shortest l.reads in
         record {
-          count = c.0;
-          left = a.1;
-          right = b.1;
-          held_left = a.4;
-          held_right = b.4;
-          formed_left = subst (λ (l : Parts). Subs Formed l) a.2 x.formed_left;
-          formed_right = subst (λ (l : Parts). Subs Formed l) b.2 x.formed_right;
-          stops = omega arith;
-          done = x.done ++ spelt ks vs i 1;
-          put = put_then x.put (put_one (spelt ks vs i 1) n w);
+          count = k.0;
+          left = l.rest;
+          right = r.rest;
+          held_left = l.behind;
+          held_right = r.behind;
+          formed_left = subst (λ (y : Parts). Subs Formed y) l.is x.formed_left;
+          formed_right = subst (λ (y : Parts). Subs Formed y) r.is x.formed_right;
+          stops = omega (arith, s, f.3);
+          done = x.done ++ spelt ks vs i (i + 1 - i);
+          put = put_then x.put (put_one (spelt ks vs i (i + 1 - i)) n w);
           same =
               x.same
-              ∙ ap (λ (l : Parts). x.done ++ part_bytes (recover_row l x.count x.right)) a.2
-              ∙ ap (λ (l : Parts). x.done ++ part_bytes (recover_row (num a.0 a.1) x.count l)) b.2
-              ∙ ap (λ (k : ℕ). x.done ++ part_bytes (recover_row (num a.0 a.1) k (num b.0 b.1))) c.1
-              ∙ ap (λ (l : List ℕ). x.done ++ (l ++ part_bytes (recover_row a.1 c.0 b.1))) (sym e)
-              ∙ sym (append_assoc x.done (spelt ks vs i 1) (part_bytes (recover_row a.1 c.0 b.1)));
+              ∙ ap (λ (y : Parts). x.done ++ part_bytes (recover_row y x.count x.right)) l.is
+              ∙ ap (λ (y : Parts). x.done ++ part_bytes (recover_row (num l.value l.rest) x.count y)) r.is
+              ∙ ap (λ (m : ℕ). x.done ++ part_bytes (recover_row (num l.value l.rest) m (num r.value r.rest))) k.1
+              ∙ ap (λ (y : List ℕ). x.done ++ (y ++ part_bytes (recover_row l.rest k.0 r.rest))) (sym e)
+              ∙ sym (append_assoc x.done (spelt ks vs i (i + 1 - i)) (part_bytes (recover_row l.rest k.0 r.rest)));
         }
 
-    -- terms in both rows
-    pub record Both : Type 0 where
-      pub t : Term
-      pub u : Term
-      pub ps : Parts
-      pub qs : Parts
-      pub count : ℕ
-      pub counts : x.count ≡ suc count
-      pub is_left : x.left ≡ sub t ps
-      pub is_right : x.right ≡ sub u qs
-      pub row_left : HeldParts ks vs i pe (sub t ps)
-      pub row_right : HeldParts ks vs j qe (sub u qs)
-      pub held_left : Held ks vs i t
-      pub held_right : Held ks vs j u
-      pub formed_left : Formed t
-      pub formed_right : Formed u
-      pub rest_left : Subs Formed ps
-      pub rest_right : Subs Formed qs
+    -- terms in both rows: the first one recovered from the second, written
+    recover_both : {t u : Part} {c d m : ℕ} (l : FirstTerm ks vs x.left t c pe) (r : FirstTerm ks vs x.right u d b.end) → x.count ≡ suc m → a.end ≡ c + upto m l.rest
+        → Subs Formed (sub l.term l.rest) → Subs Formed (sub r.term r.rest) → {out' : List ℕ} {o : ℕ} → Put out out' to o (bytes (recover_from l.term r.term))
+        → Recovering ks vs c pe a.end d b.end out₀ out' at o whole
+    unfolding Subs recover_from bytes
+    recover_both {m = m} l r k s p q w = record {
+      count = m;
+      left = l.rest;
+      right = r.rest;
+      held_left = l.behind;
+      held_right = r.behind;
+      formed_left = p.1;
+      formed_right = q.1;
+      stops = s;
+      done = x.done ++ bytes (recover_from l.term r.term);
+      put = put_then x.put w;
+      same =
+          x.same
+          ∙ ap (λ (y : Parts). x.done ++ part_bytes (recover_row y x.count x.right)) l.is
+          ∙ ap (λ (y : Parts). x.done ++ part_bytes (recover_row (sub l.term l.rest) x.count y)) r.is
+          ∙ ap (λ (n : ℕ). x.done ++ part_bytes (recover_row (sub l.term l.rest) n (sub r.term r.rest))) k
+          ∙ sym (append_assoc x.done (bytes (recover_from l.term r.term)) (part_bytes (recover_row l.rest m r.rest)));
+    }
 
-    pub both_terms : (get_or ks i 0 ≡ 0 → ⊥) → ((get_or ks i 0 ≡ 0 → ⊥) → get_or ks j 0 ≡ 0 → ⊥) → Both
-    unfolding Subs
-    both_terms p q =
-        let a = row_sub ks vs i pe x.left x.held_left (omega arith) p in
-        let b = row_sub ks vs j qe x.right x.held_right hj (q p) in
-        let c = some_count x.count x.stops in
-        let f = subst (λ (l : Parts). Subs Formed l) a.2 x.formed_left in
-        let g = subst (λ (l : Parts). Subs Formed l) b.2 x.formed_right in
-        record {
-          t = a.0;
-          u = b.0;
-          ps = a.1;
-          qs = b.1;
-          count = c.0;
-          counts = c.1;
-          is_left = a.2;
-          is_right = b.2;
-          row_left = subst (λ (l : Parts). HeldParts ks vs i pe l) a.2 x.held_left;
-          row_right = subst (λ (l : Parts). HeldParts ks vs j qe l) b.2 x.held_right;
-          held_left = a.3;
-          held_right = b.3;
-          formed_left = f.0;
-          formed_right = g.0;
-          rest_left = f.1;
-          rest_right = g.1;
-        }
-
-    -- the first term recovered from the second, written
-    pub recover_both : (y : Both) {n m : ℕ} → n ≡ length (items y.t) → m ≡ length (items y.u) → {out' : List ℕ} {r : ℕ}
-        → Put out out' to r (bytes (recover_from y.t y.u)) → Recovering ks vs (i + n) pe stop (j + m) qe out₀ out' at r whole
-    unfolding upto recover_from bytes
-    recover_both y {n} {m} en em w =
-        let s : stop ≡ i + upto (suc y.count) (sub y.t y.ps) = x.stops ∙ ap (λ (k : ℕ). i + upto k x.left) y.counts ∙ ap (λ (l : Parts). i + upto (suc y.count) l) y.is_left in
-        let hl = (held_sub ks vs i pe y.t y.ps y.row_left).1 in
-        let hr = (held_sub ks vs j qe y.u y.qs y.row_right).1 in
-        let z = bytes (recover_from y.t y.u) in
-        record {
-          count = y.count;
-          left = y.ps;
-          right = y.qs;
-          held_left = subst (λ (k : ℕ). HeldParts ks vs (i + k) pe y.ps) (sym en) hl;
-          held_right = subst (λ (k : ℕ). HeldParts ks vs (j + k) qe y.qs) (sym em) hr;
-          formed_left = y.rest_left;
-          formed_right = y.rest_right;
-          stops = omega arith;
-          done = x.done ++ z;
-          put = put_then x.put w;
-          same =
-              x.same
-              ∙ ap (λ (l : Parts). x.done ++ part_bytes (recover_row l x.count x.right)) y.is_left
-              ∙ ap (λ (l : Parts). x.done ++ part_bytes (recover_row (sub y.t y.ps) x.count l)) y.is_right
-              ∙ ap (λ (k : ℕ). x.done ++ part_bytes (recover_row (sub y.t y.ps) k (sub y.u y.qs))) y.counts
-              ∙ sym (append_assoc x.done z (part_bytes (recover_row y.ps y.count y.qs)));
-        }
-
-  -- rows that part here: the first stays as it is
-  pub stays_parted : stop ≤ pe → Parted ks i stop j qe → recover_row x.left x.count x.right ≡ x.left
-  stays_parted hp (no_left h) = stays_no_left h
-  stays_parted hp (no_right h k) = stays_no_right k
-  stays_parted hp (number_term h k p q) = stays_numbers h hp k p q
-  stays_parted hp (term_number h k p q) = stays_terms h hp k p q
-
--- what `skip` tells of the term that comes next
-pub told_row : {ks vs : List ℕ} {i e n : ℕ} {t : Term} {ps : Parts} → HeldParts ks vs i e (sub t ps)
-    → (1 ≤ span (get_or ks i 0) (get_or vs i 0) → span (get_or ks i 0) (get_or vs i 0) ≤ e - i → n ≡ span (get_or ks i 0) (get_or vs i 0)) → n ≡ length (items t)
-told_row {ks} {vs} {i} {e} {n} {t} {ps} h k =
-    let q = held_sub ks vs i e t ps h in
-    let b = row_long ks vs i e t ps h in
-    let s = span_held ks vs i t q.0 in
-    k (omega (arith, items_some t)) (omega arith) ∙ s
+    pub recover_terms : {t u : Part} {c d : ℕ} → TermFirst ks vs a t c → TermFirst ks vs b u d → {out' : List ℕ} {r : ℕ}
+        → ((v w : Term) → HeldParts ks vs t.from t.end (sub v end) → HeldParts ks vs u.from u.end (sub w end) → Formed v → Formed w
+        → Put out out' to r (bytes (recover_from v w)))
+        → Recovering ks vs c pe a.end d b.end out₀ out' at r whole
+    unfolding upto Subs
+    recover_terms {t} {u} {c} {d} f g w =
+        let k = some_count x.left (omega (arith, f.0, f.1, f.2)) x.count x.stops in
+        let s : (v : Term) (q : Parts) → x.left ≡ sub v q → a.end ≡ a.from + (length (items v) + upto k.0 q)
+        = λ v q e. x.stops ∙ ap (λ (m : ℕ). a.from + upto m x.left) k.1 ∙ ap (λ (y : Parts). a.from + upto (suc k.0) y) e in
+        let l = first_term x.held_left hp (λ v q e. omega (arith, s v q e)) f in
+        let r = row_term x.held_right g in
+        let p = subst (λ (y : Parts). Subs Formed y) l.is x.formed_left in
+        let q = subst (λ (y : Parts). Subs Formed y) r.is x.formed_right in
+        recover_both l r k.1 (omega (arith, s l.term l.rest l.is, l.wide, f.0, f.4)) p q (w l.term r.term l.held r.held p.0 q.0)
 
 -- ---- recovering from itself changes nothing
 

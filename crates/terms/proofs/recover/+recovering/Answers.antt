@@ -1,50 +1,62 @@
 -- `recover_row`. The loop's invariant is `RecoverContract`: what was written, and what the rest of the rows gives.
 -- `recover_term`: the holes of either term, or the head and the rows.
-use Rattle.terms.proofs.Laws.Held.FlatLaws.{held_one}
-use Rattle.terms.proofs.Laws.Replacing.RecoverLaws.{recover_stays, stays_parted, recover_number, both_terms, recover_both, told_row, put_one, put_then, put_same, tag_told, whole_bytes, stays_first, stays_not, hole_left, entered_term, head_byte, row_any, row_formed}
+use Prim.Native.Nat.{◌+◌, ◌≤◌, ◌<◌}
+use Rattle.terms.proofs.Laws.Held.PairLaws.{over_pair}
+use Rattle.terms.proofs.Laws.Replacing.RecoverLaws.{recover_stays, stays_no_right, recover_unlike, recover_number, recover_terms, put_one, put_then, put_same, tag_told, whole_bytes, stays_first, stays_not, hole_left, entered_term, head_byte, row_any, row_formed}
 use Rattle.terms.specs.Comparison.{recovery}
 use Rattle.terms.specs.Recovery.{reach}
 use Rattle.terms.specs.Term.{bytes}
 use Rattle.terms.specs.Tree.{row}
-use mathlib.Core.Path.{sym, ◌∙◌, ap}
+use mathlib.Core.Path.{◌≡◌, sym, ◌∙◌, ap}
 use native.Mathlib.Omega.{arith}
 use Rattle.terms.proofs.recover.+recovering.Goals as goal
 
-pub recover_row-loop-y-preserved-then-word-eq0 : goal.recover_row-loop-y-preserved-then-word-eq0
-recover_row-loop-y-preserved-then-word-eq0 t c =
-    let i = c.loop-y.invariant in
-    let on = c.paired.ensures.on c.loop-y-test.true in
-    let zero = sym c.word.ensures ∙ c.if-word-eq0.true in (
-      omega (arith, on, i.0, i.1, i.2, c.requires.places),
-      omega (arith, on, i.0, i.1, i.2, c.requires.places),
-      omega (arith, on, c.put_run-to.ensures.bound, i.0, i.1, i.2),
+pub recover_row-loop-step-preserved-in-Numbers : goal.recover_row-loop-step-preserved-in-Numbers
+recover_row-loop-step-preserved-in-Numbers t c =
+    let i = c.loop-step.invariant in
+    let m = over_pair _ _ c.next.new.self c.in-Numbers.is i.1.4 c.in-Some.ensures.steps in
+    let h : c.loop-step.step-iterator.a.from ≡ c.loop-step.rest.from = i.0.3 m.0.1.1 in
+    let q : c.loop-step.step-iterator.a.end ≤ c.args.a.end = omega (arith, i.1.0, c.requires.places) in
+    let n : c.next.new.self.a.from ≡ c.in-Numbers.i + 1 = omega (arith, m.0.0.0, m.0.0.3) in (
+      (omega (arith, h, i.0.0, m.0.0.0), omega (arith, m.0.0.0, m.0.0.1, q), i.0.2, λ l. n),
+      (omega (arith, m.1, i.1.0), omega (arith, m.2, i.1.1), omega (arith, m.0.1.3, i.1.2), omega (arith, m.0.1.1, m.0.1.3, m.2), m.3),
+      omega (arith, c.put_run-to.ensures.bound, i.2, h, m.0.0.0, m.0.1.3),
       λ k ps qs hp hq fp fq e.
-          recover_number (i.3 k ps qs hp hq fp fq e) on.left i.0.2 on.right zero (on.number zero) c.put_run-to.ensures.next
-          c.put_run-to.ensures.put,
+          rw (m.1, m.2, ← n) (recover_number (rw (sym h) at i.3 k ps qs hp hq fp fq e) q m.0.0 m.0.1 c.put_run-to.ensures.next c.put_run-to.ensures.put),
     )
 
-pub recover_row-loop-y-preserved : goal.recover_row-loop-y-preserved
-recover_row-loop-y-preserved t c =
-    let i = c.loop-y.invariant in
-    let on = c.paired.ensures.on c.loop-y-test.true in (
-      omega (arith, on, i.0, i.1, i.2, c.requires.places, c.skip-n.ensures.some.0, c.skip-n.ensures.some.1),
-      omega (arith, on, i.0, i.1, i.2, c.requires.places, c.skip-m.ensures.some.0, c.skip-m.ensures.some.1),
-      omega (arith, on, i.0, i.1, i.2, c.recover_term-to.ensures.bound, c.skip-n.ensures.some.0, c.skip-m.ensures.some.0),
+pub recover_row-loop-step-preserved-in-Terms : goal.recover_row-loop-step-preserved-in-Terms
+recover_row-loop-step-preserved-in-Terms t c =
+    let i = c.loop-step.invariant in
+    let m = over_pair _ _ c.next.new.self c.in-Terms.is i.1.4 c.in-Some.ensures.steps in
+    let b : c.loop-step.step-iterator.b.from < c.loop-step.step-iterator.b.end = omega (arith, m.0.1.0, m.0.1.1, m.0.1.2) in
+    let h : c.loop-step.step-iterator.a.from ≡ c.loop-step.rest.from = i.0.3 b in
+    let q : c.loop-step.step-iterator.a.end ≤ c.args.a.end = omega (arith, i.1.0, c.requires.places) in (
+      (omega (arith, h, i.0.0, m.0.0.0, m.0.0.1), omega (arith, m.0.0.2, q), i.0.2, λ l. m.0.0.4),
+      (omega (arith, m.1, i.1.0), omega (arith, m.2, i.1.1), omega (arith, m.0.1.4, m.0.1.0, m.0.1.1, i.1.2), omega (arith, m.0.1.4, m.0.1.2, m.2), m.3),
+      omega (arith, c.recover_term-to.ensures.bound, i.2, h, m.0.0.0, m.0.1.0, m.0.1.4),
       λ k ps qs hp hq fp fq e.
-          let x = i.3 k ps qs hp hq fp fq e in
-          let y = both_terms x on.left i.0.2 on.right (λ z. c.if-word-eq0.false (c.word.ensures ∙ z)) on.term in
-          let n = told_row y.row_left c.skip-n.ensures.span in
-          let m = told_row y.row_right c.skip-m.ensures.span in
-          recover_both x on.left i.0.2 on.right y n m
-          (c.recover_term-to.ensures.put y.t y.u (held_one _ _ _ _ y.t y.held_left n) (held_one _ _ _ _ y.u y.held_right m) y.formed_left y.formed_right),
+          rw (m.1, m.2, ← m.0.0.4) (recover_terms (rw (sym h) at i.3 k ps qs hp hq fp fq e) q m.0.0 m.0.1 c.recover_term-to.ensures.put),
+    )
+
+pub recover_row-loop-step-preserved : goal.recover_row-loop-step-preserved
+recover_row-loop-step-preserved t c =
+    let i = c.loop-step.invariant in
+    let m = over_pair _ _ c.next.new.self c.in-Apart.is i.1.4 c.in-Some.ensures.steps in
+    let q : c.loop-step.step-iterator.a.end ≤ c.args.a.end = omega (arith, i.1.0, c.requires.places) in (
+      (i.0.0, i.0.1, i.0.2, λ l. absurd (omega (arith, m.0.2, m.2, l))),
+      (omega (arith, m.1, i.1.0), omega (arith, m.2, i.1.1), omega (arith, m.0.2, i.1.2, i.1.3), omega (arith, m.0.2, m.2), m.3),
+      omega (arith, i.2, m.0.2, i.1.3),
+      λ k ps qs hp hq fp fq e.
+          rw (m.1, m.2, m.0.2) (recover_unlike (i.3 k ps qs hp hq fp fq e) q i.0.3 m.0.0),
     )
 
 pub recover_row-returns-clause-put : goal.recover_row-returns-clause-put
 recover_row-returns-clause-put t c =
+    let i = c.loop-step.invariant in
     λ k ps qs hp hq fp fq e.
-    let i = c.loop-y.invariant in
     let x = i.3 k ps qs hp hq fp fq e in
-    recover_stays x (stays_parted x i.0.2 (c.paired.ensures.off c.loop-y-test.false)) c.put_run.ensures.next c.put_run.ensures.put
+    recover_stays x (stays_no_right x c.in-None.ensures.steps.0.1) (rw i.0.2 at c.put_run.ensures.next) (rw i.0.2 at c.put_run.ensures.put)
 
 pub recover_term-returns-then-stays-clause-put : goal.recover_term-returns-then-stays-clause-put
 recover_term-returns-then-stays-clause-put t c =

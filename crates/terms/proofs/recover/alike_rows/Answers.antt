@@ -1,25 +1,32 @@
-use native.Mathlib.Omega.{arith}
-use mathlib.Core.Path.{sym, ◌∙◌}
-use Rattle.terms.proofs.Laws.Replacing.RecoverLaws.{alike_parted, alike_differ, alike_numbers, alike_terms, alike_last}
+use Rattle.terms.proofs.Laws.Held.PairLaws.{over_pair}
+use Rattle.terms.proofs.Laws.Replacing.RecoverLaws.{alike_over, alike_unlike, alike_differ, alike_numbers, alike_terms}
 use Rattle.terms.proofs.recover.alike_rows.Goals as goal
 
-pub returns-then-word : goal.returns-then-word
-returns-then-word c = λ ps qs h g.
-    let y = c.paired.ensures.on c.loop-x-test.true in
-    alike_differ _ _ _ _ _ _ _ (c.loop-x.invariant.4 ps qs h g) y.left y.right (sym c.word.ensures ∙ c.if-word-eq0.true) (y.number (sym c.word.ensures ∙ c.if-word-eq0.true)) (λ z. c.if-word.true (c.word-then-word-eq0.ensures ∙ z ∙ sym c.word-then-word-eq0-2.ensures))
+pub returns-then-tokens-i : goal.returns-then-tokens-i
+returns-then-tokens-i c =
+    let i = c.loop-step.invariant in
+    let m = over_pair _ _ c.next.new.self c.in-Numbers.is i.0 c.in-Some.ensures.steps in
+    λ ps qs h g. alike_differ (i.1 ps qs h g) m.0.0 m.0.1 c.if-tokens-i.true
 
-pub loop-x-preserved-then-word-eq0 : goal.loop-x-preserved-then-word-eq0
-loop-x-preserved-then-word-eq0 c =
-    let y = c.paired.ensures.on c.loop-x-test.true in
-    (omega arith, omega arith, omega arith, omega arith, λ ps qs h g. alike_numbers _ _ _ _ _ _ _ (c.loop-x.invariant.4 ps qs h g) y.left y.right (sym c.word.ensures ∙ c.if-word-eq0.true) (y.number (sym c.word.ensures ∙ c.if-word-eq0.true)) (sym c.word-then-word-eq0.ensures ∙ c.if-word.false ∙ c.word-then-word-eq0-2.ensures))
+pub loop-step-preserved-else-tokens-i : goal.loop-step-preserved-else-tokens-i
+loop-step-preserved-else-tokens-i c =
+    let i = c.loop-step.invariant in
+    let m = over_pair _ _ c.next.new.self c.in-Numbers.is i.0 c.in-Some.ensures.steps in
+    (m.3, λ ps qs h g. rw (m.1, m.2) (alike_numbers (i.1 ps qs h g) m.0.0 m.0.1 c.if-tokens-i.false))
 
-pub loop-x-preserved : goal.loop-x-preserved
-loop-x-preserved c =
-    let y = c.paired.ensures.on c.loop-x-test.true in
-    (omega arith, omega arith, omega arith, omega arith, λ ps qs h g. alike_terms _ _ _ _ _ _ _ (c.loop-x.invariant.4 ps qs h g) y.left y.right _ _ (λ z. c.if-word-eq0.false (c.word.ensures ∙ z)) (y.term (λ z. c.if-word-eq0.false (c.word.ensures ∙ z))) c.skip.ensures.span c.skip-else-word-eq0.ensures.span)
+pub loop-step-preserved : goal.loop-step-preserved
+loop-step-preserved c =
+    let i = c.loop-step.invariant in
+    let m = over_pair _ _ c.next.new.self c.in-Terms.is i.0 c.in-Some.ensures.steps in
+    (m.3, λ ps qs h g. rw (m.1, m.2) (alike_terms (i.1 ps qs h g) m.0.0 m.0.1))
 
-pub returns-then-x : goal.returns-then-x
-returns-then-x c = λ ps qs h g. alike_parted _ _ _ _ _ _ _ (c.loop-x.invariant.4 ps qs h g) (c.paired.ensures.off c.loop-x-test.false) c.if-x.true
+pub returns-in-Apart : goal.returns-in-Apart
+returns-in-Apart c =
+    let i = c.loop-step.invariant in
+    let m = over_pair _ _ c.next.new.self c.in-Apart.is i.0 c.in-Some.ensures.steps in
+    λ ps qs h g. alike_unlike (i.1 ps qs h g) m.0.0
 
 pub returns : goal.returns
-returns c = λ ps qs h g. alike_last _ _ _ _ _ _ _ (c.loop-x.invariant.4 ps qs h g) c.if-x.false
+returns c =
+    let m = c.in-None.ensures.steps.0 in
+    λ ps qs h g. alike_over (c.loop-step.invariant.1 ps qs h g) m.0 m.1
