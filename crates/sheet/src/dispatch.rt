@@ -254,7 +254,7 @@ fn serve_with(
         (areas a.new b.new c.new d.new) (output_at out.old to) (written_to out.new result.next) }
 {
     let n = x.standing();
-    let r = read_order(s, a, b, rules, n.issued as u64, n.top, n.kept, n.nodes);
+    let r = read_order(s, a, b, rules, n);
     match r {
         Ok(o) => {
             let w = answer_order(x, half, s, a, b, c, d, rules, o, out, to);

@@ -1,10 +1,19 @@
 // Numbers of the byte form: base 128, low group first, shortest form only.
-ghost use Rattle.std.specs.Prelude.{◌≡◌, ◌+◌, ◌≤◌, length};
+ghost use Rattle.std.specs.Prelude.{◌≡◌, ◌+◌, ◌≤◌, ◌<◌, length, get_or, MatchResult};
+ghost use Rattle.terms.specs.declared.Refusal.TheVariants.{Length};
 ghost use Rattle.std.proofs.lemmas.List.Edits.{sets};
 ghost use Rattle.terms.specs.Result.{said};
 ghost use Rattle.terms.specs.Number.{number, shortest};
 
 use super::Refusal;
+
+// The byte at a position of s.
+#[inline(always)]
+pub fn byte_at(s: &[u8], at: usize) -> Result<u8, Refusal>
+    ensures { MatchResult result (λ b. (at < length s.now) × (b ≡ get_or s.now at 0)) (λ e. (length s.now ≤ at) × (e ≡ Length)) }
+{
+    s.get(at).copied().ok_or(Refusal::Length)
+}
 
 // The number at a position of s, at most `most`, group by group.
 fn read_groups(s: &[u8], at: usize, most: u64) -> Result<(u64, usize), Refusal>
@@ -18,10 +27,8 @@ fn read_groups(s: &[u8], at: usize, most: u64) -> Result<(u64, usize), Refusal>
             return Err(Refusal::Number);
         }
         if b < 128 {
-            if b == 0 {
-                if 1 < w {
-                    return Err(Refusal::Number);
-                }
+            if b == 0 && 1 < w {
+                return Err(Refusal::Number);
             }
             return Ok((v + b * w, i + 1));
         }
@@ -35,10 +42,7 @@ fn read_groups(s: &[u8], at: usize, most: u64) -> Result<(u64, usize), Refusal>
 pub fn read_number(s: &[u8], at: usize, most: u64) -> Result<(u64, usize), Refusal>
     ensures { said result ≡ number most s.now at }
 {
-    if s.len() <= at {
-        return Err(Refusal::Length);
-    }
-    let b = u64::from(s[at]);
+    let b = u64::from(byte_at(s, at)?);
     if 128 <= b {
         return read_groups(s, at, most);
     }
@@ -56,8 +60,8 @@ pub fn number_len(value: u64) -> usize
     let mut n: usize = 1;
     // What is left is divided; how many groups there are is not known.
     while 128 <= v {
-        v = v / 128;
-        n = n + 1;
+        v /= 128;
+        n += 1;
     }
     n
 }
@@ -73,8 +77,8 @@ pub fn write_number(out: &mut [u8], at: usize, value: u64) -> usize
     // What is left is divided; how many groups there are is not known.
     while 128 <= v {
         out[i] = (v % 128 + 128) as u8;
-        v = v / 128;
-        i = i + 1;
+        v /= 128;
+        i += 1;
     }
     out[i] = (v % 256) as u8;
     i + 1

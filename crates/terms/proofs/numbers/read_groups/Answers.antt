@@ -6,7 +6,7 @@ use mathlib.Core.Path.{sym, ◌∙◌}
 use lib.ListN.{drop}
 use Rattle.terms.specs.Number.{groups, number}
 use Rattle.terms.proofs.Laws.Numbers.NumberStepLaws.{over, within, parts, step_over, step_more, step_padded, step_zero, step_last, at_byte, at-end}
-use Rattle.terms.proofs.numbers.read_groups.Goals.{then-b-eq0+else-w-gt1, else-b-eq0}
+use Rattle.terms.proofs.numbers.read_groups.Goals.{else-b-eq0-via-then-b-eq0+else-w-gt1, else-b-eq0-via-else-b-eq0}
 use Rattle.terms.proofs.numbers.read_groups.Goals as goal
 use Rattle.terms.proofs.numbers.read_groups.Goals.{After-from-b, Else-most-v}
 
@@ -40,9 +40,9 @@ pub returns-then-b-lt128 : goal.returns-then-b-lt128
 returns-then-b-lt128 c =
     let l = c.loop-i in
     let b = c.from-b.result in
-    elim c.if-b-eq0.branch [
-      | then-b-eq0+else-w-gt1 w ↦ sym (step_zero _ l.v l.w l.i b _ (within_most (goal.at.returns-then-b-lt128 c).Else-most-v) w.if-b-eq0.true w.if-w-gt1.false) ∙ byte-here (goal.at.returns-then-b-lt128 c).After-from-b
-      | else-b-eq0 w ↦ sym (step_last _ l.v l.w l.i b _ (within_most (goal.at.returns-then-b-lt128 c).Else-most-v) c.if-b-lt128.true w.if-b-eq0.false) ∙ byte-here (goal.at.returns-then-b-lt128 c).After-from-b
+    elim c.else-b-eq0.branch [
+      | else-b-eq0-via-then-b-eq0+else-w-gt1 w ↦ sym (step_zero _ l.v l.w l.i b _ (within_most (goal.at.returns-then-b-lt128 c).Else-most-v) w.if-b-eq0.true w.if-w-gt1.false) ∙ byte-here (goal.at.returns-then-b-lt128 c).After-from-b
+      | else-b-eq0-via-else-b-eq0 w ↦ sym (step_last _ l.v l.w l.i b _ (within_most (goal.at.returns-then-b-lt128 c).Else-most-v) c.if-b-lt128.true w.if-b-eq0.false) ∙ byte-here (goal.at.returns-then-b-lt128 c).After-from-b
     ]
 
 pub loop-i-preserved : goal.loop-i-preserved

@@ -1,10 +1,11 @@
 -- `read_number`: a number of one group, and any other by its groups.
 use native.Mathlib.Omega.{arith}
-use mathlib.Core.Path.{◌≡◌, sym, ◌∙◌}
+use mathlib.Core.Path.{◌≡◌, refl, sym, ◌∙◌}
 use mathlib.Core.List.{◌∷◌}
 use Prim.Native.Nat.{◌+◌}
 use lib.ListN.{drop}
 use Rattle.terms.specs.Number.{groups, number}
+use Rattle.terms.proofs.Laws.General.Options.{handed_on}
 use Rattle.terms.proofs.Laws.Numbers.NumberStepLaws.{step_over, one_group, at_byte, at-end}
 use Rattle.terms.proofs.numbers.read_number.Goals as goal
 use Rattle.terms.proofs.numbers.read_number.Goals.{After-from-b}
@@ -13,10 +14,14 @@ use Rattle.terms.proofs.numbers.read_number.Goals.{After-from-b}
 byte-here : (c : After-from-b) →
     let a = c.args in
     groups a.most 0 1 a.at (c.from-b.result ∷ drop (a.at + 1) a.s.now) ≡ number a.most a.s.now a.at
-byte-here c = rw (c.from-b.ensures, ← at_byte _ _ c.if-s-at.false)
+byte-here c =
+    let b = c.in_ok-byte_at.ensures {u = tt} in
+    rw (c.from-b.ensures, b.1, ← at_byte _ _ b.0) refl
 
-pub returns-then-s-at : goal.returns-then-s-at
-returns-then-s-at c = sym (at-end _ _ _ _ _ c.if-s-at.true)
+pub returns-in_err-byte_at : goal.returns-in_err-byte_at
+returns-in_err-byte_at c =
+    let e = c.in_err-byte_at.ensures {u = tt} in
+    rw (handed_on _ _ c.from_residual.ensures.1, e.1) (sym (at-end _ _ _ _ _ e.0))
 
 pub returns-then-most-b : goal.returns-then-most-b
 returns-then-most-b c =
