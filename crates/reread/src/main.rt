@@ -14,8 +14,8 @@ mod input;
 use frames::all_are;
 use input::Input;
 use terms::{
-    PartKind, Place, Refusal, clear_tokens, number_len, part_at, read_number, run_len,
-    write_number, write_run,
+    LEVELS, NODES, ORDINARY, PartKind, Place, Refusal, clear_tokens, number_len, part_at,
+    read_number, run_len, write_number, write_run,
 };
 
 // What a frame holds: for terms the nodes, the tokens and the first token to write.
@@ -28,12 +28,6 @@ pub enum Frame {
         first: usize,
     },
 }
-
-const MOST: u64 = 4294967295;
-
-const LEVELS: u32 = 200;
-
-const NODES: usize = 2048;
 
 // Whether a term that was read is all of the bytes, and its nodes and its tokens have space.
 fn fits(q: Place, size: usize, first: usize, kinds: usize, vals: usize) -> Result<(), Refusal>
@@ -85,7 +79,7 @@ fn term_frame(
     ensures { Sound (length kinds.new) (length vals.new) result }
 {
     let s = input.bytes;
-    let (issued, at) = read_number(s, 1, MOST)?;
+    let (issued, at) = read_number(s, 1, ORDINARY)?;
     let mut place = Place {
         at,
         top: 0,
@@ -102,7 +96,7 @@ fn term_frame(
 
 // The number of a frame, which is all of its bytes.
 fn whole_number(s: &[u8]) -> Result<u64, Refusal> {
-    let (v, next) = read_number(s, 1, MOST)?;
+    let (v, next) = read_number(s, 1, ORDINARY)?;
     if next < s.len() {
         return Err(Refusal::Length);
     }
@@ -247,7 +241,7 @@ impl<'a> Iterator for Frames<'a> {
 
     fn next(&mut self) -> Option<Input<'a>> {
         let input = self.input.bytes;
-        let (size, from) = read_number(input, self.at, MOST).ok()?;
+        let (size, from) = read_number(input, self.at, ORDINARY).ok()?;
         if ((input.len() - from) as u64) < size {
             return None;
         }

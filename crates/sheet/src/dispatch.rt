@@ -93,7 +93,7 @@ fn serve_with(
         (areas a.new b.new records.new table.new d.new) (output_at out.old to) (written_to out.new result.next) }
 {
     let n = x.standing();
-    let r = read_order(s, a, b, rules, n.issued as u64, n.top, n.kept, n.nodes);
+    let r = read_order(s, a, b, rules, n);
     match r {
         Ok(o) => {
             let w = answer_order(x, s, a, b, records, table, d, rules, o, out, to);

@@ -1,5 +1,7 @@
 // The fields of an order, rules aside: each is read and its tokens kept. A reading function is lent the place and answers the field's spot; where it refuses,
 // the place is of no use.
+// The bytes and the place stand apart: what is lent a reader of both changed has to say that its bytes are the same, a clause for each `Ample`. `Free` speaks of the areas
+// besides, which are lent changed, so that no type can hold it.
 ghost use Rattle.std.specs.Prelude.{◌≡◌, List, ℕ, ◌≤◌, length};
 ghost use Rattle.solver.specs.TermTypes.{Rule};
 ghost use Rattle.solver.specs.Terms.Tokens.{area};
@@ -11,12 +13,9 @@ ghost use Rattle.sheet.specs.Words.FieldsContract.{field_of, NumberRead};
 use super::layout::FieldReader;
 use super::{FieldSpot, Sort};
 use solver::{
-    Listing, Parameters, PartKind, Place, Refusal, Rule, keep_list, part_at, read_number,
+    LEVELS, Listing, ORDINARY, Parameters, PartKind, Place, Refusal, Rule, byte_at, keep_list,
+    part_at, read_number,
 };
-
-const ORDINARY: u64 = 4294967295;
-
-const LEVELS: u32 = 200;
 
 // A number of 32 bits; where it is refused the place stays.
 pub fn next_number(s: &[u8], place: &mut Place) -> Result<u64, Refusal>
@@ -33,8 +32,7 @@ fn number_spot(value: u64) -> FieldSpot
 {
     FieldSpot {
         value,
-        place: 0,
-        end: 0,
+        ..FieldSpot::default()
     }
 }
 
@@ -52,15 +50,11 @@ fn code_field(s: &[u8], place: &mut Place) -> Result<FieldSpot, Refusal>
     requires { place.old.at ≤ length s.now }
     ensures { ReadOnly s.now (field s.now 0 code place.old.at) place.old (field_of result place.new) }
 {
-    let i = place.at;
-    if s.len() <= i {
-        return Err(Refusal::Length);
-    }
-    let c = s[i];
+    let c = byte_at(s, place.at)?;
     if 32 <= c {
         return Err(Refusal::Code);
     }
-    place.at = i + 1;
+    place.at += 1;
     Ok(number_spot(u64::from(c)))
 }
 
@@ -69,12 +63,8 @@ fn bound_field(s: &[u8], place: &mut Place) -> Result<FieldSpot, Refusal>
     requires { place.old.at ≤ length s.now }
     ensures { ReadOnly s.now (field s.now 0 bound place.old.at) place.old (field_of result place.new) }
 {
-    let i = place.at;
-    if s.len() <= i {
-        return Err(Refusal::Length);
-    }
-    let sign = usize::from(s[i]);
-    place.at = i + 1;
+    let sign = usize::from(byte_at(s, place.at)?);
+    place.at += 1;
     let high = next_number(s, place)?;
     let low = next_number(s, place)?;
     Ok(FieldSpot {

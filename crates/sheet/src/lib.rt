@@ -115,7 +115,7 @@ pub struct Posed<'a> {
 }
 
 // An order for a variable: that of a site and a slot (order 0), a number variable of a site with its request (1 and 21), a hole of a site (2).
-#[derive(Clone, Copy)]
+#[derive(Clone, Copy, Debug, PartialEq, Eq)]
 pub enum VariableOrder {
     Slot(u32, u32),
     Number(u32, NumberRequest),
@@ -140,7 +140,7 @@ impl From<VariableOrder> for Site {
 
 // An order without terms: for a variable (orders 0, 1, 2 and 21), the defaults of numbers (6) or of deferred variables (7), the revision (8); or that no
 // type lies within its bounds: refusal 13.
-#[derive(Clone, Copy)]
+#[derive(Clone, Copy, Debug, PartialEq, Eq)]
 pub enum TermlessOrder {
     Variable(VariableOrder),
     Defaults(Defaulted),

@@ -17,7 +17,7 @@ use super::layout::{FieldReader, read_layout};
 use super::order_table::{known_of, layout_of};
 use super::rules::read_rules;
 use super::{FieldSpot, Order, OrderKind, Sort};
-use solver::{Place, Refusal, Rule, clear_tokens};
+use solver::{Place, Refusal, Rule, Standing, byte_at, clear_tokens};
 
 // A count and so many rules.
 fn rules_field(
@@ -72,28 +72,25 @@ fn read_fields(
     vals: &mut [u32],
     rules: &mut [Rule],
     kind: OrderKind,
-    issued: u64,
-    first: usize,
-    kept: usize,
-    limit: usize,
+    x: Standing,
 ) -> Result<Order, Refusal>
-    requires room { OrderRoom s.now kinds.old vals.old rules.old first kept limit }
+    requires room { OrderRoom s.now kinds.old vals.old rules.old x.top x.kept x.nodes }
     requires tagged { 0 < length s.now }
     requires kinded { row_in table (get_or s.now 0 0) ≡ some (kind_row kind) }
-    ensures { OrderDone s.now issued first kept limit (area kinds.old vals.old)
+    ensures { OrderDone s.now x.issued x.top x.kept x.nodes (area kinds.old vals.old)
         (area kinds.new vals.new) rules.new result }
 {
     let mut place = Place {
         at: 1,
-        top: first,
-        nodes: kept,
-        limit,
+        top: x.top,
+        nodes: x.kept,
+        limit: x.nodes,
     };
     let sorts = layout_of(kind);
-    let known = known_of(kind, issued);
+    let known = known_of(kind, x.issued as u64);
     let fields = read_layout::<AnyField>(s, kinds, vals, rules, &mut place, sorts, known)?;
     if place.at < s.len() {
-        clear_tokens(kinds, vals, first, place.top - first);
+        clear_tokens(kinds, vals, x.top, place.top - x.top);
         return Err(Refusal::Length);
     }
     Ok(Order {
@@ -104,27 +101,21 @@ fn read_fields(
     })
 }
 
-// Reads an order, which is all of `s`. Its tokens stand from `top` on where its nodes with those `kept` are within the limit, and its rules in `rules`.
-// On a refusal nothing of it remains in the areas.
+// Reads an order, which is all of `s`, by the counters of the session. Its tokens stand behind the session's where its nodes with those kept are within the limit,
+// and its rules in `rules`. On a refusal nothing of it remains in the areas.
 pub fn read_order(
     s: &[u8],
     kinds: &mut [u32],
     vals: &mut [u32],
     rules: &mut [Rule],
-    issued: u64,
-    top: usize,
-    kept: usize,
-    limit: usize,
+    x: Standing,
 ) -> Result<Order, Refusal>
-    requires { OrderRoom s.now kinds.old vals.old rules.old top kept limit }
-    ensures { OrderDone s.now issued top kept limit (area kinds.old vals.old)
+    requires { OrderRoom s.now kinds.old vals.old rules.old x.top x.kept x.nodes }
+    ensures { OrderDone s.now x.issued x.top x.kept x.nodes (area kinds.old vals.old)
         (area kinds.new vals.new) rules.new result }
 {
-    if s.len() == 0 {
-        return Err(Refusal::Length);
-    }
-    let kind = OrderKind::try_from(s[0])?;
-    read_fields(s, kinds, vals, rules, kind, issued, top, kept, limit)
+    let kind = OrderKind::try_from(byte_at(s, 0)?)?;
+    read_fields(s, kinds, vals, rules, kind, x)
 }
 
 // Clears the tokens of an order that was read from `top` on.

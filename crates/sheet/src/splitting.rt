@@ -6,13 +6,13 @@ ghost use Rattle.sheet.specs.Entry.{framed_part};
 ghost use Rattle.sheet.specs.Words.SplittingContract.{Passes};
 
 use super::Reason;
-use solver::read_number;
+use solver::{ORDINARY, read_number};
 
 // Where the order whose length stands at a position lies, its first byte and its size; nothing where that length is faulty.
 fn next_order(s: &[u8], at: usize) -> Option<(usize, usize)>
     ensures { framed_part s.now result ≡ next_order s.now at }
 {
-    let (size, from) = read_number(s, at, 4294967295).ok()?;
+    let (size, from) = read_number(s, at, ORDINARY).ok()?;
     if ((s.len() - from) as u64) < size {
         return None;
     }

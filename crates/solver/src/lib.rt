@@ -24,10 +24,11 @@ pub use substitution::{context, family, instantiation, self_only};
 
 // Functions and types of the terms that are handed on to the sheet, which names this crate alone.
 pub use terms::{
-    Binders, Listing, Parameter, Parameters, PartKind, Pass, Place, Question, Ready, Refusal,
-    Rewriter, Rule, Tokens, Unfinished, ask, byte_at, can_weaken_to, clear_tokens, conflicts_with,
-    keep_list, normalise, number_len, part_at, read_number, recovered_len, satisfies,
-    satisfies_for, with_associated_types, write_normalised, write_number, write_recovered,
+    Binders, LEVELS, Listing, ORDINARY, Parameter, Parameters, PartKind, Pass, Place, Question,
+    Ready, Refusal, Rewriter, Rule, Tokens, Unfinished, ask, byte_at, can_weaken_to, clear_tokens,
+    conflicts_with, keep_list, normalise, number_len, part_at, read_number, recovered_len,
+    satisfies, satisfies_for, with_associated_types, write_normalised, write_number,
+    write_recovered,
 };
 
 // A run of tokens: len of them, from at on.
@@ -90,21 +91,21 @@ pub struct Standing {
 }
 
 // The place of a variable: a slot of a site, or a hole.
-#[derive(Clone, Copy)]
+#[derive(Clone, Copy, Debug, PartialEq, Eq)]
 pub enum Site {
     Slot(u32, u32),
     Hole(u32),
 }
 
 // What is resolved: the term that follows the session's tokens, or a variable.
-#[derive(Clone, Copy)]
+#[derive(Clone, Copy, Debug, PartialEq, Eq)]
 pub enum Subject {
     Follows,
     Id(u32),
 }
 
 // Where resolving begins: at the term of a place, with so many bindings left to follow; or at a variable that stands for itself.
-#[derive(Clone, Copy)]
+#[derive(Clone, Copy, Debug, PartialEq, Eq)]
 pub enum Start {
     Begins(usize, usize),
     Free(u32),
@@ -132,7 +133,7 @@ pub struct Builtin {
 }
 
 // What is requested of a number variable, by the word that the table has for it.
-#[derive(Clone, Copy)]
+#[derive(Clone, Copy, Debug, PartialEq, Eq)]
 pub struct NumberRequest {
     pub word: u32,
     ghost formed: { RequestWord word },

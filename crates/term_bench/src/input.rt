@@ -1,7 +1,7 @@
 // What standard input holds.
 ghost use Rattle.std.specs.Prelude.{◌<◌, length};
 
-// Bytes of the input, which are few: `keep_term` asks that there is a number of 32 bits for each.
+// Bytes of the input, which are few: `part_at` asks that there is a number of 32 bits for each.
 #[derive(Clone, Copy)]
 pub struct Input<'a> {
     pub bytes: &'a [u8],

@@ -8,11 +8,7 @@ mod input;
 
 use frames::number_at;
 use input::{Input, Mode};
-use terms::{Place, clear_tokens, keep_term, run_len, write_run};
-
-const LEVELS: u32 = 200;
-
-const NODES: usize = 2048;
+use terms::{LEVELS, NODES, PartKind, Place, clear_tokens, part_at, run_len, write_run};
 
 // Reads the term. Returns how many tokens stand in the areas, or nothing where it is refused, or has more than there is space for.
 fn read_once(input: Input, kinds: &mut [u32], vals: &mut [u32]) -> Option<usize>
@@ -24,7 +20,16 @@ fn read_once(input: Input, kinds: &mut [u32], vals: &mut [u32]) -> Option<usize>
         nodes: 0,
         limit: NODES,
     };
-    keep_term(input.bytes, kinds, vals, &mut place, LEVELS, 0).ok()?;
+    part_at(
+        input.bytes,
+        kinds,
+        vals,
+        &mut place,
+        PartKind::Term,
+        LEVELS,
+        0,
+    )
+    .ok()?;
     if kinds.len().min(vals.len()) < place.top {
         return None;
     }

@@ -1,4 +1,4 @@
-// A term, or a bare nominal, is read and kept whole, or nothing of it remains.
+// What was read is kept whole, or nothing of it remains.
 // Kinds and values that are written are lent as two slices; the lines at the head of store.rt say why.
 ghost use Rattle.std.specs.Prelude.{◌≡◌, ◌+◌, ◌-◌, ◌^◌, ◌<◌, length, OnErr};
 ghost use Rattle.terms.specs.Words.Tokens.{area};
@@ -39,50 +39,4 @@ pub fn settle(
             Err(refusal)
         }
     }
-}
-
-// Reads a term with `levels` levels left, whose variables are below `issued`.
-pub fn keep_term(
-    s: &[u8],
-    kinds: &mut [u32],
-    vals: &mut [u32],
-    place: &mut Place,
-    levels: u32,
-    issued: u64,
-) -> Result<(), Refusal>
-    requires { Room s.now place.old }
-    ensures answer { step_of result place.new ≡ answer place.old (term s.now issued levels place.old.at) size }
-    ensures areas { area kinds.new vals.new
-        ≡ kept s.now place.old (term s.now issued levels place.old.at) size (area kinds.old vals.old) }
-    ensures room { Room s.now place.new }
-    ensures back { OnErr result (place.new ≡ place.old) }
-{
-    let first = *place;
-    let outcome = read_term(s, kinds, vals, place, levels, issued);
-    settle(kinds, vals, first, s.len() - first.at, outcome, place)
-}
-
-// `keep_term` and this differ in the reader alone, and what both do besides is `settle`; a function over either would take a closure that borrows the areas,
-// or the kind that `next_part` has.
-//
-// Reads a bare nominal, whose contents have `levels` levels left; it stands under a head with the tag 20.
-pub fn keep_nominal(
-    s: &[u8],
-    kinds: &mut [u32],
-    vals: &mut [u32],
-    place: &mut Place,
-    levels: u32,
-    issued: u64,
-) -> Result<(), Refusal>
-    requires room { Room s.now place.old }
-    requires space { place.old.top + 1 + (length s.now - place.old.at) < 2 ^ 32 }
-    ensures answer { step_of result place.new ≡ answer place.old (bare s.now issued levels place.old.at) contents }
-    ensures areas { area kinds.new vals.new
-        ≡ kept s.now place.old (bare s.now issued levels place.old.at) contents (area kinds.old vals.old) }
-    ensures room { Room s.now place.new }
-    ensures back { OnErr result (place.new ≡ place.old) }
-{
-    let first = *place;
-    let outcome = read_bare(s, kinds, vals, place, levels, issued);
-    settle(kinds, vals, first, s.len() - first.at, outcome, place)
 }

@@ -37,7 +37,6 @@ mod walking;
 mod write;
 
 pub use compare::{can_weaken_to, conflicts_with};
-pub use keep::{keep_nominal, keep_term};
 pub use lists::keep_list;
 pub use normal::{normalise, with_associated_types, write_normalised};
 pub use numbers::{byte_at, number_len, read_number, write_number};
@@ -48,7 +47,13 @@ pub use recover::{recovered_len, write_recovered};
 pub use runs::{skip, term_part};
 pub use satisfy::{satisfies, satisfies_for};
 pub use store::clear_tokens;
+pub use values::ORDINARY;
 pub use write::{run_len, token_len, write_run, write_token};
+
+// The levels that a term may have, and the nodes of the terms that are stored.
+pub const LEVELS: u32 = 200;
+
+pub const NODES: usize = 2048;
 
 // Why an order is refused: it ends early or has bytes left over; a tag, a code or a kind that is not listed; a number too large or not in its shortest
 // form; a level too many; members that do not rise; a variable that was not issued; nodes too many; variables too many; children too many.
@@ -119,6 +124,7 @@ impl From<u32> for Question {
 
 // Where reading stands: the position in the bytes, the number of the next token, and how many nodes were read. While these are at most
 // `limit`, tokens are stored; past it reading goes on without.
+// It does not hold the bytes: what is lent a `TermReader` changed has to say that its bytes are the same, a clause for each `Room` that a ghost field would save.
 #[derive(Clone, Copy)]
 pub struct Place {
     pub at: usize,
@@ -194,7 +200,7 @@ pub struct RecordRequest {
 }
 
 // What follows the tag of a plain kind: a code below `codes`, where there is one, at most two numbers, a count with as many terms, and `terms` terms.
-#[derive(Clone, Copy)]
+#[derive(Clone, Copy, Debug, PartialEq, Eq)]
 pub struct Fields {
     pub codes: Option<u32>,
     pub first: bool,
@@ -203,7 +209,8 @@ pub struct Fields {
     pub terms: u32,
 }
 
-#[derive(Clone, Copy)]
+// What follows the tag of a node.
+#[derive(Clone, Copy, Debug, PartialEq, Eq)]
 pub enum Row {
     Plain(Fields),
     Nominal,
@@ -211,7 +218,7 @@ pub enum Row {
 }
 
 // What a tag stands for.
-#[derive(Clone, Copy)]
+#[derive(Clone, Copy, Debug, PartialEq, Eq)]
 pub enum Kind {
     Variable,
     Node(Row),
@@ -259,7 +266,7 @@ pub enum Pass {
 }
 
 // What takes the place of a term: the term itself, the one at a place, or Unknown.
-#[derive(Clone, Copy)]
+#[derive(Clone, Copy, Debug, PartialEq, Eq)]
 pub enum Choice {
     Keep,
     By(usize),

@@ -7,8 +7,9 @@ ghost use Rattle.terms.specs.Words.ReaderContract.{Space, part, nodes_of};
 ghost use Rattle.terms.specs.Words.ListsContract.{one_at};
 ghost use Rattle.terms.specs.Words.Outcomes.{step_of};
 
-use super::keep::{keep_nominal, keep_term};
+use super::keep::settle;
 use super::lists::read_record;
+use super::read::{read_bare, read_term};
 use super::{PartKind, Place, RecordRequest, Refusal, TermReader};
 
 impl<'a> TermReader<'a> {
@@ -32,17 +33,19 @@ impl<'a> TermReader<'a> {
         ensures room { Room self.old.bytes.now self.new.place }
         ensures back { OnErr result (self.new.place ≡ self.old.place) }
     {
-        match wanted {
-            PartKind::Term => keep_term(self.bytes, kinds, vals, &mut self.place, levels, issued),
-            PartKind::BareNominal => keep_nominal(
-                self.bytes,
-                kinds,
-                vals,
-                &mut self.place,
-                levels,
-                issued,
-            ),
-        }
+        let (s, first) = (self.bytes, self.place);
+        let outcome = match wanted {
+            PartKind::Term => read_term(s, kinds, vals, &mut self.place, levels, issued),
+            PartKind::BareNominal => read_bare(s, kinds, vals, &mut self.place, levels, issued),
+        };
+        settle(
+            kinds,
+            vals,
+            first,
+            s.len() - first.at,
+            outcome,
+            &mut self.place,
+        )
     }
 
     // Reads a record of a list; then the reader stands after it, or where it is refused somewhere in it.

@@ -9,7 +9,7 @@ ghost use Rattle.terms.specs.Words.RowPieces.{fields};
 ghost use Rattle.terms.specs.Words.ReadContract.{Within, Room, ValueDone, TermDone, PartsDone};
 ghost use Rattle.terms.specs.Words.Outcomes.{step_of, value_of};
 
-use super::numbers::read_number;
+use super::numbers::{byte_at, read_number};
 use super::store::put_token;
 use super::{Fields, Place, Refusal};
 
@@ -24,10 +24,7 @@ fn code_at(s: &[u8], at: usize, codes: u32) -> Result<(u64, usize), Refusal>
     ensures found { said result ≡ code s.now codes at }
     ensures within { Within s.now at 255 result }
 {
-    if s.len() <= at {
-        return Err(Refusal::Length);
-    }
-    let b = s[at];
+    let b = byte_at(s, at)?;
     if u32::from(b) < codes {
         Ok((u64::from(b), at + 1))
     } else {

@@ -130,17 +130,29 @@ read_projection-returns t c =
 pub read_term-returns-then-levels-eq0 : goal.read_term-returns-then-levels-eq0
 read_term-returns-then-levels-eq0 t c = (levels_none _ _ _ _ c.if-levels-eq0.true, refl)
 
-pub read_term-returns-then-s-here : goal.read_term-returns-then-s-here
-read_term-returns-then-s-here t c = (term_end _ _ _ _ c.if-levels-eq0.false c.if-s-here.true, refl)
+pub read_term-returns-in_err-tag : goal.read_term-returns-in_err-tag
+read_term-returns-in_err-tag t c =
+    let e = c.in_err-tag.ensures {u = tt} in
+    rw (handed_on _ _ c.from_residual.ensures.1, e.1) (term_end _ _ _ _ c.if-levels-eq0.false e.0, refl)
 
 pub read_term-returns-in-Variable : goal.read_term-returns-in-Variable
-read_term-returns-in-Variable t c = rw (term_variable _ _ _ _ c.if-levels-eq0.false c.if-s-here.false (rw c.in-Variable.is at c.kind_of-kind.ensures)) c.read_variable.ensures
+read_term-returns-in-Variable t c =
+    let b = c.in_ok-tag.ensures {u = tt} in
+    rw (term_variable _ _ _ _ c.if-levels-eq0.false b.0 (rw (c.in-Variable.is, b.1) at c.kind_of.ensures)) c.read_variable.ensures
 
 pub read_term-returns-in-Unlisted : goal.read_term-returns-in-Unlisted
-read_term-returns-in-Unlisted t c = (term_unlisted _ _ _ _ c.if-levels-eq0.false c.if-s-here.false (rw c.in-Unlisted.is at c.kind_of-kind.ensures), refl)
+read_term-returns-in-Unlisted t c =
+    let b = c.in_ok-tag.ensures {u = tt} in
+    (term_unlisted _ _ _ _ c.if-levels-eq0.false b.0 (rw (c.in-Unlisted.is, b.1) at c.kind_of.ensures), refl)
 
 pub read_term-returns-in_err-read_row-in-Node : goal.read_term-returns-in_err-read_row-in-Node
-read_term-returns-in_err-read_row-in-Node t c = rw ((handed_on _ _ c.from_residual.ensures.1), term_row _ _ _ _ c.if-levels-eq0.false c.if-s-here.false _ (rw c.in-Node.is at c.kind_of-kind.ensures)) (node_done _ c.args.place.now _ _ _ _ _ (Stopped _) c.if-s-here.false c.in_err-read_row-in-Node.ensures refl)
+read_term-returns-in_err-read_row-in-Node t c =
+    let b = c.in_ok-tag.ensures {u = tt} in
+    rw (handed_on _ _ c.from_residual-in_err-read_row-in-Node.ensures.1, term_row _ _ _ _ c.if-levels-eq0.false b.0 _ (rw (c.in-Node.is, b.1) at c.kind_of.ensures))
+    (node_done _ c.args.place.now _ _ _ _ _ (Stopped _) b.0 c.in_err-read_row-in-Node.ensures refl)
 
 pub read_term-returns-in_ok-read_row-in-Node : goal.read_term-returns-in_ok-read_row-in-Node
-read_term-returns-in_ok-read_row-in-Node t c = rw (term_row _ _ _ _ c.if-levels-eq0.false c.if-s-here.false _ (rw c.in-Node.is at c.kind_of-kind.ensures)) (node_done _ c.args.place.now _ _ (area c.close_node.new.kinds c.close_node.new.vals) (get_or c.args.s.now c.args.place.now.at 0) _ (Next c.read_row.new.place) c.if-s-here.false c.in_ok-read_row-in-Node.ensures (rw c.from.ensures at c.close_node.ensures))
+read_term-returns-in_ok-read_row-in-Node t c =
+    let b = c.in_ok-tag.ensures {u = tt} in
+    rw (term_row _ _ _ _ c.if-levels-eq0.false b.0 _ (rw (c.in-Node.is, b.1) at c.kind_of.ensures))
+    (node_done _ c.args.place.now _ _ (area c.close_node.new.kinds c.close_node.new.vals) (get_or c.args.s.now c.args.place.now.at 0) _ (Next c.read_row.new.place) b.0 c.in_ok-read_row-in-Node.ensures (rw (c.from.ensures, b.1) at c.close_node.ensures))
