@@ -18,7 +18,7 @@ use super::families::admissible;
 use super::pending::{clear_pairs, push_children, put_pair, same_shape, take_pair};
 use super::reach::{occurs, recovers};
 use super::top::shallow_resolve;
-use super::{Access, Bindings, Checked, Solved, Solver, Verdict};
+use super::{Access, Bindings, Checked, Solved, Solver, Table, Verdict};
 use terms::Tokens;
 
 // Whether a token is the head of an Unknown or Error, or another is.
@@ -62,7 +62,11 @@ impl Solver {
                 count,
             };
         }
-        if !admissible(tokens, lent, m, v, q) {
+        let table = Table {
+            words: lent,
+            variables: m,
+        };
+        if !admissible(tokens, &table, v, q) {
             return Checked {
                 solver: self,
                 good: false,
