@@ -18,7 +18,7 @@ use super::families::admissible;
 use super::pending::{clear_pairs, push_children, put_pair, same_shape, take_pair};
 use super::reach::{occurs, recovers};
 use super::top::shallow_resolve;
-use super::{Access, Bindings, Checked, PairAt, Solved, Solver, Verdict};
+use super::{Access, Bindings, Checked, PairAt, Solved, Solver, Table, Verdict};
 use terms::Tokens;
 
 // Whether a token is the head of an Unknown or Error, or another is.
@@ -69,7 +69,11 @@ impl Solver {
         if recovers(&bindings, q, work) {
             return self.checked(true, count);
         }
-        if !admissible(tokens, lent, m, v, q) || occurs(&bindings, q, v, work) {
+        let read = Table {
+            words: lent,
+            variables: m,
+        };
+        if !admissible(tokens, &read, v, q) || occurs(&bindings, q, v, work) {
             return self.checked(false, count);
         }
         self.bind(tokens, table, v, q).checked(true, count)

@@ -16,7 +16,7 @@ ghost use Rattle.solver.specs.Words.MethodContract.{Shaped, Beside, Low, EndsAt,
 use super::families::{family_mask, has};
 use super::resolving::named_run;
 use super::top::shallow_resolve;
-use super::{Builtin, Defaulted, Solver};
+use super::{Builtin, Defaulted, Solver, Table};
 use std::num::NonZeroU32;
 use terms::Tokens;
 
@@ -43,30 +43,32 @@ pub fn root_of(tokens: &Tokens, bound: &[u32], most: usize, v: usize) -> Option<
     (w < bound.len()).then_some(w)
 }
 
-// The word that the default of the variable v goes by: its request's, or that of Never, if v is deferred.
-fn default_word(tables: &[u32], m: usize, v: usize, which: Defaulted) -> Option<NonZeroU32>
-    requires { (v < m) × (7 * m ≤ length tables.now) }
-    ensures { word_of result ≡ default_word which m tables.now v }
-{
-    match which {
-        Defaulted::Requested => NonZeroU32::new(tables[m + v]),
-        Defaulted::Deferred => {
-            if tables[5 * m + v] == 0 {
-                return None;
+impl Table<'_> {
+    // The word that the default of the variable v goes by: its request's, or that of Never, if v is deferred.
+    fn default_word(&self, v: usize, which: Defaulted) -> Option<NonZeroU32>
+        requires { v < self.now.variables }
+        ensures { word_of result ≡ default_word which self.now.variables self.now.words.now v }
+    {
+        match which {
+            Defaulted::Requested => NonZeroU32::new(self.words[self.variables + v]),
+            Defaulted::Deferred => {
+                if self.words[5 * self.variables + v] == 0 {
+                    return None;
+                }
+                NonZeroU32::new(11)
             }
-            NonZeroU32::new(11)
         }
     }
-}
 
-// The word at the end w of its chain: for Never it does not count.
-fn end_word(tables: &[u32], m: usize, w: usize, which: Defaulted) -> Option<NonZeroU32>
-    requires { (w < m) × (7 * m ≤ length tables.now) }
-    ensures { word_of result ≡ end_word which m tables.now w }
-{
-    match which {
-        Defaulted::Requested => NonZeroU32::new(tables[m + w]),
-        Defaulted::Deferred => None,
+    // The word at the end w of its chain: for Never it does not count.
+    fn end_word(&self, w: usize, which: Defaulted) -> Option<NonZeroU32>
+        requires { w < self.now.variables }
+        ensures { word_of result ≡ end_word which self.now.variables self.now.words.now w }
+    {
+        match which {
+            Defaulted::Requested => NonZeroU32::new(self.words[self.variables + w]),
+            Defaulted::Deferred => None,
+        }
     }
 }
 
@@ -141,15 +143,18 @@ impl Solver {
         ensures steps { (result.revision ≤ self.revision + 1) × (result.issued ≡ self.issued) }
         ensures beside { Beside self result tables.old tables.new }
     {
-        let m = self.variables;
-        let Some(word) = default_word(tables, m, v, which) else {
+        let table = Table {
+            words: &tables[..],
+            variables: self.variables,
+        };
+        let Some(word) = table.default_word(v, which) else {
             return self;
         };
         let most = self.revision;
-        let Some(w) = root_of(tokens, &tables[..m], most, v) else {
+        let Some(w) = root_of(tokens, &table.words[..self.variables], most, v) else {
             return self;
         };
-        let taken = default_builtin(word, end_word(tables, m, w, which));
+        let taken = default_builtin(word, table.end_word(w, which));
         tables[w] = 2 * taken.code + 1;
         self.revision = most + 1;
         self

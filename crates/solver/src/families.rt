@@ -9,21 +9,22 @@ ghost use Rattle.solver.specs.Session.{Session, with_solver};
 ghost use Rattle.solver.specs.Words.SessionRepresentation.{request_words, bit, RequestWord, request_in, HeldRequest, Represents};
 ghost use Rattle.solver.specs.Words.MethodContract.{Shaped, Beside, is_some, bound_to, at_most, word_of, mask_in, joined_word, Handed};
 
-use super::Solver;
+use super::{Solver, Table};
 use std::num::NonZeroU32;
 use terms::Tokens;
 
-// The word of a variable's request. The column has 0 for none.
-// It is no `NumberRequest`: only a session's table is known to hold requests, and what defaults and bindings require is of any table.
-pub fn request_word(tables: &[u32], m: usize, v: u32) -> Option<NonZeroU32>
-    requires { 7 * m ≤ length tables.now }
-    ensures { word_of result ≡ get_or (request_words m tables.now) v 0 }
-{
-    let at = v as usize;
-    if m <= at {
-        return None;
+impl Table<'_> {
+    // The word of a variable's request. The column has 0 for none.
+    // It is no `NumberRequest`: only a session's table is known to hold requests, and what defaults and bindings require is of any table.
+    pub fn request(&self, v: u32) -> Option<NonZeroU32>
+        ensures { word_of result ≡ get_or (request_words self.now.variables self.now.words.now) v 0 }
+    {
+        let at = v as usize;
+        if self.variables <= at {
+            return None;
+        }
+        NonZeroU32::new(self.words[self.variables + at])
     }
-    NonZeroU32::new(tables[m + at])
 }
 
 // The types that a request's word admits, as a mask.
@@ -74,20 +75,20 @@ pub fn in_family(tokens: &Tokens, q: usize, word: NonZeroU32) -> bool
 }
 
 // Whether the unbound variable v may be bound to the term at q, which is an unbound variable or a node.
-pub fn admissible(tokens: &Tokens, tables: &[u32], m: usize, v: u32, q: usize) -> bool
-    requires { (7 * m ≤ length tables.now) × (q < length tokens.now.kinds.now) }
+pub fn admissible(tokens: &Tokens, table: &Table, v: u32, q: usize) -> bool
+    requires { q < length tokens.now.kinds.now }
     ensures { (t : Term) (rs : Requests)
-        → ((u : ℕ) → HeldRequest (rs u) (get_or (request_words m tables.now) u 0))
+        → ((u : ℕ) → HeldRequest (rs u) (get_or (request_words table.now.variables table.now.words.now) u 0))
         → Held tokens.now.kinds.now tokens.now.vals.now q t
         → result ≡ is_some (admit rs (rs v) t) }
 {
-    let Some(word) = request_word(tables, m, v) else {
+    let Some(word) = table.request(v) else {
         return true;
     };
     if tokens.kinds[q] != 1 {
         return in_family(tokens, q, word);
     }
-    let Some(other) = request_word(tables, m, tokens.vals[q]) else {
+    let Some(other) = table.request(tokens.vals[q]) else {
         return true;
     };
     family_mask(word) & family_mask(other) != 0

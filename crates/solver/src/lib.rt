@@ -1,7 +1,7 @@
 // The solver: its counters by value, its tables lent. Variables, deferrals, defaults, constrain, resolving, and what a resolved term has.
 #![tactic(auto)]
 
-ghost use Rattle.std.specs.Prelude.{◌^◌, ◌<◌, length};
+ghost use Rattle.std.specs.Prelude.{◌*◌, ◌^◌, ◌≤◌, ◌<◌, length};
 ghost use Rattle.solver.specs.Words.SessionRepresentation.{RequestWord};
 
 mod answers;
@@ -53,6 +53,15 @@ pub struct Bindings<'a> {
     pub bound: &'a [u32],
     pub most: usize,
     ghost narrow: { length tokens.kinds.now < 2 ^ 32 },
+}
+
+// The table as it is read: its words, in columns of a word for each of so many variables. The functions that write it are lent the words as they are: see
+// `store.rt` of terms.
+#[derive(Clone, Copy)]
+pub struct Table<'a> {
+    pub words: &'a [u32],
+    pub variables: usize,
+    ghost columns: { 7 * variables ≤ length words.now },
 }
 
 // A pending pair: the places of its two terms.

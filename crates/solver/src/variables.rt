@@ -8,7 +8,7 @@ ghost use Rattle.solver.specs.Words.MethodContract.{matches, last_match, Shaped,
 ghost use Rattle.solver.specs.Words.MethodContract.{resolved_reply};
 ghost use Rattle.solver.specs.Words.OrderTerms.{place_of, kind_word, site_word, slot_word};
 
-use super::{Issue, NumberRequest, Site, Solver};
+use super::{Issue, NumberRequest, Site, Solver, Table};
 
 // The words that are written for a place.
 fn words_of(site: Site) -> (u32, u32, u32)
@@ -31,24 +31,27 @@ pub fn is_place(site: Site, k: u32, s: u32, i: u32) -> bool
 }
 
 // The last variable whose words are those of the place. Where no variable has the site there is none.
-pub fn find_place(tables: &[u32], m: usize, issued: usize, site: Site) -> Option<usize>
-    requires { (issued ≤ m) × (7 * m ≤ length tables.now) }
-    ensures word { unwrap_or result issued ≡ last_match (kind_word site) (site_word site) (slot_word site) (place_words m tables.now)
-        (site_words m tables.now) (slot_words m tables.now) issued issued }
+pub fn find_place(table: &Table, issued: usize, site: Site) -> Option<usize>
+    requires { issued ≤ table.now.variables }
+    ensures word { unwrap_or result issued ≡ last_match (kind_word site) (site_word site) (slot_word site)
+        (place_words table.now.variables table.now.words.now) (site_words table.now.variables table.now.words.now)
+        (slot_words table.now.variables table.now.words.now) issued issued }
     ensures low { (v : ℕ) → result ≡ Some v → v < issued }
     ensures place { (ps : List VariablePlace)
         → length ps ≡ issued
-        → HeldPlaces (place_words m tables.now) (site_words m tables.now) (slot_words m tables.now) ps
+        → HeldPlaces (place_words table.now.variables table.now.words.now) (site_words table.now.variables table.now.words.now)
+        (slot_words table.now.variables table.now.words.now) ps
         → result ≡ named_of (find (place_of site) ps) }
 {
+    let m = table.variables;
     let (_, of, _) = words_of(site);
-    if !tables[3 * m..3 * m + issued].contains(&of) {
+    if !table.words[3 * m..3 * m + issued].contains(&of) {
         return None;
     }
     for v in (0..issued).rev() {
-        let k = tables[2 * m + v];
-        let s = tables[3 * m + v];
-        let i = tables[4 * m + v];
+        let k = table.words[2 * m + v];
+        let s = table.words[3 * m + v];
+        let i = table.words[4 * m + v];
         if is_place(site, k, s, i) {
             return Some(v);
         }
@@ -64,9 +67,12 @@ impl Solver {
             → result ≡ named_of (placed (limits_of self) s (place_of site)).variable }
         ensures low { (v : ℕ) → result ≡ Some v → v < self.variables }
     {
-        let m = self.variables;
-        let v = find_place(tables, m, self.issued, site).unwrap_or(self.issued);
-        (v < m).then_some(v as u32)
+        let table = Table {
+            words: tables,
+            variables: self.variables,
+        };
+        let v = find_place(&table, self.issued, site).unwrap_or(self.issued);
+        (v < self.variables).then_some(v as u32)
     }
 
     // The variable of a place: the one that it has, or a new one.
@@ -80,7 +86,11 @@ impl Solver {
     {
         let m = self.variables;
         let issued = self.issued;
-        if let Some(v) = find_place(tables, m, issued, site) {
+        let table = Table {
+            words: &tables[..],
+            variables: m,
+        };
+        if let Some(v) = find_place(&table, issued, site) {
             return Issue {
                 solver: self,
                 answer: Some(v as u32),

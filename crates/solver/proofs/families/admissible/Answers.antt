@@ -19,13 +19,13 @@ returns-then-tokens-q-ne1 c =
     λ t rs g h. admit_node _ _ _ rs _ g _ t _ h (λ e. omega (arith, c.in-Some.word.ok, w, e)) c.if-tokens-q-ne1.true
     (λ W. c.in_family.ensures t (subst RequestWord (sym w) W) h ∙ ap (λ (n : ℕ). belongs (request_in n).family t) w)
 
-pub returns-in_default-request_word : goal.returns-in_default-request_word
-returns-in_default-request_word c = λ t rs g h. admit_other _ _ _ rs _ g _ t h c.if-tokens-q-ne1.false (sym c.in_default-request_word.ensures)
+pub returns-in_default-request : goal.returns-in_default-request
+returns-in_default-request c = λ t rs g h. admit_other _ _ _ rs _ g _ t h c.if-tokens-q-ne1.false (sym c.in_default-request.ensures)
 
 pub returns : goal.returns
 returns c =
     let w = c.in-Some.ensures in
-    let o = c.in-Some-request_word.ensures in
+    let o = c.in-Some-request.ensures in
     λ t rs g h. admit_joins _ _ _ rs _ g _ t _ _ h c.if-tokens-q-ne1.false
-    (λ e. omega (arith, c.in-Some.word.ok, w, e)) (λ e. omega (arith, c.in-Some-request_word.other.ok, o, e))
+    (λ e. omega (arith, c.in-Some.word.ok, w, e)) (λ e. omega (arith, c.in-Some-request.other.ok, o, e))
     (c.family_mask.ensures ∙ ap mask_in w) (c.family_mask-2.ensures ∙ ap mask_in o)

@@ -5,4 +5,4 @@ use Rattle.solver.proofs.Laws.Table.MethodLaws.{LastOf}
 use Rattle.solver.proofs.variables.find_place.Given as goal
 
 abbrev pub invariant-loop-v : goal.invariant-loop-v
-invariant-loop-v l = (LastOf l.site l.m l.tables l.issued l.issued ≡ LastOf l.site l.m l.tables l.issued l.v) × (l.v ≤ l.issued)
+invariant-loop-v l = (LastOf l.site l.table.variables l.table.words.now l.issued l.issued ≡ LastOf l.site l.table.variables l.table.words.now l.issued l.v) × (l.v ≤ l.issued)
