@@ -63,7 +63,7 @@ pub fn same_shape(tokens: &Tokens, a: usize, b: usize, access: Access) -> bool
     let mut i = a + 1;
     let mut j = b + 1;
     let mut counts = access_of(tokens.kinds[a], access);
-    // Both rows go on by the width of their own parts. `walk_pair` of terms takes numbers and terms apart; here one test is for both, and another for the first.
+    // Both rows go on by the width of their own parts. `zip` of two walks would end with the shorter row and not say whether the other is over.
     while i < ae {
         if be <= j {
             return false;
@@ -196,7 +196,7 @@ pub fn push_range(
         child: 0,
         top: count,
     };
-    // Both rows go on by the width of their own parts. `walk_pair` of terms would have an arm for rows that differ, which these do not, and so no answer.
+    // Both rows go on by the width of their own parts. Two `RowWalk`s in a `zip` would each need a `Seen`, tokens with an origin, which these are not.
     while i < ae {
         c = push_part(pending, c, tokens.kinds[i], i, j, lo, hi);
         i = part_end(tokens, i, ae);
