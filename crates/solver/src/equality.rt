@@ -22,7 +22,7 @@ ghost use Rattle.solver.specs.Words.CongruenceClasses.{Closed, TermsJoined, Rows
 use super::Bindings;
 use super::reach::clear_queue;
 use super::top::shallow_resolve;
-use terms::{PairStep, Part, term_part, walk_pair};
+use terms::{Part, skip, term_part};
 
 // The root of the class of a.
 fn find(links: &[u32], a: usize) -> usize
@@ -125,22 +125,35 @@ fn union_rows(
         → RowBy bindings.now b qs
         → RowsJoined bindings.now h links.old links.new result ps qs }
 {
-    for step in walk_pair(&bindings.tokens, a, b) {
-        match step {
-            PairStep::Numbers(i, j) => {
-                if bindings.tokens.vals[i] != bindings.tokens.vals[j] {
-                    return false;
-                }
+    let tokens = &bindings.tokens;
+    let mut i = a.from;
+    let mut j = b.from;
+    // Both rows go on by the width of their own parts. `zip` of two walks would end with the shorter row and not say whether the other is over.
+    while i < a.end {
+        if b.end <= j {
+            return false;
+        }
+        if tokens.kinds[i] == 0 {
+            if tokens.kinds[j] != 0 {
+                return false;
             }
-            PairStep::Terms(x, y) => {
-                if !union_terms(bindings, x.from, y.from, links, queue, top) {
-                    return false;
-                }
+            if tokens.vals[i] != tokens.vals[j] {
+                return false;
             }
-            PairStep::Apart => return false,
+            i += 1;
+            j += 1;
+        } else {
+            if tokens.kinds[j] == 0 {
+                return false;
+            }
+            if !union_terms(bindings, i, j, links, queue, top) {
+                return false;
+            }
+            i += skip(tokens, i, a.end - i);
+            j += skip(tokens, j, b.end - j);
         }
     }
-    true
+    b.end <= j
 }
 
 // Joins the parts of the nodes at x and y.
