@@ -63,7 +63,7 @@ pub fn same_shape(tokens: &Tokens, a: usize, b: usize, access: Access) -> bool
     let mut i = a + 1;
     let mut j = b + 1;
     let mut counts = access_of(tokens.kinds[a], access);
-    // Both rows go on by the width of their own parts. `zip` of two walks would end with the shorter row and not say whether the other is over.
+    // Both rows go on by the width of their own parts. An iterator over two takes numbers and terms apart; here one test is for both, another for the first.
     while i < ae {
         if be <= j {
             return false;
@@ -196,7 +196,7 @@ pub fn push_range(
         child: 0,
         top: count,
     };
-    // Both rows go on by the width of their own parts. Two `RowWalk`s in a `zip` would each need a `Seen`, tokens with an origin, which these are not.
+    // Both rows go on by the width of their own parts. An iterator over two rows would have a case for rows that differ, which these do not: it has no answer.
     while i < ae {
         c = push_part(pending, c, tokens.kinds[i], i, j, lo, hi);
         i = part_end(tokens, i, ae);
