@@ -8,8 +8,8 @@ pub returns-then-recovers-clause-after : goal.returns-then-recovers-clause-after
 returns-then-recovers-clause-after c = λ s t x y ps st F W. rw c.checked.ensures (assign_recovers F W
     (sym (c.recovers.ensures.term t s.solver.bindings s.solver.revision F.known.held F.represents.bindings F.steady) ∙ c.if-recovers.true))
 
-pub invariant_of-table : goal.invariant_of-table
-invariant_of-table c = record { columns = c.requires.faces.2.represents.room }
+pub invariant_of-read : goal.invariant_of-read
+invariant_of-read c = record { columns = c.requires.faces.2.represents.room }
 
 pub admissible-requires : goal.admissible-requires
 admissible-requires c = facing_place c.requires.faces.2
