@@ -1,7 +1,7 @@
 // The fields of an order, rules aside: each is read and its tokens kept. A reading function is lent the place and answers the field's spot; where it refuses,
 // the place is of no use.
-// The bytes and the place stand apart: what is lent a reader of both changed has to say that its bytes are the same, a clause for each `Ample`. `Free` speaks of the areas
-// besides, which are lent changed, so that no type can hold it.
+// The bytes and the place stand apart: what is lent a reader of both changed has to say that its bytes are the same, a clause for each `Ample`. `Free` speaks of
+// the areas besides, which are lent changed as two slices.
 ghost use Rattle.std.specs.Prelude.{◌≡◌, List, ℕ, ◌≤◌, length};
 ghost use Rattle.solver.specs.TermTypes.{Rule};
 ghost use Rattle.solver.specs.Terms.Tokens.{area};
@@ -94,7 +94,8 @@ fn parameters_field(s: &[u8], place: &mut Place) -> Result<FieldSpot, Refusal>
     })
 }
 
-// The list that a sort has: entries, arguments, else receivers.
+// The list that a sort has: entries, arguments, else receivers. It is asked where a sort is no term and no nominal; of the sorts that have no tokens none comes
+// here, and what `part_of` of the definition tells of them is the receivers, too.
 fn listing_of(sort: Sort) -> Listing
     ensures { result ≡ listing_of sort }
 {

@@ -76,8 +76,8 @@ pub enum Sort {
     Rules,
 }
 
-// A field of an order: a number or count, the place of its first token (of parameters: their position in the bytes), and the token after
-// its last.
+// A field of an order: a number or count, the place of its first token (of parameters: their position in the bytes; of a bound: its sign), and the token
+// after its last. It is no enum by what it is: what answers an order has the field's sort from the layout, and would match on cases that never come.
 #[derive(Clone, Copy, Default)]
 pub struct FieldSpot {
     pub value: u64,

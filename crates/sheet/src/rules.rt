@@ -59,7 +59,8 @@ fn read_rule(
     Ok(())
 }
 
-// `count` rules; on a refusal nothing of them remains in the areas.
+// `count` rules; on a refusal nothing of them remains in the areas. `read_layout` clears so, too: a function of both would take what reads one as a closure
+// that borrows the areas.
 pub fn read_rules(
     s: &[u8],
     kinds: &mut [u32],

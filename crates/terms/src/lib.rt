@@ -124,7 +124,8 @@ impl From<u32> for Question {
 
 // Where reading stands: the position in the bytes, the number of the next token, and how many nodes were read. While these are at most
 // `limit`, tokens are stored; past it reading goes on without.
-// It does not hold the bytes: what is lent a `TermReader` changed has to say that its bytes are the same, a clause for each `Room` that a ghost field would save.
+// It does not hold the bytes: what is lent a `TermReader` changed has to say that its bytes are the same, a clause for each `Room` that a ghost field would
+// save.
 #[derive(Clone, Copy)]
 pub struct Place {
     pub at: usize,

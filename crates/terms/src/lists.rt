@@ -58,7 +58,8 @@ fn read_records(
     Ok(())
 }
 
-// Reads `count` records and keeps them.
+// Reads `count` records and keeps them. `next_part` of reader.rt does as much for a term; what is found here is a row and no term, so that its answer and what
+// is kept are told by `answer_of` and `kept_of`, and the two share `settle`.
 fn keep_records(
     s: &[u8],
     kinds: &mut [u32],
