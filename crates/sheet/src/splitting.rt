@@ -9,7 +9,7 @@ use super::Reason;
 use solver::{ORDINARY, read_number};
 
 // Where the order whose length stands at a position lies, its first byte and its size; nothing where that length is faulty.
-fn next_order(s: &[u8], at: usize) -> Option<(usize, usize)>
+pub fn next_order(s: &[u8], at: usize) -> Option<(usize, usize)>
     ensures { framed_part s.now result ≡ next_order s.now at }
 {
     let (size, from) = read_number(s, at, ORDINARY).ok()?;
@@ -20,7 +20,7 @@ fn next_order(s: &[u8], at: usize) -> Option<(usize, usize)>
 }
 
 // The order that lies there: that part of the sheet.
-fn order_at(s: &[u8], from: usize, size: usize) -> &[u8]
+pub fn order_at(s: &[u8], from: usize, size: usize) -> &[u8]
     requires { from + size ≤ length s.now }
     ensures { result.now ≡ take size (drop from s.now) }
 {

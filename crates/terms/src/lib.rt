@@ -101,7 +101,7 @@ pub enum Question {
     IsResolvedIn,
 }
 
-// The question with this number, and the last one for any higher number.
+// The question with this number, and the last one for any higher number: what `ask` answered when it took a number. The orders name their questions.
 impl From<u32> for Question {
     ghost use Rattle.std.specs.Prelude.{◌≡◌, min};
     ghost use Rattle.terms.specs.Questions.{number_of_question};
