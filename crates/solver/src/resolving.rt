@@ -119,7 +119,8 @@ pub fn next(bindings: &Bindings, frames: &mut [u32], from: Stand) -> Stand
     settle(bindings, frames, c)
 }
 
-// How many bytes a run has with bound variables replaced; none where those are more than limit.
+// How many bytes a run has with bound variables replaced; none where those are more than limit. Counting leaves off at a limit, and writing has an output and
+// no limit: one function for both would take what one of them has no use for.
 pub fn walked_len(bindings: &Bindings, frames: &mut [u32], run: Run, limit: usize) -> Option<usize>
     requires areas { (run.at + run.len ≤ length bindings.now.tokens.kinds.now) × (bindings.now.most + bindings.now.most ≤ length frames.old) }
     requires room { limit < 2 ^ 32 }

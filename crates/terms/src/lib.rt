@@ -352,7 +352,8 @@ pub struct Normaliser<'a> {
     ghost agree: { seen.given ≡ given_of lookup },
 }
 
-// The tokens from `from` up to `end`.
+// The tokens from `from` up to `end`. That a part or a place lies in the tokens is a clause of what takes it: a part that held its tokens would say so by its
+// type, but two parts would be of two tokens, and each function that takes two would have to ask that these are the same.
 #[derive(Clone, Copy, Debug, PartialEq, Eq)]
 pub struct Part {
     pub from: usize,
