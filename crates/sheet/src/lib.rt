@@ -77,7 +77,8 @@ pub enum Sort {
 }
 
 // A field of an order: a number or count, the place of its first token (of parameters: their position in the bytes), and the token after
-// its last.
+// its last. Of a bound the place is its sign. No enum of these: who answers an order knows the sort of each field by the order's kind, and would have to
+// show of each other case that it cannot come.
 #[derive(Clone, Copy, Default)]
 pub struct FieldSpot {
     pub value: u64,

@@ -30,7 +30,8 @@ pub use terms::{
     satisfies_for, with_associated_types, write_normalised, write_number, write_recovered,
 };
 
-// A run of tokens: len of them, from at on.
+// A run of tokens: len of them, from at on. It is no `Part` of terms: what names a run tells its length, 0 where there is none (`Named`, `Entered`), and the
+// laws of the walk count by it.
 #[derive(Clone, Copy, Default)]
 pub struct Run {
     pub at: usize,
