@@ -1,5 +1,5 @@
-// An order answered on the session that the areas hold. The four areas are lent as C hands them over, the third as its records and its table: for a struct of `&mut` see `store.rt`
-// of terms.
+// An order answered on the session that the areas hold. The four areas are lent as C hands them over, the third as its records and its table: for a
+// struct of `&mut` see `store.rt` of terms.
 ghost use Rattle.std.specs.Prelude.{◌≡◌, List, ℕ, ◌≤◌, ◌<◌, eqb, ltb, length, get_or};
 ghost use Rattle.solver.specs.Session.{Session, issued};
 ghost use Rattle.solver.specs.Invariant.{InOrder};
@@ -62,6 +62,7 @@ fn answer_order<'a>(
         }
         OrderKind::Resolve => resolve_term(x, tokens, table, d, out, to),
         OrderKind::Operation(what) => {
+            // The whole areas: reading says that the fields are held there, and not that each ends before `o.top`.
             let posed = Posed {
                 bytes: s,
                 tokens: Tokens { kinds: a, vals: b },
@@ -73,7 +74,8 @@ fn answer_order<'a>(
     }
 }
 
-// Reads an order, with room for its rules, and answers it.
+// Reads an order, with room for its rules, and answers it. That an order is short is asked here and in the next two: it is a part of the sheet, and a struct
+// with this fact would be made anew for each order.
 fn serve_with(
     x: Solver,
     s: &[u8],

@@ -1,4 +1,4 @@
-// The answers of orders 9 to 20, from an order whose fields are held.
+// The answers of orders 9 to 20, from an order whose fields are held. For `out` and `to` see `framing.rt`.
 ghost use Rattle.std.specs.Prelude.{◌≡◌, List, ◌∷◌, ℕ, ◌≤◌, ◌<◌, length};
 ghost use Rattle.solver.specs.Terms.Term.{Term, Held};
 ghost use Rattle.solver.specs.Terms.Tokens.{area};

@@ -65,7 +65,8 @@ fn answer_orders(
     closed(Reason::UsedUp, orders, to, x)
 }
 
-// The run in areas of just the words that a session has, within limits; their words are all 0 at the end.
+// The run in areas of just the words that a session has, within limits; their words are all 0 at the end. The limits are no struct: `run_sheet` alone names
+// them, and it would be taken apart here, for `Solver::fresh` takes two of them and the split one.
 fn run_in(
     variables: usize,
     nodes: usize,

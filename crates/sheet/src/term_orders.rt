@@ -1,4 +1,5 @@
-// Orders 3, 4 and 5 on what the solver is lent: their terms stand after the tokens of the session.
+// Orders 3, 4 and 5 on what the solver is lent: their terms stand after the tokens of the session. For `out` and `to` see
+// `framing.rt`.
 ghost use Rattle.std.specs.Prelude.{◌≡◌, ◌+◌, take, drop};
 ghost use Rattle.solver.specs.Terms.Term.{Term, size};
 ghost use Rattle.solver.specs.Session.{Session};

@@ -128,7 +128,7 @@ impl Solver {
     }
 }
 
-// Document 01's number of a refusal.
+// Document 01's number of a refusal. The sheet names this crate alone, where the type is handed on, and its `From`, which stands in terms, is not.
 pub fn refusal_number(refusal: Refusal) -> u8
     ensures { result ≡ number_of refusal }
 {

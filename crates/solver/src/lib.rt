@@ -31,7 +31,8 @@ pub use terms::{
     write_recovered,
 };
 
-// A run of tokens: len of them, from at on.
+// A run of tokens: len of them, from at on. It is no `Part` of terms: what names a run tells its length, 0 where there is none (`Named`, `Entered`), and the
+// laws of the walk count by it.
 #[derive(Clone, Copy, Default)]
 pub struct Run {
     pub at: usize,
