@@ -22,7 +22,7 @@ ghost use Rattle.solver.specs.Words.CongruenceClasses.{Closed, TermsJoined, Rows
 use super::Bindings;
 use super::reach::clear_queue;
 use super::top::shallow_resolve;
-use terms::{Part, skip, term_part};
+use terms::{PairStep, Part, term_part, walk_pair};
 
 // The root of the class of a.
 fn find(links: &[u32], a: usize) -> usize
@@ -125,35 +125,22 @@ fn union_rows(
         → RowBy bindings.now b qs
         → RowsJoined bindings.now h links.old links.new result ps qs }
 {
-    let tokens = &bindings.tokens;
-    let mut i = a.from;
-    let mut j = b.from;
-    // Both rows go on by the width of their own parts. An iterator over two rows was proved here too; by it the benchmark of deep terms took 5 percent more.
-    while i < a.end {
-        if b.end <= j {
-            return false;
-        }
-        if tokens.kinds[i] == 0 {
-            if tokens.kinds[j] != 0 {
-                return false;
+    for step in walk_pair(&bindings.tokens, a, b) {
+        match step {
+            PairStep::Numbers(i, j) => {
+                if bindings.tokens.vals[i] != bindings.tokens.vals[j] {
+                    return false;
+                }
             }
-            if tokens.vals[i] != tokens.vals[j] {
-                return false;
+            PairStep::Terms(x, y) => {
+                if !union_terms(bindings, x.from, y.from, links, queue, top) {
+                    return false;
+                }
             }
-            i += 1;
-            j += 1;
-        } else {
-            if tokens.kinds[j] == 0 {
-                return false;
-            }
-            if !union_terms(bindings, i, j, links, queue, top) {
-                return false;
-            }
-            i += skip(tokens, i, a.end - i);
-            j += skip(tokens, j, b.end - j);
+            PairStep::Apart => return false,
         }
     }
-    b.end <= j
+    true
 }
 
 // Joins the parts of the nodes at x and y.

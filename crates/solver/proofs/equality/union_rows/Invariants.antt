@@ -1,6 +1,7 @@
--- `union_rows`. Invariant: for any two rows that the areas hold, `RowWalk` says what is left of them and what follows if that joins. Measure: the tokens left of the first row.
+-- `union_rows`. Invariant: for any two rows that the areas hold, `RowWalk` says what is left of them and what follows if that joins.
 use mathlib.Core.Option.{Option}
-use Prim.Native.Nat.{ℕ, ◌-◌, ◌≤◌}
+use mathlib.Core.Path.{◌≡◌}
+use Prim.Native.Nat.{ℕ}
 use Rattle.terms.specs.Term.{Term, Parts}
 use Rattle.solver.specs.Constrain.{follow}
 use Rattle.solver.specs.Words.Lent.{RowBy}
@@ -8,13 +9,11 @@ use Rattle.solver.specs.Words.CongruenceClasses.{Advanced, HeldSteady, stands_fo
 use Rattle.solver.proofs.Laws.Equality.UnionRowLaws.{RowWalk}
 use Rattle.solver.proofs.equality.union_rows.Given as goal
 
-abbrev pub invariant-loop-i : goal.invariant-loop-i
-invariant-loop-i l =
-    (l.i ≤ l.a.end)
-    × (l.j ≤ l.b.end)
+abbrev pub invariant-loop-step : goal.invariant-loop-step
+invariant-loop-step l =
+    let x = l.step-iterator in
+    (x.tokens ≡ l.bindings.tokens)
     × Advanced l.bindings.tokens.kinds.now l.initial.links l.initial.queue l.initial.top l.links l.queue l.top
-    × ((h : ℕ → Option Term) (ps qs : Parts) → HeldSteady l.bindings h → RowBy l.bindings l.a ps → RowBy l.bindings l.b qs
-    → Fair l.bindings.tokens.kinds.now l.bindings.tokens.vals.now l.initial.links → RowWalk l.bindings.tokens.kinds.now l.bindings.tokens.vals.now (stands_for l.bindings.most h) (follow l.bindings.most h) l.a.end l.b.end ps qs l.initial.links l.i l.j l.links)
-
-abbrev pub decreases-loop-i : goal.decreases-loop-i
-decreases-loop-i l = l.a.end - l.i
+    × ((h : ℕ → Option Term) (ps qs : Parts) → HeldSteady l.bindings h → RowBy l.bindings l.fn.a ps → RowBy l.bindings l.fn.b qs
+    → Fair l.bindings.tokens.kinds.now l.bindings.tokens.vals.now l.initial.links
+    → RowWalk l.bindings.tokens.kinds.now l.bindings.tokens.vals.now (stands_for l.bindings.most h) (follow l.bindings.most h) x.a.end x.b.end ps qs l.initial.links x.a.from x.b.from l.links)
