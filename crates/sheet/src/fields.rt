@@ -95,7 +95,7 @@ fn parameters_field(s: &[u8], place: &mut Place) -> Result<FieldSpot, Refusal>
 }
 
 // The list that a sort has: entries, arguments, else receivers. It is asked where a sort is no term and no nominal; of the sorts that have no tokens none comes
-// here, and what `part_of` of the definition tells of them is the receivers, too.
+// here, and what `part_of` of the definition tells of them is the receivers, too. It is no `From`: it says something of three sorts only.
 fn listing_of(sort: Sort) -> Listing
     ensures { result ≡ listing_of sort }
 {

@@ -1,4 +1,5 @@
 // The answers of orders 9 to 20, from an order whose fields are held. For `out` and `to` see `framing.rt`.
+// Heads and kids are lent as two slices; the line in rows.rt of terms says why.
 ghost use Rattle.std.specs.Prelude.{◌≡◌, List, ◌∷◌, ℕ, ◌≤◌, ◌<◌, length};
 ghost use Rattle.solver.specs.Terms.Term.{Term, Held};
 ghost use Rattle.solver.specs.Terms.Tokens.{area};
@@ -184,7 +185,7 @@ fn satisfied(posed: &Posed, out: &mut [u8], to: usize) -> Option<usize>
     write_bytes_answer(out, to, &v)
 }
 
-// The same after a 1.
+// The same after a 1. One function of both would take the bytes before the term as a slice, which is empty in three of four orders.
 fn applied(rewriter: &Rewriter, from: usize, out: &mut [u8], to: usize) -> Option<usize>
     requires few { length rewriter.now.tokens.kinds.now ≤ 32768 }
     requires place { from < length rewriter.now.tokens.kinds.now }

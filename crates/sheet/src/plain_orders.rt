@@ -1,5 +1,6 @@
 // Orders 0, 1, 2, 6, 7, 8 and 21 on what the solver is lent: the tokens, the table, and the work area, all 0. For `out` and
 // `to` see `framing.rt`.
+// Tokens, table and work area are lent side by side: the lines at the head of store.rt of terms say why.
 ghost use Rattle.std.specs.Prelude.{MatchOption, ◌≡◌, List, ℕ, ◌<◌};
 ghost use Rattle.std.proofs.Math.Option.{none, some};
 ghost use Rattle.solver.specs.Terms.Term.{Term, var, bytes};

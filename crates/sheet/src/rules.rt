@@ -1,5 +1,6 @@
 // Rules: each is five fields that are read by a layout of their own, and a record that tells where these stand. The reading functions are lent
 // the place; where they refuse it is of no use.
+// `Ample` and `Free` are clauses: fields.rt says why.
 ghost use Rattle.std.specs.Prelude.{◌≡◌, set};
 ghost use Rattle.solver.specs.Terms.Tokens.{area};
 ghost use Rattle.solver.specs.Terms.Outcomes.{step_of};
@@ -20,7 +21,7 @@ const RULE: [Sort; 5] = [
     Sort::Term,
 ];
 
-// Stores the r-th rule, from its spots, where there is room.
+// Stores the r-th rule, from its spots, where there is room; by its index, as `put_word` of terms.
 fn keep_rule(rules: &mut [Rule], r: u64, o: FieldSpots)
     requires { WordsFit o }
     ensures { rules.new ≡ set rules.old r (rule_from o) }

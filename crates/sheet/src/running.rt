@@ -1,4 +1,5 @@
 // The run of a sheet.
+// The areas are lent as C hands them over: see dispatch.rt.
 ghost use Rattle.std.specs.Prelude.{◌≡◌, ◌≤◌, length, take, drop};
 ghost use Rattle.solver.specs.Session.{document_limits, fresh};
 ghost use Rattle.solver.specs.Words.SessionRepresentation.{limits_of};

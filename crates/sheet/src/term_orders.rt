@@ -1,5 +1,6 @@
 // Orders 3, 4 and 5 on what the solver is lent: their terms stand after the tokens of the session. For `out` and `to` see
 // `framing.rt`.
+// Tokens, table and work area are lent side by side: the lines at the head of store.rt of terms say why.
 ghost use Rattle.std.specs.Prelude.{◌≡◌, ◌+◌, take, drop};
 ghost use Rattle.solver.specs.Terms.Term.{Term, size};
 ghost use Rattle.solver.specs.Session.{Session};

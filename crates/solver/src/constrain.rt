@@ -1,5 +1,5 @@
 // `constrain`: the Rust's loop over pending pairs, a check each. The pairs stand after the columns of the table, which is cut in two there; two
-// places a pair, the last is taken first. Kinds are numbers: a kind is a word of the format.
+// places a pair, the last is taken first. Kinds are numbers: the line in kinds.rt of terms says why.
 ghost use Rattle.std.specs.Prelude.{◌≡◌, ◌||◌, List, ℕ, ◌+◌, ◌*◌, ◌≤◌, ◌<◌, eqb, length, drop};
 ghost use Rattle.terms.specs.Term.{Term, size};
 ghost use Rattle.solver.specs.Shapes.{notion, same_shape};

@@ -1,5 +1,5 @@
-// Orders 3, 6 and 7: deferrals and defaults. The builtin with the code c stands at 2 * c of the areas. Kinds are numbers: a kind is a word of the
-// format.
+// Orders 3, 6 and 7: deferrals and defaults. The builtin with the code c stands at 2 * c of the areas. Kinds are numbers: the line in kinds.rt
+// of terms says why.
 ghost use Rattle.std.specs.Prelude.{Some, unwrap_or, ◌≡◌, ℕ, ◌+◌, ◌*◌, ◌^◌, ◌≤◌, ◌<◌, length, take};
 ghost use Rattle.std.specs.Int.NonZero.{non_zero_u32_get};
 ghost use Rattle.std.proofs.Math.Option.{Option};

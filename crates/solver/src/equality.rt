@@ -3,7 +3,7 @@
 // The scratch is cut in two: a link for each place, 0 where it heads its class and else y + 1 for the place y that it is linked to; and the queue of the
 // places that are linked, in the order in which that happened. Links, queue and the number of links are lent side by side, as in the search for a variable:
 // `Wired` does not hold between the two writes of `link`, so it cannot be the invariant of a struct that holds them; so each function that joins asks for
-// `Wired` and promises `Advanced`. Kinds are numbers: a kind is a word of the format.
+// `Wired` and promises `Advanced`. Kinds are numbers: the line in kinds.rt of terms says why.
 ghost use Rattle.std.specs.Prelude.{true, false, List, ◌≡◌, ℕ, ◌+◌, ◌^◌, ◌≤◌, ◌<◌, length, get_or, set};
 ghost use Rattle.std.proofs.Math.Option.{Option};
 ghost use Rattle.terms.specs.Term.{Term, Parts, node};

@@ -1,4 +1,4 @@
-// What a number variable may be bound to, and a binding made. Kinds are numbers: a kind is a word of the format.
+// What a number variable may be bound to, and a binding made. Kinds are numbers: the line in kinds.rt of terms says why.
 ghost use Rattle.std.specs.Prelude.{◌≡◌, false, ℕ, ◌+◌, ◌*◌, ◌^◌, ◌≤◌, ◌<◌, length, get_or};
 ghost use Rattle.std.specs.Int.NonZero.{non_zero_u32_get};
 ghost use Rattle.std.proofs.Math.Option.{some};
@@ -16,6 +16,7 @@ use terms::Tokens;
 impl Table<'_> {
     // The word of a variable's request. The column has 0 for none.
     // It is no `NumberRequest`: only a session's table is known to hold requests, and what defaults and bindings require is of any table.
+    // Nor is it an enum of plain requests and ranges: what is told here (`mask_in`, `joined_word`) is told of any word.
     pub fn request(&self, v: u32) -> Option<NonZeroU32>
         ensures { word_of result ≡ get_or (request_words self.now.variables self.now.words.now) v 0 }
     {

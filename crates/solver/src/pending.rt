@@ -1,6 +1,6 @@
 // The pending pairs of `constrain`: whether two nodes have the same shape, and their children put on in pairs. Pair j stands in the words
 // 2j and 2j + 1. The words and the count are lent side by side: `store.rt` of terms says why no struct holds a `&mut` that is lent on.
-// Kinds are numbers: a kind is a word of the format.
+// Kinds are numbers: the line in kinds.rt of terms says why.
 ghost use Rattle.std.specs.Prelude.{Some, unwrap_or, ◌≡◌, [], ◌∷◌, not, ◌&&◌, ◌||◌, ℕ, ◌+◌, ◌*◌, ◌^◌, ◌≤◌, ◌<◌, eqb, length, get_or};
 ghost use Rattle.terms.specs.Term.{Parts, node, Held};
 ghost use Rattle.terms.specs.Words.Held.{HeldParts};
@@ -86,7 +86,7 @@ pub fn number_from(tokens: &Tokens, from: usize, end: usize) -> Option<usize>
         → NumberAt tokens.now.kinds.now tokens.now.vals.now (unwrap_or result end) end ps }
 {
     let mut i = from;
-    // A step is as wide as what stands there. A `RowWalk` goes over a `Seen`, tokens with an origin, which these are not.
+    // A step is as wide as what stands there. A `RowWalk` could go here, but what it ensures is told of the area that is seen, and `NumberAt` of parts held up to the end.
     while i < end {
         if tokens.kinds[i] == 0 {
             return Some(i);

@@ -38,7 +38,8 @@ fn holds(least: Bound, greatest: u64, low: Bound, high: Bound) -> bool
     least.at_most(low) && high.at_most(most)
 }
 
-// The integer types that hold both bounds, as a mask. In a table each type would have its bounds and its weight, which is these lines again.
+// The integer types that hold both bounds, as a mask. With a table the sum would be a loop, whose invariant says of so many types what `mask_of` says here of
+// eight at once.
 fn range_mask(low: Bound, high: Bound) -> u32
     ensures { (result ≡ mask_of (holds (bound_of low) (bound_of high))) × (result ≤ 255) }
 {

@@ -37,7 +37,7 @@ fn is_lent(tokens: &Tokens, x: Content) -> bool
 pub fn same_rows(records: &Records, x: Cursor, y: Cursor, fuel: usize) -> Option<Cursor>
     ensures { Begins (shown records.now.seen.now) records.now.heads.now records.now.kids.now x y fuel result }
 {
-    // two rows are walked at once, and the first is left where the second ends, so no `RowWalk` stands for either
+    // A `PairWalk` goes over lent tokens; here they are seen ones with children in records, and the first row is left where the second ends.
     let mut p = x.at;
     let mut i = x.child;
     let mut q = y.at;

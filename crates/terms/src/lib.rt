@@ -201,6 +201,7 @@ pub struct RecordRequest {
 }
 
 // What follows the tag of a plain kind: a code below `codes`, where there is one, at most two numbers, a count with as many terms, and `terms` terms.
+// The flags say whether a number or a count is there; no value stands beside one.
 #[derive(Clone, Copy, Debug, PartialEq, Eq)]
 pub struct Fields {
     pub codes: Option<u32>,

@@ -32,6 +32,7 @@ fn put_children(
         next most result }
 {
     let mut n = 0;
+    // Children are counted by hand: the line in rows.rt says why.
     for (q, y) in walk_row(seen, x.head) {
         if y.kind != 0 {
             if most <= next + n {

@@ -1,5 +1,6 @@
 // Tokens and contents are sized, or written too. What is returned is the position after them; None where they do not fit.
 // Kinds and tags are matched by number; the line in kinds.rt says why.
+// The output and the position in it stand apart: the lines at the head of store.rt say why.
 ghost use Rattle.terms.specs.Words.Lent.{shown, StandsFor};
 ghost use Rattle.std.specs.Prelude.{◌≡◌, Bool, ℕ, ◌+◌, ◌≤◌, ◌<◌, length};
 ghost use Rattle.terms.specs.Words.TokenBytes.{plain, spelt};
@@ -116,6 +117,7 @@ fn show_row(
     };
     let mut i = at;
     let mut n = c.child;
+    // Children are counted by hand: the line in rows.rt says why.
     for (q, y) in row {
         if y.kind == 0 {
             i = show_token(out, i, y, pass)?;

@@ -1,5 +1,6 @@
 // Tokens are written as they stand: sized first, then written.
 // Kinds and tags are matched by number; the line in kinds.rt says why.
+// The output and the position in it stand apart: the lines at the head of store.rt say why.
 ghost use Rattle.std.specs.Prelude.{◌≡◌, ◌+◌, ◌-◌, ◌*◌, ◌^◌, ◌≤◌, ◌<◌, length};
 ghost use Rattle.std.proofs.lemmas.List.Edits.{sets};
 ghost use Rattle.terms.specs.Words.TokenBytes.{plain, spelt};
@@ -39,7 +40,8 @@ pub fn write_token(out: &mut [u8], at: usize, k: u32, v: u32) -> usize
     at + 1
 }
 
-// How many bytes the `count` tokens from `from` on have; a token has at most 6.
+// How many bytes the `count` tokens from `from` on have; a token has at most 6. Kinds and values are two slices: the programs write from areas of which
+// nothing says that they are as long as one another.
 pub fn run_len(kinds: &[u32], vals: &[u32], from: usize, count: usize) -> usize
     requires { (from + count ≤ length kinds.now) × (from + count ≤ length vals.now) }
     ensures len { result ≡ length (spelt kinds.now vals.now from count) }
