@@ -86,7 +86,8 @@ pub fn number_from(tokens: &Tokens, from: usize, end: usize) -> Option<usize>
         → NumberAt tokens.now.kinds.now tokens.now.vals.now (unwrap_or result end) end ps }
 {
     let mut i = from;
-    // A step is as wide as what stands there. A `RowWalk` could go here, but what it ensures is told of the area that is seen, and `NumberAt` of parts held up to the end.
+    // A step is as wide as what stands there. A `RowWalk` could go here, but what it ensures is told of the area that is seen, and `NumberAt` of parts held
+    // up to the end.
     while i < end {
         if tokens.kinds[i] == 0 {
             return Some(i);
