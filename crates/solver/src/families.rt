@@ -95,18 +95,19 @@ pub fn admissible(tokens: &Tokens, table: &Table, v: u32, q: usize) -> bool
     family_mask(word) & family_mask(other) != 0
 }
 
-// The word of the variable left free where two are joined: `word` is that of the one bound, `other` its own, if it has one. With a range a word is 64 or
-// more.
+// The word of the variable left free where two are joined: `word` is that of the one bound, `other` its own, if it has one: without, it is 0, whose mask is
+// 255. With a range a word is 64 or more.
 fn joined_word(word: NonZeroU32, other: Option<NonZeroU32>) -> u32
     ensures { result ≡ joined_word (non_zero_u32_get word) (word_of other) }
 {
-    let Some(other) = other else {
-        return word.get();
+    let (last, mask) = match other {
+        Some(other) => (other.get(), family_mask(other)),
+        None => (0, 255),
     };
-    if (word.get() | other.get()) < 64 {
+    if (word.get() | last) < 64 {
         return word.get();
     }
-    33 + (word.get() - 1) % 32 + 32 * (family_mask(word) & family_mask(other))
+    33 + (word.get() - 1) % 32 + 32 * (family_mask(word) & mask)
 }
 
 // The request of v is joined to that of the variable of a token, if v has one and the token is a variable of the table.

@@ -131,11 +131,10 @@ word_of (Some w) = non_zero_u32_get w
 unfoldable pub mask_in : ℕ → ℕ
 mask_in word = pick (ltb 32 word) ((word - 33) / 32 % 256) (pick (eqb word 10) 768 255)
 
--- A variable of the first word is bound to one of the second, which then has this word. Where it had none, the first goes on; so it does where both are
--- plain, which are the words below 64. Else the types of both, with the first's fallback.
+-- A variable of the first word is bound to one of the second, which then has this word. The words of plain requests, and 0, are below 64: where both are,
+-- the first goes on. Else the types of both, with the first's fallback.
 unfoldable pub joined_word : ℕ → ℕ → ℕ
-joined_word word zero = word
-joined_word word (suc n) = pick (ltb (bit_or word (suc n)) 64) word (33 + (word - 1) % 32 + 32 * bit_and (mask_in word) (mask_in (suc n)))
+joined_word word other = pick (ltb (bit_or word other) 64) word (33 + (word - 1) % 32 + 32 * bit_and (mask_in word) (mask_in other))
 
 -- the request of v was joined to that of the variable val, if there is one and the kind says that there is a variable
 pub record Handed (m v kind val : ℕ) (ts us : List ℕ) : Type 0 where

@@ -166,7 +166,7 @@ module _ (x : Solver) (ks vs ts us : List ℕ) (s : Session) (L : Represents x k
           let a = get_or ts (x.variables + v) 0 in
           let f = held_first ks vs q (var w) h in
           let z : get_or ts (x.variables + w) 0 ≡ 0 = held_word w none l o in
-          let e : joined_word a (get_or ts (x.variables + w) 0) ≡ a = ap (joined_word a) z ∙ joined-none a in
+          let e : joined_word a (get_or ts (x.variables + w) 0) ≡ a = ap (joined_word a) z ∙ joined-none a A.0 in
           moves w r rs (λ y. omega (arith, A.0.some)) l f.0 f.1 (subst (λ (n : ℕ). HeldRequest (some r) n) (sym e) A) (cc)
       towards w r p h l (some u) o j = met w r u p o h l (meet r u) refl j
 

@@ -14,7 +14,7 @@ use Rattle.std.specs.Prelude.{Some, None, MatchOption, unwrap_or}
 use Rattle.std.specs.declared.option.Option as rust
 use Rattle.std.specs.declared.num.NonZeroU32.{NonZeroU32}
 use Rattle.std.specs.Int.NonZero.{non_zero_u32_get}
-use lib.Bits.{bit_and, bit_or, and_shr, and_mod, and_le_l, and_le_r, or_add_and, or_lt}
+use lib.Bits.{bit_and, bit_or, and_shr, and_mod, and_le_l, and_le_r, and_mask, or_add_and, or_lt, or_zero_r}
 use lib.Pow.{pow_pos, pow_mono, shr-shr}
 use lib.Dec.{eqb, ltb}
 use lib.ListN.{length, get_or, set}
@@ -237,13 +237,11 @@ byte_mask w l = let e = mask_ranged w (omega arith) in omega arith
 
 pub joined_plain : (a b : ℕ) → bit_or a b < 64 → a ≡ joined_word a b
 unfolding joined_word
-joined_plain a zero l = refl
-joined_plain a (suc b) l = rw (lt-ltb (bit_or a (suc b)) 64 l)
+joined_plain a b l = rw (lt-ltb (bit_or a b) 64 l)
 
-pub joined_ranged : (a b : ℕ) → (b ≡ 0 → ⊥) → 64 ≤ bit_or a b → 33 + (a - 1) % 32 + 32 * bit_and (mask_in a) (mask_in b) ≡ joined_word a b
+pub joined_ranged : (a b : ℕ) → 64 ≤ bit_or a b → 33 + (a - 1) % 32 + 32 * bit_and (mask_in a) (mask_in b) ≡ joined_word a b
 unfolding joined_word
-joined_ranged a zero n l = absurd (n refl)
-joined_ranged a (suc b) n l = rw (le-ltb (bit_or a (suc b)) 64 l)
+joined_ranged a b l = rw (le-ltb (bit_or a b) 64 l)
 
 -- the parts of a word with a range
 module _ (c m : ℕ) (low : c < 32) (byte : m < 256) where
@@ -262,9 +260,18 @@ module _ (c m : ℕ) (low : c < 32) (byte : m < 256) where
       ∙ rw (ranged_fallback, ranged_mask, lt-ltb 32 (33 + c + 32 * m) (omega arith))
 
 -- a variable with no request takes the word
-pub joined-none : (a : ℕ) → joined_word a 0 ≡ a
-unfolding joined_word
-joined-none a = refl
+pub joined-none : (a : ℕ) → RequestWord a → joined_word a 0 ≡ a
+joined-none a A = go (dec_lt (bit_or a 0) 64)
+  where
+    go : Dec (bit_or a 0 < 64) → joined_word a 0 ≡ a
+    go (yes l) = sym (joined_plain a 0 l)
+    go (no l) =
+        let o = or_zero_r a in
+        let e = mask_ranged a (omega arith) in
+        let n : bit_and (mask_in a) 255 ≡ mask_in a % 256 = and_mask (mask_in a) 8 in
+        let f : 255 ≡ mask_in 0 = mask_integers 0 (omega arith) (λ q. omega arith) in
+        let p = A.most in
+        sym (joined_ranged a 0 (omega arith)) ∙ rw (← f, n) (omega arith)
 
 module _ (a b : ℕ) (A : RequestWord a) (B : RequestWord b) where
   meet_parts : meet (request_in a) (request_in b) ≡ joined_as ((a - 1) % 32) (ltb 32 a || ltb 32 b) (gathered (types_in (bit_and (mask_in a) (mask_in b))))
@@ -312,7 +319,7 @@ module _ (a b : ℕ) (A : RequestWord a) (B : RequestWord b) where
             let m = bit_and (mask_in a) (mask_in b) in
             let c = (a - 1) % 32 in
             let j = 33 + c + 32 * m in
-            rw (← joined_ranged a b (λ z. omega (arith, B.some)) (omega arith))
+            rw (← joined_ranged a b (omega arith))
             (ranged_word c m (omega arith) (byte o) n, left_is j (ranged_parts c m (omega arith) (byte o) n ∙ rw (marked o)))
           where
             byte : (64 ≤ a) ⊎ (64 ≤ b) → bit_and (mask_in a) (mask_in b) < 256
