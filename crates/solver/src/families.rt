@@ -56,23 +56,12 @@ pub fn in_family(tokens: &Tokens, q: usize, word: NonZeroU32) -> bool
     ensures { (t : Term) → RequestWord (non_zero_u32_get word) → Held tokens.now.kinds.now tokens.now.vals.now q t
         → result ≡ belongs (request_in (non_zero_u32_get word)).family t }
 {
-    if tokens.kinds[q] != 6 {
-        return false;
-    }
-    if tokens.vals[q] != 2 {
-        return false;
-    }
-    if tokens.kinds.len() - q < 2 {
-        return false;
-    }
-    if tokens.kinds[q + 1] != 0 {
-        return false;
-    }
-    let c = tokens.vals[q + 1];
-    if 31 < c {
-        return false;
-    }
-    has(family_mask(word), c)
+    tokens.kinds[q] == 6
+        && tokens.vals[q] == 2
+        && 2 <= tokens.kinds.len() - q
+        && tokens.kinds[q + 1] == 0
+        && tokens.vals[q + 1] < 32
+        && has(family_mask(word), tokens.vals[q + 1])
 }
 
 // Whether the unbound variable v may be bound to the term at q, which is an unbound variable or a node.

@@ -13,7 +13,7 @@ ghost use Rattle.solver.specs.Words.Worklist.{Zero, Work, Grown};
 ghost use Rattle.solver.specs.Words.ReachContract.{question_of, counts, has, run_of, Told, asked, Steady, Free};
 ghost use Rattle.solver.specs.Words.CongruenceClasses.{Clearing};
 
-use super::resolving::named_run;
+use super::resolving::{named_run, run_at};
 use super::{Bindings, Run};
 use terms::Tokens;
 
@@ -90,7 +90,6 @@ pub fn clear_queue(marks: &mut [u32], queue: &mut [u32], top: usize)
 // Whether the term at p has what is asked for, bound variables replaced: it and what its variables are bound to are looked at, each once, until what is
 // asked for is met. The scratch is all 0 before and after.
 pub fn reaches(bindings: &Bindings, p: usize, want: Wanted, work: &mut [u32]) -> bool
-    requires areas { p < 2 ^ 32 }
     requires scratch { (length bindings.now.bound.now + length bindings.now.bound.now ≤ length work.old) × Zero work.old }
     ensures told { Told bindings.now.tokens.kinds.now bindings.now.tokens.vals.now bindings.now.bound.now
         (run_of bindings.now.tokens.kinds.now bindings.now.tokens.vals.now (p + 1)) (question_of want) result }
@@ -105,7 +104,7 @@ pub fn reaches(bindings: &Bindings, p: usize, want: Wanted, work: &mut [u32]) ->
     let tokens = &bindings.tokens;
     let (marks, queue) = work.split_at_mut(bindings.bound.len());
     let mut top = 0;
-    let run = named_run(tokens, p + 1).unwrap_or_default();
+    let run = run_at(tokens, p).unwrap_or_default();
     let mut hit = scan(tokens, run, want, marks, queue, &mut top);
     let mut done = 0;
     // It goes on until nothing is pending, and a step may add to that.
@@ -121,7 +120,6 @@ pub fn reaches(bindings: &Bindings, p: usize, want: Wanted, work: &mut [u32]) ->
 
 // Whether the unbound variable v is in the term at p, bound variables replaced.
 pub fn occurs(bindings: &Bindings, p: usize, v: u32, work: &mut [u32]) -> bool
-    requires areas { p < 2 ^ 32 }
     requires scratch { (length bindings.now.bound.now + length bindings.now.bound.now ≤ length work.old) × Zero work.old }
     ensures term { (t : Term) (b : ℕ → Option Term) (n : ℕ)
         → HeldBy bindings.now p t
@@ -136,7 +134,6 @@ pub fn occurs(bindings: &Bindings, p: usize, v: u32, work: &mut [u32]) -> bool
 
 // Whether an Unknown or Error is in the term at p, bound variables replaced.
 pub fn recovers(bindings: &Bindings, p: usize, work: &mut [u32]) -> bool
-    requires areas { p < 2 ^ 32 }
     requires scratch { (length bindings.now.bound.now + length bindings.now.bound.now ≤ length work.old) × Zero work.old }
     ensures term { (t : Term) (b : ℕ → Option Term) (n : ℕ)
         → HeldBy bindings.now p t

@@ -48,15 +48,14 @@ pub fn find_place(table: &Table, issued: usize, site: Site) -> Option<usize>
     if !table.words[3 * m..3 * m + issued].contains(&of) {
         return None;
     }
-    for v in (0..issued).rev() {
-        let k = table.words[2 * m + v];
-        let s = table.words[3 * m + v];
-        let i = table.words[4 * m + v];
-        if is_place(site, k, s, i) {
-            return Some(v);
-        }
-    }
-    None
+    (0..issued).rev().find(|&v| {
+        is_place(
+            site,
+            table.words[2 * m + v],
+            table.words[3 * m + v],
+            table.words[4 * m + v],
+        )
+    })
 }
 
 impl Solver {

@@ -204,11 +204,6 @@ module _ (kind site slot m : ℕ) (ts : List ℕ) (d : ℕ) where
       let q : n ≡ suc (n - 1) = omega arith in
       e ∙ ap Last q ∙ match_on kind site slot (place_words m ts) (site_words m ts) (slot_words m ts) d (n - 1) (sym (in_columns (n - 1) (omega arith)) ∙ t)
 
-  pub search_over : (a n : ℕ) → a ≡ Last n → n ≤ 0 → d ≡ a
-  unfolding last_match
-  search_over a zero e l = sym e
-  search_over a (suc n) e l = absurd (omega arith)
-
   -- where no variable below n has the site
   pub search_none : (n : ℕ) → n ≤ m → ((v : ℕ) → v < n → get_or ts (3 * m + v) 0 ≡ site → ⊥) → d ≡ Last n
   unfolding last_match
@@ -220,9 +215,6 @@ module _ (kind site slot m : ℕ) (ts : List ℕ) (d : ℕ) where
   pub search_answer : (r : ℕ) → r ≡ Last d → (p : VariablePlace) (ps : List VariablePlace) → HeldPlace p kind site slot → length ps ≡ d
       → HeldPlaces (place_words m ts) (site_words m ts) (slot_words m ts) ps → r ≡ found d (find p ps)
   search_answer r e p ps h l g = e ∙ ap Last (sym l) ∙ match_found p kind site slot h (place_words m ts) (site_words m ts) (slot_words m ts) d ps g
-
-abbrev pub LastOf : Site → ℕ → List ℕ → ℕ → ℕ → ℕ
-LastOf w m ts d n = Last (kind_word w) (site_word w) (slot_word w) m ts d n
 
 -- the words of a variable that is not issued are written
 pub places_other : (ks ss is : List ℕ) (j a b c : ℕ) (ps : List VariablePlace) → length ps ≤ j → HeldPlaces ks ss is ps → HeldPlaces (set ks j a) (set ss j b) (set is j c) ps

@@ -36,7 +36,7 @@ pub loop-hit-init : goal.loop-hit-init
 loop-hit-init c =
     let s = c.split_at_mut-marks.ensures in
     let m = c.scan-hit in (
-      going_start (rw s.front (zero_take _ _ c.requires.scratch.1)) (m.auto.marks ∙ s.front_len) _ (named_run_of c.args.bindings.now.tokens.kinds.now c.args.bindings.now.tokens.vals.now (c.args.p + 1) _ _ (named_or_empty _ _ c.named_run.ensures.named c.unwrap_or_default-run.ensures)) m.ensures.hit m.ensures.grown,
+      going_start (rw s.front (zero_take _ _ c.requires.scratch.1)) (m.auto.marks ∙ s.front_len) _ (named_run_of c.args.bindings.now.tokens.kinds.now c.args.bindings.now.tokens.vals.now (c.args.p + 1) _ _ (named_or_empty _ _ c.run_at.ensures.named c.unwrap_or_default-run.ensures)) m.ensures.hit m.ensures.grown,
       omega (arith, s.front_len, s.back_len, c.requires.scratch.0, m.auto.marks, m.auto.queue),
     )
 
@@ -56,7 +56,7 @@ pub loop-hit-preserved : goal.loop-hit-preserved
 loop-hit-preserved c =
     let i = c.loop-hit.invariant in
     let m = c.scan-hit-in-loop-hit in
-    let e = named_run_of _ _ _ _ _ (named_or_empty _ _ c.named_run-in-loop-hit.ensures.named c.unwrap_or_default-next.ensures) in (
+    let e = named_run_of _ _ _ _ _ (named_or_empty _ _ c.named_run.ensures.named c.unwrap_or_default-next.ensures) in (
       going_step i.0 c.loop-hit-test.true c.if-done-top.true _ e m.auto.marks m.ensures.hit m.ensures.grown,
       omega (arith, i.1, m.auto.marks, m.auto.queue),
     )

@@ -1,14 +1,20 @@
 use borrow.Author.Tests.{eq-eqb}
 use Rattle.terms.proofs.Laws.General.Bools.{never_true}
 use lib.Seq.{get_or-take, get_or-drop, length-take-le}
-use mathlib.Core.Path.{◌≡◌, refl, sym, ◌∙◌}
+use mathlib.Core.Path.{◌≡◌, refl, sym, ap, ◌∙◌}
 use Prim.Native.Nat.{ℕ, ◌+◌, ◌*◌, ◌-◌, ◌<◌}
 use lib.ListN.{get_or, drop, length-drop}
 use native.Mathlib.Omega.{arith}
+use Rattle.std.specs.declared.option.Option as rust
 use Rattle.solver.specs.Session.{find}
 use Rattle.solver.proofs.Laws.Definition.InOrderLaws.{find_issued}
 use Rattle.solver.specs.Words.OrderTerms.{place_of, kind_word, site_word, slot_word}
-use Rattle.solver.proofs.Laws.Table.MethodLaws.{LastOf, place_held, search_hit, search_on, search_over, search_none, search_answer, found_named, none_named}
+use Rattle.solver.proofs.Laws.Table.MethodLaws.{Fits-at, place_held, search_none, search_answer, none_named}
+use Rattle.std.proofs.Common.{rules, tests}
+use Rattle.std.proofs.lemmas.Iterator.Search.{find_from_yields_List}
+use Rattle.std.specs.Option.{option_map, unwrap_or}
+use Rattle.std.specs.Prelude.{Some, None}
+use Rattle.solver.proofs.Laws.Table.PlaceSearchLaws.{YieldsList-from_rev_range, search_down, found_below, answer_named}
 use Rattle.solver.proofs.variables.find_place.Goals as goal
 
 pub returns-then-not-contains : goal.returns-then-not-contains
@@ -23,21 +29,17 @@ returns-then-not-contains c =
     let w = search_none (kind_word a.site) (site_word a.site) (slot_word a.site) a.table.now.variables a.table.now.words.now a.issued a.issued (omega arith) no in
     record { word = w; low = λ v e. absurd (cc); place = λ ps n g. none_named a.issued (find (place_of a.site) ps) (search_answer (kind_word a.site) (site_word a.site) (slot_word a.site) a.table.now.variables a.table.now.words.now a.issued a.issued w (place_of a.site) ps (place_held a.site _ _ _ refl refl refl) n g) (λ v e. omega (arith, n, find_issued (place_of a.site) ps v e)) }
 
-pub returns-then-is_place : goal.returns-then-is_place
-returns-then-is_place c =
-    let a = c.args in
-    let l = c.loop-v in
-    let w = search_hit (kind_word a.site) (site_word a.site) (slot_word a.site) a.table.now.variables a.table.now.words.now a.issued (LastOf a.site a.table.now.variables a.table.now.words.now a.issued a.issued) l.v l.invariant.0 (omega arith) (omega arith) (sym c.is_place.ensures ∙ c.if-is_place.true) in
-    record { word = w; low = λ v e. let z : l.v - 1 ≡ v = cc in omega arith; place = λ ps n g. found_named (l.v - 1) a.issued (find (place_of a.site) ps) (search_answer (kind_word a.site) (site_word a.site) (slot_word a.site) a.table.now.variables a.table.now.words.now a.issued (l.v - 1) w (place_of a.site) ps (place_held a.site _ _ _ refl refl refl) n g) (omega arith) }
-
-pub loop-v-preserved : goal.loop-v-preserved
-loop-v-preserved c =
-    let l = c.loop-v in
-    (search_on _ _ _ _ _ _ _ l.v l.invariant.0 (omega arith) (omega arith) (sym c.is_place.ensures ∙ c.if-is_place.false), omega arith)
+-- an option mapped to itself is the same
+same_option : (r : rust.Option ℕ) → option_map (λ (x : ℕ). x) r ≡ r
+same_option (Some x) = refl
+same_option None = refl
 
 pub returns : goal.returns
 returns c =
     let a = c.args in
-    let l = c.loop-v in
-    let w = search_over (kind_word a.site) (site_word a.site) (slot_word a.site) a.table.now.variables a.table.now.words.now a.issued (LastOf a.site a.table.now.variables a.table.now.words.now a.issued a.issued) l.v l.invariant.0 (omega arith) in
-    record { word = w; low = λ v e. absurd (cc); place = λ ps n g. none_named a.issued (find (place_of a.site) ps) (search_answer (kind_word a.site) (site_word a.site) (slot_word a.site) a.table.now.variables a.table.now.words.now a.issued a.issued w (place_of a.site) ps (place_held a.site _ _ _ refl refl refl) n g) (λ v e. omega (arith, n, find_issued (place_of a.site) ps v e)) }
+    let t = Fits-at (kind_word a.site) (site_word a.site) (slot_word a.site) a.table.now.variables a.table.now.words.now a.issued in
+    let r = c.find.result in
+    let e = sym (same_option r) ∙ find_from_yields_List t _ _ _ c.find.ensures.ran (YieldsList-from_rev_range a.issued c.rev.ensures.source) (λ x b q k. search (rules, tests)) in
+    let w = ap (λ (o : rust.Option ℕ). unwrap_or o a.issued) e ∙ search_down (kind_word a.site) (site_word a.site) (slot_word a.site) a.table.now.variables a.table.now.words.now a.issued a.issued (omega (arith, c.requires)) in
+    let low : (v : ℕ) → r ≡ Some v → v < a.issued = λ v h. found_below t a.issued v (sym e ∙ h) in
+    record { word = w; low = low; place = λ ps n g. answer_named r a.issued (find (place_of a.site) ps) (search_answer (kind_word a.site) (site_word a.site) (slot_word a.site) a.table.now.variables a.table.now.words.now a.issued (unwrap_or r a.issued) w (place_of a.site) ps (place_held a.site _ _ _ refl refl refl) n g) low (λ v h. omega (arith, n, find_issued (place_of a.site) ps v h)) }
