@@ -12,7 +12,7 @@ use super::alike::cursor;
 use super::rows::child_here;
 use super::virtual_tokens::token_at;
 use super::write::{run_len, token_len, write_run, write_token};
-use super::{Content, Cursor, Origin, Pass, Records, RowWalk, Seen, Token};
+use super::{Content, Cursor, Origin, Pass, Records, RowWalk, Seen, Token, Tokens};
 
 // One token. The pass is a value and no type, as in `emit_run`: what is sized and what is written are the same but for the last step.
 fn show_token(out: &mut [u8], at: usize, x: Token, pass: Pass) -> Option<usize>
@@ -32,30 +32,29 @@ fn show_token(out: &mut [u8], at: usize, x: Token, pass: Pass) -> Option<usize>
 
 // The `count` lent tokens from `from` on; a token has at most 6 bytes.
 fn show_flat(
-    kinds: &[u32],
-    vals: &[u32],
+    tokens: &Tokens,
     from: usize,
     count: usize,
     out: &mut [u8],
     at: usize,
     pass: Pass,
 ) -> Option<usize>
-    requires run { (from + count ≤ length kinds.now) × (from + count ≤ length vals.now) }
+    requires run { from + count ≤ length tokens.now.kinds.now }
     requires small { count < 4294967296 }
     requires room { at ≤ length out.old }
     ensures kept { Kept (writes pass) out.old out.new at result }
-    ensures shows { Shows (writes pass) out.old out.new at (spelt kinds.now vals.now from count) result }
+    ensures shows { Shows (writes pass) out.old out.new at (spelt tokens.now.kinds.now tokens.now.vals.now from count) result }
 {
     if pass == Pass::Write && 6 * count <= out.len() - at {
-        return Some(write_run(kinds, vals, from, count, out, at));
+        return Some(write_run(tokens.kinds, tokens.vals, from, count, out, at));
     }
-    let n = run_len(kinds, vals, from, count);
+    let n = run_len(tokens.kinds, tokens.vals, from, count);
     if out.len() - at < n {
         return None;
     }
     match pass {
         Pass::Count => Some(at + n),
-        Pass::Write => Some(write_run(kinds, vals, from, count, out, at)),
+        Pass::Write => Some(write_run(tokens.kinds, tokens.vals, from, count, out, at)),
     }
 }
 
@@ -76,15 +75,7 @@ fn show_run(
 {
     let end = from + count;
     if end <= seen.tokens.kinds.len() {
-        return show_flat(
-            seen.tokens.kinds,
-            seen.tokens.vals,
-            from,
-            count,
-            out,
-            at,
-            pass,
-        );
+        return show_flat(&seen.tokens, from, count, out, at, pass);
     }
     let mut i = at;
     for q in from..end {

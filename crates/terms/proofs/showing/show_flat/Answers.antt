@@ -6,7 +6,7 @@ use Rattle.terms.proofs.showing.show_flat.Goals as goal
 pub write_run-requires-clause-room : goal.write_run-requires-clause-room
 write_run-requires-clause-room c =
     let a = c.args in
-    omega (arith, c.requires.room, c.if-count-out.true, spelt_short a.kinds.now a.vals.now (λ i. omega (arith, c.shared_slice_known-2-1.given i)) a.from a.count)
+    omega (arith, c.requires.room, c.if-count-out.true, spelt_short a.tokens.now.kinds.now a.tokens.now.vals.now a.tokens.now.narrow.fits a.from a.count)
 
 pub returns-then-count-out-clause-kept : goal.returns-then-count-out-clause-kept
 returns-then-count-out-clause-kept c =
@@ -16,5 +16,5 @@ returns-then-count-out-clause-kept c =
       long = search rules;
       same = search rules;
       within =
-          (omega (arith, w.next), omega (arith, w.next, c.requires.room, c.if-count-out.true, spelt_short a.kinds.now a.vals.now (λ i. omega (arith, c.shared_slice_known-2-1.given i)) a.from a.count));
+          (omega (arith, w.next), omega (arith, w.next, c.requires.room, c.if-count-out.true, spelt_short a.tokens.now.kinds.now a.tokens.now.vals.now a.tokens.now.narrow.fits a.from a.count));
     }
