@@ -23,7 +23,8 @@ pub fn cursor(seen: &Seen, x: Content) -> Cursor
     }
 }
 
-// Whether a content is as in the source and all its tokens are lent.
+// Whether a content is as in the source and all its tokens are lent. `has_projection` and `fixed_nodes` ask the like of a term of at least one token; here a
+// head whose span is 0 is lent too, as the clause says.
 fn is_lent(tokens: &Tokens, x: Content) -> bool
     ensures { result
         ≡ (eqb x.kids 0 && leb (x.head + span (get_or tokens.now.kinds.now x.head 0) (get_or tokens.now.vals.now x.head 0)) (length tokens.now.kinds.now)) }
