@@ -134,25 +134,11 @@ fn run_within(
 }
 
 // Whether a sheet, an output and areas of so many bytes and words are taken.
+#[tactic(auto, unfolding(crate::specs::Entry::sizes_accepted))]
 fn within_bounds(sheet: usize, out: usize, a: usize, b: usize, c: usize, d: usize) -> bool
     ensures { result ≡ sizes_accepted 16384 sheet out a b c d }
 {
-    if 16777216 < sheet {
-        return false;
-    }
-    if 16777216 < out {
-        return false;
-    }
-    if a < 16384 {
-        return false;
-    }
-    if b < 16384 {
-        return false;
-    }
-    if c < 16384 {
-        return false;
-    }
-    16384 <= d
+    sheet <= 16777216 && out <= 16777216 && 16384 <= a && 16384 <= b && 16384 <= c && 16384 <= d
 }
 
 // The run of a sheet, in areas of any length: nothing is run where the sheet or the output is too long or an area too short.
