@@ -4,7 +4,7 @@ use Rattle.std.specs.declared.result.Result as rust
 use Rattle.terms.specs.declared.Refusal.{Refusal}
 use Rattle.reread.specs.declared.Frame.{Frame}
 use Rattle.reread.specs.declared.Frames.{Frames}
-use Rattle.reread.specs.declared.input.Input.{Input}
+use Rattle.frames.specs.declared.input.Input.{Input}
 use Rattle.reread.specs.declared.Frame.TheVariants.{Number, Kept}
 
 -- tokens from the first up to the last, within two areas of m and n, where there is no refusal

@@ -9,10 +9,7 @@ ghost use Rattle.std.specs.Prelude.{◌≡◌, ◌+◌, ◌-◌, ◌≤◌, ◌<
 ghost use Rattle.std.specs.Iterator.{at_most};
 ghost use Rattle.reread.specs.Frame.{Sound, Lies, Passes};
 
-mod input;
-
-use frames::all_are;
-use input::Input;
+use frames::{Input, all_are};
 use terms::{
     LEVELS, NODES, ORDINARY, PartKind, Place, Refusal, clear_tokens, number_len, part_at,
     read_number, run_len, write_number, write_run,

@@ -4,10 +4,10 @@
 
 ghost use Rattle.std.specs.Prelude.{◌≤◌, length, IfSome};
 
-mod input;
+mod mode;
 
-use frames::number_at;
-use input::{Input, Mode};
+use frames::{Input, number_at};
+use mode::Mode;
 use terms::{LEVELS, NODES, PartKind, Place, clear_tokens, part_at, run_len, write_run};
 
 // Reads the term. Returns how many tokens stand in the areas, or nothing where it is refused, or has more than there is space for.

@@ -1,7 +1,7 @@
 // What standard input holds.
 ghost use Rattle.std.specs.Prelude.{◌<◌, length};
 
-// Bytes of the input, which are few: a bare nominal has a token more than bytes, and `part_at` asks for room for it.
+/// Bytes of the input, which are few: `part_at` of `terms` asks that there is a number of 32 bits for each, and, for a bare nominal, room for a token more.
 #[derive(Clone, Copy)]
 pub struct Input<'a> {
     pub bytes: &'a [u8],
