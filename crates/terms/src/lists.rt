@@ -1,6 +1,7 @@
 // The lists of an order that are stored: entries, receivers and arguments. A term reader goes from record to record; each list is kept whole, or nothing
 // of it remains.
 // Kinds and values that are written are lent as two slices; the lines at the head of store.rt say why.
+// Bytes, levels and variables are passed apart: read.rt says why.
 ghost use Rattle.std.specs.Prelude.{◌≡◌, OnErr};
 ghost use Rattle.terms.specs.Words.Tokens.{area};
 ghost use Rattle.terms.specs.Words.ReadContract.{Room, PartsDone};

@@ -1,5 +1,6 @@
 // The term reader, which holds the bytes and the place in them, and what reads by it.
 // Kinds and values that are written are lent as two slices; the lines at the head of store.rt say why.
+// Bytes, levels and variables are passed apart: read.rt says why.
 ghost use Rattle.std.specs.Prelude.{◌≡◌, OnErr};
 ghost use Rattle.terms.specs.Words.Tokens.{area};
 ghost use Rattle.terms.specs.Words.ReadContract.{Room, PartsDone, answer, kept};
