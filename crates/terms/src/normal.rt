@@ -1,8 +1,7 @@
 // `normalize` and `with_associated_types`: a term is walked and sized, and then written.
 // Kinds and tags are matched by number; the line in kinds.rt says why.
 // Heads and kids are lent as two slices; the line in rows.rt says why.
-ghost use Rattle.std.specs.Prelude.{◌≡◌, Some, ◌+◌, ◌≤◌, ◌<◌, List, length, nat_eq};
-ghost use Rattle.std.specs.List.{list_any};
+ghost use Rattle.std.specs.Prelude.{◌≡◌, Some, ◌+◌, ◌≤◌, ◌<◌, List, length};
 ghost use Rattle.std.proofs.lemmas.List.Edits.{sets};
 ghost use Rattle.terms.specs.Words.VirtualTokens.{Sight};
 ghost use Rattle.terms.specs.Term.{Term, Parts, node, items, bytes, Held};
@@ -16,17 +15,10 @@ ghost use Rattle.terms.specs.Words.NormalContract.{Zero, Lends, Stands, Sized, A
 use super::rules::source;
 use super::showing::show_tree;
 use super::store::clear_tokens;
-use super::walking::walk;
+use super::walking::{any_projection, walk};
 use super::{
     LookUp, Normaliser, Origin, Pass, Ready, Records, Rule, Seen, Tokens, Unfinished, Walked,
 };
-
-// Whether one of the kinds is a projection's.
-fn any_projection(kinds: &[u32]) -> bool
-    ensures { result ≡ list_any (λ k. nat_eq k 20) kinds.now }
-{
-    kinds.iter().any(|k| *k == 20)
-}
 
 // Whether the term at p has a projection.
 fn has_projection(tokens: &Tokens, p: u32) -> bool
