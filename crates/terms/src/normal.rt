@@ -127,20 +127,10 @@ fn given(tokens: &Tokens, interface: u32, owner: u32) -> Origin
         → HeldGiven tokens.now.kinds.now tokens.now.vals.now result i o }
 {
     let len = tokens.kinds.len();
-    let span = span_at(tokens, owner, len);
-    let whole = span_at(tokens, interface, len);
-    if whole == 0 {
-        return Origin {
-            owner,
-            span: 0,
-            interface,
-            row: 0,
-        };
-    }
-    let row = whole - 1;
+    let row = span_at(tokens, interface, len).saturating_sub(1);
     Origin {
         owner,
-        span: span as u32,
+        span: span_at(tokens, owner, len) as u32,
         interface,
         row: row as u32,
     }

@@ -320,8 +320,3 @@ given_held ks vs g whole fo fi er i o ho hi = record {
   span_is = fo o ho (omega (arith, ho.within));
   row_is = omega (arith, fi (node 20 i) hi (omega (arith, hi.within)), row_length 20 i);
 }
-
--- a bare nominal has a token
-pub given_never : {A : Type 0} (ks vs : List ℕ) (p whole : ℕ) → ((t : Term) → Held ks vs p t → length (items t) ≤ length ks → whole ≡ length (items t)) → whole ≡ 0
-    → (i : Parts) → Held ks vs p (node 20 i) → A
-given_never ks vs p whole f z i h = absurd (omega (arith, f (node 20 i) h (omega (arith, h.within)), row_length 20 i))
