@@ -2,8 +2,7 @@
 // Kinds and tags are matched by number; the line in kinds.rt says why.
 // Heads and kids are lent as two slices; the line in rows.rt says why.
 // The output and the position in it stand apart: the lines at the head of store.rt say why.
-ghost use Rattle.std.specs.Prelude.{◌≡◌, Some, ◌+◌, ◌≤◌, ◌<◌, List, length, nat_eq};
-ghost use Rattle.std.specs.List.{list_any};
+ghost use Rattle.std.specs.Prelude.{◌≡◌, Some, ◌+◌, ◌≤◌, ◌<◌, List, length};
 ghost use Rattle.std.proofs.lemmas.List.Edits.{sets};
 ghost use Rattle.terms.specs.Words.VirtualTokens.{Sight};
 ghost use Rattle.terms.specs.Term.{Term, Parts, node, items, bytes, Held};
@@ -17,17 +16,10 @@ ghost use Rattle.terms.specs.Words.NormalContract.{Zero, Lends, Stands, Sized, A
 use super::rules::source;
 use super::showing::show_tree;
 use super::store::clear_tokens;
-use super::walking::walk;
+use super::walking::{any_projection, walk};
 use super::{
     LookUp, Normaliser, Origin, Pass, Ready, Records, Rule, Seen, Tokens, Unfinished, Walked,
 };
-
-// Whether one of the kinds is a projection's.
-fn any_projection(kinds: &[u32]) -> bool
-    ensures { result ≡ list_any (λ k. nat_eq k 20) kinds.now }
-{
-    kinds.iter().any(|k| *k == 20)
-}
 
 // Whether the term at p has a projection.
 fn has_projection(tokens: &Tokens, p: u32) -> bool
@@ -136,20 +128,10 @@ fn given(tokens: &Tokens, interface: u32, owner: u32) -> Origin
         → HeldGiven tokens.now.kinds.now tokens.now.vals.now result i o }
 {
     let len = tokens.kinds.len();
-    let span = span_at(tokens, owner, len);
-    let whole = span_at(tokens, interface, len);
-    if whole == 0 {
-        return Origin {
-            owner,
-            span: 0,
-            interface,
-            row: 0,
-        };
-    }
-    let row = whole - 1;
+    let row = span_at(tokens, interface, len).saturating_sub(1);
     Origin {
         owner,
-        span: span as u32,
+        span: span_at(tokens, owner, len) as u32,
         interface,
         row: row as u32,
     }

@@ -2,13 +2,14 @@
 // Kinds and tags are matched by number; the line in kinds.rt says why.
 // Heads and kids are lent as two slices; the line in rows.rt says why.
 ghost use Rattle.terms.specs.Words.Lent.{shown};
-ghost use Rattle.std.specs.Prelude.{◌≡◌, Bool, Some, None, ℕ, ◌+◌, ◌-◌, ◌≤◌, ◌<◌, length, get_or, IfSome};
+ghost use Rattle.std.specs.Prelude.{◌≡◌, Bool, Some, None, ℕ, ◌+◌, ◌-◌, ◌≤◌, ◌<◌, length, get_or, filter, nat_eq, IfSome};
+ghost use Rattle.std.specs.List.{list_any};
 ghost use Rattle.terms.specs.Term.{Term, depth, bytes, Held};
 ghost use Rattle.terms.specs.Normal.{replacement};
 ghost use Rattle.terms.specs.Lookup.{Look, look_by, Looks};
 ghost use Rattle.terms.specs.Words.Arena.{Tree, TagAt, Counts, Fetched, Frames, RecordRoom};
 ghost use Rattle.terms.specs.Words.Held.{span};
-ghost use Rattle.terms.specs.Words.WalkingContract.{node_first, Fixed, Walks, used};
+ghost use Rattle.terms.specs.Words.WalkingContract.{first_of_node, Fixed, Walks, used};
 
 use super::alike::same_trees;
 use super::interface::by_interface;
@@ -93,11 +94,18 @@ fn kept(
     Some(result(x, last, visits - nodes, size))
 }
 
-// 1 where a token of this kind is the first of a node, 0 where it is a number.
-fn first_of_node(kind: u32) -> usize
-    ensures { result ≡ node_first kind }
+// Whether one of the kinds is a projection's.
+pub fn any_projection(kinds: &[u32]) -> bool
+    ensures { result ≡ list_any (λ k. nat_eq k 20) kinds.now }
 {
-    usize::from(kind != 0)
+    kinds.iter().any(|k| *k == 20)
+}
+
+// How many of the kinds are of first tokens of nodes: all but 0, which is a number's.
+fn node_count(kinds: &[u32]) -> usize
+    ensures { result ≡ length (filter first_of_node kinds.now) }
+{
+    kinds.iter().filter(|k| **k != 0).count()
 }
 
 // Contents of more tokens are not tried.
@@ -121,14 +129,11 @@ fn fixed_nodes(tokens: &Tokens, x: Content, most: usize) -> Option<usize>
     if tokens.kinds.len() < end {
         return None;
     }
-    let mut n = 0;
-    for q in from..end {
-        let k = tokens.kinds[q];
-        if k == 20 {
-            return None;
-        }
-        n += first_of_node(k);
+    let run = &tokens.kinds[from..end];
+    if any_projection(run) {
+        return None;
     }
+    let n = node_count(run);
     if most < n {
         return None;
     }

@@ -1,5 +1,5 @@
 -- What a visit leaves in the arena.
-use Rattle.std.specs.Prelude.{◌≡◌, Bool, false, List, ℕ, zero, suc, ◌+◌, ◌-◌, ◌*◌, ◌≤◌, ◌<◌, length, get_or, Option, Some, None}
+use Rattle.std.specs.Prelude.{◌≡◌, Bool, false, not, nat_eq, List, ℕ, ◌+◌, ◌-◌, ◌*◌, ◌≤◌, ◌<◌, length, get_or, Option, Some, None}
 use Rattle.terms.specs.declared.Origin.{Origin}
 use Rattle.terms.specs.declared.Content.{Content}
 use Rattle.terms.specs.declared.LookUp.{LookUp}
@@ -20,10 +20,9 @@ pub record Visited (a : Area) (hs cs : List ℕ) (S : ℕ → Bool) (next h c ne
   pub count : next' ≡ o.count
   pub size : size' ≡ length (bytes o.term)
 
--- how many nodes begin with a token of this kind
-unfoldable pub node_first : ℕ → ℕ
-node_first zero = 0
-node_first (suc k) = 1
+-- whether a token of this kind is the first of a node; a number's kind is 0
+abbrev pub first_of_node : ℕ → Bool
+first_of_node k = not (nat_eq k 0)
 
 -- a content as in the source, of lent tokens alone: a term with no projection, of r nodes
 pub record Fixed (ks vs : List ℕ) (x : Content) (r : ℕ) : Type 0 where

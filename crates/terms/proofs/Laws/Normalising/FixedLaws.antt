@@ -2,10 +2,11 @@
 use mathlib.Core.Path.{◌≡◌, refl, sym, ap, ap₂, ◌∙◌}
 use mathlib.Core.Bool.{Bool, true, false, ◌||◌}
 use Rattle.std.specs.declared.option.Option as rust
-use Rattle.std.specs.Prelude.{Some, None}
+use Rattle.std.specs.Prelude.{Some, None, filter, take, drop}
+use Rattle.std.proofs.lemmas.List.{drop_more}
 use mathlib.Core.List.{List, [], ◌∷◌, ◌++◌}
 use mathlib.Core.Option.{Option, none}
-use Prim.Native.Nat.{ℕ, zero, suc, pred, min, ◌+◌, ◌-◌, ◌≤◌, ◌<◌}
+use Prim.Native.Nat.{ℕ, zero, suc, min, ◌+◌, ◌-◌, ◌≤◌, ◌<◌}
 use native.Mathlib.Omega.{arith}
 use native.Mathlib.Decide.{dec_lt, ℕ_discrete}
 use borrow.Author.Tests.{ne_eqb, eq-eqb}
@@ -24,15 +25,14 @@ use Rattle.terms.specs.Questions.{meets, meets_row, counted, counted_by, entered
 use Rattle.terms.specs.Words.VirtualTokens.{view, Sight}
 use Rattle.terms.specs.Lookup.{Look, look_by}
 use Rattle.terms.specs.Words.Arena.{Tree, grow, Frames}
-use Rattle.terms.specs.Words.WalkingContract.{node_first, Fixed, Went, Walks, used}
+use Rattle.terms.specs.Words.WalkingContract.{first_of_node, Fixed, Went, Walks, used}
 use Rattle.terms.specs.Normal.{Out, Row, visit_kids, rebuilt, replacement, walk_by}
 use Rattle.terms.proofs.Laws.General.Bools.{never_true, never_false}
-use Rattle.terms.proofs.Laws.Held.HeldLaws.{toks_cons, items_some}
+use Rattle.terms.proofs.Laws.Held.HeldLaws.{items_some}
 use Rattle.terms.proofs.Laws.Held.SameLaws.{span_held}
 use Rattle.terms.proofs.Laws.Normalising.SourceLaws.{tree_held}
 use Rattle.terms.proofs.Laws.Normalising.ArenaLaws.{wider, tree_kept, grow_old}
 use Rattle.terms.proofs.Laws.Normalising.OpenLaws.{frames_same}
-use Rattle.terms.proofs.Laws.Normalising.NormalLaws.{Scanning, scanning_start, scanning_none, scanning_next}
 use Rattle.terms.proofs.Laws.Normalising.WalkLaws.{finds}
 use Rattle.terms.proofs.Laws.Normalising.SumLaws.{total, total_split, plainly}
 use Rattle.terms.proofs.Laws.Normalising.SlotLaws.{class_plain, class_nominal, nominal_member, nominal_argument, slot_zero, slot_one}
@@ -255,7 +255,12 @@ fixed_walk look (suc l) t (suc v) c p hl hv =
 
 -- ---- the nodes of a term, counted by its tokens
 
-unfoldable pub nodes : List Item → ℕ
+-- of a kind
+unfoldable node_first : ℕ → ℕ
+node_first zero = 0
+node_first (suc k) = 1
+
+unfoldable nodes : List Item → ℕ
 nodes [] = 0
 nodes (item k v ∷ l) = node_first k + nodes l
 
@@ -276,13 +281,35 @@ mutual
   sizes_nodes (num n ps) = sizes_nodes ps ∙ omega arith
   sizes_nodes (sub t ps) = omega (arith, size_nodes t, sizes_nodes ps, nodes_append (items t) (part_items ps))
 
-node_few : (k : ℕ) → node_first k ≤ 1
+first_kept : (k : ℕ) (l : List ℕ) → length (filter first_of_node (k ∷ l)) ≡ node_first k + length (filter first_of_node l)
 unfolding node_first
-node_few zero = omega arith
-node_few (suc k) = omega arith
+first_kept zero l = omega arith
+first_kept (suc k) l = rw (ne_eqb (suc k) 0 (λ e. omega arith)) (omega arith)
 
-pub first_few : (k m : ℕ) → m ≡ node_first k → m ≤ 1
-first_few k m e = omega (arith, node_few k)
+-- the kinds tell
+node_kinds : (ks vs : List ℕ) (q n : ℕ) → q + n ≤ length ks → length (filter first_of_node (take n (drop q ks))) ≡ nodes (toks ks vs q n)
+unfolding nodes spell
+node_kinds ks vs q zero h = refl
+node_kinds ks vs q (suc n) h =
+    let r = node_kinds ks vs (suc q) n (omega arith) in
+    let m : q + 1 ≡ suc q = omega arith in
+    rw (drop_more ks q 0 (omega arith), m) (first_kept (get_or ks q 0) (take n (drop (suc q) ks)) ∙ ap (λ (c : ℕ). node_first (get_or ks q 0) + c) r)
+
+pub nodes_few : (n : ℕ) (l : List ℕ) → length (filter first_of_node (take n l)) ≤ n
+unfolding node_first
+nodes_few zero l = omega arith
+nodes_few (suc n) [] = omega arith
+nodes_few (suc n) (zero ∷ l) = omega (arith, first_kept zero (take n l), nodes_few n l)
+nodes_few (suc n) (suc k ∷ l) = omega (arith, first_kept (suc k) (take n l), nodes_few n l)
+
+pub nodes_tell : (ks vs : List ℕ) (p from l : ℕ) {k v : ℕ} → from ≡ p → k ≡ get_or ks from 0 → v ≡ get_or vs from 0 → (1 ≤ span k v → l ≡ span k v)
+    → (e : ℕ) → e ≡ from + l → (n : ℕ) → n ≡ length (filter first_of_node (take (e - from) (drop from ks))) → e ≤ length ks
+    → (t : Term) → Held ks vs p t → n ≡ size t
+nodes_tell ks vs p from l ep ek ev el e z n y f t h =
+    let h' : Held ks vs from t = rw ep h in
+    let s = ap₂ span ek ev ∙ span_held ks vs from t h' in
+    let c : e - from ≡ length (items t) = omega (arith, el (omega (arith, items_some t)), s) in
+    y ∙ node_kinds ks vs from (e - from) (omega arith) ∙ ap (λ (m : ℕ). nodes (toks ks vs from m)) c ∙ ap nodes h'.tokens ∙ sym (size_nodes t)
 
 -- a term whose tokens are lent
 pub lent_span : (ks vs : List ℕ) (h from l : ℕ) {k v : ℕ} → from ≡ h → k ≡ get_or ks from 0 → v ≡ get_or vs from 0 → (1 ≤ span k v → l ≡ span k v) → from + l ≤ length ks
@@ -292,49 +319,6 @@ lent_span ks vs h from l {k = k} {v = v} ep ek ev el le = rw (← ep, ← ek, �
     go : Dec (0 < span k v) → from + span k v ≤ length ks
     go (yes s) = omega (arith, el (omega arith))
     go (no s) = omega arith
-
--- the loop: n nodes are counted, and what is left has the others
-module _ (ks vs : List ℕ) (p : ℕ) where
-  pub record Counting (from q e n : ℕ) : Type 0 where
-    pub scan : Scanning ks vs p q e
-    pub within : e ≤ length ks
-    pub low : n + from ≤ q
-    pub high : q ≤ e
-    pub is : (t : Term) → Held ks vs p t → size t ≡ n + nodes (toks ks vs q (e - q))
-
-  pub counting_start : (from l : ℕ) {k v : ℕ} → from ≡ p → from < 4294967296 → l < 4294967296 → k ≡ get_or ks from 0 → v ≡ get_or vs from 0 → (1 ≤ span k v → l ≡ span k v)
-      → from + l ≤ length ks → Counting from from (from + l) 0
-  counting_start from l {k = k} {v = v} ep sf sl ek ev el le = record {
-    scan = scanning_start ks vs p from l ep sf sl ek ev el;
-    within = le;
-    low = omega arith;
-    high = omega arith;
-    is = λ t h.
-        let h' : Held ks vs from t = rw ep h in
-        let s = ap₂ span ek ev ∙ span_held ks vs from t h' in
-        let z : from + l - from ≡ length (items t) = omega (arith, el (omega (arith, items_some t)), s) in
-        omega (arith, size_nodes t, ap nodes (sym (ap (toks ks vs from) z ∙ h'.tokens)));
-  }
-
-  module _ (from q e n : ℕ) (w : Counting from q e n) where
-    pub counting_done : e ≤ q → (t : Term) → Held ks vs p t → (contains_projection t ≡ false) × (n ≡ size t)
-    unfolding nodes spell
-    counting_done le t h = (sym (scanning_none ks vs p q e w.scan le t h), (let z : e - q ≡ 0 = omega arith in sym (w.is t h ∙ rw z (omega arith))))
-
-    pub counting_next : q < e → {k m : ℕ} → k ≡ get_or ks q 0 → (k ≡ 20 → ⊥) → m ≡ node_first k → Counting from (q + 1) e (n + m)
-    unfolding nodes
-    counting_next lt {k = k} {m = m} ek f em = record {
-      scan = scanning_next ks vs p q e w.scan lt ek f;
-      within = w.within;
-      low = omega (arith, w.low, em, node_few k);
-      high = omega arith;
-      is = λ t h.
-          let x : pred (e - q) ≡ e - (q + 1) = omega arith in
-          let y : suc q ≡ q + 1 = omega arith in
-          let z = ap nodes (toks_cons ks vs q (e - q) (omega arith) ∙ ap (λ (i : ℕ). item (get_or ks q 0) (get_or vs q 0) ∷ toks ks vs (suc q) i) x) in
-          let u = ap (λ (i : ℕ). nodes (toks ks vs i (e - (q + 1)))) y in
-          omega (arith, w.is t h, z, u, em, ap node_first ek);
-    }
 
 -- ---- the visit of a content that stays
 

@@ -37,7 +37,7 @@ use Rattle.terms.proofs.Laws.General.Bools.{never_true, or_assoc}
 use Rattle.terms.proofs.Laws.Normalising.VirtualTokenLaws.{width_is, view_held}
 use Rattle.terms.proofs.Laws.Normalising.ArenaLaws.{held_tree}
 use Rattle.terms.proofs.Laws.Normalising.DepthLaws.{walk_depth}
-use Rattle.terms.proofs.Laws.Held.HeldLaws.{toks_cons, items_some}
+use Rattle.terms.proofs.Laws.Held.HeldLaws.{items_some}
 use Rattle.terms.proofs.Laws.Held.SameLaws.{span_held}
 
 -- ---- records cleared
@@ -145,40 +145,6 @@ module _ (ks vs : List ℕ) (p from l : ℕ) {k v : ℕ} (ep : from ≡ p) (ek :
 
   pub kinds_out : length ks < from + l → (t : Term) → Held ks vs p t → ⊥
   kinds_out o t h = let w = whole t h in omega (arith, w.0, w.1.within)
-
--- the loop: what is left decides
-module _ (ks vs : List ℕ) (p : ℕ) where
-  pub record Scanning (q e : ℕ) : Type 0 where
-    pub small : e < 8589934592
-    pub is : (t : Term) → Held ks vs p t → contains_projection t ≡ has_kind 20 (toks ks vs q (e - q))
-
-  pub scanning_start : (from l : ℕ) {k v : ℕ} → from ≡ p → from < 4294967296 → l < 4294967296 → k ≡ get_or ks from 0 → v ≡ get_or vs from 0 → (1 ≤ span k v → l ≡ span k v) → Scanning from (from + l)
-  scanning_start from l {k = k} {v = v} ep sf sl ek ev el = record {
-    small = omega arith;
-    is = λ t h.
-        let h' : Held ks vs from t = rw ep h in
-        let s = ap₂ span ek ev ∙ span_held ks vs from t h' in
-        let z : from + l - from ≡ length (items t) = omega (arith, el (omega (arith, items_some t)), s) in
-        has_term t ∙ ap (has_kind 20) (sym (ap (toks ks vs from) z ∙ h'.tokens));
-  }
-
-  module _ (q e : ℕ) (w : Scanning q e) where
-    pub scanning_none : e ≤ q → (t : Term) → Held ks vs p t → false ≡ contains_projection t
-    unfolding has_kind spell
-    scanning_none le t h = let z : e - q ≡ 0 = omega arith in sym (w.is t h ∙ rw z)
-
-    module _ (lt : q < e) {k : ℕ} (ek : k ≡ get_or ks q 0) where
-      first : has_kind 20 (toks ks vs q (e - q)) ≡ (eqb k 20 || has_kind 20 (toks ks vs (q + 1) (e - (q + 1))))
-      unfolding has_kind
-      first =
-          ap (has_kind 20) (toks_cons ks vs q (e - q) (omega arith))
-          ∙ rw (← ek) (ap₂ (λ (i n : ℕ). eqb k 20 || has_kind 20 (toks ks vs i n)) (omega arith) (omega arith))
-
-      pub scanning_next : (k ≡ 20 → ⊥) → Scanning (q + 1) e
-      scanning_next z = record {
-        small = w.small;
-        is = λ t h. w.is t h ∙ first ∙ ap (λ (b : Bool). b || has_kind 20 (toks ks vs (q + 1) (e - (q + 1)))) (ne_eqb k 20 z);
-      }
 
 -- ---- the answer
 
@@ -354,8 +320,3 @@ given_held ks vs g whole fo fi er i o ho hi = record {
   span_is = fo o ho (omega (arith, ho.within));
   row_is = omega (arith, fi (node 20 i) hi (omega (arith, hi.within)), row_length 20 i);
 }
-
--- a bare nominal has a token
-pub given_never : {A : Type 0} (ks vs : List ℕ) (p whole : ℕ) → ((t : Term) → Held ks vs p t → length (items t) ≤ length ks → whole ≡ length (items t)) → whole ≡ 0
-    → (i : Parts) → Held ks vs p (node 20 i) → A
-given_never ks vs p whole f z i h = absurd (omega (arith, f (node 20 i) h (omega (arith, h.within)), row_length 20 i))
