@@ -14,14 +14,15 @@ ghost use Rattle.sheet.specs.Operations as rows;
 ghost use Rattle.sheet.specs.Operations.{settled};
 ghost use Rattle.sheet.specs.Words.OrderKinds.{operation_row};
 ghost use Rattle.sheet.specs.Words.FramingContract.{OutputRoom, Framed};
-ghost use Rattle.sheet.specs.Words.OperationsContract.{IsPosed, RepliesTo, parameters_at};
+ghost use Rattle.sheet.specs.Words.OperationsContract.{IsPosed, RepliesTo, parameters_at, row_at};
 
 use super::framing::{begin_answer, write_byte_answer, write_bytes_answer, write_refusal};
 use super::{FieldSpot, Operation, OrderRefusal, Posed};
 use solver::{
-    Parameters, Pass, Question, Refusal, Rewriter, Rule, Tokens, Unfinished, ask, can_weaken_to,
-    clear_tokens, conflicts_with, context, family, instantiation, normalise, recovered_len,
-    satisfies, satisfies_for, self_only, with_associated_types, write_normalised, write_recovered,
+    Parameters, Part, Pass, Question, Refusal, Rewriter, Rule, Tokens, Unfinished, ask,
+    can_weaken_to, clear_tokens, conflicts_with, context, family, instantiation, normalise,
+    recovered_len, satisfies, satisfies_for, self_only, with_associated_types, write_normalised,
+    write_recovered,
 };
 
 // Order 9.
@@ -70,6 +71,16 @@ fn parameters_at<'a>(posed: &Posed<'a>, spot: FieldSpot) -> Parameters<'a>
     }
 }
 
+// The row that a field has.
+fn row_at(spot: FieldSpot) -> Part
+    ensures { result ≡ row_at spot }
+{
+    Part {
+        from: spot.place,
+        end: spot.end,
+    }
+}
+
 // Orders 12, 13 and 14: the term with its binders replaced.
 fn rewritten(rewriter: &Rewriter, from: usize, out: &mut [u8], to: usize) -> Option<usize>
     requires few { length rewriter.now.tokens.kinds.now ≤ 32768 }
@@ -92,7 +103,7 @@ fn instantiated(posed: &Posed, out: &mut [u8], to: usize) -> Option<usize>
     let o = posed.fields;
     let rewriter = Rewriter {
         tokens: posed.tokens,
-        binders: instantiation(o.first.place, o.second.place, o.second.end),
+        binders: instantiation(row_at(o.first), row_at(o.second)),
     };
     rewritten(&rewriter, o.third.place, out, to)
 }
@@ -107,7 +118,7 @@ fn in_context(posed: &Posed, out: &mut [u8], to: usize) -> Option<usize>
     let parameters = parameters_at(posed, o.third);
     let rewriter = Rewriter {
         tokens: posed.tokens,
-        binders: context(o.first.place, o.second.place, &parameters),
+        binders: context(row_at(o.first), &parameters),
     };
     rewritten(&rewriter, o.fourth.place, out, to)
 }
@@ -121,7 +132,7 @@ fn by_receiver(posed: &Posed, out: &mut [u8], to: usize) -> Option<usize>
     let o = posed.fields;
     let rewriter = Rewriter {
         tokens: posed.tokens,
-        binders: self_only(o.first.place, o.first.end),
+        binders: self_only(row_at(o.first)),
     };
     rewritten(&rewriter, o.second.place, out, to)
 }
@@ -210,11 +221,14 @@ fn apply_family(posed: &Posed, out: &mut [u8], to: usize) -> Option<usize>
         return write_byte_answer(out, to, 0);
     }
     let parameters = parameters_at(posed, o.first);
-    let e = o.third.place;
-    let r = o.fourth;
     let rewriter = Rewriter {
         tokens: posed.tokens,
-        binders: family(e, r.place, r.end, &parameters, o.fifth.place),
+        binders: family(
+            row_at(o.third),
+            row_at(o.fourth),
+            &parameters,
+            o.fifth.place,
+        ),
     };
     applied(&rewriter, o.second.place, out, to)
 }

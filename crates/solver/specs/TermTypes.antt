@@ -13,6 +13,7 @@ pub use Rattle.terms.specs.declared.Rule.{Rule}
 pub use Rattle.terms.specs.declared.Binders.{Binders}
 pub use Rattle.terms.specs.declared.Parameter.{Parameter}
 pub use Rattle.terms.specs.declared.Parameters.{Parameters}
+pub use Rattle.terms.specs.declared.Part.{Part}
 pub use Rattle.terms.specs.declared.Pass.{Pass}
 pub use Rattle.terms.specs.declared.Pass.TheVariants.{Count, Write}
 pub use Rattle.terms.specs.declared.Purpose.{Purpose}

@@ -24,10 +24,10 @@ pub use substitution::{context, family, instantiation, self_only};
 
 // Functions and types of the terms that are handed on to the sheet, which names this crate alone.
 pub use terms::{
-    Binders, LEVELS, Listing, ORDINARY, Parameter, Parameters, PartKind, Pass, Place, Question,
-    Ready, Refusal, Rewriter, Rule, Tokens, Unfinished, ask, byte_at, can_weaken_to, clear_tokens,
-    conflicts_with, keep_list, normalise, number_len, part_at, read_number, recovered_len,
-    satisfies, satisfies_for, with_associated_types, write_normalised, write_number,
+    Binders, LEVELS, Listing, ORDINARY, Parameter, Parameters, Part, PartKind, Pass, Place,
+    Question, Ready, Refusal, Rewriter, Rule, Tokens, Unfinished, ask, byte_at, can_weaken_to,
+    clear_tokens, conflicts_with, keep_list, normalise, number_len, part_at, read_number,
+    recovered_len, satisfies, satisfies_for, with_associated_types, write_normalised, write_number,
     write_recovered,
 };
 

@@ -9,7 +9,7 @@ ghost use Rattle.solver.specs.Shapes.{notion, same_shape};
 ghost use Rattle.solver.specs.Words.PendingContract.{strict_of, Laid, Taken, Wiped, places, PushedPairs, Twins, agree, here, window, PartEnd, NumberAt};
 
 use super::{Access, Counted, PairAt};
-use terms::{Tokens, skip};
+use terms::{Part, Tokens, skip};
 
 // Where the part at i ends, or end where it would go past it.
 pub fn part_end(tokens: &Tokens, i: usize, end: usize) -> usize
@@ -17,6 +17,17 @@ pub fn part_end(tokens: &Tokens, i: usize, end: usize) -> usize
     ensures { PartEnd tokens.now.kinds.now tokens.now.vals.now i end result }
 {
     i + skip(tokens, i, end - i)
+}
+
+// The row of the node at a: its parts.
+pub fn row_of(tokens: &Tokens, a: usize) -> Part
+    requires { a < length tokens.now.kinds.now }
+    ensures { (result.from ≡ a + 1) × PartEnd tokens.now.kinds.now tokens.now.vals.now a (length tokens.now.kinds.now) result.end }
+{
+    Part {
+        from: a + 1,
+        end: part_end(tokens, a, tokens.kinds.len()),
+    }
 }
 
 // Whether the parts at i and j agree, but for the terms that they are, and for the access where it is ignored.
@@ -58,41 +69,41 @@ pub fn same_shape(tokens: &Tokens, a: usize, b: usize, access: Access) -> bool
     if tokens.kinds[a] != tokens.kinds[b] {
         return false;
     }
-    let ae = part_end(tokens, a, tokens.kinds.len());
-    let be = part_end(tokens, b, tokens.kinds.len());
-    let mut i = a + 1;
-    let mut j = b + 1;
+    let x = row_of(tokens, a);
+    let y = row_of(tokens, b);
+    let mut i = x.from;
+    let mut j = y.from;
     let mut counts = access_of(tokens.kinds[a], access);
     // Both rows go on by the width of their own parts. An iterator over two takes numbers and terms apart; here one test is for both, another for the first.
-    while i < ae {
-        if be <= j {
+    while i < x.end {
+        if y.end <= j {
             return false;
         }
         if !parts_agree(tokens, i, j, counts) {
             return false;
         }
-        i = part_end(tokens, i, ae);
-        j = part_end(tokens, j, be);
+        i = part_end(tokens, i, x.end);
+        j = part_end(tokens, j, y.end);
         counts = Access::Compared;
     }
-    be <= j
+    y.end <= j
 }
 
-// Where the first number of a row stands that begins at from and ends before end.
-pub fn number_from(tokens: &Tokens, from: usize, end: usize) -> Option<usize>
-    requires { (from ≤ end) × (end ≤ length tokens.now.kinds.now) }
-    ensures place { (i : ℕ) → result ≡ Some i → i < end }
-    ensures number { (ps : Parts) → HeldParts tokens.now.kinds.now tokens.now.vals.now from end ps
-        → NumberAt tokens.now.kinds.now tokens.now.vals.now (unwrap_or result end) end ps }
+// Where the first number of a row stands.
+pub fn number_from(tokens: &Tokens, row: Part) -> Option<usize>
+    requires { (row.from ≤ row.end) × (row.end ≤ length tokens.now.kinds.now) }
+    ensures place { (i : ℕ) → result ≡ Some i → i < row.end }
+    ensures number { (ps : Parts) → HeldParts tokens.now.kinds.now tokens.now.vals.now row.from row.end ps
+        → NumberAt tokens.now.kinds.now tokens.now.vals.now (unwrap_or result row.end) row.end ps }
 {
-    let mut i = from;
+    let mut i = row.from;
     // A step is as wide as what stands there. A `RowWalk` could go here, but what it ensures is told of the area that is seen, and `NumberAt` of parts held
     // up to the end.
-    while i < end {
+    while i < row.end {
         if tokens.kinds[i] == 0 {
             return Some(i);
         }
-        i = part_end(tokens, i, end);
+        i = part_end(tokens, i, row.end);
     }
     None
 }
@@ -103,9 +114,13 @@ pub fn second_number(tokens: &Tokens, a: usize) -> Option<usize>
     ensures { (k : ℕ) (ps : Parts) → Held tokens.now.kinds.now tokens.now.vals.now a (node k ps)
         → unwrap_or result 0 ≡ get_or (nums ps) 1 0 }
 {
-    let end = part_end(tokens, a, tokens.kinds.len());
-    let p = number_from(tokens, a + 1, end)?;
-    let q = number_from(tokens, p + 1, end)?;
+    let row = row_of(tokens, a);
+    let p = number_from(tokens, row)?;
+    let rest = Part {
+        from: p + 1,
+        end: row.end,
+    };
+    let q = number_from(tokens, rest)?;
     Some(tokens.vals[q] as usize)
 }
 
@@ -189,19 +204,19 @@ pub fn push_range(
         → Held tokens.now.kinds.now tokens.now.vals.now b (node j qs)
         → Laid (window lo hi 0 (places (a + 1) ps)) (window lo hi 0 (places (b + 1) qs)) count pending.old pending.new result }
 {
-    let ae = part_end(tokens, a, tokens.kinds.len());
-    let be = part_end(tokens, b, tokens.kinds.len());
-    let mut i = a + 1;
-    let mut j = b + 1;
+    let x = row_of(tokens, a);
+    let y = row_of(tokens, b);
+    let mut i = x.from;
+    let mut j = y.from;
     let mut c = Counted {
         child: 0,
         top: count,
     };
     // Both rows go on by the width of their own parts. An iterator over two rows would have a case for rows that differ, which these do not: it has no answer.
-    while i < ae {
+    while i < x.end {
         c = push_part(pending, c, tokens.kinds[i], i, j, lo, hi);
-        i = part_end(tokens, i, ae);
-        j = part_end(tokens, j, be);
+        i = part_end(tokens, i, x.end);
+        j = part_end(tokens, j, y.end);
     }
     c.top
 }

@@ -1,6 +1,6 @@
 -- What the functions that answer orders 9 to 20 ask and promise.
 use Rattle.std.specs.Prelude.{◌≡◌, List, ℕ, length}
-use Rattle.solver.specs.TermTypes.{Binders, Parameter, Parameters, Family, Rule}
+use Rattle.solver.specs.TermTypes.{Binders, Parameter, Parameters, Part, Family, Rule}
 use Rattle.solver.specs.Terms.Term.{Term, Parts, node, Held}
 use Rattle.solver.specs.Terms.Held.{HeldParts}
 use Rattle.solver.specs.Terms.Shape as shape
@@ -39,6 +39,10 @@ RepliesTo p ws k W = Replies p.tokens.kinds.now p.tokens.vals.now p.bytes.now ws
 -- the parameters that a field has
 abbrev pub parameters_at : Posed → FieldSpot → Parameters
 parameters_at p x = record { bytes = p.bytes; at = x.place; count = x.value }
+
+-- the row that a field has
+abbrev pub row_at : FieldSpot → Part
+row_at x = record { from = x.place; end = x.end }
 
 -- ---- terms at places
 

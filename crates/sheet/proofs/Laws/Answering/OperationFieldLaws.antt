@@ -19,7 +19,8 @@ use Rattle.solver.specs.Terms.Parameters.{parameters, listed as in_bytes}
 use Rattle.solver.specs.Terms.Substitution as substitution
 use Rattle.solver.specs.Terms.Substitution.{Entry, Receiver, apply, contextual}
 use Rattle.solver.specs.Terms.Rows.{entry_row, receiver_row}
-use Rattle.solver.specs.Terms.RewriteContract.{RowsWithin, HeldBinders, for_instance, for_context, for_family}
+use Rattle.solver.specs.TermTypes as purposes
+use Rattle.solver.specs.Terms.RewriteContract.{RowsWithin, HeldBinders}
 use Rattle.solver.specs.Terms.Lookup.{Pattern, FormedPatterns}
 use Rattle.solver.specs.Terms.Normal.{normalize, with_associated_types}
 use Rattle.sheet.specs.declared.FieldSpots.{FieldSpots}
@@ -31,7 +32,7 @@ use Rattle.sheet.specs.Operations as operations
 use Rattle.sheet.specs.Words.FieldsFormed.{FormedTrees, FormedRules, FormedFields}
 use Rattle.sheet.specs.Words.FieldsHeld.{HeldFields}
 use Rattle.sheet.specs.Words.OrderGiven.{FitsLayout, Given}
-use Rattle.sheet.specs.Words.OperationsContract.{Asks, Replies, Two, Applies, Associates, Normalises}
+use Rattle.sheet.specs.Words.OperationsContract.{Asks, Replies, row_at, Two, Applies, Associates, Normalises}
 
 -- what an order with a row says: its fields are held, and w is its answer
 pub record Kind (ks vs s : List ℕ) (ws : List Rule) (k : Row) (o : FieldSpots) (Says : Answer → Type 0) : Type 1 where
@@ -178,7 +179,7 @@ pub record Instance (ks vs s : List ℕ) (o : FieldSpots) (w : Answer) : Type 0 
   pub receivers : List Receiver
   pub term : Term
   pub answer : w ≡ outcome (bytes (substitution.instantiate (record { parameters = entries; receivers = receivers }) term))
-  pub binders : HeldBinders ks vs (for_instance o.first.place o.second.place o.second.end) entries receivers []
+  pub binders : HeldBinders ks vs (record { entries = row_at o.first; receivers = row_at o.second; purpose = purposes.Instance }) entries receivers []
   pub held : Held ks vs o.third.place term
   pub formed : Formed term
 
@@ -188,7 +189,7 @@ pub record Context (ks vs s : List ℕ) (o : FieldSpots) (w : Answer) : Type 0 w
   pub names : List Parameter
   pub term : Term
   pub answer : w ≡ outcome (bytes (substitution.argument_context (record { parameters = entries; receivers = [] }) names term))
-  pub binders : (l : Parameters) → in_bytes l ≡ parameters s o.third.value o.third.place → HeldBinders ks vs (for_context o.first.place o.second.place l) entries [] names
+  pub binders : (l : Parameters) → in_bytes l ≡ parameters s o.third.value o.third.place → HeldBinders ks vs (record { entries = row_at o.first; receivers = record { from = o.first.end; end = o.first.end }; purpose = purposes.Context l }) entries [] names
   pub held : Held ks vs o.fourth.place term
   pub formed : Formed term
 
@@ -197,7 +198,7 @@ pub record SelfOnly (ks vs s : List ℕ) (o : FieldSpots) (w : Answer) : Type 0 
   pub receiver : Receiver
   pub term : Term
   pub answer : w ≡ outcome (bytes (substitution.with_self receiver.owner receiver.term term))
-  pub binders : HeldBinders ks vs (for_instance o.first.place o.first.place o.first.end) [] (receiver ∷ []) []
+  pub binders : HeldBinders ks vs (record { entries = record { from = o.first.place; end = o.first.place }; receivers = row_at o.first; purpose = purposes.Instance }) [] (receiver ∷ []) []
   pub held : Held ks vs o.second.place term
   pub formed : Formed term
 
@@ -239,7 +240,7 @@ pub record Family (ks vs s : List ℕ) (o : FieldSpots) (w : Answer) : Type 0 wh
   pub arguments : List Term
   pub answer : w ≡ outcome (perhaps (apply names term (record { parameters = entries; receivers = receivers }) arguments))
   pub applies : (l : Parameters) → l.count ≡ o.first.value → in_bytes l ≡ parameters s o.first.value o.first.place
-      → Applies ks vs (for_family o.third.place o.fourth.place o.fourth.end l o.fifth.place) l o.fifth.value o.second.place term entries receivers names arguments
+      → Applies ks vs (record { entries = row_at o.third; receivers = row_at o.fourth; purpose = purposes.Family l o.fifth.place }) l o.fifth.value o.second.place term entries receivers names arguments
 
 -- order 19
 pub record Associated (ks vs : List ℕ) (o : FieldSpots) (w : Answer) : Type 0 where
@@ -285,13 +286,12 @@ module _ (ks vs s : List ℕ) (ws : List Rule) (o : FieldSpots) where
   instance = kind_of ks vs s ws operations.instantiate o _ (λ known fs x.
       let f = fits_instance fs x.fits in
       let h : HeldFields ks vs s ws o (entered f.0 ∷ received f.1 ∷ tree f.2 ∷ []) = rw f.3 at x.held in
-      let g : FormedFields known (entered f.0 ∷ received f.1 ∷ tree f.2 ∷ []) = rw f.3 at x.formed in
-      let e : HeldParts ks vs o.first.place o.second.place (entry_row f.0) = rw h.second_follows at h.first.1 in record {
+      let g : FormedFields known (entered f.0 ∷ received f.1 ∷ tree f.2 ∷ []) = rw f.3 at x.formed in record {
         entries = f.0;
         receivers = f.1;
         term = f.2;
         answer = ap (operation operations.instantiate) f.3;
-        binders = record { entries = e; receivers = h.second.1; parameters = refl };
+        binders = record { entries = h.first.1; receivers = h.second.1; parameters = refl };
         held = h.third;
         formed = g.1.1.0.formed;
       })
@@ -301,13 +301,12 @@ module _ (ks vs s : List ℕ) (ws : List Rule) (o : FieldSpots) where
   in_context = kind_of ks vs s ws operations.argument_context o _ (λ known fs x.
       let f = fits_context fs x.fits in
       let h : HeldFields ks vs s ws o (entered f.0 ∷ received f.1 ∷ named f.2 ∷ tree f.3 ∷ []) = rw f.4 at x.held in
-      let g : FormedFields known (entered f.0 ∷ received f.1 ∷ named f.2 ∷ tree f.3 ∷ []) = rw f.4 at x.formed in
-      let e : HeldParts ks vs o.first.place o.second.place (entry_row f.0) = rw h.second_follows at h.first.1 in record {
+      let g : FormedFields known (entered f.0 ∷ received f.1 ∷ named f.2 ∷ tree f.3 ∷ []) = rw f.4 at x.formed in record {
         entries = f.0;
         names = f.2;
         term = f.3;
         answer = ap (operation operations.argument_context) f.4;
-        binders = λ l z. record { entries = e; receivers = no_row ks vs o.second.place e.within; parameters = (h.third.1.0, z ∙ h.third.1.1) };
+        binders = λ l z. record { entries = h.first.1; receivers = no_row ks vs o.first.end h.first.1.within; parameters = (h.third.1.0, z ∙ h.third.1.1) };
         held = h.fourth;
         formed = g.1.1.1.0.formed;
       })
@@ -365,8 +364,7 @@ module _ (ks vs s : List ℕ) (ws : List Rule) (o : FieldSpots) where
   family = kind_of ks vs s ws operations.family o _ (λ known fs x.
       let f = fits_family fs x.fits in
       let h : HeldFields ks vs s ws o (named f.0 ∷ tree f.1 ∷ entered f.2 ∷ received f.3 ∷ listed f.4 ∷ []) = rw f.5 at x.held in
-      let g : FormedFields known (named f.0 ∷ tree f.1 ∷ entered f.2 ∷ received f.3 ∷ listed f.4 ∷ []) = rw f.5 at x.formed in
-      let e : HeldParts ks vs o.third.place o.fourth.place (entry_row f.2) = rw h.fourth_follows at h.third.1 in record {
+      let g : FormedFields known (named f.0 ∷ tree f.1 ∷ entered f.2 ∷ received f.3 ∷ listed f.4 ∷ []) = rw f.5 at x.formed in record {
         names = f.0;
         term = f.1;
         entries = f.2;
@@ -376,7 +374,7 @@ module _ (ks vs s : List ℕ) (ws : List Rule) (o : FieldSpots) where
         applies = λ l c z. record {
           held = h.second;
           formed = g.1.0.formed;
-          binders = record { entries = e; receivers = h.fourth.1; parameters = (h.first.1.0, z ∙ h.first.1.1) };
+          binders = record { entries = h.third.1; receivers = h.fourth.1; parameters = (h.first.1.0, z ∙ h.first.1.1) };
           from = o.fifth.place;
           end = o.fifth.end;
           arguments = h.fifth.1;

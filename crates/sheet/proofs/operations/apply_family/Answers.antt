@@ -20,7 +20,7 @@ invariant_of-rewriter c =
     let x = ((family _ _ _ _ _).asked c.requires.asks.1).1 in
     let e = c.parameters_at-parameters.ensures in
     let y = x.applies c.parameters_at-parameters.result (ap (λ (l : Parameters). l.count) e) (ap (λ (l : Parameters). listed l) e) in
-    record { within = within_as _ _ _ _ c.family.ensures (binders_within _ _ _ _ _ _ y.binders c.args.posed.now.tokens.pairs) }
+    record { within = within_as _ _ _ _ (rw c.row_at.ensures at (rw c.row_at-2.ensures at c.family.ensures)) (binders_within _ _ _ _ _ _ y.binders c.args.posed.now.tokens.pairs) }
 
 pub applied-requires-clause-place : goal.applied-requires-clause-place
 applied-requires-clause-place c =
@@ -34,6 +34,6 @@ returns c =
     λ ws.
     (family _ _ _ ws _).replied _ (λ w x.
     let e = c.parameters_at-parameters.ensures in
-    let y = applies_as _ _ _ _ c.family.ensures _ _ _ _ _ _ _ _ (x.applies c.parameters_at-parameters.result (ap (λ (l : Parameters). l.count) e) (ap (λ (l : Parameters). listed l) e)) in
+    let y = applies_as _ _ _ _ (rw c.row_at.ensures at (rw c.row_at-2.ensures at c.family.ensures)) _ _ _ _ _ _ _ _ (x.applies c.parameters_at-parameters.result (ap (λ (l : Parameters). l.count) e) (ap (λ (l : Parameters). listed l) e)) in
     let q = apply_some x.names x.term x.entries x.receivers x.arguments (sym y.many ∙ sym c.if-o.false ∙ sym (ap (λ (l : Parameters). l.count) e) ∙ y.parameters) in
     rw x.answer (frame_as _ _ (perhaps_some x.names x.term x.entries x.receivers x.arguments q.0 q.1) _ _ _ _ (c.applied.ensures.applied _ _ _ _ _ _ _ _ _ y.formed y.held y.binders y.arguments y.family q.1)))

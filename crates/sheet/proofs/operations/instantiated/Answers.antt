@@ -9,7 +9,7 @@ use Rattle.sheet.proofs.operations.instantiated.Goals as goal
 pub invariant_of-rewriter : goal.invariant_of-rewriter
 invariant_of-rewriter c =
     let x = ((instance _ _ _ _ _).asked c.requires.asks.1).1 in
-    record { within = within_as _ _ _ _ c.instantiation.ensures (binders_within _ _ _ _ _ _ x.binders c.args.posed.now.tokens.pairs) }
+    record { within = within_as _ _ _ _ (rw c.row_at.ensures at (rw c.row_at-2.ensures at c.instantiation.ensures)) (binders_within _ _ _ _ _ _ x.binders c.args.posed.now.tokens.pairs) }
 
 pub rewritten-requires-clause-place : goal.rewritten-requires-clause-place
 rewritten-requires-clause-place c = held_in _ _ _ _ ((instance _ _ _ _ _).asked c.requires.asks.1).1.held
@@ -17,6 +17,6 @@ rewritten-requires-clause-place c = held_in _ _ _ _ ((instance _ _ _ _ _).asked 
 pub returns : goal.returns
 returns c =
     λ ws.
-    let e = c.instantiation.ensures in
+    let e = rw c.row_at.ensures at (rw c.row_at-2.ensures at c.instantiation.ensures) in
     (instance _ _ _ ws _).replied _ (λ w x.
     rw x.answer (c.rewritten.ensures.instantiated _ _ _ x.formed x.held (held_as _ _ _ _ e _ _ _ x.binders) (ap (λ (b : Binders). is_context b.purpose) e)))

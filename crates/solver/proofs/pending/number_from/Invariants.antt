@@ -6,7 +6,7 @@ use Rattle.solver.proofs.Laws.Checks.PushLaws.{Seeking}
 use Rattle.solver.proofs.pending.number_from.Given as goal
 
 abbrev pub invariant-loop-i : goal.invariant-loop-i
-invariant-loop-i l = (l.i ≤ l.end) × ((ps : Parts) → HeldParts l.tokens.kinds.now l.tokens.vals.now l.from l.end ps → Seeking l.tokens.kinds.now l.tokens.vals.now l.i l.end ps)
+invariant-loop-i l = (l.i ≤ l.row.end) × ((ps : Parts) → HeldParts l.tokens.kinds.now l.tokens.vals.now l.row.from l.row.end ps → Seeking l.tokens.kinds.now l.tokens.vals.now l.i l.row.end ps)
 
 abbrev pub decreases-loop-i : goal.decreases-loop-i
-decreases-loop-i l = l.end - l.i
+decreases-loop-i l = l.row.end - l.i

@@ -5,7 +5,7 @@ use Rattle.solver.proofs.pending.push_range.Goals as goal
 
 pub loop-i-init : goal.loop-i-init
 loop-i-init c =
-    (omega (arith, c.part_end-ae.ensures.past), omega (arith, c.part_end-be.ensures.past), pushing_start c.requires.room.0 c.requires.room.1 c.part_end-ae.ensures c.part_end-be.ensures, refl)
+    (omega (arith, c.row_of-x.ensures.1.past), omega (arith, c.row_of-y.ensures.1.past), rw c.row_of-x.ensures.0 (rw c.row_of-y.ensures.0 (pushing_start c.requires.room.0 c.requires.room.1 c.row_of-x.ensures.1 c.row_of-y.ensures.1)), refl)
 
 pub push_part-c-requires-clause-room : goal.push_part-c-requires-clause-room
 push_part-c-requires-clause-room c =
@@ -16,7 +16,7 @@ push_part-c-requires-clause-room c =
 pub part_end-j-requires : goal.part_end-j-requires
 part_end-j-requires c =
     let l = c.loop-i in
-    (pushing_more l.invariant.2 c.loop-i-test.true, c.part_end-be.ensures.within)
+    (pushing_more l.invariant.2 c.loop-i-test.true, c.row_of-y.ensures.1.within)
 
 pub loop-i-preserved : goal.loop-i-preserved
 loop-i-preserved c =

@@ -6,7 +6,7 @@ use Rattle.solver.proofs.Laws.Checks.PushLaws.{Pushing}
 use Rattle.solver.proofs.pending.push_range.Given as goal
 
 abbrev pub invariant-loop-i : goal.invariant-loop-i
-invariant-loop-i l = (l.i ≤ l.ae) × (l.j ≤ l.be) × Pushing l.tokens.kinds.now l.tokens.vals.now l.a l.ae l.b l.be l.lo l.hi l.count l.initial.pending l.pending l.i l.j l.c.child l.c.top × (length l.pending ≡ length l.initial.pending)
+invariant-loop-i l = (l.i ≤ l.x.end) × (l.j ≤ l.y.end) × Pushing l.tokens.kinds.now l.tokens.vals.now l.a l.x.end l.b l.y.end l.lo l.hi l.count l.initial.pending l.pending l.i l.j l.c.child l.c.top × (length l.pending ≡ length l.initial.pending)
 
 abbrev pub decreases-loop-i : goal.decreases-loop-i
-decreases-loop-i l = l.ae - l.i
+decreases-loop-i l = l.x.end - l.i

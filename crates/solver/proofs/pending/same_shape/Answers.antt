@@ -7,24 +7,24 @@ use Rattle.solver.proofs.pending.same_shape.Goals as goal
 pub returns-then-tokens-a : goal.returns-then-tokens-a
 returns-then-tokens-a c = heads_differ _ c.if-tokens-a.true
 
-pub returns-then-be-j : goal.returns-then-be-j
-returns-then-be-j c =
-    shape_told _ c.if-tokens-a.false c.part_end-ae.ensures c.part_end-be.ensures c.access_of-counts.ensures
-    (walks_short _ _ c.loop-i.invariant.2 c.loop-i-test.true c.if-be-j.true)
+pub returns-then-y-j : goal.returns-then-y-j
+returns-then-y-j c =
+    shape_told _ c.if-tokens-a.false c.row_of-x.ensures.1 c.row_of-y.ensures.1 c.access_of-counts.ensures
+    (walks_short _ _ c.loop-i.invariant.2 c.loop-i-test.true c.if-y-j.true)
 
 pub returns-then-not-parts_agree : goal.returns-then-not-parts_agree
 returns-then-not-parts_agree c =
-    shape_told _ c.if-tokens-a.false c.part_end-ae.ensures c.part_end-be.ensures c.access_of-counts.ensures
-    (walks_apart _ _ c.loop-i.invariant.2 c.loop-i-test.true c.if-be-j.false (sym c.parts_agree.ensures ∙ c.if-not-parts_agree.true))
+    shape_told _ c.if-tokens-a.false c.row_of-x.ensures.1 c.row_of-y.ensures.1 c.access_of-counts.ensures
+    (walks_apart _ _ c.loop-i.invariant.2 c.loop-i-test.true c.if-y-j.false (sym c.parts_agree.ensures ∙ c.if-not-parts_agree.true))
 
 pub loop-i-preserved : goal.loop-i-preserved
 loop-i-preserved c =
     let p = c.part_end-i.ensures in
     let q = c.part_end-j.ensures in
-    (p.within, q.within, walks_step _ _ c.loop-i.invariant.2 c.loop-i-test.true c.if-be-j.false (sym c.parts_agree.ensures ∙ c.if-not-parts_agree.false) p q)
+    (p.within, q.within, walks_step _ _ c.loop-i.invariant.2 c.loop-i-test.true c.if-y-j.false (sym c.parts_agree.ensures ∙ c.if-not-parts_agree.false) p q)
 
 pub returns : goal.returns
 returns c =
     let l = c.loop-i in
-    shape_told _ c.if-tokens-a.false c.part_end-ae.ensures c.part_end-be.ensures c.access_of-counts.ensures
-    (walks_over _ _ l.invariant.2 (omega (arith, c.loop-i-test.false)) (λ h. le-leb c.part_end-be.result l.j h) (λ h. lt-leb c.part_end-be.result l.j h))
+    shape_told _ c.if-tokens-a.false c.row_of-x.ensures.1 c.row_of-y.ensures.1 c.access_of-counts.ensures
+    (walks_over _ _ l.invariant.2 (omega (arith, c.loop-i-test.false)) (λ h. le-leb c.row_of-y.result.end l.j h) (λ h. lt-leb c.row_of-y.result.end l.j h))

@@ -6,7 +6,7 @@ use Rattle.solver.proofs.Laws.Checks.RowsInStepLaws.{Walks}
 use Rattle.solver.proofs.pending.same_shape.Given as goal
 
 abbrev pub invariant-loop-i : goal.invariant-loop-i
-invariant-loop-i l = (l.i ≤ l.ae) × (l.j ≤ l.be) × Walks l.tokens.kinds.now l.tokens.vals.now l.a l.ae l.b l.be (not (strict_of l.initial.counts)) l.i l.j (not (strict_of l.counts))
+invariant-loop-i l = (l.i ≤ l.x.end) × (l.j ≤ l.y.end) × Walks l.tokens.kinds.now l.tokens.vals.now l.a l.x.end l.b l.y.end (not (strict_of l.initial.counts)) l.i l.j (not (strict_of l.counts))
 
 abbrev pub decreases-loop-i : goal.decreases-loop-i
-decreases-loop-i l = l.ae - l.i
+decreases-loop-i l = l.x.end - l.i
