@@ -201,7 +201,7 @@ pub struct RecordRequest {
 }
 
 // What follows the tag of a plain kind: a code below `codes`, where there is one, at most two numbers, a count with as many terms, and `terms` terms.
-#[derive(Clone, Copy, Debug, PartialEq, Eq)]
+#[derive(Clone, Copy, Debug, Default, PartialEq, Eq)]
 pub struct Fields {
     pub codes: Option<u32>,
     pub first: bool,
