@@ -50,11 +50,7 @@ impl<'a> Parameters<'a> {
     pub fn skip(&self) -> Result<usize, Refusal>
         ensures { skipped self.now.count result ≡ past self.now.count (listed self.now) }
     {
-        let nobody = Parameter {
-            owner: 0,
-            position: 0,
-        };
-        let (_, next) = self.scan(nobody)?;
+        let (_, next) = self.scan(Parameter::default())?;
         Ok(next)
     }
 

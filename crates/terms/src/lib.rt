@@ -82,7 +82,7 @@ impl From<Refusal> for u8 {
 }
 
 // A generic parameter: its owner, and its position in the owner's list.
-#[derive(Clone, Copy, PartialEq, Eq)]
+#[derive(Clone, Copy, Default, PartialEq, Eq)]
 pub struct Parameter {
     pub owner: u64,
     pub position: u64,
@@ -202,7 +202,7 @@ pub struct RecordRequest {
 
 // What follows the tag of a plain kind: a code below `codes`, where there is one, at most two numbers, a count with as many terms, and `terms` terms.
 // The flags say whether a number or a count is there; no value stands beside one.
-#[derive(Clone, Copy, Debug, PartialEq, Eq)]
+#[derive(Clone, Copy, Debug, Default, PartialEq, Eq)]
 pub struct Fields {
     pub codes: Option<u32>,
     pub first: bool,
@@ -228,7 +228,7 @@ pub enum Kind {
 }
 
 // Parameters that stand in the bytes of an order, each an owner and a position: from where on, and how many.
-#[derive(Clone, Copy)]
+#[derive(Clone, Copy, Debug, PartialEq, Eq)]
 pub struct Parameters<'a> {
     pub bytes: &'a [u8],
     pub at: usize,
@@ -237,7 +237,7 @@ pub struct Parameters<'a> {
 
 // What binders are replaced for: an instance, without parameters; a context, where a parameter that the substitution does not have becomes Unknown, and
 // receivers are not looked at; or a family, where the arguments of the parameters stand at a place of the areas and the places after it.
-#[derive(Clone, Copy)]
+#[derive(Clone, Copy, Debug, PartialEq, Eq)]
 pub enum Purpose<'a> {
     Instance,
     Context(Parameters<'a>),
@@ -318,7 +318,7 @@ pub enum Spot {
 }
 
 // What order 19 makes projections from: the place of the owner and its tokens, the place of the interface and the tokens of its row.
-#[derive(Clone, Copy)]
+#[derive(Clone, Copy, Debug, PartialEq, Eq)]
 pub struct Origin {
     pub owner: u32,
     pub span: u32,
@@ -340,7 +340,7 @@ impl Origin {
 }
 
 // What a projection is looked up in: the rules of order 20, or what order 19 is given.
-#[derive(Clone, Copy)]
+#[derive(Clone, Copy, Debug, PartialEq, Eq)]
 pub enum LookUp<'a> {
     Rules(&'a [Rule]),
     Given(Origin),
@@ -424,7 +424,7 @@ pub struct Cursor {
 
 // A rule of order 20: the places of its interface and its receiver, its member, the place of its arguments and how many they are, and the place of its
 // value.
-#[derive(Clone, Copy, Default)]
+#[derive(Clone, Copy, Debug, Default, PartialEq, Eq)]
 pub struct Rule {
     pub interface: u32,
     pub receiver: u32,

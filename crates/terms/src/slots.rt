@@ -2,18 +2,23 @@
 // Kinds and tags are matched by number; the line in kinds.rt says why.
 ghost use Rattle.std.specs.Prelude.{◌≡◌, ◌+◌, ◌-◌, ◌≤◌, ◌<◌};
 ghost use Rattle.terms.specs.Tree.{class, nominal_slot, projection_slot, slot_by};
-ghost use Rattle.terms.specs.Words.SlotsContract.{class_number};
 
 use super::{Begun, Class};
 
 // The class of a tag.
-fn class_of(k: u32) -> Class
-    ensures { class_number result ≡ class k }
-{
-    match k {
-        12..=15 => Class::Nominal,
-        18 => Class::Projection,
-        _ => Class::Plain,
+impl From<u32> for Class {
+    ghost use Rattle.std.specs.Prelude.{◌≡◌};
+    ghost use Rattle.terms.specs.Tree.{class};
+    ghost use Rattle.terms.specs.Words.SlotsContract.{class_number};
+
+    ghost from_gives = { λ tag c. class_number c ≡ class tag };
+
+    fn from(tag: u32) -> Class {
+        match tag {
+            12..=15 => Class::Nominal,
+            18 => Class::Projection,
+            _ => Class::Plain,
+        }
     }
 }
 
@@ -53,7 +58,7 @@ impl Begun {
         requires { (self.n < 4294967296) × (j < self.n) }
         ensures { (result ≡ slot_by (class self.tag) self.arguments self.members self.n j) × (result < self.n) }
     {
-        match class_of(self.tag) {
+        match Class::from(self.tag) {
             Class::Plain => j,
             Class::Nominal => nominal_slot(self.arguments.min(self.n), self.n, j),
             Class::Projection => {

@@ -1,7 +1,7 @@
--- `class_of`. By the ranges of the tag.
+-- `from`. By the ranges of the tag.
 use native.Mathlib.Omega.{arith}
 use Rattle.terms.proofs.Laws.Normalising.SlotLaws.{class_projection, class_plain, class_nominal}
-use Rattle.terms.proofs.slots.class_of.Goals as goal
+use Rattle.terms.proofs.slots.ClassFromU32.from.Goals as goal
 
 pub returns-in-18 : goal.returns-in-18
 returns-in-18 c = class_projection _ (omega arith)
