@@ -33,13 +33,7 @@ fn fits(q: Place, size: usize, first: usize, kinds: usize, vals: usize) -> Resul
     if q.at < size {
         return Err(Refusal::Length);
     }
-    if NODES < q.nodes {
-        return Err(Refusal::Nodes);
-    }
-    if kinds.min(vals) < q.top {
-        return Err(Refusal::Nodes);
-    }
-    if q.top < first {
+    if NODES < q.nodes || kinds.min(vals) < q.top || q.top < first {
         return Err(Refusal::Nodes);
     }
     Ok(())
