@@ -12,3 +12,6 @@ pub const ROOM: usize = 32768;
 
 /// The words of an area, at most.
 pub const WORDS: usize = 20000;
+
+/// The sheets that a program runs, at most.
+pub const SHEETS: u32 = 4000000000;

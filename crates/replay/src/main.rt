@@ -6,10 +6,7 @@
 #![tactic(auto)]
 
 use frames::{number_at, read_part};
-use harness::{Bench, Head, Outcome, ROOM};
-
-// Vectors at most.
-const MOST: u32 = 4000000000;
+use harness::{Bench, Head, Outcome, ROOM, SHEETS};
 
 // What a run is wanted to tell.
 #[derive(Clone, Copy)]
@@ -72,7 +69,7 @@ fn replay_vector(bench: &mut Bench, answers: &mut [u8; ROOM]) -> Option<bool> {
 // Replays vectors until the input ends.
 fn replay(bench: &mut Bench, answers: &mut [u8; ROOM]) -> Tally {
     let mut tally = Tally::default();
-    for _ in 0..MOST {
+    for _ in 0..SHEETS {
         let Some(same) = replay_vector(bench, answers) else {
             break;
         };

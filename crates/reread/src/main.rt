@@ -11,7 +11,7 @@ ghost use Rattle.reread.specs.Frame.{Sound, Lies, Passes};
 
 use frames::{Input, all_are};
 use terms::{
-    LEVELS, NODES, ORDINARY, PartKind, Place, Refusal, clear_tokens, number_len, part_at,
+    LEVELS, NODES, ORDINARY, PartKind, Place, Refusal, byte_at, clear_tokens, number_len, part_at,
     read_number, run_len, write_number, write_run,
 };
 
@@ -33,13 +33,7 @@ fn fits(q: Place, size: usize, first: usize, kinds: usize, vals: usize) -> Resul
     if q.at < size {
         return Err(Refusal::Length);
     }
-    if NODES < q.nodes {
-        return Err(Refusal::Nodes);
-    }
-    if kinds.min(vals) < q.top {
-        return Err(Refusal::Nodes);
-    }
-    if q.top < first {
+    if NODES < q.nodes || kinds.min(vals) < q.top || q.top < first {
         return Err(Refusal::Nodes);
     }
     Ok(())
@@ -104,10 +98,7 @@ fn whole_number(s: &[u8]) -> Result<u64, Refusal> {
 fn read_frame(input: Input, kinds: &mut [u32], vals: &mut [u32]) -> Result<Frame, Refusal>
     ensures { Sound (length kinds.new) (length vals.new) result }
 {
-    let Some(&kind) = input.bytes.first() else {
-        return Err(Refusal::Length);
-    };
-    match kind {
+    match byte_at(input.bytes, 0)? {
         0 => term_frame(input, kinds, vals, PartKind::Term),
         1 => term_frame(input, kinds, vals, PartKind::BareNominal),
         2 => Ok(Frame::Number(whole_number(input.bytes)?)),

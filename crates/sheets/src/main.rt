@@ -5,10 +5,7 @@
 #![tactic(auto)]
 
 use frames::{low_byte, put_number};
-use harness::{Bench, Head, Outcome};
-
-// Frames at most.
-const MOST: u32 = 4000000000;
+use harness::{Bench, Head, Outcome, SHEETS};
 
 // What is told of a run before its answers.
 fn told(ran: &Outcome) -> [u8; 10] {
@@ -36,7 +33,7 @@ fn answer_frame(bench: &mut Bench) -> bool {
 
 fn main() {
     let mut bench = Bench::new();
-    for _ in 0..MOST {
+    for _ in 0..SHEETS {
         if !answer_frame(&mut bench) {
             break;
         }
