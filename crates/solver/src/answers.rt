@@ -11,13 +11,13 @@ ghost use Rattle.solver.specs.Words.OrderTerms.{Asked, Starts, Frames, resolved_
 
 use super::resolving::{clear_words, resolved_len, write_resolved};
 use super::{Bindings, Solver, Start, Subject};
-use terms::{Refusal, Tokens, token_len, write_token};
+use terms::{Refusal, Token, Tokens, token_len, write_token};
 
 // How many bytes a variable has.
 pub fn variable_len(v: u32) -> usize
     ensures { (result ≡ length (bytes (var v))) × (result ≤ 6) }
 {
-    token_len(1, v)
+    token_len(Token { kind: 1, value: v })
 }
 
 // Writes a variable at a position of out, and returns the position after it.
@@ -26,7 +26,7 @@ pub fn write_variable(out: &mut [u8], to: usize, v: u32) -> usize
     ensures next { result ≡ to + length (bytes (var v)) }
     ensures wrote { out.new ≡ sets out.old to (bytes (var v)) }
 {
-    write_token(out, to, 1, v)
+    write_token(out, to, Token { kind: 1, value: v })
 }
 
 impl Solver {

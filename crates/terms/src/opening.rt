@@ -87,10 +87,10 @@ pub fn own_len(seen: &Seen, h: u32) -> usize
     ensures own { OwnAt (shown seen.now) h result }
 {
     let x = token_at(seen, h as usize);
-    let mut n = token_len(x.kind, x.value);
+    let mut n = token_len(x);
     for (_, y) in walk_row(seen, h) {
         if y.kind == 0 {
-            n += token_len(y.kind, y.value);
+            n += token_len(y);
         }
     }
     n

@@ -20,13 +20,13 @@ fn show_token(out: &mut [u8], at: usize, x: Token, pass: Pass) -> Option<usize>
     ensures kept { Kept (writes pass) out.old out.new at result }
     ensures shows { Shows (writes pass) out.old out.new at (plain x.kind x.value) result }
 {
-    let n = token_len(x.kind, x.value);
+    let n = token_len(x);
     if out.len() - at < n {
         return None;
     }
     match pass {
         Pass::Count => Some(at + n),
-        Pass::Write => Some(write_token(out, at, x.kind, x.value)),
+        Pass::Write => Some(write_token(out, at, x)),
     }
 }
 

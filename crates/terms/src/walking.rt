@@ -1,13 +1,14 @@
 // `walk` of `normalize`: every term is visited, and projections are replaced.
 // Kinds and tags are matched by number; the line in kinds.rt says why.
 // Heads and kids are lent as two slices; the line in rows.rt says why.
-ghost use Rattle.terms.specs.Words.Lent.{shown};
+ghost use Rattle.terms.specs.Words.Lent.{shown, StandsFor, Fetches};
+ghost use Rattle.terms.specs.Words.VirtualTokens.{given_of};
 ghost use Rattle.std.specs.Prelude.{◌≡◌, Bool, Some, None, ℕ, ◌+◌, ◌-◌, ◌≤◌, ◌<◌, length, get_or, filter, nat_eq, IfSome};
 ghost use Rattle.std.specs.List.{list_any};
 ghost use Rattle.terms.specs.Term.{Term, depth, bytes, Held};
 ghost use Rattle.terms.specs.Normal.{replacement};
 ghost use Rattle.terms.specs.Lookup.{Look, look_by, Looks};
-ghost use Rattle.terms.specs.Words.Arena.{Tree, TagAt, Counts, Fetched, Frames, RecordRoom};
+ghost use Rattle.terms.specs.Words.Arena.{TagAt, Counts, Frames, RecordRoom};
 ghost use Rattle.terms.specs.Words.Held.{span};
 ghost use Rattle.terms.specs.Words.WalkingContract.{first_of_node, Fixed, Walks, used};
 
@@ -17,45 +18,39 @@ use super::members::{Counted, own_member};
 use super::opening::{begin, own_len};
 use super::rules::find_rule;
 use super::write::run_len;
-use super::{Content, LookUp, Normaliser, Origin, Records, Tokens, Walked};
+use super::{Begun, Content, LookUp, Normaliser, Origin, Records, Tokens, Walked};
 
-// What a projection with the counts n and m is replaced by; its children have at most `fuel` levels.
-fn replace(
-    by: &Normaliser,
-    heads: &[u32],
-    kids: &[u32],
-    x: Content,
-    n: usize,
-    m: usize,
-    fuel: usize,
-) -> Option<Content>
-    requires tagged { TagAt (shown by.now.seen) x.head 18 }
-    requires counts { Counts (shown by.now.seen) x.head n m }
+// What a projection is replaced by; its children have at most `fuel` levels.
+fn replace(x: &Counted, lookup: &LookUp, fuel: usize) -> Option<Content>
+    requires tagged { TagAt (shown x.now.records.now.seen.now) x.now.content.head 18 }
+    requires given { x.now.records.now.seen.now.given ≡ given_of lookup.now }
     requires low { fuel < 4294967296 }
     ensures { (S : ℕ → Bool) (t : Term) (look : Look)
-        → Tree (shown by.now.seen) heads.now kids.now S x.head x.kids t
+        → StandsFor x.now.records.now S x.now.content t
         → depth t ≤ fuel + 1
-        → Looks by.now.seen.tokens.kinds.now by.now.seen.tokens.vals.now by.now.lookup look
-        → Fetched (shown by.now.seen) heads.now kids.now S (replacement (look_by look) t) result }
+        → Looks x.now.records.now.seen.now.tokens.kinds.now x.now.records.now.seen.now.tokens.vals.now lookup.now look
+        → Fetches x.now.records.now S (replacement (look_by look) t) result }
 {
-    let records = Records {
-        seen: &by.seen,
-        heads,
-        kids,
-    };
-    let counted = Counted {
-        records: &records,
-        content: x,
-        arguments: n,
-        members: m,
-    };
-    let own = own_member(&counted);
+    let own = own_member(x);
     if own.is_some() {
         return own;
     }
-    match by.lookup {
-        LookUp::Rules(rules) => find_rule(&records, rules, x, fuel),
-        LookUp::Given(given) => by_interface(&counted, given, fuel),
+    match *lookup {
+        LookUp::Rules(rules) => find_rule(x.records, rules, x.content, fuel),
+        LookUp::Given(given) => by_interface(x, given, fuel),
+    }
+}
+
+// A content with the counts that were found when its children were put into records.
+fn counted<'a>(records: &'a Records<'a>, x: Content, o: Begun) -> Counted<'a>
+    requires counts { Counts (shown records.now.seen.now) x.head o.arguments o.members }
+    ensures { (result.records.now ≡ records.now) × (result.content ≡ x) }
+{
+    Counted {
+        records,
+        content: x,
+        arguments: o.arguments,
+        members: o.members,
     }
 }
 
@@ -206,11 +201,11 @@ pub fn walk(
     if o.tag != 18 {
         return Some(result(z, at, left, size));
     }
-    let f = replace(by, heads, kids, z, o.arguments, o.members, levels);
+    let records = Records { seen, heads, kids };
+    let f = replace(&counted(&records, z, o), &by.lookup, levels);
     let Some(v) = f else {
         return Some(result(z, at, left, size));
     };
-    let records = Records { seen, heads, kids };
     if same_trees(&records, z, v, levels + 1) {
         return Some(result(error, at, left, 1));
     }

@@ -8,35 +8,35 @@ ghost use Rattle.terms.specs.Words.Lent.{PartOf};
 ghost use Rattle.terms.specs.Words.RecoverContract.{put_if};
 
 use super::numbers::{number_len, write_number};
-use super::{Part, Tokens};
+use super::{Part, Token, Tokens};
 
 // How many bytes a token has.
-pub fn token_len(k: u32, v: u32) -> usize
-    ensures { result ≡ length (plain k v) }
+pub fn token_len(x: Token) -> usize
+    ensures { result ≡ length (plain x.kind x.value) }
 {
-    if k == 0 {
-        return number_len(u64::from(v));
+    if x.kind == 0 {
+        return number_len(u64::from(x.value));
     }
-    if k == 1 {
-        return number_len(u64::from(v)) + 1;
+    if x.kind == 1 {
+        return number_len(u64::from(x.value)) + 1;
     }
     1
 }
 
 // Writes a token's bytes at a position, and returns the position after them.
-pub fn write_token(out: &mut [u8], at: usize, k: u32, v: u32) -> usize
-    requires { at + length (plain k v) ≤ length out.old }
-    ensures next { result ≡ at + length (plain k v) }
-    ensures wrote { out.new ≡ sets out.old at (plain k v) }
+pub fn write_token(out: &mut [u8], at: usize, x: Token) -> usize
+    requires { at + length (plain x.kind x.value) ≤ length out.old }
+    ensures next { result ≡ at + length (plain x.kind x.value) }
+    ensures wrote { out.new ≡ sets out.old at (plain x.kind x.value) }
 {
-    if k == 0 {
-        return write_number(out, at, u64::from(v));
+    if x.kind == 0 {
+        return write_number(out, at, u64::from(x.value));
     }
-    if k == 1 {
+    if x.kind == 1 {
         out[at] = 1;
-        return write_number(out, at + 1, u64::from(v));
+        return write_number(out, at + 1, u64::from(x.value));
     }
-    out[at] = ((k - 2) % 256) as u8;
+    out[at] = ((x.kind - 2) % 256) as u8;
     at + 1
 }
 
@@ -50,7 +50,11 @@ pub fn run_len(kinds: &[u32], vals: &[u32], from: usize, count: usize) -> usize
     let end = from + count;
     let mut n = 0;
     for p in from..end {
-        n += token_len(kinds[p], vals[p]);
+        let x = Token {
+            kind: kinds[p],
+            value: vals[p],
+        };
+        n += token_len(x);
     }
     n
 }
@@ -72,7 +76,11 @@ pub fn write_run(
     let end = from + count;
     let mut i = at;
     for p in from..end {
-        i = write_token(out, i, kinds[p], vals[p]);
+        let x = Token {
+            kind: kinds[p],
+            value: vals[p],
+        };
+        i = write_token(out, i, x);
     }
     i
 }

@@ -72,18 +72,18 @@ pub returns-in_default-f-clause-walks : goal.returns-in_default-f-clause-walks
 returns-in_default-f-clause-walks t c =
     walks_kept c.args.x c.loop-j.invariant c.loop-j-test.false (omega (arith, c.if-levels-eq0.false)) c.own_len-size.ensures.own
     (omega (arith, c.own_len-size.ensures.bound, c.in_ok-o.ensures.opens.bound, c.requires.room.small)) c.in_ok-o.ensures.opens.done c.in_ok-o.ensures.ordered _
-    refl (λ S t look w d z. rw c.in_default-f.is at (c.replace-f.ensures S t look w d z)) _ c.result-in_default-f.ensures
+    refl (λ S t look w d z. rw c.in_default-f.is at ((rw (c.counted.ensures.0, c.counted.ensures.1) at (c.replace-f.ensures S t look)) w d z)) _ c.result-in_default-f.ensures
 
 pub returns-then-same_trees-clause-walks : goal.returns-then-same_trees-clause-walks
 returns-then-same_trees-clause-walks t c =
     walks_itself c.args.x c.loop-j.invariant c.loop-j-test.false (omega (arith, c.if-levels-eq0.false)) c.own_len-size.ensures.own
     (omega (arith, c.own_len-size.ensures.bound, c.in_ok-o.ensures.opens.bound, c.requires.room.small)) c.in_ok-o.ensures.opens.done c.in_ok-o.ensures.ordered _
-    refl _ (λ S t look w d z. rw c.in-Some-f.is at (c.replace-f.ensures S t look w d z)) c.requires.room.sight (c.same_trees.ensures.yes c.if-same_trees.true) _
+    refl _ (λ S t look w d z. rw c.in-Some-f.is at ((rw (c.counted.ensures.0, c.counted.ensures.1) at (c.replace-f.ensures S t look)) w d z)) c.requires.room.sight (c.same_trees.ensures.yes c.if-same_trees.true) _
     refl refl _ c.result-then-same_trees.ensures
 
 pub returns-clause-walks : goal.returns-clause-walks
 returns-clause-walks t c =
     walks_followed c.args.x c.loop-j.invariant c.loop-j-test.false (omega (arith, c.if-levels-eq0.false)) c.own_len-size.ensures.own
     (omega (arith, c.own_len-size.ensures.bound, c.in_ok-o.ensures.opens.bound, c.requires.room.small)) c.in_ok-o.ensures.opens.done c.in_ok-o.ensures.ordered _
-    refl _ (λ S t look w d z. rw c.in-Some-f.is at (c.replace-f.ensures S t look w d z)) (c.same_trees.ensures.no c.if-same_trees.false) _ _ c.walk-2.result
+    refl _ (λ S t look w d z. rw c.in-Some-f.is at ((rw (c.counted.ensures.0, c.counted.ensures.1) at (c.replace-f.ensures S t look)) w d z)) (c.same_trees.ensures.no c.if-same_trees.false) _ _ c.walk-2.result
     c.walk-2.ensures.walks
