@@ -15,8 +15,9 @@ ghost use Rattle.solver.specs.Words.ConstrainContract.{Waiting, Known, Scratch, 
 
 use super::equality::same_terms;
 use super::families::admissible;
-use super::pending::{clear_pairs, push_children, put_pair, same_shape, take_pair};
+use super::pending::{push_children, put_pair, same_shape, take_pair};
 use super::reach::{occurs, recovers};
+use super::resolving::clear_words;
 use super::top::shallow_resolve;
 use super::{Access, Bindings, Checked, PairAt, Solved, Solver, Table, Verdict};
 use terms::Tokens;
@@ -177,7 +178,7 @@ impl Solver {
         // It goes on until nothing is pending, and a step may add to that.
         while 0 < count {
             if left == 0 {
-                clear_pairs(pending, count);
+                clear_words(pending, 2 * count);
                 return Solved {
                     solver: self,
                     verdict: Verdict::Cancelled,
