@@ -6,7 +6,7 @@ ghost use Rattle.terms.specs.Term.{Term, var, bytes};
 ghost use Rattle.solver.specs.Session.{Session};
 ghost use Rattle.solver.specs.Orders as orders;
 ghost use Rattle.solver.specs.Words.Worklist.{Zero};
-ghost use Rattle.solver.specs.Words.SessionRepresentation.{limits_of, Represents};
+ghost use Rattle.solver.specs.Words.SessionRepresentation.{limits_of, binding_words, Represents};
 ghost use Rattle.solver.specs.Words.OrderTerms.{Asked, Starts, Frames, resolved_to};
 
 use super::resolving::{clear_words, resolved_len, write_resolved};
@@ -38,6 +38,18 @@ impl Solver {
             → (orders.order (limits_of self) s orders.revision).reply ≡ orders.count result }
     {
         self.revision
+    }
+
+    // The bindings as they are, of which a walk may go through `most`.
+    pub fn bindings<'a>(self, tokens: Tokens<'a>, table: &'a [u32], most: usize) -> Bindings<'a>
+        requires { (self.variables ≤ length table.now) × (length tokens.kinds.now < 2 ^ 32) }
+        ensures { (result.tokens ≡ tokens.entry) × (result.bound.now ≡ binding_words self.variables table.now) × (result.most ≡ most) }
+    {
+        Bindings {
+            tokens,
+            bound: &table[..self.variables],
+            most,
+        }
     }
 
     // Where resolving begins.
@@ -80,11 +92,7 @@ impl Solver {
         let begun = self.start(tables, what);
         match begun {
             Start::Begins(p, most) => {
-                let bindings = Bindings {
-                    tokens: *tokens,
-                    bound: &tables[..self.variables],
-                    most,
-                };
+                let bindings = self.bindings(*tokens, tables, most);
                 let size = resolved_len(&bindings, work, p, limit);
                 if size.is_none() {
                     clear_words(work, most + most);
@@ -116,11 +124,7 @@ impl Solver {
         let begun = self.start(tables, what);
         match begun {
             Start::Begins(p, most) => {
-                let bindings = Bindings {
-                    tokens: *tokens,
-                    bound: &tables[..self.variables],
-                    most,
-                };
+                let bindings = self.bindings(*tokens, tables, most);
                 write_resolved(&bindings, work, p, out, to)
             }
             Start::Free(v) => write_variable(out, to, v),

@@ -15,10 +15,11 @@ ghost use Rattle.solver.specs.Words.ConstrainContract.{Waiting, Known, Scratch, 
 
 use super::equality::same_terms;
 use super::families::admissible;
-use super::pending::{clear_pairs, push_children, put_pair, same_shape, take_pair};
+use super::pending::{push_children, put_pair, same_shape, take_pair};
 use super::reach::{occurs, recovers};
+use super::resolving::clear_words;
 use super::top::shallow_resolve;
-use super::{Access, Bindings, Checked, PairAt, Solved, Solver, Table, Verdict};
+use super::{Access, Checked, PairAt, Solved, Solver, Table, Verdict};
 use terms::Tokens;
 
 // Whether a token is the head of an Unknown or Error, or another is.
@@ -58,20 +59,15 @@ impl Solver {
             → After self tokens.now.kinds.now tokens.now.vals.now table.old table.new st st s a b count (solving.bind s.solver v t ps) result }
         ensures clear { Zero work.new }
     {
-        let m = self.variables;
         // Both are lent from one borrow: the borrow checker does not cover a slice that is lent whole where a part of it is lent.
         let lent = &table[..];
-        let bindings = Bindings {
-            tokens: *tokens,
-            bound: &lent[..m],
-            most: self.revision,
-        };
+        let bindings = self.bindings(*tokens, lent, self.revision);
         if recovers(&bindings, q, work) {
             return self.checked(true, count);
         }
         let read = Table {
             words: lent,
-            variables: m,
+            variables: self.variables,
         };
         if !admissible(tokens, &read, v, q) || occurs(&bindings, q, v, work) {
             return self.checked(false, count);
@@ -128,11 +124,7 @@ impl Solver {
             (solving.top s.solver u) count (solving.check_pair (notion (strict_of access)) s.solver t u ps) result }
         ensures clear { Zero work.new }
     {
-        let bindings = Bindings {
-            tokens: *tokens,
-            bound: &table[..self.variables],
-            most: self.revision,
-        };
+        let bindings = self.bindings(*tokens, table, self.revision);
         if same_terms(&bindings, pair.left, pair.right, work) {
             return self.checked(true, count);
         }
@@ -177,7 +169,7 @@ impl Solver {
         // It goes on until nothing is pending, and a step may add to that.
         while 0 < count {
             if left == 0 {
-                clear_pairs(pending, count);
+                clear_words(pending, 2 * count);
                 return Solved {
                     solver: self,
                     verdict: Verdict::Cancelled,

@@ -6,7 +6,7 @@ ghost use Rattle.terms.specs.Term.{Parts, node, Held};
 ghost use Rattle.terms.specs.Words.Held.{HeldParts};
 ghost use Rattle.terms.specs.Tree.{nums, children};
 ghost use Rattle.solver.specs.Shapes.{notion, same_shape};
-ghost use Rattle.solver.specs.Words.PendingContract.{strict_of, Laid, Taken, Wiped, places, PushedPairs, Twins, agree, here, window, PartEnd, NumberAt};
+ghost use Rattle.solver.specs.Words.PendingContract.{strict_of, Laid, Taken, places, PushedPairs, Twins, agree, here, window, PartEnd, NumberAt};
 
 use super::{Access, Counted, PairAt};
 use terms::{Part, Tokens, skip};
@@ -76,10 +76,7 @@ pub fn same_shape(tokens: &Tokens, a: usize, b: usize, access: Access) -> bool
     let mut counts = access_of(tokens.kinds[a], access);
     // Both rows go on by the width of their own parts. An iterator over two takes numbers and terms apart; here one test is for both, another for the first.
     while i < x.end {
-        if y.end <= j {
-            return false;
-        }
-        if !parts_agree(tokens, i, j, counts) {
+        if y.end <= j || !parts_agree(tokens, i, j, counts) {
             return false;
         }
         i = part_end(tokens, i, x.end);
@@ -147,14 +144,6 @@ pub fn take_pair(pending: &mut [u32], m: usize) -> PairAt
     pending[w] = 0;
     pending[w + 1] = 0;
     PairAt { left, right }
-}
-
-// Sets the words of the pending pairs to 0.
-pub fn clear_pairs(pending: &mut [u32], count: usize)
-    requires { 2 * count ≤ length pending.old }
-    ensures { Wiped count pending.old pending.new }
-{
-    pending[..2 * count].fill(0);
 }
 
 // Puts the parts at i and j on as a pair, if they are terms and their index is from lo up to hi.

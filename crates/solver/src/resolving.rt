@@ -47,17 +47,11 @@ pub fn enter(tokens: &Tokens, bound: &[u32], p: usize, left: usize) -> Option<Ru
     ensures entered { Entered tokens.now.kinds.now tokens.now.vals.now bound.now p left (run_in result).at (run_in result).len }
     ensures filled { Filled result }
 {
-    if left == 0 {
+    if left == 0 || tokens.kinds[p] != 1 {
         return None;
     }
-    if tokens.kinds[p] != 1 {
-        return None;
-    }
-    let v = tokens.vals[p] as usize;
-    if bound.len() <= v {
-        return None;
-    }
-    named_run(tokens, bound[v] as usize)
+    let word = bound.get(tokens.vals[p] as usize)?;
+    named_run(tokens, *word as usize)
 }
 
 // Goes from a place to the next token that stands for itself, into bound variables and out of runs that are over; at == end says that

@@ -42,11 +42,6 @@ pub record Taken (m : ℕ) (st₀ st : List ℕ) (x y : ℕ) : Type 0 where
   pub below : (i : ℕ) → i < m + m → get_or st i 0 ≡ get_or st₀ i 0
   pub above : (i : ℕ) → m + m + 2 ≤ i → get_or st i 0 ≡ get_or st₀ i 0
 
--- the words of `count` pairs were set to 0
-pub record Wiped (count : ℕ) (st₀ st : List ℕ) : Type 0 where
-  pub inside : (i : ℕ) → i < count + count → get_or st i 0 ≡ 0
-  pub above : (i : ℕ) → count + count ≤ i → get_or st i 0 ≡ get_or st₀ i 0
-
 -- ---- the places of children
 
 -- the places of the terms of a row that begins at i

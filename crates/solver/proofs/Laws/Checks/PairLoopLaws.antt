@@ -24,7 +24,8 @@ use Rattle.solver.specs.Orders.{solver_of, verdict_code}
 use Rattle.solver.specs.Words.Bindings.{HeldBinding, HeldBindings}
 use Rattle.solver.specs.Words.Worklist.{Zero}
 use Rattle.solver.specs.Words.SessionRepresentation.{Represents, binding_words, verdict_number}
-use Rattle.solver.specs.Words.PendingContract.{PushedPairs, Laid, Taken, Wiped}
+use Rattle.solver.specs.Words.PendingContract.{PushedPairs, Laid, Taken}
+use Rattle.solver.specs.Words.ResolveFrames.{Cleared}
 use Rattle.solver.specs.Words.ConstrainContract.{AllWithin, pending_from, Waiting, Known, CheckRoom, Due, Stays, Pushes, ChangesCounted, After, Constrained}
 use Rattle.solver.proofs.Laws.Definition.InOrderLaws.{in_order_ordered, ordered_in_order}
 use Rattle.solver.proofs.Laws.Definition.SolverInvariantLaws.{ordered_steady}
@@ -253,14 +254,14 @@ module _ {n : Notion} {x₀ : Solver} {ks vs ts : List ℕ} (ws : List ℕ) {s :
   settled_some ps p rest e = ap (λ (l : List Pair). settles n 0 G.solver ok l) e
 
   -- cancelled: the pairs that are left were cleared
-  wiped_blank : {st' : List ℕ} → Wiped count st st' → Zero st'
-  wiped_blank {st' = st'} w i = go (native.Mathlib.Decide.dec_lt i (count + count))
+  wiped_blank : {st' : List ℕ} → Cleared (2 * count) st st' → Zero st'
+  wiped_blank {st' = st'} w i = go (native.Mathlib.Decide.dec_lt i (2 * count))
     where
-      go : Dec (i < count + count) → get_or st' i 0 ≡ 0
-      go (yes l) = w.inside i l
-      go (no l) = w.above i (omega arith) ∙ G.blank i (omega arith)
+      go : Dec (i < 2 * count) → get_or st' i 0 ≡ 0
+      go (yes l) = w.zeros i l
+      go (no l) = w.others i (omega arith) ∙ G.blank i (omega arith)
 
-  pub going_cancel : left ≡ 0 → 0 < count → {st' : List ℕ} → Wiped count st st'
+  pub going_cancel : left ≡ 0 → 0 < count → {st' : List ℕ} → Cleared (2 * count) st st'
       → Constrained x₀ ks vs ws (us ++ st') s goal (record { solver = x; verdict = Cancelled })
   unfolding solver_of verdict_code
   going_cancel e l {st'} w =

@@ -14,12 +14,14 @@ write_resolved-requires-clause-room c =
     let F = asked_areas a.self _ _ _ p.0 p.1 a.what p.2 in
     let B = begins_at a.self p.0 _ (c.start-begun.ensures _ _ p.0 p.1 p.2) c.in-Begins.is in
     let l = resolved_bytes_lem _ _ (take a.self.variables a.tables.now) p.0.solver.bindings F.bindings c.in-Begins.most c.in-Begins.p B.0 B.1 ∙ ap bytes (sym B.2) in
-    omega (arith, p.3, ap length l)
+    let k = c.bindings-bindings.ensures in
+    rw k.0 (rw k.1 (rw k.2 (omega (arith, p.3, ap length l))))
 
 pub returns-in-Begins-clause-wrote : goal.returns-in-Begins-clause-wrote
 returns-in-Begins-clause-wrote c =
     let a = c.args in
-    let e = c.write_resolved.ensures in
+    let k = c.bindings-bindings.ensures in
+    let e = rw k.0 at (rw k.1 at (rw k.2 at c.write_resolved.ensures.term)) in
     λ z t A.
     let B = begins_at a.self z _ (c.start-begun.ensures _ _ z t A) c.in-Begins.is in
-    wrote_as _ _ (ap bytes (sym B.2)) (e.term B.0 z.solver.bindings B.1 (asked_areas a.self _ _ _ z t a.what A).bindings)
+    wrote_as _ _ (ap bytes (sym B.2)) (e B.0 z.solver.bindings B.1 (asked_areas a.self _ _ _ z t a.what A).bindings)

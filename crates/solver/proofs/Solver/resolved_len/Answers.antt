@@ -15,7 +15,8 @@ walked : (c : After-resolved_len-size) (z : Session) (t : Term) → Asked c.args
 walked c z t A =
     let a = c.args in
     let B = begins_at a.self z _ (c.start-begun.ensures _ _ z t A) c.in-Begins.is in
-    c.resolved_len-size.ensures.term B.0 z.solver.bindings B.1 (asked_areas a.self _ _ _ z t a.what A).bindings ∙ ap (λ (w : Term). min (a.limit + 1) (length (bytes w))) (sym B.2)
+    let k = c.bindings-bindings.ensures in
+    (rw k.0 at (rw k.1 at (rw k.2 at c.resolved_len-size.ensures.term))) B.0 z.solver.bindings B.1 (asked_areas a.self _ _ _ z t a.what A).bindings ∙ ap (λ (w : Term). min (a.limit + 1) (length (bytes w))) (sym B.2)
 
 pub returns-then-is_none-clause-len : goal.returns-then-is_none-clause-len
 returns-then-is_none-clause-len c = walked (goal.at.returns-then-is_none-clause-len c).After-resolved_len-size

@@ -16,8 +16,11 @@ loop-count-init c =
       refl,
     )
 
-pub clear_pairs-requires : goal.clear_pairs-requires
-clear_pairs-requires c = loop_room c.loop-count.invariant.0
+pub overflow_mul-count : goal.overflow_mul-count
+overflow_mul-count c = omega (arith, loop_room c.loop-count.invariant.0, c.loop-count.auto.pending, c.well_formed)
+
+pub clear_words-requires : goal.clear_words-requires
+clear_words-requires c = loop_room c.loop-count.invariant.0
 
 pub returns-then-left-eq0-clause-solved : goal.returns-then-left-eq0-clause-solved
 returns-then-left-eq0-clause-solved c =
@@ -27,7 +30,7 @@ returns-then-left-eq0-clause-solved c =
     let z = c.split_at_mut-table.ensures in
     λ s t u o L kp kq.
     going_cancel _ (i.carries s _ (going_start o (table_of L z.front) (rw z.back c.requires.room.1) kp kq p.ensures)) i.counted z.front (l.auto.table ∙ z.front_len)
-    c.if-left-eq0.true c.loop-count-test.true c.clear_pairs.ensures
+    c.if-left-eq0.true c.loop-count-test.true c.clear_words.ensures
 
 pub take_pair-pair-requires : goal.take_pair-pair-requires
 take_pair-pair-requires c = omega (arith, loop_room c.loop-count.invariant.0)
