@@ -52,8 +52,9 @@ def functions(lines):
     of the body. What a trait asks has no body."""
     within = None
     for at, line in enumerate(lines):
-        block, start = re.match(r"impl(?:<[^>]*>)? (?:(\w+) for )?(\w+)", line), FUNCTION.match(line)
-        within = None if line == "}" else within if not block else "/" + block.group(2) + block.group(1) if block.group(1) else block.group(2)
+        block, start = re.match(r"impl(?:<[^>]*>)? (?:(\w+)(?:<(\w+)>)? for )?(\w+)", line), FUNCTION.match(line)
+        trait = block and block.group(1) and "/" + block.group(3) + block.group(1) + (block.group(2) or "").capitalize()
+        within = None if line == "}" else within if not block else trait or block.group(3)
         if not start:
             continue
         indent = start.group(1)
