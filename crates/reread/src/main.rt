@@ -106,7 +106,8 @@ fn read_frame(input: Input, kinds: &mut [u32], vals: &mut [u32]) -> Result<Frame
     }
 }
 
-// A refusal. Each function that answers returns the position after the answer, or nothing where it does not fit.
+// A refusal. Each function that answers returns the position after the answer, or nothing where it does not fit. The sheet has two that are alike; what is said
+// at `Frames` holds of them.
 fn refused_answer(out: &mut [u8], at: usize, c: u8) -> Option<usize>
     requires { at ≤ length out.old }
     ensures { IfSome result (λ next. next ≤ length out.new) }

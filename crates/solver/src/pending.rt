@@ -1,6 +1,7 @@
 // The pending pairs of `constrain`: whether two nodes have the same shape, and their children put on in pairs. Pair j stands in the words
 // 2j and 2j + 1. The words and the count are lent side by side: `store.rt` of terms says why no struct holds a `&mut` that is lent on.
 // Kinds are numbers: the line in kinds.rt of terms says why.
+// That the tokens are fewer than 2 ^ 32 is a fact of `Bindings`, and a clause of what looks at tokens alone: it is lent no words of variables for that.
 ghost use Rattle.std.specs.Prelude.{Some, unwrap_or, ◌≡◌, [], ◌∷◌, not, ◌&&◌, ◌||◌, ℕ, ◌+◌, ◌*◌, ◌^◌, ◌≤◌, ◌<◌, eqb, length, get_or};
 ghost use Rattle.terms.specs.Term.{Parts, node, Held};
 ghost use Rattle.terms.specs.Words.Held.{HeldParts};

@@ -81,7 +81,8 @@ fn keep_records(
     settle(kinds, vals, first, s.len() - first.at, outcome, place)
 }
 
-// Reads a list of `count` records, whose terms have `levels` levels left and variables below `issued`. Where it is refused the place stays.
+// Reads a list of `count` records, whose terms have `levels` levels left and variables below `issued`. Where it is refused the place stays. The request is made
+// here: the one that calls it, in the sheet, has its parts and would make it for the call.
 pub fn keep_list(
     s: &[u8],
     kinds: &mut [u32],
