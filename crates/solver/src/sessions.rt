@@ -1,4 +1,5 @@
 // A session made and cleared, and the counters that an order is read by.
+// Kinds are numbers: the line in kinds.rt of terms says why.
 ghost use Rattle.std.specs.Prelude.{◌≡◌, ℕ, ◌+◌, ◌<◌, length, replicate};
 ghost use Rattle.terms.specs.Term.{node, num, end, Held};
 ghost use Rattle.solver.specs.Session.{Session, fresh};

@@ -293,7 +293,8 @@ pub struct Tokens<'a> {
 }
 
 // The tokens that normalising sees: the lent ones, and those that order 19 makes anew from what it is given.
-// What looks at them (`rows.rt`, `virtual_tokens.rt`) are functions of their modules: as methods they would be the same calls.
+// What looks at them, at `Records`, at `Counted` and at `Tokens` are functions of their modules (`rows.rt`, `virtual_tokens.rt`, `runs.rt` and others): as
+// methods they would be the same calls.
 #[derive(Clone, Copy)]
 pub struct Seen<'a> {
     pub tokens: Tokens<'a>,

@@ -1,6 +1,7 @@
 // Codes and numbers, which are stored as tokens of kind 0, and variables, of kind 1. The place that is lent goes on after what was read; on a refusal
 // it stays.
 // Kinds and values that are written are lent as two slices; the lines at the head of store.rt say why.
+// Kinds and tags are matched by number; the line in kinds.rt says why.
 ghost use Rattle.std.specs.Prelude.{◌≡◌, ◌+◌, ◌≤◌, ◌<◌, ◌^◌, leb, length};
 ghost use Rattle.terms.specs.Result.{said};
 ghost use Rattle.terms.specs.Words.Tokens.{area, put_if};

@@ -1,4 +1,5 @@
 // The tokens that normalising sees: the lent ones, Error, and the projections that order 19 may make anew.
+// Kinds and tags are matched by number; the line in kinds.rt says why.
 ghost use Rattle.terms.specs.Words.Lent.{shown};
 ghost use Rattle.std.specs.Prelude.{◌≡◌, ◌+◌, ◌≤◌, ◌<◌, get_or};
 ghost use Rattle.terms.specs.Words.VirtualTokens.{copied, Located};
