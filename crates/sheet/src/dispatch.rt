@@ -62,7 +62,7 @@ fn answer_order<'a>(
         }
         OrderKind::Resolve => resolve_term(x, tokens, table, d, out, to),
         OrderKind::Operation(what) => {
-            // The whole areas: reading says that the fields are held there, and not that each ends before `o.top`.
+            // The whole areas: what an operation asks of its fields says where they are held, and not that each ends before `o.top`.
             let posed = Posed {
                 bytes: s,
                 tokens: Tokens { kinds: a, vals: b },

@@ -1,5 +1,5 @@
 // The run of a sheet.
-// The areas are lent as C hands them over: see dispatch.rt.
+// The areas are lent as slices side by side: see dispatch.rt.
 ghost use Rattle.std.specs.Prelude.{◌≡◌, ◌≤◌, length, take, drop};
 ghost use Rattle.solver.specs.Session.{document_limits, fresh};
 ghost use Rattle.solver.specs.Words.SessionRepresentation.{limits_of};
@@ -66,8 +66,8 @@ fn answer_orders(
     closed(Reason::UsedUp, orders, to, x)
 }
 
-// The run in areas of just the words that a session has, within limits; their words are all 0 at the end. The limits are no struct: `run_sheet` alone names
-// them, and it would be taken apart here, for `Solver::fresh` takes two of them and the split one.
+// The run in areas of just the words that a session has, within limits; their words are all 0 at the end. The limits are no struct: `run_sheet` gives
+// them, `run_within` hands them on, and it would be taken apart here, for `Solver::fresh` takes two of them and the split one.
 fn run_in(
     variables: usize,
     nodes: usize,

@@ -1,5 +1,5 @@
 // The areas cleared, and a fresh session laid in them.
-// The areas are lent as C hands them over: see dispatch.rt.
+// The areas are lent as slices side by side: see dispatch.rt.
 ghost use Rattle.std.specs.Prelude.{◌≡◌, length};
 ghost use Rattle.solver.specs.Session.{fresh};
 ghost use Rattle.solver.specs.Words.SessionsContract.{counters, FreshRoom};

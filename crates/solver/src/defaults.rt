@@ -85,7 +85,7 @@ fn first_of(mask: u32, fallback: Builtin) -> Builtin
 }
 
 // The builtin that a numeric default takes, by the word of the variable whose turn it is and by that of the end of its chain, or by the own one alone where
-// the end has none. With a range a word is 64 or more.
+// the end has none. With a range a word is above 64.
 fn default_builtin(own: NonZeroU32, last: Option<NonZeroU32>) -> Builtin
     ensures { (o : Option Request) → RequestWord (non_zero_u32_get own) → HeldRequest o (word_of last)
         → result.code ≡ taken (request_in (non_zero_u32_get own)) o }

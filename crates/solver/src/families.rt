@@ -16,7 +16,7 @@ use terms::Tokens;
 impl Table<'_> {
     // The word of a variable's request. The column has 0 for none.
     // It is no `NumberRequest`: only a session's table is known to hold requests, and what defaults and bindings require is of any table.
-    // Nor is it an enum of plain requests and ranges: what is told here (`mask_in`, `joined_word`) is told of any word.
+    // Nor is it an enum of plain requests and ranges: what is told here (`mask_in`, `joined_word`) is told of any word but 0.
     pub fn request(&self, v: u32) -> Option<NonZeroU32>
         ensures { word_of result ≡ get_or (request_words self.now.variables self.now.words.now) v 0 }
     {
@@ -85,7 +85,7 @@ pub fn admissible(tokens: &Tokens, table: &Table, v: u32, q: usize) -> bool
 }
 
 // The word of the variable left free where two are joined: `word` is that of the one bound, `other` its own, if it has one: without, it is 0, whose mask is
-// 255. With a range a word is 64 or more.
+// 255. With a range a word is above 64.
 fn joined_word(word: NonZeroU32, other: Option<NonZeroU32>) -> u32
     ensures { result ≡ joined_word (non_zero_u32_get word) (word_of other) }
 {

@@ -1,6 +1,6 @@
 // A term with its bound variables replaced: sized and written without being built. A variable's word in `bound` is 0 where it is
 // unbound, and p + 1 where it is bound to the term at p. Kinds are numbers: the line in kinds.rt of terms says why.
-// Bindings and frames are lent side by side, since frames are written: the lines at the head of store.rt of terms say why.
+// Bindings and frames are lent side by side, since frames are written: docs/DECISIONS.md, "How are the tokens lent?".
 ghost use Rattle.std.specs.Prelude.{Some, unwrap_or, ◌≡◌, ℕ, min, ◌+◌, ◌^◌, ◌≤◌, ◌<◌, length};
 ghost use Rattle.std.proofs.Math.Option.{Option};
 ghost use Rattle.std.proofs.lemmas.List.Edits.{sets};
