@@ -97,7 +97,7 @@ fn default_builtin(own: NonZeroU32, last: Option<NonZeroU32>) -> Builtin
     if (own.get() | end.get()) < 64 {
         return fallback;
     }
-    let mask = family_mask(end);
+    let mask = family_mask(end.get());
     if has(mask, fallback.code) {
         return fallback;
     }

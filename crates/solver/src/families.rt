@@ -16,7 +16,7 @@ use terms::Tokens;
 impl Table<'_> {
     // The word of a variable's request. The column has 0 for none.
     // It is no `NumberRequest`: only a session's table is known to hold requests, and what defaults and bindings require is of any table.
-    // Nor is it an enum of plain requests and ranges: what is told here (`mask_in`, `joined_word`) is told of any word but 0.
+    // Nor is it an enum of plain requests and ranges: what is told here (`mask_in`, `joined_word`) is told of other words, too.
     pub fn request(&self, v: u32) -> Option<NonZeroU32>
         ensures { word_of result ≡ get_or (request_words self.now.variables self.now.words.now) v 0 }
     {
@@ -29,10 +29,9 @@ impl Table<'_> {
 }
 
 // The types that a request's word admits, as a mask.
-pub fn family_mask(word: NonZeroU32) -> u32
-    ensures { result ≡ mask_in (non_zero_u32_get word) }
+pub fn family_mask(word: u32) -> u32
+    ensures { result ≡ mask_in word }
 {
-    let word = word.get();
     if 32 < word {
         return (word - 33) / 32 % 256;
     }
@@ -61,7 +60,7 @@ pub fn in_family(tokens: &Tokens, q: usize, word: NonZeroU32) -> bool
         && 2 <= tokens.kinds.len() - q
         && tokens.kinds[q + 1] == 0
         && tokens.vals[q + 1] < 32
-        && has(family_mask(word), tokens.vals[q + 1])
+        && has(family_mask(word.get()), tokens.vals[q + 1])
 }
 
 // Whether the unbound variable v may be bound to the term at q, which is an unbound variable or a node.
@@ -81,7 +80,7 @@ pub fn admissible(tokens: &Tokens, table: &Table, v: u32, q: usize) -> bool
     let Some(other) = table.request(tokens.vals[q]) else {
         return true;
     };
-    family_mask(word) & family_mask(other) != 0
+    family_mask(word.get()) & family_mask(other.get()) != 0
 }
 
 // The word of the variable left free where two are joined: `word` is that of the one bound, `other` its own, if it has one: without, it is 0, whose mask is
@@ -89,14 +88,12 @@ pub fn admissible(tokens: &Tokens, table: &Table, v: u32, q: usize) -> bool
 fn joined_word(word: NonZeroU32, other: Option<NonZeroU32>) -> u32
     ensures { result ≡ joined_word (non_zero_u32_get word) (word_of other) }
 {
-    let (last, mask) = match other {
-        Some(other) => (other.get(), family_mask(other)),
-        None => (0, 255),
-    };
-    if (word.get() | last) < 64 {
-        return word.get();
+    let word = word.get();
+    let last = other.map_or(0, NonZeroU32::get);
+    if (word | last) < 64 {
+        return word;
     }
-    33 + (word.get() - 1) % 32 + 32 * (family_mask(word) & mask)
+    33 + (word - 1) % 32 + 32 * (family_mask(word) & family_mask(last))
 }
 
 // The request of v is joined to that of the variable of a token, if v has one and the token is a variable of the table.

@@ -28,4 +28,4 @@ returns c =
     let o = c.in-Some-request.ensures in
     λ t rs g h. admit_joins _ _ _ rs _ g _ t _ _ h c.if-tokens-q-ne1.false
     (λ e. omega (arith, c.in-Some.word.ok, w, e)) (λ e. omega (arith, c.in-Some-request.other.ok, o, e))
-    (c.family_mask.ensures ∙ ap mask_in w) (c.family_mask-2.ensures ∙ ap mask_in o)
+    (c.family_mask.ensures ∙ ap mask_in (c.get.ensures.value ∙ w)) (c.family_mask-2.ensures ∙ ap mask_in (c.get-2.ensures.value ∙ o))
