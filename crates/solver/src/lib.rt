@@ -107,6 +107,36 @@ pub enum Site {
     Hole(u32),
 }
 
+// The words that the table has for the place of a variable: 1, a site and a slot, or 2, the site of a hole and 0. Any three words may be looked for.
+#[derive(Clone, Copy, Debug, PartialEq, Eq)]
+pub struct PlaceWords {
+    pub kind: u32,
+    pub site: u32,
+    pub slot: u32,
+}
+
+impl From<Site> for PlaceWords {
+    ghost use Rattle.std.specs.Prelude.{◌≡◌};
+    ghost use Rattle.solver.specs.Words.OrderTerms.{words_of};
+
+    ghost from_gives = { λ site words. words ≡ words_of site };
+
+    fn from(site: Site) -> PlaceWords {
+        match site {
+            Site::Slot(s, i) => PlaceWords {
+                kind: 1,
+                site: s,
+                slot: i,
+            },
+            Site::Hole(s) => PlaceWords {
+                kind: 2,
+                site: s,
+                slot: 0,
+            },
+        }
+    }
+}
+
 // What is resolved: the term that follows the session's tokens, or a variable.
 #[derive(Clone, Copy, Debug, PartialEq, Eq)]
 pub enum Subject {

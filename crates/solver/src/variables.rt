@@ -1,60 +1,50 @@
-// Orders 0 to 2: the variable of a place. A variable's words in the table say what it is the variable of: 1, a site and a slot, or 2 and
-// the site of a hole.
+// Orders 0 to 2: the variable of a place.
 ghost use Rattle.std.specs.Prelude.{Some, unwrap_or, ◌≡◌, true, false, List, ℕ, ◌+◌, ◌*◌, ◌^◌, ◌≤◌, ◌<◌, length, get_or};
 ghost use Rattle.solver.specs.Session.{VariablePlace, at, gap, Session, find};
 ghost use Rattle.solver.specs.Orders as orders;
-ghost use Rattle.solver.specs.Words.SessionRepresentation.{limits_of, place_words, site_words, slot_words, request_in, HeldPlaces, Represents};
+ghost use Rattle.solver.specs.Words.SessionRepresentation.{limits_of, place_words, site_words, slot_words, request_in, HeldPlace, HeldPlaces, Represents};
 ghost use Rattle.solver.specs.Words.MethodContract.{matches, last_match, Shaped, Beside, placed, named_of, Issued, Replied, reply_of};
 ghost use Rattle.solver.specs.Words.MethodContract.{resolved_reply};
-ghost use Rattle.solver.specs.Words.OrderTerms.{place_of, kind_word, site_word, slot_word};
+ghost use Rattle.solver.specs.Words.OrderTerms.{place_of};
 
-use super::{Issue, NumberRequest, Site, Solver, Table};
+use super::{Issue, NumberRequest, PlaceWords, Site, Solver, Table};
 
-// The words that are written for a place.
-fn words_of(site: Site) -> (u32, u32, u32)
-    ensures { (result.0 ≡ kind_word site) × (result.1 ≡ site_word site) × (result.2 ≡ slot_word site) }
-{
-    match site {
-        Site::Slot(s, i) => (1, s, i),
-        Site::Hole(s) => (2, s, 0),
-    }
-}
-
-// Whether a variable's words are those of the place: a hole has no slot. The words are compared, and no `Site` is made of them: the third word of a hole
+// Whether a variable's words are those asked for: a hole has no slot. The words are compared, and no `Site` is made of them: the third word of a hole
 // does not count, whatever it is, and the words of no variable are no site.
 #[tactic(auto, unfolding(crate::specs::Words::MethodContract::matches))]
-pub fn is_place(site: Site, k: u32, s: u32, i: u32) -> bool
-    ensures { result ≡ matches (kind_word site) (site_word site) (slot_word site) k s i }
+pub fn is_place(asked: PlaceWords, words: PlaceWords) -> bool
+    ensures { result ≡ matches asked.kind asked.site asked.slot words.kind words.site words.slot }
 {
-    let (kind, of, slot) = words_of(site);
-    k == kind && s == of && (kind == 2 || i == slot)
+    words.kind == asked.kind
+        && words.site == asked.site
+        && (asked.kind == 2 || words.slot == asked.slot)
 }
 
-// The last variable whose words are those of the place. Where no variable has the site there is none.
-pub fn find_place(table: &Table, issued: usize, site: Site) -> Option<usize>
+// The last variable whose words are those asked for. Where no variable has the site there is none.
+pub fn find_place(table: &Table, issued: usize, asked: PlaceWords) -> Option<usize>
     requires { issued ≤ table.now.variables }
-    ensures word { unwrap_or result issued ≡ last_match (kind_word site) (site_word site) (slot_word site)
+    ensures word { unwrap_or result issued ≡ last_match asked.kind asked.site asked.slot
         (place_words table.now.variables table.now.words.now) (site_words table.now.variables table.now.words.now)
         (slot_words table.now.variables table.now.words.now) issued issued }
     ensures low { (v : ℕ) → result ≡ Some v → v < issued }
-    ensures place { (ps : List VariablePlace)
+    ensures place { (p : VariablePlace) (ps : List VariablePlace)
+        → HeldPlace p asked.kind asked.site asked.slot
         → length ps ≡ issued
         → HeldPlaces (place_words table.now.variables table.now.words.now) (site_words table.now.variables table.now.words.now)
         (slot_words table.now.variables table.now.words.now) ps
-        → result ≡ named_of (find (place_of site) ps) }
+        → result ≡ named_of (find p ps) }
 {
     let m = table.variables;
-    let (_, of, _) = words_of(site);
-    if !table.words[3 * m..3 * m + issued].contains(&of) {
+    if !table.words[3 * m..3 * m + issued].contains(&asked.site) {
         return None;
     }
     (0..issued).rev().find(|&v| {
-        is_place(
-            site,
-            table.words[2 * m + v],
-            table.words[3 * m + v],
-            table.words[4 * m + v],
-        )
+        let words = PlaceWords {
+            kind: table.words[2 * m + v],
+            site: table.words[3 * m + v],
+            slot: table.words[4 * m + v],
+        };
+        is_place(asked, words)
     })
 }
 
@@ -70,16 +60,17 @@ impl Solver {
             words: tables,
             variables: self.variables,
         };
-        let v = find_place(&table, self.issued, site).unwrap_or(self.issued);
+        let v = find_place(&table, self.issued, PlaceWords::from(site)).unwrap_or(self.issued);
         (v < self.variables).then_some(v as u32)
     }
 
     // The variable of a place: the one that it has, or a new one.
-    pub fn issue(mut self, tables: &mut [u32], site: Site) -> Issue
+    pub fn issue(mut self, tables: &mut [u32], asked: PlaceWords) -> Issue
         requires { Shaped self (length tables.old) }
-        ensures held { (ks vs : List ℕ) (s : Session)
+        ensures held { (ks vs : List ℕ) (s : Session) (p : VariablePlace)
+            → HeldPlace p asked.kind asked.site asked.slot
             → Represents self ks vs tables.old s
-            → Issued result.solver ks vs tables.new (place_of site) (placed (limits_of self) s (place_of site)) result.answer }
+            → Issued result.solver ks vs tables.new p (placed (limits_of self) s p) result.answer }
         ensures low { (v : ℕ) → result.answer ≡ Some v → v < self.variables }
         ensures beside { Beside self result.solver tables.old tables.new }
     {
@@ -89,7 +80,7 @@ impl Solver {
             words: &tables[..],
             variables: m,
         };
-        if let Some(v) = find_place(&table, issued, site) {
+        if let Some(v) = find_place(&table, issued, asked) {
             return Issue {
                 solver: self,
                 answer: Some(v as u32),
@@ -101,10 +92,9 @@ impl Solver {
                 answer: None,
             };
         }
-        let (kind, of, slot) = words_of(site);
-        tables[2 * m + issued] = kind;
-        tables[3 * m + issued] = of;
-        tables[4 * m + issued] = slot;
+        tables[2 * m + issued] = asked.kind;
+        tables[3 * m + issued] = asked.site;
+        tables[4 * m + issued] = asked.slot;
         self.issued = issued + 1;
         Issue {
             solver: self,
@@ -120,7 +110,7 @@ impl Solver {
             → Replied result.solver ks vs tables.new (at site slot) (orders.order (limits_of self) s (orders.variable site slot)) reply_of result.answer }
         ensures beside { Beside self result.solver tables.old tables.new }
     {
-        self.issue(tables, Site::Slot(site, slot))
+        self.issue(tables, PlaceWords::from(Site::Slot(site, slot)))
     }
 
     // Orders 1 and 21: the number variable of a site, with this request from now on.
@@ -138,7 +128,7 @@ impl Solver {
         ensures beside { Beside self result.solver tables.old tables.new }
     {
         let m = self.variables;
-        let c = self.issue(tables, Site::Slot(site, 1));
+        let c = self.issue(tables, PlaceWords::from(Site::Slot(site, 1)));
         if let Some(v) = c.answer {
             let at = m + v as usize;
             tables[at] = request.word;
@@ -155,6 +145,6 @@ impl Solver {
             (resolved_reply (orders.order (limits_of self) s (orders.hole site)).session.solver) result.answer }
         ensures beside { Beside self result.solver tables.old tables.new }
     {
-        self.issue(tables, Site::Hole(site))
+        self.issue(tables, PlaceWords::from(Site::Hole(site)))
     }
 }

@@ -4,6 +4,7 @@ use Rattle.terms.specs.Term.{Term, var, items, size, bytes, AllVars, Held}
 use Rattle.solver.specs.declared.Solver.{Solver}
 use Rattle.solver.specs.declared.Site.{Site}
 use Rattle.solver.specs.declared.Site.TheVariants.{Slot, Hole}
+use Rattle.solver.specs.declared.PlaceWords.{PlaceWords}
 use Rattle.solver.specs.declared.Subject.{Subject}
 use Rattle.solver.specs.declared.Subject.TheVariants.{Follows, Id}
 use Rattle.solver.specs.declared.Start.{Start}
@@ -49,17 +50,9 @@ place_of (Slot s i) = at s i
 place_of (Hole s) = gap s
 
 -- its words in the table: what it is of, its site, and its slot
-abbrev pub kind_word : Site → ℕ
-kind_word (Slot s i) = 1
-kind_word (Hole s) = 2
-
-abbrev pub site_word : Site → ℕ
-site_word (Slot s i) = s
-site_word (Hole s) = s
-
-abbrev pub slot_word : Site → ℕ
-slot_word (Slot s i) = i
-slot_word (Hole s) = 0
+abbrev pub words_of : Site → PlaceWords
+words_of (Slot s i) = record { kind = 1; site = s; slot = i }
+words_of (Hole s) = record { kind = 2; site = s; slot = 0 }
 
 -- ---- what is resolved
 

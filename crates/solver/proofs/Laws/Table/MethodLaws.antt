@@ -20,6 +20,7 @@ use Rattle.solver.specs.declared.Defaulted.TheVariants.{Requested, Deferred}
 use Rattle.std.specs.Prelude.{Some, None, unwrap_or}
 use Rattle.std.specs.Bool.{then_some}
 use Rattle.std.specs.declared.option.Option as rust
+use Rattle.solver.specs.declared.PlaceWords.{PlaceWords}
 use Rattle.solver.specs.declared.Site.{Site}
 use Rattle.solver.specs.declared.Site.TheVariants.{Slot, Hole}
 use Rattle.solver.specs.Families.{Request}
@@ -30,7 +31,7 @@ use Rattle.solver.specs.Words.Bindings.{HeldBindings}
 use Rattle.solver.specs.Words.Worklist.{Zero}
 use Rattle.solver.specs.Words.SessionRepresentation.{limits_of, binding_words, request_words, place_words, site_words, slot_words, deferral_words, HeldRequest, HeldPlace, HeldPlaces, Unplaced, flag, free_words, Represents}
 use Rattle.solver.specs.Words.MethodContract.{Beside, matches, last_match, found, placing, placed, named_of, Issued, Replied, reply_of, resolved_reply, joined_word, Handed, never_word, default_word, end_word}
-use Rattle.solver.specs.Words.OrderTerms.{place_of, kind_word, site_word, slot_word}
+use Rattle.solver.specs.Words.OrderTerms.{place_of, words_of}
 use Rattle.solver.proofs.Laws.Definition.InOrderLaws.{find_issued}
 use Rattle.solver.proofs.Laws.Resolving.BindingLaws.{bind_held}
 use Rattle.solver.proofs.Laws.Table.ColumnLaws.{column_read, column_length, column_write, column_before, column_behind}
@@ -116,9 +117,9 @@ matches_same (gap a) (gap c) kind site slot k s i h g = rw (h.0, g.0, h.1, g.1) 
     and-true false = refl
 
 -- the words of a place hold it
-pub place_held : (w : Site) (k s i : ℕ) → k ≡ kind_word w → s ≡ site_word w → i ≡ slot_word w → HeldPlace (place_of w) k s i
-place_held (Slot a b) k s i e f g = (e, f, g)
-place_held (Hole a) k s i e f g = (e, f, g)
+pub place_held : (w : Site) {words : PlaceWords} → words ≡ words_of w → HeldPlace (place_of w) words.kind words.site words.slot
+place_held (Slot s i) e = rw e (refl, refl, refl)
+place_held (Hole s) e = rw e (refl, refl, refl)
 
 -- by tests
 module _ (kind site slot k s i : ℕ) where
@@ -149,11 +150,6 @@ module _ (kind site slot k s i : ℕ) where
       go : Dec (i ≡ slot) → eqb i slot ≡ eqb slot i
       go (yes h) = eq-eqb i slot h ∙ sym (eq-eqb slot i (sym h))
       go (no h) = ne_eqb i slot h ∙ sym (ne_eqb slot i (λ x. h (sym x)))
-
-  -- the words asked for are those of a place
-  pub match_place : (w : Site) → kind ≡ kind_word w → site ≡ site_word w → slot ≡ slot_word w → matches kind site slot k s i ≡ matches (kind_word w) (site_word w) (slot_word w) k s i
-  match_place w e f g =
-      ap (λ (x : ℕ). matches x site slot k s i) e ∙ ap (λ (x : ℕ). matches (kind_word w) x slot k s i) f ∙ ap (λ (x : ℕ). matches (kind_word w) (site_word w) x k s i) g
 
 -- one variable more was looked at
 module _ (kind site slot : ℕ) (ks ss is : List ℕ) (d n : ℕ) where

@@ -8,8 +8,7 @@ use native.Mathlib.Omega.{arith}
 use Rattle.std.specs.declared.option.Option as rust
 use Rattle.solver.specs.Session.{find}
 use Rattle.solver.proofs.Laws.Definition.InOrderLaws.{find_issued}
-use Rattle.solver.specs.Words.OrderTerms.{place_of, kind_word, site_word, slot_word}
-use Rattle.solver.proofs.Laws.Table.MethodLaws.{Fits-at, place_held, search_none, search_answer, none_named}
+use Rattle.solver.proofs.Laws.Table.MethodLaws.{Fits-at, search_none, search_answer, none_named}
 use Rattle.std.proofs.Common.{rules, tests}
 use Rattle.std.proofs.lemmas.Iterator.Search.{find_from_yields_List}
 use Rattle.std.specs.Option.{option_map, unwrap_or}
@@ -22,12 +21,12 @@ returns-then-not-contains c =
     let a = c.args in
     let b = 3 * a.table.now.variables in
     let n = b + a.issued - b in
-    let no : (v : ℕ) → v < a.issued → get_or a.table.now.words.now (b + v) 0 ≡ site_word a.site → ⊥ = λ v h e.
+    let no : (v : ℕ) → v < a.issued → get_or a.table.now.words.now (b + v) 0 ≡ a.asked.site → ⊥ = λ v h e.
     let l : v < n = omega arith in
     let f = c.if-not-contains.ensures.cases v 0 (omega arith) (omega (arith, length-take-le n (drop b a.table.now.words.now) (omega (arith, length-drop b a.table.now.words.now)))) in
-    never_true (sym f ∙ eq-eqb _ _ (get_or-take n (drop b a.table.now.words.now) v 0 l ∙ get_or-drop b a.table.now.words.now v 0 ∙ e ∙ sym c.words_of-of.ensures.1)) in
-    let w = search_none (kind_word a.site) (site_word a.site) (slot_word a.site) a.table.now.variables a.table.now.words.now a.issued a.issued (omega arith) no in
-    record { word = w; low = λ v e. absurd (cc); place = λ ps n g. none_named a.issued (find (place_of a.site) ps) (search_answer (kind_word a.site) (site_word a.site) (slot_word a.site) a.table.now.variables a.table.now.words.now a.issued a.issued w (place_of a.site) ps (place_held a.site _ _ _ refl refl refl) n g) (λ v e. omega (arith, n, find_issued (place_of a.site) ps v e)) }
+    never_true (sym f ∙ eq-eqb _ _ (get_or-take n (drop b a.table.now.words.now) v 0 l ∙ get_or-drop b a.table.now.words.now v 0 ∙ e)) in
+    let w = search_none a.asked.kind a.asked.site a.asked.slot a.table.now.variables a.table.now.words.now a.issued a.issued (omega arith) no in
+    record { word = w; low = λ v e. absurd (cc); place = λ p ps h n g. none_named a.issued (find p ps) (search_answer a.asked.kind a.asked.site a.asked.slot a.table.now.variables a.table.now.words.now a.issued a.issued w p ps h n g) (λ v e. omega (arith, n, find_issued p ps v e)) }
 
 -- an option mapped to itself is the same
 same_option : (r : rust.Option ℕ) → option_map (λ (x : ℕ). x) r ≡ r
@@ -37,9 +36,9 @@ same_option None = refl
 pub returns : goal.returns
 returns c =
     let a = c.args in
-    let t = Fits-at (kind_word a.site) (site_word a.site) (slot_word a.site) a.table.now.variables a.table.now.words.now a.issued in
+    let t = Fits-at a.asked.kind a.asked.site a.asked.slot a.table.now.variables a.table.now.words.now a.issued in
     let r = c.find.result in
     let e = sym (same_option r) ∙ find_from_yields_List t _ _ _ c.find.ensures.ran (YieldsList-from_rev_range a.issued c.rev.ensures.source) (λ x b q k. search (rules, tests)) in
-    let w = ap (λ (o : rust.Option ℕ). unwrap_or o a.issued) e ∙ search_down (kind_word a.site) (site_word a.site) (slot_word a.site) a.table.now.variables a.table.now.words.now a.issued a.issued (omega (arith, c.requires)) in
+    let w = ap (λ (o : rust.Option ℕ). unwrap_or o a.issued) e ∙ search_down a.asked.kind a.asked.site a.asked.slot a.table.now.variables a.table.now.words.now a.issued a.issued (omega (arith, c.requires)) in
     let low : (v : ℕ) → r ≡ Some v → v < a.issued = λ v h. found_below t a.issued v (sym e ∙ h) in
-    record { word = w; low = low; place = λ ps n g. answer_named r a.issued (find (place_of a.site) ps) (search_answer (kind_word a.site) (site_word a.site) (slot_word a.site) a.table.now.variables a.table.now.words.now a.issued (unwrap_or r a.issued) w (place_of a.site) ps (place_held a.site _ _ _ refl refl refl) n g) low (λ v h. omega (arith, n, find_issued (place_of a.site) ps v h)) }
+    record { word = w; low = low; place = λ p ps h n g. answer_named r a.issued (find p ps) (search_answer a.asked.kind a.asked.site a.asked.slot a.table.now.variables a.table.now.words.now a.issued (unwrap_or r a.issued) w p ps h n g) low (λ v e. omega (arith, n, find_issued p ps v e)) }
