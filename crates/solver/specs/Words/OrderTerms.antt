@@ -67,7 +67,7 @@ resolved_to z t = bytes (resolved z.solver t)
 
 -- resolving t begins at the term at p, with m bindings left to follow, or t is a variable that stands for itself
 abbrev pub Starts : (x : Solver) (ks vs : List ℕ) → Session → Term → Start → Type 0
-Starts x ks vs z t (Begins p m) = (u : Term) × Held ks vs p u × (resolved z.solver t ≡ resolve m z.solver.bindings u) × (m ≤ x.revision)
+Starts x ks vs z t (Begins p m) = (u : Term) × Held ks vs p u × (resolved z.solver t ≡ resolve m z.solver.bindings u) × (m ≤ x.revision) × (p < 2 ^ 32)
 Starts x ks vs z t (Free v) = resolved z.solver t ≡ var v
 
 -- frames for resolving, two words a binding, all 0

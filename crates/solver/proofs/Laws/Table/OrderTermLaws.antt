@@ -92,6 +92,7 @@ module _ (x : Solver) (ks vs ts : List ℕ) (z : Session) (L : Represents x ks v
             subst (λ (i : ℕ). Held ks vs i t) a h.2,
             ap (λ (n : ℕ). resolve n z.solver.bindings (var v)) (sym L.revision) ∙ resolved_bound x.revision m z.solver.bindings v t f q,
             omega arith,
+            omega (arith, h.2.within, items_some t, L.short),
           )
 
 -- by what is asked for
@@ -127,7 +128,7 @@ module _ (x : Solver) (ks vs ts : List ℕ) (z : Session) (t : Term) where
 -- ---- what is resolved from where it begins
 
 module _ (x : Solver) {ks vs : List ℕ} (z : Session) (t : Term) {begun : Start} (s : Starts x ks vs z t begun) where
-  pub begins_at : {p m : ℕ} → begun ≡ Begins p m → (u : Term) × Held ks vs p u × (resolved z.solver t ≡ resolve m z.solver.bindings u) × (m ≤ x.revision)
+  pub begins_at : {p m : ℕ} → begun ≡ Begins p m → (u : Term) × Held ks vs p u × (resolved z.solver t ≡ resolve m z.solver.bindings u) × (m ≤ x.revision) × (p < 2 ^ 32)
   begins_at e = subst (λ (b : Start). Starts x ks vs z t b) e s
 
 pub wrote_as : {w w' : List ℕ} (to : ℕ) (o : List ℕ) {out : List ℕ} {r : ℕ} → w ≡ w' → (r ≡ to + length w) × (out ≡ sets o to w) → (r ≡ to + length w') × (out ≡ sets o to w')
