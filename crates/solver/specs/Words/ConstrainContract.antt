@@ -107,6 +107,8 @@ pub record After (x : Solver) (ks vs ts₀ ts st₀ st : List ℕ) (s : Session)
   pub stack : Stays st₀ st count r.count ⊎ Pushes x ks vs t u st₀ st count r.count
   pub variables : r.solver.variables ≡ x.variables
   pub nodes : r.solver.nodes ≡ x.nodes
+  pub size : length ts ≡ length ts₀
+  pub pending_size : length st ≡ length st₀
   pub counted : ChangesCounted x r.solver ts₀ ts
 
 -- What `solve_pair` leaves, where the definition ends with `goal`: the session with the definition's solver, its verdict, and no pair pending.

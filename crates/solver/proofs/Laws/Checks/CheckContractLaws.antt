@@ -81,7 +81,7 @@ module _ {x : Solver} {ks vs ts : List ℕ} {s : Session} {v q : ℕ} {t : Term}
       let r = some_of (admit s.solver.requests (s.solver.requests v) t) f in
       let low = within_most (issued s) x.variables F.represents.fits.variables t F.known.within in
       after_bound x ks vs ts st s count ps F.represents W a b (bound_to s.solver v t r.0) (bind_bound s.solver v t ps r.0 e r.1 g) refl y us (l r.0 low r.1)
-      d.variables d.nodes
+      d.variables d.nodes d.size
 
 -- ---- two nodes
 
@@ -160,11 +160,11 @@ module _ (n : Notion) {x : Solver} {ks vs ts : List ℕ} {s : Session} {i j coun
   abbrev Pushed : List ℕ → ℕ → Type 0
   Pushed st' top = (k l : ℕ) (rs qs : Parts) → Held ks vs i (node k rs) → Held ks vs j (node l qs) → PushedPairs ks vs i j (node k rs) (node l qs) count st st' top
 
-  pub apart_pushes : soft ≡ false → eqb (get_or ks i 0) 20 ≡ false → {r : Bool} → r ≡ true → Shapes r → {st' : List ℕ} {top : ℕ} → Pushed st' top
+  pub apart_pushes : soft ≡ false → eqb (get_or ks i 0) 20 ≡ false → {r : Bool} → r ≡ true → Shapes r → {st' : List ℕ} {top : ℕ} → length st' ≡ length st → Pushed st' top
       → After x ks vs ts ts st st' s t u count goal (record { solver = x; good = true; count = top })
-  apart_pushes e f {r} g h {st'} {top} p =
+  apart_pushes e f {r} g h {st'} {top} c p =
       after_pushed x ks vs ts st s count ps L W t u
-      (opened e f ∙ ap (λ (b : Bool). decompose s.solver t u ps false false b) (shapes r h ∙ g) ∙ part_pushes s.solver t u ps) i j N st' top
+      (opened e f ∙ ap (λ (b : Bool). decompose s.solver t u ps false false b) (shapes r h ∙ g) ∙ part_pushes s.solver t u ps) i j N st' top c
       (subst (λ (y : Term). PushedPairs ks vs i j y u count st st' top) (sym N.left)
       (subst (λ (y : Term). PushedPairs ks vs i j (node N.tag N.row) y count st st' top) (sym N.right)
       (p N.tag N.other N.row N.behind (subst (λ (y : Term). Held ks vs i y) N.left N.at_left) (subst (λ (y : Term). Held ks vs j y) N.right N.at_right))))

@@ -5,6 +5,7 @@ use mathlib.Core.List.{List}
 use mathlib.Core.Logic.{inl, inr}
 use Prim.Native.Nat.{ℕ, suc}
 use native.Mathlib.Omega.{arith}
+use lib.ListN.{length}
 use Rattle.terms.specs.Term.{Term}
 use Rattle.solver.specs.declared.Solver.{Solver}
 use Rattle.solver.specs.Shapes.{pushed}
@@ -26,6 +27,8 @@ module _ (x : Solver) (ks vs ts st : List ℕ) (s : Session) (count : ℕ) (ps :
     stack = inl (refl, refl);
     variables = refl;
     nodes = refl;
+    size = refl;
+    pending_size = refl;
     counted = record { rises = omega arith; quiet = λ e. refl };
   }
 
@@ -37,21 +40,23 @@ module _ (x : Solver) (ks vs ts st : List ℕ) (s : Session) (count : ℕ) (ps :
 
   -- a variable was bound: the columns changed
   pub after_bound : {w : solving.Check} (z : solving.Solver) → w ≡ passed z ps → z.revision ≡ suc s.solver.revision → (y : Solver) (us : List ℕ) → Represents y ks vs us (with_solver s z)
-      → y.variables ≡ x.variables → y.nodes ≡ x.nodes → After x ks vs ts us st st s t u count w (record { solver = y; good = true; count = count })
-  after_bound {w} z e more y us l a b = record {
+      → y.variables ≡ x.variables → y.nodes ≡ x.nodes → length us ≡ length ts → After x ks vs ts us st st s t u count w (record { solver = y; good = true; count = count })
+  after_bound {w} z e more y us l a b c = record {
     represents = subst (λ (q : solving.Solver). Represents y ks vs us (with_solver s q)) (sym (ap (λ (v : solving.Check). v.state) e)) l;
     good = sym (ap (λ (v : solving.Check). v.good) e);
     waiting = subst (λ (r : List Pair). Waiting ks vs st count r) (sym (ap (λ (v : solving.Check). v.todo) e)) waits;
     stack = inl (refl, refl);
     variables = a;
     nodes = b;
+    size = c;
+    pending_size = refl;
     counted = record { rises = omega (arith, l.revision, lent.revision); quiet = λ q. absurd (omega (arith, l.revision, lent.revision)) };
   }
 
   -- the children of two nodes were pushed
-  pub after_pushed : {w : solving.Check} → w ≡ passed s.solver (zip_on (pushed t) (pushed u) ps) → (a b : ℕ) → Nodes x ks vs a b count t u → (st' : List ℕ) (r : ℕ)
+  pub after_pushed : {w : solving.Check} → w ≡ passed s.solver (zip_on (pushed t) (pushed u) ps) → (a b : ℕ) → Nodes x ks vs a b count t u → (st' : List ℕ) (r : ℕ) → length st' ≡ length st
       → PushedPairs ks vs a b t u count st st' r → After x ks vs ts ts st st' s t u count w (record { solver = x; good = true; count = r })
-  after_pushed {w} e a b n st' r p = record {
+  after_pushed {w} e a b n st' r c p = record {
     represents = subst (λ (q : solving.Solver). Represents x ks vs ts (with_solver s q)) (sym (ap (λ (v : solving.Check). v.state) e)) lent;
     good = sym (ap (λ (v : solving.Check). v.good) e);
     waiting = subst (λ (q : List Pair). Waiting ks vs st' r q) (sym (ap (λ (v : solving.Check). v.todo) e)) (record {
@@ -61,5 +66,7 @@ module _ (x : Solver) (ks vs ts st : List ℕ) (s : Session) (count : ℕ) (ps :
     stack = inr (record { left = a; right = b; nodes = n; pushed = p });
     variables = refl;
     nodes = refl;
+    size = refl;
+    pending_size = c;
     counted = record { rises = omega arith; quiet = λ e. refl };
   }

@@ -47,5 +47,5 @@ pub returns : goal.returns
 returns c = record {
   after = λ s t u ps ts L N W. rw c.checked-2.ensures
       (apart_pushes _ L N W (sym c.either_recovers.ensures ∙ c.if-either_recovers.false) (ne_eqb _ 20 c.if-tokens-a-eq20.false)
-      c.if-not-same_shape.false c.same_shape.ensures c.push_children-top.ensures);
+      c.if-not-same_shape.false c.same_shape.ensures c.push_children-top.auto.pending c.push_children-top.ensures);
 }
