@@ -50,17 +50,16 @@ pub fn has(mask: u32, c: u32) -> bool
 }
 
 // Whether the term at q is a builtin that a request's word admits.
-pub fn in_family(tokens: &Tokens, q: usize, word: NonZeroU32) -> bool
+pub fn in_family(tokens: &Tokens, q: usize, word: u32) -> bool
     requires { q < length tokens.now.kinds.now }
-    ensures { (t : Term) → RequestWord (non_zero_u32_get word) → Held tokens.now.kinds.now tokens.now.vals.now q t
-        → result ≡ belongs (request_in (non_zero_u32_get word)).family t }
+    ensures { (t : Term) → RequestWord word → Held tokens.now.kinds.now tokens.now.vals.now q t → result ≡ belongs (request_in word).family t }
 {
     tokens.kinds[q] == 6
         && tokens.vals[q] == 2
         && 2 <= tokens.kinds.len() - q
         && tokens.kinds[q + 1] == 0
         && tokens.vals[q + 1] < 32
-        && has(family_mask(word.get()), tokens.vals[q + 1])
+        && has(family_mask(word), tokens.vals[q + 1])
 }
 
 // Whether the unbound variable v may be bound to the term at q, which is an unbound variable or a node.
@@ -75,7 +74,7 @@ pub fn admissible(tokens: &Tokens, table: &Table, v: u32, q: usize) -> bool
         return true;
     };
     if tokens.kinds[q] != 1 {
-        return in_family(tokens, q, word);
+        return in_family(tokens, q, word.get());
     }
     let Some(other) = table.request(tokens.vals[q]) else {
         return true;

@@ -15,8 +15,8 @@ returns-in_default c =
 
 pub returns-then-tokens-q-ne1 : goal.returns-then-tokens-q-ne1
 returns-then-tokens-q-ne1 c =
-    let w = c.in-Some.ensures in
-    λ t rs g h. admit_node _ _ _ rs _ g _ t _ h (λ e. omega (arith, c.in-Some.word.ok, w, e)) c.if-tokens-q-ne1.true
+    let w = c.get.ensures.value ∙ c.in-Some.ensures in
+    λ t rs g h. admit_node _ _ _ rs _ g _ t _ h (λ e. omega (arith, c.in-Some.word.ok, c.in-Some.ensures, e)) c.if-tokens-q-ne1.true
     (λ W. c.in_family.ensures t (subst RequestWord (sym w) W) h ∙ ap (λ (n : ℕ). belongs (request_in n).family t) w)
 
 pub returns-in_default-request : goal.returns-in_default-request
@@ -28,4 +28,4 @@ returns c =
     let o = c.in-Some-request.ensures in
     λ t rs g h. admit_joins _ _ _ rs _ g _ t _ _ h c.if-tokens-q-ne1.false
     (λ e. omega (arith, c.in-Some.word.ok, w, e)) (λ e. omega (arith, c.in-Some-request.other.ok, o, e))
-    (c.family_mask.ensures ∙ ap mask_in (c.get.ensures.value ∙ w)) (c.family_mask-2.ensures ∙ ap mask_in (c.get-2.ensures.value ∙ o))
+    (c.family_mask.ensures ∙ ap mask_in (c.get-2.ensures.value ∙ w)) (c.family_mask-2.ensures ∙ ap mask_in (c.get-3.ensures.value ∙ o))

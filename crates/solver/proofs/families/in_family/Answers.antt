@@ -6,7 +6,6 @@ use borrow.Author.Tests.{eqb-true, eqb-false, leb-false, ltb-false, ne_eqb}
 use lib.ListN.{get_or}
 use Rattle.terms.proofs.Laws.General.Bools.{never_true}
 use Rattle.solver.specs.Words.SessionRepresentation.{bit}
-use Rattle.solver.specs.Words.MethodContract.{mask_in}
 use Rattle.solver.proofs.Laws.Table.AdmitLaws.{no_builtin, builtin_bit, builtin_high}
 use Rattle.solver.proofs.families.in_family.Goals.{then-tokens-q-eq6, else-tokens-q-eq6, then-tokens-q-eq2, else-tokens-q-eq2, then-tokens-q-ge2, else-tokens-q-ge2, then-tokens-q-eq0, else-tokens-q-eq0}
 use Rattle.solver.proofs.families.in_family.Goals as goal
@@ -23,7 +22,7 @@ returns-then-tokens-q-lt32 c =
                   | then-tokens-q-eq2 u ↦
                       elim c.if-tokens-q-eq6.branch [
                         | then-tokens-q-eq6 z ↦
-                            c.has.ensures ∙ ap (λ (m : ℕ). bit m (get_or a.tokens.now.vals.now (a.q + 1) 0)) (c.family_mask.ensures ∙ ap mask_in c.get.ensures.value)
+                            c.has.ensures ∙ ap (λ (m : ℕ). bit m (get_or a.tokens.now.vals.now (a.q + 1) 0)) c.family_mask.ensures
                             ∙ builtin_bit _ _ _ _ W z.if-tokens-q-eq6.true (eqb-true _ _ (sym z.value-is ∙ u.if-tokens-q-eq2.true))
                             (eqb-true _ _ (sym v.value-is ∙ w.if-tokens-q-eq0.true)) t h
                         | else-tokens-q-eq6 z ↦ never_true (sym (z.value-is ∙ ne_eqb _ _ z.if-tokens-q-eq6.false) ∙ u.if-tokens-q-eq2.true)
