@@ -61,15 +61,15 @@ impl Solver {
     {
         // Both are lent from one borrow: the borrow checker does not cover a slice that is lent whole where a part of it is lent.
         let lent = &table[..];
-        let bindings = self.bindings(*tokens, lent, self.revision);
-        if recovers(&bindings, q, work) {
+        let bound = &lent[..self.variables];
+        if recovers(tokens, bound, q, work) {
             return self.checked(true, count);
         }
         let read = Table {
             words: lent,
             variables: self.variables,
         };
-        if !admissible(tokens, &read, v, q) || occurs(&bindings, q, v, work) {
+        if !admissible(tokens, &read, v, q) || occurs(tokens, bound, q, v, work) {
             return self.checked(false, count);
         }
         self.bind(tokens, table, v, q).checked(true, count)

@@ -5,16 +5,16 @@
 ghost use Rattle.std.specs.Prelude.{◌≡◌, true, ℕ, suc, ◌+◌, ◌^◌, ◌≤◌, ◌<◌, length};
 ghost use Rattle.std.proofs.Math.Option.{Option, none};
 ghost use Rattle.terms.specs.Words.Tokens.{toks};
-ghost use Rattle.terms.specs.Term.{Term};
+ghost use Rattle.terms.specs.Term.{Term, Held};
 ghost use Rattle.solver.specs.Constrain.{resolve};
 ghost use Rattle.solver.specs.Constrain as solving;
-ghost use Rattle.solver.specs.Words.Lent.{HeldBy, Binds};
+ghost use Rattle.solver.specs.Words.Bindings.{HeldBindings};
 ghost use Rattle.solver.specs.Words.Worklist.{Zero, Work, Grown};
 ghost use Rattle.solver.specs.Words.ReachContract.{question_of, counts, has, run_of, Told, asked, Steady, Free};
 ghost use Rattle.solver.specs.Words.CongruenceClasses.{Clearing};
 
+use super::Run;
 use super::resolving::{named_run, run_at};
-use super::{Bindings, Run};
 use terms::Tokens;
 
 // What is asked for: an Unknown or Error, or a variable.
@@ -89,21 +89,20 @@ pub fn clear_queue(marks: &mut [u32], queue: &mut [u32], top: usize)
 }
 
 // Whether the term at p has what is asked for, bound variables replaced: it and what its variables are bound to are looked at, each once, until what is
-// asked for is met. The scratch is all 0 before and after.
-pub fn reaches(bindings: &Bindings, p: usize, want: Wanted, work: &mut [u32]) -> bool
-    requires scratch { (length bindings.now.bound.now + length bindings.now.bound.now ≤ length work.old) × Zero work.old }
-    ensures told { Told bindings.now.tokens.kinds.now bindings.now.tokens.vals.now bindings.now.bound.now
-        (run_of bindings.now.tokens.kinds.now bindings.now.tokens.vals.now (p + 1)) (question_of want) result }
+// asked for is met. The scratch is all 0 before and after. Tokens and bindings are lent apart, since a `Bindings` says that the
+// tokens are fewer than 2 ^ 32, which is not asked here.
+pub fn reaches(tokens: &Tokens, bound: &[u32], p: usize, want: Wanted, work: &mut [u32]) -> bool
+    requires scratch { (length bound.now + length bound.now ≤ length work.old) × Zero work.old }
+    ensures told { Told tokens.now.kinds.now tokens.now.vals.now bound.now (run_of tokens.now.kinds.now tokens.now.vals.now (p + 1)) (question_of want) result }
     ensures term { (t : Term) (b : ℕ → Option Term) (n : ℕ)
-        → HeldBy bindings.now p t
-        → Binds bindings.now b
+        → Held tokens.now.kinds.now tokens.now.vals.now p t
+        → HeldBindings tokens.now.kinds.now tokens.now.vals.now bound.now b
         → Steady n b
         → Free (question_of want) b
         → result ≡ asked (question_of want) (resolve n b t) }
     ensures clear { Zero work.new }
 {
-    let tokens = &bindings.tokens;
-    let (marks, queue) = work.split_at_mut(bindings.bound.len());
+    let (marks, queue) = work.split_at_mut(bound.len());
     let mut top = 0;
     let run = run_at(tokens, p).unwrap_or_default();
     let mut hit = scan(tokens, run, want, marks, queue, &mut top);
@@ -111,7 +110,7 @@ pub fn reaches(bindings: &Bindings, p: usize, want: Wanted, work: &mut [u32]) ->
     // It goes on until nothing is pending, and a step may add to that.
     while !hit && done < top {
         let w = queue[done] as usize;
-        let next = named_run(tokens, bindings.bound[w] as usize).unwrap_or_default();
+        let next = named_run(tokens, bound[w] as usize).unwrap_or_default();
         hit = scan(tokens, next, want, marks, queue, &mut top);
         done += 1;
     }
@@ -120,28 +119,28 @@ pub fn reaches(bindings: &Bindings, p: usize, want: Wanted, work: &mut [u32]) ->
 }
 
 // Whether the unbound variable v is in the term at p, bound variables replaced.
-pub fn occurs(bindings: &Bindings, p: usize, v: u32, work: &mut [u32]) -> bool
-    requires scratch { (length bindings.now.bound.now + length bindings.now.bound.now ≤ length work.old) × Zero work.old }
+pub fn occurs(tokens: &Tokens, bound: &[u32], p: usize, v: u32, work: &mut [u32]) -> bool
+    requires scratch { (length bound.now + length bound.now ≤ length work.old) × Zero work.old }
     ensures term { (t : Term) (b : ℕ → Option Term) (n : ℕ)
-        → HeldBy bindings.now p t
-        → Binds bindings.now b
+        → Held tokens.now.kinds.now tokens.now.vals.now p t
+        → HeldBindings tokens.now.kinds.now tokens.now.vals.now bound.now b
         → Steady n b
         → b v ≡ none
         → result ≡ solving.occurs v (resolve n b t) }
     ensures clear { Zero work.new }
 {
-    reaches(bindings, p, Wanted::Variable(v), work)
+    reaches(tokens, bound, p, Wanted::Variable(v), work)
 }
 
 // Whether an Unknown or Error is in the term at p, bound variables replaced.
-pub fn recovers(bindings: &Bindings, p: usize, work: &mut [u32]) -> bool
-    requires scratch { (length bindings.now.bound.now + length bindings.now.bound.now ≤ length work.old) × Zero work.old }
+pub fn recovers(tokens: &Tokens, bound: &[u32], p: usize, work: &mut [u32]) -> bool
+    requires scratch { (length bound.now + length bound.now ≤ length work.old) × Zero work.old }
     ensures term { (t : Term) (b : ℕ → Option Term) (n : ℕ)
-        → HeldBy bindings.now p t
-        → Binds bindings.now b
+        → Held tokens.now.kinds.now tokens.now.vals.now p t
+        → HeldBindings tokens.now.kinds.now tokens.now.vals.now bound.now b
         → Steady n b
         → result ≡ solving.recovers (resolve n b t) }
     ensures clear { Zero work.new }
 {
-    reaches(bindings, p, Wanted::Recovery, work)
+    reaches(tokens, bound, p, Wanted::Recovery, work)
 }

@@ -12,13 +12,13 @@ use Rattle.solver.proofs.reach.reaches.Goals.{then-loop-hit-test+else-done-top, 
 use Rattle.solver.proofs.reach.reaches.Goals as goal
 
 -- the queue has no more entries than the table has variables, and has room for them
-lens : (c : At-loop-hit) → (c.loop-hit.top ≤ length c.args.bindings.now.bound.now) × (c.loop-hit.top ≤ length c.loop-hit.queue)
+lens : (c : At-loop-hit) → (c.loop-hit.top ≤ length c.args.bound.now) × (c.loop-hit.top ≤ length c.loop-hit.queue)
 lens c =
     let i = c.loop-hit.invariant in
     (omega (arith, top-le i.0.work, i.0.size), omega (arith, top-le i.0.work, i.1))
 
 -- the answer, where the loop ends
-told : (c : Left-loop-hit) → Told c.args.bindings.now.tokens.kinds.now c.args.bindings.now.tokens.vals.now c.args.bindings.now.bound.now (run_of c.args.bindings.now.tokens.kinds.now c.args.bindings.now.tokens.vals.now (c.args.p + 1)) (question_of c.args.want) c.loop-hit.hit
+told : (c : Left-loop-hit) → Told c.args.tokens.now.kinds.now c.args.tokens.now.vals.now c.args.bound.now (run_of c.args.tokens.now.kinds.now c.args.tokens.now.vals.now (c.args.p + 1)) (question_of c.args.want) c.loop-hit.hit
 told c =
     let i = c.loop-hit.invariant.0 in
     elim c.loop-hit-test.branch [
@@ -36,7 +36,7 @@ pub loop-hit-init : goal.loop-hit-init
 loop-hit-init c =
     let s = c.split_at_mut-marks.ensures in
     let m = c.scan-hit in (
-      going_start (rw s.front (zero_take _ _ c.requires.scratch.1)) (m.auto.marks ∙ s.front_len) _ (named_run_of c.args.bindings.now.tokens.kinds.now c.args.bindings.now.tokens.vals.now (c.args.p + 1) _ _ (named_or_empty _ _ c.run_at.ensures.named c.unwrap_or_default-run.ensures)) m.ensures.hit m.ensures.grown,
+      going_start (rw s.front (zero_take _ _ c.requires.scratch.1)) (m.auto.marks ∙ s.front_len) _ (named_run_of c.args.tokens.now.kinds.now c.args.tokens.now.vals.now (c.args.p + 1) _ _ (named_or_empty _ _ c.run_at.ensures.named c.unwrap_or_default-run.ensures)) m.ensures.hit m.ensures.grown,
       omega (arith, s.front_len, s.back_len, c.requires.scratch.0, m.auto.marks, m.auto.queue),
     )
 
@@ -70,7 +70,7 @@ returns-clause-told c = told (goal.at.returns-clause-told c).Left-loop-hit
 pub returns-clause-term : goal.returns-clause-term
 returns-clause-term c =
     let a = c.args in
-    told_asked a.bindings.now.tokens.kinds.now a.bindings.now.tokens.vals.now a.bindings.now.bound.now a.p (question_of a.want) _ (told (goal.at.returns-clause-term c).Left-loop-hit)
+    told_asked a.tokens.now.kinds.now a.tokens.now.vals.now a.bound.now a.p (question_of a.want) _ (told (goal.at.returns-clause-term c).Left-loop-hit)
 
 pub returns-clause-clear : goal.returns-clause-clear
 returns-clause-clear c =

@@ -6,7 +6,7 @@ use Rattle.solver.proofs.Laws.Resolving.ReachLaws.{Going}
 use Rattle.solver.proofs.reach.reaches.Given as goal
 
 abbrev pub invariant-loop-hit : goal.invariant-loop-hit
-invariant-loop-hit l = Going l.bindings.tokens.kinds.now l.bindings.tokens.vals.now l.bindings.bound.now (run_of l.bindings.tokens.kinds.now l.bindings.tokens.vals.now (l.p + 1)) (question_of l.want) l.marks l.queue l.top l.done l.hit × (length l.marks ≤ length l.queue)
+invariant-loop-hit l = Going l.tokens.kinds.now l.tokens.vals.now l.bound (run_of l.tokens.kinds.now l.tokens.vals.now (l.p + 1)) (question_of l.want) l.marks l.queue l.top l.done l.hit × (length l.marks ≤ length l.queue)
 
 abbrev pub decreases-loop-hit : goal.decreases-loop-hit
-decreases-loop-hit l = length l.bindings.bound.now - l.done
+decreases-loop-hit l = length l.bound - l.done
