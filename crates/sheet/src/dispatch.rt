@@ -12,7 +12,7 @@ ghost use Rattle.sheet.specs.Words.FramingContract.{OutputRoom, output_at, writt
 ghost use Rattle.sheet.specs.Words.OrderReaderContract.{RulesRoom};
 ghost use Rattle.sheet.specs.Words.DispatchContract.{OrderTaken, Serves, Answered};
 
-use super::framing::write_refusal;
+use super::framing::write_order_refusal;
 use super::operations::operate;
 use super::order_reader::{clear_order, read_order};
 use super::plain_orders::{termless_of, termless_order};
@@ -42,7 +42,7 @@ fn answer_order<'a>(
 {
     let n = x.standing();
     if n.nodes < o.nodes {
-        let next = write_refusal(out, to, OrderRefusal::Common(Refusal::Nodes));
+        let next = write_order_refusal(out, to, OrderRefusal::Common(Refusal::Nodes));
         return AfterOrder { solver: x, next };
     }
     let tokens = &Tokens {
@@ -105,7 +105,7 @@ fn serve_with(
             w
         }
         Err(refusal) => {
-            let next = write_refusal(out, to, OrderRefusal::Common(refusal));
+            let next = write_order_refusal(out, to, OrderRefusal::Common(refusal));
             AfterOrder { solver: x, next }
         }
     }

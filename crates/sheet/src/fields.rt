@@ -178,6 +178,34 @@ fn list_field(
 }
 
 // A field of a sort other than rules; these would be taken for receivers.
+pub fn read_plain(
+    s: &[u8],
+    kinds: &mut [u32],
+    vals: &mut [u32],
+    place: &mut Place,
+    sort: Sort,
+    issued: u64,
+) -> Result<FieldSpot, Refusal>
+    requires ample { Ample s.now place.old }
+    requires free { Free place.old.top (area kinds.old vals.old) }
+    ensures { PlainDone s.now (field s.now issued (plain_of sort) place.old.at) place.old
+        (area kinds.old vals.old) (area kinds.new vals.new) (field_of result place.new) }
+{
+    match sort {
+        Sort::Number => number_field(s, place),
+        Sort::Code => code_field(s, place),
+        Sort::Bound => bound_field(s, place),
+        Sort::Parameters => parameters_field(s, place),
+        Sort::Term | Sort::Nominal | Sort::Receiver => {
+            tree_field(s, kinds, vals, place, sort, issued, 1)
+        }
+        Sort::Entries | Sort::Receivers | Sort::Arguments | Sort::Rules => {
+            list_field(s, kinds, vals, place, sort, issued)
+        }
+    }
+}
+
+// A field that `read_plain` reads.
 pub struct PlainField;
 
 impl FieldReader for PlainField {
@@ -192,17 +220,6 @@ impl FieldReader for PlainField {
         sort: Sort,
         issued: u64,
     ) -> Result<FieldSpot, Refusal> {
-        match sort {
-            Sort::Number => number_field(s, place),
-            Sort::Code => code_field(s, place),
-            Sort::Bound => bound_field(s, place),
-            Sort::Parameters => parameters_field(s, place),
-            Sort::Term | Sort::Nominal | Sort::Receiver => {
-                tree_field(s, kinds, vals, place, sort, issued, 1)
-            }
-            Sort::Entries | Sort::Receivers | Sort::Arguments | Sort::Rules => {
-                list_field(s, kinds, vals, place, sort, issued)
-            }
-        }
+        read_plain(s, kinds, vals, place, sort, issued)
     }
 }

@@ -12,16 +12,24 @@ use solver::{number_len, write_number};
 pub const BYTE_ANSWER: usize = 3;
 
 // A refusal.
-pub fn write_refusal(out: &mut [u8], to: usize, why: OrderRefusal) -> Option<usize>
+pub fn write_refusal(out: &mut [u8], to: usize, code: u8) -> Option<usize>
     requires { OutputRoom out.old to }
-    ensures { Framed (refusal (order_refusal why)) out.old to out.new result }
+    ensures { Framed (refusal code) out.old to out.new result }
 {
     if out.len() - to < 2 {
         return None;
     }
     out[to] = 1;
-    out[to + 1] = u8::from(why);
+    out[to + 1] = code;
     Some(to + 2)
+}
+
+// A refusal, by why the order is refused.
+pub fn write_order_refusal(out: &mut [u8], to: usize, why: OrderRefusal) -> Option<usize>
+    requires { OutputRoom out.old to }
+    ensures { Framed (refusal (order_refusal why)) out.old to out.new result }
+{
+    write_refusal(out, to, u8::from(why))
 }
 
 // Outcome 0 and a value of one byte.

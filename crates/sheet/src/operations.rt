@@ -16,7 +16,7 @@ ghost use Rattle.sheet.specs.Words.OrderKinds.{operation_row};
 ghost use Rattle.sheet.specs.Words.FramingContract.{OutputRoom, Framed};
 ghost use Rattle.sheet.specs.Words.OperationsContract.{IsPosed, RepliesTo, parameters_at, row_at};
 
-use super::framing::{begin_answer, write_byte_answer, write_bytes_answer, write_refusal};
+use super::framing::{begin_answer, write_byte_answer, write_bytes_answer, write_order_refusal};
 use super::{FieldSpot, Operation, OrderRefusal, Posed};
 use solver::{
     Parameters, Part, Pass, Question, Refusal, Rewriter, Rule, Tokens, Unfinished, ask,
@@ -252,7 +252,11 @@ fn settled(
         out.old to levels most o r → Framed (settled o) out.old to out.new result }
 {
     match r {
-        Err(Unfinished::TooMany) => write_refusal(out, to, OrderRefusal::Common(Refusal::Children)),
+        Err(Unfinished::TooMany) => write_order_refusal(
+            out,
+            to,
+            OrderRefusal::Common(Refusal::Children),
+        ),
         Err(Unfinished::TooLong) => None,
         Ok(w) => {
             let size = w.size;

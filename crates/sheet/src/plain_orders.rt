@@ -23,7 +23,7 @@ ghost use Rattle.sheet.specs.Words.SessionOrdersContract.{lent, Does, Says, vari
 ghost use Rattle.sheet.specs.Words.SessionOrdersContract.{variable_answer, termless_command};
 
 use super::framing::{
-    BYTE_ANSWER, begin_answer, write_byte_answer, write_number_answer, write_refusal,
+    BYTE_ANSWER, begin_answer, write_byte_answer, write_number_answer, write_order_refusal,
 };
 use super::{
     AfterOrder, FieldSpot, FieldSpots, OrderRefusal, TermlessKind, TermlessOrder, VariableOrder,
@@ -172,7 +172,7 @@ fn variable_order(
         (solve (limits_of x) z (variable_command wanted)) (output_at out.old to) (written_to out.new result.next) }
 {
     let Some(v) = x.id_of(tables, Site::from(wanted)) else {
-        let next = write_refusal(out, to, OrderRefusal::Common(Refusal::Variables));
+        let next = write_order_refusal(out, to, OrderRefusal::Common(Refusal::Variables));
         return AfterOrder { solver: x, next };
     };
     let next = answer_variable(x, tokens, tables, frames, wanted, v, out, to);
@@ -264,7 +264,7 @@ pub fn termless_order(
         TermlessOrder::Defaults(which) => default_order(x, which, tokens, tables, out, to),
         TermlessOrder::Revision => revision_order(x, out, to),
         TermlessOrder::NoType => {
-            let next = write_refusal(out, to, OrderRefusal::NoType);
+            let next = write_order_refusal(out, to, OrderRefusal::NoType);
             AfterOrder { solver: x, next }
         }
     }

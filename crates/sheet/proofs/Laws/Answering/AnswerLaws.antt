@@ -18,7 +18,6 @@ use Rattle.solver.specs.Terms.Result.{got}
 use Rattle.solver.specs.Terms.Parameters.{parameters, listed}
 use Rattle.solver.proofs.Terms.HeldLaws.{items_some}
 use Rattle.solver.specs.Terms.Term.{Term, bytes, Held}
-use Rattle.solver.specs.Terms.TermsAtPlaces.{FormedAt}
 use Rattle.solver.specs.Terms.Questions.{asked, answered, number_of_question}
 use Rattle.solver.specs.TermTypes.{Question, IsNever, IsInteger, IsConcrete, IsUnresolved, ContainsUnknown, ContainsSelfType, ContainsProjection, IsResolvedIn}
 use Rattle.solver.specs.Terms.Substitution.{Entry, Receiver, apply, instantiate, extend, zipped}
@@ -33,7 +32,6 @@ use Rattle.std.specs.Prelude.{Option, Some, None, Result, Ok, Err}
 use Rattle.sheet.specs.OrderTable.{Answer, refusal, outcome}
 use Rattle.sheet.specs.Operations.{perhaps, settled}
 use Rattle.sheet.specs.Words.FramingContract.{Framed, opening, Begun}
-use Rattle.sheet.specs.Words.OperationsContract.{Two}
 use Rattle.sheet.proofs.Laws.Answering.FramingLaws.{value_frame, frame_over, value_in, value_over}
 
 -- ---- in the places of equals
@@ -54,9 +52,6 @@ two_bytes a b c d p q = rw (p, q)
 
 pub held_in : (ks vs : List ℕ) (p : ℕ) (t : Term) → Held ks vs p t → p < length ks
 held_in ks vs p t h = omega (arith, h.within, items_some t)
-
-abbrev pub formed_both : (ks vs : List ℕ) (a b : ℕ) (t u : Term) → Two ks vs a b t u → FormedAt ks vs a × FormedAt ks vs b
-formed_both ks vs a b t u x = (record { term = t; held = x.left; formed = x.left_formed }, record { term = u; held = x.right; formed = x.right_formed })
 
 -- ---- orders 12, 13, 14 and 18
 

@@ -1,7 +1,8 @@
 -- An order that is given, kind by kind: what its fields are, where they are held, and what its answer is.
-use mathlib.Core.Path.{◌≡◌, refl, ap, ◌∙◌}
+use mathlib.Core.Path.{◌≡◌, refl, sym, ap, ◌∙◌}
+use mathlib.Core.Bool.{Bool}
 use mathlib.Core.List.{List, [], ◌∷◌, map}
-use Prim.Native.Nat.{ℕ, ◌≤◌}
+use Prim.Native.Nat.{ℕ, ◌≤◌, ◌<◌}
 use native.Mathlib.Omega.{arith}
 use lib.ListN.{length, take}
 use Rattle.solver.specs.TermTypes.{Binders, Parameter, Parameters, Rule}
@@ -9,6 +10,7 @@ use Rattle.solver.specs.Terms.Result.{got}
 use Rattle.solver.specs.Terms.Tokens.{spell}
 use Rattle.solver.specs.Terms.Term.{Term, Parts, node, end, part_items, Held, bytes}
 use Rattle.solver.specs.Terms.Held.{HeldParts}
+use Rattle.solver.specs.Terms.TermsAtPlaces.{FormedAt}
 use Rattle.solver.specs.Terms.Shape as shape
 use Rattle.solver.specs.Terms.Formed.{Formed, Fit, Each}
 use Rattle.solver.specs.Terms.Tree.{nominal_of}
@@ -23,6 +25,7 @@ use Rattle.solver.specs.TermTypes as purposes
 use Rattle.solver.specs.Terms.RewriteContract.{RowsWithin, HeldBinders}
 use Rattle.solver.specs.Terms.Lookup.{Pattern, FormedPatterns}
 use Rattle.solver.specs.Terms.Normal.{normalize, with_associated_types}
+use Rattle.std.specs.Prelude.{Option}
 use Rattle.sheet.specs.declared.FieldSpots.{FieldSpots}
 use Rattle.sheet.specs.Fields as fields
 use Rattle.sheet.specs.Fields.{Field, tree, bare, entered, received, named, listed, ruled, nth, term_of, row_of, entries_of, receivers_of, parameters_of, arguments_of, rules_of}
@@ -32,7 +35,9 @@ use Rattle.sheet.specs.Operations as operations
 use Rattle.sheet.specs.Words.FieldsFormed.{FormedTrees, FormedRules, FormedFields}
 use Rattle.sheet.specs.Words.FieldsHeld.{HeldFields}
 use Rattle.sheet.specs.Words.OrderGiven.{FitsLayout, Given}
+use Rattle.sheet.specs.Words.FramingContract.{Framed}
 use Rattle.sheet.specs.Words.OperationsContract.{Asks, Replies, row_at, Two, Applies, Associates, Normalises}
+use Rattle.sheet.proofs.Laws.Answering.AnswerLaws.{held_in, frame_as, one_byte}
 
 -- what an order with a row says: its fields are held, and w is its answer
 pub record Kind (ks vs s : List ℕ) (ws : List Rule) (k : Row) (o : FieldSpots) (Says : Answer → Type 0) : Type 1 where
@@ -409,3 +414,26 @@ module _ (ks vs s : List ℕ) (ws : List Rule) (o : FieldSpots) where
         normalises = record { rules = h.first.2; term = h.second; rules_formed = formed_patterns known f.0 g.0; term_formed = g.1.0.formed };
         enough = h.first.1;
       })
+
+-- ---- what a function that answers is asked, and what it replies
+
+module _ {ks vs s : List ℕ} {ws : List Rule} {k : Row} {o : FieldSpots} where
+  -- what was written is the answer
+  pub replies_as : {Says : Answer → Type 0} → Kind ks vs s ws k o Says → (a : Answer) → ((w : Answer) → Says w → a ≡ w) → (out₀ : List ℕ) (to : ℕ) (out : List ℕ) (r : Option ℕ) → Framed a out₀ to out r
+      → Replies ks vs s ws k o (λ x. Framed x out₀ to out r)
+  replies_as x a e out₀ to out r f = x.replied _ (λ w y. frame_as a w (e w y) out₀ to out r f)
+
+  -- two formed terms at their places
+  pub pair_asked : {says : Term → Term → Answer} → Kind ks vs s ws k o (Pair ks vs o says) → Asks ks vs s ws k o
+      → ((o.first.place < length ks) × (o.second.place < length ks)) × (FormedAt ks vs o.first.place × FormedAt ks vs o.second.place)
+  pair_asked x p =
+      let y = (x.asked p).1.both in (
+        (held_in _ _ _ _ y.left, held_in _ _ _ _ y.right),
+        (record { term = _; held = y.left; formed = y.left_formed }, record { term = _; held = y.right; formed = y.right_formed }),
+      )
+
+  -- orders 9 and 10: a byte says whether h holds of the two terms
+  pub pair_replies : (h : Term → Term → Bool) → Kind ks vs s ws k o (Pair ks vs o (λ t u. outcome (bit (h t u) ∷ []))) → (b : Bool) (n : ℕ) → n ≡ bit b
+      → ((t u : Term) → Held ks vs o.first.place t → Held ks vs o.second.place u → Formed t → Formed u → b ≡ h t u)
+      → (out₀ : List ℕ) (to : ℕ) (out : List ℕ) (r : Option ℕ) → Framed (outcome (n ∷ [])) out₀ to out r → Replies ks vs s ws k o (λ x. Framed x out₀ to out r)
+  pair_replies h x b n e tells = replies_as x _ (λ w y. one_byte _ _ (e ∙ ap bit (tells _ _ y.both.left y.both.right y.both.left_formed y.both.right_formed)) ∙ sym y.answer)

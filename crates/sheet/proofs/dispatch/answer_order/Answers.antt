@@ -16,7 +16,7 @@ within x e h = omega (arith, ap (λ (s : Standing). s.nodes) e, h)
 pub returns-then-n-o : goal.returns-then-n-o
 returns-then-n-o c =
     let n = ap (λ (x : Standing). x.nodes) c.standing-n.ensures in
-    λ a₀ b₀ T. crowded T (omega (arith, n, c.if-n-o.true)) _ _ c.write_refusal-next.ensures
+    λ a₀ b₀ T. crowded T (omega (arith, n, c.if-n-o.true)) _ _ c.write_order_refusal-next.ensures
 
 pub slice_bounds-tokens-end-2 : goal.slice_bounds-tokens-end-2
 slice_bounds-tokens-end-2 c =

@@ -2,16 +2,15 @@
 use mathlib.Core.Path.{refl}
 use native.Mathlib.Omega.{arith}
 use Rattle.sheet.specs.OrderTable.{refusal}
-use Rattle.sheet.specs.Words.FramingContract.{order_refusal}
 use Rattle.sheet.proofs.Laws.Answering.FramingLaws.{frame_over, frame_fits, two_stores, refusal_frame}
 use Rattle.sheet.proofs.framing.write_refusal.Goals as goal
 
 pub returns-then-out-to-lt2 : goal.returns-then-out-to-lt2
 returns-then-out-to-lt2 c =
     let a = c.args in
-    frame_over (refusal (order_refusal a.why)) _ (refusal_frame (order_refusal a.why)) a.out.now a.to _ (omega arith) refl
+    frame_over (refusal a.code) _ (refusal_frame a.code) a.out.now a.to _ (omega arith) refl
 
 pub returns : goal.returns
 returns c =
     let a = c.args in
-    frame_fits (refusal (order_refusal a.why)) _ (refusal_frame (order_refusal a.why)) a.out.now a.to _ _ (omega arith) refl (rw c.from.ensures (two_stores a.out.now a.to _ _))
+    frame_fits (refusal a.code) _ (refusal_frame a.code) a.out.now a.to _ _ (omega arith) refl (two_stores a.out.now a.to _ _)

@@ -5,15 +5,15 @@ use Rattle.solver.specs.Terms.Parameters.{listed}
 use Rattle.sheet.specs.OrderTable.{outcome}
 use Rattle.sheet.specs.Words.OperationsContract.{parameters_at}
 use Rattle.sheet.proofs.Laws.Answering.AnswerLaws.{held_in, frame_as, apply_none, apply_some, perhaps_some}
-use Rattle.sheet.proofs.Laws.Answering.OperationFieldLaws.{binders_within, within_as, applies_as, family}
+use Rattle.sheet.proofs.Laws.Answering.OperationFieldLaws.{binders_within, within_as, applies_as, family, replies_as}
 use Rattle.sheet.proofs.operations.apply_family.Goals as goal
 
 pub returns-then-o : goal.returns-then-o
 returns-then-o c =
     λ ws.
-    (family _ _ _ ws _).replied _ (λ w x.
+    replies_as (family _ _ _ ws _) _ (λ w x.
     let y = x.applies (parameters_at c.args.posed.now c.args.posed.now.fields.first) refl refl in
-    rw x.answer (frame_as _ _ (ap outcome (sym (apply_none x.names x.term x.entries x.receivers x.arguments (λ h. c.if-o.true (y.parameters ∙ sym h ∙ sym y.many))))) _ _ _ _ c.write_byte_answer.ensures))
+    ap outcome (sym (apply_none x.names x.term x.entries x.receivers x.arguments (λ h. c.if-o.true (y.parameters ∙ sym h ∙ sym y.many)))) ∙ sym x.answer) _ _ _ _ c.write_byte_answer.ensures
 
 pub invariant_of-rewriter : goal.invariant_of-rewriter
 invariant_of-rewriter c =

@@ -2,20 +2,15 @@
 use native.Mathlib.Omega.{arith}
 use Rattle.solver.specs.Terms.Term.{bytes}
 use Rattle.solver.specs.Terms.Recovery.{recover_from}
-use Rattle.sheet.proofs.Laws.Answering.AnswerLaws.{held_in, formed_both}
 use Rattle.sheet.proofs.Laws.Answering.FramingLaws.{value_in, value_over, begun_room}
-use Rattle.sheet.proofs.Laws.Answering.OperationFieldLaws.{recovers}
+use Rattle.sheet.proofs.Laws.Answering.OperationFieldLaws.{recovers, pair_asked}
 use Rattle.sheet.proofs.operations.recovered.Goals as goal
 
 pub recovered_len-size-requires-clause-places : goal.recovered_len-size-requires-clause-places
-recovered_len-size-requires-clause-places c =
-    let x = ((recovers _ _ _ _ _).asked c.requires.asks.1).1.both in
-    (held_in _ _ _ _ x.left, held_in _ _ _ _ x.right)
+recovered_len-size-requires-clause-places c = (pair_asked (recovers _ _ _ _ _) c.requires.asks.1).0
 
 pub recovered_len-size-requires-clause-terms : goal.recovered_len-size-requires-clause-terms
-recovered_len-size-requires-clause-terms c =
-    let x = ((recovers _ _ _ _ _).asked c.requires.asks.1).1.both in
-    formed_both _ _ _ _ _ _ x
+recovered_len-size-requires-clause-terms c = (pair_asked (recovers _ _ _ _ _) c.requires.asks.1).1
 
 pub returns-in_err-at : goal.returns-in_err-at
 returns-in_err-at c =
@@ -32,8 +27,8 @@ write_recovered-requires c =
     let x = ((recovers _ _ _ _ _).asked p.asks.1).1.both in
     let e = c.recovered_len-size.ensures _ _ x.left x.right x.left_formed x.right_formed in
     let m = begun_room _ _ _ _ _ c.in_ok-at.ensures in
-    let f = formed_both _ _ _ _ _ _ x in
-    record { places = (held_in _ _ _ _ x.left, held_in _ _ _ _ x.right); room = omega (arith, c.args.posed.now.few, p.room.short, m); terms = record { left = f.0; right = f.1; room = omega (arith, m, e) } }
+    let q = pair_asked (recovers _ _ _ _ _) p.asks.1 in
+    record { places = q.0; room = omega (arith, c.args.posed.now.few, p.room.short, m); terms = record { left = q.1.0; right = q.1.1; room = omega (arith, m, e) } }
 
 pub returns : goal.returns
 returns c =

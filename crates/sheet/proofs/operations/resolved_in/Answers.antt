@@ -1,11 +1,11 @@
 -- `resolved_in`: a byte.
-use mathlib.Core.Path.{ap, ◌∙◌}
+use mathlib.Core.Path.{sym, ap, ◌∙◌}
 use mathlib.Core.Bool.{Bool, not}
 use Rattle.sheet.specs.Operations.{bit}
 use Rattle.solver.specs.Terms.Parameters.{listed}
 use Rattle.solver.specs.TermTypes.{Parameters}
-use Rattle.sheet.proofs.Laws.Answering.AnswerLaws.{held_in, frame_as, one_byte}
-use Rattle.sheet.proofs.Laws.Answering.OperationFieldLaws.{resolved_in}
+use Rattle.sheet.proofs.Laws.Answering.AnswerLaws.{held_in, one_byte}
+use Rattle.sheet.proofs.Laws.Answering.OperationFieldLaws.{resolved_in, replies_as}
 use Rattle.sheet.proofs.operations.resolved_in.Goals as goal
 
 pub ask-r-requires : goal.ask-r-requires
@@ -16,6 +16,6 @@ ask-r-requires c =
 pub returns : goal.returns
 returns c =
     λ ws.
-    (resolved_in _ _ _ ws _).replied _ (λ w x.
+    replies_as (resolved_in _ _ _ ws _) _ (λ w x.
     let read = ap (λ (l : Parameters). listed l) c.parameters_at-parameters.ensures ∙ x.read in
-    rw x.answer (frame_as _ _ (one_byte _ _ (c.from.ensures ∙ ap (λ (b : Bool). bit (not b)) (c.ask-r.ensures x.names x.after read x.term x.held x.formed))) _ _ _ _ c.write_byte_answer.ensures))
+    one_byte _ _ (c.from.ensures ∙ ap (λ (b : Bool). bit (not b)) (c.ask-r.ensures x.names x.after read x.term x.held x.formed)) ∙ sym x.answer) _ _ _ _ c.write_byte_answer.ensures

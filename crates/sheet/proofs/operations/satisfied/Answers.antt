@@ -1,13 +1,13 @@
 -- `satisfied`: two bytes.
-use mathlib.Core.Path.{ap, ◌∙◌}
+use mathlib.Core.Path.{sym, ap, ◌∙◌}
 use mathlib.Core.List.{List}
 use Prim.Native.Nat.{ℕ}
 use Rattle.solver.specs.Terms.TermsAtPlaces.{BareAt}
 use Rattle.sheet.specs.declared.FieldSpots.{FieldSpots}
 use Rattle.sheet.specs.OrderTable.{Answer}
 use Rattle.sheet.specs.Operations.{bit}
-use Rattle.sheet.proofs.Laws.Answering.AnswerLaws.{held_in, frame_as, two_bytes}
-use Rattle.sheet.proofs.Laws.Answering.OperationFieldLaws.{Satisfied, satisfied}
+use Rattle.sheet.proofs.Laws.Answering.AnswerLaws.{held_in, two_bytes}
+use Rattle.sheet.proofs.Laws.Answering.OperationFieldLaws.{Satisfied, satisfied, replies_as}
 use Rattle.sheet.proofs.operations.satisfied.Goals as goal
 
 -- both nominals are bare and formed
@@ -27,5 +27,5 @@ satisfies_for-y-requires c =
 pub returns : goal.returns
 returns c =
     λ ws.
-    (satisfied _ _ _ ws _).replied _ (λ w x.
-    rw x.answer (frame_as _ _ (two_bytes _ _ _ _ (c.from.ensures ∙ ap bit (c.satisfies-x.ensures _ _ x.first x.second x.first_fit x.second_fit)) (c.from-2.ensures ∙ ap bit (c.satisfies_for-y.ensures _ _ _ x.first x.second x.third x.first_fit x.second_fit))) _ _ _ _ c.write_bytes_answer.ensures))
+    replies_as (satisfied _ _ _ ws _) _ (λ w x.
+    two_bytes _ _ _ _ (c.from.ensures ∙ ap bit (c.satisfies-x.ensures _ _ x.first x.second x.first_fit x.second_fit)) (c.from-2.ensures ∙ ap bit (c.satisfies_for-y.ensures _ _ _ x.first x.second x.third x.first_fit x.second_fit)) ∙ sym x.answer) _ _ _ _ c.write_bytes_answer.ensures

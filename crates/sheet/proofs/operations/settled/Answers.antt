@@ -17,7 +17,7 @@ returns-in_default-clause-says c =
 pub returns-in-Err-TooMany-clause-says : goal.returns-in-Err-TooMany-clause-says
 returns-in-Err-TooMany-clause-says c =
     let a = c.args in
-    λ o x. frame_as _ _ (answers_many a.tokens.now.kinds.now a.tokens.now.vals.now a.heads.now a.kids.now a.out.now a.to a.r o x (c.in-Err-TooMany.is ∙ ap Err (rw c.in-Err-TooMany.is at c.in-Err-TooMany.field-0-is))) _ _ _ _ c.write_refusal.ensures
+    λ o x. frame_as _ _ (answers_many a.tokens.now.kinds.now a.tokens.now.vals.now a.heads.now a.kids.now a.out.now a.to a.r o x (c.in-Err-TooMany.is ∙ ap Err (rw c.in-Err-TooMany.is at c.in-Err-TooMany.field-0-is))) _ _ _ _ c.write_order_refusal.ensures
 
 pub returns-in-Err-TooLong-clause-says : goal.returns-in-Err-TooLong-clause-says
 returns-in-Err-TooLong-clause-says c =

@@ -12,4 +12,4 @@ pub returns-in-NoType-clause-does : goal.returns-in-NoType-clause-does
 returns-in-NoType-clause-does c =
     let a = c.args in
     λ z A L. does_termless a.x _ _ _ _ _ z _ _ (sym c.in-NoType.is) a.out.now a.to _ _
-    (refusal_does a.x _ _ _ z L _ a.out.now a.to _ _ c.write_refusal-next.ensures)
+    (refusal_does a.x _ _ _ z L _ a.out.now a.to _ _ c.write_order_refusal-next.ensures)

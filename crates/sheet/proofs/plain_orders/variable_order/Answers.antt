@@ -13,7 +13,7 @@ use Rattle.sheet.proofs.plain_orders.variable_order.Goals as goal
 pub returns-in_default-clause-does : goal.returns-in_default-clause-does
 returns-in_default-clause-does c =
     let a = c.args in
-    λ z L. place_refused a.x a.tokens.now.kinds.now a.tokens.now.vals.now a.tables.now z L (variable_command a.wanted) (place_of (site_of a.wanted)) (λ v. bytes (variable_answer z a.wanted v)) (variable_order_answer (limits_of a.x) z a.wanted) (variable_order_full (limits_of a.x) z a.wanted) _ (c.id_of.ensures.placed _ _ z L ∙ ap (λ (s : Site). named_of (placed (limits_of a.x) z (place_of s)).variable) c.from.ensures) a.out.now a.to _ _ c.in_default.is c.write_refusal-next.ensures
+    λ z L. place_refused a.x a.tokens.now.kinds.now a.tokens.now.vals.now a.tables.now z L (variable_command a.wanted) (place_of (site_of a.wanted)) (λ v. bytes (variable_answer z a.wanted v)) (variable_order_answer (limits_of a.x) z a.wanted) (variable_order_full (limits_of a.x) z a.wanted) _ (c.id_of.ensures.placed _ _ z L ∙ ap (λ (s : Site). named_of (placed (limits_of a.x) z (place_of s)).variable) c.from.ensures) a.out.now a.to _ _ c.in_default.is c.write_order_refusal-next.ensures
 
 pub returns-then-is_none-clause-does : goal.returns-then-is_none-clause-does
 returns-then-is_none-clause-does c =
