@@ -28,8 +28,8 @@ fn lent_place(seen: &Seen, p: usize) -> Option<usize>
 
 // The interface's term for the member at p, or the projection made anew.
 fn output(records: &Records, given: Origin, p: usize) -> Content
-    requires given { records.now.seen.now.given ≡ Some given }
     ensures { (S : ℕ → Bool) (i : Parts) (owner : Term)
+        → records.now.seen.now.given ≡ Some given
         → HeldGiven records.now.seen.now.tokens.kinds.now records.now.seen.now.tokens.vals.now given i owner
         → get_or (shown records.now.seen.now).kinds p 0 ≡ 0
         → StandsFor records.now S result
@@ -44,17 +44,18 @@ fn output(records: &Records, given: Origin, p: usize) -> Content
     }
     let len = seen.tokens.kinds.len();
     let t = lent_place(seen, p).unwrap_or(len);
-    source((len + 1 + t * given.width()) as u32)
+    let width = seen.given.map_or(0, Origin::width);
+    source((len + 1 + t * width) as u32)
 }
 
 // What the given interface has for a projection with the interface's counts; its children have at most `fuel` levels.
 pub fn by_interface(x: &Counted, given: Origin, fuel: usize) -> Option<Content>
-    requires given { x.now.records.now.seen.now.given ≡ Some given }
     requires low { fuel < 4294967296 }
     ensures { (S : ℕ → Bool) (t : Term) (i : Parts) (owner : Term)
         → StandsFor x.now.records.now S x.now.content t
         → tag t ≡ 18
         → depth t ≤ fuel + 1
+        → x.now.records.now.seen.now.given ≡ Some given
         → HeldGiven x.now.records.now.seen.now.tokens.kinds.now x.now.records.now.seen.now.tokens.vals.now given i owner
         → Fetches x.now.records.now S (through i owner (row t)) result }
 {

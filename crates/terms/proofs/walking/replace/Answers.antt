@@ -34,4 +34,4 @@ returns-in-Given c =
     let o = rw (nothing _ (sym c.is_some.ensures ∙ c.if-is_some.false)) at (c.own_member-own.ensures S t w) in
     rw (replace_look (look_by look) t e o)
     (looked_through _ _ (λ (q : Option Term). Fetches c.args.x.now.records.now S q c.by_interface.result)
-    (row t) c.args.lookup.now _ look c.in-Given.is k (λ i owner h. c.by_interface.ensures S t i owner w e d h))
+    (row t) c.args.lookup.now _ look c.in-Given.is k (λ i owner h. c.by_interface.ensures S t i owner w e d (rw c.in-Given.is at c.requires.given) h))
