@@ -7,7 +7,6 @@ ghost use Rattle.terms.specs.Words.Arena.{Alike, Begins, Starts};
 
 use super::rows::{child_here, row_of};
 use super::runs::same_term;
-use super::virtual_tokens::token_at;
 use super::{Content, Cursor, Origin, Records, Seen, Tokens};
 
 // The start of a content's row.
@@ -47,8 +46,8 @@ pub fn same_rows(records: &Records, x: Cursor, y: Cursor, fuel: usize) -> Option
         if x.end <= p {
             return None;
         }
-        let s = token_at(records.seen, p);
-        let t = token_at(records.seen, q);
+        let s = records.seen.token(p);
+        let t = records.seen.token(q);
         if t.kind == 0 {
             if s.kind != 0 || s.value != t.value {
                 return None;
@@ -86,8 +85,8 @@ pub fn same_trees(records: &Records, x: Content, y: Content, fuel: usize) -> boo
     if fuel == 0 {
         return false;
     }
-    let s = token_at(records.seen, x.head as usize);
-    let t = token_at(records.seen, y.head as usize);
+    let s = records.seen.token(x.head as usize);
+    let t = records.seen.token(y.head as usize);
     if s.kind != t.kind {
         return false;
     }

@@ -11,7 +11,7 @@ use super::alike::same_trees;
 use super::members::{Counted, member_of, with_counts};
 use super::rows::{NOWHERE, child_at, number_at, number_place};
 use super::rules::source;
-use super::virtual_tokens::{locate, token_at};
+use super::virtual_tokens::locate;
 use super::{Content, Origin, Records, Seen, Spot};
 
 // The lent token whose value the number at p has; where it has none's, the number is 0.
@@ -36,7 +36,7 @@ fn output(records: &Records, given: Origin, p: usize) -> Content
         (output owner i (get_or (shown records.now.seen.now).vals p 0)) }
 {
     let seen = records.seen;
-    let x = token_at(seen, p);
+    let x = seen.token(p);
     let interface = with_counts(records, source(given.interface));
     let known = member_of(&interface, 0, x.value);
     if let Some(y) = known {

@@ -7,7 +7,6 @@ ghost use Rattle.terms.specs.Words.Arena.{TagAt, OwnAt, RecordRoom, Opens, Prepa
 
 use super::questions::tag_of;
 use super::rows::{child_here, number_at, walk_row};
-use super::virtual_tokens::token_at;
 use super::write::token_len;
 use super::{Begun, Content, Origin, Seen};
 
@@ -15,7 +14,7 @@ use super::{Begun, Content, Origin, Seen};
 pub fn tag_at(seen: &Seen, h: u32) -> u32
     ensures { TagAt (shown seen.now) h result }
 {
-    tag_of(token_at(seen, h as usize).kind)
+    tag_of(seen.token(h as usize).kind)
 }
 
 // Puts the children of a content, in byte order, at the records next, next + 1, .. and says how many; None where they are too many.
@@ -86,7 +85,7 @@ pub fn own_len(seen: &Seen, h: u32) -> usize
     ensures bound { result < 34359738368 }
     ensures own { OwnAt (shown seen.now) h result }
 {
-    let x = token_at(seen, h as usize);
+    let x = seen.token(h as usize);
     let mut n = token_len(x);
     for (_, y) in walk_row(seen, h) {
         if y.kind == 0 {

@@ -11,7 +11,6 @@ ghost use Rattle.terms.specs.Words.Arena.{head_of, kids_of, Tree, RowAt, NumberA
 ghost use Rattle.terms.specs.Words.RowsContract.{Moves};
 
 use super::runs::word;
-use super::virtual_tokens::token_at;
 use super::{Content, Origin, Part, Records, RowWalk, Seen, Token};
 
 // A place past all tokens.
@@ -23,7 +22,7 @@ pub fn row_of(seen: &Seen, h: u32) -> Part
     ensures { RowAt (shown seen.now) h result.from result.end }
 {
     let p = h as usize;
-    let end = p + token_at(seen, p).step();
+    let end = p + seen.token(p).step();
     Part {
         from: p + 1,
         end: end.min(NOWHERE),
@@ -45,7 +44,7 @@ impl<'a> Iterator for RowWalk<'a> {
         if self.end <= at {
             return None;
         }
-        let token = token_at(&self.seen, at);
+        let token = self.seen.token(at);
         self.at += token.step();
         Some((at, token))
     }
@@ -91,7 +90,7 @@ pub fn number_at(seen: &Seen, h: u32, i: usize) -> usize
 {
     // a match, for the check proves it alone; with `map_or` a law by the cases of the place is wanted
     match number_place(seen, h, i) {
-        Some(p) => token_at(seen, p).value as usize,
+        Some(p) => seen.token(p).value as usize,
         None => 0,
     }
 }

@@ -11,7 +11,6 @@ ghost use Rattle.terms.specs.Words.RulesContract.{TermStarts, Numbers, Fronted, 
 use super::alike::{cursor, same_rows};
 use super::rows::NOWHERE;
 use super::rule_list::first_with;
-use super::virtual_tokens::token_at;
 use super::{Content, Cursor, Origin, Records, RowWalk, Rule, Seen};
 
 // A term as it stands in the source.
@@ -26,7 +25,7 @@ fn term_cursor(seen: &Seen, p: usize) -> Cursor
     requires small { p < 4294967296 }
     ensures { TermStarts (shown seen.now) p result }
 {
-    let end = p + token_at(seen, p).step();
+    let end = p + seen.token(p).step();
     Cursor {
         at: p,
         end: end.min(NOWHERE),
@@ -46,7 +45,7 @@ fn number_next(seen: &Seen, at: usize, end: usize, m: u32) -> bool
         → get_or (shown seen.now).vals at 0 ≡ m
         → ⊥ }
 {
-    let a = token_at(seen, at);
+    let a = seen.token(at);
     at < end && a.kind == 0 && a.value == m
 }
 

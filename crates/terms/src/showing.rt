@@ -10,7 +10,6 @@ ghost use Rattle.terms.specs.Words.ShowingContract.{writes, Shows, Kept};
 
 use super::alike::cursor;
 use super::rows::child_here;
-use super::virtual_tokens::token_at;
 use super::write::{run_len, token_len, write_run, write_token};
 use super::{Content, Cursor, Origin, Pass, Records, RowWalk, Seen, Token, Tokens};
 
@@ -79,7 +78,7 @@ fn show_run(
     }
     let mut i = at;
     for q in from..end {
-        i = show_token(out, i, token_at(seen, q), pass)?;
+        i = show_token(out, i, seen.token(q), pass)?;
     }
     Some(i)
 }
@@ -138,7 +137,7 @@ pub fn show_tree(
         → (0 < x.kids → depth t ≤ fuel)
         → Shows (writes pass) out.old out.new at (bytes t) result }
 {
-    let h = token_at(records.seen, x.head as usize);
+    let h = records.seen.token(x.head as usize);
     if x.kids == 0 {
         return show_run(records.seen, x.head as usize, h.step(), out, at, pass);
     }

@@ -10,7 +10,7 @@ use Rattle.terms.proofs.interface.output.Goals as goal
 pub returns-in-Some : goal.returns-in-Some
 returns-in-Some c =
     λ S i owner g h k.
-    let x = c.token_at-x in
+    let x = c.token-x in
     let y = c.with_counts-interface in
     let f : StandsFor y.result.records.now S y.result.content (node 20 i)
     = rw (y.ensures.0, y.ensures.1) (interface_tree _ _ _ c.args.records.now.seen.now.sight _ g i owner h _ _ S _ _ c.source.ensures.0
@@ -22,7 +22,7 @@ returns-in-Some c =
 pub returns : goal.returns
 returns c =
     λ S i owner g h k.
-    let x = c.token_at-x in
+    let x = c.token-x in
     let y = c.with_counts-interface in
     let f : StandsFor y.result.records.now S y.result.content (node 20 i)
     = rw (y.ensures.0, y.ensures.1) (interface_tree _ _ _ c.args.records.now.seen.now.sight _ g i owner h _ _ S _ _ c.source.ensures.0

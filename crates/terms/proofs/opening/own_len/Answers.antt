@@ -27,4 +27,4 @@ loop-y-preserved c =
     (rw (s.1) (owning_child i.0 (came _ _ i.1 _ _ c.next.new.self s) c.if-y-eq0.false), s.2 ∙ i.1)
 
 pub returns-clause-own : goal.returns-clause-own
-returns-clause-own c = (owning_done c.loop-y.invariant.0 c.in-None.ensures.steps.0.0 c.token_at-x.ensures.kind c.token_at-x.ensures.value c.token_len-n.ensures).0
+returns-clause-own c = (owning_done c.loop-y.invariant.0 c.in-None.ensures.steps.0.0 c.token-x.ensures.kind c.token-x.ensures.value c.token_len-n.ensures).0

@@ -8,5 +8,5 @@ use Rattle.terms.proofs.rows.row_of.Goals as goal
 pub returns : goal.returns
 returns c =
     let x = c.args.seen.now in
-    let t = c.token_at.ensures in
+    let t = c.token.ensures in
     row_is (view x.tokens.kinds.now x.tokens.vals.now x.given) _ _ _ refl t.kind t.value c.step.ensures.span _ (few_kinds x.tokens.kinds.now x.tokens.vals.now x.given x.sight) c.min.ensures

@@ -8,5 +8,5 @@ use Rattle.terms.proofs.rules.term_cursor.Goals as goal
 pub returns : goal.returns
 returns c =
     let x = c.args.seen.now in
-    let t = c.token_at.ensures in
+    let t = c.token.ensures in
     term_starts (view x.tokens.kinds.now x.tokens.vals.now x.given) _ _ t.kind t.value c.step.ensures.span _ refl refl refl (few_kinds x.tokens.kinds.now x.tokens.vals.now x.given x.sight) c.min.ensures

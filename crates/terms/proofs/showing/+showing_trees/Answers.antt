@@ -65,7 +65,7 @@ show_row-returns-clause-shows t c =
 pub show_tree-returns-then-x-eq0-clause-shows : goal.show_tree-returns-then-x-eq0-clause-shows
 show_tree-returns-then-x-eq0-clause-shows t c =
     λ S t w d.
-    rw (← tree_flat _ _ _ S w c.if-x-eq0.true c.args.x.head c.step.result refl c.token_at-h.ensures.kind c.token_at-h.ensures.value c.step.ensures.span)
+    rw (← tree_flat _ _ _ S w c.if-x-eq0.true c.args.x.head c.step.result refl c.token-h.ensures.kind c.token-h.ensures.value c.step.ensures.span)
     c.show_run.ensures.shows
 
 pub show_tree-returns-then-fuel-eq0-clause-shows : goal.show_tree-returns-then-fuel-eq0-clause-shows
@@ -74,14 +74,14 @@ show_tree-returns-then-fuel-eq0-clause-shows t c = λ S t w d. absurd (omega (ar
 pub show_tree-returns-in_err-i-clause-shows : goal.show_tree-returns-in_err-i-clause-shows
 show_tree-returns-in_err-i-clause-shows t c =
     λ S t w d.
-    rw c.from_residual.ensures (shows_first (writes c.args.pass) c.args.out.now c.show_token.new.out c.args.at (plain c.token_at-h.result.kind c.token_at-h.result.value) (part_bytes (row t)) (bytes t)
-    (tree_bytes _ _ _ S w c.token_at-h.ensures.kind c.token_at-h.ensures.value) c.in_err-i.ensures.shows)
+    rw c.from_residual.ensures (shows_first (writes c.args.pass) c.args.out.now c.show_token.new.out c.args.at (plain c.token-h.result.kind c.token-h.result.value) (part_bytes (row t)) (bytes t)
+    (tree_bytes _ _ _ S w c.token-h.ensures.kind c.token-h.ensures.value) c.in_err-i.ensures.shows)
 
 pub show_tree-returns-clause-shows : goal.show_tree-returns-clause-shows
 show_tree-returns-clause-shows t c =
     λ S t w d.
     let s = c.in_ok-i.ensures in
     let r = c.show_row.ensures in
-    shows_then _ _ _ _ (plain c.token_at-h.result.kind c.token_at-h.result.value) (part_bytes (row t)) (bytes t)
-    (tree_bytes _ _ _ S w c.token_at-h.ensures.kind c.token_at-h.ensures.value) _ s.kept.long s.shows _ c.show_row.result r.kept.long
+    shows_then _ _ _ _ (plain c.token-h.result.kind c.token-h.result.value) (part_bytes (row t)) (bytes t)
+    (tree_bytes _ _ _ S w c.token-h.ensures.kind c.token-h.ensures.value) _ s.kept.long s.shows _ c.show_row.result r.kept.long
     (r.shows S (row t) (c.cursor-c.ensures.is _ _ S t w) (omega (arith, d (omega (arith, c.if-x-eq0.false)), depth_row t, c.if-fuel-eq0.false)))

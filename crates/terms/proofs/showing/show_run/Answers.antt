@@ -7,13 +7,13 @@ returns-then-end-seen-clause-shows c = rw (view_spelt _ _ _ c.args.seen.now.sigh
 
 pub returns-in_err-i-clause-shows : goal.returns-in_err-i-clause-shows
 returns-in_err-i-clause-shows c =
-    rw c.from_residual.ensures (running_stop c.loop-q.invariant c.loop-q-test.true c.token_at.ensures.kind c.token_at.ensures.value c.show_token.new.out
+    rw c.from_residual.ensures (running_stop c.loop-q.invariant c.loop-q-test.true c.token.ensures.kind c.token.ensures.value c.show_token.new.out
     c.in_err-i.ensures.shows)
 
 pub loop-q-preserved : goal.loop-q-preserved
 loop-q-preserved c =
     let s = c.in_ok-i.ensures in
-    running_next c.loop-q.invariant c.loop-q-test.true c.token_at.ensures.kind c.token_at.ensures.value s.kept s.shows
+    running_next c.loop-q.invariant c.loop-q-test.true c.token.ensures.kind c.token.ensures.value s.kept s.shows
 
 pub returns-clause-shows : goal.returns-clause-shows
 returns-clause-shows c = running_done c.loop-q.invariant c.loop-q-test.false

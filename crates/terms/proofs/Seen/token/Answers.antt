@@ -1,14 +1,14 @@
--- `token_at`. A lent token.
+-- `token`. A lent token.
 use mathlib.Core.Path.{refl, sym}
 use lib.ListN.{length}
 use Rattle.terms.specs.Words.VirtualTokens.{size_of}
 use Rattle.terms.specs.declared.Spot.TheVariants.{Lent}
 use Rattle.terms.proofs.Laws.Normalising.VirtualTokenLaws.{spot_word, located_lent}
-use Rattle.terms.proofs.virtual_tokens.token_at.Goals as goal
+use Rattle.terms.proofs.Seen.token.Goals as goal
 
 pub returns-then-q-tokens : goal.returns-then-q-tokens
 returns-then-q-tokens c =
-    let x = c.args.seen.now in
+    let x = c.args.self.now in
     let ks = x.tokens.kinds.now in
     let vs = x.tokens.vals.now in
     let l = located_lent x.given (length ks) c.args.q c.if-q-tokens.true in
