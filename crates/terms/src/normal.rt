@@ -14,7 +14,6 @@ ghost use Rattle.terms.specs.Words.Arena.{RecordRoom};
 ghost use Rattle.terms.specs.Words.NormalContract.{Zero, Lends, Stands, Sized, Answers, Leaves, RuledAt, OwnedAt, KeptAt};
 
 use super::rules::source;
-use super::showing::show_tree;
 use super::store::clear_tokens;
 use super::walking::{any_projection, walk};
 use super::{
@@ -30,25 +29,27 @@ fn has_projection(tokens: &Tokens, p: u32) -> bool
     end <= tokens.kinds.len() && any_projection(&tokens.kinds[from..end])
 }
 
-// The term at p as it stands, sized. None where its bytes do not fit from `at` on.
-fn size_up(seen: &Seen, p: u32, out: &mut [u8], at: usize) -> Option<Ready>
-    requires place { at ≤ length out.old }
-    ensures out { out.new ≡ out.old }
-    ensures sized { Sized seen.now.tokens.kinds.now seen.now.tokens.vals.now seen.now.given p out.old at result }
-{
-    let content = source(p);
-    let records = Records {
-        seen,
-        heads: &[],
-        kids: &[],
-    };
-    let end = show_tree(&records, content, 0, out, at, Pass::Count)?;
-    Some(Ready {
-        content,
-        next: 0,
-        size: end - at,
-        given: seen.given,
-    })
+impl<'a> Seen<'a> {
+    // The term at p as it stands, sized. None where its bytes do not fit from `at` on.
+    fn size_up(&self, p: u32, out: &mut [u8], at: usize) -> Option<Ready>
+        requires place { at ≤ length out.old }
+        ensures out { out.new ≡ out.old }
+        ensures sized { Sized self.now.tokens.kinds.now self.now.tokens.vals.now self.now.given p out.old at result }
+    {
+        let content = source(p);
+        let records = Records {
+            seen: self,
+            heads: &[],
+            kids: &[],
+        };
+        let end = records.show_tree(content, 0, out, at, Pass::Count)?;
+        Some(Ready {
+            content,
+            next: 0,
+            size: end - at,
+            given: self.given,
+        })
+    }
 }
 
 // Normalises the term at p, whose projections are looked up.
@@ -76,7 +77,7 @@ fn run(
         (normalise levels visits (look_by look) t) result }
 {
     if !has_projection(&by.seen.tokens, p) {
-        return size_up(&by.seen, p, out, at).ok_or(Unfinished::TooLong);
+        return by.seen.size_up(p, out, at).ok_or(Unfinished::TooLong);
     }
     let walked = walk(by, heads, kids, source(p), 0, levels, visits, most);
     let Some(
@@ -231,7 +232,7 @@ pub fn write_normalised(
         heads,
         kids,
     };
-    let end = show_tree(&records, w.content, LEVELS + 1, out, at, Pass::Write);
+    let end = records.show_tree(w.content, LEVELS + 1, out, at, Pass::Write);
     clear_tokens(heads, kids, 0, w.next);
     end.unwrap_or(at)
 }

@@ -12,45 +12,45 @@ ghost use Rattle.terms.specs.Words.Arena.{TagAt, Counts, Frames, RecordRoom};
 ghost use Rattle.terms.specs.Words.Held.{span};
 ghost use Rattle.terms.specs.Words.WalkingContract.{first_of_node, Fixed, Walks, used};
 
-use super::alike::same_trees;
-use super::interface::by_interface;
-use super::members::{Counted, own_member};
-use super::opening::{begin, own_len};
-use super::rules::find_rule;
+use super::members::Counted;
 use super::write::run_len;
 use super::{Begun, Content, LookUp, Normaliser, Origin, Records, Tokens, Walked};
 
-// What a projection is replaced by; its children have at most `fuel` levels.
-fn replace(x: &Counted, lookup: &LookUp, fuel: usize) -> Option<Content>
-    requires tagged { TagAt (shown x.now.records.now.seen.now) x.now.content.head 18 }
-    requires given { x.now.records.now.seen.now.given ≡ given_of lookup.now }
-    requires low { fuel < 4294967296 }
-    ensures { (S : ℕ → Bool) (t : Term) (look : Look)
-        → StandsFor x.now.records.now S x.now.content t
-        → depth t ≤ fuel + 1
-        → Looks x.now.records.now.seen.now.tokens.kinds.now x.now.records.now.seen.now.tokens.vals.now lookup.now look
-        → Fetches x.now.records.now S (replacement (look_by look) t) result }
-{
-    let own = own_member(x);
-    if own.is_some() {
-        return own;
-    }
-    match *lookup {
-        LookUp::Rules(rules) => find_rule(x.records, rules, x.content, fuel),
-        LookUp::Given(given) => by_interface(x, given, fuel),
+impl<'a> Counted<'a> {
+    // What a projection is replaced by; its children have at most `fuel` levels.
+    fn replace(&self, lookup: &LookUp, fuel: usize) -> Option<Content>
+        requires tagged { TagAt (shown self.now.records.now.seen.now) self.now.content.head 18 }
+        requires given { self.now.records.now.seen.now.given ≡ given_of lookup.now }
+        requires low { fuel < 4294967296 }
+        ensures { (S : ℕ → Bool) (t : Term) (look : Look)
+            → StandsFor self.now.records.now S self.now.content t
+            → depth t ≤ fuel + 1
+            → Looks self.now.records.now.seen.now.tokens.kinds.now self.now.records.now.seen.now.tokens.vals.now lookup.now look
+            → Fetches self.now.records.now S (replacement (look_by look) t) result }
+    {
+        let own = self.own_member();
+        if own.is_some() {
+            return own;
+        }
+        match *lookup {
+            LookUp::Rules(rules) => self.records.find_rule(rules, self.content, fuel),
+            LookUp::Given(given) => self.by_interface(given, fuel),
+        }
     }
 }
 
-// A content with the counts that were found when its children were put into records.
-fn counted<'a>(records: &'a Records<'a>, x: Content, o: Begun) -> Counted<'a>
-    requires counts { Counts (shown records.now.seen.now) x.head o.arguments o.members }
-    ensures { (result.records.now ≡ records.now) × (result.content ≡ x) }
-{
-    Counted {
-        records,
-        content: x,
-        arguments: o.arguments,
-        members: o.members,
+impl<'a> Records<'a> {
+    // A content with the counts that were found when its children were put into records.
+    fn counted(&'a self, x: Content, o: Begun) -> Counted<'a>
+        requires counts { Counts (shown self.now.seen.now) x.head o.arguments o.members }
+        ensures { (result.records.now ≡ self.now) × (result.content ≡ x) }
+    {
+        Counted {
+            records: self,
+            content: x,
+            arguments: o.arguments,
+            members: o.members,
+        }
     }
 }
 
@@ -176,9 +176,9 @@ pub fn walk(
         let size = fixed_len(&seen.tokens, x);
         return kept(x, same, size, next, visits, most);
     }
-    let o = begin(seen, heads, kids, x, next, most)?;
+    let o = seen.begin(heads, kids, x, next, most)?;
     let n = o.n;
-    let mut size = own_len(seen, x.head);
+    let mut size = seen.own_len(x.head);
     let mut at = next + n;
     let mut left = visits - 1;
     for j in 0..n {
@@ -202,11 +202,11 @@ pub fn walk(
         return Some(result(z, at, left, size));
     }
     let records = Records { seen, heads, kids };
-    let f = replace(&counted(&records, z, o), &by.lookup, levels);
+    let f = records.counted(z, o).replace(&by.lookup, levels);
     let Some(v) = f else {
         return Some(result(z, at, left, size));
     };
-    if same_trees(&records, z, v, levels + 1) {
+    if records.same_trees(z, v, levels + 1) {
         return Some(result(error, at, left, 1));
     }
     walk(by, heads, kids, v, at, levels - 1, left, most)
