@@ -1,7 +1,7 @@
 // `recover_from`: the holes of a term are filled from another, straight to the output. The recursion goes down both terms together, so it is at most
 // as deep as the first has levels; the work is linear in the tokens of both.
 // Kinds and tags are matched by number; the line in kinds.rt says why.
-// The output and the position in it stand apart: the lines at the head of store.rt say why.
+// The output and the position in it stand apart: docs/DECISIONS.md, "How are the tokens lent?".
 ghost use Rattle.std.specs.Prelude.{◌≡◌, true, false, ◌||◌, ℕ, ◌+◌, ◌-◌, ◌*◌, ◌^◌, ◌≤◌, ◌<◌, eqb, length, [], ◌∷◌};
 ghost use Rattle.terms.specs.Result.{pick};
 ghost use Rattle.terms.specs.Words.QuestionsContract.{word};
@@ -161,17 +161,17 @@ fn recover_term(tokens: &Tokens, a: Part, b: Part, out: &mut [u8], at: usize) ->
 {
     let k = tag_of(word(tokens.kinds, a.from));
     if stays(k, tag_of(word(tokens.kinds, b.from))) {
-        return put_run(tokens, a, out, at);
+        return put_run(tokens.kinds, tokens.vals, a, out, at);
     }
     if is_hole(k) {
-        return put_run(tokens, b, out, at);
+        return put_run(tokens.kinds, tokens.vals, b, out, at);
     }
     let stop = reach_end(tokens, a, b);
     let head = Part {
         from: a.from,
         end: a.from + 1,
     };
-    let next = put_run(tokens, head, out, at);
+    let next = put_run(tokens.kinds, tokens.vals, head, out, at);
     let row = Part {
         from: head.end,
         end: a.end,
@@ -210,7 +210,7 @@ fn recover_row(tokens: &Tokens, a: Part, stop: usize, b: Part, out: &mut [u8], a
                     from: i,
                     end: i + 1,
                 };
-                to = put_run(tokens, number, out, to);
+                to = put_run(tokens.kinds, tokens.vals, number, out, to);
                 rest.from = i + 1;
             }
             PairStep::Terms(t, u) => {
@@ -220,7 +220,7 @@ fn recover_row(tokens: &Tokens, a: Part, stop: usize, b: Part, out: &mut [u8], a
             PairStep::Apart => {}
         }
     }
-    put_run(tokens, rest, out, to)
+    put_run(tokens.kinds, tokens.vals, rest, out, to)
 }
 
 // How many bytes `recover_from` of the terms at a and b has: where writing from 0 on ends, on an output of one byte.

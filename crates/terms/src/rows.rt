@@ -11,24 +11,10 @@ ghost use Rattle.terms.specs.Words.Arena.{head_of, kids_of, Tree, RowAt, NumberA
 ghost use Rattle.terms.specs.Words.RowsContract.{Moves};
 
 use super::runs::word;
-use super::virtual_tokens::token_at;
 use super::{Content, Origin, Part, Records, RowWalk, Seen, Token};
 
 // A place past all tokens.
 pub const NOWHERE: usize = 4294967295;
-
-// The row of the term whose first token stands at h.
-#[inline(always)]
-pub fn row_of(seen: &Seen, h: u32) -> Part
-    ensures { RowAt (shown seen.now) h result.from result.end }
-{
-    let p = h as usize;
-    let end = p + token_at(seen, p).step();
-    Part {
-        from: p + 1,
-        end: end.min(NOWHERE),
-    }
-}
 
 impl<'a> Iterator for RowWalk<'a> {
     type Item = (usize, Token);
@@ -45,75 +31,90 @@ impl<'a> Iterator for RowWalk<'a> {
         if self.end <= at {
             return None;
         }
-        let token = token_at(&self.seen, at);
+        let token = self.seen.token(at);
         self.at += token.step();
         Some((at, token))
     }
 }
 
-// The walk over the row of the term whose first token stands at h.
-#[inline(always)]
-pub fn walk_row<'a>(seen: &Seen<'a>, h: u32) -> RowWalk<'a>
-    ensures row { RowAt (shown seen.now) h result.at result.end }
-    ensures seen { result.seen ≡ seen.now }
-{
-    let row = row_of(seen, h);
-    RowWalk {
-        seen: *seen,
-        at: row.from,
-        end: row.end,
-    }
-}
-
-// Numbers and children are counted by hand: `filter(..).nth(i)` over a `RowWalk` was tried, and is taken; but what it ensures is told of runs of `filter_steps`,
-// where the laws of a row go token by token.
-//
-// Where the i-th number of the row stands.
-pub fn number_place(seen: &Seen, h: u32, i: usize) -> Option<usize>
-    ensures { NumberAt (shown seen.now) h i result }
-{
-    let mut left = i;
-    for (q, x) in walk_row(seen, h) {
-        if x.kind == 0 {
-            if left == 0 {
-                return Some(q);
-            }
-            left -= 1;
+impl<'a> Seen<'a> {
+    // The row of the term whose first token stands at h.
+    #[inline(always)]
+    pub fn row_of(&self, h: u32) -> Part
+        ensures { RowAt (shown self.now) h result.from result.end }
+    {
+        let p = h as usize;
+        let end = p + self.token(p).step();
+        Part {
+            from: p + 1,
+            end: end.min(NOWHERE),
         }
     }
-    None
-}
 
-// The i-th number of the row, 0 where it has not so many.
-pub fn number_at(seen: &Seen, h: u32, i: usize) -> usize
-    ensures small { result < 4294967296 }
-    ensures value { ValueAt (shown seen.now) h i result }
-{
-    // a match, for the check proves it alone; with `map_or` a law by the cases of the place is wanted
-    match number_place(seen, h, i) {
-        Some(p) => token_at(seen, p).value as usize,
-        None => 0,
-    }
-}
-
-// Which number from the third on is x, counted from there.
-pub fn key_at(seen: &Seen, h: u32, x: u32) -> Option<usize>
-    ensures { KeyOf (shown seen.now) h x result }
-{
-    let mut k = 0;
-    for (_, y) in walk_row(seen, h) {
-        if y.kind == 0 {
-            if y.value == x && 3 <= k {
-                return Some(k - 3);
-            }
-            k += 1;
+    // The walk over the row of the term whose first token stands at h.
+    #[inline(always)]
+    pub fn walk_row(&self, h: u32) -> RowWalk<'a>
+        ensures row { RowAt (shown self.now) h result.at result.end }
+        ensures seen { result.seen ≡ self.now }
+    {
+        let row = self.row_of(h);
+        RowWalk {
+            seen: *self,
+            at: row.from,
+            end: row.end,
         }
     }
-    None
+
+    // Numbers and children are counted by hand: `filter(..).nth(i)` over a `RowWalk` was tried, and is taken; but what it ensures is told of runs of
+    // `filter_steps`, where the laws of a row go token by token.
+    //
+    // Where the i-th number of the row stands.
+    pub fn number_place(&self, h: u32, i: usize) -> Option<usize>
+        ensures { NumberAt (shown self.now) h i result }
+    {
+        let mut left = i;
+        for (q, x) in self.walk_row(h) {
+            if x.kind == 0 {
+                if left == 0 {
+                    return Some(q);
+                }
+                left -= 1;
+            }
+        }
+        None
+    }
+
+    // The i-th number of the row, 0 where it has not so many.
+    pub fn number_at(&self, h: u32, i: usize) -> usize
+        ensures small { result < 4294967296 }
+        ensures value { ValueAt (shown self.now) h i result }
+    {
+        // a match, for the check proves it alone; with `map_or` a law by the cases of the place is wanted
+        match self.number_place(h, i) {
+            Some(p) => self.token(p).value as usize,
+            None => 0,
+        }
+    }
+
+    // Which number from the third on is x, counted from there.
+    pub fn key_at(&self, h: u32, x: u32) -> Option<usize>
+        ensures { KeyOf (shown self.now) h x result }
+    {
+        let mut k = 0;
+        for (_, y) in self.walk_row(h) {
+            if y.kind == 0 {
+                if y.value == x && 3 <= k {
+                    return Some(k - 3);
+                }
+                k += 1;
+            }
+        }
+        None
+    }
 }
 
 // Where heads and kids are written they are lent as two slices: the walk writes them between two looks, so a struct of both would be made for each call, and
-// no contract ties their lengths. What only looks takes `Records`.
+// no contract ties their lengths. What only looks is a method of `Records`.
 //
 // The content of a child that is the i-th of its node, whose child word is c, and stands at q where it is as in the source.
 #[inline(always)]
@@ -135,20 +136,22 @@ pub fn child_here(heads: &[u32], kids: &[u32], c: u32, q: usize, i: usize) -> Co
     }
 }
 
-// The content of the i-th child, in byte order.
-pub fn child_at(records: &Records, x: Content, i: usize) -> Option<Content>
-    ensures { (S : ℕ → Bool) (t : Term)
-        → StandsFor records.now S x t
-        → Fetches records.now S (get_elem? (children t) i) result }
-{
-    let mut n = 0;
-    for (q, y) in walk_row(records.seen, x.head) {
-        if y.kind != 0 {
-            if n == i {
-                return Some(child_here(records.heads, records.kids, x.kids, q, n));
+impl<'a> Records<'a> {
+    // The content of the i-th child, in byte order.
+    pub fn child_at(&self, x: Content, i: usize) -> Option<Content>
+        ensures { (S : ℕ → Bool) (t : Term)
+            → StandsFor self.now S x t
+            → Fetches self.now S (get_elem? (children t) i) result }
+    {
+        let mut n = 0;
+        for (q, y) in self.seen.walk_row(x.head) {
+            if y.kind != 0 {
+                if n == i {
+                    return Some(child_here(self.heads, self.kids, x.kids, q, n));
+                }
+                n += 1;
             }
-            n += 1;
         }
+        None
     }
-    None
 }

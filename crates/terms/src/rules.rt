@@ -8,10 +8,8 @@ ghost use Rattle.terms.specs.Lookup.{Pattern, by_patterns, Ruled};
 ghost use Rattle.terms.specs.Words.Arena.{Tree, Fetched};
 ghost use Rattle.terms.specs.Words.RulesContract.{TermStarts, Numbers, Fronted, MemberIn};
 
-use super::alike::{cursor, same_rows};
 use super::rows::NOWHERE;
 use super::rule_list::first_with;
-use super::virtual_tokens::token_at;
 use super::{Content, Cursor, Origin, Records, RowWalk, Rule, Seen};
 
 // A term as it stands in the source.
@@ -21,118 +19,122 @@ pub fn source(p: u32) -> Content
     Content { head: p, kids: 0 }
 }
 
-// The term at p as a row of its own.
-fn term_cursor(seen: &Seen, p: usize) -> Cursor
-    requires small { p < 4294967296 }
-    ensures { TermStarts (shown seen.now) p result }
-{
-    let end = p + token_at(seen, p).step();
-    Cursor {
-        at: p,
-        end: end.min(NOWHERE),
-        child: 0,
-        kids: 0,
-    }
-}
-
-// Whether the number m stands at a place of a row that ends at `end`.
-fn number_next(seen: &Seen, at: usize, end: usize, m: u32) -> bool
-    ensures yes { result ≡ true
-        → (at < end) × (get_or (shown seen.now).kinds at 0 ≡ 0)
-        × (get_or (shown seen.now).vals at 0 ≡ m) }
-    ensures no { result ≡ false
-        → at < end
-        → get_or (shown seen.now).kinds at 0 ≡ 0
-        → get_or (shown seen.now).vals at 0 ≡ m
-        → ⊥ }
-{
-    let a = token_at(seen, at);
-    at < end && a.kind == 0 && a.value == m
-}
-
-// Whether two numbers come next in a row, and the place after them.
-fn two_numbers(seen: &Seen, x: Cursor, m: u32, n: u32) -> Option<Cursor>
-    ensures { Numbers (shown seen.now) x m n result }
-{
-    let at = x.at;
-    if !number_next(seen, at, x.end, m) {
-        return None;
-    }
-    if !number_next(seen, at + 1, x.end, n) {
-        return None;
-    }
-    Some(Cursor {
-        at: at + 2,
-        end: x.end,
-        child: x.child,
-        kids: x.kids,
-    })
-}
-
-// Whether a row begins with what a rule has before its arguments, and the place after that.
-fn same_front(records: &Records, x: Cursor, rule: Rule, fuel: usize) -> Option<Cursor>
-    ensures { Fronted records.now.seen.now.tokens.kinds.now records.now.seen.now.tokens.vals.now (shown records.now.seen.now) records.now.heads.now
-        records.now.kids.now x rule fuel result }
-{
-    let receiver = term_cursor(records.seen, rule.receiver as usize);
-    let x = same_rows(records, x, receiver, fuel)?;
-    let interface = cursor(records.seen, source(rule.interface));
-    let x = same_rows(records, x, interface, fuel)?;
-    two_numbers(records.seen, x, rule.member, rule.count)
-}
-
-// The last number but one of a row: of a projection's, its member.
-fn member_in(seen: &Seen, x: Cursor) -> u32
-    ensures { MemberIn (shown seen.now) x result }
-{
-    let row = RowWalk {
-        seen: *seen,
-        at: x.at,
-        end: x.end,
-    };
-    let mut before = 0;
-    let mut last = 0;
-    for (_, y) in row {
-        if y.kind == 0 {
-            before = last;
-            last = y.value;
+impl<'a> Seen<'a> {
+    // The term at p as a row of its own.
+    fn term_cursor(&self, p: usize) -> Cursor
+        requires small { p < 4294967296 }
+        ensures { TermStarts (shown self.now) p result }
+    {
+        let end = p + self.token(p).step();
+        Cursor {
+            at: p,
+            end: end.min(NOWHERE),
+            child: 0,
+            kids: 0,
         }
     }
-    before
-}
 
-// The value of the first rule whose four parts equal those of a projection; its children have at most `fuel` levels. The member is
-// looked for first, in the list of the rules; rule and argument walk are left together at the match.
-pub fn find_rule(records: &Records, rules: &[Rule], x: Content, fuel: usize) -> Option<Content>
-    ensures { (S : ℕ → Bool) (t : Term) (rs : List Pattern)
-        → StandsFor records.now S x t
-        → depths (row t) ≤ fuel
-        → Ruled records.now.seen.now.tokens.kinds.now records.now.seen.now.tokens.vals.now rules.now rs
-        → Fetches records.now S (by_patterns rs (row t)) result }
-{
-    let s = cursor(records.seen, x);
-    let member = member_in(records.seen, s);
-    let mut r = 0;
-    // Rules are skipped to the next with the member, and arguments are as wide as they say; both are left at the match (document 01).
-    'rules: loop {
-        r += first_with(&rules[r..], member)?;
-        let rule = rules[r];
-        let mut m = same_front(records, s, rule, fuel);
-        let mut a = rule.arguments;
-        let mut left = rule.count;
-        while let Some(z) = m {
-            if left == 0 {
-                if z.end <= z.at {
-                    break 'rules;
-                }
-                break;
+    // Whether the number m stands at a place of a row that ends at `end`.
+    fn number_next(&self, at: usize, end: usize, m: u32) -> bool
+        ensures yes { result ≡ true
+            → (at < end) × (get_or (shown self.now).kinds at 0 ≡ 0)
+            × (get_or (shown self.now).vals at 0 ≡ m) }
+        ensures no { result ≡ false
+            → at < end
+            → get_or (shown self.now).kinds at 0 ≡ 0
+            → get_or (shown self.now).vals at 0 ≡ m
+            → ⊥ }
+    {
+        let a = self.token(at);
+        at < end && a.kind == 0 && a.value == m
+    }
+
+    // Whether two numbers come next in a row, and the place after them.
+    fn two_numbers(&self, x: Cursor, m: u32, n: u32) -> Option<Cursor>
+        ensures { Numbers (shown self.now) x m n result }
+    {
+        let at = x.at;
+        if !self.number_next(at, x.end, m) {
+            return None;
+        }
+        if !self.number_next(at + 1, x.end, n) {
+            return None;
+        }
+        Some(Cursor {
+            at: at + 2,
+            end: x.end,
+            child: x.child,
+            kids: x.kids,
+        })
+    }
+
+    // The last number but one of a row: of a projection's, its member.
+    fn member_in(&self, x: Cursor) -> u32
+        ensures { MemberIn (shown self.now) x result }
+    {
+        let row = RowWalk {
+            seen: *self,
+            at: x.at,
+            end: x.end,
+        };
+        let mut before = 0;
+        let mut last = 0;
+        for (_, y) in row {
+            if y.kind == 0 {
+                before = last;
+                last = y.value;
             }
-            let argument = term_cursor(records.seen, a as usize);
-            m = same_rows(records, z, argument, fuel);
-            a = argument.end as u32;
-            left -= 1;
         }
-        r += 1;
+        before
     }
-    Some(source(rules[r].value))
+}
+
+impl<'a> Records<'a> {
+    // Whether a row begins with what a rule has before its arguments, and the place after that.
+    fn same_front(&self, x: Cursor, rule: Rule, fuel: usize) -> Option<Cursor>
+        ensures { Fronted self.now.seen.now.tokens.kinds.now self.now.seen.now.tokens.vals.now (shown self.now.seen.now) self.now.heads.now
+            self.now.kids.now x rule fuel result }
+    {
+        let receiver = self.seen.term_cursor(rule.receiver as usize);
+        let x = self.same_rows(x, receiver, fuel)?;
+        let interface = self.seen.cursor(source(rule.interface));
+        let x = self.same_rows(x, interface, fuel)?;
+        self.seen.two_numbers(x, rule.member, rule.count)
+    }
+
+    // The value of the first rule whose four parts equal those of a projection; its children have at most `fuel` levels. The member is
+    // looked for first, in the list of the rules; rule and argument walk are left together at the match.
+    pub fn find_rule(&self, rules: &[Rule], x: Content, fuel: usize) -> Option<Content>
+        ensures { (S : ℕ → Bool) (t : Term) (rs : List Pattern)
+            → StandsFor self.now S x t
+            → depths (row t) ≤ fuel
+            → Ruled self.now.seen.now.tokens.kinds.now self.now.seen.now.tokens.vals.now rules.now rs
+            → Fetches self.now S (by_patterns rs (row t)) result }
+    {
+        let s = self.seen.cursor(x);
+        let member = self.seen.member_in(s);
+        let mut r = 0;
+        // Rules are skipped to the next with the member, and arguments are as wide as they say; both are left at the match (document 01).
+        'rules: loop {
+            r += first_with(&rules[r..], member)?;
+            let rule = rules[r];
+            let mut m = self.same_front(s, rule, fuel);
+            let mut a = rule.arguments;
+            let mut left = rule.count;
+            while let Some(z) = m {
+                if left == 0 {
+                    if z.end <= z.at {
+                        break 'rules;
+                    }
+                    break;
+                }
+                let argument = self.seen.term_cursor(a as usize);
+                m = self.same_rows(z, argument, fuel);
+                a = argument.end as u32;
+                left -= 1;
+            }
+            r += 1;
+        }
+        Some(source(rules[r].value))
+    }
 }

@@ -105,13 +105,14 @@ fn same_words(words: &[u32], a: Part, b: Part) -> bool
     words[a.from..a.end] == words[b.from..b.end]
 }
 
-// Whether two parts have the same tokens.
-pub fn same_run(tokens: &Tokens, a: Part, b: Part) -> bool
-    requires { PartOf tokens.now.kinds.now a × PartOf tokens.now.kinds.now b }
-    ensures yes { result ≡ true → toks_in tokens.now.kinds.now tokens.now.vals.now a ≡ toks_in tokens.now.kinds.now tokens.now.vals.now b }
-    ensures no { result ≡ false → toks_in tokens.now.kinds.now tokens.now.vals.now a ≡ toks_in tokens.now.kinds.now tokens.now.vals.now b → ⊥ }
+// Whether two parts have the same tokens. Kinds and values are two slices, which need not be as long as one another.
+pub fn same_run(kinds: &[u32], vals: &[u32], a: Part, b: Part) -> bool
+    requires first { PartOf kinds.now a × PartOf vals.now a }
+    requires second { PartOf kinds.now b × PartOf vals.now b }
+    ensures yes { result ≡ true → toks_in kinds.now vals.now a ≡ toks_in kinds.now vals.now b }
+    ensures no { result ≡ false → toks_in kinds.now vals.now a ≡ toks_in kinds.now vals.now b → ⊥ }
 {
-    same_words(tokens.kinds, a, b) && same_words(tokens.vals, a, b)
+    same_words(kinds, a, b) && same_words(vals, a, b)
 }
 
 // Whether the terms at a and b are the same.
@@ -119,5 +120,10 @@ pub fn same_term(tokens: &Tokens, a: usize, b: usize) -> bool
     requires { (a < length tokens.now.kinds.now) × (b < length tokens.now.kinds.now) }
     ensures { (t u : Term) → Held tokens.now.kinds.now tokens.now.vals.now a t → Held tokens.now.kinds.now tokens.now.vals.now b u → result ≡ same t u }
 {
-    same_run(tokens, term_part(tokens, a), term_part(tokens, b))
+    same_run(
+        tokens.kinds,
+        tokens.vals,
+        term_part(tokens, a),
+        term_part(tokens, b),
+    )
 }

@@ -1,6 +1,6 @@
 // Tokens and contents are sized, or written too. What is returned is the position after them; None where they do not fit.
 // Kinds and tags are matched by number; the line in kinds.rt says why.
-// The output and the position in it stand apart: the lines at the head of store.rt say why.
+// The output and the position in it stand apart: docs/DECISIONS.md, "How are the tokens lent?".
 ghost use Rattle.terms.specs.Words.Lent.{shown, StandsFor};
 ghost use Rattle.std.specs.Prelude.{◌≡◌, Bool, ℕ, ◌+◌, ◌≤◌, ◌<◌, length};
 ghost use Rattle.terms.specs.Words.TokenBytes.{plain, spelt};
@@ -8,9 +8,7 @@ ghost use Rattle.terms.specs.Term.{Term, Parts, depth, depths, bytes, part_bytes
 ghost use Rattle.terms.specs.Words.Arena.{Tree, From};
 ghost use Rattle.terms.specs.Words.ShowingContract.{writes, Shows, Kept};
 
-use super::alike::cursor;
 use super::rows::child_here;
-use super::virtual_tokens::token_at;
 use super::write::{run_len, token_len, write_run, write_token};
 use super::{Content, Cursor, Origin, Pass, Records, RowWalk, Seen, Token, Tokens};
 
@@ -58,94 +56,98 @@ fn show_flat(
     }
 }
 
-// The `count` tokens from `from` on, by `show_flat` where all are lent.
-fn show_run(
-    seen: &Seen,
-    from: usize,
-    count: usize,
-    out: &mut [u8],
-    at: usize,
-    pass: Pass,
-) -> Option<usize>
-    requires small { (from < 4294967296) × (count < 4294967296) }
-    requires room { at ≤ length out.old }
-    ensures kept { Kept (writes pass) out.old out.new at result }
-    ensures shows { Shows (writes pass) out.old out.new at
-        (spelt (shown seen.now).kinds (shown seen.now).vals from count) result }
-{
-    let end = from + count;
-    if end <= seen.tokens.kinds.len() {
-        return show_flat(&seen.tokens, from, count, out, at, pass);
-    }
-    let mut i = at;
-    for q in from..end {
-        i = show_token(out, i, token_at(seen, q), pass)?;
-    }
-    Some(i)
-}
-
-// The parts of a row from a place on; its children have at most `fuel` levels.
-#[cycle(showing_trees)]
-fn show_row(
-    records: &Records,
-    c: Cursor,
-    fuel: usize,
-    out: &mut [u8],
-    at: usize,
-    pass: Pass,
-) -> Option<usize>
-    requires room { at ≤ length out.old }
-    ensures kept { Kept (writes pass) out.old out.new at result }
-    ensures shows { (S : ℕ → Bool) (ps : Parts)
-        → From (shown records.now.seen.now) records.now.heads.now records.now.kids.now S c ps
-        → depths ps ≤ fuel
-        → Shows (writes pass) out.old out.new at (part_bytes ps) result }
-{
-    let row = RowWalk {
-        seen: *records.seen,
-        at: c.at,
-        end: c.end,
-    };
-    let mut i = at;
-    let mut n = c.child;
-    // Children are counted by hand: the line in rows.rt says why.
-    for (q, y) in row {
-        if y.kind == 0 {
-            i = show_token(out, i, y, pass)?;
-        } else {
-            let z = child_here(records.heads, records.kids, c.kids, q, n);
-            i = show_tree(records, z, fuel, out, i, pass)?;
-            n += 1;
+impl<'a> Seen<'a> {
+    // The `count` tokens from `from` on, by `show_flat` where all are lent.
+    fn show_run(
+        &self,
+        from: usize,
+        count: usize,
+        out: &mut [u8],
+        at: usize,
+        pass: Pass,
+    ) -> Option<usize>
+        requires small { (from < 4294967296) × (count < 4294967296) }
+        requires room { at ≤ length out.old }
+        ensures kept { Kept (writes pass) out.old out.new at result }
+        ensures shows { Shows (writes pass) out.old out.new at
+            (spelt (shown self.now).kinds (shown self.now).vals from count) result }
+    {
+        let end = from + count;
+        if end <= self.tokens.kinds.len() {
+            return show_flat(&self.tokens, from, count, out, at, pass);
         }
+        let mut i = at;
+        for q in from..end {
+            i = show_token(out, i, self.token(q), pass)?;
+        }
+        Some(i)
     }
-    Some(i)
 }
 
-// The tree that a content stands for; where it is built it has at most `fuel` levels.
-#[cycle(showing_trees)]
-pub fn show_tree(
-    records: &Records,
-    x: Content,
-    fuel: usize,
-    out: &mut [u8],
-    at: usize,
-    pass: Pass,
-) -> Option<usize>
-    requires room { at ≤ length out.old }
-    ensures kept { Kept (writes pass) out.old out.new at result }
-    ensures shows { (S : ℕ → Bool) (t : Term)
-        → StandsFor records.now S x t
-        → (0 < x.kids → depth t ≤ fuel)
-        → Shows (writes pass) out.old out.new at (bytes t) result }
-{
-    let h = token_at(records.seen, x.head as usize);
-    if x.kids == 0 {
-        return show_run(records.seen, x.head as usize, h.step(), out, at, pass);
+impl<'a> Records<'a> {
+    // The parts of a row from a place on; its children have at most `fuel` levels.
+    #[cycle(showing_trees)]
+    fn show_row(
+        &self,
+        c: Cursor,
+        fuel: usize,
+        out: &mut [u8],
+        at: usize,
+        pass: Pass,
+    ) -> Option<usize>
+        requires room { at ≤ length out.old }
+        ensures kept { Kept (writes pass) out.old out.new at result }
+        ensures shows { (S : ℕ → Bool) (ps : Parts)
+            → From (shown self.now.seen.now) self.now.heads.now self.now.kids.now S c ps
+            → depths ps ≤ fuel
+            → Shows (writes pass) out.old out.new at (part_bytes ps) result }
+    {
+        let row = RowWalk {
+            seen: *self.seen,
+            at: c.at,
+            end: c.end,
+        };
+        let mut i = at;
+        let mut n = c.child;
+        // Children are counted by hand: the line in rows.rt says why.
+        for (q, y) in row {
+            if y.kind == 0 {
+                i = show_token(out, i, y, pass)?;
+            } else {
+                let z = child_here(self.heads, self.kids, c.kids, q, n);
+                i = self.show_tree(z, fuel, out, i, pass)?;
+                n += 1;
+            }
+        }
+        Some(i)
     }
-    if fuel == 0 {
-        return None;
+
+    // The tree that a content stands for; where it is built it has at most `fuel` levels.
+    #[cycle(showing_trees)]
+    pub fn show_tree(
+        &self,
+        x: Content,
+        fuel: usize,
+        out: &mut [u8],
+        at: usize,
+        pass: Pass,
+    ) -> Option<usize>
+        requires room { at ≤ length out.old }
+        ensures kept { Kept (writes pass) out.old out.new at result }
+        ensures shows { (S : ℕ → Bool) (t : Term)
+            → StandsFor self.now S x t
+            → (0 < x.kids → depth t ≤ fuel)
+            → Shows (writes pass) out.old out.new at (bytes t) result }
+    {
+        let h = self.seen.token(x.head as usize);
+        if x.kids == 0 {
+            return self.seen.show_run(x.head as usize, h.step(), out, at, pass);
+        }
+        if fuel == 0 {
+            return None;
+        }
+        let c = self.seen.cursor(x);
+        let i = show_token(out, at, h, pass)?;
+        self.show_row(c, fuel - 1, out, i, pass)
     }
-    let c = cursor(records.seen, x);
-    let i = show_token(out, at, h, pass)?;
-    show_row(records, c, fuel - 1, out, i, pass)
 }

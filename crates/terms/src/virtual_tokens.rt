@@ -51,36 +51,38 @@ pub fn locate(given: Option<Origin>, len: usize, q: usize) -> Spot
     Spot::Lent(copied(g, len, r, t))
 }
 
-// The token at q, wherever it is from.
-#[inline(never)]
-fn located_token(seen: &Seen, q: usize) -> Token
-    ensures kind { result.kind ≡ get_or (shown seen.now).kinds q 0 }
-    ensures value { result.value ≡ get_or (shown seen.now).vals q 0 }
-{
-    let s = locate(seen.given, seen.tokens.kinds.len(), q);
-    match s {
-        Spot::Lent(p) => seen.tokens.token(p),
-        Spot::Error => Token { kind: 5, value: 1 },
-        Spot::Head(size) => Token {
-            kind: 20,
-            value: size as u32,
-        },
-        Spot::Nowhere => Token { kind: 0, value: 0 },
+impl<'a> Seen<'a> {
+    // The token at q, wherever it is from.
+    #[inline(never)]
+    fn located_token(&self, q: usize) -> Token
+        ensures kind { result.kind ≡ get_or (shown self.now).kinds q 0 }
+        ensures value { result.value ≡ get_or (shown self.now).vals q 0 }
+    {
+        let s = locate(self.given, self.tokens.kinds.len(), q);
+        match s {
+            Spot::Lent(p) => self.tokens.token(p),
+            Spot::Error => Token { kind: 5, value: 1 },
+            Spot::Head(size) => Token {
+                kind: 20,
+                value: size as u32,
+            },
+            Spot::Nowhere => Token { kind: 0, value: 0 },
+        }
     }
-}
 
-// The token at q. Nearly all are lent, and are looked at without the search.
-#[inline(always)]
-pub fn token_at(seen: &Seen, q: usize) -> Token
-    ensures kind { result.kind ≡ get_or (shown seen.now).kinds q 0 }
-    ensures value { result.value ≡ get_or (shown seen.now).vals q 0 }
-{
-    let tokens = seen.tokens;
-    if q < tokens.kinds.len() {
-        return Token {
-            kind: tokens.kinds[q],
-            value: tokens.vals[q],
-        };
+    // The token at q. Nearly all are lent, and are looked at without the search.
+    #[inline(always)]
+    pub fn token(&self, q: usize) -> Token
+        ensures kind { result.kind ≡ get_or (shown self.now).kinds q 0 }
+        ensures value { result.value ≡ get_or (shown self.now).vals q 0 }
+    {
+        let tokens = self.tokens;
+        if q < tokens.kinds.len() {
+            return Token {
+                kind: tokens.kinds[q],
+                value: tokens.vals[q],
+            };
+        }
+        self.located_token(q)
     }
-    located_token(seen, q)
 }

@@ -12,45 +12,45 @@ ghost use Rattle.terms.specs.Words.Arena.{TagAt, Counts, Frames, RecordRoom};
 ghost use Rattle.terms.specs.Words.Held.{span};
 ghost use Rattle.terms.specs.Words.WalkingContract.{first_of_node, Fixed, Walks, used};
 
-use super::alike::same_trees;
-use super::interface::by_interface;
-use super::members::{Counted, own_member};
-use super::opening::{begin, own_len};
-use super::rules::find_rule;
+use super::members::Counted;
 use super::write::run_len;
 use super::{Begun, Content, LookUp, Normaliser, Origin, Records, Tokens, Walked};
 
-// What a projection is replaced by; its children have at most `fuel` levels.
-fn replace(x: &Counted, lookup: &LookUp, fuel: usize) -> Option<Content>
-    requires tagged { TagAt (shown x.now.records.now.seen.now) x.now.content.head 18 }
-    requires given { x.now.records.now.seen.now.given ≡ given_of lookup.now }
-    requires low { fuel < 4294967296 }
-    ensures { (S : ℕ → Bool) (t : Term) (look : Look)
-        → StandsFor x.now.records.now S x.now.content t
-        → depth t ≤ fuel + 1
-        → Looks x.now.records.now.seen.now.tokens.kinds.now x.now.records.now.seen.now.tokens.vals.now lookup.now look
-        → Fetches x.now.records.now S (replacement (look_by look) t) result }
-{
-    let own = own_member(x);
-    if own.is_some() {
-        return own;
-    }
-    match *lookup {
-        LookUp::Rules(rules) => find_rule(x.records, rules, x.content, fuel),
-        LookUp::Given(given) => by_interface(x, given, fuel),
+impl<'a> Counted<'a> {
+    // What a projection is replaced by; its children have at most `fuel` levels.
+    fn replace(&self, lookup: &LookUp, fuel: usize) -> Option<Content>
+        requires tagged { TagAt (shown self.now.records.now.seen.now) self.now.content.head 18 }
+        requires given { self.now.records.now.seen.now.given ≡ given_of lookup.now }
+        requires low { fuel < 4294967296 }
+        ensures { (S : ℕ → Bool) (t : Term) (look : Look)
+            → StandsFor self.now.records.now S self.now.content t
+            → depth t ≤ fuel + 1
+            → Looks self.now.records.now.seen.now.tokens.kinds.now self.now.records.now.seen.now.tokens.vals.now lookup.now look
+            → Fetches self.now.records.now S (replacement (look_by look) t) result }
+    {
+        let own = self.own_member();
+        if own.is_some() {
+            return own;
+        }
+        match *lookup {
+            LookUp::Rules(rules) => self.records.find_rule(rules, self.content, fuel),
+            LookUp::Given(given) => self.by_interface(given, fuel),
+        }
     }
 }
 
-// A content with the counts that were found when its children were put into records.
-fn counted<'a>(records: &'a Records<'a>, x: Content, o: Begun) -> Counted<'a>
-    requires counts { Counts (shown records.now.seen.now) x.head o.arguments o.members }
-    ensures { (result.records.now ≡ records.now) × (result.content ≡ x) }
-{
-    Counted {
-        records,
-        content: x,
-        arguments: o.arguments,
-        members: o.members,
+impl<'a> Records<'a> {
+    // A content with the counts that were found when its children were put into records.
+    fn counted(&'a self, x: Content, o: Begun) -> Counted<'a>
+        requires counts { Counts (shown self.now.seen.now) x.head o.arguments o.members }
+        ensures { (result.records.now ≡ self.now) × (result.content ≡ x) }
+    {
+        Counted {
+            records: self,
+            content: x,
+            arguments: o.arguments,
+            members: o.members,
+        }
     }
 }
 
@@ -146,68 +146,70 @@ fn fixed_len(tokens: &Tokens, x: Content) -> usize
     run_len(tokens.kinds, tokens.vals, from, tokens.token(from).span())
 }
 
-// Visits the content x, with `levels` levels and `visits` visits left. The records of the result stand from `next` on, at most `most` in all.
-// None where the children are too many.
-pub fn walk(
-    by: &Normaliser,
-    heads: &mut [u32],
-    kids: &mut [u32],
-    x: Content,
-    next: usize,
-    levels: usize,
-    visits: usize,
-    most: usize,
-) -> Option<Walked>
-    requires room { RecordRoom by.now.seen.tokens.kinds.now by.now.seen.tokens.vals.now heads.old kids.old by.now.seen.given next most }
-    requires low { (levels < 4294967296) × (visits < 134217728) }
-    ensures walks { Walks by.now.seen.tokens.kinds.now by.now.seen.tokens.vals.now by.now.lookup by.now.seen.given heads.old kids.old heads.new kids.new x
-        next levels visits most result }
-    ensures frames { Frames heads.old kids.old heads.new kids.new next (used most result) }
-{
-    let seen = &by.seen;
-    let error = Content {
-        head: seen.tokens.kinds.len() as u32,
-        kids: 0,
-    };
-    if levels == 0 || visits == 0 {
-        return Some(result(error, next, visits, 1));
-    }
-    if let Some(same) = fixed_nodes(&seen.tokens, x, levels.min(visits)) {
-        let size = fixed_len(&seen.tokens, x);
-        return kept(x, same, size, next, visits, most);
-    }
-    let o = begin(seen, heads, kids, x, next, most)?;
-    let n = o.n;
-    let mut size = own_len(seen, x.head);
-    let mut at = next + n;
-    let mut left = visits - 1;
-    for j in 0..n {
-        let i = next + o.slot(j);
-        let y = Content {
-            head: heads[i],
-            kids: kids[i],
+impl<'a> Normaliser<'a> {
+    // Visits the content x, with `levels` levels and `visits` visits left. The records of the result stand from `next` on, at most `most` in all.
+    // None where the children are too many.
+    pub fn walk(
+        &self,
+        heads: &mut [u32],
+        kids: &mut [u32],
+        x: Content,
+        next: usize,
+        levels: usize,
+        visits: usize,
+        most: usize,
+    ) -> Option<Walked>
+        requires room { RecordRoom self.now.seen.tokens.kinds.now self.now.seen.tokens.vals.now heads.old kids.old self.now.seen.given next most }
+        requires low { (levels < 4294967296) × (visits < 134217728) }
+        ensures walks { Walks self.now.seen.tokens.kinds.now self.now.seen.tokens.vals.now self.now.lookup self.now.seen.given heads.old kids.old heads.new
+            kids.new x next levels visits most result }
+        ensures frames { Frames heads.old kids.old heads.new kids.new next (used most result) }
+    {
+        let seen = &self.seen;
+        let error = Content {
+            head: seen.tokens.kinds.len() as u32,
+            kids: 0,
         };
-        let w = walk(by, heads, kids, y, at, levels - 1, left, most)?;
-        heads[i] = w.content.head;
-        kids[i] = w.content.kids;
-        at = w.next;
-        left = w.visits;
-        size += w.size;
+        if levels == 0 || visits == 0 {
+            return Some(result(error, next, visits, 1));
+        }
+        if let Some(same) = fixed_nodes(&seen.tokens, x, levels.min(visits)) {
+            let size = fixed_len(&seen.tokens, x);
+            return kept(x, same, size, next, visits, most);
+        }
+        let o = seen.begin(heads, kids, x, next, most)?;
+        let n = o.n;
+        let mut size = seen.own_len(x.head);
+        let mut at = next + n;
+        let mut left = visits - 1;
+        for j in 0..n {
+            let i = next + o.slot(j);
+            let y = Content {
+                head: heads[i],
+                kids: kids[i],
+            };
+            let w = self.walk(heads, kids, y, at, levels - 1, left, most)?;
+            heads[i] = w.content.head;
+            kids[i] = w.content.kids;
+            at = w.next;
+            left = w.visits;
+            size += w.size;
+        }
+        let z = Content {
+            head: x.head,
+            kids: (next + 1) as u32,
+        };
+        if o.tag != 18 {
+            return Some(result(z, at, left, size));
+        }
+        let records = Records { seen, heads, kids };
+        let f = records.counted(z, o).replace(&self.lookup, levels);
+        let Some(v) = f else {
+            return Some(result(z, at, left, size));
+        };
+        if records.same_trees(z, v, levels + 1) {
+            return Some(result(error, at, left, 1));
+        }
+        self.walk(heads, kids, v, at, levels - 1, left, most)
     }
-    let z = Content {
-        head: x.head,
-        kids: (next + 1) as u32,
-    };
-    if o.tag != 18 {
-        return Some(result(z, at, left, size));
-    }
-    let records = Records { seen, heads, kids };
-    let f = replace(&counted(&records, z, o), &by.lookup, levels);
-    let Some(v) = f else {
-        return Some(result(z, at, left, size));
-    };
-    if same_trees(&records, z, v, levels + 1) {
-        return Some(result(error, at, left, 1));
-    }
-    walk(by, heads, kids, v, at, levels - 1, left, most)
 }

@@ -1,6 +1,7 @@
-// Tokens are written as they stand: sized first, then written.
+// Tokens are written as they stand: sized first, then written. Kinds and values are two slices: the programs write from areas of which nothing says that
+// they are as long as one another.
 // Kinds and tags are matched by number; the line in kinds.rt says why.
-// The output and the position in it stand apart: the lines at the head of store.rt say why.
+// The output and the position in it stand apart: docs/DECISIONS.md, "How are the tokens lent?".
 ghost use Rattle.std.specs.Prelude.{◌≡◌, ◌+◌, ◌-◌, ◌*◌, ◌^◌, ◌≤◌, ◌<◌, length};
 ghost use Rattle.std.proofs.lemmas.List.Edits.{sets};
 ghost use Rattle.terms.specs.Words.TokenBytes.{plain, spelt};
@@ -8,7 +9,7 @@ ghost use Rattle.terms.specs.Words.Lent.{PartOf};
 ghost use Rattle.terms.specs.Words.RecoverContract.{put_if};
 
 use super::numbers::{number_len, write_number};
-use super::{Part, Token, Tokens};
+use super::{Part, Token};
 
 // How many bytes a token has.
 pub fn token_len(x: Token) -> usize
@@ -40,8 +41,7 @@ pub fn write_token(out: &mut [u8], at: usize, x: Token) -> usize
     at + 1
 }
 
-// How many bytes the `count` tokens from `from` on have; a token has at most 6. Kinds and values are two slices: the programs write from areas of which
-// nothing says that they are as long as one another.
+// How many bytes the `count` tokens from `from` on have; a token has at most 6.
 pub fn run_len(kinds: &[u32], vals: &[u32], from: usize, count: usize) -> usize
     requires { (from + count ≤ length kinds.now) × (from + count ≤ length vals.now) }
     ensures len { result ≡ length (spelt kinds.now vals.now from count) }
@@ -86,21 +86,21 @@ pub fn write_run(
 }
 
 // The same of a part where its tokens fit; else nothing is written. In either case returns the position after them.
-pub fn put_run(tokens: &Tokens, run: Part, out: &mut [u8], at: usize) -> usize
-    requires run { PartOf tokens.now.kinds.now run }
+pub fn put_run(kinds: &[u32], vals: &[u32], run: Part, out: &mut [u8], at: usize) -> usize
+    requires run { PartOf kinds.now run × PartOf vals.now run }
     requires room { at + 6 * (run.end - run.from) < 2 ^ 64 }
-    ensures next { result ≡ at + length (spelt tokens.now.kinds.now tokens.now.vals.now run.from (run.end - run.from)) }
-    ensures put { out.new ≡ put_if out.old at (spelt tokens.now.kinds.now tokens.now.vals.now run.from (run.end - run.from)) }
+    ensures next { result ≡ at + length (spelt kinds.now vals.now run.from (run.end - run.from)) }
+    ensures put { out.new ≡ put_if out.old at (spelt kinds.now vals.now run.from (run.end - run.from)) }
     ensures bound { (at ≤ result) × (result ≤ at + 6 * (run.end - run.from)) }
 {
     let count = run.end - run.from;
     // A token has at most 6 bytes.
     if at + 6 * count <= out.len() {
-        return write_run(tokens.kinds, tokens.vals, run.from, count, out, at);
+        return write_run(kinds, vals, run.from, count, out, at);
     }
-    let n = run_len(tokens.kinds, tokens.vals, run.from, count);
+    let n = run_len(kinds, vals, run.from, count);
     if at + n <= out.len() {
-        return write_run(tokens.kinds, tokens.vals, run.from, count, out, at);
+        return write_run(kinds, vals, run.from, count, out, at);
     }
     at + n
 }

@@ -10,15 +10,15 @@ use Rattle.terms.proofs.write.put_run.Goals as goal
 pub write_run-requires-clause-room : goal.write_run-requires-clause-room
 write_run-requires-clause-room c =
     let a = c.args in
-    omega (arith, c.if-at-count.true, spelt_short a.tokens.now.kinds.now a.tokens.now.vals.now a.tokens.now.narrow.fits a.run.from (a.run.end - a.run.from))
+    omega (arith, c.if-at-count.true, spelt_short a.kinds.now a.vals.now (λ i. omega (arith, c.shared_slice_known-2-1.given i)) a.run.from (a.run.end - a.run.from))
 
 pub returns-then-at-count-clause-put : goal.returns-then-at-count-clause-put
 returns-then-at-count-clause-put c =
     let a = c.args in
-    let b = spelt_short a.tokens.now.kinds.now a.tokens.now.vals.now a.tokens.now.narrow.fits a.run.from (a.run.end - a.run.from) in
-    c.write_run.ensures.wrote ∙ put_fits a.out.now a.at (spelt a.tokens.now.kinds.now a.tokens.now.vals.now a.run.from (a.run.end - a.run.from)) _ refl (omega (arith, b, c.if-at-count.true))
+    let b = spelt_short a.kinds.now a.vals.now (λ i. omega (arith, c.shared_slice_known-2-1.given i)) a.run.from (a.run.end - a.run.from) in
+    c.write_run.ensures.wrote ∙ put_fits a.out.now a.at (spelt a.kinds.now a.vals.now a.run.from (a.run.end - a.run.from)) _ refl (omega (arith, b, c.if-at-count.true))
 
 pub returns-then-at-count-clause-bound : goal.returns-then-at-count-clause-bound
 returns-then-at-count-clause-bound c =
     let a = c.args in
-    omega (arith, c.write_run.ensures.next, spelt_short a.tokens.now.kinds.now a.tokens.now.vals.now a.tokens.now.narrow.fits a.run.from (a.run.end - a.run.from))
+    omega (arith, c.write_run.ensures.next, spelt_short a.kinds.now a.vals.now (λ i. omega (arith, c.shared_slice_known-2-1.given i)) a.run.from (a.run.end - a.run.from))
