@@ -138,14 +138,14 @@ impl From<VariableOrder> for Site {
     }
 }
 
-// An order without terms: for a variable (orders 0, 1, 2 and 21), the defaults of numbers (6) or of deferred variables (7), the revision (8); or that no
-// type lies within its bounds: refusal 13.
+// An order without terms: for a variable (orders 0, 1, 2 and 21), the defaults of numbers (6) or of deferred variables (7), the revision (8); or why it is
+// refused.
 #[derive(Clone, Copy, Debug, PartialEq, Eq)]
 pub enum TermlessOrder {
     Variable(VariableOrder),
     Defaults(Defaulted),
     Revision,
-    NoType,
+    Refused(OrderRefusal),
 }
 
 // Why an order is refused: as the terms and the solver refuse it, or because no type lies within its bounds.

@@ -210,7 +210,7 @@ fn number_order(site: u32, request: Option<NumberRequest>) -> TermlessOrder
     ensures { termless_command result ≡ asking site (request_held request) }
 {
     let Some(request) = request else {
-        return TermlessOrder::NoType;
+        return TermlessOrder::Refused(OrderRefusal::NoType);
     };
     TermlessOrder::Variable(VariableOrder::Number(site, request))
 }
@@ -263,8 +263,8 @@ pub fn termless_order(
         }
         TermlessOrder::Defaults(which) => default_order(x, which, tokens, tables, out, to),
         TermlessOrder::Revision => revision_order(x, out, to),
-        TermlessOrder::NoType => {
-            let next = write_refusal(out, to, OrderRefusal::NoType);
+        TermlessOrder::Refused(why) => {
+            let next = write_refusal(out, to, why);
             AfterOrder { solver: x, next }
         }
     }
