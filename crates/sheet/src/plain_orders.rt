@@ -99,7 +99,7 @@ pub fn resolved(
     ensures term { (z : Session) (t : Term) → Asked x tokens.now.kinds.now tokens.now.vals.now tables.now what z t
         → Framed (outcome (resolved_to z t)) out.old to out.new result }
 {
-    let size = x.resolved_len(tokens, tables, frames, what, out.len())?;
+    let size = x.resolved_len(tokens, tables, frames, what, out.len() as u32)?;
     let at = begin_answer(out, to, size)?;
     Some(x.resolve(tokens, tables, frames, what, out, at))
 }
