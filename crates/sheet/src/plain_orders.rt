@@ -29,7 +29,7 @@ use super::{
     AfterOrder, FieldSpot, FieldSpots, OrderRefusal, TermlessKind, TermlessOrder, VariableOrder,
 };
 use solver::{
-    Bound, Builtin, Defaulted, NumberRequest, Refusal, Site, Solver, Subject, Tokens,
+    Bound, Builtin, Defaulted, NumberRequest, Range, Refusal, Site, Solver, Subject, Tokens,
     plain_request, range_request, variable_len, write_variable,
 };
 
@@ -200,9 +200,11 @@ fn bound_at(spot: FieldSpot) -> Option<Bound>
 fn requested_range(fallback: Builtin, low: FieldSpot, high: FieldSpot) -> Option<NumberRequest>
     ensures { request_held result ≡ between fallback.code (spot_bound low) (spot_bound high) }
 {
-    let least = bound_at(low)?;
-    let greatest = bound_at(high)?;
-    range_request(fallback, least, greatest)
+    let range = Range {
+        low: bound_at(low)?,
+        high: bound_at(high)?,
+    };
+    range_request(fallback, range)
 }
 
 // An order for the number variable of a site, or the refusal 13.

@@ -157,6 +157,13 @@ pub struct Bound {
     pub size: u64,
 }
 
+// The bounds of a range.
+#[derive(Clone, Copy, Debug, PartialEq, Eq)]
+pub struct Range {
+    pub low: Bound,
+    pub high: Bound,
+}
+
 // What `constrain` answers.
 #[derive(Clone, Copy, Debug, PartialEq, Eq)]
 pub enum Verdict {
