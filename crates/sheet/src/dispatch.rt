@@ -74,8 +74,9 @@ fn answer_order<'a>(
     }
 }
 
-// Reads an order, with room for its rules, and answers it. That an order is short is asked here and in the next two: it is a part of the sheet, and a struct
-// with this fact would be made anew for each order.
+// Reads an order, with room for its rules, and answers it. That an order is short is a clause here and in the next two, and that the sheet is in three of
+// running.rt: with a struct of bytes that are so few these six were gone, but 17 places of clauses and of `Passes` and five calls had `.bytes` more, and
+// `Orders` made one for each order, with a proof that a part of the sheet is as short.
 fn serve_with(
     x: Solver,
     s: &[u8],
@@ -112,7 +113,8 @@ fn serve_with(
     }
 }
 
-// Whether an order may have rules.
+// Whether an order may have rules. The room for them is there before `read_order` tells which order it is, so its byte is looked at here. By `try_from` of
+// `OrderKind` it would be looked up twice, and a law of all 23 orders would say that `Normalise` alone has the number 20.
 fn has_rules(s: &[u8]) -> bool
     ensures { result ≡ eqb (get_or s.now 0 0) 20 }
 {

@@ -86,7 +86,8 @@ pub struct FieldSpot {
 }
 
 // The fields of an order, at most five.
-// They have names and are no array: what answers an order speaks of each by its name, and `o[3].place` is no plainer than `o.fourth.place`.
+// They have names and are no array: with `[FieldSpot; 5]` the 13 lines of `put_spot` would be `o[i] = x`, but 45 places of the code and 21 of the definitions
+// (`HeldFields`, `WordsFit`, `rule_from`) would have an index for a name, and those of the definitions a spot besides, for an index past the end.
 #[derive(Clone, Copy, Default)]
 pub struct FieldSpots {
     pub first: FieldSpot,

@@ -183,7 +183,7 @@ fn variable_order(
     AfterOrder { solver: y, next }
 }
 
-// The bound that a spot has; none where its sign is neither 0 nor 1.
+// The bound that a spot has; none where its sign is neither 0 nor 1. `TryFrom` would name an error, which `requested_range` drops.
 fn bound_at(spot: FieldSpot) -> Option<Bound>
     ensures { MatchOption result (spot_bound spot ≡ none) (λ bound. spot_bound spot ≡ some (bound_of bound)) }
 {

@@ -1,6 +1,6 @@
 // A session made and cleared, and the counters that an order is read by.
-// Kinds are numbers: the line in kinds.rt of terms says why. Where they are written, kinds and values are two slices: docs/DECISIONS.md, "How are the
-// tokens lent?".
+// Kinds are numbers: the line in kinds.rt of terms says why.
+// Kinds and values that are written are lent as two slices: docs/DECISIONS.md, "How are the tokens lent?".
 ghost use Rattle.std.specs.Prelude.{◌≡◌, ℕ, ◌+◌, ◌<◌, length, replicate};
 ghost use Rattle.terms.specs.Term.{node, num, end, Held};
 ghost use Rattle.solver.specs.Session.{Session, fresh};
