@@ -75,8 +75,8 @@ fn answer_order<'a>(
 }
 
 // Reads an order, with room for its rules, and answers it. That an order is short is a clause here and in the next two, and that the sheet is in three of
-// running.rt: with a struct of bytes that are so few these six were gone, but 17 places of clauses and of `Passes` and five calls had `.bytes` more, and
-// `Orders` made one for each order, with a proof that a part of the sheet is as short.
+// running.rt. With a struct of bytes that are so few these six would go, but each `ensures` there would say `s.entry.bytes.now` for `s.now`, as a field of a
+// struct by value is lent, and `Passes` and four calls would have `.bytes`.
 fn serve_with(
     x: Solver,
     s: &[u8],
