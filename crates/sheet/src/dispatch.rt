@@ -17,8 +17,8 @@ use super::operations::operate;
 use super::order_reader::{clear_order, read_order};
 use super::plain_orders::{termless_of, termless_order};
 use super::term_orders::{constrain_order, defer_term, resolve_term};
-use super::{AfterOrder, Order, OrderKind, OrderRefusal, Posed};
-use solver::{Refusal, Rule, Solver, Tokens};
+use super::{AfterOrder, Operation, Order, OrderKind, OrderRefusal, Posed};
+use solver::{Refusal, Rule, Solver, Tokens, byte_at};
 
 // An order that was read, by its kind; refusal 7 where it has too many nodes. Orders 9 to 20, operations, leave the session as it was.
 fn answer_order<'a>(
@@ -113,12 +113,13 @@ fn serve_with(
     }
 }
 
-// Whether an order may have rules. The room for them is there before `read_order` tells which order it is, so its byte is looked at here. By `try_from` of
-// `OrderKind` it would be looked up twice, and a law of all 23 orders would say that `Normalise` alone has the number 20.
+// Whether an order may have rules. `read_order` tells which order it is, but the room for the rules has to be there before.
+#[tactic(auto, unfolding(crate::specs::Sheet::table, crate::specs::OrderTable::session_orders, crate::specs::OrderTable::row_in, crate::specs::Operations::operations))]
 fn has_rules(s: &[u8]) -> bool
     ensures { result ≡ eqb (get_or s.now 0 0) 20 }
 {
-    s.first() == Some(&20)
+    let kind = byte_at(s, 0).and_then(OrderKind::try_from);
+    kind == Ok(OrderKind::Operation(Operation::Normalise))
 }
 
 // Whether the byte that begins the count of rules says fewer than 64. Where there is none the order is refused.
