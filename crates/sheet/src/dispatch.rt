@@ -17,8 +17,8 @@ use super::operations::operate;
 use super::order_reader::{clear_order, read_order};
 use super::plain_orders::{termless_of, termless_order};
 use super::term_orders::{constrain_order, defer_term, resolve_term};
-use super::{AfterOrder, Order, OrderKind, OrderRefusal, Posed};
-use solver::{Refusal, Rule, Solver, Tokens};
+use super::{AfterOrder, Operation, Order, OrderKind, OrderRefusal, Posed};
+use solver::{Refusal, Rule, Solver, Tokens, byte_at};
 
 // An order that was read, by its kind; refusal 7 where it has too many nodes. Orders 9 to 20, operations, leave the session as it was.
 fn answer_order<'a>(
@@ -74,8 +74,9 @@ fn answer_order<'a>(
     }
 }
 
-// Reads an order, with room for its rules, and answers it. That an order is short is asked here and in the next two: it is a part of the sheet, and a struct
-// with this fact would be made anew for each order.
+// Reads an order, with room for its rules, and answers it. That an order is short is a clause here and in the next two, and that the sheet is in three of
+// running.rt. With a struct of bytes that are so few these six would go, but each `ensures` there would say `s.entry.bytes.now` for `s.now`, as a field of a
+// struct by value is lent, and `Passes` and four calls would have `.bytes`.
 fn serve_with(
     x: Solver,
     s: &[u8],
@@ -90,7 +91,8 @@ fn serve_with(
 ) -> AfterOrder
     requires held { AreasReady x (areas a.old b.old records.old table.old d.old) }
     requires rules { get_or s.now 0 0 ≡ 20 → RulesRoom s.now rules.old 2048 }
-    requires room { (length s.now ≤ 16777216) × (to ≤ length out.old) × (length out.old ≤ 16777216) }
+    requires order { length s.now ≤ 16777216 }
+    requires room { OutputRoom out.old to }
     ensures { Serves x result.solver s.now (areas a.old b.old records.old table.old d.old)
         (areas a.new b.new records.new table.new d.new) (output_at out.old to) (written_to out.new result.next) }
 {
@@ -111,11 +113,13 @@ fn serve_with(
     }
 }
 
-// Whether an order may have rules.
+// Whether an order may have rules. `read_order` tells which order it is, but the room for the rules has to be there before.
+#[tactic(auto, unfolding(crate::specs::Sheet::table, crate::specs::OrderTable::session_orders, crate::specs::OrderTable::row_in, crate::specs::Operations::operations))]
 fn has_rules(s: &[u8]) -> bool
     ensures { result ≡ eqb (get_or s.now 0 0) 20 }
 {
-    s.first() == Some(&20)
+    let kind = byte_at(s, 0).and_then(OrderKind::try_from);
+    kind == Ok(OrderKind::Operation(Operation::Normalise))
 }
 
 // Whether the byte that begins the count of rules says fewer than 64. Where there is none the order is refused.
@@ -138,7 +142,8 @@ fn serve_rules(
     to: usize,
 ) -> AfterOrder
     requires held { AreasReady x (areas a.old b.old records.old table.old d.old) }
-    requires room { (length s.now ≤ 16777216) × (to ≤ length out.old) × (length out.old ≤ 16777216) }
+    requires order { length s.now ≤ 16777216 }
+    requires room { OutputRoom out.old to }
     ensures { Serves x result.solver s.now (areas a.old b.old records.old table.old d.old)
         (areas a.new b.new records.new table.new d.new) (output_at out.old to) (written_to out.new result.next) }
 {
@@ -163,7 +168,8 @@ pub fn serve_order(
     to: usize,
 ) -> AfterOrder
     requires held { AreasReady x (areas a.old b.old records.old table.old d.old) }
-    requires room { (length s.now ≤ 16777216) × (to ≤ length out.old) × (length out.old ≤ 16777216) }
+    requires order { length s.now ≤ 16777216 }
+    requires room { OutputRoom out.old to }
     ensures { (z : Session) → InOrder (issued z) z.solver → RepresentsInAreas x (areas a.old b.old records.old table.old d.old) z
         → Served result.solver (areas a.new b.new records.new table.new d.new) z s.now (output_at out.old to)
         (written_to out.new result.next) x }

@@ -86,7 +86,8 @@ pub struct FieldSpot {
 }
 
 // The fields of an order, at most five.
-// They have names and are no array: what answers an order speaks of each by its name, and `o[3].place` is no plainer than `o.fourth.place`.
+// They have names and are no array: with `[FieldSpot; 5]` the 13 lines of `put_spot` would be `o[i] = x`, but 45 places of the code and 21 of the definitions
+// (`HeldFields`, `WordsFit`, `rule_from`) would have an index for a name, and those of the definitions a spot besides, for an index past the end.
 #[derive(Clone, Copy, Default)]
 pub struct FieldSpots {
     pub first: FieldSpot,
@@ -138,14 +139,14 @@ impl From<VariableOrder> for Site {
     }
 }
 
-// An order without terms: for a variable (orders 0, 1, 2 and 21), the defaults of numbers (6) or of deferred variables (7), the revision (8); or that no
-// type lies within its bounds: refusal 13.
+// An order without terms: for a variable (orders 0, 1, 2 and 21), the defaults of numbers (6) or of deferred variables (7), the revision (8); or why it is
+// refused.
 #[derive(Clone, Copy, Debug, PartialEq, Eq)]
 pub enum TermlessOrder {
     Variable(VariableOrder),
     Defaults(Defaulted),
     Revision,
-    NoType,
+    Refused(OrderRefusal),
 }
 
 // Why an order is refused: as the terms and the solver refuse it, or because no type lies within its bounds.

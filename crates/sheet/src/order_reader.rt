@@ -1,5 +1,6 @@
 // An order read: which it is, and its fields by its layout. The functions that read a field are lent the place and answer
 // the field's spot; where they refuse, the place is of no use.
+// Kinds and values that are written are lent as two slices: docs/DECISIONS.md, "How are the tokens lent?".
 // `Ample` and `Free` are clauses: fields.rt says why.
 ghost use Rattle.std.specs.Prelude.{◌≡◌, ◌-◌, ◌<◌, ◌≤◌, length, get_or};
 ghost use Rattle.solver.specs.Terms.Tokens.{area, blank};

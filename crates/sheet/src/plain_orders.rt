@@ -29,7 +29,7 @@ use super::{
     AfterOrder, FieldSpot, FieldSpots, OrderRefusal, TermlessKind, TermlessOrder, VariableOrder,
 };
 use solver::{
-    Bound, Builtin, Defaulted, NumberRequest, Refusal, Site, Solver, Subject, Tokens,
+    Bound, Builtin, Defaulted, NumberRequest, Range, Refusal, Site, Solver, Subject, Tokens,
     plain_request, range_request, variable_len, write_variable,
 };
 
@@ -99,7 +99,7 @@ pub fn resolved(
     ensures term { (z : Session) (t : Term) → Asked x tokens.now.kinds.now tokens.now.vals.now tables.now what z t
         → Framed (outcome (resolved_to z t)) out.old to out.new result }
 {
-    let size = x.resolved_len(tokens, tables, frames, what, out.len())?;
+    let size = x.resolved_len(tokens, tables, frames, what, out.len() as u32)?;
     let at = begin_answer(out, to, size)?;
     Some(x.resolve(tokens, tables, frames, what, out, at))
 }
@@ -183,7 +183,7 @@ fn variable_order(
     AfterOrder { solver: y, next }
 }
 
-// The bound that a spot has; none where its sign is neither 0 nor 1.
+// The bound that a spot has; none where its sign is neither 0 nor 1. `TryFrom` would name an error, which `requested_range` drops.
 fn bound_at(spot: FieldSpot) -> Option<Bound>
     ensures { MatchOption result (spot_bound spot ≡ none) (λ bound. spot_bound spot ≡ some (bound_of bound)) }
 {
@@ -200,9 +200,11 @@ fn bound_at(spot: FieldSpot) -> Option<Bound>
 fn requested_range(fallback: Builtin, low: FieldSpot, high: FieldSpot) -> Option<NumberRequest>
     ensures { request_held result ≡ between fallback.code (spot_bound low) (spot_bound high) }
 {
-    let least = bound_at(low)?;
-    let greatest = bound_at(high)?;
-    range_request(fallback, least, greatest)
+    let range = Range {
+        low: bound_at(low)?,
+        high: bound_at(high)?,
+    };
+    range_request(fallback, range)
 }
 
 // An order for the number variable of a site, or the refusal 13.
@@ -210,7 +212,7 @@ fn number_order(site: u32, request: Option<NumberRequest>) -> TermlessOrder
     ensures { termless_command result ≡ asking site (request_held request) }
 {
     let Some(request) = request else {
-        return TermlessOrder::NoType;
+        return TermlessOrder::Refused(OrderRefusal::NoType);
     };
     TermlessOrder::Variable(VariableOrder::Number(site, request))
 }
@@ -263,8 +265,8 @@ pub fn termless_order(
         }
         TermlessOrder::Defaults(which) => default_order(x, which, tokens, tables, out, to),
         TermlessOrder::Revision => revision_order(x, out, to),
-        TermlessOrder::NoType => {
-            let next = write_order_refusal(out, to, OrderRefusal::NoType);
+        TermlessOrder::Refused(why) => {
+            let next = write_order_refusal(out, to, why);
             AfterOrder { solver: x, next }
         }
     }

@@ -1,5 +1,6 @@
 // Rules: each is five fields that are read by a layout of their own, and a record that tells where these stand. The reading functions are lent
 // the place; where they refuse it is of no use.
+// Kinds and values that are written are lent as two slices: docs/DECISIONS.md, "How are the tokens lent?".
 // `Ample` and `Free` are clauses: fields.rt says why.
 ghost use Rattle.std.specs.Prelude.{◌≡◌, set};
 ghost use Rattle.solver.specs.Terms.Tokens.{area};

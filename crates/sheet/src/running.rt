@@ -13,7 +13,7 @@ use super::dispatch::serve_order;
 use super::splitting::Orders;
 use super::starting::lay_fresh;
 use super::{Closed, Reason, Report};
-use solver::Solver;
+use solver::{Limits, Solver};
 
 // What a run returns, and the solver that it leaves.
 fn closed(reason: Reason, orders: u64, bytes: usize, solver: Solver) -> Closed
@@ -66,11 +66,9 @@ fn answer_orders(
     closed(Reason::UsedUp, orders, to, x)
 }
 
-// The run in areas of just the words that a session has, within limits; their words are all 0 at the end. The limits are no struct: `run_sheet` gives
-// them, `run_within` hands them on, and it would be taken apart here, for `Solver::fresh` takes two of them and the split one.
+// The run in areas of just the words that a session has, within limits; their words are all 0 at the end.
 fn run_in(
-    variables: usize,
-    nodes: usize,
+    limits: Limits,
     half: usize,
     s: &[u8],
     out: &mut [u8],
@@ -80,14 +78,14 @@ fn run_in(
     d: &mut [u32],
 ) -> Report
     requires areas { (half ≤ length c.old)
-        × AreasSuffice (counters variables nodes) (length a.old) (areas a.old b.old (take half c.old) (drop half c.old) d.old) }
+        × AreasSuffice (counters limits) (length a.old) (areas a.old b.old (take half c.old) (drop half c.old) d.old) }
     requires room { (length s.now ≤ 16777216) × (length out.old ≤ 16777216) }
-    ensures run { Ended (limits_of (counters variables nodes)) s.now out.old (number_of_reason result.reason) result.orders result.bytes
+    ensures run { Ended (limits_of (counters limits)) s.now out.old (number_of_reason result.reason) result.orders result.bytes
         out.new }
     ensures clear { Zero a.new × Zero b.new × Zero c.new × Zero d.new }
 {
     let (records, table) = c.split_at_mut(half);
-    let x = lay_fresh(variables, nodes, a, b, records, table, d);
+    let x = lay_fresh(limits, a, b, records, table, d);
     let r = answer_orders(x, s, out, a, b, records, table, d);
     let y = r.solver;
     y.clear_session(a, b, table);
@@ -96,8 +94,7 @@ fn run_in(
 
 // The run in the first `words` words of longer areas, all of whose words are 0 at the end.
 fn run_within(
-    variables: usize,
-    nodes: usize,
+    limits: Limits,
     half: usize,
     words: usize,
     s: &[u8],
@@ -108,16 +105,15 @@ fn run_within(
     d: &mut [u32],
 ) -> Report
     requires areas { (half ≤ words) × (words ≤ length a.old) × (words ≤ length b.old) × (words ≤ length c.old) × (words ≤ length d.old)
-        × AreasSuffice (counters variables nodes) words
+        × AreasSuffice (counters limits) words
         (areas (take words a.old) (take words b.old) (take half (take words c.old)) (drop half (take words c.old)) (take words d.old)) }
     requires room { (length s.now ≤ 16777216) × (length out.old ≤ 16777216) }
     ensures { finished (number_of_reason result.reason) result.orders result.bytes out.new a.new b.new c.new
-        d.new ≡ state_after_run (run_of (limits_of (counters variables nodes)) s.now (length out.old)) out.old
+        d.new ≡ state_after_run (run_of (limits_of (counters limits)) s.now (length out.old)) out.old
         a.old b.old c.old d.old }
 {
     let r = run_in(
-        variables,
-        nodes,
+        limits,
         half,
         s,
         out,
@@ -161,5 +157,9 @@ pub fn run_sheet(
             bytes: 0,
         };
     }
-    run_within(512, 2048, 8192, 16384, sheet, out, a, b, c, d)
+    let limits = Limits {
+        variables: 512,
+        nodes: 2048,
+    };
+    run_within(limits, 8192, 16384, sheet, out, a, b, c, d)
 }

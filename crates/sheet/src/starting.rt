@@ -5,22 +5,21 @@ ghost use Rattle.solver.specs.Session.{fresh};
 ghost use Rattle.solver.specs.Words.SessionsContract.{counters, FreshRoom};
 ghost use Rattle.sheet.specs.Words.SessionInAreas.{areas, RepresentsInAreas};
 
-use solver::Solver;
+use solver::{Limits, Solver};
 
 // A fresh session, whatever the areas held.
 pub fn lay_fresh(
-    variables: usize,
-    nodes: usize,
+    limits: Limits,
     a: &mut [u32],
     b: &mut [u32],
     records: &mut [u32],
     table: &mut [u32],
     d: &mut [u32],
 ) -> Solver
-    requires { FreshRoom variables (length a.old) (length b.old) (length table.old) }
-    ensures { (result ≡ counters variables nodes) × RepresentsInAreas result (areas a.new b.new records.new table.new d.new) fresh }
+    requires { FreshRoom limits.variables (length a.old) (length b.old) (length table.old) }
+    ensures { (result ≡ counters limits) × RepresentsInAreas result (areas a.new b.new records.new table.new d.new) fresh }
 {
     records.fill(0);
     d.fill(0);
-    Solver::fresh(variables, nodes, a, b, table)
+    Solver::fresh(limits, a, b, table)
 }

@@ -79,10 +79,10 @@ impl Solver {
         tables: &[u32],
         work: &mut [u32],
         what: Subject,
-        limit: usize,
+        limit: u32,
     ) -> Option<usize>
         requires held { (s : Session) × (t : Term) × Asked self tokens.now.kinds.now tokens.now.vals.now tables.now what s t }
-        requires room { Frames self work.old × (limit < 2 ^ 32) }
+        requires room { Frames self work.old }
         ensures len { (s : Session) (t : Term)
             → Asked self tokens.now.kinds.now tokens.now.vals.now tables.now what s t
             → unwrap_or result (limit + 1) ≡ min (limit + 1) (length (resolved_to s t)) }
@@ -99,7 +99,7 @@ impl Solver {
                 }
                 size
             }
-            Start::Free(v) => Some(variable_len(v)).filter(|n| *n <= limit),
+            Start::Free(v) => Some(variable_len(v)).filter(|n| *n <= limit as usize),
         }
     }
 

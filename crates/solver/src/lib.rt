@@ -79,6 +79,13 @@ pub struct Counted {
     pub top: usize,
 }
 
+// The limits of a session: at most so many variables, and so many kept nodes.
+#[derive(Clone, Copy, Debug, PartialEq, Eq)]
+pub struct Limits {
+    pub variables: usize,
+    pub nodes: usize,
+}
+
 // The counters of a session, with its limits: at most `variables` variables and `nodes` kept nodes. So far `issued` variables, `revision`
 // bindings, `kept` nodes, and `top` tokens in use.
 #[derive(Clone, Copy)]
@@ -185,6 +192,13 @@ pub struct NumberRequest {
 pub struct Bound {
     pub minus: bool,
     pub size: u64,
+}
+
+// The bounds of a range.
+#[derive(Clone, Copy, Debug, PartialEq, Eq)]
+pub struct Range {
+    pub low: Bound,
+    pub high: Bound,
 }
 
 // What `constrain` answers.

@@ -4,7 +4,7 @@ ghost use Rattle.solver.specs.Families.{at_most, below, holds, requested, reques
 ghost use Rattle.solver.specs.Words.SessionRepresentation.{request_in};
 ghost use Rattle.solver.specs.Words.MethodContract.{bound_of, mask_of, request_held};
 
-use super::{Bound, Builtin, NumberRequest};
+use super::{Bound, Builtin, NumberRequest, Range};
 
 impl Bound {
     // Whether a bound is at most another.
@@ -27,35 +27,37 @@ fn below_zero(size: u64) -> Bound
     Bound { minus: true, size }
 }
 
-// Whether the type with these least and greatest values holds both bounds.
-fn holds(least: Bound, greatest: u64, low: Bound, high: Bound) -> bool
-    ensures { result ≡ (below least.minus least.size low.minus low.size && below high.minus high.size false greatest) }
-{
-    let most = Bound {
-        minus: false,
-        size: greatest,
-    };
-    least.at_most(low) && high.at_most(most)
-}
+impl Range {
+    // Whether the type with these least and greatest values holds both bounds.
+    fn held_by(self, least: Bound, greatest: u64) -> bool
+        ensures { result ≡ (below least.minus least.size self.low.minus self.low.size && below self.high.minus self.high.size false greatest) }
+    {
+        let most = Bound {
+            minus: false,
+            size: greatest,
+        };
+        least.at_most(self.low) && self.high.at_most(most)
+    }
 
-// The integer types that hold both bounds, as a mask. With a table the sum would be a loop, whose invariant says of so many types what `mask_of` says here of
-// eight at once.
-fn range_mask(low: Bound, high: Bound) -> u32
-    ensures { (result ≡ mask_of (holds (bound_of low) (bound_of high))) × (result ≤ 255) }
-{
-    let zero = Bound {
-        minus: false,
-        size: 0,
-    };
-    let a = u32::from(holds(below_zero(1 << 7), i8::MAX as u64, low, high));
-    let b = u32::from(holds(below_zero(1 << 15), i16::MAX as u64, low, high));
-    let c = u32::from(holds(below_zero(1 << 31), i32::MAX as u64, low, high));
-    let d = u32::from(holds(below_zero(1 << 63), i64::MAX as u64, low, high));
-    let e = u32::from(holds(zero, u8::MAX as u64, low, high));
-    let f = u32::from(holds(zero, u16::MAX as u64, low, high));
-    let g = u32::from(holds(zero, u32::MAX as u64, low, high));
-    let h = u32::from(holds(zero, u64::MAX, low, high));
-    a + 2 * b + 4 * c + 8 * d + 16 * e + 32 * f + 64 * g + 128 * h
+    // The integer types that hold both bounds, as a mask. With a table the sum would be a loop, whose invariant says of so many types what `mask_of` says
+    // here of eight at once.
+    fn mask(self) -> u32
+        ensures { (result ≡ mask_of (holds (bound_of self.low) (bound_of self.high))) × (result ≤ 255) }
+    {
+        let zero = Bound {
+            minus: false,
+            size: 0,
+        };
+        let a = u32::from(self.held_by(below_zero(1 << 7), i8::MAX as u64));
+        let b = u32::from(self.held_by(below_zero(1 << 15), i16::MAX as u64));
+        let c = u32::from(self.held_by(below_zero(1 << 31), i32::MAX as u64));
+        let d = u32::from(self.held_by(below_zero(1 << 63), i64::MAX as u64));
+        let e = u32::from(self.held_by(zero, u8::MAX as u64));
+        let f = u32::from(self.held_by(zero, u16::MAX as u64));
+        let g = u32::from(self.held_by(zero, u32::MAX as u64));
+        let h = u32::from(self.held_by(zero, u64::MAX));
+        a + 2 * b + 4 * c + 8 * d + 16 * e + 32 * f + 64 * g + 128 * h
+    }
 }
 
 // The plain request with this fallback.
@@ -68,13 +70,13 @@ pub fn plain_request(fallback: Builtin) -> NumberRequest
 }
 
 // The request for the integer types that hold both bounds; none where low is above high, or no type holds them.
-pub fn range_request(fallback: Builtin, low: Bound, high: Bound) -> Option<NumberRequest>
-    ensures { request_held result ≡ request_of fallback.code (bound_of low) (bound_of high) }
+pub fn range_request(fallback: Builtin, range: Range) -> Option<NumberRequest>
+    ensures { request_held result ≡ request_of fallback.code (bound_of range.low) (bound_of range.high) }
 {
-    if !low.at_most(high) {
+    if !range.low.at_most(range.high) {
         return None;
     }
-    let mask = range_mask(low, high);
+    let mask = range.mask();
     if mask == 0 {
         return None;
     }

@@ -116,9 +116,8 @@ pub fn next(bindings: &Bindings, frames: &mut [u32], from: Stand) -> Stand
 
 // How many bytes a run has with bound variables replaced; none where those are more than limit. Counting leaves off at a limit, and writing has an output and
 // no limit: one function for both would take what one of them has no use for.
-pub fn walked_len(bindings: &Bindings, frames: &mut [u32], run: Run, limit: usize) -> Option<usize>
-    requires areas { (run.at + run.len ≤ length bindings.now.tokens.kinds.now) × (bindings.now.most + bindings.now.most ≤ length frames.old) }
-    requires room { limit < 2 ^ 32 }
+pub fn walked_len(bindings: &Bindings, frames: &mut [u32], run: Run, limit: u32) -> Option<usize>
+    requires { (run.at + run.len ≤ length bindings.now.tokens.kinds.now) × (bindings.now.most + bindings.now.most ≤ length frames.old) }
     ensures len { unwrap_or result (limit + 1) ≡ min (limit + 1) (length (walked_bytes bindings.now run)) }
     ensures fits { (n : ℕ) → result ≡ Some n → n ≤ limit }
     ensures apart { Apart bindings.now.most frames.old frames.new }
@@ -129,7 +128,7 @@ pub fn walked_len(bindings: &Bindings, frames: &mut [u32], run: Run, limit: usiz
     // `next` goes on by one token, into bound variables and out of them through `frames`. An iterator would hold these by `&mut` (`store.rt` of terms says why not).
     while c.at < c.end {
         n += run_len(bindings.tokens.kinds, bindings.tokens.vals, c.at, 1);
-        if limit < n {
+        if (limit as usize) < n {
             return None;
         }
         c = next(bindings, frames, c);
@@ -163,14 +162,8 @@ pub fn write_walked(
 }
 
 // How many bytes the term at p has with bound variables replaced; none where those are more than limit.
-pub fn resolved_len(
-    bindings: &Bindings,
-    frames: &mut [u32],
-    p: usize,
-    limit: usize,
-) -> Option<usize>
-    requires areas { bindings.now.most + bindings.now.most ≤ length frames.old }
-    requires room { limit < 2 ^ 32 }
+pub fn resolved_len(bindings: &Bindings, frames: &mut [u32], p: usize, limit: u32) -> Option<usize>
+    requires { bindings.now.most + bindings.now.most ≤ length frames.old }
     ensures len { unwrap_or result (limit + 1) ≡ min (limit + 1) (length (resolved_bytes_at bindings.now p)) }
     ensures term { (t : Term) (b : ℕ → Option Term)
         → HeldBy bindings.now p t

@@ -1,12 +1,13 @@
 // A session made and cleared, and the counters that an order is read by.
 // Kinds are numbers: the line in kinds.rt of terms says why.
+// Kinds and values that are written are lent as two slices: docs/DECISIONS.md, "How are the tokens lent?".
 ghost use Rattle.std.specs.Prelude.{◌≡◌, ℕ, ◌+◌, ◌<◌, length, replicate};
 ghost use Rattle.terms.specs.Term.{node, num, end, Held};
 ghost use Rattle.solver.specs.Session.{Session, fresh};
 ghost use Rattle.solver.specs.Words.SessionsContract.{Holds, counters, FreshRoom};
 
 use super::resolving::clear_words;
-use super::{Solver, Standing};
+use super::{Limits, Solver, Standing};
 
 // Stores the 32 builtins, two tokens each.
 fn store_builtins(a: &mut [u32], b: &mut [u32])
@@ -25,24 +26,18 @@ fn store_builtins(a: &mut [u32], b: &mut [u32])
 
 impl Solver {
     // A fresh session, whatever the areas held.
-    pub fn fresh(
-        variables: usize,
-        nodes: usize,
-        a: &mut [u32],
-        b: &mut [u32],
-        tables: &mut [u32],
-    ) -> Solver
-        requires { FreshRoom variables (length a.old) (length b.old) (length tables.old) }
-        ensures counters { result ≡ counters variables nodes }
-        ensures holds { Holds (counters variables nodes) a.new b.new tables.new fresh }
+    pub fn fresh(limits: Limits, a: &mut [u32], b: &mut [u32], tables: &mut [u32]) -> Solver
+        requires { FreshRoom limits.variables (length a.old) (length b.old) (length tables.old) }
+        ensures counters { result ≡ counters limits }
+        ensures holds { Holds (counters limits) a.new b.new tables.new fresh }
     {
         a.fill(0);
         b.fill(0);
         tables.fill(0);
         store_builtins(&mut a[..64], &mut b[..64]);
         Solver {
-            variables,
-            nodes,
+            variables: limits.variables,
+            nodes: limits.nodes,
             issued: 0,
             revision: 0,
             kept: 0,

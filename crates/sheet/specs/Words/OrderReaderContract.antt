@@ -15,9 +15,9 @@ use Rattle.sheet.specs.Words.FieldsHeld.{HeldFields}
 use Rattle.sheet.specs.Words.OrderGiven.{FitsLayout}
 use Rattle.sheet.specs.Words.FieldLayout.{all_items, Free, Spots, spares}
 
--- there is room for the rules of an order: one for two of n nodes, or as many as there are where one byte says how many
+-- there is room for the rules of an order: as many as n nodes hold, which are two or more for each, or as many as there are where one byte says how many
 abbrev pub RulesRoom : (s : List ℕ) (ws : List Rule) → ℕ → Type 0
-RulesRoom s ws n = (n ≤ 2 * length ws) ⊎ ((get_or s 1 0 < 128) × (get_or s 1 0 ≤ length ws))
+RulesRoom s ws n = (n ≤ 2 * length ws + 1) ⊎ ((get_or s 1 0 < 128) × (get_or s 1 0 ≤ length ws))
 
 -- The bytes are not too many, and the areas hold nothing from `top` on. `kept` nodes are kept; for each more, up to the limit, there is room for six tokens,
 -- and for eight in all besides, and for its rules where it may have some (its first byte is 20).

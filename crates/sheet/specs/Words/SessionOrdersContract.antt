@@ -8,7 +8,7 @@ use Rattle.solver.specs.TermTypes.{Rule}
 use Rattle.sheet.specs.declared.VariableOrder.{VariableOrder}
 use Rattle.sheet.specs.declared.VariableOrder.TheVariants.{Slot, Number, Hole}
 use Rattle.sheet.specs.declared.TermlessOrder.{TermlessOrder}
-use Rattle.sheet.specs.declared.TermlessOrder.TheVariants.{Variable, Defaults, Revision, NoType}
+use Rattle.sheet.specs.declared.TermlessOrder.TheVariants.{Variable, Defaults, Revision, Refused}
 use Rattle.solver.specs.Terms.Term.{Term, var}
 use Rattle.solver.specs.Constrain.{resolved}
 use Rattle.solver.specs.Session.{Session}
@@ -21,7 +21,7 @@ use Rattle.sheet.specs.declared.FieldSpots.{FieldSpots}
 use Rattle.sheet.specs.Fields.{Field}
 use Rattle.sheet.specs.OrderTable.{Row, command_of}
 use Rattle.sheet.specs.Sheet.{Step, framed}
-use Rattle.sheet.specs.Words.FramingContract.{Output, Wrote, Framed}
+use Rattle.sheet.specs.Words.FramingContract.{Output, Wrote, order_refusal, Framed}
 use Rattle.sheet.specs.Words.OrderGiven.{Given}
 
 -- what the solver is lent: its counters, the tokens and the table
@@ -69,7 +69,7 @@ abbrev pub termless_command : TermlessOrder → Command
 termless_command (Variable o) = variable_command o
 termless_command (Defaults b) = defaults_by b
 termless_command Revision = revision
-termless_command NoType = unread 13
+termless_command (Refused why) = unread (order_refusal why)
 
 -- An order that poses a pair done. Where a variable was bound, the session after it is held by all of the tokens. Else the counters and the table are as they were: nothing was
 -- bound, and the session is the same, or the answer does not fit.

@@ -1,5 +1,6 @@
 -- A session alone in the areas that the solver is lent.
 use Rattle.std.specs.Prelude.{List, ℕ, ◌+◌, ◌*◌, ◌^◌, ◌≤◌, ◌<◌, take, drop}
+use Rattle.solver.specs.declared.Limits.{Limits}
 use Rattle.solver.specs.declared.Solver.{Solver}
 use Rattle.solver.specs.Session.{Session}
 use Rattle.solver.specs.Words.SessionRepresentation.{Represents}
@@ -14,8 +15,8 @@ pub record Holds (x : Solver) (a b ts : List ℕ) (s : Session) : Type 0 where
   pub blank : Zero (drop (pending_from x) ts)
 
 -- the counters of a fresh session: the 32 builtins take 64 tokens
-abbrev pub counters : ℕ → ℕ → Solver
-counters variables nodes = record { variables = variables; nodes = nodes; issued = 0; revision = 0; kept = 0; top = 64 }
+abbrev pub counters : Limits → Solver
+counters limits = record { variables = limits.variables; nodes = limits.nodes; issued = 0; revision = 0; kept = 0; top = 64 }
 
 -- the words of a table: its columns, and two for each pair that can be pending
 abbrev pub table_words : Solver → ℕ

@@ -205,7 +205,7 @@ RulesFit ws (named ps) = Unit {0}
 RulesFit ws (listed ts) = Unit {0}
 RulesFit ws (ruled rs) = length rs ≤ length ws
 
-rules_fit : (ws : List Rule) (f : Field) → nodes f ≤ 2 * length ws → RulesFit ws f
+rules_fit : (ws : List Rule) (f : Field) → nodes f ≤ 2 * length ws + 1 → RulesFit ws f
 unfolding nodes
 rules_fit ws (value n) h = tt
 rules_fit ws (bounded b n) h = tt
@@ -363,7 +363,7 @@ plain_fit ws (a ∷ l) [] p h i = absurd h
 plain_fit ws (a ∷ l) (f ∷ fs) p h zero = rules_none ws a f p.0 h.0
 plain_fit ws (a ∷ l) (f ∷ fs) p h (suc i) = plain_fit ws l fs p.1 h.1 i
 
-pub rules_room : (ws : List Rule) (fs : List Field) → all_nodes fs ≤ 2 * length ws → (i : ℕ) → RulesFit ws (nth i fs)
+pub rules_room : (ws : List Rule) (fs : List Field) → all_nodes fs ≤ 2 * length ws + 1 → (i : ℕ) → RulesFit ws (nth i fs)
 rules_room ws fs h i = rules_fit ws (nth i fs) (omega (arith, nth_nodes fs i))
 
 pub spots_held : (ks vs s : List ℕ) (ws : List Rule) (a : ℕ) (o : FieldSpots) (fs : List Field) → Spots s ws a o fs → ((i : ℕ) → RulesFit ws (nth i fs)) → ((i : ℕ) → FollowedBy (nth i fs) (nth (suc i) fs))

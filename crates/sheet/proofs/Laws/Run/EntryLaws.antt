@@ -42,7 +42,7 @@ roomy_same v k la lb lr lt ld R =
 
 -- 16,384 words do for 512 variables and 2,048 nodes
 pub roomy_box : (a b c d : List ℕ) → 16384 ≤ length a → 16384 ≤ length b → 16384 ≤ length c → 16384 ≤ length d
-    → AreasSuffice (counters 512 2048) 16384 (areas (take 16384 a) (take 16384 b) (take 8192 (take 16384 c)) (drop 8192 (take 16384 c)) (take 16384 d))
+    → AreasSuffice (counters (record { variables = 512; nodes = 2048 })) 16384 (areas (take 16384 a) (take 16384 b) (take 8192 (take 16384 c)) (drop 8192 (take 16384 c)) (take 16384 d))
 roomy_box a b c d ha hb hc hd =
     let all : length (take 16384 c) ≡ 16384 = length-take-le 16384 c hc in
     let front : length (take 8192 (take 16384 c)) ≡ 8192 = length-take-le 8192 (take 16384 c) (omega arith) in

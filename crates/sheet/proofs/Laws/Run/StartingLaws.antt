@@ -3,6 +3,7 @@ use mathlib.Core.Path.{◌≡◌}
 use mathlib.Core.List.{List}
 use Prim.Native.Nat.{ℕ}
 use native.Mathlib.Omega.{arith}
+use Rattle.solver.specs.declared.Limits.{Limits}
 use Rattle.solver.specs.declared.Solver.{Solver}
 use Rattle.solver.specs.Session.{fresh}
 use Rattle.solver.specs.Words.SessionsContract.{Holds, counters}
@@ -10,9 +11,9 @@ use Rattle.solver.specs.Words.Worklist.{Zero}
 use Rattle.sheet.specs.Words.SessionInAreas.{areas, RepresentsInAreas}
 
 -- the records and d were cleared, and the solver has a fresh session in a, b and the table
-pub lays_fresh : (variables nodes : ℕ) (x : Solver) (a b r t d : List ℕ) → x ≡ counters variables nodes → Zero r → Zero d → Holds (counters variables nodes) a b t fresh
+pub lays_fresh : (limits : Limits) (x : Solver) (a b r t d : List ℕ) → x ≡ counters limits → Zero r → Zero d → Holds (counters limits) a b t fresh
     → RepresentsInAreas x (areas a b r t d) fresh
-lays_fresh variables nodes x a b r t d e v w H =
+lays_fresh limits x a b r t d e v w H =
     rw e
     (record {
       represents = H.represents;

@@ -4,11 +4,11 @@ use Rattle.solver.specs.Words.MethodContract.{request_held}
 use Rattle.sheet.proofs.Laws.Answering.TermlessLaws.{no_low, no_high, with_both}
 use Rattle.sheet.proofs.plain_orders.requested_range.Goals as goal
 
-pub returns-in_err-least : goal.returns-in_err-least
-returns-in_err-least c = ap request_held c.from_residual.ensures ∙ no_low _ _ _ c.in_err-least.ensures
+pub returns-in_err-bound_at : goal.returns-in_err-bound_at
+returns-in_err-bound_at c = ap request_held c.from_residual.ensures ∙ no_low _ _ _ c.in_err-bound_at.ensures
 
-pub returns-in_err-greatest : goal.returns-in_err-greatest
-returns-in_err-greatest c = ap request_held c.from_residual-in_err-greatest.ensures ∙ no_high _ _ _ c.in_err-greatest.ensures
+pub returns-in_err-bound_at-2 : goal.returns-in_err-bound_at-2
+returns-in_err-bound_at-2 c = ap request_held c.from_residual-in_err-bound_at-2.ensures ∙ no_high _ _ _ c.in_err-bound_at-2.ensures
 
 pub returns : goal.returns
-returns c = c.range_request.ensures ∙ with_both _ _ _ _ _ c.in_ok-least.ensures c.in_ok-greatest.ensures
+returns c = c.range_request.ensures ∙ with_both _ _ _ _ _ c.in_ok-bound_at.ensures c.in_ok-bound_at-2.ensures

@@ -8,4 +8,4 @@ pub returns : goal.returns
 returns c =
     let a = c.args in
     let e = c.fresh.ensures in
-    (e.counters, lays_fresh _ _ _ _ _ _ _ _ e.counters (zero_cleared c.fill.new.self (length a.records.now) (c.fill.ensures.after (λ y h. h))) (zero_cleared c.fill-2.new.self (length a.d.now) (c.fill-2.ensures.after (λ y h. h))) e.holds)
+    (e.counters, lays_fresh _ _ _ _ _ _ _ e.counters (zero_cleared c.fill.new.self (length a.records.now) (c.fill.ensures.after (λ y h. h))) (zero_cleared c.fill-2.new.self (length a.d.now) (c.fill-2.ensures.after (λ y h. h))) e.holds)

@@ -9,6 +9,7 @@ use lib.ListN.{length, get_or, set, take, drop, replicate, length-set, length-re
 use lib.Seq.{ext_get_or, length-take-le, take_at, drop_at}
 use Rattle.terms.specs.Words.Tokens.{spell, toks}
 use Rattle.terms.specs.Term.{node, end, num, Held}
+use Rattle.solver.specs.declared.Limits.{Limits}
 use Rattle.solver.specs.Session.{fresh}
 use Rattle.solver.specs.Words.ResolveFrames.{Cleared}
 use Rattle.solver.specs.Words.SessionRepresentation.{builtin_tokens, Represents}
@@ -79,16 +80,16 @@ tokens_held ks vs (suc n) h = builtins_more ks vs n (tokens_held ks vs n (λ c l
 
 -- ---- a fresh session
 
-pub holds_fresh : (variables nodes : ℕ) (ks vs a b ts : List ℕ) → length ks ≡ 64 → length vs ≡ 64
-    → ((i : ℕ) → i < 32 → Held ks vs (i + i) (node 4 (num i end))) → Zero a → Zero b → Zero ts → variables < 2 ^ 32 → 7 * variables ≤ length ts
-    → Holds (counters variables nodes) (ks ++ drop 64 a) (vs ++ drop 64 b) ts fresh
-holds_fresh variables nodes ks vs a b ts lk lv h za zb zt narrow room =
+pub holds_fresh : (limits : Limits) (ks vs a b ts : List ℕ) → length ks ≡ 64 → length vs ≡ 64
+    → ((i : ℕ) → i < 32 → Held ks vs (i + i) (node 4 (num i end))) → Zero a → Zero b → Zero ts → limits.variables < 2 ^ 32 → 7 * limits.variables ≤ length ts
+    → Holds (counters limits) (ks ++ drop 64 a) (vs ++ drop 64 b) ts fresh
+holds_fresh limits ks vs a b ts lk lv h za zb zt narrow room =
     record {
       represents = rw (take_at ks (drop 64 a) 64 lk, take_at vs (drop 64 b) 64 lv) held;
       kinds = rw (drop_at ks (drop 64 a) 64 lk) (zero_drop 64 a za);
       vals = rw (drop_at vs (drop 64 b) 64 lv) (zero_drop 64 b zb);
-      blank = zero_drop (7 * variables) ts zt;
+      blank = zero_drop (7 * limits.variables) ts zt;
     }
   where
-    held : Represents (counters variables nodes) ks vs ts fresh
-    held = lent_fresh (counters variables nodes) ks vs ts refl refl refl refl lk lv narrow room (tokens_held ks vs 32 h) zt
+    held : Represents (counters limits) ks vs ts fresh
+    held = lent_fresh (counters limits) ks vs ts refl refl refl refl lk lv narrow room (tokens_held ks vs 32 h) zt

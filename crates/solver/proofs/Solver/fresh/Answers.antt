@@ -22,7 +22,7 @@ returns-clause-holds c =
     let p = c.requires in
     let la = c.store_builtins.auto.a ∙ front_long 64 c.fill.new.self a.a.now c.fill.auto.self p.kinds in
     let lb = c.store_builtins.auto.b ∙ front_long 64 c.fill-2.new.self a.b.now c.fill-2.auto.self p.vals in
-    holds_fresh _ _ _ _ c.fill.new.self c.fill-2.new.self _ la lb c.store_builtins.ensures
+    holds_fresh _ _ _ c.fill.new.self c.fill-2.new.self _ la lb c.store_builtins.ensures
     (zero_cleared c.fill.new.self (length a.a.now) (c.fill.ensures.after (λ y h. h)))
     (zero_cleared c.fill-2.new.self (length a.b.now) (c.fill-2.ensures.after (λ y h. h)))
     (zero_cleared c.fill-3.new.self (length a.tables.now) (c.fill-3.ensures.after (λ y h. h)))

@@ -11,7 +11,7 @@ unfolding request_of
 returns-then-not-at_most c = grind (arith, common_steps)
 
 pub returns-then-mask-eq0 : goal.returns-then-mask-eq0
-returns-then-mask-eq0 c = range_none _ _ _ _ (sym c.at_most.ensures ∙ c.if-not-at_most.false) c.range_mask-mask.ensures.0 c.if-mask-eq0.true
+returns-then-mask-eq0 c = range_none _ _ _ _ (sym c.at_most.ensures ∙ c.if-not-at_most.false) c.mask-mask.ensures.0 c.if-mask-eq0.true
 
 pub returns : goal.returns
-returns c = range_is _ _ _ _ c.args.fallback.listed (sym c.at_most.ensures ∙ c.if-not-at_most.false) c.range_mask-mask.ensures.0 c.if-mask-eq0.false
+returns c = range_is _ _ _ _ c.args.fallback.listed (sym c.at_most.ensures ∙ c.if-not-at_most.false) c.mask-mask.ensures.0 c.if-mask-eq0.false

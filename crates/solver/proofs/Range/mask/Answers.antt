@@ -1,7 +1,7 @@
--- `range_mask`. By the eight weights.
+-- `Range::mask`. By the eight weights.
 use borrow.Author.Rules.{rules}
 use Rattle.solver.specs.Families.{lowest, highest}
-use Rattle.solver.proofs.ranges.range_mask.Goals as goal
+use Rattle.solver.proofs.Range.mask.Goals as goal
 
 pub returns : goal.returns
 unfolding lowest highest
