@@ -1,23 +1,25 @@
 -- Two rows walked in step: what is left of both tells whether their shapes agree.
 use mathlib.Core.Bool.{Bool, true, false, not, ◌&&◌, ◌||◌}
-use mathlib.Core.List.{List, [], ◌∷◌, ◌++◌}
+use mathlib.Core.List.{List, ◌∷◌}
 use mathlib.Core.Logic.{◌⊎◌, inl, inr}
 use mathlib.Core.Path.{◌≡◌, refl, sym, ap, ap₂, ◌∙◌}
 use Prim.Native.Nat.{ℕ, suc, ◌+◌, ◌≤◌, ◌<◌}
-use native.Mathlib.Decide.{ℕ_discrete, dec_lt, dec_le}
+use native.Mathlib.Decide.{ℕ_discrete, dec_le}
 use native.Mathlib.Omega.{arith}
 use borrow.Author.Tests.{eq-eqb, ne_eqb, eqb-true}
 use lib.Dec.{eqb}
 use lib.ListN.{length, get_or}
 use Rattle.terms.specs.Result.{pick}
 use Rattle.terms.specs.Term.{Term, Parts, node, end, num, sub, items, Held}
+use Rattle.terms.specs.declared.Part.{Part}
 use Rattle.terms.specs.Words.Held.{HeldParts, span}
+use Rattle.terms.specs.Words.PairsContract.{Unlike, no_left, no_right, number_term, term_number}
 use Rattle.terms.specs.Tree.{nums, subs, same, same_rows}
 use Rattle.terms.proofs.Laws.General.Bools.{never_true, never_false}
 use Rattle.terms.proofs.Laws.Held.HeldLaws.{head_kind, span_one, span_is, items_some, held_first, held_node, row_end, row_num, row_sub, end_ends}
 use Rattle.solver.specs.Shapes.{Notion, loose, exact, blank_row, blank, unmarked, read, same_shape}
 use Rattle.solver.specs.Shapes.{notion}
-use Rattle.solver.specs.Words.PendingContract.{places, agree, here, PartEnd}
+use Rattle.solver.specs.Words.PendingContract.{agree, PartEnd}
 use Rattle.solver.proofs.Laws.Resolving.AskLaws.{two_up}
 
 -- the shapes of two rows agree; where it is free, a number that begins the row does not count
@@ -34,7 +36,7 @@ unfolding like_rows blank_row unmarked same
 like_num true n m ps qs = refl
 like_num false n m ps qs = refl
 
-like_sub : (f : Bool) (t u : Term) (ps qs : Parts) → like_rows f (sub t ps) (sub u qs) ≡ like_rows false ps qs
+pub like_sub : (f : Bool) (t u : Term) (ps qs : Parts) → like_rows f (sub t ps) (sub u qs) ≡ like_rows false ps qs
 unfolding like_rows blank_row unmarked same
 like_sub true t u ps qs = refl
 like_sub false t u ps qs = refl
@@ -94,6 +96,9 @@ shape_like n k j ps qs h = go (ℕ_discrete k j)
     go (yes e) = (e, sym (shape_node n k ps qs) ∙ ap (λ (x : ℕ). same_shape n (node k ps) (node x qs)) e ∙ h)
     go (no e) = never_false (sym h ∙ shape_other n k j ps qs e)
 
+pub like_num_rest : (f : Bool) (n m : ℕ) (ps qs : Parts) → like_rows f (num n ps) (num m qs) ≡ true → like_rows false ps qs ≡ true
+like_num_rest f n m ps qs h = (and_split (f || eqb n m) (like_rows false ps qs) (sym (like_num f n m ps qs) ∙ h)).1
+
 -- rows that agree have as many terms; and the same numbers, but for the first
 pub like_subs : (f : Bool) (ps qs : Parts) → like_rows f ps qs ≡ true → length (subs ps) ≡ length (subs qs)
 unfolding subs
@@ -141,18 +146,9 @@ pub record PartAt (ks vs : List ℕ) (i e : ℕ) (ps : Parts) : Type 0 where
   pub held : HeldParts ks vs (i + span (get_or ks i 0) (get_or vs i 0)) e rest
   pub some : 1 ≤ span (get_or ks i 0) (get_or vs i 0)
   pub is : ((get_or ks i 0 ≡ 0) × (ps ≡ num (get_or vs i 0) rest)) ⊎ ((get_or ks i 0 ≡ 0 → ⊥) × (t : Term) × (ps ≡ sub t rest))
-  pub places : places i ps ≡ here (get_or ks i 0) i ++ places (i + span (get_or ks i 0) (get_or vs i 0)) rest
 
 pub term_span : (ks vs : List ℕ) (p : ℕ) (t : Term) → Held ks vs p t → span (get_or ks p 0) (get_or vs p 0) ≡ length (items t)
 term_span ks vs p t h = let f = held_first ks vs p t h in ap₂ span f.0 f.1 ∙ span_is t
-
-places_num : (ks : List ℕ) (i n : ℕ) (ps r : Parts) → get_or ks i 0 ≡ 0 → ps ≡ num n r → places i ps ≡ here (get_or ks i 0) i ++ places (i + 1) r
-unfolding places here
-places_num ks i n ps r k e = rw (e, k)
-
-places_sub : (ks : List ℕ) (i : ℕ) (t : Term) (ps r : Parts) → (get_or ks i 0 ≡ 0 → ⊥) → ps ≡ sub t r → places i ps ≡ here (get_or ks i 0) i ++ places (i + length (items t)) r
-unfolding places here
-places_sub ks i t ps r k e = rw (e, ne_eqb (get_or ks i 0) 0 k)
 
 pub row_part : (ks vs : List ℕ) (i e : ℕ) (ps : Parts) → HeldParts ks vs i e ps → i < e → PartAt ks vs i e ps
 row_part ks vs i e ps h l = go (ℕ_discrete (get_or ks i 0) 0)
@@ -161,11 +157,11 @@ row_part ks vs i e ps h l = go (ℕ_discrete (get_or ks i 0) 0)
     go (yes k) =
         let q = row_num ks vs i e ps h l k in
         let s = span_one (get_or ks i 0) (get_or vs i 0) (omega arith) in
-        record { rest = q.1; held = rw s q.4; some = omega arith; is = inl (k, rw q.3 q.2); places = rw s (places_num ks i q.0 ps q.1 k q.2) }
+        record { rest = q.1; held = rw s q.4; some = omega arith; is = inl (k, rw q.3 q.2) }
     go (no k) =
         let q = row_sub ks vs i e ps h l k in
         let s = term_span ks vs i q.0 q.3 in
-        record { rest = q.1; held = rw s q.4; some = omega (arith, s, items_some q.0); is = inr (k, q.0, q.2); places = rw s (places_sub ks i q.0 ps q.1 k q.2) }
+        record { rest = q.1; held = rw s q.4; some = omega (arith, s, items_some q.0); is = inr (k, q.0, q.2) }
 
 -- where a part ends
 pub part_end : (ks vs : List ℕ) (i e r : ℕ) (ps : Parts) → PartEnd ks vs i e r → (p : PartAt ks vs i e ps) → r ≡ i + span (get_or ks i 0) (get_or vs i 0)
@@ -195,29 +191,24 @@ module _ (ks vs : List ℕ) (i ae j be : ℕ) (f : Bool) (ps qs : Parts) (p : Pa
       go (inr x) (inl y) = rw (y.0, ne_eqb (get_or ks i 0) 0 x.0) (ap₂ (like_rows f) x.2 y.1 ∙ like_sub_num f x.1 (get_or vs j 0) p.rest q.rest)
       go (inr x) (inr y) = rw (ne_eqb (get_or ks i 0) 0 x.0, ne_eqb (get_or ks j 0) 0 y.0) (ap₂ (like_rows f) x.2 y.2 ∙ like_sub f x.1 y.1 p.rest q.rest)
 
-  -- where the shapes agree, a term stands against a term
-  pub like_kinds : like_rows f ps qs ≡ true → (l : ℕ) → here (get_or ks j 0) l ≡ here (get_or ks i 0) l
-  unfolding agree here
-  like_kinds h l = go (eqb (get_or ks i 0) 0) (eqb (get_or ks j 0) 0) (and_split (agree f (get_or ks i 0) (get_or vs i 0) (get_or ks j 0) (get_or vs j 0)) (like_rows false p.rest q.rest) (sym like_step ∙ h)).0
-    where
-      go : (a b : Bool) → pick a (b && (f || eqb (get_or vs i 0) (get_or vs j 0))) (not b) ≡ true → pick b [] (l ∷ []) ≡ pick a [] (l ∷ [])
-      go true true e = refl
-      go true false e = never_true e
-      go false true e = never_true e
-      go false false e = refl
+-- ---- two rows that go on with different things
 
-  pub like_rest : like_rows f ps qs ≡ true → like_rows false p.rest q.rest ≡ true
-  like_rest h = (and_split (agree f (get_or ks i 0) (get_or vs i 0) (get_or ks j 0) (get_or vs j 0)) (like_rows false p.rest q.rest) (sym like_step ∙ h)).1
+goes_on : {ks vs : List ℕ} {i e : ℕ} {ps : Parts} → HeldParts ks vs i e ps → i < e → ps ≡ end → ⊥
+goes_on {ks} {vs} {i} {e} h l z = omega (arith, end_ends ks vs i e (rw z at h))
 
--- a row that agrees with one that goes on goes on
-pub like_more : (ks vs : List ℕ) (i ae j be : ℕ) (f : Bool) (ps qs : Parts) → HeldParts ks vs i ae ps → HeldParts ks vs j be qs → i < ae → like_rows f ps qs ≡ true → j < be
-like_more ks vs i ae j be f ps qs hp hq l h = go (dec_lt j be)
-  where
-    go : Dec (j < be) → j < be
-    go (yes x) = x
-    go (no x) =
-        let e = row_end ks vs j be qs hq (omega arith) in
-        never_false (sym h ∙ ap (like_rows f ps) e ∙ like_long f ps (λ z. omega (arith, end_ends ks vs i ae (rw z at hp))))
+pub unlike_rows : {ks vs : List ℕ} {a b : Part} (f : Bool) {ps qs : Parts} → HeldParts ks vs a.from a.end ps → HeldParts ks vs b.from b.end qs → Unlike ks a b
+    → like_rows f ps qs ≡ false
+unlike_rows {ks} {vs} {a} {b} f {ps} {qs} hp hq (no_left h k) =
+    ap (λ (l : Parts). like_rows f l qs) (row_end ks vs a.from a.end ps hp h) ∙ like_short f qs (goes_on hq k)
+unlike_rows {ks} {vs} {a} {b} f {ps} {qs} hp hq (no_right h k) = ap (like_rows f ps) (row_end ks vs b.from b.end qs hq k) ∙ like_long f ps (goes_on hp h)
+unlike_rows {ks} {vs} {a} {b} f {ps} {qs} hp hq (number_term h k m n) =
+    let p = row_num ks vs a.from a.end ps hp h m in
+    let q = row_sub ks vs b.from b.end qs hq k n in
+    ap₂ (like_rows f) p.2 q.2 ∙ like_num_sub f p.0 q.0 p.1 q.1
+unlike_rows {ks} {vs} {a} {b} f {ps} {qs} hp hq (term_number h k m n) =
+    let p = row_sub ks vs a.from a.end ps hp h m in
+    let q = row_num ks vs b.from b.end qs hq k n in
+    ap₂ (like_rows f) p.2 q.2 ∙ like_sub_num f p.0 q.0 p.1 q.1
 
 -- ---- the walk of `same_shape`
 
@@ -238,9 +229,6 @@ Tells ks vs a ae b be f₀ r = (ps qs : Parts) → HeldParts ks vs (a + 1) ae ps
 
 module _ {ks vs : List ℕ} (a : ℕ) {ae : ℕ} (b : ℕ) {be : ℕ} {f₀ : Bool} where
   module _ {i j : ℕ} {f : Bool} (w : Walks ks vs a ae b be f₀ i j f) where
-    goes_on : (h e : ℕ) (ps : Parts) → HeldParts ks vs h e ps → h < e → ps ≡ end → ⊥
-    goes_on h e ps x l z = omega (arith, end_ends ks vs h e (rw z at x))
-
     pub walks_over : ae ≤ i → {r : Bool} → (be ≤ j → r ≡ true) → (j < be → r ≡ false) → Tells ks vs a ae b be f₀ r
     walks_over h {r} y n ps qs hp hq =
         let x = w ps qs hp hq in
@@ -249,13 +237,13 @@ module _ {ks vs : List ℕ} (a : ℕ) {ae : ℕ} (b : ℕ) {be : ℕ} {f₀ : Bo
       where
         go : (x : Walking ks vs i ae j be f₀ ps qs f) → like_rows f₀ ps qs ≡ like_rows f end x.right → Dec (be ≤ j) → r ≡ like_rows f₀ ps qs
         go x e (yes l) = y l ∙ sym (e ∙ ap (like_rows f end) (row_end ks vs j be x.right x.held_right l) ∙ like_end f)
-        go x e (no l) = n (omega arith) ∙ sym (e ∙ like_short f x.right (goes_on j be x.right x.held_right (omega arith)))
+        go x e (no l) = n (omega arith) ∙ sym (e ∙ like_short f x.right (goes_on x.held_right (omega arith)))
 
     module _ (li : i < ae) where
       pub walks_short : be ≤ j → Tells ks vs a ae b be f₀ false
       walks_short h ps qs hp hq =
           let x = w ps qs hp hq in
-          sym (x.like ∙ ap (like_rows f x.left) (row_end ks vs j be x.right x.held_right h) ∙ like_long f x.left (goes_on i ae x.left x.held_left li))
+          sym (x.like ∙ ap (like_rows f x.left) (row_end ks vs j be x.right x.held_right h) ∙ like_long f x.left (goes_on x.held_left li))
 
       module _ (lj : j < be) where
         pub walks_apart : agree f (get_or ks i 0) (get_or vs i 0) (get_or ks j 0) (get_or vs j 0) ≡ false → Tells ks vs a ae b be f₀ false
