@@ -74,19 +74,21 @@ pub fn same_shape(tokens: &Tokens, a: usize, b: usize, access: Access) -> bool
     }
     let x = row_of(tokens, a);
     let y = row_of(tokens, b);
-    let mut i = x.from;
-    let mut j = y.from;
     let mut counts = access_of(tokens.kinds[a], access);
-    // Both rows go on by the width of their own parts. An iterator over two takes numbers and terms apart; here one test is for both, another for the first.
-    while i < x.end {
-        if y.end <= j || !parts_agree(tokens, i, j, counts) {
-            return false;
+    for step in walk_pair(tokens, x, y) {
+        match step {
+            // `parts_agree` looks at the kinds again. By `counts` and the values alone a sheet of deep terms took 3 percent more instructions.
+            PairStep::Numbers(i, j) => {
+                if !parts_agree(tokens, i, j, counts) {
+                    return false;
+                }
+            }
+            PairStep::Terms(_, _) => {}
+            PairStep::Apart => return false,
         }
-        i = part_end(tokens, i, x.end);
-        j = part_end(tokens, j, y.end);
         counts = Access::Compared;
     }
-    y.end <= j
+    true
 }
 
 // Where the first number of a row stands.
