@@ -81,8 +81,8 @@ pub struct Counted {
 
 // The counters of a session, with its limits: at most `variables` variables and `nodes` kept nodes. So far `issued` variables, `revision`
 // bindings, `kept` nodes, and `top` tokens in use.
-// `Shaped` says of the counters alone that `issued` is at most `variables`, and that this is below 2 ^ 32. As ghost fields both would be asked by `revision` and
-// `standing`, too, which take any counters; and no function may ask more than it does.
+// `Shaped` says of the counters alone that `issued` is at most `variables`, and that this is below 2 ^ 32. As ghost fields both would be asked by `revision`
+// and `standing`, too, which take any counters; and no function may ask more than it does.
 #[derive(Clone, Copy)]
 pub struct Solver {
     pub variables: usize,

@@ -1,9 +1,9 @@
 // The pending pairs of `constrain`: whether two nodes have the same shape, and their children put on in pairs. Pair j stands in the words
 // 2j and 2j + 1. The words and the count are lent side by side, for the reason at `Table` in lib.rt.
 // Kinds are numbers: the line in kinds.rt of terms says why.
-// A place is put on as a word, so `push_range`, `push_children` and, for them, `same_shape` ask that the tokens are fewer than 2 ^ 32. `bind`, `bindings`,
-// `decompose` and `union_classes` ask it, too. It is no fact of `Tokens`, since terms may be written from areas of any length; `Bindings` has it as a fact, but
-// with words of variables, which these functions do not look at.
+// A place is put on as a word, so `push_range` and `push_children` ask that the tokens are fewer than 2 ^ 32, and `same_shape` asks it beside them; `bind`,
+// `bindings`, `decompose` and `union_classes` ask it, too. It is no fact of `Tokens`, since terms may be written from areas of any length. `Bindings` has it
+// as a fact, but with words of variables, which these functions do not look at.
 ghost use Rattle.std.specs.Prelude.{Some, unwrap_or, ◌≡◌, [], ◌∷◌, not, ◌&&◌, ◌||◌, ℕ, ◌+◌, ◌*◌, ◌^◌, ◌≤◌, ◌<◌, eqb, length, get_or};
 ghost use Rattle.terms.specs.Term.{Parts, node, Held};
 ghost use Rattle.terms.specs.Words.Held.{HeldParts};
