@@ -20,9 +20,10 @@ ghost use Rattle.solver.specs.Words.CongruenceClasses.{Fair, Outcome};
 ghost use Rattle.solver.specs.Words.CongruenceClasses.{Closed, TermsJoined, RowsJoined};
 
 use super::Bindings;
+use super::pending::row_of;
 use super::reach::clear_queue;
 use super::top::shallow_resolve;
-use terms::{PairStep, Part, term_part, walk_pair};
+use terms::{PairStep, Part, walk_pair};
 
 // The root of the class of a.
 fn find(links: &[u32], a: usize) -> usize
@@ -161,10 +162,8 @@ fn union_parts(
         → HeldBy bindings.now y (node l qs)
         → RowsJoined bindings.now b links.old links.new result ps qs }
 {
-    let mut a = term_part(&bindings.tokens, x);
-    let mut b = term_part(&bindings.tokens, y);
-    a.from += 1;
-    b.from += 1;
+    let a = row_of(&bindings.tokens, x);
+    let b = row_of(&bindings.tokens, y);
     union_rows(bindings, a, b, links, queue, top)
 }
 

@@ -56,8 +56,8 @@ pub struct Bindings<'a> {
     ghost narrow: { length tokens.kinds.now < 2 ^ 32 },
 }
 
-// The table as it is read: its words, in columns of a word for each of so many variables. The functions that write it are lent the words as they are: see
-// `store.rt` of terms.
+// The table as it is read: its words, in columns of a word for each of so many variables. The functions that write it are lent the words as they are: a
+// struct with a `&mut` that is lent on may come back with another slice in it ("How are the tokens lent?" in docs/DECISIONS.md).
 #[derive(Clone, Copy)]
 pub struct Table<'a> {
     pub words: &'a [u32],
@@ -88,6 +88,8 @@ pub struct Limits {
 
 // The counters of a session, with its limits: at most `variables` variables and `nodes` kept nodes. So far `issued` variables, `revision`
 // bindings, `kept` nodes, and `top` tokens in use.
+// `Shaped` says of the counters alone that `issued` is at most `variables`, and that this is below 2 ^ 32. As ghost fields both would be asked by `revision`
+// and `standing`, too, which take any counters; and no function may ask more than it does.
 #[derive(Clone, Copy)]
 pub struct Solver {
     pub variables: usize,
@@ -179,7 +181,8 @@ pub struct Builtin {
     ghost listed: { code < 32 },
 }
 
-// What is requested of a number variable, by the word that the table has for it.
+// What is requested of a number variable, by the word that the table has for it: `plain_request` and `range_request` make it, and `numeric_variable` stores it,
+// so an enum would be made a word at once.
 #[derive(Clone, Copy, Debug, PartialEq, Eq)]
 pub struct NumberRequest {
     pub word: u32,
@@ -221,6 +224,8 @@ impl From<Verdict> for u8 {
 }
 
 // The solver after a pair, and what came of it. The counters go in and come back by value (document 01), so in this and the next two a part stands beside them.
+// This, `Issue` and `AfterOrder` of sheet could be one generic struct, which saves six lines: but `verdict`, `answer` and `next` say in the clauses what stands
+// there, where each would have `value`.
 #[derive(Clone, Copy)]
 pub struct Solved {
     pub solver: Solver,

@@ -1,16 +1,18 @@
 // The pending pairs of `constrain`: whether two nodes have the same shape, and their children put on in pairs. Pair j stands in the words
-// 2j and 2j + 1. The words and the count are lent side by side: `store.rt` of terms says why no struct holds a `&mut` that is lent on.
+// 2j and 2j + 1. The words and the count are lent side by side, for the reason at `Table` in lib.rt.
 // Kinds are numbers: the line in kinds.rt of terms says why.
-// That the tokens are fewer than 2 ^ 32 is a fact of `Bindings`, and a clause of what looks at tokens alone: it is lent no words of variables for that.
+// A place is put on as a word, so `push_range` and `push_children` ask that the tokens are fewer than 2 ^ 32, and `same_shape` asks it beside them; `bind`,
+// `bindings`, `decompose` and `union_classes` ask it, too. It is no fact of `Tokens`, since terms may be written from areas of any length. `Bindings` has it
+// as a fact, but with words of variables, which these functions do not look at.
 ghost use Rattle.std.specs.Prelude.{Some, unwrap_or, ◌≡◌, [], ◌∷◌, not, ◌&&◌, ◌||◌, ℕ, ◌+◌, ◌*◌, ◌^◌, ◌≤◌, ◌<◌, eqb, length, get_or};
 ghost use Rattle.terms.specs.Term.{Parts, node, Held};
 ghost use Rattle.terms.specs.Words.Held.{HeldParts};
 ghost use Rattle.terms.specs.Tree.{nums, children};
 ghost use Rattle.solver.specs.Shapes.{notion, same_shape};
-ghost use Rattle.solver.specs.Words.PendingContract.{strict_of, Laid, Taken, places, PushedPairs, Twins, agree, here, window, PartEnd, NumberAt};
+ghost use Rattle.solver.specs.Words.PendingContract.{strict_of, Laid, Taken, places, PushedPairs, Twins, agree, window, PartEnd, NumberAt};
 
 use super::{Access, Counted, PairAt};
-use terms::{Part, Tokens, skip};
+use terms::{PairStep, Part, Tokens, skip, walk_pair};
 
 // Where the part at i ends, or end where it would go past it.
 pub fn part_end(tokens: &Tokens, i: usize, end: usize) -> usize
@@ -72,19 +74,21 @@ pub fn same_shape(tokens: &Tokens, a: usize, b: usize, access: Access) -> bool
     }
     let x = row_of(tokens, a);
     let y = row_of(tokens, b);
-    let mut i = x.from;
-    let mut j = y.from;
     let mut counts = access_of(tokens.kinds[a], access);
-    // Both rows go on by the width of their own parts. An iterator over two takes numbers and terms apart; here one test is for both, another for the first.
-    while i < x.end {
-        if y.end <= j || !parts_agree(tokens, i, j, counts) {
-            return false;
+    for step in walk_pair(tokens, x, y) {
+        match step {
+            // `parts_agree` looks at the kinds again. By `counts` and the values alone a sheet of deep terms took 3 percent more instructions.
+            PairStep::Numbers(i, j) => {
+                if !parts_agree(tokens, i, j, counts) {
+                    return false;
+                }
+            }
+            PairStep::Terms(_, _) => {}
+            PairStep::Apart => return false,
         }
-        i = part_end(tokens, i, x.end);
-        j = part_end(tokens, j, y.end);
         counts = Access::Compared;
     }
-    y.end <= j
+    true
 }
 
 // Where the first number of a row stands.
@@ -95,8 +99,7 @@ pub fn number_from(tokens: &Tokens, row: Part) -> Option<usize>
         → NumberAt tokens.now.kinds.now tokens.now.vals.now (unwrap_or result row.end) row.end ps }
 {
     let mut i = row.from;
-    // A step is as wide as what stands there. A `RowWalk` could go here, but what it ensures is told of the area that is seen, and `NumberAt` of parts held
-    // up to the end.
+    // A step is as wide as what stands there. A `RowWalk` would ask that the row ends below 2 ^ 32, which is not told here.
     while i < row.end {
         if tokens.kinds[i] == 0 {
             return Some(i);
@@ -147,25 +150,20 @@ pub fn take_pair(pending: &mut [u32], m: usize) -> PairAt
     PairAt { left, right }
 }
 
-// Puts the parts at i and j on as a pair, if they are terms and their index is from lo up to hi.
+// Puts the terms at i and j on as a pair, if their index is from lo up to hi.
 pub fn push_part(
     pending: &mut [u32],
     from: Counted,
-    kind: u32,
     i: usize,
     j: usize,
     lo: usize,
     hi: usize,
 ) -> Counted
-    requires room { 2 * (from.top + length (window lo hi from.child (here kind i))) ≤ length pending.old }
+    requires room { 2 * (from.top + length (window lo hi from.child (i ∷ []))) ≤ length pending.old }
     requires small { (from.child < 2 ^ 32) × (i < 2 ^ 32) × (j < 2 ^ 32) }
-    ensures child { result.child ≡ from.child + length (here kind i) }
-    ensures laid { Laid (window lo hi from.child (here kind i)) (window lo hi from.child (here kind j)) from.top pending.old pending.new
-        result.top }
+    ensures child { result.child ≡ from.child + 1 }
+    ensures laid { Laid (window lo hi from.child (i ∷ [])) (window lo hi from.child (j ∷ [])) from.top pending.old pending.new result.top }
 {
-    if kind == 0 {
-        return from;
-    }
     let mut top = from.top;
     if lo <= from.child && from.child < hi {
         top = put_pair(pending, top, i, j);
@@ -196,17 +194,14 @@ pub fn push_range(
 {
     let x = row_of(tokens, a);
     let y = row_of(tokens, b);
-    let mut i = x.from;
-    let mut j = y.from;
     let mut c = Counted {
         child: 0,
         top: count,
     };
-    // Both rows go on by the width of their own parts. An iterator over two rows would have a case for rows that differ, which these do not: it has no answer.
-    while i < x.end {
-        c = push_part(pending, c, tokens.kinds[i], i, j, lo, hi);
-        i = part_end(tokens, i, x.end);
-        j = part_end(tokens, j, y.end);
+    for step in walk_pair(tokens, x, y) {
+        if let PairStep::Terms(t, u) = step {
+            c = push_part(pending, c, t.from, u.from, lo, hi);
+        }
     }
     c.top
 }

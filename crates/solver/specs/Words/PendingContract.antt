@@ -71,20 +71,16 @@ pub record Twins (ks vs : List ℕ) (a b : ℕ) : Type 0 where
   pub held_right : Held ks vs b (node other right)
   pub alike : same_shape notion (node tag left) (node other right) ≡ true
 
+-- of a list whose first has the index c, those with an index from lo up to hi
+unfoldable pub window : ℕ → ℕ → ℕ → List ℕ → List ℕ
+window lo hi c [] = []
+window lo hi c (x ∷ l) = pick (leb lo c && ltb c hi) (x ∷ []) [] ++ window lo hi (suc c) l
+
 -- ---- two rows in step
 
 -- whether two parts agree, by the kinds and values of their first tokens: number against number, equal where it counts; term against term
 unfoldable pub agree : Bool → ℕ → ℕ → ℕ → ℕ → Bool
 agree free k v j w = pick (eqb k 0) (eqb j 0 && (free || eqb v w)) (not (eqb j 0))
-
--- the place of a part, if it is a term
-unfoldable pub here : ℕ → ℕ → List ℕ
-here k i = pick (eqb k 0) [] (i ∷ [])
-
--- of a list whose first has the index c, those with an index from lo up to hi
-unfoldable pub window : ℕ → ℕ → ℕ → List ℕ → List ℕ
-window lo hi c [] = []
-window lo hi c (x ∷ l) = pick (leb lo c && ltb c hi) (x ∷ []) [] ++ window lo hi (suc c) l
 
 -- the part at i ends before r, or the row does, where the part would not end in it
 pub record PartEnd (ks vs : List ℕ) (i e r : ℕ) : Type 0 where

@@ -1,28 +1,34 @@
 -- Children put on in pairs.
 use mathlib.Core.Bool.{Bool, true, false, ◌&&◌}
 use mathlib.Core.List.{List, [], ◌∷◌, ◌++◌, append-nil, append_assoc}
-use mathlib.Core.Logic.{◌⊎◌, inl, inr}
 use mathlib.Core.Path.{◌≡◌, refl, sym, ap, ap₂, ◌∙◌}
 use Prim.Native.Nat.{ℕ, zero, suc, ◌+◌, ◌-◌, ◌*◌, ◌≤◌, ◌<◌}
 use native.Mathlib.Decide.{ℕ_discrete, dec_lt}
 use native.Mathlib.Nat.{add-zero}
 use native.Mathlib.Omega.{arith}
 use borrow.Author.Tests.{lt-ltb, le-ltb, le-leb, lt-leb}
-use lib.Dec.{eqb, leb, ltb}
+use lib.Dec.{leb, ltb}
 use lib.ListN.{length, get_or, take, drop, length-append, length-take, length-drop, get_or-append}
 use lib.Seq.{get_or-append-add}
 use Rattle.terms.specs.Result.{pick}
 use Rattle.terms.specs.Term.{Term, Parts, node, end, num, sub, items, Held}
-use Rattle.terms.specs.Words.Held.{HeldParts, span}
+use Rattle.terms.specs.declared.Part.{Part}
+use Rattle.terms.specs.Words.Held.{HeldParts}
+use Rattle.terms.specs.declared.PairStep.{PairStep}
+use Rattle.terms.specs.declared.PairStep.TheVariants.{Numbers, Terms, Apart}
+use Rattle.std.specs.Prelude.{Some}
+use Rattle.terms.specs.Words.PairsContract.{NumberFirst, TermFirst, Unlike, Meets}
+use Rattle.terms.proofs.Laws.General.Bools.{never_false}
+use Rattle.terms.proofs.Laws.Held.PairLaws.{FirstTerm, first_number, row_term}
 use Rattle.terms.specs.Tree.{nums, row, tag, class, children}
 use Rattle.terms.proofs.Laws.Normalising.SlotLaws.{class_projection, class_plain as plain, class_nominal}
 use Rattle.terms.proofs.Laws.Held.HeldLaws.{items_some, held_node, held_num, held_sub, row_end, row_num, row_sub}
 use Rattle.solver.specs.Shapes.{same_shape, turned}
-use Rattle.solver.specs.Words.PendingContract.{Laid, places, pushed_places, PushedPairs, Twins, here, window, PartEnd, NumberAt}
+use Rattle.solver.specs.Words.PendingContract.{Laid, places, pushed_places, PushedPairs, Twins, window, PartEnd, NumberAt}
 use Rattle.solver.proofs.Laws.Equality.ClassesCoincide.{held_same}
 use Rattle.solver.proofs.Laws.Checks.RotateLaws.{places_length}
 use Rattle.solver.proofs.Laws.Checks.StackLaws.{pushed_pairs}
-use Rattle.solver.proofs.Laws.Checks.RowsInStepLaws.{like_rows, shape_like, like_subs, like_second, like_more, like_over, like_kinds, like_rest, PartAt, row_part, part_end, node_row, node_kind}
+use Rattle.solver.proofs.Laws.Checks.RowsInStepLaws.{like_rows, shape_like, like_subs, like_second, like_sub, like_num_rest, like_over, unlike_rows, term_span, node_row, node_kind}
 
 -- ---- one run of pairs after another
 
@@ -130,25 +136,23 @@ window_take n c (x ∷ l) = go (window_take n (suc c) l) (dec_lt c n)
 
 -- ---- one part
 
-here_size : (k i j : ℕ) → length (here k i) ≡ length (here k j)
-unfolding here
-here_size k i j = go (eqb k 0)
-  where
-    go : (b : Bool) → length (pick b [] (i ∷ [])) ≡ length (pick b [] (j ∷ []))
-    go true = refl
-    go false = refl
-
-here_few : (k i : ℕ) → length (here k i) ≤ 1
-unfolding here
-here_few k i = go (eqb k 0)
-  where
-    go : (b : Bool) → length (pick b [] (i ∷ [])) ≤ 1
-    go true = omega arith
-    go false = omega arith
-
 nothing : (lo hi c i : ℕ) → window lo hi c (places i end) ≡ []
 unfolding places
 nothing lo hi c i = window_none lo hi c
+
+places_num : (i c n : ℕ) (ps r : Parts) → ps ≡ num n r → c ≡ i + 1 → places i ps ≡ places c r
+unfolding places
+places_num i c n ps r e f = ap (places i) e ∙ ap (λ (k : ℕ). places k r) (sym f)
+
+places_sub : (i c : ℕ) (t : Term) (ps r : Parts) → ps ≡ sub t r → c ≡ i + length (items t) → places i ps ≡ i ∷ places c r
+unfolding places
+places_sub i c t ps r e f = ap (places i) e ∙ ap (λ (k : ℕ). i ∷ places k r) (sym f)
+
+window_term : (lo hi child : ℕ) {ks vs : List ℕ} {x s : Part} {c : ℕ} {ps : Parts} → TermFirst ks vs x s c → (p : FirstTerm ks vs ps s c x.end)
+    → window lo hi child (places x.from ps) ≡ window lo hi child (s.from ∷ []) ++ window lo hi (child + 1) (places c p.rest)
+window_term lo hi child {x = x} {s = s} {c = c} {ps = ps} g p =
+    ap (window lo hi child) (places_sub x.from c p.term ps p.rest p.is (omega (arith, g.0, g.4, p.wide)) ∙ ap (λ (k : ℕ). k ∷ places c p.rest) (sym g.0))
+    ∙ window_append lo hi child (s.from ∷ []) (places c p.rest)
 
 -- ---- the walk of `push_range`
 
@@ -160,14 +164,14 @@ places_few ks vs i e (num n ps) h = omega (arith, places_few ks vs (i + 1) e ps 
 places_few ks vs i e (sub t ps) h = omega (arith, places_few ks vs (i + length (items t)) e ps (held_sub ks vs i e t ps h).1, items_some t)
 
 -- the pairs done, and the rows that are left
-pub record Pushing (ks vs : List ℕ) (a ae b be lo hi count : ℕ) (ts₀ ts : List ℕ) (i j child top : ℕ) : Type 0 where
+pub record Pushing (ks vs : List ℕ) (a b lo hi count : ℕ) (ts₀ ts : List ℕ) (i ie j je child top : ℕ) : Type 0 where
   pub given : Twins ks vs a b
   pub room : 2 * (count + length (window lo hi 0 (places (a + 1) given.left))) ≤ length ts₀
   pub left : Parts
   pub right : Parts
   pub free : Bool
-  pub held_left : HeldParts ks vs i ae left
-  pub held_right : HeldParts ks vs j be right
+  pub held_left : HeldParts ks vs i ie left
+  pub held_right : HeldParts ks vs j je right
   pub like : like_rows free left right ≡ true
   pub done_left : List ℕ
   pub done_right : List ℕ
@@ -176,17 +180,17 @@ pub record Pushing (ks vs : List ℕ) (a ae b be lo hi count : ℕ) (ts₀ ts : 
   pub split_right : window lo hi 0 (places (b + 1) given.right) ≡ done_right ++ window lo hi child (places j right)
   pub few : child ≤ i
 
-module _ {ks vs : List ℕ} {a ae b be lo hi count : ℕ} {ts₀ : List ℕ} where
+module _ {ks vs : List ℕ} {a b lo hi count : ℕ} {ts₀ : List ℕ} where
   pub pushing_start : (w : Twins ks vs a b) → 2 * (count + length (window lo hi 0 (places (a + 1) w.left))) ≤ length ts₀
-      → PartEnd ks vs a (length ks) ae → PartEnd ks vs b (length ks) be → Pushing ks vs a ae b be lo hi count ts₀ ts₀ (a + 1) (b + 1) 0 count
-  pushing_start w r ea eb = record {
+      → {ie je : ℕ} → PartEnd ks vs a (length ks) ie → PartEnd ks vs b (length ks) je → Pushing ks vs a b lo hi count ts₀ ts₀ (a + 1) ie (b + 1) je 0 count
+  pushing_start w r {ie} {je} ea eb = record {
     given = w;
     room = r;
     left = w.left;
     right = w.right;
     free = w.notion w.tag;
-    held_left = node_row ks vs a ae w.tag w.left ea w.held_left;
-    held_right = node_row ks vs b be w.other w.right eb w.held_right;
+    held_left = node_row ks vs a ie w.tag w.left ea w.held_left;
+    held_right = node_row ks vs b je w.other w.right eb w.held_right;
     like = (shape_like w.notion w.tag w.other w.left w.right w.alike).1;
     done_left = [];
     done_right = [];
@@ -196,79 +200,91 @@ module _ {ks vs : List ℕ} {a ae b be lo hi count : ℕ} {ts₀ : List ℕ} whe
     few = omega arith;
   }
 
-  module _ {ts : List ℕ} {i j child top : ℕ} (w : Pushing ks vs a ae b be lo hi count ts₀ ts i j child top) where
-    module _ (li : i < ae) where
-      pub pushing_more : j < be
-      pushing_more = like_more ks vs i ae j be w.free w.left w.right w.held_left w.held_right li w.like
+  module _ {ts : List ℕ} {x y : Part} {child top : ℕ} (w : Pushing ks vs a b lo hi count ts₀ ts x.from x.end y.from y.end child top) where
+    -- the rows go on with the same things
+    pushing_alike : Unlike ks x y → ⊥
+    pushing_alike u = never_false (sym w.like ∙ unlike_rows w.free w.held_left w.held_right u)
 
-      left_part : PartAt ks vs i ae w.left
-      left_part = row_part ks vs i ae w.left w.held_left li
+    pushing_number : {i j c d : ℕ} → NumberFirst ks x i c → NumberFirst ks y j d → Pushing ks vs a b lo hi count ts₀ ts c x.end d y.end child top
+    pushing_number {c = c} {d = d} g h =
+        let p = first_number w.held_left (omega arith) g in
+        let q = first_number w.held_right (omega arith) h in
+        record {
+          given = w.given;
+          room = w.room;
+          left = p.rest;
+          right = q.rest;
+          free = false;
+          held_left = p.behind;
+          held_right = q.behind;
+          like = like_num_rest w.free p.value q.value p.rest q.rest (sym (ap₂ (like_rows w.free) p.is q.is) ∙ w.like);
+          done_left = w.done_left;
+          done_right = w.done_right;
+          laid = w.laid;
+          split_left = w.split_left ∙ ap (λ (l : List ℕ). w.done_left ++ window lo hi child l) (places_num x.from c p.value w.left p.rest p.is g.3);
+          split_right = w.split_right ∙ ap (λ (l : List ℕ). w.done_right ++ window lo hi child l) (places_num y.from d q.value w.right q.rest q.is h.3);
+          few = omega (arith, w.few, g.3);
+        }
 
-      right_part : PartAt ks vs j be w.right
-      right_part = row_part ks vs j be w.right w.held_right pushing_more
+    -- the rows go on with no terms
+    pub pushing_other : {o : PairStep} {c d : ℕ} → ((s t : Part) → o ≡ Terms s t → ⊥) → Meets ks vs x y (Some o) c d → Pushing ks vs a b lo hi count ts₀ ts c x.end d y.end child top
+    pushing_other {o = Numbers i j} n m = pushing_number m.0 m.1
+    pushing_other {o = Terms s t} n m = absurd (n s t refl)
+    pushing_other {o = Apart} n m = absurd (pushing_alike m.0)
 
-      window_left : window lo hi child (places i w.left)
-          ≡ window lo hi child (here (get_or ks i 0) i) ++ window lo hi (child + length (here (get_or ks i 0) i)) (places (i + span (get_or ks i 0) (get_or vs i 0)) left_part.rest)
-      window_left =
-          ap (window lo hi child) left_part.places
-          ∙ window_append lo hi child (here (get_or ks i 0) i) (places (i + span (get_or ks i 0) (get_or vs i 0)) left_part.rest)
+    module _ {s t : Part} {c d : ℕ} (g : TermFirst ks vs x s c) (h : TermFirst ks vs y t d) where
+      left_term : FirstTerm ks vs w.left s c x.end
+      left_term = row_term w.held_left g
 
-      window_right : window lo hi child (places j w.right)
-          ≡ window lo hi child (here (get_or ks i 0) j) ++ window lo hi (child + length (here (get_or ks i 0) i)) (places (j + span (get_or ks j 0) (get_or vs j 0)) right_part.rest)
-      window_right =
-          ap (window lo hi child) (right_part.places ∙ ap (λ (l : List ℕ). l ++ places (j + span (get_or ks j 0) (get_or vs j 0)) right_part.rest) (like_kinds ks vs i ae j be w.free w.left w.right left_part right_part w.like j))
-          ∙ window_append lo hi child (here (get_or ks i 0) j) (places (j + span (get_or ks j 0) (get_or vs j 0)) right_part.rest)
-          ∙ ap (λ (n : ℕ). window lo hi child (here (get_or ks i 0) j) ++ window lo hi (child + n) (places (j + span (get_or ks j 0) (get_or vs j 0)) right_part.rest)) (here_size (get_or ks i 0) j i)
+      right_term : FirstTerm ks vs w.right t d y.end
+      right_term = row_term w.held_right h
 
-      -- there is room for the part
-      pub pushing_room : 2 * (top + length (window lo hi child (here (get_or ks i 0) i))) ≤ length ts₀
+      -- there is room for the pair
+      pub pushing_room : 2 * (top + length (window lo hi child (s.from ∷ []))) ≤ length ts₀
       pushing_room =
           omega (
             arith,
             w.room,
             ap length w.split_left,
-            length-append w.done_left (window lo hi child (places i w.left)),
-            ap length window_left,
-            length-append (window lo hi child (here (get_or ks i 0) i)) (window lo hi (child + length (here (get_or ks i 0) i)) (places (i + span (get_or ks i 0) (get_or vs i 0)) left_part.rest)),
+            length-append w.done_left (window lo hi child (places x.from w.left)),
+            ap length (window_term lo hi child g left_term),
+            length-append (window lo hi child (s.from ∷ [])) (window lo hi (child + 1) (places c left_term.rest)),
             w.laid.size,
           )
 
-      pub pushing_step : (ts' : List ℕ) (i' j' child' top' : ℕ) → child' ≡ child + length (here (get_or ks i 0) i)
-          → Laid (window lo hi child (here (get_or ks i 0) i)) (window lo hi child (here (get_or ks i 0) j)) top ts ts' top'
-          → PartEnd ks vs i ae i' → PartEnd ks vs j be j' → Pushing ks vs a ae b be lo hi count ts₀ ts' i' j' child' top'
-      pushing_step ts' i' j' child' top' ec l ei ej =
-          let p = left_part in
-          let q = right_part in
-          let xi = part_end ks vs i ae i' w.left ei p in
-          let xj = part_end ks vs j be j' w.right ej q in
-          rw (xi, xj, ec) (record {
+      pub pushing_step : {ts' : List ℕ} {child' top' : ℕ} → child' ≡ child + 1 → Laid (window lo hi child (s.from ∷ [])) (window lo hi child (t.from ∷ [])) top ts ts' top'
+          → Pushing ks vs a b lo hi count ts₀ ts' c x.end d y.end child' top'
+      pushing_step ec l =
+          let p = left_term in
+          let q = right_term in
+          rw ec (record {
             given = w.given;
             room = w.room;
             left = p.rest;
             right = q.rest;
             free = false;
-            held_left = p.held;
-            held_right = q.held;
-            like = like_rest ks vs i ae j be w.free w.left w.right p q w.like;
-            done_left = w.done_left ++ window lo hi child (here (get_or ks i 0) i);
-            done_right = w.done_right ++ window lo hi child (here (get_or ks i 0) j);
+            held_left = p.behind;
+            held_right = q.behind;
+            like = sym (ap₂ (like_rows w.free) p.is q.is ∙ like_sub w.free p.term q.term p.rest q.rest) ∙ w.like;
+            done_left = w.done_left ++ window lo hi child (s.from ∷ []);
+            done_right = w.done_right ++ window lo hi child (t.from ∷ []);
             laid = laid_then w.laid l;
-            split_left = w.split_left ∙ ap (λ (x : List ℕ). w.done_left ++ x) window_left ∙ sym (append_assoc w.done_left (window lo hi child (here (get_or ks i 0) i)) _);
-            split_right = w.split_right ∙ ap (λ (x : List ℕ). w.done_right ++ x) window_right ∙ sym (append_assoc w.done_right (window lo hi child (here (get_or ks i 0) j)) _);
-            few = omega (arith, w.few, p.some, here_few (get_or ks i 0) i);
+            split_left = w.split_left ∙ ap (λ (x : List ℕ). w.done_left ++ x) (window_term lo hi child g p) ∙ sym (append_assoc w.done_left (window lo hi child (s.from ∷ [])) _);
+            split_right = w.split_right ∙ ap (λ (x : List ℕ). w.done_right ++ x) (window_term lo hi child h q) ∙ sym (append_assoc w.done_right (window lo hi child (t.from ∷ [])) _);
+            few = omega (arith, w.few, g.0, g.1, g.4);
           })
 
     -- the rows are over
-    pub pushing_end : ae ≤ i → j ≤ be → (k l : ℕ) (ps qs : Parts) → Held ks vs a (node k ps) → Held ks vs b (node l qs)
+    pub pushing_end : x.end ≤ x.from → (k l : ℕ) (ps qs : Parts) → Held ks vs a (node k ps) → Held ks vs b (node l qs)
         → Laid (window lo hi 0 (places (a + 1) ps)) (window lo hi 0 (places (b + 1) qs)) count ts₀ ts top
-    pushing_end li lj k l ps qs ha hb =
-        let el : w.left ≡ end = row_end ks vs i ae w.left w.held_left li in
+    pushing_end li k l ps qs ha hb =
+        let el : w.left ≡ end = row_end ks vs x.from x.end w.left w.held_left li in
         let er : w.right ≡ end = over_too el in
-        let x : window lo hi 0 (places (a + 1) w.given.left) ≡ w.done_left = w.split_left ∙ ap (λ (r : Parts). w.done_left ++ window lo hi child (places i r)) el ∙ ap (λ (y : List ℕ). w.done_left ++ y) (nothing lo hi child i) ∙ append-nil w.done_left in
-        let y : window lo hi 0 (places (b + 1) w.given.right) ≡ w.done_right = w.split_right ∙ ap (λ (r : Parts). w.done_right ++ window lo hi child (places j r)) er ∙ ap (λ (y : List ℕ). w.done_right ++ y) (nothing lo hi child j) ∙ append-nil w.done_right in
+        let p : window lo hi 0 (places (a + 1) w.given.left) ≡ w.done_left = w.split_left ∙ ap (λ (r : Parts). w.done_left ++ window lo hi child (places x.from r)) el ∙ ap (λ (l : List ℕ). w.done_left ++ l) (nothing lo hi child x.from) ∙ append-nil w.done_left in
+        let q : window lo hi 0 (places (b + 1) w.given.right) ≡ w.done_right = w.split_right ∙ ap (λ (r : Parts). w.done_right ++ window lo hi child (places y.from r)) er ∙ ap (λ (l : List ℕ). w.done_right ++ l) (nothing lo hi child y.from) ∙ append-nil w.done_right in
         let ea : ps ≡ w.given.left = node_inj (held_same ks vs a (node k ps) (node w.given.tag w.given.left) ha w.given.held_left) in
         let eb : qs ≡ w.given.right = node_inj (held_same ks vs b (node l qs) (node w.given.other w.given.right) hb w.given.held_right) in
-        rw (ea, eb, x, y) w.laid
+        rw (ea, eb, p, q) w.laid
       where
         node_inj : {k l : ℕ} {ps qs : Parts} → node k ps ≡ node l qs → ps ≡ qs
         node_inj e = cc
@@ -298,13 +314,10 @@ pub record Seeking (ks vs : List ℕ) (i e : ℕ) (ps : Parts) : Type 0 where
 
 pub seeking_step : (ks vs : List ℕ) (i e i' : ℕ) (ps : Parts) → Seeking ks vs i e ps → i < e → (get_or ks i 0 ≡ 0 → ⊥) → PartEnd ks vs i e i' → Seeking ks vs i' e ps
 seeking_step ks vs i e i' ps w l k x =
-    let p = row_part ks vs i e w.left w.held l in
     let q = row_sub ks vs i e w.left w.held l k in
-    rw (part_end ks vs i e i' w.left x p) (record { left = p.rest; held = p.held; same = w.same ∙ past p p.is })
-  where
-    past : (p : PartAt ks vs i e w.left) → ((get_or ks i 0 ≡ 0) × (w.left ≡ num (get_or vs i 0) p.rest)) ⊎ ((get_or ks i 0 ≡ 0 → ⊥) × (t : Term) × (w.left ≡ sub t p.rest)) → nums w.left ≡ nums p.rest
-    past p (inl z) = absurd (k z.0)
-    past p (inr z) = nums_past w.left p.rest z.1 z.2
+    let s = term_span ks vs i q.0 q.3 in
+    let n : i' ≡ i + length (items q.0) = x.is (omega (arith, s, items_some q.0)) (omega (arith, s, q.4.ends)) ∙ ap (λ (y : ℕ). i + y) s in
+    rw n (record { left = q.1; held = q.4; same = w.same ∙ nums_past w.left q.1 q.0 q.2 })
 
 pub seeking_found : (ks vs : List ℕ) (i e : ℕ) (ps : Parts) → Seeking ks vs i e ps → i < e → get_or ks i 0 ≡ 0 → NumberAt ks vs i e ps
 seeking_found ks vs i e ps w l k =

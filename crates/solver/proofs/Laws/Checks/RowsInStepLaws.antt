@@ -1,23 +1,25 @@
 -- Two rows walked in step: what is left of both tells whether their shapes agree.
 use mathlib.Core.Bool.{Bool, true, false, not, ◌&&◌, ◌||◌}
-use mathlib.Core.List.{List, [], ◌∷◌, ◌++◌}
-use mathlib.Core.Logic.{◌⊎◌, inl, inr}
+use mathlib.Core.List.{List, ◌∷◌}
 use mathlib.Core.Path.{◌≡◌, refl, sym, ap, ap₂, ◌∙◌}
 use Prim.Native.Nat.{ℕ, suc, ◌+◌, ◌≤◌, ◌<◌}
-use native.Mathlib.Decide.{ℕ_discrete, dec_lt, dec_le}
+use native.Mathlib.Decide.{ℕ_discrete}
 use native.Mathlib.Omega.{arith}
 use borrow.Author.Tests.{eq-eqb, ne_eqb, eqb-true}
 use lib.Dec.{eqb}
 use lib.ListN.{length, get_or}
 use Rattle.terms.specs.Result.{pick}
 use Rattle.terms.specs.Term.{Term, Parts, node, end, num, sub, items, Held}
+use Rattle.terms.specs.declared.Part.{Part}
 use Rattle.terms.specs.Words.Held.{HeldParts, span}
+use Rattle.terms.specs.Words.PairsContract.{NumberFirst, TermFirst, Unlike, no_left, no_right, number_term, term_number}
 use Rattle.terms.specs.Tree.{nums, subs, same, same_rows}
 use Rattle.terms.proofs.Laws.General.Bools.{never_true, never_false}
-use Rattle.terms.proofs.Laws.Held.HeldLaws.{head_kind, span_one, span_is, items_some, held_first, held_node, row_end, row_num, row_sub, end_ends}
+use Rattle.terms.proofs.Laws.Held.HeldLaws.{head_kind, span_is, items_some, held_first, held_node, row_end, row_num, row_sub, end_ends}
+use Rattle.terms.proofs.Laws.Held.PairLaws.{first_number, row_term}
 use Rattle.solver.specs.Shapes.{Notion, loose, exact, blank_row, blank, unmarked, read, same_shape}
 use Rattle.solver.specs.Shapes.{notion}
-use Rattle.solver.specs.Words.PendingContract.{places, agree, here, PartEnd}
+use Rattle.solver.specs.Words.PendingContract.{agree, PartEnd}
 use Rattle.solver.proofs.Laws.Resolving.AskLaws.{two_up}
 
 -- the shapes of two rows agree; where it is free, a number that begins the row does not count
@@ -34,7 +36,7 @@ unfolding like_rows blank_row unmarked same
 like_num true n m ps qs = refl
 like_num false n m ps qs = refl
 
-like_sub : (f : Bool) (t u : Term) (ps qs : Parts) → like_rows f (sub t ps) (sub u qs) ≡ like_rows false ps qs
+pub like_sub : (f : Bool) (t u : Term) (ps qs : Parts) → like_rows f (sub t ps) (sub u qs) ≡ like_rows false ps qs
 unfolding like_rows blank_row unmarked same
 like_sub true t u ps qs = refl
 like_sub false t u ps qs = refl
@@ -94,6 +96,9 @@ shape_like n k j ps qs h = go (ℕ_discrete k j)
     go (yes e) = (e, sym (shape_node n k ps qs) ∙ ap (λ (x : ℕ). same_shape n (node k ps) (node x qs)) e ∙ h)
     go (no e) = never_false (sym h ∙ shape_other n k j ps qs e)
 
+pub like_num_rest : (f : Bool) (n m : ℕ) (ps qs : Parts) → like_rows f (num n ps) (num m qs) ≡ true → like_rows false ps qs ≡ true
+like_num_rest f n m ps qs h = (and_split (f || eqb n m) (like_rows false ps qs) (sym (like_num f n m ps qs) ∙ h)).1
+
 -- rows that agree have as many terms; and the same numbers, but for the first
 pub like_subs : (f : Bool) (ps qs : Parts) → like_rows f ps qs ≡ true → length (subs ps) ≡ length (subs qs)
 unfolding subs
@@ -134,42 +139,8 @@ like_second f (sub t ps) end h = never_false (sym h ∙ like_long f (sub t ps) (
 like_second f (sub t ps) (num m qs) h = never_false (sym h ∙ like_sub_num f t m ps qs)
 like_second f (sub t ps) (sub u qs) h = ap (λ (l : List ℕ). get_or l 1 0) (like_nums ps qs (sym (like_sub f t u ps qs) ∙ h))
 
--- ---- one part of a row
-
-pub record PartAt (ks vs : List ℕ) (i e : ℕ) (ps : Parts) : Type 0 where
-  pub rest : Parts
-  pub held : HeldParts ks vs (i + span (get_or ks i 0) (get_or vs i 0)) e rest
-  pub some : 1 ≤ span (get_or ks i 0) (get_or vs i 0)
-  pub is : ((get_or ks i 0 ≡ 0) × (ps ≡ num (get_or vs i 0) rest)) ⊎ ((get_or ks i 0 ≡ 0 → ⊥) × (t : Term) × (ps ≡ sub t rest))
-  pub places : places i ps ≡ here (get_or ks i 0) i ++ places (i + span (get_or ks i 0) (get_or vs i 0)) rest
-
 pub term_span : (ks vs : List ℕ) (p : ℕ) (t : Term) → Held ks vs p t → span (get_or ks p 0) (get_or vs p 0) ≡ length (items t)
 term_span ks vs p t h = let f = held_first ks vs p t h in ap₂ span f.0 f.1 ∙ span_is t
-
-places_num : (ks : List ℕ) (i n : ℕ) (ps r : Parts) → get_or ks i 0 ≡ 0 → ps ≡ num n r → places i ps ≡ here (get_or ks i 0) i ++ places (i + 1) r
-unfolding places here
-places_num ks i n ps r k e = rw (e, k)
-
-places_sub : (ks : List ℕ) (i : ℕ) (t : Term) (ps r : Parts) → (get_or ks i 0 ≡ 0 → ⊥) → ps ≡ sub t r → places i ps ≡ here (get_or ks i 0) i ++ places (i + length (items t)) r
-unfolding places here
-places_sub ks i t ps r k e = rw (e, ne_eqb (get_or ks i 0) 0 k)
-
-pub row_part : (ks vs : List ℕ) (i e : ℕ) (ps : Parts) → HeldParts ks vs i e ps → i < e → PartAt ks vs i e ps
-row_part ks vs i e ps h l = go (ℕ_discrete (get_or ks i 0) 0)
-  where
-    go : Dec (get_or ks i 0 ≡ 0) → PartAt ks vs i e ps
-    go (yes k) =
-        let q = row_num ks vs i e ps h l k in
-        let s = span_one (get_or ks i 0) (get_or vs i 0) (omega arith) in
-        record { rest = q.1; held = rw s q.4; some = omega arith; is = inl (k, rw q.3 q.2); places = rw s (places_num ks i q.0 ps q.1 k q.2) }
-    go (no k) =
-        let q = row_sub ks vs i e ps h l k in
-        let s = term_span ks vs i q.0 q.3 in
-        record { rest = q.1; held = rw s q.4; some = omega (arith, s, items_some q.0); is = inr (k, q.0, q.2); places = rw s (places_sub ks i q.0 ps q.1 k q.2) }
-
--- where a part ends
-pub part_end : (ks vs : List ℕ) (i e r : ℕ) (ps : Parts) → PartEnd ks vs i e r → (p : PartAt ks vs i e ps) → r ≡ i + span (get_or ks i 0) (get_or vs i 0)
-part_end ks vs i e r ps w p = w.is p.some (omega (arith, p.held.ends))
 
 -- where a node ends
 pub node_end : (ks vs : List ℕ) (a r : ℕ) (t : Term) → PartEnd ks vs a (length ks) r → Held ks vs a t → r ≡ a + length (items t)
@@ -180,44 +151,24 @@ node_end ks vs a r t w h =
 pub node_row : (ks vs : List ℕ) (a r k : ℕ) (ps : Parts) → PartEnd ks vs a (length ks) r → Held ks vs a (node k ps) → HeldParts ks vs (a + 1) r ps
 node_row ks vs a r k ps w h = rw (node_end ks vs a r (node k ps) w h) (held_node ks vs a k ps h)
 
--- ---- two parts
+-- ---- two rows that go on with different things
 
-module _ (ks vs : List ℕ) (i ae j be : ℕ) (f : Bool) (ps qs : Parts) (p : PartAt ks vs i ae ps) (q : PartAt ks vs j be qs) where
-  pub like_step : like_rows f ps qs ≡ (agree f (get_or ks i 0) (get_or vs i 0) (get_or ks j 0) (get_or vs j 0) && like_rows false p.rest q.rest)
-  unfolding agree
-  like_step = go p.is q.is
-    where
-      go : ((get_or ks i 0 ≡ 0) × (ps ≡ num (get_or vs i 0) p.rest)) ⊎ ((get_or ks i 0 ≡ 0 → ⊥) × (t : Term) × (ps ≡ sub t p.rest))
-          → ((get_or ks j 0 ≡ 0) × (qs ≡ num (get_or vs j 0) q.rest)) ⊎ ((get_or ks j 0 ≡ 0 → ⊥) × (t : Term) × (qs ≡ sub t q.rest))
-          → like_rows f ps qs ≡ (agree f (get_or ks i 0) (get_or vs i 0) (get_or ks j 0) (get_or vs j 0) && like_rows false p.rest q.rest)
-      go (inl x) (inl y) = rw (x.0, y.0) (ap₂ (like_rows f) x.1 y.1 ∙ like_num f (get_or vs i 0) (get_or vs j 0) p.rest q.rest)
-      go (inl x) (inr y) = rw (x.0, ne_eqb (get_or ks j 0) 0 y.0) (ap₂ (like_rows f) x.1 y.2 ∙ like_num_sub f (get_or vs i 0) y.1 p.rest q.rest)
-      go (inr x) (inl y) = rw (y.0, ne_eqb (get_or ks i 0) 0 x.0) (ap₂ (like_rows f) x.2 y.1 ∙ like_sub_num f x.1 (get_or vs j 0) p.rest q.rest)
-      go (inr x) (inr y) = rw (ne_eqb (get_or ks i 0) 0 x.0, ne_eqb (get_or ks j 0) 0 y.0) (ap₂ (like_rows f) x.2 y.2 ∙ like_sub f x.1 y.1 p.rest q.rest)
+goes_on : {ks vs : List ℕ} {i e : ℕ} {ps : Parts} → HeldParts ks vs i e ps → i < e → ps ≡ end → ⊥
+goes_on {ks} {vs} {i} {e} h l z = omega (arith, end_ends ks vs i e (rw z at h))
 
-  -- where the shapes agree, a term stands against a term
-  pub like_kinds : like_rows f ps qs ≡ true → (l : ℕ) → here (get_or ks j 0) l ≡ here (get_or ks i 0) l
-  unfolding agree here
-  like_kinds h l = go (eqb (get_or ks i 0) 0) (eqb (get_or ks j 0) 0) (and_split (agree f (get_or ks i 0) (get_or vs i 0) (get_or ks j 0) (get_or vs j 0)) (like_rows false p.rest q.rest) (sym like_step ∙ h)).0
-    where
-      go : (a b : Bool) → pick a (b && (f || eqb (get_or vs i 0) (get_or vs j 0))) (not b) ≡ true → pick b [] (l ∷ []) ≡ pick a [] (l ∷ [])
-      go true true e = refl
-      go true false e = never_true e
-      go false true e = never_true e
-      go false false e = refl
-
-  pub like_rest : like_rows f ps qs ≡ true → like_rows false p.rest q.rest ≡ true
-  like_rest h = (and_split (agree f (get_or ks i 0) (get_or vs i 0) (get_or ks j 0) (get_or vs j 0)) (like_rows false p.rest q.rest) (sym like_step ∙ h)).1
-
--- a row that agrees with one that goes on goes on
-pub like_more : (ks vs : List ℕ) (i ae j be : ℕ) (f : Bool) (ps qs : Parts) → HeldParts ks vs i ae ps → HeldParts ks vs j be qs → i < ae → like_rows f ps qs ≡ true → j < be
-like_more ks vs i ae j be f ps qs hp hq l h = go (dec_lt j be)
-  where
-    go : Dec (j < be) → j < be
-    go (yes x) = x
-    go (no x) =
-        let e = row_end ks vs j be qs hq (omega arith) in
-        never_false (sym h ∙ ap (like_rows f ps) e ∙ like_long f ps (λ z. omega (arith, end_ends ks vs i ae (rw z at hp))))
+pub unlike_rows : {ks vs : List ℕ} {a b : Part} (f : Bool) {ps qs : Parts} → HeldParts ks vs a.from a.end ps → HeldParts ks vs b.from b.end qs → Unlike ks a b
+    → like_rows f ps qs ≡ false
+unlike_rows {ks} {vs} {a} {b} f {ps} {qs} hp hq (no_left h k) =
+    ap (λ (l : Parts). like_rows f l qs) (row_end ks vs a.from a.end ps hp h) ∙ like_short f qs (goes_on hq k)
+unlike_rows {ks} {vs} {a} {b} f {ps} {qs} hp hq (no_right h k) = ap (like_rows f ps) (row_end ks vs b.from b.end qs hq k) ∙ like_long f ps (goes_on hp h)
+unlike_rows {ks} {vs} {a} {b} f {ps} {qs} hp hq (number_term h k m n) =
+    let p = row_num ks vs a.from a.end ps hp h m in
+    let q = row_sub ks vs b.from b.end qs hq k n in
+    ap₂ (like_rows f) p.2 q.2 ∙ like_num_sub f p.0 q.0 p.1 q.1
+unlike_rows {ks} {vs} {a} {b} f {ps} {qs} hp hq (term_number h k m n) =
+    let p = row_sub ks vs a.from a.end ps hp h m in
+    let q = row_num ks vs b.from b.end qs hq k n in
+    ap₂ (like_rows f) p.2 q.2 ∙ like_sub_num f p.0 q.0 p.1 q.1
 
 -- ---- the walk of `same_shape`
 
@@ -229,55 +180,68 @@ pub record Walking (ks vs : List ℕ) (i ae j be : ℕ) (f₀ : Bool) (ps qs : P
   pub held_right : HeldParts ks vs j be right
   pub like : like_rows f₀ ps qs ≡ like_rows f left right
 
-abbrev pub Walks : (ks vs : List ℕ) (a ae b be : ℕ) (f₀ : Bool) (i j : ℕ) (f : Bool) → Type 0
-Walks ks vs a ae b be f₀ i j f = (ps qs : Parts) → HeldParts ks vs (a + 1) ae ps → HeldParts ks vs (b + 1) be qs → Walking ks vs i ae j be f₀ ps qs f
+abbrev pub Walks : (ks vs : List ℕ) (a b : ℕ) (f₀ : Bool) (i ie j je : ℕ) (f : Bool) → Type 0
+Walks ks vs a b f₀ i ie j je f = (k l : ℕ) (ps qs : Parts) → Held ks vs a (node k ps) → Held ks vs b (node l qs) → Walking ks vs i ie j je f₀ ps qs f
 
 -- the answer for the rows
-abbrev pub Tells : (ks vs : List ℕ) (a ae b be : ℕ) (f₀ r : Bool) → Type 0
-Tells ks vs a ae b be f₀ r = (ps qs : Parts) → HeldParts ks vs (a + 1) ae ps → HeldParts ks vs (b + 1) be qs → r ≡ like_rows f₀ ps qs
+abbrev pub Tells : (ks vs : List ℕ) (a b : ℕ) (f₀ r : Bool) → Type 0
+Tells ks vs a b f₀ r = (k l : ℕ) (ps qs : Parts) → Held ks vs a (node k ps) → Held ks vs b (node l qs) → r ≡ like_rows f₀ ps qs
 
-module _ {ks vs : List ℕ} (a : ℕ) {ae : ℕ} (b : ℕ) {be : ℕ} {f₀ : Bool} where
-  module _ {i j : ℕ} {f : Bool} (w : Walks ks vs a ae b be f₀ i j f) where
-    goes_on : (h e : ℕ) (ps : Parts) → HeldParts ks vs h e ps → h < e → ps ≡ end → ⊥
-    goes_on h e ps x l z = omega (arith, end_ends ks vs h e (rw z at x))
+pub walks_start : {ks vs : List ℕ} {a b : ℕ} {f : Bool} {ae be : ℕ} → PartEnd ks vs a (length ks) ae → PartEnd ks vs b (length ks) be
+    → Walks ks vs a b f (a + 1) ae (b + 1) be f
+walks_start {ks} {vs} {a} {b} {ae = ae} {be = be} ea eb k l ps qs ha hb =
+    record { left = ps; right = qs; held_left = node_row ks vs a ae k ps ea ha; held_right = node_row ks vs b be l qs eb hb; like = refl }
 
-    pub walks_over : ae ≤ i → {r : Bool} → (be ≤ j → r ≡ true) → (j < be → r ≡ false) → Tells ks vs a ae b be f₀ r
-    walks_over h {r} y n ps qs hp hq =
-        let x = w ps qs hp hq in
-        let e = row_end ks vs i ae x.left x.held_left h in
-        go x (x.like ∙ ap (λ (l : Parts). like_rows f l x.right) e) (dec_le be j)
-      where
-        go : (x : Walking ks vs i ae j be f₀ ps qs f) → like_rows f₀ ps qs ≡ like_rows f end x.right → Dec (be ≤ j) → r ≡ like_rows f₀ ps qs
-        go x e (yes l) = y l ∙ sym (e ∙ ap (like_rows f end) (row_end ks vs j be x.right x.held_right l) ∙ like_end f)
-        go x e (no l) = n (omega arith) ∙ sym (e ∙ like_short f x.right (goes_on j be x.right x.held_right (omega arith)))
+module _ {ks vs : List ℕ} {a b : ℕ} {f₀ : Bool} {x y : Part} {f : Bool} (w : Walks ks vs a b f₀ x.from x.end y.from y.end f) where
+  pub walks_over : x.end ≤ x.from → y.end ≤ y.from → Tells ks vs a b f₀ true
+  walks_over g h l m ps qs hp hq =
+      let z = w l m ps qs hp hq in
+      sym (z.like ∙ ap₂ (like_rows f) (row_end ks vs x.from x.end z.left z.held_left g) (row_end ks vs y.from y.end z.right z.held_right h) ∙ like_end f)
 
-    module _ (li : i < ae) where
-      pub walks_short : be ≤ j → Tells ks vs a ae b be f₀ false
-      walks_short h ps qs hp hq =
-          let x = w ps qs hp hq in
-          sym (x.like ∙ ap (like_rows f x.left) (row_end ks vs j be x.right x.held_right h) ∙ like_long f x.left (goes_on i ae x.left x.held_left li))
+  pub walks_unlike : Unlike ks x y → Tells ks vs a b f₀ false
+  walks_unlike u l m ps qs hp hq = let z = w l m ps qs hp hq in sym (z.like ∙ unlike_rows f z.held_left z.held_right u)
 
-      module _ (lj : j < be) where
-        pub walks_apart : agree f (get_or ks i 0) (get_or vs i 0) (get_or ks j 0) (get_or vs j 0) ≡ false → Tells ks vs a ae b be f₀ false
-        walks_apart h ps qs hp hq =
-            let x = w ps qs hp hq in
-            let p = row_part ks vs i ae x.left x.held_left li in
-            let q = row_part ks vs j be x.right x.held_right lj in
-            sym (x.like ∙ like_step ks vs i ae j be f x.left x.right p q ∙ ap (λ (b : Bool). b && like_rows false p.rest q.rest) h)
+  module _ {i j c d : ℕ} (g : NumberFirst ks x i c) (h : NumberFirst ks y j d) where
+    free_or_same : (m n : ℕ) → get_or vs i 0 ≡ m → get_or vs j 0 ≡ n → agree f (get_or ks i 0) (get_or vs i 0) (get_or ks j 0) (get_or vs j 0) ≡ (f || eqb m n)
+    unfolding agree
+    free_or_same m n e o =
+        let k : get_or ks i 0 ≡ 0 = ap (λ (z : ℕ). get_or ks z 0) g.0 ∙ g.2 in
+        let l : get_or ks j 0 ≡ 0 = ap (λ (z : ℕ). get_or ks z 0) h.0 ∙ h.2 in
+        rw (k, l, e, o) refl
 
-        pub walks_step : agree f (get_or ks i 0) (get_or vs i 0) (get_or ks j 0) (get_or vs j 0) ≡ true → {i' j' : ℕ} → PartEnd ks vs i ae i' → PartEnd ks vs j be j'
-            → Walks ks vs a ae b be f₀ i' j' false
-        walks_step h {i'} {j'} ei ej ps qs hp hq =
-            let x = w ps qs hp hq in
-            let p = row_part ks vs i ae x.left x.held_left li in
-            let q = row_part ks vs j be x.right x.held_right lj in
-            record {
-              left = p.rest;
-              right = q.rest;
-              held_left = rw (part_end ks vs i ae i' x.left ei p) p.held;
-              held_right = rw (part_end ks vs j be j' x.right ej q) q.held;
-              like = x.like ∙ like_step ks vs i ae j be f x.left x.right p q ∙ ap (λ (b : Bool). b && like_rows false p.rest q.rest) h;
-            }
+    module _ {r : Bool} (told : r ≡ agree f (get_or ks i 0) (get_or vs i 0) (get_or ks j 0) (get_or vs j 0)) where
+      pub walks_differ : r ≡ false → Tells ks vs a b f₀ false
+      walks_differ e l m ps qs hp hq =
+          let z = w l m ps qs hp hq in
+          let p = first_number z.held_left (omega arith) g in
+          let q = first_number z.held_right (omega arith) h in
+          sym (z.like ∙ ap₂ (like_rows f) p.is q.is ∙ like_num f p.value q.value p.rest q.rest ∙ ap (λ (b : Bool). b && like_rows false p.rest q.rest) (sym (free_or_same p.value q.value p.reads q.reads) ∙ sym told ∙ e))
+
+      pub walks_number : r ≡ true → Walks ks vs a b f₀ c x.end d y.end false
+      walks_number e l m ps qs hp hq =
+          let z = w l m ps qs hp hq in
+          let p = first_number z.held_left (omega arith) g in
+          let q = first_number z.held_right (omega arith) h in
+          record {
+            left = p.rest;
+            right = q.rest;
+            held_left = p.behind;
+            held_right = q.behind;
+            like = z.like ∙ ap₂ (like_rows f) p.is q.is ∙ like_num f p.value q.value p.rest q.rest ∙ ap (λ (b : Bool). b && like_rows false p.rest q.rest) (sym (free_or_same p.value q.value p.reads q.reads) ∙ sym told ∙ e);
+          }
+
+  pub walks_terms : {s t : Part} {c d : ℕ} → TermFirst ks vs x s c → TermFirst ks vs y t d → Walks ks vs a b f₀ c x.end d y.end false
+  walks_terms g h l m ps qs hp hq =
+      let z = w l m ps qs hp hq in
+      let p = row_term z.held_left g in
+      let q = row_term z.held_right h in
+      record {
+        left = p.rest;
+        right = q.rest;
+        held_left = p.behind;
+        held_right = q.behind;
+        like = z.like ∙ ap₂ (like_rows f) p.is q.is ∙ like_sub f p.term q.term p.rest q.rest;
+      }
 
 -- ---- the answer for the nodes
 
@@ -297,12 +261,12 @@ module _ {ks vs : List ℕ} {a b : ℕ} (strict : Bool) where
   pub heads_differ : (get_or ks a 0 ≡ get_or ks b 0 → ⊥) → Shaped ks vs a b strict false
   heads_differ h k j ps qs ha hb = sym (shape_other (notion strict) k j ps qs (λ e. h (node_kind ks vs a k ps ha ∙ ap (λ (x : ℕ). suc (suc x)) e ∙ sym (node_kind ks vs b j qs hb))))
 
-  pub shape_told : get_or ks a 0 ≡ get_or ks b 0 → {ae be : ℕ} → PartEnd ks vs a (length ks) ae → PartEnd ks vs b (length ks) be → {f₀ : Bool}
-      → f₀ ≡ (not strict && (eqb (get_or ks a 0) 12 || eqb (get_or ks a 0) 13)) → {r : Bool} → Tells ks vs a ae b be f₀ r → Shaped ks vs a b strict r
-  shape_told h {ae} {be} ea eb {f₀} ef {r} t k j ps qs ha hb =
+  pub shape_told : get_or ks a 0 ≡ get_or ks b 0 → {f₀ : Bool} → f₀ ≡ (not strict && (eqb (get_or ks a 0) 12 || eqb (get_or ks a 0) 13)) → {r : Bool}
+      → Tells ks vs a b f₀ r → Shaped ks vs a b strict r
+  shape_told h {f₀} ef {r} t k j ps qs ha hb =
       let ek : k ≡ j = omega (arith, node_kind ks vs a k ps ha, node_kind ks vs b j qs hb) in
       let e : f₀ ≡ notion strict k = ef ∙ free_is strict k (get_or ks a 0) (node_kind ks vs a k ps ha) in
-      t ps qs (node_row ks vs a ae k ps ea ha) (node_row ks vs b be j qs eb hb)
+      t k j ps qs ha hb
       ∙ ap (λ (x : Bool). like_rows x ps qs) e ∙ sym (shape_node (notion strict) k ps qs) ∙ ap (λ (x : ℕ). same_shape (notion strict) (node k ps) (node x qs)) ek
 
 -- ---- two parts by their tokens

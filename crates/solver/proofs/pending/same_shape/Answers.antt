@@ -1,30 +1,42 @@
-use mathlib.Core.Path.{sym, ◌∙◌}
-use native.Mathlib.Omega.{arith}
-use borrow.Author.Tests.{le-leb, lt-leb}
-use Rattle.solver.proofs.Laws.Checks.RowsInStepLaws.{walks_over, walks_short, walks_apart, walks_step, heads_differ, shape_told}
-use Rattle.solver.proofs.pending.same_shape.Goals.{then-y-j-via-then-y-j, then-y-j-via-else-y-j+then-not-parts_agree}
+use Rattle.terms.proofs.Laws.Held.PairLaws.{over_pair}
+use Rattle.solver.proofs.Laws.Checks.RowsInStepLaws.{walks_start, walks_over, walks_unlike, walks_differ, walks_number, walks_terms, heads_differ, shape_told}
 use Rattle.solver.proofs.pending.same_shape.Goals as goal
 
 pub returns-then-tokens-a : goal.returns-then-tokens-a
 returns-then-tokens-a c = heads_differ _ c.if-tokens-a.true
 
-pub returns-then-y-j : goal.returns-then-y-j
-returns-then-y-j c =
-    shape_told _ c.if-tokens-a.false c.row_of-x.ensures.1 c.row_of-y.ensures.1 c.access_of-counts.ensures
-    (elim c.then-y-j.branch [
-      | then-y-j-via-then-y-j w ↦ walks_short _ _ c.loop-i.invariant.2 c.loop-i-test.true w.if-y-j.true
-      | then-y-j-via-else-y-j+then-not-parts_agree w ↦
-          walks_apart _ _ c.loop-i.invariant.2 c.loop-i-test.true w.if-y-j.false (sym w.parts_agree.ensures ∙ w.if-not-parts_agree.true)
-    ])
+pub loop-step-init : goal.loop-step-init
+loop-step-init c =
+    let w = c.walk_pair-step-items.ensures in
+    let x = c.row_of-x.ensures in
+    let y = c.row_of-y.ensures in
+    rw (c.into_iter-step-iterator.ensures.into_iter_gives, w.rows.0, w.rows.1, x.0, y.0) (w.tokens, walks_start x.1 y.1)
 
-pub loop-i-preserved : goal.loop-i-preserved
-loop-i-preserved c =
-    let p = c.part_end-i.ensures in
-    let q = c.part_end-j.ensures in
-    (p.within, q.within, walks_step _ _ c.loop-i.invariant.2 c.loop-i-test.true c.if-y-j.false (sym c.parts_agree.ensures ∙ c.if-not-parts_agree.false) p q)
+pub returns-then-not-parts_agree : goal.returns-then-not-parts_agree
+returns-then-not-parts_agree c =
+    let i = c.loop-step.invariant in
+    let m = over_pair _ _ c.next.new.self c.in-Numbers.is i.0 c.in-Some.ensures.steps in
+    shape_told _ c.if-tokens-a.false c.access_of-counts.ensures (walks_differ i.1 m.0.0 m.0.1 c.parts_agree.ensures c.if-not-parts_agree.true)
+
+pub loop-step-preserved-else-not-parts_agree : goal.loop-step-preserved-else-not-parts_agree
+loop-step-preserved-else-not-parts_agree c =
+    let i = c.loop-step.invariant in
+    let m = over_pair _ _ c.next.new.self c.in-Numbers.is i.0 c.in-Some.ensures.steps in
+    (m.3, rw (m.1, m.2) (walks_number i.1 m.0.0 m.0.1 c.parts_agree.ensures c.if-not-parts_agree.false))
+
+pub loop-step-preserved : goal.loop-step-preserved
+loop-step-preserved c =
+    let i = c.loop-step.invariant in
+    let m = over_pair _ _ c.next.new.self c.in-Terms.is i.0 c.in-Some.ensures.steps in
+    (m.3, rw (m.1, m.2) (walks_terms i.1 m.0.0 m.0.1))
+
+pub returns-in-Apart : goal.returns-in-Apart
+returns-in-Apart c =
+    let i = c.loop-step.invariant in
+    let m = over_pair _ _ c.next.new.self c.in-Apart.is i.0 c.in-Some.ensures.steps in
+    shape_told _ c.if-tokens-a.false c.access_of-counts.ensures (walks_unlike i.1 m.0.0)
 
 pub returns : goal.returns
 returns c =
-    let l = c.loop-i in
-    shape_told _ c.if-tokens-a.false c.row_of-x.ensures.1 c.row_of-y.ensures.1 c.access_of-counts.ensures
-    (walks_over _ _ l.invariant.2 (omega (arith, c.loop-i-test.false)) (λ h. le-leb c.row_of-y.result.end l.j h) (λ h. lt-leb c.row_of-y.result.end l.j h))
+    let m = c.in-None.ensures.steps.0 in
+    shape_told _ c.if-tokens-a.false c.access_of-counts.ensures (walks_over c.loop-step.invariant.1 m.0 m.1)
