@@ -1,19 +1,17 @@
 // A sheet, what it is run in, and the run.
 ghost use Rattle.std.specs.Prelude.{◌≡◌, ◌≤◌, ◌%◌, ◌==◌, length, drop, replicate, take};
 ghost use Rattle.std.specs.List.{list_all};
-ghost use Rattle.sheet.specs.Entry.{document_limits, entry_result, finished, number_of_reason};
-ghost use Rattle.harness.specs.Run.{left_in, is_left, run_in};
+ghost use Rattle.sheet.specs.Entry.{document_limits, entry_result, number_of_reason};
+ghost use Rattle.harness.specs.Run.{left_in, finish_of, is_left, run_in};
 
 use crate::{Head, ROOM, WORDS};
 use frames::{all_are, low_byte, read_part};
 use sheet::{Reason, Report, run_sheet};
 
-/// What a run returns, its reason by the number that frames tell, and whether it has left the output after its answers and the areas as it must.
+/// What a run returns, and whether it has left the output after its answers and the areas as it must.
 #[derive(Clone, Copy)]
 pub struct Outcome {
-    pub reason: u32,
-    pub orders: u64,
-    pub bytes: usize,
+    pub report: Report,
     pub good: bool,
 }
 
@@ -49,19 +47,22 @@ impl Bench {
 
     /// Reads the sheet of a frame from the input. Returns whether all of it is there. Which bytes these are is the input's choice; the bytes behind them stay.
     pub fn read_sheet(&mut self, head: &Head) -> bool
-        ensures { drop head.now.size self.new.sheet ≡ drop head.now.size self.old.sheet }
+        ensures sheet { drop head.now.size self.new.sheet ≡ drop head.now.size self.old.sheet }
+        ensures others { (self.new.out ≡ self.old.out)
+            × (self.new.a ≡ self.old.a) × (self.new.b ≡ self.old.b) × (self.new.c ≡ self.old.c) × (self.new.d ≡ self.old.d) }
     {
         read_part(&mut self.sheet, head.size)
     }
 
     /// Runs the sheet, in as much of the output and of the areas as the head says, filled with what it says.
     pub fn run(&mut self, head: &Head) -> Outcome
-        ensures reason { result.reason ≡ (run_of head.now self.old.sheet).reason }
-        ensures orders { result.orders ≡ (run_of head.now self.old.sheet).orders }
-        ensures bytes { result.bytes ≡ (run_of head.now self.old.sheet).bytes }
-        ensures within { result.bytes ≤ head.now.room }
+        ensures reason { number_of_reason result.report.reason ≡ (run_of head.now self.old.sheet).reason }
+        ensures orders { result.report.orders ≡ (run_of head.now self.old.sheet).orders }
+        ensures bytes { result.report.bytes ≡ (run_of head.now self.old.sheet).bytes }
+        ensures within { result.report.bytes ≤ head.now.room }
         ensures good { result.good ≡ is_left head.now.fill (run_of head.now self.old.sheet) }
         ensures answers { take head.now.room self.new.out ≡ (run_of head.now self.old.sheet).out }
+        ensures sheet { self.new.sheet ≡ self.old.sheet }
     {
         run_part(
             &self.sheet[..head.size],
@@ -89,8 +90,9 @@ fn areas_are(areas: &[&[u32]], x: u32) -> bool
     areas.iter().all(|area| all_are(area, x))
 }
 
-// Runs a sheet. The answers lie in the output. Output and areas are slices, as `run_sheet` takes them: with arrays of arrays or `&mut self.out[..n]` the borrow
-// checker does not cover them (docs/DESIGN-PASS.md, point 5).
+// Runs a sheet. That the answers lie in the output follows by a law: without this function four goals of `run_filled` need the law, and for the one of the
+// clause `good` `search` finds no proof even with it. The areas are four slices, as `run_sheet` takes them: the borrow checker does not cover a function that takes
+// an array of them apart ("a place is written behind a reference that is lent, in whole or in part").
 fn run_inside(
     sheet: &[u8],
     out: &mut [u8],
@@ -100,13 +102,13 @@ fn run_inside(
     d: &mut [u32],
 ) -> Report
     ensures within { result.bytes ≤ length out.new }
-    ensures run { finished (number_of_reason result.reason) result.orders result.bytes out.new a.new b.new c.new d.new
+    ensures run { finish_of result out.new a.new b.new c.new d.new
         ≡ entry_result document_limits 16384 sheet.now out.old a.old b.old c.old d.old }
 {
     run_sheet(sheet, out, a, b, c, d)
 }
 
-// Runs a sheet in an output and areas that it fills; they are slices, as `run_inside` has them (docs/DESIGN-PASS.md, point 5).
+// Runs a sheet in an output and areas that it fills. They are slices, since parts of arrays are lent.
 fn run_filled(
     sheet: &[u8],
     out: &mut [u8],
@@ -116,31 +118,27 @@ fn run_filled(
     d: &mut [u32],
     fill: u32,
 ) -> Outcome
-    ensures within { result.bytes ≤ length out.new }
-    ensures run { finished result.reason result.orders result.bytes out.new a.new b.new c.new d.new
+    ensures within { result.report.bytes ≤ length out.new }
+    ensures run { finish_of result.report out.new a.new b.new c.new d.new
         ≡ entry_result document_limits 16384 sheet.now (replicate (length out.old) (fill % 256)) (replicate (length a.old) fill)
         (replicate (length b.old) fill) (replicate (length c.old) fill) (replicate (length d.old) fill) }
-    ensures good { result.good ≡ is_left fill (finished result.reason result.orders result.bytes out.new a.new b.new c.new d.new) }
+    ensures good { result.good ≡ is_left fill (finish_of result.report out.new a.new b.new c.new d.new) }
 {
     out.fill(low_byte(fill));
     a.fill(fill);
     b.fill(fill);
     c.fill(fill);
     d.fill(fill);
-    let ran = run_inside(sheet, out, a, b, c, d);
-    let left = left_in(ran.reason, fill);
-    let good = all_are(&out[ran.bytes..], low_byte(fill)) && areas_are(&[a, b, c, d], left);
-    Outcome {
-        reason: u32::from(ran.reason),
-        orders: ran.orders,
-        bytes: ran.bytes,
-        good,
-    }
+    let report = run_inside(sheet, out, a, b, c, d);
+    let left = left_in(report.reason, fill);
+    let good = all_are(&out[report.bytes..], low_byte(fill)) && areas_are(&[a, b, c, d], left);
+    Outcome { report, good }
 }
 
-// Runs a sheet in as much of the output and of the areas as a head says. These are lent one by one, and not with the `Bench` that holds them, since parts of its
-// fields are lent on (docs/DESIGN-PASS.md, point 5).
-fn run_part(
+/// Runs a sheet of any length in as much of the output and of the areas as a head says, filled with what it says.
+/// These are arrays, lent one by one: with a `&mut Bench` the borrow checker does not cover `&mut self.out[..n]` beside `&mut self.a[..m]` ("a field is lent as
+/// `&mut` behind a reference that is lent, whole or another field behind it").
+pub fn run_part(
     sheet: &[u8],
     out: &mut [u8; ROOM],
     a: &mut [u32; WORDS],
@@ -149,9 +147,9 @@ fn run_part(
     d: &mut [u32; WORDS],
     head: &Head,
 ) -> Outcome
-    ensures within { result.bytes ≤ head.now.room }
-    ensures run { finished result.reason result.orders result.bytes (take head.now.room out.new) (take head.now.words a.new)
-        (take head.now.words b.new) (take head.now.words c.new) (take head.now.words d.new) ≡ run_in head.now sheet.now }
+    ensures within { result.report.bytes ≤ head.now.room }
+    ensures run { finish_of result.report (take head.now.room out.new) (take head.now.words a.new) (take head.now.words b.new)
+        (take head.now.words c.new) (take head.now.words d.new) ≡ run_in head.now sheet.now }
     ensures good { result.good ≡ is_left head.now.fill (run_in head.now sheet.now) }
 {
     run_filled(

@@ -6,32 +6,37 @@
 #![tactic(auto)]
 
 use frames::{number_at, read_part};
-use harness::{Bench, Head, Outcome, ROOM, SHEETS};
+use harness::{Bench, Head, ROOM, SHEETS};
+use sheet::Report;
+use std::io::Write;
 
-// What a run is wanted to tell.
-#[derive(Clone, Copy)]
-struct Wanted {
+// What a run tells, or is wanted to tell.
+#[derive(Clone, Copy, PartialEq, Eq)]
+struct Told {
     reason: u32,
-    orders: u32,
-    bytes: u32,
+    orders: u64,
+    bytes: usize,
 }
 
-impl Wanted {
+impl Told {
     // Reads the numbers of a vector that stand behind its head, or nothing where the input ends before.
-    fn read() -> Option<Wanted> {
+    fn read() -> Option<Told> {
         let mut bytes = [0; 12];
-        read_part(&mut bytes, 12).then(|| Wanted {
+        read_part(&mut bytes, 12).then(|| Told {
             reason: number_at(&bytes, 0),
-            orders: number_at(&bytes, 4),
-            bytes: number_at(&bytes, 8),
+            orders: u64::from(number_at(&bytes, 4)),
+            bytes: number_at(&bytes, 8) as usize,
         })
     }
+}
 
-    // Whether a run tells it.
-    fn is_told(&self, ran: &Outcome) -> bool {
-        self.reason == ran.reason
-            && u64::from(self.orders) == ran.orders
-            && self.bytes as usize == ran.bytes
+impl From<Report> for Told {
+    fn from(report: Report) -> Told {
+        Told {
+            reason: u32::from(report.reason),
+            orders: report.orders,
+            bytes: report.bytes,
+        }
     }
 }
 
@@ -57,13 +62,13 @@ impl Tally {
 // Replays a vector. Returns whether all is as wanted, or nothing where the input ends before the vector does.
 fn replay_vector(bench: &mut Bench, answers: &mut [u8; ROOM]) -> Option<bool> {
     let head = Head::read(&mut [0; 16])?;
-    let wanted = Wanted::read()?;
-    let size = (wanted.bytes as usize).min(ROOM);
+    let wanted = Told::read()?;
+    let size = wanted.bytes.min(ROOM);
     if !bench.read_sheet(&head) || !read_part(answers, size) {
         return None;
     }
     let ran = bench.run(&head);
-    Some(wanted.is_told(&ran) && bench.out.starts_with(&answers[..size]) && ran.good)
+    Some(wanted == Told::from(ran.report) && bench.out.starts_with(&answers[..size]) && ran.good)
 }
 
 // Replays vectors until the input ends.
@@ -78,15 +83,12 @@ fn replay(bench: &mut Bench, answers: &mut [u8; ROOM]) -> Tally {
     tally
 }
 
-// Writes a name and a number of ten digits, by hand: `decimal` of the kit's `io`, by which these programs write, has no leading zeros.
-fn write_line(name: &[u8], n: u32) {
-    let mut line = [b'\n'; 11];
-    let mut rest = n;
-    for digit in line[..10].iter_mut().rev() {
-        *digit = b'0' + (rest % 10) as u8;
-        rest /= 10;
-    }
-    io::write_all(1, name);
+// Writes a name and a number of ten digits. They are put into a line that has just room for them: `println!` takes a runtime, and the program would assume one
+// C function more, `os::c::rattle_errno`.
+fn write_line(name: &str, n: u32) {
+    let mut line = [0; 19];
+    let mut rest = &mut line[..];
+    let _ = writeln!(rest, "{name:<8}{n:010}");
     io::write_all(1, &line);
 }
 
@@ -94,7 +96,7 @@ fn main() {
     let mut bench = Bench::new();
     let mut answers = [0; ROOM];
     let tally = replay(&mut bench, &mut answers);
-    write_line(b"vectors ", tally.vectors);
-    write_line(b"differ  ", tally.differ);
-    write_line(b"first   ", tally.first.unwrap_or(tally.vectors));
+    write_line("vectors", tally.vectors);
+    write_line("differ", tally.differ);
+    write_line("first", tally.first.unwrap_or(tally.vectors));
 }

@@ -3,7 +3,7 @@
 // The answer to a frame is a length, an outcome (0 or the refusal) and, on 0, for terms the nodes and the tokens, and the bytes again. Bytes
 // left over (1) are refused before more than 2,048 nodes (7). After each frame both areas must be clear: else its answer is left out and the
 // run ends, as it does at a faulty length and where an answer does not fit.
-// The output and the position in it stand apart: docs/DECISIONS.md, "How are the tokens lent?".
+// Kinds and values are lent as two slices, and the output beside the position in it: docs/DECISIONS.md, "How are the tokens lent?".
 #![tactic(auto)]
 
 ghost use Rattle.std.specs.Prelude.{◌≡◌, ◌+◌, ◌-◌, ◌≤◌, ◌<◌, length, IfSome};
@@ -109,7 +109,7 @@ fn read_frame(input: Input, kinds: &mut [u32], vals: &mut [u32]) -> Result<Frame
 
 // A refusal. Each function that answers returns the position after the answer, or nothing where it does not fit. The sheet has two that are alike; what is said
 // at `Frames` holds of them.
-fn refused_answer(out: &mut [u8], at: usize, c: u8) -> Option<usize>
+fn refused_answer(out: &mut [u8], at: usize, refusal: Refusal) -> Option<usize>
     requires { at ≤ length out.old }
     ensures { IfSome result (λ next. next ≤ length out.new) }
 {
@@ -117,7 +117,7 @@ fn refused_answer(out: &mut [u8], at: usize, c: u8) -> Option<usize>
         return None;
     }
     out[at] = 1;
-    out[at + 1] = c;
+    out[at + 1] = u8::from(refusal);
     Some(at + 2)
 }
 
@@ -180,7 +180,7 @@ fn answer(
     ensures { IfSome result (λ next. next ≤ length out.new) }
 {
     match f {
-        Err(refusal) => refused_answer(out, at, u8::from(refusal)),
+        Err(refusal) => refused_answer(out, at, refusal),
         Ok(Frame::Number(v)) => number_answer(out, at, v),
         Ok(
             Frame::Kept {

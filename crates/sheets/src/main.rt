@@ -10,9 +10,9 @@ use harness::{Bench, Head, Outcome, SHEETS};
 // What is told of a run before its answers.
 fn told(ran: &Outcome) -> [u8; 10] {
     let mut told = [0; 10];
-    told[0] = low_byte(ran.reason);
-    put_number(&mut told, 1, ran.orders);
-    put_number(&mut told, 5, ran.bytes as u64);
+    told[0] = low_byte(u32::from(ran.report.reason));
+    put_number(&mut told, 1, ran.report.orders);
+    put_number(&mut told, 5, ran.report.bytes as u64);
     told[9] = u8::from(ran.good);
     told
 }
@@ -27,7 +27,7 @@ fn answer_frame(bench: &mut Bench) -> bool {
     }
     let ran = bench.run(&head);
     io::write_all(1, &told(&ran));
-    io::write_all(1, &bench.out[..ran.bytes]);
+    io::write_all(1, &bench.out[..ran.report.bytes]);
     true
 }
 

@@ -1,5 +1,6 @@
 // Reads or writes one term many times, for a measurement. Standard input is a mode (1 read, 2 write, 3 both), a repeat count of four bytes, low
 // byte first, and the bytes of a term. What is printed, the tokens read and the bytes written of all turns, shows that the work was done.
+// Kinds and values are lent as two slices: docs/DECISIONS.md, "How are the tokens lent?".
 #![tactic(auto)]
 
 ghost use Rattle.std.specs.Prelude.{◌≤◌, length, IfSome};
