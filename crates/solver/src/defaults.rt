@@ -44,7 +44,7 @@ pub fn root_of(tokens: &Tokens, bound: &[u32], most: usize, v: usize) -> Option<
 }
 
 impl Table<'_> {
-    // The word that the default of the variable v goes by: its request's, or that of Never, if v is deferred.
+    // The word that the default of the variable v goes by: its request's, or that of Never, its code and 1, if v is deferred.
     fn default_word(&self, v: usize, which: Defaulted) -> Option<NonZeroU32>
         requires { v < self.now.variables }
         ensures { word_of result ≡ default_word which self.now.variables self.now.words.now v }

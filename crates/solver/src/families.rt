@@ -1,4 +1,5 @@
-// What a number variable may be bound to, and a binding made. Kinds are numbers: the line in kinds.rt of terms says why.
+// What a number variable may be bound to, and a binding made. Kinds are numbers: the line in kinds.rt of terms says why. So are builtins, by their codes, which
+// words of requests and bits of masks are made of: an enum of all 32 would be made of a code and unmade again at each test.
 ghost use Rattle.std.specs.Prelude.{◌≡◌, false, ℕ, ◌+◌, ◌*◌, ◌^◌, ◌≤◌, ◌<◌, length, get_or};
 ghost use Rattle.std.specs.Int.NonZero.{non_zero_u32_get};
 ghost use Rattle.std.proofs.Math.Option.{some};

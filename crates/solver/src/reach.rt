@@ -1,7 +1,8 @@
 // Whether a term has, bound variables replaced, a variable, or an Unknown or Error: one worklist over variables, so that the run of each
 // bound variable is scanned once. The scratch is cut in two: a mark for each variable of the table, and the queue of the marked ones. Marks, queue
 // and the queue's length are lent side by side: a struct with `Work` for its invariant was tried, and the check asks for the invariant between
-// the two writes of `push`, where the queue has no entry yet. Kinds are numbers: the line in kinds.rt of terms says why.
+// the two writes of `push`, where the queue has no entry yet. That the scratch is all 0 is a clause, here and where it is lent on: the line at `Table` in lib.rt.
+// Kinds are numbers: the line in kinds.rt of terms says why.
 ghost use Rattle.std.specs.Prelude.{◌≡◌, true, ℕ, suc, ◌+◌, ◌^◌, ◌≤◌, ◌<◌, length};
 ghost use Rattle.std.proofs.Math.Option.{Option, none};
 ghost use Rattle.terms.specs.Words.Tokens.{toks};
