@@ -171,6 +171,10 @@ Prepares a hs₀ cs₀ hs cs h c next most None = Overfull a hs₀ cs₀ hs cs h
 abbrev pub From : (a : Area) (hs cs : List ℕ) (S : ℕ → Bool) → Cursor → Parts → Type 0
 From a hs cs S x ps = Parted a hs cs S x.kids x.end x.at x.child ps
 
+-- a cursor in the same row: with its end and its child word
+abbrev pub OneRow : (x z : Cursor) → Type 0
+OneRow x z = (z.end ≡ x.end) × (z.kids ≡ x.kids)
+
 -- whether two contents stand for the same tree, the first of at most `fuel` levels
 pub record Alike (a : Area) (hs cs : List ℕ) (x y : Content) (fuel : ℕ) (r : Bool) : Type 0 where
   pub yes : r ≡ true → (S T : ℕ → Bool) (t u : Term) → Tree a hs cs S x.head x.kids t → Tree a hs cs T y.head y.kids u → depth t ≤ fuel → t ≡ u
@@ -179,8 +183,9 @@ pub record Alike (a : Area) (hs cs : List ℕ) (x y : Content) (fuel : ℕ) (r :
 -- whether the parts at one cursor, of at most `fuel` levels, begin with those at another, and the place after them
 abbrev pub Begins : (a : Area) (hs cs : List ℕ) (x y : Cursor) (fuel : ℕ) → Option Cursor → Type 0
 Begins a hs cs x y fuel (Some z) =
-    (S T : ℕ → Bool) (ps qs : Parts) → From a hs cs S x ps → From a hs cs T y qs → depths ps ≤ fuel
-    → (rest : Parts) × (ps ≡ qs +++ rest) × From a hs cs S z rest
+    OneRow x z
+    × ((S T : ℕ → Bool) (ps qs : Parts) → From a hs cs S x ps → From a hs cs T y qs → depths ps ≤ fuel
+    → (rest : Parts) × (ps ≡ qs +++ rest) × From a hs cs S z rest)
 Begins a hs cs x y fuel None =
     (S T : ℕ → Bool) (ps qs : Parts) → From a hs cs S x ps → From a hs cs T y qs → depths ps ≤ fuel → (rest : Parts) → ps ≡ qs +++ rest → ⊥
 

@@ -7,7 +7,7 @@ use Rattle.terms.specs.Term.{Term, Parts, end, num, sub, items, depths}
 use Rattle.terms.specs.Words.Held.{Held}
 use Rattle.terms.specs.Tree.{nums}
 use Rattle.terms.specs.Lookup.{Pattern, front, HeldRule}
-use Rattle.terms.specs.Words.Arena.{Tree, From}
+use Rattle.terms.specs.Words.Arena.{Tree, From, OneRow}
 
 -- a cursor at the term at p, as a row of its own
 pub record TermStarts (a : Area) (p : ℕ) (r : Cursor) : Type 0 where
@@ -17,14 +17,16 @@ pub record TermStarts (a : Area) (p : ℕ) (r : Cursor) : Type 0 where
 -- whether the numbers m and n come next, and the place after them
 abbrev pub Numbers : (a : Area) (x : Cursor) (m n : ℕ) → Option Cursor → Type 0
 Numbers a x m n (Some z) =
-    (hs cs : List ℕ) (S : ℕ → Bool) (ps : Parts) → From a hs cs S x ps → (rest : Parts) × (ps ≡ num m (num n rest)) × From a hs cs S z rest
+    OneRow x z
+    × ((hs cs : List ℕ) (S : ℕ → Bool) (ps : Parts) → From a hs cs S x ps → (rest : Parts) × (ps ≡ num m (num n rest)) × From a hs cs S z rest)
 Numbers a x m n None = (hs cs : List ℕ) (S : ℕ → Bool) (ps : Parts) → From a hs cs S x ps → (rest : Parts) → ps ≡ num m (num n rest) → ⊥
 
 -- whether a row begins with what a rule has before its arguments, and the place after that
 abbrev pub Fronted : (ks vs : List ℕ) (a : Area) (hs cs : List ℕ) (x : Cursor) (w : Rule) (fuel : ℕ) → Option Cursor → Type 0
 Fronted ks vs a hs cs x w fuel (Some z) =
-    (S : ℕ → Bool) (ps : Parts) (p : Pattern) → From a hs cs S x ps → depths ps ≤ fuel → HeldRule ks vs w p
-    → (rest : Parts) × (ps ≡ front p rest) × From a hs cs S z rest
+    OneRow x z
+    × ((S : ℕ → Bool) (ps : Parts) (p : Pattern) → From a hs cs S x ps → depths ps ≤ fuel → HeldRule ks vs w p
+    → (rest : Parts) × (ps ≡ front p rest) × From a hs cs S z rest)
 Fronted ks vs a hs cs x w fuel None =
     (S : ℕ → Bool) (ps : Parts) (p : Pattern) → From a hs cs S x ps → depths ps ≤ fuel → HeldRule ks vs w p → (rest : Parts) → ps ≡ front p rest → ⊥
 

@@ -87,10 +87,13 @@ module _ (a : Area) (hs cs : List ℕ) (x y : Cursor) (fuel : ℕ) where
 module _ {a : Area} {hs cs : List ℕ} {x y : Cursor} {fuel p i q j : ℕ} (w : Meeting a hs cs x y fuel p i q j) where
   pub meeting_done : y.end ≤ q → (small : x.end < 4294967296) (few : i ≤ p)
       → Begins a hs cs x y fuel (Some (record { at = p; end = x.end; child = i; kids = x.kids; small = small; few = few }))
-  meeting_done le small few S T ps qs f g d =
-      let b = w.is S T ps qs f g d in
-      let e = parted_over a hs cs T b.right le in
-      (b.l, b.from b.l (ap (λ (r : Parts). r +++ b.l) (sym e)), b.left)
+  meeting_done le small few = (
+    (refl, refl),
+    λ S T ps qs f g d.
+        let b = w.is S T ps qs f g d in
+        let e = parted_over a hs cs T b.right le in
+        (b.l, b.from b.l (ap (λ (r : Parts). r +++ b.l) (sym e)), b.left),
+  )
 
   -- the first row ends before
   pub meeting_short : q < y.end → x.end ≤ p → Begins a hs cs x y fuel None
@@ -240,11 +243,11 @@ module _ {a : Area} {hs cs : List ℕ} {x y : Content} {fuel : ℕ} where
         }
         alike_rows (Some z) b r er = record {
           yes = λ e S T t u f g low.
-              let m = b S T (row t) (row u) (sc.is hs cs S t f) (sd.is hs cs T u g) (omega (arith, depth_row t)) in
+              let m = b.1 S T (row t) (row u) (sc.is hs cs S t f) (sd.is hs cs T u g) (omega (arith, depth_row t)) in
               let o = parted_over a hs cs S m.2 (leb-true z.end z.at (sym er ∙ e)) in
               node_same t u (sym (tree_kind a hs cs S f ek) ∙ kn ∙ tree_kind a hs cs T g en) (λ h. o' (tree_kind a hs cs S f ek ∙ h)) (m.1 ∙ ap (λ (r : Parts). row u +++ r) o ∙ behind_end (row u));
           no = λ e S T t u f g low i.
-              let m = b S T (row t) (row u) (sc.is hs cs S t f) (sd.is hs cs T u g) (omega (arith, depth_row t)) in
+              let m = b.1 S T (row t) (row u) (sc.is hs cs S t f) (sd.is hs cs T u g) (omega (arith, depth_row t)) in
               parted_more a hs cs S m.2 (leb-false z.end z.at (sym er ∙ e)) (rest_end (row u) m.0 (sym (ap row i) ∙ m.1));
         }
           where

@@ -82,11 +82,14 @@ module _ (a : Area) (x : Cursor) (m n : ℕ) where
   numbers_apart f hs cs S ps g rest e = f (numbers_are hs cs S ps rest g e)
 
   pub numbers_met : NumbersAre → (z : Cursor) → z.at ≡ x.at + 2 → z.end ≡ x.end → z.child ≡ x.child → z.kids ≡ x.kids → Numbers a x m n (Some z)
-  numbers_met w z ea ee ec ez hs cs S ps f =
-      let b = parted_number a hs cs S f w.first (sym w.kind) (sym w.value) refl in
-      let d = parted_number a hs cs S b.behind w.second (sym w.kind2) (sym w.value2) refl in
-      let o : x.at + 1 + 1 ≡ z.at = omega arith in
-      (d.rest, b.is ∙ ap (num m) d.is, rw (ee, ec, ez) (rw o at d.behind))
+  numbers_met w z ea ee ec ez = (
+    (ee, ez),
+    λ hs cs S ps f.
+        let b = parted_number a hs cs S f w.first (sym w.kind) (sym w.value) refl in
+        let d = parted_number a hs cs S b.behind w.second (sym w.kind2) (sym w.value2) refl in
+        let o : x.at + 1 + 1 ≡ z.at = omega arith in
+        (d.rest, b.is ∙ ap (num m) d.is, rw (ee, ec, ez) (rw o at d.behind)),
+  )
 
 -- ---- what a rule has before its arguments
 
@@ -141,7 +144,7 @@ module _ (ks vs : List ℕ) (g : Option Origin) (s : Sight ks vs g) (hs cs : Lis
 
       first : (S : ℕ → Bool) (ps : Parts) (p : Pattern) → From area hs cs S x ps → depths ps ≤ fuel → HeldRule ks vs w p → First S ps p
       first S ps p f d h =
-          let r = b S nothing ps (sub p.receiver end) f (source_from w.receiver at p.receiver rc h.receiver e tr) d in
+          let r = b.1 S nothing ps (sub p.receiver end) f (source_from w.receiver at p.receiver rc h.receiver e tr) d in
           record { rest = r.0; is = r.1; there = r.2; low = omega (arith, depths_behind (sub p.receiver end) r.0, ap depths r.1) }
 
       pub front_interface : Begins area hs cs x₁ ic fuel None → Fronted ks vs area hs cs x w fuel None
@@ -161,15 +164,18 @@ module _ (ks vs : List ℕ) (g : Option Origin) (s : Sight ks vs g) (hs cs : Lis
         second : (S : ℕ → Bool) (ps : Parts) (p : Pattern) → From area hs cs S x ps → depths ps ≤ fuel → HeldRule ks vs w p → Second S ps p
         second S ps p f d h =
             let r = first S ps p f d h in
-            let t = b2 S nothing r.rest p.interface r.there (nominal_from w.interface p.interface y ic h.interface yh yk st) r.low in
+            let t = b2.1 S nothing r.rest p.interface r.there (nominal_from w.interface p.interface y ic h.interface yh yk st) r.low in
             record { rest = t.0; is = r.is ∙ ap (sub p.receiver) t.1; there = t.2 }
 
         pub front_numbers : (r : Option Cursor) → Numbers area x₂ w.member w.count r → Fronted ks vs area hs cs x w fuel r
-        front_numbers (Some x₃) z = λ S ps p f d h.
-            let r = second S ps p f d h in
-            let t = z hs cs S r.rest r.there in
-            let u = ap₂ (λ (i j : ℕ). num i (num j t.0)) h.member h.count in
-            (t.0, r.is ∙ ap (λ (l : Parts). sub p.receiver (p.interface +++ l)) (t.1 ∙ u) ∙ sym (front_is p t.0), t.2)
+        front_numbers (Some x₃) z = (
+          (z.0.0 ∙ b2.0.0 ∙ b.0.0, z.0.1 ∙ b2.0.1 ∙ b.0.1),
+          λ S ps p f d h.
+              let r = second S ps p f d h in
+              let t = z.1 hs cs S r.rest r.there in
+              let u = ap₂ (λ (i j : ℕ). num i (num j t.0)) h.member h.count in
+              (t.0, r.is ∙ ap (λ (l : Parts). sub p.receiver (p.interface +++ l)) (t.1 ∙ u) ∙ sym (front_is p t.0), t.2),
+        )
         front_numbers None z = λ S ps p f d h rest q.
             let r = second S ps p f d h in
             let v : sub p.receiver (p.interface +++ r.rest) ≡ sub p.receiver (p.interface +++ num p.member (num (length p.arguments) rest)) = sym r.is ∙ q ∙ front_is p rest in
@@ -306,7 +312,7 @@ module _ (ks vs : List ℕ) (g : Option Origin) (hs cs : List ℕ) (x : Cursor) 
   pub arguing_start : (w : Rule) (m : Option Cursor) (q : ℕ) → q ≡ w.arguments → Fronted ks vs (view ks vs g) hs cs x w fuel m → Arguing ks vs g hs cs x fuel w m q w.count
   arguing_start w (Some z) q eq f = record {
     is = λ S ps p h d k.
-        let t = f S ps p h d k in
+        let t = f.1 S ps p h d k in
         record {
           rest = t.0;
           arguments = p.arguments;
@@ -377,7 +383,7 @@ module _ {ks vs : List ℕ} {g : Option Origin} {hs cs : List ℕ} {x : Cursor} 
       is = λ S ps p h d k.
           let y = next S ps p h d k in
           let t = y.old in
-          let z = b S nothing t.rest (sub y.term end) t.there y.there t.low in
+          let z = b.1 S nothing t.rest (sub y.term end) t.there y.there t.low in
           let o = ap (λ (us : List Term). put_terms us end) y.is ∙ terms_cons y.term y.terms in
           record {
             rest = z.0;
