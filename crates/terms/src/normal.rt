@@ -1,7 +1,7 @@
 // `normalize` and `with_associated_types`: a term is walked and sized, and then written.
 // Kinds and tags are matched by number; the line in kinds.rt says why.
 // Heads and kids are lent as two slices; the line in rows.rt says why.
-// The output and the position in it stand apart: the lines at the head of store.rt say why.
+// The output and the position in it stand apart: docs/DECISIONS.md, "How are the tokens lent?".
 ghost use Rattle.std.specs.Prelude.{◌≡◌, Some, ◌+◌, ◌≤◌, ◌<◌, List, length};
 ghost use Rattle.std.proofs.lemmas.List.Edits.{sets};
 ghost use Rattle.terms.specs.Words.VirtualTokens.{Sight};

@@ -65,8 +65,8 @@ impl<'a> Seen<'a> {
         }
     }
 
-    // Numbers and children are counted by hand: `filter(..).nth(i)` over a `RowWalk` was tried, and is taken; but what it ensures is told of runs of `filter_steps`,
-    // where the laws of a row go token by token.
+    // Numbers and children are counted by hand: `filter(..).nth(i)` over a `RowWalk` was tried, and is taken; but what it ensures is told of runs of
+    // `filter_steps`, where the laws of a row go token by token.
     //
     // Where the i-th number of the row stands.
     pub fn number_place(&self, h: u32, i: usize) -> Option<usize>
@@ -114,7 +114,7 @@ impl<'a> Seen<'a> {
 }
 
 // Where heads and kids are written they are lent as two slices: the walk writes them between two looks, so a struct of both would be made for each call, and
-// no contract ties their lengths. What only looks takes `Records`.
+// no contract ties their lengths. What only looks is a method of `Records`.
 //
 // The content of a child that is the i-th of its node, whose child word is c, and stands at q where it is as in the source.
 #[inline(always)]

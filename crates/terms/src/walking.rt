@@ -161,8 +161,8 @@ impl<'a> Normaliser<'a> {
     ) -> Option<Walked>
         requires room { RecordRoom self.now.seen.tokens.kinds.now self.now.seen.tokens.vals.now heads.old kids.old self.now.seen.given next most }
         requires low { (levels < 4294967296) × (visits < 134217728) }
-        ensures walks { Walks self.now.seen.tokens.kinds.now self.now.seen.tokens.vals.now self.now.lookup self.now.seen.given heads.old kids.old heads.new kids.new x
-            next levels visits most result }
+        ensures walks { Walks self.now.seen.tokens.kinds.now self.now.seen.tokens.vals.now self.now.lookup self.now.seen.given heads.old kids.old heads.new
+            kids.new x next levels visits most result }
         ensures frames { Frames heads.old kids.old heads.new kids.new next (used most result) }
     {
         let seen = &self.seen;
