@@ -1,5 +1,5 @@
 // Searches: a parameter in an order's bytes, the entry of a substitution in the areas. The last one counts.
-ghost use Rattle.std.specs.Prelude.{◌≡◌, ◌-◌, ◌≤◌, ◌<◌, length};
+ghost use Rattle.std.specs.Prelude.{◌≡◌, ◌-◌, ◌≤◌, length};
 ghost use Rattle.terms.specs.Result.{said};
 ghost use Rattle.terms.specs.Parameters.{parameter, listed, passed, past, skipped, index_in};
 ghost use Rattle.terms.specs.Words.FindContract.{last_at, entry_at, receiver_at, nth_at};

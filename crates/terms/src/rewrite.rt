@@ -2,7 +2,7 @@
 // inserted term is not looked into. Each Generic and each SelfType costs a search through the rows and the parameters; all else is linear in the
 // tokens read and the bytes written.
 // Kinds and tags are matched by number; the line in kinds.rt says why.
-ghost use Rattle.std.specs.Prelude.{◌≡◌, ◌+◌, ◌-◌, ◌≤◌, ◌<◌, length};
+ghost use Rattle.std.specs.Prelude.{◌≡◌, ◌+◌, ◌≤◌, ◌<◌, length};
 ghost use Rattle.std.proofs.lemmas.List.Edits.{sets};
 ghost use Rattle.terms.specs.Result.{pick};
 ghost use Rattle.terms.specs.Words.FindContract.{argument_for};

@@ -2,10 +2,10 @@
 // Kinds and tags are matched by number; the line in kinds.rt says why.
 // The output and the position in it stand apart: docs/DECISIONS.md, "How are the tokens lent?".
 ghost use Rattle.terms.specs.Words.Lent.{shown, StandsFor, PartOf, spelt_in};
-ghost use Rattle.std.specs.Prelude.{◌≡◌, Bool, ℕ, ◌+◌, ◌≤◌, ◌<◌, length};
+ghost use Rattle.std.specs.Prelude.{Bool, ℕ, ◌≤◌, ◌<◌, length};
 ghost use Rattle.terms.specs.Words.TokenBytes.{plain};
 ghost use Rattle.terms.specs.Term.{Term, Parts, depth, depths, bytes, part_bytes};
-ghost use Rattle.terms.specs.Words.Arena.{Tree, From};
+ghost use Rattle.terms.specs.Words.Arena.{From};
 ghost use Rattle.terms.specs.Words.ShowingContract.{writes, Shows, Kept};
 
 use super::rows::child_here;
