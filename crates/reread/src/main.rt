@@ -12,8 +12,8 @@ ghost use Rattle.reread.specs.Frame.{Sound, Lies, Passes};
 
 use frames::{Input, all_are};
 use terms::{
-    LEVELS, NODES, ORDINARY, PartKind, Place, Refusal, byte_at, clear_tokens, number_len, part_at,
-    read_number, run_len, write_number, write_run,
+    LEVELS, NODES, ORDINARY, Part, PartKind, Place, Refusal, byte_at, clear_tokens, number_len,
+    part_at, read_number, run_len, write_number, write_run,
 };
 
 // What a frame holds: for terms the nodes, the tokens and the first token to write.
@@ -152,11 +152,15 @@ fn kept_answer(
     requires run { (first ≤ tokens) × (tokens ≤ length kinds.now) × (tokens ≤ length vals.now) }
     ensures { IfSome result (λ next. next ≤ length out.new) }
 {
-    let run = run_len(kinds, vals, first, tokens - first);
-    if out.len() - at < run {
+    let run = Part {
+        from: first,
+        end: tokens,
+    };
+    let len = run_len(kinds, vals, run);
+    if out.len() - at < len {
         return None;
     }
-    let size = 1 + number_len(nodes as u64) + number_len(tokens as u64) + run;
+    let size = 1 + number_len(nodes as u64) + number_len(tokens as u64) + len;
     if out.len() - at < number_len(size as u64) + size {
         return None;
     }
@@ -164,7 +168,7 @@ fn kept_answer(
     out[i] = 0;
     let j = write_number(out, i + 1, nodes as u64);
     let k = write_number(out, j, tokens as u64);
-    Some(write_run(kinds, vals, first, tokens - first, out, k))
+    Some(write_run(kinds, vals, run, out, k))
 }
 
 // The answer to a frame, whose tokens are cleared.

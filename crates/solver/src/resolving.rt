@@ -12,7 +12,7 @@ ghost use Rattle.solver.specs.Words.Lent.{HeldBy, Binds, walked_bytes, resolved_
 ghost use Rattle.solver.specs.Words.Worklist.{Zero};
 
 use super::{Bindings, Run, Stand};
-use terms::{Token, Tokens, run_len, write_run};
+use terms::{Token, Tokens, token_len, write_token};
 
 // The run of the term at a place, if one is there and lies within the tokens.
 pub fn run_at(tokens: &Tokens, at: usize) -> Option<Run>
@@ -127,7 +127,11 @@ pub fn walked_len(bindings: &Bindings, frames: &mut [u32], run: Run, limit: u32)
     let mut n = 0;
     // `next` goes on by one token, into bound variables and out of them through `frames`. An iterator would hold these by `&mut` (`store.rt` of terms says why not).
     while c.at < c.end {
-        n += run_len(bindings.tokens.kinds, bindings.tokens.vals, c.at, 1);
+        let here = Token {
+            kind: bindings.tokens.kinds[c.at],
+            value: bindings.tokens.vals[c.at],
+        };
+        n += token_len(here);
         if (limit as usize) < n {
             return None;
         }
@@ -155,7 +159,11 @@ pub fn write_walked(
     let mut i = to;
     // `next` goes on by one token, into bound variables and out of them through `frames`. An iterator would hold these by `&mut` (`store.rt` of terms says why not).
     while c.at < c.end {
-        i = write_run(bindings.tokens.kinds, bindings.tokens.vals, c.at, 1, out, i);
+        let here = Token {
+            kind: bindings.tokens.kinds[c.at],
+            value: bindings.tokens.vals[c.at],
+        };
+        i = write_token(out, i, here);
         c = next(bindings, frames, c);
     }
     i

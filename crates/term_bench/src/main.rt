@@ -9,7 +9,7 @@ mod mode;
 
 use frames::{Input, number_at};
 use mode::Mode;
-use terms::{LEVELS, NODES, PartKind, Place, clear_tokens, part_at, run_len, write_run};
+use terms::{LEVELS, NODES, Part, PartKind, Place, clear_tokens, part_at, run_len, write_run};
 
 // Reads the term. Returns how many tokens stand in the areas, or nothing where it is refused, or has more than there is space for.
 fn read_once(input: Input, kinds: &mut [u32], vals: &mut [u32]) -> Option<usize>
@@ -42,11 +42,15 @@ fn read_once(input: Input, kinds: &mut [u32], vals: &mut [u32]) -> Option<usize>
 fn write_once(kinds: &[u32], vals: &[u32], tokens: usize, out: &mut [u8]) -> Option<usize>
     requires { (tokens ≤ length kinds.now) × (tokens ≤ length vals.now) }
 {
-    let size = run_len(kinds, vals, 0, tokens);
+    let run = Part {
+        from: 0,
+        end: tokens,
+    };
+    let size = run_len(kinds, vals, run);
     if out.len() < size {
         return None;
     }
-    Some(write_run(kinds, vals, 0, tokens, out, 0))
+    Some(write_run(kinds, vals, run, out, 0))
 }
 
 // Reads the term `count` times, and clears what was read each time.

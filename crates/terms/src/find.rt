@@ -1,5 +1,5 @@
 // Searches: a parameter in an order's bytes, the entry of a substitution in the areas. The last one counts.
-ghost use Rattle.std.specs.Prelude.{◌≡◌, ◌-◌, ◌≤◌, ◌<◌, length};
+ghost use Rattle.std.specs.Prelude.{◌≡◌, ◌-◌, ◌≤◌, length};
 ghost use Rattle.terms.specs.Result.{said};
 ghost use Rattle.terms.specs.Parameters.{parameter, listed, passed, past, skipped, index_in};
 ghost use Rattle.terms.specs.Words.FindContract.{last_at, entry_at, receiver_at, nth_at};
@@ -31,7 +31,7 @@ impl<'a> Parameters<'a> {
     }
 
     // Goes through them and looks for the last one that is wanted: its index, and the position after them. Linear in their bytes.
-    fn scan(&self, wanted: Parameter) -> Result<(Option<usize>, usize), Refusal>
+    pub fn scan(&self, wanted: Parameter) -> Result<(Option<usize>, usize), Refusal>
         ensures { said result ≡ passed 0 None (listed self.now) wanted }
     {
         let mut best = None;
@@ -78,10 +78,7 @@ fn find_record(tokens: &Tokens, row: Part, width: usize, wanted: Parameter) -> O
             return best;
         }
         let t = i + width;
-        let here = Parameter {
-            owner: u64::from(tokens.vals[i]),
-            position: u64::from(tokens.vals[t - 1]),
-        };
+        let here = Parameter::of_words(tokens.vals[i], tokens.vals[t - 1]);
         if here == wanted {
             best = Some(t);
         }

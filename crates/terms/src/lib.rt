@@ -88,6 +88,20 @@ pub struct Parameter {
     pub position: u64,
 }
 
+impl Parameter {
+    ghost use Rattle.std.specs.Prelude.{◌≡◌};
+
+    // The parameter of an owner and a position that are words.
+    pub fn of_words(owner: u32, position: u32) -> Parameter
+        ensures { result ≡ record { owner = owner; position = position } }
+    {
+        Parameter {
+            owner: u64::from(owner),
+            position: u64::from(position),
+        }
+    }
+}
+
 // A question of `TypeId` that looks for a term of some kind. The first seven are those of order 15, in its order.
 #[derive(Clone, Copy, Debug, PartialEq, Eq)]
 pub enum Question {

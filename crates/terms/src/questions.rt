@@ -32,13 +32,7 @@ fn unresolved(tag: u32, a: u32, b: u32, parameters: &Parameters) -> bool
     match tag {
         1 | 2 | 3 | 19 => true,
         18 => parameters.count == 0,
-        17 => {
-            let wanted = Parameter {
-                owner: u64::from(a),
-                position: u64::from(b),
-            };
-            parameters.find(wanted).is_none()
-        }
+        17 => parameters.find(Parameter::of_words(a, b)).is_none(),
         _ => false,
     }
 }

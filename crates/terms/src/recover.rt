@@ -14,8 +14,8 @@ ghost use Rattle.terms.specs.Formed.{Formed, Fit};
 ghost use Rattle.terms.specs.Words.TermsAtPlaces.{FormedAt, RecoversAt};
 ghost use Rattle.terms.specs.Tree.{row};
 ghost use Rattle.terms.specs.Recovery.{recover_from, recover_row, reach, nominal_reach};
-ghost use Rattle.terms.specs.Words.Lent.{PartOf, NotEmpty};
-ghost use Rattle.terms.specs.Words.RecoverContract.{Put, upto, alike};
+ghost use Rattle.terms.specs.Words.Lent.{PartOf, NotEmpty, spelt_in};
+ghost use Rattle.terms.specs.Words.RecoverContract.{Put, put_if, upto, alike};
 
 use super::pairs::walk_pair;
 use super::questions::{tag_of, word_at};
@@ -146,6 +146,17 @@ fn stays(k: u32, l: u32) -> bool
     is_hole(l) || k == 1
 }
 
+// `put_run` of a part of the lent tokens. One reference in the place of two slices: all arguments are in registers, since there are six and not seven.
+fn put_part(tokens: &Tokens, part: Part, out: &mut [u8], at: usize) -> usize
+    requires part { PartOf tokens.now.kinds.now part }
+    requires room { at + 6 * (part.end - part.from) < 2 ^ 64 }
+    ensures next { result ≡ at + length (spelt_in tokens.now.kinds.now tokens.now.vals.now part) }
+    ensures put { out.new ≡ put_if out.old at (spelt_in tokens.now.kinds.now tokens.now.vals.now part) }
+    ensures bound { (at ≤ result) × (result ≤ at + 6 * (part.end - part.from)) }
+{
+    put_run(tokens.kinds, tokens.vals, part, out, at)
+}
+
 // Writes a term with its holes filled from another where it fits, and returns the position after it.
 #[cycle(recovering)]
 fn recover_term(tokens: &Tokens, a: Part, b: Part, out: &mut [u8], at: usize) -> usize
@@ -161,17 +172,17 @@ fn recover_term(tokens: &Tokens, a: Part, b: Part, out: &mut [u8], at: usize) ->
 {
     let k = tag_of(word(tokens.kinds, a.from));
     if stays(k, tag_of(word(tokens.kinds, b.from))) {
-        return put_run(tokens.kinds, tokens.vals, a, out, at);
+        return put_part(tokens, a, out, at);
     }
     if is_hole(k) {
-        return put_run(tokens.kinds, tokens.vals, b, out, at);
+        return put_part(tokens, b, out, at);
     }
     let stop = reach_end(tokens, a, b);
     let head = Part {
         from: a.from,
         end: a.from + 1,
     };
-    let next = put_run(tokens.kinds, tokens.vals, head, out, at);
+    let next = put_part(tokens, head, out, at);
     let row = Part {
         from: head.end,
         end: a.end,
@@ -210,7 +221,7 @@ fn recover_row(tokens: &Tokens, a: Part, stop: usize, b: Part, out: &mut [u8], a
                     from: i,
                     end: i + 1,
                 };
-                to = put_run(tokens.kinds, tokens.vals, number, out, to);
+                to = put_part(tokens, number, out, to);
                 rest.from = i + 1;
             }
             PairStep::Terms(t, u) => {
@@ -220,7 +231,7 @@ fn recover_row(tokens: &Tokens, a: Part, stop: usize, b: Part, out: &mut [u8], a
             PairStep::Apart => {}
         }
     }
-    put_run(tokens.kinds, tokens.vals, rest, out, to)
+    put_part(tokens, rest, out, to)
 }
 
 // How many bytes `recover_from` of the terms at a and b has: where writing from 0 on ends, on an output of one byte.

@@ -2,18 +2,17 @@
 // inserted term is not looked into. Each Generic and each SelfType costs a search through the rows and the parameters; all else is linear in the
 // tokens read and the bytes written.
 // Kinds and tags are matched by number; the line in kinds.rt says why.
-ghost use Rattle.std.specs.Prelude.{◌≡◌, ◌+◌, ◌-◌, ◌≤◌, ◌<◌, length};
+ghost use Rattle.std.specs.Prelude.{◌≡◌, ◌+◌, ◌≤◌, ◌<◌, length};
 ghost use Rattle.std.proofs.lemmas.List.Edits.{sets};
 ghost use Rattle.terms.specs.Result.{pick};
-ghost use Rattle.terms.specs.Words.TokenBytes.{spelt};
 ghost use Rattle.terms.specs.Words.FindContract.{argument_for};
-ghost use Rattle.terms.specs.Words.Lent.{PartOf};
+ghost use Rattle.terms.specs.Words.Lent.{PartOf, spelt_in};
 ghost use Rattle.terms.specs.Words.RewriteContract.{by, index, entry_for, generic, in_context_of, generic_for, self_for, chosen, piece, pace, Space, Inside};
 ghost use Rattle.terms.specs.Words.RewriteContract.{rewritten, written, Writes, Rewrites};
 ghost use Rattle.terms.specs.Words.ShowingContract.{writes};
 
 use super::find::{find_entry, find_receiver, nth_term};
-use super::runs::{skip, term_part, width_at, word};
+use super::runs::{skip, term_part, word};
 use super::write::{run_len, write_run};
 use super::{Choice, Parameter, Parameters, Part, Pass, Purpose, Rewriter, Tokens};
 
@@ -27,23 +26,15 @@ fn taken(found: Option<usize>) -> Choice
 // Writes a run of tokens, or only counts its bytes. A trait with a sink that writes and one that counts is no plainer: its laws say of each what
 // `pick (writes pass)` says of both, and each function up to the orders would take a type for `pass`.
 #[inline(always)]
-fn emit_run(
-    tokens: &Tokens,
-    from: usize,
-    count: usize,
-    out: &mut [u8],
-    i: usize,
-    pass: Pass,
-) -> usize
-    requires run { (from + count ≤ length tokens.now.kinds.now) × (from + count ≤ length tokens.now.vals.now) }
-    requires space { Space (writes pass) i (length (spelt tokens.now.kinds.now tokens.now.vals.now from count)) (length out.old) }
-    ensures next { result ≡ i + length (spelt tokens.now.kinds.now tokens.now.vals.now from count) }
-    ensures wrote { out.new
-        ≡ pick (writes pass) (sets out.old i (spelt tokens.now.kinds.now tokens.now.vals.now from count)) out.old }
+fn emit_run(tokens: &Tokens, run: Part, out: &mut [u8], i: usize, pass: Pass) -> usize
+    requires run { PartOf tokens.now.kinds.now run }
+    requires space { Space (writes pass) i (length (spelt_in tokens.now.kinds.now tokens.now.vals.now run)) (length out.old) }
+    ensures next { result ≡ i + length (spelt_in tokens.now.kinds.now tokens.now.vals.now run) }
+    ensures wrote { out.new ≡ pick (writes pass) (sets out.old i (spelt_in tokens.now.kinds.now tokens.now.vals.now run)) out.old }
 {
     match pass {
-        Pass::Count => i + run_len(tokens.kinds, tokens.vals, from, count),
-        Pass::Write => write_run(tokens.kinds, tokens.vals, from, count, out, i),
+        Pass::Count => i + run_len(tokens.kinds, tokens.vals, run),
+        Pass::Write => write_run(tokens.kinds, tokens.vals, run, out, i),
     }
 }
 
@@ -56,11 +47,14 @@ fn emit(tokens: &Tokens, c: Choice, p: usize, out: &mut [u8], i: usize, pass: Pa
     ensures wrote { out.new ≡ pick (writes pass) (sets out.old i (piece tokens.now.kinds.now tokens.now.vals.now p c)) out.old }
 {
     match c {
-        Choice::Keep => emit_run(tokens, p, 1, out, i, pass),
-        Choice::By(q) => {
-            let n = width_at(tokens, q);
-            emit_run(tokens, q, n, out, i, pass)
+        Choice::Keep => {
+            let own = Part {
+                from: p,
+                end: p + 1,
+            };
+            emit_run(tokens, own, out, i, pass)
         }
+        Choice::By(q) => emit_run(tokens, term_part(tokens, q), out, i, pass),
         Choice::Unknown => {
             match pass {
                 Pass::Count => {}
@@ -108,11 +102,10 @@ impl<'a> Rewriter<'a> {
     fn generic_at(&self, parameters: &Parameters, arguments: usize, wanted: Parameter) -> Choice
         ensures { result ≡ generic self.now.tokens.kinds.now self.now.tokens.vals.now self.now.binders parameters.now arguments wanted }
     {
-        // By `match`: what `entry_for` ensures would not come out of a closure that `or_else` is given, without clauses of its own.
-        match self.argument_for(parameters, arguments, wanted) {
-            Some(q) => Choice::By(q),
-            None => taken(self.entry_for(wanted)),
-        }
+        let argument = self.argument_for(parameters, arguments, wanted);
+        // By `let`: of a closure that is written in the call, and holds what has a lifetime in its type, no `ensures` comes out.
+        let entry = || self.entry_for(wanted);
+        taken(argument.or_else(entry))
     }
 
     // In a context: an entry's term, or Unknown for a parameter.
@@ -162,10 +155,7 @@ impl<'a> Rewriter<'a> {
         let k = self.tokens.kinds[p];
         if k == 19 {
             let vals = self.tokens.vals;
-            let wanted = Parameter {
-                owner: u64::from(word(vals, p + 1)),
-                position: u64::from(word(vals, p + 2)),
-            };
+            let wanted = Parameter::of_words(word(vals, p + 1), word(vals, p + 2));
             return self.generic_for(wanted);
         }
         if k == 21 {
@@ -175,7 +165,7 @@ impl<'a> Rewriter<'a> {
     }
 
     // Writes the tokens of a part at a position of `out`, with the binders replaced, and returns the position after them; or only counts.
-    fn rewrite_run(&self, part: Part, out: &mut [u8], at: usize, pass: Pass) -> usize
+    pub fn rewrite_run(&self, part: Part, out: &mut [u8], at: usize, pass: Pass) -> usize
         requires part { PartOf self.now.tokens.kinds.now part }
         requires space { Space (writes pass) at
             (length (rewritten self.now.tokens.kinds.now self.now.tokens.vals.now self.now.binders part)) (length out.old) }

@@ -47,11 +47,9 @@ fn gives(tokens: &Tokens, x: usize, member: u32, t: usize) -> bool
         → result ≡ same_option (look_up member gs hs) u }
 {
     let count = word(tokens.vals, x) as usize;
-    // By `match`: of a closure without clauses of its own, `is_some_and` does not hand on what `same_term` ensures.
-    match member_at(tokens, x + 1, count, member) {
-        Some(i) => same_term(tokens, i, t),
-        None => false,
-    }
+    // By `let`: the line in rewrite.rt says why.
+    let same = |i| same_term(tokens, i, t);
+    member_at(tokens, x + 1, count, member).is_some_and(same)
 }
 
 // The place after `count` required members from p on, where the members listed at x give each of them. `covered` has the same loop with another test: a closure

@@ -1,16 +1,16 @@
 // Tokens and contents are sized, or written too. What is returned is the position after them; None where they do not fit.
 // Kinds and tags are matched by number; the line in kinds.rt says why.
 // The output and the position in it stand apart: docs/DECISIONS.md, "How are the tokens lent?".
-ghost use Rattle.terms.specs.Words.Lent.{shown, StandsFor};
-ghost use Rattle.std.specs.Prelude.{◌≡◌, Bool, ℕ, ◌+◌, ◌≤◌, ◌<◌, length};
-ghost use Rattle.terms.specs.Words.TokenBytes.{plain, spelt};
+ghost use Rattle.terms.specs.Words.Lent.{shown, StandsFor, PartOf, spelt_in};
+ghost use Rattle.std.specs.Prelude.{Bool, ℕ, ◌≤◌, ◌<◌, length};
+ghost use Rattle.terms.specs.Words.TokenBytes.{plain};
 ghost use Rattle.terms.specs.Term.{Term, Parts, depth, depths, bytes, part_bytes};
-ghost use Rattle.terms.specs.Words.Arena.{Tree, From};
+ghost use Rattle.terms.specs.Words.Arena.{From};
 ghost use Rattle.terms.specs.Words.ShowingContract.{writes, Shows, Kept};
 
 use super::rows::child_here;
 use super::write::{run_len, token_len, write_run, write_token};
-use super::{Content, Cursor, Origin, Pass, Records, RowWalk, Seen, Token, Tokens};
+use super::{Content, Cursor, Origin, Part, Pass, Records, RowWalk, Seen, Token, Tokens};
 
 // One token. The pass is a value and no type, as in `emit_run`: what is sized and what is written are the same but for the last step.
 fn show_token(out: &mut [u8], at: usize, x: Token, pass: Pass) -> Option<usize>
@@ -28,56 +28,39 @@ fn show_token(out: &mut [u8], at: usize, x: Token, pass: Pass) -> Option<usize>
     }
 }
 
-// The `count` lent tokens from `from` on; a token has at most 6 bytes.
-fn show_flat(
-    tokens: &Tokens,
-    from: usize,
-    count: usize,
-    out: &mut [u8],
-    at: usize,
-    pass: Pass,
-) -> Option<usize>
-    requires run { from + count ≤ length tokens.now.kinds.now }
-    requires small { count < 4294967296 }
+// The lent tokens of a part; a token has at most 6 bytes.
+fn show_flat(tokens: &Tokens, run: Part, out: &mut [u8], at: usize, pass: Pass) -> Option<usize>
+    requires run { PartOf tokens.now.kinds.now run }
     requires room { at ≤ length out.old }
     ensures kept { Kept (writes pass) out.old out.new at result }
-    ensures shows { Shows (writes pass) out.old out.new at (spelt tokens.now.kinds.now tokens.now.vals.now from count) result }
+    ensures shows { Shows (writes pass) out.old out.new at (spelt_in tokens.now.kinds.now tokens.now.vals.now run) result }
 {
-    if pass == Pass::Write && 6 * count <= out.len() - at {
-        return Some(write_run(tokens.kinds, tokens.vals, from, count, out, at));
+    if pass == Pass::Write && 6 * (run.end - run.from) <= out.len() - at {
+        return Some(write_run(tokens.kinds, tokens.vals, run, out, at));
     }
-    let n = run_len(tokens.kinds, tokens.vals, from, count);
+    let n = run_len(tokens.kinds, tokens.vals, run);
     if out.len() - at < n {
         return None;
     }
     match pass {
         Pass::Count => Some(at + n),
-        Pass::Write => Some(write_run(tokens.kinds, tokens.vals, from, count, out, at)),
+        Pass::Write => Some(write_run(tokens.kinds, tokens.vals, run, out, at)),
     }
 }
 
 impl<'a> Seen<'a> {
-    // The `count` tokens from `from` on, by `show_flat` where all are lent.
-    fn show_run(
-        &self,
-        from: usize,
-        count: usize,
-        out: &mut [u8],
-        at: usize,
-        pass: Pass,
-    ) -> Option<usize>
-        requires small { (from < 4294967296) × (count < 4294967296) }
+    // The tokens of a part, by `show_flat` where all are lent.
+    fn show_run(&self, run: Part, out: &mut [u8], at: usize, pass: Pass) -> Option<usize>
+        requires run { run.from ≤ run.end }
         requires room { at ≤ length out.old }
         ensures kept { Kept (writes pass) out.old out.new at result }
-        ensures shows { Shows (writes pass) out.old out.new at
-            (spelt (shown self.now).kinds (shown self.now).vals from count) result }
+        ensures shows { Shows (writes pass) out.old out.new at (spelt_in (shown self.now).kinds (shown self.now).vals run) result }
     {
-        let end = from + count;
-        if end <= self.tokens.kinds.len() {
-            return show_flat(&self.tokens, from, count, out, at, pass);
+        if run.end <= self.tokens.kinds.len() {
+            return show_flat(&self.tokens, run, out, at, pass);
         }
         let mut i = at;
-        for q in from..end {
+        for q in run.from..run.end {
             i = show_token(out, i, self.token(q), pass)?;
         }
         Some(i)
@@ -141,7 +124,12 @@ impl<'a> Records<'a> {
     {
         let h = self.seen.token(x.head as usize);
         if x.kids == 0 {
-            return self.seen.show_run(x.head as usize, h.step(), out, at, pass);
+            let from = x.head as usize;
+            let run = Part {
+                from,
+                end: from + h.step(),
+            };
+            return self.seen.show_run(run, out, at, pass);
         }
         if fuel == 0 {
             return None;

@@ -14,7 +14,7 @@ ghost use Rattle.terms.specs.Words.WalkingContract.{first_of_node, Fixed, Walks,
 
 use super::members::Counted;
 use super::write::run_len;
-use super::{Begun, Content, LookUp, Normaliser, Origin, Records, Tokens, Walked};
+use super::{Begun, Content, LookUp, Normaliser, Origin, Part, Records, Tokens, Walked};
 
 impl<'a> Counted<'a> {
     // What a projection is replaced by; its children have at most `fuel` levels.
@@ -143,7 +143,11 @@ fn fixed_len(tokens: &Tokens, x: Content) -> usize
     ensures bytes { (t : Term) → Held tokens.now.kinds.now tokens.now.vals.now x.head t → result ≡ length (bytes t) }
 {
     let from = x.head as usize;
-    run_len(tokens.kinds, tokens.vals, from, tokens.token(from).span())
+    let run = Part {
+        from,
+        end: from + tokens.token(from).span(),
+    };
+    run_len(tokens.kinds, tokens.vals, run)
 }
 
 impl<'a> Normaliser<'a> {

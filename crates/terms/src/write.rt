@@ -4,8 +4,8 @@
 // The output and the position in it stand apart: docs/DECISIONS.md, "How are the tokens lent?".
 ghost use Rattle.std.specs.Prelude.{◌≡◌, ◌+◌, ◌-◌, ◌*◌, ◌^◌, ◌≤◌, ◌<◌, length};
 ghost use Rattle.std.proofs.lemmas.List.Edits.{sets};
-ghost use Rattle.terms.specs.Words.TokenBytes.{plain, spelt};
-ghost use Rattle.terms.specs.Words.Lent.{PartOf};
+ghost use Rattle.terms.specs.Words.TokenBytes.{plain};
+ghost use Rattle.terms.specs.Words.Lent.{PartOf, spelt_in};
 ghost use Rattle.terms.specs.Words.RecoverContract.{put_if};
 
 use super::numbers::{number_len, write_number};
@@ -41,15 +41,14 @@ pub fn write_token(out: &mut [u8], at: usize, x: Token) -> usize
     at + 1
 }
 
-// How many bytes the `count` tokens from `from` on have; a token has at most 6.
-pub fn run_len(kinds: &[u32], vals: &[u32], from: usize, count: usize) -> usize
-    requires { (from + count ≤ length kinds.now) × (from + count ≤ length vals.now) }
-    ensures len { result ≡ length (spelt kinds.now vals.now from count) }
-    ensures bound { result ≤ 6 * count }
+// How many bytes the tokens of a part have; a token has at most 6.
+pub fn run_len(kinds: &[u32], vals: &[u32], run: Part) -> usize
+    requires { PartOf kinds.now run × PartOf vals.now run }
+    ensures len { result ≡ length (spelt_in kinds.now vals.now run) }
+    ensures bound { result ≤ 6 * (run.end - run.from) }
 {
-    let end = from + count;
     let mut n = 0;
-    for p in from..end {
+    for p in run.from..run.end {
         let x = Token {
             kind: kinds[p],
             value: vals[p],
@@ -59,23 +58,15 @@ pub fn run_len(kinds: &[u32], vals: &[u32], from: usize, count: usize) -> usize
     n
 }
 
-// Writes the `count` tokens from `from` on at a position of `out`, and returns the position after them.
-pub fn write_run(
-    kinds: &[u32],
-    vals: &[u32],
-    from: usize,
-    count: usize,
-    out: &mut [u8],
-    at: usize,
-) -> usize
-    requires run { (from + count ≤ length kinds.now) × (from + count ≤ length vals.now) }
-    requires room { at + length (spelt kinds.now vals.now from count) ≤ length out.old }
-    ensures next { result ≡ at + length (spelt kinds.now vals.now from count) }
-    ensures wrote { out.new ≡ sets out.old at (spelt kinds.now vals.now from count) }
+// Writes the tokens of a part at a position of `out`, and returns the position after them.
+pub fn write_run(kinds: &[u32], vals: &[u32], run: Part, out: &mut [u8], at: usize) -> usize
+    requires run { PartOf kinds.now run × PartOf vals.now run }
+    requires room { at + length (spelt_in kinds.now vals.now run) ≤ length out.old }
+    ensures next { result ≡ at + length (spelt_in kinds.now vals.now run) }
+    ensures wrote { out.new ≡ sets out.old at (spelt_in kinds.now vals.now run) }
 {
-    let end = from + count;
     let mut i = at;
-    for p in from..end {
+    for p in run.from..run.end {
         let x = Token {
             kind: kinds[p],
             value: vals[p],
@@ -85,22 +76,21 @@ pub fn write_run(
     i
 }
 
-// The same of a part where its tokens fit; else nothing is written. In either case returns the position after them.
+// The same where the tokens fit; else nothing is written. In either case returns the position after them.
 pub fn put_run(kinds: &[u32], vals: &[u32], run: Part, out: &mut [u8], at: usize) -> usize
     requires run { PartOf kinds.now run × PartOf vals.now run }
     requires room { at + 6 * (run.end - run.from) < 2 ^ 64 }
-    ensures next { result ≡ at + length (spelt kinds.now vals.now run.from (run.end - run.from)) }
-    ensures put { out.new ≡ put_if out.old at (spelt kinds.now vals.now run.from (run.end - run.from)) }
+    ensures next { result ≡ at + length (spelt_in kinds.now vals.now run) }
+    ensures put { out.new ≡ put_if out.old at (spelt_in kinds.now vals.now run) }
     ensures bound { (at ≤ result) × (result ≤ at + 6 * (run.end - run.from)) }
 {
-    let count = run.end - run.from;
     // A token has at most 6 bytes.
-    if at + 6 * count <= out.len() {
-        return write_run(kinds, vals, run.from, count, out, at);
+    if at + 6 * (run.end - run.from) <= out.len() {
+        return write_run(kinds, vals, run, out, at);
     }
-    let n = run_len(kinds, vals, run.from, count);
+    let n = run_len(kinds, vals, run);
     if at + n <= out.len() {
-        return write_run(kinds, vals, run.from, count, out, at);
+        return write_run(kinds, vals, run, out, at);
     }
     at + n
 }

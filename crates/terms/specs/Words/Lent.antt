@@ -8,6 +8,7 @@ use Rattle.std.proofs.Math.Option as math
 use Rattle.terms.specs.Term.{Term}
 use Rattle.terms.specs.Words.Arena.{Tree, Fetched}
 use Rattle.terms.specs.Words.Tokens.{Area, Item, Agree, toks}
+use Rattle.terms.specs.Words.TokenBytes.{spelt}
 use Rattle.terms.specs.Words.VirtualTokens.{view}
 
 -- the tokens that normalising sees
@@ -35,3 +36,7 @@ AgreeIn ws a b = (a.end - a.from ≡ b.end - b.from) × Agree ws a.from b.from (
 -- the tokens of a part
 abbrev pub toks_in : (ks vs : List ℕ) → Part → List Item
 toks_in ks vs a = toks ks vs a.from (a.end - a.from)
+
+-- and their bytes
+abbrev pub spelt_in : (ks vs : List ℕ) → Part → List ℕ
+spelt_in ks vs a = spelt ks vs a.from (a.end - a.from)

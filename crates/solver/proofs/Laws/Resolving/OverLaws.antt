@@ -1,10 +1,9 @@
 -- Laws of `over`: what a list of tokens writes.
 use mathlib.Core.Path.{◌≡◌, refl, sym, ap, ◌∙◌}
-use mathlib.Core.List.{List, [], ◌∷◌, ◌++◌, append_assoc, append-nil}
+use mathlib.Core.List.{List, [], ◌∷◌, ◌++◌, append_assoc}
 use Prim.Native.Nat.{ℕ, zero, suc, ◌+◌}
-use lib.ListN.{length, get_or, length-append}
+use lib.ListN.{length, length-append}
 use Rattle.terms.specs.Words.Tokens.{Item, item, spell, toks}
-use Rattle.terms.specs.Words.TokenBytes.{plain, spelt}
 use Rattle.solver.specs.Words.ResolveWalk.{over}
 
 -- a list of tokens, each by f
@@ -34,8 +33,3 @@ module _ {A : Type 0} (f : ℕ → ℕ → List A) where
   unfolding over
   over-over g [] = refl
   over-over g (item k v ∷ l) = over-append (g k v) (over g l) ∙ ap (λ (r : List A). over f (g k v) ++ r) (over-over g l)
-
--- a run of one token
-pub spelt_one : (ks vs : List ℕ) (p : ℕ) → spelt ks vs p 1 ≡ plain (get_or ks p 0) (get_or vs p 0)
-unfolding spell
-spelt_one ks vs p = append-nil (plain (get_or ks p 0) (get_or vs p 0))

@@ -22,7 +22,7 @@ use Rattle.terms.proofs.Laws.General.Bools.{never_true, or-true, and-false, not-
 use Rattle.terms.proofs.Laws.Held.SameLaws.{both, same_refl, same_true}
 use Rattle.terms.proofs.Laws.Held.NominalLaws.{Rising, nominal_is, split, Projected, reflexive_parts}
 use Rattle.terms.proofs.Laws.Held.HeldLaws.{held_num, held_sub, items_some}
-use Rattle.std.specs.Prelude.{Option, Some, None, is_some}
+use Rattle.std.specs.Prelude.{Option, Some, None, MatchOption, is_some}
 
 -- ---- pairs of a member and a term
 
@@ -96,6 +96,12 @@ module _ {ks vs : List ℕ} {p n e : ℕ} {rest : Parts} (m : ℕ) {whole : math
   pub look_none : Pairs ks vs p n e rest (look_up m) whole → n ≡ 0 → Looked ks vs whole None
   unfolding look_up
   look_none x h = (pairs_over x h).0
+
+-- the term that was found is compared
+pub found_same : (ks vs : List ℕ) (whole : math.Option Term) (u : Term) (o : Option ℕ) (r : Bool) (Q : ℕ → Type 0) → ((i : ℕ) → Q i → (t : Term) → Held ks vs i t → r ≡ same t u)
+    → Looked ks vs whole o → MatchOption o (r ≡ false) Q → r ≡ same_option whole u
+found_same ks vs whole u (Some i) r Q f l m = f i m l.0 l.1 ∙ ap (λ (x : math.Option Term). same_option x u) (sym l.2)
+found_same ks vs whole u None r Q f l m = m ∙ ap (λ (x : math.Option Term). same_option x u) (sym l)
 
 -- the pairs of a list of members
 pub listed_pairs : {A : Type 0} {ks vs : List ℕ} {x n e : ℕ} {gs : List ℕ} {hs : List Term} {rest : Parts} (f : List ℕ → List Term → A)

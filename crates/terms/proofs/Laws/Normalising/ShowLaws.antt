@@ -8,10 +8,12 @@ use lib.ListN.{length, get_or, length-append}
 use lib.Seq.{sets}
 use Rattle.terms.specs.declared.Content.{Content}
 use Rattle.terms.specs.declared.Cursor.{Cursor}
+use Rattle.terms.specs.declared.Part.{Part}
 use Rattle.terms.specs.Result.{pick}
 use Rattle.terms.specs.Words.Tokens.{Area}
+use Rattle.terms.specs.Words.Lent.{spelt_in}
 use Rattle.terms.specs.Words.TokenBytes.{plain, spelt}
-use Rattle.terms.specs.Term.{Term, Parts, end, num, sub, depth, depths, bytes, part_bytes, Held}
+use Rattle.terms.specs.Term.{Term, Parts, end, num, sub, items, depth, depths, bytes, part_bytes}
 use Rattle.terms.specs.Words.Held.{span}
 use Rattle.terms.specs.Tree.{row}
 use Rattle.terms.specs.Words.Arena.{head_of, kids_of, Tree, variable, branch, Parted, From}
@@ -73,30 +75,34 @@ module _ (on : Bool) (o₀ : List ℕ) (at : ℕ) (whole o : List ℕ) (i : ℕ)
 
 -- ---- a run of tokens
 
-module _ (ks vs : List ℕ) (on : Bool) (o₀ : List ℕ) (at from count : ℕ) where
+module _ (ks vs : List ℕ) (on : Bool) (o₀ : List ℕ) (at : ℕ) (x : Part) where
   -- the tokens from q on are left
-  pub record Running (o : List ℕ) (i q e : ℕ) : Type 0 where
+  pub record Running (o : List ℕ) (i q : ℕ) : Type 0 where
     pub kept : Kept on o₀ o at (Some i)
-    pub ends : e ≡ from + count
-    pub rest : Showing on o₀ at (spelt ks vs from count) o i (spelt ks vs q (e - q))
+    pub rest : Showing on o₀ at (spelt_in ks vs x) o i (spelt ks vs q (x.end - q))
 
-module _ {ks vs : List ℕ} {on : Bool} {o₀ : List ℕ} {at from count : ℕ} {o : List ℕ} {i q e : ℕ} (w : Running ks vs on o₀ at from count o i q e) where
-  module _ (lt : q < e) {k v : ℕ} (ek : k ≡ get_or ks q 0) (ev : v ≡ get_or vs q 0) where
-    first : spelt ks vs q (e - q) ≡ plain k v ++ spelt ks vs (q + 1) (e - (q + 1))
-    first = spell_step plain ks vs q e lt ∙ rw (ek, ev)
+module _ {ks vs : List ℕ} {on : Bool} {o₀ : List ℕ} {at : ℕ} {x : Part} {o : List ℕ} {i q : ℕ} (w : Running ks vs on o₀ at x o i q) where
+  abbrev left : List ℕ
+  left = spelt ks vs q (x.end - q)
 
-    pub running_next : {o' : List ℕ} {d : ℕ} → Kept on o o' i (Some d) → Shows on o o' i (plain k v) (Some d) → Running ks vs on o₀ at from count o' d (q + 1) e
+  module _ (lt : q < x.end) {k v : ℕ} (ek : k ≡ get_or ks q 0) (ev : v ≡ get_or vs q 0) where
+    abbrev then : List ℕ
+    then = spelt ks vs (q + 1) (x.end - (q + 1))
+
+    first : left ≡ plain k v ++ then
+    first = spell_step plain ks vs q x.end lt ∙ rw (ek, ev)
+
+    pub running_next : {o' : List ℕ} {d : ℕ} → Kept on o o' i (Some d) → Shows on o o' i (plain k v) (Some d) → Running ks vs on o₀ at x o' d (q + 1)
     running_next {o' = o'} {d = d} f s = record {
       kept = kept_then on o₀ o o' at i (Some d) w.kept f;
-      ends = w.ends;
-      rest = show_step on o₀ at (spelt ks vs from count) o i (spelt ks vs q (e - q)) w.rest (plain k v) (spelt ks vs (q + 1) (e - (q + 1))) first o' d f.long s;
+      rest = show_step on o₀ at (spelt_in ks vs x) o i left w.rest (plain k v) then first o' d f.long s;
     }
 
-    pub running_stop : (o' : List ℕ) → Shows on o o' i (plain k v) None → Shows on o₀ o' at (spelt ks vs from count) None
-    running_stop o' s = show_stop on o₀ at (spelt ks vs from count) o i (spelt ks vs q (e - q)) w.rest (plain k v) (spelt ks vs (q + 1) (e - (q + 1))) first o' s
+    pub running_stop : (o' : List ℕ) → Shows on o o' i (plain k v) None → Shows on o₀ o' at (spelt_in ks vs x) None
+    running_stop o' s = show_stop on o₀ at (spelt_in ks vs x) o i left w.rest (plain k v) then first o' s
 
-  pub running_done : e ≤ q → Shows on o₀ o at (spelt ks vs from count) (Some i)
-  running_done le = show_end on o₀ at (spelt ks vs from count) o i (spelt ks vs q (e - q)) w.rest (spell_none plain ks vs q (e - q) (omega arith))
+  pub running_done : x.end ≤ q → Shows on o₀ o at (spelt_in ks vs x) (Some i)
+  running_done le = show_end on o₀ at (spelt_in ks vs x) o i left w.rest (spell_none plain ks vs q (x.end - q) (omega arith))
 
 -- ---- the bytes of a tree: its first token, and its row
 
@@ -121,12 +127,13 @@ module _ (a : Area) (hs cs : List ℕ) (S : ℕ → Bool) where
 -- ---- a tree as it stands in the source
 
 module _ (a : Area) (hs cs : List ℕ) (S : ℕ → Bool) where
-  pub tree_flat : {h c : ℕ} {t : Term} → Tree a hs cs S h c t → c ≡ 0 → (p l : ℕ) → p ≡ h → {k v : ℕ} → k ≡ get_or a.kinds p 0 → v ≡ get_or a.vals p 0 → (1 ≤ span k v → l ≡ span k v)
-      → spelt a.kinds a.vals p l ≡ bytes t
-  tree_flat {t = t} w c0 p l ep {k = k} {v = v} ek ev el =
-      let u : Held a.kinds a.vals p t = rw ep (source.tree_flat a hs cs S w c0) in
-      let s = ap₂ span ek ev ∙ span_held a.kinds a.vals p t u in
-      ap (λ (n : ℕ). spelt a.kinds a.vals p n) (el (omega (arith, s, items_some t)) ∙ s) ∙ held_bytes a.kinds a.vals p t u
+  pub tree_flat : {h c : ℕ} {t : Term} → Tree a hs cs S h c t → c ≡ 0 → (l : ℕ) {k v : ℕ} → k ≡ get_or a.kinds h 0 → v ≡ get_or a.vals h 0 → (1 ≤ span k v → l ≡ span k v)
+      → spelt a.kinds a.vals h (h + l - h) ≡ bytes t
+  tree_flat {h} {t = t} w c0 l ek ev el =
+      let u = source.tree_flat a hs cs S w c0 in
+      let s = ap₂ span ek ev ∙ span_held a.kinds a.vals h t u in
+      let n : h + l - h ≡ length (items t) = omega (arith, el (omega (arith, s, items_some t)), s) in
+      ap (λ (m : ℕ). spelt a.kinds a.vals h m) n ∙ held_bytes a.kinds a.vals h t u
 
 -- ---- a row built of records
 

@@ -312,13 +312,8 @@ module _ {a : Area} {h b e q : ℕ} where
 
 -- ---- a term that the lent tokens hold
 
-pub lent_room : (ks vs : List ℕ) (h from n : ℕ) {k v : ℕ} → from ≡ h → k ≡ get_or ks from 0 → v ≡ get_or vs from 0 → n ≡ span k v → h + span (get_or ks h 0) (get_or vs h 0) ≤ length ks
-    → from + n ≤ length ks
-lent_room ks vs h from n ep ek ev en le = rw (en, ek, ev, ep) le
-
-pub lent_bytes : (ks vs : List ℕ) (h from n : ℕ) {k v : ℕ} → from ≡ h → k ≡ get_or ks from 0 → v ≡ get_or vs from 0 → n ≡ span k v → (t : Term) → Held ks vs h t
-    → length (spelt ks vs from n) ≡ length (bytes t)
-lent_bytes ks vs h from n {k = k} {v = v} ep ek ev en t w =
-    let w' : Held ks vs from t = rw ep w in
-    let s : n ≡ length (items t) = en ∙ ap₂ span ek ev ∙ span_held ks vs from t w' in
-    ap (λ (m : ℕ). length (spelt ks vs from m)) s ∙ ap length (held_bytes ks vs from t w')
+pub lent_bytes : (ks vs : List ℕ) (h n : ℕ) {k v : ℕ} → k ≡ get_or ks h 0 → v ≡ get_or vs h 0 → n ≡ span k v → (t : Term) → Held ks vs h t
+    → length (spelt ks vs h (h + n - h)) ≡ length (bytes t)
+lent_bytes ks vs h n ek ev en t w =
+    let s : h + n - h ≡ length (items t) = omega (arith, en ∙ ap₂ span ek ev ∙ span_held ks vs h t w) in
+    ap (λ (m : ℕ). length (spelt ks vs h m)) s ∙ ap length (held_bytes ks vs h t w)

@@ -17,6 +17,7 @@ use Rattle.terms.specs.declared.Purpose.TheVariants.{Instance, Context, Family}
 use Rattle.terms.specs.declared.Choice.{Choice}
 use Rattle.terms.specs.declared.Choice.TheVariants.{Keep, By, Unknown}
 use Rattle.terms.specs.Result.{pick}
+use Rattle.terms.specs.Words.Lent.{spelt_in}
 use Rattle.terms.specs.Words.TokenBytes.{spelt}
 use Rattle.terms.specs.Parameters.{is_found}
 use Rattle.terms.specs.Words.Held.{span}
@@ -25,7 +26,7 @@ use Rattle.terms.specs.Questions.{Parameter}
 use Rattle.terms.specs.Words.RewriteContract.{by, index, is_context, self_for, entry_for, generic, in_context_of, generic_for, named_at, chosen, piece, pace, pieces, rewritten, written, RowsWithin, Space, Inside, Writes}
 use Rattle.terms.proofs.Laws.Format.WriteLaws.{sets_append, spelt_short}
 use Rattle.terms.proofs.Laws.Replacing.FindLaws.{clip_within}
-use Rattle.std.specs.Prelude.{Option, Some, None}
+use Rattle.std.specs.Prelude.{Option, Some, None, MatchOption}
 
 pub pick_yes : {A : Type 0} (t : Bool) (x y : A) → t ≡ true → x ≡ pick t x y
 pick_yes t x y e = rw e
@@ -36,13 +37,12 @@ pick_no t x y e = rw e
 -- ---- what is chosen
 
 module _ (ks vs : List ℕ) (b : Binders) (l : Parameters) (w : Parameter) where
-  pub generic_argument : (a p : ℕ) → Some p ≡ argument_for ks vs a (index l w) → By p ≡ generic ks vs b l a w
+  -- an argument x, or an entry where there is none
+  pub generic_is : (a : ℕ) (x r : Option ℕ) (P : Type 0) → x ≡ argument_for ks vs a (index l w) → (P → r ≡ entry_for ks vs b w) → MatchOption x P (λ q. r ≡ Some q)
+      → by r Keep ≡ generic ks vs b l a w
   unfolding generic
-  generic_argument a p e = rw (← e)
-
-  pub generic_entry : (a : ℕ) (r : Choice) (e : Option ℕ) → None ≡ argument_for ks vs a (index l w) → e ≡ entry_for ks vs b w → r ≡ by e Keep → r ≡ generic ks vs b l a w
-  unfolding generic
-  generic_entry a r e n f h = h ∙ rw (← n, f)
+  generic_is a (Some q) r P e f m = rw (← e, m) refl
+  generic_is a None r P e f m = rw (← e) (ap (λ o. by o Keep) (f m))
 
   pub context_entry : (p : ℕ) → Some p ≡ entry_for ks vs b w → By p ≡ in_context_of ks vs b l w
   unfolding in_context_of
@@ -99,13 +99,13 @@ module _ (ks vs : List ℕ) (b : Binders) (p : ℕ) where
 -- ---- what is written for it
 
 module _ (ks vs : List ℕ) (p : ℕ) where
-  pub keep_piece : (c : Choice) → c ≡ Keep → spelt ks vs p 1 ≡ piece ks vs p c
+  pub keep_piece : (c : Choice) → c ≡ Keep → spelt ks vs p (p + 1 - p) ≡ piece ks vs p c
   unfolding piece
-  keep_piece c e = rw e
+  keep_piece c e = let n : p + 1 - p ≡ 1 = omega arith in rw (e, n)
 
-  pub by_piece : (c : Choice) (q n : ℕ) → c ≡ By q → n ≡ stride ks vs q (length ks - q) → spelt ks vs q n ≡ piece ks vs p c
+  pub by_piece : (c : Choice) (q : ℕ) (x : Part) → c ≡ By q → x.from ≡ q → x.end ≡ q + stride ks vs q (length ks - q) → spelt_in ks vs x ≡ piece ks vs p c
   unfolding piece
-  by_piece c q n e f = rw (e, f)
+  by_piece c q x e f g = let n : x.end - x.from ≡ stride ks vs q (length ks - q) = omega (arith, f, g) in rw (e, n, f)
 
   pub unknown_piece : (c : Choice) → c ≡ Unknown → 2 ∷ [] ≡ piece ks vs p c
   unfolding piece

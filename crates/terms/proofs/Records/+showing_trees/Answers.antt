@@ -7,7 +7,7 @@ use Rattle.terms.specs.Term.{bytes, part_bytes}
 use Rattle.terms.specs.Tree.{row}
 use Rattle.terms.specs.Words.ShowingContract.{writes}
 use Rattle.terms.specs.Words.TokenBytes.{plain}
-use mathlib.Core.Path.{refl, ◌∙◌}
+use mathlib.Core.Path.{◌∙◌}
 use native.Mathlib.Omega.{arith}
 use Rattle.terms.proofs.Records.+showing_trees.Goals as goal
 
@@ -65,7 +65,7 @@ show_row-returns-clause-shows t c =
 pub show_tree-returns-then-x-eq0-clause-shows : goal.show_tree-returns-then-x-eq0-clause-shows
 show_tree-returns-then-x-eq0-clause-shows t c =
     λ S t w d.
-    rw (← tree_flat _ _ _ S w c.if-x-eq0.true c.args.x.head c.step.result refl c.token-h.ensures.kind c.token-h.ensures.value c.step.ensures.span)
+    rw (← tree_flat _ _ _ S w c.if-x-eq0.true c.step.result c.token-h.ensures.kind c.token-h.ensures.value c.step.ensures.span)
     c.show_run.ensures.shows
 
 pub show_tree-returns-then-fuel-eq0-clause-shows : goal.show_tree-returns-then-fuel-eq0-clause-shows

@@ -1,9 +1,11 @@
+use Prim.Native.Nat.{◌-◌}
+use native.Mathlib.Omega.{arith}
 use Rattle.terms.proofs.Laws.Normalising.ShowLaws.{running_next, running_stop, running_done}
 use Rattle.terms.proofs.Laws.Normalising.VirtualTokenLaws.{view_spelt}
 use Rattle.terms.proofs.Seen.show_run.Goals as goal
 
-pub returns-then-end-self-clause-shows : goal.returns-then-end-self-clause-shows
-returns-then-end-self-clause-shows c = rw (view_spelt _ _ _ c.args.self.now.sight c.args.from c.args.count c.if-end-self.true) c.show_flat.ensures.shows
+pub returns-then-run-self-clause-shows : goal.returns-then-run-self-clause-shows
+returns-then-run-self-clause-shows c = rw (view_spelt _ _ _ c.args.self.now.sight c.args.run.from (c.args.run.end - c.args.run.from) (omega arith)) c.show_flat.ensures.shows
 
 pub returns-in_err-i-clause-shows : goal.returns-in_err-i-clause-shows
 returns-in_err-i-clause-shows c =

@@ -14,8 +14,8 @@ loop-i-preserved c =
     let l = c.loop-i in
     let more = λ (better : c.if-eq.best ≡ _). search_more a.tokens.now.kinds.now a.tokens.now.vals.now a.width a.wanted.owner a.wanted.position (omega arith) l.i a.row.end l.best (omega arith) c.if-eq.best better _ (ap (λ (x : ℕ). l.i + a.width + x) c.skip.ensures.is) in
     elim c.if-eq.branch [
-      | then-eq w ↦ more (let e = rw (c.from.ensures, c.from-in-loop-i.ensures) at (w.if-eq.ensures {u = tt}) in rw (w.best-is, ← e) refl) ∙ l.invariant
-      | else-eq w ↦ more (let e = rw (c.from.ensures, c.from-in-loop-i.ensures) at (w.if-eq.ensures {u = tt}) in rw (w.best-is, ← e) refl) ∙ l.invariant
+      | then-eq w ↦ more (let e = rw c.of_words-here.ensures at (w.if-eq.ensures {u = tt}) in rw (w.best-is, ← e) refl) ∙ l.invariant
+      | else-eq w ↦ more (let e = rw c.of_words-here.ensures at (w.if-eq.ensures {u = tt}) in rw (w.best-is, ← e) refl) ∙ l.invariant
     ]
 
 pub returns : goal.returns

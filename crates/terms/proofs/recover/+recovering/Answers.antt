@@ -20,9 +20,9 @@ recover_row-loop-step-preserved-in-Numbers t c =
     let n : c.next.new.self.a.from ≡ c.in-Numbers.i + 1 = omega (arith, m.0.0.0, m.0.0.3) in (
       (omega (arith, h, i.0.0, m.0.0.0), omega (arith, m.0.0.0, m.0.0.1, q), i.0.2, λ l. n),
       (omega (arith, m.1, i.1.0), omega (arith, m.2, i.1.1), omega (arith, m.0.1.3, i.1.2), omega (arith, m.0.1.1, m.0.1.3, m.2), m.3),
-      omega (arith, c.put_run-to.ensures.bound, i.2, h, m.0.0.0, m.0.1.3),
+      omega (arith, c.put_part-to.ensures.bound, i.2, h, m.0.0.0, m.0.1.3),
       λ k ps qs hp hq fp fq e.
-          rw (m.1, m.2, ← n) (recover_number (rw (sym h) at i.3 k ps qs hp hq fp fq e) q m.0.0 m.0.1 c.put_run-to.ensures.next c.put_run-to.ensures.put),
+          rw (m.1, m.2, ← n) (recover_number (rw (sym h) at i.3 k ps qs hp hq fp fq e) q m.0.0 m.0.1 c.put_part-to.ensures.next c.put_part-to.ensures.put),
     )
 
 pub recover_row-loop-step-preserved-in-Terms : goal.recover_row-loop-step-preserved-in-Terms
@@ -56,7 +56,7 @@ recover_row-returns-clause-put t c =
     let i = c.loop-step.invariant in
     λ k ps qs hp hq fp fq e.
     let x = i.3 k ps qs hp hq fp fq e in
-    recover_stays x (stays_no_right x c.in-None.ensures.steps.0.1) (rw i.0.2 at c.put_run.ensures.next) (rw i.0.2 at c.put_run.ensures.put)
+    recover_stays x (stays_no_right x c.in-None.ensures.steps.0.1) (rw i.0.2 at c.put_part.ensures.next) (rw i.0.2 at c.put_part.ensures.put)
 
 pub recover_term-returns-then-stays-clause-put : goal.recover_term-returns-then-stays-clause-put
 recover_term-returns-then-stays-clause-put t c =
@@ -64,7 +64,7 @@ recover_term-returns-then-stays-clause-put t c =
     let x = tag_told ht c.word.ensures c.tag_of-k.ensures in
     let y = tag_told hu c.word-2.ensures c.tag_of.ensures in
     put_same (whole_bytes ht ∙ ap bytes (sym (stays_first t u ft (rw (← x, ← y) (sym c.stays.ensures ∙ c.if-stays.true)))))
-    (put_one _ c.put_run.ensures.next c.put_run.ensures.put)
+    (put_one _ c.put_part.ensures.next c.put_part.ensures.put)
 
 pub recover_term-returns-then-is_hole-clause-put : goal.recover_term-returns-then-is_hole-clause-put
 recover_term-returns-then-is_hole-clause-put t c =
@@ -73,7 +73,7 @@ recover_term-returns-then-is_hole-clause-put t c =
     let y = tag_told hu c.word-2.ensures c.tag_of.ensures in
     let n = stays_not t u (rw (← x, ← y) (sym c.stays.ensures ∙ c.if-stays.false)) in
     let g = ap recovery (sym x) ∙ sym c.is_hole.ensures ∙ c.if-is_hole.true in
-    put_same (whole_bytes hu ∙ ap bytes (sym (hole_left t u n.0 n.1 g))) (put_one _ c.put_run-then-is_hole.ensures.next c.put_run-then-is_hole.ensures.put)
+    put_same (whole_bytes hu ∙ ap bytes (sym (hole_left t u n.0 n.1 g))) (put_one _ c.put_part-then-is_hole.ensures.next c.put_part-then-is_hole.ensures.put)
 
 pub recover_term-returns-clause-put : goal.recover_term-returns-clause-put
 recover_term-returns-clause-put t c =
@@ -84,4 +84,4 @@ recover_term-returns-clause-put t c =
     let g = ap recovery (sym x) ∙ sym c.is_hole.ensures ∙ c.if-is_hole.false in
     let w = c.recover_row.ensures.put (reach t u) (row t) (row u) (row_any ht) (row_any hu) (row_formed t ft) (row_formed u fu)
     (c.reach_end-stop.ensures.reached t u ht hu ft fu) in
-    put_same (sym (entered_term t u n.0 n.1 g)) (put_then (put_same (head_byte ht n.1) (put_one _ c.put_run-next.ensures.next c.put_run-next.ensures.put)) w)
+    put_same (sym (entered_term t u n.0 n.1 g)) (put_then (put_same (head_byte ht n.1) (put_one _ c.put_part-next.ensures.next c.put_part-next.ensures.put)) w)

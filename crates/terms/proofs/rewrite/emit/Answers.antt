@@ -18,7 +18,7 @@ emit_run-requires-clause-space c =
 pub emit_run-requires-in-By-clause-space : goal.emit_run-requires-in-By-clause-space
 emit_run-requires-in-By-clause-space c =
     let a = c.args in
-    respaced _ a.out.now _ _ _ (by_piece _ _ _ _ _ _ c.in-By.is c.width_at-n.ensures.is) _ c.requires.space
+    respaced _ a.out.now _ _ _ (by_piece _ _ _ _ _ _ c.in-By.is c.term_part.ensures.part.0 c.term_part.ensures.ends) _ c.requires.space
 
 pub bounds-out-i : goal.bounds-out-i
 bounds-out-i c =
@@ -56,6 +56,6 @@ returns-in-Keep c =
 pub returns-in-By : goal.returns-in-By
 returns-in-By c =
     let a = c.args in
-    let both = retold (writes a.pass) a.out.now a.i _ _ (by_piece a.tokens.now.kinds.now a.tokens.now.vals.now a.p a.c _ _ c.in-By.is c.width_at-n.ensures.is)
+    let both = retold (writes a.pass) a.out.now a.i _ _ (by_piece a.tokens.now.kinds.now a.tokens.now.vals.now a.p a.c _ _ c.in-By.is c.term_part.ensures.part.0 c.term_part.ensures.ends)
     _ _ c.emit_run-in-By.ensures.next c.emit_run-in-By.ensures.wrote in
     record { next = both.0; wrote = both.1 }

@@ -1,7 +1,6 @@
 use lib.ListN.{get_or}
 use native.Mathlib.Omega.{arith}
-use Prim.Native.Nat.{◌+◌, ◌-◌}
-use mathlib.Core.Path.{refl}
+use Prim.Native.Nat.{◌-◌}
 use Rattle.terms.specs.Words.TokenBytes.{plain}
 use Rattle.terms.proofs.Laws.Format.WriteLaws.{advance, written, spell_step, spell_none, length_step}
 use Rattle.terms.proofs.write.write_run.Goals as goal
@@ -10,7 +9,7 @@ pub write_token-i-requires : goal.write_token-i-requires
 write_token-i-requires c =
     let a = c.args in
     let l = c.loop-p in
-    omega (arith, length_step plain a.kinds.now a.vals.now l.p (a.from + a.count) (omega arith), l.invariant.3.place, l.invariant.3.long, c.requires)
+    omega (arith, length_step plain a.kinds.now a.vals.now l.p a.run.end (omega arith), l.invariant.2.place, l.invariant.2.long, c.requires)
 
 pub loop-p-preserved : goal.loop-p-preserved
 loop-p-preserved c =
@@ -19,8 +18,7 @@ loop-p-preserved c =
     let w = c.write_token-i in (
       omega arith,
       omega arith,
-      refl,
-      advance _ _ _ _ _ _ (plain (get_or a.kinds.now l.p 0) (get_or a.vals.now l.p 0)) _ _ _ l.invariant.3 (spell_step plain a.kinds.now a.vals.now l.p (a.from + a.count) (omega arith))
+      advance _ _ _ _ _ _ (plain (get_or a.kinds.now l.p 0) (get_or a.vals.now l.p 0)) _ _ _ l.invariant.2 (spell_step plain a.kinds.now a.vals.now l.p a.run.end (omega arith))
           w.ensures.next w.ensures.wrote,
     )
 
@@ -28,4 +26,4 @@ pub returns : goal.returns
 returns c =
     let a = c.args in
     let l = c.loop-p in
-    let both = written _ _ _ _ _ _ l.invariant.3 (spell_none plain a.kinds.now a.vals.now l.p (a.from + a.count - l.p) (omega arith)) in record { next = both.0; wrote = both.1 }
+    let both = written _ _ _ _ _ _ l.invariant.2 (spell_none plain a.kinds.now a.vals.now l.p (a.run.end - l.p) (omega arith)) in record { next = both.0; wrote = both.1 }
