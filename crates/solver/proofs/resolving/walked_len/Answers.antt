@@ -14,7 +14,7 @@ pub overflow_add-n : goal.overflow_add-n
 overflow_add-n c =
     let t = c.args.bindings.now.tokens in
     let p = c.loop-c.c.at in
-    omega (arith, c.token_len-n.ensures, plain_short (get_or t.kinds.now p 0) (get_or t.vals.now p 0) (t.narrow.fits p), c.loop-c.invariant.1, c.requires.room)
+    omega (arith, c.token_len-n.ensures, plain_short (get_or t.kinds.now p 0) (get_or t.vals.now p 0) (t.narrow.fits p), c.loop-c.invariant.1)
 
 pub returns-then-limit-n-clause-len : goal.returns-then-limit-n-clause-len
 returns-then-limit-n-clause-len c =
