@@ -16,21 +16,6 @@ use super::{Content, Origin, Part, Records, RowWalk, Seen, Token};
 // A place past all tokens.
 pub const NOWHERE: usize = 4294967295;
 
-impl<'a> Seen<'a> {
-    // The row of the term whose first token stands at h.
-    #[inline(always)]
-    pub fn row_of(&self, h: u32) -> Part
-        ensures { RowAt (shown self.now) h result.from result.end }
-    {
-        let p = h as usize;
-        let end = p + self.token(p).step();
-        Part {
-            from: p + 1,
-            end: end.min(NOWHERE),
-        }
-    }
-}
-
 impl<'a> Iterator for RowWalk<'a> {
     type Item = (usize, Token);
 
@@ -53,6 +38,19 @@ impl<'a> Iterator for RowWalk<'a> {
 }
 
 impl<'a> Seen<'a> {
+    // The row of the term whose first token stands at h.
+    #[inline(always)]
+    pub fn row_of(&self, h: u32) -> Part
+        ensures { RowAt (shown self.now) h result.from result.end }
+    {
+        let p = h as usize;
+        let end = p + self.token(p).step();
+        Part {
+            from: p + 1,
+            end: end.min(NOWHERE),
+        }
+    }
+
     // The walk over the row of the term whose first token stands at h.
     #[inline(always)]
     pub fn walk_row(&self, h: u32) -> RowWalk<'a>

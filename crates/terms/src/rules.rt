@@ -67,23 +67,7 @@ impl<'a> Seen<'a> {
             kids: x.kids,
         })
     }
-}
 
-impl<'a> Records<'a> {
-    // Whether a row begins with what a rule has before its arguments, and the place after that.
-    fn same_front(&self, x: Cursor, rule: Rule, fuel: usize) -> Option<Cursor>
-        ensures { Fronted self.now.seen.now.tokens.kinds.now self.now.seen.now.tokens.vals.now (shown self.now.seen.now) self.now.heads.now
-            self.now.kids.now x rule fuel result }
-    {
-        let receiver = self.seen.term_cursor(rule.receiver as usize);
-        let x = self.same_rows(x, receiver, fuel)?;
-        let interface = self.seen.cursor(source(rule.interface));
-        let x = self.same_rows(x, interface, fuel)?;
-        self.seen.two_numbers(x, rule.member, rule.count)
-    }
-}
-
-impl<'a> Seen<'a> {
     // The last number but one of a row: of a projection's, its member.
     fn member_in(&self, x: Cursor) -> u32
         ensures { MemberIn (shown self.now) x result }
@@ -106,6 +90,18 @@ impl<'a> Seen<'a> {
 }
 
 impl<'a> Records<'a> {
+    // Whether a row begins with what a rule has before its arguments, and the place after that.
+    fn same_front(&self, x: Cursor, rule: Rule, fuel: usize) -> Option<Cursor>
+        ensures { Fronted self.now.seen.now.tokens.kinds.now self.now.seen.now.tokens.vals.now (shown self.now.seen.now) self.now.heads.now
+            self.now.kids.now x rule fuel result }
+    {
+        let receiver = self.seen.term_cursor(rule.receiver as usize);
+        let x = self.same_rows(x, receiver, fuel)?;
+        let interface = self.seen.cursor(source(rule.interface));
+        let x = self.same_rows(x, interface, fuel)?;
+        self.seen.two_numbers(x, rule.member, rule.count)
+    }
+
     // The value of the first rule whose four parts equal those of a projection; its children have at most `fuel` levels. The member is
     // looked for first, in the list of the rules; rule and argument walk are left together at the match.
     pub fn find_rule(&self, rules: &[Rule], x: Content, fuel: usize) -> Option<Content>
