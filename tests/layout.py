@@ -96,16 +96,23 @@ def bodies():
 
 def proof_places():
     """By crate, the folders of proofs that are those of a function."""
-    found = {}
+    found, types = {}, {}
+    for crate, path, lines in sources():
+        module = os.path.splitext(path)[0][len("src/"):]
+        for name in re.findall(r"^(?:pub )?(?:struct|enum) (\w+)", "\n".join(lines), re.M):
+            types[crate, name] = name if module in ("lib", "main") else module + "/" + name
     for crate, path, lines in sources():
         module = os.path.splitext(path)[0][len("src/"):]
         for owner, name, _, _ in functions(lines):
             if owner and owner.startswith("/"):
                 owner = owner[1:] if module in ("lib", "main") else module + owner
+            owner = types.get((crate, owner), owner)
             found.setdefault(crate, {})["/".join([owner or module, name] if owner or module not in ("lib", "main") else [name])] = path
-        # A cycle of calls has a name of its own, and its folder begins with a +.
-        for name in re.findall(r"#\[cycle\((\w+)\)\]", "\n".join(lines)):
-            found.setdefault(crate, {})["%s/+%s" % (module, name)] = path
+        # A cycle of calls has a name of its own, and its folder begins with a +. That of methods is in the folder of their type.
+        text = "\n".join(lines)
+        for cycle in re.finditer(r"^( *)#\[cycle\((\w+)\)\]", text, re.M):
+            owner = re.findall(r"^impl(?:<[^>]*>)? (\w+)", text[:cycle.start()], re.M)[-1] if cycle.group(1) else None
+            found.setdefault(crate, {})["%s/+%s" % (types.get((crate, owner), module), cycle.group(2))] = path
     return found
 
 

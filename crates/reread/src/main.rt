@@ -3,7 +3,7 @@
 // The answer to a frame is a length, an outcome (0 or the refusal) and, on 0, for terms the nodes and the tokens, and the bytes again. Bytes
 // left over (1) are refused before more than 2,048 nodes (7). After each frame both areas must be clear: else its answer is left out and the
 // run ends, as it does at a faulty length and where an answer does not fit.
-// The output and the position in it stand apart: the lines at the head of store.rt of terms say why.
+// The output and the position in it stand apart: docs/DECISIONS.md, "How are the tokens lent?".
 #![tactic(auto)]
 
 ghost use Rattle.std.specs.Prelude.{◌≡◌, ◌+◌, ◌-◌, ◌≤◌, ◌<◌, length, IfSome};

@@ -284,7 +284,8 @@ pub enum Class {
     Projection,
 }
 
-// The tokens of terms, which are lent: the kinds, and as many values, which are words of 32 bits.
+// The tokens of terms, which are lent: the kinds, and as many values, which are words of 32 bits. What orders ask of the terms in them are functions of the
+// orders' modules (`ask`, `satisfies`), which `solver` and `sheet` call by name; as methods their contracts would have `self` for `tokens`, and no clause less.
 #[derive(Clone, Copy)]
 pub struct Tokens<'a> {
     pub kinds: &'a [u32],
@@ -293,9 +294,7 @@ pub struct Tokens<'a> {
     ghost narrow: { Narrow vals.now },
 }
 
-// The tokens that normalising sees: the lent ones, and those that order 19 makes anew from what it is given.
-// What looks at them, at `Records`, at `Counted` and at `Tokens` are functions of their modules (`rows.rt`, `virtual_tokens.rt`, `runs.rt` and others): as
-// methods they would be the same calls.
+// The tokens that normalising sees: the lent ones, and those that order 19 makes anew from what it is given. Methods stand in the modules of their subjects.
 #[derive(Clone, Copy)]
 pub struct Seen<'a> {
     pub tokens: Tokens<'a>,

@@ -1,6 +1,6 @@
 // `normalize` and `with_associated_types`: a term is walked and sized, and then written.
 // Heads and kids are lent as two slices; the line in rows.rt says why.
-// The output and the position in it stand apart: the lines at the head of store.rt say why.
+// The output and the position in it stand apart: docs/DECISIONS.md, "How are the tokens lent?".
 ghost use Rattle.std.specs.Prelude.{◌≡◌, Some, ◌+◌, ◌≤◌, ◌<◌, List, length};
 ghost use Rattle.std.proofs.lemmas.List.Edits.{sets};
 ghost use Rattle.terms.specs.Words.VirtualTokens.{Sight};
@@ -14,7 +14,7 @@ ghost use Rattle.terms.specs.Words.NormalContract.{Zero, Lends, Stands, Sized, A
 
 use super::rules::source;
 use super::store::clear_tokens;
-use super::walking::{any_projection, walk};
+use super::walking::any_projection;
 use super::{
     LookUp, Normaliser, Origin, Pass, Ready, Records, Rule, Seen, Tokens, Unfinished, Walked,
 };
@@ -51,56 +51,58 @@ impl<'a> Seen<'a> {
     }
 }
 
-// Normalises the term at p, whose projections are looked up.
-fn run(
-    by: &Normaliser,
-    heads: &mut [u32],
-    kids: &mut [u32],
-    p: u32,
-    levels: usize,
-    visits: usize,
-    most: usize,
-    out: &mut [u8],
-    at: usize,
-) -> Result<Ready, Unfinished>
-    requires room { RecordRoom by.now.seen.tokens.kinds.now by.now.seen.tokens.vals.now heads.old kids.old by.now.seen.given 0 most }
-    requires few { (levels < 4294967295) × (visits < 134217728) }
-    requires zero { Zero heads.old most × Zero kids.old most }
-    requires place { at ≤ length out.old }
-    ensures out { out.new ≡ out.old }
-    ensures leaves { Leaves by.now.seen.tokens.kinds.now by.now.seen.tokens.vals.now heads.old kids.old heads.new kids.new most result }
-    ensures answers { (t : Term) (look : Look)
-        → Held by.now.seen.tokens.kinds.now by.now.seen.tokens.vals.now p t
-        → Looks by.now.seen.tokens.kinds.now by.now.seen.tokens.vals.now by.now.lookup look
-        → Answers by.now.seen.tokens.kinds.now by.now.seen.tokens.vals.now heads.new kids.new out.old at levels most
-        (normalise levels visits (look_by look) t) result }
-{
-    if !has_projection(&by.seen.tokens, p) {
-        return by.seen.size_up(p, out, at).ok_or(Unfinished::TooLong);
-    }
-    let walked = walk(by, heads, kids, source(p), 0, levels, visits, most);
-    let Some(
-        Walked {
+impl<'a> Normaliser<'a> {
+    // Normalises the term at p, whose projections are looked up.
+    fn run(
+        &self,
+        heads: &mut [u32],
+        kids: &mut [u32],
+        p: u32,
+        levels: usize,
+        visits: usize,
+        most: usize,
+        out: &mut [u8],
+        at: usize,
+    ) -> Result<Ready, Unfinished>
+        requires room { RecordRoom self.now.seen.tokens.kinds.now self.now.seen.tokens.vals.now heads.old kids.old self.now.seen.given 0 most }
+        requires few { (levels < 4294967295) × (visits < 134217728) }
+        requires zero { Zero heads.old most × Zero kids.old most }
+        requires place { at ≤ length out.old }
+        ensures out { out.new ≡ out.old }
+        ensures leaves { Leaves self.now.seen.tokens.kinds.now self.now.seen.tokens.vals.now heads.old kids.old heads.new kids.new most result }
+        ensures answers { (t : Term) (look : Look)
+            → Held self.now.seen.tokens.kinds.now self.now.seen.tokens.vals.now p t
+            → Looks self.now.seen.tokens.kinds.now self.now.seen.tokens.vals.now self.now.lookup look
+            → Answers self.now.seen.tokens.kinds.now self.now.seen.tokens.vals.now heads.new kids.new out.old at levels most
+            (normalise levels visits (look_by look) t) result }
+    {
+        if !has_projection(&self.seen.tokens, p) {
+            return self.seen.size_up(p, out, at).ok_or(Unfinished::TooLong);
+        }
+        let walked = self.walk(heads, kids, source(p), 0, levels, visits, most);
+        let Some(
+            Walked {
+                content,
+                next,
+                size,
+                ..
+            },
+        ) = walked
+        else {
+            clear_tokens(heads, kids, 0, most);
+            return Err(Unfinished::TooMany);
+        };
+        if out.len() - at < size {
+            clear_tokens(heads, kids, 0, next);
+            return Err(Unfinished::TooLong);
+        }
+        Ok(Ready {
             content,
             next,
             size,
-            ..
-        },
-    ) = walked
-    else {
-        clear_tokens(heads, kids, 0, most);
-        return Err(Unfinished::TooMany);
-    };
-    if out.len() - at < size {
-        clear_tokens(heads, kids, 0, next);
-        return Err(Unfinished::TooLong);
+            given: self.seen.given,
+        })
     }
-    Ok(Ready {
-        content,
-        next,
-        size,
-        given: by.seen.given,
-    })
 }
 
 // Depth 0 to 64; 8192 visits; refusal 9 for more children than these.
@@ -166,7 +168,7 @@ pub fn normalise<'a>(
         seen,
         lookup: LookUp::Rules(rules),
     };
-    run(&by, heads, kids, p, LEVELS, VISITS, MOST, out, at)
+    by.run(heads, kids, p, LEVELS, VISITS, MOST, out, at)
 }
 
 // Order 19, `with_associated_types`: the term at p is walked by the interface and the owner, and sized.
@@ -201,7 +203,7 @@ pub fn with_associated_types(
         seen,
         lookup: LookUp::Given(g),
     };
-    run(&by, heads, kids, p, LEVELS, VISITS, MOST, out, at)
+    by.run(heads, kids, p, LEVELS, VISITS, MOST, out, at)
 }
 
 // Writes what `normalise` or `with_associated_types` has kept at a position, clears its records, and returns the position after it.

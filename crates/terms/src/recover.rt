@@ -1,7 +1,7 @@
 // `recover_from`: the holes of a term are filled from another, straight to the output. The recursion goes down both terms together, so it is at most
 // as deep as the first has levels; the work is linear in the tokens of both.
 // Kinds and tags are matched by number; the line in kinds.rt says why.
-// The output and the position in it stand apart: the lines at the head of store.rt say why.
+// The output and the position in it stand apart: docs/DECISIONS.md, "How are the tokens lent?".
 ghost use Rattle.std.specs.Prelude.{◌≡◌, true, false, ◌||◌, ℕ, ◌+◌, ◌-◌, ◌*◌, ◌^◌, ◌≤◌, ◌<◌, eqb, length, [], ◌∷◌};
 ghost use Rattle.terms.specs.Result.{pick};
 ghost use Rattle.terms.specs.Words.QuestionsContract.{word};

@@ -123,7 +123,7 @@ impl<'a> Seen<'a> {
 }
 
 // Where heads and kids are written they are lent as two slices: the walk writes them between two looks, so a struct of both would be made for each call, and
-// no contract ties their lengths. What only looks takes `Records`, but for `child_here`, which the writing loop calls between two writes.
+// no contract ties their lengths. What only looks is a method of `Records`, but for `child_here`, which the writing loop calls between two writes.
 //
 // The content of a child that is the i-th of its node, whose child word is c, and stands at q where it is as in the source.
 #[inline(always)]

@@ -1,6 +1,6 @@
 // Tokens and contents are sized, or written too. What is returned is the position after them; None where they do not fit.
 // Kinds and tags are matched by number; the line in kinds.rt says why.
-// The output and the position in it stand apart: the lines at the head of store.rt say why.
+// The output and the position in it stand apart: docs/DECISIONS.md, "How are the tokens lent?".
 ghost use Rattle.terms.specs.Words.Lent.{shown, StandsFor};
 ghost use Rattle.std.specs.Prelude.{◌≡◌, Bool, ℕ, ◌+◌, ◌≤◌, ◌<◌, length};
 ghost use Rattle.terms.specs.Words.TokenBytes.{plain, spelt};

@@ -146,68 +146,70 @@ fn fixed_len(tokens: &Tokens, x: Content) -> usize
     run_len(tokens.kinds, tokens.vals, from, tokens.token(from).span())
 }
 
-// Visits the content x, with `levels` levels and `visits` visits left. The records of the result stand from `next` on, at most `most` in all.
-// None where the children are too many.
-pub fn walk(
-    by: &Normaliser,
-    heads: &mut [u32],
-    kids: &mut [u32],
-    x: Content,
-    next: usize,
-    levels: usize,
-    visits: usize,
-    most: usize,
-) -> Option<Walked>
-    requires room { RecordRoom by.now.seen.tokens.kinds.now by.now.seen.tokens.vals.now heads.old kids.old by.now.seen.given next most }
-    requires low { (levels < 4294967296) × (visits < 134217728) }
-    ensures walks { Walks by.now.seen.tokens.kinds.now by.now.seen.tokens.vals.now by.now.lookup by.now.seen.given heads.old kids.old heads.new kids.new x
-        next levels visits most result }
-    ensures frames { Frames heads.old kids.old heads.new kids.new next (used most result) }
-{
-    let seen = &by.seen;
-    let error = Content {
-        head: seen.tokens.kinds.len() as u32,
-        kids: 0,
-    };
-    if levels == 0 || visits == 0 {
-        return Some(result(error, next, visits, 1));
-    }
-    if let Some(same) = fixed_nodes(&seen.tokens, x, levels.min(visits)) {
-        let size = fixed_len(&seen.tokens, x);
-        return kept(x, same, size, next, visits, most);
-    }
-    let o = seen.begin(heads, kids, x, next, most)?;
-    let n = o.n;
-    let mut size = seen.own_len(x.head);
-    let mut at = next + n;
-    let mut left = visits - 1;
-    for j in 0..n {
-        let i = next + o.slot(j);
-        let y = Content {
-            head: heads[i],
-            kids: kids[i],
+impl<'a> Normaliser<'a> {
+    // Visits the content x, with `levels` levels and `visits` visits left. The records of the result stand from `next` on, at most `most` in all.
+    // None where the children are too many.
+    pub fn walk(
+        &self,
+        heads: &mut [u32],
+        kids: &mut [u32],
+        x: Content,
+        next: usize,
+        levels: usize,
+        visits: usize,
+        most: usize,
+    ) -> Option<Walked>
+        requires room { RecordRoom self.now.seen.tokens.kinds.now self.now.seen.tokens.vals.now heads.old kids.old self.now.seen.given next most }
+        requires low { (levels < 4294967296) × (visits < 134217728) }
+        ensures walks { Walks self.now.seen.tokens.kinds.now self.now.seen.tokens.vals.now self.now.lookup self.now.seen.given heads.old kids.old heads.new
+            kids.new x next levels visits most result }
+        ensures frames { Frames heads.old kids.old heads.new kids.new next (used most result) }
+    {
+        let seen = &self.seen;
+        let error = Content {
+            head: seen.tokens.kinds.len() as u32,
+            kids: 0,
         };
-        let w = walk(by, heads, kids, y, at, levels - 1, left, most)?;
-        heads[i] = w.content.head;
-        kids[i] = w.content.kids;
-        at = w.next;
-        left = w.visits;
-        size += w.size;
+        if levels == 0 || visits == 0 {
+            return Some(result(error, next, visits, 1));
+        }
+        if let Some(same) = fixed_nodes(&seen.tokens, x, levels.min(visits)) {
+            let size = fixed_len(&seen.tokens, x);
+            return kept(x, same, size, next, visits, most);
+        }
+        let o = seen.begin(heads, kids, x, next, most)?;
+        let n = o.n;
+        let mut size = seen.own_len(x.head);
+        let mut at = next + n;
+        let mut left = visits - 1;
+        for j in 0..n {
+            let i = next + o.slot(j);
+            let y = Content {
+                head: heads[i],
+                kids: kids[i],
+            };
+            let w = self.walk(heads, kids, y, at, levels - 1, left, most)?;
+            heads[i] = w.content.head;
+            kids[i] = w.content.kids;
+            at = w.next;
+            left = w.visits;
+            size += w.size;
+        }
+        let z = Content {
+            head: x.head,
+            kids: (next + 1) as u32,
+        };
+        if o.tag != 18 {
+            return Some(result(z, at, left, size));
+        }
+        let records = Records { seen, heads, kids };
+        let f = records.counted(z, o).replace(&self.lookup, levels);
+        let Some(v) = f else {
+            return Some(result(z, at, left, size));
+        };
+        if records.same_trees(z, v, levels + 1) {
+            return Some(result(error, at, left, 1));
+        }
+        self.walk(heads, kids, v, at, levels - 1, left, most)
     }
-    let z = Content {
-        head: x.head,
-        kids: (next + 1) as u32,
-    };
-    if o.tag != 18 {
-        return Some(result(z, at, left, size));
-    }
-    let records = Records { seen, heads, kids };
-    let f = records.counted(z, o).replace(&by.lookup, levels);
-    let Some(v) = f else {
-        return Some(result(z, at, left, size));
-    };
-    if records.same_trees(z, v, levels + 1) {
-        return Some(result(error, at, left, 1));
-    }
-    walk(by, heads, kids, v, at, levels - 1, left, most)
 }

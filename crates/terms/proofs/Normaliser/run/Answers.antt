@@ -4,7 +4,7 @@ use borrow.Author.Tests.{not-true, not-false}
 use Rattle.terms.specs.Normal.{Out}
 use Rattle.terms.specs.Lookup.{look_by}
 use Rattle.terms.proofs.Laws.Normalising.NormalLaws.{normalise_plain, normalise_walked, plain_leaves, plain_answers, long_leaves, long_answers, walked_leaves, walked_answers, over_leaves, over_answers}
-use Rattle.terms.proofs.normal.run.Goals as goal
+use Rattle.terms.proofs.Normaliser.run.Goals as goal
 
 pub returns-then-not-has_projection : goal.returns-then-not-has_projection
 returns-then-not-has_projection c =

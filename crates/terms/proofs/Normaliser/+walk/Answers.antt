@@ -8,8 +8,8 @@ use Rattle.terms.specs.Normal.{walk_by, failed}
 use Rattle.terms.specs.Term.{Term}
 use mathlib.Core.Path.{◌≡◌, refl, ◌∙◌}
 use native.Mathlib.Omega.{arith}
-use Rattle.terms.proofs.walking.+walk.Goals as goal
-use Rattle.terms.proofs.walking.+walk.Goals.{then-levels-eq0-via-then-levels-eq0, then-levels-eq0-via-else-levels-eq0+then-visits-eq0}
+use Rattle.terms.proofs.Normaliser.+walk.Goals as goal
+use Rattle.terms.proofs.Normaliser.+walk.Goals.{then-levels-eq0-via-then-levels-eq0, then-levels-eq0-via-else-levels-eq0+then-visits-eq0}
 
 pub returns-then-levels-eq0-clause-walks : goal.returns-then-levels-eq0-clause-walks
 returns-then-levels-eq0-clause-walks t c =
