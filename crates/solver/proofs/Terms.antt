@@ -2,7 +2,6 @@
 pub use Rattle.terms.proofs.Laws.Numbers.NumberStepLaws
 pub use Rattle.terms.proofs.Laws.Numbers.NumberBoundLaws
 pub use Rattle.terms.proofs.Laws.Numbers.Shortest
-pub use Rattle.terms.proofs.Laws.Format.KindLaws
 pub use Rattle.terms.proofs.Laws.Format.KindTableLaws
 pub use Rattle.terms.proofs.Laws.Format.FieldLaws
 pub use Rattle.terms.proofs.Laws.Format.StoreLaws

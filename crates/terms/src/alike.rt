@@ -103,7 +103,7 @@ impl<'a> Records<'a> {
         }
         let a = self.seen.cursor(x);
         let b = self.seen.cursor(y);
-        // no `is_some_and`: in a cycle of calls what a closure answers is out of the proof's reach
+        // no `is_some_and`: in a cycle of calls its closure needs clauses of its own, which are longer than the `let else`
         let Some(z) = self.same_rows(a, b, fuel - 1) else {
             return false;
         };

@@ -14,6 +14,7 @@ use super::runs::{same_term, skip, term_part, word};
 use super::{Part, Tokens};
 
 // Whether a term conflicts with nothing, by the kind of its first token: Inference, Unknown and Error.
+#[tactic(auto, unfolding(crate::specs::Questions::among))]
 fn yields(kind: u32) -> bool
     ensures { result ≡ among kind (1 ∷ 4 ∷ 5 ∷ []) }
 {
@@ -21,6 +22,7 @@ fn yields(kind: u32) -> bool
 }
 
 // Whether a term has an access, by the kind of its first token: Reference, Map and Set.
+#[tactic(auto, unfolding(crate::specs::Questions::among))]
 fn has_access(kind: u32) -> bool
     ensures { result ≡ among kind (2 ∷ 12 ∷ 13 ∷ []) }
 {

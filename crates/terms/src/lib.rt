@@ -115,7 +115,8 @@ pub enum Question {
     IsResolvedIn,
 }
 
-// The question with this number, and the last one for any higher number: what `ask` answered when it took a number. The orders name their questions.
+// The question with this number, and the last one for any higher number. The orders name their questions, and no code calls this: it keeps what is promised of
+// `ask` by any number.
 impl From<u32> for Question {
     ghost use Rattle.std.specs.Prelude.{◌≡◌, min};
     ghost use Rattle.terms.specs.Questions.{number_of_question};
@@ -369,7 +370,8 @@ pub struct Normaliser<'a> {
 }
 
 // The tokens from `from` up to `end`. That a part or a place lies in the tokens is a clause of what takes it: a part that held its tokens would say so by its
-// type, but two parts would be of two tokens, and each function that takes two would have to ask that these are the same.
+// type, but two parts would be of two tokens, and each function that takes two would have to ask that these are the same. What takes two parts of
+// the same tokens takes no `PairWalk`: each caller has the tokens and two parts in hand, and would make one at each call.
 #[derive(Clone, Copy, Debug, PartialEq, Eq)]
 pub struct Part {
     pub from: usize,
@@ -401,7 +403,8 @@ pub struct RowWalk<'a> {
     pub end: usize,
 }
 
-// A tree in words: the place of its first token, and where its children are.
+// A tree in words: the place of its first token, and where its children are: 0 as in the source, else 1 more than the first one's record. No Option: a content
+// is the two words of a record as the areas have them, and the definitions (`Tree`, `kids_of`) tell of these words.
 #[derive(Clone, Copy)]
 pub struct Content {
     pub head: u32,

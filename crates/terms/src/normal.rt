@@ -1,5 +1,4 @@
 // `normalize` and `with_associated_types`: a term is walked and sized, and then written.
-// Kinds and tags are matched by number; the line in kinds.rt says why.
 // Heads and kids are lent as two slices; the line in rows.rt says why.
 // The output and the position in it stand apart: docs/DECISIONS.md, "How are the tokens lent?".
 ghost use Rattle.std.specs.Prelude.{◌≡◌, Some, ◌+◌, ◌≤◌, ◌<◌, List, length};

@@ -18,7 +18,8 @@ impl<'a> Seen<'a> {
         tag_of(self.token(h as usize).kind)
     }
 
-    // Puts the children of a content, in byte order, at the records next, next + 1, .. and says how many; None where they are too many.
+    // Puts the children of a content, in byte order, at the records next, next + 1, .. and says how many; None where they are too many. `next` and `most` are
+    // no struct: from child to child `next` goes on and `most` stays, so it would be taken apart at each call.
     fn put_children(
         &self,
         heads: &mut [u32],
@@ -32,7 +33,7 @@ impl<'a> Seen<'a> {
             next most result }
     {
         let mut n = 0;
-        // Children are counted by hand: the line in rows.rt says why.
+        // Children are counted by hand: a step of `filter(..).enumerate()` is a run of numbers and a child, and the laws of a row go token by token.
         for (q, y) in self.walk_row(x.head) {
             if y.kind != 0 {
                 if most <= next + n {

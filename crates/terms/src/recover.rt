@@ -133,6 +133,7 @@ fn first_reach(vals: &[u32], a: Part, b: Part) -> usize
 }
 
 // Whether a term is filled from another, by its tag: Unknown and Error.
+#[tactic(auto, unfolding(crate::specs::Questions::among))]
 fn is_hole(tag: u32) -> bool
     ensures { result ≡ recovery tag }
 {

@@ -7,7 +7,7 @@ ghost use Rattle.std.proofs.Math.ListN.{get_elem?};
 ghost use Rattle.terms.specs.Words.VirtualTokens.{view, Sight};
 ghost use Rattle.terms.specs.Term.{Term};
 ghost use Rattle.terms.specs.Tree.{children};
-ghost use Rattle.terms.specs.Words.Arena.{head_of, kids_of, Tree, RowAt, NumberAt, ValueAt, KeyOf, Fetched};
+ghost use Rattle.terms.specs.Words.Arena.{head_of, kids_of, Tree, EndAt, RowAt, NumberAt, ValueAt, KeyOf, Fetched};
 ghost use Rattle.terms.specs.Words.RowsContract.{Moves};
 
 use super::runs::word;
@@ -38,16 +38,25 @@ impl<'a> Iterator for RowWalk<'a> {
 }
 
 impl<'a> Seen<'a> {
+    // Where the term at p ends, as its first token says. It is cut where no token can stand.
+    #[inline(always)]
+    pub fn end_at(&self, p: usize) -> usize
+        requires { p < 4294967296 }
+        ensures { EndAt (shown self.now) p result }
+    {
+        let end = p + self.token(p).step();
+        end.min(NOWHERE)
+    }
+
     // The row of the term whose first token stands at h.
     #[inline(always)]
     pub fn row_of(&self, h: u32) -> Part
         ensures { RowAt (shown self.now) h result.from result.end }
     {
         let p = h as usize;
-        let end = p + self.token(p).step();
         Part {
             from: p + 1,
-            end: end.min(NOWHERE),
+            end: self.end_at(p),
         }
     }
 
@@ -65,8 +74,8 @@ impl<'a> Seen<'a> {
         }
     }
 
-    // Numbers and children are counted by hand: `filter(..).nth(i)` over a `RowWalk` was tried, and is taken; but what it ensures is told of runs of
-    // `filter_steps`, where the laws of a row go token by token.
+    // Numbers and children are counted by hand. With `filter(..).nth(i)` over a `RowWalk` the value follows from a `YieldsList`, which a walk has only where
+    // the row is held; that what is found stands at its place is promised of any row, and would need an induction over runs (`YieldsThen`) of `filter_steps`.
     //
     // Where the i-th number of the row stands.
     pub fn number_place(&self, h: u32, i: usize) -> Option<usize>
@@ -114,7 +123,7 @@ impl<'a> Seen<'a> {
 }
 
 // Where heads and kids are written they are lent as two slices: the walk writes them between two looks, so a struct of both would be made for each call, and
-// no contract ties their lengths. What only looks is a method of `Records`.
+// no contract ties their lengths. What only looks is a method of `Records`, but for `child_here`, which the writing loop calls between two writes.
 //
 // The content of a child that is the i-th of its node, whose child word is c, and stands at q where it is as in the source.
 #[inline(always)]

@@ -8,7 +8,6 @@ ghost use Rattle.terms.specs.Lookup.{Pattern, by_patterns, Ruled};
 ghost use Rattle.terms.specs.Words.Arena.{Tree, Fetched};
 ghost use Rattle.terms.specs.Words.RulesContract.{TermStarts, Numbers, Fronted, MemberIn};
 
-use super::rows::NOWHERE;
 use super::rule_list::first_with;
 use super::{Content, Cursor, Origin, Records, RowWalk, Rule, Seen};
 
@@ -25,10 +24,9 @@ impl<'a> Seen<'a> {
         requires small { p < 4294967296 }
         ensures { TermStarts (shown self.now) p result }
     {
-        let end = p + self.token(p).step();
         Cursor {
             at: p,
-            end: end.min(NOWHERE),
+            end: self.end_at(p),
             child: 0,
             kids: 0,
         }

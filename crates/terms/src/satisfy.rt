@@ -54,7 +54,7 @@ fn gives(tokens: &Tokens, x: usize, member: u32, t: usize) -> bool
 
 // The place after `count` required members from p on, where the members listed at x give each of them. `covered` has the same loop with another test: a closure
 // for the test would need clauses of its own, in each of the two, that are longer than the loop. An iterator over members, for these two and `member_at`, would
-// promise `Next-pair`, which the law of each loop takes already, and would ask that the places lie in the tokens, as they do.
+// have to tell members that end early from those that are over, and to hand back the place after them, which this function answers with.
 fn all_given(tokens: &Tokens, x: usize, p: usize, count: usize) -> Option<usize>
     requires { (x ≤ length tokens.now.kinds.now) × (p ≤ length tokens.now.kinds.now + 1) }
     ensures within { Ended (length tokens.now.kinds.now) result }
@@ -148,7 +148,8 @@ fn is_reflexive(tokens: &Tokens, a: usize, receiver: usize, member: u32, t: usiz
 }
 
 // Whether the member whose number stands at i, and its term after it, is given at x, or a reflexive projection for the nominal whose row stands at a.
-// The places a, x and receiver are of one bound; a struct of them would hold the tokens too (see `Part`).
+// A struct of the tokens, a, x and receiver would be made by `satisfies_for` alone. It would say the bounds of these places once, for three contracts, but each
+// premise would name the places through it.
 fn covers(tokens: &Tokens, a: usize, x: usize, receiver: usize, i: usize) -> bool
     requires { (a ≤ length tokens.now.kinds.now) × (x ≤ length tokens.now.kinds.now) × (receiver < length tokens.now.kinds.now)
         × (i + 1 < length tokens.now.kinds.now) }

@@ -92,7 +92,7 @@ impl<'a> Records<'a> {
         };
         let mut i = at;
         let mut n = c.child;
-        // Children are counted by hand: the line in rows.rt says why.
+        // n counts the children, which stand among the numbers.
         for (q, y) in row {
             if y.kind == 0 {
                 i = show_token(out, i, y, pass)?;

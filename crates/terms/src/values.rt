@@ -1,5 +1,6 @@
 // Codes and numbers, which are stored as tokens of kind 0, and variables, of kind 1. The place that is lent goes on after what was read; on a refusal
 // it stays.
+// The bytes and the place stand apart: the lines at `Place` say why.
 // Kinds and values that are written are lent as two slices; the lines at the head of store.rt say why.
 // Kinds and tags are matched by number; the line in kinds.rt says why.
 ghost use Rattle.std.specs.Prelude.{◌≡◌, ◌+◌, ◌≤◌, ◌<◌, ◌^◌, leb, length};

@@ -1,28 +1,25 @@
 // The tokens that normalising sees: the lent ones, Error, and the projections that order 19 may make anew.
 // Kinds and tags are matched by number; the line in kinds.rt says why.
 ghost use Rattle.terms.specs.Words.Lent.{shown};
-ghost use Rattle.std.specs.Prelude.{◌≡◌, ◌+◌, ◌≤◌, ◌<◌, get_or};
+ghost use Rattle.std.specs.Prelude.{◌≡◌, ℕ, ◌+◌, ◌≤◌, ◌<◌, get_or, unwrap_or};
 ghost use Rattle.terms.specs.Words.VirtualTokens.{copied, Located};
 
 use super::{Origin, Seen, Spot, Token};
 
-// Which lent token stands r-th after the head of the projection for the token t.
-fn copied(g: Origin, len: usize, r: usize, t: usize) -> usize
+// Which lent token stands r-th after the head of the projection for the token t; none where it is the number 0 at the end.
+fn copied(g: Origin, r: usize, t: usize) -> Option<usize>
     requires { (1 ≤ r) × (r < 17179869184) }
-    ensures { result ≡ copied g len r t }
+    ensures { (len : ℕ) → unwrap_or result len ≡ copied g len r t }
 {
     let span = g.span as usize;
     let row = g.row as usize;
     if r <= span {
-        return g.owner as usize + r - 1;
+        return Some(g.owner as usize + r - 1);
     }
     if r <= span + row {
-        return g.interface as usize + (r - span);
+        return Some(g.interface as usize + (r - span));
     }
-    if r == span + row + 1 {
-        return t;
-    }
-    len
+    (r == span + row + 1).then_some(t)
 }
 
 // Where the q-th token that is seen is from, with `len` lent ones.
@@ -48,7 +45,7 @@ pub fn locate(given: Option<Origin>, len: usize, q: usize) -> Spot
     if r == 0 {
         return Spot::Head(size);
     }
-    Spot::Lent(copied(g, len, r, t))
+    copied(g, r, t).map_or(Spot::Nowhere, Spot::Lent)
 }
 
 impl<'a> Seen<'a> {

@@ -1,5 +1,4 @@
 -- Laws: a term read from its bytes and kept, and the bytes of a term.
---   KindLaws          the tags that ranges cover
 --   FieldLaws         codes and numbers, case by case
 --   StoreLaws         runs of stores into the two areas
 --   ReadSequenceLaws  what a run of reads leaves, put together from what each leaves
@@ -18,7 +17,6 @@
 --   ListReaderLaws    the term reader goes from record to record
 --   KeepSequenceLaws  what is kept stays
 --   ParameterLaws     parameters in the bytes
-pub mod KindLaws
 pub mod FieldLaws
 pub mod StoreLaws
 pub mod ReadSequenceLaws

@@ -53,6 +53,13 @@ Below S n = (i : ℕ) → S i ≡ true → i < n
 
 -- ---- rows by place
 
+-- a term at p whose tokens stand in the area ends at e
+pub record EndAt (a : Area) (p e : ℕ) : Type 0 where
+  pub small : e < 4294967296
+  pub is : 1 ≤ span (get_or a.kinds p 0) (get_or a.vals p 0)
+      → p + span (get_or a.kinds p 0) (get_or a.vals p 0) ≤ length a.kinds
+      → e ≡ p + span (get_or a.kinds p 0) (get_or a.vals p 0)
+
 -- the row of the term at h is the tokens from `from` up to e
 pub record RowAt (a : Area) (h from e : ℕ) : Type 0 where
   pub small : e < 4294967296

@@ -3,7 +3,7 @@ use mathlib.Core.Path.{◌≡◌, refl, sym, ap, ap₂, ◌∙◌}
 use mathlib.Core.Bool.{Bool, true, false}
 use mathlib.Core.List.{List, [], ◌∷◌}
 use mathlib.Core.Option.{none, some}
-use Prim.Native.Nat.{ℕ, zero, suc, ◌+◌, ◌-◌, ◌≤◌, ◌<◌, min}
+use Prim.Native.Nat.{ℕ, zero, suc, ◌+◌, ◌-◌, ◌≤◌, ◌<◌}
 use native.Mathlib.Omega.{arith}
 use borrow.Rule.Slice.PartAt.{part_to_end}
 use lib.ListN.{length, get_or, take, drop}
@@ -26,7 +26,7 @@ use Rattle.terms.specs.Result.{pick}
 use Rattle.terms.specs.Words.VirtualTokens.{view, Sight}
 use Rattle.terms.specs.Lookup.{Pattern, front, left, by_patterns, HeldRule, Ruled}
 use Rattle.terms.specs.Words.RuleListContract.{has_member, first_with}
-use Rattle.terms.specs.Words.Arena.{Tree, Parted, over, number, child, From, Begins, Starts}
+use Rattle.terms.specs.Words.Arena.{Tree, Parted, EndAt, over, number, child, From, Begins, Starts}
 use Rattle.terms.specs.Words.RulesContract.{TermStarts, Numbers, Fronted, last_but_one, MemberIn}
 use Rattle.terms.proofs.Laws.Held.HeldLaws.{kind_some, items_some, held_sub}
 use Rattle.terms.proofs.Laws.Held.SameLaws.{span_held, rows_refl, rows_true}
@@ -39,20 +39,16 @@ clash e = absurd (omega arith)
 
 -- ---- a term as a row of its own
 
-module _ (a : Area) (p l : ℕ) {k v : ℕ} (ek : k ≡ get_or a.kinds p 0) (ev : v ≡ get_or a.vals p 0) (el : 1 ≤ span k v → l ≡ span k v) where
-  -- no term ends past the tokens, so one that is cut is whole
-  pub term_starts : (x : Cursor) → x.at ≡ p → x.child ≡ 0 → x.kids ≡ 0 → length a.kinds < 4294967296 → x.end ≡ min (p + l) 4294967295 → TermStarts a p x
-  term_starts x ea ec ez f o = record {
-    is = λ hs cs S t w.
-        let r = tree_row a hs cs S w ek ev in
-        let z = el r.0 in
-        let i : p + l ≡ x.end = omega (arith, z, r.1) in
-        rw (ea, ec, ez) (child {c = 0} {e = x.end} {q = p} {n = 0} {l = l} {t = t} (omega arith) (λ y. omega (arith, tree_kind a hs cs S w ek, kind_some t)) (ap₂ span (sym ek) (sym ev) ∙ sym z) (omega arith) tt w
-        (over i));
-    ends = λ t h.
-        let u = ap₂ span ek ev ∙ span_held a.kinds a.vals p t h in
-        omega (arith, el (omega (arith, items_some t)), u, h.within);
-  }
+pub term_starts : (a : Area) (p : ℕ) (x : Cursor) → x.at ≡ p → x.child ≡ 0 → x.kids ≡ 0 → EndAt a p x.end → TermStarts a p x
+term_starts a p x ea ec ez i = record {
+  is = λ hs cs S t w.
+      let r = tree_row a hs cs S w refl refl in
+      let e = i.is r.0 r.1 in
+      rw (ea, ec, ez) (child {c = 0} {e = x.end} {q = p} {n = 0} {t = t} (omega (arith, e, r.0)) (λ y. omega (arith, tree_kind a hs cs S w refl, kind_some t)) refl r.0 tt w (over (sym e)));
+  ends = λ t h.
+      let u = span_held a.kinds a.vals p t h in
+      i.is (omega (arith, u, items_some t)) (omega (arith, u, h.within)) ∙ ap (λ (n : ℕ). p + n) u;
+}
 
 -- ---- two numbers
 

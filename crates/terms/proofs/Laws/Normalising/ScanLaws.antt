@@ -1,5 +1,5 @@
 -- A row scanned from its front: numbers, keys and children by place. Each scan says what is left of the row.
-use mathlib.Core.Path.{◌≡◌, refl, sym, ap, ◌∙◌}
+use mathlib.Core.Path.{◌≡◌, refl, sym, ap, ap₂, ◌∙◌}
 use mathlib.Core.Bool.{Bool}
 use mathlib.Core.List.{List, [], ◌∷◌}
 use mathlib.Core.Option.{none, some}
@@ -14,7 +14,7 @@ use Rattle.terms.specs.Term.{Term, Parts, var, node, end, num, sub}
 use Rattle.terms.specs.Words.Held.{span}
 use Rattle.terms.specs.Words.RowsContract.{Moves}
 use Rattle.terms.specs.Tree.{error, nums, subs, children, row}
-use Rattle.terms.specs.Words.Arena.{head_of, kids_of, Tree, Parted, RowAt, NumberHere, NumberAt, KeyOf}
+use Rattle.terms.specs.Words.Arena.{head_of, kids_of, Tree, Parted, EndAt, RowAt, NumberHere, NumberAt, KeyOf}
 use Rattle.terms.proofs.Laws.Held.HeldLaws.{span_one}
 use Rattle.terms.proofs.Laws.Normalising.ArenaLaws.{parted_over, parted_number, parted_child, tree_row}
 use Rattle.std.specs.Prelude.{Option, Some, None, min, unwrap_or}
@@ -23,22 +23,24 @@ use Rattle.terms.specs.Words.Lent.{shown}
 
 -- ---- a term's row, from its first token's kind and value
 
-module _ (a : Area) (h p l : ℕ) {k v : ℕ} (ep : p ≡ h) (ek : k ≡ get_or a.kinds p 0) (ev : v ≡ get_or a.vals p 0) (el : 1 ≤ span k v → l ≡ span k v) where
-  whole : (hs cs : List ℕ) (S : ℕ → Bool) (c : ℕ) (t : Term) → Tree a hs cs S h c t → (p + l ≤ length a.kinds) × Parted a hs cs S c (p + l) (p + 1) 0 (row t)
-  whole hs cs S c t w =
-      let w' : Tree a hs cs S p c t = rw ep w in
-      let r = tree_row a hs cs S w' ek ev in
-      let z = el r.0 in
-      rw z (r.1, r.2)
-
-  -- no term ends past the tokens, so a row that is cut is whole
-  pub row_is : (e : ℕ) → length a.kinds < 4294967296 → e ≡ min (p + l) 4294967295 → RowAt a h (p + 1) e
-  row_is e f o = record {
+module _ (a : Area) (p e : ℕ) where
+  -- no term ends past the tokens, so one that is cut is whole
+  pub end_is : {k v l : ℕ} → k ≡ get_or a.kinds p 0 → v ≡ get_or a.vals p 0 → (1 ≤ span k v → l ≡ span k v) → length a.kinds < 4294967296 → e ≡ min (p + l) 4294967295
+      → EndAt a p e
+  end_is ek ev el f o = record {
     small = omega arith;
+    is = λ s h.
+        let u = ap₂ span ek ev in
+        let z = el (omega (arith, u)) in
+        omega (arith, u, z);
+  }
+
+  pub row_is : EndAt a p e → RowAt a p (p + 1) e
+  row_is i = record {
+    small = i.small;
     is = λ hs cs S c t w.
-        let x = whole hs cs S c t w in
-        let i : p + l ≡ e = omega (arith, x.0) in
-        rw i at x.1;
+        let r = tree_row a hs cs S w refl refl in
+        rw (← (i.is r.0 r.1)) at r.2;
   }
 
 -- ---- the scan

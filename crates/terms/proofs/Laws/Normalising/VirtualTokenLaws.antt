@@ -8,7 +8,7 @@ use native.Mathlib.Numerals.{add-one}
 use native.Mathlib.Omega.{arith}
 use borrow.Author.Tests.{lt-ltb, le-ltb, le-leb, lt-leb, eq-eqb, ne_eqb}
 use lib.ListN.{length, get_or, get_or-eq_default}
-use Rattle.std.specs.Prelude.{Option, Some, None}
+use Rattle.std.specs.Prelude.{Option, Some, None, unwrap_or, MatchOption}
 use Rattle.terms.specs.declared.Origin.{Origin}
 use Rattle.terms.specs.declared.Spot.{Spot}
 use Rattle.terms.specs.declared.Spot.TheVariants.{Lent, Error, Head, Nowhere}
@@ -124,6 +124,15 @@ module _ (g : Origin) (len q : ℕ) (h : len < q) (i t : ℕ) (ei : i ≡ (q - (
 
   pub located_copy : t ≤ len → (i ≡ 0 → ⊥) → (p : ℕ) → p ≡ copied g len i t → Located (Some g) len q (Lent p)
   located_copy b o p e = record { width = tt; is = λ ws e' f l. made ws e' f l ∙ rw (le-ltb (length ws) t (omega arith), ne_eqb i 0 o, l, e) }
+
+  -- a lent token, or the number 0, which is what stands past the lent ones
+  pub located_copied : t ≤ len → (i ≡ 0 → ⊥) → (p : Option ℕ) → ((n : ℕ) → unwrap_or p n ≡ copied g n i t) → (s : Spot) → MatchOption p (s ≡ Nowhere) (λ r. s ≡ Lent r)
+      → Located (Some g) len q s
+  located_copied b o (Some p) f s e = rw e (located_copy b o p (f len))
+  located_copied b o None f s e = rw e record {
+    width = tt;
+    is = λ ws e' f' l. made ws e' f' l ∙ rw (le-ltb (length ws) t (omega arith), ne_eqb i 0 o, l, ← (f len)) (get_or-eq_default ws 0 (omega arith));
+  }
 
 -- a word as the spot says
 pub spot_word : (ws : List ℕ) (g : Option Origin) (e f len q : ℕ) (s : Spot) → Located g len q s → length ws ≡ len → get_or (seen ws g e f) q 0 ≡ word_at ws e f s

@@ -3,7 +3,7 @@ use mathlib.Core.Path.{◌≡◌, ap}
 use Prim.Native.Nat.{ℕ, ◌+◌, ◌-◌, ◌/◌, ◌%◌}
 use Rattle.terms.specs.Words.VirtualTokens.{width}
 use native.Mathlib.Omega.{arith}
-use Rattle.terms.proofs.Laws.Normalising.VirtualTokenLaws.{located_lent, located_error, located_none, located_past, located_head, located_copy}
+use Rattle.terms.proofs.Laws.Normalising.VirtualTokenLaws.{located_lent, located_error, located_none, located_past, located_head, located_copied}
 use Rattle.terms.proofs.virtual_tokens.locate.Goals as goal
 use Rattle.terms.proofs.virtual_tokens.locate.Goals.{After-width-size}
 
@@ -32,5 +32,5 @@ returns-then-r-eq0 c =
 
 pub returns : goal.returns
 returns c =
-    rw c.in-Some.is (located_copy _ _ _ (omega (arith, c.if-q-len.false, c.if-q-len-2.false)) _ _ (rest (goal.at.returns c).After-width-size) (turn (goal.at.returns c).After-width-size) c.if-len-t.false c.if-r-eq0.false _
-    c.copied.ensures)
+    rw c.in-Some.is (located_copied _ _ _ (omega (arith, c.if-q-len.false, c.if-q-len-2.false)) _ _ (rest (goal.at.returns c).After-width-size) (turn (goal.at.returns c).After-width-size) c.if-len-t.false c.if-r-eq0.false _
+    c.copied.ensures _ c.map_or.ensures)
