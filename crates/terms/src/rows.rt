@@ -74,23 +74,12 @@ impl<'a> Seen<'a> {
         }
     }
 
-    // Numbers and children are counted by hand. With `filter(..).nth(i)` over a `RowWalk` the value follows from a `YieldsList`, which a walk has only where
-    // the row is held; that what is found stands at its place is promised of any row, and would need an induction over runs (`YieldsThen`) of `filter_steps`.
-    //
     // Where the i-th number of the row stands.
     pub fn number_place(&self, h: u32, i: usize) -> Option<usize>
         ensures { NumberAt (shown self.now) h i result }
     {
-        let mut left = i;
-        for (q, x) in self.walk_row(h) {
-            if x.kind == 0 {
-                if left == 0 {
-                    return Some(q);
-                }
-                left -= 1;
-            }
-        }
-        None
+        let (place, _) = self.walk_row(h).filter(|(_, x)| x.kind == 0).nth(i)?;
+        Some(place)
     }
 
     // The i-th number of the row, 0 where it has not so many.
@@ -110,6 +99,7 @@ impl<'a> Seen<'a> {
         ensures { KeyOf (shown self.now) h x result }
     {
         let mut k = 0;
+        // Counted by hand: `filter`, `skip` and `position` would be runs one in another, each with laws as `NthLaws` has them for a filter.
         for (_, y) in self.walk_row(h) {
             if y.kind == 0 {
                 if y.value == x && 3 <= k {
@@ -152,15 +142,11 @@ impl<'a> Records<'a> {
             → StandsFor self.now S x t
             → Fetches self.now S (get_elem? (children t) i) result }
     {
-        let mut n = 0;
-        for (q, y) in self.seen.walk_row(x.head) {
-            if y.kind != 0 {
-                if n == i {
-                    return Some(child_here(self.heads, self.kids, x.kids, q, n));
-                }
-                n += 1;
-            }
-        }
-        None
+        let (place, _) = self
+            .seen
+            .walk_row(x.head)
+            .filter(|(_, y)| y.kind != 0)
+            .nth(i)?;
+        Some(child_here(self.heads, self.kids, x.kids, place, i))
     }
 }

@@ -3,6 +3,7 @@
 --   ArenaLaws         trees in words
 --   SourceLaws        trees whose children are as in the source are terms that the tokens hold
 --   ScanLaws          a row scanned from its front
+--   NthLaws           the i-th of the tokens in a row that pass a test
 --   SlotLaws          the order of `map_children`, by cases
 --   OpenLaws          the children of a content put into records, one after the other
 --   MemberLaws        a member looked up by its place, and a projection's own member by cases
@@ -24,6 +25,7 @@ pub mod VirtualTokenLaws
 pub mod ArenaLaws
 pub mod SourceLaws
 pub mod ScanLaws
+pub mod NthLaws
 pub mod SlotLaws
 pub mod OpenLaws
 pub mod MemberLaws
