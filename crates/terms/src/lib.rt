@@ -298,8 +298,8 @@ pub enum Class {
     Projection,
 }
 
-// The tokens of terms, which are lent: the kinds, and as many values, which are words of 32 bits. What orders ask of the terms in them are functions of the
-// orders' modules (`ask`, `satisfies`), which `solver` and `sheet` call by name; as methods their contracts would have `self` for `tokens`, and no clause less.
+// The tokens of terms, which are lent: the kinds, and as many values, which are words of 32 bits. What is asked of the terms in them are functions (`ask`,
+// `satisfies`, `skip`): their subject is the term at a place, and not the tokens, and as methods they would have `self` for `tokens` and no clause less.
 #[derive(Clone, Copy)]
 pub struct Tokens<'a> {
     pub kinds: &'a [u32],
