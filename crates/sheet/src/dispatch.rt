@@ -91,8 +91,7 @@ fn serve_with(
 ) -> AfterOrder
     requires held { AreasReady x (areas a.old b.old records.old table.old d.old) }
     requires rules { get_or s.now 0 0 ≡ 20 → RulesRoom s.now rules.old 2048 }
-    requires order { length s.now ≤ 16777216 }
-    requires room { OutputRoom out.old to }
+    requires room { (length s.now ≤ 16777216) × OutputRoom out.old to }
     ensures { Serves x result.solver s.now (areas a.old b.old records.old table.old d.old)
         (areas a.new b.new records.new table.new d.new) (output_at out.old to) (written_to out.new result.next) }
 {
@@ -142,8 +141,7 @@ fn serve_rules(
     to: usize,
 ) -> AfterOrder
     requires held { AreasReady x (areas a.old b.old records.old table.old d.old) }
-    requires order { length s.now ≤ 16777216 }
-    requires room { OutputRoom out.old to }
+    requires room { (length s.now ≤ 16777216) × OutputRoom out.old to }
     ensures { Serves x result.solver s.now (areas a.old b.old records.old table.old d.old)
         (areas a.new b.new records.new table.new d.new) (output_at out.old to) (written_to out.new result.next) }
 {
@@ -168,8 +166,7 @@ pub fn serve_order(
     to: usize,
 ) -> AfterOrder
     requires held { AreasReady x (areas a.old b.old records.old table.old d.old) }
-    requires order { length s.now ≤ 16777216 }
-    requires room { OutputRoom out.old to }
+    requires room { (length s.now ≤ 16777216) × OutputRoom out.old to }
     ensures { (z : Session) → InOrder (issued z) z.solver → RepresentsInAreas x (areas a.old b.old records.old table.old d.old) z
         → Served result.solver (areas a.new b.new records.new table.new d.new) z s.now (output_at out.old to)
         (written_to out.new result.next) x }

@@ -6,7 +6,7 @@ pub read_order-r-requires : goal.read_order-r-requires
 read_order-r-requires c =
     let a = c.args in
     let p = c.requires in
-    rw c.standing-n.ensures (ready_room a.x a.s.now a.a.now a.b.now a.records.now a.table.now a.d.now a.rules.now p.held p.order p.rules)
+    rw c.standing-n.ensures (ready_room a.x a.s.now a.a.now a.b.now a.records.now a.table.now a.d.now a.rules.now p.held p.room.0 p.rules)
 
 pub returns-in-Ok : goal.returns-in-Ok
 returns-in-Ok c =
