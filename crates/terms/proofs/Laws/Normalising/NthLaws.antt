@@ -21,11 +21,22 @@ use Rattle.terms.specs.Words.Lent.{shown}
 use Rattle.terms.specs.Words.RowsContract.{Moves}
 use Rattle.terms.proofs.Laws.Normalising.ScanLaws.{Scan, Came, Walking, came, walk_on}
 
+-- the closure tests the kind, and stays as it is
+abbrev pub Tells : {F : Type 0} → Mut F (Bor (ℕ × Token) × Unit {0}) Bool → (ℕ → Bool) → F → Type 0
+Tells {F} g test f = (y : ℕ × Token) (b : Bool) (p : F) → CalledAt g f y b p → (p ≡ f) × (b ≡ test y.1.kind)
+
+-- P tells of a row by how many passed the test and how many are wanted: a token that does not pass keeps it, and one that does is counted
+abbrev pub Keeps : (ℕ → Bool) → Seen → ℕ → (ℕ → ℕ → ℕ → Parts → Parts → Type 0) → Type 0
+Keeps test x h P = (p n e q k v r : ℕ) → Scan (shown x) h e q (P p n) → Came (shown x) e q k v r → test k ≡ false → Scan (shown x) h e r (P p n)
+
+abbrev pub Takes : (ℕ → Bool) → Seen → ℕ → (ℕ → ℕ → ℕ → Parts → Parts → Type 0) → Type 0
+Takes test x h P = (p n e q k v r : ℕ) → Scan (shown x) h e q (P p (suc n)) → Came (shown x) e q k v r → test k ≡ true → Scan (shown x) h e r (P (p + 1) n)
+
 module _ {F : Type 0} (g : Mut F (Bor (ℕ × Token) × Unit {0}) Bool) (test : ℕ → Bool) (f : F)
-    (told : (y : ℕ × Token) (b : Bool) (p : F) → CalledAt g f y b p → (p ≡ f) × (b ≡ test y.1.kind))
+    (told : Tells g test f)
     (x : Seen) (h : ℕ) (P : ℕ → ℕ → ℕ → Parts → Parts → Type 0)
-    (pass : (p n e q k v r : ℕ) → Scan (shown x) h e q (P p n) → Came (shown x) e q k v r → test k ≡ false → Scan (shown x) h e r (P p n))
-    (take : (p n e q k v r : ℕ) → Scan (shown x) h e q (P p (suc n)) → Came (shown x) e q k v r → test k ≡ true → Scan (shown x) h e r (P (p + 1) n)) where
+    (pass : Keeps test x h P)
+    (take : Takes test x h P) where
   passed : (p n : ℕ) (xs : List (ℕ × Token)) (s t : RowWalk) (j q : F) → j ≡ f → Walking x h s (P p n) → Yields Moves s xs t → FoldsTo (λ p y q. CalledAt g p y false q) j xs q
       → Walking x h t (P p n) × (q ≡ f)
   passed p n [] s t j q a w y c = (subst (λ z. Walking x h z (P p n)) y w, sym c ∙ a)
@@ -66,9 +77,9 @@ module _ {F : Type 0} (g : Mut F (Bor (ℕ × Token) × Unit {0}) Bool) (test : 
 module _ {F : Type 0} (g : Mut F (Bor (ℕ × Token) × Unit {0}) Bool) (test : ℕ → Bool) {f : F} (x : Seen) (h i : ℕ) (P : ℕ → ℕ → ℕ → Parts → Parts → Type 0) {s : Filter RowWalk F} (t : Filter RowWalk F) where
   -- what `nth` found, behind i that passed
   pub nth_found : (y : ℕ × Token) → SkipsThenYields (filter_steps Moves g) s i (Some y) t → filter_callee s ≡ f → Walking x h (filter_source s) (P 0 i)
-      → ((p n e q k v r : ℕ) → Scan (shown x) h e q (P p n) → Came (shown x) e q k v r → test k ≡ false → Scan (shown x) h e r (P p n))
-      → ((p n e q k v r : ℕ) → Scan (shown x) h e q (P p (suc n)) → Came (shown x) e q k v r → test k ≡ true → Scan (shown x) h e r (P (p + 1) n))
-      → ((y : ℕ × Token) (b : Bool) (p : F) → CalledAt g f y b p → (p ≡ f) × (b ≡ test y.1.kind))
+      → Keeps test x h P
+      → Takes test x h P
+      → Tells g test f
       → (w : RowWalk) × Walking x h w (P i 0) × Moves w (Some y) (filter_source t) × (test y.1.kind ≡ true)
   nth_found y m a w pass take told =
       let o = several g test f told x h P pass take m.0 0 0 i i s m.1.0 (omega (arith, m.2)) (omega (arith, m.2)) a w m.1.1 in
@@ -77,9 +88,9 @@ module _ {F : Type 0} (g : Mut F (Bor (ℕ × Token) × Unit {0}) Bool) (test : 
 
   -- the end that it came to, behind p that passed, and n more were wanted
   pub nth_none : SkipsThenYields (filter_steps Moves g) s i None t → filter_callee s ≡ f → Walking x h (filter_source s) (P 0 i)
-      → ((p n e q k v r : ℕ) → Scan (shown x) h e q (P p n) → Came (shown x) e q k v r → test k ≡ false → Scan (shown x) h e r (P p n))
-      → ((p n e q k v r : ℕ) → Scan (shown x) h e q (P p (suc n)) → Came (shown x) e q k v r → test k ≡ true → Scan (shown x) h e r (P (p + 1) n))
-      → ((y : ℕ × Token) (b : Bool) (p : F) → CalledAt g f y b p → (p ≡ f) × (b ≡ test y.1.kind))
+      → Keeps test x h P
+      → Takes test x h P
+      → Tells g test f
       → (p n : ℕ) × (p ≤ i) × (w : RowWalk) × Walking x h w (P p n) × Moves w None (filter_source t)
   nth_none m a w pass take told =
       let o = several g test f told x h P pass take m.0 0 (i - length m.0) (length m.0) i s m.1.0 (omega arith) (omega (arith, m.2)) a w m.1.1 in
