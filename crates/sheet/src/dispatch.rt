@@ -74,7 +74,7 @@ fn answer_order<'a>(
     }
 }
 
-// Reads an order, with room for its rules, and answers it. That an order is short is a clause here and in the next two, and that the sheet is in three of
+// Reads an order, with room for its rules, and answers it. That an order is short is a clause of the three `serve_` functions, and that the sheet is of three in
 // running.rt. With a struct of bytes that are so few these six would go, but each `ensures` there would say `s.entry.bytes.now` for `s.now`, as a field of a
 // struct by value is lent, and `Passes` and four calls would have `.bytes`.
 fn serve_with(

@@ -1,8 +1,8 @@
 // The fields of an order, rules aside: each is read and its tokens kept. A reading function is lent the place and answers the field's spot; where it refuses,
 // the place is of no use.
 // The bytes and the place stand apart: what is lent a reader of both changed has to say that its bytes are the same, a clause for each `Ample`. `Free` speaks of
-// the areas besides, which are lent changed as two slices. The sort and the variables issued stand apart, too: these are the same for all fields of an order, and
-// `RecordRequest` of terms, which has them, tells of no sort.
+// the areas besides, which are lent changed as two slices (docs/DECISIONS.md, "How are the tokens lent?"). The sort and the variables issued stand apart, too:
+// these are the same for all fields of an order, and `RecordRequest` of terms, which has them, tells of no sort.
 ghost use Rattle.std.specs.Prelude.{◌≡◌, List, ℕ, ◌≤◌, length};
 ghost use Rattle.solver.specs.TermTypes.{Rule};
 ghost use Rattle.solver.specs.Terms.Tokens.{area};
@@ -96,7 +96,7 @@ fn parameters_field(s: &[u8], place: &mut Place) -> Result<FieldSpot, Refusal>
 }
 
 // The list that a sort has: entries, arguments, else receivers, as `part_of` of the definition tells it. It is asked of a receiver, of lists and of rules, which
-// `PlainField` is not asked for. It is no `From`: of most sorts it says nothing.
+// `PlainField` is not asked for. It is no `From`: of most sorts it is not asked.
 fn listing_of(sort: Sort) -> Listing
     ensures { result ≡ listing_of sort }
 {

@@ -11,7 +11,7 @@ use solver::{number_len, write_number};
 // How many bytes the answer of one byte has: its length, outcome 0 and the byte.
 pub const BYTE_ANSWER: usize = 3;
 
-// A refusal.
+// A refusal, by any code: it promises the bytes of each. What orders are refused with is an `OrderRefusal`, and written by the next.
 pub fn write_refusal(out: &mut [u8], to: usize, code: u8) -> Option<usize>
     requires { OutputRoom out.old to }
     ensures { Framed (refusal code) out.old to out.new result }

@@ -1,5 +1,5 @@
 // The fields of a layout, read one after another, in a way that is given.
-// `Ample` and `Free` are clauses: fields.rt says why.
+// `Ample` and `Free` are clauses, and the areas two slices: fields.rt says why.
 ghost use Rattle.std.specs.Prelude.{◌≡◌};
 ghost use Rattle.solver.specs.Terms.Tokens.{area};
 ghost use Rattle.sheet.specs.declared.Sort.{Sort};

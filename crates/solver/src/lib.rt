@@ -116,7 +116,8 @@ pub enum Site {
     Hole(u32),
 }
 
-// The words that the table has for the place of a variable: 1, a site and a slot, or 2, the site of a hole and 0. Any three words may be looked for.
+// The words that the table has for the place of a variable: 1, a site and a slot, or 2, the site of a hole and 0. A search promises the
+// last variable that has the words whichever they are, so it takes these, and not a `Site`.
 #[derive(Clone, Copy, Debug, PartialEq, Eq)]
 pub struct PlaceWords {
     pub kind: u32,

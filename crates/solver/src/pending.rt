@@ -2,8 +2,8 @@
 // 2j and 2j + 1. The words and the count are lent side by side, for the reason at `Table` in lib.rt.
 // Kinds are numbers: the line in kinds.rt of terms says why.
 // A place is put on as a word, so `push_range` and `push_children` ask that the tokens are fewer than 2 ^ 32, and `same_shape` asks it beside them; `bind`,
-// `bindings`, `decompose` and `union_classes` ask it, too. It is no fact of `Tokens`, since terms may be written from areas of any length. `Bindings` has it
-// as a fact, but with words of variables, which these functions do not look at.
+// `bindings`, `decompose` and `union_classes` ask it, too. It is no fact of `Tokens`: the operations on terms need it nowhere, and would ask it of their callers.
+// `Bindings` has it as a fact, but with words of variables, which these functions do not look at.
 ghost use Rattle.std.specs.Prelude.{Some, unwrap_or, ◌≡◌, [], ◌∷◌, not, ◌&&◌, ◌||◌, ℕ, ◌+◌, ◌*◌, ◌^◌, ◌≤◌, ◌<◌, eqb, length, get_or};
 ghost use Rattle.terms.specs.Term.{Parts, node, Held};
 ghost use Rattle.terms.specs.Words.Held.{HeldParts};
@@ -198,6 +198,7 @@ pub fn push_range(
         child: 0,
         top: count,
     };
+    // Children are counted by hand: the steps at numbers come between, and what `enumerate` ensures over a filter is told of runs of steps.
     for step in walk_pair(tokens, x, y) {
         if let PairStep::Terms(t, u) = step {
             c = push_part(pending, c, t.from, u.from, lo, hi);

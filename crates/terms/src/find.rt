@@ -108,7 +108,7 @@ pub fn find_receiver(tokens: &Tokens, row: Part, owner: u64) -> Option<usize>
 }
 
 // The place of the n-th term from a place on. `behind_terms` of recover.rt goes over terms in the same way, but says where only of a row that is held; here it
-// is said of any words, and the place may be past them.
+// is said of any words, and of any place to begin at.
 pub fn nth_term(tokens: &Tokens, from: usize, n: usize) -> Option<usize>
     ensures { result ≡ nth_at tokens.now.kinds.now tokens.now.vals.now n from }
 {

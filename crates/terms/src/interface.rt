@@ -46,7 +46,7 @@ impl<'a> Records<'a> {
         }
         let len = seen.tokens.kinds.len();
         let t = seen.lent_place(p).unwrap_or(len);
-        // as wide as those that are seen, whose places are words; it is not asked that these are made from `given`
+        // the width by what is seen, and not by `given`: that these are one is asked only by the promise, and this width keeps the place within bounds
         let width = seen.given.map_or(0, Origin::width);
         source((len + 1 + t * width) as u32)
     }

@@ -1,5 +1,5 @@
 // Numbers of the byte form: base 128, low group first, shortest form only.
-// Bytes and a position in them stand apart: a caller has the position in a `Place`, where the lines say why it does not hold the bytes.
+// Bytes and a position in them stand apart: where a caller goes on from it, the position is in a `Place`, and the lines there say why it does not hold the bytes.
 ghost use Rattle.std.specs.Prelude.{◌≡◌, ◌+◌, ◌≤◌, ◌<◌, length, get_or, MatchResult};
 ghost use Rattle.terms.specs.declared.Refusal.TheVariants.{Length};
 ghost use Rattle.std.proofs.lemmas.List.Edits.{sets};

@@ -147,7 +147,8 @@ fn stays(k: u32, l: u32) -> bool
     is_hole(l) || k == 1
 }
 
-// `put_run` of a part of the lent tokens. One reference in the place of two slices: all arguments are in registers, since there are six and not seven.
+// `put_run` of a part of the lent tokens. With the tokens by one reference all arguments stay in registers: without, order 11 on small terms, which is at the bar
+// of twice the Rust's speed, took 1.8 percent more instructions.
 fn put_part(tokens: &Tokens, part: Part, out: &mut [u8], at: usize) -> usize
     requires part { PartOf tokens.now.kinds.now part }
     requires room { at + 6 * (part.end - part.from) < 2 ^ 64 }

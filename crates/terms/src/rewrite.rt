@@ -103,7 +103,7 @@ impl<'a> Rewriter<'a> {
         ensures { result ≡ generic self.now.tokens.kinds.now self.now.tokens.vals.now self.now.binders parameters.now arguments wanted }
     {
         let argument = self.argument_for(parameters, arguments, wanted);
-        // By `let`: of a closure that is written in the call, and holds what has a lifetime in its type, no `ensures` comes out.
+        // By `let`: written in the call of a method that takes an `FnOnce`, a closure that holds what has a lifetime in its type hands on no `ensures`.
         let entry = || self.entry_for(wanted);
         taken(argument.or_else(entry))
     }

@@ -112,7 +112,8 @@ impl<'a> Records<'a> {
         let s = self.seen.cursor(x);
         let member = self.seen.member_in(s);
         let mut r = 0;
-        // Rules are skipped to the next with the member, and arguments are as wide as they say; both are left at the match (document 01).
+        // Rules are skipped to the next with the member, and arguments are as wide as they say. Both are left at the match, in the inner loop (document 01): the
+        // arguments left are counted down, so that it is there that none is left.
         'rules: loop {
             r += first_with(&rules[r..], member)?;
             let rule = rules[r];

@@ -52,9 +52,9 @@ fn gives(tokens: &Tokens, x: usize, member: u32, t: usize) -> bool
     member_at(tokens, x + 1, count, member).is_some_and(same)
 }
 
-// The place after `count` required members from p on, where the members listed at x give each of them. `covered` has the same loop with another test: a closure
-// for the test would need clauses of its own, in each of the two, that are longer than the loop. An iterator over members, for these two and `member_at`, would
-// have to tell members that end early from those that are over, and to hand back the place after them, which this function answers with.
+// The place after `count` required members from p on, where the members listed at x give each of them. `covered` has the same loop with another test: with the
+// test as an `impl Fn` the contract would say what it tells of each member, and each of the two would show it, which is longer than the loop. An iterator, for
+// these two and `member_at`, would have to tell members that end early from those that are over, and to hand back the place after them.
 fn all_given(tokens: &Tokens, x: usize, p: usize, count: usize) -> Option<usize>
     requires { (x ≤ length tokens.now.kinds.now) × (p ≤ length tokens.now.kinds.now + 1) }
     ensures within { Ended (length tokens.now.kinds.now) result }

@@ -1,5 +1,5 @@
-// Tokens are written as they stand: sized first, then written. Kinds and values are two slices: the programs write from areas of which nothing says that
-// they are as long as one another.
+// Tokens are written as they stand: sized first, then written. Kinds and values of a run are two slices, of which nothing asks that they are as long as one
+// another: the programs write from such areas.
 // Kinds and tags are matched by number; the line in kinds.rt says why.
 // The output and the position in it stand apart: docs/DECISIONS.md, "How are the tokens lent?".
 ghost use Rattle.std.specs.Prelude.{◌≡◌, ◌+◌, ◌-◌, ◌*◌, ◌^◌, ◌≤◌, ◌<◌, length};
