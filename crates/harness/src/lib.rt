@@ -4,7 +4,7 @@
 mod bench;
 mod head;
 
-pub use bench::{Bench, Outcome};
+pub use bench::{Bench, Outcome, run_part};
 pub use head::Head;
 
 /// The bytes of a sheet and of its output, at most.
