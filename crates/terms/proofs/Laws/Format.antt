@@ -7,7 +7,8 @@
 --   ReadLaws          what each reading function answers, from what its parts answer, on plain values
 --   KindTableLaws     rules of the table of kinds, each one computed test
 --   ShapeLaws         rows that fit a shape
---   TokenCountLaws    how many tokens a formed term has
+--   TokenCountLaws    how many tokens a formed term has, by its nodes and leaves
+--   RoomLaws          room for the tokens of terms, rules and order 17 where ids take two
 --   Sound             what the reader finds is a formed term within its levels, whose variables are issued, and whose
 --                     bytes are exactly those that were taken
 --   RoundTrip         a formed term's bytes are read back as that term, whatever stands before and after them
@@ -26,6 +27,7 @@ pub mod ReadLaws
 pub mod KindTableLaws
 pub mod ShapeLaws
 pub mod TokenCountLaws
+pub mod RoomLaws
 pub mod Sound
 pub mod RoundTrip
 pub mod WriteLaws
