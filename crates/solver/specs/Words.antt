@@ -13,6 +13,7 @@
 --   ResolveWalk            a held term with bound variables replaced, on any words
 --   SessionRepresentation  a session that the counters, the areas and a table hold
 --   SessionsContract       a session alone in its areas
+--   TableLayout            where things stand in the table
 --   Worklist               marks, and a queue of what is marked
 pub mod Bindings
 pub mod CongruenceClasses
@@ -26,4 +27,5 @@ pub mod ResolveFrames
 pub mod ResolveWalk
 pub mod SessionRepresentation
 pub mod SessionsContract
+pub mod TableLayout
 pub mod Worklist

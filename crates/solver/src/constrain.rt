@@ -1,5 +1,5 @@
-// `constrain`: the Rust's loop over pending pairs, a check each. The pairs stand after the columns of the table, which is cut in two there; two
-// places a pair, the last is taken first. Kinds are numbers: the line in kinds.rt of terms says why.
+// `constrain`: the Rust's loop over pending pairs, a check each. The pairs stand after the columns of the table, which is cut in two there; a
+// word a pair, the last is taken first. Kinds are numbers: the line in kinds.rt of terms says why.
 ghost use Rattle.std.specs.Prelude.{◌≡◌, ◌||◌, List, ℕ, ◌+◌, ◌*◌, ◌≤◌, ◌<◌, eqb, length, drop};
 ghost use Rattle.terms.specs.Term.{Term, size};
 ghost use Rattle.solver.specs.Shapes.{notion, same_shape};
@@ -15,6 +15,7 @@ ghost use Rattle.solver.specs.Words.ConstrainContract.{Waiting, Known, Scratch, 
 
 use super::equality::same_terms;
 use super::families::admissible;
+use super::layout::lasting_words;
 use super::pending::{push_children, put_pair, same_shape, take_pair};
 use super::reach::{occurs, recovers};
 use super::resolving::clear_words;
@@ -86,7 +87,7 @@ impl Solver {
         count: usize,
     ) -> Checked
         requires nodes { (t u : Term) × Nodes self tokens.now.kinds.now tokens.now.vals.now a b count t u }
-        requires room { (2 * (32 + self.nodes) ≤ length pending.old) × (length tokens.now.kinds.now < 4294967296) }
+        requires room { (32 + self.nodes ≤ length pending.old) × (length tokens.now.kinds.now ≤ 65536) }
         ensures after { (s : Session) (t u : Term) (ps : List Pair) (ts : List ℕ)
             → Represents self tokens.now.kinds.now tokens.now.vals.now ts s
             → Nodes self tokens.now.kinds.now tokens.now.vals.now a b count t u
@@ -162,14 +163,14 @@ impl Solver {
             (solving.constrain (notion (strict_of access)) k s.solver t u) result }
         ensures clear { Zero work.new }
     {
-        let (table, pending) = tables.split_at_mut(7 * self.variables);
+        let (table, pending) = tables.split_at_mut(lasting_words(self.variables));
         let mut count = put_pair(pending, 0, p, q);
         let mut left = k;
         let mut verdict = Verdict::Compatible;
         // It goes on until nothing is pending, and a step may add to that.
         while 0 < count {
             if left == 0 {
-                clear_words(pending, 2 * count);
+                clear_words(pending, count);
                 return Solved {
                     solver: self,
                     verdict: Verdict::Cancelled,

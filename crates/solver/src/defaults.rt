@@ -14,6 +14,7 @@ ghost use Rattle.solver.specs.Words.OrderTerms.{Poses};
 ghost use Rattle.solver.specs.Words.MethodContract.{Shaped, Beside, Low, EndsAt, word_of, default_word, end_word, default_at, defaults_by};
 
 use super::families::{family_mask, has};
+use super::layout::DEFERRALS;
 use super::resolving::named_run;
 use super::top::shallow_resolve;
 use super::{Builtin, Defaulted, Solver, Table};
@@ -52,7 +53,7 @@ impl Table<'_> {
         match which {
             Defaulted::Requested => NonZeroU32::new(self.words[self.variables + v]),
             Defaulted::Deferred => {
-                if self.words[5 * self.variables + v] == 0 {
+                if self.words[DEFERRALS * self.variables + v] == 0 {
                     return None;
                 }
                 NonZeroU32::new(11)
@@ -120,7 +121,7 @@ impl Solver {
         if tokens.kinds[q] == 1 {
             let v = tokens.vals[q] as usize;
             if v < m {
-                tables[5 * m + v] = 1;
+                tables[DEFERRALS * m + v] = 1;
             }
         }
         self

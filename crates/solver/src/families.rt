@@ -9,6 +9,7 @@ ghost use Rattle.solver.specs.Constrain.{Requests, admit};
 ghost use Rattle.solver.specs.Session.{Session, with_solver};
 ghost use Rattle.solver.specs.Words.SessionRepresentation.{request_words, bit, RequestWord, request_in, HeldRequest, Represents};
 ghost use Rattle.solver.specs.Words.MethodContract.{Shaped, Beside, is_some, bound_to, at_most, word_of, mask_in, joined_word, Handed};
+ghost use Rattle.solver.specs.Words.TableLayout.{lasting_words};
 
 use super::{Solver, Table};
 use std::num::NonZeroU32;
@@ -98,7 +99,7 @@ fn joined_word(word: NonZeroU32, other: Option<NonZeroU32>) -> u32
 
 // The request of v is joined to that of the variable of a token, if v has one and the token is a variable of the table.
 pub fn propagate_request(tables: &mut [u32], m: usize, v: usize, kind: u32, val: u32)
-    requires { (v < m) × (7 * m ≤ length tables.old) }
+    requires { (v < m) × (lasting_words m ≤ length tables.old) }
     ensures { Handed m v kind val tables.old tables.new }
 {
     let Some(word) = NonZeroU32::new(tables[m + v]) else {

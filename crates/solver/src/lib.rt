@@ -3,12 +3,14 @@
 
 ghost use Rattle.std.specs.Prelude.{◌*◌, ◌^◌, ◌≤◌, ◌<◌, length};
 ghost use Rattle.solver.specs.Words.SessionRepresentation.{RequestWord};
+ghost use Rattle.solver.specs.Words.TableLayout.{lasting_words};
 
 mod answers;
 mod constrain;
 mod defaults;
 mod equality;
 mod families;
+mod layout;
 mod pending;
 mod ranges;
 mod reach;
@@ -62,7 +64,7 @@ pub struct Bindings<'a> {
 pub struct Table<'a> {
     pub words: &'a [u32],
     pub variables: usize,
-    ghost columns: { 7 * variables ≤ length words.now },
+    ghost columns: { lasting_words variables ≤ length words.now },
 }
 
 // A pending pair: the places of its two terms.

@@ -1,9 +1,9 @@
-// The pending pairs of `constrain`: whether two nodes have the same shape, and their children put on in pairs. Pair j stands in the words
-// 2j and 2j + 1. The words and the count are lent side by side, for the reason at `Table` in lib.rt.
+// The pending pairs of `constrain`: whether two nodes have the same shape, and their children put on in pairs. Pair j stands in the word j:
+// its left place, and 65,536 times its right place. The words and the count are lent side by side, for the reason at `Table` in lib.rt.
 // Kinds are numbers: the line in kinds.rt of terms says why.
-// A place is put on as a word, so `push_range` and `push_children` ask that the tokens are fewer than 2 ^ 32, and `same_shape` asks it beside them; `bind`,
-// `bindings`, `decompose` and `union_classes` ask it, too. It is no fact of `Tokens`: the operations on terms need it nowhere, and would ask it of their callers.
-// `Bindings` has it as a fact, but with words of variables, which these functions do not look at.
+// A place is put on as half a word, so `push_range` and `push_children` ask that the tokens are at most 65,536, and `decompose` asks it for them.
+// `same_shape` asks that they are fewer than 2 ^ 32, as `bind`, `bindings` and `union_classes` do. Neither is a fact of `Tokens`: the operations on terms
+// need it nowhere, and would ask it of their callers. `Bindings` has the latter as a fact, but with words of variables, which these functions do not look at.
 ghost use Rattle.std.specs.Prelude.{Some, unwrap_or, ◌≡◌, [], ◌∷◌, not, ◌&&◌, ◌||◌, ℕ, ◌+◌, ◌*◌, ◌^◌, ◌≤◌, ◌<◌, eqb, length, get_or};
 ghost use Rattle.terms.specs.Term.{Parts, node, Held};
 ghost use Rattle.terms.specs.Words.Held.{HeldParts};
@@ -127,27 +127,25 @@ pub fn second_number(tokens: &Tokens, a: usize) -> Option<usize>
 
 // Puts a pair on top of the pending ones, and returns how many there are then.
 pub fn put_pair(pending: &mut [u32], top: usize, i: usize, j: usize) -> usize
-    requires room { 2 * (top + 1) ≤ length pending.old }
-    requires small { (i < 2 ^ 32) × (j < 2 ^ 32) }
+    requires room { top < length pending.old }
+    requires small { (i < 65536) × (j < 65536) }
     ensures { Laid (i ∷ []) (j ∷ []) top pending.old pending.new result }
 {
-    let w = top + top;
-    pending[w] = i as u32;
-    pending[w + 1] = j as u32;
+    pending[top] = i as u32 + 65536 * j as u32;
     top + 1
 }
 
-// Takes pair m off, and sets its words to 0.
+// Takes pair m off, and sets its word to 0.
 pub fn take_pair(pending: &mut [u32], m: usize) -> PairAt
-    requires { 2 * (m + 1) ≤ length pending.old }
+    requires { m < length pending.old }
     ensures { Taken m pending.old pending.new result.left result.right }
 {
-    let w = m + m;
-    let left = pending[w] as usize;
-    let right = pending[w + 1] as usize;
-    pending[w] = 0;
-    pending[w + 1] = 0;
-    PairAt { left, right }
+    let word = pending[m];
+    pending[m] = 0;
+    PairAt {
+        left: (word % 65536) as usize,
+        right: (word / 65536) as usize,
+    }
 }
 
 // Puts the terms at i and j on as a pair, if their index is from lo up to hi.
@@ -159,8 +157,8 @@ pub fn push_part(
     lo: usize,
     hi: usize,
 ) -> Counted
-    requires room { 2 * (from.top + length (window lo hi from.child (i ∷ []))) ≤ length pending.old }
-    requires small { (from.child < 2 ^ 32) × (i < 2 ^ 32) × (j < 2 ^ 32) }
+    requires room { from.top + length (window lo hi from.child (i ∷ [])) ≤ length pending.old }
+    requires small { (from.child < 65536) × (i < 65536) × (j < 65536) }
     ensures child { result.child ≡ from.child + 1 }
     ensures laid { Laid (window lo hi from.child (i ∷ [])) (window lo hi from.child (j ∷ [])) from.top pending.old pending.new result.top }
 {
@@ -184,9 +182,9 @@ pub fn push_range(
     pending: &mut [u32],
     count: usize,
 ) -> usize
-    requires areas { (a < length tokens.now.kinds.now) × (b < length tokens.now.kinds.now) × (length tokens.now.kinds.now < 2 ^ 32) }
+    requires areas { (a < length tokens.now.kinds.now) × (b < length tokens.now.kinds.now) × (length tokens.now.kinds.now ≤ 65536) }
     requires room { (w : Twins tokens.now.kinds.now tokens.now.vals.now a b)
-        × (2 * (count + length (window lo hi 0 (places (a + 1) w.left))) ≤ length pending.old) }
+        × (count + length (window lo hi 0 (places (a + 1) w.left)) ≤ length pending.old) }
     ensures { (k j : ℕ) (ps qs : Parts)
         → Held tokens.now.kinds.now tokens.now.vals.now a (node k ps)
         → Held tokens.now.kinds.now tokens.now.vals.now b (node j qs)
@@ -216,9 +214,9 @@ pub fn push_children(
     pending: &mut [u32],
     count: usize,
 ) -> usize
-    requires areas { (a < length tokens.now.kinds.now) × (b < length tokens.now.kinds.now) × (length tokens.now.kinds.now < 2 ^ 32) }
+    requires areas { (a < length tokens.now.kinds.now) × (b < length tokens.now.kinds.now) × (length tokens.now.kinds.now ≤ 65536) }
     requires room { (w : Twins tokens.now.kinds.now tokens.now.vals.now a b)
-        × (2 * (count + length (children (node w.tag w.left))) ≤ length pending.old) }
+        × (count + length (children (node w.tag w.left)) ≤ length pending.old) }
     ensures { (k j : ℕ) (ps qs : Parts)
         → Held tokens.now.kinds.now tokens.now.vals.now a (node k ps)
         → Held tokens.now.kinds.now tokens.now.vals.now b (node j qs)

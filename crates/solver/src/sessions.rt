@@ -6,6 +6,7 @@ ghost use Rattle.terms.specs.Term.{node, num, end, Held};
 ghost use Rattle.solver.specs.Session.{Session, fresh};
 ghost use Rattle.solver.specs.Words.SessionsContract.{Holds, counters, FreshRoom};
 
+use super::layout::lasting_words;
 use super::resolving::clear_words;
 use super::{Limits, Solver, Standing};
 
@@ -54,7 +55,7 @@ impl Solver {
     {
         clear_words(a, self.top);
         clear_words(b, self.top);
-        clear_words(tables, 7 * self.variables);
+        clear_words(tables, lasting_words(self.variables));
     }
 
     // The counters that an order is read by.

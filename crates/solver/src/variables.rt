@@ -7,6 +7,7 @@ ghost use Rattle.solver.specs.Words.MethodContract.{matches, last_match, Shaped,
 ghost use Rattle.solver.specs.Words.MethodContract.{resolved_reply};
 ghost use Rattle.solver.specs.Words.OrderTerms.{place_of};
 
+use super::layout::{PLACES, SITES, SLOTS};
 use super::{Issue, NumberRequest, PlaceWords, Site, Solver, Table};
 
 // Whether a variable's words are those asked for: a hole has no slot. The words are compared, and no `Site` is made of them: the third word of a hole
@@ -35,14 +36,14 @@ pub fn find_place(table: &Table, issued: usize, asked: PlaceWords) -> Option<usi
         → result ≡ named_of (find p ps) }
 {
     let m = table.variables;
-    if !table.words[3 * m..3 * m + issued].contains(&asked.site) {
+    if !table.words[SITES * m..SITES * m + issued].contains(&asked.site) {
         return None;
     }
     (0..issued).rev().find(|&v| {
         let words = PlaceWords {
-            kind: table.words[2 * m + v],
-            site: table.words[3 * m + v],
-            slot: table.words[4 * m + v],
+            kind: table.words[PLACES * m + v],
+            site: table.words[SITES * m + v],
+            slot: table.words[SLOTS * m + v],
         };
         is_place(asked, words)
     })
@@ -92,9 +93,9 @@ impl Solver {
                 answer: None,
             };
         }
-        tables[2 * m + issued] = asked.kind;
-        tables[3 * m + issued] = asked.site;
-        tables[4 * m + issued] = asked.slot;
+        tables[PLACES * m + issued] = asked.kind;
+        tables[SITES * m + issued] = asked.site;
+        tables[SLOTS * m + issued] = asked.slot;
         self.issued = issued + 1;
         Issue {
             solver: self,

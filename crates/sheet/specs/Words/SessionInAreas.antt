@@ -34,7 +34,7 @@ pub record RepresentsInAreas (x : Solver) (m : Areas) (s : Session) : Type 0 whe
   pub few : x.top ≤ 64 + 6 * x.kept
 
 -- The areas have so many words, and that is enough for the limits of x: 64 tokens of builtins and six for each node, with a few more for the
--- heads of bare nominals; 8,192 records of normalising before the table and in d; the pending pairs after the table; in d a word a token
+-- heads of bare nominals; 8,192 records of normalising before the table and in d; a word a pending pair after the columns; in d a word a token
 -- and one a node.
 pub record AreasSuffice (x : Solver) (words : ℕ) (m : Areas) : Type 0 where
   pub a_size : length m.a ≡ words

@@ -2,6 +2,7 @@
 --   StrictSubterm      a term strictly inside another one, bound variables followed
 --   TokenNesting       token runs nest: a place that begins a part belongs to one node
 --   RotateLaws         turned lists; terms held at the places of a list
+--   PairWordLaws       a pair in one word
 --   PendingLaws        the pending pairs are few
 --   StackLaws          the pending pairs as `constrain` carries them
 --   RowsInStepLaws     two rows walked in step
@@ -14,6 +15,7 @@
 pub mod StrictSubterm
 pub mod TokenNesting
 pub mod RotateLaws
+pub mod PairWordLaws
 pub mod PendingLaws
 pub mod StackLaws
 pub mod RowsInStepLaws

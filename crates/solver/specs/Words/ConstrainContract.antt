@@ -16,6 +16,7 @@ use Rattle.solver.specs.Invariant.{InOrder}
 use Rattle.solver.specs.Words.SessionRepresentation.{Represents, limits_of, verdict_number}
 use Rattle.solver.specs.Words.PendingContract.{HeldPairs, PushedPairs}
 use Rattle.solver.specs.Words.Worklist.{Zero}
+use Rattle.solver.specs.Words.TableLayout.{lasting_words}
 
 -- the variables of a term, and of pairs, are below N
 abbrev pub Within : ℕ → Term → Type 0
@@ -27,29 +28,31 @@ AllWithin N (p ∷ ps) = Within N p.0 × Within N p.1 × AllWithin N ps
 
 -- the first word of the pending pairs
 abbrev pub pending_from : Solver → ℕ
-pending_from x = 7 * x.variables
+pending_from x = lasting_words x.variables
 
 -- `count` pairs are pending, ps, and no other word of the pending pairs is in use
 pub record Waiting (ks vs st : List ℕ) (count : ℕ) (ps : List Pair) : Type 0 where
   pub pairs : HeldPairs ks vs st count ps
-  pub blank : (i : ℕ) → count + count ≤ i → get_or st i 0 ≡ 0
+  pub blank : (i : ℕ) → count ≤ i → get_or st i 0 ≡ 0
 
 -- a term at a place, its variables issued
 pub record Known (ks vs : List ℕ) (s : Session) (i : ℕ) (t : Term) : Type 0 where
   pub held : Held ks vs i t
   pub within : Within (issued s) t
 
--- room for a pair: pending pairs after the columns; in the work area, all 0, a word a token and one a node, and two a variable
+-- room for a pair: pending pairs after the columns; in the work area, all 0, a word a token and one a node, and two a variable; and every
+-- place is below 65,536, so that two places are one word
 pub record Scratch (x : Solver) (ks ts work : List ℕ) : Type 0 where
-  pub pairs : pending_from x + 2 * (32 + x.nodes) ≤ length ts
-  pub short : length ts < 4294967296
+  pub pairs : pending_from x + (32 + x.nodes) ≤ length ts
+  pub few : length ks ≤ 65536
   pub links : length ks + (32 + x.nodes) ≤ length work
   pub marks : x.variables + x.variables ≤ length work
   pub clear : Zero work
 
 -- the same room for a check, the pending pairs being st
 pub record CheckRoom (x : Solver) (ks st work : List ℕ) : Type 0 where
-  pub pairs : 2 * (32 + x.nodes) ≤ length st
+  pub pairs : 32 + x.nodes ≤ length st
+  pub few : length ks ≤ 65536
   pub links : length ks + (32 + x.nodes) ≤ length work
   pub marks : x.variables + x.variables ≤ length work
   pub clear : Zero work

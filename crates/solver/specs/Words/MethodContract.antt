@@ -20,13 +20,14 @@ use Rattle.solver.specs.Constrain.{resolved, Requests}
 use Rattle.solver.specs.Session.{Limits, VariablePlace, Session, issued, find, issue_at, numeric_at, never_at, numeric_defaults_of, never_defaults_of}
 use Rattle.solver.specs.Orders.{Command, numbers, nevers, Reply, term, refused, Step, full}
 use Rattle.solver.specs.Words.SessionRepresentation.{request_in, flag, Represents}
+use Rattle.solver.specs.Words.TableLayout.{deferrals_from, lasting_words}
 
 -- ---- the words
 
 -- the counters are within the limits, and the table has its columns
 pub record Shaped (x : Solver) (size : ℕ) : Type 0 where
   pub issued : x.issued ≤ x.variables
-  pub room : 7 * x.variables ≤ size
+  pub room : lasting_words x.variables ≤ size
   pub narrow : x.variables < 2 ^ 32
 
 -- what a method leaves: the limits and the count of tokens, and the words after the columns
@@ -35,7 +36,7 @@ pub record Beside (x y : Solver) (ts us : List ℕ) : Type 0 where
   pub nodes : y.nodes ≡ x.nodes
   pub top : y.top ≡ x.top
   pub size : length us ≡ length ts
-  pub rest : drop (7 * x.variables) us ≡ drop (7 * x.variables) ts
+  pub rest : drop (lasting_words x.variables) us ≡ drop (lasting_words x.variables) ts
 
 -- whether a variable's words are those asked for; a hole has no slot
 unfoldable pub matches : ℕ → ℕ → ℕ → ℕ → ℕ → ℕ → Bool
@@ -143,7 +144,7 @@ pub record Handed (m v kind val : ℕ) (ts us : List ℕ) : Type 0 where
   pub far : m ≤ val → us ≡ ts
   pub on : (get_or ts (m + v) 0 ≡ 0 → ⊥) → kind ≡ 1 → val < m → us ≡ set ts (m + val) (joined_word (get_or ts (m + v) 0) (get_or ts (m + val) 0))
   pub size : length us ≡ length ts
-  pub rest : drop (7 * m) us ≡ drop (7 * m) ts
+  pub rest : drop (lasting_words m) us ≡ drop (lasting_words m) ts
 
 -- ---- ranges
 
@@ -171,7 +172,7 @@ never_word (suc n) = 11
 
 -- the word that the default of the variable v goes by: of its deferral, or its request's
 unfoldable pub default_word : Defaulted → ℕ → List ℕ → ℕ → ℕ
-default_word Deferred m ts v = never_word (get_or ts (5 * m + v) 0)
+default_word Deferred m ts v = never_word (get_or ts (deferrals_from m + v) 0)
 default_word Requested m ts v = get_or ts (m + v) 0
 
 -- and the word at the end of its chain: for Never it does not count

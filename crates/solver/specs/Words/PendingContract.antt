@@ -1,6 +1,6 @@
--- The pending pairs of `constrain` as words: two places a pair, the last pair to be taken first; the places of a node's children, in the
--- order in which they are pushed; and two rows walked in step.
-use Rattle.std.specs.Prelude.{Bool, true, false, not, ◌&&◌, ◌||◌, List, [], ◌∷◌, ◌++◌, ◌≡◌, ℕ, zero, suc, ◌+◌, ◌≤◌, ◌<◌, eqb, leb, ltb, length, get_or}
+-- The pending pairs of `constrain` as words: a word a pair, the last pair to be taken first; the places of a node's children, in the order in
+-- which they are pushed; and two rows walked in step.
+use Rattle.std.specs.Prelude.{Bool, true, false, not, ◌&&◌, ◌||◌, List, [], ◌∷◌, ◌++◌, ◌≡◌, ℕ, zero, suc, ◌+◌, ◌*◌, ◌/◌, ◌%◌, ◌≤◌, ◌<◌, eqb, leb, ltb, length, get_or}
 use Rattle.terms.specs.Result.{pick}
 use Rattle.terms.specs.Term.{Term, Parts, node, end, num, sub, items, Held}
 use Rattle.terms.specs.Words.Held.{HeldParts, span}
@@ -17,30 +17,41 @@ strict_of Compared = true
 
 -- ---- pairs
 
--- the pairs ps stand in the words: pair j in the words j + j and j + j + 1
+-- a pair as a word: its left place, which is below 65,536, and 65,536 times its right place
+abbrev pub pair_word : ℕ → ℕ → ℕ
+pair_word l r = l + 65536 * r
+
+-- the places read off the word of a pair
+abbrev pub left_of : ℕ → ℕ
+left_of w = w % 65536
+
+abbrev pub right_of : ℕ → ℕ
+right_of w = w / 65536
+
+-- the pairs ps stand in the words: pair j in the word j
 abbrev pub HeldPairs : List ℕ → List ℕ → List ℕ → ℕ → List Pair → Type 0
 HeldPairs ks vs st zero [] = Unit {0}
 HeldPairs ks vs st zero (p ∷ ps) = ⊥
 HeldPairs ks vs st (suc j) [] = ⊥
-HeldPairs ks vs st (suc j) (p ∷ ps) = Held ks vs (get_or st (j + j) 0) p.0 × Held ks vs (get_or st (j + j + 1) 0) p.1 × HeldPairs ks vs st j ps
+HeldPairs ks vs st (suc j) (p ∷ ps) = Held ks vs (left_of (get_or st j 0)) p.0 × Held ks vs (right_of (get_or st j 0)) p.1 × HeldPairs ks vs st j ps
 
--- the places of ls and of rs were put on, in pairs, on top of the `count` pairs of the words st₀; r is the number of pairs after it
+-- the places of ls and of rs were put on, in pairs, on top of the `count` pairs of the words st₀: pair j in the word count + j; r is the number of
+-- pairs after it
 pub record Laid (ls rs : List ℕ) (count : ℕ) (st₀ st : List ℕ) (r : ℕ) : Type 0 where
   pub even : length rs ≡ length ls
   pub size : r ≡ count + length ls
-  pub lefts : (j : ℕ) → j < length ls → get_or st ((count + j) + (count + j)) 0 ≡ get_or ls j 0
-  pub rights : (j : ℕ) → j < length ls → get_or st ((count + j) + (count + j) + 1) 0 ≡ get_or rs j 0
-  pub below : (i : ℕ) → i < count + count → get_or st i 0 ≡ get_or st₀ i 0
-  pub above : (i : ℕ) → r + r ≤ i → get_or st i 0 ≡ get_or st₀ i 0
+  pub low : (j : ℕ) → j < length ls → get_or ls j 0 < 65536
+  pub words : (j : ℕ) → j < length ls → get_or st (count + j) 0 ≡ pair_word (get_or ls j 0) (get_or rs j 0)
+  pub below : (i : ℕ) → i < count → get_or st i 0 ≡ get_or st₀ i 0
+  pub above : (i : ℕ) → r ≤ i → get_or st i 0 ≡ get_or st₀ i 0
 
--- pair m was taken off, and its words set to 0
+-- pair m was taken off, and its word set to 0
 pub record Taken (m : ℕ) (st₀ st : List ℕ) (x y : ℕ) : Type 0 where
-  pub left : x ≡ get_or st₀ (m + m) 0
-  pub right : y ≡ get_or st₀ (m + m + 1) 0
-  pub first : get_or st (m + m) 0 ≡ 0
-  pub second : get_or st (m + m + 1) 0 ≡ 0
-  pub below : (i : ℕ) → i < m + m → get_or st i 0 ≡ get_or st₀ i 0
-  pub above : (i : ℕ) → m + m + 2 ≤ i → get_or st i 0 ≡ get_or st₀ i 0
+  pub left : x ≡ left_of (get_or st₀ m 0)
+  pub right : y ≡ right_of (get_or st₀ m 0)
+  pub gone : get_or st m 0 ≡ 0
+  pub below : (i : ℕ) → i < m → get_or st i 0 ≡ get_or st₀ i 0
+  pub above : (i : ℕ) → m + 1 ≤ i → get_or st i 0 ≡ get_or st₀ i 0
 
 -- ---- the places of children
 

@@ -1,5 +1,5 @@
--- A session as the counters, the two token areas and a table hold it. The table has seven columns of m words, m being the limit of
--- variables, a word of each for every variable:
+-- A session as the counters, the two token areas and a table hold it. The table has columns of m words (`TableLayout`), m being the limit of variables, a
+-- word of each for every variable:
 --   0 binding    0 for none, p + 1 for the term at p
 --   1 request    0 for none, c + 1 for the plain request with the fallback code c; where a range took part 33 + c + 32 * m, with bit n of m for each
 --                type admitted whose code is n
@@ -7,8 +7,8 @@
 --   3 site       0 for a variable that is not issued
 --   4 slot       0 for a hole, and for a variable that is not issued
 --   5 deferral   0 or 1
---   6            free: 0
--- So every word of the columns is fixed. The rest of the table is scratch.
+--   6 to 9, and what follows the columns up to the pending pairs: not used yet, 0
+-- So every word of these is fixed. The rest of the table is scratch.
 use Rattle.std.specs.Prelude.{Bool, true, false, List, [], ◌∷◌, ◌++◌, ◌≡◌, ℕ, zero, suc, ◌+◌, ◌-◌, ◌*◌, ◌/◌, ◌%◌, ◌^◌, ◌≤◌, ◌<◌, eqb, ltb, length, get_or, take, drop}
 use Rattle.std.proofs.Math.Option.{Option, none, some}
 use Rattle.terms.specs.Result.{pick}
@@ -21,6 +21,7 @@ use Rattle.solver.specs.Families.{Numeric, I8, I16, I32, I64, U8, U16, U32, U64,
 use Rattle.solver.specs.Session.{Limits, VariablePlace, at, gap, Session, issued}
 use Rattle.solver.specs.Invariant.{WithinLimits}
 use Rattle.solver.specs.Words.Bindings.{HeldBindings}
+use Rattle.solver.specs.Words.TableLayout.{requests_from, places_from, sites_from, slots_from, deferrals_from, unused_from, unused_count, lasting_words}
 use Rattle.solver.specs.Words.Worklist.{Zero}
 
 -- "0 incompatible, 1 compatible, 2 cancelled"
@@ -38,22 +39,22 @@ abbrev pub binding_words : ℕ → List ℕ → List ℕ
 binding_words m ts = take m ts
 
 abbrev pub request_words : ℕ → List ℕ → List ℕ
-request_words m ts = take m (drop m ts)
+request_words m ts = take m (drop (requests_from m) ts)
 
 abbrev pub place_words : ℕ → List ℕ → List ℕ
-place_words m ts = take m (drop (2 * m) ts)
+place_words m ts = take m (drop (places_from m) ts)
 
 abbrev pub site_words : ℕ → List ℕ → List ℕ
-site_words m ts = take m (drop (3 * m) ts)
+site_words m ts = take m (drop (sites_from m) ts)
 
 abbrev pub slot_words : ℕ → List ℕ → List ℕ
-slot_words m ts = take m (drop (4 * m) ts)
+slot_words m ts = take m (drop (slots_from m) ts)
 
 abbrev pub deferral_words : ℕ → List ℕ → List ℕ
-deferral_words m ts = take m (drop (5 * m) ts)
+deferral_words m ts = take m (drop (deferrals_from m) ts)
 
-abbrev pub free_words : ℕ → List ℕ → List ℕ
-free_words m ts = take m (drop (6 * m) ts)
+abbrev pub unused_words : ℕ → List ℕ → List ℕ
+unused_words m ts = take (unused_count m) (drop (unused_from m) ts)
 
 -- ---- what the words of a variable say
 
@@ -128,14 +129,14 @@ pub record Represents (x : Solver) (ks vs ts : List ℕ) (s : Session) : Type 0 
   pub vals : length vs ≡ length ks
   pub short : length ks < 2 ^ 32
   pub narrow : x.variables < 2 ^ 32
-  pub room : 7 * x.variables ≤ length ts
+  pub room : lasting_words x.variables ≤ length ts
   pub fits : WithinLimits (limits_of x) s
   pub bindings : HeldBindings ks vs (binding_words x.variables ts) s.solver.bindings
   pub requests : (v : ℕ) → HeldRequest (s.solver.requests v) (get_or (request_words x.variables ts) v 0)
   pub places : HeldPlaces (place_words x.variables ts) (site_words x.variables ts) (slot_words x.variables ts) s.places
   pub unplaced : Unplaced (length s.places) (place_words x.variables ts) (site_words x.variables ts) (slot_words x.variables ts)
   pub deferred : (v : ℕ) → get_or (deferral_words x.variables ts) v 0 ≡ flag (s.deferred v)
-  pub free : Zero (free_words x.variables ts)
+  pub unused : Zero (unused_words x.variables ts)
   -- the 32 builtins stand at the start of the areas, where a default finds them; the other terms are the kept ones
   pub builtins : (c : ℕ) → c < 32 → Held ks vs (c + c) (node 4 (num c end))
   pub begun : begins ks ≡ 32 + s.kept

@@ -6,6 +6,7 @@ use Rattle.solver.specs.Session.{Session}
 use Rattle.solver.specs.Words.SessionRepresentation.{Represents}
 use Rattle.solver.specs.Words.ConstrainContract.{pending_from}
 use Rattle.solver.specs.Words.Worklist.{Zero}
+use Rattle.solver.specs.Words.TableLayout.{lasting_words}
 
 -- the counters x, the areas a and b and the table hold the session s, and every other word is 0
 pub record Holds (x : Solver) (a b ts : List ℕ) (s : Session) : Type 0 where
@@ -18,13 +19,13 @@ pub record Holds (x : Solver) (a b ts : List ℕ) (s : Session) : Type 0 where
 abbrev pub counters : Limits → Solver
 counters limits = record { variables = limits.variables; nodes = limits.nodes; issued = 0; revision = 0; kept = 0; top = 64 }
 
--- the words of a table: its columns, and two for each pair that can be pending
+-- the words of a table: its columns, and one for each pair that can be pending
 abbrev pub table_words : Solver → ℕ
-table_words x = pending_from x + 2 * (32 + x.nodes)
+table_words x = pending_from x + (32 + x.nodes)
 
 -- areas and a table of so many words are enough for a fresh session
 pub record FreshRoom (variables a b ts : ℕ) : Type 0 where
   pub kinds : 64 ≤ a
   pub vals : 64 ≤ b
   pub narrow : variables < 2 ^ 32
-  pub columns : 7 * variables ≤ ts
+  pub columns : lasting_words variables ≤ ts

@@ -389,7 +389,7 @@ module _ {x : Solver} {s : List ℕ} {m : Areas} {ts : Area} {ws : List Rule} {o
           let R = T.ready.roomy in
           record {
             pairs = R.table;
-            short = omega (arith, R.few, R.c_size);
+            few = omega (arith, long_a, pair_few, W, R.tokens, R.few);
             links = omega (arith, long_a, pair_few, W, R.links, R.d_size);
             marks = omega (arith, R.marks, R.d_size);
             clear = T.ready.in_areas.work;

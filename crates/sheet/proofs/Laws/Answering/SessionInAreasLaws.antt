@@ -23,6 +23,7 @@ use Rattle.sheet.specs.Sheet.{Step, solve}
 use Rattle.sheet.specs.Words.SessionInAreas.{Areas, areas, RepresentsInAreas, Answers}
 use Rattle.sheet.specs.Entry.{AreasReady}
 use Rattle.solver.specs.Words.OrderTerms.{Frames}
+use Rattle.solver.specs.Words.TableLayout.{lasting_words}
 use Rattle.sheet.specs.Words.SessionOrdersContract.{lent, Does, DoesPair}
 use Rattle.sheet.specs.Words.FramingContract.{Output, Wrote}
 use Rattle.sheet.proofs.Laws.Answering.SessionOrderLaws.{lent_revision}
@@ -92,7 +93,7 @@ module _ {x : Solver} {m : Areas} {z : Session} (Z : RepresentsInAreas x m z) wh
         kinds = subst (λ (n : ℕ). Zero (drop n m.a)) (sym B.top) Z.kinds;
         vals = subst (λ (n : ℕ). Zero (drop n m.b)) (sym B.top) Z.vals;
         front = Z.front;
-        blank = subst (λ (n : ℕ). Zero (drop (7 * n) t')) (sym B.variables) (subst (λ (l : List ℕ). Zero l) (sym B.rest) Z.blank);
+        blank = subst (λ (n : ℕ). Zero (drop (lasting_words n) t')) (sym B.variables) (subst (λ (l : List ℕ). Zero l) (sym B.rest) Z.blank);
         work = clear;
         few = omega (arith, Z.few, Z.represents.kept, L.kept, B.top);
       }
@@ -122,7 +123,7 @@ module _ {x : Solver} {m : Areas} {z : Session} (Z : RepresentsInAreas x m z) (a
         kinds = subst (λ (n : ℕ). Zero (drop n a)) e rest-a;
         vals = subst (λ (n : ℕ). Zero (drop n b)) e rest-b;
         front = Z.front;
-        blank = subst (λ (n : ℕ). Zero (drop (7 * n) t')) (sym v) k;
+        blank = subst (λ (n : ℕ). Zero (drop (lasting_words n) t')) (sym v) k;
         work = clear;
         few = omega (arith, L.kept);
       }

@@ -3,7 +3,7 @@ use mathlib.Core.Path.{◌≡◌, refl, sym, ap, ap₂, ◌∙◌, subst}
 use mathlib.Core.Bool.{Bool, true, false, ◌||◌}
 use mathlib.Core.List.{List}
 use mathlib.Core.Option.{Option, none, some}
-use Prim.Native.Nat.{ℕ, suc, ◌+◌, ◌*◌, ◌^◌, ◌≤◌, ◌<◌}
+use Prim.Native.Nat.{ℕ, suc, ◌+◌, ◌^◌, ◌≤◌, ◌<◌}
 use native.Mathlib.Omega.{arith}
 use borrow.Author.Tests.{eqb-true, eqb-false, eq-eqb, ne_eqb}
 use lib.Dec.{eqb}
@@ -175,8 +175,8 @@ module _ {x : Solver} {ks vs : List ℕ} {i j count : ℕ} {t u : Term} (N : Nod
 
   -- two nodes whose shapes agree, and the room for their children
   pub nodes_twins : (n : Notion) {r : Bool} → r ≡ true → ((k l : ℕ) (rs qs : Parts) → Held ks vs i (node k rs) → Held ks vs j (node l qs) → r ≡ same_shape n (node k rs) (node l qs))
-      → {size : ℕ} → 2 * (32 + x.nodes) ≤ size
-      → (w : Twins ks vs i j) × (2 * (count + length (children (node w.tag w.left))) ≤ size)
+      → {size : ℕ} → 32 + x.nodes ≤ size
+      → (w : Twins ks vs i j) × (count + length (children (node w.tag w.left)) ≤ size)
   unfolding children
   nodes_twins n {r} g h {size} l =
       let a = subst (λ (y : Term). Held ks vs i y) N.left N.at_left in

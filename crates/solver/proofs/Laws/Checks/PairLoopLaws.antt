@@ -24,15 +24,16 @@ use Rattle.solver.specs.Orders.{solver_of, verdict_code}
 use Rattle.solver.specs.Words.Bindings.{HeldBinding, HeldBindings}
 use Rattle.solver.specs.Words.Worklist.{Zero}
 use Rattle.solver.specs.Words.SessionRepresentation.{Represents, binding_words, verdict_number}
-use Rattle.solver.specs.Words.PendingContract.{PushedPairs, Laid, Taken}
+use Rattle.solver.specs.Words.PendingContract.{left_of, PushedPairs, Laid, Taken}
 use Rattle.solver.specs.Words.ResolveFrames.{Cleared}
 use Rattle.solver.specs.Words.ConstrainContract.{AllWithin, pending_from, Waiting, Known, CheckRoom, Due, Stays, Pushes, ChangesCounted, After, Constrained}
+use Rattle.solver.specs.Words.TableLayout.{lasting_words}
 use Rattle.solver.proofs.Laws.Definition.InOrderLaws.{in_order_ordered, ordered_in_order}
 use Rattle.solver.proofs.Laws.Definition.SolverInvariantLaws.{ordered_steady}
 use Rattle.solver.proofs.Laws.Definition.CheckStepLaws.{turn_ordered, turn_within, turn_extends}
 use Rattle.solver.proofs.Laws.Table.RepresentationLaws.{lent_scratch}
 use Rattle.solver.proofs.Laws.Checks.PendingLaws.{Stacked}
-use Rattle.solver.proofs.Laws.Checks.StackLaws.{Stack, stack_start, stack_empty, stack_some, stack_agree, stack_extends, stack-pop, stack_room, stack_push, stack_bound}
+use Rattle.solver.proofs.Laws.Checks.StackLaws.{laid_left, laid_right, Stack, stack_start, stack_empty, stack_some, stack_agree, stack_extends, stack-pop, stack_room, stack_push, stack_bound}
 
 -- the top of a held term is held somewhere
 pub follow_held : (ks vs bs : List ℕ) (b : ℕ → Option Term) → HeldBindings ks vs bs b → (n i : ℕ) (t : Term) → Held ks vs i t → (a : ℕ) × Held ks vs a (follow n b t)
@@ -55,7 +56,7 @@ pub record Going (n : Notion) (x₀ : Solver) (ks vs : List ℕ) (s : Session) (
   pub ordered : InOrder (issued s) solver
   pub within : AllWithin (issued s) pairs
   pub stack : Stack ks vs solver.bindings st count pairs
-  pub blank : (i : ℕ) → count + count ≤ i → get_or st i 0 ≡ 0
+  pub blank : (i : ℕ) → count ≤ i → get_or st i 0 ≡ 0
   pub same : settles n left solver ok pairs ≡ goal
   pub variables : x.variables ≡ x₀.variables
   pub nodes : x.nodes ≡ x₀.nodes
@@ -80,8 +81,8 @@ module _ {n : Notion} {x : Solver} {ks vs ts st : List ℕ} {s : Session} (order
     within = (left.within, right.within, tt);
     stack = subst (λ (c : ℕ). Stack ks vs s.solver.bindings st' c ((t, u) ∷ [])) (sym laid.size)
         (stack_start ks vs s.solver.bindings st' t u
-        (subst (λ (i : ℕ). Held ks vs i t) (sym (laid.lefts 0 (omega arith))) left.held)
-        (subst (λ (i : ℕ). Held ks vs i u) (sym (laid.rights 0 (omega arith))) right.held));
+        (subst (λ (i : ℕ). Held ks vs i t) (sym (laid_left laid 0 (omega arith))) left.held)
+        (subst (λ (i : ℕ). Held ks vs i u) (sym (laid_right laid 0 (omega arith))) right.held));
     blank = λ i h. laid.above i h ∙ clear i;
     same = refl;
     variables = refl;
@@ -99,7 +100,7 @@ pub record Picked (n : Notion) (x₀ : Solver) (ks vs : List ℕ) (s : Session) 
   pub waits : Waiting ks vs st' count rest
   pub within : AllWithin (issued s) (pair ∷ rest)
   pub stack : Stack ks vs solver.bindings st (suc count) (pair ∷ rest)
-  pub agrees : (m : ℕ) → m < count + count → get_or st' m 0 ≡ get_or st m 0
+  pub agrees : (m : ℕ) → m < count → get_or st' m 0 ≡ get_or st m 0
   pub same : settles n (suc left) solver ok (pair ∷ rest) ≡ goal
   pub variables : x.variables ≡ x₀.variables
   pub nodes : x.nodes ≡ x₀.nodes
@@ -113,18 +114,17 @@ module _ (n : Notion) (x₀ : Solver) (ks vs : List ℕ) (s : Session) (goal : O
       → count + length (subs row) ≤ 32 + x.nodes
   unfolding children
   taken_room p rest S k row e =
-      let h = follow_held ks vs (binding_words x.variables ts) z.bindings G.represents.bindings z.revision (get_or st (count + count) 0) p.0 S.held.0 in
+      let h = follow_held ks vs (binding_words x.variables ts) z.bindings G.represents.bindings z.revision (left_of (get_or st count 0)) p.0 S.held.0 in
       let g : Held ks vs h.0 (node k row) = subst (λ (t : Term). Held ks vs h.0 t) e h.1 in
       let r = stack_room ks vs S z.revision h.0 k row e g z.revision (ordered_steady (issued s) z (in_order_ordered (issued s) z G.ordered)) in
       omega (arith, G.represents.begun, G.represents.fits.nodes)
 
-  taken_blank : (m : ℕ) → count + count ≤ m → get_or st' m 0 ≡ 0
-  taken_blank m h = go (native.Mathlib.Decide.ℕ_discrete m (count + count)) (native.Mathlib.Decide.ℕ_discrete m (count + count + 1))
+  taken_blank : (m : ℕ) → count ≤ m → get_or st' m 0 ≡ 0
+  taken_blank m h = go (native.Mathlib.Decide.ℕ_discrete m count)
     where
-      go : Dec (m ≡ count + count) → Dec (m ≡ count + count + 1) → get_or st' m 0 ≡ 0
-      go (yes e) d = ap (λ (k : ℕ). get_or st' k 0) e ∙ off.first
-      go (no e) (yes d) = ap (λ (k : ℕ). get_or st' k 0) d ∙ off.second
-      go (no e) (no d) = off.above m (omega arith) ∙ G.blank m (omega arith)
+      go : Dec (m ≡ count) → get_or st' m 0 ≡ 0
+      go (yes e) = ap (λ (k : ℕ). get_or st' k 0) e ∙ off.gone
+      go (no e) = off.above m (omega arith) ∙ G.blank m (omega arith)
 
   taken_of : (p : Pair) (rest : List Pair) → G.pairs ≡ p ∷ rest → Stack ks vs z.bindings st (suc count) (p ∷ rest) → Picked n x₀ ks vs s goal x ts st st' left count ok i j
   taken_of p rest e S =
@@ -163,7 +163,7 @@ module _ (n : Notion) (codes_count : n 4 ≡ false) (x₀ : Solver) (ks vs : Lis
   came = check_pair n T.solver T.pair.0 T.pair.1 T.rest
 
   abbrev few : ℕ → List ℕ → Type 0
-  few c l = (c ≡ 1) ⊎ Stacked ks vs T.solver.bindings (λ m. get_or l (m + m) 0) c
+  few c l = (c ≡ 1) ⊎ Stacked ks vs T.solver.bindings (λ m. left_of (get_or l m 0)) c
 
   next_few : Stays st' after count r.count ⊎ Pushes x ks vs (top T.solver T.pair.0) (top T.solver T.pair.1) st' after count r.count → few r.count after
   next_few (inl q) = rw (q.0, q.1) (stack_agree ks vs {st' = st'} T.agrees (stack-pop ks vs T.stack)).few
@@ -223,7 +223,7 @@ module _ {n : Notion} {x₀ : Solver} {ks vs ts : List ℕ} (ws : List ℕ) {s :
       → Constrained x₀ ks vs ws (us ++ st') s goal (record { solver = x; verdict = v })
   ended st' o v e f g h = record {
     represents = subst (λ (z : solving.Solver). Represents x ks vs (us ++ st') (with_solver s z)) (sym f ∙ ap solver_of e)
-        (lent_scratch x ks vs us (us ++ st') (with_solver s G.solver) G.represents (sym (joined st' (7 * x.variables) G.represents.room))
+        (lent_scratch x ks vs us (us ++ st') (with_solver s G.solver) G.represents (sym (joined st' (lasting_words x.variables) G.represents.room))
         (omega (arith, G.represents.room, length-append us st')));
     verdict = g ∙ ap verdict_code e;
     blank = subst Zero (sym (drop_at us st' (pending_from x₀) long)) h;
@@ -254,14 +254,14 @@ module _ {n : Notion} {x₀ : Solver} {ks vs ts : List ℕ} (ws : List ℕ) {s :
   settled_some ps p rest e = ap (λ (l : List Pair). settles n 0 G.solver ok l) e
 
   -- cancelled: the pairs that are left were cleared
-  wiped_blank : {st' : List ℕ} → Cleared (2 * count) st st' → Zero st'
-  wiped_blank {st' = st'} w i = go (native.Mathlib.Decide.dec_lt i (2 * count))
+  wiped_blank : {st' : List ℕ} → Cleared count st st' → Zero st'
+  wiped_blank {st' = st'} w i = go (native.Mathlib.Decide.dec_lt i count)
     where
-      go : Dec (i < 2 * count) → get_or st' i 0 ≡ 0
+      go : Dec (i < count) → get_or st' i 0 ≡ 0
       go (yes l) = w.zeros i l
       go (no l) = w.others i (omega arith) ∙ G.blank i (omega arith)
 
-  pub going_cancel : left ≡ 0 → 0 < count → {st' : List ℕ} → Cleared (2 * count) st st'
+  pub going_cancel : left ≡ 0 → 0 < count → {st' : List ℕ} → Cleared count st st'
       → Constrained x₀ ks vs ws (us ++ st') s goal (record { solver = x; verdict = Cancelled })
   unfolding solver_of verdict_code
   going_cancel e l {st'} w =
@@ -293,7 +293,7 @@ module _ {n : Notion} {x₀ : Solver} {ks vs ts₀ st₀ : List ℕ} {left₀ co
   present = L.carries L.some.0 L.some.1 L.some.2
 
   -- the pairs have room
-  pub loop_room : 2 * count ≤ length st
+  pub loop_room : count ≤ length st
   loop_room =
       let G = present in
       let b = stack_bound ks vs G.solver.revision (ordered_steady (issued L.some.0) G.solver (in_order_ordered (issued L.some.0) G.solver G.ordered)) G.stack in
@@ -316,7 +316,7 @@ module _ {n : Notion} {x₀ : Solver} {ks vs ts₀ st₀ : List ℕ} {left₀ co
         let S = L.room in
         let v = G.variables in
         let d = G.nodes in
-        record { pairs = omega (arith, S.pairs); links = omega (arith, S.links); marks = omega (arith, S.marks); clear = S.clear }
+        record { pairs = omega (arith, S.pairs); few = S.few; links = omega (arith, S.links); marks = omega (arith, S.marks); clear = S.clear }
 
     -- and checked
     pub loop_next : n 4 ≡ false → {us after scratch : List ℕ} {r : Checked} → length after ≡ length st' → length scratch ≡ length work → Zero scratch
@@ -331,7 +331,7 @@ module _ {n : Notion} {x₀ : Solver} {ks vs ts₀ st₀ : List ℕ} {left₀ co
               subst (λ (b : Bool). Going n x₀ ks vs s goal r.solver us after (left - 1) r.count b) (sym q)
               (going_next n codes_count x₀ ks vs s goal x ts st st' (left - 1) (count - 1) ok i j T us after r (A (with_solver s T.solver) T.pair.0 T.pair.1 T.rest T.due T.waits));
           some = L.some;
-          room = record { pairs = omega (arith, S.pairs); links = omega (arith, S.links); marks = omega (arith, S.marks); clear = z };
+          room = record { pairs = omega (arith, S.pairs); few = S.few; links = omega (arith, S.links); marks = omega (arith, S.marks); clear = z };
           counted =
               let T = pick L.some.0 L.some.1 L.some.2 in
               let B = (A (with_solver L.some.0 T.solver) T.pair.0 T.pair.1 T.rest T.due T.waits).counted in
@@ -339,7 +339,7 @@ module _ {n : Notion} {x₀ : Solver} {ks vs ts₀ st₀ : List ℕ} {left₀ co
               record {
                 rises = omega (arith, L.counted.rises, B.rises);
                 quiet = λ e.
-                    subst (λ (m : ℕ). take (7 * m) us ≡ take (7 * m) ts) v (B.quiet (omega (arith, L.counted.rises, B.rises)))
+                    subst (λ (m : ℕ). take (lasting_words m) us ≡ take (lasting_words m) ts) v (B.quiet (omega (arith, L.counted.rises, B.rises)))
                     ∙ L.counted.quiet (omega (arith, L.counted.rises, B.rises));
               };
         }

@@ -1,8 +1,8 @@
 -- Children put on in pairs.
 use mathlib.Core.Bool.{Bool, true, false, ◌&&◌}
 use mathlib.Core.List.{List, [], ◌∷◌, ◌++◌, append-nil, append_assoc}
-use mathlib.Core.Path.{◌≡◌, refl, sym, ap, ap₂, ◌∙◌}
-use Prim.Native.Nat.{ℕ, zero, suc, ◌+◌, ◌-◌, ◌*◌, ◌≤◌, ◌<◌}
+use mathlib.Core.Path.{◌≡◌, refl, sym, ap, ap₂, subst, ◌∙◌}
+use Prim.Native.Nat.{ℕ, zero, suc, ◌+◌, ◌-◌, ◌≤◌, ◌<◌}
 use native.Mathlib.Decide.{ℕ_discrete, dec_lt}
 use native.Mathlib.Nat.{add-zero}
 use native.Mathlib.Omega.{arith}
@@ -24,7 +24,7 @@ use Rattle.terms.specs.Tree.{nums, row, tag, class, children}
 use Rattle.terms.proofs.Laws.Normalising.SlotLaws.{class_projection, class_plain as plain, class_nominal}
 use Rattle.terms.proofs.Laws.Held.HeldLaws.{items_some, held_node, held_num, held_sub, row_end, row_num, row_sub}
 use Rattle.solver.specs.Shapes.{same_shape, turned}
-use Rattle.solver.specs.Words.PendingContract.{Laid, places, pushed_places, PushedPairs, Twins, window, PartEnd, NumberAt}
+use Rattle.solver.specs.Words.PendingContract.{pair_word, Laid, places, pushed_places, PushedPairs, Twins, window, PartEnd, NumberAt}
 use Rattle.solver.proofs.Laws.Equality.ClassesCoincide.{held_same}
 use Rattle.solver.proofs.Laws.Checks.RotateLaws.{places_length}
 use Rattle.solver.proofs.Laws.Checks.StackLaws.{pushed_pairs}
@@ -37,8 +37,8 @@ module _ {count : ℕ} {ts₀ : List ℕ} where
   laid_none = record {
     even = refl;
     size = omega arith;
-    lefts = λ j h. absurd (omega arith);
-    rights = λ j h. absurd (omega arith);
+    low = λ j h. absurd (omega arith);
+    words = λ j h. absurd (omega arith);
     below = λ i h. refl;
     above = λ i h. refl;
   }
@@ -51,27 +51,30 @@ module _ {count : ℕ} {ts₀ : List ℕ} where
       record {
         even = omega (arith, length-append rs rs', a, p.even, q.even);
         size = omega arith;
-        lefts = λ j h. left j h (dec_lt j (length ls));
-        rights = λ j h. right j h (dec_lt j (length ls));
+        low = λ j h. low j h (dec_lt j (length ls));
+        words = λ j h. word j h (dec_lt j (length ls));
         below = λ i h. q.below i (omega arith) ∙ p.below i h;
         above = λ i h. q.above i h ∙ p.above i (omega arith);
       }
     where
-      left : (j : ℕ) → j < length (ls ++ ls') → Dec (j < length ls) → get_or ts' ((count + j) + (count + j)) 0 ≡ get_or (ls ++ ls') j 0
-      left j h (yes l) = q.below ((count + j) + (count + j)) (omega (arith, p.size)) ∙ p.lefts j l ∙ sym (get_or-append ls ls' 0 j l)
-      left j h (no l) =
+      low : (j : ℕ) → j < length (ls ++ ls') → Dec (j < length ls) → get_or (ls ++ ls') j 0 < 65536
+      low j h (yes l) = rw (get_or-append ls ls' 0 j l) (p.low j l)
+      low j h (no l) =
           let i = j - length ls in
-          let e : (count + j) + (count + j) ≡ (r + i) + (r + i) = omega (arith, p.size) in
           let z : length ls + i ≡ j = omega arith in
-          ap (λ (x : ℕ). get_or ts' x 0) e ∙ q.lefts i (omega (arith, length-append ls ls')) ∙ sym (get_or-append-add ls ls' i 0) ∙ ap (λ (x : ℕ). get_or (ls ++ ls') x 0) z
+          subst (λ (x : ℕ). get_or (ls ++ ls') x 0 < 65536) z (rw (get_or-append-add ls ls' i 0) (q.low i (omega (arith, length-append ls ls'))))
 
-      right : (j : ℕ) → j < length (ls ++ ls') → Dec (j < length ls) → get_or ts' ((count + j) + (count + j) + 1) 0 ≡ get_or (rs ++ rs') j 0
-      right j h (yes l) = q.below ((count + j) + (count + j) + 1) (omega (arith, p.size)) ∙ p.rights j l ∙ sym (get_or-append rs rs' 0 j (omega (arith, p.even)))
-      right j h (no l) =
+      word : (j : ℕ) → j < length (ls ++ ls') → Dec (j < length ls) → get_or ts' (count + j) 0 ≡ pair_word (get_or (ls ++ ls') j 0) (get_or (rs ++ rs') j 0)
+      word j h (yes l) =
+          q.below (count + j) (omega (arith, p.size)) ∙ p.words j l
+          ∙ ap₂ pair_word (sym (get_or-append ls ls' 0 j l)) (sym (get_or-append rs rs' 0 j (omega (arith, p.even))))
+      word j h (no l) =
           let i = j - length ls in
-          let e : (count + j) + (count + j) + 1 ≡ (r + i) + (r + i) + 1 = omega (arith, p.size) in
-          let z : length rs + i ≡ j = omega (arith, p.even) in
-          ap (λ (x : ℕ). get_or ts' x 0) e ∙ q.rights i (omega (arith, length-append ls ls')) ∙ sym (get_or-append-add rs rs' i 0) ∙ ap (λ (x : ℕ). get_or (rs ++ rs') x 0) z
+          let e : count + j ≡ r + i = omega (arith, p.size) in
+          let z : length ls + i ≡ j = omega arith in
+          let y : length rs + i ≡ j = omega (arith, p.even) in
+          ap (λ (x : ℕ). get_or ts' x 0) e ∙ q.words i (omega (arith, length-append ls ls'))
+          ∙ ap₂ pair_word (sym (get_or-append-add ls ls' i 0) ∙ ap (λ (x : ℕ). get_or (ls ++ ls') x 0) z) (sym (get_or-append-add rs rs' i 0) ∙ ap (λ (x : ℕ). get_or (rs ++ rs') x 0) y)
 
 -- ---- those with an index from lo up to hi
 
@@ -166,7 +169,7 @@ places_few ks vs i e (sub t ps) h = omega (arith, places_few ks vs (i + length (
 -- the pairs done, and the rows that are left
 pub record Pushing (ks vs : List ℕ) (a b lo hi count : ℕ) (ts₀ ts : List ℕ) (i ie j je child top : ℕ) : Type 0 where
   pub given : Twins ks vs a b
-  pub room : 2 * (count + length (window lo hi 0 (places (a + 1) given.left))) ≤ length ts₀
+  pub room : count + length (window lo hi 0 (places (a + 1) given.left)) ≤ length ts₀
   pub left : Parts
   pub right : Parts
   pub free : Bool
@@ -181,7 +184,7 @@ pub record Pushing (ks vs : List ℕ) (a b lo hi count : ℕ) (ts₀ ts : List �
   pub few : child ≤ i
 
 module _ {ks vs : List ℕ} {a b lo hi count : ℕ} {ts₀ : List ℕ} where
-  pub pushing_start : (w : Twins ks vs a b) → 2 * (count + length (window lo hi 0 (places (a + 1) w.left))) ≤ length ts₀
+  pub pushing_start : (w : Twins ks vs a b) → count + length (window lo hi 0 (places (a + 1) w.left)) ≤ length ts₀
       → {ie je : ℕ} → PartEnd ks vs a (length ks) ie → PartEnd ks vs b (length ks) je → Pushing ks vs a b lo hi count ts₀ ts₀ (a + 1) ie (b + 1) je 0 count
   pushing_start w r {ie} {je} ea eb = record {
     given = w;
@@ -240,7 +243,7 @@ module _ {ks vs : List ℕ} {a b lo hi count : ℕ} {ts₀ : List ℕ} where
       right_term = row_term w.held_right h
 
       -- there is room for the pair
-      pub pushing_room : 2 * (top + length (window lo hi child (s.from ∷ []))) ≤ length ts₀
+      pub pushing_room : top + length (window lo hi child (s.from ∷ [])) ≤ length ts₀
       pushing_room =
           omega (
             arith,
@@ -382,17 +385,17 @@ module _ {ks vs : List ℕ} {a b : ℕ} (w : Twins ks vs a b) where
   left_few = omega (arith, places_few ks vs (a + 1) _ w.left (held_node ks vs a w.tag w.left w.held_left), w.held_left.within)
 
   -- room for all, for those from n on, and for those before n
-  module _ (count size : ℕ) (room : 2 * (count + length (children (node w.tag w.left))) ≤ size) where
-    pub room_all : 2 * (count + length (window 0 (length ks) 0 (places (a + 1) w.left))) ≤ size
+  module _ (count size : ℕ) (room : count + length (children (node w.tag w.left)) ≤ size) where
+    pub room_all : count + length (window 0 (length ks) 0 (places (a + 1) w.left)) ≤ size
     room_all =
         omega (arith, room, children_places a w.tag w.left, ap length (window_all 0 (length ks) 0 (places (a + 1) w.left) (omega arith) (omega (arith, left_few))))
 
-    pub room_drop : (n : ℕ) → 2 * (count + length (window n (length ks) 0 (places (a + 1) w.left))) ≤ size
+    pub room_drop : (n : ℕ) → count + length (window n (length ks) 0 (places (a + 1) w.left)) ≤ size
     room_drop n =
         omega (arith, room, children_places a w.tag w.left, ap length (window_drop n (length ks) 0 (places (a + 1) w.left) (omega (arith, left_few))), length-drop (n - 0) (places (a + 1) w.left))
 
     pub room_take : (n top : ℕ) → top ≡ count + length (window n (length ks) 0 (places (a + 1) w.left))
-        → 2 * (top + length (window 0 n 0 (places (a + 1) w.left))) ≤ size
+        → top + length (window 0 n 0 (places (a + 1) w.left)) ≤ size
     room_take n top e =
         omega (
           arith,

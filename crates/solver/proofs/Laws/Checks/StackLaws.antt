@@ -15,40 +15,49 @@ use Rattle.solver.specs.Shapes.{pushed}
 use Rattle.solver.specs.Constrain.{Pair, zip_on, follow}
 use Rattle.solver.specs.Words.ReachContract.{Steady}
 use Rattle.solver.specs.Words.SessionRepresentation.{begins}
-use Rattle.solver.specs.Words.PendingContract.{HeldPairs, Laid, places, pushed_places, PushedPairs}
+use Rattle.solver.specs.Words.PendingContract.{left_of, right_of, HeldPairs, Laid, places, pushed_places, PushedPairs}
 use Rattle.solver.proofs.Laws.Equality.Pigeonhole.{pigeon_begins}
 use Rattle.solver.proofs.Laws.Checks.StrictSubterm.{Extends}
 use Rattle.solver.proofs.Laws.Checks.RotateLaws.{Drawn, drawn_turned, turned_length, places_length, HeldAll, all_turned, all_row}
+use Rattle.solver.proofs.Laws.Checks.PairWordLaws.{left_of_pair, right_of_pair}
 use Rattle.solver.proofs.Laws.Checks.PendingLaws.{Stacked, stacked_none, stacked_first, stacked_expand, stacked_pop, stacked_extends, stacked_agree, stacked_bound, term_begins}
 
 -- ---- pairs in words
 
+-- the places of a pair that was put on are read off its word
+module _ {ls rs : List ℕ} {count : ℕ} {st₀ st : List ℕ} {r : ℕ} (w : Laid ls rs count st₀ st r) where
+  pub laid_left : (j : ℕ) → j < length ls → left_of (get_or st (count + j) 0) ≡ get_or ls j 0
+  laid_left j h = ap left_of (w.words j h) ∙ left_of_pair (get_or ls j 0) (get_or rs j 0) (w.low j h)
+
+  pub laid_right : (j : ℕ) → j < length ls → right_of (get_or st (count + j) 0) ≡ get_or rs j 0
+  laid_right j h = ap right_of (w.words j h) ∙ right_of_pair (get_or ls j 0) (get_or rs j 0) (w.low j h)
+
 -- only the words of the pairs count
-pub pairs_agree : (ks vs st st' : List ℕ) (c : ℕ) (ps : List Pair) → ((i : ℕ) → i < c + c → get_or st' i 0 ≡ get_or st i 0) → HeldPairs ks vs st c ps → HeldPairs ks vs st' c ps
+pub pairs_agree : (ks vs st st' : List ℕ) (c : ℕ) (ps : List Pair) → ((i : ℕ) → i < c → get_or st' i 0 ≡ get_or st i 0) → HeldPairs ks vs st c ps → HeldPairs ks vs st' c ps
 pairs_agree ks vs st st' zero [] e h = tt
 pairs_agree ks vs st st' zero (p ∷ ps) e h = absurd h
 pairs_agree ks vs st st' (suc c) [] e h = absurd h
 pairs_agree ks vs st st' (suc c) (p ∷ ps) e h =
-    (rw (e (c + c) (omega arith)) h.0, rw (e (c + c + 1) (omega arith)) h.1, pairs_agree ks vs st st' c ps (λ i l. e i (omega arith)) h.2)
+    (rw (e c (omega arith)) h.0, rw (e c (omega arith)) h.1, pairs_agree ks vs st st' c ps (λ i l. e i (omega arith)) h.2)
 
 module _ (ks vs st : List ℕ) where
   -- the words of ls and rs, in pairs, stand from pair c on
   Puts : List ℕ → List ℕ → ℕ → Type 0
-  Puts ls rs c = (j : ℕ) → j < length ls → (get_or st ((c + j) + (c + j)) 0 ≡ get_or ls j 0) × (get_or st ((c + j) + (c + j) + 1) 0 ≡ get_or rs j 0)
+  Puts ls rs c = (j : ℕ) → j < length ls → (left_of (get_or st (c + j) 0) ≡ get_or ls j 0) × (right_of (get_or st (c + j) 0) ≡ get_or rs j 0)
 
   puts_next : (l r : ℕ) (ls rs : List ℕ) (c : ℕ) → Puts (l ∷ ls) (r ∷ rs) c → Puts ls rs (suc c)
   unfolding Puts
   puts_next l r ls rs c f j h =
-      let e : (suc c + j) + (suc c + j) ≡ (c + suc j) + (c + suc j) = omega arith in
+      let e : suc c + j ≡ c + suc j = omega arith in
       let x = f (suc j) (omega arith) in
-      (ap (λ (i : ℕ). get_or st i 0) e ∙ x.0, ap (λ (i : ℕ). get_or st (i + 1) 0) e ∙ x.1)
+      (ap (λ (i : ℕ). left_of (get_or st i 0)) e ∙ x.0, ap (λ (i : ℕ). right_of (get_or st i 0)) e ∙ x.1)
 
-  puts_first : (l r : ℕ) (ls rs : List ℕ) (c : ℕ) → Puts (l ∷ ls) (r ∷ rs) c → (get_or st (c + c) 0 ≡ l) × (get_or st (c + c + 1) 0 ≡ r)
+  puts_first : (l r : ℕ) (ls rs : List ℕ) (c : ℕ) → Puts (l ∷ ls) (r ∷ rs) c → (left_of (get_or st c 0) ≡ l) × (right_of (get_or st c 0) ≡ r)
   unfolding Puts
   puts_first l r ls rs c f =
-      let e : c + c ≡ (c + 0) + (c + 0) = omega arith in
+      let e : c ≡ c + 0 = omega arith in
       let x = f 0 (omega arith) in
-      (ap (λ (i : ℕ). get_or st i 0) e ∙ x.0, ap (λ (i : ℕ). get_or st (i + 1) 0) e ∙ x.1)
+      (ap (λ (i : ℕ). left_of (get_or st i 0)) e ∙ x.0, ap (λ (i : ℕ). right_of (get_or st i 0)) e ∙ x.1)
 
   held_zip : (ls rs : List ℕ) (ts us : List Term) (c : ℕ) (ps : List Pair) → HeldAll ks vs ls ts → HeldAll ks vs rs us → length ls ≡ length rs → Puts ls rs c
       → HeldPairs ks vs st c ps → HeldPairs ks vs st (c + length ls) (zip_on ts us ps)
@@ -89,7 +98,7 @@ module _ (ks vs : List ℕ) (a b k j : ℕ) (ps qs : Parts) (ha : Held ks vs a (
     pairs = λ l h. subst (λ (n : ℕ). HeldPairs ks vs st n (zip_on (pushed (node k ps)) (pushed (node j qs)) l)) (sym w.size)
         (held_zip ks vs st (pushed_places a (node k ps)) (pushed_places b (node j qs)) (pushed (node k ps)) (pushed (node j qs)) count l
         (pushed_held ks vs a k ps ha) (pushed_held ks vs b j qs hb) (omega (arith, pushed_length a k ps, pushed_length b j qs))
-        (λ i g. (w.lefts i g, w.rights i g)) (pairs_agree ks vs st₀ st count l w.below h));
+        (λ i g. (laid_left w i g, laid_right w i g)) (pairs_agree ks vs st₀ st count l w.below h));
   }
 
 -- ---- what is carried
@@ -97,11 +106,11 @@ module _ (ks vs : List ℕ) (a b k j : ℕ) (ps qs : Parts) (ha : Held ks vs a (
 -- `count` pending pairs, ps, in the words st: the one that was given, or pairs whose left places differ
 pub record Stack (ks vs : List ℕ) (b : ℕ → Option Term) (st : List ℕ) (count : ℕ) (ps : List Pair) : Type 0 where
   pub held : HeldPairs ks vs st count ps
-  pub few : (count ≡ 1) ⊎ Stacked ks vs b (λ i. get_or st (i + i) 0) count
+  pub few : (count ≡ 1) ⊎ Stacked ks vs b (λ i. left_of (get_or st i 0)) count
 
 module _ (ks vs : List ℕ) where
   -- the pair that is given
-  pub stack_start : (b : ℕ → Option Term) (st : List ℕ) (t u : Term) → Held ks vs (get_or st 0 0) t → Held ks vs (get_or st 1 0) u → Stack ks vs b st 1 ((t, u) ∷ [])
+  pub stack_start : (b : ℕ → Option Term) (st : List ℕ) (t u : Term) → Held ks vs (left_of (get_or st 0 0)) t → Held ks vs (right_of (get_or st 0 0)) u → Stack ks vs b st 1 ((t, u) ∷ [])
   stack_start b st t u ht hu = record { held = (ht, hu, tt); few = inl refl }
 
   pub stack_empty : {b : ℕ → Option Term} {st : List ℕ} {ps : List Pair} → Stack ks vs b st 0 ps → ps ≡ []
@@ -124,20 +133,20 @@ module _ (ks vs : List ℕ) where
           (p, qs, refl, subst (λ (n : ℕ). Stack ks vs b st n (p ∷ qs)) e s)
 
   -- only the words of the pairs count
-  pub stack_agree : {b : ℕ → Option Term} {st st' : List ℕ} {count : ℕ} {ps : List Pair} → ((i : ℕ) → i < count + count → get_or st' i 0 ≡ get_or st i 0)
+  pub stack_agree : {b : ℕ → Option Term} {st st' : List ℕ} {count : ℕ} {ps : List Pair} → ((i : ℕ) → i < count → get_or st' i 0 ≡ get_or st i 0)
       → Stack ks vs b st count ps → Stack ks vs b st' count ps
   stack_agree {b} {st} {st'} {count} {ps} e s = record {
     held = pairs_agree ks vs st st' count ps e s.held;
-    few = ⊎_elim (λ o. inl o) (λ w. inr (stacked_agree ks vs b (λ i. get_or st (i + i) 0) (λ i. get_or st' (i + i) 0) count (λ i h. e (i + i) (omega arith)) w)) s.few;
+    few = ⊎_elim (λ o. inl o) (λ w. inr (stacked_agree ks vs b (λ i. left_of (get_or st i 0)) (λ i. left_of (get_or st' i 0)) count (λ i h. ap left_of (e i h)) w)) s.few;
   }
 
   -- bindings grow
   pub stack_extends : {b b' : ℕ → Option Term} {st : List ℕ} {count : ℕ} {ps : List Pair} → Extends b b' → Stack ks vs b st count ps → Stack ks vs b' st count ps
-  stack_extends {b} {b'} {st} {count} {ps} x s = record { held = s.held; few = ⊎_elim (λ o. inl o) (λ w. inr (stacked_extends ks vs b b' (λ i. get_or st (i + i) 0) count x w)) s.few }
+  stack_extends {b} {b'} {st} {count} {ps} x s = record { held = s.held; few = ⊎_elim (λ o. inl o) (λ w. inr (stacked_extends ks vs b b' (λ i. left_of (get_or st i 0)) count x w)) s.few }
 
   module _ {b : ℕ → Option Term} {st : List ℕ} {m : ℕ} {p : Pair} {ps : List Pair} (s : Stack ks vs b st (suc m) (p ∷ ps)) where
     f : ℕ → ℕ
-    f i = get_or st (i + i) 0
+    f i = left_of (get_or st i 0)
 
     -- the last pair is taken off
     pub stack-pop : Stack ks vs b st m ps
@@ -186,15 +195,15 @@ module _ (ks vs : List ℕ) where
 
   -- ONE TURN: the last pair is taken off and the children of what it stands for are put on. old has the words before the pair was taken off.
   pub stack_push : {b : ℕ → Option Term} {m : ℕ} {p : Pair} {ps : List Pair} (old st₀ : List ℕ) → Stack ks vs b old (suc m) (p ∷ ps)
-      → ((i : ℕ) → i < m + m → get_or st₀ i 0 ≡ get_or old i 0)
+      → ((i : ℕ) → i < m → get_or st₀ i 0 ≡ get_or old i 0)
       → (most a c k : ℕ) (row : Parts) (u : Term) → follow most b p.0 ≡ node k row → Held ks vs a (node k row)
       → (st : List ℕ) (r : ℕ) → PushedPairs ks vs a c (node k row) u m st₀ st r → Stack ks vs b st r (zip_on (pushed (node k row)) (pushed u) ps)
   unfolding f
   stack_push {b} {m} {p} {ps} old st₀ s same most a c k row u top ha st r w = record {
     held = w.pairs ps (pairs_agree ks vs old st₀ m ps same s.held.2);
-    few = inr (subst (λ (n : ℕ). Stacked ks vs b (λ i. get_or st (i + i) 0) n) (sym w.laid.size)
-        (expanded s most a k row top ha (pushed_places a (node k row)) (pushed_drawn a k row) (λ i. get_or st (i + i) 0)
-        (λ i h. w.laid.below (i + i) (omega arith) ∙ same (i + i) (omega arith)) (λ j h. w.laid.lefts j h)));
+    few = inr (subst (λ (n : ℕ). Stacked ks vs b (λ i. left_of (get_or st i 0)) n) (sym w.laid.size)
+        (expanded s most a k row top ha (pushed_places a (node k row)) (pushed_drawn a k row) (λ i. left_of (get_or st i 0))
+        (λ i h. ap left_of (w.laid.below i h ∙ same i h)) (λ j h. laid_left w.laid j h)));
   }
 
   -- there are never more pairs than tokens begin a term
@@ -203,10 +212,10 @@ module _ (ks vs : List ℕ) where
     where
       alone : (c : ℕ) (p : Pair) (qs : List Pair) → Stack ks vs b st (suc c) (p ∷ qs) → suc c ≡ 1 → suc c ≤ begins ks
       alone c p qs s e =
-          let h = term_begins ks vs (get_or st (c + c) 0) p.0 s.held.0 in
-          omega (arith, pigeon_begins ks 1 (λ _. get_or st (c + c) 0) (λ i _. h.0) (λ i j x y. absurd (omega arith)) (λ i _. h.1))
+          let h = term_begins ks vs (left_of (get_or st c 0)) p.0 s.held.0 in
+          omega (arith, pigeon_begins ks 1 (λ _. left_of (get_or st c 0)) (λ i _. h.0) (λ i j x y. absurd (omega arith)) (λ i _. h.1))
 
       go : (c : ℕ) (qs : List Pair) → Stack ks vs b st c qs → c ≤ begins ks
       go zero qs s = omega arith
       go (suc c) [] s = absurd s.held
-      go (suc c) (p ∷ qs) s = ⊎_elim (alone c p qs s) (λ w. stacked_bound ks vs b (λ i. get_or st (i + i) 0) (suc c) n S w) s.few
+      go (suc c) (p ∷ qs) s = ⊎_elim (alone c p qs s) (λ w. stacked_bound ks vs b (λ i. left_of (get_or st i 0)) (suc c) n S w) s.few

@@ -32,6 +32,7 @@ use Rattle.solver.specs.Words.ResolveWalk.{run_len, Named}
 use Rattle.solver.specs.Words.SessionRepresentation.{limits_of, RequestWord, request_in, HeldRequest, flag, Represents}
 use Rattle.solver.specs.Words.MethodContract.{Beside, at_most, Low, EndsAt, never_word, default_word, end_word, default_at, defaulted, defaults_by}
 use Rattle.solver.specs.Words.ConstrainContract.{Within}
+use Rattle.solver.specs.Words.TableLayout.{deferrals_from}
 use Rattle.solver.proofs.Laws.Resolving.FrameLaws.{run_none}
 use Rattle.solver.proofs.Laws.Resolving.ResolvedLaws.{run_held}
 use Rattle.solver.proofs.Laws.Resolving.TopLaws.{follow_none}
@@ -131,8 +132,8 @@ low_settle m z c (node k ps) low = low
 -- by the word of v, which is that of its deferral or of its request
 module _ (which : Defaulted) (x : Solver) (ks vs ts : List ℕ) (s : Session) (L : Represents x ks vs ts s) (v word : ℕ) (below : v < x.variables)
     (named : word ≡ default_word which x.variables ts v) where
-  deferral : word ≡ never_word (get_or ts (5 * x.variables + v) 0) → word ≡ never_word (flag (s.deferred v))
-  deferral e = e ∙ ap never_word (sym (column_read x.variables (5 * x.variables) ts _ v refl below) ∙ L.deferred v)
+  deferral : word ≡ never_word (get_or ts (deferrals_from x.variables + v) 0) → word ≡ never_word (flag (s.deferred v))
+  deferral e = e ∙ ap never_word (sym (column_read x.variables (deferrals_from x.variables) ts _ v refl below) ∙ L.deferred v)
 
   asked : (w : ℕ) → w < x.variables → HeldRequest (s.solver.requests w) (get_or ts (x.variables + w) 0)
   asked w l = subst (λ (n : ℕ). HeldRequest (s.solver.requests w) n) (column_read x.variables x.variables ts _ w refl l) (L.requests w)
@@ -373,7 +374,7 @@ module _ {x : Solver} {ks₀ vs₀ ts : List ℕ} {s : Session} (A : InOrder (is
         go (var w) f = f ∙ ap var (sym (held_first ks vs q (var w) (subst (λ (y : Term). Held ks vs q y) f atop)).1)
         go (node k ps) f = absurd (omega (arith, (held_first ks vs q (node k ps) (subst (λ (y : Term). Held ks vs q y) f atop)).0))
 
-    pub deferred_some : {v : ℕ} → v ≡ get_or vs q 0 → get_or ks q 0 ≡ 1 → v < x.variables → Represents x ks₀ vs₀ (set ts (5 * x.variables + v) 1) (deferring s (resolved s.solver t))
+    pub deferred_some : {v : ℕ} → v ≡ get_or vs q 0 → get_or ks q 0 ≡ 1 → v < x.variables → Represents x ks₀ vs₀ (set ts (deferrals_from x.variables + v) 1) (deferring s (resolved s.solver t))
     deferred_some {v} g e l =
         rw (resolves_variable s.solver.revision s.solver.bindings S T t v (top_variable e ∙ ap var (sym g))) (lent_defer x ks₀ vs₀ ts s L v l)
 

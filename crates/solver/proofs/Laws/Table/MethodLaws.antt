@@ -29,9 +29,10 @@ use Rattle.solver.specs.Orders.{full, variable_step, number_at, hole_at}
 use Rattle.solver.specs.Invariant.{WithinLimits}
 use Rattle.solver.specs.Words.Bindings.{HeldBindings}
 use Rattle.solver.specs.Words.Worklist.{Zero}
-use Rattle.solver.specs.Words.SessionRepresentation.{limits_of, binding_words, request_words, place_words, site_words, slot_words, deferral_words, HeldRequest, HeldPlace, HeldPlaces, Unplaced, flag, free_words, Represents}
+use Rattle.solver.specs.Words.SessionRepresentation.{limits_of, binding_words, request_words, place_words, site_words, slot_words, deferral_words, HeldRequest, HeldPlace, HeldPlaces, Unplaced, flag, unused_words, Represents}
 use Rattle.solver.specs.Words.MethodContract.{Beside, matches, last_match, found, placing, placed, named_of, Issued, Replied, reply_of, resolved_reply, joined_word, Handed, never_word, default_word, end_word}
 use Rattle.solver.specs.Words.OrderTerms.{place_of, words_of}
+use Rattle.solver.specs.Words.TableLayout.{places_from, sites_from, slots_from, deferrals_from, unused_from, unused_count, lasting_words}
 use Rattle.solver.proofs.Laws.Definition.InOrderLaws.{find_issued}
 use Rattle.solver.proofs.Laws.Resolving.BindingLaws.{bind_held}
 use Rattle.solver.proofs.Laws.Table.ColumnLaws.{column_read, column_length, column_write, column_before, column_behind}
@@ -43,14 +44,14 @@ pub beside_same : (x : Solver) (ts : List ℕ) → Beside x x ts ts
 beside_same x ts = record { variables = refl; nodes = refl; top = refl; size = refl; rest = refl }
 
 -- one more word of a column is written
-pub beside_set : (x y : Solver) (ts us : List ℕ) (j w : ℕ) → Beside x y ts us → j < 7 * x.variables → Beside x y ts (set us j w)
+pub beside_set : (x y : Solver) (ts us : List ℕ) (j w : ℕ) → Beside x y ts us → j < lasting_words x.variables → Beside x y ts (set us j w)
 beside_set x y ts us j w B l =
     record {
       variables = B.variables;
       nodes = B.nodes;
       top = B.top;
       size = length-set us j w ∙ B.size;
-      rest = drop-set-lt (7 * x.variables) us j w l ∙ B.rest;
+      rest = drop-set-lt (lasting_words x.variables) us j w l ∙ B.rest;
     }
 
 pub beside_then : {x y z : Solver} {ts us ws : List ℕ} → Beside x y ts us → Beside y z us ws → Beside x z ts ws
@@ -60,7 +61,7 @@ beside_then {x} {y} {z} {ts} {us} {ws} B C =
       nodes = C.nodes ∙ B.nodes;
       top = C.top ∙ B.top;
       size = C.size ∙ B.size;
-      rest = subst (λ (m : ℕ). drop (7 * m) ws ≡ drop (7 * m) us) B.variables C.rest ∙ B.rest;
+      rest = subst (λ (m : ℕ). drop (lasting_words m) ws ≡ drop (lasting_words m) us) B.variables C.rest ∙ B.rest;
     }
 
 -- ---- one law for all changes: what has changed is told
@@ -77,7 +78,7 @@ module _ (x y : Solver) (ks vs ts us : List ℕ) (s : Session) (L : Represents x
     pub places : HeldPlaces (place_words x.variables us) (site_words x.variables us) (slot_words x.variables us) s'.places
     pub unplaced : Unplaced (length s'.places) (place_words x.variables us) (site_words x.variables us) (slot_words x.variables us)
     pub deferred : (v : ℕ) → get_or (deferral_words x.variables us) v 0 ≡ flag (s'.deferred v)
-    pub free : free_words x.variables us ≡ free_words x.variables ts
+    pub unused : unused_words x.variables us ≡ unused_words x.variables ts
 
   pub lent_changed : (s' : Session) → Changed s' → Represents y ks vs us s'
   lent_changed s' C =
@@ -97,7 +98,7 @@ module _ (x y : Solver) (ks vs ts us : List ℕ) (s : Session) (L : Represents x
         places = subst (λ (m : ℕ). HeldPlaces (place_words m us) (site_words m us) (slot_words m us) s'.places) e C.places;
         unplaced = subst (λ (m : ℕ). Unplaced (length s'.places) (place_words m us) (site_words m us) (slot_words m us)) e C.unplaced;
         deferred = subst (λ (m : ℕ). (v : ℕ) → get_or (deferral_words m us) v 0 ≡ flag (s'.deferred v)) e C.deferred;
-        free = subst (λ (m : ℕ). Zero (free_words m us)) e (subst Zero (sym C.free) L.free);
+        unused = subst (λ (m : ℕ). Zero (unused_words m us)) e (subst Zero (sym C.unused) L.unused);
         builtins = L.builtins;
         begun = omega (arith, L.begun, C.sum);
       }
@@ -185,10 +186,10 @@ module _ (kind site slot m : ℕ) (ts : List ℕ) (d : ℕ) where
   Last n = last_match kind site slot (place_words m ts) (site_words m ts) (slot_words m ts) d n
 
   abbrev pub Fits-at : ℕ → Bool
-  Fits-at n = matches kind site slot (get_or ts (2 * m + n) 0) (get_or ts (3 * m + n) 0) (get_or ts (4 * m + n) 0)
+  Fits-at n = matches kind site slot (get_or ts (places_from m + n) 0) (get_or ts (sites_from m + n) 0) (get_or ts (slots_from m + n) 0)
 
   in_columns : (n : ℕ) → n < m → Fits-at n ≡ matches kind site slot (get_or (place_words m ts) n 0) (get_or (site_words m ts) n 0) (get_or (slot_words m ts) n 0)
-  in_columns n l = rw (column_read m (2 * m) ts _ n refl l, column_read m (3 * m) ts _ n refl l, column_read m (4 * m) ts _ n refl l)
+  in_columns n l = rw (column_read m (places_from m) ts _ n refl l, column_read m (sites_from m) ts _ n refl l, column_read m (slots_from m) ts _ n refl l)
 
   pub search_hit : (a n : ℕ) → a ≡ Last n → 0 < n → n ≤ m → Fits-at (n - 1) ≡ true → n - 1 ≡ a
   search_hit a n e l o t =
@@ -201,7 +202,7 @@ module _ (kind site slot m : ℕ) (ts : List ℕ) (d : ℕ) where
       e ∙ ap Last q ∙ match_on kind site slot (place_words m ts) (site_words m ts) (slot_words m ts) d (n - 1) (sym (in_columns (n - 1) (omega arith)) ∙ t)
 
   -- where no variable below n has the site
-  pub search_none : (n : ℕ) → n ≤ m → ((v : ℕ) → v < n → get_or ts (3 * m + v) 0 ≡ site → ⊥) → d ≡ Last n
+  pub search_none : (n : ℕ) → n ≤ m → ((v : ℕ) → v < n → get_or ts (sites_from m + v) 0 ≡ site → ⊥) → d ≡ Last n
   unfolding last_match
   search_none zero l f = refl
   search_none (suc n) l f =
@@ -265,33 +266,33 @@ module _ (x : Solver) (ks vs ts : List ℕ) (s : Session) (L : Represents x ks v
   -- a new variable at the place p
   module _ (p : VariablePlace) (kind site slot : ℕ) (h : HeldPlace p kind site slot) (below : x.issued < m) where
     abbrev written : List ℕ
-    written = set (set (set ts (2 * m + x.issued) kind) (3 * m + x.issued) site) (4 * m + x.issued) slot
+    written = set (set (set ts (places_from m + x.issued) kind) (sites_from m + x.issued) site) (slots_from m + x.issued) slot
 
     pub lent_issue : (y : Solver) → Beside x y ts written → y.issued ≡ x.issued + 1 → y.revision ≡ x.revision → y.kept ≡ x.kept
         → Represents y ks vs written (issue_at s p)
     lent_issue y B i r k =
-        let a = set ts (2 * m + x.issued) kind in
-        let b = set a (3 * m + x.issued) site in
+        let a = set ts (places_from m + x.issued) kind in
+        let b = set a (sites_from m + x.issued) site in
         let n = L.issued in
         let size = L.room in
-        let lenA = length-set ts (2 * m + x.issued) kind in
-        let lenB = length-set a (3 * m + x.issued) site in
+        let lenA = length-set ts (places_from m + x.issued) kind in
+        let lenB = length-set a (sites_from m + x.issued) site in
         let places : place_words m written ≡ set (place_words m ts) (length s.places) kind
-        = column_behind m (2 * m) b (4 * m + x.issued) slot (omega arith) ∙ column_behind m (2 * m) a (3 * m + x.issued) site (omega arith)
-        ∙ column_write m (2 * m) ts _ x.issued kind refl below ∙ ap (λ (j : ℕ). set (place_words m ts) j kind) n in
+        = column_behind m (places_from m) b (slots_from m + x.issued) slot (omega arith) ∙ column_behind m (places_from m) a (sites_from m + x.issued) site (omega arith)
+        ∙ column_write m (places_from m) ts _ x.issued kind refl below ∙ ap (λ (j : ℕ). set (place_words m ts) j kind) n in
         let sites : site_words m written ≡ set (site_words m ts) (length s.places) site
-        = column_behind m (3 * m) b (4 * m + x.issued) slot (omega arith) ∙ column_write m (3 * m) a _ x.issued site refl below
-        ∙ ap (λ (l : List ℕ). set l x.issued site) (column_before m (3 * m) ts (2 * m + x.issued) kind (omega arith)) ∙ ap (λ (j : ℕ). set (site_words m ts) j site) n in
+        = column_behind m (sites_from m) b (slots_from m + x.issued) slot (omega arith) ∙ column_write m (sites_from m) a _ x.issued site refl below
+        ∙ ap (λ (l : List ℕ). set l x.issued site) (column_before m (sites_from m) ts (places_from m + x.issued) kind (omega arith)) ∙ ap (λ (j : ℕ). set (site_words m ts) j site) n in
         let slots : slot_words m written ≡ set (slot_words m ts) (length s.places) slot
-        = column_write m (4 * m) b _ x.issued slot refl below
-        ∙ ap (λ (l : List ℕ). set l x.issued slot) (column_before m (4 * m) a (3 * m + x.issued) site (omega arith) ∙ column_before m (4 * m) ts (2 * m + x.issued) kind (omega arith))
+        = column_write m (slots_from m) b _ x.issued slot refl below
+        ∙ ap (λ (l : List ℕ). set l x.issued slot) (column_before m (slots_from m) a (sites_from m + x.issued) site (omega arith) ∙ column_before m (slots_from m) ts (places_from m + x.issued) kind (omega arith))
         ∙ ap (λ (j : ℕ). set (slot_words m ts) j slot) n in
         let bindings : binding_words m written ≡ binding_words m ts
-        = take-set-le m b (4 * m + x.issued) slot (omega arith) ∙ take-set-le m a (3 * m + x.issued) site (omega arith) ∙ take-set-le m ts (2 * m + x.issued) kind (omega arith) in
+        = take-set-le m b (slots_from m + x.issued) slot (omega arith) ∙ take-set-le m a (sites_from m + x.issued) site (omega arith) ∙ take-set-le m ts (places_from m + x.issued) kind (omega arith) in
         let requests : request_words m written ≡ request_words m ts
-        = column_behind m m b (4 * m + x.issued) slot (omega arith) ∙ column_behind m m a (3 * m + x.issued) site (omega arith) ∙ column_behind m m ts (2 * m + x.issued) kind (omega arith) in
+        = column_behind m m b (slots_from m + x.issued) slot (omega arith) ∙ column_behind m m a (sites_from m + x.issued) site (omega arith) ∙ column_behind m m ts (places_from m + x.issued) kind (omega arith) in
         let deferrals : deferral_words m written ≡ deferral_words m ts
-        = column_before m (5 * m) b (4 * m + x.issued) slot (omega arith) ∙ column_before m (5 * m) a (3 * m + x.issued) site (omega arith) ∙ column_before m (5 * m) ts (2 * m + x.issued) kind (omega arith) in
+        = column_before m (deferrals_from m) b (slots_from m + x.issued) slot (omega arith) ∙ column_before m (deferrals_from m) a (sites_from m + x.issued) site (omega arith) ∙ column_before m (deferrals_from m) ts (places_from m + x.issued) kind (omega arith) in
         lent_changed x y ks vs ts written s L B (issue_at s p)
         (record {
           issued = omega arith;
@@ -306,11 +307,11 @@ module _ (x : Solver) (ks vs ts : List ℕ) (s : Session) (L : Represents x ks v
               (subst (λ (l : List ℕ). HeldPlaces (set (place_words m ts) (length s.places) kind) l (slot_words m written) (p ∷ s.places)) (sym sites)
               (subst (λ (l : List ℕ). HeldPlaces (set (place_words m ts) (length s.places) kind) (set (site_words m ts) (length s.places) site) l (p ∷ s.places)) (sym slots)
               (places_new (place_words m ts) (site_words m ts) (slot_words m ts) p kind site slot s.places h
-              (omega (arith, column_length m (2 * m) ts (omega arith))) (omega (arith, column_length m (3 * m) ts (omega arith))) (omega (arith, column_length m (4 * m) ts (omega arith)))
+              (omega (arith, column_length m (places_from m) ts (omega arith))) (omega (arith, column_length m (sites_from m) ts (omega arith))) (omega (arith, column_length m (slots_from m) ts (omega arith)))
               L.places)));
           unplaced = rw (places, sites, slots) (unplaced_new (place_words m ts) (site_words m ts) (slot_words m ts) kind site slot (length s.places) L.unplaced);
           deferred = fixed_deferred written deferrals;
-          free = column_before m (6 * m) b (4 * m + x.issued) slot (omega arith) ∙ column_before m (6 * m) a (3 * m + x.issued) site (omega arith) ∙ column_before m (6 * m) ts (2 * m + x.issued) kind (omega arith);
+          unused = column_before (unused_count m) (unused_from m) b (slots_from m + x.issued) slot (omega arith) ∙ column_before (unused_count m) (unused_from m) a (sites_from m + x.issued) site (omega arith) ∙ column_before (unused_count m) (unused_from m) ts (places_from m + x.issued) kind (omega arith);
         })
 
   -- v is a number variable
@@ -331,10 +332,10 @@ module _ (x : Solver) (ks vs ts : List ℕ) (s : Session) (L : Represents x ks v
           most = L.fits.variables;
           bindings = fixed_bindings request_at (take-set-le m ts (m + v) w (omega arith));
           requests = λ u. rw (column_write m m ts _ v w refl below) (put_held s.solver.requests (request_words m ts) v word r L.requests (omega (arith, column_length m m ts (omega arith))) held u);
-          places = fixed_places request_at (column_before m (2 * m) ts (m + v) w (omega arith)) (column_before m (3 * m) ts (m + v) w (omega arith)) (column_before m (4 * m) ts (m + v) w (omega arith));
-          unplaced = fixed_unplaced request_at (column_before m (2 * m) ts (m + v) w (omega arith)) (column_before m (3 * m) ts (m + v) w (omega arith)) (column_before m (4 * m) ts (m + v) w (omega arith));
-          deferred = fixed_deferred request_at (column_before m (5 * m) ts (m + v) w (omega arith));
-          free = column_before m (6 * m) ts (m + v) w (omega arith);
+          places = fixed_places request_at (column_before m (places_from m) ts (m + v) w (omega arith)) (column_before m (sites_from m) ts (m + v) w (omega arith)) (column_before m (slots_from m) ts (m + v) w (omega arith));
+          unplaced = fixed_unplaced request_at (column_before m (places_from m) ts (m + v) w (omega arith)) (column_before m (sites_from m) ts (m + v) w (omega arith)) (column_before m (slots_from m) ts (m + v) w (omega arith));
+          deferred = fixed_deferred request_at (column_before m (deferrals_from m) ts (m + v) w (omega arith));
+          unused = column_before (unused_count m) (unused_from m) ts (m + v) w (omega arith);
         })
 
   -- v is deferred
@@ -342,29 +343,29 @@ module _ (x : Solver) (ks vs ts : List ℕ) (s : Session) (L : Represents x ks v
     deferred_held : (u : ℕ) → Dec (u ≡ v) → get_or (set (deferral_words m ts) v 1) u 0 ≡ flag (put s.deferred v true u)
     deferred_held u (yes e) =
         let l = L.room in
-        rw (e, put_same s.deferred v true, get_or-set_same (deferral_words m ts) v 1 0 (omega (arith, column_length m (5 * m) ts (omega arith))))
+        rw (e, put_same s.deferred v true, get_or-set_same (deferral_words m ts) v 1 0 (omega (arith, column_length m (deferrals_from m) ts (omega arith))))
     deferred_held u (no e) =
         rw (put_other s.deferred v true u e, get_or-set_other (deferral_words m ts) v u 1 0 e) (L.deferred u)
 
-    pub lent_defer : Represents x ks vs (set ts (5 * m + v) 1) (deferring s (var v))
+    pub lent_defer : Represents x ks vs (set ts (deferrals_from m + v) 1) (deferring s (var v))
     unfolding deferring
     lent_defer =
-        let us = set ts (5 * m + v) 1 in
+        let us = set ts (deferrals_from m + v) 1 in
         let f = L.fits.variables in
         let r = L.room in
-        lent_changed x x ks vs ts us s L (beside_set x x ts ts (5 * m + v) 1 (beside_same x ts) (omega arith)) (deferring s (var v))
+        lent_changed x x ks vs ts us s L (beside_set x x ts ts (deferrals_from m + v) 1 (beside_same x ts) (omega arith)) (deferring s (var v))
         (record {
           issued = L.issued;
           revision = L.revision;
           kept = L.kept;
           sum = refl;
           most = f;
-          bindings = fixed_bindings us (take-set-le m ts (5 * m + v) 1 (omega arith));
-          requests = fixed_requests us (column_behind m m ts (5 * m + v) 1 (omega arith));
-          places = fixed_places us (column_behind m (2 * m) ts (5 * m + v) 1 (omega arith)) (column_behind m (3 * m) ts (5 * m + v) 1 (omega arith)) (column_behind m (4 * m) ts (5 * m + v) 1 (omega arith));
-          unplaced = fixed_unplaced us (column_behind m (2 * m) ts (5 * m + v) 1 (omega arith)) (column_behind m (3 * m) ts (5 * m + v) 1 (omega arith)) (column_behind m (4 * m) ts (5 * m + v) 1 (omega arith));
-          deferred = λ u. ap (λ (l : List ℕ). get_or l u 0) (column_write m (5 * m) ts _ v 1 refl below) ∙ deferred_held u (ℕ_discrete u v);
-          free = column_before m (6 * m) ts (5 * m + v) 1 (omega arith);
+          bindings = fixed_bindings us (take-set-le m ts (deferrals_from m + v) 1 (omega arith));
+          requests = fixed_requests us (column_behind m m ts (deferrals_from m + v) 1 (omega arith));
+          places = fixed_places us (column_behind m (places_from m) ts (deferrals_from m + v) 1 (omega arith)) (column_behind m (sites_from m) ts (deferrals_from m + v) 1 (omega arith)) (column_behind m (slots_from m) ts (deferrals_from m + v) 1 (omega arith));
+          unplaced = fixed_unplaced us (column_behind m (places_from m) ts (deferrals_from m + v) 1 (omega arith)) (column_behind m (sites_from m) ts (deferrals_from m + v) 1 (omega arith)) (column_behind m (slots_from m) ts (deferrals_from m + v) 1 (omega arith));
+          deferred = λ u. ap (λ (l : List ℕ). get_or l u 0) (column_write m (deferrals_from m) ts _ v 1 refl below) ∙ deferred_held u (ℕ_discrete u v);
+          unused = column_before (unused_count m) (unused_from m) ts (deferrals_from m + v) 1 (omega arith);
         })
 
   -- v is bound to the term at q
@@ -387,10 +388,10 @@ module _ (x : Solver) (ks vs ts : List ℕ) (s : Session) (L : Represents x ks v
           most = f;
           bindings = rw (take-set-lt m ts v (q + 1) below) (bind_held ks vs (binding_words m ts) s.solver.bindings v q t L.bindings (omega (arith, length-take-le m ts (omega arith))) held);
           requests = fixed_requests binding_at (column_before m m ts v (q + 1) (omega arith));
-          places = fixed_places binding_at (column_before m (2 * m) ts v (q + 1) (omega arith)) (column_before m (3 * m) ts v (q + 1) (omega arith)) (column_before m (4 * m) ts v (q + 1) (omega arith));
-          unplaced = fixed_unplaced binding_at (column_before m (2 * m) ts v (q + 1) (omega arith)) (column_before m (3 * m) ts v (q + 1) (omega arith)) (column_before m (4 * m) ts v (q + 1) (omega arith));
-          deferred = fixed_deferred binding_at (column_before m (5 * m) ts v (q + 1) (omega arith));
-          free = column_before m (6 * m) ts v (q + 1) (omega arith);
+          places = fixed_places binding_at (column_before m (places_from m) ts v (q + 1) (omega arith)) (column_before m (sites_from m) ts v (q + 1) (omega arith)) (column_before m (slots_from m) ts v (q + 1) (omega arith));
+          unplaced = fixed_unplaced binding_at (column_before m (places_from m) ts v (q + 1) (omega arith)) (column_before m (sites_from m) ts v (q + 1) (omega arith)) (column_before m (slots_from m) ts v (q + 1) (omega arith));
+          deferred = fixed_deferred binding_at (column_before m (deferrals_from m) ts v (q + 1) (omega arith));
+          unused = column_before (unused_count m) (unused_from m) ts v (q + 1) (omega arith);
         })
 
 -- ---- the variable of a place
@@ -434,9 +435,9 @@ module _ (x : Solver) (ks vs ts : List ℕ) (s : Session) (L : Represents x ks v
       rw (f, le-leb x.variables (length s.places) (omega (arith, L.issued))) (record { represents = L; answer = refl; located = f })
 
   pub issued_new : (kind site slot : ℕ) → HeldPlace p kind site slot → x.issued ≤ v → (n : x.issued < x.variables) → (y : Solver)
-      → Beside x y ts (set (set (set ts (2 * x.variables + x.issued) kind) (3 * x.variables + x.issued) site) (4 * x.variables + x.issued) slot)
+      → Beside x y ts (set (set (set ts (places_from x.variables + x.issued) kind) (sites_from x.variables + x.issued) site) (slots_from x.variables + x.issued) slot)
       → y.issued ≡ x.issued + 1 → y.revision ≡ x.revision → y.kept ≡ x.kept
-      → Issued y ks vs (set (set (set ts (2 * x.variables + x.issued) kind) (3 * x.variables + x.issued) site) (4 * x.variables + x.issued) slot) p
+      → Issued y ks vs (set (set (set ts (places_from x.variables + x.issued) kind) (sites_from x.variables + x.issued) site) (slots_from x.variables + x.issued) slot) p
       (placed (limits_of x) s p) (Some x.issued)
   unfolding placing find
   issued_new kind site slot h l n y B i r k =
@@ -578,19 +579,19 @@ module _ (m v kind val : ℕ) (ts : List ℕ) where
         far = λ e. absurd (omega arith);
         on = λ _ _ _. ap (set ts (m + val)) e;
         size = length-set ts (m + val) word;
-        rest = drop-set-lt (7 * m) ts (m + val) word (omega arith);
+        rest = drop-set-lt (lasting_words m) ts (m + val) word (omega arith);
       }
 
 -- ---- words that defaults go by
 
 module _ (which : Defaulted) (m : ℕ) (ts : List ℕ) (v : ℕ) where
-  pub default_none : which ≡ Deferred → get_or ts (5 * m + v) 0 ≡ 0 → 0 ≡ default_word which m ts v
+  pub default_none : which ≡ Deferred → get_or ts (deferrals_from m + v) 0 ≡ 0 → 0 ≡ default_word which m ts v
   unfolding default_word never_word
   default_none b e = rw (b, e)
 
-  pub default_never : which ≡ Deferred → (get_or ts (5 * m + v) 0 ≡ 0 → ⊥) → 11 ≡ default_word which m ts v
+  pub default_never : which ≡ Deferred → (get_or ts (deferrals_from m + v) 0 ≡ 0 → ⊥) → 11 ≡ default_word which m ts v
   unfolding default_word never_word
-  default_never b e = rw b (go (get_or ts (5 * m + v) 0) e)
+  default_never b e = rw b (go (get_or ts (deferrals_from m + v) 0) e)
     where
       go : (d : ℕ) → (d ≡ 0 → ⊥) → 11 ≡ never_word d
       go zero n = absurd (n refl)

@@ -21,13 +21,14 @@ use Rattle.solver.specs.Words.Bindings.{HeldBinding, HeldBindings}
 use Rattle.solver.specs.Words.SessionRepresentation.{Represents, binding_words}
 use Rattle.solver.specs.Words.ConstrainContract.{Known, Scratch}
 use Rattle.solver.specs.Words.OrderTerms.{Behind, Poses, PosesPair, Asked, Starts}
+use Rattle.solver.specs.Words.TableLayout.{lasting_words}
 use Rattle.solver.proofs.Laws.Table.RepresentationLaws.{Longer, longer_take, bindings_longer, begins_pair, lent_more}
 
 -- the areas have room, and hold the bindings
 pub record Fitted (x : Solver) (ks vs ts : List ℕ) (z : Session) : Type 0 where
   pub pairs : length vs ≡ length ks
   pub short : length ks < 2 ^ 32
-  pub room : 7 * x.variables ≤ length ts
+  pub room : lasting_words x.variables ≤ length ts
   pub bindings : HeldBindings ks vs (binding_words x.variables ts) z.solver.bindings
 
 -- ---- the bindings hold over all of the tokens
@@ -161,4 +162,4 @@ module _ {x : Solver} {ks vs ts : List ℕ} {z : Session} {q : ℕ} {t u : Term}
 
   pub pair_scratch : (work : List ℕ) (nodes : ℕ) → Scratch x ks ts work
       → Scratch (record { variables = x.variables; nodes = x.nodes; issued = x.issued; revision = x.revision; kept = nodes; top = length ks }) ks ts work
-  pair_scratch work nodes S = record { pairs = S.pairs; short = S.short; links = S.links; marks = S.marks; clear = S.clear }
+  pair_scratch work nodes S = record { pairs = S.pairs; few = S.few; links = S.links; marks = S.marks; clear = S.clear }

@@ -20,6 +20,7 @@ use Rattle.solver.specs.Session.{Session, fresh, keep}
 use Rattle.solver.specs.Words.Bindings.{HeldBinding, HeldBindings}
 use Rattle.solver.specs.Words.Worklist.{Zero}
 use Rattle.solver.specs.Words.SessionRepresentation.{binding_words, HeldRequest, begins, builtin_tokens, Represents}
+use Rattle.solver.specs.Words.TableLayout.{places_from, sites_from, slots_from, deferrals_from, unused_from, unused_count, lasting_words}
 use Rattle.solver.proofs.Laws.Table.ColumnLaws.{column_same, column_zero}
 
 -- ---- the tokens that begin a term
@@ -134,7 +135,7 @@ module _ {ks₀ vs₀ ks vs : List ℕ} (G : Longer ks₀ vs₀ ks vs) where
         places = L.places;
         unplaced = L.unplaced;
         deferred = L.deferred;
-        free = L.free;
+        unused = L.unused;
         builtins = λ c h. held_longer (c + c) _ (L.builtins c h);
         begun = omega (arith, b, L.begun);
       }
@@ -142,7 +143,7 @@ module _ {ks₀ vs₀ ks vs : List ℕ} (G : Longer ks₀ vs₀ ks vs) where
 -- ---- other scratch
 
 pub lent_scratch : (x : Solver) (ks vs ts ts' : List ℕ) (s : Session) → Represents x ks vs ts s
-    → take (7 * x.variables) ts ≡ take (7 * x.variables) ts' → 7 * x.variables ≤ length ts' → Represents x ks vs ts' s
+    → take (lasting_words x.variables) ts ≡ take (lasting_words x.variables) ts' → lasting_words x.variables ≤ length ts' → Represents x ks vs ts' s
 lent_scratch x ks vs ts ts' s L e r =
     record {
       issued = L.issued;
@@ -156,10 +157,10 @@ lent_scratch x ks vs ts ts' s L e r =
       fits = L.fits;
       bindings = subst (λ (l : List ℕ). HeldBindings ks vs l s.solver.bindings) (same 0 (omega arith)) L.bindings;
       requests = λ v. subst (λ (l : List ℕ). HeldRequest (s.solver.requests v) (get_or l v 0)) (same m (omega arith)) (L.requests v);
-      places = rw (← (same (2 * m) (omega arith)), ← (same (3 * m) (omega arith)), ← (same (4 * m) (omega arith))) L.places;
-      unplaced = rw (← (same (2 * m) (omega arith)), ← (same (3 * m) (omega arith)), ← (same (4 * m) (omega arith))) L.unplaced;
-      deferred = λ v. ap (λ (l : List ℕ). get_or l v 0) (sym (same (5 * m) (omega arith))) ∙ L.deferred v;
-      free = λ v. ap (λ (l : List ℕ). get_or l v 0) (sym (same (6 * m) (omega arith))) ∙ L.free v;
+      places = rw (← (same (places_from m) (omega arith)), ← (same (sites_from m) (omega arith)), ← (same (slots_from m) (omega arith))) L.places;
+      unplaced = rw (← (same (places_from m) (omega arith)), ← (same (sites_from m) (omega arith)), ← (same (slots_from m) (omega arith))) L.unplaced;
+      deferred = λ v. ap (λ (l : List ℕ). get_or l v 0) (sym (same (deferrals_from m) (omega arith))) ∙ L.deferred v;
+      unused = λ v. ap (λ (l : List ℕ). get_or l v 0) (sym (column_same (unused_count m) (unused_from m) (lasting_words m) ts ts' e (omega arith))) ∙ L.unused v;
       builtins = L.builtins;
       begun = L.begun;
     }
@@ -167,8 +168,8 @@ lent_scratch x ks vs ts ts' s L e r =
     m : ℕ
     m = x.variables
 
-    same : (o : ℕ) → o + x.variables ≤ 7 * x.variables → take x.variables (drop o ts) ≡ take x.variables (drop o ts')
-    same o h = column_same x.variables o (7 * x.variables) ts ts' e h
+    same : (o : ℕ) → o + x.variables ≤ lasting_words x.variables → take x.variables (drop o ts) ≡ take x.variables (drop o ts')
+    same o h = column_same x.variables o (lasting_words x.variables) ts ts' e h
 
 -- ---- the start
 
@@ -278,7 +279,7 @@ begins_builtins ks vs n l e =
 
 -- nothing issued, bound or kept: the 32 builtins are the tokens, and the table is all 0
 pub lent_fresh : (x : Solver) (ks vs ts : List ℕ) → x.issued ≡ 0 → x.revision ≡ 0 → x.kept ≡ 0 → x.top ≡ 64
-    → length ks ≡ 64 → length vs ≡ 64 → x.variables < 2 ^ 32 → 7 * x.variables ≤ length ts → toks ks vs 0 64 ≡ builtin_tokens 32 → Zero ts
+    → length ks ≡ 64 → length vs ≡ 64 → x.variables < 2 ^ 32 → lasting_words x.variables ≤ length ts → toks ks vs 0 64 ≡ builtin_tokens 32 → Zero ts
     → Represents x ks vs ts fresh
 lent_fresh x ks vs ts i r k t lk lv narrow room e z =
     record {
@@ -294,9 +295,9 @@ lent_fresh x ks vs ts i r k t lk lv narrow room e z =
       bindings = λ v. column_zero x.variables 0 ts z v;
       requests = λ v. column_zero x.variables x.variables ts z v;
       places = tt;
-      unplaced = λ v _. (column_zero x.variables (2 * x.variables) ts z v, column_zero x.variables (3 * x.variables) ts z v, column_zero x.variables (4 * x.variables) ts z v);
-      deferred = λ v. column_zero x.variables (5 * x.variables) ts z v;
-      free = λ v. column_zero x.variables (6 * x.variables) ts z v;
+      unplaced = λ v _. (column_zero x.variables (places_from x.variables) ts z v, column_zero x.variables (sites_from x.variables) ts z v, column_zero x.variables (slots_from x.variables) ts z v);
+      deferred = λ v. column_zero x.variables (deferrals_from x.variables) ts z v;
+      unused = λ v. column_zero (unused_count x.variables) (unused_from x.variables) ts z v;
       builtins = builtins_held ks vs 32 (omega arith) e;
       begun = begins_builtins ks vs 32 lk e;
     }

@@ -15,6 +15,7 @@ use Rattle.solver.specs.Words.ResolveFrames.{Cleared}
 use Rattle.solver.specs.Words.SessionRepresentation.{builtin_tokens, Represents}
 use Rattle.solver.specs.Words.SessionsContract.{Holds, counters}
 use Rattle.solver.specs.Words.Worklist.{Zero}
+use Rattle.solver.specs.Words.TableLayout.{lasting_words}
 use Rattle.solver.proofs.Laws.Resolving.WorklistLaws.{zero_drop}
 use Rattle.solver.proofs.Laws.Table.ColumnLaws.{rest_read}
 use Rattle.solver.proofs.Laws.Table.RepresentationLaws.{builtins_more, builtins_put, builtins_held, lent_fresh}
@@ -81,14 +82,14 @@ tokens_held ks vs (suc n) h = builtins_more ks vs n (tokens_held ks vs n (λ c l
 -- ---- a fresh session
 
 pub holds_fresh : (limits : Limits) (ks vs a b ts : List ℕ) → length ks ≡ 64 → length vs ≡ 64
-    → ((i : ℕ) → i < 32 → Held ks vs (i + i) (node 4 (num i end))) → Zero a → Zero b → Zero ts → limits.variables < 2 ^ 32 → 7 * limits.variables ≤ length ts
+    → ((i : ℕ) → i < 32 → Held ks vs (i + i) (node 4 (num i end))) → Zero a → Zero b → Zero ts → limits.variables < 2 ^ 32 → lasting_words limits.variables ≤ length ts
     → Holds (counters limits) (ks ++ drop 64 a) (vs ++ drop 64 b) ts fresh
 holds_fresh limits ks vs a b ts lk lv h za zb zt narrow room =
     record {
       represents = rw (take_at ks (drop 64 a) 64 lk, take_at vs (drop 64 b) 64 lv) held;
       kinds = rw (drop_at ks (drop 64 a) 64 lk) (zero_drop 64 a za);
       vals = rw (drop_at vs (drop 64 b) 64 lv) (zero_drop 64 b zb);
-      blank = zero_drop (7 * limits.variables) ts zt;
+      blank = zero_drop (lasting_words limits.variables) ts zt;
     }
   where
     held : Represents (counters limits) ks vs ts fresh

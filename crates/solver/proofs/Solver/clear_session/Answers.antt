@@ -9,5 +9,5 @@ returns c =
     record {
       kinds = used_cleared _ a.a.now _ c.clear_words.auto.words H.kinds c.clear_words.ensures;
       vals = used_cleared _ a.b.now _ c.clear_words-2.auto.words H.vals c.clear_words-2.ensures;
-      table = used_cleared _ a.tables.now _ c.clear_words-3.auto.words H.blank c.clear_words-3.ensures;
+      table = used_cleared _ a.tables.now _ c.clear_words-3.auto.words (rw c.lasting_words.ensures H.blank) c.clear_words-3.ensures;
     }

@@ -1,5 +1,6 @@
 -- `decompose`.
 use mathlib.Core.Path.{sym, ◌∙◌}
+use native.Mathlib.Omega.{arith}
 use borrow.Author.Tests.{eq-eqb, ne_eqb}
 use Rattle.solver.proofs.Laws.Checks.CheckContractLaws.{nodes_places, nodes_twins, apart_recovers, apart_projects, apart_unlike, apart_pushes}
 use Rattle.solver.proofs.Solver.decompose.Goals.{then-tokens-a-eq20-via-then-tokens-a-eq20, then-tokens-a-eq20-via-else-tokens-a-eq20+then-not-same_shape}
@@ -22,7 +23,7 @@ bounds-tokens-a-2 c = (nodes_places c.requires.nodes.2).0
 pub same_shape-requires : goal.same_shape-requires
 same_shape-requires c =
     let p = nodes_places c.requires.nodes.2 in
-    (p.0, p.1, c.requires.room.1)
+    (p.0, p.1, omega (arith, c.requires.room.1))
 
 pub returns-then-tokens-a-eq20 : goal.returns-then-tokens-a-eq20
 returns-then-tokens-a-eq20 c = record {

@@ -4,6 +4,7 @@ use Prim.Native.Nat.{◌+◌, ◌*◌}
 use native.Mathlib.Omega.{arith}
 use Rattle.solver.proofs.Laws.Table.MethodLaws.{beside_set, issued_found, issued_full, issued_new, found_number}
 use Rattle.solver.proofs.Solver.issue.Goals as goal
+use Rattle.solver.specs.Words.TableLayout.{places_from, sites_from, slots_from}
 
 pub returns-in-Some-clause-held : goal.returns-in-Some-clause-held
 returns-in-Some-clause-held c =
@@ -24,5 +25,5 @@ returns-clause-held c =
     let ts = c.args.tables.now in
     let f = c.find_place in
     let l = c.if-m-issued.false in
-    let B = beside_set x _ ts _ (4 * x.variables + x.issued) a.asked.slot (beside_set x _ ts _ (3 * x.variables + x.issued) a.asked.site (beside_set x _ ts _ (2 * x.variables + x.issued) a.asked.kind (record { variables = refl; nodes = refl; top = refl; size = refl; rest = refl }) (omega arith)) (omega arith)) (omega arith) in
+    let B = beside_set x _ ts _ (slots_from x.variables + x.issued) a.asked.slot (beside_set x _ ts _ (sites_from x.variables + x.issued) a.asked.site (beside_set x _ ts _ (places_from x.variables + x.issued) a.asked.kind (record { variables = refl; nodes = refl; top = refl; size = refl; rest = refl }) (omega arith)) (omega arith)) (omega arith) in
     λ ks vs s p h L. issued_new x ks vs ts s L p x.issued (found_number _ _ _ (sym c.in_default.is ∙ f.ensures.place p s.places h (sym L.issued) L.places)) _ _ _ h (omega arith) l _ B refl refl refl

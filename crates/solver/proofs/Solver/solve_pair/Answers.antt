@@ -2,22 +2,25 @@ use mathlib.Core.Bool.{false}
 use mathlib.Core.Path.{refl, ◌∙◌}
 use native.Mathlib.Omega.{arith}
 use Rattle.solver.proofs.Laws.Definition.NotionLaws.{notion_codes}
+use Rattle.solver.proofs.Laws.Checks.CheckContractLaws.{held_place}
 use Rattle.solver.proofs.Laws.Checks.PairLoopLaws.{agreed, table_of, going_start, loop_start, loop_room, loop_due, loop_scratch, loop_next, and-false, and-true, going_end, going_cancel}
 use Rattle.solver.proofs.Solver.solve_pair.Goals as goal
+
+pub put_pair-count-requires-clause-small : goal.put_pair-count-requires-clause-small
+put_pair-count-requires-clause-small c =
+    let h = c.requires.held in
+    (omega (arith, held_place _ _ _ _ h.5.held, c.requires.room.0.few), omega (arith, held_place _ _ _ _ h.6.held, c.requires.room.0.few))
 
 pub loop-count-init : goal.loop-count-init
 loop-count-init c =
     let h = c.requires.held in
     let r = c.requires.room.0 in
     let p = c.put_pair-count in
-    let s = c.split_at_mut-table.ensures in (
+    let s = rw c.lasting_words.ensures at c.split_at_mut-table.ensures in (
       loop_start (going_start h.3 (table_of h.4 s.front) (rw s.back c.requires.room.1) h.5 h.6 p.ensures)
-          (record { pairs = omega (arith, r.pairs, p.auto.pending, s.back_len); links = r.links; marks = r.marks; clear = r.clear }),
+          (record { pairs = omega (arith, r.pairs, p.auto.pending, s.back_len); few = r.few; links = r.links; marks = r.marks; clear = r.clear }),
       refl,
     )
-
-pub overflow_mul-count : goal.overflow_mul-count
-overflow_mul-count c = omega (arith, loop_room c.loop-count.invariant.0, c.loop-count.auto.pending, c.well_formed)
 
 pub clear_words-requires : goal.clear_words-requires
 clear_words-requires c = loop_room c.loop-count.invariant.0
@@ -27,7 +30,7 @@ returns-then-left-eq0-clause-solved c =
     let l = c.loop-count in
     let i = l.invariant.0 in
     let p = c.put_pair-count in
-    let z = c.split_at_mut-table.ensures in
+    let z = rw c.lasting_words.ensures at c.split_at_mut-table.ensures in
     λ s t u o L kp kq.
     going_cancel _ (i.carries s _ (going_start o (table_of L z.front) (rw z.back c.requires.room.1) kp kq p.ensures)) i.counted z.front (l.auto.table ∙ z.front_len)
     c.if-left-eq0.true c.loop-count-test.true c.clear_words.ensures
@@ -69,7 +72,7 @@ returns-clause-solved c =
     let l = c.loop-count in
     let i = l.invariant.0 in
     let p = c.put_pair-count in
-    let z = c.split_at_mut-table.ensures in
+    let z = rw c.lasting_words.ensures at c.split_at_mut-table.ensures in
     λ s t u o L kp kq.
     rw (← l.invariant.1)
     (going_end _ (i.carries s _ (going_start o (table_of L z.front) (rw z.back c.requires.room.1) kp kq p.ensures))

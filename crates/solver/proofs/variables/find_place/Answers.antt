@@ -15,11 +15,12 @@ use Rattle.std.specs.Option.{option_map, unwrap_or}
 use Rattle.std.specs.Prelude.{Some, None}
 use Rattle.solver.proofs.Laws.Table.PlaceSearchLaws.{YieldsList-from_rev_range, search_down, found_below, answer_named}
 use Rattle.solver.proofs.variables.find_place.Goals as goal
+use Rattle.solver.specs.Words.TableLayout.{sites_from}
 
 pub returns-then-not-contains : goal.returns-then-not-contains
 returns-then-not-contains c =
     let a = c.args in
-    let b = 3 * a.table.now.variables in
+    let b = sites_from a.table.now.variables in
     let n = b + a.issued - b in
     let no : (v : ℕ) → v < a.issued → get_or a.table.now.words.now (b + v) 0 ≡ a.asked.site → ⊥ = λ v h e.
     let l : v < n = omega arith in
